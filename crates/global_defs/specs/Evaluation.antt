@@ -1,6 +1,6 @@
 -- What a job does on globals: its updates and answers, or the cause of the first statement that has one
 -- (GT.M: TSTART to TCOMMIT; a job sees its own earlier updates).
-use Rattle.std.specs.Prelude.{◌+◌, ◌+ℤ◌, ℕ, ℤ, pos, ◌&&◌, Bool, true, false, not, List, [], ◌∷◌, ◌++◌, codes, Option, Some, None, int_le, nat_lt, nat_eq, if◌then◌else◌, map, filter_map, drop, length}
+use Rattle.std.specs.Prelude.{◌+◌, ◌+ℤ◌, ℕ, ℤ, pos, ◌&&◌, Bool, true, false, not, List, [], ◌∷◌, ◌++◌, Option, Some, None, int_le, nat_lt, nat_eq, if◌then◌else◌, filter_map, drop, length}
 use Rattle.std.specs.List.{find, list_any}
 use Rattle.std.specs.Ordering.{eq_by_cmp, is_lt}
 use Rattle.std.specs.Cmp.Lexicographic.{pointwise}

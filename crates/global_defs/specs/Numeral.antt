@@ -1,6 +1,6 @@
 -- Canonical numerals, and their values (GT.M: canonical numbers; the limit of 18 digits is this project's).
 -- A value is kept as the whole number that is 10 ^ 18 times it.
-use Rattle.std.specs.Prelude.{ℕ, ℤ, zero, suc, pos, negsuc, ◌-ℤ◌, ◌+◌, ◌*◌, ◌^◌, ◌&&◌, ◌||◌, ◌==◌, Bool, false, not, List, [], ◌∷◌, ◌++◌, length, take, drop, position, slice_index, ◌-◌, replicate, count_by, Option, Some, None, nat_le, nat_lt, nat_abs, if◌then◌else◌}
+use Rattle.std.specs.Prelude.{ℕ, ℤ, suc, pos, negsuc, ◌-ℤ◌, ◌+◌, ◌*◌, ◌^◌, ◌&&◌, ◌||◌, ◌==◌, Bool, false, not, List, [], ◌∷◌, ◌++◌, length, take, drop, position, slice_index, ◌-◌, replicate, count_by, Option, Some, None, nat_le, nat_lt, nat_abs, if◌then◌else◌}
 use Rattle.std.specs.List.{before_first, after_first, list_all, list_any}
 use Rattle.std.specs.Str.Parse.{digits_value}
 use Rattle.std.specs.Fmt.{decimal}

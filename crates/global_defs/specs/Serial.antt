@@ -49,11 +49,11 @@ serial_at serials u = get_or serials (u - 1) 1
 -- the updater's job is decided with this reply, and the sequence is then this one
 abbrev pub replied : Turn → ℕ → Reply → Sequence → Turn
 replied t u reply seq = record {
-    left = without_next u t.left;
-    serials = set t.serials (u - 1) (serial_at t.serials u + 1);
-    sequence = seq;
-    replies = t.replies ++ record { updater = u; serial = serial_at t.serials u; reply = reply } ∷ [];
-  }
+  left = without_next u t.left;
+  serials = set t.serials (u - 1) (serial_at t.serials u + 1);
+  sequence = seq;
+  replies = t.replies ++ record { updater = u; serial = serial_at t.serials u; reply = reply } ∷ [];
+}
 
 -- a job with updates takes the next number, if there is one
 abbrev pub appended : Stamp → Turn → ℕ → List Update → Answers → Turn

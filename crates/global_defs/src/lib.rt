@@ -1,0 +1,7 @@
+//! Definitions: keys, entries, globals, jobs and extracts. There is no code here but laws, each the contract of a function
+//! that does nothing.
+#![tactic(auto)]
+
+mod vectors;
+
+pub use vectors::{collation_vectors_hold, key_vectors_hold, order_holds, text_vectors_hold};
