@@ -10,3 +10,4 @@ pub mod Evaluation
 pub mod Serial
 pub mod Prefix
 pub mod Extract
+pub mod Fields
