@@ -1,13 +1,18 @@
 -- Keys as bytes, in this project's layout: compared byte by byte they collate as keys do.
 use Rattle.std.specs.Prelude.{ℕ, zero, suc, pos, negsuc, ◌+◌, ◌-◌, ◌==◌, List, [], ◌∷◌, ◌++◌, length, map, if◌then◌else◌}
-use Rattle.std.specs.List.{flat_map, suffix_len}
-use Rattle.std.specs.Prelude.{take}
+use Rattle.std.specs.List.{flat_map}
 use Rattle.std.specs.Fmt.{decimal}
 use Rattle.global_defs.specs.Key.{Key, Sub, Number, Text}
 
--- without the zeros at the end
+-- a digit before others stays, and a 0 at the end goes
+abbrev pub kept : ℕ → List ℕ → List ℕ
+kept d [] = if d == 48 then [] else d ∷ []
+kept d (e ∷ more) = d ∷ e ∷ more
+
+-- digits without the zeros at the end
 abbrev pub significant : List ℕ → List ℕ
-significant digits = take (length digits - suffix_len (λ d. d == 48) digits) digits
+significant [] = []
+significant (d ∷ digits) = kept d (significant digits)
 
 -- a positive number by its digits, which are those of 10 ^ 18 times it: the exponent, the digits up to the last that isn't 0
 abbrev pub positive_sub : List ℕ → List ℕ

@@ -10,9 +10,14 @@ use Rattle.global_defs.specs.Zwr.{zwr}
 abbrev pub whole_digits : ℕ → List ℕ
 whole_digits n = if n == 0 then [] else decimal n
 
--- a point and the digits behind it up to the last that isn't 0
+-- digits behind a point, nothing where there are none
+abbrev pub pointed : List ℕ → List ℕ
+pointed [] = []
+pointed (d ∷ digits) = 46 ∷ d ∷ digits
+
+-- the 18 digits behind the point, up to the last that isn't 0
 abbrev pub fraction_digits : ℕ → List ℕ
-fraction_digits n = if n == 0 then [] else 46 ∷ significant (drop 1 (decimal (10 ^ 18 + n)))
+fraction_digits n = pointed (significant (drop 1 (decimal (10 ^ 18 + n))))
 
 -- a number that is 10 ^ 18 times this one
 abbrev pub magnitude_text : ℕ → List ℕ
@@ -26,6 +31,11 @@ number_text (negsuc n) = 45 ∷ magnitude_text (suc n)
 abbrev pub sub_text : Sub → List ℕ
 sub_text (Number x) = number_text x
 sub_text (Text s) = zwr s
+
+-- a subscript's own bytes
+abbrev pub sub_bytes : Sub → List ℕ
+sub_bytes (Number x) = number_text x
+sub_bytes (Text s) = s
 
 -- the subscripts in brackets with commas between them, nothing where there are none
 abbrev pub subs_text : List Sub → List ℕ

@@ -1,7 +1,7 @@
 -- Canonical numerals, and their values (GT.M: canonical numbers; the limit of 18 digits is this project's).
 -- A value is kept as the whole number that is 10 ^ 18 times it.
-use Rattle.std.specs.Prelude.{ℕ, ℤ, suc, pos, negsuc, ◌-ℤ◌, ◌+◌, ◌*◌, ◌^◌, ◌&&◌, ◌||◌, ◌==◌, Bool, false, not, List, [], ◌∷◌, ◌++◌, length, take, drop, position, slice_index, ◌-◌, replicate, count_by, Option, Some, None, nat_le, nat_lt, nat_abs, if◌then◌else◌}
-use Rattle.std.specs.List.{before_first, after_first, list_all, list_any}
+use Rattle.std.specs.Prelude.{ℕ, ℤ, suc, pos, negsuc, ◌-ℤ◌, ◌+◌, ◌^◌, ◌&&◌, ◌||◌, ◌==◌, Bool, false, not, List, [], ◌∷◌, ◌++◌, length, take, drop, position, slice_index, ◌-◌, replicate, count_by, Option, Some, None, nat_le, nat_lt, nat_abs, if◌then◌else◌}
+use Rattle.std.specs.List.{list_all, list_any}
 use Rattle.std.specs.Str.Parse.{digits_value}
 use Rattle.std.specs.Fmt.{decimal}
 use Rattle.std.specs.Char.{is_ascii_digit}
@@ -37,8 +37,17 @@ MOST_DIGITS = 18
 abbrev pub is_number : List ℕ → Bool
 is_number bs = is_numeral bs && nat_le (count_by is_ascii_digit bs) MOST_DIGITS
 
+-- the digits of 10 ^ 18 times a number with these digits before and behind its point
+abbrev pub all_digits : List ℕ → List ℕ → List ℕ
+all_digits whole fraction = whole ++ (fraction ++ replicate (18 - length fraction) 48)
+
+abbrev pub digits_at : List ℕ → Option ℕ → List ℕ
+digits_at bs None = all_digits bs []
+digits_at bs (Some i) = all_digits (take i bs) (drop (i + 1) bs)
+
+-- 10 ^ 18 times the number that these bytes are without a sign
 abbrev pub magnitude : List ℕ → ℕ
-magnitude bs = digits_value 10 (before_first is_point bs) * 10 ^ 18 + digits_value 10 (take 18 (after_first is_point bs ++ replicate 18 48))
+magnitude bs = digits_value 10 (digits_at bs (position is_point bs))
 
 abbrev pub value_of : List ℕ → ℤ
 value_of [] = pos 0
