@@ -1,11 +1,15 @@
 -- A number by its sign and the digits of its magnitude.
-use Rattle.std.specs.Prelude.{ℕ, ◌==◌, Bool, List, [], ◌∷◌, if◌then◌else◌}
+use Rattle.std.specs.Prelude.{ℕ, ℤ, pos, ◌-ℤ◌, ◌==◌, Bool, List, [], ◌∷◌, if◌then◌else◌}
 use Rattle.global_defs.specs.Encoded.{positive_sub, negative_sub}
 
 -- digits without the zeros at the front
 abbrev pub stripped : List ℕ → List ℕ
 stripped [] = []
 stripped (d ∷ digits) = if d == 48 then stripped digits else d ∷ digits
+
+-- a number by its sign and its magnitude
+abbrev pub signed : Bool → ℕ → ℤ
+signed negative n = if negative then pos 0 -ℤ pos n else pos n
 
 -- none for 0
 abbrev pub number_code : Bool → List ℕ → List ℕ

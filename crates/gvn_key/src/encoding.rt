@@ -1,17 +1,26 @@
 //! Subscripts as bytes that collate as the subscripts do.
-ghost use Rattle.std.specs.Prelude.{◌≡◌, ◌≤◌, ◌-◌, ◌++◌, true, length, map, position, IfOk, OnOk};
+ghost use Rattle.std.specs.Prelude.{◌≡◌, ◌≤◌, ◌-◌, ◌++◌, true, length, map, position, replicate, IfOk, OnOk};
 ghost use Rattle.std.specs.List.{flat_map};
+ghost use Rattle.std.specs.Str.Parse.{AllDigits};
 ghost use Rattle.global_defs.specs.Key.{sub_of, Number, Text};
-ghost use Rattle.global_defs.specs.Numeral.{is_point, is_number, all_digits, digits_at, value_of};
+ghost use Rattle.global_defs.specs.Numeral.{is_point, is_number, all_digits, digits_at, magnitude, value_of};
 ghost use Rattle.global_defs.specs.Encoded.{significant, positive_sub, negative_sub, escaped, encoded_sub};
-ghost use Rattle.gvn_key.specs.Stripped.{stripped, number_code};
+ghost use Rattle.gvn_key.specs.Stripped.{stripped, signed, number_code};
 
 use super::bytes::{Bytes, NoMemory};
 use super::numeral::{is_number, point};
 use std::alloc::Global;
 
-/// The zeros behind the digits of a number without a fraction.
-const ZEROS: [u8; 18] = *b"000000000000000000";
+/// As many zeros as digits may stand behind a point.
+const ZEROS: [u8; 18] = [b'0'; 18];
+
+/// So many zeros.
+fn zeros(count: usize) -> &'static [u8]
+    requires { count ≤ 18 }
+    ensures { result.now ≡ replicate count 48 }
+{
+    &ZEROS[..count]
+}
 
 /// The digits of 10 ^ 18 times a number with these digits before and behind its point.
 fn all_digits(alloc: Global, whole: &[u8], fraction: &[u8]) -> Result<Bytes, NoMemory>
@@ -19,7 +28,7 @@ fn all_digits(alloc: Global, whole: &[u8], fraction: &[u8]) -> Result<Bytes, NoM
 {
     let mut digits = Bytes::of(alloc, whole)?;
     digits.push_all(fraction)?;
-    digits.push_all(&ZEROS[fraction.len().min(18)..])?;
+    digits.push_all(zeros(ZEROS.len().saturating_sub(fraction.len())))?;
     Ok(digits)
 }
 
@@ -35,7 +44,8 @@ fn digits_of(alloc: Global, bytes: &[u8]) -> Result<Bytes, NoMemory>
 
 /// Digits without the zeros at the front.
 fn stripped(digits: &[u8]) -> &[u8]
-    ensures { result.now ≡ stripped digits.now }
+    ensures value { result.now ≡ stripped digits.now }
+    ensures shorter { length result.now ≤ length digits.now }
 {
     let mut rest = digits;
     while let [b'0', more @ ..] = rest {
@@ -101,14 +111,30 @@ fn push_signed(negative: bool, digits: &[u8], out: &mut Bytes) -> Result<(), NoM
     }
 }
 
+/// A number by its sign and what stands behind it.
+fn push_magnitude(
+    alloc: Global,
+    negative: bool,
+    bytes: &[u8],
+    out: &mut Bytes,
+) -> Result<(), NoMemory>
+    requires digits { AllDigits 10 (digits_at bytes.now (position is_point bytes.now)) }
+    requires few { length (digits_at bytes.now (position is_point bytes.now)) ≤ 36 }
+    ensures { OnOk result (out.new ≡ out.old ++ encoded_sub (Number (signed negative (magnitude bytes.now)))) }
+{
+    let digits = digits_of(alloc, bytes)?;
+    push_signed(negative, stripped(digits.as_slice()), out)
+}
+
 /// A number by its numeral.
 fn push_number(alloc: Global, numeral: &[u8], out: &mut Bytes) -> Result<(), NoMemory>
     requires { is_number numeral.now ≡ true }
     ensures { OnOk result (out.new ≡ out.old ++ encoded_sub (Number (value_of numeral.now))) }
 {
-    match numeral {
-        [b'-', magnitude @ ..] => push_signed(true, stripped(digits_of(alloc, magnitude)?.as_slice()), out),
-        _ => push_signed(false, stripped(digits_of(alloc, numeral)?.as_slice()), out),
+    if numeral.starts_with(b"-") {
+        push_magnitude(alloc, true, &numeral[1..], out)
+    } else {
+        push_magnitude(alloc, false, numeral, out)
     }
 }
 

@@ -1,12 +1,8 @@
 //! Keys.
 ghost use Rattle.std.specs.Prelude.{◌≡◌, ◌++◌, ◌∷◌, [], ℕ, length, map, None, IfOk, OnOk, OnErr};
-ghost use Rattle.std.specs.Prelude.{nat_eq};
-ghost use Rattle.std.specs.Ordering.{nat_cmp};
-ghost use Rattle.std.specs.Cmp.Lexicographic.{slice_cmp};
-ghost use Rattle.std.specs.List.{list_all, flat_map, starts_with};
+ghost use Rattle.std.specs.List.{list_all, flat_map};
 ghost use Rattle.std.specs.Char.{is_ascii_alphanumeric};
-ghost use Rattle.global_defs.specs.Key.{sub_of, key_cmp};
-ghost use Rattle.global_defs.specs.Entry.{is_under};
+ghost use Rattle.global_defs.specs.Key.{sub_of};
 ghost use Rattle.global_defs.specs.Valid.{is_name};
 ghost use Rattle.global_defs.specs.Encoded.{encoded};
 ghost use Rattle.global_defs.specs.NodeText.{sub_text, subs_text, node_text};
@@ -17,7 +13,6 @@ use super::encoding::push_subs;
 use super::numeral::is_number;
 use super::zwr::push_zwr;
 use std::alloc::Global;
-use std::cmp::Ordering;
 use std::marker::Model;
 use thiserror::Error;
 
@@ -76,7 +71,6 @@ pub struct Key {
 
 impl Model for Key {
     ghost use Rattle.global_defs.specs.Key as defs;
-
     ghost use Rattle.gvn_key.specs.Faults as made;
 
     ghost Value = { defs.Key };
@@ -196,23 +190,6 @@ impl Key {
         ensures err { OnErr result (out.new ≡ out.old) }
     {
         out.push_all(self.code.as_slice())
-    }
-
-    /// The place in M collation: names by their bytes, then subscripts one by one, numbers before strings,
-    /// a node before its descendants. Encoded keys compare so byte by byte.
-    pub fn compare(&self, other: &Key) -> Ordering
-        ensures collation { result ≡ key_cmp self.now other.now }
-        ensures encoded { result ≡ slice_cmp nat_cmp (encoded self.now) (encoded other.now) }
-    {
-        self.code.as_slice().cmp(other.code.as_slice())
-    }
-
-    /// Whether the node is the top one or one of its descendants. Just then its encoded key begins with the other.
-    pub fn is_under(&self, top: &Key) -> bool
-        ensures below { result ≡ is_under top.now self.now }
-        ensures encoded { result ≡ starts_with nat_eq (encoded self.now) (encoded top.now) }
-    {
-        self.code.as_slice().starts_with(top.code.as_slice())
     }
 
     /// An equal key.

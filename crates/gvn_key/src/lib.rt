@@ -6,10 +6,9 @@ mod encoding;
 mod key;
 mod numeral;
 pub mod terms;
-mod zwr;
-
 #[cfg(test)]
 mod tests;
+mod zwr;
 
 pub use bytes::{Bytes, NoMemory};
 pub use key::{Key, KeyError};
