@@ -1,0 +1,4 @@
+pub mod Terms
+pub mod Faults
+pub mod Pieces
+pub mod Stripped
