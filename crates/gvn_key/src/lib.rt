@@ -2,6 +2,9 @@
 #![tactic(auto)]
 
 mod bytes;
+mod decode;
+#[cfg(test)]
+mod decode_tests;
 mod encoding;
 mod key;
 mod numeral;
