@@ -1,0 +1,11 @@
+pub mod Keys
+pub mod Images
+pub mod Targets
+pub mod Runs
+pub mod EveryTarget
+pub mod Fewer
+pub mod Readings
+pub mod Appending
+pub mod Merging
+pub mod Drawing
+pub mod Prefixes

@@ -1,0 +1,28 @@
+//! What a crash in the middle of a call leaves of the sequence.
+
+ghost use Rattle.std.specs.Prelude.{◌≡◌, ◌⊎◌, ℕ, ◌+◌, ◌≤◌, true, None, List, [], ◌∷◌, ◌++◌, length, take, Option};
+ghost use Rattle.global_defs.specs.Entry.{Globals, Sequence};
+ghost use Rattle.journal_defs.specs.Journal.{Part};
+ghost use Rattle.journal_defs.specs.Instance.{InstanceRecord};
+ghost use Rattle.journal_defs.specs.Surviving.{survives};
+ghost use Rattle.journal_defs.specs.Sequence.{Placed, Records, parts, part_of, IsSequence};
+ghost use Rattle.journal_defs.specs.Growth.{with_parts, NonePast, AreNumbered, AreTidy, TidyPast, HasFewer, NumbersRise};
+ghost use Rattle.journal_defs.specs.Epochs.{Blocks};
+ghost use Rattle.journal_defs.specs.Sound.{IsSoundRegion};
+
+/// Where of the parts that were appended any are missing, past the first n entries, the records stand for a
+/// front of the sequence that has those n.
+pub fn fronts_hold()
+    ensures front { (u v : Records) (seq : Sequence) (n : ℕ) → IsSequence v seq → TidyPast n v → u.instance ≡ v.instance → HasFewer u v
+        → n ≤ length seq → ((k r : ℕ) → k ≤ n → parts u k r ≡ parts v k r)
+        → (j : ℕ) × (n ≤ j) × (j ≤ length seq) × IsSequence u (take j seq) }
+    ensures tidy_start { (s : Records) (n : ℕ) → NonePast n s → TidyPast n s }
+    ensures tidy_parts { (s : Records) (h n g : ℕ) (part : ℕ → Option Part) → TidyPast h s → AreNumbered n part → survives s.instance g n ≡ true
+        → ((r : ℕ) → parts s n r ≡ None) → AreTidy part → TidyPast h (with_parts s g part) }
+    ensures fewer { (instance : List InstanceRecord) (journal ps : List Placed) (low k n : ℕ) → NumbersRise low ps → part_of instance n journal ≡ None
+        → (part_of instance n (journal ++ take k ps) ≡ None) ⊎ (part_of instance n (journal ++ take k ps) ≡ part_of instance n (journal ++ ps)) }
+    ensures earlier { (instance : List InstanceRecord) (journal ps : List Placed) (low k n : ℕ) → NumbersRise low ps → n ≤ low
+        → part_of instance n (journal ++ take k ps) ≡ part_of instance n journal }
+    ensures sound_front { (of : Sequence → Globals) (instance : List InstanceRecord) (seq : Sequence) (journal : List Placed) (database : Blocks) (j : ℕ)
+        → IsSoundRegion of instance seq journal database → j ≤ length seq → IsSoundRegion of instance (take j seq) journal database }
+{}

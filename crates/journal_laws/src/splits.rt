@@ -1,0 +1,15 @@
+//! A transaction's parts are an entry of it.
+
+ghost use Rattle.std.specs.Prelude.{◌≡◌, ℕ, Some};
+ghost use Rattle.global_defs.specs.Entry.{Update, Transaction, Stamp};
+ghost use Rattle.journal_defs.specs.Sequence.{entry_with};
+ghost use Rattle.journal_defs.specs.Growth.{AreNumbered, AreTidy};
+ghost use Rattle.journal_defs.specs.Split.{split, IsSplit};
+
+/// The parts into which a transaction is split make one complete entry: the transaction.
+pub fn splits_hold()
+    ensures entry { (region : Update → ℕ) (n mask : ℕ) (t : Transaction) (stamp : Stamp) → IsSplit region mask t
+        → entry_with (split region n mask t) (Some stamp) ≡ Some (record { stamp = stamp; transaction = t }) }
+    ensures numbered { (region : Update → ℕ) (n mask : ℕ) (t : Transaction) → AreNumbered n (split region n mask t) }
+    ensures tidy { (region : Update → ℕ) (n mask : ℕ) (t : Transaction) → IsSplit region mask t → AreTidy (split region n mask t) }
+{}
