@@ -12,6 +12,10 @@ use Rattle.journal_defs.specs.Stands.{Holds, IsJournal}
 abbrev pub with_record : Records → InstanceRecord → Records
 with_record s r = record { instance = s.instance ++ r ∷ []; journal = s.journal }
 
+-- with these records more at the ends of the regions' journals
+abbrev pub with_more : Records → (ℕ → List Placed) → Records
+with_more s more = record { instance = s.instance; journal = λ r. s.journal r ++ more r }
+
 abbrev pub placed : ℕ → Option Part → List Placed
 placed g None = []
 placed g (Some p) = record { generation = g; what = Tcom p } ∷ []

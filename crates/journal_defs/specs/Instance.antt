@@ -50,6 +50,13 @@ IsNoCreate (Cut n g) = Unit {0}
 IsNoCreate (Map region star name) = Unit {0}
 IsNoCreate (Mode region before) = Unit {0}
 
+abbrev pub IsNoCut : InstanceRecord → Type 0
+IsNoCut (Cut n g) = ⊥
+IsNoCut (Create name regions) = Unit {0}
+IsNoCut (Reigned r) = Unit {0}
+IsNoCut (Map region star name) = Unit {0}
+IsNoCut (Mode region before) = Unit {0}
+
 -- CREATE is the first record and no other one is
 abbrev pub BeginsWithCreate : List InstanceRecord → Type 0
 BeginsWithCreate [] = Unit {0}

@@ -15,7 +15,7 @@ use Rattle.journal_defs.specs.Stands.{Holds, StartsRise, IsJournal, in_generatio
 use Rattle.journal_laws.proofs.Runs.{reigns-cut, starts_by}
 use Rattle.journal_laws.proofs.Appending.{zip_append, journal_same}
 
-generation-cut : (rs : List InstanceRecord) (t g : ℕ) → generation rs < g → generation (rs ++ Cut t g ∷ []) ≡ g
+pub generation-cut : (rs : List InstanceRecord) (t g : ℕ) → generation rs < g → generation (rs ++ Cut t g ∷ []) ≡ g
 generation-cut [] t g low = omega arith
 generation-cut (Cut n h ∷ rs) t g low = let rest : generation (rs ++ Cut t g ∷ []) ≡ g = generation-cut rs t g (omega arith) in omega arith
 generation-cut (Create name qs ∷ rs) t g low = generation-cut rs t g low
@@ -43,7 +43,7 @@ create_more (Reigned r ∷ rs) t g some h = absurd h
 create_more (Map region star name ∷ rs) t g some h = absurd h
 create_more (Mode region before ∷ rs) t g some h = absurd h
 
-same_regions : (rs : List InstanceRecord) (t g : ℕ) → 1 ≤ length (regions rs) → regions (rs ++ Cut t g ∷ []) ≡ regions rs
+pub same_regions : (rs : List InstanceRecord) (t g : ℕ) → 1 ≤ length (regions rs) → regions (rs ++ Cut t g ∷ []) ≡ regions rs
 same_regions [] t g some = absurd (omega arith)
 same_regions (Create name qs ∷ rs) t g some = refl
 same_regions (Cut n k ∷ rs) t g some = absurd (omega arith)

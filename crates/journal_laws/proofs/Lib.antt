@@ -3,9 +3,16 @@ pub mod Images
 pub mod Targets
 pub mod Runs
 pub mod EveryTarget
+pub mod Later
 pub mod Fewer
 pub mod Readings
 pub mod Appending
 pub mod Merging
+pub mod PartForms
 pub mod Drawing
+pub mod Naming
 pub mod Prefixes
+pub mod Crashes
+pub mod Cleaning
+pub mod BlockReading
+pub mod FrontFacts

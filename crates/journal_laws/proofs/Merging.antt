@@ -143,10 +143,10 @@ merged region us low =
     ap (λ (k : ℕ). update_at items k) here ∙ ap (λ (o : Option Item). option_map (λ x. x.update) o) (find_joined region us j u more REGIONS is (omega arith)))
 
 -- a part of a transaction
-abbrev part_with : ℕ → ℕ → Transaction → List Item → Part
+abbrev pub part_with : ℕ → ℕ → Transaction → List Item → Part
 part_with n mask t xs = record { number = n; mask = mask; origin = t.origin; count = length t.updates; items = xs }
 
-is_part : (n mask : ℕ) (t : Transaction) (xs : List Item) (p : Part) → with_items n mask t xs ≡ Some p → (ys : List Item) × (p ≡ part_with n mask t ys)
+pub is_part : (n mask : ℕ) (t : Transaction) (xs : List Item) (p : Part) → with_items n mask t xs ≡ Some p → (ys : List Item) × (p ≡ part_with n mask t ys)
 is_part n mask t [] p is = let none : None ≡ Some p = is in cc
 is_part n mask t (x ∷ xs) p is = (x ∷ xs, (let same : Some (part_with n mask t (x ∷ xs)) ≡ Some p = is in cc))
 

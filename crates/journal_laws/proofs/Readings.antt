@@ -20,7 +20,7 @@ use Rattle.journal_defs.specs.Instance as instance
 use Rattle.journal_laws.proofs.Runs as runs
 use Rattle.journal_laws.proofs.Keys.{cons_one, apart, keys_apart}
 
-split_front : (a b x y : List ℕ) → length a ≡ length b → a ++ x ≡ b ++ y → (a ≡ b) × (x ≡ y)
+pub split_front : (a b x y : List ℕ) → length a ≡ length b → a ++ x ≡ b ++ y → (a ≡ b) × (x ≡ y)
 split_front [] [] x y same h = (refl, h)
 split_front [] (b ∷ bs) x y same h = absurd (omega arith)
 split_front (a ∷ us) [] x y same h = absurd (omega arith)
@@ -29,12 +29,12 @@ split_front (a ∷ us) (b ∷ bs) x y same h =
     let rest = split_front us bs x y (omega arith) both.1 in
     (let p : a ≡ b = both.0 in let q : us ≡ bs = rest.0 in cc, rest.1)
 
-w16_one : (n m : ℕ) (x y : List ℕ) → n < 2 ^ 16 → m < 2 ^ 16 → to_be_bytes w16 n ++ x ≡ to_be_bytes w16 m ++ y → (n ≡ m) × (x ≡ y)
+pub w16_one : (n m : ℕ) (x y : List ℕ) → n < 2 ^ 16 → m < 2 ^ 16 → to_be_bytes w16 n ++ x ≡ to_be_bytes w16 m ++ y → (n ≡ m) × (x ≡ y)
 w16_one n m x y p q h =
     let both = split_front (to_be_bytes w16 n) (to_be_bytes w16 m) x y refl h in
     (sym (from_be_bytes-to_be_bytes_2 n p) ∙ ap (from_be_bytes w16) both.0 ∙ from_be_bytes-to_be_bytes_2 m q, both.1)
 
-w32_one : (n m : ℕ) (x y : List ℕ) → n < 2 ^ 32 → m < 2 ^ 32 → to_be_bytes w32 n ++ x ≡ to_be_bytes w32 m ++ y → (n ≡ m) × (x ≡ y)
+pub w32_one : (n m : ℕ) (x y : List ℕ) → n < 2 ^ 32 → m < 2 ^ 32 → to_be_bytes w32 n ++ x ≡ to_be_bytes w32 m ++ y → (n ≡ m) × (x ≡ y)
 w32_one n m x y p q h =
     let both = split_front (to_be_bytes w32 n) (to_be_bytes w32 m) x y refl h in
     (sym (from_be_bytes-to_be_bytes_4 n p) ∙ ap (from_be_bytes w32) both.0 ∙ from_be_bytes-to_be_bytes_4 m q, both.1)
@@ -44,10 +44,10 @@ w64_one n m x y p q h =
     let both = split_front (to_be_bytes w64 n) (to_be_bytes w64 m) x y refl h in
     (sym (from_be_bytes-to_be_bytes_8 n p) ∙ ap (from_be_bytes w64) both.0 ∙ from_be_bytes-to_be_bytes_8 m q, both.1)
 
-short_one : (a b x y : List ℕ) → short a ++ x ≡ short b ++ y → (a ≡ b) × (x ≡ y)
+pub short_one : (a b x y : List ℕ) → short a ++ x ≡ short b ++ y → (a ≡ b) × (x ≡ y)
 short_one a b x y h = let both = cons_one (length a) (length b) (a ++ x) (b ++ y) h in split_front a b x y both.0 both.1
 
-long_one : (a b x y : List ℕ) → length a < 2 ^ 16 → length b < 2 ^ 16 → long a ++ x ≡ long b ++ y → (a ≡ b) × (x ≡ y)
+pub long_one : (a b x y : List ℕ) → length a < 2 ^ 16 → length b < 2 ^ 16 → long a ++ x ≡ long b ++ y → (a ≡ b) × (x ≡ y)
 long_one a b x y p q h = let both = w16_one (length a) (length b) (a ++ x) (b ++ y) p q h in split_front a b x y both.0 both.1
 
 flag_one : (a b : Bool) → flag a ≡ flag b → a ≡ b

@@ -39,7 +39,7 @@ same_entry s u n same stamp =
     ap (λ (p : ℕ → Option Part). entry_with p (stamp_at n (reigns u.instance))) (fun_ext same) ∙ ap (entry_with (parts s n)) stamp
 
 -- runs of entries
-runs_take : (at to : ℕ → Option Entry) (n t : ℕ) (seq : Sequence) → ((k : ℕ) → k < n + t → to k ≡ at k) → EntriesFrom at n seq → EntriesFrom to n (take t seq)
+pub runs_take : (at to : ℕ → Option Entry) (n t : ℕ) (seq : Sequence) → ((k : ℕ) → k < n + t → to k ≡ at k) → EntriesFrom at n seq → EntriesFrom to n (take t seq)
 runs_take at to n zero seq same h = tt
 runs_take at to n (suc t) [] same h = tt
 runs_take at to n (suc t) (e ∷ es) same h = (same n (omega arith) ∙ h.0, runs_take at to (suc n) t es (λ k low. same k (omega arith)) h.1)
@@ -199,7 +199,7 @@ longer s seq n g part e h none is numbered lives whole_is = record {
       parts_other s (suc (length (seq ++ e ∷ []))) n g part numbered (λ same. omega arith) r ∙ none (suc (length (seq ++ e ∷ []))) r (omega arith));
 }
 
-and_true : (a b : Bool) → b ≡ true → (a && (b && true)) ≡ a
+pub and_true : (a b : Bool) → b ≡ true → (a && (b && true)) ≡ a
 and_true false b h = refl
 and_true true b h = rw h refl
 
@@ -209,7 +209,7 @@ part_in-sparing instance x n h (Pini s) spare = refl
 part_in-sparing instance x n h (Epoch m) spare = refl
 part_in-sparing instance x n h (Pblk b) spare = refl
 
-part_of-sparing : (instance : List InstanceRecord) (x : InstanceRecord) (n : ℕ) (ps : List Placed) → ((g m : ℕ) → spares g m x ≡ true) → part_of (instance ++ x ∷ []) n ps ≡ part_of instance n ps
+pub part_of-sparing : (instance : List InstanceRecord) (x : InstanceRecord) (n : ℕ) (ps : List Placed) → ((g m : ℕ) → spares g m x ≡ true) → part_of (instance ++ x ∷ []) n ps ≡ part_of instance n ps
 part_of-sparing instance x n [] spare = refl
 part_of-sparing instance x n (p ∷ ps) spare =
     ap (λ (o : Option Part). option_or o (part_in (instance ++ x ∷ []) n p.generation p.what)) (part_of-sparing instance x n ps spare)
@@ -222,7 +222,7 @@ if_append : (a : Bool) (r x : Reign) (l : List Reign) → (if a then r ∷ (l ++
 if_append false r x l = refl
 if_append true r x l = refl
 
-reigns-more : (instance : List InstanceRecord) (x : Reign) → reigns (instance ++ Reigned x ∷ []) ≡ reigns instance ++ x ∷ []
+pub reigns-more : (instance : List InstanceRecord) (x : Reign) → reigns (instance ++ Reigned x ∷ []) ≡ reigns instance ++ x ∷ []
 reigns-more [] x = refl
 reigns-more (Reigned r ∷ rs) x =
     ap (λ (b : Bool). if b then r ∷ reigns (rs ++ Reigned x ∷ []) else reigns (rs ++ Reigned x ∷ [])) (list_all-append (spares_start r.start) rs (Reigned x ∷ []))

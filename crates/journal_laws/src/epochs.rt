@@ -3,7 +3,7 @@
 ghost use Rattle.std.specs.Prelude.{◌≡◌, ℕ, ◌<◌, ◌≤◌, true, List, [], ◌∷◌, ◌++◌, Option, Some, None};
 ghost use Rattle.journal_defs.specs.Journal.{Mark, Epoch};
 ghost use Rattle.journal_defs.specs.Instance.{InstanceRecord, Cut};
-ghost use Rattle.journal_defs.specs.Surviving.{survives};
+ghost use Rattle.journal_defs.specs.Surviving.{survives, spares};
 ghost use Rattle.journal_defs.specs.Sequence.{Placed};
 ghost use Rattle.journal_defs.specs.Epochs.{Chosen, epoch_in, chosen, image_state, Blocks};
 ghost use Rattle.journal_defs.specs.Undo.{logged, IsEarlier};
@@ -18,6 +18,8 @@ pub fn epochs_hold()
         → image_state (record { number = n; blocks = blocks; after = [] }) database b ≡ Some (database b) }
     ensures cut { (instance : List InstanceRecord) (t u g : ℕ) (journal : List Placed) → t ≤ u
         → chosen (instance ++ Cut u g ∷ []) t journal ≡ chosen instance t journal }
+    ensures instance_record { (instance : List InstanceRecord) (x : InstanceRecord) (t : ℕ) (journal : List Placed) → ((g m : ℕ) → spares g m x ≡ true)
+        → chosen (instance ++ x ∷ []) t journal ≡ chosen instance t journal }
     ensures lesser_target { (instance : List InstanceRecord) (t u : ℕ) (journal : List Placed) → t ≤ u
         → IsEarlier (chosen instance t journal) (chosen instance u journal) }
     ensures number { (instance : List InstanceRecord) (t : ℕ) (journal : List Placed) → (chosen instance t journal).number ≤ t }

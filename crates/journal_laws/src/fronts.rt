@@ -6,13 +6,18 @@ ghost use Rattle.journal_defs.specs.Journal.{Part};
 ghost use Rattle.journal_defs.specs.Instance.{InstanceRecord};
 ghost use Rattle.journal_defs.specs.Surviving.{survives};
 ghost use Rattle.journal_defs.specs.Sequence.{Placed, Records, parts, part_of, IsSequence};
-ghost use Rattle.journal_defs.specs.Growth.{with_parts, NonePast, AreNumbered, AreTidy, TidyPast, HasFewer, NumbersRise};
+ghost use Rattle.journal_defs.specs.Growth.{with_parts, with_more, NonePast, AreNumbered, AreTidy, TidyPast, HasFewer, NumbersRise};
 ghost use Rattle.journal_defs.specs.Epochs.{Blocks};
 ghost use Rattle.journal_defs.specs.Sound.{IsSoundRegion};
+ghost use Rattle.journal_defs.specs.Fit.{HasFewNodes, SerialsRise};
 
-/// Where of the parts that were appended any are missing, past the first n entries, the records stand for a
-/// front of the sequence that has those n.
+/// Where any of the parts that were appended past the first n entries are missing, the records stand for a front of the sequence
+/// that has those n.
 pub fn fronts_hold()
+    // of what was appended to each region's journal a crash leaves the first few, in each region as many as it likes
+    ensures crash { (s : Records) (more : ℕ → List Placed) (kept : ℕ → ℕ) (seq : Sequence) (n : ℕ) → IsSequence (with_more s more) seq
+        → TidyPast n (with_more s more) → NonePast n s → ((r : ℕ) → NumbersRise n (more r)) → n ≤ length seq
+        → (j : ℕ) × (n ≤ j) × (j ≤ length seq) × IsSequence (with_more s (λ r. take (kept r) (more r))) (take j seq) }
     ensures front { (u v : Records) (seq : Sequence) (n : ℕ) → IsSequence v seq → TidyPast n v → u.instance ≡ v.instance → HasFewer u v
         → n ≤ length seq → ((k r : ℕ) → k ≤ n → parts u k r ≡ parts v k r)
         → (j : ℕ) × (n ≤ j) × (j ≤ length seq) × IsSequence u (take j seq) }
@@ -23,6 +28,8 @@ pub fn fronts_hold()
         → (part_of instance n (journal ++ take k ps) ≡ None) ⊎ (part_of instance n (journal ++ take k ps) ≡ part_of instance n (journal ++ ps)) }
     ensures earlier { (instance : List InstanceRecord) (journal ps : List Placed) (low k n : ℕ) → NumbersRise low ps → n ≤ low
         → part_of instance n (journal ++ take k ps) ≡ part_of instance n journal }
+    ensures few_nodes { (seq : Sequence) (j : ℕ) → HasFewNodes seq → HasFewNodes (take j seq) }
+    ensures serials { (seq : Sequence) (j : ℕ) → SerialsRise seq → SerialsRise (take j seq) }
     ensures sound_front { (of : Sequence → Globals) (instance : List InstanceRecord) (seq : Sequence) (journal : List Placed) (database : Blocks) (j : ℕ)
         → IsSoundRegion of instance seq journal database → j ≤ length seq → IsSoundRegion of instance (take j seq) journal database }
 {}
