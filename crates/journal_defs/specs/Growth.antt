@@ -1,11 +1,14 @@
 -- Records with more behind them: what a call appends, and what a crash leaves of it.
-use Rattle.std.specs.Prelude.{◌≡◌, ◌⊎◌, ℕ, suc, ◌<◌, ◌==◌, if◌then◌else◌, true, List, [], ◌∷◌, ◌++◌, Option, Some, None}
+use Rattle.std.specs.Prelude.{◌≡◌, ◌⊎◌, ℕ, suc, ◌+◌, ◌<◌, ◌==◌, if◌then◌else◌, true, List, [], ◌∷◌, ◌++◌, Option, Some, None}
 use Rattle.std.specs.List.{AllByRecursion}
 use Rattle.disk_defs.specs.Disk.{Files}
 use Rattle.journal_defs.specs.Numbers.{journal_file}
 use Rattle.journal_defs.specs.Journal.{JournalRecord, Pini, Epoch, Pblk, Tcom, Part, IsJournalBody, IsNoPini, BeginsWithPini}
 use Rattle.journal_defs.specs.Instance.{InstanceRecord}
-use Rattle.journal_defs.specs.Sequence.{Placed, Records, parts, in_mask, is_like}
+use Rattle.global_defs.specs.Entry.{Sequence}
+use Rattle.global_defs.specs.Prefix.{stamp_at}
+use Rattle.journal_defs.specs.Surviving.{survives, reigns}
+use Rattle.journal_defs.specs.Sequence.{Placed, Records, parts, in_mask, is_like, entry_with}
 use Rattle.journal_defs.specs.Stands.{Holds, IsJournal}
 
 -- with one record more in the instance file
@@ -44,6 +47,19 @@ pub record AreTidy (part : ℕ → Option Part) : Type 0 where
 -- the parts of each entry past this length are tidy
 abbrev pub TidyPast : ℕ → Records → Type 0
 TidyPast length s = (n : ℕ) → length < n → AreTidy (parts s n)
+
+-- what these entries append to a region's journal, one part after another
+abbrev pub appended : ℕ → List (ℕ → Option Part) → ℕ → List Placed
+appended g [] r = []
+appended g (p ∷ ps) r = placed g (p r) ++ appended g ps r
+
+-- these are the parts of these entries, of which the first has the number after n, in this generation
+abbrev pub AreEntries : List InstanceRecord → ℕ → ℕ → List (ℕ → Option Part) → Sequence → Type 0
+AreEntries instance g n [] [] = Unit {0}
+AreEntries instance g n [] (e ∷ es) = ⊥
+AreEntries instance g n (p ∷ ps) [] = ⊥
+AreEntries instance g n (p ∷ ps) (e ∷ es) = AreNumbered (n + 1) p × AreTidy p × (survives instance g (n + 1) ≡ true)
+    × (entry_with p (stamp_at (n + 1) (reigns instance)) ≡ Some e) × AreEntries instance g (n + 1) ps es
 
 -- what survives of u survives of v, where parts may have come besides
 abbrev pub HasFewer : Records → Records → Type 0

@@ -4,6 +4,7 @@ ghost use Rattle.std.specs.Prelude.{◌≡◌, ◌==◌, if◌then◌else◌, tr
 ghost use Rattle.std.specs.FinMap as globals;
 ghost use Rattle.journal_defs.specs.Instance.{Cut};
 ghost use Rattle.journal_defs.specs.Epochs.{chosen, beginning, image_of, image_state, block_of, first_without};
+ghost use Rattle.journal_defs.specs.Undo.{MayWrite, MayLog};
 ghost use Rattle.journal_defs.specs.Leaves.{Decodes};
 ghost use Rattle.journal_defs.specs.Samples.{begins, epoch, image, images};
 
@@ -29,6 +30,16 @@ pub fn image_states_are()
     ensures empty_database { image_state (beginning images) (λ b. b ∷ []) 0 ≡ Some (replicate 4096 0) }
     ensures no_other_block { image_state (beginning images) (λ b. b ∷ []) 7 ≡ None }
     ensures short_file { block_of (5 ∷ 6 ∷ []) 0 ≡ 5 ∷ 6 ∷ [] }
+{}
+
+/// A block may be written where it isn't below `blocks` or has an image after the epoch, and an image may be appended also where the
+/// block stands on the file so.
+pub fn writes_are_allowed()
+    ensures past_blocks { MayWrite (record { number = 1; blocks = 8; after = [] }) 8 }
+    ensures imaged { MayWrite (record { number = 1; blocks = 8; after = images }) 7 }
+    ensures not_imaged { MayWrite (record { number = 1; blocks = 8; after = images }) 6 → ⊥ }
+    ensures as_on_the_file { MayLog (record { number = 1; blocks = 8; after = [] }) (λ b. b ∷ []) (record { block = 6; bytes = 6 ∷ [] }) }
+    ensures not_as_on_the_file { MayLog (record { number = 1; blocks = 8; after = [] }) (λ b. b ∷ []) (record { block = 6; bytes = 5 ∷ [] }) → ⊥ }
 {}
 
 /// A block of zeros is an empty leaf.

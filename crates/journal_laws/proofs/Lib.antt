@@ -16,3 +16,4 @@ pub mod Crashes
 pub mod Cleaning
 pub mod BlockReading
 pub mod FrontFacts
+pub mod Hardening

@@ -6,15 +6,22 @@ ghost use Rattle.journal_defs.specs.Journal.{Part};
 ghost use Rattle.journal_defs.specs.Instance.{InstanceRecord};
 ghost use Rattle.journal_defs.specs.Surviving.{survives};
 ghost use Rattle.journal_defs.specs.Sequence.{Placed, Records, parts, part_of, IsSequence};
-ghost use Rattle.journal_defs.specs.Growth.{with_parts, with_more, NonePast, AreNumbered, AreTidy, TidyPast, HasFewer, NumbersRise};
+ghost use Rattle.journal_defs.specs.Growth.{with_parts, with_more, appended, AreEntries, NonePast, AreNumbered, AreTidy, TidyPast, HasFewer, NumbersRise};
 ghost use Rattle.journal_defs.specs.Epochs.{Blocks};
 ghost use Rattle.journal_defs.specs.Sound.{IsSoundRegion};
 ghost use Rattle.journal_defs.specs.Fit.{HasFewNodes, SerialsRise};
 
-/// Where any of the parts that were appended past the first n entries are missing, the records stand for a front of the sequence
-/// that has those n.
+/// Whatever parts of the entries that were appended are missing, the records stand for a front of the sequence that has all entries
+/// from before: half an entry is none, and what follows it doesn't count either.
 pub fn fronts_hold()
-    // of what was appended to each region's journal a crash leaves the first few, in each region as many as it likes
+    // entries that are appended one after another are there with all their parts
+    ensures all_entries { (s : Records) (seq : Sequence) (g : ℕ) (ps : List (ℕ → Option Part)) (es : Sequence) → IsSequence s seq
+        → NonePast (length seq) s → AreEntries s.instance g (length seq) ps es → IsSequence (with_more s (appended g ps)) (seq ++ es) }
+    // and of these parts a crash leaves the first few, in each region as many as it likes
+    ensures some_entries { (s : Records) (seq : Sequence) (g : ℕ) (ps : List (ℕ → Option Part)) (es : Sequence) (kept : ℕ → ℕ) → IsSequence s seq
+        → NonePast (length seq) s → AreEntries s.instance g (length seq) ps es
+        → (j : ℕ) × (length seq ≤ j) × (j ≤ length (seq ++ es)) × IsSequence (with_more s (λ r. take (kept r) (appended g ps r))) (take j (seq ++ es)) }
+    // the same of any records that were appended to the regions' journals
     ensures crash { (s : Records) (more : ℕ → List Placed) (kept : ℕ → ℕ) (seq : Sequence) (n : ℕ) → IsSequence (with_more s more) seq
         → TidyPast n (with_more s more) → NonePast n s → ((r : ℕ) → NumbersRise n (more r)) → n ≤ length seq
         → (j : ℕ) × (n ≤ j) × (j ≤ length seq) × IsSequence (with_more s (λ r. take (kept r) (more r))) (take j seq) }
