@@ -3,7 +3,7 @@
 ghost use Rattle.std.specs.Prelude.{◌≡◌, [], ◌∷◌, Some, None};
 ghost use Rattle.journal_defs.specs.Instance.{Cut, Reigned};
 ghost use Rattle.journal_defs.specs.Sequence.{entry, IsSequence};
-ghost use Rattle.journal_defs.specs.Split.{split};
+ghost use Rattle.journal_defs.specs.Split.{split, mask_of};
 ghost use Rattle.journal_defs.specs.Samples.{REIGN, kill_x, set_h, both_updates, both_entry, reign_from, part, tcom, half_x, half_h, sets_in_one, in_regions};
 
 /// An entry counts with all regions of its mask, alike, with positions that fit, surviving, and with a reign.
@@ -50,5 +50,7 @@ pub fn runs_are()
 pub fn parts_are()
     ensures first { split sets_in_one 1 3 (both_updates 1) 0 ≡ Some (half_x 1 1) }
     ensures second { split sets_in_one 1 3 (both_updates 1) 1 ≡ Some (half_h 1 1) }
+    ensures mask { mask_of sets_in_one (kill_x ∷ set_h ∷ []) ≡ 3 }
+    ensures one_region { mask_of sets_in_one (set_h ∷ set_h ∷ []) ≡ 2 }
     ensures no_other { split sets_in_one 1 3 (both_updates 1) 2 ≡ None }
 {}

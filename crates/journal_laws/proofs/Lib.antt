@@ -17,3 +17,5 @@ pub mod Cleaning
 pub mod BlockReading
 pub mod FrontFacts
 pub mod Hardening
+pub mod Masks
+pub mod Regions

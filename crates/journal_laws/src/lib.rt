@@ -6,6 +6,7 @@
 
 pub mod bodies;
 pub mod clean;
+pub mod directories;
 pub mod epochs;
 pub mod files;
 pub mod fronts;

@@ -11,7 +11,6 @@ ghost use Rattle.journal_defs.specs.Epochs.{chosen, image_state, NeedsForward, B
 ghost use Rattle.journal_defs.specs.Undo.{SameBut, MayWrite, MayAppend, fresh};
 ghost use Rattle.journal_defs.specs.Leaves.{Decodes};
 ghost use Rattle.journal_defs.specs.Directory.{patterns};
-ghost use Rattle.journal_defs.specs.Fit.{IsAtHome};
 ghost use Rattle.journal_defs.specs.Sound.{IsSoundRegion, BlocksGrow, NoEpochPast};
 
 /// A call that meets the conditions of the epoch chosen for the whole length keeps the region sound for every target.
@@ -64,13 +63,4 @@ pub fn further_facts_hold()
         → NoEpochPast (n + 1) instance journal }
     ensures none_past_instance_record { (instance : List InstanceRecord) (x : InstanceRecord) (n : ℕ) (journal : List Placed)
         → ((g m : ℕ) → spares g m x ≡ true) → NoEpochPast n instance journal → NoEpochPast n (instance ++ x ∷ []) journal }
-{}
-
-/// Records of an opened site's instance file leave the directory, so a region's part of a state stays what it was.
-pub fn directory_stays()
-    ensures cut { (instance : List InstanceRecord) (t g : ℕ) → patterns (instance ++ Cut t g ∷ []) ≡ patterns instance }
-    ensures reign { (instance : List InstanceRecord) (r : Reign) → patterns (instance ++ Reigned r ∷ []) ≡ patterns instance }
-    ensures mode { (instance : List InstanceRecord) (region : ℕ) (before : Bool) → patterns (instance ++ Mode region before ∷ []) ≡ patterns instance }
-    ensures at_home_after_cut { (instance : List InstanceRecord) (t g r h : ℕ) (what : JournalRecord) → IsAtHome instance r h what
-        → IsAtHome (instance ++ Cut t g ∷ []) r h what }
 {}
