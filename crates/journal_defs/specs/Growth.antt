@@ -1,7 +1,9 @@
 -- Records with more behind them: what a call appends, and what a crash leaves of it.
-use Rattle.std.specs.Prelude.{◌≡◌, ◌⊎◌, ℕ, suc, ◌+◌, ◌<◌, ◌==◌, if◌then◌else◌, true, List, [], ◌∷◌, ◌++◌, Option, Some, None}
-use Rattle.std.specs.List.{AllByRecursion}
+use Rattle.std.specs.Prelude.{◌≡◌, ◌⊎◌, ℕ, suc, ◌+◌, ◌<◌, ◌==◌, if◌then◌else◌, true, List, [], ◌∷◌, ◌++◌, map, Option, Some, None}
+use Rattle.std.specs.List.{AllByRecursion, AllZip, filter_map}
+use Rattle.std.specs.Option.{option_map}
 use Rattle.disk_defs.specs.Disk.{Files}
+use Rattle.disk_defs.specs.Gates.{Body, records}
 use Rattle.journal_defs.specs.Numbers.{journal_file}
 use Rattle.journal_defs.specs.Journal.{JournalRecord, Pini, Epoch, Pblk, Tcom, Part, IsJournalBody, IsNoPini, BeginsWithPini}
 use Rattle.journal_defs.specs.Instance.{InstanceRecord}
@@ -9,7 +11,7 @@ use Rattle.global_defs.specs.Entry.{Sequence}
 use Rattle.global_defs.specs.Prefix.{stamp_at}
 use Rattle.journal_defs.specs.Surviving.{survives, reigns}
 use Rattle.journal_defs.specs.Sequence.{Placed, Records, parts, in_mask, is_like, entry_with}
-use Rattle.journal_defs.specs.Stands.{Holds, IsJournal}
+use Rattle.journal_defs.specs.Stands.{Holds, IsJournal, in_generation}
 
 -- with one record more in the instance file
 abbrev pub with_record : Records → InstanceRecord → Records
@@ -97,3 +99,21 @@ pub record IsNewest (files : Files) (r g : ℕ) (last : ℕ) (older : List Place
   pub older_is : IsJournal files r g last older
   pub newer_is : Holds IsJournalBody (files (journal_file (suc g) r)) newer
   pub begins : BeginsWithPini r (suc g) last newer
+
+-- A region's journal in the newest generation, before and after these records were appended to it.
+pub record HasGrown (old new : Files) (r g : ℕ) (journal : List Placed) (xs : List JournalRecord) : Type 0 where
+  pub last : ℕ
+  pub older : List Placed
+  pub newer : List JournalRecord
+  pub bodies : List Body
+  pub more : List Body
+  pub newest : IsNewest old r g last older newer
+  pub whole : journal ≡ older ++ map (in_generation (suc g)) newer
+  pub before : records (old (journal_file (suc g) r)) ≡ Some bodies
+  pub after : records (new (journal_file (suc g) r)) ≡ Some (bodies ++ more)
+  pub spelled : AllZip IsJournalBody more xs
+  pub follows : MayFollow r (suc g) last newer xs
+
+-- the TCOM records of these entries in a region
+abbrev pub tcoms : List (ℕ → Option Part) → ℕ → List JournalRecord
+tcoms ps r = filter_map (λ p. option_map (λ x. Tcom x) (p r)) ps

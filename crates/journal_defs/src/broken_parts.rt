@@ -1,6 +1,6 @@
 //! Small cases of the broken list and its text.
 
-ghost use Rattle.std.specs.Prelude.{◌≡◌, [], ◌∷◌, ◌++◌, codes};
+ghost use Rattle.std.specs.Prelude.{◌≡◌, [], ◌∷◌, codes};
 ghost use Rattle.journal_defs.specs.Instance.{Cut};
 ghost use Rattle.journal_defs.specs.Broken.{broken, broken_text};
 ghost use Rattle.journal_defs.specs.Samples.{REIGN, SITE, tcom, half_x, half_h, in_regions};

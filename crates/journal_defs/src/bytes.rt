@@ -1,6 +1,6 @@
 //! Worked bytes of instance files, journals and blocks, and the files' numbers.
 
-ghost use Rattle.std.specs.Prelude.{◌≡◌, ◌^◌, pos, true, false, [], ◌∷◌, ◌++◌, replicate, Some, codes};
+ghost use Rattle.std.specs.Prelude.{◌≡◌, ◌^◌, pos, true, false, [], ◌∷◌, replicate, Some, codes};
 ghost use Rattle.disk_defs.specs.Gates.{records};
 ghost use Rattle.global_defs.specs.Key.{Number};
 ghost use Rattle.global_defs.specs.Entry.{Set};

@@ -1,16 +1,17 @@
 -- Files that gain records.
-use Rattle.std.proofs.Common.{◌≡◌, ◌≢◌, inl, inr, ℕ, zero, suc, ◌≤◌, ◌<◌, ◌==◌, true, false, List, [], ◌∷◌, ◌++◌, length, map, Some, refl, sym, ◌∙◌, ap, subst, arith, append_assoc}
+use Rattle.std.proofs.Common.{◌≡◌, ◌≢◌, inl, inr, ℕ, zero, suc, ◌≤◌, ◌<◌, ◌==◌, true, false, List, [], ◌∷◌, ◌++◌, length, map, Some, refl, sym, ◌∙◌, ap, subst, arith, append_assoc, append-nil, Option, None, option_map}
 use Rattle.std.proofs.lemmas.Bool.{cases_eq}
 use Rattle.std.proofs.lemmas.Bool.Decides.{nat_tests}
-use Rattle.std.specs.List.{AllByRecursion, AllZip}
+use Rattle.std.specs.List.{AllByRecursion, AllZip, cons_option}
 use Rattle.disk_defs.specs.Disk.{Files}
 use Rattle.disk_defs.specs.Gates.{Body, records}
-use Rattle.journal_defs.specs.Journal.{JournalRecord, Pini, Epoch, Pblk, Tcom, IsJournalBody, IsNoPini, BeginsWithPini}
+use Rattle.journal_defs.specs.Journal.{JournalRecord, Pini, Epoch, Pblk, Tcom, Part, IsJournalBody, IsNoPini, BeginsWithPini}
 use Rattle.journal_defs.specs.Sequence.{Placed, Records}
 use Rattle.journal_defs.specs.Stands.{Holds, IsInstance, IsJournal, last_began, in_generation, AreRecords}
-use Rattle.journal_defs.specs.Numbers.{journal_file}
+use Rattle.journal_defs.specs.Numbers.{INSTANCE, journal_file}
 use Rattle.journal_defs.specs.Instance.{generation, regions}
-use Rattle.journal_defs.specs.Growth.{with_journal, MayFollow, IsNewest}
+use Rattle.journal_defs.specs.Growth.{with_journal, with_more, placed, MayFollow, IsNewest, HasGrown, tcoms}
+use Rattle.journal_defs.specs.Growth as growth
 
 pub zip_append : {R : Type 0} (P : Body → R → Type 0) (bs cs : List Body) (rs qs : List R) → AllZip P bs rs → AllZip P cs qs → AllZip P (bs ++ cs) (rs ++ qs)
 zip_append P [] cs [] qs h k = k
@@ -55,18 +56,18 @@ here s r ps = let yes : (r == r) ≡ true = grind (arith, nat_tests) in rw yes r
 there : (s : Records) (r q : ℕ) (ps : List Placed) → q ≢ r → (with_journal s r ps).journal q ≡ s.journal q
 there s r q ps other = let differs : (q == r) ≡ false = grind (arith, nat_tests) in rw differs refl
 
-newest_more : (old new : Files) (r g last : ℕ) (older : List Placed) (newer xs : List JournalRecord) (bodies more : List Body) → r < 8
-    → IsNewest old r g last older newer → ((f : ℕ) → f ≢ journal_file (suc g) r → new f ≡ old f)
+newest_more : (old new : Files) (r g last : ℕ) (older : List Placed) (newer xs : List JournalRecord) (bodies more : List Body)
+    → IsNewest old r g last older newer → ((h : ℕ) → h ≤ g → new (journal_file h r) ≡ old (journal_file h r))
     → records (old (journal_file (suc g) r)) ≡ Some bodies → records (new (journal_file (suc g) r)) ≡ Some (bodies ++ more)
     → AllZip IsJournalBody more xs → MayFollow r (suc g) last newer xs
     → IsJournal new r (suc g) (last_began last (suc g) (newer ++ xs)) ((older ++ map (in_generation (suc g)) newer) ++ map (in_generation (suc g)) xs)
-newest_more old new r g last older newer xs bodies more low newest same old_is new_is zipped may =
+newest_more old new r g last older newer xs bodies more newest same old_is new_is zipped may =
     let mine = newest.newer_is in
     let bs : mine.0 ≡ bodies = (let a : records (old (journal_file (suc g) r)) ≡ Some mine.0 = mine.1 in cc) in (
       last,
       older,
       newer ++ xs,
-      journal_same old new r g last older (λ h low_h. same (journal_file h r) (other_file h (suc g) r r low low (λ e f. omega arith))) newest.older_is,
+      journal_same old new r g last older same newest.older_is,
       (bodies ++ more, new_is, zip_append IsJournalBody bodies more newer xs (subst (λ (l : List Body). AllZip IsJournalBody l newer) bs mine.2) zipped),
       begins_more r (suc g) last newer xs newest.begins may,
       refl,
@@ -93,7 +94,7 @@ appended old new s r g last older newer xs bodies more held top mine few newest 
         subst (λ (k : ℕ). IsJournal new q k (last_began last (suc g) (newer ++ xs)) ((with_journal s r (map (in_generation (suc g)) xs)).journal q)) (sym top)
             (subst (λ (k : ℕ). IsJournal new k (suc g) (last_began last (suc g) (newer ++ xs)) ((with_journal s r (map (in_generation (suc g)) xs)).journal k)) (sym e)
             (subst (λ (js : List Placed). IsJournal new r (suc g) (last_began last (suc g) (newer ++ xs)) js) (sym (here s r (map (in_generation (suc g)) xs) ∙ ap (λ (js : List Placed). js ++ map (in_generation (suc g)) xs) is))
-            (newest_more old new r g last older newer xs bodies more (omega arith) newest same old_is new_is zipped may))),
+            (newest_more old new r g last older newer xs bodies more newest (λ h low_h. same (journal_file h r) (other_file h (suc g) r r (omega arith) (omega arith) (λ e f. omega arith))) old_is new_is zipped may))),
       )
       | inr other ↦
           let theirs = held.journals q low in (
@@ -102,3 +103,26 @@ appended old new s r g last older newer xs bodies more held top mine few newest 
                 (journal_same old new q (generation s.instance) theirs.0 (s.journal q) (λ h high. same (journal_file h q) (other_file h (suc g) q r (omega arith) (omega arith) (λ a b. other b))) theirs.1),
           )
     ]
+
+pub all_regions : (old new : Files) (s : Records) (g : ℕ) (xs : ℕ → List JournalRecord) → AreRecords old s → generation s.instance ≡ suc g
+    → new INSTANCE ≡ old INSTANCE → ((h r : ℕ) → h ≤ g → new (journal_file h r) ≡ old (journal_file h r))
+    → ((r : ℕ) → r < length (regions s.instance) → HasGrown old new r g (s.journal r) (xs r)) → ((r : ℕ) → length (regions s.instance) ≤ r → xs r ≡ [])
+    → AreRecords new (with_more s (λ r. map (in_generation (suc g)) (xs r)))
+all_regions old new s g xs held top instance same grown none = record {
+  instance = subst (λ (file : List ℕ). IsInstance file s.instance) (sym instance) held.instance;
+  journals = λ r low.
+      let h = grown r low in (
+        last_began h.last (suc g) (h.newer ++ xs r),
+        subst (λ (k : ℕ). IsJournal new r k (last_began h.last (suc g) (h.newer ++ xs r)) (s.journal r ++ map (in_generation (suc g)) (xs r))) (sym top)
+            (subst (λ (js : List Placed). IsJournal new r (suc g) (last_began h.last (suc g) (h.newer ++ xs r)) (js ++ map (in_generation (suc g)) (xs r))) (sym h.whole)
+            (newest_more old new r g h.last h.older h.newer (xs r) h.bodies h.more h.newest (λ k low_k. same k r low_k) h.before h.after h.spelled h.follows)),
+      );
+  no_more = λ r past. ap (λ (ys : List JournalRecord). s.journal r ++ map (in_generation (suc g)) ys) (none r past) ∙ append-nil (s.journal r) ∙ held.no_more r past;
+}
+
+pub appended_is : (g : ℕ) (ps : List (ℕ → Option Part)) (r : ℕ) → growth.appended g ps r ≡ map (in_generation g) (tcoms ps r)
+appended_is g [] r = refl
+appended_is g (p ∷ ps) r = elim (p r) as (λ o. placed g o ++ growth.appended g ps r ≡ map (in_generation g) (cons_option (option_map (λ x. Tcom x) o) (tcoms ps r))) [
+  | None ↦ appended_is g ps r
+  | Some x ↦ ap (λ (js : List Placed). in_generation g (Tcom x) ∷ js) (appended_is g ps r)
+]

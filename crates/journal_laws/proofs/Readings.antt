@@ -10,7 +10,7 @@ use Rattle.disk_defs.specs.Gates.{Body, records}
 use Rattle.global_defs.specs.Encoded.{encoded}
 use Rattle.global_defs.specs.Entry.{Update, Set, Kill, ZKill, Sequence}
 use Rattle.global_defs.specs.Fields.{flag, short, long, spelled_update, IsUpdate}
-use Rattle.journal_defs.specs.Journal.{JournalRecord, Pini, Epoch, Pblk, Tcom, Start, Mark, Before, Item, Part, spelled_item, Rise, IsItem, IsJournalBody}
+use Rattle.journal_defs.specs.Journal.{JournalRecord, Pini, Epoch, Pblk, Tcom, Item, Part, spelled_item, Rise, IsItem, IsJournalBody}
 use Rattle.journal_defs.specs.Instance.{InstanceRecord, Create, Reigned, Cut, Map, Mode, NamedMode, spelled_region, IsInstanceBody, generation, regions}
 use Rattle.journal_defs.specs.Sequence.{Placed, Records, IsSequence}
 use Rattle.journal_defs.specs.Stands.{Holds, IsJournal, last_began, in_generation, AreRecords, Stands}

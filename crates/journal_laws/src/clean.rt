@@ -1,6 +1,6 @@
 //! Files past the newest generation.
 
-ghost use Rattle.std.specs.Prelude.{◌≡◌, ◌≢◌, ℕ, ◌+◌, ◌<◌, ◌≤◌, List, [], length};
+ghost use Rattle.std.specs.Prelude.{◌≡◌, ◌≢◌, ℕ, ◌+◌, ◌<◌, ◌≤◌, [], length};
 ghost use Rattle.disk_defs.specs.Disk.{Files};
 ghost use Rattle.journal_defs.specs.Numbers.{INSTANCE, journal_file, lost_file, broken_file};
 ghost use Rattle.journal_defs.specs.Instance.{Cut, generation, regions, site_name};

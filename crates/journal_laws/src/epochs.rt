@@ -1,11 +1,11 @@
 //! Which epoch is chosen when records are appended.
 
-ghost use Rattle.std.specs.Prelude.{◌≡◌, ℕ, ◌<◌, ◌≤◌, true, List, [], ◌∷◌, ◌++◌, Option, Some, None};
+ghost use Rattle.std.specs.Prelude.{◌≡◌, ℕ, ◌<◌, ◌≤◌, true, List, [], ◌∷◌, ◌++◌, Some, None};
 ghost use Rattle.journal_defs.specs.Journal.{Mark, Epoch};
 ghost use Rattle.journal_defs.specs.Instance.{InstanceRecord, Cut};
 ghost use Rattle.journal_defs.specs.Surviving.{survives, spares};
 ghost use Rattle.journal_defs.specs.Sequence.{Placed};
-ghost use Rattle.journal_defs.specs.Epochs.{Chosen, epoch_in, chosen, image_state, Blocks};
+ghost use Rattle.journal_defs.specs.Epochs.{epoch_in, chosen, image_state, Blocks};
 ghost use Rattle.journal_defs.specs.Undo.{logged, IsEarlier};
 
 /// The epoch that is chosen for a target, after one record more.

@@ -1,6 +1,6 @@
 //! What a crash in the middle of a call leaves of the sequence.
 
-ghost use Rattle.std.specs.Prelude.{◌≡◌, ◌⊎◌, ℕ, ◌+◌, ◌≤◌, true, None, List, [], ◌∷◌, ◌++◌, length, take, Option};
+ghost use Rattle.std.specs.Prelude.{◌≡◌, ◌⊎◌, ℕ, ◌+◌, ◌≤◌, true, None, List, ◌++◌, length, take, Option};
 ghost use Rattle.global_defs.specs.Entry.{Globals, Sequence};
 ghost use Rattle.journal_defs.specs.Journal.{Part};
 ghost use Rattle.journal_defs.specs.Instance.{InstanceRecord};

@@ -1,6 +1,6 @@
 //! What appended records make of the sequence.
 
-ghost use Rattle.std.specs.Prelude.{◌≡◌, ℕ, ◌+◌, ◌<◌, ◌≤◌, true, List, [], ◌∷◌, ◌++◌, length, take, filter, nat_le, Option, Some, None};
+ghost use Rattle.std.specs.Prelude.{◌≡◌, ℕ, ◌+◌, ◌<◌, ◌≤◌, true, List, [], ◌∷◌, ◌++◌, length, take, filter, nat_le, Option, Some};
 ghost use Rattle.global_defs.specs.Entry.{Entry, Sequence, Reign};
 ghost use Rattle.global_defs.specs.Prefix.{stamp_at};
 ghost use Rattle.journal_defs.specs.Journal.{Part};

@@ -1,16 +1,15 @@
 //! What keeps a region sound for every target at once.
 
-ghost use Rattle.std.specs.Prelude.{◌≡◌, ◌⊎◌, ℕ, ◌+◌, ◌<◌, ◌≤◌, Bool, true, List, [], ◌∷◌, ◌++◌, length, take, Option, Some, None};
+ghost use Rattle.std.specs.Prelude.{◌≡◌, ◌⊎◌, ℕ, ◌+◌, ◌<◌, ◌≤◌, true, List, [], ◌∷◌, ◌++◌, length, take};
 ghost use Rattle.std.specs.List.{AllByRecursion};
-ghost use Rattle.global_defs.specs.Entry.{Entry, Globals, Sequence, Reign};
-ghost use Rattle.journal_defs.specs.Journal.{JournalRecord, Mark, Epoch};
-ghost use Rattle.journal_defs.specs.Instance.{InstanceRecord, Reigned, Cut, Mode};
+ghost use Rattle.global_defs.specs.Entry.{Entry, Globals, Sequence};
+ghost use Rattle.journal_defs.specs.Journal.{Mark, Epoch};
+ghost use Rattle.journal_defs.specs.Instance.{InstanceRecord, Cut};
 ghost use Rattle.journal_defs.specs.Surviving.{survives, spares};
 ghost use Rattle.journal_defs.specs.Sequence.{Placed};
 ghost use Rattle.journal_defs.specs.Epochs.{chosen, image_state, NeedsForward, Blocks};
 ghost use Rattle.journal_defs.specs.Undo.{SameBut, MayWrite, MayAppend, fresh};
 ghost use Rattle.journal_defs.specs.Leaves.{Decodes};
-ghost use Rattle.journal_defs.specs.Directory.{patterns};
 ghost use Rattle.journal_defs.specs.Sound.{IsSoundRegion, BlocksGrow, NoEpochPast};
 
 /// A call that meets the conditions of the epoch chosen for the whole length keeps the region sound for every target.

@@ -1,6 +1,6 @@
 //! What a call may do to blocks and images.
 
-ghost use Rattle.std.specs.Prelude.{◌≡◌, ◌≢◌, ℕ, ◌+◌, ◌*◌, ◌≤◌, List, Option, None};
+ghost use Rattle.std.specs.Prelude.{◌≡◌, ℕ, ◌+◌, ◌*◌, ◌≤◌, List, None};
 ghost use Rattle.disk_defs.specs.Disk.{Torn};
 ghost use Rattle.journal_defs.specs.Journal.{Before, Pblk};
 ghost use Rattle.journal_defs.specs.Sequence.{Placed};
