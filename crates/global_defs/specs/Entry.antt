@@ -20,6 +20,11 @@ pub record Transaction : Type 0 where
   pub origin : Origin
   pub updates : List Update
 
+-- an update at its position in its transaction, from 0
+pub record Item : Type 0 where
+  pub position : ℕ
+  pub update : Update
+
 -- the reign in which an entry was made: the root primary's name, and a cycle
 pub record Stamp : Type 0 where
   pub root : List ℕ

@@ -3,6 +3,7 @@
 
 mod entry;
 mod history;
+mod items;
 mod reign;
 #[cfg(test)]
 mod tests;
@@ -10,5 +11,6 @@ mod updates;
 
 pub use entry::{Entry, Origin, Transaction};
 pub use history::{History, Reigns};
+pub use items::{Item, Items};
 pub use reign::{Reign, Stamp};
 pub use updates::Updates;

@@ -2,7 +2,8 @@
 use Rattle.std.specs.Prelude.{◌≡◌, ℕ, ◌+◌, ◌^◌, ◌<◌, ◌≤◌, Bool, List, [], ◌∷◌, ◌++◌, length}
 use Rattle.std.specs.Int.{to_be_bytes, w16, w32, w64}
 use Rattle.std.specs.List.{AllByRecursion, flat_map}
-use Rattle.global_defs.specs.Entry.{Update, Origin}
+use Rattle.global_defs.specs.Entry.{Origin}
+pub use Rattle.global_defs.specs.Entry.{Item}
 use Rattle.global_defs.specs.Fields.{flag, spelled_update, IsUpdate, IsNumber, IsOrigin}
 
 -- how a journal begins
@@ -24,11 +25,6 @@ pub record Mark : Type 0 where
 pub record Before : Type 0 where
   pub block : ℕ
   pub bytes : List ℕ
-
--- an update at its position in its transaction
-pub record Item : Type 0 where
-  pub position : ℕ
-  pub update : Update
 
 -- what an entry does in one region
 pub record Part : Type 0 where
