@@ -17,7 +17,7 @@ use Rattle.global_defs.specs.NodeText.{whole_digits, pointed, fraction_digits, m
 use Rattle.global_defs.proofs.Digits.{value_shift, value_joined}
 use Rattle.global_defs.proofs.Places.{none_pass, position_behind, position_nowhere}
 
-power_le : (i j : ℕ) → i ≤ j → 10 ^ i ≤ 10 ^ j
+pub power_le : (i j : ℕ) → i ≤ j → 10 ^ i ≤ 10 ^ j
 power_le i j h = pow-le-pow_right {n = 10} (omega arith) h
 
 -- a number with few digits is small

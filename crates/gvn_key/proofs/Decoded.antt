@@ -1,5 +1,5 @@
 -- Reading an encoded subscript gives its own bytes.
-use Rattle.std.proofs.Common.{◌≡◌, ℕ, pos, negsuc, suc, zero, ◌+◌, ◌-◌, ◌^◌, ◌<◌, ◌≤◌, ◌≢◌, Bool, true, false, cond, not, ◌&&◌, nat_lt, nat_le, List, [], ◌∷◌, ◌++◌, length, replicate, map, refl, ap, sym, ◌∙◌, arith, append_assoc, Option, Some, None, inl, inr, ◌==◌}
+use Rattle.std.proofs.Common.{◌≡◌, ℕ, pos, negsuc, suc, zero, ◌+◌, ◌-◌, ◌^◌, ◌<◌, ◌≤◌, Bool, true, false, not, ◌&&◌, List, [], ◌∷◌, ◌++◌, length, replicate, map, refl, ap, sym, ◌∙◌, arith, Some, inl, inr, ◌==◌}
 use Rattle.std.specs.List.{list_all, flat_map}
 use Rattle.std.specs.Char.{is_ascii_digit}
 use Rattle.std.specs.Str.Parse.{AllDigits, digits_value}
@@ -13,8 +13,8 @@ use Rattle.global_defs.specs.NodeText.{magnitude_text, sub_bytes}
 use Rattle.global_defs.specs.Valid.{is_sub}
 use Rattle.global_defs.proofs.Digits.{digit_bounds}
 use Rattle.global_defs.proofs.Places.{none_pass, position_behind}
-use Rattle.global_defs.proofs.NumberText.{unsigned, number_small, decimal_is, decimal_short, padded_back}
-use Rattle.gvn_key.specs.Decoding.{end_byte, sub_end, unescaped, are_digits, padded, signed_text, number_read, positive_read, negative_read, sub_read}
+use Rattle.global_defs.proofs.NumberText.{number_small, decimal_is, decimal_short, padded_back}
+use Rattle.gvn_key.specs.Decoding.{sub_end, unescaped, padded, signed_text, number_read, sub_read}
 
 -- a subscript's bytes but the last, and the last
 abbrev pub front : Sub → List ℕ

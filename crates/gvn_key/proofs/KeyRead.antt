@@ -1,70 +1,35 @@
 -- Reading an encoded key gives its name and its subscripts' own bytes, and these make the key again.
-use Rattle.std.proofs.Common.{◌≡◌, ℕ, suc, zero, ◌+◌, ◌-◌, ◌<◌, ◌≤◌, ◌≢◌, Bool, true, false, not, ◌&&◌, ◌||◌, nat_lt, nat_le, List, [], ◌∷◌, ◌++◌, length, take, drop, map, position, refl, ap, sym, ◌∙◌, arith, Option, Some, None, inl, inr, ◌==◌}
+use Rattle.std.proofs.Common.{◌≡◌, ℕ, ◌+◌, ◌-◌, ◌≤◌, ◌≢◌, true, not, nat_lt, List, [], ◌∷◌, length, take, drop, map, position, refl, ap, sym, ◌∙◌, arith, Option, Some, None, ◌==◌}
 use Rattle.std.specs.List.{list_all, flat_map}
 use Rattle.std.specs.Option.{option_map}
-use Rattle.std.specs.Char.{is_ascii_alphabetic, is_ascii_alphanumeric}
 use Rattle.std.proofs.Math.Seq.{take-append_seam, drop-append-add}
-use Rattle.std.proofs.lemmas.Bool.{and_parts, or_cases, ne_eqb, eqb-true, not-true, ltb-true, leb-true, le-ltb}
+use Rattle.std.proofs.lemmas.Bool.{and_parts, ne_eqb, ltb-true, le-ltb}
 use Rattle.global_defs.specs.Key.{Key, Sub, Number, Text}
 use Rattle.global_defs.specs.Numeral.{is_number}
 use Rattle.global_defs.specs.Encoded.{encoded, encoded_sub}
 use Rattle.global_defs.specs.NodeText.{number_text, sub_bytes}
-use Rattle.global_defs.specs.Valid.{is_name, is_sub, is_key}
+use Rattle.global_defs.specs.Valid.{is_sub, is_key}
 use Rattle.global_defs.proofs.NumberValue.{subs_back}
+use Rattle.global_defs.proofs.Codes.{is_some_byte}
+use Rattle.global_defs.proofs.ValidKeys.{valid_parts, name_some}
 use Rattle.global_defs.proofs.Places.{none_pass, position_behind}
 use Rattle.gvn_key.specs.Faults.{key_of, subs_fault, parts_fault, length_fault, or_else, key_fault, MakesKey}
-use Rattle.gvn_key.specs.Decoding.{ReadsSubs, Decodes}
+use Rattle.gvn_key.specs.Decoding.{ReadsSubs}
 use Rattle.gvn_key.specs.declared.key.KeyError.{KeyError}
 use Rattle.gvn_key.specs.declared.key.KeyError.TheVariants.{BadName, NameTooLong, BadSub, NullSub, TooManySubs, KeyTooLong, NoMemory}
-use Rattle.std.specs.declared.result.Result.TheVariants.{Ok, Err}
+use Rattle.std.specs.declared.result.Result.TheVariants.{Err}
 use Rattle.gvn_key.proofs.Subscripts.{rest_is}
-
--- what makes a key valid
-pub record IsValid (key : Key) : Type 0 where
-  pub name : is_name key.name ≡ true
-  pub short : length key.name ≤ 31
-  pub subs : list_all is_sub key.subs ≡ true
-  pub few : length key.subs ≤ 31
-  pub fits : length (encoded key) ≤ 255
-
-pub valid_parts : (key : Key) → is_key key ≡ true → IsValid key
-valid_parts key h =
-    let a = and_parts (is_name key.name && nat_le (length key.name) 31 && list_all is_sub key.subs && nat_le (length key.subs) 31) (nat_le (length (encoded key)) 255) h in
-    let b = and_parts (is_name key.name && nat_le (length key.name) 31 && list_all is_sub key.subs) (nat_le (length key.subs) 31) a.0 in
-    let d = and_parts (is_name key.name && nat_le (length key.name) 31) (list_all is_sub key.subs) b.0 in
-    let e = and_parts (is_name key.name) (nat_le (length key.name) 31) d.0 in
-    record {
-      name = e.0;
-      short = leb-true (length key.name) 31 e.1;
-      subs = d.1;
-      few = leb-true (length key.subs) 31 b.1;
-      fits = leb-true (length (encoded key)) 255 a.1;
-    }
 
 -- where the name ends
 
-alphanumeric_goes_on : (c : ℕ) → is_ascii_alphanumeric c ≡ true → not (c == 0) ≡ true
-alphanumeric_goes_on zero h = cc
-alphanumeric_goes_on (suc c) h = rw (ne_eqb (suc c) 0 (λ e. omega arith)) refl
-
-all_go_on : (cs : List ℕ) → list_all is_ascii_alphanumeric cs ≡ true → none_pass (λ b. b == 0) cs ≡ true
-all_go_on [] h = refl
-all_go_on (c ∷ cs) h =
-    let t = and_parts (is_ascii_alphanumeric c) (list_all is_ascii_alphanumeric cs) h in
-    rw (alphanumeric_goes_on c t.0) (all_go_on cs t.1)
-
-first_goes_on : (b : ℕ) → (b == 37 || is_ascii_alphabetic b) ≡ true → not (b == 0) ≡ true
-first_goes_on zero h = cc
-first_goes_on (suc b) h = rw (ne_eqb (suc b) 0 (λ e. omega arith)) refl
-
-name_goes_on : (name : List ℕ) → is_name name ≡ true → none_pass (λ b. b == 0) name ≡ true
-name_goes_on [] h = cc
-name_goes_on (b ∷ bs) h =
-    let t = and_parts (b == 37 || is_ascii_alphabetic b) (list_all is_ascii_alphanumeric bs) h in
-    rw (first_goes_on b t.0) (all_go_on bs t.1)
+bytes_go_on : (bs : List ℕ) → list_all is_some_byte bs ≡ true → none_pass (λ b. b == 0) bs ≡ true
+bytes_go_on [] h = refl
+bytes_go_on (b ∷ bs) h =
+    let t = and_parts (is_some_byte b) (list_all is_some_byte bs) h in
+    rw (ne_eqb b 0 (λ e. omega (arith, ltb-true 0 b t.0))) (bytes_go_on bs t.1)
 
 name_end : (key : Key) → is_key key ≡ true → position (λ b. b == 0) (encoded key) ≡ Some (length key.name)
-name_end key h = position_behind (λ b. b == 0) key.name 0 (flat_map encoded_sub key.subs) (name_goes_on key.name (valid_parts key h).name) refl
+name_end key h = position_behind (λ b. b == 0) key.name 0 (flat_map encoded_sub key.subs) (bytes_go_on key.name (name_some key.name (valid_parts key h).name)) refl
 
 pub end_known : (bytes : List ℕ) (key : Key) → is_key key ≡ true → encoded key ≡ bytes → position (λ b. b == 0) bytes ≡ Some (length key.name)
 end_known bytes key h e = ap (position (λ b. b == 0)) (sym e) ∙ name_end key h

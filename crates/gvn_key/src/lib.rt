@@ -8,6 +8,7 @@ mod decode_tests;
 mod encoding;
 mod key;
 mod numeral;
+mod order;
 pub mod terms;
 #[cfg(test)]
 mod tests;

@@ -1,10 +1,10 @@
-use Rattle.std.proofs.Common.{arith, ◌≡◌, ◌∙◌, sym, ap, subst, true, take, map, nat_eq, List, ℕ}
+use Rattle.std.proofs.Common.{◌≡◌, ◌∙◌, sym, ap, subst, take, map}
 use Rattle.std.specs.Cmp.Lexicographic.{same_text, other_text}
-use Rattle.global_defs.specs.Key.{Key}
 use Rattle.global_defs.specs.Encoded.{encoded}
 use Rattle.global_defs.specs.NodeText.{sub_bytes}
+use Rattle.global_defs.proofs.ValidKeys.{valid_parts}
 use Rattle.gvn_key.specs.Decoding.{Decodes}
-use Rattle.gvn_key.proofs.KeyRead.{end_known, cut, valid_parts, made_again, subs_known, none_fit, these_fit, fault_known}
+use Rattle.gvn_key.proofs.KeyRead.{end_known, cut, made_again, subs_known, none_fit, these_fit, fault_known}
 use Rattle.gvn_key.proofs.key.Key.decode.Goals.{then-eq, else-eq}
 use Rattle.gvn_key.proofs.key.Key.decode.Goals as goal
 
