@@ -19,10 +19,10 @@ module _ {X Y : Type 0} (F : X → Type 0) (f : X → List ℕ) (G : Y → Type 
 
   pub some_both : (bytes : List ℕ) (x : X) (r : List ℕ) (y : Y) (s : List ℕ) → ReadsField F f bytes (Some (x, r)) → ReadsField G g r (Some (y, s)) → ReadsField Both both bytes (Some ((x, y), s))
   some_both bytes x r y s first second = (
-      (first.0, second.0),
-      first.1 ∙ ap (λ t. f x ++ t) second.1 ∙ sym (append_assoc (f x) (g y) s),
-      λ u rest form e.
-          let same : (u.0 ≡ x) × (g u.1 ++ rest ≡ r) = first.2 u.0 (g u.1 ++ rest) form.0 (e ∙ append_assoc (f u.0) (g u.1) rest) in
-          let later : (u.1 ≡ y) × (rest ≡ s) = second.2 u.1 rest form.1 (sym same.1) in
-          ((λ i. (same.0 i, later.0 i)), later.1)
-    )
+    (first.0, second.0),
+    first.1 ∙ ap (λ t. f x ++ t) second.1 ∙ sym (append_assoc (f x) (g y) s),
+    λ u rest form e.
+        let same : (u.0 ≡ x) × (g u.1 ++ rest ≡ r) = first.2 u.0 (g u.1 ++ rest) form.0 (e ∙ append_assoc (f u.0) (g u.1) rest) in
+        let later : (u.1 ≡ y) × (rest ≡ s) = second.2 u.1 rest form.1 (sym same.1) in
+        ((λ i. (same.0 i, later.0 i)), later.1),
+  )

@@ -1,9 +1,10 @@
 -- A key and its value, and an update as its kind and then its fields.
-use Rattle.std.proofs.Common.{◌≡◌, ◌≢◌, List, ℕ, ◌∷◌, ◌++◌, ◌≤◌, length, Option, Some, None, ap, sym, ◌∙◌}
+use Rattle.std.proofs.Common.{◌≡◌, ◌≢◌, List, ℕ, ◌∷◌, ◌++◌, ◌≤◌, ◌<◌, true, rules, length, Option, Some, None, ap, sym, ◌∙◌}
 use Rattle.std.specs.Prelude.{IsTrue}
 use Rattle.std.specs.Option.{option_map}
 use Rattle.global_defs.specs.Key.{Key}
 use Rattle.global_defs.specs.Valid.{is_key}
+use Rattle.global_defs.proofs.KeyOrder.{key_injective}
 use Rattle.global_defs.specs.Encoded.{encoded}
 use Rattle.global_defs.specs.Entry.{Update, Set, Kill, ZKill}
 use Rattle.global_defs.specs.Fields.{short, long, spelled_update, IsUpdate}
@@ -30,6 +31,28 @@ no_value bytes k r first second = none_second IsValid spelled_key IsValue long b
 
 pub key_and_value : (bytes : List ℕ) (k : Key) (r v s : List ℕ) → ReadsField IsValid spelled_key bytes (Some (k, r)) → ReadsField IsValue long r (Some (v, s)) → ReadsField IsPair spelled_pair bytes (Some ((k, v), s))
 key_and_value bytes k r v s first second = some_both IsValid spelled_key IsValue long bytes k r v s first second
+
+-- the key that an encoded key behind its length is, and no other
+pub key_read : (bytes code rest : List ℕ) (k : Key) → ReadsField (λ s. length s < 256) short bytes (Some (code, rest)) → is_key k ≡ true → encoded k ≡ code
+    → ReadsField IsValid spelled_key bytes (Some (k, rest))
+key_read bytes code rest k read valid is = (
+  valid,
+  read.1 ∙ ap (λ c. short c ++ rest) (sym is),
+  λ x r form e.
+      let same : (encoded x ≡ code) × (r ≡ rest) = read.2 (encoded x) r (short_enough x form) e in
+      (key_injective x k form valid (same.0 ∙ sym is), same.1),
+)
+  where
+    short_enough : (x : Key) → is_key x ≡ true → length (encoded x) < 256
+    short_enough x form = search rules
+
+-- no key where the bytes behind the length are none
+pub no_key_read : (bytes code rest : List ℕ) → ReadsField (λ s. length s < 256) short bytes (Some (code, rest)) → ((k : Key) → is_key k ≡ true → encoded k ≡ code → ⊥)
+    → ReadsField IsValid spelled_key bytes None
+no_key_read bytes code rest read none x r form e = none x form (read.2 (encoded x) r (short_enough x form) e).0
+  where
+    short_enough : (x : Key) → is_key x ≡ true → length (encoded x) < 256
+    short_enough x form = search rules
 
 tail : {x y : ℕ} {xs ys : List ℕ} → x ∷ xs ≡ y ∷ ys → xs ≡ ys
 tail e = cc

@@ -18,6 +18,7 @@ use std::alloc::Global;
 const LONGEST_VALUE: usize = 1500;
 
 /// A key behind its length, and what follows it.
+#[tactic(auto, using(crate::proofs::Tagged::no_key_read))]
 pub fn read_key(alloc: Global, bytes: &[u8]) -> Result<Option<(Key, &[u8])>, NoMemory>
     ensures { IfOk result (λ found. ReadsField (λ k. IsTrue (is_key k)) (λ k. short (encoded k)) bytes.now (option_map (λ p. (p.0, p.1.now)) found)) }
 {
