@@ -1,6 +1,6 @@
 -- Words with their addresses, as a reader holds them.
 use Rattle.std.proofs.Common.{◌≡◌, ℕ, suc, ◌+◌, ◌/◌, List, [], ◌∷◌, ◌++◌, length, take, Bool, true, eq-eqb, refl, sym, ap, ◌∙◌, arith, add-zero}
-use Rattle.std.specs.Prelude.{map, ◌&&◌, ◌==◌}
+use Rattle.std.specs.Prelude.{map, ◌&&◌}
 use Rattle.wire_defs.specs.PoolWords.{unpacked, bytes_in}
 use Rattle.pool_rule.specs.declared.views.View.{View}
 use Rattle.pool_rule.specs.Rule.{in_turn, is_whole, is_entry, word_in, moved}

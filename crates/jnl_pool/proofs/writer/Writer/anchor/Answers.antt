@@ -1,14 +1,8 @@
-use Rattle.std.proofs.Common.{◌≡◌, ◌⊎◌, ℕ, suc, ◌+◌, ◌-◌, ◌*◌, ◌/◌, ◌%◌, ◌<◌, ◌≤◌, min, List, [], ◌∷◌, ◌++◌, length, set, Bool, true, false, refl, sym, ap, ◌∙◌, subst, ⊎_elim, inl, inr, arith, rules, append_assoc, append-nil, length-append, add-zero}
-use Rattle.std.specs.Prelude.{slice_index, vec_len, vec_capacity, All, Some}
-use Rattle.std.specs.Int.{w64, to_be_bytes}
-use Rattle.wire_defs.specs.PoolWords.{words_from, word_count, packed, unpacked, entry_words, place_of, StartsWith, IsBoundary, IsAt, IsWhole}
-use Rattle.wire_defs.proofs.PoolWords.{length-packed, length-unpacked, unpacked-append, length-claimed, new_words, place_is_at, place_stays, place_below}
+use Rattle.std.proofs.Common.{◌≡◌, ℕ, ◌+◌, ◌-◌, ◌<◌, ◌≤◌, List, sym, ap, ◌∙◌, subst, ⊎_elim, arith}
+use Rattle.wire_defs.specs.PoolWords.{place_of, IsAt, IsWhole}
+use Rattle.wire_defs.proofs.PoolWords.{place_is_at}
 use Rattle.pool_rule.specs.declared.views.View.{View}
-use Rattle.pool_rule.specs.Seats.{Held, Knowing}
-use Rattle.pool_rule.specs.Rule.{Each, IsEntryBelow, Within, end_of, is_entry, moved}
-use Rattle.jnl_pool.specs.Pooling.{Writing, Reading, next_number, claimed, place_at, CanAnchor, anchored, IsHardenedEntry, IsNoteOf}
-use Rattle.jnl_pool.specs.Holds.{WriterKeeps, ReaderKeeps, addressed, Fetched}
-use Rattle.jnl_pool.proofs.Told.{noted}
+use Rattle.jnl_pool.specs.Pooling.{Writing, next_number, claimed, place_at}
 use Rattle.jnl_pool.proofs.writer.Writer.anchor.Goals as goal
 
 pub move_to-requires-clause-place : goal.move_to-requires-clause-place

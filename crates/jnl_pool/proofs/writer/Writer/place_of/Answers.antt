@@ -1,15 +1,8 @@
-use Rattle.std.proofs.Common.{◌≡◌, ◌≢◌, ◌⊎◌, ℕ, suc, ◌+◌, ◌-◌, ◌*◌, ◌/◌, ◌%◌, ◌<◌, ◌≤◌, min, List, [], ◌∷◌, ◌++◌, length, set, Bool, true, false, refl, sym, ap, ◌∙◌, subst, ⊎_elim, inl, inr, arith, rules, append_assoc, append-nil, length-append, add-zero}
-use Rattle.std.specs.Prelude.{slice_index, vec_len, vec_capacity, All, Some}
+use Rattle.std.proofs.Common.{◌≡◌, ◌≢◌, ◌⊎◌, ℕ, ◌-◌, ◌/◌, ◌%◌, ◌<◌, ◌≤◌, length, sym, ap, ◌∙◌, subst, inl, inr, arith}
+use Rattle.std.specs.Prelude.{slice_index}
 use Rattle.std.proofs.lemmas.Nat.{mod_below}
 use Rattle.std.proofs.lemmas.List.{get_or_read}
-use Rattle.std.specs.Int.{w64, to_be_bytes}
-use Rattle.wire_defs.specs.PoolWords.{words_from, word_count, packed, unpacked, entry_words, place_of, StartsWith, IsBoundary, IsAt, IsWhole}
-use Rattle.wire_defs.proofs.PoolWords.{length-packed, length-unpacked, unpacked-append, length-claimed, new_words, place_is_at, place_stays, place_below}
-use Rattle.pool_rule.specs.declared.views.View.{View}
-use Rattle.pool_rule.specs.Seats.{Held, Knowing}
-use Rattle.pool_rule.specs.Rule.{Each, IsEntryBelow, Within, end_of, is_entry, moved}
-use Rattle.jnl_pool.specs.Pooling.{Writing, Reading, next_number, claimed, place_at, CanAnchor, anchored, IsHardenedEntry, IsNoteOf}
-use Rattle.jnl_pool.specs.Holds.{WriterKeeps, ReaderKeeps, addressed, Fetched}
+use Rattle.jnl_pool.specs.Pooling.{Writing, next_number, place_at, CanAnchor}
 use Rattle.jnl_pool.proofs.Ring.{no_anchor, kept_place, kept_below}
 use Rattle.jnl_pool.proofs.writer.Writer.place_of.Goals as goal
 use Rattle.jnl_pool.proofs.writer.Writer.place_of.Goals.{then-number-self-2-via-then-number-self-2, then-number-self-2-via-else-number-self-2+then-self-number}
