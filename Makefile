@@ -1,0 +1,36 @@
+# gtmr: `make demo` runs an example in seconds, `make test` is the gate.
+PREFIX ?= /usr/local
+RT ?= rt
+DEMO ?= examples/first-steps.gtmr
+
+.PHONY: all demo test examples bench install clean
+
+# the proved program
+all: bin/gtmr
+
+bin/gtmr: $(wildcard crates/*/src/*.rt crates/*/specs/*.antt crates.txt)
+	cd crates/gtmr && $(RT) run -- run < ../../examples/first-steps.gtmr > /dev/null
+	mkdir -p bin
+	cp crates/gtmr/out/gtmr bin/gtmr
+
+# a build of the program in seconds, of which nothing is proved
+demo:
+	@echo "; an unproved build; 'make' builds the proved program, 'make test' is the gate"
+	@cat $(DEMO)
+	@echo "; prints"
+	@cd crates/gtmr && $(RT) try -- run < ../../$(DEMO) 2> /dev/null
+
+test:
+	$(RT) ci
+
+examples:
+	tools/check
+
+bench: bin/gtmr
+	tools/bench bin/gtmr
+
+install: bin/gtmr
+	install -D -m 755 bin/gtmr $(DESTDIR)$(PREFIX)/bin/gtmr
+
+clean:
+	rm -rf bin crates/*/out

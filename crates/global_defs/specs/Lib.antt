@@ -1,0 +1,13 @@
+pub mod Numeral
+pub mod Key
+pub mod Encoded
+pub mod Zwr
+pub mod NodeText
+pub mod Valid
+pub mod Entry
+pub mod Jobs
+pub mod Evaluation
+pub mod Serial
+pub mod Prefix
+pub mod Extract
+pub mod Fields

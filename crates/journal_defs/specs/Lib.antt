@@ -1,0 +1,17 @@
+pub mod Numbers
+pub mod Journal
+pub mod Instance
+pub mod Directory
+pub mod Surviving
+pub mod Sequence
+pub mod Broken
+pub mod Epochs
+pub mod Undo
+pub mod Leaves
+pub mod Sound
+pub mod Split
+pub mod Stands
+pub mod Clean
+pub mod Growth
+pub mod Fit
+pub mod Samples
