@@ -82,10 +82,12 @@ pub trait Disk: Drop {
 
     /// Makes one of its images what it has, all of it on the disk for good, where the disk is simulated. Otherwise it does
     /// nothing. It takes no memory.
+    ///
+    /// The moments begin anew: no clause on a run of calls reaches over a crash.
     fn crash(&mut self, pick: u64)
         ensures image { IsTrue (disk self.old).simulated → IfSome (disk self.new).content (Image (disk self.old)) }
         ensures durable { IsTrue (disk self.old).simulated → IfSome (disk self.new).content (λ files. (c : Files) → Image (disk self.new) c → c ≡ files) }
-        ensures passes { Passes Same (disk self.old) (disk self.new) }
+        ensures simulated { (disk self.new).simulated ≡ (disk self.old).simulated }
         ensures room { (f : ℕ) → RoomStays (disk self.old) (disk self.new) f }
         ensures faults { (disk self.new).faults ≡ (disk self.old).faults };
 

@@ -2,6 +2,11 @@
 #![tactic(auto)]
 
 mod blind;
+mod call;
 mod disk;
+mod file;
+mod memdisk;
+mod table;
 
 pub use disk::{Disk, Failed, NoMemory};
+pub use memdisk::MemDisk;

@@ -1,0 +1,92 @@
+-- The table of files in memory.
+use Rattle.std.specs.Prelude.{◌≡◌, ◌≢◌, ℕ, ◌+◌, ◌-◌, ◌≤◌, ◌<◌, ◌==◌, false, if◌then◌else◌, List, [], ◌∷◌, length, take, replicate, slice_index_or, vec_capacity}
+use Rattle.disk_defs.specs.Disk.{Files}
+use Rattle.repl_disk.specs.Mem.{Mem, Room, settled, wrote, IsImageOf}
+use Rattle.repl_disk.specs.declared.file.MemFile.{MemFile}
+
+abbrev pub mem_of : MemFile → Mem
+mem_of m = record { read = m.read.items; synced = m.synced.items; marks = m.marks.items }
+
+abbrev pub room_of : MemFile → Room
+room_of m = record { calls = m.calls_left; bytes = m.bytes_left }
+
+-- what the table has of a file
+pub record Entry : Type 0 where
+  pub mem : Mem
+  pub left : List ℕ
+  pub room : Room
+
+abbrev pub entry_of : MemFile → Entry
+entry_of m = record { mem = mem_of m; left = m.left.items; room = room_of m }
+
+abbrev pub nothing : Entry
+nothing = record { mem = settled []; left = []; room = record { calls = 0; bytes = 0 } }
+
+-- the file of this number; one that is not there is empty
+abbrev pub entry_in : List MemFile → ℕ → Entry
+entry_in [] f = nothing
+entry_in (m ∷ files) f = if f == m.number then entry_of m else entry_in files f
+
+abbrev pub put_entry : ℕ → Entry → (ℕ → Entry) → ℕ → Entry
+put_entry file e old f = if f == file then e else old f
+
+abbrev pub entry_written : ℕ → List ℕ → Entry → Entry
+entry_written at bytes e = record { mem = wrote at bytes e.mem; left = e.left; room = record { calls = e.room.calls - 1; bytes = e.room.bytes - length bytes } }
+
+abbrev pub entry_synced : Entry → Entry
+entry_synced e = record { mem = settled e.mem.read; left = e.left; room = record { calls = e.room.calls - 1; bytes = e.room.bytes } }
+
+abbrev pub entry_grown : ℕ → ℕ → Entry → Entry
+entry_grown calls bytes e = record { mem = e.mem; left = e.left; room = record { calls = e.room.calls + calls; bytes = e.room.bytes + bytes } }
+
+-- a crash made one of its images what it has
+pub record IsCrashed (old new : Entry) : Type 0 where
+  pub image : IsImageOf old.mem new.left
+  pub mem : new.mem ≡ settled new.left
+  pub room : new.room ≡ old.room
+
+-- the first file of this number stands there
+pub record IsFirst (files : List MemFile) (number i : ℕ) : Type 0 where
+  pub inside : i < length files
+  pub here : (d : MemFile) → (slice_index_or files i d).number ≡ number
+  pub before : (k : ℕ) (d : MemFile) → k < i → (slice_index_or files k d).number ≢ number
+
+-- no file of this number is there
+abbrev pub IsAbsent : List MemFile → ℕ → Type 0
+IsAbsent files number = (k : ℕ) (d : MemFile) → k < length files → (slice_index_or files k d).number ≢ number
+
+-- What holds of each file: no place before `low` was written since the last sync, and each list has memory for the
+-- bytes that the room lets be written.
+pub record HasMemory (m : MemFile) : Type 0 where
+  pub for_read : length m.read.items + m.bytes_left ≤ vec_capacity m.read
+  pub for_synced : length m.read.items + m.bytes_left ≤ vec_capacity m.synced
+  pub for_marks : length m.read.items + m.bytes_left ≤ vec_capacity m.marks
+  pub for_left : length m.read.items + m.bytes_left ≤ vec_capacity m.left
+
+pub record IsKept (m : MemFile) : Type 0 where
+  pub low : m.low ≤ length m.synced.items
+  pub ends : length m.synced.items ≤ length m.read.items
+  pub marks : length m.marks.items ≡ length m.read.items
+  pub same : take m.low m.synced.items ≡ take m.low m.read.items
+  pub free : take m.low m.marks.items ≡ replicate m.low false
+  pub memory : HasMemory m
+
+abbrev pub AreKept : List MemFile → Type 0
+AreKept files = (k : ℕ) (d : MemFile) → k < length files → IsKept (slice_index_or files k d)
+
+-- the room that is left on all files together
+abbrev pub all_calls : List MemFile → ℕ
+all_calls [] = 0
+all_calls (m ∷ files) = m.calls_left + all_calls files
+
+abbrev pub all_bytes : List MemFile → ℕ
+all_bytes [] = 0
+all_bytes (m ∷ files) = m.bytes_left + all_bytes files
+
+-- what the last crash left of each file
+abbrev pub lefts : List MemFile → Files
+lefts files f = (entry_in files f).left
+
+-- the room that is left on each file
+abbrev pub rooms : List MemFile → ℕ → Room
+rooms files f = (entry_in files f).room

@@ -1,0 +1,240 @@
+//! One file of a memory disk.
+ghost use Rattle.std.specs.Prelude.{◌≡◌, ◌≤◌, ◌<◌, ◌+◌, ◌-◌, ◌++◌, ◌^◌, ℕ, true, false, length, take, drop, replicate, slice_index_or, vec_capacity, OnOk, OnErr};
+ghost use Rattle.disk_defs.specs.Disk.{written};
+ghost use Rattle.repl_disk.specs.Mem.{marked, wrote, settled, IsImageOf};
+ghost use Rattle.repl_disk.specs.Table.{mem_of, room_of, entry_of, nothing, IsKept, HasMemory};
+
+use std::alloc::{AllocError, Global};
+
+/// A file as it reads, as it was synced last, and for each place whether it was written since.
+///
+/// Each list has memory for the bytes that the room lets be written.
+#[derive(Drop)]
+pub struct MemFile {
+    pub number: u32,
+    pub read: Vec<u8>,
+    pub synced: Vec<u8>,
+    pub marks: Vec<bool>,
+    /// No place before this one was written since the last sync.
+    pub low: usize,
+    /// What the last crash left.
+    pub left: Vec<u8>,
+    pub calls_left: u64,
+    pub bytes_left: u64,
+}
+
+/// Writes over what is there, and past the end.
+fn overwrite(read: &mut Vec<u8>, at: usize, bytes: &[u8])
+    requires place { at ≤ length read.old.items }
+    requires room { length read.old.items + length bytes.now ≤ vec_capacity read.old }
+    ensures items { read.new.items ≡ written read.old.items at bytes.now }
+    ensures capacity { vec_capacity read.old ≤ vec_capacity read.new }
+{
+    if bytes.len() <= read.len() - at {
+        read[at..at + bytes.len()].copy_from_slice(bytes);
+        return;
+    }
+    read.truncate(at);
+    if read.extend_from_slice(bytes).is_err() {
+        unreachable!();
+    }
+}
+
+/// Marks so many places from this one on.
+fn mark(marks: &mut Vec<bool>, at: usize, n: usize)
+    requires place { at ≤ length marks.old.items }
+    requires room { length marks.old.items + n ≤ vec_capacity marks.old }
+    ensures items { marks.new.items ≡ marked marks.old.items at n }
+    ensures capacity { vec_capacity marks.old ≤ vec_capacity marks.new }
+{
+    if n <= marks.len() - at {
+        marks[at..at + n].fill(true);
+        return;
+    }
+    marks.truncate(at);
+    if marks.resize(at + n, true).is_err() {
+        unreachable!();
+    }
+}
+
+/// Puts the bytes from a place on in place of those that were there.
+fn follow(synced: &mut Vec<u8>, read: &[u8], low: usize)
+    requires low { low ≤ length read.now }
+    requires inside { low ≤ length synced.old.items }
+    requires room { length read.now ≤ vec_capacity synced.old }
+    ensures items { synced.new.items ≡ take low synced.old.items ++ drop low read.now }
+    ensures capacity { vec_capacity synced.old ≤ vec_capacity synced.new }
+{
+    synced.truncate(low);
+    if synced.extend_from_slice(&read[low..]).is_err() {
+        unreachable!();
+    }
+}
+
+/// Takes the marks away from a place on, and has so many of them.
+fn unmark(marks: &mut Vec<bool>, low: usize, n: usize)
+    requires low { low ≤ n }
+    requires inside { low ≤ length marks.old.items }
+    requires room { n ≤ vec_capacity marks.old }
+    ensures items { marks.new.items ≡ take low marks.old.items ++ replicate (n - low) false }
+    ensures capacity { vec_capacity marks.old ≤ vec_capacity marks.new }
+{
+    marks.truncate(low);
+    if marks.resize(n, false).is_err() {
+        unreachable!();
+    }
+}
+
+/// What a crash makes of a written byte, by the rest of its number times the pick by 3.
+fn byte_of(rest: u64, synced: Option<&u8>, read: u8) -> u8 {
+    match rest {
+        0 => match synced {
+            Some(byte) => *byte,
+            None => 0,
+        },
+        1 => read,
+        _ => 1,
+    }
+}
+
+/// Gives each written place its byte by its number, from the number with this rest by 3 on, and answers the next one's.
+fn choose(read: &mut [u8], synced: &[u8], marks: &[bool], pick: u64, first: u64) -> u64
+    requires first { first < 3 }
+    requires marks { length marks.now ≡ length read.old }
+    ensures next { result < 3 }
+    ensures length { length read.new ≡ length read.old }
+    ensures same { (i : ℕ) → slice_index_or marks.now i true ≡ false → slice_index_or read.new i 0 ≡ slice_index_or read.old i 0 }
+{
+    let mut number = first;
+    for i in 0..read.len() {
+        if marks[i] {
+            read[i] = byte_of(number * (pick % 3) % 3, synced.get(i), read[i]);
+            number = (number + 1) % 3;
+        }
+    }
+    number
+}
+
+impl MemFile {
+    /// An empty file without room.
+    pub fn new(alloc: Global, number: u32) -> MemFile
+        ensures number { result.number ≡ number }
+        ensures entry { entry_of result ≡ nothing }
+        ensures kept { IsKept result }
+    {
+        MemFile {
+            number,
+            read: Vec::new(alloc),
+            synced: Vec::new(alloc),
+            marks: Vec::new(alloc),
+            low: 0,
+            left: Vec::new(alloc),
+            calls_left: 0,
+            bytes_left: 0,
+        }
+    }
+
+    /// Adds room, and takes the memory for it.
+    pub fn reserve(&mut self, calls: u64, bytes: u64) -> Result<(), AllocError>
+        requires kept { IsKept self.old }
+        requires calls { self.old.calls_left + calls < 2 ^ 59 }
+        requires bytes { self.old.bytes_left + bytes < 2 ^ 59 }
+        ensures kept { IsKept self.new }
+        ensures number { self.new.number ≡ self.old.number }
+        ensures mem { mem_of self.new ≡ mem_of self.old }
+        ensures left { self.new.left.items ≡ self.old.left.items }
+        ensures calls { OnOk result (self.new.calls_left ≡ self.old.calls_left + calls) }
+        ensures bytes { OnOk result (self.new.bytes_left ≡ self.old.bytes_left + bytes) }
+        ensures err { OnErr result (room_of self.new ≡ room_of self.old) }
+    {
+        let more = (self.bytes_left + bytes) as usize;
+        self.read.reserve(more)?;
+        self.marks.reserve(more)?;
+        self.synced
+            .reserve(self.read.len() - self.synced.len() + more)?;
+        let behind = self.read.len().saturating_sub(self.left.len());
+        self.left.reserve(behind + more)?;
+        self.calls_left += calls;
+        self.bytes_left += bytes;
+        Ok(())
+    }
+
+    /// Writes over what is there, and past the end.
+    pub fn write(&mut self, at: usize, bytes: &[u8])
+        requires kept { IsKept self.old }
+        requires place { at ≤ length self.old.read.items }
+        requires calls { 1 ≤ self.old.calls_left }
+        requires bytes { length bytes.now ≤ self.old.bytes_left }
+        ensures kept { IsKept self.new }
+        ensures number { self.new.number ≡ self.old.number }
+        ensures mem { mem_of self.new ≡ wrote at bytes.now (mem_of self.old) }
+        ensures left { self.new.left.items ≡ self.old.left.items }
+        ensures calls { self.new.calls_left + 1 ≡ self.old.calls_left }
+        ensures bytes { self.new.bytes_left + length bytes.now ≡ self.old.bytes_left }
+    {
+        overwrite(&mut self.read, at, bytes);
+        mark(&mut self.marks, at, bytes.len());
+        self.low = self.low.min(at);
+        self.calls_left -= 1;
+        self.bytes_left -= bytes.len() as u64;
+    }
+
+    /// Puts what it reads on the disk. It copies from the first place on that was written since the last sync.
+    pub fn sync(&mut self)
+        requires kept { IsKept self.old }
+        requires calls { 1 ≤ self.old.calls_left }
+        ensures kept { IsKept self.new }
+        ensures number { self.new.number ≡ self.old.number }
+        ensures mem { mem_of self.new ≡ settled self.old.read.items }
+        ensures left { self.new.left.items ≡ self.old.left.items }
+        ensures calls { self.new.calls_left + 1 ≡ self.old.calls_left }
+        ensures bytes { self.new.bytes_left ≡ self.old.bytes_left }
+    {
+        let n = self.read.len();
+        follow(&mut self.synced, &self.read, self.low);
+        unmark(&mut self.marks, self.low, n);
+        self.low = n;
+        self.calls_left -= 1;
+    }
+
+    /// Puts what it reads on the disk as what a crash left.
+    fn settle(&mut self)
+        requires { HasMemory self.old }
+        ensures kept { IsKept self.new }
+        ensures number { self.new.number ≡ self.old.number }
+        ensures mem { mem_of self.new ≡ settled self.old.read.items }
+        ensures left { self.new.left.items ≡ self.old.read.items }
+        ensures room { room_of self.new ≡ room_of self.old }
+    {
+        let n = self.read.len();
+        follow(&mut self.synced, &self.read, 0);
+        follow(&mut self.left, &self.read, 0);
+        unmark(&mut self.marks, 0, n);
+        self.low = n;
+    }
+
+    /// Makes the image of this pick what it has. The first written place has the number with this rest by 3; it answers the
+    /// next number's.
+    pub fn crash(&mut self, pick: u64, first: u64) -> u64
+        requires first { first < 3 }
+        requires kept { IsKept self.old }
+        ensures next { result < 3 }
+        ensures kept { IsKept self.new }
+        ensures number { self.new.number ≡ self.old.number }
+        ensures image { IsImageOf (mem_of self.old) self.new.read.items }
+        ensures mem { mem_of self.new ≡ settled self.new.read.items }
+        ensures left { self.new.left.items ≡ self.new.read.items }
+        ensures room { room_of self.new ≡ room_of self.old }
+    {
+        if pick == 1 {
+            self.settle();
+            return first;
+        }
+        let next = choose(&mut self.read, &self.synced, &self.marks, pick, first);
+        if pick == 0 {
+            self.read.truncate(self.synced.len());
+        }
+        self.settle();
+        next
+    }
+}

@@ -1,0 +1,236 @@
+//! A disk in memory, which keeps a record of its calls.
+ghost use Rattle.std.specs.Prelude.{◌≡◌, ◌≢◌, ◌≤◌, ◌<◌, ◌+◌, ◌*◌, ◌++◌, ◌^◌, [], ◌∷◌, ℕ, Some, length, reverse, vec_capacity, IfOk, IfSome, OnOk, OnErr, IsTrue};
+ghost use Rattle.disk_defs.specs.Disk.{Image, Files, Reads, RoomStays, Rose};
+ghost use Rattle.repl_disk.specs.Mem.{replay, mem_view, settled, RoomTaken, RoomGiven};
+ghost use Rattle.repl_disk.specs.MemLaws.{mem_lawful};
+ghost use Rattle.repl_disk.specs.Table.{entry_in, lefts, rooms, IsCrashed, AreKept, all_calls, all_bytes};
+ghost use Rattle.repl_disk.specs.declared.call.Call.TheVariants.{Wrote, Synced};
+ghost use Rattle.std.proofs.Props.{props};
+
+use crate::call::Call;
+use crate::disk::{Disk, Failed, NoMemory};
+use crate::file::MemFile;
+use crate::table::{bytes_of, crash_files, find, grow_file, slot, sync_file, write_file};
+use std::alloc::{AllocError, Global};
+
+/// The greatest room in calls or bytes, on all files together.
+const MOST: u64 = 1 << 58;
+
+/// A disk in memory. It tells what its files have, and can be made to fail and to crash.
+///
+/// It keeps a record of its calls since the last crash, and its memory is a small factor of what was written.
+/// Pick 0 of a crash gives each file its last synced bytes and end, pick 1 keeps all that was written. Each other pick numbers
+/// the bytes written since each file's last sync, over the files in rising number and the places in rising order. By the rest
+/// of that number times the pick by 3 a byte is as it was synced, or 0 past the synced end; or as written; or 01. The written
+/// end stays.
+#[derive(Drop)]
+pub struct MemDisk {
+    alloc: Global,
+    /// The files, by rising number.
+    files: Vec<MemFile>,
+    /// The calls since the last crash that changed a file, the oldest first.
+    calls: Vec<Call>,
+    /// The bytes of all their writes.
+    written: Vec<u8>,
+    /// The room that is left on all files together.
+    calls_left: u64,
+    bytes_left: u64,
+    faults: u64,
+    fuse: Option<u64>,
+    ghost replayed: { (f : ℕ) → (entry_in files.items f).mem ≡ replay (lefts files.items) (reverse calls.items) written.items f } by { Prim.hlevel props },
+    ghost kept: { AreKept files.items } by { Prim.hlevel props },
+    ghost all_calls: { all_calls files.items ≡ calls_left },
+    ghost all_bytes: { all_bytes files.items ≡ bytes_left },
+    ghost calls_fit: { length calls.items + calls_left ≤ vec_capacity calls },
+    ghost bytes_fit: { length written.items + bytes_left ≤ vec_capacity written },
+}
+
+impl MemDisk {
+    /// A disk without files.
+    pub fn new(alloc: Global) -> Result<MemDisk, NoMemory>
+        ensures empty { IfOk result (λ made. (f : ℕ) → (entry_in made.files.items f).mem ≡ settled []) }
+    {
+        Ok(MemDisk {
+            alloc,
+            files: Vec::new(alloc),
+            calls: Vec::new(alloc),
+            written: Vec::new(alloc),
+            calls_left: 0,
+            bytes_left: 0,
+            faults: 0,
+            fuse: None,
+        })
+    }
+}
+
+/// Whether the fuse lets one more call succeed.
+fn burn(fuse: &mut Option<u64>) -> bool {
+    match *fuse {
+        None => true,
+        Some(0) => false,
+        Some(calls) => {
+            *fuse = Some(calls - 1);
+            true
+        }
+    }
+}
+
+impl MemDisk {
+    /// How many calls of `sync` on a file have succeeded since the last crash.
+    pub fn syncs(&self, file: u32) -> u64 {
+        let mut n = 0u64;
+        for call in &self.calls {
+            if *call == (Call::Synced { file }) {
+                n = n.saturating_add(1);
+            }
+        }
+        n
+    }
+
+    /// Writes, and records it.
+    fn do_write(&mut self, file: u32, at: u64, bytes: &[u8])
+        requires place { at ≤ length (replay (lefts self.old.files.items) (reverse self.old.calls.items) self.old.written.items file).read }
+        requires calls { 1 ≤ (rooms self.old.files.items file).calls }
+        requires bytes { length bytes.now ≤ (rooms self.old.files.items file).bytes }
+        ensures calls { reverse self.new.calls.items ≡ Wrote file at (length bytes.now) ∷ reverse self.old.calls.items }
+        ensures written { self.new.written.items ≡ self.old.written.items ++ bytes.now }
+        ensures left { (f : ℕ) → lefts self.new.files.items f ≡ lefts self.old.files.items f }
+        ensures room { RoomTaken file (length bytes.now) (rooms self.old.files.items) (rooms self.new.files.items) }
+        ensures faults { self.new.faults ≡ self.old.faults }
+    {
+        let Some(i) = find(&self.files, file) else {
+            unreachable!();
+        };
+        write_file(&mut self.files, file, i, at, bytes);
+        let n = bytes.len() as u64;
+        if self.calls.push(Call::Wrote { file, at, n }).is_err() {
+            unreachable!();
+        }
+        if self.written.extend_from_slice(bytes).is_err() {
+            unreachable!();
+        }
+        self.calls_left -= 1;
+        self.bytes_left -= n;
+    }
+
+    /// Syncs, and records it.
+    fn do_sync(&mut self, file: u32)
+        requires { 1 ≤ (rooms self.old.files.items file).calls }
+        ensures calls { reverse self.new.calls.items ≡ Synced file ∷ reverse self.old.calls.items }
+        ensures written { self.new.written.items ≡ self.old.written.items }
+        ensures left { (f : ℕ) → lefts self.new.files.items f ≡ lefts self.old.files.items f }
+        ensures room { RoomTaken file 0 (rooms self.old.files.items) (rooms self.new.files.items) }
+        ensures faults { self.new.faults ≡ self.old.faults }
+    {
+        let Some(i) = find(&self.files, file) else {
+            unreachable!();
+        };
+        sync_file(&mut self.files, file, i);
+        if self.calls.push(Call::Synced { file }).is_err() {
+            unreachable!();
+        }
+        self.calls_left -= 1;
+    }
+
+    /// Takes the memory for so much more room on a file.
+    fn do_room(&mut self, file: u32, calls: u64, bytes: u64) -> Result<(), AllocError>
+        requires calls { self.old.calls_left + calls < 2 ^ 59 }
+        requires bytes { self.old.bytes_left + bytes < 2 ^ 59 }
+        ensures calls { self.new.calls.items ≡ self.old.calls.items }
+        ensures written { self.new.written.items ≡ self.old.written.items }
+        ensures left { (f : ℕ) → lefts self.new.files.items f ≡ lefts self.old.files.items f }
+        ensures ok { OnOk result (RoomGiven file calls bytes (rooms self.old.files.items) (rooms self.new.files.items)) }
+        ensures err { OnErr result ((f : ℕ) → rooms self.new.files.items f ≡ rooms self.old.files.items f) }
+        ensures faults { self.new.faults ≡ self.old.faults }
+    {
+        self.calls.reserve((self.calls_left + calls) as usize)?;
+        self.written.reserve((self.bytes_left + bytes) as usize)?;
+        let i = slot(&mut self.files, self.alloc, file)?;
+        grow_file(&mut self.files, file, i, calls, bytes)?;
+        self.calls_left += calls;
+        self.bytes_left += bytes;
+        Ok(())
+    }
+
+    /// Makes the image of this pick what the files have, and begins the record anew.
+    fn do_crash(&mut self, pick: u64)
+        ensures calls { self.new.calls.items ≡ [] }
+        ensures written { self.new.written.items ≡ [] }
+        ensures crashed { (f : ℕ) → IsCrashed (entry_in self.old.files.items f) (entry_in self.new.files.items f) }
+        ensures faults { self.new.faults ≡ self.old.faults }
+    {
+        self.fuse = None;
+        crash_files(&mut self.files, pick);
+        self.calls.clear();
+        self.written.clear();
+    }
+}
+
+impl Disk for MemDisk {
+    ghost disk = { λ m. mem_view (lefts m.files.items) (reverse m.calls.items) m.written.items (rooms m.files.items) m.faults };
+
+    ghost lawful = { λ m. mem_lawful (lefts m.files.items) (reverse m.calls.items) m.written.items (rooms m.files.items) m.faults };
+
+    fn faults(&self) -> u64 {
+        self.faults
+    }
+
+    fn simulated(&self) -> bool {
+        true
+    }
+
+    fn len(&mut self, file: u32) -> Result<u64, Failed> {
+        if !burn(&mut self.fuse) {
+            self.faults = self.faults.saturating_add(1);
+            return Err(Failed);
+        }
+        Ok(bytes_of(&self.files, file).len() as u64)
+    }
+
+    fn read_at(&mut self, file: u32, at: u64, buf: &mut [u8]) -> Result<(), Failed> {
+        if !burn(&mut self.fuse) {
+            self.faults = self.faults.saturating_add(1);
+            return Err(Failed);
+        }
+        let bytes = bytes_of(&self.files, file);
+        let at = at as usize;
+        buf.copy_from_slice(&bytes[at..at + buf.len()]);
+        Ok(())
+    }
+
+    fn room(&mut self, file: u32, calls: u32, bytes: u64) -> Result<(), NoMemory> {
+        if self.calls_left >= MOST || self.bytes_left >= MOST || bytes >= MOST {
+            return Err(NoMemory);
+        }
+        match self.do_room(file, calls as u64, bytes) {
+            Ok(()) => Ok(()),
+            Err(_) => Err(NoMemory),
+        }
+    }
+
+    fn write_at(&mut self, file: u32, at: u64, bytes: &[u8]) -> Result<(), Failed> {
+        if !burn(&mut self.fuse) {
+            self.faults = self.faults.saturating_add(1);
+            return Err(Failed);
+        }
+        self.do_write(file, at, bytes);
+        Ok(())
+    }
+
+    fn sync(&mut self, file: u32) -> Result<(), Failed> {
+        if !burn(&mut self.fuse) {
+            self.faults = self.faults.saturating_add(1);
+            return Err(Failed);
+        }
+        self.do_sync(file);
+        Ok(())
+    }
+
+    fn fuse(&mut self, calls: u64) {
+        self.fuse = Some(calls);
+    }
+
+    fn crash(&mut self, pick: u64) {
+        self.do_crash(pick);
+    }
+}
