@@ -19,3 +19,4 @@ pub mod FrontFacts
 pub mod Hardening
 pub mod Masks
 pub mod Regions
+pub mod NewDisks

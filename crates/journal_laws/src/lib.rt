@@ -9,6 +9,7 @@ pub mod clean;
 pub mod directories;
 pub mod epochs;
 pub mod files;
+pub mod fit;
 pub mod fronts;
 pub mod generations;
 pub mod numbers;
