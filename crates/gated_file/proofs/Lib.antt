@@ -1,0 +1,9 @@
+pub mod Pieces
+pub mod Steps
+pub mod Append
+pub mod Open
+pub mod Others
+pub mod Gates
+pub mod Begins
+pub mod Walking
+pub mod Attaching

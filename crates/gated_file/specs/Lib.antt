@@ -1,0 +1,4 @@
+pub mod State
+pub mod Gated
+pub mod Reading
+pub mod Begin

@@ -1,0 +1,40 @@
+-- Reading a gated file from a place on.
+use Rattle.std.specs.Prelude.{◌≡◌, ◌≤◌, ◌<◌, ℕ, ◌+◌, List, ◌++◌, [], ◌∷◌, length, take, drop, Option, Some, None}
+use Rattle.std.specs.Int.{to_be_bytes, w32}
+use Rattle.std.specs.List.{AllByRecursion}
+use Rattle.disk_defs.specs.Gates.{Body, Open, Shut, NoGate, gate_at, spelled, IsBody}
+
+-- An open gate with its body, which is added to what was there, and the next gate's place; or a closed gate.
+abbrev pub Finds : List ℕ → ℕ → Option ℕ → List ℕ → List ℕ → Type 0
+Finds file at None old new = (gate_at file at ≡ Shut) × (new ≡ old)
+Finds file at (Some next) old new = (body : Body) × (gate_at file at ≡ Open body (drop next file)) × (next ≡ at + 5 + length body) × (new ≡ old ++ body)
+
+-- an open gate, and behind its length a body of that length
+pub record HasBody (file : List ℕ) (at n : ℕ) : Type 0 where
+  pub gate : take 1 (drop at file) ≡ 1 ∷ []
+  pub head : take 4 (drop (at + 1) file) ≡ to_be_bytes w32 n
+  pub not_empty : 1 ≤ n
+  pub not_long : n ≤ 1048576
+  pub inside : at + n + 6 ≤ length file
+
+-- a body of this length behind an open gate, or a closed gate
+abbrev pub BodyAt : List ℕ → ℕ → Option ℕ → Type 0
+BodyAt file at None = (gate_at file at ≡ Shut) × (at < length file)
+BodyAt file at (Some n) = HasBody file at n
+
+-- From the start to this place stand open records with these bodies.
+pub record LeadsTo (file : List ℕ) (at : ℕ) (bodies : List Body) : Type 0 where
+  pub front : take at file ≡ spelled 1 bodies
+  pub all : AllByRecursion IsBody bodies
+  pub inside : at < length file
+
+-- Open records with these bodies stand from the start to a closed gate at this place.
+pub record EndsAt (file : List ℕ) (bodies : List Body) (end : ℕ) : Type 0 where
+  pub leads : LeadsTo file end bodies
+  pub shut : gate_at file end ≡ Shut
+
+-- Open records stand from the start to this place, and no gate of the format stands there.
+pub record IsOutside (file : List ℕ) (offset : ℕ) : Type 0 where
+  pub bodies : List Body
+  pub leads : LeadsTo file offset bodies
+  pub here : gate_at file offset ≡ NoGate

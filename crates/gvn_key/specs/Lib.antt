@@ -1,0 +1,5 @@
+pub mod Terms
+pub mod Faults
+pub mod Pieces
+pub mod Stripped
+pub mod Decoding

@@ -1,0 +1,254 @@
+//! Keys.
+ghost use Rattle.std.specs.Prelude.{◌≡◌, ◌++◌, ◌∷◌, [], ℕ, true, length, map, None, IfOk, OnOk, OnErr};
+ghost use Rattle.std.specs.List.{list_all, flat_map};
+ghost use Rattle.std.specs.Char.{is_ascii_alphanumeric};
+ghost use Rattle.global_defs.specs.Key.{sub_of};
+ghost use Rattle.global_defs.specs.Valid.{is_name, is_key};
+ghost use Rattle.global_defs.specs.Encoded.{encoded};
+ghost use Rattle.global_defs.specs.NodeText.{sub_text, subs_text, node_text};
+ghost use Rattle.gvn_key.specs.Faults.{subs_fault, parts_fault, key_of, MakesKey};
+
+use super::bytes::{Bytes, NoMemory};
+use super::encoding::push_subs;
+use super::numeral::is_number;
+use super::zwr::push_zwr;
+use std::alloc::Global;
+use std::marker::Model;
+use thiserror::Error;
+
+/// How many characters a name may have.
+const LONGEST_NAME: usize = 31;
+
+/// How many subscripts a key may have.
+const MOST_SUBS: usize = 31;
+
+/// How many bytes an encoded key may have.
+const LONGEST_KEY: usize = 255;
+
+/// Why a name and subscripts, or a text, are no key: the first fault from the left.
+#[derive(Clone, Copy, Debug, PartialEq, Eq, Error)]
+pub enum KeyError {
+    /// The name isn't a percent sign or a letter and then letters and digits.
+    #[error("not a name")]
+    BadName,
+    /// The name has more than 31 characters.
+    #[error("the name is too long")]
+    NameTooLong,
+    /// The text of a subscript is neither a numeral nor a string, or a bracket is missing or one too many.
+    #[error("not a subscript")]
+    BadSub,
+    /// A subscript is empty.
+    #[error("an empty subscript")]
+    NullSub,
+    /// There is a 32nd subscript.
+    #[error("too many subscripts")]
+    TooManySubs,
+    /// The encoded key has more than 255 bytes.
+    #[error("the key is too long")]
+    KeyTooLong,
+    /// There was no memory.
+    #[error("out of memory")]
+    NoMemory,
+}
+
+impl From<NoMemory> for KeyError {
+    ghost use Rattle.gvn_key.specs.declared.key.KeyError.TheVariants as errors;
+
+    ghost from_gives = { λ _ e. e ≡ errors.NoMemory };
+
+    fn from(_: NoMemory) -> Self {
+        KeyError::NoMemory
+    }
+}
+
+/// A node's key: a name and up to 31 subscripts, each a number or a string, with at most 255 bytes encoded.
+#[derive(Debug, Drop)]
+pub struct Key {
+    name: Bytes,
+    subs: Vec<Bytes>,
+    code: Bytes,
+}
+
+impl Model for Key {
+    ghost use Rattle.global_defs.specs.Key as defs;
+    ghost use Rattle.gvn_key.specs.Faults as made;
+
+    ghost Value = { defs.Key };
+
+    ghost view = { λ k. made.key_of k.name k.subs.items };
+
+    ghost invariant = { λ k. made.IsMade k.name k.subs.items k.code };
+}
+
+fn all_alphanumeric(bytes: &[u8]) -> bool
+    ensures { result ≡ list_all is_ascii_alphanumeric bytes.now }
+{
+    bytes.iter().all(|b| b.is_ascii_alphanumeric())
+}
+
+/// Whether these bytes are a name, of any length: a percent sign or a letter, and then letters and digits.
+pub fn is_name(bytes: &[u8]) -> bool
+    ensures { result ≡ is_name bytes.now }
+{
+    match bytes {
+        [] => false,
+        [first, rest @ ..] => {
+            (*first == b'%' || first.is_ascii_alphabetic()) && all_alphanumeric(rest)
+        }
+    }
+}
+
+/// The first fault of subscripts, from the left.
+fn subs_fault(subs: &[Bytes]) -> Option<KeyError>
+    ensures { result ≡ subs_fault 0 subs.now }
+{
+    for (i, sub) in subs.iter().enumerate() {
+        if sub.is_empty() {
+            return Some(KeyError::NullSub);
+        }
+        if MOST_SUBS <= i {
+            return Some(KeyError::TooManySubs);
+        }
+    }
+    None
+}
+
+/// The first fault of a name and subscripts, but for the length of the whole.
+fn parts_fault(name: &[u8], subs: &[Bytes]) -> Option<KeyError>
+    ensures { result ≡ parts_fault name.now subs.now }
+{
+    if !is_name(name) {
+        return Some(KeyError::BadName);
+    }
+    if LONGEST_NAME < name.len() {
+        return Some(KeyError::NameTooLong);
+    }
+    subs_fault(subs)
+}
+
+/// The encoded key of a name and subscripts.
+fn encode(alloc: Global, name: &[u8], subs: &[Bytes]) -> Result<Bytes, NoMemory>
+    ensures { IfOk result (λ code. code ≡ encoded (key_of name.now subs.now)) }
+{
+    let mut code = Bytes::of(alloc, name)?;
+    code.push(0)?;
+    push_subs(alloc, subs, &mut code)?;
+    Ok(code)
+}
+
+fn copy_all(alloc: Global, subs: &[Bytes]) -> Result<Vec<Bytes>, NoMemory>
+    ensures { IfOk result (λ made. made.items ≡ subs.now) }
+{
+    let mut made = Vec::new(alloc);
+    for sub in subs {
+        made.push(sub.copy()?)?;
+    }
+    Ok(made)
+}
+
+impl Key {
+    /// The key of a name and subscripts, or the first fault from the left.
+    pub fn new(alloc: Global, name: &[u8], subs: &[Bytes]) -> Result<Self, KeyError>
+        ensures { MakesKey name.now subs.now result }
+    {
+        if let Some(fault) = parts_fault(name, subs) {
+            return Err(fault);
+        }
+        let code = encode(alloc, name, subs)?;
+        if LONGEST_KEY < code.len() {
+            return Err(KeyError::KeyTooLong);
+        }
+        let name = Bytes::of(alloc, name)?;
+        let subs = copy_all(alloc, subs)?;
+        Ok(Key { name, subs, code })
+    }
+
+    /// The name.
+    pub fn name(&self) -> &[u8]
+        ensures { result.now ≡ self.now.name }
+    {
+        self.name.as_slice()
+    }
+
+    /// The subscripts by their own bytes: of a number its canonical numeral.
+    pub fn subs(&self) -> &[Bytes]
+        ensures { map sub_of result.now ≡ self.now.subs }
+    {
+        &self.subs
+    }
+
+    /// The encoded key.
+    pub fn as_encoded(&self) -> &[u8]
+        ensures value { result.now ≡ encoded self.now }
+        ensures valid { is_key self.now ≡ true }
+    {
+        self.code.as_slice()
+    }
+
+    /// Adds the encoded key at the end.
+    pub fn encode(&self, out: &mut Bytes) -> Result<(), NoMemory>
+        ensures ok { OnOk result (out.new ≡ out.old ++ encoded self.now) }
+        ensures err { OnErr result (out.new ≡ out.old) }
+    {
+        out.push_all(self.code.as_slice())
+    }
+
+    /// An equal key.
+    pub fn copy(&self) -> Result<Self, NoMemory>
+        ensures { IfOk result (λ made. made ≡ self.now) }
+    {
+        let name = self.name.copy()?;
+        let subs = copy_all(self.name.allocator(), &self.subs)?;
+        let code = self.code.copy()?;
+        Ok(Key { name, subs, code })
+    }
+
+    /// Adds the key's text at the end, as `^X(1,"a")`.
+    pub fn write(&self, out: &mut Bytes) -> Result<(), NoMemory>
+        ensures ok { OnOk result (out.new ≡ out.old ++ node_text self.now) }
+        ensures err { OnErr result (out.new ≡ out.old) }
+    {
+        let mut text = Bytes::new(out.allocator());
+        text.push_all(b"^")?;
+        text.push_all(self.name.as_slice())?;
+        write_subs(&self.subs, &mut text)?;
+        out.push_all(text.as_slice())
+    }
+}
+
+/// A number by its numeral, a string in ZWR form.
+fn write_sub(sub: &[u8], out: &mut Bytes) -> Result<(), NoMemory>
+    ensures { OnOk result (out.new ≡ out.old ++ sub_text (sub_of sub.now)) }
+{
+    if is_number(sub) {
+        out.push_all(sub)
+    } else {
+        push_zwr(sub, out)
+    }
+}
+
+/// Subscripts, each behind a comma.
+fn write_others(subs: &[Bytes], out: &mut Bytes) -> Result<(), NoMemory>
+    ensures { OnOk result (out.new ≡ out.old ++ flat_map (λ s. 44 ∷ sub_text s) (map sub_of subs.now)) }
+{
+    for sub in subs {
+        out.push_all(b",")?;
+        write_sub(sub.as_slice(), out)?;
+    }
+    Ok(())
+}
+
+/// Subscripts in brackets, nothing where there are none.
+fn write_subs(subs: &[Bytes], out: &mut Bytes) -> Result<(), NoMemory>
+    ensures { OnOk result (out.new ≡ out.old ++ subs_text (map sub_of subs.now)) }
+{
+    match subs {
+        [] => Ok(()),
+        [first, rest @ ..] => {
+            out.push_all(b"(")?;
+            write_sub(first.as_slice(), out)?;
+            write_others(rest, out)?;
+            out.push_all(b")")
+        }
+    }
+}

@@ -1,0 +1,19 @@
+//! Keys of globals: names and subscripts in M collation, as text and as bytes.
+#![tactic(auto)]
+
+mod bytes;
+mod decode;
+#[cfg(test)]
+mod decode_tests;
+mod encoding;
+mod key;
+mod numeral;
+pub mod terms;
+#[cfg(test)]
+mod tests;
+mod zwr;
+
+pub use bytes::{Bytes, NoMemory};
+pub use key::{Key, KeyError};
+pub use numeral::is_number;
+pub use zwr::zwr_write;

@@ -1,0 +1,2 @@
+pub mod Reigns
+pub mod Entries

@@ -1,0 +1,14 @@
+//! Transactions, entries and reigns: what a journal keeps and a replication link carries.
+#![tactic(auto)]
+
+mod entry;
+mod history;
+mod reign;
+#[cfg(test)]
+mod tests;
+mod updates;
+
+pub use entry::{Entry, Origin, Transaction};
+pub use history::{History, Reigns};
+pub use reign::{Reign, Stamp};
+pub use updates::Updates;

@@ -1,0 +1,57 @@
+// Lists and copies with memory to spare.
+use super::*;
+use gvn_key::terms::Update;
+use gvn_key::{Bytes, Key};
+use std::alloc::Global;
+use std::test::Fail;
+
+fn reign(alloc: Global, cycle: u32, start: u64) -> Result<Reign, Fail> {
+    let root = Bytes::of(alloc, b"A")?;
+    Ok(Reign {
+        stamp: Stamp { root, cycle },
+        start,
+    })
+}
+
+#[test]
+fn copies_a_history(rt: HostRuntime) -> Result<(), Fail> {
+    let mut reigns = Reigns::new(rt.alloc());
+    reigns.push(reign(rt.alloc(), 1, 1)?)?;
+    reigns.push(reign(rt.alloc(), 2, 7)?)?;
+    let history = History { length: 9, reigns };
+    let made = history.copy()?;
+    assert_eq!(rt; made.length, 9);
+    assert_eq!(rt; made.reigns.len(), 2);
+    assert_eq!(rt; made.reigns.is_empty(), false);
+    assert_eq!(rt; made.reigns.as_slice()[1].start, 7);
+    assert_eq!(rt; history.reigns.item(1).stamp.cycle, 2);
+    Ok(())
+}
+
+#[test]
+fn copies_an_entry(rt: HostRuntime) -> Result<(), Fail> {
+    let alloc = rt.alloc();
+    let mut updates = Updates::new(alloc);
+    assert_eq!(rt; updates.is_empty(), true);
+    updates.push(Update::Set(Key::new(alloc, b"X", &[])?, Bytes::of(alloc, b"a")?))?;
+    updates.push(Update::Kill(Key::new(alloc, b"Y", &[])?))?;
+    let entry = Entry {
+        number: 3,
+        stamp: reign(alloc, 1, 1)?.stamp,
+        transaction: Transaction {
+            origin: Origin {
+                updater: 2,
+                serial: 5,
+            },
+            updates,
+        },
+    };
+    let made = entry.copy()?;
+    assert_eq!(rt; made.number, 3);
+    assert_eq!(rt; made.stamp.root.as_slice(), b"A".as_slice());
+    assert_eq!(rt; made.transaction.origin, entry.transaction.origin);
+    assert_eq!(rt; made.transaction.updates.len(), 2);
+    assert!(rt; matches!(entry.transaction.updates.item(1), Update::Kill(_)));
+    assert!(rt; matches!(made.transaction.updates.as_slice()[0], Update::Set(..)));
+    Ok(())
+}

@@ -1,0 +1,54 @@
+//! Entries as the lines of an extract.
+#![tactic(auto)]
+
+mod line;
+#[cfg(test)]
+mod tests;
+
+ghost use Rattle.std.specs.Prelude.{◌≡◌, ◌++◌, OnOk, OnErr};
+ghost use Rattle.global_defs.specs.Extract.{entry_text, header};
+ghost use Rattle.gvn_model.specs.Entries.{entry_value};
+
+use gvn_key::{Bytes, NoMemory};
+use gvn_model::Entry;
+use line::{write_bracket, write_update, write_updates};
+
+/// Adds the lines of an entry at the end: one line for its update, or a line for each between a TSTART
+/// and a TCOM line. Without memory nothing is added.
+pub fn extract_entry(e: &Entry, out: &mut Bytes) -> Result<(), NoMemory>
+    ensures ok { OnOk result (out.new ≡ out.old ++ entry_text e.now.number (entry_value e.now)) }
+    ensures err { OnErr result (out.new ≡ out.old) }
+{
+    let mut text = Bytes::new(out.allocator());
+    write_entry(e, &mut text)?;
+    out.push_all(text.as_slice())
+}
+
+fn write_entry(e: &Entry, out: &mut Bytes) -> Result<(), NoMemory>
+    ensures { OnOk result (out.new ≡ out.old ++ entry_text e.now.number (entry_value e.now)) }
+{
+    match e.transaction.updates.as_slice() {
+        [] => Ok(()),
+        [update] => write_update(e, update, out),
+        updates => {
+            write_bracket(b"TSTART", e, out)?;
+            write_updates(e, updates, out)?;
+            write_bracket(b"TCOM", e, out)
+        }
+    }
+}
+
+/// Adds the first line of an extract at the end: the site's name, and the number that the extract
+/// begins with. Without memory nothing is added.
+pub fn write_header(site: &[u8], from: u64, out: &mut Bytes) -> Result<(), NoMemory>
+    ensures ok { OnOk result (out.new ≡ out.old ++ header site.now from) }
+    ensures err { OnErr result (out.new ≡ out.old) }
+{
+    let mut text = Bytes::new(out.allocator());
+    text.push_all(b"GTMRJEX01\\")?;
+    text.push_all(site)?;
+    text.push_all(b"\\")?;
+    text.push_decimal(from)?;
+    text.push_all(b"\n")?;
+    out.push_all(text.as_slice())
+}

@@ -1,0 +1,5 @@
+pub mod Packed
+pub mod Addressed
+pub mod Whole
+pub mod Ring
+pub mod Told

@@ -1,0 +1,5 @@
+use Rattle.std.proofs.Common.{◌≡◌}
+use Rattle.jnl_pool.proofs.tests.read_some.Given as goal
+
+abbrev pub invariant-loop : goal.invariant-loop
+invariant-loop l = l.reader.table ≡ l.pool.table

@@ -1,0 +1,6 @@
+use Rattle.std.proofs.Common.{rules}
+use Rattle.pool_rule.proofs.Keeps.{loads_claim}
+use Rattle.pool_rule.proofs.table.PoolTable.load_claim.Goals as goal
+
+pub load-requires : goal.load-requires
+load-requires c = (search rules, search rules, loads_claim _ _ _ _ _ c.r.invariant.0)
