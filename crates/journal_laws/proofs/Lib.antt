@@ -20,3 +20,5 @@ pub mod Hardening
 pub mod Masks
 pub mod Regions
 pub mod NewDisks
+pub mod ImageSteps
+pub mod RecordSteps

@@ -17,4 +17,5 @@ pub mod recoveries;
 pub mod sequences;
 pub mod soundness;
 pub mod splits;
+pub mod steps;
 pub mod undo;
