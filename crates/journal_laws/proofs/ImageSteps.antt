@@ -7,29 +7,64 @@ use Rattle.disk_defs.specs.Gates.{records}
 use Rattle.global_defs.specs.Entry.{Globals, Sequence}
 use Rattle.journal_defs.specs.Numbers.{INSTANCE, journal_file, lost_file, broken_file, database_file}
 use Rattle.journal_defs.specs.Journal.{Tcom, Part}
-use Rattle.journal_defs.specs.Instance.{InstanceRecord, generation, regions}
+use Rattle.journal_defs.specs.Instance.{InstanceRecord, IsInstanceBody, generation, regions}
 use Rattle.journal_defs.specs.Directory.{patterns}
 use Rattle.journal_defs.specs.Sequence.{Placed, Records, IsSequence}
 use Rattle.journal_defs.specs.Epochs.{Blocks, chosen, block_of, NeedsForward}
 use Rattle.journal_defs.specs.Undo.{SameBut, MayWrite, MayAppend}
 use Rattle.journal_defs.specs.Sound.{region_state, IsSoundRegion, BlocksGrow, NoEpochPast}
-use Rattle.journal_defs.specs.Stands.{IsInstance, AreRecords}
+use Rattle.journal_defs.specs.Stands.{Holds, IsJournal, AreRecords}
 use Rattle.journal_defs.specs.Clean.{AreClean}
 use Rattle.journal_defs.specs.Growth.{with_more, placed, appended, AreEntries, NonePast}
 use Rattle.journal_defs.specs.Fit.{IsAtHome, HasFewNodes, IsSoundImage}
-use Rattle.journal_laws.proofs.Appending as files
 use Rattle.journal_laws.proofs.EveryTarget as every
 use Rattle.journal_laws.proofs.Later as later
 use Rattle.journal_laws.proofs.Fewer as fewer
 use Rattle.journal_laws.proofs.FrontFacts as facts
 use Rattle.journal_laws.proofs.Hardening as hardening
 
--- files that hold records in the same files hold the same
-pub same_records : (old new : Files) (s : Records) → AreRecords old s → new INSTANCE ≡ old INSTANCE → ((h r : ℕ) → h ≤ generation s.instance → new (journal_file h r) ≡ old (journal_file h r)) → AreRecords new s
+-- files with the same open bodies hold the same records
+same_journal : (old new : Files) (q g last : ℕ) (js : List Placed) → ((h : ℕ) → h ≤ g → records (new (journal_file h q)) ≡ records (old (journal_file h q))) → IsJournal old q g last js → IsJournal new q g last js
+same_journal old new q zero last js same h = h
+same_journal old new q (suc g) last js same h = (
+  h.0,
+  h.1,
+  h.2,
+  same_journal old new q g h.0 h.1 (λ k low. same k (omega arith)) h.3,
+  (h.4.0, same (suc g) (omega arith) ∙ h.4.1, h.4.2),
+  h.5,
+  h.6,
+  h.7,
+)
+
+pub same_records : (old new : Files) (s : Records) → AreRecords old s → records (new INSTANCE) ≡ records (old INSTANCE)
+    → ((h r : ℕ) → h ≤ generation s.instance → r < length (regions s.instance) → records (new (journal_file h r)) ≡ records (old (journal_file h r))) → AreRecords new s
 same_records old new s held instance same = record {
-  instance = subst (λ (file : List ℕ). IsInstance file s.instance) (sym instance) held.instance;
-  journals = λ r low. (let theirs = held.journals r low in (theirs.0, files.journal_same old new r (generation s.instance) theirs.0 (s.journal r) (λ h low_h. same h r low_h) theirs.1));
+  instance = record {
+    bodies = (mine.0, instance ∙ mine.1, mine.2);
+    create = held.instance.create;
+    cuts = held.instance.cuts;
+    reigns = held.instance.reigns;
+  };
+  journals = λ r low. (let theirs = held.journals r low in (theirs.0, same_journal old new r (generation s.instance) theirs.0 (s.journal r) (λ h low_h. same h r low_h low) theirs.1));
   no_more = held.no_more;
+}
+  where
+    mine : Holds IsInstanceBody (old INSTANCE) s.instance
+    mine = held.instance.bodies
+
+-- nothing that counts has changed
+pub same_image : (old new : Files) (s : Records) (seq : Sequence) → IsSoundImage old s seq → records (new INSTANCE) ≡ records (old INSTANCE)
+    → ((h r : ℕ) → h ≤ generation s.instance → r < length (regions s.instance) → records (new (journal_file h r)) ≡ records (old (journal_file h r)))
+    → AreClean new s (length seq) → ((r : ℕ) → r < length (regions s.instance) → new (database_file r) ≡ old (database_file r)) → IsSoundImage new s seq
+same_image old new s seq image instance journals clean databases = record {
+  held = same_records old new s image.held instance journals;
+  sequence = image.sequence;
+  clean = clean;
+  sound = λ t low r here. subst (λ (file : List ℕ). IsSoundRegion (region_state (patterns s.instance) r) s.instance seq (s.journal r) (block_of file)) (sym (databases r here)) (λ u high. image.sound u high r here) t low;
+  grow = image.grow;
+  at_home = image.at_home;
+  few_nodes = image.few_nodes;
 }
 
 same_clean : (old new : Files) (s : Records) (n : ℕ) → AreClean old s n → ((g r : ℕ) → new (journal_file g r) ≡ old (journal_file g r))
@@ -46,7 +81,7 @@ pub written : (old new : Files) (s : Records) (seq : Sequence) (r b : ℕ) → I
     → ((f : ℕ) → f ≢ database_file r → new f ≡ old f) → SameBut b (block_of (old (database_file r))) (block_of (new (database_file r)))
     → NeedsForward s.instance (length seq) (s.journal r) ⊎ MayWrite (chosen s.instance (length seq) (s.journal r)) b → IsSoundImage new s seq
 written old new s seq r b image few here same one may = record {
-  held = same_records old new s image.held (same INSTANCE (λ e. omega arith)) (λ h q low. same (journal_file h q) (λ e. omega arith));
+  held = same_records old new s image.held (ap records (same INSTANCE (λ e. omega arith))) (λ h q low there. ap records (same (journal_file h q) (λ e. omega arith)));
   sequence = image.sequence;
   clean = same_clean old new s (length seq) image.clean (λ g q. same (journal_file g q) (λ e. omega arith)) (λ g. same (lost_file g) (λ e. omega arith)) (λ g. same (broken_file g) (λ e. omega arith));
   sound = λ t low q there. region q there t low;

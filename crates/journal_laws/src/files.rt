@@ -26,5 +26,9 @@ pub fn files_hold()
         → new INSTANCE ≡ old INSTANCE → ((h r : ℕ) → h ≤ g → new (journal_file h r) ≡ old (journal_file h r))
         → ((r : ℕ) → r < length (regions s.instance) → HasGrown old new r g (s.journal r) (xs r)) → ((r : ℕ) → length (regions s.instance) ≤ r → xs r ≡ [])
         → AreRecords new (with_more s (λ r. map (in_generation (suc g)) (xs r))) }
+    // files with the same open bodies hold the same records
+    ensures same { (old new : Files) (s : Records) → AreRecords old s → records (new INSTANCE) ≡ records (old INSTANCE)
+        → ((h r : ℕ) → h ≤ generation s.instance → r < length (regions s.instance)
+        → records (new (journal_file h r)) ≡ records (old (journal_file h r))) → AreRecords new s }
     ensures entries { (g : ℕ) (ps : List (ℕ → Option Part)) (r : ℕ) → appended g ps r ≡ map (in_generation g) (tcoms ps r) }
 {}

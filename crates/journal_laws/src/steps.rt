@@ -6,6 +6,7 @@
 ghost use Rattle.std.specs.Prelude.{◌≡◌, ◌≢◌, ◌⊎◌, ℕ, suc, ◌<◌, ◌≤◌, true, List, [], ◌∷◌, ◌++◌, length, take, Option, None};
 ghost use Rattle.std.specs.List.{AllByRecursion};
 ghost use Rattle.disk_defs.specs.Disk.{Files};
+ghost use Rattle.disk_defs.specs.Gates.{records};
 ghost use Rattle.global_defs.specs.Entry.{Sequence, Reign};
 ghost use Rattle.journal_defs.specs.Numbers.{INSTANCE, journal_file, database_file};
 ghost use Rattle.journal_defs.specs.Journal.{Part, Mark, Epoch};
@@ -22,10 +23,13 @@ ghost use Rattle.journal_defs.specs.Clean.{AreClean};
 ghost use Rattle.journal_defs.specs.Growth.{with_record, with_journal, with_more, appended, AreEntries, IsBefore, NonePast};
 ghost use Rattle.journal_defs.specs.Fit.{IsAtHome, HasFewNodes, IsSoundImage};
 
-/// Blocks may be written, and records appended to a journal that are no parts.
+/// Bytes that aren't read may change, blocks may be written, and records appended that are no parts.
 pub fn image_keeps_its_sequence()
-    ensures same_records { (old new : Files) (s : Records) → AreRecords old s → new INSTANCE ≡ old INSTANCE
-        → ((h r : ℕ) → h ≤ generation s.instance → new (journal_file h r) ≡ old (journal_file h r)) → AreRecords new s }
+    // bytes behind closed gates change, or files that aren't read
+    ensures same { (old new : Files) (s : Records) (seq : Sequence) → IsSoundImage old s seq → records (new INSTANCE) ≡ records (old INSTANCE)
+        → ((h r : ℕ) → h ≤ generation s.instance → r < length (regions s.instance)
+        → records (new (journal_file h r)) ≡ records (old (journal_file h r)))
+        → AreClean new s (length seq) → ((r : ℕ) → r < length (regions s.instance) → new (database_file r) ≡ old (database_file r)) → IsSoundImage new s seq }
     // a write into one block, where it has an image or the region needs forward recovery
     ensures written { (old new : Files) (s : Records) (seq : Sequence) (r b : ℕ) → IsSoundImage old s seq → length (regions s.instance) ≤ 8
         → r < length (regions s.instance) → ((f : ℕ) → f ≢ database_file r → new f ≡ old f)

@@ -4,7 +4,7 @@ use Rattle.journal_laws.proofs.steps.image_keeps_its_sequence.Goals as goal
 
 pub returns : goal.returns
 returns c = record {
-  same_records = images.same_records;
+  same = images.same_image;
   written = images.written;
   journal_record = records.journal_record;
   epoch = records.epoch;
