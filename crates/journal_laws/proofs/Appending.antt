@@ -10,7 +10,8 @@ use Rattle.journal_defs.specs.Sequence.{Placed, Records}
 use Rattle.journal_defs.specs.Stands.{Holds, IsInstance, IsJournal, last_began, in_generation, AreRecords}
 use Rattle.journal_defs.specs.Numbers.{INSTANCE, journal_file}
 use Rattle.journal_defs.specs.Instance.{generation, regions}
-use Rattle.journal_defs.specs.Growth.{with_journal, with_more, placed, MayFollow, IsNewest, HasGrown, tcoms}
+use Rattle.journal_defs.specs.Growth.{with_journal, with_more, placed, tcoms}
+use Rattle.journal_defs.specs.FileGrowth.{MayFollow, IsNewest, HasGrown}
 use Rattle.journal_defs.specs.Growth as growth
 
 pub zip_append : {R : Type 0} (P : Body → R → Type 0) (bs cs : List Body) (rs qs : List R) → AllZip P bs rs → AllZip P cs qs → AllZip P (bs ++ cs) (rs ++ qs)
