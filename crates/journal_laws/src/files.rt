@@ -1,6 +1,6 @@
 //! Files that gain records.
 
-ghost use Rattle.std.specs.Prelude.{◌≡◌, ◌≢◌, ℕ, suc, ◌<◌, ◌≤◌, List, ◌++◌, length, map, Option, Some, []};
+ghost use Rattle.std.specs.Prelude.{◌≡◌, ◌≢◌, ℕ, suc, ◌<◌, ◌≤◌, List, ◌++◌, length, map, take, Option, Some, []};
 ghost use Rattle.std.specs.List.{AllZip};
 ghost use Rattle.disk_defs.specs.Disk.{Files};
 ghost use Rattle.disk_defs.specs.Gates.{Body, records};
@@ -32,4 +32,6 @@ pub fn files_hold()
         → ((h r : ℕ) → h ≤ generation s.instance → r < length (regions s.instance)
         → records (new (journal_file h r)) ≡ records (old (journal_file h r))) → AreRecords new s }
     ensures entries { (g : ℕ) (ps : List (ℕ → Option Part)) (r : ℕ) → appended g ps r ≡ map (in_generation g) (tcoms ps r) }
+    ensures first_entries { (g : ℕ) (ps : List (ℕ → Option Part)) (r k : ℕ)
+        → take k (appended g ps r) ≡ map (in_generation g) (take k (tcoms ps r)) }
 {}
