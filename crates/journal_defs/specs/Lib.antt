@@ -13,5 +13,6 @@ pub mod Split
 pub mod Stands
 pub mod Clean
 pub mod Growth
+pub mod FileGrowth
 pub mod Fit
 pub mod Samples

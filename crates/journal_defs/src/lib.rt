@@ -2,7 +2,7 @@
 //!
 //! `specs/` has a topic a file: file numbers, journal records, instance records, the directory, which records survive, the
 //! sequence, the broken list, epochs and image states, what keeps these, leaves, sound blocks, a transaction's parts, what
-//! files stand for, clean files, growth, and what each image of fit disks has.
+//! files stand for, clean files, growth of records and of files, and what each image of fit disks has.
 //!
 //! The functions here do nothing: their contracts are worked bytes and small cases.
 #![tactic(auto)]

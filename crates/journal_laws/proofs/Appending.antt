@@ -1,8 +1,8 @@
 -- Files that gain records.
-use Rattle.std.proofs.Common.{◌≡◌, ◌≢◌, inl, inr, ℕ, zero, suc, ◌≤◌, ◌<◌, ◌==◌, true, false, List, [], ◌∷◌, ◌++◌, length, map, Some, refl, sym, ◌∙◌, ap, subst, arith, append_assoc, append-nil, Option, None, option_map}
+use Rattle.std.proofs.Common.{◌≡◌, ◌≢◌, inl, inr, ℕ, zero, suc, ◌≤◌, ◌<◌, ◌==◌, true, false, List, [], ◌∷◌, ◌++◌, length, map, take, Some, refl, sym, ◌∙◌, ap, subst, arith, append_assoc, append-nil, Option, None, option_map}
 use Rattle.std.proofs.lemmas.Bool.{cases_eq}
 use Rattle.std.proofs.lemmas.Bool.Decides.{nat_tests}
-use Rattle.std.specs.List.{AllByRecursion, AllZip, cons_option}
+use Rattle.std.specs.List.{AllByRecursion, AllZip, cons_option, take-map}
 use Rattle.disk_defs.specs.Disk.{Files}
 use Rattle.disk_defs.specs.Gates.{Body, records}
 use Rattle.journal_defs.specs.Journal.{JournalRecord, Pini, Epoch, Pblk, Tcom, Part, IsJournalBody, IsNoPini, BeginsWithPini}
@@ -10,7 +10,8 @@ use Rattle.journal_defs.specs.Sequence.{Placed, Records}
 use Rattle.journal_defs.specs.Stands.{Holds, IsInstance, IsJournal, last_began, in_generation, AreRecords}
 use Rattle.journal_defs.specs.Numbers.{INSTANCE, journal_file}
 use Rattle.journal_defs.specs.Instance.{generation, regions}
-use Rattle.journal_defs.specs.Growth.{with_journal, with_more, placed, MayFollow, IsNewest, HasGrown, tcoms}
+use Rattle.journal_defs.specs.Growth.{with_journal, with_more, placed, tcoms}
+use Rattle.journal_defs.specs.FileGrowth.{MayFollow, IsNewest, HasGrown}
 use Rattle.journal_defs.specs.Growth as growth
 
 pub zip_append : {R : Type 0} (P : Body → R → Type 0) (bs cs : List Body) (rs qs : List R) → AllZip P bs rs → AllZip P cs qs → AllZip P (bs ++ cs) (rs ++ qs)
@@ -126,3 +127,6 @@ appended_is g (p ∷ ps) r = elim (p r) as (λ o. placed g o ++ growth.appended 
   | None ↦ appended_is g ps r
   | Some x ↦ ap (λ (js : List Placed). in_generation g (Tcom x) ∷ js) (appended_is g ps r)
 ]
+
+pub first_of_them : (g : ℕ) (ps : List (ℕ → Option Part)) (r k : ℕ) → take k (growth.appended g ps r) ≡ map (in_generation g) (take k (tcoms ps r))
+first_of_them g ps r k = ap (take k) (appended_is g ps r) ∙ take-map (in_generation g) k (tcoms ps r)

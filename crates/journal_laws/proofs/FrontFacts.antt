@@ -10,7 +10,7 @@ use Rattle.global_defs.specs.Entry.{Update, Sequence, apply}
 use Rattle.global_defs.specs.Evaluation.{MOST_NODES}
 use Rattle.journal_defs.specs.Journal.{JournalRecord, Pini, Epoch, Pblk, Tcom}
 use Rattle.journal_defs.specs.Instance.{InstanceRecord, Cut}
-use Rattle.journal_defs.specs.Directory.{Pattern}
+use Rattle.journal_defs.specs.Directory.{Pattern, pattern_in}
 use Rattle.journal_defs.specs.Surviving.{survives, spares}
 use Rattle.journal_defs.specs.Fit.{region_of_update, IsAtHome, HasFewNodes, SerialsRise}
 use Rattle.journal_laws.proofs.EveryTarget.{patterns_same}
@@ -49,10 +49,13 @@ in_whole (y ∷ xs) (suc j) (suc i) x is = in_whole xs j i x is
 pub serials : (seq : Sequence) (j : ℕ) → SerialsRise seq → SerialsRise (take j seq)
 serials seq j rise i k d e low first second stamps updaters = rise i k d e low (in_whole seq j i d first) (in_whole seq j k e second) stamps updaters
 
+pub at_home_more : (instance : List InstanceRecord) (x : InstanceRecord) (r h : ℕ) (what : JournalRecord) → pattern_in x ≡ None → IsAtHome instance r h what → IsAtHome (instance ++ x ∷ []) r h what
+at_home_more instance x r h (Tcom p) none home = λ lives.
+    subst (λ (ps : List Pattern). AllByRecursion (λ i. region_of_update ps i.update ≡ r) p.items) (sym (patterns_same instance x none))
+    (home (and_parts (survives instance h p.number) ((spares h p.number x) && true) (sym (list_all-append (spares h p.number) instance (x ∷ [])) ∙ lives)).0)
+at_home_more instance x r h (Pini s) none home = tt
+at_home_more instance x r h (Epoch m) none home = tt
+at_home_more instance x r h (Pblk b) none home = tt
+
 pub at_home_cut : (instance : List InstanceRecord) (t g r h : ℕ) (what : JournalRecord) → IsAtHome instance r h what → IsAtHome (instance ++ Cut t g ∷ []) r h what
-at_home_cut instance t g r h (Tcom x) home = λ lives.
-    subst (λ (ps : List Pattern). AllByRecursion (λ i. region_of_update ps i.update ≡ r) x.items) (sym (patterns_same instance (Cut t g) refl))
-    (home (and_parts (survives instance h x.number) ((spares h x.number (Cut t g)) && true) (sym (list_all-append (spares h x.number) instance (Cut t g ∷ [])) ∙ lives)).0)
-at_home_cut instance t g r h (Pini s) home = tt
-at_home_cut instance t g r h (Epoch m) home = tt
-at_home_cut instance t g r h (Pblk b) home = tt
+at_home_cut instance t g r h what home = at_home_more instance (Cut t g) r h what refl home

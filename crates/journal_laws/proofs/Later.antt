@@ -1,5 +1,5 @@
 -- Instance files that gain another record than a CUT, epochs after which less is needed, and sequences that grow.
-use Rattle.std.proofs.Common.{◌≡◌, ◌⊎◌, inl, inr, ℕ, suc, ◌+◌, ◌≤◌, ◌<◌, ◌&&◌, nat_le, Bool, true, false, List, [], ◌∷◌, ◌++◌, length, take, Option, Some, None, IsSome, refl, sym, ◌∙◌, ap, subst, arith, unwrap_or, take_all, if◌then◌else◌}
+use Rattle.std.proofs.Common.{◌≡◌, ◌⊎◌, inl, inr, ℕ, ◌+◌, ◌≤◌, ◌<◌, ◌&&◌, nat_le, Bool, true, false, List, [], ◌∷◌, ◌++◌, length, take, Option, Some, None, IsSome, refl, sym, ◌∙◌, ap, subst, arith, unwrap_or, take_all, if◌then◌else◌}
 use Rattle.std.proofs.lemmas.Bool.{cases_lt}
 use Rattle.std.proofs.lemmas.Bool.Decides.{nat_tests}
 use Rattle.std.proofs.lemmas.List.Folds.{list_all-append}
@@ -10,7 +10,7 @@ use Rattle.global_defs.specs.Prefix.{stamp_at}
 use Rattle.journal_defs.specs.Journal.{JournalRecord, Pini, Epoch, Pblk, Tcom, Mark}
 use Rattle.journal_defs.specs.Instance.{InstanceRecord, Create, Reigned, Cut, Map, Mode}
 use Rattle.journal_defs.specs.Surviving.{survives, spares, spares_start, reigns}
-use Rattle.journal_defs.specs.Sequence.{Placed, Records, entry, EntriesFrom, IsSequence}
+use Rattle.journal_defs.specs.Sequence.{Placed, Records, IsSequence}
 use Rattle.journal_defs.specs.Epochs.{Blocks, Chosen, epoch_in, last_epoch, beginning, chosen, image_state, first_without, NeedsForward}
 use Rattle.journal_defs.specs.Undo.{fresh}
 use Rattle.journal_defs.specs.Leaves.{Decodes}
@@ -116,9 +116,4 @@ reigns-same (Mode region before ∷ rs) x spare none = reigns-same rs x spare no
 pub sequence_same : (s : Records) (seq : Sequence) (x : InstanceRecord) → ((g m : ℕ) → spares g m x ≡ true) → reigns (s.instance ++ x ∷ []) ≡ reigns s.instance
     → IsSequence s seq → IsSequence (with_record s x) seq
 sequence_same s seq x spare same h =
-    let u : Records = with_record s x in
-    let equal = λ (k : ℕ). runs.same_entry s u k (λ j. runs.part_of-sparing s.instance x k (s.journal j) spare) (ap (stamp_at k) same) in
-    record {
-      each = subst (λ (l : Sequence). EntriesFrom (entry u) 1 l) (take_all (length seq) seq (omega arith)) (runs.runs_take (entry s) (entry u) 1 (length seq) seq (λ k low. equal k) h.each);
-      ended = equal (suc (length seq)) ∙ h.ended;
-    }
+    runs.sequence_by s (with_record s x) seq (λ k. runs.same_entry s (with_record s x) k (λ j. runs.part_of-sparing s.instance x k (s.journal j) spare) (ap (stamp_at k) same)) h

@@ -19,3 +19,6 @@ pub mod FrontFacts
 pub mod Hardening
 pub mod Masks
 pub mod Regions
+pub mod NewDisks
+pub mod ImageSteps
+pub mod RecordSteps

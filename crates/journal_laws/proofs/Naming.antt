@@ -50,7 +50,7 @@ create_same (Reigned r ∷ rs) x some other h = absurd h
 create_same (Map region star name ∷ rs) x some other h = absurd h
 create_same (Mode region before ∷ rs) x some other h = absurd h
 
-same_regions : (rs : List InstanceRecord) (x : InstanceRecord) → 1 ≤ length (regions rs) → regions (rs ++ x ∷ []) ≡ regions rs
+pub same_regions : (rs : List InstanceRecord) (x : InstanceRecord) → 1 ≤ length (regions rs) → regions (rs ++ x ∷ []) ≡ regions rs
 same_regions [] x some = absurd (omega arith)
 same_regions (Create name qs ∷ rs) x some = refl
 same_regions (Cut n k ∷ rs) x some = absurd (omega arith)

@@ -247,3 +247,10 @@ reign s seq r h none late =
           (runs_take (entry s) (entry u) 1 (length seq) seq (λ k low. same_entry s u k (same k) (ap (stamp_at k) (reigns-more s.instance r) ∙ stamp_at-later k (reigns s.instance) r (omega arith))) h.each);
       ended = entry_none u (suc (length seq)) (λ j. same (suc (length seq)) j ∙ none (suc (length seq)) j (omega arith));
     }
+
+-- records of which each entry is as in others
+pub sequence_by : (s u : Records) (seq : Sequence) → ((k : ℕ) → entry u k ≡ entry s k) → IsSequence s seq → IsSequence u seq
+sequence_by s u seq equal h = record {
+  each = subst (λ (l : Sequence). EntriesFrom (entry u) 1 l) (take_all (length seq) seq (omega arith)) (runs_take (entry s) (entry u) 1 (length seq) seq (λ k low. equal k) h.each);
+  ended = equal (suc (length seq)) ∙ h.ended;
+}

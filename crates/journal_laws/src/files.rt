@@ -1,12 +1,13 @@
 //! Files that gain records.
 
-ghost use Rattle.std.specs.Prelude.{◌≡◌, ◌≢◌, ℕ, suc, ◌<◌, ◌≤◌, List, ◌++◌, length, map, Option, Some, []};
+ghost use Rattle.std.specs.Prelude.{◌≡◌, ◌≢◌, ℕ, suc, ◌<◌, ◌≤◌, List, ◌++◌, length, map, take, Option, Some, []};
 ghost use Rattle.std.specs.List.{AllZip};
 ghost use Rattle.disk_defs.specs.Disk.{Files};
 ghost use Rattle.disk_defs.specs.Gates.{Body, records};
 ghost use Rattle.journal_defs.specs.Journal.{JournalRecord, Part, IsJournalBody};
 ghost use Rattle.journal_defs.specs.Sequence.{Placed, Records};
-ghost use Rattle.journal_defs.specs.Growth.{HasGrown, appended, tcoms, with_more, IsNewest, MayFollow, with_journal};
+ghost use Rattle.journal_defs.specs.Growth.{appended, tcoms, with_more, with_journal};
+ghost use Rattle.journal_defs.specs.FileGrowth.{HasGrown, IsNewest, MayFollow};
 ghost use Rattle.journal_defs.specs.Stands.{in_generation, AreRecords};
 ghost use Rattle.journal_defs.specs.Numbers.{INSTANCE, journal_file};
 ghost use Rattle.journal_defs.specs.Instance.{generation, regions};
@@ -26,5 +27,11 @@ pub fn files_hold()
         → new INSTANCE ≡ old INSTANCE → ((h r : ℕ) → h ≤ g → new (journal_file h r) ≡ old (journal_file h r))
         → ((r : ℕ) → r < length (regions s.instance) → HasGrown old new r g (s.journal r) (xs r)) → ((r : ℕ) → length (regions s.instance) ≤ r → xs r ≡ [])
         → AreRecords new (with_more s (λ r. map (in_generation (suc g)) (xs r))) }
+    // files with the same open bodies hold the same records
+    ensures same { (old new : Files) (s : Records) → AreRecords old s → records (new INSTANCE) ≡ records (old INSTANCE)
+        → ((h r : ℕ) → h ≤ generation s.instance → r < length (regions s.instance)
+        → records (new (journal_file h r)) ≡ records (old (journal_file h r))) → AreRecords new s }
     ensures entries { (g : ℕ) (ps : List (ℕ → Option Part)) (r : ℕ) → appended g ps r ≡ map (in_generation g) (tcoms ps r) }
+    ensures first_entries { (g : ℕ) (ps : List (ℕ → Option Part)) (r k : ℕ)
+        → take k (appended g ps r) ≡ map (in_generation g) (take k (tcoms ps r)) }
 {}
