@@ -52,7 +52,7 @@ lists_begin {cmp = cmp} {valid = valid} {code = code} c anti (x ∷ xs) (y ∷ y
     let b : List ℕ = flat_map code ys in
     let split : code y ++ b ≡ code x ++ a = e ∙ append_assoc (code x) (flat_map code xs) rest in
     let tied : ordering_then (cmp x y) (slice_cmp nat_cmp a b) ≡ Equal =
-        sym (c.first x y p.0 q.0 a b) ∙ ap (slice_cmp nat_cmp (code x ++ a)) split ∙ tied_itself nat_list_cmp_total (code x ++ a) in
+    sym (c.first x y p.0 q.0 a b) ∙ ap (slice_cmp nat_cmp (code x ++ a)) split ∙ tied_itself nat_list_cmp_total (code x ++ a) in
     let one : x ≡ y = anti x y (first_equal (cmp x y) (slice_cmp nat_cmp a b) tied) in
     let others : a ≡ b = map.slice_cmp-IsAntisymmetric map.nat_cmp-IsAntisymmetric a b (second_equal (cmp x y) (slice_cmp nat_cmp a b) tied) in
     let more = lists_begin c anti xs ys rest p.1 q.1 (sym others) in

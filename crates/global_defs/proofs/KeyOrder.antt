@@ -67,7 +67,7 @@ begins_under top key h g e =
     let rest : List ℕ = drop (length (encoded top)) (encoded key) in
     let split : encoded key ≡ top.name ++ (0 ∷ (code_of top ++ rest)) = rest_of nat_eq eqb-true (encoded top) (encoded key) e ∙ append_assoc top.name (0 ∷ code_of top) rest in
     let tied : ordering_then (slice_cmp nat_cmp top.name key.name) (slice_cmp nat_cmp (code_of top ++ rest) (code_of key)) ≡ Equal =
-        sym (names_ended top key h g (code_of top ++ rest) (code_of key)) ∙ ap (λ x. slice_cmp nat_cmp x (encoded key)) (sym split) ∙ tied_itself nat_list_cmp_total (encoded key) in
+    sym (names_ended top key h g (code_of top ++ rest) (code_of key)) ∙ ap (λ x. slice_cmp nat_cmp x (encoded key)) (sym split) ∙ tied_itself nat_list_cmp_total (encoded key) in
     let name = first_equal (slice_cmp nat_cmp top.name key.name) (slice_cmp nat_cmp (code_of top ++ rest) (code_of key)) tied in
     let code = map.slice_cmp-IsAntisymmetric map.nat_cmp-IsAntisymmetric (code_of top ++ rest) (code_of key) (second_equal (slice_cmp nat_cmp top.name key.name) (slice_cmp nat_cmp (code_of top ++ rest) (code_of key)) tied) in
     let more = lists_begin sub_code sub_same top.subs key.subs rest (valid_parts top h).subs (valid_parts key g).subs (sym code) in

@@ -49,9 +49,9 @@ value_signless n small =
     let whole = whole_is (n / 10 ^ 18) (omega arith) in
     let fraction = fraction_is (n % 10 ^ 18) (omega arith) in
     let zeros : significant digits ++ replicate (18 - length (significant digits)) 48 ≡ digits =
-        ap (λ k. significant digits ++ replicate (k - length (significant digits)) 48) (sym fraction.length_is) ∙ (padded_back digits).same in
+    ap (λ k. significant digits ++ replicate (k - length (significant digits)) 48) (sym fraction.length_is) ∙ (padded_back digits).same in
     let sum : digits_value 10 w * 10 ^ length digits + digits_value 10 digits ≡ n =
-        (λ i. whole.value i * 10 ^ fraction.length_is i + fraction.value i) ∙ omega arith in
+    (λ i. whole.value i * 10 ^ fraction.length_is i + fraction.value i) ∙ omega arith in
     ap (digits_value 10) (digits_of_parts w (significant digits) whole.digits ∙ ap (λ x. w ++ x) zeros)
     ∙ value_joined w digits
     ∙ sum

@@ -38,9 +38,9 @@ positive_first : (n m : ℕ) (ds es : List ℕ) → nat_cmp n m ≡ ordering_the
 positive_first n m ds es o h g a b = elim (ranks (length ds) (length es)) [
   | below l e ↦ rw (o, e, less (46 + length ds) (46 + length es) (omega arith)) refl
   | same l e ↦ rw (o, e, equal (46 + length ds) (46 + length es) (omega arith))
-    ((λ i. slice_cmp nat_cmp (append_assoc (significant ds) (0 ∷ []) a i) (append_assoc (significant es) (0 ∷ []) b i))
-    ∙ bytes_ended (significant ds) (significant es) a b (some_digits (significant ds) (significant_digits ds h)) (some_digits (significant es) (significant_digits es g))
-    ∙ ap (λ r. ordering_then r (slice_cmp nat_cmp a b)) (significant_ordered ds es h g l))
+      ((λ i. slice_cmp nat_cmp (append_assoc (significant ds) (0 ∷ []) a i) (append_assoc (significant es) (0 ∷ []) b i))
+      ∙ bytes_ended (significant ds) (significant es) a b (some_digits (significant ds) (significant_digits ds h)) (some_digits (significant es) (significant_digits es g))
+      ∙ ap (λ r. ordering_then r (slice_cmp nat_cmp a b)) (significant_ordered ds es h g l))
   | above l e ↦ rw (o, e, greater (46 + length ds) (46 + length es) (omega arith)) refl
 ]
 
@@ -62,9 +62,9 @@ negative_first : (n m : ℕ) (ds es : List ℕ) → nat_cmp m n ≡ ordering_the
 negative_first n m ds es o h g short few a b = elim (ranks (length es) (length ds)) [
   | below l e ↦ rw (o, e, less (209 - length ds) (209 - length es) (omega arith)) refl
   | same l e ↦ rw (o, e, equal (209 - length ds) (209 - length es) (omega arith))
-    ((λ i. slice_cmp nat_cmp (append_assoc (map (λ d. 105 - d) (significant ds)) (255 ∷ []) a i) (append_assoc (map (λ d. 105 - d) (significant es)) (255 ∷ []) b i))
-    ∙ turned_ended (significant ds) (significant es) a b (significant_digits ds h) (significant_digits es g)
-    ∙ ap (λ r. ordering_then r (slice_cmp nat_cmp a b)) (significant_ordered es ds g h l))
+      ((λ i. slice_cmp nat_cmp (append_assoc (map (λ d. 105 - d) (significant ds)) (255 ∷ []) a i) (append_assoc (map (λ d. 105 - d) (significant es)) (255 ∷ []) b i))
+      ∙ turned_ended (significant ds) (significant es) a b (significant_digits ds h) (significant_digits es g)
+      ∙ ap (λ r. ordering_then r (slice_cmp nat_cmp a b)) (significant_ordered es ds g h l))
   | above l e ↦ rw (o, e, greater (209 - length ds) (209 - length es) (omega arith)) refl
 ]
 
@@ -102,7 +102,7 @@ sub_first (Number (pos (suc n))) (Number (pos (suc m))) h g a b =
     let tiny = number_small (pos (suc m)) g in
     rw (int_pos (suc n) (suc m))
     (positive_first (suc n) (suc m) (decimal (suc n)) (decimal (suc m)) (numbers_ordered (suc n) (suc m) (omega arith) (omega arith) (omega arith) (omega arith))
-      (decimal_is (suc n) (omega arith)).digits (decimal_is (suc m) (omega arith)).digits a b)
+    (decimal_is (suc n) (omega arith)).digits (decimal_is (suc m) (omega arith)).digits a b)
 sub_first (Number (pos (suc n))) (Number (negsuc m)) h g a b = rw (int_greater (suc n) m) refl
 sub_first (Number (pos (suc n))) (Text t) h g a b = refl
 sub_first (Number (negsuc n)) (Number (pos zero)) h g a b = rw (int_less n 0) refl
@@ -112,7 +112,7 @@ sub_first (Number (negsuc n)) (Number (negsuc m)) h g a b =
     let tiny = number_small (negsuc m) g in
     rw (int_negative n m)
     (negative_first (suc n) (suc m) (decimal (suc n)) (decimal (suc m)) (numbers_ordered (suc m) (suc n) (omega arith) (omega arith) (omega arith) (omega arith))
-      (decimal_is (suc n) (omega arith)).digits (decimal_is (suc m) (omega arith)).digits (decimal_short (suc n) small) (decimal_short (suc m) tiny) a b)
+    (decimal_is (suc n) (omega arith)).digits (decimal_is (suc m) (omega arith)).digits (decimal_short (suc n) small) (decimal_short (suc m) tiny) a b)
 sub_first (Number (negsuc n)) (Text t) h g a b = refl
 sub_first (Text s) (Number (pos zero)) h g a b = refl
 sub_first (Text s) (Number (pos (suc m))) h g a b = refl
