@@ -8,5 +8,8 @@ mod file;
 mod memdisk;
 mod table;
 
+#[cfg(test)]
+mod tests;
+
 pub use disk::{Disk, Failed, NoMemory};
 pub use memdisk::MemDisk;

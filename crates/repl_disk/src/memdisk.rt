@@ -1,6 +1,6 @@
 //! A disk in memory, which keeps a record of its calls.
 ghost use Rattle.std.specs.Prelude.{◌≡◌, ◌≢◌, ◌≤◌, ◌<◌, ◌+◌, ◌*◌, ◌++◌, ◌^◌, [], ◌∷◌, ℕ, Some, length, reverse, vec_capacity, IfOk, IfSome, OnOk, OnErr, IsTrue};
-ghost use Rattle.disk_defs.specs.Disk.{Image, Files, Reads, RoomStays, Rose};
+ghost use Rattle.disk_defs.specs.Disk.{Files, Image, HasCause};
 ghost use Rattle.repl_disk.specs.Mem.{replay, mem_view, settled, RoomTaken, RoomGiven};
 ghost use Rattle.repl_disk.specs.MemLaws.{mem_lawful};
 ghost use Rattle.repl_disk.specs.Table.{entry_in, lefts, rooms, IsCrashed, AreKept, all_calls, all_bytes};
@@ -48,7 +48,8 @@ pub struct MemDisk {
 impl MemDisk {
     /// A disk without files.
     pub fn new(alloc: Global) -> Result<MemDisk, NoMemory>
-        ensures empty { IfOk result (λ made. (f : ℕ) → (entry_in made.files.items f).mem ≡ settled []) }
+        ensures empty { IfOk result (λ made. (f : ℕ) → (replay (lefts made.files.items) (reverse made.calls.items) made.written.items f).read ≡ []) }
+        ensures images { IfOk result (λ made. (c : Files) → Image (mem_view (lefts made.files.items) (reverse made.calls.items) made.written.items (rooms made.files.items) made.faults) c → (f : ℕ) → c f ≡ []) }
     {
         Ok(MemDisk {
             alloc,
@@ -63,14 +64,19 @@ impl MemDisk {
     }
 }
 
-/// Whether the fuse lets one more call succeed.
-fn burn(fuse: &mut Option<u64>) -> bool {
+/// Burns one call of the fuse. Where none is left the call fails, and is counted.
+fn burn(fuse: &mut Option<u64>, faults: &mut u64) -> Result<(), Failed>
+    ensures { HasCause faults.old faults.new result }
+{
     match *fuse {
-        None => true,
-        Some(0) => false,
+        None => Ok(()),
+        Some(0) => {
+            *faults = faults.saturating_add(1);
+            Err(Failed)
+        }
         Some(calls) => {
             *fuse = Some(calls - 1);
-            true
+            Ok(())
         }
     }
 }
@@ -180,18 +186,12 @@ impl Disk for MemDisk {
     }
 
     fn len(&mut self, file: u32) -> Result<u64, Failed> {
-        if !burn(&mut self.fuse) {
-            self.faults = self.faults.saturating_add(1);
-            return Err(Failed);
-        }
+        burn(&mut self.fuse, &mut self.faults)?;
         Ok(bytes_of(&self.files, file).len() as u64)
     }
 
     fn read_at(&mut self, file: u32, at: u64, buf: &mut [u8]) -> Result<(), Failed> {
-        if !burn(&mut self.fuse) {
-            self.faults = self.faults.saturating_add(1);
-            return Err(Failed);
-        }
+        burn(&mut self.fuse, &mut self.faults)?;
         let bytes = bytes_of(&self.files, file);
         let at = at as usize;
         buf.copy_from_slice(&bytes[at..at + buf.len()]);
@@ -209,19 +209,13 @@ impl Disk for MemDisk {
     }
 
     fn write_at(&mut self, file: u32, at: u64, bytes: &[u8]) -> Result<(), Failed> {
-        if !burn(&mut self.fuse) {
-            self.faults = self.faults.saturating_add(1);
-            return Err(Failed);
-        }
+        burn(&mut self.fuse, &mut self.faults)?;
         self.do_write(file, at, bytes);
         Ok(())
     }
 
     fn sync(&mut self, file: u32) -> Result<(), Failed> {
-        if !burn(&mut self.fuse) {
-            self.faults = self.faults.saturating_add(1);
-            return Err(Failed);
-        }
+        burn(&mut self.fuse, &mut self.faults)?;
         self.do_sync(file);
         Ok(())
     }

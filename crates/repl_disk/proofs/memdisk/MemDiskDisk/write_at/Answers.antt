@@ -4,8 +4,8 @@ use Rattle.repl_disk.specs.Table.{lefts}
 use Rattle.repl_disk.proofs.MemCalls.{same_passes, torn_same, wrote_passes, wrote_reads, written_content}
 use Rattle.repl_disk.proofs.memdisk.MemDiskDisk.write_at.Goals as goal
 
-pub returns-then-not-burn-clause-passes : goal.returns-then-not-burn-clause-passes
-returns-then-not-burn-clause-passes c = same_passes _ (λ x. torn_same c.args.file c.args.at (length c.args.bytes.now) x) _ _ _ _ _ _ _
+pub returns-in_err-burn-clause-passes : goal.returns-in_err-burn-clause-passes
+returns-in_err-burn-clause-passes c = same_passes _ (λ x. torn_same c.args.file c.args.at (length c.args.bytes.now) x) _ _ _ _ _ _ _
 
 pub returns-clause-passes : goal.returns-clause-passes
 returns-clause-passes c =
