@@ -48,12 +48,12 @@ pub key_total : IsTotalOrder key_cmp
 key_total = then_total (on_total (λ (k : Key). k.name) nat_list_cmp_total) (on_total (λ (k : Key). k.subs) subs_total)
 
 -- of two parts that are both equal, each is
-first_equal : (a b : Ordering) → ordering_then a b ≡ Equal → a ≡ Equal
+pub first_equal : (a b : Ordering) → ordering_then a b ≡ Equal → a ≡ Equal
 first_equal Less b e = e
 first_equal Equal b e = refl
 first_equal Greater b e = e
 
-second_equal : (a b : Ordering) → ordering_then a b ≡ Equal → b ≡ Equal
+pub second_equal : (a b : Ordering) → ordering_then a b ≡ Equal → b ≡ Equal
 second_equal Less b e = cc
 second_equal Equal b e = e
 second_equal Greater b e = cc

@@ -2,6 +2,8 @@
 //! that does nothing.
 #![tactic(auto)]
 
+mod encodings;
 mod vectors;
 
+pub use encodings::{encoded_keys_collate, sub_bytes_make_subs};
 pub use vectors::{collation_vectors_hold, key_vectors_hold, order_holds, text_vectors_hold};

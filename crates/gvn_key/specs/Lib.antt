@@ -2,3 +2,4 @@ pub mod Terms
 pub mod Faults
 pub mod Pieces
 pub mod Stripped
+pub mod Decoding

@@ -55,7 +55,7 @@ fn stripped(digits: &[u8]) -> &[u8]
 }
 
 /// Digits without the zeros at the end.
-fn significant(digits: &[u8]) -> &[u8]
+pub fn significant(digits: &[u8]) -> &[u8]
     ensures { result.now ≡ significant digits.now }
 {
     let mut end = digits.len();
@@ -77,7 +77,7 @@ fn push_positive(digits: &[u8], out: &mut Bytes) -> Result<(), NoMemory>
 }
 
 /// Digits turned round, so that the larger one comes first. No digit is above 105.
-fn push_reversed(digits: &[u8], out: &mut Bytes) -> Result<(), NoMemory>
+pub fn push_reversed(digits: &[u8], out: &mut Bytes) -> Result<(), NoMemory>
     ensures { OnOk result (out.new ≡ out.old ++ map (λ d. 105 - d) digits.now) }
 {
     for digit in digits {

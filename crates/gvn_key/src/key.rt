@@ -1,9 +1,9 @@
 //! Keys.
-ghost use Rattle.std.specs.Prelude.{◌≡◌, ◌++◌, ◌∷◌, [], ℕ, length, map, None, IfOk, OnOk, OnErr};
+ghost use Rattle.std.specs.Prelude.{◌≡◌, ◌++◌, ◌∷◌, [], ℕ, true, length, map, None, IfOk, OnOk, OnErr};
 ghost use Rattle.std.specs.List.{list_all, flat_map};
 ghost use Rattle.std.specs.Char.{is_ascii_alphanumeric};
 ghost use Rattle.global_defs.specs.Key.{sub_of};
-ghost use Rattle.global_defs.specs.Valid.{is_name};
+ghost use Rattle.global_defs.specs.Valid.{is_name, is_key};
 ghost use Rattle.global_defs.specs.Encoded.{encoded};
 ghost use Rattle.global_defs.specs.NodeText.{sub_text, subs_text, node_text};
 ghost use Rattle.gvn_key.specs.Faults.{subs_fault, parts_fault, key_of, MakesKey};
@@ -179,7 +179,8 @@ impl Key {
 
     /// The encoded key.
     pub fn as_encoded(&self) -> &[u8]
-        ensures { result.now ≡ encoded self.now }
+        ensures value { result.now ≡ encoded self.now }
+        ensures valid { is_key self.now ≡ true }
     {
         self.code.as_slice()
     }

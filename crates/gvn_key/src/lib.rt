@@ -2,9 +2,13 @@
 #![tactic(auto)]
 
 mod bytes;
+mod decode;
+#[cfg(test)]
+mod decode_tests;
 mod encoding;
 mod key;
 mod numeral;
+mod order;
 pub mod terms;
 #[cfg(test)]
 mod tests;

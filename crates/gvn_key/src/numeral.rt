@@ -7,7 +7,8 @@ ghost use Rattle.global_defs.specs.Numeral.{is_point, is_number, is_whole, is_fr
 /// How many digits a number may have.
 const MOST_DIGITS: usize = 18;
 
-fn are_digits(bytes: &[u8]) -> bool
+/// Whether all bytes are digits.
+pub fn are_digits(bytes: &[u8]) -> bool
     ensures { result ≡ list_all is_ascii_digit bytes.now }
 {
     bytes.iter().all(|b| b.is_ascii_digit())

@@ -1,0 +1,63 @@
+-- Encoded keys read back.
+use Rattle.std.specs.Prelude.{◌≡◌, ℕ, ◌-◌, ◌==◌, ◌&&◌, Bool, true, false, List, [], ◌∷◌, ◌++◌, length, map, position, slice_index, replicate, Option, Some, None, nat_le, if◌then◌else◌}
+use Rattle.std.specs.List.{list_all, flat_map}
+use Rattle.std.specs.Char.{is_ascii_digit}
+use Rattle.std.specs.Str.Parse.{digits_value}
+use Rattle.global_defs.specs.Key.{Key, Sub}
+use Rattle.global_defs.specs.Encoded.{encoded, encoded_sub}
+use Rattle.global_defs.specs.NodeText.{magnitude_text, sub_bytes}
+use Rattle.global_defs.specs.Valid.{is_key, is_sub}
+
+-- what decoding bytes gives: the key that has these bytes, nothing where no key has them
+abbrev pub Decodes : List ℕ → Option Key → Type 0
+Decodes bytes None = (key : Key) → is_key key ≡ true → encoded key ≡ bytes → ⊥
+Decodes bytes (Some key) = (is_key key ≡ true) × (encoded key ≡ bytes)
+
+-- The functions below read what encoding writes. Of other bytes they read something or nothing.
+
+-- the byte that ends a subscript that begins with this one
+abbrev pub end_byte : ℕ → ℕ
+end_byte kind = if kind == 2 then 2 else (if kind == 1 then 255 else 0)
+
+-- where the first subscript ends
+abbrev pub sub_end : List ℕ → Option ℕ
+sub_end bytes = position (λ b. b == end_byte (slice_index bytes 0)) bytes
+
+-- a string's bytes from their escaped form, perhaps behind the first byte of an escape
+abbrev pub unescaped : Bool → List ℕ → List ℕ
+unescaped escaping [] = []
+unescaped true (b ∷ bytes) = (b - 1) ∷ unescaped false bytes
+unescaped false (b ∷ bytes) = if b == 1 then unescaped true bytes else b ∷ unescaped false bytes
+
+-- so many digits at most, and 36 at most
+abbrev pub are_digits : ℕ → List ℕ → Bool
+are_digits count digits = nat_le count 36 && nat_le (length digits) count && list_all is_ascii_digit digits
+
+-- digits with zeros behind them, so many in all
+abbrev pub padded : ℕ → List ℕ → List ℕ
+padded count digits = digits ++ replicate (count - length digits) 48
+
+abbrev pub signed_text : Bool → List ℕ → List ℕ
+signed_text negative text = if negative then 45 ∷ text else text
+
+-- a numeral by the count of digits of 10 ^ 18 times its number, and these digits up to the last that isn't 0
+abbrev pub number_read : Bool → ℕ → List ℕ → Option (List ℕ)
+number_read negative count digits = if are_digits count digits then Some (signed_text negative (magnitude_text (digits_value 10 (padded count digits)))) else None
+
+abbrev pub positive_read : List ℕ → Option (List ℕ)
+positive_read [] = None
+positive_read (exponent ∷ digits) = number_read false (exponent - 46) digits
+
+abbrev pub negative_read : List ℕ → Option (List ℕ)
+negative_read [] = None
+negative_read (exponent ∷ digits) = number_read true (209 - exponent) (map (λ d. 105 - d) digits)
+
+-- a subscript's own bytes from its encoded form without the last byte
+abbrev pub sub_read : List ℕ → Option (List ℕ)
+sub_read [] = Some (48 ∷ [])
+sub_read (kind ∷ bytes) = if kind == 4 then Some (unescaped false bytes) else (if kind == 3 then positive_read bytes else (if kind == 1 then negative_read bytes else None))
+
+-- what reading subscripts gives: their own bytes, nothing only where no subscripts have this form
+abbrev pub ReadsSubs : List ℕ → Option (List (List ℕ)) → Type 0
+ReadsSubs bytes None = (subs : List Sub) → list_all is_sub subs ≡ true → flat_map encoded_sub subs ≡ bytes → ⊥
+ReadsSubs bytes (Some texts) = (subs : List Sub) → list_all is_sub subs ≡ true → flat_map encoded_sub subs ≡ bytes → texts ≡ map sub_bytes subs
