@@ -1,5 +1,5 @@
 -- Codes that keep an order. A list of elements is written as their codes one after another.
-use Rattle.std.proofs.Common.{◌≡◌, ℕ, suc, zero, ◌<◌, ◌≤◌, Bool, true, ◌&&◌, nat_lt, ◌==◌, inl, inr, List, [], ◌∷◌, ◌++◌, length, get_or, refl, ap, sym, ◌∙◌, arith, append_assoc}
+use Rattle.std.proofs.Common.{◌≡◌, ℕ, suc, zero, ◌<◌, ◌≤◌, Bool, true, nat_lt, ◌==◌, inl, inr, List, [], ◌∷◌, ◌++◌, length, refl, ap, sym, ◌∙◌, arith, append_assoc}
 use Rattle.std.specs.declared.cmp.Ordering.{Ordering}
 use Rattle.std.specs.declared.cmp.Ordering.TheVariants.{Less, Equal, Greater}
 use Rattle.std.specs.Ordering.{nat_cmp, ordering_then}
@@ -11,7 +11,7 @@ use Rattle.std.proofs.lemmas.Cmp.{tied_itself}
 use Rattle.std.proofs.Math.ListN.{length-append}
 use Rattle.global_defs.specs.Encoded.{escaped}
 use Rattle.global_defs.proofs.Order.{first_equal, second_equal}
-use Rattle.global_defs.proofs.Ranks.{Ranks, below, same, above, ranks, less, equal, greater, agree, then_then}
+use Rattle.global_defs.proofs.Ranks.{less, equal, greater, agree, then_then}
 
 -- Codes of valid elements that aren't empty, and compare as the elements do whatever follows them. So no code begins another.
 pub record IsOrderedCode {X : Type 0} (cmp : X → X → Ordering) (valid : X → Bool) (code : X → List ℕ) : Type 0 where

@@ -1,10 +1,10 @@
 -- Encoded keys compare as keys do, and begin one another just where one node is under the other.
-use Rattle.std.proofs.Common.{◌≡◌, ℕ, suc, zero, Bool, true, false, ◌&&◌, nat_eq, List, [], ◌∷◌, ◌++◌, length, take, drop, refl, ap, sym, subst, ◌∙◌, arith, append_assoc}
+use Rattle.std.proofs.Common.{◌≡◌, ℕ, Bool, true, false, nat_eq, List, [], ◌∷◌, ◌++◌, length, drop, refl, ap, sym, ◌∙◌, append_assoc}
 use Rattle.std.specs.declared.cmp.Ordering.{Ordering}
 use Rattle.std.specs.declared.cmp.Ordering.TheVariants.{Less, Equal, Greater}
 use Rattle.std.specs.Ordering.{nat_cmp, ordering_then, eq_by_cmp, is_eq}
 use Rattle.std.specs.Cmp.Lexicographic.{slice_cmp, pointwise, nat_list_cmp_total}
-use Rattle.std.specs.List.{list_all, flat_map, starts_with}
+use Rattle.std.specs.List.{flat_map, starts_with}
 use Rattle.std.specs.FinMap as map
 use Rattle.std.proofs.lemmas.Bool.{and_parts, eqb-true}
 use Rattle.std.proofs.lemmas.Cmp.{tied_itself, lists_equiv, eq_by_cmp_equiv, nat_eq_equiv}
@@ -14,7 +14,7 @@ use Rattle.std.proofs.lemmas.Grind.{flat_map-append}
 use Rattle.global_defs.specs.Key.{Key, Sub, sub_cmp, key_cmp}
 use Rattle.global_defs.specs.Encoded.{encoded, encoded_sub}
 use Rattle.global_defs.specs.Entry.{is_under}
-use Rattle.global_defs.specs.Valid.{is_sub, is_key}
+use Rattle.global_defs.specs.Valid.{is_key}
 use Rattle.global_defs.proofs.Order.{sub_total, sub_same, key_same, first_equal, second_equal}
 use Rattle.global_defs.proofs.Codes.{lists_ordered, lists_begin, bytes_ended}
 use Rattle.global_defs.proofs.SubOrder.{sub_code}

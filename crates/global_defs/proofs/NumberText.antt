@@ -1,21 +1,17 @@
 -- A number's text has its value, and where it is a canonical numeral the number has at most 36 digits when it is taken 10 ^ 18 times.
-use Rattle.std.proofs.Common.{◌≡◌, ℕ, ℤ, pos, negsuc, suc, zero, ◌+◌, ◌-◌, ◌*◌, ◌/◌, ◌%◌, ◌^◌, ◌<◌, ◌≤◌, ◌≢◌, ◌-ℤ◌, Bool, true, false, cond, not, ◌&&◌, nat_le, nat_eq, List, [], ◌∷◌, ◌++◌, length, take, drop, replicate, refl, ap, sym, subst, ◌∙◌, arith, append_assoc, get_or, position, Option, Some, None, count_by, inl, inr, add-one, ◌==◌}
-use Rattle.std.specs.List.{list_all, fold}
+use Rattle.std.proofs.Common.{◌≡◌, ℕ, ℤ, pos, negsuc, suc, zero, ◌+◌, ◌-◌, ◌*◌, ◌/◌, ◌%◌, ◌^◌, ◌<◌, ◌≤◌, ◌≢◌, true, false, cond, nat_le, List, [], ◌∷◌, ◌++◌, length, drop, replicate, refl, ap, sym, subst, ◌∙◌, arith, count_by, inl, inr, ◌==◌}
 use Rattle.std.specs.Char.{is_ascii_digit, digit_value}
 use Rattle.std.specs.Str.Parse.{AllDigits, digits_value}
 use Rattle.std.specs.Fmt.{decimal, digits, digits_onto, digit_glyph}
-use Rattle.std.proofs.lemmas.List.{append-nil, length-replicate}
 use Rattle.std.proofs.lemmas.List.Sums.{sum_by-append}
-use Rattle.std.proofs.lemmas.Fmt.{decimal_is_IsNumeral_wide, length-decimal-le_wide, decimal_step_wide, decimal_digit}
+use Rattle.std.proofs.lemmas.Fmt.{decimal_is_IsNumeral_wide, length-decimal-le_wide}
 use Rattle.std.proofs.lemmas.Int.Digits.{digits_value-lt}
-use Rattle.std.proofs.lemmas.Bool.{and_parts, ne_eqb, eqb-true, eqb-false, not-true, leb-true, cases_Bool, cases_eq, cases_lt, lt-ltb, le-ltb, le-leb}
-use Rattle.std.proofs.Math.ListN.{length-append}
+use Rattle.std.proofs.lemmas.Bool.{and_parts, ne_eqb, eqb-true, leb-true, cases_Bool, cases_lt, lt-ltb, le-leb}
 use Rattle.std.proofs.Math.Nat.{pow-succ', pow-le-pow_right}
-use Rattle.global_defs.specs.Numeral.{is_point, is_numeral, is_number, all_digits, digits_at, magnitude, value_of}
+use Rattle.global_defs.specs.Numeral.{is_numeral, is_number}
 use Rattle.global_defs.specs.Encoded.{kept, significant}
-use Rattle.global_defs.specs.NodeText.{whole_digits, pointed, fraction_digits, magnitude_text, number_text}
-use Rattle.global_defs.proofs.Digits.{value_shift, value_joined}
-use Rattle.global_defs.proofs.Places.{none_pass, position_behind, position_nowhere}
+use Rattle.global_defs.specs.NodeText.{whole_digits, fraction_digits, magnitude_text, number_text}
+use Rattle.global_defs.proofs.Digits.{value_shift}
 
 pub power_le : (i j : ℕ) → i ≤ j → 10 ^ i ≤ 10 ^ j
 power_le i j h = pow-le-pow_right {n = 10} (omega arith) h
@@ -118,6 +114,13 @@ kept_padded d ds (e ∷ more) fits same =
 pub padded_back : (ds : List ℕ) → IsPadded ds
 padded_back [] = record { fits = omega arith; same = refl }
 padded_back (d ∷ ds) = let p = padded_back ds in let q = kept_padded d ds (significant ds) p.fits p.same in record { fits = q.0; same = q.1 }
+
+first_digits : (xs ys : List ℕ) → AllDigits 10 (xs ++ ys) → AllDigits 10 xs
+first_digits [] ys h = tt
+first_digits (x ∷ xs) ys h = (h.0, first_digits xs ys h.1)
+
+pub significant_digits : (ds : List ℕ) → AllDigits 10 ds → AllDigits 10 (significant ds)
+significant_digits ds h = let p = padded_back ds in first_digits (significant ds) _ (subst (AllDigits 10) (sym p.same) h)
 
 -- the 18 digits behind the point
 

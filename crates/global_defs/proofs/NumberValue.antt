@@ -1,7 +1,6 @@
 -- A number's text has its value, and so a subscript's own bytes make it again.
-use Rattle.std.proofs.Common.{◌≡◌, ℕ, ℤ, pos, negsuc, suc, zero, ◌+◌, ◌-◌, ◌*◌, ◌/◌, ◌%◌, ◌^◌, ◌<◌, ◌≤◌, ◌≢◌, ◌-ℤ◌, Bool, true, false, cond, not, ◌&&◌, nat_lt, nat_eq, List, [], ◌∷◌, ◌++◌, length, take, drop, replicate, map, refl, ap, sym, subst, ◌∙◌, arith, append_assoc, get_or, position, Option, Some, None, inl, inr, add-one, ◌==◌}
+use Rattle.std.proofs.Common.{◌≡◌, ℕ, ℤ, pos, negsuc, suc, zero, ◌+◌, ◌-◌, ◌*◌, ◌/◌, ◌%◌, ◌^◌, ◌<◌, ◌≢◌, ◌-ℤ◌, true, not, nat_lt, List, [], ◌∷◌, ◌++◌, length, drop, replicate, map, refl, ap, sym, subst, ◌∙◌, arith, get_or, position, inl, inr}
 use Rattle.std.specs.List.{list_all}
-use Rattle.std.specs.Char.{digit_value}
 use Rattle.std.specs.Str.Parse.{AllDigits, digits_value}
 use Rattle.std.specs.Fmt.{decimal}
 use Rattle.std.proofs.lemmas.List.{append-nil}
@@ -11,7 +10,7 @@ use Rattle.std.proofs.lemmas.Str.Parse.{digit_from_value}
 use Rattle.global_defs.specs.Numeral.{is_point, is_number, all_digits, digits_at, magnitude, value_of}
 use Rattle.global_defs.specs.Encoded.{significant}
 use Rattle.global_defs.specs.Key.{Sub, Number, Text, sub_of}
-use Rattle.global_defs.specs.NodeText.{whole_digits, pointed, fraction_digits, magnitude_text, number_text, sub_bytes}
+use Rattle.global_defs.specs.NodeText.{whole_digits, pointed, magnitude_text, number_text, sub_bytes}
 use Rattle.global_defs.specs.Valid.{is_sub}
 use Rattle.global_defs.proofs.Digits.{value_joined}
 use Rattle.global_defs.proofs.Numerals.{below_zero}

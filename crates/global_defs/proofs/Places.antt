@@ -1,8 +1,8 @@
 -- Where the first element that passes a test stands.
-use Rattle.std.proofs.Common.{◌≡◌, ℕ, suc, zero, ◌+◌, ◌<◌, Bool, true, false, cond, not, nat_lt, List, [], ◌∷◌, ◌++◌, length, position, refl, ap, sym, ◌∙◌, arith, Option, Some, None}
+use Rattle.std.proofs.Common.{◌≡◌, ℕ, ◌<◌, Bool, true, not, List, [], ◌∷◌, ◌++◌, length, position, refl, arith, Some, None}
 use Rattle.std.specs.List.{list_all, position_or_len}
 use Rattle.std.proofs.Math.ListN.{length-append}
-use Rattle.std.proofs.lemmas.Bool.{and_parts, not-true, lt-ltb, le-ltb}
+use Rattle.std.proofs.lemmas.Bool.{and_parts, lt-ltb, le-ltb}
 
 -- no element passes the test
 abbrev pub none_pass : (ℕ → Bool) → List ℕ → Bool

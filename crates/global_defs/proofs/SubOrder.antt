@@ -1,6 +1,5 @@
 -- Encoded subscripts compare as subscripts do, whatever follows them.
-use Rattle.std.proofs.Common.{◌≡◌, ℕ, ℤ, pos, negsuc, suc, zero, ◌+◌, ◌-◌, ◌^◌, ◌<◌, ◌≤◌, Bool, true, ◌&&◌, not, nat_lt, List, [], ◌∷◌, ◌++◌, length, map, refl, ap, sym, subst, ◌∙◌, arith, append_assoc, ◌<ℤ◌}
-use Rattle.std.specs.declared.cmp.Ordering.{Ordering}
+use Rattle.std.proofs.Common.{◌≡◌, ℕ, pos, negsuc, suc, zero, ◌+◌, ◌-◌, ◌<◌, ◌≤◌, true, List, [], ◌∷◌, ◌++◌, length, map, refl, ap, sym, ◌∙◌, arith, append_assoc}
 use Rattle.std.specs.declared.cmp.Ordering.TheVariants.{Less, Equal, Greater}
 use Rattle.std.specs.Ordering.{nat_cmp, int_cmp, ordering_then}
 use Rattle.std.specs.Cmp.{int_cmp_is}
@@ -8,28 +7,21 @@ use Rattle.std.specs.Cmp.Lexicographic.{slice_cmp}
 use Rattle.std.specs.List.{list_all, flat_map}
 use Rattle.std.specs.Str.Parse.{AllDigits}
 use Rattle.std.specs.Fmt.{decimal}
-use Rattle.std.proofs.lemmas.Bool.{and_parts, lt-ltb}
+use Rattle.std.proofs.lemmas.Bool.{lt-ltb}
 use Rattle.std.proofs.lemmas.Int.{ints}
 use Rattle.std.proofs.lemmas.Str.Parse.{digit_from_value}
 use Rattle.global_defs.specs.Key.{Sub, Number, Text, sub_cmp}
 use Rattle.global_defs.specs.Encoded.{significant, positive_sub, negative_sub, escaped, encoded_sub}
 use Rattle.global_defs.specs.Valid.{is_sub}
-use Rattle.global_defs.proofs.NumberText.{unsigned, number_small, decimal_is, decimal_short, padded_back}
+use Rattle.global_defs.proofs.NumberText.{number_small, decimal_is, decimal_short, significant_digits}
 use Rattle.global_defs.proofs.NumberOrder.{numbers_ordered, significant_ordered}
 use Rattle.global_defs.proofs.Codes.{IsOrderedCode, is_some_byte, bytes_ended, escaped_ended}
-use Rattle.global_defs.proofs.Ranks.{Ranks, below, same, above, ranks, less, equal, greater, agree, then_then}
+use Rattle.global_defs.proofs.Ranks.{below, same, above, ranks, less, equal, greater, agree, then_then}
 
 -- a digit is above 0 and at most 57
 some_digits : (ds : List ℕ) → AllDigits 10 ds → list_all is_some_byte ds ≡ true
 some_digits [] h = refl
 some_digits (d ∷ ds) h = rw (lt-ltb 0 d (omega (arith, digit_from_value d h.0))) (some_digits ds h.1)
-
-first_digits : (xs ys : List ℕ) → AllDigits 10 (xs ++ ys) → AllDigits 10 xs
-first_digits [] ys h = tt
-first_digits (x ∷ xs) ys h = (h.0, first_digits xs ys h.1)
-
-significant_digits : (ds : List ℕ) → AllDigits 10 ds → AllDigits 10 (significant ds)
-significant_digits ds h = let p = padded_back ds in first_digits (significant ds) _ (subst (AllDigits 10) (sym p.same) h)
 
 -- positive numbers
 

@@ -1,10 +1,9 @@
 -- Reading an encoded subscript gives its own bytes.
-use Rattle.std.proofs.Common.{◌≡◌, ℕ, pos, negsuc, suc, zero, ◌+◌, ◌-◌, ◌^◌, ◌<◌, ◌≤◌, Bool, true, false, not, ◌&&◌, List, [], ◌∷◌, ◌++◌, length, replicate, map, refl, ap, sym, ◌∙◌, arith, Some, inl, inr, ◌==◌}
+use Rattle.std.proofs.Common.{◌≡◌, ℕ, pos, negsuc, suc, zero, ◌+◌, ◌-◌, ◌^◌, ◌<◌, ◌≤◌, Bool, true, false, not, List, [], ◌∷◌, ◌++◌, length, map, refl, ap, ◌∙◌, arith, Some, inl, inr, ◌==◌}
 use Rattle.std.specs.List.{list_all, flat_map}
 use Rattle.std.specs.Char.{is_ascii_digit}
 use Rattle.std.specs.Str.Parse.{AllDigits, digits_value}
 use Rattle.std.specs.Fmt.{decimal}
-use Rattle.std.proofs.lemmas.List.Folds.{list_all-append}
 use Rattle.std.proofs.lemmas.Bool.{and_parts, ne_eqb, eqb-true, eqb-false, le-leb, cases_Bool}
 use Rattle.std.proofs.lemmas.Str.Parse.{digit_from_value}
 use Rattle.global_defs.specs.Key.{Sub, Number, Text}
@@ -13,7 +12,7 @@ use Rattle.global_defs.specs.NodeText.{magnitude_text, sub_bytes}
 use Rattle.global_defs.specs.Valid.{is_sub}
 use Rattle.global_defs.proofs.Digits.{digit_bounds}
 use Rattle.global_defs.proofs.Places.{none_pass, position_behind}
-use Rattle.global_defs.proofs.NumberText.{number_small, decimal_is, decimal_short, padded_back}
+use Rattle.global_defs.proofs.NumberText.{number_small, decimal_is, decimal_short, padded_back, significant_digits}
 use Rattle.gvn_key.specs.Decoding.{sub_end, unescaped, padded, signed_text, number_read, sub_read}
 
 -- a subscript's bytes but the last, and the last
@@ -55,11 +54,8 @@ written n small =
     let ds : List ℕ = decimal n in
     let d = decimal_is n (omega arith) in
     let p = padded_back ds in
-    let zeros : List ℕ = replicate (length ds - length (significant ds)) 48 in
-    let all : list_all is_ascii_digit (significant ds) && list_all is_ascii_digit zeros ≡ true =
-    sym (list_all-append is_ascii_digit (significant ds) zeros) ∙ ap (list_all is_ascii_digit) p.same ∙ ascii_digits ds d.digits in
     record {
-      digits = (and_parts (list_all is_ascii_digit (significant ds)) (list_all is_ascii_digit zeros) all).0;
+      digits = ascii_digits (significant ds) (significant_digits ds d.digits);
       fits = p.fits;
       short = decimal_short n small;
       same = p.same;

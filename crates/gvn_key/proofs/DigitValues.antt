@@ -4,7 +4,6 @@ use Rattle.std.specs.List.{list_all}
 use Rattle.std.specs.Char.{is_ascii_digit}
 use Rattle.std.specs.Str.Parse.{digits_value}
 use Rattle.std.proofs.Math.ListN.{length-append, length-take}
-use Rattle.std.proofs.Math.Nat.{pow-le-pow_right}
 use Rattle.std.proofs.lemmas.Bool.{and_parts}
 use Rattle.std.proofs.lemmas.List.{length-replicate, take-append-drop}
 use Rattle.std.proofs.lemmas.List.Folds.{list_all-append}
@@ -12,12 +11,12 @@ use Rattle.std.proofs.lemmas.Int.Digits.{digits_value-lt, digits_value_more}
 use Rattle.std.proofs.lemmas.Str.{digit_value_digit}
 use Rattle.std.proofs.lemmas.Str.Parse.{digit_at}
 use Rattle.global_defs.proofs.Digits.{are_digits}
+use Rattle.global_defs.proofs.NumberText.{power_le}
 use Rattle.gvn_key.specs.Decoding.{padded}
 
 value_small : (ds : List ℕ) (n : ℕ) → list_all is_ascii_digit ds ≡ true → length ds ≤ n → digits_value 10 ds < 10 ^ n
 value_small ds n all few =
-    let most : 10 ^ length ds ≤ 10 ^ n = pow-le-pow_right {n = 10} (omega arith) few in
-    omega (arith, digits_value-lt 10 ds (are_digits ds all), most)
+    omega (arith, digits_value-lt 10 ds (are_digits ds all), power_le (length ds) n few)
 
 first_digits : (ds : List ℕ) (i : ℕ) → list_all is_ascii_digit ds ≡ true → list_all is_ascii_digit (take i ds) ≡ true
 first_digits ds i all =

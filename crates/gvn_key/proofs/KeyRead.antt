@@ -18,7 +18,7 @@ use Rattle.gvn_key.specs.Decoding.{ReadsSubs}
 use Rattle.gvn_key.specs.declared.key.KeyError.{KeyError}
 use Rattle.gvn_key.specs.declared.key.KeyError.TheVariants.{BadName, NameTooLong, BadSub, NullSub, TooManySubs, KeyTooLong, NoMemory}
 use Rattle.std.specs.declared.result.Result.TheVariants.{Err}
-use Rattle.gvn_key.proofs.Subscripts.{rest_is}
+use Rattle.gvn_key.proofs.Subscripts.{same_place, rest_is}
 
 -- where the name ends
 
@@ -37,9 +37,6 @@ end_known bytes key h e = ap (position (λ b. b == 0)) (sym e) ∙ name_end key 
 pub record IsCut (bytes : List ℕ) (end : ℕ) (key : Key) : Type 0 where
   pub name : take end bytes ≡ key.name
   pub subs : flat_map encoded_sub key.subs ≡ drop (end + 1) bytes
-
-same_place : (m n : ℕ) → Some m ≡ Some n → m ≡ n
-same_place m n e = cc
 
 pub cut : (bytes : List ℕ) (end : ℕ) (key : Key) → position (λ b. b == 0) bytes ≡ Some end → is_key key ≡ true → encoded key ≡ bytes → IsCut bytes end key
 cut bytes end key at h e =

@@ -66,7 +66,7 @@ next texts rest subs some p = go p.others p.valid p.code p.joined
     go [] h e j = absurd (omega (arith, ap length e))
     go (s ∷ ss) h e j = subst (λ x. IsNext texts x subs) (sym (code_parts s ss) ∙ e) (next_of texts subs s ss h j)
 
-same_place : (m n : ℕ) → Some m ≡ Some n → m ≡ n
+pub same_place : (m n : ℕ) → Some m ≡ Some n → m ≡ n
 same_place m n e = cc
 
 -- where the rest doesn't end a subscript, or ends none that is read, no subscripts have the code

@@ -3,6 +3,7 @@ use super::bytes::Bytes;
 use super::key::Key;
 use std::alloc::Global;
 use std::cmp::Ordering;
+use std::collections::BTreeMap;
 use std::test::Fail;
 
 /// The subscript of `^X`, none where it is empty, and the encoded key.
@@ -60,12 +61,15 @@ fn worked_keys(rt: HostRuntime) -> Result<(), Fail> {
 fn order(rt: HostRuntime) -> Result<(), Fail> {
     let alloc = rt.alloc();
     let top = node(alloc, b"")?;
-    let mut last = node(alloc, b"")?;
-    for sub in ORDERED {
+    let mut places = BTreeMap::new(alloc);
+    for (place, sub) in ORDERED.iter().enumerate().rev() {
         let key = node(alloc, sub)?;
-        assert_eq!(rt; last.compare(&key), Ordering::Less);
+        assert!(rt; top < key && key == key.copy()?);
         assert!(rt; key.is_under(&top) && key.is_under(&key) && !top.is_under(&key));
-        last = key;
+        places.insert(key, place)?;
+    }
+    for (want, place) in places.values().enumerate() {
+        assert_eq!(rt; *place, want);
     }
     Ok(())
 }

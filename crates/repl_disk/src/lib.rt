@@ -7,7 +7,6 @@ mod disk;
 mod file;
 mod memdisk;
 mod table;
-
 #[cfg(test)]
 mod tests;
 

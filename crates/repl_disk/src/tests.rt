@@ -74,7 +74,10 @@ fn picks_of_a_crash(rt: HostRuntime) -> Result<(), Fail> {
         assert!(rt; has(&mut disk, 3, three)?, "file 3 at pick {pick}");
         assert!(rt; has(&mut disk, 7, seven)?, "file 7 at pick {pick}");
         disk.crash(0);
-        assert!(rt; has(&mut disk, 3, three)?, "what a crash left is on the disk");
+        assert!(rt;
+            has(&mut disk, 3, three)?,
+            "what a crash left is on the disk"
+        );
     }
     Ok(())
 }
