@@ -1,0 +1,238 @@
+-- What is known of an input once lines of it were taken.
+use Rattle.std.proofs.Common.{◌≡◌, ℕ, ◌+◌, ◌-◌, ◌<◌, ◌≤◌, ◌==◌, Bool, true, false, List, [], ◌∷◌, ◌++◌, length, map, take, None, Some, refl, ap, sym, ◌∙◌, append_assoc, subst, inl, inr, arith, nat_le, length-append, lit≤}
+use Rattle.std.specs.Prelude.{Option, IfSome, codes}
+use Rattle.std.specs.List.{list_all, list_any, flat_map, AllByRecursion}
+use Rattle.std.specs.Io.KnownBytes.{Consumes, IsAtEnd, Keeps}
+use Rattle.std.proofs.lemmas.List.{take_at, append-nil}
+use Rattle.std.proofs.lemmas.List.Concat.{flat_map-append}
+use Rattle.std.proofs.lemmas.Bool.{leb-true, cases_Bool}
+use Rattle.world_defs.specs.Lines.{onto, lines_of, ended}
+use Rattle.world_defs.specs.Script.{Setting, is_setting, setting_line, whole, IsFront, IsOpen, IsBadAt}
+use Rattle.site_runner.specs.declared.reader.Stage.{Stage}
+use Rattle.site_runner.specs.declared.reader.Stage.TheVariants.{Begun, Created, Started, Open, Ended, Extracted, Stopped}
+use Rattle.site_runner.specs.Told.{IsPiece}
+use Rattle.site_runner.specs.Positions.{Position, lines_at, Reads, IsBad}
+use Rattle.site_runner.proofs.Told.{consumes_then}
+use Rattle.site_runner.proofs.Cuts.{split_and, split_or}
+use Rattle.site_runner.proofs.LineLaws.{is_clean, last_line, first_line, lines_ended}
+use Rattle.site_runner.proofs.Fronts.{Next, next_of}
+
+pub if_some : {A : Type 0} (o : Option A) (P Q : A → Type 0) → ((x : A) → P x → Q x) → IfSome o P → IfSome o Q
+if_some None P Q f h = tt
+if_some (Some x) P Q f h = f x h
+
+-- what holds of every input that begins with these lines holds of this one
+pub in_told : (o m : Option (List ℕ)) (taken : List (List ℕ)) (P : List ℕ → Type 0) → list_all is_clean taken ≡ true → Consumes o m (ended taken)
+    → ((input : List ℕ) (more : List (List ℕ)) → o ≡ Some input → lines_of input ≡ taken ++ more → P input) → IfSome o P
+in_told None m taken P h c f = tt
+in_told (Some u) None taken P h c f = absurd c
+in_told (Some u) (Some v) taken P h c f = f u (lines_of v) refl (ap lines_of c ∙ lines_ended taken v h)
+
+-- all bytes were taken
+all_taken : (o n : Option (List ℕ)) (bytes : List ℕ) → Consumes o n bytes → IsAtEnd n → IfSome o (λ input. input ≡ bytes)
+all_taken None n bytes c e = tt
+all_taken (Some u) None bytes c e = absurd c
+all_taken (Some u) (Some v) bytes c e = c ∙ ap (λ x. bytes ++ x) e ∙ append-nil bytes
+
+abbrev pub LinesAre : Option (List ℕ) → List (List ℕ) → Type 0
+LinesAre o lines = IfSome o (λ input. lines_of input ≡ lines)
+
+-- at the end, with nothing behind the last line feed
+pub lines_at_end : (o n : Option (List ℕ)) (lines : List (List ℕ)) → list_all is_clean lines ≡ true → Consumes o n (ended lines) → IsAtEnd n → LinesAre o lines
+lines_at_end o n lines h c e =
+    if_some o (λ input. input ≡ ended lines) (λ input. lines_of input ≡ lines)
+    (λ input s. ap lines_of (s ∙ sym (append-nil (ended lines))) ∙ lines_ended lines [] h ∙ append-nil lines) (all_taken o n (ended lines) c e)
+
+pub then_nothing : (o m n : Option (List ℕ)) (bytes : List ℕ) → Consumes o m bytes → Consumes m n [] → Consumes o n bytes
+then_nothing o m n bytes a b = subst (λ (x : List ℕ). Consumes o n x) (append-nil bytes) (consumes_then o m n bytes [] a b)
+
+pub kept_nothing : (m n : Option (List ℕ)) → Keeps m n → Consumes m n []
+kept_nothing None n k = tt
+kept_nothing (Some u) None k = absurd k
+kept_nothing (Some u) (Some v) k = sym k
+
+-- at the end, behind a last line without its line feed
+pub lines_at_last : (o m n : Option (List ℕ)) (lines : List (List ℕ)) (line : List ℕ) → list_all is_clean lines ≡ true → IsPiece line → 0 < length line → Consumes o m (ended lines) → Consumes m n line → IsAtEnd n → LinesAre o (lines ++ line ∷ [])
+lines_at_last o m n lines line h p l a b e =
+    if_some o (λ input. input ≡ ended lines ++ line) (λ input. lines_of input ≡ lines ++ line ∷ [])
+    (λ input s. ap lines_of s ∙ lines_ended lines line h ∙ ap (λ x. lines ++ x) (last_line line p l)) (all_taken o n (ended lines ++ line) (consumes_then o m n (ended lines) line a b) e)
+
+pub one_more_line : (o m n : Option (List ℕ)) (lines : List (List ℕ)) (line : List ℕ) → Consumes o m (ended lines) → Consumes m n (line ++ 10 ∷ []) → Consumes o n (ended (lines ++ line ∷ []))
+one_more_line o m n lines line a b =
+    let e : ended lines ++ (line ++ 10 ∷ []) ≡ ended (lines ++ line ∷ []) = ap (λ x. ended lines ++ x) (sym (append-nil (line ++ 10 ∷ []))) ∙ sym (flat_map-append (λ l. l ++ 10 ∷ []) lines (line ∷ [])) in
+    subst (λ (x : List ℕ). Consumes o n x) e (consumes_then o m n (ended lines) (line ++ 10 ∷ []) a b)
+
+pub more_clean : (lines : List (List ℕ)) (line : List ℕ) → list_all is_clean lines ≡ true → IsPiece line → list_all is_clean (lines ++ line ∷ []) ≡ true
+more_clean [] line h p = rw p refl
+more_clean (l ∷ lines) line h p =
+    let s = split_and (is_clean l) (list_all is_clean lines) h in
+    rw s.0 (more_clean lines line s.1 p)
+
+pub one_longer : (lines : List (List ℕ)) (line : List ℕ) (k : ℕ) → length lines ≡ k → length (lines ++ line ∷ []) ≡ k + 1
+one_longer lines line k e = omega (arith, e, length-append lines (line ∷ []))
+
+pub longer_bytes : (lines : List (List ℕ)) (line : List ℕ) → length (ended (lines ++ line ∷ [])) ≡ length (ended lines) + (length line + 1)
+longer_bytes lines line =
+    let e : ended (lines ++ line ∷ []) ≡ ended lines ++ (line ++ 10 ∷ []) = flat_map-append (λ l. l ++ 10 ∷ []) lines (line ∷ []) ∙ ap (λ x. ended lines ++ x) (append-nil (line ++ 10 ∷ [])) in
+    ap length e ∙ omega (arith, length-append (ended lines) (line ++ 10 ∷ []), length-append line (10 ∷ []))
+
+-- the input begins with these lines and then this one
+abbrev pub Begin : Option (List ℕ) → List (List ℕ) → List ℕ → Type 0
+Begin o lines line = IfSome o (λ input. (more : List (List ℕ)) × (lines_of input ≡ lines ++ line ∷ more))
+
+-- the input is these bytes and others
+front_taken : (o n : Option (List ℕ)) (bytes : List ℕ) → Consumes o n bytes → IfSome o (λ input. (rest : List ℕ) × (input ≡ bytes ++ rest))
+front_taken None n bytes c = tt
+front_taken (Some u) None bytes c = absurd c
+front_taken (Some u) (Some v) bytes c = (v, c)
+
+pub begin_fed : (o m n : Option (List ℕ)) (lines : List (List ℕ)) (line : List ℕ) → list_all is_clean lines ≡ true → IsPiece line → Consumes o m (ended lines) → Consumes m n (line ++ 10 ∷ []) → Begin o lines line
+begin_fed o m n lines line h p a b =
+    if_some o (λ input. (rest : List ℕ) × (input ≡ (ended lines ++ (line ++ 10 ∷ [])) ++ rest)) (λ input. (more : List (List ℕ)) × (lines_of input ≡ lines ++ line ∷ more))
+    (λ input (rest, s). (lines_of rest, ap lines_of (s ∙ fed_parts lines line rest) ∙ lines_ended lines (line ++ 10 ∷ rest) h ∙ ap (λ x. lines ++ x) (first_line line rest p)))
+    (front_taken o n (ended lines ++ (line ++ 10 ∷ [])) (consumes_then o m n (ended lines) (line ++ 10 ∷ []) a b))
+  where
+    fed_parts : (lines : List (List ℕ)) (line rest : List ℕ) → (ended lines ++ (line ++ 10 ∷ [])) ++ rest ≡ ended lines ++ (line ++ 10 ∷ rest)
+    fed_parts lines line rest = append_assoc (ended lines) (line ++ 10 ∷ []) rest ∙ ap (λ x. ended lines ++ x) (append_assoc line (10 ∷ []) rest)
+
+pub begin_last : (o : Option (List ℕ)) (lines : List (List ℕ)) (line : List ℕ) → LinesAre o (lines ++ line ∷ []) → Begin o lines line
+begin_last o lines line l = if_some o (λ input. lines_of input ≡ lines ++ line ∷ []) (λ input. (more : List (List ℕ)) × (lines_of input ≡ lines ++ line ∷ more)) (λ input s. ([], s)) l
+
+front_at : (stage : Stage) (settings : List Setting) → list_all is_setting settings ≡ true → IsFront (lines_at stage settings)
+front_at Begun settings e = record { settings = settings; each = e; more = whole settings; spelled = refl }
+front_at Created settings e = record { settings = settings; each = e; more = codes "START A PRIMARY" ∷ codes "RUN A" ∷ (map setting_line settings ++ codes "END" ∷ codes "EXTRACT A" ∷ codes "STOP A" ∷ []); spelled = refl }
+front_at Started settings e = record { settings = settings; each = e; more = codes "RUN A" ∷ (map setting_line settings ++ codes "END" ∷ codes "EXTRACT A" ∷ codes "STOP A" ∷ []); spelled = refl }
+front_at Open settings e = record { settings = settings; each = e; more = codes "END" ∷ codes "EXTRACT A" ∷ codes "STOP A" ∷ []; spelled = refl }
+front_at Ended settings e = record { settings = settings; each = e; more = codes "EXTRACT A" ∷ codes "STOP A" ∷ []; spelled = ap (λ (x : List (List ℕ)). codes "CREATE A R" ∷ codes "START A PRIMARY" ∷ codes "RUN A" ∷ x) (append_assoc (map setting_line settings) (codes "END" ∷ []) (codes "EXTRACT A" ∷ codes "STOP A" ∷ [])) }
+front_at Extracted settings e = record { settings = settings; each = e; more = codes "STOP A" ∷ []; spelled = ap (λ (x : List (List ℕ)). codes "CREATE A R" ∷ codes "START A PRIMARY" ∷ codes "RUN A" ∷ x) (append_assoc (map setting_line settings) (codes "END" ∷ codes "EXTRACT A" ∷ []) (codes "STOP A" ∷ [])) }
+front_at Stopped settings e = record { settings = settings; each = e; more = []; spelled = append-nil (whole settings) }
+
+-- lines that were taken begin a script
+pub is_front : (p : Position) (taken unended : List (List ℕ)) → Reads p taken unended → IsFront taken
+is_front p taken unended r = subst IsFront (sym r.spelled) (front_at p.stage r.settings r.each)
+
+pub is_open : (p : Position) (taken unended : List (List ℕ)) → Reads p taken unended → p.stage ≡ Open → IsOpen taken
+is_open p taken unended r e = record { settings = r.settings; each = r.each; spelled = r.spelled ∙ ap (λ (x : Stage). lines_at x r.settings) e }
+
+take_one : (lines : List (List ℕ)) (line : List ℕ) (more : List (List ℕ)) → take (length lines + 1) (lines ++ line ∷ more) ≡ lines ++ line ∷ []
+take_one lines line more =
+    let n : length (lines ++ line ∷ []) ≡ length lines + 1 = omega (arith, length-append lines (line ∷ [])) in
+    ap (take (length lines + 1)) (sym (append_assoc lines (line ∷ []) more)) ∙ take_at (lines ++ line ∷ []) more (length lines + 1) n
+
+-- the first line that no script has there
+pub bad_at : (lines : List (List ℕ)) (line : List ℕ) (more : List (List ℕ)) (n : ℕ) → n ≡ length lines + 1 → IsFront lines → IsBad lines line → IsBadAt (lines ++ line ∷ more) n
+bad_at lines line more n k f b =
+    let before : take (n - 1) (lines ++ line ∷ more) ≡ lines = take_at lines (line ∷ more) (n - 1) (omega (arith, k)) in
+    let here : take n (lines ++ line ∷ more) ≡ lines ++ line ∷ [] = ap (λ x. take x (lines ++ line ∷ more)) k ∙ take_one lines line more in
+    inr (omega (arith, k, length-append lines (line ∷ more)), subst IsFront (sym before) f, inl (λ g. b [] (subst IsFront here g)))
+
+-- a first line of more bytes
+record Longer (line bytes : List ℕ) : Type 0 where
+  rest : List ℕ
+  more : List (List ℕ)
+  spelled : lines_of bytes ≡ (line ++ rest) ∷ more
+
+onto_some : (b : ℕ) (ls : List (List ℕ)) → (x : List ℕ) × ((more : List (List ℕ)) × (onto b ls ≡ (b ∷ x) ∷ more))
+onto_some b [] = ([], ([], refl))
+onto_some b (l ∷ ls) = (l, (ls, refl))
+
+onto_clean : (b : ℕ) (bytes l : List ℕ) (more : List (List ℕ)) → (b == 10) ≡ false → lines_of bytes ≡ l ∷ more → lines_of (b ∷ bytes) ≡ (b ∷ l) ∷ more
+onto_clean b bytes l more h e = rw (h, e) refl
+
+longer : (line rest : List ℕ) → list_any (λ b. b == 10) line ≡ false → 0 < length line → Longer line (line ++ rest)
+longer [] rest h n = absurd (omega arith)
+longer (b ∷ []) rest h n =
+    let s = split_or (b == 10) false h in
+    let o = onto_some b (lines_of rest) in
+    record { rest = o.0; more = o.1.0; spelled = rw s.0 o.1.1 }
+longer (b ∷ c ∷ bs) rest h n =
+    let s = split_or (b == 10) (list_any (λ b. b == 10) (c ∷ bs)) h in
+    let l = longer (c ∷ bs) rest s.1 (omega arith) in
+    record { rest = l.rest; more = l.more; spelled = onto_clean b ((c ∷ bs) ++ rest) ((c ∷ bs) ++ l.rest) l.more s.0 l.spelled }
+
+-- no line of a script is longer than 4096 bytes
+abbrev IsShort : List ℕ → Type 0
+IsShort line = length line ≤ 4096
+
+short_setting : (s : Setting) → is_setting s ≡ true → IsShort (setting_line s)
+short_setting s h =
+    let a = split_and _ _ h in
+    let b = split_and _ _ a.0 in
+    let c = split_and _ _ b.0 in
+    let d = split_and _ _ c.0 in
+    let e = split_and _ _ d.0 in
+    let v : length s.value ≤ 1500 = leb-true (length s.value) 1500 a.1 in
+    let i : length s.index ≤ 9 = leb-true (length s.index) 9 c.1 in
+    let n : length s.name ≤ 31 = leb-true (length s.name) 31 e.1 in
+    omega (arith, v, i, n, length-append s.name (40 ∷ (s.index ++ 41 ∷ 61 ∷ 34 ∷ (s.value ++ 34 ∷ []))), length-append s.index (41 ∷ 61 ∷ 34 ∷ (s.value ++ 34 ∷ [])), length-append s.value (34 ∷ []))
+
+short_tail : (lines js : List (List ℕ)) (line : List ℕ) (rest : List (List ℕ)) → AllByRecursion IsShort js → lines ++ line ∷ rest ≡ js → IsShort line
+short_tail [] [] line rest s e = cc
+short_tail [] (j ∷ js) line rest s e = let same : j ≡ line = cc in subst IsShort same s.0
+short_tail (l ∷ lines) [] line rest s e = cc
+short_tail (l ∷ lines) (j ∷ js) line rest s e = short_tail lines js line rest s.1 cc
+
+short_settings : (settings : List Setting) (end : List (List ℕ)) → list_all is_setting settings ≡ true → AllByRecursion IsShort end → AllByRecursion IsShort (map setting_line settings ++ end)
+short_settings [] end h e = e
+short_settings (j ∷ settings) end h e = let s = split_and (is_setting j) (list_all is_setting settings) h in (short_setting j s.0, short_settings settings end s.1 e)
+
+three_short : AllByRecursion IsShort (codes "END" ∷ codes "EXTRACT A" ∷ codes "STOP A" ∷ [])
+three_short = (lit≤ tt, (lit≤ tt, (lit≤ tt, tt)))
+
+short_whole : (settings : List Setting) → list_all is_setting settings ≡ true → AllByRecursion IsShort (whole settings)
+short_whole settings h = (lit≤ tt, (lit≤ tt, (lit≤ tt, short_settings settings _ h three_short)))
+
+short : (lines : List (List ℕ)) (line : List ℕ) → Next lines line → length line ≤ 4096
+short lines line g = short_tail lines (whole g.settings) line g.rest (short_whole g.settings g.each) g.spelled
+
+some_line : (b : ℕ) (rest : List ℕ) → (l : List ℕ) × ((more : List (List ℕ)) × (lines_of (b ∷ rest) ≡ l ∷ more))
+some_line b rest = elim (cases_Bool (b == 10)) [
+  | inl h ↦ ([], (lines_of rest, rw h refl))
+  | inr h ↦ (let o = onto_some b (lines_of rest) in (b ∷ o.0, (o.1.0, rw h o.1.1)))
+]
+
+-- a line that is too long
+pub bad_long : (o m n : Option (List ℕ)) (taken : List (List ℕ)) (line : List ℕ) (k : ℕ) → list_all is_clean taken ≡ true → IsPiece line → length line ≡ 4097
+    → Consumes o m (ended taken) → Consumes m n line → IsFront taken → k ≡ length taken + 1 → IfSome o (λ input. IsBadAt (lines_of input) k)
+bad_long o m n taken line k h q l a b e f =
+    if_some o (λ input. (rest : List ℕ) × (input ≡ (ended taken ++ line) ++ rest)) (λ input. IsBadAt (lines_of input) k)
+    (λ input (rest, s).
+    let x = longer line rest q (omega (arith, l)) in
+    let t : lines_of input ≡ taken ++ (line ++ x.rest) ∷ x.more = ap lines_of (s ∙ append_assoc (ended taken) line rest) ∙ lines_ended taken (line ++ rest) h ∙ ap (λ y. taken ++ y) x.spelled in
+    let bad : IsBad taken (line ++ x.rest) = λ more g. absurd (omega (arith, l, length-append line x.rest, short taken (line ++ x.rest) (next_of taken (line ++ x.rest) more g))) in
+    subst (λ (y : List (List ℕ)). IsBadAt y k) (sym t) (bad_at taken (line ++ x.rest) x.more k f e bad))
+    (front_taken o n (ended taken ++ line) (consumes_then o m n (ended taken) line a b))
+
+-- a byte behind the last line that is allowed
+pub bad_more : (o m n : Option (List ℕ)) (taken : List (List ℕ)) (byte k : ℕ) → list_all is_clean taken ≡ true
+    → Consumes o m (ended taken) → Consumes m n (byte ∷ []) → IsFront taken → k ≡ length taken + 1 → 100000 < k → IfSome o (λ input. IsBadAt (lines_of input) k)
+bad_more o m n taken byte k h a b e f g =
+    if_some o (λ input. (rest : List ℕ) × (input ≡ (ended taken ++ byte ∷ []) ++ rest)) (λ input. IsBadAt (lines_of input) k)
+    (λ input (rest, s).
+    let x = some_line byte rest in
+    let t : lines_of input ≡ taken ++ x.0 ∷ x.1.0 = ap lines_of (s ∙ append_assoc (ended taken) (byte ∷ []) rest) ∙ lines_ended taken (byte ∷ rest) h ∙ ap (λ y. taken ++ y) x.1.1 in
+    let before : take (k - 1) (taken ++ x.0 ∷ x.1.0) ≡ taken = take_at taken (x.0 ∷ x.1.0) (k - 1) (omega (arith, f)) in
+    subst (λ (y : List (List ℕ)). IsBadAt y k) (sym t) (inr (omega (arith, f, length-append taken (x.0 ∷ x.1.0)), subst IsFront (sym before) e, inr g)))
+    (front_taken o n (ended taken ++ byte ∷ []) (consumes_then o m n (ended taken) (byte ∷ []) a b))
+
+no_end : (js ks : List Setting) (x : List (List ℕ)) → map setting_line js ++ codes "END" ∷ x ≡ map setting_line ks → ⊥
+no_end [] [] x e = cc
+no_end [] (k ∷ ks) x e = cc
+no_end (j ∷ js) [] x e = cc
+no_end (j ∷ js) (k ∷ ks) x e = no_end js ks x cc
+
+behind_three : (a b c d e f : List ℕ) (x y : List (List ℕ)) → a ∷ b ∷ c ∷ x ≡ d ∷ e ∷ f ∷ y → x ≡ y
+behind_three a b c d e f x y h = cc
+
+closed_at : (stage : Stage) (settings ks : List Setting) → (stage ≡ Open → ⊥) → lines_at stage settings ≡ lines_at Open ks → ⊥
+closed_at Begun settings ks h e = cc
+closed_at Created settings ks h e = cc
+closed_at Started settings ks h e = cc
+closed_at Open settings ks h e = h refl
+closed_at Ended settings ks h e = no_end settings ks [] (behind_three _ _ _ _ _ _ _ _ e)
+closed_at Extracted settings ks h e = no_end settings ks (codes "EXTRACT A" ∷ []) (behind_three _ _ _ _ _ _ _ _ e)
+closed_at Stopped settings ks h e = no_end settings ks (codes "EXTRACT A" ∷ codes "STOP A" ∷ []) (behind_three _ _ _ _ _ _ _ _ e)
+
+-- no section is open at another stage
+pub not_open : (p : Position) (taken unended : List (List ℕ)) → Reads p taken unended → (p.stage ≡ Open → ⊥) → IsOpen taken → ⊥
+not_open p taken unended r h o = closed_at p.stage r.settings o.settings h (sym r.spelled ∙ o.spelled)

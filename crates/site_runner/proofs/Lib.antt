@@ -1,0 +1,16 @@
+pub mod Cuts
+pub mod Settings
+pub mod Told
+pub mod FirstWhere
+pub mod Made
+pub mod Turns
+pub mod Worlds
+pub mod Results
+pub mod Rows
+pub mod Grown
+pub mod Fronts
+pub mod Goings
+pub mod LineLaws
+pub mod Inputs
+pub mod Looping
+pub mod Complete

@@ -1,0 +1,50 @@
+-- What a run leaves, by its status.
+use Rattle.std.specs.Prelude.{◌≡◌, ◌⊎◌, ℕ, ◌+◌, ◌≤◌, List, [], ◌++◌, length, take, Option, Some}
+use Rattle.std.specs.Io.KnownBytes.{Appends, Consumes, IsAtEnd}
+use Rattle.world_defs.specs.World.{World, fresh}
+use Rattle.world_defs.specs.Runs.{Told, Runs, commands}
+use Rattle.world_defs.specs.Lines.{lines_of, ended}
+use Rattle.world_defs.specs.Script.{MOST_LINES, Spell, IsUnfinished}
+use Rattle.site_runner.specs.Told.{IsPiece, AppendsFront}
+use Rattle.site_runner.specs.declared.status.Status.{Status}
+use Rattle.site_runner.specs.declared.status.Status.TheVariants.{Ok, BadWords, BadLine, ScriptTooLong, SourceFault, SinkFault, NoMemory}
+
+-- the whole output, but with these two a front of it
+abbrev pub Writes : Status → Option (List ℕ) → Option (List ℕ) → List ℕ → Type 0
+Writes Ok old new output = Appends old new output
+Writes BadWords old new output = Appends old new output
+Writes (BadLine line column) old new output = Appends old new output
+Writes ScriptTooLong old new output = Appends old new output
+Writes SourceFault old new output = Appends old new output
+Writes SinkFault old new output = AppendsFront old new output
+Writes NoMemory old new output = AppendsFront old new output
+
+-- Some first lines spell commands, and perhaps a section begun; the commands ran from the fresh world, and this was written of their output.
+pub record Went (status : Status) (taken : List (List ℕ)) (old new : Option (List ℕ)) : Type 0 where
+  pub told : List Told
+  pub after : World
+  pub output : List ℕ
+  pub rest : List (List ℕ)
+  pub runs : Runs fresh told after output
+  pub spelled : Spell taken (commands told) rest
+  pub begun : (rest ≡ []) ⊎ IsUnfinished rest
+  pub writes : Writes status old new output
+  -- nothing is left of the lines where all went well
+  pub all : status ≡ Ok → rest ≡ []
+
+-- How many lines were taken when the run ended.
+abbrev pub Reached : Status → List ℕ → Option (List ℕ) → ℕ → Type 0
+Reached Ok input left k = (k ≡ length (lines_of input)) × (k ≤ MOST_LINES) × IsAtEnd left
+Reached BadWords input left k = (k ≡ 0) × (left ≡ Some input)
+Reached (BadLine line column) input left k = line ≡ k + 1
+Reached ScriptTooLong input left k = k ≡ MOST_LINES
+-- all whole lines that were read
+Reached SourceFault input left k = (piece : List ℕ) × IsPiece piece × Consumes (Some input) left (ended (take k (lines_of input)) ++ piece)
+Reached SinkFault input left k = Unit {0}
+Reached NoMemory input left k = Unit {0}
+
+pub record RanTo (status : Status) (input : List ℕ) (left : Option (List ℕ)) (old new : Option (List ℕ)) : Type 0 where
+  pub count : ℕ
+  pub within : count ≤ length (lines_of input)
+  pub reached : Reached status input left count
+  pub went : Went status (take count (lines_of input)) old new

@@ -1,0 +1,11 @@
+pub mod Lists
+pub mod World
+pub mod Commands
+pub mod Answers
+pub mod Refusals
+pub mod Rows
+pub mod Step
+pub mod Output
+pub mod Runs
+pub mod Lines
+pub mod Script

@@ -1,0 +1,107 @@
+-- What a command writes.
+use Rattle.std.specs.Prelude.{ℕ, ◌+◌, List, [], ◌∷◌, ◌++◌, length, codes, Option, Some, None}
+use Rattle.std.specs.Fmt.{decimal}
+use Rattle.std.specs.List.{flat_map}
+use Rattle.global_defs.specs.Extract.{extract}
+use Rattle.global_defs.specs.Jobs.{Job, Answers, Check, NotNum, Full, SeqLimit}
+use Rattle.global_defs.specs.Jobs as jobs
+use Rattle.global_defs.specs.Serial.{Reply, Seq, Read, RolledBack, Replied, Turn, begun}
+use Rattle.world_defs.specs.World.{Name, State, Down, Primary, Site, Place, World, site_of}
+use Rattle.world_defs.specs.Commands.{Command, Create, StartPrimary, Run, Extract, Stop}
+use Rattle.world_defs.specs.Answers.{Cause, NoSite, Exists, NoDisk, Running, NotRunning, NotPrimary, Section, Answer, Done, Refused, Ran}
+use Rattle.world_defs.specs.Rows.{turn_of}
+
+-- a line that begins with a site's name
+abbrev pub line : Name → List ℕ → List ℕ
+line name text = name ++ 32 ∷ text ++ 10 ∷ []
+
+abbrev pub cause_text : Cause → List ℕ
+cause_text NoSite = codes "NOSITE"
+cause_text Exists = codes "EXISTS"
+cause_text NoDisk = codes "NODISK"
+cause_text Running = codes "RUNNING"
+cause_text NotRunning = codes "NOTRUNNING"
+cause_text NotPrimary = codes "NOTPRIMARY"
+
+-- why a job was rolled back
+abbrev pub rollback_text : jobs.Cause → List ℕ
+rollback_text Check = codes "CHECK"
+rollback_text NotNum = codes "NOTNUM"
+rollback_text Full = codes "FULL"
+rollback_text SeqLimit = codes "SEQLIMIT"
+
+-- each after a space
+abbrev pub answers_text : Answers → List ℕ
+answers_text answers = flat_map (λ text. 32 ∷ text) answers
+
+abbrev pub reply_text : Reply → List ℕ
+reply_text (Seq n answers) = codes " SEQ " ++ decimal n ++ answers_text answers
+reply_text (Read answers) = codes " READ" ++ answers_text answers
+reply_text (RolledBack cause) = codes " ROLLEDBACK " ++ rollback_text cause
+
+-- updater.serial and the reply
+abbrev pub reply_line : Replied → List ℕ
+reply_line r = decimal r.updater ++ 46 ∷ decimal r.serial ++ reply_text r.reply ++ 10 ∷ []
+
+abbrev pub length_at : Option Place → ℕ
+length_at None = 0
+length_at (Some p) = length p.sequence
+
+abbrev pub extract_at : Name → ℕ → Option Place → List ℕ
+extract_at name from None = []
+extract_at name from (Some p) = extract name p.sequence from
+
+abbrev pub cycle_in : State → ℕ
+cycle_in Down = 0
+cycle_in (Primary stamp serials) = stamp.cycle
+
+abbrev pub cycle_on : Option Site → ℕ
+cycle_on None = 0
+cycle_on (Some site) = cycle_in site.state
+
+-- the cycle of the reign of the site that stands there
+abbrev pub cycle_at : Option Place → ℕ
+cycle_at None = 0
+cycle_at (Some p) = cycle_on p.site
+
+abbrev pub turn_in : State → List (List Job) → Section → Place → Turn
+turn_in Down jobs s p = begun [] jobs p.sequence
+turn_in (Primary stamp serials) jobs s p = turn_of stamp serials jobs s.picks p.sequence
+
+abbrev pub turn_on : Option Site → List (List Job) → Section → Place → Turn
+turn_on None jobs s p = begun [] jobs []
+turn_on (Some site) jobs s p = turn_in site.state jobs s p
+
+-- the jobs of a section as its picks decided them, by the primary's place before it
+abbrev pub turn_at : Option Place → List (List Job) → Section → Turn
+turn_at None jobs s = begun [] jobs []
+turn_at (Some p) jobs s = turn_on p.site jobs s p
+
+-- a line a pick in the order of picks, and the primary's line
+abbrev pub section_text : Name → Turn → List ℕ
+section_text name t = flat_map reply_line t.replies ++ line name (codes "AT " ++ decimal (length t.sequence))
+
+-- what the answer that it was done writes
+abbrev pub done_text : World → Command → World → List ℕ
+done_text w (Create name regions) m = line name (codes "CREATED")
+done_text w (StartPrimary name) m = line name (codes "PRIMARY " ++ decimal (cycle_at (site_of m name)) ++ codes " FROM " ++ decimal (length_at (site_of w name) + 1))
+done_text w (Run name jobs order) m = []
+done_text w (Extract name from) m = extract_at name from (site_of w name)
+done_text w (Stop name) m = line name (codes "DOWN " ++ decimal (length_at (site_of w name)))
+
+abbrev pub ran_text : World → Command → Section → List ℕ
+ran_text w (Create name regions) s = []
+ran_text w (StartPrimary name) s = []
+ran_text w (Run name jobs order) s = section_text name (turn_at (site_of w name) jobs s)
+ran_text w (Extract name from) s = []
+ran_text w (Stop name) s = []
+
+abbrev pub text_of : World → Command → Answer → World → List ℕ
+text_of w c Done m = done_text w c m
+text_of w c (Refused r) m = line r.site (cause_text r.cause)
+text_of w c (Ran s) m = ran_text w c s
+
+-- the lines of a command's answers
+abbrev pub text : World → Command → List Answer → World → List ℕ
+text w c [] m = []
+text w c (a ∷ more) m = text_of w c a m

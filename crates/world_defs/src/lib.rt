@@ -1,0 +1,3 @@
+//! Definitions: script lines, commands, worlds, the meaning of a command and what it writes. There is no code here but laws,
+//! each the contract of a function that does nothing.
+#![tactic(auto)]
