@@ -1,0 +1,4 @@
+mod ItemLists
+mod Moves
+mod Looks
+mod Orders

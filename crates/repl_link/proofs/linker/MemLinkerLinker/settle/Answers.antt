@@ -1,0 +1,8 @@
+use Rattle.repl_link.proofs.Looks.{carries}
+use Rattle.repl_link.proofs.linker.MemLinkerLinker.settle.Goals as goal
+
+pub returns-clause-from_primary : goal.returns-clause-from_primary
+returns-clause-from_primary c told = carries _ _ _ _ c.beside.ensures.up_tx c.beside.ensures.down_rx (c.beside.ensures.from_primary told)
+
+pub returns-clause-to_primary : goal.returns-clause-to_primary
+returns-clause-to_primary c told = carries _ _ _ _ c.beside.ensures.down_tx c.beside.ensures.up_rx (c.beside.ensures.to_primary told)

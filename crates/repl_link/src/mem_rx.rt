@@ -1,0 +1,102 @@
+// The end of a link in memory that receives.
+ghost use Rattle.std.specs.Prelude.{◌≡◌, ◌<◌, ◌≤◌, [], length, take, false};
+ghost use Rattle.rtrb.specs.Ring.{received as items_received, known_items, SameConsumer};
+ghost use Rattle.repl_link.specs.Items.{has_end, Drained};
+
+use crate::items::{Item, Line, copy_bytes};
+use crate::limits::{PIECE, at_most, less};
+use crate::traits::{Cut, LinkRx, Received};
+use rtrb::Consumer;
+
+/// Receives over a ring in memory. It tells its bytes.
+#[derive(Drop)]
+pub struct MemRx {
+    pub(crate) session: u32,
+    pub(crate) connection: u64,
+    // How many bytes it may still give before the cut, where there is an order to cut.
+    pub(crate) left: Option<u64>,
+    pub(crate) cuts: u64,
+    pub(crate) ended: bool,
+    pub(crate) ring: Consumer<Item>,
+    ghost session_in_range: { session < 8 },
+    ghost ends: { has_end (items_received ring) ≡ ended },
+}
+
+// Pops as many items as there are places for, and copies their bytes: how many there are, and whether the end follows them.
+fn drain(ring: &mut Consumer<Item>, items: &mut [Item], buffer: &mut [u8]) -> (usize, bool)
+    requires items { 0 < length items.old }
+    requires buffer { length items.old ≤ length buffer.old }
+    ensures ring { SameConsumer ring.old ring.new }
+    ensures count { result.0 ≤ length items.old }
+    ensures drained { Drained (items_received ring.old) (items_received ring.new) (known_items ring.old) (known_items ring.new) (take result.0 buffer.new) result.1 }
+    ensures bytes { result.0 ≡ length (take result.0 buffer.new) }
+    ensures nothing { result.0 ≡ 0 → result.1 ≡ false → known_items ring.old ≡ [] }
+{
+    let popped = ring.pop_partial_slice(items);
+    let count = copy_bytes(&items[..popped], buffer);
+    (count, count < popped)
+}
+
+impl MemRx {
+    ghost use Rattle.std.specs.Prelude.{◌≡◌, ◌≢◌, ◌<◌, ◌≤◌, ◌++◌, [], length, take, false, IsTrue, Some};
+    ghost use Rattle.global_defs.specs.Prefix.{IsPrefix};
+    ghost use Rattle.wire_defs.specs.Links.{SameReceiving, IsWithin};
+    ghost use Rattle.repl_link.specs.MemEnds.{rx_line, mem_receiving};
+
+    // Takes what there is out of the ring, and answers how many bytes came.
+    fn pull(&mut self, buffer: &mut [u8]) -> usize
+        requires buffer { 0 < length buffer.old }
+        requires open { self.old.ended ≡ false }
+        requires left { self.old.left ≢ Some 0 }
+        ensures line { rx_line self.new ≡ rx_line self.old }
+        ensures same { SameReceiving (mem_receiving self.old) (mem_receiving self.new) }
+        ensures cuts { self.new.cuts ≡ self.old.cuts }
+        ensures count { result ≤ length buffer.old }
+        ensures received { (mem_receiving self.new).received ≡ (mem_receiving self.old).received ++ take result buffer.new }
+        ensures within { IsWithin (mem_receiving self.new).order (mem_receiving self.new).received }
+        ensures unread { IsPrefix (mem_receiving self.old).unread (take result buffer.new ++ (mem_receiving self.new).unread) }
+        ensures ended { IsTrue (mem_receiving self.old).ended → IsTrue (mem_receiving self.new).ended }
+        ensures whole { IsTrue (mem_receiving self.old).ended → take result buffer.new ++ (mem_receiving self.new).unread ≡ (mem_receiving self.old).unread }
+        ensures at_end { IsTrue self.new.ended → ((mem_receiving self.new).unread ≡ []) × IsTrue (mem_receiving self.new).ended }
+        ensures nothing { result ≡ 0 → self.new.ended ≡ false → ((mem_receiving self.old).unread ≡ []) × ((mem_receiving self.old).ended ≡ false) }
+    {
+        let most = at_most(self.left, buffer.len().min(PIECE));
+        let mut items = [Item::End; PIECE];
+        let (count, ended) = drain(&mut self.ring, &mut items[..most], buffer);
+        self.ended = ended;
+        self.left = less(self.left, count);
+        count
+    }
+}
+
+impl LinkRx for MemRx {
+    type Line = Line;
+
+    ghost use Rattle.repl_link.specs.MemEnds.{rx_line, mem_receiving};
+
+    ghost line = { λ r. rx_line r };
+
+    ghost receiving = { λ r. mem_receiving r };
+
+    fn receive(&mut self, buffer: &mut [u8]) -> Result<Received, Cut> {
+        if self.left == Some(0) {
+            self.cuts = self.cuts.saturating_add(1);
+            return Err(Cut);
+        }
+        if self.ended {
+            return Ok(Received::Ended);
+        }
+        let count = self.pull(buffer);
+        Ok(if count > 0 {
+            Received::Bytes(count)
+        } else if self.ended {
+            Received::Ended
+        } else {
+            Received::NotYet
+        })
+    }
+
+    fn cuts(&self) -> u64 {
+        self.cuts
+    }
+}
