@@ -67,8 +67,7 @@ fn begin<D: Disk>(disk: &mut D, file: u32, size: u64) -> Result<(), GateError>
         return Ok(());
     }
     disk.write_at(file, 0, &[0])?;
-    disk.sync(file)?;
-    Ok(())
+    Ok(disk.sync(file)?)
 }
 
 /// Makes room to begin a file, syncs it, and answers its length.

@@ -8,6 +8,8 @@ mod attach;
 mod error;
 mod gated;
 mod read;
+#[cfg(test)]
+mod tests;
 
 pub use error::GateError;
 pub use gated::Gated;
