@@ -1,4 +1,4 @@
-use Rattle.std.proofs.Common.{◌≡◌, ◌+◌}
+use Rattle.std.proofs.Common.{◌≡◌, ◌+◌, vec_len, vec_capacity}
 use Rattle.jnl_pool.specs.Pooling.{next_number}
 use Rattle.jnl_pool.proofs.tests.put_all.Given as goal
 
@@ -6,4 +6,6 @@ abbrev pub invariant-loop : goal.invariant-loop
 invariant-loop l = record {
   pool : l.writer.table ≡ l.pool.table;
   number : next_number l.writer ≡ next_number l.initial.writer + l.counter;
+  room : vec_len l.list ≡ vec_len l.initial.list + l.counter;
+  capacity : vec_capacity l.list ≡ vec_capacity l.initial.list;
 }
