@@ -12,3 +12,4 @@ pub mod ZwrFound
 pub mod KeyTextLaws
 pub mod KeyTextWritten
 pub mod KeyTextFound
+pub mod ZwrFirst

@@ -18,15 +18,15 @@ use Rattle.gvn_key.specs.declared.reader.Effect.TheVariants.{Stop, Silent, Emit}
 use Rattle.gvn_key.specs.declared.reader.ZwrError.{ZwrError}
 
 -- what may stand behind a piece
-data IsAfter : (text value : List ℕ) → Type 0 where
+pub data IsAfter : (text value : List ℕ) → Type 0 where
   nothing : IsAfter [] []
   another : {t v : List ℕ} → IsZwr t v → IsAfter (95 ∷ t) v
 
-abbrev AreSmall : ℕ → List ℕ → Type 0
+abbrev pub AreSmall : ℕ → List ℕ → Type 0
 AreSmall b bs = list_all (λ c. nat_lt c 256) (b ∷ bs) ≡ true
 
 -- the numbers behind another one
-abbrev more_codes : List ℕ → List ℕ
+abbrev pub more_codes : List ℕ → List ℕ
 more_codes [] = []
 more_codes (b ∷ bs) = 44 ∷ join_with_byte 44 (map decimal (b ∷ bs))
 
@@ -35,7 +35,7 @@ joined_codes b [] = sym (append-nil (decimal b))
 joined_codes b (c ∷ cs) = refl
 
 -- what may stand behind each state, and the value that it adds
-data IsRest : State → (text value : List ℕ) → Type 0 where
+pub data IsRest : State → (text value : List ℕ) → Type 0 where
   start : {t v : List ℕ} → IsZwr t v → IsRest Start t v
   quotes : {t v : List ℕ} (bs : List ℕ) → list_all is_plain bs ≡ true → IsAfter t v → IsRest Quotes (flat_map quoted_byte bs ++ (34 ∷ t)) (bs ++ v)
   closed : {t v : List ℕ} → IsAfter t v → IsRest Closed t v
@@ -91,7 +91,7 @@ number_next : {t v : List ℕ} (n : ℕ) → n < 256 → IsRest First t v → Is
 number_next n small (first b bs s a) = number n n [] (b ∷ bs) (sym (append-nil (decimal n))) (and_from (nat_lt n 256) (list_all (λ c. nat_lt c 256) (b ∷ bs)) (lt-ltb n 256 small) s) a
 
 -- what each byte does
-data Moves : State → ℕ → Effect → Type 0 where
+pub data Moves : State → ℕ → Effect → Type 0 where
   stops : {s : State} {b : ℕ} → Moves s b Stop
   opens : Moves Start 34 (Silent Quotes)
   names_codes : Moves Start 36 (Silent Dollar)
@@ -164,7 +164,7 @@ number_moves n b = elim (cases_Bool (b == 44)) [
   | inr h ↦ elim (cases_Bool (b == 41)) [ inl k ↦ rw (h, k) (at b 41 k ends) | inr k ↦ rw (h, k) (digit_moves n b) ]
 ]
 
-moves : (s : State) (b : ℕ) → Moves s b (step s b)
+pub moves : (s : State) (b : ℕ) → Moves s b (step s b)
 moves Start b = start_moves b
 moves Quotes b = quotes_moves b
 moves Closed b = closed_moves b
@@ -175,16 +175,16 @@ moves (Number n) b = number_moves n b
 moves Done b = done_moves b
 
 -- a number so far is a byte
-abbrev IsGood : State → Type 0
+abbrev pub IsGood : State → Type 0
 IsGood (Number n) = n < 256
 IsGood s = Unit {0}
 
-abbrev LeadsToGood : Effect → Type 0
+abbrev pub LeadsToGood : Effect → Type 0
 LeadsToGood Stop = Unit {0}
 LeadsToGood (Silent t) = IsGood t
 LeadsToGood (Emit t b) = IsGood t
 
-good : {s : State} {b : ℕ} {e : Effect} → Moves s b e → LeadsToGood e
+pub good : {s : State} {b : ℕ} {e : Effect} → Moves s b e → LeadsToGood e
 good stops = tt
 good opens = tt
 good names_codes = tt
@@ -201,7 +201,7 @@ good ends = tt
 good joins_codes = tt
 
 -- what stands behind a byte's effect stands behind the byte
-abbrev GoesBack : State → ℕ → Effect → Type 0
+abbrev pub GoesBack : State → ℕ → Effect → Type 0
 GoesBack s b Stop = Unit {0}
 GoesBack s b (Silent t) = (l v : List ℕ) → IsRest t l v → IsRest s (b ∷ l) v
 GoesBack s b (Emit t c) = (l v : List ℕ) → IsRest t l v → IsRest s (b ∷ l) (c ∷ v)
@@ -209,7 +209,7 @@ GoesBack s b (Emit t c) = (l v : List ℕ) → IsRest t l v → IsRest s (b ∷ 
 after_start : {t v : List ℕ} → IsRest Start t v → IsAfter (95 ∷ t) v
 after_start (start z) = another z
 
-back : {s : State} {b : ℕ} {e : Effect} → IsGood s → Moves s b e → GoesBack s b e
+pub back : {s : State} {b : ℕ} {e : Effect} → IsGood s → Moves s b e → GoesBack s b e
 back g stops = tt
 back g opens = λ l v r. start (open_quotes r)
 back g names_codes = λ l v r. start (open_codes r)
@@ -249,14 +249,14 @@ sound : (s : State) (text : List ℕ) → IsGood s → IsSound s text (scan s te
 sound s [] g = λ w. ([], refl, at_end s w)
 sound s (b ∷ bs) g = sound_at s b bs (step s b) (moves s b) g (λ t h. sound t bs h)
 
-from_start : {t v : List ℕ} → IsRest Start t v → IsZwr t v
+pub from_start : {t v : List ℕ} → IsRest Start t v → IsZwr t v
 from_start (start z) = z
 
 none_left : (xs : List ℕ) → (length xs == 0) ≡ true → xs ≡ []
 none_left [] h = refl
 none_left (x ∷ xs) h = absurd (omega (arith, eqb-true (length (x ∷ xs)) 0 h))
 
-ended : (len : ℕ) (r : Scanned) (v : List ℕ) → read_whole len r ≡ Ok v → (is_whole r.state ≡ true) × (r.left ≡ []) × (r.value ≡ v)
+pub ended : (len : ℕ) (r : Scanned) (v : List ℕ) → read_whole len r ≡ Ok v → (is_whole r.state ≡ true) × (r.left ≡ []) × (r.value ≡ v)
 ended len r v e = elim (cases_Bool (is_whole r.state && length r.left == 0)) [
   | inl h ↦ let t = and_parts (is_whole r.state) (length r.left == 0) h in let f = rw h at e in (t.0, none_left r.left t.1, cc)
   | inr h ↦ let f = rw h at e in cc

@@ -1,5 +1,5 @@
 -- Text in ZWR form read from the front: any pieces of both kinds, joined with underscores.
-use Rattle.std.specs.Prelude.{◌≡◌, ℕ, ◌+◌, ◌-◌, ◌*◌, ◌&&◌, ◌==◌, Bool, true, false, not, min, List, [], ◌∷◌, ◌++◌, length, map, nat_lt, get_or, ◌<◌, codes, if◌then◌else◌}
+use Rattle.std.specs.Prelude.{take, ◌≤◌, ◌≡◌, ℕ, ◌+◌, ◌-◌, ◌*◌, ◌&&◌, ◌==◌, Bool, true, false, not, min, List, [], ◌∷◌, ◌++◌, length, map, nat_lt, get_or, ◌<◌, codes, if◌then◌else◌}
 use Rattle.std.specs.List.{list_all, flat_map, join_with_byte}
 use Rattle.std.specs.Char.{is_ascii_digit}
 use Rattle.std.specs.Fmt.{decimal}
@@ -111,3 +111,19 @@ abbrev pub ReadsZwr : Result (List ℕ) ZwrError → Result (List ℕ) ZwrError 
 ReadsZwr reading (Ok value) = reading ≡ Ok value
 ReadsZwr reading (Err NoMemory) = Unit {0}
 ReadsZwr reading (Err e) = reading ≡ Err e
+
+-- some text in ZWR form begins so
+pub record IsFront (front : List ℕ) : Type 0 where
+  pub rest : List ℕ
+  pub value : List ℕ
+  pub is : IsZwr (front ++ rest) value
+
+-- the first fault's place: some text in ZWR form begins with all that stands before it, and none with more of the text
+pub record IsFirstFault (text : List ℕ) (at : ℕ) : Type 0 where
+  pub begins : IsFront (take at text)
+  pub no_more : (n : ℕ) → at < n → n ≤ length text → IsFront (take n text) → ⊥
+
+abbrev pub TellsPlace : List ℕ → ZwrError → Type 0
+TellsPlace text (BadQuote at) = IsFirstFault text at
+TellsPlace text (BadChar at) = IsFirstFault text at
+TellsPlace text NoMemory = Unit {0}

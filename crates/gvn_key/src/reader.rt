@@ -1,6 +1,6 @@
 //! Text in ZWR form read from the front.
-ghost use Rattle.std.specs.Prelude.{◌≡◌, ◌≤◌, ◌++◌, ℕ, List, length, drop, IfOk};
-ghost use Rattle.gvn_key.specs.ZwrText.{at_start, in_quotes, behind_quote, expecting, first_digit, digit_more, in_number, step, scan, is_whole, lacks_piece, fault_at, IsBytes, IsZwr, zwr_reading, ReadsZwr};
+ghost use Rattle.std.specs.Prelude.{◌≡◌, ◌≤◌, ◌++◌, ◌<◌, ℕ, List, length, drop, IfOk, IfErr};
+ghost use Rattle.gvn_key.specs.ZwrText.{at_start, in_quotes, behind_quote, expecting, first_digit, digit_more, in_number, step, scan, is_whole, lacks_piece, fault_at, IsBytes, IsZwr, TellsPlace, zwr_reading, ReadsZwr};
 ghost use Rattle.global_defs.specs.Zwr.{zwr};
 
 use super::bytes::{Bytes, NoMemory};
@@ -241,6 +241,8 @@ pub fn zwr_read(alloc: Global, text: &[u8]) -> Result<Bytes, ZwrError>
     ensures found { IfOk result (λ value. IsZwr text.now value) }
     // What is in the grammar is read to its value.
     ensures only { (value : List ℕ) → IsZwr text.now value → ReadsZwr (Ok value) result }
+    // A fault's place is the first at which no text in ZWR form goes on as this one.
+    ensures place { length text.now < 4294967296 → IfErr result (TellsPlace text.now) }
     // What was written is read back.
     ensures again { (bytes : List ℕ) → IsBytes bytes → text.now ≡ zwr bytes → ReadsZwr (Ok bytes) result }
 {
