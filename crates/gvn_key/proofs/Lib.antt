@@ -5,3 +5,11 @@ pub mod DigitValues
 pub mod Decoded
 pub mod Subscripts
 pub mod KeyRead
+pub mod Parsing
+pub mod ZwrLaws
+pub mod ZwrWritten
+pub mod ZwrFound
+pub mod KeyTextLaws
+pub mod KeyTextWritten
+pub mod KeyTextFound
+pub mod ZwrFirst

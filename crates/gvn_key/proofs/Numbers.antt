@@ -36,7 +36,7 @@ number_coded negative (d ∷ ds) all few = code_lead negative d ds all (omega ar
 abbrev pub rest : List ℕ → List ℕ
 rest s = take (length s - 1) (drop 1 s)
 
-rest_is : (s : List ℕ) → drop 1 s ≡ rest s
+pub rest_is : (s : List ℕ) → drop 1 s ≡ rest s
 rest_is s = sym (ap (λ n. take n (drop 1 s)) (sym (length-drop 1 s)) ∙ take-length (drop 1 s))
 
 pub minus_magnitude : (s : List ℕ) → is_number s ≡ true → starts_with nat_eq s (45 ∷ []) ≡ true → IsMagnitude (rest s) × (value_of s ≡ signed true (magnitude (rest s)))

@@ -9,6 +9,8 @@ mod encoding;
 mod key;
 mod numeral;
 mod order;
+mod parse;
+mod reader;
 pub mod terms;
 #[cfg(test)]
 mod tests;
@@ -17,4 +19,5 @@ mod zwr;
 pub use bytes::{Bytes, NoMemory};
 pub use key::{Key, KeyError};
 pub use numeral::is_number;
+pub use reader::{ZwrError, zwr_read};
 pub use zwr::zwr_write;

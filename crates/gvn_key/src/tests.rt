@@ -1,5 +1,5 @@
 //! Vectors of the layout and of the text, and each call once.
-use super::{Bytes, Key, KeyError, is_number, zwr_write};
+use super::{Bytes, Key, KeyError, ZwrError, is_number, zwr_read, zwr_write};
 use std::alloc::Global;
 use std::test::Fail;
 
@@ -166,5 +166,86 @@ fn lists_of_bytes(rt: HostRuntime) -> Result<(), Fail> {
     assert_eq!(rt; list.len(), 7);
     list.clear();
     assert!(rt; list.is_empty());
+    Ok(())
+}
+
+#[test]
+fn zwr_texts(rt: HostRuntime) -> Result<(), Fail> {
+    let alloc = rt.alloc();
+    let good: [(&[u8], &[u8]); 5] = [
+        (b"\"\"", b""),
+        (b"\"a\"\"b\"_$C(10)_\"c\"_$C(255)", b"a\"b\nc\xff"),
+        (b"\"a\"_\"\"_\"b\"", b"ab"),
+        (b"$C(65,0)_$C(66)", b"A\x00B"),
+        (b"\"\"\"\"", b"\""),
+    ];
+    for (text, bytes) in good {
+        assert_eq!(rt; zwr_read(alloc, text)?.as_slice(), bytes);
+    }
+    let bad: [(&[u8], ZwrError); 12] = [
+        (b"", ZwrError::BadQuote { at: 0 }),
+        (b"\"ab", ZwrError::BadQuote { at: 3 }),
+        (b"\"a\"_", ZwrError::BadQuote { at: 4 }),
+        (b"_\"a\"", ZwrError::BadQuote { at: 0 }),
+        (b"\"a\"__\"b\"", ZwrError::BadQuote { at: 4 }),
+        (b"5", ZwrError::BadChar { at: 0 }),
+        (b"\"a\nb\"", ZwrError::BadChar { at: 2 }),
+        (b"\"a\"b", ZwrError::BadChar { at: 3 }),
+        (b"$C()", ZwrError::BadChar { at: 3 }),
+        (b"$C(256)", ZwrError::BadChar { at: 5 }),
+        (b"$C(01)", ZwrError::BadChar { at: 4 }),
+        (b"$C(1", ZwrError::BadChar { at: 4 }),
+    ];
+    for (text, fault) in bad {
+        assert_eq!(rt; zwr_read(alloc, text).err(), Some(fault));
+    }
+    Ok(())
+}
+
+#[test]
+fn key_texts(rt: HostRuntime) -> Result<(), Fail> {
+    let alloc = rt.alloc();
+    let good: [(&[u8], &[u8]); 7] = [
+        (b"^X", b"^X"),
+        (b"^%z9(1,-.5)", b"^%z9(1,-.5)"),
+        (b"^X(\"10\")", b"^X(10)"),
+        (b"^X(\"1\"_\"0\",$C(65))", b"^X(10,\"A\")"),
+        (b"^X(\"a,b)\"\"\")", b"^X(\"a,b)\"\"\")"),
+        (b"^X(\"01\")", b"^X(\"01\")"),
+        (
+            b"^X(\"1234567890123456789\")",
+            b"^X(\"1234567890123456789\")",
+        ),
+    ];
+    for (text, canonical) in good {
+        let mut out = Bytes::new(alloc);
+        Key::parse(alloc, text)?.write(&mut out)?;
+        assert_eq!(rt; out.as_slice(), canonical);
+    }
+    let bad: [(&[u8], KeyError); 17] = [
+        (b"", KeyError::BadName),
+        (b"X", KeyError::BadName),
+        (b"^", KeyError::BadName),
+        (b"^1(\"\")", KeyError::BadName),
+        (b"^X Y", KeyError::BadName),
+        (b"^aaaaaaaaaaaaaaaaaaaaaaaaaaaaaaaa(", KeyError::NameTooLong),
+        (b"^X(", KeyError::BadSub),
+        (b"^X()", KeyError::BadSub),
+        (b"^X)", KeyError::BadSub),
+        (b"^X(1", KeyError::BadSub),
+        (b"^X(1))", KeyError::BadSub),
+        (b"^X(01)", KeyError::BadSub),
+        (b"^X(1234567890123456789)", KeyError::BadSub),
+        (b"^X(\"a)", KeyError::BadSub),
+        (b"^X(1,\"\",x)", KeyError::NullSub),
+        (b"^X(1,x,\"\")", KeyError::BadSub),
+        (
+            b"^X(1,1,1,1,1,1,1,1,1,1,1,1,1,1,1,1,1,1,1,1,1,1,1,1,1,1,1,1,1,1,1,1)",
+            KeyError::TooManySubs,
+        ),
+    ];
+    for (text, fault) in bad {
+        assert_eq!(rt; Key::parse(alloc, text).err(), Some(fault));
+    }
     Ok(())
 }

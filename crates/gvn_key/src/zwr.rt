@@ -14,7 +14,7 @@ enum Open {
 }
 
 /// From space to tilde.
-fn is_plain(byte: u8) -> bool
+pub fn is_plain(byte: u8) -> bool
     ensures { result ≡ is_plain byte }
 {
     32 <= byte && byte <= 126

@@ -1,0 +1,7 @@
+use Rattle.std.proofs.Common.{◌≡◌, ◌-◌}
+use Rattle.gvn_key.specs.KeyText.{fronted, subs_at}
+use Rattle.gvn_key.proofs.parse.subs_at.Given as goal
+
+-- the subscripts so far and those of the rest make the whole
+abbrev pub invariant-loop : goal.invariant-loop
+invariant-loop l = fronted l.subs.items (subs_at (31 - l.counter) l.rest) ≡ subs_at 31 l.text
