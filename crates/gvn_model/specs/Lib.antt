@@ -1,3 +1,4 @@
 pub mod Reigns
 pub mod Entries
 pub mod Items
+pub mod Globals

@@ -2,6 +2,7 @@
 #![tactic(auto)]
 
 mod entry;
+mod globals;
 mod history;
 mod items;
 mod reign;
@@ -10,6 +11,7 @@ mod tests;
 mod updates;
 
 pub use entry::{Entry, Origin, Transaction};
+pub use globals::Globals;
 pub use history::{History, Reigns};
 pub use items::{Item, Items};
 pub use reign::{Reign, Stamp};

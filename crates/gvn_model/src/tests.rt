@@ -55,3 +55,42 @@ fn copies_an_entry(rt: HostRuntime) -> Result<(), Fail> {
     assert!(rt; matches!(made.transaction.updates.as_slice()[0], Update::Set(..)));
     Ok(())
 }
+
+/// The node `^X`, or one below it.
+fn node(alloc: Global, sub: Option<&[u8]>) -> Result<Key, Fail> {
+    let mut subs = Vec::new(alloc);
+    if let Some(sub) = sub {
+        subs.push(Bytes::of(alloc, sub)?)?;
+    }
+    Ok(Key::new(alloc, b"X", &subs)?)
+}
+
+fn set(alloc: Global, globals: &mut Globals, sub: Option<&[u8]>) -> Result<(), Fail> {
+    let update = Update::Set(node(alloc, sub)?, Bytes::of(alloc, b"a")?);
+    globals.apply(&update)?;
+    Ok(())
+}
+
+#[test]
+fn sets_nodes(rt: HostRuntime) -> Result<(), Fail> {
+    let mut globals = Globals::new(rt.alloc());
+    set(rt.alloc(), &mut globals, Some(b"1"))?;
+    set(rt.alloc(), &mut globals, None)?;
+    let top = node(rt.alloc(), None)?;
+    assert_eq!(rt; globals.nodes(), 2);
+    assert_eq!(rt; globals.defined(&top), 11);
+    assert_eq!(rt; globals.get(&top), Some(b"a".as_slice()));
+    Ok(())
+}
+
+#[test]
+fn takes_nodes_away(rt: HostRuntime) -> Result<(), Fail> {
+    let mut globals = Globals::new(rt.alloc());
+    set(rt.alloc(), &mut globals, Some(b"1"))?;
+    set(rt.alloc(), &mut globals, None)?;
+    globals.apply(&Update::ZKill(node(rt.alloc(), None)?))?;
+    assert_eq!(rt; globals.nodes(), 1);
+    globals.apply(&Update::Kill(node(rt.alloc(), None)?))?;
+    assert_eq!(rt; globals.nodes(), 0);
+    Ok(())
+}
