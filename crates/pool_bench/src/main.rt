@@ -4,7 +4,7 @@
 //! each run of so many entries. Standard error says how many entries a second were put and got.
 #![tactic(auto)]
 
-ghost use Rattle.std.specs.Prelude.{◌≡◌, ◌+◌, ◌^◌, ◌<◌};
+ghost use Rattle.std.specs.Prelude.{◌≡◌, ◌+◌, ◌^◌, ◌<◌, ◌≤◌, IfOk};
 ghost use Rattle.jnl_pool.specs.Pooling.{next_number};
 
 use anyhow::{Context, Result, ensure};
@@ -127,7 +127,9 @@ fn measure<R: Threads + Clock + Print + Eprint + Sync>(
 }
 
 // How many entries the first argument asks for.
-fn asked_count<R: Env + Alloc>(rt: &R) -> Result<u64> {
+fn asked_count<R: Env + Alloc>(rt: &R) -> Result<u64>
+    ensures { IfOk result (λ n. n ≤ 1000000000) }
+{
     let Some(word) = env::args(rt)?.nth(1) else {
         return Ok(DEFAULT_COUNT);
     };
@@ -145,5 +147,5 @@ fn main(rt: HostRuntime) -> Result<()> {
         .reader(&mut writer)
         .ok()
         .context("no memory for the reader")?;
-    measure(&rt, &pool, writer, reader, count.min(MOST_COUNT))
+    measure(&rt, &pool, writer, reader, count)
 }
