@@ -13,6 +13,12 @@ bin/gtmr: $(wildcard crates/*/src/*.rt crates/*/specs/*.antt crates.txt)
 	mkdir -p bin
 	cp crates/gtmr/out/gtmr bin/gtmr
 
+# the proved program that measures the journal pool
+bin/pool_bench: $(wildcard crates/*pool*/src/*.rt crates/*pool*/specs/*.antt crates.txt)
+	cd crates/pool_bench && $(RT) run > /dev/null
+	mkdir -p bin
+	cp crates/pool_bench/out/pool_bench bin/pool_bench
+
 # a build of the program in seconds, of which nothing is proved
 demo:
 	@echo "; an unproved build; 'make' builds the proved program, 'make test' is the gate"
@@ -26,8 +32,9 @@ test:
 examples:
 	tools/check
 
-bench: bin/gtmr
+bench: bin/gtmr bin/pool_bench
 	tools/bench bin/gtmr
+	bin/pool_bench 2000000
 
 install: bin/gtmr
 	install -D -m 755 bin/gtmr $(DESTDIR)$(PREFIX)/bin/gtmr
