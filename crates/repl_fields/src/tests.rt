@@ -29,8 +29,15 @@ fn reads_and_writes_a_kill(rt: HostRuntime) -> Result<(), Fail> {
     assert_eq!(rt; out.as_slice(), b"\x02\x02X\x00".as_slice());
     let read = read_update(alloc, out.as_slice())?;
     assert!(rt; matches!(read, Some((Update::Kill(_), _))));
-    out.clear();
+    Ok(())
+}
+
+#[test]
+fn reads_and_writes_a_zkill(rt: HostRuntime) -> Result<(), Fail> {
+    let alloc = rt.alloc();
+    let mut out = Bytes::new(alloc);
     write_update(&Update::ZKill(Key::new(alloc, b"X", &[])?), &mut out)?;
+    assert_eq!(rt; out.as_slice(), b"\x03\x02X\x00".as_slice());
     let read = read_update(alloc, out.as_slice())?;
     assert!(rt; matches!(read, Some((Update::ZKill(_), _))));
     Ok(())
