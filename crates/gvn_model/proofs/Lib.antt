@@ -1,3 +1,4 @@
+pub mod After
 pub mod Collated
 pub mod Defined
 pub mod Made

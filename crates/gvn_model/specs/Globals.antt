@@ -1,5 +1,5 @@
 -- Nodes in M collation, and the globals that they are.
-use Rattle.std.specs.Prelude.{◌≡◌, ℕ, ℤ, pos, ◌==◌, ◌<◌, ◌≤◌, ◌&&◌, Bool, false, List, [], ◌∷◌, map, length, slice_index_or, Option, if◌then◌else◌, refl}
+use Rattle.std.specs.Prelude.{◌≡◌, ℕ, ℤ, pos, ◌==◌, ◌<◌, ◌≤◌, ◌&&◌, Bool, false, List, [], ◌∷◌, map, length, slice_index_or, Option, Some, None, if◌then◌else◌, refl}
 use Rattle.std.specs.declared.cmp.Ordering.{Ordering}
 use Rattle.std.specs.declared.cmp.Ordering.TheVariants.{Less, Equal}
 use Rattle.std.specs.Ordering.{is_lt, is_eq, nat_cmp, eq_by_cmp}
@@ -49,6 +49,11 @@ begins_under top (e ∷ es) = is_under top e.0
 -- a key of the same name that comes later
 abbrev pub is_later : Key → Key → Bool
 is_later key k = eq_by_cmp (slice_cmp nat_cmp) key.name k.name && is_lt (key_cmp key k)
+
+-- the first key, where it has the same name
+abbrev pub named_first : Key → List (Key × List ℕ) → Option Key
+named_first key [] = None
+named_first key (e ∷ es) = if eq_by_cmp (slice_cmp nat_cmp) key.name e.0.name then Some e.0 else None
 
 -- the first node of the same name past a key
 abbrev pub after : Globals → Key → Option Key

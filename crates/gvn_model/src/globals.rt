@@ -1,13 +1,14 @@
 // Globals as nodes in M collation.
 ghost use Rattle.std.specs.Prelude.{◌≡◌, ◌==◌, ◌<◌, ◌≤◌, ◌+◌, ◌-◌, ◌^◌, ℕ, length, min, option_copied, IsTrue, IfOk, IfErr, OnOk, OnErr, not, if◌then◌else◌};
-ghost use Rattle.std.specs.Ordering.{is_lt, eq_by_cmp};
+ghost use Rattle.std.specs.Ordering.{is_lt, eq_by_cmp, nat_cmp};
+ghost use Rattle.std.specs.Cmp.Lexicographic.{slice_cmp};
 ghost use Rattle.std.specs.List.{list_any};
 ghost use Rattle.std.specs.FinMap as globals;
 ghost use Rattle.global_defs.specs.Key.{key_cmp};
 ghost use Rattle.global_defs.specs.Entry.{is_under, apply};
 ghost use Rattle.global_defs.specs.Evaluation as evaluation;
 ghost use Rattle.gvn_key.specs.Terms.{update_value};
-ghost use Rattle.gvn_model.specs.Globals.{entries_of, is_collated, IsPlace, IsAt, IsGap, begins_under};
+ghost use Rattle.gvn_model.specs.Globals.{entries_of, is_collated, IsPlace, IsAt, IsGap, begins_under, named_first, after};
 
 use gvn_key::terms::Update;
 use gvn_key::{Bytes, Key, NoMemory};
@@ -156,6 +157,23 @@ impl Globals {
         nodes.len().min(0xffff_ffff) as u32
     }
 
+    /// The first node of the same name past the key, if there is one.
+    pub fn after(&self, key: &Key) -> Result<Option<Key>, NoMemory>
+        ensures { IfOk result (λ found. found ≡ after self.now key.now) }
+    {
+        let nodes = self.nodes.as_slice();
+        match search(nodes, key) {
+            Ok(i) => {
+                let (_, behind) = nodes.split_at(i + 1);
+                first_of_name(behind, key)
+            }
+            Err(i) => {
+                let (_, behind) = nodes.split_at(i);
+                first_of_name(behind, key)
+            }
+        }
+    }
+
     /// Whether the node has a value, and whether it has descendants: 0, 1, 10 or 11.
     pub fn defined(&self, key: &Key) -> u8
         ensures { result ≡ evaluation.defined self.now key.now }
@@ -182,4 +200,20 @@ fn tens(nodes: &[Node], top: &Key) -> u8
         [first, ..] if first.key.is_under(top) => 10,
         _ => 0,
     }
+}
+
+/// The first node, where it has the key's name.
+fn first_of_name(nodes: &[Node], key: &Key) -> Result<Option<Key>, NoMemory>
+    ensures { IfOk result (λ found. found ≡ named_first key.now (entries_of nodes.now)) }
+{
+    match nodes {
+        [first, ..] if is_named(&first.key, key.name()) => Ok(Some(first.key.copy()?)),
+        _ => Ok(None),
+    }
+}
+
+fn is_named(key: &Key, name: &[u8]) -> bool
+    ensures { result ≡ eq_by_cmp (slice_cmp nat_cmp) name.now key.now.name }
+{
+    matches!(name.cmp(key.name()), Ordering::Equal)
 }

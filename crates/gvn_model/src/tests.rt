@@ -88,6 +88,7 @@ fn takes_nodes_away(rt: HostRuntime) -> Result<(), Fail> {
     let mut globals = Globals::new(rt.alloc());
     set(rt.alloc(), &mut globals, Some(b"1"))?;
     set(rt.alloc(), &mut globals, None)?;
+    assert!(rt; globals.after(&node(rt.alloc(), None)?)?.is_some());
     globals.apply(&Update::ZKill(node(rt.alloc(), None)?))?;
     assert_eq!(rt; globals.nodes(), 1);
     globals.apply(&Update::Kill(node(rt.alloc(), None)?))?;
