@@ -146,6 +146,7 @@ fn updates_of(alloc: Global, name: &[u8], index: &[u8], value: &[u8]) -> Result<
 {
     let subs = [Bytes::of(alloc, index)?];
     match Key::new(alloc, name, &subs) {
+        // a name and an index of these forms make a key, so that only memory can be wanting
         Err(_) => Err(NoMemory),
         Ok(key) => {
             let value = Bytes::of(alloc, value)?;

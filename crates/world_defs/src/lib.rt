@@ -1,3 +1,7 @@
 //! Definitions: script lines, commands, worlds, the meaning of a command and what it writes. There is no code here but laws,
 //! each the contract of a function that does nothing.
 #![tactic(auto)]
+
+mod laws;
+
+pub use laws::{lines_hold, refusals_hold};
