@@ -34,7 +34,6 @@ examples:
 
 bench: bin/gtmr bin/pool_bench
 	tools/bench bin/gtmr
-	bin/pool_bench 2000000
 
 install: bin/gtmr
 	install -D -m 755 bin/gtmr $(DESTDIR)$(PREFIX)/bin/gtmr
