@@ -41,7 +41,9 @@ fn report(rt: &HostRuntime, status: Status) -> u8 {
     match status {
         Status::Ok => 0,
         Status::BadWords => {
-            let _ = eprintln!(rt; "usage: gtmr run");
+            let _ = eprintln!(rt;
+                "usage: gtmr run [--pool N] [--disk memory|DIR] [--link memory|tcp] [--summary] | gtmr gen N"
+            );
             1
         }
         Status::BadLine { line, column } => {
