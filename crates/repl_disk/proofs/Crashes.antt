@@ -28,11 +28,12 @@ turned_none files kept = record {
   rest = λ k d le. refl;
 }
 
-pub crashed_file : (d m : MemFile) → IsImageOf (mem_of d) m.read.items → mem_of m ≡ settled m.read.items → m.left.items ≡ m.read.items → room_of m ≡ room_of d → IsCrashed (entry_of d) (entry_of m)
-crashed_file d m image mem left room = record {
+pub crashed_file : (d m : MemFile) → IsImageOf (mem_of d) m.read.items → mem_of m ≡ settled m.read.items → m.left.items ≡ m.read.items → room_of m ≡ room_of d → m.syncs ≡ d.syncs → IsCrashed (entry_of d) (entry_of m)
+crashed_file d m image mem left room syncs = record {
   image = subst (IsImageOf (mem_of d)) (sym left) image;
   mem = mem ∙ ap settled (sym left);
   room = room;
+  syncs = syncs;
 }
 
 module _ (old now : List MemFile) (i : ℕ) (d m : MemFile) (turned : Turned old now i) (inside : i < length now) (read : d ≡ get_or now i d) (number : m.number ≡ d.number) (room : room_of m ≡ room_of d) (crashed : IsCrashed (entry_of d) (entry_of m)) where
@@ -71,7 +72,7 @@ module _ (old now : List MemFile) (i : ℕ) (d m : MemFile) (turned : Turned old
       }
 
 nothing_crashed : IsCrashed nothing nothing
-nothing_crashed = record { image = record { no_shorter = omega arith; no_longer = omega arith; same = λ i lt free. refl }; mem = refl; room = refl }
+nothing_crashed = record { image = record { no_shorter = omega arith; no_longer = omega arith; same = λ i lt free. refl }; mem = refl; room = refl; syncs = refl }
 
 all_crashed : (old now : List MemFile) → length now ≡ length old → ((k : ℕ) (d : MemFile) → (get_or now k d).number ≡ (get_or old k d).number) → ((k : ℕ) (d : MemFile) → k < length old → IsCrashed (entry_of (get_or old k d)) (entry_of (get_or now k d)))
     → (f : ℕ) → IsCrashed (entry_in old f) (entry_in now f)

@@ -90,9 +90,9 @@ module _ (files : List MemFile) (number i : ℕ) (d : MemFile) (first : IsFirst 
   pub is_kept : AreKept files → IsKept d
   is_kept kept = subst IsKept (sym read) (kept i d first.inside)
 
-pub entry_is : {m m2 : Mem} {l l2 : List ℕ} {c c2 b b2 : ℕ} → m ≡ m2 → l ≡ l2 → c ≡ c2 → b ≡ b2
-    → (let x : Entry = record { mem = m; left = l; room = record { calls = c; bytes = b } } in let y : Entry = record { mem = m2; left = l2; room = record { calls = c2; bytes = b2 } } in x ≡ y)
-entry_is p q r s = λ i. record { mem = p i; left = q i; room = record { calls = r i; bytes = s i } }
+pub entry_is : {m m2 : Mem} {l l2 : List ℕ} {c c2 b b2 n n2 : ℕ} → m ≡ m2 → l ≡ l2 → c ≡ c2 → b ≡ b2 → n ≡ n2
+    → (let x : Entry = record { mem = m; left = l; room = record { calls = c; bytes = b }; syncs = n } in let y : Entry = record { mem = m2; left = l2; room = record { calls = c2; bytes = b2 }; syncs = n2 } in x ≡ y)
+entry_is p q r s t = λ i. record { mem = p i; left = q i; room = record { calls = r i; bytes = s i }; syncs = t i }
 
 pub on_err : {T E P : Type 0} (r : Result T E) → P → OnErr r P
 on_err (Ok x) p = tt

@@ -1,5 +1,5 @@
 -- The table of files in memory.
-use Rattle.std.specs.Prelude.{◌≡◌, ◌≢◌, ℕ, ◌+◌, ◌-◌, ◌≤◌, ◌<◌, ◌==◌, false, if◌then◌else◌, List, [], ◌∷◌, length, take, replicate, slice_index_or, vec_capacity}
+use Rattle.std.specs.Prelude.{◌≡◌, ◌≢◌, ℕ, ◌+◌, ◌-◌, ◌≤◌, ◌<◌, ◌^◌, ◌==◌, min, false, if◌then◌else◌, List, [], ◌∷◌, length, take, replicate, slice_index_or, vec_capacity}
 use Rattle.disk_defs.specs.Disk.{Files}
 use Rattle.repl_disk.specs.Mem.{Mem, Room, settled, wrote, IsImageOf}
 use Rattle.repl_disk.specs.declared.file.MemFile.{MemFile}
@@ -15,12 +15,18 @@ pub record Entry : Type 0 where
   pub mem : Mem
   pub left : List ℕ
   pub room : Room
+  -- how many calls of sync on it have succeeded
+  pub syncs : ℕ
 
 abbrev pub entry_of : MemFile → Entry
-entry_of m = record { mem = mem_of m; left = m.left.items; room = room_of m }
+entry_of m = record { mem = mem_of m; left = m.left.items; room = room_of m; syncs = m.syncs }
 
 abbrev pub nothing : Entry
-nothing = record { mem = settled []; left = []; room = record { calls = 0; bytes = 0 } }
+nothing = record { mem = settled []; left = []; room = record { calls = 0; bytes = 0 }; syncs = 0 }
+
+-- one more, where a count that stands at its last value stays there
+abbrev pub counted : ℕ → ℕ
+counted n = min (n + 1) (2 ^ 64 - 1)
 
 -- the file of this number; one that is not there is empty
 abbrev pub entry_in : List MemFile → ℕ → Entry
@@ -31,19 +37,20 @@ abbrev pub put_entry : ℕ → Entry → (ℕ → Entry) → ℕ → Entry
 put_entry file e old f = if f == file then e else old f
 
 abbrev pub entry_written : ℕ → List ℕ → Entry → Entry
-entry_written at bytes e = record { mem = wrote at bytes e.mem; left = e.left; room = record { calls = e.room.calls - 1; bytes = e.room.bytes - length bytes } }
+entry_written at bytes e = record { mem = wrote at bytes e.mem; left = e.left; room = record { calls = e.room.calls - 1; bytes = e.room.bytes - length bytes }; syncs = e.syncs }
 
 abbrev pub entry_synced : Entry → Entry
-entry_synced e = record { mem = settled e.mem.read; left = e.left; room = record { calls = e.room.calls - 1; bytes = e.room.bytes } }
+entry_synced e = record { mem = settled e.mem.read; left = e.left; room = record { calls = e.room.calls - 1; bytes = e.room.bytes }; syncs = counted e.syncs }
 
 abbrev pub entry_grown : ℕ → ℕ → Entry → Entry
-entry_grown calls bytes e = record { mem = e.mem; left = e.left; room = record { calls = e.room.calls + calls; bytes = e.room.bytes + bytes } }
+entry_grown calls bytes e = record { mem = e.mem; left = e.left; room = record { calls = e.room.calls + calls; bytes = e.room.bytes + bytes }; syncs = e.syncs }
 
 -- a crash made one of its images what it has
 pub record IsCrashed (old new : Entry) : Type 0 where
   pub image : IsImageOf old.mem new.left
   pub mem : new.mem ≡ settled new.left
   pub room : new.room ≡ old.room
+  pub syncs : new.syncs ≡ old.syncs
 
 -- the first file of this number stands there
 pub record IsFirst (files : List MemFile) (number i : ℕ) : Type 0 where
@@ -86,6 +93,10 @@ all_bytes (m ∷ files) = m.bytes_left + all_bytes files
 -- what the last crash left of each file
 abbrev pub lefts : List MemFile → Files
 lefts files f = (entry_in files f).left
+
+-- how many calls of sync on each file have succeeded
+abbrev pub syncs_of : List MemFile → ℕ → ℕ
+syncs_of files f = (entry_in files f).syncs
 
 -- the room that is left on each file
 abbrev pub rooms : List MemFile → ℕ → Room

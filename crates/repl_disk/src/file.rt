@@ -2,7 +2,7 @@
 ghost use Rattle.std.specs.Prelude.{◌≡◌, ◌≤◌, ◌<◌, ◌+◌, ◌-◌, ◌++◌, ◌^◌, ℕ, true, false, length, take, drop, replicate, slice_index_or, vec_capacity, OnOk, OnErr};
 ghost use Rattle.disk_defs.specs.Disk.{written};
 ghost use Rattle.repl_disk.specs.Mem.{marked, wrote, settled, IsImageOf};
-ghost use Rattle.repl_disk.specs.Table.{mem_of, room_of, entry_of, nothing, IsKept, HasMemory};
+ghost use Rattle.repl_disk.specs.Table.{mem_of, room_of, entry_of, nothing, counted, IsKept, HasMemory};
 
 use std::alloc::{AllocError, Global};
 
@@ -21,6 +21,8 @@ pub struct MemFile {
     pub left: Vec<u8>,
     pub calls_left: u64,
     pub bytes_left: u64,
+    /// How many syncs there were.
+    pub syncs: u64,
 }
 
 /// Writes over what is there, and past the end.
@@ -131,6 +133,7 @@ impl MemFile {
             left: Vec::new(alloc),
             calls_left: 0,
             bytes_left: 0,
+            syncs: 0,
         }
     }
 
@@ -146,6 +149,7 @@ impl MemFile {
         ensures calls { OnOk result (self.new.calls_left ≡ self.old.calls_left + calls) }
         ensures bytes { OnOk result (self.new.bytes_left ≡ self.old.bytes_left + bytes) }
         ensures err { OnErr result (room_of self.new ≡ room_of self.old) }
+        ensures syncs { self.new.syncs ≡ self.old.syncs }
     {
         let more = (self.bytes_left + bytes) as usize;
         self.read.reserve(more)?;
@@ -171,6 +175,7 @@ impl MemFile {
         ensures left { self.new.left.items ≡ self.old.left.items }
         ensures calls { self.new.calls_left + 1 ≡ self.old.calls_left }
         ensures bytes { self.new.bytes_left + length bytes.now ≡ self.old.bytes_left }
+        ensures syncs { self.new.syncs ≡ self.old.syncs }
     {
         overwrite(&mut self.read, at, bytes);
         mark(&mut self.marks, at, bytes.len());
@@ -189,12 +194,14 @@ impl MemFile {
         ensures left { self.new.left.items ≡ self.old.left.items }
         ensures calls { self.new.calls_left + 1 ≡ self.old.calls_left }
         ensures bytes { self.new.bytes_left ≡ self.old.bytes_left }
+        ensures syncs { self.new.syncs ≡ counted self.old.syncs }
     {
         let n = self.read.len();
         follow(&mut self.synced, &self.read, self.low);
         unmark(&mut self.marks, self.low, n);
         self.low = n;
         self.calls_left -= 1;
+        self.syncs = self.syncs.saturating_add(1);
     }
 
     /// Puts what it reads on the disk as what a crash left.
@@ -205,6 +212,7 @@ impl MemFile {
         ensures mem { mem_of self.new ≡ settled self.old.read.items }
         ensures left { self.new.left.items ≡ self.old.read.items }
         ensures room { room_of self.new ≡ room_of self.old }
+        ensures syncs { self.new.syncs ≡ self.old.syncs }
     {
         let n = self.read.len();
         follow(&mut self.synced, &self.read, 0);
@@ -225,6 +233,7 @@ impl MemFile {
         ensures mem { mem_of self.new ≡ settled self.new.read.items }
         ensures left { self.new.left.items ≡ self.new.read.items }
         ensures room { room_of self.new ≡ room_of self.old }
+        ensures syncs { self.new.syncs ≡ self.old.syncs }
     {
         if pick == 1 {
             self.settle();

@@ -3,14 +3,14 @@ ghost use Rattle.std.specs.Prelude.{◌≡◌, ◌≢◌, ◌≤◌, ◌<◌, �
 ghost use Rattle.disk_defs.specs.Disk.{Files, Image, HasCause};
 ghost use Rattle.repl_disk.specs.Mem.{replay, mem_view, settled, RoomTaken, RoomGiven};
 ghost use Rattle.repl_disk.specs.MemLaws.{mem_lawful};
-ghost use Rattle.repl_disk.specs.Table.{entry_in, lefts, rooms, IsCrashed, AreKept, all_calls, all_bytes};
+ghost use Rattle.repl_disk.specs.Table.{entry_in, lefts, rooms, syncs_of, counted, IsCrashed, AreKept, all_calls, all_bytes};
 ghost use Rattle.repl_disk.specs.declared.call.Call.TheVariants.{Wrote, Synced};
 ghost use Rattle.std.proofs.Props.{props};
 
 use crate::call::Call;
 use crate::disk::{Disk, Failed, NoMemory};
 use crate::file::MemFile;
-use crate::table::{bytes_of, crash_files, find, grow_file, slot, sync_file, write_file};
+use crate::table::{bytes_of, crash_files, find, grow_file, slot, sync_file, syncs_in, write_file};
 use std::alloc::{AllocError, Global};
 
 /// The greatest room in calls or bytes, on all files together.
@@ -82,15 +82,11 @@ fn burn(fuse: &mut Option<u64>, faults: &mut u64) -> Result<(), Failed>
 }
 
 impl MemDisk {
-    /// How many calls of `sync` on a file have succeeded since the last crash.
-    pub fn syncs(&self, file: u32) -> u64 {
-        let mut n = 0u64;
-        for call in &self.calls {
-            if *call == (Call::Synced { file }) {
-                n = n.saturating_add(1);
-            }
-        }
-        n
+    /// How many calls of `sync` on a file have succeeded since the disk was made.
+    pub fn syncs(&self, file: u32) -> u64
+        ensures { result ≡ syncs_of self.now.files.items file }
+    {
+        syncs_in(&self.files, file)
     }
 
     /// Writes, and records it.
@@ -103,6 +99,7 @@ impl MemDisk {
         ensures left { (f : ℕ) → lefts self.new.files.items f ≡ lefts self.old.files.items f }
         ensures room { RoomTaken file (length bytes.now) (rooms self.old.files.items) (rooms self.new.files.items) }
         ensures faults { self.new.faults ≡ self.old.faults }
+        ensures syncs { (f : ℕ) → syncs_of self.new.files.items f ≡ syncs_of self.old.files.items f }
     {
         let Some(i) = find(&self.files, file) else {
             unreachable!();
@@ -127,6 +124,8 @@ impl MemDisk {
         ensures left { (f : ℕ) → lefts self.new.files.items f ≡ lefts self.old.files.items f }
         ensures room { RoomTaken file 0 (rooms self.old.files.items) (rooms self.new.files.items) }
         ensures faults { self.new.faults ≡ self.old.faults }
+        ensures syncs { syncs_of self.new.files.items file ≡ counted (syncs_of self.old.files.items file) }
+        ensures others { (f : ℕ) → f ≢ file → syncs_of self.new.files.items f ≡ syncs_of self.old.files.items f }
     {
         let Some(i) = find(&self.files, file) else {
             unreachable!();

@@ -1,7 +1,7 @@
 //! The table of a memory disk's files.
 ghost use Rattle.std.specs.Prelude.{◌≡◌, ◌≢◌, ◌≤◌, ◌<◌, ◌+◌, ◌^◌, ℕ, length, IfOk, IfSome, IfNone, OnOk, OnErr};
 ghost use Rattle.repl_disk.specs.Mem.{Mem};
-ghost use Rattle.repl_disk.specs.Table.{entry_in, put_entry, entry_written, entry_synced, entry_grown, IsCrashed, IsFirst, IsAbsent, AreKept, all_calls, all_bytes};
+ghost use Rattle.repl_disk.specs.Table.{entry_in, syncs_of, put_entry, entry_written, entry_synced, entry_grown, IsCrashed, IsFirst, IsAbsent, AreKept, all_calls, all_bytes};
 
 use crate::file::MemFile;
 use std::alloc::{AllocError, Global};
@@ -29,6 +29,18 @@ pub fn bytes_of(files: &[MemFile], number: u32) -> &[u8]
         }
     }
     &[]
+}
+
+/// How many syncs of a file there were; none where it is not there.
+pub fn syncs_in(files: &[MemFile], number: u32) -> u64
+    ensures { result ≡ syncs_of files.now number }
+{
+    for file in files {
+        if file.number == number {
+            return file.syncs;
+        }
+    }
+    0
 }
 
 /// The place at which a new file keeps the numbers rising.

@@ -107,6 +107,9 @@ fn calls_that_are_counted(rt: HostRuntime) -> Result<(), Fail> {
     let mut disk = worked(rt.alloc())?;
     assert_eq!(rt; disk.syncs(3), 1);
     assert_eq!(rt; disk.syncs(7), 0);
+    disk.crash(1);
+    harden(&mut disk, 3)?;
+    assert_eq!(rt; disk.syncs(3), 2);
     assert!(rt; disk.simulated());
     assert_eq!(rt; disk.len(9)?, 0);
     assert!(rt; !put(&mut disk, 9, 1, b"past the end")?);

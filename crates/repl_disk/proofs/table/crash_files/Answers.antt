@@ -18,7 +18,7 @@ loop-i-preserved c =
     record {
       first = call.next;
       same_end = c.loop-i.invariant.same_end;
-      turned = turned_next c.args.files.now.items c.loop-i.files.items c.loop-i.i d m c.loop-i.invariant.turned inside c.index_mut-file.ensures.value call.number call.room (crashed_file d m call.image call.mem call.left call.room) call.kept;
+      turned = turned_next c.args.files.now.items c.loop-i.files.items c.loop-i.i d m c.loop-i.invariant.turned inside c.index_mut-file.ensures.value call.number call.room (crashed_file d m call.image call.mem call.left call.room call.syncs) call.kept;
     }
 
 pub returns-clause-crashed : goal.returns-clause-crashed

@@ -17,7 +17,7 @@ reserve-requires-clause-bytes c =
 pub returns-in_err-reserve-clause-err : goal.returns-in_err-reserve-clause-err
 returns-in_err-reserve-clause-err c =
     on_err c.from_residual.result (set_kept c.args.files.now.items c.args.number c.args.i c.index_mut-file.result.now c.requires.first c.index_mut-file.ensures.value c.reserve.new.self c.reserve.ensures.number
-    (entry_is c.reserve.ensures.mem c.reserve.ensures.left (ap (λ (r : Room). r.calls) c.in_err-reserve.ensures.err) (ap (λ (r : Room). r.bytes) c.in_err-reserve.ensures.err)))
+    (entry_is c.reserve.ensures.mem c.reserve.ensures.left (ap (λ (r : Room). r.calls) c.in_err-reserve.ensures.err) (ap (λ (r : Room). r.bytes) c.in_err-reserve.ensures.err) c.reserve.ensures.syncs))
 
 pub returns-in_err-reserve-clause-err_calls : goal.returns-in_err-reserve-clause-err_calls
 returns-in_err-reserve-clause-err_calls c =
@@ -35,7 +35,7 @@ pub returns-clause-ok : goal.returns-clause-ok
 returns-clause-ok c f =
     let is = reads c.args.files.now.items c.args.number c.args.i c.index_mut-file.result.now c.requires.first c.index_mut-file.ensures.value in
     set_to c.args.files.now.items c.args.number c.args.i c.index_mut-file.result.now c.requires.first c.index_mut-file.ensures.value c.reserve.new.self _ c.reserve.ensures.number
-    (entry_is (c.reserve.ensures.mem ∙ ap (λ (e : Entry). e.mem) (sym is)) (c.reserve.ensures.left ∙ ap (λ (e : Entry). e.left) (sym is)) (c.in_ok-reserve.ensures.calls ∙ ap (λ (e : Entry). e.room.calls + c.args.calls) (sym is)) (c.in_ok-reserve.ensures.bytes ∙ ap (λ (e : Entry). e.room.bytes + c.args.bytes) (sym is))) f
+    (entry_is (c.reserve.ensures.mem ∙ ap (λ (e : Entry). e.mem) (sym is)) (c.reserve.ensures.left ∙ ap (λ (e : Entry). e.left) (sym is)) (c.in_ok-reserve.ensures.calls ∙ ap (λ (e : Entry). e.room.calls + c.args.calls) (sym is)) (c.in_ok-reserve.ensures.bytes ∙ ap (λ (e : Entry). e.room.bytes + c.args.bytes) (sym is)) (c.reserve.ensures.syncs ∙ ap (λ (e : Entry). e.syncs) (sym is))) f
 
 pub returns-clause-calls : goal.returns-clause-calls
 returns-clause-calls c =

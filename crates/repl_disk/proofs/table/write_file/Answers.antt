@@ -26,7 +26,7 @@ returns-clause-entries c f =
     let calls : c.write.new.self.calls_left ≡ d.calls_left - 1 = omega (arith, c.write.ensures.calls) in
     let bytes : c.write.new.self.bytes_left ≡ d.bytes_left - length c.args.bytes.now = omega (arith, c.write.ensures.bytes) in
     set_to c.args.files.now.items c.args.number c.args.i d c.requires.first c.index_mut-file.ensures.value c.write.new.self _ c.write.ensures.number
-    (entry_is (c.write.ensures.mem ∙ ap (λ (e : Entry). wrote c.args.at c.args.bytes.now e.mem) (sym is)) (c.write.ensures.left ∙ ap (λ (e : Entry). e.left) (sym is)) (calls ∙ ap (λ (e : Entry). e.room.calls - 1) (sym is)) (bytes ∙ ap (λ (e : Entry). e.room.bytes - length c.args.bytes.now) (sym is))) f
+    (entry_is (c.write.ensures.mem ∙ ap (λ (e : Entry). wrote c.args.at c.args.bytes.now e.mem) (sym is)) (c.write.ensures.left ∙ ap (λ (e : Entry). e.left) (sym is)) (calls ∙ ap (λ (e : Entry). e.room.calls - 1) (sym is)) (bytes ∙ ap (λ (e : Entry). e.room.bytes - length c.args.bytes.now) (sym is)) (c.write.ensures.syncs ∙ ap (λ (e : Entry). e.syncs) (sym is))) f
 
 pub returns-clause-all_calls : goal.returns-clause-all_calls
 returns-clause-all_calls c =

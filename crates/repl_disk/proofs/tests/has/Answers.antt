@@ -1,4 +1,4 @@
-use Rattle.std.proofs.Common.{◌≡◌, ◌≤◌, ◌+◌, [], ◌∷◌, ℕ, List, length, take, sym, arith, length-take}
+use Rattle.std.proofs.Common.{◌≤◌, ◌+◌, [], ◌∷◌, ℕ, List, length, take, sym, arith, length-take}
 use Rattle.disk_defs.specs.Disk.{Files}
 use Rattle.disk_defs.proofs.Told.{told_at}
 use Rattle.repl_disk.proofs.tests.has.Goals as goal

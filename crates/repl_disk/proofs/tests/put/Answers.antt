@@ -1,4 +1,4 @@
-use Rattle.std.proofs.Common.{◌≡◌, ◌≤◌, ℕ, length, sym, arith}
+use Rattle.std.proofs.Common.{◌≤◌, length, sym, arith}
 use Rattle.disk_defs.specs.Disk.{Files}
 use Rattle.disk_defs.proofs.Told.{told_at}
 use Rattle.repl_disk.proofs.tests.put.Goals as goal
