@@ -131,13 +131,13 @@ impl Journal {
 
     /// Takes all memory and room that appending this record and hardening it use. The record has to be in its form and its
     /// body at most 1,048,576 bytes long.
-    pub fn prepare<D: Disk>(&mut self, disk: &mut D, record: &JnlRecord) -> Result<(), NoMemory>
+    pub fn prepare<D: Disk>(&mut self, disk: &mut D, what: &JnlRecord) -> Result<(), NoMemory>
         requires ready { IsReady (D.disk disk.old) self.old }
-        requires form { IsInForm (record_value record.now) }
-        requires version { IsFirstVersion record.now }
-        requires short { length (spelled_record (record_value record.now)) ≤ 1048576 }
+        requires form { IsInForm (record_value what.now) }
+        requires version { IsFirstVersion what.now }
+        requires short { length (spelled_record (record_value what.now)) ≤ 1048576 }
         ensures ready { IsReady (D.disk disk.new) self.new }
-        ensures prepared { OnOk result (IsPrepared self.new (record_value record.now)) }
+        ensures prepared { OnOk result (IsPrepared self.new (record_value what.now)) }
         ensures syncs { OnOk result (self.new.gated.syncs_left ≡ self.old.gated.syncs_left + 2) }
         ensures err { OnErr result (SamePrepared self.old self.new) }
         ensures state { (s : Recorded) → HasRecords (D.disk disk.old) self.old s → HasRecords (D.disk disk.new) self.new s }
@@ -147,7 +147,7 @@ impl Journal {
         ensures faults { (D.disk disk.new).faults ≡ (D.disk disk.old).faults }
     {
         let mut body = Bytes::new(self.gated.alloc);
-        encode(record, &mut body)?;
+        encode(what, &mut body)?;
         self.gated.reserve(disk, 1, body.len() as u64)?;
         self.body = body;
         Ok(())

@@ -37,10 +37,10 @@ pub fn read_record<D: Disk>(
 }
 
 /// Whether a record may be the first of a journal of this region and generation, or a later one.
-fn may_stand(record: &JnlRecord, is_first: bool, region: u8, generation: u32) -> bool
-    ensures { IsTrue result ↔ MayStand is_first region generation (record_value record.now) }
+fn may_stand(what: &JnlRecord, is_first: bool, region: u8, generation: u32) -> bool
+    ensures { IsTrue result ↔ MayStand is_first region generation (record_value what.now) }
 {
-    match record {
+    match what {
         JnlRecord::Pini {
             region: named,
             generation: drawn,
