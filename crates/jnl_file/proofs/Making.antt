@@ -1,11 +1,11 @@
 -- A journal is made, or taken up.
-use Rattle.std.proofs.Common.{◌≡◌, inl, inr, ℕ, List, [], ◌∷◌, ◌++◌, Option, Some, None, IfSome, IsSomeAnd, sym, ◌∙◌, ap, subst, append-nil}
+use Rattle.std.proofs.Common.{◌≡◌, inl, inr, ℕ, Bool, List, [], ◌∷◌, ◌++◌, Option, Some, None, IfSome, IsSomeAnd, sym, ◌∙◌, ap, subst, append-nil}
 use Rattle.std.specs.List.{AllZip}
 use Rattle.disk_defs.specs.Disk.{Files, View, Image, IsLawful, AtEachMoment, ReadsAfter, Reads}
 use Rattle.disk_defs.specs.Frames.{Only, OnlyOn, SameOutside, OthersStay}
 use Rattle.disk_defs.specs.Gates.{Body, records}
-use Rattle.disk_defs.proofs.Told.{with_told, weaker_told, both_told}
-use Rattle.disk_defs.proofs.Moments.{weaker, then_more, holds_now}
+use Rattle.disk_defs.proofs.Told.{with_told, weaker_told, both_weak, both_told}
+use Rattle.disk_defs.proofs.Moments.{weaker, then_more, holds_now, nothing_new}
 use Rattle.disk_defs.proofs.Frames.{others_read}
 use Rattle.gated_file.specs.State.{settled as settled_bodies}
 use Rattle.gated_file.specs.Gated as gates
@@ -13,12 +13,12 @@ use Rattle.gated_file.specs.Begin.{KeepsRecords}
 use Rattle.gated_file.specs.declared.gated.Gated.{Gated}
 use Rattle.gated_file.proofs.Others.{state_stays, ready_stays}
 use Rattle.journal_defs.specs.Journal.{JournalRecord, IsJournalBody}
-use Rattle.jnl_file.specs.Records.{Recorded, AreBodiesOf, StandsRecords, settled}
-use Rattle.jnl_file.specs.Journal.{HoldsRecords, HasRecords}
+use Rattle.jnl_file.specs.Records.{Recorded, StandsRecords, appended, settled}
+use Rattle.jnl_file.specs.Journal.{HoldsRecords, HasRecords, IsPrepared}
 use Rattle.jnl_file.specs.Reading.{IsJournalFile}
-use Rattle.jnl_file.specs.Begin.{MayBegin}
+use Rattle.jnl_file.specs.Begin.{pini, MayBegin}
 use Rattle.jnl_file.specs.declared.journal.Journal.{Journal}
-use Rattle.jnl_file.proofs.Steps.{records_of}
+use Rattle.jnl_file.proofs.Steps.{records_of, records_more}
 use Rattle.jnl_file.proofs.Walk.{journal_as}
 
 -- a file that keeps its records may be beginning
@@ -97,3 +97,28 @@ pub none_yet : (o : Option Files) (w : View) (g : Gated) (j : Journal) → j.gat
 none_yet o w g j same has =
     weaker_told o (λ files. gates.HasState w g (settled_bodies [])) (λ files. HasRecords w j (settled [])) has
     (λ files h. records_of w j (settled []) (settled_bodies []) (subst (λ (x : Gated). gates.HasState w x (settled_bodies [])) (sym same) h) (record { hard = tt; opening = tt; closed = tt }))
+
+-- The calls that make a journal: its PINI is prepared,
+pub pini_prepared : (u v w : View) (file : ℕ) (first : JournalRecord) → IsLawful v → IfSome u.content (λ files. AtEachMoment u v (KeepsRecords u file)) → AtEachMoment v w (Image v) → IfSome u.content (λ files. AtEachMoment u w (MayBegin u file first))
+pini_prepared u v w file first lawful keeps call =
+    weaker_told u.content (λ files. AtEachMoment u v (KeepsRecords u file)) (λ files. AtEachMoment u w (MayBegin u file first)) keeps
+    (λ files run. nothing_new u v w (MayBegin u file first) lawful (keeps_begins u v file first run) call)
+
+-- appended,
+pub pini_appended : (u v w : View) (j : Journal) (file : ℕ) (first : JournalRecord) → IsLawful v → j.gated.file ≡ file → IfSome u.content (λ files. AtEachMoment u v (MayBegin u file first)) → IfSome u.content (λ files. HasRecords v j (settled []))
+    → ((s : Recorded) → HasRecords v j s → AtEachMoment v w (OnlyOn v j.gated.file (StandsRecords s.hard s.opening))) → IfSome u.content (λ files. AtEachMoment u w (MayBegin u file first))
+pini_appended u v w j file first lawful same run has call =
+    both_weak u.content (λ files. AtEachMoment u v (MayBegin u file first)) (λ files. HasRecords v j (settled [])) (λ files. AtEachMoment u w (MayBegin u file first)) run has
+    (λ files begins h. begins_then u v w file j.gated.file first (StandsRecords [] []) lawful same begins (call (settled []) h) (λ bytes stands. records_more [] [] (first ∷ []) bytes stands))
+
+-- and hardened.
+pub pini_hardened : (u v w : View) (j : Journal) (file : ℕ) (first : JournalRecord) → IsLawful v → j.gated.file ≡ file → IfSome u.content (λ files. AtEachMoment u v (MayBegin u file first)) → IfSome u.content (λ files. HasRecords v j (appended (settled []) first))
+    → ((s : Recorded) → HasRecords v j s → AtEachMoment v w (OnlyOn v j.gated.file (StandsRecords s.hard (s.opening ++ s.closed)))) → IfSome u.content (λ files. AtEachMoment u w (MayBegin u file first))
+pini_hardened u v w j file first lawful same run has call =
+    both_weak u.content (λ files. AtEachMoment u v (MayBegin u file first)) (λ files. HasRecords v j (appended (settled []) first)) (λ files. AtEachMoment u w (MayBegin u file first)) run has
+    (λ files begins h. begins_then u v w file j.gated.file first (StandsRecords [] (first ∷ [])) lawful same begins (call (appended (settled []) first) h) (λ bytes stands. stands))
+
+-- the PINI that was prepared
+pub pini_named : (j k : Journal) (region generation previous : ℕ) (before : Bool) → j.region ≡ region → j.generation ≡ generation → IsPrepared k (pini j.region before j.generation previous) → IsPrepared k (pini region before generation previous)
+pini_named j k region generation previous before r g prepared =
+    subst (λ (n : ℕ). IsPrepared k (pini region before n previous)) g (subst (λ (n : ℕ). IsPrepared k (pini n before j.generation previous)) r prepared)
