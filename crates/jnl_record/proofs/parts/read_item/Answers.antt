@@ -1,0 +1,9 @@
+use Rattle.std.proofs.Common.{arith, rules, Some}
+use Rattle.jnl_record.proofs.Chains.{Reads, byte}
+use Rattle.jnl_record.proofs.ItemLists.{no_byte, other_byte, no_position, bad_position, no_update, some_item}
+use Rattle.jnl_record.proofs.parts.read_item.Goals as goal
+
+pub returns : goal.returns
+returns c =
+    let four : Reads byte c.args.bytes.now (Some (4, c.in-Some-eq4-default.rest.now)) = search rules in
+    some_item c.args.low c.args.count c.ranges.count.fits c.args.bytes.now _ four _ _ c.in-Some.ensures _ _ (omega arith) (omega arith) (rw c.in-Some-2.is at c.in_ok-update.ensures)
