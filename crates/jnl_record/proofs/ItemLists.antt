@@ -1,11 +1,9 @@
 -- Items, one and many.
-use Rattle.std.proofs.Common.{◌≡◌, ◌≢◌, ◌⊎◌, ℕ, suc, ◌+◌, ◌-◌, ◌<◌, ◌≤◌, ◌^◌, List, [], ◌∷◌, ◌++◌, length, flat_map, arith, Option, Some, None, refl, ap, sym, ◌∙◌, append_assoc}
+use Rattle.std.proofs.Common.{◌≡◌, ◌≢◌, ℕ, suc, ◌+◌, ◌-◌, ◌<◌, ◌≤◌, ◌^◌, List, [], ◌∷◌, ◌++◌, flat_map, arith, Option, Some, None, refl, ap, sym, ◌∙◌, append_assoc}
 use Rattle.std.proofs.lemmas.List.{append-nil}
 use Rattle.std.specs.Option.{option_map}
-use Rattle.std.specs.List.{AllByRecursion}
 use Rattle.global_defs.specs.Entry.{Update}
 use Rattle.global_defs.specs.Fields.{spelled_update, IsUpdate}
-use Rattle.repl_fields.specs.Reading.{ReadsField}
 use Rattle.journal_defs.specs.Journal.{Item, Rise, IsItem, spelled_item}
 use Rattle.jnl_record.specs.Heads.{AreItems}
 use Rattle.jnl_record.proofs.Chains.{Field, Reads, byte, half}

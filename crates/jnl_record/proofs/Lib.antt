@@ -1,3 +1,4 @@
 mod Chains
 mod ItemLists
+mod Pushes
 mod Records

@@ -1,12 +1,17 @@
 -- Records as their kind and then fields.
 use Rattle.std.proofs.Common.{◌≡◌, ◌≢◌, ℕ, ◌+◌, ◌<◌, ◌≤◌, ◌^◌, Bool, List, [], ◌∷◌, ◌++◌, length, flat_map, arith, Option, Some, None, refl, ap, sym, ◌∙◌, subst}
-use Rattle.std.specs.Int.{to_be_bytes, w16, w32, w64}
+use Rattle.std.proofs.lemmas.List.{append-nil}
+use Rattle.std.proofs.lemmas.List.Elements.{All-from_recursion}
+use Rattle.std.specs.Prelude.{All, map}
+use Rattle.std.specs.Int.{to_be_bytes, w32, w64}
 use Rattle.std.specs.List.{AllByRecursion}
 use Rattle.std.specs.Option.{option_map}
-use Rattle.global_defs.specs.Fields.{flag}
+use Rattle.global_defs.specs.Fields.{flag, IsUpdate}
 use Rattle.repl_fields.specs.Reading.{ReadsField}
+use Rattle.gvn_model.specs.declared.items.Item as code
 use Rattle.gvn_model.specs.Entries.{origin_value}
-use Rattle.journal_defs.specs.Journal.{JournalRecord, Pini, Epoch, Pblk, Tcom, Start, Mark, Before, Part, Item, IsStart, IsPart, IsItem, Rise, IsInForm, spelled_item, spelled_record}
+use Rattle.gvn_model.specs.Items.{item_value}
+use Rattle.journal_defs.specs.Journal.{JournalRecord, Pini, Epoch, Pblk, Tcom, Start, Mark, Before, Part, Item, IsStart, IsPart, IsItem, Rise, IsInForm, IsJournalBody, spelled_item, spelled_record}
 use Rattle.jnl_record.specs.declared.parts.Head.{Head}
 use Rattle.jnl_record.specs.Heads.{IsHead, spelled_head, AreItems}
 use Rattle.jnl_record.proofs.Chains.{Field, Reads, byte, half, word, double, truth, image, and, none_as, out_as, some_as}
@@ -248,3 +253,18 @@ module _ (bytes : List ℕ) (h : Head) (r : List ℕ) (first : Reads head bytes 
       → ReadsField IsInForm spelled_record (5 ∷ bytes) (option_map (λ q. (Tcom (part_of h q.0), q.1)) p)
   tcom_read None second = tagged part 5 Tcom (λ p. refl) (λ p h. h) (λ p h. h) tcom_only bytes None (part_read None second)
   tcom_read (Some q) second = tagged part 5 Tcom (λ p. refl) (λ p h. h) (λ p h. h) tcom_only bytes (Some (part_of h q.0, q.1)) (part_read (Some q) second)
+
+-- the updates of items in the code
+each : (count : ℕ) (xs : List code.Item) → AllByRecursion (IsItem count) (map item_value xs) → AllByRecursion (λ i. IsUpdate (item_value i).update) xs
+each count [] all = tt
+each count (x ∷ xs) all = (all.0.update, each count xs all.1)
+
+pub each_update : (count : ℕ) (xs : List code.Item) → AllByRecursion (IsItem count) (map item_value xs) → All (λ i. IsUpdate (item_value i).update) xs
+each_update count xs all = All-from_recursion (λ i. IsUpdate (item_value i).update) xs (each count xs all)
+
+-- whole bodies
+pub no_body : (body : List ℕ) → ReadsField IsInForm spelled_record body None → (r : JournalRecord) → IsJournalBody body r → ⊥
+no_body body none r is = none r [] is.form (is.spelled ∙ sym (append-nil (spelled_record r)))
+
+pub longer_body : (body : List ℕ) (q : JournalRecord) (rest : List ℕ) → ReadsField IsInForm spelled_record body (Some (q, rest)) → (length rest ≡ 0 → ⊥) → (r : JournalRecord) → IsJournalBody body r → ⊥
+longer_body body q rest read more r is = more (ap length (sym (read.2 r [] is.form (is.spelled ∙ sym (append-nil (spelled_record r)))).1))

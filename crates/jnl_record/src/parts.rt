@@ -61,7 +61,11 @@ fn read_head(bytes: &[u8]) -> Option<(Head, &[u8])>
         count,
         items,
     };
-    if head.is_valid() { Some((head, rest)) } else { None }
+    if head.is_valid() {
+        Some((head, rest))
+    } else {
+        None
+    }
 }
 
 /// An item of a transaction of `count` updates with a position from `low` on, and what follows it.

@@ -13,11 +13,7 @@ use repl_fields::read_u8;
 use std::alloc::Global;
 
 /// A record of this kind, by what stands behind the kind, and what follows it.
-fn read_kind(
-    alloc: Global,
-    kind: u8,
-    bytes: &[u8],
-) -> Result<Option<(JnlRecord, &[u8])>, NoMemory>
+fn read_kind(alloc: Global, kind: u8, bytes: &[u8]) -> Result<Option<(JnlRecord, &[u8])>, NoMemory>
     ensures read { IfOk result (λ found. ReadsField IsInForm spelled_record (kind ∷ bytes.now) (option_map (λ p. (record_value p.0, p.1.now)) found)) }
     ensures version { IfOk result (λ found. IfSome found (λ p. IsFirstVersion p.0)) }
 {
@@ -48,8 +44,13 @@ pub fn decode(alloc: Global, body: &[u8], offset: u64) -> Result<JnlRecord, Reco
     ensures refused { (at : ℕ) → IsErrOf result (RecordError.NotARecord at) → (r : JournalRecord) → IsJournalBody body.now r → ⊥ }
     ensures place { (at : ℕ) → IsErrOf result (RecordError.NotARecord at) → at ≡ offset }
 {
-    match read_record(alloc, body)? {
-        Some((record, [])) => Ok(record),
-        _ => Err(RecordError::NotARecord { offset }),
+    let refusal = RecordError::NotARecord { offset };
+    let Some((record, rest)) = read_record(alloc, body)? else {
+        return Err(refusal);
+    };
+    if rest.is_empty() {
+        Ok(record)
+    } else {
+        Err(refusal)
     }
 }

@@ -6,7 +6,8 @@ use gvn_model::{Item, Items, Origin};
 use std::test::Fail;
 
 /// TCOM of number 1, mask 1, updater 1, serial 1, and SET ^X(1)="a" at position 0 of 1.
-const TCOM: &[u8] = b"\x05\0\0\0\0\0\0\0\x01\x01\x01\0\0\0\x01\0\x01\0\x01\x04\0\0\x01\x06X\0\x03A1\0\0\x01a";
+const TCOM: &[u8] =
+    b"\x05\0\0\0\0\0\0\0\x01\x01\x01\0\0\0\x01\0\x01\0\x01\x04\0\0\x01\x06X\0\x03A1\0\0\x01a";
 
 /// PINI of region 2 with before-images, generation 258, after generation 1.
 const PINI: &[u8] = b"\x01\x01\x02\x01\0\0\x01\x02\0\0\0\x01";
@@ -41,7 +42,17 @@ fn writes_a_transaction(rt: HostRuntime) -> Result<(), Fail> {
 #[test]
 fn reads_a_transaction(rt: HostRuntime) -> Result<(), Fail> {
     let alloc = rt.alloc();
-    assert!(rt; matches!(decode(alloc, TCOM, 0)?, JnlRecord::Tcom { number: 1, mask: 1, count: 1, .. }));
+    assert!(rt;
+        matches!(
+            decode(alloc, TCOM, 0)?,
+            JnlRecord::Tcom {
+                number: 1,
+                mask: 1,
+                count: 1,
+                ..
+            }
+        )
+    );
     Ok(())
 }
 
@@ -49,7 +60,18 @@ fn reads_a_transaction(rt: HostRuntime) -> Result<(), Fail> {
 fn reads_and_writes_a_start(rt: HostRuntime) -> Result<(), Fail> {
     let alloc = rt.alloc();
     let record = decode(alloc, PINI, 0)?;
-    assert!(rt; matches!(record, JnlRecord::Pini { version: 1, region: 2, before: true, generation: 258, previous: 1 }));
+    assert!(rt;
+        matches!(
+            record,
+            JnlRecord::Pini {
+                version: 1,
+                region: 2,
+                before: true,
+                generation: 258,
+                previous: 1
+            }
+        )
+    );
     let mut out = Bytes::new(alloc);
     encode(&record, &mut out)?;
     assert_eq!(rt; out.as_slice(), PINI);
@@ -60,10 +82,22 @@ fn reads_and_writes_a_start(rt: HostRuntime) -> Result<(), Fail> {
 fn reads_and_writes_an_epoch(rt: HostRuntime) -> Result<(), Fail> {
     let alloc = rt.alloc();
     let record = decode(alloc, b"\x02\x01\0\0\0\0\0\0\x01\x02\0\0\0\x03", 0)?;
-    assert!(rt; matches!(record, JnlRecord::Epoch { closing: true, number: 258, blocks: 3 }));
+    assert!(rt;
+        matches!(
+            record,
+            JnlRecord::Epoch {
+                closing: true,
+                number: 258,
+                blocks: 3
+            }
+        )
+    );
     let mut out = Bytes::new(alloc);
     encode(&record, &mut out)?;
-    assert_eq!(rt; out.as_slice(), b"\x02\x01\0\0\0\0\0\0\x01\x02\0\0\0\x03".as_slice());
+    assert_eq!(rt;
+        out.as_slice(),
+        b"\x02\x01\0\0\0\0\0\0\x01\x02\0\0\0\x03".as_slice()
+    );
     Ok(())
 }
 

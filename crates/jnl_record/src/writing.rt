@@ -1,11 +1,14 @@
 //! Records, as bytes.
 ghost use Rattle.std.specs.Prelude.{◌≡◌, ◌++◌, map, All, OnOk, OnErr};
 ghost use Rattle.std.specs.List.{flat_map};
+ghost use Rattle.global_defs.specs.Fields as fields;
 ghost use Rattle.global_defs.specs.Fields.{IsUpdate};
 ghost use Rattle.gvn_model.specs.Items.{item_value};
 ghost use Rattle.journal_defs.specs.Journal.{spelled_item, spelled_record, IsInForm};
+ghost use Rattle.jnl_record.specs.Heads.{spelled_head};
 ghost use Rattle.jnl_record.specs.Values.{record_value, IsFirstVersion};
 
+use super::parts::Head;
 use super::record::JnlRecord;
 use gvn_key::{Bytes, NoMemory};
 use gvn_model::Item;
@@ -32,6 +35,24 @@ fn write_items(items: &[Item], out: &mut Bytes) -> Result<(), NoMemory>
     Ok(())
 }
 
+/// Adds how a TCOM begins at the end, behind its kind.
+fn write_head(head: Head, out: &mut Bytes) -> Result<(), NoMemory>
+    ensures { OnOk result (out.new ≡ out.old ++ spelled_head head) }
+{
+    out.push_all(&head.number.to_be_bytes())?;
+    out.push_all(&[head.mask, head.origin.updater])?;
+    out.push_all(&head.origin.serial.to_be_bytes())?;
+    out.push_all(&head.count.to_be_bytes())?;
+    out.push_all(&head.items.to_be_bytes())
+}
+
+/// 1 for true and 0 for false.
+fn flag_byte(flag: bool) -> u8
+    ensures { result ≡ fields.flag flag }
+{
+    u8::from(flag)
+}
+
 /// Adds a record's body at the end. Without memory a part of it may be there.
 fn write_record(r: &JnlRecord, out: &mut Bytes) -> Result<(), NoMemory>
     requires form { IsInForm (record_value r.now) }
@@ -46,7 +67,7 @@ fn write_record(r: &JnlRecord, out: &mut Bytes) -> Result<(), NoMemory>
             generation,
             previous,
         } => {
-            out.push_all(&[1, *version, *region, u8::from(*before)])?;
+            out.push_all(&[1, *version, *region, flag_byte(*before)])?;
             out.push_all(&generation.to_be_bytes())?;
             out.push_all(&previous.to_be_bytes())
         }
@@ -55,7 +76,7 @@ fn write_record(r: &JnlRecord, out: &mut Bytes) -> Result<(), NoMemory>
             number,
             blocks,
         } => {
-            out.push_all(&[2, u8::from(*closing)])?;
+            out.push_all(&[2, flag_byte(*closing)])?;
             out.push_all(&number.to_be_bytes())?;
             out.push_all(&blocks.to_be_bytes())
         }
@@ -71,12 +92,15 @@ fn write_record(r: &JnlRecord, out: &mut Bytes) -> Result<(), NoMemory>
             count,
             items,
         } => {
+            let head = Head {
+                number: *number,
+                mask: *mask,
+                origin: *origin,
+                count: *count,
+                items: items.len() as u16,
+            };
             out.push(5)?;
-            out.push_all(&number.to_be_bytes())?;
-            out.push_all(&[*mask, origin.updater])?;
-            out.push_all(&origin.serial.to_be_bytes())?;
-            out.push_all(&count.to_be_bytes())?;
-            out.push_all(&(items.len() as u16).to_be_bytes())?;
+            write_head(head, out)?;
             write_items(items.as_slice(), out)
         }
     }

@@ -4,8 +4,8 @@ use Rattle.jnl_record.proofs.fields.read_image.Goals as goal
 
 one_front : (x a r s : List ℕ) (n : ℕ) → length x ≡ n → length a ≡ n → x ++ r ≡ a ++ s → (x ≡ a) × (r ≡ s)
 one_front x a r s n many same e = (
-    sym (take-append_seam x r) ∙ ap (λ k. take k (x ++ r)) (many ∙ sym same) ∙ ap (take (length a)) e ∙ take-append_seam a s,
-    sym (drop-append_seam x r) ∙ ap (λ k. drop k (x ++ r)) (many ∙ sym same) ∙ ap (drop (length a)) e ∙ drop-append_seam a s,
+  sym (take-append_seam x r) ∙ ap (λ k. take k (x ++ r)) (many ∙ sym same) ∙ ap (take (length a)) e ∙ take-append_seam a s,
+  sym (drop-append_seam x r) ∙ ap (λ k. drop k (x ++ r)) (many ∙ sym same) ∙ ap (drop (length a)) e ∙ drop-append_seam a s,
 )
 
 pub returns : goal.returns

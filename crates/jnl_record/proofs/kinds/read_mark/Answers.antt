@@ -1,5 +1,5 @@
-use Rattle.jnl_record.proofs.Chains.{word, double, truth, front, behind, joined}
-use Rattle.jnl_record.proofs.Records.{number_on, no_mark, bad_mark, some_mark}
+use Rattle.jnl_record.proofs.Chains.{word, double, truth, front, behind}
+use Rattle.jnl_record.proofs.Records.{number_on, no_mark}
 use Rattle.jnl_record.proofs.kinds.read_mark.Goals as goal
 
 pub returns-in_err-number-clause-read : goal.returns-in_err-number-clause-read

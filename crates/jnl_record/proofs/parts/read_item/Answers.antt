@@ -1,6 +1,6 @@
 use Rattle.std.proofs.Common.{arith, rules, Some}
 use Rattle.jnl_record.proofs.Chains.{Reads, byte}
-use Rattle.jnl_record.proofs.ItemLists.{no_byte, other_byte, no_position, bad_position, no_update, some_item}
+use Rattle.jnl_record.proofs.ItemLists.{some_item}
 use Rattle.jnl_record.proofs.parts.read_item.Goals as goal
 
 pub returns : goal.returns

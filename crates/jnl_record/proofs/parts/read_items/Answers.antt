@@ -1,5 +1,4 @@
-use Rattle.std.proofs.Common.{◌≡◌, ◌++◌, [], ◌∷◌, List, arith, rules, Some}
-use Rattle.gvn_model.specs.Items.{item_value}
+use Rattle.std.proofs.Common.{arith}
 use Rattle.jnl_record.proofs.ItemLists.{goes_first, goes_on, goes_out, goes_done}
 use Rattle.jnl_record.proofs.parts.read_items.Goals as goal
 
