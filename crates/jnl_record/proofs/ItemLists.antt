@@ -1,5 +1,5 @@
 -- Items, one and many.
-use Rattle.std.proofs.Common.{◌≡◌, ◌≢◌, ℕ, suc, ◌+◌, ◌-◌, ◌<◌, ◌≤◌, ◌^◌, List, [], ◌∷◌, ◌++◌, flat_map, arith, Option, Some, None, refl, ap, sym, ◌∙◌, append_assoc}
+use Rattle.std.proofs.Common.{◌≡◌, ℕ, suc, ◌+◌, ◌-◌, ◌<◌, ◌≤◌, ◌^◌, List, [], ◌∷◌, ◌++◌, flat_map, arith, Option, Some, None, refl, ap, sym, ◌∙◌, append_assoc}
 use Rattle.std.proofs.lemmas.List.{append-nil}
 use Rattle.std.specs.Option.{option_map}
 use Rattle.global_defs.specs.Entry.{Update}
@@ -15,12 +15,6 @@ abbrev pub item : ℕ → ℕ → Field Item
 item low count = record { has = λ i. (low ≤ i.position) × IsItem count i; spelled = spelled_item }
 
 module _ (low count : ℕ) (small : count < 2 ^ 16) (bytes : List ℕ) where
-  pub no_byte : Reads byte bytes None → Reads (item low count) bytes None
-  no_byte none i rest form e = none 4 _ (omega arith) e
-
-  pub other_byte : (n : ℕ) (r : List ℕ) → Reads byte bytes (Some (n, r)) → n ≢ 4 → Reads (item low count) bytes None
-  other_byte n r read other i rest form e = other (sym (read.2 4 _ (omega arith) e).0)
-
   module _ (r : List ℕ) (four : Reads byte bytes (Some (4, r))) where
     behind_four : (i : Item) (rest : List ℕ) → bytes ≡ spelled_item i ++ rest → r ≡ half.spelled i.position ++ (spelled_update i.update ++ rest)
     behind_four i rest e = sym (four.2 4 (half.spelled i.position ++ (spelled_update i.update ++ rest)) (omega arith) e).1
@@ -34,14 +28,6 @@ module _ (low count : ℕ) (small : count < 2 ^ 16) (bytes : List ℕ) where
     module _ (n : ℕ) (s : List ℕ) (half_read : Reads half r (Some (n, s))) where
       behind_position : (i : Item) (rest : List ℕ) → IsItem count i → bytes ≡ spelled_item i ++ rest → (i.position ≡ n) × (spelled_update i.update ++ rest ≡ s)
       behind_position i rest is e = half_read.2 i.position (spelled_update i.update ++ rest) (small_position i is) (behind_four i rest e)
-
-      pub bad_position : (low ≤ n → n < count → ⊥) → Reads (item low count) bytes None
-      bad_position bad i rest form e =
-          let same : i.position ≡ n = (behind_position i rest form.1 e).0 in
-          bad (omega (arith, form.0)) (omega (arith, form.1.position))
-
-      pub no_update : Reads update s None → Reads (item low count) bytes None
-      no_update none i rest form e = none i.update rest form.1.update (sym (behind_position i rest form.1 e).1)
 
       pub some_item : (u : Update) (t : List ℕ) → low ≤ n → n < count → Reads update s (Some (u, t)) → Reads (item low count) bytes (Some (record { position = n; update = u }, t))
       some_item u t from below read = (

@@ -1,5 +1,5 @@
 -- Records as their kind and then fields.
-use Rattle.std.proofs.Common.{◌≡◌, ◌≢◌, ℕ, ◌+◌, ◌<◌, ◌≤◌, ◌^◌, Bool, List, [], ◌∷◌, ◌++◌, length, flat_map, arith, Option, Some, None, refl, ap, sym, ◌∙◌, subst}
+use Rattle.std.proofs.Common.{◌≡◌, ℕ, ◌+◌, ◌<◌, ◌≤◌, Bool, List, [], ◌∷◌, ◌++◌, length, flat_map, arith, Option, Some, None, refl, ap, sym, ◌∙◌, subst}
 use Rattle.std.proofs.lemmas.List.{append-nil}
 use Rattle.std.proofs.lemmas.List.Elements.{All-from_recursion}
 use Rattle.std.specs.Prelude.{All, map}
@@ -63,12 +63,6 @@ tcom_only (Pini s) r rest e = absurd cc
 tcom_only (Epoch m) r rest e = absurd cc
 tcom_only (Pblk b) r rest e = absurd cc
 
-pub no_kind : (kind : ℕ) (r : List ℕ) → kind ≢ 1 → kind ≢ 2 → kind ≢ 3 → kind ≢ 5 → ReadsField IsInForm spelled_record (kind ∷ r) None
-no_kind kind r one two three five (Pini s) rest form e = one cc
-no_kind kind r one two three five (Epoch m) rest form e = two cc
-no_kind kind r one two three five (Pblk b) rest form e = three cc
-no_kind kind r one two three five (Tcom p) rest form e = five cc
-
 -- PINI: version, region, mode, generation, previous
 abbrev pub generations : Field (ℕ × ℕ)
 generations = and word word
@@ -97,12 +91,6 @@ start_has s h = (omega arith, (omega (arith, h.region), (tt, (omega (arith, h.ge
 pub no_start : (bytes : List ℕ) → Reads start_fields bytes None → ReadsField IsInForm spelled_record (1 ∷ bytes) None
 no_start bytes none = tagged start 1 Pini (λ s. refl) (λ s h. h) (λ s h. h) pini_only bytes None (none_as start_fields start start_of of_start (λ s. refl) (λ s. refl) start_has bytes none)
 
-pub bad_start : (bytes : List ℕ) (v g n m : ℕ) (b : Bool) (r : List ℕ) → Reads start_fields bytes (Some ((v, (g, (b, (n, m)))), r))
-    → (v ≡ 1 → IsStart (record { region = g; before = b; generation = n; previous = m }) → ⊥) → ReadsField IsInForm spelled_record (1 ∷ bytes) None
-bad_start bytes v g n m b r read bad = tagged start 1 Pini (λ s. refl) (λ s h. h) (λ s h. h) pini_only bytes None
-    (out_as start_fields start start_of of_start (λ s. refl) (λ s. refl) start_has bytes (v, (g, (b, (n, m)))) r read
-    (λ s is h. bad (sym (ap (λ t. t.0) is)) (subst IsStart (ap start_of is) h)))
-
 pub some_start : (bytes : List ℕ) (s : Start) (r : List ℕ) → Reads start_fields bytes (Some (of_start s, r)) → IsStart s → ReadsField IsInForm spelled_record (1 ∷ bytes) (Some (Pini s, r))
 some_start bytes s r read h = tagged start 1 Pini (λ s. refl) (λ s h. h) (λ s h. h) pini_only bytes (Some (s, r)) (some_as start_fields start start_of of_start (λ s. refl) (λ s. refl) start_has bytes s r read h)
 
@@ -128,14 +116,6 @@ mark_has m h = (tt, (omega (arith, h.0), h.1))
 pub no_mark : (bytes : List ℕ) → Reads mark_fields bytes None → ReadsField IsInForm spelled_record (2 ∷ bytes) None
 no_mark bytes none = tagged mark 2 Epoch (λ m. refl) (λ m h. h) (λ m h. h) epoch_only bytes None (none_as mark_fields mark mark_of of_mark (λ m. refl) (λ m. refl) mark_has bytes none)
 
-pub bad_mark : (bytes : List ℕ) (c : Bool) (n k : ℕ) (r : List ℕ) → Reads mark_fields bytes (Some ((c, (n, k)), r)) → 2 ^ 40 ≤ n → ReadsField IsInForm spelled_record (2 ∷ bytes) None
-bad_mark bytes c n k r read bad = tagged mark 2 Epoch (λ m. refl) (λ m h. h) (λ m h. h) epoch_only bytes None
-    (out_as mark_fields mark mark_of of_mark (λ m. refl) (λ m. refl) mark_has bytes (c, (n, k)) r read
-    (λ m is h. let same : m.number ≡ n = ap (λ t. t.1.0) is in omega (arith, h.0)))
-
-pub some_mark : (bytes : List ℕ) (m : Mark) (r : List ℕ) → Reads mark_fields bytes (Some (of_mark m, r)) → m.number < 2 ^ 40 → ReadsField IsInForm spelled_record (2 ∷ bytes) (Some (Epoch m, r))
-some_mark bytes m r read h = tagged mark 2 Epoch (λ m. refl) (λ m h. h) (λ m h. h) epoch_only bytes (Some (m, r)) (some_as mark_fields mark mark_of of_mark (λ m. refl) (λ m. refl) mark_has bytes m r read (h, read.0.1.1))
-
 -- PBLK: block, bytes
 abbrev pub before_fields : Field (ℕ × List ℕ)
 before_fields = and word image
@@ -148,9 +128,6 @@ before_of t = record { block = t.0; bytes = t.1 }
 
 abbrev of_before : Before → ℕ × List ℕ
 of_before b = (b.block, b.bytes)
-
-pub no_before : (bytes : List ℕ) → Reads before_fields bytes None → ReadsField IsInForm spelled_record (3 ∷ bytes) None
-no_before bytes none = tagged before 3 Pblk (λ b. refl) (λ b h. h) (λ b h. h) pblk_only bytes None (none_as before_fields before before_of of_before (λ b. refl) (λ b. refl) (λ b h. (h.0, h.1)) bytes none)
 
 pub some_before : (bytes : List ℕ) (b : Before) (r : List ℕ) → Reads before_fields bytes (Some (of_before b, r)) → ReadsField IsInForm spelled_record (3 ∷ bytes) (Some (Pblk b, r))
 some_before bytes b r read = tagged before 3 Pblk (λ b. refl) (λ b h. h) (λ b h. h) pblk_only bytes (Some (b, r)) (some_as before_fields before before_of of_before (λ b. refl) (λ b. refl) (λ b h. (h.0, h.1)) bytes b r read (read.0.0, read.0.1))

@@ -4,6 +4,9 @@ use Rattle.jnl_record.proofs.Chains.{byte, word, truth, front, behind, joined}
 use Rattle.jnl_record.proofs.Records.{generations, mode_on, region_on, no_start, some_start}
 use Rattle.jnl_record.proofs.kinds.read_start.Goals as goal
 
+pub returns-in_err-region-clause-read : goal.returns-in_err-region-clause-read
+returns-in_err-region-clause-read c = rw c.from_residual-in_err-region.ensures (no_start _ (behind byte region_on _ _ _ c.in_ok-version.ensures (front byte mode_on _ c.in_err-region.ensures)))
+
 pub returns-in_err-generation-clause-read : goal.returns-in_err-generation-clause-read
 returns-in_err-generation-clause-read c = rw c.from_residual-in_err-generation.ensures (no_start _ (behind byte region_on _ _ _ c.in_ok-version.ensures (behind byte mode_on _ _ _ c.in_ok-region.ensures
     (behind truth generations _ _ _ c.in_ok-before.ensures (front word word _ c.in_err-generation.ensures)))))

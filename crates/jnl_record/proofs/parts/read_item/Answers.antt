@@ -1,7 +1,12 @@
 use Rattle.std.proofs.Common.{arith, rules, Some}
 use Rattle.jnl_record.proofs.Chains.{Reads, byte}
-use Rattle.jnl_record.proofs.ItemLists.{some_item}
+use Rattle.jnl_record.proofs.ItemLists.{no_position, some_item}
 use Rattle.jnl_record.proofs.parts.read_item.Goals as goal
+
+pub returns-in_default-read_u16 : goal.returns-in_default-read_u16
+returns-in_default-read_u16 c =
+    let four : Reads byte c.args.bytes.now (Some (4, c.in-Some-eq4-default.rest.now)) = search rules in
+    no_position c.args.low c.args.count c.ranges.count.fits c.args.bytes.now _ four c.in_default-read_u16.ensures
 
 pub returns : goal.returns
 returns c =
