@@ -31,10 +31,10 @@ pub record IsReady (v : View) (j : Journal) : Type 0 where
   pub state : IfSome v.content (λ files. (s : Recorded) × HoldsRecords v j s files)
 
 -- The journal of this region and generation.
-pub record IsJournalOf (j : Journal) (region generation : ℕ) : Type 0 where
-  pub region : j.region ≡ region
-  pub generation : j.generation ≡ generation
-  pub file : j.gated.file ≡ journal_file generation region
+pub record IsJournalOf (j : Journal) (r g : ℕ) : Type 0 where
+  pub region : j.region ≡ r
+  pub generation : j.generation ≡ g
+  pub file : j.gated.file ≡ journal_file g r
 
 -- the same journal
 pub record IsSameJournal (old new : Journal) : Type 0 where

@@ -16,7 +16,7 @@ FindsRecord file at (Some found) = (body : Body) × (gate_at file at ≡ Open bo
 
 -- no gate of the format, or an open gate with a body of no record
 abbrev pub IsNoRecord : List ℕ → ℕ → Type 0
-IsNoRecord file at = (gate_at file at ≡ NoGate) ⊎ ((body : Body) × (rest : List ℕ) × (gate_at file at ≡ Open body rest) × ((r : JournalRecord) → IsJournalBody body r → ⊥))
+IsNoRecord file at = (gate_at file at ≡ NoGate) ⊎ ((body : Body) × (next : ℕ) × (gate_at file at ≡ Open body (drop next file)) × ((r : JournalRecord) → IsJournalBody body r → ⊥))
 
 -- the PINI of this region and generation
 abbrev pub IsPiniOf : ℕ → ℕ → JournalRecord → Type 0

@@ -47,6 +47,64 @@ impl Journal {
     ghost use Rattle.jnl_file.specs.Reading.{FindsRecord, IsNoRecord, IsJournalFile, IsOutsideJournal};
     ghost use Rattle.jnl_file.specs.Begin.{pini, MayBegin};
 
+    /// A journal without records, in a file that has none.
+    fn empty<D: Disk>(
+        alloc: Global,
+        disk: &mut D,
+        region: u8,
+        generation: u32,
+    ) -> Result<Journal, JournalError>
+        requires region { region < 8 }
+        requires generation { generation ≤ 65535 }
+        requires empty { IfSome (D.disk disk.old).content (λ files. records (files (journal_file generation region)) ≡ Some []) }
+        ensures ready { IfOk result (λ made. IsReady (D.disk disk.new) made) }
+        ensures place { IfOk result (λ made. IsJournalOf made region generation) }
+        ensures state { IfOk result (λ made. IfSome (D.disk disk.old).content (λ _. HasRecords (D.disk disk.new) made (settled []))) }
+        ensures any_moment { IfSome (D.disk disk.old).content (λ _. AtEachMoment (D.disk disk.old) (D.disk disk.new) (KeepsRecords (D.disk disk.old) (journal_file generation region))) }
+        ensures frame { OthersStay (Only (journal_file generation region)) (D.disk disk.old) (D.disk disk.new) }
+        ensures later { (D.disk disk.old).faults ≤ (D.disk disk.new).faults }
+        ensures cause { IsErrOf result JournalError.Failed → Rose (D.disk disk.old).faults (D.disk disk.new).faults }
+        ensures outside { (offset : ℕ) → IsErrOf result (JournalError.NotARecord offset) → ⊥ }
+    {
+        let gated = Gated::fresh(alloc, disk, journal_file(region, generation))?;
+        Ok(Journal {
+            gated,
+            region,
+            generation,
+            body: Bytes::new(alloc),
+        })
+    }
+
+    /// Prepares the PINI of this journal.
+    fn prepare_pini<D: Disk>(
+        &mut self,
+        disk: &mut D,
+        before: bool,
+        previous: u32,
+    ) -> Result<(), NoMemory>
+        requires ready { IsReady (D.disk disk.old) self.old }
+        requires region { self.old.region < 8 }
+        requires generation { self.old.generation ≤ 65535 }
+        requires previous { previous < self.old.generation }
+        ensures ready { IsReady (D.disk disk.new) self.new }
+        ensures prepared { OnOk result (IsPrepared self.new (pini self.old.region before self.old.generation previous)) }
+        ensures syncs { OnOk result (2 ≤ self.new.gated.syncs_left) }
+        ensures state { (s : Recorded) → HasRecords (D.disk disk.old) self.old s → HasRecords (D.disk disk.new) self.new s }
+        ensures place { IsSameJournal self.old self.new }
+        ensures any_moment { AtEachMoment (D.disk disk.old) (D.disk disk.new) (Image (D.disk disk.old)) }
+        ensures frame { OthersStay (Only self.old.gated.file) (D.disk disk.old) (D.disk disk.new) }
+        ensures faults { (D.disk disk.new).faults ≡ (D.disk disk.old).faults }
+    {
+        let pini = JnlRecord::Pini {
+            version: 1,
+            region: self.region,
+            before,
+            generation: self.generation,
+            previous,
+        };
+        self.prepare(disk, &pini)
+    }
+
     /// Makes the journal of a region's generation, whose file has no open record: it appends PINI and hardens it.
     ///
     /// # Errors
@@ -72,23 +130,8 @@ impl Journal {
         ensures cause { IsErrOf result JournalError.Failed → Rose (D.disk disk.old).faults (D.disk disk.new).faults }
         ensures outside { (offset : ℕ) → IsErrOf result (JournalError.NotARecord offset) → ⊥ }
     {
-        let gated = Gated::fresh(alloc, disk, journal_file(region, generation))?;
-        let mut journal = Journal {
-            gated,
-            region,
-            generation,
-            body: Bytes::new(alloc),
-        };
-        journal.prepare(
-            disk,
-            &JnlRecord::Pini {
-                version: 1,
-                region,
-                before,
-                generation,
-                previous,
-            },
-        )?;
+        let mut journal = Journal::empty(alloc, disk, region, generation)?;
+        journal.prepare_pini(disk, before, previous)?;
         journal.append(disk)?;
         journal.harden(disk)?;
         Ok(journal)
@@ -131,13 +174,13 @@ impl Journal {
 
     /// Takes all memory and room that appending this record and hardening it use. The record has to be in its form and its
     /// body at most 1,048,576 bytes long.
-    pub fn prepare<D: Disk>(&mut self, disk: &mut D, record: &JnlRecord) -> Result<(), NoMemory>
+    pub fn prepare<D: Disk>(&mut self, disk: &mut D, what: &JnlRecord) -> Result<(), NoMemory>
         requires ready { IsReady (D.disk disk.old) self.old }
-        requires form { IsInForm (record_value record.now) }
-        requires version { IsFirstVersion record.now }
-        requires short { length (spelled_record (record_value record.now)) ≤ 1048576 }
+        requires form { IsInForm (record_value what.now) }
+        requires version { IsFirstVersion what.now }
+        requires short { length (spelled_record (record_value what.now)) ≤ 1048576 }
         ensures ready { IsReady (D.disk disk.new) self.new }
-        ensures prepared { OnOk result (IsPrepared self.new (record_value record.now)) }
+        ensures prepared { OnOk result (IsPrepared self.new (record_value what.now)) }
         ensures syncs { OnOk result (self.new.gated.syncs_left ≡ self.old.gated.syncs_left + 2) }
         ensures err { OnErr result (SamePrepared self.old self.new) }
         ensures state { (s : Recorded) → HasRecords (D.disk disk.old) self.old s → HasRecords (D.disk disk.new) self.new s }
@@ -147,7 +190,7 @@ impl Journal {
         ensures faults { (D.disk disk.new).faults ≡ (D.disk disk.old).faults }
     {
         let mut body = Bytes::new(self.gated.alloc);
-        encode(record, &mut body)?;
+        encode(what, &mut body)?;
         self.gated.reserve(disk, 1, body.len() as u64)?;
         self.body = body;
         Ok(())

@@ -37,15 +37,15 @@ pub fn read_record<D: Disk>(
 }
 
 /// Whether a record may be the first of a journal of this region and generation, or a later one.
-fn may_stand(record: &JnlRecord, is_first: bool, region: u8, generation: u32) -> bool
-    ensures { IsTrue result ↔ MayStand is_first region generation (record_value record.now) }
+fn may_stand(what: JnlRecord, is_first: bool, region: u8, generation: u32) -> bool
+    ensures { IsTrue result ↔ MayStand is_first region generation (record_value what) }
 {
-    match record {
+    match what {
         JnlRecord::Pini {
             region: named,
             generation: drawn,
             ..
-        } => is_first && *named == region && *drawn == generation,
+        } => is_first && named == region && drawn == generation,
         _ => !is_first,
     }
 }
@@ -67,7 +67,7 @@ pub fn read_whole<D: Disk>(
 {
     let mut at = 0;
     while let Some((record, next)) = read_record(gated, disk, at)? {
-        if !may_stand(&record, at == 0, region, generation) {
+        if !may_stand(record, at == 0, region, generation) {
             return Err(JournalError::NotARecord { offset: at });
         }
         at = next;

@@ -1,8 +1,13 @@
 //! The records of a region's journal, as bytes and back.
 #![tactic(auto)]
 
+mod fields;
+mod kinds;
+mod parts;
 mod reading;
 mod record;
+#[cfg(test)]
+mod tests;
 mod writing;
 
 pub use reading::decode;
