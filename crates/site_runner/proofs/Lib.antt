@@ -1,14 +1,11 @@
 pub mod Cuts
 pub mod Settings
 pub mod Told
-pub mod FirstWhere
-pub mod Made
-pub mod Turns
-pub mod Worlds
+pub mod Turned
 pub mod Results
-pub mod Rows
-pub mod Grown
 pub mod Fronts
+pub mod Orders
+pub mod Numbers
 pub mod Goings
 pub mod LineLaws
 pub mod Inputs
