@@ -85,10 +85,11 @@ impl Reader {
             self.inside = true;
             return Ok(Fed::Held);
         }
-        match order_of(line) {
-            None => Ok(Fed::Bad),
-            Some(order) => Ok(Fed::Command(command_of(self.alloc, order)?)),
-        }
+        let Some(order) = order_of(line) else {
+            return Ok(Fed::Bad);
+        };
+        let command = command_of(self.alloc, order)?;
+        Ok(Fed::Command(command))
     }
 
     fn in_section(&mut self, line: &[u8]) -> Result<Fed, NoMemory>
