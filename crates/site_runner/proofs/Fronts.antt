@@ -9,7 +9,7 @@ use Rattle.world_defs.specs.Script as script
 use Rattle.world_defs.specs.Commands.{Command, Create, StartPrimary, Run, Stop, Fuse, Crash, Extract}
 use Rattle.site_runner.specs.declared.order.Order.{Order}
 use Rattle.site_runner.specs.declared.order.Order.TheVariants as order
-use Rattle.site_runner.specs.Jobs.{updates_of, job_value, updater_of, is_set}
+use Rattle.site_runner.specs.Jobs.{updates_of, job_value, updater_of}
 use Rattle.site_runner.specs.Positions.{Orders, Position, unended_at, Reads, IsBad}
 use Rattle.site_runner.proofs.Cuts.{split_and}
 
@@ -56,7 +56,7 @@ then_lead : (xs ys : List (List ℕ)) (a m b : Bool) → LeadTo a xs m → LeadT
 then_lead [] ys a m b x y = subst (λ (z : Bool). LeadTo z ys b) (sym x) y
 then_lead (line ∷ xs) ys a m b x y = (x.0, x.1, then_lead xs ys x.0 m b x.2 y)
 
-split_lead : (xs ys : List (List ℕ)) (a b : Bool) → LeadTo a (xs ++ ys) b → (m : Bool) × LeadTo a xs m × LeadTo m ys b
+pub split_lead : (xs ys : List (List ℕ)) (a b : Bool) → LeadTo a (xs ++ ys) b → (m : Bool) × LeadTo a xs m × LeadTo m ys b
 split_lead [] ys a b h = (a, refl, h)
 split_lead (line ∷ xs) ys a b h = let s = split_lead xs ys h.0 b h.2 in (s.0, (h.0, h.1, s.1), s.2)
 
@@ -210,7 +210,7 @@ opened old new line e n j l taken unended r =
       begun = ap (λ (x : List (List ℕ)). x ++ line ∷ []) (closed_so old taken unended e r) ∙ ap (λ (x : List ℕ). x ∷ []) l ∙ ap (λ (b : Bool). unended_at b []) (sym n);
     }
 
-one_more : (settings : List Setting) (s : Setting) → list_all is_setting settings ≡ true → is_setting s ≡ true → list_all is_setting (settings ++ s ∷ []) ≡ true
+pub one_more : (settings : List Setting) (s : Setting) → list_all is_setting settings ≡ true → is_setting s ≡ true → list_all is_setting (settings ++ s ∷ []) ≡ true
 one_more [] s h k = rw k refl
 one_more (x ∷ settings) s h k = let p = split_and (is_setting x) (list_all is_setting settings) h in rw (p.0, one_more settings s p.1 k) refl
 

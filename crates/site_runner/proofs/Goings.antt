@@ -1,6 +1,6 @@
 -- Runs that go on, and how they end.
-use Rattle.std.proofs.Common.{◌≡◌, ℕ, ◌+◌, Bool, true, false, List, [], ◌∷◌, ◌++◌, length, map, take, refl, sym, ◌∙◌, ap, subst, append_assoc, inl, inr}
-use Rattle.std.specs.Prelude.{Option, ◌⊎◌}
+use Rattle.std.proofs.Common.{◌≡◌, ℕ, ◌+◌, false, List, [], ◌∷◌, ◌++◌, length, take, refl, sym, ◌∙◌, ap, subst, append_assoc, inl, inr}
+use Rattle.std.specs.Prelude.{Option}
 use Rattle.std.specs.Io.KnownBytes.{Appends}
 use Rattle.std.proofs.KnownBytes.{Appends-nil}
 use Rattle.std.proofs.lemmas.List.{map-append, append-nil}
@@ -10,7 +10,7 @@ use Rattle.world_defs.specs.Lists.{Along}
 use Rattle.world_defs.specs.World.{Place, World}
 use Rattle.world_defs.specs.Commands.{Command}
 use Rattle.world_defs.specs.Answers.{Answer}
-use Rattle.world_defs.specs.Step.{Means, CutOff}
+use Rattle.world_defs.specs.Step.{Means}
 use Rattle.world_defs.specs.Output.{text, text_of}
 use Rattle.world_defs.specs.Runs.{Told, Runs, commands}
 use Rattle.world_defs.specs.Ties.{Matches}
@@ -60,15 +60,19 @@ told_more taken unended line told c a h s =
 
 -- a line of an open section
 pub held : {D : Type 0} (view : D → View) (p q : Position) (slots : List (Slot D)) (line : List ℕ) (out : Option (List ℕ)) → ((taken unended : List (List ℕ)) → Reads p taken unended → Reads q (taken ++ line ∷ []) (unended ++ line ∷ [])) → GoesOn view p q slots slots line out out
-held view p q slots line out f taken unended r = (unended ++ line ∷ [], f taken unended r, λ start old g. record {
-  told = g.told;
-  mid = g.mid;
-  output = g.output;
-  runs = g.runs;
-  spelled = spell_more taken (commands g.told) unended (line ∷ []) g.spelled;
-  tied = g.tied;
-  written = g.written;
-})
+held view p q slots line out f taken unended r = (
+  unended ++ line ∷ [],
+  f taken unended r,
+  λ start old g. record {
+    told = g.told;
+    mid = g.mid;
+    output = g.output;
+    runs = g.runs;
+    spelled = spell_more taken (commands g.told) unended (line ∷ []) g.spelled;
+    tied = g.tied;
+    written = g.written;
+  },
+)
 
 abbrev pub Ending : Position → Position → List ℕ → Command → Type 0
 Ending p q line c = (taken unended : List (List ℕ)) → Reads p taken unended → Reads q (taken ++ line ∷ []) [] × Spells (unended ++ line ∷ []) c
@@ -76,16 +80,19 @@ Ending p q line c = (taken unended : List (List ℕ)) → Reads p taken unended 
 -- a line that ends a command, which was carried out
 pub carried : {D : Type 0} (view : D → View) (p q : Position) (old new : List (Slot D)) (line : List ℕ) (c : Command) (mid now : Option (List ℕ)) → Ending p q line c → CarriesOut view c old new mid now → GoesOn view p q old new line mid now
 carried view p q old new line c mid now f d taken unended r =
-    let e = f taken unended r in
-    ([], e.0, λ start out g. let x = d g.mid g.tied in record {
-      told = g.told ++ record { command = c; answers = x.0 ∷ [] } ∷ [];
-      mid = x.1;
-      output = g.output ++ text_of g.mid c x.0 x.1;
-      runs = runs_more start g.told g.mid x.1 g.output c x.0 g.runs x.2;
-      spelled = told_more taken unended line g.told c (x.0 ∷ []) g.spelled e.1;
-      tied = x.3;
-      written = appends_then out mid now g.output (text_of g.mid c x.0 x.1) g.written x.4;
-    })
+    let e = f taken unended r in (
+      [],
+      e.0,
+      λ start out g. let x = d g.mid g.tied in record {
+        told = g.told ++ record { command = c; answers = x.0 ∷ [] } ∷ [];
+        mid = x.1;
+        output = g.output ++ text_of g.mid c x.0 x.1;
+        runs = runs_more start g.told g.mid x.1 g.output c x.0 g.runs x.2;
+        spelled = told_more taken unended line g.told c (x.0 ∷ []) g.spelled e.1;
+        tied = x.3;
+        written = appends_then out mid now g.output (text_of g.mid c x.0 x.1) g.written x.4;
+      },
+    )
 
 -- a front of a later piece behind what was written
 front_behind : (o p q : Option (List ℕ)) (xs ys : List ℕ) → Appends o p xs → AppendsFront p q ys → AppendsFront o q (xs ++ ys)
@@ -121,22 +128,31 @@ broken view BadWords number p q old new line c before now rose e b = absurd b
 broken view (BadLine n column) number p q old new line c before now rose e b = absurd b
 broken view ScriptTooLong number p q old new line c before now rose e b = absurd b
 broken view SourceFault number p q old new line c before now rose e b = absurd b
-broken view SinkFault number p q old new line c before now rose e b = (b.0, λ start taken unended out r g.
-    let f = e taken unended r in
-    let x = b.1 g.mid g.tied in
-    (x.1, matched view new x.1 x.3, record {
-      told = g.told ++ record { command = c; answers = x.0 ∷ [] } ∷ [];
-      output = g.output ++ text_of g.mid c x.0 x.1;
-      rest = [];
-      runs = runs_more start g.told g.mid x.1 g.output c x.0 g.runs x.2;
-      spelled = told_more taken unended line g.told c (x.0 ∷ []) g.spelled f.1;
-      begun = inl refl;
-      writes = front_behind out before now g.output (text_of g.mid c x.0 x.1) g.written x.4;
-      all = λ h. refl;
-    }))
-broken view NoMemory number p q old new line c before now rose e b = (b.0, λ taken unended mid r t.
-    let x = b.1 mid t in
-    (x.0, x.2, inr (c, (e taken unended r).1, x.1)))
+broken view SinkFault number p q old new line c before now rose e b = (
+  b.0,
+  λ start taken unended out r g.
+      let f = e taken unended r in
+      let x = b.1 g.mid g.tied in (
+        x.1,
+        matched view new x.1 x.3,
+        record {
+          told = g.told ++ record { command = c; answers = x.0 ∷ [] } ∷ [];
+          output = g.output ++ text_of g.mid c x.0 x.1;
+          rest = [];
+          runs = runs_more start g.told g.mid x.1 g.output c x.0 g.runs x.2;
+          spelled = told_more taken unended line g.told c (x.0 ∷ []) g.spelled f.1;
+          begun = inl refl;
+          writes = front_behind out before now g.output (text_of g.mid c x.0 x.1) g.written x.4;
+          all = λ h. refl;
+        },
+      ),
+)
+broken view NoMemory number p q old new line c before now rose e b = (
+  b.0,
+  λ taken unended mid r t.
+      let x = b.1 mid t in
+      (x.0, x.2, inr (c, (e taken unended r).1, x.1)),
+)
 
 -- no memory for the line itself
 pub not_taken : {D : Type 0} (view : D → View) (slots : List (Slot D)) (lines : List (List ℕ)) (mid : World) → Tied view slots mid → StopsAt view slots lines mid

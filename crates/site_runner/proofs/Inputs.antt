@@ -1,11 +1,11 @@
 -- What is known of an input once lines of it were taken.
-use Rattle.std.proofs.Common.{◌≡◌, ℕ, ◌+◌, ◌-◌, ◌<◌, ◌≤◌, ◌==◌, Bool, true, false, List, [], ◌∷◌, ◌++◌, length, map, take, None, Some, refl, ap, sym, ◌∙◌, append_assoc, subst, inl, inr, arith, nat_le, length-append, lit≤}
-use Rattle.std.specs.Prelude.{Option, IfSome, codes}
-use Rattle.std.specs.List.{list_all, list_any, flat_map, AllByRecursion}
+use Rattle.std.proofs.Common.{◌≡◌, ℕ, ◌+◌, ◌-◌, ◌<◌, ◌==◌, true, false, List, [], ◌∷◌, ◌++◌, length, take, None, Some, refl, ap, sym, ◌∙◌, append_assoc, subst, inl, inr, arith, length-append}
+use Rattle.std.specs.Prelude.{Option, IfSome}
+use Rattle.std.specs.List.{list_all, list_any}
 use Rattle.std.specs.Io.KnownBytes.{Consumes, IsAtEnd, Keeps}
 use Rattle.std.proofs.lemmas.List.{take_at, append-nil}
 use Rattle.std.proofs.lemmas.List.Concat.{flat_map-append}
-use Rattle.std.proofs.lemmas.Bool.{leb-true, cases_Bool}
+use Rattle.std.proofs.lemmas.Bool.{cases_Bool}
 use Rattle.world_defs.specs.Lines.{onto, lines_of, ended}
 use Rattle.world_defs.specs.Script.{IsFront, IsBadAt}
 use Rattle.site_runner.specs.Told.{IsPiece}

@@ -2,6 +2,7 @@ pub mod Cuts
 pub mod Settings
 pub mod Told
 pub mod Turned
+pub mod Moved
 pub mod Results
 pub mod Fronts
 pub mod Orders

@@ -1,5 +1,5 @@
 -- The loop over lines, and each way out of it.
-use Rattle.std.proofs.Common.{◌≡◌, ℕ, ◌+◌, ◌*◌, ◌<◌, ◌≤◌, Bool, true, false, List, [], ◌∷◌, ◌++◌, length, take, None, Some, refl, ap, sym, ◌∙◌, append_assoc, subst, inl, inr, arith, length-append}
+use Rattle.std.proofs.Common.{◌≡◌, ℕ, ◌+◌, ◌*◌, ◌<◌, ◌≤◌, true, false, List, [], ◌∷◌, ◌++◌, length, take, None, Some, refl, ap, sym, ◌∙◌, append_assoc, subst, inl, inr, arith, length-append}
 use Rattle.std.specs.Prelude.{Option, IfSome, ◌⊎◌}
 use Rattle.std.specs.List.{list_all}
 use Rattle.std.specs.Io.KnownBytes.{Appends, Consumes, IsAtEnd, Keeps}
@@ -10,13 +10,13 @@ use Rattle.world_defs.specs.Commands.{Command}
 use Rattle.world_defs.specs.Step.{CutOff}
 use Rattle.world_defs.specs.Lines.{lines_of, ended}
 use Rattle.world_defs.specs.Runs.{commands}
-use Rattle.world_defs.specs.Script.{Spells, Spell, IsFront, IsScript, IsBadAt}
+use Rattle.world_defs.specs.Script.{Spells, Spell, IsScript, IsBadAt}
 use Rattle.site_runner.specs.declared.slot.Slot.{Slot}
 use Rattle.site_runner.specs.declared.status.Status.{Status}
 use Rattle.site_runner.specs.declared.status.Status.TheVariants.{Ok, BadWords, BadLine, ScriptTooLong, SourceFault, SinkFault, NoMemory}
 use Rattle.site_runner.specs.Told.{IsPiece, AppendsFront}
 use Rattle.site_runner.specs.Tied.{Tied, Matched}
-use Rattle.site_runner.specs.Positions.{Position, Reads, IsBad}
+use Rattle.site_runner.specs.Positions.{Position, Reads}
 use Rattle.site_runner.specs.Ends.{Went, Reached, IsCutShort, EndsSo, RanTo}
 use Rattle.site_runner.specs.Going.{Going, StopsAt, Halts, GoesOn}
 use Rattle.site_runner.proofs.Told.{consumes_then}
@@ -202,8 +202,12 @@ halted view first slots next NoMemory p lines o m n old mid new line rose h i b 
     let not_ok : NoMemory ≡ Ok → p.inside ≡ false = λ z. absurd (memory_not_ok z) in
     let rest = stops_rest view NoMemory p w slots i.taken i.unended old mid new f not_ok i.reads g in
     if_some o (λ input. (more : List (List ℕ)) × (lines_of input ≡ i.taken ++ line ∷ more)) (λ input. (after : World) × Matched view next after × RanTo NoMemory input n w after old new)
-    (λ input (more, s). (x.0, x.1, ran_to NoMemory input n old new i.taken (line ∷ more) w g.mid x.0 s tt (stops view NoMemory p w slots i.taken i.unended old mid new f not_ok i.reads g)
-    (subst (λ (r : List (List ℕ)). (x.0 ≡ g.mid) ⊎ IsCutShort (r ++ line ∷ more) g.mid x.0) (sym rest) (cut_short i.unended line more g.mid x.0 x.2)))) b
+    (λ input (more, s). (
+      x.0,
+      x.1,
+      ran_to NoMemory input n old new i.taken (line ∷ more) w g.mid x.0 s tt (stops view NoMemory p w slots i.taken i.unended old mid new f not_ok i.reads g)
+          (subst (λ (r : List (List ℕ)). (x.0 ≡ g.mid) ⊎ IsCutShort (r ++ line ∷ more) g.mid x.0) (sym rest) (cut_short i.unended line more g.mid x.0 x.2)),
+    )) b
 
 pub halted_bad : {D : Type 0} (view : D → View) (first slots next : List (Slot D)) (status : Status) (p : Position) (lines a c : ℕ) (o m old mid new : Option (List ℕ)) (line : List ℕ) (rose : Type 0)
     → Halts status view (lines + 1) p slots next line mid new rose → (i : InLoop view first slots p lines o m old mid) → Begin o i.taken line → status ≡ BadLine a c → IfSome o (λ input. IsBadAt (lines_of input) a)

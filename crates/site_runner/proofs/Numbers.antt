@@ -1,5 +1,5 @@
 -- Numbers in digits.
-use Rattle.std.proofs.Common.{◌≡◌, ℕ, zero, suc, ◌≤◌, ◌<◌, ◌^◌, ◌≢◌, List, [], ◌∷◌, length, get_or, refl, sym, ◌∙◌, ap, subst, arith, Ok, Err, inl, inr}
+use Rattle.std.proofs.Common.{◌≡◌, ℕ, zero, suc, ◌<◌, ◌^◌, ◌≢◌, List, [], ◌∷◌, length, get_or, sym, ◌∙◌, ap, subst, arith, Ok, Err, inl, inr}
 use Rattle.std.specs.Prelude.{Bool, true, false, MatchBool, Result, decimal, IsUtf8, ◌⊎◌}
 use Rattle.std.specs.Str.Parse.{AllDigits, digits_value, ParsesUnsigned}
 use Rattle.std.proofs.lemmas.Str.Parse.{IsNumeralModel, numerals_by_value, tells_digits, parse_plain}

@@ -38,13 +38,7 @@ pub fn number_behind(line: &[u8], word: &[u8], most: u64) -> Option<u64>
         None => None,
         Some(text) => match read_digits(text) {
             None => None,
-            Some(number) => {
-                if number <= most {
-                    Some(number)
-                } else {
-                    None
-                }
-            }
+            Some(number) => { if number <= most { Some(number) } else { None } }
         },
     }
 }

@@ -1,4 +1,4 @@
-use Rattle.std.proofs.Common.{◌≡◌, ℕ, zero, suc, Bool, true, false, List, [], ◌∷◌, refl, inl}
+use Rattle.std.proofs.Common.{ℕ, zero, suc, Bool, true, false, List, [], ◌∷◌, refl, inl}
 use Rattle.world_defs.specs.Lists.{Among, Along}
 use Rattle.world_defs.specs.World.{Contents, Place, World}
 use Rattle.world_defs.specs.Commands.{Command}

@@ -1,4 +1,4 @@
-use Rattle.std.proofs.Common.{◌≡◌, ℕ, sym, ◌∙◌, rules}
+use Rattle.std.proofs.Common.{sym, ◌∙◌}
 use Rattle.site_runner.proofs.Numbers.{begun_badly, begun_well, is_text, read_so, own_text, no_number}
 use Rattle.site_runner.proofs.number.read_digits.Goals as goal
 

@@ -1,7 +1,7 @@
-use Rattle.std.proofs.Common.{◌≡◌, ℕ, ◌+◌, ◌≤◌, List, [], ◌∷◌, ◌++◌, length, refl, sym, ◌∙◌, ap, arith}
+use Rattle.std.proofs.Common.{◌+◌, [], ◌∷◌, refl, ◌∙◌, ap, arith}
 use Rattle.site_runner.specs.Positions.{Position}
 use Rattle.site_runner.proofs.Inputs.{kept_nothing}
-use Rattle.site_runner.proofs.Looping.{InLoop, AtEnd, next_line, source_failed, source_failed_there, no_memory, bad_there, finished, finished_bad, finished_well, halted, halted_bad, halted_not_ok, parts, long_bad, more_bad, bounded, loop_started, ends_clean, ends_within, next_fed, next_last}
+use Rattle.site_runner.proofs.Looping.{next_line, source_failed, source_failed_there, no_memory, bad_there, finished, finished_bad, finished_well, halted, halted_bad, halted_not_ok, parts, long_bad, more_bad, bounded, loop_started, ends_clean, ends_within, next_fed, next_last}
 use Rattle.site_runner.proofs.top.run_script.Goals as goal
 
 pub returns-in-Err-Failed-clause-meaning : goal.returns-in-Err-Failed-clause-meaning

@@ -1,7 +1,5 @@
-use Rattle.std.proofs.Common.{◌≡◌, true, false, [], refl, sym, ◌∙◌, ap}
-use Rattle.std.specs.Prelude.{codes}
+use Rattle.std.proofs.Common.{true, false, refl}
 use Rattle.site_runner.specs.Commands.{command_value}
-use Rattle.site_runner.specs.Positions.{Position}
 use Rattle.site_runner.proofs.Fronts.{refused, not_between, is_other, is_same, opened, ordered}
 use Rattle.site_runner.proofs.reader.Reader.between.Goals as goal
 

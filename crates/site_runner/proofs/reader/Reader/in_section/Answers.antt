@@ -1,4 +1,4 @@
-use Rattle.std.proofs.Common.{◌≡◌, true, ◌∷◌, ◌++◌, [], List, refl, sym, ◌∙◌, ap}
+use Rattle.std.proofs.Common.{◌≡◌, true, ◌∷◌, ◌++◌, [], List, sym, ◌∙◌, ap}
 use Rattle.global_defs.specs.Entry.{Update}
 use Rattle.site_runner.specs.Jobs.{updates_of}
 use Rattle.site_runner.specs.Positions.{Position}
