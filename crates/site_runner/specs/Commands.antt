@@ -1,5 +1,5 @@
 -- What the code's commands stand for.
-use Rattle.std.specs.Prelude.{◌≡◌, ◌<◌, true, List, [], ◌∷◌, map}
+use Rattle.std.specs.Prelude.{◌≡◌, ◌<◌, true, [], ◌∷◌, map}
 use Rattle.std.specs.List.{list_all}
 use Rattle.world_defs.specs.Commands as commands
 use Rattle.world_defs.specs.Script.{with_images}

@@ -3,6 +3,8 @@ pub mod Jobs
 pub mod Commands
 pub mod Positions
 pub mod Sites
+pub mod Tied
+pub mod Moved
 pub mod Executes
 pub mod Ends
 pub mod Going

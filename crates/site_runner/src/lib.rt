@@ -1,20 +1,16 @@
-//! Does all that the program does: reads a script, runs its commands on sites in memory, and writes their answers.
+//! Does all that the program does: reads a script, runs its commands on sites over disks, and writes their answers.
 #![tactic(auto)]
 
 mod command;
-mod create;
 mod execute;
-mod extracting;
-mod finding;
 mod lines;
+mod moving;
+mod number;
+mod order;
 mod reader;
-mod section;
 mod setting;
-mod site;
-mod start;
+mod slot;
 mod status;
-mod stop;
-mod text;
 mod top;
 mod write;
 
