@@ -6,5 +6,8 @@ pub mod Sites
 pub mod Tied
 pub mod Moved
 pub mod Executes
+pub mod Here
+pub mod Steps
+pub mod Creating
 pub mod Ends
 pub mod Going

@@ -2,15 +2,23 @@
 #![tactic(auto)]
 
 mod command;
+mod create;
 mod execute;
+mod extracting;
+mod finding;
+mod fusing;
 mod lines;
 mod moving;
 mod number;
 mod order;
 mod reader;
+mod section;
 mod setting;
 mod slot;
+mod start;
 mod status;
+mod stop;
+mod text;
 mod top;
 mod write;
 
