@@ -9,7 +9,8 @@ use Rattle.world_defs.specs.Script as script
 use Rattle.world_defs.specs.Commands.{Command, Create, StartPrimary, Run, Stop, Fuse, Crash, Extract}
 use Rattle.site_runner.specs.declared.order.Order.{Order}
 use Rattle.site_runner.specs.declared.order.Order.TheVariants as order
-use Rattle.site_runner.specs.Jobs.{updates_of, job_value, updater_of}
+use Rattle.site_journal.specs.Jobs.{job_value, updater_of}
+use Rattle.site_runner.specs.Jobs.{updates_of}
 use Rattle.site_runner.specs.Positions.{Orders, Position, unended_at, Reads, IsBad}
 use Rattle.site_runner.proofs.Cuts.{split_and}
 

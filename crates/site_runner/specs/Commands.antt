@@ -5,7 +5,7 @@ use Rattle.world_defs.specs.Commands as commands
 use Rattle.world_defs.specs.Script.{with_images}
 use Rattle.site_runner.specs.declared.command.Command.{Command}
 use Rattle.site_runner.specs.declared.command.Command.TheVariants.{Create, StartPrimary, Run, Stop, Fuse, Crash, Extract}
-use Rattle.site_runner.specs.Jobs.{job_value, updater_of, is_set}
+use Rattle.site_journal.specs.Jobs.{job_value, updater_of, is_set}
 
 abbrev pub command_value : Command → commands.Command
 command_value (Create name region) = commands.Create name (with_images region ∷ [])

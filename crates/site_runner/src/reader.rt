@@ -39,7 +39,7 @@ impl Model for Reader {
 
     ghost use Rattle.std.specs.Prelude.{◌≡◌, true};
     ghost use Rattle.std.specs.List.{list_all};
-    ghost use Rattle.site_runner.specs.Jobs.{is_set};
+    ghost use Rattle.site_journal.specs.Jobs.{is_set};
 
     ghost invariant = { λ r. list_all is_set r.jobs.items ≡ true };
 }

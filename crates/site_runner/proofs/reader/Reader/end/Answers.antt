@@ -1,7 +1,7 @@
 use Rattle.std.proofs.Common.{◌≡◌, true, false, List, refl, sym, ◌∙◌, ap, subst}
 use Rattle.std.specs.List.{list_all}
 use Rattle.global_defs.specs.Entry.{Update}
-use Rattle.site_runner.specs.Jobs.{is_set}
+use Rattle.site_journal.specs.Jobs.{is_set}
 use Rattle.site_runner.specs.Positions.{Position}
 use Rattle.site_runner.proofs.Fronts.{finished}
 use Rattle.site_runner.proofs.reader.Reader.end.Goals as goal
