@@ -12,3 +12,9 @@ pub mod LineLaws
 pub mod Inputs
 pub mod Looping
 pub mod Complete
+pub mod Ats
+pub mod Crashed
+pub mod Fused
+pub mod Started
+pub mod Ran
+pub mod Created

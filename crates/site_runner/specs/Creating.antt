@@ -11,6 +11,14 @@ use Rattle.world_defs.specs.Output.{line, cause_text}
 use Rattle.site_runner.specs.declared.slot.Slot.{Slot}
 use Rattle.site_runner.specs.Tied.{IsPlace}
 
+-- where the journal has no record
+abbrev pub MakeHere : Name → Place → Answer → Place → Type 0
+MakeHere name p Done q = Creates name p q
+MakeHere name p (Refused r) q = ⊥
+MakeHere name p (DiskFault k) q = CreateFails k p q
+MakeHere name p (NotAFile file offset) q = ⊥
+MakeHere name p (Ran s) q = ⊥
+
 abbrev pub CreateHere : Name → Place → Answer → Place → Type 0
 CreateHere name p Done q = (not_empty (Some p) ≡ None) × Creates name p q
 CreateHere name p (Refused r) q = (r ≡ record { site = name; cause = NotEmpty }) × (((not_empty (Some p) ≡ Some NotEmpty) × Kept p q) ⊎ KeptUnknown p q)
@@ -29,3 +37,7 @@ create_text name (Ran s) = codes ""
 abbrev pub CreatesHere : {D : Type 0} → (D → View) → Name → Slot D → Slot D → List ℕ → List ℕ → Type 0
 CreatesHere view name old new before now = (p : Place) → IsPlace view old p
     → (a : Answer) × (q : Place) × CreateHere name p a q × IsPlace view new q × (now ≡ before ++ create_text name a)
+
+abbrev pub MakesHere : {D : Type 0} → (D → View) → Name → Slot D → Slot D → List ℕ → List ℕ → Type 0
+MakesHere view name old new before now = (p : Place) → IsPlace view old p
+    → (a : Answer) × (q : Place) × MakeHere name p a q × IsPlace view new q × (now ≡ before ++ create_text name a)

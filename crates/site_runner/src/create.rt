@@ -7,8 +7,8 @@ ghost use Rattle.world_defs.specs.Commands.{Region};
 ghost use Rattle.world_defs.specs.Commands as commands;
 ghost use Rattle.site_runner.specs.Executes.{Executes, IsCutOff};
 ghost use Rattle.site_runner.specs.Here.{IsCutHere};
-ghost use Rattle.site_runner.specs.Creating.{CreatesHere};
-ghost use Rattle.site_runner.specs.Sites.{is_slot_named};
+ghost use Rattle.site_runner.specs.Creating.{CreatesHere, MakesHere};
+ghost use Rattle.site_runner.specs.Sites.{is_slot_named, IsReadyOn, AreReady};
 
 use super::finding::{find, find_free};
 use super::slot::{Site, Slot, State};
@@ -28,8 +28,9 @@ fn make<D: Disk>(
 ) -> Result<(), NoMemory>
     requires free { slot.old.site ≡ None }
     requires empty { IfSome (D.disk slot.old.disk).content (λ files. records (files (journal_file 1 0)) ≡ Some []) }
-    ensures done { OnOk result (CreatesHere D.disk name slot.old slot.new text.old text.new) }
+    ensures done { OnOk result (MakesHere D.disk name slot.old slot.new text.old text.new) }
     ensures cut_off { OnErr result (IsCutHere D.disk (commands.Create name []) slot.old slot.new) }
+    ensures ready { IsReadyOn (D.disk slot.new.disk) slot.new.site }
 {
     match begin(alloc, &mut slot.disk) {
         Ok(()) => {
@@ -57,6 +58,7 @@ fn create_at<D: Disk>(
     requires { slot.old.site ≡ None }
     ensures done { OnOk result (CreatesHere D.disk name slot.old slot.new text.old text.new) }
     ensures cut_off { OnErr result (IsCutHere D.disk (commands.Create name []) slot.old slot.new) }
+    ensures ready { IsReadyOn (D.disk slot.new.disk) slot.new.site }
 {
     match is_begun(alloc, &mut slot.disk) {
         Ok(true) => write_line(text, name.as_slice(), b"NOTEMPTY"),
@@ -78,7 +80,9 @@ fn create_new<D: Disk>(
     name: Bytes,
     text: &mut Bytes,
 ) -> Result<(), NoMemory>
-    requires { first_where (is_slot_named name) slots.old.items ≡ None }
+    requires none { first_where (is_slot_named name) slots.old.items ≡ None }
+    requires ready { AreReady D.disk slots.old.items }
+    ensures ready { AreReady D.disk slots.new.items }
     ensures done { OnOk result ((regions : List Region) → Executes D.disk (commands.Create name regions) slots.old.items slots.new.items text.old text.new) }
     ensures cut_off { OnErr result ((regions : List Region) → IsCutOff D.disk (commands.Create name regions) slots.old.items slots.new.items) }
     ensures length { length slots.new.items ≡ length slots.old.items }
@@ -96,6 +100,8 @@ pub fn create<D: Disk>(
     name: Bytes,
     text: &mut Bytes,
 ) -> Result<(), NoMemory>
+    requires { AreReady D.disk slots.old.items }
+    ensures ready { AreReady D.disk slots.new.items }
     ensures done { OnOk result ((regions : List Region) → Executes D.disk (commands.Create name regions) slots.old.items slots.new.items text.old text.new) }
     ensures cut_off { OnErr result ((regions : List Region) → IsCutOff D.disk (commands.Create name regions) slots.old.items slots.new.items) }
     ensures length { length slots.new.items ≡ length slots.old.items }

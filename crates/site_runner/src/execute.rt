@@ -5,7 +5,7 @@ ghost use Rattle.world_defs.specs.Output.{name_in};
 ghost use Rattle.site_runner.specs.Commands.{command_value, IsCarried};
 ghost use Rattle.site_runner.specs.Executes.{Executes, IsCutOff};
 ghost use Rattle.site_runner.specs.Here.{IsNamed, ExecutesHere, IsCutHere};
-ghost use Rattle.site_runner.specs.Sites.{is_slot_named};
+ghost use Rattle.site_runner.specs.Sites.{is_slot_named, IsReadyOn, AreReady};
 
 use super::command::Command;
 use super::create::create;
@@ -46,6 +46,8 @@ fn execute_at<D: Disk>(
     requires carried { IsCarried command }
     requires command { IsNamed (command_value command) }
     requires site { is_slot_named (name_in (command_value command)) slot.old ≡ true }
+    requires ready { IsReadyOn (D.disk slot.old.disk) slot.old.site }
+    ensures ready { OnOk result (IsReadyOn (D.disk slot.new.disk) slot.new.site) }
     ensures done { OnOk result (ExecutesHere D.disk (command_value command) slot.old slot.new text.old text.new) }
     ensures cut_off { OnErr result (IsCutHere D.disk (command_value command) slot.old slot.new) }
 {
@@ -72,6 +74,8 @@ fn execute_named<D: Disk>(
 ) -> Result<(), NoMemory>
     requires carried { IsCarried command }
     requires command { IsNamed (command_value command) }
+    requires ready { AreReady D.disk slots.old.items }
+    ensures ready { OnOk result (AreReady D.disk slots.new.items) }
     ensures done { OnOk result (Executes D.disk (command_value command) slots.old.items slots.new.items text.old text.new) }
     ensures cut_off { OnErr result (IsCutOff D.disk (command_value command) slots.old.items slots.new.items) }
     ensures length { length slots.new.items ≡ length slots.old.items }
@@ -90,7 +94,9 @@ pub fn execute<D: Disk>(
     command: Command,
     text: &mut Bytes,
 ) -> Result<(), NoMemory>
-    requires { IsCarried command }
+    requires carried { IsCarried command }
+    requires ready { AreReady D.disk slots.old.items }
+    ensures ready { OnOk result (AreReady D.disk slots.new.items) }
     ensures done { OnOk result (Executes D.disk (command_value command) slots.old.items slots.new.items text.old text.new) }
     ensures cut_off { OnErr result (IsCutOff D.disk (command_value command) slots.old.items slots.new.items) }
     ensures length { length slots.new.items ≡ length slots.old.items }

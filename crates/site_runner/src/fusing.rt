@@ -1,6 +1,7 @@
 // FUSE and CRASH.
 ghost use Rattle.std.specs.Prelude.{◌≡◌, OnOk, OnErr};
 ghost use Rattle.world_defs.specs.Commands.{Fuse, Crash};
+ghost use Rattle.site_runner.specs.Sites.{IsReadyState};
 ghost use Rattle.site_runner.specs.Steps.{ExecutesAt};
 
 use super::slot::{Site, State};
@@ -15,11 +16,13 @@ pub fn fuse<D: Disk>(
     calls: u64,
     text: &mut Bytes,
 ) -> Result<(), NoMemory>
+    requires { IsReadyState (D.disk disk.old) site.now.state }
+    ensures ready { IsReadyState (D.disk disk.new) site.now.state }
     ensures done { OnOk result (ExecutesAt (Fuse site.now.name calls) (D.disk disk.old) site.now (D.disk disk.new) site.now text.old text.new) }
     ensures kept { OnErr result (disk.new ≡ disk.old) }
 {
-    if let State::Failed { fault } = &site.state {
-        return write_numbered(text, site.name.as_slice(), b"STOPPED ", *fault);
+    if let Some(fault) = site.fault() {
+        return write_numbered(text, site.name.as_slice(), b"STOPPED ", fault);
     }
     if !disk.simulated() {
         return write_line(text, site.name.as_slice(), b"NOTSIMULATED");
@@ -36,11 +39,13 @@ pub fn crash<D: Disk>(
     pick: u64,
     text: &mut Bytes,
 ) -> Result<(), NoMemory>
+    requires { IsReadyState (D.disk disk.old) site.old.state }
+    ensures ready { OnOk result (IsReadyState (D.disk disk.new) site.new.state) }
     ensures done { OnOk result (ExecutesAt (Crash site.old.name pick) (D.disk disk.old) site.old (D.disk disk.new) site.new text.old text.new) }
     ensures disk { OnErr result (disk.new ≡ disk.old) }
     ensures site { OnErr result (site.new ≡ site.old) }
 {
-    if matches!(site.state, State::Down) {
+    if site.is_down() {
         return write_line(text, site.name.as_slice(), b"NOTRUNNING");
     }
     if !disk.simulated() {

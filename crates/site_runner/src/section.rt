@@ -3,6 +3,7 @@ ghost use Rattle.std.specs.Prelude.{◌≡◌, true, ◌∷◌, [], map, OnOk, O
 ghost use Rattle.std.specs.List.{list_all};
 ghost use Rattle.world_defs.specs.Commands as commands;
 ghost use Rattle.site_journal.specs.Jobs.{is_set, job_value, updater_of};
+ghost use Rattle.site_runner.specs.Sites.{IsReadyState};
 ghost use Rattle.site_runner.specs.Steps.{ExecutesAt, IsCutAt};
 
 use super::slot::{Site, State};
@@ -21,7 +22,9 @@ pub fn run_section<D: Disk>(
     jobs: Vec<Updates>,
     text: &mut Bytes,
 ) -> Result<(), NoMemory>
-    requires { list_all is_set jobs.items ≡ true }
+    requires sets { list_all is_set jobs.items ≡ true }
+    requires ready { IsReadyState (D.disk disk.old) site.old.state }
+    ensures ready { OnOk result (IsReadyState (D.disk disk.new) site.new.state) }
     ensures done { OnOk result (ExecutesAt (commands.Run site.old.name (map job_value jobs.items ∷ []) (map updater_of jobs.items)) (D.disk disk.old) site.old (D.disk disk.new) site.new text.old text.new) }
     ensures cut_off { OnErr result (IsCutAt (commands.Run site.old.name (map job_value jobs.items ∷ []) (map updater_of jobs.items)) (D.disk disk.old) site.old (D.disk disk.new)) }
 {

@@ -1,4 +1,7 @@
 //! Disks and their sites.
+ghost use Rattle.std.specs.Prelude.{◌≡◌};
+ghost use Rattle.site_runner.specs.Sites.{is_down, fault_of};
+
 use gvn_key::Bytes;
 use site_journal::Reign;
 
@@ -18,6 +21,24 @@ pub enum State {
 pub struct Site {
     pub name: Bytes,
     pub state: State,
+}
+
+impl Site {
+    pub fn is_down(&self) -> bool
+        ensures { result ≡ is_down self.now.state }
+    {
+        matches!(self.state, State::Down)
+    }
+
+    /// The number of the fault after which the site stopped.
+    pub fn fault(&self) -> Option<u64>
+        ensures { result ≡ fault_of self.now.state }
+    {
+        match self.state {
+            State::Failed { fault } => Some(fault),
+            _ => None,
+        }
+    }
 }
 
 /// A disk, and the site on it.

@@ -2,6 +2,7 @@
 ghost use Rattle.std.specs.Prelude.{◌≡◌, OnOk, OnErr};
 ghost use Rattle.world_defs.specs.Commands.{StartPrimary};
 ghost use Rattle.site_runner.specs.declared.slot.State.TheVariants.{Down};
+ghost use Rattle.site_runner.specs.Sites.{IsReadyState};
 ghost use Rattle.site_runner.specs.Steps.{ExecutesAt, IsCutAt};
 
 use super::slot::{Site, State};
@@ -19,6 +20,7 @@ fn open<D: Disk>(
     text: &mut Bytes,
 ) -> Result<(), NoMemory>
     requires { site.old.state ≡ Down }
+    ensures ready { OnOk result (IsReadyState (D.disk disk.new) site.new.state) }
     ensures done { OnOk result (ExecutesAt (StartPrimary site.old.name) (D.disk disk.old) site.old (D.disk disk.new) site.new text.old text.new) }
     ensures cut_off { OnErr result (IsCutAt (StartPrimary site.old.name) (D.disk disk.old) site.old (D.disk disk.new)) }
 {
@@ -49,6 +51,8 @@ pub fn start<D: Disk>(
     site: &mut Site,
     text: &mut Bytes,
 ) -> Result<(), NoMemory>
+    requires { IsReadyState (D.disk disk.old) site.old.state }
+    ensures ready { OnOk result (IsReadyState (D.disk disk.new) site.new.state) }
     ensures done { OnOk result (ExecutesAt (StartPrimary site.old.name) (D.disk disk.old) site.old (D.disk disk.new) site.new text.old text.new) }
     ensures cut_off { OnErr result (IsCutAt (StartPrimary site.old.name) (D.disk disk.old) site.old (D.disk disk.new)) }
 {
