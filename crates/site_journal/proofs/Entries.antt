@@ -1,5 +1,6 @@
 -- Entries beside their records.
-use Rattle.std.proofs.Common.{◌≡◌, ◌≤◌, ◌<◌, ◌+◌, ℕ, List, [], ◌∷◌, ◌++◌, length, map, refl, sym, ◌∙◌, ap, subst, arith}
+use Rattle.std.proofs.Common.{◌≡◌, ◌+◌, ℕ, List, [], ◌∷◌, ◌++◌, length, refl, sym, ◌∙◌, ap, arith, append-nil, length-append}
+use Rattle.std.proofs.lemmas.List.Concat.{flat_map-append}
 use Rattle.std.specs.List.{AllByRecursion, enumerate_from, flat_map, AllZip}
 use Rattle.global_defs.specs.Entry.{Update, Item, Origin, Entry, Sequence, Stamp}
 use Rattle.global_defs.specs.Fields.{IsOrigin}
@@ -65,7 +66,8 @@ stamps_more name [] e a h = (h, tt)
 stamps_more name (x ∷ es) e a h = (a.0, stamps_more name es e a.1 h)
 
 pub updates_more : (es : Sequence) (e : Entry) → length (updates_in (es ++ e ∷ [])) ≡ length (updates_in es) + length e.transaction.updates
-updates_more es e = ?
+updates_more es e =
+    ap length (flat_map-append (λ (x : Entry). x.transaction.updates) es (e ∷ []) ∙ ap (λ (us : List Update). updates_in es ++ us) (append-nil e.transaction.updates)) ∙ length-append (updates_in es) e.transaction.updates
 
 pub no_pini : (n : ℕ) (es : Sequence) → AllByRecursion IsNoPini (entry_records n es)
 no_pini n [] = tt

@@ -1,3 +1,6 @@
 pub mod Cursors
 pub mod Entries
 pub mod Taken
+pub mod Items
+pub mod Results
+pub mod Growing

@@ -51,8 +51,8 @@ contradicts (Some f) P Q R p q k = k f p q
 
 -- no gate or body of it is outside the format
 pub taken_no : (o : Option Files) (w : View) (j : Journal) (n : ℕ) → n ≡ j.gated.file → IsTaken o w j → IfSome w.content (λ files. IsNoRecord (files n) 0) → IfSome o (λ files. (name : Name) (c : Contents) → Stands name files c → ⊥)
-taken_no o w j n e taken no = weaker_told o _ _ taken (λ files t name c s.
-    contradicts w.content (λ f. ReadsOn (f j.gated.file) 0 t.0) (λ f. IsNoRecord (f n) 0) ⊥ (reads_taken w j t.0 t.2) no
+taken_no o w j n e taken wrong = weaker_told o _ _ taken (λ files t name c s.
+    contradicts w.content (λ f. ReadsOn (f j.gated.file) 0 t.0) (λ f. IsNoRecord (f n) 0) ⊥ (reads_taken w j t.0 t.2) wrong
     (λ f reads none. reads_no (f j.gated.file) 0 t.0 reads (subst (λ (m : ℕ). IsNoRecord (f m) 0) e none)))
 
 begun_none : (b : Bool) (seq : Sequence) → (if b then beginning ∷ entry_records 1 seq else []) ≡ [] → b ≡ false

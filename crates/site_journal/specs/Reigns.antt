@@ -52,7 +52,7 @@ pub record HasPlace (r : Reign) : Type 0 where
 
 -- the same but for the journal, which has the same file
 pub record IsSameReign (old new : Reign) : Type 0 where
-  pub entries : new.entries ≡ old.entries
+  pub entries : new.entries.items ≡ old.entries.items
   pub serials : new.serials ≡ old.serials
   pub updates : new.updates ≡ old.updates
   pub file : new.journal.gated.file ≡ old.journal.gated.file

@@ -75,7 +75,8 @@ fn put<D: Disk>(journal: &mut Journal, disk: &mut D) -> Result<(), JournalError>
 fn write_reply(text: &mut Bytes, serial: u64, number: u64) -> Result<(), NoMemory>
     ensures { OnOk result (text.new ≡ text.old ++ reply_line (record { updater = 1; serial = serial; reply = Seq number [] })) }
 {
-    text.push_all(b"1.")?;
+    text.push_decimal(1)?;
+    text.push_all(b".")?;
     text.push_decimal(serial)?;
     text.push_all(b" SEQ ")?;
     text.push_decimal(number)?;
