@@ -9,7 +9,7 @@ use Rattle.disk_defs.specs.Frames.{OnlyOn, Only, OthersStay}
 use Rattle.disk_defs.proofs.Moments.{holds_now}
 use Rattle.global_defs.specs.Entry.{Update, Set, Kill, ZKill, Entry, Sequence}
 use Rattle.global_defs.specs.Serial.{Replied, Seq}
-use Rattle.site_journal.specs.Jobs.{is_set}
+use Rattle.site_journal.specs.Jobs.{is_set, has_set}
 use Rattle.gvn_model.specs.declared.entry.Entry as code
 use Rattle.gvn_model.specs.Entries.{entry_value}
 use Rattle.journal_defs.specs.Numbers.{journal_file}
@@ -22,9 +22,9 @@ use Rattle.world_defs.specs.World.{Name, Contents}
 use Rattle.world_defs.specs.Rows.{reign_of}
 use Rattle.world_defs.specs.Ties.{Stands, records_of, beginning, entry_record, entry_records}
 use Rattle.site_journal.specs.declared.reign.Reign.{Reign}
-use Rattle.site_journal.specs.Reigns.{tagged, updates_in, AreOfReign, Remembers, Keeps, Reigns, HasPlace}
+use Rattle.site_journal.specs.Reigns.{tagged, AreOfReign, Remembers, Keeps, Reigns, HasPlace}
 use Rattle.site_journal.specs.Deciding.{with_entry, next_entry, next_reply, HasRoom, MayHave}
-use Rattle.site_journal.proofs.Entries.{records_more, enumerate_more, stamps_more, updates_more}
+use Rattle.site_journal.proofs.Entries.{records_more, enumerate_more, stamps_more, sets_more}
 use Rattle.site_journal.proofs.Taken.{still}
 
 pub one_reply : (d t a b : List ℕ) → ((((t ++ d) ++ codes ".") ++ a) ++ codes " SEQ ") ++ b ++ codes "\n" ≡ t ++ (d ++ 46 ∷ a ++ (codes " SEQ " ++ b ++ []) ++ 10 ∷ [])
@@ -100,7 +100,7 @@ pub remembered_length : (r : Reign) (seq : Sequence) → Remembers r seq → len
 remembered_length r seq h = sym (length-map-of tagged r.entries.items) ∙ ap length h.entries ∙ length-enumerate 1 seq
 
 pub has_room : (r : Reign) (seq : Sequence) → Remembers r seq → HasPlace r → HasRoom seq
-has_room r seq h p = record { entries = omega (arith, remembered_length r seq h, p.entries); updates = omega (arith, h.count, p.updates) }
+has_room r seq h p = record { entries = omega (arith, remembered_length r seq h, p.entries); sets = h.sets p.sets }
 
 -- what was decided, put and remembered
 pub record Puts (v w x : View) (name : Name) (e : Entry) (old : Reign) (mid new : Journal) (entry : code.Entry) : Type 0 where
@@ -118,23 +118,23 @@ prepared_so v w x name e old mid new entry seq p h =
     subst (λ (k : ℕ). IsPrepared mid (entry_record k e)) (p.number ∙ ap (λ (k : ℕ). k + 1) (remembered_length old seq h)) (subst (λ (y : Entry). IsPrepared mid (entry_record entry.number y)) p.value p.prepared)
 
 one_or_more : (name : Name) (files : Files) (c : Contents) (e : Entry) → AreOfReign name c.sequence → e.stamp ≡ reign_of name → c.begun ≡ true
-    → StandsRecords (records_of c) (entry_record (length c.sequence + 1) e ∷ []) (files (journal_file 1 0)) → Stands name files c ⊎ Stands name files (with_entry c e)
-one_or_more name files c e s t b (n, h, k) = by_count n h k
+    → StandsRecords (records_of c) (entry_record (length c.sequence + 1) e ∷ []) (files (journal_file 1 0)) → HasRoom c.sequence → Stands name files c ⊎ (HasRoom c.sequence × Stands name files (with_entry c e))
+one_or_more name files c e s t b (n, h, k) room = by_count n h k
   where
-    by_count : (m : ℕ) → m ≤ 1 → Holds IsJournalBody (files (journal_file 1 0)) (records_of c ++ take m (entry_record (length c.sequence + 1) e ∷ [])) → Stands name files c ⊎ Stands name files (with_entry c e)
+    by_count : (m : ℕ) → m ≤ 1 → Holds IsJournalBody (files (journal_file 1 0)) (records_of c ++ take m (entry_record (length c.sequence + 1) e ∷ [])) → Stands name files c ⊎ (HasRoom c.sequence × Stands name files (with_entry c e))
     by_count zero l x = inl (stands_by name files c b (subst (λ (y : List JournalRecord). Holds IsJournalBody (files (journal_file 1 0)) y) (append-nil (records_of c)) x) s)
-    by_count (suc zero) l x = inr (stands_by name files (with_entry c e) b (subst (λ (y : List JournalRecord). Holds IsJournalBody (files (journal_file 1 0)) y) (sym (records_grown c e b)) x) (stamps_more name c.sequence e s t))
+    by_count (suc zero) l x = inr (room, stands_by name files (with_entry c e) b (subst (λ (y : List JournalRecord). Holds IsJournalBody (files (journal_file 1 0)) y) (sym (records_grown c e b)) x) (stamps_more name c.sequence e s t))
     by_count (suc (suc m)) l x = absurd (omega arith)
 
-pub may_have_put : (v w x : View) (name : Name) (e : Entry) (old : Reign) (mid new : Journal) (entry : code.Entry) (c : Contents) → Puts v w x name e old mid new entry → Reigns v name true c old → MayHave x name c e
-may_have_put v w x name e old mid new entry c p r =
+pub may_have_put : (v w x : View) (name : Name) (e : Entry) (old : Reign) (mid new : Journal) (entry : code.Entry) (c : Contents) → Puts v w x name e old mid new entry → HasPlace old → Reigns v name true c old → MayHave x name c e
+may_have_put v w x name e old mid new entry c p place r =
     let k = r.kept refl in
     let has = p.state (records_of c) k.records in
     let prep = prepared_so v w x name e old mid new entry c.sequence p r.remembered in
     record {
       told = p.told (keeps_told v name c old.journal k);
       images = λ files now. one_or_more name files c e k.stamps p.stamp k.begun
-          (subst (λ (f : ℕ). StandsRecords (records_of c) (entry_record (length c.sequence + 1) e ∷ []) (files f)) (p.file ∙ r.file) (p.images (entry_record (length c.sequence + 1) e) (records_of c) prep has files now));
+          (subst (λ (f : ℕ). StandsRecords (records_of c) (entry_record (length c.sequence + 1) e ∷ []) (files f)) (p.file ∙ r.file) (p.images (entry_record (length c.sequence + 1) e) (records_of c) prep has files now)) (has_room old c.sequence r.remembered place);
     }
 
 pub may_have_old : (v w : View) (name : Name) (e : Entry) (old : Reign) (c : Contents) → ((files : Files) → Image w files → Image v files) → (IsSome v.content → IsSome w.content) → Reigns v name true c old → MayHave w name c e
@@ -144,8 +144,8 @@ may_have_old v w name e old c images told r =
 
 pub reigns_put : (v w x : View) (name : Name) (is_told : Bool) (e : Entry) (old new : Reign) (mid : Journal) (entry : code.Entry) (c : Contents) → Puts v w x name e old mid new.journal entry → Reigns v name is_told c old
     → ((r : JournalRecord) (rs : List JournalRecord) → IsPrepared mid r → HasRecords w mid (settled rs) → HasRecords x new.journal (settled (rs ++ r ∷ [])))
-    → new.entries.items ≡ old.entries.items ++ entry ∷ [] → new.updates ≡ old.updates + 1 → length e.transaction.updates ≡ 1 → new.journal.gated.file ≡ mid.gated.file → Reigns x name is_told (with_entry c e) new
-reigns_put v w x name is_told e old new mid entry c p r state entries updates one file =
+    → new.entries.items ≡ old.entries.items ++ entry ∷ [] → new.sets ≡ old.sets → has_set e ≡ true → new.journal.gated.file ≡ mid.gated.file → Reigns x name is_told (with_entry c e) new
+reigns_put v w x name is_told e old new mid entry c p r state entries sets one file =
     let n : length old.entries.items ≡ length c.sequence = remembered_length old c.sequence r.remembered in
     record {
       remembered = record {
@@ -153,7 +153,7 @@ reigns_put v w x name is_told e old new mid entry c p r state entries updates on
             ∙ ap (λ (k : ℕ). enumerate_from 1 c.sequence ++ (k, entry_value entry) ∷ []) (omega (arith, p.number, n))
             ∙ ap (λ (y : Entry). enumerate_from 1 c.sequence ++ (1 + length c.sequence, y) ∷ []) p.value
             ∙ sym (enumerate_more 1 c.sequence e);
-        count = omega (arith, updates, r.remembered.count, updates_more c.sequence e, one);
+        sets = λ t. sets_more c.sequence e (r.remembered.sets (subst IsTrue sets t)) one;
       };
       file = file ∙ p.file ∙ r.file;
       kept = λ t.
@@ -180,13 +180,6 @@ puts_by v w x name e old made mid new entry same value number stamp state prepar
   images = images;
   told = λ t. still w x (Only mid.gated.file) second.content (still v w (Only old.journal.gated.file) first.content t);
 }
-
-pub set_one : (us : List Update) → is_set us ≡ true → length us ≡ 1
-set_one [] h = absurd (cc h)
-set_one (Set k v ∷ []) h = refl
-set_one (Set k v ∷ u ∷ us) h = absurd (cc h)
-set_one (Kill k ∷ us) h = absurd (cc h)
-set_one (ZKill k ∷ us) h = absurd (cc h)
 
 -- the reply to the entry that was put
 pub reply_put : (name : Name) (serials : List ℕ) (us : List Update) (entry : code.Entry) (r : Reign) (seq : Sequence) (serial : ℕ) → Remembers r seq → entry_value entry ≡ next_entry name serials us → entry.number ≡ length r.entries.items + 1

@@ -4,3 +4,4 @@ pub mod Taken
 pub mod Items
 pub mod Results
 pub mod Growing
+pub mod Turns

@@ -1,5 +1,5 @@
 //! Taking up a site's journal.
-ghost use Rattle.std.specs.Prelude.{◌≡◌, ◌≤◌, ◌<◌, ◌+◌, ◌-◌, ◌++◌, ◌∷◌, [], ℕ, List, true, length, max, get_or, set, IfOk, IfSome, OnOk, IsErrOf, IsSome};
+ghost use Rattle.std.specs.Prelude.{◌≡◌, ◌≤◌, ◌<◌, ◌+◌, ◌-◌, ◌++◌, ◌∷◌, [], ℕ, List, true, length, max, get_or, set, IfOk, IfSome, OnOk, IsErrOf, IsSome, IsTrue};
 ghost use Rattle.disk_defs.specs.Disk.{Files, Image, Reads, Rose};
 ghost use Rattle.global_defs.specs.Entry.{Sequence};
 ghost use Rattle.gvn_model.specs.Entries.{entry_value};
@@ -9,14 +9,16 @@ ghost use Rattle.jnl_file.specs.Journal.{IsReady};
 ghost use Rattle.world_defs.specs.World.{Contents};
 ghost use Rattle.world_defs.specs.Rows.{serials_past};
 ghost use Rattle.world_defs.specs.Ties.{Stands, beginning, entry_records};
+ghost use Rattle.site_journal.specs.Jobs.{is_set, has_set};
 ghost use Rattle.site_journal.specs.Records.{HasUpdater};
 ghost use Rattle.gated_file.specs.Begin.{KeepsRecords};
 ghost use Rattle.site_journal.specs.Cursor.{ReadsOn, HasNext, HasRead, FindsEntry, entries_of, IsEmptyReign, IsTakenUp};
 
 use crate::records::entry_in;
-use crate::reign::{MOST, Reign};
+use crate::reign::Reign;
 use gvn_key::NoMemory;
-use gvn_model::{Entry, Origin};
+use gvn_key::terms::Update;
+use gvn_model::{Entry, Origin, Updates};
 use jnl_file::{Journal, JournalError};
 use jnl_record::JnlRecord;
 use journal_laws::bodies::bodies_hold;
@@ -85,22 +87,26 @@ fn advance(serials: &mut [u64; 64], origin: Origin)
     serials[place] = serials[place].max(u64::from(origin.serial) + 1);
 }
 
+/// Whether these updates set one node and do nothing else.
+fn is_set(updates: &Updates) -> bool
+    ensures { IsTrue result → is_set updates.now ≡ true }
+{
+    matches!(updates.as_slice(), [Update::Set(..)])
+}
+
 impl Reign {
     /// Adds an entry that was read to those in memory.
     fn take(&mut self, entry: Entry) -> Result<(), NoMemory>
         requires { HasUpdater (entry_value entry) }
         ensures entries { OnOk result (self.new.entries.items ≡ self.old.entries.items ++ entry ∷ []) }
         ensures serials { OnOk result (self.new.serials ≡ serials_past self.old.serials (entry_value entry)) }
-        ensures updates { OnOk result (self.new.updates ≡ self.old.updates + length (entry_value entry).transaction.updates) }
+        ensures sets { OnOk result (IsTrue self.new.sets → (self.old.sets ≡ true) × (has_set (entry_value entry) ≡ true)) }
         ensures journal { self.new.journal ≡ self.old.journal }
     {
         let origin = entry.transaction.origin;
-        let more = entry.transaction.updates.len() as u64;
-        if MOST < self.updates || MOST - self.updates < more {
-            return Err(NoMemory);
-        }
+        let sets = self.sets && is_set(&entry.transaction.updates);
         self.entries.push(entry)?;
-        self.updates += more;
+        self.sets = sets;
         advance(&mut self.serials, origin);
         Ok(())
     }
@@ -157,7 +163,7 @@ pub fn start<D: Disk>(alloc: Global, disk: &mut D, name: &[u8]) -> Result<Reign,
         journal,
         entries: Vec::new(alloc),
         serials: [1; 64],
-        updates: 0,
+        sets: true,
     };
     let from = read_beginning(&mut made.journal, disk)?;
     made.read_entries(alloc, disk, name, from)?;
