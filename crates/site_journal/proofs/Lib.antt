@@ -5,3 +5,5 @@ pub mod Items
 pub mod Results
 pub mod Growing
 pub mod Turns
+pub mod Reading
+pub mod Started

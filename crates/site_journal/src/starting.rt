@@ -1,10 +1,11 @@
 //! Taking up a site's journal.
-ghost use Rattle.std.specs.Prelude.{◌≡◌, ◌≤◌, ◌<◌, ◌+◌, ◌-◌, ◌++◌, ◌∷◌, [], ℕ, List, true, length, max, get_or, set, IfOk, IfSome, OnOk, IsErrOf, IsSome, IsTrue};
+ghost use Rattle.std.specs.Prelude.{◌≡◌, ◌≢◌, ◌≤◌, ◌<◌, ◌+◌, ◌-◌, ◌++◌, ◌∷◌, [], ℕ, List, true, length, max, get_or, set, IfOk, IfSome, OnOk, IsErrOf, IsSome, IsTrue, MatchBool};
 ghost use Rattle.disk_defs.specs.Disk.{Files, Image, Reads, Rose};
 ghost use Rattle.global_defs.specs.Entry.{Sequence};
 ghost use Rattle.gvn_model.specs.Entries.{entry_value};
 ghost use Rattle.journal_defs.specs.Numbers.{journal_file};
 ghost use Rattle.journal_defs.specs.Journal.{JournalRecord};
+ghost use Rattle.jnl_record.specs.Values.{record_value};
 ghost use Rattle.jnl_file.specs.Journal.{IsReady};
 ghost use Rattle.world_defs.specs.World.{Contents};
 ghost use Rattle.world_defs.specs.Rows.{serials_past};
@@ -25,6 +26,22 @@ use journal_laws::bodies::bodies_hold;
 use repl_disk::Disk;
 use std::alloc::Global;
 
+/// Whether the journal of a site begins with this record.
+fn is_beginning(first: &JnlRecord) -> bool
+    ensures { MatchBool result (record_value first.now ≡ beginning) (record_value first.now ≢ beginning) }
+{
+    matches!(
+        first,
+        JnlRecord::Pini {
+            region: 0,
+            before: true,
+            generation: 1,
+            previous: 0,
+            ..
+        }
+    )
+}
+
 /// Reads how a journal begins, and answers where its entries stand.
 fn read_beginning<D: Disk>(journal: &mut Journal, disk: &mut D) -> Result<u64, JournalError>
     ensures found { IfOk result (λ next. IfSome (D.disk disk.old).content (λ files. (rs : List JournalRecord) → ReadsOn (files journal.old.gated.file) 0 rs → HasNext (files journal.old.gated.file) rs beginning next)) }
@@ -35,19 +52,13 @@ fn read_beginning<D: Disk>(journal: &mut Journal, disk: &mut D) -> Result<u64, J
     ensures cause { IsErrOf result JournalError.Failed → Rose (D.disk disk.old).faults (D.disk disk.new).faults }
 {
     bodies_hold();
-    match journal.next_record(disk, 0)? {
-        Some((
-            JnlRecord::Pini {
-                region: 0,
-                before: true,
-                generation: 1,
-                previous: 0,
-                ..
-            },
-            next,
-        )) => Ok(next),
-        _ => Err(JournalError::NotARecord { offset: 0 }),
+    let Some((record, next)) = journal.next_record(disk, 0)? else {
+        return Err(JournalError::NotARecord { offset: 0 });
+    };
+    if !is_beginning(&record) {
+        return Err(JournalError::NotARecord { offset: 0 });
     }
+    Ok(next)
 }
 
 /// Reads the entry of a number, and answers where the next one stands.
@@ -130,7 +141,7 @@ impl Reign {
     {
         let mut at = from;
         let mut number = 1;
-        while let Some((entry, next)) =
+        'reading: while let Some((entry, next)) =
             next_entry(alloc, &mut self.journal, disk, name, number, at)?
         {
             self.take(entry)?;
