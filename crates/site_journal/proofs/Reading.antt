@@ -163,9 +163,12 @@ so_more v w file name number from at old new e next same n h is t =
     (subst (λ (o : Option Files). IfSome o (λ files. (rs : List JournalRecord) → ReadsOn (files file) at rs → HasNext (files file) rs (entry_record number (entry_value e)) next)) same is.told)
     (λ files so one rs reads.
     let s = so rs reads in
-    let k = one s.0 s.2 in
-    (k.rest, s.1 ∙ ap (λ (x : List JournalRecord). entry_records 1 (entries_of old) ++ x) k.is ∙ sym (append_assoc (entry_records 1 (entries_of old)) (entry_record number (entry_value e) ∷ []) k.rest)
-    ∙ ap (λ (x : List JournalRecord). x ++ k.rest) (ap (λ (m : ℕ). entry_records 1 (entries_of old) ++ entry_record m (entry_value e) ∷ []) (omega (arith, n, length-entries old)) ∙ sym (records_more 1 (entries_of old) (entry_value e)) ∙ ap (entry_records 1) (sym (entries_more old new e t.entries))), k.reads))
+    let k = one s.0 s.2 in (
+      k.rest,
+      s.1 ∙ ap (λ (x : List JournalRecord). entry_records 1 (entries_of old) ++ x) k.is ∙ sym (append_assoc (entry_records 1 (entries_of old)) (entry_record number (entry_value e) ∷ []) k.rest)
+          ∙ ap (λ (x : List JournalRecord). x ++ k.rest) (ap (λ (m : ℕ). entry_records 1 (entries_of old) ++ entry_record m (entry_value e) ∷ []) (omega (arith, n, length-entries old)) ∙ sym (records_more 1 (entries_of old) (entry_value e)) ∙ ap (entry_records 1) (sym (entries_more old new e t.entries))),
+      k.reads,
+    ))
 
 -- all were read
 pub all_so : (v w : View) (file from at number : ℕ) (name : Name) (r : Reign) → w.content ≡ v.content → HasReadSo v file from at r → FindsEntry w file name number at None

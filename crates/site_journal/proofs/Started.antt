@@ -38,8 +38,8 @@ taken_up one o w y x name j made from taken same read first more keeps = weaker_
     let are : t.0 ≡ records_of c = one_holds one (files (journal_file 1 0)) t.0 (records_of c) t.1.held s.held in
     let later = subst (λ (z : Option Files). IfSome z (λ fs. (rs : List JournalRecord) → ReadsOn (fs j.gated.file) from rs → rs ≡ entry_records 1 (entries_of made))) same more in
     let both = contradicts w.content (λ fs. ReadsOn (fs j.gated.file) 0 t.0) (λ fs. ((rs : List JournalRecord) → ReadsOn (fs j.gated.file) 0 rs → HasNext (fs j.gated.file) rs beginning from) × ((rs : List JournalRecord) → ReadsOn (fs j.gated.file) from rs → rs ≡ entry_records 1 (entries_of made)))
-        (t.0 ≡ beginning ∷ entry_records 1 (entries_of made)) (reads_taken w j t.0 t.2) (both_if w.content _ _ first later)
-        (λ fs reads k. let h = k.0 t.0 reads in h.is ∙ ap (λ (rs : List JournalRecord). beginning ∷ rs) (k.1 h.rest h.reads)) in
+    (t.0 ≡ beginning ∷ entry_records 1 (entries_of made)) (reads_taken w j t.0 t.2) (both_if w.content _ _ first later)
+    (λ fs reads k. let h = k.0 t.0 reads in h.is ∙ ap (λ (rs : List JournalRecord). beginning ∷ rs) (k.1 h.rest h.reads)) in
     record {
       sequence = entries_one name 1 c.sequence (entries_of made) s.stamps read.stamps (tail_of beginning beginning _ _ (sym (records_begun c.begun c.sequence b) ∙ sym are ∙ both));
       records = subst (λ (rs : List JournalRecord). HasRecords x made.journal (settled rs)) are (keeps t.0 t.2);

@@ -141,9 +141,14 @@ impl Reign {
     {
         let mut at = from;
         let mut number = 1;
-        'reading: while let Some((entry, next)) =
-            next_entry(alloc, &mut self.journal, disk, name, number, at)?
-        {
+        'reading: while let Some((entry, next)) = next_entry(
+            alloc,
+            &mut self.journal,
+            disk,
+            name,
+            number,
+            at,
+        )? {
             self.take(entry)?;
             number += 1;
             at = next;

@@ -7,7 +7,7 @@ use Rattle.jnl_file.specs.declared.error.JournalError.TheVariants.{NotARecord}
 use Rattle.jnl_record.specs.declared.record.JnlRecord.{JnlRecord}
 use Rattle.world_defs.specs.World.{Name, Contents}
 use Rattle.world_defs.specs.Ties.{Stands}
-use Rattle.site_journal.proofs.Taken.{no_stands, taken_no, taken_begun, kept_images, images_now}
+use Rattle.site_journal.proofs.Taken.{no_stands, taken_no, taken_begun, taken_kept, kept_images}
 use Rattle.site_journal.proofs.beginning.is_begun.Goals as goal
 
 pub returns-in_err-journal-clause-outside : goal.returns-in_err-journal-clause-outside
@@ -32,3 +32,7 @@ returns-clause-begun g c =
 
 pub returns-clause-images : goal.returns-clause-images
 returns-clause-images g c = kept_images _ _ _ (g.met.D.Disk.lawful _) c.attach.ensures.any_moment c.in_ok-next_record.ensures.reads
+
+pub returns-clause-kept : goal.returns-clause-kept
+returns-clause-kept g c =
+    taken_kept c.bodies_hold.ensures.journal (g.D.Disk.disk c.args.disk.now).content (g.D.Disk.disk c.attach.new.disk) (g.D.Disk.disk c.next_record.new.disk) c.in_ok-journal.journal c.in_ok-journal.ensures.place.file c.next_record.ensures.reads c.in_ok-journal.ensures.state

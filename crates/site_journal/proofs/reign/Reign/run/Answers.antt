@@ -53,10 +53,12 @@ returns-in-Err-Failed-clause-breaks g c told x r =
     let not_memory : c.decide.result ≡ Err NoMemory → ⊥ = λ (e : c.decide.result ≡ Err NoMemory). two_errors c.decide.result failed e in
     let room : HasRoom d.sequence = c.decide.ensures.room not_memory told (with_sequence x d.sequence) d.reigns in
     let count : c.len-count.result ≡ length c.args.jobs.items = grind (arith, common_steps, c.len-count.ensures) in
-    let more : length at.yielded < length c.args.jobs.items = omega (arith, ap length all, length-append at.yielded (j ∷ left)) in
-    (length at.yielded + 1, subst (λ (t : List ℕ). FailsAt w c.args.name.now told x c.args.jobs.items c.args.self.now.serials (c.len-count.result - at.decided) c.args.text.now t (length at.yielded + 1)) (sym (c.decide.ensures.text failed))
-    (failed_at c.order_holds.ensures.total v w c.args.name.now told x c.args.jobs.items at.yielded j left c.args.self.now at.self c.args.text.now at.text (c.len-count.result - at.decided) d all (set_between c.args.jobs.items at.yielded j left c.requires.sets all) room may
-    (omega (arith, count, at.invariant.decided, more))))
+    let more : length at.yielded < length c.args.jobs.items = omega (arith, ap length all, length-append at.yielded (j ∷ left)) in (
+      length at.yielded + 1,
+      subst (λ (t : List ℕ). FailsAt w c.args.name.now told x c.args.jobs.items c.args.self.now.serials (c.len-count.result - at.decided) c.args.text.now t (length at.yielded + 1)) (sym (c.decide.ensures.text failed))
+          (failed_at c.order_holds.ensures.total v w c.args.name.now told x c.args.jobs.items at.yielded j left c.args.self.now at.self c.args.text.now at.text (c.len-count.result - at.decided) d all (set_between c.args.jobs.items at.yielded j left c.requires.sets all) room may
+          (omega (arith, count, at.invariant.decided, more))),
+    )
 
 pub returns-in-Err-NoMemory-clause-breaks : goal.returns-in-Err-NoMemory-clause-breaks
 returns-in-Err-NoMemory-clause-breaks g c told x r =
