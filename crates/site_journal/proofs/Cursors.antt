@@ -64,22 +64,22 @@ reads_end file at rs reads shut =
     none_left reads.bodies rs none reads.are
 
 body_no : (body : Body) (o : Option (List Body)) (bodies : List Body) (rs : List JournalRecord) → option_map (λ bs. body ∷ bs) o ≡ Some bodies → AllZip IsJournalBody bodies rs → ((r : JournalRecord) → IsJournalBody body r → ⊥) → ⊥
-body_no body None bodies rs e z no = absurd (cc e)
-body_no body (Some more) bodies rs e z no = by_list rs (subst (λ (bs : List Body). AllZip IsJournalBody bs rs) (sym (some_is e)) z)
+body_no body None bodies rs e z refused = absurd (cc e)
+body_no body (Some more) bodies rs e z refused = by_list rs (subst (λ (bs : List Body). AllZip IsJournalBody bs rs) (sym (some_is e)) z)
   where
     some_is : option_map (λ bs. body ∷ bs) (Some more) ≡ Some bodies → (body ∷ more) ≡ bodies
     some_is h = cc h
 
     by_list : (qs : List JournalRecord) → AllZip IsJournalBody (body ∷ more) qs → ⊥
     by_list [] k = k
-    by_list (q ∷ qs) k = no q k.0
+    by_list (q ∷ qs) k = refused q k.0
 
 -- no place where records stand is outside the format
 pub reads_no : (file : List ℕ) (at : ℕ) (rs : List JournalRecord) → ReadsOn file at rs → IsNoRecord file at → ⊥
 reads_no file at rs reads (inl shut) =
     let e : None ≡ Some reads.bodies = sym (at_none file at shut) ∙ reads.there in
     absurd (cc e)
-reads_no file at rs reads (inr no) = body_no no.0 (bodies_at file no.1) reads.bodies rs (sym (at_open file at no.0 no.1 no.2) ∙ reads.there) reads.are no.3
+reads_no file at rs reads (inr wrong) = body_no wrong.0 (bodies_at file wrong.1) reads.bodies rs (sym (at_open file at wrong.0 wrong.1 wrong.2) ∙ reads.there) reads.are wrong.3
 
 pub holds_end : (file : List ℕ) → FindsRecord file 0 None → Holds IsJournalBody file []
 holds_end file shut = ([], at_shut file 0 shut, tt)

@@ -1,13 +1,15 @@
 -- Entries beside their records.
-use Rattle.std.proofs.Common.{◌≡◌, ◌≤◌, ◌<◌, ◌+◌, ℕ, List, [], ◌∷◌, ◌++◌, length, map, refl, sym, ◌∙◌, ap, subst, arith}
-use Rattle.std.specs.List.{AllByRecursion, enumerate_from, flat_map, AllZip}
+use Rattle.std.proofs.Common.{◌≡◌, ◌+◌, ℕ, List, [], ◌∷◌, ◌++◌, length, refl, sym, ◌∙◌, ap, arith, Bool, true, false}
+use Rattle.std.specs.Prelude.{◌&&◌}
+use Rattle.std.specs.List.{AllByRecursion, enumerate_from, list_all}
 use Rattle.global_defs.specs.Entry.{Update, Item, Origin, Entry, Sequence, Stamp}
 use Rattle.global_defs.specs.Fields.{IsOrigin}
 use Rattle.journal_defs.specs.Journal.{JournalRecord, Tcom, Part, IsJournalBody, IsInForm, IsPart, IsNoPini, BeginsWithPini}
 use Rattle.world_defs.specs.World.{Name}
 use Rattle.world_defs.specs.Rows.{reign_of}
 use Rattle.world_defs.specs.Ties.{items_from, entry_record, entry_records, beginning}
-use Rattle.site_journal.specs.Reigns.{AreOfReign, updates_in}
+use Rattle.site_journal.specs.Reigns.{AreOfReign}
+use Rattle.site_journal.specs.Jobs.{has_set}
 use Rattle.site_journal.specs.Records.{HasUpdater}
 use Rattle.site_journal.specs.Cursor.{ReadsOn}
 
@@ -64,8 +66,13 @@ pub stamps_more : (name : Name) (es : Sequence) (e : Entry) → AreOfReign name 
 stamps_more name [] e a h = (h, tt)
 stamps_more name (x ∷ es) e a h = (a.0, stamps_more name es e a.1 h)
 
-pub updates_more : (es : Sequence) (e : Entry) → length (updates_in (es ++ e ∷ [])) ≡ length (updates_in es) + length e.transaction.updates
-updates_more es e = ?
+split_and : (a b : Bool) → a && b ≡ true → (a ≡ true) × (b ≡ true)
+split_and true b h = (refl, h)
+split_and false b h = absurd (cc h)
+
+pub sets_more : (es : Sequence) (e : Entry) → list_all has_set es ≡ true → has_set e ≡ true → list_all has_set (es ++ e ∷ []) ≡ true
+sets_more [] e a h = rw h refl
+sets_more (x ∷ es) e a h = let s = split_and (has_set x) (list_all has_set es) a in rw (s.0, sets_more es e s.1 h) refl
 
 pub no_pini : (n : ℕ) (es : Sequence) → AllByRecursion IsNoPini (entry_records n es)
 no_pini n [] = tt

@@ -51,8 +51,8 @@ contradicts (Some f) P Q R p q k = k f p q
 
 -- no gate or body of it is outside the format
 pub taken_no : (o : Option Files) (w : View) (j : Journal) (n : ℕ) → n ≡ j.gated.file → IsTaken o w j → IfSome w.content (λ files. IsNoRecord (files n) 0) → IfSome o (λ files. (name : Name) (c : Contents) → Stands name files c → ⊥)
-taken_no o w j n e taken no = weaker_told o _ _ taken (λ files t name c s.
-    contradicts w.content (λ f. ReadsOn (f j.gated.file) 0 t.0) (λ f. IsNoRecord (f n) 0) ⊥ (reads_taken w j t.0 t.2) no
+taken_no o w j n e taken wrong = weaker_told o _ _ taken (λ files t name c s.
+    contradicts w.content (λ f. ReadsOn (f j.gated.file) 0 t.0) (λ f. IsNoRecord (f n) 0) ⊥ (reads_taken w j t.0 t.2) wrong
     (λ f reads none. reads_no (f j.gated.file) 0 t.0 reads (subst (λ (m : ℕ). IsNoRecord (f m) 0) e none)))
 
 begun_none : (b : Bool) (seq : Sequence) → (if b then beginning ∷ entry_records 1 seq else []) ≡ [] → b ≡ false
@@ -99,3 +99,18 @@ kept_images v w x lawful moments reads = weaker_told v.content _ _ moments (λ _
 
 pub images_now : (v w : View) (P : Files → Type 0) → IsLawful w → IfSome v.content (λ _. AtEachMoment v w P) → IfSome v.content (λ _. (files : Files) → Image w files → P files)
 images_now v w P lawful moments = weaker_told v.content _ _ moments (λ _ m files now. holds_now v w P lawful m files now)
+
+-- what its files stood for they stand for
+pub taken_kept : OneRecord → (o : Option Files) (w x : View) (j : Journal) → j.gated.file ≡ journal_file 1 0 → Reads w x → IsTaken o w j
+    → IfSome o (λ files. (name : Name) (c : Contents) → Stands name files c → IfSome x.content (λ now. Stands name now c))
+taken_kept one o w x j e reads taken = weaker_told o _ _ taken (λ files t name c s.
+    let are : t.0 ≡ records_of c = one_holds one (files (journal_file 1 0)) t.0 (records_of c) t.1.held s.held in
+    subst (λ (z : Option Files). IfSome z (λ now. Stands name now c)) (sym reads.content) (by_content w.content name c files s (subst (λ (rs : List JournalRecord). HasRecords w j (settled rs)) are t.2)))
+  where
+    by_content : (z : Option Files) (name : Name) (c : Contents) (files : Files) → Stands name files c → IsSomeAnd z (HoldsRecords w j (settled (records_of c))) → IfSome z (λ now. Stands name now c)
+    by_content None name c files s h = tt
+    by_content (Some now) name c files s h = record {
+      held = subst (λ (f : ℕ). Holds IsJournalBody (now f) (records_of c)) e (subst (λ (rs : List JournalRecord). Holds IsJournalBody (now j.gated.file) rs) (append-nil (records_of c)) h.reads);
+      stamps = s.stamps;
+      nothing = s.nothing;
+    }

@@ -35,7 +35,6 @@ entries_of r = map entry_value r.entries.items
 pub record IsEmptyReign (r : Reign) : Type 0 where
   pub entries : r.entries.items ≡ []
   pub serials : r.serials ≡ replicate 64 1
-  pub updates : r.updates ≡ 0
 
 -- The entries in memory are numbered and of the site's reign, and the next serials are past theirs.
 pub record HasRead (name : Name) (r : Reign) : Type 0 where

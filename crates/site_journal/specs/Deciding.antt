@@ -1,6 +1,6 @@
 -- Deciding jobs of updater 1, whose journal is hardened after each.
-use Rattle.std.specs.Prelude.{◌≡◌, ◌⊎◌, ◌<◌, ◌≤◌, ℕ, ◌+◌, Bool, List, [], ◌∷◌, ◌++◌, length, map, take, get_or, set, Result, Ok, Err, IsTrue, IsSome}
-use Rattle.std.specs.List.{flat_map}
+use Rattle.std.specs.Prelude.{◌≡◌, ◌⊎◌, ◌<◌, ◌≤◌, ℕ, ◌+◌, Bool, true, List, [], ◌∷◌, ◌++◌, length, map, take, get_or, set, Result, Ok, Err, IsTrue, IsSome}
+use Rattle.std.specs.List.{flat_map, list_all}
 use Rattle.disk_defs.specs.Disk.{View, Files, Image}
 use Rattle.global_defs.specs.Entry.{Update, Entry, Sequence}
 use Rattle.global_defs.specs.Serial.{Turn, Replied, Reply, Seq, entry_of, begun, serial}
@@ -15,8 +15,8 @@ use Rattle.site_journal.specs.declared.deciding.DecideError.{DecideError}
 use Rattle.site_journal.specs.declared.deciding.DecideError.TheVariants as decide
 use Rattle.site_journal.specs.declared.running.RunError.{RunError}
 use Rattle.site_journal.specs.declared.running.RunError.TheVariants as run
-use Rattle.site_journal.specs.Jobs.{job_value, updater_of}
-use Rattle.site_journal.specs.Reigns.{Reigns, updates_in}
+use Rattle.site_journal.specs.Jobs.{job_value, updater_of, has_set}
+use Rattle.site_journal.specs.Reigns.{Reigns}
 
 -- the contents with one entry more
 abbrev pub with_entry : Contents → Entry → Contents
@@ -39,15 +39,15 @@ IsReadyAfter (Ok x) v j = IsReady v j
 IsReadyAfter (Err decide.Failed) v j = Unit {0}
 IsReadyAfter (Err decide.NoMemory) v j = IsReady v j
 
--- there is room for one more entry with one update
+-- there is room for one more entry, and each one sets one node
 pub record HasRoom (seq : Sequence) : Type 0 where
   pub entries : length seq < 100000
-  pub updates : length (updates_in seq) < 100000
+  pub sets : list_all has_set seq ≡ true
 
--- each image stands for these contents, or for those with this entry more
+-- each image stands for these contents, or, where there is room, for those with this entry more
 pub record MayHave (v : View) (name : Name) (c : Contents) (e : Entry) : Type 0 where
   pub told : IsSome v.content
-  pub images : (files : Files) → Image v files → Stands name files c ⊎ Stands name files (with_entry c e)
+  pub images : (files : Files) → Image v files → Stands name files c ⊎ (HasRoom c.sequence × Stands name files (with_entry c e))
 
 -- the job that makes these updates was decided: its entry is hardened, and its reply is told
 pub record Decides (v : View) (name : Name) (told : Bool) (c : Contents) (updates : List Update) (old new : Reign) (before now : List ℕ) : Type 0 where
@@ -88,10 +88,16 @@ pub record FailsAt (v : View) (name : Name) (told : Bool) (c : Contents) (jobs :
   pub text : now ≡ before ++ flat_map reply_line (printed hardened (turn_after name serials jobs (take n jobs) c.sequence).replies)
   pub front : MayHaveFront v name told c (turn_after name serials jobs (take n jobs) c.sequence).sequence hardened
 
+-- where files are known, each image stands for a front of what some of the first jobs come to
+pub record MayLeave (v : View) (name : Name) (is_told : Bool) (c : Contents) (jobs : List (List Update)) (serials : List ℕ) : Type 0 where
+  pub told : IsTrue is_told → IsSome v.content
+  pub images : IsTrue is_told → (files : Files) → Image v files
+      → (o : Contents) × ((n : ℕ) × IsFrontOf (turn_after name serials jobs (take n jobs) c.sequence).sequence (length c.sequence) c o) × Stands name files o
+
 -- how a section ends that was not decided to its end
 abbrev pub Breaks : RunError → View → Name → Bool → Contents → List (List Update) → List ℕ → List ℕ → List ℕ → Type 0
 Breaks (run.Failed undecided) v name told c jobs serials before now = (n : ℕ) × FailsAt v name told c jobs serials undecided before now n
-Breaks run.NoMemory v name told c jobs serials before now = (n : ℕ) × MayHaveFront v name told c (turn_after name serials jobs (take n jobs) c.sequence).sequence (length c.sequence)
+Breaks run.NoMemory v name told c jobs serials before now = MayLeave v name told c jobs serials
 
 abbrev pub IsReadyAtEnd : {T : Type 0} → Result T RunError → View → Journal → Type 0
 IsReadyAtEnd (Ok x) v j = IsReady v j

@@ -1,6 +1,6 @@
 -- Jobs by the updates that they make.
 use Rattle.std.specs.Prelude.{ℕ, Bool, true, false, List, [], ◌∷◌, map}
-use Rattle.global_defs.specs.Entry.{Update, Set, Kill, ZKill}
+use Rattle.global_defs.specs.Entry.{Update, Set, Kill, ZKill, Entry}
 use Rattle.global_defs.specs.Jobs.{Statement, Job}
 use Rattle.global_defs.specs.Jobs as jobs
 
@@ -24,3 +24,6 @@ is_set (Set key value ∷ []) = true
 is_set (Set key value ∷ u ∷ more) = false
 is_set (Kill key ∷ more) = false
 is_set (ZKill key ∷ more) = false
+
+abbrev pub has_set : Entry → Bool
+has_set e = is_set e.transaction.updates

@@ -20,6 +20,7 @@ use std::alloc::Global;
 /// `NotARecord` only where the files stand for no site's contents; `Failed` only where the disk's count rose; and `NoMemory`.
 pub fn is_begun<D: Disk>(alloc: Global, disk: &mut D) -> Result<bool, JournalError>
     ensures begun { IfOk result (λ begun. IfSome (D.disk disk.old).content (λ files. (name : Name) (c : Contents) → Stands name files c → c.begun ≡ begun)) }
+    ensures kept { OnOk result (IfSome (D.disk disk.old).content (λ files. (name : Name) (c : Contents) → Stands name files c → IfSome (D.disk disk.new).content (λ now. Stands name now c))) }
     ensures empty { result ≡ Ok false → IfSome (D.disk disk.new).content (λ files. records (files (journal_file 1 0)) ≡ Some []) }
     ensures outside { (offset : ℕ) → IsErrOf result (JournalError.NotARecord offset) → IfSome (D.disk disk.old).content (λ files. (name : Name) (c : Contents) → Stands name files c → ⊥) }
     ensures images { IfSome (D.disk disk.old).content (λ _. (files : Files) → Image (D.disk disk.new) files → KeepsRecords (D.disk disk.old) (journal_file 1 0) files) }

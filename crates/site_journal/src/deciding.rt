@@ -75,7 +75,8 @@ fn put<D: Disk>(journal: &mut Journal, disk: &mut D) -> Result<(), JournalError>
 fn write_reply(text: &mut Bytes, serial: u64, number: u64) -> Result<(), NoMemory>
     ensures { OnOk result (text.new ≡ text.old ++ reply_line (record { updater = 1; serial = serial; reply = Seq number [] })) }
 {
-    text.push_all(b"1.")?;
+    text.push_decimal(1)?;
+    text.push_all(b".")?;
     text.push_decimal(serial)?;
     text.push_all(b" SEQ ")?;
     text.push_decimal(number)?;
@@ -120,6 +121,8 @@ fn record_of(
 
 impl Reign {
     /// The origin of updater 1's next job, where there is room for one more entry with these updates.
+    ///
+    /// A job is decided without evaluating it, which needs that no node is missing memory: so each entry has to set one node.
     fn next_origin(&self, updates: &Updates) -> Option<Origin>
         requires { is_set updates.now ≡ true }
         ensures origin { IfSome result (λ o. origin_value o ≡ record { updater = 1; serial = get_or self.now.serials 0 1 }) }
@@ -129,7 +132,7 @@ impl Reign {
     {
         let serial = self.serials[0];
         if MOST <= self.entries.len() as u64
-            || MOST <= self.updates
+            || !self.sets
             || serial == 0
             || u64::from(u32::MAX) < serial
             || !fits(updates.item(0))
@@ -184,14 +187,12 @@ impl Reign {
     /// Adds an entry of updater 1 to those in memory.
     fn remember(&mut self, entry: Entry) -> Result<(), NoMemory>
         requires room { HasPlace self.old }
-        requires one { length (entry_value entry).transaction.updates ≡ 1 }
         ensures entries { OnOk result (self.new.entries.items ≡ self.old.entries.items ++ entry ∷ []) }
         ensures serials { OnOk result (self.new.serials ≡ next_serials self.old.serials) }
-        ensures updates { OnOk result (self.new.updates ≡ self.old.updates + 1) }
+        ensures sets { self.new.sets ≡ self.old.sets }
         ensures journal { self.new.journal ≡ self.old.journal }
     {
         self.entries.push(entry)?;
-        self.updates += 1;
         self.serials[0] += 1;
         Ok(())
     }

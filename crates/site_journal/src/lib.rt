@@ -7,6 +7,8 @@ mod records;
 mod reign;
 mod running;
 mod starting;
+#[cfg(test)]
+mod tests;
 
 pub use beginning::{begin, is_begun};
 pub use deciding::DecideError;

@@ -13,6 +13,9 @@ use gvn_model::{Entry, Item, Items, Stamp, Transaction, Updates};
 use jnl_record::JnlRecord;
 use std::alloc::Global;
 
+/// Updaters are numbered from 1 to this.
+const LAST_UPDATER: u8 = 64;
+
 /// An equal update.
 fn copy_update(update: &Update) -> Result<Update, NoMemory>
     ensures { IfOk result (λ made. update_value made ≡ update_value update.now) }
@@ -29,8 +32,9 @@ pub fn items_of(alloc: Global, updates: &Updates) -> Result<Items, NoMemory>
     requires { length updates.now < 2 ^ 16 }
     ensures { IfOk result (λ made. made ≡ items_from 0 updates.now) }
 {
+    let list = updates.as_slice();
     let mut items = Items::new(alloc);
-    for (i, update) in updates.as_slice().iter().enumerate() {
+    for (i, update) in list.iter().enumerate() {
         items.push(Item {
             position: i as u16,
             update: copy_update(update)?,
@@ -43,8 +47,9 @@ pub fn items_of(alloc: Global, updates: &Updates) -> Result<Items, NoMemory>
 fn updates_of(alloc: Global, items: &Items) -> Result<Option<Updates>, NoMemory>
     ensures { IfOk result (λ found. AreItemsOf items.now found) }
 {
+    let list = items.as_slice();
     let mut updates = Updates::new(alloc);
-    for (i, item) in items.as_slice().iter().enumerate() {
+    for (i, item) in list.iter().enumerate() {
         if usize::from(item.position) != i {
             return Ok(None);
         }
@@ -73,7 +78,10 @@ pub fn entry_in(
     else {
         return Ok(None);
     };
-    if drawn != number || usize::from(count) != items.len() || !(1..=64).contains(&origin.updater) {
+    if drawn != number || usize::from(count) != items.len() {
+        return Ok(None);
+    }
+    if origin.updater == 0 || LAST_UPDATER < origin.updater {
         return Ok(None);
     }
     let Some(updates) = updates_of(alloc, &items)? else {

@@ -2,7 +2,7 @@
 use gvn_model::Entry;
 use jnl_file::Journal;
 
-/// How many entries, and how many updates of them, a reign has memory for.
+/// How many entries a reign has memory for.
 pub const MOST: u64 = 100_000;
 
 /// What a primary has open: its journal, and all entries that the journal has.
@@ -14,6 +14,6 @@ pub struct Reign {
     pub entries: Vec<Entry>,
     /// The next serials of the updaters, updater u at place u - 1.
     pub serials: [u64; 64],
-    /// How many updates all entries have together.
-    pub updates: u64,
+    /// Whether each entry is known to set one node and do nothing else.
+    pub sets: bool,
 }

@@ -10,6 +10,7 @@ ghost use Rattle.site_journal.specs.Deciding.{HasDecided, Breaks, IsReadyAtEnd, 
 
 use crate::deciding::DecideError;
 use crate::reign::Reign;
+use global_defs::order_holds;
 use gvn_key::Bytes;
 use gvn_model::Updates;
 use repl_disk::Disk;
@@ -49,6 +50,7 @@ impl Reign {
         ensures later { (D.disk disk.old).faults ≤ (D.disk disk.new).faults }
         ensures cause { IfErr result (λ e. IsFault e → Rose (D.disk disk.old).faults (D.disk disk.new).faults) }
     {
+        order_holds();
         let count = jobs.len() as u64;
         let mut decided = 0u64;
         for updates in jobs {

@@ -1,27 +1,46 @@
 //! Taking up a site's journal.
-ghost use Rattle.std.specs.Prelude.{◌≡◌, ◌≤◌, ◌<◌, ◌+◌, ◌-◌, ◌++◌, ◌∷◌, [], ℕ, List, true, length, max, get_or, set, IfOk, IfSome, OnOk, IsErrOf, IsSome};
+ghost use Rattle.std.specs.Prelude.{◌≡◌, ◌≢◌, ◌≤◌, ◌<◌, ◌+◌, ◌-◌, ◌++◌, ◌∷◌, [], ℕ, List, true, length, max, get_or, set, IfOk, IfSome, OnOk, IsErrOf, IsSome, IsTrue, MatchBool};
 ghost use Rattle.disk_defs.specs.Disk.{Files, Image, Reads, Rose};
 ghost use Rattle.global_defs.specs.Entry.{Sequence};
 ghost use Rattle.gvn_model.specs.Entries.{entry_value};
 ghost use Rattle.journal_defs.specs.Numbers.{journal_file};
 ghost use Rattle.journal_defs.specs.Journal.{JournalRecord};
+ghost use Rattle.jnl_record.specs.Values.{record_value};
 ghost use Rattle.jnl_file.specs.Journal.{IsReady};
 ghost use Rattle.world_defs.specs.World.{Contents};
 ghost use Rattle.world_defs.specs.Rows.{serials_past};
 ghost use Rattle.world_defs.specs.Ties.{Stands, beginning, entry_records};
+ghost use Rattle.site_journal.specs.Jobs.{is_set, has_set};
 ghost use Rattle.site_journal.specs.Records.{HasUpdater};
 ghost use Rattle.gated_file.specs.Begin.{KeepsRecords};
 ghost use Rattle.site_journal.specs.Cursor.{ReadsOn, HasNext, HasRead, FindsEntry, entries_of, IsEmptyReign, IsTakenUp};
 
 use crate::records::entry_in;
-use crate::reign::{MOST, Reign};
+use crate::reign::Reign;
 use gvn_key::NoMemory;
-use gvn_model::{Entry, Origin};
+use gvn_key::terms::Update;
+use gvn_model::{Entry, Origin, Updates};
 use jnl_file::{Journal, JournalError};
 use jnl_record::JnlRecord;
 use journal_laws::bodies::bodies_hold;
 use repl_disk::Disk;
 use std::alloc::Global;
+
+/// Whether the journal of a site begins with this record.
+fn is_beginning(first: &JnlRecord) -> bool
+    ensures { MatchBool result (record_value first.now ≡ beginning) (record_value first.now ≢ beginning) }
+{
+    matches!(
+        first,
+        JnlRecord::Pini {
+            region: 0,
+            before: true,
+            generation: 1,
+            previous: 0,
+            ..
+        }
+    )
+}
 
 /// Reads how a journal begins, and answers where its entries stand.
 fn read_beginning<D: Disk>(journal: &mut Journal, disk: &mut D) -> Result<u64, JournalError>
@@ -33,19 +52,13 @@ fn read_beginning<D: Disk>(journal: &mut Journal, disk: &mut D) -> Result<u64, J
     ensures cause { IsErrOf result JournalError.Failed → Rose (D.disk disk.old).faults (D.disk disk.new).faults }
 {
     bodies_hold();
-    match journal.next_record(disk, 0)? {
-        Some((
-            JnlRecord::Pini {
-                region: 0,
-                before: true,
-                generation: 1,
-                previous: 0,
-                ..
-            },
-            next,
-        )) => Ok(next),
-        _ => Err(JournalError::NotARecord { offset: 0 }),
+    let Some((record, next)) = journal.next_record(disk, 0)? else {
+        return Err(JournalError::NotARecord { offset: 0 });
+    };
+    if !is_beginning(&record) {
+        return Err(JournalError::NotARecord { offset: 0 });
     }
+    Ok(next)
 }
 
 /// Reads the entry of a number, and answers where the next one stands.
@@ -85,22 +98,26 @@ fn advance(serials: &mut [u64; 64], origin: Origin)
     serials[place] = serials[place].max(u64::from(origin.serial) + 1);
 }
 
+/// Whether these updates set one node and do nothing else.
+fn is_set(updates: &Updates) -> bool
+    ensures { IsTrue result → is_set updates.now ≡ true }
+{
+    matches!(updates.as_slice(), [Update::Set(..)])
+}
+
 impl Reign {
     /// Adds an entry that was read to those in memory.
     fn take(&mut self, entry: Entry) -> Result<(), NoMemory>
         requires { HasUpdater (entry_value entry) }
         ensures entries { OnOk result (self.new.entries.items ≡ self.old.entries.items ++ entry ∷ []) }
         ensures serials { OnOk result (self.new.serials ≡ serials_past self.old.serials (entry_value entry)) }
-        ensures updates { OnOk result (self.new.updates ≡ self.old.updates + length (entry_value entry).transaction.updates) }
+        ensures sets { OnOk result (IsTrue self.new.sets → (self.old.sets ≡ true) × (has_set (entry_value entry) ≡ true)) }
         ensures journal { self.new.journal ≡ self.old.journal }
     {
         let origin = entry.transaction.origin;
-        let more = entry.transaction.updates.len() as u64;
-        if MOST < self.updates || MOST - self.updates < more {
-            return Err(NoMemory);
-        }
+        let sets = self.sets && is_set(&entry.transaction.updates);
         self.entries.push(entry)?;
-        self.updates += more;
+        self.sets = sets;
         advance(&mut self.serials, origin);
         Ok(())
     }
@@ -124,9 +141,14 @@ impl Reign {
     {
         let mut at = from;
         let mut number = 1;
-        while let Some((entry, next)) =
-            next_entry(alloc, &mut self.journal, disk, name, number, at)?
-        {
+        'reading: while let Some((entry, next)) = next_entry(
+            alloc,
+            &mut self.journal,
+            disk,
+            name,
+            number,
+            at,
+        )? {
             self.take(entry)?;
             number += 1;
             at = next;
@@ -157,7 +179,7 @@ pub fn start<D: Disk>(alloc: Global, disk: &mut D, name: &[u8]) -> Result<Reign,
         journal,
         entries: Vec::new(alloc),
         serials: [1; 64],
-        updates: 0,
+        sets: true,
     };
     let from = read_beginning(&mut made.journal, disk)?;
     made.read_entries(alloc, disk, name, from)?;
