@@ -8,16 +8,13 @@ use Rattle.site_runner.proofs.Results.{on_ok, err_holds, on_err_of}
 use Rattle.site_runner.proofs.Created.{create_refused, create_cut, create_faulted, create_damaged, create_made, create_made_cut}
 use Rattle.site_runner.proofs.create.create_at.Goals as goal
 
-pub is_begun-requires : goal.is_begun-requires
-is_begun-requires g c = ?
-
 pub returns-in-Ok-true-clause-done : goal.returns-in-Ok-true-clause-done
 returns-in-Ok-true-clause-done g c =
     let e = c.in-Ok-true.ensures in
     let begun = subst (λ (b : Bool). IfSome (g.D.Disk.disk c.args.slot.now.disk).content (λ files. (n : Name) (d : Contents) → Stands n files d → d.begun ≡ b)) c.in-Ok-true.field-0-test e.begun in
     on_ok c.write_line.result _ _ c.write_line.ensures (λ t.
     create_refused g.D.Disk.disk c.args.slot.now c.is_begun.new.disk c.args.name c.args.text.now _ (record { lawful = g.met.D.Disk.lawful c.is_begun.new.disk; images = e.images; still_told = e.still_told; simulated = e.simulated; later = e.later }) c.requires begun
-    (e.kept (ap Ok c.in-Ok-true.field-0-test))
+    e.kept
     (t ∙ ap (λ (n : List ℕ). c.args.text.now ++ line n (codes "NOTEMPTY")) c.as_slice.ensures))
 
 pub returns-in-Ok-true-clause-cut_off : goal.returns-in-Ok-true-clause-cut_off

@@ -6,9 +6,6 @@ use Rattle.site_runner.proofs.Results.{on_ok, err_holds}
 use Rattle.site_runner.proofs.Created.{made, make_faulted, make_cut}
 use Rattle.site_runner.proofs.create.make.Goals as goal
 
-pub begin-requires-clause-stub : goal.begin-requires-clause-stub
-begin-requires-clause-stub g c = ?
-
 pub returns-in_err-write_line-in-Ok-clause-cut_off : goal.returns-in_err-write_line-in-Ok-clause-cut_off
 returns-in_err-write_line-in-Ok-clause-cut_off g c =
     let e = c.in-Ok.ensures in

@@ -22,9 +22,6 @@ returns-in-Failed-clause-done g c =
     on_ok c.write_numbered.result _ _ c.write_numbered.ensures (λ t. run_failed_before (g.D.Disk.disk c.args.disk.now) c.args.site.now c.args.jobs.items c.in-Failed.fault c.args.text.now _ c.in-Failed.is
     (t ∙ ap (λ (n : List ℕ). c.args.text.now ++ line n (codes "STOPPED " ++ decimal c.in-Failed.fault)) c.as_slice-in-Failed.ensures))
 
-pub run-requires-clause-stub : goal.run-requires-clause-stub
-run-requires-clause-stub g c = ?
-
 pub run-requires-clause-ready : goal.run-requires-clause-ready
 run-requires-clause-ready g c = subst (IsReadyState (g.D.Disk.disk c.args.disk.now)) c.in-Primary.is c.requires.ready
 

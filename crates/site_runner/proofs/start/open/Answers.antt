@@ -7,9 +7,6 @@ use Rattle.site_runner.proofs.Results.{on_ok, err_holds}
 use Rattle.site_runner.proofs.Started.{opened, start_faulted, start_cut, start_damaged}
 use Rattle.site_runner.proofs.start.open.Goals as goal
 
-pub start-requires : goal.start-requires
-start-requires g c = ?
-
 pub returns-in_err-write_primary-in-Ok-clause-cut_off : goal.returns-in_err-write_primary-in-Ok-clause-cut_off
 returns-in_err-write_primary-in-Ok-clause-cut_off g c =
     let e = c.in-Ok.ensures in
