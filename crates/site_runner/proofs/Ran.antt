@@ -13,7 +13,7 @@ use Rattle.gvn_model.specs.declared.entry.Entry as code
 use Rattle.site_journal.specs.declared.reign.Reign.{Reign}
 use Rattle.site_journal.specs.Jobs.{job_value, updater_of}
 use Rattle.site_journal.specs.Reigns.{Reigns, Remembers, tagged}
-use Rattle.site_journal.specs.Deciding.{HasDecided, MayHaveFront, FailsAt, turn_after, turn_with}
+use Rattle.site_journal.specs.Deciding.{HasDecided, MayHaveFront, MayLeave, FailsAt, turn_after, turn_with}
 use Rattle.world_defs.specs.Lists.{Among}
 use Rattle.world_defs.specs.World as world
 use Rattle.world_defs.specs.World.{Name, Contents, Place}
@@ -263,3 +263,94 @@ decided_front w n told c jobs r new before now law d = (
     take_all (x ∷ xs) = ap (λ (r : List _). x ∷ r) (take_all xs)
     same : (turn_after n r.serials jobs (take (length jobs) jobs) c.sequence).sequence ≡ d.sequence
     same = ap (λ (x : List (List Update)). (turn_after n r.serials jobs x c.sequence).sequence) (take_all jobs) ∙ ap (λ (x : Turn). x.sequence) d.turn
+
+-- the fronts of one sequence, if it has any
+abbrev pub fronts_if : ℕ → Contents → Sequence → ℕ → List Contents
+fronts_if zero c all low = fronts c all low (length all - low)
+fronts_if (suc x) c all low = []
+
+are_fronts_if : (x : ℕ) (c : Contents) (all : Sequence) (low : ℕ) (o : Contents) → low - length all ≡ x → Among (fronts_if x c all low) o → IsFrontOf all low c o
+are_fronts_if zero c all low o e a = are_fronts c all low (length all - low) (omega (arith, e)) o a
+are_fronts_if (suc x) c all low o e a = absurd a
+
+front_if_among : (x : ℕ) (c : Contents) (all : Sequence) (low : ℕ) (o : Contents) → low - length all ≡ x → IsFrontOf all low c o → Among (fronts_if x c all low) o
+front_if_among zero c all low o e f = front_among c all low o f
+front_if_among (suc x) c all low o e f = absurd (omega (arith, e, f.least, f.most))
+
+-- the fronts of the first of these sequences
+abbrev pub all_fronts : (ℕ → Sequence) → ℕ → Contents → ℕ → List Contents
+all_fronts f zero c low = fronts_if (low - length (f 0)) c (f 0) low
+all_fronts f (suc k) c low = fronts_if (low - length (f (suc k))) c (f (suc k)) low ++ all_fronts f k c low
+
+in_first : (xs ys : List Contents) (o : Contents) → Among xs o → Among (xs ++ ys) o
+in_first [] ys o h = absurd h
+in_first (x ∷ xs) ys o (inl h) = inl h
+in_first (x ∷ xs) ys o (inr h) = inr (in_first xs ys o h)
+
+in_second : (xs ys : List Contents) (o : Contents) → Among ys o → Among (xs ++ ys) o
+in_second [] ys o h = h
+in_second (x ∷ xs) ys o h = inr (in_second xs ys o h)
+
+in_either : (xs ys : List Contents) (o : Contents) → Among (xs ++ ys) o → Among xs o ⊎ Among ys o
+in_either [] ys o h = inr h
+in_either (x ∷ xs) ys o (inl h) = inl (inl h)
+in_either (x ∷ xs) ys o (inr h) = elim (in_either xs ys o h) [ | inl a ↦ inl (inr a) | inr b ↦ inr b ]
+
+are_all_fronts : (f : ℕ → Sequence) (k : ℕ) (c : Contents) (low : ℕ) (o : Contents) → Among (all_fronts f k c low) o → (n : ℕ) × IsFrontOf (f n) low c o
+are_all_fronts f zero c low o a = (0, are_fronts_if (low - length (f 0)) c (f 0) low o refl a)
+are_all_fronts f (suc k) c low o a = elim (in_either (fronts_if (low - length (f (suc k))) c (f (suc k)) low) (all_fronts f k c low) o a) [
+  | inl h ↦ (suc k, are_fronts_if (low - length (f (suc k))) c (f (suc k)) low o refl h)
+  | inr h ↦ are_all_fronts f k c low o h
+]
+
+front_among_all : (f : ℕ → Sequence) (k n : ℕ) (c : Contents) (low : ℕ) (o : Contents) → n ≤ k → IsFrontOf (f n) low c o → Among (all_fronts f k c low) o
+front_among_all f zero n c low o le h = front_if_among (low - length (f 0)) c (f 0) low o refl (subst (λ (m : ℕ). IsFrontOf (f m) low c o) (omega (arith, le)) h)
+front_among_all f (suc k) n c low o le h = elim (nat_cases n k le) [
+  | inl same ↦ in_first _ _ o (front_if_among (low - length (f (suc k))) c (f (suc k)) low o refl (subst (λ (m : ℕ). IsFrontOf (f m) low c o) same h))
+  | inr less ↦ in_second _ _ o (front_among_all f k n c low o less h)
+]
+
+take_past : (n : ℕ) (jobs : List (List Update)) → length jobs ≤ n → take n jobs ≡ take (length jobs) jobs
+take_past zero [] le = refl
+take_past (suc n) [] le = refl
+take_past zero (j ∷ jobs) le = absurd (omega (arith, le))
+take_past (suc n) (j ∷ jobs) le = ap (λ (r : List (List Update)). j ∷ r) (take_past n jobs (omega (arith, le)))
+
+few_or_all : (n k : ℕ) → (n ≤ k) ⊎ (k ≤ n)
+few_or_all zero k = inl (omega arith)
+few_or_all (suc n) zero = inr (omega arith)
+few_or_all (suc n) (suc k) = elim (few_or_all n k) [ | inl a ↦ inl (omega (arith, a)) | inr b ↦ inr (omega (arith, b)) ]
+
+among_runs : (name : Name) (serials : List ℕ) (jobs : List (List Update)) (c o : Contents) (n : ℕ) → IsFrontOf (turn_after name serials jobs (take n jobs) c.sequence).sequence (length c.sequence) c o
+    → Among (all_fronts (λ m. (turn_after name serials jobs (take m jobs) c.sequence).sequence) (length jobs) c (length c.sequence)) o
+among_runs name serials jobs c o n g =
+    let runs : ℕ → Sequence = λ m. (turn_after name serials jobs (take m jobs) c.sequence).sequence in
+    elim (few_or_all n (length jobs)) [
+      | inl few ↦ front_among_all runs (length jobs) n c (length c.sequence) o few g
+      | inr all ↦ front_among_all runs (length jobs) (length jobs) c (length c.sequence) o (omega arith) (subst (λ (x : List (List Update)). IsFrontOf (turn_after name serials jobs x c.sequence).sequence (length c.sequence) c o) (take_past n jobs all) g)
+    ]
+
+-- it was cut off once some jobs were decided, and each image may have its own number of them
+pub run_cut_any : (v w : View) (s : Site) (r : Reign) (n : Name) (jobs : List (List Update)) → IsLawful w → n ≡ s.name → s.state ≡ Primary r → w.simulated ≡ v.simulated
+    → ((told : Bool) (c : Contents) → Reigns v n told c r → MayLeave w n told c jobs r.serials) → IsCutAt (Run s.name (jobs_of jobs) (map updater_of jobs)) v s w
+run_cut_any v w s r n jobs law e st same f p h =
+    let d : MayLeave w s.name p.told p.now jobs r.serials =
+    subst (λ (x : Name). MayLeave w x p.told p.now jobs r.serials) e (f p.told p.now (subst (λ (x : Name). Reigns v x p.told p.now r) (sym e) (reigns_at v s r p st h))) in
+    let low : ℕ = length p.now.sequence in
+    let runs : ℕ → Sequence = λ m. (turn_after s.name r.serials jobs (take m jobs) p.now.sequence).sequence in
+    let list = all_fronts runs (length jobs) p.now low in
+    let named : s.name ≡ name_on p.site = sym (ap name_on h.site) in
+    let images : p.told ≡ true → (c : Files) → Image w c → (o : Contents) × Among list o × Stands (name_on p.site) c o = λ is c i.
+    let o = d.images is c i in
+    (o.0, among_runs s.name r.serials jobs p.now o.0 o.1.0 o.1.1, subst (λ (x : Name). Stands x c o.0) named o.2) in
+    let q : Place = record { site = p.site; told = p.told; now = p.now; outcomes = list; faults = w.faults; simulated = p.simulated } in
+    let m = pick_one p.told p.now (λ o. Unit {0}) (λ o. IsSomeAnd w.content (λ files. Stands (name_on p.site) files o)) tt (λ is. let k = read_kept w q law (d.told is) (images is) in (k.0, tt, k.2)) in (
+      record { site = p.site; told = p.told; now = m.0; outcomes = list; faults = w.faults; simulated = p.simulated },
+      record {
+        told = refl;
+        outcomes = λ is o a. let k = are_all_fronts runs (length jobs) p.now low o a in
+            inr (subst (λ (x : Option world.Site). RunMayLeaveOn x (jobs_of jobs) (map updater_of jobs) p o) (sym (site_is v s r p st h))
+            (k.0, subst (λ (x : List ℕ). IsFrontOf (turn_of (reign_of s.name) r.serials (jobs_of jobs) x p.now.sequence).sequence low p.now o) (map_take k.0 jobs) k.1));
+      },
+      record { told = m.2; images = images; faults = refl; simulated = same ∙ h.disk.simulated },
+    )

@@ -4,6 +4,7 @@ use Rattle.std.specs.Fmt.{decimal}
 use Rattle.world_defs.specs.Output.{line}
 use Rattle.site_runner.proofs.Results.{on_ok}
 use Rattle.site_runner.proofs.Crashed.{fuse_stopped, fuse_real, fused}
+use Rattle.site_runner.proofs.Fused.{ready_read_on}
 use Rattle.site_runner.proofs.fusing.fuse.Goals as goal
 
 pub returns-in-Some-clause-done : goal.returns-in-Some-clause-done
@@ -22,3 +23,6 @@ returns-clause-done g c =
     let sim = sym c.if-not-simulated.false ∙ c.simulated.ensures in
     fused (g.D.Disk.disk c.args.disk.now) (g.D.Disk.disk c.fuse.new.self) c.args.site.now c.args.calls c.args.text.now _ c.fuse.ensures.reads c.fuse.ensures.faults sim (sym c.fault.ensures ∙ c.in_default.is)
     (c.in_ok-write_numbered.ensures ∙ ap (λ (n : List ℕ). c.args.text.now ++ line n (codes "FUSED " ++ decimal c.args.calls)) c.as_slice-2.ensures)
+
+pub returns-clause-ready : goal.returns-clause-ready
+returns-clause-ready g c = ready_read_on (g.D.Disk.disk c.args.disk.now) (g.D.Disk.disk c.fuse.new.self) c.args.site.now.state c.fuse.ensures.reads c.requires

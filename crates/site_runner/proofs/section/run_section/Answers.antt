@@ -9,7 +9,7 @@ use Rattle.site_journal.specs.Deciding.{Breaks, IsFault}
 use Rattle.site_journal.specs.declared.running.RunError.{RunError}
 use Rattle.site_runner.specs.Sites.{IsReadyState}
 use Rattle.site_runner.proofs.Results.{on_ok, err_holds}
-use Rattle.site_runner.proofs.Ran.{run_failed_before, run_down, ran, ran_to_fault, run_cut, decided_front}
+use Rattle.site_runner.proofs.Ran.{run_failed_before, run_down, ran, ran_to_fault, run_cut, run_cut_any, decided_front}
 use Rattle.site_runner.proofs.section.run_section.Goals as goal
 
 pub returns-in-Down-clause-done : goal.returns-in-Down-clause-done
@@ -81,5 +81,4 @@ returns-in-Err-NoMemory-clause-cut_off g c =
     let r = c.in-Primary.reign in
     let jobs = c.args.jobs.items in
     let breaks = subst (λ (x : RunError). (told : Bool) (d : Contents) → Reigns v n told d r → Breaks x w n told d jobs r.serials c.args.text.now c.run.new.text) c.in-Err-NoMemory.field-0-is e.breaks in
-    run_cut v w c.args.site.now r n jobs (g.met.D.Disk.lawful c.run.new.disk) c.as_slice-2.ensures c.in-Primary.is e.simulated
-    (λ told d reigns. let b = breaks told d reigns in (b.0, length d.sequence, omega arith, b.1))
+    run_cut_any v w c.args.site.now r n jobs (g.met.D.Disk.lawful c.run.new.disk) c.as_slice-2.ensures c.in-Primary.is e.simulated breaks
