@@ -6,6 +6,7 @@ use Rattle.world_defs.specs.Lists.{Along}
 use Rattle.world_defs.specs.World.{Place, World, IsFresh}
 use Rattle.world_defs.specs.Ties.{Matches, AreDisks}
 use Rattle.site_runner.specs.declared.slot.Slot.{Slot}
+use Rattle.site_runner.specs.Sites.{AreReady}
 use Rattle.site_runner.specs.Tied.{IsPlace, Tied, Matched}
 use Rattle.site_runner.specs.Moved.{free_slot, disk_of}
 
@@ -28,3 +29,11 @@ given_along view (s ∷ ss) (p ∷ ps) h = (h.0, given_along view ss ps h.1)
 -- disks that are given back
 pub are_disks : {D : Type 0} (view : D → View) (slots : List (Slot D)) (disks : List D) (w : World) → disks ≡ map disk_of slots → Matched view slots w → AreDisks view disks w
 are_disks {D} view slots disks w e h = subst (λ (x : List D). AreDisks view x w) (sym e) (given_along view slots w.places h)
+
+ready_along : {D : Type 0} (view : D → View) (disks : List D) → AreReady view (map free_slot disks)
+ready_along view [] = tt
+ready_along view (d ∷ ds) = (tt, ready_along view ds)
+
+-- slots without sites are ready
+pub free_ready : {D : Type 0} (view : D → View) (disks : List D) (slots : List (Slot D)) → slots ≡ map free_slot disks → AreReady view slots
+free_ready {D} view disks slots e = subst (λ (x : List (Slot D)). AreReady view x) (sym e) (ready_along view disks)

@@ -7,6 +7,7 @@ ghost use Rattle.world_defs.specs.Ties.{AreDisks};
 ghost use Rattle.world_defs.specs.Lines.{lines_of};
 ghost use Rattle.world_defs.specs.Script.{IsScript, IsBadAt};
 ghost use Rattle.site_runner.specs.Commands.{command_value, IsCarried};
+ghost use Rattle.site_runner.specs.Sites.{AreReady};
 ghost use Rattle.site_runner.specs.Tied.{Tied, Matched};
 ghost use Rattle.site_runner.specs.Ends.{RanTo};
 ghost use Rattle.site_runner.specs.Going.{CarriesOut, Breaks, Halts, GoesOn};
@@ -49,7 +50,9 @@ fn carry_out<K: Sink, D: Disk>(
     command: Command,
     out: &mut K,
 ) -> Result<(), Status>
-    requires { IsCarried command }
+    requires carried { IsCarried command }
+    requires ready { AreReady D.disk slots.old.items }
+    ensures ready { OnOk result (AreReady D.disk slots.new.items) }
     ensures done { OnOk result (CarriesOut D.disk (command_value command) slots.old.items slots.new.items (K.written out.old) (K.written out.new)) }
     ensures broken { IfErr result (λ status. Breaks status D.disk (command_value command) slots.old.items slots.new.items (K.written out.old) (K.written out.new) (Rose (K.faults out.old) (K.faults out.new))) }
     ensures later { K.faults out.old ≤ K.faults out.new }
@@ -74,6 +77,8 @@ fn take_line<K: Sink, D: Disk>(
     line: &[u8],
     out: &mut K,
 ) -> Result<(), Status>
+    requires { AreReady D.disk slots.old.items }
+    ensures ready { OnOk result (AreReady D.disk slots.new.items) }
     ensures goes_on { OnOk result (GoesOn D.disk reader.old reader.new slots.old.items slots.new.items line.now (K.written out.old) (K.written out.new)) }
     ensures halts { IfErr result (λ status. Halts status D.disk number reader.old slots.old.items slots.new.items line.now (K.written out.old) (K.written out.new) (Rose (K.faults out.old) (K.faults out.new))) }
     ensures later { K.faults out.old ≤ K.faults out.new }
@@ -112,6 +117,7 @@ fn run_script<S: Source, K: Sink, D: Disk>(
     script: &mut S,
     out: &mut K,
 ) -> Status
+    requires { AreReady D.disk slots.old.items }
     ensures meaning { (w : World) → Tied D.disk slots.old.items w → IfSome (S.left script.old) (λ input.
         (after : World) × Matched D.disk slots.new.items after × RanTo result input (S.left script.new) w after (K.written out.old) (K.written out.new)) }
     ensures length { length slots.new.items ≡ length slots.old.items }

@@ -5,7 +5,7 @@ use Rattle.site_runner.specs.Tied.{Matched}
 use Rattle.site_runner.specs.Ends.{RanTo}
 use Rattle.site_runner.proofs.Inputs.{if_some}
 use Rattle.site_runner.proofs.Complete.{complete, not_run, not_begun}
-use Rattle.site_runner.proofs.Moved.{tied_fresh, are_disks}
+use Rattle.site_runner.proofs.Moved.{tied_fresh, are_disks, free_ready}
 use Rattle.site_runner.proofs.top.run.Goals as goal
 
 pub returns-then-not-is_run-clause-meaning : goal.returns-then-not-is_run-clause-meaning
@@ -31,3 +31,6 @@ pub returns-in-Ok-clause-complete : goal.returns-in-Ok-clause-complete
 returns-in-Ok-clause-complete g c input w e s f k =
     let r = c.run_script-status.ensures in
     complete c.run_script-status.result _ input _ _ e s r.words r.too_long r.bad_line r.source r.sink f k
+
+pub run_script-status-requires : goal.run_script-status-requires
+run_script-status-requires g c = free_ready g.D.Disk.disk c.args.disks.now.items c.in-Ok.slots.items c.in-Ok.ensures.taken

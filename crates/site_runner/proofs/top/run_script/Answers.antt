@@ -151,6 +151,7 @@ loop-lines-preserved g c =
       source = omega (arith, c.loop-lines.invariant.source, c.read_line.ensures.cause.later);
       sink = omega (arith, c.loop-lines.invariant.sink, c.take_line-in-Ok-Feed.ensures.later);
       length = c.take_line-in-Ok-Feed.ensures.length ∙ c.loop-lines.invariant.length;
+      ready = c.in-Ok-take_line.ensures.ready;
     }
 
 pub loop-lines-init : goal.loop-lines-init
@@ -160,4 +161,5 @@ loop-lines-init g c = record {
   source = omega arith;
   sink = omega arith;
   length = refl;
+  ready = c.requires;
 }

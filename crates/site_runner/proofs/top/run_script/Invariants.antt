@@ -1,4 +1,5 @@
 use Rattle.std.proofs.Common.{◌≡◌, ◌≤◌, ◌-◌, length}
+use Rattle.site_runner.specs.Sites.{AreReady}
 use Rattle.site_runner.proofs.Looping.{InLoop}
 use Rattle.site_runner.proofs.top.run_script.Given as goal
 
@@ -9,6 +10,7 @@ invariant-loop-lines g l = record {
   source : g.S.Source.faults l.fn.script ≤ g.S.Source.faults l.script;
   sink : g.K.Sink.faults l.fn.out ≤ g.K.Sink.faults l.out;
   length : length l.slots.items ≡ length l.fn.slots.items;
+  ready : AreReady g.D.Disk.disk l.slots.items;
 }
 
 abbrev pub decreases-loop-lines : goal.decreases-loop-lines
