@@ -4,6 +4,7 @@ use repl_io::{MemSink, MemSource};
 use site_runner::{Status, run};
 use std::alloc::Global;
 use std::fmt::Write;
+use std::process::Abort;
 use std::test::Fail;
 
 const FIRST_SET: &[u8] =
@@ -115,14 +116,8 @@ fn refusals(rt: HostRuntime) -> Result<(), Fail> {
 const FIVE_SETS: &str =
     "RUN A\n1 SET ^X(1)=\"1\"\n1 SET ^X(2)=\"2\"\n1 SET ^X(3)=\"3\"\n1 SET ^X(4)=\"4\"\n1 SET ^X(5)=\"5\"\nEND\n";
 
-/// What five jobs print on a disk that fails the call behind so many, of which so many have a reply, and then a crash that
-/// leaves so many entries.
-fn printed_and_left(
-    alloc: Global,
-    calls: u32,
-    printed: usize,
-    left: usize,
-) -> Result<String, Fail> {
+/// What five jobs print on a disk that fails the call behind so many, of which so many have a reply.
+fn printed_text(alloc: Global, calls: u32, printed: usize) -> Result<String, Fail> {
     let mut text = format!(in alloc; "A CREATED\nA PRIMARY 1 FROM 1\nA FUSED {calls}\n")?;
     for i in 1..=printed {
         write!(text, "1.{i} SEQ {i}\n")?;
@@ -131,11 +126,13 @@ fn printed_and_left(
         0 => write!(text, "A AT 5\n")?,
         undecided => write!(text, "A DISKFAULT 1 UNDECIDED {undecided}\n")?,
     }
+    Ok(text)
+}
+
+/// What a crash that leaves so many entries, a start and an extract print.
+fn left_text(alloc: Global, left: usize) -> Result<String, Fail> {
     let from = left.saturating_add(1);
-    write!(
-        text,
-        "A CRASHED\nA PRIMARY 1 FROM {from}\nGTMRJEX01\\A\\1\n"
-    )?;
+    let mut text = format!(in alloc; "A CRASHED\nA PRIMARY 1 FROM {from}\nGTMRJEX01\\A\\1\n")?;
     for i in 1..=left {
         write!(text, "SET\\{i}\\A.1\\1.{i}\\^X({i})=\"{i}\"\n")?;
     }
@@ -161,27 +158,31 @@ fn sweep(alloc: Global, calls: u32, pick: u32) -> Result<Left, Fail> {
     Ok(Left { out, printed, left })
 }
 
-/// Each printed number's entry is shown, and at most that of the job that was begun besides.
+/// Fails each disk call of five jobs in turn, up to the first run without a fault. Each printed number's entry is shown, and at
+/// most that of the job that was begun besides.
+fn each_call_fails(rt: &impl Abort, alloc: Global, pick: u32) -> Result<(), Fail> {
+    for calls in 0..1000 {
+        let row = sweep(alloc, calls, pick)?;
+        let first = printed_text(alloc, calls, row.printed)?;
+        let rest = left_text(alloc, row.left)?;
+        let expected = format!(in alloc; "{first}{rest}")?;
+        assert_eq!(rt; row.out.as_slice(), expected.as_bytes(), "at {calls} {pick}");
+        assert!(rt; row.printed <= row.left && row.left <= 5);
+        assert!(rt; row.left <= row.printed.saturating_add(1));
+        if row.printed == 5 {
+            assert!(rt; 5 < calls);
+            return Ok(());
+        }
+    }
+    assert!(rt; false, "each run has a fault");
+    Ok(())
+}
+
 #[test]
 fn a_fault_at_each_call(rt: HostRuntime) -> Result<(), Fail> {
     let alloc = rt.alloc();
     for pick in [0, 1, 2, 4] {
-        let mut printed = 0;
-        let mut calls = 0;
-        while printed < 5 && calls < 1000 {
-            let row = sweep(alloc, calls, pick)?;
-            let expected = printed_and_left(alloc, calls, row.printed, row.left)?;
-            assert_eq!(rt;
-                row.out.as_slice(),
-                expected.as_bytes(),
-                "at {calls} {pick}"
-            );
-            assert!(rt; row.printed <= row.left && row.left <= 5);
-            assert!(rt; row.left <= row.printed.saturating_add(1));
-            printed = row.printed;
-            calls += 1;
-        }
-        assert!(rt; printed == 5 && 1 < calls);
+        each_call_fails(&rt, alloc, pick)?;
     }
     Ok(())
 }
