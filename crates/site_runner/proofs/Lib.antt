@@ -18,3 +18,9 @@ pub mod Fused
 pub mod Started
 pub mod Ran
 pub mod Created
+pub mod FirstWhere
+pub mod Written
+pub mod Shown
+pub mod Lifts
+pub mod Stopped
+pub mod CreateLifts

@@ -54,7 +54,7 @@ none_primary v s r jobs p e h = no_cause _ _ (state_at stopped v s p h ∙ ap (�
 site_is : (v : View) (s : Site) (r : Reign) (p : Place) → s.state ≡ Primary r → IsAt v s p → p.site ≡ Some (record { name = s.name; state = world.Primary (reign_of s.name) r.serials })
 site_is v s r p e h = h.site ∙ ap (λ (x : State). Some (site_value (record { name = s.name; state = x }))) e
 
-reigns_at : (v : View) (s : Site) (r : Reign) (p : Place) → s.state ≡ Primary r → IsAt v s p → Reigns v s.name p.told p.now r
+pub reigns_at : (v : View) (s : Site) (r : Reign) (p : Place) → s.state ≡ Primary r → IsAt v s p → Reigns v s.name p.told p.now r
 reigns_at v s r p e h = let open_at : IsOpen v s.name r p = subst (λ (x : State). HoldsState v s.name x p) e h.held.state in open_at.reigns
 
 -- the fronts of a sequence with so many entries and up to d more
@@ -122,7 +122,7 @@ map_take zero jobs = refl
 map_take (suc n) [] = refl
 map_take (suc n) (j ∷ jobs) = ap (λ (r : List ℕ). 1 ∷ r) (map_take n jobs)
 
-length_tagged : (xs : List code.Entry) (seq : Sequence) (n : ℕ) → map tagged xs ≡ enumerate_from n seq → length xs ≡ length seq
+pub length_tagged : (xs : List code.Entry) (seq : Sequence) (n : ℕ) → map tagged xs ≡ enumerate_from n seq → length xs ≡ length seq
 length_tagged xs seq n e = sym (length-map xs tagged) ∙ ap length e ∙ long n seq
   where
     long : (n : ℕ) (ys : Sequence) → length (enumerate_from n ys) ≡ length ys

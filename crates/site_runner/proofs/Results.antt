@@ -16,3 +16,11 @@ err_holds (Err e) P h = h
 pub on_err_of : {T E : Type 0} (r : Result T E) (P Q : Type 0) → OnErr r P → (P → Q) → OnErr r Q
 on_err_of (Ok x) P Q h f = tt
 on_err_of (Err e) P Q h f = f h
+
+pub on_errs : {T E : Type 0} (r : Result T E) (P Q : Type 0) → OnErr r P → (P → Q) → OnErr r Q
+on_errs (Ok x) P Q h f = h
+on_errs (Err e) P Q h f = f h
+
+pub err_so : {T E : Type 0} (r : Result T E) (P : Type 0) → P → OnErr r P
+err_so (Ok x) P h = tt
+err_so (Err e) P h = h
