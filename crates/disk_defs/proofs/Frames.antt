@@ -32,6 +32,7 @@ others_written v w file n P Q reads passes used = record {
   content = reads_weaker v.content w.content (OnFile file P) (SameOutside (Only file)) (one_file file P) reads;
   images = λ c now. let from = passes.images c now in (from.0, from.1, one_file file Q from.0 c from.2);
   room = λ f out. used.others f out;
+  simulated = passes.simulated;
 }
 
 same_reads : (F : ℕ → Type 0) (o n : Option Files) → n ≡ o → ReadsAfter (SameOutside F) o n
@@ -46,6 +47,7 @@ others_synced v w file n content passes used = record {
   content = same_reads (Only file) v.content w.content content;
   images = same_images (Only file) v w passes;
   room = λ f out. used.others f out;
+  simulated = passes.simulated;
 }
 
 -- one that reads
@@ -54,6 +56,7 @@ others_read F v w reads = record {
   content = same_reads F v.content w.content reads.content;
   images = same_images F v w reads.passes;
   room = λ f out. reads.room f;
+  simulated = reads.passes.simulated;
 }
 
 pub others_same : (F : ℕ → Type 0) (v : View) → OthersStay F v v
@@ -61,6 +64,7 @@ others_same F v = record {
   content = reads_same v.content (SameOutside F) (λ a f out. refl);
   images = λ c now. (c, now, λ f out. refl);
   room = λ f out calls bytes room. room;
+  simulated = refl;
 }
 
 -- one call after another
@@ -72,6 +76,7 @@ others_then F u v w first second = record {
       let p = first.images q.0 q.1 in
       (p.0, p.1, λ f out. q.2 f out ∙ p.2 f out);
   room = λ f out calls bytes room. second.room f out calls bytes (first.room f out calls bytes room);
+  simulated = second.simulated ∙ first.simulated;
 }
 
 -- a call that may change fewer files
@@ -80,6 +85,7 @@ others_wider F G u v within stay = record {
   content = reads_weaker u.content v.content (SameOutside F) (SameOutside G) (λ a b same f out. same f (λ is. out (within f is))) stay.content;
   images = λ c now. let from = stay.images c now in (from.0, from.1, λ f out. from.2 f (λ is. out (within f is)));
   room = λ f out. stay.room f (λ is. out (within f is));
+  simulated = stay.simulated;
 }
 
 -- what is on the disk for good stays so

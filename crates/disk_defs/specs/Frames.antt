@@ -22,11 +22,12 @@ AreApart F G = (f : ℕ) → F f → G f → ⊥
 abbrev pub SameOutside : (ℕ → Type 0) → Files → Files → Type 0
 SameOutside F old new = (f : ℕ) → (F f → ⊥) → new f ≡ old f
 
--- All files outside a set stay: as they read, in each image, and the room on them.
+-- All files outside a set stay: as they read, in each image, and the room on them. The disk stays simulated or not.
 pub record OthersStay (F : ℕ → Type 0) (old new : View) : Type 0 where
   pub content : ReadsAfter (SameOutside F) old.content new.content
   pub images : (c : Files) → Image new c → From (Image old) (SameOutside F) c
   pub room : (f : ℕ) → (F f → ⊥) → RoomStays old new f
+  pub simulated : new.simulated ≡ old.simulated
 
 -- An image has P, and outside a set of files it's an image from before the call.
 pub record OnlyIn (old : View) (F : ℕ → Type 0) (P : Files → Type 0) (c : Files) : Type 0 where

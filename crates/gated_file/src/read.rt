@@ -1,5 +1,5 @@
 //! Reading a gated file from gate to gate.
-ghost use Rattle.std.specs.Prelude.{◌≡◌, ◌≤◌, ◌+◌, ℕ, length, take, drop, IfOk, IfSome, OnErr, IsErrOf};
+ghost use Rattle.std.specs.Prelude.{◌≡◌, ◌≤◌, ◌<◌, ◌+◌, ℕ, length, take, drop, IfOk, IfSome, OnErr, IsErrOf};
 ghost use Rattle.std.specs.Int.{from_be_bytes, to_be_bytes, w32};
 ghost use Rattle.disk_defs.specs.Disk.{Reads, Rose};
 ghost use Rattle.disk_defs.specs.Gates.{NoGate, gate_at};
@@ -97,6 +97,7 @@ impl Gated {
         out: &mut Bytes,
     ) -> Result<Option<u64>, GateError>
         ensures found { IfOk result (λ next. IfSome (D.disk disk.old).content (λ files. Finds (files self.old.file) at next out.old out.new)) }
+        ensures further { IfOk result (λ next. IfSome next (λ place. at < place)) }
         ensures outside { IsErrOf result (GateError.NotARecord at) → IfSome (D.disk disk.old).content (λ files. gate_at (files self.old.file) at ≡ NoGate) }
         ensures only_here { (offset : ℕ) → IsErrOf result (GateError.NotARecord offset) → offset ≡ at }
         ensures out { OnErr result (out.new ≡ out.old) }

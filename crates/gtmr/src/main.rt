@@ -1,6 +1,7 @@
 //! The program gtmr.
 #![tactic(auto)]
 
+use repl_disk::MemDisk;
 use repl_io::{StdSink, StdSource};
 use site_runner::{Status, run};
 use std::io::{BufReader, BufWriter, Write};
@@ -16,8 +17,23 @@ fn words(rt: &HostRuntime) -> Option<Vec<String>> {
     Some(words)
 }
 
+/// How many disks there are. As many sites can be made.
+const DISKS: usize = 8;
+
+/// Disks in memory, or nothing where there was no memory for them.
+fn disks(rt: &HostRuntime) -> Option<Vec<MemDisk>> {
+    let mut disks = Vec::new(rt.alloc());
+    for _ in 0..DISKS {
+        disks.push(MemDisk::new(rt.alloc()).ok()?).ok()?;
+    }
+    Some(disks)
+}
+
 /// Runs the script of standard input, and hands all that is written on to standard output.
 fn run_standard(rt: &HostRuntime, words: &[String]) -> Status {
+    let Some(mut disks) = disks(rt) else {
+        return Status::NoMemory;
+    };
     let Ok(reader) = BufReader::new(rt.alloc(), rt.reader()) else {
         return Status::NoMemory;
     };
@@ -29,6 +45,7 @@ fn run_standard(rt: &HostRuntime, words: &[String]) -> Status {
         words,
         &mut StdSource::new(reader),
         &mut StdSink::new(&mut writer),
+        &mut disks,
     );
     match writer.flush() {
         Ok(()) => status,

@@ -1,21 +1,19 @@
 -- What is known of an input once lines of it were taken.
-use Rattle.std.proofs.Common.{◌≡◌, ℕ, ◌+◌, ◌-◌, ◌<◌, ◌≤◌, ◌==◌, Bool, true, false, List, [], ◌∷◌, ◌++◌, length, map, take, None, Some, refl, ap, sym, ◌∙◌, append_assoc, subst, inl, inr, arith, nat_le, length-append, lit≤}
-use Rattle.std.specs.Prelude.{Option, IfSome, codes}
-use Rattle.std.specs.List.{list_all, list_any, flat_map, AllByRecursion}
+use Rattle.std.proofs.Common.{◌≡◌, ℕ, ◌+◌, ◌-◌, ◌<◌, ◌==◌, true, false, List, [], ◌∷◌, ◌++◌, length, take, None, Some, refl, ap, sym, ◌∙◌, append_assoc, subst, inl, inr, arith, length-append}
+use Rattle.std.specs.Prelude.{Option, IfSome}
+use Rattle.std.specs.List.{list_all, list_any}
 use Rattle.std.specs.Io.KnownBytes.{Consumes, IsAtEnd, Keeps}
 use Rattle.std.proofs.lemmas.List.{take_at, append-nil}
 use Rattle.std.proofs.lemmas.List.Concat.{flat_map-append}
-use Rattle.std.proofs.lemmas.Bool.{leb-true, cases_Bool}
+use Rattle.std.proofs.lemmas.Bool.{cases_Bool}
 use Rattle.world_defs.specs.Lines.{onto, lines_of, ended}
-use Rattle.world_defs.specs.Script.{Setting, is_setting, setting_line, whole, IsFront, IsOpen, IsBadAt}
-use Rattle.site_runner.specs.declared.reader.Stage.{Stage}
-use Rattle.site_runner.specs.declared.reader.Stage.TheVariants.{Begun, Created, Started, Open, Ended, Extracted, Stopped}
+use Rattle.world_defs.specs.Script.{IsFront, IsBadAt}
 use Rattle.site_runner.specs.Told.{IsPiece}
-use Rattle.site_runner.specs.Positions.{Position, lines_at, Reads, IsBad}
+use Rattle.site_runner.specs.Positions.{IsBad}
 use Rattle.site_runner.proofs.Told.{consumes_then}
 use Rattle.site_runner.proofs.Cuts.{split_and, split_or}
 use Rattle.site_runner.proofs.LineLaws.{is_clean, last_line, first_line, lines_ended}
-use Rattle.site_runner.proofs.Fronts.{Next, next_of}
+use Rattle.site_runner.proofs.Orders.{short}
 
 pub if_some : {A : Type 0} (o : Option A) (P Q : A → Type 0) → ((x : A) → P x → Q x) → IfSome o P → IfSome o Q
 if_some None P Q f h = tt
@@ -98,22 +96,6 @@ begin_fed o m n lines line h p a b =
 pub begin_last : (o : Option (List ℕ)) (lines : List (List ℕ)) (line : List ℕ) → LinesAre o (lines ++ line ∷ []) → Begin o lines line
 begin_last o lines line l = if_some o (λ input. lines_of input ≡ lines ++ line ∷ []) (λ input. (more : List (List ℕ)) × (lines_of input ≡ lines ++ line ∷ more)) (λ input s. ([], s)) l
 
-front_at : (stage : Stage) (settings : List Setting) → list_all is_setting settings ≡ true → IsFront (lines_at stage settings)
-front_at Begun settings e = record { settings = settings; each = e; more = whole settings; spelled = refl }
-front_at Created settings e = record { settings = settings; each = e; more = codes "START A PRIMARY" ∷ codes "RUN A" ∷ (map setting_line settings ++ codes "END" ∷ codes "EXTRACT A" ∷ codes "STOP A" ∷ []); spelled = refl }
-front_at Started settings e = record { settings = settings; each = e; more = codes "RUN A" ∷ (map setting_line settings ++ codes "END" ∷ codes "EXTRACT A" ∷ codes "STOP A" ∷ []); spelled = refl }
-front_at Open settings e = record { settings = settings; each = e; more = codes "END" ∷ codes "EXTRACT A" ∷ codes "STOP A" ∷ []; spelled = refl }
-front_at Ended settings e = record { settings = settings; each = e; more = codes "EXTRACT A" ∷ codes "STOP A" ∷ []; spelled = ap (λ (x : List (List ℕ)). codes "CREATE A R" ∷ codes "START A PRIMARY" ∷ codes "RUN A" ∷ x) (append_assoc (map setting_line settings) (codes "END" ∷ []) (codes "EXTRACT A" ∷ codes "STOP A" ∷ [])) }
-front_at Extracted settings e = record { settings = settings; each = e; more = codes "STOP A" ∷ []; spelled = ap (λ (x : List (List ℕ)). codes "CREATE A R" ∷ codes "START A PRIMARY" ∷ codes "RUN A" ∷ x) (append_assoc (map setting_line settings) (codes "END" ∷ codes "EXTRACT A" ∷ []) (codes "STOP A" ∷ [])) }
-front_at Stopped settings e = record { settings = settings; each = e; more = []; spelled = append-nil (whole settings) }
-
--- lines that were taken begin a script
-pub is_front : (p : Position) (taken unended : List (List ℕ)) → Reads p taken unended → IsFront taken
-is_front p taken unended r = subst IsFront (sym r.spelled) (front_at p.stage r.settings r.each)
-
-pub is_open : (p : Position) (taken unended : List (List ℕ)) → Reads p taken unended → p.stage ≡ Open → IsOpen taken
-is_open p taken unended r e = record { settings = r.settings; each = r.each; spelled = r.spelled ∙ ap (λ (x : Stage). lines_at x r.settings) e }
-
 take_one : (lines : List (List ℕ)) (line : List ℕ) (more : List (List ℕ)) → take (length lines + 1) (lines ++ line ∷ more) ≡ lines ++ line ∷ []
 take_one lines line more =
     let n : length (lines ++ line ∷ []) ≡ length lines + 1 = omega (arith, length-append lines (line ∷ [])) in
@@ -150,41 +132,6 @@ longer (b ∷ c ∷ bs) rest h n =
     let l = longer (c ∷ bs) rest s.1 (omega arith) in
     record { rest = l.rest; more = l.more; spelled = onto_clean b ((c ∷ bs) ++ rest) ((c ∷ bs) ++ l.rest) l.more s.0 l.spelled }
 
--- no line of a script is longer than 4096 bytes
-abbrev IsShort : List ℕ → Type 0
-IsShort line = length line ≤ 4096
-
-short_setting : (s : Setting) → is_setting s ≡ true → IsShort (setting_line s)
-short_setting s h =
-    let a = split_and _ _ h in
-    let b = split_and _ _ a.0 in
-    let c = split_and _ _ b.0 in
-    let d = split_and _ _ c.0 in
-    let e = split_and _ _ d.0 in
-    let v : length s.value ≤ 1500 = leb-true (length s.value) 1500 a.1 in
-    let i : length s.index ≤ 9 = leb-true (length s.index) 9 c.1 in
-    let n : length s.name ≤ 31 = leb-true (length s.name) 31 e.1 in
-    omega (arith, v, i, n, length-append s.name (40 ∷ (s.index ++ 41 ∷ 61 ∷ 34 ∷ (s.value ++ 34 ∷ []))), length-append s.index (41 ∷ 61 ∷ 34 ∷ (s.value ++ 34 ∷ [])), length-append s.value (34 ∷ []))
-
-short_tail : (lines js : List (List ℕ)) (line : List ℕ) (rest : List (List ℕ)) → AllByRecursion IsShort js → lines ++ line ∷ rest ≡ js → IsShort line
-short_tail [] [] line rest s e = cc
-short_tail [] (j ∷ js) line rest s e = let same : j ≡ line = cc in subst IsShort same s.0
-short_tail (l ∷ lines) [] line rest s e = cc
-short_tail (l ∷ lines) (j ∷ js) line rest s e = short_tail lines js line rest s.1 cc
-
-short_settings : (settings : List Setting) (end : List (List ℕ)) → list_all is_setting settings ≡ true → AllByRecursion IsShort end → AllByRecursion IsShort (map setting_line settings ++ end)
-short_settings [] end h e = e
-short_settings (j ∷ settings) end h e = let s = split_and (is_setting j) (list_all is_setting settings) h in (short_setting j s.0, short_settings settings end s.1 e)
-
-three_short : AllByRecursion IsShort (codes "END" ∷ codes "EXTRACT A" ∷ codes "STOP A" ∷ [])
-three_short = (lit≤ tt, (lit≤ tt, (lit≤ tt, tt)))
-
-short_whole : (settings : List Setting) → list_all is_setting settings ≡ true → AllByRecursion IsShort (whole settings)
-short_whole settings h = (lit≤ tt, (lit≤ tt, (lit≤ tt, short_settings settings _ h three_short)))
-
-short : (lines : List (List ℕ)) (line : List ℕ) → Next lines line → length line ≤ 4096
-short lines line g = short_tail lines (whole g.settings) line g.rest (short_whole g.settings g.each) g.spelled
-
 some_line : (b : ℕ) (rest : List ℕ) → (l : List ℕ) × ((more : List (List ℕ)) × (lines_of (b ∷ rest) ≡ l ∷ more))
 some_line b rest = elim (cases_Bool (b == 10)) [
   | inl h ↦ ([], (lines_of rest, rw h refl))
@@ -199,7 +146,7 @@ bad_long o m n taken line k h q l a b e f =
     (λ input (rest, s).
     let x = longer line rest q (omega (arith, l)) in
     let t : lines_of input ≡ taken ++ (line ++ x.rest) ∷ x.more = ap lines_of (s ∙ append_assoc (ended taken) line rest) ∙ lines_ended taken (line ++ rest) h ∙ ap (λ y. taken ++ y) x.spelled in
-    let bad : IsBad taken (line ++ x.rest) = λ more g. absurd (omega (arith, l, length-append line x.rest, short taken (line ++ x.rest) (next_of taken (line ++ x.rest) more g))) in
+    let bad : IsBad taken (line ++ x.rest) = λ more g. absurd (omega (arith, l, length-append line x.rest, short taken (line ++ x.rest) more g)) in
     subst (λ (y : List (List ℕ)). IsBadAt y k) (sym t) (bad_at taken (line ++ x.rest) x.more k f e bad))
     (front_taken o n (ended taken ++ line) (consumes_then o m n (ended taken) line a b))
 
@@ -214,25 +161,3 @@ bad_more o m n taken byte k h a b e f g =
     let before : take (k - 1) (taken ++ x.0 ∷ x.1.0) ≡ taken = take_at taken (x.0 ∷ x.1.0) (k - 1) (omega (arith, f)) in
     subst (λ (y : List (List ℕ)). IsBadAt y k) (sym t) (inr (omega (arith, f, length-append taken (x.0 ∷ x.1.0)), subst IsFront (sym before) e, inr g)))
     (front_taken o n (ended taken ++ byte ∷ []) (consumes_then o m n (ended taken) (byte ∷ []) a b))
-
-no_end : (js ks : List Setting) (x : List (List ℕ)) → map setting_line js ++ codes "END" ∷ x ≡ map setting_line ks → ⊥
-no_end [] [] x e = cc
-no_end [] (k ∷ ks) x e = cc
-no_end (j ∷ js) [] x e = cc
-no_end (j ∷ js) (k ∷ ks) x e = no_end js ks x cc
-
-behind_three : (a b c d e f : List ℕ) (x y : List (List ℕ)) → a ∷ b ∷ c ∷ x ≡ d ∷ e ∷ f ∷ y → x ≡ y
-behind_three a b c d e f x y h = cc
-
-closed_at : (stage : Stage) (settings ks : List Setting) → (stage ≡ Open → ⊥) → lines_at stage settings ≡ lines_at Open ks → ⊥
-closed_at Begun settings ks h e = cc
-closed_at Created settings ks h e = cc
-closed_at Started settings ks h e = cc
-closed_at Open settings ks h e = h refl
-closed_at Ended settings ks h e = no_end settings ks [] (behind_three _ _ _ _ _ _ _ _ e)
-closed_at Extracted settings ks h e = no_end settings ks (codes "EXTRACT A" ∷ []) (behind_three _ _ _ _ _ _ _ _ e)
-closed_at Stopped settings ks h e = no_end settings ks (codes "EXTRACT A" ∷ codes "STOP A" ∷ []) (behind_three _ _ _ _ _ _ _ _ e)
-
--- no section is open at another stage
-pub not_open : (p : Position) (taken unended : List (List ℕ)) → Reads p taken unended → (p.stage ≡ Open → ⊥) → IsOpen taken → ⊥
-not_open p taken unended r h o = closed_at p.stage r.settings o.settings h (sym r.spelled ∙ o.spelled)

@@ -1,32 +1,8 @@
--- Jobs by the updates that they make.
-use Rattle.std.specs.Prelude.{ℕ, Bool, true, false, List, [], ◌∷◌, map}
+-- What lines that set nodes update.
+use Rattle.std.specs.Prelude.{List, [], ◌∷◌}
 use Rattle.global_defs.specs.Key.{sub_of}
-use Rattle.global_defs.specs.Entry.{Update, Set, Kill, ZKill}
-use Rattle.global_defs.specs.Jobs.{Statement, Job}
-use Rattle.global_defs.specs.Jobs as jobs
+use Rattle.global_defs.specs.Entry.{Update, Set}
 use Rattle.world_defs.specs.Script.{Setting}
 
--- what a line that sets a node updates
 abbrev pub updates_of : Setting → List Update
 updates_of s = Set (record { name = s.name; subs = sub_of s.index ∷ [] }) s.value ∷ []
-
-abbrev pub statement_of : Update → Statement
-statement_of (Set key value) = jobs.Set key value
-statement_of (Kill key) = jobs.Kill key
-statement_of (ZKill key) = jobs.ZKill key
-
--- the job that makes these updates
-abbrev pub job_value : List Update → Job
-job_value updates = map statement_of updates
-
--- each is updater 1's
-abbrev pub updater_of : List Update → ℕ
-updater_of updates = 1
-
--- it sets one node
-abbrev pub is_set : List Update → Bool
-is_set [] = false
-is_set (Set key value ∷ []) = true
-is_set (Set key value ∷ u ∷ more) = false
-is_set (Kill key ∷ more) = false
-is_set (ZKill key ∷ more) = false

@@ -3,6 +3,11 @@ pub mod Jobs
 pub mod Commands
 pub mod Positions
 pub mod Sites
+pub mod Tied
+pub mod Moved
 pub mod Executes
+pub mod Here
+pub mod Steps
+pub mod Creating
 pub mod Ends
 pub mod Going

@@ -1,47 +1,43 @@
 -- How far a script's lines have come.
-use Rattle.std.specs.Prelude.{◌≡◌, ℕ, true, List, [], ◌∷◌, ◌++◌, map, codes}
+use Rattle.std.specs.Prelude.{◌≡◌, ◌≤◌, ℕ, Bool, true, false, List, [], ◌∷◌, ◌++◌, map, codes, decimal}
 use Rattle.std.specs.List.{list_all}
 use Rattle.global_defs.specs.Entry.{Update}
-use Rattle.world_defs.specs.Script.{Setting, is_setting, setting_line, IsFront, Spells}
-use Rattle.site_runner.specs.declared.reader.Stage.{Stage}
-use Rattle.site_runner.specs.declared.reader.Stage.TheVariants.{Begun, Created, Started, Open, Ended, Extracted, Stopped}
+use Rattle.world_defs.specs.Commands as commands
+use Rattle.world_defs.specs.Script.{Setting, is_setting, setting_line, MOST_CALLS, MOST_PICK, IsFront, Spells, Spell}
+use Rattle.site_runner.specs.declared.order.Order.{Order}
+use Rattle.site_runner.specs.declared.order.Order.TheVariants.{Create, StartPrimary, Stop, Fuse, Crash, Extract}
 use Rattle.site_runner.specs.declared.reader.Fed.{Fed}
 use Rattle.site_runner.specs.declared.reader.Fed.TheVariants.{Bad, Held, Command}
 use Rattle.site_runner.specs.Jobs.{updates_of}
 use Rattle.site_runner.specs.Commands.{command_value, IsCarried}
 
--- the stage, and the jobs of an open section
+-- the line of a command that has one line
+abbrev pub Orders : Order → List ℕ → Type 0
+Orders Create line = line ≡ codes "CREATE A R"
+Orders StartPrimary line = line ≡ codes "START A PRIMARY"
+Orders Stop line = line ≡ codes "STOP A"
+Orders (Fuse calls) line = (calls ≤ MOST_CALLS) × (line ≡ codes "FUSE A " ++ decimal calls)
+Orders (Crash pick) line = (pick ≤ MOST_PICK) × (line ≡ codes "CRASH A " ++ decimal pick)
+Orders Extract line = line ≡ codes "EXTRACT A"
+
+-- whether a section is open, and its jobs
 pub record Position : Type 0 where
-  pub stage : Stage
+  pub inside : Bool
   pub jobs : List (List Update)
 
--- the lines up to a stage, with these in the section
-abbrev pub lines_at : Stage → List Setting → List (List ℕ)
-lines_at Begun settings = []
-lines_at Created settings = codes "CREATE A R" ∷ []
-lines_at Started settings = codes "CREATE A R" ∷ codes "START A PRIMARY" ∷ []
-lines_at Open settings = codes "CREATE A R" ∷ codes "START A PRIMARY" ∷ codes "RUN A" ∷ map setting_line settings
-lines_at Ended settings = codes "CREATE A R" ∷ codes "START A PRIMARY" ∷ codes "RUN A" ∷ (map setting_line settings ++ codes "END" ∷ [])
-lines_at Extracted settings = codes "CREATE A R" ∷ codes "START A PRIMARY" ∷ codes "RUN A" ∷ (map setting_line settings ++ codes "END" ∷ codes "EXTRACT A" ∷ [])
-lines_at Stopped settings = codes "CREATE A R" ∷ codes "START A PRIMARY" ∷ codes "RUN A" ∷ (map setting_line settings ++ codes "END" ∷ codes "EXTRACT A" ∷ codes "STOP A" ∷ [])
+-- the lines of a section that isn't ended, with these in it
+abbrev pub unended_at : Bool → List Setting → List (List ℕ)
+unended_at false settings = []
+unended_at true settings = codes "RUN A" ∷ map setting_line settings
 
--- those of a section that isn't ended
-abbrev pub open_lines : Stage → List Setting → List (List ℕ)
-open_lines Begun settings = []
-open_lines Created settings = []
-open_lines Started settings = []
-open_lines Open settings = codes "RUN A" ∷ map setting_line settings
-open_lines Ended settings = []
-open_lines Extracted settings = []
-open_lines Stopped settings = []
-
--- These lines were taken, and these of them are an open section's.
+-- These lines were taken. They spell commands, and these of them are an open section's.
 pub record Reads (p : Position) (taken unended : List (List ℕ)) : Type 0 where
+  pub commands : List commands.Command
+  pub spelled : Spell taken commands unended
   pub settings : List Setting
   pub each : list_all is_setting settings ≡ true
-  pub jobs : p.stage ≡ Open → p.jobs ≡ map updates_of settings
-  pub spelled : taken ≡ lines_at p.stage settings
-  pub begun : unended ≡ open_lines p.stage settings
+  pub jobs : p.inside ≡ true → p.jobs ≡ map updates_of settings
+  pub begun : unended ≡ unended_at p.inside settings
 
 -- no script goes on so
 abbrev pub IsBad : List (List ℕ) → List ℕ → Type 0

@@ -1,73 +1,72 @@
--- Sites in memory, and the world that they are.
-use Rattle.std.specs.Prelude.{◌≡◌, ℕ, ◌+◌, ◌-◌, ◌≤◌, Bool, true, false, List, [], ◌∷◌, ◌++◌, length, map, replicate, codes, Some}
-use Rattle.std.specs.List.{list_all, enumerate_from}
-use Rattle.std.specs.Fmt.{decimal}
-use Rattle.global_defs.specs.Entry.{Update, Stamp, Entry, Sequence}
-use Rattle.global_defs.specs.Serial.{entry_of}
-use Rattle.gvn_model.specs.declared.entry.Entry as code
-use Rattle.gvn_model.specs.Entries.{entry_value}
-use Rattle.world_defs.specs.World.{Name, Place, World, MOST_SITES, free, same_name}
+-- What sites stand for.
+use Rattle.std.specs.Prelude.{◌≡◌, ℕ, Bool, true, false, List, Option, None, Some, IsTrue, option_map}
+use Rattle.std.specs.List.{AllByRecursion}
+use Rattle.disk_defs.specs.Disk.{View}
+use Rattle.jnl_file.specs.Journal.{IsReady}
+use Rattle.site_journal.specs.declared.reign.Reign.{Reign}
+use Rattle.site_journal.specs.Reigns.{Reigns}
+use Rattle.world_defs.specs.Lists.{Among}
 use Rattle.world_defs.specs.World as world
+use Rattle.world_defs.specs.World.{Name, Contents, Place, Settled, is_site_named}
 use Rattle.world_defs.specs.Rows.{reign_of}
-use Rattle.site_runner.specs.declared.site.State.{State}
-use Rattle.site_runner.specs.declared.site.State.TheVariants.{Down, Primary}
-use Rattle.site_runner.specs.Jobs.{is_set}
-
--- what a site stands for
-pub record Standing : Type 0 where
-  pub name : Name
-  pub state : world.State
-  pub sequence : Sequence
-
-abbrev pub placed : Standing → Place
-placed s = record { site = Some (record { name = s.name; state = s.state }); sequence = s.sequence }
-
--- sites on the first of so many places
-abbrev pub fill : ℕ → List Standing → List Place
-fill n [] = replicate n free
-fill n (s ∷ ss) = placed s ∷ fill (n - 1) ss
-
-abbrev pub world_of : List Standing → World
-world_of sites = record { places = fill MOST_SITES sites }
-
-abbrev pub is_standing_named : Name → Standing → Bool
-is_standing_named name s = same_name s.name name
-
-abbrev pub is_down : world.State → Bool
-is_down world.Down = true
-is_down (world.Primary stamp serials) = false
-
--- of all updaters, updater 1's first
-abbrev pub serials_from : ℕ → List ℕ
-serials_from next = next ∷ replicate 63 1
+use Rattle.site_runner.specs.declared.slot.State.{State}
+use Rattle.site_runner.specs.declared.slot.State.TheVariants.{Down, Primary, Failed}
+use Rattle.site_runner.specs.declared.slot.Site.{Site}
+use Rattle.site_runner.specs.declared.slot.Slot.{Slot}
 
 abbrev pub state_value : Name → State → world.State
 state_value name Down = world.Down
-state_value name (Primary next) = world.Primary (reign_of name) (serials_from next)
+state_value name (Primary r) = world.Primary (reign_of name) r.serials
+state_value name (Failed fault) = world.Failed fault
 
--- an entry of the code, with its number
-abbrev pub tagged : code.Entry → ℕ × Entry
-tagged e = (e.number, entry_value e)
+abbrev pub is_down : State → Bool
+is_down Down = true
+is_down (Primary r) = false
+is_down (Failed fault) = false
 
--- what jobs of updater 1 append, the first one with that serial
-abbrev pub made : Stamp → ℕ → List (List Update) → Sequence
-made stamp serial jobs = map (λ p. entry_of stamp 1 p.0 p.1) (enumerate_from serial jobs)
+abbrev pub fault_of : State → Option ℕ
+fault_of Down = None
+fault_of (Primary r) = None
+fault_of (Failed fault) = Some fault
 
--- the reply to the job of an entry
-abbrev pub reply_of : ℕ → Entry → List ℕ
-reply_of number e = decimal e.transaction.origin.updater ++ codes "." ++ decimal e.transaction.origin.serial ++ codes " SEQ " ++ decimal number ++ codes "\n"
+abbrev pub site_value : Site → world.Site
+site_value s = record { name = s.name; state = state_value s.name s.state }
 
-abbrev pub has_set : Entry → Bool
-has_set e = is_set e.transaction.updates
+abbrev pub is_slot_named : {D : Type 0} → Name → Slot D → Bool
+is_slot_named name slot = is_site_named name (option_map site_value slot.site)
 
--- a next serial is past those of so many entries at most
-abbrev pub IsNext : State → ℕ → Type 0
-IsNext Down n = Unit {0}
-IsNext (Primary next) n = next ≤ n + 1
+-- a site that was made has its journal begun, whatever a crash leaves
+pub record IsMade (p : Place) : Type 0 where
+  pub now : p.now.begun ≡ true
+  pub outcomes : (o : Contents) → Among p.outcomes o → o.begun ≡ true
 
--- what a site keeps: its entries have the numbers from 1 on and set one node each
-pub record IsSite (state : State) (entries : List code.Entry) : Type 0 where
-  pub numbers : map tagged entries ≡ enumerate_from 1 (map entry_value entries)
-  pub sets : list_all has_set (map entry_value entries) ≡ true
-  pub few : length entries ≤ 100000
-  pub next : IsNext state (length entries)
+-- an open site's journal is ready for calls
+abbrev pub IsReadyState : View → State → Type 0
+IsReadyState v Down = Unit {0}
+IsReadyState v (Primary r) = IsReady v r.journal
+IsReadyState v (Failed fault) = Unit {0}
+
+abbrev pub IsReadyOn : View → Option Site → Type 0
+IsReadyOn v None = Unit {0}
+IsReadyOn v (Some s) = IsReadyState v s.state
+
+abbrev pub AreReady : {D : Type 0} → (D → View) → List (Slot D) → Type 0
+AreReady view slots = AllByRecursion (λ slot. IsReadyOn (view slot.disk) slot.site) slots
+
+-- The entries of an open site's contents are in memory and, where files are known, on the disk for good.
+pub record IsOpen (v : View) (name : Name) (r : Reign) (p : Place) : Type 0 where
+  pub reigns : Reigns v name p.told p.now r
+  pub settled : IsTrue p.told → Settled p
+
+abbrev pub HoldsState : View → Name → State → Place → Type 0
+HoldsState v name Down p = Unit {0}
+HoldsState v name (Primary r) p = IsOpen v name r p
+HoldsState v name (Failed fault) p = Unit {0}
+
+pub record IsHeld (v : View) (s : Site) (p : Place) : Type 0 where
+  pub made : IsTrue p.told → IsMade p
+  pub state : HoldsState v s.name s.state p
+
+abbrev pub HoldsSite : View → Option Site → Place → Type 0
+HoldsSite v None p = Unit {0}
+HoldsSite v (Some s) p = IsHeld v s p

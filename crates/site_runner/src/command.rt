@@ -11,8 +11,12 @@ pub enum Command {
     StartPrimary { name: Bytes },
     /// Decides jobs of updater 1 in order. A job is the updates that it makes.
     Run { name: Bytes, jobs: Vec<Updates> },
-    /// Shows the entries from a number on.
-    Extract { name: Bytes, from: u64 },
     /// Ends a reign.
     Stop { name: Bytes },
+    /// Lets so many more calls of the site's disk succeed.
+    Fuse { name: Bytes, calls: u64 },
+    /// Crashes the site's disk, which takes the image of that pick.
+    Crash { name: Bytes, pick: u64 },
+    /// Shows the entries from a number on.
+    Extract { name: Bytes, from: u64 },
 }

@@ -1,34 +1,108 @@
 // One command.
-ghost use Rattle.std.specs.Prelude.{◌≡◌, OnOk, OnErr};
+ghost use Rattle.std.specs.Prelude.{◌≡◌, ◌≢◌, length, OnOk, OnErr, Some, None, true};
+ghost use Rattle.world_defs.specs.Lists.{first_where};
+ghost use Rattle.world_defs.specs.Output.{name_in};
 ghost use Rattle.site_runner.specs.Commands.{command_value, IsCarried};
-ghost use Rattle.site_runner.specs.Executes.{Executes};
+ghost use Rattle.site_runner.specs.Executes.{Executes, IsCutOff};
+ghost use Rattle.site_runner.specs.Here.{IsNamed, ExecutesHere, IsCutHere};
+ghost use Rattle.site_runner.specs.Sites.{is_slot_named, IsReadyOn, AreReady};
 
 use super::command::Command;
 use super::create::create;
 use super::extracting::extract;
+use super::finding::find;
+use super::fusing::{crash, fuse};
 use super::section::run_section;
-use super::site::Site;
+use super::slot::Slot;
 use super::start::start;
 use super::stop::stop;
+use super::text::write_line;
 use gvn_key::{Bytes, NoMemory};
+use repl_disk::Disk;
 use std::alloc::Global;
 
-/// Executes a command, and adds what it answers. For want of memory no site is changed.
-pub fn execute(
+/// The site that a command names.
+fn name_of(command: &Command) -> &Bytes
+    ensures { result.now ≡ name_in (command_value command.now) }
+{
+    match command {
+        Command::Create { name, .. }
+        | Command::StartPrimary { name }
+        | Command::Run { name, .. }
+        | Command::Stop { name }
+        | Command::Fuse { name, .. }
+        | Command::Crash { name, .. }
+        | Command::Extract { name, .. } => name,
+    }
+}
+
+/// Executes a command on the site that it names, which stands there.
+fn execute_at<D: Disk>(
     alloc: Global,
-    sites: &mut Vec<Site>,
+    slot: &mut Slot<D>,
     command: Command,
     text: &mut Bytes,
 ) -> Result<(), NoMemory>
-    requires { IsCarried command }
-    ensures done { OnOk result (Executes (command_value command) sites.old.items sites.new.items text.old text.new) }
-    ensures kept { OnErr result (sites.new.items ≡ sites.old.items) }
+    requires carried { IsCarried command }
+    requires command { IsNamed (command_value command) }
+    requires site { is_slot_named (name_in (command_value command)) slot.old ≡ true }
+    requires ready { IsReadyOn (D.disk slot.old.disk) slot.old.site }
+    ensures ready { OnOk result (IsReadyOn (D.disk slot.new.disk) slot.new.site) }
+    ensures done { OnOk result (ExecutesHere D.disk (command_value command) slot.old slot.new text.old text.new) }
+    ensures cut_off { OnErr result (IsCutHere D.disk (command_value command) slot.old slot.new) }
+{
+    let Some(site) = &mut slot.site else {
+        unreachable!();
+    };
+    match command {
+        Command::Create { .. } => unreachable!(),
+        Command::StartPrimary { .. } => start(alloc, &mut slot.disk, site, text),
+        Command::Run { jobs, .. } => run_section(alloc, &mut slot.disk, site, jobs, text),
+        Command::Stop { .. } => stop(site, text),
+        Command::Fuse { calls, .. } => fuse(&mut slot.disk, site, calls, text),
+        Command::Crash { pick, .. } => crash(&mut slot.disk, site, pick, text),
+        Command::Extract { from, .. } => extract(site, from, text),
+    }
+}
+
+/// Executes a command on the site that it names.
+fn execute_named<D: Disk>(
+    alloc: Global,
+    slots: &mut Vec<Slot<D>>,
+    command: Command,
+    text: &mut Bytes,
+) -> Result<(), NoMemory>
+    requires carried { IsCarried command }
+    requires command { IsNamed (command_value command) }
+    requires ready { AreReady D.disk slots.old.items }
+    ensures ready { OnOk result (AreReady D.disk slots.new.items) }
+    ensures done { OnOk result (Executes D.disk (command_value command) slots.old.items slots.new.items text.old text.new) }
+    ensures cut_off { OnErr result (IsCutOff D.disk (command_value command) slots.old.items slots.new.items) }
+    ensures length { length slots.new.items ≡ length slots.old.items }
+{
+    let name = name_of(&command).as_slice();
+    match find(slots, name) {
+        None => write_line(text, name, b"NOSITE"),
+        Some(i) => execute_at(alloc, &mut slots[i], command, text),
+    }
+}
+
+/// Executes a command, and adds what it answers.
+pub fn execute<D: Disk>(
+    alloc: Global,
+    slots: &mut Vec<Slot<D>>,
+    command: Command,
+    text: &mut Bytes,
+) -> Result<(), NoMemory>
+    requires carried { IsCarried command }
+    requires ready { AreReady D.disk slots.old.items }
+    ensures ready { OnOk result (AreReady D.disk slots.new.items) }
+    ensures done { OnOk result (Executes D.disk (command_value command) slots.old.items slots.new.items text.old text.new) }
+    ensures cut_off { OnErr result (IsCutOff D.disk (command_value command) slots.old.items slots.new.items) }
+    ensures length { length slots.new.items ≡ length slots.old.items }
 {
     match command {
-        Command::Create { name, region: _ } => create(alloc, sites, name, text),
-        Command::StartPrimary { name } => start(sites, name.as_slice(), text),
-        Command::Run { name, jobs } => run_section(sites, name.as_slice(), jobs, text),
-        Command::Extract { name, from } => extract(sites, name.as_slice(), from, text),
-        Command::Stop { name } => stop(sites, name.as_slice(), text),
+        Command::Create { name, .. } => create(alloc, slots, name, text),
+        named => execute_named(alloc, slots, named, text),
     }
 }

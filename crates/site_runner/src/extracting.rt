@@ -1,33 +1,50 @@
 // EXTRACT.
-ghost use Rattle.std.specs.Prelude.{◌≡◌, ◌<◌, true, OnOk, OnErr};
-ghost use Rattle.world_defs.specs.Commands as commands;
-ghost use Rattle.site_runner.specs.Sites.{is_standing_named};
-ghost use Rattle.site_runner.specs.Executes.{Executes, ExtractsSo};
+ghost use Rattle.std.specs.Prelude.{◌≡◌, ◌<◌, ◌-◌, ◌++◌, map, drop, OnOk};
+ghost use Rattle.std.specs.List.{flat_map};
+ghost use Rattle.global_defs.specs.Extract.{entry_text};
+ghost use Rattle.site_journal.specs.Reigns.{tagged};
+ghost use Rattle.site_runner.specs.Steps.{Extracts};
 
-use super::finding::find;
-use super::site::Site;
-use super::text::write_line;
+use super::slot::{Site, State};
+use super::text::{write_line, write_numbered};
 use gvn_key::{Bytes, NoMemory};
+use gvn_model::Entry;
+use jnl_extract::{extract_entry, write_header};
 
-/// Shows the entries of a site with that name, from a number on.
-fn extract_site(site: &Site, name: &[u8], from: u64, text: &mut Bytes) -> Result<(), NoMemory>
-    requires named { is_standing_named name.now site.now ≡ true }
-    requires from { 0 < from }
-    ensures { OnOk result (ExtractsSo name.now from site.now text.old text.new) }
+fn write_entries(entries: &[Entry], text: &mut Bytes) -> Result<(), NoMemory>
+    ensures { OnOk result (text.new ≡ text.old ++ flat_map (λ p. entry_text p.0 p.1) (map tagged entries.now)) }
 {
-    if site.is_down() {
-        return write_line(text, name, b"NOTRUNNING");
+    for e in entries {
+        extract_entry(e, text)?;
     }
-    site.extract(from, text)
+    Ok(())
 }
 
-/// Shows the entries of the site with that name, from a number on.
-pub fn extract(sites: &[Site], name: &[u8], from: u64, text: &mut Bytes) -> Result<(), NoMemory>
-    requires { 0 < from }
-    ensures { OnOk result (Executes (commands.Extract name.now from) sites.now sites.now text.old text.new) }
+/// The entries from a number on.
+fn entries_from(entries: &[Entry], from: u64) -> &[Entry]
+    ensures { result.now ≡ drop (from - 1) entries.now }
 {
-    match find(sites, name) {
-        None => write_line(text, name, b"NOSITE"),
-        Some(i) => extract_site(&sites[i], name, from, text),
+    let skipped = from.saturating_sub(1);
+    if skipped < entries.len() as u64 {
+        &entries[skipped as usize..]
+    } else {
+        &[]
+    }
+}
+
+/// Shows a site's entries from a number on.
+pub fn extract(site: &Site, from: u64, text: &mut Bytes) -> Result<(), NoMemory>
+    requires { 0 < from }
+    ensures { OnOk result (Extracts site.now from text.old text.new) }
+{
+    match &site.state {
+        State::Down => write_line(text, site.name.as_slice(), b"NOTRUNNING"),
+        State::Failed { fault } => {
+            write_numbered(text, site.name.as_slice(), b"STOPPED ", *fault)
+        }
+        State::Primary(reign) => {
+            write_header(site.name.as_slice(), from, text)?;
+            write_entries(entries_from(&reign.entries, from), text)
+        }
     }
 }

@@ -1,4 +1,4 @@
-//! Does all that the program does: reads a script, runs its commands on sites in memory, and writes their answers.
+//! Does all that the program does: reads a script, runs its commands on sites over disks, and writes their answers.
 #![tactic(auto)]
 
 mod command;
@@ -6,11 +6,15 @@ mod create;
 mod execute;
 mod extracting;
 mod finding;
+mod fusing;
 mod lines;
+mod moving;
+mod number;
+mod order;
 mod reader;
 mod section;
 mod setting;
-mod site;
+mod slot;
 mod start;
 mod status;
 mod stop;

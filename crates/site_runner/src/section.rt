@@ -2,47 +2,50 @@
 ghost use Rattle.std.specs.Prelude.{◌≡◌, true, ◌∷◌, [], map, OnOk, OnErr};
 ghost use Rattle.std.specs.List.{list_all};
 ghost use Rattle.world_defs.specs.Commands as commands;
-ghost use Rattle.site_runner.specs.Jobs.{is_set, job_value, updater_of};
-ghost use Rattle.site_runner.specs.Sites.{is_standing_named};
-ghost use Rattle.site_runner.specs.Executes.{Executes, DecidesSo};
+ghost use Rattle.site_journal.specs.Jobs.{is_set, job_value, updater_of};
+ghost use Rattle.site_runner.specs.Sites.{IsReadyState};
+ghost use Rattle.site_runner.specs.Steps.{ExecutesAt, IsCutAt};
 
-use super::finding::find;
-use super::site::Site;
-use super::text::write_line;
+use super::slot::{Site, State};
+use super::text::{write_line, write_numbered, write_undecided};
 use gvn_key::{Bytes, NoMemory};
 use gvn_model::Updates;
+use repl_disk::Disk;
+use site_journal::RunError;
+use std::alloc::Global;
 
-/// Decides jobs at a site with that name.
-fn run_site(
+/// Decides jobs of updater 1 in order at a site.
+pub fn run_section<D: Disk>(
+    alloc: Global,
+    disk: &mut D,
     site: &mut Site,
-    name: &[u8],
     jobs: Vec<Updates>,
     text: &mut Bytes,
 ) -> Result<(), NoMemory>
-    requires named { is_standing_named name.now site.old ≡ true }
     requires sets { list_all is_set jobs.items ≡ true }
-    ensures done { OnOk result (DecidesSo name.now jobs.items site.old site.new text.old text.new) }
-    ensures kept { OnErr result (site.new ≡ site.old) }
+    requires ready { IsReadyState (D.disk disk.old) site.old.state }
+    ensures ready { OnOk result (IsReadyState (D.disk disk.new) site.new.state) }
+    ensures done { OnOk result (ExecutesAt (commands.Run site.old.name (map job_value jobs.items ∷ []) (map updater_of jobs.items)) (D.disk disk.old) site.old (D.disk disk.new) site.new text.old text.new) }
+    ensures cut_off { OnErr result (IsCutAt (commands.Run site.old.name (map job_value jobs.items ∷ []) (map updater_of jobs.items)) (D.disk disk.old) site.old (D.disk disk.new)) }
 {
-    if site.is_down() {
-        return write_line(text, name, b"NOTPRIMARY");
-    }
-    site.run(jobs, text)
-}
-
-/// Decides jobs of updater 1 in order at the site with that name.
-pub fn run_section(
-    sites: &mut Vec<Site>,
-    name: &[u8],
-    jobs: Vec<Updates>,
-    text: &mut Bytes,
-) -> Result<(), NoMemory>
-    requires { list_all is_set jobs.items ≡ true }
-    ensures done { OnOk result (Executes (commands.Run name.now (map job_value jobs.items ∷ []) (map updater_of jobs.items)) sites.old.items sites.new.items text.old text.new) }
-    ensures kept { OnErr result (sites.new.items ≡ sites.old.items) }
-{
-    match find(sites, name) {
-        None => write_line(text, name, b"NOSITE"),
-        Some(i) => run_site(&mut sites[i], name, jobs, text),
+    let reign = match &mut site.state {
+        State::Down => return write_line(text, site.name.as_slice(), b"NOTPRIMARY"),
+        State::Failed { fault } => {
+            return write_numbered(text, site.name.as_slice(), b"STOPPED ", *fault);
+        }
+        State::Primary(reign) => reign,
+    };
+    match reign.run(alloc, disk, site.name.as_slice(), jobs, text) {
+        Ok(()) => {
+            let length = reign.entries.len() as u64;
+            write_numbered(text, site.name.as_slice(), b"AT ", length)
+        }
+        Err(RunError::Failed { undecided }) => {
+            let fault = disk.faults();
+            write_undecided(text, site.name.as_slice(), fault, undecided)?;
+            site.state = State::Failed { fault };
+            Ok(())
+        }
+        Err(RunError::NoMemory) => Err(NoMemory),
     }
 }

@@ -56,7 +56,7 @@ fn is_setting(name: &[u8], index: &[u8], value: &[u8]) -> bool
 }
 
 /// What stands behind a word.
-fn behind<'a>(text: &'a [u8], word: &[u8]) -> Option<&'a [u8]>
+pub fn behind<'a>(text: &'a [u8], word: &[u8]) -> Option<&'a [u8]>
     ensures { MatchOption result ((rest : List ℕ) → text.now ≡ word.now ++ rest → ⊥) (λ rest. text.now ≡ word.now ++ rest.now) }
 {
     if text.len() < word.len() {

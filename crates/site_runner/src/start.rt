@@ -1,49 +1,66 @@
 // START PRIMARY.
-ghost use Rattle.std.specs.Prelude.{◌≡◌, ◌++◌, true, OnOk, OnErr, codes};
-ghost use Rattle.std.specs.Fmt.{decimal};
-ghost use Rattle.world_defs.specs.Commands as commands;
-ghost use Rattle.world_defs.specs.Output.{line};
-ghost use Rattle.site_runner.specs.Sites.{is_standing_named};
-ghost use Rattle.site_runner.specs.Executes.{Executes, StartsSo};
+ghost use Rattle.std.specs.Prelude.{◌≡◌, OnOk, OnErr};
+ghost use Rattle.world_defs.specs.Commands.{StartPrimary};
+ghost use Rattle.site_runner.specs.declared.slot.State.TheVariants.{Down};
+ghost use Rattle.site_runner.specs.Sites.{IsReadyState};
+ghost use Rattle.site_runner.specs.Steps.{ExecutesAt, IsCutAt};
 
-use super::finding::find;
-use super::site::Site;
-use super::text::write_line;
+use super::slot::{Site, State};
+use super::text::{write_line, write_not_a_file, write_numbered, write_primary};
 use gvn_key::{Bytes, NoMemory};
+use jnl_file::{JournalError, journal_file};
+use repl_disk::Disk;
+use std::alloc::Global;
 
-/// Adds the line of a reign of that cycle whose first entry has that number.
-fn write_primary(text: &mut Bytes, name: &[u8], cycle: u32, from: u64) -> Result<(), NoMemory>
-    ensures { OnOk result (text.new ≡ text.old ++ line name.now (codes "PRIMARY " ++ decimal cycle ++ codes " FROM " ++ decimal from)) }
+/// Begins the reign of a site that is down.
+fn open<D: Disk>(
+    alloc: Global,
+    disk: &mut D,
+    site: &mut Site,
+    text: &mut Bytes,
+) -> Result<(), NoMemory>
+    requires { site.old.state ≡ Down }
+    ensures ready { OnOk result (IsReadyState (D.disk disk.new) site.new.state) }
+    ensures done { OnOk result (ExecutesAt (StartPrimary site.old.name) (D.disk disk.old) site.old (D.disk disk.new) site.new text.old text.new) }
+    ensures cut_off { OnErr result (IsCutAt (StartPrimary site.old.name) (D.disk disk.old) site.old (D.disk disk.new)) }
 {
-    text.push_all(name)?;
-    text.push_all(b" PRIMARY ")?;
-    text.push_decimal(u64::from(cycle))?;
-    text.push_all(b" FROM ")?;
-    text.push_decimal(from)?;
-    text.push_all(b"\n")
-}
-
-/// Begins the reign of a site with that name.
-fn start_site(site: &mut Site, name: &[u8], text: &mut Bytes) -> Result<(), NoMemory>
-    requires { is_standing_named name.now site.old ≡ true }
-    ensures done { OnOk result (StartsSo name.now site.old site.new text.old text.new) }
-    ensures kept { OnErr result (site.new ≡ site.old) }
-{
-    if !site.is_down() {
-        return write_line(text, name, b"RUNNING");
+    match site_journal::start(alloc, disk, site.name.as_slice()) {
+        Ok(reign) => {
+            let from = reign.entries.len() as u64 + 1;
+            write_primary(text, site.name.as_slice(), 1, from)?;
+            site.state = State::Primary(reign);
+            Ok(())
+        }
+        Err(JournalError::Failed) => {
+            let fault = disk.faults();
+            write_numbered(text, site.name.as_slice(), b"DISKFAULT ", fault)?;
+            site.state = State::Failed { fault };
+            Ok(())
+        }
+        Err(JournalError::NotARecord { offset }) => {
+            write_not_a_file(text, site.name.as_slice(), journal_file(0, 1), offset)
+        }
+        Err(JournalError::NoMemory) => Err(NoMemory),
     }
-    write_primary(text, name, 1, site.length() + 1)?;
-    site.start();
-    Ok(())
 }
 
-/// Begins the reign of the site with that name.
-pub fn start(sites: &mut Vec<Site>, name: &[u8], text: &mut Bytes) -> Result<(), NoMemory>
-    ensures done { OnOk result (Executes (commands.StartPrimary name.now) sites.old.items sites.new.items text.old text.new) }
-    ensures kept { OnErr result (sites.new.items ≡ sites.old.items) }
+/// Begins a site's reign.
+pub fn start<D: Disk>(
+    alloc: Global,
+    disk: &mut D,
+    site: &mut Site,
+    text: &mut Bytes,
+) -> Result<(), NoMemory>
+    requires { IsReadyState (D.disk disk.old) site.old.state }
+    ensures ready { OnOk result (IsReadyState (D.disk disk.new) site.new.state) }
+    ensures done { OnOk result (ExecutesAt (StartPrimary site.old.name) (D.disk disk.old) site.old (D.disk disk.new) site.new text.old text.new) }
+    ensures cut_off { OnErr result (IsCutAt (StartPrimary site.old.name) (D.disk disk.old) site.old (D.disk disk.new)) }
 {
-    match find(sites, name) {
-        None => write_line(text, name, b"NOSITE"),
-        Some(i) => start_site(&mut sites[i], name, text),
+    match &site.state {
+        State::Failed { fault } => {
+            write_numbered(text, site.name.as_slice(), b"STOPPED ", *fault)
+        }
+        State::Primary(_) => write_line(text, site.name.as_slice(), b"RUNNING"),
+        State::Down => open(alloc, disk, site, text),
     }
 }

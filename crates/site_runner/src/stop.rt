@@ -1,35 +1,26 @@
 // STOP.
-ghost use Rattle.std.specs.Prelude.{◌≡◌, true, OnOk, OnErr};
-ghost use Rattle.world_defs.specs.Commands as commands;
-ghost use Rattle.site_runner.specs.Sites.{is_standing_named};
-ghost use Rattle.site_runner.specs.Executes.{Executes, StopsSo};
+ghost use Rattle.std.specs.Prelude.{◌≡◌, OnOk, OnErr};
+ghost use Rattle.site_runner.specs.Steps.{Stops};
 
-use super::finding::find;
-use super::site::{Site, write_numbered};
-use super::text::write_line;
+use super::slot::{Site, State};
+use super::text::{write_line, write_numbered};
 use gvn_key::{Bytes, NoMemory};
 
-/// Ends the reign of a site with that name.
-fn stop_site(site: &mut Site, name: &[u8], text: &mut Bytes) -> Result<(), NoMemory>
-    requires { is_standing_named name.now site.old ≡ true }
-    ensures done { OnOk result (StopsSo name.now site.old site.new text.old text.new) }
+/// Ends a site's reign.
+pub fn stop(site: &mut Site, text: &mut Bytes) -> Result<(), NoMemory>
+    ensures done { OnOk result (Stops site.old site.new text.old text.new) }
     ensures kept { OnErr result (site.new ≡ site.old) }
 {
-    if site.is_down() {
-        return write_line(text, name, b"NOTRUNNING");
-    }
-    write_numbered(text, name, b"DOWN ", site.length())?;
-    site.stop();
-    Ok(())
-}
-
-/// Ends the reign of the site with that name.
-pub fn stop(sites: &mut Vec<Site>, name: &[u8], text: &mut Bytes) -> Result<(), NoMemory>
-    ensures done { OnOk result (Executes (commands.Stop name.now) sites.old.items sites.new.items text.old text.new) }
-    ensures kept { OnErr result (sites.new.items ≡ sites.old.items) }
-{
-    match find(sites, name) {
-        None => write_line(text, name, b"NOSITE"),
-        Some(i) => stop_site(&mut sites[i], name, text),
+    match &site.state {
+        State::Down => write_line(text, site.name.as_slice(), b"NOTRUNNING"),
+        State::Failed { fault } => {
+            write_numbered(text, site.name.as_slice(), b"STOPPED ", *fault)
+        }
+        State::Primary(reign) => {
+            let length = reign.entries.len() as u64;
+            write_numbered(text, site.name.as_slice(), b"DOWN ", length)?;
+            site.state = State::Down;
+            Ok(())
+        }
     }
 }

@@ -1,6 +1,7 @@
 // Lines of answers.
-ghost use Rattle.std.specs.Prelude.{◌≡◌, ◌++◌, OnOk};
-ghost use Rattle.world_defs.specs.Output.{line};
+ghost use Rattle.std.specs.Prelude.{◌≡◌, ◌++◌, ◌∷◌, OnOk, codes};
+ghost use Rattle.std.specs.Fmt.{decimal};
+ghost use Rattle.world_defs.specs.Output.{line, fault_line};
 
 use gvn_key::{Bytes, NoMemory};
 
@@ -11,5 +12,72 @@ pub fn write_line(text: &mut Bytes, name: &[u8], words: &[u8]) -> Result<(), NoM
     text.push_all(name)?;
     text.push_all(b" ")?;
     text.push_all(words)?;
+    text.push_all(b"\n")
+}
+
+/// Adds a line of the site's name, a word and a number.
+pub fn write_numbered(
+    text: &mut Bytes,
+    name: &[u8],
+    word: &[u8],
+    number: u64,
+) -> Result<(), NoMemory>
+    ensures { OnOk result (text.new ≡ text.old ++ line name.now (word.now ++ decimal number)) }
+{
+    text.push_all(name)?;
+    text.push_all(b" ")?;
+    text.push_all(word)?;
+    text.push_decimal(number)?;
+    text.push_all(b"\n")
+}
+
+/// Adds the line of a reign of that cycle whose first entry has that number.
+pub fn write_primary(
+    text: &mut Bytes,
+    name: &[u8],
+    cycle: u32,
+    from: u64,
+) -> Result<(), NoMemory>
+    ensures { OnOk result (text.new ≡ text.old ++ line name.now (codes "PRIMARY " ++ decimal cycle ++ codes " FROM " ++ decimal from)) }
+{
+    text.push_all(name)?;
+    text.push_all(b" PRIMARY ")?;
+    text.push_decimal(u64::from(cycle))?;
+    text.push_all(b" FROM ")?;
+    text.push_decimal(from)?;
+    text.push_all(b"\n")
+}
+
+/// Adds the line of a section that a fault ended, and that left so many jobs undecided.
+pub fn write_undecided(
+    text: &mut Bytes,
+    name: &[u8],
+    fault: u64,
+    undecided: u64,
+) -> Result<(), NoMemory>
+    ensures { OnOk result (text.new ≡ text.old ++ fault_line name.now fault undecided) }
+{
+    text.push_all(name)?;
+    text.push_all(b" DISKFAULT ")?;
+    text.push_decimal(fault)?;
+    text.push_all(b" UNDECIDED ")?;
+    text.push_decimal(undecided)?;
+    text.push_all(b"\n")
+}
+
+/// Adds the line of a file that is outside the formats at that place.
+pub fn write_not_a_file(
+    text: &mut Bytes,
+    name: &[u8],
+    file: u32,
+    offset: u64,
+) -> Result<(), NoMemory>
+    ensures { OnOk result (text.new ≡ text.old ++ line name.now (codes "NOTAFILE " ++ decimal file ++ 32 ∷ decimal offset)) }
+{
+    text.push_all(name)?;
+    text.push_all(b" NOTAFILE ")?;
+    text.push_decimal(u64::from(file))?;
+    text.push_all(b" ")?;
+    text.push_decimal(offset)?;
     text.push_all(b"\n")
 }

@@ -13,6 +13,10 @@ pub data Command : Type 0 where
   StartPrimary : Name → Command
   -- the jobs of each updater, updater u at place u - 1, and the updaters in the order of their jobs' first lines
   Run : Name → List (List Job) → (order : List ℕ) → Command
+  Stop : Name → Command
+  -- the site's disk passes so many more calls, and fails each later one until a crash
+  Fuse : Name → (calls : ℕ) → Command
+  -- the site's disk takes the image of that pick
+  Crash : Name → (pick : ℕ) → Command
   -- the entries from that number on
   Extract : Name → (from : ℕ) → Command
-  Stop : Name → Command

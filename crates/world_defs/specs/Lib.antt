@@ -7,5 +7,6 @@ pub mod Rows
 pub mod Step
 pub mod Output
 pub mod Runs
+pub mod Ties
 pub mod Lines
 pub mod Script

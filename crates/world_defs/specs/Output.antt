@@ -1,14 +1,14 @@
 -- What a command writes.
-use Rattle.std.specs.Prelude.{ℕ, ◌+◌, List, [], ◌∷◌, ◌++◌, length, codes, Option, Some, None}
+use Rattle.std.specs.Prelude.{ℕ, ◌+◌, ◌-◌, nat_lt, Bool, false, List, [], ◌∷◌, ◌++◌, length, codes, Option, Some, None, if◌then◌else◌}
 use Rattle.std.specs.Fmt.{decimal}
 use Rattle.std.specs.List.{flat_map}
 use Rattle.global_defs.specs.Extract.{extract}
 use Rattle.global_defs.specs.Jobs.{Job, Answers, Check, NotNum, Full, SeqLimit}
 use Rattle.global_defs.specs.Jobs as jobs
 use Rattle.global_defs.specs.Serial.{Reply, Seq, Read, RolledBack, Replied, Turn, begun}
-use Rattle.world_defs.specs.World.{Name, State, Down, Primary, Site, Place, World, site_of}
-use Rattle.world_defs.specs.Commands.{Command, Create, StartPrimary, Run, Extract, Stop}
-use Rattle.world_defs.specs.Answers.{Cause, NoSite, Exists, NoDisk, Running, NotRunning, NotPrimary, Section, Answer, Done, Refused, Ran}
+use Rattle.world_defs.specs.World.{Name, State, Down, Primary, Failed, Site, Place, World, site_of}
+use Rattle.world_defs.specs.Commands.{Command, Create, StartPrimary, Run, Stop, Fuse, Crash, Extract}
+use Rattle.world_defs.specs.Answers.{Cause, NoSite, Stopped, Exists, NoDisk, NotEmpty, Running, NotRunning, NotPrimary, NotSimulated, Section, Answer, Done, Refused, DiskFault, NotAFile, Ran}
 use Rattle.world_defs.specs.Rows.{turn_of}
 
 -- a line that begins with a site's name
@@ -17,11 +17,14 @@ line name text = name ++ 32 ∷ text ++ 10 ∷ []
 
 abbrev pub cause_text : Cause → List ℕ
 cause_text NoSite = codes "NOSITE"
+cause_text (Stopped k) = codes "STOPPED " ++ decimal k
 cause_text Exists = codes "EXISTS"
 cause_text NoDisk = codes "NODISK"
+cause_text NotEmpty = codes "NOTEMPTY"
 cause_text Running = codes "RUNNING"
 cause_text NotRunning = codes "NOTRUNNING"
 cause_text NotPrimary = codes "NOTPRIMARY"
+cause_text NotSimulated = codes "NOTSIMULATED"
 
 -- why a job was rolled back
 abbrev pub rollback_text : jobs.Cause → List ℕ
@@ -45,15 +48,16 @@ reply_line r = decimal r.updater ++ 46 ∷ decimal r.serial ++ reply_text r.repl
 
 abbrev pub length_at : Option Place → ℕ
 length_at None = 0
-length_at (Some p) = length p.sequence
+length_at (Some p) = length p.now.sequence
 
 abbrev pub extract_at : Name → ℕ → Option Place → List ℕ
 extract_at name from None = []
-extract_at name from (Some p) = extract name p.sequence from
+extract_at name from (Some p) = extract name p.now.sequence from
 
 abbrev pub cycle_in : State → ℕ
 cycle_in Down = 0
 cycle_in (Primary stamp serials) = stamp.cycle
+cycle_in (Failed k) = 0
 
 abbrev pub cycle_on : Option Site → ℕ
 cycle_on None = 0
@@ -65,8 +69,9 @@ cycle_at None = 0
 cycle_at (Some p) = cycle_on p.site
 
 abbrev pub turn_in : State → List (List Job) → Section → Place → Turn
-turn_in Down jobs s p = begun [] jobs p.sequence
-turn_in (Primary stamp serials) jobs s p = turn_of stamp serials jobs s.picks p.sequence
+turn_in Down jobs s p = begun [] jobs p.now.sequence
+turn_in (Primary stamp serials) jobs s p = turn_of stamp serials jobs s.picks p.now.sequence
+turn_in (Failed k) jobs s p = begun [] jobs p.now.sequence
 
 abbrev pub turn_on : Option Site → List (List Job) → Section → Place → Turn
 turn_on None jobs s p = begun [] jobs []
@@ -77,28 +82,60 @@ abbrev pub turn_at : Option Place → List (List Job) → Section → Turn
 turn_at None jobs s = begun [] jobs []
 turn_at (Some p) jobs s = turn_on p.site jobs s p
 
--- a line a pick in the order of picks, and the primary's line
-abbrev pub section_text : Name → Turn → List ℕ
-section_text name t = flat_map reply_line t.replies ++ line name (codes "AT " ++ decimal (length t.sequence))
+-- the reply names an entry past that length
+abbrev pub is_past : ℕ → Reply → Bool
+is_past hardened (Seq n answers) = nat_lt hardened n
+is_past hardened (Read answers) = false
+is_past hardened (RolledBack cause) = false
+
+-- the replies before the first one whose entry isn't hardened
+abbrev pub printed : ℕ → List Replied → List Replied
+printed hardened [] = []
+printed hardened (r ∷ rs) = if is_past hardened r.reply then [] else r ∷ printed hardened rs
+
+abbrev pub fault_line : Name → ℕ → ℕ → List ℕ
+fault_line name k undecided = line name (codes "DISKFAULT " ++ decimal k ++ codes " UNDECIDED " ++ decimal undecided)
+
+-- A line a pick in the order of picks, and the primary's line. After a fault the replies are those of what is hardened, and all other jobs are undecided.
+abbrev pub section_text : Name → ℕ → Turn → ℕ → Option ℕ → List ℕ
+section_text name jobs t hardened None = flat_map reply_line t.replies ++ line name (codes "AT " ++ decimal (length t.sequence))
+section_text name jobs t hardened (Some k) = flat_map reply_line (printed hardened t.replies) ++ fault_line name k (jobs - length (printed hardened t.replies))
 
 -- what the answer that it was done writes
 abbrev pub done_text : World → Command → World → List ℕ
 done_text w (Create name regions) m = line name (codes "CREATED")
-done_text w (StartPrimary name) m = line name (codes "PRIMARY " ++ decimal (cycle_at (site_of m name)) ++ codes " FROM " ++ decimal (length_at (site_of w name) + 1))
+done_text w (StartPrimary name) m = line name (codes "PRIMARY " ++ decimal (cycle_at (site_of m name)) ++ codes " FROM " ++ decimal (length_at (site_of m name) + 1))
 done_text w (Run name jobs order) m = []
-done_text w (Extract name from) m = extract_at name from (site_of w name)
 done_text w (Stop name) m = line name (codes "DOWN " ++ decimal (length_at (site_of w name)))
+done_text w (Fuse name calls) m = line name (codes "FUSED " ++ decimal calls)
+done_text w (Crash name pick) m = line name (codes "CRASHED")
+done_text w (Extract name from) m = extract_at name from (site_of w name)
 
+-- a section with its jobs
 abbrev pub ran_text : World → Command → Section → List ℕ
 ran_text w (Create name regions) s = []
 ran_text w (StartPrimary name) s = []
-ran_text w (Run name jobs order) s = section_text name (turn_at (site_of w name) jobs s)
-ran_text w (Extract name from) s = []
+ran_text w (Run name jobs order) s = section_text name (length order) (turn_at (site_of w name) jobs s) s.hardened s.fault
 ran_text w (Stop name) s = []
+ran_text w (Fuse name calls) s = []
+ran_text w (Crash name pick) s = []
+ran_text w (Extract name from) s = []
+
+-- the site that a command names
+abbrev pub name_in : Command → Name
+name_in (Create name regions) = name
+name_in (StartPrimary name) = name
+name_in (Run name jobs order) = name
+name_in (Stop name) = name
+name_in (Fuse name calls) = name
+name_in (Crash name pick) = name
+name_in (Extract name from) = name
 
 abbrev pub text_of : World → Command → Answer → World → List ℕ
 text_of w c Done m = done_text w c m
 text_of w c (Refused r) m = line r.site (cause_text r.cause)
+text_of w c (DiskFault k) m = line (name_in c) (codes "DISKFAULT " ++ decimal k)
+text_of w c (NotAFile file offset) m = line (name_in c) (codes "NOTAFILE " ++ decimal file ++ 32 ∷ decimal offset)
 text_of w c (Ran s) m = ran_text w c s
 
 -- the lines of a command's answers

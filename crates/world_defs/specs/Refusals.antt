@@ -1,8 +1,8 @@
 -- Which commands a world refuses, and with which cause: the first one of a list of tests.
-use Rattle.std.specs.Prelude.{ℕ, List, [], ◌∷◌, Option, Some, None}
-use Rattle.world_defs.specs.World.{Name, State, Down, Primary, Site, Place, World, next_of, at_place, site_of}
-use Rattle.world_defs.specs.Commands.{Command, Create, StartPrimary, Run, Extract, Stop}
-use Rattle.world_defs.specs.Answers.{Cause, NoSite, Exists, NoDisk, Running, NotRunning, NotPrimary, Refusal}
+use Rattle.std.specs.Prelude.{Bool, List, [], ◌∷◌, Option, Some, None, ◌&&◌, if◌then◌else◌}
+use Rattle.world_defs.specs.World.{Name, State, Down, Primary, Failed, Site, Place, World, next_of, at_place, site_of}
+use Rattle.world_defs.specs.Commands.{Command, Create, StartPrimary, Run, Stop, Fuse, Crash, Extract}
+use Rattle.world_defs.specs.Answers.{Cause, NoSite, Stopped, Exists, NoDisk, NotEmpty, Running, NotRunning, NotPrimary, NotSimulated, Refusal}
 
 -- the first cause of these
 abbrev pub first : List (Option Cause) → Option Cause
@@ -19,17 +19,28 @@ abbrev pub in_state : (State → Option Cause) → Option Site → Option Cause
 in_state test None = None
 in_state test (Some site) = test site.state
 
+abbrev pub stopped : State → Option Cause
+stopped (Failed k) = Some (Stopped k)
+stopped (Primary stamp serials) = None
+stopped Down = None
+
 abbrev pub running : State → Option Cause
 running Down = None
 running (Primary stamp serials) = Some Running
+running (Failed k) = Some Running
 
 abbrev pub not_running : State → Option Cause
 not_running Down = Some NotRunning
 not_running (Primary stamp serials) = None
+not_running (Failed k) = None
 
 abbrev pub not_primary : State → Option Cause
-not_primary Down = Some NotPrimary
 not_primary (Primary stamp serials) = None
+not_primary Down = Some NotPrimary
+not_primary (Failed k) = Some NotPrimary
+
+abbrev pub not_simulated : Bool → Option Cause
+not_simulated simulated = if simulated then None else Some NotSimulated
 
 -- NOSITE, and then these tests
 abbrev pub tested : Option Place → (Place → List (Option Cause)) → Option Cause
@@ -44,13 +55,38 @@ abbrev pub there : Option Place → Option Cause
 there None = None
 there (Some p) = Some Exists
 
-abbrev pub no_room : Option Place → Option Cause
-no_room None = Some NoDisk
-no_room (Some p) = None
+abbrev pub no_disk : Option Place → Option Cause
+no_disk None = Some NoDisk
+no_disk (Some p) = None
+
+-- where a disk's files are known
+abbrev pub not_empty : Option Place → Option Cause
+not_empty None = None
+not_empty (Some p) = if p.told && p.now.begun then Some NotEmpty else None
+
+-- The refusals that the list of sites and their states decide. No call of a disk comes before them.
+abbrev pub early : World → Command → Option Refusal
+early w (Create name regions) = refused_with name (first (there (site_of w name) ∷ no_disk (at_place w (next_of w)) ∷ []))
+early w (StartPrimary name) = one w name (λ p. in_state stopped p.site ∷ in_state running p.site ∷ [])
+early w (Run name jobs order) = one w name (λ p. in_state stopped p.site ∷ in_state not_primary p.site ∷ [])
+early w (Stop name) = one w name (λ p. in_state stopped p.site ∷ in_state not_running p.site ∷ [])
+early w (Fuse name calls) = one w name (λ p. in_state stopped p.site ∷ not_simulated p.simulated ∷ [])
+early w (Crash name pick) = one w name (λ p. in_state not_running p.site ∷ not_simulated p.simulated ∷ [])
+early w (Extract name from) = one w name (λ p. in_state stopped p.site ∷ in_state not_running p.site ∷ [])
+
+-- The refusals that files decide. A read comes before them, and may fail.
+abbrev pub late : World → Command → Option Refusal
+late w (Create name regions) = refused_with name (not_empty (at_place w (next_of w)))
+late w (StartPrimary name) = None
+late w (Run name jobs order) = None
+late w (Stop name) = None
+late w (Fuse name calls) = None
+late w (Crash name pick) = None
+late w (Extract name from) = None
+
+abbrev pub or_else : Option Refusal → Option Refusal → Option Refusal
+or_else None r = r
+or_else (Some q) r = Some q
 
 abbrev pub refusal : World → Command → Option Refusal
-refusal w (Create name regions) = refused_with name (first (there (site_of w name) ∷ no_room (at_place w (next_of w)) ∷ []))
-refusal w (StartPrimary name) = one w name (λ p. in_state running p.site ∷ [])
-refusal w (Run name jobs order) = one w name (λ p. in_state not_primary p.site ∷ [])
-refusal w (Extract name from) = one w name (λ p. in_state not_running p.site ∷ [])
-refusal w (Stop name) = one w name (λ p. in_state not_running p.site ∷ [])
+refusal w c = or_else (early w c) (late w c)

@@ -1,13 +1,14 @@
 -- The lines of a script.
-use Rattle.std.specs.Prelude.{◌≡◌, ◌⊎◌, ℕ, ◌+◌, ◌-◌, ◌<◌, ◌≤◌, ◌&&◌, ◌==◌, Bool, true, false, not, nat_le, List, [], ◌∷◌, ◌++◌, length, take, map, codes}
+use Rattle.std.specs.Prelude.{◌≡◌, ◌⊎◌, ℕ, ◌+◌, ◌-◌, ◌^◌, ◌<◌, ◌≤◌, ◌&&◌, ◌==◌, Bool, true, false, not, nat_le, List, [], ◌∷◌, ◌++◌, length, take, map, codes}
 use Rattle.std.specs.List.{list_all}
 use Rattle.std.specs.Char.{is_ascii_alphabetic, is_ascii_alphanumeric}
-use Rattle.global_defs.specs.Key.{Key, sub_of}
+use Rattle.std.specs.Fmt.{decimal}
+use Rattle.global_defs.specs.Key.{sub_of}
 use Rattle.global_defs.specs.Jobs.{Job, Set}
 use Rattle.global_defs.specs.Numeral.{is_whole}
 use Rattle.global_defs.specs.Zwr.{is_plain}
 use Rattle.world_defs.specs.World.{Name}
-use Rattle.world_defs.specs.Commands.{Region, Command, Create, StartPrimary, Run, Extract, Stop}
+use Rattle.world_defs.specs.Commands.{Region, Command, Create, StartPrimary, Run, Stop, Fuse, Crash, Extract}
 
 -- A line of updater 1 that sets the node of a name and an index to a value: 1 SET ^name(index)="value"
 pub record Setting : Type 0 where
@@ -51,13 +52,22 @@ pub record IsSectionOf (lines : List (List ℕ)) (jobs : List (List Job)) (order
 abbrev pub with_images : Name → Region
 with_images name = record { name = name; before = true }
 
--- These lines spell this command.
+-- the greatest numbers in FUSE and CRASH
+abbrev pub MOST_CALLS : ℕ
+MOST_CALLS = 1000000
+
+abbrev pub MOST_PICK : ℕ
+MOST_PICK = 2 ^ 32 - 1
+
+-- These lines spell this command: the only site is A, its only region R, numbers are in digits without a leading zero.
 abbrev pub Spells : List (List ℕ) → Command → Type 0
-Spells lines (Create name regions) = (region : Name) × (regions ≡ with_images region ∷ []) × (lines ≡ (codes "CREATE " ++ name ++ 32 ∷ region) ∷ [])
-Spells lines (StartPrimary name) = lines ≡ (codes "START " ++ name ++ codes " PRIMARY") ∷ []
-Spells lines (Run name jobs order) = (section : List (List ℕ)) × IsSectionOf section jobs order × (lines ≡ (codes "RUN " ++ name) ∷ section ++ codes "END" ∷ [])
-Spells lines (Extract name from) = (from ≡ 1) × (lines ≡ (codes "EXTRACT " ++ name) ∷ [])
-Spells lines (Stop name) = lines ≡ (codes "STOP " ++ name) ∷ []
+Spells lines (Create name regions) = (name ≡ codes "A") × (regions ≡ with_images (codes "R") ∷ []) × (lines ≡ codes "CREATE A R" ∷ [])
+Spells lines (StartPrimary name) = (name ≡ codes "A") × (lines ≡ codes "START A PRIMARY" ∷ [])
+Spells lines (Run name jobs order) = (name ≡ codes "A") × ((section : List (List ℕ)) × IsSectionOf section jobs order × (lines ≡ codes "RUN A" ∷ section ++ codes "END" ∷ []))
+Spells lines (Stop name) = (name ≡ codes "A") × (lines ≡ codes "STOP A" ∷ [])
+Spells lines (Fuse name calls) = (name ≡ codes "A") × (calls ≤ MOST_CALLS) × (lines ≡ (codes "FUSE A " ++ decimal calls) ∷ [])
+Spells lines (Crash name pick) = (name ≡ codes "A") × (pick ≤ MOST_PICK) × (lines ≡ (codes "CRASH A " ++ decimal pick) ∷ [])
+Spells lines (Extract name from) = (name ≡ codes "A") × (from ≡ 1) × (lines ≡ codes "EXTRACT A" ∷ [])
 
 -- These lines spell these commands, one after another, and some are left.
 abbrev pub Spell : List (List ℕ) → List Command → List (List ℕ) → Type 0
@@ -66,27 +76,23 @@ Spell lines (c ∷ cs) rest = (head : List (List ℕ)) × (tail : List (List ℕ
 
 -- a section without its END
 pub record IsUnfinished (lines : List (List ℕ)) : Type 0 where
-  pub name : Name
   pub settings : List Setting
   pub each : list_all is_setting settings ≡ true
-  pub spelled : lines ≡ (codes "RUN " ++ name) ∷ map setting_line settings
+  pub spelled : lines ≡ codes "RUN A" ∷ map setting_line settings
 
--- the lines of a whole script with these lines in its section
-abbrev pub whole : List Setting → List (List ℕ)
-whole settings = codes "CREATE A R" ∷ codes "START A PRIMARY" ∷ codes "RUN A" ∷ (map setting_line settings ++ codes "END" ∷ codes "EXTRACT A" ∷ codes "STOP A" ∷ [])
-
--- The form of a script: its lines are the first ones of a whole script.
+-- The form of a script's first lines: they spell commands, and perhaps a section begun.
 pub record IsFront (lines : List (List ℕ)) : Type 0 where
-  pub settings : List Setting
-  pub each : list_all is_setting settings ≡ true
-  pub more : List (List ℕ)
-  pub spelled : lines ++ more ≡ whole settings
+  pub commands : List Command
+  pub rest : List (List ℕ)
+  pub spelled : Spell lines commands rest
+  pub begun : (rest ≡ []) ⊎ IsUnfinished rest
 
--- the lines stop within the section
+-- the lines stop within a section
 pub record IsOpen (lines : List (List ℕ)) : Type 0 where
-  pub settings : List Setting
-  pub each : list_all is_setting settings ≡ true
-  pub spelled : lines ≡ codes "CREATE A R" ∷ codes "START A PRIMARY" ∷ codes "RUN A" ∷ map setting_line settings
+  pub commands : List Command
+  pub rest : List (List ℕ)
+  pub spelled : Spell lines commands rest
+  pub begun : IsUnfinished rest
 
 -- how many lines a script may have
 abbrev pub MOST_LINES : ℕ

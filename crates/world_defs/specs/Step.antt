@@ -1,13 +1,14 @@
 -- The meaning of a command: a row a command.
-use Rattle.std.specs.Prelude.{◌≡◌, ℕ, List, [], ◌∷◌, Option, Some, None, slice_get}
+use Rattle.std.specs.Prelude.{◌≡◌, ◌⊎◌, ℕ, ◌==◌, Bool, true, false, List, [], ◌∷◌, length, take, Option, Some, None}
 use Rattle.global_defs.specs.Entry.{Stamp}
 use Rattle.global_defs.specs.Jobs.{Job}
-use Rattle.world_defs.specs.Lists.{Along, At}
-use Rattle.world_defs.specs.World.{Name, Down, Primary, Place, World, Kept, place_of, next_of}
-use Rattle.world_defs.specs.Commands.{Command, Create, StartPrimary, Run, Extract, Stop}
-use Rattle.world_defs.specs.Answers.{Answer, Done, Refused, Section, Ran}
-use Rattle.world_defs.specs.Refusals.{refusal}
-use Rattle.world_defs.specs.Rows.{Becomes, Creates, StartsPrimary, RunsPrimary, turn_of}
+use Rattle.global_defs.specs.Serial.{Turn}
+use Rattle.world_defs.specs.Lists.{Among, Along, At}
+use Rattle.world_defs.specs.World.{Name, State, Down, Primary, Failed, Site, Contents, Place, World, Kept, place_of, next_of}
+use Rattle.world_defs.specs.Commands.{Command, Create, StartPrimary, Run, Stop, Fuse, Crash, Extract}
+use Rattle.world_defs.specs.Answers.{NotEmpty, Refusal, Answer, Done, Refused, DiskFault, NotAFile, Section, Ran}
+use Rattle.world_defs.specs.Refusals.{early, refusal}
+use Rattle.world_defs.specs.Rows.{Becomes, Fails, Creates, CreateFails, StartsPrimary, RunsWhole, RunFails, IsFrontOf, Crashes, turn_of, empty_site}
 
 -- all places are as before
 abbrev pub Unchanged : World → World → Type 0
@@ -22,19 +23,23 @@ AtPlace (Some i) P w m = At i P (λ j. Kept) w.places m.places
 abbrev pub OnSite : World → Name → (Place → Place → Type 0) → World → Type 0
 OnSite w name P m = AtPlace (place_of w name) P w m
 
--- RUN, at the place of its site: the picks are the jobs in the order of their lines.
-pub record RunsThere (i : ℕ) (name : Name) (jobs : List (List Job)) (order : List ℕ) (s : Section) (w m : World) : Type 0 where
+-- with the updaters of a section's picks, without a fault or with one
+abbrev pub RunsTo : Stamp → Turn → ℕ → Option ℕ → Place → Place → Type 0
+RunsTo stamp t hardened None old new = RunsWhole stamp t old new
+RunsTo stamp t hardened (Some k) old new = RunFails t hardened k old new
+
+-- Without a fault all jobs are picked, in the order of their lines; a fault ends the picks.
+abbrev pub IsPicked : Option ℕ → List ℕ → List ℕ → Type 0
+IsPicked None order picks = picks ≡ order
+IsPicked (Some k) order picks = (n : ℕ) × (picks ≡ take n order)
+
+-- RUN at the place of its site
+pub record Runs (name : Name) (jobs : List (List Job)) (order : List ℕ) (s : Section) (old new : Place) : Type 0 where
   pub stamp : Stamp
   pub serials : List ℕ
-  pub primary : Place
-  pub here : slice_get w.places i ≡ Some primary
-  pub state : primary.site ≡ Some (record { name = name; state = Primary stamp serials })
-  pub picks : s.picks ≡ order
-  pub places : At i (RunsPrimary stamp (turn_of stamp serials jobs s.picks primary.sequence)) (λ j. Kept) w.places m.places
-
-abbrev pub RunsAt : Option ℕ → Name → List (List Job) → List ℕ → Section → World → World → Type 0
-RunsAt None name jobs order s w m = ⊥
-RunsAt (Some i) name jobs order s w m = RunsThere i name jobs order s w m
+  pub state : old.site ≡ Some (record { name = name; state = Primary stamp serials })
+  pub picks : IsPicked s.fault order s.picks
+  pub ran : RunsTo stamp (turn_of stamp serials jobs s.picks old.now.sequence) s.hardened s.fault old new
 
 -- what the answer that it was done means
 abbrev pub Row : World → Command → World → Type 0
@@ -42,21 +47,67 @@ Row w (Create name regions) m = AtPlace (next_of w) (Creates name) w m
 Row w (StartPrimary name) m = OnSite w name (StartsPrimary name) m
 -- a section answers how it ran
 Row w (Run name jobs order) m = ⊥
+Row w (Stop name) m = OnSite w name (λ old new. Becomes Down old.now old new) m
+Row w (Fuse name calls) m = Unchanged w m
+Row w (Crash name pick) m = OnSite w name Crashes m
 Row w (Extract name from) m = Unchanged w m
-Row w (Stop name) m = OnSite w name (λ old new. Becomes Down old.sequence old new) m
 
 -- what the answer that a section ran means
 abbrev pub SectionRow : World → Command → Section → World → Type 0
 SectionRow w (Create name regions) s m = ⊥
 SectionRow w (StartPrimary name) s m = ⊥
-SectionRow w (Run name jobs order) s m = RunsAt (place_of w name) name jobs order s w m
-SectionRow w (Extract name from) s m = ⊥
+SectionRow w (Run name jobs order) s m = OnSite w name (Runs name jobs order s) m
 SectionRow w (Stop name) s m = ⊥
+SectionRow w (Fuse name calls) s m = ⊥
+SectionRow w (Crash name pick) s m = ⊥
+SectionRow w (Extract name from) s m = ⊥
+
+-- each outcome is an old one
+abbrev pub OldOnes : Place → Contents → Type 0
+OldOnes old o = Among old.outcomes o
+
+-- what the answer of a disk fault means
+abbrev pub Faulted : World → Command → ℕ → World → Type 0
+Faulted w (Create name regions) k m = AtPlace (next_of w) (CreateFails k) w m
+Faulted w (StartPrimary name) k m = OnSite w name (λ old new. Fails k (OldOnes old) old new) m
+-- a section answers how it ran
+Faulted w (Run name jobs order) k m = ⊥
+Faulted w (Stop name) k m = ⊥
+Faulted w (Fuse name calls) k m = ⊥
+Faulted w (Crash name pick) k m = ⊥
+Faulted w (Extract name from) k m = ⊥
+
+-- a place whose files aren't known, which stays as it is
+pub record KeptUnknown (old new : Place) : Type 0 where
+  pub unknown : old.told ≡ false
+  pub kept : Kept old new
+
+-- Bytes outside the formats are found on no disk whose files are known: they stand for something.
+abbrev pub Damaged : World → Command → World → Type 0
+Damaged w (Create name regions) m = AtPlace (next_of w) KeptUnknown w m
+Damaged w (StartPrimary name) m = OnSite w name KeptUnknown m
+Damaged w (Run name jobs order) m = ⊥
+Damaged w (Stop name) m = ⊥
+Damaged w (Fuse name calls) m = ⊥
+Damaged w (Crash name pick) m = ⊥
+Damaged w (Extract name from) m = ⊥
+
+-- Where files aren't known they may refuse a command too.
+abbrev pub MayRefuse : World → Command → Refusal → World → Type 0
+MayRefuse w (Create name regions) r m = (r ≡ record { site = name; cause = NotEmpty }) × AtPlace (next_of w) KeptUnknown w m
+MayRefuse w (StartPrimary name) r m = ⊥
+MayRefuse w (Run name jobs order) r m = ⊥
+MayRefuse w (Stop name) r m = ⊥
+MayRefuse w (Fuse name calls) r m = ⊥
+MayRefuse w (Crash name pick) r m = ⊥
+MayRefuse w (Extract name from) r m = ⊥
 
 -- The meaning of a command, its answer, and the worlds before and after. A refusal changes nothing.
 abbrev pub Means : World → Command → Answer → World → Type 0
 Means w c Done m = (refusal w c ≡ None) × Row w c m
-Means w c (Refused r) m = (refusal w c ≡ Some r) × Unchanged w m
+Means w c (Refused r) m = ((refusal w c ≡ Some r) × Unchanged w m) ⊎ ((early w c ≡ None) × MayRefuse w c r m)
+Means w c (DiskFault k) m = (early w c ≡ None) × Faulted w c k m
+Means w c (NotAFile file offset) m = (early w c ≡ None) × Damaged w c m
 Means w c (Ran s) m = (refusal w c ≡ None) × SectionRow w c s m
 
 -- A command with what it answered, line by line: each command here answers once.
@@ -64,3 +115,50 @@ abbrev pub Step : World → Command → List Answer → World → Type 0
 Step w c [] m = ⊥
 Step w c (a ∷ []) m = Means w c a m
 Step w c (a ∷ b ∷ more) m = ⊥
+
+-- what a fault in a section of a site in that state might have left, once some of its jobs were decided
+abbrev pub RunMayLeave : State → List (List Job) → List ℕ → Place → Contents → Type 0
+RunMayLeave Down jobs order old o = ⊥
+RunMayLeave (Failed k) jobs order old o = ⊥
+RunMayLeave (Primary stamp serials) jobs order old o = (n : ℕ) × IsFrontOf (turn_of stamp serials jobs (take n order) old.now.sequence).sequence (length old.now.sequence) old.now o
+
+abbrev pub RunMayLeaveOn : Option Site → List (List Job) → List ℕ → Place → Contents → Type 0
+RunMayLeaveOn None jobs order old o = ⊥
+RunMayLeaveOn (Some site) jobs order old o = RunMayLeave site.state jobs order old o
+
+-- what a fault in a command might have left at its place, beside what was there
+abbrev pub MayLeave : Command → Place → Contents → Type 0
+MayLeave (Create name regions) old o = o ≡ empty_site
+MayLeave (StartPrimary name) old o = ⊥
+MayLeave (Run name jobs order) old o = RunMayLeaveOn old.site jobs order old o
+MayLeave (Stop name) old o = ⊥
+MayLeave (Fuse name calls) old o = ⊥
+MayLeave (Crash name pick) old o = ⊥
+MayLeave (Extract name from) old o = ⊥
+
+-- the place that a command acts on
+abbrev pub subject : World → Command → Option ℕ
+subject w (Create name regions) = next_of w
+subject w (StartPrimary name) = place_of w name
+subject w (Run name jobs order) = place_of w name
+subject w (Stop name) = place_of w name
+subject w (Fuse name calls) = place_of w name
+subject w (Crash name pick) = place_of w name
+subject w (Extract name from) = place_of w name
+
+abbrev pub is_at : Option ℕ → ℕ → Bool
+is_at None i = false
+is_at (Some k) i = k == i
+
+abbrev pub Leaves : Bool → Command → Place → Contents → Type 0
+Leaves true c old o = Among old.outcomes o ⊎ MayLeave c old o
+Leaves false c old o = Among old.outcomes o
+
+-- at a place, once a command was cut off
+pub record LeftAt (here : Bool) (c : Command) (old new : Place) : Type 0 where
+  pub told : new.told ≡ old.told
+  pub outcomes : old.told ≡ true → (o : Contents) → Among new.outcomes o → Leaves here c old o
+
+-- A command that was cut off for want of memory leaves old outcomes, and at its own place those that a fault there might have left.
+abbrev pub CutOff : World → Command → World → Type 0
+CutOff w c m = Along (λ i. LeftAt (is_at (subject w c) i) c) w.places m.places

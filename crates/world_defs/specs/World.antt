@@ -1,8 +1,9 @@
 -- The world of a run between two commands: plain data (GT.M: instances, and what the replication of each one does).
-use Rattle.std.specs.Prelude.{◌≡◌, ℕ, Bool, true, false, List, [], Option, Some, None, slice_get, nat_eq, replicate}
+use Rattle.std.specs.Prelude.{◌≡◌, ℕ, ◌≤◌, Bool, true, false, List, Option, Some, None, slice_get, nat_eq, take}
 use Rattle.std.specs.Cmp.Lexicographic.{pointwise}
+use Rattle.std.specs.List.{AllByRecursion}
 use Rattle.global_defs.specs.Entry.{Stamp, Sequence}
-use Rattle.world_defs.specs.Lists.{first_where}
+use Rattle.world_defs.specs.Lists.{Among, first_where}
 
 -- of a site or a region
 abbrev pub Name : Type 0
@@ -15,30 +16,40 @@ pub data State : Type 0 where
   Down : State
   -- its reign, and the next serials of the 64 updaters, updater u at place u - 1
   Primary : Stamp → (serials : List ℕ) → State
+  -- a call of its disk failed, the one of that number on it
+  Failed : (fault : ℕ) → State
 
 pub record Site : Type 0 where
   pub name : Name
   pub state : State
 
--- Where a site stands, or can be made; its sequence is empty where none stands.
-pub record Place : Type 0 where
-  pub site : Option Site
+-- What the files on one disk stand for, in one image.
+pub record Contents : Type 0 where
+  -- whether a journal was begun there
+  pub begun : Bool
   pub sequence : Sequence
 
--- Sites stand on the first places, in the order of their making.
+-- A disk, and the site on it.
+pub record Place : Type 0 where
+  pub site : Option Site
+  -- whether its files are known; if not, nothing ties what follows to the disk
+  pub told : Bool
+  -- what the files stand for as they read
+  pub now : Contents
+  -- each image stands for one of these
+  pub outcomes : List Contents
+  -- how many calls of the disk have failed
+  pub faults : ℕ
+  -- whether the disk can be made to fail and to crash
+  pub simulated : Bool
+
+-- Sites stand on the first disks, in the order of their making.
 pub record World : Type 0 where
   pub places : List Place
 
 -- how many sites there may be
 abbrev pub MOST_SITES : ℕ
 MOST_SITES = 8
-
-abbrev pub free : Place
-free = record { site = None; sequence = [] }
-
--- the world at the start of a run: no site stands
-abbrev pub fresh : World
-fresh = record { places = replicate MOST_SITES free }
 
 abbrev pub is_site_named : Name → Option Site → Bool
 is_site_named name None = false
@@ -52,9 +63,9 @@ is_free (Some site) = false
 abbrev pub place_of : World → Name → Option ℕ
 place_of w name = first_where (λ p. is_site_named name p.site) w.places
 
--- where the next site is made
+-- the next disk: the first one without a site, where there may be one more
 abbrev pub next_of : World → Option ℕ
-next_of w = first_where (λ p. is_free p.site) w.places
+next_of w = first_where (λ p. is_free p.site) (take MOST_SITES w.places)
 
 abbrev pub at_place : World → Option ℕ → Option Place
 at_place w None = None
@@ -64,7 +75,27 @@ at_place w (Some i) = slice_get w.places i
 abbrev pub site_of : World → Name → Option Place
 site_of w name = at_place w (place_of w name)
 
--- A command that doesn't name this site leaves it so.
+-- the world at the start of a run: no site stands
+abbrev pub IsFresh : World → Type 0
+IsFresh w = AllByRecursion (λ (p : Place). p.site ≡ None) w.places
+
+-- There is no outcome but what is read.
+abbrev pub Settled : Place → Type 0
+Settled p = (o : Contents) → Among p.outcomes o → o ≡ p.now
+
+-- No outcome is new.
+abbrev pub NoNew : List Contents → List Contents → Type 0
+NoNew old new = (o : Contents) → Among new o → Among old o
+
+-- what no command changes of a disk
+pub record Same (old new : Place) : Type 0 where
+  pub told : new.told ≡ old.told
+  pub simulated : new.simulated ≡ old.simulated
+
+-- A command leaves a site that it doesn't act on so.
 pub record Kept (old new : Place) : Type 0 where
   pub site : new.site ≡ old.site
-  pub sequence : new.sequence ≡ old.sequence
+  pub now : new.now ≡ old.now
+  pub outcomes : NoNew old.outcomes new.outcomes
+  pub faults : old.faults ≤ new.faults
+  pub same : Same old new

@@ -4,4 +4,4 @@
 
 mod laws;
 
-pub use laws::{lines_hold, refusals_hold};
+pub use laws::{lines_hold, output_holds, refusals_hold};

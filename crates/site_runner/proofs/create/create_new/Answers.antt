@@ -1,22 +1,45 @@
-use Rattle.std.proofs.Common.{◌≡◌, ◌<◌, ◌∷◌, ◌++◌, [], length, sym, ◌∙◌, ap, subst, List, ℕ, arith}
-use Rattle.std.specs.Prelude.{codes}
-use Rattle.std.proofs.lemmas.Grind.{common_steps}
+use Rattle.std.proofs.Common.{◌≡◌, ℕ, List, [], Some, None, ◌++◌, ◌<◌, length, take, sym, ◌∙◌, ap, subst}
+use Rattle.std.specs.Prelude.{Option, codes}
+use Rattle.world_defs.specs.Lists.{first_where}
 use Rattle.world_defs.specs.Output.{line}
-use Rattle.world_defs.specs.Commands.{Create}
-use Rattle.site_runner.specs.Sites.{Standing}
-use Rattle.site_runner.specs.Executes.{Executes}
-use Rattle.site_runner.proofs.Results.{on_ok}
-use Rattle.site_runner.proofs.Rows.{create_full, create_there}
+use Rattle.world_defs.specs.Commands as commands
+use Rattle.site_runner.specs.declared.slot.Slot.{Slot}
+use Rattle.site_runner.specs.Creating.{CreatesHere}
+use Rattle.site_runner.specs.Here.{IsCutHere}
+use Rattle.site_runner.proofs.Results.{on_ok, on_errs, err_so}
+use Rattle.site_runner.proofs.Lifts.{cut_nothing}
+use Rattle.site_runner.proofs.CreateLifts.{is_slot_free, create_lifted, create_cut, no_disk_left}
 use Rattle.site_runner.proofs.create.create_new.Goals as goal
 
-pub returns-then-len-ge-MOST_SITES-clause-done : goal.returns-then-len-ge-MOST_SITES-clause-done
-returns-then-len-ge-MOST_SITES-clause-done c =
-    on_ok c.write_line.result _ _ c.write_line.ensures (λ t regions. create_full c.args.sites.now.items c.args.name regions c.args.text.now _ c.requires (grind (arith, common_steps, c.if-len-ge-MOST_SITES.true, c.len.ensures))
-    (t ∙ ap (λ (n : List ℕ). c.args.text.now ++ line n (codes "NODISK")) c.as_slice.ensures))
+free_so : {D : Type 0} (slots xs : List (Slot D)) (o : Option ℕ) → xs ≡ slots → o ≡ first_where is_slot_free (take 8 xs) → first_where is_slot_free (take 8 slots) ≡ o
+free_so {D} slots xs o s f = ap (λ (x : List (Slot D)). first_where is_slot_free (take 8 x)) (sym s) ∙ sym f
 
-pub returns-clause-done : goal.returns-clause-done
-returns-clause-done c regions =
-    let few : length c.args.sites.now.items < 8 = grind (arith, common_steps, c.if-len-ge-MOST_SITES.false, c.len.ensures) in
-    let made = create_there c.args.sites.now.items c.args.name regions c.args.text.now c.write_line-2.new.text c.requires few
-    (c.in_ok-write_line.ensures ∙ ap (λ (n : List ℕ). c.args.text.now ++ line n (codes "CREATED")) c.as_slice-2.ensures) in
-    subst (λ (x : List Standing). Executes (Create c.args.name regions) c.args.sites.now.items x c.args.text.now c.write_line-2.new.text) (sym (c.in_ok-push.ensures.items ∙ ap (λ (x : Standing). c.args.sites.now.items ++ x ∷ []) c.new.ensures)) made
+pub returns-in-None-clause-done : goal.returns-in-None-clause-done
+returns-in-None-clause-done g c =
+    on_ok c.write_line.result _ _ c.write_line.ensures (λ t regions. no_disk_left g.D.Disk.disk c.args.name regions c.args.slots.now.items c.args.text.now c.write_line.new.text c.requires.none
+    (free_so c.args.slots.now.items c.deref.result.now None c.deref.ensures.value c.in-None.ensures.place) (t ∙ ap (λ (x : List ℕ). c.args.text.now ++ line x (codes "NODISK")) c.as_slice.ensures))
+
+pub returns-in-None-clause-cut_off : goal.returns-in-None-clause-cut_off
+returns-in-None-clause-cut_off g c = err_so c.write_line.result _ (λ regions. cut_nothing g.D.Disk.disk c.args.slots.now.items (commands.Create c.args.name regions))
+
+pub returns-in-Some-clause-done : goal.returns-in-Some-clause-done
+returns-in-Some-clause-done g c =
+    let xs = c.args.slots.now.items in
+    let i = c.in-Some.i in
+    let d = c.index_mut.result.now in
+    let s = c.create_at.new.slot in
+    let k : i < length xs = subst (λ (x : List (Slot g.row.D.Denot)). i < length x) c.deref.ensures.value c.in-Some.ensures.inside in
+    on_ok c.create_at.result _ _ c.create_at.ensures.done (λ h regions. create_lifted g.D.Disk.disk c.args.name regions xs i d s c.args.text.now c.create_at.new.text k c.requires.none
+    (free_so xs c.deref.result.now (Some i) c.deref.ensures.value c.in-Some.ensures.place)
+    (subst (λ (x : Slot g.row.D.Denot). CreatesHere g.D.Disk.disk c.args.name x s c.args.text.now c.create_at.new.text) c.index_mut.ensures.value h))
+
+pub returns-in-Some-clause-cut_off : goal.returns-in-Some-clause-cut_off
+returns-in-Some-clause-cut_off g c =
+    let xs = c.args.slots.now.items in
+    let i = c.in-Some.i in
+    let d = c.index_mut.result.now in
+    let s = c.create_at.new.slot in
+    let k : i < length xs = subst (λ (x : List (Slot g.row.D.Denot)). i < length x) c.deref.ensures.value c.in-Some.ensures.inside in
+    on_errs c.create_at.result _ _ c.create_at.ensures.cut_off (λ h regions. create_cut g.D.Disk.disk c.args.name regions xs i d s k
+    (free_so xs c.deref.result.now (Some i) c.deref.ensures.value c.in-Some.ensures.place)
+    (subst (λ (x : Slot g.row.D.Denot). IsCutHere g.D.Disk.disk (commands.Create c.args.name []) x s) c.index_mut.ensures.value h))

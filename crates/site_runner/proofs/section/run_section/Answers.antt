@@ -1,27 +1,84 @@
-use Rattle.std.proofs.Common.{◌≡◌, ◌<◌, length, Some, sym, ◌∙◌, ap, subst, List}
-use Rattle.site_runner.specs.Sites.{Standing, is_standing_named}
-use Rattle.site_runner.specs.Executes.{DecidesSo}
-use Rattle.site_runner.proofs.Results.{on_ok}
-use Rattle.site_runner.proofs.Worlds.{named, found_is, is_named_so}
-use Rattle.site_runner.proofs.Rows.{run_none, run_there}
+use Rattle.std.proofs.Common.{Bool, ◌≡◌, ◌++◌, ◌+◌, ◌∷◌, ℕ, List, length, ◌∙◌, ap, sym, subst, arith}
+use Rattle.std.proofs.lemmas.Grind.{common_steps}
+use Rattle.std.specs.Prelude.{codes}
+use Rattle.std.specs.Fmt.{decimal}
+use Rattle.world_defs.specs.Output.{line, fault_line}
+use Rattle.world_defs.specs.World.{Contents}
+use Rattle.site_journal.specs.Reigns.{Reigns}
+use Rattle.site_journal.specs.Deciding.{Breaks, IsFault}
+use Rattle.site_journal.specs.declared.running.RunError.{RunError}
+use Rattle.site_runner.specs.Sites.{IsReadyState}
+use Rattle.site_runner.proofs.Results.{on_ok, err_holds}
+use Rattle.site_runner.proofs.Ran.{run_failed_before, run_down, ran, ran_to_fault, run_cut, run_cut_any, decided_front}
 use Rattle.site_runner.proofs.section.run_section.Goals as goal
 
-pub run_site-requires-clause-named : goal.run_site-requires-clause-named
-run_site-requires-clause-named c =
-    let ss = c.args.sites.now.items in
-    let e : named c.args.name.now ss ≡ Some c.in-Some.i = ap (λ (x : List Standing). named c.args.name.now x) (sym c.deref.ensures.value) ∙ sym c.find.ensures.place ∙ c.in-Some.is in
-    ap (is_standing_named c.args.name.now) c.index_mut.ensures.value ∙ found_is (is_standing_named c.args.name.now) ss c.in-Some.i c.index_mut.result.now e
+pub returns-in-Down-clause-done : goal.returns-in-Down-clause-done
+returns-in-Down-clause-done g c =
+    on_ok c.write_line.result _ _ c.write_line.ensures (λ t. run_down (g.D.Disk.disk c.args.disk.now) c.args.site.now c.args.jobs.items c.args.text.now _ c.in-Down.is
+    (t ∙ ap (λ (n : List ℕ). c.args.text.now ++ line n (codes "NOTPRIMARY")) c.as_slice.ensures))
 
-pub returns-in-None-clause-done : goal.returns-in-None-clause-done
-returns-in-None-clause-done c =
-    on_ok c.write_line.result _ _ c.write_line.ensures (λ t. run_none c.args.sites.now.items c.args.name.now c.args.jobs.items c.args.text.now _
-    (ap (λ (x : List Standing). named c.args.name.now x) (sym c.deref.ensures.value) ∙ sym c.find.ensures.place ∙ c.in-None.is) t)
+pub returns-in-Failed-clause-done : goal.returns-in-Failed-clause-done
+returns-in-Failed-clause-done g c =
+    on_ok c.write_numbered.result _ _ c.write_numbered.ensures (λ t. run_failed_before (g.D.Disk.disk c.args.disk.now) c.args.site.now c.args.jobs.items c.in-Failed.fault c.args.text.now _ c.in-Failed.is
+    (t ∙ ap (λ (n : List ℕ). c.args.text.now ++ line n (codes "STOPPED " ++ decimal c.in-Failed.fault)) c.as_slice-in-Failed.ensures))
 
-pub returns-in-Some-clause-done : goal.returns-in-Some-clause-done
-returns-in-Some-clause-done c =
-    let ss = c.args.sites.now.items in
-    let d = c.index_mut.result.now in
-    let e : named c.args.name.now ss ≡ Some c.in-Some.i = ap (λ (x : List Standing). named c.args.name.now x) (sym c.deref.ensures.value) ∙ sym c.find.ensures.place ∙ c.in-Some.is in
-    let k : c.in-Some.i < length ss = subst (λ (x : List Standing). c.in-Some.i < length x) c.deref.ensures.value c.in-Some.ensures.inside in
-    on_ok c.run_site.result _ _ c.run_site.ensures.done (λ t. run_there ss c.args.name.now c.args.jobs.items c.in-Some.i d c.run_site.new.site c.args.text.now _ e k (is_named_so ss c.args.name.now c.in-Some.i d e)
-    (subst (λ (s : Standing). DecidesSo c.args.name.now c.args.jobs.items s c.run_site.new.site c.args.text.now c.run_site.new.text) c.index_mut.ensures.value t))
+pub run-requires-clause-ready : goal.run-requires-clause-ready
+run-requires-clause-ready g c = subst (IsReadyState (g.D.Disk.disk c.args.disk.now)) c.in-Primary.is c.requires.ready
+
+pub returns-in_err-write_undecided-in-Err-Failed-clause-cut_off : goal.returns-in_err-write_undecided-in-Err-Failed-clause-cut_off
+returns-in_err-write_undecided-in-Err-Failed-clause-cut_off g c =
+    let v = g.D.Disk.disk c.args.disk.now in
+    let w = g.D.Disk.disk c.run.new.disk in
+    let e = c.in-Err-Failed.ensures in
+    let n = c.as_slice-2.result.now in
+    let r = c.in-Primary.reign in
+    let jobs = c.args.jobs.items in
+    let breaks = subst (λ (x : RunError). (told : Bool) (d : Contents) → Reigns v n told d r → Breaks x w n told d jobs r.serials c.args.text.now c.run.new.text) c.in-Err-Failed.field-0-is e.breaks in
+    err_holds c.from_residual.result _ (run_cut v w c.args.site.now r n jobs (g.met.D.Disk.lawful c.run.new.disk) c.as_slice-2.ensures c.in-Primary.is e.simulated
+    (λ told d reigns. let b = breaks told d reigns in (b.0, b.1.hardened, b.1.begun, b.1.front)))
+
+pub returns-in-Ok-clause-done : goal.returns-in-Ok-clause-done
+returns-in-Ok-clause-done g c =
+    let v = g.D.Disk.disk c.args.disk.now in
+    let w = g.D.Disk.disk c.run.new.disk in
+    let e = c.in-Ok.ensures in
+    let long : c.len-length.result ≡ length c.run.new.self.entries.items = grind (arith, common_steps, c.len-length.ensures) in
+    on_ok c.write_numbered-in-Ok.result _ _ c.write_numbered-in-Ok.ensures (λ t.
+    ran v w c.args.site.now c.in-Primary.reign c.run.new.self c.as_slice-2.result.now c.args.jobs.items c.args.text.now c.run.new.text _ c.as_slice-2.ensures c.in-Primary.is e.simulated e.later e.done
+    (t ∙ ap (λ (n : List ℕ). c.run.new.text ++ line n (codes "AT " ++ decimal c.len-length.result)) c.as_slice-in-Ok.ensures
+    ∙ ap (λ (k : ℕ). c.run.new.text ++ line c.args.site.now.name (codes "AT " ++ decimal k)) long))
+
+pub returns-in-Ok-clause-cut_off : goal.returns-in-Ok-clause-cut_off
+returns-in-Ok-clause-cut_off g c =
+    let v = g.D.Disk.disk c.args.disk.now in
+    let w = g.D.Disk.disk c.run.new.disk in
+    let e = c.in-Ok.ensures in
+    let n = c.as_slice-2.result.now in
+    let law = g.met.D.Disk.lawful c.run.new.disk in
+    err_holds c.write_numbered-in-Ok.result _ (run_cut v w c.args.site.now c.in-Primary.reign n c.args.jobs.items law c.as_slice-2.ensures c.in-Primary.is e.simulated
+    (λ told d reigns. decided_front w n told d c.args.jobs.items c.in-Primary.reign c.run.new.self c.args.text.now c.run.new.text law (e.done told d reigns)))
+
+pub returns-in_ok-write_undecided-in-Err-Failed-clause-done : goal.returns-in_ok-write_undecided-in-Err-Failed-clause-done
+returns-in_ok-write_undecided-in-Err-Failed-clause-done g c =
+    let v = g.D.Disk.disk c.args.disk.now in
+    let w = g.D.Disk.disk c.run.new.disk in
+    let e = c.in-Err-Failed.ensures in
+    let n = c.as_slice-2.result.now in
+    let r = c.in-Primary.reign in
+    let jobs = c.args.jobs.items in
+    let breaks = subst (λ (x : RunError). (told : Bool) (d : Contents) → Reigns v n told d r → Breaks x w n told d jobs r.serials c.args.text.now c.run.new.text) c.in-Err-Failed.field-0-is e.breaks in
+    ran_to_fault v w c.args.site.now r n jobs c.faults-fault.result c.in-Err-Failed.undecided c.args.text.now c.run.new.text _ (g.met.D.Disk.lawful c.run.new.disk) c.as_slice-2.ensures c.in-Primary.is e.simulated c.faults-fault.ensures
+    (e.cause (subst IsFault (sym c.in-Err-Failed.field-0-is) tt)) breaks
+    (c.in_ok-write_undecided-in-Err-Failed.ensures ∙ ap (λ (u : ℕ). c.run.new.text ++ fault_line c.as_slice-in-Err-Failed.result.now c.faults-fault.result u) c.in-Err-Failed.undecided-is
+    ∙ ap (λ (x : List ℕ). c.run.new.text ++ fault_line x c.faults-fault.result c.in-Err-Failed.undecided) c.as_slice-in-Err-Failed.ensures)
+
+pub returns-in-Err-NoMemory-clause-cut_off : goal.returns-in-Err-NoMemory-clause-cut_off
+returns-in-Err-NoMemory-clause-cut_off g c =
+    let v = g.D.Disk.disk c.args.disk.now in
+    let w = g.D.Disk.disk c.run.new.disk in
+    let e = c.in-Err-NoMemory.ensures in
+    let n = c.as_slice-2.result.now in
+    let r = c.in-Primary.reign in
+    let jobs = c.args.jobs.items in
+    let breaks = subst (λ (x : RunError). (told : Bool) (d : Contents) → Reigns v n told d r → Breaks x w n told d jobs r.serials c.args.text.now c.run.new.text) c.in-Err-NoMemory.field-0-is e.breaks in
+    run_cut_any v w c.args.site.now r n jobs (g.met.D.Disk.lawful c.run.new.disk) c.as_slice-2.ensures c.in-Primary.is e.simulated breaks

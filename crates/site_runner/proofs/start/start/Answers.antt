@@ -1,27 +1,17 @@
-use Rattle.std.proofs.Common.{◌≡◌, ◌<◌, length, Some, sym, ◌∙◌, ap, subst, List}
-use Rattle.site_runner.specs.Sites.{Standing, is_standing_named}
-use Rattle.site_runner.specs.Executes.{StartsSo}
+use Rattle.std.proofs.Common.{◌++◌, ℕ, List, ◌∙◌, ap}
+use Rattle.std.specs.Prelude.{codes}
+use Rattle.std.specs.Fmt.{decimal}
+use Rattle.world_defs.specs.Output.{line}
 use Rattle.site_runner.proofs.Results.{on_ok}
-use Rattle.site_runner.proofs.Worlds.{named, found_is}
-use Rattle.site_runner.proofs.Rows.{start_none, start_there}
+use Rattle.site_runner.proofs.Started.{start_failed_before, start_running}
 use Rattle.site_runner.proofs.start.start.Goals as goal
 
-pub start_site-requires : goal.start_site-requires
-start_site-requires c =
-    let ss = c.args.sites.now.items in
-    let e : named c.args.name.now ss ≡ Some c.in-Some.i = ap (λ (x : List Standing). named c.args.name.now x) (sym c.deref.ensures.value) ∙ sym c.find.ensures.place ∙ c.in-Some.is in
-    ap (is_standing_named c.args.name.now) c.index_mut.ensures.value ∙ found_is (is_standing_named c.args.name.now) ss c.in-Some.i c.index_mut.result.now e
+pub returns-in-Failed-clause-done : goal.returns-in-Failed-clause-done
+returns-in-Failed-clause-done g c =
+    on_ok c.write_numbered.result _ _ c.write_numbered.ensures (λ t. start_failed_before (g.D.Disk.disk c.args.disk.now) c.args.site.now c.in-Failed.fault c.args.text.now _ c.in-Failed.is
+    (t ∙ ap (λ (n : List ℕ). c.args.text.now ++ line n (codes "STOPPED " ++ decimal c.in-Failed.fault)) c.as_slice.ensures))
 
-pub returns-in-None-clause-done : goal.returns-in-None-clause-done
-returns-in-None-clause-done c =
-    on_ok c.write_line.result _ _ c.write_line.ensures (λ t. start_none c.args.sites.now.items c.args.name.now c.args.text.now _
-    (ap (λ (x : List Standing). named c.args.name.now x) (sym c.deref.ensures.value) ∙ sym c.find.ensures.place ∙ c.in-None.is) t)
-
-pub returns-in-Some-clause-done : goal.returns-in-Some-clause-done
-returns-in-Some-clause-done c =
-    let ss = c.args.sites.now.items in
-    let d = c.index_mut.result.now in
-    let e : named c.args.name.now ss ≡ Some c.in-Some.i = ap (λ (x : List Standing). named c.args.name.now x) (sym c.deref.ensures.value) ∙ sym c.find.ensures.place ∙ c.in-Some.is in
-    let k : c.in-Some.i < length ss = subst (λ (x : List Standing). c.in-Some.i < length x) c.deref.ensures.value c.in-Some.ensures.inside in
-    on_ok c.start_site.result _ _ c.start_site.ensures.done (λ t. start_there ss c.args.name.now c.in-Some.i d c.start_site.new.site c.args.text.now _ e k
-    (subst (λ (s : Standing). StartsSo c.args.name.now s c.start_site.new.site c.args.text.now c.start_site.new.text) c.index_mut.ensures.value t))
+pub returns-in-Primary-clause-done : goal.returns-in-Primary-clause-done
+returns-in-Primary-clause-done g c =
+    on_ok c.write_line.result _ _ c.write_line.ensures (λ t. start_running (g.D.Disk.disk c.args.disk.now) c.args.site.now c.in-Primary.field-0 c.args.text.now _ c.in-Primary.is
+    (t ∙ ap (λ (n : List ℕ). c.args.text.now ++ line n (codes "RUNNING")) c.as_slice-in-Primary.ensures))

@@ -1,6 +1,36 @@
-use Rattle.site_runner.proofs.Complete.{complete}
+use Rattle.std.proofs.Common.{List, sym, subst}
+use Rattle.world_defs.specs.World.{World}
+use Rattle.world_defs.specs.Ties.{AreDisks}
+use Rattle.site_runner.specs.Tied.{Matched}
+use Rattle.site_runner.specs.Ends.{RanTo}
+use Rattle.site_runner.proofs.Inputs.{if_some}
+use Rattle.site_runner.proofs.Complete.{complete, not_run, not_begun}
+use Rattle.site_runner.proofs.Moved.{tied_fresh, are_disks, free_ready}
 use Rattle.site_runner.proofs.top.run.Goals as goal
 
-pub returns-then-is_run-clause-complete : goal.returns-then-is_run-clause-complete
-returns-then-is_run-clause-complete g c input w e s f k =
-    complete c.run_script.result _ input _ _ e s c.run_script.ensures.words c.run_script.ensures.too_long c.run_script.ensures.bad_line c.run_script.ensures.source c.run_script.ensures.sink f k
+pub returns-then-not-is_run-clause-meaning : goal.returns-then-not-is_run-clause-meaning
+returns-then-not-is_run-clause-meaning g c w h f = not_run w _ _ (AreDisks g.D.Disk.disk c.args.disks.now.items) h
+
+pub returns-in-Err-clause-meaning : goal.returns-in-Err-clause-meaning
+returns-in-Err-clause-meaning g c w h f =
+    not_begun w _ _ (AreDisks g.D.Disk.disk c.take_disks.new.disks.items) (subst (λ (x : List g.row.D.Denot). AreDisks g.D.Disk.disk x w) (sym c.in-Err.ensures.kept) h)
+
+pub returns-in-Ok-clause-meaning : goal.returns-in-Ok-clause-meaning
+returns-in-Ok-clause-meaning g c w h f =
+    let view = g.D.Disk.disk in
+    let slots = c.run_script-status.new.slots.items in
+    let status = c.run_script-status.result in
+    let left = g.S.Source.left c.run_script-status.new.script in
+    let old = g.K.Sink.written c.args.out.now in
+    let new = g.K.Sink.written c.run_script-status.new.out in
+    if_some (g.S.Source.left c.args.script.now) (λ input. (after : World) × Matched view slots after × RanTo status input left w after old new) _
+    (λ input (after, m, r). (after, are_disks view slots c.give_back.new.disks.items after c.give_back.ensures m, r))
+    (c.run_script-status.ensures.meaning w (tied_fresh view c.args.disks.now.items c.in-Ok.slots.items w c.in-Ok.ensures.taken h f))
+
+pub returns-in-Ok-clause-complete : goal.returns-in-Ok-clause-complete
+returns-in-Ok-clause-complete g c input w e s f k =
+    let r = c.run_script-status.ensures in
+    complete c.run_script-status.result _ input _ _ e s r.words r.too_long r.bad_line r.source r.sink f k
+
+pub run_script-status-requires : goal.run_script-status-requires
+run_script-status-requires g c = free_ready g.D.Disk.disk c.args.disks.now.items c.in-Ok.slots.items c.in-Ok.ensures.taken

@@ -1,0 +1,4 @@
+pub mod Zips
+pub mod Steps
+pub mod Walk
+pub mod Making

@@ -1,0 +1,5 @@
+pub mod Records
+pub mod Journal
+pub mod Reading
+pub mod Begin
+pub mod Errors

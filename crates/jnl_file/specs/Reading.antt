@@ -1,0 +1,52 @@
+-- Reading a journal from a place on.
+use Rattle.std.specs.Prelude.{◌≡◌, ◌⊎◌, ℕ, ◌+◌, Bool, true, false, List, [], ◌∷◌, ◌++◌, length, drop, Option, Some, None}
+use Rattle.std.specs.List.{AllZip}
+use Rattle.disk_defs.specs.Gates.{Body, Open, Shut, NoGate, gate_at, records, spelled}
+use Rattle.journal_defs.specs.Journal.{JournalRecord, Pini, Epoch, Pblk, Tcom, IsJournalBody, IsNoPini, BeginsWithPini}
+use Rattle.journal_defs.specs.FileGrowth.{MayFollow}
+use Rattle.journal_defs.specs.Stands.{Holds}
+use Rattle.gated_file.specs.Reading.{IsOutside}
+use Rattle.jnl_record.specs.Values.{record_value}
+use Rattle.jnl_record.specs.declared.record.JnlRecord.{JnlRecord}
+
+-- A record behind an open gate and the next gate's place; or a closed gate.
+abbrev pub FindsRecord : List ℕ → ℕ → Option (JnlRecord × ℕ) → Type 0
+FindsRecord file at None = gate_at file at ≡ Shut
+FindsRecord file at (Some found) = (body : Body) × (gate_at file at ≡ Open body (drop found.1 file)) × (found.1 ≡ at + 5 + length body) × IsJournalBody body (record_value found.0)
+
+-- no gate of the format, or an open gate with a body of no record
+abbrev pub IsNoRecord : List ℕ → ℕ → Type 0
+IsNoRecord file at = (gate_at file at ≡ NoGate) ⊎ ((body : Body) × (next : ℕ) × (gate_at file at ≡ Open body (drop next file)) × ((r : JournalRecord) → IsJournalBody body r → ⊥))
+
+-- the PINI of this region and generation
+abbrev pub IsPiniOf : ℕ → ℕ → JournalRecord → Type 0
+IsPiniOf region generation (Pini s) = (s.region ≡ region) × (s.generation ≡ generation)
+IsPiniOf region generation (Epoch m) = ⊥
+IsPiniOf region generation (Pblk b) = ⊥
+IsPiniOf region generation (Tcom p) = ⊥
+
+-- the first record is that PINI, and no other one is a PINI
+abbrev pub MayStand : Bool → ℕ → ℕ → JournalRecord → Type 0
+MayStand true region generation r = IsPiniOf region generation r
+MayStand false region generation r = IsNoPini r
+
+-- The file has these records, and they are those of a journal of this region and generation.
+pub record IsJournalFile (region generation : ℕ) (file : List ℕ) (rs : List JournalRecord) : Type 0 where
+  pub held : Holds IsJournalBody file rs
+  pub previous : ℕ
+  pub begins : BeginsWithPini region generation previous rs
+
+-- The body at this place belongs to no record, or to one that can't follow those before it in a journal of this region and generation.
+pub record HasWrongRecord (region generation : ℕ) (file : List ℕ) (offset : ℕ) : Type 0 where
+  pub before : List Body
+  pub body : Body
+  pub after : List Body
+  pub list : records file ≡ Some (before ++ body ∷ after)
+  pub place : offset ≡ length (spelled 1 before)
+  pub earlier : List JournalRecord
+  pub spelled_before : AllZip IsJournalBody before earlier
+  pub wrong : (r : JournalRecord) (previous : ℕ) → IsJournalBody body r → MayFollow region generation previous earlier (r ∷ []) → ⊥
+
+-- at this place is no gate of the format, or a wrong record
+abbrev pub IsOutsideJournal : ℕ → ℕ → List ℕ → ℕ → Type 0
+IsOutsideJournal region generation file offset = IsOutside file offset ⊎ HasWrongRecord region generation file offset

@@ -1,0 +1,4 @@
+mod Chains
+mod ItemLists
+mod Pushes
+mod Records

@@ -1,0 +1,15 @@
+//! The records of a region's journal, as bytes and back.
+#![tactic(auto)]
+
+mod fields;
+mod kinds;
+mod parts;
+mod reading;
+mod record;
+#[cfg(test)]
+mod tests;
+mod writing;
+
+pub use reading::decode;
+pub use record::{JnlRecord, RecordError};
+pub use writing::encode;

@@ -1,0 +1,97 @@
+-- FUSE and CRASH at a place.
+use Rattle.std.proofs.Common.{◌≡◌, ℕ, ◌≤◌, Bool, true, false, List, [], ◌∷◌, ◌++◌, None, Some, refl, sym, ◌∙◌, ap, subst, arith, inl, inr}
+use Rattle.std.specs.Prelude.{Option, codes, IfSome, IsSome, IsSomeAnd, IsTrue}
+use Rattle.std.specs.Fmt.{decimal}
+use Rattle.disk_defs.specs.Disk.{Files, View, Image, IsLawful, Reads, Same}
+use Rattle.world_defs.specs.Lists.{Among}
+use Rattle.world_defs.specs.World as world
+use Rattle.world_defs.specs.World.{Name, Contents, Place}
+use Rattle.world_defs.specs.Commands.{Fuse, Crash}
+use Rattle.world_defs.specs.Answers.{Cause, Stopped, NotRunning, NotSimulated, Done}
+use Rattle.world_defs.specs.Refusals.{in_state, stopped, not_running, not_simulated}
+use Rattle.world_defs.specs.Rows.{in_new_state, Crashes}
+use Rattle.world_defs.specs.Output.{line}
+use Rattle.world_defs.specs.Ties.{Stands, Matches, name_on}
+use Rattle.site_runner.specs.declared.slot.State.TheVariants.{Down}
+use Rattle.site_runner.specs.declared.slot.Site.{Site}
+use Rattle.site_runner.specs.Sites.{is_down, fault_of}
+use Rattle.site_runner.specs.Steps.{IsAt, ExecutesAt}
+use Rattle.site_runner.proofs.Fused.{state_read}
+use Rattle.site_runner.proofs.Ats.{refuses, state_at, is_stopped, not_stopped, is_not_running, is_running, first_cause, second_cause, no_cause, pick_one, same_name_on, files_of, kept_same}
+
+pub fuse_stopped : (v : View) (s : Site) (calls k : ℕ) (before now : List ℕ) → fault_of s.state ≡ Some k → now ≡ before ++ line s.name (codes "STOPPED " ++ decimal k) → ExecutesAt (Fuse s.name calls) v s v s before now
+fuse_stopped v s calls k before now e t = refuses (Fuse s.name calls) v s (Stopped k) before now refl (λ p h. first_cause _ _ (Stopped k) (state_at stopped v s p h ∙ is_stopped s.name s.state k e)) t
+
+simulated_at : (v : View) (s : Site) (p : Place) (b : Bool) → IsAt v s p → b ≡ v.simulated → not_simulated p.simulated ≡ not_simulated b
+simulated_at v s p b h e = ap not_simulated (sym h.disk.simulated ∙ sym e)
+
+pub fuse_real : (v : View) (s : Site) (calls : ℕ) (before now : List ℕ) → fault_of s.state ≡ None → false ≡ v.simulated → now ≡ before ++ line s.name (codes "NOTSIMULATED") → ExecutesAt (Fuse s.name calls) v s v s before now
+fuse_real v s calls before now e f t = refuses (Fuse s.name calls) v s NotSimulated before now refl (λ p h. second_cause _ _ NotSimulated (state_at stopped v s p h ∙ not_stopped s.name s.state e) (simulated_at v s p false h f)) t
+
+pub crash_down : (v : View) (s : Site) (pick : ℕ) (before now : List ℕ) → is_down s.state ≡ true → now ≡ before ++ line s.name (codes "NOTRUNNING") → ExecutesAt (Crash s.name pick) v s v s before now
+crash_down v s pick before now e t = refuses (Crash s.name pick) v s NotRunning before now refl (λ p h. first_cause _ _ NotRunning (state_at not_running v s p h ∙ is_not_running s.name s.state e)) t
+
+pub crash_real : (v : View) (s : Site) (pick : ℕ) (before now : List ℕ) → is_down s.state ≡ false → false ≡ v.simulated → now ≡ before ++ line s.name (codes "NOTSIMULATED") → ExecutesAt (Crash s.name pick) v s v s before now
+crash_real v s pick before now e f t = refuses (Crash s.name pick) v s NotSimulated before now refl (λ p h. second_cause _ _ NotSimulated (state_at not_running v s p h ∙ is_running s.name s.state e) (simulated_at v s p false h f)) t
+
+pub only : (o d : Contents) → Among (d ∷ []) o → o ≡ d
+only o d (inl h) = h
+only o d (inr h) = absurd h
+
+pub crashes : (v w : View) (s : Site) (pick : ℕ) (before now : List ℕ) → IsLawful w → true ≡ v.simulated → is_down s.state ≡ false → IfSome w.content (Image v)
+    → IfSome w.content (λ files. (c : Files) → Image w c → c ≡ files) → w.simulated ≡ v.simulated → w.faults ≡ v.faults → now ≡ before ++ line s.name (codes "CRASHED")
+    → ExecutesAt (Crash s.name pick) v s w (record { name = s.name; state = Down }) before now
+crashes v w s pick before now law sim up image durable same count t p h =
+    let d = files_of w.content (law.told (same ∙ sym sim)) in
+    let f : Files = d.0 in
+    let i : Image v f = subst (λ (o : Option Files). IfSome o (Image v)) d.1 image in
+    let u : (c : Files) → Image w c → c ≡ f = subst (λ (o : Option Files). IfSome o (λ files. (c : Files) → Image w c → c ≡ files)) d.1 durable in
+    let n = name_on p.site in
+    let m = pick_one p.told p.now (λ o. Unit {0}) (λ o. Among p.outcomes o × Stands n f o) tt (λ yes. let k = h.disk.images yes f i in (k.0, tt, (k.1, k.2))) in
+    let o : Contents = m.0 in
+    let q : Place = record { site = in_new_state world.Down p.site; told = p.told; now = o; outcomes = o ∷ []; faults = p.faults; simulated = p.simulated } in
+    let e = sym (same_name_on world.Down p.site) in (
+      Done, q,
+      (no_cause _ _ (state_at not_running v s p h ∙ is_running s.name s.state up) (simulated_at v s p true h sim), record {
+        chosen = λ yes. (m.2 yes).0;
+        becomes = record { site = refl; now = refl; outcomes = refl; faults = omega arith; same = record { told = refl; simulated = refl } };
+      }),
+      record {
+        disk = record {
+          told = λ yes. subst (λ (x : Option Files). IsSomeAnd x (λ files. Stands (name_on q.site) files o)) (sym d.1) (subst (λ (x : Name). Stands x f o) e (m.2 yes).1);
+          images = λ yes c j. (o, inl refl, subst (λ (x : Files). Stands (name_on q.site) x o) (sym (u c j)) (subst (λ (x : Name). Stands x f o) e (m.2 yes).1));
+          faults = count ∙ h.disk.faults;
+          simulated = same ∙ h.disk.simulated;
+        };
+        site = ap (in_new_state world.Down) h.site;
+        held = record {
+          made = λ yes. record {
+            now = (h.held.made yes).outcomes o (m.2 yes).0;
+            outcomes = λ x j. subst (λ (y : Contents). y.begun ≡ true) (sym (only x o j)) ((h.held.made yes).outcomes o (m.2 yes).0);
+          };
+          state = tt;
+        };
+      },
+      t,
+    )
+
+-- a call that reads leaves a site as it is
+pub fused : (v w : View) (s : Site) (calls : ℕ) (before now : List ℕ) → Reads v w → w.faults ≡ v.faults → true ≡ v.simulated → fault_of s.state ≡ None
+    → now ≡ before ++ line s.name (codes "FUSED " ++ decimal calls) → ExecutesAt (Fuse s.name calls) v s w s before now
+fused v w s calls before now r count sim up t p h = (
+    Done, p,
+    (no_cause _ _ (state_at stopped v s p h ∙ not_stopped s.name s.state up) (simulated_at v s p true h sim), kept_same p),
+    record {
+      disk = record {
+        told = λ yes. subst (λ (x : Option Files). IsSomeAnd x (λ files. Stands (name_on p.site) files p.now)) (sym r.content) (h.disk.told yes);
+        images = λ yes c j.
+            let k = r.passes.images c j in
+            h.disk.images yes c (subst (Image v) (sym k.2) k.1);
+        faults = count ∙ h.disk.faults;
+        simulated = r.passes.simulated ∙ h.disk.simulated;
+      };
+      site = h.site;
+      held = record { made = h.held.made; state = state_read v w s.name s.state p r h.held.state };
+    },
+    t,
+  )

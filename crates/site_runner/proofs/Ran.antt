@@ -1,0 +1,356 @@
+-- RUN at a place.
+use Rattle.std.proofs.Common.{◌≡◌, ℕ, zero, suc, ◌+◌, ◌-◌, ◌≤◌, Bool, true, false, List, [], ◌∷◌, ◌++◌, length, take, map, None, Some, refl, sym, ◌∙◌, ap, subst, arith, inl, inr, append_assoc}
+use Rattle.std.specs.Prelude.{◌⊎◌, Option, codes, IfSome, IsSome, IsSomeAnd, IsTrue}
+use Rattle.std.specs.Fmt.{decimal}
+use Rattle.std.specs.List.{flat_map, enumerate_from, AllByRecursion}
+use Rattle.std.proofs.lemmas.Bool.{false≢true}
+use Rattle.std.proofs.lemmas.List.{length-map}
+use Rattle.disk_defs.specs.Disk.{Files, View, Image, IsLawful, Rose}
+use Rattle.global_defs.specs.Entry.{Update, Sequence, Entry}
+use Rattle.global_defs.specs.Jobs.{Job}
+use Rattle.global_defs.specs.Serial.{Turn, Replied}
+use Rattle.gvn_model.specs.declared.entry.Entry as code
+use Rattle.site_journal.specs.declared.reign.Reign.{Reign}
+use Rattle.site_journal.specs.Jobs.{job_value, updater_of}
+use Rattle.site_journal.specs.Reigns.{Reigns, Remembers, tagged}
+use Rattle.site_journal.specs.Deciding.{HasDecided, MayHaveFront, MayLeave, FailsAt, turn_after, turn_with}
+use Rattle.world_defs.specs.Lists.{Among}
+use Rattle.world_defs.specs.World as world
+use Rattle.world_defs.specs.World.{Name, Contents, Place}
+use Rattle.world_defs.specs.Commands.{Run}
+use Rattle.world_defs.specs.Answers.{Cause, Stopped, NotPrimary, Section, Ran}
+use Rattle.world_defs.specs.Refusals.{first, in_state, stopped, not_primary}
+use Rattle.world_defs.specs.Rows.{in_new_state, reign_of, with_sequence, IsFrontOf, Becomes, turn_of}
+use Rattle.world_defs.specs.Step.{RunsTo, RunMayLeaveOn}
+use Rattle.world_defs.specs.Output.{line, fault_line, reply_line, printed, section_text, turn_on}
+use Rattle.world_defs.specs.Ties.{Stands, Matches, name_on}
+use Rattle.site_runner.specs.declared.slot.State.{State}
+use Rattle.site_runner.specs.declared.slot.State.TheVariants.{Down, Primary, Failed}
+use Rattle.site_runner.specs.declared.slot.Site.{Site}
+use Rattle.site_runner.specs.Sites.{state_value, site_value, HoldsState, IsOpen}
+use Rattle.site_runner.specs.Here.{tests}
+use Rattle.site_runner.specs.Steps.{IsAt, ExecutesAt, IsCutAt}
+use Rattle.site_runner.proofs.Ats.{refuses, state_at, first_cause, second_cause, no_cause, pick_one, same_name_on, files_of, told_is, read_kept}
+use Rattle.site_runner.proofs.Crashed.{only}
+use Rattle.site_runner.proofs.Started.{reads_settled, images_settled}
+
+abbrev pub jobs_of : List (List Update) → List (List Job)
+jobs_of jobs = map job_value jobs ∷ []
+
+pub run_failed_before : (v : View) (s : Site) (jobs : List (List Update)) (k : ℕ) (before now : List ℕ) → s.state ≡ Failed k → now ≡ before ++ line s.name (codes "STOPPED " ++ decimal k)
+    → ExecutesAt (Run s.name (jobs_of jobs) (map updater_of jobs)) v s v (record { name = s.name; state = Failed k }) before now
+run_failed_before v s jobs k before now e t =
+    subst (λ (x : State). ExecutesAt (Run s.name (jobs_of jobs) (map updater_of jobs)) v s v (record { name = s.name; state = x }) before now) e
+    (refuses (Run s.name (jobs_of jobs) (map updater_of jobs)) v s (Stopped k) before now refl (λ p h. first_cause _ _ (Stopped k) (state_at stopped v s p h ∙ ap (λ (x : State). stopped (state_value s.name x)) e)) t)
+
+pub run_down : (v : View) (s : Site) (jobs : List (List Update)) (before now : List ℕ) → s.state ≡ Down → now ≡ before ++ line s.name (codes "NOTPRIMARY") → ExecutesAt (Run s.name (jobs_of jobs) (map updater_of jobs)) v s v s before now
+run_down v s jobs before now e t =
+    refuses (Run s.name (jobs_of jobs) (map updater_of jobs)) v s NotPrimary before now refl
+    (λ p h. second_cause _ _ NotPrimary (state_at stopped v s p h ∙ ap (λ (x : State). stopped (state_value s.name x)) e) (state_at not_primary v s p h ∙ ap (λ (x : State). not_primary (state_value s.name x)) e)) t
+
+none_primary : (v : View) (s : Site) (r : Reign) (jobs : List (List Update)) (p : Place) → s.state ≡ Primary r → IsAt v s p → first (tests (Run s.name (jobs_of jobs) (map updater_of jobs)) p) ≡ None
+none_primary v s r jobs p e h = no_cause _ _ (state_at stopped v s p h ∙ ap (λ (x : State). stopped (state_value s.name x)) e) (state_at not_primary v s p h ∙ ap (λ (x : State). not_primary (state_value s.name x)) e)
+
+site_is : (v : View) (s : Site) (r : Reign) (p : Place) → s.state ≡ Primary r → IsAt v s p → p.site ≡ Some (record { name = s.name; state = world.Primary (reign_of s.name) r.serials })
+site_is v s r p e h = h.site ∙ ap (λ (x : State). Some (site_value (record { name = s.name; state = x }))) e
+
+pub reigns_at : (v : View) (s : Site) (r : Reign) (p : Place) → s.state ≡ Primary r → IsAt v s p → Reigns v s.name p.told p.now r
+reigns_at v s r p e h = let open_at : IsOpen v s.name r p = subst (λ (x : State). HoldsState v s.name x p) e h.held.state in open_at.reigns
+
+-- the fronts of a sequence with so many entries and up to d more
+abbrev pub fronts : Contents → Sequence → ℕ → ℕ → List Contents
+fronts c all low zero = with_sequence c (take low all) ∷ []
+fronts c all low (suc d) = with_sequence c (take (low + suc d) all) ∷ fronts c all low d
+
+are_fronts : (c : Contents) (all : Sequence) (low d : ℕ) → low + d ≤ length all → (o : Contents) → Among (fronts c all low d) o → IsFrontOf all low c o
+are_fronts c all low zero le o (inl h) = record { count = low; least = omega arith; most = omega (arith, le); is = h }
+are_fronts c all low zero le o (inr h) = absurd h
+are_fronts c all low (suc d) le o (inl h) = record { count = low + suc d; least = omega arith; most = le; is = h }
+are_fronts c all low (suc d) le o (inr h) = are_fronts c all low d (omega (arith, le)) o h
+
+nat_cases : (i d : ℕ) → i ≤ suc d → (i ≡ suc d) ⊎ (i ≤ d)
+nat_cases zero d le = inr (omega arith)
+nat_cases (suc i) zero le = inl (omega (arith, le))
+nat_cases (suc i) (suc d) le = elim (nat_cases i d (omega (arith, le))) [
+  | inl e ↦ inl (ap suc e)
+  | inr l ↦ inr (omega (arith, l))
+]
+
+among_fronts : (c : Contents) (all : Sequence) (low d i : ℕ) (o : Contents) → i ≤ d → o ≡ with_sequence c (take (low + i) all) → Among (fronts c all low d) o
+among_fronts c all low zero i o le e = inl (e ∙ ap (λ (n : ℕ). with_sequence c (take n all)) (omega (arith, le)))
+among_fronts c all low (suc d) i o le e = elim (nat_cases i d le) [
+  | inl same ↦ inl (e ∙ ap (λ (n : ℕ). with_sequence c (take (low + n) all)) same)
+  | inr less ↦ inr (among_fronts c all low d i o less e)
+]
+
+front_among : (c : Contents) (all : Sequence) (low : ℕ) (o : Contents) → IsFrontOf all low c o → Among (fronts c all low (length all - low)) o
+front_among c all low o f = among_fronts c all low (length all - low) (f.count - low) o (omega (arith, f.least, f.most)) (f.is ∙ ap (λ (n : ℕ). with_sequence c (take n all)) (omega (arith, f.least)))
+
+an_image : (w : View) → IsLawful w → IsSome w.content → (f : Files) × Image w f
+an_image w law told = let s = files_of w.content told in (s.0, subst (λ (o : Option Files). IfSome o (λ files. w.since w.moment files)) s.1 law.as_read)
+
+-- a place at which each image stands for a front
+pub record FrontPlace (w : View) (p : Place) (state : Option world.Site) (all : Sequence) (low : ℕ) : Type 1 where
+  pub now : Contents
+  pub front : p.told ≡ true → IsFrontOf all low p.now now
+  pub fronts_all : p.told ≡ true → (o : Contents) → Among (fronts p.now all low (length all - low)) o → IsFrontOf all low p.now o
+  pub matches : Matches w (record { site = state; told = p.told; now = now; outcomes = fronts p.now all low (length all - low); faults = w.faults; simulated = p.simulated })
+
+pub front_place : (w : View) (p : Place) (name : Name) (state : Option world.Site) (all : Sequence) (low : ℕ) → IsLawful w → w.simulated ≡ p.simulated → name ≡ name_on state → MayHaveFront w name p.told p.now all low
+    → FrontPlace w p state all low
+front_place w p name state all low law same e may =
+    let list = fronts p.now all low (length all - low) in
+    let q : Place = record { site = state; told = p.told; now = p.now; outcomes = list; faults = w.faults; simulated = p.simulated } in
+    let images : p.told ≡ true → (c : Files) → Image w c → (o : Contents) × Among list o × Stands (name_on state) c o = λ yes c i.
+    let o = may.images yes c i in
+    (o.0, front_among p.now all low o.0 o.1, subst (λ (x : Name). Stands x c o.0) e o.2) in
+    let low_is : p.told ≡ true → low ≤ length all = λ yes.
+    let k = an_image w law (may.told yes) in
+    let o = may.images yes k.0 k.1 in
+    omega (arith, o.1.least, o.1.most) in
+    let all_fronts : p.told ≡ true → (o : Contents) → Among list o → IsFrontOf all low p.now o = λ yes o a. are_fronts p.now all low (length all - low) (omega (arith, low_is yes)) o a in
+    let m = pick_one p.told p.now (λ o. Unit {0}) (λ o. Among list o × IsSomeAnd w.content (λ files. Stands (name_on state) files o)) tt (λ yes. let r = read_kept w q law (may.told yes) (images yes) in (r.0, tt, (r.1, r.2))) in
+    record {
+      now = m.0;
+      front = λ yes. all_fronts yes m.0 (m.2 yes).0;
+      fronts_all = all_fronts;
+      matches = record { told = λ yes. (m.2 yes).1; images = images; faults = refl; simulated = same };
+    }
+
+map_take : (n : ℕ) (jobs : List (List Update)) → map updater_of (take n jobs) ≡ take n (map updater_of jobs)
+map_take zero jobs = refl
+map_take (suc n) [] = refl
+map_take (suc n) (j ∷ jobs) = ap (λ (r : List ℕ). 1 ∷ r) (map_take n jobs)
+
+pub length_tagged : (xs : List code.Entry) (seq : Sequence) (n : ℕ) → map tagged xs ≡ enumerate_from n seq → length xs ≡ length seq
+length_tagged xs seq n e = sym (length-map xs tagged) ∙ ap length e ∙ long n seq
+  where
+    long : (n : ℕ) (ys : Sequence) → length (enumerate_from n ys) ≡ length ys
+    long n [] = refl
+    long n (y ∷ ys) = ap suc (long (n + 1) ys)
+
+-- all jobs are decided
+pub ran : (v w : View) (s : Site) (r new : Reign) (n : Name) (jobs : List (List Update)) (before middle now : List ℕ) → n ≡ s.name → s.state ≡ Primary r → w.simulated ≡ v.simulated → v.faults ≤ w.faults
+    → ((told : Bool) (c : Contents) → Reigns v n told c r → HasDecided w n told c jobs jobs [] r new before middle)
+    → now ≡ middle ++ line s.name (codes "AT " ++ decimal (length new.entries.items)) → ExecutesAt (Run s.name (jobs_of jobs) (map updater_of jobs)) v s w (record { name = s.name; state = Primary new }) before now
+ran v w s r new n jobs before middle now e st same later f t p h =
+    let d : HasDecided w s.name p.told p.now jobs jobs [] r new before middle = subst (λ (x : Name). HasDecided w x p.told p.now jobs jobs [] r new before middle) e (f p.told p.now (subst (λ (x : Name). Reigns v x p.told p.now r) (sym e) (reigns_at v s r p st h))) in
+    let stamp = reign_of s.name in
+    let state : world.State = world.Primary stamp new.serials in
+    let o : Contents = with_sequence p.now d.sequence in
+    let q : Place = record { site = in_new_state state p.site; told = p.told; now = o; outcomes = o ∷ []; faults = w.faults; simulated = p.simulated } in
+    let ends : Section = record { picks = map updater_of jobs; hardened = length d.sequence; fault = None } in
+    let end : Turn = turn_with [] new.serials d.sequence d.replies in
+    let turn : turn_of stamp r.serials (jobs_of jobs) (map updater_of jobs) p.now.sequence ≡ end = d.turn in
+    let name_q : s.name ≡ name_on q.site = sym (same_name_on state p.site ∙ ap name_on h.site) in
+    let count : length new.entries.items ≡ length d.sequence = length_tagged new.entries.items d.sequence 1 d.reigns.remembered.entries in
+    let whole : RunsTo stamp end (length d.sequence) None p q = record {
+      all_decided = (refl, tt);
+      becomes = record { site = refl; now = refl; outcomes = refl; faults = omega (arith, later, h.disk.faults); same = record { told = refl; simulated = refl } };
+    } in
+    let text : turn_on p.site (jobs_of jobs) ends p ≡ end = ap (λ (x : Option world.Site). turn_on x (jobs_of jobs) ends p) (site_is v s r p st h) ∙ turn in (
+      Ran ends, q,
+      (none_primary v s r jobs p st h, record {
+        stamp = stamp; serials = r.serials; state = site_is v s r p st h; picks = refl;
+        ran = subst (λ (x : Turn). RunsTo stamp x (length d.sequence) None p q) (sym turn) whole;
+      }),
+      record {
+        disk = record {
+          told = λ yes. let k = d.reigns.kept yes in subst (λ (x : Name). IsSomeAnd w.content (λ files. Stands x files o)) name_q (reads_settled w s.name new o d.reigns.file k.stamps k.begun k.records);
+          images = λ yes c i. let k = d.reigns.kept yes in (o, inl refl, subst (λ (x : Name). Stands x c o) name_q (images_settled w s.name new o d.reigns.file k.stamps k.begun k.records c i));
+          faults = refl;
+          simulated = same ∙ h.disk.simulated;
+        };
+        site = ap (in_new_state state) h.site;
+        held = record {
+          made = λ yes. let k = d.reigns.kept yes in record { now = k.begun; outcomes = λ x j. subst (λ (y : Contents). y.begun ≡ true) (sym (only x o j)) k.begun };
+          state = record { reigns = d.reigns; settled = λ yes x j. only x o j };
+        };
+      },
+      t ∙ ap (λ (x : List ℕ). x ++ line s.name (codes "AT " ++ decimal (length new.entries.items))) d.text
+      ∙ append_assoc before (flat_map reply_line d.replies) _
+      ∙ ap (λ (k : ℕ). before ++ (flat_map reply_line d.replies ++ line s.name (codes "AT " ++ decimal k))) count
+      ∙ ap (λ (x : Turn). before ++ section_text s.name (length (map updater_of jobs)) x (length d.sequence) None) (sym text),
+    )
+
+-- a fault ended it
+pub ran_to_fault : (v w : View) (s : Site) (r : Reign) (n : Name) (jobs : List (List Update)) (k undecided : ℕ) (before middle now : List ℕ) → IsLawful w → n ≡ s.name → s.state ≡ Primary r → w.simulated ≡ v.simulated → k ≡ w.faults → Rose v.faults w.faults
+    → ((told : Bool) (c : Contents) → Reigns v n told c r → (m : ℕ) × FailsAt w n told c jobs r.serials undecided before middle m)
+    → now ≡ middle ++ fault_line s.name k undecided → ExecutesAt (Run s.name (jobs_of jobs) (map updater_of jobs)) v s w (record { name = s.name; state = Failed k }) before now
+ran_to_fault v w s r n jobs k undecided before middle now law e st same count rose f t p h =
+    let d : (m : ℕ) × FailsAt w s.name p.told p.now jobs r.serials undecided before middle m =
+    subst (λ (x : Name). (m : ℕ) × FailsAt w x p.told p.now jobs r.serials undecided before middle m) e (f p.told p.now (subst (λ (x : Name). Reigns v x p.told p.now r) (sym e) (reigns_at v s r p st h))) in
+    let m : ℕ = d.0 in
+    let a = d.1 in
+    let stamp = reign_of s.name in
+    let turn : Turn = turn_after s.name r.serials jobs (take m jobs) p.now.sequence in
+    let ends : Section = record { picks = map updater_of (take m jobs); hardened = a.hardened; fault = Some k } in
+    let state = in_new_state (world.Failed k) p.site in
+    let front = front_place w p s.name state turn.sequence a.hardened law (same ∙ h.disk.simulated) (sym (same_name_on (world.Failed k) p.site ∙ ap name_on h.site)) a.front in
+    let text : turn_on p.site (jobs_of jobs) ends p ≡ turn = ap (λ (x : Option world.Site). turn_on x (jobs_of jobs) ends p) (site_is v s r p st h) in
+    let rest : undecided ≡ length (map updater_of jobs) - length (printed a.hardened turn.replies) = omega (arith, a.count, length-map jobs updater_of) in (
+      Ran ends, record { site = state; told = p.told; now = front.now; outcomes = fronts p.now turn.sequence a.hardened (length turn.sequence - a.hardened); faults = w.faults; simulated = p.simulated },
+      (none_primary v s r jobs p st h, record {
+        stamp = stamp; serials = r.serials; state = site_is v s r p st h; picks = (m, map_take m jobs);
+        ran = record {
+          begun = a.begun;
+          at_once = a.at_once;
+          fails = record {
+            site = refl;
+            outcomes = front.fronts_all;
+            faults = record { count = sym count; rose = subst (λ (x : ℕ). Rose p.faults x) (sym count) (subst (λ (x : ℕ). Rose x w.faults) h.disk.faults rose); same = record { told = refl; simulated = refl } };
+          };
+        };
+      }),
+      record {
+        disk = front.matches;
+        site = ap (in_new_state (world.Failed k)) h.site;
+        held = record {
+          made = λ yes. record {
+            now = ap (λ (x : Contents). x.begun) (front.front yes).is ∙ (h.held.made yes).now;
+            outcomes = λ o j. ap (λ (x : Contents). x.begun) (front.fronts_all yes o j).is ∙ (h.held.made yes).now;
+          };
+          state = tt;
+        };
+      },
+      t ∙ ap (λ (x : List ℕ). x ++ fault_line s.name k undecided) a.text
+      ∙ append_assoc before (flat_map reply_line (printed a.hardened turn.replies)) _
+      ∙ ap (λ (u : ℕ). before ++ (flat_map reply_line (printed a.hardened turn.replies) ++ fault_line s.name k u)) rest
+      ∙ ap (λ (x : Turn). before ++ section_text s.name (length (map updater_of jobs)) x a.hardened (Some k)) (sym text),
+    )
+
+-- it was cut off once some jobs were decided, of which at least these are hardened
+pub run_cut : (v w : View) (s : Site) (r : Reign) (n : Name) (jobs : List (List Update)) → IsLawful w → n ≡ s.name → s.state ≡ Primary r → w.simulated ≡ v.simulated
+    → ((told : Bool) (c : Contents) → Reigns v n told c r → (m low : ℕ) × (length c.sequence ≤ low) × MayHaveFront w n told c (turn_after n r.serials jobs (take m jobs) c.sequence).sequence low)
+    → IsCutAt (Run s.name (jobs_of jobs) (map updater_of jobs)) v s w
+run_cut v w s r n jobs law e st same f p h =
+    let d : (m low : ℕ) × (length p.now.sequence ≤ low) × MayHaveFront w s.name p.told p.now (turn_after s.name r.serials jobs (take m jobs) p.now.sequence).sequence low =
+    subst (λ (x : Name). (m low : ℕ) × (length p.now.sequence ≤ low) × MayHaveFront w x p.told p.now (turn_after x r.serials jobs (take m jobs) p.now.sequence).sequence low) e
+    (f p.told p.now (subst (λ (x : Name). Reigns v x p.told p.now r) (sym e) (reigns_at v s r p st h))) in
+    let m : ℕ = d.0 in
+    let low : ℕ = d.1 in
+    let all = (turn_after s.name r.serials jobs (take m jobs) p.now.sequence).sequence in
+    let front = front_place w p s.name p.site all low law (same ∙ h.disk.simulated) (sym (ap name_on h.site)) d.3 in
+    let lower : (o : Contents) → IsFrontOf all low p.now o → IsFrontOf all (length p.now.sequence) p.now o = λ o g. record { count = g.count; least = omega (arith, d.2, g.least); most = g.most; is = g.is } in
+    let picks : all ≡ (turn_of (reign_of s.name) r.serials (jobs_of jobs) (take m (map updater_of jobs)) p.now.sequence).sequence =
+    ap (λ (x : List ℕ). (turn_of (reign_of s.name) r.serials (jobs_of jobs) x p.now.sequence).sequence) (map_take m jobs) in (
+      record { site = p.site; told = p.told; now = front.now; outcomes = fronts p.now all low (length all - low); faults = w.faults; simulated = p.simulated },
+      record {
+        told = refl;
+        outcomes = λ yes o a. inr (subst (λ (x : Option world.Site). RunMayLeaveOn x (jobs_of jobs) (map updater_of jobs) p o) (sym (site_is v s r p st h))
+        (m, subst (λ (x : Sequence). IsFrontOf x (length p.now.sequence) p.now o) picks (lower o (front.fronts_all yes o a))));
+      },
+      front.matches,
+    )
+
+-- what is hardened is a front that has all
+pub decided_front : (w : View) (n : Name) (told : Bool) (c : Contents) (jobs : List (List Update)) (r new : Reign) (before now : List ℕ) → IsLawful w → HasDecided w n told c jobs jobs [] r new before now
+    → (m low : ℕ) × (length c.sequence ≤ low) × MayHaveFront w n told c (turn_after n r.serials jobs (take m jobs) c.sequence).sequence low
+decided_front w n told c jobs r new before now law d = (
+    length jobs, length c.sequence, omega arith,
+    subst (λ (x : Sequence). MayHaveFront w n told c x (length c.sequence)) (sym same) (record {
+      told = λ yes. told_is w.content _ (d.reigns.kept yes).records;
+      images = λ yes files i. let k = d.reigns.kept yes in (
+        with_sequence c d.sequence,
+        record { count = length d.sequence; least = omega (arith, d.grown); most = omega arith; is = ap (with_sequence c) (sym (take_all d.sequence)) },
+        images_settled w n new (with_sequence c d.sequence) d.reigns.file k.stamps k.begun k.records files i,
+      );
+    }),
+  )
+  where
+    take_all : {X : Type 0} (xs : List X) → take (length xs) xs ≡ xs
+    take_all [] = refl
+    take_all (x ∷ xs) = ap (λ (r : List _). x ∷ r) (take_all xs)
+    same : (turn_after n r.serials jobs (take (length jobs) jobs) c.sequence).sequence ≡ d.sequence
+    same = ap (λ (x : List (List Update)). (turn_after n r.serials jobs x c.sequence).sequence) (take_all jobs) ∙ ap (λ (x : Turn). x.sequence) d.turn
+
+-- the fronts of one sequence, if it has any
+abbrev pub fronts_if : ℕ → Contents → Sequence → ℕ → List Contents
+fronts_if zero c all low = fronts c all low (length all - low)
+fronts_if (suc x) c all low = []
+
+are_fronts_if : (x : ℕ) (c : Contents) (all : Sequence) (low : ℕ) (o : Contents) → low - length all ≡ x → Among (fronts_if x c all low) o → IsFrontOf all low c o
+are_fronts_if zero c all low o e a = are_fronts c all low (length all - low) (omega (arith, e)) o a
+are_fronts_if (suc x) c all low o e a = absurd a
+
+front_if_among : (x : ℕ) (c : Contents) (all : Sequence) (low : ℕ) (o : Contents) → low - length all ≡ x → IsFrontOf all low c o → Among (fronts_if x c all low) o
+front_if_among zero c all low o e f = front_among c all low o f
+front_if_among (suc x) c all low o e f = absurd (omega (arith, e, f.least, f.most))
+
+-- the fronts of the first of these sequences
+abbrev pub all_fronts : (ℕ → Sequence) → ℕ → Contents → ℕ → List Contents
+all_fronts f zero c low = fronts_if (low - length (f 0)) c (f 0) low
+all_fronts f (suc k) c low = fronts_if (low - length (f (suc k))) c (f (suc k)) low ++ all_fronts f k c low
+
+in_first : (xs ys : List Contents) (o : Contents) → Among xs o → Among (xs ++ ys) o
+in_first [] ys o h = absurd h
+in_first (x ∷ xs) ys o (inl h) = inl h
+in_first (x ∷ xs) ys o (inr h) = inr (in_first xs ys o h)
+
+in_second : (xs ys : List Contents) (o : Contents) → Among ys o → Among (xs ++ ys) o
+in_second [] ys o h = h
+in_second (x ∷ xs) ys o h = inr (in_second xs ys o h)
+
+in_either : (xs ys : List Contents) (o : Contents) → Among (xs ++ ys) o → Among xs o ⊎ Among ys o
+in_either [] ys o h = inr h
+in_either (x ∷ xs) ys o (inl h) = inl (inl h)
+in_either (x ∷ xs) ys o (inr h) = elim (in_either xs ys o h) [ | inl a ↦ inl (inr a) | inr b ↦ inr b ]
+
+are_all_fronts : (f : ℕ → Sequence) (k : ℕ) (c : Contents) (low : ℕ) (o : Contents) → Among (all_fronts f k c low) o → (n : ℕ) × IsFrontOf (f n) low c o
+are_all_fronts f zero c low o a = (0, are_fronts_if (low - length (f 0)) c (f 0) low o refl a)
+are_all_fronts f (suc k) c low o a = elim (in_either (fronts_if (low - length (f (suc k))) c (f (suc k)) low) (all_fronts f k c low) o a) [
+  | inl h ↦ (suc k, are_fronts_if (low - length (f (suc k))) c (f (suc k)) low o refl h)
+  | inr h ↦ are_all_fronts f k c low o h
+]
+
+front_among_all : (f : ℕ → Sequence) (k n : ℕ) (c : Contents) (low : ℕ) (o : Contents) → n ≤ k → IsFrontOf (f n) low c o → Among (all_fronts f k c low) o
+front_among_all f zero n c low o le h = front_if_among (low - length (f 0)) c (f 0) low o refl (subst (λ (m : ℕ). IsFrontOf (f m) low c o) (omega (arith, le)) h)
+front_among_all f (suc k) n c low o le h = elim (nat_cases n k le) [
+  | inl same ↦ in_first _ _ o (front_if_among (low - length (f (suc k))) c (f (suc k)) low o refl (subst (λ (m : ℕ). IsFrontOf (f m) low c o) same h))
+  | inr less ↦ in_second _ _ o (front_among_all f k n c low o less h)
+]
+
+take_past : (n : ℕ) (jobs : List (List Update)) → length jobs ≤ n → take n jobs ≡ take (length jobs) jobs
+take_past zero [] le = refl
+take_past (suc n) [] le = refl
+take_past zero (j ∷ jobs) le = absurd (omega (arith, le))
+take_past (suc n) (j ∷ jobs) le = ap (λ (r : List (List Update)). j ∷ r) (take_past n jobs (omega (arith, le)))
+
+few_or_all : (n k : ℕ) → (n ≤ k) ⊎ (k ≤ n)
+few_or_all zero k = inl (omega arith)
+few_or_all (suc n) zero = inr (omega arith)
+few_or_all (suc n) (suc k) = elim (few_or_all n k) [ | inl a ↦ inl (omega (arith, a)) | inr b ↦ inr (omega (arith, b)) ]
+
+among_runs : (name : Name) (serials : List ℕ) (jobs : List (List Update)) (c o : Contents) (n : ℕ) → IsFrontOf (turn_after name serials jobs (take n jobs) c.sequence).sequence (length c.sequence) c o
+    → Among (all_fronts (λ m. (turn_after name serials jobs (take m jobs) c.sequence).sequence) (length jobs) c (length c.sequence)) o
+among_runs name serials jobs c o n g =
+    let runs : ℕ → Sequence = λ m. (turn_after name serials jobs (take m jobs) c.sequence).sequence in
+    elim (few_or_all n (length jobs)) [
+      | inl few ↦ front_among_all runs (length jobs) n c (length c.sequence) o few g
+      | inr all ↦ front_among_all runs (length jobs) (length jobs) c (length c.sequence) o (omega arith) (subst (λ (x : List (List Update)). IsFrontOf (turn_after name serials jobs x c.sequence).sequence (length c.sequence) c o) (take_past n jobs all) g)
+    ]
+
+-- it was cut off once some jobs were decided, and each image may have its own number of them
+pub run_cut_any : (v w : View) (s : Site) (r : Reign) (n : Name) (jobs : List (List Update)) → IsLawful w → n ≡ s.name → s.state ≡ Primary r → w.simulated ≡ v.simulated
+    → ((told : Bool) (c : Contents) → Reigns v n told c r → MayLeave w n told c jobs r.serials) → IsCutAt (Run s.name (jobs_of jobs) (map updater_of jobs)) v s w
+run_cut_any v w s r n jobs law e st same f p h =
+    let d : MayLeave w s.name p.told p.now jobs r.serials =
+    subst (λ (x : Name). MayLeave w x p.told p.now jobs r.serials) e (f p.told p.now (subst (λ (x : Name). Reigns v x p.told p.now r) (sym e) (reigns_at v s r p st h))) in
+    let low : ℕ = length p.now.sequence in
+    let runs : ℕ → Sequence = λ m. (turn_after s.name r.serials jobs (take m jobs) p.now.sequence).sequence in
+    let list = all_fronts runs (length jobs) p.now low in
+    let named : s.name ≡ name_on p.site = sym (ap name_on h.site) in
+    let images : p.told ≡ true → (c : Files) → Image w c → (o : Contents) × Among list o × Stands (name_on p.site) c o = λ is c i.
+    let o = d.images is c i in
+    (o.0, among_runs s.name r.serials jobs p.now o.0 o.1.0 o.1.1, subst (λ (x : Name). Stands x c o.0) named o.2) in
+    let q : Place = record { site = p.site; told = p.told; now = p.now; outcomes = list; faults = w.faults; simulated = p.simulated } in
+    let m = pick_one p.told p.now (λ o. Unit {0}) (λ o. IsSomeAnd w.content (λ files. Stands (name_on p.site) files o)) tt (λ is. let k = read_kept w q law (d.told is) (images is) in (k.0, tt, k.2)) in (
+      record { site = p.site; told = p.told; now = m.0; outcomes = list; faults = w.faults; simulated = p.simulated },
+      record {
+        told = refl;
+        outcomes = λ is o a. let k = are_all_fronts runs (length jobs) p.now low o a in
+            inr (subst (λ (x : Option world.Site). RunMayLeaveOn x (jobs_of jobs) (map updater_of jobs) p o) (sym (site_is v s r p st h))
+            (k.0, subst (λ (x : List ℕ). IsFrontOf (turn_of (reign_of s.name) r.serials (jobs_of jobs) x p.now.sequence).sequence low p.now o) (map_take k.0 jobs) k.1));
+      },
+      record { told = m.2; images = images; faults = refl; simulated = same ∙ h.disk.simulated },
+    )

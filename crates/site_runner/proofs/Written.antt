@@ -1,0 +1,39 @@
+-- Pieces of text, one behind another.
+use Rattle.std.proofs.Common.{◌≡◌, ℕ, zero, suc, ◌+◌, ◌<◌, min, List, [], ◌∷◌, ◌++◌, length, map, take, get_or, refl, ap, sym, ◌∙◌, arith, append_assoc}
+use Rattle.std.specs.Prelude.{codes}
+use Rattle.std.specs.List.{flat_map}
+use Rattle.std.proofs.lemmas.List.{take_more, map-append, append-nil}
+use Rattle.std.proofs.lemmas.List.Concat.{flat_map-append}
+use Rattle.world_defs.specs.Output.{line}
+
+-- one item more, seen by g and written by f
+pub written_more : {X Y : Type 0} (f : Y → List ℕ) (g : X → Y) (xs : List X) (i : ℕ) (x : X) → i < length xs → x ≡ get_or xs i x → flat_map f (map g (take (i + 1) xs)) ≡ flat_map f (map g (take i xs)) ++ f (g x)
+written_more f g xs i x h e =
+    ap (λ y. flat_map f (map g y)) (take_more xs i x h)
+    ∙ ap (flat_map f) (map-append g (take i xs) (get_or xs i x ∷ []))
+    ∙ flat_map-append f (map g (take i xs)) (g (get_or xs i x) ∷ [])
+    ∙ ap (λ y. flat_map f (map g (take i xs)) ++ y) (append-nil (f (g (get_or xs i x))))
+    ∙ ap (λ y. flat_map f (map g (take i xs)) ++ f (g y)) (sym e)
+
+joined : (o n a f b u c : List ℕ) → (((((o ++ n) ++ a) ++ f) ++ b) ++ u) ++ c ≡ o ++ (n ++ (a ++ (f ++ (b ++ (u ++ c)))))
+joined o n a f b u c = simp (append_assoc)
+
+as_line : (o n f u : List ℕ) → o ++ (n ++ (codes " DISKFAULT " ++ (f ++ (codes " UNDECIDED " ++ (u ++ 10 ∷ []))))) ≡ o ++ line n (codes "DISKFAULT " ++ f ++ codes " UNDECIDED " ++ u)
+as_line o n f u = simp (append_assoc)
+
+-- the line of a section that a fault ended
+pub undecided : (o n f u a b c d e t : List ℕ) → a ≡ o ++ n → b ≡ a ++ codes " DISKFAULT " → c ≡ b ++ f → d ≡ c ++ codes " UNDECIDED " → e ≡ d ++ u → t ≡ e ++ 10 ∷ []
+    → t ≡ o ++ line n (codes "DISKFAULT " ++ f ++ codes " UNDECIDED " ++ u)
+undecided o n f u a b c d e t ea eb ec ed ee et =
+    et ∙ ap (λ (x : List ℕ). x ++ 10 ∷ []) (ee ∙ ap (λ (x : List ℕ). x ++ u) (ed ∙ ap (λ (x : List ℕ). x ++ codes " UNDECIDED ") (ec ∙ ap (λ (x : List ℕ). x ++ f) (eb ∙ ap (λ (x : List ℕ). x ++ codes " DISKFAULT ") ea))))
+    ∙ joined o n (codes " DISKFAULT ") f (codes " UNDECIDED ") u (10 ∷ [])
+    ∙ as_line o n f u
+
+take_empty : {X : Type 0} (n : ℕ) → take {A = X} n [] ≡ []
+take_empty zero = refl
+take_empty (suc n) = refl
+
+pub take_least : {X : Type 0} (xs : List X) (n : ℕ) → take (min (length xs) n) xs ≡ take n xs
+take_least [] n = take_empty (min 0 n) ∙ sym (take_empty n)
+take_least (x ∷ xs) zero = let e : min (length (x ∷ xs)) 0 ≡ 0 = omega arith in ap (λ (k : ℕ). take k (x ∷ xs)) e
+take_least (x ∷ xs) (suc n) = let e : min (length (x ∷ xs)) (suc n) ≡ suc (min (length xs) n) = omega arith in ap (λ (k : ℕ). take k (x ∷ xs)) e ∙ ap (λ (l : List _). x ∷ l) (take_least xs n)

@@ -1,0 +1,34 @@
+use Rattle.std.proofs.Common.{◌≡◌, true, Some, sym, subst}
+use Rattle.world_defs.specs.World.{Name}
+use Rattle.world_defs.specs.Commands.{Stop, Extract}
+use Rattle.world_defs.specs.Output.{name_in}
+use Rattle.site_runner.specs.declared.command.Command.{Command}
+use Rattle.site_runner.specs.Commands.{command_value}
+use Rattle.site_runner.specs.Sites.{is_slot_named}
+use Rattle.site_runner.specs.Here.{ExecutesHere}
+use Rattle.site_runner.proofs.Results.{on_ok}
+use Rattle.site_runner.proofs.Stopped.{named_site, executes_here, stops, extracts_at}
+use Rattle.site_runner.proofs.execute.execute_at.Goals as goal
+
+pub returns-in-Stop-clause-done : goal.returns-in-Stop-clause-done
+returns-in-Stop-clause-done g c =
+    let view = g.D.Disk.disk in
+    let old = c.args.slot.now in
+    let s = c.in-Some.site in
+    let new = c.stop.new.site in
+    let called = subst (λ (x : Command). is_slot_named (name_in (command_value x)) old ≡ true) c.in-Stop.is c.requires.site in
+    on_ok c.stop.result _ _ c.stop.ensures.done (λ h.
+    subst (λ (x : Command). ExecutesHere view (command_value x) old (record { disk = old.disk; site = Some new }) c.args.text.now c.stop.new.text) (sym c.in-Stop.is)
+    (subst (λ (n : Name). ExecutesHere view (Stop n) old (record { disk = old.disk; site = Some new }) c.args.text.now c.stop.new.text) (named_site old s c.in-Stop.name c.in-Some.is called)
+    (executes_here view (Stop s.name) old old.disk s new c.args.text.now c.stop.new.text c.in-Some.is (stops (view old.disk) s new c.args.text.now c.stop.new.text h))))
+
+pub returns-clause-done : goal.returns-clause-done
+returns-clause-done g c =
+    let view = g.D.Disk.disk in
+    let old = c.args.slot.now in
+    let s = c.in-Some.site in
+    let called = subst (λ (x : Command). is_slot_named (name_in (command_value x)) old ≡ true) c.in-Extract.is c.requires.site in
+    on_ok c.extract.result _ _ c.extract.ensures (λ h.
+    subst (λ (x : Command). ExecutesHere view (command_value x) old (record { disk = old.disk; site = Some s }) c.args.text.now c.extract.new.text) (sym c.in-Extract.is)
+    (subst (λ (n : Name). ExecutesHere view (Extract n c.in-Extract.from) old (record { disk = old.disk; site = Some s }) c.args.text.now c.extract.new.text) (named_site old s c.in-Extract.name c.in-Some.is called)
+    (executes_here view (Extract s.name c.in-Extract.from) old old.disk s s c.args.text.now c.extract.new.text c.in-Some.is (extracts_at (view old.disk) s c.in-Extract.from c.args.text.now c.extract.new.text h))))

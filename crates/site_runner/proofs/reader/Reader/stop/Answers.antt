@@ -1,6 +1,0 @@
-use Rattle.site_runner.specs.declared.reader.Stage.TheVariants.{Extracted}
-use Rattle.site_runner.proofs.Fronts.{refused, at_extracted, is_other}
-use Rattle.site_runner.proofs.reader.Reader.stop.Goals as goal
-
-pub returns-then-not-is_line-clause-fed : goal.returns-then-not-is_line-clause-fed
-returns-then-not-is_line-clause-fed c = refused c.args.self.now Extracted c.args.line.now c.requires (λ ss g. is_other c.is_line.result _ c.if-not-is_line.true c.is_line.ensures (at_extracted ss c.args.line.now g))

@@ -1,8 +1,0 @@
-use Rattle.std.proofs.Common.{◌≡◌, ◌++◌, take, map}
-use Rattle.std.specs.List.{flat_map}
-use Rattle.site_runner.specs.Sites.{reply_of}
-use Rattle.site_runner.specs.Sites.{tagged}
-use Rattle.site_runner.proofs.site.write_replies.Given as goal
-
-abbrev pub invariant-loop-e : goal.invariant-loop-e
-invariant-loop-e l = l.text ≡ l.fn.text ++ flat_map (λ p. reply_of p.0 p.1) (map tagged (take l.e-index l.entries))

@@ -1,0 +1,58 @@
+-- What steps at one site are, apart from its disk.
+use Rattle.std.specs.Prelude.{◌≡◌, ℕ, ◌++◌, List, length, codes, map}
+use Rattle.std.specs.Fmt.{decimal}
+use Rattle.std.specs.List.{enumerate_from}
+use Rattle.disk_defs.specs.Disk.{View}
+use Rattle.global_defs.specs.Entry.{Sequence}
+use Rattle.global_defs.specs.Extract.{extract}
+use Rattle.site_journal.specs.Reigns.{tagged}
+use Rattle.site_journal.specs.declared.reign.Reign.{Reign}
+use Rattle.world_defs.specs.World.{Place}
+use Rattle.world_defs.specs.Answers.{Answer}
+use Rattle.world_defs.specs.Commands.{Command}
+use Rattle.world_defs.specs.Step.{LeftAt}
+use Rattle.world_defs.specs.Output.{line}
+use Rattle.world_defs.specs.Ties.{Matches}
+use Rattle.std.specs.Prelude.{Some, true}
+use Rattle.site_runner.specs.declared.slot.State.{State}
+use Rattle.site_runner.specs.declared.slot.State.TheVariants.{Down, Primary, Failed}
+use Rattle.site_runner.specs.declared.slot.Site.{Site}
+use Rattle.site_runner.specs.Sites.{site_value, IsHeld}
+use Rattle.site_runner.specs.Here.{Here, text_here}
+
+-- a line of the site, and nothing has changed
+abbrev pub Says : Site → Site → List ℕ → List ℕ → List ℕ → Type 0
+Says old new words before now = (new ≡ old) × (now ≡ before ++ line old.name words)
+
+abbrev pub in_state : Site → State → Site
+in_state s state = record { name = s.name; state = state }
+
+abbrev pub StopsFrom : State → Site → Site → List ℕ → List ℕ → Type 0
+StopsFrom Down old new before now = Says old new (codes "NOTRUNNING") before now
+StopsFrom (Primary r) old new before now = (new ≡ in_state old Down) × (now ≡ before ++ line old.name (codes "DOWN " ++ decimal (length r.entries.items)))
+StopsFrom (Failed fault) old new before now = Says old new (codes "STOPPED " ++ decimal fault) before now
+
+abbrev pub Stops : Site → Site → List ℕ → List ℕ → Type 0
+Stops old new before now = StopsFrom old.state old new before now
+
+abbrev pub ExtractsFrom : State → Site → ℕ → List ℕ → List ℕ → Type 0
+ExtractsFrom Down s from before now = Says s s (codes "NOTRUNNING") before now
+ExtractsFrom (Primary r) s from before now = (seq : Sequence) → map tagged r.entries.items ≡ enumerate_from 1 seq → now ≡ before ++ extract s.name seq from
+ExtractsFrom (Failed fault) s from before now = Says s s (codes "STOPPED " ++ decimal fault) before now
+
+abbrev pub Extracts : Site → ℕ → List ℕ → List ℕ → Type 0
+Extracts s from before now = ExtractsFrom s.state s from before now
+
+-- The site stands at this place.
+pub record IsAt (v : View) (s : Site) (p : Place) : Type 0 where
+  pub disk : Matches v p
+  pub site : p.site ≡ Some (site_value s)
+  pub held : IsHeld v s p
+
+-- Whatever place the site stood at, the command with some answer leads to one at which it stands, and this is its text.
+abbrev pub ExecutesAt : Command → View → Site → View → Site → List ℕ → List ℕ → Type 0
+ExecutesAt c v old w new before now = (p : Place) → IsAt v old p → (a : Answer) × (q : Place) × Here c p a q × IsAt w new q × (now ≡ before ++ text_here c p a q)
+
+-- It was cut off for want of memory.
+abbrev pub IsCutAt : Command → View → Site → View → Type 0
+IsCutAt c v old w = (p : Place) → IsAt v old p → (q : Place) × LeftAt true c p q × Matches w q

@@ -1,0 +1,58 @@
+// FUSE and CRASH.
+ghost use Rattle.std.specs.Prelude.{◌≡◌, OnOk, OnErr};
+ghost use Rattle.world_defs.specs.Commands.{Fuse, Crash};
+ghost use Rattle.site_runner.specs.Sites.{IsReadyState};
+ghost use Rattle.site_runner.specs.Steps.{ExecutesAt};
+
+use super::slot::{Site, State};
+use super::text::{write_line, write_numbered};
+use gvn_key::{Bytes, NoMemory};
+use repl_disk::Disk;
+
+/// Lets so many more calls of a site's disk succeed.
+pub fn fuse<D: Disk>(
+    disk: &mut D,
+    site: &Site,
+    calls: u64,
+    text: &mut Bytes,
+) -> Result<(), NoMemory>
+    requires { IsReadyState (D.disk disk.old) site.now.state }
+    ensures ready { IsReadyState (D.disk disk.new) site.now.state }
+    ensures done { OnOk result (ExecutesAt (Fuse site.now.name calls) (D.disk disk.old) site.now (D.disk disk.new) site.now text.old text.new) }
+    ensures kept { OnErr result (disk.new ≡ disk.old) }
+{
+    if let Some(fault) = site.fault() {
+        return write_numbered(text, site.name.as_slice(), b"STOPPED ", fault);
+    }
+    if !disk.simulated() {
+        return write_line(text, site.name.as_slice(), b"NOTSIMULATED");
+    }
+    write_numbered(text, site.name.as_slice(), b"FUSED ", calls)?;
+    disk.fuse(calls);
+    Ok(())
+}
+
+/// Crashes a site's disk, which takes the image of that pick.
+pub fn crash<D: Disk>(
+    disk: &mut D,
+    site: &mut Site,
+    pick: u64,
+    text: &mut Bytes,
+) -> Result<(), NoMemory>
+    requires { IsReadyState (D.disk disk.old) site.old.state }
+    ensures ready { OnOk result (IsReadyState (D.disk disk.new) site.new.state) }
+    ensures done { OnOk result (ExecutesAt (Crash site.old.name pick) (D.disk disk.old) site.old (D.disk disk.new) site.new text.old text.new) }
+    ensures disk { OnErr result (disk.new ≡ disk.old) }
+    ensures site { OnErr result (site.new ≡ site.old) }
+{
+    if site.is_down() {
+        return write_line(text, site.name.as_slice(), b"NOTRUNNING");
+    }
+    if !disk.simulated() {
+        return write_line(text, site.name.as_slice(), b"NOTSIMULATED");
+    }
+    write_line(text, site.name.as_slice(), b"CRASHED")?;
+    disk.crash(pick);
+    site.state = State::Down;
+    Ok(())
+}
