@@ -70,7 +70,7 @@ HoldsUpdates low high count bytes = (low + 4 * count ≤ bytes) × (bytes ≤ hi
 abbrev pub HoldsSome : (fields bytes : ℕ) → Type 0
 HoldsSome fields bytes = ((bytes ≡ fields) ⊎ (fields + 14 ≤ bytes)) × (bytes ≤ 1048576)
 
--- A key of the lengths that the bytes behind its length leave room for: in low to high bytes its update goes on behind it.
+-- Some bytes of the length can stand behind a field of one byte.
 abbrev pub ByteFits : ByteField → (left items : ℕ) → Type 0
 ByteFits byte.Type left items = Unit {0}
 ByteFits byte.Version left items = (14 ≤ left) × (left ≤ 1048575)
@@ -101,6 +101,19 @@ NameFits false left items = HoldsReigns 12 12 items left
 abbrev pub KeyFits : Bool → (left items : ℕ) → Type 0
 KeyFits true left items = HoldsUpdates 2 1502 items left
 KeyFits false left items = HoldsUpdates 0 0 items left
+
+-- The length of a site's or a root's name, or of a key, leaves as many bytes as can stand behind it, and so does what an update does.
+abbrev pub SiteFits : (length left : ℕ) → Type 0
+SiteFits length left = (1 ≤ length) × (length ≤ 15) × (length ≤ left) × HoldsSome 12 (left - length)
+
+abbrev pub RootFits : (length left items : ℕ) → Type 0
+RootFits length left items = (1 ≤ length) × (length ≤ 15) × (length ≤ left) × HoldsReigns 12 12 items (left - length)
+
+abbrev pub KeyLengthFits : Bool → (length left items : ℕ) → Type 0
+KeyLengthFits set length left items = (length ≤ left) × KeyFits set (left - length) items
+
+abbrev pub TagFits : (tag left items : ℕ) → Type 0
+TagFits tag left items = ((tag ≡ 1) × HoldsUpdates 5 1758 items left) ⊎ ((2 ≤ tag) × (tag ≤ 3) × HoldsUpdates 3 256 items left)
 
 -- the prefix stands behind some bytes of a key, and some are missing
 pub record IsInKey (prefix : KeyPrefix) : Type 0 where

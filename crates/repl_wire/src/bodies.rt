@@ -1,13 +1,13 @@
 //! What comes behind a field.
 ghost use Rattle.std.specs.Prelude.{◌≡◌, ◌<◌, ◌≤◌, ◌+◌, ◌*◌, ◌-◌, ◌^◌, ◌↔◌, ℕ, IsTrue};
 ghost use Rattle.repl_wire.specs.Kinds.{least_body, most_body};
-ghost use Rattle.repl_wire.specs.Layout.{Sized, Body, Alone, Typed, Reigned, Updated, Updater, Sited, Rooted, Tagged, Keyed, Versioned, Skipped};
-ghost use Rattle.repl_wire.specs.Scans.{Awaits, AwaitsIfAny, BehindByte, BehindNumber, BehindName, ByteFits, NumberFits, NameFits, KeyFits};
+ghost use Rattle.repl_wire.specs.Layout.{Sized, Body, Bodied, Alone, Typed, Reigned, Updated, Updater, Sited, Rooted, Tagged, Keyed, Versioned, Skipped};
+ghost use Rattle.repl_wire.specs.Scans.{Awaits, AwaitsIfAny, BehindByte, BehindNumber, BehindName, ByteFits, NumberFits, NameFits, KeyFits, SiteFits, RootFits, TagFits, KeyLengthFits};
 
 use super::field::{ByteField, Kind, NumberField, Part, Scan};
 use super::front::Front;
 use super::items::{
-    cycle_begun, ended, holds_reigns, holds_updates, reign_count_begun, reigns_begun,
+    cycle_begun, ended, holds_reigns, holds_some, holds_updates, reign_count_begun, reigns_begun,
     update_count_begun, updates_begun,
 };
 use key_prefix::KeyPrefix;
@@ -65,20 +65,29 @@ fn body_lengths(kind: Kind) -> (u32, u32)
     }
 }
 
-/// Behind a frame's type.
-fn type_read(byte: u8) -> Option<Scan>
-    ensures { AwaitsIfAny result (Typed byte) }
+/// Before the length of a body of that type, and the body.
+fn body_length_begun(kind: Kind) -> Scan
+    ensures { Awaits result (Bodied kind) }
 {
-    let kind = Kind::of(byte)?;
     let (least, most) = body_lengths(kind);
-    Some(Scan {
+    Scan {
         part: Part::Number(
             NumberField::BodyLength(kind),
             Front::new(4, u64::from(least), u64::from(most)),
         ),
         left: 0,
         items: 0,
-    })
+    }
+}
+
+/// Behind a frame's type.
+fn type_read(byte: u8) -> Option<Scan>
+    ensures { AwaitsIfAny result (Typed byte) }
+{
+    match Kind::of(byte) {
+        None => None,
+        Some(kind) => Some(body_length_begun(kind)),
+    }
 }
 
 /// Behind a HELLO's version.
@@ -96,13 +105,20 @@ fn version_read(byte: u8, left: u32) -> Option<Scan>
     })
 }
 
+/// Whether a site's name of that length leaves as many bytes as can stand behind one.
+fn fits_site(length: u8, left: u32) -> bool
+    ensures { IsTrue result ↔ SiteFits length left }
+{
+    let length = u32::from(length);
+    1 <= length && length <= 15 && length <= left && holds_some(12, left - length)
+}
+
 /// Behind the length of a site's name.
 fn site_length_read(byte: u8, left: u32) -> Option<Scan>
     requires { ByteFits ByteField.SiteLength left 0 }
     ensures { AwaitsIfAny result (Sized (Sited byte) left) }
 {
-    let behind = left.checked_sub(u32::from(byte))?;
-    if byte < 1 || 15 < byte || !(behind == 12 || 26 <= behind) {
+    if !fits_site(byte, left) {
         return None;
     }
     Some(Scan {
@@ -111,9 +127,17 @@ fn site_length_read(byte: u8, left: u32) -> Option<Scan>
             missing: byte,
             site: true,
         },
-        left: behind,
+        left: left - u32::from(byte),
         items: 0,
     })
+}
+
+/// Whether a root's name of that length leaves as many bytes as can stand behind one.
+fn fits_root(length: u8, left: u32, items: u32) -> bool
+    ensures { IsTrue result ↔ RootFits length left items }
+{
+    let length = u32::from(length);
+    1 <= length && length <= 15 && length <= left && holds_reigns(12, 12, items, left - length)
 }
 
 /// Behind the length of a root's name.
@@ -121,8 +145,7 @@ fn root_length_read(byte: u8, left: u32, items: u32) -> Option<Scan>
     requires { ByteFits ByteField.RootLength left items }
     ensures { AwaitsIfAny result (Sized (Rooted (Reigned items) byte) left) }
 {
-    let behind = left.checked_sub(u32::from(byte))?;
-    if byte < 1 || 15 < byte || !holds_reigns(12, 12, items, behind) {
+    if !fits_root(byte, left, items) {
         return None;
     }
     Some(Scan {
@@ -131,7 +154,7 @@ fn root_length_read(byte: u8, left: u32, items: u32) -> Option<Scan>
             missing: byte,
             site: false,
         },
-        left: behind,
+        left: left - u32::from(byte),
         items,
     })
 }
@@ -152,14 +175,13 @@ fn updater_read(byte: u8, left: u32) -> Option<Scan>
 }
 
 /// Whether the bytes behind an update's tag can be the rest of it, and so many updates.
-fn holds_key(set: bool, left: u32, items: u32) -> bool
-    ensures { IsTrue result ↔ ByteFits (ByteField.KeyLength set) left items }
+fn fits_tag(tag: u8, left: u32, items: u32) -> bool
+    ensures { IsTrue result ↔ TagFits tag left items }
 {
-    if set {
-        holds_updates(4, 1757, items, left)
-    } else {
-        holds_updates(2, 255, items, left)
+    if tag == 1 {
+        return holds_updates(5, 1758, items, left);
     }
+    2 <= tag && tag <= 3 && holds_updates(3, 256, items, left)
 }
 
 /// Behind what an update does.
@@ -167,12 +189,11 @@ fn tag_read(byte: u8, left: u32, items: u32) -> Option<Scan>
     requires { ByteFits ByteField.Tag left items }
     ensures { AwaitsIfAny result (Sized (Tagged (Updated items) byte) left) }
 {
-    let set = byte == 1;
-    if byte < 1 || 3 < byte || !holds_key(set, left - 1, items) {
+    if !fits_tag(byte, left, items) {
         return None;
     }
     Some(Scan {
-        part: Part::Byte(ByteField::KeyLength(set)),
+        part: Part::Byte(ByteField::KeyLength(byte == 1)),
         left: left - 1,
         items,
     })
@@ -189,21 +210,30 @@ fn holds_behind_key(set: bool, left: u32, items: u32) -> bool
     }
 }
 
+/// Whether a key of that length leaves as many bytes as can stand behind it.
+fn fits_key(set: bool, length: u8, left: u32, items: u32) -> bool
+    ensures { IsTrue result ↔ KeyLengthFits set length left items }
+{
+    let length = u32::from(length);
+    length <= left && holds_behind_key(set, left - length, items)
+}
+
 /// Behind the length of a key.
 fn key_length_read(set: bool, byte: u8, left: u32, items: u32) -> Option<Scan>
     requires { ByteFits (ByteField.KeyLength set) left items }
     ensures { AwaitsIfAny result (Sized (Keyed set (Updated items) byte) left) }
 {
-    let prefix = KeyPrefix::new(byte)?;
-    let behind = left.checked_sub(u32::from(byte))?;
-    if !holds_behind_key(set, behind, items) {
+    if !fits_key(set, byte, left, items) {
         return None;
     }
-    Some(Scan {
-        part: Part::Key { set, prefix },
-        left: behind,
-        items,
-    })
+    match KeyPrefix::new(byte) {
+        None => None,
+        Some(prefix) => Some(Scan {
+            part: Part::Key { set, prefix },
+            left: left - u32::from(byte),
+            items,
+        }),
+    }
 }
 
 /// Behind a field of one byte.

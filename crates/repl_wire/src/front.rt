@@ -1,5 +1,5 @@
 //! Numbers of which the first bytes have come.
-ghost use Rattle.std.specs.Prelude.{◌≡◌, ◌≤◌, ◌<◌, ◌^◌, ◌+◌, ◌*◌, ◌-◌, MatchOption};
+ghost use Rattle.std.specs.Prelude.{◌≡◌, ◌≤◌, ◌<◌, ◌^◌, ◌+◌, ◌*◌, ◌-◌, ◌↔◌, IsTrue, MatchOption};
 ghost use Rattle.repl_wire.specs.Fronts.{unit, IsOpen, IsMet, taken};
 
 /// A big-endian number of which so many bytes are missing, and the numbers between which it is to be.
@@ -29,6 +29,14 @@ fn unit(missing: u8) -> u64
     }
 }
 
+/// Whether some number from `low` to `high` is among the `unit` ones from `value` times `unit` on.
+fn meets(value: u64, unit: u64, low: u64, high: u64) -> bool
+    requires { 0 < unit }
+    ensures { IsTrue result ↔ (value * unit ≤ high) × (low < (value + 1) * unit) }
+{
+    value <= high / unit && low / unit <= value
+}
+
 impl Front {
     /// A number of so many bytes, none of which has come.
     pub fn new(missing: u8, low: u64, high: u64) -> Self
@@ -49,16 +57,14 @@ impl Front {
     {
         let value = self.value * 256 + u64::from(byte);
         let missing = self.missing - 1;
-        let unit = unit(missing);
-        if value <= self.high / unit && self.low / unit <= value {
-            Some(Front {
-                value,
-                missing,
-                low: self.low,
-                high: self.high,
-            })
-        } else {
-            None
+        if !meets(value, unit(missing), self.low, self.high) {
+            return None;
         }
+        Some(Front {
+            value,
+            missing,
+            low: self.low,
+            high: self.high,
+        })
     }
 }

@@ -1,7 +1,7 @@
 //! Reigns and updates of which so many are to come.
 ghost use Rattle.std.specs.Prelude.{◌≡◌, ◌<◌, ◌≤◌, ◌+◌, ◌*◌, ◌-◌, ◌^◌, ◌↔◌, ℕ, IsTrue};
 ghost use Rattle.repl_wire.specs.Layout.{Sized, Reigned, Updated, ReignCount, UpdateCount, Valued, Cycling, Ended};
-ghost use Rattle.repl_wire.specs.Scans.{Awaits, HoldsReigns, HoldsUpdates, HoldsSome};
+ghost use Rattle.repl_wire.specs.Scans.{Awaits, HoldsSome, HoldsReigns, HoldsUpdates};
 
 use super::field::{ByteField, NumberField, Part, Scan};
 use super::front::Front;
@@ -13,6 +13,14 @@ pub fn holds_reigns(low: u32, high: u32, count: u32, bytes: u32) -> bool
     let bytes = u64::from(bytes);
     let count = u64::from(count);
     u64::from(low) + 14 * count <= bytes && bytes <= u64::from(high) + 28 * count
+}
+
+/// Whether so many bytes are fields of `fields` bytes and some reigns, or none.
+pub fn holds_some(fields: u32, bytes: u32) -> bool
+    requires { fields ≤ 12 }
+    ensures { IsTrue result ↔ HoldsSome fields bytes }
+{
+    (bytes == fields || fields + 14 <= bytes) && bytes <= 1_048_576
 }
 
 /// Whether so many bytes are this many updates, behind fields of `low` to `high` bytes.

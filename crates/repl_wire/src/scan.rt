@@ -1,7 +1,8 @@
 //! Frames that are scanned byte by byte: a byte is taken exactly where some well-formed frame goes on with it.
-ghost use Rattle.std.specs.Prelude.{◌≡◌, ◌↔◌, ◌∷◌, ◌-◌, IsTrue};
+ghost use Rattle.std.specs.Prelude.{◌≡◌, ◌↔◌, ◌∷◌, ◌-◌, ◌≤◌, IsTrue};
+ghost use Rattle.repl_wire.specs.Fronts.{IsMet};
 ghost use Rattle.repl_wire.specs.Layout.{Framed, Sized, Updated, BehindKey, Skipped, names};
-ghost use Rattle.repl_wire.specs.Scans.{Awaits, AwaitsIfAny, IsSound, Completing, Fits, KeyFits, Accepts};
+ghost use Rattle.repl_wire.specs.Scans.{Awaits, AwaitsIfAny, IsSound, Completing, Fits, NumberFits, KeyFits, Accepts};
 
 use super::bodies::{byte_read, name_read, number_read};
 use super::field::{ByteField, NumberField, Part, Scan};
@@ -9,20 +10,32 @@ use super::front::Front;
 use super::items::{updates_begun, value_begun};
 use key_prefix::KeyPrefix;
 
+/// Behind these bytes of a number, perhaps all of them.
+fn number_behind(field: NumberField, front: Front, left: u32, items: u32) -> Scan
+    requires met { IsMet front }
+    requires few { front.missing ≤ 8 }
+    requires fits { NumberFits field front.low front.high left items }
+    ensures { Awaits result (Accepts (Part.Number field front) left items) }
+{
+    if front.missing == 0 {
+        return number_read(field, front.value, left, items);
+    }
+    Scan {
+        part: Part::Number(field, front),
+        left,
+        items,
+    }
+}
+
 /// Behind one byte more of a number.
 fn number_taken(field: NumberField, front: Front, left: u32, items: u32, byte: u8) -> Option<Scan>
     requires { Fits (Part.Number field front) left items }
     ensures { AwaitsIfAny result (λ w. Accepts (Part.Number field front) left items (byte ∷ w)) }
 {
-    let front = front.take(byte)?;
-    if front.missing == 0 {
-        return Some(number_read(field, front.value, left, items));
+    match front.take(byte) {
+        None => None,
+        Some(front) => Some(number_behind(field, front, left, items)),
     }
-    Some(Scan {
-        part: Part::Number(field, front),
-        left,
-        items,
-    })
 }
 
 /// Whether a name goes on with the byte.
