@@ -1,0 +1,5 @@
+use Rattle.key_prefix.proofs.Numerals.{string_read}
+use Rattle.key_prefix.proofs.prefix.KeyPrefix.new.Goals as goal
+
+pub returns-then-fits : goal.returns-then-fits
+returns-then-fits c = ?
