@@ -5,3 +5,6 @@ pub mod DigitSteps
 pub mod TextSteps
 pub mod SubSteps
 pub mod Stepping
+pub mod Filling
+pub mod Fitting
+pub mod Taking

@@ -31,6 +31,10 @@ pub record AreCoded (count : ℕ) (digits : List ℕ) : Type 0 where
   pub fits : length digits ≤ count
   pub most : count ≤ 36
 
+pub some_digits : (ds : List ℕ) → end_well Absent ds ≡ true → 0 < length ds
+some_digits [] h = false_true h
+some_digits (d ∷ ds) h = omega arith
+
 -- digits without the zeros at the end
 
 kept_longer : (d : ℕ) (more : List ℕ) → (length more ≤ length (kept d more)) × (length (kept d more) ≤ 1 + length more)

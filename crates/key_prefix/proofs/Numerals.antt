@@ -86,7 +86,7 @@ fraction_is (d ∷ ds) all some ends =
     let ne : get_or (d ∷ ds) (length (d ∷ ds) - 1) 0 ≢ 48 = rw at (last_place Absent d ds ends) in
     rw (all, some_length (d ∷ ds) some, ne_eqb (get_or (d ∷ ds) (length (d ∷ ds) - 1) 0) 48 ne) refl
 
-either_true : (x : Bool) → (x || true) ≡ true
+pub either_true : (x : Bool) → (x || true) ≡ true
 either_true true = refl
 either_true false = refl
 

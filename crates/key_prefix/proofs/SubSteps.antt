@@ -14,7 +14,7 @@ use Rattle.key_prefix.specs.declared.numeral.Numeral.TheVariants.{Empty}
 use Rattle.key_prefix.specs.declared.place.Place.{Place}
 use Rattle.key_prefix.specs.declared.place.Place.TheVariants as places
 use Rattle.key_prefix.proofs.Numerals.{string_read, false_true}
-use Rattle.key_prefix.proofs.Numbers.{AreCoded, number_coded, coded_number}
+use Rattle.key_prefix.proofs.Numbers.{AreCoded, some_digits, number_coded, coded_number}
 use Rattle.key_prefix.proofs.NameSteps.{Follows, both_true}
 
 -- what a subscript begins with
@@ -27,10 +27,6 @@ data IsSubStep (most : ℕ) (b : ℕ) (w : List ℕ) : Type 0 where
 unturned : (ds : List ℕ) → map (turned false) ds ≡ ds
 unturned [] = refl
 unturned (d ∷ ds) = ap (λ x. d ∷ x) (unturned ds)
-
-some_digits : (ds : List ℕ) → end_well Absent ds ≡ true → 0 < length ds
-some_digits [] h = false_true h
-some_digits (d ∷ ds) h = omega arith
 
 coded_ends : (most : ℕ) (negative : Bool) (count : ℕ) (ds w rest : List ℕ) → AreCoded count ds → w ≡ exponent_byte negative count ∷ (map (turned negative) ds ++ (end_byte negative ∷ rest))
     → AreSubs most rest → EndsNumber most negative w

@@ -11,11 +11,11 @@ use Rattle.key_prefix.specs.declared.place.Place.TheVariants.{Boundary, Text, Es
 use Rattle.key_prefix.proofs.NameSteps.{Follows, not_both}
 
 -- a byte's escaped form, by cases
-data IsEscaped (b : ℕ) : Type 0 where
+pub data IsEscaped (b : ℕ) : Type 0 where
   low : b < 2 → escaped b ≡ 1 ∷ suc b ∷ [] → IsEscaped b
   high : 2 ≤ b → escaped b ≡ b ∷ [] → IsEscaped b
 
-escaped_is : (b : ℕ) → IsEscaped b
+pub escaped_is : (b : ℕ) → IsEscaped b
 escaped_is zero = low (omega arith) refl
 escaped_is (suc b) = elim (cases_Bool (b == 0)) [
   | inl e ↦ let z : 2 ≡ suc (suc b) = omega (arith, eqb-true b 0 e) in low (omega (arith, eqb-true b 0 e)) (rw e (λ i. 1 ∷ z i ∷ []))
