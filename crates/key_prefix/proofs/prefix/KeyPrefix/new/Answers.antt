@@ -1,6 +1,6 @@
-use Rattle.key_prefix.proofs.Stepping.{follows}
-use Rattle.key_prefix.proofs.Fitting.{goes_on, completed_fits}
+use Rattle.std.proofs.Common.{arith}
+use Rattle.key_prefix.proofs.Taking.{at_start}
 use Rattle.key_prefix.proofs.prefix.KeyPrefix.new.Goals as goal
 
 pub returns-then-fits : goal.returns-then-fits
-returns-then-fits c = ?
+returns-then-fits c = at_start c.args.len (omega (arith, c.ranges.len)) (cc)
