@@ -243,8 +243,8 @@ small_text count ds digits p small =
     let k = ap length p.digits_are in
     subst IsText (zeros_value j ds)
     (text_of [] e tt (joined_digits (replicate j 48) ds (zeros_digits j) p.all) (λ z. omega arith)
-      (omega (arith, length-append (replicate j 48) ds, length-replicate {A = ℕ} j 48, p.long))
-      (omega (arith, b.1, k, p.fits)) (omega (arith, b.0, k, p.some)))
+    (omega (arith, length-append (replicate j 48) ds, length-replicate {A = ℕ} j 48, p.long))
+    (omega (arith, b.1, k, p.fits)) (omega (arith, b.0, k, p.some)))
 
 split_few : (w p digits : List ℕ) → length w ≤ 18 → significant (w ++ p) ≡ digits → length digits ≤ 18 → length w + length (significant p) ≤ 18
 split_few w p digits short same few = elim (cases_lt 0 (length (significant p))) [
@@ -262,19 +262,19 @@ large_text count d ds digits lead p large =
     let first : get_or (take m whole) 0 0 ≢ 48 = rw (take_lead m d ds (omega arith)) lead in
     subst (λ x. IsText (digits_value 10 x)) join
     (text_of (take m whole) (drop m whole) both.0 both.1 first (omega (arith, length-drop m whole, p.long))
-      (split_few (take m whole) (drop m whole) digits (omega (arith, p.most)) (ap significant join ∙ p.digits_are) p.few) (omega arith))
+    (split_few (take m whole) (drop m whole) digits (omega (arith, p.most)) (ap significant join ∙ p.digits_are) p.few) (omega arith))
 
 number_from : (count : ℕ) (ds digits : List ℕ) → ArePadded count ds digits → (n : ℕ) → 0 < n → decimal n ≡ ds → IsText n → (m : ℕ) × IsCodedNumber count digits m
 number_from count ds digits p zero some d t = absurd (omega arith)
 number_from count ds digits p (suc m) some d t = (
-    m,
-    record {
-      long = ap length d ∙ p.long;
-      digits_are = ap significant d ∙ p.digits_are;
-      plus = ap is_number t.text ∙ plus_number t.w t.f t.parts;
-      minus = ap (λ s. is_number (45 ∷ s)) t.text ∙ minus_number t.w t.f t.parts;
-    },
-  )
+  m,
+  record {
+    long = ap length d ∙ p.long;
+    digits_are = ap significant d ∙ p.digits_are;
+    plus = ap is_number t.text ∙ plus_number t.w t.f t.parts;
+    minus = ap (λ s. is_number (45 ∷ s)) t.text ∙ minus_number t.w t.f t.parts;
+  },
+)
 
 lead_from : (count d : ℕ) (ds digits : List ℕ) → d ≢ 48 → ArePadded count (d ∷ ds) digits → (m : ℕ) × IsCodedNumber count digits m
 lead_from count d ds digits lead p =

@@ -2,7 +2,7 @@
 use Rattle.std.proofs.Common.{◌≡◌, ◌≢◌, ℕ, zero, suc, ◌+◌, ◌-◌, ◌<◌, ◌≤◌, ◌&&◌, Bool, true, false, nat_le, List, [], ◌∷◌, ◌++◌, length, refl, ap, sym, subst, ◌∙◌, arith, append_assoc, Option, Some, None}
 use Rattle.std.specs.List.{list_all, flat_map}
 use Rattle.std.proofs.Math.ListN.{length-append}
-use Rattle.std.proofs.lemmas.Bool.{le-leb}
+use Rattle.std.proofs.lemmas.Bool.{leb-true, le-leb}
 use Rattle.global_defs.specs.Key.{Key}
 use Rattle.global_defs.specs.Valid.{is_name, is_sub, is_key}
 use Rattle.global_defs.specs.Encoded.{encoded, encoded_sub}
@@ -40,11 +40,11 @@ name_code bytes r long =
     record {
       key = key;
       valid = both_true (is_name key.name && nat_le (length key.name) 31 && list_all is_sub key.subs && nat_le (length key.subs) 31) (nat_le (length (encoded key)) 255)
-        (both_true (is_name key.name && nat_le (length key.name) 31 && list_all is_sub key.subs) (nat_le (length key.subs) 31)
-        (both_true (is_name key.name && nat_le (length key.name) 31) (list_all is_sub key.subs)
-        (both_true (is_name key.name) (nat_le (length key.name) 31) r.valid (le-leb (length key.name) 31 r.short)) r.subs.valid)
-        (le-leb (length key.subs) 31 r.subs.few))
-        (le-leb (length (encoded key)) 255 short);
+          (both_true (is_name key.name && nat_le (length key.name) 31 && list_all is_sub key.subs) (nat_le (length key.subs) 31)
+          (both_true (is_name key.name && nat_le (length key.name) 31) (list_all is_sub key.subs)
+          (both_true (is_name key.name) (nat_le (length key.name) 31) r.valid (le-leb (length key.name) 31 r.short)) r.subs.valid)
+          (le-leb (length key.subs) 31 r.subs.few))
+          (le-leb (length (encoded key)) 255 short);
       encodes = spelled;
       long = refl;
     }
@@ -71,6 +71,16 @@ at_start len small h = started len small (goes_on (Name 0) len h)
 
 pub no_start : (len : ℕ) → fits (Name 0) len ≡ false → (bytes : List ℕ) → IsCode len bytes → ⊥
 no_start len h bytes c = not_both (fits (Name 0) len) (subst (λ n. fits (Name 0) n ≡ true) c.long (completed_fits (Name 0) bytes (code_name len bytes c))) h
+
+-- keys have 2 bytes at least, and 255 at most
+
+pub code_length : (len : ℕ) (bytes : List ℕ) → IsCode len bytes → (2 ≤ len) × (len ≤ 255)
+code_length len bytes c =
+    let some = leb-true 2 (length bytes) (completed_fits (Name 0) bytes (code_name len bytes c)) in
+    (omega (arith, c.long), omega (arith, c.long, ap length c.encodes, (valid_parts c.key c.valid).fits))
+
+pub each_length : (len : ℕ) → 2 ≤ len → len ≤ 255 → Begins [] len
+each_length len some small = (at_start len small (le-leb 2 len some)).begins
 
 -- behind one byte more
 

@@ -58,23 +58,23 @@ text_more : (most : ℕ) (n : Numeral) (b : ℕ) (w : List ℕ) → 2 ≤ b → 
 text_more most n b w h r = elim (escaped_is b) [
   | low k e ↦ absurd (omega arith)
   | high k e ↦ record {
-      more = b ∷ r.more;
-      behind = r.behind;
-      is = ap (λ x. b ∷ x) r.is ∙ ap (λ x. (x ++ flat_map escaped r.more) ++ (0 ∷ r.behind)) (sym e);
-      string = r.string;
-      subs = r.subs;
-    }
+    more = b ∷ r.more;
+    behind = r.behind;
+    is = ap (λ x. b ∷ x) r.is ∙ ap (λ x. (x ++ flat_map escaped r.more) ++ (0 ∷ r.behind)) (sym e);
+    string = r.string;
+    subs = r.subs;
+  }
 ]
 
 escape_more : (most : ℕ) (n : Numeral) (c : ℕ) (w : List ℕ) → c < 2 → EndsText most (numeral_read n c) w → EndsText most n (1 ∷ (suc c ∷ w))
 escape_more most n c w h r = elim (escaped_is c) [
   | low k e ↦ record {
-      more = c ∷ r.more;
-      behind = r.behind;
-      is = ap (λ x. 1 ∷ (suc c ∷ x)) r.is ∙ ap (λ x. (x ++ flat_map escaped r.more) ++ (0 ∷ r.behind)) (sym e);
-      string = r.string;
-      subs = r.subs;
-    }
+    more = c ∷ r.more;
+    behind = r.behind;
+    is = ap (λ x. 1 ∷ (suc c ∷ x)) r.is ∙ ap (λ x. (x ++ flat_map escaped r.more) ++ (0 ∷ r.behind)) (sym e);
+    string = r.string;
+    subs = r.subs;
+  }
   | high k e ↦ absurd (omega arith)
 ]
 
