@@ -1,15 +1,13 @@
 -- A byte more of a number.
-use Rattle.std.proofs.Common.{◌≡◌, ◌≢◌, ℕ, zero, suc, ◌+◌, ◌-◌, ◌<◌, ◌≤◌, ◌==◌, ◌&&◌, Bool, true, false, not, nat_lt, nat_le, min, List, [], ◌∷◌, ◌++◌, length, map, inl, inr, refl, ap, sym, subst, ◌∙◌, arith, Option, Some, None, eq-eqb}
+use Rattle.std.proofs.Common.{◌≡◌, ◌≢◌, ℕ, ◌-◌, ◌≤◌, ◌==◌, ◌&&◌, Bool, true, false, not, nat_lt, nat_le, List, [], ◌∷◌, ◌++◌, length, map, inl, inr, refl, ap, sym, subst, ◌∙◌, arith, eq-eqb}
 use Rattle.std.specs.List.{list_all}
 use Rattle.std.specs.Char.{is_ascii_digit}
-use Rattle.std.proofs.lemmas.Bool.{and_parts, ne_eqb, eqb-true, eqb-false, ltb-true, leb-true, lt-ltb, le-leb, cases_Bool}
+use Rattle.std.proofs.lemmas.Bool.{and_parts, eqb-true, ltb-true, leb-true, lt-ltb, le-leb, cases_Bool}
 use Rattle.global_defs.proofs.Digits.{digit_bounds}
-use Rattle.key_prefix.specs.Steps.{turned, end_byte, unstarted, may_end, is_absent, last_of, count_of, number_of, takes_digit, with_digit, digit_taken, digits_at, at_exponent, in_digits}
-use Rattle.key_prefix.specs.Rests.{AreSubs, EndsDigits, EndsNumber, end_well, exponent_byte, Completes}
-use Rattle.key_prefix.specs.declared.digits.Last.TheVariants.{Absent}
+use Rattle.key_prefix.specs.Steps.{turned, end_byte, unstarted, may_end, is_absent, last_of, count_of, takes_digit, with_digit, at_exponent, in_digits}
+use Rattle.key_prefix.specs.Rests.{AreSubs, EndsDigits, EndsNumber, end_well, exponent_byte}
 use Rattle.key_prefix.specs.declared.digits.Number.{Number}
-use Rattle.key_prefix.specs.declared.place.Place.{Place}
-use Rattle.key_prefix.specs.declared.place.Place.TheVariants.{Boundary, Exponent, Digits}
+use Rattle.key_prefix.specs.declared.place.Place.TheVariants.{Exponent, Digits}
 use Rattle.key_prefix.proofs.NameSteps.{Follows, both_true, not_both}
 
 eq_self : (b : ℕ) → (b == b) ≡ true

@@ -1,5 +1,5 @@
 -- How many bytes subscripts can have.
-use Rattle.std.proofs.Common.{◌≡◌, ◌≢◌, ℕ, ℤ, pos, negsuc, zero, suc, ◌+◌, ◌-◌, ◌<◌, ◌≤◌, ◌==◌, ◌&&◌, Bool, true, false, not, nat_lt, List, [], ◌∷◌, ◌++◌, length, map, replicate, inl, inr, refl, ap, sym, subst, ◌∙◌, arith}
+use Rattle.std.proofs.Common.{◌≡◌, ◌≢◌, ℕ, pos, negsuc, zero, suc, ◌-◌, ◌<◌, ◌≤◌, ◌==◌, true, not, nat_lt, List, [], ◌∷◌, ◌++◌, length, map, replicate, inl, inr, refl, ap, sym, subst, ◌∙◌, arith}
 use Rattle.std.specs.List.{list_all, flat_map}
 use Rattle.std.specs.Fmt.{decimal}
 use Rattle.std.proofs.lemmas.List.{length-replicate, length-map, append-nil}
@@ -9,13 +9,12 @@ use Rattle.global_defs.specs.Key.{Sub, Number, Text}
 use Rattle.global_defs.specs.Valid.{is_sub}
 use Rattle.global_defs.specs.Numeral.{is_number}
 use Rattle.global_defs.specs.Encoded.{encoded_sub, escaped, significant}
-use Rattle.key_prefix.specs.Steps.{is_string, numeral_read, fills, end_byte}
-use Rattle.key_prefix.specs.Rests.{AreSubs, EndsText, read_on, end_well, Completes}
-use Rattle.key_prefix.specs.declared.digits.Last.TheVariants.{Absent}
+use Rattle.key_prefix.specs.Steps.{is_string, numeral_read, fills}
+use Rattle.key_prefix.specs.Rests.{AreSubs, read_on, Completes}
 use Rattle.key_prefix.specs.declared.numeral.Numeral.{Numeral}
 use Rattle.key_prefix.specs.declared.numeral.Numeral.TheVariants.{Empty, Nought, Minus, Whole, Fraction, Unlike}
 use Rattle.key_prefix.specs.declared.place.Place.{Place}
-use Rattle.key_prefix.proofs.Numerals.{string_read, false_true}
+use Rattle.key_prefix.proofs.Numerals.{string_read}
 use Rattle.key_prefix.proofs.Numbers.{number_coded, some_digits}
 use Rattle.key_prefix.proofs.NameSteps.{both_true}
 

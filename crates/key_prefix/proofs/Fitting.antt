@@ -1,14 +1,14 @@
 -- In how many bytes a key can end from each place.
-use Rattle.std.proofs.Common.{◌≡◌, ◌≢◌, ℕ, zero, suc, ◌+◌, ◌-◌, ◌<◌, ◌≤◌, ◌==◌, ◌&&◌, ◌||◌, Bool, true, false, not, nat_lt, nat_le, min, List, [], ◌∷◌, ◌++◌, length, map, replicate, inl, inr, refl, ap, sym, subst, ◌∙◌, arith}
+use Rattle.std.proofs.Common.{◌≡◌, ◌≢◌, ℕ, zero, suc, ◌+◌, ◌-◌, ◌<◌, ◌≤◌, ◌==◌, ◌&&◌, ◌||◌, Bool, true, not, nat_lt, nat_le, List, [], ◌∷◌, ◌++◌, length, map, replicate, inl, inr, refl, ap, sym, subst, ◌∙◌, arith}
 use Rattle.std.specs.List.{list_all, flat_map}
 use Rattle.std.specs.Char.{is_ascii_digit}
 use Rattle.std.proofs.lemmas.List.{length-replicate, length-map}
 use Rattle.std.proofs.Math.ListN.{length-append}
-use Rattle.std.proofs.lemmas.Bool.{and_parts, or_cases, ne_eqb, eqb-true, eqb-false, not-true, ltb-true, leb-true, lt-ltb, le-leb, cases_Bool, cases_eq, cases_lt}
+use Rattle.std.proofs.lemmas.Bool.{and_parts, or_cases, ne_eqb, eqb-true, eqb-false, not-true, ltb-true, leb-true, lt-ltb, le-leb, cases_eq}
 use Rattle.global_defs.specs.Valid.{is_name}
 use Rattle.global_defs.specs.Encoded.{escaped}
-use Rattle.key_prefix.specs.Steps.{turned, end_byte, unstarted, may_end, is_absent, last_of, is_string, numeral_read, fills, least, spare_fits, digits_fit, fits}
-use Rattle.key_prefix.specs.Rests.{AreSubs, EndsName, EndsDigits, EndsNumber, EndsText, end_well, exponent_byte, is_name_end, read_on, Completes}
+use Rattle.key_prefix.specs.Steps.{turned, end_byte, unstarted, is_string, fills, least, spare_fits, digits_fit, fits}
+use Rattle.key_prefix.specs.Rests.{AreSubs, EndsName, EndsDigits, EndsNumber, EndsText, end_well, exponent_byte, read_on, Completes}
 use Rattle.key_prefix.specs.declared.digits.Last.{Last}
 use Rattle.key_prefix.specs.declared.digits.Last.TheVariants.{Absent, Zero, Other}
 use Rattle.key_prefix.specs.declared.digits.Number.{Number}
@@ -17,7 +17,7 @@ use Rattle.key_prefix.specs.declared.place.Place.{Place}
 use Rattle.key_prefix.specs.declared.place.Place.TheVariants.{Name, Boundary, Exponent, Digits, Text, Escape}
 use Rattle.key_prefix.proofs.Numerals.{false_true, either_true}
 use Rattle.key_prefix.proofs.NameSteps.{both_true}
-use Rattle.key_prefix.proofs.TextSteps.{IsEscaped, low, high, escaped_is}
+use Rattle.key_prefix.proofs.TextSteps.{low, high, escaped_is}
 use Rattle.key_prefix.proofs.Filling.{GoesOn, AreBytes, filled, subs_fill, no_subs, letters, letters_long, letters_escaped, letters_string, unlike_string, zero_read}
 
 -- names

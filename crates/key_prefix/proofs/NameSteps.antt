@@ -1,13 +1,12 @@
 -- A byte more of a name.
-use Rattle.std.proofs.Common.{◌≡◌, ◌≢◌, ℕ, zero, suc, ◌+◌, ◌-◌, ◌<◌, ◌≤◌, ◌==◌, ◌&&◌, ◌||◌, Bool, true, false, not, nat_lt, nat_le, List, [], ◌∷◌, ◌++◌, length, inl, inr, refl, ap, sym, subst, ◌∙◌, arith, add-one, Option, Some, None, ◌⊎◌}
+use Rattle.std.proofs.Common.{◌≡◌, ℕ, zero, suc, ◌-◌, ◌<◌, ◌≤◌, ◌==◌, ◌&&◌, ◌||◌, Bool, true, false, nat_lt, List, [], ◌∷◌, ◌++◌, length, inl, inr, refl, ap, sym, subst, ◌∙◌, arith, add-one, Option, Some, None}
 use Rattle.std.specs.List.{list_all}
 use Rattle.std.specs.Char.{is_ascii_alphabetic, is_ascii_alphanumeric}
-use Rattle.std.proofs.lemmas.Bool.{and_parts, ne_eqb, eqb-true, eqb-false, ltb-true, lt-ltb, cases_Bool, cases_eq}
-use Rattle.global_defs.specs.Valid.{is_name}
+use Rattle.std.proofs.lemmas.Bool.{and_parts, ne_eqb, eqb-true, ltb-true, lt-ltb, cases_Bool}
 use Rattle.key_prefix.specs.Steps.{is_name_byte, in_name}
 use Rattle.key_prefix.specs.Rests.{AreSubs, EndsName, is_name_end, Completes}
 use Rattle.key_prefix.specs.declared.place.Place.{Place}
-use Rattle.key_prefix.specs.declared.place.Place.TheVariants.{Name, Boundary}
+use Rattle.key_prefix.specs.declared.place.Place.TheVariants.{Name}
 use Rattle.key_prefix.proofs.Numerals.{false_true}
 
 -- The completions of the place that a byte leads to are the bytes that stand behind it. With no such place none do.

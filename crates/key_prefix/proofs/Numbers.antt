@@ -1,27 +1,25 @@
 -- Which digits and exponents the encoded numbers have.
-use Rattle.std.proofs.Common.{◌≡◌, ◌≢◌, ℕ, ℤ, pos, negsuc, zero, suc, ◌-ℤ◌, ◌^◌, ◌+◌, ◌-◌, ◌<◌, ◌≤◌, ◌==◌, ◌&&◌, Bool, true, false, not, min, List, [], ◌∷◌, ◌++◌, length, take, drop, replicate, get_or, inl, inr, refl, ap, sym, subst, ◌∙◌, arith, append_assoc, ◌⊎◌, position}
+use Rattle.std.proofs.Common.{◌≡◌, ◌≢◌, ℕ, ℤ, pos, negsuc, zero, suc, ◌-ℤ◌, ◌^◌, ◌+◌, ◌-◌, ◌<◌, ◌≤◌, ◌==◌, ◌&&◌, true, false, not, List, [], ◌∷◌, ◌++◌, length, take, drop, replicate, get_or, inl, inr, refl, ap, sym, subst, ◌∙◌, arith, append_assoc}
 use Rattle.std.specs.List.{list_all}
 use Rattle.std.specs.Char.{is_ascii_digit}
 use Rattle.std.specs.Str.Parse.{AllDigits, digits_value}
 use Rattle.std.specs.Fmt.{decimal}
-use Rattle.std.proofs.lemmas.Int.{ints}
-use Rattle.std.proofs.lemmas.List.{append-nil, length-replicate, take-append-drop}
-use Rattle.std.proofs.lemmas.List.Folds.{list_all-append}
+use Rattle.std.proofs.lemmas.List.{length-replicate, take-append-drop}
 use Rattle.std.proofs.Math.ListN.{length-append, length-take}
 use Rattle.std.proofs.Common.{length-drop}
-use Rattle.std.proofs.lemmas.Bool.{and_parts, ne_eqb, eqb-true, eqb-false, not-true, cases_Bool, cases_eq, cases_lt}
-use Rattle.global_defs.specs.Numeral.{is_number, is_point, is_positive, all_digits, digits_at, magnitude, value_of}
+use Rattle.std.proofs.lemmas.Bool.{and_parts, ne_eqb, eqb-false, not-true, cases_Bool, cases_eq, cases_lt}
+use Rattle.global_defs.specs.Numeral.{is_number, all_digits, magnitude, value_of}
 use Rattle.global_defs.specs.Encoded.{kept, significant}
 use Rattle.global_defs.specs.NodeText.{pointed, number_text, magnitude_text}
-use Rattle.global_defs.proofs.Digits.{are_digits, decimal_value, value_positive, significant_padded, significant_zeros}
+use Rattle.global_defs.proofs.Digits.{are_digits, decimal_value, value_positive, significant_padded}
 use Rattle.global_defs.proofs.Numerals.{IsParts, IsSigned, nought, minus, plus, numeral_signed, positive_parts, text_back, below_zero}
 use Rattle.global_defs.proofs.NumberText.{unsigned, number_small, decimal_is, decimal_short, padded_back, significant_digits}
 use Rattle.global_defs.proofs.NumberValue.{value_text}
 use Rattle.key_prefix.specs.Steps.{last_of, may_end, is_absent}
 use Rattle.key_prefix.specs.Rests.{end_well}
 use Rattle.key_prefix.specs.declared.digits.Last.{Last}
-use Rattle.key_prefix.specs.declared.digits.Last.TheVariants.{Absent, Zero, Other}
-use Rattle.key_prefix.proofs.Numerals.{AreParts, ascii_digits, false_true, other_last, zero_last, final, significant_ends, plus_number, minus_number}
+use Rattle.key_prefix.specs.declared.digits.Last.TheVariants.{Absent, Other}
+use Rattle.key_prefix.proofs.Numerals.{AreParts, ascii_digits, false_true, zero_last, final, plus_number, minus_number}
 
 -- the digits of an encoded number, and how many those of 10 ^ 18 times it are
 pub record AreCoded (count : ℕ) (digits : List ℕ) : Type 0 where

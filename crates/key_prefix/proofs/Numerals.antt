@@ -1,22 +1,22 @@
 -- Canonical numerals byte by byte: the states tell exactly which bytes are numbers, and so which are strings.
-use Rattle.std.proofs.Common.{◌≡◌, ◌≢◌, ℕ, zero, suc, ◌+◌, ◌-◌, ◌<◌, ◌≤◌, ◌==◌, ◌&&◌, ◌||◌, Bool, true, false, cond, not, nat_lt, nat_le, nat_eq, List, [], ◌∷◌, ◌++◌, length, take, drop, get_or, slice_index, position, count_by, Some, None, inl, inr, refl, ap, sym, subst, ◌∙◌, arith, ◌⊎◌}
+use Rattle.std.proofs.Common.{◌≡◌, ◌≢◌, ℕ, suc, ◌+◌, ◌-◌, ◌<◌, ◌≤◌, ◌==◌, ◌&&◌, ◌||◌, Bool, true, false, cond, not, nat_lt, nat_le, nat_eq, List, [], ◌∷◌, ◌++◌, length, get_or, count_by, inl, inr, refl, ap, sym, subst, ◌∙◌, arith, ◌⊎◌}
 use Rattle.std.specs.List.{list_all, fold}
 use Rattle.std.specs.Char.{is_ascii_digit}
 use Rattle.std.specs.Str.Parse.{AllDigits}
 use Rattle.std.proofs.lemmas.List.{append-nil}
 use Rattle.std.proofs.lemmas.List.Sums.{sum_by-append}
 use Rattle.std.proofs.Math.Seq.{take-append_seam, drop-append-add}
-use Rattle.std.proofs.lemmas.Bool.{and_parts, or_cases, ne_eqb, eqb-true, eqb-false, not-true, leb-true, ltb-true, lt-ltb, le-leb, cases_Bool, cases_eq}
+use Rattle.std.proofs.lemmas.Bool.{and_parts, ne_eqb, eqb-true, eqb-false, leb-true, ltb-true, lt-ltb, le-leb, cases_Bool, cases_eq}
 use Rattle.std.proofs.lemmas.Str.Parse.{digit_from_value}
 use Rattle.global_defs.specs.Numeral.{is_point, is_whole, is_fraction, is_positive, is_positive_at, is_numeral, is_number}
-use Rattle.global_defs.specs.Key.{Sub, Text}
+use Rattle.global_defs.specs.Key.{Text}
 use Rattle.global_defs.specs.Valid.{is_sub}
 use Rattle.global_defs.specs.Encoded.{kept, significant}
 use Rattle.global_defs.specs.NodeText.{pointed}
 use Rattle.global_defs.proofs.Digits.{digit_bounds}
 use Rattle.global_defs.proofs.Places.{none_pass, position_behind, position_nowhere}
 use Rattle.global_defs.proofs.Numerals.{numeral_signed, positive_parts, IsParts, IsSigned, nought, minus, plus}
-use Rattle.key_prefix.specs.Steps.{last_of, may_end, is_string, first_read, whole_digit, fraction_digit, numeral_read}
+use Rattle.key_prefix.specs.Steps.{last_of, may_end, is_string, first_read, numeral_read}
 use Rattle.key_prefix.specs.Rests.{read_on}
 use Rattle.key_prefix.specs.declared.digits.Last.{Last}
 use Rattle.key_prefix.specs.declared.digits.Last.TheVariants.{Absent, Zero, Other}

@@ -1,19 +1,16 @@
 -- The first byte of a subscript.
-use Rattle.std.proofs.Common.{◌≡◌, ◌≢◌, ℕ, ℤ, pos, negsuc, zero, suc, ◌+◌, ◌-◌, ◌<◌, ◌≤◌, ◌==◌, ◌&&◌, Bool, true, false, not, min, List, [], ◌∷◌, ◌++◌, length, map, inl, inr, refl, ap, sym, subst, ◌∙◌, arith, append_assoc, Option, Some, None, ◌⊎◌}
+use Rattle.std.proofs.Common.{◌≡◌, ◌≢◌, ℕ, pos, negsuc, zero, suc, ◌+◌, ◌-◌, ◌≤◌, Bool, true, false, List, [], ◌∷◌, ◌++◌, length, map, inl, inr, refl, ap, sym, subst, ◌∙◌, arith, append_assoc}
 use Rattle.std.specs.List.{list_all, flat_map}
 use Rattle.std.specs.Fmt.{decimal}
 use Rattle.std.proofs.lemmas.Bool.{and_parts, ne_eqb, cases_eq}
 use Rattle.global_defs.specs.Key.{Sub, Number, Text}
 use Rattle.global_defs.specs.Valid.{is_sub}
 use Rattle.global_defs.specs.Encoded.{encoded_sub, escaped, significant}
-use Rattle.key_prefix.specs.Steps.{turned, end_byte, unstarted, may_end, is_string, begun, at_boundary}
-use Rattle.key_prefix.specs.Rests.{AreSubs, EndsDigits, EndsNumber, EndsText, end_well, exponent_byte, read_on, Completes}
-use Rattle.key_prefix.specs.declared.digits.Last.TheVariants.{Absent}
-use Rattle.key_prefix.specs.declared.numeral.Numeral.{Numeral}
+use Rattle.key_prefix.specs.Steps.{turned, end_byte, unstarted, begun, at_boundary}
+use Rattle.key_prefix.specs.Rests.{AreSubs, EndsDigits, EndsNumber, EndsText, exponent_byte}
 use Rattle.key_prefix.specs.declared.numeral.Numeral.TheVariants.{Empty}
-use Rattle.key_prefix.specs.declared.place.Place.{Place}
 use Rattle.key_prefix.specs.declared.place.Place.TheVariants as places
-use Rattle.key_prefix.proofs.Numerals.{string_read, false_true}
+use Rattle.key_prefix.proofs.Numerals.{string_read}
 use Rattle.key_prefix.proofs.Numbers.{AreCoded, some_digits, number_coded, coded_number}
 use Rattle.key_prefix.proofs.NameSteps.{Follows, both_true}
 

@@ -1,15 +1,15 @@
 -- A prefix before its first byte, and behind one byte more.
-use Rattle.std.proofs.Common.{◌≡◌, ◌≢◌, ℕ, zero, suc, ◌+◌, ◌-◌, ◌<◌, ◌≤◌, ◌&&◌, Bool, true, false, nat_le, List, [], ◌∷◌, ◌++◌, length, refl, ap, sym, subst, ◌∙◌, arith, append_assoc, Option, Some, None}
+use Rattle.std.proofs.Common.{◌≡◌, ℕ, ◌-◌, ◌<◌, ◌≤◌, ◌&&◌, true, false, nat_le, List, [], ◌∷◌, ◌++◌, length, refl, ap, sym, subst, ◌∙◌, arith, append_assoc, Some, None}
 use Rattle.std.specs.List.{list_all, flat_map}
 use Rattle.std.proofs.Math.ListN.{length-append}
 use Rattle.std.proofs.lemmas.Bool.{leb-true, le-leb}
 use Rattle.global_defs.specs.Key.{Key}
-use Rattle.global_defs.specs.Valid.{is_name, is_sub, is_key}
+use Rattle.global_defs.specs.Valid.{is_name, is_sub}
 use Rattle.global_defs.specs.Encoded.{encoded, encoded_sub}
 use Rattle.global_defs.proofs.ValidKeys.{valid_parts}
 use Rattle.key_prefix.specs.Codes.{IsCode, Begins}
 use Rattle.key_prefix.specs.Steps.{step, fits}
-use Rattle.key_prefix.specs.Rests.{AreSubs, EndsName, Completes, IsAt}
+use Rattle.key_prefix.specs.Rests.{EndsName, Completes, IsAt}
 use Rattle.key_prefix.specs.declared.place.Place.{Place}
 use Rattle.key_prefix.specs.declared.place.Place.TheVariants.{Name}
 use Rattle.key_prefix.specs.declared.prefix.KeyPrefix.{KeyPrefix}

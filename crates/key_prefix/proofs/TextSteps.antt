@@ -1,13 +1,12 @@
 -- A byte more of a string.
-use Rattle.std.proofs.Common.{◌≡◌, ◌≢◌, ℕ, zero, suc, ◌+◌, ◌<◌, ◌≤◌, ◌==◌, Bool, true, false, List, [], ◌∷◌, ◌++◌, length, inl, inr, refl, ap, sym, subst, ◌∙◌, arith, Option, Some, None}
+use Rattle.std.proofs.Common.{◌≡◌, ◌≢◌, ℕ, zero, suc, ◌<◌, ◌≤◌, ◌==◌, true, List, [], ◌∷◌, ◌++◌, inl, inr, refl, ap, sym, subst, ◌∙◌, arith, Some}
 use Rattle.std.specs.List.{flat_map}
 use Rattle.std.proofs.lemmas.Bool.{ne_eqb, eqb-true, eqb-false, cases_Bool, cases_eq}
 use Rattle.global_defs.specs.Encoded.{escaped}
 use Rattle.key_prefix.specs.Steps.{is_string, numeral_read, text_ended, in_text, in_escape}
-use Rattle.key_prefix.specs.Rests.{AreSubs, EndsText, read_on, Completes}
+use Rattle.key_prefix.specs.Rests.{AreSubs, EndsText, read_on}
 use Rattle.key_prefix.specs.declared.numeral.Numeral.{Numeral}
-use Rattle.key_prefix.specs.declared.place.Place.{Place}
-use Rattle.key_prefix.specs.declared.place.Place.TheVariants.{Boundary, Text, Escape}
+use Rattle.key_prefix.specs.declared.place.Place.TheVariants.{Text, Escape}
 use Rattle.key_prefix.proofs.NameSteps.{Follows, not_both}
 
 -- a byte's escaped form, by cases
