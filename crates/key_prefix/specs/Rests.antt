@@ -76,6 +76,7 @@ pub record EndsText (most : ℕ) (numeral : Numeral) (bytes : List ℕ) : Type 0
   pub string : is_string (read_on numeral more) ≡ true
   pub subs : AreSubs most behind
 
+-- the bytes from a place to the end of a key, whatever their count
 abbrev pub Completes : Place → List ℕ → Type 0
 Completes (Name n) bytes = EndsName n bytes
 Completes (Boundary subs) bytes = AreSubs subs bytes
