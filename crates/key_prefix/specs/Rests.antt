@@ -1,14 +1,13 @@
 -- What completes a key at a place.
-use Rattle.std.specs.Prelude.{◌≡◌, ℕ, zero, suc, ◌+◌, ◌-◌, ◌≤◌, ◌==◌, ◌&&◌, ◌↔◌, Bool, true, false, not, min, List, [], ◌∷◌, ◌++◌, length, map, if◌then◌else◌}
+use Rattle.std.specs.Prelude.{◌≡◌, ℕ, zero, suc, ◌+◌, ◌-◌, ◌≤◌, ◌==◌, ◌&&◌, Bool, true, not, List, [], ◌∷◌, ◌++◌, length, map, if◌then◌else◌}
 use Rattle.std.specs.List.{list_all, flat_map}
 use Rattle.std.specs.Char.{is_ascii_alphanumeric, is_ascii_digit}
 use Rattle.global_defs.specs.Key.{Sub}
 use Rattle.global_defs.specs.Valid.{is_name, is_sub}
 use Rattle.global_defs.specs.Encoded.{encoded_sub, escaped}
 use Rattle.key_prefix.specs.Codes.{IsCode, Begins}
-use Rattle.key_prefix.specs.Steps.{turned, end_byte, may_end, last_of, is_absent, is_string, numeral_read}
+use Rattle.key_prefix.specs.Steps.{turned, end_byte, may_end, last_of, is_absent, is_string, numeral_read, unstarted}
 use Rattle.key_prefix.specs.declared.digits.Last.{Last}
-use Rattle.key_prefix.specs.declared.digits.Last.TheVariants.{Absent}
 use Rattle.key_prefix.specs.declared.digits.Number.{Number}
 use Rattle.key_prefix.specs.declared.numeral.Numeral.{Numeral}
 use Rattle.key_prefix.specs.declared.place.Place.{Place}
@@ -33,7 +32,7 @@ pub record EndsName (count : ℕ) (bytes : List ℕ) : Type 0 where
   pub behind : List ℕ
   pub is : bytes ≡ name ++ 0 ∷ behind
   pub valid : is_name_end count name ≡ true
-  pub short : count + length name ≤ 31
+  pub short : length name ≤ 31 - count
   pub subs : AreSubs 31 behind
 
 -- digits behind such a last one, none of them a leading or a trailing zero of the whole
@@ -62,7 +61,7 @@ pub record EndsNumber (most : ℕ) (negative : Bool) (bytes : List ℕ) : Type 0
   pub is : bytes ≡ exponent_byte negative count ∷ rest
   pub some : 1 ≤ count
   pub few : count ≤ 36
-  pub digits : EndsDigits most (record { negative = negative; room = min count 18; last = Absent }) rest
+  pub digits : EndsDigits most (unstarted negative count) rest
 
 -- what bytes more make of the bytes so far
 abbrev pub read_on : Numeral → List ℕ → Numeral
@@ -77,6 +76,7 @@ pub record EndsText (most : ℕ) (numeral : Numeral) (bytes : List ℕ) : Type 0
   pub string : is_string (read_on numeral more) ≡ true
   pub subs : AreSubs most behind
 
+-- the bytes from a place to the end of a key, whatever their count
 abbrev pub Completes : Place → List ℕ → Type 0
 Completes (Name n) bytes = EndsName n bytes
 Completes (Boundary subs) bytes = AreSubs subs bytes

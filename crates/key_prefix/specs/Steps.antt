@@ -36,9 +36,13 @@ end_byte negative = if negative then 255 else 0
 abbrev pub count_of : Bool → ℕ → ℕ
 count_of negative b = if negative then 209 - b else b - 46
 
+-- a number of so many digits before the first of them
+abbrev pub unstarted : Bool → ℕ → Number
+unstarted negative count = record { negative = negative; room = min count 18; last = Absent }
+
 abbrev pub number_of : Bool → ℕ → Option Number
 number_of negative b = if nat_le 1 (count_of negative b) && nat_le (count_of negative b) 36
-    then Some (record { negative = negative; room = min (count_of negative b) 18; last = Absent })
+    then Some (unstarted negative (count_of negative b))
     else None
 
 abbrev pub takes_digit : Number → ℕ → Bool

@@ -7,7 +7,9 @@ ghost use Rattle.key_prefix.specs.Steps.{turned, end_byte, last_of, least, may_e
 pub enum Last {
     /// There is none yet.
     Absent,
+    /// A 0, which may not be the last one.
     Zero,
+    /// From 1 to 9.
     Other,
 }
 
@@ -41,6 +43,7 @@ pub struct Number {
     pub negative: bool,
     /// How many digits may still come.
     pub room: u8,
+    /// The digit before the next one.
     pub last: Last,
 }
 

@@ -2,10 +2,12 @@
 #![tactic(auto)]
 
 mod digits;
+mod lengths;
 mod numeral;
 mod place;
 mod prefix;
 #[cfg(test)]
 mod tests;
 
+pub use lengths::keys_have_each_length;
 pub use prefix::KeyPrefix;

@@ -10,14 +10,15 @@ pub struct KeyPrefix {
 }
 
 impl KeyPrefix {
-    ghost use Rattle.std.specs.Prelude.{◌≡◌, ◌+◌, ◌∷◌, [], ◌++◌, ◌↔◌, ℕ, List, length, IsTrue, MatchOption};
+    ghost use Rattle.std.specs.Prelude.{◌≡◌, ◌+◌, ◌∷◌, [], ◌++◌, ◌↔◌, ℕ, List, length, ◌≤◌, IsTrue, IsSome, MatchOption};
     ghost use Rattle.std.specs.Bool.{OnTrue, OnFalse};
     ghost use Rattle.key_prefix.specs.Codes.{IsCode, Begins};
     ghost use Rattle.key_prefix.specs.Rests.{IsAt};
 
     /// Before the first byte of a key of that length, `None` where no key's encoded form has it: keys have 2 to 255 bytes.
     pub fn new(len: u8) -> Option<Self>
-        ensures { MatchOption result ((bytes : List ℕ) → IsCode len bytes → ⊥) (λ prefix. IsAt prefix [] len) }
+        ensures bound { IsSome result ↔ (2 ≤ len) }
+        ensures cases { MatchOption result ((bytes : List ℕ) → IsCode len bytes → ⊥) (λ prefix. IsAt prefix [] len) }
     {
         let place = Place::Name(0);
         if place.fits(len) {
