@@ -2,7 +2,7 @@
 use Rattle.std.proofs.Common.{◌≡◌, ℕ, zero, suc, ◌+◌, ◌-◌, ◌*◌, ◌^◌, ◌<◌, ◌≤◌, List, [], ◌∷◌, ◌++◌, length, Bool, true, false, nat_eq, refl, sym, ap, ◌∙◌, subst, arith, length-append, inl, inr, append_assoc}
 use Rattle.std.specs.Prelude.{◌⊎◌, ◌==◌, if◌then◌else◌}
 use Rattle.std.proofs.lemmas.Bool.{cases_eq, ne_eqb, eq-eqb}
-use Rattle.repl_wire.proofs.Codes.{code_bounds}
+use Rattle.key_prefix.proofs.Taking.{code_length}
 use Rattle.key_prefix.specs.Codes.{IsCode}
 use Rattle.key_prefix.specs.Rests.{IsAt, Completes}
 use Rattle.key_prefix.specs.declared.prefix.KeyPrefix.{KeyPrefix}
@@ -193,7 +193,7 @@ value_skipped n left behind items some e holds = awaits (Value n) behind items (
 -- a key
 
 pub prefix_long : (prefix : KeyPrefix) (n : ℕ) → IsAt prefix [] n → 2 ≤ n
-prefix_long prefix n at = (code_bounds n at.begins.rest at.begins.whole).0
+prefix_long prefix n at = (code_length n at.begins.rest at.begins.whole).0
 
 pub key_awaited : (set : Bool) (prefix : KeyPrefix) (n left behind items : ℕ) → IsAt prefix [] n → 2 ≤ n → left ≡ n + behind → KeyFits set behind items
     → Awaits (scan (Key set prefix) behind items) (Sized (Keyed set (Updated items) n) left)
@@ -259,13 +259,13 @@ tag_fits tag left items (n ∷ w) h = elim (cases_eq tag 1) as (λ _. TagFits ta
   | inl e ↦
       let k = subst (λ (t : ℕ). Keyed (nat_eq t 1) (Updated items) n w) e h.0.2 in
       let b = keyed_length true (Updated items) (4 * items) (1759 * items) n (updated_length items) w k in
-      let r = code_bounds n k.front k.here in
+      let r = code_length n k.front k.here in
       let s = h.1 in
       inl (e, (omega (arith, s, b.0, r.0), omega (arith, s, b.1, r.1)))
   | inr ne ↦
       let k = subst (λ (t : Bool). Keyed t (Updated items) n w) (ne_eqb tag 1 ne) h.0.2 in
       let b = keyed_length false (Updated items) (4 * items) (1759 * items) n (updated_length items) w k in
-      let r = code_bounds n k.front k.here in
+      let r = code_length n k.front k.here in
       let s = h.1 in
       let low = h.0.0 in
       let high = h.0.1 in

@@ -20,7 +20,7 @@ use Rattle.repl_wire.specs.Kinds.{type_of}
 use Rattle.repl_wire.specs.Feeds.{IsSpelled}
 use Rattle.repl_wire.specs.Fronts.{unit}
 use Rattle.repl_wire.specs.Layout.{Rest, Ended, Sized, One, Numbered, Within, names, Named, Skipped, Then, Starting, Cycling, Rooted, Reigned, Valued, BehindKey, Keyed, Tagged, Updated, UpdateCount, Serial, Updater, ReignCount, Lengthed, Sited, Versioned, Alone, Body, Bodied, Typed, Framed}
-use Rattle.repl_wire.proofs.Codes.{code_bounds}
+use Rattle.key_prefix.proofs.Taking.{code_length}
 use Rattle.repl_wire.proofs.Numbers.{Spelt, spelt_from, spelt_to}
 
 -- a value's bytes and what follows them
@@ -250,7 +250,7 @@ body_from Entry w h =
         }
 body_from Bye w h = let s = alone_from 0 (2 ^ 40 - 1) w h in record { frame = defs.Bye s.0; fields = omega (arith, s.2); kind_is = refl; is = s.3 }
 
-kind_of : Frame → Kind
+abbrev pub kind_of : Frame → Kind
 kind_of (defs.Hello v n h) = Hello
 kind_of (defs.Resume n) = Resume
 kind_of (defs.RollbackFirst n) = RollbackFirst
@@ -259,7 +259,6 @@ kind_of (defs.Entry n t) = Entry
 kind_of (defs.Bye n) = Bye
 
 pub body_to : (f : Frame) → HasFields f → (type_of (kind_of f) ≡ frame_type f) × Body (kind_of f) (frame_body f)
-unfolding kind_of
 body_to (defs.Hello v n h) f = (refl, hello)
   where
     hello : One Versioned (frame_body (defs.Hello v n h))
@@ -286,9 +285,9 @@ body_to (defs.Entry n t) f = (refl, entry)
         let few = f.1.few in
         subst (λ (w : List ℕ). Body Entry w) (sym (entry_grouped t.origin.updater (to_be_bytes w64 n) (to_be_bytes w32 t.origin.serial) (to_be_bytes w16 (length t.updates)) (flat_map spelled_update t.updates)))
           (spelt_to 8 0 n (Within 1 (2 ^ 40 - 1) (λ _. One Updater)) (t.origin.updater ∷ (to_be_bytes w32 t.origin.serial ++ (to_be_bytes w16 (length t.updates) ++ flat_map spelled_update t.updates))) (omega arith) (omega (arith, number.1))
-            (number.0, omega (arith, number.1), updater.0, updater.1,
+            (number.0, omega (arith, number.1), (updater.0, updater.1,
               spelt_to 4 0 t.origin.serial (Within 1 (2 ^ 32 - 1) (λ _. UpdateCount)) (to_be_bytes w16 (length t.updates) ++ flat_map spelled_update t.updates) (omega arith) (omega (arith, serial.1)) (serial.0, omega (arith, serial.1),
-                spelt_to 2 0 (length t.updates) (Within 1 256 Updated) (flat_map spelled_update t.updates) (omega arith) (omega arith) (some, few, updates_to t.updates f.1.each))))
+                spelt_to 2 0 (length t.updates) (Within 1 256 Updated) (flat_map spelled_update t.updates) (omega arith) (omega arith) (some, few, updates_to t.updates f.1.each)))))
 body_to (defs.Bye n) f = (refl, alone_to 0 (2 ^ 40 - 1) n (omega arith) (omega (arith, f)) (omega (arith, f)))
 
 -- frames

@@ -3,7 +3,7 @@ use Rattle.std.proofs.Common.{◌≡◌, ℕ, zero, suc, ◌+◌, ◌-◌, ◌*�
 use Rattle.std.specs.Prelude.{◌⊎◌}
 use Rattle.key_prefix.specs.Codes.{IsCode}
 use Rattle.repl_wire.specs.Layout.{Rest, Ended, Sized, One, Numbered, Within, Named, Skipped, Then, Starting, Cycling, Rooted, Reigned, Valued, BehindKey, Keyed, Tagged, Updated, ReignCount, Lengthed}
-use Rattle.repl_wire.proofs.Codes.{code_bounds}
+use Rattle.key_prefix.proofs.Taking.{code_length}
 
 -- bytes of K have from low to high bytes
 abbrev pub Bounds : Rest → ℕ → ℕ → Type 0
@@ -77,7 +77,7 @@ tagged_length K low high tag b [] h = absurd h.2
 tagged_length K low high tag b (n ∷ w) h =
     let k = h.2 in
     let c = keyed_length (nat_eq tag 1) K low high n b w k in
-    let in_range : (2 ≤ n) × (n ≤ 255) = code_bounds n k.front k.here in
+    let in_range : (2 ≤ n) × (n ≤ 255) = code_length n k.front k.here in
     let most : most_behind (nat_eq tag 1) ≤ 1502 = most_of (nat_eq tag 1) in
     (omega (arith, c.0, in_range.0), omega (arith, c.1, in_range.1, most))
   where

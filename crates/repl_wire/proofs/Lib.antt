@@ -1,10 +1,10 @@
-pub mod Codes
 pub mod Sizes
 pub mod Lengths
 pub mod Digits
 pub mod Begun
 pub mod Scanned
-pub mod SomeKey
 pub mod Witness
 pub mod Numbers
 pub mod Forms
+pub mod Runs
+pub mod Feeding

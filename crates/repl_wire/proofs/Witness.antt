@@ -21,7 +21,7 @@ use Rattle.repl_wire.specs.Kinds.{least_body, most_body}
 use Rattle.repl_wire.specs.Layout.{Rest, Ended, Sized, One, Numbered, Within, Named, Skipped, Then, Starting, Cycling, Rooted, Reigned, Valued, BehindKey, Keyed, Tagged, Updated, UpdateCount, Serial, Updater, ReignCount, Lengthed, Sited, Versioned, Alone, Body, Bodied, Typed}
 use Rattle.repl_wire.specs.Scans.{Accepts, Completing, Fits, IsSound, BehindByte, BehindNumber, BehindName, KeyRest, ByteFits, NumberFits, NameFits, KeyFits, IsInKey, HoldsReigns, HoldsUpdates, HoldsSome}
 use Rattle.repl_wire.proofs.Digits.{unit_pos}
-use Rattle.repl_wire.proofs.SomeKey.{some_code}
+use Rattle.key_prefix.proofs.Taking.{each_length}
 
 -- bytes of K, so many
 pub record Some (K : Rest) (len : ℕ) : Type 0 where
@@ -169,14 +169,14 @@ module _ (count : ℕ) (some : (m : ℕ) → HoldsUpdates 0 0 count m → Some (
 
   keyed_of : (set : Bool) (n left : ℕ) → 2 ≤ n → n ≤ 255 → n ≤ left → KeyFits set (left - n) count → Some (Keyed set (Updated count) n) left
   keyed_of set n left a b c h =
-      let code = some_code n a b in
+      let code = each_length n a b in
       let rest = behind_key_of set (left - n) h in
-      let long = code.1.long in
+      let long = code.whole.long in
       let e = rest.sizes in
       record {
-        bytes = code.0 ++ rest.bytes;
-        holds = record { front = code.0; back = rest.bytes; is = refl; here = code.1; there = rest.holds };
-        sizes = omega (arith, length-append code.0 rest.bytes);
+        bytes = code.rest ++ rest.bytes;
+        holds = record { front = code.rest; back = rest.bytes; is = refl; here = code.whole; there = rest.holds };
+        sizes = omega (arith, length-append code.rest rest.bytes);
       }
 
   pub key_length_of : (set : Bool) (left : ℕ) → ByteFits (byte.KeyLength set) left count → Some (One (λ b. Sized (Keyed set (Updated count) b) left)) (suc left)

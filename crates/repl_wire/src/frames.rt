@@ -1,14 +1,15 @@
 //! A stream of frames in pieces.
-ghost use Rattle.std.specs.Prelude.{◌≡◌, ◌<◌, ◌≤◌, ◌+◌, ◌++◌, ◌^◌, ℕ, List, [], length, min, IfErr, OnOk, IfOk, Some};
-ghost use Rattle.global_defs.specs.Prefix.{IsPrefix};
+ghost use Rattle.std.specs.Prelude.{◌≡◌, ◌≤◌, ◌++◌, [], length, take, IfErr, OnOk, IfOk, IsErrOf};
 ghost use Rattle.wire_defs.specs.Frames as defs;
-ghost use Rattle.repl_wire.specs.Feeds.{Feeds, Refuses, IsSpelled, IsWithin};
+ghost use Rattle.wire_defs.specs.Frames.{BeginsFrame, IsFrame, spelled_frame};
+ghost use Rattle.repl_wire.specs.Values.{frame_value};
+ghost use Rattle.repl_wire.specs.Feeds.{Takes, Fails, IsSpelled, IsWithin};
 
 use super::field::Scan;
 use super::frame::{Frame, FrameError, FrameList};
 use super::reading::read_frame;
 use super::run::{Ran, run};
-use gvn_key::{Bytes, NoMemory};
+use gvn_key::NoMemory;
 use std::alloc::Global;
 use std::marker::Model;
 
@@ -42,6 +43,8 @@ struct Tail<'a> {
 /// The frame of these bytes.
 fn frame_of(alloc: Global, bytes: &[u8]) -> Result<Frame, NoMemory>
     requires { IsSpelled bytes.now }
+    ensures spelled { IfOk result (λ frame. spelled_frame (frame_value frame) ≡ bytes.now) }
+    ensures form { IfOk result (λ frame. IsFrame (frame_value frame)) }
 {
     match read_frame(alloc, bytes)? {
         Some(frame) => Ok(frame),
@@ -49,13 +52,17 @@ fn frame_of(alloc: Global, bytes: &[u8]) -> Result<Frame, NoMemory>
     }
 }
 
-/// Adds the whole frames at the front of these bytes.
+/// Adds the whole frames at the front of these bytes, the first of which begins at that offset.
 fn take_frames<'a>(
     alloc: Global,
     offset: u64,
     bytes: &'a [u8],
     out: &mut FrameList,
-) -> Result<Tail<'a>, FrameError> {
+) -> Result<Tail<'a>, FrameError>
+    ensures ok { IfOk result (λ tail. Takes offset bytes.now out.old out.new tail.offset tail.rest.now) }
+    ensures within { IfOk result (λ tail. IsWithin tail.scan tail.rest.now) }
+    ensures err { IfErr result (λ e. Fails e offset bytes.now out.old out.new) }
+{
     let mut rest = bytes;
     let mut offset = offset;
     loop {
@@ -64,12 +71,54 @@ fn take_frames<'a>(
             Ran::Open(scan) => return Ok(Tail { offset, scan, rest }),
             Ran::Whole(count) => {
                 let (front, back) = rest.split_at(count);
-                out.push(frame_of(alloc, front)?)?;
+                let frame = frame_of(alloc, front)?;
+                out.push(frame)?;
                 offset = offset.saturating_add(count as u64);
                 rest = back;
             }
         }
     }
+}
+
+/// The frame that the bytes kept and these are. The bytes kept stay.
+fn join(alloc: Global, kept: &mut Vec<u8>, front: &[u8]) -> Result<Frame, NoMemory>
+    requires { IsSpelled (kept.old.items ++ front.now) }
+    ensures kept { kept.new.items ≡ kept.old.items }
+    ensures spelled { IfOk result (λ frame. spelled_frame (frame_value frame) ≡ kept.old.items ++ front.now) }
+    ensures form { IfOk result (λ frame. IsFrame (frame_value frame)) }
+{
+    let before = kept.len();
+    kept.extend_from_slice(front)?;
+    let read = frame_of(alloc, kept);
+    kept.truncate(before);
+    read
+}
+
+/// The reader behind a piece whose first `count` bytes complete the frame that was begun at that offset. The bytes kept stay.
+fn advanced(
+    alloc: Global,
+    kept: &mut Vec<u8>,
+    offset: u64,
+    piece: &[u8],
+    count: usize,
+    out: &mut FrameList,
+) -> Result<Frames, FrameError>
+    requires within { count ≤ length piece.now }
+    requires whole { IsSpelled (kept.old.items ++ take count piece.now) }
+    ensures kept { kept.new.items ≡ kept.old.items }
+    ensures ok { IfOk result (λ f. Takes offset (kept.old.items ++ piece.now) out.old out.new f.offset f.rest) }
+    ensures err { IfErr result (λ e. Fails e offset (kept.old.items ++ piece.now) out.old out.new) }
+{
+    let (front, back) = piece.split_at(count);
+    let frame = join(alloc, kept, front)?;
+    out.push(frame)?;
+    let offset = offset.saturating_add(kept.len() as u64).saturating_add(count as u64);
+    let tail = take_frames(alloc, offset, back, out)?;
+    Ok(Frames {
+        rest: Vec::from_slice(alloc, tail.rest)?,
+        scan: tail.scan,
+        offset: tail.offset,
+    })
 }
 
 impl Frames {
@@ -84,19 +133,16 @@ impl Frames {
         }
     }
 
-    /// The frame that the bytes kept and these are.
-    fn join(&mut self, front: &[u8]) -> Result<Frame, NoMemory> {
-        let alloc = *self.rest.allocator();
-        let before = self.rest.len();
-        self.rest.extend_from_slice(front)?;
-        let read = frame_of(alloc, &self.rest);
-        self.rest.truncate(before);
-        read
-    }
-
     /// Takes a piece of the stream, and adds the frames that are whole now to `out`. The bytes of a frame that isn't whole yet
-    /// are kept. Bad bytes are told as soon as no well-formed frame begins so.
-    pub fn feed(&mut self, piece: &[u8], out: &mut FrameList) -> Result<(), FrameError> {
+    /// are kept. A bad frame is told as soon as no well-formed frame begins so, and nothing is to be fed after it.
+    pub fn feed(&mut self, piece: &[u8], out: &mut FrameList) -> Result<(), FrameError>
+        // the stream is these frames and no others, up to a rest that begins one
+        ensures ok { OnOk result (Takes self.old.offset (self.old.rest ++ piece.now) out.old out.new self.new.offset self.new.rest) }
+        ensures partial { OnOk result (BeginsFrame self.new.rest) }
+        // a bad frame's offset, or want of memory
+        ensures err { IfErr result (λ e. Fails e self.old.offset (self.old.rest ++ piece.now) out.old out.new) }
+        ensures unchanged { IfErr result (λ _. self.new ≡ self.old) }
+    {
         match run(self.scan, piece) {
             Ran::Bad => Err(FrameError::BadFrame {
                 offset: self.offset,
@@ -107,24 +153,11 @@ impl Frames {
                 Ok(())
             }
             Ran::Whole(count) => {
-                let (front, back) = piece.split_at(count);
-                out.push(self.join(front)?)?;
-                let length = self.rest.len() as u64 + count as u64;
-                self.go_on(self.offset.saturating_add(length), back, out)
+                let alloc = *self.rest.allocator();
+                let next = advanced(alloc, &mut self.rest, self.offset, piece, count, out)?;
+                *self = next;
+                Ok(())
             }
         }
-    }
-
-    /// Goes on behind the frame that was begun, at that offset.
-    fn go_on(&mut self, offset: u64, bytes: &[u8], out: &mut FrameList) -> Result<(), FrameError> {
-        let alloc = *self.rest.allocator();
-        let tail = take_frames(alloc, offset, bytes, out)?;
-        let rest = Vec::from_slice(alloc, tail.rest)?;
-        *self = Frames {
-            rest,
-            scan: tail.scan,
-            offset: tail.offset,
-        };
-        Ok(())
     }
 }

@@ -1,9 +1,9 @@
 //! A scan over many bytes.
-ghost use Rattle.std.specs.Prelude.{◌≡◌, ◌<◌, ◌≤◌, ◌++◌, ℕ, List, length, take};
-ghost use Rattle.repl_wire.specs.Layout.{Rest};
-ghost use Rattle.repl_wire.specs.Scans.{Awaits, IsSound};
+ghost use Rattle.std.specs.Prelude.{◌≡◌};
+ghost use Rattle.repl_wire.specs.Scans.{IsSound, Completing};
+ghost use Rattle.repl_wire.specs.Feeds.{Runs};
 
-use super::field::Scan;
+use super::field::{Part, Scan};
 
 /// What bytes lead to.
 #[derive(Clone, Copy, Debug)]
@@ -17,7 +17,11 @@ pub enum Ran {
 }
 
 /// Takes bytes until the frame is whole, or no frame goes on.
-pub fn run(scan: Scan, bytes: &[u8]) -> Ran {
+pub fn run(scan: Scan, bytes: &[u8]) -> Ran
+    requires sound { IsSound scan }
+    requires begun { scan.part ≡ Part.Whole → ⊥ }
+    ensures { Runs result (Completing scan) bytes.now }
+{
     let mut scan = scan;
     for (i, byte) in bytes.iter().enumerate() {
         match scan.take(*byte) {

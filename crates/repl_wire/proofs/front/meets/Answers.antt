@@ -1,5 +1,6 @@
-use Rattle.std.proofs.Common.{arith}
-use Rattle.std.proofs.lemmas.Bool.{leb-true, le-leb, false≢true}
+use Rattle.std.proofs.Common.{arith, rules}
+use Rattle.std.proofs.lemmas.Bool.{leb-true, le-leb}
+use Rattle.std.proofs.lemmas.Bool.Decides.{nat_tests}
 use Rattle.repl_wire.proofs.Digits.{below_quotient, above_quotient, is_below_quotient, is_above_quotient}
 use Rattle.repl_wire.proofs.front.meets.Goals as goal
 
@@ -11,6 +12,6 @@ returns-then-value-high c = (
 
 pub returns-else-value-high : goal.returns-else-value-high
 returns-else-value-high c = (
-  λ h. absurd (false≢true h),
-  λ h. absurd (omega (arith, is_below_quotient c.args.value c.args.unit c.args.high c.requires h.0)),
+  λ h. absurd (let past = leb-true _ _ h in omega arith),
+  λ h. le-leb _ _ (is_below_quotient c.args.value c.args.unit c.args.high c.requires h.0),
 )
