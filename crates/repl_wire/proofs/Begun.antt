@@ -352,8 +352,8 @@ typed_awaited s kind b e a = record {
 -- behind a tag: its key's length
 pub tag_awaited : (tag left items : ℕ) → 1 ≤ left → TagFits tag left items → Awaits (scan (Byte (byte.KeyLength (nat_eq tag 1))) (left - 1) items) (Sized (Tagged (Updated items) tag) left)
 tag_awaited tag left items least fits = elim fits as (λ _. Awaits (scan (Byte (byte.KeyLength (nat_eq tag 1))) (left - 1) items) (Sized (Tagged (Updated items) tag) left)) [
-    inl f ↦ key_length_awaited (nat_eq tag 1) tag left items refl (omega (arith, f.0)) (omega (arith, f.0)) least
+  | inl f ↦ key_length_awaited (nat_eq tag 1) tag left items refl (omega (arith, f.0)) (omega (arith, f.0)) least
       (subst (λ (s : Bool). ByteFits (byte.KeyLength s) (left - 1) items) (sym (eq-eqb tag 1 f.0)) (let h = f.1 in (omega (arith, h.0), omega (arith, h.1))))
   | inr f ↦ key_length_awaited (nat_eq tag 1) tag left items refl (omega (arith, f.0)) (omega (arith, f.1)) least
       (subst (λ (s : Bool). ByteFits (byte.KeyLength s) (left - 1) items) (sym (ne_eqb tag 1 (λ e. let two = f.0 in omega arith))) (let h = f.2 in (omega (arith, h.0), omega (arith, h.1))))
-  ]
+]

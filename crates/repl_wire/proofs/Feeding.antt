@@ -14,6 +14,7 @@ use Rattle.repl_wire.specs.Feeds.{Takes, Refuses, IsSpelled, IsWithin, Runs}
 use Rattle.repl_wire.specs.declared.run.Ran.TheVariants as ran
 use Rattle.repl_wire.proofs.Forms.{framed_from, framed_to}
 use Rattle.repl_wire.proofs.Witness.{some_completion}
+use Rattle.repl_wire.proofs.Apart.{Splits, split, frame_one}
 use Rattle.repl_wire.proofs.Runs.{not_done, done}
 
 -- lists of frames
@@ -42,16 +43,16 @@ takes_one offset bytes before after at rest f front back later at_later t form s
   frames = t.frames ++ f ∷ [];
   are = record {
     whole = t.are.whole ∙ ap (λ (l : List ℕ). stream t.frames ++ l) (cut ∙ ap (λ (l : List ℕ). l ++ back) (sym spelled ∙ sym (append-nil (spelled_frame f))))
-      ∙ sym (append_assoc (stream t.frames) (spelled_frame f ++ []) back) ∙ ap (λ (l : List ℕ). l ++ back) (sym (stream_more t.frames (f ∷ [])));
+        ∙ sym (append_assoc (stream t.frames) (spelled_frame f ++ []) back) ∙ ap (λ (l : List ℕ). l ++ back) (sym (stream_more t.frames (f ∷ [])));
     each = all_more t.frames (f ∷ []) t.are.each (form, tt);
   };
   added = push ∙ ap (λ (l : List Frame). l ++ f ∷ []) t.added ∙ append_assoc before t.frames (f ∷ []);
   at_is =
-    let size = ap length (stream_more t.frames (f ∷ [])) ∙ length-append (stream t.frames) (spelled_frame f ++ []) in
-    let one = length-append (spelled_frame f) [] in
-    let same = ap length spelled in
-    let first = t.at_is in
-    omega arith;
+      let size = ap length (stream_more t.frames (f ∷ [])) ∙ length-append (stream t.frames) (spelled_frame f ++ []) in
+      let one = length-append (spelled_frame f) [] in
+      let same = ap length spelled in
+      let first = t.at_is in
+      omega arith;
 }
 
 -- more frames behind some
@@ -65,10 +66,10 @@ takes_more offset bytes before after at rest later at_later back t u = record {
   };
   added = u.added ∙ ap (λ (l : List Frame). l ++ u.frames) t.added ∙ append_assoc before t.frames u.frames;
   at_is =
-    let size = ap length (stream_more t.frames u.frames) ∙ length-append (stream t.frames) (stream u.frames) in
-    let first = t.at_is in
-    let second = u.at_is in
-    omega arith;
+      let size = ap length (stream_more t.frames u.frames) ∙ length-append (stream t.frames) (stream u.frames) in
+      let first = t.at_is in
+      let second = u.at_is in
+      omega arith;
 }
 
 pub refuses_more : (offset : ℕ) (bytes : List ℕ) (before after : List Frame) (at : ℕ) (rest : List ℕ) (later : List Frame) (at_later : ℕ)
@@ -121,3 +122,52 @@ module _ (s : Scan) (kept : List ℕ) (within : IsWithin s kept) where
 
   pub whole_spelled : (count : ℕ) (bytes : List ℕ) → Runs (ran.Whole count) (Completing s) bytes → IsSpelled (kept ++ take count bytes)
   whole_spelled count bytes r = within.awaits.only (take count bytes) r.2
+
+  -- no frame begins so
+  pub none_begins : (bytes : List ℕ) → Runs ran.Bad (Completing s) bytes → BeginsNone (kept ++ bytes)
+  none_begins bytes bad = record {
+    none_goes_on = λ f more form e. bad.0 more (within.awaits.each (bytes ++ more) (record { frame = f; is_frame = form; spelled = e ∙ append_assoc kept bytes more }));
+    none_stands = λ f more form e. by_split f more form (split kept bytes (spelled_frame f) more e);
+  }
+    where
+      by_split : (f : Frame) (more : List ℕ) → IsFrame f → Splits kept bytes (spelled_frame f) more → ⊥
+      by_split f more form s = elim s as (λ _. ⊥) [ inl p ↦ in_piece f more form p.0 p.1 p.2 | inr p ↦ in_kept f form p.0 p.1 ]
+        where
+          in_piece : (f : Frame) (more : List ℕ) → IsFrame f → (x : List ℕ) → spelled_frame f ≡ kept ++ x → bytes ≡ x ++ more → ⊥
+          in_piece f more form x spelled cut =
+              let size = ap length cut ∙ length-append x more in
+              let front : take (length x) bytes ≡ x = ap (λ (l : List ℕ). take (length x) l) cut ∙ take-append_seam x more in
+              bad.1 (length x) (omega arith) (within.awaits.each (take (length x) bytes) (record { frame = f; is_frame = form; spelled = spelled ∙ ap (λ (l : List ℕ). kept ++ l) (sym front) }))
+
+          in_kept : (f : Frame) → IsFrame f → (x : List ℕ) → kept ≡ spelled_frame f ++ x → ⊥
+          in_kept f form x cut =
+              let g = begins in
+              let one = frame_one f g.0 (x ++ g.1 ∷ g.2) [] form g.3
+              (sym (append_assoc (spelled_frame f) x (g.1 ∷ g.2)) ∙ ap (λ (l : List ℕ). l ++ g.1 ∷ g.2) (sym cut) ∙ sym g.4 ∙ sym (append-nil (spelled_frame g.0))) in
+              let none = ap length one.1 in
+              omega (arith, none, length-append x (g.1 ∷ g.2))
+
+-- what begins a frame, or none, has no frame at its front
+pub not_both : (bytes : List ℕ) → BeginsFrame bytes → BeginsNone bytes → ⊥
+not_both bytes b n = n.none_goes_on b.0 (b.1 ∷ b.2) b.3 b.4
+
+stands : (f : Frame) (more bytes : List ℕ) → IsFrame f → bytes ≡ spelled_frame f ++ more → BeginsFrame bytes ⊎ BeginsNone bytes → ⊥
+stands f more bytes form e x = elim x as (λ _. ⊥) [
+  | inl b ↦
+      let one = frame_one f b.0 (more ++ b.1 ∷ b.2) [] form b.3
+      (sym (append_assoc (spelled_frame f) more (b.1 ∷ b.2)) ∙ ap (λ (l : List ℕ). l ++ b.1 ∷ b.2) (sym e) ∙ sym b.4 ∙ sym (append-nil (spelled_frame b.0))) in
+      let none = ap length one.1 in
+      omega (arith, none, length-append more (b.1 ∷ b.2))
+  | inr n ↦ n.none_stands f more form e
+]
+
+-- two readings of one stream
+
+pub streams_one : (fs gs : List Frame) (r s : List ℕ) → AllByRecursion IsFrame fs → AllByRecursion IsFrame gs → stream fs ++ r ≡ stream gs ++ s → BeginsFrame r ⊎ BeginsNone r → BeginsFrame s ⊎ BeginsNone s → (fs ≡ gs) × (r ≡ s)
+streams_one [] [] r s a b e x y = (refl, e)
+streams_one [] (g ∷ gs) r s a b e x y = absurd (stands g (stream gs ++ s) r b.0 (e ∙ append_assoc (spelled_frame g) (stream gs) s) x)
+streams_one (f ∷ fs) [] r s a b e x y = absurd (stands f (stream fs ++ r) s a.0 (sym e ∙ append_assoc (spelled_frame f) (stream fs) r) y)
+streams_one (f ∷ fs) (g ∷ gs) r s a b e x y =
+    let one = frame_one f g (stream fs ++ r) (stream gs ++ s) a.0 b.0 (sym (append_assoc (spelled_frame f) (stream fs) r) ∙ e ∙ append_assoc (spelled_frame g) (stream gs) s) in
+    let rest = streams_one fs gs r s a.1 b.1 one.1 x y in
+    ((λ i. one.0 i ∷ rest.0 i), rest.1)

@@ -71,18 +71,18 @@ reign_from K (n ∷ w) h =
       rest = c.rest;
       form = record { stamp = record { root = a.form.0; cycle = (b.holds.0, omega (arith, b.holds.1)) }; start = (c.holds.0, c.holds.1) };
       is = ap (λ (m : ℕ). m ∷ w) (sym a.form.1)
-        ∙ ap (λ (l : List ℕ). length a.value ∷ l) (a.is ∙ ap (λ (l : List ℕ). a.value ++ l) (b.is ∙ ap (λ (l : List ℕ). bytes_high_first 4 b.number ++ l) c.is))
-        ∙ sym (grouped (length a.value) a.value (bytes_high_first 4 b.number) (bytes_high_first 8 c.number) c.rest);
+          ∙ ap (λ (l : List ℕ). length a.value ∷ l) (a.is ∙ ap (λ (l : List ℕ). a.value ++ l) (b.is ∙ ap (λ (l : List ℕ). bytes_high_first 4 b.number ++ l) c.is))
+          ∙ sym (grouped (length a.value) a.value (bytes_high_first 4 b.number) (bytes_high_first 8 c.number) c.rest);
       holds = c.holds.2;
     }
 
 reign_to : (K : Rest) (r : Reign) (rest : List ℕ) → IsReign r → K rest → One (Rooted K) (spelled_reign r ++ rest)
 reign_to K r rest f h = subst (λ (w : List ℕ). One (Rooted K) w) (sym (grouped (length r.stamp.root) r.stamp.root (to_be_bytes w32 r.stamp.cycle) (to_be_bytes w64 r.start) rest))
     (name_to r.stamp.root (Cycling K) (to_be_bytes w32 r.stamp.cycle ++ (to_be_bytes w64 r.start ++ rest)) f.stamp.root
-      (let cycle = f.stamp.cycle in
-       let start = f.start in
-       spelt_to 4 0 r.stamp.cycle (Within 1 (2 ^ 32 - 1) (λ _. Starting K)) (to_be_bytes w64 r.start ++ rest) (omega arith) (omega (arith, cycle.1))
-        (cycle.0, omega (arith, cycle.1), spelt_to 8 0 r.start (Within 1 (2 ^ 40) (λ _. K)) rest (omega arith) (omega (arith, start.1)) (start.0, start.1, h))))
+    (let cycle = f.stamp.cycle in
+    let start = f.start in
+    spelt_to 4 0 r.stamp.cycle (Within 1 (2 ^ 32 - 1) (λ _. Starting K)) (to_be_bytes w64 r.start ++ rest) (omega arith) (omega (arith, cycle.1))
+    (cycle.0, omega (arith, cycle.1), spelt_to 8 0 r.start (Within 1 (2 ^ 40) (λ _. K)) rest (omega arith) (omega (arith, start.1)) (start.0, start.1, h))))
 
 pub reigns_from : (count : ℕ) (w : List ℕ) → Reigned count w → (rs : List Reign) × AllByRecursion IsReign rs × (length rs ≡ count) × (w ≡ flat_map spelled_reign rs)
 reigns_from zero w h = ([], tt, refl, h)
@@ -118,9 +118,9 @@ set_from n K w h =
       rest = s.rest;
       form = (code.valid, omega (arith, most, s.form));
       is = ap (λ (m : ℕ). 1 ∷ m ∷ w) (sym long_is)
-        ∙ ap (λ (l : List ℕ). 1 ∷ length (encoded code.key) ∷ l) (h.is ∙ ap (λ (c : List ℕ). c ++ h.back) (sym code.encodes)
+          ∙ ap (λ (l : List ℕ). 1 ∷ length (encoded code.key) ∷ l) (h.is ∙ ap (λ (c : List ℕ). c ++ h.back) (sym code.encodes)
           ∙ ap (λ (l : List ℕ). encoded code.key ++ l) (v.is ∙ ap (λ (m : ℕ). bytes_high_first 2 m ++ v.rest) (sym s.form) ∙ ap (λ (l : List ℕ). bytes_high_first 2 (length s.value) ++ l) s.is))
-        ∙ sym (set_grouped (encoded code.key) (bytes_high_first 2 (length s.value)) s.value s.rest);
+          ∙ sym (set_grouped (encoded code.key) (bytes_high_first 2 (length s.value)) s.value s.rest);
       holds = s.holds;
     }
   where
@@ -137,8 +137,8 @@ key_from n tag K w make form spelled h =
       rest = h.back;
       form = form code.key code.valid;
       is = ap (λ (m : ℕ). tag ∷ m ∷ w) (sym long_is)
-        ∙ ap (λ (l : List ℕ). tag ∷ length (encoded code.key) ∷ l) (h.is ∙ ap (λ (c : List ℕ). c ++ h.back) (sym code.encodes))
-        ∙ ap (λ (l : List ℕ). l ++ h.back) (sym (spelled code.key));
+          ∙ ap (λ (l : List ℕ). tag ∷ length (encoded code.key) ∷ l) (h.is ∙ ap (λ (c : List ℕ). c ++ h.back) (sym code.encodes))
+          ∙ ap (λ (l : List ℕ). l ++ h.back) (sym (spelled code.key));
       holds = h.there;
     }
 
@@ -146,16 +146,16 @@ update_from : (K : Rest) (w : List ℕ) → One (Tagged K) w → Spelled IsUpdat
 update_from K [] h = absurd h
 update_from K (tag ∷ []) h = absurd h.2
 update_from K (tag ∷ n ∷ w) h = elim (cases_eq tag 1) as (λ _. Spelled IsUpdate spelled_update K (tag ∷ n ∷ w)) [
-    inl e ↦ subst (λ (t : ℕ). Spelled IsUpdate spelled_update K (t ∷ n ∷ w)) (sym e) (set_from n K w (subst (λ (t : ℕ). Keyed (nat_eq t 1) K n w) e h.2))
+  | inl e ↦ subst (λ (t : ℕ). Spelled IsUpdate spelled_update K (t ∷ n ∷ w)) (sym e) (set_from n K w (subst (λ (t : ℕ). Keyed (nat_eq t 1) K n w) e h.2))
   | inr ne ↦ by_two (subst (λ (b : Bool). Keyed b K n w) (ne_eqb tag 1 ne) h.2) ne
-  ]
+]
   where
     by_two : Keyed false K n w → (tag ≡ 1 → ⊥) → Spelled IsUpdate spelled_update K (tag ∷ n ∷ w)
     by_two k ne = elim (cases_eq tag 2) as (λ _. Spelled IsUpdate spelled_update K (tag ∷ n ∷ w)) [
-        inl e ↦ subst (λ (t : ℕ). Spelled IsUpdate spelled_update K (t ∷ n ∷ w)) (sym e) (key_from n 2 K w Kill (λ _ v. v) (λ _. refl) k)
+      | inl e ↦ subst (λ (t : ℕ). Spelled IsUpdate spelled_update K (t ∷ n ∷ w)) (sym e) (key_from n 2 K w Kill (λ _ v. v) (λ _. refl) k)
       | inr other ↦ let low = h.0 in let high = h.1 in let three : tag ≡ 3 = omega arith in
           subst (λ (t : ℕ). Spelled IsUpdate spelled_update K (t ∷ n ∷ w)) (sym three) (key_from n 3 K w ZKill (λ _ v. v) (λ _. refl) k)
-      ]
+    ]
 
 code_of : (k : Key) → IsTrue (is_key k) → IsCode (length (encoded k)) (encoded k)
 code_of k v = record { key = k; valid = v; encodes = refl; long = refl }
@@ -218,9 +218,9 @@ body_from Hello (v ∷ n ∷ w) h =
       fields = (omega arith, a.form.0, (let top = b.holds.1 in omega arith), (let few = c.below in let e = r.2 in omega arith), r.1);
       kind_is = refl;
       is = ap (λ (m : ℕ). v ∷ m ∷ w) (sym a.form.1)
-        ∙ ap (λ (l : List ℕ). v ∷ length a.value ∷ l) (a.is ∙ ap (λ (l : List ℕ). a.value ++ l) (b.is ∙ ap (λ (l : List ℕ). bytes_high_first 8 b.number ++ l)
+          ∙ ap (λ (l : List ℕ). v ∷ length a.value ∷ l) (a.is ∙ ap (λ (l : List ℕ). a.value ++ l) (b.is ∙ ap (λ (l : List ℕ). bytes_high_first 8 b.number ++ l)
           (c.is ∙ ap (λ (l : List ℕ). bytes_high_first 4 c.number ++ l) r.3 ∙ ap (λ (m : ℕ). bytes_high_first 4 m ++ flat_map spelled_reign r.0) (sym r.2))))
-        ∙ sym (hello_grouped v (length a.value) a.value (bytes_high_first 8 b.number) (bytes_high_first 4 (length r.0)) (flat_map spelled_reign r.0));
+          ∙ sym (hello_grouped v (length a.value) a.value (bytes_high_first 8 b.number) (bytes_high_first 4 (length r.0)) (flat_map spelled_reign r.0));
     }
 body_from Resume w h = let s = alone_from 1 (2 ^ 40) w h in record { frame = defs.Resume s.0; fields = (s.1, s.2); kind_is = refl; is = s.3 }
 body_from RollbackFirst w h = let s = alone_from 1 (2 ^ 40 - 1) w h in record { frame = defs.RollbackFirst s.0; fields = (s.1, omega (arith, s.2)); kind_is = refl; is = s.3 }
@@ -246,7 +246,7 @@ body_from Entry w h =
           kind_is = refl;
           is = e ∙ ap (λ (l : List ℕ). bytes_high_first 8 number ++ u ∷ l) (b.is ∙ ap (λ (l : List ℕ). bytes_high_first 4 b.number ++ l)
               (c.is ∙ ap (λ (l : List ℕ). bytes_high_first 2 c.number ++ l) us.3 ∙ ap (λ (m : ℕ). bytes_high_first 2 m ++ flat_map spelled_update us.0) (sym us.2)))
-            ∙ sym (entry_grouped u (bytes_high_first 8 number) (bytes_high_first 4 b.number) (bytes_high_first 2 (length us.0)) (flat_map spelled_update us.0));
+              ∙ sym (entry_grouped u (bytes_high_first 8 number) (bytes_high_first 4 b.number) (bytes_high_first 2 (length us.0)) (flat_map spelled_update us.0));
         }
 body_from Bye w h = let s = alone_from 0 (2 ^ 40 - 1) w h in record { frame = defs.Bye s.0; fields = omega (arith, s.2); kind_is = refl; is = s.3 }
 
@@ -266,10 +266,16 @@ body_to (defs.Hello v n h) f = (refl, hello)
         let length_of = f.2 in
         let few = f.3 in
         let one = f.0 in
-        subst (λ (w : List ℕ). One Versioned w) (sym (hello_grouped v (length n) n (to_be_bytes w64 h.length) (to_be_bytes w32 (length h.reigns)) (flat_map spelled_reign h.reigns)))
-          (omega arith, omega arith, name_to n Lengthed (to_be_bytes w64 h.length ++ (to_be_bytes w32 (length h.reigns) ++ flat_map spelled_reign h.reigns)) f.1
-            (spelt_to 8 0 h.length (Within 0 (2 ^ 40 - 1) (λ _. ReignCount)) (to_be_bytes w32 (length h.reigns) ++ flat_map spelled_reign h.reigns) (omega arith) (omega arith) (omega arith, omega arith,
-              spelt_to 4 0 (length h.reigns) Reigned (flat_map spelled_reign h.reigns) (omega arith) (omega arith) (reigns_to h.reigns f.4))))
+        subst (λ (w : List ℕ). One Versioned w) (sym (hello_grouped v (length n) n (to_be_bytes w64 h.length) (to_be_bytes w32 (length h.reigns)) (flat_map spelled_reign h.reigns))) (
+          omega arith,
+          omega arith,
+          name_to n Lengthed (to_be_bytes w64 h.length ++ (to_be_bytes w32 (length h.reigns) ++ flat_map spelled_reign h.reigns)) f.1
+              (spelt_to 8 0 h.length (Within 0 (2 ^ 40 - 1) (λ _. ReignCount)) (to_be_bytes w32 (length h.reigns) ++ flat_map spelled_reign h.reigns) (omega arith) (omega arith) (
+                omega arith,
+                omega arith,
+                spelt_to 4 0 (length h.reigns) Reigned (flat_map spelled_reign h.reigns) (omega arith) (omega arith) (reigns_to h.reigns f.4),
+              )),
+        )
 body_to (defs.Resume n) f = (refl, alone_to 1 (2 ^ 40) n f.0 f.1 (omega (arith, f.1)))
 body_to (defs.RollbackFirst n) f = (refl, alone_to 1 (2 ^ 40 - 1) n f.0 (omega (arith, f.1)) (omega (arith, f.1)))
 body_to (defs.History r) f = (refl, subst (λ (w : List ℕ). Reigned 1 w) (append-nil (spelled_reign r)) (reign_to Ended r [] f refl))
@@ -284,10 +290,19 @@ body_to (defs.Entry n t) f = (refl, entry)
         let some = f.1.some in
         let few = f.1.few in
         subst (λ (w : List ℕ). Body Entry w) (sym (entry_grouped t.origin.updater (to_be_bytes w64 n) (to_be_bytes w32 t.origin.serial) (to_be_bytes w16 (length t.updates)) (flat_map spelled_update t.updates)))
-          (spelt_to 8 0 n (Within 1 (2 ^ 40 - 1) (λ _. One Updater)) (t.origin.updater ∷ (to_be_bytes w32 t.origin.serial ++ (to_be_bytes w16 (length t.updates) ++ flat_map spelled_update t.updates))) (omega arith) (omega (arith, number.1))
-            (number.0, omega (arith, number.1), (updater.0, updater.1,
-              spelt_to 4 0 t.origin.serial (Within 1 (2 ^ 32 - 1) (λ _. UpdateCount)) (to_be_bytes w16 (length t.updates) ++ flat_map spelled_update t.updates) (omega arith) (omega (arith, serial.1)) (serial.0, omega (arith, serial.1),
-                spelt_to 2 0 (length t.updates) (Within 1 256 Updated) (flat_map spelled_update t.updates) (omega arith) (omega arith) (some, few, updates_to t.updates f.1.each)))))
+        (spelt_to 8 0 n (Within 1 (2 ^ 40 - 1) (λ _. One Updater)) (t.origin.updater ∷ (to_be_bytes w32 t.origin.serial ++ (to_be_bytes w16 (length t.updates) ++ flat_map spelled_update t.updates))) (omega arith) (omega (arith, number.1)) (
+          number.0,
+          omega (arith, number.1),
+          (
+            updater.0,
+            updater.1,
+            spelt_to 4 0 t.origin.serial (Within 1 (2 ^ 32 - 1) (λ _. UpdateCount)) (to_be_bytes w16 (length t.updates) ++ flat_map spelled_update t.updates) (omega arith) (omega (arith, serial.1)) (
+              serial.0,
+              omega (arith, serial.1),
+              spelt_to 2 0 (length t.updates) (Within 1 256 Updated) (flat_map spelled_update t.updates) (omega arith) (omega arith) (some, few, updates_to t.updates f.1.each),
+            ),
+          ),
+        ))
 body_to (defs.Bye n) f = (refl, alone_to 0 (2 ^ 40 - 1) n (omega arith) (omega (arith, f)) (omega (arith, f)))
 
 -- frames
@@ -303,7 +318,7 @@ framed_from (b ∷ w) h =
       frame = f.frame;
       is_frame = record { fields = f.fields; short = omega arith };
       spelled = ap (λ (t : ℕ). t ∷ to_be_bytes w32 (length (frame_body f.frame)) ++ frame_body f.frame) (f.kind_is ∙ h.is)
-        ∙ ap (λ (l : List ℕ). b ∷ l) (ap (λ (n : ℕ). bytes_high_first 4 n ++ frame_body f.frame) size ∙ ap (λ (l : List ℕ). bytes_high_first 4 s.number ++ l) (sym f.is) ∙ sym s.is);
+          ∙ ap (λ (l : List ℕ). b ∷ l) (ap (λ (n : ℕ). bytes_high_first 4 n ++ frame_body f.frame) size ∙ ap (λ (l : List ℕ). bytes_high_first 4 s.number ++ l) (sym f.is) ∙ sym s.is);
     }
 
 pub framed_to : (w : List ℕ) → IsSpelled w → Framed w

@@ -8,3 +8,4 @@ pub mod Numbers
 pub mod Forms
 pub mod Runs
 pub mod Feeding
+pub mod Apart

@@ -16,7 +16,7 @@ byte_is zero n = let e : n / 1 ≡ n = omega arith in ap (λ q. q % 256) (sym e)
 byte_is (suc r) n = ap (λ u. n / u % 256) (sym (unit_is (suc r)))
 
 -- the highest byte of a number behind those of its front
-high_byte : (r v n : ℕ) → v * unit (suc r) ≤ n → n < (v + 1) * unit (suc r) → v * 256 + byte_at r n ≡ n / unit r
+pub high_byte : (r v n : ℕ) → v * unit (suc r) ≤ n → n < (v + 1) * unit (suc r) → v * 256 + byte_at r n ≡ n / unit r
 high_byte r v n from below =
     let least : v * 256 ≤ n / unit r = le-div (v * 256) n (unit r) (unit_pos r) (omega arith) in
     let most : n / unit r < (v + 1) * 256 = div_below n (unit r) ((v + 1) * 256) (unit_pos r) (omega arith) in

@@ -65,10 +65,10 @@ module _ (s next : Scan) (K : Rest) (bytes : List ℕ) (i : ℕ) (running : Runn
     awaits = next_awaits;
     open_ = open_;
     none = λ m small h. elim (cases_lt i m) as (λ _. ⊥) [
-        inl past ↦ let e : m ≡ i + 1 = omega arith in
+      | inl past ↦ let e : m ≡ i + 1 = omega arith in
           not_done next one.sound open_ (next_awaits.each [] (subst K (sym (append-nil (take (i + 1) bytes))) (subst (λ (k : ℕ). K (take k bytes)) e h)))
       | inr there ↦ running.none m there h
-      ];
+    ];
   }
 
   pub running_whole : next.part ≡ Whole → K (take (i + 1) bytes)
@@ -101,15 +101,17 @@ running_bad s K bytes i running within none = (no_more, no_front)
 
     no_front : (m : ℕ) → m ≤ length bytes → K (take m bytes) → ⊥
     no_front m small h = elim (cases_lt i m) as (λ _. ⊥) [
-        inl past ↦ let e : m ≡ i + suc (m - i - 1) = omega arith in never (take (m - i - 1) (drop (suc i) bytes)) (subst K (front_is (m - i - 1)) (subst (λ (k : ℕ). K (take k bytes)) e h))
+      | inl past ↦ let e : m ≡ i + suc (m - i - 1) = omega arith in never (take (m - i - 1) (drop (suc i) bytes)) (subst K (front_is (m - i - 1)) (subst (λ (k : ℕ). K (take k bytes)) e h))
       | inr there ↦ running.none m there h
-      ]
+    ]
 
 pub running_ended : (s : Scan) (K : Rest) (bytes : List ℕ) (i : ℕ) → Running s K bytes i → length bytes ≤ i → Runs (Open s) K bytes
 running_ended s K bytes i running ended =
-    let e = take_all i bytes ended in
-    (record {
-      sound = running.awaits.sound;
-      only = λ w h. subst (λ (l : List ℕ). K (l ++ w)) e (running.awaits.only w h);
-      each = λ w h. running.awaits.each w (subst (λ (l : List ℕ). K (l ++ w)) (sym e) h);
-    }, running.open_)
+    let e = take_all i bytes ended in (
+      record {
+        sound = running.awaits.sound;
+        only = λ w h. subst (λ (l : List ℕ). K (l ++ w)) e (running.awaits.only w h);
+        each = λ w h. running.awaits.each w (subst (λ (l : List ℕ). K (l ++ w)) (sym e) h);
+      },
+      running.open_,
+    )

@@ -40,8 +40,8 @@ pub number_whole : (field : NumberField) (front : Front) (left items : ℕ) (s :
 number_whole field front left items s none met a =
     let bounds = whole_met front none met in
     awaits_same s (BehindNumber field left items front.value) (Accepts (Number field front) left items) a
-      (subst (λ (m : ℕ). Same (BehindNumber field left items front.value) (Numbered m front.value (Within front.low front.high (BehindNumber field left items)))) (sym none)
-        (record { to = λ w h. (bounds.0, bounds.1, h); back = λ w h. h.2 }))
+    (subst (λ (m : ℕ). Same (BehindNumber field left items front.value) (Numbered m front.value (Within front.low front.high (BehindNumber field left items)))) (sym none)
+    (record { to = λ w h. (bounds.0, bounds.1, h); back = λ w h. h.2 }))
 
 pub number_open : (field : NumberField) (front : Front) (left items : ℕ) → 1 ≤ front.missing → front.missing ≤ 8 → IsMet front → NumberFits field front.low front.high left items
     → Awaits (record { part = Number field front; left = left; items = items }) (Accepts (Number field front) left items)
@@ -52,8 +52,8 @@ pub number_stepped : (field : NumberField) (front after : Front) (left items byt
     → Awaits s (λ w. Accepts (Number field front) left items (byte ∷ w))
 number_stepped field front after left items byte s open_ small is a =
     awaits_same s (Accepts (Number field (taken front byte)) left items) (λ w. Accepts (Number field front) left items (byte ∷ w))
-      (subst (λ (f : Front). Awaits s (Accepts (Number field f) left items)) is a)
-      (stepped front byte (BehindNumber field left items) open_ small)
+    (subst (λ (f : Front). Awaits s (Accepts (Number field f) left items)) is a)
+    (stepped front byte (BehindNumber field left items) open_ small)
 
 -- keys
 

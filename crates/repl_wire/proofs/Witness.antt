@@ -110,7 +110,7 @@ some_reigns (suc count) left h =
     let n = name_length count (left - 1) in
     let rest = some_reigns count (left - 1 - 12 - n) (omega (arith, h.0, h.1), omega (arith, h.0, h.1)) in
     of_length (Reigned (suc count)) (suc (n + 12 + (left - 1 - 12 - n))) left (omega (arith, h.0, h.1))
-      (some_one n (n + 12 + (left - 1 - 12 - n)) (Rooted (Reigned count)) (some_rooted n (left - 1 - 12 - n) (Reigned count) (omega arith) (omega (arith, h.0, h.1)) rest))
+    (some_one n (n + 12 + (left - 1 - 12 - n)) (Rooted (Reigned count)) (some_rooted n (left - 1 - 12 - n) (Reigned count) (omega arith) (omega (arith, h.0, h.1)) rest))
 
 -- the rest of a reign behind its name's length, and of those behind it
 pub some_root : (count left : ℕ) → HoldsReigns 13 27 count left → Some (One (λ b. Sized (Rooted (Reigned count) b) left)) (suc left)
@@ -119,7 +119,7 @@ some_root count left h =
     let n = name_length count left in
     let rest = some_reigns count (left - 12 - n) (omega (arith, h.0, h.1), omega (arith, h.0, h.1)) in
     some_one n left (λ b. Sized (Rooted (Reigned count) b) left)
-      (sized (Rooted (Reigned count) n) left (of_length (Rooted (Reigned count) n) (n + 12 + (left - 12 - n)) left (omega (arith, h.0, h.1)) (some_rooted n (left - 12 - n) (Reigned count) (omega arith) (omega (arith, h.0, h.1)) rest)))
+    (sized (Rooted (Reigned count) n) left (of_length (Rooted (Reigned count) n) (n + 12 + (left - 12 - n)) left (omega (arith, h.0, h.1)) (some_rooted n (left - 12 - n) (Reigned count) (omega arith) (omega (arith, h.0, h.1)) rest)))
 
 pub some_reign_count : (left : ℕ) → HoldsSome 4 left → Some ReignCount left
 some_reign_count left h =
@@ -151,9 +151,9 @@ some_site_of n left a b c h =
 
 pub some_site : (left : ℕ) → 13 ≤ left → left ≤ 1048575 → Some (One (λ b. Sized (Sited b) left)) (suc left)
 some_site left least most = elim (cases_lt left 28) as (λ _. Some (One (λ b. Sized (Sited b) left)) (suc left)) [
-    inl low ↦ some_one (left - 12) left (λ b. Sized (Sited b) left) (some_site_of (left - 12) left (omega arith) (omega arith) (omega arith) (inl (omega arith), omega arith))
+  | inl low ↦ some_one (left - 12) left (λ b. Sized (Sited b) left) (some_site_of (left - 12) left (omega arith) (omega arith) (omega arith) (inl (omega arith), omega arith))
   | inr high ↦ some_one 1 left (λ b. Sized (Sited b) left) (some_site_of 1 left (omega arith) (omega arith) (omega arith) (inr (omega arith), omega arith))
-  ]
+]
 
 -- updates
 
@@ -183,22 +183,22 @@ module _ (count : ℕ) (some : (m : ℕ) → HoldsUpdates 0 0 count m → Some (
   key_length_of false left h =
       let n = max 2 (left - 1759 * count) in
       some_one n left (λ b. Sized (Keyed false (Updated count) b) left) (sized (Keyed false (Updated count) n) left
-        (keyed_of false n left (omega arith) (omega (arith, h.0, h.1)) (omega (arith, h.0)) (omega (arith, h.0, h.1), omega (arith, h.0, h.1))))
+      (keyed_of false n left (omega arith) (omega (arith, h.0, h.1)) (omega (arith, h.0)) (omega (arith, h.0, h.1), omega (arith, h.0, h.1))))
   key_length_of true left h =
       let n = max 2 (left - 1502 - 1759 * count) in
       some_one n left (λ b. Sized (Keyed true (Updated count) b) left) (sized (Keyed true (Updated count) n) left
-        (keyed_of true n left (omega arith) (omega (arith, h.0, h.1)) (omega (arith, h.0)) (omega (arith, h.0, h.1), omega (arith, h.0, h.1))))
+      (keyed_of true n left (omega arith) (omega (arith, h.0, h.1)) (omega (arith, h.0)) (omega (arith, h.0, h.1), omega (arith, h.0, h.1))))
 
   -- a tag and the rest of its update: a key alone where that can be all
   tag_of : (left : ℕ) → HoldsUpdates 3 1758 count left → (tag : ℕ) × Some (Tagged (Updated count) tag) left
   tag_of left h = elim (cases_lt (left - 1) (256 + 1759 * count)) as (λ _. (tag : ℕ) × Some (Tagged (Updated count) tag) left) [
-      inl few ↦
+    | inl few ↦
         let s = key_length_of false (left - 1) (omega (arith, h.0), omega arith) in
         (2, record { bytes = s.bytes; holds = (omega arith, omega arith, plain (nat_eq 2 1) refl (left - 1) s.bytes s.holds); sizes = (let e = s.sizes in omega (arith, h.0)) })
     | inr many ↦
         let s = key_length_of true (left - 1) (omega arith, omega (arith, h.1)) in
         (1, record { bytes = s.bytes; holds = (omega arith, omega arith, plain (nat_eq 1 1) refl (left - 1) s.bytes s.holds); sizes = (let e = s.sizes in omega (arith, h.0)) })
-    ]
+  ]
     where
       plain : (set : Bool) → set ≡ set → (l : ℕ) (w : List ℕ) → One (λ b. Sized (Keyed set (Updated count) b) l) w → One (Keyed set (Updated count)) w
       plain set _ l [] k = k
@@ -262,9 +262,11 @@ some_behind number.EntryNumber low high left items n a b small f =
     (left, sized (One Updater) left (of_length (One Updater) (suc (left - 1)) left (omega (arith, f.0)) (some_unsized Updater (left - 1) (suc (left - 1)) (some_updater (left - 1) (omega (arith, f.0)) (omega (arith, f.1))))))
 some_behind number.Serial low high left items n a b small f = (left, sized UpdateCount left (some_update_count left f.0 f.1))
 some_behind number.UpdateCount low high left items n a b small f = (left, sized (Updated n) left (some_updates n left (omega (arith, f.0), omega (arith, f.1))))
-some_behind number.ValueLength low high left items n a b small f =
-    (left, sized (Skipped n (Updated items)) left (of_length (Skipped n (Updated items)) (n + (left - n)) left (omega (arith, f.0))
-      (some_skipped n (left - n) (Updated items) (some_updates items (left - n) (omega (arith, f.0), omega (arith, f.1))))))
+some_behind number.ValueLength low high left items n a b small f = (
+  left,
+  sized (Skipped n (Updated items)) left (of_length (Skipped n (Updated items)) (n + (left - n)) left (omega (arith, f.0))
+      (some_skipped n (left - n) (Updated items) (some_updates items (left - n) (omega (arith, f.0), omega (arith, f.1))))),
+)
 
 -- bytes behind a byte
 some_byte : (field : ByteField) (left items : ℕ) → ByteFits field left items → (len : ℕ) × Some (One (BehindByte field left items)) len
@@ -303,7 +305,7 @@ some_completion (Name first missing true) left items f = let s = some_name first
 some_completion (Name first missing false) left items f =
     let h = f.1 in
     let s = some_name first missing left (Sized (Cycling (Reigned items)) left) (sized (Cycling (Reigned items)) left (of_length (Cycling (Reigned items)) (12 + (left - 12)) left (omega (arith, h.0))
-      (some_cycling (left - 12) (Reigned items) (some_reigns items (left - 12) (omega (arith, h.0), omega (arith, h.1)))))) in
+    (some_cycling (left - 12) (Reigned items) (some_reigns items (left - 12) (omega (arith, h.0), omega (arith, h.1)))))) in
     (s.bytes, s.holds)
 some_completion (Key set prefix) left items f =
     let k = f.0 in

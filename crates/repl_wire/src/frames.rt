@@ -112,7 +112,9 @@ fn advanced(
     let (front, back) = piece.split_at(count);
     let frame = join(alloc, kept, front)?;
     out.push(frame)?;
-    let offset = offset.saturating_add(kept.len() as u64).saturating_add(count as u64);
+    let offset = offset
+        .saturating_add(kept.len() as u64)
+        .saturating_add(count as u64);
     let tail = take_frames(alloc, offset, back, out)?;
     Ok(Frames {
         rest: Vec::from_slice(alloc, tail.rest)?,

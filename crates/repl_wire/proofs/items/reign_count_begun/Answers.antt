@@ -13,4 +13,4 @@ returns c =
     let low = c.from.ensures in
     let ceil = c.div_ceil.ensures in
     rw c.new.ensures (reign_count_awaited c.args.left (c.args.left - 4) c.from.result c.from-2.result (four c.args.left c.requires.0) c.requires
-      (omega (arith, d.0)) (omega (arith, d.1)) (omega arith) (omega arith))
+    (omega (arith, d.0)) (omega (arith, d.1)) (omega arith) (omega arith))

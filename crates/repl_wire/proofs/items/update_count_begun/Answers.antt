@@ -8,4 +8,4 @@ returns c =
     let d = div_ceil_times (c.args.left - 2) 1759 (omega arith) in
     let ceil = c.div_ceil.ensures in
     rw c.new.ensures (update_count_awaited c.args.left (c.args.left - 2) c.from.result c.from-2.result (omega (arith, c.requires.least)) c.requires.least c.requires.most
-      (omega (arith, d.0)) (omega (arith, d.1)) (omega arith) (omega arith) (λ n four most. omega arith))
+    (omega (arith, d.0)) (omega (arith, d.1)) (omega arith) (omega arith) (λ n four most. omega arith))

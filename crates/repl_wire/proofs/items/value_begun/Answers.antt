@@ -15,4 +15,4 @@ returns c =
     let low = c.saturating_sub-low.ensures in
     let high = c.min-high.ensures in
     rw c.new.ensures (value_awaited c.args.left (c.from-left.result - 2) c.args.items c.saturating_sub-low.result c.min-high.result (omega (arith, r.0)) c.requires
-      (omega arith) (zeroed (c.from-left.result - 2) (1759 * c.args.items) c.saturating_sub-low.result (omega arith)) (omega (arith, r.0)) (omega arith) (λ n fits most. omega arith))
+    (omega arith) (zeroed (c.from-left.result - 2) (1759 * c.args.items) c.saturating_sub-low.result (omega arith)) (omega (arith, r.0)) (omega arith) (λ n fits most. omega arith))

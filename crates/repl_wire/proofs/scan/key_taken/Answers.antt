@@ -13,9 +13,9 @@ returns-then-left-eq0 c =
     let k = c.requires.0 in
     let after = c.if-not-take.ensures.begins k.taken k.len k.is_at in
     key_ends c.args.set c.args.prefix c.take.new.self c.args.left c.args.items c.args.byte k.taken k.len k.is_at after c.key_read.result
-      (left_is c.take.new.self (k.taken ++ c.args.byte ∷ []) k.len c.left.result after (c.left.ensures.rest (k.taken ++ c.args.byte ∷ []) k.len after) c.if-left-eq0.true)
-      (c.left.ensures.whole (k.taken ++ c.args.byte ∷ []) k.len after c.if-left-eq0.true)
-      c.key_read.ensures
+    (left_is c.take.new.self (k.taken ++ c.args.byte ∷ []) k.len c.left.result after (c.left.ensures.rest (k.taken ++ c.args.byte ∷ []) k.len after) c.if-left-eq0.true)
+    (c.left.ensures.whole (k.taken ++ c.args.byte ∷ []) k.len after c.if-left-eq0.true)
+    c.key_read.ensures
 
 pub returns : goal.returns
 returns c =

@@ -1,5 +1,3 @@
-
-
 use Rattle.repl_wire.proofs.field.Scan.take.Goals as goal
 
 pub returns-in-Key : goal.returns-in-Key
