@@ -28,9 +28,9 @@ split (x ∷ a) b (y ∷ c) d e =
     let head : x ≡ y = cc in
     let tail : a ++ b ≡ c ++ d = cc in
     elim (split a b c d tail) as (λ _. Splits (x ∷ a) b (y ∷ c) d) [
-        inl s ↦ inl (s.0, ap (λ (z : ℕ). z ∷ c) (sym head) ∙ ap (λ (l : List ℕ). x ∷ l) s.1, s.2)
+      | inl s ↦ inl (s.0, ap (λ (z : ℕ). z ∷ c) (sym head) ∙ ap (λ (l : List ℕ). x ∷ l) s.1, s.2)
       | inr s ↦ inr (s.0, ap (λ (z : ℕ). z ∷ a) head ∙ ap (λ (l : List ℕ). y ∷ l) s.1, s.2)
-      ]
+    ]
 
 -- fronts of one length
 pub same_length : (a b x y : List ℕ) → a ++ x ≡ b ++ y → length a ≡ length b → (a ≡ b) × (x ≡ y)
@@ -73,7 +73,7 @@ regrouped a b c x = append_assoc (a ++ b) c x ∙ append_assoc a b (c ++ x)
 pub reign_one : (r s : Reign) (x y : List ℕ) → IsReign r → IsReign s → spelled_reign r ++ x ≡ spelled_reign s ++ y → (r ≡ s) × (x ≡ y)
 reign_one r s x y f g e =
     let root = short_one r.stamp.root s.stamp.root (to_be_bytes w32 r.stamp.cycle ++ (to_be_bytes w64 r.start ++ x)) (to_be_bytes w32 s.stamp.cycle ++ (to_be_bytes w64 s.start ++ y))
-      (sym (regrouped (short r.stamp.root) (to_be_bytes w32 r.stamp.cycle) (to_be_bytes w64 r.start) x) ∙ e ∙ regrouped (short s.stamp.root) (to_be_bytes w32 s.stamp.cycle) (to_be_bytes w64 s.start) y) in
+    (sym (regrouped (short r.stamp.root) (to_be_bytes w32 r.stamp.cycle) (to_be_bytes w64 r.start) x) ∙ e ∙ regrouped (short s.stamp.root) (to_be_bytes w32 s.stamp.cycle) (to_be_bytes w64 s.start) y) in
     let fc = f.stamp.cycle in
     let gc = g.stamp.cycle in
     let fs = f.start in
@@ -130,7 +130,7 @@ pub body_one : (f g : Frame) → HasFields f → HasFields g → frame_type f �
 body_one (Hello v n h) (Hello w m k) f g t e =
     let version : v ≡ w = cc in
     let name = short_one n m (to_be_bytes w64 h.length ++ (to_be_bytes w32 (length h.reigns) ++ flat_map spelled_reign h.reigns)) (to_be_bytes w64 k.length ++ (to_be_bytes w32 (length k.reigns) ++ flat_map spelled_reign k.reigns))
-      (sym (hello_regrouped (short n) (to_be_bytes w64 h.length) (to_be_bytes w32 (length h.reigns)) (flat_map spelled_reign h.reigns)) ∙ tagged e ∙ hello_regrouped (short m) (to_be_bytes w64 k.length) (to_be_bytes w32 (length k.reigns)) (flat_map spelled_reign k.reigns)) in
+    (sym (hello_regrouped (short n) (to_be_bytes w64 h.length) (to_be_bytes w32 (length h.reigns)) (flat_map spelled_reign h.reigns)) ∙ tagged e ∙ hello_regrouped (short m) (to_be_bytes w64 k.length) (to_be_bytes w32 (length k.reigns)) (flat_map spelled_reign k.reigns)) in
     let a = f.2 in
     let b = g.2 in
     let c = f.3 in
@@ -144,11 +144,11 @@ body_one (RollbackFirst n) (RollbackFirst m) f g t e = let a = f.1 in let b = g.
 body_one (History r) (History s) f g t e = ap History (reign_one r s [] [] f g (ap (λ (l : List ℕ). l ++ []) e)).0
 body_one (Entry n a) (Entry m b) f g t e =
     let number = number_one 8 n m (a.origin.updater ∷ (to_be_bytes w32 a.origin.serial ++ (to_be_bytes w16 (length a.updates) ++ flat_map spelled_update a.updates))) (b.origin.updater ∷ (to_be_bytes w32 b.origin.serial ++ (to_be_bytes w16 (length b.updates) ++ flat_map spelled_update b.updates)))
-      (let s = f.0.1 in omega arith) (let s = g.0.1 in omega arith)
-      (sym (entry_regrouped n a) ∙ e ∙ entry_regrouped m b) in
+    (let s = f.0.1 in omega arith) (let s = g.0.1 in omega arith)
+    (sym (entry_regrouped n a) ∙ e ∙ entry_regrouped m b) in
     let updater : a.origin.updater ≡ b.origin.updater = cc (number.1) in
     let serial = number_one 4 a.origin.serial b.origin.serial (to_be_bytes w16 (length a.updates) ++ flat_map spelled_update a.updates) (to_be_bytes w16 (length b.updates) ++ flat_map spelled_update b.updates)
-      (let s = f.1.origin.serial.1 in omega arith) (let s = g.1.origin.serial.1 in omega arith) (tagged number.1) in
+    (let s = f.1.origin.serial.1 in omega arith) (let s = g.1.origin.serial.1 in omega arith) (tagged number.1) in
     let few = f.1.few in
     let few_too = g.1.few in
     let count = number_one 2 (length a.updates) (length b.updates) (flat_map spelled_update a.updates) (flat_map spelled_update b.updates) (omega arith) (omega arith) serial.1 in
@@ -157,7 +157,7 @@ body_one (Entry n a) (Entry m b) f g t e =
   where
     entry_regrouped : (n : ℕ) (a : Transaction) → entry_bytes n a ≡ to_be_bytes w64 n ++ (a.origin.updater ∷ (to_be_bytes w32 a.origin.serial ++ (to_be_bytes w16 (length a.updates) ++ flat_map spelled_update a.updates)))
     entry_regrouped n a = append_assoc (to_be_bytes w64 n ++ a.origin.updater ∷ to_be_bytes w32 a.origin.serial) (to_be_bytes w16 (length a.updates)) (flat_map spelled_update a.updates)
-      ∙ append_assoc (to_be_bytes w64 n) (a.origin.updater ∷ to_be_bytes w32 a.origin.serial) (to_be_bytes w16 (length a.updates) ++ flat_map spelled_update a.updates)
+        ∙ append_assoc (to_be_bytes w64 n) (a.origin.updater ∷ to_be_bytes w32 a.origin.serial) (to_be_bytes w16 (length a.updates) ++ flat_map spelled_update a.updates)
 body_one (Bye n) (Bye m) f g t e = ap Bye (alone_one n m (omega arith) (omega arith) e)
 body_one f g a b t e = absurd (omega arith)
 
@@ -169,7 +169,7 @@ body_length_one f g x y a b e =
     let fs = a.short in
     let gs = b.short in
     let n = number_one 4 (length (frame_body f)) (length (frame_body g)) (frame_body f ++ x) (frame_body g ++ y) (omega arith) (omega arith)
-      (sym (append_assoc (to_be_bytes w32 (length (frame_body f))) (frame_body f) x) ∙ tagged e ∙ append_assoc (to_be_bytes w32 (length (frame_body g))) (frame_body g) y) in
+    (sym (append_assoc (to_be_bytes w32 (length (frame_body f))) (frame_body f) x) ∙ tagged e ∙ append_assoc (to_be_bytes w32 (length (frame_body g))) (frame_body g) y) in
     (kind, n.0, n.1)
 
 pub frame_one : (f g : Frame) (x y : List ℕ) → IsFrame f → IsFrame g → spelled_frame f ++ x ≡ spelled_frame g ++ y → (f ≡ g) × (x ≡ y)

@@ -10,7 +10,9 @@ use Rattle.repl_wire.specs.declared.field.Part.TheVariants.{Whole}
 use Rattle.repl_wire.specs.declared.field.Scan.{Scan}
 use Rattle.repl_wire.specs.Layout.{Rest, Framed}
 use Rattle.repl_wire.specs.Scans.{Awaits, Completing}
-use Rattle.repl_wire.specs.Feeds.{Takes, Refuses, IsSpelled, IsWithin, Runs}
+use Rattle.repl_wire.specs.declared.frame.FrameError.{FrameError}
+use Rattle.repl_wire.specs.declared.frame.FrameError.TheVariants.{BadFrame, NoMemory}
+use Rattle.repl_wire.specs.Feeds.{Takes, Refuses, Fails, IsSpelled, IsWithin, Runs}
 use Rattle.repl_wire.specs.declared.run.Ran.TheVariants as ran
 use Rattle.repl_wire.proofs.Forms.{framed_from, framed_to}
 use Rattle.repl_wire.proofs.Witness.{some_completion}
@@ -84,6 +86,20 @@ prefix_same before = ([], sym (append-nil before))
 
 pub takes_prefix : (offset : ℕ) (bytes : List ℕ) (before after : List Frame) (at : ℕ) (rest : List ℕ) → Takes offset bytes before after at rest → IsPrefix before after
 takes_prefix offset bytes before after at rest t = (t.frames, t.added)
+
+pub takes_kept : (offset : ℕ) (bytes : List ℕ) (before after : List Frame) (at : ℕ) (rest : List ℕ) (at_too : ℕ) (rest_too : List ℕ) → Takes offset bytes before after at rest → at_too ≡ at → rest_too ≡ rest → Takes offset bytes before after at_too rest_too
+takes_kept offset bytes before after at rest at_too rest_too t e f = record { frames = t.frames; are = record { whole = t.are.whole ∙ ap (λ (l : List ℕ). stream t.frames ++ l) (sym f); each = t.are.each }; added = t.added; at_is = e ∙ t.at_is }
+
+pub fails_more : (e : FrameError) (offset : ℕ) (bytes : List ℕ) (before after : List Frame) (at : ℕ) (rest : List ℕ) (later : List Frame) → Takes offset bytes before after at rest → Fails e at rest after later → Fails e offset bytes before later
+fails_more (BadFrame told) offset bytes before after at rest later t f = refuses_more offset bytes before after at rest later told t f
+fails_more NoMemory offset bytes before after at rest later t f = prefix_more before after later (takes_prefix offset bytes before after at rest t) f
+
+-- the frame that the bytes kept and the first of a piece are
+pub takes_first : (offset : ℕ) (kept piece front back : List ℕ) (before after : List Frame) (f : Frame) (at : ℕ) → offset < 2 ^ 64 → piece ≡ front ++ back → IsFrame f → spelled_frame f ≡ kept ++ front → after ≡ before ++ f ∷ [] → at ≡ min (offset + length (kept ++ front)) (2 ^ 64 - 1)
+    → Takes offset (kept ++ piece) before after at back
+takes_first offset kept piece front back before after f at small cut form spelled push told =
+    takes_one offset (kept ++ piece) before before offset (kept ++ piece) f (kept ++ front) back after at (takes_none offset (kept ++ piece) before small) form spelled
+    (ap (λ (l : List ℕ). kept ++ l) cut ∙ sym (append_assoc kept front back)) push told
 
 -- a scan behind bytes of a frame
 

@@ -9,3 +9,4 @@ pub mod Forms
 pub mod Runs
 pub mod Feeding
 pub mod Apart
+pub mod Found

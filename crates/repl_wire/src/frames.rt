@@ -94,6 +94,41 @@ fn join(alloc: Global, kept: &mut Vec<u8>, front: &[u8]) -> Result<Frame, NoMemo
     read
 }
 
+impl Tail<'_> {
+    /// The reader that keeps the rest.
+    fn kept(self, alloc: Global) -> Result<Frames, FrameError>
+        requires { IsWithin self.scan self.rest.now }
+        ensures ok { IfOk result (λ f. (f.offset ≡ self.offset) × (f.rest ≡ self.rest.now)) }
+        ensures partial { IfOk result (λ f. BeginsFrame f.rest) }
+        ensures err { IfErr result (λ e. e ≡ FrameError.NoMemory) }
+    {
+        let rest = Vec::from_slice(alloc, self.rest)?;
+        Ok(Frames {
+            rest,
+            scan: self.scan,
+            offset: self.offset,
+        })
+    }
+}
+
+/// The reader behind these bytes, the first frame of which begins at that offset.
+#[tactic(auto, using(crate::proofs::Feeding::takes_kept))]
+fn behind(
+    alloc: Global,
+    offset: u64,
+    bytes: &[u8],
+    out: &mut FrameList,
+) -> Result<Frames, FrameError>
+    ensures ok { IfOk result (λ f. Takes offset bytes.now out.old out.new f.offset f.rest) }
+    ensures partial { IfOk result (λ f. BeginsFrame f.rest) }
+    ensures err { IfErr result (λ e. Fails e offset bytes.now out.old out.new) }
+{
+    match take_frames(alloc, offset, bytes, out) {
+        Ok(tail) => tail.kept(alloc),
+        Err(error) => Err(error),
+    }
+}
+
 /// The reader behind a piece whose first `count` bytes complete the frame that was begun at that offset. The bytes kept stay.
 fn advanced(
     alloc: Global,
@@ -107,20 +142,14 @@ fn advanced(
     requires whole { IsSpelled (kept.old.items ++ take count piece.now) }
     ensures kept { kept.new.items ≡ kept.old.items }
     ensures ok { IfOk result (λ f. Takes offset (kept.old.items ++ piece.now) out.old out.new f.offset f.rest) }
+    ensures partial { IfOk result (λ f. BeginsFrame f.rest) }
     ensures err { IfErr result (λ e. Fails e offset (kept.old.items ++ piece.now) out.old out.new) }
 {
     let (front, back) = piece.split_at(count);
     let frame = join(alloc, kept, front)?;
     out.push(frame)?;
-    let offset = offset
-        .saturating_add(kept.len() as u64)
-        .saturating_add(count as u64);
-    let tail = take_frames(alloc, offset, back, out)?;
-    Ok(Frames {
-        rest: Vec::from_slice(alloc, tail.rest)?,
-        scan: tail.scan,
-        offset: tail.offset,
-    })
+    let begun = offset.saturating_add(kept.len() as u64);
+    behind(alloc, begun.saturating_add(count as u64), back, out)
 }
 
 impl Frames {

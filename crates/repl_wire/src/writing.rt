@@ -1,7 +1,7 @@
 //! Frames as bytes.
 ghost use Rattle.std.specs.Prelude.{◌≡◌, ◌++◌, ◌≤◌, ◌<◌, ◌^◌, ◌∷◌, ℕ, length, OnOk, OnErr, map, take, drop, List};
 ghost use Rattle.std.specs.List.{flat_map, AllByRecursion};
-ghost use Rattle.std.specs.Int.{to_be_bytes, w64};
+ghost use Rattle.std.specs.Int.{to_be_bytes, w16, w32, w64};
 ghost use Rattle.global_defs.specs.Fields.{IsReign, IsUpdate, IsTransaction, spelled_update};
 ghost use Rattle.global_defs.specs.Prefix.{IsPrefix};
 ghost use Rattle.gvn_key.specs.Terms.{update_value};
@@ -14,7 +14,7 @@ ghost use Rattle.repl_wire.specs.Values.{frame_value};
 use super::frame::Frame;
 use gvn_key::terms::Update;
 use gvn_key::{Bytes, NoMemory};
-use gvn_model::{History, Reign, Transaction};
+use gvn_model::{History, Origin, Reign, Transaction};
 use repl_fields::{write_short, write_update};
 
 /// Adds a reign at the end.
@@ -49,15 +49,27 @@ fn write_updates(updates: &[Update], out: &mut Bytes) -> Result<(), NoMemory>
     Ok(())
 }
 
+/// Adds what stands before an entry's updates at the end.
+fn write_head(number: u64, origin: Origin, count: u16, out: &mut Bytes) -> Result<(), NoMemory>
+    ensures { OnOk result (out.new ≡ out.old ++ (to_be_bytes w64 number ++ origin.updater ∷ to_be_bytes w32 origin.serial ++ to_be_bytes w16 count)) }
+{
+    out.push_all(&number.to_be_bytes())?;
+    out.push(origin.updater)?;
+    out.push_all(&origin.serial.to_be_bytes())?;
+    out.push_all(&count.to_be_bytes())
+}
+
 /// Adds the bytes of the entry of that number at the end.
 fn write_entry(number: u64, transaction: &Transaction, out: &mut Bytes) -> Result<(), NoMemory>
     requires { IsTransaction (transaction_value transaction.now) }
     ensures { OnOk result (out.new ≡ out.old ++ entry_bytes number (transaction_value transaction.now)) }
 {
-    out.push_all(&number.to_be_bytes())?;
-    out.push(transaction.origin.updater)?;
-    out.push_all(&transaction.origin.serial.to_be_bytes())?;
-    out.push_all(&(transaction.updates.len() as u16).to_be_bytes())?;
+    write_head(
+        number,
+        transaction.origin,
+        transaction.updates.len() as u16,
+        out,
+    )?;
     write_updates(transaction.updates.as_slice(), out)
 }
 
