@@ -94,25 +94,17 @@ fn join(alloc: Global, kept: &mut Vec<u8>, front: &[u8]) -> Result<Frame, NoMemo
     read
 }
 
-impl Tail<'_> {
-    /// The reader that keeps the rest.
-    fn kept(self, alloc: Global) -> Result<Frames, FrameError>
-        requires { IsWithin self.scan self.rest.now }
-        ensures ok { IfOk result (λ f. (f.offset ≡ self.offset) × (f.rest ≡ self.rest.now)) }
-        ensures partial { IfOk result (λ f. BeginsFrame f.rest) }
-        ensures err { IfErr result (λ e. e ≡ FrameError.NoMemory) }
-    {
-        let rest = Vec::from_slice(alloc, self.rest)?;
-        Ok(Frames {
-            rest,
-            scan: self.scan,
-            offset: self.offset,
-        })
-    }
+/// The reader that keeps this rest.
+fn keeping(alloc: Global, offset: u64, scan: Scan, rest: &[u8]) -> Result<Frames, FrameError>
+    requires { IsWithin scan rest.now }
+    ensures ok { IfOk result (λ f. (f.offset ≡ offset) × (f.rest ≡ rest.now)) }
+    ensures err { IfErr result (λ e. e ≡ FrameError.NoMemory) }
+{
+    let rest = Vec::from_slice(alloc, rest)?;
+    Ok(Frames { rest, scan, offset })
 }
 
 /// The reader behind these bytes, the first frame of which begins at that offset.
-#[tactic(auto, using(crate::proofs::Feeding::takes_kept))]
 fn behind(
     alloc: Global,
     offset: u64,
@@ -120,11 +112,10 @@ fn behind(
     out: &mut FrameList,
 ) -> Result<Frames, FrameError>
     ensures ok { IfOk result (λ f. Takes offset bytes.now out.old out.new f.offset f.rest) }
-    ensures partial { IfOk result (λ f. BeginsFrame f.rest) }
     ensures err { IfErr result (λ e. Fails e offset bytes.now out.old out.new) }
 {
     match take_frames(alloc, offset, bytes, out) {
-        Ok(tail) => tail.kept(alloc),
+        Ok(tail) => keeping(alloc, tail.offset, tail.scan, tail.rest),
         Err(error) => Err(error),
     }
 }
@@ -142,13 +133,12 @@ fn advanced(
     requires whole { IsSpelled (kept.old.items ++ take count piece.now) }
     ensures kept { kept.new.items ≡ kept.old.items }
     ensures ok { IfOk result (λ f. Takes offset (kept.old.items ++ piece.now) out.old out.new f.offset f.rest) }
-    ensures partial { IfOk result (λ f. BeginsFrame f.rest) }
     ensures err { IfErr result (λ e. Fails e offset (kept.old.items ++ piece.now) out.old out.new) }
 {
     let (front, back) = piece.split_at(count);
     let frame = join(alloc, kept, front)?;
     out.push(frame)?;
-    let begun = offset.saturating_add(kept.len() as u64);
+    let begun = offset.saturating_add(kept.as_slice().len() as u64);
     behind(alloc, begun.saturating_add(count as u64), back, out)
 }
 
