@@ -1,0 +1,10 @@
+pub mod Numerals
+pub mod Numbers
+pub mod NameSteps
+pub mod DigitSteps
+pub mod TextSteps
+pub mod SubSteps
+pub mod Stepping
+pub mod Filling
+pub mod Fitting
+pub mod Taking

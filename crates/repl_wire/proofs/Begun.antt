@@ -1,0 +1,359 @@
+-- What scans before a part of a frame await.
+use Rattle.std.proofs.Common.{◌≡◌, ℕ, zero, suc, ◌+◌, ◌-◌, ◌*◌, ◌^◌, ◌<◌, ◌≤◌, List, [], ◌∷◌, ◌++◌, length, Bool, true, false, nat_eq, refl, sym, ap, ◌∙◌, subst, arith, length-append, inl, inr, append_assoc}
+use Rattle.std.specs.Prelude.{◌⊎◌, ◌==◌, if◌then◌else◌}
+use Rattle.std.proofs.lemmas.Bool.{cases_eq, ne_eqb, eq-eqb}
+use Rattle.key_prefix.proofs.Taking.{code_length}
+use Rattle.key_prefix.specs.Codes.{IsCode}
+use Rattle.key_prefix.specs.Rests.{IsAt, Completes}
+use Rattle.key_prefix.specs.declared.prefix.KeyPrefix.{KeyPrefix}
+use Rattle.repl_wire.specs.declared.field.Kind.{Kind}
+use Rattle.repl_wire.specs.declared.field.Kind.TheVariants.{Hello, Resume, RollbackFirst, History, Entry, Bye}
+use Rattle.repl_wire.specs.declared.field.ByteField.TheVariants as byte
+use Rattle.repl_wire.specs.declared.field.NumberField.{NumberField}
+use Rattle.repl_wire.specs.declared.field.NumberField.TheVariants as number
+use Rattle.repl_wire.specs.declared.field.Part.{Part}
+use Rattle.repl_wire.specs.declared.field.Part.TheVariants.{Byte, Number, Name, Key, Value, Whole}
+use Rattle.repl_wire.specs.declared.field.Scan.{Scan}
+use Rattle.repl_wire.specs.declared.front.Front.{Front}
+use Rattle.repl_wire.specs.Fronts.{unit, IsMet, IsOpen}
+use Rattle.repl_wire.specs.Kinds.{type_of, least_body, most_body}
+use Rattle.repl_wire.specs.Layout.{Rest, Ended, Sized, One, Numbered, Within, Named, Skipped, Then, Starting, Cycling, Rooted, Reigned, Valued, BehindKey, Keyed, Tagged, Updated, UpdateCount, Serial, Updater, ReignCount, Lengthed, Sited, Versioned, Alone, Body, Bodied, Typed}
+use Rattle.repl_wire.specs.Scans.{Awaits, Accepts, Fits, BehindByte, BehindNumber, BehindName, KeyRest, ByteFits, NumberFits, NameFits, KeyFits, IsInKey, HoldsReigns, HoldsUpdates, HoldsSome, SiteFits, RootFits, TagFits, KeyLengthFits}
+use Rattle.repl_wire.proofs.Sizes.{Same, before, numbered_map, one_same, number_same, within_same, named_same, skipped_same, sized_same}
+use Rattle.repl_wire.proofs.Lengths.{Bounds, Behind, behind_number, skipped_length, reigned_length, updated_length, cycling_length, rooted_length, reign_count_length, lengthed_length, named_length, valued_length, tagged_length, behind_key_length, keyed_length}
+
+abbrev scan : Part → ℕ → ℕ → Scan
+scan part left items = record { part = part; left = left; items = items }
+
+abbrev fresh : ℕ → ℕ → ℕ → Front
+fresh missing low high = record { value = 0; missing = missing; low = low; high = high }
+
+pub awaits : (part : Part) (left items : ℕ) (K : Rest) → Fits part left items → Same (Accepts part left items) K → Awaits (scan part left items) K
+awaits part left items K fits same = record { sound = fits; only = same.to; each = same.back }
+
+pub fresh_open : (missing low high : ℕ) → 1 ≤ missing → missing ≤ 8 → low ≤ high → high ≤ 2 ^ 40 → low < unit missing → IsOpen (fresh missing low high)
+fresh_open missing low high some few bounds small reach = record {
+  met = record { not_past = omega arith; reaches = omega arith; bounds = bounds; small = small };
+  some = some;
+  few = few;
+}
+
+-- nothing, of no bytes
+pub ended_same : (left : ℕ) → left ≡ 0 → Same Ended (Sized Ended left)
+ended_same left e = record { to = λ w h. (h, ap length h ∙ sym e); back = λ w h. h.0 }
+
+pub ranged_same : (lo hi left : ℕ) (K L : ℕ → Rest) (n : ℕ) → Same (L n) (Sized (K n) left) → Same (Within lo hi L n) (Sized (Within lo hi K n) left)
+ranged_same lo hi left K L n same = record {
+  to = λ w h. let s = same.to w h.2 in ((h.0, h.1, s.0), s.1);
+  back = λ w h. (h.0.0, h.0.1, same.back w (h.0.2, h.1));
+}
+
+pub within_in : (lo hi left n : ℕ) (A : Rest) (K : ℕ → Rest) → lo ≤ n → n ≤ hi → Same A (Sized (K n) left) → Same A (Sized (Within lo hi K n) left)
+within_in lo hi left n A K low high same = record {
+  to = λ w h. let s = same.to w h in ((low, high, s.0), s.1);
+  back = λ w h. same.back w (h.0.2, h.1);
+}
+
+-- reigns
+
+pub reigns_awaited : (count left : ℕ) → 0 < count → HoldsReigns 0 0 count left → Awaits (scan (Byte byte.RootLength) (left - 1) (count - 1)) (Sized (Reigned count) left)
+reigns_awaited count left some holds = before (λ (c i : ℕ). HoldsReigns 0 0 c left → Awaits (scan (Byte byte.RootLength) (left - 1) i) (Sized (Reigned c) left)) count some by_count holds
+  where
+    by_count : (i : ℕ) → HoldsReigns 0 0 (suc i) left → Awaits (scan (Byte byte.RootLength) (left - 1) i) (Sized (Reigned (suc i)) left)
+    by_count i h = awaits (Byte byte.RootLength) (left - 1) i (Sized (Reigned (suc i)) left) (omega (arith, h.0, h.1), omega (arith, h.0, h.1))
+        (one_same left (left - 1) (Rooted (Reigned i)) (BehindByte byte.RootLength (left - 1) i) (λ n. sized_same (Rooted (Reigned i) n) (left - 1)) (omega (arith, h.0, h.1)))
+
+pub updates_awaited : (count left : ℕ) → 0 < count → HoldsUpdates 0 0 count left → Awaits (scan (Byte byte.Tag) (left - 1) (count - 1)) (Sized (Updated count) left)
+updates_awaited count left some holds = before (λ (c i : ℕ). HoldsUpdates 0 0 c left → Awaits (scan (Byte byte.Tag) (left - 1) i) (Sized (Updated c) left)) count some by_count holds
+  where
+    by_count : (i : ℕ) → HoldsUpdates 0 0 (suc i) left → Awaits (scan (Byte byte.Tag) (left - 1) i) (Sized (Updated (suc i)) left)
+    by_count i h = awaits (Byte byte.Tag) (left - 1) i (Sized (Updated (suc i)) left) (omega (arith, h.0, h.1), omega (arith, h.0, h.1))
+        (one_same left (left - 1) (Tagged (Updated i)) (BehindByte byte.Tag (left - 1) i) (λ n. sized_same (Tagged (Updated i) n) (left - 1)) (omega (arith, h.0, h.1)))
+
+-- no reigns, or updates, are left
+pub none_awaited : (s : Scan) (left : ℕ) → left ≡ 0 → Awaits s Ended → Awaits s (Sized Ended left)
+none_awaited s left e a = let same = ended_same left e in record { sound = a.sound; only = λ w h. same.to w (a.only w h); each = λ w h. a.each w (same.back w h) }
+
+pub reign_count_awaited : (left l low high : ℕ) → left ≡ 4 + l → HoldsSome 4 left → l ≤ 28 * low → 28 * low < l + 28 → 14 * high ≤ l → l < 14 * high + 14
+    → Awaits (scan (Number number.ReignCount (fresh 4 low high)) l 0) (Sized ReignCount left)
+reign_count_awaited left l low high e some a b c d = awaits (Number number.ReignCount (fresh 4 low high)) l 0 (Sized ReignCount left)
+    (fresh_open 4 low high (omega arith) (omega arith) (bounds some.0) (omega arith) (omega arith), (c, a, omega arith))
+    (number_same left l 4 Reigned (Within low high (λ n. Sized (Reigned n) l)) same e)
+  where
+    bounds : (left ≡ 4) ⊎ (4 + 14 ≤ left) → low ≤ high
+    bounds s = elim s as (λ _. low ≤ high) [ inl z ↦ omega arith | inr z ↦ omega arith ]
+
+    same : (n : ℕ) → Same (Within low high (λ m. Sized (Reigned m) l) n) (Sized (Reigned n) l)
+    same n = record { to = λ w h. h.2; back = λ w h. let r = reigned_length n w h.0 in let s = h.1 in (omega (arith, r.1, s), omega (arith, r.0, s), h) }
+
+pub update_count_awaited : (left l low high : ℕ) → left ≡ 2 + l → 6 ≤ left → left ≤ 450306 → l ≤ 1759 * low → 1759 * low < l + 1759 → 4 * high ≤ l → high ≤ 256 → ((n : ℕ) → 4 * n ≤ l → n ≤ 256 → n ≤ high)
+    → Awaits (scan (Number number.UpdateCount (fresh 2 low high)) l 0) (Sized UpdateCount left)
+update_count_awaited left l low high e least most a b c d top = awaits (Number number.UpdateCount (fresh 2 low high)) l 0 (Sized UpdateCount left)
+    (fresh_open 2 low high (omega arith) (omega arith) (top low (omega arith) (omega arith)) (omega arith) (omega arith), (c, a, omega arith, d))
+    (number_same left l 2 (Within 1 256 Updated) (Within low high (λ n. Sized (Updated n) l)) same e)
+  where
+    same : (n : ℕ) → Same (Within low high (λ m. Sized (Updated m) l) n) (Sized (Within 1 256 Updated n) l)
+    same n = within_same 1 256 low high l Updated (λ m. Sized (Updated m) l) n (omega arith) d (sized_same (Updated n) l)
+        (λ w one most u s. let r = updated_length n w u in (omega (arith, r.1, s), top n (omega (arith, r.0, s)) most))
+
+pub value_awaited : (left l items low high : ℕ) → left ≡ 2 + l → HoldsUpdates 2 1502 items left → l ≤ low + 1759 * items → (low ≡ 0) ⊎ (low + 1759 * items ≡ l) → high + 4 * items ≤ l → high ≤ 1500
+    → ((n : ℕ) → n + 4 * items ≤ l → n ≤ 1500 → n ≤ high) → Awaits (scan (Number number.ValueLength (fresh 2 low high)) l items) (Sized (Valued (Updated items)) left)
+value_awaited left l items low high e holds a zeroed b c top = awaits (Number number.ValueLength (fresh 2 low high)) l items (Sized (Valued (Updated items)) left)
+    (fresh_open 2 low high (omega arith) (omega arith) bounds (omega arith) (omega (arith, bounds)), (b, a, c))
+    (number_same left l 2 (Within 0 1500 (λ n. Skipped n (Updated items))) (Within low high (λ n. Sized (Skipped n (Updated items)) l)) same e)
+  where
+    bounds : low ≤ high
+    bounds = elim zeroed as (λ _. low ≤ high) [ inl z ↦ omega arith | inr z ↦ top low (omega (arith, holds.0)) (omega (arith, holds.1)) ]
+
+    same : (n : ℕ) → Same (Within low high (λ m. Sized (Skipped m (Updated items)) l) n) (Sized (Within 0 1500 (λ m. Skipped m (Updated items)) n) l)
+    same n = within_same 0 1500 low high l (λ m. Skipped m (Updated items)) (λ m. Sized (Skipped m (Updated items)) l) n (omega arith) c (sized_same (Skipped n (Updated items)) l)
+        (λ w _ most u s. let r = skipped_length n (Updated items) (4 * items) (1759 * items) (updated_length items) w u in (above n (omega (arith, r.1, s)), top n (omega (arith, r.0, s)) most))
+      where
+        above : (n : ℕ) → l ≤ n + 1759 * items → low ≤ n
+        above n h = elim zeroed as (λ _. low ≤ n) [ inl z ↦ omega arith | inr z ↦ omega arith ]
+
+pub cycle_awaited : (left items : ℕ) → HoldsReigns 12 12 items left → Awaits (scan (Number number.Cycle (fresh 4 1 (2 ^ 32 - 1))) (left - 4) items) (Sized (Cycling (Reigned items)) left)
+cycle_awaited left items h = awaits (Number number.Cycle (fresh 4 1 (2 ^ 32 - 1))) (left - 4) items (Sized (Cycling (Reigned items)) left)
+    (fresh_open 4 1 (2 ^ 32 - 1) (omega arith) (omega arith) (omega arith) (omega arith) (omega arith), (omega (arith, h.0, h.1), omega (arith, h.0, h.1)))
+    (number_same left (left - 4) 4 (Within 1 (2 ^ 32 - 1) (λ _. Starting (Reigned items))) (Within 1 (2 ^ 32 - 1) (λ _. Sized (Starting (Reigned items)) (left - 4)))
+    (λ n. ranged_same 1 (2 ^ 32 - 1) (left - 4) (λ _. Starting (Reigned items)) (λ _. Sized (Starting (Reigned items)) (left - 4)) n (sized_same (Starting (Reigned items)) (left - 4)))
+    (omega (arith, h.0)))
+
+pub start_awaited : (left items : ℕ) → HoldsReigns 8 8 items left → Awaits (scan (Number number.Start (fresh 8 1 (2 ^ 40))) (left - 8) items) (Sized (Starting (Reigned items)) left)
+start_awaited left items h = awaits (Number number.Start (fresh 8 1 (2 ^ 40))) (left - 8) items (Sized (Starting (Reigned items)) left)
+    (fresh_open 8 1 (2 ^ 40) (omega arith) (omega arith) (omega arith) (omega arith) (omega arith), (omega (arith, h.0, h.1), omega (arith, h.0, h.1)))
+    (number_same left (left - 8) 8 (Within 1 (2 ^ 40) (λ _. Reigned items)) (Within 1 (2 ^ 40) (λ _. Sized (Reigned items) (left - 8)))
+    (λ n. ranged_same 1 (2 ^ 40) (left - 8) (λ _. Reigned items) (λ _. Sized (Reigned items) (left - 8)) n (sized_same (Reigned items) (left - 8)))
+    (omega (arith, h.0)))
+
+pub alone_awaited : (low high : ℕ) → low ≤ high → high ≤ 2 ^ 40 → Awaits (scan (Number number.Alone (fresh 8 low high)) 0 0) (Sized (Alone low high) 8)
+alone_awaited low high bounds small = awaits (Number number.Alone (fresh 8 low high)) 0 0 (Sized (Alone low high) 8)
+    (fresh_open 8 low high (omega arith) (omega arith) bounds small (omega arith), refl)
+    (number_same 8 0 8 (Within low high (λ _. Ended)) (Within low high (λ _. Sized Ended 0))
+    (λ n. ranged_same low high 0 (λ _. Ended) (λ _. Sized Ended 0) n (sized_same Ended 0)) refl)
+
+pub hello_awaited : (len : ℕ) → 15 ≤ len → len ≤ 1048576 → Awaits (scan (Byte byte.Version) (len - 1) 0) (Sized (Body Hello) len)
+hello_awaited len least most = awaits (Byte byte.Version) (len - 1) 0 (Sized (Body Hello) len) (omega arith, omega arith)
+    (one_same len (len - 1) Versioned (BehindByte byte.Version (len - 1) 0) (λ n. sized_same (Versioned n) (len - 1)) (omega arith))
+
+pub entry_awaited : (len : ℕ) → 19 ≤ len → len ≤ 450319 → Awaits (scan (Number number.EntryNumber (fresh 8 1 (2 ^ 40 - 1))) (len - 8) 0) (Sized (Body Entry) len)
+entry_awaited len least most = awaits (Number number.EntryNumber (fresh 8 1 (2 ^ 40 - 1))) (len - 8) 0 (Sized (Body Entry) len)
+    (fresh_open 8 1 (2 ^ 40 - 1) (omega arith) (omega arith) (omega arith) (omega arith) (omega arith), (omega arith, omega arith))
+    (number_same len (len - 8) 8 (Within 1 (2 ^ 40 - 1) (λ _. One Updater)) (Within 1 (2 ^ 40 - 1) (λ _. Sized (One Updater) (len - 8)))
+    (λ n. ranged_same 1 (2 ^ 40 - 1) (len - 8) (λ _. One Updater) (λ _. Sized (One Updater) (len - 8)) n (sized_same (One Updater) (len - 8)))
+    (omega arith))
+
+pub updater_awaited : (left : ℕ) → 11 ≤ left → left ≤ 450311 → Awaits (scan (Byte byte.Updater) (left - 1) 0) (Sized (One Updater) left)
+updater_awaited left least most = awaits (Byte byte.Updater) (left - 1) 0 (Sized (One Updater) left) (omega arith, omega arith)
+    (one_same left (left - 1) Updater (BehindByte byte.Updater (left - 1) 0) (λ n. sized_same (Updater n) (left - 1)) (omega arith))
+
+pub version_awaited : (b left : ℕ) → b ≡ 1 → 14 ≤ left → left ≤ 1048575 → Awaits (scan (Byte byte.SiteLength) (left - 1) 0) (Sized (Versioned b) left)
+version_awaited b left e least most = awaits (Byte byte.SiteLength) (left - 1) 0 (Sized (Versioned b) left) (omega arith, omega arith)
+    (within_in 1 1 left b (One (BehindByte byte.SiteLength (left - 1) 0)) (λ _. One Sited) (omega arith) (omega arith)
+    (one_same left (left - 1) Sited (BehindByte byte.SiteLength (left - 1) 0) (λ n. sized_same (Sited n) (left - 1)) (omega arith)))
+
+pub site_awaited : (n left behind : ℕ) → 1 ≤ n → n ≤ 15 → left ≡ n + behind → HoldsSome 12 behind → Awaits (scan (Name true n true) behind 0) (Sized (Sited n) left)
+site_awaited n left behind some few e holds = awaits (Name true n true) behind 0 (Sized (Sited n) left) (some, holds)
+    (within_in 1 15 left n (Named true n (Sized Lengthed behind)) (λ m. Named true m Lengthed) some few (named_same n behind left Lengthed e))
+
+pub root_awaited : (n left behind items : ℕ) → 1 ≤ n → n ≤ 15 → left ≡ n + behind → HoldsReigns 12 12 items behind → Awaits (scan (Name true n false) behind items) (Sized (Rooted (Reigned items) n) left)
+root_awaited n left behind items some few e holds = awaits (Name true n false) behind items (Sized (Rooted (Reigned items) n) left) (some, holds)
+    (within_in 1 15 left n (Named true n (Sized (Cycling (Reigned items)) behind)) (λ m. Named true m (Cycling (Reigned items))) some few (named_same n behind left (Cycling (Reigned items)) e))
+
+pub serial_awaited : (n left : ℕ) → 1 ≤ n → n ≤ 64 → 10 ≤ left → left ≤ 450310 → Awaits (scan (Number number.Serial (fresh 4 1 (2 ^ 32 - 1))) (left - 4) 0) (Sized (Updater n) left)
+serial_awaited n left some few least most = awaits (Number number.Serial (fresh 4 1 (2 ^ 32 - 1))) (left - 4) 0 (Sized (Updater n) left)
+    (fresh_open 4 1 (2 ^ 32 - 1) (omega arith) (omega arith) (omega arith) (omega arith) (omega arith), (omega arith, omega arith))
+    (within_in 1 64 left n (Numbered 4 0 (Within 1 (2 ^ 32 - 1) (λ _. Sized UpdateCount (left - 4)))) (λ _. Serial) some few
+    (number_same left (left - 4) 4 (Within 1 (2 ^ 32 - 1) (λ _. UpdateCount)) (Within 1 (2 ^ 32 - 1) (λ _. Sized UpdateCount (left - 4)))
+    (λ m. ranged_same 1 (2 ^ 32 - 1) (left - 4) (λ _. UpdateCount) (λ _. Sized UpdateCount (left - 4)) m (sized_same UpdateCount (left - 4)))
+    (omega arith)))
+
+pub length_awaited : (left : ℕ) → HoldsSome 12 left → Awaits (scan (Number number.Length (fresh 8 0 (2 ^ 40 - 1))) (left - 8) 0) (Sized Lengthed left)
+length_awaited left holds = awaits (Number number.Length (fresh 8 0 (2 ^ 40 - 1))) (left - 8) 0 (Sized Lengthed left)
+    (fresh_open 8 0 (2 ^ 40 - 1) (omega arith) (omega arith) (omega arith) (omega arith) (omega arith), (less.0, omega (arith, holds.1)))
+    (number_same left (left - 8) 8 (Within 0 (2 ^ 40 - 1) (λ _. ReignCount)) (Within 0 (2 ^ 40 - 1) (λ _. Sized ReignCount (left - 8)))
+    (λ n. ranged_same 0 (2 ^ 40 - 1) (left - 8) (λ _. ReignCount) (λ _. Sized ReignCount (left - 8)) n (sized_same ReignCount (left - 8)))
+    less.1)
+  where
+    less : ((left - 8 ≡ 4) ⊎ (4 + 14 ≤ left - 8)) × (left ≡ 8 + (left - 8))
+    less = elim holds.0 as (λ _. ((left - 8 ≡ 4) ⊎ (4 + 14 ≤ left - 8)) × (left ≡ 8 + (left - 8))) [ inl z ↦ (inl (omega arith), omega arith) | inr z ↦ (inr (omega arith), omega arith) ]
+
+pub key_length_awaited : (set : Bool) (tag left items : ℕ) → set ≡ nat_eq tag 1 → 1 ≤ tag → tag ≤ 3 → 1 ≤ left → ByteFits (byte.KeyLength set) (left - 1) items
+    → Awaits (scan (Byte (byte.KeyLength set)) (left - 1) items) (Sized (Tagged (Updated items) tag) left)
+key_length_awaited set tag left items e some few least fits = awaits (Byte (byte.KeyLength set)) (left - 1) items (Sized (Tagged (Updated items) tag) left) fits
+    (within_in 1 3 left tag (One (BehindByte (byte.KeyLength set) (left - 1) items)) (λ t. One (Keyed (nat_eq t 1) (Updated items))) some few
+    (one_same left (left - 1) (Keyed (nat_eq tag 1) (Updated items)) (BehindByte (byte.KeyLength set) (left - 1) items) same (omega arith)))
+  where
+    same : (n : ℕ) → Same (Sized (Keyed set (Updated items) n) (left - 1)) (Sized (Keyed (nat_eq tag 1) (Updated items) n) (left - 1))
+    same n = subst (λ (s : Bool). Same (Sized (Keyed set (Updated items) n) (left - 1)) (Sized (Keyed s (Updated items) n) (left - 1))) e (sized_same (Keyed set (Updated items) n) (left - 1))
+
+pub value_skipped : (n left behind items : ℕ) → 1 ≤ n → left ≡ n + behind → HoldsUpdates 0 0 items behind → Awaits (scan (Value n) behind items) (Sized (Skipped n (Updated items)) left)
+value_skipped n left behind items some e holds = awaits (Value n) behind items (Sized (Skipped n (Updated items)) left) (some, holds) (skipped_same n behind left (Updated items) e)
+
+-- a key
+
+pub prefix_long : (prefix : KeyPrefix) (n : ℕ) → IsAt prefix [] n → 2 ≤ n
+prefix_long prefix n at = (code_length n at.begins.rest at.begins.whole).0
+
+pub key_awaited : (set : Bool) (prefix : KeyPrefix) (n left behind items : ℕ) → IsAt prefix [] n → 2 ≤ n → left ≡ n + behind → KeyFits set behind items
+    → Awaits (scan (Key set prefix) behind items) (Sized (Keyed set (Updated items) n) left)
+key_awaited set prefix n left behind items at some e fits = awaits (Key set prefix) behind items (Sized (Keyed set (Updated items) n) left)
+    (record { taken = []; len = n; is_at = at; some = omega (arith, at.left) }, fits)
+    (record { to = to; back = back })
+  where
+    to : (w : List ℕ) → Then (KeyRest prefix) (Sized (BehindKey set (Updated items)) behind) w → Sized (Keyed set (Updated items) n) left w
+    to w h =
+        let code : IsCode n h.front = at.completes h.front h.here.0 h.here.1 in
+        let size = h.there.1 in
+        (record { front = h.front; back = h.back; is = h.is; here = code; there = h.there.0 }, omega (arith, ap length h.is ∙ length-append h.front h.back, code.long, size))
+
+    back : (w : List ℕ) → Sized (Keyed set (Updated items) n) left w → Then (KeyRest prefix) (Sized (BehindKey set (Updated items)) behind) w
+    back w h =
+        let k = h.0 in
+        let s = h.1 in
+        let code : IsCode n k.front = k.here in
+        let long = code.long in
+        let sizes : length w ≡ length k.front + length k.back = ap length k.is ∙ length-append k.front k.back in
+        let size : length k.back ≡ behind = omega (arith, s) in
+        let whole : length k.front ≡ prefix.left = omega (arith, at.left) in
+        record { front = k.front; back = k.back; is = k.is; here = (at.completed k.front code, whole); there = (k.there, size) }
+
+-- lengths that leave no room
+
+pub site_fits : (n left : ℕ) (w : List ℕ) → left ≤ 1048576 → Sized (Sited n) left w → SiteFits n left
+site_fits n left w small h =
+    let s = h.1 in
+    let b = behind_named n w h.0.2 in
+    (h.0.0, h.0.1, omega (arith, s, b.0), (rest b.1, omega arith))
+  where
+    behind_named : (n : ℕ) (w : List ℕ) → Named true n Lengthed w → (n ≤ length w) × ((length w - n ≡ 12) ⊎ (26 ≤ length w - n))
+    behind_named n w h = by_first true n w h
+      where
+        by_first : (first : Bool) (n : ℕ) (w : List ℕ) → Named first n Lengthed w → (n ≤ length w) × ((length w - n ≡ 12) ⊎ (26 ≤ length w - n))
+        by_first first zero w h = (omega arith, elim (lengthed_length w h) as (λ _. (length w - 0 ≡ 12) ⊎ (26 ≤ length w - 0)) [ inl z ↦ inl (omega arith) | inr z ↦ inr (omega arith) ])
+        by_first first (suc n) [] h = absurd h
+        by_first first (suc n) (x ∷ w) h = let r = by_first false n w h.1 in (omega (arith, r.0), elim r.1 as (λ _. (length (x ∷ w) - suc n ≡ 12) ⊎ (26 ≤ length (x ∷ w) - suc n)) [ inl z ↦ inl (omega arith) | inr z ↦ inr (omega arith) ])
+
+    rest : (length w - n ≡ 12) ⊎ (26 ≤ length w - n) → (left - n ≡ 12) ⊎ (12 + 14 ≤ left - n)
+    rest r = let s : length w ≡ left = h.1 in elim r as (λ _. (left - n ≡ 12) ⊎ (12 + 14 ≤ left - n)) [ inl z ↦ inl (omega arith) | inr z ↦ inr (omega arith) ]
+
+pub root_fits : (n left items : ℕ) (w : List ℕ) → Sized (Rooted (Reigned items) n) left w → RootFits n left items
+root_fits n left items w h =
+    let s = h.1 in
+    let b = rooted_length (Reigned items) (14 * items) (28 * items) n (reigned_length items) w h.0 in
+    (h.0.0, h.0.1, omega (arith, s, b.0), (omega (arith, s, b.0), omega (arith, s, b.1)))
+
+pub key_length_fits : (set : Bool) (n left items : ℕ) (w : List ℕ) → Sized (Keyed set (Updated items) n) left w → KeyLengthFits set n left items
+key_length_fits true n left items w h =
+    let s = h.1 in
+    let b = keyed_length true (Updated items) (4 * items) (1759 * items) n (updated_length items) w h.0 in
+    (omega (arith, s, b.0), (omega (arith, s, b.0), omega (arith, s, b.1)))
+key_length_fits false n left items w h =
+    let s = h.1 in
+    let b = keyed_length false (Updated items) (4 * items) (1759 * items) n (updated_length items) w h.0 in
+    (omega (arith, s, b.0), (omega (arith, s, b.0), omega (arith, s, b.1)))
+
+pub tag_fits : (tag left items : ℕ) (w : List ℕ) → Sized (Tagged (Updated items) tag) left w → TagFits tag left items
+tag_fits tag left items [] h = absurd h.0.2
+tag_fits tag left items (n ∷ w) h = elim (cases_eq tag 1) as (λ _. TagFits tag left items) [
+  | inl e ↦
+      let k = subst (λ (t : ℕ). Keyed (nat_eq t 1) (Updated items) n w) e h.0.2 in
+      let b = keyed_length true (Updated items) (4 * items) (1759 * items) n (updated_length items) w k in
+      let r = code_length n k.front k.here in
+      let s = h.1 in
+      inl (e, (omega (arith, s, b.0, r.0), omega (arith, s, b.1, r.1)))
+  | inr ne ↦
+      let k = subst (λ (t : Bool). Keyed t (Updated items) n w) (ne_eqb tag 1 ne) h.0.2 in
+      let b = keyed_length false (Updated items) (4 * items) (1759 * items) n (updated_length items) w k in
+      let r = code_length n k.front k.here in
+      let s = h.1 in
+      let low = h.0.0 in
+      let high = h.0.1 in
+      inr (omega (arith, low), omega (arith, high), (omega (arith, s, b.0, r.0), omega (arith, s, b.1, r.1)))
+]
+
+-- a body's length
+
+alone_fits : (w : List ℕ) (low high : ℕ) → Alone low high w → (8 ≤ length w) × (length w ≤ 8)
+alone_fits w low high h =
+    let d = behind_number 8 0 (Within low high (λ _. Ended)) w h in
+    let z : length d.rest ≡ 0 = ap length d.holds.2 in
+    (omega (arith, d.sizes), omega (arith, d.sizes))
+
+pub body_fits : (kind : Kind) (w : List ℕ) → length w ≤ 1048576 → Body kind w → (least_body kind ≤ length w) × (length w ≤ most_body kind)
+body_fits Hello [] small h = absurd h
+body_fits Hello (v ∷ []) small h = absurd h.2
+body_fits Hello (v ∷ n ∷ w) small h =
+    let s = site_fits n (length w) w (omega arith) (h.2, refl) in
+    (elim s.3.0 as (λ _. 15 ≤ length (v ∷ n ∷ w)) [ inl z ↦ omega (arith, s.0) | inr z ↦ omega (arith, s.0) ], small)
+body_fits Resume w small h = alone_fits w 1 (2 ^ 40) h
+body_fits RollbackFirst w small h = alone_fits w 1 (2 ^ 40 - 1) h
+body_fits History w small h = let b = reigned_length 1 w h in (omega (arith, b.0), omega (arith, b.1))
+body_fits Entry w small h =
+    let d = behind_number 8 0 (Within 1 (2 ^ 40 - 1) (λ _. One Updater)) w h in
+    let u = updater_fits d.rest d.holds.2 in
+    (omega (arith, d.sizes, u.0), omega (arith, d.sizes, u.1))
+  where
+    updater_fits : (w : List ℕ) → One Updater w → (11 ≤ length w) × (length w ≤ 450311)
+    updater_fits [] h = absurd h
+    updater_fits (b ∷ w) h =
+        let d = behind_number 4 0 (Within 1 (2 ^ 32 - 1) (λ _. UpdateCount)) w h.2 in
+        let e = behind_number 2 0 (Within 1 256 Updated) d.rest d.holds.2 in
+        let u = updated_length e.value e.rest e.holds.2 in
+        let low = e.holds.0 in
+        let high = e.holds.1 in
+        (omega (arith, d.sizes, e.sizes, u.0, low), omega (arith, d.sizes, e.sizes, u.1, high))
+body_fits Bye w small h = alone_fits w 0 (2 ^ 40 - 1) h
+
+pub bodied_awaited : (kind : Kind) (least most : ℕ) → least ≡ least_body kind → most ≡ most_body kind → Awaits (scan (Number (number.BodyLength kind) (fresh 4 least most)) 0 0) (Bodied kind)
+bodied_awaited kind least most is_least is_most = awaits (Number (number.BodyLength kind) (fresh 4 least most)) 0 0 (Bodied kind)
+    (fresh_open 4 least most (omega arith) (omega arith) (omega (arith, order.0)) (omega (arith, order.1)) (omega (arith, order.0, order.1)), (omega arith, omega arith))
+    (record {
+      to = numbered_map 4 0 (Within least most (λ n. Sized (Body kind) n)) (Within 0 1048576 (λ n. Sized (Body kind) n)) (λ n w h. let high = h.1 in (omega arith, omega (arith, order.1), h.2));
+      back = numbered_map 4 0 (Within 0 1048576 (λ n. Sized (Body kind) n)) (Within least most (λ n. Sized (Body kind) n))
+          (λ n w h. let s = h.2.1 in let high = h.1 in let f = body_fits kind w (omega arith) h.2.0 in (omega (arith, f.0), omega (arith, f.1), h.2));
+    })
+  where
+    ordered : (kind : Kind) → (least_body kind ≤ most_body kind) × (most_body kind ≤ 1048576)
+    ordered Hello = (omega arith, omega arith)
+    ordered Resume = (omega arith, omega arith)
+    ordered RollbackFirst = (omega arith, omega arith)
+    ordered History = (omega arith, omega arith)
+    ordered Entry = (omega arith, omega arith)
+    ordered Bye = (omega arith, omega arith)
+
+    order : (least_body kind ≤ most_body kind) × (most_body kind ≤ 1048576)
+    order = ordered kind
+
+kind_of : ℕ → Kind
+kind_of n = if n == 1 then Hello else if n == 2 then Resume else if n == 3 then RollbackFirst else if n == 4 then History else if n == 5 then Entry else Bye
+
+-- the one kind of a type
+kind_back : (k : Kind) → k ≡ kind_of (type_of k)
+unfolding kind_of
+kind_back Hello = refl
+kind_back Resume = refl
+kind_back RollbackFirst = refl
+kind_back History = refl
+kind_back Entry = refl
+kind_back Bye = refl
+
+-- what stands behind a type
+pub typed_awaited : (s : Scan) (kind : Kind) (b : ℕ) → type_of kind ≡ b → Awaits s (Bodied kind) → Awaits s (Typed b)
+typed_awaited s kind b e a = record {
+  sound = a.sound;
+  only = λ w h. record { kind = kind; is = e; body = a.only w h };
+  each = λ w h. a.each w (subst (λ (k : Kind). Bodied k w) (same_kind h.kind kind (h.is ∙ sym e)) h.body);
+}
+  where
+    same_kind : (a b : Kind) → type_of a ≡ type_of b → a ≡ b
+    same_kind a b e = kind_back a ∙ ap kind_of e ∙ sym (kind_back b)
+
+-- behind a tag: its key's length
+pub tag_awaited : (tag left items : ℕ) → 1 ≤ left → TagFits tag left items → Awaits (scan (Byte (byte.KeyLength (nat_eq tag 1))) (left - 1) items) (Sized (Tagged (Updated items) tag) left)
+tag_awaited tag left items least fits = elim fits as (λ _. Awaits (scan (Byte (byte.KeyLength (nat_eq tag 1))) (left - 1) items) (Sized (Tagged (Updated items) tag) left)) [
+  | inl f ↦ key_length_awaited (nat_eq tag 1) tag left items refl (omega (arith, f.0)) (omega (arith, f.0)) least
+      (subst (λ (s : Bool). ByteFits (byte.KeyLength s) (left - 1) items) (sym (eq-eqb tag 1 f.0)) (let h = f.1 in (omega (arith, h.0), omega (arith, h.1))))
+  | inr f ↦ key_length_awaited (nat_eq tag 1) tag left items refl (omega (arith, f.0)) (omega (arith, f.1)) least
+      (subst (λ (s : Bool). ByteFits (byte.KeyLength s) (left - 1) items) (sym (ne_eqb tag 1 (λ e. let two = f.0 in omega arith))) (let h = f.2 in (omega (arith, h.0), omega (arith, h.1))))
+]

@@ -1,0 +1,12 @@
+pub mod Sizes
+pub mod Lengths
+pub mod Digits
+pub mod Begun
+pub mod Scanned
+pub mod Witness
+pub mod Numbers
+pub mod Forms
+pub mod Runs
+pub mod Feeding
+pub mod Apart
+pub mod Found

@@ -1,0 +1,7 @@
+pub mod Kinds
+pub mod Fronts
+pub mod Values
+pub mod Finds
+pub mod Feeds
+pub mod Layout
+pub mod Scans
