@@ -313,19 +313,17 @@ last_of_key (branched name {t} {subs} z) good =
 check_value_read : (len : ℕ) {k v value : List ℕ} {key : Key} → IsNode k key → IsSubText v value → length value ≤ 1500 → check_reading len (k ++ (61 ∷ v)) ≡ Ok (CheckIs key value)
 check_value_read len {k} {v} {value} {key} n s few =
     let left : List ℕ = k ++ (61 ∷ v) in
-    ap (λ j. cond (is_at_least (take j left) (drop j left)) (check_integer len left j) (value_statement CheckIs len left j)) (key_place v n)
-    ∙ (λ i. cond (is_at_least (take-append_seam k (61 ∷ v) i) (drop-append_seam k (61 ∷ v) i)) (check_integer len left (length k)) (value_statement CheckIs len left (length k)))
+    ap (λ j. cond (is_at_least (take j left) (drop j left)) (check_integer len left (take j left) (drop j left)) (value_statement CheckIs len left j)) (key_place v n)
+    ∙ (λ i. cond (is_at_least (take-append_seam k (61 ∷ v) i) (drop-append_seam k (61 ∷ v) i)) (check_integer len left (take (length k) left) (drop (length k) left)) (value_statement CheckIs len left (length k)))
     ∙ rw (last_of_key n.text_is (name_good n.name n.subs n.no_fault)) (value_statement_at CheckIs len n s few)
 
-check_integer_at : (len : ℕ) {k : List ℕ} {key : Key} (d : List ℕ) (n : ℤ) → IsNode k key → integer_of d ≡ Some n
-    → check_integer len ((k ++ (62 ∷ [])) ++ (61 ∷ d)) (length (k ++ (62 ∷ []))) ≡ Ok (CheckAtLeast key n)
-check_integer_at len {k} {key} d n node e =
+check_integer_at : (len : ℕ) (left : List ℕ) {k : List ℕ} {key : Key} (d : List ℕ) (n : ℤ) → IsNode k key → integer_of d ≡ Some n
+    → check_integer len left (k ++ (62 ∷ [])) (61 ∷ d) ≡ Ok (CheckAtLeast key n)
+check_integer_at len left {k} {key} d n node e =
     let p : List ℕ = k ++ (62 ∷ []) in
-    let left : List ℕ = p ++ (61 ∷ d) in
     let less : length p - 1 ≡ length k = omega (arith, length-append k (62 ∷ [])) in
-    let front : take (length k) left ≡ k = ap (take (length k)) (append_assoc k (62 ∷ []) (61 ∷ d)) ∙ take-append_seam k (62 ∷ 61 ∷ d) in
-    ap (λ j. followed (node_reading len left j) (λ q. followed (last_integer len (drop 1 (drop (length p) left))) (λ m. Ok (CheckAtLeast q m)))) less
-    ∙ (λ i. followed (node_at len left (key_reading (front i))) (λ q. followed (last_integer len (drop 1 (drop-append_seam p (61 ∷ d) i))) (λ m. Ok (CheckAtLeast q m))))
+    let front : take (length p - 1) p ≡ k = ap (λ j. take j p) less ∙ take-append_seam k (62 ∷ []) in
+    ap (λ t. followed (node_at len left (key_reading t)) (λ q. followed (last_integer len d) (λ m. Ok (CheckAtLeast q m)))) front
     ∙ ap (λ r. followed (node_at len left r) (λ q. followed (last_integer len d) (λ m. Ok (CheckAtLeast q m)))) (node_read node)
     ∙ ap (λ r. followed r (λ m. Ok (CheckAtLeast key m))) (integer_whole len d n e)
 
@@ -336,9 +334,9 @@ check_integer_split len {k} {key} d n node e =
     let left : List ℕ = p ++ (61 ∷ d) in
     let stays : Stays 61 p = stay_both 61 k (62 ∷ []) (stay_node 61 (inr refl) node) (stay_bytes 61 (62 ∷ []) refl) in
     let greater : (last_byte p == 62) ≡ true = ap (λ b. b == 62) (last_is k 62) in
-    ap (λ j. cond (is_at_least (take j left) (drop j left)) (check_integer len left j) (value_statement CheckIs len left j)) (ends_before 61 p 61 d stays refl)
-    ∙ (λ i. cond (is_at_least (take-append_seam p (61 ∷ d) i) (drop-append_seam p (61 ∷ d) i)) (check_integer len left (length p)) (value_statement CheckIs len left (length p)))
-    ∙ rw greater (check_integer_at len d n node e)
+    ap (λ j. cond (is_at_least (take j left) (drop j left)) (check_integer len left (take j left) (drop j left)) (value_statement CheckIs len left j)) (ends_before 61 p 61 d stays refl)
+    ∙ (λ i. cond (is_at_least (take-append_seam p (61 ∷ d) i) (drop-append_seam p (61 ∷ d) i)) (check_integer len left (take-append_seam p (61 ∷ d) i) (drop-append_seam p (61 ∷ d) i)) (value_statement CheckIs len left (length p)))
+    ∙ rw greater (check_integer_at len left d n node e)
 
 check_integer_read : (len : ℕ) {k : List ℕ} {key : Key} (d : List ℕ) (n : ℤ) → IsNode k key → integer_of d ≡ Some n → check_reading len (k ++ (62 ∷ 61 ∷ d)) ≡ Ok (CheckAtLeast key n)
 check_integer_read len {k} d n node e = ap (check_reading len) (sym (append_assoc k (62 ∷ []) (61 ∷ d))) ∙ check_integer_split len d n node e

@@ -9,9 +9,9 @@ use Rattle.global_defs.specs.Numeral.{integer_of, integer_text, is_counted}
 use Rattle.global_defs.specs.NodeText.{node_text}
 use Rattle.global_defs.specs.Valid.{is_key}
 use Rattle.global_defs.specs.Zwr.{zwr}
-use Rattle.gvn_key.specs.KeyText.{IsSubText, AreBytes}
+use Rattle.gvn_key.specs.KeyText.{IsSubText, AreBytes, key_reading}
 use Rattle.gvn_key.specs.ZwrText.{IsBytes}
-use Rattle.script_defs.specs.Parts.{IsNode, IsLevel, Fault, BadChar, followed, word_end, key_end, without_spaces, node_reading, last_value, last_integer, last_node, assigned, last_level}
+use Rattle.script_defs.specs.Parts.{IsNode, IsLevel, Fault, BadChar, followed, word_end, key_end, without_spaces, node_at, node_reading, last_value, last_integer, last_node, assigned, last_level}
 
 -- Words, and what stands behind them and the spaces. A value is written as a subscript is: a canonical numeral, or any pieces in ZWR form.
 pub data IsOperand : (word text : List ℕ) (s : Statement) → Type 0 where
@@ -52,11 +52,12 @@ order_reading len left = followed (last_level len left) (λ p. Ok (Order p.0 p.1
 abbrev pub is_at_least : List ℕ → List ℕ → Bool
 is_at_least part rest = slice_index part (length part - 1) == 62 && slice_index rest 0 == 61
 
-abbrev pub check_integer : ℕ → List ℕ → ℕ → Result Statement Fault
-check_integer len left n = followed (node_reading len left (n - 1)) (λ key. followed (last_integer len (drop 1 (drop n left))) (λ m. Ok (CheckAtLeast key m)))
+-- an integer behind both signs
+abbrev pub check_integer : ℕ → (left part rest : List ℕ) → Result Statement Fault
+check_integer len left part rest = followed (node_at len left (key_reading (take (length part - 1) part))) (λ key. followed (last_integer len (drop 1 rest)) (λ m. Ok (CheckAtLeast key m)))
 
 abbrev pub check_reading : ℕ → List ℕ → Result Statement Fault
-check_reading len left = let n = key_end left in if is_at_least (take n left) (drop n left) then check_integer len left n else value_statement CheckIs len left n
+check_reading len left = let n = key_end left in if is_at_least (take n left) (drop n left) then check_integer len left (take n left) (drop n left) else value_statement CheckIs len left n
 
 abbrev pub operand_reading : List ℕ → ℕ → List ℕ → Result Statement Fault
 operand_reading word len left = if bytes_eq word (codes "SET") then value_statement Set len left (key_end left)
