@@ -31,6 +31,20 @@ abbrev pub Reads : {X Y : Type 0} → (X → Y) → Result Y parts.Fault → Res
 Reads view reading (Ok x) = reading ≡ Ok (view x)
 Reads view reading (Err e) = Tells (fault_value e) reading
 
+-- the fault of a reading, without its part
+abbrev pub error_of : {Y : Type 0} → Result Y parts.Fault → Option parts.TextFault
+error_of (Ok y) = None
+error_of (Err fault) = Some fault.error
+
+abbrev pub TellsError : {Y : Type 0} → Option parts.TextFault → Result Y parts.Fault → Type 0
+TellsError None reading = Unit {0}
+TellsError (Some error) reading = error_of reading ≡ Some error
+
+-- what was answered is this reading without its part, unless memory ran out
+abbrev pub ReadsText : {X Y : Type 0} → (X → Y) → Result Y parts.Fault → Result X TextError → Type 0
+ReadsText view reading (Ok x) = reading ≡ Ok (view x)
+ReadsText view reading (Err e) = TellsError (error_value e) reading
+
 -- the same of a part that is there or isn't
 abbrev pub ReadsPart : {X Y E : Type 0} → (X → Y) → Option Y → Result (Option X) E → Type 0
 ReadsPart view reading (Ok None) = reading ≡ None

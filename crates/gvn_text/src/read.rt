@@ -1,9 +1,10 @@
 //! Statements read from the front.
-ghost use Rattle.std.specs.Prelude.{◌≡◌, ◌-◌, ◌&&◌, ◌==◌, length, slice_index, IfOk, OnOk};
+ghost use Rattle.std.specs.Prelude.{◌≡◌, Ok, IfOk, drop};
 ghost use Rattle.gvn_key.specs.Terms.{statement_value};
 ghost use Rattle.global_defs.specs.Jobs as jobs;
-ghost use Rattle.script_defs.specs.Statements.{set_reading, node_statement, incr_reading, order_reading, is_at_least, check_value, check_integer, check_reading, operand_reading, statement_reading, statement_text, SpellsStatement, IsStatement};
-ghost use Rattle.gvn_text.specs.Reads.{Reads, fault_value};
+ghost use Rattle.script_defs.specs.Parts.{key_end};
+ghost use Rattle.script_defs.specs.Statements.{value_statement, node_statement, incr_reading, order_reading, is_at_least, check_integer, check_reading, operand_reading, statement_reading, statement_text, SpellsStatement, IsStatement};
+ghost use Rattle.gvn_text.specs.Reads.{Reads, ReadsText};
 
 use super::fault::{Fault, TextError};
 use super::levels::{last_level, last_node};
@@ -13,7 +14,7 @@ use gvn_key::terms::Statement;
 use std::alloc::Global;
 
 fn read_set(alloc: Global, len: usize, left: &[u8]) -> Result<Statement, Fault>
-    ensures { Reads statement_value (set_reading len left.now) result }
+    ensures { Reads statement_value (value_statement jobs.Set len left.now (key_end left.now)) result }
 {
     let (part, rest) = left.split_at(key_end(left));
     let key = node_at(alloc, len, left, part)?;
@@ -44,33 +45,42 @@ fn is_at_least(part: &[u8], rest: &[u8]) -> bool
     matches!(part, [.., b'>']) && matches!(rest, [b'=', ..])
 }
 
-fn check_value(alloc: Global, len: usize, left: &[u8], end: usize) -> Result<Statement, Fault>
-    requires { end ≤ length left.now }
-    ensures { Reads statement_value (check_value len left.now end) result }
+/// What stands behind the first byte.
+fn behind_first(text: &[u8]) -> &[u8]
+    ensures { result.now ≡ drop 1 text.now }
 {
-    let (part, rest) = left.split_at(end);
+    match text {
+        [] => text,
+        [_, rest @ ..] => rest,
+    }
+}
+
+/// An integer behind both signs.
+fn check_integer(alloc: Global, len: usize, left: &[u8], part: &[u8], rest: &[u8]) -> Result<Statement, Fault>
+    ensures { Reads statement_value (check_integer len left.now part.now rest.now) result }
+{
+    let key = node_at(alloc, len, left, &part[..part.len().saturating_sub(1)])?;
+    let number = last_integer(len, behind_first(rest))?;
+    Ok(Statement::CheckAtLeast(key, number))
+}
+
+fn check_value(alloc: Global, len: usize, left: &[u8]) -> Result<Statement, Fault>
+    ensures { Reads statement_value (value_statement jobs.CheckIs len left.now (key_end left.now)) result }
+{
+    let (part, rest) = left.split_at(key_end(left));
     let key = node_at(alloc, len, left, part)?;
     let value = assigned(alloc, len, rest)?;
     Ok(Statement::CheckIs(key, value))
 }
 
-fn check_integer(alloc: Global, len: usize, left: &[u8], end: usize) -> Result<Statement, Fault>
-    requires { end < length left.now }
-    ensures { Reads statement_value (check_integer len left.now end) result }
-{
-    let key = node_at(alloc, len, left, &left[..end.saturating_sub(1)])?;
-    let number = last_integer(len, &left[end + 1..])?;
-    Ok(Statement::CheckAtLeast(key, number))
-}
-
 fn read_check(alloc: Global, len: usize, left: &[u8]) -> Result<Statement, Fault>
     ensures { Reads statement_value (check_reading len left.now) result }
 {
-    let end = key_end(left);
-    if is_at_least(&left[..end], &left[end..]) {
-        check_integer(alloc, len, left, end)
+    let (part, rest) = left.split_at(key_end(left));
+    if is_at_least(part, rest) {
+        check_integer(alloc, len, left, part, rest)
     } else {
-        check_value(alloc, len, left, end)
+        check_value(alloc, len, left)
     }
 }
 
@@ -78,16 +88,16 @@ fn read_check(alloc: Global, len: usize, left: &[u8]) -> Result<Statement, Fault
 fn read_operand(alloc: Global, word: &[u8], len: usize, left: &[u8]) -> Result<Statement, Fault>
     ensures { Reads statement_value (operand_reading word.now len left.now) result }
 {
-    match word {
-        b"SET" => read_set(alloc, len, left),
-        b"KILL" => Ok(Statement::Kill(last_node(alloc, len, left)?)),
-        b"ZKILL" => Ok(Statement::ZKill(last_node(alloc, len, left)?)),
-        b"INCR" => read_incr(alloc, len, left),
-        b"GET" => Ok(Statement::Get(last_node(alloc, len, left)?)),
-        b"DATA" => Ok(Statement::Defined(last_node(alloc, len, left)?)),
-        b"ORDER" => read_order(alloc, len, left),
-        b"CHECK" => read_check(alloc, len, left),
-        _ => Err(Fault {
+    match word_of(word) {
+        Some(Word::Set) => read_set(alloc, len, left),
+        Some(Word::Kill) => Ok(Statement::Kill(last_node(alloc, len, left)?)),
+        Some(Word::ZKill) => Ok(Statement::ZKill(last_node(alloc, len, left)?)),
+        Some(Word::Incr) => read_incr(alloc, len, left),
+        Some(Word::Get) => Ok(Statement::Get(last_node(alloc, len, left)?)),
+        Some(Word::Data) => Ok(Statement::Defined(last_node(alloc, len, left)?)),
+        Some(Word::Order) => read_order(alloc, len, left),
+        Some(Word::Check) => read_check(alloc, len, left),
+        None => Err(Fault {
             part: 0,
             error: TextError::BadChar { at: 0 },
         }),
@@ -105,6 +115,14 @@ pub fn read_located(alloc: Global, text: &[u8]) -> Result<Statement, Fault>
 
 /// The statement of a text, as `SET ^X(1)="a"`, or the text's first fault. Parts are separated by one space or more.
 pub fn read_statement(alloc: Global, text: &[u8]) -> Result<Statement, TextError>
+    // Which statement, or which fault.
+    ensures reading { ReadsText statement_value (statement_reading text.now) result }
+    // What is read is in the grammar.
+    ensures found { IfOk result (λ s. SpellsStatement text.now (statement_value s)) }
+    // What is in the grammar is read to its statement.
+    ensures only { (s : jobs.Statement) → SpellsStatement text.now s → ReadsText statement_value (Ok s) result }
+    // What was written is read back.
+    ensures again { (s : jobs.Statement) → IsStatement s → text.now ≡ statement_text s → ReadsText statement_value (Ok s) result }
 {
     match read_located(alloc, text) {
         Ok(statement) => Ok(statement),

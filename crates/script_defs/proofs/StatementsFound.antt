@@ -77,7 +77,7 @@ key_good (b ∷ bs) key e = elim (chosen (b == 94) (split_name (position_or_len 
   | inr h ↦ absurd (cc h.1)
 ]
 
-node_found : (t : List ℕ) (key : Key) → key_reading t ≡ Ok key → IsNode t key
+pub node_found : (t : List ℕ) (key : Key) → key_reading t ≡ Ok key → IsNode t key
 node_found t key e =
     let f = text_found t (Ok key) e in
     let good : is_name f.name ≡ true = ap (λ k. is_name k.name) (sym f.key_is) ∙ key_good t key e in
@@ -164,15 +164,19 @@ value_statement_found : (make : Key → List ℕ → Statement) (len : ℕ) (lef
 value_statement_found make len left n s e =
     let f = followed_found (node_reading len left n) (λ key. followed (assigned len (drop n left)) (λ value. Ok (make key value))) s e in
     let g = followed_found (assigned len (drop n left)) (λ value. Ok (make f.0 value)) s f.2 in
-    let a = assigned_found len (drop n left) g.0 g.1 in
-    (f.0, g.0, record {
-      key_text = take n left;
-      value_text = a.text;
-      whole = sym (take-append-drop n left) ∙ ap (λ x. take n left ++ x) a.whole;
-      node = front_found len left n f.0 f.1;
-      value_is = a.value;
-      few = a.few;
-    }, cc g.2)
+    let a = assigned_found len (drop n left) g.0 g.1 in (
+      f.0,
+      g.0,
+      record {
+        key_text = take n left;
+        value_text = a.text;
+        whole = sym (take-append-drop n left) ∙ ap (λ x. take n left ++ x) a.whole;
+        node = front_found len left n f.0 f.1;
+        value_is = a.value;
+        few = a.few;
+      },
+      cc g.2,
+    )
 
 -- spaces
 

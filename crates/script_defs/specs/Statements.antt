@@ -1,12 +1,13 @@
 -- Statements as text (GT.M: SET, KILL, ZKILL, $INCREMENT, $GET, $DATA, $ORDER; the words and the forms of a line are this project's).
 use Rattle.std.specs.Prelude.{◌≡◌, ◌≤◌, ℕ, ℤ, ◌-◌, ◌&&◌, ◌==◌, Bool, true, false, List, [], ◌∷◌, ◌++◌, length, take, drop, replicate, slice_index, Some, codes, if◌then◌else◌}
+use Rattle.std.specs.List.{flat_map}
 use Rattle.std.specs.Str.{bytes_eq}
 use Rattle.std.specs.declared.result.Result.{Result}
 use Rattle.std.specs.declared.result.Result.TheVariants.{Ok, Err}
-use Rattle.global_defs.specs.Key.{Key, sub_of}
+use Rattle.global_defs.specs.Key.{Key, Sub, sub_of}
 use Rattle.global_defs.specs.Jobs.{Statement, Set, Kill, ZKill, Incr, Get, Defined, Order, CheckIs, CheckAtLeast}
 use Rattle.global_defs.specs.Numeral.{integer_of, integer_text, is_counted}
-use Rattle.global_defs.specs.NodeText.{node_text}
+use Rattle.global_defs.specs.NodeText.{node_text, sub_text}
 use Rattle.global_defs.specs.Valid.{is_key}
 use Rattle.global_defs.specs.Zwr.{zwr}
 use Rattle.gvn_key.specs.KeyText.{IsSubText, AreBytes, key_reading}
@@ -72,6 +73,15 @@ operand_reading word len left = if bytes_eq word (codes "SET") then value_statem
 
 abbrev pub statement_reading : List ℕ → Result Statement Fault
 statement_reading text = let n = word_end text in operand_reading (take n text) (length text) (without_spaces (drop n text))
+
+-- subscripts and the comma behind them, or the bracket before a first one
+abbrev pub behind_subs : List Sub → List ℕ
+behind_subs [] = 40 ∷ []
+behind_subs (s ∷ ss) = 40 ∷ sub_text s ++ flat_map (λ t. 44 ∷ sub_text t) ss ++ 44 ∷ []
+
+-- a node's text up to where one subscript more may stand
+abbrev pub text_above : Key → List ℕ
+text_above key = 94 ∷ key.name ++ behind_subs key.subs
 
 -- The canonical text: one space between parts, and values always in ZWR form.
 abbrev pub statement_text : Statement → List ℕ

@@ -3,5 +3,7 @@
 #![tactic(auto)]
 
 mod statements;
+mod vectors;
 
-pub use statements::statements_hold;
+pub use statements::statements_are_read_as_spelled;
+pub use vectors::statements_hold;
