@@ -56,7 +56,13 @@ fn behind_first(text: &[u8]) -> &[u8]
 }
 
 /// An integer behind both signs.
-fn check_integer(alloc: Global, len: usize, left: &[u8], part: &[u8], rest: &[u8]) -> Result<Statement, Fault>
+fn check_integer(
+    alloc: Global,
+    len: usize,
+    left: &[u8],
+    part: &[u8],
+    rest: &[u8],
+) -> Result<Statement, Fault>
     ensures { Reads statement_value (check_integer len left.now part.now rest.now) result }
 {
     let key = node_at(alloc, len, left, &part[..part.len().saturating_sub(1)])?;
@@ -88,20 +94,34 @@ fn read_check(alloc: Global, len: usize, left: &[u8]) -> Result<Statement, Fault
 fn read_operand(alloc: Global, word: &[u8], len: usize, left: &[u8]) -> Result<Statement, Fault>
     ensures { Reads statement_value (operand_reading word.now len left.now) result }
 {
-    match word_of(word) {
-        Some(Word::Set) => read_set(alloc, len, left),
-        Some(Word::Kill) => Ok(Statement::Kill(last_node(alloc, len, left)?)),
-        Some(Word::ZKill) => Ok(Statement::ZKill(last_node(alloc, len, left)?)),
-        Some(Word::Incr) => read_incr(alloc, len, left),
-        Some(Word::Get) => Ok(Statement::Get(last_node(alloc, len, left)?)),
-        Some(Word::Data) => Ok(Statement::Defined(last_node(alloc, len, left)?)),
-        Some(Word::Order) => read_order(alloc, len, left),
-        Some(Word::Check) => read_check(alloc, len, left),
-        None => Err(Fault {
-            part: 0,
-            error: TextError::BadChar { at: 0 },
-        }),
+    if word == b"SET".as_slice() {
+        return read_set(alloc, len, left);
     }
+    if word == b"KILL".as_slice() {
+        return Ok(Statement::Kill(last_node(alloc, len, left)?));
+    }
+    if word == b"ZKILL".as_slice() {
+        return Ok(Statement::ZKill(last_node(alloc, len, left)?));
+    }
+    if word == b"INCR".as_slice() {
+        return read_incr(alloc, len, left);
+    }
+    if word == b"GET".as_slice() {
+        return Ok(Statement::Get(last_node(alloc, len, left)?));
+    }
+    if word == b"DATA".as_slice() {
+        return Ok(Statement::Defined(last_node(alloc, len, left)?));
+    }
+    if word == b"ORDER".as_slice() {
+        return read_order(alloc, len, left);
+    }
+    if word == b"CHECK".as_slice() {
+        return read_check(alloc, len, left);
+    }
+    Err(Fault {
+        part: 0,
+        error: TextError::BadChar { at: 0 },
+    })
 }
 
 /// The statement of a text, or its first fault with the part that has it.

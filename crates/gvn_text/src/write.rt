@@ -1,11 +1,12 @@
 //! Statements written.
-ghost use Rattle.std.specs.Prelude.{◌≡◌, ◌++◌, OnOk, OnErr};
+ghost use Rattle.std.specs.Prelude.{◌≡◌, ◌++◌, ◌∷◌, ◌-◌, [], length, take, OnOk, OnErr};
+ghost use Rattle.global_defs.specs.Jobs as jobs;
 ghost use Rattle.gvn_key.specs.Terms.{statement_value};
 ghost use Rattle.global_defs.specs.Numeral.{integer_text};
 ghost use Rattle.global_defs.specs.Zwr.{zwr};
 ghost use Rattle.global_defs.specs.Key.{sub_of};
 ghost use Rattle.global_defs.specs.NodeText.{node_text, sub_text};
-ghost use Rattle.script_defs.specs.Statements.{statement_text};
+ghost use Rattle.script_defs.specs.Statements.{text_above, statement_text};
 
 use gvn_key::terms::Statement;
 use gvn_key::{Bytes, Key, NoMemory, is_number, zwr_write};
@@ -52,16 +53,19 @@ fn push_above(key: &Key, out: &mut Bytes) -> Result<(), NoMemory>
 {
     let mut node = Bytes::new(out.allocator());
     key.write(&mut node)?;
-    match node.as_slice() {
-        [above @ .., b')'] => {
-            out.push_all(above)?;
-            out.push_all(b",")
-        }
-        name => {
-            out.push_all(name)?;
-            out.push_all(b"(")
-        }
+    if key.subs().is_empty() {
+        out.push_all(node.as_slice())?;
+        return out.push_all(b"(");
     }
+    out.push_all(without_last(node.as_slice()))?;
+    out.push_all(b",")
+}
+
+/// All but the last byte.
+fn without_last(text: &[u8]) -> &[u8]
+    ensures { result.now ≡ take (length text.now - 1) text.now }
+{
+    &text[..text.len().saturating_sub(1)]
 }
 
 fn push_level(key: &Key, last: &Bytes, out: &mut Bytes) -> Result<(), NoMemory>
