@@ -1,17 +1,18 @@
 -- Integers of at most 18 digits.
-use Rattle.std.proofs.Common.{◌≡◌, ℕ, ◌+◌, ◌-◌, ◌*◌, ◌^◌, ◌<◌, ◌≤◌, ◌≢◌, true, false, not, cond, List, [], ◌∷◌, length, take, drop, get_or, fold, position, None, refl, ap, sym, ◌∙◌, arith, ◌==◌, ◌&&◌, count_by, inl, inr}
+use Rattle.std.proofs.Common.{◌≡◌, ℕ, ◌+◌, ◌-◌, ◌*◌, ◌^◌, ◌<◌, ◌≤◌, ◌≢◌, true, false, not, cond, List, [], ◌∷◌, length, take, drop, get_or, fold, position, None, refl, ap, sym, ◌∙◌, arith, ◌==◌, ◌&&◌, count_by, inl, inr, Some, pos, ◌-ℤ◌, subst}
 use Rattle.std.specs.List.{list_all, list_any}
 use Rattle.std.specs.Char.{is_ascii_digit}
 use Rattle.std.specs.Str.Parse.{digits_value}
 use Rattle.std.proofs.Math.ListN.{length-take}
-use Rattle.std.proofs.lemmas.Bool.{and_parts, cases_Bool}
+use Rattle.std.proofs.lemmas.Bool.{and_parts, cases_Bool, not-true, eq-eqb, ne_eqb}
 use Rattle.std.proofs.lemmas.List.{take-append-drop}
 use Rattle.std.proofs.lemmas.List.Folds.{list_all-append}
 use Rattle.std.proofs.lemmas.Int.Digits.{digits_value-lt}
-use Rattle.global_defs.specs.Numeral.{is_point, is_number, is_whole, is_positive, is_positive_at}
+use Rattle.global_defs.specs.Numeral.{integer_of, is_point, is_number, is_whole, is_positive, is_positive_at}
 use Rattle.global_defs.proofs.Digits.{are_digits}
 use Rattle.global_defs.proofs.NumberText.{power_le}
 use Rattle.global_defs.proofs.Numerals.{IsSigned, nought, minus, plus, numeral_signed}
+use Rattle.gvn_key.proofs.Numbers.{rest_is}
 use Rattle.global_defs.proofs.Places.{none_pass, position_nowhere}
 
 value_small : (ds : List ℕ) (n : ℕ) → list_all is_ascii_digit ds ≡ true → length ds ≤ n → digits_value 10 ds < 10 ^ n
@@ -64,3 +65,23 @@ signed_digits (plus b bs ne h few) none = (λ e. absurd (ne e), λ other. positi
 
 pub integer_digits : (s : List ℕ) → is_number s ≡ true → list_any is_point s ≡ false → IsInteger s
 integer_digits s h none = signed_digits (numeral_signed s h) none
+
+abbrev IsWritten : List ℕ → Type 0
+IsWritten s = (is_number s && not (list_any is_point s)) ≡ true
+
+written_digits : (s : List ℕ) → IsWritten s → IsInteger s
+written_digits s h = let a = and_parts (is_number s) (not (list_any is_point s)) h in integer_digits s a.0 (not-true (list_any is_point s) a.1)
+
+pub minus_digits : (s : List ℕ) → IsWritten s → get_or s 0 0 ≡ 45 → IsDigits (take (length s - 1) (drop 1 s))
+minus_digits s h e = subst IsDigits (rest_is s) ((written_digits s h).0 e)
+
+pub plain_digits : (s : List ℕ) → IsWritten s → get_or s 0 0 ≢ 45 → IsDigits s
+plain_digits s h ne = (written_digits s h).1 ne
+
+pub minus_value : (s : List ℕ) (v : ℕ) → IsWritten s → get_or s 0 0 ≡ 45 → v ≡ digits_value 10 (take (length s - 1) (drop 1 s)) → Some (pos 0 -ℤ pos v) ≡ integer_of s
+minus_value [] v h e is = absurd (omega arith)
+minus_value (b ∷ bs) v h e is = rw (h, eq-eqb b 45 e) (ap (λ n. Some (pos 0 -ℤ pos n)) (is ∙ ap (digits_value 10) (sym (rest_is (b ∷ bs)))))
+
+pub plain_value : (s : List ℕ) (v : ℕ) → IsWritten s → get_or s 0 0 ≢ 45 → v ≡ digits_value 10 s → Some (pos v) ≡ integer_of s
+plain_value [] v h ne is = absurd (cc h)
+plain_value (b ∷ bs) v h ne is = rw (h, ne_eqb b 45 ne) (ap (λ n. Some (pos n)) is)

@@ -1,9 +1,9 @@
 //! Values and integers.
-ghost use Rattle.std.specs.Prelude.{◌≡◌, ◌≤◌, ◌<◌, ◌^◌, ◌≢◌, pos, true, length, Some};
-ghost use Rattle.std.specs.List.{list_all};
+ghost use Rattle.std.specs.Prelude.{◌≡◌, ◌≤◌, ◌<◌, ◌^◌, ◌≢◌, ◌&&◌, true, not, length, Some};
+ghost use Rattle.std.specs.List.{list_all, list_any};
 ghost use Rattle.std.specs.Char.{is_ascii_digit};
 ghost use Rattle.std.specs.Str.Parse.{digits_value};
-ghost use Rattle.global_defs.specs.Numeral.{integer_of};
+ghost use Rattle.global_defs.specs.Numeral.{is_point, is_number, integer_of};
 ghost use Rattle.script_defs.specs.Parts.{inside, valued, value_reading, sized, last_value, last_integer, assigned};
 ghost use Rattle.gvn_text.specs.Reads.{Reads, fault_value};
 
@@ -81,28 +81,42 @@ pub fn assigned(alloc: Global, len: usize, left: &[u8]) -> Result<Bytes, Fault>
 }
 
 /// The number that these digits write.
-fn digits_value(digits: &[u8]) -> i64
+fn digits_value(digits: &[u8]) -> u64
     requires digits { list_all is_ascii_digit digits.now ≡ true }
     requires count { length digits.now ≤ 18 }
-    ensures { result ≡ pos (digits_value 10 digits.now) }
+    ensures value { result ≡ digits_value 10 digits.now }
+    ensures bound { result < 10 ^ 18 }
 {
     let mut value: u64 = 0;
     for digit in digits {
         value = value * 10 + u64::from(*digit - b'0');
     }
-    value as i64
+    value
+}
+
+/// Whether these bytes are a canonical integer of at most 18 digits.
+fn is_integer(text: &[u8]) -> bool
+    ensures { result ≡ (is_number text.now && not (list_any is_point text.now)) }
+{
+    is_number(text) && !text.contains(&b'.')
 }
 
 /// A canonical integer of at most 18 digits.
 fn integer_of(text: &[u8]) -> Option<i64>
     ensures { result ≡ integer_of text.now }
 {
-    if !is_number(text) || text.contains(&b'.') {
+    if !is_integer(text) {
         return None;
     }
     match text {
-        [b'-', digits @ ..] => Some(-digits_value(digits)),
-        _ => Some(digits_value(text)),
+        [] => None,
+        [first, digits @ ..] => {
+            if *first == b'-' {
+                Some(-(digits_value(digits) as i64))
+            } else {
+                Some(digits_value(text) as i64)
+            }
+        }
     }
 }
 

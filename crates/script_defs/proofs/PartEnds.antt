@@ -1,5 +1,5 @@
 -- A part's end is behind a key, a value or an integer that a space, an equals sign or the text's end follows.
-use Rattle.std.proofs.Common.{◌≡◌, ℕ, zero, suc, ◌+◌, ◌<◌, ◌≤◌, ◌≢◌, Bool, true, false, not, ◌||◌, ◌==◌, nat_lt, List, [], ◌∷◌, ◌++◌, length, map, codes, refl, ap, sym, subst, ◌∙◌, arith, inl, inr, append_assoc, length-append, ◌⊎◌}
+use Rattle.std.proofs.Common.{◌≡◌, ℕ, suc, ◌+◌, ◌<◌, ◌≤◌, ◌≢◌, Bool, true, false, not, ◌||◌, ◌==◌, nat_lt, List, [], ◌∷◌, ◌++◌, length, map, refl, ap, sym, ◌∙◌, arith, inl, inr, append_assoc, length-append, ◌⊎◌}
 use Rattle.std.specs.List.{list_all, flat_map, join_with_byte}
 use Rattle.std.specs.Char.{is_ascii_alphabetic, is_ascii_alphanumeric}
 use Rattle.std.specs.Str.Parse.{AllDigits}
@@ -7,9 +7,8 @@ use Rattle.std.specs.Fmt.{decimal}
 use Rattle.std.proofs.lemmas.List.{append-nil}
 use Rattle.std.proofs.lemmas.List.Folds.{list_all-append}
 use Rattle.std.proofs.lemmas.Str.Parse.{digit_from_value}
-use Rattle.std.proofs.lemmas.Bool.{and_parts, and_from, cases_Bool, eqb-true, ne_eqb, not_from_false, not-true, true≢false, ltb-true}
+use Rattle.std.proofs.lemmas.Bool.{and_parts, and_from, cases_Bool, ne_eqb, not-true, true≢false, ltb-true}
 use Rattle.global_defs.specs.Zwr.{quoted_byte}
-use Rattle.global_defs.specs.Numeral.{is_number}
 use Rattle.global_defs.specs.NodeText.{pointed}
 use Rattle.global_defs.specs.Valid.{is_name}
 use Rattle.global_defs.proofs.Numerals.{IsSigned, nought, minus, plus, numeral_signed, positive_parts, IsParts}

@@ -1,12 +1,12 @@
 -- A text that is read as a statement spells it.
-use Rattle.std.proofs.Common.{◌≡◌, ℕ, ℤ, zero, suc, ◌+◌, ◌-◌, ◌<◌, ◌≤◌, ◌≢◌, ◌⊎◌, Bool, true, false, not, ◌||◌, ◌&&◌, ◌==◌, nat_lt, List, [], ◌∷◌, ◌++◌, length, take, drop, replicate, get_or, codes, cond, Option, Some, None, refl, ap, sym, subst, ◌∙◌, arith, inl, inr, append_assoc, length-append}
+use Rattle.std.proofs.Common.{◌≡◌, ℕ, ℤ, suc, ◌-◌, ◌<◌, ◌≤◌, ◌⊎◌, Bool, true, false, not, ◌||◌, ◌&&◌, ◌==◌, nat_lt, List, [], ◌∷◌, ◌++◌, length, take, drop, replicate, get_or, codes, cond, Option, Some, None, refl, ap, sym, subst, ◌∙◌, arith, inl, inr, append_assoc, length-append}
 use Rattle.std.specs.List.{position_or_len}
 use Rattle.std.specs.Str.{bytes_eq}
 use Rattle.std.specs.declared.result.Result.{Result}
 use Rattle.std.specs.declared.result.Result.TheVariants.{Ok, Err}
 use Rattle.std.proofs.lemmas.List.{append-nil, take-append-drop}
 use Rattle.std.proofs.lemmas.Slice.Eq.{bytes_eq-Decides}
-use Rattle.std.proofs.lemmas.Bool.{and_parts, cases_Bool, eqb-true, or_cases, both_ways, ltb-false, ne_eqb}
+use Rattle.std.proofs.lemmas.Bool.{and_parts, cases_Bool, eqb-true, ltb-false, ne_eqb}
 use Rattle.global_defs.specs.Key.{Key, Sub, Text}
 use Rattle.global_defs.specs.Jobs.{Statement, Set, Kill, ZKill, Incr, Get, Defined, Order, CheckIs, CheckAtLeast}
 use Rattle.global_defs.specs.NodeText.{sub_bytes}
@@ -19,9 +19,9 @@ use Rattle.gvn_key.proofs.ZwrFound.{zwr_found}
 use Rattle.gvn_key.proofs.KeyTextLaws.{key_text_read}
 use Rattle.gvn_key.proofs.KeyTextFound.{text_found}
 use Rattle.gvn_key.specs.declared.key.KeyError.{KeyError}
-use Rattle.gvn_key.specs.declared.key.KeyError.TheVariants.{BadName, NameTooLong}
+use Rattle.gvn_key.specs.declared.key.KeyError.TheVariants.{BadName}
 use Rattle.gvn_key.specs.declared.reader.ZwrError.{ZwrError}
-use Rattle.script_defs.specs.Parts.{IsNode, IsLevel, within, top, below, Fault, bad, followed, ends_at, part_end, word_end, key_end, without_spaces, alone, found, node_at, node_reading, valued, inside, value_reading, sized, last_value, last_integer, last_node, assigned, level_of, top_level, below_level, empty_level, level_from, level_reading, last_level, too_long, BadChar}
+use Rattle.script_defs.specs.Parts.{IsNode, IsLevel, within, top, below, Fault, bad, followed, ends_at, part_end, word_end, key_end, without_spaces, alone, found, node_at, node_reading, valued, value_reading, sized, last_value, last_integer, last_node, assigned, level_of, top_level, below_level, empty_level, level_from, level_reading, last_level, too_long, BadChar}
 use Rattle.script_defs.specs.Statements.{IsOperand, set, kill, zkill, incr, get, defined, order, check_is, check_at_least, SpellsStatement, value_statement, node_statement, incr_reading, order_reading, is_at_least, check_integer, check_reading, operand_reading, statement_reading}
 
 -- which way a test went

@@ -1,29 +1,28 @@
 -- A text that spells a statement is read to it.
-use Rattle.std.proofs.Common.{◌≡◌, ℕ, ℤ, zero, suc, ◌+◌, ◌-◌, ◌*◌, ◌<◌, ◌≤◌, ◌≢◌, ◌⊎◌, Bool, true, false, not, ◌||◌, ◌&&◌, ◌==◌, nat_lt, List, [], ◌∷◌, ◌++◌, length, take, drop, map, replicate, get_or, codes, Option, Some, None, refl, ap, sym, subst, ◌∙◌, arith, inl, inr, append_assoc, length-append, cond}
-use Rattle.std.specs.List.{list_all, list_any}
+use Rattle.std.proofs.Common.{◌≡◌, ℕ, ℤ, zero, suc, ◌+◌, ◌-◌, ◌≤◌, ◌≢◌, ◌⊎◌, true, false, ◌||◌, ◌==◌, nat_lt, List, [], ◌∷◌, ◌++◌, length, take, drop, replicate, get_or, codes, Some, None, refl, ap, sym, subst, ◌∙◌, arith, inl, inr, append_assoc, length-append, cond}
+use Rattle.std.specs.List.{list_all}
 use Rattle.std.specs.Char.{is_ascii_alphabetic, is_ascii_alphanumeric}
 use Rattle.std.specs.Str.Parse.{AllDigits}
-use Rattle.std.specs.declared.result.Result.{Result}
 use Rattle.std.specs.declared.result.Result.TheVariants.{Ok, Err}
 use Rattle.std.proofs.Math.Seq.{take-append_seam, drop-append_seam, take-length, drop-length, get_or-append_seam}
-use Rattle.std.proofs.lemmas.List.{append-nil, append_cancel_right, length-map}
+use Rattle.std.proofs.lemmas.List.{append_cancel_right, length-map}
 use Rattle.std.proofs.lemmas.Str.Parse.{digit_from_value}
-use Rattle.std.proofs.lemmas.Bool.{and_parts, and_from, cases_Bool, eqb-true, eq-eqb, ne_eqb, le-ltb, true≢false, both_ways}
+use Rattle.std.proofs.lemmas.Bool.{and_parts, cases_Bool, eq-eqb, ne_eqb, le-ltb, true≢false, both_ways}
 use Rattle.global_defs.specs.Key.{Key, Sub, Text, sub_of}
 use Rattle.global_defs.specs.Jobs.{Statement, Set, Kill, ZKill, Incr, Get, Defined, Order, CheckIs, CheckAtLeast}
 use Rattle.global_defs.specs.NodeText.{pointed, sub_bytes}
-use Rattle.global_defs.specs.Numeral.{is_number, is_point, integer_of}
+use Rattle.global_defs.specs.Numeral.{is_number, integer_of}
 use Rattle.global_defs.specs.Valid.{is_name}
-use Rattle.global_defs.proofs.Numerals.{IsSigned, nought, minus, plus, numeral_signed, positive_parts, IsParts}
-use Rattle.gvn_key.specs.Faults.{key_of, key_fault, subs_fault, parts_fault, length_fault, or_else}
-use Rattle.gvn_key.specs.ZwrText.{IsZwr, one, more, quoted, coded, zwr_reading}
+use Rattle.global_defs.proofs.Numerals.{IsSigned, nought, minus, plus, numeral_signed, positive_parts}
+use Rattle.gvn_key.specs.Faults.{key_fault, subs_fault}
+use Rattle.gvn_key.specs.ZwrText.{IsZwr, one, more, quoted, coded}
 use Rattle.gvn_key.specs.KeyText.{IsSubText, number, string, IsSubsText, last, another, IsKeyText, bare, branched, begins_string, answered, key_reading}
 use Rattle.gvn_key.proofs.ZwrLaws.{zwr_complete}
 use Rattle.gvn_key.proofs.KeyTextLaws.{key_text_read}
 use Rattle.gvn_key.specs.declared.key.KeyError.{KeyError}
 use Rattle.gvn_key.specs.declared.key.KeyError.TheVariants.{NullSub, TooManySubs, BadName, NameTooLong}
-use Rattle.script_defs.specs.Parts.{IsNode, IsLevel, within, top, below, Fault, followed, ends_at, part_end, word_end, key_end, without_spaces, alone, found, node_at, node_reading, valued, value_reading, sized, last_value, last_integer, last_node, assigned, level_of, top_level, below_level, empty_level, level_from, level_reading, last_level}
-use Rattle.script_defs.specs.Statements.{IsOperand, set, kill, zkill, incr, get, defined, order, check_is, check_at_least, SpellsStatement, value_statement, node_statement, incr_reading, order_reading, is_at_least, check_integer, check_reading, operand_reading, statement_reading}
+use Rattle.script_defs.specs.Parts.{IsNode, IsLevel, within, top, below, followed, key_end, without_spaces, alone, found, node_at, node_reading, valued, value_reading, sized, last_value, last_integer, last_node, assigned, level_of, top_level, below_level, empty_level, level_from, level_reading, last_level}
+use Rattle.script_defs.specs.Statements.{IsOperand, set, kill, zkill, incr, get, defined, order, check_is, check_at_least, SpellsStatement, value_statement, node_statement, incr_reading, order_reading, is_at_least, check_integer, check_reading, statement_reading}
 use Rattle.script_defs.proofs.PartEnds.{IsMark, Stays, stay_both, stay_bytes, stay_value, stay_key, ends_before, ends_last}
 
 -- keys

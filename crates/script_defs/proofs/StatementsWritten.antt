@@ -1,5 +1,5 @@
 -- The canonical text of a statement spells it.
-use Rattle.std.proofs.Common.{◌≡◌, ℕ, ℤ, pos, negsuc, zero, suc, ◌+◌, ◌-◌, ◌^◌, ◌<◌, ◌≤◌, ◌≢◌, Bool, true, false, not, ◌&&◌, ◌==◌, nat_lt, nat_le, List, [], ◌∷◌, ◌++◌, length, map, fold, get_or, cond, codes, Some, refl, ap, sym, subst, ◌∙◌, arith, inl, inr, append_assoc, count_by, position}
+use Rattle.std.proofs.Common.{◌≡◌, ℕ, ℤ, pos, negsuc, zero, suc, ◌+◌, ◌^◌, ◌<◌, ◌≤◌, true, false, nat_le, List, [], ◌∷◌, ◌++◌, length, fold, get_or, cond, codes, Some, refl, ap, sym, subst, ◌∙◌, arith, append_assoc, count_by, position}
 use Rattle.std.specs.List.{list_all, list_any, flat_map}
 use Rattle.std.specs.Char.{is_ascii_digit}
 use Rattle.std.specs.Fmt.{decimal}
@@ -7,10 +7,10 @@ use Rattle.std.specs.Str.Parse.{AllDigits, digits_value}
 use Rattle.std.proofs.lemmas.List.{append-nil}
 use Rattle.std.proofs.lemmas.Fmt.{decimal_digit, first_decimal, length-decimal-le}
 use Rattle.std.proofs.lemmas.Str.Parse.{digit_from_value}
-use Rattle.std.proofs.lemmas.Bool.{and_parts, and_from, cases_Bool, eqb-true, ne_eqb, le-leb, ltb-true}
+use Rattle.std.proofs.lemmas.Bool.{and_parts, ne_eqb, le-leb, ltb-true}
 use Rattle.global_defs.specs.Key.{Key, Sub, Text, sub_of}
 use Rattle.global_defs.specs.Jobs.{Statement, Set, Kill, ZKill, Incr, Get, Defined, Order, CheckIs, CheckAtLeast}
-use Rattle.global_defs.specs.NodeText.{node_text, sub_text, subs_text, sub_bytes}
+use Rattle.global_defs.specs.NodeText.{node_text, sub_text, subs_text}
 use Rattle.global_defs.specs.Numeral.{is_point, is_positive, is_positive_at, integer_of, integer_text, is_counted}
 use Rattle.global_defs.specs.Zwr.{zwr}
 use Rattle.global_defs.proofs.Places.{none_pass, position_nowhere}

@@ -1,5 +1,5 @@
 -- Statements as text (GT.M: SET, KILL, ZKILL, $INCREMENT, $GET, $DATA, $ORDER; the words and the forms of a line are this project's).
-use Rattle.std.specs.Prelude.{◌≡◌, ◌≤◌, ℕ, ℤ, ◌-◌, ◌&&◌, ◌==◌, Bool, true, false, List, [], ◌∷◌, ◌++◌, length, take, drop, replicate, slice_index, Some, codes, if◌then◌else◌}
+use Rattle.std.specs.Prelude.{◌≡◌, ◌≤◌, ℕ, ℤ, ◌-◌, ◌&&◌, ◌==◌, Bool, true, List, [], ◌∷◌, ◌++◌, length, take, drop, replicate, slice_index, Some, codes, if◌then◌else◌}
 use Rattle.std.specs.List.{flat_map}
 use Rattle.std.specs.Str.{bytes_eq}
 use Rattle.std.specs.declared.result.Result.{Result}
@@ -12,7 +12,7 @@ use Rattle.global_defs.specs.Valid.{is_key}
 use Rattle.global_defs.specs.Zwr.{zwr}
 use Rattle.gvn_key.specs.KeyText.{IsSubText, AreBytes, key_reading}
 use Rattle.gvn_key.specs.ZwrText.{IsBytes}
-use Rattle.script_defs.specs.Parts.{IsNode, IsLevel, Fault, BadChar, followed, word_end, key_end, without_spaces, node_at, node_reading, last_value, last_integer, last_node, assigned, last_level}
+use Rattle.script_defs.specs.Parts.{IsNode, IsLevel, Fault, BadChar, followed, word_end, key_end, without_spaces, node_at, node_reading, last_integer, last_node, assigned, last_level}
 
 -- Words, and what stands behind them and the spaces. A value is written as a subscript is: a canonical numeral, or any pieces in ZWR form.
 pub data IsOperand : (word text : List ℕ) (s : Statement) → Type 0 where

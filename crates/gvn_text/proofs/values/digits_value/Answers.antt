@@ -17,3 +17,8 @@ pub loop-digit-preserved : goal.loop-digit-preserved
 loop-digit-preserved c =
     let h = value_next c.args.digits.now c.loop-digit.digit-index c.loop-digit-test.true c.requires.digits in
     omega (arith, h, c.loop-digit.invariant, c.from.ensures)
+
+pub returns-clause-bound : goal.returns-clause-bound
+returns-clause-bound c =
+    let h = value_upto c.args.digits.now c.loop-digit.digit-index c.requires.digits c.requires.count in
+    omega (arith, h, c.loop-digit.invariant)
