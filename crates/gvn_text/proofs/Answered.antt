@@ -1,5 +1,5 @@
 -- What an answer says of a reading.
-use Rattle.std.proofs.Common.{◌≡◌, ℕ, Option, Some, None, ap}
+use Rattle.std.proofs.Common.{ℕ, Option, Some, None, ap}
 use Rattle.std.specs.declared.result.Result.{Result}
 use Rattle.script_defs.specs.Parts as parts
 use Rattle.gvn_text.specs.Reads.{fault_from, Tells, error_of, TellsError}

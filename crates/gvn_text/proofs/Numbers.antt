@@ -1,5 +1,5 @@
 -- Integers of at most 18 digits.
-use Rattle.std.proofs.Common.{◌≡◌, ℕ, ◌+◌, ◌-◌, ◌*◌, ◌^◌, ◌<◌, ◌≤◌, ◌≢◌, true, false, not, cond, List, [], ◌∷◌, length, take, drop, get_or, fold, position, None, refl, ap, sym, ◌∙◌, arith, ◌==◌, ◌&&◌, count_by, inl, inr, Some, pos, ◌-ℤ◌, subst}
+use Rattle.std.proofs.Common.{◌≡◌, ℕ, ◌+◌, ◌-◌, ◌^◌, ◌<◌, ◌≤◌, ◌≢◌, true, false, not, cond, List, [], ◌∷◌, length, take, drop, get_or, fold, refl, ap, sym, ◌∙◌, arith, ◌==◌, ◌&&◌, count_by, inl, inr, Some, pos, ◌-ℤ◌, subst}
 use Rattle.std.specs.List.{list_all, list_any}
 use Rattle.std.specs.Char.{is_ascii_digit}
 use Rattle.std.specs.Str.Parse.{digits_value}

@@ -1,4 +1,4 @@
-use Rattle.std.proofs.Common.{◌≡◌, ◌∙◌, sym, subst, get_or, ◌-◌, length}
+use Rattle.std.proofs.Common.{◌≡◌, sym, subst, get_or, ◌-◌, length}
 use Rattle.gvn_text.proofs.LevelLaws.{level_made}
 use Rattle.gvn_text.proofs.levels.level_of.Goals as goal
 

@@ -1,4 +1,4 @@
-use Rattle.std.proofs.Common.{◌≡◌, ◌∙◌, sym, subst}
+use Rattle.std.proofs.Common.{◌∙◌, sym, subst}
 use Rattle.gvn_key.specs.Terms.{statement_value}
 use Rattle.script_defs.specs.Statements.{SpellsStatement, statement_reading}
 use Rattle.script_defs.proofs.StatementsFound.{statement_found}

@@ -1,10 +1,8 @@
-use Rattle.std.proofs.Common.{◌≡◌, ℤ, ◌∙◌, ◌-ℤ◌, ◌&&◌, pos, Some, true, not, sym, ap, arith}
-use Rattle.std.specs.List.{list_any}
+use Rattle.std.proofs.Common.{◌≡◌, ◌∙◌, ◌-ℤ◌, pos, Some, sym, ap, arith}
 use Rattle.std.proofs.lemmas.Int.{ints}
 use mir.Val.{to_z, of_z}
 use mir.Syntax.{w64}
-use Rattle.global_defs.specs.Numeral.{is_number, is_point}
-use Rattle.gvn_text.proofs.Numbers.{minus_digits, plain_digits, minus_value, plain_value}
+use Rattle.gvn_text.proofs.Numbers.{minus_digits, plain_digits, minus_value}
 use Rattle.gvn_text.proofs.values.integer_of.Goals as goal
 
 pub digits_value-requires-clause-digits : goal.digits_value-requires-clause-digits
