@@ -2,3 +2,4 @@ pub mod Reigns
 pub mod Entries
 pub mod Items
 pub mod Globals
+pub mod Numbered

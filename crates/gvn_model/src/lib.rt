@@ -1,6 +1,7 @@
 //! Transactions, entries and reigns: what a journal keeps and a replication link carries.
 #![tactic(auto)]
 
+mod entries;
 mod entry;
 mod globals;
 mod history;
@@ -10,6 +11,7 @@ mod reign;
 mod tests;
 mod updates;
 
+pub use entries::Entries;
 pub use entry::{Entry, Origin, Transaction};
 pub use globals::Globals;
 pub use history::{History, Reigns};

@@ -56,6 +56,29 @@ fn copies_an_entry(rt: HostRuntime) -> Result<(), Fail> {
     Ok(())
 }
 
+#[test]
+fn copies_a_list_of_entries(rt: HostRuntime) -> Result<(), Fail> {
+    let alloc = rt.alloc();
+    let mut entries = Entries::new(alloc);
+    assert_eq!(rt; entries.is_empty(), true);
+    entries.push(Entry {
+        number: 3,
+        stamp: reign(alloc, 1, 1)?.stamp,
+        transaction: Transaction {
+            origin: Origin {
+                updater: 2,
+                serial: 5,
+            },
+            updates: Updates::new(alloc),
+        },
+    })?;
+    let made = entries.copy()?;
+    assert_eq!(rt; made.len(), 1);
+    assert_eq!(rt; made.item(0).number, 3);
+    assert_eq!(rt; entries.as_slice().len(), 1);
+    Ok(())
+}
+
 /// The node `^X`, or one below it.
 fn node(alloc: Global, sub: Option<&[u8]>) -> Result<Key, Fail> {
     let mut subs = Vec::new(alloc);

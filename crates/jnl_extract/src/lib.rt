@@ -4,6 +4,7 @@
 mod line;
 #[cfg(test)]
 mod tests;
+mod update;
 
 ghost use Rattle.std.specs.Prelude.{◌≡◌, ◌++◌, OnOk, OnErr};
 ghost use Rattle.global_defs.specs.Extract.{entry_text, header};
@@ -12,6 +13,7 @@ ghost use Rattle.gvn_model.specs.Entries.{entry_value};
 use gvn_key::{Bytes, NoMemory};
 use gvn_model::Entry;
 use line::{write_bracket, write_update, write_updates};
+pub use update::read_update;
 
 /// Adds the lines of an entry at the end: one line for its update, or a line for each between a TSTART
 /// and a TCOM line. Without memory nothing is added.

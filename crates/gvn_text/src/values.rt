@@ -1,0 +1,135 @@
+//! Values and integers.
+ghost use Rattle.std.specs.Prelude.{◌≡◌, ◌≤◌, ◌<◌, ◌^◌, ◌≢◌, ◌&&◌, true, not, length, Some};
+ghost use Rattle.std.specs.List.{list_all, list_any};
+ghost use Rattle.std.specs.Char.{is_ascii_digit};
+ghost use Rattle.std.specs.Str.Parse.{digits_value};
+ghost use Rattle.global_defs.specs.Numeral.{is_point, is_number, integer_of};
+ghost use Rattle.script_defs.specs.Parts.{inside, valued, value_reading, sized, last_value, last_integer, assigned};
+ghost use Rattle.gvn_text.specs.Reads.{Reads, fault_value};
+
+use super::fault::{Fault, TextError, bad, place, too_long};
+use super::parts::{alone, word_end};
+use gvn_key::{Bytes, NoMemory, ZwrError, is_number, zwr_read};
+use std::alloc::Global;
+
+/// How many bytes a value may have.
+const LONGEST_VALUE: usize = 1500;
+
+/// A value's own fault, by its place in the value.
+fn inside(len: usize, left: &[u8], fault: ZwrError) -> Fault
+    requires { fault ≢ ZwrError.NoMemory }
+    ensures { fault_value result ≡ Some (inside len left.now fault) }
+{
+    let part = place(len, left);
+    let error = match fault {
+        ZwrError::BadQuote { at } => TextError::BadQuote {
+            at: part.saturating_add(at),
+        },
+        ZwrError::BadChar { at } => TextError::BadChar {
+            at: part.saturating_add(at),
+        },
+        ZwrError::NoMemory => TextError::NoMemory,
+    };
+    Fault { part, error }
+}
+
+/// The value of a part that stands at the front of what is left.
+fn valued(alloc: Global, len: usize, left: &[u8], part: &[u8]) -> Result<Bytes, Fault>
+    ensures { Reads (λ value. value) (valued len left.now (value_reading part.now)) result }
+{
+    if is_number(part) {
+        return Ok(Bytes::of(alloc, part)?);
+    }
+    match zwr_read(alloc, part) {
+        Ok(value) => Ok(value),
+        Err(ZwrError::NoMemory) => Err(Fault::from(NoMemory)),
+        Err(fault) => Err(inside(len, left, fault)),
+    }
+}
+
+/// A value behind which nothing may come. One that is too long is bad where something comes.
+fn sized(len: usize, left: &[u8], rest: &[u8], value: Bytes) -> Result<Bytes, Fault>
+    ensures { Reads (λ v. v) (sized len left.now rest.now value) result }
+{
+    if LONGEST_VALUE < value.len() {
+        return Err(if rest.is_empty() {
+            too_long(len, left)
+        } else {
+            bad(len, left)
+        });
+    }
+    alone(len, rest)?;
+    Ok(value)
+}
+
+fn last_value(alloc: Global, len: usize, left: &[u8]) -> Result<Bytes, Fault>
+    ensures { Reads (λ v. v) (last_value len left.now) result }
+{
+    let (part, rest) = left.split_at(word_end(left));
+    let value = valued(alloc, len, left, part)?;
+    sized(len, left, rest, value)
+}
+
+/// A value behind an equals sign, and nothing more.
+pub fn assigned(alloc: Global, len: usize, left: &[u8]) -> Result<Bytes, Fault>
+    ensures { Reads (λ v. v) (assigned len left.now) result }
+{
+    match left {
+        [b'=', value @ ..] => last_value(alloc, len, value),
+        _ => Err(bad(len, left)),
+    }
+}
+
+/// The number that these digits write.
+fn digits_value(digits: &[u8]) -> u64
+    requires digits { list_all is_ascii_digit digits.now ≡ true }
+    requires count { length digits.now ≤ 18 }
+    ensures value { result ≡ digits_value 10 digits.now }
+    ensures bound { result < 10 ^ 18 }
+{
+    let mut value: u64 = 0;
+    for digit in digits {
+        value = value * 10 + u64::from(*digit - b'0');
+    }
+    value
+}
+
+/// Whether these bytes are a canonical integer of at most 18 digits.
+fn is_integer(text: &[u8]) -> bool
+    ensures { result ≡ (is_number text.now && not (list_any is_point text.now)) }
+{
+    is_number(text) && !text.contains(&b'.')
+}
+
+/// A canonical integer of at most 18 digits.
+fn integer_of(text: &[u8]) -> Option<i64>
+    ensures { result ≡ integer_of text.now }
+{
+    if !is_integer(text) {
+        return None;
+    }
+    match text {
+        [] => None,
+        [first, digits @ ..] => {
+            if *first == b'-' {
+                Some(-(digits_value(digits) as i64))
+            } else {
+                Some(digits_value(text) as i64)
+            }
+        }
+    }
+}
+
+/// An integer behind which nothing may come.
+pub fn last_integer(len: usize, left: &[u8]) -> Result<i64, Fault>
+    ensures { Reads (λ n. n) (last_integer len left.now) result }
+{
+    let (part, rest) = left.split_at(word_end(left));
+    match integer_of(part) {
+        None => Err(bad(len, left)),
+        Some(number) => {
+            alone(len, rest)?;
+            Ok(number)
+        }
+    }
+}

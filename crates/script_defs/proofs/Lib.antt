@@ -1,0 +1,4 @@
+pub mod PartEnds
+pub mod StatementsFound
+pub mod StatementsRead
+pub mod StatementsWritten
