@@ -4,12 +4,12 @@ ghost use Rattle.std.specs.List.{list_all, flat_map};
 ghost use Rattle.std.specs.Char.{is_ascii_alphanumeric};
 ghost use Rattle.global_defs.specs.Key.{sub_of};
 ghost use Rattle.global_defs.specs.Valid.{is_name, is_key};
-ghost use Rattle.global_defs.specs.Encoded.{encoded};
+ghost use Rattle.global_defs.specs.Encoded.{encoded, encoded_sub};
 ghost use Rattle.global_defs.specs.NodeText.{sub_text, subs_text, node_text};
 ghost use Rattle.gvn_key.specs.Faults.{subs_fault, parts_fault, key_of, MakesKey};
 
 use super::bytes::{Bytes, NoMemory};
-use super::encoding::push_subs;
+use super::encoding::{push_sub, push_subs};
 use super::numeral::is_number;
 use super::zwr::push_zwr;
 use std::alloc::Global;
@@ -183,6 +183,25 @@ impl Key {
         ensures valid { is_key self.now ≡ true }
     {
         self.code.as_slice()
+    }
+
+    /// The encoded key, as a list that a map's keys compare with.
+    pub fn code(&self) -> &Bytes
+        ensures value { result.now ≡ encoded self.now }
+        ensures valid { is_key self.now ≡ true }
+    {
+        &self.code
+    }
+
+    /// Bytes behind those of all keys that have such a subscript next, and before those of all later keys.
+    pub fn past(&self, sub: &[u8]) -> Result<Bytes, NoMemory>
+        ensures { IfOk result (λ made. made ≡ encoded self.now ++ encoded_sub (sub_of sub.now) ++ 255 ∷ []) }
+    {
+        let alloc = self.code.allocator();
+        let mut made = self.code.copy()?;
+        push_sub(alloc, sub, &mut made)?;
+        made.push(255)?;
+        Ok(made)
     }
 
     /// Adds the encoded key at the end.
