@@ -195,7 +195,8 @@ impl Key {
 
     /// Bytes behind those of all keys that have such a subscript next, and before those of all later keys.
     pub fn past(&self, sub: &[u8]) -> Result<Bytes, NoMemory>
-        ensures { IfOk result (λ made. made ≡ encoded self.now ++ encoded_sub (sub_of sub.now) ++ 255 ∷ []) }
+        ensures value { IfOk result (λ made. made ≡ encoded self.now ++ encoded_sub (sub_of sub.now) ++ 255 ∷ []) }
+        ensures valid { is_key self.now ≡ true }
     {
         let alloc = self.code.allocator();
         let mut made = self.code.copy()?;

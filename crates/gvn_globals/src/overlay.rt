@@ -1,0 +1,187 @@
+// Globals with the changes of one job over them.
+ghost use Rattle.std.specs.Prelude.{◌≡◌, Option, Some, None, is_some, if◌then◌else◌, not, IfOk, OnOk, OnErr};
+ghost use Rattle.std.specs.Option.{option_copied};
+ghost use Rattle.std.specs.FinMap as globals;
+ghost use Rattle.global_defs.specs.Entry.{is_under};
+ghost use Rattle.global_defs.specs.Evaluation as evaluation;
+ghost use Rattle.gvn_globals.specs.Walks.{after, tested, earlier};
+ghost use Rattle.gvn_globals.specs.Overlaid.{kept, overlaid};
+
+use super::globals::{Globals, ones};
+use super::lookup::{Lookup, Walk, subtree};
+use gvn_key::{Bytes, Key, NoMemory};
+use std::alloc::Global;
+use std::cmp::Ordering;
+use std::marker::Model;
+
+/// Globals as they are after some changes of a job, which stand beside them.
+pub struct Overlay<'a, G: Lookup> {
+    on: &'a G,
+    /// The nodes that the job has set, with their values.
+    sets: Globals,
+    /// The nodes below that it has removed, with no values.
+    gone: Globals,
+    nodes: u32,
+}
+
+impl<'a, G: Lookup> Model for Overlay<'a, G> {
+    ghost use Rattle.std.specs.Prelude.{◌≡◌};
+    ghost use Rattle.std.specs.FinMap as globals;
+    ghost use Rattle.global_defs.specs.Entry as defs;
+    ghost use Rattle.gvn_globals.specs.Codes.{globals_code};
+    ghost use Rattle.gvn_globals.specs.Overlaid.{overlaid};
+
+    ghost Value = { defs.Globals };
+
+    ghost coded = { globals_code };
+
+    ghost view = { λ o. overlaid (G.seen o.on.now) o.sets o.gone };
+
+    ghost invariant = { λ o. o.nodes ≡ globals.len (overlaid (G.seen o.on.now) o.sets o.gone) };
+}
+
+/// The first of two keys.
+fn earlier(own: Option<Key>, other: Option<Key>) -> Option<Key>
+    ensures { result ≡ earlier own other }
+{
+    match (own, other) {
+        (Some(own), Some(other)) => {
+            if other.compare(&own) == Ordering::Less {
+                Some(other)
+            } else {
+                Some(own)
+            }
+        }
+        (Some(key), None) => Some(key),
+        (None, found) => found,
+    }
+}
+
+/// The first node of the same name past the key that isn't gone.
+fn kept_after<G: Lookup>(on: &G, gone: &Globals, key: &Key) -> Result<Option<Key>, NoMemory>
+    ensures { IfOk result (λ found. found ≡ after (kept (G.seen on.now) gone.now) key.now) }
+{
+    let mut found = on.after(key)?;
+    while let Some(node) = found {
+        if gone.get(&node).is_none() {
+            return Ok(Some(node));
+        }
+        found = on.after(&node)?;
+    }
+    Ok(None)
+}
+
+impl<'a, G: Lookup> Overlay<'a, G> {
+    /// Globals without changes.
+    pub fn new(alloc: Global, on: &'a G) -> Self
+        ensures { result ≡ G.seen on.now }
+    {
+        Overlay {
+            on,
+            sets: Globals::new(alloc),
+            gone: Globals::new(alloc),
+            nodes: on.nodes(),
+        }
+    }
+
+    /// How many nodes have values.
+    pub fn nodes(&self) -> u32
+        ensures { result ≡ globals.len self.now }
+    {
+        self.nodes
+    }
+
+    /// The node's value, if it has one.
+    pub fn get(&self, key: &Key) -> Option<&[u8]>
+        ensures { option_copied result ≡ globals.get self.now key.now }
+    {
+        match self.sets.get(key) {
+            Some(value) => Some(value),
+            None => {
+                if self.gone.get(key).is_some() {
+                    None
+                } else {
+                    self.on.get(key)
+                }
+            }
+        }
+    }
+
+    /// Gives the node that value.
+    pub fn set(&mut self, key: Key, value: Bytes) -> Result<(), NoMemory>
+        ensures ok { OnOk result (self.new ≡ globals.insert self.old key value) }
+        ensures err { OnErr result (self.new ≡ self.old) }
+    {
+        let nodes = if self.get(&key).is_some() {
+            self.nodes
+        } else {
+            self.nodes.checked_add(1).ok_or(NoMemory)?
+        };
+        self.sets.set(key, value)?;
+        self.nodes = nodes;
+        Ok(())
+    }
+
+    /// Takes the node's own value away.
+    pub fn remove(&mut self, key: &Key) -> Result<(), NoMemory>
+        ensures ok { OnOk result (self.new ≡ globals.remove self.old key.now) }
+        ensures err { OnErr result (self.new ≡ self.old) }
+    {
+        let none = Bytes::new(key.code().allocator());
+        let fewer = if self.get(key).is_some() { 1 } else { 0 };
+        self.gone.set(key.copy()?, none)?;
+        self.sets.remove(key);
+        self.nodes -= fewer;
+        Ok(())
+    }
+
+    /// Takes the node and all its descendants away. Without memory some of them may be gone.
+    pub fn kill(&mut self, top: &Key) -> Result<(), NoMemory>
+        ensures { OnOk result (self.new ≡ globals.retain_keys self.old (λ k. not (is_under top.now k))) }
+    {
+        let keys = subtree(self, top)?;
+        for key in &keys {
+            self.remove(key)?;
+        }
+        Ok(())
+    }
+
+    /// The first node of the same name past the key, if there is one.
+    pub fn after(&self, key: &Key) -> Result<Option<Key>, NoMemory>
+        ensures { IfOk result (λ found. found ≡ after self.now key.now) }
+    {
+        Ok(earlier(
+            self.sets.after(key)?,
+            kept_after(self.on, &self.gone, key)?,
+        ))
+    }
+
+    /// Whether the node has a value, and whether it has descendants: 0, 1, 10 or 11.
+    pub fn defined(&self, key: &Key) -> Result<u8, NoMemory>
+        ensures { IfOk result (λ defined. defined ≡ evaluation.defined self.now key.now) }
+    {
+        Ok(ones(self.get(key)) + tens(self.after(key)?, key))
+    }
+}
+
+/// 10 where the node is below the top one, else 0.
+fn tens(found: Option<Key>, top: &Key) -> u8
+    ensures { result ≡ (if is_some (tested (is_under top.now) found) then 10 else 0) }
+{
+    match found {
+        Some(key) if key.is_under(top) => 10,
+        _ => 0,
+    }
+}
+
+impl<'a, G: Lookup> Walk for Overlay<'a, G> {
+    ghost walked = { λ o. o };
+
+    fn has(&self, key: &Key) -> bool {
+        self.get(key).is_some()
+    }
+
+    fn next(&self, key: &Key) -> Result<Option<Key>, NoMemory> {
+        self.after(key)
+    }
+}
