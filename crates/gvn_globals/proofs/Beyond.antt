@@ -23,7 +23,8 @@ use Rattle.global_defs.proofs.KeyOrder.{key_ordered}
 use Rattle.global_defs.proofs.SubOrder.{sub_code}
 use Rattle.global_defs.proofs.ValidKeys.{IsValid, valid_parts}
 use Rattle.global_defs.proofs.Numerals.{sub_made}
-use Rattle.gvn_globals.specs.Walks.{tested, extended, is_behind, is_beyond, sub_under}
+use Rattle.gvn_key.specs.Faults.{child_of}
+use Rattle.gvn_globals.specs.Walks.{tested, is_behind, is_beyond, sub_under}
 use Rattle.gvn_globals.proofs.Basics.{less_of, equal_of, false_of, both}
 use Rattle.gvn_globals.proofs.Firsts.{Finds, IsFirst, find_finds, find_decided}
 use Rattle.gvn_globals.proofs.Under.{names_tie, subs_begin, under_between, behind_not_before, below_behind, below_is_behind}
@@ -223,10 +224,10 @@ first_behind : (xs ys : List Sub) → list_all is_sub xs ≡ true → list_all i
 first_behind [] ys h g = g
 first_behind (x ∷ xs) ys h g = both (is_sub x) (list_all is_sub (xs ++ ys)) (first_so (is_sub x) (list_all is_sub xs) h) (first_behind xs ys (second_so (is_sub x) (list_all is_sub xs) h) g)
 
-pub extended_valid : (top k : Key) (s : Sub) → is_key top ≡ true → is_key k ≡ true → is_under top k ≡ true → first_sub (below_subs top k) ≡ Some s → is_key (extended top s) ≡ true
-extended_valid top k s vt v u e = by (below_subs top k) refl e
+pub child_valid : (top k : Key) (s : Sub) → is_key top ≡ true → is_key k ≡ true → is_under top k ≡ true → first_sub (below_subs top k) ≡ Some s → is_key (child_of top s) ≡ true
+child_valid top k s vt v u e = by (below_subs top k) refl e
   where
-    by : (ss : List Sub) → below_subs top k ≡ ss → first_sub ss ≡ Some s → is_key (extended top s) ≡ true
+    by : (ss : List Sub) → below_subs top k ≡ ss → first_sub ss ≡ Some s → is_key (child_of top s) ≡ true
     by [] split e = absurd (true≢false (ap is_some (sym e)))
     by (t ∷ ts) split e =
         let is : t ≡ s = cc in
@@ -236,11 +237,11 @@ extended_valid top k s vt v u e = by (below_subs top k) refl e
         let subs : list_all is_sub (top.subs ++ t ∷ []) ≡ true = first_behind top.subs (t ∷ []) parts.subs (both (is_sub t) true sub refl) in
         let many : length k.subs ≡ length top.subs + length (t ∷ ts) = ap length (subs_split top k u ∙ ap (λ ss. top.subs ++ ss) split) ∙ length-append top.subs (t ∷ ts) in
         let few : length (top.subs ++ t ∷ []) ≤ 31 = omega (arith, length-append top.subs (t ∷ []), whole.few, many) in
-        let code : encoded (extended top t) ≡ encoded top ++ encoded_sub t = ap (λ l. top.name ++ 0 ∷ l) (flat_map-append encoded_sub top.subs (t ∷ []) ∙ ap (λ l. flat_map encoded_sub top.subs ++ l) (append-nil (encoded_sub t))) ∙ sym (append_assoc top.name (0 ∷ flat_map encoded_sub top.subs) (encoded_sub t)) in
+        let code : encoded (child_of top t) ≡ encoded top ++ encoded_sub t = ap (λ l. top.name ++ 0 ∷ l) (flat_map-append encoded_sub top.subs (t ∷ []) ∙ ap (λ l. flat_map encoded_sub top.subs ++ l) (append-nil (encoded_sub t))) ∙ sym (append_assoc top.name (0 ∷ flat_map encoded_sub top.subs) (encoded_sub t)) in
         let all : encoded k ≡ encoded top ++ (encoded_sub t ++ flat_map encoded_sub ts) = code_split top k u ∙ ap (λ ss. encoded top ++ flat_map encoded_sub ss) split in
-        let fits : length (encoded (extended top t)) ≤ 255 = omega (arith, ap length code, length-append (encoded top) (encoded_sub t), ap length all, length-append (encoded top) (encoded_sub t ++ flat_map encoded_sub ts), length-append (encoded_sub t) (flat_map encoded_sub ts), whole.fits) in
-        ap (λ x. is_key (extended top x)) (sym is)
-        ∙ rw (parts.name, le-leb (length top.name) 31 parts.short, subs, le-leb (length (top.subs ++ t ∷ [])) 31 few) (le-leb (length (encoded (extended top t))) 255 fits)
+        let fits : length (encoded (child_of top t)) ≤ 255 = omega (arith, ap length code, length-append (encoded top) (encoded_sub t), ap length all, length-append (encoded top) (encoded_sub t ++ flat_map encoded_sub ts), length-append (encoded_sub t) (flat_map encoded_sub ts), whole.fits) in
+        ap (λ x. is_key (child_of top x)) (sym is)
+        ∙ rw (parts.name, le-leb (length top.name) 31 parts.short, subs, le-leb (length (top.subs ++ t ∷ [])) 31 few) (le-leb (length (encoded (child_of top t))) 255 fits)
 
 -- a place among a key's subscripts
 pub first_at : (xs : List (List ℕ)) (n : ℕ) (x : List ℕ) → n < length xs → x ≡ get_or xs n x → first_sub (drop n (map sub_of xs)) ≡ Some (sub_of x)

@@ -5,3 +5,4 @@ pub mod Found
 pub mod Coded
 pub mod Beyond
 pub mod Subtree
+pub mod Overlays

@@ -49,13 +49,13 @@ listed_last ks k = any_push (eq_by_cmp key_cmp k) ks k ∙ ap (λ r. list_any (e
     or_true false = refl
 
 -- keys of one name, one behind the other
-later_of : (top j k : Key) → slice_cmp nat_cmp top.name j.name ≡ Equal → slice_cmp nat_cmp top.name k.name ≡ Equal → key_cmp j k ≡ Less → is_later j k ≡ true
+pub later_of : (top j k : Key) → slice_cmp nat_cmp top.name j.name ≡ Equal → slice_cmp nat_cmp top.name k.name ≡ Equal → key_cmp j k ≡ Less → is_later j k ≡ true
 later_of top j k p q c = both (eq_by_cmp (slice_cmp nat_cmp) j.name k.name) (is_behind j k) (ap is_eq (sym (nat_list_cmp_total.congr top.name j.name k.name p) ∙ q)) (ap is_lt c)
 
-later_name : (key k : Key) → is_later key k ≡ true → slice_cmp nat_cmp key.name k.name ≡ Equal
+pub later_name : (key k : Key) → is_later key k ≡ true → slice_cmp nat_cmp key.name k.name ≡ Equal
 later_name key k h = equal_of (slice_cmp nat_cmp key.name k.name) (first_so (eq_by_cmp (slice_cmp nat_cmp) key.name k.name) (is_behind key k) h)
 
-later_less : (key k : Key) → is_later key k ≡ true → key_cmp key k ≡ Less
+pub later_less : (key k : Key) → is_later key k ≡ true → key_cmp key k ≡ Less
 later_less key k h = less_of (key_cmp key k) (later_is_behind key k h)
 
 pub later_trans : (top j k : Key) → is_later top j ≡ true → is_later j k ≡ true → is_later top k ≡ true

@@ -113,3 +113,6 @@ later_upward key a b h q c = both (eq_by_cmp (slice_cmp nat_cmp) key.name a.name
 
 pub later_is_behind : (key k : Key) → is_later key k ≡ true → is_behind key k ≡ true
 later_is_behind key k q = second_so (eq_by_cmp (slice_cmp nat_cmp) key.name k.name) (is_behind key k) q
+
+pub below_is_later : (key k : Key) → is_below key k ≡ true → is_later key k ≡ true
+below_is_later key k h = both (eq_by_cmp (slice_cmp nat_cmp) key.name k.name) (is_behind key k) (ap is_eq (names_tie key k (first_so (is_under key k) (not (eq_by_cmp key_cmp key k)) h))) (below_is_behind key k h)

@@ -17,10 +17,6 @@ is_later key k = eq_by_cmp (slice_cmp nat_cmp) key.name k.name && is_lt (key_cmp
 abbrev pub after : Globals → Key → Option Key
 after g key = find (is_later key) (globals.keys g)
 
--- the node below another that has this subscript next
-abbrev pub extended : Key → Sub → Key
-extended top s = record { name = top.name; subs = top.subs ++ s ∷ [] }
-
 -- the value, where it passes a test
 abbrev pub tested : {A : Type 0} → (A → Bool) → Option A → Option A
 tested p None = None

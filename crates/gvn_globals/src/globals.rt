@@ -9,11 +9,11 @@ ghost use Rattle.std.specs.FinMap as globals;
 ghost use Rattle.global_defs.specs.Key.{sub_of};
 ghost use Rattle.global_defs.specs.Valid.{is_key};
 ghost use Rattle.global_defs.specs.Entry.{is_under, apply};
-ghost use Rattle.global_defs.specs.NodeText.{sub_bytes};
 ghost use Rattle.global_defs.specs.Evaluation.{first_sub};
 ghost use Rattle.global_defs.specs.Evaluation as evaluation;
 ghost use Rattle.gvn_key.specs.Terms.{update_value};
-ghost use Rattle.gvn_globals.specs.Walks.{after, extended, tested, is_behind, sub_under};
+ghost use Rattle.gvn_key.specs.Faults.{child_of};
+ghost use Rattle.gvn_globals.specs.Walks.{after, tested, is_behind, sub_under};
 ghost use Rattle.gvn_globals.specs.Nodes.{node_key};
 
 use super::lookup::{Lookup, Walk, subtree};
@@ -188,8 +188,8 @@ impl Globals {
     /// The next subscript at the level below the node, past the last one, by its own bytes: of a number its numeral. An
     /// empty last one comes before all.
     pub fn order(&self, key: &Key, last: &[u8]) -> Result<Option<Bytes>, NoMemory>
-        ensures next { IfOk result (λ found. found ≡ option_map sub_bytes (evaluation.order self.now key.now last.now)) }
-        ensures a_key { IfOk result (λ found. IfSome found (λ sub. is_key (extended key.now (sub_of sub)) ≡ true)) }
+        ensures next { IfOk result (λ found. option_map sub_of found ≡ evaluation.order self.now key.now last.now) }
+        ensures a_key { IfOk result (λ found. IfSome found (λ sub. is_key (child_of key.now (sub_of sub)) ≡ true)) }
     {
         let found = if last.is_empty() {
             self.past(key)
@@ -222,8 +222,8 @@ fn tens(found: Option<&Node>, top: &Key) -> u8
 
 /// The bytes of the node's subscript at the level below the top one, where it's a descendant of that.
 fn sub_below(found: Option<&Node>, top: &Key) -> Result<Option<Bytes>, NoMemory>
-    ensures next { IfOk result (λ sub. sub ≡ option_map sub_bytes (sub_under top.now (option_map node_key (option_copied found.entry)))) }
-    ensures a_key { IfOk result (λ sub. IfSome sub (λ bytes. is_key (extended top.now (sub_of bytes)) ≡ true)) }
+    ensures next { IfOk result (λ sub. option_map sub_of sub ≡ sub_under top.now (option_map node_key (option_copied found.entry))) }
+    ensures a_key { IfOk result (λ sub. IfSome sub (λ bytes. is_key (child_of top.now (sub_of bytes)) ≡ true)) }
 {
     match found {
         Some(node) if node.key.is_under(top) => sub_at(&node.key, top),
@@ -234,8 +234,8 @@ fn sub_below(found: Option<&Node>, top: &Key) -> Result<Option<Bytes>, NoMemory>
 /// The bytes of a key's subscript at the level below the top one.
 fn sub_at(key: &Key, top: &Key) -> Result<Option<Bytes>, NoMemory>
     requires { is_under top.now key.now ≡ true }
-    ensures next { IfOk result (λ sub. sub ≡ option_map sub_bytes (first_sub (drop (length top.now.subs) key.now.subs))) }
-    ensures a_key { IfOk result (λ sub. IfSome sub (λ bytes. is_key (extended top.now (sub_of bytes)) ≡ true)) }
+    ensures next { IfOk result (λ sub. option_map sub_of sub ≡ first_sub (drop (length top.now.subs) key.now.subs)) }
+    ensures a_key { IfOk result (λ sub. IfSome sub (λ bytes. is_key (child_of top.now (sub_of bytes)) ≡ true)) }
 {
     let _ = top.code();
     let _ = key.code();

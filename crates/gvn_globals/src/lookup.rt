@@ -3,11 +3,11 @@ ghost use Rattle.std.specs.Prelude.{◌≡◌, Option, option_map, is_some, true
 ghost use Rattle.std.specs.Option.{option_copied};
 ghost use Rattle.std.specs.FinMap as globals;
 ghost use Rattle.global_defs.specs.Key.{sub_of};
-ghost use Rattle.global_defs.specs.NodeText.{sub_bytes};
 ghost use Rattle.global_defs.specs.Valid.{is_key};
 ghost use Rattle.global_defs.specs.Entry.{Globals};
 ghost use Rattle.global_defs.specs.Evaluation as evaluation;
-ghost use Rattle.gvn_globals.specs.Walks.{after, extended, IsSubtree};
+ghost use Rattle.gvn_key.specs.Faults.{child_of};
+ghost use Rattle.gvn_globals.specs.Walks.{after, IsSubtree};
 
 use gvn_key::{Bytes, Key, NoMemory};
 
@@ -26,8 +26,8 @@ pub trait Lookup {
     /// The next subscript at the level below the node, past the last one, by its own bytes: of a number its numeral. An
     /// empty last one comes before all.
     fn order(&self, key: &Key, last: &[u8]) -> Result<Option<Bytes>, NoMemory>
-        ensures next { IfOk result (λ found. found ≡ option_map sub_bytes (evaluation.order (seen self.now) key.now last.now)) }
-        ensures a_key { IfOk result (λ found. IfSome found (λ sub. is_key (extended key.now (sub_of sub)) ≡ true)) };
+        ensures next { IfOk result (λ found. option_map sub_of found ≡ evaluation.order (seen self.now) key.now last.now) }
+        ensures a_key { IfOk result (λ found. IfSome found (λ sub. is_key (child_of key.now (sub_of sub)) ≡ true)) };
 
     /// How many nodes have values.
     fn nodes(&self) -> u32

@@ -112,10 +112,9 @@ impl<'a, G: Lookup> Overlay<'a, G> {
         ensures ok { OnOk result (self.new ≡ globals.insert self.old key value) }
         ensures err { OnErr result (self.new ≡ self.old) }
     {
-        let nodes = if self.get(&key).is_some() {
-            self.nodes
-        } else {
-            self.nodes.checked_add(1).ok_or(NoMemory)?
+        let known = u32::from(ones(self.get(&key)));
+        let Some(nodes) = self.nodes.checked_add(1 - known) else {
+            return Err(NoMemory);
         };
         self.sets.set(key, value)?;
         self.nodes = nodes;
@@ -128,10 +127,10 @@ impl<'a, G: Lookup> Overlay<'a, G> {
         ensures err { OnErr result (self.new ≡ self.old) }
     {
         let none = Bytes::new(key.code().allocator());
-        let fewer = if self.get(key).is_some() { 1 } else { 0 };
+        let known = u32::from(ones(self.get(key)));
         self.gone.set(key.copy()?, none)?;
         self.sets.remove(key);
-        self.nodes -= fewer;
+        self.nodes -= known;
         Ok(())
     }
 

@@ -6,7 +6,7 @@ ghost use Rattle.global_defs.specs.Key.{sub_of};
 ghost use Rattle.global_defs.specs.Valid.{is_name, is_key};
 ghost use Rattle.global_defs.specs.Encoded.{encoded, encoded_sub};
 ghost use Rattle.global_defs.specs.NodeText.{sub_text, subs_text, node_text};
-ghost use Rattle.gvn_key.specs.Faults.{subs_fault, parts_fault, key_of, MakesKey};
+ghost use Rattle.gvn_key.specs.Faults.{subs_fault, parts_fault, key_of, child_of, MakesKey};
 
 use super::bytes::{Bytes, NoMemory};
 use super::encoding::{push_sub, push_subs};
@@ -205,6 +205,20 @@ impl Key {
         Ok(made)
     }
 
+    /// The key of the node below this one that has such a subscript next.
+    pub fn child(&self, sub: &[u8]) -> Result<Self, NoMemory>
+        requires { is_key (child_of self.now (sub_of sub.now)) ≡ true }
+        ensures { IfOk result (λ made. made ≡ child_of self.now (sub_of sub.now)) }
+    {
+        let alloc = self.code.allocator();
+        let name = self.name.copy()?;
+        let mut subs = copy_all(alloc, &self.subs)?;
+        subs.push(Bytes::of(alloc, sub)?)?;
+        let mut code = self.code.copy()?;
+        push_sub(alloc, sub, &mut code)?;
+        Ok(Key { name, subs, code })
+    }
+
     /// Adds the encoded key at the end.
     pub fn encode(&self, out: &mut Bytes) -> Result<(), NoMemory>
         ensures ok { OnOk result (out.new ≡ out.old ++ encoded self.now) }
@@ -236,8 +250,8 @@ impl Key {
     }
 }
 
-/// A number by its numeral, a string in ZWR form.
-fn write_sub(sub: &[u8], out: &mut Bytes) -> Result<(), NoMemory>
+/// Adds the text of a subscript of these bytes at the end: a number by its numeral, a string in ZWR form.
+pub fn write_sub(sub: &[u8], out: &mut Bytes) -> Result<(), NoMemory>
     ensures { OnOk result (out.new ≡ out.old ++ sub_text (sub_of sub.now)) }
 {
     if is_number(sub) {
