@@ -24,7 +24,7 @@ use Rattle.global_defs.proofs.SubOrder.{sub_code}
 use Rattle.global_defs.proofs.ValidKeys.{IsValid, valid_parts}
 use Rattle.global_defs.proofs.Numerals.{sub_made}
 use Rattle.gvn_key.specs.Faults.{child_of}
-use Rattle.gvn_globals.specs.Walks.{tested, is_behind, is_beyond, sub_under}
+use Rattle.gvn_globals.specs.Walks.{tested, is_behind, is_beyond, sub_under, is_past_at, is_next}
 use Rattle.gvn_globals.proofs.Basics.{less_of, equal_of, false_of, both}
 use Rattle.gvn_globals.proofs.Firsts.{Finds, IsFirst, find_finds, find_decided}
 use Rattle.gvn_globals.proofs.Under.{names_tie, subs_begin, under_between, behind_not_before, below_behind, below_is_behind}
@@ -118,15 +118,6 @@ beyond_behind top s k vs vt v h =
     ap is_lt (sym (key_ordered top k vt v)
     ∙ front_before (encoded top) (encoded_sub s ++ 255 ∷ []) (encoded k) (omega (arith, length-append (encoded_sub s) (255 ∷ []), sub_code.some s vs)) (ap (λ c. slice_cmp nat_cmp c (encoded k)) (sym (append_assoc (encoded top) (encoded_sub s) (255 ∷ []))) ∙ less_of (slice_cmp nat_cmp (encoded top ++ encoded_sub s ++ 255 ∷ []) (encoded k)) h))
 
--- the subscript is there and past the last one
-abbrev pub is_past_at : List ℕ → Option Sub → Bool
-is_past_at last None = false
-is_past_at last (Some s) = is_past last s
-
--- the key has such a subscript below the top one
-abbrev pub is_next : Key → List ℕ → Key → Bool
-is_next top last k = is_past_at last (sub_at top k)
-
 at_below : (top k : Key) (s : Sub) → sub_at top k ≡ Some s → (is_below top k ≡ true) × (first_sub (below_subs top k) ≡ Some s)
 at_below top k s e = by (is_below top k) refl e
   where
@@ -134,7 +125,7 @@ at_below top k s e = by (is_below top k) refl e
     by true t e = (t, e)
     by false t e = absurd (true≢false (ap is_some (sym e)))
 
-under_of_below : (top k : Key) → is_below top k ≡ true → is_under top k ≡ true
+pub under_of_below : (top k : Key) → is_below top k ≡ true → is_under top k ≡ true
 under_of_below top k h = first_so (is_under top k) (not (eq_by_cmp key_cmp top k)) h
 
 -- the subscript that is asked for is that of the first such key
@@ -151,16 +142,19 @@ order_found top last (k ∷ ks) = by (sub_at top k) refl (order_found top last k
         by_past true = sym (ap (λ u. if u then first_sub (below_subs top k) else None) (under_of_below top k (at_below top k s e).0) ∙ (at_below top k s e).1)
         by_past false = m
 
+pub next_is_below : (top : Key) (last : List ℕ) (k : Key) → is_next top last k ≡ true → is_below top k ≡ true
+next_is_below top last k q = by (is_below top k) refl q
+  where
+    by : (b : Bool) → is_below top k ≡ b → is_past_at last (if b then first_sub (below_subs top k) else None) ≡ true → b ≡ true
+    by true t q = refl
+    by false t q = absurd (true≢false (sym q))
+
 -- below a node a test of keys that comes after the node decides as the next subscript does
 module _ (top : Key) (last : List ℕ) (g : Globals) (p : Key → Bool)
     (follows : (k : Key) → is_some (get g k) ≡ true → p k ≡ true → is_behind top k ≡ true)
     (agrees : (k : Key) → is_some (get g k) ≡ true → is_below top k ≡ true → p k ≡ is_next top last k) where
   next_below : (k : Key) → is_next top last k ≡ true → is_below top k ≡ true
-  next_below k q = by (is_below top k) refl q
-    where
-      by : (b : Bool) → is_below top k ≡ b → is_past_at last (if b then first_sub (below_subs top k) else None) ≡ true → b ≡ true
-      by true t q = refl
-      by false t q = absurd (true≢false (sym q))
+  next_below k q = next_is_below top last k q
 
   within : (k : Key) → is_some (get g k) ≡ true → is_next top last k ≡ true → p k ≡ true
   within k s q = agrees k s (next_below k q) ∙ q
@@ -202,22 +196,29 @@ module _ (top : Key) (g : Globals) where
   past_any None e = absurd (true≢false (sym e))
   past_any (Some s) e = refl
 
+  pub begins_next : (k : Key) → is_below top k ≡ true → is_next top [] k ≡ true
+  begins_next k h = ap (λ b. is_past_at [] (if b then first_sub (below_subs top k) else None)) h ∙ past_any (first_sub (below_subs top k)) (below_some k h (below_subs top k) refl)
+
   pub order_begins : sub_under top (list.find (is_behind top) (keys g)) ≡ order g top []
-  order_begins = order_first top [] g (is_behind top) (λ k s p. p)
-      (λ k s h. below_is_behind top k h ∙ sym (ap (λ b. is_past_at [] (if b then first_sub (below_subs top k) else None)) h ∙ past_any (first_sub (below_subs top k)) (below_some k h (below_subs top k) refl)))
+  order_begins = order_first top [] g (is_behind top) (λ k s p. p) (λ k s h. below_is_behind top k h ∙ sym (begins_next k h))
+
+same_past : (bs : List ℕ) → 0 < length bs → (ss : List Sub) → is_past_first (sub_of bs) ss ≡ is_past_at bs (first_sub ss)
+same_past [] h ss = absurd (omega arith)
+same_past (b ∷ bs) h [] = refl
+same_past (b ∷ bs) h (s ∷ ss) = refl
+
+-- below a node the bytes past a subscript come before just the keys with a later one
+pub continues_next : (top : Key) (last : List ℕ) (k : Key) → 0 < length last → is_key k ≡ true → is_below top k ≡ true → is_beyond top (sub_of last) k ≡ is_next top last k
+continues_next top last k some v h =
+    beyond_under top (sub_of last) k (sub_made last some) v (under_of_below top k h) ∙ same_past last some (below_subs top k)
+    ∙ sym (ap (λ b. is_past_at last (if b then first_sub (below_subs top k) else None)) h)
 
 -- the first key past all with a subscript tells the next one
 module _ (top : Key) (last : List ℕ) (g : Globals) (some : 0 < length last) (valid : is_key top ≡ true) (each_valid : (k : Key) → is_some (get g k) ≡ true → is_key k ≡ true) where
-  same_past : (bs : List ℕ) → 0 < length bs → (ss : List Sub) → is_past_first (sub_of bs) ss ≡ is_past_at bs (first_sub ss)
-  same_past [] h ss = absurd (omega arith)
-  same_past (b ∷ bs) h [] = refl
-  same_past (b ∷ bs) h (s ∷ ss) = refl
-
   pub order_continues : sub_under top (list.find (is_beyond top (sub_of last)) (keys g)) ≡ order g top last
   order_continues = order_first top last g (is_beyond top (sub_of last))
       (λ k s p. beyond_behind top (sub_of last) k (sub_made last some) valid (each_valid k s) p)
-      (λ k s h. beyond_under top (sub_of last) k (sub_made last some) (each_valid k s) (under_of_below top k h) ∙ same_past last some (below_subs top k)
-          ∙ sym (ap (λ b. is_past_at last (if b then first_sub (below_subs top k) else None)) h))
+      (λ k s h. continues_next top last k some (each_valid k s) h)
 
 -- a key cut off behind such a subscript is one
 first_behind : (xs ys : List Sub) → list_all is_sub xs ≡ true → list_all is_sub ys ≡ true → list_all is_sub (xs ++ ys) ≡ true

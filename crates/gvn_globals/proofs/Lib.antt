@@ -6,3 +6,4 @@ pub mod Coded
 pub mod Beyond
 pub mod Subtree
 pub mod Overlays
+pub mod Sought

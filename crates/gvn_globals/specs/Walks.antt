@@ -7,7 +7,7 @@ use Rattle.std.specs.FinMap as globals
 use Rattle.global_defs.specs.Key.{Key, Sub, key_cmp}
 use Rattle.global_defs.specs.Entry.{Globals, is_under}
 use Rattle.global_defs.specs.Encoded.{encoded, encoded_sub}
-use Rattle.global_defs.specs.Evaluation.{first_sub}
+use Rattle.global_defs.specs.Evaluation.{first_sub, sub_at, is_past}
 
 -- a key of the same name that comes later
 abbrev pub is_later : Key → Key → Bool
@@ -44,3 +44,12 @@ abbrev pub earlier : Option Key → Option Key → Option Key
 earlier None other = other
 earlier (Some own) None = Some own
 earlier (Some own) (Some other) = if is_lt (key_cmp other own) then Some other else Some own
+
+-- the subscript is there and past the last one
+abbrev pub is_past_at : List ℕ → Option Sub → Bool
+is_past_at last None = false
+is_past_at last (Some s) = is_past last s
+
+-- the key has such a subscript below the top one
+abbrev pub is_next : Key → List ℕ → Key → Bool
+is_next top last k = is_past_at last (sub_at top k)

@@ -232,7 +232,7 @@ fn sub_below(found: Option<&Node>, top: &Key) -> Result<Option<Bytes>, NoMemory>
 }
 
 /// The bytes of a key's subscript at the level below the top one.
-fn sub_at(key: &Key, top: &Key) -> Result<Option<Bytes>, NoMemory>
+pub(crate) fn sub_at(key: &Key, top: &Key) -> Result<Option<Bytes>, NoMemory>
     requires { is_under top.now key.now ≡ true }
     ensures next { IfOk result (λ sub. option_map sub_of sub ≡ first_sub (drop (length top.now.subs) key.now.subs)) }
     ensures a_key { IfOk result (λ sub. IfSome sub (λ bytes. is_key (child_of top.now (sub_of bytes)) ≡ true)) }

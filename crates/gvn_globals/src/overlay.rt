@@ -1,14 +1,18 @@
 // Globals with the changes of one job over them.
-ghost use Rattle.std.specs.Prelude.{◌≡◌, Option, Some, None, is_some, if◌then◌else◌, not, IfOk, OnOk, OnErr};
+ghost use Rattle.std.specs.Prelude.{◌≡◌, true, [], ◌∷◌, ◌++◌, Option, Some, None, option_map, is_some, if◌then◌else◌, not, IfOk, OnOk, OnErr};
 ghost use Rattle.std.specs.Option.{option_copied};
 ghost use Rattle.std.specs.FinMap as globals;
-ghost use Rattle.global_defs.specs.Entry.{is_under};
+ghost use Rattle.global_defs.specs.Key.{sub_of};
+ghost use Rattle.global_defs.specs.Entry.{is_under, apply};
+ghost use Rattle.global_defs.specs.Encoded.{encoded, encoded_sub};
 ghost use Rattle.global_defs.specs.Evaluation as evaluation;
-ghost use Rattle.gvn_globals.specs.Walks.{after, tested, earlier};
+ghost use Rattle.gvn_key.specs.Terms.{update_value};
+ghost use Rattle.gvn_globals.specs.Walks.{after, tested, earlier, is_next};
 ghost use Rattle.gvn_globals.specs.Overlaid.{kept, overlaid};
 
-use super::globals::{Globals, ones};
+use super::globals::{Globals, ones, sub_at};
 use super::lookup::{Lookup, Walk, subtree};
+use gvn_key::terms::Update;
 use gvn_key::{Bytes, Key, NoMemory};
 use std::alloc::Global;
 use std::cmp::Ordering;
@@ -145,6 +149,17 @@ impl<'a, G: Lookup> Overlay<'a, G> {
         Ok(())
     }
 
+    /// Makes one change. Without memory some nodes that are to go may be gone.
+    pub fn apply(&mut self, update: &Update) -> Result<(), NoMemory>
+        ensures { OnOk result (self.new ≡ apply self.old (update_value update.now)) }
+    {
+        match update {
+            Update::Set(key, value) => self.set(key.copy()?, value.copy()?),
+            Update::Kill(key) => self.kill(key),
+            Update::ZKill(key) => self.remove(key),
+        }
+    }
+
     /// The first node of the same name past the key, if there is one.
     pub fn after(&self, key: &Key) -> Result<Option<Key>, NoMemory>
         ensures { IfOk result (λ found. found ≡ after self.now key.now) }
@@ -155,12 +170,51 @@ impl<'a, G: Lookup> Overlay<'a, G> {
         ))
     }
 
+    /// The next subscript at the level below the node, past the last one, by its own bytes: of a number its numeral. An
+    /// empty last one comes before all. Where the job has changed nothing below the node, the globals below tell it.
+    pub fn order(&self, key: &Key, last: &[u8]) -> Result<Option<Bytes>, NoMemory>
+        ensures { IfOk result (λ found. option_map sub_of found ≡ evaluation.order self.now key.now last.now) }
+    {
+        if self.sets.defined(key) < 10 && self.gone.defined(key) < 10 {
+            return self.on.order(key, last);
+        }
+        self.walked_order(key, last)
+    }
+
+    /// The same, by a walk over the nodes below.
+    fn walked_order(&self, key: &Key, last: &[u8]) -> Result<Option<Bytes>, NoMemory>
+        ensures { IfOk result (λ found. option_map sub_of found ≡ evaluation.order self.now key.now last.now) }
+    {
+        let past = key.past(last)?;
+        let mut found = self.after(key)?;
+        while let Some(node) = found {
+            if !node.is_under(key) {
+                return Ok(None);
+            }
+            if is_next(&node, key, last, past.as_slice()) {
+                return sub_at(&node, key);
+            }
+            found = self.after(&node)?;
+        }
+        Ok(None)
+    }
+
     /// Whether the node has a value, and whether it has descendants: 0, 1, 10 or 11.
     pub fn defined(&self, key: &Key) -> Result<u8, NoMemory>
         ensures { IfOk result (λ defined. defined ≡ evaluation.defined self.now key.now) }
     {
         Ok(ones(self.get(key)) + tens(self.after(key)?, key))
     }
+}
+
+/// Whether a descendant's subscript at the level below the key is past the last one, beyond which all lies behind `past`.
+fn is_next(node: &Key, key: &Key, last: &[u8], past: &[u8]) -> bool
+    requires past { past.now ≡ encoded key.now ++ encoded_sub (sub_of last.now) ++ 255 ∷ [] }
+    requires below { evaluation.is_below key.now node.now ≡ true }
+    ensures { result ≡ is_next key.now last.now node.now }
+{
+    let code = node.as_encoded();
+    last.is_empty() || matches!(past.cmp(code), Ordering::Less)
 }
 
 /// 10 where the node is below the top one, else 0.

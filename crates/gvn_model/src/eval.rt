@@ -114,3 +114,92 @@ fn increment<'a, G: Lookup>(
     answer(done, text.copy()?)?;
     change(globals, done, Update::Set(key.copy()?, text))
 }
+
+/// Goes on where a test held.
+fn passing(holds: bool) -> Option<Cause>
+    ensures { (p : defs.Progress) → outcome p result ≡ defs.passing p holds }
+{
+    if holds { None } else { Some(Cause::Check) }
+}
+
+/// Goes on where a number is there and at least this.
+fn comparing(value: Option<i64>, n: i64) -> Option<Cause>
+    ensures { (p : defs.Progress) → outcome p result ≡ defs.comparing p n value }
+{
+    match value {
+        Some(value) => passing(n <= value),
+        None => Some(Cause::NotNum),
+    }
+}
+
+/// Whether the value is there and has these bytes.
+fn has_value(value: Option<&[u8]>, bytes: &[u8]) -> bool
+    ensures { result ≡ defs.has_value (option_copied value.entry) bytes.now }
+{
+    match value {
+        Some(value) => value == bytes,
+        None => false,
+    }
+}
+
+/// Makes a statement, or answers it.
+fn step<'a, G: Lookup>(
+    alloc: Global,
+    globals: &mut Overlay<'a, G>,
+    done: &mut Done,
+    statement: &Statement,
+) -> Result<Option<Cause>, NoMemory>
+    ensures { IfOk result (λ cause. outcome (progress globals.new done.new) cause ≡ defs.stepping (progress globals.old done.old) (statement_value statement.now)) }
+{
+    match statement {
+        Statement::Set(key, value) => {
+            change(globals, done, Update::Set(key.copy()?, value.copy()?))
+        }
+        Statement::Kill(key) => change(globals, done, Update::Kill(key.copy()?)),
+        Statement::ZKill(key) => change(globals, done, Update::ZKill(key.copy()?)),
+        Statement::Incr(key, n) => increment(globals, done, key, *n),
+        Statement::Get(key) => {
+            let text = value_text(alloc, globals.get(key))?;
+            answer(done, text)
+        }
+        Statement::Defined(key) => {
+            let mut text = Bytes::new(alloc);
+            text.push_decimal(u64::from(globals.defined(key)?))?;
+            answer(done, text)
+        }
+        Statement::Order(key, last) => {
+            let sub = globals.order(key, last.as_slice())?;
+            let text = order_text(alloc, sub)?;
+            answer(done, text)
+        }
+        Statement::CheckIs(key, value) => {
+            Ok(passing(has_value(globals.get(key), value.as_slice())))
+        }
+        Statement::CheckAtLeast(key, n) => Ok(comparing(counted(globals.get(key)), *n)),
+    }
+}
+
+/// What the job does on these globals: its updates and answers, or the cause of the first statement that has one.
+pub fn eval<G: Lookup>(
+    alloc: Global,
+    job: &Job,
+    _origin: Origin,
+    on: &G,
+) -> Result<Evaluated, NoMemory>
+    ensures { IfOk result (λ evaluated. evaluated_value evaluated ≡ defs.eval job.now.statements (G.seen on.now)) }
+{
+    let mut globals = Overlay::new(alloc, on);
+    let mut done = Done {
+        updates: Updates::new(alloc),
+        answers: Answers::new(alloc),
+    };
+    for statement in job.statements.as_slice() {
+        if let Some(cause) = step(alloc, &mut globals, &mut done, statement)? {
+            return Ok(Evaluated::RolledBack(cause));
+        }
+    }
+    Ok(Evaluated::Done {
+        updates: done.updates,
+        answers: done.answers,
+    })
+}

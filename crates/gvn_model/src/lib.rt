@@ -2,17 +2,23 @@
 #![tactic(auto)]
 
 mod entry;
-mod globals;
+mod eval;
 mod history;
+mod integer;
 mod items;
+mod job;
 mod reign;
+mod statements;
 #[cfg(test)]
 mod tests;
 mod updates;
 
 pub use entry::{Entry, Origin, Transaction};
-pub use globals::Globals;
+pub use eval::eval;
+pub use gvn_globals::{Globals, Lookup};
 pub use history::{History, Reigns};
 pub use items::{Item, Items};
+pub use job::{Cause, Evaluated, Job, Reply};
 pub use reign::{Reign, Stamp};
+pub use statements::{Answers, Statements};
 pub use updates::Updates;
