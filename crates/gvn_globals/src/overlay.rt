@@ -19,6 +19,7 @@ use std::cmp::Ordering;
 use std::marker::Model;
 
 /// Globals as they are after some changes of a job, which stand beside them.
+#[derive(Drop)]
 pub struct Overlay<'a, G: Lookup> {
     on: &'a G,
     /// The nodes that the job has set, with their values.

@@ -7,7 +7,7 @@ use Rattle.gvn_model.specs.Jobs.{cause_value}
 use Rattle.gvn_model.specs.declared.job.Cause.{Cause}
 use Rattle.gvn_model.specs.declared.job.Evaluated.{Evaluated}
 use Rattle.gvn_model.specs.declared.job.Evaluated.TheVariants as evaluated
-use Rattle.gvn_model.specs.declared.eval.Done.{Done}
+use Rattle.gvn_model.specs.declared.evaluation.Done.{Done}
 
 abbrev pub progress : Globals → Done → defs.Progress
 progress g d = record { globals = g; updates = d.updates; answers = d.answers }

@@ -2,7 +2,7 @@
 #![tactic(auto)]
 
 mod entry;
-mod eval;
+mod evaluation;
 mod history;
 mod integer;
 mod items;
@@ -14,7 +14,7 @@ mod tests;
 mod updates;
 
 pub use entry::{Entry, Origin, Transaction};
-pub use eval::eval;
+pub use evaluation::eval;
 pub use gvn_globals::{Globals, Lookup};
 pub use history::{History, Reigns};
 pub use items::{Item, Items};
