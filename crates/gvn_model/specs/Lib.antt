@@ -2,4 +2,3 @@ pub mod Reigns
 pub mod Entries
 pub mod Items
 pub mod Jobs
-pub mod Evaluations

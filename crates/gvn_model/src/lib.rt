@@ -2,9 +2,7 @@
 #![tactic(auto)]
 
 mod entry;
-mod evaluation;
 mod history;
-mod integer;
 mod items;
 mod job;
 mod reign;
@@ -14,7 +12,6 @@ mod tests;
 mod updates;
 
 pub use entry::{Entry, Origin, Transaction};
-pub use evaluation::eval;
 pub use gvn_globals::{Globals, Lookup};
 pub use history::{History, Reigns};
 pub use items::{Item, Items};
