@@ -180,7 +180,7 @@ walk_smaller g at = by (after g at) (find_finds key_total key_same g (is_later a
     by None f = omega arith
     by (Some next) f =
         let less : length (filter (is_later next) (keys g)) < length (filter (is_later at) (keys g)) =
-            one_fewer (is_later next) (is_later at) (λ k h. later_trans at next k f.passes h) next f.passes (not_itself next) (keys g) (sym (contains_key-keys g next) ∙ f.here) in
+        one_fewer (is_later next) (is_later at) (λ k h. later_trans at next k f.passes h) next f.passes (not_itself next) (keys g) (sym (contains_key-keys g next) ∙ f.here) in
         omega arith
 
 -- globals without these keys
@@ -191,11 +191,13 @@ pub without_none : (g : Globals) → IsWithout g [] g
 without_none g = record { answers = λ k. refl }
 
 pub without_more : (g : Globals) (ks : List Key) (j : Key) (now : Globals) → IsWithout g ks now → IsWithout g (ks ++ j ∷ []) (remove now j)
-without_more g ks j now w = record { answers = λ k.
-    get-remove key_total now j k
-    ∙ ap (λ o. if eq_by_cmp key_cmp k j then None else o) (w.answers k)
-    ∙ turned (eq_by_cmp key_cmp k j) (is_listed ks k) (get g k)
-    ∙ ap (λ b. if b then None else get g k) (sym (any_push (eq_by_cmp key_cmp k) ks j)) }
+without_more g ks j now w = record {
+  answers = λ k.
+      get-remove key_total now j k
+      ∙ ap (λ o. if eq_by_cmp key_cmp k j then None else o) (w.answers k)
+      ∙ turned (eq_by_cmp key_cmp k j) (is_listed ks k) (get g k)
+      ∙ ap (λ b. if b then None else get g k) (sym (any_push (eq_by_cmp key_cmp k) ks j));
+}
   where
     turned : {X : Type 0} (a b : Bool) (o : Option X) → (if a then None else (if b then None else o)) ≡ (if b || a then None else o)
     turned true true o = refl

@@ -64,7 +64,10 @@ fn first_past<'a>(nodes: &'a BTreeMap<Bytes, Node>, code: &Bytes) -> Option<&'a 
     ensures node { option_copied result ≡ option_map (λ e. e.1) (find (λ e. is_lt (slice_cmp nat_cmp code.now e.0)) nodes.now.entries) }
     ensures ordered { IsOrdered (slice_cmp nat_cmp) nodes.now }
 {
-    match nodes.range((Bound::Excluded(code), Bound::Unbounded)).next() {
+    match nodes
+        .range((Bound::Excluded(code), Bound::Unbounded))
+        .next()
+    {
         Some((_, node)) => Some(node),
         None => None,
     }

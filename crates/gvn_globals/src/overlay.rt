@@ -165,10 +165,7 @@ impl<'a, G: Lookup> Overlay<'a, G> {
     pub fn after(&self, key: &Key) -> Result<Option<Key>, NoMemory>
         ensures { IfOk result (λ found. found ≡ after self.now key.now) }
     {
-        Ok(earlier(
-            self.sets.after(key)?,
-            kept_after(self.on, &self.gone, key)?,
-        ))
+        Ok(earlier(self.sets.after(key)?, kept_after(self.on, &self.gone, key)?))
     }
 
     /// The next subscript at the level below the node, past the last one, by its own bytes: of a number its numeral. An

@@ -25,10 +25,7 @@ pub enum Cause {
 #[derive(Debug, Drop)]
 pub enum Evaluated {
     /// Its updates and answers, where no statement has a cause.
-    Done {
-        updates: Updates,
-        answers: Answers,
-    },
+    Done { updates: Updates, answers: Answers },
     /// The cause of the first statement that has one.
     RolledBack(Cause),
 }
