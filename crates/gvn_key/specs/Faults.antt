@@ -1,6 +1,6 @@
 -- Which fault a name and subscripts have.
-use Rattle.std.specs.Prelude.{◌≡◌, ℕ, ◌+◌, ◌==◌, true, not, List, [], ◌∷◌, length, map, Option, Some, None, nat_lt, if◌then◌else◌}
-use Rattle.global_defs.specs.Key.{Key, sub_of}
+use Rattle.std.specs.Prelude.{◌≡◌, ℕ, ◌+◌, ◌==◌, true, not, List, [], ◌∷◌, ◌++◌, length, map, Option, Some, None, nat_lt, if◌then◌else◌}
+use Rattle.global_defs.specs.Key.{Key, Sub, sub_of}
 use Rattle.global_defs.specs.Valid.{is_name, is_key}
 use Rattle.global_defs.specs.Encoded.{encoded}
 use Rattle.gvn_key.specs.declared.key.KeyError.{KeyError}
@@ -11,6 +11,10 @@ use Rattle.std.specs.declared.result.Result.TheVariants.{Ok, Err}
 -- the key of a name and subscripts by their bytes
 abbrev pub key_of : List ℕ → List (List ℕ) → Key
 key_of name subs = record { name = name; subs = map sub_of subs }
+
+-- the key of the node below another that has this subscript next
+abbrev pub child_of : Key → Sub → Key
+child_of top s = record { name = top.name; subs = top.subs ++ s ∷ [] }
 
 -- a name and subscripts that make a key, and that key encoded
 pub record IsMade (name : List ℕ) (subs : List (List ℕ)) (code : List ℕ) : Type 0 where

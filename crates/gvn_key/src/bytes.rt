@@ -1,8 +1,13 @@
 //! Lists of bytes.
-ghost use Rattle.std.specs.Prelude.{◌≡◌, ℕ, ◌==◌, [], ◌∷◌, ◌++◌, length, IfOk, OnOk, OnErr};
+ghost use Rattle.std.specs.Prelude.{◌≡◌, ℕ, ◌==◌, [], ◌∷◌, ◌++◌, length, IfOk, OnOk, OnErr, Some, refl};
+ghost use Rattle.std.specs.Ordering.{nat_cmp, eq_by_cmp};
+ghost use Rattle.std.specs.Cmp.{partial_equiv_from_equiv, partial_order_from_agreeing_total};
+ghost use Rattle.std.specs.Cmp.Lexicographic.{slice_cmp, nat_list_cmp_total};
 ghost use Rattle.std.specs.Fmt.{decimal};
+ghost use Rattle.std.proofs.lemmas.Cmp.{eq_by_cmp_equiv};
 
 use std::alloc::{AllocError, AllocFailed, Global};
+use std::cmp::Ordering;
 use std::marker::Model;
 use thiserror::Error;
 
@@ -122,5 +127,44 @@ impl Bytes {
     /// What the list's memory is taken from.
     pub fn allocator(&self) -> Global {
         *self.items.allocator()
+    }
+}
+
+impl PartialEq for Bytes {
+    ghost eq = { eq_by_cmp (slice_cmp nat_cmp) };
+
+    ghost laws = { partial_equiv_from_equiv (eq_by_cmp_equiv nat_list_cmp_total) };
+
+    fn eq(&self, other: &Self) -> bool {
+        self.as_slice().cmp(other.as_slice()) == Ordering::Equal
+    }
+}
+
+impl Eq for Bytes {
+    ghost laws = { eq_by_cmp_equiv nat_list_cmp_total };
+}
+
+impl PartialOrd for Bytes {
+    ghost partial_cmp = { λ x y. Some (slice_cmp nat_cmp x y) };
+
+    ghost laws = { partial_order_from_agreeing_total (slice_cmp nat_cmp) nat_list_cmp_total (λ x y. refl) (λ x y. refl) };
+
+    fn partial_cmp(&self, other: &Self) -> Option<Ordering> {
+        Some(self.as_slice().cmp(other.as_slice()))
+    }
+}
+
+/// Byte by byte, a prefix first.
+impl Ord for Bytes {
+    ghost cmp = { slice_cmp nat_cmp };
+
+    ghost total = { nat_list_cmp_total };
+
+    ghost matches_partial_cmp = { λ x y. refl };
+
+    ghost matches_eq = { λ x y. refl };
+
+    fn cmp(&self, other: &Self) -> Ordering {
+        self.as_slice().cmp(other.as_slice())
     }
 }

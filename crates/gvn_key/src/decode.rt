@@ -72,7 +72,7 @@ fn unescaped(alloc: Global, bytes: &[u8]) -> Result<Bytes, NoMemory>
 }
 
 /// The number that these digits write.
-fn value(digits: &[u8]) -> u128
+pub fn value(digits: &[u8]) -> u128
     requires digits { list_all is_ascii_digit digits.now ≡ true }
     requires count { length digits.now ≤ 36 }
     ensures value { result ≡ digits_value 10 digits.now }

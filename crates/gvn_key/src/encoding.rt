@@ -168,7 +168,7 @@ fn push_string(bytes: &[u8], out: &mut Bytes) -> Result<(), NoMemory>
 }
 
 /// A subscript.
-fn push_sub(alloc: Global, sub: &[u8], out: &mut Bytes) -> Result<(), NoMemory>
+pub fn push_sub(alloc: Global, sub: &[u8], out: &mut Bytes) -> Result<(), NoMemory>
     ensures { OnOk result (out.new ≡ out.old ++ encoded_sub (sub_of sub.now)) }
 {
     if is_number(sub) {

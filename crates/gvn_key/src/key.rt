@@ -4,12 +4,12 @@ ghost use Rattle.std.specs.List.{list_all, flat_map};
 ghost use Rattle.std.specs.Char.{is_ascii_alphanumeric};
 ghost use Rattle.global_defs.specs.Key.{sub_of};
 ghost use Rattle.global_defs.specs.Valid.{is_name, is_key};
-ghost use Rattle.global_defs.specs.Encoded.{encoded};
+ghost use Rattle.global_defs.specs.Encoded.{encoded, encoded_sub};
 ghost use Rattle.global_defs.specs.NodeText.{sub_text, subs_text, node_text};
-ghost use Rattle.gvn_key.specs.Faults.{subs_fault, parts_fault, key_of, MakesKey};
+ghost use Rattle.gvn_key.specs.Faults.{subs_fault, parts_fault, key_of, child_of, MakesKey};
 
 use super::bytes::{Bytes, NoMemory};
-use super::encoding::push_subs;
+use super::encoding::{push_sub, push_subs};
 use super::numeral::is_number;
 use super::zwr::push_zwr;
 use std::alloc::Global;
@@ -185,6 +185,40 @@ impl Key {
         self.code.as_slice()
     }
 
+    /// The encoded key, as a list that a map's keys compare with.
+    pub fn code(&self) -> &Bytes
+        ensures value { result.now ≡ encoded self.now }
+        ensures valid { is_key self.now ≡ true }
+    {
+        &self.code
+    }
+
+    /// Bytes behind those of all keys that have such a subscript next, and before those of all later keys.
+    pub fn past(&self, sub: &[u8]) -> Result<Bytes, NoMemory>
+        ensures value { IfOk result (λ made. made ≡ encoded self.now ++ encoded_sub (sub_of sub.now) ++ 255 ∷ []) }
+        ensures valid { is_key self.now ≡ true }
+    {
+        let alloc = self.code.allocator();
+        let mut made = self.code.copy()?;
+        push_sub(alloc, sub, &mut made)?;
+        made.push(255)?;
+        Ok(made)
+    }
+
+    /// The key of the node below this one that has such a subscript next.
+    pub fn child(&self, sub: &[u8]) -> Result<Self, NoMemory>
+        requires { is_key (child_of self.now (sub_of sub.now)) ≡ true }
+        ensures { IfOk result (λ made. made ≡ child_of self.now (sub_of sub.now)) }
+    {
+        let alloc = self.code.allocator();
+        let name = self.name.copy()?;
+        let mut subs = copy_all(alloc, &self.subs)?;
+        subs.push(Bytes::of(alloc, sub)?)?;
+        let mut code = self.code.copy()?;
+        push_sub(alloc, sub, &mut code)?;
+        Ok(Key { name, subs, code })
+    }
+
     /// Adds the encoded key at the end.
     pub fn encode(&self, out: &mut Bytes) -> Result<(), NoMemory>
         ensures ok { OnOk result (out.new ≡ out.old ++ encoded self.now) }
@@ -216,8 +250,8 @@ impl Key {
     }
 }
 
-/// A number by its numeral, a string in ZWR form.
-fn write_sub(sub: &[u8], out: &mut Bytes) -> Result<(), NoMemory>
+/// Adds the text of a subscript of these bytes at the end: a number by its numeral, a string in ZWR form.
+pub fn write_sub(sub: &[u8], out: &mut Bytes) -> Result<(), NoMemory>
     ensures { OnOk result (out.new ≡ out.old ++ sub_text (sub_of sub.now)) }
 {
     if is_number(sub) {

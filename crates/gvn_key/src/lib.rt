@@ -17,7 +17,8 @@ mod tests;
 mod zwr;
 
 pub use bytes::{Bytes, NoMemory};
-pub use key::{Key, KeyError};
+pub use decode::value as digits_value;
+pub use key::{Key, KeyError, write_sub};
 pub use numeral::is_number;
 pub use reader::{ZwrError, zwr_read};
 pub use zwr::zwr_write;

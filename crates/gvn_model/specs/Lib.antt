@@ -1,5 +1,5 @@
 pub mod Reigns
 pub mod Entries
 pub mod Items
-pub mod Globals
 pub mod Numbered
+pub mod Jobs

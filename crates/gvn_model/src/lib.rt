@@ -3,18 +3,21 @@
 
 mod entries;
 mod entry;
-mod globals;
 mod history;
 mod items;
+mod job;
 mod reign;
+mod statements;
 #[cfg(test)]
 mod tests;
 mod updates;
 
 pub use entries::Entries;
 pub use entry::{Entry, Origin, Transaction};
-pub use globals::Globals;
+pub use gvn_globals::{Globals, Lookup};
 pub use history::{History, Reigns};
 pub use items::{Item, Items};
+pub use job::{Cause, Evaluated, Job, Reply};
 pub use reign::{Reign, Stamp};
+pub use statements::{Answers, Statements};
 pub use updates::Updates;

@@ -1,0 +1,6 @@
+use Rattle.std.proofs.Common.{take}
+use Rattle.gvn_globals.proofs.Subtree.{IsWithout}
+use Rattle.gvn_globals.proofs.overlay.Overlay.kill.Given as goal
+
+abbrev pub invariant-loop-key : goal.invariant-loop-key
+invariant-loop-key g l = IsWithout l.fn.self (take l.key-index l.key-items) l.self

@@ -1,0 +1,18 @@
+use Rattle.std.proofs.Common.{sym, ap, ◌∙◌}
+use Rattle.std.specs.FinMap as globals
+use Rattle.global_defs.specs.Entry.{Globals}
+use Rattle.gvn_globals.specs.Overlaid.{overlaid}
+use Rattle.gvn_globals.proofs.Overlays.{overlaid_new}
+use Rattle.gvn_globals.proofs.overlay.Overlay.new.Goals as goal
+
+pub returns : goal.returns
+returns g c =
+    ap (λ s. overlaid (g.G.Lookup.seen c.args.on.now) s c.new-2.result) c.new.ensures
+    ∙ ap (overlaid (g.G.Lookup.seen c.args.on.now) globals.empty) c.new-2.ensures
+    ∙ overlaid_new (g.G.Lookup.seen c.args.on.now)
+
+pub invariant_of-result : goal.invariant_of-result
+invariant_of-result g c = c.nodes.ensures ∙ ap globals.len (sym (
+    ap (λ s. overlaid (g.G.Lookup.seen c.args.on.now) s c.new-2.result) c.new.ensures
+    ∙ ap (overlaid (g.G.Lookup.seen c.args.on.now) globals.empty) c.new-2.ensures
+    ∙ overlaid_new (g.G.Lookup.seen c.args.on.now)))

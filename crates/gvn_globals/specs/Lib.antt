@@ -1,0 +1,4 @@
+pub mod Codes
+pub mod Walks
+pub mod Nodes
+pub mod Overlaid

@@ -1,0 +1,10 @@
+//! Globals as a map from keys in M collation, and what a job sees of them.
+#![tactic(auto)]
+
+mod globals;
+mod lookup;
+mod overlay;
+
+pub use globals::Globals;
+pub use lookup::Lookup;
+pub use overlay::Overlay;

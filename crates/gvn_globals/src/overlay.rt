@@ -1,0 +1,238 @@
+// Globals with the changes of one job over them.
+ghost use Rattle.std.specs.Prelude.{◌≡◌, true, [], ◌∷◌, ◌++◌, Option, Some, None, option_map, is_some, if◌then◌else◌, not, IfOk, OnOk, OnErr};
+ghost use Rattle.std.specs.Option.{option_copied};
+ghost use Rattle.std.specs.FinMap as globals;
+ghost use Rattle.global_defs.specs.Key.{sub_of};
+ghost use Rattle.global_defs.specs.Entry.{is_under, apply};
+ghost use Rattle.global_defs.specs.Encoded.{encoded, encoded_sub};
+ghost use Rattle.global_defs.specs.Evaluation as evaluation;
+ghost use Rattle.gvn_key.specs.Terms.{update_value};
+ghost use Rattle.gvn_globals.specs.Walks.{after, tested, earlier, is_next};
+ghost use Rattle.gvn_globals.specs.Overlaid.{kept, overlaid};
+
+use super::globals::{Globals, ones, sub_at};
+use super::lookup::{Lookup, Walk, subtree};
+use gvn_key::terms::Update;
+use gvn_key::{Bytes, Key, NoMemory};
+use std::alloc::Global;
+use std::cmp::Ordering;
+use std::marker::Model;
+
+/// Globals as they are after some changes of a job, which stand beside them.
+#[derive(Drop)]
+pub struct Overlay<'a, G: Lookup> {
+    on: &'a G,
+    /// The nodes that the job has set, with their values.
+    sets: Globals,
+    /// The nodes below that it has removed, with no values.
+    gone: Globals,
+    nodes: u32,
+}
+
+impl<'a, G: Lookup> Model for Overlay<'a, G> {
+    ghost use Rattle.std.specs.Prelude.{◌≡◌};
+    ghost use Rattle.std.specs.FinMap as globals;
+    ghost use Rattle.global_defs.specs.Entry as defs;
+    ghost use Rattle.gvn_globals.specs.Codes.{globals_code};
+    ghost use Rattle.gvn_globals.specs.Overlaid.{overlaid};
+
+    ghost Value = { defs.Globals };
+
+    ghost coded = { globals_code };
+
+    ghost view = { λ o. overlaid (G.seen o.on.now) o.sets o.gone };
+
+    ghost invariant = { λ o. o.nodes ≡ globals.len (overlaid (G.seen o.on.now) o.sets o.gone) };
+}
+
+/// The first of two keys.
+fn earlier(own: Option<Key>, other: Option<Key>) -> Option<Key>
+    ensures { result ≡ earlier own other }
+{
+    match (own, other) {
+        (Some(own), Some(other)) => {
+            if other.compare(&own) == Ordering::Less {
+                Some(other)
+            } else {
+                Some(own)
+            }
+        }
+        (Some(key), None) => Some(key),
+        (None, found) => found,
+    }
+}
+
+/// The first node of the same name past the key that isn't gone.
+fn kept_after<G: Lookup>(on: &G, gone: &Globals, key: &Key) -> Result<Option<Key>, NoMemory>
+    ensures { IfOk result (λ found. found ≡ after (kept (G.seen on.now) gone.now) key.now) }
+{
+    let mut found = on.after(key)?;
+    while let Some(node) = found {
+        if gone.get(&node).is_none() {
+            return Ok(Some(node));
+        }
+        found = on.after(&node)?;
+    }
+    Ok(None)
+}
+
+impl<'a, G: Lookup> Overlay<'a, G> {
+    /// Globals without changes.
+    pub fn new(alloc: Global, on: &'a G) -> Self
+        ensures { result ≡ G.seen on.now }
+    {
+        Overlay {
+            on,
+            sets: Globals::new(alloc),
+            gone: Globals::new(alloc),
+            nodes: on.nodes(),
+        }
+    }
+
+    /// How many nodes have values.
+    pub fn nodes(&self) -> u32
+        ensures { result ≡ globals.len self.now }
+    {
+        self.nodes
+    }
+
+    /// The node's value, if it has one.
+    pub fn get(&self, key: &Key) -> Option<&[u8]>
+        ensures { option_copied result ≡ globals.get self.now key.now }
+    {
+        match self.sets.get(key) {
+            Some(value) => Some(value),
+            None => {
+                if self.gone.get(key).is_some() {
+                    None
+                } else {
+                    self.on.get(key)
+                }
+            }
+        }
+    }
+
+    /// Gives the node that value.
+    pub fn set(&mut self, key: Key, value: Bytes) -> Result<(), NoMemory>
+        ensures ok { OnOk result (self.new ≡ globals.insert self.old key value) }
+        ensures err { OnErr result (self.new ≡ self.old) }
+    {
+        let known = u32::from(ones(self.get(&key)));
+        let Some(nodes) = self.nodes.checked_add(1 - known) else {
+            return Err(NoMemory);
+        };
+        self.sets.set(key, value)?;
+        self.nodes = nodes;
+        Ok(())
+    }
+
+    /// Takes the node's own value away.
+    pub fn remove(&mut self, key: &Key) -> Result<(), NoMemory>
+        ensures ok { OnOk result (self.new ≡ globals.remove self.old key.now) }
+        ensures err { OnErr result (self.new ≡ self.old) }
+    {
+        let none = Bytes::new(key.code().allocator());
+        let known = u32::from(ones(self.get(key)));
+        self.gone.set(key.copy()?, none)?;
+        self.sets.remove(key);
+        self.nodes -= known;
+        Ok(())
+    }
+
+    /// Takes the node and all its descendants away. Without memory some of them may be gone.
+    pub fn kill(&mut self, top: &Key) -> Result<(), NoMemory>
+        ensures { OnOk result (self.new ≡ globals.retain_keys self.old (λ k. not (is_under top.now k))) }
+    {
+        let keys = subtree(self, top)?;
+        for key in &keys {
+            self.remove(key)?;
+        }
+        Ok(())
+    }
+
+    /// Makes one change. Without memory some nodes that are to go may be gone.
+    pub fn apply(&mut self, update: &Update) -> Result<(), NoMemory>
+        ensures { OnOk result (self.new ≡ apply self.old (update_value update.now)) }
+    {
+        match update {
+            Update::Set(key, value) => self.set(key.copy()?, value.copy()?),
+            Update::Kill(key) => self.kill(key),
+            Update::ZKill(key) => self.remove(key),
+        }
+    }
+
+    /// The first node of the same name past the key, if there is one.
+    pub fn after(&self, key: &Key) -> Result<Option<Key>, NoMemory>
+        ensures { IfOk result (λ found. found ≡ after self.now key.now) }
+    {
+        Ok(earlier(self.sets.after(key)?, kept_after(self.on, &self.gone, key)?))
+    }
+
+    /// The next subscript at the level below the node, past the last one, by its own bytes: of a number its numeral. An
+    /// empty last one comes before all. Where the job has changed nothing below the node, the globals below tell it.
+    pub fn order(&self, key: &Key, last: &[u8]) -> Result<Option<Bytes>, NoMemory>
+        ensures { IfOk result (λ found. option_map sub_of found ≡ evaluation.order self.now key.now last.now) }
+    {
+        if self.sets.defined(key) < 10 && self.gone.defined(key) < 10 {
+            return self.on.order(key, last);
+        }
+        self.walked_order(key, last)
+    }
+
+    /// The same, by a walk over the nodes below.
+    fn walked_order(&self, key: &Key, last: &[u8]) -> Result<Option<Bytes>, NoMemory>
+        ensures { IfOk result (λ found. option_map sub_of found ≡ evaluation.order self.now key.now last.now) }
+    {
+        let past = key.past(last)?;
+        let mut found = self.after(key)?;
+        while let Some(node) = found {
+            if !node.is_under(key) {
+                return Ok(None);
+            }
+            if is_next(&node, key, last, past.as_slice()) {
+                return sub_at(&node, key);
+            }
+            found = self.after(&node)?;
+        }
+        Ok(None)
+    }
+
+    /// Whether the node has a value, and whether it has descendants: 0, 1, 10 or 11.
+    pub fn defined(&self, key: &Key) -> Result<u8, NoMemory>
+        ensures { IfOk result (λ defined. defined ≡ evaluation.defined self.now key.now) }
+    {
+        Ok(ones(self.get(key)) + tens(self.after(key)?, key))
+    }
+}
+
+/// Whether a descendant's subscript at the level below the key is past the last one, beyond which all lies behind `past`.
+fn is_next(node: &Key, key: &Key, last: &[u8], past: &[u8]) -> bool
+    requires past { past.now ≡ encoded key.now ++ encoded_sub (sub_of last.now) ++ 255 ∷ [] }
+    requires below { evaluation.is_below key.now node.now ≡ true }
+    ensures { result ≡ is_next key.now last.now node.now }
+{
+    let code = node.as_encoded();
+    last.is_empty() || matches!(past.cmp(code), Ordering::Less)
+}
+
+/// 10 where the node is below the top one, else 0.
+fn tens(found: Option<Key>, top: &Key) -> u8
+    ensures { result ≡ (if is_some (tested (is_under top.now) found) then 10 else 0) }
+{
+    match found {
+        Some(key) if key.is_under(top) => 10,
+        _ => 0,
+    }
+}
+
+impl<'a, G: Lookup> Walk for Overlay<'a, G> {
+    ghost walked = { λ o. o };
+
+    fn has(&self, key: &Key) -> bool {
+        self.get(key).is_some()
+    }
+
+    fn next(&self, key: &Key) -> Result<Option<Key>, NoMemory> {
+        self.after(key)
+    }
+}
