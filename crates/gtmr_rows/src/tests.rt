@@ -166,7 +166,11 @@ fn each_call_fails(rt: &impl Abort, alloc: Global, pick: u32) -> Result<(), Fail
         let first = printed_text(alloc, calls, row.printed)?;
         let rest = left_text(alloc, row.left)?;
         let expected = format!(in alloc; "{first}{rest}")?;
-        assert_eq!(rt; row.out.as_slice(), expected.as_bytes(), "at {calls} {pick}");
+        assert_eq!(rt;
+            row.out.as_slice(),
+            expected.as_bytes(),
+            "at {calls} {pick}"
+        );
         assert!(rt; row.printed <= row.left && row.left <= 5);
         assert!(rt; row.left <= row.printed.saturating_add(1));
         if row.printed == 5 {

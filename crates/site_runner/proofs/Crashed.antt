@@ -51,11 +51,15 @@ crashes v w s pick before now law sim up image durable same count t p h =
     let o : Contents = m.0 in
     let q : Place = record { site = in_new_state world.Down p.site; told = p.told; now = o; outcomes = o ∷ []; faults = p.faults; simulated = p.simulated } in
     let e = sym (same_name_on world.Down p.site) in (
-      Done, q,
-      (no_cause _ _ (state_at not_running v s p h ∙ is_running s.name s.state up) (simulated_at v s p true h sim), record {
-        chosen = λ yes. (m.2 yes).0;
-        becomes = record { site = refl; now = refl; outcomes = refl; faults = omega arith; same = record { told = refl; simulated = refl } };
-      }),
+      Done,
+      q,
+      (
+        no_cause _ _ (state_at not_running v s p h ∙ is_running s.name s.state up) (simulated_at v s p true h sim),
+        record {
+          chosen = λ yes. (m.2 yes).0;
+          becomes = record { site = refl; now = refl; outcomes = refl; faults = omega arith; same = record { told = refl; simulated = refl } };
+        },
+      ),
       record {
         disk = record {
           told = λ yes. subst (λ (x : Option Files). IsSomeAnd x (λ files. Stands (name_on q.site) files o)) (sym d.1) (subst (λ (x : Name). Stands x f o) e (m.2 yes).1);
@@ -79,19 +83,20 @@ crashes v w s pick before now law sim up image durable same count t p h =
 pub fused : (v w : View) (s : Site) (calls : ℕ) (before now : List ℕ) → Reads v w → w.faults ≡ v.faults → true ≡ v.simulated → fault_of s.state ≡ None
     → now ≡ before ++ line s.name (codes "FUSED " ++ decimal calls) → ExecutesAt (Fuse s.name calls) v s w s before now
 fused v w s calls before now r count sim up t p h = (
-    Done, p,
-    (no_cause _ _ (state_at stopped v s p h ∙ not_stopped s.name s.state up) (simulated_at v s p true h sim), kept_same p),
-    record {
-      disk = record {
-        told = λ yes. subst (λ (x : Option Files). IsSomeAnd x (λ files. Stands (name_on p.site) files p.now)) (sym r.content) (h.disk.told yes);
-        images = λ yes c j.
-            let k = r.passes.images c j in
-            h.disk.images yes c (subst (Image v) (sym k.2) k.1);
-        faults = count ∙ h.disk.faults;
-        simulated = r.passes.simulated ∙ h.disk.simulated;
-      };
-      site = h.site;
-      held = record { made = h.held.made; state = state_read v w s.name s.state p r h.held.state };
-    },
-    t,
-  )
+  Done,
+  p,
+  (no_cause _ _ (state_at stopped v s p h ∙ not_stopped s.name s.state up) (simulated_at v s p true h sim), kept_same p),
+  record {
+    disk = record {
+      told = λ yes. subst (λ (x : Option Files). IsSomeAnd x (λ files. Stands (name_on p.site) files p.now)) (sym r.content) (h.disk.told yes);
+      images = λ yes c j.
+          let k = r.passes.images c j in
+          h.disk.images yes c (subst (Image v) (sym k.2) k.1);
+      faults = count ∙ h.disk.faults;
+      simulated = r.passes.simulated ∙ h.disk.simulated;
+    };
+    site = h.site;
+    held = record { made = h.held.made; state = state_read v w s.name s.state p r h.held.state };
+  },
+  t,
+)

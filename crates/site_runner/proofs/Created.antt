@@ -76,7 +76,8 @@ made view old disk name before now free begun same later t p h =
     let w = view disk in
     let q : Place = record { site = Some (record { name = name; state = world.Down }); told = p.told; now = empty_site; outcomes = empty_site ∷ []; faults = w.faults; simulated = p.simulated } in
     let has : p.told ≡ true → HasBegun w = λ is. some_of (view old.disk).content (HasBegun w) (told_is _ _ (h.disk.told is)) begun in (
-      Done, q,
+      Done,
+      q,
       record { free = site_none view old p free h; site = refl; now = refl; outcomes = refl; faults = omega (arith, later, h.disk.faults); same = record { told = refl; simulated = refl } },
       record {
         disk = record {
@@ -109,6 +110,7 @@ begun_images v w p law m empty begun is c i =
         let none : records (f.0 (journal_file 1 0)) ≡ Some [] = subst (λ (o : Option Files). IfSome o (λ files. records (files (journal_file 1 0)) ≡ Some [])) f.1 empty in
         let o = m.images is f.0 i in
         subst (Among p.outcomes) (is_no_site (name_on p.site) f.0 o.0 (nothing_held (name_on p.site) f.0 o.0 none o.2) o.2) o.1
+
     at_start : (n : ℕ) → n ≤ 1 → Holds IsJournalBody (c (journal_file 1 0)) ([] ++ take n (beginning ∷ [])) → Among p.outcomes no_site → (o : Contents) × Among (empty_site ∷ p.outcomes) o × Stands (name_on p.site) c o
     at_start zero le h a = (no_site, inr a, stands_nothing (name_on p.site) c h)
     at_start (suc zero) le h a = (empty_site, inl refl, stands_empty (name_on p.site) c h)
@@ -138,9 +140,11 @@ make_faulted view old disk name k before now lv lw free empty begun still same c
     let m = begun_place v w p lv lw h.disk empty begun still same in
     let none = site_none view old p free h in
     let q : Place = record { site = p.site; told = p.told; now = m.0; outcomes = empty_site ∷ p.outcomes; faults = w.faults; simulated = p.simulated } in (
-      DiskFault k, q,
+      DiskFault k,
+      q,
       record {
-        free = none; site = none;
+        free = none;
+        site = none;
         outcomes = λ is o a. new_or_old p o a;
         faults = record { count = sym count; rose = subst (λ (x : ℕ). Rose p.faults x) (sym count) (subst (λ (x : ℕ). Rose x w.faults) h.disk.faults rose); same = record { told = refl; simulated = refl } };
       },
@@ -180,7 +184,8 @@ create_refused view old disk name before now kept free begun same t p h =
     let both = some_both v.content _ _ (h.disk.told is) same in
     and_some w.content (λ files. Stands (name_on p.site) files p.now) (kept.still_told (told_is v.content _ (h.disk.told is))) (both.2 (name_on p.site) p.now both.1) in
     let is_begun : p.told ≡ true → p.now.begun ≡ true = λ is. let both = some_both v.content _ _ (h.disk.told is) begun in both.2 (name_on p.site) p.now both.1 in (
-      Refused (record { site = name; cause = NotEmpty }), q,
+      Refused (record { site = name; cause = NotEmpty }),
+      q,
       (refl, refused_so p q (bool_cases p.told) is_begun stays),
       record {
         disk = record { told = reads; images = image_kept v w p h.disk kept.images; faults = refl; simulated = kept.simulated ∙ h.disk.simulated };
@@ -206,9 +211,11 @@ create_faulted view old disk name k before now kept free count rose t p h =
     let m = still_matches (view old.disk) w p p.site kept refl h.disk in
     let none = site_none view old p free h in
     let q : Place = record { site = p.site; told = p.told; now = m.0; outcomes = p.outcomes; faults = w.faults; simulated = p.simulated } in (
-      DiskFault k, q,
+      DiskFault k,
+      q,
       record {
-        free = none; site = none;
+        free = none;
+        site = none;
         outcomes = λ is o a. inl a;
         faults = record { count = sym count; rose = subst (λ (x : ℕ). Rose p.faults x) (sym count) (subst (λ (x : ℕ). Rose x w.faults) h.disk.faults rose); same = record { told = refl; simulated = refl } };
       },
@@ -222,7 +229,8 @@ create_damaged view old disk name file offset before now same later free outside
     let w = view disk in
     let unknown : p.told ≡ false = not_true p.told (λ is. let both = some_both (view old.disk).content _ _ (h.disk.told is) outside in both.2 (name_on p.site) p.now both.1) in
     let q : Place = record { site = p.site; told = p.told; now = p.now; outcomes = p.outcomes; faults = w.faults; simulated = p.simulated } in (
-      NotAFile file offset, q,
+      NotAFile file offset,
+      q,
       record { unknown = unknown; kept = record { site = refl; now = refl; outcomes = λ o a. a; faults = omega (arith, later, h.disk.faults); same = record { told = refl; simulated = refl } } },
       record {
         disk = record {

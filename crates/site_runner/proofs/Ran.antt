@@ -149,11 +149,18 @@ ran v w s r new n jobs before middle now e st same later f t p h =
       becomes = record { site = refl; now = refl; outcomes = refl; faults = omega (arith, later, h.disk.faults); same = record { told = refl; simulated = refl } };
     } in
     let text : turn_on p.site (jobs_of jobs) ends p ≡ end = ap (λ (x : Option world.Site). turn_on x (jobs_of jobs) ends p) (site_is v s r p st h) ∙ turn in (
-      Ran ends, q,
-      (none_primary v s r jobs p st h, record {
-        stamp = stamp; serials = r.serials; state = site_is v s r p st h; picks = refl;
-        ran = subst (λ (x : Turn). RunsTo stamp x (length d.sequence) None p q) (sym turn) whole;
-      }),
+      Ran ends,
+      q,
+      (
+        none_primary v s r jobs p st h,
+        record {
+          stamp = stamp;
+          serials = r.serials;
+          state = site_is v s r p st h;
+          picks = refl;
+          ran = subst (λ (x : Turn). RunsTo stamp x (length d.sequence) None p q) (sym turn) whole;
+        },
+      ),
       record {
         disk = record {
           told = λ yes. let k = d.reigns.kept yes in subst (λ (x : Name). IsSomeAnd w.content (λ files. Stands x files o)) name_q (reads_settled w s.name new o d.reigns.file k.stamps k.begun k.records);
@@ -168,9 +175,9 @@ ran v w s r new n jobs before middle now e st same later f t p h =
         };
       },
       t ∙ ap (λ (x : List ℕ). x ++ line s.name (codes "AT " ++ decimal (length new.entries.items))) d.text
-      ∙ append_assoc before (flat_map reply_line d.replies) _
-      ∙ ap (λ (k : ℕ). before ++ (flat_map reply_line d.replies ++ line s.name (codes "AT " ++ decimal k))) count
-      ∙ ap (λ (x : Turn). before ++ section_text s.name (length (map updater_of jobs)) x (length d.sequence) None) (sym text),
+          ∙ append_assoc before (flat_map reply_line d.replies) _
+          ∙ ap (λ (k : ℕ). before ++ (flat_map reply_line d.replies ++ line s.name (codes "AT " ++ decimal k))) count
+          ∙ ap (λ (x : Turn). before ++ section_text s.name (length (map updater_of jobs)) x (length d.sequence) None) (sym text),
     )
 
 -- a fault ended it
@@ -189,19 +196,26 @@ ran_to_fault v w s r n jobs k undecided before middle now law e st same count ro
     let front = front_place w p s.name state turn.sequence a.hardened law (same ∙ h.disk.simulated) (sym (same_name_on (world.Failed k) p.site ∙ ap name_on h.site)) a.front in
     let text : turn_on p.site (jobs_of jobs) ends p ≡ turn = ap (λ (x : Option world.Site). turn_on x (jobs_of jobs) ends p) (site_is v s r p st h) in
     let rest : undecided ≡ length (map updater_of jobs) - length (printed a.hardened turn.replies) = omega (arith, a.count, length-map jobs updater_of) in (
-      Ran ends, record { site = state; told = p.told; now = front.now; outcomes = fronts p.now turn.sequence a.hardened (length turn.sequence - a.hardened); faults = w.faults; simulated = p.simulated },
-      (none_primary v s r jobs p st h, record {
-        stamp = stamp; serials = r.serials; state = site_is v s r p st h; picks = (m, map_take m jobs);
-        ran = record {
-          begun = a.begun;
-          at_once = a.at_once;
-          fails = record {
-            site = refl;
-            outcomes = front.fronts_all;
-            faults = record { count = sym count; rose = subst (λ (x : ℕ). Rose p.faults x) (sym count) (subst (λ (x : ℕ). Rose x w.faults) h.disk.faults rose); same = record { told = refl; simulated = refl } };
+      Ran ends,
+      record { site = state; told = p.told; now = front.now; outcomes = fronts p.now turn.sequence a.hardened (length turn.sequence - a.hardened); faults = w.faults; simulated = p.simulated },
+      (
+        none_primary v s r jobs p st h,
+        record {
+          stamp = stamp;
+          serials = r.serials;
+          state = site_is v s r p st h;
+          picks = (m, map_take m jobs);
+          ran = record {
+            begun = a.begun;
+            at_once = a.at_once;
+            fails = record {
+              site = refl;
+              outcomes = front.fronts_all;
+              faults = record { count = sym count; rose = subst (λ (x : ℕ). Rose p.faults x) (sym count) (subst (λ (x : ℕ). Rose x w.faults) h.disk.faults rose); same = record { told = refl; simulated = refl } };
+            };
           };
-        };
-      }),
+        },
+      ),
       record {
         disk = front.matches;
         site = ap (in_new_state (world.Failed k)) h.site;
@@ -214,9 +228,9 @@ ran_to_fault v w s r n jobs k undecided before middle now law e st same count ro
         };
       },
       t ∙ ap (λ (x : List ℕ). x ++ fault_line s.name k undecided) a.text
-      ∙ append_assoc before (flat_map reply_line (printed a.hardened turn.replies)) _
-      ∙ ap (λ (u : ℕ). before ++ (flat_map reply_line (printed a.hardened turn.replies) ++ fault_line s.name k u)) rest
-      ∙ ap (λ (x : Turn). before ++ section_text s.name (length (map updater_of jobs)) x a.hardened (Some k)) (sym text),
+          ∙ append_assoc before (flat_map reply_line (printed a.hardened turn.replies)) _
+          ∙ ap (λ (u : ℕ). before ++ (flat_map reply_line (printed a.hardened turn.replies) ++ fault_line s.name k u)) rest
+          ∙ ap (λ (x : Turn). before ++ section_text s.name (length (map updater_of jobs)) x a.hardened (Some k)) (sym text),
     )
 
 -- it was cut off once some jobs were decided, of which at least these are hardened
@@ -238,7 +252,7 @@ run_cut v w s r n jobs law e st same f p h =
       record {
         told = refl;
         outcomes = λ yes o a. inr (subst (λ (x : Option world.Site). RunMayLeaveOn x (jobs_of jobs) (map updater_of jobs) p o) (sym (site_is v s r p st h))
-        (m, subst (λ (x : Sequence). IsFrontOf x (length p.now.sequence) p.now o) picks (lower o (front.fronts_all yes o a))));
+            (m, subst (λ (x : Sequence). IsFrontOf x (length p.now.sequence) p.now o) picks (lower o (front.fronts_all yes o a))));
       },
       front.matches,
     )
@@ -247,20 +261,23 @@ run_cut v w s r n jobs law e st same f p h =
 pub decided_front : (w : View) (n : Name) (told : Bool) (c : Contents) (jobs : List (List Update)) (r new : Reign) (before now : List ℕ) → IsLawful w → HasDecided w n told c jobs jobs [] r new before now
     → (m low : ℕ) × (length c.sequence ≤ low) × MayHaveFront w n told c (turn_after n r.serials jobs (take m jobs) c.sequence).sequence low
 decided_front w n told c jobs r new before now law d = (
-    length jobs, length c.sequence, omega arith,
-    subst (λ (x : Sequence). MayHaveFront w n told c x (length c.sequence)) (sym same) (record {
-      told = λ yes. told_is w.content _ (d.reigns.kept yes).records;
-      images = λ yes files i. let k = d.reigns.kept yes in (
-        with_sequence c d.sequence,
-        record { count = length d.sequence; least = omega (arith, d.grown); most = omega arith; is = ap (with_sequence c) (sym (take_all d.sequence)) },
-        images_settled w n new (with_sequence c d.sequence) d.reigns.file k.stamps k.begun k.records files i,
-      );
-    }),
-  )
+  length jobs,
+  length c.sequence,
+  omega arith,
+  subst (λ (x : Sequence). MayHaveFront w n told c x (length c.sequence)) (sym same) (record {
+    told = λ yes. told_is w.content _ (d.reigns.kept yes).records;
+    images = λ yes files i. let k = d.reigns.kept yes in (
+      with_sequence c d.sequence,
+      record { count = length d.sequence; least = omega (arith, d.grown); most = omega arith; is = ap (with_sequence c) (sym (take_all d.sequence)) },
+      images_settled w n new (with_sequence c d.sequence) d.reigns.file k.stamps k.begun k.records files i,
+    );
+  }),
+)
   where
     take_all : {X : Type 0} (xs : List X) → take (length xs) xs ≡ xs
     take_all [] = refl
     take_all (x ∷ xs) = ap (λ (r : List _). x ∷ r) (take_all xs)
+
     same : (turn_after n r.serials jobs (take (length jobs) jobs) c.sequence).sequence ≡ d.sequence
     same = ap (λ (x : List (List Update)). (turn_after n r.serials jobs x c.sequence).sequence) (take_all jobs) ∙ ap (λ (x : Turn). x.sequence) d.turn
 
@@ -294,7 +311,7 @@ in_second (x ∷ xs) ys o h = inr (in_second xs ys o h)
 in_either : (xs ys : List Contents) (o : Contents) → Among (xs ++ ys) o → Among xs o ⊎ Among ys o
 in_either [] ys o h = inr h
 in_either (x ∷ xs) ys o (inl h) = inl (inl h)
-in_either (x ∷ xs) ys o (inr h) = elim (in_either xs ys o h) [ | inl a ↦ inl (inr a) | inr b ↦ inr b ]
+in_either (x ∷ xs) ys o (inr h) = elim (in_either xs ys o h) [ inl a ↦ inl (inr a) | inr b ↦ inr b ]
 
 are_all_fronts : (f : ℕ → Sequence) (k : ℕ) (c : Contents) (low : ℕ) (o : Contents) → Among (all_fronts f k c low) o → (n : ℕ) × IsFrontOf (f n) low c o
 are_all_fronts f zero c low o a = (0, are_fronts_if (low - length (f 0)) c (f 0) low o refl a)
@@ -319,7 +336,7 @@ take_past (suc n) (j ∷ jobs) le = ap (λ (r : List (List Update)). j ∷ r) (t
 few_or_all : (n k : ℕ) → (n ≤ k) ⊎ (k ≤ n)
 few_or_all zero k = inl (omega arith)
 few_or_all (suc n) zero = inr (omega arith)
-few_or_all (suc n) (suc k) = elim (few_or_all n k) [ | inl a ↦ inl (omega (arith, a)) | inr b ↦ inr (omega (arith, b)) ]
+few_or_all (suc n) (suc k) = elim (few_or_all n k) [ inl a ↦ inl (omega (arith, a)) | inr b ↦ inr (omega (arith, b)) ]
 
 among_runs : (name : Name) (serials : List ℕ) (jobs : List (List Update)) (c o : Contents) (n : ℕ) → IsFrontOf (turn_after name serials jobs (take n jobs) c.sequence).sequence (length c.sequence) c o
     → Among (all_fronts (λ m. (turn_after name serials jobs (take m jobs) c.sequence).sequence) (length jobs) c (length c.sequence)) o

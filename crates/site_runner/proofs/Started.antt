@@ -97,16 +97,21 @@ opened v w s n r before now e down file read told same later t p h =
     let name_q : s.name ≡ name_on q.site = sym (same_name_on reign p.site ∙ named) in
     let count : length r.entries.items ≡ length o.sequence = sym (ap length m.1.0 ∙ length-map r.entries.items entry_value) in
     let cycle : 1 ≡ cycle_on q.site = sym (ap (λ (x : Option world.Site). cycle_on (in_new_state reign x)) h.site) in (
-      Done, q,
-      (none_down v s p down h, record {
-        as_before = λ yes. (m.2 yes).0;
-        becomes = record {
-          site = ap (λ (x : List ℕ). in_new_state (world.Primary (reign_of s.name) x) p.site) serials;
-          now = refl; outcomes = refl;
-          faults = omega (arith, later, h.disk.faults);
-          same = record { told = refl; simulated = refl };
-        };
-      }),
+      Done,
+      q,
+      (
+        none_down v s p down h,
+        record {
+          as_before = λ yes. (m.2 yes).0;
+          becomes = record {
+            site = ap (λ (x : List ℕ). in_new_state (world.Primary (reign_of s.name) x) p.site) serials;
+            now = refl;
+            outcomes = refl;
+            faults = omega (arith, later, h.disk.faults);
+            same = record { told = refl; simulated = refl };
+          };
+        },
+      ),
       record {
         disk = record {
           told = λ yes. subst (λ (x : Name). IsSomeAnd w.content (λ files. Stands x files o)) name_q (reads_settled w s.name r o file stamps m.1.1 (m.2 yes).1.records);
@@ -128,7 +133,7 @@ opened v w s n r before now e down file read told same later t p h =
         };
       },
       t ∙ ap (λ (k : ℕ). before ++ line s.name (codes "PRIMARY " ++ decimal k ++ codes " FROM " ++ decimal (length r.entries.items + 1))) cycle
-      ∙ ap (λ (k : ℕ). before ++ line s.name (codes "PRIMARY " ++ decimal (cycle_on q.site) ++ codes " FROM " ++ decimal (k + 1))) count,
+          ∙ ap (λ (k : ℕ). before ++ line s.name (codes "PRIMARY " ++ decimal (cycle_on q.site) ++ codes " FROM " ++ decimal (k + 1))) count,
     )
 
 -- what each image stands for once a call has kept the records
@@ -147,7 +152,9 @@ still_matches v w p state k e h =
     let m = pick_one p.told p.now (λ o. Unit {0}) (λ o. Among p.outcomes o × IsSomeAnd w.content (λ files. Stands (name_on p.site) files o)) tt (λ yes.
     let r = read_kept w p k.lawful (k.still_told (told_is v.content _ (h.told yes))) (images yes) in
     (r.0, tt, (r.1, r.2))) in (
-      m.0, (λ yes. (m.2 yes).0), record {
+      m.0,
+      (λ yes. (m.2 yes).0),
+      record {
         told = λ yes. subst (λ (x : Name). IsSomeAnd w.content (λ files. Stands x files m.0)) e (m.2 yes).1;
         images = λ yes c i. let o = images yes c i in (o.0, o.1, subst (λ (x : Name). Stands x c o.0) e o.2);
         faults = refl;
@@ -160,12 +167,16 @@ pub start_faulted : (v w : View) (s : Site) (k : ℕ) (before now : List ℕ) �
 start_faulted v w s k before now down kept count rose t p h =
     let state = in_new_state (world.Failed k) p.site in
     let m = still_matches v w p state kept (sym (same_name_on (world.Failed k) p.site)) h.disk in (
-      DiskFault k, record { site = state; told = p.told; now = m.0; outcomes = p.outcomes; faults = w.faults; simulated = p.simulated },
-      (none_down v s p down h, record {
-        site = refl;
-        outcomes = λ yes o a. a;
-        faults = record { count = sym count; rose = subst (λ (x : ℕ). Rose p.faults x) (sym count) (subst (λ (x : ℕ). Rose x w.faults) h.disk.faults rose); same = record { told = refl; simulated = refl } };
-      }),
+      DiskFault k,
+      record { site = state; told = p.told; now = m.0; outcomes = p.outcomes; faults = w.faults; simulated = p.simulated },
+      (
+        none_down v s p down h,
+        record {
+          site = refl;
+          outcomes = λ yes o a. a;
+          faults = record { count = sym count; rose = subst (λ (x : ℕ). Rose p.faults x) (sym count) (subst (λ (x : ℕ). Rose x w.faults) h.disk.faults rose); same = record { told = refl; simulated = refl } };
+        },
+      ),
       record {
         disk = m.2;
         site = ap (in_new_state (world.Failed k)) h.site;
@@ -186,7 +197,8 @@ start_damaged v w s n file offset before now e down same later outside t p h =
     let both = some_both v.content _ _ (h.disk.told yes) outside in
     both.2 p.now (subst (λ (x : Name). Stands x both.0 p.now) (ap name_on h.site ∙ sym e) both.1) (h.held.made yes).now) in
     let q : Place = record { site = p.site; told = p.told; now = p.now; outcomes = p.outcomes; faults = w.faults; simulated = p.simulated } in (
-      NotAFile file offset, q,
+      NotAFile file offset,
+      q,
       (none_down v s p down h, record { unknown = unknown; kept = record { site = refl; now = refl; outcomes = λ o a. a; faults = omega (arith, later, h.disk.faults); same = record { told = refl; simulated = refl } } }),
       record {
         disk = record {

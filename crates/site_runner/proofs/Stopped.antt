@@ -69,7 +69,8 @@ stops_from v old new before now (Primary r) e h =
     let settled : p.told ≡ true → (o : Contents) → Among p.outcomes o → o ≡ p.now = λ is. settled_at p at_p is in
     let q : Place = record { site = in_new_state world.Down p.site; told = p.told; now = p.now; outcomes = p.now ∷ []; faults = p.faults; simulated = p.simulated } in
     let named = sym (same_name_on world.Down p.site) in (
-      Done, q,
+      Done,
+      q,
       (running_there v old r p e at_p, record { site = refl; now = refl; outcomes = refl; faults = omega arith; same = record { told = refl; simulated = refl } }),
       record {
         disk = record {

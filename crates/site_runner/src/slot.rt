@@ -12,9 +12,7 @@ pub enum State {
     /// It takes jobs. Its reign has the site's own name and cycle 1.
     Primary(Reign),
     /// A call of its disk failed, the one of that number on it.
-    Failed {
-        fault: u64,
-    },
+    Failed { fault: u64 },
 }
 
 #[derive(Drop)]

@@ -32,12 +32,7 @@ pub fn write_numbered(
 }
 
 /// Adds the line of a reign of that cycle whose first entry has that number.
-pub fn write_primary(
-    text: &mut Bytes,
-    name: &[u8],
-    cycle: u32,
-    from: u64,
-) -> Result<(), NoMemory>
+pub fn write_primary(text: &mut Bytes, name: &[u8], cycle: u32, from: u64) -> Result<(), NoMemory>
     ensures { OnOk result (text.new ≡ text.old ++ line name.now (codes "PRIMARY " ++ decimal cycle ++ codes " FROM " ++ decimal from)) }
 {
     text.push_all(name)?;
