@@ -85,7 +85,7 @@ taken_records o v w g j file region generation reads same taken told =
     (λ files t.
     let l = taken_listed v g region generation (files file) t told in
     let has : gates.HasState w j.gated (settled_bodies t.0) = subst (λ (x : Gated). gates.HasState w x (settled_bodies t.0)) (sym same)
-        (state_stays v w (λ f. ⊥) g (others_read (λ f. ⊥) v w reads) (λ none. none) (settled_bodies t.0) t.2) in
+    (state_stays v w (λ f. ⊥) g (others_read (λ f. ⊥) v w reads) (λ none. none) (settled_bodies t.0) t.2) in
     (l.rs, l.is, records_of w j (settled l.rs) (settled_bodies t.0) has (record { hard = l.are; opening = tt; closed = tt })))
 
 -- a gated file that was read

@@ -129,12 +129,14 @@ module _ (region generation : ℕ) (file : List ℕ) (at : ℕ) (w : Walked regi
   pub walked_end : FindsRecord file at None → (rs : List JournalRecord) × IsJournalFile region generation file rs
   walked_end shut =
       let rest : Some w.rest ≡ Some [] = sym w.here ∙ at_shut file at shut in
-      let none : w.rest ≡ [] = cc rest in
-      (w.earlier, record {
-        held = (w.done, w.list ∙ ap Some (ap (λ (l : List Body). w.done ++ l) none ∙ append-nil w.done), w.spelled_done);
-        previous = w.previous;
-        begins = w.begins;
-      })
+      let none : w.rest ≡ [] = cc rest in (
+        w.earlier,
+        record {
+          held = (w.done, w.list ∙ ap Some (ap (λ (l : List Body). w.done ++ l) none ∙ append-nil w.done), w.spelled_done);
+          previous = w.previous;
+          begins = w.begins;
+        },
+      )
 
   wrong_here : (body : Body) (next : ℕ) → gate_at file at ≡ Open body (drop next file)
       → ((r : JournalRecord) (previous : ℕ) → IsJournalBody body r → MayFollow region generation previous w.earlier (r ∷ []) → ⊥) → HasWrongRecord region generation file at
