@@ -57,6 +57,17 @@ fn write_epochs<D: Disk>(alloc: Global, disk: &mut D, calls: u64) -> Result<(), 
     journal.harden(disk)
 }
 
+/// Whether the journal's file has these bytes.
+fn has<D: Disk>(disk: &mut D, bytes: &[u8; 18]) -> Result<bool, Fail> {
+    let file = journal_file(0, 1);
+    if disk.len(file)? != 18 {
+        return Ok(false);
+    }
+    let mut buf = [0; 18];
+    disk.read_at(file, 0, &mut buf)?;
+    Ok(&buf == bytes)
+}
+
 /// Whether a record is PINI at place 0 of the list, and elsewhere the epoch that was appended there.
 fn is_at(record: &JnlRecord, place: u64) -> bool {
     match record {
@@ -87,12 +98,7 @@ fn a_new_journal_as_it_stands(rt: HostRuntime) -> Result<(), Fail> {
     let alloc = rt.alloc();
     let mut disk = MemDisk::new(alloc)?;
     let mut journal = make(alloc, &mut disk)?;
-    let file = journal_file(0, 1);
-    assert_eq!(rt; file, 24);
-    assert_eq!(rt; disk.len(file)?, 18);
-    let mut bytes = [0; 18];
-    disk.read_at(file, 0, &mut bytes)?;
-    assert_eq!(rt; bytes, FILE);
+    assert!(rt; has(&mut disk, &FILE)?);
     let Some((record, next)) = journal.next_record(&mut disk, 0)? else {
         return Err("no record")?;
     };
