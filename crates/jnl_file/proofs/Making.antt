@@ -2,7 +2,7 @@
 use Rattle.std.proofs.Common.{◌≡◌, inl, inr, ℕ, Bool, List, [], ◌∷◌, ◌++◌, Option, Some, None, IfSome, IsSomeAnd, sym, ◌∙◌, ap, subst, append-nil}
 use Rattle.std.specs.List.{AllZip}
 use Rattle.disk_defs.specs.Disk.{Files, View, Image, IsLawful, AtEachMoment, ReadsAfter, Reads}
-use Rattle.disk_defs.specs.Frames.{Only, OnlyOn, SameOutside, OthersStay}
+use Rattle.disk_defs.specs.Frames.{OnlyOn, SameOutside, OthersStay}
 use Rattle.disk_defs.specs.Gates.{Body, records}
 use Rattle.disk_defs.proofs.Told.{with_told, weaker_told, both_weak, both_told}
 use Rattle.disk_defs.proofs.Moments.{weaker, then_more, holds_now, nothing_new}
@@ -85,7 +85,7 @@ taken_records o v w g j file region generation reads same taken told =
     (λ files t.
     let l = taken_listed v g region generation (files file) t told in
     let has : gates.HasState w j.gated (settled_bodies t.0) = subst (λ (x : Gated). gates.HasState w x (settled_bodies t.0)) (sym same)
-        (state_stays v w (λ f. ⊥) g (others_read (λ f. ⊥) v w reads) (λ none. none) (settled_bodies t.0) t.2) in
+    (state_stays v w (λ f. ⊥) g (others_read (λ f. ⊥) v w reads) (λ none. none) (settled_bodies t.0) t.2) in
     (l.rs, l.is, records_of w j (settled l.rs) (settled_bodies t.0) has (record { hard = l.are; opening = tt; closed = tt })))
 
 -- a gated file that was read

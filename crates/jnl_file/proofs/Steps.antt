@@ -1,11 +1,10 @@
 -- A journal's records go on with its bodies.
-use Rattle.std.proofs.Common.{◌≡◌, ◌≤◌, ℕ, suc, ◌+◌, List, [], ◌∷◌, ◌++◌, length, take, Option, Some, None, IfSome, IsSomeAnd, refl, sym, ◌∙◌, ap, subst, arith, append_assoc, length-append}
+use Rattle.std.proofs.Common.{◌≡◌, ℕ, suc, ◌+◌, List, [], ◌∷◌, ◌++◌, length, take, Option, Some, None, IfSome, IsSomeAnd, sym, ◌∙◌, ap, subst, arith, append_assoc, length-append}
 use Rattle.std.proofs.lemmas.List.{take-append-le}
 use Rattle.std.specs.List.{AllZip}
-use Rattle.disk_defs.specs.Disk.{Files, View, Image, IsLawful, AtEachMoment, ReadsAfter}
+use Rattle.disk_defs.specs.Disk.{Files, View, IsLawful, AtEachMoment, ReadsAfter}
 use Rattle.disk_defs.specs.Frames.{Only, OnlyOn, SameOutside, OthersStay}
 use Rattle.disk_defs.specs.Gates.{Body, Stands}
-use Rattle.disk_defs.proofs.Told.{with_told, weaker_told, reads_after}
 use Rattle.disk_defs.proofs.Moments.{only_then, only_weaker}
 use Rattle.gated_file.specs.State as bodies
 use Rattle.gated_file.specs.State.{State}
@@ -23,15 +22,27 @@ zips bodies rs = AllZip IsJournalBody bodies rs
 
 -- what a file of bodies has as records
 pub stands_records : (bodies more : List Body) (rs others : List JournalRecord) (file : List ℕ) → zips bodies rs → zips more others → Stands bodies more file → StandsRecords rs others file
-stands_records bodies more rs others file sure next stands =
-    (stands.0, omega (arith, stands.1, zip_length IsJournalBody more others next), (bodies ++ take stands.0 more, stands.2,
-    zip_append IsJournalBody bodies (take stands.0 more) rs (take stands.0 others) sure (zip_take IsJournalBody stands.0 more others next)))
+stands_records bodies more rs others file sure next stands = (
+  stands.0,
+  omega (arith, stands.1, zip_length IsJournalBody more others next),
+  (
+    bodies ++ take stands.0 more,
+    stands.2,
+    zip_append IsJournalBody bodies (take stands.0 more) rs (take stands.0 others) sure (zip_take IsJournalBody stands.0 more others next),
+  ),
+)
 
 -- with more that may follow
 pub records_more : (rs others later : List JournalRecord) (file : List ℕ) → StandsRecords rs others file → StandsRecords rs (others ++ later) file
-records_more rs others later file stands =
-    (stands.0, omega (arith, stands.1, length-append others later), (stands.2.0, stands.2.1,
-    subst (λ (l : List JournalRecord). zips stands.2.0 (rs ++ l)) (sym (take-append-le stands.0 others later stands.1)) stands.2.2))
+records_more rs others later file stands = (
+  stands.0,
+  omega (arith, stands.1, length-append others later),
+  (
+    stands.2.0,
+    stands.2.1,
+    subst (λ (l : List JournalRecord). zips stands.2.0 (rs ++ l)) (sym (take-append-le stands.0 others later stands.1)) stands.2.2,
+  ),
+)
 
 take_behind : (n : ℕ) (xs ys : List JournalRecord) → take (length xs + n) (xs ++ ys) ≡ xs ++ take n ys
 take_behind n [] ys = ap (λ (k : ℕ). take k ys) (omega arith)
@@ -41,9 +52,15 @@ take_behind n (x ∷ xs) ys =
 
 -- with fewer that surely stand
 pub records_later : (rs others later : List JournalRecord) (file : List ℕ) → StandsRecords (rs ++ others) later file → StandsRecords rs (others ++ later) file
-records_later rs others later file stands =
-    (length others + stands.0, omega (arith, stands.1, length-append others later), (stands.2.0, stands.2.1,
-    subst (λ (l : List JournalRecord). zips stands.2.0 l) (append_assoc rs others (take stands.0 later) ∙ ap (λ (l : List JournalRecord). rs ++ l) (sym (take_behind stands.0 others later))) stands.2.2))
+records_later rs others later file stands = (
+  length others + stands.0,
+  omega (arith, stands.1, length-append others later),
+  (
+    stands.2.0,
+    stands.2.1,
+    subst (λ (l : List JournalRecord). zips stands.2.0 l) (append_assoc rs others (take stands.0 later) ∙ ap (λ (l : List JournalRecord). rs ++ l) (sym (take_behind stands.0 others later))) stands.2.2,
+  ),
+)
 
 pub holds_records : (v : View) (j : Journal) (bodies : State) (s : Recorded) (files : Files) → gates.Holds v j.gated bodies files → AreBodiesOf bodies s → HoldsRecords v j s files
 holds_records v j bodies s files held are = record {

@@ -1,5 +1,4 @@
-use Rattle.std.proofs.Common.{rules, ◌≡◌, ◌≤◌, ℕ, nat_eq, Bool, true, false, IsTrue, List, Option, Some, None, IfSome, IsErrOf, refl, ◌∙◌, sym, subst, arith}
-use Rattle.disk_defs.specs.Disk.{Reads}
+use Rattle.std.proofs.Common.{rules, ◌≡◌, ℕ, nat_eq, Bool, false, IsTrue, List, Option, Some, None, IfSome, IsErrOf, refl, ◌∙◌, sym, subst, arith}
 use Rattle.disk_defs.specs.Gates.{Body, records}
 use Rattle.disk_defs.proofs.Told.{weaker_told}
 use Rattle.disk_defs.proofs.Frames.{reads_more}
@@ -35,7 +34,7 @@ returns-in_err-record-clause-wrong g c offset is =
     let failed : IsErrOf c.read_record.result (NotARecord offset) = search (rules, is) in
     let here : offset ≡ at = c.read_record.ensures.only_here offset failed in
     let none = told_same o (view c.loop-record.disk).content c.args.gated.now c.loop-record.gated (λ bytes. IsNoRecord bytes at) inv.reads.content inv.same
-        (c.read_record.ensures.outside (subst (λ (k : ℕ). IsErrOf c.read_record.result (NotARecord k)) here failed)) in
+    (c.read_record.ensures.outside (subst (λ (k : ℕ). IsErrOf c.read_record.result (NotARecord k)) here failed)) in
     subst (λ (k : ℕ). IfSome o (λ files. HasWrongRecord c.args.region c.args.generation (files file) k)) (sym here)
     (told_none o file c.args.region c.args.generation at inv.walked none)
 
@@ -49,7 +48,7 @@ returns-then-not-may_stand-clause-wrong g c offset is =
     let x : JnlRecord = c.in-Some.record in
     let here : offset ≡ at = search (rules, is) in
     let found = told_same o (view c.loop-record.disk).content c.args.gated.now c.loop-record.gated (λ bytes. FindsRecord bytes at (Some (x, c.in-Some.next))) inv.reads.content inv.same
-        (subst (λ (f : Option (JnlRecord × ℕ)). IfSome (view c.loop-record.disk).content (λ files. FindsRecord (files c.loop-record.gated.file) at f)) c.in-Some.is c.in_ok-record.ensures.found) in
+    (subst (λ (f : Option (JnlRecord × ℕ)). IfSome (view c.loop-record.disk).content (λ files. FindsRecord (files c.loop-record.gated.file) at f)) c.in-Some.is c.in_ok-record.ensures.found) in
     let refused : MayStand (nat_eq at 0) c.args.region c.args.generation (record_value x) → ⊥ = λ may. untrue c.may_stand.result c.if-not-may_stand.true (c.may_stand.ensures.1 may) in
     subst (λ (k : ℕ). IfSome o (λ files. HasWrongRecord c.args.region c.args.generation (files file) k)) (sym here)
     (told_wrong o file c.args.region c.args.generation at c.in-Some.next x inv.walked found refused)
@@ -63,7 +62,7 @@ loop-record-preserved g c =
     let at = c.loop-record.at in
     let x : JnlRecord = c.in-Some.record in
     let found = told_same v.content (view c.loop-record.disk).content c.args.gated.now c.loop-record.gated (λ bytes. FindsRecord bytes at (Some (x, c.in-Some.next))) inv.reads.content inv.same
-        (subst (λ (f : Option (JnlRecord × ℕ)). IfSome (view c.loop-record.disk).content (λ files. FindsRecord (files c.loop-record.gated.file) at f)) c.in-Some.is c.in_ok-record.ensures.found) in
+    (subst (λ (f : Option (JnlRecord × ℕ)). IfSome (view c.loop-record.disk).content (λ files. FindsRecord (files c.loop-record.gated.file) at f)) c.in-Some.is c.in_ok-record.ensures.found) in
     let may : MayStand (nat_eq at 0) c.args.region c.args.generation (record_value x) = c.may_stand.ensures.0 c.if-not-may_stand.false in
     record {
       walked = told_next v.content file c.args.region c.args.generation at c.in-Some.next x inv.walked found may;
@@ -81,5 +80,5 @@ returns-clause-whole g c =
     let at = c.loop-record.at in
     let none : c.in_ok-record.field-0 ≡ None = search rules in
     let found = told_same o (view c.loop-record.disk).content c.args.gated.now c.loop-record.gated (λ bytes. FindsRecord bytes at None) inv.reads.content inv.same
-        (subst (λ (f : Option (JnlRecord × ℕ)). IfSome (view c.loop-record.disk).content (λ files. FindsRecord (files c.loop-record.gated.file) at f)) none c.in_ok-record.ensures.found) in
+    (subst (λ (f : Option (JnlRecord × ℕ)). IfSome (view c.loop-record.disk).content (λ files. FindsRecord (files c.loop-record.gated.file) at f)) none c.in_ok-record.ensures.found) in
     told_end o file c.args.region c.args.generation at inv.walked found

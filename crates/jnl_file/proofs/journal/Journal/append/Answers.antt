@@ -1,4 +1,4 @@
-use Rattle.std.proofs.Common.{◌≡◌, ℕ, List, ◌∙◌, sym, subst}
+use Rattle.std.proofs.Common.{ℕ, List, ◌∙◌, sym, subst}
 use Rattle.disk_defs.specs.Frames.{Only}
 use Rattle.journal_defs.specs.Journal.{IsJournalBody}
 use Rattle.gated_file.specs.State as bodies
@@ -35,6 +35,9 @@ returns-clause-ready g c =
     let k : Journal = record { gated = c.append_body.new.self; region = j.region; generation = j.generation; body = j.body } in
     let body : IsJournalBody c.as_slice.result.now r = subst (λ (l : List ℕ). IsJournalBody l r) (sym c.as_slice.ensures) prepared.spelled in
     ready_step (view c.args.disk.now) (view c.append_body.new.disk) j k (Only j.gated.file) c.append_body.ensures.frame (c.append_body.ensures.file ∙ c.requires.ready.file) c.in_ok-append_body.ensures.ready
-    (λ s has. (appended s r, step (view c.args.disk.now) (view c.append_body.new.disk) j k s (appended s r)
-    (λ b. bodies.appended b c.as_slice.result.now) c.in_ok-append_body.ensures.appended (λ b are. bodies_appended b s c.as_slice.result.now r are body) has))
+    (λ s has. (
+      appended s r,
+      step (view c.args.disk.now) (view c.append_body.new.disk) j k s (appended s r)
+          (λ b. bodies.appended b c.as_slice.result.now) c.in_ok-append_body.ensures.appended (λ b are. bodies_appended b s c.as_slice.result.now r are body) has,
+    ))
     c.requires.ready

@@ -1,12 +1,9 @@
-use Rattle.std.proofs.Common.{◌≡◌, ℕ, [], ◌∷◌, IfSome, ◌∙◌, subst}
-use Rattle.disk_defs.specs.Disk.{View}
-use Rattle.disk_defs.specs.Frames.{Only, OthersStay}
+use Rattle.std.proofs.Common.{[], ◌∷◌, ◌∙◌}
 use Rattle.disk_defs.proofs.Told.{weaker_told}
 use Rattle.gated_file.proofs.Open.{others_next}
 use Rattle.journal_defs.specs.Numbers.{journal_file}
-use Rattle.journal_defs.specs.Journal.{JournalRecord}
-use Rattle.jnl_file.specs.Records.{settled, appended, hardened}
-use Rattle.jnl_file.specs.Journal.{HasRecords, IsPrepared}
+use Rattle.jnl_file.specs.Records.{settled, appended}
+use Rattle.jnl_file.specs.Journal.{HasRecords}
 use Rattle.jnl_file.specs.Begin.{pini}
 use Rattle.jnl_file.specs.declared.journal.Journal.{Journal}
 use Rattle.jnl_file.proofs.Making.{pini_prepared, pini_appended, pini_hardened, pini_named}
@@ -33,7 +30,7 @@ returns-in_err-append-clause-any_moment g c =
     let place = c.in_ok-journal.ensures.place in
     let one = pini_prepared u (view c.empty.new.disk) (view c.prepare_pini.new.disk) file first (g.met.D.Disk.lawful c.empty.new.disk) c.empty.ensures.any_moment c.prepare_pini.ensures.any_moment in
     let none = weaker_told u.content (λ files. HasRecords (view c.empty.new.disk) j (settled [])) (λ files. HasRecords (view c.prepare_pini.new.disk) c.prepare_pini.new.self (settled [])) c.in_ok-journal.ensures.state
-        (λ files has. c.prepare_pini.ensures.state (settled []) has) in
+    (λ files has. c.prepare_pini.ensures.state (settled []) has) in
     let two = pini_appended u (view c.prepare_pini.new.disk) (view c.append.new.disk) c.prepare_pini.new.self file first (g.met.D.Disk.lawful c.prepare_pini.new.disk) (c.prepare_pini.ensures.place.file ∙ place.file) one none c.append.ensures.any_moment in
     two
 
@@ -47,11 +44,11 @@ returns-in_err-harden-clause-any_moment g c =
     let place = c.in_ok-journal.ensures.place in
     let one = pini_prepared u (view c.empty.new.disk) (view c.prepare_pini.new.disk) file first (g.met.D.Disk.lawful c.empty.new.disk) c.empty.ensures.any_moment c.prepare_pini.ensures.any_moment in
     let none = weaker_told u.content (λ files. HasRecords (view c.empty.new.disk) j (settled [])) (λ files. HasRecords (view c.prepare_pini.new.disk) c.prepare_pini.new.self (settled [])) c.in_ok-journal.ensures.state
-        (λ files has. c.prepare_pini.ensures.state (settled []) has) in
+    (λ files has. c.prepare_pini.ensures.state (settled []) has) in
     let two = pini_appended u (view c.prepare_pini.new.disk) (view c.append.new.disk) c.prepare_pini.new.self file first (g.met.D.Disk.lawful c.prepare_pini.new.disk) (c.prepare_pini.ensures.place.file ∙ place.file) one none c.append.ensures.any_moment in
     let prepared = pini_named j c.prepare_pini.new.self c.args.region c.args.generation c.args.previous c.args.before place.region place.generation c.in_ok-prepare_pini.ensures.prepared in
     let some = weaker_told u.content (λ files. HasRecords (view c.prepare_pini.new.disk) c.prepare_pini.new.self (settled [])) (λ files. HasRecords (view c.append.new.disk) c.append.new.self (appended (settled []) first)) none
-        (λ files has. c.in_ok-append.ensures.state first (settled []) prepared has) in
+    (λ files has. c.in_ok-append.ensures.state first (settled []) prepared has) in
     let three = pini_hardened u (view c.append.new.disk) (view c.harden.new.disk) c.append.new.self file first (g.met.D.Disk.lawful c.append.new.disk) (c.append.ensures.place.file ∙ c.prepare_pini.ensures.place.file ∙ place.file) two some c.harden.ensures.any_moment in
     three
 
@@ -65,11 +62,11 @@ returns-clause-any_moment g c =
     let place = c.in_ok-journal.ensures.place in
     let one = pini_prepared u (view c.empty.new.disk) (view c.prepare_pini.new.disk) file first (g.met.D.Disk.lawful c.empty.new.disk) c.empty.ensures.any_moment c.prepare_pini.ensures.any_moment in
     let none = weaker_told u.content (λ files. HasRecords (view c.empty.new.disk) j (settled [])) (λ files. HasRecords (view c.prepare_pini.new.disk) c.prepare_pini.new.self (settled [])) c.in_ok-journal.ensures.state
-        (λ files has. c.prepare_pini.ensures.state (settled []) has) in
+    (λ files has. c.prepare_pini.ensures.state (settled []) has) in
     let two = pini_appended u (view c.prepare_pini.new.disk) (view c.append.new.disk) c.prepare_pini.new.self file first (g.met.D.Disk.lawful c.prepare_pini.new.disk) (c.prepare_pini.ensures.place.file ∙ place.file) one none c.append.ensures.any_moment in
     let prepared = pini_named j c.prepare_pini.new.self c.args.region c.args.generation c.args.previous c.args.before place.region place.generation c.in_ok-prepare_pini.ensures.prepared in
     let some = weaker_told u.content (λ files. HasRecords (view c.prepare_pini.new.disk) c.prepare_pini.new.self (settled [])) (λ files. HasRecords (view c.append.new.disk) c.append.new.self (appended (settled []) first)) none
-        (λ files has. c.in_ok-append.ensures.state first (settled []) prepared has) in
+    (λ files has. c.in_ok-append.ensures.state first (settled []) prepared has) in
     let three = pini_hardened u (view c.append.new.disk) (view c.harden.new.disk) c.append.new.self file first (g.met.D.Disk.lawful c.append.new.disk) (c.append.ensures.place.file ∙ c.prepare_pini.ensures.place.file ∙ place.file) two some c.harden.ensures.any_moment in
     three
 
@@ -81,10 +78,10 @@ returns-clause-state g c =
     let j : Journal = c.in_ok-journal.journal in
     let place = c.in_ok-journal.ensures.place in
     let none = weaker_told u.content (λ files. HasRecords (view c.empty.new.disk) j (settled [])) (λ files. HasRecords (view c.prepare_pini.new.disk) c.prepare_pini.new.self (settled [])) c.in_ok-journal.ensures.state
-        (λ files has. c.prepare_pini.ensures.state (settled []) has) in
+    (λ files has. c.prepare_pini.ensures.state (settled []) has) in
     let prepared = pini_named j c.prepare_pini.new.self c.args.region c.args.generation c.args.previous c.args.before place.region place.generation c.in_ok-prepare_pini.ensures.prepared in
     let some = weaker_told u.content (λ files. HasRecords (view c.prepare_pini.new.disk) c.prepare_pini.new.self (settled [])) (λ files. HasRecords (view c.append.new.disk) c.append.new.self (appended (settled []) first)) none
-        (λ files has. c.in_ok-append.ensures.state first (settled []) prepared has) in
+    (λ files has. c.in_ok-append.ensures.state first (settled []) prepared has) in
     weaker_told u.content (λ files. HasRecords (view c.append.new.disk) c.append.new.self (appended (settled []) first)) (λ files. HasRecords (view c.harden.new.disk) c.harden.new.self (settled (first ∷ []))) some
     (λ files has. c.in_ok-harden.ensures.state (appended (settled []) first) has)
 

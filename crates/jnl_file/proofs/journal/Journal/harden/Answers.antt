@@ -34,7 +34,7 @@ returns-in_err-sync-2-clause-any_moment g c s has =
     let two = c.in_ok-open_gates.ensures.opened (bodies.synced b.bodies) one in
     let first = synced_moments v (view c.sync.new.disk) file b.bodies s b.are (c.sync.ensures.any_moment b.bodies b.has) in
     let second = hardening_moments v (view c.sync.new.disk) (view c.open_gates.new.disk) file c.sync.new.self.file b.bodies s b.are (g.met.D.Disk.lawful c.sync.new.disk) c.sync.ensures.file first
-        (c.open_gates.ensures.any_moment (bodies.synced b.bodies) one) in
+    (c.open_gates.ensures.any_moment (bodies.synced b.bodies) one) in
     hardening_moments v (view c.open_gates.new.disk) (view c.sync-2.new.disk) file c.open_gates.new.self.file b.bodies s b.are (g.met.D.Disk.lawful c.open_gates.new.disk) (c.open_gates.ensures.file ∙ c.sync.ensures.file) second
     (c.sync-2.ensures.any_moment (bodies.opened_all (bodies.synced b.bodies)) two)
 
@@ -48,7 +48,7 @@ returns-clause-any_moment g c s has =
     let two = c.in_ok-open_gates.ensures.opened (bodies.synced b.bodies) one in
     let first = synced_moments v (view c.sync.new.disk) file b.bodies s b.are (c.sync.ensures.any_moment b.bodies b.has) in
     let second = hardening_moments v (view c.sync.new.disk) (view c.open_gates.new.disk) file c.sync.new.self.file b.bodies s b.are (g.met.D.Disk.lawful c.sync.new.disk) c.sync.ensures.file first
-        (c.open_gates.ensures.any_moment (bodies.synced b.bodies) one) in
+    (c.open_gates.ensures.any_moment (bodies.synced b.bodies) one) in
     hardening_moments v (view c.open_gates.new.disk) (view c.sync-2.new.disk) file c.open_gates.new.self.file b.bodies s b.are (g.met.D.Disk.lawful c.open_gates.new.disk) (c.open_gates.ensures.file ∙ c.sync.ensures.file) second
     (c.sync-2.ensures.any_moment (bodies.opened_all (bodies.synced b.bodies)) two)
 
@@ -71,7 +71,10 @@ returns-clause-ready g c =
     let two = others_next v (view c.sync.new.disk) (view c.open_gates.new.disk) j.gated.file c.sync.new.self.file c.sync.ensures.file c.sync.ensures.frame c.open_gates.ensures.frame in
     let all = others_next v (view c.open_gates.new.disk) w j.gated.file c.open_gates.new.self.file (c.open_gates.ensures.file ∙ c.sync.ensures.file) two c.sync-2.ensures.frame in
     ready_step v w j k (Only j.gated.file) all (c.sync-2.ensures.file ∙ c.open_gates.ensures.file ∙ c.sync.ensures.file ∙ c.requires.ready.file) c.in_ok-sync-2.ensures.ready
-    (λ s has. (hardened s, step v w j k s (hardened s) (λ b. bodies.synced (bodies.opened_all (bodies.synced b)))
-    (λ b one. c.in_ok-sync-2.ensures.synced (bodies.opened_all (bodies.synced b)) (c.in_ok-open_gates.ensures.opened (bodies.synced b) (c.in_ok-sync.ensures.synced b one)))
-    (λ b are. bodies_hardened b s are) has))
+    (λ s has. (
+      hardened s,
+      step v w j k s (hardened s) (λ b. bodies.synced (bodies.opened_all (bodies.synced b)))
+          (λ b one. c.in_ok-sync-2.ensures.synced (bodies.opened_all (bodies.synced b)) (c.in_ok-open_gates.ensures.opened (bodies.synced b) (c.in_ok-sync.ensures.synced b one)))
+          (λ b are. bodies_hardened b s are) has,
+    ))
     c.requires.ready
