@@ -1,4 +1,5 @@
 pub mod Zips
 pub mod Steps
+pub mod Others
 pub mod Walk
 pub mod Making

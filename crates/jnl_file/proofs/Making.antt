@@ -2,7 +2,7 @@
 use Rattle.std.proofs.Common.{◌≡◌, inl, inr, ℕ, Bool, List, [], ◌∷◌, ◌++◌, Option, Some, None, IfSome, IsSomeAnd, sym, ◌∙◌, ap, subst, append-nil}
 use Rattle.std.specs.List.{AllZip}
 use Rattle.disk_defs.specs.Disk.{Files, View, Image, IsLawful, AtEachMoment, ReadsAfter, Reads}
-use Rattle.disk_defs.specs.Frames.{Only, OnlyOn, SameOutside, OthersStay}
+use Rattle.disk_defs.specs.Frames.{OnlyOn, SameOutside, OthersStay}
 use Rattle.disk_defs.specs.Gates.{Body, records}
 use Rattle.disk_defs.proofs.Told.{with_told, weaker_told, both_weak, both_told}
 use Rattle.disk_defs.proofs.Moments.{weaker, then_more, holds_now, nothing_new}

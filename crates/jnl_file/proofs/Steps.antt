@@ -1,11 +1,10 @@
 -- A journal's records go on with its bodies.
-use Rattle.std.proofs.Common.{◌≡◌, ◌≤◌, ℕ, suc, ◌+◌, List, [], ◌∷◌, ◌++◌, length, take, Option, Some, None, IfSome, IsSomeAnd, refl, sym, ◌∙◌, ap, subst, arith, append_assoc, length-append}
+use Rattle.std.proofs.Common.{◌≡◌, ℕ, suc, ◌+◌, List, [], ◌∷◌, ◌++◌, length, take, Option, Some, None, IfSome, IsSomeAnd, sym, ◌∙◌, ap, subst, arith, append_assoc, length-append}
 use Rattle.std.proofs.lemmas.List.{take-append-le}
 use Rattle.std.specs.List.{AllZip}
-use Rattle.disk_defs.specs.Disk.{Files, View, Image, IsLawful, AtEachMoment, ReadsAfter}
+use Rattle.disk_defs.specs.Disk.{Files, View, IsLawful, AtEachMoment, ReadsAfter}
 use Rattle.disk_defs.specs.Frames.{Only, OnlyOn, SameOutside, OthersStay}
 use Rattle.disk_defs.specs.Gates.{Body, Stands}
-use Rattle.disk_defs.proofs.Told.{with_told, weaker_told, reads_after}
 use Rattle.disk_defs.proofs.Moments.{only_then, only_weaker}
 use Rattle.gated_file.specs.State as bodies
 use Rattle.gated_file.specs.State.{State}

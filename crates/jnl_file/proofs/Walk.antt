@@ -12,11 +12,12 @@ use Rattle.gated_file.specs.declared.gated.Gated.{Gated}
 use Rattle.gated_file.proofs.Pieces.{spelled_push}
 use Rattle.journal_defs.specs.Journal.{JournalRecord, Pini, Epoch, Pblk, Tcom, IsJournalBody, IsNoPini, BeginsWithPini}
 use Rattle.journal_defs.specs.FileGrowth.{MayFollow}
+use Rattle.journal_defs.specs.Stands.{Holds}
 use Rattle.journal_laws.proofs.Readings.{journal_body}
 use Rattle.jnl_record.specs.Values.{record_value}
 use Rattle.jnl_record.specs.declared.record.JnlRecord.{JnlRecord}
-use Rattle.jnl_file.specs.Reading.{FindsRecord, IsNoRecord, IsPiniOf, MayStand, IsJournalFile, HasWrongRecord}
-use Rattle.jnl_file.proofs.Zips.{zip_append, zip_split}
+use Rattle.jnl_file.specs.Reading.{FindsRecord, IsNoRecord, HoldsFrom, IsPiniOf, MayStand, IsJournalFile, HasWrongRecord}
+use Rattle.jnl_file.proofs.Zips.{Split, zip_append, zip_split}
 
 -- Up to this place stand records of a journal of this region and generation.
 pub record Walked (region generation : ℕ) (file : List ℕ) (at : ℕ) : Type 0 where
@@ -180,14 +181,19 @@ follow_split (b ∷ bs) (y ∷ ys) (Epoch m ∷ ls) x right region generation pr
 follow_split (b ∷ bs) (y ∷ ys) (Pblk i ∷ ls) x right region generation previous zip other begins = absurd begins
 follow_split (b ∷ bs) (y ∷ ys) (Tcom p ∷ ls) x right region generation previous zip other begins = absurd begins
 
+split_is_none : (region generation : ℕ) (file : List ℕ) (offset : ℕ) (wrong : HasWrongRecord region generation file offset) (rs : List JournalRecord) (previous : ℕ) → BeginsWithPini region generation previous rs
+    → Split IsJournalBody wrong.before wrong.after wrong.body rs → ⊥
+split_is_none region generation file offset wrong rs previous begins s =
+    wrong.wrong s.here previous s.here_is
+    (follow_split wrong.before wrong.earlier s.left s.here s.right region generation previous wrong.spelled_before s.left_zip
+    (subst (λ (l : List JournalRecord). BeginsWithPini region generation previous l) s.is begins))
+
 pub wrong_is_none : (region generation : ℕ) (file : List ℕ) (offset : ℕ) → HasWrongRecord region generation file offset → (rs : List JournalRecord) → IsJournalFile region generation file rs → ⊥
 wrong_is_none region generation file offset wrong rs is =
     let same : Some is.held.0 ≡ Some (wrong.before ++ wrong.body ∷ wrong.after) = sym is.held.1 ∙ wrong.list in
     let bodies_are : is.held.0 ≡ wrong.before ++ wrong.body ∷ wrong.after = cc same in
-    let s = zip_split IsJournalBody wrong.before wrong.after wrong.body rs (subst (λ (l : List Body). AllZip IsJournalBody l rs) bodies_are is.held.2) in
-    wrong.wrong s.here is.previous s.here_is
-    (follow_split wrong.before wrong.earlier s.left s.here s.right region generation is.previous wrong.spelled_before s.left_zip
-    (subst (λ (l : List JournalRecord). BeginsWithPini region generation is.previous l) s.is is.begins))
+    split_is_none region generation file offset wrong rs is.previous is.begins
+    (zip_split IsJournalBody wrong.before wrong.after wrong.body rs (subst (λ (l : List Body). AllZip IsJournalBody l rs) bodies_are is.held.2))
 
 -- a file that stands for the same records
 pub wrong_as : (region generation : ℕ) (old new : List ℕ) (offset : ℕ) → records old ≡ records new → HasWrongRecord region generation new offset → HasWrongRecord region generation old offset
@@ -232,3 +238,43 @@ told_end o file region generation at walked shut =
 -- the same of a Gated and a disk that are as they were
 pub told_same : (o n : Option Files) (g h : Gated) (P : List ℕ → Type 0) → n ≡ o → h ≡ g → IfSome n (λ files. P (files h.file)) → IfSome o (λ files. P (files g.file))
 told_same o n g h P content same told = told_at o n (λ files. P (files g.file)) content (subst (λ (x : Gated). IfSome n (λ files. P (files x.file))) same told)
+
+-- reading on gives the records
+pub from_start : (file : List ℕ) (rs : List JournalRecord) → Holds IsJournalBody file rs → HoldsFrom file 0 rs
+from_start file rs held = held
+
+head_is : (body : Body) (bodies : List Body) (r : JournalRecord) (rs : List JournalRecord) → IsJournalBody body r → AllZip IsJournalBody (body ∷ bodies) rs → (more : List JournalRecord) × (rs ≡ r ∷ more) × AllZip IsJournalBody bodies more
+head_is body bodies r [] is zip = absurd zip
+head_is body bodies r (x ∷ rs) is zip = (rs, ap (λ (y : JournalRecord). y ∷ rs) (journal_body body x r zip.0 is), zip.1)
+
+pub from_next : (file : List ℕ) (at place : ℕ) (r : JnlRecord) (rs : List JournalRecord) → FindsRecord file at (Some (r, place)) → HoldsFrom file at rs → (more : List JournalRecord) × (rs ≡ record_value r ∷ more) × HoldsFrom file place more
+from_next file at place r rs found held =
+    let b = begun found.0 (bodies_at file place) held.0 (sym (at_open file at found.0 place found.1) ∙ held.1) in
+    let head = head_is found.0 b.more (record_value r) rs found.3 (subst (λ (l : List Body). AllZip IsJournalBody l rs) b.is held.2) in
+    (head.0, head.1, (b.more, b.rest, head.2))
+
+none_left : (bodies : List Body) (rs : List JournalRecord) → bodies ≡ [] → AllZip IsJournalBody bodies rs → rs ≡ []
+none_left bodies [] is zip = refl
+none_left [] (r ∷ rs) is zip = absurd zip
+none_left (b ∷ bodies) (r ∷ rs) is zip = absurd (cc is)
+
+pub from_last : (file : List ℕ) (at : ℕ) (rs : List JournalRecord) → FindsRecord file at None → HoldsFrom file at rs → rs ≡ []
+from_last file at rs shut held =
+    let same : Some held.0 ≡ Some [] = sym held.1 ∙ at_shut file at shut in
+    let none : held.0 ≡ [] = cc same in
+    none_left held.0 rs none held.2
+
+pub from_inside : (file : List ℕ) (at : ℕ) (rs : List JournalRecord) → IsNoRecord file at → HoldsFrom file at rs → ⊥
+from_inside file at rs none held = elim none [
+  | inl no_gate ↦ no_list (sym held.1 ∙ at_none file at no_gate)
+  | inr found ↦
+      let b = begun found.0 (bodies_at file found.1) held.0 (sym (at_open file at found.0 found.1 found.2) ∙ held.1) in
+      first_body found.0 b.more rs found.3 (subst (λ (l : List Body). AllZip IsJournalBody l rs) b.is held.2)
+]
+  where
+    no_list : Some held.0 ≡ None → ⊥
+    no_list is = cc is
+
+    first_body : (body : Body) (bodies : List Body) (rs : List JournalRecord) → ((r : JournalRecord) → IsJournalBody body r → ⊥) → AllZip IsJournalBody (body ∷ bodies) rs → ⊥
+    first_body body bodies [] never zip = absurd zip
+    first_body body bodies (r ∷ rs) never zip = never r zip.0

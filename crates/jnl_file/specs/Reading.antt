@@ -1,7 +1,7 @@
 -- Reading a journal from a place on.
 use Rattle.std.specs.Prelude.{◌≡◌, ◌⊎◌, ℕ, ◌+◌, Bool, true, false, List, [], ◌∷◌, ◌++◌, length, drop, Option, Some, None}
 use Rattle.std.specs.List.{AllZip}
-use Rattle.disk_defs.specs.Gates.{Body, Open, Shut, NoGate, gate_at, records, spelled}
+use Rattle.disk_defs.specs.Gates.{Body, Open, Shut, NoGate, gate_at, bodies_at, records, spelled}
 use Rattle.journal_defs.specs.Journal.{JournalRecord, Pini, Epoch, Pblk, Tcom, IsJournalBody, IsNoPini, BeginsWithPini}
 use Rattle.journal_defs.specs.FileGrowth.{MayFollow}
 use Rattle.journal_defs.specs.Stands.{Holds}
@@ -13,6 +13,10 @@ use Rattle.jnl_record.specs.declared.record.JnlRecord.{JnlRecord}
 abbrev pub FindsRecord : List ℕ → ℕ → Option (JnlRecord × ℕ) → Type 0
 FindsRecord file at None = gate_at file at ≡ Shut
 FindsRecord file at (Some found) = (body : Body) × (gate_at file at ≡ Open body (drop found.1 file)) × (found.1 ≡ at + 5 + length body) × IsJournalBody body (record_value found.0)
+
+-- From this place on the file has these records, up to its first closed gate.
+abbrev pub HoldsFrom : List ℕ → ℕ → List JournalRecord → Type 0
+HoldsFrom file at rs = (bodies : List Body) × (bodies_at file at ≡ Some bodies) × AllZip IsJournalBody bodies rs
 
 -- no gate of the format, or an open gate with a body of no record
 abbrev pub IsNoRecord : List ℕ → ℕ → Type 0

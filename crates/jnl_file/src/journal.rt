@@ -235,8 +235,7 @@ impl Journal {
     {
         self.gated.sync(disk)?;
         self.gated.open_gates(disk)?;
-        self.gated.sync(disk)?;
-        Ok(())
+        Ok(self.gated.sync(disk)?)
     }
 
     /// Reads on: the record behind the gate at a place and the next gate's place, or `None` at a closed gate and in a file

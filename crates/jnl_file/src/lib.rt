@@ -7,6 +7,7 @@
 
 mod error;
 mod journal;
+pub mod laws;
 mod reading;
 #[cfg(test)]
 mod tests;

@@ -1,1 +1,127 @@
-//! Journals.
+//! Worked bytes of a journal, and crashes of one.
+ghost use Rattle.std.specs.Prelude.{◌≡◌, ◌≤◌, ◌<◌, ◌^◌, [], Some, IfSome, IfOk, OnOk};
+ghost use Rattle.disk_defs.specs.Gates.{records};
+ghost use Rattle.jnl_file.specs.Journal.{IsReady};
+
+use super::{Journal, JournalError, journal_file};
+use jnl_record::JnlRecord;
+use repl_disk::{Disk, MemDisk};
+use std::alloc::Global;
+use std::test::Fail;
+
+/// A journal of region 0 and generation 1, BEFORE, none before it: PINI behind its gate, and the closed gate.
+const FILE: [u8; 18] = [1, 0, 0, 0, 12, 1, 1, 0, 1, 0, 0, 0, 1, 0, 0, 0, 0, 0];
+
+/// So many calls of a disk make a journal, and so many make it and append three epochs.
+const MAKING: u64 = 8;
+
+const ALL: u64 = 16;
+
+/// The journal of region 0 and generation 1, new.
+fn make<D: Disk>(alloc: Global, disk: &mut D) -> Result<Journal, JournalError>
+    requires { IfSome (D.disk disk.old).content (λ files. records (files 24) ≡ Some []) }
+    ensures { IfOk result (λ made. IsReady (D.disk disk.new) made) }
+{
+    Journal::create(alloc, disk, 0, true, 1, 0)
+}
+
+/// Appends an epoch of so many entries.
+fn append_epoch<D: Disk>(
+    journal: &mut Journal,
+    disk: &mut D,
+    number: u64,
+) -> Result<(), JournalError>
+    requires ready { IsReady (D.disk disk.old) journal.old }
+    requires number { number < 2 ^ 40 }
+    ensures ready { OnOk result (IsReady (D.disk disk.new) journal.new) }
+    ensures syncs { OnOk result (2 ≤ journal.new.gated.syncs_left) }
+{
+    let epoch = JnlRecord::Epoch {
+        closing: false,
+        number,
+        blocks: 1,
+    };
+    journal.prepare(disk, &epoch)?;
+    journal.append(disk)
+}
+
+/// Makes the journal and appends three epochs under one hardening. So many calls succeed.
+fn write_epochs<D: Disk>(alloc: Global, disk: &mut D, calls: u64) -> Result<(), JournalError>
+    requires { IfSome (D.disk disk.old).content (λ files. records (files 24) ≡ Some []) }
+{
+    disk.fuse(calls);
+    let mut journal = make(alloc, disk)?;
+    append_epoch(&mut journal, disk, 1)?;
+    append_epoch(&mut journal, disk, 2)?;
+    append_epoch(&mut journal, disk, 3)?;
+    journal.harden(disk)
+}
+
+/// Whether the journal's file has these bytes.
+fn has<D: Disk>(disk: &mut D, bytes: &[u8; 18]) -> Result<bool, Fail> {
+    let file = journal_file(0, 1);
+    if disk.len(file)? != 18 {
+        return Ok(false);
+    }
+    let mut buf = [0; 18];
+    disk.read_at(file, 0, &mut buf)?;
+    Ok(&buf == bytes)
+}
+
+/// Whether a record is PINI at place 0 of the list, and elsewhere the epoch that was appended there.
+fn is_at(record: &JnlRecord, place: u64) -> bool {
+    match record {
+        JnlRecord::Pini { .. } => place == 0,
+        JnlRecord::Epoch { number, .. } => *number == place,
+        _ => false,
+    }
+}
+
+/// How many records the journal has, or `None` where they aren't the first few of those that were written.
+fn count<D: Disk>(alloc: Global, disk: &mut D) -> Result<Option<u64>, JournalError> {
+    let mut journal = Journal::attach(alloc, disk, 0, 1)?;
+    let mut at = 0;
+    for place in 0..5 {
+        let Some((record, next)) = journal.next_record(disk, at)? else {
+            return Ok(Some(place));
+        };
+        if !is_at(&record, place) {
+            return Ok(None);
+        }
+        at = next;
+    }
+    Ok(None)
+}
+
+#[test]
+fn a_new_journal_as_it_stands(rt: HostRuntime) -> Result<(), Fail> {
+    let alloc = rt.alloc();
+    let mut disk = MemDisk::new(alloc)?;
+    let mut journal = make(alloc, &mut disk)?;
+    assert!(rt; has(&mut disk, &FILE)?);
+    let Some((record, next)) = journal.next_record(&mut disk, 0)? else {
+        return Err("no record")?;
+    };
+    assert!(rt; is_at(&record, 0));
+    assert_eq!(rt; next, 17);
+    assert!(rt; journal.next_record(&mut disk, next)?.is_none());
+    Ok(())
+}
+
+/// Whatever call fails and whatever image a crash takes, the journal has the hardened records and the first few of the rest.
+#[test]
+fn crashes_at_each_call(rt: HostRuntime) -> Result<(), Fail> {
+    let alloc = rt.alloc();
+    for pick in 0..3u64 {
+        for calls in 0..ALL + 1 {
+            let mut disk = MemDisk::new(alloc)?;
+            let done = write_epochs(alloc, &mut disk, calls).is_ok();
+            assert_eq!(rt; done, calls == ALL);
+            disk.crash(pick);
+            let left = count(alloc, &mut disk)?.ok_or("other records")?;
+            assert!(rt; done && left == 4 || !done && left <= 4);
+            assert!(rt; calls < MAKING || left >= 1, "pick {pick}, calls {calls}");
+        }
+    }
+    Ok(())
+}

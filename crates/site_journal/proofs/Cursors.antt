@@ -1,9 +1,9 @@
 -- Reading on from record to record.
-use Rattle.std.proofs.Common.{◌≡◌, ℕ, List, [], ◌∷◌, ◌⊎◌, inl, inr, Some, None, refl, sym, ◌∙◌, ap, subst}
+use Rattle.std.proofs.Common.{◌≡◌, ℕ, List, [], ◌∷◌, inl, inr, Some, None, refl, sym, ◌∙◌, ap, subst}
 use Rattle.std.specs.Prelude.{Option}
 use Rattle.std.specs.Option.{option_map}
 use Rattle.std.specs.List.{AllZip}
-use Rattle.disk_defs.specs.Gates.{Body, Shut, Open, NoGate, gate_at, bodies_at}
+use Rattle.disk_defs.specs.Gates.{Body, bodies_at}
 use Rattle.disk_defs.proofs.Walks.{at_shut, at_open, at_none}
 use Rattle.journal_defs.specs.Journal.{JournalRecord, IsJournalBody}
 use Rattle.journal_defs.specs.Stands.{Holds}

@@ -3,15 +3,13 @@ use Rattle.std.proofs.Common.{◌≡◌, ◌+◌, ℕ, List, [], ◌∷◌, ◌+
 use Rattle.std.specs.Prelude.{◌&&◌}
 use Rattle.std.specs.List.{AllByRecursion, enumerate_from, list_all}
 use Rattle.global_defs.specs.Entry.{Update, Item, Origin, Entry, Sequence, Stamp}
-use Rattle.global_defs.specs.Fields.{IsOrigin}
-use Rattle.journal_defs.specs.Journal.{JournalRecord, Tcom, Part, IsJournalBody, IsInForm, IsPart, IsNoPini, BeginsWithPini}
+use Rattle.journal_defs.specs.Journal.{JournalRecord, Tcom, Part, IsJournalBody, IsPart, IsNoPini, BeginsWithPini}
 use Rattle.world_defs.specs.World.{Name}
 use Rattle.world_defs.specs.Rows.{reign_of}
 use Rattle.world_defs.specs.Ties.{items_from, entry_record, entry_records, beginning}
 use Rattle.site_journal.specs.Reigns.{AreOfReign}
 use Rattle.site_journal.specs.Jobs.{has_set}
 use Rattle.site_journal.specs.Records.{HasUpdater}
-use Rattle.site_journal.specs.Cursor.{ReadsOn}
 
 first_item : (i j : Item) (is js : List Item) → (i ∷ is) ≡ (j ∷ js) → (i ≡ j) × (is ≡ js)
 first_item i j is js e = (cc e, cc e)

@@ -1,15 +1,14 @@
 -- One entry more.
-use Rattle.std.proofs.Common.{◌≡◌, ◌≢◌, ◌⊎◌, inl, inr, ◌≤◌, ◌<◌, ◌+◌, ℕ, zero, suc, Bool, true, false, List, [], ◌∷◌, ◌++◌, length, map, take, get_or, Some, None, refl, sym, ◌∙◌, ap, subst, arith, append-nil, append_assoc, length-append}
-use Rattle.std.specs.Prelude.{Option, IfSome, IsSomeAnd, IsSome, IsTrue, if◌then◌else◌, codes}
-use Rattle.std.specs.Fmt.{decimal}
-use Rattle.std.specs.List.{enumerate_from, AllZip}
+use Rattle.std.proofs.Common.{◌≡◌, ◌⊎◌, inl, inr, ◌≤◌, ◌+◌, ℕ, zero, suc, Bool, true, false, List, [], ◌∷◌, ◌++◌, length, map, take, get_or, Some, None, refl, sym, ◌∙◌, ap, subst, arith, append-nil, append_assoc}
+use Rattle.std.specs.Prelude.{Option, IsSomeAnd, IsSome, IsTrue, if◌then◌else◌, codes}
+use Rattle.std.specs.List.{enumerate_from}
 use Rattle.std.proofs.lemmas.List.{map-append}
 use Rattle.disk_defs.specs.Disk.{Files, View, Image, IsLawful, AtEachMoment}
 use Rattle.disk_defs.specs.Frames.{OnlyOn, Only, OthersStay}
 use Rattle.disk_defs.proofs.Moments.{holds_now}
-use Rattle.global_defs.specs.Entry.{Update, Set, Kill, ZKill, Entry, Sequence}
-use Rattle.global_defs.specs.Serial.{Replied, Seq}
-use Rattle.site_journal.specs.Jobs.{is_set, has_set}
+use Rattle.global_defs.specs.Entry.{Update, Entry, Sequence}
+use Rattle.global_defs.specs.Serial.{Seq}
+use Rattle.site_journal.specs.Jobs.{has_set}
 use Rattle.gvn_model.specs.declared.entry.Entry as code
 use Rattle.gvn_model.specs.Entries.{entry_value}
 use Rattle.journal_defs.specs.Numbers.{journal_file}

@@ -1,6 +1,6 @@
 -- Updates at their positions.
 use Rattle.std.proofs.Common.{◌≡◌, ◌≢◌, ◌<◌, ◌+◌, ℕ, zero, suc, List, [], ◌∷◌, ◌++◌, length, map, take, get_or, refl, sym, ◌∙◌, ap, arith}
-use Rattle.std.proofs.lemmas.List.{take_more, map-append, get_or-map, length-map, length-take-le}
+use Rattle.std.proofs.lemmas.List.{take_more, map-append, get_or-map, length-take-le}
 use Rattle.gvn_key.specs.Terms.{update_value}
 use Rattle.gvn_key.specs.declared.terms.Update as code
 use Rattle.gvn_model.specs.declared.items.Item as held
@@ -11,9 +11,9 @@ use Rattle.journal_defs.specs.Journal.{JournalRecord, Tcom, Part}
 use Rattle.jnl_record.specs.Values.{record_value}
 use Rattle.jnl_record.specs.declared.record.JnlRecord.{JnlRecord}
 use Rattle.jnl_record.specs.declared.record.JnlRecord.TheVariants as record_of
-use Rattle.site_journal.specs.Records.{record_with, HasUpdater}
+use Rattle.site_journal.specs.Records.{record_with}
 use Rattle.world_defs.specs.Ties.{entry_record}
-use Rattle.global_defs.specs.Entry.{Update, Item, Origin, Entry}
+use Rattle.global_defs.specs.Entry.{Update, Item, Entry}
 use Rattle.world_defs.specs.Ties.{items_from}
 
 pub items_more : (n : ℕ) (us : List Update) (u : Update) → items_from n (us ++ u ∷ []) ≡ items_from n us ++ record { position = n + length us; update = u } ∷ []

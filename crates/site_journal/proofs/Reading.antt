@@ -1,42 +1,39 @@
 -- Reading entries into memory.
-use Rattle.std.proofs.Common.{◌≡◌, ◌≢◌, ◌≤◌, ◌<◌, ◌+◌, ◌-◌, ◌⊎◌, inl, inr, ℕ, zero, suc, Bool, true, false, List, [], ◌∷◌, ◌++◌, length, map, max, set, get_or, replicate, Some, None, refl, sym, ◌∙◌, ap, subst, arith, append_assoc, append-nil}
-use Rattle.std.specs.Prelude.{Option, Result, IsErrOf, IfSome, IsSome, IsSomeAnd, IsTrue, fold}
-use Rattle.std.specs.List.{list_all, enumerate_from, AllByRecursion, AllZip}
+use Rattle.std.proofs.Common.{◌≡◌, ◌≢◌, ◌+◌, inl, ℕ, suc, true, List, [], ◌∷◌, ◌++◌, length, map, replicate, Some, None, refl, sym, ◌∙◌, ap, subst, arith, append_assoc, append-nil}
+use Rattle.std.specs.Prelude.{Option, Result, IsErrOf, IfSome, IsTrue}
+use Rattle.std.specs.List.{list_all, enumerate_from, AllZip}
 use Rattle.std.proofs.lemmas.List.{map-append}
 use Rattle.std.proofs.lemmas.List.Sums.{fold-append}
-use Rattle.disk_defs.specs.Disk.{Files, View, Image, Reads}
+use Rattle.disk_defs.specs.Disk.{Files, View, Reads}
 use Rattle.disk_defs.specs.Gates.{Body}
-use Rattle.disk_defs.proofs.Told.{weaker_told, both_weak, with_told}
+use Rattle.disk_defs.proofs.Told.{weaker_told, both_weak}
 use Rattle.global_defs.specs.Entry as defs
 use Rattle.global_defs.specs.Entry.{Sequence}
 use Rattle.gvn_model.specs.declared.entry.Entry.{Entry}
 use Rattle.gvn_model.specs.Entries.{entry_value}
-use Rattle.journal_defs.specs.Numbers.{journal_file}
 use Rattle.journal_defs.specs.Journal.{JournalRecord, IsJournalBody}
-use Rattle.journal_defs.specs.Stands.{Holds}
 use Rattle.jnl_record.specs.Values.{record_value}
 use Rattle.jnl_record.specs.declared.record.JnlRecord.{JnlRecord}
 use Rattle.jnl_file.specs.declared.journal.Journal.{Journal}
 use Rattle.jnl_file.specs.declared.error.JournalError.{JournalError}
 use Rattle.jnl_file.specs.declared.error.JournalError.TheVariants.{NotARecord}
-use Rattle.jnl_file.specs.Reading.{FindsRecord, IsNoRecord, IsJournalFile}
+use Rattle.jnl_file.specs.Reading.{FindsRecord, IsNoRecord}
 use Rattle.jnl_file.specs.Records.{settled}
 use Rattle.jnl_file.specs.Journal.{HasRecords, IsReady}
 use Rattle.jnl_file.proofs.Steps.{step, ready_step}
 use Rattle.jnl_file.proofs.Making.{ready_read}
 use Rattle.gated_file.proofs.Others.{state_stays}
-use Rattle.disk_defs.proofs.Frames.{others_read, reads_more}
-use Rattle.world_defs.specs.World.{Name, Contents}
-use Rattle.world_defs.specs.Rows.{reign_of, serials_past, serials_after}
-use Rattle.world_defs.specs.Ties.{Stands, beginning, entry_record, entry_records, records_of}
+use Rattle.disk_defs.proofs.Frames.{others_read}
+use Rattle.world_defs.specs.World.{Name}
+use Rattle.world_defs.specs.Rows.{serials_past, serials_after}
+use Rattle.world_defs.specs.Ties.{entry_record, entry_records}
 use Rattle.site_journal.specs.declared.reign.Reign.{Reign}
 use Rattle.site_journal.specs.Jobs.{has_set}
-use Rattle.site_journal.specs.Records.{HasUpdater, IsEntryOf, Records}
-use Rattle.site_journal.specs.Reigns.{tagged, Remembers, AreOfReign}
-use Rattle.site_journal.specs.Cursor.{ReadsOn, HasNext, HasRead, IsEntryAt, FindsEntry, IsEmptyReign, entries_of, IsTakenUp}
-use Rattle.site_journal.proofs.Cursors.{OneRecord, reads_start, one_holds, reads_next, reads_end, reads_no}
-use Rattle.site_journal.proofs.Entries.{enumerate_more, stamps_more, sets_more, records_more, has_updater, entries_one}
-use Rattle.site_journal.proofs.Taken.{IsTaken, reads_taken, contradicts, stands_journal}
+use Rattle.site_journal.specs.Records.{HasUpdater, IsEntryOf}
+use Rattle.site_journal.specs.Reigns.{tagged, AreOfReign}
+use Rattle.site_journal.specs.Cursor.{ReadsOn, HasNext, HasRead, IsEntryAt, FindsEntry, IsEmptyReign, entries_of}
+use Rattle.site_journal.proofs.Cursors.{OneRecord, reads_next, reads_end, reads_no}
+use Rattle.site_journal.proofs.Entries.{enumerate_more, stamps_more, sets_more, records_more, has_updater}
 
 -- the first of these records was read
 pub next_is : OneRecord → (o : Option Files) (file at : ℕ) (x : JnlRecord) (next : ℕ) (r : JournalRecord) → record_value x ≡ r → IfSome o (λ files. FindsRecord (files file) at (Some (x, next)))

@@ -1,7 +1,7 @@
 -- A reign that was taken up.
-use Rattle.std.proofs.Common.{◌≡◌, ◌≢◌, ◌≤◌, ℕ, Bool, true, false, List, [], ◌∷◌, ◌++◌, Some, None, refl, sym, ◌∙◌, ap, subst}
-use Rattle.std.specs.Prelude.{Option, IfSome, IsSome, IsSomeAnd, if◌then◌else◌}
-use Rattle.disk_defs.specs.Disk.{Files, View, Image, Reads}
+use Rattle.std.proofs.Common.{◌≡◌, ℕ, Bool, true, false, List, [], ◌∷◌, Some, None, refl, sym, ◌∙◌, ap, subst}
+use Rattle.std.specs.Prelude.{Option, IfSome, if◌then◌else◌}
+use Rattle.disk_defs.specs.Disk.{Files, View}
 use Rattle.disk_defs.proofs.Told.{weaker_told}
 use Rattle.global_defs.specs.Entry.{Sequence}
 use Rattle.journal_defs.specs.Numbers.{journal_file}
@@ -13,7 +13,6 @@ use Rattle.jnl_file.specs.Journal.{HasRecords}
 use Rattle.world_defs.specs.World.{Name, Contents}
 use Rattle.world_defs.specs.Ties.{Stands, beginning, entry_records, records_of}
 use Rattle.site_journal.specs.declared.reign.Reign.{Reign}
-use Rattle.site_journal.specs.Reigns.{AreOfReign}
 use Rattle.site_journal.specs.Cursor.{ReadsOn, HasNext, HasRead, entries_of, IsTakenUp}
 use Rattle.site_journal.proofs.Cursors.{OneRecord, one_holds}
 use Rattle.site_journal.proofs.Entries.{entries_one}

@@ -1,10 +1,9 @@
 -- A journal that was taken up, beside what the files stood for.
-use Rattle.std.proofs.Common.{◌≡◌, ◌≢◌, ℕ, Bool, true, false, List, [], ◌∷◌, ◌++◌, Some, None, refl, sym, ◌∙◌, ap, subst, append-nil}
+use Rattle.std.proofs.Common.{◌≡◌, ℕ, Bool, true, false, List, [], ◌∷◌, Some, None, refl, sym, ◌∙◌, subst, append-nil}
 use Rattle.std.specs.Prelude.{Option, IfSome, IsSomeAnd, IsSome, if◌then◌else◌, is_some}
-use Rattle.disk_defs.specs.Disk.{Files, View, Image, From, OnFile, IsLawful, AtEachMoment, ReadsAfter, Reads}
-use Rattle.disk_defs.specs.Frames.{Only, SameOutside, OthersStay}
-use Rattle.disk_defs.specs.Gates.{records}
-use Rattle.disk_defs.proofs.Told.{weaker_told, with_told, both_weak, told_at}
+use Rattle.disk_defs.specs.Disk.{Files, View, Image, IsLawful, AtEachMoment, ReadsAfter, Reads}
+use Rattle.disk_defs.specs.Frames.{SameOutside}
+use Rattle.disk_defs.proofs.Told.{weaker_told}
 use Rattle.disk_defs.proofs.Moments.{holds_now}
 use Rattle.gated_file.specs.Begin.{KeepsRecords}
 use Rattle.global_defs.specs.Entry.{Sequence}
@@ -18,7 +17,7 @@ use Rattle.jnl_file.specs.Reading.{IsJournalFile, FindsRecord, IsNoRecord}
 use Rattle.jnl_record.specs.declared.record.JnlRecord.{JnlRecord}
 use Rattle.world_defs.specs.World.{Name, Contents}
 use Rattle.world_defs.specs.Ties.{Stands, records_of, beginning, entry_records}
-use Rattle.site_journal.specs.Cursor.{ReadsOn, HasNext}
+use Rattle.site_journal.specs.Cursor.{ReadsOn}
 use Rattle.site_journal.proofs.Cursors.{OneRecord, reads_start, one_holds, reads_next, reads_end, reads_no}
 use Rattle.site_journal.proofs.Entries.{begins}
 

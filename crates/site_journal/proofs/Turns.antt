@@ -1,19 +1,19 @@
 -- What jobs that set one node each come to.
-use Rattle.std.proofs.Common.{◌≡◌, ℕ, suc, ◌+◌, ◌<◌, ◌≤◌, ◌⊎◌, inl, inr, Bool, true, false, cond, List, [], ◌∷◌, ◌++◌, length, map, take, refl, ap, sym, ◌∙◌, subst, arith, append_assoc, append-nil, nat_lt, if◌then◌else◌, length-append}
+use Rattle.std.proofs.Common.{◌≡◌, ℕ, ◌+◌, ◌≤◌, ◌⊎◌, inl, inr, Bool, true, false, cond, List, [], ◌∷◌, ◌++◌, length, map, take, refl, ap, sym, ◌∙◌, subst, arith, append_assoc, append-nil, nat_lt, if◌then◌else◌, length-append}
 use Rattle.std.specs.List.{list_all, flat_map}
-use Rattle.std.specs.Prelude.{fold, Option, Some, IsTrue, ◌&&◌}
+use Rattle.std.specs.Prelude.{fold, Some, IsTrue, ◌&&◌}
 use Rattle.std.specs.Cmp.{IsTotalOrder}
 use Rattle.std.specs.FinMap as globals
-use Rattle.std.proofs.lemmas.Bool.{le-ltb, lt-ltb, ltb-true, ltb-false}
+use Rattle.std.proofs.lemmas.Bool.{le-ltb, lt-ltb, ltb-false}
 use Rattle.std.proofs.lemmas.List.{map-append}
 use Rattle.std.proofs.lemmas.List.Concat.{flat_map-append}
 use Rattle.std.proofs.lemmas.List.Sums.{fold-append}
-use Rattle.disk_defs.specs.Disk.{View, Files, Image}
+use Rattle.disk_defs.specs.Disk.{View, Files}
 use Rattle.global_defs.specs.Key.{Key, key_cmp}
-use Rattle.global_defs.specs.Entry.{Update, Set, Kill, ZKill, Stamp, Entry, Sequence, Globals, apply, state}
+use Rattle.global_defs.specs.Entry.{Update, Set, Kill, ZKill, Entry, Sequence, Globals, apply, state}
 use Rattle.global_defs.specs.Jobs as jobs
-use Rattle.global_defs.specs.Evaluation.{Evaluated, Done, Progress, Goes, Stops, going, eval, MOST_NODES}
-use Rattle.global_defs.specs.Serial.{Turn, Replied, Reply, Seq, Read, RolledBack, entry_of, next_job, picked, decided, replied, serial, MOST_ENTRIES}
+use Rattle.global_defs.specs.Evaluation.{Done, Progress, Goes, Stops, going, eval}
+use Rattle.global_defs.specs.Serial.{Turn, Replied, Reply, Seq, Read, RolledBack, next_job, picked, decided, MOST_ENTRIES}
 use Rattle.world_defs.specs.World.{Name, Contents}
 use Rattle.world_defs.specs.Rows.{reign_of, with_sequence, IsFrontOf}
 use Rattle.world_defs.specs.Ties.{Stands}

@@ -1,5 +1,5 @@
 -- A journal without entries.
-use Rattle.std.specs.Prelude.{ℕ, [], ◌∷◌, IsSomeAnd}
+use Rattle.std.specs.Prelude.{[], ◌∷◌, IsSomeAnd}
 use Rattle.disk_defs.specs.Disk.{View, Files, Image}
 use Rattle.journal_defs.specs.Numbers.{journal_file}
 use Rattle.journal_defs.specs.Journal.{IsJournalBody}

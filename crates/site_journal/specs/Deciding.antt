@@ -3,7 +3,7 @@ use Rattle.std.specs.Prelude.{◌≡◌, ◌⊎◌, ◌<◌, ◌≤◌, ℕ, ◌
 use Rattle.std.specs.List.{flat_map, list_all}
 use Rattle.disk_defs.specs.Disk.{View, Files, Image}
 use Rattle.global_defs.specs.Entry.{Update, Entry, Sequence}
-use Rattle.global_defs.specs.Serial.{Turn, Replied, Reply, Seq, entry_of, begun, serial}
+use Rattle.global_defs.specs.Serial.{Turn, Replied, Seq, entry_of}
 use Rattle.jnl_file.specs.declared.journal.Journal.{Journal}
 use Rattle.jnl_file.specs.Journal.{IsReady}
 use Rattle.world_defs.specs.World.{Name, Contents}

@@ -1,5 +1,5 @@
 -- A reign in memory beside the journal on a disk.
-use Rattle.std.specs.Prelude.{◌≡◌, ◌<◌, ◌^◌, ℕ, Bool, true, List, map, length, get_or, IsTrue}
+use Rattle.std.specs.Prelude.{◌≡◌, ◌<◌, ◌^◌, ℕ, Bool, true, map, length, get_or, IsTrue}
 use Rattle.std.specs.List.{AllByRecursion, enumerate_from, list_all}
 use Rattle.disk_defs.specs.Disk.{View}
 use Rattle.global_defs.specs.Entry as defs

@@ -83,7 +83,7 @@ fn write_reply(text: &mut Bytes, serial: u64, number: u64) -> Result<(), NoMemor
     text.push_all(b"\n")
 }
 
-/// Whether a journal's record may hold an update.
+/// Whether a journal's record may hold an update. Each key that there is has a code, which isn't empty.
 fn fits(update: &Update) -> bool
     ensures { IsTrue result → IsUpdate (update_value update.now) }
 {
@@ -122,7 +122,8 @@ fn record_of(
 impl Reign {
     /// The origin of updater 1's next job, where there is room for one more entry with these updates.
     ///
-    /// A job is decided without evaluating it, which needs that no node is missing memory: so each entry has to set one node.
+    /// A job isn't evaluated: one that sets a node fails only where too many nodes stand, and where each entry sets one node
+    /// there are no more nodes than entries.
     fn next_origin(&self, updates: &Updates) -> Option<Origin>
         requires { is_set updates.now ≡ true }
         ensures origin { IfSome result (λ o. origin_value o ≡ record { updater = 1; serial = get_or self.now.serials 0 1 }) }

@@ -2,7 +2,7 @@
 use gvn_model::Entry;
 use jnl_file::Journal;
 
-/// How many entries a reign has memory for.
+/// With so many entries a reign takes no more jobs.
 pub const MOST: u64 = 100_000;
 
 /// What a primary has open: its journal, and all entries that the journal has.

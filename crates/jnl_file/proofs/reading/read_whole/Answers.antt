@@ -1,5 +1,4 @@
-use Rattle.std.proofs.Common.{rules, ◌≡◌, ◌≤◌, ℕ, nat_eq, Bool, true, false, IsTrue, List, Option, Some, None, IfSome, IsErrOf, refl, ◌∙◌, sym, subst, arith}
-use Rattle.disk_defs.specs.Disk.{Reads}
+use Rattle.std.proofs.Common.{rules, ◌≡◌, ℕ, nat_eq, Bool, false, IsTrue, List, Option, Some, None, IfSome, IsErrOf, refl, ◌∙◌, sym, subst, arith}
 use Rattle.disk_defs.specs.Gates.{Body, records}
 use Rattle.disk_defs.proofs.Told.{weaker_told}
 use Rattle.disk_defs.proofs.Frames.{reads_more}

@@ -2,7 +2,6 @@ use Rattle.std.proofs.Common.{◌≡◌, ℕ, Bool, sym, subst, rules, refl}
 use Rattle.std.specs.Prelude.{Option, Err, IsErrOf, IfSome}
 use Rattle.disk_defs.specs.Disk.{Files}
 use Rattle.jnl_file.specs.declared.journal.Journal.{Journal}
-use Rattle.jnl_file.specs.declared.error.JournalError.{JournalError}
 use Rattle.jnl_file.specs.declared.error.JournalError.TheVariants.{NotARecord}
 use Rattle.jnl_record.specs.declared.record.JnlRecord.{JnlRecord}
 use Rattle.world_defs.specs.World.{Name, Contents}

@@ -1,9 +1,7 @@
-use Rattle.std.proofs.Common.{◌≡◌, ◌++◌, ◌∷◌, [], ℕ, List, sym, ap, subst, append-nil}
-use Rattle.disk_defs.specs.Disk.{View, Files}
+use Rattle.std.proofs.Common.{◌++◌, ◌∷◌, [], List, subst, append-nil}
 use Rattle.journal_defs.specs.Journal.{JournalRecord}
-use Rattle.jnl_file.specs.Records.{Recorded, StandsRecords, settled, appended}
+use Rattle.jnl_file.specs.Records.{settled, appended}
 use Rattle.jnl_file.specs.Journal.{HasRecords}
-use Rattle.disk_defs.proofs.Moments.{holds_now}
 use Rattle.site_journal.proofs.Results.{on_ok}
 use Rattle.site_journal.proofs.Growing.{appended_image, hardened_image}
 use Rattle.site_journal.proofs.deciding.put.Goals as goal

@@ -1,7 +1,6 @@
-use Rattle.std.proofs.Common.{◌≡◌, ◌≢◌, ◌≤◌, ◌<◌, ℕ, List, length, refl, sym, ◌∙◌, ap, arith, inl, inr}
-use Rattle.global_defs.specs.Entry.{Stamp, Origin, Item}
+use Rattle.std.proofs.Common.{◌≡◌, ◌≤◌, ℕ, List, refl, sym, ◌∙◌, ap, arith, inl, inr}
+use Rattle.global_defs.specs.Entry.{Origin}
 use Rattle.world_defs.specs.Ties.{items_from}
-use Rattle.site_journal.specs.Records.{AreItemsOf}
 use Rattle.site_journal.proofs.Items.{like, recorded_as}
 use Rattle.site_journal.proofs.records.entry_in.Goals.{then-drawn-number-via-then-drawn-number, then-drawn-number-via-else-drawn-number+then-from-len}
 use Rattle.site_journal.proofs.records.entry_in.Goals as goal

@@ -1,9 +1,8 @@
-use Rattle.std.proofs.Common.{◌≡◌, ◌<◌, ◌+◌, ◌++◌, ◌∷◌, [], List, length, map, take, sym, ◌∙◌, ap, arith}
-use Rattle.std.proofs.lemmas.List.{length-map, length-take-le}
+use Rattle.std.proofs.Common.{◌<◌, ◌++◌, ◌∷◌, [], List, length, map, take, ◌∙◌, ap, arith}
 use Rattle.global_defs.specs.Entry.{Update, Item}
 use Rattle.gvn_key.specs.Terms.{update_value}
 use Rattle.world_defs.specs.Ties.{items_from}
-use Rattle.site_journal.proofs.Items.{items_more, one_longer, at_end}
+use Rattle.site_journal.proofs.Items.{at_end}
 use Rattle.site_journal.proofs.records.items_of.Goals as goal
 
 pub loop-i-preserved : goal.loop-i-preserved

@@ -1,8 +1,5 @@
-use Rattle.std.proofs.Common.{◌≡◌, ◌<◌, ◌+◌, ◌++◌, ◌∷◌, [], ℕ, List, length, map, take, sym, ◌∙◌, ap, arith}
-use Rattle.global_defs.specs.Entry.{Update, Item}
-use Rattle.gvn_key.specs.Terms.{update_value}
+use Rattle.std.proofs.Common.{sym, ◌∙◌, arith}
 use Rattle.gvn_model.specs.Items.{item_value}
-use Rattle.world_defs.specs.Ties.{items_from}
 use Rattle.site_journal.proofs.Items.{out_of_place, taken_one}
 use Rattle.site_journal.proofs.records.updates_of.Goals as goal
 

@@ -1,11 +1,8 @@
-use Rattle.std.proofs.Common.{◌≡◌, ◌∷◌, ℕ, List, Some, None, rules}
-use Rattle.std.specs.Prelude.{Option, Err, IsErrOf, IfSome}
-use Rattle.disk_defs.specs.Disk.{Files}
+use Rattle.std.proofs.Common.{ℕ, rules}
+use Rattle.std.specs.Prelude.{Option, Err, IsErrOf}
 use Rattle.jnl_file.specs.declared.error.JournalError.TheVariants.{NotARecord}
 use Rattle.jnl_record.specs.declared.record.JnlRecord.{JnlRecord}
-use Rattle.jnl_record.specs.Values.{record_value}
 use Rattle.world_defs.specs.Ties.{entry_records}
-use Rattle.site_journal.specs.Records.{Records}
 use Rattle.site_journal.proofs.Reading.{end_is, no_entry, entry_at, outside_so, at_list}
 use Rattle.site_journal.proofs.starting.next_entry.Goals as goal
 

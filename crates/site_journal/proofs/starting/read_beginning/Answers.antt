@@ -1,6 +1,5 @@
-use Rattle.std.proofs.Common.{◌≡◌, ◌∷◌, ℕ, List, Some, None, rules}
-use Rattle.std.specs.Prelude.{Option, Err, IsErrOf, IfSome}
-use Rattle.disk_defs.specs.Disk.{Files}
+use Rattle.std.proofs.Common.{◌∷◌, ℕ, List, rules}
+use Rattle.std.specs.Prelude.{Option, Err, IsErrOf}
 use Rattle.journal_defs.specs.Journal.{JournalRecord}
 use Rattle.jnl_file.specs.declared.error.JournalError.TheVariants.{NotARecord}
 use Rattle.jnl_record.specs.declared.record.JnlRecord.{JnlRecord}

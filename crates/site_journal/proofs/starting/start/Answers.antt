@@ -1,6 +1,6 @@
-use Rattle.std.proofs.Common.{◌≡◌, ◌∷◌, ℕ, List, refl, sym, ◌∙◌, ap, subst, rules}
-use Rattle.std.specs.Prelude.{Option, Err, IsErrOf, IfSome}
-use Rattle.disk_defs.specs.Disk.{View, Files, Reads}
+use Rattle.std.proofs.Common.{◌≡◌, ℕ, List, sym, ◌∙◌, subst, rules}
+use Rattle.std.specs.Prelude.{Err, IsErrOf, IfSome}
+use Rattle.disk_defs.specs.Disk.{Reads}
 use Rattle.disk_defs.proofs.Frames.{reads_more}
 use Rattle.global_defs.specs.Entry.{Sequence}
 use Rattle.journal_defs.specs.Journal.{JournalRecord}

@@ -1,4 +1,4 @@
-use Rattle.std.proofs.Common.{◌≡◌, ℕ, List, ◌∙◌, sym, subst}
+use Rattle.std.proofs.Common.{ℕ, List, ◌∙◌, sym, subst}
 use Rattle.disk_defs.specs.Frames.{Only}
 use Rattle.journal_defs.specs.Journal.{IsJournalBody}
 use Rattle.gated_file.specs.State as bodies

@@ -1,20 +1,19 @@
-use Rattle.std.proofs.Common.{rules, ◌≡◌, ℕ, List, inl, inr, IfSome, ◌∙◌, sym, ap, subst}
+use Rattle.std.proofs.Common.{rules, ℕ, List, inl, inr, IfSome, ◌∙◌, ap, subst}
 use Rattle.disk_defs.specs.Disk.{AtEachMoment}
-use Rattle.disk_defs.specs.Frames.{Only, OthersStay}
+use Rattle.disk_defs.specs.Frames.{Only}
 use Rattle.disk_defs.proofs.Told.{weaker_told}
 use Rattle.disk_defs.proofs.Moments.{nothing_new, read_only}
 use Rattle.disk_defs.proofs.Frames.{others_read, others_then}
 use Rattle.gated_file.specs.Begin.{KeepsRecords}
 use Rattle.gated_file.specs.Reading.{IsOutside}
 use Rattle.gated_file.specs.declared.gated.Gated.{Gated}
-use Rattle.journal_defs.specs.Numbers.{journal_file}
 use Rattle.journal_defs.specs.Journal.{JournalRecord}
 use Rattle.jnl_file.specs.Records.{Recorded, settled}
 use Rattle.jnl_file.specs.Journal.{HasRecords}
 use Rattle.jnl_file.specs.Reading.{IsJournalFile, IsOutsideJournal, HasWrongRecord}
 use Rattle.jnl_file.specs.declared.journal.Journal.{Journal}
-use Rattle.jnl_file.proofs.Walk.{wrong_as, wrong_is_none, journal_as}
-use Rattle.jnl_file.proofs.Making.{TakenUp, taken_back, taken_records, some_records, ready_read}
+use Rattle.jnl_file.proofs.Walk.{wrong_as, wrong_is_none}
+use Rattle.jnl_file.proofs.Making.{taken_back, taken_records, some_records, ready_read}
 use Rattle.jnl_file.proofs.journal.Journal.attach.Goals as goal
 
 pub returns-in_err-gated-clause-outside : goal.returns-in_err-gated-clause-outside

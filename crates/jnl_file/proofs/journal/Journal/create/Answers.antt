@@ -1,12 +1,9 @@
-use Rattle.std.proofs.Common.{◌≡◌, ℕ, [], ◌∷◌, IfSome, ◌∙◌, subst}
-use Rattle.disk_defs.specs.Disk.{View}
-use Rattle.disk_defs.specs.Frames.{Only, OthersStay}
+use Rattle.std.proofs.Common.{[], ◌∷◌, ◌∙◌}
 use Rattle.disk_defs.proofs.Told.{weaker_told}
 use Rattle.gated_file.proofs.Open.{others_next}
 use Rattle.journal_defs.specs.Numbers.{journal_file}
-use Rattle.journal_defs.specs.Journal.{JournalRecord}
-use Rattle.jnl_file.specs.Records.{settled, appended, hardened}
-use Rattle.jnl_file.specs.Journal.{HasRecords, IsPrepared}
+use Rattle.jnl_file.specs.Records.{settled, appended}
+use Rattle.jnl_file.specs.Journal.{HasRecords}
 use Rattle.jnl_file.specs.Begin.{pini}
 use Rattle.jnl_file.specs.declared.journal.Journal.{Journal}
 use Rattle.jnl_file.proofs.Making.{pini_prepared, pini_appended, pini_hardened, pini_named}

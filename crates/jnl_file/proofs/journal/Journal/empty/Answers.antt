@@ -1,4 +1,4 @@
-use Rattle.std.proofs.Common.{◌≡◌, [], IfSome, refl, ◌∙◌, subst}
+use Rattle.std.proofs.Common.{[], refl, ◌∙◌}
 use Rattle.disk_defs.specs.Frames.{Only}
 use Rattle.disk_defs.proofs.Told.{weaker_told}
 use Rattle.gated_file.specs.declared.gated.Gated.{Gated}

@@ -1,8 +1,4 @@
-use Rattle.std.proofs.Common.{◌≡◌, ◌++◌, ◌∷◌, [], ◌+◌, ℕ, List, length, get_or, refl, sym, ◌∙◌, ap, subst, arith}
-use Rattle.std.specs.Prelude.{Option, IsSome}
-use Rattle.disk_defs.specs.Disk.{View, Files, Image}
-use Rattle.global_defs.specs.Entry.{Entry, Update}
-use Rattle.gvn_model.specs.Entries.{entry_value}
+use Rattle.std.proofs.Common.{◌++◌, ◌∷◌, [], List, refl, ◌∙◌, ap}
 use Rattle.site_journal.specs.Deciding.{next_entry, next_serials}
 use Rattle.site_journal.proofs.Taken.{still}
 use Rattle.gvn_model.specs.declared.entry.Entry as code

@@ -1,6 +1,5 @@
-use Rattle.std.proofs.Common.{◌≡◌, ◌+◌, ◌<◌, ◌≤◌, ℕ, List, length, refl, sym, ◌∙◌, ap, subst, arith, rules, None, Some, length-append, ◌∷◌, []}
+use Rattle.std.proofs.Common.{◌+◌, ℕ, List, length, refl, sym, ◌∙◌, ap, subst, arith, rules, None, length-append, ◌∷◌, []}
 use Rattle.std.specs.Prelude.{Option, Err, IsErrOf, IfSome}
-use Rattle.disk_defs.specs.Disk.{View, Files, Reads}
 use Rattle.disk_defs.proofs.Frames.{reads_more}
 use Rattle.global_defs.specs.Entry.{Sequence}
 use Rattle.gvn_model.specs.declared.entry.Entry.{Entry}

@@ -1,8 +1,6 @@
-use Rattle.std.proofs.Common.{◌≡◌, ◌≤◌, ◌+◌, ◌-◌, ◌^◌, ◌++◌, ℕ, List, length, map, IfSome}
+use Rattle.std.proofs.Common.{◌≡◌, ◌≤◌, ◌+◌, ◌-◌, ◌^◌, length}
 use Rattle.disk_defs.specs.Disk.{Reads}
-use Rattle.journal_defs.specs.Journal.{JournalRecord}
-use Rattle.world_defs.specs.Ties.{entry_records}
-use Rattle.site_journal.specs.Cursor.{HasRead, entries_of}
+use Rattle.site_journal.specs.Cursor.{HasRead}
 use Rattle.site_journal.proofs.Reading.{HasReadSo}
 use Rattle.site_journal.proofs.reign.Reign.read_entries.Given as goal
 

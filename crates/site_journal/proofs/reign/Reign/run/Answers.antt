@@ -1,15 +1,14 @@
-use Rattle.std.proofs.Common.{◌≡◌, ◌+◌, ◌-◌, ◌<◌, ◌++◌, ◌∷◌, [], ℕ, List, Bool, true, length, refl, sym, ◌∙◌, ap, subst, arith, append_assoc, append-nil, length-append}
+use Rattle.std.proofs.Common.{◌≡◌, ◌+◌, ◌-◌, ◌<◌, ◌++◌, ◌∷◌, [], ℕ, List, Bool, length, sym, ◌∙◌, ap, subst, arith, append_assoc, append-nil, length-append}
 use Rattle.std.specs.Prelude.{IsTrue, Result, Ok, Err}
 use Rattle.site_journal.specs.declared.deciding.DecideError.{DecideError}
 use Rattle.site_journal.specs.declared.deciding.DecideError.TheVariants.{Failed, NoMemory}
 use Rattle.std.specs.Vec.Iter.{into_iter_items}
 use Rattle.std.proofs.lemmas.Grind.{common_steps}
 use Rattle.global_defs.specs.Entry.{Update}
-use Rattle.jnl_file.specs.Journal.{IsReady}
 use Rattle.world_defs.specs.Rows.{with_sequence}
 use Rattle.site_journal.specs.Reigns.{Reigns}
 use Rattle.site_journal.specs.Deciding.{HasDecided, next_entry, MayHave, HasRoom, FailsAt}
-use Rattle.site_journal.proofs.Turns.{none_decided, one_decided, failed_at, left_at, set_between}
+use Rattle.site_journal.proofs.Turns.{one_decided, failed_at, left_at, set_between}
 use Rattle.site_journal.proofs.reign.Reign.run.Goals as goal
 
 two_errors : {T : Type 0} (x : Result T DecideError) → x ≡ Err Failed → x ≡ Err NoMemory → ⊥

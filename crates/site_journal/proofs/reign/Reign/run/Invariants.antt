@@ -1,4 +1,4 @@
-use Rattle.std.proofs.Common.{◌≡◌, ◌≤◌, ◌++◌, List, ℕ, Bool, length}
+use Rattle.std.proofs.Common.{◌≡◌, ◌≤◌, ◌++◌, Bool, length}
 use Rattle.std.specs.Vec.Iter.{into_iter_items}
 use Rattle.jnl_file.specs.Journal.{IsReady}
 use Rattle.world_defs.specs.World.{Contents}
