@@ -19,6 +19,12 @@ bin/pool_bench: $(wildcard crates/*pool*/src/*.rt crates/*pool*/specs/*.antt cra
 	mkdir -p bin
 	cp crates/pool_bench/out/pool_bench bin/pool_bench
 
+# the proved program that measures the reader of frames
+bin/wire_bench: $(wildcard crates/*wire*/src/*.rt crates/*wire*/specs/*.antt crates.txt)
+	cd crates/wire_bench && $(RT) run > /dev/null
+	mkdir -p bin
+	cp crates/wire_bench/out/wire_bench bin/wire_bench
+
 # a build of the program in seconds, of which nothing is proved
 demo:
 	@echo "; an unproved build; 'make' builds the proved program, 'make test' is the gate"
@@ -32,7 +38,7 @@ test:
 examples:
 	tools/check
 
-bench: bin/gtmr bin/pool_bench
+bench: bin/gtmr bin/pool_bench bin/wire_bench
 	tools/bench bin/gtmr
 
 install: bin/gtmr
