@@ -1,8 +1,10 @@
 // The worked bytes of frames, whole and in pieces.
+ghost use Rattle.std.specs.Prelude.{OnOk};
+ghost use Rattle.std.specs.List.{AllByRecursion};
+ghost use Rattle.wire_defs.specs.Frames.{IsFrame};
+
 use super::*;
-use gvn_key::terms::Update;
-use gvn_key::{Bytes, Key};
-use gvn_model::{History, Origin, Reign, Reigns, Stamp, Transaction, Updates};
+use gvn_key::Bytes;
 use std::alloc::Global;
 use std::test::Fail;
 
@@ -20,34 +22,50 @@ const HISTORY: &[u8] = b"\x04\x00\x00\x00\x0e\x01A\x00\x00\x00\x01\x00\x00\x00\x
 const ENTRY: &[u8] =
     b"\x05\x00\x00\x00\x1a\x00\x00\x00\x00\x00\x00\x00\x01\x01\x00\x00\x00\x01\x00\x01\x01\x06X\x00\x03A1\x00\x00\x01a";
 
+/// The HELLO of a secondary B with 9 entries and the reign Abc.7 from 3.
+const HELLO_OF_A_REIGN: &[u8] =
+    b"\x01\x00\x00\x00\x1f\x01\x01B\x00\x00\x00\x00\x00\x00\x00\x09\x00\x00\x00\x01\x03Abc\x00\x00\x00\x07\x00\x00\x00\x00\x00\x00\x00\x03";
+
+/// ROLLBACKFIRST from 5.
+const ROLLBACK_FIRST: &[u8] = b"\x03\x00\x00\x00\x08\x00\x00\x00\x00\x00\x00\x00\x05";
+
+/// SET ^X="" and KILL ^Y as number 2, job 2 of updater 64.
+const ENTRY_OF_TWO: &[u8] =
+    b"\x05\x00\x00\x00\x19\x00\x00\x00\x00\x00\x00\x00\x02\x40\x00\x00\x00\x02\x00\x02\x01\x02X\x00\x00\x00\x02\x02Y\x00";
+
+/// BYE at 6 entries.
+const BYE: &[u8] = b"\x06\x00\x00\x00\x08\x00\x00\x00\x00\x00\x00\x00\x06";
+
 /// Feeds a stream in pieces of a size, and answers where a bad frame was told and how many bytes had been fed.
 fn fed(
     alloc: Global,
     stream: &[u8],
     size: usize,
     out: &mut FrameList,
-) -> Result<Option<(u64, usize)>, Fail> {
+) -> Result<Option<(u64, usize)>, Fail>
+    requires { AllByRecursion IsFrame out.old }
+    ensures { OnOk result (AllByRecursion IsFrame out.new) }
+{
     let mut frames = Frames::new(alloc);
-    let mut rest = stream;
     let mut count = 0usize;
-    while !rest.is_empty() {
-        let (piece, behind) = rest.split_at(size.max(1).min(rest.len()));
+    for piece in stream.chunks(size.max(1)) {
         count = count.wrapping_add(piece.len());
         match frames.feed(piece, out) {
             Err(FrameError::BadFrame { offset }) => return Ok(Some((offset, count))),
             Err(error) => return Err(Fail::from(error)),
             Ok(()) => {}
         }
-        rest = behind;
     }
     Ok(None)
 }
 
 /// The frames of a stream again as bytes.
-fn written(alloc: Global, list: &FrameList) -> Result<Bytes, Fail> {
+fn written(alloc: Global, list: &FrameList) -> Result<Bytes, Fail>
+    requires { AllByRecursion IsFrame list.now }
+{
     let mut out = Bytes::new(alloc);
-    for frame in list.as_slice() {
-        write_frame(frame, &mut out)?;
+    for i in 0..list.len() {
+        write_frame(list.item(i), &mut out)?;
     }
     Ok(out)
 }
@@ -55,14 +73,23 @@ fn written(alloc: Global, list: &FrameList) -> Result<Bytes, Fail> {
 #[test]
 fn takes_frames_in_pieces(rt: HostRuntime) -> Result<(), Fail> {
     let mut stream = Bytes::new(rt.alloc());
-    for frame in [HELLO, RESUME, HISTORY, ENTRY] {
+    for frame in [
+        HELLO,
+        RESUME,
+        HISTORY,
+        ENTRY,
+        HELLO_OF_A_REIGN,
+        ROLLBACK_FIRST,
+        ENTRY_OF_TWO,
+        BYE,
+    ] {
         stream.push_all(frame)?;
     }
-    assert_eq!(rt; stream.len(), 83);
-    for size in [1, 2, 3, 7, 83] {
+    assert_eq!(rt; stream.len(), 175);
+    for size in [1, 2, 3, 7, 175] {
         let mut out = FrameList::new(rt.alloc());
         assert_eq!(rt; fed(rt.alloc(), stream.as_slice(), size, &mut out)?, None);
-        assert_eq!(rt; out.len(), 4, "in pieces of {size}");
+        assert_eq!(rt; out.len(), 8, "in pieces of {size}");
         let bytes = written(rt.alloc(), &out)?;
         assert_eq!(rt; bytes.as_slice(), stream.as_slice());
     }
@@ -121,36 +148,16 @@ fn tells_a_fault_at_its_byte(rt: HostRuntime) -> Result<(), Fail> {
 }
 
 #[test]
-fn writes_other_frames(rt: HostRuntime) -> Result<(), Fail> {
-    let mut reigns = Reigns::new(rt.alloc());
-    let root = Bytes::of(rt.alloc(), b"Abc")?;
-    let stamp = Stamp { root, cycle: 7 };
-    reigns.push(Reign { stamp, start: 3 })?;
-    let history = History { length: 9, reigns };
-    let name = Bytes::of(rt.alloc(), b"B")?;
+fn writes_frames_made_here(rt: HostRuntime) -> Result<(), Fail> {
     let mut list = FrameList::new(rt.alloc());
     assert!(rt; list.is_empty());
-    list.push(Frame::Hello {
-        version: 1,
-        name,
-        history,
-    })?;
+    list.push(Frame::Resume(1))?;
     list.push(Frame::RollbackFirst(5))?;
-    let mut updates = Updates::new(rt.alloc());
-    updates.push(Update::Set(Key::new(rt.alloc(), b"X", &[])?, Bytes::new(rt.alloc())))?;
-    updates.push(Update::Kill(Key::new(rt.alloc(), b"Y", &[])?))?;
-    let origin = Origin {
-        updater: 64,
-        serial: 2,
-    };
-    list.push(Frame::Entry(2, Transaction { origin, updates }))?;
     list.push(Frame::Bye(6))?;
+    assert_eq!(rt; list.as_slice().len(), 3);
     let bytes = written(rt.alloc(), &list)?;
-    let mut out = FrameList::new(rt.alloc());
-    assert_eq!(rt; fed(rt.alloc(), bytes.as_slice(), 4, &mut out)?, None);
-    assert_eq!(rt; out.len(), 4);
-    assert!(rt; matches!(out.item(1), Frame::RollbackFirst(5)));
-    let again = written(rt.alloc(), &out)?;
-    assert_eq!(rt; again.as_slice(), bytes.as_slice());
+    assert!(rt; bytes.as_slice().starts_with(RESUME));
+    assert!(rt; bytes.as_slice().ends_with(BYE));
+    assert_eq!(rt; bytes.len(), 39);
     Ok(())
 }
