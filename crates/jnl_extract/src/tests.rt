@@ -75,16 +75,3 @@ fn no_updates_are_no_text(rt: HostRuntime) -> Result<(), Fail> {
     assert_eq!(rt; text.len(), 0);
     Ok(())
 }
-
-#[test]
-fn an_update_is_read_in_its_canonical_text_alone(rt: HostRuntime) -> Result<(), Fail> {
-    let alloc = rt.alloc();
-    let read = read_update(alloc, b"SET", b"^X(1)=\"a\"")?;
-    assert!(rt; matches!(read, Some(Update::Set(..))));
-    let read = read_update(alloc, b"ZKILL", b"^X(1)")?;
-    assert!(rt; matches!(read, Some(Update::ZKill(_))));
-    assert!(rt; read_update(alloc, b"SET", b"^X(1)=$C(97)")?.is_none());
-    assert!(rt; read_update(alloc, b"SET", b"^X(1)=1")?.is_none());
-    assert!(rt; read_update(alloc, b"GET", b"^X(1)")?.is_none());
-    Ok(())
-}
