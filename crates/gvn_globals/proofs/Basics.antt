@@ -1,5 +1,6 @@
 -- Tests and comparisons by cases.
 use Rattle.std.proofs.Common.{◌≡◌, ℕ, Bool, true, false, not, ◌&&◌, T, List, [], ◌∷◌, map, is_some, Option, Some, None, if◌then◌else◌, refl, sym, ap, ◌∙◌, true≢false, arith}
+use Rattle.std.specs.Prelude.{Result, Ok, Err, IfOk}
 use Rattle.std.specs.declared.cmp.Ordering.{Ordering}
 use Rattle.std.specs.declared.cmp.Ordering.TheVariants.{Less, Equal, Greater}
 use Rattle.std.specs.Ordering.{is_lt, is_eq, eq_by_cmp, ordering_reverse}
@@ -104,3 +105,7 @@ find_head p q alike (x ∷ xs) = by (q x) (sym (alike x)) (find_head p q alike x
 
 pub find_filtered : {A : Type 0} (p q : A → Bool) → ((x : A) → q x ≡ p x) → (xs ys : List A) → ys ≡ list.filter q xs → list.find p xs ≡ head ys
 find_filtered p q alike xs ys e = find_head p q alike xs ∙ ap head (sym e)
+
+pub if_ok : {A E : Type 0} (r : Result A E) (P Q : A → Type 0) → ((x : A) → P x → Q x) → IfOk r P → IfOk r Q
+if_ok (Ok x) P Q f h = f x h
+if_ok (Err e) P Q f h = tt

@@ -2,3 +2,4 @@ pub mod Codes
 pub mod Walks
 pub mod Nodes
 pub mod Overlaid
+pub mod Lists

@@ -1,5 +1,5 @@
 // Globals as nodes in a tree, by their encoded keys.
-ghost use Rattle.std.specs.Prelude.{◌≡◌, ◌<◌, ◌^◌, [], true, drop, length, option_map, is_some, IsTrue, IfOk, IfSome, OnOk, OnErr, not, if◌then◌else◌};
+ghost use Rattle.std.specs.Prelude.{◌≡◌, ◌<◌, ◌^◌, [], true, drop, length, map, filter, option_map, is_some, IsTrue, IfOk, IfSome, OnOk, OnErr, not, if◌then◌else◌};
 ghost use Rattle.std.specs.Ordering.{is_lt, nat_cmp, eq_by_cmp};
 ghost use Rattle.std.specs.Cmp.Lexicographic.{slice_cmp};
 ghost use Rattle.std.specs.Option.{option_copied};
@@ -14,7 +14,8 @@ ghost use Rattle.global_defs.specs.Evaluation as evaluation;
 ghost use Rattle.gvn_key.specs.Terms.{update_value};
 ghost use Rattle.gvn_key.specs.Faults.{child_of};
 ghost use Rattle.gvn_globals.specs.Walks.{after, tested, is_behind, sub_under};
-ghost use Rattle.gvn_globals.specs.Nodes.{node_key};
+ghost use Rattle.gvn_globals.specs.Nodes.{node_key, entries_of};
+ghost use Rattle.gvn_globals.specs.Lists.{listed_value};
 
 use super::lookup::{Lookup, Walk, subtree};
 use gvn_key::terms::Update;
@@ -83,6 +84,45 @@ fn if_named(found: Option<&Node>, name: &[u8]) -> Result<Option<Key>, NoMemory>
     }
 }
 
+/// A node among others, with its value.
+#[derive(Clone, Copy, Debug)]
+pub struct Listed<'a> {
+    pub key: &'a Key,
+    pub value: &'a [u8],
+}
+
+/// All nodes, in the order of their encoded keys.
+fn list_all_nodes(alloc: Global, nodes: &BTreeMap<Bytes, Node>) -> Result<Vec<Listed<'_>>, NoMemory>
+    ensures list { IfOk result (λ made. map listed_value made.items ≡ entries_of nodes.now.entries) }
+    ensures ordered { IsOrdered (slice_cmp nat_cmp) nodes.now }
+{
+    let mut list = Vec::new(alloc);
+    for (_, node) in nodes.iter() {
+        list.push(Listed {
+            key: &node.key,
+            value: node.value.as_slice(),
+        })?;
+    }
+    Ok(list)
+}
+
+/// Those of these nodes that are the top one or lie below it.
+fn only_under<'a>(
+    alloc: Global,
+    nodes: &[Listed<'a>],
+    top: &Key,
+) -> Result<Vec<Listed<'a>>, NoMemory>
+    ensures { IfOk result (λ made. map listed_value made.items ≡ filter (λ e. is_under top.now e.0) (map listed_value nodes.now)) }
+{
+    let mut list = Vec::new(alloc);
+    for node in nodes {
+        if node.key.is_under(top) {
+            list.push(*node)?;
+        }
+    }
+    Ok(list)
+}
+
 impl Globals {
     /// No nodes. It takes no memory yet.
     pub fn new(alloc: Global) -> Self
@@ -148,6 +188,20 @@ impl Globals {
                 Ok(())
             }
         }
+    }
+
+    /// All nodes with their values, in M collation. It takes memory for so many references.
+    pub fn list(&self, alloc: Global) -> Result<Vec<Listed<'_>>, NoMemory>
+        ensures { IfOk result (λ made. map listed_value made.items ≡ globals.entries self.now) }
+    {
+        list_all_nodes(alloc, &self.nodes)
+    }
+
+    /// The node and those below it with their values, in M collation.
+    pub fn list_under(&self, alloc: Global, top: &Key) -> Result<Vec<Listed<'_>>, NoMemory>
+        ensures { IfOk result (λ made. map listed_value made.items ≡ filter (λ e. is_under top.now e.0) (globals.entries self.now)) }
+    {
+        only_under(alloc, &self.list(alloc)?, top)
     }
 
     /// How many nodes have values.

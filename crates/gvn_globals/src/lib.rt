@@ -5,6 +5,6 @@ mod globals;
 mod lookup;
 mod overlay;
 
-pub use globals::Globals;
+pub use globals::{Globals, Listed};
 pub use lookup::Lookup;
 pub use overlay::Overlay;

@@ -6,8 +6,8 @@ use Rattle.std.specs.Io.KnownBytes.{Consumes}
 use Rattle.std.proofs.KnownBytes.{Appends-nil}
 use Rattle.std.proofs.lemmas.List.{take-append-drop, map-append, append-nil}
 use Rattle.world_defs.specs.World.{World}
-use Rattle.world_defs.specs.Commands.{Command, Create, StartPrimary, Run, Stop, Fuse, Crash, Extract}
-use Rattle.world_defs.specs.Lines.{lines_of}
+use Rattle.command_defs.specs.Commands.{Command, Create, StartPrimary, Run, Stop, Fuse, Crash, Extract}
+use Rattle.command_defs.specs.Lines.{lines_of}
 use Rattle.world_defs.specs.Script.{Setting, is_setting, setting_line, job_of, updater_of, with_images, Spells, IsFront, IsScript, IsBadAt}
 use Rattle.site_runner.specs.declared.order.Order.{Order}
 use Rattle.site_runner.specs.declared.order.Order.TheVariants as order

@@ -5,8 +5,8 @@ use Rattle.std.specs.Fmt.{decimal}
 use Rattle.disk_defs.specs.Disk.{Files, View, Image, IsLawful, Reads, Same}
 use Rattle.world_defs.specs.Lists.{Among}
 use Rattle.world_defs.specs.World as world
-use Rattle.world_defs.specs.World.{Name, Contents, Place}
-use Rattle.world_defs.specs.Commands.{Fuse, Crash}
+use Rattle.command_defs.specs.Commands.{Name, Fuse, Crash}
+use Rattle.world_defs.specs.World.{Contents, Place}
 use Rattle.world_defs.specs.Answers.{Cause, Stopped, NotRunning, NotSimulated, Done}
 use Rattle.world_defs.specs.Refusals.{in_state, stopped, not_running, not_simulated}
 use Rattle.world_defs.specs.Rows.{in_new_state, Crashes}

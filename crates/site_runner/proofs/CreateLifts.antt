@@ -3,8 +3,8 @@ use Rattle.std.proofs.Common.{◌≡◌, ℕ, zero, suc, ◌<◌, ◌==◌, Bool
 use Rattle.std.specs.Prelude.{Option, option_map, slice_get, codes}
 use Rattle.disk_defs.specs.Disk.{View}
 use Rattle.world_defs.specs.Lists.{Along, first_where}
-use Rattle.world_defs.specs.World.{Name, Place, World, MOST_SITES, is_free, place_of, next_of, at_place, site_of}
-use Rattle.world_defs.specs.Commands.{Region, Command, Create}
+use Rattle.command_defs.specs.Commands.{Name, Region, Command, Create}
+use Rattle.world_defs.specs.World.{Place, World, MOST_SITES, is_free, place_of, next_of, at_place, site_of}
 use Rattle.world_defs.specs.Answers.{Exists, NoDisk, NotEmpty, Refusal, Answer, Done, Refused, DiskFault, NotAFile, Ran}
 use Rattle.world_defs.specs.Refusals.{early, late, or_else, refusal, refused_with, first, there, no_disk, not_empty}
 use Rattle.world_defs.specs.Rows.{Creates, CreateFails}

@@ -14,8 +14,8 @@ use Rattle.jnl_file.specs.Begin.{MayBegin}
 use Rattle.site_journal.specs.Beginning.{HasBegun}
 use Rattle.world_defs.specs.Lists.{Among}
 use Rattle.world_defs.specs.World as world
-use Rattle.world_defs.specs.World.{Name, Contents, Place, Kept}
-use Rattle.world_defs.specs.Commands.{Create}
+use Rattle.command_defs.specs.Commands.{Name, Create}
+use Rattle.world_defs.specs.World.{Contents, Place, Kept}
 use Rattle.world_defs.specs.Answers.{Answer, NotEmpty, Done, Refused, DiskFault, NotAFile, Ran}
 use Rattle.world_defs.specs.Refusals.{not_empty}
 use Rattle.world_defs.specs.Rows.{Creates, CreateFails, empty_site}

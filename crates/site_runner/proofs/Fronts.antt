@@ -6,7 +6,7 @@ use Rattle.std.proofs.lemmas.List.{map-append, append-nil}
 use Rattle.global_defs.specs.Entry.{Update}
 use Rattle.world_defs.specs.Script.{Setting, is_setting, setting_line, IsFront, IsUnfinished, IsOpen, Spells, Spell, IsSectionOf, job_of}
 use Rattle.world_defs.specs.Script as script
-use Rattle.world_defs.specs.Commands.{Command, Create, StartPrimary, Run, Stop, Fuse, Crash, Extract}
+use Rattle.command_defs.specs.Commands.{Command, Create, StartPrimary, Run, Stop, Fuse, Crash, Extract}
 use Rattle.site_runner.specs.declared.order.Order.{Order}
 use Rattle.site_runner.specs.declared.order.Order.TheVariants as order
 use Rattle.site_journal.specs.Jobs.{job_value, updater_of}

@@ -8,7 +8,8 @@ use Rattle.jnl_file.specs.Records.{Recorded, StandsRecords}
 use Rattle.jnl_file.specs.Journal.{HoldsRecords, HasRecords, IsReady}
 use Rattle.jnl_file.specs.declared.journal.Journal.{Journal}
 use Rattle.jnl_file.proofs.Making.{ready_read}
-use Rattle.world_defs.specs.World.{Name, Place}
+use Rattle.command_defs.specs.Commands.{Name}
+use Rattle.world_defs.specs.World.{Place}
 use Rattle.site_runner.specs.declared.slot.State.{State}
 use Rattle.site_runner.specs.declared.slot.State.TheVariants.{Down, Primary, Failed}
 use Rattle.site_runner.specs.Sites.{HoldsState, IsReadyState}

@@ -8,7 +8,7 @@ use Rattle.std.proofs.Math.Seq.{take-append-add, take-length}
 use Rattle.disk_defs.specs.Disk.{View}
 use Rattle.world_defs.specs.Lists.{Along}
 use Rattle.world_defs.specs.World.{Place, World}
-use Rattle.world_defs.specs.Commands.{Command}
+use Rattle.command_defs.specs.Commands.{Command}
 use Rattle.world_defs.specs.Answers.{Answer}
 use Rattle.world_defs.specs.Step.{Means}
 use Rattle.world_defs.specs.Output.{text, text_of}

@@ -6,7 +6,7 @@ use Rattle.std.specs.Io.KnownBytes.{Consumes, IsAtEnd, Keeps}
 use Rattle.std.proofs.lemmas.List.{take_at, append-nil}
 use Rattle.std.proofs.lemmas.List.Concat.{flat_map-append}
 use Rattle.std.proofs.lemmas.Bool.{cases_Bool}
-use Rattle.world_defs.specs.Lines.{onto, lines_of, ended}
+use Rattle.command_defs.specs.Lines.{onto, lines_of, ended}
 use Rattle.world_defs.specs.Script.{IsFront, IsBadAt}
 use Rattle.site_runner.specs.Told.{IsPiece}
 use Rattle.site_runner.specs.Positions.{IsBad}

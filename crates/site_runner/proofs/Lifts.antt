@@ -6,8 +6,8 @@ use Rattle.std.specs.Fmt.{decimal}
 use Rattle.std.proofs.lemmas.Bool.{eq-eqb}
 use Rattle.disk_defs.specs.Disk.{View}
 use Rattle.world_defs.specs.Lists.{Among, Along, At, first_where}
-use Rattle.world_defs.specs.World.{Name, State, Site, Contents, Place, World, Kept, is_site_named, place_of, at_place, site_of}
-use Rattle.world_defs.specs.Commands.{Command, Create, StartPrimary, Run, Stop, Fuse, Crash, Extract}
+use Rattle.command_defs.specs.Commands.{Name, Command, Create, StartPrimary, Run, Stop, Fuse, Crash, Extract}
+use Rattle.world_defs.specs.World.{State, Site, Contents, Place, World, Kept, is_site_named, place_of, at_place, site_of}
 use Rattle.world_defs.specs.Answers.{Cause, NoSite, Refusal, Answer, Done, Refused, DiskFault, NotAFile, Ran}
 use Rattle.world_defs.specs.Refusals.{early, late, or_else, refusal, refused_with, tested, first}
 use Rattle.world_defs.specs.Rows.{StartsPrimary, Becomes, in_new_state}

@@ -1,7 +1,7 @@
 -- Lines of texts.
 use Rattle.std.proofs.Common.{◌≡◌, ℕ, ◌==◌, Bool, true, false, not, List, [], ◌∷◌, ◌++◌, length, refl, ap, ◌∙◌, ◌<◌, arith}
 use Rattle.std.specs.List.{list_all, list_any}
-use Rattle.world_defs.specs.Lines.{lines_of, ended}
+use Rattle.command_defs.specs.Lines.{lines_of, ended}
 use Rattle.site_runner.proofs.Cuts.{split_or, split_and}
 
 -- no line feed

@@ -6,9 +6,9 @@ use Rattle.std.specs.Io.KnownBytes.{Appends, Consumes, IsAtEnd, Keeps}
 use Rattle.std.proofs.lemmas.List.{take_at, append-nil}
 use Rattle.disk_defs.specs.Disk.{View}
 use Rattle.world_defs.specs.World.{World}
-use Rattle.world_defs.specs.Commands.{Command}
+use Rattle.command_defs.specs.Commands.{Command}
 use Rattle.world_defs.specs.Step.{CutOff}
-use Rattle.world_defs.specs.Lines.{lines_of, ended}
+use Rattle.command_defs.specs.Lines.{lines_of, ended}
 use Rattle.world_defs.specs.Runs.{commands}
 use Rattle.world_defs.specs.Script.{Spells, Spell, IsScript, IsBadAt}
 use Rattle.site_runner.specs.declared.slot.Slot.{Slot}

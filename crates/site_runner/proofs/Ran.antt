@@ -16,8 +16,8 @@ use Rattle.site_journal.specs.Reigns.{Reigns, Remembers, tagged}
 use Rattle.site_journal.specs.Deciding.{HasDecided, MayHaveFront, MayLeave, FailsAt, turn_after, turn_with}
 use Rattle.world_defs.specs.Lists.{Among}
 use Rattle.world_defs.specs.World as world
-use Rattle.world_defs.specs.World.{Name, Contents, Place}
-use Rattle.world_defs.specs.Commands.{Run}
+use Rattle.command_defs.specs.Commands.{Name, Run}
+use Rattle.world_defs.specs.World.{Contents, Place}
 use Rattle.world_defs.specs.Answers.{Cause, Stopped, NotPrimary, Section, Ran}
 use Rattle.world_defs.specs.Refusals.{first, in_state, stopped, not_primary}
 use Rattle.world_defs.specs.Rows.{in_new_state, reign_of, with_sequence, IsFrontOf, Becomes, turn_of}

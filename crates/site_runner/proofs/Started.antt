@@ -17,8 +17,8 @@ use Rattle.site_journal.specs.Reigns.{AreOfReign, Remembers}
 use Rattle.site_journal.specs.Cursor.{HasRead, IsTakenUp, entries_of}
 use Rattle.world_defs.specs.Lists.{Among}
 use Rattle.world_defs.specs.World as world
-use Rattle.world_defs.specs.World.{Name, Contents, Place}
-use Rattle.world_defs.specs.Commands.{StartPrimary}
+use Rattle.command_defs.specs.Commands.{Name, StartPrimary}
+use Rattle.world_defs.specs.World.{Contents, Place}
 use Rattle.world_defs.specs.Answers.{Cause, Stopped, Running, Done, DiskFault, NotAFile}
 use Rattle.world_defs.specs.Refusals.{first, in_state, stopped, running}
 use Rattle.world_defs.specs.Rows.{in_new_state, reign_of, serials_after}

@@ -7,8 +7,8 @@ use Rattle.std.proofs.lemmas.Bool.{eqb-true}
 use Rattle.disk_defs.specs.Disk.{Files, View, Image}
 use Rattle.world_defs.specs.Lists.{Among}
 use Rattle.world_defs.specs.World as world
-use Rattle.world_defs.specs.World.{Name, Contents, Place, same_name}
-use Rattle.world_defs.specs.Commands.{Command, Stop, Extract}
+use Rattle.command_defs.specs.Commands.{Name, Command, Stop, Extract}
+use Rattle.world_defs.specs.World.{Contents, Place, same_name}
 use Rattle.world_defs.specs.Answers.{Cause, Stopped, NotRunning, Done}
 use Rattle.world_defs.specs.Refusals.{first, stopped, not_running}
 use Rattle.world_defs.specs.Rows.{in_new_state}

@@ -1,7 +1,7 @@
 -- What the code's commands stand for.
 use Rattle.std.specs.Prelude.{◌≡◌, ◌<◌, true, [], ◌∷◌, map}
 use Rattle.std.specs.List.{list_all}
-use Rattle.world_defs.specs.Commands as commands
+use Rattle.command_defs.specs.Commands as commands
 use Rattle.world_defs.specs.Script.{with_images}
 use Rattle.site_runner.specs.declared.command.Command.{Command}
 use Rattle.site_runner.specs.declared.command.Command.TheVariants.{Create, StartPrimary, Run, Stop, Fuse, Crash, Extract}

@@ -2,7 +2,8 @@
 use Rattle.std.specs.Prelude.{◌≡◌, ◌⊎◌, ℕ, ◌∷◌, ◌++◌, List, codes, Some, None}
 use Rattle.std.specs.Fmt.{decimal}
 use Rattle.disk_defs.specs.Disk.{View}
-use Rattle.world_defs.specs.World.{Name, Place, Kept}
+use Rattle.command_defs.specs.Commands.{Name}
+use Rattle.world_defs.specs.World.{Place, Kept}
 use Rattle.world_defs.specs.Answers.{NotEmpty, Answer, Done, Refused, DiskFault, NotAFile, Ran}
 use Rattle.world_defs.specs.Refusals.{not_empty}
 use Rattle.world_defs.specs.Rows.{Creates, CreateFails}

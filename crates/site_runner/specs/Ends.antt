@@ -2,10 +2,10 @@
 use Rattle.std.specs.Prelude.{◌≡◌, ◌⊎◌, ℕ, ◌+◌, ◌≤◌, List, [], ◌++◌, length, take, Option, Some}
 use Rattle.std.specs.Io.KnownBytes.{Appends, Consumes, IsAtEnd}
 use Rattle.world_defs.specs.World.{World}
-use Rattle.world_defs.specs.Commands.{Command}
+use Rattle.command_defs.specs.Commands.{Command}
 use Rattle.world_defs.specs.Step.{CutOff}
 use Rattle.world_defs.specs.Runs.{Told, Runs, commands}
-use Rattle.world_defs.specs.Lines.{lines_of, ended}
+use Rattle.command_defs.specs.Lines.{lines_of, ended}
 use Rattle.world_defs.specs.Script.{MOST_LINES, Spells, Spell, IsUnfinished}
 use Rattle.site_runner.specs.Told.{IsPiece, AppendsFront}
 use Rattle.site_runner.specs.declared.status.Status.{Status}

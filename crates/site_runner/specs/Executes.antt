@@ -2,7 +2,7 @@
 use Rattle.std.specs.Prelude.{◌≡◌, List, ◌++◌, ℕ}
 use Rattle.disk_defs.specs.Disk.{View}
 use Rattle.world_defs.specs.World.{World}
-use Rattle.world_defs.specs.Commands.{Command}
+use Rattle.command_defs.specs.Commands.{Command}
 use Rattle.world_defs.specs.Answers.{Answer}
 use Rattle.world_defs.specs.Step.{Means, CutOff}
 use Rattle.world_defs.specs.Output.{text_of}

@@ -3,8 +3,8 @@ use Rattle.std.specs.Prelude.{◌≡◌, ℕ, ◌+◌, true, List, [], ◌∷◌
 use Rattle.std.specs.Fmt.{decimal}
 use Rattle.disk_defs.specs.Disk.{View}
 use Rattle.global_defs.specs.Extract.{extract}
-use Rattle.world_defs.specs.World.{Name, State, Down, Primary, Failed, Place, Kept}
-use Rattle.world_defs.specs.Commands.{Command, Create, StartPrimary, Run, Stop, Fuse, Crash, Extract}
+use Rattle.command_defs.specs.Commands.{Name, Command, Create, StartPrimary, Run, Stop, Fuse, Crash, Extract}
+use Rattle.world_defs.specs.World.{State, Down, Primary, Failed, Place, Kept}
 use Rattle.world_defs.specs.Answers.{Cause, NotEmpty, Answer, Done, Refused, DiskFault, NotAFile, Section, Ran}
 use Rattle.world_defs.specs.Refusals.{first, in_state, stopped, running, not_running, not_primary, not_simulated, not_empty}
 use Rattle.world_defs.specs.Rows.{Becomes, Fails, Creates, CreateFails, StartsPrimary, Crashes}

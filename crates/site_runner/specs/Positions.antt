@@ -2,7 +2,7 @@
 use Rattle.std.specs.Prelude.{◌≡◌, ◌≤◌, ℕ, Bool, true, false, List, [], ◌∷◌, ◌++◌, map, codes, decimal}
 use Rattle.std.specs.List.{list_all}
 use Rattle.global_defs.specs.Entry.{Update}
-use Rattle.world_defs.specs.Commands as commands
+use Rattle.command_defs.specs.Commands as commands
 use Rattle.world_defs.specs.Script.{Setting, is_setting, setting_line, MOST_CALLS, MOST_PICK, IsFront, Spells, Spell}
 use Rattle.site_runner.specs.declared.order.Order.{Order}
 use Rattle.site_runner.specs.declared.order.Order.TheVariants.{Create, StartPrimary, Stop, Fuse, Crash, Extract}

@@ -7,7 +7,8 @@ use Rattle.site_journal.specs.declared.reign.Reign.{Reign}
 use Rattle.site_journal.specs.Reigns.{Reigns}
 use Rattle.world_defs.specs.Lists.{Among}
 use Rattle.world_defs.specs.World as world
-use Rattle.world_defs.specs.World.{Name, Contents, Place, Settled, is_site_named}
+use Rattle.command_defs.specs.Commands.{Name}
+use Rattle.world_defs.specs.World.{Contents, Place, Settled, is_site_named}
 use Rattle.world_defs.specs.Rows.{reign_of}
 use Rattle.site_runner.specs.declared.slot.State.{State}
 use Rattle.site_runner.specs.declared.slot.State.TheVariants.{Down, Primary, Failed}

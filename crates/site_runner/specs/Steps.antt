@@ -9,7 +9,7 @@ use Rattle.site_journal.specs.Reigns.{tagged}
 use Rattle.site_journal.specs.declared.reign.Reign.{Reign}
 use Rattle.world_defs.specs.World.{Place}
 use Rattle.world_defs.specs.Answers.{Answer}
-use Rattle.world_defs.specs.Commands.{Command}
+use Rattle.command_defs.specs.Commands.{Command}
 use Rattle.world_defs.specs.Step.{LeftAt}
 use Rattle.world_defs.specs.Output.{line}
 use Rattle.world_defs.specs.Ties.{Matches}

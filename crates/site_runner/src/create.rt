@@ -3,8 +3,8 @@ ghost use Rattle.std.specs.Prelude.{◌≡◌, length, List, [], None, OnOk, OnE
 ghost use Rattle.disk_defs.specs.Gates.{records};
 ghost use Rattle.journal_defs.specs.Numbers.{journal_file};
 ghost use Rattle.world_defs.specs.Lists.{first_where};
-ghost use Rattle.world_defs.specs.Commands.{Region};
-ghost use Rattle.world_defs.specs.Commands as commands;
+ghost use Rattle.command_defs.specs.Commands.{Region};
+ghost use Rattle.command_defs.specs.Commands as commands;
 ghost use Rattle.site_runner.specs.Executes.{Executes, IsCutOff};
 ghost use Rattle.site_runner.specs.Here.{IsCutHere};
 ghost use Rattle.site_runner.specs.Creating.{CreatesHere, MakesHere};

@@ -1,6 +1,6 @@
 // FUSE and CRASH.
 ghost use Rattle.std.specs.Prelude.{◌≡◌, OnOk, OnErr};
-ghost use Rattle.world_defs.specs.Commands.{Fuse, Crash};
+ghost use Rattle.command_defs.specs.Commands.{Fuse, Crash};
 ghost use Rattle.site_runner.specs.Sites.{IsReadyState};
 ghost use Rattle.site_runner.specs.Steps.{ExecutesAt};
 

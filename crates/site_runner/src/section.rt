@@ -1,7 +1,7 @@
 // RUN.
 ghost use Rattle.std.specs.Prelude.{◌≡◌, true, ◌∷◌, [], map, OnOk, OnErr};
 ghost use Rattle.std.specs.List.{list_all};
-ghost use Rattle.world_defs.specs.Commands as commands;
+ghost use Rattle.command_defs.specs.Commands as commands;
 ghost use Rattle.site_journal.specs.Jobs.{is_set, job_value, updater_of};
 ghost use Rattle.site_runner.specs.Sites.{IsReadyState};
 ghost use Rattle.site_runner.specs.Steps.{ExecutesAt, IsCutAt};

@@ -1,6 +1,6 @@
 // START PRIMARY.
 ghost use Rattle.std.specs.Prelude.{◌≡◌, OnOk, OnErr};
-ghost use Rattle.world_defs.specs.Commands.{StartPrimary};
+ghost use Rattle.command_defs.specs.Commands.{StartPrimary};
 ghost use Rattle.site_runner.specs.declared.slot.State.TheVariants.{Down};
 ghost use Rattle.site_runner.specs.Sites.{IsReadyState};
 ghost use Rattle.site_runner.specs.Steps.{ExecutesAt, IsCutAt};

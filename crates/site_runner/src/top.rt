@@ -4,7 +4,7 @@ ghost use Rattle.std.specs.Io.KnownBytes.{Consumes};
 ghost use Rattle.repl_io.specs.Fault.{Rose};
 ghost use Rattle.world_defs.specs.World.{World, IsFresh};
 ghost use Rattle.world_defs.specs.Ties.{AreDisks};
-ghost use Rattle.world_defs.specs.Lines.{lines_of};
+ghost use Rattle.command_defs.specs.Lines.{lines_of};
 ghost use Rattle.world_defs.specs.Script.{IsScript, IsBadAt};
 ghost use Rattle.site_runner.specs.Commands.{command_value, IsCarried};
 ghost use Rattle.site_runner.specs.Sites.{AreReady};

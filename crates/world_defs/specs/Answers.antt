@@ -1,6 +1,6 @@
 -- What a command answers.
 use Rattle.std.specs.Prelude.{ℕ, List, Option}
-use Rattle.world_defs.specs.World.{Name}
+use Rattle.command_defs.specs.Commands.{Name}
 
 -- why a command is refused
 pub data Cause : Type 0 where

@@ -1,6 +1,5 @@
 pub mod Lists
 pub mod World
-pub mod Commands
 pub mod Answers
 pub mod Refusals
 pub mod Rows
@@ -8,5 +7,3 @@ pub mod Step
 pub mod Output
 pub mod Runs
 pub mod Ties
-pub mod Lines
-pub mod Script

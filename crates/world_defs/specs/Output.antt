@@ -1,13 +1,18 @@
 -- What a command writes.
-use Rattle.std.specs.Prelude.{ℕ, ◌+◌, ◌-◌, nat_lt, Bool, false, List, [], ◌∷◌, ◌++◌, length, codes, Option, Some, None, if◌then◌else◌}
+use Rattle.std.specs.Prelude.{ℕ, ◌+◌, ◌-◌, nat_lt, Bool, false, List, [], ◌∷◌, ◌++◌, length, filter, codes, Option, Some, None, if◌then◌else◌}
 use Rattle.std.specs.Fmt.{decimal}
 use Rattle.std.specs.List.{flat_map}
+use Rattle.std.specs.FinMap as globals
+use Rattle.global_defs.specs.Key.{Key}
+use Rattle.global_defs.specs.Entry.{Globals, Sequence, is_under, state}
+use Rattle.global_defs.specs.NodeText.{node_text}
+use Rattle.global_defs.specs.Zwr.{zwr}
 use Rattle.global_defs.specs.Extract.{extract}
 use Rattle.global_defs.specs.Jobs.{Job, Answers, Check, NotNum, Full, SeqLimit}
 use Rattle.global_defs.specs.Jobs as jobs
 use Rattle.global_defs.specs.Serial.{Reply, Seq, Read, RolledBack, Replied, Turn, begun}
-use Rattle.world_defs.specs.World.{Name, State, Down, Primary, Failed, Site, Place, World, site_of}
-use Rattle.world_defs.specs.Commands.{Command, Create, StartPrimary, Run, Stop, Fuse, Crash, Extract}
+use Rattle.command_defs.specs.Commands.{Name, Command, Create, StartPrimary, Run, Stop, Fuse, Crash, Extract, Zwrite}
+use Rattle.world_defs.specs.World.{State, Down, Primary, Failed, Site, Place, World, site_of}
 use Rattle.world_defs.specs.Answers.{Cause, NoSite, Stopped, Exists, NoDisk, NotEmpty, Running, NotRunning, NotPrimary, NotSimulated, Section, Answer, Done, Refused, DiskFault, NotAFile, Ran}
 use Rattle.world_defs.specs.Rows.{turn_of}
 
@@ -50,9 +55,31 @@ abbrev pub length_at : Option Place → ℕ
 length_at None = 0
 length_at (Some p) = length p.now.sequence
 
-abbrev pub extract_at : Name → ℕ → Option Place → List ℕ
+-- the extract from that number on, else from 1
+abbrev pub extract_from : Name → Option ℕ → Sequence → List ℕ
+extract_from name None seq = extract name seq 1
+extract_from name (Some from) seq = extract name seq from
+
+abbrev pub extract_at : Name → Option ℕ → Option Place → List ℕ
 extract_at name from None = []
-extract_at name from (Some p) = extract name p.now.sequence from
+extract_at name from (Some p) = extract_from name from p.now.sequence
+
+-- a node and its value in ZWR form
+abbrev pub node_line : Key × List ℕ → List ℕ
+node_line e = node_text e.0 ++ 61 ∷ zwr e.1 ++ 10 ∷ []
+
+-- every node, or that one and those below it, in M collation
+abbrev pub shown : Option Key → Globals → List (Key × List ℕ)
+shown None g = globals.entries g
+shown (Some top) g = filter (λ e. is_under top e.0) (globals.entries g)
+
+-- a line a node
+abbrev pub zwrite : Option Key → Globals → List ℕ
+zwrite top g = flat_map node_line (shown top g)
+
+abbrev pub zwrite_at : Option Key → Option Place → List ℕ
+zwrite_at top None = []
+zwrite_at top (Some p) = zwrite top (state p.now.sequence)
 
 abbrev pub cycle_in : State → ℕ
 cycle_in Down = 0
@@ -110,6 +137,7 @@ done_text w (Stop name) m = line name (codes "DOWN " ++ decimal (length_at (site
 done_text w (Fuse name calls) m = line name (codes "FUSED " ++ decimal calls)
 done_text w (Crash name pick) m = line name (codes "CRASHED")
 done_text w (Extract name from) m = extract_at name from (site_of w name)
+done_text w (Zwrite name top) m = zwrite_at top (site_of w name)
 
 -- a section with its jobs
 abbrev pub ran_text : World → Command → Section → List ℕ
@@ -120,6 +148,7 @@ ran_text w (Stop name) s = []
 ran_text w (Fuse name calls) s = []
 ran_text w (Crash name pick) s = []
 ran_text w (Extract name from) s = []
+ran_text w (Zwrite name top) s = []
 
 -- the site that a command names
 abbrev pub name_in : Command → Name
@@ -130,6 +159,7 @@ name_in (Stop name) = name
 name_in (Fuse name calls) = name
 name_in (Crash name pick) = name
 name_in (Extract name from) = name
+name_in (Zwrite name top) = name
 
 abbrev pub text_of : World → Command → Answer → World → List ℕ
 text_of w c Done m = done_text w c m

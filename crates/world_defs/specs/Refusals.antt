@@ -1,7 +1,7 @@
 -- Which commands a world refuses, and with which cause: the first one of a list of tests.
 use Rattle.std.specs.Prelude.{Bool, List, [], ◌∷◌, Option, Some, None, ◌&&◌, if◌then◌else◌}
-use Rattle.world_defs.specs.World.{Name, State, Down, Primary, Failed, Site, Place, World, next_of, at_place, site_of}
-use Rattle.world_defs.specs.Commands.{Command, Create, StartPrimary, Run, Stop, Fuse, Crash, Extract}
+use Rattle.command_defs.specs.Commands.{Name, Command, Create, StartPrimary, Run, Stop, Fuse, Crash, Extract, Zwrite}
+use Rattle.world_defs.specs.World.{State, Down, Primary, Failed, Site, Place, World, next_of, at_place, site_of}
 use Rattle.world_defs.specs.Answers.{Cause, NoSite, Stopped, Exists, NoDisk, NotEmpty, Running, NotRunning, NotPrimary, NotSimulated, Refusal}
 
 -- the first cause of these
@@ -73,6 +73,7 @@ early w (Stop name) = one w name (λ p. in_state stopped p.site ∷ in_state not
 early w (Fuse name calls) = one w name (λ p. in_state stopped p.site ∷ not_simulated p.simulated ∷ [])
 early w (Crash name pick) = one w name (λ p. in_state not_running p.site ∷ not_simulated p.simulated ∷ [])
 early w (Extract name from) = one w name (λ p. in_state stopped p.site ∷ in_state not_running p.site ∷ [])
+early w (Zwrite name top) = one w name (λ p. in_state stopped p.site ∷ in_state not_running p.site ∷ [])
 
 -- The refusals that files decide. A read comes before them, and may fail.
 abbrev pub late : World → Command → Option Refusal
@@ -83,6 +84,7 @@ late w (Stop name) = None
 late w (Fuse name calls) = None
 late w (Crash name pick) = None
 late w (Extract name from) = None
+late w (Zwrite name top) = None
 
 abbrev pub or_else : Option Refusal → Option Refusal → Option Refusal
 or_else None r = r

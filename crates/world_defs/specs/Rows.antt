@@ -6,7 +6,8 @@ use Rattle.global_defs.specs.Entry.{Stamp, Entry, Sequence}
 use Rattle.global_defs.specs.Jobs.{Job}
 use Rattle.global_defs.specs.Serial.{Turn, serial, begun}
 use Rattle.world_defs.specs.Lists.{Among}
-use Rattle.world_defs.specs.World.{Name, State, Down, Primary, Failed, Site, Contents, Place, Same}
+use Rattle.command_defs.specs.Commands.{Name}
+use Rattle.world_defs.specs.World.{State, Down, Primary, Failed, Site, Contents, Place, Same}
 
 abbrev pub in_new_state : State → Option Site → Option Site
 in_new_state state None = None

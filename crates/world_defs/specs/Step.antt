@@ -4,8 +4,8 @@ use Rattle.global_defs.specs.Entry.{Stamp}
 use Rattle.global_defs.specs.Jobs.{Job}
 use Rattle.global_defs.specs.Serial.{Turn}
 use Rattle.world_defs.specs.Lists.{Among, Along, At}
-use Rattle.world_defs.specs.World.{Name, State, Down, Primary, Failed, Site, Contents, Place, World, Kept, place_of, next_of}
-use Rattle.world_defs.specs.Commands.{Command, Create, StartPrimary, Run, Stop, Fuse, Crash, Extract}
+use Rattle.command_defs.specs.Commands.{Name, Command, Create, StartPrimary, Run, Stop, Fuse, Crash, Extract, Zwrite}
+use Rattle.world_defs.specs.World.{State, Down, Primary, Failed, Site, Contents, Place, World, Kept, place_of, next_of}
 use Rattle.world_defs.specs.Answers.{NotEmpty, Refusal, Answer, Done, Refused, DiskFault, NotAFile, Section, Ran}
 use Rattle.world_defs.specs.Refusals.{early, refusal}
 use Rattle.world_defs.specs.Rows.{Becomes, Fails, Creates, CreateFails, StartsPrimary, RunsWhole, RunFails, IsFrontOf, Crashes, turn_of, empty_site}
@@ -51,6 +51,7 @@ Row w (Stop name) m = OnSite w name (λ old new. Becomes Down old.now old new) m
 Row w (Fuse name calls) m = Unchanged w m
 Row w (Crash name pick) m = OnSite w name Crashes m
 Row w (Extract name from) m = Unchanged w m
+Row w (Zwrite name top) m = Unchanged w m
 
 -- what the answer that a section ran means
 abbrev pub SectionRow : World → Command → Section → World → Type 0
@@ -61,6 +62,7 @@ SectionRow w (Stop name) s m = ⊥
 SectionRow w (Fuse name calls) s m = ⊥
 SectionRow w (Crash name pick) s m = ⊥
 SectionRow w (Extract name from) s m = ⊥
+SectionRow w (Zwrite name top) s m = ⊥
 
 -- each outcome is an old one
 abbrev pub OldOnes : Place → Contents → Type 0
@@ -76,6 +78,7 @@ Faulted w (Stop name) k m = ⊥
 Faulted w (Fuse name calls) k m = ⊥
 Faulted w (Crash name pick) k m = ⊥
 Faulted w (Extract name from) k m = ⊥
+Faulted w (Zwrite name top) k m = ⊥
 
 -- a place whose files aren't known, which stays as it is
 pub record KeptUnknown (old new : Place) : Type 0 where
@@ -91,6 +94,7 @@ Damaged w (Stop name) m = ⊥
 Damaged w (Fuse name calls) m = ⊥
 Damaged w (Crash name pick) m = ⊥
 Damaged w (Extract name from) m = ⊥
+Damaged w (Zwrite name top) m = ⊥
 
 -- Where files aren't known they may refuse a command too.
 abbrev pub MayRefuse : World → Command → Refusal → World → Type 0
@@ -101,6 +105,7 @@ MayRefuse w (Stop name) r m = ⊥
 MayRefuse w (Fuse name calls) r m = ⊥
 MayRefuse w (Crash name pick) r m = ⊥
 MayRefuse w (Extract name from) r m = ⊥
+MayRefuse w (Zwrite name top) r m = ⊥
 
 -- The meaning of a command, its answer, and the worlds before and after. A refusal changes nothing.
 abbrev pub Means : World → Command → Answer → World → Type 0
@@ -135,6 +140,7 @@ MayLeave (Stop name) old o = ⊥
 MayLeave (Fuse name calls) old o = ⊥
 MayLeave (Crash name pick) old o = ⊥
 MayLeave (Extract name from) old o = ⊥
+MayLeave (Zwrite name top) old o = ⊥
 
 -- the place that a command acts on
 abbrev pub subject : World → Command → Option ℕ
@@ -145,6 +151,7 @@ subject w (Stop name) = place_of w name
 subject w (Fuse name calls) = place_of w name
 subject w (Crash name pick) = place_of w name
 subject w (Extract name from) = place_of w name
+subject w (Zwrite name top) = place_of w name
 
 abbrev pub is_at : Option ℕ → ℕ → Bool
 is_at None i = false

@@ -7,7 +7,8 @@ use Rattle.journal_defs.specs.Journal.{JournalRecord, Pini, Tcom, IsJournalBody}
 use Rattle.journal_defs.specs.Numbers.{journal_file}
 use Rattle.journal_defs.specs.Stands.{Holds}
 use Rattle.world_defs.specs.Lists.{Among, Along}
-use Rattle.world_defs.specs.World.{Name, Site, Contents, Place, World}
+use Rattle.command_defs.specs.Commands.{Name}
+use Rattle.world_defs.specs.World.{Site, Contents, Place, World}
 use Rattle.world_defs.specs.Rows.{reign_of}
 
 abbrev pub items_from : ℕ → List Update → List Item

@@ -3,11 +3,8 @@ use Rattle.std.specs.Prelude.{◌≡◌, ℕ, ◌≤◌, Bool, true, false, List
 use Rattle.std.specs.Cmp.Lexicographic.{pointwise}
 use Rattle.std.specs.List.{AllByRecursion}
 use Rattle.global_defs.specs.Entry.{Stamp, Sequence}
+use Rattle.command_defs.specs.Commands.{Name}
 use Rattle.world_defs.specs.Lists.{Among, first_where}
-
--- of a site or a region
-abbrev pub Name : Type 0
-Name = List ℕ
 
 abbrev pub same_name : Name → Name → Bool
 same_name a b = pointwise nat_eq a b

@@ -1,7 +1,7 @@
-//! Definitions: script lines, commands, worlds, the meaning of a command and what it writes. There is no code here but laws,
+//! Definitions: worlds, the meaning of a command and what it writes. There is no code here but laws,
 //! each the contract of a function that does nothing.
 #![tactic(auto)]
 
 mod laws;
 
-pub use laws::{lines_hold, output_holds, refusals_hold};
+pub use laws::{output_holds, refusals_hold};

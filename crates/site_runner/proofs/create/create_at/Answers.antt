@@ -1,7 +1,8 @@
 use Rattle.std.proofs.Common.{◌≡◌, ◌++◌, ◌∷◌, ℕ, List, Bool, true, false, ◌∙◌, ap, subst, Err, Ok}
 use Rattle.std.specs.Prelude.{codes, IfSome}
 use Rattle.std.specs.Fmt.{decimal}
-use Rattle.world_defs.specs.World.{Name, Contents}
+use Rattle.command_defs.specs.Commands.{Name}
+use Rattle.world_defs.specs.World.{Contents}
 use Rattle.world_defs.specs.Output.{line}
 use Rattle.world_defs.specs.Ties.{Stands}
 use Rattle.site_runner.proofs.Results.{on_ok, err_holds, on_err_of}

@@ -2,7 +2,7 @@ use Rattle.std.proofs.Common.{◌≡◌, ℕ, List, [], Some, None, ◌++◌, �
 use Rattle.std.specs.Prelude.{Option, codes}
 use Rattle.world_defs.specs.Lists.{first_where}
 use Rattle.world_defs.specs.Output.{line}
-use Rattle.world_defs.specs.Commands as commands
+use Rattle.command_defs.specs.Commands as commands
 use Rattle.site_runner.specs.declared.slot.Slot.{Slot}
 use Rattle.site_runner.specs.Creating.{CreatesHere}
 use Rattle.site_runner.specs.Here.{IsCutHere}

@@ -1,6 +1,5 @@
 use Rattle.std.proofs.Common.{◌≡◌, true, Some, sym, subst}
-use Rattle.world_defs.specs.World.{Name}
-use Rattle.world_defs.specs.Commands.{Stop, Extract}
+use Rattle.command_defs.specs.Commands.{Name, Stop, Extract}
 use Rattle.world_defs.specs.Output.{name_in}
 use Rattle.site_runner.specs.declared.command.Command.{Command}
 use Rattle.site_runner.specs.Commands.{command_value}

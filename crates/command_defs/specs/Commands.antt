@@ -1,7 +1,11 @@
 -- The commands of a script.
-use Rattle.std.specs.Prelude.{ℕ, Bool, List}
+use Rattle.std.specs.Prelude.{ℕ, Bool, List, Option}
+use Rattle.global_defs.specs.Key.{Key}
 use Rattle.global_defs.specs.Jobs.{Job}
-use Rattle.world_defs.specs.World.{Name}
+
+-- of a site or a region
+abbrev pub Name : Type 0
+Name = List ℕ
 
 -- of a site; its journal has before-images or not (GT.M: MUPIP SET -JOURNAL=[NO]BEFORE_IMAGES)
 pub record Region : Type 0 where
@@ -18,5 +22,7 @@ pub data Command : Type 0 where
   Fuse : Name → (calls : ℕ) → Command
   -- the site's disk takes the image of that pick
   Crash : Name → (pick : ℕ) → Command
-  -- the entries from that number on
-  Extract : Name → (from : ℕ) → Command
+  -- the entries from that number on, else from 1
+  Extract : Name → (from : Option ℕ) → Command
+  -- all nodes, or that one and those below it (GT.M: ZWRITE)
+  Zwrite : Name → (top : Option Key) → Command

@@ -1,0 +1,2 @@
+//! Definitions: the commands of a script.
+#![tactic(auto)]
