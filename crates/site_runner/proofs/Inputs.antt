@@ -1,19 +1,20 @@
 -- What is known of an input once lines of it were taken.
-use Rattle.std.proofs.Common.{◌≡◌, ℕ, ◌+◌, ◌-◌, ◌<◌, ◌==◌, true, false, List, [], ◌∷◌, ◌++◌, length, take, None, Some, refl, ap, sym, ◌∙◌, append_assoc, subst, inl, inr, arith, length-append}
+use Rattle.std.proofs.Common.{◌≡◌, ℕ, ◌+◌, ◌<◌, ◌≤◌, ◌==◌, true, false, List, [], ◌∷◌, ◌++◌, length, take, None, Some, refl, ap, sym, ◌∙◌, append_assoc, subst, inl, inr, arith, length-append}
 use Rattle.std.specs.Prelude.{Option, IfSome}
 use Rattle.std.specs.List.{list_all, list_any}
 use Rattle.std.specs.Io.KnownBytes.{Consumes, IsAtEnd, Keeps}
 use Rattle.std.proofs.lemmas.List.{take_at, append-nil}
 use Rattle.std.proofs.lemmas.List.Concat.{flat_map-append}
 use Rattle.std.proofs.lemmas.Bool.{cases_Bool}
+use Rattle.command_defs.specs.Commands.{Command}
 use Rattle.command_defs.specs.Lines.{onto, lines_of, ended}
-use Rattle.world_defs.specs.Script.{IsFront, IsBadAt}
+use Rattle.command_defs.specs.Script.{Position, IsBadAt}
+use Rattle.site_runner.specs.Ends.{ComeTo}
 use Rattle.site_runner.specs.Told.{IsPiece}
-use Rattle.site_runner.specs.Positions.{IsBad}
 use Rattle.site_runner.proofs.Told.{consumes_then}
 use Rattle.site_runner.proofs.Cuts.{split_and, split_or}
 use Rattle.site_runner.proofs.LineLaws.{is_clean, last_line, first_line, lines_ended}
-use Rattle.site_runner.proofs.Orders.{short}
+use Rattle.site_runner.proofs.Readings.{bad_here, long_line}
 
 pub if_some : {A : Type 0} (o : Option A) (P Q : A → Type 0) → ((x : A) → P x → Q x) → IfSome o P → IfSome o Q
 if_some None P Q f h = tt
@@ -96,18 +97,6 @@ begin_fed o m n lines line h p a b =
 pub begin_last : (o : Option (List ℕ)) (lines : List (List ℕ)) (line : List ℕ) → LinesAre o (lines ++ line ∷ []) → Begin o lines line
 begin_last o lines line l = if_some o (λ input. lines_of input ≡ lines ++ line ∷ []) (λ input. (more : List (List ℕ)) × (lines_of input ≡ lines ++ line ∷ more)) (λ input s. ([], s)) l
 
-take_one : (lines : List (List ℕ)) (line : List ℕ) (more : List (List ℕ)) → take (length lines + 1) (lines ++ line ∷ more) ≡ lines ++ line ∷ []
-take_one lines line more =
-    let n : length (lines ++ line ∷ []) ≡ length lines + 1 = omega (arith, length-append lines (line ∷ [])) in
-    ap (take (length lines + 1)) (sym (append_assoc lines (line ∷ []) more)) ∙ take_at (lines ++ line ∷ []) more (length lines + 1) n
-
--- the first line that no script has there
-pub bad_at : (lines : List (List ℕ)) (line : List ℕ) (more : List (List ℕ)) (n : ℕ) → n ≡ length lines + 1 → IsFront lines → IsBad lines line → IsBadAt (lines ++ line ∷ more) n
-bad_at lines line more n k f b =
-    let before : take (n - 1) (lines ++ line ∷ more) ≡ lines = take_at lines (line ∷ more) (n - 1) (omega (arith, k)) in
-    let here : take n (lines ++ line ∷ more) ≡ lines ++ line ∷ [] = ap (λ x. take x (lines ++ line ∷ more)) k ∙ take_one lines line more in
-    inr (omega (arith, k, length-append lines (line ∷ more)), subst IsFront (sym before) f, inl (λ g. b [] (subst IsFront here g)))
-
 -- a first line of more bytes
 record Longer (line bytes : List ℕ) : Type 0 where
   rest : List ℕ
@@ -139,25 +128,22 @@ some_line b rest = elim (cases_Bool (b == 10)) [
 ]
 
 -- a line that is too long
-pub bad_long : (o m n : Option (List ℕ)) (taken : List (List ℕ)) (line : List ℕ) (k : ℕ) → list_all is_clean taken ≡ true → IsPiece line → length line ≡ 4097
-    → Consumes o m (ended taken) → Consumes m n line → IsFront taken → k ≡ length taken + 1 → IfSome o (λ input. IsBadAt (lines_of input) k)
-bad_long o m n taken line k h q l a b e f =
-    if_some o (λ input. (rest : List ℕ) × (input ≡ (ended taken ++ line) ++ rest)) (λ input. IsBadAt (lines_of input) k)
+pub bad_long : (o m n : Option (List ℕ)) (taken : List (List ℕ)) (line : List ℕ) (cs : List Command) (p : Position) (k : ℕ) → list_all is_clean taken ≡ true → IsPiece line → length line ≡ 4097
+    → Consumes o m (ended taken) → Consumes m n line → ComeTo taken cs p → k ≡ length taken + 1 → k ≤ 100000 → IfSome o (λ input. IsBadAt (lines_of input) k 4097)
+bad_long o m n taken line cs p k h q l a b e f few =
+    if_some o (λ input. (rest : List ℕ) × (input ≡ (ended taken ++ line) ++ rest)) (λ input. IsBadAt (lines_of input) k 4097)
     (λ input (rest, s).
     let x = longer line rest q (omega (arith, l)) in
     let t : lines_of input ≡ taken ++ (line ++ x.rest) ∷ x.more = ap lines_of (s ∙ append_assoc (ended taken) line rest) ∙ lines_ended taken (line ++ rest) h ∙ ap (λ y. taken ++ y) x.spelled in
-    let bad : IsBad taken (line ++ x.rest) = λ more g. absurd (omega (arith, l, length-append line x.rest, short taken (line ++ x.rest) more g)) in
-    subst (λ (y : List (List ℕ)). IsBadAt y k) (sym t) (bad_at taken (line ++ x.rest) x.more k f e bad))
+    subst (λ (y : List (List ℕ)). IsBadAt y k 4097) (sym t) (bad_here taken (line ++ x.rest) x.more cs p k 4097 f few e (long_line p (line ++ x.rest) (omega (arith, l, length-append line x.rest)))))
     (front_taken o n (ended taken ++ line) (consumes_then o m n (ended taken) line a b))
 
--- a byte behind the last line that is allowed
-pub bad_more : (o m n : Option (List ℕ)) (taken : List (List ℕ)) (byte k : ℕ) → list_all is_clean taken ≡ true
-    → Consumes o m (ended taken) → Consumes m n (byte ∷ []) → IsFront taken → k ≡ length taken + 1 → 100000 < k → IfSome o (λ input. IsBadAt (lines_of input) k)
-bad_more o m n taken byte k h a b e f g =
-    if_some o (λ input. (rest : List ℕ) × (input ≡ (ended taken ++ byte ∷ []) ++ rest)) (λ input. IsBadAt (lines_of input) k)
+-- a byte behind lines begins one line more
+pub long_more : (o m n : Option (List ℕ)) (taken : List (List ℕ)) (byte : ℕ) → list_all is_clean taken ≡ true → Consumes o m (ended taken) → Consumes m n (byte ∷ [])
+    → IfSome o (λ input. (more : List (List ℕ)) × (lines_of input ≡ taken ++ more) × (0 < length more))
+long_more o m n taken byte h a b =
+    if_some o (λ input. (rest : List ℕ) × (input ≡ (ended taken ++ byte ∷ []) ++ rest)) (λ input. (more : List (List ℕ)) × (lines_of input ≡ taken ++ more) × (0 < length more))
     (λ input (rest, s).
     let x = some_line byte rest in
-    let t : lines_of input ≡ taken ++ x.0 ∷ x.1.0 = ap lines_of (s ∙ append_assoc (ended taken) (byte ∷ []) rest) ∙ lines_ended taken (byte ∷ rest) h ∙ ap (λ y. taken ++ y) x.1.1 in
-    let before : take (k - 1) (taken ++ x.0 ∷ x.1.0) ≡ taken = take_at taken (x.0 ∷ x.1.0) (k - 1) (omega (arith, f)) in
-    subst (λ (y : List (List ℕ)). IsBadAt y k) (sym t) (inr (omega (arith, f, length-append taken (x.0 ∷ x.1.0)), subst IsFront (sym before) e, inr g)))
+    (x.0 ∷ x.1.0, ap lines_of (s ∙ append_assoc (ended taken) (byte ∷ []) rest) ∙ lines_ended taken (byte ∷ rest) h ∙ ap (λ y. taken ++ y) x.1.1, omega arith))
     (front_taken o n (ended taken ++ byte ∷ []) (consumes_then o m n (ended taken) (byte ∷ []) a b))

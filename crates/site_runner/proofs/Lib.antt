@@ -1,12 +1,9 @@
 pub mod Cuts
-pub mod Settings
 pub mod Told
 pub mod Turned
 pub mod Moved
 pub mod Results
-pub mod Fronts
-pub mod Orders
-pub mod Numbers
+pub mod Readings
 pub mod Goings
 pub mod LineLaws
 pub mod Inputs

@@ -1,36 +1,36 @@
 -- The loop over lines, and each way out of it.
-use Rattle.std.proofs.Common.{◌≡◌, ℕ, ◌+◌, ◌*◌, ◌<◌, ◌≤◌, true, false, List, [], ◌∷◌, ◌++◌, length, take, None, Some, refl, ap, sym, ◌∙◌, append_assoc, subst, inl, inr, arith, length-append}
-use Rattle.std.specs.Prelude.{Option, IfSome, ◌⊎◌}
+use Rattle.std.proofs.Common.{◌≡◌, ℕ, ◌+◌, ◌*◌, ◌<◌, ◌≤◌, true, List, [], ◌∷◌, ◌++◌, length, take, None, Some, refl, ap, sym, ◌∙◌, append_assoc, subst, inl, inr, arith, length-append}
+use Rattle.std.specs.Prelude.{Option, IfSome, ◌⊎◌, slice_get}
 use Rattle.std.specs.List.{list_all}
 use Rattle.std.specs.Io.KnownBytes.{Appends, Consumes, IsAtEnd, Keeps}
 use Rattle.std.proofs.lemmas.List.{take_at, append-nil}
 use Rattle.disk_defs.specs.Disk.{View}
-use Rattle.world_defs.specs.World.{World}
 use Rattle.command_defs.specs.Commands.{Command}
-use Rattle.world_defs.specs.Step.{CutOff}
 use Rattle.command_defs.specs.Lines.{lines_of, ended}
+use Rattle.command_defs.specs.Sections.{Section}
+use Rattle.command_defs.specs.Script.{Position, Outside, Within, Ends, line_reading, IsScript, IsBadAt, behind_all}
+use Rattle.world_defs.specs.World.{World}
+use Rattle.world_defs.specs.Step.{CutOff}
 use Rattle.world_defs.specs.Runs.{commands}
-use Rattle.world_defs.specs.Script.{Spells, Spell, IsScript, IsBadAt}
 use Rattle.site_runner.specs.declared.slot.Slot.{Slot}
 use Rattle.site_runner.specs.declared.status.Status.{Status}
 use Rattle.site_runner.specs.declared.status.Status.TheVariants.{Ok, BadWords, BadLine, ScriptTooLong, SourceFault, SinkFault, NoMemory}
 use Rattle.site_runner.specs.Told.{IsPiece, AppendsFront}
 use Rattle.site_runner.specs.Tied.{Tied, Matched}
-use Rattle.site_runner.specs.Positions.{Position, Reads}
-use Rattle.site_runner.specs.Ends.{Went, Reached, IsCutShort, EndsSo, RanTo}
-use Rattle.site_runner.specs.Going.{Going, StopsAt, Halts, GoesOn}
+use Rattle.site_runner.specs.Ends.{ComeTo, Went, Reached, IsCutShort, EndsSo, RanTo, IsTooLong}
+use Rattle.site_runner.specs.Going.{Going, StopsAt, Halts, GoesOn, Finishes}
 use Rattle.site_runner.proofs.Told.{consumes_then}
 use Rattle.site_runner.proofs.LineLaws.{is_clean}
-use Rattle.site_runner.proofs.Fronts.{is_front, is_open, not_open, reads_nothing, spell_more}
-use Rattle.site_runner.proofs.Goings.{matched, begins, stops, stops_rest, all_of}
-use Rattle.site_runner.proofs.Inputs.{if_some, in_told, LinesAre, lines_at_end, lines_at_last, then_nothing, kept_nothing, one_more_line, more_clean, one_longer, longer_bytes, Begin, begin_fed, begin_last, bad_at, bad_long, bad_more}
+use Rattle.site_runner.proofs.Readings.{bad_here, line_there}
+use Rattle.site_runner.proofs.Goings.{matched, begins, stops, stops_there, all_of}
+use Rattle.site_runner.proofs.Inputs.{if_some, in_told, LinesAre, lines_at_end, lines_at_last, then_nothing, kept_nothing, one_more_line, more_clean, one_longer, longer_bytes, Begin, begin_fed, begin_last, bad_long, long_more}
 
 -- So many lines were taken, and the slots were these before the first.
 pub record InLoop {D : Type 0} (view : D → View) (first slots : List (Slot D)) (p : Position) (lines : ℕ) (o m old new : Option (List ℕ)) : Type 0 where
   pub taken : List (List ℕ)
-  pub unended : List (List ℕ)
-  pub reads : Reads p taken unended
-  pub going : (w : World) → Tied view first w → Going view w slots taken unended old new
+  pub commands : List Command
+  pub read : ComeTo taken commands p
+  pub going : (w : World) → Tied view first w → Going view w slots taken p old new
   pub consumed : Consumes o m (ended taken)
   pub clean : list_all is_clean taken ≡ true
   pub count : length taken ≡ lines
@@ -44,12 +44,12 @@ Meaning view first slots status o n old new = (w : World) → Tied view first w 
 pub next_line : {D : Type 0} (view : D → View) (first slots next : List (Slot D)) (p q : Position) (lines : ℕ) (o m n old mid new : Option (List ℕ)) (line : List ℕ)
     → InLoop view first slots p lines o m old mid → GoesOn view p q slots next line mid new → IsPiece line → length line ≤ 4096 → Consumes m n (line ++ 10 ∷ []) → InLoop view first next q (lines + 1) o n old new
 next_line view first slots next p q lines o m n old mid new line i g c l b =
-    let x = g i.taken i.unended i.reads in
+    let x = g.0 i.taken i.commands i.read in
     record {
       taken = i.taken ++ line ∷ [];
-      unended = x.0;
-      reads = x.1;
-      going = λ w t. x.2 w old (i.going w t);
+      commands = x.0;
+      read = x.1;
+      going = λ w t. g.1 w i.taken old (i.going w t);
       consumed = one_more_line o m n i.taken line i.consumed b;
       clean = more_clean i.taken line i.clean c;
       count = one_longer i.taken line lines i.count;
@@ -57,7 +57,7 @@ next_line view first slots next p q lines o m n old mid new line i g c l b =
     }
 
 ran_to : (status : Status) (input : List ℕ) (n old new : Option (List ℕ)) (taken more : List (List ℕ)) (start mid after : World) → lines_of input ≡ taken ++ more → Reached status input n (length taken)
-    → (w : Went status taken start mid old new) → EndsSo status (w.rest ++ more) mid after → RanTo status input n start after old new
+    → (w : Went status taken start mid old new) → EndsSo status (lines_of input) (length taken) w.position mid after → RanTo status input n start after old new
 ran_to status input n old new taken more start mid after l r w e =
     let front : taken ≡ take (length taken) (lines_of input) = sym (ap (take (length taken)) l ∙ take_at taken more (length taken) refl) in
     record {
@@ -68,15 +68,12 @@ ran_to status input n old new taken more start mid after l r w e =
       went = record {
         told = w.told;
         output = w.output;
-        rest = w.rest;
+        position = w.position;
         runs = w.runs;
-        spelled = subst (λ (x : List (List ℕ)). Spell x (commands w.told) w.rest) front w.spelled;
-        begun = w.begun;
+        spelled = subst (λ (x : List (List ℕ)). ComeTo x (commands w.told) w.position) front w.spelled;
         writes = w.writes;
         all = w.all;
       };
-      following = w.rest ++ more;
-      spelled = subst (λ (x : List (List ℕ)). Spell x (commands w.told) (w.rest ++ more)) (sym l) (spell_more taken (commands w.told) w.rest more w.spelled);
       ends = e;
     }
 
@@ -91,7 +88,7 @@ source_failed view first slots p lines o m n old new piece i b c w t =
     let reached : Consumes (Some input) n (ended (take (length i.taken) (lines_of input)) ++ piece) =
     subst (λ (x : Option (List ℕ)). Consumes x n (ended (take (length i.taken) (lines_of input)) ++ piece)) e
     (subst (λ (x : List (List ℕ)). Consumes o n (ended x ++ piece)) front (consumes_then o m n (ended i.taken) piece i.consumed b)) in
-    (g.mid, matched view slots g.mid g.tied, ran_to SourceFault input n old new i.taken more w g.mid g.mid l (piece, c, reached) (stops view SourceFault p w slots i.taken i.unended old new new (λ output a. a) (λ h. absurd (not_ok h)) i.reads g) refl))
+    (g.mid, matched view slots g.mid g.tied, ran_to SourceFault input n old new i.taken more w g.mid g.mid l (piece, c, reached) (stops view SourceFault p w slots i.taken old new new (λ output a. a) (λ h. absurd (not_ok h)) g) refl))
   where
     not_ok : SourceFault ≡ Ok → ⊥
     not_ok h = cc
@@ -111,7 +108,7 @@ no_memory view first slots p lines o m n old new i w t =
     in_told o m i.taken (λ input. (after : World) × Matched view slots after × RanTo NoMemory input n w after old new) i.clean i.consumed
     (λ input more e l.
     let g = i.going w t in
-    (g.mid, matched view slots g.mid g.tied, ran_to NoMemory input n old new i.taken more w g.mid g.mid l tt (stops view NoMemory p w slots i.taken i.unended old new new (all_of old new) (λ h. absurd (memory_not_ok h)) i.reads g) (inl refl)))
+    (g.mid, matched view slots g.mid g.tied, ran_to NoMemory input n old new i.taken more w g.mid g.mid l tt (stops view NoMemory p w slots i.taken old new new (all_of old new) (λ h. absurd (memory_not_ok h)) g) (inl refl)))
 
 bad_not_ok : (k c : ℕ) → BadLine k c ≡ Ok → ⊥
 bad_not_ok k c h = cc
@@ -122,58 +119,111 @@ bad_there view first slots p lines k c o m n old new i h w t =
     in_told o m i.taken (λ input. (after : World) × Matched view slots after × RanTo (BadLine k c) input n w after old new) i.clean i.consumed
     (λ input more e l.
     let g = i.going w t in
-    (g.mid, matched view slots g.mid g.tied, ran_to (BadLine k c) input n old new i.taken more w g.mid g.mid l (omega (arith, h, i.count)) (stops view (BadLine k c) p w slots i.taken i.unended old new new (λ output a. a) (λ z. absurd (bad_not_ok k c z)) i.reads g) refl))
+    (g.mid, matched view slots g.mid g.tied, ran_to (BadLine k c) input n old new i.taken more w g.mid g.mid l (omega (arith, h, i.count)) (stops view (BadLine k c) p w slots i.taken old new new (λ output a. a) (λ z. absurd (bad_not_ok k c z)) g) refl))
 
--- how the end of the input is answered
-abbrev pub Finishes : Status → ℕ → Position → Type 0
-Finishes status lines p = ((status ≡ Ok) × (p.inside ≡ false)) ⊎ ((status ≡ BadLine (lines + 1) 1) × (p.inside ≡ true))
+long_not_ok : ScriptTooLong ≡ Ok → ⊥
+long_not_ok h = cc
+
+-- a byte behind the last line feed that may be
+pub too_long_there : {D : Type 0} (view : D → View) (first slots : List (Slot D)) (p : Position) (lines byte : ℕ) (o m n old new : Option (List ℕ))
+    → InLoop view first slots p lines o m old new → Consumes m n (byte ∷ []) → lines ≡ 100000 → Meaning view first slots ScriptTooLong o n old new
+too_long_there view first slots p lines byte o m n old new i b e w t =
+    if_some o (λ input. (more : List (List ℕ)) × (lines_of input ≡ i.taken ++ more) × (0 < length more)) (λ input. (after : World) × Matched view slots after × RanTo ScriptTooLong input n w after old new)
+    (λ input (more, s, some).
+    let g = i.going w t in
+    let many : 100000 < length (lines_of input) = omega (arith, ap length s, length-append i.taken more, some, e, i.count) in
+    (g.mid, matched view slots g.mid g.tied, ran_to ScriptTooLong input n old new i.taken more w g.mid g.mid s (i.count ∙ e, many) (stops view ScriptTooLong p w slots i.taken old new new (λ output a. a) (λ z. absurd (long_not_ok z)) g) refl))
+    (long_more o m n i.taken byte i.clean i.consumed b)
+
+pub too_long : {D : Type 0} (view : D → View) (first slots : List (Slot D)) (p : Position) (lines byte : ℕ) (o m n old new : Option (List ℕ))
+    → InLoop view first slots p lines o m old new → Consumes m n (byte ∷ []) → lines ≡ 100000 → IfSome o (λ input. IsTooLong (lines_of input))
+too_long view first slots p lines byte o m n old new i b e =
+    if_some o (λ input. (more : List (List ℕ)) × (lines_of input ≡ i.taken ++ more) × (0 < length more)) (λ input. IsTooLong (lines_of input))
+    (λ input (more, s, some).
+    let front : take 100000 (lines_of input) ≡ i.taken = ap (take 100000) s ∙ take_at i.taken more 100000 (i.count ∙ e) in
+    record {
+      commands = i.commands;
+      position = p;
+      front = subst (λ (x : List (List ℕ)). ComeTo x i.commands p) (sym front) i.read;
+      more = omega (arith, ap length s, length-append i.taken more, some, e, i.count);
+    })
+    (long_more o m n i.taken byte i.clean i.consumed b)
 
 -- the slots at the end of the input, and what was read
 pub record AtEnd {D : Type 0} (view : D → View) (first slots : List (Slot D)) (p : Position) (lines : ℕ) (o n old new : Option (List ℕ)) : Type 0 where
   pub taken : List (List ℕ)
-  pub unended : List (List ℕ)
-  pub reads : Reads p taken unended
-  pub going : (w : World) → Tied view first w → Going view w slots taken unended old new
+  pub commands : List Command
+  pub read : ComeTo taken commands p
+  pub going : (w : World) → Tied view first w → Going view w slots taken p old new
   pub lines_are : LinesAre o taken
   pub at_end : IsAtEnd n
   pub count : length taken ≡ lines
   pub few : lines ≤ 100000
 
 pub finished : {D : Type 0} (view : D → View) (first slots : List (Slot D)) (status : Status) (p : Position) (lines : ℕ) (o n old new : Option (List ℕ)) → Finishes status lines p → AtEnd view first slots p lines o n old new → Meaning view first slots status o n old new
-finished {D} view first slots status p lines o n old new (inl (e, closed)) a w t =
+finished {D} view first slots status Outside lines o n old new e a w t =
     let g = a.going w t in
     subst (λ (s : Status). IfSome o (λ input. (after : World) × Matched view slots after × RanTo s input n w after old new)) (sym e)
     (if_some o (λ input. lines_of input ≡ a.taken) (λ input. (after : World) × Matched view slots after × RanTo Ok input n w after old new)
-    (λ input s. (g.mid, matched view slots g.mid g.tied, ran_to Ok input n old new a.taken [] w g.mid g.mid (s ∙ sym (append-nil a.taken)) (ap length (sym s), omega (arith, a.count, a.few), a.at_end) (stops view Ok p w slots a.taken a.unended old new new (λ output x. x) (λ h. closed) a.reads g) refl)) a.lines_are)
-finished {D} view first slots status p lines o n old new (inr (e, within)) a w t =
+    (λ input s. (g.mid, matched view slots g.mid g.tied, ran_to Ok input n old new a.taken [] w g.mid g.mid (s ∙ sym (append-nil a.taken)) (ap length (sym s), omega (arith, a.count, a.few), a.at_end) (stops view Ok Outside w slots a.taken old new new (λ output x. x) (λ h. refl) g) refl)) a.lines_are)
+finished {D} view first slots status (Within section) lines o n old new e a w t =
     let g = a.going w t in
     subst (λ (s : Status). IfSome o (λ input. (after : World) × Matched view slots after × RanTo s input n w after old new)) (sym e)
     (if_some o (λ input. lines_of input ≡ a.taken) (λ input. (after : World) × Matched view slots after × RanTo (BadLine (lines + 1) 1) input n w after old new)
-    (λ input s. (g.mid, matched view slots g.mid g.tied, ran_to (BadLine (lines + 1) 1) input n old new a.taken [] w g.mid g.mid (s ∙ sym (append-nil a.taken)) (omega (arith, a.count)) (stops view (BadLine (lines + 1) 1) p w slots a.taken a.unended old new new (λ output x. x) (λ h. absurd (bad_not_ok (lines + 1) 1 h)) a.reads g) refl)) a.lines_are)
+    (λ input s. (g.mid, matched view slots g.mid g.tied, ran_to (BadLine (lines + 1) 1) input n old new a.taken [] w g.mid g.mid (s ∙ sym (append-nil a.taken)) (omega (arith, a.count)) (stops view (BadLine (lines + 1) 1) (Within section) w slots a.taken old new new (λ output x. x) (λ h. absurd (bad_not_ok (lines + 1) 1 h)) g) refl)) a.lines_are)
 
 -- what a bad line's status says
 pub parts : (a b n c : ℕ) (s : Status) → s ≡ BadLine a b → s ≡ BadLine n c → (n ≡ a) × (c ≡ b)
 parts a b n c s e f = let g : BadLine a b ≡ BadLine n c = sym e ∙ f in (cc, cc)
 
+bad_as : (lines : List (List ℕ)) (n m at to : ℕ) → n ≡ m → at ≡ to → IsBadAt lines n at → IsBadAt lines m to
+bad_as lines n m at to e f h = subst (λ (k : ℕ). IsBadAt lines k to) e (subst (λ (k : ℕ). IsBadAt lines n k) f h)
+
 -- a section without its end is bad behind its last line
-pub finished_bad : {D : Type 0} (view : D → View) (first slots : List (Slot D)) (status : Status) (p : Position) (lines k c : ℕ) (o n old new : Option (List ℕ)) → Finishes status lines p → AtEnd view first slots p lines o n old new → status ≡ BadLine k c → IfSome o (λ input. IsBadAt (lines_of input) k)
-finished_bad view first slots status p lines k c o n old new (inl (e, closed)) a h = absurd (bad_not_ok k c (sym h ∙ e))
-finished_bad view first slots status p lines k c o n old new (inr (e, within)) a h =
+pub finished_bad : {D : Type 0} (view : D → View) (first slots : List (Slot D)) (status : Status) (p : Position) (lines k c : ℕ) (o n old new : Option (List ℕ)) → Finishes status lines p → AtEnd view first slots p lines o n old new → status ≡ BadLine k c → IfSome o (λ input. IsBadAt (lines_of input) k c)
+finished_bad view first slots status Outside lines k c o n old new e a h = absurd (bad_not_ok k c (sym h ∙ e))
+finished_bad view first slots status (Within section) lines k c o n old new e a h =
     let q = parts (lines + 1) 1 k c status e h in
-    if_some o (λ input. lines_of input ≡ a.taken) (λ input. IsBadAt (lines_of input) k)
-    (λ input s. subst (λ (x : List (List ℕ)). IsBadAt x k) (sym s) (inl (omega (arith, q.0, a.count), is_open p a.taken a.unended a.reads within))) a.lines_are
+    if_some o (λ input. lines_of input ≡ a.taken) (λ input. IsBadAt (lines_of input) k c)
+    (λ input s. subst (λ (x : List (List ℕ)). IsBadAt x k c) (sym s)
+    (bad_as a.taken (length a.taken + 1) k 1 c (omega (arith, q.0, a.count)) (sym q.1)
+    (behind_all (record { commands = a.commands; position = Within section }) section (omega (arith, a.count, a.few)) a.read refl))) a.lines_are
 
 -- where all went well the input is a script
 pub finished_well : {D : Type 0} (view : D → View) (first slots : List (Slot D)) (status : Status) (p : Position) (lines : ℕ) (o n old new : Option (List ℕ)) → Finishes status lines p → AtEnd view first slots p lines o n old new → status ≡ Ok → IfSome o (λ input. IsScript (lines_of input))
-finished_well view first slots status p lines o n old new (inl (e, closed)) a h =
+finished_well view first slots status Outside lines o n old new e a h =
     if_some o (λ input. lines_of input ≡ a.taken) (λ input. IsScript (lines_of input))
-    (λ input s. subst IsScript (sym s) (record { front = is_front p a.taken a.unended a.reads; closed = not_open p a.taken a.unended a.reads closed; count = omega (arith, a.count, a.few) })) a.lines_are
-finished_well view first slots status p lines o n old new (inr (e, within)) a h = absurd (bad_not_ok (lines + 1) 1 (sym e ∙ h))
+    (λ input s. subst IsScript (sym s) (record { read = record { commands = a.commands; position = Outside }; reads = a.read; closed = refl; count = omega (arith, a.count, a.few) })) a.lines_are
+finished_well view first slots status (Within section) lines o n old new e a h = absurd (bad_not_ok (lines + 1) 1 (sym e ∙ h))
 
--- the command that a line ends was cut off
-cut_short : (unended : List (List ℕ)) (line : List ℕ) (more : List (List ℕ)) (mid after : World) → (after ≡ mid) ⊎ ((c : Command) × Spells (unended ++ line ∷ []) c × CutOff mid c after) → (after ≡ mid) ⊎ IsCutShort (unended ++ line ∷ more) mid after
-cut_short unended line more mid after (inl e) = inl e
-cut_short unended line more mid after (inr x) = inr (record { command = x.0; lines = unended ++ line ∷ []; tail = more; parts = sym (append_assoc unended (line ∷ []) more); spelled = x.1; left = x.2 })
+-- the end of the input is no line too many
+pub finished_not_long : (status : Status) (lines : ℕ) (p : Position) → Finishes status lines p → status ≡ ScriptTooLong → ⊥
+finished_not_long status lines Outside e h = apart (sym e ∙ h)
+  where
+    apart : Ok ≡ ScriptTooLong → ⊥
+    apart h = cc
+finished_not_long status lines (Within section) e h = apart (lines + 1) (sym e ∙ h)
+  where
+    apart : (n : ℕ) → BadLine n 1 ≡ ScriptTooLong → ⊥
+    apart n h = cc
+
+pub finished_plain : (status : Status) (lines : ℕ) (p : Position) → Finishes status lines p → (status ≡ BadWords → ⊥) × (status ≡ SourceFault → ⊥) × (status ≡ SinkFault → ⊥)
+finished_plain status lines Outside e = (λ h. absurd (a (sym e ∙ h)), λ h. absurd (b (sym e ∙ h)), λ h. absurd (c (sym e ∙ h)))
+  where
+    a : Ok ≡ BadWords → ⊥
+    a h = cc
+    b : Ok ≡ SourceFault → ⊥
+    b h = cc
+    c : Ok ≡ SinkFault → ⊥
+    c h = cc
+finished_plain status lines (Within section) e = (λ h. absurd (a (lines + 1) (sym e ∙ h)), λ h. absurd (b (lines + 1) (sym e ∙ h)), λ h. absurd (c (lines + 1) (sym e ∙ h)))
+  where
+    a : (n : ℕ) → BadLine n 1 ≡ BadWords → ⊥
+    a n h = cc
+    b : (n : ℕ) → BadLine n 1 ≡ SourceFault → ⊥
+    b n h = cc
+    c : (n : ℕ) → BadLine n 1 ≡ SinkFault → ⊥
+    c n h = cc
 
 -- a line halted the run
 pub halted : {D : Type 0} (view : D → View) (first slots next : List (Slot D)) (status : Status) (p : Position) (lines : ℕ) (o m n old mid new : Option (List ℕ)) (line : List ℕ) (rose : Type 0)
@@ -185,49 +235,54 @@ halted view first slots next (BadLine a c) p lines o m n old mid new line rose h
     if_some o (λ input. (more : List (List ℕ)) × (lines_of input ≡ i.taken ++ line ∷ more)) (λ input. (after : World) × Matched view next after × RanTo (BadLine a c) input n w after old new)
     (λ input (more, s). (
       g.mid,
-      subst (λ (x : List (Slot _)). Matched view x g.mid) (sym h.3) (matched view slots g.mid g.tied),
+      subst (λ (x : List (Slot _)). Matched view x g.mid) (sym h.2) (matched view slots g.mid g.tied),
       ran_to (BadLine a c) input n old new i.taken (line ∷ more) w g.mid g.mid s (omega (arith, h.0, i.count))
-          (stops view (BadLine a c) p w slots i.taken i.unended old mid new (λ output x. subst (λ (y : Option (List ℕ)). Appends old y output) (sym h.2) x) (λ z. absurd (bad_not_ok a c z)) i.reads g) refl,
+          (stops view (BadLine a c) p w slots i.taken old mid new (λ output x. subst (λ (y : Option (List ℕ)). Appends old y output) (sym h.1) x) (λ z. absurd (bad_not_ok a c z)) g) refl,
     )) b
 halted view first slots next ScriptTooLong p lines o m n old mid new line rose h i b w t = absurd h
 halted view first slots next SourceFault p lines o m n old mid new line rose h i b w t = absurd h
 halted view first slots next SinkFault p lines o m n old mid new line rose h i b w t =
-    let x = h.1 w i.taken i.unended old i.reads (i.going w t) in
+    let x = h.1 w i.taken old (i.going w t) in
     if_some o (λ input. (more : List (List ℕ)) × (lines_of input ≡ i.taken ++ line ∷ more)) (λ input. (after : World) × Matched view next after × RanTo SinkFault input n w after old new)
     (λ input (more, s). (x.0, x.1, ran_to SinkFault input n old new (i.taken ++ line ∷ []) more w x.0 x.0 (s ∙ sym (append_assoc i.taken (line ∷ []) more)) tt x.2 refl)) b
 halted view first slots next NoMemory p lines o m n old mid new line rose h i b w t =
     let g = i.going w t in
-    let x : StopsAt view next (i.unended ++ line ∷ []) g.mid = h.1 i.taken i.unended g.mid i.reads g.tied in
+    let x : StopsAt view next p line g.mid = h.1 g.mid g.tied in
     let f : (output : List ℕ) → Appends old mid output → AppendsFront old new output = λ output y. all_of old new output (subst (λ (z : Option (List ℕ)). Appends old z output) (sym h.0) y) in
-    let not_ok : NoMemory ≡ Ok → p.inside ≡ false = λ z. absurd (memory_not_ok z) in
-    let rest = stops_rest view NoMemory p w slots i.taken i.unended old mid new f not_ok i.reads g in
+    let not_ok : NoMemory ≡ Ok → p ≡ Outside = λ z. absurd (memory_not_ok z) in
+    let there = stops_there view NoMemory p w slots i.taken old mid new f not_ok g in
     if_some o (λ input. (more : List (List ℕ)) × (lines_of input ≡ i.taken ++ line ∷ more)) (λ input. (after : World) × Matched view next after × RanTo NoMemory input n w after old new)
     (λ input (more, s). (
       x.0,
       x.1,
-      ran_to NoMemory input n old new i.taken (line ∷ more) w g.mid x.0 s tt (stops view NoMemory p w slots i.taken i.unended old mid new f not_ok i.reads g)
-          (subst (λ (r : List (List ℕ)). (x.0 ≡ g.mid) ⊎ IsCutShort (r ++ line ∷ more) g.mid x.0) (sym rest) (cut_short i.unended line more g.mid x.0 x.2)),
+      ran_to NoMemory input n old new i.taken (line ∷ more) w g.mid x.0 s tt (stops view NoMemory p w slots i.taken old mid new f not_ok g)
+          (subst (λ (q : Position). (x.0 ≡ g.mid) ⊎ IsCutShort (lines_of input) (length i.taken) q g.mid x.0) (sym there) (cut_short i.taken line more (lines_of input) p g.mid x.0 s x.2)),
     )) b
+  where
+    cut_short : (taken : List (List ℕ)) (line : List ℕ) (more lines : List (List ℕ)) (p : Position) (mid after : World) → lines ≡ taken ++ line ∷ more
+        → (after ≡ mid) ⊎ ((c : Command) × (line_reading p line ≡ Ends c) × CutOff mid c after) → (after ≡ mid) ⊎ IsCutShort lines (length taken) p mid after
+    cut_short taken line more lines p mid after s (inl e) = inl e
+    cut_short taken line more lines p mid after s (inr x) = inr (record { command = x.0; line = line; there = ap (λ (y : List (List ℕ)). slice_get y (length taken)) s ∙ line_there taken line more; ends = x.1; left = x.2 })
 
 pub halted_bad : {D : Type 0} (view : D → View) (first slots next : List (Slot D)) (status : Status) (p : Position) (lines a c : ℕ) (o m old mid new : Option (List ℕ)) (line : List ℕ) (rose : Type 0)
-    → Halts status view (lines + 1) p slots next line mid new rose → (i : InLoop view first slots p lines o m old mid) → Begin o i.taken line → status ≡ BadLine a c → IfSome o (λ input. IsBadAt (lines_of input) a)
-halted_bad view first slots next status p lines a c o m old mid new line rose h i b e =
+    → Halts status view (lines + 1) p slots next line mid new rose → (i : InLoop view first slots p lines o m old mid) → Begin o i.taken line → lines < 100000 → status ≡ BadLine a c → IfSome o (λ input. IsBadAt (lines_of input) a c)
+halted_bad view first slots next status p lines a c o m old mid new line rose h i b few e =
     let f : Halts (BadLine a c) view (lines + 1) p slots next line mid new rose = subst (λ (s : Status). Halts s view (lines + 1) p slots next line mid new rose) e h in
-    if_some o (λ input. (more : List (List ℕ)) × (lines_of input ≡ i.taken ++ line ∷ more)) (λ input. IsBadAt (lines_of input) a)
-    (λ input (more, s). subst (λ (x : List (List ℕ)). IsBadAt x a) (sym s) (bad_at i.taken line more a (omega (arith, f.0, i.count)) (is_front p i.taken i.unended i.reads) (f.4 i.taken i.unended i.reads))) b
+    if_some o (λ input. (more : List (List ℕ)) × (lines_of input ≡ i.taken ++ line ∷ more)) (λ input. IsBadAt (lines_of input) a c)
+    (λ input (more, s). subst (λ (x : List (List ℕ)). IsBadAt x a c) (sym s) (bad_here i.taken line more i.commands p a c (omega (arith, f.0, i.count)) (omega (arith, f.0, few)) i.read f.3)) b
 
 pub halted_not_ok : {D : Type 0} (view : D → View) (slots next : List (Slot D)) (status : Status) (number : ℕ) (p : Position) (mid new : Option (List ℕ)) (line : List ℕ) (rose : Type 0) → Halts status view number p slots next line mid new rose → status ≡ Ok → ⊥
 halted_not_ok view slots next status number p mid new line rose h e = subst (λ (s : Status). Halts s view number p slots next line mid new rose) e h
 
--- a line that is too long
-pub long_bad : {D : Type 0} (view : D → View) (first slots : List (Slot D)) (p : Position) (lines k : ℕ) (o m n old new : Option (List ℕ)) (line : List ℕ)
-    → InLoop view first slots p lines o m old new → IsPiece line → length line ≡ 4097 → Consumes m n line → k ≡ lines + 1 → IfSome o (λ input. IsBadAt (lines_of input) k)
-long_bad view first slots p lines k o m n old new line i c l b h = bad_long o m n i.taken line k i.clean c l i.consumed b (is_front p i.taken i.unended i.reads) (omega (arith, h, i.count))
+pub halted_not_long : {D : Type 0} (view : D → View) (slots next : List (Slot D)) (status : Status) (number : ℕ) (p : Position) (mid new : Option (List ℕ)) (line : List ℕ) (rose : Type 0) → Halts status view number p slots next line mid new rose → status ≡ ScriptTooLong → ⊥
+halted_not_long view slots next status number p mid new line rose h e = subst (λ (s : Status). Halts s view number p slots next line mid new rose) e h
 
--- a byte behind the last line that may be
-pub more_bad : {D : Type 0} (view : D → View) (first slots : List (Slot D)) (p : Position) (lines k byte : ℕ) (o m n old new : Option (List ℕ))
-    → InLoop view first slots p lines o m old new → Consumes m n (byte ∷ []) → k ≡ lines + 1 → 100000 ≤ lines → IfSome o (λ input. IsBadAt (lines_of input) k)
-more_bad view first slots p lines k byte o m n old new i b h most = bad_more o m n i.taken byte k i.clean i.consumed b (is_front p i.taken i.unended i.reads) (omega (arith, h, i.count)) (omega (arith, h, most))
+-- a line that is too long
+pub long_bad : {D : Type 0} (view : D → View) (first slots : List (Slot D)) (p : Position) (lines k c : ℕ) (o m n old new : Option (List ℕ)) (line : List ℕ)
+    → InLoop view first slots p lines o m old new → IsPiece line → length line ≡ 4097 → Consumes m n line → k ≡ lines + 1 → c ≡ 4097 → lines < 100000 → IfSome o (λ input. IsBadAt (lines_of input) k c)
+long_bad view first slots p lines k c o m n old new line i q l b h e few =
+    subst (λ (x : ℕ). IfSome o (λ input. IsBadAt (lines_of input) k x)) (sym e)
+    (bad_long o m n i.taken line i.commands p k i.clean q l i.consumed b i.read (omega (arith, h, i.count)) (omega (arith, h, few)))
 
 -- at most so many bytes were read
 abbrev pub Takes : ℕ → Option (List ℕ) → Option (List ℕ) → Type 0
@@ -241,26 +296,26 @@ consumes_nothing None = tt
 consumes_nothing (Some u) = refl
 
 -- before the first line
-pub loop_started : {D : Type 0} (view : D → View) (slots : List (Slot D)) (p : Position) (o out : Option (List ℕ)) → p.inside ≡ false → InLoop view slots slots p 0 o o out out
+pub loop_started : {D : Type 0} (view : D → View) (slots : List (Slot D)) (p : Position) (o out : Option (List ℕ)) → p ≡ Outside → InLoop view slots slots p 0 o o out out
 loop_started view slots p o out e =
-    record { taken = []; unended = []; reads = reads_nothing p e; going = λ w t. begins view w slots out t; consumed = consumes_nothing o; clean = refl; count = refl; short = omega arith }
+    record { taken = []; commands = []; read = subst (λ (x : Position). ComeTo [] [] x) (sym e) refl; going = λ w t. begins view w slots p out e t; consumed = consumes_nothing o; clean = refl; count = refl; short = omega arith }
 
 -- at the end, with nothing behind the last line feed
 pub ends_clean : {D : Type 0} (view : D → View) (first slots : List (Slot D)) (p : Position) (lines : ℕ) (o m n old new : Option (List ℕ))
     → InLoop view first slots p lines o m old new → Consumes m n [] → IsAtEnd n → lines ≤ 100000 → AtEnd view first slots p lines o n old new
 ends_clean view first slots p lines o m n old new i c e few =
-    record { taken = i.taken; unended = i.unended; reads = i.reads; going = i.going; lines_are = lines_at_end o n i.taken i.clean (then_nothing o m n (ended i.taken) i.consumed c) e; at_end = e; count = i.count; few = few }
+    record { taken = i.taken; commands = i.commands; read = i.read; going = i.going; lines_are = lines_at_end o n i.taken i.clean (then_nothing o m n (ended i.taken) i.consumed c) e; at_end = e; count = i.count; few = few }
 
 -- at the end, behind a last line without its line feed
 pub ends_within : {D : Type 0} (view : D → View) (first slots next : List (Slot D)) (p q : Position) (lines : ℕ) (o m n old mid new : Option (List ℕ)) (line : List ℕ)
     → InLoop view first slots p lines o m old mid → GoesOn view p q slots next line mid new → IsPiece line → 0 < length line → Consumes m n line → IsAtEnd n → lines < 100000 → AtEnd view first next q (lines + 1) o n old new
 ends_within view first slots next p q lines o m n old mid new line i g c l b e few =
-    let x = g i.taken i.unended i.reads in
+    let x = g.0 i.taken i.commands i.read in
     record {
       taken = i.taken ++ line ∷ [];
-      unended = x.0;
-      reads = x.1;
-      going = λ w t. x.2 w old (i.going w t);
+      commands = x.0;
+      read = x.1;
+      going = λ w t. g.1 w i.taken old (i.going w t);
       lines_are = lines_at_last o m n i.taken line i.clean c l i.consumed b e;
       at_end = e;
       count = one_longer i.taken line lines i.count;

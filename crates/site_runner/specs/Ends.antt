@@ -1,12 +1,12 @@
 -- What a run leaves, by its status.
-use Rattle.std.specs.Prelude.{◌≡◌, ◌⊎◌, ℕ, ◌+◌, ◌≤◌, List, [], ◌++◌, length, take, Option, Some}
+use Rattle.std.specs.Prelude.{◌≡◌, ◌⊎◌, ℕ, ◌+◌, ◌<◌, ◌≤◌, List, ◌++◌, length, take, Option, Some, slice_get}
 use Rattle.std.specs.Io.KnownBytes.{Appends, Consumes, IsAtEnd}
-use Rattle.world_defs.specs.World.{World}
 use Rattle.command_defs.specs.Commands.{Command}
+use Rattle.command_defs.specs.Lines.{lines_of, ended}
+use Rattle.command_defs.specs.Script.{Position, Outside, Ends, line_reading, lines_reading, MOST_LINES, IsScript, IsBadAt}
+use Rattle.world_defs.specs.World.{World}
 use Rattle.world_defs.specs.Step.{CutOff}
 use Rattle.world_defs.specs.Runs.{Told, Runs, commands}
-use Rattle.command_defs.specs.Lines.{lines_of, ended}
-use Rattle.world_defs.specs.Script.{MOST_LINES, Spells, Spell, IsUnfinished}
 use Rattle.site_runner.specs.Told.{IsPiece, AppendsFront}
 use Rattle.site_runner.specs.declared.status.Status.{Status}
 use Rattle.site_runner.specs.declared.status.Status.TheVariants.{Ok, BadWords, BadLine, ScriptTooLong, SourceFault, SinkFault, NoMemory}
@@ -21,47 +21,50 @@ Writes SourceFault old new output = Appends old new output
 Writes SinkFault old new output = AppendsFront old new output
 Writes NoMemory old new output = AppendsFront old new output
 
--- Some first lines spell commands, and perhaps a section begun; the commands ran from one world to another, and this was written of their output.
+-- These lines come to commands, and the next one stands there.
+abbrev pub ComeTo : List (List ℕ) → List Command → Position → Type 0
+ComeTo lines commands position = lines_reading lines ≡ Some (record { commands = commands; position = position })
+
+-- Lines came to commands; the commands ran from one world to another, and this was written of their output.
 pub record Went (status : Status) (taken : List (List ℕ)) (start mid : World) (old new : Option (List ℕ)) : Type 0 where
   pub told : List Told
   pub output : List ℕ
-  pub rest : List (List ℕ)
+  -- where the next line stands
+  pub position : Position
   pub runs : Runs start told mid output
-  pub spelled : Spell taken (commands told) rest
-  pub begun : (rest ≡ []) ⊎ IsUnfinished rest
+  pub spelled : ComeTo taken (commands told) position
   pub writes : Writes status old new output
-  -- nothing is left of the lines where all went well
-  pub all : status ≡ Ok → rest ≡ []
+  -- no section is open where all went well
+  pub all : status ≡ Ok → position ≡ Outside
 
 -- How many lines were taken when the run ended.
 abbrev pub Reached : Status → List ℕ → Option (List ℕ) → ℕ → Type 0
 Reached Ok input left k = (k ≡ length (lines_of input)) × (k ≤ MOST_LINES) × IsAtEnd left
 Reached BadWords input left k = (k ≡ 0) × (left ≡ Some input)
 Reached (BadLine line column) input left k = line ≡ k + 1
-Reached ScriptTooLong input left k = k ≡ MOST_LINES
+Reached ScriptTooLong input left k = (k ≡ MOST_LINES) × (MOST_LINES < length (lines_of input))
 -- all whole lines that were read
 Reached SourceFault input left k = (piece : List ℕ) × IsPiece piece × Consumes (Some input) left (ended (take k (lines_of input)) ++ piece)
 Reached SinkFault input left k = Unit {0}
 Reached NoMemory input left k = Unit {0}
 
--- the following lines spell a command first, and it was cut off
-pub record IsCutShort (following : List (List ℕ)) (mid after : World) : Type 0 where
+-- the next line ends a command, and that command was cut off
+pub record IsCutShort (lines : List (List ℕ)) (count : ℕ) (position : Position) (mid after : World) : Type 0 where
   pub command : Command
-  pub lines : List (List ℕ)
-  pub tail : List (List ℕ)
-  pub parts : following ≡ lines ++ tail
-  pub spelled : Spells lines command
+  pub line : List ℕ
+  pub there : slice_get lines count ≡ Some line
+  pub ends : line_reading position line ≡ Ends command
   pub left : CutOff mid command after
 
 -- The disks at the end are those of the world that the commands led to; for want of memory perhaps those that the next command left as it was cut off.
-abbrev pub EndsSo : Status → List (List ℕ) → World → World → Type 0
-EndsSo Ok following mid after = after ≡ mid
-EndsSo BadWords following mid after = after ≡ mid
-EndsSo (BadLine line column) following mid after = after ≡ mid
-EndsSo ScriptTooLong following mid after = after ≡ mid
-EndsSo SourceFault following mid after = after ≡ mid
-EndsSo SinkFault following mid after = after ≡ mid
-EndsSo NoMemory following mid after = (after ≡ mid) ⊎ IsCutShort following mid after
+abbrev pub EndsSo : Status → List (List ℕ) → ℕ → Position → World → World → Type 0
+EndsSo Ok lines count position mid after = after ≡ mid
+EndsSo BadWords lines count position mid after = after ≡ mid
+EndsSo (BadLine line column) lines count position mid after = after ≡ mid
+EndsSo ScriptTooLong lines count position mid after = after ≡ mid
+EndsSo SourceFault lines count position mid after = after ≡ mid
+EndsSo SinkFault lines count position mid after = after ≡ mid
+EndsSo NoMemory lines count position mid after = (after ≡ mid) ⊎ IsCutShort lines count position mid after
 
 -- from one world to another
 pub record RanTo (status : Status) (input : List ℕ) (left : Option (List ℕ)) (start after : World) (old new : Option (List ℕ)) : Type 0 where
@@ -70,7 +73,21 @@ pub record RanTo (status : Status) (input : List ℕ) (left : Option (List ℕ))
   pub reached : Reached status input left count
   pub mid : World
   pub went : Went status (take count (lines_of input)) start mid old new
-  -- the input's lines behind those of the commands that ran
-  pub following : List (List ℕ)
-  pub spelled : Spell (lines_of input) (commands went.told) following
-  pub ends : EndsSo status following mid after
+  pub ends : EndsSo status (lines_of input) count went.position mid after
+
+-- a byte follows the last line feed that there may be, and the lines before it are in the grammar
+pub record IsTooLong (lines : List (List ℕ)) : Type 0 where
+  pub commands : List Command
+  pub position : Position
+  pub front : ComeTo (take MOST_LINES lines) commands position
+  pub more : MOST_LINES < length lines
+
+-- the status that a run of these lines ends with where nothing fails
+abbrev pub IsDue : Status → List (List ℕ) → Type 0
+IsDue Ok lines = IsScript lines
+IsDue BadWords lines = ⊥
+IsDue (BadLine n at) lines = IsBadAt lines n at
+IsDue ScriptTooLong lines = IsTooLong lines
+IsDue SourceFault lines = ⊥
+IsDue SinkFault lines = ⊥
+IsDue NoMemory lines = ⊥

@@ -1,31 +1,32 @@
 -- A run that goes on, line by line.
-use Rattle.std.specs.Prelude.{◌≡◌, ◌⊎◌, ℕ, List, [], ◌∷◌, ◌++◌, Option}
+use Rattle.std.specs.Prelude.{◌≡◌, ◌⊎◌, ℕ, ◌+◌, List, [], ◌∷◌, ◌++◌, Option}
 use Rattle.std.specs.Io.KnownBytes.{Appends}
 use Rattle.disk_defs.specs.Disk.{View}
-use Rattle.world_defs.specs.World.{World}
 use Rattle.command_defs.specs.Commands.{Command}
+use Rattle.command_defs.specs.Script.{Position, Outside, Within, Wrong, Ends, line_reading}
+use Rattle.world_defs.specs.World.{World}
 use Rattle.world_defs.specs.Answers.{Answer}
 use Rattle.world_defs.specs.Step.{Means, CutOff}
 use Rattle.world_defs.specs.Output.{text_of}
 use Rattle.world_defs.specs.Runs.{Told, Runs, commands}
-use Rattle.world_defs.specs.Script.{Spell, Spells}
 use Rattle.site_runner.specs.Told.{AppendsFront}
-use Rattle.site_runner.specs.Positions.{Position, Reads, IsBad}
+use Rattle.repl_script.specs.declared.error.ScriptError.{ScriptError}
+use Rattle.repl_script.specs.declared.error.ScriptError.TheVariants as errors
 use Rattle.site_runner.specs.declared.slot.Slot.{Slot}
 use Rattle.site_runner.specs.Tied.{Tied, Matched}
 use Rattle.site_runner.specs.Executes.{IsCutOff}
-use Rattle.site_runner.specs.Ends.{Went}
+use Rattle.site_runner.specs.Ends.{Went, ComeTo}
 use Rattle.site_runner.specs.declared.status.Status.{Status}
 use Rattle.site_runner.specs.declared.status.Status.TheVariants.{Ok, BadWords, BadLine, ScriptTooLong, SourceFault, SinkFault, NoMemory}
 
--- These lines were taken: the commands that they spell ran from this world to the slots', all their output was written, and what is
--- left of the lines is an open section's.
-pub record Going {D : Type 0} (view : D → View) (start : World) (slots : List (Slot D)) (taken unended : List (List ℕ)) (old new : Option (List ℕ)) : Type 0 where
+-- These lines were taken: the commands that they come to ran from this world to the slots', all their output was written, and the
+-- next line stands there.
+pub record Going {D : Type 0} (view : D → View) (start : World) (slots : List (Slot D)) (taken : List (List ℕ)) (position : Position) (old new : Option (List ℕ)) : Type 0 where
   pub told : List Told
   pub mid : World
   pub output : List ℕ
   pub runs : Runs start told mid output
-  pub spelled : Spell taken (commands told) unended
+  pub spelled : ComeTo taken (commands told) position
   pub tied : Tied view slots mid
   pub written : Appends old new output
 
@@ -50,25 +51,35 @@ Breaks SinkFault view c old new before now rose = rose × WritesShort view c old
 Breaks NoMemory view c old new before now rose = (now ≡ before) × IsCutOff view c old new
 
 -- the slots are the world's as it was, or as the command that the line ends left it when it was cut off
-abbrev pub StopsAt : {D : Type 0} → (D → View) → List (Slot D) → List (List ℕ) → World → Type 0
-StopsAt view new lines mid = (after : World) × Matched view new after × ((after ≡ mid) ⊎ ((c : Command) × Spells lines c × CutOff mid c after))
+abbrev pub StopsAt : {D : Type 0} → (D → View) → List (Slot D) → Position → List ℕ → World → Type 0
+StopsAt view new p line mid = (after : World) × Matched view new after × ((after ≡ mid) ⊎ ((c : Command) × (line_reading p line ≡ Ends c) × CutOff mid c after))
 
 -- the next line of that number ended the run
 abbrev pub Halts : {D : Type 0} → Status → (D → View) → ℕ → Position → List (Slot D) → List (Slot D) → List ℕ → Option (List ℕ) → Option (List ℕ) → Type 0 → Type 0
 Halts Ok view number p old new line before now rose = ⊥
 Halts BadWords view number p old new line before now rose = ⊥
-Halts (BadLine n column) view number p old new line before now rose =
-    (n ≡ number) × (column ≡ 1) × (now ≡ before) × (new ≡ old) × ((taken unended : List (List ℕ)) → Reads p taken unended → IsBad taken line)
+Halts (BadLine n at) view number p old new line before now rose = (n ≡ number) × (now ≡ before) × (new ≡ old) × (line_reading p line ≡ Wrong at)
 Halts ScriptTooLong view number p old new line before now rose = ⊥
 Halts SourceFault view number p old new line before now rose = ⊥
-Halts SinkFault view number p old new line before now rose =
-    rose × ((start : World) (taken unended : List (List ℕ)) (out : Option (List ℕ)) → Reads p taken unended → Going view start old taken unended out before
+Halts SinkFault view number p old new line before now rose = rose × ((start : World) (taken : List (List ℕ)) (out : Option (List ℕ)) → Going view start old taken p out before
     → (mid : World) × Matched view new mid × Went SinkFault (taken ++ line ∷ []) start mid out now)
-Halts NoMemory view number p old new line before now rose =
-    (now ≡ before) × ((taken unended : List (List ℕ)) (mid : World) → Reads p taken unended → Tied view old mid → StopsAt view new (unended ++ line ∷ []) mid)
+Halts NoMemory view number p old new line before now rose = (now ≡ before) × ((mid : World) → Tied view old mid → StopsAt view new p line mid)
 
 -- the next line was taken
+abbrev pub Leads : Position → Position → List ℕ → Type 0
+Leads p q line = (taken : List (List ℕ)) (cs : List Command) → ComeTo taken cs p → (ds : List Command) × ComeTo (taken ++ line ∷ []) ds q
+
+-- and what it asks for was done
 abbrev pub GoesOn : {D : Type 0} → (D → View) → Position → Position → List (Slot D) → List (Slot D) → List ℕ → Option (List ℕ) → Option (List ℕ) → Type 0
-GoesOn view p q old new line before now = (taken unended : List (List ℕ)) → Reads p taken unended
-    → (left : List (List ℕ)) × Reads q (taken ++ line ∷ []) left
-    × ((start : World) (out : Option (List ℕ)) → Going view start old taken unended out before → Going view start new (taken ++ line ∷ []) left out now)
+GoesOn view p q old new line before now = Leads p q line
+    × ((start : World) (taken : List (List ℕ)) (out : Option (List ℕ)) → Going view start old taken p out before → Going view start new (taken ++ line ∷ []) q out now)
+
+abbrev pub status_value : ScriptError → Status
+status_value (errors.BadLine line column) = BadLine line column
+status_value errors.ScriptTooLong = ScriptTooLong
+status_value errors.NoMemory = NoMemory
+
+-- how the end of the input is answered after so many lines, where the next one would stand
+abbrev pub Finishes : Status → ℕ → Position → Type 0
+Finishes status lines Outside = status ≡ Ok
+Finishes status lines (Within s) = status ≡ BadLine (lines + 1) 1

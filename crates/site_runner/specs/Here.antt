@@ -2,14 +2,14 @@
 use Rattle.std.specs.Prelude.{◌≡◌, ℕ, ◌+◌, true, List, [], ◌∷◌, ◌++◌, length, codes, Option, Some, None}
 use Rattle.std.specs.Fmt.{decimal}
 use Rattle.disk_defs.specs.Disk.{View}
-use Rattle.global_defs.specs.Extract.{extract}
-use Rattle.command_defs.specs.Commands.{Name, Command, Create, StartPrimary, Run, Stop, Fuse, Crash, Extract}
+use Rattle.global_defs.specs.Entry.{state}
+use Rattle.command_defs.specs.Commands.{Name, Command, Create, StartPrimary, Run, Stop, Fuse, Crash, Extract, Zwrite}
 use Rattle.world_defs.specs.World.{State, Down, Primary, Failed, Place, Kept}
 use Rattle.world_defs.specs.Answers.{Cause, NotEmpty, Answer, Done, Refused, DiskFault, NotAFile, Section, Ran}
 use Rattle.world_defs.specs.Refusals.{first, in_state, stopped, running, not_running, not_primary, not_simulated, not_empty}
 use Rattle.world_defs.specs.Rows.{Becomes, Fails, Creates, CreateFails, StartsPrimary, Crashes}
 use Rattle.world_defs.specs.Step.{Runs, OldOnes, KeptUnknown, LeftAt}
-use Rattle.world_defs.specs.Output.{line, cause_text, cycle_on, turn_on, section_text, name_in}
+use Rattle.world_defs.specs.Output.{line, cause_text, cycle_on, turn_on, section_text, name_in, extract_from, zwrite}
 use Rattle.world_defs.specs.Ties.{Matches}
 use Rattle.site_runner.specs.declared.slot.Slot.{Slot}
 use Rattle.site_runner.specs.Tied.{IsPlace}
@@ -23,6 +23,7 @@ IsNamed (Stop name) = Unit {0}
 IsNamed (Fuse name calls) = Unit {0}
 IsNamed (Crash name pick) = Unit {0}
 IsNamed (Extract name from) = Unit {0}
+IsNamed (Zwrite name top) = Unit {0}
 
 -- the tests of its place, in order
 abbrev pub tests : Command → Place → List (Option Cause)
@@ -33,6 +34,7 @@ tests (Stop name) p = in_state stopped p.site ∷ in_state not_running p.site �
 tests (Fuse name calls) p = in_state stopped p.site ∷ not_simulated p.simulated ∷ []
 tests (Crash name pick) p = in_state not_running p.site ∷ not_simulated p.simulated ∷ []
 tests (Extract name from) p = in_state stopped p.site ∷ in_state not_running p.site ∷ []
+tests (Zwrite name top) p = in_state stopped p.site ∷ in_state not_running p.site ∷ []
 
 abbrev pub RowHere : Command → Place → Place → Type 0
 RowHere (Create name regions) p q = ⊥
@@ -42,6 +44,7 @@ RowHere (Stop name) p q = Becomes Down p.now p q
 RowHere (Fuse name calls) p q = Kept p q
 RowHere (Crash name pick) p q = Crashes p q
 RowHere (Extract name from) p q = Kept p q
+RowHere (Zwrite name top) p q = Kept p q
 
 abbrev pub FaultHere : Command → ℕ → Place → Place → Type 0
 FaultHere (Create name regions) k p q = ⊥
@@ -51,6 +54,7 @@ FaultHere (Stop name) k p q = ⊥
 FaultHere (Fuse name calls) k p q = ⊥
 FaultHere (Crash name pick) k p q = ⊥
 FaultHere (Extract name from) k p q = ⊥
+FaultHere (Zwrite name top) k p q = ⊥
 
 abbrev pub DamageHere : Command → Place → Place → Type 0
 DamageHere (Create name regions) p q = ⊥
@@ -60,6 +64,7 @@ DamageHere (Stop name) p q = ⊥
 DamageHere (Fuse name calls) p q = ⊥
 DamageHere (Crash name pick) p q = ⊥
 DamageHere (Extract name from) p q = ⊥
+DamageHere (Zwrite name top) p q = ⊥
 
 abbrev pub RanHere : Command → Section → Place → Place → Type 0
 RanHere (Create name regions) s p q = ⊥
@@ -69,6 +74,7 @@ RanHere (Stop name) s p q = ⊥
 RanHere (Fuse name calls) s p q = ⊥
 RanHere (Crash name pick) s p q = ⊥
 RanHere (Extract name from) s p q = ⊥
+RanHere (Zwrite name top) s p q = ⊥
 
 abbrev pub Here : Command → Place → Answer → Place → Type 0
 Here c p Done q = (first (tests c p) ≡ None) × RowHere c p q
@@ -85,7 +91,8 @@ done_here (Run name jobs order) p q = []
 done_here (Stop name) p q = line name (codes "DOWN " ++ decimal (length p.now.sequence))
 done_here (Fuse name calls) p q = line name (codes "FUSED " ++ decimal calls)
 done_here (Crash name pick) p q = line name (codes "CRASHED")
-done_here (Extract name from) p q = extract name p.now.sequence from
+done_here (Extract name from) p q = extract_from name from p.now.sequence
+done_here (Zwrite name top) p q = zwrite top (state p.now.sequence)
 
 abbrev pub ran_here : Command → Section → Place → List ℕ
 ran_here (Create name regions) s p = []
@@ -95,6 +102,7 @@ ran_here (Stop name) s p = []
 ran_here (Fuse name calls) s p = []
 ran_here (Crash name pick) s p = []
 ran_here (Extract name from) s p = []
+ran_here (Zwrite name top) s p = []
 
 abbrev pub text_here : Command → Place → Answer → Place → List ℕ
 text_here c p Done q = done_here c p q

@@ -1,7 +1,4 @@
 pub mod Told
-pub mod Jobs
-pub mod Commands
-pub mod Positions
 pub mod Sites
 pub mod Tied
 pub mod Moved

@@ -4,16 +4,16 @@ use Rattle.std.specs.Fmt.{decimal}
 use Rattle.std.specs.List.{enumerate_from}
 use Rattle.disk_defs.specs.Disk.{View}
 use Rattle.global_defs.specs.Entry.{Sequence}
-use Rattle.global_defs.specs.Extract.{extract}
+use Rattle.global_defs.specs.Key.{Key}
 use Rattle.site_journal.specs.Reigns.{tagged}
 use Rattle.site_journal.specs.declared.reign.Reign.{Reign}
 use Rattle.world_defs.specs.World.{Place}
 use Rattle.world_defs.specs.Answers.{Answer}
 use Rattle.command_defs.specs.Commands.{Command}
 use Rattle.world_defs.specs.Step.{LeftAt}
-use Rattle.world_defs.specs.Output.{line}
+use Rattle.world_defs.specs.Output.{line, extract_from, zwrite}
 use Rattle.world_defs.specs.Ties.{Matches}
-use Rattle.std.specs.Prelude.{Some, true}
+use Rattle.std.specs.Prelude.{Option, Some, true}
 use Rattle.site_runner.specs.declared.slot.State.{State}
 use Rattle.site_runner.specs.declared.slot.State.TheVariants.{Down, Primary, Failed}
 use Rattle.site_runner.specs.declared.slot.Site.{Site}
@@ -35,13 +35,21 @@ StopsFrom (Failed fault) old new before now = Says old new (codes "STOPPED " ++ 
 abbrev pub Stops : Site → Site → List ℕ → List ℕ → Type 0
 Stops old new before now = StopsFrom old.state old new before now
 
-abbrev pub ExtractsFrom : State → Site → ℕ → List ℕ → List ℕ → Type 0
+abbrev pub ExtractsFrom : State → Site → Option ℕ → List ℕ → List ℕ → Type 0
 ExtractsFrom Down s from before now = Says s s (codes "NOTRUNNING") before now
-ExtractsFrom (Primary r) s from before now = (seq : Sequence) → map tagged r.entries.items ≡ enumerate_from 1 seq → now ≡ before ++ extract s.name seq from
+ExtractsFrom (Primary r) s from before now = (seq : Sequence) → map tagged r.entries.items ≡ enumerate_from 1 seq → now ≡ before ++ extract_from s.name from seq
 ExtractsFrom (Failed fault) s from before now = Says s s (codes "STOPPED " ++ decimal fault) before now
 
-abbrev pub Extracts : Site → ℕ → List ℕ → List ℕ → Type 0
+abbrev pub Extracts : Site → Option ℕ → List ℕ → List ℕ → Type 0
 Extracts s from before now = ExtractsFrom s.state s from before now
+
+abbrev pub ShowsFrom : State → Site → Option Key → List ℕ → List ℕ → Type 0
+ShowsFrom Down s top before now = Says s s (codes "NOTRUNNING") before now
+ShowsFrom (Primary r) s top before now = now ≡ before ++ zwrite top r.globals
+ShowsFrom (Failed fault) s top before now = Says s s (codes "STOPPED " ++ decimal fault) before now
+
+abbrev pub Shows : Site → Option Key → List ℕ → List ℕ → Type 0
+Shows s top before now = ShowsFrom s.state s top before now
 
 -- The site stands at this place.
 pub record IsAt (v : View) (s : Site) (p : Place) : Type 0 where

@@ -2,12 +2,12 @@
 ghost use Rattle.std.specs.Prelude.{◌≡◌, ◌≢◌, length, OnOk, OnErr, Some, None, true};
 ghost use Rattle.world_defs.specs.Lists.{first_where};
 ghost use Rattle.world_defs.specs.Output.{name_in};
-ghost use Rattle.site_runner.specs.Commands.{command_value, IsCarried};
+ghost use Rattle.command_defs.specs.Sections.{IsFormed, IsWhole};
+ghost use Rattle.repl_script.specs.Commands.{command_value};
 ghost use Rattle.site_runner.specs.Executes.{Executes, IsCutOff};
 ghost use Rattle.site_runner.specs.Here.{IsNamed, ExecutesHere, IsCutHere};
 ghost use Rattle.site_runner.specs.Sites.{is_slot_named, IsReadyOn, AreReady};
 
-use super::command::Command;
 use super::create::create;
 use super::extracting::extract;
 use super::finding::find;
@@ -17,8 +17,10 @@ use super::slot::Slot;
 use super::start::start;
 use super::stop::stop;
 use super::text::write_line;
+use super::zwriting::zwrite;
 use gvn_key::{Bytes, NoMemory};
 use repl_disk::Disk;
+use repl_script::Command;
 use std::alloc::Global;
 
 /// The site that a command names.
@@ -26,13 +28,14 @@ fn name_of(command: &Command) -> &Bytes
     ensures { result.now ≡ name_in (command_value command.now) }
 {
     match command {
-        Command::Create { name, .. }
-        | Command::StartPrimary { name }
-        | Command::Run { name, .. }
-        | Command::Stop { name }
-        | Command::Fuse { name, .. }
-        | Command::Crash { name, .. }
-        | Command::Extract { name, .. } => name,
+        Command::Create { site, .. }
+        | Command::StartPrimary { site }
+        | Command::Run { site, .. }
+        | Command::Stop { site }
+        | Command::Fuse { site, .. }
+        | Command::Crash { site, .. }
+        | Command::Extract { site, .. }
+        | Command::Zwrite { site, .. } => site,
     }
 }
 
@@ -43,7 +46,8 @@ fn execute_at<D: Disk>(
     command: Command,
     text: &mut Bytes,
 ) -> Result<(), NoMemory>
-    requires carried { IsCarried command }
+    requires formed { IsFormed (command_value command) }
+    requires whole { IsWhole (command_value command) }
     requires command { IsNamed (command_value command) }
     requires site { is_slot_named (name_in (command_value command)) slot.old ≡ true }
     requires ready { IsReadyOn (D.disk slot.old.disk) slot.old.site }
@@ -57,11 +61,14 @@ fn execute_at<D: Disk>(
     match command {
         Command::Create { .. } => unreachable!(),
         Command::StartPrimary { .. } => start(alloc, &mut slot.disk, site, text),
-        Command::Run { jobs, .. } => run_section(alloc, &mut slot.disk, site, jobs, text),
+        Command::Run { jobs, order, .. } => {
+            run_section(alloc, &mut slot.disk, site, jobs, order.as_slice(), text)
+        }
         Command::Stop { .. } => stop(site, text),
         Command::Fuse { calls, .. } => fuse(&mut slot.disk, site, calls, text),
         Command::Crash { pick, .. } => crash(&mut slot.disk, site, pick, text),
-        Command::Extract { from, .. } => extract(site, from, text),
+        Command::Extract { number, .. } => extract(site, number, text),
+        Command::Zwrite { top, .. } => zwrite(alloc, site, &top, text),
     }
 }
 
@@ -72,7 +79,8 @@ fn execute_named<D: Disk>(
     command: Command,
     text: &mut Bytes,
 ) -> Result<(), NoMemory>
-    requires carried { IsCarried command }
+    requires formed { IsFormed (command_value command) }
+    requires whole { IsWhole (command_value command) }
     requires command { IsNamed (command_value command) }
     requires ready { AreReady D.disk slots.old.items }
     ensures ready { OnOk result (AreReady D.disk slots.new.items) }
@@ -94,7 +102,8 @@ pub fn execute<D: Disk>(
     command: Command,
     text: &mut Bytes,
 ) -> Result<(), NoMemory>
-    requires carried { IsCarried command }
+    requires formed { IsFormed (command_value command) }
+    requires whole { IsWhole (command_value command) }
     requires ready { AreReady D.disk slots.old.items }
     ensures ready { OnOk result (AreReady D.disk slots.new.items) }
     ensures done { OnOk result (Executes D.disk (command_value command) slots.old.items slots.new.items text.old text.new) }
@@ -102,7 +111,7 @@ pub fn execute<D: Disk>(
     ensures length { length slots.new.items ≡ length slots.old.items }
 {
     match command {
-        Command::Create { name, .. } => create(alloc, slots, name, text),
+        Command::Create { site, .. } => create(alloc, slots, site, text),
         named => execute_named(alloc, slots, named, text),
     }
 }

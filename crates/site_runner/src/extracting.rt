@@ -1,5 +1,5 @@
 // EXTRACT.
-ghost use Rattle.std.specs.Prelude.{◌≡◌, ◌<◌, ◌-◌, ◌++◌, map, drop, OnOk};
+ghost use Rattle.std.specs.Prelude.{◌≡◌, ◌<◌, ◌-◌, ◌++◌, map, drop, IfSome, OnOk};
 ghost use Rattle.std.specs.List.{flat_map};
 ghost use Rattle.global_defs.specs.Extract.{entry_text};
 ghost use Rattle.site_journal.specs.Reigns.{tagged};
@@ -32,11 +32,12 @@ fn entries_from(entries: &[Entry], from: u64) -> &[Entry]
     }
 }
 
-/// Shows a site's entries from a number on.
-pub fn extract(site: &Site, from: u64, text: &mut Bytes) -> Result<(), NoMemory>
-    requires { 0 < from }
-    ensures { OnOk result (Extracts site.now from text.old text.new) }
+/// Shows a site's entries from a number on, or all.
+pub fn extract(site: &Site, number: Option<u64>, text: &mut Bytes) -> Result<(), NoMemory>
+    requires { IfSome number (λ from. 0 < from) }
+    ensures { OnOk result (Extracts site.now number text.old text.new) }
 {
+    let from = number.unwrap_or(1);
     match &site.state {
         State::Down => write_line(text, site.name.as_slice(), b"NOTRUNNING"),
         State::Failed { fault } => {

@@ -1,7 +1,6 @@
 //! Does all that the program does: reads a script, runs its commands on sites over disks, and writes their answers.
 #![tactic(auto)]
 
-mod command;
 mod create;
 mod execute;
 mod extracting;
@@ -9,11 +8,7 @@ mod finding;
 mod fusing;
 mod lines;
 mod moving;
-mod number;
-mod order;
-mod reader;
 mod section;
-mod setting;
 mod slot;
 mod start;
 mod status;
@@ -21,6 +16,7 @@ mod stop;
 mod text;
 mod top;
 mod write;
+mod zwriting;
 
 pub use status::Status;
 pub use top::run;

@@ -5,28 +5,31 @@ ghost use Rattle.repl_io.specs.Fault.{Rose};
 ghost use Rattle.world_defs.specs.World.{World, IsFresh};
 ghost use Rattle.world_defs.specs.Ties.{AreDisks};
 ghost use Rattle.command_defs.specs.Lines.{lines_of};
-ghost use Rattle.world_defs.specs.Script.{IsScript, IsBadAt};
-ghost use Rattle.site_runner.specs.Commands.{command_value, IsCarried};
+ghost use Rattle.command_defs.specs.Sections.{IsFormed, IsWhole};
+ghost use Rattle.command_defs.specs.Script.{IsScript, IsBadAt};
+ghost use Rattle.repl_script.specs.Commands.{command_value};
 ghost use Rattle.site_runner.specs.Sites.{AreReady};
 ghost use Rattle.site_runner.specs.Tied.{Tied, Matched};
-ghost use Rattle.site_runner.specs.Ends.{RanTo};
-ghost use Rattle.site_runner.specs.Going.{CarriesOut, Breaks, Halts, GoesOn};
+ghost use Rattle.site_runner.specs.Ends.{RanTo, IsTooLong, IsDue};
+ghost use Rattle.site_runner.specs.Going.{CarriesOut, Breaks, Halts, GoesOn, Finishes, status_value};
 
-use super::command::Command;
 use super::execute::execute;
 use super::lines::{LineEnd, LineError, read_byte, read_line};
 use super::moving::{give_back, take_disks};
-use super::reader::{Fed, Reader};
 use super::slot::Slot;
 use super::status::Status;
 use super::write::write_all;
 use gvn_key::Bytes;
 use repl_disk::Disk;
 use repl_io::{Sink, Source};
+use repl_script::{Command, Script, ScriptError};
 use std::alloc::Global;
 
 /// How many lines a script may have.
 const MOST_LINES: u32 = 100_000;
+
+/// How many bytes a line may have.
+const LONGEST_LINE: u32 = 4096;
 
 fn is_word(word: &str) -> bool
     ensures { MatchBool result (word.now ≡ codes "run") (word.now ≢ codes "run") }
@@ -50,7 +53,8 @@ fn carry_out<K: Sink, D: Disk>(
     command: Command,
     out: &mut K,
 ) -> Result<(), Status>
-    requires carried { IsCarried command }
+    requires formed { IsFormed (command_value command) }
+    requires whole { IsWhole (command_value command) }
     requires ready { AreReady D.disk slots.old.items }
     ensures ready { OnOk result (AreReady D.disk slots.new.items) }
     ensures done { OnOk result (CarriesOut D.disk (command_value command) slots.old.items slots.new.items (K.written out.old) (K.written out.new)) }
@@ -68,45 +72,48 @@ fn carry_out<K: Sink, D: Disk>(
     }
 }
 
-/// Takes the line of a number, and does what it asks for.
+/// Why a script's next line isn't taken, as a status.
+fn status_of(error: ScriptError) -> Status
+    ensures { result ≡ status_value error }
+{
+    match error {
+        ScriptError::BadLine { line, column } => Status::BadLine { line, column },
+        ScriptError::ScriptTooLong => Status::ScriptTooLong,
+        ScriptError::NoMemory => Status::NoMemory,
+    }
+}
+
+/// Takes the next line, and does what it asks for.
 fn take_line<K: Sink, D: Disk>(
     alloc: Global,
-    reader: &mut Reader,
+    reader: &mut Script,
     slots: &mut Vec<Slot<D>>,
-    number: u32,
     line: &[u8],
     out: &mut K,
 ) -> Result<(), Status>
-    requires { AreReady D.disk slots.old.items }
+    requires few { reader.old.lines < 100000 }
+    requires ready { AreReady D.disk slots.old.items }
     ensures ready { OnOk result (AreReady D.disk slots.new.items) }
-    ensures goes_on { OnOk result (GoesOn D.disk reader.old reader.new slots.old.items slots.new.items line.now (K.written out.old) (K.written out.new)) }
-    ensures halts { IfErr result (λ status. Halts status D.disk number reader.old slots.old.items slots.new.items line.now (K.written out.old) (K.written out.new) (Rose (K.faults out.old) (K.faults out.new))) }
+    ensures count { OnOk result (reader.new.lines ≡ reader.old.lines + 1) }
+    ensures goes_on { OnOk result (GoesOn D.disk reader.old.position reader.new.position slots.old.items slots.new.items line.now (K.written out.old) (K.written out.new)) }
+    ensures halts { IfErr result (λ status. Halts status D.disk (reader.old.lines + 1) reader.old.position slots.old.items slots.new.items line.now (K.written out.old) (K.written out.new) (Rose (K.faults out.old) (K.faults out.new))) }
     ensures later { K.faults out.old ≤ K.faults out.new }
     ensures length { length slots.new.items ≡ length slots.old.items }
 {
     match reader.feed(line) {
-        Err(_) => Err(Status::NoMemory),
-        Ok(Fed::Bad) => Err(Status::BadLine {
-            line: number,
-            column: 1,
-        }),
-        Ok(Fed::Held) => Ok(()),
-        Ok(Fed::Command(command)) => carry_out(alloc, slots, command, out),
+        Err(error) => Err(status_of(error)),
+        Ok(None) => Ok(()),
+        Ok(Some(command)) => carry_out(alloc, slots, command, out),
     }
 }
 
-/// The end of the input, after so many lines.
-fn finish(reader: &Reader, lines: u32) -> Status
-    requires { lines < 2 ^ 31 }
-    ensures ends { ((result ≡ Status.Ok) × (reader.now.inside ≡ false)) ⊎ ((result ≡ Status.BadLine (lines + 1) 1) × (reader.now.inside ≡ true)) }
+/// The end of the input.
+fn finish(reader: &Script) -> Status
+    ensures { Finishes result reader.now.lines reader.now.position }
 {
-    if reader.is_open() {
-        Status::BadLine {
-            line: lines + 1,
-            column: 1,
-        }
-    } else {
-        Status::Ok
+    match reader.end() {
+        Ok(()) => Status::Ok,
+        Err(error) => status_of(error),
     }
 }
 
@@ -122,36 +129,35 @@ fn run_script<S: Source, K: Sink, D: Disk>(
         (after : World) × Matched D.disk slots.new.items after × RanTo result input (S.left script.new) w after (K.written out.old) (K.written out.new)) }
     ensures length { length slots.new.items ≡ length slots.old.items }
     ensures script { result ≡ Status.Ok → IfSome (S.left script.old) (λ input. IsScript (lines_of input)) }
-    ensures bad_line { (n c : ℕ) → result ≡ Status.BadLine n c → IfSome (S.left script.old) (λ input. IsBadAt (lines_of input) n) }
-    ensures column { (n c : ℕ) → result ≡ Status.BadLine n c → c ≡ 1 }
+    ensures bad_line { (n c : ℕ) → result ≡ Status.BadLine n c → IfSome (S.left script.old) (λ input. IsBadAt (lines_of input) n c) }
+    ensures too_long { result ≡ Status.ScriptTooLong → IfSome (S.left script.old) (λ input. IsTooLong (lines_of input)) }
     ensures words { result ≢ Status.BadWords }
     ensures bound { (bytes : List ℕ) × Consumes (S.left script.old) (S.left script.new) bytes × (length bytes ≤ 409700001) }
-    ensures too_long { result ≢ Status.ScriptTooLong }
     ensures source { result ≡ Status.SourceFault → Rose (S.faults script.old) (S.faults script.new) }
     ensures sink { result ≡ Status.SinkFault → Rose (K.faults out.old) (K.faults out.new) }
 {
-    let mut reader = Reader::new(alloc);
+    let mut reader = Script::new(alloc);
     let mut line = Vec::new(alloc);
     let mut lines = 0u32;
     while lines < MOST_LINES {
         match read_line(script, &mut line) {
             Err(LineError::Failed) => return Status::SourceFault,
             Err(LineError::NoMemory) => return Status::NoMemory,
-            Ok(LineEnd::Nothing) => return finish(&reader, lines),
+            Ok(LineEnd::Nothing) => return finish(&reader),
             Ok(LineEnd::TooLong) => {
                 return Status::BadLine {
                     line: lines + 1,
-                    column: 1,
+                    column: LONGEST_LINE + 1,
                 };
             }
             Ok(LineEnd::Input) => {
-                match take_line(alloc, &mut reader, slots, lines + 1, &line, out) {
-                    Ok(()) => return finish(&reader, lines + 1),
+                match take_line(alloc, &mut reader, slots, &line, out) {
+                    Ok(()) => return finish(&reader),
                     Err(status) => return status,
                 }
             }
             Ok(LineEnd::Feed) => {
-                match take_line(alloc, &mut reader, slots, lines + 1, &line, out) {
+                match take_line(alloc, &mut reader, slots, &line, out) {
                     Ok(()) => lines += 1,
                     Err(status) => return status,
                 }
@@ -160,11 +166,8 @@ fn run_script<S: Source, K: Sink, D: Disk>(
     }
     match read_byte(script) {
         Err(_) => Status::SourceFault,
-        Ok(None) => finish(&reader, lines),
-        Ok(Some(_)) => Status::BadLine {
-            line: lines + 1,
-            column: 1,
-        },
+        Ok(None) => finish(&reader),
+        Ok(Some(_)) => Status::ScriptTooLong,
     }
 }
 
@@ -184,13 +187,12 @@ pub fn run<S: Source, K: Sink, D: Disk>(
         (after : World) × AreDisks D.disk disks.new.items after × RanTo result input (S.left script.new) w after (K.written out.old) (K.written out.new)) }
     ensures disks { length disks.new.items ≡ length disks.old.items }
     ensures script { result ≡ Status.Ok → IfSome (S.left script.old) (λ input. IsScript (lines_of input)) }
-    ensures bad_line { (n c : ℕ) → result ≡ Status.BadLine n c → IfSome (S.left script.old) (λ input. IsBadAt (lines_of input) n) }
-    ensures column { (n c : ℕ) → result ≡ Status.BadLine n c → c ≡ 1 }
-    ensures too_long { result ≢ Status.ScriptTooLong }
+    ensures bad_line { (n c : ℕ) → result ≡ Status.BadLine n c → IfSome (S.left script.old) (λ input. IsBadAt (lines_of input) n c) }
+    ensures too_long { result ≡ Status.ScriptTooLong → IfSome (S.left script.old) (λ input. IsTooLong (lines_of input)) }
     ensures source { result ≡ Status.SourceFault → Rose (S.faults script.old) (S.faults script.new) }
     ensures sink { result ≡ Status.SinkFault → Rose (K.faults out.old) (K.faults out.new) }
-    ensures complete { (input : List ℕ) → map string_bytes words.now ≡ codes "run" ∷ [] → S.left script.old ≡ Some input → IsScript (lines_of input)
-        → (Rose (S.faults script.old) (S.faults script.new) → ⊥) → (Rose (K.faults out.old) (K.faults out.new) → ⊥) → (result ≡ Status.Ok) ⊎ (result ≡ Status.NoMemory) }
+    ensures complete { (input : List ℕ) (due : Status) → map string_bytes words.now ≡ codes "run" ∷ [] → S.left script.old ≡ Some input → IsDue due (lines_of input)
+        → (Rose (S.faults script.old) (S.faults script.new) → ⊥) → (Rose (K.faults out.old) (K.faults out.new) → ⊥) → (result ≡ due) ⊎ (result ≡ Status.NoMemory) }
     ensures bound { (bytes : List ℕ) × Consumes (S.left script.old) (S.left script.new) bytes × (length bytes ≤ 409700001) }
 {
     if !is_run(words) {

@@ -28,9 +28,9 @@ returns-in-Ok-clause-meaning g c w h f =
     (c.run_script-status.ensures.meaning w (tied_fresh view c.args.disks.now.items c.in-Ok.slots.items w c.in-Ok.ensures.taken h f))
 
 pub returns-in-Ok-clause-complete : goal.returns-in-Ok-clause-complete
-returns-in-Ok-clause-complete g c input w e s f k =
+returns-in-Ok-clause-complete g c input due w e d f k =
     let r = c.run_script-status.ensures in
-    complete c.run_script-status.result _ input _ _ e s r.words r.too_long r.bad_line r.source r.sink f k
+    complete c.run_script-status.result due _ input _ _ e d r.words r.script r.too_long r.bad_line r.source r.sink f k
 
 pub run_script-status-requires : goal.run_script-status-requires
 run_script-status-requires g c = free_ready g.D.Disk.disk c.args.disks.now.items c.in-Ok.slots.items c.in-Ok.ensures.taken
