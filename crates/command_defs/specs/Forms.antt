@@ -1,9 +1,8 @@
 -- The forms of the commands that are one line, and of a section's first line.
-use Rattle.std.specs.Prelude.{ℕ, ◌-◌, ◌^◌, List, [], ◌∷◌, take, drop, codes, if◌then◌else◌}
+use Rattle.std.specs.Prelude.{ℕ, ◌-◌, ◌^◌, List, [], ◌∷◌, codes, if◌then◌else◌}
 use Rattle.std.specs.Str.{bytes_eq}
 use Rattle.std.specs.declared.result.Result.{Result}
-use Rattle.std.specs.declared.result.Result.TheVariants.{Ok, Err}
-use Rattle.script_defs.specs.Parts.{word_end, without_spaces}
+use Rattle.std.specs.declared.result.Result.TheVariants.{Err}
 use Rattle.command_defs.specs.Commands.{Name, Command, Create, StartPrimary, Stop, Fuse, Crash, Extract, Zwrite, with_images}
 use Rattle.command_defs.specs.Parts.{column, followed, taken, taken_if_any, ended, word_form, name_form, number_form, node_form}
 

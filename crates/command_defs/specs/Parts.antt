@@ -1,13 +1,13 @@
 -- A line cut into parts, and the column of the first one that is bad.
-use Rattle.std.specs.Prelude.{ℕ, ◌+◌, ◌-◌, ◌&&◌, ◌==◌, Bool, false, List, [], ◌∷◌, length, take, drop, nat_le, Option, Some, None, if◌then◌else◌}
+use Rattle.std.specs.Prelude.{ℕ, ◌+◌, ◌-◌, ◌&&◌, ◌||◌, ◌==◌, Bool, false, List, [], ◌∷◌, length, take, drop, nat_le, Option, Some, None, codes, if◌then◌else◌}
 use Rattle.std.specs.List.{list_all}
 use Rattle.std.specs.Char.{is_ascii_alphabetic, is_ascii_alphanumeric}
-use Rattle.std.specs.Fmt.{decimal}
 use Rattle.std.specs.Str.{bytes_eq}
 use Rattle.std.specs.Str.Parse.{digits_value}
 use Rattle.std.specs.declared.result.Result.{Result}
 use Rattle.std.specs.declared.result.Result.TheVariants.{Ok, Err}
 use Rattle.global_defs.specs.Key.{Key}
+use Rattle.global_defs.specs.Numeral.{is_whole}
 use Rattle.gvn_key.specs.KeyText.{key_reading}
 use Rattle.gvn_key.specs.declared.key.KeyError.{KeyError}
 use Rattle.script_defs.specs.Parts.{word_end, without_spaces}
@@ -80,9 +80,13 @@ is_name text = is_lettered text && nat_le (length text) LONGEST_NAME
 abbrev pub name_form : List ℕ → Option (List ℕ)
 name_form text = if is_name text then Some text else None
 
--- The number whose decimal digits a text is, from the least to the greatest one.
+-- digits without a leading zero
+abbrev pub is_digits : List ℕ → Bool
+is_digits text = is_whole text || bytes_eq text (codes "0")
+
+-- a number in digits, from the least to the greatest one
 abbrev pub number_from : ℕ → ℕ → ℕ → List ℕ → Option ℕ
-number_from least most k text = if bytes_eq text (decimal k) && nat_le least k && nat_le k most then Some k else None
+number_from least most k text = if is_digits text && nat_le least k && nat_le k most then Some k else None
 
 abbrev pub number_form : ℕ → ℕ → List ℕ → Option ℕ
 number_form least most text = number_from least most (digits_value 10 text) text

@@ -1,10 +1,10 @@
 -- A section: updaters' jobs between RUN and END, a statement or a word of a transaction a line.
-use Rattle.std.specs.Prelude.{◌≡◌, ◌≤◌, ◌<◌, ℕ, suc, ◌+◌, ◌-◌, ◌&&◌, ◌||◌, ◌==◌, Bool, true, false, List, [], ◌∷◌, ◌++◌, length, replicate, take, drop, nat_le, get_or, set, count_by, Option, Some, None, codes, fold, if◌then◌else◌}
+use Rattle.std.specs.Prelude.{◌≡◌, ◌≤◌, ◌<◌, ℕ, ◌+◌, ◌-◌, ◌&&◌, ◌||◌, ◌==◌, Bool, true, false, List, [], ◌∷◌, ◌++◌, length, replicate, nat_le, get_or, set, count_by, Some, None, codes, fold, if◌then◌else◌}
 use Rattle.std.specs.List.{list_all, AllByRecursion}
 use Rattle.std.specs.Str.{bytes_eq}
 use Rattle.global_defs.specs.Jobs.{Statement, Set, Kill, ZKill, Incr, Job}
 use Rattle.global_defs.specs.Serial.{without_next}
-use Rattle.command_defs.specs.Commands.{Name, Command, Create, StartPrimary, Run, Stop, Fuse, Crash, Extract, Zwrite, Region}
+use Rattle.command_defs.specs.Commands.{Name, Command, Create, StartPrimary, Run, Stop, Fuse, Crash, Extract, Zwrite}
 use Rattle.command_defs.specs.Parts.{is_name}
 use Rattle.command_defs.specs.Forms.{MOST_CALLS, MOST_PICK, MOST_NUMBER}
 
@@ -79,13 +79,30 @@ is_full_job job word = nat_le MOST_STATEMENTS (length job) || (is_update_word wo
 abbrev pub is_full : Section → ℕ → List ℕ → Bool
 is_full s u word = is_open s u && is_full_job (last_job (jobs_of s u)) word
 
--- What a command of a script has.
+-- What holds of each section that lines come to.
 
 abbrev pub is_updater : ℕ → Bool
 is_updater u = nat_le 1 u && nat_le u UPDATERS
 
 abbrev pub is_of_size : Job → Bool
 is_of_size job = nat_le (length job) MOST_STATEMENTS && nat_le (count_by is_update job) MOST_UPDATES
+
+-- how many jobs of an updater an order has
+abbrev pub count_in : List ℕ → ℕ → ℕ
+count_in order u = count_by (λ v. v == u) order
+
+pub record IsSound (s : Section) : Type 0 where
+  pub named : is_name s.name ≡ true
+  pub updaters : length s.jobs ≡ UPDATERS
+  pub openings : length s.opened ≡ UPDATERS
+  pub ordered : list_all is_updater s.order ≡ true
+  -- an updater stands as often in the order as it has jobs
+  pub counted : (i : ℕ) → i < UPDATERS → count_in s.order (i + 1) ≡ length (get_or s.jobs i [])
+  pub sized : list_all (λ own. list_all is_of_size own) s.jobs ≡ true
+  -- who has an open transaction has a job
+  pub begins : (i : ℕ) → i < UPDATERS → get_or s.opened i false ≡ true → 0 < length (get_or s.jobs i [])
+
+-- What a command of a script has.
 
 -- names of their form, numbers within their limits, and jobs of 64 updaters
 abbrev pub IsFormed : Command → Type 0

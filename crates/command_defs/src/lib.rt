@@ -4,4 +4,4 @@
 
 mod vectors;
 
-pub use vectors::{lines_hold};
+pub use vectors::{commands_hold, lines_hold, sections_hold};
