@@ -47,18 +47,16 @@ formed at behind (Some x) = Ok (x, behind)
 
 -- A part of a form, and what is left behind it and the spaces. It is bad where it's missing, or isn't of its form and within its limits.
 abbrev pub taken : {X : Type 0} → (List ℕ → Option X) → ℕ → List ℕ → Result (X × List ℕ) ℕ
-taken form len [] = Err (column len [])
-taken form len (b ∷ bs) = formed (column len (b ∷ bs)) (without_spaces (drop (word_end (b ∷ bs)) (b ∷ bs))) (form (take (word_end (b ∷ bs)) (b ∷ bs)))
+taken form len left = if length left == 0 then Err (column len left)
+    else formed (column len left) (without_spaces (drop (word_end left) left)) (form (take (word_end left) left))
 
 -- a part that may be missing
 abbrev pub taken_if_any : {X : Type 0} → (List ℕ → Option X) → ℕ → List ℕ → Result (Option X × List ℕ) ℕ
-taken_if_any form len [] = Ok (None, [])
-taken_if_any form len (b ∷ bs) = followed (taken form len (b ∷ bs)) (λ p. Ok (Some p.0, p.1))
+taken_if_any form len left = if length left == 0 then Ok (None, left) else followed (taken form len left) (λ p. Ok (Some p.0, p.1))
 
 -- a part is bad that is too much
 abbrev pub ended : {X : Type 0} → ℕ → List ℕ → X → Result X ℕ
-ended len [] x = Ok x
-ended len (b ∷ bs) x = Err (column len (b ∷ bs))
+ended len left x = if length left == 0 then Ok x else Err (column len left)
 
 -- The forms of parts.
 

@@ -5,6 +5,7 @@ use Rattle.std.specs.Str.{bytes_eq}
 use Rattle.std.specs.declared.result.Result.{Result}
 use Rattle.std.specs.declared.result.Result.TheVariants.{Ok, Err}
 use Rattle.global_defs.specs.Jobs.{Statement}
+use Rattle.gvn_key.specs.ZwrText.{told}
 use Rattle.script_defs.specs.Parts.{Fault, word_end, without_spaces}
 use Rattle.script_defs.specs.Statements.{statement_reading}
 use Rattle.command_defs.specs.Commands.{Name, Command, Run}
@@ -54,7 +55,7 @@ end_reading s len behind = if list_any (λ b. b) s.opened then Wrong 1 else endi
 -- a statement's fault, by the place of its part in the statement
 abbrev pub stated : Section → ℕ → (at : ℕ) → Result Statement Fault → Reading
 stated s u at (Ok statement) = Goes (Within (with_statement s u statement))
-stated s u at (Err fault) = Wrong (at + fault.part)
+stated s u at (Err fault) = Wrong (told (at + fault.part))
 
 -- what stands behind an updater's number, by its first word
 abbrev pub job_by : Section → ℕ → (word : List ℕ) (len : ℕ) (left behind : List ℕ) → Reading
