@@ -1,5 +1,5 @@
 -- The commands of a script.
-use Rattle.std.specs.Prelude.{ℕ, Bool, List, Option}
+use Rattle.std.specs.Prelude.{ℕ, Bool, true, List, Option}
 use Rattle.global_defs.specs.Key.{Key}
 use Rattle.global_defs.specs.Jobs.{Job}
 
@@ -22,7 +22,10 @@ pub data Command : Type 0 where
   Fuse : Name → (calls : ℕ) → Command
   -- the site's disk takes the image of that pick
   Crash : Name → (pick : ℕ) → Command
-  -- the entries from that number on, else from 1
+  -- the entries from that number on, or all
   Extract : Name → (from : Option ℕ) → Command
-  -- all nodes, or that one and those below it (GT.M: ZWRITE)
+  -- that node and its descendants, or all nodes (GT.M: ZWRITE)
   Zwrite : Name → (top : Option Key) → Command
+
+abbrev pub with_images : Name → Region
+with_images name = record { name = name; before = true }

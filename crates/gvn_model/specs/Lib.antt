@@ -3,3 +3,4 @@ pub mod Entries
 pub mod Items
 pub mod Numbered
 pub mod Jobs
+pub mod Queues

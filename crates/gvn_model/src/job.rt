@@ -1,11 +1,25 @@
 // Jobs, and what becomes of them.
+ghost use Rattle.std.specs.Prelude.{◌≡◌, IfOk};
+
 use super::statements::{Answers, Statements};
 use super::updates::Updates;
+use gvn_key::NoMemory;
 
 /// One statement, or those of a transaction.
 #[derive(Debug, Drop)]
 pub struct Job {
     pub statements: Statements,
+}
+
+impl Job {
+    /// An equal job.
+    pub fn copy(&self) -> Result<Self, NoMemory>
+        ensures { IfOk result (λ made. made ≡ self.now) }
+    {
+        Ok(Job {
+            statements: self.statements.copy()?,
+        })
+    }
 }
 
 /// Why a job is rolled back.

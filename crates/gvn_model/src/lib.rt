@@ -3,9 +3,13 @@
 
 mod entries;
 mod entry;
+mod evaluation;
 mod history;
 mod items;
 mod job;
+mod jobs;
+mod named_modes;
+mod queue;
 mod reign;
 mod statements;
 #[cfg(test)]
@@ -14,10 +18,14 @@ mod updates;
 
 pub use entries::Entries;
 pub use entry::{Entry, Origin, Transaction};
+pub use evaluation::eval;
 pub use gvn_globals::{Globals, Lookup};
 pub use history::{History, Reigns};
 pub use items::{Item, Items};
 pub use job::{Cause, Evaluated, Job, Reply};
+pub use jobs::Jobs;
+pub use named_modes::NamedModes;
+pub use queue::JobQueue;
 pub use reign::{Reign, Stamp};
 pub use statements::{Answers, Statements};
 pub use updates::Updates;

@@ -1,0 +1,71 @@
+// Worked lines.
+ghost use Rattle.std.specs.Prelude.{◌≡◌, ◌∷◌, ◌++◌, [], codes, Some, None, true, false, replicate};
+ghost use Rattle.global_defs.specs.Key.{sub_of};
+ghost use Rattle.global_defs.specs.Jobs as jobs;
+ghost use Rattle.command_defs.specs.Lines.{lines_of};
+ghost use Rattle.command_defs.specs.Commands.{Create, StartPrimary, Run, Stop, Fuse, Crash, Extract, Zwrite, with_images};
+ghost use Rattle.command_defs.specs.Parts.{trimmed};
+ghost use Rattle.command_defs.specs.Sections.{begun, with_job, transaction_begun, transaction_ended, is_full_job};
+ghost use Rattle.command_defs.specs.Script.{Outside, Within, Skips, Wrong, Goes, Ends, line_reading, lines_reading};
+
+/// Lines are cut at each line feed. At a line's end spaces, one carriage return and again spaces are ignored.
+pub fn lines_hold()
+    ensures fed { lines_of (codes "a\n\nb\n") ≡ codes "a" ∷ [] ∷ codes "b" ∷ [] }
+    ensures unfed { lines_of (codes "a\nb") ≡ codes "a" ∷ codes "b" ∷ [] }
+    ensures nothing { lines_of [] ≡ [] }
+    ensures trimmed { trimmed (codes " a  \r ") ≡ codes " a" }
+    ensures second { trimmed (codes "a\r\r") ≡ codes "a\r" }
+    ensures blank { line_reading Outside (codes "  \r ") ≡ Skips }
+    ensures comment { line_reading Outside (codes " ; STOP") ≡ Skips }
+    ensures second_return { line_reading Outside (codes "\r\r") ≡ Wrong 1 }
+    ensures long { line_reading Outside (replicate 4097 32) ≡ Wrong 4097 }
+{}
+
+/// Commands of one line, and the first bad part of lines that are none.
+#[tactic(auto, unfolding(gvn_key::specs::KeyText::subs_at))]
+pub fn commands_hold()
+    ensures create { line_reading Outside (codes "CREATE A R") ≡ Ends (Create (codes "A") (with_images (codes "R") ∷ [])) }
+    ensures region { line_reading Outside (codes "CREATE A R Q") ≡ Wrong 12 }
+    ensures mode { line_reading Outside (codes "CREATE A R:NOBEFORE") ≡ Wrong 10 }
+    ensures longest { line_reading Outside (codes "STOP ABCDEFGHIJKLMN9") ≡ Ends (Stop (codes "ABCDEFGHIJKLMN9")) }
+    ensures too_long { line_reading Outside (codes "STOP ABCDEFGHIJKLMN90") ≡ Wrong 6 }
+    ensures digit { line_reading Outside (codes "STOP 1A") ≡ Wrong 6 }
+    ensures start { line_reading Outside (codes " START  A PRIMARY \r") ≡ Ends (StartPrimary (codes "A")) }
+    ensures role { line_reading Outside (codes "START A SECONDARY OF B") ≡ Wrong 9 }
+    ensures word { line_reading Outside (codes "RUNN A") ≡ Wrong 1 }
+    ensures missing { line_reading Outside (codes "STOP  ") ≡ Wrong 5 }
+    ensures more { line_reading Outside (codes "STOP A\r\r") ≡ Wrong 6 }
+    ensures fuse { line_reading Outside (codes "FUSE A 1000000") ≡ Ends (Fuse (codes "A") 1000000) }
+    ensures calls { line_reading Outside (codes "FUSE A 1000001") ≡ Wrong 8 }
+    ensures zero { line_reading Outside (codes "CRASH A 0") ≡ Ends (Crash (codes "A") 0) }
+    ensures leading { line_reading Outside (codes "CRASH A 01") ≡ Wrong 9 }
+    ensures pick { line_reading Outside (codes "CRASH A 4294967296") ≡ Wrong 9 }
+    ensures all { line_reading Outside (codes "EXTRACT A") ≡ Ends (Extract (codes "A") None) }
+    ensures from { line_reading Outside (codes "EXTRACT A 1099511627776") ≡ Ends (Extract (codes "A") (Some 1099511627776)) }
+    ensures number { line_reading Outside (codes "EXTRACT A 0") ≡ Wrong 11 }
+    ensures node { line_reading Outside (codes "ZWRITE A ^X(\"a b\")") ≡ Ends (Zwrite (codes "A") (Some (record { name = codes "X"; subs = sub_of (codes "a b") ∷ [] }))) }
+    ensures behind { line_reading Outside (codes "ZWRITE A ^X(\"a b\") ^Y") ≡ Wrong 20 }
+{}
+
+/// Lines of sections, and the first bad part of lines that are none.
+#[tactic(auto, unfolding(gvn_key::specs::KeyText::subs_at))]
+pub fn sections_hold()
+    ensures begun { line_reading Outside (codes "RUN A") ≡ Goes (Within (begun (codes "A"))) }
+    ensures updater { line_reading (Within (begun (codes "A"))) (codes "65 GET ^X") ≡ Wrong 1 }
+    ensures nothing { line_reading (Within (begun (codes "A"))) (codes " 1 ") ≡ Wrong 3 }
+    ensures kind { line_reading (Within (begun (codes "A"))) (codes "STOP A") ≡ Wrong 1 }
+    ensures commit { line_reading (Within (begun (codes "A"))) (codes "2  TCOMMIT") ≡ Wrong 4 }
+    ensures again { line_reading (Within (transaction_begun (begun (codes "A")) 2)) (codes "2 TSTART") ≡ Wrong 3 }
+    ensures open { line_reading (Within (transaction_begun (begun (codes "A")) 2)) (codes "  END") ≡ Wrong 1 }
+    ensures other { line_reading (Within (transaction_begun (begun (codes "A")) 2)) (codes "1 TCOMMIT") ≡ Wrong 3 }
+    ensures end_more { line_reading (Within (begun (codes "A"))) (codes "END A") ≡ Wrong 5 }
+    ensures statement { line_reading (Within (begun (codes "A"))) (codes "64 SET ^X =1") ≡ Wrong 10 }
+    ensures value { line_reading (Within (begun (codes "A"))) (codes "1 SET ^X=") ≡ Wrong 10 }
+    ensures full { is_full_job (replicate 256 (jobs.Kill (record { name = codes "X"; subs = [] }))) (codes "SET") ≡ true }
+    ensures reads { is_full_job (replicate 256 (jobs.Kill (record { name = codes "X"; subs = [] }))) (codes "GET") ≡ false }
+    ensures most { is_full_job (replicate 1024 (jobs.Get (record { name = codes "X"; subs = [] }))) (codes "GET") ≡ true }
+    ensures interleaved { lines_reading (codes "RUN A" ∷ codes "2 TSTART" ∷ codes "; both" ∷ codes "1 GET ^X" ∷ codes "2 KILL ^Y" ∷ codes "2 TCOMMIT" ∷ codes "END" ∷ []) ≡ Some (record {
+      commands = Run (codes "A") (((jobs.Get (record { name = codes "X"; subs = [] }) ∷ []) ∷ []) ∷ ((jobs.Kill (record { name = codes "Y"; subs = [] }) ∷ []) ∷ []) ∷ replicate 62 []) (2 ∷ 1 ∷ []) ∷ [];
+      position = Outside;
+    }) }
+{}

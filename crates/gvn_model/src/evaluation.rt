@@ -1,0 +1,24 @@
+// What a job does on globals.
+ghost use Rattle.std.specs.Prelude.{◌≡◌, ◌≢◌, IfOk};
+ghost use Rattle.global_defs.specs.Evaluation as evaluation;
+ghost use Rattle.gvn_model.specs.Jobs.{job_value, evaluated_value};
+
+use super::entry::Origin;
+use super::job::{Evaluated, Job};
+use gvn_globals::Lookup;
+use gvn_key::NoMemory;
+use std::alloc::Global;
+
+/// What the job does on these globals: its statements in order, each on what the earlier ones have left, or the cause of the
+/// first that has one. The globals stay as they are. Whose job it is makes no difference yet. It is never
+/// [`Cause::SeqLimit`](super::job::Cause::SeqLimit).
+pub fn eval<G: Lookup>(
+    alloc: Global,
+    job: &Job,
+    _origin: Origin,
+    on: &G,
+) -> Result<Evaluated, NoMemory>
+    ensures { IfOk result (λ made. evaluated_value made ≡ evaluation.eval (job_value job.now) (G.seen on.now)) }
+{
+    Err(NoMemory)
+}

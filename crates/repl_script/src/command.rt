@@ -1,0 +1,30 @@
+//! The commands of a script.
+use gvn_key::{Bytes, Key};
+use gvn_model::{Jobs, NamedModes};
+
+/// A command with the names, numbers and jobs that its lines give. A site's or region's name is a letter and then letters and
+/// digits, at most 15 characters.
+#[derive(Debug, Drop)]
+pub enum Command {
+    /// Makes a site with these regions. Each is journaled with images of its blocks before they change, or not.
+    Create { site: Bytes, regions: NamedModes },
+    /// Opens a site as a primary and begins a reign.
+    StartPrimary { site: Bytes },
+    /// Decides jobs at a primary: those of 64 updaters, and the updaters in the order of their jobs' first lines, one byte a
+    /// job.
+    Run {
+        site: Bytes,
+        jobs: Jobs,
+        order: Bytes,
+    },
+    /// Closes a site.
+    Stop { site: Bytes },
+    /// Lets so many more calls of the site's disk succeed, at most 1,000,000; each later one fails until a crash.
+    Fuse { site: Bytes, calls: u64 },
+    /// Crashes the site's disk, which takes the image of that pick, at most 2 ^ 32 - 1.
+    Crash { site: Bytes, pick: u64 },
+    /// Shows the entries from that number on, from 1 to 2 ^ 40, or all.
+    Extract { site: Bytes, number: Option<u64> },
+    /// Shows that node and its descendants, or all nodes (GT.M: ZWRITE).
+    Zwrite { site: Bytes, top: Option<Key> },
+}

@@ -1,0 +1,11 @@
+//! Reads a script line by line: its commands, and the line and column of the first fault.
+#![tactic(auto)]
+
+mod command;
+mod error;
+mod script;
+mod section;
+
+pub use command::Command;
+pub use error::ScriptError;
+pub use script::Script;

@@ -1,0 +1,89 @@
+//! Scripts line by line.
+ghost use Rattle.std.specs.Prelude.{◌≡◌, ◌+◌, ◌≤◌, ◌↔◌, IfOk, IfErr, OnOk, OnErr, IfSome, IfNone};
+ghost use Rattle.command_defs.specs.Sections.{IsFormed, IsWhole};
+ghost use Rattle.command_defs.specs.Script.{Outside, Ends, line_reading, MOST_LINES};
+ghost use Rattle.repl_script.specs.Commands.{command_value};
+ghost use Rattle.repl_script.specs.Feeds.{Moves, TellsBad, EndsAs};
+
+use super::command::Command;
+use super::error::ScriptError;
+use super::section::Section;
+use std::alloc::Global;
+use std::marker::Model;
+
+/// How many lines a script may have.
+const MOST_LINES: u32 = 100_000;
+
+/// Takes the lines of a script one after another and gives its commands. It's seen as where the next line stands, between
+/// commands or in a section, and how many lines it took.
+#[derive(Drop)]
+pub struct Script {
+    alloc: Global,
+    lines: u32,
+    /// The section that isn't ended.
+    section: Option<Section>,
+}
+
+impl Model for Script {
+    ghost use Rattle.std.specs.Prelude.{◌≤◌};
+    ghost use Rattle.command_defs.specs.Script as script;
+    ghost use Rattle.repl_script.specs.Feeds as feeds;
+
+    ghost Value = { feeds.Progress };
+
+    ghost view = { λ s. record { position = feeds.position_of s.section; lines = s.lines } };
+
+    ghost invariant = { λ s. s.lines ≤ script.MOST_LINES };
+}
+
+impl Script {
+    /// A script of which no line was taken.
+    pub fn new(alloc: Global) -> Self
+        ensures { result ≡ record { position = Outside; lines = 0 } }
+    {
+        Script {
+            alloc,
+            lines: 0,
+            section: None,
+        }
+    }
+
+    /// Takes the next line, without its line feed, and gives the command that ends with it. An error takes no line.
+    pub fn feed(&mut self, line: &[u8]) -> Result<Option<Command>, ScriptError>
+        // No command: the line is ignored, or it begins or continues a section.
+        ensures none { IfOk result (λ found. IfNone found (Moves self.old.position self.new.position (line_reading self.old.position line.now))) }
+        // A command: it ends with this line.
+        ensures some { IfOk result (λ found. IfSome found (λ command. (line_reading self.old.position line.now ≡ Ends (command_value command)) × (self.new.position ≡ Outside))) }
+        ensures count { OnOk result (self.new.lines ≡ self.old.lines + 1) }
+
+        // A bad line is told with its number and column.
+        ensures bad { IfErr result (λ e. TellsBad e self.old line.now) }
+        // Before all else it is tested that the lines aren't too many.
+        ensures too_long { (result ≡ Err ScriptError.ScriptTooLong) ↔ (MOST_LINES ≤ self.old.lines) }
+        ensures kept { OnErr result (self.new ≡ self.old) }
+
+        // Names, numbers and the sizes of jobs are within their limits.
+        ensures formed { IfOk result (λ found. IfSome found (λ command. IsFormed (command_value command))) }
+        // A section's order uses up the jobs of each updater.
+        ensures whole { IfOk result (λ found. IfSome found (λ command. IsWhole (command_value command))) }
+    {
+        let _ = line;
+        if MOST_LINES <= self.lines {
+            return Err(ScriptError::ScriptTooLong);
+        }
+        Err(ScriptError::NoMemory)
+    }
+
+    /// Whether the lines may end here: a section that lacks its END makes the line after the last bad.
+    pub fn end(&self) -> Result<(), ScriptError>
+        ensures { EndsAs self.now.position self.now.lines tt result }
+    {
+        match self.section {
+            None => Ok(()),
+            Some(_) => Err(ScriptError::BadLine {
+                line: self.lines + 1,
+                column: 1,
+            }),
+        }
+    }
+}
