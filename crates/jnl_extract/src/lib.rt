@@ -2,6 +2,7 @@
 #![tactic(auto)]
 
 mod line;
+mod node;
 #[cfg(test)]
 mod tests;
 mod update;
@@ -13,6 +14,7 @@ ghost use Rattle.gvn_model.specs.Entries.{entry_value};
 use gvn_key::{Bytes, NoMemory};
 use gvn_model::Entry;
 use line::{write_bracket, write_update, write_updates};
+pub use node::write_node;
 pub use update::read_update;
 
 /// Adds the lines of an entry at the end: one line for its update, or a line for each between a TSTART
