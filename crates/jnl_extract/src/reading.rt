@@ -1,0 +1,97 @@
+//! Extracts read.
+use super::cut::cut;
+use super::lines::{read_header, read_line};
+use super::stage::{Stage, next_stage};
+use gvn_key::{Bytes, NoMemory};
+use gvn_model::Entries;
+use std::alloc::Global;
+use thiserror::Error;
+
+/// Entries of a site in order, as its extract has them.
+#[derive(Debug, Drop)]
+pub struct Extract {
+    /// The name of the site.
+    pub site: Bytes,
+    /// The number that the extract begins with, from 1 to 2 ^ 40.
+    pub from: u64,
+    /// The entries from that number on.
+    pub entries: Entries,
+}
+
+/// Why a text isn't read.
+#[derive(Clone, Copy, Debug, PartialEq, Eq, Error)]
+pub enum ExtractError {
+    /// No extract goes on with the line that begins at this byte, counted from 0.
+    #[error("no extract goes on with the line at byte {offset}")]
+    BadLine {
+        /// Where the line begins: at the text's end where a line is missing there.
+        offset: u64,
+    },
+    /// There was no memory.
+    #[error("out of memory")]
+    NoMemory,
+}
+
+impl From<NoMemory> for ExtractError {
+    ghost use Rattle.jnl_extract.specs.declared.reading.ExtractError.TheVariants as errors;
+
+    ghost from_gives = { λ _ e. e ≡ errors.NoMemory };
+
+    fn from(_: NoMemory) -> Self {
+        ExtractError::NoMemory
+    }
+}
+
+/// The line at the front of what is left of a text is bad.
+fn bad_line(text: &[u8], left: &[u8]) -> ExtractError {
+    ExtractError::BadLine {
+        offset: (text.len() - left.len()) as u64,
+    }
+}
+
+/// What the line at the front leads to, and what is left behind it.
+fn step<'a>(alloc: Global, stage: Stage, left: &'a [u8]) -> Result<Option<(Stage, &'a [u8])>, NoMemory> {
+    match cut(left, b'\n') {
+        None => Ok(None),
+        Some((line, rest)) => match read_line(alloc, line)? {
+            None => Ok(None),
+            Some(line) => match next_stage(alloc, stage, line)? {
+                None => Ok(None),
+                Some(next) => Ok(Some((next, rest))),
+            },
+        },
+    }
+}
+
+/// The entries behind the header.
+fn read_entries(alloc: Global, text: &[u8], rest: &[u8], from: u64) -> Result<Entries, ExtractError> {
+    let mut stage = Stage { next: from, entries: Entries::new(alloc), pending: None };
+    let mut left = rest;
+    while !left.is_empty() {
+        match step(alloc, stage, left)? {
+            None => return Err(bad_line(text, left)),
+            Some((next, rest)) => {
+                stage = next;
+                left = rest;
+            }
+        }
+    }
+    match stage.pending {
+        None => Ok(stage.entries),
+        Some(_) => Err(bad_line(text, left)),
+    }
+}
+
+/// The extract that a text is, or its first line that no extract goes on with.
+pub fn read_extract(alloc: Global, text: &[u8]) -> Result<Extract, ExtractError> {
+    match cut(text, b'\n') {
+        None => Err(bad_line(text, text)),
+        Some((line, rest)) => match read_header(alloc, line)? {
+            None => Err(bad_line(text, text)),
+            Some((site, from)) => {
+                let entries = read_entries(alloc, text, rest, from)?;
+                Ok(Extract { site, from, entries })
+            }
+        },
+    }
+}
