@@ -1,4 +1,1 @@
 pub mod Updates
-pub mod Extracts
-pub mod Lines
-pub mod Values

@@ -1,15 +1,8 @@
 //! Entries as the lines of an extract.
 #![tactic(auto)]
 
-mod cut;
-mod fields;
 mod line;
-mod lines;
 mod node;
-mod reading;
-#[cfg(test)]
-mod reading_tests;
-mod stage;
 #[cfg(test)]
 mod tests;
 mod update;
@@ -22,7 +15,6 @@ use gvn_key::{Bytes, NoMemory};
 use gvn_model::Entry;
 use line::{write_bracket, write_update, write_updates};
 pub use node::write_node;
-pub use reading::{Extract, ExtractError, read_extract};
 pub use update::read_update;
 
 /// Adds the lines of an entry at the end: one line for its update, or a line for each between a TSTART
