@@ -6,7 +6,7 @@ use Rattle.std.specs.Fmt.{decimal}
 use Rattle.std.proofs.lemmas.Bool.{eq-eqb}
 use Rattle.disk_defs.specs.Disk.{View}
 use Rattle.world_defs.specs.Lists.{Among, Along, At, first_where}
-use Rattle.command_defs.specs.Commands.{Name, Command, Create, StartPrimary, Run, Stop, Fuse, Crash, Extract}
+use Rattle.command_defs.specs.Commands.{Name, Command, Create, StartPrimary, Run, Stop, Fuse, Crash, Extract, Zwrite}
 use Rattle.world_defs.specs.World.{State, Site, Contents, Place, World, Kept, is_site_named, place_of, at_place, site_of}
 use Rattle.world_defs.specs.Answers.{Cause, NoSite, Refusal, Answer, Done, Refused, DiskFault, NotAFile, Ran}
 use Rattle.world_defs.specs.Refusals.{early, late, or_else, refusal, refused_with, tested, first}
@@ -142,6 +142,7 @@ early_is w (Stop name) p n e = ap (λ (o : Option Place). refused_with name (tes
 early_is w (Fuse name calls) p n e = ap (λ (o : Option Place). refused_with name (tested o (tests (Fuse name calls)))) e
 early_is w (Crash name pick) p n e = ap (λ (o : Option Place). refused_with name (tested o (tests (Crash name pick)))) e
 early_is w (Extract name from) p n e = ap (λ (o : Option Place). refused_with name (tested o (tests (Extract name from)))) e
+early_is w (Zwrite name top) p n e = ap (λ (o : Option Place). refused_with name (tested o (tests (Zwrite name top)))) e
 
 pub early_none : (w : World) (c : Command) → IsNamed c → site_of w (name_in c) ≡ None → early w c ≡ Some (record { site = name_in c; cause = NoSite })
 early_none w (Create name regions) n e = absurd n
@@ -151,6 +152,7 @@ early_none w (Stop name) n e = ap (λ (o : Option Place). refused_with name (tes
 early_none w (Fuse name calls) n e = ap (λ (o : Option Place). refused_with name (tested o (tests (Fuse name calls)))) e
 early_none w (Crash name pick) n e = ap (λ (o : Option Place). refused_with name (tested o (tests (Crash name pick)))) e
 early_none w (Extract name from) n e = ap (λ (o : Option Place). refused_with name (tested o (tests (Extract name from)))) e
+early_none w (Zwrite name top) n e = ap (λ (o : Option Place). refused_with name (tested o (tests (Zwrite name top)))) e
 
 or_none : (r : Option Refusal) → or_else r None ≡ r
 or_none None = refl
@@ -164,6 +166,7 @@ refusal_is w (Stop name) n = or_none (early w (Stop name))
 refusal_is w (Fuse name calls) n = or_none (early w (Fuse name calls))
 refusal_is w (Crash name pick) n = or_none (early w (Crash name pick))
 refusal_is w (Extract name from) n = or_none (early w (Extract name from))
+refusal_is w (Zwrite name top) n = or_none (early w (Zwrite name top))
 
 pub subject_is : (w : World) (c : Command) → IsNamed c → subject w c ≡ place_of w (name_in c)
 subject_is w (Create name regions) n = absurd n
@@ -173,6 +176,7 @@ subject_is w (Stop name) n = refl
 subject_is w (Fuse name calls) n = refl
 subject_is w (Crash name pick) n = refl
 subject_is w (Extract name from) n = refl
+subject_is w (Zwrite name top) n = refl
 
 -- one place of a world changed
 abbrev pub with_place : World → ℕ → Place → World
@@ -189,6 +193,7 @@ row_is w (Stop name) i p q n e g r = on_place (RowHere (Stop name)) w (place_of 
 row_is w (Fuse name calls) i p q n e g r = kept_set i w.places p q g r
 row_is w (Crash name pick) i p q n e g r = on_place (RowHere (Crash name pick)) w (place_of w name) i p q e g r
 row_is w (Extract name from) i p q n e g r = kept_set i w.places p q g r
+row_is w (Zwrite name top) i p q n e g r = kept_set i w.places p q g r
 
 fault_is : (w : World) (c : Command) (k i : ℕ) (p q : Place) → IsNamed c → place_of w (name_in c) ≡ Some i → slice_get w.places i ≡ Some p → FaultHere c k p q → Faulted w c k (with_place w i q)
 fault_is w (Create name regions) k i p q n e g r = absurd n
@@ -198,6 +203,7 @@ fault_is w (Stop name) k i p q n e g r = absurd r
 fault_is w (Fuse name calls) k i p q n e g r = absurd r
 fault_is w (Crash name pick) k i p q n e g r = absurd r
 fault_is w (Extract name from) k i p q n e g r = absurd r
+fault_is w (Zwrite name top) k i p q n e g r = absurd r
 
 damage_is : (w : World) (c : Command) (i : ℕ) (p q : Place) → IsNamed c → place_of w (name_in c) ≡ Some i → slice_get w.places i ≡ Some p → DamageHere c p q → Damaged w c (with_place w i q)
 damage_is w (Create name regions) i p q n e g r = absurd n
@@ -207,6 +213,7 @@ damage_is w (Stop name) i p q n e g r = absurd r
 damage_is w (Fuse name calls) i p q n e g r = absurd r
 damage_is w (Crash name pick) i p q n e g r = absurd r
 damage_is w (Extract name from) i p q n e g r = absurd r
+damage_is w (Zwrite name top) i p q n e g r = absurd r
 
 ran_is : (w : World) (c : Command) (s : _) (i : ℕ) (p q : Place) → IsNamed c → place_of w (name_in c) ≡ Some i → slice_get w.places i ≡ Some p → RanHere c s p q → SectionRow w c s (with_place w i q)
 ran_is w (Create name regions) s i p q n e g r = absurd n
@@ -216,6 +223,7 @@ ran_is w (Stop name) s i p q n e g r = absurd r
 ran_is w (Fuse name calls) s i p q n e g r = absurd r
 ran_is w (Crash name pick) s i p q n e g r = absurd r
 ran_is w (Extract name from) s i p q n e g r = absurd r
+ran_is w (Zwrite name top) s i p q n e g r = absurd r
 
 refusal_so : (n : Name) (r : Refusal) (o : Option Cause) → o ≡ Some r.cause → r.site ≡ n → refused_with n o ≡ Some r
 refusal_so n r o e s = ap (refused_with n) e ∙ ap (λ (x : Name). Some (record { site = x; cause = r.cause })) (sym s)
@@ -251,6 +259,7 @@ done_is w (Stop name) i p q n e g r = ap (λ (o : Option Place). line name (code
 done_is w (Fuse name calls) i p q n e g r = refl
 done_is w (Crash name pick) i p q n e g r = refl
 done_is w (Extract name from) i p q n e g r = ap (extract_at name from) (ap (at_place w) e ∙ g)
+done_is w (Zwrite name top) i p q n e g r = ap (zwrite_at top) (ap (at_place w) e ∙ g)
 
 ran_text_is : (w : World) (c : Command) (s : _) (i : ℕ) (p q : Place) → IsNamed c → place_of w (name_in c) ≡ Some i → slice_get w.places i ≡ Some p → RanHere c s p q → ran_text w c s ≡ ran_here c s p
 ran_text_is w (Create name regions) s i p q n e g r = absurd n
@@ -260,6 +269,7 @@ ran_text_is w (Stop name) s i p q n e g r = absurd r
 ran_text_is w (Fuse name calls) s i p q n e g r = absurd r
 ran_text_is w (Crash name pick) s i p q n e g r = absurd r
 ran_text_is w (Extract name from) s i p q n e g r = absurd r
+ran_text_is w (Zwrite name top) s i p q n e g r = absurd r
 
 text_is : (w : World) (c : Command) (a : Answer) (i : ℕ) (p q : Place) → IsNamed c → place_of w (name_in c) ≡ Some i → slice_get w.places i ≡ Some p → Here c p a q → text_of w c a (with_place w i q) ≡ text_here c p a q
 text_is w c Done i p q n e g h = done_is w c i p q n e g h.1

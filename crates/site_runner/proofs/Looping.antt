@@ -9,6 +9,7 @@ use Rattle.command_defs.specs.Commands.{Command}
 use Rattle.command_defs.specs.Lines.{lines_of, ended}
 use Rattle.command_defs.specs.Sections.{Section}
 use Rattle.command_defs.specs.Script.{Position, Outside, Within, Ends, line_reading, IsScript, IsBadAt, behind_all}
+use Rattle.repl_script.specs.Feeds.{Progress}
 use Rattle.world_defs.specs.World.{World}
 use Rattle.world_defs.specs.Step.{CutOff}
 use Rattle.world_defs.specs.Runs.{commands}
@@ -41,9 +42,9 @@ abbrev pub Meaning : {D : Type 0} → (D → View) → List (Slot D) → List (S
 Meaning view first slots status o n old new = (w : World) → Tied view first w → IfSome o (λ input. (after : World) × Matched view slots after × RanTo status input n w after old new)
 
 -- one more line
-pub next_line : {D : Type 0} (view : D → View) (first slots next : List (Slot D)) (p q : Position) (lines : ℕ) (o m n old mid new : Option (List ℕ)) (line : List ℕ)
-    → InLoop view first slots p lines o m old mid → GoesOn view p q slots next line mid new → IsPiece line → length line ≤ 4096 → Consumes m n (line ++ 10 ∷ []) → InLoop view first next q (lines + 1) o n old new
-next_line view first slots next p q lines o m n old mid new line i g c l b =
+pub next_line : {D : Type 0} (view : D → View) (first slots next : List (Slot D)) (p q : Position) (lines more : ℕ) (o m n old mid new : Option (List ℕ)) (line : List ℕ)
+    → InLoop view first slots p lines o m old mid → GoesOn view p q slots next line mid new → more ≡ lines + 1 → IsPiece line → length line ≤ 4096 → Consumes m n (line ++ 10 ∷ []) → InLoop view first next q more o n old new
+next_line view first slots next p q lines more o m n old mid new line i g e c l b =
     let x = g.0 i.taken i.commands i.read in
     record {
       taken = i.taken ++ line ∷ [];
@@ -52,8 +53,8 @@ next_line view first slots next p q lines o m n old mid new line i g c l b =
       going = λ w t. g.1 w i.taken old (i.going w t);
       consumed = one_more_line o m n i.taken line i.consumed b;
       clean = more_clean i.taken line i.clean c;
-      count = one_longer i.taken line lines i.count;
-      short = omega (arith, i.short, l, longer_bytes i.taken line);
+      count = one_longer i.taken line lines i.count ∙ sym e;
+      short = omega (arith, i.short, l, e, longer_bytes i.taken line);
     }
 
 ran_to : (status : Status) (input : List ℕ) (n old new : Option (List ℕ)) (taken more : List (List ℕ)) (start mid after : World) → lines_of input ≡ taken ++ more → Reached status input n (length taken)
@@ -300,6 +301,9 @@ pub loop_started : {D : Type 0} (view : D → View) (slots : List (Slot D)) (p :
 loop_started view slots p o out e =
     record { taken = []; commands = []; read = subst (λ (x : Position). ComeTo [] [] x) (sym e) refl; going = λ w t. begins view w slots p out e t; consumed = consumes_nothing o; clean = refl; count = refl; short = omega arith }
 
+pub loop_started_at : {D : Type 0} (view : D → View) (slots : List (Slot D)) (r : Progress) (o out : Option (List ℕ)) → r ≡ record { position = Outside; lines = 0 } → InLoop view slots slots r.position r.lines o o out out
+loop_started_at view slots r o out e = subst (λ (n : ℕ). InLoop view slots slots r.position n o o out out) (sym (ap (λ (x : Progress). x.lines) e)) (loop_started view slots r.position o out (ap (λ (x : Progress). x.position) e))
+
 -- at the end, with nothing behind the last line feed
 pub ends_clean : {D : Type 0} (view : D → View) (first slots : List (Slot D)) (p : Position) (lines : ℕ) (o m n old new : Option (List ℕ))
     → InLoop view first slots p lines o m old new → Consumes m n [] → IsAtEnd n → lines ≤ 100000 → AtEnd view first slots p lines o n old new
@@ -307,9 +311,9 @@ ends_clean view first slots p lines o m n old new i c e few =
     record { taken = i.taken; commands = i.commands; read = i.read; going = i.going; lines_are = lines_at_end o n i.taken i.clean (then_nothing o m n (ended i.taken) i.consumed c) e; at_end = e; count = i.count; few = few }
 
 -- at the end, behind a last line without its line feed
-pub ends_within : {D : Type 0} (view : D → View) (first slots next : List (Slot D)) (p q : Position) (lines : ℕ) (o m n old mid new : Option (List ℕ)) (line : List ℕ)
-    → InLoop view first slots p lines o m old mid → GoesOn view p q slots next line mid new → IsPiece line → 0 < length line → Consumes m n line → IsAtEnd n → lines < 100000 → AtEnd view first next q (lines + 1) o n old new
-ends_within view first slots next p q lines o m n old mid new line i g c l b e few =
+pub ends_within : {D : Type 0} (view : D → View) (first slots next : List (Slot D)) (p q : Position) (lines more : ℕ) (o m n old mid new : Option (List ℕ)) (line : List ℕ)
+    → InLoop view first slots p lines o m old mid → GoesOn view p q slots next line mid new → more ≡ lines + 1 → IsPiece line → 0 < length line → Consumes m n line → IsAtEnd n → lines < 100000 → AtEnd view first next q more o n old new
+ends_within view first slots next p q lines more o m n old mid new line i g k c l b e few =
     let x = g.0 i.taken i.commands i.read in
     record {
       taken = i.taken ++ line ∷ [];
@@ -318,8 +322,8 @@ ends_within view first slots next p q lines o m n old mid new line i g c l b e f
       going = λ w t. g.1 w i.taken old (i.going w t);
       lines_are = lines_at_last o m n i.taken line i.clean c l i.consumed b e;
       at_end = e;
-      count = one_longer i.taken line lines i.count;
-      few = omega (arith, few);
+      count = one_longer i.taken line lines i.count ∙ sym k;
+      few = omega (arith, few, k);
     }
 
 -- the input has that line next

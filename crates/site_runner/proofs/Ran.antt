@@ -1,19 +1,22 @@
 -- RUN at a place.
-use Rattle.std.proofs.Common.{◌≡◌, ℕ, zero, suc, ◌+◌, ◌-◌, ◌≤◌, Bool, true, false, List, [], ◌∷◌, ◌++◌, length, take, map, None, Some, refl, sym, ◌∙◌, ap, subst, arith, inl, inr, append_assoc}
-use Rattle.std.specs.Prelude.{◌⊎◌, Option, codes, IfSome, IsSome, IsSomeAnd, IsTrue}
+use Rattle.std.proofs.Common.{◌≡◌, ℕ, zero, suc, ◌+◌, ◌-◌, ◌≤◌, Bool, true, false, List, [], ◌∷◌, ◌++◌, length, take, drop, map, get_or, set, fold, None, Some, refl, sym, ◌∙◌, ap, subst, arith, inl, inr, append_assoc}
+use Rattle.std.specs.Prelude.{◌⊎◌, Option, codes, IfSome, IsSome, IsSomeAnd, IsTrue, nat_lt, slice_get, if◌then◌else◌}
 use Rattle.std.specs.Fmt.{decimal}
 use Rattle.std.specs.List.{flat_map, enumerate_from, AllByRecursion}
 use Rattle.std.proofs.lemmas.Bool.{false≢true}
 use Rattle.std.proofs.lemmas.List.{length-map}
+use Rattle.std.proofs.Math.Seq.{take-length}
 use Rattle.disk_defs.specs.Disk.{Files, View, Image, IsLawful, Rose}
-use Rattle.global_defs.specs.Entry.{Update, Sequence, Entry}
-use Rattle.global_defs.specs.Jobs.{Job}
-use Rattle.global_defs.specs.Serial.{Turn, Replied}
+use Rattle.global_defs.specs.Entry.{Stamp, Sequence, state}
+use Rattle.global_defs.specs.Jobs.{Job, SeqLimit}
+use Rattle.global_defs.specs.Evaluation.{Evaluated, eval}
+use Rattle.global_defs.specs.Evaluation as evaluation
+use Rattle.global_defs.specs.Serial.{MOST_ENTRIES, Turn, Seq, RolledBack, first_of, next_job, without_next, serial_at, entry_of, replied, decided, picked, serial, begun}
 use Rattle.gvn_model.specs.declared.entry.Entry as code
 use Rattle.site_journal.specs.declared.reign.Reign.{Reign}
-use Rattle.site_journal.specs.Jobs.{job_value, updater_of}
+use Rattle.command_defs.specs.Sections.{UsesUp}
 use Rattle.site_journal.specs.Reigns.{Reigns, Remembers, tagged}
-use Rattle.site_journal.specs.Deciding.{HasDecided, MayHaveFront, MayLeave, FailsAt, turn_after, turn_with}
+use Rattle.site_journal.specs.Deciding.{HasDecided, MayHaveFront, MayLeave, FailsAt}
 use Rattle.world_defs.specs.Lists.{Among}
 use Rattle.world_defs.specs.World as world
 use Rattle.command_defs.specs.Commands.{Name, Run}
@@ -34,22 +37,55 @@ use Rattle.site_runner.proofs.Ats.{refuses, state_at, first_cause, second_cause,
 use Rattle.site_runner.proofs.Crashed.{only}
 use Rattle.site_runner.proofs.Started.{reads_settled, images_settled}
 
-abbrev pub jobs_of : List (List Update) → List (List Job)
-jobs_of jobs = map job_value jobs ∷ []
+-- What jobs are left doesn't depend on what they come to.
 
-pub run_failed_before : (v : View) (s : Site) (jobs : List (List Update)) (k : ℕ) (before now : List ℕ) → s.state ≡ Failed k → now ≡ before ++ line s.name (codes "STOPPED " ++ decimal k)
-    → ExecutesAt (Run s.name (jobs_of jobs) (map updater_of jobs)) v s v (record { name = s.name; state = Failed k }) before now
-run_failed_before v s jobs k before now e t =
-    subst (λ (x : State). ExecutesAt (Run s.name (jobs_of jobs) (map updater_of jobs)) v s v (record { name = s.name; state = x }) before now) e
-    (refuses (Run s.name (jobs_of jobs) (map updater_of jobs)) v s (Stopped k) before now refl (λ p h. first_cause _ _ (Stopped k) (state_at stopped v s p h ∙ ap (λ (x : State). stopped (state_value s.name x)) e)) t)
+stays : (left : List (List Job)) (i : ℕ) → first_of (slice_get left i) ≡ None → set left i (drop 1 (get_or left i [])) ≡ left
+stays [] zero h = refl
+stays [] (suc i) h = refl
+stays ([] ∷ left) zero h = refl
+stays ((j ∷ js) ∷ left) zero h = cc
+stays (l ∷ left) (suc i) h = ap (λ (x : List (List Job)). l ∷ x) (stays left i h)
 
-pub run_down : (v : View) (s : Site) (jobs : List (List Update)) (before now : List ℕ) → s.state ≡ Down → now ≡ before ++ line s.name (codes "NOTPRIMARY") → ExecutesAt (Run s.name (jobs_of jobs) (map updater_of jobs)) v s v s before now
-run_down v s jobs before now e t =
-    refuses (Run s.name (jobs_of jobs) (map updater_of jobs)) v s NotPrimary before now refl
+either : (b : Bool) (x y : Turn) (l : List (List Job)) → x.left ≡ l → y.left ≡ l → (if b then x else y).left ≡ l
+either true x y l e f = e
+either false x y l e f = f
+
+decided_left : (stamp : Stamp) (t : Turn) (u : ℕ) (e : Evaluated) → (decided stamp t u e).left ≡ without_next u t.left
+decided_left stamp t u (evaluation.RolledBack cause) = refl
+decided_left stamp t u (evaluation.Done [] answers) = refl
+decided_left stamp t u (evaluation.Done (x ∷ xs) answers) =
+    either (nat_lt (length t.sequence) MOST_ENTRIES)
+    (replied t u (Seq (length t.sequence + 1) answers) (t.sequence ++ entry_of stamp u (serial_at t.serials u) (x ∷ xs) ∷ []))
+    (replied t u (RolledBack SeqLimit) t.sequence)
+    (without_next u t.left) refl refl
+
+picked_left : (stamp : Stamp) (t : Turn) (u : ℕ) (o : Option Job) → next_job u t.left ≡ o → (picked stamp t u o).left ≡ without_next u t.left
+picked_left stamp t u None e = sym (stays t.left (u - 1) e)
+picked_left stamp t u (Some job) e = decided_left stamp t u (eval job (state t.sequence))
+
+left_used : (stamp : Stamp) (picks : List ℕ) (t : Turn) → (serial stamp picks t).left ≡ fold (λ (left : List (List Job)) (u : ℕ). without_next u left) t.left picks
+left_used stamp [] t = refl
+left_used stamp (u ∷ us) t =
+    left_used stamp us (picked stamp t u (next_job u t.left))
+    ∙ ap (λ (l : List (List Job)). fold (λ (left : List (List Job)) (v : ℕ). without_next v left) l us) (picked_left stamp t u (next_job u t.left) refl)
+
+used_up : (stamp : Stamp) (serials : List ℕ) (jobs : List (List Job)) (order : List ℕ) (seq : Sequence) → UsesUp jobs order → AllByRecursion (λ (own : List Job). own ≡ []) (turn_of stamp serials jobs order seq).left
+used_up stamp serials jobs order seq h =
+    subst (λ (x : List (List Job)). AllByRecursion (λ (own : List Job). own ≡ []) x) (sym (left_used stamp order (begun serials jobs seq))) h
+
+pub run_failed_before : (v : View) (s : Site) (jobs : List (List Job)) (order : List ℕ) (k : ℕ) (before now : List ℕ) → s.state ≡ Failed k → now ≡ before ++ line s.name (codes "STOPPED " ++ decimal k)
+    → ExecutesAt (Run s.name jobs order) v s v (record { name = s.name; state = Failed k }) before now
+run_failed_before v s jobs order k before now e t =
+    subst (λ (x : State). ExecutesAt (Run s.name jobs order) v s v (record { name = s.name; state = x }) before now) e
+    (refuses (Run s.name jobs order) v s (Stopped k) before now refl (λ p h. first_cause _ _ (Stopped k) (state_at stopped v s p h ∙ ap (λ (x : State). stopped (state_value s.name x)) e)) t)
+
+pub run_down : (v : View) (s : Site) (jobs : List (List Job)) (order : List ℕ) (before now : List ℕ) → s.state ≡ Down → now ≡ before ++ line s.name (codes "NOTPRIMARY") → ExecutesAt (Run s.name jobs order) v s v s before now
+run_down v s jobs order before now e t =
+    refuses (Run s.name jobs order) v s NotPrimary before now refl
     (λ p h. second_cause _ _ NotPrimary (state_at stopped v s p h ∙ ap (λ (x : State). stopped (state_value s.name x)) e) (state_at not_primary v s p h ∙ ap (λ (x : State). not_primary (state_value s.name x)) e)) t
 
-none_primary : (v : View) (s : Site) (r : Reign) (jobs : List (List Update)) (p : Place) → s.state ≡ Primary r → IsAt v s p → first (tests (Run s.name (jobs_of jobs) (map updater_of jobs)) p) ≡ None
-none_primary v s r jobs p e h = no_cause _ _ (state_at stopped v s p h ∙ ap (λ (x : State). stopped (state_value s.name x)) e) (state_at not_primary v s p h ∙ ap (λ (x : State). not_primary (state_value s.name x)) e)
+none_primary : (v : View) (s : Site) (r : Reign) (jobs : List (List Job)) (order : List ℕ) (p : Place) → s.state ≡ Primary r → IsAt v s p → first (tests (Run s.name jobs order) p) ≡ None
+none_primary v s r jobs order p e h = no_cause _ _ (state_at stopped v s p h ∙ ap (λ (x : State). stopped (state_value s.name x)) e) (state_at not_primary v s p h ∙ ap (λ (x : State). not_primary (state_value s.name x)) e)
 
 site_is : (v : View) (s : Site) (r : Reign) (p : Place) → s.state ≡ Primary r → IsAt v s p → p.site ≡ Some (record { name = s.name; state = world.Primary (reign_of s.name) r.serials })
 site_is v s r p e h = h.site ∙ ap (λ (x : State). Some (site_value (record { name = s.name; state = x }))) e
@@ -117,11 +153,6 @@ front_place w p name state all low law same e may =
       matches = record { told = λ yes. (m.2 yes).1; images = images; faults = refl; simulated = same };
     }
 
-map_take : (n : ℕ) (jobs : List (List Update)) → map updater_of (take n jobs) ≡ take n (map updater_of jobs)
-map_take zero jobs = refl
-map_take (suc n) [] = refl
-map_take (suc n) (j ∷ jobs) = ap (λ (r : List ℕ). 1 ∷ r) (map_take n jobs)
-
 pub length_tagged : (xs : List code.Entry) (seq : Sequence) (n : ℕ) → map tagged xs ≡ enumerate_from n seq → length xs ≡ length seq
 length_tagged xs seq n e = sym (length-map xs tagged) ∙ ap length e ∙ long n seq
   where
@@ -130,35 +161,33 @@ length_tagged xs seq n e = sym (length-map xs tagged) ∙ ap length e ∙ long n
     long n (y ∷ ys) = ap suc (long (n + 1) ys)
 
 -- all jobs are decided
-pub ran : (v w : View) (s : Site) (r new : Reign) (n : Name) (jobs : List (List Update)) (before middle now : List ℕ) → n ≡ s.name → s.state ≡ Primary r → w.simulated ≡ v.simulated → v.faults ≤ w.faults
-    → ((told : Bool) (c : Contents) → Reigns v n told c r → HasDecided w n told c jobs jobs [] r new before middle)
-    → now ≡ middle ++ line s.name (codes "AT " ++ decimal (length new.entries.items)) → ExecutesAt (Run s.name (jobs_of jobs) (map updater_of jobs)) v s w (record { name = s.name; state = Primary new }) before now
-ran v w s r new n jobs before middle now e st same later f t p h =
-    let d : HasDecided w s.name p.told p.now jobs jobs [] r new before middle = subst (λ (x : Name). HasDecided w x p.told p.now jobs jobs [] r new before middle) e (f p.told p.now (subst (λ (x : Name). Reigns v x p.told p.now r) (sym e) (reigns_at v s r p st h))) in
+pub ran : (v w : View) (s : Site) (r new : Reign) (n : Name) (jobs : List (List Job)) (order : List ℕ) (before middle now : List ℕ) → UsesUp jobs order → n ≡ s.name → s.state ≡ Primary r → w.simulated ≡ v.simulated → v.faults ≤ w.faults
+    → ((told : Bool) (c : Contents) → Reigns v n told c r → HasDecided w n told c jobs order r new before middle)
+    → now ≡ middle ++ line s.name (codes "AT " ++ decimal (length new.entries.items)) → ExecutesAt (Run s.name jobs order) v s w (record { name = s.name; state = Primary new }) before now
+ran v w s r new n jobs order before middle now whole e st same later f t p h =
+    let d : HasDecided w s.name p.told p.now jobs order r new before middle = subst (λ (x : Name). HasDecided w x p.told p.now jobs order r new before middle) e (f p.told p.now (subst (λ (x : Name). Reigns v x p.told p.now r) (sym e) (reigns_at v s r p st h))) in
     let stamp = reign_of s.name in
-    let state : world.State = world.Primary stamp new.serials in
-    let o : Contents = with_sequence p.now d.sequence in
+    let turn : Turn = turn_of stamp r.serials jobs order p.now.sequence in
+    let state : world.State = world.Primary stamp turn.serials in
+    let o : Contents = with_sequence p.now turn.sequence in
     let q : Place = record { site = in_new_state state p.site; told = p.told; now = o; outcomes = o ∷ []; faults = w.faults; simulated = p.simulated } in
-    let ends : Section = record { picks = map updater_of jobs; hardened = length d.sequence; fault = None } in
-    let end : Turn = turn_with [] new.serials d.sequence d.replies in
-    let turn : turn_of stamp r.serials (jobs_of jobs) (map updater_of jobs) p.now.sequence ≡ end = d.turn in
+    let ends : Section = record { picks = order; hardened = length turn.sequence; fault = None } in
     let name_q : s.name ≡ name_on q.site = sym (same_name_on state p.site ∙ ap name_on h.site) in
-    let count : length new.entries.items ≡ length d.sequence = length_tagged new.entries.items d.sequence 1 d.reigns.remembered.entries in
-    let whole : RunsTo stamp end (length d.sequence) None p q = record {
-      all_decided = (refl, tt);
-      becomes = record { site = refl; now = refl; outcomes = refl; faults = omega (arith, later, h.disk.faults); same = record { told = refl; simulated = refl } };
-    } in
-    let text : turn_on p.site (jobs_of jobs) ends p ≡ end = ap (λ (x : Option world.Site). turn_on x (jobs_of jobs) ends p) (site_is v s r p st h) ∙ turn in (
+    let count : length new.entries.items ≡ length turn.sequence = length_tagged new.entries.items turn.sequence 1 d.reigns.remembered.entries in
+    let text : turn_on p.site jobs ends p ≡ turn = ap (λ (x : Option world.Site). turn_on x jobs ends p) (site_is v s r p st h) in (
       Ran ends,
       q,
       (
-        none_primary v s r jobs p st h,
+        none_primary v s r jobs order p st h,
         record {
           stamp = stamp;
           serials = r.serials;
           state = site_is v s r p st h;
           picks = refl;
-          ran = subst (λ (x : Turn). RunsTo stamp x (length d.sequence) None p q) (sym turn) whole;
+          ran = record {
+            all_decided = used_up stamp r.serials jobs order p.now.sequence whole;
+            becomes = record { site = refl; now = refl; outcomes = refl; faults = omega (arith, later, h.disk.faults); same = record { told = refl; simulated = refl } };
+          };
         },
       ),
       record {
@@ -168,43 +197,43 @@ ran v w s r new n jobs before middle now e st same later f t p h =
           faults = refl;
           simulated = same ∙ h.disk.simulated;
         };
-        site = ap (in_new_state state) h.site;
+        site = ap (in_new_state state) h.site ∙ ap (λ (x : List ℕ). Some (record { name = s.name; state = world.Primary stamp x })) (sym d.serials);
         held = record {
           made = λ yes. let k = d.reigns.kept yes in record { now = k.begun; outcomes = λ x j. subst (λ (y : Contents). y.begun ≡ true) (sym (only x o j)) k.begun };
           state = record { reigns = d.reigns; settled = λ yes x j. only x o j };
         };
       },
       t ∙ ap (λ (x : List ℕ). x ++ line s.name (codes "AT " ++ decimal (length new.entries.items))) d.text
-          ∙ append_assoc before (flat_map reply_line d.replies) _
-          ∙ ap (λ (k : ℕ). before ++ (flat_map reply_line d.replies ++ line s.name (codes "AT " ++ decimal k))) count
-          ∙ ap (λ (x : Turn). before ++ section_text s.name (length (map updater_of jobs)) x (length d.sequence) None) (sym text),
+          ∙ append_assoc before (flat_map reply_line turn.replies) _
+          ∙ ap (λ (k : ℕ). before ++ (flat_map reply_line turn.replies ++ line s.name (codes "AT " ++ decimal k))) count
+          ∙ ap (λ (x : Turn). before ++ section_text s.name (length order) x (length turn.sequence) None) (sym text),
     )
 
 -- a fault ended it
-pub ran_to_fault : (v w : View) (s : Site) (r : Reign) (n : Name) (jobs : List (List Update)) (k undecided : ℕ) (before middle now : List ℕ) → IsLawful w → n ≡ s.name → s.state ≡ Primary r → w.simulated ≡ v.simulated → k ≡ w.faults → Rose v.faults w.faults
-    → ((told : Bool) (c : Contents) → Reigns v n told c r → (m : ℕ) × FailsAt w n told c jobs r.serials undecided before middle m)
-    → now ≡ middle ++ fault_line s.name k undecided → ExecutesAt (Run s.name (jobs_of jobs) (map updater_of jobs)) v s w (record { name = s.name; state = Failed k }) before now
-ran_to_fault v w s r n jobs k undecided before middle now law e st same count rose f t p h =
-    let d : (m : ℕ) × FailsAt w s.name p.told p.now jobs r.serials undecided before middle m =
-    subst (λ (x : Name). (m : ℕ) × FailsAt w x p.told p.now jobs r.serials undecided before middle m) e (f p.told p.now (subst (λ (x : Name). Reigns v x p.told p.now r) (sym e) (reigns_at v s r p st h))) in
+pub ran_to_fault : (v w : View) (s : Site) (r : Reign) (n : Name) (jobs : List (List Job)) (order : List ℕ) (k undecided : ℕ) (before middle now : List ℕ) → IsLawful w → n ≡ s.name → s.state ≡ Primary r → w.simulated ≡ v.simulated → k ≡ w.faults → Rose v.faults w.faults
+    → ((told : Bool) (c : Contents) → Reigns v n told c r → (m : ℕ) × FailsAt w n told c jobs order r.serials undecided before middle m)
+    → now ≡ middle ++ fault_line s.name k undecided → ExecutesAt (Run s.name jobs order) v s w (record { name = s.name; state = Failed k }) before now
+ran_to_fault v w s r n jobs order k undecided before middle now law e st same count rose f t p h =
+    let d : (m : ℕ) × FailsAt w s.name p.told p.now jobs order r.serials undecided before middle m =
+    subst (λ (x : Name). (m : ℕ) × FailsAt w x p.told p.now jobs order r.serials undecided before middle m) e (f p.told p.now (subst (λ (x : Name). Reigns v x p.told p.now r) (sym e) (reigns_at v s r p st h))) in
     let m : ℕ = d.0 in
     let a = d.1 in
     let stamp = reign_of s.name in
-    let turn : Turn = turn_after s.name r.serials jobs (take m jobs) p.now.sequence in
-    let ends : Section = record { picks = map updater_of (take m jobs); hardened = a.hardened; fault = Some k } in
+    let turn : Turn = turn_of stamp r.serials jobs (take m order) p.now.sequence in
+    let ends : Section = record { picks = take m order; hardened = a.hardened; fault = Some k } in
     let state = in_new_state (world.Failed k) p.site in
     let front = front_place w p s.name state turn.sequence a.hardened law (same ∙ h.disk.simulated) (sym (same_name_on (world.Failed k) p.site ∙ ap name_on h.site)) a.front in
-    let text : turn_on p.site (jobs_of jobs) ends p ≡ turn = ap (λ (x : Option world.Site). turn_on x (jobs_of jobs) ends p) (site_is v s r p st h) in
-    let rest : undecided ≡ length (map updater_of jobs) - length (printed a.hardened turn.replies) = omega (arith, a.count, length-map jobs updater_of) in (
+    let text : turn_on p.site jobs ends p ≡ turn = ap (λ (x : Option world.Site). turn_on x jobs ends p) (site_is v s r p st h) in
+    let rest : undecided ≡ length order - length (printed a.hardened turn.replies) = omega (arith, a.count) in (
       Ran ends,
       record { site = state; told = p.told; now = front.now; outcomes = fronts p.now turn.sequence a.hardened (length turn.sequence - a.hardened); faults = w.faults; simulated = p.simulated },
       (
-        none_primary v s r jobs p st h,
+        none_primary v s r jobs order p st h,
         record {
           stamp = stamp;
           serials = r.serials;
           state = site_is v s r p st h;
-          picks = (m, map_take m jobs);
+          picks = (m, refl);
           ran = record {
             begun = a.begun;
             at_once = a.at_once;
@@ -230,56 +259,47 @@ ran_to_fault v w s r n jobs k undecided before middle now law e st same count ro
       t ∙ ap (λ (x : List ℕ). x ++ fault_line s.name k undecided) a.text
           ∙ append_assoc before (flat_map reply_line (printed a.hardened turn.replies)) _
           ∙ ap (λ (u : ℕ). before ++ (flat_map reply_line (printed a.hardened turn.replies) ++ fault_line s.name k u)) rest
-          ∙ ap (λ (x : Turn). before ++ section_text s.name (length (map updater_of jobs)) x a.hardened (Some k)) (sym text),
+          ∙ ap (λ (x : Turn). before ++ section_text s.name (length order) x a.hardened (Some k)) (sym text),
     )
 
 -- it was cut off once some jobs were decided, of which at least these are hardened
-pub run_cut : (v w : View) (s : Site) (r : Reign) (n : Name) (jobs : List (List Update)) → IsLawful w → n ≡ s.name → s.state ≡ Primary r → w.simulated ≡ v.simulated
-    → ((told : Bool) (c : Contents) → Reigns v n told c r → (m low : ℕ) × (length c.sequence ≤ low) × MayHaveFront w n told c (turn_after n r.serials jobs (take m jobs) c.sequence).sequence low)
-    → IsCutAt (Run s.name (jobs_of jobs) (map updater_of jobs)) v s w
-run_cut v w s r n jobs law e st same f p h =
-    let d : (m low : ℕ) × (length p.now.sequence ≤ low) × MayHaveFront w s.name p.told p.now (turn_after s.name r.serials jobs (take m jobs) p.now.sequence).sequence low =
-    subst (λ (x : Name). (m low : ℕ) × (length p.now.sequence ≤ low) × MayHaveFront w x p.told p.now (turn_after x r.serials jobs (take m jobs) p.now.sequence).sequence low) e
+pub run_cut : (v w : View) (s : Site) (r : Reign) (n : Name) (jobs : List (List Job)) (order : List ℕ) → IsLawful w → n ≡ s.name → s.state ≡ Primary r → w.simulated ≡ v.simulated
+    → ((told : Bool) (c : Contents) → Reigns v n told c r → (m low : ℕ) × (length c.sequence ≤ low) × MayHaveFront w n told c (turn_of (reign_of n) r.serials jobs (take m order) c.sequence).sequence low)
+    → IsCutAt (Run s.name jobs order) v s w
+run_cut v w s r n jobs order law e st same f p h =
+    let d : (m low : ℕ) × (length p.now.sequence ≤ low) × MayHaveFront w s.name p.told p.now (turn_of (reign_of s.name) r.serials jobs (take m order) p.now.sequence).sequence low =
+    subst (λ (x : Name). (m low : ℕ) × (length p.now.sequence ≤ low) × MayHaveFront w x p.told p.now (turn_of (reign_of x) r.serials jobs (take m order) p.now.sequence).sequence low) e
     (f p.told p.now (subst (λ (x : Name). Reigns v x p.told p.now r) (sym e) (reigns_at v s r p st h))) in
     let m : ℕ = d.0 in
     let low : ℕ = d.1 in
-    let all = (turn_after s.name r.serials jobs (take m jobs) p.now.sequence).sequence in
+    let all = (turn_of (reign_of s.name) r.serials jobs (take m order) p.now.sequence).sequence in
     let front = front_place w p s.name p.site all low law (same ∙ h.disk.simulated) (sym (ap name_on h.site)) d.3 in
-    let lower : (o : Contents) → IsFrontOf all low p.now o → IsFrontOf all (length p.now.sequence) p.now o = λ o g. record { count = g.count; least = omega (arith, d.2, g.least); most = g.most; is = g.is } in
-    let picks : all ≡ (turn_of (reign_of s.name) r.serials (jobs_of jobs) (take m (map updater_of jobs)) p.now.sequence).sequence =
-    ap (λ (x : List ℕ). (turn_of (reign_of s.name) r.serials (jobs_of jobs) x p.now.sequence).sequence) (map_take m jobs) in (
+    let lower : (o : Contents) → IsFrontOf all low p.now o → IsFrontOf all (length p.now.sequence) p.now o = λ o g. record { count = g.count; least = omega (arith, d.2, g.least); most = g.most; is = g.is } in (
       record { site = p.site; told = p.told; now = front.now; outcomes = fronts p.now all low (length all - low); faults = w.faults; simulated = p.simulated },
       record {
         told = refl;
-        outcomes = λ yes o a. inr (subst (λ (x : Option world.Site). RunMayLeaveOn x (jobs_of jobs) (map updater_of jobs) p o) (sym (site_is v s r p st h))
-            (m, subst (λ (x : Sequence). IsFrontOf x (length p.now.sequence) p.now o) picks (lower o (front.fronts_all yes o a))));
+        outcomes = λ yes o a. inr (subst (λ (x : Option world.Site). RunMayLeaveOn x jobs order p o) (sym (site_is v s r p st h)) (m, lower o (front.fronts_all yes o a)));
       },
       front.matches,
     )
 
 -- what is hardened is a front that has all
-pub decided_front : (w : View) (n : Name) (told : Bool) (c : Contents) (jobs : List (List Update)) (r new : Reign) (before now : List ℕ) → IsLawful w → HasDecided w n told c jobs jobs [] r new before now
-    → (m low : ℕ) × (length c.sequence ≤ low) × MayHaveFront w n told c (turn_after n r.serials jobs (take m jobs) c.sequence).sequence low
-decided_front w n told c jobs r new before now law d = (
-  length jobs,
-  length c.sequence,
-  omega arith,
-  subst (λ (x : Sequence). MayHaveFront w n told c x (length c.sequence)) (sym same) (record {
-    told = λ yes. told_is w.content _ (d.reigns.kept yes).records;
-    images = λ yes files i. let k = d.reigns.kept yes in (
-      with_sequence c d.sequence,
-      record { count = length d.sequence; least = omega (arith, d.grown); most = omega arith; is = ap (with_sequence c) (sym (take_all d.sequence)) },
-      images_settled w n new (with_sequence c d.sequence) d.reigns.file k.stamps k.begun k.records files i,
-    );
-  }),
-)
-  where
-    take_all : {X : Type 0} (xs : List X) → take (length xs) xs ≡ xs
-    take_all [] = refl
-    take_all (x ∷ xs) = ap (λ (r : List _). x ∷ r) (take_all xs)
-
-    same : (turn_after n r.serials jobs (take (length jobs) jobs) c.sequence).sequence ≡ d.sequence
-    same = ap (λ (x : List (List Update)). (turn_after n r.serials jobs x c.sequence).sequence) (take_all jobs) ∙ ap (λ (x : Turn). x.sequence) d.turn
+pub decided_front : (w : View) (n : Name) (told : Bool) (c : Contents) (jobs : List (List Job)) (order : List ℕ) (r new : Reign) (before now : List ℕ) → IsLawful w → HasDecided w n told c jobs order r new before now
+    → (m low : ℕ) × (length c.sequence ≤ low) × MayHaveFront w n told c (turn_of (reign_of n) r.serials jobs (take m order) c.sequence).sequence low
+decided_front w n told c jobs order r new before now law d =
+    let all = (turn_of (reign_of n) r.serials jobs order c.sequence).sequence in (
+      length order,
+      length c.sequence,
+      omega arith,
+      subst (λ (x : List ℕ). MayHaveFront w n told c (turn_of (reign_of n) r.serials jobs x c.sequence).sequence (length c.sequence)) (sym (take-length order)) (record {
+        told = λ yes. told_is w.content _ (d.reigns.kept yes).records;
+        images = λ yes files i. let k = d.reigns.kept yes in (
+          with_sequence c all,
+          record { count = length all; least = omega (arith, d.grown); most = omega arith; is = ap (with_sequence c) (sym (take-length all)) },
+          images_settled w n new (with_sequence c all) d.reigns.file k.stamps k.begun k.records files i,
+        );
+      }),
+    )
 
 -- the fronts of one sequence, if it has any
 abbrev pub fronts_if : ℕ → Contents → Sequence → ℕ → List Contents
@@ -327,47 +347,50 @@ front_among_all f (suc k) n c low o le h = elim (nat_cases n k le) [
   | inr less ↦ in_second _ _ o (front_among_all f k n c low o less h)
 ]
 
-take_past : (n : ℕ) (jobs : List (List Update)) → length jobs ≤ n → take n jobs ≡ take (length jobs) jobs
+take_past : (n : ℕ) (order : List ℕ) → length order ≤ n → take n order ≡ take (length order) order
 take_past zero [] le = refl
 take_past (suc n) [] le = refl
-take_past zero (j ∷ jobs) le = absurd (omega (arith, le))
-take_past (suc n) (j ∷ jobs) le = ap (λ (r : List (List Update)). j ∷ r) (take_past n jobs (omega (arith, le)))
+take_past zero (j ∷ order) le = absurd (omega (arith, le))
+take_past (suc n) (j ∷ order) le = ap (λ (r : List ℕ). j ∷ r) (take_past n order (omega (arith, le)))
 
 few_or_all : (n k : ℕ) → (n ≤ k) ⊎ (k ≤ n)
 few_or_all zero k = inl (omega arith)
 few_or_all (suc n) zero = inr (omega arith)
 few_or_all (suc n) (suc k) = elim (few_or_all n k) [ inl a ↦ inl (omega (arith, a)) | inr b ↦ inr (omega (arith, b)) ]
 
-among_runs : (name : Name) (serials : List ℕ) (jobs : List (List Update)) (c o : Contents) (n : ℕ) → IsFrontOf (turn_after name serials jobs (take n jobs) c.sequence).sequence (length c.sequence) c o
-    → Among (all_fronts (λ m. (turn_after name serials jobs (take m jobs) c.sequence).sequence) (length jobs) c (length c.sequence)) o
-among_runs name serials jobs c o n g =
-    let runs : ℕ → Sequence = λ m. (turn_after name serials jobs (take m jobs) c.sequence).sequence in
-    elim (few_or_all n (length jobs)) [
-      | inl few ↦ front_among_all runs (length jobs) n c (length c.sequence) o few g
-      | inr all ↦ front_among_all runs (length jobs) (length jobs) c (length c.sequence) o (omega arith) (subst (λ (x : List (List Update)). IsFrontOf (turn_after name serials jobs x c.sequence).sequence (length c.sequence) c o) (take_past n jobs all) g)
+-- what the first picks come to
+abbrev pub runs_of : Name → List ℕ → List (List Job) → List ℕ → Sequence → ℕ → Sequence
+runs_of name serials jobs order seq m = (turn_of (reign_of name) serials jobs (take m order) seq).sequence
+
+among_runs : (name : Name) (serials : List ℕ) (jobs : List (List Job)) (order : List ℕ) (c o : Contents) (n : ℕ) → IsFrontOf (runs_of name serials jobs order c.sequence n) (length c.sequence) c o
+    → Among (all_fronts (runs_of name serials jobs order c.sequence) (length order) c (length c.sequence)) o
+among_runs name serials jobs order c o n g =
+    let runs : ℕ → Sequence = runs_of name serials jobs order c.sequence in
+    elim (few_or_all n (length order)) [
+      | inl few ↦ front_among_all runs (length order) n c (length c.sequence) o few g
+      | inr all ↦ front_among_all runs (length order) (length order) c (length c.sequence) o (omega arith) (subst (λ (x : List ℕ). IsFrontOf (turn_of (reign_of name) serials jobs x c.sequence).sequence (length c.sequence) c o) (take_past n order all) g)
     ]
 
 -- it was cut off once some jobs were decided, and each image may have its own number of them
-pub run_cut_any : (v w : View) (s : Site) (r : Reign) (n : Name) (jobs : List (List Update)) → IsLawful w → n ≡ s.name → s.state ≡ Primary r → w.simulated ≡ v.simulated
-    → ((told : Bool) (c : Contents) → Reigns v n told c r → MayLeave w n told c jobs r.serials) → IsCutAt (Run s.name (jobs_of jobs) (map updater_of jobs)) v s w
-run_cut_any v w s r n jobs law e st same f p h =
-    let d : MayLeave w s.name p.told p.now jobs r.serials =
-    subst (λ (x : Name). MayLeave w x p.told p.now jobs r.serials) e (f p.told p.now (subst (λ (x : Name). Reigns v x p.told p.now r) (sym e) (reigns_at v s r p st h))) in
+pub run_cut_any : (v w : View) (s : Site) (r : Reign) (n : Name) (jobs : List (List Job)) (order : List ℕ) → IsLawful w → n ≡ s.name → s.state ≡ Primary r → w.simulated ≡ v.simulated
+    → ((told : Bool) (c : Contents) → Reigns v n told c r → MayLeave w n told c jobs order r.serials) → IsCutAt (Run s.name jobs order) v s w
+run_cut_any v w s r n jobs order law e st same f p h =
+    let d : MayLeave w s.name p.told p.now jobs order r.serials =
+    subst (λ (x : Name). MayLeave w x p.told p.now jobs order r.serials) e (f p.told p.now (subst (λ (x : Name). Reigns v x p.told p.now r) (sym e) (reigns_at v s r p st h))) in
     let low : ℕ = length p.now.sequence in
-    let runs : ℕ → Sequence = λ m. (turn_after s.name r.serials jobs (take m jobs) p.now.sequence).sequence in
-    let list = all_fronts runs (length jobs) p.now low in
+    let runs : ℕ → Sequence = runs_of s.name r.serials jobs order p.now.sequence in
+    let list = all_fronts runs (length order) p.now low in
     let named : s.name ≡ name_on p.site = sym (ap name_on h.site) in
     let images : p.told ≡ true → (c : Files) → Image w c → (o : Contents) × Among list o × Stands (name_on p.site) c o = λ is c i.
     let o = d.images is c i in
-    (o.0, among_runs s.name r.serials jobs p.now o.0 o.1.0 o.1.1, subst (λ (x : Name). Stands x c o.0) named o.2) in
+    (o.0, among_runs s.name r.serials jobs order p.now o.0 o.1.0 o.1.1, subst (λ (x : Name). Stands x c o.0) named o.2) in
     let q : Place = record { site = p.site; told = p.told; now = p.now; outcomes = list; faults = w.faults; simulated = p.simulated } in
     let m = pick_one p.told p.now (λ o. Unit {0}) (λ o. IsSomeAnd w.content (λ files. Stands (name_on p.site) files o)) tt (λ is. let k = read_kept w q law (d.told is) (images is) in (k.0, tt, k.2)) in (
       record { site = p.site; told = p.told; now = m.0; outcomes = list; faults = w.faults; simulated = p.simulated },
       record {
         told = refl;
-        outcomes = λ is o a. let k = are_all_fronts runs (length jobs) p.now low o a in
-            inr (subst (λ (x : Option world.Site). RunMayLeaveOn x (jobs_of jobs) (map updater_of jobs) p o) (sym (site_is v s r p st h))
-            (k.0, subst (λ (x : List ℕ). IsFrontOf (turn_of (reign_of s.name) r.serials (jobs_of jobs) x p.now.sequence).sequence low p.now o) (map_take k.0 jobs) k.1));
+        outcomes = λ is o a. let k = are_all_fronts runs (length order) p.now low o a in
+            inr (subst (λ (x : Option world.Site). RunMayLeaveOn x jobs order p o) (sym (site_is v s r p st h)) (k.0, k.1));
       },
       record { told = m.2; images = images; faults = refl; simulated = same ∙ h.disk.simulated },
     )

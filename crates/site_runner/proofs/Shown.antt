@@ -1,9 +1,12 @@
 -- The text of a site's entries from a number on.
 use Rattle.std.proofs.Common.{◌≡◌, ℕ, zero, suc, ◌+◌, ◌-◌, ◌<◌, List, [], ◌∷◌, ◌++◌, map, drop, refl, ap, sym, ◌∙◌, arith, append_assoc}
+use Rattle.std.specs.Prelude.{Option, Some, None, IfSome}
+use Rattle.std.specs.Option.{unwrap_or}
 use Rattle.std.specs.List.{enumerate_from, flat_map}
 use Rattle.global_defs.specs.Entry.{Entry, Sequence}
 use Rattle.global_defs.specs.Extract.{entry_text, entries_text, header, extract}
 use Rattle.gvn_model.specs.declared.entry.Entry as code
+use Rattle.world_defs.specs.Output.{extract_from}
 use Rattle.site_journal.specs.Reigns.{tagged}
 
 enumerate_rest : (n k : ℕ) (xs : Sequence) → drop k (enumerate_from n xs) ≡ enumerate_from (n + k) (drop k xs)
@@ -33,3 +36,12 @@ extracts name shown_name from entries shown seq text mid new h numbers n e m w =
     ∙ ap (λ (x : List ℕ). text ++ (header x from ++ flat_map f (map tagged shown))) n
     ∙ ap (λ (x : List code.Entry). text ++ (header name from ++ flat_map f (map tagged x))) e
     ∙ ap (λ (x : List ℕ). text ++ (header name from ++ x)) (rest_text from entries seq h numbers)
+
+-- a number that isn't there is 1
+pub from_one : (name : List ℕ) (number : Option ℕ) (from : ℕ) (seq : Sequence) → from ≡ unwrap_or number 1 → extract name seq from ≡ extract_from name number seq
+from_one name None from seq e = ap (extract name seq) e
+from_one name (Some n) from seq e = ap (extract name seq) e
+
+pub from_least : (number : Option ℕ) (from : ℕ) → from ≡ unwrap_or number 1 → IfSome number (λ n. 0 < n) → 0 < from
+from_least None from e h = omega (arith, e)
+from_least (Some n) from e h = omega (arith, e, h)

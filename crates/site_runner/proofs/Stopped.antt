@@ -1,18 +1,20 @@
--- Commands on a site, as commands on its slot; STOP and EXTRACT at a place.
+-- Commands on a site, as commands on its slot; STOP, EXTRACT and ZWRITE at a place.
 use Rattle.std.proofs.Common.{◌≡◌, ℕ, Bool, true, false, List, [], ◌∷◌, ◌++◌, length, map, None, Some, refl, sym, ◌∙◌, ap, subst, arith, inl, inr, nat_eq}
 use Rattle.std.specs.Prelude.{Option, codes, IsSomeAnd, option_map}
 use Rattle.std.specs.Fmt.{decimal}
 use Rattle.std.specs.Cmp.Lexicographic.{pointwise}
 use Rattle.std.proofs.lemmas.Bool.{eqb-true}
 use Rattle.disk_defs.specs.Disk.{Files, View, Image}
+use Rattle.global_defs.specs.Key.{Key}
+use Rattle.global_defs.specs.Entry.{Globals}
 use Rattle.world_defs.specs.Lists.{Among}
 use Rattle.world_defs.specs.World as world
-use Rattle.command_defs.specs.Commands.{Name, Command, Stop, Extract}
+use Rattle.command_defs.specs.Commands.{Name, Command, Stop, Extract, Zwrite}
 use Rattle.world_defs.specs.World.{Contents, Place, same_name}
 use Rattle.world_defs.specs.Answers.{Cause, Stopped, NotRunning, Done}
 use Rattle.world_defs.specs.Refusals.{first, stopped, not_running}
 use Rattle.world_defs.specs.Rows.{in_new_state}
-use Rattle.world_defs.specs.Output.{line}
+use Rattle.world_defs.specs.Output.{line, zwrite}
 use Rattle.world_defs.specs.Ties.{Stands, name_on}
 use Rattle.site_journal.specs.declared.reign.Reign.{Reign}
 use Rattle.site_runner.specs.declared.slot.State.{State}
@@ -21,7 +23,7 @@ use Rattle.site_runner.specs.declared.slot.Site.{Site}
 use Rattle.site_runner.specs.declared.slot.Slot.{Slot}
 use Rattle.site_runner.specs.Sites.{site_value, state_value, is_slot_named, IsOpen, HoldsState, HoldsSite}
 use Rattle.site_runner.specs.Here.{tests, ExecutesHere, IsCutHere}
-use Rattle.site_runner.specs.Steps.{Says, Stops, StopsFrom, Extracts, ExtractsFrom, IsAt, ExecutesAt, IsCutAt}
+use Rattle.site_runner.specs.Steps.{Says, Stops, StopsFrom, Extracts, ExtractsFrom, Shows, ShowsFrom, IsAt, ExecutesAt, IsCutAt}
 use Rattle.site_runner.proofs.Cuts.{split_and}
 use Rattle.site_runner.proofs.Ats.{refuses, state_at, first_cause, second_cause, no_cause, same_name_on, kept_same}
 use Rattle.site_runner.proofs.Crashed.{only}
@@ -92,10 +94,19 @@ stops_from v old new before now (Primary r) e h =
 pub stops : (v : View) (old new : Site) (before now : List ℕ) → Stops old new before now → ExecutesAt (Stop old.name) v old v new before now
 stops v old new before now h = stops_from v old new before now old.state refl h
 
-extracts_from : (v : View) (s : Site) (from : ℕ) (before now : List ℕ) (state : State) → s.state ≡ state → ExtractsFrom state s from before now → ExecutesAt (Extract s.name from) v s v s before now
+extracts_from : (v : View) (s : Site) (from : Option ℕ) (before now : List ℕ) (state : State) → s.state ≡ state → ExtractsFrom state s from before now → ExecutesAt (Extract s.name from) v s v s before now
 extracts_from v s from before now Down e h = refuses (Extract s.name from) v s NotRunning before now refl (λ p at_p. not_running_there v s p e at_p) h.1
 extracts_from v s from before now (Failed k) e h = refuses (Extract s.name from) v s (Stopped k) before now refl (λ p at_p. stopped_there v s k p e at_p) h.1
 extracts_from v s from before now (Primary r) e h = λ p at_p. (Done, p, (running_there v s r p e at_p, kept_same p), at_p, h p.now.sequence (reigns_at v s r p e at_p).remembered.entries)
 
-pub extracts_at : (v : View) (s : Site) (from : ℕ) (before now : List ℕ) → Extracts s from before now → ExecutesAt (Extract s.name from) v s v s before now
+pub extracts_at : (v : View) (s : Site) (from : Option ℕ) (before now : List ℕ) → Extracts s from before now → ExecutesAt (Extract s.name from) v s v s before now
 extracts_at v s from before now h = extracts_from v s from before now s.state refl h
+
+shows_from : (v : View) (s : Site) (top : Option Key) (before now : List ℕ) (state : State) → s.state ≡ state → ShowsFrom state s top before now → ExecutesAt (Zwrite s.name top) v s v s before now
+shows_from v s top before now Down e h = refuses (Zwrite s.name top) v s NotRunning before now refl (λ p at_p. not_running_there v s p e at_p) h.1
+shows_from v s top before now (Failed k) e h = refuses (Zwrite s.name top) v s (Stopped k) before now refl (λ p at_p. stopped_there v s k p e at_p) h.1
+shows_from v s top before now (Primary r) e h = λ p at_p.
+    (Done, p, (running_there v s r p e at_p, kept_same p), at_p, h ∙ ap (λ (g : Globals). before ++ zwrite top g) (reigns_at v s r p e at_p).remembered.globals)
+
+pub shows_at : (v : View) (s : Site) (top : Option Key) (before now : List ℕ) → Shows s top before now → ExecutesAt (Zwrite s.name top) v s v s before now
+shows_at v s top before now h = shows_from v s top before now s.state refl h

@@ -1,12 +1,12 @@
 use Rattle.std.proofs.Common.{◌≡◌, true, Some, sym, subst}
-use Rattle.command_defs.specs.Commands.{Name, Stop, Extract}
+use Rattle.command_defs.specs.Commands.{Name, Stop, Extract, Zwrite}
 use Rattle.world_defs.specs.Output.{name_in}
-use Rattle.site_runner.specs.declared.command.Command.{Command}
-use Rattle.site_runner.specs.Commands.{command_value}
+use Rattle.repl_script.specs.declared.command.Command.{Command}
+use Rattle.repl_script.specs.Commands.{command_value}
 use Rattle.site_runner.specs.Sites.{is_slot_named}
 use Rattle.site_runner.specs.Here.{ExecutesHere}
 use Rattle.site_runner.proofs.Results.{on_ok}
-use Rattle.site_runner.proofs.Stopped.{named_site, executes_here, stops, extracts_at}
+use Rattle.site_runner.proofs.Stopped.{named_site, executes_here, stops, extracts_at, shows_at}
 use Rattle.site_runner.proofs.execute.execute_at.Goals as goal
 
 pub returns-in-Stop-clause-done : goal.returns-in-Stop-clause-done
@@ -18,16 +18,27 @@ returns-in-Stop-clause-done g c =
     let called = subst (λ (x : Command). is_slot_named (name_in (command_value x)) old ≡ true) c.in-Stop.is c.requires.site in
     on_ok c.stop.result _ _ c.stop.ensures.done (λ h.
     subst (λ (x : Command). ExecutesHere view (command_value x) old (record { disk = old.disk; site = Some new }) c.args.text.now c.stop.new.text) (sym c.in-Stop.is)
-    (subst (λ (n : Name). ExecutesHere view (Stop n) old (record { disk = old.disk; site = Some new }) c.args.text.now c.stop.new.text) (named_site old s c.in-Stop.name c.in-Some.is called)
+    (subst (λ (n : Name). ExecutesHere view (Stop n) old (record { disk = old.disk; site = Some new }) c.args.text.now c.stop.new.text) (named_site old s c.in-Stop.site c.in-Some.is called)
     (executes_here view (Stop s.name) old old.disk s new c.args.text.now c.stop.new.text c.in-Some.is (stops (view old.disk) s new c.args.text.now c.stop.new.text h))))
 
-pub returns-clause-done : goal.returns-clause-done
-returns-clause-done g c =
+pub returns-in-Extract-clause-done : goal.returns-in-Extract-clause-done
+returns-in-Extract-clause-done g c =
     let view = g.D.Disk.disk in
     let old = c.args.slot.now in
     let s = c.in-Some.site in
     let called = subst (λ (x : Command). is_slot_named (name_in (command_value x)) old ≡ true) c.in-Extract.is c.requires.site in
     on_ok c.extract.result _ _ c.extract.ensures (λ h.
     subst (λ (x : Command). ExecutesHere view (command_value x) old (record { disk = old.disk; site = Some s }) c.args.text.now c.extract.new.text) (sym c.in-Extract.is)
-    (subst (λ (n : Name). ExecutesHere view (Extract n c.in-Extract.from) old (record { disk = old.disk; site = Some s }) c.args.text.now c.extract.new.text) (named_site old s c.in-Extract.name c.in-Some.is called)
-    (executes_here view (Extract s.name c.in-Extract.from) old old.disk s s c.args.text.now c.extract.new.text c.in-Some.is (extracts_at (view old.disk) s c.in-Extract.from c.args.text.now c.extract.new.text h))))
+    (subst (λ (n : Name). ExecutesHere view (Extract n c.in-Extract.number) old (record { disk = old.disk; site = Some s }) c.args.text.now c.extract.new.text) (named_site old s c.in-Extract.site c.in-Some.is called)
+    (executes_here view (Extract s.name c.in-Extract.number) old old.disk s s c.args.text.now c.extract.new.text c.in-Some.is (extracts_at (view old.disk) s c.in-Extract.number c.args.text.now c.extract.new.text h))))
+
+pub returns-clause-done : goal.returns-clause-done
+returns-clause-done g c =
+    let view = g.D.Disk.disk in
+    let old = c.args.slot.now in
+    let s = c.in-Some.site in
+    let called = subst (λ (x : Command). is_slot_named (name_in (command_value x)) old ≡ true) c.in-Zwrite.is c.requires.site in
+    on_ok c.zwrite.result _ _ c.zwrite.ensures (λ h.
+    subst (λ (x : Command). ExecutesHere view (command_value x) old (record { disk = old.disk; site = Some s }) c.args.text.now c.zwrite.new.text) (sym c.in-Zwrite.is)
+    (subst (λ (n : Name). ExecutesHere view (Zwrite n c.in-Zwrite.top) old (record { disk = old.disk; site = Some s }) c.args.text.now c.zwrite.new.text) (named_site old s c.in-Zwrite.site c.in-Some.is called)
+    (executes_here view (Zwrite s.name c.in-Zwrite.top) old old.disk s s c.args.text.now c.zwrite.new.text c.in-Some.is (shows_at (view old.disk) s c.in-Zwrite.top c.args.text.now c.zwrite.new.text h))))

@@ -4,7 +4,7 @@ use Rattle.world_defs.specs.Lists.{first_where}
 use Rattle.world_defs.specs.Output.{line, name_in}
 use Rattle.site_runner.specs.declared.slot.Slot.{Slot}
 use Rattle.site_runner.specs.Sites.{is_slot_named}
-use Rattle.site_runner.specs.Commands.{command_value}
+use Rattle.repl_script.specs.Commands.{command_value}
 use Rattle.site_runner.specs.Here.{ExecutesHere, IsCutHere}
 use Rattle.site_runner.proofs.Results.{on_ok, on_errs, err_so}
 use Rattle.site_runner.proofs.Lifts.{lifted, lifted_cut, named_there, no_site, cut_nothing, passes_there}

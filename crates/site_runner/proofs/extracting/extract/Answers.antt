@@ -1,13 +1,17 @@
 use Rattle.std.proofs.Common.{◌≡◌, ◌-◌, ◌++◌, drop, sym, ◌∙◌, ap, subst, List, ℕ}
+use Rattle.world_defs.specs.Output.{extract_from}
+use Rattle.global_defs.specs.Extract.{extract}
 use Rattle.site_runner.specs.declared.slot.State.{State}
 use Rattle.site_runner.specs.Steps.{ExtractsFrom}
 use Rattle.site_runner.proofs.Results.{on_ok}
-use Rattle.site_runner.proofs.Shown.{extracts}
+use Rattle.site_runner.proofs.Shown.{extracts, from_one, from_least}
 use Rattle.site_runner.proofs.extracting.extract.Goals as goal
 
 pub returns-in_ok-write_header-in-Primary : goal.returns-in_ok-write_header-in-Primary
 returns-in_ok-write_header-in-Primary c =
     let s = c.args.site.now in
-    on_ok c.write_entries.result _ _ c.write_entries.ensures (λ t. subst (λ (x : State). ExtractsFrom x s c.args.from c.args.text.now c.write_entries.new.text) (sym c.in-Primary.is)
-    (λ seq numbers. extracts s.name c.as_slice-in-Primary.result.now c.args.from c.in-Primary.reign.entries.items c.entries_from.result.now seq c.args.text.now c.write_header.new.out c.write_entries.new.text c.requires numbers c.as_slice-in-Primary.ensures
-    (c.entries_from.ensures ∙ ap (drop (c.args.from - 1)) c.deref.ensures.value) c.in_ok-write_header-in-Primary.ensures.ok t))
+    let from = c.unwrap_or-from.result in
+    on_ok c.write_entries.result _ _ c.write_entries.ensures (λ t. subst (λ (x : State). ExtractsFrom x s c.args.number c.args.text.now c.write_entries.new.text) (sym c.in-Primary.is)
+    (λ seq numbers. extracts s.name c.as_slice-in-Primary.result.now from c.in-Primary.reign.entries.items c.entries_from.result.now seq c.args.text.now c.write_header.new.out c.write_entries.new.text (from_least c.args.number from c.unwrap_or-from.ensures c.requires) numbers c.as_slice-in-Primary.ensures
+    (c.entries_from.ensures ∙ ap (drop (from - 1)) c.deref.ensures.value) c.in_ok-write_header-in-Primary.ensures.ok t
+    ∙ ap (λ (x : List ℕ). c.args.text.now ++ x) (from_one s.name c.args.number from seq c.unwrap_or-from.ensures)))

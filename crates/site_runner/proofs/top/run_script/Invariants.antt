@@ -7,7 +7,7 @@ abbrev pub invariant-loop-lines : goal.invariant-loop-lines
 invariant-loop-lines g l = record {
   bound : l.lines ≤ 100000;
   fed : l.reader.lines ≡ l.lines;
-  run : InLoop g.D.Disk.disk l.fn.slots.items l.slots.items l.reader.position l.lines (g.S.Source.left l.fn.script) (g.S.Source.left l.script) (g.K.Sink.written l.fn.out) (g.K.Sink.written l.out);
+  run : InLoop g.D.Disk.disk l.fn.slots.items l.slots.items l.reader.position l.reader.lines (g.S.Source.left l.fn.script) (g.S.Source.left l.script) (g.K.Sink.written l.fn.out) (g.K.Sink.written l.out);
   source : g.S.Source.faults l.fn.script ≤ g.S.Source.faults l.script;
   sink : g.K.Sink.faults l.fn.out ≤ g.K.Sink.faults l.out;
   length : length l.slots.items ≡ length l.fn.slots.items;
