@@ -2,4 +2,12 @@
 #![tactic(auto)]
 
 #[cfg(test)]
-mod tests;
+mod bad_lines;
+#[cfg(test)]
+mod faults;
+#[cfg(test)]
+mod jobs;
+#[cfg(test)]
+mod ran;
+#[cfg(test)]
+mod sites;

@@ -1,6 +1,7 @@
 -- Reading a journal on from a place.
 use Rattle.std.specs.Prelude.{◌≡◌, ℕ, List, [], ◌∷◌, map, replicate, Option, Some, None, IfSome}
 use Rattle.std.specs.List.{AllZip}
+use Rattle.std.specs.FinMap as globals
 use Rattle.disk_defs.specs.Disk.{View}
 use Rattle.disk_defs.specs.Gates.{Body, bodies_at}
 use Rattle.global_defs.specs.Entry.{Sequence}
@@ -9,7 +10,8 @@ use Rattle.gvn_model.specs.declared.entry.Entry.{Entry}
 use Rattle.journal_defs.specs.Journal.{JournalRecord, IsJournalBody}
 use Rattle.jnl_file.specs.Records.{settled}
 use Rattle.jnl_file.specs.Journal.{HasRecords}
-use Rattle.world_defs.specs.World.{Name, Contents}
+use Rattle.command_defs.specs.Commands.{Name}
+use Rattle.world_defs.specs.World.{Contents}
 use Rattle.world_defs.specs.Rows.{reign_of, serials_after}
 use Rattle.world_defs.specs.Ties.{entry_record, records_of}
 use Rattle.site_journal.specs.declared.reign.Reign.{Reign}
@@ -34,9 +36,10 @@ entries_of r = map entry_value r.entries.items
 
 pub record IsEmptyReign (r : Reign) : Type 0 where
   pub entries : r.entries.items ≡ []
+  pub globals : r.globals ≡ globals.empty
   pub serials : r.serials ≡ replicate 64 1
 
--- The entries in memory are numbered and of the site's reign, and the next serials are past theirs.
+-- The entries in memory are numbered and of the site's reign, the globals are theirs, and the next serials are past theirs.
 pub record HasRead (name : Name) (r : Reign) : Type 0 where
   pub remembers : Remembers r (entries_of r)
   pub stamps : AreOfReign name (entries_of r)

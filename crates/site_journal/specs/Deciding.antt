@@ -1,37 +1,28 @@
--- Deciding jobs of updater 1, whose journal is hardened after each.
-use Rattle.std.specs.Prelude.{◌≡◌, ◌⊎◌, ◌<◌, ◌≤◌, ℕ, ◌+◌, Bool, true, List, [], ◌∷◌, ◌++◌, length, map, take, get_or, set, Result, Ok, Err, IsTrue, IsSome}
-use Rattle.std.specs.List.{flat_map, list_all}
+-- Deciding jobs in the order of picks, where the journal is hardened after each entry.
+use Rattle.std.specs.Prelude.{◌≡◌, ◌⊎◌, ◌≤◌, ℕ, ◌+◌, Bool, true, List, [], ◌∷◌, ◌++◌, length, take, Result, Ok, Err, IsTrue, IsSome}
+use Rattle.std.specs.List.{flat_map}
 use Rattle.disk_defs.specs.Disk.{View, Files, Image}
-use Rattle.global_defs.specs.Entry.{Update, Entry, Sequence}
-use Rattle.global_defs.specs.Serial.{Turn, Replied, Seq, entry_of}
+use Rattle.global_defs.specs.Entry.{Entry, Sequence}
+use Rattle.global_defs.specs.Jobs.{Job}
+use Rattle.global_defs.specs.Evaluation.{Evaluated}
+use Rattle.global_defs.specs.Serial.{Turn, Replied, decided, begun}
 use Rattle.jnl_file.specs.declared.journal.Journal.{Journal}
 use Rattle.jnl_file.specs.Journal.{IsReady}
-use Rattle.world_defs.specs.World.{Name, Contents}
+use Rattle.command_defs.specs.Commands.{Name}
+use Rattle.world_defs.specs.World.{Contents}
 use Rattle.world_defs.specs.Rows.{reign_of, with_sequence, IsFrontOf, turn_of}
 use Rattle.world_defs.specs.Ties.{Stands}
-use Rattle.world_defs.specs.Output.{reply_line, printed}
+use Rattle.world_defs.specs.Output.{reply_line, is_past, printed}
 use Rattle.site_journal.specs.declared.reign.Reign.{Reign}
 use Rattle.site_journal.specs.declared.deciding.DecideError.{DecideError}
 use Rattle.site_journal.specs.declared.deciding.DecideError.TheVariants as decide
 use Rattle.site_journal.specs.declared.running.RunError.{RunError}
 use Rattle.site_journal.specs.declared.running.RunError.TheVariants as run
-use Rattle.site_journal.specs.Jobs.{job_value, updater_of, has_set}
 use Rattle.site_journal.specs.Reigns.{Reigns}
 
--- the contents with one entry more
-abbrev pub with_entry : Contents → Entry → Contents
-with_entry c e = with_sequence c (c.sequence ++ e ∷ [])
-
--- the entry of updater 1's next job
-abbrev pub next_entry : Name → List ℕ → List Update → Entry
-next_entry name serials updates = entry_of (reign_of name) 1 (get_or serials 0 1) updates
-
--- the reply to it
-abbrev pub next_reply : List ℕ → Sequence → Replied
-next_reply serials seq = record { updater = 1; serial = get_or serials 0 1; reply = Seq (length seq + 1) [] }
-
-abbrev pub next_serials : List ℕ → List ℕ
-next_serials serials = set serials 0 (get_or serials 0 1 + 1)
+-- what an updater's next job comes to that was evaluated so, where these are the next serials and the entries
+abbrev pub outcome : Name → List ℕ → Sequence → ℕ → Evaluated → Turn
+outcome name serials seq u evaluated = decided (reign_of name) (begun serials [] seq) u evaluated
 
 -- the journal is open for calls, but not after a fault
 abbrev pub IsReadyAfter : {T : Type 0} → Result T DecideError → View → Journal → Type 0
@@ -39,65 +30,65 @@ IsReadyAfter (Ok x) v j = IsReady v j
 IsReadyAfter (Err decide.Failed) v j = Unit {0}
 IsReadyAfter (Err decide.NoMemory) v j = IsReady v j
 
--- there is room for one more entry, and each one sets one node
-pub record HasRoom (seq : Sequence) : Type 0 where
-  pub entries : length seq < 100000
-  pub sets : list_all has_set seq ≡ true
-
--- each image stands for these contents, or, where there is room, for those with this entry more
-pub record MayHave (v : View) (name : Name) (c : Contents) (e : Entry) : Type 0 where
+-- each image stands for these contents, or for those with this sequence
+pub record MayHave (v : View) (name : Name) (c : Contents) (after : Sequence) : Type 0 where
   pub told : IsSome v.content
-  pub images : (files : Files) → Image v files → Stands name files c ⊎ (HasRoom c.sequence × Stands name files (with_entry c e))
+  pub images : (files : Files) → Image v files → Stands name files c ⊎ Stands name files (with_sequence c after)
 
--- the job that makes these updates was decided: its entry is hardened, and its reply is told
-pub record Decides (v : View) (name : Name) (told : Bool) (c : Contents) (updates : List Update) (old new : Reign) (before now : List ℕ) : Type 0 where
-  pub reigns : Reigns v name told (with_entry c (next_entry name old.serials updates)) new
-  pub serials : new.serials ≡ next_serials old.serials
-  pub text : now ≡ before ++ reply_line (next_reply old.serials c.sequence)
+-- A pick has come to this turn: the reign has its entries and its next serials, and its replies were added.
+pub record HasCome (v : View) (name : Name) (told : Bool) (c : Contents) (t : Turn) (r : Reign) (before now : List ℕ) : Type 0 where
+  pub reigns : Reigns v name told (with_sequence c t.sequence) r
+  pub serials : r.serials ≡ t.serials
+  pub text : now ≡ before ++ flat_map reply_line t.replies
 
--- how far a section has come after these jobs, of all these
-abbrev pub turn_after : Name → List ℕ → List (List Update) → List (List Update) → Sequence → Turn
-turn_after name serials all jobs seq = turn_of (reign_of name) serials (map job_value all ∷ []) (map updater_of jobs) seq
+-- a turn that appended one entry to these, which its reply names
+pub record Appends (seq : Sequence) (t : Turn) : Type 0 where
+  pub entry : Entry
+  pub sequence : t.sequence ≡ seq ++ entry ∷ []
+  pub reply : Replied
+  pub replies : t.replies ≡ reply ∷ []
+  pub names : is_past (length seq) reply.reply ≡ true
 
--- with these jobs of updater 1 left
-abbrev pub turn_with : List (List Update) → List ℕ → Sequence → List Replied → Turn
-turn_with left serials seq replies = record { left = map job_value left ∷ []; serials = serials; sequence = seq; replies = replies }
+-- A section has come to this turn: besides, there are no fewer entries, and each reply names one that is there or none.
+pub record HasReached (v : View) (name : Name) (told : Bool) (c : Contents) (t : Turn) (r : Reign) (before now : List ℕ) : Type 0 where
+  pub reigns : Reigns v name told (with_sequence c t.sequence) r
+  pub serials : r.serials ≡ t.serials
+  pub text : now ≡ before ++ flat_map reply_line t.replies
+  pub grown : length c.sequence ≤ length t.sequence
+  pub printed : printed (length t.sequence) t.replies ≡ t.replies
 
--- Of all these jobs the first few are decided, and these are left.
-pub record HasDecided (v : View) (name : Name) (told : Bool) (c : Contents) (all jobs left : List (List Update)) (old new : Reign) (before now : List ℕ) : Type 0 where
-  pub sequence : Sequence
-  pub replies : List Replied
-  pub turn : turn_after name old.serials all jobs c.sequence ≡ turn_with left new.serials sequence replies
-  pub reigns : Reigns v name told (with_sequence c sequence) new
-  pub grown : length sequence ≡ length c.sequence + length jobs
-  pub printed : printed (length sequence) replies ≡ replies
-  pub count : length replies ≡ length jobs
-  pub text : now ≡ before ++ flat_map reply_line replies
+-- These picks were decided: entries, serials and replies are those of the serial run.
+abbrev pub HasDecided : View → Name → Bool → Contents → List (List Job) → (picks : List ℕ) → Reign → Reign → List ℕ → List ℕ → Type 0
+HasDecided v name told c jobs picks old new before now = HasReached v name told c (turn_of (reign_of name) old.serials jobs picks c.sequence) new before now
 
 -- where files are known, each image stands for a front of this sequence that has at least so many entries
 pub record MayHaveFront (v : View) (name : Name) (is_told : Bool) (c : Contents) (all : Sequence) (low : ℕ) : Type 0 where
   pub told : IsTrue is_told → IsSome v.content
   pub images : IsTrue is_told → (files : Files) → Image v files → (o : Contents) × IsFrontOf all low c o × Stands name files o
 
--- A fault in the last of the first n jobs: its entry may stand or not, and it has no reply.
-pub record FailsAt (v : View) (name : Name) (told : Bool) (c : Contents) (jobs : List (List Update)) (serials : List ℕ) (undecided : ℕ) (before now : List ℕ) (n : ℕ) : Type 0 where
+-- A fault in the last pick of this turn, of so many: its entry may stand or not, and it has no reply.
+pub record FailsBy (v : View) (name : Name) (told : Bool) (c : Contents) (t : Turn) (picks undecided : ℕ) (before now : List ℕ) : Type 0 where
   pub hardened : ℕ
   pub begun : length c.sequence ≤ hardened
-  pub at_once : length (turn_after name serials jobs (take n jobs) c.sequence).sequence ≤ hardened + 1
-  pub count : undecided + length (printed hardened (turn_after name serials jobs (take n jobs) c.sequence).replies) ≡ length jobs
-  pub text : now ≡ before ++ flat_map reply_line (printed hardened (turn_after name serials jobs (take n jobs) c.sequence).replies)
-  pub front : MayHaveFront v name told c (turn_after name serials jobs (take n jobs) c.sequence).sequence hardened
+  pub at_once : length t.sequence ≤ hardened + 1
+  pub count : undecided + length (printed hardened t.replies) ≡ picks
+  pub text : now ≡ before ++ flat_map reply_line (printed hardened t.replies)
+  pub front : MayHaveFront v name told c t.sequence hardened
 
--- where files are known, each image stands for a front of what some of the first jobs come to
-pub record MayLeave (v : View) (name : Name) (is_told : Bool) (c : Contents) (jobs : List (List Update)) (serials : List ℕ) : Type 0 where
+-- a fault in the last of the first n picks
+abbrev pub FailsAt : View → Name → Bool → Contents → List (List Job) → (order serials : List ℕ) → (undecided : ℕ) → List ℕ → List ℕ → ℕ → Type 0
+FailsAt v name told c jobs order serials undecided before now n = FailsBy v name told c (turn_of (reign_of name) serials jobs (take n order) c.sequence) (length order) undecided before now
+
+-- where files are known, each image stands for a front of what some first picks come to
+pub record MayLeave (v : View) (name : Name) (is_told : Bool) (c : Contents) (jobs : List (List Job)) (order serials : List ℕ) : Type 0 where
   pub told : IsTrue is_told → IsSome v.content
   pub images : IsTrue is_told → (files : Files) → Image v files
-      → (o : Contents) × ((n : ℕ) × IsFrontOf (turn_after name serials jobs (take n jobs) c.sequence).sequence (length c.sequence) c o) × Stands name files o
+      → (o : Contents) × ((n : ℕ) × IsFrontOf (turn_of (reign_of name) serials jobs (take n order) c.sequence).sequence (length c.sequence) c o) × Stands name files o
 
 -- how a section ends that was not decided to its end
-abbrev pub Breaks : RunError → View → Name → Bool → Contents → List (List Update) → List ℕ → List ℕ → List ℕ → Type 0
-Breaks (run.Failed undecided) v name told c jobs serials before now = (n : ℕ) × FailsAt v name told c jobs serials undecided before now n
-Breaks run.NoMemory v name told c jobs serials before now = MayLeave v name told c jobs serials
+abbrev pub Breaks : RunError → View → Name → Bool → Contents → List (List Job) → (order serials : List ℕ) → List ℕ → List ℕ → Type 0
+Breaks (run.Failed undecided) v name told c jobs order serials before now = (n : ℕ) × FailsAt v name told c jobs order serials undecided before now n
+Breaks run.NoMemory v name told c jobs order serials before now = MayLeave v name told c jobs order serials
 
 abbrev pub IsReadyAtEnd : {T : Type 0} → Result T RunError → View → Journal → Type 0
 IsReadyAtEnd (Ok x) v j = IsReady v j

@@ -4,7 +4,7 @@ use Rattle.global_defs.specs.Entry as defs
 use Rattle.gvn_model.specs.declared.entry.Entry.{Entry}
 use Rattle.gvn_model.specs.Entries.{entry_value}
 use Rattle.journal_defs.specs.Journal.{JournalRecord, Tcom}
-use Rattle.world_defs.specs.World.{Name}
+use Rattle.command_defs.specs.Commands.{Name}
 use Rattle.world_defs.specs.Rows.{reign_of}
 use Rattle.world_defs.specs.Ties.{items_from, entry_record}
 

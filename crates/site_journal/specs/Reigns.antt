@@ -1,20 +1,20 @@
 -- A reign in memory beside the journal on a disk.
-use Rattle.std.specs.Prelude.{◌≡◌, ◌<◌, ◌^◌, ℕ, Bool, true, map, length, get_or, IsTrue}
-use Rattle.std.specs.List.{AllByRecursion, enumerate_from, list_all}
+use Rattle.std.specs.Prelude.{◌≡◌, ℕ, Bool, true, map, IsTrue}
+use Rattle.std.specs.List.{AllByRecursion, enumerate_from}
 use Rattle.disk_defs.specs.Disk.{View}
 use Rattle.global_defs.specs.Entry as defs
-use Rattle.global_defs.specs.Entry.{Sequence}
+use Rattle.global_defs.specs.Entry.{Sequence, state}
 use Rattle.gvn_model.specs.declared.entry.Entry.{Entry}
 use Rattle.gvn_model.specs.Entries.{entry_value}
 use Rattle.journal_defs.specs.Numbers.{journal_file}
 use Rattle.jnl_file.specs.declared.journal.Journal.{Journal}
 use Rattle.jnl_file.specs.Records.{settled}
 use Rattle.jnl_file.specs.Journal.{HasRecords}
-use Rattle.world_defs.specs.World.{Name, Contents}
+use Rattle.command_defs.specs.Commands.{Name}
+use Rattle.world_defs.specs.World.{Contents}
 use Rattle.world_defs.specs.Rows.{reign_of}
 use Rattle.world_defs.specs.Ties.{records_of}
 use Rattle.site_journal.specs.declared.reign.Reign.{Reign}
-use Rattle.site_journal.specs.Jobs.{has_set}
 
 -- an entry of the code, with its number
 abbrev pub tagged : Entry → ℕ × defs.Entry
@@ -24,10 +24,10 @@ tagged e = (e.number, entry_value e)
 abbrev pub AreOfReign : Name → Sequence → Type 0
 AreOfReign name seq = AllByRecursion (λ (e : defs.Entry). e.stamp ≡ reign_of name) seq
 
--- these are the entries in memory, numbered from 1 on
+-- these are the entries in memory, numbered from 1 on, and the globals are those that they lead to
 pub record Remembers (r : Reign) (seq : Sequence) : Type 0 where
   pub entries : map tagged r.entries.items ≡ enumerate_from 1 seq
-  pub sets : IsTrue r.sets → list_all has_set seq ≡ true
+  pub globals : r.globals ≡ state seq
 
 -- the journal has the records of these contents, all of them hardened
 pub record Keeps (v : View) (name : Name) (c : Contents) (j : Journal) : Type 0 where
@@ -41,15 +41,9 @@ pub record Reigns (v : View) (name : Name) (told : Bool) (c : Contents) (r : Rei
   pub file : r.journal.gated.file ≡ journal_file 1 0
   pub kept : IsTrue told → Keeps v name c r.journal
 
--- there is room for one more entry, each one sets one node, and updater 1 has a next serial
-pub record HasPlace (r : Reign) : Type 0 where
-  pub entries : length r.entries.items < 100000
-  pub sets : IsTrue r.sets
-  pub serial : get_or r.serials 0 1 < 2 ^ 32
-
 -- the same but for the journal, which has the same file
 pub record IsSameReign (old new : Reign) : Type 0 where
   pub entries : new.entries.items ≡ old.entries.items
+  pub globals : new.globals ≡ old.globals
   pub serials : new.serials ≡ old.serials
-  pub sets : new.sets ≡ old.sets
   pub file : new.journal.gated.file ≡ old.journal.gated.file

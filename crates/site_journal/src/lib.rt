@@ -1,14 +1,11 @@
-//! A site's reign over one journal: making the journal, taking it up, and deciding jobs.
+//! stub
 #![tactic(auto)]
 
 mod beginning;
 mod deciding;
-mod records;
 mod reign;
 mod running;
 mod starting;
-#[cfg(test)]
-mod tests;
 
 pub use beginning::{begin, is_begun};
 pub use deciding::DecideError;

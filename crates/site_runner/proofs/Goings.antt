@@ -8,7 +8,9 @@ use Rattle.std.proofs.Math.Seq.{take-append-add, take-length}
 use Rattle.disk_defs.specs.Disk.{View}
 use Rattle.command_defs.specs.Commands.{Command}
 use Rattle.command_defs.specs.Script.{Position, Outside, Ends, line_reading}
-use Rattle.repl_script.specs.Feeds.{Moves}
+use Rattle.repl_script.specs.Feeds.{Moves, Progress, TellsBad}
+use Rattle.repl_script.specs.declared.error.ScriptError.{ScriptError}
+use Rattle.repl_script.specs.declared.error.ScriptError.TheVariants as errors
 use Rattle.world_defs.specs.Lists.{Along}
 use Rattle.world_defs.specs.World.{Place, World}
 use Rattle.world_defs.specs.Answers.{Answer}
@@ -22,7 +24,7 @@ use Rattle.site_runner.specs.declared.status.Status.TheVariants.{Ok, BadWords, B
 use Rattle.site_runner.specs.Told.{AppendsFront}
 use Rattle.site_runner.specs.Tied.{IsPlace, Tied, Matched}
 use Rattle.site_runner.specs.Ends.{Went, Writes, ComeTo}
-use Rattle.site_runner.specs.Going.{Going, CarriesOut, Breaks, StopsAt, Halts, GoesOn}
+use Rattle.site_runner.specs.Going.{Going, CarriesOut, Breaks, StopsAt, Halts, GoesOn, status_value}
 use Rattle.site_runner.proofs.Told.{appends_then}
 use Rattle.site_runner.proofs.Readings.{come_on, come_to_end, leads_on, leads_to_end}
 
@@ -153,3 +155,10 @@ broken view NoMemory number p old new line c before now rose e b = (
 -- no memory for the line itself
 pub not_taken : {D : Type 0} (view : D → View) (slots : List (Slot D)) (p : Position) (line : List ℕ) (mid : World) → Tied view slots mid → StopsAt view slots p line mid
 not_taken view slots p line mid t = (mid, matched view slots mid t, inl refl)
+
+-- a line that wasn't fed
+pub not_fed : {D : Type 0} (view : D → View) (slots : List (Slot D)) (e : ScriptError) (p : Progress) (line : List ℕ) (out : Option (List ℕ)) (rose : Type 0) → TellsBad e p line → (e ≡ errors.ScriptTooLong → ⊥)
+    → Halts (status_value e) view (p.lines + 1) p.position slots slots line out out rose
+not_fed view slots (errors.BadLine n at) p line out rose h few = (h.0, refl, refl, h.1)
+not_fed view slots errors.ScriptTooLong p line out rose h few = few refl
+not_fed view slots errors.NoMemory p line out rose h few = (refl, λ mid t. not_taken view slots p.position line mid t)

@@ -12,7 +12,7 @@ use Rattle.world_defs.specs.Answers.{Cause, NoSite, Refusal, Answer, Done, Refus
 use Rattle.world_defs.specs.Refusals.{early, late, or_else, refusal, refused_with, tested, first}
 use Rattle.world_defs.specs.Rows.{StartsPrimary, Becomes, in_new_state}
 use Rattle.world_defs.specs.Step.{Unchanged, AtPlace, Row, Faulted, Damaged, SectionRow, Means, Leaves, LeftAt, CutOff, subject, is_at}
-use Rattle.world_defs.specs.Output.{line, cause_text, name_in, done_text, ran_text, text_of, cycle_at, length_at, extract_at, turn_at, section_text}
+use Rattle.world_defs.specs.Output.{line, cause_text, name_in, done_text, ran_text, text_of, cycle_at, length_at, extract_at, zwrite_at, turn_at, section_text}
 use Rattle.world_defs.specs.Ties.{Matches}
 use Rattle.site_runner.specs.declared.slot.Slot.{Slot}
 use Rattle.site_runner.specs.Sites.{site_value, is_slot_named, IsReadyOn, AreReady}

@@ -122,7 +122,7 @@ long_not_bad lines n at l (behind_all all section few reads within) = omega (ari
 
 -- a bad line is the first one
 pub one_bad : (lines : List (List ℕ)) (n at m to : ℕ) → IsBadAt lines n at → IsBadAt lines m to → (n ≡ m) × (at ≡ to)
-one_bad lines n at m to (in_line i {line} before few there reads wrong) (in_line k {row} front rare here comes bad) = elim (cases_lt i k) [
+one_bad lines n at m to (in_line i {line} before few there reads wrong) (in_line k {line = row} front rare here comes bad) = elim (cases_lt i k) [
   | inl h ↦ absurd (none_some (lines_reading (take k lines)) (none_past lines i at k line before there reads wrong h) comes)
   | inr h ↦ elim (cases_lt k i) [
     | inl g ↦ absurd (none_some (lines_reading (take i lines)) (none_past lines k to i row front here comes bad g) reads)

@@ -1,0 +1,44 @@
+// Runs of scripts over eight disks in memory.
+use repl_disk::MemDisk;
+use repl_io::{MemSink, MemSource};
+use site_runner::{Status, run};
+use std::alloc::Global;
+use std::test::Fail;
+
+pub const FIRST_SET: &[u8] =
+    b"CREATE A R\nSTART A PRIMARY\nRUN A\n1 SET ^X(1)=\"a\"\nEND\nEXTRACT A\nSTOP A\n";
+
+pub const FIRST_SET_PRINTS: &[u8] =
+    b"A CREATED\nA PRIMARY 1 FROM 1\n1.1 SEQ 1\nA AT 1\nGTMRJEX01\\A\\1\nSET\\1\\A.1\\1.1\\^X(1)=\"a\"\nA DOWN 1\n";
+
+pub fn disks(alloc: Global) -> Result<Vec<MemDisk>, Fail> {
+    let mut disks = Vec::new(alloc);
+    for _ in 0..8 {
+        disks.push(MemDisk::new(alloc)?)?;
+    }
+    Ok(disks)
+}
+
+/// Runs a script with these words. The source fails at the calls of those numbers, the sink at those; a write takes at most so many bytes.
+pub fn ran(
+    alloc: Global,
+    words: &[&str],
+    script: Vec<u8>,
+    bad_reads: &[u64],
+    bad_writes: &[u64],
+    most: usize,
+) -> Result<(Status, Vec<u8>), Fail> {
+    let mut given = Vec::new(alloc);
+    for word in words {
+        given.push(String::from_str(alloc, word)?)?;
+    }
+    let mut source = MemSource::new(script, bad_reads.to_vec(alloc)?);
+    let mut sink = MemSink::new(alloc, bad_writes.to_vec(alloc)?, most.max(1), 4096)?;
+    let status = run(alloc, &given, &mut source, &mut sink, &mut disks(alloc)?);
+    Ok((status, sink.bytes().to_vec(alloc)?))
+}
+
+/// Runs a script whose source and sink don't fail.
+pub fn ran_well(alloc: Global, script: &[u8]) -> Result<(Status, Vec<u8>), Fail> {
+    ran(alloc, &["run"], script.to_vec(alloc)?, &[], &[], 4096)
+}
