@@ -9,6 +9,7 @@ mod items;
 mod job;
 mod jobs;
 mod named_modes;
+mod progress;
 mod queue;
 mod reign;
 mod statements;
