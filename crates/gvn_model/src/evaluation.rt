@@ -1,6 +1,7 @@
 // What a job does on globals.
 ghost use Rattle.std.specs.Prelude.{◌≡◌, ◌≢◌, IfOk};
 ghost use Rattle.global_defs.specs.Evaluation as evaluation;
+ghost use Rattle.global_defs.specs.Jobs.{SeqLimit};
 ghost use Rattle.gvn_model.specs.Jobs.{job_value, evaluated_value};
 
 use super::entry::Origin;
@@ -19,7 +20,8 @@ pub fn eval<G: Lookup>(
     _origin: Origin,
     on: &G,
 ) -> Result<Evaluated, NoMemory>
-    ensures { IfOk result (λ made. evaluated_value made ≡ evaluation.eval (job_value job.now) (G.seen on.now)) }
+    ensures value { IfOk result (λ made. evaluated_value made ≡ evaluation.eval (job_value job.now) (G.seen on.now)) }
+    ensures never { IfOk result (λ made. evaluated_value made ≢ evaluation.RolledBack SeqLimit) }
 {
     let mut progress = Progress::new(alloc, on);
     for statement in job.statements.as_slice() {

@@ -4,6 +4,8 @@
 mod entries;
 mod entry;
 mod evaluation;
+#[cfg(test)]
+mod evaluation_tests;
 mod history;
 mod items;
 mod job;

@@ -60,7 +60,6 @@ pub struct Progress<'a, G: Lookup> {
 
 impl<'a, G: Lookup> Model for Progress<'a, G> {
     ghost use Rattle.global_defs.specs.Evaluation as evaluation;
-
     ghost use Rattle.gvn_model.specs.Codes.{progress_code};
 
     ghost Value = { evaluation.Progress };

@@ -7,8 +7,8 @@ use Rattle.gvn_model.specs.Steps.{Leads}
 use Rattle.gvn_model.proofs.StepLaws.{goes_on, stops_at}
 use Rattle.gvn_model.proofs.evaluation.eval.Goals as goal
 
-pub returns-in-Err-RolledBack : goal.returns-in-Err-RolledBack
-returns-in-Err-RolledBack g c =
+pub returns-in-Err-RolledBack-clause-value : goal.returns-in-Err-RolledBack-clause-value
+returns-in-Err-RolledBack-clause-value g c =
     let items = c.as_slice-statement-items.result.now in
     let job = map statement_value items in
     let s = c.statement-item.result in
@@ -17,10 +17,10 @@ returns-in-Err-RolledBack g c =
     let p = c.loop-statement.progress in
     let below : i < length job = omega (arith, c.loop-statement-test.true, length-map items statement_value) in
     let leads : evaluation.stepping p (statement_value s) ≡ evaluation.Stops (cause_value cause) =
-        subst (λ stop. Leads (evaluation.stepping p (statement_value s)) c.step.new.self (Err stop)) c.in-Err-RolledBack.field-0-is c.in-Err-RolledBack.ensures in
+    subst (λ stop. Leads (evaluation.stepping p (statement_value s)) c.step.new.self (Err stop)) c.in-Err-RolledBack.field-0-is c.in-Err-RolledBack.ensures in
     ap (λ x. evaluation.RolledBack (cause_value x)) c.in-Err-RolledBack.cause-is
     ∙ stops_at p job i (statement_value s) (cause_value cause) (evaluation.eval c.args.job.now.statements (g.G.Lookup.seen c.args.on.now)) below
-      (get_or-map statement_value items i s (statement_value s) c.loop-statement-test.true ∙ ap statement_value (sym c.statement-item.is)) c.loop-statement.invariant leads
+    (get_or-map statement_value items i s (statement_value s) c.loop-statement-test.true ∙ ap statement_value (sym c.statement-item.is)) c.loop-statement.invariant leads
 
 pub loop-statement-preserved : goal.loop-statement-preserved
 loop-statement-preserved g c =
