@@ -14,7 +14,8 @@ use Rattle.global_defs.proofs.Digits.{are_digits}
 use Rattle.global_defs.proofs.NumberText.{power_le}
 use Rattle.gvn_key.specs.Decoding.{padded}
 
-value_small : (ds : List ℕ) (n : ℕ) → list_all is_ascii_digit ds ≡ true → length ds ≤ n → digits_value 10 ds < 10 ^ n
+-- the number of a few digits
+pub value_small : (ds : List ℕ) (n : ℕ) → list_all is_ascii_digit ds ≡ true → length ds ≤ n → digits_value 10 ds < 10 ^ n
 value_small ds n all few =
     omega (arith, digits_value-lt 10 ds (are_digits ds all), power_le (length ds) n few)
 

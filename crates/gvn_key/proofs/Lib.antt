@@ -13,3 +13,4 @@ pub mod KeyTextLaws
 pub mod KeyTextWritten
 pub mod KeyTextFound
 pub mod ZwrFirst
+pub mod Integers

@@ -6,6 +6,7 @@ mod decode;
 #[cfg(test)]
 mod decode_tests;
 mod encoding;
+mod integer;
 mod key;
 mod numeral;
 mod order;
@@ -18,6 +19,7 @@ mod zwr;
 
 pub use bytes::{Bytes, NoMemory};
 pub use decode::value as digits_value;
+pub use integer::{integer_of, write_integer};
 pub use key::{Key, KeyError, write_sub};
 pub use numeral::is_number;
 pub use reader::{ZwrError, zwr_read};

@@ -1,10 +1,12 @@
 // What a job does on globals.
 ghost use Rattle.std.specs.Prelude.{◌≡◌, ◌≢◌, IfOk};
 ghost use Rattle.global_defs.specs.Evaluation as evaluation;
+ghost use Rattle.global_defs.specs.Jobs.{SeqLimit};
 ghost use Rattle.gvn_model.specs.Jobs.{job_value, evaluated_value};
 
 use super::entry::Origin;
 use super::job::{Evaluated, Job};
+use super::progress::{Progress, Stop};
 use gvn_globals::Lookup;
 use gvn_key::NoMemory;
 use std::alloc::Global;
@@ -18,7 +20,17 @@ pub fn eval<G: Lookup>(
     _origin: Origin,
     on: &G,
 ) -> Result<Evaluated, NoMemory>
-    ensures { IfOk result (λ made. evaluated_value made ≡ evaluation.eval (job_value job.now) (G.seen on.now)) }
+    ensures value { IfOk result (λ made. evaluated_value made ≡ evaluation.eval (job_value job.now) (G.seen on.now)) }
+    ensures never { IfOk result (λ made. evaluated_value made ≢ evaluation.RolledBack SeqLimit) }
 {
-    Err(NoMemory)
+    let mut progress = Progress::new(alloc, on);
+    for statement in job.statements.as_slice() {
+        match progress.step(statement) {
+            Ok(()) => {}
+            Err(Stop::NoMemory) => return Err(NoMemory),
+            Err(Stop::RolledBack(cause)) => return Ok(Evaluated::RolledBack(cause)),
+        }
+    }
+    let (updates, answers) = progress.into_parts();
+    Ok(Evaluated::Done { updates, answers })
 }

@@ -4,11 +4,14 @@
 mod entries;
 mod entry;
 mod evaluation;
+#[cfg(test)]
+mod evaluation_tests;
 mod history;
 mod items;
 mod job;
 mod jobs;
 mod named_modes;
+mod progress;
 mod queue;
 mod reign;
 mod statements;

@@ -1,15 +1,11 @@
 //! Values and integers.
-ghost use Rattle.std.specs.Prelude.{◌≡◌, ◌≤◌, ◌<◌, ◌^◌, ◌≢◌, ◌&&◌, true, not, length, Some};
-ghost use Rattle.std.specs.List.{list_all, list_any};
-ghost use Rattle.std.specs.Char.{is_ascii_digit};
-ghost use Rattle.std.specs.Str.Parse.{digits_value};
-ghost use Rattle.global_defs.specs.Numeral.{is_point, is_number, integer_of};
+ghost use Rattle.std.specs.Prelude.{◌≡◌, ◌≢◌, Some};
 ghost use Rattle.script_defs.specs.Parts.{inside, valued, value_reading, sized, last_value, last_integer, assigned};
 ghost use Rattle.gvn_text.specs.Reads.{Reads, fault_value};
 
 use super::fault::{Fault, TextError, bad, place, too_long};
 use super::parts::{alone, word_end};
-use gvn_key::{Bytes, NoMemory, ZwrError, is_number, zwr_read};
+use gvn_key::{Bytes, NoMemory, ZwrError, integer_of, is_number, zwr_read};
 use std::alloc::Global;
 
 /// How many bytes a value may have.
@@ -77,46 +73,6 @@ pub fn assigned(alloc: Global, len: usize, left: &[u8]) -> Result<Bytes, Fault>
     match left {
         [b'=', value @ ..] => last_value(alloc, len, value),
         _ => Err(bad(len, left)),
-    }
-}
-
-/// The number that these digits write.
-fn digits_value(digits: &[u8]) -> u64
-    requires digits { list_all is_ascii_digit digits.now ≡ true }
-    requires count { length digits.now ≤ 18 }
-    ensures value { result ≡ digits_value 10 digits.now }
-    ensures bound { result < 10 ^ 18 }
-{
-    let mut value: u64 = 0;
-    for digit in digits {
-        value = value * 10 + u64::from(*digit - b'0');
-    }
-    value
-}
-
-/// Whether these bytes are a canonical integer of at most 18 digits.
-fn is_integer(text: &[u8]) -> bool
-    ensures { result ≡ (is_number text.now && not (list_any is_point text.now)) }
-{
-    is_number(text) && !text.contains(&b'.')
-}
-
-/// A canonical integer of at most 18 digits.
-fn integer_of(text: &[u8]) -> Option<i64>
-    ensures { result ≡ integer_of text.now }
-{
-    if !is_integer(text) {
-        return None;
-    }
-    match text {
-        [] => None,
-        [first, digits @ ..] => {
-            if *first == b'-' {
-                Some(-(digits_value(digits) as i64))
-            } else {
-                Some(digits_value(text) as i64)
-            }
-        }
     }
 }
 

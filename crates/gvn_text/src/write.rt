@@ -2,23 +2,13 @@
 ghost use Rattle.std.specs.Prelude.{◌≡◌, ◌++◌, ◌∷◌, ◌-◌, [], length, take, OnOk, OnErr};
 ghost use Rattle.global_defs.specs.Jobs as jobs;
 ghost use Rattle.gvn_key.specs.Terms.{statement_value};
-ghost use Rattle.global_defs.specs.Numeral.{integer_text};
 ghost use Rattle.global_defs.specs.Zwr.{zwr};
 ghost use Rattle.global_defs.specs.Key.{sub_of};
 ghost use Rattle.global_defs.specs.NodeText.{node_text, sub_text};
 ghost use Rattle.script_defs.specs.Statements.{text_above, statement_text};
 
 use gvn_key::terms::Statement;
-use gvn_key::{Bytes, Key, NoMemory, is_number, zwr_write};
-
-fn push_integer(number: i64, out: &mut Bytes) -> Result<(), NoMemory>
-    ensures { OnOk result (out.new ≡ out.old ++ integer_text number) }
-{
-    if number < 0 {
-        out.push(b'-')?;
-    }
-    out.push_decimal(number.unsigned_abs())
-}
+use gvn_key::{Bytes, Key, NoMemory, is_number, write_integer, zwr_write};
 
 fn push_setting(word: &[u8], key: &Key, value: &Bytes, out: &mut Bytes) -> Result<(), NoMemory>
     ensures { OnOk result (out.new ≡ out.old ++ (word.now ++ (node_text key.now ++ 61 ∷ zwr value.now))) }
@@ -87,7 +77,7 @@ fn push_statement(s: &Statement, out: &mut Bytes) -> Result<(), NoMemory>
         Statement::Incr(key, number) => {
             push_node(b"INCR ", key, out)?;
             out.push_all(b" ")?;
-            push_integer(*number, out)
+            write_integer(*number, out)
         }
         Statement::Get(key) => push_node(b"GET ", key, out),
         Statement::Defined(key) => push_node(b"DATA ", key, out),
@@ -96,7 +86,7 @@ fn push_statement(s: &Statement, out: &mut Bytes) -> Result<(), NoMemory>
         Statement::CheckAtLeast(key, number) => {
             push_node(b"CHECK ", key, out)?;
             out.push_all(b">=")?;
-            push_integer(*number, out)
+            write_integer(*number, out)
         }
     }
 }

@@ -1,11 +1,11 @@
-use Rattle.std.proofs.Common.{◌≡◌, ℕ, List, [], ◌∷◌, ◌++◌, map, refl, sym, ap, ◌∙◌, append_assoc, append-nil}
+use Rattle.std.proofs.Common.{◌≡◌, ℕ, List, [], ◌∷◌, ◌++◌, sym, ap, ◌∙◌, append_assoc, append-nil}
 use Rattle.std.specs.List.{flat_map}
 use Rattle.std.proofs.lemmas.List.{map-append}
 use Rattle.std.proofs.lemmas.Grind.{flat_map-append}
 use Rattle.global_defs.specs.Key.{Key, Sub, sub_of}
 use Rattle.global_defs.specs.Encoded.{encoded, encoded_sub}
 use Rattle.global_defs.specs.Valid.{is_key}
-use Rattle.gvn_key.specs.Faults.{IsMade, key_of, child_of}
+use Rattle.gvn_key.specs.Faults.{key_of, child_of}
 use Rattle.gvn_key.proofs.key.Key.child.Goals as goal
 
 made_child : (name : List ℕ) (subs : List (List ℕ)) (sub : List ℕ) (k : Key) → key_of name subs ≡ k → key_of name (subs ++ sub ∷ []) ≡ child_of k (sub_of sub)

@@ -1,34 +1,13 @@
 -- Integers of at most 18 digits.
-use Rattle.std.proofs.Common.{◌≡◌, ℕ, ◌+◌, ◌-◌, ◌^◌, ◌<◌, ◌≤◌, ◌≢◌, true, false, not, cond, List, [], ◌∷◌, length, take, drop, get_or, fold, refl, ap, sym, ◌∙◌, arith, ◌==◌, ◌&&◌, count_by, inl, inr, Some, pos, ◌-ℤ◌, subst}
+use Rattle.std.proofs.Common.{◌≡◌, ℕ, ◌+◌, ◌-◌, ◌≤◌, ◌≢◌, true, false, not, cond, List, [], ◌∷◌, length, take, drop, get_or, fold, refl, ap, sym, ◌∙◌, arith, ◌==◌, ◌&&◌, count_by, inl, inr, Some, pos, ◌-ℤ◌, subst}
 use Rattle.std.specs.List.{list_all, list_any}
 use Rattle.std.specs.Char.{is_ascii_digit}
 use Rattle.std.specs.Str.Parse.{digits_value}
-use Rattle.std.proofs.Math.ListN.{length-take}
 use Rattle.std.proofs.lemmas.Bool.{and_parts, cases_Bool, not-true, eq-eqb, ne_eqb}
-use Rattle.std.proofs.lemmas.List.{take-append-drop}
-use Rattle.std.proofs.lemmas.List.Folds.{list_all-append}
-use Rattle.std.proofs.lemmas.Int.Digits.{digits_value-lt}
 use Rattle.global_defs.specs.Numeral.{integer_of, is_point, is_number, is_whole, is_positive, is_positive_at}
-use Rattle.global_defs.proofs.Digits.{are_digits}
-use Rattle.global_defs.proofs.NumberText.{power_le}
 use Rattle.global_defs.proofs.Numerals.{IsSigned, nought, minus, plus, numeral_signed}
 use Rattle.gvn_key.proofs.Numbers.{rest_is}
 use Rattle.global_defs.proofs.Places.{none_pass, position_nowhere}
-
-value_small : (ds : List ℕ) (n : ℕ) → list_all is_ascii_digit ds ≡ true → length ds ≤ n → digits_value 10 ds < 10 ^ n
-value_small ds n all few = omega (arith, digits_value-lt 10 ds (are_digits ds all), power_le (length ds) n few)
-
-first_digits : (ds : List ℕ) (i : ℕ) → list_all is_ascii_digit ds ≡ true → list_all is_ascii_digit (take i ds) ≡ true
-first_digits ds i all =
-    (and_parts (list_all is_ascii_digit (take i ds)) (list_all is_ascii_digit (drop i ds))
-    (sym (list_all-append is_ascii_digit (take i ds) (drop i ds)) ∙ ap (list_all is_ascii_digit) (take-append-drop i ds) ∙ all)).0
-
--- the digits before one of at most 18, and all of them
-pub value_before : (ds : List ℕ) (i : ℕ) → i < length ds → list_all is_ascii_digit ds ≡ true → length ds ≤ 18 → digits_value 10 (take i ds) < 10 ^ 17
-value_before ds i at all few = value_small (take i ds) 17 (first_digits ds i all) (omega (arith, length-take i ds))
-
-pub value_upto : (ds : List ℕ) (i : ℕ) → list_all is_ascii_digit ds ≡ true → length ds ≤ 18 → digits_value 10 (take i ds) < 10 ^ 18
-value_upto ds i all few = value_small (take i ds) 18 (first_digits ds i all) (omega (arith, length-take i ds))
 
 -- a numeral without a point is digits, perhaps behind a minus
 
