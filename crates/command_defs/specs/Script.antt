@@ -126,6 +126,6 @@ pub record IsScript (lines : List (List ℕ)) : Type 0 where
 pub data IsBadAt : (lines : List (List ℕ)) (n at : ℕ) → Type 0 where
   -- the lines before it are in the grammar, and no script has it there
   in_line : {lines : List (List ℕ)} (n : ℕ) {line : List ℕ} {at : ℕ} (before : Lines) → n + 1 ≤ MOST_LINES → slice_get lines n ≡ Some line
-    → lines_reading (take n lines) ≡ Some before → line_reading before.position line ≡ Wrong at → IsBadAt lines (n + 1) at
+      → lines_reading (take n lines) ≡ Some before → line_reading before.position line ≡ Wrong at → IsBadAt lines (n + 1) at
   -- all lines are in the grammar, and the last section lacks its END
   behind_all : {lines : List (List ℕ)} (all : Lines) (s : Section) → length lines ≤ MOST_LINES → lines_reading lines ≡ Some all → all.position ≡ Within s → IsBadAt lines (length lines + 1) 1

@@ -98,7 +98,7 @@ pub record IsSound (s : Section) : Type 0 where
   pub ordered : list_all is_updater s.order ≡ true
   -- an updater stands as often in the order as it has jobs
   pub counted : (i : ℕ) → i < UPDATERS → count_in s.order (i + 1) ≡ length (get_or s.jobs i [])
-  pub sized : list_all (λ own. list_all is_of_size own) s.jobs ≡ true
+  pub sized : (i : ℕ) → i < UPDATERS → list_all is_of_size (get_or s.jobs i []) ≡ true
   -- who has an open transaction has a job
   pub begins : (i : ℕ) → i < UPDATERS → get_or s.opened i false ≡ true → 0 < length (get_or s.jobs i [])
 

@@ -4,6 +4,11 @@ use Rattle.std.specs.declared.result.Result.{Result}
 use Rattle.std.specs.declared.result.Result.TheVariants.{Ok, Err}
 use Rattle.command_defs.specs.Sections.{Section}
 use Rattle.command_defs.specs.Script.{Position, Outside, Within, Reading, Skips, Wrong, Goes, Ends, line_reading}
+use Rattle.repl_script.specs.Commands.{command_value}
+use Rattle.repl_script.specs.Reads.{fault_value}
+use Rattle.repl_script.specs.Entries.{TellsWrong}
+use Rattle.repl_script.specs.declared.command.Command.{Command}
+use Rattle.repl_script.specs.declared.fault.Fault.{Fault}
 use Rattle.repl_script.specs.declared.error.ScriptError.{ScriptError}
 use Rattle.repl_script.specs.declared.error.ScriptError.TheVariants.{BadLine, ScriptTooLong, NoMemory}
 
@@ -22,6 +27,12 @@ Moves old new Skips = new ≡ old
 Moves old new (Wrong at) = ⊥
 Moves old new (Goes position) = new ≡ position
 Moves old new (Ends command) = ⊥
+
+-- what one line, not counted, does
+abbrev pub Feeds : Position → Position → Reading → Result (Option Command) Fault → Type 0
+Feeds old new reading (Ok None) = Moves old new reading
+Feeds old new reading (Ok (Some command)) = (reading ≡ Ends (command_value command)) × (new ≡ Outside)
+Feeds old new reading (Err fault) = TellsWrong (fault_value fault) reading
 
 -- an error names the next line, and the column at which it is bad
 abbrev pub TellsBad : ScriptError → Progress → List ℕ → Type 0

@@ -1,2 +1,4 @@
 pub mod Commands
+pub mod Reads
+pub mod Entries
 pub mod Feeds

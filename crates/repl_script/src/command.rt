@@ -7,9 +7,14 @@ use gvn_model::{Jobs, NamedModes};
 #[derive(Debug, Drop)]
 pub enum Command {
     /// Makes a site with these regions. Each is journaled with images of its blocks before they change, or not.
-    Create { site: Bytes, regions: NamedModes },
+    Create {
+        site: Bytes,
+        regions: NamedModes,
+    },
     /// Opens a site as a primary and begins a reign.
-    StartPrimary { site: Bytes },
+    StartPrimary {
+        site: Bytes,
+    },
     /// Decides jobs at a primary: those of 64 updaters, and the updaters in the order of their jobs' first lines, one byte a
     /// job.
     Run {
@@ -18,13 +23,27 @@ pub enum Command {
         order: Bytes,
     },
     /// Closes a site.
-    Stop { site: Bytes },
+    Stop {
+        site: Bytes,
+    },
     /// Lets so many more calls of the site's disk succeed, at most 1,000,000; each later one fails until a crash.
-    Fuse { site: Bytes, calls: u64 },
+    Fuse {
+        site: Bytes,
+        calls: u64,
+    },
     /// Crashes the site's disk, which takes the image of that pick, at most 2 ^ 32 - 1.
-    Crash { site: Bytes, pick: u64 },
+    Crash {
+        site: Bytes,
+        pick: u64,
+    },
     /// Shows the entries from that number on, from 1 to 2 ^ 40, or all.
-    Extract { site: Bytes, number: Option<u64> },
+    Extract {
+        site: Bytes,
+        number: Option<u64>,
+    },
     /// Shows that node and its descendants, or all nodes (GT.M: ZWRITE).
-    Zwrite { site: Bytes, top: Option<Key> },
+    Zwrite {
+        site: Bytes,
+        top: Option<Key>,
+    },
 }

@@ -3,8 +3,14 @@
 
 mod command;
 mod error;
+mod fault;
+mod forms;
+mod orders;
+mod parts;
 mod script;
 mod section;
+#[cfg(test)]
+mod tests;
 
 pub use command::Command;
 pub use error::ScriptError;

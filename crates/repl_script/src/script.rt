@@ -1,18 +1,25 @@
 //! Scripts line by line.
-ghost use Rattle.std.specs.Prelude.{◌≡◌, ◌+◌, ◌≤◌, ◌↔◌, IfOk, IfErr, OnOk, OnErr, IfSome, IfNone};
+ghost use Rattle.std.specs.Prelude.{◌≡◌, ◌+◌, ◌≤◌, ◌<◌, ◌↔◌, length, IfOk, IfErr, OnOk, OnErr, IfSome, IfNone};
 ghost use Rattle.command_defs.specs.Sections.{IsFormed, IsWhole};
-ghost use Rattle.command_defs.specs.Script.{Outside, Ends, line_reading, MOST_LINES};
+ghost use Rattle.command_defs.specs.Script.{Outside, Within, Ends, outside_reading, section_reading, reading_at, line_reading, MOST_LINES};
 ghost use Rattle.repl_script.specs.Commands.{command_value};
-ghost use Rattle.repl_script.specs.Feeds.{Moves, TellsBad, EndsAs};
+ghost use Rattle.repl_script.specs.Feeds.{Moves, TellsBad, EndsAs, Feeds};
 
 use super::command::Command;
 use super::error::ScriptError;
+use super::fault::Fault;
+use super::orders::{read_command, read_run};
+use super::parts::{cut_part, trimmed, without_spaces};
 use super::section::Section;
+use gvn_key::Bytes;
 use std::alloc::Global;
 use std::marker::Model;
 
 /// How many lines a script may have.
 const MOST_LINES: u32 = 100_000;
+
+/// How many bytes a line may have.
+const LONGEST_LINE: usize = 4096;
 
 /// Takes the lines of a script one after another and gives its commands. It's seen as where the next line stands, between
 /// commands or in a section, and how many lines it took.
@@ -67,11 +74,100 @@ impl Script {
         // A section's order uses up the jobs of each updater.
         ensures whole { IfOk result (λ found. IfSome found (λ command. IsWhole (command_value command))) }
     {
-        let _ = line;
         if MOST_LINES <= self.lines {
             return Err(ScriptError::ScriptTooLong);
         }
-        Err(ScriptError::NoMemory)
+        match self.take(line) {
+            Ok(found) => {
+                self.lines += 1;
+                Ok(found)
+            }
+            Err(Fault::Bad { column }) => Err(ScriptError::BadLine {
+                line: self.lines + 1,
+                column,
+            }),
+            Err(Fault::NoMemory) => Err(ScriptError::NoMemory),
+        }
+    }
+
+    /// Takes a line, and doesn't count it.
+    fn take(&mut self, line: &[u8]) -> Result<Option<Command>, Fault>
+        ensures fed { Feeds self.old.position self.new.position (line_reading self.old.position line.now) result }
+        ensures lines { self.new.lines ≡ self.old.lines }
+        ensures kept { OnErr result (self.new ≡ self.old) }
+        ensures formed { IfOk result (λ found. IfSome found (λ command. IsFormed (command_value command) × IsWhole (command_value command))) }
+    {
+        if LONGEST_LINE < line.len() {
+            return Err(Fault::Bad {
+                column: LONGEST_LINE as u32 + 1,
+            });
+        }
+        let text = trimmed(line);
+        let len = text.len() as u16;
+        match without_spaces(text) {
+            [] | [b';', ..] => Ok(None),
+            left => self.take_text(len, left),
+        }
+    }
+
+    /// Takes what isn't ignored of a line.
+    fn take_text(&mut self, len: u16, left: &[u8]) -> Result<Option<Command>, Fault>
+        ensures fed { Feeds self.old.position self.new.position (reading_at self.old.position len left.now) result }
+        ensures lines { self.new.lines ≡ self.old.lines }
+        ensures kept { OnErr result (self.new ≡ self.old) }
+        ensures formed { IfOk result (λ found. IfSome found (λ command. IsFormed (command_value command) × IsWhole (command_value command))) }
+    {
+        match self.section.take() {
+            None => self.outside(len, left),
+            Some(section) => self.inside(section, len, left),
+        }
+    }
+
+    /// A line between commands.
+    fn outside(&mut self, len: u16, left: &[u8]) -> Result<Option<Command>, Fault>
+        requires { self.old.position ≡ Outside }
+        ensures fed { Feeds Outside self.new.position (outside_reading len left.now) result }
+        ensures lines { self.new.lines ≡ self.old.lines }
+        ensures kept { OnErr result (self.new ≡ self.old) }
+        ensures formed { IfOk result (λ found. IfSome found (λ command. IsFormed (command_value command) × IsWhole (command_value command))) }
+    {
+        let first = cut_part(left);
+        if first.part == b"RUN".as_slice() {
+            let site = Bytes::of(self.alloc, read_run(len, first.behind)?)?;
+            self.section = Some(Section::begin(self.alloc, site)?);
+            return Ok(None);
+        }
+        let command = read_command(self.alloc, first.part, len, left, first.behind)?;
+        Ok(Some(command))
+    }
+
+    /// A line of a section.
+    fn inside(
+        &mut self,
+        mut section: Section,
+        len: u16,
+        left: &[u8],
+    ) -> Result<Option<Command>, Fault>
+        requires { self.old.position ≡ Outside }
+        ensures fed { Feeds (Within section) self.new.position (section_reading section len left.now) result }
+        ensures lines { self.new.lines ≡ self.old.lines }
+        ensures kept { OnErr result (self.new.position ≡ Within section) }
+        ensures formed { IfOk result (λ found. IfSome found (λ command. IsFormed (command_value command) × IsWhole (command_value command))) }
+    {
+        match section.feed(self.alloc, len, left) {
+            Ok(None) => {
+                self.section = Some(section);
+                Ok(None)
+            }
+            Ok(Some(order)) => {
+                let (site, jobs) = section.finish();
+                Ok(Some(Command::Run { site, jobs, order }))
+            }
+            Err(fault) => {
+                self.section = Some(section);
+                Err(fault)
+            }
+        }
     }
 
     /// Whether the lines may end here: a section that lacks its END makes the line after the last bad.

@@ -1,12 +1,52 @@
 // Sections that aren't ended.
-use gvn_key::Bytes;
-use gvn_model::Jobs;
+ghost use Rattle.std.specs.Prelude.{◌≡◌, ◌+◌, ◌-◌, ◌&&◌, ◌<◌, ◌≤◌, ◌∷◌, ◌++◌, [], true, false, length, map, take, drop, get_or, set, replicate, count_by, codes, IfOk, OnOk, OnErr};
+ghost use Rattle.std.specs.List.{list_any};
+ghost use Rattle.gvn_key.specs.Terms.{statement_value};
+ghost use Rattle.gvn_model.specs.Jobs.{job_value};
+ghost use Rattle.gvn_text.specs.Reads as texts;
+ghost use Rattle.script_defs.specs.Parts.{word_end, without_spaces};
+ghost use Rattle.command_defs.specs.Parts.{column, is_name};
+ghost use Rattle.command_defs.specs.Sections.{begun, is_open, jobs_of, last_job, is_update, is_update_word, is_full_job, is_full, is_of_size, is_updater, transaction_begun, transaction_ended, with_statement, IsSound};
+ghost use Rattle.command_defs.specs.Script.{section_reading, job_by, stated, end_reading};
+ghost use Rattle.repl_script.specs.Entries.{ReadsEntry, IsAllowed, FeedsSection, located};
+ghost use Rattle.repl_script.specs.Reads.{fault_value};
+
+use super::fault::{Fault, bad, column};
+use super::parts::{cut_part, ended, number};
+use gvn_key::terms::Statement;
+use gvn_key::{Bytes, NoMemory};
+use gvn_model::{Job, JobQueue, Jobs, Statements};
+use gvn_text::{TextError, read_located};
+use std::alloc::Global;
 use std::marker::Model;
+
+/// How many updaters there are.
+const UPDATERS: u64 = 64;
+
+/// How many statements a transaction may have.
+const MOST_STATEMENTS: usize = 1024;
+
+/// How many of them may be updates.
+const MOST_UPDATES: usize = 256;
+
+/// What a good line of a section is.
+#[derive(Drop)]
+pub enum Entry {
+    /// This updater's TSTART.
+    Begin(u8),
+    /// This updater's TCOMMIT.
+    Commit(u8),
+    /// A statement of this updater.
+    Statement(u8, Statement),
+    /// END.
+    End,
+}
 
 /// The jobs of 64 updaters so far, and who has an open transaction.
 #[derive(Drop)]
 pub struct Section {
     site: Bytes,
+    /// The last job of an updater whose transaction is open isn't whole.
     jobs: Jobs,
     /// The updaters in the order of their jobs' first lines.
     order: Vec<u8>,
@@ -21,4 +61,251 @@ impl Model for Section {
     ghost view = { λ s. record { name = s.site; jobs = s.jobs; order = s.order.items; opened = s.opened } };
 
     ghost invariant = { λ s. defs.IsSound (record { name = s.site; jobs = s.jobs; order = s.order.items; opened = s.opened }) };
+}
+
+/// No jobs of 64 updaters.
+fn no_jobs(alloc: Global) -> Result<Jobs, NoMemory>
+    ensures { IfOk result (λ jobs. jobs ≡ replicate 64 []) }
+{
+    let mut jobs = Jobs::new(alloc);
+    for _place in 0..UPDATERS {
+        jobs.push(JobQueue::new(alloc))?;
+    }
+    Ok(jobs)
+}
+
+/// No updater has an open transaction.
+fn nobody() -> [bool; 64]
+    ensures { result ≡ replicate 64 false }
+{
+    [false; 64]
+}
+
+/// Adds a job behind the others of an updater, and the updater to the order.
+fn add_job(jobs: &mut Jobs, order: &mut Vec<u8>, updater: u8, job: Job) -> Result<(), NoMemory>
+    requires { (0 < updater) × (updater ≤ length jobs.old) }
+    ensures jobs { OnOk result (jobs.new ≡ set jobs.old (updater - 1) (get_or jobs.old (updater - 1) [] ++ job_value job ∷ [])) }
+    ensures order { OnOk result (order.new.items ≡ order.old.items ++ updater ∷ []) }
+    ensures jobs_kept { OnErr result (jobs.new ≡ jobs.old) }
+    ensures order_kept { OnErr result (order.new.items ≡ order.old.items) }
+{
+    order.push(updater)?;
+    if jobs.add(updater, job).is_err() {
+        let _ = order.pop();
+        return Err(NoMemory);
+    }
+    Ok(())
+}
+
+/// A job of one statement.
+fn job_of(alloc: Global, statement: Statement) -> Result<Job, NoMemory>
+    ensures { IfOk result (λ job. job_value job ≡ statement_value statement ∷ []) }
+{
+    let mut statements = Statements::new(alloc);
+    statements.push(statement)?;
+    Ok(Job { statements })
+}
+
+fn is_update(statement: &Statement) -> bool
+    ensures { result ≡ is_update (statement_value statement.now) }
+{
+    matches!(
+        statement,
+        Statement::Set(..) | Statement::Kill(_) | Statement::ZKill(_) | Statement::Incr(..)
+    )
+}
+
+/// How many of these statements are updates.
+fn count_updates(statements: &[Statement]) -> usize
+    ensures { result ≡ count_by is_update (map statement_value statements.now) }
+{
+    statements.iter().filter(|s| is_update(s)).count()
+}
+
+fn is_update_word(word: &[u8]) -> bool
+    ensures { result ≡ is_update_word word.now }
+{
+    word == b"SET".as_slice()
+        || word == b"KILL".as_slice()
+        || word == b"ZKILL".as_slice()
+        || word == b"INCR".as_slice()
+}
+
+/// Whether a transaction takes no statement of that word.
+fn is_full_job(job: &Statements, word: &[u8]) -> bool
+    ensures { result ≡ is_full_job job.now word.now }
+{
+    MOST_STATEMENTS <= job.len()
+        || (is_update_word(word) && MOST_UPDATES <= count_updates(job.as_slice()))
+}
+
+/// A statement's fault, by the place of its part in the line.
+fn located(len: u16, left: &[u8], fault: gvn_text::Fault) -> Fault
+    ensures { fault_value result ≡ located (column len left.now) (texts.fault_value fault) }
+{
+    match fault.error {
+        TextError::NoMemory => Fault::NoMemory,
+        TextError::BadQuote { .. } | TextError::BadChar { .. } | TextError::ValueTooLong { .. } => {
+            Fault::Bad {
+                column: column(len, left).saturating_add(fault.part),
+            }
+        }
+    }
+}
+
+impl Section {
+    /// A section of a site without lines.
+    pub fn begin(alloc: Global, site: Bytes) -> Result<Self, NoMemory>
+        requires { is_name site ≡ true }
+        ensures { IfOk result (λ s. s ≡ begun site) }
+    {
+        Ok(Section {
+            site,
+            jobs: no_jobs(alloc)?,
+            order: Vec::new(alloc),
+            opened: nobody(),
+        })
+    }
+
+    /// Whether an updater has an open transaction.
+    fn is_open(&self, updater: u8) -> bool
+        requires { is_updater updater ≡ true }
+        ensures { result ≡ is_open self.now updater }
+    {
+        self.opened[usize::from(updater - 1)]
+    }
+
+    /// Whether an updater has an open transaction that takes no statement of that word.
+    fn is_full(&self, updater: u8, word: &[u8]) -> bool
+        requires { is_updater updater ≡ true }
+        ensures full { result ≡ is_full self.now updater word.now }
+        ensures sized { is_open self.now updater ≡ true → is_of_size (last_job (jobs_of self.now updater)) ≡ true }
+    {
+        if !self.is_open(updater) {
+            return false;
+        }
+        let jobs = self.jobs.item(usize::from(updater - 1));
+        let last = jobs.item(jobs.len() - 1);
+        is_full_job(&last.statements, word)
+    }
+
+    /// What a line of the section is. `left` is the line without spaces at its front.
+    fn read(&self, alloc: Global, len: u16, left: &[u8]) -> Result<Entry, Fault>
+        ensures reading { ReadsEntry self.now (section_reading self.now len left.now) result }
+        ensures allowed { IfOk result (IsAllowed self.now) }
+    {
+        let first = cut_part(left);
+        if first.part == b"END".as_slice() {
+            return self.read_end(len, first.behind);
+        }
+        let (updater, behind) = number(1, UPDATERS, len, left)?;
+        self.read_job(alloc, updater as u8, len, behind)
+    }
+
+    fn read_end(&self, len: u16, behind: &[u8]) -> Result<Entry, Fault>
+        ensures { ReadsEntry self.now (end_reading self.now len behind.now) result }
+    {
+        if self.opened.contains(&true) {
+            return Err(Fault::Bad { column: 1 });
+        }
+        ended(len, behind)?;
+        Ok(Entry::End)
+    }
+
+    /// What stands behind an updater's number.
+    fn read_job(&self, alloc: Global, updater: u8, len: u16, left: &[u8]) -> Result<Entry, Fault>
+        requires { is_updater updater ≡ true }
+        ensures reading { ReadsEntry self.now (job_by self.now updater (take (word_end left.now) left.now) len left.now (without_spaces (drop (word_end left.now) left.now))) result }
+        ensures allowed { IfOk result (IsAllowed self.now) }
+    {
+        let cut = cut_part(left);
+        if cut.part == b"TSTART".as_slice() {
+            if self.is_open(updater) {
+                return Err(bad(len, left));
+            }
+            ended(len, cut.behind)?;
+            return Ok(Entry::Begin(updater));
+        }
+        if cut.part == b"TCOMMIT".as_slice() {
+            if !self.is_open(updater) {
+                return Err(bad(len, left));
+            }
+            ended(len, cut.behind)?;
+            return Ok(Entry::Commit(updater));
+        }
+        if self.is_full(updater, cut.part) {
+            return Err(bad(len, left));
+        }
+        match read_located(alloc, left) {
+            Ok(statement) => Ok(Entry::Statement(updater, statement)),
+            Err(fault) => Err(located(len, left, fault)),
+        }
+    }
+
+    fn begin_transaction(&mut self, alloc: Global, updater: u8) -> Result<(), NoMemory>
+        requires { is_updater updater ≡ true }
+        ensures ok { OnOk result (self.new ≡ transaction_begun self.old updater) }
+        ensures err { OnErr result (self.new ≡ self.old) }
+    {
+        let job = Job {
+            statements: Statements::new(alloc),
+        };
+        add_job(&mut self.jobs, &mut self.order, updater, job)?;
+        self.opened[usize::from(updater - 1)] = true;
+        Ok(())
+    }
+
+    fn end_transaction(&mut self, updater: u8)
+        requires { is_updater updater ≡ true }
+        ensures { self.new ≡ transaction_ended self.old updater }
+    {
+        self.opened[usize::from(updater - 1)] = false;
+    }
+
+    fn add_statement(
+        &mut self,
+        alloc: Global,
+        updater: u8,
+        statement: Statement,
+    ) -> Result<(), NoMemory>
+        requires allowed { IsAllowed self.old (Entry.Statement updater statement) }
+        ensures ok { OnOk result (self.new ≡ with_statement self.old updater (statement_value statement)) }
+        ensures err { OnErr result (self.new ≡ self.old) }
+    {
+        if self.is_open(updater) {
+            return self.jobs.add_statement(updater, statement);
+        }
+        let job = job_of(alloc, statement)?;
+        add_job(&mut self.jobs, &mut self.order, updater, job)
+    }
+
+    /// Takes a line of the section, and gives the section's order where the line ends it.
+    pub fn feed(&mut self, alloc: Global, len: u16, left: &[u8]) -> Result<Option<Bytes>, Fault>
+        ensures { FeedsSection (λ order. order) self.old self.new (section_reading self.old len left.now) result }
+    {
+        match self.read(alloc, len, left)? {
+            Entry::Begin(updater) => self.begin_transaction(alloc, updater)?,
+            Entry::Commit(updater) => self.end_transaction(updater),
+            Entry::Statement(updater, statement) => {
+                self.add_statement(alloc, updater, statement)?;
+            }
+            Entry::End => return Ok(Some(Bytes::of(alloc, &self.order)?)),
+        }
+        Ok(None)
+    }
+
+    /// The site and the jobs.
+    pub fn finish(self) -> (Bytes, Jobs)
+        ensures site { result.0 ≡ self.name }
+        ensures jobs { result.1 ≡ self.jobs }
+        ensures sound { IsSound self }
+    {
+        let Section {
+            site,
+            jobs,
+            order: _,
+            opened: _,
+        } = self;
+        (site, jobs)
+    }
 }

@@ -1,0 +1,108 @@
+-- What becomes of a section whose parts were changed.
+use Rattle.std.proofs.Common.{◌≡◌, ℕ, zero, suc, ◌+◌, ◌-◌, ◌<◌, ◌≤◌, ◌&&◌, ◌||◌, Bool, true, false, List, [], ◌∷◌, ◌++◌, length, get_or, set, take, refl, sym, ap, ◌∙◌, subst, arith, map, replicate}
+use Rattle.std.specs.Prelude.{Option, Some, None, OnOk, OnErr, nat_le, count_by, if◌then◌else◌}
+use Rattle.std.specs.declared.result.Result.{Result}
+use Rattle.std.specs.declared.result.Result.TheVariants.{Ok, Err}
+use Rattle.std.specs.List.{list_all}
+use Rattle.std.proofs.lemmas.List.Sums.{sum_by-cons}
+use Rattle.std.proofs.lemmas.Bool.Decides.{nat_tests}
+use Rattle.global_defs.specs.Jobs.{Statement, Job}
+use Rattle.script_defs.specs.Parts.{word_end}
+use Rattle.script_defs.specs.Parts as texts
+use Rattle.script_defs.specs.Statements.{statement_reading}
+use Rattle.gvn_text.specs.Reads as tells
+use Rattle.command_defs.specs.Commands.{Name, Run}
+use Rattle.command_defs.specs.Parts.{is_name}
+use Rattle.command_defs.specs.Sections.{UPDATERS, Section, is_open, is_full, is_full_job, jobs_of, last_job, longer, is_updater, is_update, is_update_word, is_of_size, IsSound, IsFormed, IsWhole}
+use Rattle.command_defs.specs.Script.{stated}
+use Rattle.command_defs.proofs.Sounds.{updater_range, sound_begun, sound_with_job, sound_transaction_begun, sound_transaction_ended, sound_longer, uses_up, formed_run}
+use Rattle.command_defs.proofs.UpdateWords.{update_word, not_full}
+use Rattle.repl_script.specs.Entries.{TellsWrong, located}
+
+-- a section of the same parts
+sound_parts : (name : Name) (jobs jobs' : List (List Job)) (order order' : List ℕ) (opened opened' : List Bool) → jobs ≡ jobs' → order ≡ order' → opened ≡ opened'
+    → IsSound (record { name = name; jobs = jobs'; order = order'; opened = opened' }) → IsSound (record { name = name; jobs = jobs; order = order; opened = opened })
+sound_parts name jobs jobs' order order' opened opened' a b c h =
+    subst (λ x. IsSound (record { name = name; jobs = x; order = order; opened = opened })) (sym a)
+    (subst (λ x. IsSound (record { name = name; jobs = jobs'; order = x; opened = opened })) (sym b)
+    (subst (λ x. IsSound (record { name = name; jobs = jobs'; order = order'; opened = x })) (sym c) h))
+
+-- a section was begun
+pub made_parts : (name : Name) (jobs : List (List Job)) (order : List ℕ) (opened : List Bool) → is_name name ≡ true → jobs ≡ replicate 64 [] → order ≡ [] → opened ≡ replicate 64 false
+    → IsSound (record { name = name; jobs = jobs; order = order; opened = opened })
+made_parts name jobs order opened h a b c = sound_parts name jobs (replicate 64 []) order [] opened (replicate 64 false) a b c (sound_begun name h)
+
+-- a transaction was begun
+pub begun_parts : (s : Section) (u : ℕ) (jobs : List (List Job)) (order : List ℕ) (k : ℕ) (job : Job) → IsSound s → is_updater u ≡ true
+    → jobs ≡ set s.jobs (u - 1) (jobs_of s u ++ job ∷ []) → job ≡ [] → order ≡ s.order ++ u ∷ [] → k ≡ u - 1
+    → IsSound (record { name = s.name; jobs = jobs; order = order; opened = set s.opened k true })
+begun_parts s u jobs order k job h is a empty b at =
+    sound_parts s.name jobs (set s.jobs (u - 1) (jobs_of s u ++ [] ∷ [])) order (s.order ++ u ∷ []) (set s.opened k true) (set s.opened (u - 1) true)
+    (a ∙ ap (λ (j : Job). set s.jobs (u - 1) (jobs_of s u ++ j ∷ [])) empty) b (ap (λ (i : ℕ). set s.opened i true) at) (sound_transaction_begun s u h is)
+
+-- a transaction was ended
+pub ended_parts : (s : Section) (u k : ℕ) → IsSound s → is_updater u ≡ true → k ≡ u - 1 → IsSound (record s { opened = set s.opened k false })
+ended_parts s u k h is at = sound_parts s.name s.jobs s.jobs s.order s.order (set s.opened k false) (set s.opened (u - 1) false) refl refl (ap (λ (i : ℕ). set s.opened i false) at) (sound_transaction_ended s u h is)
+
+-- a job was added, or memory ran out
+pub after_job : {X E : Type 0} (s : Section) (u : ℕ) (job : Job) (r : Result X E) (jobs : List (List Job)) (order : List ℕ) → IsSound s → is_updater u ≡ true → is_of_size job ≡ true
+    → OnOk r (jobs ≡ set s.jobs (u - 1) (jobs_of s u ++ job ∷ [])) → OnOk r (order ≡ s.order ++ u ∷ []) → OnErr r (jobs ≡ s.jobs) → OnErr r (order ≡ s.order)
+    → IsSound (record { name = s.name; jobs = jobs; order = order; opened = s.opened })
+after_job s u job (Ok x) jobs order h is small a b c d = sound_parts s.name jobs (set s.jobs (u - 1) (jobs_of s u ++ job ∷ [])) order (s.order ++ u ∷ []) s.opened s.opened a b refl (sound_with_job s u job h is small)
+after_job s u job (Err e) jobs order h is small a b c d = sound_parts s.name jobs s.jobs order s.order s.opened s.opened c d refl h
+
+-- a statement was added, or memory ran out
+pub after_statement : {X E : Type 0} (s : Section) (u : ℕ) (statement : Statement) (r : Result X E) (jobs : List (List Job)) → IsSound s → is_updater u ≡ true
+    → is_of_size (last_job (jobs_of s u) ++ statement ∷ []) ≡ true → OnOk r (jobs ≡ set s.jobs (u - 1) (longer (jobs_of s u) statement)) → OnErr r (jobs ≡ s.jobs)
+    → IsSound (record { name = s.name; jobs = jobs; order = s.order; opened = s.opened })
+after_statement s u statement (Ok x) jobs h is small a b = sound_parts s.name jobs (set s.jobs (u - 1) (longer (jobs_of s u) statement)) s.order s.order s.opened s.opened a refl refl (sound_longer s u statement h is small)
+after_statement s u statement (Err e) jobs h is small a b = sound_parts s.name jobs s.jobs s.order s.order s.opened s.opened b refl refl h
+
+few : (b : Bool) → (nat_le 1 1024 && nat_le (0 + (if b then 1 else 0)) 256) ≡ true
+few true = refl
+few false = refl
+
+-- a job of one statement
+pub one_small : (statement : Statement) → is_of_size (statement ∷ []) ≡ true
+one_small statement = few (is_update statement)
+
+all_at : {X : Type 0} (p : X → Bool) (xs : List X) (i : ℕ) (d : X) → i < length xs → list_all p xs ≡ true → p (get_or xs i d) ≡ true
+all_at p [] i d lt all = absurd (omega arith)
+all_at p (x ∷ xs) zero d lt all = grind (arith, nat_tests)
+all_at p (x ∷ xs) (suc i) d lt all = let rest : list_all p xs ≡ true = grind (arith, nat_tests) in all_at p xs i d (omega arith) rest
+
+-- an open transaction is within its limits
+pub open_sized : (s : Section) (u : ℕ) → IsSound s → is_updater u ≡ true → is_open s u ≡ true → is_of_size (last_job (jobs_of s u)) ≡ true
+open_sized s u h is opens =
+    let range = updater_range u is in
+    let own = jobs_of s u in
+    let some : 0 < length own = h.begins (u - 1) (omega arith) opens in
+    all_at is_of_size own (length own - 1) [] (omega arith) (h.sized (u - 1) (omega arith))
+
+both : (a b : Bool) → (a && b) ≡ false → a ≡ true → b ≡ false
+both true b e t = e
+both false b e t = absurd (cc)
+
+-- it stays so with a statement that it takes
+pub still_sized : (s : Section) (u : ℕ) (word text : List ℕ) (statement : Statement) → (is_open s u ≡ true → is_of_size (last_job (jobs_of s u)) ≡ true) → is_full s u word ≡ false
+    → word ≡ take (word_end text) text → statement_reading text ≡ Ok statement → is_open s u ≡ true → is_of_size (last_job (jobs_of s u) ++ statement ∷ []) ≡ true
+still_sized s u word text statement sized free same read opens =
+    not_full (last_job (jobs_of s u)) word statement (sized opens) (both (is_open s u) (is_full_job (last_job (jobs_of s u)) word) free opens)
+    (update_word text statement read ∙ ap is_update_word (sym same))
+
+-- a section's command
+pub complete_run : (s : Section) (site : List ℕ) (jobs : List (List Job)) (order : List ℕ) → IsSound s → site ≡ s.name → jobs ≡ s.jobs → order ≡ s.order → IsFormed (Run site jobs order) × IsWhole (Run site jobs order)
+complete_run s site jobs order h a b c =
+    subst (λ x. IsFormed (Run x jobs order) × IsWhole (Run x jobs order)) (sym a)
+    (subst (λ x. IsFormed (Run s.name x order) × IsWhole (Run s.name x order)) (sym b)
+    (subst (λ x. IsFormed (Run s.name s.jobs x) × IsWhole (Run s.name s.jobs x)) (sym c) (formed_run s h, uses_up s h)))
+
+-- a statement's fault is told by its column
+pub located_told : (s : Section) (u at : ℕ) (o : Option texts.Fault) (reading : Result Statement texts.Fault) → tells.Tells o reading → TellsWrong (located at o) (stated s u at reading)
+located_told s u at None reading h = tt
+located_told s u at (Some fault) reading h = ap (stated s u at) h
+
+-- as many pass a test of their images
+pub count-map : {X Y : Type 0} (p : Y → Bool) (f : X → Y) (xs : List X) → count_by p (map f xs) ≡ count_by (λ x. p (f x)) xs
+count-map p f [] = refl
+count-map p f (x ∷ xs) = sum_by-cons (λ y. if p y then 1 else 0) (f x) (map f xs) ∙ (ap (λ (n : ℕ). (if p (f x) then 1 else 0) + n) (count-map p f xs) ∙ sym (sum_by-cons (λ y. if p (f y) then 1 else 0) x xs))

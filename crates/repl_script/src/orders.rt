@@ -1,0 +1,169 @@
+// Lines between commands.
+ghost use Rattle.std.specs.Prelude.{◌≡◌, ◌∷◌, [], true, IfOk, map};
+ghost use Rattle.command_defs.specs.Commands.{with_images};
+ghost use Rattle.command_defs.specs.Parts.{is_name};
+ghost use Rattle.command_defs.specs.Sections.{IsFormed, IsWhole};
+ghost use Rattle.command_defs.specs.Forms.{create_reading, start_reading, stop_reading, fuse_reading, crash_reading, extract_reading, zwrite_reading, command_by, run_reading};
+ghost use Rattle.repl_script.specs.Commands.{command_value, region_value};
+ghost use Rattle.repl_script.specs.Reads.{Reads};
+
+use super::command::Command;
+use super::fault::{Fault, bad};
+use super::parts::{ended, name, node, number, word};
+use gvn_key::{Bytes, NoMemory};
+use gvn_model::NamedModes;
+use std::alloc::Global;
+
+/// The greatest number of calls that FUSE takes.
+const MOST_CALLS: u64 = 1_000_000;
+
+/// The greatest pick that CRASH takes.
+const MOST_PICK: u64 = 4_294_967_295;
+
+/// The greatest number that EXTRACT takes.
+const MOST_NUMBER: u64 = 1_099_511_627_776;
+
+/// One region, whose journal has before-images.
+fn one_region(alloc: Global, region: &[u8]) -> Result<NamedModes, NoMemory>
+    ensures { IfOk result (λ regions. map region_value regions ≡ with_images region.now ∷ []) }
+{
+    let mut regions = NamedModes::new(alloc);
+    regions.push((Bytes::of(alloc, region)?, true))?;
+    Ok(regions)
+}
+
+fn read_create(alloc: Global, len: u16, left: &[u8]) -> Result<Command, Fault>
+    ensures reading { Reads command_value (create_reading len left.now) result }
+    ensures formed { IfOk result (λ command. IsFormed (command_value command) × IsWhole (command_value command)) }
+{
+    let site = name(len, left)?;
+    let region = name(len, site.behind)?;
+    ended(len, region.behind)?;
+    let regions = one_region(alloc, region.part)?;
+    let site = Bytes::of(alloc, site.part)?;
+    Ok(Command::Create { site, regions })
+}
+
+fn read_start(alloc: Global, len: u16, left: &[u8]) -> Result<Command, Fault>
+    ensures reading { Reads command_value (start_reading len left.now) result }
+    ensures formed { IfOk result (λ command. IsFormed (command_value command) × IsWhole (command_value command)) }
+{
+    let site = name(len, left)?;
+    let role = word(b"PRIMARY", len, site.behind)?;
+    ended(len, role.behind)?;
+    let site = Bytes::of(alloc, site.part)?;
+    Ok(Command::StartPrimary { site })
+}
+
+fn read_stop(alloc: Global, len: u16, left: &[u8]) -> Result<Command, Fault>
+    ensures reading { Reads command_value (stop_reading len left.now) result }
+    ensures formed { IfOk result (λ command. IsFormed (command_value command) × IsWhole (command_value command)) }
+{
+    let site = name(len, left)?;
+    ended(len, site.behind)?;
+    let site = Bytes::of(alloc, site.part)?;
+    Ok(Command::Stop { site })
+}
+
+fn read_fuse(alloc: Global, len: u16, left: &[u8]) -> Result<Command, Fault>
+    ensures reading { Reads command_value (fuse_reading len left.now) result }
+    ensures formed { IfOk result (λ command. IsFormed (command_value command) × IsWhole (command_value command)) }
+{
+    let site = name(len, left)?;
+    let (calls, behind) = number(0, MOST_CALLS, len, site.behind)?;
+    ended(len, behind)?;
+    let site = Bytes::of(alloc, site.part)?;
+    Ok(Command::Fuse { site, calls })
+}
+
+fn read_crash(alloc: Global, len: u16, left: &[u8]) -> Result<Command, Fault>
+    ensures reading { Reads command_value (crash_reading len left.now) result }
+    ensures formed { IfOk result (λ command. IsFormed (command_value command) × IsWhole (command_value command)) }
+{
+    let site = name(len, left)?;
+    let (pick, behind) = number(0, MOST_PICK, len, site.behind)?;
+    ended(len, behind)?;
+    let site = Bytes::of(alloc, site.part)?;
+    Ok(Command::Crash { site, pick })
+}
+
+fn read_extract(alloc: Global, len: u16, left: &[u8]) -> Result<Command, Fault>
+    ensures reading { Reads command_value (extract_reading len left.now) result }
+    ensures formed { IfOk result (λ command. IsFormed (command_value command) × IsWhole (command_value command)) }
+{
+    let site = name(len, left)?;
+    if site.behind.is_empty() {
+        let site = Bytes::of(alloc, site.part)?;
+        return Ok(Command::Extract { site, number: None });
+    }
+    let (number, behind) = number(1, MOST_NUMBER, len, site.behind)?;
+    ended(len, behind)?;
+    let site = Bytes::of(alloc, site.part)?;
+    Ok(Command::Extract {
+        site,
+        number: Some(number),
+    })
+}
+
+fn read_zwrite(alloc: Global, len: u16, left: &[u8]) -> Result<Command, Fault>
+    ensures reading { Reads command_value (zwrite_reading len left.now) result }
+    ensures formed { IfOk result (λ command. IsFormed (command_value command) × IsWhole (command_value command)) }
+{
+    let site = name(len, left)?;
+    if site.behind.is_empty() {
+        let site = Bytes::of(alloc, site.part)?;
+        return Ok(Command::Zwrite { site, top: None });
+    }
+    let (top, behind) = node(alloc, len, site.behind)?;
+    ended(len, behind)?;
+    let site = Bytes::of(alloc, site.part)?;
+    Ok(Command::Zwrite {
+        site,
+        top: Some(top),
+    })
+}
+
+/// The command of a line between commands, by its first word. `behind` is what stands behind the word and the spaces.
+pub fn read_command(
+    alloc: Global,
+    word: &[u8],
+    len: u16,
+    left: &[u8],
+    behind: &[u8],
+) -> Result<Command, Fault>
+    ensures reading { Reads command_value (command_by word.now len left.now behind.now) result }
+    ensures formed { IfOk result (λ command. IsFormed (command_value command) × IsWhole (command_value command)) }
+{
+    if word == b"CREATE".as_slice() {
+        return read_create(alloc, len, behind);
+    }
+    if word == b"START".as_slice() {
+        return read_start(alloc, len, behind);
+    }
+    if word == b"STOP".as_slice() {
+        return read_stop(alloc, len, behind);
+    }
+    if word == b"FUSE".as_slice() {
+        return read_fuse(alloc, len, behind);
+    }
+    if word == b"CRASH".as_slice() {
+        return read_crash(alloc, len, behind);
+    }
+    if word == b"EXTRACT".as_slice() {
+        return read_extract(alloc, len, behind);
+    }
+    if word == b"ZWRITE".as_slice() {
+        return read_zwrite(alloc, len, behind);
+    }
+    Err(bad(len, left))
+}
+
+/// The site of a section's first line.
+pub fn read_run(len: u16, left: &[u8]) -> Result<&[u8], Fault>
+    ensures reading { Reads (λ site. site.now) (run_reading len left.now) result }
+    ensures form { IfOk result (λ site. is_name site.now ≡ true) }
+{
+    let site = name(len, left)?;
+    ended(len, site.behind)?;
+    Ok(site.part)
+}
