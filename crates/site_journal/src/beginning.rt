@@ -20,7 +20,6 @@ use std::alloc::Global;
 /// # Errors
 /// `NotARecord` only where the files stand for no site's contents; `Failed` only where the disk's count rose; and `NoMemory`.
 pub fn is_begun<D: Disk>(alloc: Global, disk: &mut D) -> Result<bool, JournalError>
-    requires stub { ⊥ }
     ensures begun { IfOk result (λ begun. IfSome (D.disk disk.old).content (λ files. (name : Name) (c : Contents) → Stands name files c → c.begun ≡ begun)) }
     ensures kept { OnOk result (IfSome (D.disk disk.old).content (λ files. (name : Name) (c : Contents) → Stands name files c → IfSome (D.disk disk.new).content (λ now. Stands name now c))) }
     ensures empty { result ≡ Ok false → IfSome (D.disk disk.new).content (λ files. records (files (journal_file 1 0)) ≡ Some []) }
@@ -31,7 +30,9 @@ pub fn is_begun<D: Disk>(alloc: Global, disk: &mut D) -> Result<bool, JournalErr
     ensures later { (D.disk disk.old).faults ≤ (D.disk disk.new).faults }
     ensures cause { IsErrOf result JournalError.Failed → Rose (D.disk disk.old).faults (D.disk disk.new).faults }
 {
-    unreachable!()
+    bodies_hold();
+    let mut journal = Journal::attach(alloc, disk, 0, 1)?;
+    Ok(journal.next_record(disk, 0)?.is_some())
 }
 
 /// Makes the journal of a site on a disk that has none.
@@ -39,8 +40,7 @@ pub fn is_begun<D: Disk>(alloc: Global, disk: &mut D) -> Result<bool, JournalErr
 /// # Errors
 /// `Failed` only where the disk's count rose, and `NoMemory`. A crash may then find the journal begun all the same.
 pub fn begin<D: Disk>(alloc: Global, disk: &mut D) -> Result<(), JournalError>
-    requires stub { ⊥ }
-    requires empty { IfSome (D.disk disk.old).content (λ files. records (files (journal_file 1 0)) ≡ Some []) }
+    requires { IfSome (D.disk disk.old).content (λ files. records (files (journal_file 1 0)) ≡ Some []) }
     ensures done { OnOk result (IfSome (D.disk disk.old).content (λ _. HasBegun (D.disk disk.new))) }
     ensures images { IfSome (D.disk disk.old).content (λ _. (files : Files) → Image (D.disk disk.new) files → MayBegin (D.disk disk.old) (journal_file 1 0) beginning files) }
     ensures still_told { IsSome (D.disk disk.old).content → IsSome (D.disk disk.new).content }
@@ -49,5 +49,6 @@ pub fn begin<D: Disk>(alloc: Global, disk: &mut D) -> Result<(), JournalError>
     ensures cause { IsErrOf result JournalError.Failed → Rose (D.disk disk.old).faults (D.disk disk.new).faults }
     ensures outside { (offset : ℕ) → IsErrOf result (JournalError.NotARecord offset) → ⊥ }
 {
-    unreachable!()
+    Journal::create(alloc, disk, 0, true, 1, 0)?;
+    Ok(())
 }

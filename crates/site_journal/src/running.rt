@@ -41,8 +41,7 @@ impl Reign {
         order: &[u8],
         text: &mut Bytes,
     ) -> Result<(), RunError>
-        requires stub { ⊥ }
-        requires ready { IsReady (D.disk disk.old) self.old.journal }
+        requires { IsReady (D.disk disk.old) self.old.journal }
         ensures ready { IsReadyAtEnd result (D.disk disk.new) self.new.journal }
         ensures done { OnOk result ((told : Bool) (c : Contents) → Reigns (D.disk disk.old) name.now told c self.old → HasDecided (D.disk disk.new) name.now told c jobs order.now self.old self.new text.old text.new) }
         ensures breaks { IfErr result (λ e. (told : Bool) (c : Contents) → Reigns (D.disk disk.old) name.now told c self.old → Breaks e (D.disk disk.new) name.now told c jobs order.now self.old.serials text.old text.new) }
@@ -50,6 +49,17 @@ impl Reign {
         ensures later { (D.disk disk.old).faults ≤ (D.disk disk.new).faults }
         ensures cause { IfErr result (λ e. IsFault e → Rose (D.disk disk.old).faults (D.disk disk.new).faults) }
     {
-        unreachable!()
+        let mut undecided = order.len() as u64;
+        for updater in order {
+            let Some(job) = jobs.take_next(*updater) else {
+                continue;
+            };
+            match self.decide(alloc, disk, name, *updater, &job, text) {
+                Ok(()) => undecided -= 1,
+                Err(DecideError::Failed) => return Err(RunError::Failed { undecided }),
+                Err(DecideError::NoMemory) => return Err(RunError::NoMemory),
+            }
+        }
+        Ok(())
     }
 }

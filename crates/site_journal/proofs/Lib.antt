@@ -1,0 +1,11 @@
+pub mod Cursors
+pub mod Entries
+pub mod Taken
+pub mod Items
+pub mod Forms
+pub mod Results
+pub mod Growing
+pub mod Turns
+pub mod Replied
+pub mod Reading
+pub mod Started
