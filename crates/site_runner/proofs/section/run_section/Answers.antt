@@ -22,8 +22,8 @@ returns-in-Failed-clause-done g c =
     on_ok c.write_numbered.result _ _ c.write_numbered.ensures (λ t. run_failed_before (g.D.Disk.disk c.args.disk.now) c.args.site.now c.args.jobs c.args.order.now c.in-Failed.fault c.args.text.now _ c.in-Failed.is
     (t ∙ ap (λ (n : List ℕ). c.args.text.now ++ line n (codes "STOPPED " ++ decimal c.in-Failed.fault)) c.as_slice-in-Failed.ensures))
 
-pub run-requires-clause-ready : goal.run-requires-clause-ready
-run-requires-clause-ready g c = subst (IsReadyState (g.D.Disk.disk c.args.disk.now)) c.in-Primary.is c.requires.ready
+pub run-requires : goal.run-requires
+run-requires g c = subst (IsReadyState (g.D.Disk.disk c.args.disk.now)) c.in-Primary.is c.requires.ready
 
 pub returns-in_err-write_undecided-in-Err-Failed-clause-cut_off : goal.returns-in_err-write_undecided-in-Err-Failed-clause-cut_off
 returns-in_err-write_undecided-in-Err-Failed-clause-cut_off g c =
