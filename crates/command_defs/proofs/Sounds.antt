@@ -1,8 +1,7 @@
 -- Sections stay sound, and a sound section's order uses up its jobs.
-use Rattle.std.proofs.Common.{◌≡◌, ◌≢◌, ◌⊎◌, ℕ, zero, suc, ◌+◌, ◌-◌, ◌<◌, ◌≤◌, ◌&&◌, Bool, true, false, List, [], ◌∷◌, ◌++◌, length, get_or, set, replicate, drop, fold, refl, sym, ap, ◌∙◌, subst, inl, inr, arith, length-append, length-set, get_or-set_same, get_or-set_other}
-use Rattle.std.specs.Prelude.{count_by, ◌==◌, nat_le, if◌then◌else◌}
+use Rattle.std.proofs.Common.{◌≡◌, ◌≢◌, ℕ, zero, suc, ◌+◌, ◌-◌, ◌<◌, ◌≤◌, Bool, true, false, List, [], ◌∷◌, ◌++◌, length, get_or, set, drop, fold, refl, sym, ap, ◌∙◌, subst, inl, inr, arith, length-append, length-set, get_or-set_same, get_or-set_other}
+use Rattle.std.specs.Prelude.{◌==◌, if◌then◌else◌}
 use Rattle.std.specs.List.{list_all, AllByRecursion}
-use Rattle.std.proofs.lemmas.Grind.{common_steps}
 use Rattle.std.proofs.lemmas.List.{get_or-replicate, length-replicate, drop-drop}
 use Rattle.std.proofs.Math.Seq.{drop-length}
 use Rattle.std.proofs.lemmas.List.Sums.{sum_by-cons, sum_by-append}
@@ -12,7 +11,7 @@ use Rattle.global_defs.specs.Jobs.{Statement, Job}
 use Rattle.global_defs.specs.Serial.{without_next}
 use Rattle.command_defs.specs.Commands.{Name, Run}
 use Rattle.command_defs.specs.Parts.{is_name}
-use Rattle.command_defs.specs.Sections.{UPDATERS, Section, begun, is_open, jobs_of, last_job, longer, with_job, with_statement, transaction_begun, transaction_ended, is_updater, is_of_size, count_in, IsSound, IsFormed, UsesUp}
+use Rattle.command_defs.specs.Sections.{UPDATERS, Section, begun, jobs_of, last_job, longer, with_job, transaction_begun, transaction_ended, is_updater, is_of_size, count_in, IsSound, IsFormed, UsesUp}
 
 -- who is an updater
 pub updater_range : (u : ℕ) → is_updater u ≡ true → (1 ≤ u) × (u ≤ 64)

@@ -4,3 +4,4 @@ pub mod Parts
 pub mod Forms
 pub mod Sections
 pub mod Script
+pub mod Spelling

@@ -2,6 +2,8 @@
 //! function that does nothing.
 #![tactic(auto)]
 
+mod laws;
 mod vectors;
 
+pub use laws::{commands_are_read_as_spelled, ends_are_ignored};
 pub use vectors::{commands_hold, lines_hold, sections_hold};
