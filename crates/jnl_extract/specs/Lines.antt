@@ -67,16 +67,16 @@ header_body site from = codes "GTMRJEX01" ++ 92 ∷ (site ++ 92 ∷ decimal from
 
 -- the texts of these fields
 pub record FieldsAre (h : Head) (number stamp origin : List ℕ) : Type 0 where
-  pub number : number ≡ decimal h.number
-  pub stamp : stamp ≡ stamp_text h.stamp
-  pub origin : origin ≡ origin_text h.origin
+  pub number_is : number ≡ decimal h.number
+  pub stamp_is : stamp ≡ stamp_text h.stamp
+  pub origin_is : origin ≡ origin_text h.origin
 
 -- the parts of a line
 pub record PartsAre (l : Line) (word number stamp rest : List ℕ) : Type 0 where
-  pub word : word ≡ line_word l
-  pub number : number ≡ decimal (line_head l).number
-  pub stamp : stamp ≡ stamp_text (line_head l).stamp
-  pub rest : rest ≡ line_rest l
+  pub word_is : word ≡ line_word l
+  pub number_is : number ≡ decimal (line_head l).number
+  pub stamp_is : stamp ≡ stamp_text (line_head l).stamp
+  pub rest_is : rest ≡ line_rest l
 
 pub record IsHead (h : Head) : Type 0 where
   pub number : h.number < 2 ^ 64
@@ -87,6 +87,19 @@ abbrev pub IsLine : Line → Type 0
 IsLine (Opens h) = IsHead h
 IsLine (Holds h u) = IsHead h × IsSpelled u
 IsLine (Closes h) = IsHead h
+
+abbrev pub IsBracket : Line → Type 0
+IsBracket (Opens h) = Unit {0}
+IsBracket (Holds h u) = ⊥
+IsBracket (Closes h) = Unit {0}
+
+-- the line of an update, of these fields, word and tail
+pub record IsHeld (l : Line) (h : Head) (word tail : List ℕ) : Type 0 where
+  pub update : Update
+  pub line_is : l ≡ Holds h update
+  pub spelled : IsSpelled update
+  pub word_is : word ≡ update_word update
+  pub tail_is : tail ≡ update_tail update
 
 -- an entry of these fields and updates, with its number
 abbrev pub made_entry : Head → List Update → ℕ × Entry
@@ -103,6 +116,14 @@ pub record Stage : Type 0 where
   pub next : ℕ
   pub entries : List (ℕ × Entry)
   pub pending : Option (ℕ × Entry)
+
+-- an entry that is being read has a number that there is
+abbrev pub HasNumberAt : ℕ → Option (ℕ × Entry) → Type 0
+HasNumberAt next None = Unit {0}
+HasNumberAt next (Some p) = next < 2 ^ 40
+
+abbrev pub HasNumber : Stage → Type 0
+HasNumber s = HasNumberAt s.next s.pending
 
 abbrev pub follows : ℕ → Head → Bool
 follows next h = h.number == next && nat_lt next (2 ^ 40)

@@ -17,6 +17,9 @@ use std::alloc::Global;
 /// How many updaters there may be.
 const MOST_UPDATERS: u64 = 64;
 
+/// The greatest cycle, and the greatest serial.
+const LAST_OF_FOUR_BYTES: u64 = 0xffff_ffff;
+
 /// What each line of an entry has: its number, its stamp and its origin.
 #[derive(Debug, Drop)]
 pub(crate) struct Head {
@@ -50,7 +53,7 @@ fn origin_of(updater: u64, serial: u64) -> Option<Origin>
     ensures { MatchOption result ((1 ≤ updater) → (updater ≤ 64) → (1 ≤ serial) → (serial < 2 ^ 32) → ⊥)
         (λ o. IsOrigin (origin_value o) × (o.updater ≡ updater) × (o.serial ≡ serial)) }
 {
-    if updater == 0 || MOST_UPDATERS < updater || serial == 0 || u64::from(u32::MAX) < serial {
+    if updater == 0 || MOST_UPDATERS < updater || serial == 0 || LAST_OF_FOUR_BYTES < serial {
         return None;
     }
     Some(Origin {
@@ -66,7 +69,10 @@ fn read_origin(text: &[u8]) -> Option<Origin>
 {
     match read_pair(text) {
         None => None,
-        Some(pair) => origin_of(pair.0, pair.1),
+        Some(pair) => match origin_of(pair.0, pair.1) {
+            None => None,
+            Some(origin) => Some(origin),
+        },
     }
 }
 
@@ -78,11 +84,10 @@ fn read_cycle(text: &[u8]) -> Option<u32>
     match read_number(text) {
         None => None,
         Some(number) => {
-            if number == 0 || u64::from(u32::MAX) < number {
-                None
-            } else {
-                Some(number as u32)
+            if number == 0 || LAST_OF_FOUR_BYTES < number {
+                return None;
             }
+            Some(number as u32)
         }
     }
 }

@@ -1,9 +1,12 @@
 //! Lines of an extract, read.
-ghost use Rattle.std.specs.Prelude.{◌≡◌, ◌++◌, ◌∷◌, ◌≤◌, ◌^◌, List, ℕ, decimal, codes, IfOk, MatchOption};
+ghost use Rattle.std.specs.List.{list_any};
+ghost use Rattle.std.specs.Prelude.{◌≡◌, ◌==◌, ◌≢◌, ◌++◌, ◌∷◌, ◌≤◌, ◌^◌, List, ℕ, decimal, codes, IfOk, MatchOption};
 ghost use Rattle.global_defs.specs.Fields.{IsSiteName};
 ghost use Rattle.jnl_extract.specs.Lines as lines;
-ghost use Rattle.jnl_extract.specs.Lines.{line_body, header_body, IsLine, PartsAre};
-ghost use Rattle.jnl_extract.specs.Values.{line_value};
+ghost use Rattle.jnl_extract.specs.Lines.{line_body, header_body, line_word, line_head, update_word, update_tail, IsLine, IsBracket, IsHeld, PartsAre};
+ghost use Rattle.jnl_extract.specs.Extracts.{IsSpelled};
+ghost use Rattle.global_defs.specs.Entry as defs;
+ghost use Rattle.jnl_extract.specs.Values.{head_value, line_value};
 
 use super::cut::{cut, is_site_name, read_number};
 use super::fields::{Head, read_head};
@@ -104,7 +107,10 @@ fn read_parts(alloc: Global, word: &[u8], number: &[u8], stamp: &[u8], rest: &[u
 }
 
 /// The first or the last line of an entry, by its word.
-fn bracket(word: &[u8], head: Head) -> Option<Line> {
+fn bracket(word: &[u8], head: Head) -> Option<Line>
+    ensures { MatchOption result ((word.now ≢ codes "TSTART") × (word.now ≢ codes "TCOM"))
+        (λ l. IsBracket (line_value l) × (word.now ≡ line_word (line_value l)) × (line_head (line_value l) ≡ head_value head)) }
+{
     if word == b"TSTART".as_slice() {
         Some(Line::Opens(head))
     } else if word == b"TCOM".as_slice() {
@@ -114,8 +120,20 @@ fn bracket(word: &[u8], head: Head) -> Option<Line> {
     }
 }
 
+fn has_space(word: &[u8]) -> bool
+    ensures { result ≡ list_any (λ b. b == 32) word.now }
+{
+    word.iter().any(|b| *b == b' ')
+}
+
 /// The line of an update.
-fn read_held(alloc: Global, word: &[u8], head: Head, tail: &[u8]) -> Result<Option<Line>, NoMemory> {
+fn read_held(alloc: Global, word: &[u8], head: Head, tail: &[u8]) -> Result<Option<Line>, NoMemory>
+    ensures { IfOk result (λ found. MatchOption found ((u : defs.Update) → IsSpelled u → word.now ≡ update_word u → tail.now ≡ update_tail u → ⊥)
+        (λ l. IsHeld (line_value l) (head_value head) word.now tail.now)) }
+{
+    if has_space(word) {
+        return Ok(None);
+    }
     match read_update(alloc, word, tail)? {
         None => Ok(None),
         Some(update) => Ok(Some(Line::Holds(head, update))),

@@ -1,4 +1,6 @@
 //! Extracts read.
+ghost use Rattle.std.specs.Prelude.{◌≡◌, ◌≤◌, ◌-◌, length};
+
 use super::cut::cut;
 use super::lines::{read_header, read_line};
 use super::stage::{Stage, next_stage};
@@ -33,6 +35,7 @@ pub enum ExtractError {
 }
 
 impl From<NoMemory> for ExtractError {
+    ghost use Rattle.std.specs.Prelude.{◌≡◌};
     ghost use Rattle.jnl_extract.specs.declared.reading.ExtractError.TheVariants as errors;
 
     ghost from_gives = { λ _ e. e ≡ errors.NoMemory };
@@ -43,7 +46,10 @@ impl From<NoMemory> for ExtractError {
 }
 
 /// The line at the front of what is left of a text is bad.
-fn bad_line(text: &[u8], left: &[u8]) -> ExtractError {
+fn bad_line(text: &[u8], left: &[u8]) -> ExtractError
+    requires { length left.now ≤ length text.now }
+    ensures { result ≡ ExtractError.BadLine (length text.now - length left.now) }
+{
     ExtractError::BadLine {
         offset: (text.len() - left.len()) as u64,
     }

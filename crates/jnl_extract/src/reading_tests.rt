@@ -64,7 +64,7 @@ fn a_header_is_bad(rt: HostRuntime) {
 
 #[test]
 fn a_line_of_an_update_is_bad(rt: HostRuntime) -> Result<(), Fail> {
-    let lines: [&[u8]; 24] = [
+    let lines: [&[u8]; 25] = [
         b"SET\\1\\A.1\\1.1\\^X(1)=\"a\"",
         b"\n",
         b"SET\\2\\A.1\\1.1\\^X(1)=\"a\"\n",
@@ -87,6 +87,7 @@ fn a_line_of_an_update_is_bad(rt: HostRuntime) -> Result<(), Fail> {
         b"SET\\1\\A.1\\1.1\n",
         b"KILL\\1\\A.1\\1.1\\^X(1)=\"a\"\n",
         b"GET\\1\\A.1\\1.1\\^X(1)\n",
+        b"KILL ^X(\"a\\1\\A.1\\1.1\\b\")\n",
         b"TCOM\\1\\A.1\\1.1\n",
         b"GTMRJEX01\\A\\1\n",
     ];

@@ -1,9 +1,9 @@
 //! How far an extract has been read.
-ghost use Rattle.std.specs.Prelude.{◌≡◌, IfOk};
+ghost use Rattle.std.specs.Prelude.{◌≡◌, ◌<◌, ◌^◌, IfOk};
 ghost use Rattle.std.specs.Option.{option_map};
 ghost use Rattle.gvn_key.specs.Terms.{update_value};
 ghost use Rattle.gvn_model.specs.Numbered.{numbered};
-ghost use Rattle.jnl_extract.specs.Lines.{follows, next_stage, begun, gone_on, made_entry};
+ghost use Rattle.jnl_extract.specs.Lines.{follows, HasNumber, next_stage, begun, gone_on, made_entry};
 ghost use Rattle.jnl_extract.specs.Values.{head_value, line_value, stage_value};
 
 use super::fields::{Head, same_head};
@@ -78,6 +78,7 @@ fn begun(alloc: Global, next: u64, mut entries: Entries, line: Line) -> Result<O
 
 /// Behind an entry's first line stand its updates, and its last line behind two or more.
 fn gone_on(next: u64, mut entries: Entries, mut entry: Entry, line: Line) -> Result<Option<Stage>, NoMemory>
+    requires { next < 2 ^ 40 }
     ensures { IfOk result (λ stage. option_map stage_value stage ≡ gone_on next entries (numbered entry) (line_value line)) }
 {
     match line {
@@ -101,6 +102,7 @@ fn gone_on(next: u64, mut entries: Entries, mut entry: Entry, line: Line) -> Res
 
 /// What a line leads to: nothing where no extract goes on with it.
 pub(crate) fn next_stage(alloc: Global, stage: Stage, line: Line) -> Result<Option<Stage>, NoMemory>
+    requires { HasNumber (stage_value stage) }
     ensures { IfOk result (λ next. option_map stage_value next ≡ next_stage (stage_value stage) (line_value line)) }
 {
     match stage.pending {
