@@ -1,5 +1,10 @@
 -- What a statement's canonical text says of its update.
-use Rattle.std.proofs.Common.{◌≡◌, ℕ, List, Option, Some, None, IfSome, ap, ◌∙◌, subst, sym}
+use Rattle.std.proofs.Common.{◌≡◌, ℕ, List, Option, Some, None, IfSome, ap, ◌∙◌, subst, sym, refl}
+use Rattle.std.specs.Prelude.{Result, Ok}
+use Rattle.gvn_text.specs.Reads.{TellsError, error_value}
+use Rattle.script_defs.specs.Parts.{Fault}
+use Rattle.gvn_text.specs.declared.fault.TextError.{TextError}
+use Rattle.gvn_text.specs.declared.fault.TextError.TheVariants.{BadQuote, BadChar, ValueTooLong, NoMemory}
 use Rattle.global_defs.specs.Jobs.{Statement}
 use Rattle.std.specs.Option.{option_map}
 use Rattle.gvn_key.specs.Terms.{update_value, statement_value}
@@ -27,3 +32,12 @@ nothing_found o s e f = let g : None ≡ Some s = sym (ap (option_map statement_
 
 pub statement_found : (o : Option code.Statement) (x : code.Statement) (s : Statement) → o ≡ Some x → option_map statement_value o ≡ Some s → statement_value x ≡ s
 statement_found o x s e f = somes (statement_value x) s (sym (ap (option_map statement_value) e) ∙ f)
+
+pub told : {E : Type 0} (a b : Statement) → (let x : Result Statement E = Ok a in x) ≡ Ok b → Some b ≡ Some a
+told a b e = cc
+
+pub no_error : (e : TextError) (s : Statement) → (e ≡ NoMemory → ⊥) → TellsError (error_value e) (let x : Result Statement Fault = Ok s in x) → ⊥
+no_error (BadQuote at) s n h = cc
+no_error (BadChar at) s n h = cc
+no_error (ValueTooLong at) s n h = cc
+no_error NoMemory s n h = n refl

@@ -5,3 +5,4 @@ pub mod FieldLaws
 pub mod LineLaws
 pub mod LineTexts
 pub mod Clean
+pub mod Grammar

@@ -56,6 +56,18 @@ fn canonical(alloc: Global, statement: Statement, text: &[u8]) -> Result<Option<
     }
 }
 
+/// Lets each fault of a text pass.
+fn pass_fault(error: TextError) -> Result<(), NoMemory>
+    ensures { IfOk result (λ x. error ≢ TextError.NoMemory) }
+{
+    match error {
+        TextError::NoMemory => Err(NoMemory),
+        TextError::BadQuote { .. } => Ok(()),
+        TextError::BadChar { .. } => Ok(()),
+        TextError::ValueTooLong { .. } => Ok(()),
+    }
+}
+
 /// The statement of a text, nothing where it is none.
 fn spelled_statement(alloc: Global, text: &[u8]) -> Result<Option<Statement>, NoMemory>
     ensures found { IfOk result (λ found. IfSome found (λ s. SpellsStatement text.now (statement_value s))) }
@@ -63,8 +75,10 @@ fn spelled_statement(alloc: Global, text: &[u8]) -> Result<Option<Statement>, No
 {
     match read_statement(alloc, text) {
         Ok(statement) => Ok(Some(statement)),
-        Err(TextError::NoMemory) => Err(NoMemory),
-        Err(_) => Ok(None),
+        Err(error) => {
+            pass_fault(error)?;
+            Ok(None)
+        }
     }
 }
 
