@@ -53,7 +53,7 @@ stage_lines s = lines_at s.entries s.pending
 
 -- lists
 
-all_more : {A : Type 0} (P : A → Type 0) (xs ys : List A) → AllByRecursion P xs → AllByRecursion P ys → AllByRecursion P (xs ++ ys)
+pub all_more : {A : Type 0} (P : A → Type 0) (xs ys : List A) → AllByRecursion P xs → AllByRecursion P ys → AllByRecursion P (xs ++ ys)
 all_more P [] ys p q = q
 all_more P (x ∷ xs) ys p q = (p.0, all_more P xs ys p.1 q)
 
@@ -63,12 +63,12 @@ enumerate_more {A} n (y ∷ xs) x =
     ap (λ (r : List (ℕ × A)). (n, y) ∷ r) (enumerate_more (n + 1) xs x
     ∙ ap (λ (k : ℕ). enumerate_from (n + 1) xs ++ (let p : ℕ × A = (k, x) in p) ∷ []) (let e : (n + 1) + length xs ≡ n + suc (length xs) = omega arith in e))
 
-same_length : (entries : List (ℕ × Entry)) → length entries ≡ length (entries_of entries)
+pub same_length : (entries : List (ℕ × Entry)) → length entries ≡ length (entries_of entries)
 same_length [] = refl
 same_length (p ∷ entries) = ap suc (same_length entries)
 
 -- one entry more
-pushed : (from next : ℕ) (entries : List (ℕ × Entry)) (p : ℕ × Entry) → AreEntries from next entries → p.0 ≡ next → next < 2 ^ 40 → IsEntry p.1 → AreEntries from (next + 1) (entries ++ p ∷ [])
+pub pushed : (from next : ℕ) (entries : List (ℕ × Entry)) (p : ℕ × Entry) → AreEntries from next entries → p.0 ≡ next → next < 2 ^ 40 → IsEntry p.1 → AreEntries from (next + 1) (entries ++ p ∷ [])
 pushed from next entries p a n small e =
     let number : p.0 ≡ from + length (entries_of entries) = n ∙ a.next_is ∙ ap (λ (k : ℕ). from + k) (same_length entries) in
     record {

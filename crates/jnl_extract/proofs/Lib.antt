@@ -6,3 +6,4 @@ pub mod LineLaws
 pub mod LineTexts
 pub mod Clean
 pub mod Grammar
+pub mod Refused

@@ -1,10 +1,10 @@
 -- The lines of an extract behind its header, and how far a reader of them has come.
-use Rattle.std.specs.Prelude.{◌≡◌, ◌<◌, ◌^◌, ◌+◌, ◌==◌, ◌&&◌, ℕ, Bool, false, List, [], ◌∷◌, ◌++◌, length, map, Option, Some, None, codes, decimal, nat_lt, if◌then◌else◌}
+use Rattle.std.specs.Prelude.{◌≡◌, ◌<◌, ◌≤◌, ◌^◌, ◌+◌, ◌==◌, ◌&&◌, ℕ, Bool, false, List, [], ◌∷◌, ◌++◌, length, map, Option, Some, None, codes, decimal, nat_lt, if◌then◌else◌}
 use Rattle.std.specs.List.{list_all, flat_map}
 use Rattle.std.specs.Char.{is_ascii_alphabetic, is_ascii_alphanumeric}
 use Rattle.std.specs.Str.{bytes_eq}
 use Rattle.global_defs.specs.Entry.{Update, Set, Kill, ZKill, Entry, Stamp, Origin}
-use Rattle.global_defs.specs.Fields.{IsStamp, IsOrigin}
+use Rattle.global_defs.specs.Fields.{IsSiteName, IsStamp, IsOrigin}
 use Rattle.global_defs.specs.NodeText.{node_text}
 use Rattle.global_defs.specs.Zwr.{zwr}
 use Rattle.jnl_extract.specs.Extracts.{IsSpelled}
@@ -153,3 +153,21 @@ going next entries (Some p) l = gone_on next entries p l
 -- what a line leads to
 abbrev pub next_stage : Stage → Line → Option Stage
 next_stage s l = going s.next s.entries s.pending l
+
+-- no line stands at the front of these bytes with which a stage goes on
+abbrev pub Refuses : Stage → List ℕ → Type 0
+Refuses s left = (l : Line) (more : List ℕ) → IsLine l → left ≡ line_body l ++ 10 ∷ more → next_stage s l ≡ None
+
+-- a line stands at the front of these bytes with which a stage goes on
+pub record Takes (s : Stage) (left : List ℕ) (t : Stage) (rest : List ℕ) : Type 0 where
+  pub line : Line
+  pub good : IsLine line
+  pub left_is : left ≡ line_body line ++ 10 ∷ rest
+  pub next_is : next_stage s line ≡ Some t
+
+-- a text begins with a header
+pub record Begins (text site : List ℕ) (from : ℕ) (rest : List ℕ) : Type 0 where
+  pub name : IsSiteName site
+  pub first : 1 ≤ from
+  pub last : from ≤ 2 ^ 40
+  pub text_is : text ≡ (header_body site from ++ 10 ∷ []) ++ rest
