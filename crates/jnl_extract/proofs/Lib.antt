@@ -7,3 +7,4 @@ pub mod LineTexts
 pub mod Clean
 pub mod Grammar
 pub mod Refused
+pub mod Fronts

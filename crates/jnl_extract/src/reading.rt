@@ -1,5 +1,8 @@
 //! Extracts read.
-ghost use Rattle.std.specs.Prelude.{◌≡◌, ◌≤◌, ◌-◌, length};
+ghost use Rattle.std.specs.Prelude.{◌≡◌, ◌≤◌, ◌-◌, length, IfOk, IfErr, MatchOption};
+ghost use Rattle.jnl_extract.specs.Extracts.{IsExtractOf};
+ghost use Rattle.jnl_extract.specs.Lines.{HasNumber, Refuses, Takes, Begins};
+ghost use Rattle.jnl_extract.specs.Values.{stage_value, TellsBadLine};
 
 use super::cut::cut;
 use super::lines::{read_header, read_line};
@@ -56,7 +59,11 @@ fn bad_line(text: &[u8], left: &[u8]) -> ExtractError
 }
 
 /// What the line at the front leads to, and what is left behind it.
-fn step<'a>(alloc: Global, stage: Stage, left: &'a [u8]) -> Result<Option<(Stage, &'a [u8])>, NoMemory> {
+fn step(alloc: Global, stage: Stage, left: &[u8]) -> Result<Option<(Stage, &[u8])>, NoMemory>
+    requires { HasNumber (stage_value stage) }
+    ensures { IfOk result (λ found. MatchOption found (Refuses (stage_value stage) left.now)
+        (λ p. Takes (stage_value stage) left.now (stage_value p.0) p.1.now)) }
+{
     match cut(left, b'\n') {
         None => Ok(None),
         Some((line, rest)) => match read_line(alloc, line)? {
@@ -69,9 +76,17 @@ fn step<'a>(alloc: Global, stage: Stage, left: &'a [u8]) -> Result<Option<(Stage
     }
 }
 
-/// The entries behind the header.
-fn read_entries(alloc: Global, text: &[u8], rest: &[u8], from: u64) -> Result<Entries, ExtractError> {
-    let mut stage = Stage { next: from, entries: Entries::new(alloc), pending: None };
+/// The extract of a text, by its header and what stands behind it.
+fn read_entries(alloc: Global, text: &[u8], rest: &[u8], site: Bytes, from: u64) -> Result<Extract, ExtractError>
+    requires { Begins text.now site from rest.now }
+    ensures read { IfOk result (λ x. IsExtractOf text.now x.site x.from x.entries) }
+    ensures bad { IfErr result (λ e. TellsBadLine text.now e) }
+{
+    let mut stage = Stage {
+        next: from,
+        entries: Entries::new(alloc),
+        pending: None,
+    };
     let mut left = rest;
     while !left.is_empty() {
         match step(alloc, stage, left)? {
@@ -83,21 +98,27 @@ fn read_entries(alloc: Global, text: &[u8], rest: &[u8], from: u64) -> Result<En
         }
     }
     match stage.pending {
-        None => Ok(stage.entries),
+        None => Ok(Extract {
+            site,
+            from,
+            entries: stage.entries,
+        }),
         Some(_) => Err(bad_line(text, left)),
     }
 }
 
 /// The extract that a text is, or its first line that no extract goes on with.
-pub fn read_extract(alloc: Global, text: &[u8]) -> Result<Extract, ExtractError> {
+pub fn read_extract(alloc: Global, text: &[u8]) -> Result<Extract, ExtractError>
+    // What is read is what the text is the extract of.
+    ensures read { IfOk result (λ x. IsExtractOf text.now x.site x.from x.entries) }
+    // A bad line is the first that no extract goes on with.
+    ensures bad { IfErr result (λ e. TellsBadLine text.now e) }
+{
     match cut(text, b'\n') {
-        None => Err(bad_line(text, text)),
+        None => Err(ExtractError::BadLine { offset: 0 }),
         Some((line, rest)) => match read_header(alloc, line)? {
-            None => Err(bad_line(text, text)),
-            Some((site, from)) => {
-                let entries = read_entries(alloc, text, rest, from)?;
-                Ok(Extract { site, from, entries })
-            }
+            None => Err(ExtractError::BadLine { offset: 0 }),
+            Some((site, from)) => read_entries(alloc, text, rest, site, from),
         },
     }
 }

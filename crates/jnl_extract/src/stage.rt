@@ -105,8 +105,13 @@ pub(crate) fn next_stage(alloc: Global, stage: Stage, line: Line) -> Result<Opti
     requires { HasNumber (stage_value stage) }
     ensures { IfOk result (λ next. option_map stage_value next ≡ next_stage (stage_value stage) (line_value line)) }
 {
-    match stage.pending {
-        None => begun(alloc, stage.next, stage.entries, line),
-        Some(entry) => gone_on(stage.next, stage.entries, entry, line),
+    let Stage {
+        next,
+        entries,
+        pending,
+    } = stage;
+    match pending {
+        None => begun(alloc, next, entries, line),
+        Some(entry) => gone_on(next, entries, entry, line),
     }
 }
