@@ -5,7 +5,7 @@ use Rattle.std.specs.List.{enumerate_from, AllByRecursion, list_any}
 use Rattle.std.proofs.lemmas.List.{append-nil, map-append, append_cancel_left}
 use Rattle.std.proofs.lemmas.Fmt.{decimal_injective}
 use Rattle.std.proofs.lemmas.List.Concat.{flat_map-append}
-use Rattle.std.proofs.lemmas.Bool.{cases_lt}
+use Rattle.std.proofs.lemmas.Bool.{cases_lt, eqb-true}
 use Rattle.global_defs.specs.Entry.{Update, Set, Kill, ZKill, Entry, Sequence}
 use Rattle.global_defs.specs.Jobs as jobs
 use Rattle.global_defs.specs.Fields.{IsSiteName, IsStamp, IsOrigin}
@@ -326,3 +326,20 @@ no_header text none = record {
       none site from (text_of (all_lines (enumerate_from from es))) v.name v.first (omega (arith, v.last))
           (e ∙ extract_is site from es ∙ append_assoc (header_body site from) (10 ∷ []) (text_of (all_lines (enumerate_from from es))));
 }
+
+-- what is left of a text
+
+pub no_line_in : (line more : List ℕ) → [] ≡ line ++ 10 ∷ more → ⊥
+no_line_in [] more e = cc
+no_line_in (b ∷ line) more e = cc
+
+pub not_empty : (left : List ℕ) (b : Bool) → b ≡ (length left == 0) → b ≡ false → left ≡ [] → ⊥
+not_empty [] b e f g = let t : true ≡ false = sym e ∙ f in cc
+not_empty (x ∷ left) b e f g = cc
+
+pub is_empty : (left : List ℕ) (b : Bool) → b ≡ (length left == 0) → b ≡ true → left ≡ []
+is_empty [] b e f = refl
+is_empty (x ∷ left) b e f = absurd (omega (arith, eqb-true (length (x ∷ left)) 0 (sym e ∙ f)))
+
+pub not_open : (o : Option (ℕ × Entry)) (p : ℕ × Entry) → o ≡ Some p → o ≡ None → ⊥
+not_open o p e f = let t : Some p ≡ None = sym e ∙ f in cc
