@@ -12,6 +12,7 @@ use Rattle.global_defs.specs.Fields.{IsSiteName, IsStamp, IsOrigin}
 use Rattle.script_defs.proofs.StatementsWritten.{statement_written}
 use Rattle.jnl_extract.specs.Extracts.{IsSpelled, IsEntry, IsExtract, IsExtractOf, extract_text, IsFront, IsBadLine, ended}
 use Rattle.jnl_extract.specs.Lines.{Head, Line, Opens, Holds, Closes, line_body, line_head, line_rest, line_word, header_body, stamp_text, origin_text, IsHead, IsLine, Stage, stage_of, head_of, updates_of, made_entry, next_stage, Refuses, Takes, Begins}
+use Rattle.jnl_extract.proofs.Forms.{entry_of_form}
 use Rattle.jnl_extract.proofs.Cuts.{one_cut}
 use Rattle.jnl_extract.proofs.FieldLaws.{number_clean, name_clean}
 use Rattle.jnl_extract.proofs.LineLaws.{same_line}
@@ -111,7 +112,7 @@ entry_fit h (u ∷ v ∷ us) i p = (i, all_more IsLine (map (Holds h) (u ∷ v �
 pub lines_fit : (n : ℕ) (es : Sequence) → n + length es ≤ 2 ^ 40 → AllByRecursion IsEntry es → AllByRecursion IsLine (all_lines (enumerate_from n es))
 lines_fit n [] r i = tt
 lines_fit n (e ∷ es) r i =
-    let h : IsHead (head_of (n, e)) = record { number = omega (arith, r); stamp = i.0.stamp; origin = i.0.origin } in
+    let h : IsHead (head_of (n, e)) = record { number = omega (arith, r); stamp = i.0.stamp; origin = i.0.transaction.origin } in
     all_more IsLine (entry_lines (n, e)) (all_lines (enumerate_from (n + 1) es)) (entry_fit (head_of (n, e)) e.transaction.updates h i.0.each) (lines_fit (n + 1) es (omega (arith, r)) i.1)
 
 pending_fit : (next : ℕ) (pending : Option (ℕ × Entry)) → ArePending next pending → AllByRecursion IsLine (pending_lines pending)
@@ -182,7 +183,7 @@ front_at site from next entries (Some p) n f a i =
     let h : Head = head_of p in
     let us : List Update = updates_of p in
     let q : ℕ × Entry = made_entry h (us ++ c.more) in
-    let good : IsEntry q.1 = record { stamp = i.stamp; origin = i.origin; some = omega (arith, c.many); few = c.few; each = c.each } in
+    let good : IsEntry q.1 = entry_of_form q.1 i.stamp i.origin (omega (arith, c.many)) c.few c.each in
     let w : AreEntries from (next + 1) (entries ++ q ∷ []) = pushed from next entries q a i.number i.below good in
     let behind : List Line = map (Holds h) c.more ++ Closes h ∷ [] in
     let front : List Line = lines_at entries (Some p) in
@@ -254,6 +255,11 @@ pub record Beyond (from : ℕ) (es : Sequence) (s : Stage) (x : List ℕ) : Type
   pub good : AllByRecursion IsLine more
   pub lines_are : all_lines (enumerate_from from es) ≡ stage_lines s ++ more
   pub rest_is : x ≡ text_of more
+
+pub same_site : (site name : List ℕ) (from n : ℕ) → IsSiteName site → IsSiteName name → header_body site from ≡ header_body name n → site ≡ name
+same_site site name from n p q e =
+    let f : site ++ 92 ∷ decimal from ≡ name ++ 92 ∷ decimal n = append_cancel_left (codes "GTMRJEX01\\") (site ++ 92 ∷ decimal from) (name ++ 92 ∷ decimal n) e in
+    (one_cut 92 site (decimal from) name (decimal n) (name_clean 92 site refl p) (name_clean 92 name refl q) f).0
 
 pub same_from : (site name : List ℕ) (from n : ℕ) → IsSiteName site → IsSiteName name → from ≤ 2 ^ 40 → n ≤ 2 ^ 40 → header_body site from ≡ header_body name n → from ≡ n
 same_from site name from n p q a b e =

@@ -10,6 +10,7 @@ use Rattle.global_defs.specs.Entry.{Update, Kill, Entry, Sequence, Stamp, Origin
 use Rattle.global_defs.specs.Fields.{IsStamp, IsOrigin}
 use Rattle.jnl_extract.specs.Extracts.{IsSpelled, IsEntry}
 use Rattle.jnl_extract.specs.Lines.{Head, Line, Opens, Holds, Closes, IsHead, IsLine, Stage, stage_of, head_of, updates_of, made_entry, follows, same_head, begun, gone_on, next_stage}
+use Rattle.jnl_extract.proofs.Forms.{entry_of_form}
 use Rattle.jnl_extract.proofs.FieldLaws.{bytes_same}
 use Rattle.jnl_extract.proofs.LineTexts.{lines_from, entry_lines, all_lines}
 
@@ -111,7 +112,7 @@ begins from next entries (Holds h u) t a i e =
     let p : ℕ × Entry = made_entry h (u ∷ []) in
     let s = if_some (follows next h) (stage_of (next + 1) (entries ++ p ∷ []) None) t e in
     let f = and_parts (h.number == next) (nat_lt next (2 ^ 40)) s.0 in
-    let good : IsEntry p.1 = record { stamp = i.0.stamp; origin = i.0.origin; some = omega arith; few = omega arith; each = (i.1, tt) } in
+    let good : IsEntry p.1 = entry_of_form p.1 i.0.stamp i.0.origin (omega arith) (omega arith) (i.1, tt) in
     let at : Goes from entries None (Holds h u) (stage_of (next + 1) (entries ++ p ∷ []) None) = record {
       stage = record { entries = pushed from next entries p a (eqb-true h.number next f.0) (ltb-true next (2 ^ 40) f.1) good; pending = tt };
       lines = ap (λ (x : List Line). x ++ []) (flat_map-append entry_lines entries (p ∷ [])) ∙ ends (all_lines entries) (Holds h u);
@@ -176,7 +177,7 @@ goes_on from next entries p (Closes h) t a q i e =
     let f = and_parts (same_head p h) (nat_lt 1 (length (updates_of p))) s.0 in
     let g : head_of p ≡ h = head_same p h f.0 in
     let many : 1 < length (updates_of p) = ltb-true 1 (length (updates_of p)) f.1 in
-    let good : IsEntry p.1 = record { stamp = q.stamp; origin = q.origin; some = omega (arith, many); few = q.few; each = q.each } in
+    let good : IsEntry p.1 = entry_of_form p.1 q.stamp q.origin (omega (arith, many)) q.few q.each in
     let at : Goes from entries (Some p) (Closes (head_of p)) (stage_of (next + 1) (entries ++ p ∷ []) None) = record {
       stage = record { entries = pushed from next entries p a q.number q.below good; pending = tt };
       lines = append-nil (all_lines (entries ++ p ∷ []))

@@ -5,6 +5,8 @@ pub mod FieldLaws
 pub mod LineLaws
 pub mod LineTexts
 pub mod Clean
+pub mod Forms
 pub mod Grammar
 pub mod Refused
 pub mod Fronts
+pub mod Unique

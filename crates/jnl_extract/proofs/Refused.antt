@@ -61,7 +61,7 @@ same_made : (n : ℕ) (e d : Entry) → head_of (n, e) ≡ head_of (n, d) → e.
 same_made n e d h u =
     ap (λ (k : Head). (made_entry k e.transaction.updates).1) h ∙ ap (λ (us : List Update). (made_entry (head_of (n, d)) us).1) u
 
-some_lines : (h : Head) (us : List Update) → 1 ≤ length us → 1 ≤ length (lines_from h us)
+pub some_lines : (h : Head) (us : List Update) → 1 ≤ length us → 1 ≤ length (lines_from h us)
 some_lines h [] p = absurd (omega arith)
 some_lines h (u ∷ []) p = omega arith
 some_lines h (u ∷ v ∷ us) p = omega arith
@@ -81,12 +81,12 @@ strip n [] es x p q e = record {
 strip n (d ∷ ds) [] x p q e =
     let a : List Line = entry_lines (n, d) in
     let b : List Line = all_lines (enumerate_from (n + 1) ds) in
-    let s : 1 ≤ length a = some_lines (head_of (n, d)) d.transaction.updates p.0.some in
+    let s : 1 ≤ length a = some_lines (head_of (n, d)) d.transaction.updates p.0.transaction.some in
     let z : 0 ≡ length ((a ++ b) ++ x) = ap length e in
     absurd (omega (arith, s, z, length-append (a ++ b) x, length-append a b))
 strip n (d ∷ ds) (e ∷ es) x p q eq =
     let b : List Line = all_lines (enumerate_from (n + 1) ds) in
-    let s = same_entry (head_of (n, e)) (head_of (n, d)) e.transaction.updates d.transaction.updates (all_lines (enumerate_from (n + 1) es)) (b ++ x) q.0.some p.0.some
+    let s = same_entry (head_of (n, e)) (head_of (n, d)) e.transaction.updates d.transaction.updates (all_lines (enumerate_from (n + 1) es)) (b ++ x) q.0.transaction.some p.0.transaction.some
         (eq ∙ append_assoc (entry_lines (n, d)) b x) in
     let r = strip (n + 1) ds es x p.1 q.1 s.2 in
     record {
@@ -110,7 +110,7 @@ refused_between next entries l [] x p q e n = cc
 refused_between next entries l (d ∷ ds) x p q e n =
     let h : Head = head_of (next, d) in
     let f : follows next h ≡ true = and_from (next == next) (nat_lt next (2 ^ 40)) (eq-eqb next next refl) (lt-ltb next (2 ^ 40) (omega (arith, q))) in
-    elim (first_line h d.transaction.updates (all_lines (enumerate_from (next + 1) ds)) x l p.0.some e) [
+    elim (first_line h d.transaction.updates (all_lines (enumerate_from (next + 1) ds)) x l p.0.transaction.some e) [
       | inl u ↦ no_none (follows next h) (stage_of (next + 1) (entries ++ made_entry h (u.0 ∷ []) ∷ []) None) f (ap (begun next entries) (sym u.1) ∙ n)
       | inr o ↦ no_none (follows next h) (stage_of next entries (Some (made_entry h []))) f (ap (begun next entries) (sym o) ∙ n)
     ]
@@ -155,10 +155,10 @@ refused_within next entries p l (d ∷ ds) x i e n =
     let us : List Update = updates_of p in
     let ws : List Update = d.transaction.updates in
     let a : List Line = all_lines (enumerate_from (next + 1) ds) in
-    let k = brackets h (head_of (next, d)) us ws (l ∷ x) a i.0.some e in
+    let k = brackets h (head_of (next, d)) us ws (l ∷ x) a i.0.transaction.some e in
     elim (next_in h us ws l x a k.lines) [
       | inl r ↦
-          (let f : (same_head p h && nat_lt (length us) 256) ≡ true = and_from (same_head p h) (nat_lt (length us) 256) (own_head p) (lt-ltb (length us) 256 (omega (arith, r.2, i.0.few))) in
+          (let f : (same_head p h && nat_lt (length us) 256) ≡ true = and_from (same_head p h) (nat_lt (length us) 256) (own_head p) (lt-ltb (length us) 256 (omega (arith, r.2, i.0.transaction.few))) in
           no_none (same_head p h && nat_lt (length us) 256) (stage_of next entries (Some (made_entry h (us ++ r.0 ∷ [])))) f (ap (gone_on next entries p) (sym r.1) ∙ n))
       | inr r ↦
           (let f : (same_head p h && nat_lt 1 (length us)) ≡ true = and_from (same_head p h) (nat_lt 1 (length us)) (own_head p) (lt-ltb 1 (length us) (omega (arith, k.many, ap length r.1))) in
@@ -209,7 +209,7 @@ no_end h (u ∷ us) (w ∷ ws) a e = no_end h us ws a (tails_eq (Holds h u) (Hol
 open_at : (next : ℕ) (p : ℕ × Entry) (more : Sequence) → AllByRecursion IsEntry more → pending_lines (Some p) ≡ all_lines (enumerate_from next more) → ⊥
 open_at next p [] i e = cc
 open_at next p (d ∷ ds) i e =
-    let k = brackets (head_of p) (head_of (next, d)) (updates_of p) d.transaction.updates [] (all_lines (enumerate_from (next + 1) ds)) i.0.some (append-nil (pending_lines (Some p)) ∙ e) in
+    let k = brackets (head_of p) (head_of (next, d)) (updates_of p) d.transaction.updates [] (all_lines (enumerate_from (next + 1) ds)) i.0.transaction.some (append-nil (pending_lines (Some p)) ∙ e) in
     no_end (head_of p) (updates_of p) d.transaction.updates (all_lines (enumerate_from (next + 1) ds)) k.lines
 
 some_open : (next : ℕ) (pending : Option (ℕ × Entry)) (more : Sequence) → (pending ≡ None → ⊥) → AllByRecursion IsEntry more → pending_lines pending ≡ all_lines (enumerate_from next more) → ⊥

@@ -3,7 +3,7 @@ use Rattle.std.specs.Prelude.{◌≡◌, ◌≤◌, ◌^◌, ◌+◌, ◌==◌, 
 use Rattle.std.specs.List.{AllByRecursion, enumerate_from, flat_map, list_any}
 use Rattle.global_defs.specs.Entry.{Update, Entry, Sequence}
 use Rattle.global_defs.specs.Extract.{header, entries_text}
-use Rattle.global_defs.specs.Fields.{IsSiteName, IsStamp, IsOrigin}
+use Rattle.global_defs.specs.Fields.{IsSiteName, IsStamp, IsTransaction}
 use Rattle.script_defs.specs.Statements.{statement_text, SpellsStatement}
 use Rattle.jnl_extract.specs.Updates.{statement_of}
 
@@ -14,9 +14,7 @@ IsSpelled u = SpellsStatement (statement_text (statement_of u)) (statement_of u)
 -- an entry of its form
 pub record IsEntry (e : Entry) : Type 0 where
   pub stamp : IsStamp e.stamp
-  pub origin : IsOrigin e.transaction.origin
-  pub some : 1 ≤ length e.transaction.updates
-  pub few : length e.transaction.updates ≤ 256
+  pub transaction : IsTransaction e.transaction
   pub each : AllByRecursion IsSpelled e.transaction.updates
 
 -- what an extract is of: a site's name, the number that it begins with, and the entries from that number on, each with a number below 2 ^ 40
