@@ -49,8 +49,8 @@ pub name_is : (s : List ℕ) → IsSiteName s → is_site_name s ≡ true
 name_is [] h = absurd h
 name_is (b ∷ bs) h =
     and_from (is_ascii_alphabetic b && list_all is_ascii_alphanumeric bs) (nat_lt (length bs) 15)
-        (and_from (is_ascii_alphabetic b) (list_all is_ascii_alphanumeric bs) h.0 h.1)
-        (lt-ltb (length bs) 15 h.2)
+    (and_from (is_ascii_alphabetic b) (list_all is_ascii_alphanumeric bs) h.0 h.1)
+    (lt-ltb (length bs) 15 h.2)
 
 pub no_name : (s : List ℕ) → is_site_name s ≡ false → IsSiteName s → ⊥
 no_name s e h = let t : true ≡ false = sym (name_is s h) ∙ e in cc

@@ -50,8 +50,8 @@ pub line_clean : (l : Line) → IsLine l → Clean (line_body l)
 line_clean l i =
     let h : Head = line_head l in
     clean_both (line_word l) (92 ∷ (decimal h.number ++ 92 ∷ (stamp_text h.stamp ++ 92 ∷ line_rest l))) (clean_word l)
-        (clean_both (decimal h.number) (92 ∷ (stamp_text h.stamp ++ 92 ∷ line_rest l)) (number_clean 10 h.number refl (head_is l i).number)
-            (clean_both (stamp_text h.stamp) (92 ∷ line_rest l) (clean_stamp h (head_is l i)) (clean_rest l i)))
+    (clean_both (decimal h.number) (92 ∷ (stamp_text h.stamp ++ 92 ∷ line_rest l)) (number_clean 10 h.number refl (head_is l i).number)
+    (clean_both (stamp_text h.stamp) (92 ∷ line_rest l) (clean_stamp h (head_is l i)) (clean_rest l i)))
 
 pub header_clean : (site : List ℕ) (from : ℕ) → IsSiteName site → from ≤ 2 ^ 40 → Clean (header_body site from)
 header_clean site from i r = clean_both site (92 ∷ decimal from) (name_clean 10 site refl i) (number_clean 10 from refl (omega (arith, r)))
@@ -125,8 +125,8 @@ stage_fit : (from : ℕ) (s : Stage) → IsStage from s → AllByRecursion IsLin
 stage_fit from s a =
     let r : from + length (entries_of s.entries) ≤ 2 ^ 40 = omega (arith, a.entries.next_is, a.entries.room, same_length s.entries) in
     all_more IsLine (all_lines s.entries) (pending_lines s.pending)
-        (subst (λ (ps : List (ℕ × Entry)). AllByRecursion IsLine (all_lines ps)) (sym a.entries.numbered) (lines_fit from (entries_of s.entries) r a.entries.each))
-        (pending_fit s.next s.pending a.pending)
+    (subst (λ (ps : List (ℕ × Entry)). AllByRecursion IsLine (all_lines ps)) (sym a.entries.numbered) (lines_fit from (entries_of s.entries) r a.entries.each))
+    (pending_fit s.next s.pending a.pending)
 
 -- a stage's lines are a front
 
@@ -158,11 +158,11 @@ completed us few each = elim (cases_lt (length us) 2) [
         each = all_more IsSpelled us (k ∷ k ∷ []) each (some_spelled, (some_spelled, tt));
       })
   | inr most ↦ record {
-      more = [];
-      many = omega (arith, most, length-append us []);
-      few = omega (arith, few, length-append us []);
-      each = all_more IsSpelled us [] each tt;
-    }
+    more = [];
+    many = omega (arith, most, length-append us []);
+    few = omega (arith, few, length-append us []);
+    each = all_more IsSpelled us [] each tt;
+  }
 ]
 
 front_at : (site : List ℕ) (from next : ℕ) (entries : List (ℕ × Entry)) (pending : Option (ℕ × Entry)) → IsSiteName site → 1 ≤ from → AreEntries from next entries → ArePending next pending
@@ -188,11 +188,11 @@ front_at site from next entries (Some p) n f a i =
     let behind : List Line = map (Holds h) c.more ++ Closes h ∷ [] in
     let front : List Line = lines_at entries (Some p) in
     let lines : all_lines (entries ++ q ∷ []) ≡ front ++ behind =
-        flat_map-append entry_lines entries (q ∷ [])
-        ∙ ap (λ (x : List Line). all_lines entries ++ x) (append-nil (entry_lines q) ∙ in_brackets h (us ++ c.more) c.many)
-        ∙ ap (λ (x : List Line). all_lines entries ++ Opens h ∷ (x ++ Closes h ∷ [])) (map-append (Holds h) us c.more)
-        ∙ ap (λ (x : List Line). all_lines entries ++ Opens h ∷ x) (append_assoc (map (Holds h) us) (map (Holds h) c.more) (Closes h ∷ []))
-        ∙ sym (append_assoc (all_lines entries) (Opens h ∷ map (Holds h) us) behind) in
+    flat_map-append entry_lines entries (q ∷ [])
+    ∙ ap (λ (x : List Line). all_lines entries ++ x) (append-nil (entry_lines q) ∙ in_brackets h (us ++ c.more) c.many)
+    ∙ ap (λ (x : List Line). all_lines entries ++ Opens h ∷ (x ++ Closes h ∷ [])) (map-append (Holds h) us c.more)
+    ∙ ap (λ (x : List Line). all_lines entries ++ Opens h ∷ x) (append_assoc (map (Holds h) us) (map (Holds h) c.more) (Closes h ∷ []))
+    ∙ sym (append_assoc (all_lines entries) (Opens h ∷ map (Holds h) us) behind) in
     record {
       site = site;
       from = from;
@@ -226,11 +226,11 @@ take_line text site from s t left rest r k =
       text_is =
           r.text_is
           ∙ ap (λ (x : List ℕ). (header_body site from ++ 10 ∷ []) ++ x)
-              (ap (λ (x : List ℕ). text_of (stage_lines s) ++ x) (k.left_is ∙ sym (append_assoc b (10 ∷ []) rest))
-              ∙ ap (λ (x : List ℕ). text_of (stage_lines s) ++ (x ++ rest)) (sym (append-nil (b ++ 10 ∷ [])))
-              ∙ sym (append_assoc (text_of (stage_lines s)) (text_of (k.line ∷ [])) rest)
-              ∙ ap (λ (x : List ℕ). x ++ rest) (sym (text-append (stage_lines s) (k.line ∷ [])))
-              ∙ ap (λ (x : List Line). text_of x ++ rest) (sym g.lines));
+          (ap (λ (x : List ℕ). text_of (stage_lines s) ++ x) (k.left_is ∙ sym (append_assoc b (10 ∷ []) rest))
+          ∙ ap (λ (x : List ℕ). text_of (stage_lines s) ++ (x ++ rest)) (sym (append-nil (b ++ 10 ∷ [])))
+          ∙ sym (append_assoc (text_of (stage_lines s)) (text_of (k.line ∷ [])) rest)
+          ∙ ap (λ (x : List ℕ). x ++ rest) (sym (text-append (stage_lines s) (k.line ∷ [])))
+          ∙ ap (λ (x : List Line). text_of x ++ rest) (sym g.lines));
     }
 
 pub read_whole : (text site : List ℕ) (from : ℕ) (rest : List ℕ) (s : Stage) → Begins text site from rest → IsRead text site from s [] → s.pending ≡ None → IsExtractOf text site from s.entries
@@ -272,11 +272,11 @@ beyond : (site : List ℕ) (from : ℕ) (s : Stage) (x name : List ℕ) (n : ℕ
 beyond site from s x name n es p r a v e =
     let small : n ≤ 2 ^ 40 = omega (arith, v.last) in
     let h = one_line (header_body name n) (header_body site from) (text_of (all_lines (enumerate_from n es))) (text_of (stage_lines s) ++ x)
-        (header_clean name n v.name small) (header_clean site from p r) (sym (extract_is name n es) ∙ e) in
+    (header_clean name n v.name small) (header_clean site from p r) (sym (extract_is name n es) ∙ e) in
     let same : n ≡ from = same_from name site n from v.name p small r h.0 in
     let room : from + length es ≤ 2 ^ 40 = omega (arith, same, v.last) in
     let c = common (all_lines (enumerate_from from es)) (stage_lines s) x (lines_fit from es room v.each) (stage_fit from s a)
-        (ap (λ (k : ℕ). text_of (all_lines (enumerate_from k es))) (sym same) ∙ h.1) in
+    (ap (λ (k : ℕ). text_of (all_lines (enumerate_from k es))) (sym same) ∙ h.1) in
     record { each = v.each; room = room; more = c.more; good = c.good; lines_are = c.lines_are; rest_is = c.rest_is }
 
 -- what a stage refuses
@@ -287,7 +287,7 @@ no_line site from s left name line rest more n es p r a refuses v c is e =
     let b = beyond site from s ((line ++ 10 ∷ []) ++ rest) name n es p r a v e in
     let f = first b.more line rest b.good c b.rest_is in
     refused from s es f.line f.more a b.each b.room (b.lines_are ∙ ap (λ (x : List Line). stage_lines s ++ x) f.lines_are)
-        (refuses f.line more f.good (is ∙ ap (λ (x : List ℕ). x ++ 10 ∷ more) (sym f.body_is)))
+    (refuses f.line more f.good (is ∙ ap (λ (x : List ℕ). x ++ 10 ∷ more) (sym f.body_is)))
 
 ends_somewhere : (site : List ℕ) (from : ℕ) (s : Stage) (left : List ℕ) (es : Sequence) (more : List Line) → IsStage from s → Refuses s left → (left ≡ [] → s.pending ≡ None → ⊥)
     → AllByRecursion IsEntry es → from + length es ≤ 2 ^ 40 → AllByRecursion IsLine more → all_lines (enumerate_from from es) ≡ stage_lines s ++ more → left ≡ text_of more → ⊥
@@ -308,7 +308,7 @@ bad_here text site from rest s left b r refuses o =
       front = front_at site from s.next s.entries s.pending b.name b.first r.stage.entries r.stage.pending;
       outside = λ line more c is f.
           no_line site from s left f.site line f.rest more f.from f.entries b.name b.last r.stage refuses f.form c is
-              (f.begins ∙ append_assoc before (line ++ 10 ∷ []) f.rest ∙ append_assoc (header_body site from ++ 10 ∷ []) (text_of (stage_lines s)) ((line ++ 10 ∷ []) ++ f.rest));
+          (f.begins ∙ append_assoc before (line ++ 10 ∷ []) f.rest ∙ append_assoc (header_body site from ++ 10 ∷ []) (text_of (stage_lines s)) ((line ++ 10 ∷ []) ++ f.rest));
       unfinished = λ name n es v e.
           (let y = beyond site from s left name n es b.name b.last r.stage v (sym e ∙ r.text_is) in
           ends_somewhere site from s left es y.more r.stage refuses o y.each y.room y.good y.lines_are y.rest_is);
@@ -326,11 +326,11 @@ no_header text none = record {
   outside = λ line more c is f.
       (let small : f.from ≤ 2 ^ 40 = omega (arith, f.form.last) in
       let h = one_line (header_body f.site f.from) line (text_of (all_lines (enumerate_from f.from f.entries))) f.rest (header_clean f.site f.from f.form.name small) c
-          (sym (extract_is f.site f.from f.entries) ∙ f.begins) in
+      (sym (extract_is f.site f.from f.entries) ∙ f.begins) in
       none f.site f.from more f.form.name f.form.first small (is ∙ ap (λ (x : List ℕ). x ++ 10 ∷ more) (sym h.0)));
   unfinished = λ site from es v e.
       none site from (text_of (all_lines (enumerate_from from es))) v.name v.first (omega (arith, v.last))
-          (e ∙ extract_is site from es ∙ append_assoc (header_body site from) (10 ∷ []) (text_of (all_lines (enumerate_from from es))));
+      (e ∙ extract_is site from es ∙ append_assoc (header_body site from) (10 ∷ []) (text_of (all_lines (enumerate_from from es))));
 }
 
 -- what is left of a text

@@ -141,8 +141,8 @@ head_same p h e =
     let c = and_parts (p.0 == h.number && bytes_eq p.1.stamp.root h.stamp.root) (p.1.stamp.cycle == h.stamp.cycle) u.0 in
     let r = and_parts (p.0 == h.number) (bytes_eq p.1.stamp.root h.stamp.root) c.0 in
     heads p.0 h.number p.1.stamp.cycle h.stamp.cycle p.1.transaction.origin.updater h.origin.updater p.1.transaction.origin.serial h.origin.serial p.1.stamp.root h.stamp.root
-        (eqb-true p.0 h.number r.0) (same_bytes p.1.stamp.root h.stamp.root r.1) (eqb-true p.1.stamp.cycle h.stamp.cycle c.1)
-        (eqb-true p.1.transaction.origin.updater h.origin.updater u.1) (eqb-true p.1.transaction.origin.serial h.origin.serial s.1)
+    (eqb-true p.0 h.number r.0) (same_bytes p.1.stamp.root h.stamp.root r.1) (eqb-true p.1.stamp.cycle h.stamp.cycle c.1)
+    (eqb-true p.1.transaction.origin.updater h.origin.updater u.1) (eqb-true p.1.transaction.origin.serial h.origin.serial s.1)
 
 pub own_head : (p : ℕ × Entry) → same_head p (head_of p) ≡ true
 own_head p = rw (eq-eqb p.0 p.0 refl, bytes_same p.1.stamp.root, eq-eqb p.1.stamp.cycle p.1.stamp.cycle refl, eq-eqb p.1.transaction.origin.updater p.1.transaction.origin.updater refl, eq-eqb p.1.transaction.origin.serial p.1.transaction.origin.serial refl) refl
@@ -164,9 +164,14 @@ goes_on from next entries p (Holds h u) t a q i e =
     let at : Goes from entries (Some p) (Holds (head_of p) u) (stage_of next entries (Some n)) = record {
       stage = record {
         entries = a;
-        pending = record { number = q.number; below = q.below; stamp = q.stamp; origin = q.origin;
+        pending = record {
+          number = q.number;
+          below = q.below;
+          stamp = q.stamp;
+          origin = q.origin;
           few = omega (arith, few, length-append (updates_of p) (u ∷ []));
-          each = all_more IsSpelled (updates_of p) (u ∷ []) q.each (i.1, tt) };
+          each = all_more IsSpelled (updates_of p) (u ∷ []) q.each (i.1, tt);
+        };
       };
       lines = ap (λ (x : List Line). all_lines entries ++ Opens (head_of p) ∷ x) (map-append (Holds (head_of p)) (updates_of p) (u ∷ []))
           ∙ sym (append_assoc (all_lines entries) (Opens (head_of p) ∷ map (Holds (head_of p)) (updates_of p)) (Holds (head_of p) u ∷ []));
@@ -194,4 +199,3 @@ goes_at from next entries (Some p) l t a q i e = goes_on from next entries p l t
 
 pub goes : (from : ℕ) (s : Stage) (l : Line) (t : Stage) → IsStage from s → IsLine l → next_stage s l ≡ Some t → Goes from s.entries s.pending l t
 goes from s l t a i e = goes_at from s.next s.entries s.pending l t a.entries a.pending i e
-

@@ -129,20 +129,23 @@ heads m n r t o q e f g = cc
 pub same_fields : (h g : Head) (number stamp origin : List ℕ) → IsHead h → IsHead g → FieldsAre h number stamp origin → FieldsAre g number stamp origin → h ≡ g
 same_fields h g number stamp origin p q a b =
     heads h.number g.number h.stamp g.stamp h.origin g.origin
-        (same_number number h.number g.number a.number_is b.number_is p.number q.number)
-        (same_stamp h.stamp g.stamp p.stamp q.stamp (sym a.stamp_is ∙ b.stamp_is))
-        (same_origin h.origin g.origin p.origin q.origin (sym a.origin_is ∙ b.origin_is))
+    (same_number number h.number g.number a.number_is b.number_is p.number q.number)
+    (same_stamp h.stamp g.stamp p.stamp q.stamp (sym a.stamp_is ∙ b.stamp_is))
+    (same_origin h.origin g.origin p.origin q.origin (sym a.origin_is ∙ b.origin_is))
 
 held_line : (l : Line) (g : Head) (word number stamp rest origin tail : List ℕ) → rest ≡ origin ++ 92 ∷ tail → IsHead g → FieldsAre g number stamp origin
     → IsHeld l g word tail → IsLine l × PartsAre l word number stamp rest
 held_line l g word number stamp rest origin tail e i f h =
     let P : Line → Type 0 = λ x. IsLine x × PartsAre x word number stamp rest in
-    subst P (sym h.line_is) ((i, h.spelled), record {
-      word_is = h.word_is;
-      number_is = f.number_is;
-      stamp_is = f.stamp_is;
-      rest_is = e ∙ ap (λ (x : List ℕ). x ++ 92 ∷ tail) f.origin_is ∙ ap (λ (x : List ℕ). origin_text g.origin ++ 92 ∷ x) h.tail_is;
-    })
+    subst P (sym h.line_is) (
+      (i, h.spelled),
+      record {
+        word_is = h.word_is;
+        number_is = f.number_is;
+        stamp_is = f.stamp_is;
+        rest_is = e ∙ ap (λ (x : List ℕ). x ++ 92 ∷ tail) f.origin_is ∙ ap (λ (x : List ℕ). origin_text g.origin ++ 92 ∷ x) h.tail_is;
+      },
+    )
 
 -- what the update's part found is found of the line
 pub held_from : {L E : Type 0} (view : L → Line) (r : Result (Option L) E) (g : Head) (word number stamp rest origin tail : List ℕ)
@@ -175,7 +178,7 @@ oks a b e = cc
 pub same_update : (u v : Update) → IsSpelled u → IsSpelled v → update_word u ≡ update_word v → update_tail u ≡ update_tail v → u ≡ v
 same_update u v p q e f =
     let t : statement_text (statement_of u) ≡ statement_text (statement_of v) =
-        update_words u ∙ ap (λ (x : List ℕ). x ++ 32 ∷ update_tail u) e ∙ ap (λ (x : List ℕ). update_word v ++ 32 ∷ x) f ∙ sym (update_words v) in
+    update_words u ∙ ap (λ (x : List ℕ). x ++ 32 ∷ update_tail u) e ∙ ap (λ (x : List ℕ). update_word v ++ 32 ∷ x) f ∙ sym (update_words v) in
     let r = sym (statement_read (statement_text (statement_of u)) (statement_of u) p) ∙ ap statement_reading t ∙ statement_read (statement_text (statement_of v)) (statement_of v) q in
     statements_apart u v (oks (statement_of u) (statement_of v) r)
 

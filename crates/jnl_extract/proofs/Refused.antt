@@ -87,7 +87,7 @@ strip n (d ∷ ds) [] x p q e =
 strip n (d ∷ ds) (e ∷ es) x p q eq =
     let b : List Line = all_lines (enumerate_from (n + 1) ds) in
     let s = same_entry (head_of (n, e)) (head_of (n, d)) e.transaction.updates d.transaction.updates (all_lines (enumerate_from (n + 1) es)) (b ++ x) q.0.transaction.some p.0.transaction.some
-        (eq ∙ append_assoc (entry_lines (n, d)) b x) in
+    (eq ∙ append_assoc (entry_lines (n, d)) b x) in
     let r = strip (n + 1) ds es x p.1 q.1 s.2 in
     record {
       more = r.more;

@@ -50,11 +50,13 @@ one_extract site name from n es fs p q e =
     let a : from ≤ 2 ^ 40 = omega (arith, p.last) in
     let b : n ≤ 2 ^ 40 = omega (arith, q.last) in
     let h = one_line (header_body site from) (header_body name n) (text_of (all_lines (enumerate_from from es))) (text_of (all_lines (enumerate_from n fs)))
-        (header_clean site from p.name a) (header_clean name n q.name b) (sym (extract_is site from es) ∙ e ∙ extract_is name n fs) in
+    (header_clean site from p.name a) (header_clean name n q.name b) (sym (extract_is site from es) ∙ e ∙ extract_is name n fs) in
     let k : from ≡ n = same_from site name from n p.name q.name a b h.0 in
-    let r : from + length fs ≤ 2 ^ 40 = omega (arith, k, q.last) in
-    (same_site site name from n p.name q.name h.0, k,
-        same_entries from es fs p.last r p.each q.each (h.1 ∙ ap (λ (m : ℕ). text_of (all_lines (enumerate_from m fs))) (sym k)))
+    let r : from + length fs ≤ 2 ^ 40 = omega (arith, k, q.last) in (
+      same_site site name from n p.name q.name h.0,
+      k,
+      same_entries from es fs p.last r p.each q.each (h.1 ∙ ap (λ (m : ℕ). text_of (all_lines (enumerate_from m fs))) (sym k)),
+    )
 
 behind : (xs es : Sequence) → drop (length xs) (xs ++ es) ≡ es
 behind [] es = refl
@@ -64,7 +66,7 @@ behind (x ∷ xs) es = behind xs es
 pub extract_part : (site : List ℕ) (before es : Sequence) → extract site (before ++ es) (length before + 1) ≡ extract_text site (length before + 1) es
 extract_part site before es =
     ap (λ (x : Sequence). header site (length before + 1) ++ entries_text (length before + 1) x)
-        (ap (λ (k : ℕ). drop k (before ++ es)) (let z : (length before + 1) - 1 ≡ length before = omega arith in z) ∙ behind before es)
+    (ap (λ (k : ℕ). drop k (before ++ es)) (let z : (length before + 1) - 1 ≡ length before = omega arith in z) ∙ behind before es)
 
 -- what lines up to a place say of those up to a later one
 
@@ -126,7 +128,7 @@ no_more xs ys (b ∷ bs) p q e f h l front outside =
     let w = first_whole b bs (sym (last_after xs b bs) ∙ ap last_byte (sym e) ∙ l) in
     let whole : ys ≡ (xs ++ (w.line ++ 10 ∷ [])) ++ w.more = e ∙ ap (λ (z : List ℕ). xs ++ z) w.text_is ∙ regroup xs w.line w.more in
     outside w.line (w.more ++ q) w.clean (f ∙ ap (λ (z : List ℕ). z ++ q) w.text_is ∙ append_assoc w.line (10 ∷ w.more) q)
-        (front_of_front (xs ++ (w.line ++ 10 ∷ [])) w.more (subst IsFront whole front))
+    (front_of_front (xs ++ (w.line ++ 10 ∷ [])) w.more (subst IsFront whole front))
 
 later_by : (xs ys p q : List ℕ) → xs ++ p ≡ ys ++ q → length xs < length ys → last_byte ys ≡ 10 → IsFront ys
     → ((line more : List ℕ) → list_any is_feed line ≡ false → p ≡ line ++ 10 ∷ more → IsFront (xs ++ (line ++ 10 ∷ [])) → ⊥) → ⊥
@@ -137,6 +139,12 @@ later_by xs ys p q e h l front outside =
 -- a bad line isn't before another
 later : (text : List ℕ) (a b : ℕ) → IsBadLine text a → IsBadLine text b → a < b → ⊥
 later text a b p q h = later_by (ended p.lines) (ended q.lines) p.rest q.rest (sym p.text_is ∙ q.text_is) (omega (arith, h, p.place, q.place)) (ended_last q.lines) q.front p.outside
+
+pub one_bad_line : (text : List ℕ) (a b : ℕ) → IsBadLine text a → IsBadLine text b → a ≡ b
+one_bad_line text a b p q = elim (cases_order a b) [
+  | inl e ↦ e
+  | inr o ↦ elim o [ inl less ↦ absurd (later text a b p q less) | inr more ↦ absurd (later text b a q p more) ]
+]
 
 -- an answer is that of an extract, and tells the one bad line
 
@@ -152,7 +160,4 @@ pub tells : (text : List ℕ) (r : Result Extract ExtractError) → IfOk r (λ x
     → (at : ℕ) → IsBadLine text at → TellsAt at r
 tells text (Ok x) h k at b = b.unfinished x.site x.from h.sequence h.form h.text_is
 tells text (Err NoMemory) h k at b = tt
-tells text (Err (BadLine n)) h k at b = elim (cases_order n at) [
-  | inl e ↦ e
-  | inr o ↦ elim o [ inl less ↦ absurd (later text n at k b less) | inr more ↦ absurd (later text at n b k more) ]
-]
+tells text (Err (BadLine n)) h k at b = one_bad_line text n at k b

@@ -115,7 +115,12 @@ fn read_stamp(alloc: Global, text: &[u8]) -> Result<Option<Stamp>, NoMemory>
 }
 
 /// A number, a stamp and an origin, each by its text.
-pub(crate) fn read_head(alloc: Global, number: &[u8], stamp: &[u8], origin: &[u8]) -> Result<Option<Head>, NoMemory>
+pub(crate) fn read_head(
+    alloc: Global,
+    number: &[u8],
+    stamp: &[u8],
+    origin: &[u8],
+) -> Result<Option<Head>, NoMemory>
     ensures { IfOk result (λ found. MatchOption found ((h : lines.Head) → IsHead h → FieldsAre h number.now stamp.now origin.now → ⊥)
         (λ h. IsHead (head_value h) × FieldsAre (head_value h) number.now stamp.now origin.now)) }
 {
@@ -125,7 +130,11 @@ pub(crate) fn read_head(alloc: Global, number: &[u8], stamp: &[u8], origin: &[u8
             None => Ok(None),
             Some(origin) => match read_stamp(alloc, stamp)? {
                 None => Ok(None),
-                Some(stamp) => Ok(Some(Head { number, stamp, origin })),
+                Some(stamp) => Ok(Some(Head {
+                    number,
+                    stamp,
+                    origin,
+                })),
             },
         },
     }

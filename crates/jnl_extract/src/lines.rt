@@ -90,7 +90,13 @@ pub(crate) fn read_line(alloc: Global, text: &[u8]) -> Result<Option<Line>, NoMe
 }
 
 /// A line by its word, two of its fields, and the rest.
-fn read_parts(alloc: Global, word: &[u8], number: &[u8], stamp: &[u8], rest: &[u8]) -> Result<Option<Line>, NoMemory>
+fn read_parts(
+    alloc: Global,
+    word: &[u8],
+    number: &[u8],
+    stamp: &[u8],
+    rest: &[u8],
+) -> Result<Option<Line>, NoMemory>
     ensures { IfOk result (λ found. MatchOption found ((l : lines.Line) → IsLine l → PartsAre l word.now number.now stamp.now rest.now → ⊥)
         (λ l. IsLine (line_value l) × PartsAre (line_value l) word.now number.now stamp.now rest.now)) }
 {

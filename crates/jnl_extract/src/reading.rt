@@ -1,8 +1,9 @@
 //! Extracts read.
-ghost use Rattle.std.specs.Prelude.{◌≡◌, ◌≤◌, ◌-◌, length, IfOk, IfErr, MatchOption};
-ghost use Rattle.jnl_extract.specs.Extracts.{IsExtractOf};
+ghost use Rattle.std.specs.Prelude.{◌≡◌, ◌≤◌, ◌-◌, ℕ, List, length, IfOk, IfErr, MatchOption};
+ghost use Rattle.jnl_extract.specs.Extracts.{IsExtract, IsExtractOf, IsBadLine, extract_text};
 ghost use Rattle.jnl_extract.specs.Lines.{HasNumber, Refuses, Takes, Begins};
-ghost use Rattle.jnl_extract.specs.Values.{stage_value, TellsBadLine};
+ghost use Rattle.jnl_extract.specs.Values.{stage_value, Gives, TellsAt, TellsBadLine};
+ghost use Rattle.global_defs.specs.Entry.{Sequence};
 
 use super::cut::cut;
 use super::lines::{read_header, read_line};
@@ -77,7 +78,13 @@ fn step(alloc: Global, stage: Stage, left: &[u8]) -> Result<Option<(Stage, &[u8]
 }
 
 /// The extract of a text, by its header and what stands behind it.
-fn read_entries(alloc: Global, text: &[u8], rest: &[u8], site: Bytes, from: u64) -> Result<Extract, ExtractError>
+fn read_entries(
+    alloc: Global,
+    text: &[u8],
+    rest: &[u8],
+    site: Bytes,
+    from: u64,
+) -> Result<Extract, ExtractError>
     requires { Begins text.now site from rest.now }
     ensures read { IfOk result (λ x. IsExtractOf text.now x.site x.from x.entries) }
     ensures bad { IfErr result (λ e. TellsBadLine text.now e) }
@@ -113,6 +120,10 @@ pub fn read_extract(alloc: Global, text: &[u8]) -> Result<Extract, ExtractError>
     ensures read { IfOk result (λ x. IsExtractOf text.now x.site x.from x.entries) }
     // A bad line is the first that no extract goes on with.
     ensures bad { IfErr result (λ e. TellsBadLine text.now e) }
+    // What is an extract is read to what it is of.
+    ensures only { (site : List ℕ) (from : ℕ) (entries : Sequence) → IsExtract site from entries → text.now ≡ extract_text site from entries → Gives site from entries result }
+    // A first bad line is told.
+    ensures exact { (offset : ℕ) → IsBadLine text.now offset → TellsAt offset result }
 {
     match cut(text, b'\n') {
         None => Err(ExtractError::BadLine { offset: 0 }),

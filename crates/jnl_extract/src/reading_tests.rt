@@ -132,7 +132,10 @@ fn a_line_within_an_entry_is_bad(rt: HostRuntime) -> Result<(), Fail> {
         assert_eq!(rt; bad(rt.alloc(), text.as_slice()), Some(at));
     }
     let whole = opened(rt.alloc(), 256, b"TCOM\\1\\A.1\\1.1\n")?;
-    assert_eq!(rt; again(rt.alloc(), whole.as_slice())?.as_slice(), whole.as_slice());
+    assert_eq!(rt;
+        again(rt.alloc(), whole.as_slice())?.as_slice(),
+        whole.as_slice()
+    );
     Ok(())
 }
 

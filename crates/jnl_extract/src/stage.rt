@@ -52,7 +52,12 @@ fn made_entry(head: Head, updates: Updates) -> Entry
 }
 
 /// Behind whole entries stands an update alone, or the first line of more.
-fn begun(alloc: Global, next: u64, mut entries: Entries, line: Line) -> Result<Option<Stage>, NoMemory>
+fn begun(
+    alloc: Global,
+    next: u64,
+    mut entries: Entries,
+    line: Line,
+) -> Result<Option<Stage>, NoMemory>
     ensures { IfOk result (λ stage. option_map stage_value stage ≡ begun next entries (line_value line)) }
 {
     match line {
@@ -62,7 +67,11 @@ fn begun(alloc: Global, next: u64, mut entries: Entries, line: Line) -> Result<O
                 return Ok(None);
             }
             let pending = Some(made_entry(head, Updates::new(alloc)));
-            Ok(Some(Stage { next, entries, pending }))
+            Ok(Some(Stage {
+                next,
+                entries,
+                pending,
+            }))
         }
         Line::Holds(head, update) => {
             if !follows(next, &head) {
@@ -71,13 +80,22 @@ fn begun(alloc: Global, next: u64, mut entries: Entries, line: Line) -> Result<O
             let mut updates = Updates::new(alloc);
             updates.push(update)?;
             entries.push(made_entry(head, updates))?;
-            Ok(Some(Stage { next: next + 1, entries, pending: None }))
+            Ok(Some(Stage {
+                next: next + 1,
+                entries,
+                pending: None,
+            }))
         }
     }
 }
 
 /// Behind an entry's first line stand its updates, and its last line behind two or more.
-fn gone_on(next: u64, mut entries: Entries, mut entry: Entry, line: Line) -> Result<Option<Stage>, NoMemory>
+fn gone_on(
+    next: u64,
+    mut entries: Entries,
+    mut entry: Entry,
+    line: Line,
+) -> Result<Option<Stage>, NoMemory>
     requires { next < 2 ^ 40 }
     ensures { IfOk result (λ stage. option_map stage_value stage ≡ gone_on next entries (numbered entry) (line_value line)) }
 {
@@ -88,14 +106,22 @@ fn gone_on(next: u64, mut entries: Entries, mut entry: Entry, line: Line) -> Res
                 return Ok(None);
             }
             entry.transaction.updates.push(update)?;
-            Ok(Some(Stage { next, entries, pending: Some(entry) }))
+            Ok(Some(Stage {
+                next,
+                entries,
+                pending: Some(entry),
+            }))
         }
         Line::Closes(head) => {
             if !same_head(&entry, &head) || entry.transaction.updates.len() < 2 {
                 return Ok(None);
             }
             entries.push(entry)?;
-            Ok(Some(Stage { next: next + 1, entries, pending: None }))
+            Ok(Some(Stage {
+                next: next + 1,
+                entries,
+                pending: None,
+            }))
         }
     }
 }

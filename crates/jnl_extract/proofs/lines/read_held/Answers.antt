@@ -17,7 +17,7 @@ returns-then-has_space c u p e f = spaced c.args.word.now u (sym c.has_space.ens
 pub returns-in-None : goal.returns-in-None
 returns-in-None c u p e f =
     let t : c.args.word.now ++ 32 ∷ c.args.tail.now ≡ update_word u ++ 32 ∷ update_tail u =
-        ap (λ (x : List ℕ). x ++ 32 ∷ c.args.tail.now) e ∙ ap (λ (x : List ℕ). update_word u ++ 32 ∷ x) f in
+    ap (λ (x : List ℕ). x ++ 32 ∷ c.args.tail.now) e ∙ ap (λ (x : List ℕ). update_word u ++ 32 ∷ x) f in
     let text : c.args.word.now ++ 32 ∷ c.args.tail.now ≡ statement_text (statement_of u) = t ∙ sym (update_words u) in
     let o = c.in_ok-read_update.ensures.only u p text in
     no_update (option_map update_value c.in_ok-read_update.field-0) u (ap (option_map update_value) c.in-None.is) o
@@ -26,7 +26,7 @@ pub returns-in-Some : goal.returns-in-Some
 returns-in-Some c =
     let u = update_value c.in-Some.update in
     let text : c.args.word.now ++ 32 ∷ c.args.tail.now ≡ statement_text (statement_of u) =
-        of_some c.in_ok-read_update.field-0 c.in-Some.update (λ x. c.args.word.now ++ 32 ∷ c.args.tail.now ≡ statement_text (statement_of (update_value x))) c.in-Some.is c.in_ok-read_update.ensures.found in
+    of_some c.in_ok-read_update.field-0 c.in-Some.update (λ x. c.args.word.now ++ 32 ∷ c.args.tail.now ≡ statement_text (statement_of (update_value x))) c.in-Some.is c.in_ok-read_update.ensures.found in
     let spelled : IsSpelled u = of_some c.in_ok-read_update.field-0 c.in-Some.update (λ x. IsSpelled (update_value x)) c.in-Some.is c.in_ok-read_update.ensures.spelled in
     let clean : list_any (λ b. b == 32) c.args.word.now ≡ false = sym c.has_space.ensures ∙ c.if-has_space.false in
     let s = one_cut 32 c.args.word.now c.args.tail.now (update_word u) (update_tail u) clean (no_space u) (text ∙ update_words u) in

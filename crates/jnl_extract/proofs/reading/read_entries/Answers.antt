@@ -13,7 +13,7 @@ returns-in-None-clause-bad c =
     let left : List ℕ = c.loop-alloc.left.now in
     let refuses = at_none c.in_ok-step.field-0 (Refuses s left) (λ p. Takes s left (stage_value p.0) p.1.now) c.in-None.is c.in_ok-step.ensures in
     subst (TellsBadLine c.args.text.now) (sym c.bad_line.ensures)
-        (bad_here c.args.text.now c.args.site c.args.from c.args.rest.now s left c.requires c.loop-alloc.invariant refuses (λ e n. not_empty left c.is_empty.result c.is_empty.ensures c.loop-alloc-test.true e))
+    (bad_here c.args.text.now c.args.site c.args.from c.args.rest.now s left c.requires c.loop-alloc.invariant refuses (λ e n. not_empty left c.is_empty.result c.is_empty.ensures c.loop-alloc-test.true e))
 
 pub loop-alloc-preserved : goal.loop-alloc-preserved
 loop-alloc-preserved c =
@@ -27,7 +27,7 @@ returns-in-None-pending-clause-read c =
     let s = stage_value c.loop-alloc.stage in
     let none : c.loop-alloc.left.now ≡ [] = is_empty c.loop-alloc.left.now c.is_empty.result c.is_empty.ensures c.loop-alloc-test.false in
     read_whole c.args.text.now c.args.site c.args.from c.args.rest.now s c.requires
-        (subst (λ (x : List ℕ). IsRead c.args.text.now c.args.site c.args.from s x) none c.loop-alloc.invariant) (ap (option_map numbered) c.in-None-pending.is)
+    (subst (λ (x : List ℕ). IsRead c.args.text.now c.args.site c.args.from s x) none c.loop-alloc.invariant) (ap (option_map numbered) c.in-None-pending.is)
 
 pub returns-in-Some-pending-clause-bad : goal.returns-in-Some-pending-clause-bad
 returns-in-Some-pending-clause-bad c =
@@ -35,6 +35,6 @@ returns-in-Some-pending-clause-bad c =
     let left : List ℕ = c.loop-alloc.left.now in
     let none : left ≡ [] = is_empty left c.is_empty.result c.is_empty.ensures c.loop-alloc-test.false in
     subst (TellsBadLine c.args.text.now) (sym c.bad_line-in-Some-pending.ensures)
-        (bad_here c.args.text.now c.args.site c.args.from c.args.rest.now s left c.requires c.loop-alloc.invariant
-            (λ l more i e. absurd (no_line_in (line_body l) more (sym none ∙ e)))
-            (λ e n. not_open (option_map numbered c.loop-alloc.stage.pending) (numbered c.in-Some-pending.field-0) (ap (option_map numbered) c.in-Some-pending.is) n))
+    (bad_here c.args.text.now c.args.site c.args.from c.args.rest.now s left c.requires c.loop-alloc.invariant
+    (λ l more i e. absurd (no_line_in (line_body l) more (sym none ∙ e)))
+    (λ e n. not_open (option_map numbered c.loop-alloc.stage.pending) (numbered c.in-Some-pending.field-0) (ap (option_map numbered) c.in-Some-pending.is) n))

@@ -12,13 +12,13 @@ returns-in-None-2 c l more i e =
     let text : List ℕ = c.in-Some.line.now in
     let s = one_cut 10 text c.in-Some.rest.now (line_body l) more c.in-Some.ensures.first (line_clean l i) (sym c.in-Some.ensures.cases ∙ e) in
     absurd (at_none c.in_ok-read_line-in-Some.field-0 ((m : Line) → IsLine m → text ≡ line_body m → ⊥) (λ m. IsLine (line_value m) × (text ≡ line_body (line_value m)))
-        c.in-None-2.is c.in_ok-read_line-in-Some.ensures l i s.0)
+    c.in-None-2.is c.in_ok-read_line-in-Some.ensures l i s.0)
 
 pub returns-in-None-3 : goal.returns-in-None-3
 returns-in-None-3 c l more i e =
     let text : List ℕ = c.in-Some.line.now in
     let s = one_cut 10 text c.in-Some.rest.now (line_body l) more c.in-Some.ensures.first (line_clean l i) (sym c.in-Some.ensures.cases ∙ e) in
     let f = at_some c.in_ok-read_line-in-Some.field-0 c.in-Some-2.line ((m : Line) → IsLine m → text ≡ line_body m → ⊥) (λ m. IsLine (line_value m) × (text ≡ line_body (line_value m)))
-        c.in-Some-2.is c.in_ok-read_line-in-Some.ensures in
+    c.in-Some-2.is c.in_ok-read_line-in-Some.ensures in
     let same : line_value c.in-Some-2.line ≡ l = same_line (line_value c.in-Some-2.line) l f.0 i (sym f.1 ∙ s.0) in
     sym (ap (next_stage (stage_value c.args.stage)) same) ∙ sym c.in_ok-next_stage-in-Some-2.ensures ∙ ap (option_map stage_value) c.in-None-3.is
