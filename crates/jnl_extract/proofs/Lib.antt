@@ -1,1 +1,12 @@
 pub mod Canonical
+pub mod Cuts
+pub mod Numbers
+pub mod FieldLaws
+pub mod LineLaws
+pub mod LineTexts
+pub mod Clean
+pub mod Forms
+pub mod Grammar
+pub mod Refused
+pub mod Fronts
+pub mod Unique

@@ -1,1 +1,4 @@
 pub mod Updates
+pub mod Extracts
+pub mod Lines
+pub mod Values

@@ -1,8 +1,16 @@
-//! Entries as the lines of an extract.
+//! Entries as the lines of an extract, both ways, and the lines of a ZWRITE.
 #![tactic(auto)]
 
+mod cut;
+mod fields;
+mod laws;
 mod line;
+mod lines;
 mod node;
+mod reading;
+#[cfg(test)]
+mod reading_tests;
+mod stage;
 #[cfg(test)]
 mod tests;
 mod update;
@@ -13,8 +21,13 @@ ghost use Rattle.gvn_model.specs.Entries.{entry_value};
 
 use gvn_key::{Bytes, NoMemory};
 use gvn_model::Entry;
+pub use laws::{
+    a_text_has_one_first_bad_line, a_text_is_one_extract,
+    an_extract_has_the_entries_from_its_number, updates_of_their_form_are_spelled,
+};
 use line::{write_bracket, write_update, write_updates};
 pub use node::write_node;
+pub use reading::{Extract, ExtractError, read_extract};
 pub use update::read_update;
 
 /// Adds the lines of an entry at the end: one line for its update, or a line for each between a TSTART
