@@ -11,9 +11,11 @@ fn collation(rt: HostRuntime) -> Result<(), Fail> {
         b"CREATE A R\nSTART A PRIMARY\nRUN A\n1 SET ^X(10)=1\n1 SET ^X(9)=2\n1 SET ^X(-1)=3\n1 SET ^X(.5)=4\n1 SET ^X(\"A\")=5\n1 SET ^X(\"a\")=6\n1 SET ^X(\"01\")=7\nEND\nZWRITE A\nSTOP A\n",
     )?;
     assert_eq!(rt; status, Status::Ok);
-    assert!(rt; out.ends_with(
-        b"A AT 7\n^X(-1)=\"3\"\n^X(.5)=\"4\"\n^X(9)=\"2\"\n^X(10)=\"1\"\n^X(\"01\")=\"7\"\n^X(\"A\")=\"5\"\n^X(\"a\")=\"6\"\nA DOWN 7\n"
-    ));
+    assert!(rt;
+        out.ends_with(
+            b"A AT 7\n^X(-1)=\"3\"\n^X(.5)=\"4\"\n^X(9)=\"2\"\n^X(10)=\"1\"\n^X(\"01\")=\"7\"\n^X(\"A\")=\"5\"\n^X(\"a\")=\"6\"\nA DOWN 7\n"
+        )
+    );
     Ok(())
 }
 
@@ -25,9 +27,11 @@ fn long_numerals(rt: HostRuntime) -> Result<(), Fail> {
         b"CREATE A R\nSTART A PRIMARY\nRUN A\n1 SET ^X(123456789012345678)=1\n1 SET ^X(\"1234567890123456789\")=2\n1 SET ^X(\"12\")=3\nEND\nZWRITE A\n",
     )?;
     assert_eq!(rt; status, Status::Ok);
-    assert!(rt; out.ends_with(
-        b"A AT 3\n^X(12)=\"3\"\n^X(123456789012345678)=\"1\"\n^X(\"1234567890123456789\")=\"2\"\n"
-    ));
+    assert!(rt;
+        out.ends_with(
+            b"A AT 3\n^X(12)=\"3\"\n^X(123456789012345678)=\"1\"\n^X(\"1234567890123456789\")=\"2\"\n"
+        )
+    );
     Ok(())
 }
 
@@ -108,8 +112,10 @@ fn parts_of_the_globals(rt: HostRuntime) -> Result<(), Fail> {
         b"CREATE A R\nSTART A PRIMARY\nRUN A\n1 SET ^X(1)=1\n1 SET ^X(1,\"a\")=2\n1 SET ^X(2)=3\n1 SET ^X=0\n1 ORDER ^X(\"\")\n1 ORDER ^X(1)\n1 ORDER ^X(2)\n1 ORDER ^X(1,\"\")\nEND\nZWRITE A ^X(1)\nZWRITE A ^Y\n",
     )?;
     assert_eq!(rt; status, Status::Ok);
-    assert!(rt; out.ends_with(
-        b"1.5 READ 1\n1.6 READ 2\n1.7 READ \"\"\n1.8 READ \"a\"\nA AT 4\n^X(1)=\"1\"\n^X(1,\"a\")=\"2\"\n"
-    ));
+    assert!(rt;
+        out.ends_with(
+            b"1.5 READ 1\n1.6 READ 2\n1.7 READ \"\"\n1.8 READ \"a\"\nA AT 4\n^X(1)=\"1\"\n^X(1,\"a\")=\"2\"\n"
+        )
+    );
     Ok(())
 }

@@ -1,10 +1,10 @@
 -- The next subscript below a node, by the first node past the last one.
-use Rattle.std.proofs.Common.{◌≡◌, ℕ, zero, suc, pos, negsuc, ◌<◌, ◌≤◌, ◌+◌, Bool, true, false, not, ◌&&◌, List, [], ◌∷◌, ◌++◌, map, length, drop, get_or, is_some, Option, Some, None, if◌then◌else◌, refl, sym, ap, ◌∙◌, true≢false, arith, append_assoc, append-nil}
+use Rattle.std.proofs.Common.{◌≡◌, ℕ, zero, suc, pos, negsuc, ◌<◌, ◌≤◌, ◌+◌, Bool, true, false, not, List, [], ◌∷◌, ◌++◌, map, length, drop, get_or, is_some, Option, Some, None, if◌then◌else◌, refl, sym, ap, ◌∙◌, true≢false, arith, append_assoc, append-nil}
 use Rattle.std.specs.declared.cmp.Ordering.{Ordering}
 use Rattle.std.specs.declared.cmp.Ordering.TheVariants.{Less, Equal, Greater}
 use Rattle.std.specs.Ordering.{is_lt, is_eq, eq_by_cmp, nat_cmp, ordering_then}
 use Rattle.std.specs.Cmp.{first_so, second_so, nat_cmp_total}
-use Rattle.std.specs.Cmp.Lexicographic.{slice_cmp, nat_list_cmp_total}
+use Rattle.std.specs.Cmp.Lexicographic.{slice_cmp}
 use Rattle.std.specs.List.{starts_with, flat_map, filter_map, list_all}
 use Rattle.std.specs.List as list
 use Rattle.std.specs.FinMap as map
@@ -16,16 +16,16 @@ use Rattle.std.proofs.Math.ListN.{length-append}
 use Rattle.global_defs.specs.Key.{Key, Sub, Number, Text, key_cmp, sub_cmp, sub_of}
 use Rattle.global_defs.specs.Encoded.{encoded, encoded_sub}
 use Rattle.global_defs.specs.Entry.{Globals, is_under}
-use Rattle.global_defs.specs.Valid.{is_key, is_sub, is_name}
+use Rattle.global_defs.specs.Valid.{is_key, is_sub}
 use Rattle.global_defs.specs.Evaluation.{is_below, first_sub, sub_at, is_past, order}
 use Rattle.global_defs.proofs.Order.{key_total, key_same, sub_same}
 use Rattle.global_defs.proofs.KeyOrder.{key_ordered}
 use Rattle.global_defs.proofs.SubOrder.{sub_code}
-use Rattle.global_defs.proofs.ValidKeys.{IsValid, valid_parts}
+use Rattle.global_defs.proofs.ValidKeys.{valid_parts}
 use Rattle.global_defs.proofs.Numerals.{sub_made}
 use Rattle.gvn_key.specs.Faults.{child_of}
 use Rattle.gvn_globals.specs.Walks.{tested, is_behind, is_beyond, sub_under, is_past_at, is_next}
-use Rattle.gvn_globals.proofs.Basics.{less_of, equal_of, false_of, both}
+use Rattle.gvn_globals.proofs.Basics.{less_of, equal_of, both}
 use Rattle.gvn_globals.proofs.Firsts.{Finds, IsFirst, find_finds, find_decided}
 use Rattle.gvn_globals.proofs.Under.{names_tie, subs_begin, under_between, behind_not_before, below_behind, below_is_behind}
 

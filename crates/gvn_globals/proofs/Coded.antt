@@ -1,9 +1,9 @@
 -- Nodes at their encoded keys, and the globals that they are.
-use Rattle.std.proofs.Common.{◌≡◌, ℕ, Bool, true, false, ◌&&◌, List, [], ◌∷◌, map, length, is_some, option_map, Option, Some, None, if◌then◌else◌, refl, sym, ap, ◌∙◌, true≢false, arith}
+use Rattle.std.proofs.Common.{◌≡◌, ℕ, Bool, true, false, List, [], ◌∷◌, map, length, is_some, option_map, Option, Some, None, if◌then◌else◌, refl, sym, ap, ◌∙◌, true≢false, arith}
 use Rattle.std.specs.declared.cmp.Ordering.{Ordering}
 use Rattle.std.specs.declared.cmp.Ordering.TheVariants.{Less, Equal, Greater}
 use Rattle.std.specs.Ordering.{is_lt, is_eq, nat_cmp, eq_by_cmp, match_ordering}
-use Rattle.std.specs.Cmp.{IsTotalOrder, eq_by_cmp_equiv, first_so, second_so}
+use Rattle.std.specs.Cmp.{eq_by_cmp_equiv, first_so, second_so}
 use Rattle.std.specs.Cmp.Lexicographic.{slice_cmp, nat_list_cmp_total}
 use Rattle.std.proofs.lemmas.Cmp.{tied_itself}
 use Rattle.std.specs.List.{list_all, AllByRecursion}
@@ -24,7 +24,7 @@ use Rattle.global_defs.proofs.Order.{key_total, key_same}
 use Rattle.global_defs.proofs.KeyOrder.{key_ordered}
 use Rattle.gvn_globals.specs.declared.globals.Node.{Node}
 use Rattle.gvn_globals.specs.Nodes.{node_key, node_value, is_coded, entries_of, globals_of}
-use Rattle.gvn_globals.proofs.Basics.{less_of, equal_of, both, false_of}
+use Rattle.gvn_globals.proofs.Basics.{less_of, equal_of, both}
 
 -- entries of the tree
 abbrev pub Entries : Type 0

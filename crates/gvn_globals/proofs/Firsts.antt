@@ -1,5 +1,5 @@
 -- The first key of a map that passes a test, by what the map answers.
-use Rattle.std.proofs.Common.{◌≡◌, ℕ, Bool, true, false, List, [], ◌∷◌, map, is_some, Option, Some, None, if◌then◌else◌, refl, sym, ap, subst, ◌∙◌, true≢false}
+use Rattle.std.proofs.Common.{◌≡◌, Bool, true, false, List, [], ◌∷◌, map, is_some, Option, Some, None, if◌then◌else◌, refl, sym, ap, subst, ◌∙◌, true≢false}
 use Rattle.std.specs.declared.cmp.Ordering.{Ordering}
 use Rattle.std.specs.declared.cmp.Ordering.TheVariants.{Less, Equal, Greater}
 use Rattle.std.specs.Ordering.{is_lt, is_eq, eq_by_cmp}
@@ -9,7 +9,7 @@ use Rattle.std.specs.List as list
 use Rattle.std.specs.FinMap.{FinMap, IsAntisymmetric, is_sorted, find, entries, entries_sorted, get, get-entries, keys}
 use Rattle.std.specs.FinMap.Entries.{below_all}
 use Rattle.gvn_globals.specs.Walks.{tested}
-use Rattle.gvn_globals.proofs.Basics.{Stands, before, same, behind, stands, greater, sorted_rest, sorted_first, below_from_less, find_below, both, of_T}
+use Rattle.gvn_globals.proofs.Basics.{before, same, behind, stands, sorted_rest, sorted_first, below_from_less, find_below, both, of_T}
 
 -- the key passes and is there, and no lesser one that passes is there below
 pub record IsFirst {K X : Type 0} (R : K → K → Ordering) (low at : K → Option X) (p : K → Bool) (k : K) : Type 0 where

@@ -1,6 +1,6 @@
 -- What the first node past a key tells.
-use Rattle.std.proofs.Common.{◌≡◌, ℕ, Bool, true, false, not, ◌&&◌, ◌||◌, List, [], ◌∷◌, is_some, Option, Some, None, if◌then◌else◌, refl, sym, ap, ◌∙◌}
-use Rattle.std.specs.Ordering.{is_lt, nat_cmp, eq_by_cmp}
+use Rattle.std.proofs.Common.{◌≡◌, Bool, true, false, ◌&&◌, ◌||◌, List, [], ◌∷◌, is_some, Option, Some, None, if◌then◌else◌, refl, sym, ap, ◌∙◌}
+use Rattle.std.specs.Ordering.{nat_cmp, eq_by_cmp}
 use Rattle.std.specs.Cmp.Lexicographic.{slice_cmp}
 use Rattle.std.specs.List.{list_any}
 use Rattle.std.specs.List as list
@@ -11,7 +11,7 @@ use Rattle.global_defs.specs.Evaluation.{is_below}
 use Rattle.global_defs.proofs.Order.{key_total, key_same}
 use Rattle.gvn_globals.specs.Walks.{tested, is_later, after, is_behind}
 use Rattle.gvn_globals.proofs.Basics.{and_true}
-use Rattle.gvn_globals.proofs.Firsts.{Finds, IsFirst, find_finds, find_decided}
+use Rattle.gvn_globals.proofs.Firsts.{Finds, find_finds, find_decided}
 use Rattle.gvn_globals.proofs.Under.{below_behind, below_is_behind, below_upward, later_is_behind, later_upward}
 
 -- tests that agree on what is found

@@ -1,9 +1,7 @@
 -- Globals under changes, by what they answer.
-use Rattle.std.proofs.Common.{◌≡◌, ℕ, zero, suc, ◌+◌, ◌-◌, ◌<◌, ◌≤◌, Bool, true, false, not, ◌&&◌, List, [], ◌∷◌, is_some, Option, Some, None, if◌then◌else◌, refl, sym, ap, subst, ◌∙◌, true≢false, arith}
-use Rattle.std.specs.declared.cmp.Ordering.{Ordering}
-use Rattle.std.specs.declared.cmp.Ordering.TheVariants.{Less, Equal, Greater}
-use Rattle.std.specs.Ordering.{is_lt, is_eq, nat_cmp, eq_by_cmp}
-use Rattle.std.specs.Cmp.{first_so, second_so}
+use Rattle.std.proofs.Common.{◌≡◌, ℕ, zero, suc, ◌+◌, ◌-◌, ◌<◌, ◌≤◌, Bool, true, false, not, List, [], ◌∷◌, is_some, Option, Some, None, if◌then◌else◌, refl, sym, ap, ◌∙◌, true≢false, arith}
+use Rattle.std.specs.declared.cmp.Ordering.TheVariants.{Less}
+use Rattle.std.specs.Ordering.{is_lt, eq_by_cmp}
 use Rattle.std.specs.List.{list_any}
 use Rattle.std.specs.List as list
 use Rattle.std.specs.FinMap as map
@@ -12,13 +10,13 @@ use Rattle.global_defs.specs.Key.{Key, key_cmp}
 use Rattle.global_defs.specs.Entry.{Globals, is_under}
 use Rattle.global_defs.specs.Evaluation.{is_below}
 use Rattle.global_defs.proofs.Order.{key_total, key_same}
-use Rattle.gvn_globals.specs.Walks.{tested, is_later, after, is_behind, earlier}
+use Rattle.gvn_globals.specs.Walks.{tested, is_later, after, earlier}
 use Rattle.gvn_globals.specs.Overlaid.{kept, with_all, overlaid}
-use Rattle.gvn_globals.proofs.Basics.{Stands, before, same, behind, stands, less_of, greater, none_of}
-use Rattle.gvn_globals.proofs.Firsts.{Finds, IsFirst, find_finds, find_is, find_decided}
-use Rattle.gvn_globals.proofs.Under.{below_behind, below_is_behind, below_upward, below_is_later, later_is_behind}
+use Rattle.gvn_globals.proofs.Basics.{before, same, behind, stands, less_of}
+use Rattle.gvn_globals.proofs.Firsts.{Finds, find_finds, find_is, find_decided}
+use Rattle.gvn_globals.proofs.Under.{below_behind, below_upward, below_is_later, later_is_behind}
 use Rattle.gvn_globals.proofs.Found.{any_found}
-use Rattle.gvn_globals.proofs.Subtree.{later_trans, later_of, later_name, later_less}
+use Rattle.gvn_globals.proofs.Subtree.{later_trans, later_of, later_name}
 
 abbrev pub or_other : {A : Type 0} → Option A → Option A → Option A
 or_other None other = other

@@ -1,19 +1,18 @@
 -- The next subscript below a node, by a walk, and where the nodes below it have not changed.
-use Rattle.std.proofs.Common.{◌≡◌, ℕ, ◌+◌, ◌<◌, ◌≤◌, ◌||◌, ◌==◌, zero, suc, Bool, true, false, List, [], ◌∷◌, length, is_some, Option, Some, None, if◌then◌else◌, refl, sym, ap, ◌∙◌, true≢false, arith}
-use Rattle.std.specs.declared.cmp.Ordering.TheVariants.{Less, Equal, Greater}
+use Rattle.std.proofs.Common.{◌≡◌, ℕ, ◌<◌, ◌||◌, Bool, true, false, List, [], ◌∷◌, is_some, Option, Some, None, if◌then◌else◌, refl, sym, ap, ◌∙◌, true≢false, arith}
+use Rattle.std.specs.declared.cmp.Ordering.TheVariants.{Less}
 use Rattle.std.specs.Ordering.{eq_by_cmp}
 use Rattle.std.specs.List.{list_any}
 use Rattle.std.specs.List as list
-use Rattle.std.specs.FinMap as map
-use Rattle.std.specs.FinMap.{get, keys, contains_key, contains_key-keys, entries, get-entries}
-use Rattle.global_defs.specs.Key.{Key, Sub, key_cmp, sub_of}
+use Rattle.std.specs.FinMap.{get, keys, contains_key, contains_key-keys}
+use Rattle.global_defs.specs.Key.{Key, key_cmp}
 use Rattle.global_defs.specs.Entry.{Globals, is_under}
 use Rattle.global_defs.specs.Evaluation.{is_below, first_sub, order, defined}
 use Rattle.global_defs.proofs.Order.{key_total, key_same}
 use Rattle.gvn_globals.specs.Walks.{is_later, after, is_next, sub_under}
-use Rattle.gvn_globals.specs.Overlaid.{kept, overlaid}
-use Rattle.gvn_globals.proofs.Basics.{Stands, before, same, behind, stands, equal_of}
-use Rattle.gvn_globals.proofs.Firsts.{Finds, IsFirst, find_finds, find_is}
+use Rattle.gvn_globals.specs.Overlaid.{overlaid}
+use Rattle.gvn_globals.proofs.Basics.{before, same, behind, stands, equal_of}
+use Rattle.gvn_globals.proofs.Firsts.{Finds, find_finds, find_is}
 use Rattle.gvn_globals.proofs.Under.{names_tie, under_between, behind_not_before, below_behind, below_is_later, later_is_behind}
 use Rattle.gvn_globals.proofs.Subtree.{later_of, later_trans}
 use Rattle.gvn_globals.proofs.Overlays.{get_overlaid, or_other}

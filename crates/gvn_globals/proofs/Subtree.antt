@@ -1,22 +1,20 @@
 -- A walk over the nodes at and below one, and globals without them.
 use Rattle.std.proofs.Common.{◌≡◌, ℕ, suc, ◌+◌, ◌<◌, ◌≤◌, Bool, true, false, not, ◌&&◌, ◌||◌, List, [], ◌∷◌, ◌++◌, length, take, get_or, is_some, Option, Some, None, if◌then◌else◌, refl, sym, ap, subst, ◌∙◌, true≢false, arith}
-use Rattle.std.specs.declared.cmp.Ordering.TheVariants.{Less, Equal, Greater}
+use Rattle.std.specs.declared.cmp.Ordering.TheVariants.{Less, Equal}
 use Rattle.std.specs.Ordering.{is_lt, is_eq, nat_cmp, eq_by_cmp}
-use Rattle.std.specs.Cmp.{first_so, second_so, eq_by_cmp_equiv}
+use Rattle.std.specs.Cmp.{first_so, second_so}
 use Rattle.std.specs.Cmp.Lexicographic.{slice_cmp, nat_list_cmp_total}
 use Rattle.std.proofs.lemmas.Cmp.{tied_itself}
 use Rattle.std.proofs.lemmas.List.{take_more}
 use Rattle.std.specs.List.{list_any, list_all, filter}
-use Rattle.std.specs.List as list
-use Rattle.std.specs.FinMap as map
 use Rattle.std.specs.FinMap.{get, keys, contains_key, contains_key-keys, same_map, retain_keys, get-retain_keys, remove, get-remove}
 use Rattle.std.specs.List.{starts_with}
 use Rattle.global_defs.specs.Key.{Key, Sub, key_cmp, sub_cmp}
 use Rattle.global_defs.specs.Entry.{Globals, is_under}
 use Rattle.global_defs.proofs.Order.{key_total, key_same, sub_total}
 use Rattle.gvn_globals.specs.Walks.{is_later, after, is_behind, IsSubtree}
-use Rattle.gvn_globals.proofs.Basics.{Stands, before, same, behind, stands, less_of, equal_of, both, false_of, turn_equal}
-use Rattle.gvn_globals.proofs.Firsts.{Finds, IsFirst, find_finds}
+use Rattle.gvn_globals.proofs.Basics.{before, same, behind, stands, less_of, equal_of, both}
+use Rattle.gvn_globals.proofs.Firsts.{Finds, find_finds}
 use Rattle.gvn_globals.proofs.Under.{names_tie, under_not_before, under_between, behind_not_before, later_is_behind}
 
 abbrev pub is_listed : List Key → Key → Bool

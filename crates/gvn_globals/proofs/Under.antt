@@ -1,5 +1,5 @@
 -- Which keys lie under a node: in M collation they stand together, from the node on.
-use Rattle.std.proofs.Common.{◌≡◌, ℕ, Bool, true, false, not, ◌&&◌, List, [], ◌∷◌, refl, sym, ap, ◌∙◌, true≢false}
+use Rattle.std.proofs.Common.{◌≡◌, Bool, true, false, not, ◌&&◌, List, [], ◌∷◌, refl, sym, ap, ◌∙◌, true≢false}
 use Rattle.std.specs.declared.cmp.Ordering.{Ordering}
 use Rattle.std.specs.declared.cmp.Ordering.TheVariants.{Less, Equal, Greater}
 use Rattle.std.specs.Ordering.{is_lt, is_eq, eq_by_cmp, nat_cmp, ordering_then, ordering_reverse}
@@ -9,9 +9,9 @@ use Rattle.std.specs.List.{starts_with}
 use Rattle.global_defs.specs.Key.{Key, key_cmp, sub_cmp}
 use Rattle.global_defs.specs.Entry.{is_under}
 use Rattle.global_defs.specs.Evaluation.{is_below}
-use Rattle.global_defs.proofs.Order.{key_total, key_same, sub_total}
+use Rattle.global_defs.proofs.Order.{key_total, sub_total}
 use Rattle.gvn_globals.specs.Walks.{is_later, is_behind}
-use Rattle.gvn_globals.proofs.Basics.{less_of, equal_of, false_of, and_false, and_true, both, turn_equal, greater}
+use Rattle.gvn_globals.proofs.Basics.{less_of, equal_of, and_true, both, turn_equal, greater}
 
 -- a first part that decides neither
 record Step (a r s : Ordering) : Type 0 where

@@ -1,5 +1,5 @@
 -- Globals under the changes of a job.
-use Rattle.std.specs.Prelude.{ℕ, Bool, not, List, [], ◌∷◌}
+use Rattle.std.specs.Prelude.{ℕ, not, List, [], ◌∷◌}
 use Rattle.std.specs.FinMap as globals
 use Rattle.global_defs.specs.Key.{Key}
 use Rattle.global_defs.specs.Entry.{Globals}

@@ -1,14 +1,11 @@
 -- Sites at their places.
-use Rattle.std.proofs.Common.{◌≡◌, ℕ, ◌+◌, ◌≤◌, Bool, true, false, List, [], ◌∷◌, ◌++◌, length, None, Some, refl, sym, ◌∙◌, ap, subst, arith, inl, inr}
-use Rattle.std.specs.Prelude.{Option, codes, IfSome, IsSome, IsSomeAnd, IsTrue}
-use Rattle.std.specs.Fmt.{decimal}
+use Rattle.std.proofs.Common.{◌≡◌, ℕ, Bool, true, false, List, [], ◌∷◌, ◌++◌, None, Some, refl, sym, ◌∙◌, ap, subst, arith}
+use Rattle.std.specs.Prelude.{Option, IfSome, IsSome, IsSomeAnd, IsTrue}
 use Rattle.std.proofs.lemmas.Bool.{false≢true}
-use Rattle.disk_defs.specs.Disk.{Files, View, Image, IsLawful, OnFile}
+use Rattle.disk_defs.specs.Disk.{Files, View, Image, IsLawful}
 use Rattle.disk_defs.specs.Gates.{records}
 use Rattle.gated_file.specs.Begin.{KeepsRecords}
 use Rattle.journal_defs.specs.Numbers.{journal_file}
-use Rattle.journal_defs.specs.Journal.{JournalRecord, IsJournalBody}
-use Rattle.journal_defs.specs.Stands.{Holds}
 use Rattle.world_defs.specs.Lists.{Among}
 use Rattle.world_defs.specs.World as world
 use Rattle.command_defs.specs.Commands.{Name, Command}
@@ -17,7 +14,7 @@ use Rattle.world_defs.specs.Answers.{Cause, Stopped, NotRunning, Refused}
 use Rattle.world_defs.specs.Refusals.{first, in_state, stopped, not_running}
 use Rattle.world_defs.specs.Rows.{in_new_state}
 use Rattle.world_defs.specs.Output.{line, cause_text, name_in}
-use Rattle.world_defs.specs.Ties.{Stands, Matches, name_on, records_of}
+use Rattle.world_defs.specs.Ties.{Stands, Matches, name_on}
 use Rattle.site_runner.specs.declared.slot.State.{State}
 use Rattle.site_runner.specs.declared.slot.State.TheVariants.{Down, Primary, Failed}
 use Rattle.site_runner.specs.declared.slot.Site.{Site}

@@ -1,17 +1,17 @@
 -- FUSE and CRASH at a place.
-use Rattle.std.proofs.Common.{◌≡◌, ℕ, ◌≤◌, Bool, true, false, List, [], ◌∷◌, ◌++◌, None, Some, refl, sym, ◌∙◌, ap, subst, arith, inl, inr}
-use Rattle.std.specs.Prelude.{Option, codes, IfSome, IsSome, IsSomeAnd, IsTrue}
+use Rattle.std.proofs.Common.{◌≡◌, ℕ, Bool, true, false, List, [], ◌∷◌, ◌++◌, None, Some, refl, sym, ◌∙◌, ap, subst, arith, inl, inr}
+use Rattle.std.specs.Prelude.{Option, codes, IfSome, IsSomeAnd}
 use Rattle.std.specs.Fmt.{decimal}
-use Rattle.disk_defs.specs.Disk.{Files, View, Image, IsLawful, Reads, Same}
+use Rattle.disk_defs.specs.Disk.{Files, View, Image, IsLawful, Reads}
 use Rattle.world_defs.specs.Lists.{Among}
 use Rattle.world_defs.specs.World as world
 use Rattle.command_defs.specs.Commands.{Name, Fuse, Crash}
 use Rattle.world_defs.specs.World.{Contents, Place}
-use Rattle.world_defs.specs.Answers.{Cause, Stopped, NotRunning, NotSimulated, Done}
-use Rattle.world_defs.specs.Refusals.{in_state, stopped, not_running, not_simulated}
-use Rattle.world_defs.specs.Rows.{in_new_state, Crashes}
+use Rattle.world_defs.specs.Answers.{Stopped, NotRunning, NotSimulated, Done}
+use Rattle.world_defs.specs.Refusals.{stopped, not_running, not_simulated}
+use Rattle.world_defs.specs.Rows.{in_new_state}
 use Rattle.world_defs.specs.Output.{line}
-use Rattle.world_defs.specs.Ties.{Stands, Matches, name_on}
+use Rattle.world_defs.specs.Ties.{Stands, name_on}
 use Rattle.site_runner.specs.declared.slot.State.TheVariants.{Down}
 use Rattle.site_runner.specs.declared.slot.Site.{Site}
 use Rattle.site_runner.specs.Sites.{is_down, fault_of}

@@ -1,14 +1,14 @@
 -- CREATE in the world.
-use Rattle.std.proofs.Common.{◌≡◌, ℕ, zero, suc, ◌<◌, ◌==◌, Bool, true, false, List, [], ◌∷◌, ◌++◌, length, get_or, set, take, None, Some, refl, sym, ◌∙◌, ap, subst, arith, inl, inr}
+use Rattle.std.proofs.Common.{◌≡◌, ℕ, zero, suc, ◌<◌, Bool, List, [], ◌∷◌, ◌++◌, length, get_or, set, take, None, Some, refl, sym, ◌∙◌, ap, arith, inl, inr}
 use Rattle.std.specs.Prelude.{Option, option_map, slice_get, codes}
 use Rattle.disk_defs.specs.Disk.{View}
 use Rattle.world_defs.specs.Lists.{Along, first_where}
-use Rattle.command_defs.specs.Commands.{Name, Region, Command, Create}
-use Rattle.world_defs.specs.World.{Place, World, MOST_SITES, is_free, place_of, next_of, at_place, site_of}
-use Rattle.world_defs.specs.Answers.{Exists, NoDisk, NotEmpty, Refusal, Answer, Done, Refused, DiskFault, NotAFile, Ran}
+use Rattle.command_defs.specs.Commands.{Name, Region, Create}
+use Rattle.world_defs.specs.World.{Place, World, MOST_SITES, is_free, next_of, at_place, site_of}
+use Rattle.world_defs.specs.Answers.{Exists, NoDisk, Refusal, Answer, Done, Refused, DiskFault, NotAFile, Ran}
 use Rattle.world_defs.specs.Refusals.{early, late, or_else, refusal, refused_with, first, there, no_disk, not_empty}
 use Rattle.world_defs.specs.Rows.{Creates, CreateFails}
-use Rattle.world_defs.specs.Step.{KeptUnknown, Means, LeftAt}
+use Rattle.world_defs.specs.Step.{KeptUnknown, Means}
 use Rattle.world_defs.specs.Output.{line, text_of}
 use Rattle.site_runner.specs.declared.slot.Slot.{Slot}
 use Rattle.site_runner.specs.Sites.{site_value, is_slot_named}
@@ -17,7 +17,7 @@ use Rattle.site_runner.specs.Executes.{Executes, IsCutOff}
 use Rattle.site_runner.specs.Here.{IsCutHere}
 use Rattle.site_runner.specs.Creating.{CreateHere, create_text, CreatesHere}
 use Rattle.site_runner.proofs.FirstWhere.{first_along}
-use Rattle.site_runner.proofs.Lifts.{all_kept, place_there, place_of_slot, passes_there, tied_set, with_place, on_place, kept_set, lifted_cut}
+use Rattle.site_runner.proofs.Lifts.{all_kept, place_there, place_of_slot, tied_set, with_place, on_place, kept_set, lifted_cut}
 
 abbrev pub is_slot_free : {D : Type 0} → Slot D → Bool
 is_slot_free slot = is_free (option_map site_value slot.site)

@@ -1,6 +1,6 @@
 -- CREATE at a place.
-use Rattle.std.proofs.Common.{◌≡◌, ℕ, zero, suc, ◌+◌, ◌≤◌, Bool, true, false, cond, List, [], ◌∷◌, ◌++◌, length, take, None, Some, refl, sym, ◌∙◌, ap, subst, arith, inl, inr}
-use Rattle.std.specs.Prelude.{◌⊎◌, Option, codes, IfSome, IsSome, IsSomeAnd, IsTrue, option_map}
+use Rattle.std.proofs.Common.{◌≡◌, ℕ, zero, suc, ◌≤◌, Bool, true, false, cond, List, [], ◌∷◌, ◌++◌, take, None, Some, refl, sym, ◌∙◌, ap, subst, arith, inl, inr}
+use Rattle.std.specs.Prelude.{◌⊎◌, Option, codes, IfSome, IsSome, IsSomeAnd, option_map}
 use Rattle.std.specs.Fmt.{decimal}
 use Rattle.std.specs.List.{AllZip}
 use Rattle.std.proofs.lemmas.Bool.{false≢true}
@@ -9,7 +9,6 @@ use Rattle.disk_defs.specs.Gates.{Body, records}
 use Rattle.journal_defs.specs.Numbers.{journal_file}
 use Rattle.journal_defs.specs.Journal.{JournalRecord, IsJournalBody}
 use Rattle.journal_defs.specs.Stands.{Holds}
-use Rattle.jnl_file.specs.Records.{StandsRecords}
 use Rattle.jnl_file.specs.Begin.{MayBegin}
 use Rattle.site_journal.specs.Beginning.{HasBegun}
 use Rattle.world_defs.specs.Lists.{Among}
@@ -18,8 +17,8 @@ use Rattle.command_defs.specs.Commands.{Name, Create}
 use Rattle.world_defs.specs.World.{Contents, Place, Kept}
 use Rattle.world_defs.specs.Answers.{Answer, NotEmpty, Done, Refused, DiskFault, NotAFile, Ran}
 use Rattle.world_defs.specs.Refusals.{not_empty}
-use Rattle.world_defs.specs.Rows.{Creates, CreateFails, empty_site}
-use Rattle.world_defs.specs.Step.{LeftAt, KeptUnknown}
+use Rattle.world_defs.specs.Rows.{empty_site}
+use Rattle.world_defs.specs.Step.{KeptUnknown}
 use Rattle.world_defs.specs.Output.{line}
 use Rattle.world_defs.specs.Ties.{Stands, Matches, name_on, records_of, beginning}
 use Rattle.site_runner.specs.declared.slot.State.TheVariants.{Down}
@@ -28,7 +27,7 @@ use Rattle.site_runner.specs.declared.slot.Slot.{Slot}
 use Rattle.site_runner.specs.Sites.{site_value, HoldsSite}
 use Rattle.site_runner.specs.Tied.{IsPlace}
 use Rattle.site_runner.specs.Here.{IsCutHere}
-use Rattle.site_runner.specs.Creating.{MakeHere, CreateHere, CreatesHere, MakesHere, create_text}
+use Rattle.site_runner.specs.Creating.{MakeHere, CreateHere, CreatesHere, MakesHere}
 use Rattle.site_runner.proofs.Ats.{pick_one, not_true, some_both, some_of, told_is, files_of, stands_same, image_kept, read_kept}
 use Rattle.site_runner.proofs.Crashed.{only}
 use Rattle.site_runner.proofs.Started.{KeptBy, still_matches}

@@ -1,9 +1,8 @@
 -- An open site after a call that reads.
-use Rattle.std.proofs.Common.{◌≡◌, List, ◌++◌, None, Some, refl, sym, subst}
+use Rattle.std.proofs.Common.{None, Some, refl, sym, subst}
 use Rattle.std.specs.Prelude.{Option, IfSome, IsSomeAnd}
 use Rattle.disk_defs.specs.Disk.{Files, View, Reads}
 use Rattle.gated_file.proofs.Others.{more_holds}
-use Rattle.journal_defs.specs.Journal.{JournalRecord}
 use Rattle.jnl_file.specs.Records.{Recorded, StandsRecords}
 use Rattle.jnl_file.specs.Journal.{HoldsRecords, HasRecords, IsReady}
 use Rattle.jnl_file.specs.declared.journal.Journal.{Journal}

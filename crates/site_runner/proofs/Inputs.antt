@@ -1,9 +1,9 @@
 -- What is known of an input once lines of it were taken.
-use Rattle.std.proofs.Common.{◌≡◌, ℕ, ◌+◌, ◌<◌, ◌≤◌, ◌==◌, true, false, List, [], ◌∷◌, ◌++◌, length, take, None, Some, refl, ap, sym, ◌∙◌, append_assoc, subst, inl, inr, arith, length-append}
+use Rattle.std.proofs.Common.{◌≡◌, ℕ, ◌+◌, ◌<◌, ◌≤◌, ◌==◌, true, false, List, [], ◌∷◌, ◌++◌, length, None, Some, refl, ap, sym, ◌∙◌, append_assoc, subst, inl, inr, arith, length-append}
 use Rattle.std.specs.Prelude.{Option, IfSome}
 use Rattle.std.specs.List.{list_all, list_any}
 use Rattle.std.specs.Io.KnownBytes.{Consumes, IsAtEnd, Keeps}
-use Rattle.std.proofs.lemmas.List.{take_at, append-nil}
+use Rattle.std.proofs.lemmas.List.{append-nil}
 use Rattle.std.proofs.lemmas.List.Concat.{flat_map-append}
 use Rattle.std.proofs.lemmas.Bool.{cases_Bool}
 use Rattle.command_defs.specs.Commands.{Command}

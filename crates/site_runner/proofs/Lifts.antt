@@ -1,7 +1,6 @@
 -- What a command does at one place, in the world.
-use Rattle.std.proofs.Common.{◌≡◌, ℕ, zero, suc, ◌+◌, ◌<◌, ◌==◌, Bool, true, false, cond, List, [], ◌∷◌, ◌++◌, length, get_or, set, None, Some, refl, sym, ◌∙◌, ap, subst, arith, inl, inr}
+use Rattle.std.proofs.Common.{◌≡◌, ℕ, zero, suc, ◌+◌, ◌<◌, Bool, true, false, cond, List, [], ◌∷◌, ◌++◌, length, get_or, set, None, Some, refl, sym, ◌∙◌, ap, subst, arith, inl}
 use Rattle.std.specs.Prelude.{Option, option_map, slice_get, codes}
-use Rattle.std.specs.List.{AllByRecursion}
 use Rattle.std.specs.Fmt.{decimal}
 use Rattle.std.proofs.lemmas.Bool.{eq-eqb}
 use Rattle.disk_defs.specs.Disk.{View}
@@ -9,14 +8,14 @@ use Rattle.world_defs.specs.Lists.{Among, Along, At, first_where}
 use Rattle.command_defs.specs.Commands.{Name, Command, Create, StartPrimary, Run, Stop, Fuse, Crash, Extract, Zwrite}
 use Rattle.world_defs.specs.World.{State, Site, Contents, Place, World, Kept, is_site_named, place_of, at_place, site_of}
 use Rattle.world_defs.specs.Answers.{Cause, NoSite, Refusal, Answer, Done, Refused, DiskFault, NotAFile, Ran}
-use Rattle.world_defs.specs.Refusals.{early, late, or_else, refusal, refused_with, tested, first}
-use Rattle.world_defs.specs.Rows.{StartsPrimary, Becomes, in_new_state}
-use Rattle.world_defs.specs.Step.{Unchanged, AtPlace, Row, Faulted, Damaged, SectionRow, Means, Leaves, LeftAt, CutOff, subject, is_at}
-use Rattle.world_defs.specs.Output.{line, cause_text, name_in, done_text, ran_text, text_of, cycle_at, length_at, extract_at, zwrite_at, turn_at, section_text}
+use Rattle.world_defs.specs.Refusals.{early, or_else, refusal, refused_with, tested, first}
+use Rattle.world_defs.specs.Rows.{StartsPrimary, in_new_state}
+use Rattle.world_defs.specs.Step.{AtPlace, Row, Faulted, Damaged, SectionRow, Means, Leaves, LeftAt, CutOff, subject, is_at}
+use Rattle.world_defs.specs.Output.{line, name_in, done_text, ran_text, text_of, cycle_at, length_at, extract_at, zwrite_at, turn_at, section_text}
 use Rattle.world_defs.specs.Ties.{Matches}
 use Rattle.site_runner.specs.declared.slot.Slot.{Slot}
-use Rattle.site_runner.specs.Sites.{site_value, is_slot_named, IsReadyOn, AreReady}
-use Rattle.site_runner.specs.Tied.{IsPlace, Tied, Matched}
+use Rattle.site_runner.specs.Sites.{is_slot_named, IsReadyOn, AreReady}
+use Rattle.site_runner.specs.Tied.{IsPlace, Tied}
 use Rattle.site_runner.specs.Executes.{Executes, IsCutOff}
 use Rattle.site_runner.specs.Here.{IsNamed, tests, RowHere, FaultHere, DamageHere, RanHere, Here, done_here, ran_here, text_here, ExecutesHere, IsCutHere}
 use Rattle.site_runner.proofs.FirstWhere.{first_along}

@@ -7,7 +7,6 @@ use Rattle.std.proofs.lemmas.List.{take_at, append-nil}
 use Rattle.disk_defs.specs.Disk.{View}
 use Rattle.command_defs.specs.Commands.{Command}
 use Rattle.command_defs.specs.Lines.{lines_of, ended}
-use Rattle.command_defs.specs.Sections.{Section}
 use Rattle.command_defs.specs.Script.{Position, Outside, Within, Ends, line_reading, IsScript, IsBadAt, behind_all}
 use Rattle.repl_script.specs.Feeds.{Progress}
 use Rattle.world_defs.specs.World.{World}
@@ -213,16 +212,20 @@ finished_plain status lines Outside e = (λ h. absurd (a (sym e ∙ h)), λ h. a
   where
     a : Ok ≡ BadWords → ⊥
     a h = cc
+
     b : Ok ≡ SourceFault → ⊥
     b h = cc
+
     c : Ok ≡ SinkFault → ⊥
     c h = cc
 finished_plain status lines (Within section) e = (λ h. absurd (a (lines + 1) (sym e ∙ h)), λ h. absurd (b (lines + 1) (sym e ∙ h)), λ h. absurd (c (lines + 1) (sym e ∙ h)))
   where
     a : (n : ℕ) → BadLine n 1 ≡ BadWords → ⊥
     a n h = cc
+
     b : (n : ℕ) → BadLine n 1 ≡ SourceFault → ⊥
     b n h = cc
+
     c : (n : ℕ) → BadLine n 1 ≡ SinkFault → ⊥
     c n h = cc
 

@@ -1,9 +1,8 @@
 -- RUN at a place.
 use Rattle.std.proofs.Common.{◌≡◌, ℕ, zero, suc, ◌+◌, ◌-◌, ◌≤◌, Bool, true, false, List, [], ◌∷◌, ◌++◌, length, take, drop, map, get_or, set, fold, None, Some, refl, sym, ◌∙◌, ap, subst, arith, inl, inr, append_assoc}
-use Rattle.std.specs.Prelude.{◌⊎◌, Option, codes, IfSome, IsSome, IsSomeAnd, IsTrue, nat_lt, slice_get, if◌then◌else◌}
+use Rattle.std.specs.Prelude.{◌⊎◌, Option, codes, IfSome, IsSome, IsSomeAnd, nat_lt, slice_get, if◌then◌else◌}
 use Rattle.std.specs.Fmt.{decimal}
 use Rattle.std.specs.List.{flat_map, enumerate_from, AllByRecursion}
-use Rattle.std.proofs.lemmas.Bool.{false≢true}
 use Rattle.std.proofs.lemmas.List.{length-map}
 use Rattle.std.proofs.Math.Seq.{take-length}
 use Rattle.disk_defs.specs.Disk.{Files, View, Image, IsLawful, Rose}
@@ -15,16 +14,16 @@ use Rattle.global_defs.specs.Serial.{MOST_ENTRIES, Turn, Seq, RolledBack, first_
 use Rattle.gvn_model.specs.declared.entry.Entry as code
 use Rattle.site_journal.specs.declared.reign.Reign.{Reign}
 use Rattle.command_defs.specs.Sections.{UsesUp}
-use Rattle.site_journal.specs.Reigns.{Reigns, Remembers, tagged}
+use Rattle.site_journal.specs.Reigns.{Reigns, tagged}
 use Rattle.site_journal.specs.Deciding.{HasDecided, MayHaveFront, MayLeave, FailsAt}
 use Rattle.world_defs.specs.Lists.{Among}
 use Rattle.world_defs.specs.World as world
 use Rattle.command_defs.specs.Commands.{Name, Run}
 use Rattle.world_defs.specs.World.{Contents, Place}
-use Rattle.world_defs.specs.Answers.{Cause, Stopped, NotPrimary, Section, Ran}
-use Rattle.world_defs.specs.Refusals.{first, in_state, stopped, not_primary}
-use Rattle.world_defs.specs.Rows.{in_new_state, reign_of, with_sequence, IsFrontOf, Becomes, turn_of}
-use Rattle.world_defs.specs.Step.{RunsTo, RunMayLeaveOn}
+use Rattle.world_defs.specs.Answers.{Stopped, NotPrimary, Section, Ran}
+use Rattle.world_defs.specs.Refusals.{first, stopped, not_primary}
+use Rattle.world_defs.specs.Rows.{in_new_state, reign_of, with_sequence, IsFrontOf, turn_of}
+use Rattle.world_defs.specs.Step.{RunMayLeaveOn}
 use Rattle.world_defs.specs.Output.{line, fault_line, reply_line, printed, section_text, turn_on}
 use Rattle.world_defs.specs.Ties.{Stands, Matches, name_on}
 use Rattle.site_runner.specs.declared.slot.State.{State}

@@ -1,5 +1,5 @@
 -- Lines that were read, and one more.
-use Rattle.std.proofs.Common.{◌≡◌, ℕ, ◌+◌, ◌-◌, ◌<◌, ◌≤◌, true, List, [], ◌∷◌, ◌++◌, length, take, drop, get_or, None, Some, refl, ap, sym, ◌∙◌, subst, inl, inr, arith, length-append, fold}
+use Rattle.std.proofs.Common.{◌≡◌, ℕ, ◌+◌, ◌-◌, ◌<◌, ◌≤◌, List, [], ◌∷◌, ◌++◌, length, take, drop, get_or, None, Some, refl, ap, sym, ◌∙◌, subst, inl, inr, arith, length-append, fold}
 use Rattle.std.specs.Prelude.{Option, slice_get}
 use Rattle.std.proofs.lemmas.List.{take-append-drop, take_more, length-take-le}
 use Rattle.std.proofs.lemmas.List.Sums.{fold-append}
@@ -127,10 +127,10 @@ one_bad lines n at m to (in_line i {line} before few there reads wrong) (in_line
   | inr h ↦ elim (cases_lt k i) [
     | inl g ↦ absurd (none_some (lines_reading (take i lines)) (none_past lines k to i row front here comes bad g) reads)
     | inr g ↦ (
-      let e : i ≡ k = omega (arith, h, g) in
-      let l : line ≡ row = same_line (sym there ∙ ap (slice_get lines) e ∙ here) in
-      let b : before ≡ front = same_lines (sym reads ∙ ap (λ (x : ℕ). lines_reading (take x lines)) e ∙ comes) in
-      (ap (λ (x : ℕ). x + 1) e, same_wrong (sym wrong ∙ ap (λ (x : Lines). line_reading x.position line) b ∙ ap (line_reading front.position) l ∙ bad)))
+        let e : i ≡ k = omega (arith, h, g) in
+        let l : line ≡ row = same_line (sym there ∙ ap (slice_get lines) e ∙ here) in
+        let b : before ≡ front = same_lines (sym reads ∙ ap (λ (x : ℕ). lines_reading (take x lines)) e ∙ comes) in
+        (ap (λ (x : ℕ). x + 1) e, same_wrong (sym wrong ∙ ap (λ (x : Lines). line_reading x.position line) b ∙ ap (line_reading front.position) l ∙ bad)))
   ]
 ]
 one_bad lines n at m to (in_line i {line} before few there reads wrong) (behind_all all section rare comes within) =

@@ -1,6 +1,6 @@
 -- START PRIMARY at a place.
-use Rattle.std.proofs.Common.{◌≡◌, ℕ, zero, suc, ◌+◌, ◌≤◌, Bool, true, false, List, [], ◌∷◌, ◌++◌, length, take, map, None, Some, refl, sym, ◌∙◌, ap, subst, arith, inl, inr}
-use Rattle.std.specs.Prelude.{Option, codes, IfSome, IsSome, IsSomeAnd, IsTrue}
+use Rattle.std.proofs.Common.{◌≡◌, ℕ, zero, suc, ◌+◌, ◌≤◌, true, false, List, [], ◌∷◌, ◌++◌, length, take, None, Some, refl, sym, ◌∙◌, ap, subst, arith, inl}
+use Rattle.std.specs.Prelude.{Option, codes, IfSome, IsSome, IsSomeAnd}
 use Rattle.std.specs.Fmt.{decimal}
 use Rattle.std.proofs.lemmas.Bool.{false≢true}
 use Rattle.std.proofs.lemmas.List.{length-map}
@@ -19,8 +19,8 @@ use Rattle.world_defs.specs.Lists.{Among}
 use Rattle.world_defs.specs.World as world
 use Rattle.command_defs.specs.Commands.{Name, StartPrimary}
 use Rattle.world_defs.specs.World.{Contents, Place}
-use Rattle.world_defs.specs.Answers.{Cause, Stopped, Running, Done, DiskFault, NotAFile}
-use Rattle.world_defs.specs.Refusals.{first, in_state, stopped, running}
+use Rattle.world_defs.specs.Answers.{Stopped, Running, Done, DiskFault, NotAFile}
+use Rattle.world_defs.specs.Refusals.{first, stopped, running}
 use Rattle.world_defs.specs.Rows.{in_new_state, reign_of, serials_after}
 use Rattle.world_defs.specs.Output.{line, cycle_on}
 use Rattle.world_defs.specs.Ties.{Stands, Matches, name_on, records_of}

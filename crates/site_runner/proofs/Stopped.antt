@@ -1,17 +1,16 @@
 -- Commands on a site, as commands on its slot; STOP, EXTRACT and ZWRITE at a place.
-use Rattle.std.proofs.Common.{◌≡◌, ℕ, Bool, true, false, List, [], ◌∷◌, ◌++◌, length, map, None, Some, refl, sym, ◌∙◌, ap, subst, arith, inl, inr, nat_eq}
+use Rattle.std.proofs.Common.{◌≡◌, ℕ, true, List, [], ◌∷◌, ◌++◌, None, Some, refl, sym, ◌∙◌, ap, subst, arith, inl, nat_eq}
 use Rattle.std.specs.Prelude.{Option, codes, IsSomeAnd, option_map}
 use Rattle.std.specs.Fmt.{decimal}
-use Rattle.std.specs.Cmp.Lexicographic.{pointwise}
 use Rattle.std.proofs.lemmas.Bool.{eqb-true}
-use Rattle.disk_defs.specs.Disk.{Files, View, Image}
+use Rattle.disk_defs.specs.Disk.{View}
 use Rattle.global_defs.specs.Key.{Key}
 use Rattle.global_defs.specs.Entry.{Globals}
 use Rattle.world_defs.specs.Lists.{Among}
 use Rattle.world_defs.specs.World as world
 use Rattle.command_defs.specs.Commands.{Name, Command, Stop, Extract, Zwrite}
 use Rattle.world_defs.specs.World.{Contents, Place, same_name}
-use Rattle.world_defs.specs.Answers.{Cause, Stopped, NotRunning, Done}
+use Rattle.world_defs.specs.Answers.{Stopped, NotRunning, Done}
 use Rattle.world_defs.specs.Refusals.{first, stopped, not_running}
 use Rattle.world_defs.specs.Rows.{in_new_state}
 use Rattle.world_defs.specs.Output.{line, zwrite}
@@ -23,7 +22,7 @@ use Rattle.site_runner.specs.declared.slot.Site.{Site}
 use Rattle.site_runner.specs.declared.slot.Slot.{Slot}
 use Rattle.site_runner.specs.Sites.{site_value, state_value, is_slot_named, IsOpen, HoldsState, HoldsSite}
 use Rattle.site_runner.specs.Here.{tests, ExecutesHere, IsCutHere}
-use Rattle.site_runner.specs.Steps.{Says, Stops, StopsFrom, Extracts, ExtractsFrom, Shows, ShowsFrom, IsAt, ExecutesAt, IsCutAt}
+use Rattle.site_runner.specs.Steps.{Stops, StopsFrom, Extracts, ExtractsFrom, Shows, ShowsFrom, IsAt, ExecutesAt, IsCutAt}
 use Rattle.site_runner.proofs.Cuts.{split_and}
 use Rattle.site_runner.proofs.Ats.{refuses, state_at, first_cause, second_cause, no_cause, same_name_on, kept_same}
 use Rattle.site_runner.proofs.Crashed.{only}

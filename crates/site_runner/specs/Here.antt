@@ -3,11 +3,11 @@ use Rattle.std.specs.Prelude.{◌≡◌, ℕ, ◌+◌, true, List, [], ◌∷◌
 use Rattle.std.specs.Fmt.{decimal}
 use Rattle.disk_defs.specs.Disk.{View}
 use Rattle.global_defs.specs.Entry.{state}
-use Rattle.command_defs.specs.Commands.{Name, Command, Create, StartPrimary, Run, Stop, Fuse, Crash, Extract, Zwrite}
-use Rattle.world_defs.specs.World.{State, Down, Primary, Failed, Place, Kept}
-use Rattle.world_defs.specs.Answers.{Cause, NotEmpty, Answer, Done, Refused, DiskFault, NotAFile, Section, Ran}
-use Rattle.world_defs.specs.Refusals.{first, in_state, stopped, running, not_running, not_primary, not_simulated, not_empty}
-use Rattle.world_defs.specs.Rows.{Becomes, Fails, Creates, CreateFails, StartsPrimary, Crashes}
+use Rattle.command_defs.specs.Commands.{Command, Create, StartPrimary, Run, Stop, Fuse, Crash, Extract, Zwrite}
+use Rattle.world_defs.specs.World.{Down, Place, Kept}
+use Rattle.world_defs.specs.Answers.{Cause, Answer, Done, Refused, DiskFault, NotAFile, Section, Ran}
+use Rattle.world_defs.specs.Refusals.{first, in_state, stopped, running, not_running, not_primary, not_simulated}
+use Rattle.world_defs.specs.Rows.{Becomes, Fails, StartsPrimary, Crashes}
 use Rattle.world_defs.specs.Step.{Runs, OldOnes, KeptUnknown, LeftAt}
 use Rattle.world_defs.specs.Output.{line, cause_text, cycle_on, turn_on, section_text, name_in, extract_from, zwrite}
 use Rattle.world_defs.specs.Ties.{Matches}

@@ -6,7 +6,6 @@ use Rattle.disk_defs.specs.Disk.{View}
 use Rattle.global_defs.specs.Entry.{Sequence}
 use Rattle.global_defs.specs.Key.{Key}
 use Rattle.site_journal.specs.Reigns.{tagged}
-use Rattle.site_journal.specs.declared.reign.Reign.{Reign}
 use Rattle.world_defs.specs.World.{Place}
 use Rattle.world_defs.specs.Answers.{Answer}
 use Rattle.command_defs.specs.Commands.{Command}

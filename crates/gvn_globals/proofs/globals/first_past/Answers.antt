@@ -1,4 +1,4 @@
-use Rattle.std.proofs.Common.{◌≡◌, ◌&&◌, true, sym, ap, ◌∙◌, option_map}
+use Rattle.std.proofs.Common.{◌&&◌, true, sym, ap, ◌∙◌, option_map}
 use Rattle.std.specs.Ordering.{is_lt, nat_cmp}
 use Rattle.std.specs.Cmp.Lexicographic.{slice_cmp}
 use Rattle.gvn_globals.proofs.Basics.{find_filtered, and_true}

@@ -1,4 +1,4 @@
-use Rattle.std.proofs.Common.{◌≡◌, List, [], ◌∷◌, ◌++◌, ℕ, map, ap, sym, ◌∙◌, Bor}
+use Rattle.std.proofs.Common.{List, [], ◌∷◌, ◌++◌, ℕ, map, ap, sym, ◌∙◌, Bor}
 use Rattle.std.proofs.lemmas.List.{map-append}
 use Rattle.std.specs.Map.Iter.{deref_pair}
 use Rattle.global_defs.specs.Key.{Key}

@@ -1,8 +1,7 @@
-use Rattle.std.proofs.Common.{◌≡◌, List, ℕ, length, drop, map, Some, option_map, refl, sym, ap, ◌∙◌}
+use Rattle.std.proofs.Common.{◌≡◌, length, drop, Some, sym, ap, ◌∙◌}
 use Rattle.std.proofs.lemmas.List.{length-map}
-use Rattle.global_defs.specs.Key.{Sub, sub_of}
+use Rattle.global_defs.specs.Key.{sub_of}
 use Rattle.global_defs.specs.Evaluation.{first_sub}
-use Rattle.global_defs.specs.Valid.{is_key}
 use Rattle.gvn_globals.proofs.Beyond.{first_at, child_valid}
 use Rattle.gvn_globals.proofs.globals.sub_at.Goals as goal
 

@@ -1,9 +1,4 @@
-use Rattle.std.proofs.Common.{◌≡◌, ◌++◌, ◌∷◌, [], true, false, List, Bool, not, refl, sym, ap, subst, ◌∙◌, true≢false, arith}
-use Rattle.std.specs.List.{list_all}
-use Rattle.std.specs.FinMap.{contains_key}
-use Rattle.std.proofs.lemmas.Cmp.{tied_itself}
-use Rattle.global_defs.specs.Key.{Key}
-use Rattle.global_defs.specs.Entry.{Globals, is_under}
+use Rattle.std.proofs.Common.{◌++◌, ◌∷◌, [], sym, ap, subst, ◌∙◌, arith}
 use Rattle.gvn_globals.specs.Walks.{after}
 use Rattle.gvn_globals.proofs.Subtree.{IsWalked, begins_empty, begins_here, goes, ends, ends_none, walk_smaller, left}
 use Rattle.gvn_globals.proofs.lookup.subtree.Goals.{then-has+in_ok-copy+in_ok-push, else-has}

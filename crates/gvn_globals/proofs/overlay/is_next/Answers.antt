@@ -5,10 +5,10 @@ use Rattle.std.specs.Ordering.{is_lt, nat_cmp}
 use Rattle.std.specs.Cmp.Lexicographic.{slice_cmp}
 use Rattle.std.specs.FinMap as map
 use Rattle.std.proofs.lemmas.Grind.{common_steps}
-use Rattle.global_defs.specs.Key.{Key, sub_of}
+use Rattle.global_defs.specs.Key.{Key}
 use Rattle.global_defs.specs.Encoded.{encoded}
 use Rattle.global_defs.specs.Evaluation.{is_below}
-use Rattle.gvn_globals.specs.Walks.{is_next, is_beyond}
+use Rattle.gvn_globals.specs.Walks.{is_next}
 use Rattle.gvn_globals.proofs.Beyond.{begins_next, continues_next}
 use Rattle.gvn_globals.proofs.overlay.is_next.Goals as goal
 

@@ -1,6 +1,5 @@
 use Rattle.std.proofs.Common.{◌≡◌, Option, Some, None, Bor, is_some, refl, sym, ap, subst, ◌∙◌, arith}
 use Rattle.std.specs.Option.{option_copied}
-use Rattle.global_defs.specs.Key.{Key}
 use Rattle.gvn_globals.proofs.Subtree.{left, walk_smaller}
 use Rattle.gvn_globals.proofs.Overlays.{IsPassed, passes_first, passes_gone, passed_kept, passed_all}
 use Rattle.gvn_globals.proofs.overlay.kept_after.Goals as goal

@@ -1,5 +1,5 @@
-use Rattle.std.proofs.Common.{◌≡◌, ℕ, List, Some, None, ◌++◌, ◌<◌, length, sym, ◌∙◌, ap, subst}
-use Rattle.std.specs.Prelude.{Option, codes}
+use Rattle.std.proofs.Common.{◌≡◌, ℕ, List, Some, ◌++◌, ◌<◌, length, sym, ◌∙◌, ap, subst}
+use Rattle.std.specs.Prelude.{codes}
 use Rattle.world_defs.specs.Lists.{first_where}
 use Rattle.world_defs.specs.Output.{line}
 use Rattle.command_defs.specs.Commands as commands

@@ -1,4 +1,4 @@
-use Rattle.std.proofs.Common.{◌≡◌, ◌++◌, ℕ, List, ◌∙◌, ap, Err}
+use Rattle.std.proofs.Common.{◌++◌, ℕ, List, ◌∙◌, ap, Err}
 use Rattle.std.specs.Prelude.{codes}
 use Rattle.std.specs.Fmt.{decimal}
 use Rattle.world_defs.specs.Output.{line}

@@ -1,4 +1,4 @@
-use Rattle.std.proofs.Common.{◌≡◌, Bool, List, take, sym, ◌∙◌, ap, subst, arith, add-one, ◌<◌, length, get_or, ℕ}
+use Rattle.std.proofs.Common.{◌≡◌, Bool, List, take, sym, ◌∙◌, ap, subst, add-one, ◌<◌, length, get_or, ℕ}
 use Rattle.std.specs.Prelude.{option_map}
 use Rattle.world_defs.specs.World.{is_free}
 use Rattle.site_runner.specs.declared.slot.Slot.{Slot}

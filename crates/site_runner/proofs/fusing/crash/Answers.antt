@@ -1,4 +1,4 @@
-use Rattle.std.proofs.Common.{◌++◌, ℕ, List, ◌∙◌, ap, sym, false}
+use Rattle.std.proofs.Common.{◌++◌, ℕ, List, ◌∙◌, ap, sym}
 use Rattle.std.specs.Prelude.{codes}
 use Rattle.world_defs.specs.Output.{line}
 use Rattle.site_runner.proofs.Results.{on_ok}

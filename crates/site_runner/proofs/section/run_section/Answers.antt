@@ -1,4 +1,4 @@
-use Rattle.std.proofs.Common.{Bool, ◌≡◌, ◌++◌, ◌+◌, ◌∷◌, ℕ, List, length, ◌∙◌, ap, sym, subst, arith}
+use Rattle.std.proofs.Common.{Bool, ◌≡◌, ◌++◌, ℕ, List, length, ◌∙◌, ap, sym, subst, arith}
 use Rattle.std.proofs.lemmas.Grind.{common_steps}
 use Rattle.std.specs.Prelude.{codes}
 use Rattle.std.specs.Fmt.{decimal}

@@ -1,8 +1,6 @@
-use Rattle.std.proofs.Common.{◌≡◌, ◌+◌, is_some, if◌then◌else◌, ap, ◌∙◌}
-use Rattle.std.specs.List.{list_any}
+use Rattle.std.proofs.Common.{◌+◌, is_some, if◌then◌else◌, ap, ◌∙◌}
 use Rattle.std.specs.FinMap as globals
 use Rattle.global_defs.specs.Entry.{is_under}
-use Rattle.global_defs.specs.Evaluation.{is_below}
 use Rattle.gvn_globals.specs.Walks.{tested}
 use Rattle.gvn_globals.proofs.Found.{below_found}
 use Rattle.gvn_globals.proofs.globals.Globals.defined.Goals as goal

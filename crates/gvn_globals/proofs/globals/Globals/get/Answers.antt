@@ -1,9 +1,8 @@
-use Rattle.std.proofs.Common.{rules, option_map, sym, ap, ◌∙◌, Some}
+use Rattle.std.proofs.Common.{option_map, sym, ap, ◌∙◌, Some}
 use Rattle.std.specs.FinMap as globals
 use Rattle.std.specs.BTreeMap.{is_at}
 use Rattle.std.specs.Map.{lookup}
 use Rattle.gvn_globals.specs.Nodes.{node_value}
-use Rattle.gvn_globals.proofs.Basics.{of_T}
 use Rattle.gvn_globals.proofs.Coded.{get_coded, code_cmp}
 use Rattle.gvn_globals.proofs.globals.Globals.get.Goals as goal
 

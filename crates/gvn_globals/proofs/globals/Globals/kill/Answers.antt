@@ -1,7 +1,5 @@
-use Rattle.std.proofs.Common.{◌+◌, take, sym, subst, ap, ◌∙◌}
-use Rattle.std.specs.FinMap as globals
-use Rattle.std.proofs.lemmas.List.{take_more, take_all}
-use Rattle.gvn_globals.specs.Walks.{IsSubtree}
+use Rattle.std.proofs.Common.{◌+◌, take, sym, subst, ◌∙◌}
+use Rattle.std.proofs.lemmas.List.{take_all}
 use Rattle.gvn_globals.proofs.Subtree.{IsWithout, without_none, without_next, without_subtree}
 use Rattle.gvn_globals.proofs.globals.Globals.kill.Goals as goal
 

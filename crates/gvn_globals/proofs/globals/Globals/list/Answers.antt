@@ -1,6 +1,6 @@
 use Rattle.std.proofs.Common.{◌≡◌, ◌∙◌, ap, sym, map}
 use Rattle.std.specs.FinMap as globals
-use Rattle.gvn_globals.specs.Nodes.{entries_of, globals_of}
+use Rattle.gvn_globals.specs.Nodes.{entries_of}
 use Rattle.gvn_globals.specs.Lists.{listed_value}
 use Rattle.gvn_globals.proofs.Basics.{if_ok}
 use Rattle.gvn_globals.proofs.Coded.{entries_made, sorted_coded}

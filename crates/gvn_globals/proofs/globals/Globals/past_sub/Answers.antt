@@ -1,7 +1,6 @@
-use Rattle.std.proofs.Common.{◌≡◌, ◌∷◌, [], ◌++◌, is_some, option_map, sym, ap, ◌∙◌}
+use Rattle.std.proofs.Common.{◌∷◌, [], ◌++◌, is_some, option_map, ap, ◌∙◌}
 use Rattle.std.specs.Ordering.{is_lt}
 use Rattle.std.specs.List.{find}
-use Rattle.std.specs.Option.{option_copied}
 use Rattle.std.specs.FinMap as globals
 use Rattle.global_defs.specs.Key.{sub_of}
 use Rattle.global_defs.specs.Encoded.{encoded, encoded_sub}

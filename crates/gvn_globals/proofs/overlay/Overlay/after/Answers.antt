@@ -1,5 +1,4 @@
-use Rattle.std.proofs.Common.{sym, ap, ◌∙◌}
-use Rattle.std.specs.FinMap as globals
+use Rattle.std.proofs.Common.{ap, ◌∙◌}
 use Rattle.gvn_globals.specs.Walks.{after, earlier, is_later}
 use Rattle.gvn_globals.proofs.Overlays.{find_joined}
 use Rattle.gvn_globals.proofs.overlay.Overlay.after.Goals as goal

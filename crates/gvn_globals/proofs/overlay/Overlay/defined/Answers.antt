@@ -1,4 +1,4 @@
-use Rattle.std.proofs.Common.{◌≡◌, ◌+◌, is_some, if◌then◌else◌, ap, ◌∙◌}
+use Rattle.std.proofs.Common.{◌+◌, is_some, if◌then◌else◌, ap, ◌∙◌}
 use Rattle.std.specs.FinMap as globals
 use Rattle.global_defs.specs.Entry.{is_under}
 use Rattle.gvn_globals.specs.Walks.{tested}

@@ -1,4 +1,4 @@
-use Rattle.std.proofs.Common.{◌+◌, take, sym, subst, ap, ◌∙◌}
+use Rattle.std.proofs.Common.{◌+◌, take, sym, subst, ◌∙◌}
 use Rattle.std.proofs.lemmas.List.{take_all}
 use Rattle.gvn_globals.proofs.Subtree.{IsWithout, without_none, without_next, without_subtree}
 use Rattle.gvn_globals.proofs.overlay.Overlay.kill.Goals as goal

@@ -1,6 +1,5 @@
 use Rattle.std.proofs.Common.{sym, ap, ◌∙◌}
 use Rattle.std.specs.FinMap as globals
-use Rattle.global_defs.specs.Entry.{Globals}
 use Rattle.gvn_globals.specs.Overlaid.{overlaid}
 use Rattle.gvn_globals.proofs.Overlays.{overlaid_new}
 use Rattle.gvn_globals.proofs.overlay.Overlay.new.Goals as goal

@@ -1,4 +1,4 @@
-use Rattle.std.proofs.Common.{◌≡◌, ℕ, ◌-◌, ◌≤◌, [], is_some, if◌then◌else◌, sym, ap, ◌∙◌}
+use Rattle.std.proofs.Common.{[], is_some, if◌then◌else◌, sym, ap, ◌∙◌}
 use Rattle.std.specs.FinMap as globals
 use Rattle.gvn_globals.specs.Overlaid.{overlaid}
 use Rattle.gvn_globals.proofs.Overlays.{overlaid_remove, nodes_removed}

@@ -1,5 +1,5 @@
-use Rattle.std.proofs.Common.{◌≡◌, Option, IfOk, sym, ap, subst, ◌∙◌, option_map, arith}
-use Rattle.global_defs.specs.Key.{Key, sub_of}
+use Rattle.std.proofs.Common.{◌≡◌, IfOk, sym, ap, subst, ◌∙◌, option_map, arith}
+use Rattle.global_defs.specs.Key.{sub_of}
 use Rattle.gvn_globals.proofs.Subtree.{left, walk_smaller}
 use Rattle.gvn_globals.proofs.Sought.{IsSought, seek_begins, seek_goes, seek_fails, seek_none, seek_finds, seek_below}
 use Rattle.gvn_globals.proofs.overlay.Overlay.walked_order.Goals as goal
