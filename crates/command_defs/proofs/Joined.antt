@@ -209,3 +209,37 @@ joins t parts tight fronted some j =
     let s = splits false t in
     subst (λ (x : List ℕ). Joins (x ∷ parts) t) (sym (part_taken t s))
     (joins_at t parts s tight (part_there t s fronted some) (subst (λ (x : List ℕ). Joins parts (without_spaces x)) (part_dropped t s) j))
+
+-- a part, one or more spaces, and what stands behind them
+pub parted : (t : List ℕ) → 0 < length (without_spaces (drop (word_end t) t)) → (k : ℕ) × (t ≡ take (word_end t) t ++ 32 ∷ (replicate k 32 ++ without_spaces (drop (word_end t) t)))
+parted t some =
+    let s = splits false t in
+    let dropped = part_dropped t s in
+    elim s.next [
+      | inl none ↦ absurd (let e : without_spaces (drop (word_end t) t) ≡ [] = ap without_spaces (dropped ∙ none) in omega (arith, some, ap length e))
+      | inr r ↦ (let f = front_spaces r.0 in
+          let behind : without_spaces (drop (word_end t) t) ≡ without_spaces r.0 = ap without_spaces (dropped ∙ r.1) in (
+            f.0,
+            s.text ∙ (ap (λ (x : List ℕ). s.part ++ x) (r.1 ∙ ap (λ (x : List ℕ). 32 ∷ x) (f.1 ∙ ap (λ (x : List ℕ). replicate f.0 32 ++ x) (sym behind)))
+                ∙ ap (λ (x : List ℕ). x ++ 32 ∷ (replicate f.0 32 ++ without_spaces (drop (word_end t) t))) (sym (part_taken t s))),
+          ))
+    ]
+
+-- the first part and what stands behind it and the spaces
+pub record Cuts (part rest t : List ℕ) : Type 0 where
+  pub some : 0 < length t
+  pub first : take (word_end t) t ≡ part
+  pub behind : without_spaces (drop (word_end t) t) ≡ rest
+
+pub cuts : (part : List ℕ) (n : ℕ) (rest : List ℕ) → IsPart part → stops_quoted false part ≡ false → IsFronted rest → Cuts part rest (part ++ 32 ∷ (replicate n 32 ++ rest))
+cuts part n rest p c fronted =
+    let tail = 32 ∷ (replicate n 32 ++ rest) in
+    let ends = closed_end false part (replicate n 32 ++ rest) p.1 c in
+    record {
+      some = omega (arith, p.0, length-append part tail);
+      first = ap (λ (k : ℕ). take k (part ++ tail)) ends ∙ take-append_seam part tail;
+      behind = ap (λ (k : ℕ). without_spaces (drop k (part ++ tail))) ends ∙ (ap without_spaces (drop-append_seam part tail) ∙ spaces_gone n rest fronted);
+    }
+
+pub part_fronted : (part rest : List ℕ) → IsPart part → IsFronted (part ++ rest)
+part_fronted = part_front

@@ -5,3 +5,7 @@ pub mod Joined
 pub mod NumberForms
 pub mod Orders
 pub mod LineLaws
+pub mod SectionLaws
+pub mod IgnoredLaws
+pub mod Sizes
+pub mod Steady

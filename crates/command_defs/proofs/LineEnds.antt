@@ -80,3 +80,8 @@ before_twice (byte front b n ne) = ap before_spaces (up_to_byte front b n ne) �
 -- no space is left at the end
 pub trimmed_tight : (line : List ℕ) → before_spaces (trimmed line) ≡ trimmed line
 trimmed_tight line = before_twice (ending (before_return (before_spaces line)))
+
+-- a space at the end goes
+pub space_gone : (front : List ℕ) → before_spaces (front ++ 32 ∷ []) ≡ before_spaces front
+space_gone [] = refl
+space_gone (b ∷ bs) = ap (with_byte b) (space_gone bs)

@@ -60,7 +60,7 @@ beginning_ends : (r : Result Name ℕ) (c : Command) → beginning r ≡ Ends c 
 beginning_ends (Ok d) c e = cc
 beginning_ends (Err at) c e = cc
 
-ending_goes : (r : Result Command ℕ) (p : Position) → ending r ≡ Goes p → ⊥
+pub ending_goes : (r : Result Command ℕ) (p : Position) → ending r ≡ Goes p → ⊥
 ending_goes (Ok d) p e = cc
 ending_goes (Err at) p e = cc
 
@@ -118,7 +118,7 @@ head_is zero c cs b bs e = cc
 head_is (suc n) c cs b bs e = cc
 
 -- a text whose first part begins with no semicolon is read
-text_read : (p : Position) (len : ℕ) (t : List ℕ) (b : ℕ) (bs : List ℕ) → b ≢ 59 → take (word_end t) t ≡ b ∷ bs → text_reading p len t ≡ reading_at p len t
+pub text_read : (p : Position) (len : ℕ) (t : List ℕ) (b : ℕ) (bs : List ℕ) → b ≢ 59 → take (word_end t) t ≡ b ∷ bs → text_reading p len t ≡ reading_at p len t
 text_read p len [] b bs ne e = cc
 text_read p len (c ∷ cs) b bs ne e = let same = head_is (word_end (c ∷ cs)) c cs b bs e in rw (ne_eqb c 59 (λ f. ne (sym same ∙ f))) refl
 

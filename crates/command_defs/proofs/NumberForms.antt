@@ -88,3 +88,7 @@ number_read least most n small low high =
     let digits = decimal_digits n (omega arith) in
     ap (λ (k : ℕ). number_from least most k (decimal n)) value
     ∙ rw digits (let l : nat_le least n ≡ true = grind (arith, nat_tests) in let m : nat_le n most ≡ true = grind (arith, nat_tests) in rw (l, m) refl)
+
+-- a number's digits
+pub digits_known : (n : ℕ) → n < 2 ^ 64 → AllDigits 10 (decimal n) × (0 < length (decimal n))
+digits_known n small = (digits_decimal own n small, decimal_nonempty n small)

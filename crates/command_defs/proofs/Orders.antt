@@ -45,10 +45,10 @@ some_left : (xs : List ℕ) → (length xs == 0) ≡ false → 0 < length xs
 some_left xs h = grind (arith, nat_tests)
 
 -- the first part is this word, and what is left is again tight
-record Takes (word left rest : List ℕ) : Type 0 where
-  tight : IsTight rest
-  fronted : IsFronted rest
-  build : (parts : List (List ℕ)) → Joins parts rest → Joins (word ∷ parts) left
+pub record Takes (word left rest : List ℕ) : Type 0 where
+  pub tight : IsTight rest
+  pub fronted : IsFronted rest
+  pub build : (parts : List (List ℕ)) → Joins parts rest → Joins (word ∷ parts) left
 
 takes : (left rest : List ℕ) → IsTight left → IsFronted left → 0 < length left → rest ≡ behind left → Takes (take (word_end left) left) left rest
 takes left rest tight fronted some e = record {
@@ -93,12 +93,19 @@ word_taken word len left p tight fronted e =
     let t = taken_found (word_form word) len left p tight fronted e in
     subst (λ w. Takes w left p.1) (word_is word (take (word_end left) left) p.0 t.0) t.1
 
-number_taken : (least most len : ℕ) (left : List ℕ) (p : ℕ × List ℕ) → most < 2 ^ 64 → IsTight left → IsFronted left → taken (number_form least most) len left ≡ Ok p
+pub number_taken : (least most len : ℕ) (left : List ℕ) (p : ℕ × List ℕ) → most < 2 ^ 64 → IsTight left → IsFronted left → taken (number_form least most) len left ≡ Ok p
     → (least ≤ p.0) × (p.0 ≤ most) × Takes (decimal p.0) left p.1
 number_taken least most len left p small tight fronted e =
     let t = taken_found (number_form least most) len left p tight fronted e in
     let n = number_found least most (take (word_end left) left) p.0 small t.0 in
     (n.1, n.2, subst (λ w. Takes w left p.1) n.0 t.1)
+
+-- a number's digits are the first part
+pub number_at : (least most len : ℕ) (left : List ℕ) (p : ℕ × List ℕ) → most < 2 ^ 64 → taken (number_form least most) len left ≡ Ok p → (take (word_end left) left ≡ decimal p.0) × (p.1 ≡ behind left)
+number_at least most len left p small e = elim (chosen (length left == 0) (Err (column len left)) (formed (column len left) (behind left) (number_form least most (take (word_end left) left))) (Ok p) e) [
+  | inl h ↦ absurd (cc h.1)
+  | inr h ↦ (let f = formed_found (column len left) (behind left) (number_form least most (take (word_end left) left)) p h.1 in ((number_found least most (take (word_end left) left) p.0 small f.0).0, f.1))
+]
 
 node_is : (r : Result Key KeyError) (key : Key) → node_of r ≡ Some key → r ≡ Ok key
 node_is (Ok k) key e = cc
@@ -116,7 +123,7 @@ record Makes (word left : List ℕ) (command : Command) : Type 0 where
   order : IsOrder (word ∷ parts) command
   joined : Joins parts left
 
-at_end : (left : List ℕ) → left ≡ [] → Joins [] left
+pub at_end : (left : List ℕ) → left ≡ [] → Joins [] left
 at_end left e = subst (λ (x : List ℕ). Joins [] x) (sym e) nothing
 
 create_found : (len : ℕ) (left : List ℕ) (c : Command) → IsTight left → IsFronted left → create_reading len left ≡ Ok c → Makes (codes "CREATE") left c
@@ -276,7 +283,7 @@ taken_read form len {left} {part} x j e =
 next : {left part : List ℕ} {parts : List (List ℕ)} → Joins (part ∷ parts) left → Joins parts (behind left)
 next j = (begins j).behind
 
-ended_read : {X : Type 0} (len : ℕ) (left : List ℕ) (x : X) → Joins [] left → ended len left x ≡ Ok x
+pub ended_read : {X : Type 0} (len : ℕ) (left : List ℕ) (x : X) → Joins [] left → ended len left x ≡ Ok x
 ended_read len left x j = subst (λ (t : List ℕ). ended len t x ≡ Ok x) (sym (begins_none j)) refl
 
 name_read : (name : List ℕ) → is_name name ≡ true → name_form name ≡ Some name

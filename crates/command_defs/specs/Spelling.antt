@@ -1,13 +1,17 @@
 -- What a line spells: the grammar of lines in its own words, beside their reading.
-use Rattle.std.specs.Prelude.{◌≡◌, ◌≢◌, ◌<◌, ◌≤◌, ℕ, ◌==◌, not, Bool, true, false, List, [], ◌∷◌, ◌++◌, length, replicate, Some, None, codes, if◌then◌else◌}
+use Rattle.std.specs.Prelude.{◌≡◌, ◌≢◌, ◌<◌, ◌≤◌, ℕ, ◌==◌, not, Bool, true, false, List, [], ◌∷◌, ◌++◌, length, replicate, count_by, Some, None, codes, if◌then◌else◌}
+use Rattle.std.specs.List.{list_any}
 use Rattle.std.specs.Fmt.{decimal}
 use Rattle.std.specs.declared.result.Result.TheVariants.{Ok}
 use Rattle.global_defs.specs.Key.{Key}
 use Rattle.gvn_key.specs.KeyText.{key_reading}
+use Rattle.global_defs.specs.Jobs.{Statement}
 use Rattle.script_defs.specs.Parts.{word_end}
+use Rattle.script_defs.specs.Statements.{SpellsStatement}
 use Rattle.command_defs.specs.Commands.{Name, Command, Create, StartPrimary, Stop, Fuse, Crash, Extract, Zwrite, with_images}
 use Rattle.command_defs.specs.Parts.{is_name}
 use Rattle.command_defs.specs.Forms.{MOST_CALLS, MOST_PICK, MOST_NUMBER}
+use Rattle.command_defs.specs.Sections.{Section, UPDATERS, MOST_STATEMENTS, MOST_UPDATES, is_open, is_update, jobs_of, last_job, transaction_begun, transaction_ended, with_statement}
 use Rattle.command_defs.specs.Script.{LONGEST_LINE}
 
 -- A line, and its text without what is ignored at its end: spaces, at most one carriage return, and again spaces.
@@ -67,3 +71,28 @@ pub record BeginsSection (line : List ℕ) (site : Name) : Type 0 where
 pub data IsIgnored : (line : List ℕ) → Type 0 where
   empty : {line : List ℕ} → length line ≤ LONGEST_LINE → IsEnded [] line → IsIgnored line
   comment : {line : List ℕ} (n : ℕ) (rest : List ℕ) → length line ≤ LONGEST_LINE → IsEnded (replicate n 32 ++ 59 ∷ rest) line → IsIgnored line
+
+-- A statement's text behind an updater's number, with one or more spaces between them.
+pub record IsStatementLine (updater : ℕ) (statement : Statement) (line : List ℕ) : Type 0 where
+  pub short : length line ≤ LONGEST_LINE
+  pub before : ℕ
+  pub gap : ℕ
+  pub text : List ℕ
+  pub spelled : SpellsStatement text statement
+  pub is_ended : IsEnded (replicate before 32 ++ (decimal updater ++ 32 ∷ (replicate gap 32 ++ text))) line
+
+-- the updater's open transaction, if it has one, takes this statement
+pub record HasRoom (s : Section) (updater : ℕ) (statement : Statement) : Type 0 where
+  pub statements : is_open s updater ≡ true → length (last_job (jobs_of s updater)) < MOST_STATEMENTS
+  pub updates : is_open s updater ≡ true → is_update statement ≡ true → count_by is_update (last_job (jobs_of s updater)) < MOST_UPDATES
+
+-- A line with which a section goes on: an updater's TSTART, TCOMMIT or statement.
+pub data Continues : (s : Section) (line : List ℕ) (next : Section) → Type 0 where
+  begins : {s : Section} {line : List ℕ} (updater : ℕ) → 1 ≤ updater → updater ≤ UPDATERS → is_open s updater ≡ false → IsLineOf (decimal updater ∷ codes "TSTART" ∷ []) line → Continues s line (transaction_begun s updater)
+  commits : {s : Section} {line : List ℕ} (updater : ℕ) → 1 ≤ updater → updater ≤ UPDATERS → is_open s updater ≡ true → IsLineOf (decimal updater ∷ codes "TCOMMIT" ∷ []) line → Continues s line (transaction_ended s updater)
+  states : {s : Section} {line : List ℕ} (updater : ℕ) (statement : Statement) → 1 ≤ updater → updater ≤ UPDATERS → HasRoom s updater statement → IsStatementLine updater statement line → Continues s line (with_statement s updater statement)
+
+-- END, where no transaction is open
+pub record EndsSection (s : Section) (line : List ℕ) : Type 0 where
+  pub closed : list_any (λ b. b) s.opened ≡ false
+  pub line_is : IsLineOf (codes "END" ∷ []) line

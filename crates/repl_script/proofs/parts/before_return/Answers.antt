@@ -1,4 +1,4 @@
-use Rattle.std.proofs.Common.{◌≡◌, ◌≢◌, ◌-◌, get_or, length, rules, arith}
+use Rattle.std.proofs.Common.{◌≡◌, ◌≢◌, ◌-◌, get_or, length, arith}
 use Rattle.repl_script.proofs.LineEnds.{return_taken, return_none}
 use Rattle.repl_script.proofs.parts.before_return.Goals as goal
 

@@ -1,4 +1,4 @@
-use Rattle.std.proofs.Common.{◌≡◌, ◌≢◌, ◌≤◌, ◌-◌, ◌∙◌, sym, get_or, length, take, rules, arith}
+use Rattle.std.proofs.Common.{◌≡◌, ◌≢◌, ◌-◌, ◌∙◌, get_or, length, arith}
 use Rattle.std.proofs.Common.{length-take}
 use Rattle.repl_script.proofs.LineEnds.{space_taken, space_none}
 use Rattle.repl_script.proofs.parts.before_spaces.Goals as goal

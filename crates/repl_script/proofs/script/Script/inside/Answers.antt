@@ -1,4 +1,4 @@
-use Rattle.std.proofs.Common.{◌≡◌, ◌∙◌, sym, ap}
+use Rattle.std.proofs.Common.{◌∙◌, sym, ap}
 use Rattle.command_defs.specs.Sections.{Section}
 use Rattle.repl_script.proofs.Sectioned.{complete_run}
 use Rattle.repl_script.proofs.script.Script.inside.Goals as goal

@@ -1,7 +1,8 @@
 use Rattle.std.proofs.Common.{◌≡◌, ◌∙◌, sym, subst, true, ◌++◌, ◌∷◌, []}
 use Rattle.gvn_key.specs.Terms.{statement_value}
 use Rattle.command_defs.specs.Sections.{is_of_size, last_job, jobs_of}
-use Rattle.repl_script.proofs.Sectioned.{after_job, after_statement, one_small}
+use Rattle.command_defs.proofs.Sizes.{one_small}
+use Rattle.repl_script.proofs.Sectioned.{after_job, after_statement}
 use Rattle.repl_script.proofs.section.Section.add_statement.Goals as goal
 
 pub invariant_of-self : goal.invariant_of-self

@@ -1,4 +1,3 @@
-use Rattle.std.proofs.Common.{◌≡◌}
 use Rattle.repl_script.proofs.Sectioned.{begun_parts}
 use Rattle.repl_script.proofs.section.Section.begin_transaction.Goals as goal
 

@@ -1,6 +1,6 @@
-use Rattle.std.proofs.Common.{◌≡◌, ◌∙◌, sym}
+use Rattle.std.proofs.Common.{◌∙◌, sym}
 use Rattle.gvn_key.specs.Terms.{statement_value}
-use Rattle.repl_script.proofs.Sectioned.{still_sized}
+use Rattle.command_defs.proofs.Sizes.{still_sized}
 use Rattle.repl_script.proofs.section.Section.read_job.Goals as goal
 
 pub returns-in-Ok-clause-allowed : goal.returns-in-Ok-clause-allowed
