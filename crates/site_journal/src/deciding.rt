@@ -14,6 +14,7 @@ ghost use Rattle.site_journal.specs.Replies.{replied_value};
 ghost use Rattle.site_journal.specs.Reigns.{Reigns};
 ghost use Rattle.site_journal.specs.Deciding.{outcome, IsReadyAfter, HasCome, Appends, MayHave};
 
+use crate::records::LAST_UPDATER;
 use crate::reign::Reign;
 use crate::replying::write_reply;
 use gvn_key::{Bytes, NoMemory};
@@ -21,9 +22,6 @@ use gvn_model::{Answers, Cause, Evaluated, Job, Origin, Reply, Updates, eval};
 use repl_disk::Disk;
 use std::alloc::Global;
 use thiserror::Error;
-
-/// Updaters are numbered from 1 to this.
-const LAST_UPDATER: u8 = 64;
 
 /// The number of the last entry that there may be.
 const LAST_NUMBER: u64 = 0xff_ffff_ffff;

@@ -14,7 +14,7 @@ use jnl_record::JnlRecord;
 use std::alloc::Global;
 
 /// Updaters are numbered from 1 to this.
-const LAST_UPDATER: u8 = 64;
+pub const LAST_UPDATER: u8 = 64;
 
 /// An equal update.
 fn copy_update(update: &Update) -> Result<Update, NoMemory>
