@@ -95,7 +95,7 @@ impl Jobs {
         self.items[usize::from(updater - 1)].push_statement(statement)
     }
 
-    /// Takes the first job of this updater, from 1, if it has one.
+    /// Takes the first job of this updater, from 1, if it has one. A 0 is taken as 1.
     pub fn take_next(&mut self, updater: u8) -> Option<Job>
         ensures job { option_map job_value result ≡ next_job updater self.old }
         ensures left { self.new ≡ without_next updater self.old }
