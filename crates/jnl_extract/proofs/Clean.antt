@@ -1,12 +1,11 @@
 -- An update's text has no line feed.
-use Rattle.std.proofs.Common.{◌≡◌, ℕ, zero, suc, ◌<◌, ◌^◌, ◌≢◌, Bool, true, false, ◌&&◌, ◌||◌, ◌==◌, nat_lt, List, [], ◌∷◌, ◌++◌, map, codes, replicate, None, refl, ap, sym, ◌∙◌, arith, inl, inr}
+use Rattle.std.proofs.Common.{◌≡◌, ℕ, zero, suc, Bool, true, false, ◌||◌, ◌==◌, nat_lt, List, [], ◌∷◌, ◌++◌, map, replicate, None, refl, ap, sym, ◌∙◌, arith, inl, inr}
 use Rattle.std.specs.List.{list_all, list_any, flat_map, join_with_byte}
 use Rattle.std.specs.Char.{is_ascii_digit, is_ascii_alphabetic, is_ascii_alphanumeric}
 use Rattle.std.specs.Str.Parse.{AllDigits}
 use Rattle.std.specs.Fmt.{decimal}
 use Rattle.std.proofs.lemmas.List.Folds.{list_any-append}
-use Rattle.std.proofs.lemmas.Str.Parse.{digit_from_value}
-use Rattle.std.proofs.lemmas.Bool.{and_parts, or_from, cases_Bool, ne_eqb, true≢false, ltb-true, le-leb}
+use Rattle.std.proofs.lemmas.Bool.{and_parts, or_from, cases_Bool, ne_eqb, true≢false, ltb-true}
 use Rattle.global_defs.specs.Zwr.{is_plain, quoted_byte}
 use Rattle.global_defs.specs.NodeText.{pointed}
 use Rattle.global_defs.specs.Valid.{is_name}
@@ -20,7 +19,6 @@ use Rattle.gvn_key.specs.KeyText.{IsSubText, number, string, IsSubsText, last, a
 use Rattle.gvn_key.specs.Faults.{key_fault}
 use Rattle.script_defs.specs.Parts.{IsNode}
 use Rattle.script_defs.specs.Statements.{IsOperand, set, kill, zkill, incr, get, defined, order, check_is, check_at_least, SpellsStatement, statement_text}
-use Rattle.jnl_extract.specs.Updates.{statement_of}
 use Rattle.jnl_extract.specs.Extracts.{IsSpelled}
 use Rattle.jnl_extract.specs.Lines.{update_tail}
 use Rattle.jnl_extract.proofs.Cuts.{none_of}

@@ -1,5 +1,5 @@
 -- Updates that their statements make, and entries of them, are of their form.
-use Rattle.std.proofs.Common.{◌≡◌, ℕ, ◌≤◌, Bool, true, false, cond, List, [], ◌∷◌, length, Option, Some, None, refl, ap, sym, subst, ◌∙◌, nat_lt}
+use Rattle.std.proofs.Common.{◌≡◌, ℕ, ◌≤◌, Bool, true, false, cond, List, [], ◌∷◌, length, Option, Some, None, refl, ap, ◌∙◌, nat_lt}
 use Rattle.std.specs.List.{AllByRecursion}
 use Rattle.std.proofs.lemmas.Bool.{ltb-false}
 use Rattle.global_defs.specs.Key.{Key}
@@ -9,12 +9,12 @@ use Rattle.global_defs.specs.Jobs as jobs
 use Rattle.global_defs.specs.Fields.{IsStamp, IsOrigin, IsUpdate}
 use Rattle.global_defs.specs.Valid.{is_key}
 use Rattle.global_defs.specs.Encoded.{encoded}
-use Rattle.gvn_key.specs.Faults.{key_of, key_fault, parts_fault, length_fault, or_else}
+use Rattle.gvn_key.specs.Faults.{key_of, parts_fault, length_fault, or_else}
 use Rattle.gvn_key.specs.declared.key.KeyError.{KeyError}
 use Rattle.gvn_key.specs.declared.key.KeyError.TheVariants.{KeyTooLong}
 use Rattle.gvn_key.proofs.NoFault.{no_fault}
 use Rattle.script_defs.specs.Parts.{IsNode}
-use Rattle.script_defs.specs.Statements.{IsOperand, set, kill, zkill, incr, get, defined, order, check_is, check_at_least, SpellsStatement, IsStatement}
+use Rattle.script_defs.specs.Statements.{IsOperand, set, kill, zkill, incr, get, defined, order, check_is, check_at_least, IsStatement}
 use Rattle.script_defs.proofs.StatementsWritten.{statement_written}
 use Rattle.jnl_extract.specs.Updates.{statement_of}
 use Rattle.jnl_extract.specs.Extracts.{IsSpelled, IsEntry}

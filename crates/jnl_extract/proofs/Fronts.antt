@@ -1,24 +1,24 @@
 -- A text that a stage has read up to a line is a front of an extract, and what the stage refuses is no further line of one.
-use Rattle.std.proofs.Common.{◌≡◌, ℕ, suc, ◌+◌, ◌-◌, ◌<◌, ◌≤◌, ◌^◌, ◌==◌, Bool, true, false, List, [], ◌∷◌, ◌++◌, Option, Some, None, length, map, codes, refl, ap, sym, subst, ◌∙◌, arith, inl, inr, append_assoc, length-append}
+use Rattle.std.proofs.Common.{◌≡◌, ℕ, ◌+◌, ◌-◌, ◌<◌, ◌≤◌, ◌^◌, ◌==◌, Bool, true, false, List, [], ◌∷◌, ◌++◌, Option, Some, None, length, map, codes, refl, ap, sym, subst, ◌∙◌, arith, inl, inr, append_assoc, length-append}
 use Rattle.std.specs.Prelude.{decimal}
-use Rattle.std.specs.List.{enumerate_from, AllByRecursion, list_any}
+use Rattle.std.specs.List.{enumerate_from, AllByRecursion}
 use Rattle.std.proofs.lemmas.List.{append-nil, map-append, append_cancel_left}
 use Rattle.std.proofs.lemmas.Fmt.{decimal_injective}
 use Rattle.std.proofs.lemmas.List.Concat.{flat_map-append}
 use Rattle.std.proofs.lemmas.Bool.{cases_lt, eqb-true}
 use Rattle.global_defs.specs.Entry.{Update, Set, Kill, ZKill, Entry, Sequence}
 use Rattle.global_defs.specs.Jobs as jobs
-use Rattle.global_defs.specs.Fields.{IsSiteName, IsStamp, IsOrigin}
+use Rattle.global_defs.specs.Fields.{IsSiteName}
 use Rattle.script_defs.proofs.StatementsWritten.{statement_written}
-use Rattle.jnl_extract.specs.Extracts.{IsSpelled, IsEntry, IsExtract, IsExtractOf, extract_text, IsFront, IsBadLine, ended}
-use Rattle.jnl_extract.specs.Lines.{Head, Line, Opens, Holds, Closes, line_body, line_head, line_rest, line_word, header_body, stamp_text, origin_text, IsHead, IsLine, Stage, stage_of, head_of, updates_of, made_entry, next_stage, Refuses, Takes, Begins}
+use Rattle.jnl_extract.specs.Extracts.{IsSpelled, IsEntry, IsExtract, IsExtractOf, extract_text, IsFront, IsBadLine}
+use Rattle.jnl_extract.specs.Lines.{Head, Line, Opens, Holds, Closes, line_body, line_head, line_rest, line_word, header_body, stamp_text, origin_text, IsHead, IsLine, Stage, stage_of, head_of, updates_of, made_entry, Refuses, Takes, Begins}
 use Rattle.jnl_extract.proofs.Forms.{entry_of_form}
 use Rattle.jnl_extract.proofs.Cuts.{one_cut}
 use Rattle.jnl_extract.proofs.FieldLaws.{number_clean, name_clean}
 use Rattle.jnl_extract.proofs.LineLaws.{same_line}
 use Rattle.jnl_extract.proofs.LineTexts.{text_of, text-append, lines_from, entry_lines, all_lines, extract_is}
 use Rattle.jnl_extract.proofs.Clean.{Clean, clean_both, tail_clean}
-use Rattle.jnl_extract.proofs.Grammar.{entries_of, IsPending, ArePending, AreEntries, IsStage, pending_lines, lines_at, stage_lines, all_more, pushed, in_brackets, goes, same_length}
+use Rattle.jnl_extract.proofs.Grammar.{entries_of, ArePending, AreEntries, IsStage, pending_lines, lines_at, stage_lines, all_more, pushed, in_brackets, goes, same_length}
 use Rattle.jnl_extract.proofs.Refused.{refused, unended}
 
 -- lines have no line feed

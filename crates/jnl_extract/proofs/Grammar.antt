@@ -1,15 +1,14 @@
 -- A reader's stage goes on with a line exactly where an extract does.
-use Rattle.std.proofs.Common.{◌≡◌, ℕ, zero, suc, ◌+◌, ◌<◌, ◌≤◌, ◌^◌, ◌==◌, ◌&&◌, Bool, true, false, cond, List, [], ◌∷◌, ◌++◌, Option, Some, None, length, map, refl, ap, sym, subst, ◌∙◌, arith, inl, inr, ◌⊎◌, nat_lt, append_assoc, length-append}
-use Rattle.std.specs.Prelude.{decimal}
-use Rattle.std.specs.List.{enumerate_from, AllByRecursion, flat_map}
+use Rattle.std.proofs.Common.{◌≡◌, ℕ, suc, ◌+◌, ◌<◌, ◌≤◌, ◌^◌, ◌==◌, ◌&&◌, Bool, true, false, cond, List, [], ◌∷◌, ◌++◌, Option, Some, None, length, map, refl, ap, sym, subst, ◌∙◌, arith, nat_lt, append_assoc, length-append}
+use Rattle.std.specs.List.{enumerate_from, AllByRecursion}
 use Rattle.std.specs.Str.{bytes_eq}
 use Rattle.std.proofs.lemmas.List.{append-nil, map-append}
 use Rattle.std.proofs.lemmas.List.Concat.{flat_map-append}
-use Rattle.std.proofs.lemmas.Bool.{and_parts, and_from, eqb-true, eq-eqb, ltb-true, lt-ltb, cases_lt}
-use Rattle.global_defs.specs.Entry.{Update, Kill, Entry, Sequence, Stamp, Origin}
+use Rattle.std.proofs.lemmas.Bool.{and_parts, eqb-true, eq-eqb, ltb-true}
+use Rattle.global_defs.specs.Entry.{Update, Entry, Sequence}
 use Rattle.global_defs.specs.Fields.{IsStamp, IsOrigin}
 use Rattle.jnl_extract.specs.Extracts.{IsSpelled, IsEntry}
-use Rattle.jnl_extract.specs.Lines.{Head, Line, Opens, Holds, Closes, IsHead, IsLine, Stage, stage_of, head_of, updates_of, made_entry, follows, same_head, begun, gone_on, next_stage}
+use Rattle.jnl_extract.specs.Lines.{Head, Line, Opens, Holds, Closes, IsLine, Stage, stage_of, head_of, updates_of, made_entry, follows, same_head, begun, gone_on, next_stage}
 use Rattle.jnl_extract.proofs.Forms.{entry_of_form}
 use Rattle.jnl_extract.proofs.FieldLaws.{bytes_same}
 use Rattle.jnl_extract.proofs.LineTexts.{lines_from, entry_lines, all_lines}

@@ -1,9 +1,8 @@
 -- A line is read in one way.
-use Rattle.std.proofs.Common.{◌≡◌, ℕ, ◌<◌, ◌≤◌, ◌^◌, ◌==◌, Bool, true, false, List, [], ◌∷◌, ◌++◌, Option, Some, None, IfOk, IfSome, MatchOption, codes, length, refl, ap, sym, subst, ◌∙◌, arith, get_or}
+use Rattle.std.proofs.Common.{◌≡◌, ℕ, ◌==◌, true, false, List, ◌∷◌, ◌++◌, Option, Some, None, IfOk, IfSome, MatchOption, codes, refl, ap, sym, subst, ◌∙◌, arith, get_or}
 use Rattle.std.specs.Prelude.{decimal, Result, Ok, Err}
 use Rattle.std.specs.List.{list_any}
 use Rattle.global_defs.specs.Entry.{Update, Set, Kill, ZKill, Stamp, Origin}
-use Rattle.global_defs.specs.Jobs.{Statement}
 use Rattle.script_defs.specs.Statements.{statement_text, statement_reading}
 use Rattle.script_defs.proofs.StatementsRead.{statement_read}
 use Rattle.jnl_extract.specs.Updates.{statement_of}

@@ -5,9 +5,9 @@ use Rattle.std.specs.List.{flat_map, enumerate_from}
 use Rattle.std.proofs.lemmas.List.{append-nil, map-append}
 use Rattle.std.proofs.lemmas.List.Concat.{flat_map-append}
 use Rattle.global_defs.specs.Entry.{Update, Set, Kill, ZKill, Entry, Sequence}
-use Rattle.global_defs.specs.Extract.{header, entries_text, entry_text, updates_text, update_line, bracket_line}
+use Rattle.global_defs.specs.Extract.{header, entries_text, updates_text, update_line, bracket_line}
 use Rattle.jnl_extract.specs.Extracts.{ended, extract_text}
-use Rattle.jnl_extract.specs.Lines.{Head, Line, Opens, Holds, Closes, line_body, header_body, update_word, update_tail, stamp_text, origin_text, head_of, updates_of}
+use Rattle.jnl_extract.specs.Lines.{Head, Line, Opens, Holds, Closes, line_body, header_body, update_tail, stamp_text, origin_text, head_of, updates_of}
 
 abbrev pub text_of : List Line → List ℕ
 text_of ls = ended (map line_body ls)

@@ -7,7 +7,7 @@ use Rattle.global_defs.specs.Entry.{Update, Entry, Sequence}
 use Rattle.jnl_extract.specs.Extracts.{IsEntry}
 use Rattle.jnl_extract.specs.Lines.{Head, Line, Opens, Holds, Closes, Stage, stage_of, head_of, updates_of, made_entry, follows, same_head, begun, gone_on, next_stage}
 use Rattle.jnl_extract.proofs.LineTexts.{lines_from, entry_lines, all_lines}
-use Rattle.jnl_extract.proofs.Grammar.{entries_of, IsPending, ArePending, AreEntries, IsStage, pending_lines, lines_at, stage_lines, own_head, same_length}
+use Rattle.jnl_extract.proofs.Grammar.{entries_of, IsStage, pending_lines, stage_lines, own_head, same_length}
 
 heads_eq : {A : Type 0} (x y : A) (xs ys : List A) → x ∷ xs ≡ y ∷ ys → x ≡ y
 heads_eq x y xs ys e = cc

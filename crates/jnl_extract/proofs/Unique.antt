@@ -1,13 +1,13 @@
 -- A text is the extract of one sequence at most, and has one first bad line at most.
-use Rattle.std.proofs.Common.{◌≡◌, ℕ, suc, ◌+◌, ◌-◌, ◌<◌, ◌≤◌, ◌^◌, ◌==◌, Bool, true, false, List, [], ◌∷◌, ◌++◌, Option, Some, None, IfOk, IfErr, length, map, drop, refl, ap, sym, subst, ◌∙◌, arith, inl, inr, ◌⊎◌, append_assoc, length-append}
+use Rattle.std.proofs.Common.{◌≡◌, ℕ, ◌+◌, ◌-◌, ◌<◌, ◌≤◌, ◌^◌, ◌==◌, false, List, [], ◌∷◌, ◌++◌, IfOk, IfErr, length, drop, refl, ap, sym, subst, ◌∙◌, arith, inl, inr, append_assoc, length-append}
 use Rattle.std.specs.Prelude.{Result, Ok, Err}
 use Rattle.std.specs.List.{enumerate_from, AllByRecursion, list_any}
 use Rattle.std.proofs.lemmas.List.{append-nil}
 use Rattle.std.proofs.lemmas.Bool.{cases_order, cases_Bool, eqb-true}
-use Rattle.global_defs.specs.Entry.{Update, Entry, Sequence}
+use Rattle.global_defs.specs.Entry.{Sequence}
 use Rattle.global_defs.specs.Extract.{extract, header, entries_text}
 use Rattle.jnl_extract.specs.Extracts.{IsEntry, IsExtract, IsExtractOf, extract_text, IsFront, IsBadLine, ended, is_feed}
-use Rattle.jnl_extract.specs.Lines.{Line, line_body, header_body, head_of, IsLine}
+use Rattle.jnl_extract.specs.Lines.{Line, line_body, header_body, head_of}
 use Rattle.jnl_extract.specs.Values.{TellsBadLine, Gives, TellsAt}
 use Rattle.jnl_extract.specs.declared.reading.Extract.{Extract}
 use Rattle.jnl_extract.specs.declared.reading.ExtractError.{ExtractError}

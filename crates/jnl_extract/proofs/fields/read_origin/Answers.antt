@@ -1,4 +1,4 @@
-use Rattle.std.proofs.Common.{◌≡◌, ◌<◌, ◌≤◌, ◌^◌, ◌∙◌, sym, arith}
+use Rattle.std.proofs.Common.{arith}
 use Rattle.jnl_extract.proofs.FieldLaws.{same_pair}
 use Rattle.jnl_extract.proofs.fields.read_origin.Goals as goal
 

@@ -1,4 +1,4 @@
-use Rattle.std.proofs.Common.{◌∙◌, sym, refl}
+use Rattle.std.proofs.Common.{refl}
 use Rattle.std.specs.Prelude.{decimal}
 use Rattle.jnl_extract.proofs.FieldLaws.{halves, number_clean}
 use Rattle.jnl_extract.proofs.fields.read_pair.Goals as goal

@@ -1,4 +1,4 @@
-use Rattle.std.proofs.Common.{◌≡◌, ◌<◌, ◌^◌, ◌∙◌, ◌∷◌, sym, refl, subst, arith}
+use Rattle.std.proofs.Common.{◌≡◌, ◌<◌, ◌^◌, ◌∙◌, sym, refl, subst, arith}
 use Rattle.std.specs.Prelude.{decimal}
 use Rattle.global_defs.specs.Fields.{IsSiteName}
 use Rattle.jnl_extract.proofs.FieldLaws.{halves, name_clean, no_name, same_number}

@@ -1,4 +1,4 @@
-use Rattle.std.proofs.Common.{rules, ◌≡◌, ◌∷◌, ◌++◌, List, ℕ, ap, sym, subst, ◌∙◌, refl}
+use Rattle.std.proofs.Common.{◌≡◌, ◌∷◌, ◌++◌, List, ℕ, ap, sym, ◌∙◌, refl}
 use Rattle.script_defs.specs.Statements.{statement_text}
 use Rattle.jnl_extract.specs.Updates.{statement_of}
 use Rattle.jnl_extract.specs.Lines.{update_word, update_tail}

@@ -1,4 +1,4 @@
-use Rattle.std.proofs.Common.{rules, ◌≡◌, ◌∷◌, ◌++◌, List, ℕ, ap, sym, ◌∙◌}
+use Rattle.std.proofs.Common.{◌∷◌, ◌++◌}
 use Rattle.std.specs.Prelude.{decimal}
 use Rattle.jnl_extract.specs.Lines.{line_head, line_rest, stamp_text}
 use Rattle.jnl_extract.specs.Values.{line_value}

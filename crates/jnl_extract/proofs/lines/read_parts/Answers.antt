@@ -1,4 +1,3 @@
-use Rattle.std.proofs.Common.{◌≡◌, List, ℕ, sym, ◌∙◌}
 use Rattle.jnl_extract.specs.Lines as lines
 use Rattle.jnl_extract.specs.Lines.{IsHead, FieldsAre}
 use Rattle.jnl_extract.specs.Values.{head_value, line_value}

@@ -1,4 +1,4 @@
-use Rattle.std.proofs.Common.{◌≡◌, ◌≤◌, ◌^◌, ◌∷◌, List, ℕ, sym, ◌∙◌}
+use Rattle.std.proofs.Common.{◌≡◌, ◌≤◌, ◌^◌, List, ℕ, sym, ◌∙◌}
 use Rattle.global_defs.specs.Fields.{IsSiteName}
 use Rattle.jnl_extract.specs.Lines.{header_body}
 use Rattle.jnl_extract.proofs.Cuts.{one_cut}

@@ -1,4 +1,4 @@
-use Rattle.std.proofs.Common.{◌≡◌, ◌∷◌, List, ℕ, ap, sym, ◌∙◌}
+use Rattle.std.proofs.Common.{◌≡◌, List, ℕ, ap, sym, ◌∙◌}
 use Rattle.std.specs.Option.{option_map}
 use Rattle.jnl_extract.specs.Lines.{Line, IsLine, line_body, next_stage}
 use Rattle.jnl_extract.specs.Values.{line_value, stage_value}

@@ -1,7 +1,5 @@
-use Rattle.std.proofs.Common.{◌≡◌, List, ℕ, Some, ap, sym, ◌∙◌, subst}
-use Rattle.std.specs.Option.{option_map}
-use Rattle.script_defs.specs.Statements.{statement_text, SpellsStatement}
-use Rattle.gvn_key.specs.Terms.{statement_value}
+use Rattle.std.proofs.Common.{List, ℕ, sym, subst}
+use Rattle.script_defs.specs.Statements.{SpellsStatement}
 use Rattle.jnl_extract.specs.Updates.{statement_of}
 use Rattle.jnl_extract.proofs.Canonical.{nothing_found, statement_found}
 use Rattle.jnl_extract.proofs.update.canonical_update.Goals as goal

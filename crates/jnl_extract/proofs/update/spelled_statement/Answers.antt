@@ -1,4 +1,3 @@
-use Rattle.std.proofs.Common.{◌≡◌, List, ℕ, Some}
 use Rattle.gvn_key.specs.Terms.{statement_value}
 use Rattle.jnl_extract.proofs.Canonical.{told, no_error}
 use Rattle.jnl_extract.proofs.update.spelled_statement.Goals as goal
