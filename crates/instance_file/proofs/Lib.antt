@@ -1,0 +1,10 @@
+mod Chains
+mod Bodies
+mod RegionLists
+mod Pushes
+mod Putting
+mod Histories
+mod Orders
+mod Scanning
+mod Zips
+mod Passing

@@ -1,0 +1,8 @@
+use Rattle.std.proofs.Common.{◌≡◌, ap, ◌∙◌, List, ℕ}
+use Rattle.journal_defs.specs.Instance.{NamedMode, spelled_region}
+use Rattle.instance_file.proofs.Chains.{site, truth, and, behind, none_as}
+use Rattle.instance_file.proofs.RegionLists.{region}
+use Rattle.instance_file.proofs.fields.read_region.Goals as goal
+
+pub returns-in_err-before : goal.returns-in_err-before
+returns-in_err-before c = rw c.from_residual-in_err-before.ensures (λ x rest form e. behind site truth _ _ _ c.in_ok-name.ensures c.in_err-before.ensures (x.name, x.before) rest (form, tt) e)
