@@ -8,3 +8,5 @@ mod Orders
 mod Scanning
 mod Zips
 mod Passing
+mod States
+mod Sizes

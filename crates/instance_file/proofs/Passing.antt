@@ -3,7 +3,8 @@ use Rattle.std.proofs.Common.{◌≡◌, ◌⊎◌, inl, inr, ℕ, ◌+◌, ◌=
 use Rattle.std.specs.Option.{option_map}
 use Rattle.disk_defs.specs.Gates.{Body, Open, gate_at, bodies_at, records, framed, spelled}
 use Rattle.disk_defs.specs.Disk.{Files}
-use Rattle.disk_defs.proofs.Told.{both_weak}
+use Rattle.disk_defs.proofs.Told.{both_weak, told_at}
+use Rattle.gated_file.specs.declared.gated.Gated.{Gated}
 use Rattle.disk_defs.proofs.Texts.{length-framed}
 use Rattle.disk_defs.proofs.Walks.{at_shut, at_open, at_none}
 use Rattle.gated_file.specs.State.{places}
@@ -82,7 +83,7 @@ module _ (file : List ℕ) (at : ℕ) (rs : List InstanceRecord) (gates : List �
         here = b.rest;
         place = next_place p.done found.0 at next p.place found.2;
         spelled_done = zip_append IsInstanceBody p.done (found.0 ∷ []) rs (record_value x ∷ []) p.spelled_done (found.3, tt);
-        gates_are = ap (λ (l : List ℕ). l ++ at ∷ []) p.gates_are ∙ ap (λ (n : ℕ). places 0 p.done ++ n ∷ []) p.place ∙ sym (places_push 0 p.done found.0);
+        gates_are = ap (λ (l : List ℕ). l ++ at ∷ []) p.gates_are ∙ ap (λ (n : ℕ). places 0 p.done ++ n ∷ []) (let here : at ≡ 0 + length (spelled 1 p.done) = omega (arith, p.place) in here) ∙ sym (places_push 0 p.done found.0);
         ordered = stand_follows rs (record_value x) p.ordered follows;
         last_is = ap (λ (n : ℕ). last_after n (record_value x)) p.last_is ∙ sym (generation_next rs (record_value x) follows);
       }
@@ -128,6 +129,10 @@ module _ (file : List ℕ) (at : ℕ) (rs : List InstanceRecord) (gates : List �
     where
       no_list : Some p.rest ≡ None → ⊥
       no_list is = cc is
+
+-- the same of a Gated and a disk that are as they were
+pub told_same : (o n : Option Files) (g h : Gated) (P : List ℕ → Type 0) → n ≡ o → h ≡ g → IfSome n (λ files. P (files h.file)) → IfSome o (λ files. P (files g.file))
+told_same o n g h P content same told = told_at o n (λ files. P (files g.file)) content (subst (λ (x : Gated). IfSome n (λ files. P (files x.file))) same told)
 
 -- the same of a file that the disk tells, or doesn't
 module _ (o : Option Files) (file at : ℕ) (rs : List InstanceRecord) (gates : List ℕ) (last : ℕ) (p : IfSome o (λ files. Passed (files file) at rs gates last)) where
