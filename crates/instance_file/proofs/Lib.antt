@@ -10,3 +10,6 @@ mod Zips
 mod Passing
 mod States
 mod Sizes
+mod Mores
+mod Outside
+mod Making

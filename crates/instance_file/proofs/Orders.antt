@@ -41,7 +41,7 @@ create_front (Map region star name ∷ rs) others begins = absurd begins
 create_front (Mode region before ∷ rs) others begins = absurd begins
 
 -- where a record's generation may stand behind CUTs of these
-abbrev IsPast : ℕ → InstanceRecord → Type 0
+abbrev pub IsPast : ℕ → InstanceRecord → Type 0
 IsPast last (Cut n g) = last < g
 IsPast last (Create name regions) = Unit {0}
 IsPast last (Reigned r) = Unit {0}

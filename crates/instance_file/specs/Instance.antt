@@ -36,6 +36,6 @@ pub record IsReady (v : View) (i : Instance) : Type 0 where
 abbrev pub StandsWith : List InstanceRecord → InstanceRecord → List ℕ → Type 0
 StandsWith rs r file = IsInstance file rs ⊎ IsInstance file (rs ++ r ∷ [])
 
--- An image from before the call, in which the instance file may have other bytes that stand for the same records, or for this one alone.
+-- An image from before the call, in which the instance file may have other bytes that stand for the same records, or for none, or for this one alone.
 abbrev pub MayCreate : View → InstanceRecord → Files → Type 0
-MayCreate old first = From (Image old) (OnFile INSTANCE (λ was now. (records now ≡ records was) ⊎ IsInstance now (first ∷ [])))
+MayCreate old first = From (Image old) (OnFile INSTANCE (λ was now. (records now ≡ records was) ⊎ StandsWith [] first now))
