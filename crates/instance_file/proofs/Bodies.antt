@@ -140,7 +140,7 @@ module _ (bytes name : List ℕ) (version n : ℕ) (r : List ℕ) (first : Reads
   create_read (Some q) is some few second = (
     (first.0.1.0, omega (arith, second.0.many, some), omega (arith, second.0.many, few), second.0.each),
     first.1 ∙ ap (λ v. v ∷ (short name ++ n ∷ []) ++ r) (sym is) ∙ ap (λ s. 1 ∷ (short name ++ n ∷ []) ++ s) second.1
-    ∙ ap (λ k. 1 ∷ (short name ++ k ∷ []) ++ (flat_map spelled_region q.0 ++ q.1)) (sym second.0.many) ∙ sym (head_split (name, q.0) q.1),
+        ∙ ap (λ k. 1 ∷ (short name ++ k ∷ []) ++ (flat_map spelled_region q.0 ++ q.1)) (sym second.0.many) ∙ sym (head_split (name, q.0) q.1),
     λ t rest form e.
         let o = one_head t rest form e in
         let later = second.2 t.1 rest (record { many = o.2; each = form.3 }) o.3 in

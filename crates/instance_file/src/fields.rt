@@ -33,9 +33,7 @@ pub fn is_site_name(bytes: &[u8]) -> bool
 {
     match bytes {
         [first, rest @ ..] => {
-            first.is_ascii_alphabetic()
-                && all_alphanumeric(rest)
-                && rest.len() <= MOST_BEHIND
+            first.is_ascii_alphabetic() && all_alphanumeric(rest) && rest.len() <= MOST_BEHIND
         }
         [] => false,
     }

@@ -88,11 +88,7 @@ impl Instance {
     ghost use Rattle.instance_file.specs.Instance.{HasRecords, IsReady, StandsWith, MayCreate};
 
     /// Appends a record and puts it on the disk.
-    fn append<D: Disk>(
-        &mut self,
-        disk: &mut D,
-        added: InstanceRecord,
-    ) -> Result<(), InstanceError>
+    fn append<D: Disk>(&mut self, disk: &mut D, added: InstanceRecord) -> Result<(), InstanceError>
         requires ready { IsReady (D.disk disk.old) self.old }
         requires form { IsInForm (record_value added) }
         requires order { AreInOrder self.old.records → AreInOrder (self.old.records ++ record_value added ∷ []) }

@@ -22,10 +22,7 @@ const MOST_REGIONS: u8 = 8;
 const LAST_GENERATION: u32 = 65535;
 
 /// A CREATE by its fields, and what follows them.
-pub fn read_create(
-    alloc: Global,
-    bytes: &[u8],
-) -> Result<Option<(InstanceRecord, &[u8])>, NoMemory>
+pub fn read_create(alloc: Global, bytes: &[u8]) -> Result<Option<(InstanceRecord, &[u8])>, NoMemory>
     ensures { IfOk result (λ found. ReadsField IsInForm spelled_record (1 ∷ bytes.now) (option_map (λ p. (record_value p.0, p.1.now)) found)) }
 {
     let Some((VERSION, rest)) = read_u8(bytes) else {
@@ -55,10 +52,7 @@ fn is_in_range(cycle: u32, start: u64) -> bool
 }
 
 /// A REIGN by its fields, and what follows them.
-pub fn read_reign(
-    alloc: Global,
-    bytes: &[u8],
-) -> Result<Option<(InstanceRecord, &[u8])>, NoMemory>
+pub fn read_reign(alloc: Global, bytes: &[u8]) -> Result<Option<(InstanceRecord, &[u8])>, NoMemory>
     ensures { IfOk result (λ found. ReadsField IsInForm spelled_record (2 ∷ bytes.now) (option_map (λ p. (record_value p.0, p.1.now)) found)) }
 {
     let Some((root, rest)) = read_site_name(bytes) else {

@@ -31,10 +31,7 @@ fn read_kind(
 }
 
 /// A record, and what follows it.
-fn read_record(
-    alloc: Global,
-    bytes: &[u8],
-) -> Result<Option<(InstanceRecord, &[u8])>, NoMemory>
+fn read_record(alloc: Global, bytes: &[u8]) -> Result<Option<(InstanceRecord, &[u8])>, NoMemory>
     ensures { IfOk result (λ found. ReadsField IsInForm spelled_record bytes.now (option_map (λ p. (record_value p.0, p.1.now)) found)) }
 {
     match read_u8(bytes) {

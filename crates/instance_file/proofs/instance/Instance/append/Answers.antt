@@ -87,6 +87,10 @@ returns-clause-ready g c =
     let x = record_value c.args.added in
     let all = others_next v (view c.reserve.new.disk) w i.gated.file c.reserve.new.self.file c.reserve.ensures.file c.reserve.ensures.frame c.put.ensures.frame in
     ready_of v w i _ (Only i.gated.file) all (c.put.ensures.file ∙ c.reserve.ensures.file ∙ c.requires.ready.file) c.in_default.ensures.ready
-    (λ has. (i.records ++ x ∷ [], c.in_ok-push.ensures.ok, records_more v w i _ i.records x c.as_slice.result.now c.in_ok-push.ensures.ok (c.put.ensures.file ∙ c.reserve.ensures.file)
-    (λ bodies one. c.in_default.ensures.state bodies (c.reserve.ensures.state (settled bodies) one)) (record { form = c.requires.form; spelled = c.as_slice.ensures ∙ c.in_ok-body.ensures }) c.requires.order has))
+    (λ has. (
+      i.records ++ x ∷ [],
+      c.in_ok-push.ensures.ok,
+      records_more v w i _ i.records x c.as_slice.result.now c.in_ok-push.ensures.ok (c.put.ensures.file ∙ c.reserve.ensures.file)
+          (λ bodies one. c.in_default.ensures.state bodies (c.reserve.ensures.state (settled bodies) one)) (record { form = c.requires.form; spelled = c.as_slice.ensures ∙ c.in_ok-body.ensures }) c.requires.order has,
+    ))
     c.requires.ready
