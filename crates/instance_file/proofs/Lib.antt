@@ -1,0 +1,15 @@
+mod Chains
+mod Bodies
+mod RegionLists
+mod Pushes
+mod Putting
+mod Histories
+mod Orders
+mod Scanning
+mod Zips
+mod Passing
+mod States
+mod Sizes
+mod Mores
+mod Outside
+mod Making

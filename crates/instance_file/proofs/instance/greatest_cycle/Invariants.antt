@@ -1,0 +1,8 @@
+use Rattle.std.proofs.Common.{◌≡◌, max, drop, map}
+use Rattle.journal_defs.specs.Instance.{greatest_cycle}
+use Rattle.instance_file.specs.Values.{record_value}
+use Rattle.instance_file.proofs.instance.greatest_cycle.Given as goal
+
+-- the greatest so far and that of the records that are left
+abbrev pub invariant-loop-record : goal.invariant-loop-record
+invariant-loop-record l = greatest_cycle (map record_value l.records) ≡ max l.greatest (greatest_cycle (map record_value (drop l.record-index l.records)))

@@ -1,0 +1,20 @@
+use Rattle.std.proofs.Common.{◌≡◌, ◌≤◌, ◌-◌, ◌^◌, length, IfSome}
+use Rattle.disk_defs.specs.Disk.{Reads}
+use Rattle.journal_defs.specs.Surviving.{reigns}
+use Rattle.instance_file.proofs.Passing.{Passed}
+use Rattle.instance_file.proofs.walking.read_log.Given as goal
+
+abbrev pub invariant-loop-history : goal.invariant-loop-history
+invariant-loop-history g l =
+    let view = g.D.Disk.disk in
+    record {
+      passed : IfSome (view l.fn.disk).content (λ files. Passed (files l.fn.gated.file) l.at l.records l.places.items l.generation);
+      history : l.history ≡ reigns l.records;
+      many : length l.places.items ≡ length l.records;
+      same : l.gated ≡ l.fn.gated;
+      reads : Reads (view l.fn.disk) (view l.disk);
+      faults : (view l.fn.disk).faults ≤ (view l.disk).faults;
+    }
+
+abbrev pub decreases-loop-history : goal.decreases-loop-history
+decreases-loop-history g l = 2 ^ 64 - l.at

@@ -1,0 +1,14 @@
+use Rattle.std.proofs.Common.{◌≡◌, take, drop, map}
+use Rattle.journal_defs.specs.Surviving.{reigns}
+use Rattle.journal_defs.specs.Stands.{StartsRise}
+use Rattle.instance_file.specs.Values.{record_value}
+use Rattle.instance_file.specs.Reading.{left_by}
+use Rattle.instance_file.proofs.Histories.{last_start}
+use Rattle.instance_file.proofs.walking.wrong_reign.Given as goal
+
+-- the starts of those of the first records that survive the others rise up to this one
+abbrev pub invariant-loop-i : goal.invariant-loop-i
+invariant-loop-i l = record {
+  rising : StartsRise 0 (left_by (map record_value (drop l.i l.records)) (reigns (map record_value (take l.i l.records))));
+  last : last_start 0 (left_by (map record_value (drop l.i l.records)) (reigns (map record_value (take l.i l.records)))) ≡ l.low;
+}
