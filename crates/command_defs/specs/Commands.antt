@@ -14,6 +14,8 @@ pub record Region : Type 0 where
 
 pub data Command : Type 0 where
   Create : Name → List Region → Command
+  -- takes the site that stands on the next disk
+  Attach : Command
   StartPrimary : Name → Command
   -- the jobs of each updater, updater u at place u - 1, and the updaters in the order of their jobs' first lines
   Run : Name → List (List Job) → (order : List ℕ) → Command
@@ -26,6 +28,8 @@ pub data Command : Type 0 where
   Extract : Name → (from : Option ℕ) → Command
   -- that node and its descendants, or all nodes (GT.M: ZWRITE)
   Zwrite : Name → (top : Option Key) → Command
+  -- the site's state, and its reigns where it is open
+  Show : Name → Command
 
 abbrev pub with_images : Name → Region
 with_images name = record { name = name; before = true }
