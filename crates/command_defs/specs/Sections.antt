@@ -4,7 +4,7 @@ use Rattle.std.specs.List.{list_all, AllByRecursion}
 use Rattle.std.specs.Str.{bytes_eq}
 use Rattle.global_defs.specs.Jobs.{Statement, Set, Kill, ZKill, Incr, Job}
 use Rattle.global_defs.specs.Serial.{without_next}
-use Rattle.command_defs.specs.Commands.{Name, Command, Create, StartPrimary, Run, Stop, Fuse, Crash, Extract, Zwrite}
+use Rattle.command_defs.specs.Commands.{Name, Command, Create, StartPrimary, Run, Stop, Fuse, Crash, Extract, Zwrite, Attach, Show}
 use Rattle.command_defs.specs.Parts.{is_name}
 use Rattle.command_defs.specs.Forms.{MOST_CALLS, MOST_PICK, MOST_NUMBER}
 
@@ -115,6 +115,8 @@ IsFormed (Crash name pick) = (is_name name ≡ true) × (pick ≤ MOST_PICK)
 IsFormed (Extract name None) = is_name name ≡ true
 IsFormed (Extract name (Some n)) = (is_name name ≡ true) × (1 ≤ n) × (n ≤ MOST_NUMBER)
 IsFormed (Zwrite name top) = is_name name ≡ true
+IsFormed Attach = Unit {0}
+IsFormed (Show name) = is_name name ≡ true
 
 -- taking each updater's next job in this order leaves no updater a job
 abbrev pub UsesUp : List (List Job) → List ℕ → Type 0
@@ -129,3 +131,5 @@ IsWhole (Fuse name calls) = Unit {0}
 IsWhole (Crash name pick) = Unit {0}
 IsWhole (Extract name from) = Unit {0}
 IsWhole (Zwrite name top) = Unit {0}
+IsWhole Attach = Unit {0}
+IsWhole (Show name) = Unit {0}

@@ -10,10 +10,16 @@ pub data Cause : Type 0 where
   Exists : Cause
   NoDisk : Cause
   NotEmpty : Cause
+  -- no site stands on the disk
+  Empty : Cause
   Running : Cause
   NotRunning : Cause
   NotPrimary : Cause
   NotSimulated : Cause
+  -- there is no generation left for the site's journals
+  GenLimit : Cause
+  -- there is no reign left, or no cycle
+  ReignLimit : Cause
 
 -- the line begins with this name
 pub record Refusal : Type 0 where

@@ -7,3 +7,5 @@ pub mod Step
 pub mod Output
 pub mod Runs
 pub mod Ties
+pub mod Fit
+pub mod Samples

@@ -4,16 +4,18 @@ use Rattle.std.specs.Fmt.{decimal}
 use Rattle.std.specs.List.{flat_map}
 use Rattle.std.specs.FinMap as globals
 use Rattle.global_defs.specs.Key.{Key}
-use Rattle.global_defs.specs.Entry.{Globals, Sequence, is_under, state}
+use Rattle.global_defs.specs.Entry.{Globals, Sequence, Reign, is_under, state}
 use Rattle.global_defs.specs.NodeText.{node_text}
 use Rattle.global_defs.specs.Zwr.{zwr}
 use Rattle.global_defs.specs.Extract.{extract}
 use Rattle.global_defs.specs.Jobs.{Job, Answers, Check, NotNum, Full, SeqLimit}
 use Rattle.global_defs.specs.Jobs as jobs
 use Rattle.global_defs.specs.Serial.{Reply, Seq, Read, RolledBack, Replied, Turn, begun}
-use Rattle.command_defs.specs.Commands.{Name, Command, Create, StartPrimary, Run, Stop, Fuse, Crash, Extract, Zwrite}
-use Rattle.world_defs.specs.World.{State, Down, Primary, Failed, Site, Place, World, site_of}
-use Rattle.world_defs.specs.Answers.{Cause, NoSite, Stopped, Exists, NoDisk, NotEmpty, Running, NotRunning, NotPrimary, NotSimulated, Section, Answer, Done, Refused, DiskFault, NotAFile, Ran}
+use Rattle.command_defs.specs.Commands.{Name, Command, Create, Attach, StartPrimary, Run, Stop, Fuse, Crash, Extract, Zwrite, Show}
+use Rattle.world_defs.specs.World.{State, Down, Primary, Failed, Site, Contents, Place, World, next_of, at_place, site_of}
+use Rattle.journal_defs.specs.Surviving.{reigns}
+use Rattle.world_defs.specs.Answers.{Cause, NoSite, Stopped, Exists, NoDisk, NotEmpty, Empty, Running, NotRunning, NotPrimary, NotSimulated, GenLimit, ReignLimit, Section, Answer, Done, Refused, DiskFault, NotAFile, Ran}
+use Rattle.world_defs.specs.Refusals.{ATTACHING}
 use Rattle.world_defs.specs.Rows.{turn_of}
 
 -- a line that begins with a site's name
@@ -26,10 +28,13 @@ cause_text (Stopped k) = codes "STOPPED " ++ decimal k
 cause_text Exists = codes "EXISTS"
 cause_text NoDisk = codes "NODISK"
 cause_text NotEmpty = codes "NOTEMPTY"
+cause_text Empty = codes "EMPTY"
 cause_text Running = codes "RUNNING"
 cause_text NotRunning = codes "NOTRUNNING"
 cause_text NotPrimary = codes "NOTPRIMARY"
 cause_text NotSimulated = codes "NOTSIMULATED"
+cause_text GenLimit = codes "GENLIMIT"
+cause_text ReignLimit = codes "REIGNLIMIT"
 
 -- why a job was rolled back
 abbrev pub rollback_text : jobs.Cause → List ℕ
@@ -128,9 +133,38 @@ abbrev pub section_text : Name → ℕ → Turn → ℕ → Option ℕ → List 
 section_text name jobs t hardened None = flat_map reply_line t.replies ++ line name (codes "AT " ++ decimal (length t.sequence))
 section_text name jobs t hardened (Some k) = flat_map reply_line (printed hardened t.replies) ++ fault_line name k (jobs - length (printed hardened t.replies))
 
+abbrev pub name_on : Option Site → Name
+name_on None = []
+name_on (Some site) = site.name
+
+-- the name of the site that stands there
+abbrev pub name_at : Option Place → Name
+name_at None = []
+name_at (Some p) = name_on p.site
+
+-- a reign, as it's shown
+abbrev pub reign_text : Reign → List ℕ
+reign_text r = codes "REIGN " ++ r.stamp.root ++ 32 ∷ decimal r.stamp.cycle ++ codes " FROM " ++ decimal r.start
+
+-- a site's state, and where it's open its length and a line for each reign that survives
+abbrev pub show_state : Name → State → Contents → List ℕ
+show_state name Down c = line name (codes "STATE DOWN")
+show_state name (Failed k) c = line name (codes "STATE FAILED " ++ decimal k)
+show_state name (Primary stamp serials) c = line name (codes "STATE PRIMARY " ++ decimal stamp.cycle ++ codes " LENGTH " ++ decimal (length c.sequence))
+    ++ flat_map (λ r. line name (reign_text r)) (reigns c.instance)
+
+abbrev pub show_on : Option Site → Contents → List ℕ
+show_on None c = []
+show_on (Some site) c = show_state site.name site.state c
+
+abbrev pub show_at : Option Place → List ℕ
+show_at None = []
+show_at (Some p) = show_on p.site p.now
+
 -- what the answer that it was done writes
 abbrev pub done_text : World → Command → World → List ℕ
 done_text w (Create name regions) m = line name (codes "CREATED")
+done_text w Attach m = line (name_at (at_place m (next_of w))) (codes "ATTACHED")
 done_text w (StartPrimary name) m = line name (codes "PRIMARY " ++ decimal (cycle_at (site_of m name)) ++ codes " FROM " ++ decimal (length_at (site_of m name) + 1))
 done_text w (Run name jobs order) m = []
 done_text w (Stop name) m = line name (codes "DOWN " ++ decimal (length_at (site_of w name)))
@@ -138,10 +172,12 @@ done_text w (Fuse name calls) m = line name (codes "FUSED " ++ decimal calls)
 done_text w (Crash name pick) m = line name (codes "CRASHED")
 done_text w (Extract name from) m = extract_at name from (site_of w name)
 done_text w (Zwrite name top) m = zwrite_at top (site_of w name)
+done_text w (Show name) m = show_at (site_of w name)
 
 -- a section with its jobs
 abbrev pub ran_text : World → Command → Section → List ℕ
 ran_text w (Create name regions) s = []
+ran_text w Attach s = []
 ran_text w (StartPrimary name) s = []
 ran_text w (Run name jobs order) s = section_text name (length order) (turn_at (site_of w name) jobs s) s.hardened s.fault
 ran_text w (Stop name) s = []
@@ -149,10 +185,12 @@ ran_text w (Fuse name calls) s = []
 ran_text w (Crash name pick) s = []
 ran_text w (Extract name from) s = []
 ran_text w (Zwrite name top) s = []
+ran_text w (Show name) s = []
 
--- the site that a command names
+-- the site that a command names, or the word with which the line of an attaching begins
 abbrev pub name_in : Command → Name
 name_in (Create name regions) = name
+name_in Attach = ATTACHING
 name_in (StartPrimary name) = name
 name_in (Run name jobs order) = name
 name_in (Stop name) = name
@@ -160,6 +198,7 @@ name_in (Fuse name calls) = name
 name_in (Crash name pick) = name
 name_in (Extract name from) = name
 name_in (Zwrite name top) = name
+name_in (Show name) = name
 
 abbrev pub text_of : World → Command → Answer → World → List ℕ
 text_of w c Done m = done_text w c m

@@ -1,8 +1,11 @@
 -- Which commands a world refuses, and with which cause: the first one of a list of tests.
-use Rattle.std.specs.Prelude.{Bool, List, [], ◌∷◌, Option, Some, None, ◌&&◌, if◌then◌else◌}
-use Rattle.command_defs.specs.Commands.{Name, Command, Create, StartPrimary, Run, Stop, Fuse, Crash, Extract, Zwrite}
-use Rattle.world_defs.specs.World.{State, Down, Primary, Failed, Site, Place, World, next_of, at_place, site_of}
-use Rattle.world_defs.specs.Answers.{Cause, NoSite, Stopped, Exists, NoDisk, NotEmpty, Running, NotRunning, NotPrimary, NotSimulated, Refusal}
+use Rattle.std.specs.Prelude.{ℕ, ◌-◌, ◌^◌, ◌==◌, nat_le, Bool, List, [], ◌∷◌, length, filter, codes, Option, Some, None, ◌&&◌, ◌||◌, if◌then◌else◌}
+use Rattle.journal_defs.specs.Instance.{InstanceRecord, generation, greatest_cycle, site_name}
+use Rattle.journal_defs.specs.Surviving.{reigns}
+use Rattle.journal_defs.specs.Fit.{MOST_REIGNS}
+use Rattle.command_defs.specs.Commands.{Name, Command, Create, Attach, StartPrimary, Run, Stop, Fuse, Crash, Extract, Zwrite, Show}
+use Rattle.world_defs.specs.World.{State, Down, Primary, Failed, Site, Contents, Place, World, is_made, next_of, at_place, site_of}
+use Rattle.world_defs.specs.Answers.{Cause, NoSite, Stopped, Exists, NoDisk, NotEmpty, Empty, Running, NotRunning, NotPrimary, NotSimulated, GenLimit, ReignLimit, Refusal}
 
 -- the first cause of these
 abbrev pub first : List (Option Cause) → Option Cause
@@ -62,11 +65,47 @@ no_disk (Some p) = None
 -- where a disk's files are known
 abbrev pub not_empty : Option Place → Option Cause
 not_empty None = None
-not_empty (Some p) = if p.told && p.now.begun then Some NotEmpty else None
+not_empty (Some p) = if p.told && is_made p.now then Some NotEmpty else None
+
+-- the name that the line of an attaching begins with, where it names no site
+abbrev pub ATTACHING : Name
+ATTACHING = codes "ATTACH"
+
+-- the site with these records can't be attached: there is none, or there is another one with its name
+abbrev pub not_attached : World → List InstanceRecord → Option Refusal
+not_attached w [] = refused_with ATTACHING (Some Empty)
+not_attached w (r ∷ rs) = refused_with (site_name (r ∷ rs)) (there (site_of w (site_name (r ∷ rs))))
+
+-- where a disk's files are known
+abbrev pub not_attached_at : World → Option Place → Option Refusal
+not_attached_at w None = None
+not_attached_at w (Some p) = if p.told then not_attached w p.now.instance else None
+
+-- the last generation that an opening may draw is one below the greatest that there is
+abbrev pub LAST_GENERATION : ℕ
+LAST_GENERATION = 65534
+
+abbrev pub generation_limit : Contents → Option Cause
+generation_limit c = if nat_le LAST_GENERATION (generation c.instance) then Some GenLimit else None
+
+-- the greatest cycle that there is
+abbrev pub LAST_CYCLE : ℕ
+LAST_CYCLE = 2 ^ 32 - 1
+
+-- as many reigns as there may be have begun by the length, or a reign has the last cycle, also one that was dropped
+abbrev pub reign_limit : Contents → Option Cause
+reign_limit c = if nat_le MOST_REIGNS (length (filter (λ r. nat_le r.start (length c.sequence)) (reigns c.instance))) || greatest_cycle c.instance == LAST_CYCLE
+    then Some ReignLimit else None
+
+-- the limits of an opening and a reign, where a site's files are known
+abbrev pub limited : Option Place → Option Cause
+limited None = None
+limited (Some p) = if p.told then first (generation_limit p.now ∷ reign_limit p.now ∷ []) else None
 
 -- The refusals that the list of sites and their states decide. No call of a disk comes before them.
 abbrev pub early : World → Command → Option Refusal
 early w (Create name regions) = refused_with name (first (there (site_of w name) ∷ no_disk (at_place w (next_of w)) ∷ []))
+early w Attach = refused_with ATTACHING (no_disk (at_place w (next_of w)))
 early w (StartPrimary name) = one w name (λ p. in_state stopped p.site ∷ in_state running p.site ∷ [])
 early w (Run name jobs order) = one w name (λ p. in_state stopped p.site ∷ in_state not_primary p.site ∷ [])
 early w (Stop name) = one w name (λ p. in_state stopped p.site ∷ in_state not_running p.site ∷ [])
@@ -74,17 +113,20 @@ early w (Fuse name calls) = one w name (λ p. in_state stopped p.site ∷ not_si
 early w (Crash name pick) = one w name (λ p. in_state not_running p.site ∷ not_simulated p.simulated ∷ [])
 early w (Extract name from) = one w name (λ p. in_state stopped p.site ∷ in_state not_running p.site ∷ [])
 early w (Zwrite name top) = one w name (λ p. in_state stopped p.site ∷ in_state not_running p.site ∷ [])
+early w (Show name) = one w name (λ p. [])
 
 -- The refusals that files decide. A read comes before them, and may fail.
 abbrev pub late : World → Command → Option Refusal
 late w (Create name regions) = refused_with name (not_empty (at_place w (next_of w)))
-late w (StartPrimary name) = None
+late w Attach = not_attached_at w (at_place w (next_of w))
+late w (StartPrimary name) = refused_with name (limited (site_of w name))
 late w (Run name jobs order) = None
 late w (Stop name) = None
 late w (Fuse name calls) = None
 late w (Crash name pick) = None
 late w (Extract name from) = None
 late w (Zwrite name top) = None
+late w (Show name) = None
 
 abbrev pub or_else : Option Refusal → Option Refusal → Option Refusal
 or_else None r = r

@@ -1,13 +1,17 @@
 -- What commands change at the places that they name.
-use Rattle.std.specs.Prelude.{◌≡◌, ◌⊎◌, ℕ, ◌+◌, ◌-◌, ◌≤◌, max, true, List, [], ◌∷◌, length, take, fold, set, get_or, replicate, Option, Some, None, IsTrue}
+use Rattle.std.specs.Prelude.{◌≡◌, ◌⊎◌, ℕ, ◌+◌, ◌≤◌, true, List, [], ◌∷◌, ◌++◌, length, take, map, replicate, Option, Some, None, IsTrue}
 use Rattle.std.specs.List.{AllByRecursion}
+use Rattle.std.specs.Option.{unwrap_or}
 use Rattle.disk_defs.specs.Disk.{Rose}
-use Rattle.global_defs.specs.Entry.{Stamp, Entry, Sequence}
+use Rattle.global_defs.specs.Entry.{Stamp, Reign, Sequence}
 use Rattle.global_defs.specs.Jobs.{Job}
 use Rattle.global_defs.specs.Serial.{Turn, serial, begun}
+use Rattle.journal_defs.specs.Journal.{Start}
+use Rattle.journal_defs.specs.Instance as records
+use Rattle.journal_defs.specs.Instance.{NamedMode, generation, greatest_cycle, mode_of, site_name}
 use Rattle.world_defs.specs.Lists.{Among}
-use Rattle.command_defs.specs.Commands.{Name}
-use Rattle.world_defs.specs.World.{State, Down, Primary, Failed, Site, Contents, Place, Same}
+use Rattle.command_defs.specs.Commands.{Name, Region}
+use Rattle.world_defs.specs.World.{State, Down, Primary, Failed, Site, Contents, Place, World, NoNew, Same, site_of}
 
 abbrev pub in_new_state : State → Option Site → Option Site
 in_new_state state None = None
@@ -33,49 +37,104 @@ pub record Fails (k : ℕ) (P : Contents → Type 0) (old new : Place) : Type 0 
   pub outcomes : IsTrue old.told → (o : Contents) → Among new.outcomes o → P o
   pub faults : Faults k old new
 
--- a site without entries
-abbrev pub empty_site : Contents
-empty_site = record { begun = true; sequence = [] }
+-- A fault before there was a site: there is none, and each outcome has P.
+pub record FailsBefore (k : ℕ) (P : Contents → Type 0) (old new : Place) : Type 0 where
+  pub free : old.site ≡ None
+  pub site : new.site ≡ None
+  pub outcomes : IsTrue old.told → (o : Contents) → Among new.outcomes o → P o
+  pub faults : Faults k old new
+
+-- each outcome is an old one
+abbrev pub OldOnes : Place → Contents → Type 0
+OldOnes old o = Among old.outcomes o
+
+abbrev pub named_mode : Region → NamedMode
+named_mode r = record { name = r.name; before = r.before }
+
+-- a site that was made, without entries
+abbrev pub created : Name → List Region → Contents
+created name regions = record { instance = records.Create name (map named_mode regions) ∷ []; starts = []; sequence = [] }
 
 -- CREATE: an empty site that is down
-pub record Creates (name : Name) (old new : Place) : Type 0 where
+pub record Creates (name : Name) (regions : List Region) (old new : Place) : Type 0 where
   pub free : old.site ≡ None
   pub site : new.site ≡ Some (record { name = name; state = Down })
-  pub now : new.now ≡ empty_site
-  pub outcomes : new.outcomes ≡ empty_site ∷ []
+  pub now : new.now ≡ created name regions
+  pub outcomes : new.outcomes ≡ created name regions ∷ []
   pub faults : old.faults ≤ new.faults
   pub same : Same old new
 
--- CREATE with a fault: no site, and each outcome is an old one or the empty site
-pub record CreateFails (k : ℕ) (old new : Place) : Type 0 where
+-- what a fault in CREATE may leave: what was there, or the empty site
+abbrev pub MayCreate : Name → List Region → Place → Contents → Type 0
+MayCreate name regions old o = Among old.outcomes o ⊎ (o ≡ created name regions)
+
+-- ATTACH: the site that was found there, of a name that no other one has, is down
+pub record Attaches (w : World) (old new : Place) : Type 0 where
+  pub name : Name
+  pub found : IsTrue old.told → name ≡ site_name old.now.instance
+  pub unused : site_of w name ≡ None
   pub free : old.site ≡ None
-  pub site : new.site ≡ None
-  pub outcomes : IsTrue old.told → (o : Contents) → Among new.outcomes o → Among old.outcomes o ⊎ (o ≡ empty_site)
-  pub faults : Faults k old new
+  pub site : new.site ≡ Some (record { name = name; state = Down })
+  pub now : new.now ≡ old.now
+  pub outcomes : NoNew old.outcomes new.outcomes
+  pub faults : old.faults ≤ new.faults
+  pub same : Same old new
 
--- a site's reign: its own name, and cycle 1
-abbrev pub reign_of : Name → Stamp
-reign_of name = record { root = name; cycle = 1 }
+-- Opening a site draws the next generation: it cuts there, so that nothing past the sequence counts any more, and begins the generation.
 
--- the next serials once this entry is there
-abbrev pub serials_past : List ℕ → Entry → List ℕ
-serials_past serials e = set serials (e.transaction.origin.updater - 1) (max (get_or serials (e.transaction.origin.updater - 1) 1) (e.transaction.origin.serial + 1))
+-- with a CUT of its length
+abbrev pub cut_there : Contents → Contents
+cut_there c = record { instance = c.instance ++ records.Cut (length c.sequence) (generation c.instance + 1) ∷ []; starts = c.starts; sequence = c.sequence }
 
--- Each updater goes on after its greatest serial, or begins at 1.
-abbrev pub serials_after : Sequence → List ℕ
-serials_after seq = fold serials_past (replicate 64 1) seq
+-- the generation of the last of these, or the one before them
+abbrev pub last_generation : ℕ → List Start → ℕ
+last_generation g [] = g
+last_generation g (s ∷ ss) = last_generation s.generation ss
 
--- START PRIMARY: its sequence is as before, where its files are known; else it's what was read
+-- how the newest generation begins: in the mode that its region has, behind the last one that began
+abbrev pub start_of : Contents → Start
+start_of c = record { region = 0; before = unwrap_or (mode_of c.instance 0) true; generation = generation c.instance; previous = last_generation 0 c.starts }
+
+-- and its newest generation has begun
+abbrev pub with_start : Contents → Contents
+with_start c = record { instance = c.instance; starts = c.starts ++ start_of c ∷ []; sequence = c.sequence }
+
+abbrev pub opened : Contents → Contents
+opened c = with_start (cut_there c)
+
+-- A reign begins behind the last entry, under the site's name and a cycle past that of every reign that there was.
+abbrev pub next_stamp : Name → Contents → Stamp
+next_stamp name c = record { root = name; cycle = greatest_cycle c.instance + 1 }
+
+abbrev pub next_reign : Name → Contents → Reign
+next_reign name c = record { stamp = next_stamp name c; start = length c.sequence + 1 }
+
+abbrev pub with_reign : Name → Contents → Contents
+with_reign name c = record { instance = c.instance ++ records.Reigned (next_reign name c) ∷ []; starts = c.starts; sequence = c.sequence }
+
+-- what beginning a reign may leave of these contents: the same, with a CUT, opened, or with the reign
+abbrev pub MayBegin : Name → Contents → Contents → Type 0
+MayBegin name c o = (o ≡ c) ⊎ (o ≡ cut_there c) ⊎ (o ≡ opened c) ⊎ (o ≡ with_reign name (opened c))
+
+abbrev pub MayBeginAny : Name → Place → Contents → Type 0
+MayBeginAny name old o = (c : Contents) × Among old.outcomes c × MayBegin name c o
+
+-- each updater's serial begins at 1
+abbrev pub FIRST_SERIALS : List ℕ
+FIRST_SERIALS = replicate 64 1
+
+-- START PRIMARY: what was read, which is what the files stand for where they are known, is opened, and the reign begins
 pub record StartsPrimary (name : Name) (old new : Place) : Type 0 where
-  pub as_before : IsTrue old.told → new.now ≡ old.now
-  pub becomes : Becomes (Primary (reign_of name) (serials_after new.now.sequence)) new.now old new
+  pub read : Contents
+  pub as_before : IsTrue old.told → read ≡ old.now
+  pub becomes : Becomes (Primary (next_stamp name read) FIRST_SERIALS) (with_reign name (opened read)) old new
 
 -- how far the jobs of a section have come at a primary, once these picks are decided
 abbrev pub turn_of : Stamp → List ℕ → List (List Job) → List ℕ → Sequence → Turn
 turn_of stamp serials jobs picks seq = serial stamp picks (begun serials jobs seq)
 
 abbrev pub with_sequence : Contents → Sequence → Contents
-with_sequence c seq = record { begun = c.begun; sequence = seq }
+with_sequence c seq = record { instance = c.instance; starts = c.starts; sequence = seq }
 
 -- RUN without a fault: the jobs are decided one after another, all of them
 pub record RunsWhole (stamp : Stamp) (t : Turn) (old new : Place) : Type 0 where

@@ -1,14 +1,14 @@
 -- The meaning of a command: a row a command.
-use Rattle.std.specs.Prelude.{◌≡◌, ◌⊎◌, ℕ, ◌==◌, Bool, true, false, List, [], ◌∷◌, length, take, Option, Some, None}
+use Rattle.std.specs.Prelude.{◌≡◌, ◌≢◌, ◌⊎◌, ℕ, ◌==◌, Bool, true, false, List, [], ◌∷◌, length, take, Option, Some, None}
 use Rattle.global_defs.specs.Entry.{Stamp}
 use Rattle.global_defs.specs.Jobs.{Job}
 use Rattle.global_defs.specs.Serial.{Turn}
 use Rattle.world_defs.specs.Lists.{Among, Along, At}
-use Rattle.command_defs.specs.Commands.{Name, Command, Create, StartPrimary, Run, Stop, Fuse, Crash, Extract, Zwrite}
-use Rattle.world_defs.specs.World.{State, Down, Primary, Failed, Site, Contents, Place, World, Kept, place_of, next_of}
-use Rattle.world_defs.specs.Answers.{NotEmpty, Refusal, Answer, Done, Refused, DiskFault, NotAFile, Section, Ran}
-use Rattle.world_defs.specs.Refusals.{early, refusal}
-use Rattle.world_defs.specs.Rows.{Becomes, Fails, Creates, CreateFails, StartsPrimary, RunsWhole, RunFails, IsFrontOf, Crashes, turn_of, empty_site}
+use Rattle.command_defs.specs.Commands.{Name, Command, Create, Attach, StartPrimary, Run, Stop, Fuse, Crash, Extract, Zwrite, Show}
+use Rattle.world_defs.specs.World.{State, Down, Primary, Failed, Site, Contents, Place, World, Kept, place_of, next_of, site_of}
+use Rattle.world_defs.specs.Answers.{Cause, NoSite, Stopped, Exists, NoDisk, NotEmpty, Empty, Running, NotRunning, NotPrimary, NotSimulated, GenLimit, ReignLimit, Refusal, Answer, Done, Refused, DiskFault, NotAFile, Section, Ran}
+use Rattle.world_defs.specs.Refusals.{ATTACHING, early, refusal}
+use Rattle.world_defs.specs.Rows.{Becomes, Fails, FailsBefore, OldOnes, Creates, MayCreate, Attaches, StartsPrimary, MayBeginAny, opened, RunsWhole, RunFails, IsFrontOf, Crashes, turn_of, created}
 
 -- all places are as before
 abbrev pub Unchanged : World → World → Type 0
@@ -43,7 +43,8 @@ pub record Runs (name : Name) (jobs : List (List Job)) (order : List ℕ) (s : S
 
 -- what the answer that it was done means
 abbrev pub Row : World → Command → World → Type 0
-Row w (Create name regions) m = AtPlace (next_of w) (Creates name) w m
+Row w (Create name regions) m = AtPlace (next_of w) (Creates name regions) w m
+Row w Attach m = AtPlace (next_of w) (Attaches w) w m
 Row w (StartPrimary name) m = OnSite w name (StartsPrimary name) m
 -- a section answers how it ran
 Row w (Run name jobs order) m = ⊥
@@ -52,10 +53,12 @@ Row w (Fuse name calls) m = Unchanged w m
 Row w (Crash name pick) m = OnSite w name Crashes m
 Row w (Extract name from) m = Unchanged w m
 Row w (Zwrite name top) m = Unchanged w m
+Row w (Show name) m = Unchanged w m
 
 -- what the answer that a section ran means
 abbrev pub SectionRow : World → Command → Section → World → Type 0
 SectionRow w (Create name regions) s m = ⊥
+SectionRow w Attach s m = ⊥
 SectionRow w (StartPrimary name) s m = ⊥
 SectionRow w (Run name jobs order) s m = OnSite w name (Runs name jobs order s) m
 SectionRow w (Stop name) s m = ⊥
@@ -63,15 +66,13 @@ SectionRow w (Fuse name calls) s m = ⊥
 SectionRow w (Crash name pick) s m = ⊥
 SectionRow w (Extract name from) s m = ⊥
 SectionRow w (Zwrite name top) s m = ⊥
-
--- each outcome is an old one
-abbrev pub OldOnes : Place → Contents → Type 0
-OldOnes old o = Among old.outcomes o
+SectionRow w (Show name) s m = ⊥
 
 -- what the answer of a disk fault means
 abbrev pub Faulted : World → Command → ℕ → World → Type 0
-Faulted w (Create name regions) k m = AtPlace (next_of w) (CreateFails k) w m
-Faulted w (StartPrimary name) k m = OnSite w name (λ old new. Fails k (OldOnes old) old new) m
+Faulted w (Create name regions) k m = AtPlace (next_of w) (λ old new. FailsBefore k (MayCreate name regions old) old new) w m
+Faulted w Attach k m = AtPlace (next_of w) (λ old new. FailsBefore k (OldOnes old) old new) w m
+Faulted w (StartPrimary name) k m = OnSite w name (λ old new. Fails k (MayBeginAny name old) old new) m
 -- a section answers how it ran
 Faulted w (Run name jobs order) k m = ⊥
 Faulted w (Stop name) k m = ⊥
@@ -79,6 +80,7 @@ Faulted w (Fuse name calls) k m = ⊥
 Faulted w (Crash name pick) k m = ⊥
 Faulted w (Extract name from) k m = ⊥
 Faulted w (Zwrite name top) k m = ⊥
+Faulted w (Show name) k m = ⊥
 
 -- a place whose files aren't known, which stays as it is
 pub record KeptUnknown (old new : Place) : Type 0 where
@@ -88,6 +90,7 @@ pub record KeptUnknown (old new : Place) : Type 0 where
 -- Bytes outside the formats are found on no disk whose files are known: they stand for something.
 abbrev pub Damaged : World → Command → World → Type 0
 Damaged w (Create name regions) m = AtPlace (next_of w) KeptUnknown w m
+Damaged w Attach m = AtPlace (next_of w) KeptUnknown w m
 Damaged w (StartPrimary name) m = OnSite w name KeptUnknown m
 Damaged w (Run name jobs order) m = ⊥
 Damaged w (Stop name) m = ⊥
@@ -95,22 +98,61 @@ Damaged w (Fuse name calls) m = ⊥
 Damaged w (Crash name pick) m = ⊥
 Damaged w (Extract name from) m = ⊥
 Damaged w (Zwrite name top) m = ⊥
+Damaged w (Show name) m = ⊥
+
+-- an opening or a reign is past a limit
+abbrev pub IsLimit : Cause → Type 0
+IsLimit cause = (cause ≡ GenLimit) ⊎ (cause ≡ ReignLimit)
+
+-- what keeps a disk's site from being attached: there is none, or there is another one with its name
+abbrev pub IsNotAttached : World → Refusal → Type 0
+IsNotAttached w r = (r ≡ record { site = ATTACHING; cause = Empty }) ⊎ ((r.cause ≡ Exists) × (site_of w r.site ≢ None))
 
 -- Where files aren't known they may refuse a command too.
 abbrev pub MayRefuse : World → Command → Refusal → World → Type 0
 MayRefuse w (Create name regions) r m = (r ≡ record { site = name; cause = NotEmpty }) × AtPlace (next_of w) KeptUnknown w m
-MayRefuse w (StartPrimary name) r m = ⊥
+MayRefuse w Attach r m = IsNotAttached w r × AtPlace (next_of w) KeptUnknown w m
+MayRefuse w (StartPrimary name) r m = (r.site ≡ name) × IsLimit r.cause × OnSite w name KeptUnknown m
 MayRefuse w (Run name jobs order) r m = ⊥
 MayRefuse w (Stop name) r m = ⊥
 MayRefuse w (Fuse name calls) r m = ⊥
 MayRefuse w (Crash name pick) r m = ⊥
 MayRefuse w (Extract name from) r m = ⊥
 MayRefuse w (Zwrite name top) r m = ⊥
+MayRefuse w (Show name) r m = ⊥
 
--- The meaning of a command, its answer, and the worlds before and after. A refusal changes nothing.
+-- START that is refused: past the limit of reigns the site was opened, which used a generation, and is down again
+abbrev pub StartRefused : Name → Cause → World → World → Type 0
+StartRefused name ReignLimit w m = OnSite w name (λ old new. Becomes Down (opened old.now) old new) m
+StartRefused name NoSite w m = Unchanged w m
+StartRefused name (Stopped k) w m = Unchanged w m
+StartRefused name Exists w m = Unchanged w m
+StartRefused name NoDisk w m = Unchanged w m
+StartRefused name NotEmpty w m = Unchanged w m
+StartRefused name Empty w m = Unchanged w m
+StartRefused name Running w m = Unchanged w m
+StartRefused name NotRunning w m = Unchanged w m
+StartRefused name NotPrimary w m = Unchanged w m
+StartRefused name NotSimulated w m = Unchanged w m
+StartRefused name GenLimit w m = Unchanged w m
+
+-- what a refusal leaves: all as it was, but for a START
+abbrev pub RefusedLeaves : World → Command → Cause → World → Type 0
+RefusedLeaves w (Create name regions) cause m = Unchanged w m
+RefusedLeaves w Attach cause m = Unchanged w m
+RefusedLeaves w (StartPrimary name) cause m = StartRefused name cause w m
+RefusedLeaves w (Run name jobs order) cause m = Unchanged w m
+RefusedLeaves w (Stop name) cause m = Unchanged w m
+RefusedLeaves w (Fuse name calls) cause m = Unchanged w m
+RefusedLeaves w (Crash name pick) cause m = Unchanged w m
+RefusedLeaves w (Extract name from) cause m = Unchanged w m
+RefusedLeaves w (Zwrite name top) cause m = Unchanged w m
+RefusedLeaves w (Show name) cause m = Unchanged w m
+
+-- The meaning of a command, its answer, and the worlds before and after.
 abbrev pub Means : World → Command → Answer → World → Type 0
 Means w c Done m = (refusal w c ≡ None) × Row w c m
-Means w c (Refused r) m = ((refusal w c ≡ Some r) × Unchanged w m) ⊎ ((early w c ≡ None) × MayRefuse w c r m)
+Means w c (Refused r) m = ((refusal w c ≡ Some r) × RefusedLeaves w c r.cause m) ⊎ ((early w c ≡ None) × MayRefuse w c r m)
 Means w c (DiskFault k) m = (early w c ≡ None) × Faulted w c k m
 Means w c (NotAFile file offset) m = (early w c ≡ None) × Damaged w c m
 Means w c (Ran s) m = (refusal w c ≡ None) × SectionRow w c s m
@@ -133,18 +175,21 @@ RunMayLeaveOn (Some site) jobs order old o = RunMayLeave site.state jobs order o
 
 -- what a fault in a command might have left at its place, beside what was there
 abbrev pub MayLeave : Command → Place → Contents → Type 0
-MayLeave (Create name regions) old o = o ≡ empty_site
-MayLeave (StartPrimary name) old o = ⊥
+MayLeave (Create name regions) old o = o ≡ created name regions
+MayLeave Attach old o = ⊥
+MayLeave (StartPrimary name) old o = MayBeginAny name old o
 MayLeave (Run name jobs order) old o = RunMayLeaveOn old.site jobs order old o
 MayLeave (Stop name) old o = ⊥
 MayLeave (Fuse name calls) old o = ⊥
 MayLeave (Crash name pick) old o = ⊥
 MayLeave (Extract name from) old o = ⊥
 MayLeave (Zwrite name top) old o = ⊥
+MayLeave (Show name) old o = ⊥
 
 -- the place that a command acts on
 abbrev pub subject : World → Command → Option ℕ
 subject w (Create name regions) = next_of w
+subject w Attach = next_of w
 subject w (StartPrimary name) = place_of w name
 subject w (Run name jobs order) = place_of w name
 subject w (Stop name) = place_of w name
@@ -152,6 +197,7 @@ subject w (Fuse name calls) = place_of w name
 subject w (Crash name pick) = place_of w name
 subject w (Extract name from) = place_of w name
 subject w (Zwrite name top) = place_of w name
+subject w (Show name) = place_of w name
 
 abbrev pub is_at : Option ℕ → ℕ → Bool
 is_at None i = false

@@ -1,8 +1,10 @@
 -- The world of a run between two commands: plain data (GT.M: instances, and what the replication of each one does).
-use Rattle.std.specs.Prelude.{◌≡◌, ℕ, ◌≤◌, Bool, true, false, List, Option, Some, None, slice_get, nat_eq, take}
+use Rattle.std.specs.Prelude.{◌≡◌, ℕ, ◌≤◌, Bool, true, false, List, [], Option, Some, None, slice_get, nat_eq, nat_lt, length, take}
 use Rattle.std.specs.Cmp.Lexicographic.{pointwise}
 use Rattle.std.specs.List.{AllByRecursion}
 use Rattle.global_defs.specs.Entry.{Stamp, Sequence}
+use Rattle.journal_defs.specs.Journal.{Start}
+use Rattle.journal_defs.specs.Instance.{InstanceRecord}
 use Rattle.command_defs.specs.Commands.{Name}
 use Rattle.world_defs.specs.Lists.{Among, first_where}
 
@@ -22,9 +24,19 @@ pub record Site : Type 0 where
 
 -- What the files on one disk stand for, in one image.
 pub record Contents : Type 0 where
-  -- whether a journal was begun there
-  pub begun : Bool
+  -- the records of its instance file; none where no site was made there
+  pub instance : List InstanceRecord
+  -- how the generations of its journals began, in their order
+  pub starts : List Start
   pub sequence : Sequence
+
+-- no site was made there
+abbrev pub nothing : Contents
+nothing = record { instance = []; starts = []; sequence = [] }
+
+-- a site was made there
+abbrev pub is_made : Contents → Bool
+is_made c = nat_lt 0 (length c.instance)
 
 -- A disk, and the site on it.
 pub record Place : Type 0 where

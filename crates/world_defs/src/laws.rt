@@ -1,24 +1,57 @@
 // What the definitions come to on small values.
-ghost use Rattle.std.specs.Prelude.{◌≡◌, ◌∷◌, [], codes, Some, None, true, false};
-ghost use Rattle.world_defs.specs.World.{Down, Primary, Failed};
-ghost use Rattle.command_defs.specs.Commands.{Create, StartPrimary, Run, Stop, Crash};
-ghost use Rattle.world_defs.specs.Answers.{NoSite, NoDisk, Stopped, NotSimulated, Refused, DiskFault, Ran};
-ghost use Rattle.world_defs.specs.Refusals.{refusal};
-ghost use Rattle.world_defs.specs.Output.{text_of, section_text};
-ghost use Rattle.world_defs.specs.Rows.{empty_site, turn_of, reign_of, serials_after};
+ghost use Rattle.std.specs.Prelude.{◌≡◌, ◌∷◌, ◌++◌, [], ℕ, List, codes, Some, None, true, false};
+ghost use Rattle.journal_defs.specs.Instance as records;
+ghost use Rattle.journal_defs.specs.Instance.{InstanceRecord};
+ghost use Rattle.global_defs.specs.Entry.{Sequence};
+ghost use Rattle.world_defs.specs.World.{Place, Down, Primary, Failed, nothing};
+ghost use Rattle.command_defs.specs.Commands.{Attach, Create, StartPrimary, Run, Stop, Crash, Show, with_images};
+ghost use Rattle.world_defs.specs.Answers.{NoSite, NoDisk, Empty, Exists, Stopped, NotSimulated, GenLimit, ReignLimit, Refused, DiskFault, Done, Ran};
+ghost use Rattle.world_defs.specs.Refusals.{refusal, generation_limit, reign_limit};
+ghost use Rattle.world_defs.specs.Output.{text_of, section_text, show_state};
+ghost use Rattle.world_defs.specs.Rows.{created, opened, with_reign, next_stamp, turn_of, FIRST_SERIALS};
+ghost use Rattle.world_defs.specs.Samples.{failed_place, blank_place, made_place, reigned_once, dropped_reign};
 
 /// A world without disks refuses what needs one; one whose only disk failed refuses what needs it until a crash.
 pub fn refusals_hold()
     ensures start { refusal (record { places = [] }) (StartPrimary (codes "A")) ≡ Some (record { site = codes "A"; cause = NoSite }) }
     ensures create { refusal (record { places = [] }) (Create (codes "A") []) ≡ Some (record { site = codes "A"; cause = NoDisk }) }
-    ensures failed { refusal (record { places = record { site = Some (record { name = codes "A"; state = Failed 3 }); told = true; now = empty_site; outcomes = empty_site ∷ []; faults = 3; simulated = true } ∷ [] }) (Stop (codes "A")) ≡ Some (record { site = codes "A"; cause = Stopped 3 }) }
-    ensures crashed { refusal (record { places = record { site = Some (record { name = codes "A"; state = Failed 3 }); told = true; now = empty_site; outcomes = empty_site ∷ []; faults = 3; simulated = true } ∷ [] }) (Crash (codes "A") 0) ≡ None }
-    ensures real { refusal (record { places = record { site = Some (record { name = codes "A"; state = Failed 3 }); told = true; now = empty_site; outcomes = empty_site ∷ []; faults = 3; simulated = false } ∷ [] }) (Crash (codes "A") 0) ≡ Some (record { site = codes "A"; cause = NotSimulated }) }
+    ensures attach { refusal (record { places = [] }) Attach ≡ Some (record { site = codes "ATTACH"; cause = NoDisk }) }
+    ensures failed { refusal (record { places = failed_place true ∷ [] }) (Stop (codes "A")) ≡ Some (record { site = codes "A"; cause = Stopped 3 }) }
+    ensures crashed { refusal (record { places = failed_place true ∷ [] }) (Crash (codes "A") 0) ≡ None }
+    ensures real { refusal (record { places = failed_place false ∷ [] }) (Crash (codes "A") 0) ≡ Some (record { site = codes "A"; cause = NotSimulated }) }
+    ensures shown { refusal (record { places = failed_place true ∷ [] }) (Show (codes "A")) ≡ None }
 {}
 
-/// The lines of a refusal, of a fault, and of a section that a fault ended.
+/// A disk without a site isn't attached, nor is a site whose name another one has.
+pub fn attaching_holds()
+    ensures empty { refusal (record { places = blank_place ∷ [] }) Attach ≡ Some (record { site = codes "ATTACH"; cause = Empty }) }
+    ensures named { refusal (record { places = failed_place true ∷ made_place ∷ [] }) Attach ≡ Some (record { site = codes "A"; cause = Exists }) }
+    ensures taken { refusal (record { places = made_place ∷ [] }) Attach ≡ None }
+{}
+
+/// The last generation and the last cycle are limits; a cycle is drawn past that of a reign that was dropped.
+pub fn limits_hold()
+    ensures generations { generation_limit (record { instance = records.Cut 0 65534 ∷ []; starts = []; sequence = [] }) ≡ Some GenLimit }
+    ensures one_less { generation_limit (record { instance = records.Cut 0 65533 ∷ []; starts = []; sequence = [] }) ≡ None }
+    ensures cycles { reign_limit (record { instance = records.Reigned (record { stamp = record { root = codes "Z"; cycle = 4294967295 }; start = 1 }) ∷ []; starts = []; sequence = [] }) ≡ Some ReignLimit }
+    ensures dropped { (next_stamp (codes "A") dropped_reign).cycle ≡ 2 }
+{}
+
+/// What the first START of a site leaves, and the second, without an entry between them.
+pub fn openings_hold()
+    ensures first { with_reign (codes "A") (opened (created (codes "A") (with_images (codes "R") ∷ []))) ≡ reigned_once }
+    ensures cut { (opened reigned_once).instance ≡ reigned_once.instance ++ records.Cut 0 2 ∷ [] }
+    ensures starts { (opened reigned_once).starts ≡ reigned_once.starts ++ record { region = 0; before = true; generation = 2; previous = 1 } ∷ [] }
+    ensures cycle { (next_stamp (codes "A") (opened reigned_once)).cycle ≡ 2 }
+{}
+
+/// The lines of a refusal, of a fault, of a site that is shown, and of a section that a fault ended.
 pub fn output_holds()
     ensures told { text_of (record { places = [] }) (Stop (codes "A")) (Refused (record { site = codes "A"; cause = Stopped 1 })) (record { places = [] }) ≡ codes "A STOPPED 1\n" }
     ensures fault { text_of (record { places = [] }) (StartPrimary (codes "A")) (DiskFault 7) (record { places = [] }) ≡ codes "A DISKFAULT 7\n" }
-    ensures section { section_text (codes "A") 2 (turn_of (reign_of (codes "A")) (serials_after []) [] [] []) 0 (Some 1) ≡ codes "A DISKFAULT 1 UNDECIDED 2\n" }
+    ensures attach { text_of (record { places = [] }) Attach (Refused (record { site = codes "ATTACH"; cause = Empty })) (record { places = [] }) ≡ codes "ATTACH EMPTY\n" }
+    ensures attached { text_of (record { places = blank_place ∷ [] }) Attach Done (record { places = failed_place true ∷ [] }) ≡ codes "A ATTACHED\n" }
+    ensures section { section_text (codes "A") 2 (turn_of (record { root = codes "A"; cycle = 1 }) FIRST_SERIALS [] [] []) 0 (Some 1) ≡ codes "A DISKFAULT 1 UNDECIDED 2\n" }
+    ensures failed { show_state (codes "A") (Failed 3) nothing ≡ codes "A STATE FAILED 3\n" }
+    ensures primary { show_state (codes "A") (Primary (record { root = codes "A"; cycle = 1 }) FIRST_SERIALS) reigned_once ≡ codes "A STATE PRIMARY 1 LENGTH 0\nA REIGN A 1 FROM 1\n" }
 {}

@@ -4,4 +4,4 @@
 
 mod laws;
 
-pub use laws::{output_holds, refusals_hold};
+pub use laws::{attaching_holds, limits_hold, openings_hold, output_holds, refusals_hold};

@@ -13,3 +13,11 @@ returns-clause-fault c = refl
 pub returns-clause-section : goal.returns-clause-section
 unfolding digits
 returns-clause-section c = refl
+
+pub returns-clause-failed : goal.returns-clause-failed
+unfolding digits
+returns-clause-failed c = refl
+
+pub returns-clause-primary : goal.returns-clause-primary
+unfolding digits
+returns-clause-primary c = refl
