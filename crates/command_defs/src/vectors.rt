@@ -3,7 +3,7 @@ ghost use Rattle.std.specs.Prelude.{◌≡◌, ◌∷◌, ◌++◌, [], codes, S
 ghost use Rattle.global_defs.specs.Key.{sub_of};
 ghost use Rattle.global_defs.specs.Jobs as jobs;
 ghost use Rattle.command_defs.specs.Lines.{lines_of};
-ghost use Rattle.command_defs.specs.Commands.{Create, StartPrimary, Run, Stop, Fuse, Crash, Extract, Zwrite, with_images};
+ghost use Rattle.command_defs.specs.Commands.{Create, Attach, StartPrimary, Run, Stop, Fuse, Crash, Extract, Zwrite, Show, with_images};
 ghost use Rattle.command_defs.specs.Parts.{trimmed};
 ghost use Rattle.command_defs.specs.Sections.{begun, with_job, transaction_begun, transaction_ended, is_full_job};
 ghost use Rattle.command_defs.specs.Script.{Outside, Within, Skips, Wrong, Goes, Ends, line_reading, lines_reading};
@@ -27,6 +27,11 @@ pub fn commands_hold()
     ensures create { line_reading Outside (codes "CREATE A R") ≡ Ends (Create (codes "A") (with_images (codes "R") ∷ [])) }
     ensures region { line_reading Outside (codes "CREATE A R Q") ≡ Wrong 12 }
     ensures mode { line_reading Outside (codes "CREATE A R:NOBEFORE") ≡ Wrong 10 }
+    ensures attach { line_reading Outside (codes "ATTACH ") ≡ Ends Attach }
+    ensures attach_more { line_reading Outside (codes "ATTACH  X") ≡ Wrong 9 }
+    ensures show { line_reading Outside (codes "SHOW A") ≡ Ends (Show (codes "A")) }
+    ensures unnamed { line_reading Outside (codes "SHOW") ≡ Wrong 5 }
+    ensures two { line_reading Outside (codes "SHOW A B") ≡ Wrong 8 }
     ensures longest { line_reading Outside (codes "STOP ABCDEFGHIJKLMN9") ≡ Ends (Stop (codes "ABCDEFGHIJKLMN9")) }
     ensures too_long { line_reading Outside (codes "STOP ABCDEFGHIJKLMN90") ≡ Wrong 6 }
     ensures digit { line_reading Outside (codes "STOP 1A") ≡ Wrong 6 }
