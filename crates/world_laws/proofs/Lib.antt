@@ -1,0 +1,5 @@
+pub mod Lists
+pub mod Instances
+pub mod SerialRuns
+pub mod ContentsFit
+pub mod PlacesFit
