@@ -1,14 +1,11 @@
 -- What stays fit of the contents of one image.
-use Rattle.std.proofs.Common.{◌≡◌, inl, inr, ℕ, ◌+◌, ◌≤◌, ◌<◌, max, nat_le, Bool, true, false, List, [], ◌∷◌, ◌++◌, length, map, take, Option, Some, None, refl, sym, ◌∙◌, ap, subst, arith}
-use Rattle.std.specs.List.{AllByRecursion}
-use Rattle.global_defs.specs.Entry.{Entry, Stamp, Sequence, Reign}
+use Rattle.std.proofs.Common.{◌≡◌, inl, inr, ◌+◌, ◌≤◌, List, [], length, Some, None, refl, sym, ◌∙◌, ap, subst, arith}
 use Rattle.journal_defs.specs.Instance as records
 use Rattle.journal_defs.specs.Instance.{InstanceRecord, generation, greatest_cycle, site_name}
-use Rattle.journal_defs.specs.Surviving.{reigns}
-use Rattle.journal_defs.specs.Fit.{SerialsRise, HasFewReigns, MOST_REIGNS}
+use Rattle.journal_defs.specs.Fit.{SerialsRise, HasFewReigns}
 use Rattle.command_defs.specs.Commands.{Name, Region}
 use Rattle.world_defs.specs.World.{Contents, nothing}
-use Rattle.world_defs.specs.Rows.{MayBegin, created, cut_there, opened, with_reign, with_sequence, next_stamp, next_reign}
+use Rattle.world_defs.specs.Rows.{MayBegin, created, cut_there, opened, with_reign, next_reign}
 use Rattle.world_defs.specs.Fit.{IsWithinCycles, IsFitContents}
 use Rattle.world_laws.proofs.Lists.{all-weaker}
 use Rattle.world_laws.proofs.Instances.{name-more, cycle-cut, cycle-reign, room-cut, few_at, few-later}

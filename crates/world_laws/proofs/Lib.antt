@@ -3,3 +3,5 @@ pub mod Instances
 pub mod SerialRuns
 pub mod ContentsFit
 pub mod PlacesFit
+pub mod WorldsFit
+pub mod FreshFit

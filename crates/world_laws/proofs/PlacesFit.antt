@@ -1,27 +1,27 @@
 -- What each row keeps at its place.
-use Rattle.std.proofs.Common.{◌≡◌, inl, inr, ℕ, ◌+◌, ◌≤◌, ◌<◌, ◌==◌, ◌||◌, nat_le, Bool, true, false, cond, List, [], ◌∷◌, ◌++◌, length, take, replicate, Option, Some, None, IsTrue, refl, sym, ◌∙◌, ap, subst, arith, nat_eq, if◌then◌else◌}
+use Rattle.std.proofs.Common.{◌≡◌, inl, inr, ℕ, ◌+◌, ◌≤◌, ◌<◌, ◌==◌, ◌||◌, nat_le, Bool, true, false, List, [], ◌∷◌, length, take, Option, Some, None, IsTrue, refl, sym, ◌∙◌, ap, subst, arith, nat_eq, if◌then◌else◌}
 use Rattle.std.proofs.lemmas.Bool.{and_parts, or_parts, eqb-true, leb-false, false≢true}
 use Rattle.std.specs.List.{AllByRecursion, list_all}
 use Rattle.std.specs.Prelude.{filter}
-use Rattle.global_defs.specs.Entry.{Entry, Stamp, Sequence, Reign}
+use Rattle.global_defs.specs.Entry.{Stamp, Sequence}
 use Rattle.global_defs.specs.Jobs.{Job}
 use Rattle.global_defs.specs.Serial.{Turn, begun}
-use Rattle.journal_defs.specs.Instance.{InstanceRecord, generation, greatest_cycle, site_name}
+use Rattle.journal_defs.specs.Instance.{generation, greatest_cycle, site_name}
 use Rattle.journal_defs.specs.Surviving.{reigns}
 use Rattle.journal_defs.specs.Fit.{MOST_REIGNS}
 use Rattle.command_defs.specs.Commands.{Name, Region}
 use Rattle.command_defs.specs.Sections.{is_updater}
 use Rattle.world_defs.specs.Lists.{Among}
 use Rattle.world_defs.specs.World.{State, Down, Primary, Failed, Site, Contents, Place, World, Kept, is_site_named, same_name}
-use Rattle.world_defs.specs.Answers.{Cause, ReignLimit, Section}
+use Rattle.world_defs.specs.Answers.{ReignLimit, Section}
 use Rattle.world_defs.specs.Refusals.{reign_limit, LAST_CYCLE}
-use Rattle.world_defs.specs.Rows.{in_new_state, Becomes, Fails, FailsBefore, OldOnes, MayBeginAny, created, Creates, MayCreate, Attaches, StartsPrimary, RunsWhole, RunFails, IsFrontOf, Crashes, cut_there, opened, with_reign, with_sequence, next_stamp, next_reign, turn_of, FIRST_SERIALS}
+use Rattle.world_defs.specs.Rows.{in_new_state, Becomes, Fails, FailsBefore, OldOnes, MayBeginAny, created, Creates, MayCreate, Attaches, StartsPrimary, IsFrontOf, Crashes, opened, with_reign, with_sequence, next_stamp, next_reign, turn_of, FIRST_SERIALS}
 use Rattle.world_defs.specs.Step.{Runs, RunsTo, IsPicked, KeptUnknown}
 use Rattle.world_defs.specs.Fit.{IsBeforeNext, IsFitContents, IsFitReign, IsFitSite, IsNamedSo, IsFitPlace}
 use Rattle.world_laws.proofs.Lists.{all-weaker, all-front}
 use Rattle.world_laws.proofs.Instances.{cycle-cut, cycle-reign, room-less, room-reign, few_at}
 use Rattle.world_laws.proofs.SerialRuns.{IsGoing, IsOf, going-serial, updaters-front, rise-front}
-use Rattle.world_laws.proofs.ContentsFit.{fit-created, name-cut, fit-cut, fit-opened, name-reign, fit-reign, fit-may_begin, name-may_begin}
+use Rattle.world_laws.proofs.ContentsFit.{fit-created, name-cut, fit-opened, name-reign, fit-reign, fit-may_begin, name-may_begin}
 
 -- what holds of a place whose files are known, from what it was before
 fit-place : (old new : Place) (site : Option Site) (c : Contents) → new.told ≡ old.told → new.site ≡ site → new.now ≡ c
@@ -142,9 +142,9 @@ none-before : (name : Name) (c : Contents) → name ≡ site_name c.instance →
 none-before name c named h =
     all-weaker (IsOf (site_name c.instance) (greatest_cycle c.instance)) (IsBeforeNext (next_stamp name c) FIRST_SERIALS)
     (λ e within same.
-        let low : e.stamp.cycle ≤ greatest_cycle c.instance = within (ap (λ (s : Stamp). s.root) same ∙ named) in
-        let drawn : e.stamp.cycle ≡ greatest_cycle c.instance + 1 = ap (λ (s : Stamp). s.cycle) same in
-        absurd (omega arith))
+    let low : e.stamp.cycle ≤ greatest_cycle c.instance = within (ap (λ (s : Stamp). s.root) same ∙ named) in
+    let drawn : e.stamp.cycle ≡ greatest_cycle c.instance + 1 = ap (λ (s : Stamp). s.cycle) same in
+    absurd (omega arith))
     c.sequence h.cycles
 
 fit-new_reign : (name : Name) (c : Contents) → name ≡ site_name c.instance → reign_limit c ≡ None → IsFitContents c
@@ -176,7 +176,7 @@ pub fit-starts : (name : Name) (old new : Place) → is_site_named name old.site
 fit-starts name old new is none h r =
     fit-becomes (Primary (next_stamp name r.read) FIRST_SERIALS) (with_reign name (opened r.read)) old new
     (λ t. subst (λ (c : Contents). IsFitContents (with_reign name (opened c)) × IsNamedSo old.site (with_reign name (opened c)) × IsFitSite (in_new_state (Primary (next_stamp name c) FIRST_SERIALS) old.site) (with_reign name (opened c)))
-        (sym (r.as_before t)) (fit-begun name old.site old.now is (none t) (h.now t) (h.named_now t)))
+    (sym (r.as_before t)) (fit-begun name old.site old.now is (none t) (h.now t) (h.named_now t)))
     r.becomes
 
 pub fit-may_begin_any : (name : Name) (old : Place) (o : Contents) → IsFitPlace old → IsTrue old.told → MayBeginAny name old o → IsFitContents o × IsNamedSo old.site o
@@ -252,5 +252,5 @@ pub fit-runs : (name : Name) (jobs : List (List Job)) (order : List ℕ) (s : Se
 fit-runs name jobs order s old new updaters h r =
     fit-ran r.stamp name r.serials (turn_of r.stamp r.serials jobs s.picks old.now.sequence) s.hardened s.fault old new r.state h
     (λ t. let reign = reign-at name r.stamp r.serials old r.state h t in
-        (reign, goes name old.now r.stamp r.serials jobs s.picks (updaters-picked s.fault order s.picks updaters r.picks) (h.now t) reign))
+    (reign, goes name old.now r.stamp r.serials jobs s.picks (updaters-picked s.fault order s.picks updaters r.picks) (h.now t) reign))
     r.ran

@@ -1,7 +1,7 @@
 -- Serial runs: among the entries of one stamp each updater's serials go on rising, and its next one is past them.
-use Rattle.std.proofs.Common.{◌≡◌, ◌⊎◌, inl, inr, ℕ, zero, suc, ◌+◌, ◌-◌, ◌≤◌, ◌<◌, nat_lt, leb, Bool, true, false, List, [], ◌∷◌, ◌++◌, length, take, get_or, set, Option, Some, None, slice_get, refl, sym, ◌∙◌, ap, subst, arith, if◌then◌else◌}
+use Rattle.std.proofs.Common.{◌≡◌, inl, inr, ℕ, zero, suc, ◌+◌, ◌-◌, ◌≤◌, ◌<◌, nat_lt, leb, Bool, true, false, List, [], ◌∷◌, ◌++◌, length, take, get_or, set, Option, Some, None, refl, sym, ◌∙◌, ap, subst, arith, if◌then◌else◌}
 use Rattle.std.proofs.lemmas.Bool.{and_parts, and_from, leb-true}
-use Rattle.std.proofs.lemmas.List.{get_or-set_same, get_or-set_other, get_or_past}
+use Rattle.std.proofs.lemmas.List.{get_or-set_same}
 use Rattle.std.proofs.Math.ListN.{length-set}
 use Rattle.std.specs.List.{AllByRecursion, list_all}
 use Rattle.global_defs.specs.Entry.{Update, Stamp, Entry, Sequence, state}
@@ -13,7 +13,7 @@ use Rattle.command_defs.specs.Sections.{is_updater, UPDATERS}
 use Rattle.journal_defs.specs.Fit.{SerialsRise}
 use Rattle.journal_laws.proofs.FrontFacts as fronts
 use Rattle.world_defs.specs.Fit.{IsBeforeNext}
-use Rattle.world_laws.proofs.Lists.{all-weaker, all-front, all-push, all-get, get-push, get-within}
+use Rattle.world_laws.proofs.Lists.{all-weaker, all-push, all-get, get-push, get-within}
 
 -- an entry of the site's own has none but these cycles
 abbrev pub IsOf : (name : List ℕ) → (cycles : ℕ) → Entry → Type 0
@@ -81,9 +81,9 @@ going-more name cycles stamp next u updates seq within least most h = record {
   before = all-push (IsBeforeNext stamp (set next (u - 1) (serial_at next u + 1))) seq (entry_of stamp u (serial_at next u) updates)
       (before-risen stamp next u seq h.before)
       (λ same.
-          let updaters = h.updaters in
-          let there = get_or-set_same next (u - 1) (serial_at next u + 1) 1 (omega arith) in
-          omega arith);
+      let updaters = h.updaters in
+      let there = get_or-set_same next (u - 1) (serial_at next u + 1) 1 (omega arith) in
+      omega arith);
 }
 
 abbrev GoesOn : List ℕ → ℕ → Stamp → Turn → Type 0
@@ -92,8 +92,8 @@ GoesOn name cycles stamp t = IsGoing name cycles stamp t.serials t.sequence
 going-appended : (name : List ℕ) (cycles : ℕ) (stamp : Stamp) (t : Turn) (u : ℕ) (updates : List Update) (answers : Answers) (fits : Bool) → stamp.cycle ≤ cycles → 1 ≤ u → u ≤ 64
     → GoesOn name cycles stamp t
     → GoesOn name cycles stamp (if fits
-        then replied t u (Seq (length t.sequence + 1) answers) (t.sequence ++ entry_of stamp u (serial_at t.serials u) updates ∷ [])
-        else replied t u (serials.RolledBack SeqLimit) t.sequence)
+    then replied t u (Seq (length t.sequence + 1) answers) (t.sequence ++ entry_of stamp u (serial_at t.serials u) updates ∷ [])
+    else replied t u (serials.RolledBack SeqLimit) t.sequence)
 going-appended name cycles stamp t u updates answers true within least most h = going-more name cycles stamp t.serials u updates t.sequence within least most h
 going-appended name cycles stamp t u updates answers false within least most h = going-same name cycles stamp t.serials u t.sequence h
 
