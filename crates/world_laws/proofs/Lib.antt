@@ -3,5 +3,7 @@ pub mod Instances
 pub mod SerialRuns
 pub mod ContentsFit
 pub mod PlacesFit
+pub mod ReignsFit
+pub mod SectionsFit
 pub mod WorldsFit
 pub mod FreshFit

@@ -17,7 +17,9 @@ use Rattle.world_defs.specs.Fit.{IsFitContents, IsFitPlace, IsFit}
 use Rattle.world_laws.specs.Again.{HasFitOutcomes}
 use Rattle.world_laws.proofs.Lists.{passes}
 use Rattle.world_laws.proofs.ContentsFit.{fit-created}
-use Rattle.world_laws.proofs.PlacesFit.{fit-kept, fit-unknown, fit-stops, fit-creates, fit-create_fails, fit-attaches, fit-attach_fails, fit-crashes, fit-starts, fit-start_fails, fit-may_begin_any, fit-refused, fit-runs, fit-front, goes, reign-at}
+use Rattle.world_laws.proofs.PlacesFit.{fit-kept, fit-unknown, fit-stops, fit-creates, fit-create_fails, fit-attaches, fit-attach_fails, fit-crashes}
+use Rattle.world_laws.proofs.ReignsFit.{fit-starts, fit-start_fails, fit-may_begin_any, fit-refused}
+use Rattle.world_laws.proofs.SectionsFit.{fit-runs, fit-front, goes, reign-at}
 use Rattle.world_laws.proofs.SerialRuns.{updaters-front}
 
 -- places beside one another
