@@ -1,0 +1,113 @@
+-- An open site beside its disk.
+use Rattle.std.specs.Prelude.{◌≡◌, ◌≢◌, ◌≤◌, ◌<◌, ◌^◌, ◌++◌, ℕ, suc, Bool, List, [], ◌∷◌, length, take, drop, map, fold, Option, Some, None, IsTrue, IsSomeAnd}
+use Rattle.std.specs.List.{AllByRecursion, enumerate_from, filter_map}
+use Rattle.std.specs.FinMap as globals
+use Rattle.disk_defs.specs.Disk.{Files, View, Image}
+use Rattle.global_defs.specs.Entry as defs
+use Rattle.global_defs.specs.Entry.{Sequence, state}
+use Rattle.global_defs.specs.Prefix.{stamp_at}
+use Rattle.global_defs.specs.Fields.{IsSiteName}
+use Rattle.gvn_model.specs.declared.entry.Entry.{Entry}
+use Rattle.gvn_model.specs.declared.reign.Stamp.{Stamp}
+use Rattle.gvn_model.specs.Entries.{entry_value}
+use Rattle.gvn_model.specs.Reigns.{stamp_value}
+use Rattle.global_defs.specs.Evaluation.{MOST_NODES}
+use Rattle.journal_defs.specs.Journal.{JournalRecord, Part, BeginsWithPini}
+use Rattle.journal_defs.specs.Instance.{generation, site_name}
+use Rattle.journal_defs.specs.Surviving.{reigns}
+use Rattle.journal_defs.specs.Sequence.{Placed, Records}
+use Rattle.journal_defs.specs.Stands.{IsJournal, in_generation}
+use Rattle.journal_defs.specs.Growth.{NonePast, AreEntries, tcoms}
+use Rattle.journal_defs.specs.Sound.{NoEpochPast}
+use Rattle.journal_defs.specs.Fit.{IsSoundImage, HasFewNodes}
+use Rattle.instance_file.specs.Instance as instances
+use Rattle.jnl_file.specs.Records.{Recorded}
+use Rattle.jnl_file.specs.Journal as journals
+use Rattle.world_defs.specs.World.{Contents}
+use Rattle.world_defs.specs.Rows.{with_sequence}
+use Rattle.world_defs.specs.Ties.{IsSite}
+use Rattle.site_store.specs.declared.site.OpenSite.{OpenSite}
+
+-- an entry of the code, with its number
+abbrev pub tagged : Entry → ℕ × defs.Entry
+tagged e = (e.number, entry_value e)
+
+-- What a site has in memory, whatever its disk tells: the records of its instance file, its entries, numbered from 1 on, and the
+-- globals that they lead to. How many are hardened is known too.
+pub record Remembers (c : Contents) (h : ℕ) (s : OpenSite) : Type 0 where
+  pub instance : s.instance.records ≡ c.instance
+  pub entries : map tagged s.entries.items ≡ enumerate_from 1 c.sequence
+  pub globals : s.globals ≡ state c.sequence
+  pub hardened : s.hardened ≡ h
+
+-- its files are open for calls
+pub record IsReady (v : View) (s : OpenSite) : Type 0 where
+  pub instance : instances.IsReady v s.instance
+  pub journal : journals.IsReady v s.journal
+  pub of : journals.IsJournalOf s.journal 0 (generation s.instance.records)
+
+-- The records of a site whose newest generation g + 1 has begun: the journal of that generation alone may grow.
+pub record AreNewest (c : Contents) (s : Records) (g last : ℕ) (older : List Placed) (newer : List JournalRecord) : Type 0 where
+  pub generation : generation c.instance ≡ suc g
+  pub instance : s.instance ≡ c.instance
+  pub whole : s.journal 0 ≡ older ++ map (in_generation (suc g)) newer
+  pub begins : BeginsWithPini 0 (suc g) last newer
+  pub begun : newer ≢ []
+
+-- On the disk, where its files are known: they stand for the first entries, the hardened ones, in each image, and the others stand
+-- behind closed gates of the newest journal.
+pub record Keeps (v : View) (c : Contents) (hardened : ℕ) (s : OpenSite) : Type 0 where
+  pub count : hardened ≤ length c.sequence
+  pub few_nodes : HasFewNodes c.sequence
+  pub reads : IsSomeAnd v.content (λ files. IsSite files (with_sequence c (take hardened c.sequence)))
+  pub images : (f : Files) → Image v f → IsSite f (with_sequence c (take hardened c.sequence))
+  pub records : Records
+  pub g : ℕ
+  pub last : ℕ
+  pub older : List Placed
+  pub newer : List JournalRecord
+  pub newest : AreNewest c records g last older newer
+  pub sound : (f : Files) → Image v f → IsSoundImage f records (take hardened c.sequence)
+  pub older_files : (f : Files) → Image v f → IsJournal f 0 g last older
+  pub none_past : NonePast hardened records
+  pub no_epoch_past : NoEpochPast hardened c.instance (records.journal 0)
+  -- the parts of the entries that aren't hardened
+  pub waiting : List (ℕ → Option Part)
+  pub are_waiting : AreEntries c.instance (suc g) hardened waiting (drop hardened c.sequence)
+  pub in_region : AllByRecursion (λ (part : ℕ → Option Part). (r : ℕ) → 1 ≤ r → part r ≡ None) waiting
+  pub instance_file : instances.HasRecords v s.instance c.instance
+  pub journal_file : journals.HasRecords v s.journal (record { hard = newer; opening = []; closed = tcoms waiting 0 })
+
+-- The site is open: it has these contents in memory, of which so many entries are hardened, and where its files are known, on the disk.
+pub record IsOpen (v : View) (told : Bool) (c : Contents) (hardened : ℕ) (s : OpenSite) : Type 0 where
+  pub remembered : Remembers c hardened s
+  pub kept : IsTrue told → Keeps v c hardened s
+
+-- The site was opened, and nothing was done since: it has a name, all entries are hardened, and no reign has begun past them.
+pub record WasOpened (s : OpenSite) : Type 0 where
+  pub created : 0 < length s.instance.records
+  pub name : IsSiteName (site_name s.instance.records)
+  pub hardened : s.hardened ≡ length s.entries.items
+  pub few : length s.entries.items < 2 ^ 40
+  pub no_reign_past : AllByRecursion (λ (r : defs.Reign). r.start ≤ length s.entries.items) (reigns s.instance.records)
+  pub no_reign : s.stamp ≡ None
+
+-- a reign was begun
+pub record HasReign (s : OpenSite) : Type 0 where
+  pub stamp : Stamp
+  pub is : s.stamp ≡ Some stamp
+  -- it covers the entries to come
+  pub covers : (n : ℕ) → length s.entries.items < n → stamp_at n (reigns s.instance.records) ≡ Some (stamp_value stamp)
+
+-- with the entry of this transaction, under a stamp
+abbrev pub with_entry : Option Stamp → defs.Transaction → Contents → Contents
+with_entry None t c = c
+with_entry (Some stamp) t c = with_sequence c (c.sequence ++ record { stamp = stamp_value stamp; transaction = t } ∷ [])
+
+-- there is room for the syncs of a hardening
+pub record HasAppended (s : OpenSite) : Type 0 where
+  pub syncs : 2 ≤ s.journal.gated.syncs_left
+
+-- after each of these updates there are no more nodes than there may be
+abbrev pub HasRoomFor : defs.Globals → List defs.Update → Type 0
+HasRoomFor g updates = (k : ℕ) → 1 ≤ k → globals.len (fold defs.apply g (take k updates)) ≤ MOST_NODES

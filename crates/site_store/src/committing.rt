@@ -1,0 +1,80 @@
+//! Giving a site entries.
+ghost use Rattle.std.specs.Prelude.{◌≡◌, ◌⊎◌, ◌≤◌, ◌<◌, ◌+◌, ◌^◌, ◌++◌, ◌∷◌, [], ℕ, Bool, true, length, take, Some, None, IfOk, IfSome, OnOk, OnErr, IsErrOf, IsSome};
+ghost use Rattle.disk_defs.specs.Disk.{Files, Image, AtEachMoment, Rose};
+ghost use Rattle.global_defs.specs.Fields.{IsTransaction};
+ghost use Rattle.gvn_model.specs.Entries.{transaction_value};
+ghost use Rattle.gvn_model.specs.Reigns.{stamp_value};
+ghost use Rattle.world_defs.specs.World.{Contents};
+ghost use Rattle.world_defs.specs.Rows.{with_sequence, IsFrontOf};
+ghost use Rattle.world_defs.specs.Ties.{IsSite};
+ghost use Rattle.site_store.specs.Site.{IsReady, IsOpen, HasReign, HasAppended, HasRoomFor, with_entry};
+
+use crate::error::SiteError;
+use crate::site::OpenSite;
+use gvn_model::Transaction;
+use repl_disk::Disk;
+use std::alloc::Global;
+
+impl OpenSite {
+    /// Makes a transaction the next entry, under the reign that was begun: takes all memory, and appends it to the journal. It
+    /// answers the entry's number. The entry is on the disk for good once it's hardened.
+    ///
+    /// # Errors
+    /// `Full` exactly where more than 100,000 nodes would stand after one of its updates, `SeqLimit` exactly where the last number
+    /// is used up, and `NoMemory`: nothing has changed after the first two. `Failed` only where the disk's count rose. After
+    /// `NoMemory` or `Failed` the site is of no more use.
+    pub fn commit<D: Disk>(
+        &mut self,
+        alloc: Global,
+        disk: &mut D,
+        t: &Transaction,
+    ) -> Result<u64, SiteError>
+        requires ready { IsReady (D.disk disk.old) self.old }
+        requires form { IsTransaction (transaction_value t.now) }
+        requires reign { HasReign self.old }
+        ensures ready { OnOk result (IsReady (D.disk disk.new) self.new) }
+        ensures done { OnOk result ((told : Bool) (c : Contents) (h : ℕ) → IsOpen (D.disk disk.old) told c h self.old → IsOpen (D.disk disk.new) told (with_entry self.old.stamp (transaction_value t.now) c) h self.new) }
+        ensures number { IfOk result (λ n. n ≡ length self.old.entries.items + 1) }
+        ensures stamp { self.new.stamp ≡ self.old.stamp }
+        ensures reign { OnOk result (HasReign self.new) }
+        ensures waits { OnOk result (HasAppended self.new) }
+        ensures room { OnOk result (length self.old.entries.items + 1 < 2 ^ 40) }
+        ensures fits { OnOk result (HasRoomFor self.old.globals t.now.updates) }
+        ensures full { (nodes : ℕ) → IsErrOf result (SiteError.Full nodes) → HasRoomFor self.old.globals t.now.updates → ⊥ }
+        ensures last { IsErrOf result SiteError.SeqLimit → 2 ^ 40 ≤ length self.old.entries.items + 1 }
+        ensures kept { ((nodes : ℕ) × IsErrOf result (SiteError.Full nodes)) ⊎ IsErrOf result SiteError.SeqLimit → (disk.new ≡ disk.old) × (self.new ≡ self.old) }
+        ensures any_moment { (c : Contents) (h : ℕ) → IsOpen (D.disk disk.old) true c h self.old → AtEachMoment (D.disk disk.old) (D.disk disk.new) (λ f. IsSite f (with_sequence c (take h c.sequence))) }
+        ensures stands { (c : Contents) (h : ℕ) → IsOpen (D.disk disk.old) true c h self.old → IfSome (D.disk disk.new).content (λ f. IsSite f (with_sequence c (take h c.sequence))) }
+        ensures still_told { IsSome (D.disk disk.old).content → IsSome (D.disk disk.new).content }
+        ensures simulated { (D.disk disk.new).simulated ≡ (D.disk disk.old).simulated }
+        ensures later { (D.disk disk.old).faults ≤ (D.disk disk.new).faults }
+        ensures count { (fault : ℕ) → IsErrOf result (SiteError.Failed fault) → fault ≡ (D.disk disk.new).faults }
+        ensures cause { (fault : ℕ) → IsErrOf result (SiteError.Failed fault) → Rose (D.disk disk.old).faults (D.disk disk.new).faults }
+        ensures no_other { IsErrOf result SiteError.GenLimit ⊎ IsErrOf result SiteError.ReignLimit ⊎ ((file : ℕ) × (offset : ℕ) × IsErrOf result (SiteError.NotAFile file offset)) → ⊥ }
+    {
+        Err(SiteError::NoMemory)
+    }
+
+    /// Puts all entries on the disk for good, and answers how many there are. It takes no memory.
+    ///
+    /// # Errors
+    /// `Failed` only where the disk's count rose. Of the entries that weren't hardened a crash may then find the first few.
+    pub fn harden<D: Disk>(&mut self, disk: &mut D) -> Result<u64, SiteError>
+        requires ready { IsReady (D.disk disk.old) self.old }
+        requires waits { HasAppended self.old }
+        ensures ready { OnOk result (IsReady (D.disk disk.new) self.new) }
+        ensures done { OnOk result ((told : Bool) (c : Contents) (h : ℕ) → IsOpen (D.disk disk.old) told c h self.old → IsOpen (D.disk disk.new) told c (length c.sequence) self.new) }
+        ensures length { IfOk result (λ n. n ≡ length self.old.entries.items) }
+        ensures stamp { self.new.stamp ≡ self.old.stamp }
+        ensures reign { HasReign self.old → HasReign self.new }
+        ensures any_moment { (c : Contents) (h : ℕ) → IsOpen (D.disk disk.old) true c h self.old → AtEachMoment (D.disk disk.old) (D.disk disk.new) (λ f. (o : Contents) × IsFrontOf c.sequence h c o × IsSite f o) }
+        ensures stands { (c : Contents) (h : ℕ) → IsOpen (D.disk disk.old) true c h self.old → IfSome (D.disk disk.new).content (λ f. (o : Contents) × IsFrontOf c.sequence h c o × IsSite f o) }
+        ensures still_told { IsSome (D.disk disk.old).content → IsSome (D.disk disk.new).content }
+        ensures simulated { (D.disk disk.new).simulated ≡ (D.disk disk.old).simulated }
+        ensures later { (D.disk disk.old).faults ≤ (D.disk disk.new).faults }
+        ensures count { (fault : ℕ) → IsErrOf result (SiteError.Failed fault) → fault ≡ (D.disk disk.new).faults }
+        ensures cause { (fault : ℕ) → IsErrOf result (SiteError.Failed fault) → Rose (D.disk disk.old).faults (D.disk disk.new).faults }
+    {
+        Err(SiteError::NoMemory)
+    }
+}

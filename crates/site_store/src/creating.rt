@@ -1,0 +1,72 @@
+//! Making a site, and finding what stands on a disk.
+ghost use Rattle.std.specs.Prelude.{◌≡◌, ◌⊎◌, ◌≤◌, ℕ, true, List, [], map, length, Some, None, IfOk, IfSome, OnOk, IsErrOf, IsSome};
+ghost use Rattle.disk_defs.specs.Disk.{Files, Image, AtEachMoment, Rose};
+ghost use Rattle.disk_defs.specs.Gates.{records};
+ghost use Rattle.journal_defs.specs.Numbers.{INSTANCE};
+ghost use Rattle.journal_defs.specs.Instance as instances;
+ghost use Rattle.journal_defs.specs.Instance.{IsInForm};
+ghost use Rattle.world_defs.specs.World.{Contents};
+ghost use Rattle.world_defs.specs.Ties.{IsBlank, IsSite, Stands};
+ghost use Rattle.site_store.specs.Opening.{region_value, made, MayMake, StandsAsBefore, IsFound};
+
+use crate::error::SiteError;
+use crate::site::RegionSpec;
+use gvn_key::Bytes;
+use repl_disk::Disk;
+use std::alloc::Global;
+
+/// What the instance file of a site says of it.
+#[derive(Debug, Drop)]
+pub struct Layout {
+    /// The site's name.
+    pub name: Bytes,
+    /// The greatest generation of its journals, or 0 where none was drawn.
+    pub generation: u32,
+}
+
+/// What site stands on a disk, if one does. It syncs the instance file first.
+///
+/// # Errors
+/// `NotAFile` only where the disk's files are outside the formats; `Failed` only where the disk's count rose; and `NoMemory`.
+pub fn inspect<D: Disk>(alloc: Global, disk: &mut D) -> Result<Option<Layout>, SiteError>
+    ensures found { IfOk result (λ found. IfSome (D.disk disk.old).content (λ files. (c : Contents) → Stands files c → IsFound c found)) }
+    ensures kept { IfSome (D.disk disk.old).content (λ files. IfSome (D.disk disk.new).content (λ now. (c : Contents) → Stands files c → Stands now c)) }
+    ensures alike { OnOk result (IfSome (D.disk disk.old).content (λ files. (c o : Contents) (f : Files) → Stands files c → Image (D.disk disk.new) f → Stands f o → o.instance ≡ c.instance)) }
+    ensures empty { result ≡ Ok None → IfSome (D.disk disk.new).content (λ files. records (files INSTANCE) ≡ Some []) }
+    ensures outside { (file : ℕ) (offset : ℕ) → IsErrOf result (SiteError.NotAFile file offset) → IfSome (D.disk disk.old).content (λ files. (c : Contents) → Stands files c → ⊥) }
+    ensures any_moment { IfSome (D.disk disk.old).content (λ _. AtEachMoment (D.disk disk.old) (D.disk disk.new) (StandsAsBefore (D.disk disk.old))) }
+    ensures still_told { IsSome (D.disk disk.old).content → IsSome (D.disk disk.new).content }
+    ensures simulated { (D.disk disk.new).simulated ≡ (D.disk disk.old).simulated }
+    ensures later { (D.disk disk.old).faults ≤ (D.disk disk.new).faults }
+    ensures count { (fault : ℕ) → IsErrOf result (SiteError.Failed fault) → fault ≡ (D.disk disk.new).faults }
+    ensures cause { (fault : ℕ) → IsErrOf result (SiteError.Failed fault) → Rose (D.disk disk.old).faults (D.disk disk.new).faults }
+{
+    Err(SiteError::NoMemory)
+}
+
+/// Makes a site with this name and these regions on a disk whose instance file has no open record.
+///
+/// # Errors
+/// `Failed` only where the disk's count rose, and `NoMemory`. A crash may then find the site all the same.
+pub fn create<D: Disk>(
+    alloc: Global,
+    disk: &mut D,
+    name: &Bytes,
+    regions: &[RegionSpec],
+) -> Result<(), SiteError>
+    requires form { IsInForm (instances.Create name.now (map region_value regions.now)) }
+    requires one_region { length regions.now ≡ 1 }
+    requires empty { IfSome (D.disk disk.old).content (λ files. records (files INSTANCE) ≡ Some []) }
+    ensures reads { OnOk result (IfSome (D.disk disk.old).content (λ files. IsBlank files → IfSome (D.disk disk.new).content (λ now. IsSite now (made name.now regions.now)))) }
+    ensures images { OnOk result (IfSome (D.disk disk.old).content (λ files. IsBlank files → ((f : Files) → Image (D.disk disk.old) f → IsBlank f) → (f : Files) → Image (D.disk disk.new) f → IsSite f (made name.now regions.now))) }
+    ensures any_moment { IfSome (D.disk disk.old).content (λ _. AtEachMoment (D.disk disk.old) (D.disk disk.new) (MayMake (D.disk disk.old) name.now regions.now)) }
+    ensures stands { IfSome (D.disk disk.old).content (λ files. IsBlank files → IfSome (D.disk disk.new).content (λ now. IsBlank now ⊎ IsSite now (made name.now regions.now))) }
+    ensures still_told { IsSome (D.disk disk.old).content → IsSome (D.disk disk.new).content }
+    ensures simulated { (D.disk disk.new).simulated ≡ (D.disk disk.old).simulated }
+    ensures later { (D.disk disk.old).faults ≤ (D.disk disk.new).faults }
+    ensures count { (fault : ℕ) → IsErrOf result (SiteError.Failed fault) → fault ≡ (D.disk disk.new).faults }
+    ensures cause { (fault : ℕ) → IsErrOf result (SiteError.Failed fault) → Rose (D.disk disk.old).faults (D.disk disk.new).faults }
+    ensures other_errors { (file : ℕ) (offset : ℕ) → IsErrOf result (SiteError.NotAFile file offset) → ⊥ }
+{
+    Err(SiteError::NoMemory)
+}

@@ -1,0 +1,20 @@
+//! A site on its disk: made, opened again and again, and given entries.
+//!
+//! A site has an instance file, and a journal for each generation of its one region. Opening reads what the files stand for, cuts
+//! there, and begins the next generation, so that whatever a crash left past the sequence never counts again. An open site has
+//! all its entries and globals in memory. Entries are committed, which appends them to the journal, and hardened together.
+//! Whatever a crash leaves at any moment, the files stand for the hardened entries and perhaps the first few of those that
+//! were being hardened.
+#![tactic(auto)]
+
+mod committing;
+mod creating;
+mod error;
+mod opening;
+mod reigning;
+mod site;
+
+pub use creating::{Layout, create, inspect};
+pub use error::SiteError;
+pub use opening::load;
+pub use site::{OpenSite, RegionSpec};

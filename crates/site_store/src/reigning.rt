@@ -1,0 +1,50 @@
+//! Beginning a reign.
+ghost use Rattle.std.specs.Prelude.{◌≡◌, ◌⊎◌, ◌≤◌, ℕ, Bool, true, length, Some, None, IfOk, IfSome, OnOk, OnErr, IsErrOf, IsSome};
+ghost use Rattle.disk_defs.specs.Disk.{Files, Image, AtEachMoment, Rose};
+ghost use Rattle.gvn_model.specs.Reigns.{stamp_value};
+ghost use Rattle.journal_defs.specs.Instance.{site_name};
+ghost use Rattle.world_defs.specs.Answers.{ReignLimit};
+ghost use Rattle.world_defs.specs.World.{Contents};
+ghost use Rattle.world_defs.specs.Refusals.{reign_limit};
+ghost use Rattle.world_defs.specs.Rows.{with_reign, next_stamp};
+ghost use Rattle.world_defs.specs.Ties.{IsSite};
+ghost use Rattle.site_store.specs.Site.{Remembers, IsReady, IsOpen, WasOpened, HasReign};
+
+use crate::error::SiteError;
+use crate::site::OpenSite;
+use gvn_model::Stamp;
+use repl_disk::Disk;
+use std::alloc::Global;
+
+impl OpenSite {
+    /// Begins a reign under the site's own name and the next cycle, and answers its stamp. All entries have to be hardened, and
+    /// no reign may have begun past them.
+    ///
+    /// # Errors
+    /// `ReignLimit` exactly where 32,768 reigns have begun by the length, or a reign has the last cycle, also one that a CUT
+    /// dropped; nothing has changed then. `Failed` only where the disk's count rose; a crash may then find the reign all the same.
+    /// `NoMemory`, after which nothing has changed.
+    pub fn start_reign<D: Disk>(&mut self, alloc: Global, disk: &mut D) -> Result<Stamp, SiteError>
+        requires ready { IsReady (D.disk disk.old) self.old }
+        requires opened { WasOpened self.old }
+        ensures ready { OnOk result (IsReady (D.disk disk.new) self.new) }
+        ensures begun { OnOk result ((told : Bool) (c : Contents) → IsOpen (D.disk disk.old) told c (length c.sequence) self.old → IsOpen (D.disk disk.new) told (with_reign (site_name c.instance) c) (length c.sequence) self.new) }
+        ensures stamp { IfOk result (λ stamp. (c : Contents) → c.instance ≡ self.old.instance.records → stamp_value stamp ≡ next_stamp (site_name c.instance) c) }
+        ensures remembered { IfOk result (λ stamp. self.new.stamp ≡ Some stamp) }
+        ensures reign { OnOk result (HasReign self.new) }
+        ensures entries { self.new.entries.items ≡ self.old.entries.items }
+        ensures room { OnOk result ((c : Contents) (h : ℕ) → Remembers c h self.old → reign_limit c ≡ None) }
+        ensures limit { IsErrOf result SiteError.ReignLimit → (c : Contents) (h : ℕ) → Remembers c h self.old → reign_limit c ≡ Some ReignLimit }
+        ensures kept { IsErrOf result SiteError.ReignLimit → (disk.new ≡ disk.old) × (self.new ≡ self.old) }
+        ensures any_moment { (c : Contents) → IsOpen (D.disk disk.old) true c (length c.sequence) self.old → AtEachMoment (D.disk disk.old) (D.disk disk.new) (λ f. IsSite f c ⊎ IsSite f (with_reign (site_name c.instance) c)) }
+        ensures stands { (c : Contents) → IsOpen (D.disk disk.old) true c (length c.sequence) self.old → IfSome (D.disk disk.new).content (λ f. IsSite f c ⊎ IsSite f (with_reign (site_name c.instance) c)) }
+        ensures still_told { IsSome (D.disk disk.old).content → IsSome (D.disk disk.new).content }
+        ensures simulated { (D.disk disk.new).simulated ≡ (D.disk disk.old).simulated }
+        ensures later { (D.disk disk.old).faults ≤ (D.disk disk.new).faults }
+        ensures count { (fault : ℕ) → IsErrOf result (SiteError.Failed fault) → fault ≡ (D.disk disk.new).faults }
+        ensures cause { (fault : ℕ) → IsErrOf result (SiteError.Failed fault) → Rose (D.disk disk.old).faults (D.disk disk.new).faults }
+        ensures causes { OnErr result (IsErrOf result SiteError.ReignLimit ⊎ ((fault : ℕ) × IsErrOf result (SiteError.Failed fault)) ⊎ IsErrOf result SiteError.NoMemory) }
+    {
+        Err(SiteError::NoMemory)
+    }
+}

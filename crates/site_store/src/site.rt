@@ -1,0 +1,57 @@
+//! A site in memory.
+ghost use Rattle.std.specs.Prelude.{◌≡◌, length};
+ghost use Rattle.journal_defs.specs.Surviving.{reigns};
+
+use gvn_key::Bytes;
+use gvn_model::{Entry, Globals, Reigns, Stamp};
+use instance_file::Instance;
+use jnl_file::Journal;
+
+/// A region's name, and whether its blocks are kept as they were before they change.
+#[derive(Debug, Drop)]
+pub struct RegionSpec {
+    pub name: Bytes,
+    pub before: bool,
+}
+
+/// A site that is open, beside its disk: what its files stand for, in memory, and its files, open for calls.
+///
+/// Its fields are there for contracts: `IsOpen` says what they have to do with the disk, and a field that was changed by hand
+/// leaves nothing of it.
+#[derive(Drop)]
+pub struct OpenSite {
+    pub instance: Instance,
+    /// The journal of region 0 and the newest generation.
+    pub journal: Journal,
+    /// All entries, by their numbers from 1 on.
+    pub entries: Vec<Entry>,
+    /// No nodes, and then the updates of all entries in order.
+    pub globals: Globals,
+    /// How many entries are on the disk for good.
+    pub hardened: u64,
+    /// The reign that was begun since the site was opened.
+    pub stamp: Option<Stamp>,
+}
+
+impl OpenSite {
+    /// How many entries there are.
+    pub fn sequence_length(&self) -> u64
+        ensures { result ≡ length self.now.entries.items }
+    {
+        self.entries.len() as u64
+    }
+
+    /// How many entries are on the disk for good.
+    pub fn hardened_length(&self) -> u64
+        ensures { result ≡ self.now.hardened }
+    {
+        self.hardened
+    }
+
+    /// The reigns that no later CUT dropped.
+    pub fn history(&self) -> &Reigns
+        ensures { result.now ≡ reigns self.now.instance.records }
+    {
+        self.instance.history()
+    }
+}
