@@ -14,7 +14,7 @@ ghost use Rattle.jnl_file.specs.Generations.{AreJournals, AreDurable, MayJoin, H
 use crate::error::{GenerationsError, JournalError};
 use crate::journal::journal_file;
 use crate::reading::read_record;
-use gated_file::{Gated, see_gates, sync_file};
+use gated_file::{GateError, Gated, see_gates, sync_file};
 use gvn_key::Bytes;
 use jnl_record::{JnlRecord, PlacedRecord};
 use repl_disk::Disk;
@@ -174,7 +174,19 @@ pub fn read_generations<D: Disk>(
     ensures later { (D.disk disk.old).faults ≤ (D.disk disk.new).faults }
     ensures cause { IsErrOf result GenerationsError.Failed → Rose (D.disk disk.old).faults (D.disk disk.new).faults }
 {
-    Err(GenerationsError::NoMemory)
+    let mut records = Vec::new(alloc);
+    let mut last_began = 0;
+    for before in 0..last {
+        let generation = before + 1;
+        match read_generation(alloc, disk, region, generation, last_began, &mut records) {
+            Ok(began) => last_began = began,
+            Err(error) => return Err(in_file(journal_file(region, generation), error)),
+        }
+    }
+    Ok(Generations {
+        records,
+        last_began,
+    })
 }
 
 /// Whether the journal of a generation that isn't drawn yet has no open record. It syncs the file first, and writes
@@ -200,5 +212,13 @@ pub fn is_unbegun<D: Disk>(
     ensures later { (D.disk disk.old).faults ≤ (D.disk disk.new).faults }
     ensures cause { IsErrOf result GenerationsError.Failed → Rose (D.disk disk.old).faults (D.disk disk.new).faults }
 {
-    Err(GenerationsError::NoMemory)
+    let file = journal_file(region, generation);
+    if let Err(error) = sync_file(disk, file) {
+        return Err(in_file(file, error.into()));
+    }
+    match Gated::reading(alloc, file).next_record(disk, 0, &mut Bytes::new(alloc)) {
+        Ok(next) => Ok(next.is_none()),
+        Err(GateError::NotARecord { .. }) => Ok(false),
+        Err(error) => Err(in_file(file, error.into())),
+    }
 }
