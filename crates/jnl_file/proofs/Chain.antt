@@ -1,10 +1,10 @@
 -- Reading from generation to generation.
-use Rattle.std.proofs.Common.{◌≡◌, inl, inr, ℕ, suc, ◌+◌, ◌≤◌, List, [], Option, Some, None, IfSome, refl, sym, subst, arith}
+use Rattle.std.proofs.Common.{◌≡◌, inl, inr, ℕ, suc, ◌≤◌, List, IfSome, sym, subst, arith}
 use Rattle.std.proofs.lemmas.Bool.{cases_lt}
 use Rattle.disk_defs.specs.Disk.{Files, View, IsDurable}
 use Rattle.disk_defs.specs.Frames.{Only, OthersStay}
 use Rattle.disk_defs.proofs.Frames.{durable_stays, others_then, others_wider}
-use Rattle.disk_defs.proofs.Told.{told_at, weaker_told, both_weak}
+use Rattle.disk_defs.proofs.Told.{told_at, both_weak}
 use Rattle.journal_defs.specs.Numbers.{journal_file}
 use Rattle.journal_defs.specs.Sequence.{Placed}
 use Rattle.journal_defs.specs.Stands.{IsJournal}

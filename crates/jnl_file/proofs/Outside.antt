@@ -1,9 +1,9 @@
 -- Files that are no journals of their generations.
-use Rattle.std.proofs.Common.{◌≡◌, ◌≢◌, ◌⊎◌, inl, inr, ⊎_elim, ℕ, zero, suc, ◌≤◌, ◌<◌, List, [], ◌∷◌, ◌++◌, length, drop, map, Option, Some, None, IfSome, refl, sym, ◌∙◌, ap, subst, arith}
+use Rattle.std.proofs.Common.{◌≡◌, ◌≢◌, ◌⊎◌, inl, inr, ℕ, zero, suc, ◌≤◌, ◌<◌, List, [], ◌∷◌, ◌++◌, length, drop, Option, Some, None, IfSome, refl, sym, ◌∙◌, ap, subst, arith}
 use Rattle.std.proofs.lemmas.Bool.{cases_eq, cases_lt}
 use Rattle.std.proofs.lemmas.Bool.Decides.{nat_tests}
 use Rattle.std.specs.Option.{option_map}
-use Rattle.std.specs.List.{AllByRecursion, AllZip}
+use Rattle.std.specs.List.{AllZip}
 use Rattle.disk_defs.specs.Disk.{Files}
 use Rattle.disk_defs.specs.Gates.{Body, Shut, Open, NoGate, gate_at, bodies_at, records, spelled}
 use Rattle.disk_defs.proofs.Told.{weaker_told, both_weak}
@@ -16,7 +16,7 @@ use Rattle.journal_defs.specs.FileGrowth.{MayFollow}
 use Rattle.journal_defs.specs.Sequence.{Placed}
 use Rattle.journal_defs.specs.Stands.{Holds, IsJournal}
 use Rattle.journal_laws.proofs.Readings.{journal_body, journals_one}
-use Rattle.jnl_file.specs.Reading.{IsNoRecord, HasWrongRecord, IsJournalFile}
+use Rattle.jnl_file.specs.Reading.{IsNoRecord, HasWrongRecord}
 use Rattle.jnl_file.specs.Generations.{IsRefused, StopsAt, NamesAnother, IsOutsideAfter, IsOutsideGenerations}
 use Rattle.jnl_file.proofs.Walk.{wrong_is_none}
 

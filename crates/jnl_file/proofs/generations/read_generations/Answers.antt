@@ -1,8 +1,7 @@
-use Rattle.std.proofs.Common.{rules, ◌≡◌, ◌+◌, ℕ, suc, ◌≤◌, List, [], map, Err, IfSome, IsErrOf, refl, sym, ◌∙◌, ap, subst, arith}
+use Rattle.std.proofs.Common.{rules, ◌≡◌, ◌+◌, ℕ, suc, ◌≤◌, List, [], map, Err, IfSome, refl, sym, ◌∙◌, ap, subst, arith}
 use Rattle.disk_defs.specs.Disk.{Image}
 use Rattle.disk_defs.proofs.Frames.{others_same}
 use Rattle.disk_defs.proofs.Moments.{started, nothing_new}
-use Rattle.journal_defs.specs.Numbers.{journal_file}
 use Rattle.journal_defs.specs.Sequence.{Placed}
 use Rattle.journal_defs.specs.Stands.{IsJournal}
 use Rattle.jnl_record.specs.Values.{placed_value}
@@ -65,7 +64,7 @@ returns-in-Err-clause-outside g c file offset is =
     let most : l.before + 1 ≤ c.args.last = omega arith in
     let same : c.in_file.result ≡ NotAFile file offset = search (rules, is) in
     let named = named_by c.journal_file.result c.in-Err.error file offset (sym c.in_file.ensures ∙ same) in
-    let failed : c.read_generation.result ≡ Err (NotARecord offset) = c.in-Err.is ∙ ap Err named.error in
+    let failed : c.read_generation.result ≡ Err (NotARecord offset) = cc (c.in-Err.is, named.error) in
     let wrong = c.read_generation.ensures.outside offset (search (rules, failed)) in
     subst (λ (f : ℕ). IfSome u.content (λ files. IsOutsideGenerations files r c.args.last f offset)) (sym c.journal_file.ensures ∙ named.file_is)
     (told_wrong u (view l.disk) (view c.read_generation.new.disk) r l.before (l.before + 1) next inv.content c.args.last l.last_began offset (map placed_value l.records.items) most inv.read wrong)
