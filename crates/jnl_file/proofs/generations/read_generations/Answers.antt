@@ -2,9 +2,11 @@ use Rattle.std.proofs.Common.{rules, ◌≡◌, ◌+◌, ℕ, suc, ◌≤◌, Li
 use Rattle.disk_defs.specs.Disk.{Image}
 use Rattle.disk_defs.proofs.Frames.{others_same}
 use Rattle.disk_defs.proofs.Moments.{started, nothing_new}
+use Rattle.journal_defs.specs.Numbers.{journal_file}
 use Rattle.journal_defs.specs.Sequence.{Placed}
 use Rattle.journal_defs.specs.Stands.{IsJournal}
 use Rattle.jnl_record.specs.Values.{placed_value}
+use Rattle.jnl_file.specs.Errors.{error_in}
 use Rattle.jnl_file.specs.Generations.{AreJournals, AreDurable, IsOutsideGenerations}
 use Rattle.jnl_file.specs.declared.error.JournalError.TheVariants.{NotARecord}
 use Rattle.jnl_file.specs.declared.error.GenerationsError.TheVariants.{NotAFile}
@@ -63,10 +65,12 @@ returns-in-Err-clause-outside g c file offset is =
     let next : l.before + 1 ≡ suc l.before = omega arith in
     let most : l.before + 1 ≤ c.args.last = omega arith in
     let same : c.in_file.result ≡ NotAFile file offset = search (rules, is) in
-    let named = named_by c.journal_file.result c.in-Err.error file offset (sym c.in_file.ensures ∙ same) in
+    let told : error_in c.journal_file.result c.in-Err.error ≡ NotAFile file offset = cc (c.in_file.ensures, same) in
+    let named = named_by c.journal_file.result c.in-Err.error file offset told in
+    let place : journal_file (l.before + 1) r ≡ file = cc (c.journal_file.ensures, named.file_is) in
     let failed : c.read_generation.result ≡ Err (NotARecord offset) = cc (c.in-Err.is, named.error) in
     let wrong = c.read_generation.ensures.outside offset (search (rules, failed)) in
-    subst (λ (f : ℕ). IfSome u.content (λ files. IsOutsideGenerations files r c.args.last f offset)) (sym c.journal_file.ensures ∙ named.file_is)
+    subst (λ (f : ℕ). IfSome u.content (λ files. IsOutsideGenerations files r c.args.last f offset)) place
     (told_wrong u (view l.disk) (view c.read_generation.new.disk) r l.before (l.before + 1) next inv.content c.args.last l.last_began offset (map placed_value l.records.items) most inv.read wrong)
 
 pub returns-in-Err-clause-no_list : goal.returns-in-Err-clause-no_list
