@@ -1,8 +1,8 @@
 -- What survives the cuts of an instance file.
-use Rattle.std.proofs.Common.{◌≡◌, inl, inr, ℕ, zero, suc, ◌≤◌, ◌<◌, min, nat_le, ◌&&◌, ◌||◌, Bool, true, false, List, [], ◌∷◌, slice_get, Option, Some, None, refl, sym, ◌∙◌, ap, arith, if◌then◌else◌}
+use Rattle.std.proofs.Common.{◌≡◌, inl, inr, ℕ, zero, suc, ◌≤◌, ◌<◌, min, nat_le, ◌&&◌, ◌||◌, Bool, true, false, List, [], ◌∷◌, map, slice_get, Option, Some, None, refl, sym, ◌∙◌, ap, arith, if◌then◌else◌}
 use Rattle.std.proofs.lemmas.Bool.{cases_lt}
 use Rattle.std.proofs.lemmas.Bool.Decides.{nat_tests}
-use Rattle.std.specs.List.{filter_map, list_all}
+use Rattle.std.specs.List.{filter_map, list_all, cons_option}
 use Rattle.journal_defs.specs.Instance.{InstanceRecord, Create, Reigned, Cut, Map, Mode, CutsRise}
 use Rattle.journal_defs.specs.Surviving.{survives}
 use Rattle.mupip_recover.specs.Minima.{lesser, first_of, minima, up_to}
@@ -62,3 +62,7 @@ spared_by g n instance h k ms at is o found =
     ∙ ap (λ (l : List ℕ). is_within n (slice_get l k)) is
     ∙ ap (λ (i : ℕ). is_within n (slice_get (minima (filter_map cut_length instance)) i)) at
     ∙ sym (spared 0 g n instance h)
+
+pub filter_values : {A B C : Type 0} (f : B → Option C) (value : A → B) (xs : List A) → filter_map (λ x. f (value x)) xs ≡ filter_map f (map value xs)
+filter_values f value [] = refl
+filter_values f value (x ∷ xs) = ap (cons_option (f (value x))) (filter_values f value xs)

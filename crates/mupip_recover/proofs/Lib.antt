@@ -5,5 +5,6 @@ pub mod StampLaws
 pub mod Columns
 pub mod SlotLaws
 pub mod RegionLists
+pub mod Completion
 pub mod Counts
 pub mod Runs

@@ -1,13 +1,15 @@
 -- Updates in slots.
-use Rattle.std.proofs.Common.{◌≡◌, ◌≢◌, inl, inr, ◌⊎◌, ℕ, zero, suc, ◌+◌, ◌≤◌, ◌<◌, ◌==◌, Bool, true, false, List, [], ◌∷◌, ◌++◌, length, map, get_or, set, replicate, is_some, Option, Some, None, refl, sym, ◌∙◌, ap, subst, arith, if◌then◌else◌, length-set, get_or-set_other, get_or-set_same}
+use Rattle.std.proofs.Common.{◌≡◌, ◌≢◌, inl, inr, ◌⊎◌, ℕ, zero, suc, ◌+◌, ◌≤◌, ◌<◌, ◌==◌, Bool, true, false, List, [], ◌∷◌, ◌++◌, length, map, take, append_assoc, get_or, set, replicate, is_some, Option, Some, None, refl, sym, ◌∙◌, ap, subst, arith, if◌then◌else◌, length-set, get_or-set_other, get_or-set_same}
 use Rattle.std.proofs.lemmas.Bool.{cases_lt}
 use Rattle.std.proofs.lemmas.Bool.Decides.{nat_tests}
-use Rattle.std.proofs.lemmas.List.{get_or-replicate, append-nil, append_assoc}
-use Rattle.std.proofs.Math.ListN.{get_or-map, length-map, length-replicate}
+use Rattle.std.proofs.lemmas.List.{get_or-replicate, length-map, take_more, take_all}
+use Rattle.std.proofs.Math.ListN.{get_or-map, length-replicate}
 use Rattle.std.specs.List.{find}
 use Rattle.std.specs.Option.{option_map, option_or, option_and_then}
 use Rattle.gvn_key.specs.Terms.{update_value}
 use Rattle.gvn_key.specs.declared.terms.Update as code
+use Rattle.gvn_model.specs.declared.items.Item as items
+use Rattle.gvn_model.specs.Items.{item_value}
 use Rattle.global_defs.specs.Entry.{Update, Item}
 use Rattle.journal_defs.specs.Sequence.{update_at, updates_from}
 use Rattle.journal_laws.proofs.Runs.{or_none}
@@ -109,10 +111,43 @@ from items (Some u ∷ os) i (suc k) many each =
 
 pub all_filled : (count : ℕ) (items : List Item) (slots : List (Option code.Update)) → AreSlots count items slots → updates_from items 0 count ≡ all_of (map (option_map update_value) slots)
 all_filled count items slots are =
-    from items (map (option_map update_value) slots) 0 count (length-map (option_map update_value) slots ∙ are.many)
+    from items (map (option_map update_value) slots) 0 count (length-map slots (option_map update_value) ∙ are.many)
     (λ j low. get_or-map (option_map update_value) slots j None ∙ are.each j low ∙ ap (update_at items) (omega arith))
 
 -- one slot more is gone through
 pub one_more : (us : List Update) (u : Update) (o all : Option (List Update)) → option_map (λ xs. us ++ xs) (option_map (λ xs. u ∷ xs) o) ≡ all → option_map (λ xs. (us ++ u ∷ []) ++ xs) o ≡ all
 one_more us u None all h = h
 one_more us u (Some xs) all h = ap Some (append_assoc us (u ∷ []) xs) ∙ h
+
+-- an item at this place, whose slot is not there or has an update
+pub kept_at : (count : ℕ) (items : List Item) (slots : List (Option code.Update)) (x : Item) (p : ℕ) → p ≡ x.position → AreSlots count items slots
+    → (p < length slots → is_some (get_or slots p None) ≡ true) → AreSlots count (items ++ x ∷ []) slots
+kept_at count items slots x p at are taken =
+    kept count items slots x are (λ low. subst (λ (q : ℕ). is_some (get_or slots q None) ≡ true) at (taken (omega (arith, are.many))))
+
+-- an item at this place, whose slot is empty
+pub filled_at : (count : ℕ) (items : List Item) (slots : List (Option code.Update)) (x : Item) (u : code.Update) (p : ℕ) → p ≡ x.position → AreSlots count items slots
+    → p < length slots → get_or slots p None ≡ None → update_value u ≡ x.update → AreSlots count (items ++ x ∷ []) (set slots p (Some u))
+filled_at count items slots x u p at are within empty is =
+    subst (λ (q : ℕ). AreSlots count (items ++ x ∷ []) (set slots q (Some u))) (sym at)
+    (filled count items slots x u are (omega arith) (subst (λ (q : ℕ). get_or slots q None ≡ None) at empty) is)
+
+map-push : (xs : List items.Item) (x : items.Item) → map item_value (xs ++ x ∷ []) ≡ map item_value xs ++ item_value x ∷ []
+map-push [] x = refl
+map-push (y ∷ xs) x = ap (λ (l : List Item). item_value y ∷ l) (map-push xs x)
+
+-- what one step puts
+abbrev pub Puts : Item → List (Option code.Update) → List (Option code.Update) → Type 0
+Puts x was now = (count : ℕ) (items : List Item) → AreSlots count items was → AreSlots count (items ++ x ∷ []) now
+
+pub put_more : (count : ℕ) (before : List Item) (added : List items.Item) (i : ℕ) (x : items.Item) (was now : List (Option code.Update)) → i < length added → x ≡ get_or added i x
+    → Puts (item_value x) was now → AreSlots count (before ++ map item_value (take i added)) was → AreSlots count (before ++ map item_value (take (i + 1) added)) now
+put_more count before added i x was now within is put are =
+    let more : map item_value (take (i + 1) added) ≡ map item_value (take i added) ++ item_value x ∷ [] =
+    ap (map item_value) (take_more added i x within ∙ ap (λ (y : items.Item). take i added ++ y ∷ []) (sym is)) ∙ map-push (take i added) x in
+    subst (λ (l : List Item). AreSlots count l now) (append_assoc before (map item_value (take i added)) (item_value x ∷ []) ∙ ap (λ (l : List Item). before ++ l) (sym more))
+    (put count (before ++ map item_value (take i added)) are)
+
+pub put_whole : (count : ℕ) (before : List Item) (added : List items.Item) (i : ℕ) (now : List (Option code.Update)) → length added ≤ i
+    → AreSlots count (before ++ map item_value (take i added)) now → AreSlots count (before ++ map item_value added) now
+put_whole count before added i now past are = subst (λ (l : List items.Item). AreSlots count (before ++ map item_value l) now) (take_all i added past) are

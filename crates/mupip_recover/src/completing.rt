@@ -4,12 +4,11 @@ ghost use Rattle.std.specs.List.{list_all, flat_map};
 ghost use Rattle.std.specs.Option.{option_map};
 ghost use Rattle.global_defs.specs.Entry as defs;
 ghost use Rattle.journal_defs.specs.Sequence.{REGIONS, in_mask, is_like, items_in, updates_by, entry_among};
-ghost use Rattle.gvn_model.specs.Entries.{transaction_value};
 ghost use Rattle.gvn_model.specs.Items.{item_value};
 ghost use Rattle.mupip_recover.specs.Parts.{part_value, items_at};
 ghost use Rattle.mupip_recover.specs.Table.{part_at};
 ghost use Rattle.mupip_recover.specs.Slots.{AreSlots};
-ghost use Rattle.mupip_recover.specs.Entries.{entry_in};
+ghost use Rattle.mupip_recover.specs.Entries.{entry_in, stamped};
 
 use super::part;
 use super::part::Part;
@@ -113,7 +112,7 @@ fn transaction_by(
     place: usize,
     region: u8,
 ) -> Result<Option<Transaction>, NoMemory>
-    ensures { IfOk result (λ found. (stamp : defs.Stamp) → entry_in (part_at table.now place) stamp region ≡ option_map (λ t. record { stamp = stamp; transaction = transaction_value t }) found) }
+    ensures { IfOk result (λ found. (stamp : defs.Stamp) → entry_in (part_at table.now place) stamp region ≡ option_map (stamped stamp) found) }
 {
     let Some(head) = table.part(place, region) else {
         return Ok(None);
@@ -133,7 +132,7 @@ pub fn transaction_at(
     table: &Table,
     place: usize,
 ) -> Result<Option<Transaction>, NoMemory>
-    ensures { IfOk result (λ found. (stamp : defs.Stamp) → entry_among (part_at table.now place) stamp REGIONS ≡ option_map (λ t. record { stamp = stamp; transaction = transaction_value t }) found) }
+    ensures { IfOk result (λ found. (stamp : defs.Stamp) → entry_among (part_at table.now place) stamp REGIONS ≡ option_map (stamped stamp) found) }
 {
     for region in 0..part::REGIONS {
         if let Some(found) = transaction_by(alloc, table, place, region)? {

@@ -1,5 +1,6 @@
 //! The cuts of an instance file, searched by generation.
 ghost use Rattle.std.specs.Prelude.{◌≡◌, List, IfOk};
+ghost use Rattle.std.specs.List.{filter_map};
 ghost use Rattle.journal_defs.specs.Instance as instances;
 ghost use Rattle.journal_defs.specs.Instance.{CutsRise};
 ghost use Rattle.journal_defs.specs.Surviving.{survives};
@@ -40,6 +41,20 @@ fn generation_of(found: &InstanceRecord) -> Option<u64>
     }
 }
 
+/// How many entries each CUT of these records leaves.
+fn lengths_of(alloc: Global, records: &[InstanceRecord]) -> Result<Vec<u64>, NoMemory>
+    ensures { IfOk result (λ made. made.items ≡ filter_map (λ r. cut_length (record_value r)) records.now) }
+{
+    Ok(records.iter().filter_map(length_of).collect(alloc)?)
+}
+
+/// The generation that begins with each CUT of these records.
+fn generations_of(alloc: Global, records: &[InstanceRecord]) -> Result<Vec<u64>, NoMemory>
+    ensures { IfOk result (λ made. made.items ≡ filter_map (λ r. cut_generation (record_value r)) records.now) }
+{
+    Ok(records.iter().filter_map(generation_of).collect(alloc)?)
+}
+
 impl Cuts {
     /// The cuts among these records.
     pub fn of(alloc: Global, instance: &InstanceRecords) -> Result<Cuts, NoMemory>
@@ -47,10 +62,9 @@ impl Cuts {
         ensures { IfOk result (AreCuts instance.now) }
     {
         let records = instance.as_slice();
-        let generations = records.iter().filter_map(generation_of).collect(alloc)?;
-        let lengths: Vec<u64> = records.iter().filter_map(length_of).collect(alloc)?;
+        let lengths = lengths_of(alloc, records)?;
         Ok(Cuts {
-            generations,
+            generations: generations_of(alloc, records)?,
             lengths: minima_of(alloc, &lengths)?,
         })
     }

@@ -86,7 +86,9 @@ pub fn recover(
     ensures numbered { IfOk result (λ made. made ≡ enumerate_from 1 (map (λ e. e.1) made)) }
 {
     let cuts = Cuts::of(alloc, instance)?;
-    let places = count_all(&journals).ok_or(NoMemory)?;
+    let Some(places) = count_all(&journals) else {
+        return Err(NoMemory);
+    };
     let table = Table::of(alloc, &cuts, places, journals)?;
     let reigns = history.as_slice();
     let starts = starts_of(alloc, reigns)?;

@@ -11,12 +11,19 @@ use gvn_key::NoMemory;
 use gvn_model::{Reign, Stamp};
 use std::alloc::Global;
 
+/// Where reigns start.
+fn numbers_of(alloc: Global, reigns: &[Reign]) -> Result<Vec<u64>, NoMemory>
+    ensures { IfOk result (λ made. made.items ≡ map (λ r. r.start) reigns.now) }
+{
+    Ok(reigns.iter().map(|reign| reign.start).collect(alloc)?)
+}
+
 /// For each reign the least start of that and the later ones.
 pub fn starts_of(alloc: Global, reigns: &[Reign]) -> Result<Vec<u64>, NoMemory>
     ensures { IfOk result (λ made. AreStarts (map reign_value reigns.now) made.items) }
 {
-    let starts: Vec<u64> = reigns.iter().map(|reign| reign.start).collect(alloc)?;
-    minima_of(alloc, &starts)
+    let numbers = numbers_of(alloc, reigns)?;
+    minima_of(alloc, &numbers)
 }
 
 /// The stamp of the last of the reigns, with these starts, that has begun by an entry.
