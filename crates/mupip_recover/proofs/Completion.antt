@@ -1,10 +1,10 @@
 -- Complete entries.
-use Rattle.std.proofs.Common.{◌≡◌, ℕ, ◌+◌, ◌<◌, ◌≤◌, ◌==◌, ◌||◌, not, Bool, true, false, List, [], ◌∷◌, length, drop, Option, Some, None, refl, sym, ◌∙◌, ap, arith, if◌then◌else◌}
+use Rattle.std.proofs.Common.{◌≡◌, ℕ, ◌+◌, ◌<◌, ◌≤◌, ◌==◌, ◌||◌, not, Bool, true, false, length, drop, Option, Some, None, refl, ◌∙◌, ap, arith, if◌then◌else◌}
 use Rattle.std.specs.List.{list_all}
 use Rattle.std.specs.Option.{option_map, option_or, option_and_then}
-use Rattle.global_defs.specs.Entry.{Update, Stamp, Entry}
+use Rattle.global_defs.specs.Entry.{Stamp, Entry}
 use Rattle.global_defs.specs.Serial.{entry_of}
-use Rattle.journal_defs.specs.Journal.{Part, Item}
+use Rattle.journal_defs.specs.Journal.{Part}
 use Rattle.journal_defs.specs.Sequence.{REGIONS, in_mask, is_like, items_in, updates_from, updates_of, updates_by, entry_by, entry_among}
 use Rattle.mupip_recover.specs.Entries.{entry_in}
 use Rattle.mupip_recover.proofs.RegionLists.{from_region}

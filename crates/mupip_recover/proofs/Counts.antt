@@ -1,12 +1,11 @@
 -- How many parts there are: each number up to some one needs a part of its own.
-use Rattle.std.proofs.Common.{◌≡◌, ◌≢◌, inl, inr, ◌⊎◌, ℕ, zero, suc, ◌+◌, ◌≤◌, ◌<◌, ◌==◌, ◌&&◌, ◌||◌, Bool, true, false, List, [], ◌∷◌, ◌++◌, length, map, get_or, count_by, sum_by, Option, Some, None, refl, sym, ◌∙◌, ap, subst, arith, if◌then◌else◌, length-append}
+use Rattle.std.proofs.Common.{◌≡◌, ◌≢◌, ℕ, zero, suc, ◌+◌, ◌≤◌, ◌<◌, ◌==◌, ◌||◌, Bool, true, false, List, [], ◌∷◌, ◌++◌, length, map, get_or, count_by, sum_by, Option, None, refl, sym, ◌∙◌, ap, arith, if◌then◌else◌, length-append}
 use Rattle.std.proofs.lemmas.Bool.Decides.{nat_tests}
 use Rattle.std.proofs.lemmas.List.Sums.{sum_by-cons}
 use Rattle.std.specs.List.{flat_map}
 use Rattle.std.specs.Option.{option_or}
 use Rattle.journal_defs.specs.Journal.{JournalRecord, Pini, Epoch, Pblk, Tcom, Part}
 use Rattle.journal_defs.specs.Instance.{InstanceRecord}
-use Rattle.journal_defs.specs.Surviving.{survives}
 use Rattle.journal_defs.specs.Sequence.{Placed, part_in, part_of}
 use Rattle.mupip_recover.specs.Parts.{is_part}
 

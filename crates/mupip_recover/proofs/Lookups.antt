@@ -1,5 +1,5 @@
 -- What a look-up by place gives.
-use Rattle.std.proofs.Common.{◌≡◌, ℕ, suc, ◌≤◌, nat_lt, length, List, get_or, slice_get, Option, Some, None, true, false, refl, sym, ◌∙◌, ap, arith, Bor}
+use Rattle.std.proofs.Common.{◌≡◌, ℕ, ◌≤◌, length, List, slice_get, Option, Some, None, refl, sym, arith, Bor}
 use Rattle.std.proofs.lemmas.Bool.Decides.{nat_tests}
 use Rattle.std.proofs.lemmas.Option.{slice_get_past, slice_get_read}
 use Rattle.std.specs.Option.{option_map}

@@ -1,21 +1,20 @@
 -- The sequence that a table leads to.
-use Rattle.std.proofs.Common.{◌≡◌, inl, inr, ◌⊎◌, ℕ, zero, suc, ◌+◌, ◌-◌, ◌≤◌, ◌<◌, Bool, true, false, List, [], ◌∷◌, ◌++◌, length, map, get_or, count_by, sum_by, Option, Some, None, refl, sym, ◌∙◌, ap, subst, arith, length-append}
+use Rattle.std.proofs.Common.{◌≡◌, inl, inr, ℕ, suc, ◌+◌, ◌-◌, ◌≤◌, ◌<◌, Bool, true, false, List, [], ◌∷◌, ◌++◌, length, map, count_by, sum_by, Option, Some, None, refl, sym, ◌∙◌, ap, subst, arith, length-append}
 use Rattle.std.proofs.Math.Path.{fun_ext}
 use Rattle.std.proofs.Math.ListN.{get_or-map}
 use Rattle.std.proofs.lemmas.Bool.{cases_lt}
 use Rattle.std.proofs.lemmas.Simd.{map-map}
 use Rattle.std.proofs.lemmas.List.{length-map, map-append}
 use Rattle.std.specs.List.{enumerate_from, flat_map}
-use Rattle.std.specs.Option.{option_map, option_and_then}
-use Rattle.global_defs.specs.Entry as defs
+use Rattle.std.specs.Option.{option_and_then}
 use Rattle.global_defs.specs.Entry.{Entry, Sequence, Reign, Stamp}
 use Rattle.global_defs.specs.Prefix.{stamp_at}
 use Rattle.journal_defs.specs.Journal.{Part}
 use Rattle.journal_defs.specs.Instance.{InstanceRecord}
 use Rattle.journal_defs.specs.Surviving.{reigns}
-use Rattle.journal_defs.specs.Sequence.{Placed, Records, REGIONS, part_of, parts, entry_among, entry_with, entry, EntriesFrom, IsSequence}
+use Rattle.journal_defs.specs.Sequence.{Records, REGIONS, part_of, parts, entry_among, entry_with, entry, EntriesFrom, IsSequence}
 use Rattle.journal_laws.proofs.Runs.{entry_none}
-use Rattle.mupip_recover.specs.Site.{journal_of, site_records}
+use Rattle.mupip_recover.specs.Site.{site_records}
 use Rattle.mupip_recover.specs.Table.{part_at}
 use Rattle.mupip_recover.specs.declared.table.Table.{Table}
 use Rattle.mupip_recover.specs.Entries.{entry_at, AreFirst}
@@ -48,8 +47,7 @@ pub grown : (t : Table) (rs : List Reign) (place : ℕ) (was now : List (ℕ × 
     → EntriesFrom (entry_at t rs) 1 (map (λ (x : ℕ × Entry). x.1) now) × (length now ≡ place + 1) × (now ≡ enumerate_from 1 (map (λ (x : ℕ × Entry). x.1) now))
 grown t rs place was now number e each long numbered at next is =
     let more : map (λ (x : ℕ × Entry). x.1) now ≡ map (λ (x : ℕ × Entry). x.1) was ++ e ∷ [] = ap (map (λ (x : ℕ × Entry). x.1)) is ∙ map-append (λ (x : ℕ × Entry). x.1) was ((number, e) ∷ []) in
-    let many : length (map (λ (x : ℕ × Entry). x.1) was) ≡ place = length-map was (λ (x : ℕ × Entry). x.1) ∙ long in
-    (
+    let many : length (map (λ (x : ℕ × Entry). x.1) was) ≡ place = length-map was (λ (x : ℕ × Entry). x.1) ∙ long in (
       subst (EntriesFrom (entry_at t rs) 1) (sym more) (more_run (entry_at t rs) 1 (place + 1) (map (λ (x : ℕ × Entry). x.1) was) e (omega arith) each (sym next)),
       ap length is ∙ length-append was ((number, e) ∷ []) ∙ ap (λ (k : ℕ). k + 1) long,
       is ∙ ap (λ (l : List (ℕ × Entry)). l ++ (number, e) ∷ []) numbered

@@ -1,5 +1,5 @@
 -- The least of what is still to come.
-use Rattle.std.specs.Prelude.{ℕ, zero, suc, min, nat_le, List, [], ◌∷◌, Option, Some, None, if◌then◌else◌}
+use Rattle.std.specs.Prelude.{ℕ, suc, min, nat_le, List, [], ◌∷◌, Option, Some, None, if◌then◌else◌}
 
 -- the least of a value and of those behind, of which this is the least
 abbrev pub lesser : ℕ → Option ℕ → ℕ

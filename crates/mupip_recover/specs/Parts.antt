@@ -1,8 +1,8 @@
 -- What parts of the code stand for.
-use Rattle.std.specs.Prelude.{ℕ, ◌==◌, Bool, true, false, Option, Some, None, if◌then◌else◌, List, [], ◌∷◌}
+use Rattle.std.specs.Prelude.{ℕ, ◌==◌, Bool, true, false, Option, Some, None, if◌then◌else◌, List, []}
 use Rattle.journal_defs.specs.Journal as journal
 use Rattle.journal_defs.specs.Journal.{JournalRecord, Pini, Epoch, Pblk, Tcom}
-use Rattle.journal_defs.specs.Sequence.{Placed, in_mask, items_of}
+use Rattle.journal_defs.specs.Sequence.{in_mask, items_of}
 use Rattle.gvn_model.specs.Entries.{origin_value}
 use Rattle.mupip_recover.specs.declared.part.Part.{Part}
 

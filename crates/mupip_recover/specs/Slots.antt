@@ -1,7 +1,6 @@
 -- Updates by position.
 use Rattle.std.specs.Prelude.{◌≡◌, ℕ, ◌<◌, List, [], ◌∷◌, length, get_or, Option, Some, None}
 use Rattle.std.specs.Option.{option_map}
-use Rattle.global_defs.specs.Entry as defs
 use Rattle.global_defs.specs.Entry.{Item}
 use Rattle.journal_defs.specs.Sequence.{update_at}
 use Rattle.gvn_key.specs.Terms.{update_value}

@@ -1,5 +1,5 @@
 -- Parts by number and region.
-use Rattle.std.specs.Prelude.{◌≡◌, ℕ, ◌+◌, ◌<◌, List, [], map, length, get_or, Option, None}
+use Rattle.std.specs.Prelude.{◌≡◌, ℕ, ◌+◌, ◌<◌, List, map, length, get_or, Option, None}
 use Rattle.std.specs.Option.{option_map}
 use Rattle.journal_defs.specs.Journal as journal
 use Rattle.journal_defs.specs.Instance.{InstanceRecord}

@@ -12,6 +12,8 @@ mod slots;
 mod stamps;
 mod surviving;
 mod table;
+#[cfg(test)]
+mod tests;
 
 pub use recovering::recover;
 pub use surviving::survives;

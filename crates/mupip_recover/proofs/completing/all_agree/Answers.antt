@@ -1,4 +1,4 @@
-use Rattle.std.proofs.Common.{◌≡◌, ℕ, Bool, not, ◌||◌, sym, ◌∙◌, arith}
+use Rattle.std.proofs.Common.{ℕ, Bool, not, ◌||◌, sym, ◌∙◌, arith}
 use Rattle.journal_defs.specs.Sequence.{in_mask, is_like}
 use Rattle.mupip_recover.specs.Parts.{part_value}
 use Rattle.mupip_recover.specs.Table.{part_at}

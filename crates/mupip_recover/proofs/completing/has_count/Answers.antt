@@ -1,7 +1,6 @@
-use Rattle.std.proofs.Common.{◌≡◌, ℕ, List, length, sym, ◌∙◌, ap, arith}
+use Rattle.std.proofs.Common.{length, sym, ◌∙◌, ap, arith}
 use Rattle.std.proofs.lemmas.List.{length-map}
 use Rattle.gvn_model.specs.Items.{item_value}
-use Rattle.journal_defs.specs.Journal.{Item}
 use Rattle.mupip_recover.specs.Parts.{items_at}
 use Rattle.mupip_recover.specs.Table.{part_at}
 use Rattle.mupip_recover.proofs.RegionLists.{count_more, count_over}

@@ -1,13 +1,11 @@
 use Rattle.std.proofs.Common.{◌≡◌, ◌+◌, List, ◌++◌, sym, ◌∙◌, ap, subst, arith, take}
 use Rattle.std.specs.List.{flat_map}
-use Rattle.gvn_model.specs.Items.{item_value}
 use Rattle.journal_defs.specs.Journal.{Item}
 use Rattle.journal_defs.specs.Sequence.{REGIONS}
 use Rattle.mupip_recover.specs.Parts.{items_at}
 use Rattle.mupip_recover.specs.Table.{part_at}
 use Rattle.mupip_recover.specs.Slots.{AreSlots}
 use Rattle.mupip_recover.proofs.RegionLists.{flat_more}
-use Rattle.mupip_recover.proofs.SlotLaws.{empty}
 use Rattle.mupip_recover.proofs.completing.slots_of.Goals as goal
 
 pub loop-region-preserved : goal.loop-region-preserved

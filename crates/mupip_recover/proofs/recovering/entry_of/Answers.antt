@@ -1,4 +1,4 @@
-use Rattle.std.proofs.Common.{◌≡◌, Some, None, map, sym, ◌∙◌, ap}
+use Rattle.std.proofs.Common.{Some, map, sym, ◌∙◌, ap}
 use Rattle.std.specs.Option.{option_map}
 use Rattle.gvn_model.specs.Reigns.{stamp_value, reign_value}
 use Rattle.mupip_recover.specs.Entries.{stamped}

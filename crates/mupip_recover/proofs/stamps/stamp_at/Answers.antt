@@ -1,10 +1,8 @@
-use Rattle.std.proofs.Common.{rules, ◌≡◌, ℕ, suc, ◌-◌, ◌≤◌, ◌<◌, map, sym, ◌∙◌, ap, subst, arith, Some, None}
-use Rattle.std.proofs.lemmas.Grind.{common_steps}
+use Rattle.std.proofs.Common.{rules, ◌≡◌, ◌<◌, map, sym, ◌∙◌, ap, subst, arith, None}
 use Rattle.std.specs.Option.{option_map}
 use Rattle.std.specs.List.Sorted.{IsNonDecreasing}
 use Rattle.gvn_model.specs.Reigns.{stamp_value, reign_value}
 use Rattle.mupip_recover.proofs.Least.{in_order, minima_less}
-use Rattle.mupip_recover.proofs.Lookups.{item-slice_get}
 use Rattle.mupip_recover.proofs.StampLaws.{is_last, is_found}
 use Rattle.mupip_recover.proofs.stamps.stamp_at.Goals as goal
 

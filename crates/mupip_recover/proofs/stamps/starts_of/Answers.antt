@@ -1,4 +1,4 @@
-use Rattle.std.proofs.Common.{◌≡◌, List, ℕ, map, IfOk, sym, ◌∙◌, ap, subst}
+use Rattle.std.proofs.Common.{◌≡◌, List, ℕ, map, IfOk, sym, ◌∙◌, subst}
 use Rattle.std.proofs.lemmas.Simd.{map-map}
 use Rattle.gvn_model.specs.Reigns.{reign_value}
 use Rattle.mupip_recover.specs.Minima.{minima}

@@ -1,4 +1,4 @@
-use Rattle.std.proofs.Common.{◌≡◌, ℕ, Some, None, true, false, sym, ◌∙◌, ap, subst}
+use Rattle.std.proofs.Common.{sym, ◌∙◌, ap}
 use Rattle.journal_defs.specs.Sequence.{part_in}
 use Rattle.jnl_record.specs.Values.{record_value}
 use Rattle.mupip_recover.proofs.Columns.{kept_part, cut_part}

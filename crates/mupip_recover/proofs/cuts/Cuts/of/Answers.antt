@@ -1,4 +1,4 @@
-use Rattle.std.proofs.Common.{◌≡◌, sym, ◌∙◌, ap}
+use Rattle.std.proofs.Common.{◌∙◌, ap}
 use Rattle.std.specs.List.{filter_map}
 use Rattle.instance_file.specs.Values.{record_value}
 use Rattle.mupip_recover.specs.Minima.{minima}

@@ -1,12 +1,8 @@
-use Rattle.std.proofs.Common.{◌≡◌, ◌≤◌, length, refl, sym, ◌∙◌, ap, subst, slice_get, Some, None, Bool, true, false, arith}
-use Rattle.std.proofs.lemmas.Bool.Decides.{nat_tests}
-use Rattle.std.proofs.lemmas.Option.{slice_get_past, slice_get-get_or}
-use Rattle.std.proofs.lemmas.Grind.{common_steps}
+use Rattle.std.proofs.Common.{sym, ◌∙◌, ap, subst, Some, None}
 use Rattle.std.specs.List.{filter_map}
 use Rattle.std.specs.Option.{option_map}
 use Rattle.std.specs.List.Sorted.{IsNonDecreasing}
-use Rattle.mupip_recover.specs.Minima.{minima, up_to}
-use Rattle.mupip_recover.specs.Cuts.{cut_length, cut_generation}
+use Rattle.mupip_recover.specs.Cuts.{cut_generation}
 use Rattle.mupip_recover.proofs.Least.{in_order}
 use Rattle.mupip_recover.proofs.Lookups.{item-slice_get}
 use Rattle.mupip_recover.proofs.CutLaws.{cuts_less, spared_by}
