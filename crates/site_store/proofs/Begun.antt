@@ -193,7 +193,7 @@ no_entries a b g n [] [] none h = tt
 no_entries a b g n (p ∷ ps) [] none h = absurd h
 no_entries a b g n ps (e ∷ es) none h = absurd (cc none)
 
-told_of : (v : View) (c : Contents) (n : ℕ) (s : OpenSite) → Keeps v c n s → IsSome v.content
+pub told_of : (v : View) (c : Contents) (n : ℕ) (s : OpenSite) → Keeps v c n s → IsSome v.content
 told_of v c n s k = among v.content k.reads
   where
     among : (o : Option Files) → IsSomeAnd o (λ files. IsSite files (with_sequence c (take n c.sequence))) → IsSome o

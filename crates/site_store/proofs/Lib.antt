@@ -3,3 +3,7 @@ pub mod Images
 pub mod Frames
 pub mod Remembered
 pub mod Begun
+pub mod Items
+pub mod Nodes
+pub mod Parts
+pub mod Committed
