@@ -40,6 +40,7 @@ use Rattle.world_defs.specs.Ties.{IsSite}
 use Rattle.site_store.specs.declared.site.OpenSite.{OpenSite}
 use Rattle.site_store.specs.Site.{tagged, Remembers, IsReady, Keeps, IsOpen, HasReign}
 use Rattle.site_store.specs.Reigning.{HasNoReignLeft, HasReignLeft, IsNextReign}
+use Rattle.site_store.proofs.Standing.{images_stand}
 use Rattle.site_store.proofs.Images.{same_bodies, one_instance_body, same_image, reign_image, generation_kept, AreOf, are_of, site_of}
 use Rattle.site_store.proofs.Remembered.{remembered_length}
 
@@ -317,4 +318,4 @@ stands_begun v w c lawful run = reads_of w (λ f. IsSite f c ⊎ IsSite f (begun
 
 -- before it
 pub quiet : (v : View) (c : Contents) (old : OpenSite) → IsOpen v true c (length c.sequence) old → AtEachMoment v v (λ f. IsSite f c ⊎ IsSite f (begun c))
-quiet v c old is = started v (λ f. IsSite f c ⊎ IsSite f (begun c)) (λ f now. inl (site_now v c old (is.kept refl) f now))
+quiet v c old is = started v (λ f. IsSite f c ⊎ IsSite f (begun c)) (λ f now. inl (images_stand v c old is f now))

@@ -1,7 +1,7 @@
 -- An entry is appended.
-use Rattle.std.proofs.Common.{◌≡◌, ◌≢◌, inl, inr, ◌≤◌, ◌<◌, ◌+◌, ◌-◌, ℕ, zero, suc, Bool, true, List, [], ◌∷◌, ◌++◌, length, map, take, drop, Some, None, refl, sym, ◌∙◌, ap, subst, arith, append-nil, length-append}
-use Rattle.std.specs.Prelude.{Option, IfSome, IsSome, IsSomeAnd, fold}
-use Rattle.std.specs.List.{AllByRecursion, AllZip, flat_map}
+use Rattle.std.proofs.Common.{◌≡◌, inl, inr, ◌≤◌, ◌+◌, ◌-◌, ℕ, zero, suc, Bool, true, List, [], ◌∷◌, ◌++◌, length, take, drop, Some, None, refl, sym, ◌∙◌, ap, subst, arith, append-nil, length-append}
+use Rattle.std.specs.Prelude.{Option, IfSome, IsSomeAnd, fold}
+use Rattle.std.specs.List.{flat_map}
 use Rattle.std.specs.FinMap as globals
 use Rattle.std.proofs.lemmas.Bool.{cases_lt}
 use Rattle.std.proofs.lemmas.List.{take-append-le, drop-append-le, length-take-le, length-drop}
@@ -11,7 +11,7 @@ use Rattle.std.proofs.Math.Seq.{take-append-add}
 use Rattle.disk_defs.specs.Disk.{Files, View, Image, IsLawful, AtEachMoment}
 use Rattle.disk_defs.specs.Frames.{Only, OnlyOn, SameOutside, OthersStay}
 use Rattle.disk_defs.proofs.Moments.{weaker, then_more, holds_now}
-use Rattle.global_defs.specs.Entry.{Update, Entry, Sequence, Transaction, Stamp, apply, state}
+use Rattle.global_defs.specs.Entry.{Update, Entry, Sequence, Transaction, apply, state}
 use Rattle.global_defs.specs.Evaluation.{MOST_NODES}
 use Rattle.global_defs.specs.Fields.{IsTransaction}
 use Rattle.global_defs.specs.Prefix.{stamp_at}
@@ -19,11 +19,10 @@ use Rattle.gvn_model.specs.declared.entry.Transaction as code
 use Rattle.gvn_model.specs.declared.reign.Stamp as code_stamp
 use Rattle.gvn_model.specs.Entries.{transaction_value, entry_value}
 use Rattle.gvn_model.specs.Reigns.{stamp_value}
-use Rattle.journal_defs.specs.Numbers.{INSTANCE, journal_file, database_file}
+use Rattle.journal_defs.specs.Numbers.{journal_file}
 use Rattle.journal_defs.specs.Journal.{JournalRecord, Part, IsJournalBody}
 use Rattle.journal_defs.specs.Instance.{InstanceRecord, generation, regions}
 use Rattle.journal_defs.specs.Surviving.{reigns}
-use Rattle.journal_defs.specs.Sequence.{Placed, Records}
 use Rattle.journal_defs.specs.Stands.{Holds}
 use Rattle.journal_defs.specs.Growth.{NonePast, AreEntries, tcoms}
 use Rattle.journal_defs.specs.Fit.{IsSoundImage, HasFewNodes}
@@ -39,7 +38,7 @@ use Rattle.world_defs.specs.Rows.{with_sequence}
 use Rattle.world_defs.specs.Ties.{IsSite}
 use Rattle.site_store.specs.declared.site.OpenSite.{OpenSite}
 use Rattle.site_store.specs.Site.{Remembers, IsReady, Keeps, IsOpen, HasReign, HasRoomFor, with_entry}
-use Rattle.site_store.specs.Committing.{recorded, parts_of, IsNextEntry, Enters, IsSameSite}
+use Rattle.site_store.specs.Committing.{recorded, parts_of, Enters, IsSameSite}
 use Rattle.site_store.proofs.Images.{same_bodies, one_journal_body, same_image, AreOf, are_of, site_of}
 use Rattle.site_store.proofs.Frames as frames
 use Rattle.site_store.proofs.Remembered.{remembered_length, entries_more, globals_more}

@@ -7,3 +7,5 @@ pub mod Items
 pub mod Nodes
 pub mod Parts
 pub mod Committed
+pub mod Waiting
+pub mod Hardened

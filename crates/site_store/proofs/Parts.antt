@@ -1,7 +1,7 @@
 -- The one part of an entry of a site of one region.
-use Rattle.std.proofs.Common.{◌≡◌, ◌≢◌, ◌≤◌, ◌<◌, ◌+◌, ◌==◌, ℕ, zero, suc, Bool, true, false, List, [], ◌∷◌, ◌++◌, length, Some, None, refl, sym, ◌∙◌, ap, subst, arith}
-use Rattle.std.specs.Prelude.{Option, nat_lt, nat_le, filter, if◌then◌else◌, ◌||◌, max}
-use Rattle.std.specs.List.{AllByRecursion, filter_map, list_all}
+use Rattle.std.proofs.Common.{◌≡◌, ◌≢◌, ◌≤◌, ◌<◌, ◌+◌, ◌==◌, ℕ, Bool, true, false, List, [], ◌∷◌, ◌++◌, length, Some, None, refl, ◌∙◌, ap, subst, arith}
+use Rattle.std.specs.Prelude.{Option, nat_lt, nat_le, filter}
+use Rattle.std.specs.List.{AllByRecursion, filter_map}
 use Rattle.std.specs.Option.{option_map}
 use Rattle.std.proofs.lemmas.Bool.Decides.{nat_tests}
 use Rattle.std.proofs.lemmas.List.Elements.{filter_map-append}
@@ -9,7 +9,7 @@ use Rattle.global_defs.specs.Entry.{Update, Item, Transaction, Stamp, Entry, Seq
 use Rattle.global_defs.specs.Prefix.{stamp_at}
 use Rattle.journal_defs.specs.Journal.{JournalRecord, Tcom, Part}
 use Rattle.journal_defs.specs.Instance.{InstanceRecord, Create, Reigned, Cut, Map, Mode, generation}
-use Rattle.journal_defs.specs.Surviving.{survives, spares, reigns}
+use Rattle.journal_defs.specs.Surviving.{survives, reigns}
 use Rattle.journal_defs.specs.Sequence.{REGIONS, entry_with}
 use Rattle.journal_defs.specs.Growth.{AreNumbered, AreTidy, AreEntries, tcoms}
 use Rattle.journal_defs.specs.Split.{numbered, items_for, with_items, mask_with, mask_of, IsSplit}

@@ -125,7 +125,17 @@ impl OpenSite {
         ensures later { (D.disk disk.old).faults ≤ (D.disk disk.new).faults }
         ensures count { (fault : ℕ) → IsErrOf result (SiteError.Failed fault) → fault ≡ (D.disk disk.new).faults }
         ensures cause { (fault : ℕ) → IsErrOf result (SiteError.Failed fault) → Rose (D.disk disk.old).faults (D.disk disk.new).faults }
+        ensures failed { OnErr result ((fault : ℕ) × IsErrOf result (SiteError.Failed fault)) }
+        ensures no_memory { IsErrOf result SiteError.NoMemory → ⊥ }
     {
-        Err(SiteError::NoMemory)
+        match self.journal.harden(disk) {
+            Ok(()) => {
+                self.hardened = self.entries.len() as u64;
+                Ok(self.hardened)
+            }
+            Err(_) => Err(SiteError::Failed {
+                fault: disk.faults(),
+            }),
+        }
     }
 }

@@ -1,4 +1,4 @@
-use Rattle.std.proofs.Common.{◌≡◌, ◌<◌, length, arith, ap, ◌∙◌}
+use Rattle.std.proofs.Common.{arith, ap, ◌∙◌}
 use Rattle.gvn_key.specs.Terms.{update_value}
 use Rattle.global_defs.specs.Entry.{Globals, apply}
 use Rattle.site_store.proofs.Nodes.{all_fit, one_too_many}

@@ -1,5 +1,4 @@
-use Rattle.std.proofs.Common.{◌≡◌, refl, sym, ◌∙◌, ap}
-use Rattle.gvn_model.specs.Entries.{transaction_value}
+use Rattle.std.proofs.Common.{refl}
 use Rattle.site_store.proofs.Committed as committed
 use Rattle.site_store.proofs.site.OpenSite.commit.Goals as goal
 
