@@ -4,9 +4,14 @@
 //! before its reply is written; all others have their reply at once.
 #![tactic(auto)]
 
+mod deciding;
+mod entering;
+mod error;
+mod fitting;
 mod reign;
 mod replying;
 mod running;
 
+pub use error::DecideError;
 pub use reign::Reign;
 pub use running::RunError;
