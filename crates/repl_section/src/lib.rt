@@ -11,6 +11,8 @@ mod fitting;
 mod reign;
 mod replying;
 mod running;
+#[cfg(test)]
+mod tests;
 
 pub use error::DecideError;
 pub use reign::Reign;
