@@ -1,6 +1,7 @@
 -- How many parts there are: each number up to some one needs a part of its own.
 use Rattle.std.proofs.Common.{◌≡◌, ◌≢◌, ℕ, zero, suc, ◌+◌, ◌≤◌, ◌<◌, ◌==◌, ◌||◌, Bool, true, false, List, [], ◌∷◌, ◌++◌, length, map, get_or, count_by, sum_by, Option, None, refl, sym, ◌∙◌, ap, arith, if◌then◌else◌, length-append}
 use Rattle.std.proofs.lemmas.Bool.Decides.{nat_tests}
+use Rattle.std.proofs.Math.Bool.{or_assoc}
 use Rattle.std.proofs.lemmas.List.Sums.{sum_by-cons}
 use Rattle.std.specs.List.{flat_map}
 use Rattle.std.specs.Option.{option_or}
@@ -68,13 +69,9 @@ neither false false h = (refl, refl)
 neither true b h = cc
 neither false true h = cc
 
-or_more : (a b c : Bool) → ((a || b) || c) ≡ (a || (b || c))
-or_more true b c = refl
-or_more false b c = refl
-
 has-append : (n : ℕ) (xs ys : List ℕ) → has n (xs ++ ys) ≡ (has n xs || has n ys)
 has-append n [] ys = refl
-has-append n (x ∷ xs) ys = ap (λ (b : Bool). (x == n) || b) (has-append n xs ys) ∙ sym (or_more (x == n) (has n xs) (has n ys))
+has-append n (x ∷ xs) ys = ap (λ (b : Bool). (x == n) || b) (has-append n xs ys) ∙ sym (or_assoc (x == n) (has n xs) (has n ys))
 
 no_part : (rs : List InstanceRecord) (n g : ℕ) (what : JournalRecord) → has n (number_in what) ≡ false → part_in rs n g what ≡ None
 no_part rs n g (Tcom p) h =

@@ -1,6 +1,5 @@
 -- The least of what is still to come.
-use Rattle.std.proofs.Common.{◌≡◌, ℕ, zero, suc, ◌≤◌, ◌<◌, nat_le, true, false, List, [], ◌∷◌, ◌++◌, length, get_or, reverse, Some, refl, ◌∙◌, ap, arith}
-use Rattle.std.proofs.lemmas.List.{reverse-append}
+use Rattle.std.proofs.Common.{◌≡◌, ℕ, zero, suc, ◌≤◌, ◌<◌, nat_le, true, false, List, [], ◌∷◌, length, get_or, refl, ap, arith}
 use Rattle.std.specs.List.Sorted.{IsNonDecreasing}
 use Rattle.mupip_recover.specs.Minima.{lesser, first_of, minima, up_to}
 
@@ -28,14 +27,6 @@ lesser_less x (m ∷ ms) h = (omega arith, h.1)
 pub minima_less : (xs : List ℕ) → NoneLess 0 (minima xs)
 minima_less [] = tt
 minima_less (x ∷ xs) = (omega arith, lesser_less x (minima xs) (minima_less xs))
-
-pub minima-push : (xs : List ℕ) (x : ℕ) → reverse (minima (reverse (xs ++ x ∷ []))) ≡ reverse (minima (reverse xs)) ++ lesser x (first_of (minima (reverse xs))) ∷ []
-minima-push xs x =
-    ap (λ (l : List ℕ). reverse (minima l)) (reverse-append xs (x ∷ []))
-    ∙ reverse-append (lesser x (first_of (minima (reverse xs))) ∷ []) (minima (reverse xs))
-
-pub first-push : (xs : List ℕ) (x : ℕ) → first_of (minima (reverse (xs ++ x ∷ []))) ≡ Some (lesser x (first_of (minima (reverse xs))))
-first-push xs x = ap (λ (l : List ℕ). first_of (minima l)) (reverse-append xs (x ∷ []))
 
 pub up_to-point : (limit : ℕ) (xs : List ℕ) (i : ℕ) → i ≤ length xs → ((k d : ℕ) → 0 ≤ k → k < i → nat_le (get_or xs k d) limit ≡ true)
     → ((k d : ℕ) → i ≤ k → k < length xs → nat_le (get_or xs k d) limit ≡ false) → i ≡ up_to limit xs
