@@ -37,3 +37,11 @@ up_to-point limit (x ∷ xs) zero bound below above =
 up_to-point limit (x ∷ xs) (suc i) bound below above =
     let here : nat_le x limit ≡ true = below 0 0 (omega arith) (omega arith) in
     rw here (ap suc (up_to-point limit xs i (omega arith) (λ k d low high. below (suc k) d (omega arith) (omega arith)) (λ k d low high. above (suc k) d (omega arith) (omega arith))))
+
+less_from : (low : ℕ) (xs : List ℕ) → ((d : ℕ) → 0 < length xs → low ≤ get_or xs 0 d) → IsNonDecreasing xs → NoneLess low xs
+less_from low [] h order = tt
+less_from low (x ∷ xs) h order =
+    (h 0 (omega arith), less_from x xs (λ d some. order 0 1 d (omega arith) (omega arith)) (λ i j d le within. order (suc i) (suc j) d (omega arith) (omega arith)))
+
+pub none_less : (xs : List ℕ) → IsNonDecreasing xs → NoneLess 0 xs
+none_less xs order = less_from 0 xs (λ d some. omega arith) order
