@@ -1,6 +1,8 @@
 -- How many parts there are: each number up to some one needs a part of its own.
 use Rattle.std.proofs.Common.{◌≡◌, ◌≢◌, ℕ, zero, suc, ◌+◌, ◌≤◌, ◌<◌, ◌==◌, ◌||◌, Bool, true, false, List, [], ◌∷◌, ◌++◌, length, map, get_or, count_by, sum_by, Option, None, refl, sym, ◌∙◌, ap, arith, if◌then◌else◌, length-append}
 use Rattle.std.proofs.lemmas.Bool.Decides.{nat_tests}
+use Rattle.std.proofs.Math.Bool.{or_assoc}
+use Rattle.std.proofs.lemmas.Bool.{or_parts}
 use Rattle.std.proofs.lemmas.List.Sums.{sum_by-cons}
 use Rattle.std.specs.List.{flat_map}
 use Rattle.std.specs.Option.{option_or}
@@ -63,22 +65,13 @@ number_in (Pblk b) = []
 abbrev pub numbers_in : List Placed → List ℕ
 numbers_in ps = flat_map (λ p. number_in p.what) ps
 
-neither : (a b : Bool) → (a || b) ≡ false → (a ≡ false) × (b ≡ false)
-neither false false h = (refl, refl)
-neither true b h = cc
-neither false true h = cc
-
-or_more : (a b c : Bool) → ((a || b) || c) ≡ (a || (b || c))
-or_more true b c = refl
-or_more false b c = refl
-
 has-append : (n : ℕ) (xs ys : List ℕ) → has n (xs ++ ys) ≡ (has n xs || has n ys)
 has-append n [] ys = refl
-has-append n (x ∷ xs) ys = ap (λ (b : Bool). (x == n) || b) (has-append n xs ys) ∙ sym (or_more (x == n) (has n xs) (has n ys))
+has-append n (x ∷ xs) ys = ap (λ (b : Bool). (x == n) || b) (has-append n xs ys) ∙ sym (or_assoc (x == n) (has n xs) (has n ys))
 
 no_part : (rs : List InstanceRecord) (n g : ℕ) (what : JournalRecord) → has n (number_in what) ≡ false → part_in rs n g what ≡ None
 no_part rs n g (Tcom p) h =
-    let other : (p.number == n) ≡ false = (neither (p.number == n) false h).0 in
+    let other : (p.number == n) ≡ false = (or_parts (p.number == n) false h).0 in
     rw other refl
 no_part rs n g (Pini s) h = refl
 no_part rs n g (Epoch m) h = refl
@@ -87,13 +80,13 @@ no_part rs n g (Pblk b) h = refl
 none_of : (rs : List InstanceRecord) (n : ℕ) (ps : List Placed) → has n (numbers_in ps) ≡ false → part_of rs n ps ≡ None
 none_of rs n [] h = refl
 none_of rs n (p ∷ ps) h =
-    let (first, later) = neither (has n (number_in p.what)) (has n (numbers_in ps)) (sym (has-append n (number_in p.what) (numbers_in ps)) ∙ h) in
+    let (first, later) = or_parts (has n (number_in p.what)) (has n (numbers_in ps)) (sym (has-append n (number_in p.what) (numbers_in ps)) ∙ h) in
     ap (λ (o : Option Part). option_or o (part_in rs n p.generation p.what)) (none_of rs n ps later) ∙ no_part rs n p.generation p.what first
 
 pub none_among : (rs : List InstanceRecord) (n : ℕ) (js : List (List Placed)) (r : ℕ) → has n (flat_map numbers_in js) ≡ false → part_of rs n (get_or js r []) ≡ None
 none_among rs n [] r h = refl
-none_among rs n (j ∷ js) zero h = none_of rs n j (neither (has n (numbers_in j)) (has n (flat_map numbers_in js)) (sym (has-append n (numbers_in j) (flat_map numbers_in js)) ∙ h)).0
-none_among rs n (j ∷ js) (suc r) h = none_among rs n js r (neither (has n (numbers_in j)) (has n (flat_map numbers_in js)) (sym (has-append n (numbers_in j) (flat_map numbers_in js)) ∙ h)).1
+none_among rs n (j ∷ js) zero h = none_of rs n j (or_parts (has n (numbers_in j)) (has n (flat_map numbers_in js)) (sym (has-append n (numbers_in j) (flat_map numbers_in js)) ∙ h)).0
+none_among rs n (j ∷ js) (suc r) h = none_among rs n js r (or_parts (has n (numbers_in j)) (has n (flat_map numbers_in js)) (sym (has-append n (numbers_in j) (flat_map numbers_in js)) ∙ h)).1
 
 -- their count
 as_count : (what : JournalRecord) → length (number_in what) ≡ (if is_part what then 1 else 0)

@@ -1,6 +1,5 @@
 -- The least of what is still to come.
-use Rattle.std.proofs.Common.{◌≡◌, ℕ, zero, suc, ◌≤◌, ◌<◌, nat_le, true, false, List, [], ◌∷◌, ◌++◌, length, get_or, reverse, Some, refl, ◌∙◌, ap, arith}
-use Rattle.std.proofs.lemmas.List.{reverse-append}
+use Rattle.std.proofs.Common.{◌≡◌, ℕ, zero, suc, ◌≤◌, ◌<◌, nat_le, true, false, List, [], ◌∷◌, length, get_or, refl, ap, arith}
 use Rattle.std.specs.List.Sorted.{IsNonDecreasing}
 use Rattle.mupip_recover.specs.Minima.{lesser, first_of, minima, up_to}
 
@@ -29,14 +28,6 @@ pub minima_less : (xs : List ℕ) → NoneLess 0 (minima xs)
 minima_less [] = tt
 minima_less (x ∷ xs) = (omega arith, lesser_less x (minima xs) (minima_less xs))
 
-pub minima-push : (xs : List ℕ) (x : ℕ) → reverse (minima (reverse (xs ++ x ∷ []))) ≡ reverse (minima (reverse xs)) ++ lesser x (first_of (minima (reverse xs))) ∷ []
-minima-push xs x =
-    ap (λ (l : List ℕ). reverse (minima l)) (reverse-append xs (x ∷ []))
-    ∙ reverse-append (lesser x (first_of (minima (reverse xs))) ∷ []) (minima (reverse xs))
-
-pub first-push : (xs : List ℕ) (x : ℕ) → first_of (minima (reverse (xs ++ x ∷ []))) ≡ Some (lesser x (first_of (minima (reverse xs))))
-first-push xs x = ap (λ (l : List ℕ). first_of (minima l)) (reverse-append xs (x ∷ []))
-
 pub up_to-point : (limit : ℕ) (xs : List ℕ) (i : ℕ) → i ≤ length xs → ((k d : ℕ) → 0 ≤ k → k < i → nat_le (get_or xs k d) limit ≡ true)
     → ((k d : ℕ) → i ≤ k → k < length xs → nat_le (get_or xs k d) limit ≡ false) → i ≡ up_to limit xs
 up_to-point limit [] i bound below above = omega arith
@@ -46,3 +37,11 @@ up_to-point limit (x ∷ xs) zero bound below above =
 up_to-point limit (x ∷ xs) (suc i) bound below above =
     let here : nat_le x limit ≡ true = below 0 0 (omega arith) (omega arith) in
     rw here (ap suc (up_to-point limit xs i (omega arith) (λ k d low high. below (suc k) d (omega arith) (omega arith)) (λ k d low high. above (suc k) d (omega arith) (omega arith))))
+
+less_from : (low : ℕ) (xs : List ℕ) → ((d : ℕ) → 0 < length xs → low ≤ get_or xs 0 d) → IsNonDecreasing xs → NoneLess low xs
+less_from low [] h order = tt
+less_from low (x ∷ xs) h order =
+    (h 0 (omega arith), less_from x xs (λ d some. order 0 1 d (omega arith) (omega arith)) (λ i j d le within. order (suc i) (suc j) d (omega arith) (omega arith)))
+
+pub none_less : (xs : List ℕ) → IsNonDecreasing xs → NoneLess 0 xs
+none_less xs order = less_from 0 xs (λ d some. omega arith) order

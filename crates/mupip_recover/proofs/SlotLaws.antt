@@ -2,7 +2,7 @@
 use Rattle.std.proofs.Common.{◌≡◌, ◌≢◌, inl, inr, ◌⊎◌, ℕ, zero, suc, ◌+◌, ◌≤◌, ◌<◌, ◌==◌, true, false, List, [], ◌∷◌, ◌++◌, length, map, take, append_assoc, get_or, set, replicate, is_some, Option, Some, None, refl, sym, ◌∙◌, ap, subst, arith, if◌then◌else◌, length-set, get_or-set_other, get_or-set_same}
 use Rattle.std.proofs.lemmas.Bool.{cases_lt}
 use Rattle.std.proofs.lemmas.Bool.Decides.{nat_tests}
-use Rattle.std.proofs.lemmas.List.{get_or-replicate, length-map, take_more, take_all}
+use Rattle.std.proofs.lemmas.List.{get_or-replicate, length-map, map-append, take_more, take_all}
 use Rattle.std.proofs.Math.ListN.{get_or-map, length-replicate}
 use Rattle.std.specs.List.{find}
 use Rattle.std.specs.Option.{option_map, option_or}
@@ -132,10 +132,6 @@ filled_at count items slots x u p at are within empty is =
     subst (λ (q : ℕ). AreSlots count (items ++ x ∷ []) (set slots q (Some u))) (sym at)
     (filled count items slots x u are (omega arith) (subst (λ (q : ℕ). get_or slots q None ≡ None) at empty) is)
 
-map-push : (xs : List items.Item) (x : items.Item) → map item_value (xs ++ x ∷ []) ≡ map item_value xs ++ item_value x ∷ []
-map-push [] x = refl
-map-push (y ∷ xs) x = ap (λ (l : List Item). item_value y ∷ l) (map-push xs x)
-
 -- what one step puts
 abbrev pub Puts : Item → List (Option code.Update) → List (Option code.Update) → Type 0
 Puts x was now = (count : ℕ) (items : List Item) → AreSlots count items was → AreSlots count (items ++ x ∷ []) now
@@ -144,7 +140,7 @@ pub put_more : (count : ℕ) (before : List Item) (added : List items.Item) (i :
     → Puts (item_value x) was now → AreSlots count (before ++ map item_value (take i added)) was → AreSlots count (before ++ map item_value (take (i + 1) added)) now
 put_more count before added i x was now within is put are =
     let more : map item_value (take (i + 1) added) ≡ map item_value (take i added) ++ item_value x ∷ [] =
-    ap (map item_value) (take_more added i x within ∙ ap (λ (y : items.Item). take i added ++ y ∷ []) (sym is)) ∙ map-push (take i added) x in
+    ap (map item_value) (take_more added i x within ∙ ap (λ (y : items.Item). take i added ++ y ∷ []) (sym is)) ∙ map-append item_value (take i added) (x ∷ []) in
     subst (λ (l : List Item). AreSlots count l now) (append_assoc before (map item_value (take i added)) (item_value x ∷ []) ∙ ap (λ (l : List Item). before ++ l) (sym more))
     (put count (before ++ map item_value (take i added)) are)
 

@@ -2,7 +2,6 @@
 ghost use Rattle.std.specs.Prelude.{◌≡◌, ◌+◌, ◌<◌, ◌^◌, map, IfOk, IfSome};
 ghost use Rattle.std.specs.List.{enumerate_from};
 ghost use Rattle.std.specs.Option.{option_map};
-ghost use Rattle.journal_defs.specs.Instance.{CutsRise};
 ghost use Rattle.journal_defs.specs.Surviving as surviving;
 ghost use Rattle.journal_defs.specs.Sequence.{IsSequence};
 ghost use Rattle.gvn_model.specs.Entries.{entry_value};
@@ -80,8 +79,7 @@ pub fn recover(
     history: &Reigns,
     journals: Vec<Vec<PlacedRecord>>,
 ) -> Result<Entries, NoMemory>
-    requires cuts { CutsRise 0 instance.now }
-    requires history { history.now ≡ surviving.reigns instance.now }
+    requires { history.now ≡ surviving.reigns instance.now }
     ensures sequence { IfOk result (λ made. IsSequence (site_records instance.now (map (λ j. j.items) journals.items)) (map (λ e. e.1) made)) }
     ensures numbered { IfOk result (λ made. made ≡ enumerate_from 1 (map (λ e. e.1) made)) }
 {

@@ -1,6 +1,5 @@
 //! Sequences of small sites.
 ghost use Rattle.std.specs.Prelude.{◌≡◌, IfOk};
-ghost use Rattle.journal_defs.specs.Instance.{CutsRise};
 ghost use Rattle.journal_defs.specs.Surviving as surviving;
 ghost use Rattle.gvn_model.specs.Reigns.{reign_value};
 
@@ -26,8 +25,7 @@ fn reign(alloc: Global, root: &[u8], cycle: u32, start: u64) -> Result<Reign, Fa
 
 /// A site where A reigned and then B from entry 2 on, which a cut to one entry dropped, and A again.
 fn site(alloc: Global) -> Result<(InstanceRecords, Reigns), Fail>
-    ensures cuts { IfOk result (λ made. CutsRise 0 made.0) }
-    ensures history { IfOk result (λ made. made.1 ≡ surviving.reigns made.0) }
+    ensures { IfOk result (λ made. made.1 ≡ surviving.reigns made.0) }
 {
     let mut instance = InstanceRecords::new(alloc);
     instance.push(InstanceRecord::Reign(reign(alloc, b"A", 1, 1)?))?;

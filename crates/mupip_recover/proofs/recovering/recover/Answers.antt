@@ -12,6 +12,6 @@ returns-clause-sequence c =
     IfOk-weaker c.entries_of.result _ _ (λ made first.
     recovered (λ j. j.items) c.in_ok-table.table c.in-Some.places c.args.instance.now c.args.journals.items (map reign_value c.as_slice-reigns.result.now) _
     (c.in_ok-table.ensures c.args.instance.now c.in_ok-cuts.ensures)
-    (c.as_slice-reigns.ensures ∙ c.requires.history)
+    (c.as_slice-reigns.ensures ∙ c.requires)
     (h ∙ ap (sum_by (λ j. count_by (λ p. is_part (record_value p.what)) j.items)) c.deref.ensures.value)
     first) c.entries_of.ensures.first

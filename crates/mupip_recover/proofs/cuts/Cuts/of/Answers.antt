@@ -1,16 +1,20 @@
-use Rattle.std.proofs.Common.{◌∙◌, ap}
+use Rattle.std.proofs.Common.{List, map, ◌∙◌, ap, subst}
 use Rattle.std.specs.List.{filter_map}
+use Rattle.std.specs.List.Sorted.{IsPermutation}
 use Rattle.instance_file.specs.Values.{record_value}
 use Rattle.mupip_recover.specs.Minima.{minima}
-use Rattle.mupip_recover.specs.Cuts.{cut_length, cut_generation}
-use Rattle.mupip_recover.proofs.CutLaws.{filter_values}
+use Rattle.mupip_recover.specs.declared.cuts.Cut.{Cut}
+use Rattle.mupip_recover.specs.Cuts.{cut_in}
+use Rattle.mupip_recover.proofs.CutLaws.{filter_values, in_order_by}
 use Rattle.mupip_recover.proofs.cuts.Cuts.of.Goals as goal
 
 pub returns : goal.returns
 returns c = record {
-  rise = c.requires;
-  generations = c.in_ok-generations_of.ensures ∙ filter_values cut_generation record_value c.as_slice-records.result.now ∙ ap (filter_map cut_generation) c.as_slice-records.ensures;
-  lengths =
-      c.in_ok-minima_of.ensures
-      ∙ ap minima (c.deref.ensures.value ∙ c.in_ok-lengths.ensures ∙ filter_values cut_length record_value c.as_slice-records.result.now ∙ ap (filter_map cut_length) c.as_slice-records.ensures);
+  cuts = c.sort.new.cuts.items;
+  same =
+      subst (λ (l : List Cut). IsPermutation l c.sort.new.cuts.items)
+      (c.in_ok-cuts.ensures ∙ filter_values cut_in record_value c.as_slice.result.now ∙ ap (filter_map cut_in) c.as_slice.ensures) c.sort.ensures.permutation;
+  order = in_order_by c.sort.new.cuts.items c.sort.ensures.sorted;
+  generations = c.in_ok-generations_of.ensures ∙ ap (map (λ x. x.generation)) c.deref-2.ensures.value;
+  lengths = c.in_ok-minima_of.ensures ∙ ap minima (c.deref-3.ensures.value ∙ c.in_ok-lengths.ensures ∙ ap (map (λ x. x.length)) c.deref.ensures.value);
 }
