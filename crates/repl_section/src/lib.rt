@@ -14,6 +14,5 @@ mod running;
 #[cfg(test)]
 mod tests;
 
-pub use error::DecideError;
 pub use reign::Reign;
 pub use running::RunError;

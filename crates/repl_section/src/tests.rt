@@ -1,5 +1,5 @@
 // Sections over memory disks that fail at any call.
-ghost use Rattle.std.specs.Prelude.{◌≡◌, [], Some, IfSome, IfOk};
+ghost use Rattle.std.specs.Prelude.{◌≡◌, [], Some, IfSome, IfOk, OnOk};
 ghost use Rattle.disk_defs.specs.Disk.{Files};
 ghost use Rattle.disk_defs.specs.Gates.{records};
 ghost use Rattle.journal_defs.specs.Numbers.{INSTANCE};
@@ -95,23 +95,42 @@ fn section(alloc: Global) -> Result<Jobs, Fail> {
     Ok(jobs)
 }
 
+/// Runs that section in a reign, and adds its replies.
+fn run_section<D: Disk>(
+    alloc: Global,
+    disk: &mut D,
+    reign: &mut Reign,
+    order: &[u8],
+    text: &mut Bytes,
+) -> Result<(), Fail>
+    requires ready { IsReady (D.disk disk.old) reign.old.site }
+    requires begun { HasReign reign.old.site }
+    ensures ready { OnOk result (IsReady (D.disk disk.new) reign.new.site) }
+    ensures begun { OnOk result (HasReign reign.new.site) }
+{
+    reign.run(alloc, disk, section(alloc)?, order, text)?;
+    Ok(())
+}
+
+/// Two sections of one reign.
+fn run_twice<D: Disk>(alloc: Global, disk: &mut D, text: &mut Bytes) -> Result<(), Fail> {
+    let mut reign = begin(alloc, disk)?;
+    run_section(alloc, disk, &mut reign, &[1, 2, 1, 1], text)?;
+    run_section(alloc, disk, &mut reign, &[2, 1], text)
+}
+
 /// Serials go on in a reign, and entries and globals in the next one too.
 #[test]
 fn entries_globals_and_serials_go_on(rt: HostRuntime) -> Result<(), Fail> {
     let alloc = rt.alloc();
     let mut disk = made(alloc)?;
     let mut text = Bytes::new(alloc);
-    let mut reign = begin(alloc, &mut disk)?;
-    reign.run(alloc, &mut disk, section(alloc)?, &[1, 2, 1, 1], &mut text)?;
-    reign.run(alloc, &mut disk, section(alloc)?, &[2, 1], &mut text)?;
-    assert_eq!(rt;
-        text.as_slice(),
-        b"1.1 SEQ 1\n2.1 READ \"1\"\n1.2 READ \"2\"\n1.3 SEQ 2\n2.2 READ \"3\"\n1.4 SEQ 3\n".as_slice()
-    );
-    text.clear();
+    run_twice(alloc, &mut disk, &mut text)?;
     let mut again = begin(alloc, &mut disk)?;
-    again.run(alloc, &mut disk, section(alloc)?, &[2, 1], &mut text)?;
-    assert_eq!(rt; text.as_slice(), b"2.1 READ \"1\"\n1.1 SEQ 4\n".as_slice());
+    run_section(alloc, &mut disk, &mut again, &[2, 1], &mut text)?;
+    let told =
+        b"1.1 SEQ 1\n2.1 READ \"1\"\n1.2 READ \"2\"\n1.3 SEQ 2\n2.2 READ \"3\"\n1.4 SEQ 3\n2.1 READ \"1\"\n1.1 SEQ 4\n";
+    assert_eq!(rt; text.as_slice(), told.as_slice());
     Ok(())
 }
 
