@@ -6,11 +6,13 @@
 #![tactic(auto)]
 
 mod error;
+mod generations;
 mod journal;
 pub mod laws;
 mod reading;
 #[cfg(test)]
 mod tests;
 
-pub use error::JournalError;
+pub use error::{GenerationsError, JournalError};
+pub use generations::{Generations, is_unbegun, read_generations};
 pub use journal::{Journal, journal_file};
