@@ -10,6 +10,7 @@
 mod committing;
 mod creating;
 mod error;
+mod finding;
 mod opening;
 mod reigning;
 mod site;
