@@ -5,3 +5,4 @@ pub mod Walk
 pub mod Making
 pub mod Newer
 pub mod Outside
+pub mod Chain

@@ -1,11 +1,11 @@
 -- Reading the journal of one generation, with another one before it.
-use Rattle.std.proofs.Common.{◌≡◌, ◌⊎◌, inl, inr, ℕ, ◌+◌, nat_eq, Bool, List, [], ◌∷◌, ◌++◌, length, drop, map, Option, Some, None, IfSome, refl, sym, ◌∙◌, ap, subst, append_assoc, append-nil}
+use Rattle.std.proofs.Common.{◌≡◌, inl, inr, ℕ, nat_eq, Bool, List, [], ◌∷◌, ◌++◌, length, map, Option, Some, None, IfSome, refl, sym, ◌∙◌, ap, subst, append_assoc, append-nil}
 use Rattle.std.proofs.lemmas.List.{map-append}
 use Rattle.std.specs.Option.{option_map}
-use Rattle.std.specs.List.{AllByRecursion, AllZip}
+use Rattle.std.specs.List.{AllZip}
 use Rattle.disk_defs.specs.Disk.{Files}
-use Rattle.disk_defs.specs.Gates.{Body, Open, gate_at, bodies_at, records, framed, spelled}
-use Rattle.disk_defs.proofs.Told.{both_weak, weaker_told}
+use Rattle.disk_defs.specs.Gates.{Body, bodies_at, records, framed, spelled}
+use Rattle.disk_defs.proofs.Told.{both_weak}
 use Rattle.disk_defs.proofs.Walks.{at_shut, at_open}
 use Rattle.journal_defs.specs.Journal.{JournalRecord, Pini, Epoch, Pblk, Tcom, IsJournalBody, BeginsWithPini}
 use Rattle.journal_defs.specs.FileGrowth.{MayFollow}

@@ -1,11 +1,12 @@
 -- Files that are no journals of their generations.
-use Rattle.std.proofs.Common.{◌≡◌, ◌≢◌, ◌⊎◌, inl, inr, ⊎_elim, ℕ, zero, suc, ◌≤◌, ◌<◌, List, [], ◌∷◌, ◌++◌, length, drop, map, Option, Some, None, refl, sym, ◌∙◌, ap, subst, arith}
+use Rattle.std.proofs.Common.{◌≡◌, ◌≢◌, ◌⊎◌, inl, inr, ℕ, zero, suc, ◌≤◌, ◌<◌, List, [], ◌∷◌, ◌++◌, length, drop, Option, Some, None, IfSome, refl, sym, ◌∙◌, ap, subst, arith}
 use Rattle.std.proofs.lemmas.Bool.{cases_eq, cases_lt}
 use Rattle.std.proofs.lemmas.Bool.Decides.{nat_tests}
 use Rattle.std.specs.Option.{option_map}
-use Rattle.std.specs.List.{AllByRecursion, AllZip}
+use Rattle.std.specs.List.{AllZip}
 use Rattle.disk_defs.specs.Disk.{Files}
 use Rattle.disk_defs.specs.Gates.{Body, Shut, Open, NoGate, gate_at, bodies_at, records, spelled}
+use Rattle.disk_defs.proofs.Told.{weaker_told, both_weak}
 use Rattle.disk_defs.proofs.Walks.{at_none, at_open}
 use Rattle.gated_file.specs.Reading.{IsOutside}
 use Rattle.gated_file.proofs.Walking.{outside_none}
@@ -15,7 +16,7 @@ use Rattle.journal_defs.specs.FileGrowth.{MayFollow}
 use Rattle.journal_defs.specs.Sequence.{Placed}
 use Rattle.journal_defs.specs.Stands.{Holds, IsJournal}
 use Rattle.journal_laws.proofs.Readings.{journal_body, journals_one}
-use Rattle.jnl_file.specs.Reading.{IsNoRecord, HasWrongRecord, IsJournalFile}
+use Rattle.jnl_file.specs.Reading.{IsNoRecord, HasWrongRecord}
 use Rattle.jnl_file.specs.Generations.{IsRefused, StopsAt, NamesAnother, IsOutsideAfter, IsOutsideGenerations}
 use Rattle.jnl_file.proofs.Walk.{wrong_is_none}
 
@@ -154,3 +155,17 @@ module _ (files : Files) (region began : ℕ) (older : List Placed) (offset : �
 pub no_journal : (files : Files) (region last file offset : ℕ) → IsOutsideGenerations files region last file offset → (began : ℕ) (journal : List Placed) → IsJournal files region last began journal → ⊥
 no_journal files region last file offset o began journal h =
     later_none files region o.began o.older offset o.inside last o.no_later o.older_is (subst (λ (f : ℕ). IsOutsideAfter region (suc o.inside) o.began (files f) offset) o.file_is o.outside) began journal h
+
+-- the same of a file that the disk tells, or doesn't
+pub told_stops : (o : Option Files) (file region generation previous offset : ℕ) → IfSome o (λ files. StopsAt region generation previous (files file) offset) → IfSome o (λ files. (bodies : List Body) × (records (files file) ≡ Some bodies))
+    → IfSome o (λ files. IsOutsideAfter region generation previous (files file) offset)
+told_stops o file region generation previous offset stops listed =
+    both_weak o (λ files. StopsAt region generation previous (files file) offset) (λ files. (bodies : List Body) × (records (files file) ≡ Some bodies)) (λ files. IsOutsideAfter region generation previous (files file) offset) stops listed
+    (λ files s l. stops_outside region generation previous (files file) offset l.0 s l.1)
+
+pub told_outside : (o : Option Files) (file region generation previous offset : ℕ) → IfSome o (λ files. IsOutside (files file) offset) → IfSome o (λ files. IsOutsideAfter region generation previous (files file) offset)
+told_outside o file region generation previous offset outside = weaker_told o (λ files. IsOutside (files file) offset) (λ files. IsOutsideAfter region generation previous (files file) offset) outside (λ files out. inl (inl out))
+
+pub told_no_journal : (o : Option Files) (region last file offset : ℕ) → IfSome o (λ files. IsOutsideGenerations files region last file offset) → IfSome o (λ files. (began : ℕ) (journal : List Placed) → IsJournal files region last began journal → ⊥)
+told_no_journal o region last file offset outside =
+    weaker_told o (λ files. IsOutsideGenerations files region last file offset) (λ files. (began : ℕ) (journal : List Placed) → IsJournal files region last began journal → ⊥) outside (λ files out. no_journal files region last file offset out)
