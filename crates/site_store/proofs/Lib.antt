@@ -1,1 +1,5 @@
 pub mod Standing
+pub mod Images
+pub mod Frames
+pub mod Remembered
+pub mod Begun

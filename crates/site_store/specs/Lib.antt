@@ -2,3 +2,4 @@ pub mod Site
 pub mod Opening
 pub mod Errors
 pub mod Finding
+pub mod Reigning
