@@ -12,7 +12,7 @@ ghost use Rattle.site_store.specs.Finding.{IsLaidOut};
 ghost use Rattle.site_store.specs.Opening.{region_value, made, MayMake, StandsAsBefore, IsFound};
 
 use crate::error::SiteError;
-use crate::finding::{generation_in, in_instance, name_in, read_instance};
+use crate::finding::{generation_in, in_instance, name_in, read_instance, sync_instance};
 use crate::site::RegionSpec;
 use gvn_key::{Bytes, NoMemory};
 use gvn_model::NamedModes;
@@ -98,6 +98,7 @@ pub fn create<D: Disk>(
     ensures cause { (fault : ℕ) → IsErrOf result (SiteError.Failed fault) → Rose (D.disk disk.old).faults (D.disk disk.new).faults }
     ensures other_errors { (file : ℕ) (offset : ℕ) → IsErrOf result (SiteError.NotAFile file offset) → ⊥ }
 {
+    sync_instance(disk)?;
     let regions = named_modes(alloc, regions)?;
     match Instance::create(alloc, disk, name, regions.as_slice()) {
         Ok(_) => Ok(()),

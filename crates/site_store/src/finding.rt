@@ -12,10 +12,14 @@ ghost use Rattle.journal_defs.specs.Stands.{IsInstance};
 ghost use Rattle.site_store.specs.Errors.{instance_error};
 
 use crate::error::SiteError;
+use gated_file::{GateError, sync_file};
 use gvn_key::{Bytes, NoMemory};
 use instance_file::{InstanceError, InstanceLog, InstanceRecord};
 use repl_disk::Disk;
 use std::alloc::Global;
+
+/// The number of the instance file.
+const FILE: u32 = 0;
 
 /// An error of the instance file, on a disk with this count of faults.
 pub fn in_instance(error: InstanceError, fault: u64) -> SiteError
@@ -49,6 +53,26 @@ pub fn generation_in(records: &[InstanceRecord]) -> u32
         }
     }
     greatest
+}
+
+/// Syncs the instance file.
+pub fn sync_instance<D: Disk>(disk: &mut D) -> Result<(), SiteError>
+    ensures durable { OnOk result (IfSome (D.disk disk.old).content (λ files. IsDurable (D.disk disk.new) INSTANCE (files INSTANCE))) }
+    ensures content { (D.disk disk.new).content ≡ (D.disk disk.old).content }
+    ensures any_moment { AtEachMoment (D.disk disk.old) (D.disk disk.new) (Image (D.disk disk.old)) }
+    ensures frame { OthersStay (Only INSTANCE) (D.disk disk.old) (D.disk disk.new) }
+    ensures later { (D.disk disk.old).faults ≤ (D.disk disk.new).faults }
+    ensures count { (fault : ℕ) → IsErrOf result (SiteError.Failed fault) → fault ≡ (D.disk disk.new).faults }
+    ensures cause { (fault : ℕ) → IsErrOf result (SiteError.Failed fault) → Rose (D.disk disk.old).faults (D.disk disk.new).faults }
+    ensures outside { (file offset : ℕ) → IsErrOf result (SiteError.NotAFile file offset) → ⊥ }
+{
+    match sync_file(disk, FILE) {
+        Ok(()) => Ok(()),
+        Err(GateError::Failed) => Err(SiteError::Failed {
+            fault: disk.faults(),
+        }),
+        Err(GateError::NotARecord { .. } | GateError::NoMemory) => Err(SiteError::NoMemory),
+    }
 }
 
 /// Syncs and reads the instance file. It writes nothing.
