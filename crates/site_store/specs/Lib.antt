@@ -3,3 +3,4 @@ pub mod Opening
 pub mod Errors
 pub mod Finding
 pub mod Reigning
+pub mod Loading

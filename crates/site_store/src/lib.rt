@@ -9,10 +9,13 @@
 
 mod committing;
 mod creating;
+mod drawing;
 mod error;
 mod finding;
 mod opening;
+mod reading;
 mod reigning;
+mod remembering;
 mod site;
 
 pub use creating::{Layout, create, inspect};
