@@ -6,3 +6,7 @@ pub mod Begun
 pub mod Found
 pub mod Made
 pub mod Regions
+pub mod WhatIsRead
+pub mod Cutting
+pub mod Starts
+pub mod Drawn

@@ -28,7 +28,7 @@ pub record OneBody (bodies : List Body) (r : InstanceRecord) : Type 0 where
   pub is : bodies ≡ body ∷ []
   pub spelled : IsInstanceBody body r
 
-one_body : (bodies : List Body) (r : InstanceRecord) → AllZip IsInstanceBody bodies (r ∷ []) → OneBody bodies r
+pub one_body : (bodies : List Body) (r : InstanceRecord) → AllZip IsInstanceBody bodies (r ∷ []) → OneBody bodies r
 one_body [] r zip = absurd zip
 one_body (b ∷ []) r zip = record { body = b; is = refl; spelled = zip.0 }
 one_body (b ∷ d ∷ bodies) r zip = absurd zip.1

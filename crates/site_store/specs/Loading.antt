@@ -1,5 +1,5 @@
 -- Opening a site, in steps: it is read, and the next generation is drawn and begins.
-use Rattle.std.specs.Prelude.{◌≡◌, ◌≢◌, ◌⊎◌, ℕ, suc, ◌≤◌, ◌<◌, ◌++◌, true, List, [], ◌∷◌, length, Some}
+use Rattle.std.specs.Prelude.{◌≡◌, ◌≢◌, ◌⊎◌, ℕ, suc, ◌+◌, ◌≤◌, ◌<◌, ◌++◌, true, List, [], ◌∷◌, length, Some}
 use Rattle.std.specs.List.{AllByRecursion, filter_map}
 use Rattle.std.specs.Option.{unwrap_or}
 use Rattle.disk_defs.specs.Disk.{Files, View, IsDurable}
@@ -42,7 +42,7 @@ pub record WasRead (v : View) (rs : List InstanceRecord) (last : ℕ) (journal :
 
 -- the CUT that draws the next generation
 abbrev pub next_cut : List InstanceRecord → ℕ → InstanceRecord
-next_cut rs n = Cut n (suc (generation rs))
+next_cut rs n = Cut n (generation rs + 1)
 
 abbrev pub next_journal : List InstanceRecord → ℕ
 next_journal rs = journal_file (suc (generation rs)) 0

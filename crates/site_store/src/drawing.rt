@@ -1,5 +1,5 @@
 //! Drawing the next generation, and beginning it.
-ghost use Rattle.std.specs.Prelude.{◌≡◌, ◌⊎◌, ◌≤◌, ◌<◌, ◌^◌, ◌++◌, ◌∷◌, [], ℕ, suc, true, map, Some, IfSome, IfOk, OnOk, OnErr, IsErrOf};
+ghost use Rattle.std.specs.Prelude.{◌≡◌, ◌⊎◌, ◌≤◌, ◌<◌, ◌^◌, ◌++◌, ◌∷◌, [], ℕ, suc, true, List, map, Some, IfSome, IfOk, OnOk, OnErr, IsErrOf};
 ghost use Rattle.std.specs.Option.{option_or, unwrap_or};
 ghost use Rattle.disk_defs.specs.Disk.{Files, Image, From, AtEachMoment, Rose};
 ghost use Rattle.disk_defs.specs.Frames.{Only, OnlyOn, OthersStay};

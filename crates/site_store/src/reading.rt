@@ -131,10 +131,10 @@ pub fn read_site<D: Disk>(alloc: Global, disk: &mut D) -> Result<ReadSite, SiteE
     ensures causes { OnErr result (IsErrOf result SiteError.GenLimit ⊎ ((fault : ℕ) × IsErrOf result (SiteError.Failed fault)) ⊎ ((file : ℕ) × (offset : ℕ) × IsErrOf result (SiteError.NotAFile file offset)) ⊎ IsErrOf result SiteError.NoMemory) }
 {
     let log = read_instance(alloc, disk)?;
-    let all = log.records.as_slice();
-    if all.is_empty() {
+    if log.records.is_empty() {
         return Err(SiteError::NotAFile { file: 0, offset: 0 });
     }
+    let all = log.records.as_slice();
     if !has_one_region(all) || !is_unmapped(all) {
         return Err(SiteError::NoMemory);
     }
