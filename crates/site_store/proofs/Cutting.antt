@@ -79,11 +79,17 @@ module _ (u v w : View) (rs : List InstanceRecord) (n last : ℕ) (lawful_v : Is
   drawn_by : (files c : Files) → (journal : List Placed) × WasRead u rs last journal files → IsCut c → From (Image u) (MayDraw rs n last) c
   drawn_by files c r q =
       let d = q.others.0 in
-      let none : records (c (next_journal rs)) ≡ Some [] = ap records (q.others.2 (next_journal rs) apart) ∙ none_yet files d r q.others.1 in
-      (d, q.others.1, record { others = λ f ne away. q.others.2 f ne; these = elim q.here [
-        | inl is ↦ inl (is, none)
-        | inr is ↦ inr (is, inl none)
-      ] })
+      let none : records (c (next_journal rs)) ≡ Some [] = ap records (q.others.2 (next_journal rs) apart) ∙ none_yet files d r q.others.1 in (
+        d,
+        q.others.1,
+        record {
+          others = λ f ne away. q.others.2 f ne;
+          these = elim q.here [
+            | inl is ↦ inl (is, none)
+            | inr is ↦ inr (is, inl none)
+          ];
+        },
+      )
 
   pub first_moments : IfSome u.content (λ _. AtEachMoment u v IsCut) → IfSome u.content (λ _. AtEachMoment u v (From (Image u) (MayDraw rs n last)))
   first_moments run = both_weak u.content (λ files. (journal : List Placed) × WasRead u rs last journal files) (λ _. AtEachMoment u v IsCut) (λ _. AtEachMoment u v (From (Image u) (MayDraw rs n last))) read run
@@ -106,17 +112,20 @@ module _ (u v w : View) (rs : List InstanceRecord) (n last : ℕ) (lawful_v : Is
     begun_by files c r h q =
         let d = q.0 in
         let from = first_stays.images d q.1 in
-        let none : records (d (next_journal rs)) ≡ Some [] = ap records (from.2 (next_journal rs) apart) ∙ none_yet files from.0 r from.1 in
-        (from.0, from.1, record {
-          others = λ f ne away. q.2.others f away ∙ from.2 f ne;
-          these = inr (
-            subst (λ (b : List ℕ). IsInstance b (rs ++ next_cut rs n ∷ [])) (sym (q.2.others INSTANCE (λ e. apart (sym e)))) (cut_here h d q.1),
-            elim q.2.here [
-              | inl kept ↦ inl (kept ∙ none)
-              | inr stands ↦ or_none (next_pini rs last) (c (next_journal rs)) stands
-            ]
-          );
-        })
+        let none : records (d (next_journal rs)) ≡ Some [] = ap records (from.2 (next_journal rs) apart) ∙ none_yet files from.0 r from.1 in (
+          from.0,
+          from.1,
+          record {
+            others = λ f ne away. q.2.others f away ∙ from.2 f ne;
+            these = inr (
+              subst (λ (b : List ℕ). IsInstance b (rs ++ next_cut rs n ∷ [])) (sym (q.2.others INSTANCE (λ e. apart (sym e)))) (cut_here h d q.1),
+              elim q.2.here [
+                | inl kept ↦ inl (kept ∙ none)
+                | inr stands ↦ or_none (next_pini rs last) (c (next_journal rs)) stands
+              ],
+            );
+          },
+        )
 
     pub all_moments : IfSome v.content (λ _. AtEachMoment v w (MayBegin v (next_journal rs) (next_pini rs last))) → IfSome u.content (λ _. AtEachMoment u w (From (Image u) (MayDraw rs n last)))
     all_moments run = both_weak u.content (λ files. AtEachMoment u v IsCut × HasRecords v i (rs ++ next_cut rs n ∷ [])) (λ files. (journal : List Placed) × WasRead u rs last journal files) (λ _. AtEachMoment u w (From (Image u) (MayDraw rs n last)))
@@ -134,12 +143,15 @@ module _ (u v w : View) (rs : List InstanceRecord) (n last : ℕ) (lawful_v : Is
     pub has_drawn : (j : Journal) → j.gated.file ≡ next_journal rs → IfSome v.content (λ _. journals.HasRecords w j (settled (next_pini rs last ∷ []))) → IfSome u.content (λ _. (f : Files) → Image w f → From (Image u) (HasDrawn rs n last) f)
     has_drawn j at begun = weaker_told u.content (λ _. HasRecords v i (rs ++ next_cut rs n ∷ [])) (λ _. (f : Files) → Image w f → From (Image u) (HasDrawn rs n last) f) has (λ files h f image.
         let from = second_stays.images f image in
-        let was = first_stays.images from.0 from.1 in
-        (was.0, was.1, record {
-          others = λ k ne away. from.2 k away ∙ was.2 k ne;
-          instance = subst (λ (b : List ℕ). IsInstance b (rs ++ next_cut rs n ∷ [])) (sym (from.2 INSTANCE (λ e. apart (sym e)))) (cut_here h from.0 from.1);
-          journal = all_held (next_pini rs last) (f (next_journal rs)) (subst (λ (k : ℕ). StandsRecords (next_pini rs last ∷ []) [] (f k)) at (stands_in f image (told_begun v.content (HoldsRecords v i (rs ++ next_cut rs n ∷ [])) h begun)));
-        }))
+        let was = first_stays.images from.0 from.1 in (
+          was.0,
+          was.1,
+          record {
+            others = λ k ne away. from.2 k away ∙ was.2 k ne;
+            instance = subst (λ (b : List ℕ). IsInstance b (rs ++ next_cut rs n ∷ [])) (sym (from.2 INSTANCE (λ e. apart (sym e)))) (cut_here h from.0 from.1);
+            journal = all_held (next_pini rs last) (f (next_journal rs)) (subst (λ (k : ℕ). StandsRecords (next_pini rs last ∷ []) [] (f k)) at (stands_in f image (told_begun v.content (HoldsRecords v i (rs ++ next_cut rs n ∷ [])) h begun)));
+          },
+        ))
       where
         told_begun : (o : Option Files) (P : Files → Type 0) → IsSomeAnd o P → IfSome o (λ _. journals.HasRecords w j (settled (next_pini rs last ∷ []))) → journals.HasRecords w j (settled (next_pini rs last ∷ []))
         told_begun None P h run = absurd h
@@ -157,10 +169,13 @@ reads_drawn u w rs n last lawful stays run = among u.content w.content stays.con
     among (Some a) None after run read = absurd after
     among (Some a) (Some b) after run read =
         let m = holds_now u w (From (Image u) (MayDraw rs n last)) lawful run b read in
-        record { others = λ f ne away. after f (λ is. elim is [
-          | inl e ↦ ne e
-          | inr e ↦ away e
-        ]); these = m.2.these }
+        record {
+          others = λ f ne away. after f (λ is. elim is [
+            | inl e ↦ ne e
+            | inr e ↦ away e
+          ]);
+          these = m.2.these;
+        }
 
 pub told_on : (o p : Option Files) (F : ℕ → Type 0) (X : Type 0) → ReadsAfter (SameOutside F) o p → IfSome p (λ _. X) → IfSome o (λ _. X)
 told_on None p F X after x = tt

@@ -1,5 +1,5 @@
 -- A site that was read, whose next generation is drawn and begins.
-use Rattle.std.proofs.Common.{◌≡◌, ◌≢◌, ◌⊎◌, inl, inr, ℕ, zero, suc, ◌+◌, ◌≤◌, ◌<◌, ◌==◌, Bool, true, List, [], ◌∷◌, ◌++◌, length, map, Some, None, refl, sym, ◌∙◌, ap, subst, arith, append-nil}
+use Rattle.std.proofs.Common.{◌≡◌, ◌≢◌, ◌⊎◌, inl, inr, ℕ, zero, suc, ◌+◌, ◌≤◌, ◌<◌, ◌==◌, Bool, true, false, List, [], ◌∷◌, ◌++◌, length, map, Some, None, refl, sym, ◌∙◌, ap, subst, arith, append-nil}
 use Rattle.std.specs.Prelude.{if◌then◌else◌, get_or}
 use Rattle.std.specs.List.{filter_map}
 use Rattle.std.specs.Option.{unwrap_or}
@@ -15,15 +15,16 @@ use Rattle.journal_defs.specs.Numbers.{INSTANCE, journal_file, database_file, lo
 use Rattle.journal_defs.specs.Journal.{JournalRecord, Start, Pini, IsJournalBody}
 use Rattle.journal_defs.specs.Instance.{InstanceRecord, Cut, IsInstanceBody, generation, regions, mode_of}
 use Rattle.journal_defs.specs.Directory.{pattern_in}
-use Rattle.journal_defs.specs.Sequence.{Placed, Records, IsSequence}
+use Rattle.journal_defs.specs.Sequence.{Placed, Records, part_of, parts, IsSequence}
 use Rattle.journal_defs.specs.Stands.{IsInstance, IsJournal, Holds, AreRecords, in_generation}
 use Rattle.journal_defs.specs.Growth.{with_record, with_journal, NonePast, IsBefore}
 use Rattle.journal_defs.specs.Clean.{AreClean}
 use Rattle.journal_defs.specs.Fit.{IsSoundImage}
+use Rattle.journal_defs.specs.Sound.{NoEpochPast}
 use Rattle.journal_laws.proofs.Appending as appending
 use Rattle.journal_laws.proofs.Cleaning as cleaning
 use Rattle.journal_laws.proofs.Drawing as drawing
-use Rattle.journal_laws.proofs.EveryTarget.{patterns_same}
+use Rattle.journal_laws.proofs.EveryTarget.{patterns_same, none_past_record, none_past_cut}
 use Rattle.journal_laws.proofs.ImageSteps as images
 use Rattle.journal_laws.proofs.RecordSteps as steps
 use Rattle.journal_laws.proofs.Runs as runs
@@ -42,9 +43,16 @@ use Rattle.site_store.proofs.Starts.{starts_of, last_is, mode_cut}
 
 journal_kept : (old new : Files) (q g last : ℕ) (js : List Placed) → ((h : ℕ) → 1 ≤ h → h ≤ g → new (journal_file h q) ≡ old (journal_file h q)) → IsJournal old q g last js → IsJournal new q g last js
 journal_kept old new q zero last js same h = h
-journal_kept old new q (suc g) last js same h =
-    (h.0, h.1, h.2, journal_kept old new q g h.0 h.1 (λ k low high. same k low (omega (arith, high))) h.3,
-      subst (λ (file : List ℕ). Holds IsJournalBody file h.2) (sym (same (suc g) (omega arith) (omega arith))) h.4, h.5, h.6, h.7)
+journal_kept old new q (suc g) last js same h = (
+  h.0,
+  h.1,
+  h.2,
+  journal_kept old new q g h.0 h.1 (λ k low high. same k low (omega (arith, high))) h.3,
+  subst (λ (file : List ℕ). Holds IsJournalBody file h.2) (sym (same (suc g) (omega arith) (omega arith))) h.4,
+  h.5,
+  h.6,
+  h.7,
+)
 
 -- what was read stands in each image
 pub image_read : (v : View) (rs : List InstanceRecord) (last : ℕ) (journal : List Placed) (files : Files) → WasRead v rs last journal files → (d : Files) → Image v d → AreRead rs last journal d
@@ -189,14 +197,14 @@ module _ (rs : List InstanceRecord) (ps : List PlacedRecord) (last : ℕ) (seq :
         (clean_both a b S (length seq) sound.clean others low none)
         (λ r here. others (database_file r) (λ e. omega (arith, e)) (λ e. let one = form.one_region in omega (arith, e, here, one)))
 
-    mid : Files
+    abbrev mid : Files
     mid f = if f == INSTANCE then b INSTANCE else a f
 
     mid_here : mid INSTANCE ≡ b INSTANCE
     mid_here = refl
 
     mid_other : (f : ℕ) → f ≢ INSTANCE → mid f ≡ a f
-    mid_other f ne = grind (arith, nat_tests, ne)
+    mid_other f ne = let no : (f == INSTANCE) ≡ false = grind (arith, nat_tests, ne) in rw no refl
 
     mid_next : (f : ℕ) → (f ≡ next_journal rs → ⊥) → b f ≡ mid f
     mid_next f away = elim (cases_eq f INSTANCE) [
@@ -242,3 +250,24 @@ module _ (rs : List InstanceRecord) (ps : List PlacedRecord) (last : ℕ) (seq :
 
     pub site_begun : HasDrawn rs (length seq) last a b → IsSite b (opened C)
     site_begun m = site_of b (opened C) S3 (are_opened a read) (has_begun m.instance m.journal)
+
+    -- no part survives past the length, and no epoch is ever chosen past it
+    before_all : IsBefore (generation rs + 1) S
+    before_all = drawing.before a S (generation rs + 1) sound.held past
+
+    other_region : (q : ℕ) → q ≢ 0 → S3.journal q ≡ S2.journal q
+    other_region q ne = let no : (q == 0) ≡ false = grind (arith, nat_tests, ne) in rw no refl
+
+    pub none_begun : NonePast (length seq) S3
+    none_begun n r late =
+        let none = runs.none_past_cut S (length seq) (generation rs + 1) before_all n r late in
+        elim (cases_eq r 0) [
+          | inl e ↦ subst (λ (q : ℕ). parts S2 n q ≡ None → parts S3 n q ≡ None) (sym e) (λ before. runs.part_of-append S2.instance n J (first ∷ []) ∙ before) none
+          | inr ne ↦ ap (part_of S2.instance n) (other_region r ne) ∙ none
+        ]
+
+    pub no_epoch_begun : NoEpochPast (length seq) S2.instance (S3.journal 0)
+    no_epoch_begun = none_past_record S2.instance (length seq) J (λ b. []) first (none_past_cut rs (length seq) (generation rs + 1) J (before_all 0)) tt
+
+    pub older_still : IsJournal b 0 (generation rs) last J
+    older_still = journal_kept a b 0 (generation rs) last J (λ h one high. others (journal_file h 0) (λ e. omega (arith, e)) (λ e. omega (arith, e, high))) read.older

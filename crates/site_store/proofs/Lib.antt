@@ -10,3 +10,4 @@ pub mod WhatIsRead
 pub mod Cutting
 pub mod Starts
 pub mod Drawn
+pub mod Loaded

@@ -17,6 +17,8 @@ mod reading;
 mod reigning;
 mod remembering;
 mod site;
+#[cfg(test)]
+mod tests;
 
 pub use creating::{Layout, create, inspect};
 pub use error::SiteError;
