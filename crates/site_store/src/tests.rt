@@ -59,7 +59,7 @@ fn a_generation_for_each_opening(rt: HostRuntime) -> Result<(), Fail> {
     let Some(found) = inspect(alloc, &mut disk)? else {
         return Err("no site")?;
     };
-    assert_eq!(rt; found.name.as_slice(), b"A");
+    assert_eq!(rt; found.name.as_slice(), b"A".as_slice());
     assert_eq!(rt; found.generation, 2);
     Ok(())
 }
