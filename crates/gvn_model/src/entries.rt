@@ -62,6 +62,13 @@ impl Entries {
         &self.items
     }
 
+    /// The entries alone.
+    pub fn into_items(self) -> Vec<Entry>
+        ensures { map numbered result.items ≡ self }
+    {
+        self.items
+    }
+
     /// Adds an entry at the end.
     pub fn push(&mut self, entry: Entry) -> Result<(), NoMemory>
         ensures ok { OnOk result (self.new ≡ self.old ++ numbered entry ∷ []) }

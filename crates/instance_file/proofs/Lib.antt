@@ -13,3 +13,4 @@ mod Sizes
 mod Mores
 mod Outside
 mod Making
+mod Logs

@@ -31,7 +31,7 @@ use repl_disk::Disk;
 use std::alloc::Global;
 
 /// The number of the instance file.
-const FILE: u32 = 0;
+pub const FILE: u32 = 0;
 
 /// A site's instance file, open for calls.
 ///

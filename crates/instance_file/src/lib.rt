@@ -11,6 +11,7 @@ mod fields;
 mod following;
 mod instance;
 mod kinds;
+mod log;
 mod reading;
 mod record;
 mod records;
@@ -21,5 +22,6 @@ mod writing;
 
 pub use error::InstanceError;
 pub use instance::Instance;
+pub use log::InstanceLog;
 pub use record::InstanceRecord;
 pub use records::InstanceRecords;

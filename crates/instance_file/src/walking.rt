@@ -1,17 +1,17 @@
 //! Reading an instance file from record to record.
 ghost use Rattle.std.specs.Prelude.{◌≡◌, ◌⊎◌, ◌≤◌, ◌<◌, ℕ, List, [], length, Some, map, IfOk, IfSome, IsErrOf};
 ghost use Rattle.std.specs.Option.{option_map};
-ghost use Rattle.std.specs.List.{list_all};
+ghost use Rattle.std.specs.List.{AllByRecursion, list_all};
 ghost use Rattle.disk_defs.specs.Disk.{Reads, Rose};
 ghost use Rattle.disk_defs.specs.Gates.{Body, records};
 ghost use Rattle.gated_file.specs.State.{places};
 ghost use Rattle.journal_defs.specs.Instance as defs;
-ghost use Rattle.journal_defs.specs.Instance.{IsInstanceBody};
+ghost use Rattle.journal_defs.specs.Instance.{IsInForm, IsInstanceBody};
 ghost use Rattle.journal_defs.specs.Surviving as surviving;
 ghost use Rattle.journal_defs.specs.Surviving.{spares_start};
 ghost use Rattle.journal_defs.specs.Stands.{IsInstance, StartsRise};
 ghost use Rattle.instance_file.specs.Values.{record_value};
-ghost use Rattle.instance_file.specs.Order.{AreOrdered};
+ghost use Rattle.instance_file.specs.Order.{AreOrdered, AreInOrder};
 ghost use Rattle.instance_file.specs.Reading.{FindsRecord, IsNoRecord, HasWrongRecord, HasWrongReign};
 ghost use Rattle.instance_file.specs.Walks.{IsListed, IsWrongReign, surviving_in};
 
@@ -43,6 +43,7 @@ fn read_record<D: Disk>(
     at: u64,
 ) -> Result<Option<(InstanceRecord, u64)>, InstanceError>
     ensures found { IfOk result (λ found. IfSome (D.disk disk.old).content (λ files. FindsRecord (files gated.old.file) at found)) }
+    ensures form { IfOk result (λ found. IfSome found (λ read. IsInForm (record_value read.0))) }
     ensures further { IfOk result (λ found. IfSome found (λ read. at < read.1)) }
     ensures outside { IsErrOf result (InstanceError.NotARecord at) → IfSome (D.disk disk.old).content (λ files. IsNoRecord (files gated.old.file) at) }
     ensures only_here { (offset : ℕ) → IsErrOf result (InstanceError.NotARecord offset) → offset ≡ at }
@@ -65,6 +66,8 @@ fn read_record<D: Disk>(
 fn read_log<D: Disk>(gated: &mut Gated, disk: &mut D) -> Result<Log, InstanceError>
     requires listed { IfSome (D.disk disk.old).content (λ files. (bodies : List Body) × (records (files gated.old.file) ≡ Some bodies)) }
     ensures listed { IfOk result (λ log. IfSome (D.disk disk.old).content (λ files. IsListed (files gated.old.file) log.records log.places.items)) }
+    ensures ordered { IfOk result (λ log. AreOrdered log.records) }
+    ensures form { IfOk result (λ log. AllByRecursion IsInForm log.records) }
     ensures many { IfOk result (λ log. length log.places.items ≡ length log.records) }
     ensures history { IfOk result (λ log. log.history ≡ surviving.reigns log.records) }
     ensures wrong { (offset : ℕ) → IsErrOf result (InstanceError.NotARecord offset) → IfSome (D.disk disk.old).content (λ files. HasWrongRecord (files gated.old.file) offset) }
@@ -149,6 +152,8 @@ pub fn read_whole<D: Disk>(
 ) -> Result<(InstanceRecords, Reigns), InstanceError>
     requires listed { IfSome (D.disk disk.old).content (λ files. (bodies : List Body) × (records (files gated.old.file) ≡ Some bodies)) }
     ensures whole { IfOk result (λ read. IfSome (D.disk disk.old).content (λ files. IsInstance (files gated.old.file) read.0)) }
+    ensures order { IfOk result (λ read. AreInOrder read.0) }
+    ensures form { IfOk result (λ read. AllByRecursion IsInForm read.0) }
     ensures history { IfOk result (λ read. read.1 ≡ surviving.reigns read.0) }
     ensures wrong { (offset : ℕ) → IsErrOf result (InstanceError.NotARecord offset)
         → IfSome (D.disk disk.old).content (λ files. HasWrongRecord (files gated.old.file) offset ⊎ HasWrongReign (files gated.old.file) offset) }

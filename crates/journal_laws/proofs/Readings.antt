@@ -254,7 +254,7 @@ zip_one P (b ∷ bs) (r ∷ rs) (q ∷ qs) one h k =
     let rest : rs ≡ qs = zip_one P bs rs qs one h.1 k.1 in
     cc
 
-holds_one : {R : Type 0} (P : Body → R → Type 0) (file : List ℕ) (rs qs : List R) → ((b : Body) (r q : R) → P b r → P b q → r ≡ q) → Holds P file rs → Holds P file qs → rs ≡ qs
+pub holds_one : {R : Type 0} (P : Body → R → Type 0) (file : List ℕ) (rs qs : List R) → ((b : Body) (r q : R) → P b r → P b q → r ≡ q) → Holds P file rs → Holds P file qs → rs ≡ qs
 holds_one P file rs qs one h k =
     let same : h.0 ≡ k.0 = (let a : records file ≡ Some h.0 = h.1 in let b : records file ≡ Some k.0 = k.1 in cc) in
     zip_one P k.0 rs qs one (subst (λ (bs : List Body). AllZip P bs rs) same h.2) k.2

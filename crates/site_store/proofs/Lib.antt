@@ -9,3 +9,11 @@ pub mod Parts
 pub mod Committed
 pub mod Waiting
 pub mod Hardened
+pub mod Found
+pub mod Made
+pub mod Regions
+pub mod WhatIsRead
+pub mod Cutting
+pub mod Starts
+pub mod Drawn
+pub mod Loaded

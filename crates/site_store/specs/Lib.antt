@@ -1,4 +1,7 @@
 pub mod Site
 pub mod Opening
+pub mod Errors
+pub mod Finding
 pub mod Reigning
 pub mod Committing
+pub mod Loading

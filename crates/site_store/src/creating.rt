@@ -7,11 +7,16 @@ ghost use Rattle.journal_defs.specs.Instance as instances;
 ghost use Rattle.journal_defs.specs.Instance.{IsInForm};
 ghost use Rattle.world_defs.specs.World.{Contents};
 ghost use Rattle.world_defs.specs.Ties.{IsBlank, IsSite, Stands};
+ghost use Rattle.instance_file.specs.Values.{named_mode, record_value};
+ghost use Rattle.site_store.specs.Finding.{IsLaidOut};
 ghost use Rattle.site_store.specs.Opening.{region_value, made, MayMake, StandsAsBefore, IsFound};
 
 use crate::error::SiteError;
+use crate::finding::{generation_in, in_instance, name_in, read_instance, sync_instance};
 use crate::site::RegionSpec;
-use gvn_key::Bytes;
+use gvn_key::{Bytes, NoMemory};
+use gvn_model::NamedModes;
+use instance_file::{Instance, InstanceRecord};
 use repl_disk::Disk;
 use std::alloc::Global;
 
@@ -22,6 +27,19 @@ pub struct Layout {
     pub name: Bytes,
     /// The greatest generation of its journals, or 0 where none was drawn.
     pub generation: u32,
+}
+
+/// The layout that these records give, if there is one.
+fn layout_of(alloc: Global, records: &[InstanceRecord]) -> Result<Option<Layout>, NoMemory>
+    ensures { IfOk result (λ found. IsLaidOut (map record_value records.now) found) }
+{
+    if records.is_empty() {
+        return Ok(None);
+    }
+    Ok(Some(Layout {
+        name: name_in(alloc, records)?,
+        generation: generation_in(records),
+    }))
 }
 
 /// What site stands on a disk, if one does. It syncs the instance file first.
@@ -41,7 +59,19 @@ pub fn inspect<D: Disk>(alloc: Global, disk: &mut D) -> Result<Option<Layout>, S
     ensures count { (fault : ℕ) → IsErrOf result (SiteError.Failed fault) → fault ≡ (D.disk disk.new).faults }
     ensures cause { (fault : ℕ) → IsErrOf result (SiteError.Failed fault) → Rose (D.disk disk.old).faults (D.disk disk.new).faults }
 {
-    Err(SiteError::NoMemory)
+    let log = read_instance(alloc, disk)?;
+    Ok(layout_of(alloc, log.records.as_slice())?)
+}
+
+/// Regions as the instance file takes them.
+fn named_modes(alloc: Global, regions: &[RegionSpec]) -> Result<NamedModes, NoMemory>
+    ensures { IfOk result (λ made. map named_mode made ≡ map region_value regions.now) }
+{
+    let mut made = NamedModes::new(alloc);
+    for region in regions {
+        made.push((region.name.copy()?, region.before))?;
+    }
+    Ok(made)
 }
 
 /// Makes a site with this name and these regions on a disk whose instance file has no open record.
@@ -68,5 +98,10 @@ pub fn create<D: Disk>(
     ensures cause { (fault : ℕ) → IsErrOf result (SiteError.Failed fault) → Rose (D.disk disk.old).faults (D.disk disk.new).faults }
     ensures other_errors { (file : ℕ) (offset : ℕ) → IsErrOf result (SiteError.NotAFile file offset) → ⊥ }
 {
-    Err(SiteError::NoMemory)
+    sync_instance(disk)?;
+    let regions = named_modes(alloc, regions)?;
+    match Instance::create(alloc, disk, name, regions.as_slice()) {
+        Ok(_) => Ok(()),
+        Err(error) => Err(in_instance(error, disk.faults())),
+    }
 }

@@ -9,13 +9,19 @@
 
 mod committing;
 mod creating;
+mod drawing;
 mod entering;
 mod error;
+mod finding;
 mod fitting;
 mod opening;
+mod reading;
 mod recording;
 mod reigning;
+mod remembering;
 mod site;
+#[cfg(test)]
+mod tests;
 
 pub use creating::{Layout, create, inspect};
 pub use error::SiteError;

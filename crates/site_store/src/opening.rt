@@ -6,9 +6,12 @@ ghost use Rattle.world_defs.specs.World.{Contents};
 ghost use Rattle.world_defs.specs.Rows.{opened};
 ghost use Rattle.world_defs.specs.Ties.{IsSite};
 ghost use Rattle.site_store.specs.Site.{Remembers, IsReady, IsOpen, WasOpened};
-ghost use Rattle.site_store.specs.Opening.{OpensTo, MayOpen};
+ghost use Rattle.site_store.specs.Opening.{OpensTo, MayOpen, EachStands};
 
+use crate::drawing::draw;
 use crate::error::SiteError;
+use crate::reading::{ReadSite, read_site};
+use crate::remembering::remembered;
 use crate::site::OpenSite;
 use repl_disk::Disk;
 use std::alloc::Global;
@@ -23,7 +26,7 @@ use std::alloc::Global;
 pub fn load<D: Disk>(alloc: Global, disk: &mut D) -> Result<OpenSite, SiteError>
     ensures ready { IfOk result (λ s. IsReady (D.disk disk.new) s) }
     ensures read { IfOk result (λ s. (c : Contents) × Remembers (opened c) (length c.sequence) s) }
-    ensures told { IfOk result (λ s. IfSome (D.disk disk.old).content (λ files. (c : Contents) → IsSite files c → IsOpen (D.disk disk.new) true (opened c) (length c.sequence) s)) }
+    ensures told { IfOk result (λ s. IfSome (D.disk disk.old).content (λ files. (c : Contents) → IsSite files c → EachStands (D.disk disk.old) → IsOpen (D.disk disk.new) true (opened c) (length c.sequence) s)) }
     ensures opened { IfOk result WasOpened }
     ensures drawn { OnOk result (IfSome (D.disk disk.old).content (λ files. (c : Contents) → IsSite files c → generation c.instance < 65534)) }
     ensures limit { IsErrOf result SiteError.GenLimit → IfSome (D.disk disk.old).content (λ files. (c : Contents) → IsSite files c → 65534 ≤ generation c.instance) }
@@ -41,5 +44,21 @@ pub fn load<D: Disk>(alloc: Global, disk: &mut D) -> Result<OpenSite, SiteError>
     ensures no_full { (nodes : ℕ) → IsErrOf result (SiteError.Full nodes) → ⊥ }
     ensures no_reign_limit { IsErrOf result SiteError.ReignLimit → ⊥ }
 {
-    Err(SiteError::NoMemory)
+    let read = read_site(alloc, disk)?;
+    let ReadSite {
+        log,
+        records,
+        last_began,
+    } = read;
+    let (entries, globals) = remembered(alloc, &log, records)?;
+    let length = entries.len() as u64;
+    let drawn = draw(alloc, disk, log, length, last_began)?;
+    Ok(OpenSite {
+        instance: drawn.instance,
+        journal: drawn.journal,
+        entries,
+        globals,
+        hardened: length,
+        stamp: None,
+    })
 }

@@ -3,12 +3,22 @@ use Rattle.disk_defs.specs.Gates.{Body, records}
 use Rattle.disk_defs.proofs.Told.{weaker_told}
 use Rattle.disk_defs.proofs.Frames.{reads_more}
 use Rattle.instance_file.specs.Values.{record_value}
-use Rattle.instance_file.specs.Order.{MayStand}
+use Rattle.std.specs.List.{AllByRecursion}
+use Rattle.journal_defs.specs.Instance.{IsInForm, generation}
+use Rattle.instance_file.specs.Order.{MayStand, last_after}
+use Rattle.instance_file.proofs.Orders.{stand_follows, generation_next}
 use Rattle.instance_file.specs.Reading.{FindsRecord, IsNoRecord, HasWrongRecord}
 use Rattle.instance_file.specs.declared.record.InstanceRecord.{InstanceRecord}
 use Rattle.instance_file.specs.declared.error.InstanceError.TheVariants.{NotARecord}
 use Rattle.instance_file.proofs.Passing.{Passed, passed_none, told_same, told_next, told_wrong, told_no_record, told_end}
 use Rattle.instance_file.proofs.walking.read_log.Goals as goal
+
+all_push : {X : Type 0} → (P : X → Type 0) → (xs : List X) (x : X) → AllByRecursion P xs → P x → AllByRecursion P (xs ++ x ∷ [])
+all_push P [] x all is = (is, tt)
+all_push P (y ∷ ys) x all is = (all.0, all_push P ys x all.1 is)
+
+some_is : {X : Type 0} → (P : X → Type 0) → (x : X) (o : Option X) → o ≡ Some x → IfSome o P → P x
+some_is P x o is p = subst (λ y. IfSome y P) is p
 
 untrue : (b : Bool) → b ≡ false → IsTrue b → ⊥
 untrue b is true_of = cc (is, true_of)
@@ -21,6 +31,9 @@ loop-history-init g c =
       passed = rw (c.new-records.ensures, c.new-places.ensures.items)
           (weaker_told (view c.args.disk.now).content (λ files. (bodies : List Body) × (records (files file) ≡ Some bodies)) (λ files. Passed (files file) 0 [] [] 0) c.requires.listed
           (λ files listed. passed_none (files file) listed.0 listed.1));
+      ordered = rw c.new-records.ensures (record { create = tt; cuts = tt });
+      form = rw c.new-records.ensures tt;
+      last = rw c.new-records.ensures refl;
       history = search rules;
       many = search rules;
       same = refl;
@@ -69,9 +82,13 @@ loop-history-preserved g c =
     let found = told_same v.content (view l.disk).content c.args.gated.now l.gated (λ bytes. FindsRecord bytes l.at (Some (x, c.in-Some.next))) inv.reads.content inv.same
     (subst (λ (f : Option (InstanceRecord × ℕ)). IfSome (view l.disk).content (λ files. FindsRecord (files l.gated.file) l.at f)) c.in-Some.is c.in_ok-added.ensures.found) in
     let may : MayStand (length l.records == 0) l.generation (record_value x) = subst (λ (b : Bool). MayStand b l.generation (record_value x)) c.is_empty.ensures (c.may_stand.ensures.0 c.if-not-may_stand.false) in
+    let stands : MayStand (length l.records == 0) (generation l.records) (record_value x) = subst (λ (k : ℕ). MayStand (length l.records == 0) k (record_value x)) (sym inv.last) may in
     let more : c.push.new.self.items ≡ l.places.items ++ l.at ∷ [] = search rules in
     record {
       passed = rw (c.in_ok-push.ensures.ok, more, c.generation_after-generation.ensures) (told_next v.content file l.at l.records l.places.items l.generation inv.passed x c.in-Some.next found may);
+      ordered = rw c.in_ok-push.ensures.ok (stand_follows l.records (record_value x) inv.ordered stands);
+      form = rw c.in_ok-push.ensures.ok (all_push IsInForm l.records (record_value x) inv.form (some_is (λ (read : InstanceRecord × ℕ). IsInForm (record_value read.0)) (x, c.in-Some.next) c.in_ok-added.field-0 c.in-Some.is c.in_ok-added.ensures.form));
+      last = rw (c.in_ok-push.ensures.ok, c.generation_after-generation.ensures) (generation_next l.records (record_value x) stands ∙ ap (λ (k : ℕ). last_after k (record_value x)) inv.last);
       history = rw c.in_ok-push.ensures.ok (c.in_ok-history.ensures l.records inv.history);
       many = omega (arith, inv.many, ap length more, ap length c.in_ok-push.ensures.ok, length-append l.places.items (l.at ∷ []), length-append l.records (record_value x ∷ []));
       same = c.read_record.ensures.same ∙ inv.same;

@@ -1,6 +1,9 @@
 use Rattle.std.proofs.Common.{◌≡◌, ◌≤◌, ◌-◌, ◌^◌, length, IfSome}
 use Rattle.disk_defs.specs.Disk.{Reads}
+use Rattle.std.specs.List.{AllByRecursion}
+use Rattle.journal_defs.specs.Instance.{IsInForm, generation}
 use Rattle.journal_defs.specs.Surviving.{reigns}
+use Rattle.instance_file.specs.Order.{AreOrdered}
 use Rattle.instance_file.proofs.Passing.{Passed}
 use Rattle.instance_file.proofs.walking.read_log.Given as goal
 
@@ -9,6 +12,9 @@ invariant-loop-history g l =
     let view = g.D.Disk.disk in
     record {
       passed : IfSome (view l.fn.disk).content (λ files. Passed (files l.fn.gated.file) l.at l.records l.places.items l.generation);
+      ordered : AreOrdered l.records;
+      form : AllByRecursion IsInForm l.records;
+      last : generation l.records ≡ l.generation;
       history : l.history ≡ reigns l.records;
       many : length l.places.items ≡ length l.records;
       same : l.gated ≡ l.fn.gated;

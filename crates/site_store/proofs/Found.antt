@@ -1,0 +1,62 @@
+-- The instance file of files that stand for something.
+use Rattle.std.proofs.Common.{◌≡◌, inl, inr, ℕ, ◌<◌, Bool, true, false, List, [], ◌∷◌, length, Option, Some, None, refl, sym, ◌∙◌, ap, subst, arith}
+use Rattle.std.proofs.lemmas.Bool.Decides.{nat_tests}
+use Rattle.std.specs.List.{AllZip}
+use Rattle.disk_defs.specs.Disk.{Files}
+use Rattle.disk_defs.specs.Gates.{Body, records}
+use Rattle.journal_defs.specs.Numbers.{INSTANCE}
+use Rattle.journal_defs.specs.Instance.{InstanceRecord, IsInstanceBody}
+use Rattle.journal_defs.specs.Stands.{IsInstance}
+use Rattle.journal_laws.proofs.Readings.{holds_one, instance_body}
+use Rattle.world_defs.specs.World.{Contents, nothing, is_made}
+use Rattle.world_defs.specs.Ties.{IsSite, Stands}
+use Rattle.site_store.specs.declared.creating.Layout.{Layout}
+use Rattle.site_store.specs.Opening.{IsFound}
+use Rattle.site_store.specs.Finding.{IsLaidOut}
+
+-- a file has one list of records
+pub instance_one : (file : List ℕ) (rs qs : List InstanceRecord) → IsInstance file rs → IsInstance file qs → rs ≡ qs
+instance_one file rs qs a b = holds_one IsInstanceBody file rs qs instance_body a.bodies b.bodies
+
+none_zip : (bodies : List Body) → AllZip IsInstanceBody bodies [] → bodies ≡ []
+none_zip [] zip = refl
+none_zip (b ∷ bodies) zip = absurd zip
+
+pub no_bodies : (file : List ℕ) → IsInstance file [] → records file ≡ Some []
+no_bodies file is = is.bodies.1 ∙ ap Some (none_zip is.bodies.0 is.bodies.2)
+
+pub blank_instance : (file : List ℕ) → records file ≡ Some [] → IsInstance file []
+blank_instance file none = record { bodies = ([], none, tt); create = tt; cuts = tt; reigns = tt }
+
+pub site_instance : (files : Files) (c : Contents) → IsSite files c → IsInstance (files INSTANCE) c.instance
+site_instance files c site = subst (λ (rs : List InstanceRecord). IsInstance (files INSTANCE) rs) site.instance site.image.held.instance
+
+pub stands_instance : (files : Files) (c : Contents) → Stands files c → IsInstance (files INSTANCE) c.instance
+stands_instance files c (inl blank) = subst (λ (x : Contents). IsInstance (files INSTANCE) x.instance) (sym blank.0) (blank_instance (files INSTANCE) blank.1.instance)
+stands_instance files c (inr site) = site_instance files c site
+
+made_some : (c : Contents) → is_made c ≡ true → c.instance ≡ [] → ⊥
+made_some c made none =
+    let size : length c.instance ≡ 0 = ap length none in
+    grind (arith, nat_tests, made, size)
+
+some_made : (c : Contents) → 0 < length c.instance → is_made c ≡ true
+some_made c some = grind (arith, nat_tests, some)
+
+-- no site stands where there is no record
+pub site_made : (files : Files) (c : Contents) → IsSite files c → c.instance ≡ [] → ⊥
+site_made files c site none = made_some c site.made none
+
+none_found : (files : Files) (c : Contents) → Stands files c → c.instance ≡ [] → c ≡ nothing
+none_found files c (inl blank) none = blank.0
+none_found files c (inr site) none = absurd (site_made files c site none)
+
+pub found_by : (files : Files) (c : Contents) (rs : List InstanceRecord) (found : Option Layout) → IsInstance (files INSTANCE) rs → IsLaidOut rs found → Stands files c → IsFound c found
+found_by files c rs None is laid stands = none_found files c stands (instance_one (files INSTANCE) c.instance rs (stands_instance files c stands) is ∙ laid)
+found_by files c rs (Some l) is laid stands =
+    subst (λ (x : List InstanceRecord). IsLaidOut x (Some l) → IsFound c (Some l)) (instance_one (files INSTANCE) c.instance rs (stands_instance files c stands) is)
+    (λ own. (some_made c own.0, own.1, own.2)) laid
+
+-- files with the same instance file
+pub alike_by : (files f : Files) (c o : Contents) → f INSTANCE ≡ files INSTANCE → Stands files c → Stands f o → o.instance ≡ c.instance
+alike_by files f c o same here there = instance_one (files INSTANCE) o.instance c.instance (subst (λ (b : List ℕ). IsInstance b o.instance) same (stands_instance f o there)) (stands_instance files c here)

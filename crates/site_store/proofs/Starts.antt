@@ -1,0 +1,49 @@
+-- How generations of a region's journal began, and what a CUT leaves of a region's mode.
+use Rattle.std.proofs.Common.{◌≡◌, ℕ, zero, suc, Bool, List, [], ◌∷◌, ◌++◌, map, Option, Some, None, refl, sym, ◌∙◌, ap, subst}
+use Rattle.std.specs.List.{AllByRecursion, filter_map}
+use Rattle.std.specs.Option.{option_or}
+use Rattle.std.proofs.lemmas.List.Elements.{filter_map-append}
+use Rattle.disk_defs.specs.Disk.{Files}
+use Rattle.journal_defs.specs.Journal.{JournalRecord, Start, Pini, Epoch, Pblk, Tcom, IsNoPini, BeginsWithPini}
+use Rattle.journal_defs.specs.Instance.{InstanceRecord, Cut, mode_in, mode_of}
+use Rattle.journal_defs.specs.Sequence.{Placed}
+use Rattle.journal_defs.specs.Stands.{IsJournal, in_generation, last_began}
+use Rattle.world_defs.specs.Rows.{last_generation}
+use Rattle.world_defs.specs.Ties.{start_in}
+
+abbrev pub starts_of : List Placed → List Start
+starts_of ps = filter_map (λ (p : Placed). start_in p.what) ps
+
+last_more : (g : ℕ) (a b : List Start) → last_generation g (a ++ b) ≡ last_generation (last_generation g a) b
+last_more g [] b = refl
+last_more g (s ∷ a) b = last_more s.generation a b
+
+no_starts : (g : ℕ) (rs : List JournalRecord) → AllByRecursion IsNoPini rs → starts_of (map (in_generation g) rs) ≡ []
+no_starts g [] all = refl
+no_starts g (Pini s ∷ rs) all = absurd all.0
+no_starts g (Epoch m ∷ rs) all = no_starts g rs all.1
+no_starts g (Pblk b ∷ rs) all = no_starts g rs all.1
+no_starts g (Tcom p ∷ rs) all = no_starts g rs all.1
+
+last_newer : (g previous : ℕ) (rs : List JournalRecord) → BeginsWithPini 0 g previous rs → last_generation previous (starts_of (map (in_generation g) rs)) ≡ last_began previous g rs
+last_newer g previous [] begins = refl
+last_newer g previous (Pini s ∷ rs) begins = ap (λ (l : List Start). last_generation s.generation l) (no_starts g rs begins.3) ∙ begins.1
+last_newer g previous (Epoch m ∷ rs) begins = absurd begins
+last_newer g previous (Pblk b ∷ rs) begins = absurd begins
+last_newer g previous (Tcom p ∷ rs) begins = absurd begins
+
+-- the last generation that began is that of the last start
+pub last_is : (files : Files) (g last : ℕ) (journal : List Placed) → IsJournal files 0 g last journal → last_generation 0 (starts_of journal) ≡ last
+last_is files zero last journal h = ap (λ (ps : List Placed). last_generation 0 (starts_of ps)) h.1 ∙ sym h.0
+last_is files (suc g) last journal h =
+    ap (λ (ps : List Placed). last_generation 0 (starts_of ps)) h.7
+    ∙ ap (last_generation 0) (filter_map-append (λ (p : Placed). start_in p.what) h.1 (map (in_generation (suc g)) h.2))
+    ∙ last_more 0 (starts_of h.1) (starts_of (map (in_generation (suc g)) h.2))
+    ∙ ap (λ (k : ℕ). last_generation k (starts_of (map (in_generation (suc g)) h.2))) (last_is files g h.0 h.1 h.3)
+    ∙ last_newer (suc g) h.0 h.2 h.5
+    ∙ sym h.6
+
+-- a CUT gives no region a mode
+pub mode_cut : (rs : List InstanceRecord) (n g r : ℕ) → mode_of (rs ++ Cut n g ∷ []) r ≡ mode_of rs r
+mode_cut [] n g r = refl
+mode_cut (x ∷ rs) n g r = ap (λ (o : Option Bool). option_or o (mode_in x r)) (mode_cut rs n g r)
