@@ -12,10 +12,10 @@ use Rattle.global_defs.specs.Key.{Key}
 use Rattle.gvn_key.specs.KeyText.{key_reading}
 use Rattle.gvn_key.specs.declared.key.KeyError.{KeyError}
 use Rattle.script_defs.specs.Parts.{word_end, without_spaces}
-use Rattle.command_defs.specs.Commands.{Name, Command, Create, StartPrimary, Stop, Fuse, Crash, Extract, Zwrite, with_images}
+use Rattle.command_defs.specs.Commands.{Name, Command, Create, Attach, StartPrimary, Stop, Fuse, Crash, Extract, Zwrite, Show, with_images}
 use Rattle.command_defs.specs.Parts.{column, followed, formed, taken, taken_if_any, ended, word_form, is_name, name_form, number_form, node_of, node_form}
-use Rattle.command_defs.specs.Forms.{MOST_CALLS, MOST_PICK, MOST_NUMBER, create_reading, start_reading, stop_reading, fuse_reading, crash_reading, extract_reading, zwrite_reading, command_by, run_reading}
-use Rattle.command_defs.specs.Spelling.{Joins, nothing, IsOrder, create, start, stop, fuse, crash, extract, extract_from, zwrite, zwrite_from}
+use Rattle.command_defs.specs.Forms.{MOST_CALLS, MOST_PICK, MOST_NUMBER, create_reading, attach_reading, start_reading, stop_reading, fuse_reading, crash_reading, extract_reading, zwrite_reading, show_reading, command_by, run_reading}
+use Rattle.command_defs.specs.Spelling.{Joins, nothing, IsOrder, create, attach, start, stop, fuse, crash, extract, extract_from, zwrite, zwrite_from, show}
 use Rattle.command_defs.proofs.Joined.{IsTight, IsFronted, tight_drop, tight_without, fronted_without, joins, begins, begins_none}
 use Rattle.command_defs.proofs.NumberForms.{number_found, number_read}
 
@@ -139,6 +139,11 @@ create_found len left c tight fronted e =
       joined = s.1.build (b.0.0 ∷ []) (r.1.build [] (at_end b.0.1 z.0));
     }
 
+attach_found : (len : ℕ) (left : List ℕ) (c : Command) → attach_reading len left ≡ Ok c → Makes (codes "ATTACH") left c
+attach_found len left c e =
+    let z = ended_found len left Attach c e in
+    record { parts = []; order = subst (λ x. IsOrder (codes "ATTACH" ∷ []) x) z.1 attach; joined = at_end left z.0 }
+
 start_found : (len : ℕ) (left : List ℕ) (c : Command) → IsTight left → IsFronted left → start_reading len left ≡ Ok c → Makes (codes "START") left c
 start_found len left c tight fronted e =
     let a = followed_found (taken name_form len left) _ c e in
@@ -234,6 +239,13 @@ zwrite_found len left c tight fronted e =
     let r = zwrite_by a.0.0 len a.0.1 b.0 c s.0 s.1.tight s.1.fronted (perhaps_found node_form len a.0.1 b.0 b.1) b.2 in
     record { parts = a.0.0 ∷ r.0; order = r.1; joined = s.1.build r.0 r.2 }
 
+show_found : (len : ℕ) (left : List ℕ) (c : Command) → IsTight left → IsFronted left → show_reading len left ≡ Ok c → Makes (codes "SHOW") left c
+show_found len left c tight fronted e =
+    let a = followed_found (taken name_form len left) _ c e in
+    let s = name_taken len left a.0 tight fronted a.1 in
+    let z = ended_found len a.0.1 (Show a.0.0) c a.2 in
+    record { parts = a.0.0 ∷ []; order = subst (λ x. IsOrder (codes "SHOW" ∷ a.0.0 ∷ []) x) z.1 (show a.0.0 s.0); joined = s.1.build [] (at_end a.0.1 z.0) }
+
 named : {word left : List ℕ} {c : Command} (w : List ℕ) → bytes_eq word w ≡ true → Makes w left c → Makes word left c
 named {word} {left} {c} w e m = subst (λ x. Makes x left c) (sym ((bytes_eq-Decides word w).0 e)) m
 
@@ -243,19 +255,25 @@ pub command_found : (word : List ℕ) (len : ℕ) (left rest : List ℕ) (c : Co
 command_found word len left rest c tight fronted e0 =
     let m : Makes word rest c = elim (chosen (bytes_eq word (codes "CREATE")) (create_reading len rest) _ (Ok c) e0) [
       | inl h ↦ named (codes "CREATE") h.0 (create_found len rest c tight fronted h.1)
-      | inr h ↦ (let e1 = h.1 in elim (chosen (bytes_eq word (codes "START")) (start_reading len rest) _ (Ok c) e1) [
-        | inl h ↦ named (codes "START") h.0 (start_found len rest c tight fronted h.1)
-        | inr h ↦ (let e2 = h.1 in elim (chosen (bytes_eq word (codes "STOP")) (stop_reading len rest) _ (Ok c) e2) [
-          | inl h ↦ named (codes "STOP") h.0 (stop_found len rest c tight fronted h.1)
-          | inr h ↦ (let e3 = h.1 in elim (chosen (bytes_eq word (codes "FUSE")) (fuse_reading len rest) _ (Ok c) e3) [
-            | inl h ↦ named (codes "FUSE") h.0 (fuse_found len rest c tight fronted h.1)
-            | inr h ↦ (let e4 = h.1 in elim (chosen (bytes_eq word (codes "CRASH")) (crash_reading len rest) _ (Ok c) e4) [
-              | inl h ↦ named (codes "CRASH") h.0 (crash_found len rest c tight fronted h.1)
-              | inr h ↦ (let e5 = h.1 in elim (chosen (bytes_eq word (codes "EXTRACT")) (extract_reading len rest) _ (Ok c) e5) [
-                | inl h ↦ named (codes "EXTRACT") h.0 (extract_found len rest c tight fronted h.1)
-                | inr h ↦ (let e6 = h.1 in elim (chosen (bytes_eq word (codes "ZWRITE")) (zwrite_reading len rest) (Err (column len left)) (Ok c) e6) [
-                  | inl h ↦ named (codes "ZWRITE") h.0 (zwrite_found len rest c tight fronted h.1)
-                  | inr h ↦ absurd (cc h.1)
+      | inr h ↦ (let e1 = h.1 in elim (chosen (bytes_eq word (codes "ATTACH")) (attach_reading len rest) _ (Ok c) e1) [
+        | inl h ↦ named (codes "ATTACH") h.0 (attach_found len rest c h.1)
+        | inr h ↦ (let e2 = h.1 in elim (chosen (bytes_eq word (codes "START")) (start_reading len rest) _ (Ok c) e2) [
+          | inl h ↦ named (codes "START") h.0 (start_found len rest c tight fronted h.1)
+          | inr h ↦ (let e3 = h.1 in elim (chosen (bytes_eq word (codes "STOP")) (stop_reading len rest) _ (Ok c) e3) [
+            | inl h ↦ named (codes "STOP") h.0 (stop_found len rest c tight fronted h.1)
+            | inr h ↦ (let e4 = h.1 in elim (chosen (bytes_eq word (codes "FUSE")) (fuse_reading len rest) _ (Ok c) e4) [
+              | inl h ↦ named (codes "FUSE") h.0 (fuse_found len rest c tight fronted h.1)
+              | inr h ↦ (let e5 = h.1 in elim (chosen (bytes_eq word (codes "CRASH")) (crash_reading len rest) _ (Ok c) e5) [
+                | inl h ↦ named (codes "CRASH") h.0 (crash_found len rest c tight fronted h.1)
+                | inr h ↦ (let e6 = h.1 in elim (chosen (bytes_eq word (codes "EXTRACT")) (extract_reading len rest) _ (Ok c) e6) [
+                  | inl h ↦ named (codes "EXTRACT") h.0 (extract_found len rest c tight fronted h.1)
+                  | inr h ↦ (let e7 = h.1 in elim (chosen (bytes_eq word (codes "ZWRITE")) (zwrite_reading len rest) _ (Ok c) e7) [
+                    | inl h ↦ named (codes "ZWRITE") h.0 (zwrite_found len rest c tight fronted h.1)
+                    | inr h ↦ (let e8 = h.1 in elim (chosen (bytes_eq word (codes "SHOW")) (show_reading len rest) (Err (column len left)) (Ok c) e8) [
+                      | inl h ↦ named (codes "SHOW") h.0 (show_found len rest c tight fronted h.1)
+                      | inr h ↦ absurd (cc h.1)
+                    ])
+                  ])
                 ])
               ])
             ])
@@ -349,12 +367,16 @@ zwrite_from_read : (len : ℕ) (left : List ℕ) (site : Name) (node : List ℕ)
 zwrite_from_read len left site node key g h j = followed_read (taken name_form len left) _ (site, behind left) _ (site_read len site g j)
     (followed_read (taken_if_any node_form len (behind left)) _ (Some key, behind (behind left)) _ (perhaps_read node_form len key (next j) (node_read node key h)) (ended_read len (behind (behind left)) _ (next (next j))))
 
+show_read : (len : ℕ) (left : List ℕ) (site : Name) → is_name site ≡ true → Joins (site ∷ []) left → show_reading len left ≡ Ok (Show site)
+show_read len left site g j = followed_read (taken name_form len left) _ (site, behind left) _ (site_read len site g j) (ended_read len (behind left) _ (next j))
+
 pub run_read : (len : ℕ) (left : List ℕ) (site : Name) → is_name site ≡ true → Joins (site ∷ []) left → run_reading len left ≡ Ok site
 run_read len left site g j = followed_read (taken name_form len left) _ (site, behind left) _ (site_read len site g j) (ended_read len (behind left) _ (next j))
 
 -- the parts of a command are read as it
 pub order_read : {parts : List (List ℕ)} {c : Command} → IsOrder parts c → (len : ℕ) (left : List ℕ) → Joins parts left → command_by (take (word_end left) left) len left (behind left) ≡ Ok c
 order_read (create site region g h) len left j = first_read (codes "CREATE") len _ j (create_read len (behind left) site region g h (next j))
+order_read attach len left j = first_read (codes "ATTACH") len _ j (ended_read len (behind left) Attach (next j))
 order_read (start site g) len left j = first_read (codes "START") len _ j (start_read len (behind left) site g (next j))
 order_read (stop site g) len left j = first_read (codes "STOP") len _ j (stop_read len (behind left) site g (next j))
 order_read (fuse site n g h) len left j = first_read (codes "FUSE") len _ j (fuse_read len (behind left) site n g h (next j))
@@ -363,3 +385,4 @@ order_read (extract site g) len left j = first_read (codes "EXTRACT") len _ j (e
 order_read (extract_from site n g low high) len left j = first_read (codes "EXTRACT") len _ j (extract_from_read len (behind left) site n g low high (next j))
 order_read (zwrite site g) len left j = first_read (codes "ZWRITE") len _ j (zwrite_read len (behind left) site g (next j))
 order_read (zwrite_from site node key g h) len left j = first_read (codes "ZWRITE") len _ j (zwrite_from_read len (behind left) site node key g h (next j))
+order_read (show site g) len left j = first_read (codes "SHOW") len _ j (show_read len (behind left) site g (next j))

@@ -8,7 +8,7 @@ use Rattle.script_defs.proofs.StatementsRead.{statement_read}
 use Rattle.command_defs.specs.Commands.{Command}
 use Rattle.command_defs.specs.Sections.{Section, UPDATERS, begun, is_open, with_statement, is_updater, IsSound, IsFormed, IsWhole}
 use Rattle.command_defs.specs.Script.{Outside, Within, Goes, Ends, line_reading}
-use Rattle.command_defs.specs.Spelling.{IsOrder, create, start, stop, fuse, crash, extract, extract_from, zwrite, zwrite_from, HasRoom, IsStatementLine, Continues, begins, commits, states}
+use Rattle.command_defs.specs.Spelling.{IsOrder, create, attach, start, stop, fuse, crash, extract, extract_from, zwrite, zwrite_from, show, HasRoom, IsStatementLine, Continues, begins, commits, states}
 use Rattle.command_defs.proofs.Sounds.{sound_begun, sound_with_job, sound_transaction_begun, sound_transaction_ended, sound_longer, uses_up, formed_run}
 use Rattle.command_defs.proofs.UpdateWords.{update_word}
 use Rattle.command_defs.proofs.Sizes.{one_small, open_sized, still_sized}
@@ -44,6 +44,7 @@ stays_sound s line next h e = let g = section_goes s line (Within next) e in sub
 
 order_complete : {parts : List (List ℕ)} {c : Command} → IsOrder parts c → IsFormed c × IsWhole c
 order_complete (create site region g h) = ((g, rw h refl, refl), tt)
+order_complete attach = (tt, tt)
 order_complete (start site g) = (g, tt)
 order_complete (stop site g) = (g, tt)
 order_complete (fuse site n g h) = ((g, h), tt)
@@ -52,6 +53,7 @@ order_complete (extract site g) = (g, tt)
 order_complete (extract_from site n g low high) = ((g, low, high), tt)
 order_complete (zwrite site g) = (g, tt)
 order_complete (zwrite_from site node key g h) = (g, tt)
+order_complete (show site g) = (g, tt)
 
 pub command_complete : (line : List ℕ) (c : Command) → line_reading Outside line ≡ Ends c → IsFormed c × IsWhole c
 command_complete line c e = order_complete (command_spelled line c e).order

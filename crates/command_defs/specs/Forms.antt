@@ -3,7 +3,7 @@ use Rattle.std.specs.Prelude.{ℕ, ◌-◌, ◌^◌, List, [], ◌∷◌, codes,
 use Rattle.std.specs.Str.{bytes_eq}
 use Rattle.std.specs.declared.result.Result.{Result}
 use Rattle.std.specs.declared.result.Result.TheVariants.{Err}
-use Rattle.command_defs.specs.Commands.{Name, Command, Create, StartPrimary, Stop, Fuse, Crash, Extract, Zwrite, with_images}
+use Rattle.command_defs.specs.Commands.{Name, Command, Create, Attach, StartPrimary, Stop, Fuse, Crash, Extract, Zwrite, Show, with_images}
 use Rattle.command_defs.specs.Parts.{column, followed, taken, taken_if_any, ended, word_form, name_form, number_form, node_form}
 
 -- the greatest numbers in FUSE, CRASH and EXTRACT
@@ -19,6 +19,10 @@ MOST_NUMBER = 2 ^ 40
 -- CREATE site region
 abbrev pub create_reading : ℕ → List ℕ → Result Command ℕ
 create_reading len left = followed (taken name_form len left) (λ site. followed (taken name_form len site.1) (λ region. ended len region.1 (Create site.0 (with_images region.0 ∷ []))))
+
+-- ATTACH
+abbrev pub attach_reading : ℕ → List ℕ → Result Command ℕ
+attach_reading len left = ended len left Attach
 
 -- START site PRIMARY
 abbrev pub start_reading : ℕ → List ℕ → Result Command ℕ
@@ -44,15 +48,21 @@ extract_reading len left = followed (taken name_form len left) (λ site. followe
 abbrev pub zwrite_reading : ℕ → List ℕ → Result Command ℕ
 zwrite_reading len left = followed (taken name_form len left) (λ site. followed (taken_if_any node_form len site.1) (λ top. ended len top.1 (Zwrite site.0 top.0)))
 
+-- SHOW site
+abbrev pub show_reading : ℕ → List ℕ → Result Command ℕ
+show_reading len left = followed (taken name_form len left) (λ site. ended len site.1 (Show site.0))
+
 -- by a line's first word; behind is what stands behind it and the spaces
 abbrev pub command_by : (word : List ℕ) (len : ℕ) (left behind : List ℕ) → Result Command ℕ
 command_by word len left behind = if bytes_eq word (codes "CREATE") then create_reading len behind
+    else if bytes_eq word (codes "ATTACH") then attach_reading len behind
     else if bytes_eq word (codes "START") then start_reading len behind
     else if bytes_eq word (codes "STOP") then stop_reading len behind
     else if bytes_eq word (codes "FUSE") then fuse_reading len behind
     else if bytes_eq word (codes "CRASH") then crash_reading len behind
     else if bytes_eq word (codes "EXTRACT") then extract_reading len behind
     else if bytes_eq word (codes "ZWRITE") then zwrite_reading len behind
+    else if bytes_eq word (codes "SHOW") then show_reading len behind
     else Err (column len left)
 
 -- RUN site

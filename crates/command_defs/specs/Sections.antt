@@ -4,7 +4,7 @@ use Rattle.std.specs.List.{list_all, AllByRecursion}
 use Rattle.std.specs.Str.{bytes_eq}
 use Rattle.global_defs.specs.Jobs.{Statement, Set, Kill, ZKill, Incr, Job}
 use Rattle.global_defs.specs.Serial.{without_next}
-use Rattle.command_defs.specs.Commands.{Name, Command, Create, StartPrimary, Run, Stop, Fuse, Crash, Extract, Zwrite, Attach, Show}
+use Rattle.command_defs.specs.Commands.{Name, Command, Create, Attach, StartPrimary, Run, Stop, Fuse, Crash, Extract, Zwrite, Show}
 use Rattle.command_defs.specs.Parts.{is_name}
 use Rattle.command_defs.specs.Forms.{MOST_CALLS, MOST_PICK, MOST_NUMBER}
 
@@ -107,6 +107,7 @@ pub record IsSound (s : Section) : Type 0 where
 -- names of their form, numbers within their limits, and jobs of 64 updaters
 abbrev pub IsFormed : Command → Type 0
 IsFormed (Create name regions) = (is_name name ≡ true) × (list_all (λ r. is_name r.name) regions ≡ true) × (length regions ≡ 1)
+IsFormed Attach = Unit {0}
 IsFormed (StartPrimary name) = is_name name ≡ true
 IsFormed (Run name jobs order) = (is_name name ≡ true) × (length jobs ≡ UPDATERS) × (list_all is_updater order ≡ true) × (list_all (λ own. list_all is_of_size own) jobs ≡ true)
 IsFormed (Stop name) = is_name name ≡ true
@@ -115,7 +116,6 @@ IsFormed (Crash name pick) = (is_name name ≡ true) × (pick ≤ MOST_PICK)
 IsFormed (Extract name None) = is_name name ≡ true
 IsFormed (Extract name (Some n)) = (is_name name ≡ true) × (1 ≤ n) × (n ≤ MOST_NUMBER)
 IsFormed (Zwrite name top) = is_name name ≡ true
-IsFormed Attach = Unit {0}
 IsFormed (Show name) = is_name name ≡ true
 
 -- taking each updater's next job in this order leaves no updater a job
@@ -124,6 +124,7 @@ UsesUp jobs order = AllByRecursion (λ own. own ≡ []) (fold (λ left u. withou
 
 abbrev pub IsWhole : Command → Type 0
 IsWhole (Create name regions) = Unit {0}
+IsWhole Attach = Unit {0}
 IsWhole (StartPrimary name) = Unit {0}
 IsWhole (Run name jobs order) = UsesUp jobs order
 IsWhole (Stop name) = Unit {0}
@@ -131,5 +132,4 @@ IsWhole (Fuse name calls) = Unit {0}
 IsWhole (Crash name pick) = Unit {0}
 IsWhole (Extract name from) = Unit {0}
 IsWhole (Zwrite name top) = Unit {0}
-IsWhole Attach = Unit {0}
 IsWhole (Show name) = Unit {0}

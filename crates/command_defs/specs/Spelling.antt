@@ -8,7 +8,7 @@ use Rattle.gvn_key.specs.KeyText.{key_reading}
 use Rattle.global_defs.specs.Jobs.{Statement}
 use Rattle.script_defs.specs.Parts.{word_end}
 use Rattle.script_defs.specs.Statements.{SpellsStatement}
-use Rattle.command_defs.specs.Commands.{Name, Command, Create, StartPrimary, Stop, Fuse, Crash, Extract, Zwrite, with_images}
+use Rattle.command_defs.specs.Commands.{Name, Command, Create, Attach, StartPrimary, Stop, Fuse, Crash, Extract, Zwrite, Show, with_images}
 use Rattle.command_defs.specs.Parts.{is_name}
 use Rattle.command_defs.specs.Forms.{MOST_CALLS, MOST_PICK, MOST_NUMBER}
 use Rattle.command_defs.specs.Sections.{Section, UPDATERS, MOST_STATEMENTS, MOST_UPDATES, is_open, is_update, jobs_of, last_job, transaction_begun, transaction_ended, with_statement}
@@ -39,6 +39,7 @@ pub data Joins : (parts : List (List ℕ)) (text : List ℕ) → Type 0 where
 -- Parts that are a command of one line. A node's text is as GT.M's ZWRITE writes it, or with any pieces in quotes and by codes.
 pub data IsOrder : (parts : List (List ℕ)) (command : Command) → Type 0 where
   create : (site region : Name) → is_name site ≡ true → is_name region ≡ true → IsOrder (codes "CREATE" ∷ site ∷ region ∷ []) (Create site (with_images region ∷ []))
+  attach : IsOrder (codes "ATTACH" ∷ []) Attach
   start : (site : Name) → is_name site ≡ true → IsOrder (codes "START" ∷ site ∷ codes "PRIMARY" ∷ []) (StartPrimary site)
   stop : (site : Name) → is_name site ≡ true → IsOrder (codes "STOP" ∷ site ∷ []) (Stop site)
   fuse : (site : Name) (calls : ℕ) → is_name site ≡ true → calls ≤ MOST_CALLS → IsOrder (codes "FUSE" ∷ site ∷ decimal calls ∷ []) (Fuse site calls)
@@ -47,6 +48,7 @@ pub data IsOrder : (parts : List (List ℕ)) (command : Command) → Type 0 wher
   extract_from : (site : Name) (number : ℕ) → is_name site ≡ true → 1 ≤ number → number ≤ MOST_NUMBER → IsOrder (codes "EXTRACT" ∷ site ∷ decimal number ∷ []) (Extract site (Some number))
   zwrite : (site : Name) → is_name site ≡ true → IsOrder (codes "ZWRITE" ∷ site ∷ []) (Zwrite site None)
   zwrite_from : (site : Name) (node : List ℕ) (key : Key) → is_name site ≡ true → key_reading node ≡ Ok key → IsOrder (codes "ZWRITE" ∷ site ∷ node ∷ []) (Zwrite site (Some key))
+  show : (site : Name) → is_name site ≡ true → IsOrder (codes "SHOW" ∷ site ∷ []) (Show site)
 
 -- A line of these parts, with any spaces before them and what is ignored behind them.
 pub record IsLineOf (parts : List (List ℕ)) (line : List ℕ) : Type 0 where

@@ -9,4 +9,4 @@ pub use laws::{
     blank_lines_and_comments_are_ignored, commands_are_read_as_spelled, commands_are_whole,
     ends_are_ignored, sections_are_read_as_spelled,
 };
-pub use vectors::{commands_hold, lines_hold, sections_hold};
+pub use vectors::{commands_hold, lines_hold, sections_hold, transactions_hold};

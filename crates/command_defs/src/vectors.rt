@@ -1,9 +1,9 @@
 // Worked lines.
-ghost use Rattle.std.specs.Prelude.{◌≡◌, ◌∷◌, ◌++◌, [], codes, Some, None, true, false, replicate};
+ghost use Rattle.std.specs.Prelude.{◌≡◌, ◌∷◌, ◌++◌, [], codes, Some, None, true, false, replicate, pos};
 ghost use Rattle.global_defs.specs.Key.{sub_of};
 ghost use Rattle.global_defs.specs.Jobs as jobs;
 ghost use Rattle.command_defs.specs.Lines.{lines_of};
-ghost use Rattle.command_defs.specs.Commands.{Create, StartPrimary, Run, Stop, Fuse, Crash, Extract, Zwrite, with_images};
+ghost use Rattle.command_defs.specs.Commands.{Create, Attach, StartPrimary, Run, Stop, Fuse, Crash, Extract, Zwrite, Show, with_images};
 ghost use Rattle.command_defs.specs.Parts.{trimmed};
 ghost use Rattle.command_defs.specs.Sections.{begun, with_job, transaction_begun, transaction_ended, is_full_job};
 ghost use Rattle.command_defs.specs.Script.{Outside, Within, Skips, Wrong, Goes, Ends, line_reading, lines_reading};
@@ -27,6 +27,11 @@ pub fn commands_hold()
     ensures create { line_reading Outside (codes "CREATE A R") ≡ Ends (Create (codes "A") (with_images (codes "R") ∷ [])) }
     ensures region { line_reading Outside (codes "CREATE A R Q") ≡ Wrong 12 }
     ensures mode { line_reading Outside (codes "CREATE A R:NOBEFORE") ≡ Wrong 10 }
+    ensures attach { line_reading Outside (codes "ATTACH ") ≡ Ends Attach }
+    ensures attach_more { line_reading Outside (codes "ATTACH  X") ≡ Wrong 9 }
+    ensures show { line_reading Outside (codes "SHOW A") ≡ Ends (Show (codes "A")) }
+    ensures unnamed { line_reading Outside (codes "SHOW") ≡ Wrong 5 }
+    ensures two { line_reading Outside (codes "SHOW A B") ≡ Wrong 8 }
     ensures longest { line_reading Outside (codes "STOP ABCDEFGHIJKLMN9") ≡ Ends (Stop (codes "ABCDEFGHIJKLMN9")) }
     ensures too_long { line_reading Outside (codes "STOP ABCDEFGHIJKLMN90") ≡ Wrong 6 }
     ensures digit { line_reading Outside (codes "STOP 1A") ≡ Wrong 6 }
@@ -39,9 +44,11 @@ pub fn commands_hold()
     ensures calls { line_reading Outside (codes "FUSE A 1000001") ≡ Wrong 8 }
     ensures zero { line_reading Outside (codes "CRASH A 0") ≡ Ends (Crash (codes "A") 0) }
     ensures leading { line_reading Outside (codes "CRASH A 01") ≡ Wrong 9 }
+    ensures most_pick { line_reading Outside (codes "CRASH A 4294967295") ≡ Ends (Crash (codes "A") 4294967295) }
     ensures pick { line_reading Outside (codes "CRASH A 4294967296") ≡ Wrong 9 }
     ensures all { line_reading Outside (codes "EXTRACT A") ≡ Ends (Extract (codes "A") None) }
     ensures from { line_reading Outside (codes "EXTRACT A 1099511627776") ≡ Ends (Extract (codes "A") (Some 1099511627776)) }
+    ensures above { line_reading Outside (codes "EXTRACT A 1099511627777") ≡ Wrong 11 }
     ensures number { line_reading Outside (codes "EXTRACT A 0") ≡ Wrong 11 }
     ensures node { line_reading Outside (codes "ZWRITE A ^X(\"a b\")") ≡ Ends (Zwrite (codes "A") (Some (record { name = codes "X"; subs = sub_of (codes "a b") ∷ [] }))) }
     ensures behind { line_reading Outside (codes "ZWRITE A ^X(\"a b\") ^Y") ≡ Wrong 20 }
@@ -51,6 +58,7 @@ pub fn commands_hold()
 #[tactic(auto, unfolding(gvn_key::specs::KeyText::subs_at))]
 pub fn sections_hold()
     ensures begun { line_reading Outside (codes "RUN A") ≡ Goes (Within (begun (codes "A"))) }
+    ensures nobody { line_reading (Within (begun (codes "A"))) (codes "0 GET ^X") ≡ Wrong 1 }
     ensures updater { line_reading (Within (begun (codes "A"))) (codes "65 GET ^X") ≡ Wrong 1 }
     ensures nothing { line_reading (Within (begun (codes "A"))) (codes " 1 ") ≡ Wrong 3 }
     ensures kind { line_reading (Within (begun (codes "A"))) (codes "STOP A") ≡ Wrong 1 }
@@ -61,11 +69,20 @@ pub fn sections_hold()
     ensures end_more { line_reading (Within (begun (codes "A"))) (codes "END A") ≡ Wrong 5 }
     ensures statement { line_reading (Within (begun (codes "A"))) (codes "64 SET ^X =1") ≡ Wrong 10 }
     ensures value { line_reading (Within (begun (codes "A"))) (codes "1 SET ^X=") ≡ Wrong 10 }
-    ensures full { is_full_job (replicate 256 (jobs.Kill (record { name = codes "X"; subs = [] }))) (codes "SET") ≡ true }
-    ensures reads { is_full_job (replicate 256 (jobs.Kill (record { name = codes "X"; subs = [] }))) (codes "GET") ≡ false }
-    ensures most { is_full_job (replicate 1024 (jobs.Get (record { name = codes "X"; subs = [] }))) (codes "GET") ≡ true }
     ensures interleaved { lines_reading (codes "RUN A" ∷ codes "2 TSTART" ∷ codes "; both" ∷ codes "1 GET ^X" ∷ codes "2 KILL ^Y" ∷ codes "2 TCOMMIT" ∷ codes "END" ∷ []) ≡ Some (record {
       commands = Run (codes "A") (((jobs.Get (record { name = codes "X"; subs = [] }) ∷ []) ∷ []) ∷ ((jobs.Kill (record { name = codes "Y"; subs = [] }) ∷ []) ∷ []) ∷ replicate 62 []) (2 ∷ 1 ∷ []) ∷ [];
       position = Outside;
     }) }
+{}
+
+/// Which statements a transaction has room for.
+pub fn transactions_hold()
+    ensures last_update { is_full_job (replicate 255 (jobs.Kill (record { name = codes "X"; subs = [] }))) (codes "SET") ≡ false }
+    ensures set { is_full_job (replicate 256 (jobs.Set (record { name = codes "X"; subs = [] }) [])) (codes "SET") ≡ true }
+    ensures kill { is_full_job (replicate 256 (jobs.Kill (record { name = codes "X"; subs = [] }))) (codes "KILL") ≡ true }
+    ensures zkill { is_full_job (replicate 256 (jobs.ZKill (record { name = codes "X"; subs = [] }))) (codes "ZKILL") ≡ true }
+    ensures incr { is_full_job (replicate 256 (jobs.Incr (record { name = codes "X"; subs = [] }) (pos 1))) (codes "INCR") ≡ true }
+    ensures reads { is_full_job (replicate 256 (jobs.Kill (record { name = codes "X"; subs = [] }))) (codes "GET") ≡ false }
+    ensures last { is_full_job (replicate 1023 (jobs.Get (record { name = codes "X"; subs = [] }))) (codes "SET") ≡ false }
+    ensures most { is_full_job (replicate 1024 (jobs.Get (record { name = codes "X"; subs = [] }))) (codes "GET") ≡ true }
 {}

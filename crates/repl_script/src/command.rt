@@ -11,6 +11,8 @@ pub enum Command {
         site: Bytes,
         regions: NamedModes,
     },
+    /// Takes the site that stands on the next disk.
+    Attach,
     /// Opens a site as a primary and begins a reign.
     StartPrimary {
         site: Bytes,
@@ -45,5 +47,9 @@ pub enum Command {
     Zwrite {
         site: Bytes,
         top: Option<Key>,
+    },
+    /// Shows a site's state.
+    Show {
+        site: Bytes,
     },
 }

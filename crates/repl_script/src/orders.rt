@@ -3,7 +3,7 @@ ghost use Rattle.std.specs.Prelude.{◌≡◌, ◌∷◌, [], true, IfOk, map};
 ghost use Rattle.command_defs.specs.Commands.{with_images};
 ghost use Rattle.command_defs.specs.Parts.{is_name};
 ghost use Rattle.command_defs.specs.Sections.{IsFormed, IsWhole};
-ghost use Rattle.command_defs.specs.Forms.{create_reading, start_reading, stop_reading, fuse_reading, crash_reading, extract_reading, zwrite_reading, command_by, run_reading};
+ghost use Rattle.command_defs.specs.Forms.{create_reading, attach_reading, start_reading, stop_reading, fuse_reading, crash_reading, extract_reading, zwrite_reading, show_reading, command_by, run_reading};
 ghost use Rattle.repl_script.specs.Commands.{command_value, region_value};
 ghost use Rattle.repl_script.specs.Reads.{Reads};
 
@@ -42,6 +42,14 @@ fn read_create(alloc: Global, len: u16, left: &[u8]) -> Result<Command, Fault>
     let regions = one_region(alloc, region.part)?;
     let site = Bytes::of(alloc, site.part)?;
     Ok(Command::Create { site, regions })
+}
+
+fn read_attach(len: u16, left: &[u8]) -> Result<Command, Fault>
+    ensures reading { Reads command_value (attach_reading len left.now) result }
+    ensures formed { IfOk result (λ command. IsFormed (command_value command) × IsWhole (command_value command)) }
+{
+    ended(len, left)?;
+    Ok(Command::Attach)
 }
 
 fn read_start(alloc: Global, len: u16, left: &[u8]) -> Result<Command, Fault>
@@ -123,6 +131,16 @@ fn read_zwrite(alloc: Global, len: u16, left: &[u8]) -> Result<Command, Fault>
     })
 }
 
+fn read_show(alloc: Global, len: u16, left: &[u8]) -> Result<Command, Fault>
+    ensures reading { Reads command_value (show_reading len left.now) result }
+    ensures formed { IfOk result (λ command. IsFormed (command_value command) × IsWhole (command_value command)) }
+{
+    let site = name(len, left)?;
+    ended(len, site.behind)?;
+    let site = Bytes::of(alloc, site.part)?;
+    Ok(Command::Show { site })
+}
+
 /// The command of a line between commands, by its first word. `behind` is what stands behind the word and the spaces.
 pub fn read_command(
     alloc: Global,
@@ -136,6 +154,9 @@ pub fn read_command(
 {
     if word == b"CREATE".as_slice() {
         return read_create(alloc, len, behind);
+    }
+    if word == b"ATTACH".as_slice() {
+        return read_attach(len, behind);
     }
     if word == b"START".as_slice() {
         return read_start(alloc, len, behind);
@@ -154,6 +175,9 @@ pub fn read_command(
     }
     if word == b"ZWRITE".as_slice() {
         return read_zwrite(alloc, len, behind);
+    }
+    if word == b"SHOW".as_slice() {
+        return read_show(alloc, len, behind);
     }
     Err(bad(len, left))
 }
