@@ -5,5 +5,6 @@ pub mod Moved
 pub mod Executes
 pub mod Here
 pub mod Steps
+pub mod Starting
 pub mod Ends
 pub mod Going
