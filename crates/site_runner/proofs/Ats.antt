@@ -1,6 +1,6 @@
 -- Sites at their places.
 use Rattle.std.proofs.Common.{◌≡◌, ℕ, Bool, true, false, List, [], ◌∷◌, ◌++◌, length, take, None, Some, refl, sym, ◌∙◌, ap, subst, arith, inl, inr}
-use Rattle.std.specs.Prelude.{Option, IfSome, IsSome, IsSomeAnd, IsTrue}
+use Rattle.std.specs.Prelude.{◌⊎◌, Option, IfSome, IsSome, IsSomeAnd, IsTrue}
 use Rattle.std.proofs.lemmas.Bool.{false≢true}
 use Rattle.std.proofs.Math.Seq.{take-length}
 use Rattle.disk_defs.specs.Disk.{Files, View, Image, IsLawful, AtEachMoment}
@@ -117,16 +117,16 @@ pub place_of_images : (w : View) (p : Place) (site : Option world.Site) (outcome
     → (p.told ≡ true → (c : Files) → Image w c → (o : Contents) × Among outcomes o × Stands c o)
     → (now : Contents) × (p.told ≡ true → Among outcomes now) × Matches w (record { site = site; told = p.told; now = now; outcomes = outcomes; faults = w.faults; simulated = p.simulated })
 place_of_images w p site outcomes law same told images =
-    let m = pick_one p.told p.now (λ o. Unit {0}) (λ o. Among outcomes o × IsSomeAnd w.content (λ files. Stands files o)) tt (λ yes.
-    let r = reads_image w law (told yes) in
-    let o = images yes r.0 r.2 in
+    let m = pick_one p.told p.now (λ o. Unit {0}) (λ o. Among outcomes o × IsSomeAnd w.content (λ files. Stands files o)) tt (λ sure.
+    let r = reads_image w law (told sure) in
+    let o = images sure r.0 r.2 in
     (o.0, tt, (o.1, subst (λ (x : Option Files). IsSomeAnd x (λ files. Stands files o.0)) (sym r.1) o.2))) in
-    (m.0, (λ yes. (m.2 yes).0), record { told = λ yes. (m.2 yes).1; images = images; faults = refl; simulated = same })
+    (m.0, (λ sure. (m.2 sure).0), record { told = λ sure. (m.2 sure).1; images = images; faults = refl; simulated = same })
 
 -- a place with one outcome, for which the disk and each image stand
 pub place_of_one : (w : View) (p : Place) (site : Option world.Site) (o : Contents) → w.simulated ≡ p.simulated → (p.told ≡ true → IsSomeAnd w.content (λ files. Stands files o))
     → (p.told ≡ true → (c : Files) → Image w c → Stands c o) → Matches w (record { site = site; told = p.told; now = o; outcomes = o ∷ []; faults = w.faults; simulated = p.simulated })
-place_of_one w p site o same reads images = record { told = reads; images = λ yes c i. (o, inl refl, images yes c i); faults = refl; simulated = same }
+place_of_one w p site o same reads images = record { told = reads; images = λ sure c i. (o, inl refl, images sure c i); faults = refl; simulated = same }
 
 pub only : (o d : Contents) → Among (d ∷ []) o → o ≡ d
 only o d (inl h) = h
@@ -134,9 +134,9 @@ only o d (inr h) = absurd h
 
 -- an open site's disk and each image stand for its contents
 pub open_reads : (w : View) (told : Bool) (c : Contents) (s : OpenSite) → told ≡ true → IsOpen w told c (length c.sequence) s → IsSomeAnd w.content (λ files. Stands files c)
-open_reads w told c s yes h =
+open_reads w told c s sure h =
     some_and w.content (λ files. IsSite files (with_sequence c (take (length c.sequence) c.sequence))) (λ files. Stands files c)
-    (λ f k. inr (subst (λ seq. IsSite f (with_sequence c seq)) (take-length c.sequence) k)) (h.kept yes).reads
+    (λ f k. inr (subst (λ seq. IsSite f (with_sequence c seq)) (take-length c.sequence) k)) (h.kept sure).reads
 
 pub open_images : (w : View) (told : Bool) (c : Contents) (s : OpenSite) → told ≡ true → IsOpen w told c (length c.sequence) s → (f : Files) → Image w f → Stands f c
-open_images w told c s yes h f i = inr (images_stand w c s (subst (λ (b : Bool). IsOpen w b c (length c.sequence) s) yes h) f i)
+open_images w told c s sure h f i = inr (images_stand w c s (subst (λ (b : Bool). IsOpen w b c (length c.sequence) s) sure h) f i)

@@ -58,7 +58,7 @@ name_more (Mode region before ∷ rs) more e = refl
 
 made_more : (rs more : List InstanceRecord) → nat_lt 0 (length rs) ≡ true → nat_lt 0 (length (rs ++ more)) ≡ true
 made_more [] more e = absurd (false≢true e)
-made_more (r ∷ rs) more e = refl
+made_more (r ∷ rs) more e = le-leb 1 (length ((r ∷ rs) ++ more)) (omega arith)
 
 of_more : (name : Name) (c d : Contents) (more : List InstanceRecord) → d.instance ≡ c.instance ++ more → IsOf name c → IsOf name d
 of_more name c d more e h = record {

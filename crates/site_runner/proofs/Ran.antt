@@ -127,13 +127,13 @@ pub record FrontPlace (w : View) (p : Place) (state : Option world.Site) (all : 
 pub front_place : (w : View) (p : Place) (state : Option world.Site) (all : Sequence) (low : ℕ) → IsLawful w → w.simulated ≡ p.simulated → MayHaveFront w p.told p.now all low → FrontPlace w p state all low
 front_place w p state all low law same may =
     let list = fronts p.now all low (length all - low) in
-    let low_is : p.told ≡ true → low ≤ length all = λ yes.
-    let k = reads_image w law (may.told yes) in
-    let o = may.images yes k.0 k.2 in
+    let low_is : p.told ≡ true → low ≤ length all = λ sure.
+    let k = reads_image w law (may.told sure) in
+    let o = may.images sure k.0 k.2 in
     omega (arith, o.1.least, o.1.most) in
-    let all_fronts : p.told ≡ true → (o : Contents) → Among list o → IsFrontOf all low p.now o = λ yes o a. are_fronts p.now all low (length all - low) (omega (arith, low_is yes)) o a in
-    let m = place_of_images w p state list law same may.told (λ yes c i. let o = may.images yes c i in (o.0, front_among p.now all low o.0 o.1, inr o.2)) in
-    record { now = m.0; front = λ yes. all_fronts yes m.0 (m.1 yes); fronts_all = all_fronts; matches = m.2 }
+    let all_fronts : p.told ≡ true → (o : Contents) → Among list o → IsFrontOf all low p.now o = λ sure o a. are_fronts p.now all low (length all - low) (omega (arith, low_is sure)) o a in
+    let m = place_of_images w p state list law same may.told (λ sure c i. let o = may.images sure c i in (o.0, front_among p.now all low o.0 o.1, inr o.2)) in
+    record { now = m.0; front = λ sure. all_fronts sure m.0 (m.1 sure); fronts_all = all_fronts; matches = m.2 }
 
 of_sequence : (name : Name) (c : Contents) (seq : Sequence) → IsOf name c → IsOf name (with_sequence c seq)
 of_sequence name c seq h = record { made = h.made; name = h.name }
@@ -169,12 +169,12 @@ ran v w s r new jobs order before middle now whole st stamped same later f t p h
         },
       ),
       record {
-        disk = place_of_one w p q.site o (same ∙ h.disk.simulated) (λ yes. open_reads w p.told o new.site yes d.reigns) (λ yes. open_images w p.told o new.site yes d.reigns);
+        disk = place_of_one w p q.site o (same ∙ h.disk.simulated) (λ sure. open_reads w p.told o new.site sure d.reigns) (λ sure. open_images w p.told o new.site sure d.reigns);
         site = ap (in_new_state state) h.site ∙ ap (λ (x : List ℕ). Some (record { name = s.name; state = world.Primary stamp x })) (sym d.serials)
             ∙ ap (λ (x : Stamp). Some (record { name = s.name; state = world.Primary x new.serials })) stamp_new;
         held = record {
-          made = λ yes. let k = of_sequence s.name p.now turn.sequence (h.held.made yes).now in record { now = k; outcomes = λ x j. subst (IsOf s.name) (sym (only x o j)) k };
-          state = record { reigns = d.reigns; settled = λ yes x j. only x o j };
+          made = λ sure. let k = of_sequence s.name p.now turn.sequence (h.held.made sure).now in record { now = k; outcomes = λ x j. subst (IsOf s.name) (sym (only x o j)) k };
+          state = record { reigns = d.reigns; settled = λ sure x j. only x o j };
         };
       },
       t ∙ ap (λ (x : List ℕ). x ++ line s.name (codes "AT " ++ decimal (length new.site.entries.items))) d.text
@@ -198,7 +198,7 @@ ran_to_fault v w s r jobs order k undecided before middle now law st same count 
     let front = front_place w p state turn.sequence a.hardened law (same ∙ h.disk.simulated) a.front in
     let text : turn_on p.site jobs ends p ≡ turn = ap (λ (x : Option world.Site). turn_on x jobs ends p) (site_is v s r p st h) in
     let rest : undecided ≡ length order - length (printed a.hardened turn.replies) = omega (arith, a.count) in
-    let of = λ (yes : p.told ≡ true) (o : Contents) (g : IsFrontOf turn.sequence a.hardened p.now o). subst (IsOf s.name) (sym g.is) (of_sequence s.name p.now (take g.count turn.sequence) (h.held.made yes).now) in (
+    let of = λ (sure : p.told ≡ true) (o : Contents) (g : IsFrontOf turn.sequence a.hardened p.now o). subst (IsOf s.name) (sym g.is) (of_sequence s.name p.now (take g.count turn.sequence) (h.held.made sure).now) in (
       Ran ends,
       record { site = state; told = p.told; now = front.now; outcomes = fronts p.now turn.sequence a.hardened (length turn.sequence - a.hardened); faults = w.faults; simulated = p.simulated },
       (
@@ -223,7 +223,7 @@ ran_to_fault v w s r jobs order k undecided before middle now law st same count 
         disk = front.matches;
         site = ap (in_new_state (world.Failed k)) h.site;
         held = record {
-          made = λ yes. record { now = of yes front.now (front.front yes); outcomes = λ o j. of yes o (front.fronts_all yes o j) };
+          made = λ sure. record { now = of sure front.now (front.front sure); outcomes = λ o j. of sure o (front.fronts_all sure o j) };
           state = tt;
         };
       },
@@ -247,7 +247,7 @@ run_cut v w s r jobs order law st same f p h =
       record { site = p.site; told = p.told; now = front.now; outcomes = fronts p.now all low (length all - low); faults = w.faults; simulated = p.simulated },
       record {
         told = refl;
-        outcomes = λ yes o a. inr (subst (λ (x : Option world.Site). RunMayLeaveOn x jobs order p o) (sym (site_is v s r p st h)) (m, lower o (front.fronts_all yes o a)));
+        outcomes = λ sure o a. inr (subst (λ (x : Option world.Site). RunMayLeaveOn x jobs order p o) (sym (site_is v s r p st h)) (m, lower o (front.fronts_all sure o a)));
       },
       front.matches,
     )
@@ -261,11 +261,11 @@ decided_front w told c jobs order r new before now d =
       length c.sequence,
       omega arith,
       subst (λ (x : List ℕ). MayHaveFront w told c (turn_of (stamp_of r) r.serials jobs x c.sequence).sequence (length c.sequence)) (sym (take-length order)) (record {
-        told = λ yes. told_is w.content _ (d.reigns.kept yes).reads;
-        images = λ yes files i. (
+        told = λ sure. told_is w.content _ (d.reigns.kept sure).reads;
+        images = λ sure files i. (
           with_sequence c all,
           record { count = length all; least = omega (arith, d.grown); most = omega arith; is = ap (with_sequence c) (sym (take-length all)) },
-          images_stand w (with_sequence c all) new.site (subst (λ (b : Bool). Reigns w b (with_sequence c all) new) yes d.reigns) files i,
+          images_stand w (with_sequence c all) new.site (subst (λ (b : Bool). Reigns w b (with_sequence c all) new) sure d.reigns) files i,
         );
       }),
     )

@@ -62,28 +62,28 @@ cause_down : (s : Site) (p : Place) → s.state ≡ Down → p.site ≡ Some (si
 cause_down s p e h = third (in_state stopped p.site) (in_state running p.site) (limited (Some p)) (early_down s p e h) ∙ first_one (limited (Some p))
 
 limited_told : (p : Place) (x y : Option Cause) → p.told ≡ true → generation_limit p.now ≡ x → reign_limit p.now ≡ y → limited (Some p) ≡ first (x ∷ y ∷ [])
-limited_told p x y yes g r = ap (λ (b : Bool). if b then first (generation_limit p.now ∷ reign_limit p.now ∷ []) else None) yes ∙ ap (λ (z : Option Cause). first (z ∷ reign_limit p.now ∷ [])) g ∙ ap (λ (z : Option Cause). first (x ∷ z ∷ [])) r
+limited_told p x y sure g r = ap (λ (b : Bool). if b then first (generation_limit p.now ∷ reign_limit p.now ∷ []) else None) sure ∙ ap (λ (z : Option Cause). first (z ∷ reign_limit p.now ∷ [])) g ∙ ap (λ (z : Option Cause). first (x ∷ z ∷ [])) r
 
 limited_generation : (p : Place) → p.told ≡ true → generation_limit p.now ≡ Some GenLimit → limited (Some p) ≡ Some GenLimit
-limited_generation p yes g = limited_told p (Some GenLimit) (reign_limit p.now) yes g refl
+limited_generation p sure g = limited_told p (Some GenLimit) (reign_limit p.now) sure g refl
 
 not_limited : (p : Place) → (p.told ≡ true) ⊎ (p.told ≡ false) → (p.told ≡ true → generation_limit p.now ≡ None) → (p.told ≡ true → reign_limit p.now ≡ None) → limited (Some p) ≡ None
-not_limited p (inl yes) g r = limited_told p None None yes (g yes) (r yes)
-not_limited p (inr no) g r = ap (λ (b : Bool). if b then first (generation_limit p.now ∷ reign_limit p.now ∷ []) else None) no
+not_limited p (inl sure) g r = limited_told p None None sure (g sure) (r sure)
+not_limited p (inr unsure) g r = ap (λ (b : Bool). if b then first (generation_limit p.now ∷ reign_limit p.now ∷ []) else None) no
 
 -- a place as it was, but for faults that were counted
-counted : Place → ℕ → Place
+abbrev pub counted : Place → ℕ → Place
 counted p faults = record { site = p.site; told = p.told; now = p.now; outcomes = p.outcomes; faults = faults; simulated = p.simulated }
 
 unknown_matches : (w : View) (p : Place) → p.told ≡ false → w.simulated ≡ p.simulated → Matches w (counted p w.faults)
-unknown_matches w p no same = record { told = λ yes. absurd (false≢true (sym no ∙ yes)); images = λ yes. absurd (false≢true (sym no ∙ yes)); faults = refl; simulated = same }
+unknown_matches w p unsure same = record { told = λ sure. absurd (false≢true (sym unsure ∙ sure)); images = λ sure. absurd (false≢true (sym unsure ∙ sure)); faults = refl; simulated = same }
 
 -- a site that is down at a place whose files aren't known
 pub unknown_at : (w : View) (s : Site) (p : Place) → s.state ≡ Down → p.site ≡ Some (site_value s) → p.told ≡ false → w.simulated ≡ p.simulated → IsAt w s (counted p w.faults)
-unknown_at w s p down site no same = record {
-  disk = unknown_matches w p no same;
+unknown_at w s p down site unsure same = record {
+  disk = unknown_matches w p unsure same;
   site = site;
-  held = record { made = λ yes. absurd (false≢true (sym no ∙ yes)); state = subst (λ (x : State). HoldsState w x (counted p w.faults)) (sym down) tt };
+  held = record { made = λ sure. absurd (false≢true (sym unsure ∙ sure)); state = subst (λ (x : State). HoldsState w x (counted p w.faults)) (sym down) tt };
 }
 
 -- What the opening of a site found, at its place.
@@ -91,13 +91,13 @@ unknown_at w s p down site no same = record {
 opened_told : (v w : View) (s : Site) (o : OpenSite) (p : Place) → IsLawful v → s.state ≡ Down → IsAt v s p → site_name o.instance.records ≡ s.name → p.told ≡ true
     → IfSome v.content (λ files. (c : Contents) → IsSite files c → IsOpen w true (opened c) (length c.sequence) o) → IfSome v.content (λ files. (c : Contents) → IsSite files c → generation c.instance < 65534)
     → w.simulated ≡ v.simulated → v.faults ≤ w.faults → IsOpenedAt w s o p
-opened_told v w s o p law down h name yes told drawn same later =
-    let made : IsMade s.name p = h.held.made yes in
-    let here = some_both v.content _ _ (h.disk.told yes) told in
+opened_told v w s o p law down h name sure told drawn same later =
+    let made : IsMade s.name p = h.held.made sure in
+    let here = some_both v.content _ _ (h.disk.told sure) told in
     let site : IsSite here.0 p.now = is_site here.0 p.now made.now.made here.1 in
-    let drawn_here = some_both v.content _ _ (h.disk.told yes) drawn in
-    let read = reads_image v law (told_is v.content _ (h.disk.told yes)) in
-    let out = h.disk.images yes read.0 read.2 in
+    let drawn_here = some_both v.content _ _ (h.disk.told sure) drawn in
+    let read = reads_image v law (told_is v.content _ (h.disk.told sure)) in
+    let out = h.disk.images sure read.0 read.2 in
     let told_there : (c : Contents) → IsSite read.0 c → IsOpen w true (opened c) (length c.sequence) o = subst (λ (x : Option Files). IfSome x (λ files. (c : Contents) → IsSite files c → IsOpen w true (opened c) (length c.sequence) o)) read.1 told in
     let one : IsOpen w true (opened p.now) (length p.now.sequence) o = here.2 p.now site in
     record {
@@ -116,16 +116,16 @@ opened_told v w s o p law down h name yes told drawn same later =
 
 opened_untold : (v w : View) (s : Site) (o : OpenSite) (p : Place) → s.state ≡ Down → IsAt v s p → site_name o.instance.records ≡ s.name → p.told ≡ false → ((c : Contents) × Remembers (opened c) (length c.sequence) o)
     → w.simulated ≡ v.simulated → v.faults ≤ w.faults → IsOpenedAt w s o p
-opened_untold v w s o p down h name no read same later = record {
+opened_untold v w s o p down h name unsure read same later = record {
   site = h.site;
   down = down;
   made = h.held.made;
   name = name;
   read = read.0;
-  as_before = λ yes. absurd (false≢true (sym no ∙ yes));
-  is_open = record { remembered = read.1; kept = λ yes. absurd (false≢true (sym no ∙ yes)) };
-  outcome = λ yes. absurd (false≢true (sym no ∙ yes));
-  drawn = λ yes. absurd (false≢true (sym no ∙ yes));
+  as_before = λ sure. absurd (false≢true (sym unsure ∙ sure));
+  is_open = record { remembered = read.1; kept = λ sure. absurd (false≢true (sym unsure ∙ sure)) };
+  outcome = λ sure. absurd (false≢true (sym unsure ∙ sure));
+  drawn = λ sure. absurd (false≢true (sym unsure ∙ sure));
   faults = omega (arith, later, h.disk.faults);
   simulated = same ∙ h.disk.simulated;
 }
@@ -134,8 +134,8 @@ pub opened_at : (v w : View) (s : Site) (o : OpenSite) (p : Place) → IsLawful 
     → IfSome v.content (λ files. (c : Contents) → IsSite files c → IsOpen w true (opened c) (length c.sequence) o) → IfSome v.content (λ files. (c : Contents) → IsSite files c → generation c.instance < 65534)
     → w.simulated ≡ v.simulated → v.faults ≤ w.faults → IsOpenedAt w s o p
 opened_at v w s o p law down h name read told drawn same later = elim (is_true_or_false p.told) [
-  | inl yes ↦ opened_told v w s o p law down h name yes told drawn same later
-  | inr no ↦ opened_untold v w s o p down h name no read same later
+  | inl sure ↦ opened_told v w s o p law down h name sure told drawn same later
+  | inr unsure ↦ opened_untold v w s o p down h name unsure read same later
 ]
 
 -- A start that ends before the reign: each image stands for what beginning one may leave.
@@ -149,12 +149,12 @@ pub record MayHaveBegun (w : View) (s : Site) (p : Place) : Type 0 where
 begun_place : (w : View) (s : Site) (p : Place) (site : Option world.Site) → IsLawful w → MayHaveBegun w s p
     → (now : Contents) × (p.told ≡ true → Among (begins s.name p.outcomes) now) × Matches w (record { site = site; told = p.told; now = now; outcomes = begins s.name p.outcomes; faults = w.faults; simulated = p.simulated })
 begun_place w s p site law b =
-    place_of_images w p site (begins s.name p.outcomes) law b.simulated b.still_told (λ yes f i. let k = b.images yes f i in (k.0, begins_among s.name p.outcomes k.1.0 k.0 k.1.1 k.1.2, k.2))
+    place_of_images w p site (begins s.name p.outcomes) law b.simulated b.still_told (λ sure f i. let k = b.images sure f i in (k.0, begins_among s.name p.outcomes k.1.0 k.0 k.1.1 k.1.2, k.2))
 
 pub begun_cut : (w : View) (s : Site) (p : Place) → IsLawful w → MayHaveBegun w s p → (q : Place) × LeftAt true (StartPrimary s.name) p q × Matches w q
 begun_cut w s p law b =
     let m = begun_place w s p p.site law b in
-    (record { site = p.site; told = p.told; now = m.0; outcomes = begins s.name p.outcomes; faults = w.faults; simulated = p.simulated }, record { told = refl; outcomes = λ yes o a. inr (among_begins s.name p.outcomes o a) }, m.2)
+    (record { site = p.site; told = p.told; now = m.0; outcomes = begins s.name p.outcomes; faults = w.faults; simulated = p.simulated }, record { told = refl; outcomes = λ sure o a. inr (among_begins s.name p.outcomes o a) }, m.2)
 
 -- what START answers from a place
 abbrev pub Answers : View → Site → Place → Site → List ℕ → List ℕ → Type 0
@@ -165,21 +165,21 @@ pub begun_fault : (w : View) (s : Site) (p : Place) (k : ℕ) (before now : List
 begun_fault w s p k before now law down site made b count rose t =
     let state = in_new_state (world.Failed k) p.site in
     let m = begun_place w s p state law b in
-    let of = λ (yes : p.told ≡ true) (o : Contents) (a : Among (begins s.name p.outcomes) o). (let x = among_begins s.name p.outcomes o a in of_may_begin s.name x.0 o ((made yes).outcomes x.0 x.1) x.2) in (
+    let of = λ (sure : p.told ≡ true) (o : Contents) (a : Among (begins s.name p.outcomes) o). (let x = among_begins s.name p.outcomes o a in of_may_begin s.name x.0 o ((made sure).outcomes x.0 x.1) x.2) in (
       DiskFault k,
       record { site = state; told = p.told; now = m.0; outcomes = begins s.name p.outcomes; faults = w.faults; simulated = p.simulated },
       (
         early_down s p down site,
         record {
           site = refl;
-          outcomes = λ yes o a. among_begins s.name p.outcomes o a;
+          outcomes = λ sure o a. among_begins s.name p.outcomes o a;
           faults = record { count = sym count; rose = subst (λ (x : ℕ). Rose p.faults x) (sym count) rose; same = record { told = refl; simulated = refl } };
         },
       ),
       record {
         disk = m.2;
         site = ap (in_new_state (world.Failed k)) site;
-        held = record { made = λ yes. record { now = of yes m.0 (m.1 yes); outcomes = of yes }; state = tt };
+        held = record { made = λ sure. record { now = of sure m.0 (m.1 sure); outcomes = of sure }; state = tt };
       },
       t,
     )
@@ -190,13 +190,13 @@ rose_at v w p m h = subst (λ (x : ℕ). Rose x w.faults) m.faults h
 -- the opening of a site was begun
 pub load_begun : (v w : View) (s : Site) (p : Place) → IsLawful w → IsAt v s p → IfSome v.content (λ files. (c : Contents) → IsSite files c → AtEachMoment v w (MayOpen v)) → (IsSome v.content → IsSome w.content) → w.simulated ≡ v.simulated → MayHaveBegun w s p
 load_begun v w s p law h moments still same = record {
-  still_told = λ yes. still (told_is v.content _ (h.disk.told yes));
-  images = λ yes f i.
-      let made : IsMade s.name p = h.held.made yes in
-      let here = some_both v.content _ _ (h.disk.told yes) moments in
+  still_told = λ sure. still (told_is v.content _ (h.disk.told sure));
+  images = λ sure f i.
+      let made : IsMade s.name p = h.held.made sure in
+      let here = some_both v.content _ _ (h.disk.told sure) moments in
       let each = here.2 p.now (is_site here.0 p.now made.now.made here.1) in
       let from = at_moment v w (MayOpen v) f law each i in
-      let was = h.disk.images yes from.0 from.1 in
+      let was = h.disk.images sure from.0 from.1 in
       let now = from.2 was.0 (is_site from.0 was.0 (made.outcomes was.0 was.1).made was.2) in
       (now.0, (was.0, was.1, may_begin s.name was.0 now.0 now.1), inr now.2);
   simulated = same ∙ h.disk.simulated;
@@ -218,16 +218,16 @@ load_cut v w s law moments still same p h = begun_cut w s p law (load_begun v w 
 -- there is no generation left
 load_limit_told : (v w : View) (s : Site) (before now : List ℕ) (p : Place) → IsLawful w → s.state ≡ Down → IsAt v s p → p.told ≡ true → IfSome v.content (λ files. (c : Contents) → IsSite files c → 65534 ≤ generation c.instance)
     → w.content ≡ v.content → AtEachMoment v w (Image v) → w.simulated ≡ v.simulated → v.faults ≤ w.faults → now ≡ before ++ line s.name (codes "GENLIMIT") → Answers w s p s before now
-load_limit_told v w s before now p law down h yes limit unwritten untouched same later t =
-    let made : IsMade s.name p = h.held.made yes in
-    let here = some_both v.content _ _ (h.disk.told yes) limit in
+load_limit_told v w s before now p law down h sure limit unwritten untouched same later t =
+    let made : IsMade s.name p = h.held.made sure in
+    let here = some_both v.content _ _ (h.disk.told sure) limit in
     let q : Place = counted p w.faults in (
       Refused (record { site = s.name; cause = GenLimit }),
       q,
       (
         refl,
         inl (
-          cause_down s p down h.site ∙ limited_generation p yes (generation_past p.now (here.2 p.now (is_site here.0 p.now made.now.made here.1))),
+          cause_down s p down h.site ∙ limited_generation p sure (generation_past p.now (here.2 p.now (is_site here.0 p.now made.now.made here.1))),
           record { site = refl; now = refl; outcomes = λ o a. a; faults = omega (arith, later, h.disk.faults); same = record { told = refl; simulated = refl } },
         ),
       ),
@@ -245,7 +245,7 @@ load_limit_told v w s before now p law down h yes limit unwritten untouched same
     )
 
 load_limit_untold : (v w : View) (s : Site) (before now : List ℕ) (p : Place) → s.state ≡ Down → IsAt v s p → p.told ≡ false → w.simulated ≡ v.simulated → v.faults ≤ w.faults → now ≡ before ++ line s.name (codes "GENLIMIT") → Answers w s p s before now
-load_limit_untold v w s before now p down h no same later t = (
+load_limit_untold v w s before now p down h unsure same later t = (
   Refused (record { site = s.name; cause = GenLimit }),
   counted p w.faults,
   (
@@ -255,42 +255,42 @@ load_limit_untold v w s before now p down h no same later t = (
       (inl refl, record { unknown = no; kept = record { site = refl; now = refl; outcomes = λ o a. a; faults = omega (arith, later, h.disk.faults); same = record { told = refl; simulated = refl } } }),
     ),
   ),
-  unknown_at w s p down h.site no (same ∙ h.disk.simulated),
+  unknown_at w s p down h.site unsure (same ∙ h.disk.simulated),
   t,
 )
 
 pub load_limit : (v w : View) (s : Site) (before now : List ℕ) → IsLawful w → s.state ≡ Down → IfSome v.content (λ files. (c : Contents) → IsSite files c → 65534 ≤ generation c.instance) → w.content ≡ v.content → AtEachMoment v w (Image v)
     → w.simulated ≡ v.simulated → v.faults ≤ w.faults → now ≡ before ++ line s.name (codes "GENLIMIT") → ExecutesAt (StartPrimary s.name) v s w s before now
 load_limit v w s before now law down limit unwritten untouched same later t p h = elim (is_true_or_false p.told) [
-  | inl yes ↦ load_limit_told v w s before now p law down h yes limit unwritten untouched same later t
-  | inr no ↦ load_limit_untold v w s before now p down h no same later t
+  | inl sure ↦ load_limit_told v w s before now p law down h sure limit unwritten untouched same later t
+  | inr unsure ↦ load_limit_untold v w s before now p down h unsure same later t
 ]
 
 -- bytes outside the formats, which no known files have
 damaged : (v w : View) (s : Site) (file offset : ℕ) (before now : List ℕ) (p : Place) → s.state ≡ Down → IsAt v s p → p.told ≡ false → w.simulated ≡ v.simulated → v.faults ≤ w.faults
     → now ≡ before ++ line s.name (codes "NOTAFILE " ++ decimal file ++ 32 ∷ decimal offset) → Answers w s p s before now
-damaged v w s file offset before now p down h no same later t = (
+damaged v w s file offset before now p down h unsure same later t = (
   NotAFile file offset,
   counted p w.faults,
   (early_down s p down h.site, record { unknown = no; kept = record { site = refl; now = refl; outcomes = λ o a. a; faults = omega (arith, later, h.disk.faults); same = record { told = refl; simulated = refl } } }),
-  unknown_at w s p down h.site no (same ∙ h.disk.simulated),
+  unknown_at w s p down h.site unsure (same ∙ h.disk.simulated),
   t,
 )
 
 pub load_damaged : (v w : View) (s : Site) (file offset : ℕ) (before now : List ℕ) → s.state ≡ Down → IfSome v.content (λ files. (c : Contents) → IsSite files c → ⊥) → w.simulated ≡ v.simulated → v.faults ≤ w.faults
     → now ≡ before ++ line s.name (codes "NOTAFILE " ++ decimal file ++ 32 ∷ decimal offset) → ExecutesAt (StartPrimary s.name) v s w s before now
 load_damaged v w s file offset before now down outside same later t p h =
-    damaged v w s file offset before now p down h (not_true p.told (λ yes.
-    let here = some_both v.content _ _ (h.disk.told yes) outside in
-    here.2 p.now (is_site here.0 p.now (h.held.made yes).now.made here.1))) same later t
+    damaged v w s file offset before now p down h (not_true p.told (λ sure.
+    let here = some_both v.content _ _ (h.disk.told sure) outside in
+    here.2 p.now (is_site here.0 p.now (h.held.made sure).now.made here.1))) same later t
 
 -- another site stands there, which no known files tell
 pub load_other : (v w : View) (s : Site) (o : OpenSite) (before now : List ℕ) → s.state ≡ Down → (site_name o.instance.records ≡ s.name → ⊥) → IfSome v.content (λ files. (c : Contents) → IsSite files c → IsOpen w true (opened c) (length c.sequence) o)
     → w.simulated ≡ v.simulated → v.faults ≤ w.faults → now ≡ before ++ line s.name (codes "NOTAFILE " ++ decimal 0 ++ 32 ∷ decimal 0) → ExecutesAt (StartPrimary s.name) v s w s before now
 load_other v w s o before now down other told same later t p h =
-    damaged v w s 0 0 before now p down h (not_true p.told (λ yes.
-    let made : IsMade s.name p = h.held.made yes in
-    let here = some_both v.content _ _ (h.disk.told yes) told in
+    damaged v w s 0 0 before now p down h (not_true p.told (λ sure.
+    let made : IsMade s.name p = h.held.made sure in
+    let here = some_both v.content _ _ (h.disk.told sure) told in
     let one : IsOpen w true (opened p.now) (length p.now.sequence) o = here.2 p.now (is_site here.0 p.now made.now.made here.1) in
     let of : IsOf s.name (opened p.now) = of_opened s.name p.now made.now in
     other (ap site_name one.remembered.instance ∙ of.name))) same later t
@@ -310,9 +310,9 @@ told_open v c n o h = told_is v.content _ (h.kept refl).reads
 
 reign_begun : (v w : View) (s : Site) (o : OpenSite) (p : Place) → Moments v w o → IsOpenedAt v s o p → MayHaveBegun w s p
 reign_begun v w s o p m h = record {
-  still_told = λ yes. let k = h.outcome yes in m.still_told (told_open v (opened k.0) (length k.0.sequence) o k.2);
-  images = λ yes f i.
-      let k = h.outcome yes in
+  still_told = λ sure. let k = h.outcome sure in m.still_told (told_open v (opened k.0) (length k.0.sequence) o k.2);
+  images = λ sure f i.
+      let k = h.outcome sure in
       let c : Contents = k.0 in
       let name : site_name (opened c).instance ≡ s.name = sym (ap site_name k.2.remembered.instance) ∙ h.name in
       elim (at_moment v w _ f m.lawful (m.any_moment (opened c) k.2) i) [
@@ -333,18 +333,18 @@ reign_cut v w s o m p h = begun_cut w s p m.lawful (reign_begun v w s o p m h)
 -- there is no reign left
 reign_limit_told : (v : View) (s : Site) (o : OpenSite) (before now : List ℕ) (p : Place) → IsOpenedAt v s o p → p.told ≡ true → ((c : Contents) (n : ℕ) → Remembers c n o → reign_limit c ≡ Some ReignLimit)
     → now ≡ before ++ line s.name (codes "REIGNLIMIT") → Answers v s p s before now
-reign_limit_told v s o before now p h yes limit t =
+reign_limit_told v s o before now p h sure limit t =
     let c : Contents = opened p.now in
-    let is_open : IsOpen v p.told c (length c.sequence) o = subst (λ (x : Contents). IsOpen v p.told (opened x) (length x.sequence) o) (h.as_before yes) h.is_open in
+    let is_open : IsOpen v p.told c (length c.sequence) o = subst (λ (x : Contents). IsOpen v p.told (opened x) (length x.sequence) o) (h.as_before sure) h.is_open in
     let q : Place = record { site = in_new_state world.Down p.site; told = p.told; now = c; outcomes = c ∷ []; faults = v.faults; simulated = p.simulated } in
     let full : reign_limit p.now ≡ Some ReignLimit = sym (limit_opened p.now) ∙ limit c (length c.sequence) is_open.remembered in
-    let of : IsOf s.name c = of_opened s.name p.now (h.made yes).now in (
+    let of : IsOf s.name c = of_opened s.name p.now (h.made sure).now in (
       Refused (record { site = s.name; cause = ReignLimit }),
       q,
       (
         refl,
         inl (
-          cause_down s p h.down h.site ∙ limited_told p None (Some ReignLimit) yes (h.drawn yes) full,
+          cause_down s p h.down h.site ∙ limited_told p None (Some ReignLimit) sure (h.drawn sure) full,
           record { site = refl; now = refl; outcomes = refl; faults = h.faults; same = record { told = refl; simulated = refl } },
         ),
       ),
@@ -357,7 +357,7 @@ reign_limit_told v s o before now p h yes limit t =
     )
 
 reign_limit_untold : (v : View) (s : Site) (o : OpenSite) (before now : List ℕ) (p : Place) → IsOpenedAt v s o p → p.told ≡ false → now ≡ before ++ line s.name (codes "REIGNLIMIT") → Answers v s p s before now
-reign_limit_untold v s o before now p h no t = (
+reign_limit_untold v s o before now p h unsure t = (
   Refused (record { site = s.name; cause = ReignLimit }),
   counted p v.faults,
   (
@@ -367,14 +367,14 @@ reign_limit_untold v s o before now p h no t = (
       (inr refl, record { unknown = no; kept = record { site = refl; now = refl; outcomes = λ o a. a; faults = h.faults; same = record { told = refl; simulated = refl } } }),
     ),
   ),
-  unknown_at v s p h.down h.site no h.simulated,
+  unknown_at v s p h.down h.site unsure h.simulated,
   t,
 )
 
 pub reign_limited : (v : View) (s : Site) (o : OpenSite) (before now : List ℕ) → ((c : Contents) (n : ℕ) → Remembers c n o → reign_limit c ≡ Some ReignLimit) → now ≡ before ++ line s.name (codes "REIGNLIMIT") → BeginsAt v o s v s before now
 reign_limited v s o before now limit t p h = elim (is_true_or_false p.told) [
-  | inl yes ↦ reign_limit_told v s o before now p h yes limit t
-  | inr no ↦ reign_limit_untold v s o before now p h no t
+  | inl sure ↦ reign_limit_told v s o before now p h sure limit t
+  | inr unsure ↦ reign_limit_untold v s o before now p h unsure t
 ]
 
 entries_open : (v : View) (told : Bool) (c : Contents) (n : ℕ) (o : OpenSite) → IsOpen v told c n o → length o.entries.items ≡ length c.sequence
@@ -398,8 +398,8 @@ reign_starts v w s o new stamp serials from before now first_serials begun drawn
     let stamp_new : stamp_of r ≡ next_stamp s.name read = ap stamp_in stamped ∙ stamp_is in
     let state : world.State = world.Primary (next_stamp s.name read) FIRST_SERIALS in
     let q : Place = record { site = in_new_state state p.site; told = p.told; now = d; outcomes = d ∷ []; faults = w.faults; simulated = p.simulated } in
-    let reign_room : p.told ≡ true → reign_limit p.now ≡ None = λ yes. ap reign_limit (sym (h.as_before yes)) ∙ sym (limit_opened read) ∙ room c (length c.sequence) h.is_open.remembered in
-    let of : p.told ≡ true → IsOf s.name d = λ yes. of_begun s.name s.name c (of_opened s.name read (subst (IsOf s.name) (sym (h.as_before yes)) (h.made yes).now)) in
+    let reign_room : p.told ≡ true → reign_limit p.now ≡ None = λ sure. ap reign_limit (sym (h.as_before sure)) ∙ sym (limit_opened read) ∙ room c (length c.sequence) h.is_open.remembered in
+    let of : p.told ≡ true → IsOf s.name d = λ sure. of_begun s.name s.name c (of_opened s.name read (subst (IsOf s.name) (sym (h.as_before sure)) (h.made sure).now)) in
     let cycle : stamp.cycle ≡ cycle_on q.site = ap (λ x. x.cycle) stamp_is ∙ sym (ap (λ (x : Option world.Site). cycle_on (in_new_state state x)) h.site) in
     let count : from ≡ length d.sequence + 1 = is_from ∙ ap (λ (k : ℕ). k + 1) (entries_open v p.told c (length read.sequence) o h.is_open) in (
       Done,
@@ -413,11 +413,11 @@ reign_starts v w s o new stamp serials from before now first_serials begun drawn
         },
       ),
       record {
-        disk = place_of_one w p q.site d (same ∙ h.simulated) (λ yes. open_reads w p.told d new yes is_open) (λ yes. open_images w p.told d new yes is_open);
+        disk = place_of_one w p q.site d (same ∙ h.simulated) (λ sure. open_reads w p.told d new sure is_open) (λ sure. open_images w p.told d new sure is_open);
         site = ap (in_new_state state) h.site ∙ ap (λ (x : world.State). Some (record { name = s.name; state = x })) (states_same stamp_new first_serials);
         held = record {
-          made = λ yes. record { now = of yes; outcomes = λ x j. subst (IsOf s.name) (sym (only x d j)) (of yes) };
-          state = record { reigns = is_open; settled = λ yes x j. only x d j };
+          made = λ sure. record { now = of sure; outcomes = λ x j. subst (IsOf s.name) (sym (only x d j)) (of sure) };
+          state = record { reigns = is_open; settled = λ sure x j. only x d j };
         };
       },
       t ∙ ap (λ (k : ℕ). before ++ line s.name (codes "PRIMARY " ++ decimal k ++ codes " FROM " ++ decimal from)) cycle

@@ -37,9 +37,9 @@ abbrev pub is_slot_named : {D : Type 0} → Name → Slot D → Bool
 is_slot_named name slot = is_site_named name (option_map site_value slot.site)
 
 -- a site of that name was made there
-pub record IsOf (name : Name) (c : Contents) : Type 0 where
+pub record IsOf (called : Name) (c : Contents) : Type 0 where
   pub made : is_made c ≡ true
-  pub name : site_name c.instance ≡ name
+  pub name : site_name c.instance ≡ called
 
 -- a site that was made is there, whatever a crash leaves
 pub record IsMade (name : Name) (p : Place) : Type 0 where
