@@ -69,7 +69,7 @@ limited_generation p sure g = limited_told p (Some GenLimit) (reign_limit p.now)
 
 not_limited : (p : Place) → (p.told ≡ true) ⊎ (p.told ≡ false) → (p.told ≡ true → generation_limit p.now ≡ None) → (p.told ≡ true → reign_limit p.now ≡ None) → limited (Some p) ≡ None
 not_limited p (inl sure) g r = limited_told p None None sure (g sure) (r sure)
-not_limited p (inr unsure) g r = ap (λ (b : Bool). if b then first (generation_limit p.now ∷ reign_limit p.now ∷ []) else None) no
+not_limited p (inr unsure) g r = ap (λ (b : Bool). if b then first (generation_limit p.now ∷ reign_limit p.now ∷ []) else None) unsure
 
 -- a place as it was, but for faults that were counted
 abbrev pub counted : Place → ℕ → Place
@@ -252,7 +252,7 @@ load_limit_untold v w s before now p down h unsure same later t = (
     refl,
     inr (
       early_down s p down h.site,
-      (inl refl, record { unknown = no; kept = record { site = refl; now = refl; outcomes = λ o a. a; faults = omega (arith, later, h.disk.faults); same = record { told = refl; simulated = refl } } }),
+      (inl refl, record { unknown = unsure; kept = record { site = refl; now = refl; outcomes = λ o a. a; faults = omega (arith, later, h.disk.faults); same = record { told = refl; simulated = refl } } }),
     ),
   ),
   unknown_at w s p down h.site unsure (same ∙ h.disk.simulated),
@@ -272,7 +272,7 @@ damaged : (v w : View) (s : Site) (file offset : ℕ) (before now : List ℕ) (p
 damaged v w s file offset before now p down h unsure same later t = (
   NotAFile file offset,
   counted p w.faults,
-  (early_down s p down h.site, record { unknown = no; kept = record { site = refl; now = refl; outcomes = λ o a. a; faults = omega (arith, later, h.disk.faults); same = record { told = refl; simulated = refl } } }),
+  (early_down s p down h.site, record { unknown = unsure; kept = record { site = refl; now = refl; outcomes = λ o a. a; faults = omega (arith, later, h.disk.faults); same = record { told = refl; simulated = refl } } }),
   unknown_at w s p down h.site unsure (same ∙ h.disk.simulated),
   t,
 )
@@ -364,7 +364,7 @@ reign_limit_untold v s o before now p h unsure t = (
     refl,
     inr (
       early_down s p h.down h.site,
-      (inr refl, record { unknown = no; kept = record { site = refl; now = refl; outcomes = λ o a. a; faults = h.faults; same = record { told = refl; simulated = refl } } }),
+      (inr refl, record { unknown = unsure; kept = record { site = refl; now = refl; outcomes = λ o a. a; faults = h.faults; same = record { told = refl; simulated = refl } } }),
     ),
   ),
   unknown_at v s p h.down h.site unsure h.simulated,
