@@ -7,6 +7,7 @@ use Rattle.site_store.specs.declared.error.SiteError.TheVariants as errors
 use Rattle.site_runner.specs.declared.slot.Site.{Site}
 use Rattle.site_runner.specs.Starting.{BeginsAt}
 use Rattle.site_runner.proofs.Results.{on_ok, err_holds}
+use Rattle.site_runner.proofs.Written.{named}
 use Rattle.site_runner.proofs.Started.{reign_starts, reign_limited, reign_faulted, reign_cut}
 use Rattle.site_runner.proofs.start.begin.Goals as goal
 
@@ -22,7 +23,7 @@ returns-in-Ok-clause-done g c =
     let is_from : c.sequence_length-from.result + 1 ≡ length c.args.opened.entries.items + 1 = ap (λ (k : ℕ). k + 1) (c.sequence_length-from.ensures ∙ ap (λ (l : List _). length l) e.entries) in
     reign_starts (g.D.Disk.disk c.args.disk.now) (g.D.Disk.disk c.start_reign.new.disk) c.args.site.now c.args.opened c.start_reign.new.self c.in-Ok.stamp _ (c.sequence_length-from.result + 1) c.args.text.now _ refl
     e.begun e.stamp e.remembered e.room e.simulated e.later is_from
-    (c.in_ok-write_primary-in-Ok.ensures ∙ ap (λ (n : List ℕ). c.args.text.now ++ line n (codes "PRIMARY " ++ decimal c.in-Ok.stamp.cycle ++ codes " FROM " ++ decimal (c.sequence_length-from.result + 1))) c.as_slice.ensures)
+    (named _ _ c.as_slice.ensures c.in_ok-write_primary-in-Ok.ensures)
 
 pub returns-in-Err-ReignLimit-clause-done : goal.returns-in-Err-ReignLimit-clause-done
 returns-in-Err-ReignLimit-clause-done g c =

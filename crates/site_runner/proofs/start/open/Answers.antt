@@ -4,6 +4,7 @@ use Rattle.std.specs.Fmt.{decimal}
 use Rattle.journal_defs.specs.Instance.{site_name}
 use Rattle.world_defs.specs.Output.{line}
 use Rattle.site_runner.proofs.Results.{on_ok, on_err_of, err_holds}
+use Rattle.site_runner.proofs.Written.{named, not_a_file}
 use Rattle.site_runner.proofs.Started.{load_faulted, load_cut, load_limit, load_damaged, load_other, begins_so, begins_cut}
 use Rattle.site_runner.proofs.start.open.Goals as goal
 
@@ -31,7 +32,7 @@ returns-else-is_named-clause-done g c =
     let e = c.in-Ok.ensures in
     on_ok c.write_not_a_file.result _ _ c.write_not_a_file.ensures (λ t.
     load_other (g.D.Disk.disk c.args.disk.now) (g.D.Disk.disk c.load.new.disk) c.args.site.now c.in-Ok.opened c.args.text.now _ c.requires (λ same. c.if-is_named.ensures (same ∙ sym c.as_slice.ensures)) e.told e.simulated e.later
-    (t ∙ ap (λ (n : List ℕ). c.args.text.now ++ line n (codes "NOTAFILE " ++ decimal 0 ++ 32 ∷ decimal 0)) c.as_slice-else-is_named.ensures))
+    (named _ _ c.as_slice-else-is_named.ensures t))
 
 pub returns-else-is_named-clause-cut_off : goal.returns-else-is_named-clause-cut_off
 returns-else-is_named-clause-cut_off g c =
@@ -44,7 +45,7 @@ returns-in-Err-GenLimit-clause-done g c =
     let is = ap Err c.in-Err-GenLimit.field-0-is in
     on_ok c.write_line.result _ _ c.write_line.ensures (λ t.
     load_limit (g.D.Disk.disk c.args.disk.now) (g.D.Disk.disk c.load.new.disk) c.args.site.now c.args.text.now _ (g.met.D.Disk.lawful c.load.new.disk) c.requires (e.limit is) (e.unwritten is) (e.untouched is) e.simulated e.later
-    (t ∙ ap (λ (n : List ℕ). c.args.text.now ++ line n (codes "GENLIMIT")) c.as_slice-in-Err-GenLimit.ensures))
+    (named _ _ c.as_slice-in-Err-GenLimit.ensures t))
 
 pub returns-in-Err-GenLimit-clause-cut_off : goal.returns-in-Err-GenLimit-clause-cut_off
 returns-in-Err-GenLimit-clause-cut_off g c =
@@ -55,8 +56,9 @@ pub returns-in_ok-write_numbered-in-Err-Failed-clause-done : goal.returns-in_ok-
 returns-in_ok-write_numbered-in-Err-Failed-clause-done g c =
     let e = c.in-Err-Failed.ensures in
     let is = ap Err c.in-Err-Failed.field-0-is in
-    load_faulted (g.D.Disk.disk c.args.disk.now) (g.D.Disk.disk c.load.new.disk) c.args.site.now c.in-Err-Failed.fault c.args.text.now _ (g.met.D.Disk.lawful c.load.new.disk) c.requires e.any_moment e.still_told e.simulated (e.count c.in-Err-Failed.fault is) (e.cause c.in-Err-Failed.fault is)
-    (c.in_ok-write_numbered-in-Err-Failed.ensures ∙ ap (λ (n : List ℕ). c.args.text.now ++ line n (codes "DISKFAULT " ++ decimal c.in-Err-Failed.fault)) c.as_slice-in-Err-Failed.ensures)
+    load_faulted (g.D.Disk.disk c.args.disk.now) (g.D.Disk.disk c.load.new.disk) c.args.site.now _ c.args.text.now _ (g.met.D.Disk.lawful c.load.new.disk) c.requires e.any_moment e.still_told e.simulated
+    (c.in-Err-Failed.fault-is ∙ e.count c.in-Err-Failed.fault is) (e.cause c.in-Err-Failed.fault is)
+    (named _ _ c.as_slice-in-Err-Failed.ensures c.in_ok-write_numbered-in-Err-Failed.ensures)
 
 pub returns-in-Err-NotAFile-clause-done : goal.returns-in-Err-NotAFile-clause-done
 returns-in-Err-NotAFile-clause-done g c =
@@ -65,7 +67,7 @@ returns-in-Err-NotAFile-clause-done g c =
     let offset = c.in-Err-NotAFile.offset in
     on_ok c.write_not_a_file-in-Err-NotAFile.result _ _ c.write_not_a_file-in-Err-NotAFile.ensures (λ t.
     load_damaged (g.D.Disk.disk c.args.disk.now) (g.D.Disk.disk c.load.new.disk) c.args.site.now file offset c.args.text.now _ c.requires (e.outside file offset (ap Err c.in-Err-NotAFile.field-0-is)) e.simulated e.later
-    (t ∙ ap (λ (n : List ℕ). c.args.text.now ++ line n (codes "NOTAFILE " ++ decimal file ++ 32 ∷ decimal offset)) c.as_slice-in-Err-NotAFile.ensures))
+    (not_a_file _ c.in-Err-NotAFile.file-is c.in-Err-NotAFile.offset-is c.as_slice-in-Err-NotAFile.ensures t))
 
 pub returns-in-Err-NotAFile-clause-cut_off : goal.returns-in-Err-NotAFile-clause-cut_off
 returns-in-Err-NotAFile-clause-cut_off g c =
