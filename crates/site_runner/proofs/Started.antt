@@ -7,7 +7,7 @@ use Rattle.disk_defs.specs.Disk.{Files, View, Image, IsLawful, AtEachMoment, Ros
 use Rattle.global_defs.specs.Entry as defs
 use Rattle.gvn_model.specs.declared.reign.Stamp.{Stamp}
 use Rattle.gvn_model.specs.Reigns.{stamp_value}
-use Rattle.journal_defs.specs.Instance.{InstanceRecord, generation, site_name}
+use Rattle.journal_defs.specs.Instance.{generation, site_name}
 use Rattle.site_store.specs.declared.site.OpenSite.{OpenSite}
 use Rattle.site_store.specs.Site.{Remembers, IsOpen}
 use Rattle.site_store.specs.Opening.{OpensTo, MayOpen}
@@ -30,7 +30,7 @@ use Rattle.site_runner.specs.Sites.{state_value, site_value, HoldsState, IsOf, I
 use Rattle.site_runner.specs.Here.{tests, cause_here, Here, text_here}
 use Rattle.site_runner.specs.Steps.{IsAt, ExecutesAt, IsCutAt}
 use Rattle.site_runner.specs.Starting.{IsOpenedAt, BeginsAt, IsCutOpened}
-use Rattle.site_runner.proofs.Ats.{refuses, kept_same, state_at, first_cause, second_cause, no_cause, not_true, is_true_or_false, some_both, some_and, told_is, is_site, at_moment, reads_image, place_of_images, place_of_one, only, open_reads, open_images}
+use Rattle.site_runner.proofs.Ats.{refuses, kept_same, state_at, first_cause, second_cause, no_cause, not_true, is_true_or_false, some_both, told_is, is_site, at_moment, reads_image, place_of_images, place_of_one, only, open_reads, open_images}
 use Rattle.site_runner.proofs.Stopped.{length_tagged}
 use Rattle.site_runner.proofs.Begun.{limit_opened, stamp_opened, of_opened, of_begun, of_may_begin, begins, among_begins, begins_among, generation_past, generation_left}
 

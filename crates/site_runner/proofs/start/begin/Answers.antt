@@ -1,10 +1,7 @@
 use Rattle.std.proofs.Common.{◌≡◌, ◌++◌, ◌+◌, ℕ, List, length, refl, ◌∙◌, ap, subst, sym, Err}
-use Rattle.std.specs.Prelude.{codes, IsErrOf}
+use Rattle.std.specs.Prelude.{codes}
 use Rattle.std.specs.Fmt.{decimal}
 use Rattle.world_defs.specs.Output.{line}
-use Rattle.site_store.specs.declared.error.SiteError.{SiteError}
-use Rattle.site_store.specs.declared.error.SiteError.TheVariants as errors
-use Rattle.site_runner.specs.declared.slot.Site.{Site}
 use Rattle.site_runner.specs.Starting.{BeginsAt}
 use Rattle.site_runner.proofs.Results.{on_ok, err_holds}
 use Rattle.site_runner.proofs.Written.{named}

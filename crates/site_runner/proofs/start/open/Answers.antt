@@ -1,8 +1,4 @@
-use Rattle.std.proofs.Common.{◌≡◌, ◌++◌, ◌∷◌, ℕ, List, ◌∙◌, ap, sym, Err}
-use Rattle.std.specs.Prelude.{codes}
-use Rattle.std.specs.Fmt.{decimal}
-use Rattle.journal_defs.specs.Instance.{site_name}
-use Rattle.world_defs.specs.Output.{line}
+use Rattle.std.proofs.Common.{◌∙◌, ap, sym, Err}
 use Rattle.site_runner.proofs.Results.{on_ok, on_err_of, err_holds}
 use Rattle.site_runner.proofs.Written.{named, not_a_file}
 use Rattle.site_runner.proofs.Started.{load_faulted, load_cut, load_limit, load_damaged, load_other, begins_so, begins_cut}
