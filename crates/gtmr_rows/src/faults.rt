@@ -6,7 +6,7 @@ use std::fmt::Write;
 use std::process::Abort;
 use std::test::Fail;
 
-/// After a crash the hardened entry stands, and serials go on.
+/// After a crash the hardened entry stands; the second reign has cycle 2, and its serials begin anew.
 #[test]
 fn crash_and_go_on(rt: HostRuntime) -> Result<(), Fail> {
     let (status, out) = ran_well(
@@ -16,7 +16,7 @@ fn crash_and_go_on(rt: HostRuntime) -> Result<(), Fail> {
     assert_eq!(rt; status, Status::Ok);
     assert_eq!(rt;
         out.as_slice(),
-        b"A CREATED\nA PRIMARY 1 FROM 1\n1.1 SEQ 1\nA AT 1\nA CRASHED\nA PRIMARY 1 FROM 2\n1.2 SEQ 2\nA AT 2\nGTMRJEX01\\A\\1\nSET\\1\\A.1\\1.1\\^X(1)=\"a\"\nSET\\2\\A.1\\1.2\\^X(2)=\"b\"\n".as_slice()
+        b"A CREATED\nA PRIMARY 1 FROM 1\n1.1 SEQ 1\nA AT 1\nA CRASHED\nA PRIMARY 2 FROM 2\n1.1 SEQ 2\nA AT 2\nGTMRJEX01\\A\\1\nSET\\1\\A.1\\1.1\\^X(1)=\"a\"\nSET\\2\\A.2\\1.1\\^X(2)=\"b\"\n".as_slice()
     );
     Ok(())
 }
@@ -31,7 +31,7 @@ fn fuse_at_once(rt: HostRuntime) -> Result<(), Fail> {
     assert_eq!(rt; status, Status::Ok);
     assert_eq!(rt;
         out.as_slice(),
-        b"A CREATED\nA PRIMARY 1 FROM 1\nA FUSED 0\nA DISKFAULT 1 UNDECIDED 1\nA STOPPED 1\nA CRASHED\nA PRIMARY 1 FROM 1\n".as_slice()
+        b"A CREATED\nA PRIMARY 1 FROM 1\nA FUSED 0\nA DISKFAULT 1 UNDECIDED 1\nA STOPPED 1\nA CRASHED\nA PRIMARY 2 FROM 1\n".as_slice()
     );
     Ok(())
 }
@@ -55,7 +55,7 @@ fn printed_text(alloc: Global, calls: u32, printed: usize) -> Result<String, Fai
 /// What a crash that leaves so many entries, a start and an extract print.
 fn left_text(alloc: Global, left: usize) -> Result<String, Fail> {
     let from = left.saturating_add(1);
-    let mut text = format!(in alloc; "A CRASHED\nA PRIMARY 1 FROM {from}\nGTMRJEX01\\A\\1\n")?;
+    let mut text = format!(in alloc; "A CRASHED\nA PRIMARY 2 FROM {from}\nGTMRJEX01\\A\\1\n")?;
     for i in 1..=left {
         write!(text, "SET\\{i}\\A.1\\1.{i}\\^X({i})=\"{i}\"\n")?;
     }

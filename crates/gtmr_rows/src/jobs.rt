@@ -99,7 +99,7 @@ fn a_transfer_and_a_crash(rt: HostRuntime) -> Result<(), Fail> {
     assert_eq!(rt; status, Status::Ok);
     assert_eq!(rt;
         out.as_slice(),
-        b"A CREATED\nA PRIMARY 1 FROM 1\n1.1 SEQ 1\n1.2 SEQ 2\n1.3 SEQ 3 70 50\n1.4 ROLLEDBACK CHECK\nA AT 3\nA CRASHED\nA PRIMARY 1 FROM 4\n1.4 READ \"70\"\n1.5 SEQ 4\nA AT 4\n^ACCT(1)=\"70\"\nGTMRJEX01\\A\\4\nKILL\\4\\A.1\\1.5\\^ACCT(2)\n".as_slice()
+        b"A CREATED\nA PRIMARY 1 FROM 1\n1.1 SEQ 1\n1.2 SEQ 2\n1.3 SEQ 3 70 50\n1.4 ROLLEDBACK CHECK\nA AT 3\nA CRASHED\nA PRIMARY 2 FROM 4\n1.1 READ \"70\"\n1.2 SEQ 4\nA AT 4\n^ACCT(1)=\"70\"\nGTMRJEX01\\A\\4\nKILL\\4\\A.2\\1.2\\^ACCT(2)\n".as_slice()
     );
     Ok(())
 }

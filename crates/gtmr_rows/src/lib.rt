@@ -2,11 +2,15 @@
 #![tactic(auto)]
 
 #[cfg(test)]
+mod attaching;
+#[cfg(test)]
 mod bad_lines;
 #[cfg(test)]
 mod faults;
 #[cfg(test)]
 mod jobs;
+#[cfg(test)]
+mod openings;
 #[cfg(test)]
 mod ran;
 #[cfg(test)]

@@ -38,6 +38,20 @@ pub fn ran(
     Ok((status, sink.bytes().to_vec(alloc)?))
 }
 
+/// Runs a script over these disks.
+pub fn ran_on(
+    alloc: Global,
+    disks: &mut Vec<MemDisk>,
+    script: &[u8],
+) -> Result<(Status, Vec<u8>), Fail> {
+    let mut words = Vec::new(alloc);
+    words.push(String::from_str(alloc, "run")?)?;
+    let mut source = MemSource::new(script.to_vec(alloc)?, Vec::new(alloc));
+    let mut sink = MemSink::new(alloc, Vec::new(alloc), 4096, 4096)?;
+    let status = run(alloc, &words, &mut source, &mut sink, disks);
+    Ok((status, sink.bytes().to_vec(alloc)?))
+}
+
 /// Runs a script whose source and sink don't fail.
 pub fn ran_well(alloc: Global, script: &[u8]) -> Result<(Status, Vec<u8>), Fail> {
     ran(alloc, &["run"], script.to_vec(alloc)?, &[], &[], 4096)

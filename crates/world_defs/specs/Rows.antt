@@ -31,16 +31,18 @@ pub record Faults (k : ℕ) (old new : Place) : Type 0 where
   pub rose : Rose old.faults k
   pub same : Same old new
 
--- A fault made the site Failed, and each outcome has P.
+-- A fault made the site Failed. What its files read as has P, and so has each outcome.
 pub record Fails (k : ℕ) (P : Contents → Type 0) (old new : Place) : Type 0 where
   pub site : new.site ≡ in_new_state (Failed k) old.site
+  pub now : IsTrue old.told → P new.now
   pub outcomes : IsTrue old.told → (o : Contents) → Among new.outcomes o → P o
   pub faults : Faults k old new
 
--- A fault before there was a site: there is none, and each outcome has P.
+-- A fault before there was a site: there is none. What the files read as has P, and so has each outcome.
 pub record FailsBefore (k : ℕ) (P : Contents → Type 0) (old new : Place) : Type 0 where
   pub free : old.site ≡ None
   pub site : new.site ≡ None
+  pub now : IsTrue old.told → P new.now
   pub outcomes : IsTrue old.told → (o : Contents) → Among new.outcomes o → P o
   pub faults : Faults k old new
 
@@ -68,7 +70,7 @@ pub record Creates (name : Name) (regions : List Region) (old new : Place) : Typ
 abbrev pub MayCreate : Name → List Region → Place → Contents → Type 0
 MayCreate name regions old o = Among old.outcomes o ⊎ (o ≡ created name regions)
 
--- ATTACH: the site that was found there, of a name that no other one has, is down
+-- ATTACH: the site that was found there, of a name that no other one has, is down, and each outcome is of a site with that name
 pub record Attaches (w : World) (old new : Place) : Type 0 where
   pub name : Name
   pub found : IsTrue old.told → name ≡ site_name old.now.instance
@@ -77,6 +79,7 @@ pub record Attaches (w : World) (old new : Place) : Type 0 where
   pub site : new.site ≡ Some (record { name = name; state = Down })
   pub now : new.now ≡ old.now
   pub outcomes : NoNew old.outcomes new.outcomes
+  pub named : IsTrue old.told → (o : Contents) → Among new.outcomes o → site_name o.instance ≡ name
   pub faults : old.faults ≤ new.faults
   pub same : Same old new
 

@@ -1,0 +1,9 @@
+pub mod Lists
+pub mod Instances
+pub mod SerialRuns
+pub mod ContentsFit
+pub mod PlacesFit
+pub mod ReignsFit
+pub mod SectionsFit
+pub mod WorldsFit
+pub mod FreshFit

@@ -1,0 +1,82 @@
+-- What RUN keeps at its place.
+use Rattle.std.proofs.Common.{◌≡◌, ℕ, ◌≤◌, true, List, length, take, Option, Some, None, IsTrue, refl, sym, ◌∙◌, ap, subst}
+use Rattle.std.specs.List.{list_all}
+use Rattle.global_defs.specs.Entry.{Stamp, Sequence}
+use Rattle.global_defs.specs.Jobs.{Job}
+use Rattle.global_defs.specs.Serial.{Turn, begun}
+use Rattle.journal_defs.specs.Instance.{greatest_cycle, site_name}
+use Rattle.journal_defs.specs.Surviving.{reigns}
+use Rattle.journal_defs.specs.Fit.{MOST_REIGNS}
+use Rattle.command_defs.specs.Commands.{Name}
+use Rattle.command_defs.specs.Sections.{is_updater}
+use Rattle.world_defs.specs.World.{Primary, Site, Contents, Place}
+use Rattle.world_defs.specs.Answers.{Section}
+use Rattle.world_defs.specs.Rows.{in_new_state, IsFrontOf, with_sequence, turn_of}
+use Rattle.world_defs.specs.Step.{Runs, RunsTo, IsPicked}
+use Rattle.world_defs.specs.Fit.{IsFitContents, IsFitReign, IsFitSite, IsNamedSo, IsFitPlace}
+use Rattle.world_laws.proofs.Lists.{all-front}
+use Rattle.world_laws.proofs.Instances.{few_at}
+use Rattle.world_laws.proofs.SerialRuns.{IsGoing, IsOf, going-serial, updaters-front, rise-front}
+use Rattle.world_laws.proofs.PlacesFit.{fit-becomes, fit-fails, named-same}
+
+-- the entries of a section, with a site's cycles
+abbrev Goes : Contents → Stamp → List ℕ → Sequence → Type 0
+Goes c stamp next seq = IsGoing (site_name c.instance) (greatest_cycle c.instance) stamp next seq
+
+begins : (name : Name) (c : Contents) (stamp : Stamp) (next : List ℕ) → IsFitContents c → IsFitReign name stamp next c → Goes c stamp next c.sequence
+begins name c stamp next h r = record { rise = h.serials; within = h.cycles; updaters = r.updaters; before = r.next }
+
+-- all entries that a section's picks lead to
+pub goes : (name : Name) (c : Contents) (stamp : Stamp) (next : List ℕ) (jobs : List (List Job)) (picks : List ℕ) → list_all is_updater picks ≡ true → IsFitContents c → IsFitReign name stamp next c
+    → Goes c stamp (turn_of stamp next jobs picks c.sequence).serials (turn_of stamp next jobs picks c.sequence).sequence
+goes name c stamp next jobs picks updaters h r =
+    going-serial (site_name c.instance) (greatest_cycle c.instance) stamp picks (begun next jobs c.sequence) r.cycle updaters (begins name c stamp next h r)
+
+fit-whole : (c : Contents) (stamp : Stamp) (next : List ℕ) (seq : Sequence) → length (reigns c.instance) ≤ MOST_REIGNS → Goes c stamp next seq → IsFitContents (with_sequence c seq)
+fit-whole c stamp next seq room g = record { serials = g.rise; few_reigns = few_at c.instance (length seq) room; cycles = g.within }
+
+pub fit-front : (c : Contents) (stamp : Stamp) (next : List ℕ) (all : Sequence) (low : ℕ) (o : Contents) → length (reigns c.instance) ≤ MOST_REIGNS → Goes c stamp next all
+    → IsFrontOf all low c o → IsFitContents o
+fit-front c stamp next all low o room g f = subst IsFitContents (sym f.is) (record {
+  serials = rise-front f.count all g.rise;
+  few_reigns = few_at c.instance (length (take f.count all)) room;
+  cycles = all-front (IsOf (site_name c.instance) (greatest_cycle c.instance)) f.count all g.within;
+})
+
+fit-same_reign : (name : Name) (c : Contents) (stamp : Stamp) (old next : List ℕ) (seq : Sequence) → IsFitReign name stamp old c → Goes c stamp next seq → IsFitReign name stamp next (with_sequence c seq)
+fit-same_reign name c stamp old next seq r g = record { root = r.root; cycle = r.cycle; room = r.room; updaters = g.updaters; next = g.before }
+
+front-named : (o : Option Site) (all : Sequence) (low : ℕ) (c d : Contents) → IsNamedSo o c → IsFrontOf all low c d → IsNamedSo o d
+front-named o all low c d named f = named-same o c d (ap (λ (x : Contents). site_name x.instance) f.is) named
+
+fit-ran : (stamp : Stamp) (name : Name) (next : List ℕ) (t : Turn) (hardened : ℕ) (fault : Option ℕ) (old new : Place) → old.site ≡ Some (record { name = name; state = Primary stamp next }) → IsFitPlace old
+    → (IsTrue old.told → IsFitReign name stamp next old.now × Goes old.now stamp t.serials t.sequence) → RunsTo stamp t hardened fault old new → IsFitPlace new
+fit-ran stamp name next t hardened None old new is h fit r =
+    fit-becomes (Primary stamp t.serials) (with_sequence old.now t.sequence) old new
+    (λ told. let f = fit told in (
+      fit-whole old.now stamp t.serials t.sequence f.0.room f.1,
+      named-same old.site old.now (with_sequence old.now t.sequence) refl (h.named_now told),
+      subst (λ (o : Option Site). IsFitSite (in_new_state (Primary stamp t.serials) o) (with_sequence old.now t.sequence)) (sym is) (fit-same_reign name old.now stamp next t.serials t.sequence f.0 f.1),
+    )) r.becomes
+fit-ran stamp name next t hardened (Some k) old new is h fit r =
+    fit-fails k (IsFrontOf t.sequence hardened old.now) old new
+    (λ told o front. let f = fit told in (
+      fit-front old.now stamp t.serials t.sequence hardened o f.0.room f.1 front,
+      front-named old.site t.sequence hardened old.now o (h.named_now told) front,
+    )) r.fails
+
+updaters-picked : (fault : Option ℕ) (order picks : List ℕ) → list_all is_updater order ≡ true → IsPicked fault order picks → list_all is_updater picks ≡ true
+updaters-picked None order picks h p = ap (list_all is_updater) p ∙ h
+updaters-picked (Some k) order picks h p = ap (list_all is_updater) p.1 ∙ updaters-front p.0 order h
+
+-- the reign of a primary
+pub reign-at : (name : Name) (stamp : Stamp) (next : List ℕ) (p : Place) → p.site ≡ Some (record { name = name; state = Primary stamp next }) → IsFitPlace p → IsTrue p.told → IsFitReign name stamp next p.now
+reign-at name stamp next p is h t = subst (λ (o : Option Site). IsFitSite o p.now) is (h.site t)
+
+pub fit-runs : (name : Name) (jobs : List (List Job)) (order : List ℕ) (s : Section) (old new : Place) → list_all is_updater order ≡ true → IsFitPlace old
+    → Runs name jobs order s old new → IsFitPlace new
+fit-runs name jobs order s old new updaters h r =
+    fit-ran r.stamp name r.serials (turn_of r.stamp r.serials jobs s.picks old.now.sequence) s.hardened s.fault old new r.state h
+    (λ t. let reign = reign-at name r.stamp r.serials old r.state h t in
+    (reign, goes name old.now r.stamp r.serials jobs s.picks (updaters-picked s.fault order s.picks updaters r.picks) (h.now t) reign))
+    r.ran

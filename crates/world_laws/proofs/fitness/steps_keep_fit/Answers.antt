@@ -1,0 +1,5 @@
+use Rattle.world_laws.proofs.WorldsFit as worlds
+use Rattle.world_laws.proofs.fitness.steps_keep_fit.Goals as goal
+
+pub returns : goal.returns
+returns c = record { step = worlds.fit-step; runs = worlds.fit-whole_run; cut_off = worlds.fit-cut_off }
