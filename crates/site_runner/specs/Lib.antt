@@ -5,6 +5,6 @@ pub mod Moved
 pub mod Executes
 pub mod Here
 pub mod Steps
-pub mod Creating
+pub mod Starting
 pub mod Ends
 pub mod Going

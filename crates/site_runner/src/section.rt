@@ -10,7 +10,7 @@ use super::text::{write_line, write_numbered, write_undecided};
 use gvn_key::{Bytes, NoMemory};
 use gvn_model::Jobs;
 use repl_disk::Disk;
-use site_journal::RunError;
+use repl_section::RunError;
 use std::alloc::Global;
 
 /// Decides updaters' jobs at a site, one after another in the order of their first lines.
@@ -35,9 +35,9 @@ pub fn run_section<D: Disk>(
         }
         State::Primary(reign) => reign,
     };
-    match reign.run(alloc, disk, site.name.as_slice(), jobs, order, text) {
+    match reign.run(alloc, disk, jobs, order, text) {
         Ok(()) => {
-            let length = reign.entries.len() as u64;
+            let length = reign.site.sequence_length();
             write_numbered(text, site.name.as_slice(), b"AT ", length)
         }
         Err(RunError::Failed { undecided }) => {
