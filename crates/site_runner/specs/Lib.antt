@@ -5,6 +5,5 @@ pub mod Moved
 pub mod Executes
 pub mod Here
 pub mod Steps
-pub mod Creating
 pub mod Ends
 pub mod Going

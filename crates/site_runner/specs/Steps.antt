@@ -1,22 +1,23 @@
 -- What steps at one site are, apart from its disk.
 use Rattle.std.specs.Prelude.{◌≡◌, ℕ, ◌++◌, List, length, codes, map}
 use Rattle.std.specs.Fmt.{decimal}
-use Rattle.std.specs.List.{enumerate_from}
+use Rattle.std.specs.List.{enumerate_from, flat_map}
 use Rattle.disk_defs.specs.Disk.{View}
 use Rattle.global_defs.specs.Entry.{Sequence}
 use Rattle.global_defs.specs.Key.{Key}
-use Rattle.site_journal.specs.Reigns.{tagged}
+use Rattle.journal_defs.specs.Surviving.{reigns}
+use Rattle.site_store.specs.Site.{tagged}
 use Rattle.world_defs.specs.World.{Place}
 use Rattle.world_defs.specs.Answers.{Answer}
 use Rattle.command_defs.specs.Commands.{Command}
 use Rattle.world_defs.specs.Step.{LeftAt}
-use Rattle.world_defs.specs.Output.{line, extract_from, zwrite}
+use Rattle.world_defs.specs.Output.{line, extract_from, zwrite, reign_text}
 use Rattle.world_defs.specs.Ties.{Matches}
 use Rattle.std.specs.Prelude.{Option, Some, true}
 use Rattle.site_runner.specs.declared.slot.State.{State}
 use Rattle.site_runner.specs.declared.slot.State.TheVariants.{Down, Primary, Failed}
 use Rattle.site_runner.specs.declared.slot.Site.{Site}
-use Rattle.site_runner.specs.Sites.{site_value, IsHeld}
+use Rattle.site_runner.specs.Sites.{site_value, begun_stamp, IsHeld}
 use Rattle.site_runner.specs.Here.{Here, text_here}
 
 -- a line of the site, and nothing has changed
@@ -28,7 +29,7 @@ in_state s state = record { name = s.name; state = state }
 
 abbrev pub StopsFrom : State → Site → Site → List ℕ → List ℕ → Type 0
 StopsFrom Down old new before now = Says old new (codes "NOTRUNNING") before now
-StopsFrom (Primary r) old new before now = (new ≡ in_state old Down) × (now ≡ before ++ line old.name (codes "DOWN " ++ decimal (length r.entries.items)))
+StopsFrom (Primary r) old new before now = (new ≡ in_state old Down) × (now ≡ before ++ line old.name (codes "DOWN " ++ decimal (length r.site.entries.items)))
 StopsFrom (Failed fault) old new before now = Says old new (codes "STOPPED " ++ decimal fault) before now
 
 abbrev pub Stops : Site → Site → List ℕ → List ℕ → Type 0
@@ -36,19 +37,26 @@ Stops old new before now = StopsFrom old.state old new before now
 
 abbrev pub ExtractsFrom : State → Site → Option ℕ → List ℕ → List ℕ → Type 0
 ExtractsFrom Down s from before now = Says s s (codes "NOTRUNNING") before now
-ExtractsFrom (Primary r) s from before now = (seq : Sequence) → map tagged r.entries.items ≡ enumerate_from 1 seq → now ≡ before ++ extract_from s.name from seq
+ExtractsFrom (Primary r) s from before now = (seq : Sequence) → map tagged r.site.entries.items ≡ enumerate_from 1 seq → now ≡ before ++ extract_from s.name from seq
 ExtractsFrom (Failed fault) s from before now = Says s s (codes "STOPPED " ++ decimal fault) before now
 
 abbrev pub Extracts : Site → Option ℕ → List ℕ → List ℕ → Type 0
 Extracts s from before now = ExtractsFrom s.state s from before now
 
-abbrev pub ShowsFrom : State → Site → Option Key → List ℕ → List ℕ → Type 0
-ShowsFrom Down s top before now = Says s s (codes "NOTRUNNING") before now
-ShowsFrom (Primary r) s top before now = now ≡ before ++ zwrite top r.globals
-ShowsFrom (Failed fault) s top before now = Says s s (codes "STOPPED " ++ decimal fault) before now
+abbrev pub ZwritesFrom : State → Site → Option Key → List ℕ → List ℕ → Type 0
+ZwritesFrom Down s top before now = Says s s (codes "NOTRUNNING") before now
+ZwritesFrom (Primary r) s top before now = now ≡ before ++ zwrite top r.site.globals
+ZwritesFrom (Failed fault) s top before now = Says s s (codes "STOPPED " ++ decimal fault) before now
 
-abbrev pub Shows : Site → Option Key → List ℕ → List ℕ → Type 0
-Shows s top before now = ShowsFrom s.state s top before now
+abbrev pub Zwrites : Site → Option Key → List ℕ → List ℕ → Type 0
+Zwrites s top before now = ZwritesFrom s.state s top before now
+
+-- the state of a site, and where it's open its length and a line for each reign that survives
+abbrev pub state_text : List ℕ → State → List ℕ
+state_text name Down = line name (codes "STATE DOWN")
+state_text name (Failed fault) = line name (codes "STATE FAILED " ++ decimal fault)
+state_text name (Primary r) = line name (codes "STATE PRIMARY " ++ decimal (begun_stamp r.site.stamp).cycle ++ codes " LENGTH " ++ decimal (length r.site.entries.items))
+    ++ flat_map (λ x. line name (reign_text x)) (reigns r.site.instance.records)
 
 -- The site stands at this place.
 pub record IsAt (v : View) (s : Site) (p : Place) : Type 0 where

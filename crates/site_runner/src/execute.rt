@@ -8,11 +8,13 @@ ghost use Rattle.site_runner.specs.Executes.{Executes, IsCutOff};
 ghost use Rattle.site_runner.specs.Here.{IsNamed, ExecutesHere, IsCutHere};
 ghost use Rattle.site_runner.specs.Sites.{is_slot_named, IsReadyOn, AreReady};
 
+use super::attach::attach;
 use super::create::create;
 use super::extracting::extract;
 use super::finding::find;
 use super::fusing::{crash, fuse};
 use super::section::run_section;
+use super::showing::show;
 use super::slot::Slot;
 use super::start::start;
 use super::stop::stop;
@@ -25,9 +27,11 @@ use std::alloc::Global;
 
 /// The site that a command names.
 fn name_of(command: &Command) -> &Bytes
+    requires { IsNamed (command_value command.now) }
     ensures { result.now ≡ name_in (command_value command.now) }
 {
     match command {
+        Command::Attach => unreachable!(),
         Command::Create { site, .. }
         | Command::StartPrimary { site }
         | Command::Run { site, .. }
@@ -35,7 +39,8 @@ fn name_of(command: &Command) -> &Bytes
         | Command::Fuse { site, .. }
         | Command::Crash { site, .. }
         | Command::Extract { site, .. }
-        | Command::Zwrite { site, .. } => site,
+        | Command::Zwrite { site, .. }
+        | Command::Show { site } => site,
     }
 }
 
@@ -59,7 +64,7 @@ fn execute_at<D: Disk>(
         unreachable!();
     };
     match command {
-        Command::Create { .. } => unreachable!(),
+        Command::Create { .. } | Command::Attach => unreachable!(),
         Command::StartPrimary { .. } => start(alloc, &mut slot.disk, site, text),
         Command::Run { jobs, order, .. } => {
             run_section(alloc, &mut slot.disk, site, jobs, order.as_slice(), text)
@@ -69,6 +74,7 @@ fn execute_at<D: Disk>(
         Command::Crash { pick, .. } => crash(&mut slot.disk, site, pick, text),
         Command::Extract { number, .. } => extract(site, number, text),
         Command::Zwrite { top, .. } => zwrite(alloc, site, &top, text),
+        Command::Show { .. } => show(site, text),
     }
 }
 
@@ -111,7 +117,8 @@ pub fn execute<D: Disk>(
     ensures length { length slots.new.items ≡ length slots.old.items }
 {
     match command {
-        Command::Create { site, .. } => create(alloc, slots, site, text),
+        Command::Create { site, regions } => create(alloc, slots, site, regions, text),
+        Command::Attach => attach(alloc, slots, text),
         named => execute_named(alloc, slots, named, text),
     }
 }

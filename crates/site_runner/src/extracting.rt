@@ -2,7 +2,7 @@
 ghost use Rattle.std.specs.Prelude.{◌≡◌, ◌<◌, ◌-◌, ◌++◌, map, drop, IfSome, OnOk};
 ghost use Rattle.std.specs.List.{flat_map};
 ghost use Rattle.global_defs.specs.Extract.{entry_text};
-ghost use Rattle.site_journal.specs.Reigns.{tagged};
+ghost use Rattle.site_store.specs.Site.{tagged};
 ghost use Rattle.site_runner.specs.Steps.{Extracts};
 
 use super::slot::{Site, State};
@@ -45,7 +45,7 @@ pub fn extract(site: &Site, number: Option<u64>, text: &mut Bytes) -> Result<(),
         }
         State::Primary(reign) => {
             write_header(site.name.as_slice(), from, text)?;
-            write_entries(entries_from(&reign.entries, from), text)
+            write_entries(entries_from(&reign.site.entries, from), text)
         }
     }
 }

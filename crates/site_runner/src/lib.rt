@@ -1,6 +1,7 @@
 //! Does all that the program does: reads a script, runs its commands on sites over disks, and writes their answers.
 #![tactic(auto)]
 
+mod attach;
 mod create;
 mod execute;
 mod extracting;
@@ -9,6 +10,7 @@ mod fusing;
 mod lines;
 mod moving;
 mod section;
+mod showing;
 mod slot;
 mod start;
 mod status;

@@ -3,13 +3,13 @@ ghost use Rattle.std.specs.Prelude.{◌≡◌};
 ghost use Rattle.site_runner.specs.Sites.{is_down, fault_of};
 
 use gvn_key::Bytes;
-use site_journal::Reign;
+use repl_section::Reign;
 
 /// What a site does.
 #[derive(Drop)]
 pub enum State {
     Down,
-    /// It takes jobs. Its reign has the site's own name and cycle 1.
+    /// It takes jobs, under the reign that its opening began.
     Primary(Reign),
     /// A call of its disk failed, the one of that number on it.
     Failed { fault: u64 },

@@ -6,7 +6,7 @@ use super::slot::{Site, State};
 use super::text::{write_line, write_numbered};
 use gvn_key::{Bytes, NoMemory};
 
-/// Ends a site's reign.
+/// Closes a site.
 pub fn stop(site: &mut Site, text: &mut Bytes) -> Result<(), NoMemory>
     ensures done { OnOk result (Stops site.old site.new text.old text.new) }
     ensures kept { OnErr result (site.new ≡ site.old) }
@@ -17,7 +17,7 @@ pub fn stop(site: &mut Site, text: &mut Bytes) -> Result<(), NoMemory>
             write_numbered(text, site.name.as_slice(), b"STOPPED ", *fault)
         }
         State::Primary(reign) => {
-            let length = reign.entries.len() as u64;
+            let length = reign.site.sequence_length();
             write_numbered(text, site.name.as_slice(), b"DOWN ", length)?;
             site.state = State::Down;
             Ok(())

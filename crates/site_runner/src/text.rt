@@ -1,9 +1,11 @@
 // Lines of answers.
 ghost use Rattle.std.specs.Prelude.{◌≡◌, ◌++◌, ◌∷◌, OnOk, codes};
 ghost use Rattle.std.specs.Fmt.{decimal};
-ghost use Rattle.world_defs.specs.Output.{line, fault_line};
+ghost use Rattle.gvn_model.specs.Reigns.{reign_value};
+ghost use Rattle.world_defs.specs.Output.{line, fault_line, reign_text};
 
 use gvn_key::{Bytes, NoMemory};
+use gvn_model::Reign;
 
 /// Adds a line that begins with a site's name.
 pub fn write_line(text: &mut Bytes, name: &[u8], words: &[u8]) -> Result<(), NoMemory>
@@ -40,6 +42,32 @@ pub fn write_primary(text: &mut Bytes, name: &[u8], cycle: u32, from: u64) -> Re
     text.push_decimal(u64::from(cycle))?;
     text.push_all(b" FROM ")?;
     text.push_decimal(from)?;
+    text.push_all(b"\n")
+}
+
+/// Adds the line of the state of a site that is open: the cycle of its reign, and its length.
+pub fn write_open(text: &mut Bytes, name: &[u8], cycle: u32, length: u64) -> Result<(), NoMemory>
+    ensures { OnOk result (text.new ≡ text.old ++ line name.now (codes "STATE PRIMARY " ++ decimal cycle ++ codes " LENGTH " ++ decimal length)) }
+{
+    text.push_all(name)?;
+    text.push_all(b" STATE PRIMARY ")?;
+    text.push_decimal(u64::from(cycle))?;
+    text.push_all(b" LENGTH ")?;
+    text.push_decimal(length)?;
+    text.push_all(b"\n")
+}
+
+/// Adds the line of a reign of a site's history.
+pub fn write_reign(text: &mut Bytes, name: &[u8], reign: &Reign) -> Result<(), NoMemory>
+    ensures { OnOk result (text.new ≡ text.old ++ line name.now (reign_text (reign_value reign.now))) }
+{
+    text.push_all(name)?;
+    text.push_all(b" REIGN ")?;
+    text.push_all(reign.stamp.root.as_slice())?;
+    text.push_all(b" ")?;
+    text.push_decimal(u64::from(reign.stamp.cycle))?;
+    text.push_all(b" FROM ")?;
+    text.push_decimal(reign.start)?;
     text.push_all(b"\n")
 }
 

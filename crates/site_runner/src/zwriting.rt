@@ -4,7 +4,7 @@ ghost use Rattle.std.specs.Option.{option_copied};
 ghost use Rattle.std.specs.List.{flat_map};
 ghost use Rattle.gvn_globals.specs.Lists.{listed_value};
 ghost use Rattle.world_defs.specs.Output.{node_line, zwrite};
-ghost use Rattle.site_runner.specs.Steps.{Shows};
+ghost use Rattle.site_runner.specs.Steps.{Zwrites};
 
 use super::slot::{Site, State};
 use super::text::{write_line, write_numbered};
@@ -44,13 +44,13 @@ pub fn zwrite(
     top: &Option<Key>,
     text: &mut Bytes,
 ) -> Result<(), NoMemory>
-    ensures { OnOk result (Shows site.now top.now text.old text.new) }
+    ensures { OnOk result (Zwrites site.now top.now text.old text.new) }
 {
     match &site.state {
         State::Down => write_line(text, site.name.as_slice(), b"NOTRUNNING"),
         State::Failed { fault } => {
             write_numbered(text, site.name.as_slice(), b"STOPPED ", *fault)
         }
-        State::Primary(reign) => write_globals(alloc, &reign.globals, top, text),
+        State::Primary(reign) => write_globals(alloc, &reign.site.globals, top, text),
     }
 }

@@ -1,0 +1,84 @@
+-- Deciding jobs in the order of picks, where each entry is hardened before the next job.
+use Rattle.std.specs.Prelude.{◌≡◌, ◌⊎◌, ◌≤◌, ℕ, ◌+◌, Bool, true, List, [], ◌∷◌, ◌++◌, length, take, IsTrue, IsSome}
+use Rattle.std.specs.List.{flat_map}
+use Rattle.disk_defs.specs.Disk.{View, Files, Image}
+use Rattle.global_defs.specs.Entry.{Stamp, Entry, Sequence}
+use Rattle.global_defs.specs.Jobs.{Job}
+use Rattle.global_defs.specs.Evaluation.{Evaluated}
+use Rattle.global_defs.specs.Serial.{Turn, Replied, decided, begun}
+use Rattle.world_defs.specs.World.{Contents}
+use Rattle.world_defs.specs.Rows.{with_sequence, IsFrontOf, turn_of}
+use Rattle.world_defs.specs.Ties.{IsSite}
+use Rattle.world_defs.specs.Output.{reply_line, is_past, printed}
+use Rattle.repl_section.specs.declared.reign.Reign.{Reign}
+use Rattle.repl_section.specs.declared.running.RunError.{RunError}
+use Rattle.repl_section.specs.declared.running.RunError.TheVariants as run
+use Rattle.repl_section.specs.Reigns.{Reigns, stamp_of}
+
+-- what an updater's next job comes to that was evaluated so, where these are the next serials and the entries
+abbrev pub outcome : Stamp → List ℕ → Sequence → ℕ → Evaluated → Turn
+outcome stamp serials seq u evaluated = decided stamp (begun serials [] seq) u evaluated
+
+-- each image stands for these contents, or for those with this sequence
+pub record MayHave (v : View) (c : Contents) (after : Sequence) : Type 0 where
+  pub told : IsSome v.content
+  pub images : (files : Files) → Image v files → IsSite files c ⊎ IsSite files (with_sequence c after)
+
+-- A pick has come to this turn: the reign has its entries and its next serials, and its replies were added.
+pub record HasCome (v : View) (told : Bool) (c : Contents) (t : Turn) (r : Reign) (before now : List ℕ) : Type 0 where
+  pub reigns : Reigns v told (with_sequence c t.sequence) r
+  pub serials : r.serials ≡ t.serials
+  pub text : now ≡ before ++ flat_map reply_line t.replies
+
+-- a turn that appended one entry to these, which its reply names
+pub record Appends (seq : Sequence) (t : Turn) : Type 0 where
+  pub entry : Entry
+  pub sequence : t.sequence ≡ seq ++ entry ∷ []
+  pub reply : Replied
+  pub replies : t.replies ≡ reply ∷ []
+  pub names : is_past (length seq) reply.reply ≡ true
+
+-- A section has come to this turn: besides, there are no fewer entries, and each reply names one that is there or none.
+pub record HasReached (v : View) (told : Bool) (c : Contents) (t : Turn) (r : Reign) (before now : List ℕ) : Type 0 where
+  pub reigns : Reigns v told (with_sequence c t.sequence) r
+  pub serials : r.serials ≡ t.serials
+  pub text : now ≡ before ++ flat_map reply_line t.replies
+  pub grown : length c.sequence ≤ length t.sequence
+  pub printed : printed (length t.sequence) t.replies ≡ t.replies
+
+-- These picks were decided: entries, serials and replies are those of the serial run.
+abbrev pub HasDecided : View → Bool → Contents → List (List Job) → (picks : List ℕ) → Reign → Reign → List ℕ → List ℕ → Type 0
+HasDecided v told c jobs picks old new before now = HasReached v told c (turn_of (stamp_of old) old.serials jobs picks c.sequence) new before now
+
+-- where files are known, each image stands for a front of this sequence that has at least so many entries
+pub record MayHaveFront (v : View) (is_told : Bool) (c : Contents) (all : Sequence) (low : ℕ) : Type 0 where
+  pub told : IsTrue is_told → IsSome v.content
+  pub images : IsTrue is_told → (files : Files) → Image v files → (o : Contents) × IsFrontOf all low c o × IsSite files o
+
+-- A fault in the last pick of this turn, of so many: its entry may stand or not, and it has no reply.
+pub record FailsBy (v : View) (told : Bool) (c : Contents) (t : Turn) (picks undecided : ℕ) (before now : List ℕ) : Type 0 where
+  pub hardened : ℕ
+  pub begun : length c.sequence ≤ hardened
+  pub at_once : length t.sequence ≤ hardened + 1
+  pub count : undecided + length (printed hardened t.replies) ≡ picks
+  pub text : now ≡ before ++ flat_map reply_line (printed hardened t.replies)
+  pub front : MayHaveFront v told c t.sequence hardened
+
+-- a fault in the last of the first n picks
+abbrev pub FailsAt : View → Stamp → Bool → Contents → List (List Job) → (order serials : List ℕ) → (undecided : ℕ) → List ℕ → List ℕ → ℕ → Type 0
+FailsAt v stamp told c jobs order serials undecided before now n = FailsBy v told c (turn_of stamp serials jobs (take n order) c.sequence) (length order) undecided before now
+
+-- where files are known, each image stands for a front of what some first picks come to
+pub record MayLeave (v : View) (stamp : Stamp) (is_told : Bool) (c : Contents) (jobs : List (List Job)) (order serials : List ℕ) : Type 0 where
+  pub told : IsTrue is_told → IsSome v.content
+  pub images : IsTrue is_told → (files : Files) → Image v files
+      → (o : Contents) × ((n : ℕ) × IsFrontOf (turn_of stamp serials jobs (take n order) c.sequence).sequence (length c.sequence) c o) × IsSite files o
+
+-- how a section ends that was not decided to its end
+abbrev pub Breaks : RunError → View → Stamp → Bool → Contents → List (List Job) → (order serials : List ℕ) → List ℕ → List ℕ → Type 0
+Breaks (run.Failed undecided) v stamp told c jobs order serials before now = (n : ℕ) × FailsAt v stamp told c jobs order serials undecided before now n
+Breaks run.NoMemory v stamp told c jobs order serials before now = MayLeave v stamp told c jobs order serials
+
+abbrev pub IsFault : RunError → Type 0
+IsFault (run.Failed undecided) = Unit {0}
+IsFault run.NoMemory = ⊥

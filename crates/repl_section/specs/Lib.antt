@@ -1,0 +1,3 @@
+pub mod Reigns
+pub mod Replies
+pub mod Deciding

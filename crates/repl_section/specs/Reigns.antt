@@ -1,0 +1,21 @@
+-- A reign beside its disk.
+use Rattle.std.specs.Prelude.{ℕ, Bool, [], length, Option, Some, None}
+use Rattle.disk_defs.specs.Disk.{View}
+use Rattle.global_defs.specs.Entry as defs
+use Rattle.gvn_model.specs.declared.reign.Stamp.{Stamp}
+use Rattle.gvn_model.specs.Reigns.{stamp_value}
+use Rattle.world_defs.specs.World.{Contents}
+use Rattle.site_store.specs.Site.{IsOpen}
+use Rattle.repl_section.specs.declared.reign.Reign.{Reign}
+
+-- the stamp of a reign that was begun; any where none was
+abbrev pub stamp_in : Option Stamp → defs.Stamp
+stamp_in None = record { root = []; cycle = 0 }
+stamp_in (Some stamp) = stamp_value stamp
+
+abbrev pub stamp_of : Reign → defs.Stamp
+stamp_of r = stamp_in r.site.stamp
+
+-- The reign's site has these contents in memory and, where files are known, on the disk, all entries for good.
+abbrev pub Reigns : View → Bool → Contents → Reign → Type 0
+Reigns v told c r = IsOpen v told c (length c.sequence) r.site

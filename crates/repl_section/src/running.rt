@@ -1,0 +1,55 @@
+//! Deciding jobs one after another.
+ghost use Rattle.std.specs.Prelude.{◌≡◌, ◌≤◌, Bool, OnOk, IfErr};
+ghost use Rattle.disk_defs.specs.Disk.{Rose};
+ghost use Rattle.world_defs.specs.World.{Contents};
+ghost use Rattle.site_store.specs.Site.{IsReady, HasReign};
+ghost use Rattle.repl_section.specs.Reigns.{Reigns, stamp_of};
+ghost use Rattle.repl_section.specs.Deciding.{HasDecided, Breaks, IsFault};
+
+use crate::reign::Reign;
+use gvn_key::Bytes;
+use gvn_model::Jobs;
+use repl_disk::Disk;
+use std::alloc::Global;
+use thiserror::Error;
+
+/// Why a section was not decided to its end.
+#[derive(Clone, Copy, Debug, PartialEq, Eq, Error)]
+pub enum RunError {
+    /// A call of the disk failed: its count of faults has risen. So many picks have no reply.
+    #[error("a disk call failed, with {undecided} jobs undecided")]
+    Failed { undecided: u64 },
+    /// There was no memory.
+    #[error("out of memory")]
+    NoMemory,
+}
+
+impl Reign {
+    /// Decides, for each updater of the order in turn, the next of its jobs, and adds the replies. An updater without a job
+    /// is passed over. A job of more than 256 updates or with a value of more than 1,500 bytes, an updater that isn't from 1 to 64
+    /// and a serial that is past 2^32 - 1 take more memory than there is.
+    ///
+    /// # Errors
+    /// `Failed` only where the disk's count rose, and then the reign is of no more use. `NoMemory`, and then it isn't either.
+    pub fn run<D: Disk>(
+        &mut self,
+        alloc: Global,
+        disk: &mut D,
+        mut jobs: Jobs,
+        order: &[u8],
+        text: &mut Bytes,
+    ) -> Result<(), RunError>
+        requires ready { IsReady (D.disk disk.old) self.old.site }
+        requires reign { HasReign self.old.site }
+        ensures ready { OnOk result (IsReady (D.disk disk.new) self.new.site) }
+        ensures reign { OnOk result (HasReign self.new.site) }
+        ensures stamp { self.new.site.stamp ≡ self.old.site.stamp }
+        ensures done { OnOk result ((told : Bool) (c : Contents) → Reigns (D.disk disk.old) told c self.old → HasDecided (D.disk disk.new) told c jobs order.now self.old self.new text.old text.new) }
+        ensures breaks { IfErr result (λ e. (told : Bool) (c : Contents) → Reigns (D.disk disk.old) told c self.old → Breaks e (D.disk disk.new) (stamp_of self.old) told c jobs order.now self.old.serials text.old text.new) }
+        ensures simulated { (D.disk disk.new).simulated ≡ (D.disk disk.old).simulated }
+        ensures later { (D.disk disk.old).faults ≤ (D.disk disk.new).faults }
+        ensures cause { IfErr result (λ e. IsFault e → Rose (D.disk disk.old).faults (D.disk disk.new).faults) }
+    {
+        Err(RunError::NoMemory)
+    }
+}
