@@ -5,5 +5,8 @@ pub mod Moved
 pub mod Executes
 pub mod Here
 pub mod Steps
+pub mod Looking
+pub mod Creating
+pub mod Attaching
 pub mod Ends
 pub mod Going
