@@ -1,64 +1,65 @@
 -- Sites at their places.
-use Rattle.std.proofs.Common.{◌≡◌, ℕ, Bool, true, false, List, [], ◌∷◌, ◌++◌, None, Some, refl, sym, ◌∙◌, ap, subst, arith}
-use Rattle.std.specs.Prelude.{Option, IfSome, IsSome, IsSomeAnd, IsTrue}
+use Rattle.std.proofs.Common.{◌≡◌, ℕ, Bool, true, false, List, [], ◌∷◌, ◌++◌, length, take, None, Some, refl, sym, ◌∙◌, ap, subst, arith, inl, inr}
+use Rattle.std.specs.Prelude.{◌⊎◌, Option, IfSome, IsSome, IsSomeAnd, IsTrue}
 use Rattle.std.proofs.lemmas.Bool.{false≢true}
-use Rattle.disk_defs.specs.Disk.{Files, View, Image, IsLawful}
-use Rattle.disk_defs.specs.Gates.{records}
-use Rattle.gated_file.specs.Begin.{KeepsRecords}
-use Rattle.journal_defs.specs.Numbers.{journal_file}
+use Rattle.std.proofs.Math.Seq.{take-length}
+use Rattle.disk_defs.specs.Disk.{Files, View, Image, IsLawful, AtEachMoment}
+use Rattle.site_store.specs.declared.site.OpenSite.{OpenSite}
+use Rattle.site_store.specs.Site.{IsOpen}
+use Rattle.site_store.proofs.Standing.{images_stand}
 use Rattle.world_defs.specs.Lists.{Among}
 use Rattle.world_defs.specs.World as world
 use Rattle.command_defs.specs.Commands.{Name, Command}
-use Rattle.world_defs.specs.World.{Contents, Place, Kept}
+use Rattle.world_defs.specs.World.{Contents, Place, Kept, is_made}
 use Rattle.world_defs.specs.Answers.{Cause, Stopped, NotRunning, Refused}
 use Rattle.world_defs.specs.Refusals.{first, in_state, stopped, not_running}
-use Rattle.world_defs.specs.Rows.{in_new_state}
+use Rattle.world_defs.specs.Rows.{with_sequence}
 use Rattle.world_defs.specs.Output.{line, cause_text, name_in}
-use Rattle.world_defs.specs.Ties.{Stands, Matches, name_on}
+use Rattle.world_defs.specs.Ties.{IsSite, Stands, Matches}
 use Rattle.site_runner.specs.declared.slot.State.{State}
 use Rattle.site_runner.specs.declared.slot.State.TheVariants.{Down, Primary, Failed}
 use Rattle.site_runner.specs.declared.slot.Site.{Site}
 use Rattle.site_runner.specs.Sites.{state_value, is_down, fault_of}
-use Rattle.site_runner.specs.Here.{tests}
+use Rattle.site_runner.specs.Here.{cause_here, RefusedHere}
 use Rattle.site_runner.specs.Steps.{IsAt, ExecutesAt}
 
 pub kept_same : (p : Place) → Kept p p
 kept_same p = record { site = refl; now = refl; outcomes = λ o h. h; faults = omega arith; same = record { told = refl; simulated = refl } }
 
--- a refusal
-pub refuses : (c : Command) (v : View) (s : Site) (cause : Cause) (before now : List ℕ) → name_in c ≡ s.name → ((p : Place) → IsAt v s p → first (tests c p) ≡ Some cause)
+-- a refusal that changes nothing
+pub refuses : (c : Command) (v : View) (s : Site) (cause : Cause) (before now : List ℕ) → name_in c ≡ s.name → ((p : Place) → IsAt v s p → cause_here c p ≡ Some cause) → ((p : Place) → RefusedHere c cause p p)
     → now ≡ before ++ line s.name (cause_text cause) → ExecutesAt c v s v s before now
-refuses c v s cause before now n e t p h = (Refused (record { site = s.name; cause = cause }), p, (e p h, sym n, kept_same p), h, t)
+refuses c v s cause before now n e same t p h = (Refused (record { site = s.name; cause = cause }), p, (sym n, inl (e p h, same p)), h, t)
 
 -- a test of a site's state is one of its place
-pub state_at : (test : world.State → Option Cause) (v : View) (s : Site) (p : Place) → IsAt v s p → in_state test p.site ≡ test (state_value s.name s.state)
+pub state_at : (test : world.State → Option Cause) (v : View) (s : Site) (p : Place) → IsAt v s p → in_state test p.site ≡ test (state_value s.state)
 state_at test v s p h = ap (in_state test) h.site
 
-pub is_stopped : (name : Name) (s : State) (k : ℕ) → fault_of s ≡ Some k → stopped (state_value name s) ≡ Some (Stopped k)
-is_stopped name Down k e = cc
-is_stopped name (Primary r) k e = cc
-is_stopped name (Failed j) k e = cc
+pub is_stopped : (s : State) (k : ℕ) → fault_of s ≡ Some k → stopped (state_value s) ≡ Some (Stopped k)
+is_stopped Down k e = cc
+is_stopped (Primary r) k e = cc
+is_stopped (Failed j) k e = cc
 
-pub not_stopped : (name : Name) (s : State) → fault_of s ≡ None → stopped (state_value name s) ≡ None
-not_stopped name Down e = refl
-not_stopped name (Primary r) e = refl
-not_stopped name (Failed j) e = cc
+pub not_stopped : (s : State) → fault_of s ≡ None → stopped (state_value s) ≡ None
+not_stopped Down e = refl
+not_stopped (Primary r) e = refl
+not_stopped (Failed j) e = cc
 
-pub is_not_running : (name : Name) (s : State) → is_down s ≡ true → not_running (state_value name s) ≡ Some NotRunning
-is_not_running name Down e = refl
-is_not_running name (Primary r) e = cc
-is_not_running name (Failed j) e = cc
+pub is_not_running : (s : State) → is_down s ≡ true → not_running (state_value s) ≡ Some NotRunning
+is_not_running Down e = refl
+is_not_running (Primary r) e = cc
+is_not_running (Failed j) e = cc
 
-pub is_running : (name : Name) (s : State) → is_down s ≡ false → not_running (state_value name s) ≡ None
-is_running name Down e = cc
-is_running name (Primary r) e = refl
-is_running name (Failed j) e = refl
+pub is_running : (s : State) → is_down s ≡ false → not_running (state_value s) ≡ None
+is_running Down e = cc
+is_running (Primary r) e = refl
+is_running (Failed j) e = refl
 
 pub first_cause : (a : Option Cause) (more : List (Option Cause)) (c : Cause) → a ≡ Some c → first (a ∷ more) ≡ Some c
 first_cause a more c e = rw e refl
 
-pub second_cause : (a b : Option Cause) (c : Cause) → a ≡ None → b ≡ Some c → first (a ∷ b ∷ []) ≡ Some c
-second_cause a b c e f = rw (e, f) refl
+pub second_cause : (a b : Option Cause) (more : List (Option Cause)) (c : Cause) → a ≡ None → b ≡ Some c → first (a ∷ b ∷ more) ≡ Some c
+second_cause a b more c e f = rw (e, f) refl
 
 pub no_cause : (a b : Option Cause) → a ≡ None → b ≡ None → first (a ∷ b ∷ []) ≡ None
 no_cause a b e f = rw (e, f) refl
@@ -72,9 +73,9 @@ pub not_true : (b : Bool) → (b ≡ true → ⊥) → b ≡ false
 not_true true f = absurd (f refl)
 not_true false f = refl
 
-pub same_name_on : (state : world.State) (o : Option world.Site) → name_on (in_new_state state o) ≡ name_on o
-same_name_on state None = refl
-same_name_on state (Some s) = refl
+pub is_true_or_false : (b : Bool) → (b ≡ true) ⊎ (b ≡ false)
+is_true_or_false true = inl refl
+is_true_or_false false = inr refl
 
 pub files_of : (o : Option Files) → IsSome o → (f : Files) × (o ≡ Some f)
 files_of None h = cc
@@ -92,24 +93,50 @@ pub some_of : (o : Option Files) (P : Type 0) → IsSome o → IfSome o (λ _. P
 some_of None P h k = cc
 some_of (Some f) P h k = k
 
--- files with the same records stand for the same
-pub stands_same : (name : Name) (was now : Files) (c : Contents) → records (now (journal_file 1 0)) ≡ records (was (journal_file 1 0)) → Stands name was c → Stands name now c
-stands_same name was now c e s = record { held = (s.held.0, e ∙ s.held.1, s.held.2); stamps = s.stamps; nothing = s.nothing }
+pub some_and : (o : Option Files) (P Q : Files → Type 0) → ((f : Files) → P f → Q f) → IsSomeAnd o P → IsSomeAnd o Q
+some_and None P Q f h = absurd h
+some_and (Some x) P Q f h = f x h
 
--- the outcomes of a place are those of its images also after a call that keeps the records
-pub image_kept : (v w : View) (p : Place) → Matches v p → IfSome v.content (λ _. (files : Files) → Image w files → KeepsRecords v (journal_file 1 0) files)
-    → IsTrue p.told → (c : Files) → Image w c → (o : Contents) × Among p.outcomes o × Stands (name_on p.site) c o
-image_kept v w p m k t c i =
-    let from = some_of v.content ((files : Files) → Image w files → KeepsRecords v (journal_file 1 0) files) (told_is v.content _ (m.told t)) k c i in
-    let o = m.images t from.0 from.1 in
-    (o.0, o.1, stands_same (name_on p.site) from.0 c o.0 from.2.here o.2)
+-- files that stand for a site that was made are a site's
+pub is_site : (files : Files) (c : Contents) → is_made c ≡ true → Stands files c → IsSite files c
+is_site files c made (inl (none, blank)) = absurd (false≢true (sym (ap is_made none) ∙ made))
+is_site files c made (inr h) = h
 
--- and so are they as the disk reads
-pub read_kept : (w : View) (p : Place) → IsLawful w → IsSome w.content → ((c : Files) → Image w c → (o : Contents) × Among p.outcomes o × Stands (name_on p.site) c o)
-    → (o : Contents) × Among p.outcomes o × IsSomeAnd w.content (λ files. Stands (name_on p.site) files o)
-read_kept w p law told images =
+-- an image of this moment is one of a moment since an earlier one
+pub at_moment : (v w : View) (P : Files → Type 0) (c : Files) → IsLawful w → AtEachMoment v w P → Image w c → P c
+at_moment v w P c law h i = h.each c (law.counts_now v.moment c h.later i)
+
+-- what a disk reads is one of its images
+pub reads_image : (w : View) → IsLawful w → IsSome w.content → (f : Files) × (w.content ≡ Some f) × Image w f
+reads_image w law told =
     let s = files_of w.content told in
-    let f : Files = s.0 in
-    let i : Image w f = subst (λ (o : Option Files). IfSome o (λ files. w.since w.moment files)) s.1 law.as_read in
-    let o = images f i in
-    (o.0, o.1, subst (λ (x : Option Files). IsSomeAnd x (λ files. Stands (name_on p.site) files o.0)) (sym s.1) o.2)
+    (s.0, s.1, subst (λ (o : Option Files). IfSome o (λ files. w.since w.moment files)) s.1 law.as_read)
+
+-- a place with these outcomes, for one of which each image stands
+pub place_of_images : (w : View) (p : Place) (site : Option world.Site) (outcomes : List Contents) → IsLawful w → w.simulated ≡ p.simulated → (p.told ≡ true → IsSome w.content)
+    → (p.told ≡ true → (c : Files) → Image w c → (o : Contents) × Among outcomes o × Stands c o)
+    → (now : Contents) × (p.told ≡ true → Among outcomes now) × Matches w (record { site = site; told = p.told; now = now; outcomes = outcomes; faults = w.faults; simulated = p.simulated })
+place_of_images w p site outcomes law same told images =
+    let m = pick_one p.told p.now (λ o. Unit {0}) (λ o. Among outcomes o × IsSomeAnd w.content (λ files. Stands files o)) tt (λ sure.
+    let r = reads_image w law (told sure) in
+    let o = images sure r.0 r.2 in
+    (o.0, tt, (o.1, subst (λ (x : Option Files). IsSomeAnd x (λ files. Stands files o.0)) (sym r.1) o.2))) in
+    (m.0, (λ sure. (m.2 sure).0), record { told = λ sure. (m.2 sure).1; images = images; faults = refl; simulated = same })
+
+-- a place with one outcome, for which the disk and each image stand
+pub place_of_one : (w : View) (p : Place) (site : Option world.Site) (o : Contents) → w.simulated ≡ p.simulated → (p.told ≡ true → IsSomeAnd w.content (λ files. Stands files o))
+    → (p.told ≡ true → (c : Files) → Image w c → Stands c o) → Matches w (record { site = site; told = p.told; now = o; outcomes = o ∷ []; faults = w.faults; simulated = p.simulated })
+place_of_one w p site o same reads images = record { told = reads; images = λ sure c i. (o, inl refl, images sure c i); faults = refl; simulated = same }
+
+pub only : (o d : Contents) → Among (d ∷ []) o → o ≡ d
+only o d (inl h) = h
+only o d (inr h) = absurd h
+
+-- an open site's disk and each image stand for its contents
+pub open_reads : (w : View) (told : Bool) (c : Contents) (s : OpenSite) → told ≡ true → IsOpen w told c (length c.sequence) s → IsSomeAnd w.content (λ files. Stands files c)
+open_reads w told c s sure h =
+    some_and w.content (λ files. IsSite files (with_sequence c (take (length c.sequence) c.sequence))) (λ files. Stands files c)
+    (λ f k. inr (subst (λ seq. IsSite f (with_sequence c seq)) (take-length c.sequence) k)) (h.kept sure).reads
+
+pub open_images : (w : View) (told : Bool) (c : Contents) (s : OpenSite) → told ≡ true → IsOpen w told c (length c.sequence) s → (f : Files) → Image w f → Stands f c
+open_images w told c s sure h f i = inr (images_stand w c s (subst (λ (b : Bool). IsOpen w b c (length c.sequence) s) sure h) f i)

@@ -5,38 +5,34 @@ use Rattle.std.specs.Fmt.{decimal}
 use Rattle.disk_defs.specs.Disk.{Files, View, Image, IsLawful, Reads}
 use Rattle.world_defs.specs.Lists.{Among}
 use Rattle.world_defs.specs.World as world
-use Rattle.command_defs.specs.Commands.{Name, Fuse, Crash}
+use Rattle.command_defs.specs.Commands.{Fuse, Crash}
 use Rattle.world_defs.specs.World.{Contents, Place}
 use Rattle.world_defs.specs.Answers.{Stopped, NotRunning, NotSimulated, Done}
 use Rattle.world_defs.specs.Refusals.{stopped, not_running, not_simulated}
 use Rattle.world_defs.specs.Rows.{in_new_state}
 use Rattle.world_defs.specs.Output.{line}
-use Rattle.world_defs.specs.Ties.{Stands, name_on}
+use Rattle.world_defs.specs.Ties.{Stands}
 use Rattle.site_runner.specs.declared.slot.State.TheVariants.{Down}
 use Rattle.site_runner.specs.declared.slot.Site.{Site}
-use Rattle.site_runner.specs.Sites.{is_down, fault_of}
+use Rattle.site_runner.specs.Sites.{is_down, fault_of, IsOf}
 use Rattle.site_runner.specs.Steps.{IsAt, ExecutesAt}
 use Rattle.site_runner.proofs.Fused.{state_read}
-use Rattle.site_runner.proofs.Ats.{refuses, state_at, is_stopped, not_stopped, is_not_running, is_running, first_cause, second_cause, no_cause, pick_one, same_name_on, files_of, kept_same}
+use Rattle.site_runner.proofs.Ats.{refuses, state_at, is_stopped, not_stopped, is_not_running, is_running, first_cause, second_cause, no_cause, pick_one, only, files_of, kept_same}
 
 pub fuse_stopped : (v : View) (s : Site) (calls k : ℕ) (before now : List ℕ) → fault_of s.state ≡ Some k → now ≡ before ++ line s.name (codes "STOPPED " ++ decimal k) → ExecutesAt (Fuse s.name calls) v s v s before now
-fuse_stopped v s calls k before now e t = refuses (Fuse s.name calls) v s (Stopped k) before now refl (λ p h. first_cause _ _ (Stopped k) (state_at stopped v s p h ∙ is_stopped s.name s.state k e)) t
+fuse_stopped v s calls k before now e t = refuses (Fuse s.name calls) v s (Stopped k) before now refl (λ p h. first_cause _ _ (Stopped k) (state_at stopped v s p h ∙ is_stopped s.state k e)) kept_same t
 
 simulated_at : (v : View) (s : Site) (p : Place) (b : Bool) → IsAt v s p → b ≡ v.simulated → not_simulated p.simulated ≡ not_simulated b
 simulated_at v s p b h e = ap not_simulated (sym h.disk.simulated ∙ sym e)
 
 pub fuse_real : (v : View) (s : Site) (calls : ℕ) (before now : List ℕ) → fault_of s.state ≡ None → false ≡ v.simulated → now ≡ before ++ line s.name (codes "NOTSIMULATED") → ExecutesAt (Fuse s.name calls) v s v s before now
-fuse_real v s calls before now e f t = refuses (Fuse s.name calls) v s NotSimulated before now refl (λ p h. second_cause _ _ NotSimulated (state_at stopped v s p h ∙ not_stopped s.name s.state e) (simulated_at v s p false h f)) t
+fuse_real v s calls before now e f t = refuses (Fuse s.name calls) v s NotSimulated before now refl (λ p h. second_cause _ _ [] NotSimulated (state_at stopped v s p h ∙ not_stopped s.state e) (simulated_at v s p false h f)) kept_same t
 
 pub crash_down : (v : View) (s : Site) (pick : ℕ) (before now : List ℕ) → is_down s.state ≡ true → now ≡ before ++ line s.name (codes "NOTRUNNING") → ExecutesAt (Crash s.name pick) v s v s before now
-crash_down v s pick before now e t = refuses (Crash s.name pick) v s NotRunning before now refl (λ p h. first_cause _ _ NotRunning (state_at not_running v s p h ∙ is_not_running s.name s.state e)) t
+crash_down v s pick before now e t = refuses (Crash s.name pick) v s NotRunning before now refl (λ p h. first_cause _ _ NotRunning (state_at not_running v s p h ∙ is_not_running s.state e)) kept_same t
 
 pub crash_real : (v : View) (s : Site) (pick : ℕ) (before now : List ℕ) → is_down s.state ≡ false → false ≡ v.simulated → now ≡ before ++ line s.name (codes "NOTSIMULATED") → ExecutesAt (Crash s.name pick) v s v s before now
-crash_real v s pick before now e f t = refuses (Crash s.name pick) v s NotSimulated before now refl (λ p h. second_cause _ _ NotSimulated (state_at not_running v s p h ∙ is_running s.name s.state e) (simulated_at v s p false h f)) t
-
-pub only : (o d : Contents) → Among (d ∷ []) o → o ≡ d
-only o d (inl h) = h
-only o d (inr h) = absurd h
+crash_real v s pick before now e f t = refuses (Crash s.name pick) v s NotSimulated before now refl (λ p h. second_cause _ _ [] NotSimulated (state_at not_running v s p h ∙ is_running s.state e) (simulated_at v s p false h f)) kept_same t
 
 pub crashes : (v w : View) (s : Site) (pick : ℕ) (before now : List ℕ) → IsLawful w → true ≡ v.simulated → is_down s.state ≡ false → IfSome w.content (Image v)
     → IfSome w.content (λ files. (c : Files) → Image w c → c ≡ files) → w.simulated ≡ v.simulated → w.faults ≡ v.faults → now ≡ before ++ line s.name (codes "CRASHED")
@@ -46,15 +42,13 @@ crashes v w s pick before now law sim up image durable same count t p h =
     let f : Files = d.0 in
     let i : Image v f = subst (λ (o : Option Files). IfSome o (Image v)) d.1 image in
     let u : (c : Files) → Image w c → c ≡ f = subst (λ (o : Option Files). IfSome o (λ files. (c : Files) → Image w c → c ≡ files)) d.1 durable in
-    let n = name_on p.site in
-    let m = pick_one p.told p.now (λ o. Unit {0}) (λ o. Among p.outcomes o × Stands n f o) tt (λ yes. let k = h.disk.images yes f i in (k.0, tt, (k.1, k.2))) in
+    let m = pick_one p.told p.now (λ o. Unit {0}) (λ o. Among p.outcomes o × Stands f o) tt (λ yes. let k = h.disk.images yes f i in (k.0, tt, (k.1, k.2))) in
     let o : Contents = m.0 in
-    let q : Place = record { site = in_new_state world.Down p.site; told = p.told; now = o; outcomes = o ∷ []; faults = p.faults; simulated = p.simulated } in
-    let e = sym (same_name_on world.Down p.site) in (
+    let q : Place = record { site = in_new_state world.Down p.site; told = p.told; now = o; outcomes = o ∷ []; faults = p.faults; simulated = p.simulated } in (
       Done,
       q,
       (
-        no_cause _ _ (state_at not_running v s p h ∙ is_running s.name s.state up) (simulated_at v s p true h sim),
+        no_cause _ _ (state_at not_running v s p h ∙ is_running s.state up) (simulated_at v s p true h sim),
         record {
           chosen = λ yes. (m.2 yes).0;
           becomes = record { site = refl; now = refl; outcomes = refl; faults = omega arith; same = record { told = refl; simulated = refl } };
@@ -62,8 +56,8 @@ crashes v w s pick before now law sim up image durable same count t p h =
       ),
       record {
         disk = record {
-          told = λ yes. subst (λ (x : Option Files). IsSomeAnd x (λ files. Stands (name_on q.site) files o)) (sym d.1) (subst (λ (x : Name). Stands x f o) e (m.2 yes).1);
-          images = λ yes c j. (o, inl refl, subst (λ (x : Files). Stands (name_on q.site) x o) (sym (u c j)) (subst (λ (x : Name). Stands x f o) e (m.2 yes).1));
+          told = λ yes. subst (λ (x : Option Files). IsSomeAnd x (λ files. Stands files o)) (sym d.1) (m.2 yes).1;
+          images = λ yes c j. (o, inl refl, subst (λ (x : Files). Stands x o) (sym (u c j)) (m.2 yes).1);
           faults = count ∙ h.disk.faults;
           simulated = same ∙ h.disk.simulated;
         };
@@ -71,7 +65,7 @@ crashes v w s pick before now law sim up image durable same count t p h =
         held = record {
           made = λ yes. record {
             now = (h.held.made yes).outcomes o (m.2 yes).0;
-            outcomes = λ x j. subst (λ (y : Contents). y.begun ≡ true) (sym (only x o j)) ((h.held.made yes).outcomes o (m.2 yes).0);
+            outcomes = λ x j. subst (IsOf s.name) (sym (only x o j)) ((h.held.made yes).outcomes o (m.2 yes).0);
           };
           state = tt;
         };
@@ -85,10 +79,10 @@ pub fused : (v w : View) (s : Site) (calls : ℕ) (before now : List ℕ) → Re
 fused v w s calls before now r count sim up t p h = (
   Done,
   p,
-  (no_cause _ _ (state_at stopped v s p h ∙ not_stopped s.name s.state up) (simulated_at v s p true h sim), kept_same p),
+  (no_cause _ _ (state_at stopped v s p h ∙ not_stopped s.state up) (simulated_at v s p true h sim), kept_same p),
   record {
     disk = record {
-      told = λ yes. subst (λ (x : Option Files). IsSomeAnd x (λ files. Stands (name_on p.site) files p.now)) (sym r.content) (h.disk.told yes);
+      told = λ yes. subst (λ (x : Option Files). IsSomeAnd x (λ files. Stands files p.now)) (sym r.content) (h.disk.told yes);
       images = λ yes c j.
           let k = r.passes.images c j in
           h.disk.images yes c (subst (Image v) (sym k.2) k.1);
@@ -96,7 +90,7 @@ fused v w s calls before now r count sim up t p h = (
       simulated = r.passes.simulated ∙ h.disk.simulated;
     };
     site = h.site;
-    held = record { made = h.held.made; state = state_read v w s.name s.state p r h.held.state };
+    held = record { made = h.held.made; state = state_read v w s.state p r h.held.state };
   },
   t,
 )

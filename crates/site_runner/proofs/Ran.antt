@@ -11,30 +11,29 @@ use Rattle.global_defs.specs.Jobs.{Job, SeqLimit}
 use Rattle.global_defs.specs.Evaluation.{Evaluated, eval}
 use Rattle.global_defs.specs.Evaluation as evaluation
 use Rattle.global_defs.specs.Serial.{MOST_ENTRIES, Turn, Seq, RolledBack, first_of, next_job, without_next, serial_at, entry_of, replied, decided, picked, serial, begun}
-use Rattle.gvn_model.specs.declared.entry.Entry as code
-use Rattle.site_journal.specs.declared.reign.Reign.{Reign}
+use Rattle.repl_section.specs.declared.reign.Reign.{Reign}
 use Rattle.command_defs.specs.Sections.{UsesUp}
-use Rattle.site_journal.specs.Reigns.{Reigns, tagged}
-use Rattle.site_journal.specs.Deciding.{HasDecided, MayHaveFront, MayLeave, FailsAt}
+use Rattle.repl_section.specs.Reigns.{Reigns, stamp_in, stamp_of}
+use Rattle.repl_section.specs.Deciding.{HasDecided, MayHaveFront, MayLeave, FailsAt}
+use Rattle.site_store.proofs.Standing.{images_stand}
 use Rattle.world_defs.specs.Lists.{Among}
 use Rattle.world_defs.specs.World as world
 use Rattle.command_defs.specs.Commands.{Name, Run}
 use Rattle.world_defs.specs.World.{Contents, Place}
 use Rattle.world_defs.specs.Answers.{Stopped, NotPrimary, Section, Ran}
 use Rattle.world_defs.specs.Refusals.{first, stopped, not_primary}
-use Rattle.world_defs.specs.Rows.{in_new_state, reign_of, with_sequence, IsFrontOf, turn_of}
+use Rattle.world_defs.specs.Rows.{in_new_state, with_sequence, IsFrontOf, turn_of}
 use Rattle.world_defs.specs.Step.{RunMayLeaveOn}
 use Rattle.world_defs.specs.Output.{line, fault_line, reply_line, printed, section_text, turn_on}
-use Rattle.world_defs.specs.Ties.{Stands, Matches, name_on}
+use Rattle.world_defs.specs.Ties.{IsSite, Stands, Matches}
 use Rattle.site_runner.specs.declared.slot.State.{State}
 use Rattle.site_runner.specs.declared.slot.State.TheVariants.{Down, Primary, Failed}
 use Rattle.site_runner.specs.declared.slot.Site.{Site}
-use Rattle.site_runner.specs.Sites.{state_value, site_value, HoldsState, IsOpen}
-use Rattle.site_runner.specs.Here.{tests}
+use Rattle.site_runner.specs.Sites.{state_value, site_value, HoldsState, IsOf, IsMade, IsOpen}
+use Rattle.site_runner.specs.Here.{cause_here}
 use Rattle.site_runner.specs.Steps.{IsAt, ExecutesAt, IsCutAt}
-use Rattle.site_runner.proofs.Ats.{refuses, state_at, first_cause, second_cause, no_cause, pick_one, same_name_on, files_of, told_is, read_kept}
-use Rattle.site_runner.proofs.Crashed.{only}
-use Rattle.site_runner.proofs.Started.{reads_settled, images_settled}
+use Rattle.site_runner.proofs.Ats.{refuses, kept_same, state_at, first_cause, second_cause, no_cause, told_is, reads_image, place_of_images, place_of_one, only, open_reads, open_images}
+use Rattle.site_runner.proofs.Stopped.{reigns_at, length_tagged}
 
 -- What jobs are left doesn't depend on what they come to.
 
@@ -76,21 +75,18 @@ pub run_failed_before : (v : View) (s : Site) (jobs : List (List Job)) (order : 
     → ExecutesAt (Run s.name jobs order) v s v (record { name = s.name; state = Failed k }) before now
 run_failed_before v s jobs order k before now e t =
     subst (λ (x : State). ExecutesAt (Run s.name jobs order) v s v (record { name = s.name; state = x }) before now) e
-    (refuses (Run s.name jobs order) v s (Stopped k) before now refl (λ p h. first_cause _ _ (Stopped k) (state_at stopped v s p h ∙ ap (λ (x : State). stopped (state_value s.name x)) e)) t)
+    (refuses (Run s.name jobs order) v s (Stopped k) before now refl (λ p h. first_cause _ _ (Stopped k) (state_at stopped v s p h ∙ ap (λ (x : State). stopped (state_value x)) e)) kept_same t)
 
 pub run_down : (v : View) (s : Site) (jobs : List (List Job)) (order : List ℕ) (before now : List ℕ) → s.state ≡ Down → now ≡ before ++ line s.name (codes "NOTPRIMARY") → ExecutesAt (Run s.name jobs order) v s v s before now
 run_down v s jobs order before now e t =
     refuses (Run s.name jobs order) v s NotPrimary before now refl
-    (λ p h. second_cause _ _ NotPrimary (state_at stopped v s p h ∙ ap (λ (x : State). stopped (state_value s.name x)) e) (state_at not_primary v s p h ∙ ap (λ (x : State). not_primary (state_value s.name x)) e)) t
+    (λ p h. second_cause _ _ [] NotPrimary (state_at stopped v s p h ∙ ap (λ (x : State). stopped (state_value x)) e) (state_at not_primary v s p h ∙ ap (λ (x : State). not_primary (state_value x)) e)) kept_same t
 
-none_primary : (v : View) (s : Site) (r : Reign) (jobs : List (List Job)) (order : List ℕ) (p : Place) → s.state ≡ Primary r → IsAt v s p → first (tests (Run s.name jobs order) p) ≡ None
-none_primary v s r jobs order p e h = no_cause _ _ (state_at stopped v s p h ∙ ap (λ (x : State). stopped (state_value s.name x)) e) (state_at not_primary v s p h ∙ ap (λ (x : State). not_primary (state_value s.name x)) e)
+none_primary : (v : View) (s : Site) (r : Reign) (jobs : List (List Job)) (order : List ℕ) (p : Place) → s.state ≡ Primary r → IsAt v s p → cause_here (Run s.name jobs order) p ≡ None
+none_primary v s r jobs order p e h = no_cause _ _ (state_at stopped v s p h ∙ ap (λ (x : State). stopped (state_value x)) e) (state_at not_primary v s p h ∙ ap (λ (x : State). not_primary (state_value x)) e)
 
-site_is : (v : View) (s : Site) (r : Reign) (p : Place) → s.state ≡ Primary r → IsAt v s p → p.site ≡ Some (record { name = s.name; state = world.Primary (reign_of s.name) r.serials })
+site_is : (v : View) (s : Site) (r : Reign) (p : Place) → s.state ≡ Primary r → IsAt v s p → p.site ≡ Some (record { name = s.name; state = world.Primary (stamp_of r) r.serials })
 site_is v s r p e h = h.site ∙ ap (λ (x : State). Some (site_value (record { name = s.name; state = x }))) e
-
-pub reigns_at : (v : View) (s : Site) (r : Reign) (p : Place) → s.state ≡ Primary r → IsAt v s p → Reigns v s.name p.told p.now r
-reigns_at v s r p e h = let open_at : IsOpen v s.name r p = subst (λ (x : State). HoldsState v s.name x p) e h.held.state in open_at.reigns
 
 -- the fronts of a sequence with so many entries and up to d more
 abbrev pub fronts : Contents → Sequence → ℕ → ℕ → List Contents
@@ -121,9 +117,6 @@ among_fronts c all low (suc d) i o le e = elim (nat_cases i d le) [
 front_among : (c : Contents) (all : Sequence) (low : ℕ) (o : Contents) → IsFrontOf all low c o → Among (fronts c all low (length all - low)) o
 front_among c all low o f = among_fronts c all low (length all - low) (f.count - low) o (omega (arith, f.least, f.most)) (f.is ∙ ap (λ (n : ℕ). with_sequence c (take n all)) (omega (arith, f.least)))
 
-an_image : (w : View) → IsLawful w → IsSome w.content → (f : Files) × Image w f
-an_image w law told = let s = files_of w.content told in (s.0, subst (λ (o : Option Files). IfSome o (λ files. w.since w.moment files)) s.1 law.as_read)
-
 -- a place at which each image stands for a front
 pub record FrontPlace (w : View) (p : Place) (state : Option world.Site) (all : Sequence) (low : ℕ) : Type 1 where
   pub now : Contents
@@ -131,49 +124,35 @@ pub record FrontPlace (w : View) (p : Place) (state : Option world.Site) (all : 
   pub fronts_all : p.told ≡ true → (o : Contents) → Among (fronts p.now all low (length all - low)) o → IsFrontOf all low p.now o
   pub matches : Matches w (record { site = state; told = p.told; now = now; outcomes = fronts p.now all low (length all - low); faults = w.faults; simulated = p.simulated })
 
-pub front_place : (w : View) (p : Place) (name : Name) (state : Option world.Site) (all : Sequence) (low : ℕ) → IsLawful w → w.simulated ≡ p.simulated → name ≡ name_on state → MayHaveFront w name p.told p.now all low
-    → FrontPlace w p state all low
-front_place w p name state all low law same e may =
+pub front_place : (w : View) (p : Place) (state : Option world.Site) (all : Sequence) (low : ℕ) → IsLawful w → w.simulated ≡ p.simulated → MayHaveFront w p.told p.now all low → FrontPlace w p state all low
+front_place w p state all low law same may =
     let list = fronts p.now all low (length all - low) in
-    let q : Place = record { site = state; told = p.told; now = p.now; outcomes = list; faults = w.faults; simulated = p.simulated } in
-    let images : p.told ≡ true → (c : Files) → Image w c → (o : Contents) × Among list o × Stands (name_on state) c o = λ yes c i.
-    let o = may.images yes c i in
-    (o.0, front_among p.now all low o.0 o.1, subst (λ (x : Name). Stands x c o.0) e o.2) in
-    let low_is : p.told ≡ true → low ≤ length all = λ yes.
-    let k = an_image w law (may.told yes) in
-    let o = may.images yes k.0 k.1 in
+    let low_is : p.told ≡ true → low ≤ length all = λ sure.
+    let k = reads_image w law (may.told sure) in
+    let o = may.images sure k.0 k.2 in
     omega (arith, o.1.least, o.1.most) in
-    let all_fronts : p.told ≡ true → (o : Contents) → Among list o → IsFrontOf all low p.now o = λ yes o a. are_fronts p.now all low (length all - low) (omega (arith, low_is yes)) o a in
-    let m = pick_one p.told p.now (λ o. Unit {0}) (λ o. Among list o × IsSomeAnd w.content (λ files. Stands (name_on state) files o)) tt (λ yes. let r = read_kept w q law (may.told yes) (images yes) in (r.0, tt, (r.1, r.2))) in
-    record {
-      now = m.0;
-      front = λ yes. all_fronts yes m.0 (m.2 yes).0;
-      fronts_all = all_fronts;
-      matches = record { told = λ yes. (m.2 yes).1; images = images; faults = refl; simulated = same };
-    }
+    let all_fronts : p.told ≡ true → (o : Contents) → Among list o → IsFrontOf all low p.now o = λ sure o a. are_fronts p.now all low (length all - low) (omega (arith, low_is sure)) o a in
+    let m = place_of_images w p state list law same may.told (λ sure c i. let o = may.images sure c i in (o.0, front_among p.now all low o.0 o.1, inr o.2)) in
+    record { now = m.0; front = λ sure. all_fronts sure m.0 (m.1 sure); fronts_all = all_fronts; matches = m.2 }
 
-pub length_tagged : (xs : List code.Entry) (seq : Sequence) (n : ℕ) → map tagged xs ≡ enumerate_from n seq → length xs ≡ length seq
-length_tagged xs seq n e = sym (length-map xs tagged) ∙ ap length e ∙ long n seq
-  where
-    long : (n : ℕ) (ys : Sequence) → length (enumerate_from n ys) ≡ length ys
-    long n [] = refl
-    long n (y ∷ ys) = ap suc (long (n + 1) ys)
+of_sequence : (name : Name) (c : Contents) (seq : Sequence) → IsOf name c → IsOf name (with_sequence c seq)
+of_sequence name c seq h = record { made = h.made; name = h.name }
 
 -- all jobs are decided
-pub ran : (v w : View) (s : Site) (r new : Reign) (n : Name) (jobs : List (List Job)) (order : List ℕ) (before middle now : List ℕ) → UsesUp jobs order → n ≡ s.name → s.state ≡ Primary r → w.simulated ≡ v.simulated → v.faults ≤ w.faults
-    → ((told : Bool) (c : Contents) → Reigns v n told c r → HasDecided w n told c jobs order r new before middle)
-    → now ≡ middle ++ line s.name (codes "AT " ++ decimal (length new.entries.items)) → ExecutesAt (Run s.name jobs order) v s w (record { name = s.name; state = Primary new }) before now
-ran v w s r new n jobs order before middle now whole e st same later f t p h =
-    let d : HasDecided w s.name p.told p.now jobs order r new before middle = subst (λ (x : Name). HasDecided w x p.told p.now jobs order r new before middle) e (f p.told p.now (subst (λ (x : Name). Reigns v x p.told p.now r) (sym e) (reigns_at v s r p st h))) in
-    let stamp = reign_of s.name in
+pub ran : (v w : View) (s : Site) (r new : Reign) (jobs : List (List Job)) (order : List ℕ) (before middle now : List ℕ) → UsesUp jobs order → s.state ≡ Primary r → new.site.stamp ≡ r.site.stamp → w.simulated ≡ v.simulated → v.faults ≤ w.faults
+    → ((told : Bool) (c : Contents) → Reigns v told c r → HasDecided w told c jobs order r new before middle)
+    → now ≡ middle ++ line s.name (codes "AT " ++ decimal (length new.site.entries.items)) → ExecutesAt (Run s.name jobs order) v s w (record { name = s.name; state = Primary new }) before now
+ran v w s r new jobs order before middle now whole st stamped same later f t p h =
+    let d : HasDecided w p.told p.now jobs order r new before middle = f p.told p.now (reigns_at v s r p st h) in
+    let stamp = stamp_of r in
     let turn : Turn = turn_of stamp r.serials jobs order p.now.sequence in
     let state : world.State = world.Primary stamp turn.serials in
     let o : Contents = with_sequence p.now turn.sequence in
     let q : Place = record { site = in_new_state state p.site; told = p.told; now = o; outcomes = o ∷ []; faults = w.faults; simulated = p.simulated } in
     let ends : Section = record { picks = order; hardened = length turn.sequence; fault = None } in
-    let name_q : s.name ≡ name_on q.site = sym (same_name_on state p.site ∙ ap name_on h.site) in
-    let count : length new.entries.items ≡ length turn.sequence = length_tagged new.entries.items turn.sequence 1 d.reigns.remembered.entries in
-    let text : turn_on p.site jobs ends p ≡ turn = ap (λ (x : Option world.Site). turn_on x jobs ends p) (site_is v s r p st h) in (
+    let count : length new.site.entries.items ≡ length turn.sequence = length_tagged new.site.entries.items turn.sequence 1 d.reigns.remembered.entries in
+    let text : turn_on p.site jobs ends p ≡ turn = ap (λ (x : Option world.Site). turn_on x jobs ends p) (site_is v s r p st h) in
+    let stamp_new : stamp ≡ stamp_of new = ap stamp_in (sym stamped) in (
       Ran ends,
       q,
       (
@@ -190,40 +169,36 @@ ran v w s r new n jobs order before middle now whole e st same later f t p h =
         },
       ),
       record {
-        disk = record {
-          told = λ yes. let k = d.reigns.kept yes in subst (λ (x : Name). IsSomeAnd w.content (λ files. Stands x files o)) name_q (reads_settled w s.name new o d.reigns.file k.stamps k.begun k.records);
-          images = λ yes c i. let k = d.reigns.kept yes in (o, inl refl, subst (λ (x : Name). Stands x c o) name_q (images_settled w s.name new o d.reigns.file k.stamps k.begun k.records c i));
-          faults = refl;
-          simulated = same ∙ h.disk.simulated;
-        };
-        site = ap (in_new_state state) h.site ∙ ap (λ (x : List ℕ). Some (record { name = s.name; state = world.Primary stamp x })) (sym d.serials);
+        disk = place_of_one w p q.site o (same ∙ h.disk.simulated) (λ sure. open_reads w p.told o new.site sure d.reigns) (λ sure. open_images w p.told o new.site sure d.reigns);
+        site = ap (in_new_state state) h.site ∙ ap (λ (x : List ℕ). Some (record { name = s.name; state = world.Primary stamp x })) (sym d.serials)
+            ∙ ap (λ (x : Stamp). Some (record { name = s.name; state = world.Primary x new.serials })) stamp_new;
         held = record {
-          made = λ yes. let k = d.reigns.kept yes in record { now = k.begun; outcomes = λ x j. subst (λ (y : Contents). y.begun ≡ true) (sym (only x o j)) k.begun };
-          state = record { reigns = d.reigns; settled = λ yes x j. only x o j };
+          made = λ sure. let k = of_sequence s.name p.now turn.sequence (h.held.made sure).now in record { now = k; outcomes = λ x j. subst (IsOf s.name) (sym (only x o j)) k };
+          state = record { reigns = d.reigns; settled = λ sure x j. only x o j };
         };
       },
-      t ∙ ap (λ (x : List ℕ). x ++ line s.name (codes "AT " ++ decimal (length new.entries.items))) d.text
+      t ∙ ap (λ (x : List ℕ). x ++ line s.name (codes "AT " ++ decimal (length new.site.entries.items))) d.text
           ∙ append_assoc before (flat_map reply_line turn.replies) _
           ∙ ap (λ (k : ℕ). before ++ (flat_map reply_line turn.replies ++ line s.name (codes "AT " ++ decimal k))) count
           ∙ ap (λ (x : Turn). before ++ section_text s.name (length order) x (length turn.sequence) None) (sym text),
     )
 
 -- a fault ended it
-pub ran_to_fault : (v w : View) (s : Site) (r : Reign) (n : Name) (jobs : List (List Job)) (order : List ℕ) (k undecided : ℕ) (before middle now : List ℕ) → IsLawful w → n ≡ s.name → s.state ≡ Primary r → w.simulated ≡ v.simulated → k ≡ w.faults → Rose v.faults w.faults
-    → ((told : Bool) (c : Contents) → Reigns v n told c r → (m : ℕ) × FailsAt w n told c jobs order r.serials undecided before middle m)
+pub ran_to_fault : (v w : View) (s : Site) (r : Reign) (jobs : List (List Job)) (order : List ℕ) (k undecided : ℕ) (before middle now : List ℕ) → IsLawful w → s.state ≡ Primary r → w.simulated ≡ v.simulated → k ≡ w.faults → Rose v.faults w.faults
+    → ((told : Bool) (c : Contents) → Reigns v told c r → (m : ℕ) × FailsAt w (stamp_of r) told c jobs order r.serials undecided before middle m)
     → now ≡ middle ++ fault_line s.name k undecided → ExecutesAt (Run s.name jobs order) v s w (record { name = s.name; state = Failed k }) before now
-ran_to_fault v w s r n jobs order k undecided before middle now law e st same count rose f t p h =
-    let d : (m : ℕ) × FailsAt w s.name p.told p.now jobs order r.serials undecided before middle m =
-    subst (λ (x : Name). (m : ℕ) × FailsAt w x p.told p.now jobs order r.serials undecided before middle m) e (f p.told p.now (subst (λ (x : Name). Reigns v x p.told p.now r) (sym e) (reigns_at v s r p st h))) in
+ran_to_fault v w s r jobs order k undecided before middle now law st same count rose f t p h =
+    let d : (m : ℕ) × FailsAt w (stamp_of r) p.told p.now jobs order r.serials undecided before middle m = f p.told p.now (reigns_at v s r p st h) in
     let m : ℕ = d.0 in
     let a = d.1 in
-    let stamp = reign_of s.name in
+    let stamp = stamp_of r in
     let turn : Turn = turn_of stamp r.serials jobs (take m order) p.now.sequence in
     let ends : Section = record { picks = take m order; hardened = a.hardened; fault = Some k } in
     let state = in_new_state (world.Failed k) p.site in
-    let front = front_place w p s.name state turn.sequence a.hardened law (same ∙ h.disk.simulated) (sym (same_name_on (world.Failed k) p.site ∙ ap name_on h.site)) a.front in
+    let front = front_place w p state turn.sequence a.hardened law (same ∙ h.disk.simulated) a.front in
     let text : turn_on p.site jobs ends p ≡ turn = ap (λ (x : Option world.Site). turn_on x jobs ends p) (site_is v s r p st h) in
-    let rest : undecided ≡ length order - length (printed a.hardened turn.replies) = omega (arith, a.count) in (
+    let rest : undecided ≡ length order - length (printed a.hardened turn.replies) = omega (arith, a.count) in
+    let of = λ (sure : p.told ≡ true) (o : Contents) (g : IsFrontOf turn.sequence a.hardened p.now o). subst (IsOf s.name) (sym g.is) (of_sequence s.name p.now (take g.count turn.sequence) (h.held.made sure).now) in (
       Ran ends,
       record { site = state; told = p.told; now = front.now; outcomes = fronts p.now turn.sequence a.hardened (length turn.sequence - a.hardened); faults = w.faults; simulated = p.simulated },
       (
@@ -248,10 +223,7 @@ ran_to_fault v w s r n jobs order k undecided before middle now law e st same co
         disk = front.matches;
         site = ap (in_new_state (world.Failed k)) h.site;
         held = record {
-          made = λ yes. record {
-            now = ap (λ (x : Contents). x.begun) (front.front yes).is ∙ (h.held.made yes).now;
-            outcomes = λ o j. ap (λ (x : Contents). x.begun) (front.fronts_all yes o j).is ∙ (h.held.made yes).now;
-          };
+          made = λ sure. record { now = of sure front.now (front.front sure); outcomes = λ o j. of sure o (front.fronts_all sure o j) };
           state = tt;
         };
       },
@@ -262,40 +234,38 @@ ran_to_fault v w s r n jobs order k undecided before middle now law e st same co
     )
 
 -- it was cut off once some jobs were decided, of which at least these are hardened
-pub run_cut : (v w : View) (s : Site) (r : Reign) (n : Name) (jobs : List (List Job)) (order : List ℕ) → IsLawful w → n ≡ s.name → s.state ≡ Primary r → w.simulated ≡ v.simulated
-    → ((told : Bool) (c : Contents) → Reigns v n told c r → (m low : ℕ) × (length c.sequence ≤ low) × MayHaveFront w n told c (turn_of (reign_of n) r.serials jobs (take m order) c.sequence).sequence low)
+pub run_cut : (v w : View) (s : Site) (r : Reign) (jobs : List (List Job)) (order : List ℕ) → IsLawful w → s.state ≡ Primary r → w.simulated ≡ v.simulated
+    → ((told : Bool) (c : Contents) → Reigns v told c r → (m low : ℕ) × (length c.sequence ≤ low) × MayHaveFront w told c (turn_of (stamp_of r) r.serials jobs (take m order) c.sequence).sequence low)
     → IsCutAt (Run s.name jobs order) v s w
-run_cut v w s r n jobs order law e st same f p h =
-    let d : (m low : ℕ) × (length p.now.sequence ≤ low) × MayHaveFront w s.name p.told p.now (turn_of (reign_of s.name) r.serials jobs (take m order) p.now.sequence).sequence low =
-    subst (λ (x : Name). (m low : ℕ) × (length p.now.sequence ≤ low) × MayHaveFront w x p.told p.now (turn_of (reign_of x) r.serials jobs (take m order) p.now.sequence).sequence low) e
-    (f p.told p.now (subst (λ (x : Name). Reigns v x p.told p.now r) (sym e) (reigns_at v s r p st h))) in
+run_cut v w s r jobs order law st same f p h =
+    let d : (m low : ℕ) × (length p.now.sequence ≤ low) × MayHaveFront w p.told p.now (turn_of (stamp_of r) r.serials jobs (take m order) p.now.sequence).sequence low = f p.told p.now (reigns_at v s r p st h) in
     let m : ℕ = d.0 in
     let low : ℕ = d.1 in
-    let all = (turn_of (reign_of s.name) r.serials jobs (take m order) p.now.sequence).sequence in
-    let front = front_place w p s.name p.site all low law (same ∙ h.disk.simulated) (sym (ap name_on h.site)) d.3 in
+    let all = (turn_of (stamp_of r) r.serials jobs (take m order) p.now.sequence).sequence in
+    let front = front_place w p p.site all low law (same ∙ h.disk.simulated) d.3 in
     let lower : (o : Contents) → IsFrontOf all low p.now o → IsFrontOf all (length p.now.sequence) p.now o = λ o g. record { count = g.count; least = omega (arith, d.2, g.least); most = g.most; is = g.is } in (
       record { site = p.site; told = p.told; now = front.now; outcomes = fronts p.now all low (length all - low); faults = w.faults; simulated = p.simulated },
       record {
         told = refl;
-        outcomes = λ yes o a. inr (subst (λ (x : Option world.Site). RunMayLeaveOn x jobs order p o) (sym (site_is v s r p st h)) (m, lower o (front.fronts_all yes o a)));
+        outcomes = λ sure o a. inr (subst (λ (x : Option world.Site). RunMayLeaveOn x jobs order p o) (sym (site_is v s r p st h)) (m, lower o (front.fronts_all sure o a)));
       },
       front.matches,
     )
 
 -- what is hardened is a front that has all
-pub decided_front : (w : View) (n : Name) (told : Bool) (c : Contents) (jobs : List (List Job)) (order : List ℕ) (r new : Reign) (before now : List ℕ) → IsLawful w → HasDecided w n told c jobs order r new before now
-    → (m low : ℕ) × (length c.sequence ≤ low) × MayHaveFront w n told c (turn_of (reign_of n) r.serials jobs (take m order) c.sequence).sequence low
-decided_front w n told c jobs order r new before now law d =
-    let all = (turn_of (reign_of n) r.serials jobs order c.sequence).sequence in (
+pub decided_front : (w : View) (told : Bool) (c : Contents) (jobs : List (List Job)) (order : List ℕ) (r new : Reign) (before now : List ℕ) → HasDecided w told c jobs order r new before now
+    → (m low : ℕ) × (length c.sequence ≤ low) × MayHaveFront w told c (turn_of (stamp_of r) r.serials jobs (take m order) c.sequence).sequence low
+decided_front w told c jobs order r new before now d =
+    let all = (turn_of (stamp_of r) r.serials jobs order c.sequence).sequence in (
       length order,
       length c.sequence,
       omega arith,
-      subst (λ (x : List ℕ). MayHaveFront w n told c (turn_of (reign_of n) r.serials jobs x c.sequence).sequence (length c.sequence)) (sym (take-length order)) (record {
-        told = λ yes. told_is w.content _ (d.reigns.kept yes).records;
-        images = λ yes files i. let k = d.reigns.kept yes in (
+      subst (λ (x : List ℕ). MayHaveFront w told c (turn_of (stamp_of r) r.serials jobs x c.sequence).sequence (length c.sequence)) (sym (take-length order)) (record {
+        told = λ sure. told_is w.content _ (d.reigns.kept sure).reads;
+        images = λ sure files i. (
           with_sequence c all,
           record { count = length all; least = omega (arith, d.grown); most = omega arith; is = ap (with_sequence c) (sym (take-length all)) },
-          images_settled w n new (with_sequence c all) d.reigns.file k.stamps k.begun k.records files i,
+          images_stand w (with_sequence c all) new.site (subst (λ (b : Bool). Reigns w b (with_sequence c all) new) sure d.reigns) files i,
         );
       }),
     )
@@ -358,38 +328,32 @@ few_or_all (suc n) zero = inr (omega arith)
 few_or_all (suc n) (suc k) = elim (few_or_all n k) [ inl a ↦ inl (omega (arith, a)) | inr b ↦ inr (omega (arith, b)) ]
 
 -- what the first picks come to
-abbrev pub runs_of : Name → List ℕ → List (List Job) → List ℕ → Sequence → ℕ → Sequence
-runs_of name serials jobs order seq m = (turn_of (reign_of name) serials jobs (take m order) seq).sequence
+abbrev pub runs_of : Stamp → List ℕ → List (List Job) → List ℕ → Sequence → ℕ → Sequence
+runs_of stamp serials jobs order seq m = (turn_of stamp serials jobs (take m order) seq).sequence
 
-among_runs : (name : Name) (serials : List ℕ) (jobs : List (List Job)) (order : List ℕ) (c o : Contents) (n : ℕ) → IsFrontOf (runs_of name serials jobs order c.sequence n) (length c.sequence) c o
-    → Among (all_fronts (runs_of name serials jobs order c.sequence) (length order) c (length c.sequence)) o
-among_runs name serials jobs order c o n g =
-    let runs : ℕ → Sequence = runs_of name serials jobs order c.sequence in
+among_runs : (stamp : Stamp) (serials : List ℕ) (jobs : List (List Job)) (order : List ℕ) (c o : Contents) (n : ℕ) → IsFrontOf (runs_of stamp serials jobs order c.sequence n) (length c.sequence) c o
+    → Among (all_fronts (runs_of stamp serials jobs order c.sequence) (length order) c (length c.sequence)) o
+among_runs stamp serials jobs order c o n g =
+    let runs : ℕ → Sequence = runs_of stamp serials jobs order c.sequence in
     elim (few_or_all n (length order)) [
       | inl few ↦ front_among_all runs (length order) n c (length c.sequence) o few g
-      | inr all ↦ front_among_all runs (length order) (length order) c (length c.sequence) o (omega arith) (subst (λ (x : List ℕ). IsFrontOf (turn_of (reign_of name) serials jobs x c.sequence).sequence (length c.sequence) c o) (take_past n order all) g)
+      | inr all ↦ front_among_all runs (length order) (length order) c (length c.sequence) o (omega arith) (subst (λ (x : List ℕ). IsFrontOf (turn_of stamp serials jobs x c.sequence).sequence (length c.sequence) c o) (take_past n order all) g)
     ]
 
 -- it was cut off once some jobs were decided, and each image may have its own number of them
-pub run_cut_any : (v w : View) (s : Site) (r : Reign) (n : Name) (jobs : List (List Job)) (order : List ℕ) → IsLawful w → n ≡ s.name → s.state ≡ Primary r → w.simulated ≡ v.simulated
-    → ((told : Bool) (c : Contents) → Reigns v n told c r → MayLeave w n told c jobs order r.serials) → IsCutAt (Run s.name jobs order) v s w
-run_cut_any v w s r n jobs order law e st same f p h =
-    let d : MayLeave w s.name p.told p.now jobs order r.serials =
-    subst (λ (x : Name). MayLeave w x p.told p.now jobs order r.serials) e (f p.told p.now (subst (λ (x : Name). Reigns v x p.told p.now r) (sym e) (reigns_at v s r p st h))) in
+pub run_cut_any : (v w : View) (s : Site) (r : Reign) (jobs : List (List Job)) (order : List ℕ) → IsLawful w → s.state ≡ Primary r → w.simulated ≡ v.simulated
+    → ((told : Bool) (c : Contents) → Reigns v told c r → MayLeave w (stamp_of r) told c jobs order r.serials) → IsCutAt (Run s.name jobs order) v s w
+run_cut_any v w s r jobs order law st same f p h =
+    let d : MayLeave w (stamp_of r) p.told p.now jobs order r.serials = f p.told p.now (reigns_at v s r p st h) in
     let low : ℕ = length p.now.sequence in
-    let runs : ℕ → Sequence = runs_of s.name r.serials jobs order p.now.sequence in
+    let runs : ℕ → Sequence = runs_of (stamp_of r) r.serials jobs order p.now.sequence in
     let list = all_fronts runs (length order) p.now low in
-    let named : s.name ≡ name_on p.site = sym (ap name_on h.site) in
-    let images : p.told ≡ true → (c : Files) → Image w c → (o : Contents) × Among list o × Stands (name_on p.site) c o = λ is c i.
-    let o = d.images is c i in
-    (o.0, among_runs s.name r.serials jobs order p.now o.0 o.1.0 o.1.1, subst (λ (x : Name). Stands x c o.0) named o.2) in
-    let q : Place = record { site = p.site; told = p.told; now = p.now; outcomes = list; faults = w.faults; simulated = p.simulated } in
-    let m = pick_one p.told p.now (λ o. Unit {0}) (λ o. IsSomeAnd w.content (λ files. Stands (name_on p.site) files o)) tt (λ is. let k = read_kept w q law (d.told is) (images is) in (k.0, tt, k.2)) in (
+    let m = place_of_images w p p.site list law (same ∙ h.disk.simulated) d.told (λ is c i. let o = d.images is c i in (o.0, among_runs (stamp_of r) r.serials jobs order p.now o.0 o.1.0 o.1.1, inr o.2)) in (
       record { site = p.site; told = p.told; now = m.0; outcomes = list; faults = w.faults; simulated = p.simulated },
       record {
         told = refl;
         outcomes = λ is o a. let k = are_all_fronts runs (length order) p.now low o a in
             inr (subst (λ (x : Option world.Site). RunMayLeaveOn x jobs order p o) (sym (site_is v s r p st h)) (k.0, k.1));
       },
-      record { told = m.2; images = images; faults = refl; simulated = same ∙ h.disk.simulated },
+      m.2,
     )

@@ -7,7 +7,7 @@ use Rattle.global_defs.specs.Entry.{Entry, Sequence}
 use Rattle.global_defs.specs.Extract.{entry_text, entries_text, header, extract}
 use Rattle.gvn_model.specs.declared.entry.Entry as code
 use Rattle.world_defs.specs.Output.{extract_from}
-use Rattle.site_journal.specs.Reigns.{tagged}
+use Rattle.site_store.specs.Site.{tagged}
 
 enumerate_rest : (n k : ℕ) (xs : Sequence) → drop k (enumerate_from n xs) ≡ enumerate_from (n + k) (drop k xs)
 enumerate_rest n zero [] = refl

@@ -1,214 +1,440 @@
 -- START PRIMARY at a place.
-use Rattle.std.proofs.Common.{◌≡◌, ℕ, zero, suc, ◌+◌, ◌≤◌, true, false, List, [], ◌∷◌, ◌++◌, length, take, None, Some, refl, sym, ◌∙◌, ap, subst, arith, inl}
-use Rattle.std.specs.Prelude.{Option, codes, IfSome, IsSome, IsSomeAnd}
+use Rattle.std.proofs.Common.{◌≡◌, ℕ, ◌+◌, ◌≤◌, ◌<◌, Bool, true, false, List, [], ◌∷◌, ◌++◌, length, None, Some, refl, sym, ◌∙◌, ap, subst, arith, inl, inr, if◌then◌else◌}
+use Rattle.std.specs.Prelude.{◌⊎◌, Option, codes, IfSome, IsSome, IsSomeAnd}
 use Rattle.std.specs.Fmt.{decimal}
 use Rattle.std.proofs.lemmas.Bool.{false≢true}
-use Rattle.std.proofs.lemmas.List.{length-map}
-use Rattle.disk_defs.specs.Disk.{Files, View, Image, IsLawful, Rose}
-use Rattle.gated_file.specs.Begin.{KeepsRecords}
-use Rattle.gvn_model.specs.Entries.{entry_value}
-use Rattle.journal_defs.specs.Numbers.{journal_file}
-use Rattle.journal_defs.specs.Journal.{JournalRecord, IsJournalBody}
-use Rattle.journal_defs.specs.Stands.{Holds}
-use Rattle.jnl_file.specs.Records.{settled}
-use Rattle.jnl_file.specs.Journal.{HoldsRecords, HasRecords}
-use Rattle.site_journal.specs.declared.reign.Reign.{Reign}
-use Rattle.site_journal.specs.Reigns.{AreOfReign, Remembers}
-use Rattle.site_journal.specs.Cursor.{HasRead, IsTakenUp, entries_of}
+use Rattle.disk_defs.specs.Disk.{Files, View, Image, IsLawful, AtEachMoment, Rose}
+use Rattle.global_defs.specs.Entry as defs
+use Rattle.gvn_model.specs.declared.reign.Stamp.{Stamp}
+use Rattle.gvn_model.specs.Reigns.{stamp_value}
+use Rattle.journal_defs.specs.Instance.{InstanceRecord, generation, site_name}
+use Rattle.site_store.specs.declared.site.OpenSite.{OpenSite}
+use Rattle.site_store.specs.Site.{Remembers, IsOpen}
+use Rattle.site_store.specs.Opening.{OpensTo, MayOpen}
+use Rattle.repl_section.specs.declared.reign.Reign.{Reign}
+use Rattle.repl_section.specs.Reigns.{stamp_in, stamp_of}
+use Rattle.command_defs.specs.Commands.{Name, StartPrimary}
 use Rattle.world_defs.specs.Lists.{Among}
 use Rattle.world_defs.specs.World as world
-use Rattle.command_defs.specs.Commands.{Name, StartPrimary}
 use Rattle.world_defs.specs.World.{Contents, Place}
-use Rattle.world_defs.specs.Answers.{Stopped, Running, Done, DiskFault, NotAFile}
-use Rattle.world_defs.specs.Refusals.{first, stopped, running}
-use Rattle.world_defs.specs.Rows.{in_new_state, reign_of, serials_after}
+use Rattle.world_defs.specs.Answers.{Cause, Stopped, Running, GenLimit, ReignLimit, Answer, Refused, Done, DiskFault, NotAFile}
+use Rattle.world_defs.specs.Refusals.{first, in_state, stopped, running, limited, generation_limit, reign_limit}
+use Rattle.world_defs.specs.Rows.{in_new_state, opened, with_reign, next_stamp, MayBegin, MayBeginAny, FIRST_SERIALS}
+use Rattle.world_defs.specs.Step.{LeftAt}
 use Rattle.world_defs.specs.Output.{line, cycle_on}
-use Rattle.world_defs.specs.Ties.{Stands, Matches, name_on, records_of}
+use Rattle.world_defs.specs.Ties.{IsSite, Stands, Matches}
 use Rattle.site_runner.specs.declared.slot.State.{State}
 use Rattle.site_runner.specs.declared.slot.State.TheVariants.{Down, Primary, Failed}
 use Rattle.site_runner.specs.declared.slot.Site.{Site}
-use Rattle.site_runner.specs.Sites.{state_value, HoldsState}
-use Rattle.site_runner.specs.Here.{tests}
+use Rattle.site_runner.specs.Sites.{state_value, site_value, HoldsState, IsOf, IsMade}
+use Rattle.site_runner.specs.Here.{tests, cause_here, Here, text_here}
 use Rattle.site_runner.specs.Steps.{IsAt, ExecutesAt, IsCutAt}
-use Rattle.site_runner.proofs.Ats.{refuses, state_at, first_cause, second_cause, no_cause, pick_one, not_true, same_name_on, some_both, told_is, image_kept, read_kept}
-use Rattle.site_runner.proofs.Crashed.{only}
+use Rattle.site_runner.specs.Starting.{IsOpenedAt, BeginsAt, IsCutOpened}
+use Rattle.site_runner.proofs.Ats.{refuses, kept_same, state_at, first_cause, second_cause, no_cause, not_true, is_true_or_false, some_both, some_and, told_is, is_site, at_moment, reads_image, place_of_images, place_of_one, only, open_reads, open_images}
+use Rattle.site_runner.proofs.Stopped.{length_tagged}
+use Rattle.site_runner.proofs.Begun.{limit_opened, stamp_opened, of_opened, of_begun, of_may_begin, begins, among_begins, begins_among, generation_past, generation_left}
 
 pub start_failed_before : (v : View) (s : Site) (k : ℕ) (before now : List ℕ) → s.state ≡ Failed k → now ≡ before ++ line s.name (codes "STOPPED " ++ decimal k) → ExecutesAt (StartPrimary s.name) v s v s before now
-start_failed_before v s k before now e t = refuses (StartPrimary s.name) v s (Stopped k) before now refl (λ p h. first_cause _ _ (Stopped k) (state_at stopped v s p h ∙ ap (λ (x : State). stopped (state_value s.name x)) e)) t
+start_failed_before v s k before now e t =
+    refuses (StartPrimary s.name) v s (Stopped k) before now refl (λ p h. first_cause _ _ (Stopped k) (state_at stopped v s p h ∙ ap (λ (x : State). stopped (state_value x)) e)) kept_same t
 
 pub start_running : (v : View) (s : Site) (r : Reign) (before now : List ℕ) → s.state ≡ Primary r → now ≡ before ++ line s.name (codes "RUNNING") → ExecutesAt (StartPrimary s.name) v s v s before now
 start_running v s r before now e t =
     refuses (StartPrimary s.name) v s Running before now refl
-    (λ p h. second_cause _ _ Running (state_at stopped v s p h ∙ ap (λ (x : State). stopped (state_value s.name x)) e) (state_at running v s p h ∙ ap (λ (x : State). running (state_value s.name x)) e)) t
+    (λ p h. second_cause _ _ (limited (Some p) ∷ []) Running (state_at stopped v s p h ∙ ap (λ (x : State). stopped (state_value x)) e) (state_at running v s p h ∙ ap (λ (x : State). running (state_value x)) e)) kept_same t
 
-none_down : (v : View) (s : Site) (p : Place) → s.state ≡ Down → IsAt v s p → first (tests (StartPrimary s.name) p) ≡ None
-none_down v s p e h = no_cause _ _ (state_at stopped v s p h ∙ ap (λ (x : State). stopped (state_value s.name x)) e) (state_at running v s p h ∙ ap (λ (x : State). running (state_value s.name x)) e)
+-- the tests of a site that is down
 
-append_nothing : (xs : List JournalRecord) → xs ++ [] ≡ xs
-append_nothing [] = refl
-append_nothing (x ∷ xs) = ap (λ (r : List JournalRecord). x ∷ r) (append_nothing xs)
+early_down : (s : Site) (p : Place) → s.state ≡ Down → p.site ≡ Some (site_value s) → first (tests (StartPrimary s.name) p) ≡ None
+early_down s p e h =
+    no_cause _ _ (ap (in_state stopped) h ∙ ap (λ (x : State). stopped (state_value x)) e) (ap (in_state running) h ∙ ap (λ (x : State). running (state_value x)) e)
 
-take_nothing : (n : ℕ) → take {A = JournalRecord} n [] ≡ []
-take_nothing zero = refl
-take_nothing (suc n) = refl
+third : (a b c : Option Cause) → first (a ∷ b ∷ []) ≡ None → first (a ∷ b ∷ c ∷ []) ≡ first (c ∷ [])
+third (Some a) b c e = cc
+third None (Some b) c e = cc
+third None None c e = refl
 
-inside : (o : Option Files) (P : Files → Type 0) → IsSomeAnd o P → (f : Files) × (o ≡ Some f) × P f
-inside None P h = absurd h
-inside (Some f) P h = (f, refl, h)
+first_one : (c : Option Cause) → first (c ∷ []) ≡ c
+first_one None = refl
+first_one (Some c) = refl
 
-stands_of : (name : Name) (files : Files) (file : ℕ) (o : Contents) → file ≡ journal_file 1 0 → Holds IsJournalBody (files file) (records_of o) → AreOfReign name o.sequence → o.begun ≡ true → Stands name files o
-stands_of name files file o e held stamps is = record {
-  held = subst (λ (n : ℕ). Holds IsJournalBody (files n) (records_of o)) e held;
-  stamps = stamps;
-  nothing = λ not. absurd (false≢true (sym not ∙ is));
+cause_down : (s : Site) (p : Place) → s.state ≡ Down → p.site ≡ Some (site_value s) → cause_here (StartPrimary s.name) p ≡ limited (Some p)
+cause_down s p e h = third (in_state stopped p.site) (in_state running p.site) (limited (Some p)) (early_down s p e h) ∙ first_one (limited (Some p))
+
+limited_told : (p : Place) (x y : Option Cause) → p.told ≡ true → generation_limit p.now ≡ x → reign_limit p.now ≡ y → limited (Some p) ≡ first (x ∷ y ∷ [])
+limited_told p x y sure g r = ap (λ (b : Bool). if b then first (generation_limit p.now ∷ reign_limit p.now ∷ []) else None) sure ∙ ap (λ (z : Option Cause). first (z ∷ reign_limit p.now ∷ [])) g ∙ ap (λ (z : Option Cause). first (x ∷ z ∷ [])) r
+
+limited_generation : (p : Place) → p.told ≡ true → generation_limit p.now ≡ Some GenLimit → limited (Some p) ≡ Some GenLimit
+limited_generation p sure g = limited_told p (Some GenLimit) (reign_limit p.now) sure g refl
+
+not_limited : (p : Place) → (p.told ≡ true) ⊎ (p.told ≡ false) → (p.told ≡ true → generation_limit p.now ≡ None) → (p.told ≡ true → reign_limit p.now ≡ None) → limited (Some p) ≡ None
+not_limited p (inl sure) g r = limited_told p None None sure (g sure) (r sure)
+not_limited p (inr unsure) g r = ap (λ (b : Bool). if b then first (generation_limit p.now ∷ reign_limit p.now ∷ []) else None) no
+
+-- a place as it was, but for faults that were counted
+abbrev pub counted : Place → ℕ → Place
+counted p faults = record { site = p.site; told = p.told; now = p.now; outcomes = p.outcomes; faults = faults; simulated = p.simulated }
+
+unknown_matches : (w : View) (p : Place) → p.told ≡ false → w.simulated ≡ p.simulated → Matches w (counted p w.faults)
+unknown_matches w p unsure same = record { told = λ sure. absurd (false≢true (sym unsure ∙ sure)); images = λ sure. absurd (false≢true (sym unsure ∙ sure)); faults = refl; simulated = same }
+
+-- a site that is down at a place whose files aren't known
+pub unknown_at : (w : View) (s : Site) (p : Place) → s.state ≡ Down → p.site ≡ Some (site_value s) → p.told ≡ false → w.simulated ≡ p.simulated → IsAt w s (counted p w.faults)
+unknown_at w s p down site unsure same = record {
+  disk = unknown_matches w p unsure same;
+  site = site;
+  held = record { made = λ sure. absurd (false≢true (sym unsure ∙ sure)); state = subst (λ (x : State). HoldsState w x (counted p w.faults)) (sym down) tt };
 }
 
--- an open journal with these records, and no others on the disk, stands for these contents
-pub reads_settled : (w : View) (name : Name) (r : Reign) (o : Contents) → r.journal.gated.file ≡ journal_file 1 0 → AreOfReign name o.sequence → o.begun ≡ true → HasRecords w r.journal (settled (records_of o))
-    → IsSomeAnd w.content (λ files. Stands name files o)
-reads_settled w name r o file stamps is has =
-    let k = inside w.content (HoldsRecords w r.journal (settled (records_of o))) has in
-    subst (λ (x : Option Files). IsSomeAnd x (λ files. Stands name files o)) (sym k.1)
-    (stands_of name k.0 r.journal.gated.file o file (subst (λ (xs : List JournalRecord). Holds IsJournalBody (k.0 r.journal.gated.file) xs) (append_nothing (records_of o)) k.2.reads) stamps is)
+-- What the opening of a site found, at its place.
 
-pub images_settled : (w : View) (name : Name) (r : Reign) (o : Contents) → r.journal.gated.file ≡ journal_file 1 0 → AreOfReign name o.sequence → o.begun ≡ true → HasRecords w r.journal (settled (records_of o))
-    → (c : Files) → Image w c → Stands name c o
-images_settled w name r o file stamps is has c i =
-    let k = inside w.content (HoldsRecords w r.journal (settled (records_of o))) has in
-    let s = k.2.stands c i in
-    stands_of name c r.journal.gated.file o file
-    (subst (λ (xs : List JournalRecord). Holds IsJournalBody (c r.journal.gated.file) xs) (ap (λ (xs : List JournalRecord). records_of o ++ xs) (take_nothing s.0) ∙ append_nothing (records_of o)) s.2) stamps is
+opened_told : (v w : View) (s : Site) (o : OpenSite) (p : Place) → IsLawful v → s.state ≡ Down → IsAt v s p → site_name o.instance.records ≡ s.name → p.told ≡ true
+    → IfSome v.content (λ files. (c : Contents) → IsSite files c → IsOpen w true (opened c) (length c.sequence) o) → IfSome v.content (λ files. (c : Contents) → IsSite files c → generation c.instance < 65534)
+    → w.simulated ≡ v.simulated → v.faults ≤ w.faults → IsOpenedAt w s o p
+opened_told v w s o p law down h name sure told drawn same later =
+    let made : IsMade s.name p = h.held.made sure in
+    let here = some_both v.content _ _ (h.disk.told sure) told in
+    let site : IsSite here.0 p.now = is_site here.0 p.now made.now.made here.1 in
+    let drawn_here = some_both v.content _ _ (h.disk.told sure) drawn in
+    let read = reads_image v law (told_is v.content _ (h.disk.told sure)) in
+    let out = h.disk.images sure read.0 read.2 in
+    let told_there : (c : Contents) → IsSite read.0 c → IsOpen w true (opened c) (length c.sequence) o = subst (λ (x : Option Files). IfSome x (λ files. (c : Contents) → IsSite files c → IsOpen w true (opened c) (length c.sequence) o)) read.1 told in
+    let one : IsOpen w true (opened p.now) (length p.now.sequence) o = here.2 p.now site in
+    record {
+      site = h.site;
+      down = down;
+      made = h.held.made;
+      name = name;
+      read = p.now;
+      as_before = λ _. refl;
+      is_open = record { remembered = one.remembered; kept = λ _. one.kept refl };
+      outcome = λ _. (out.0, out.1, told_there out.0 (is_site read.0 out.0 (made.outcomes out.0 out.1).made out.2));
+      drawn = λ _. generation_left p.now (drawn_here.2 p.now (is_site drawn_here.0 p.now made.now.made drawn_here.1));
+      faults = omega (arith, later, h.disk.faults);
+      simulated = same ∙ h.disk.simulated;
+    }
 
-pub opened : (v w : View) (s : Site) (n : Name) (r : Reign) (before now : List ℕ) → n ≡ s.name → s.state ≡ Down → r.journal.gated.file ≡ journal_file 1 0 → HasRead n r
-    → IfSome v.content (λ files. (c : Contents) → Stands n files c → c.begun ≡ true → IsTakenUp w c r) → w.simulated ≡ v.simulated → v.faults ≤ w.faults
-    → now ≡ before ++ line s.name (codes "PRIMARY " ++ decimal 1 ++ codes " FROM " ++ decimal (length r.entries.items + 1)) → ExecutesAt (StartPrimary s.name) v s w (record { name = s.name; state = Primary r }) before now
-opened v w s n r before now e down file read told same later t p h =
-    let named : name_on p.site ≡ s.name = ap name_on h.site in
-    let has : HasRead s.name r = subst (λ (x : Name). HasRead x r) e read in
-    let reign : world.State = world.Primary (reign_of s.name) r.serials in
-    let m = pick_one p.told (record { begun = true; sequence = entries_of r }) (λ o. (o.sequence ≡ entries_of r) × (o.begun ≡ true)) (λ o. (o ≡ p.now) × IsTakenUp w o r) (refl, refl) (λ yes.
-    let both = some_both v.content _ _ (h.disk.told yes) told in
-    let up = both.2 p.now (subst (λ (x : Name). Stands x both.0 p.now) (named ∙ sym e) both.1) (h.held.made yes).now in
-    (p.now, (up.sequence, (h.held.made yes).now), (refl, up))) in
-    let o : Contents = m.0 in
-    let q : Place = record { site = in_new_state reign p.site; told = p.told; now = o; outcomes = o ∷ []; faults = w.faults; simulated = p.simulated } in
-    let serials : r.serials ≡ serials_after o.sequence = has.serials ∙ ap serials_after (sym m.1.0) in
-    let stamps : AreOfReign s.name o.sequence = subst (AreOfReign s.name) (sym m.1.0) has.stamps in
-    let name_q : s.name ≡ name_on q.site = sym (same_name_on reign p.site ∙ named) in
-    let count : length r.entries.items ≡ length o.sequence = sym (ap length m.1.0 ∙ length-map r.entries.items entry_value) in
-    let cycle : 1 ≡ cycle_on q.site = sym (ap (λ (x : Option world.Site). cycle_on (in_new_state reign x)) h.site) in (
-      Done,
-      q,
-      (
-        none_down v s p down h,
-        record {
-          as_before = λ yes. (m.2 yes).0;
-          becomes = record {
-            site = ap (λ (x : List ℕ). in_new_state (world.Primary (reign_of s.name) x) p.site) serials;
-            now = refl;
-            outcomes = refl;
-            faults = omega (arith, later, h.disk.faults);
-            same = record { told = refl; simulated = refl };
-          };
-        },
-      ),
-      record {
-        disk = record {
-          told = λ yes. subst (λ (x : Name). IsSomeAnd w.content (λ files. Stands x files o)) name_q (reads_settled w s.name r o file stamps m.1.1 (m.2 yes).1.records);
-          images = λ yes c i. (o, inl refl, subst (λ (x : Name). Stands x c o) name_q (images_settled w s.name r o file stamps m.1.1 (m.2 yes).1.records c i));
-          faults = refl;
-          simulated = same ∙ h.disk.simulated;
-        };
-        site = ap (in_new_state reign) h.site;
-        held = record {
-          made = λ yes. record { now = m.1.1; outcomes = λ x j. subst (λ (y : Contents). y.begun ≡ true) (sym (only x o j)) m.1.1 };
-          state = record {
-            reigns = record {
-              remembered = subst (Remembers r) (sym m.1.0) has.remembers;
-              file = file;
-              kept = λ yes. record { begun = m.1.1; stamps = stamps; records = (m.2 yes).1.records };
-            };
-            settled = λ yes x j. only x o j;
-          };
-        };
-      },
-      t ∙ ap (λ (k : ℕ). before ++ line s.name (codes "PRIMARY " ++ decimal k ++ codes " FROM " ++ decimal (length r.entries.items + 1))) cycle
-          ∙ ap (λ (k : ℕ). before ++ line s.name (codes "PRIMARY " ++ decimal (cycle_on q.site) ++ codes " FROM " ++ decimal (k + 1))) count,
-    )
+opened_untold : (v w : View) (s : Site) (o : OpenSite) (p : Place) → s.state ≡ Down → IsAt v s p → site_name o.instance.records ≡ s.name → p.told ≡ false → ((c : Contents) × Remembers (opened c) (length c.sequence) o)
+    → w.simulated ≡ v.simulated → v.faults ≤ w.faults → IsOpenedAt w s o p
+opened_untold v w s o p down h name unsure read same later = record {
+  site = h.site;
+  down = down;
+  made = h.held.made;
+  name = name;
+  read = read.0;
+  as_before = λ sure. absurd (false≢true (sym unsure ∙ sure));
+  is_open = record { remembered = read.1; kept = λ sure. absurd (false≢true (sym unsure ∙ sure)) };
+  outcome = λ sure. absurd (false≢true (sym unsure ∙ sure));
+  drawn = λ sure. absurd (false≢true (sym unsure ∙ sure));
+  faults = omega (arith, later, h.disk.faults);
+  simulated = same ∙ h.disk.simulated;
+}
 
--- what each image stands for once a call has kept the records
-pub record KeptBy (v w : View) : Type 1 where
-  pub lawful : IsLawful w
-  pub images : IfSome v.content (λ _. (files : Files) → Image w files → KeepsRecords v (journal_file 1 0) files)
-  pub still_told : IsSome v.content → IsSome w.content
-  pub simulated : w.simulated ≡ v.simulated
-  pub later : v.faults ≤ w.faults
+pub opened_at : (v w : View) (s : Site) (o : OpenSite) (p : Place) → IsLawful v → s.state ≡ Down → IsAt v s p → site_name o.instance.records ≡ s.name → ((c : Contents) × Remembers (opened c) (length c.sequence) o)
+    → IfSome v.content (λ files. (c : Contents) → IsSite files c → IsOpen w true (opened c) (length c.sequence) o) → IfSome v.content (λ files. (c : Contents) → IsSite files c → generation c.instance < 65534)
+    → w.simulated ≡ v.simulated → v.faults ≤ w.faults → IsOpenedAt w s o p
+opened_at v w s o p law down h name read told drawn same later = elim (is_true_or_false p.told) [
+  | inl sure ↦ opened_told v w s o p law down h name sure told drawn same later
+  | inr unsure ↦ opened_untold v w s o p down h name unsure read same later
+]
 
--- a place with the outcomes that it had
-pub still_matches : (v w : View) (p : Place) (state : Option world.Site) → KeptBy v w → name_on p.site ≡ name_on state → Matches v p
-    → (o : Contents) × (p.told ≡ true → Among p.outcomes o) × Matches w (record { site = state; told = p.told; now = o; outcomes = p.outcomes; faults = w.faults; simulated = p.simulated })
-still_matches v w p state k e h =
-    let images : p.told ≡ true → (c : Files) → Image w c → (o : Contents) × Among p.outcomes o × Stands (name_on p.site) c o = image_kept v w p h k.images in
-    let m = pick_one p.told p.now (λ o. Unit {0}) (λ o. Among p.outcomes o × IsSomeAnd w.content (λ files. Stands (name_on p.site) files o)) tt (λ yes.
-    let r = read_kept w p k.lawful (k.still_told (told_is v.content _ (h.told yes))) (images yes) in
-    (r.0, tt, (r.1, r.2))) in (
-      m.0,
-      (λ yes. (m.2 yes).0),
-      record {
-        told = λ yes. subst (λ (x : Name). IsSomeAnd w.content (λ files. Stands x files m.0)) e (m.2 yes).1;
-        images = λ yes c i. let o = images yes c i in (o.0, o.1, subst (λ (x : Name). Stands x c o.0) e o.2);
-        faults = refl;
-        simulated = k.simulated ∙ h.simulated;
-      },
-    )
+-- A start that ends before the reign: each image stands for what beginning one may leave.
 
-pub start_faulted : (v w : View) (s : Site) (k : ℕ) (before now : List ℕ) → s.state ≡ Down → KeptBy v w → k ≡ w.faults → Rose v.faults w.faults → now ≡ before ++ line s.name (codes "DISKFAULT " ++ decimal k)
-    → ExecutesAt (StartPrimary s.name) v s w (record { name = s.name; state = Failed k }) before now
-start_faulted v w s k before now down kept count rose t p h =
+-- what may have begun of what was there
+pub record MayHaveBegun (w : View) (s : Site) (p : Place) : Type 0 where
+  pub still_told : p.told ≡ true → IsSome w.content
+  pub images : p.told ≡ true → (f : Files) → Image w f → (o : Contents) × MayBeginAny s.name p o × Stands f o
+  pub simulated : w.simulated ≡ p.simulated
+
+begun_place : (w : View) (s : Site) (p : Place) (site : Option world.Site) → IsLawful w → MayHaveBegun w s p
+    → (now : Contents) × (p.told ≡ true → Among (begins s.name p.outcomes) now) × Matches w (record { site = site; told = p.told; now = now; outcomes = begins s.name p.outcomes; faults = w.faults; simulated = p.simulated })
+begun_place w s p site law b =
+    place_of_images w p site (begins s.name p.outcomes) law b.simulated b.still_told (λ sure f i. let k = b.images sure f i in (k.0, begins_among s.name p.outcomes k.1.0 k.0 k.1.1 k.1.2, k.2))
+
+pub begun_cut : (w : View) (s : Site) (p : Place) → IsLawful w → MayHaveBegun w s p → (q : Place) × LeftAt true (StartPrimary s.name) p q × Matches w q
+begun_cut w s p law b =
+    let m = begun_place w s p p.site law b in
+    (record { site = p.site; told = p.told; now = m.0; outcomes = begins s.name p.outcomes; faults = w.faults; simulated = p.simulated }, record { told = refl; outcomes = λ sure o a. inr (among_begins s.name p.outcomes o a) }, m.2)
+
+-- what START answers from a place
+abbrev pub Answers : View → Site → Place → Site → List ℕ → List ℕ → Type 0
+Answers w s p new before now = (a : Answer) × (q : Place) × Here (StartPrimary s.name) p a q × IsAt w new q × (now ≡ before ++ text_here (StartPrimary s.name) p a q)
+
+pub begun_fault : (w : View) (s : Site) (p : Place) (k : ℕ) (before now : List ℕ) → IsLawful w → s.state ≡ Down → p.site ≡ Some (site_value s) → (p.told ≡ true → IsMade s.name p) → MayHaveBegun w s p → k ≡ w.faults → Rose p.faults w.faults
+    → now ≡ before ++ line s.name (codes "DISKFAULT " ++ decimal k) → Answers w s p (record { name = s.name; state = Failed k }) before now
+begun_fault w s p k before now law down site made b count rose t =
     let state = in_new_state (world.Failed k) p.site in
-    let m = still_matches v w p state kept (sym (same_name_on (world.Failed k) p.site)) h.disk in (
+    let m = begun_place w s p state law b in
+    let of = λ (sure : p.told ≡ true) (o : Contents) (a : Among (begins s.name p.outcomes) o). (let x = among_begins s.name p.outcomes o a in of_may_begin s.name x.0 o ((made sure).outcomes x.0 x.1) x.2) in (
       DiskFault k,
-      record { site = state; told = p.told; now = m.0; outcomes = p.outcomes; faults = w.faults; simulated = p.simulated },
+      record { site = state; told = p.told; now = m.0; outcomes = begins s.name p.outcomes; faults = w.faults; simulated = p.simulated },
       (
-        none_down v s p down h,
+        early_down s p down site,
         record {
           site = refl;
-          outcomes = λ yes o a. a;
-          faults = record { count = sym count; rose = subst (λ (x : ℕ). Rose p.faults x) (sym count) (subst (λ (x : ℕ). Rose x w.faults) h.disk.faults rose); same = record { told = refl; simulated = refl } };
+          outcomes = λ sure o a. among_begins s.name p.outcomes o a;
+          faults = record { count = sym count; rose = subst (λ (x : ℕ). Rose p.faults x) (sym count) rose; same = record { told = refl; simulated = refl } };
         },
       ),
       record {
         disk = m.2;
-        site = ap (in_new_state (world.Failed k)) h.site;
-        held = record { made = λ yes. record { now = (h.held.made yes).outcomes m.0 (m.1 yes); outcomes = (h.held.made yes).outcomes }; state = tt };
+        site = ap (in_new_state (world.Failed k)) site;
+        held = record { made = λ sure. record { now = of sure m.0 (m.1 sure); outcomes = of sure }; state = tt };
       },
       t,
     )
 
-pub start_cut : (v w : View) (s : Site) → KeptBy v w → IsCutAt (StartPrimary s.name) v s w
-start_cut v w s kept p h =
-    let m = still_matches v w p p.site kept refl h.disk in
-    (record { site = p.site; told = p.told; now = m.0; outcomes = p.outcomes; faults = w.faults; simulated = p.simulated }, record { told = refl; outcomes = λ yes o a. inl a }, m.2)
+rose_at : (v w : View) (p : Place) → Matches v p → Rose v.faults w.faults → Rose p.faults w.faults
+rose_at v w p m h = subst (λ (x : ℕ). Rose x w.faults) m.faults h
 
-pub start_damaged : (v w : View) (s : Site) (n : Name) (file offset : ℕ) (before now : List ℕ) → n ≡ s.name → s.state ≡ Down → w.simulated ≡ v.simulated → v.faults ≤ w.faults
-    → IfSome v.content (λ files. (c : Contents) → Stands n files c → c.begun ≡ true → ⊥) → now ≡ before ++ line s.name (codes "NOTAFILE " ++ decimal file ++ 32 ∷ decimal offset) → ExecutesAt (StartPrimary s.name) v s w s before now
-start_damaged v w s n file offset before now e down same later outside t p h =
-    let unknown : p.told ≡ false = not_true p.told (λ yes.
-    let both = some_both v.content _ _ (h.disk.told yes) outside in
-    both.2 p.now (subst (λ (x : Name). Stands x both.0 p.now) (ap name_on h.site ∙ sym e) both.1) (h.held.made yes).now) in
-    let q : Place = record { site = p.site; told = p.told; now = p.now; outcomes = p.outcomes; faults = w.faults; simulated = p.simulated } in (
-      NotAFile file offset,
+-- the opening of a site was begun
+pub load_begun : (v w : View) (s : Site) (p : Place) → IsLawful w → IsAt v s p → IfSome v.content (λ files. (c : Contents) → IsSite files c → AtEachMoment v w (MayOpen v)) → (IsSome v.content → IsSome w.content) → w.simulated ≡ v.simulated → MayHaveBegun w s p
+load_begun v w s p law h moments still same = record {
+  still_told = λ sure. still (told_is v.content _ (h.disk.told sure));
+  images = λ sure f i.
+      let made : IsMade s.name p = h.held.made sure in
+      let here = some_both v.content _ _ (h.disk.told sure) moments in
+      let each = here.2 p.now (is_site here.0 p.now made.now.made here.1) in
+      let from = at_moment v w (MayOpen v) f law each i in
+      let was = h.disk.images sure from.0 from.1 in
+      let now = from.2 was.0 (is_site from.0 was.0 (made.outcomes was.0 was.1).made was.2) in
+      (now.0, (was.0, was.1, may_begin s.name was.0 now.0 now.1), inr now.2);
+  simulated = same ∙ h.disk.simulated;
+}
+  where
+    may_begin : (name : Name) (c o : Contents) → OpensTo c o → MayBegin name c o
+    may_begin name c o (inl e) = inl e
+    may_begin name c o (inr (inl e)) = inr (inl e)
+    may_begin name c o (inr (inr e)) = inr (inr (inl e))
+
+pub load_faulted : (v w : View) (s : Site) (k : ℕ) (before now : List ℕ) → IsLawful w → s.state ≡ Down → IfSome v.content (λ files. (c : Contents) → IsSite files c → AtEachMoment v w (MayOpen v)) → (IsSome v.content → IsSome w.content) → w.simulated ≡ v.simulated
+    → k ≡ w.faults → Rose v.faults w.faults → now ≡ before ++ line s.name (codes "DISKFAULT " ++ decimal k) → ExecutesAt (StartPrimary s.name) v s w (record { name = s.name; state = Failed k }) before now
+load_faulted v w s k before now law down moments still same count rose t p h =
+    begun_fault w s p k before now law down h.site h.held.made (load_begun v w s p law h moments still same) count (rose_at v w p h.disk rose) t
+
+pub load_cut : (v w : View) (s : Site) → IsLawful w → IfSome v.content (λ files. (c : Contents) → IsSite files c → AtEachMoment v w (MayOpen v)) → (IsSome v.content → IsSome w.content) → w.simulated ≡ v.simulated → IsCutAt (StartPrimary s.name) v s w
+load_cut v w s law moments still same p h = begun_cut w s p law (load_begun v w s p law h moments still same)
+
+-- there is no generation left
+load_limit_told : (v w : View) (s : Site) (before now : List ℕ) (p : Place) → IsLawful w → s.state ≡ Down → IsAt v s p → p.told ≡ true → IfSome v.content (λ files. (c : Contents) → IsSite files c → 65534 ≤ generation c.instance)
+    → w.content ≡ v.content → AtEachMoment v w (Image v) → w.simulated ≡ v.simulated → v.faults ≤ w.faults → now ≡ before ++ line s.name (codes "GENLIMIT") → Answers w s p s before now
+load_limit_told v w s before now p law down h sure limit unwritten untouched same later t =
+    let made : IsMade s.name p = h.held.made sure in
+    let here = some_both v.content _ _ (h.disk.told sure) limit in
+    let q : Place = counted p w.faults in (
+      Refused (record { site = s.name; cause = GenLimit }),
       q,
-      (none_down v s p down h, record { unknown = unknown; kept = record { site = refl; now = refl; outcomes = λ o a. a; faults = omega (arith, later, h.disk.faults); same = record { told = refl; simulated = refl } } }),
+      (
+        refl,
+        inl (
+          cause_down s p down h.site ∙ limited_generation p sure (generation_past p.now (here.2 p.now (is_site here.0 p.now made.now.made here.1))),
+          record { site = refl; now = refl; outcomes = λ o a. a; faults = omega (arith, later, h.disk.faults); same = record { told = refl; simulated = refl } },
+        ),
+      ),
       record {
         disk = record {
-          told = λ yes. absurd (false≢true (sym unknown ∙ yes));
-          images = λ yes. absurd (false≢true (sym unknown ∙ yes));
+          told = λ is. subst (λ (x : Option Files). IsSomeAnd x (λ files. Stands files p.now)) (sym unwritten) (h.disk.told is);
+          images = λ is c i. h.disk.images is c (at_moment v w (Image v) c law untouched i);
           faults = refl;
           simulated = same ∙ h.disk.simulated;
         };
         site = h.site;
-        held = record { made = λ yes. absurd (false≢true (sym unknown ∙ yes)); state = subst (λ (x : State). HoldsState w s.name x q) (sym down) tt };
+        held = record { made = λ is. record { now = (h.held.made is).now; outcomes = (h.held.made is).outcomes }; state = subst (λ (x : State). HoldsState w x q) (sym down) tt };
       },
       t,
     )
+
+load_limit_untold : (v w : View) (s : Site) (before now : List ℕ) (p : Place) → s.state ≡ Down → IsAt v s p → p.told ≡ false → w.simulated ≡ v.simulated → v.faults ≤ w.faults → now ≡ before ++ line s.name (codes "GENLIMIT") → Answers w s p s before now
+load_limit_untold v w s before now p down h unsure same later t = (
+  Refused (record { site = s.name; cause = GenLimit }),
+  counted p w.faults,
+  (
+    refl,
+    inr (
+      early_down s p down h.site,
+      (inl refl, record { unknown = no; kept = record { site = refl; now = refl; outcomes = λ o a. a; faults = omega (arith, later, h.disk.faults); same = record { told = refl; simulated = refl } } }),
+    ),
+  ),
+  unknown_at w s p down h.site unsure (same ∙ h.disk.simulated),
+  t,
+)
+
+pub load_limit : (v w : View) (s : Site) (before now : List ℕ) → IsLawful w → s.state ≡ Down → IfSome v.content (λ files. (c : Contents) → IsSite files c → 65534 ≤ generation c.instance) → w.content ≡ v.content → AtEachMoment v w (Image v)
+    → w.simulated ≡ v.simulated → v.faults ≤ w.faults → now ≡ before ++ line s.name (codes "GENLIMIT") → ExecutesAt (StartPrimary s.name) v s w s before now
+load_limit v w s before now law down limit unwritten untouched same later t p h = elim (is_true_or_false p.told) [
+  | inl sure ↦ load_limit_told v w s before now p law down h sure limit unwritten untouched same later t
+  | inr unsure ↦ load_limit_untold v w s before now p down h unsure same later t
+]
+
+-- bytes outside the formats, which no known files have
+damaged : (v w : View) (s : Site) (file offset : ℕ) (before now : List ℕ) (p : Place) → s.state ≡ Down → IsAt v s p → p.told ≡ false → w.simulated ≡ v.simulated → v.faults ≤ w.faults
+    → now ≡ before ++ line s.name (codes "NOTAFILE " ++ decimal file ++ 32 ∷ decimal offset) → Answers w s p s before now
+damaged v w s file offset before now p down h unsure same later t = (
+  NotAFile file offset,
+  counted p w.faults,
+  (early_down s p down h.site, record { unknown = no; kept = record { site = refl; now = refl; outcomes = λ o a. a; faults = omega (arith, later, h.disk.faults); same = record { told = refl; simulated = refl } } }),
+  unknown_at w s p down h.site unsure (same ∙ h.disk.simulated),
+  t,
+)
+
+pub load_damaged : (v w : View) (s : Site) (file offset : ℕ) (before now : List ℕ) → s.state ≡ Down → IfSome v.content (λ files. (c : Contents) → IsSite files c → ⊥) → w.simulated ≡ v.simulated → v.faults ≤ w.faults
+    → now ≡ before ++ line s.name (codes "NOTAFILE " ++ decimal file ++ 32 ∷ decimal offset) → ExecutesAt (StartPrimary s.name) v s w s before now
+load_damaged v w s file offset before now down outside same later t p h =
+    damaged v w s file offset before now p down h (not_true p.told (λ sure.
+    let here = some_both v.content _ _ (h.disk.told sure) outside in
+    here.2 p.now (is_site here.0 p.now (h.held.made sure).now.made here.1))) same later t
+
+-- another site stands there, which no known files tell
+pub load_other : (v w : View) (s : Site) (o : OpenSite) (before now : List ℕ) → s.state ≡ Down → (site_name o.instance.records ≡ s.name → ⊥) → IfSome v.content (λ files. (c : Contents) → IsSite files c → IsOpen w true (opened c) (length c.sequence) o)
+    → w.simulated ≡ v.simulated → v.faults ≤ w.faults → now ≡ before ++ line s.name (codes "NOTAFILE " ++ decimal 0 ++ 32 ∷ decimal 0) → ExecutesAt (StartPrimary s.name) v s w s before now
+load_other v w s o before now down other told same later t p h =
+    damaged v w s 0 0 before now p down h (not_true p.told (λ sure.
+    let made : IsMade s.name p = h.held.made sure in
+    let here = some_both v.content _ _ (h.disk.told sure) told in
+    let one : IsOpen w true (opened p.now) (length p.now.sequence) o = here.2 p.now (is_site here.0 p.now made.now.made here.1) in
+    let of : IsOf s.name (opened p.now) = of_opened s.name p.now made.now in
+    other (ap site_name one.remembered.instance ∙ of.name))) same later t
+
+-- Beginning the reign of a site that was opened.
+
+-- what the call says of each moment, and of the disk after it
+pub record Moments (v w : View) (o : OpenSite) : Type 1 where
+  pub lawful : IsLawful w
+  pub any_moment : (c : Contents) → IsOpen v true c (length c.sequence) o → AtEachMoment v w (λ f. IsSite f c ⊎ IsSite f (with_reign (site_name c.instance) c))
+  pub still_told : IsSome v.content → IsSome w.content
+  pub simulated : w.simulated ≡ v.simulated
+  pub later : v.faults ≤ w.faults
+
+told_open : (v : View) (c : Contents) (n : ℕ) (o : OpenSite) → IsOpen v true c n o → IsSome v.content
+told_open v c n o h = told_is v.content _ (h.kept refl).reads
+
+reign_begun : (v w : View) (s : Site) (o : OpenSite) (p : Place) → Moments v w o → IsOpenedAt v s o p → MayHaveBegun w s p
+reign_begun v w s o p m h = record {
+  still_told = λ sure. let k = h.outcome sure in m.still_told (told_open v (opened k.0) (length k.0.sequence) o k.2);
+  images = λ sure f i.
+      let k = h.outcome sure in
+      let c : Contents = k.0 in
+      let name : site_name (opened c).instance ≡ s.name = sym (ap site_name k.2.remembered.instance) ∙ h.name in
+      elim (at_moment v w _ f m.lawful (m.any_moment (opened c) k.2) i) [
+        | inl before ↦ (opened c, (c, k.1, inr (inr (inl refl))), inr before)
+        | inr begun ↦ (with_reign s.name (opened c), (c, k.1, inr (inr (inr refl))), inr (subst (λ (n : Name). IsSite f (with_reign n (opened c))) name begun))
+      ];
+  simulated = m.simulated ∙ h.simulated;
+}
+
+pub reign_faulted : (v w : View) (s : Site) (o : OpenSite) (k : ℕ) (before now : List ℕ) → Moments v w o → k ≡ w.faults → Rose v.faults w.faults → now ≡ before ++ line s.name (codes "DISKFAULT " ++ decimal k)
+    → BeginsAt v o s w (record { name = s.name; state = Failed k }) before now
+reign_faulted v w s o k before now m count rose t p h =
+    begun_fault w s p k before now m.lawful h.down h.site h.made (reign_begun v w s o p m h) count (omega (arith, rose, h.faults)) t
+
+pub reign_cut : (v w : View) (s : Site) (o : OpenSite) → Moments v w o → IsCutOpened v o s w
+reign_cut v w s o m p h = begun_cut w s p m.lawful (reign_begun v w s o p m h)
+
+-- there is no reign left
+reign_limit_told : (v : View) (s : Site) (o : OpenSite) (before now : List ℕ) (p : Place) → IsOpenedAt v s o p → p.told ≡ true → ((c : Contents) (n : ℕ) → Remembers c n o → reign_limit c ≡ Some ReignLimit)
+    → now ≡ before ++ line s.name (codes "REIGNLIMIT") → Answers v s p s before now
+reign_limit_told v s o before now p h sure limit t =
+    let c : Contents = opened p.now in
+    let is_open : IsOpen v p.told c (length c.sequence) o = subst (λ (x : Contents). IsOpen v p.told (opened x) (length x.sequence) o) (h.as_before sure) h.is_open in
+    let q : Place = record { site = in_new_state world.Down p.site; told = p.told; now = c; outcomes = c ∷ []; faults = v.faults; simulated = p.simulated } in
+    let full : reign_limit p.now ≡ Some ReignLimit = sym (limit_opened p.now) ∙ limit c (length c.sequence) is_open.remembered in
+    let of : IsOf s.name c = of_opened s.name p.now (h.made sure).now in (
+      Refused (record { site = s.name; cause = ReignLimit }),
+      q,
+      (
+        refl,
+        inl (
+          cause_down s p h.down h.site ∙ limited_told p None (Some ReignLimit) sure (h.drawn sure) full,
+          record { site = refl; now = refl; outcomes = refl; faults = h.faults; same = record { told = refl; simulated = refl } },
+        ),
+      ),
+      record {
+        disk = place_of_one v p q.site c h.simulated (λ is. open_reads v p.told c o is is_open) (λ is. open_images v p.told c o is is_open);
+        site = ap (in_new_state world.Down) h.site ∙ ap (λ (x : world.State). Some (record { name = s.name; state = x })) (ap state_value (sym h.down));
+        held = record { made = λ is. record { now = of; outcomes = λ x j. subst (IsOf s.name) (sym (only x c j)) of }; state = subst (λ (x : State). HoldsState v x q) (sym h.down) tt };
+      },
+      t,
+    )
+
+reign_limit_untold : (v : View) (s : Site) (o : OpenSite) (before now : List ℕ) (p : Place) → IsOpenedAt v s o p → p.told ≡ false → now ≡ before ++ line s.name (codes "REIGNLIMIT") → Answers v s p s before now
+reign_limit_untold v s o before now p h unsure t = (
+  Refused (record { site = s.name; cause = ReignLimit }),
+  counted p v.faults,
+  (
+    refl,
+    inr (
+      early_down s p h.down h.site,
+      (inr refl, record { unknown = no; kept = record { site = refl; now = refl; outcomes = λ o a. a; faults = h.faults; same = record { told = refl; simulated = refl } } }),
+    ),
+  ),
+  unknown_at v s p h.down h.site unsure h.simulated,
+  t,
+)
+
+pub reign_limited : (v : View) (s : Site) (o : OpenSite) (before now : List ℕ) → ((c : Contents) (n : ℕ) → Remembers c n o → reign_limit c ≡ Some ReignLimit) → now ≡ before ++ line s.name (codes "REIGNLIMIT") → BeginsAt v o s v s before now
+reign_limited v s o before now limit t p h = elim (is_true_or_false p.told) [
+  | inl sure ↦ reign_limit_told v s o before now p h sure limit t
+  | inr unsure ↦ reign_limit_untold v s o before now p h unsure t
+]
+
+entries_open : (v : View) (told : Bool) (c : Contents) (n : ℕ) (o : OpenSite) → IsOpen v told c n o → length o.entries.items ≡ length c.sequence
+entries_open v told c n o h = length_tagged o.entries.items c.sequence 1 h.remembered.entries
+
+-- the reign has begun
+pub reign_starts : (v w : View) (s : Site) (o new : OpenSite) (stamp : Stamp) (serials : List ℕ) (from : ℕ) (before now : List ℕ) → serials ≡ FIRST_SERIALS
+    → ((told : Bool) (c : Contents) → IsOpen v told c (length c.sequence) o → IsOpen w told (with_reign (site_name c.instance) c) (length c.sequence) new)
+    → ((c : Contents) → c.instance ≡ o.instance.records → stamp_value stamp ≡ next_stamp (site_name c.instance) c) → new.stamp ≡ Some stamp
+    → ((c : Contents) (n : ℕ) → Remembers c n o → reign_limit c ≡ None) → w.simulated ≡ v.simulated → v.faults ≤ w.faults
+    → from ≡ length o.entries.items + 1 → now ≡ before ++ line s.name (codes "PRIMARY " ++ decimal stamp.cycle ++ codes " FROM " ++ decimal from)
+    → BeginsAt v o s w (record { name = s.name; state = Primary (record { site = new; serials = serials }) }) before now
+reign_starts v w s o new stamp serials from before now first_serials begun drawn stamped room same later is_from t p h =
+    let read : Contents = h.read in
+    let c : Contents = opened read in
+    let d : Contents = with_reign s.name c in
+    let r : Reign = record { site = new; serials = serials } in
+    let name : site_name c.instance ≡ s.name = sym (ap site_name h.is_open.remembered.instance) ∙ h.name in
+    let is_open : IsOpen w p.told d (length d.sequence) new = subst (λ (n : Name). IsOpen w p.told (with_reign n c) (length c.sequence) new) name (begun p.told c h.is_open) in
+    let stamp_is : stamp_value stamp ≡ next_stamp s.name read = drawn c (sym h.is_open.remembered.instance) ∙ ap (λ (n : Name). next_stamp n c) name ∙ stamp_opened s.name read in
+    let stamp_new : stamp_of r ≡ next_stamp s.name read = ap stamp_in stamped ∙ stamp_is in
+    let state : world.State = world.Primary (next_stamp s.name read) FIRST_SERIALS in
+    let q : Place = record { site = in_new_state state p.site; told = p.told; now = d; outcomes = d ∷ []; faults = w.faults; simulated = p.simulated } in
+    let reign_room : p.told ≡ true → reign_limit p.now ≡ None = λ sure. ap reign_limit (sym (h.as_before sure)) ∙ sym (limit_opened read) ∙ room c (length c.sequence) h.is_open.remembered in
+    let of : p.told ≡ true → IsOf s.name d = λ sure. of_begun s.name s.name c (of_opened s.name read (subst (IsOf s.name) (sym (h.as_before sure)) (h.made sure).now)) in
+    let cycle : stamp.cycle ≡ cycle_on q.site = ap (λ x. x.cycle) stamp_is ∙ sym (ap (λ (x : Option world.Site). cycle_on (in_new_state state x)) h.site) in
+    let count : from ≡ length d.sequence + 1 = is_from ∙ ap (λ (k : ℕ). k + 1) (entries_open v p.told c (length read.sequence) o h.is_open) in (
+      Done,
+      q,
+      (
+        cause_down s p h.down h.site ∙ not_limited p (is_true_or_false p.told) h.drawn reign_room,
+        record {
+          read = read;
+          as_before = h.as_before;
+          becomes = record { site = refl; now = refl; outcomes = refl; faults = omega (arith, later, h.faults); same = record { told = refl; simulated = refl } };
+        },
+      ),
+      record {
+        disk = place_of_one w p q.site d (same ∙ h.simulated) (λ sure. open_reads w p.told d new sure is_open) (λ sure. open_images w p.told d new sure is_open);
+        site = ap (in_new_state state) h.site ∙ ap (λ (x : world.State). Some (record { name = s.name; state = x })) (states_same stamp_new first_serials);
+        held = record {
+          made = λ sure. record { now = of sure; outcomes = λ x j. subst (IsOf s.name) (sym (only x d j)) (of sure) };
+          state = record { reigns = is_open; settled = λ sure x j. only x d j };
+        };
+      },
+      t ∙ ap (λ (k : ℕ). before ++ line s.name (codes "PRIMARY " ++ decimal k ++ codes " FROM " ++ decimal from)) cycle
+          ∙ ap (λ (k : ℕ). before ++ line s.name (codes "PRIMARY " ++ decimal (cycle_on q.site) ++ codes " FROM " ++ decimal k)) count,
+    )
+  where
+    states_same : {x y : defs.Stamp} {a b : List ℕ} → x ≡ y → a ≡ b → world.Primary y b ≡ world.Primary x a
+    states_same {x} {y} {a} {b} e f = ap (λ (z : defs.Stamp). world.Primary z b) (sym e) ∙ ap (λ (z : List ℕ). world.Primary x z) (sym f)
+
+-- Beginning and opening together.
+
+pub begins_so : (v w u : View) (s new : Site) (o : OpenSite) (before now : List ℕ) → IsLawful v → s.state ≡ Down → site_name o.instance.records ≡ s.name → ((c : Contents) × Remembers (opened c) (length c.sequence) o)
+    → IfSome v.content (λ files. (c : Contents) → IsSite files c → IsOpen w true (opened c) (length c.sequence) o) → IfSome v.content (λ files. (c : Contents) → IsSite files c → generation c.instance < 65534)
+    → w.simulated ≡ v.simulated → v.faults ≤ w.faults → BeginsAt w o s u new before now → ExecutesAt (StartPrimary s.name) v s u new before now
+begins_so v w u s new o before now law down name read told drawn same later b p h = b p (opened_at v w s o p law down h name read told drawn same later)
+
+pub begins_cut : (v w u : View) (s : Site) (o : OpenSite) → IsLawful v → s.state ≡ Down → site_name o.instance.records ≡ s.name → ((c : Contents) × Remembers (opened c) (length c.sequence) o)
+    → IfSome v.content (λ files. (c : Contents) → IsSite files c → IsOpen w true (opened c) (length c.sequence) o) → IfSome v.content (λ files. (c : Contents) → IsSite files c → generation c.instance < 65534)
+    → w.simulated ≡ v.simulated → v.faults ≤ w.faults → IsCutOpened w o s u → IsCutAt (StartPrimary s.name) v s u
+begins_cut v w u s o law down name read told drawn same later b p h = b p (opened_at v w s o p law down h name read told drawn same later)

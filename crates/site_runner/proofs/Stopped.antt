@@ -1,32 +1,38 @@
--- Commands on a site, as commands on its slot; STOP, EXTRACT and ZWRITE at a place.
-use Rattle.std.proofs.Common.{◌≡◌, ℕ, true, List, [], ◌∷◌, ◌++◌, None, Some, refl, sym, ◌∙◌, ap, subst, arith, inl, nat_eq}
+-- Commands on a site, as commands on its slot; STOP, EXTRACT, ZWRITE and SHOW at a place.
+use Rattle.std.proofs.Common.{◌≡◌, ℕ, suc, ◌+◌, true, List, [], ◌∷◌, ◌++◌, length, map, None, Some, refl, sym, ◌∙◌, ap, subst, arith, inl, nat_eq}
 use Rattle.std.specs.Prelude.{Option, codes, IsSomeAnd, option_map}
 use Rattle.std.specs.Fmt.{decimal}
+use Rattle.std.specs.List.{enumerate_from, flat_map}
 use Rattle.std.proofs.lemmas.Bool.{eqb-true}
+use Rattle.std.proofs.lemmas.List.{length-map}
 use Rattle.disk_defs.specs.Disk.{View}
 use Rattle.global_defs.specs.Key.{Key}
-use Rattle.global_defs.specs.Entry.{Globals}
+use Rattle.global_defs.specs.Entry as defs
+use Rattle.global_defs.specs.Entry.{Globals, Sequence}
+use Rattle.journal_defs.specs.Instance.{InstanceRecord}
+use Rattle.journal_defs.specs.Surviving.{reigns}
+use Rattle.gvn_model.specs.declared.entry.Entry as code
+use Rattle.site_store.specs.Site.{tagged}
 use Rattle.world_defs.specs.Lists.{Among}
 use Rattle.world_defs.specs.World as world
-use Rattle.command_defs.specs.Commands.{Name, Command, Stop, Extract, Zwrite}
+use Rattle.command_defs.specs.Commands.{Name, Command, Stop, Extract, Zwrite, Show}
 use Rattle.world_defs.specs.World.{Contents, Place, same_name}
 use Rattle.world_defs.specs.Answers.{Stopped, NotRunning, Done}
 use Rattle.world_defs.specs.Refusals.{first, stopped, not_running}
 use Rattle.world_defs.specs.Rows.{in_new_state}
-use Rattle.world_defs.specs.Output.{line, zwrite}
-use Rattle.world_defs.specs.Ties.{Stands, name_on}
-use Rattle.site_journal.specs.declared.reign.Reign.{Reign}
+use Rattle.world_defs.specs.Output.{line, zwrite, reign_text, show_state, show_on}
+use Rattle.world_defs.specs.Ties.{Stands}
+use Rattle.repl_section.specs.declared.reign.Reign.{Reign}
+use Rattle.repl_section.specs.Reigns.{Reigns, stamp_of}
 use Rattle.site_runner.specs.declared.slot.State.{State}
 use Rattle.site_runner.specs.declared.slot.State.TheVariants.{Down, Primary, Failed}
 use Rattle.site_runner.specs.declared.slot.Site.{Site}
 use Rattle.site_runner.specs.declared.slot.Slot.{Slot}
-use Rattle.site_runner.specs.Sites.{site_value, state_value, is_slot_named, IsOpen, HoldsState, HoldsSite}
-use Rattle.site_runner.specs.Here.{tests, ExecutesHere, IsCutHere}
-use Rattle.site_runner.specs.Steps.{Stops, StopsFrom, Extracts, ExtractsFrom, Shows, ShowsFrom, IsAt, ExecutesAt, IsCutAt}
+use Rattle.site_runner.specs.Sites.{site_value, state_value, is_slot_named, IsOf, IsOpen, HoldsState, HoldsSite}
+use Rattle.site_runner.specs.Here.{cause_here, ExecutesHere, IsCutHere}
+use Rattle.site_runner.specs.Steps.{Stops, StopsFrom, Extracts, ExtractsFrom, Zwrites, ZwritesFrom, state_text, IsAt, ExecutesAt, IsCutAt}
 use Rattle.site_runner.proofs.Cuts.{split_and}
-use Rattle.site_runner.proofs.Ats.{refuses, state_at, first_cause, second_cause, no_cause, same_name_on, kept_same}
-use Rattle.site_runner.proofs.Crashed.{only}
-use Rattle.site_runner.proofs.Ran.{reigns_at, length_tagged}
+use Rattle.site_runner.proofs.Ats.{refuses, state_at, first_cause, second_cause, no_cause, kept_same, only}
 
 names_same : (a b : Name) → same_name a b ≡ true → a ≡ b
 names_same [] [] e = refl
@@ -50,62 +56,85 @@ executes_here view c old disk site new before now e x p h =
 pub cut_here : {D : Type 0} (view : D → View) (c : Command) (old new : Slot D) (site : Site) → old.site ≡ Some site → IsCutAt c (view old.disk) site (view new.disk) → IsCutHere view c old new
 cut_here view c old new site e x p h = x p (record { disk = h.disk; site = h.site ∙ ap (option_map site_value) e; held = subst (λ (o : Option Site). HoldsSite (view old.disk) o p) e h.held })
 
-not_running_there : (v : View) (s : Site) (p : Place) → s.state ≡ Down → IsAt v s p → first (tests (Stop s.name) p) ≡ Some NotRunning
-not_running_there v s p e h = second_cause _ _ NotRunning (state_at stopped v s p h ∙ ap (λ (x : State). stopped (state_value s.name x)) e) (state_at not_running v s p h ∙ ap (λ (x : State). not_running (state_value s.name x)) e)
+-- the entries in memory are as many as the sequence has
+pub length_tagged : (xs : List code.Entry) (seq : Sequence) (n : ℕ) → map tagged xs ≡ enumerate_from n seq → length xs ≡ length seq
+length_tagged xs seq n e = sym (length-map xs tagged) ∙ ap length e ∙ long n seq
+  where
+    long : (n : ℕ) (ys : Sequence) → length (enumerate_from n ys) ≡ length ys
+    long n [] = refl
+    long n (y ∷ ys) = ap suc (long (n + 1) ys)
 
-stopped_there : (v : View) (s : Site) (k : ℕ) (p : Place) → s.state ≡ Failed k → IsAt v s p → first (tests (Stop s.name) p) ≡ Some (Stopped k)
-stopped_there v s k p e h = first_cause _ _ (Stopped k) (state_at stopped v s p h ∙ ap (λ (x : State). stopped (state_value s.name x)) e)
+pub open_at : (v : View) (s : Site) (r : Reign) (p : Place) → s.state ≡ Primary r → IsAt v s p → IsOpen v r p
+open_at v s r p e h = subst (λ (x : State). HoldsState v x p) e h.held.state
 
-running_there : (v : View) (s : Site) (r : Reign) (p : Place) → s.state ≡ Primary r → IsAt v s p → first (tests (Stop s.name) p) ≡ None
-running_there v s r p e h = no_cause _ _ (state_at stopped v s p h ∙ ap (λ (x : State). stopped (state_value s.name x)) e) (state_at not_running v s p h ∙ ap (λ (x : State). not_running (state_value s.name x)) e)
+pub reigns_at : (v : View) (s : Site) (r : Reign) (p : Place) → s.state ≡ Primary r → IsAt v s p → Reigns v p.told p.now r
+reigns_at v s r p e h = let o = open_at v s r p e h in o.reigns
+
+not_running_there : (v : View) (s : Site) (p : Place) → s.state ≡ Down → IsAt v s p → cause_here (Stop s.name) p ≡ Some NotRunning
+not_running_there v s p e h = second_cause _ _ [] NotRunning (state_at stopped v s p h ∙ ap (λ (x : State). stopped (state_value x)) e) (state_at not_running v s p h ∙ ap (λ (x : State). not_running (state_value x)) e)
+
+stopped_there : (v : View) (s : Site) (k : ℕ) (p : Place) → s.state ≡ Failed k → IsAt v s p → cause_here (Stop s.name) p ≡ Some (Stopped k)
+stopped_there v s k p e h = first_cause _ _ (Stopped k) (state_at stopped v s p h ∙ ap (λ (x : State). stopped (state_value x)) e)
+
+running_there : (v : View) (s : Site) (r : Reign) (p : Place) → s.state ≡ Primary r → IsAt v s p → cause_here (Stop s.name) p ≡ None
+running_there v s r p e h = no_cause _ _ (state_at stopped v s p h ∙ ap (λ (x : State). stopped (state_value x)) e) (state_at not_running v s p h ∙ ap (λ (x : State). not_running (state_value x)) e)
 
 stops_from : (v : View) (old new : Site) (before now : List ℕ) (state : State) → old.state ≡ state → StopsFrom state old new before now → ExecutesAt (Stop old.name) v old v new before now
 stops_from v old new before now Down e h =
-    subst (λ (x : Site). ExecutesAt (Stop old.name) v old v x before now) (sym h.0) (refuses (Stop old.name) v old NotRunning before now refl (λ p at_p. not_running_there v old p e at_p) h.1)
+    subst (λ (x : Site). ExecutesAt (Stop old.name) v old v x before now) (sym h.0) (refuses (Stop old.name) v old NotRunning before now refl (λ p at_p. not_running_there v old p e at_p) kept_same h.1)
 stops_from v old new before now (Failed k) e h =
-    subst (λ (x : Site). ExecutesAt (Stop old.name) v old v x before now) (sym h.0) (refuses (Stop old.name) v old (Stopped k) before now refl (λ p at_p. stopped_there v old k p e at_p) h.1)
+    subst (λ (x : Site). ExecutesAt (Stop old.name) v old v x before now) (sym h.0) (refuses (Stop old.name) v old (Stopped k) before now refl (λ p at_p. stopped_there v old k p e at_p) kept_same h.1)
 stops_from v old new before now (Primary r) e h =
     subst (λ (x : Site). ExecutesAt (Stop old.name) v old v x before now) (sym h.0) (λ p at_p.
-    let reigns = reigns_at v old r p e at_p in
-    let settled : p.told ≡ true → (o : Contents) → Among p.outcomes o → o ≡ p.now = λ is. settled_at p at_p is in
-    let q : Place = record { site = in_new_state world.Down p.site; told = p.told; now = p.now; outcomes = p.now ∷ []; faults = p.faults; simulated = p.simulated } in
-    let named = sym (same_name_on world.Down p.site) in (
+    let o : IsOpen v r p = open_at v old r p e at_p in
+    let q : Place = record { site = in_new_state world.Down p.site; told = p.told; now = p.now; outcomes = p.now ∷ []; faults = p.faults; simulated = p.simulated } in (
       Done,
       q,
       (running_there v old r p e at_p, record { site = refl; now = refl; outcomes = refl; faults = omega arith; same = record { told = refl; simulated = refl } }),
       record {
         disk = record {
-          told = λ is. subst (λ (x : Name). IsSomeAnd v.content (λ files. Stands x files p.now)) named (at_p.disk.told is);
-          images = λ is c i. let o = at_p.disk.images is c i in
-              (p.now, inl refl, subst (λ (x : Name). Stands x c p.now) named (subst (λ (x : Contents). Stands (name_on p.site) c x) (settled is o.0 o.1) o.2));
+          told = at_p.disk.told;
+          images = λ is c i. let x = at_p.disk.images is c i in (p.now, inl refl, subst (Stands c) (o.settled is x.0 x.1) x.2);
           faults = at_p.disk.faults;
           simulated = at_p.disk.simulated;
         };
         site = ap (in_new_state world.Down) at_p.site;
-        held = record { made = λ is. record { now = (at_p.held.made is).now; outcomes = λ x j. subst (λ (y : Contents). y.begun ≡ true) (sym (only x p.now j)) (at_p.held.made is).now }; state = tt };
+        held = record { made = λ is. record { now = (at_p.held.made is).now; outcomes = λ x j. subst (IsOf old.name) (sym (only x p.now j)) (at_p.held.made is).now }; state = tt };
       },
-      h.1 ∙ ap (λ (k : ℕ). before ++ line old.name (codes "DOWN " ++ decimal k)) (length_tagged r.entries.items p.now.sequence 1 reigns.remembered.entries),
+      h.1 ∙ ap (λ (k : ℕ). before ++ line old.name (codes "DOWN " ++ decimal k)) (length_tagged r.site.entries.items p.now.sequence 1 o.reigns.remembered.entries),
     ))
-  where
-    settled_at : (p : Place) → IsAt v old p → p.told ≡ true → (o : Contents) → Among p.outcomes o → o ≡ p.now
-    settled_at p at_p is = let open_at : IsOpen v old.name r p = subst (λ (x : State). HoldsState v old.name x p) e at_p.held.state in open_at.settled is
 
 pub stops : (v : View) (old new : Site) (before now : List ℕ) → Stops old new before now → ExecutesAt (Stop old.name) v old v new before now
 stops v old new before now h = stops_from v old new before now old.state refl h
 
 extracts_from : (v : View) (s : Site) (from : Option ℕ) (before now : List ℕ) (state : State) → s.state ≡ state → ExtractsFrom state s from before now → ExecutesAt (Extract s.name from) v s v s before now
-extracts_from v s from before now Down e h = refuses (Extract s.name from) v s NotRunning before now refl (λ p at_p. not_running_there v s p e at_p) h.1
-extracts_from v s from before now (Failed k) e h = refuses (Extract s.name from) v s (Stopped k) before now refl (λ p at_p. stopped_there v s k p e at_p) h.1
+extracts_from v s from before now Down e h = refuses (Extract s.name from) v s NotRunning before now refl (λ p at_p. not_running_there v s p e at_p) kept_same h.1
+extracts_from v s from before now (Failed k) e h = refuses (Extract s.name from) v s (Stopped k) before now refl (λ p at_p. stopped_there v s k p e at_p) kept_same h.1
 extracts_from v s from before now (Primary r) e h = λ p at_p. (Done, p, (running_there v s r p e at_p, kept_same p), at_p, h p.now.sequence (reigns_at v s r p e at_p).remembered.entries)
 
 pub extracts_at : (v : View) (s : Site) (from : Option ℕ) (before now : List ℕ) → Extracts s from before now → ExecutesAt (Extract s.name from) v s v s before now
 extracts_at v s from before now h = extracts_from v s from before now s.state refl h
 
-shows_from : (v : View) (s : Site) (top : Option Key) (before now : List ℕ) (state : State) → s.state ≡ state → ShowsFrom state s top before now → ExecutesAt (Zwrite s.name top) v s v s before now
-shows_from v s top before now Down e h = refuses (Zwrite s.name top) v s NotRunning before now refl (λ p at_p. not_running_there v s p e at_p) h.1
-shows_from v s top before now (Failed k) e h = refuses (Zwrite s.name top) v s (Stopped k) before now refl (λ p at_p. stopped_there v s k p e at_p) h.1
-shows_from v s top before now (Primary r) e h = λ p at_p.
+zwrites_from : (v : View) (s : Site) (top : Option Key) (before now : List ℕ) (state : State) → s.state ≡ state → ZwritesFrom state s top before now → ExecutesAt (Zwrite s.name top) v s v s before now
+zwrites_from v s top before now Down e h = refuses (Zwrite s.name top) v s NotRunning before now refl (λ p at_p. not_running_there v s p e at_p) kept_same h.1
+zwrites_from v s top before now (Failed k) e h = refuses (Zwrite s.name top) v s (Stopped k) before now refl (λ p at_p. stopped_there v s k p e at_p) kept_same h.1
+zwrites_from v s top before now (Primary r) e h = λ p at_p.
     (Done, p, (running_there v s r p e at_p, kept_same p), at_p, h ∙ ap (λ (g : Globals). before ++ zwrite top g) (reigns_at v s r p e at_p).remembered.globals)
 
-pub shows_at : (v : View) (s : Site) (top : Option Key) (before now : List ℕ) → Shows s top before now → ExecutesAt (Zwrite s.name top) v s v s before now
-shows_at v s top before now h = shows_from v s top before now s.state refl h
+pub zwrites_at : (v : View) (s : Site) (top : Option Key) (before now : List ℕ) → Zwrites s top before now → ExecutesAt (Zwrite s.name top) v s v s before now
+zwrites_at v s top before now h = zwrites_from v s top before now s.state refl h
+
+-- what is shown of a site is what is shown of its place
+shown_state : (v : View) (s : Site) (p : Place) (state : State) → s.state ≡ state → IsAt v s p → state_text s.name state ≡ show_state s.name (state_value state) p.now
+shown_state v s p Down e h = refl
+shown_state v s p (Failed k) e h = refl
+shown_state v s p (Primary r) e h =
+    let m = (reigns_at v s r p e h).remembered in
+    let first = λ (n : ℕ). line s.name (codes "STATE PRIMARY " ++ decimal (stamp_of r).cycle ++ codes " LENGTH " ++ decimal n) in
+    let lines = flat_map (λ (x : defs.Reign). line s.name (reign_text x)) in
+    ap (λ (n : ℕ). first n ++ lines (reigns r.site.instance.records)) (length_tagged r.site.entries.items p.now.sequence 1 m.entries)
+    ∙ ap (λ (rs : List InstanceRecord). first (length p.now.sequence) ++ lines (reigns rs)) m.instance
+
+pub shows_at : (v : View) (s : Site) (before now : List ℕ) → now ≡ before ++ state_text s.name s.state → ExecutesAt (Show s.name) v s v s before now
+shows_at v s before now t p h =
+    (Done, p, (refl, kept_same p), h, t ∙ ap (λ (x : List ℕ). before ++ x) (shown_state v s p s.state refl h) ∙ ap (λ (o : Option world.Site). before ++ show_on o p.now) (sym h.site))

@@ -37,3 +37,28 @@ pub take_least : {X : Type 0} (xs : List X) (n : ℕ) → take (min (length xs) 
 take_least [] n = take_empty (min 0 n) ∙ sym (take_empty n)
 take_least (x ∷ xs) zero = let e : min (length (x ∷ xs)) 0 ≡ 0 = omega arith in ap (λ (k : ℕ). take k (x ∷ xs)) e
 take_least (x ∷ xs) (suc n) = let e : min (length (x ∷ xs)) (suc n) ≡ suc (min (length xs) n) = omega arith in ap (λ (k : ℕ). take k (x ∷ xs)) e ∙ ap (λ (l : List _). x ∷ l) (take_least xs n)
+
+joined_reign : (o n a r b c f s e : List ℕ) → (((((((o ++ n) ++ a) ++ r) ++ b) ++ c) ++ f) ++ s) ++ e ≡ o ++ (n ++ (a ++ (r ++ (b ++ (c ++ (f ++ (s ++ e)))))))
+joined_reign o n a r b c f s e = simp (append_assoc)
+
+reign_line : (o n r c s : List ℕ) → o ++ (n ++ (codes " REIGN " ++ (r ++ (codes " " ++ (c ++ (codes " FROM " ++ (s ++ 10 ∷ []))))))) ≡ o ++ line n (codes "REIGN " ++ r ++ 32 ∷ c ++ codes " FROM " ++ s)
+reign_line o n r c s = simp (append_assoc)
+
+-- the line of a reign
+pub reign_written : (o n r c s t1 t2 t3 t4 t5 t6 t7 t : List ℕ) → t1 ≡ o ++ n → t2 ≡ t1 ++ codes " REIGN " → t3 ≡ t2 ++ r → t4 ≡ t3 ++ codes " " → t5 ≡ t4 ++ c → t6 ≡ t5 ++ codes " FROM " → t7 ≡ t6 ++ s → t ≡ t7 ++ 10 ∷ []
+    → t ≡ o ++ line n (codes "REIGN " ++ r ++ 32 ∷ c ++ codes " FROM " ++ s)
+reign_written o n r c s t1 t2 t3 t4 t5 t6 t7 t e1 e2 e3 e4 e5 e6 e7 e =
+    e ∙ ap (λ (x : List ℕ). x ++ 10 ∷ []) (e7 ∙ ap (λ (x : List ℕ). x ++ s) (e6 ∙ ap (λ (x : List ℕ). x ++ codes " FROM ") (e5 ∙ ap (λ (x : List ℕ). x ++ c) (e4 ∙ ap (λ (x : List ℕ). x ++ codes " ") (e3 ∙ ap (λ (x : List ℕ). x ++ r) (e2 ∙ ap (λ (x : List ℕ). x ++ codes " REIGN ") e1))))))
+    ∙ joined_reign o n (codes " REIGN ") r (codes " ") c (codes " FROM ") s (10 ∷ [])
+    ∙ reign_line o n r c s
+
+open_line : (o n c l : List ℕ) → o ++ (n ++ (codes " STATE PRIMARY " ++ (c ++ (codes " LENGTH " ++ (l ++ 10 ∷ []))))) ≡ o ++ line n (codes "STATE PRIMARY " ++ c ++ codes " LENGTH " ++ l)
+open_line o n c l = simp (append_assoc)
+
+-- the line of a site that is open
+pub open_written : (o n c l t1 t2 t3 t4 t5 t : List ℕ) → t1 ≡ o ++ n → t2 ≡ t1 ++ codes " STATE PRIMARY " → t3 ≡ t2 ++ c → t4 ≡ t3 ++ codes " LENGTH " → t5 ≡ t4 ++ l → t ≡ t5 ++ 10 ∷ []
+    → t ≡ o ++ line n (codes "STATE PRIMARY " ++ c ++ codes " LENGTH " ++ l)
+open_written o n c l t1 t2 t3 t4 t5 t e1 e2 e3 e4 e5 e =
+    e ∙ ap (λ (x : List ℕ). x ++ 10 ∷ []) (e5 ∙ ap (λ (x : List ℕ). x ++ l) (e4 ∙ ap (λ (x : List ℕ). x ++ codes " LENGTH ") (e3 ∙ ap (λ (x : List ℕ). x ++ c) (e2 ∙ ap (λ (x : List ℕ). x ++ codes " STATE PRIMARY ") e1))))
+    ∙ joined o n (codes " STATE PRIMARY ") c (codes " LENGTH ") l (10 ∷ [])
+    ∙ open_line o n c l

@@ -8,5 +8,6 @@ pub mod Steps
 pub mod Looking
 pub mod Creating
 pub mod Attaching
+pub mod Starting
 pub mod Ends
 pub mod Going

@@ -1,14 +1,11 @@
 -- What sites stand for.
-use Rattle.std.specs.Prelude.{◌≡◌, ℕ, Bool, true, false, List, [], Option, None, Some, IsTrue, option_map}
+use Rattle.std.specs.Prelude.{◌≡◌, ℕ, Bool, true, false, List, Option, None, Some, IsTrue, option_map}
 use Rattle.std.specs.List.{AllByRecursion}
 use Rattle.disk_defs.specs.Disk.{View}
-use Rattle.global_defs.specs.Entry as defs
-use Rattle.gvn_model.specs.declared.reign.Stamp.{Stamp}
-use Rattle.gvn_model.specs.Reigns.{stamp_value}
 use Rattle.journal_defs.specs.Instance.{site_name}
 use Rattle.site_store.specs.Site.{IsReady, HasReign}
 use Rattle.repl_section.specs.declared.reign.Reign.{Reign}
-use Rattle.repl_section.specs.Reigns.{Reigns}
+use Rattle.repl_section.specs.Reigns.{Reigns, stamp_of}
 use Rattle.world_defs.specs.Lists.{Among}
 use Rattle.world_defs.specs.World as world
 use Rattle.command_defs.specs.Commands.{Name}
@@ -18,14 +15,9 @@ use Rattle.site_runner.specs.declared.slot.State.TheVariants.{Down, Primary, Fai
 use Rattle.site_runner.specs.declared.slot.Site.{Site}
 use Rattle.site_runner.specs.declared.slot.Slot.{Slot}
 
--- the stamp of a reign that was begun
-abbrev pub begun_stamp : Option Stamp → defs.Stamp
-begun_stamp None = record { root = []; cycle = 0 }
-begun_stamp (Some stamp) = stamp_value stamp
-
 abbrev pub state_value : State → world.State
 state_value Down = world.Down
-state_value (Primary r) = world.Primary (begun_stamp r.site.stamp) r.serials
+state_value (Primary r) = world.Primary (stamp_of r) r.serials
 state_value (Failed fault) = world.Failed fault
 
 abbrev pub is_down : State → Bool
@@ -45,9 +37,9 @@ abbrev pub is_slot_named : {D : Type 0} → Name → Slot D → Bool
 is_slot_named name slot = is_site_named name (option_map site_value slot.site)
 
 -- a site of that name was made there
-pub record IsOf (name : Name) (c : Contents) : Type 0 where
+pub record IsOf (called : Name) (c : Contents) : Type 0 where
   pub made : is_made c ≡ true
-  pub name : site_name c.instance ≡ name
+  pub name : site_name c.instance ≡ called
 
 -- a site that was made is there, whatever a crash leaves
 pub record IsMade (name : Name) (p : Place) : Type 0 where

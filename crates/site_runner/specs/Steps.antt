@@ -7,6 +7,7 @@ use Rattle.global_defs.specs.Entry.{Sequence}
 use Rattle.global_defs.specs.Key.{Key}
 use Rattle.journal_defs.specs.Surviving.{reigns}
 use Rattle.site_store.specs.Site.{tagged}
+use Rattle.repl_section.specs.Reigns.{stamp_of}
 use Rattle.world_defs.specs.World.{Place}
 use Rattle.world_defs.specs.Answers.{Answer}
 use Rattle.command_defs.specs.Commands.{Command}
@@ -17,7 +18,7 @@ use Rattle.std.specs.Prelude.{Option, Some, true}
 use Rattle.site_runner.specs.declared.slot.State.{State}
 use Rattle.site_runner.specs.declared.slot.State.TheVariants.{Down, Primary, Failed}
 use Rattle.site_runner.specs.declared.slot.Site.{Site}
-use Rattle.site_runner.specs.Sites.{site_value, begun_stamp, IsHeld}
+use Rattle.site_runner.specs.Sites.{site_value, IsHeld}
 use Rattle.site_runner.specs.Here.{Here, text_here}
 
 -- a line of the site, and nothing has changed
@@ -55,7 +56,7 @@ Zwrites s top before now = ZwritesFrom s.state s top before now
 abbrev pub state_text : List ℕ → State → List ℕ
 state_text name Down = line name (codes "STATE DOWN")
 state_text name (Failed fault) = line name (codes "STATE FAILED " ++ decimal fault)
-state_text name (Primary r) = line name (codes "STATE PRIMARY " ++ decimal (begun_stamp r.site.stamp).cycle ++ codes " LENGTH " ++ decimal (length r.site.entries.items))
+state_text name (Primary r) = line name (codes "STATE PRIMARY " ++ decimal (stamp_of r).cycle ++ codes " LENGTH " ++ decimal (length r.site.entries.items))
     ++ flat_map (λ x. line name (reign_text x)) (reigns r.site.instance.records)
 
 -- The site stands at this place.

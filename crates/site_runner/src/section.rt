@@ -5,10 +5,12 @@ ghost use Rattle.command_defs.specs.Sections.{UsesUp};
 ghost use Rattle.site_runner.specs.Sites.{IsReadyState};
 ghost use Rattle.site_runner.specs.Steps.{ExecutesAt, IsCutAt};
 
-use super::slot::Site;
+use super::slot::{Site, State};
+use super::text::{write_line, write_numbered, write_undecided};
 use gvn_key::{Bytes, NoMemory};
 use gvn_model::Jobs;
 use repl_disk::Disk;
+use repl_section::RunError;
 use std::alloc::Global;
 
 /// Decides updaters' jobs at a site, one after another in the order of their first lines.
@@ -26,5 +28,24 @@ pub fn run_section<D: Disk>(
     ensures done { OnOk result (ExecutesAt (commands.Run site.old.name jobs order.now) (D.disk disk.old) site.old (D.disk disk.new) site.new text.old text.new) }
     ensures cut_off { OnErr result (IsCutAt (commands.Run site.old.name jobs order.now) (D.disk disk.old) site.old (D.disk disk.new)) }
 {
-    Err(NoMemory)
+    let reign = match &mut site.state {
+        State::Down => return write_line(text, site.name.as_slice(), b"NOTPRIMARY"),
+        State::Failed { fault } => {
+            return write_numbered(text, site.name.as_slice(), b"STOPPED ", *fault);
+        }
+        State::Primary(reign) => reign,
+    };
+    match reign.run(alloc, disk, jobs, order, text) {
+        Ok(()) => {
+            let length = reign.site.sequence_length();
+            write_numbered(text, site.name.as_slice(), b"AT ", length)
+        }
+        Err(RunError::Failed { undecided }) => {
+            let fault = disk.faults();
+            write_undecided(text, site.name.as_slice(), fault, undecided)?;
+            site.state = State::Failed { fault };
+            Ok(())
+        }
+        Err(RunError::NoMemory) => Err(NoMemory),
+    }
 }

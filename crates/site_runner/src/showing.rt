@@ -3,7 +3,7 @@ ghost use Rattle.std.specs.Prelude.{◌≡◌, ◌++◌, map, OnOk};
 ghost use Rattle.std.specs.List.{flat_map};
 ghost use Rattle.gvn_model.specs.Reigns.{reign_value};
 ghost use Rattle.world_defs.specs.Output.{line, reign_text};
-ghost use Rattle.site_runner.specs.Sites.{begun_stamp};
+ghost use Rattle.repl_section.specs.Reigns.{stamp_in};
 ghost use Rattle.site_runner.specs.Steps.{state_text};
 
 use super::slot::{Site, State};
@@ -23,7 +23,7 @@ fn write_reigns(name: &[u8], reigns: &[Reign], text: &mut Bytes) -> Result<(), N
 
 /// The cycle of a reign that was begun.
 fn begun_cycle(stamp: &Option<Stamp>) -> u32
-    ensures { result ≡ (begun_stamp stamp.now).cycle }
+    ensures { result ≡ (stamp_in stamp.now).cycle }
 {
     match stamp {
         None => 0,

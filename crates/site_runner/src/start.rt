@@ -1,15 +1,103 @@
 // START PRIMARY.
-ghost use Rattle.std.specs.Prelude.{◌≡◌, OnOk, OnErr};
+ghost use Rattle.std.specs.Prelude.{◌≡◌, map, OnOk, OnErr};
+ghost use Rattle.journal_defs.specs.Instance.{site_name};
+ghost use Rattle.instance_file.specs.Values.{record_value};
 ghost use Rattle.command_defs.specs.Commands.{StartPrimary};
+ghost use Rattle.site_store.specs.Site.{IsReady, WasOpened};
+ghost use Rattle.site_runner.specs.declared.slot.State.TheVariants.{Down};
 ghost use Rattle.site_runner.specs.Sites.{IsReadyState};
 ghost use Rattle.site_runner.specs.Steps.{ExecutesAt, IsCutAt};
+ghost use Rattle.site_runner.specs.Starting.{BeginsAt, IsCutOpened};
 
-use super::slot::Site;
+use super::slot::{Site, State};
+use super::text::{write_line, write_not_a_file, write_numbered, write_primary};
 use gvn_key::{Bytes, NoMemory};
+use instance_file::InstanceRecord;
 use repl_disk::Disk;
+use repl_section::Reign;
+use site_store::{OpenSite, SiteError, load};
 use std::alloc::Global;
 
-/// Begins a site's reign.
+/// The name that an instance file gives its site.
+fn name_of(records: &[InstanceRecord]) -> &[u8]
+    ensures { result.now ≡ site_name (map record_value records.now) }
+{
+    match records {
+        [InstanceRecord::Create { name, .. }, ..] => name.as_slice(),
+        _ => &[],
+    }
+}
+
+/// Begins the reign of a site that was opened. Past the limit of reigns it's closed again.
+fn begin<D: Disk>(
+    alloc: Global,
+    disk: &mut D,
+    site: &mut Site,
+    mut opened: OpenSite,
+    text: &mut Bytes,
+) -> Result<(), NoMemory>
+    requires down { site.old.state ≡ Down }
+    requires ready { IsReady (D.disk disk.old) opened }
+    requires opened { WasOpened opened }
+    ensures ready { OnOk result (IsReadyState (D.disk disk.new) site.new.state) }
+    ensures done { OnOk result (BeginsAt (D.disk disk.old) opened site.old (D.disk disk.new) site.new text.old text.new) }
+    ensures cut_off { OnErr result (IsCutOpened (D.disk disk.old) opened site.old (D.disk disk.new)) }
+{
+    match opened.start_reign(alloc, disk) {
+        Ok(stamp) => {
+            let from = opened.sequence_length() + 1;
+            write_primary(text, site.name.as_slice(), stamp.cycle, from)?;
+            let serials = [1; 64];
+            site.state = State::Primary(Reign {
+                site: opened,
+                serials,
+            });
+            Ok(())
+        }
+        Err(SiteError::ReignLimit) => write_line(text, site.name.as_slice(), b"REIGNLIMIT"),
+        Err(SiteError::Failed { fault }) => {
+            write_numbered(text, site.name.as_slice(), b"DISKFAULT ", fault)?;
+            site.state = State::Failed { fault };
+            Ok(())
+        }
+        Err(_) => Err(NoMemory),
+    }
+}
+
+/// Opens a site that is down, and begins its reign. Where another site's instance file stands, it isn't this site's.
+fn open<D: Disk>(
+    alloc: Global,
+    disk: &mut D,
+    site: &mut Site,
+    text: &mut Bytes,
+) -> Result<(), NoMemory>
+    requires { site.old.state ≡ Down }
+    ensures ready { OnOk result (IsReadyState (D.disk disk.new) site.new.state) }
+    ensures done { OnOk result (ExecutesAt (StartPrimary site.old.name) (D.disk disk.old) site.old (D.disk disk.new) site.new text.old text.new) }
+    ensures cut_off { OnErr result (IsCutAt (StartPrimary site.old.name) (D.disk disk.old) site.old (D.disk disk.new)) }
+{
+    match load(alloc, disk) {
+        Ok(opened) => {
+            if name_of(opened.instance.records().as_slice()) == site.name.as_slice() {
+                begin(alloc, disk, site, opened, text)
+            } else {
+                write_not_a_file(text, site.name.as_slice(), 0, 0)
+            }
+        }
+        Err(SiteError::GenLimit) => write_line(text, site.name.as_slice(), b"GENLIMIT"),
+        Err(SiteError::Failed { fault }) => {
+            write_numbered(text, site.name.as_slice(), b"DISKFAULT ", fault)?;
+            site.state = State::Failed { fault };
+            Ok(())
+        }
+        Err(SiteError::NotAFile { file, offset }) => {
+            write_not_a_file(text, site.name.as_slice(), file, offset)
+        }
+        Err(_) => Err(NoMemory),
+    }
+}
+
+/// Opens a site, and begins its reign.
 pub fn start<D: Disk>(
     alloc: Global,
     disk: &mut D,
@@ -21,5 +109,11 @@ pub fn start<D: Disk>(
     ensures done { OnOk result (ExecutesAt (StartPrimary site.old.name) (D.disk disk.old) site.old (D.disk disk.new) site.new text.old text.new) }
     ensures cut_off { OnErr result (IsCutAt (StartPrimary site.old.name) (D.disk disk.old) site.old (D.disk disk.new)) }
 {
-    Err(NoMemory)
+    match &site.state {
+        State::Failed { fault } => {
+            write_numbered(text, site.name.as_slice(), b"STOPPED ", *fault)
+        }
+        State::Primary(_) => write_line(text, site.name.as_slice(), b"RUNNING"),
+        State::Down => open(alloc, disk, site, text),
+    }
 }

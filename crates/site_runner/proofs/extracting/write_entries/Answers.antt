@@ -4,7 +4,7 @@ use Rattle.global_defs.specs.Extract.{entry_text}
 use Rattle.global_defs.specs.Entry.{Entry}
 use Rattle.std.proofs.Common.{ℕ, List}
 use Rattle.gvn_model.specs.Entries.{entry_value}
-use Rattle.site_journal.specs.Reigns.{tagged}
+use Rattle.site_store.specs.Site.{tagged}
 use Rattle.site_runner.proofs.Written.{written_more}
 use Rattle.site_runner.proofs.extracting.write_entries.Goals as goal
 

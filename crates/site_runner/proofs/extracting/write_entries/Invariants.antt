@@ -1,7 +1,7 @@
 use Rattle.std.proofs.Common.{◌≡◌, ◌++◌, take, map}
 use Rattle.std.specs.List.{flat_map}
 use Rattle.global_defs.specs.Extract.{entry_text}
-use Rattle.site_journal.specs.Reigns.{tagged}
+use Rattle.site_store.specs.Site.{tagged}
 use Rattle.site_runner.proofs.extracting.write_entries.Given as goal
 
 abbrev pub invariant-loop-e : goal.invariant-loop-e

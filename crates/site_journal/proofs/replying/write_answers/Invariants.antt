@@ -1,6 +1,0 @@
-use Rattle.std.proofs.Common.{◌≡◌, ◌++◌, take}
-use Rattle.world_defs.specs.Output.{answers_text}
-use Rattle.site_journal.proofs.replying.write_answers.Given as goal
-
-abbrev pub invariant-loop-answer : goal.invariant-loop-answer
-invariant-loop-answer l = l.text ≡ l.fn.text ++ answers_text (take l.answer-index l.answer-items)

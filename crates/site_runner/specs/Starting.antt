@@ -1,0 +1,43 @@
+-- What beginning a reign means at the place of a site that was opened for it.
+use Rattle.std.specs.Prelude.{◌≡◌, ◌≤◌, ℕ, ◌++◌, true, List, length, Some, None, IsTrue}
+use Rattle.disk_defs.specs.Disk.{View}
+use Rattle.journal_defs.specs.Instance.{site_name}
+use Rattle.site_store.specs.declared.site.OpenSite.{OpenSite}
+use Rattle.site_store.specs.Site.{IsOpen}
+use Rattle.command_defs.specs.Commands.{StartPrimary}
+use Rattle.world_defs.specs.Lists.{Among}
+use Rattle.world_defs.specs.World.{Contents, Place}
+use Rattle.world_defs.specs.Answers.{Answer}
+use Rattle.world_defs.specs.Refusals.{generation_limit}
+use Rattle.world_defs.specs.Rows.{opened}
+use Rattle.world_defs.specs.Step.{LeftAt}
+use Rattle.world_defs.specs.Ties.{Matches}
+use Rattle.site_runner.specs.declared.slot.Site.{Site}
+use Rattle.site_runner.specs.declared.slot.State.TheVariants.{Down}
+use Rattle.site_runner.specs.Sites.{site_value, IsMade}
+use Rattle.site_runner.specs.Here.{Here, text_here}
+use Rattle.site_runner.specs.Steps.{IsAt}
+
+-- A site that is down was opened: its place as it was before, and what was read there.
+pub record IsOpenedAt (v : View) (s : Site) (o : OpenSite) (p : Place) : Type 0 where
+  pub site : p.site ≡ Some (site_value s)
+  pub down : s.state ≡ Down
+  pub made : IsTrue p.told → IsMade s.name p
+  pub name : site_name o.instance.records ≡ s.name
+  pub read : Contents
+  pub as_before : IsTrue p.told → read ≡ p.now
+  pub is_open : IsOpen v p.told (opened read) (length read.sequence) o
+  -- one of the outcomes was read
+  pub outcome : IsTrue p.told → (c : Contents) × Among p.outcomes c × IsOpen v true (opened c) (length c.sequence) o
+  pub drawn : IsTrue p.told → generation_limit p.now ≡ None
+  pub faults : p.faults ≤ v.faults
+  pub simulated : v.simulated ≡ p.simulated
+
+-- Whatever place the site was opened at, START with some answer leads from there to one at which it stands, and this is its text.
+abbrev pub BeginsAt : View → OpenSite → Site → View → Site → List ℕ → List ℕ → Type 0
+BeginsAt v o old w new before now = (p : Place) → IsOpenedAt v old o p
+    → (a : Answer) × (q : Place) × Here (StartPrimary old.name) p a q × IsAt w new q × (now ≡ before ++ text_here (StartPrimary old.name) p a q)
+
+-- It was cut off for want of memory.
+abbrev pub IsCutOpened : View → OpenSite → Site → View → Type 0
+IsCutOpened v o old w = (p : Place) → IsOpenedAt v old o p → (q : Place) × LeftAt true (StartPrimary old.name) p q × Matches w q
