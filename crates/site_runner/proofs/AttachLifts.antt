@@ -9,6 +9,7 @@ use Rattle.journal_defs.specs.Instance.{InstanceRecord, site_name}
 use Rattle.site_store.specs.declared.creating.Layout.{Layout}
 use Rattle.site_store.specs.declared.error.SiteError.{SiteError}
 use Rattle.site_store.specs.declared.error.SiteError.TheVariants.{Failed, Full, SeqLimit, GenLimit, ReignLimit, NotAFile, NoMemory}
+use Rattle.world_laws.proofs.ReignsFit.{names_same}
 use Rattle.command_defs.specs.Commands.{Name, Attach}
 use Rattle.world_defs.specs.Lists.{Among, first_where}
 use Rattle.world_defs.specs.World as world
@@ -28,7 +29,6 @@ use Rattle.site_runner.specs.Looking.{fits, Finds, Sees, LooksHere, Tells}
 use Rattle.site_runner.specs.Attaching.{with_site, Takes}
 use Rattle.site_runner.proofs.Ats.{is_true_or_false}
 use Rattle.site_runner.proofs.Lifts.{all_kept, place_there, place_of_slot, tied_set, with_place, on_place, kept_set, get_set, lifted_cut}
-use Rattle.site_runner.proofs.Stopped.{names_same}
 use Rattle.site_runner.proofs.Looked.{site_none}
 use Rattle.site_runner.proofs.Created.{create_cut_here}
 use Rattle.site_runner.proofs.CreateLifts.{is_slot_free, next_of_slot, place_some}
@@ -106,7 +106,7 @@ attach_failed view slots i d s NoMemory before now k f look t = absurd t
 
 no_records : (rs : List InstanceRecord) → not (nat_lt 0 (length rs)) ≡ true → rs ≡ []
 no_records [] e = refl
-no_records (r ∷ rs) e = cc
+no_records (r ∷ rs) e = absurd (let f : false ≡ true = e in cc)
 
 refused_empty : (w : World) (p q : Place) → (p.told ≡ true) ⊎ (p.told ≡ false) → Finds None p q → AttachHere w p (Refused (record { site = ATTACHING; cause = Empty })) q
 refused_empty w p q (inl known) f = inl (rw (known, no_records p.now.instance (f.now known)) refl, f.kept)
@@ -121,14 +121,14 @@ attach_empty view slots i d s before now k f look t =
 -- the site that was found
 
 found_of : (found : Layout) (c : Contents) → fits (Some found) c ≡ true → IsOf found.name c
-found_of found c e = let p = and_parts (is_made c) (same_name (site_name c.instance) found.name) e in record { made = p.0; named = names_same (site_name c.instance) found.name p.1 }
+found_of found c e = let p = and_parts (is_made c) (same_name (site_name c.instance) found.name) e in record { made = p.0; name = names_same (site_name c.instance) found.name p.1 }
 
 attached_so : (w : World) (rs : List InstanceRecord) (name : Name) → nat_lt 0 (length rs) ≡ true → site_name rs ≡ name → not_attached w rs ≡ refused_with name (there (site_of w name))
 attached_so w [] name m e = cc
 attached_so w (r ∷ rs) name m e = ap (λ (n : Name). refused_with n (there (site_of w n))) e
 
 attached_at : (w : World) (p q : Place) (found : Layout) → p.told ≡ true → Finds (Some found) p q → not_attached_at w (Some p) ≡ refused_with found.name (there (site_of w found.name))
-attached_at w p q found known f = let o = found_of found p.now (f.now known) in rw known (attached_so w p.now.instance found.name o.made o.named)
+attached_at w p q found known f = let o = found_of found p.now (f.now known) in rw known (attached_so w p.now.instance found.name o.made o.name)
 
 refused_exists : (w : World) (p q other : Place) (found : Layout) → (p.told ≡ true) ⊎ (p.told ≡ false) → Finds (Some found) p q → site_of w found.name ≡ Some other → AttachHere w p (Refused (record { site = found.name; cause = Exists })) q
 refused_exists w p q other found (inl known) f e = inl (attached_at w p q found known f ∙ ap (λ (o : Option Place). refused_with found.name (there o)) e, f.kept)
@@ -179,13 +179,13 @@ attached view w p q found s before now free f e at_q t =
         not_refused w p q found (is_true_or_false p.told) f e,
         record {
           name = name;
-          found = λ known. let o = found_of found p.now (f.now known) in sym o.named;
+          found = λ known. let o = found_of found p.now (f.now known) in sym o.name;
           unused = e;
           free = free;
           site = refl;
           now = f.kept.now;
           outcomes = f.kept.outcomes;
-          named = λ known o a. let x = found_of found o (f.outcomes known o a) in x.named;
+          named = λ known o a. let x = found_of found o (f.outcomes known o a) in x.name;
           faults = f.kept.faults;
           same = record { told = f.kept.same.told; simulated = f.kept.same.simulated };
         },

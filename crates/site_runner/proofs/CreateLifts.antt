@@ -97,3 +97,7 @@ exists_there view name regions slots i before now k f t w h =
     let e : early w (Create name regions) ≡ Some (record { site = name; cause = Exists }) =
     ap (λ (o : Option Place). refused_with name (first (there o ∷ no_disk (at_place w (next_of w)) ∷ []))) here in
     (Refused (record { site = name; cause = Exists }), w, inl (ap (λ (r : Option Refusal). or_else r (late w (Create name regions))) e, all_kept w.places), h, t)
+
+-- where the search for a free slot went, over the slots
+pub free_so : {D : Type 0} (slots xs : List (Slot D)) (o : Option ℕ) → xs ≡ slots → o ≡ first_where is_slot_free (take 8 xs) → first_where is_slot_free (take 8 slots) ≡ o
+free_so {D} slots xs o s f = ap (λ (x : List (Slot D)). first_where is_slot_free (take 8 x)) (sym s) ∙ sym f

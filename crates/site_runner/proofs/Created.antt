@@ -1,6 +1,6 @@
 -- CREATE at a place.
 use Rattle.std.proofs.Common.{◌≡◌, ◌⊎◌, ℕ, ◌<◌, ◌≤◌, Bool, true, false, not, ◌&&◌, nat_le, List, [], ◌∷◌, ◌++◌, length, map, None, Some, refl, sym, ◌∙◌, ap, subst, arith, inl, inr, Ok, Err}
-use Rattle.std.specs.Prelude.{Option, Result, codes, IfSome, IsSome, IsSomeAnd}
+use Rattle.std.specs.Prelude.{Option, Result, codes, IfSome, IsSome, IsSomeAnd, IsErrOf}
 use Rattle.std.specs.Fmt.{decimal}
 use Rattle.std.specs.List.{list_all, AllByRecursion}
 use Rattle.std.specs.Char.{is_ascii_alphabetic, is_ascii_alphanumeric}
@@ -85,7 +85,7 @@ is_blank files c e (inl h) = h
 is_blank files c e (inr s) = absurd (false≢true (sym e ∙ s.made))
 
 of_name : (name : Name) (regions : List Region) → IsOf name (created name regions)
-of_name name regions = record { made = refl; named = refl }
+of_name name regions = record { made = refl; name = refl }
 
 pub made_site : {D : Type 0} (view : D → View) (old : Slot D) (disk : D) (name : List ℕ) (specs : List RegionSpec) (rs : List (List ℕ × Bool)) (before now : List ℕ) → specs ≡ map spec_of rs → old.site ≡ None
     → IfSome (view old.disk).content (λ files. IsBlank files → IfSome (view disk).content (λ new. IsSite new (made name specs)))
@@ -134,7 +134,7 @@ making_images v w p name specs o k e m u known c i =
     let from = at_moment v w (MayMake v name specs) c k.lawful each i in
     let x = m.images known from.0 from.1 in
     let n = is_blank from.0 x.0 (u.outcomes known x.0 x.1) x.2 in
-    elim from.2 n.1 [ inl blank ↦ (x.0, inr x.1, inl (n.0, blank)) | inr site ↦ (o, inl refl, inr (subst (IsSite c) e site)) ]
+    elim (from.2 n.1) [ inl blank ↦ (x.0, inr x.1, inl (n.0, blank)) | inr site ↦ (o, inl refl, inr (subst (IsSite c) e site)) ]
 
 new_or_old : (name : Name) (regions : List Region) (p : Place) (o : Contents) → Among (created name regions ∷ p.outcomes) o → MayCreate name regions p o
 new_or_old name regions p o (inl h) = inr h
@@ -153,6 +153,16 @@ Unwritten GenLimit v w = Unit {0}
 Unwritten ReignLimit v w = Unit {0}
 Unwritten (NotAFile file offset) v w = ⊥
 Unwritten NoMemory v w = Unit {0}
+
+pub unwritten : (v w : View) (r : Result Unit SiteError) (e : SiteError) → r ≡ Err e → ((fault : ℕ) → IsErrOf r (Failed fault) → fault ≡ w.faults) → ((fault : ℕ) → IsErrOf r (Failed fault) → Rose v.faults w.faults)
+    → ((file offset : ℕ) → IsErrOf r (NotAFile file offset) → ⊥) → Unwritten e v w
+unwritten v w r (Failed fault) is count cause other = (count fault is, cause fault is)
+unwritten v w r (Full nodes) is count cause other = tt
+unwritten v w r SeqLimit is count cause other = tt
+unwritten v w r GenLimit is count cause other = tt
+unwritten v w r ReignLimit is count cause other = tt
+unwritten v w r (NotAFile file offset) is count cause other = other file offset is
+unwritten v w r NoMemory is count cause other = tt
 
 pub make_failed : {D : Type 0} (view : D → View) (old : Slot D) (disk : D) (name : List ℕ) (specs : List RegionSpec) (rs : List (List ℕ × Bool)) (e : SiteError) (before now : List ℕ) → IsMaking (view old.disk) (view disk) name specs
     → specs ≡ map spec_of rs → old.site ≡ None → Unwritten e (view old.disk) (view disk) → Tells e name before now → MakesHere view name (map script.region_value rs) old (record { disk = disk; site = old.site }) before now
@@ -175,12 +185,12 @@ make_failed view old disk name specs rs (Failed fault) before now k are free f t
       record { disk = m.2; site = h.site; held = none_held view (record { disk = disk; site = old.site }) q free },
       t,
     )
-make_failed view old disk name specs rs (Full nodes) before now k are free f t = absurd t
-make_failed view old disk name specs rs SeqLimit before now k are free f t = absurd t
-make_failed view old disk name specs rs GenLimit before now k are free f t = absurd t
-make_failed view old disk name specs rs ReignLimit before now k are free f t = absurd t
-make_failed view old disk name specs rs (NotAFile file offset) before now k are free f t = absurd f
-make_failed view old disk name specs rs NoMemory before now k are free f t = absurd t
+make_failed view old disk name specs rs (Full nodes) before now k are free f t p h u = absurd t
+make_failed view old disk name specs rs SeqLimit before now k are free f t p h u = absurd t
+make_failed view old disk name specs rs GenLimit before now k are free f t p h u = absurd t
+make_failed view old disk name specs rs ReignLimit before now k are free f t p h u = absurd t
+make_failed view old disk name specs rs (NotAFile file offset) before now k are free f t p h u = absurd f
+make_failed view old disk name specs rs NoMemory before now k are free f t p h u = absurd t
 
 pub make_cut : {D : Type 0} (view : D → View) (old new : Slot D) (name : List ℕ) (specs : List RegionSpec) (rs : List (List ℕ × Bool)) → IsMaking (view old.disk) (view new.disk) name specs → specs ≡ map spec_of rs
     → MakingIsCut view name (map script.region_value rs) old new
@@ -199,12 +209,12 @@ pub create_failed : {D : Type 0} (view : D → View) (old new : Slot D) (name : 
 create_failed view old new name regions (Failed fault) before now look t p h =
     let r = look p h in
     (DiskFault fault, r.0, record { free = r.1.free; site = r.1.site; now = λ known. inl (r.1.now known); outcomes = λ known o a. inl (r.1.outcomes known o a); faults = r.1.faults }, r.2, t)
-create_failed view old new name regions (Full nodes) before now look t = absurd t
-create_failed view old new name regions SeqLimit before now look t = absurd t
-create_failed view old new name regions GenLimit before now look t = absurd t
-create_failed view old new name regions ReignLimit before now look t = absurd t
+create_failed view old new name regions (Full nodes) before now look t p h = absurd t
+create_failed view old new name regions SeqLimit before now look t p h = absurd t
+create_failed view old new name regions GenLimit before now look t p h = absurd t
+create_failed view old new name regions ReignLimit before now look t p h = absurd t
 create_failed view old new name regions (NotAFile file offset) before now look t p h = let r = look p h in (answers.NotAFile file offset, r.0, r.1, r.2, t)
-create_failed view old new name regions NoMemory before now look t = absurd t
+create_failed view old new name regions NoMemory before now look t p h = absurd t
 
 pub create_cut_here : {D : Type 0} (view : D → View) (old new : Slot D) (c : commands.Command) (found : Result (Option Layout) SiteError) → LooksHere view old new found → IsCutHere view c old new
 create_cut_here view old new c found look p h = let r = look p h in (r.0, left_old c p r.0 (sees_old found p r.0 r.1), r.2.disk)

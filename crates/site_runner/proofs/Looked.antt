@@ -77,13 +77,13 @@ look_images v w p k m known c i =
     let o = m.images known from.0 from.1 in
     (o.0, o.1, from.2 o.0 o.2)
 
-none_held : {D : Type 0} (view : D → View) (slot : Slot D) (q : Place) → slot.site ≡ None → HoldsSite (view slot.disk) slot.site q
+pub none_held : {D : Type 0} (view : D → View) (slot : Slot D) (q : Place) → slot.site ≡ None → HoldsSite (view slot.disk) slot.site q
 none_held view slot q free = subst (λ (o : Option Site). HoldsSite (view slot.disk) o q) (sym free) tt
 
-site_none : {D : Type 0} (view : D → View) (slot : Slot D) (p : Place) → slot.site ≡ None → IsPlace view slot p → p.site ≡ None
+pub site_none : {D : Type 0} (view : D → View) (slot : Slot D) (p : Place) → slot.site ≡ None → IsPlace view slot p → p.site ≡ None
 site_none view slot p e h = h.site ∙ ap (option_map site_value) e
 
-some_and_of : (o : Option Files) (P : Files → Type 0) → IsSome o → IfSome o P → IsSomeAnd o P
+pub some_and_of : (o : Option Files) (P : Files → Type 0) → IsSome o → IfSome o P → IsSomeAnd o P
 some_and_of None P h k = cc
 some_and_of (Some f) P h k = k
 

@@ -10,7 +10,7 @@ ghost use Rattle.command_defs.specs.Script.{IsScript, IsBadAt};
 ghost use Rattle.repl_script.specs.Commands.{command_value};
 ghost use Rattle.site_runner.specs.Sites.{AreReady};
 ghost use Rattle.site_runner.specs.Tied.{Tied, Matched};
-ghost use Rattle.site_runner.specs.Ends.{RanTo, IsTooLong, IsDue};
+ghost use Rattle.site_runner.specs.Ends.{RanTo, StaysFit, IsTooLong, IsDue};
 ghost use Rattle.site_runner.specs.Going.{CarriesOut, Breaks, Halts, GoesOn, Finishes, status_value};
 
 use super::execute::execute;
@@ -24,6 +24,7 @@ use repl_disk::Disk;
 use repl_io::{Sink, Source};
 use repl_script::{Command, Script, ScriptError};
 use std::alloc::Global;
+use world_laws::fitness::steps_keep_fit;
 
 /// How many lines a script may have.
 const MOST_LINES: u32 = 100_000;
@@ -184,7 +185,7 @@ pub fn run<S: Source, K: Sink, D: Disk>(
     ensures bad_words { (result ≡ Status.BadWords) ↔ (map string_bytes words.now ≢ codes "run" ∷ []) }
     ensures nothing { result ≡ Status.BadWords → (script.new ≡ script.old) × (out.new ≡ out.old) × (disks.new ≡ disks.old) }
     ensures meaning { (w : World) → AreDisks D.disk disks.old.items w → IsFresh w → IfSome (S.left script.old) (λ input.
-        (after : World) × AreDisks D.disk disks.new.items after × RanTo result input (S.left script.new) w after (K.written out.old) (K.written out.new)) }
+        (after : World) × AreDisks D.disk disks.new.items after × RanTo result input (S.left script.new) w after (K.written out.old) (K.written out.new) × StaysFit result w after) }
     ensures disks { length disks.new.items ≡ length disks.old.items }
     ensures script { result ≡ Status.Ok → IfSome (S.left script.old) (λ input. IsScript (lines_of input)) }
     ensures bad_line { (n c : ℕ) → result ≡ Status.BadLine n c → IfSome (S.left script.old) (λ input. IsBadAt (lines_of input) n c) }
@@ -203,6 +204,7 @@ pub fn run<S: Source, K: Sink, D: Disk>(
         Ok(mut slots) => {
             let status = run_script(alloc, &mut slots, script, out);
             give_back(slots, disks);
+            steps_keep_fit();
             status
         }
     }
