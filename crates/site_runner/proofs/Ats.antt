@@ -1,6 +1,6 @@
 -- Sites at their places.
 use Rattle.std.proofs.Common.{◌≡◌, ℕ, Bool, true, false, List, [], ◌∷◌, ◌++◌, length, take, None, Some, refl, sym, ◌∙◌, ap, subst, arith, inl, inr}
-use Rattle.std.specs.Prelude.{◌⊎◌, Option, IfSome, IsSome, IsSomeAnd, IsTrue}
+use Rattle.std.specs.Prelude.{◌⊎◌, Option, IfSome, IsSome, IsSomeAnd}
 use Rattle.std.proofs.lemmas.Bool.{false≢true}
 use Rattle.std.proofs.Math.Seq.{take-length}
 use Rattle.disk_defs.specs.Disk.{Files, View, Image, IsLawful, AtEachMoment}
@@ -9,7 +9,7 @@ use Rattle.site_store.specs.Site.{IsOpen}
 use Rattle.site_store.proofs.Standing.{images_stand}
 use Rattle.world_defs.specs.Lists.{Among}
 use Rattle.world_defs.specs.World as world
-use Rattle.command_defs.specs.Commands.{Name, Command}
+use Rattle.command_defs.specs.Commands.{Command}
 use Rattle.world_defs.specs.World.{Contents, Place, Kept, is_made}
 use Rattle.world_defs.specs.Answers.{Cause, Stopped, NotRunning, Refused}
 use Rattle.world_defs.specs.Refusals.{first, in_state, stopped, not_running}

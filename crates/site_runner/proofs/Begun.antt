@@ -1,6 +1,5 @@
 -- What opening a site and beginning a reign make of its contents.
-use Rattle.std.proofs.Common.{◌≡◌, ℕ, zero, suc, ◌+◌, ◌≤◌, ◌<◌, ◌^◌, ◌-◌, ◌==◌, ◌||◌, max, nat_le, nat_lt, Bool, true, false, List, [], ◌∷◌, ◌++◌, length, filter, None, Some, refl, sym, ◌∙◌, ap, subst, arith, inl, inr, if◌then◌else◌}
-use Rattle.std.specs.Prelude.{◌⊎◌, Option}
+use Rattle.std.proofs.Common.{◌≡◌, ℕ, ◌+◌, ◌≤◌, ◌<◌, ◌==◌, ◌||◌, max, nat_le, nat_lt, Bool, true, false, List, [], ◌∷◌, ◌++◌, length, filter, None, Some, refl, sym, ◌∙◌, ap, subst, arith, inl, inr, if◌then◌else◌}
 use Rattle.std.proofs.lemmas.Bool.{false≢true, le-leb}
 use Rattle.std.proofs.lemmas.Bool.Decides.{leb_tells}
 use Rattle.global_defs.specs.Entry.{Reign}
@@ -10,8 +9,8 @@ use Rattle.journal_defs.specs.Fit.{MOST_REIGNS}
 use Rattle.journal_laws.proofs.Runs.{reigns-cut, starts_by}
 use Rattle.command_defs.specs.Commands.{Name}
 use Rattle.world_defs.specs.Lists.{Among}
-use Rattle.world_defs.specs.World.{Contents, is_made}
-use Rattle.world_defs.specs.Answers.{Cause, GenLimit, ReignLimit}
+use Rattle.world_defs.specs.World.{Contents}
+use Rattle.world_defs.specs.Answers.{GenLimit, ReignLimit}
 use Rattle.world_defs.specs.Refusals.{LAST_GENERATION, LAST_CYCLE, generation_limit, reign_limit}
 use Rattle.world_defs.specs.Rows.{cut_there, opened, with_reign, next_stamp, MayBegin}
 use Rattle.site_runner.specs.Sites.{IsOf}

@@ -1,5 +1,5 @@
 -- FUSE and CRASH at a place.
-use Rattle.std.proofs.Common.{◌≡◌, ℕ, Bool, true, false, List, [], ◌∷◌, ◌++◌, None, Some, refl, sym, ◌∙◌, ap, subst, arith, inl, inr}
+use Rattle.std.proofs.Common.{◌≡◌, ℕ, Bool, true, false, List, [], ◌∷◌, ◌++◌, None, Some, refl, sym, ◌∙◌, ap, subst, arith, inl}
 use Rattle.std.specs.Prelude.{Option, codes, IfSome, IsSomeAnd}
 use Rattle.std.specs.Fmt.{decimal}
 use Rattle.disk_defs.specs.Disk.{Files, View, Image, IsLawful, Reads}

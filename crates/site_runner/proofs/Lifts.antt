@@ -9,7 +9,7 @@ use Rattle.command_defs.specs.Commands.{Name, Command, Create, Attach, StartPrim
 use Rattle.world_defs.specs.World.{State, Down, Site, Contents, Place, World, Kept, is_site_named, place_of, at_place, site_of}
 use Rattle.world_defs.specs.Answers.{Cause, NoSite, Stopped, Exists, NoDisk, NotEmpty, Empty, Running, NotRunning, NotPrimary, NotSimulated, GenLimit, ReignLimit, Refusal, Answer, Done, Refused, DiskFault, NotAFile, Ran}
 use Rattle.world_defs.specs.Refusals.{early, late, or_else, refusal, refused_with, tested, first, in_state, stopped, running, limited}
-use Rattle.world_defs.specs.Rows.{StartsPrimary, Becomes, MayBeginAny, opened, in_new_state}
+use Rattle.world_defs.specs.Rows.{StartsPrimary, Becomes, opened, in_new_state}
 use Rattle.world_defs.specs.Step.{KeptUnknown, AtPlace, Row, Faulted, Damaged, MayRefuse, StartRefused, RefusedLeaves, SectionRow, Means, Leaves, LeftAt, CutOff, subject, is_at}
 use Rattle.world_defs.specs.Output.{line, name_in, done_text, ran_text, text_of, cycle_at, length_at, extract_at, zwrite_at, show_at, turn_at, section_text}
 use Rattle.world_defs.specs.Ties.{Matches}
@@ -17,7 +17,7 @@ use Rattle.site_runner.specs.declared.slot.Slot.{Slot}
 use Rattle.site_runner.specs.Sites.{is_slot_named, IsReadyOn, AreReady}
 use Rattle.site_runner.specs.Tied.{IsPlace, Tied}
 use Rattle.site_runner.specs.Executes.{Executes, IsCutOff}
-use Rattle.site_runner.specs.Here.{IsNamed, tests, late_tests, cause_here, RowHere, FaultHere, DamageHere, StartRefusedHere, RefusedHere, MayRefuseHere, RanHere, Here, done_here, ran_here, text_here, ExecutesHere, IsCutHere}
+use Rattle.site_runner.specs.Here.{IsNamed, tests, cause_here, RowHere, FaultHere, DamageHere, StartRefusedHere, RefusedHere, MayRefuseHere, RanHere, Here, done_here, ran_here, text_here, ExecutesHere, IsCutHere}
 use Rattle.site_runner.proofs.FirstWhere.{first_along}
 use Rattle.site_runner.proofs.Ats.{kept_same}
 use Rattle.site_runner.proofs.Goings.{matched}

@@ -1,11 +1,10 @@
 -- RUN at a place.
-use Rattle.std.proofs.Common.{◌≡◌, ℕ, zero, suc, ◌+◌, ◌-◌, ◌≤◌, Bool, true, false, List, [], ◌∷◌, ◌++◌, length, take, drop, map, get_or, set, fold, None, Some, refl, sym, ◌∙◌, ap, subst, arith, inl, inr, append_assoc}
-use Rattle.std.specs.Prelude.{◌⊎◌, Option, codes, IfSome, IsSome, IsSomeAnd, nat_lt, slice_get, if◌then◌else◌}
+use Rattle.std.proofs.Common.{◌≡◌, ℕ, zero, suc, ◌+◌, ◌-◌, ◌≤◌, Bool, true, false, List, [], ◌∷◌, ◌++◌, length, take, drop, get_or, set, fold, None, Some, refl, sym, ◌∙◌, ap, subst, arith, inl, inr, append_assoc}
+use Rattle.std.specs.Prelude.{◌⊎◌, Option, codes, nat_lt, slice_get, if◌then◌else◌}
 use Rattle.std.specs.Fmt.{decimal}
-use Rattle.std.specs.List.{flat_map, enumerate_from, AllByRecursion}
-use Rattle.std.proofs.lemmas.List.{length-map}
+use Rattle.std.specs.List.{flat_map, AllByRecursion}
 use Rattle.std.proofs.Math.Seq.{take-length}
-use Rattle.disk_defs.specs.Disk.{Files, View, Image, IsLawful, Rose}
+use Rattle.disk_defs.specs.Disk.{View, IsLawful, Rose}
 use Rattle.global_defs.specs.Entry.{Stamp, Sequence, state}
 use Rattle.global_defs.specs.Jobs.{Job, SeqLimit}
 use Rattle.global_defs.specs.Evaluation.{Evaluated, eval}
@@ -21,15 +20,15 @@ use Rattle.world_defs.specs.World as world
 use Rattle.command_defs.specs.Commands.{Name, Run}
 use Rattle.world_defs.specs.World.{Contents, Place}
 use Rattle.world_defs.specs.Answers.{Stopped, NotPrimary, Section, Ran}
-use Rattle.world_defs.specs.Refusals.{first, stopped, not_primary}
+use Rattle.world_defs.specs.Refusals.{stopped, not_primary}
 use Rattle.world_defs.specs.Rows.{in_new_state, with_sequence, IsFrontOf, turn_of}
 use Rattle.world_defs.specs.Step.{RunMayLeaveOn}
 use Rattle.world_defs.specs.Output.{line, fault_line, reply_line, printed, section_text, turn_on}
-use Rattle.world_defs.specs.Ties.{IsSite, Stands, Matches}
+use Rattle.world_defs.specs.Ties.{Matches}
 use Rattle.site_runner.specs.declared.slot.State.{State}
 use Rattle.site_runner.specs.declared.slot.State.TheVariants.{Down, Primary, Failed}
 use Rattle.site_runner.specs.declared.slot.Site.{Site}
-use Rattle.site_runner.specs.Sites.{state_value, site_value, HoldsState, IsOf, IsMade, IsOpen}
+use Rattle.site_runner.specs.Sites.{state_value, site_value, IsOf}
 use Rattle.site_runner.specs.Here.{cause_here}
 use Rattle.site_runner.specs.Steps.{IsAt, ExecutesAt, IsCutAt}
 use Rattle.site_runner.proofs.Ats.{refuses, kept_same, state_at, first_cause, second_cause, no_cause, told_is, reads_image, place_of_images, place_of_one, only, open_reads, open_images}

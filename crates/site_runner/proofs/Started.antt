@@ -7,7 +7,7 @@ use Rattle.disk_defs.specs.Disk.{Files, View, Image, IsLawful, AtEachMoment, Ros
 use Rattle.global_defs.specs.Entry as defs
 use Rattle.gvn_model.specs.declared.reign.Stamp.{Stamp}
 use Rattle.gvn_model.specs.Reigns.{stamp_value}
-use Rattle.journal_defs.specs.Instance.{InstanceRecord, generation, site_name}
+use Rattle.journal_defs.specs.Instance.{generation, site_name}
 use Rattle.site_store.specs.declared.site.OpenSite.{OpenSite}
 use Rattle.site_store.specs.Site.{Remembers, IsOpen}
 use Rattle.site_store.specs.Opening.{OpensTo, MayOpen}
@@ -30,7 +30,7 @@ use Rattle.site_runner.specs.Sites.{state_value, site_value, HoldsState, IsOf, I
 use Rattle.site_runner.specs.Here.{tests, cause_here, Here, text_here}
 use Rattle.site_runner.specs.Steps.{IsAt, ExecutesAt, IsCutAt}
 use Rattle.site_runner.specs.Starting.{IsOpenedAt, BeginsAt, IsCutOpened}
-use Rattle.site_runner.proofs.Ats.{refuses, kept_same, state_at, first_cause, second_cause, no_cause, not_true, is_true_or_false, some_both, some_and, told_is, is_site, at_moment, reads_image, place_of_images, place_of_one, only, open_reads, open_images}
+use Rattle.site_runner.proofs.Ats.{refuses, kept_same, state_at, first_cause, second_cause, no_cause, not_true, is_true_or_false, some_both, told_is, is_site, at_moment, reads_image, place_of_images, place_of_one, only, open_reads, open_images}
 use Rattle.site_runner.proofs.Stopped.{length_tagged}
 use Rattle.site_runner.proofs.Begun.{limit_opened, stamp_opened, of_opened, of_begun, of_may_begin, begins, among_begins, begins_among, generation_past, generation_left}
 
@@ -69,7 +69,7 @@ limited_generation p sure g = limited_told p (Some GenLimit) (reign_limit p.now)
 
 not_limited : (p : Place) → (p.told ≡ true) ⊎ (p.told ≡ false) → (p.told ≡ true → generation_limit p.now ≡ None) → (p.told ≡ true → reign_limit p.now ≡ None) → limited (Some p) ≡ None
 not_limited p (inl sure) g r = limited_told p None None sure (g sure) (r sure)
-not_limited p (inr unsure) g r = ap (λ (b : Bool). if b then first (generation_limit p.now ∷ reign_limit p.now ∷ []) else None) no
+not_limited p (inr unsure) g r = ap (λ (b : Bool). if b then first (generation_limit p.now ∷ reign_limit p.now ∷ []) else None) unsure
 
 -- a place as it was, but for faults that were counted
 abbrev pub counted : Place → ℕ → Place
@@ -252,7 +252,7 @@ load_limit_untold v w s before now p down h unsure same later t = (
     refl,
     inr (
       early_down s p down h.site,
-      (inl refl, record { unknown = no; kept = record { site = refl; now = refl; outcomes = λ o a. a; faults = omega (arith, later, h.disk.faults); same = record { told = refl; simulated = refl } } }),
+      (inl refl, record { unknown = unsure; kept = record { site = refl; now = refl; outcomes = λ o a. a; faults = omega (arith, later, h.disk.faults); same = record { told = refl; simulated = refl } } }),
     ),
   ),
   unknown_at w s p down h.site unsure (same ∙ h.disk.simulated),
@@ -272,7 +272,7 @@ damaged : (v w : View) (s : Site) (file offset : ℕ) (before now : List ℕ) (p
 damaged v w s file offset before now p down h unsure same later t = (
   NotAFile file offset,
   counted p w.faults,
-  (early_down s p down h.site, record { unknown = no; kept = record { site = refl; now = refl; outcomes = λ o a. a; faults = omega (arith, later, h.disk.faults); same = record { told = refl; simulated = refl } } }),
+  (early_down s p down h.site, record { unknown = unsure; kept = record { site = refl; now = refl; outcomes = λ o a. a; faults = omega (arith, later, h.disk.faults); same = record { told = refl; simulated = refl } } }),
   unknown_at w s p down h.site unsure (same ∙ h.disk.simulated),
   t,
 )
@@ -364,7 +364,7 @@ reign_limit_untold v s o before now p h unsure t = (
     refl,
     inr (
       early_down s p h.down h.site,
-      (inr refl, record { unknown = no; kept = record { site = refl; now = refl; outcomes = λ o a. a; faults = h.faults; same = record { told = refl; simulated = refl } } }),
+      (inr refl, record { unknown = unsure; kept = record { site = refl; now = refl; outcomes = λ o a. a; faults = h.faults; same = record { told = refl; simulated = refl } } }),
     ),
   ),
   unknown_at v s p h.down h.site unsure h.simulated,

@@ -1,6 +1,6 @@
 -- Commands on a site, as commands on its slot; STOP, EXTRACT, ZWRITE and SHOW at a place.
-use Rattle.std.proofs.Common.{◌≡◌, ℕ, suc, ◌+◌, true, List, [], ◌∷◌, ◌++◌, length, map, None, Some, refl, sym, ◌∙◌, ap, subst, arith, inl, nat_eq}
-use Rattle.std.specs.Prelude.{Option, codes, IsSomeAnd, option_map}
+use Rattle.std.proofs.Common.{◌≡◌, ℕ, suc, ◌+◌, true, List, [], ◌∷◌, ◌++◌, length, map, None, Some, refl, sym, ◌∙◌, ap, subst, arith, inl, nat_eq, append_assoc}
+use Rattle.std.specs.Prelude.{Option, codes, option_map}
 use Rattle.std.specs.Fmt.{decimal}
 use Rattle.std.specs.List.{enumerate_from, flat_map}
 use Rattle.std.proofs.lemmas.Bool.{eqb-true}
@@ -12,13 +12,14 @@ use Rattle.global_defs.specs.Entry.{Globals, Sequence}
 use Rattle.journal_defs.specs.Instance.{InstanceRecord}
 use Rattle.journal_defs.specs.Surviving.{reigns}
 use Rattle.gvn_model.specs.declared.entry.Entry as code
+use Rattle.gvn_model.specs.declared.reign.Reign as code_reign
+use Rattle.gvn_model.specs.Reigns.{reign_value}
 use Rattle.site_store.specs.Site.{tagged}
-use Rattle.world_defs.specs.Lists.{Among}
 use Rattle.world_defs.specs.World as world
 use Rattle.command_defs.specs.Commands.{Name, Command, Stop, Extract, Zwrite, Show}
 use Rattle.world_defs.specs.World.{Contents, Place, same_name}
 use Rattle.world_defs.specs.Answers.{Stopped, NotRunning, Done}
-use Rattle.world_defs.specs.Refusals.{first, stopped, not_running}
+use Rattle.world_defs.specs.Refusals.{stopped, not_running}
 use Rattle.world_defs.specs.Rows.{in_new_state}
 use Rattle.world_defs.specs.Output.{line, zwrite, reign_text, show_state, show_on}
 use Rattle.world_defs.specs.Ties.{Stands}
@@ -138,3 +139,18 @@ shown_state v s p (Primary r) e h =
 pub shows_at : (v : View) (s : Site) (before now : List ℕ) → now ≡ before ++ state_text s.name s.state → ExecutesAt (Show s.name) v s v s before now
 shows_at v s before now t p h =
     (Done, p, (refl, kept_same p), h, t ∙ ap (λ (x : List ℕ). before ++ x) (shown_state v s p s.state refl h) ∙ ap (λ (o : Option world.Site). before ++ show_on o p.now) (sym h.site))
+
+-- what is shown of a site that is open, written in two steps
+pub state_written : (s : Site) (r : Reign) (n : Name) (cycle len : ℕ) (rs : List code_reign.Reign) (before mid now : List ℕ) → s.state ≡ Primary r → n ≡ s.name → cycle ≡ (stamp_of r).cycle → len ≡ length r.site.entries.items
+    → map reign_value rs ≡ reigns r.site.instance.records → mid ≡ before ++ line n (codes "STATE PRIMARY " ++ decimal cycle ++ codes " LENGTH " ++ decimal len) → now ≡ mid ++ flat_map (λ x. line n (reign_text x)) (map reign_value rs)
+    → now ≡ before ++ state_text s.name s.state
+state_written s r n cycle len rs before mid now is e c l h m t =
+    let first : Name → ℕ → ℕ → List ℕ = λ (x : Name) (j k : ℕ). line x (codes "STATE PRIMARY " ++ decimal j ++ codes " LENGTH " ++ decimal k) in
+    let lines : Name → List defs.Reign → List ℕ = λ (x : Name). flat_map (λ (y : defs.Reign). line x (reign_text y)) in
+    t ∙ ap (λ (x : List ℕ). x ++ lines n (map reign_value rs)) m
+    ∙ append_assoc before (first n cycle len) (lines n (map reign_value rs))
+    ∙ ap (λ (x : Name). before ++ (first x cycle len ++ lines x (map reign_value rs))) e
+    ∙ ap (λ (x : ℕ). before ++ (first s.name x len ++ lines s.name (map reign_value rs))) c
+    ∙ ap (λ (x : ℕ). before ++ (first s.name (stamp_of r).cycle x ++ lines s.name (map reign_value rs))) l
+    ∙ ap (λ (x : List defs.Reign). before ++ (first s.name (stamp_of r).cycle (length r.site.entries.items) ++ lines s.name x)) h
+    ∙ ap (λ (x : State). before ++ state_text s.name x) (sym is)

@@ -1,6 +1,7 @@
 -- Pieces of text, one behind another.
 use Rattle.std.proofs.Common.{◌≡◌, ℕ, zero, suc, ◌+◌, ◌<◌, min, List, [], ◌∷◌, ◌++◌, length, map, take, get_or, refl, ap, sym, ◌∙◌, arith, append_assoc}
 use Rattle.std.specs.Prelude.{codes}
+use Rattle.std.specs.Fmt.{decimal}
 use Rattle.std.specs.List.{flat_map}
 use Rattle.std.proofs.lemmas.List.{take_more, map-append, append-nil}
 use Rattle.std.proofs.lemmas.List.Concat.{flat_map-append}
@@ -62,3 +63,14 @@ open_written o n c l t1 t2 t3 t4 t5 t e1 e2 e3 e4 e5 e =
     e ∙ ap (λ (x : List ℕ). x ++ 10 ∷ []) (e5 ∙ ap (λ (x : List ℕ). x ++ l) (e4 ∙ ap (λ (x : List ℕ). x ++ codes " LENGTH ") (e3 ∙ ap (λ (x : List ℕ). x ++ c) (e2 ∙ ap (λ (x : List ℕ). x ++ codes " STATE PRIMARY ") e1))))
     ∙ joined o n (codes " STATE PRIMARY ") c (codes " LENGTH ") l (10 ∷ [])
     ∙ open_line o n c l
+
+-- a line under the site's own name
+pub named : {name n now : List ℕ} (before words : List ℕ) → n ≡ name → now ≡ before ++ line n words → now ≡ before ++ line name words
+named {name} {n} {now} before words e t = t ∙ ap (λ (x : List ℕ). before ++ line x words) e
+
+-- the line of a file that is outside the formats, with its numbers
+pub not_a_file : {name n now : List ℕ} {x y file offset : ℕ} (before : List ℕ) → x ≡ file → y ≡ offset → n ≡ name → now ≡ before ++ line n (codes "NOTAFILE " ++ decimal x ++ 32 ∷ decimal y)
+    → now ≡ before ++ line name (codes "NOTAFILE " ++ decimal file ++ 32 ∷ decimal offset)
+not_a_file {name} {n} {now} {x} {y} {file} {offset} before f o e t =
+    t ∙ ap (λ (k : ℕ). before ++ line n (codes "NOTAFILE " ++ decimal k ++ 32 ∷ decimal y)) f ∙ ap (λ (k : ℕ). before ++ line n (codes "NOTAFILE " ++ decimal file ++ 32 ∷ decimal k)) o
+    ∙ ap (λ (k : List ℕ). before ++ line k (codes "NOTAFILE " ++ decimal file ++ 32 ∷ decimal offset)) e

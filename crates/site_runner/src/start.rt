@@ -1,5 +1,5 @@
 // START PRIMARY.
-ghost use Rattle.std.specs.Prelude.{◌≡◌, map, OnOk, OnErr};
+ghost use Rattle.std.specs.Prelude.{◌≡◌, ◌≢◌, map, OnOk, OnErr, MatchBool};
 ghost use Rattle.journal_defs.specs.Instance.{site_name};
 ghost use Rattle.instance_file.specs.Values.{record_value};
 ghost use Rattle.command_defs.specs.Commands.{StartPrimary};
@@ -26,6 +26,13 @@ fn name_of(records: &[InstanceRecord]) -> &[u8]
         [InstanceRecord::Create { name, .. }, ..] => name.as_slice(),
         _ => &[],
     }
+}
+
+/// Whether the site that was opened has this name.
+fn is_named(opened: &OpenSite, name: &[u8]) -> bool
+    ensures { MatchBool result (site_name opened.now.instance.records ≡ name.now) (site_name opened.now.instance.records ≢ name.now) }
+{
+    name_of(opened.instance.records().as_slice()) == name
 }
 
 /// Begins the reign of a site that was opened. Past the limit of reigns it's closed again.
@@ -78,7 +85,7 @@ fn open<D: Disk>(
 {
     match load(alloc, disk) {
         Ok(opened) => {
-            if name_of(opened.instance.records().as_slice()) == site.name.as_slice() {
+            if is_named(&opened, site.name.as_slice()) {
                 begin(alloc, disk, site, opened, text)
             } else {
                 write_not_a_file(text, site.name.as_slice(), 0, 0)

@@ -1,9 +1,7 @@
-use Rattle.std.proofs.Common.{sym, subst}
+use Rattle.std.proofs.Common.{subst}
 use Rattle.repl_script.specs.declared.command.Command.{Command}
 use Rattle.repl_script.specs.Commands.{command_value}
 use Rattle.command_defs.specs.Sections.{IsFormed}
-use Rattle.site_runner.specs.Executes.{Executes, IsCutOff}
-use Rattle.site_runner.proofs.Results.{on_ok, on_errs}
 use Rattle.site_runner.proofs.execute.execute.Goals as goal
 
 pub create-requires-clause-formed : goal.create-requires-clause-formed

@@ -1,4 +1,4 @@
-use Rattle.std.proofs.Common.{Bool, ◌≡◌, ◌++◌, ℕ, List, length, ◌∙◌, ap, sym, subst}
+use Rattle.std.proofs.Common.{Bool, ◌++◌, ℕ, List, ◌∙◌, ap, sym, subst}
 use Rattle.std.specs.Prelude.{codes}
 use Rattle.std.specs.Fmt.{decimal}
 use Rattle.world_defs.specs.Output.{line, fault_line}
