@@ -2,7 +2,7 @@
 use Rattle.std.proofs.Common.{◌≡◌, ◌≢◌, ◌⊎◌, ℕ, zero, suc, ◌<◌, Bool, true, false, cond, not, nat_lt, List, [], ◌∷◌, ◌++◌, length, get_or, set, take, None, Some, refl, sym, ◌∙◌, ap, subst, arith, inl, inr, Ok, Err}
 use Rattle.std.specs.Prelude.{Option, Result, option_map, slice_get, codes}
 use Rattle.std.specs.Fmt.{decimal}
-use Rattle.std.proofs.lemmas.Bool.{and_parts}
+use Rattle.std.proofs.lemmas.Bool.{false≢true, and_parts, lt-ltb}
 use Rattle.std.proofs.lemmas.List.{set-set}
 use Rattle.disk_defs.specs.Disk.{View}
 use Rattle.journal_defs.specs.Instance.{InstanceRecord, site_name}
@@ -106,7 +106,7 @@ attach_failed view slots i d s NoMemory before now k f look t = absurd t
 
 no_records : (rs : List InstanceRecord) → not (nat_lt 0 (length rs)) ≡ true → rs ≡ []
 no_records [] e = refl
-no_records (r ∷ rs) e = absurd (let f : false ≡ true = e in cc)
+no_records (r ∷ rs) e = let some : nat_lt 0 (length (r ∷ rs)) ≡ true = lt-ltb 0 (length (r ∷ rs)) (omega arith) in absurd (false≢true (sym (ap not some) ∙ e))
 
 refused_empty : (w : World) (p q : Place) → (p.told ≡ true) ⊎ (p.told ≡ false) → Finds None p q → AttachHere w p (Refused (record { site = ATTACHING; cause = Empty })) q
 refused_empty w p q (inl known) f = inl (rw (known, no_records p.now.instance (f.now known)) refl, f.kept)

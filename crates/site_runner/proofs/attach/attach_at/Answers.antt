@@ -46,4 +46,4 @@ returns-in-Ok-Some-clause-cut_off g c =
     let xs = c.args.slots.now.items in
     let look = rw c.index_mut.ensures.value at c.look.ensures.seen in
     on_errs c.take_site.result _ _ c.take_site.ensures.kept (λ e.
-    subst (λ (x : List (Slot g.row.D.Denot)). IsCutOff g.D.Disk.disk Attach xs x) (sym e) (attach_cut g.D.Disk.disk xs c.args.i c.index_mut.result.now c.look.new.slot c.look.result c.requires.inside c.requires.next look))
+    subst (λ (x : List (Slot g.row.D.Denot)). IsCutOff g.D.Disk.disk Attach xs x) (sym {A = List (Slot g.row.D.Denot)} e) (attach_cut g.D.Disk.disk xs c.args.i c.index_mut.result.now c.look.new.slot c.look.result c.requires.inside c.requires.next look))
