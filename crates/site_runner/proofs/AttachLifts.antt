@@ -29,9 +29,8 @@ use Rattle.site_runner.specs.Looking.{fits, Finds, Sees, LooksHere, Tells}
 use Rattle.site_runner.specs.Attaching.{with_site, Takes}
 use Rattle.site_runner.proofs.Ats.{is_true_or_false}
 use Rattle.site_runner.proofs.Lifts.{all_kept, place_there, place_of_slot, tied_set, with_place, on_place, kept_set, get_set, lifted_cut}
-use Rattle.site_runner.proofs.Looked.{site_none}
-use Rattle.site_runner.proofs.Created.{create_cut_here}
-use Rattle.site_runner.proofs.CreateLifts.{is_slot_free, next_of_slot, place_some}
+use Rattle.site_runner.proofs.Looked.{site_none, looked_cut}
+use Rattle.site_runner.proofs.Next.{is_slot_free, next_of_slot, place_some}
 
 -- what the command means at the next disk's place, in the world before it
 abbrev pub AttachHere : World → Place → Answer → Place → Type 0
@@ -85,7 +84,7 @@ attach_lifted view slots i d s before now k f x w h =
 pub attach_cut : {D : Type 0} (view : D → View) (slots : List (Slot D)) (i : ℕ) (d s : Slot D) (found : Result (Option Layout) SiteError) → i < length slots → first_where is_slot_free (take 8 slots) ≡ Some i
     → LooksHere view (get_or slots i d) s found → IsCutOff view Attach slots (set slots i s)
 attach_cut view slots i d s found k f look =
-    lifted_cut view Attach slots i d s k (λ w h. next_of_slot view slots w h ∙ f) (create_cut_here view (get_or slots i d) s Attach found look)
+    lifted_cut view Attach slots i d s k (λ w h. next_of_slot view slots w h ∙ f) (looked_cut view (get_or slots i d) s Attach found look)
 
 -- there is no disk left
 pub no_disk_to_attach : {D : Type 0} (view : D → View) (slots : List (Slot D)) (before now : List ℕ) → first_where is_slot_free (take 8 slots) ≡ None → now ≡ before ++ line ATTACHING (codes "NODISK") → Executes view Attach slots slots before now
@@ -216,31 +215,3 @@ attach_found {D} view slots new i d s found (Some j) before now k f free free_st
     let r = look p at_p in
     let other = place_some view j slots w.places (found_inside (is_slot_named found.name) slots j search) h in
     (Refused (record { site = found.name; cause = Exists }), r.0, refused_exists w p r.0 other.0 found (is_true_or_false p.told) r.1 (ap (at_place w) (place_of_slot view slots w found.name h ∙ search) ∙ other.1), r.2, t.1)))
-
--- the next slot has no site
-
-free_at : {D : Type 0} (n : ℕ) (slots : List (Slot D)) (i : ℕ) (d : Slot D) → first_where is_slot_free (take n slots) ≡ Some i → is_slot_free (get_or slots i d) ≡ true
-free_at zero slots i d e = cc
-free_at (suc n) [] i d e = cc
-free_at (suc n) (x ∷ xs) zero d e = first_step (is_slot_free x) (first_where is_slot_free (take n xs)) e
-  where
-    first_step : (b : Bool) (o : Option ℕ) → cond b (Some zero) (option_map suc o) ≡ Some zero → b ≡ true
-    first_step true o e = refl
-    first_step false None e = cc
-    first_step false (Some j) e = cc
-free_at (suc n) (x ∷ xs) (suc i) d e = free_at n xs i d (next_step (is_slot_free x) (first_where is_slot_free (take n xs)) e)
-  where
-    next_step : (b : Bool) (o : Option ℕ) → cond b (Some zero) (option_map suc o) ≡ Some (suc i) → o ≡ Some i
-    next_step true o e = cc
-    next_step false None e = cc
-    next_step false (Some j) e = cc
-
-without_site : {D : Type 0} (slot : Slot D) → is_slot_free slot ≡ true → slot.site ≡ None
-without_site slot e = none_is slot.site e
-  where
-    none_is : (o : Option _) → world.is_free (option_map site_value o) ≡ true → o ≡ None
-    none_is None e = refl
-    none_is (Some s) e = cc
-
-pub next_is_free : {D : Type 0} (slots : List (Slot D)) (i : ℕ) (d : Slot D) → first_where is_slot_free (take 8 slots) ≡ Some i → (get_or slots i d).site ≡ None
-next_is_free slots i d e = without_site (get_or slots i d) (free_at 8 slots i d e)

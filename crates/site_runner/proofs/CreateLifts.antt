@@ -16,22 +16,8 @@ use Rattle.site_runner.specs.Tied.{IsPlace, Tied}
 use Rattle.site_runner.specs.Executes.{Executes, IsCutOff}
 use Rattle.site_runner.specs.Here.{IsCutHere}
 use Rattle.site_runner.specs.Creating.{CreateHere, create_text, CreatesHere}
-use Rattle.site_runner.proofs.FirstWhere.{first_along}
+use Rattle.site_runner.proofs.Next.{is_slot_free, next_of_slot, place_some}
 use Rattle.site_runner.proofs.Lifts.{all_kept, place_there, place_of_slot, tied_set, with_place, on_place, kept_set, lifted_cut}
-
-abbrev pub is_slot_free : {D : Type 0} → Slot D → Bool
-is_slot_free slot = is_free (option_map site_value slot.site)
-
-along_take : {X Y : Type 0} (R : X → Y → Type 0) (n : ℕ) (xs : List X) (ys : List Y) → Along (λ i. R) xs ys → Along (λ i. R) (take n xs) (take n ys)
-along_take R zero xs ys h = tt
-along_take R (suc n) [] [] h = tt
-along_take R (suc n) [] (y ∷ ys) h = absurd h
-along_take R (suc n) (x ∷ xs) [] h = absurd h
-along_take R (suc n) (x ∷ xs) (y ∷ ys) h = (h.0, along_take R n xs ys h.1)
-
-pub next_of_slot : {D : Type 0} (view : D → View) (slots : List (Slot D)) (w : World) → Tied view slots w → next_of w ≡ first_where is_slot_free (take 8 slots)
-next_of_slot view slots w h =
-    first_along (λ x p. IsPlace view x p) is_slot_free (λ (p : Place). is_free p.site) (λ x p r. ap is_free r.site) (take 8 slots) (take MOST_SITES w.places) (along_take (λ x p. IsPlace view x p) 8 slots w.places h)
 
 early_free : (w : World) (name : Name) (regions : List Region) (p : Place) → site_of w name ≡ None → at_place w (next_of w) ≡ Some p → early w (Create name regions) ≡ None
 early_free w name regions p a b =
@@ -83,12 +69,6 @@ no_disk_left view name regions slots before now n f t w h =
     ap (λ (o : Option Place). refused_with name (first (there o ∷ no_disk (at_place w (next_of w)) ∷ []))) none ∙ ap (λ (o : Option Place). refused_with name (first (None ∷ no_disk o ∷ []))) next in
     (Refused (record { site = name; cause = NoDisk }), w, inl (ap (λ (r : Option Refusal). or_else r (late w (Create name regions))) e, all_kept w.places), h, t)
 
-pub place_some : {D : Type 0} (view : D → View) (i : ℕ) (slots : List (Slot D)) (ps : List Place) → i < length slots → Along (λ j x p. IsPlace view x p) slots ps → (p : Place) × (slice_get ps i ≡ Some p)
-place_some view i [] ps k h = absurd (omega arith)
-place_some view i (x ∷ xs) [] k h = absurd h
-place_some view zero (x ∷ xs) (p ∷ ps) k h = (p, refl)
-place_some view (suc i) (x ∷ xs) (p ∷ ps) k h = place_some view i xs ps (omega arith) h.1
-
 pub exists_there : {D : Type 0} (view : D → View) (name : Name) (regions : List Region) (slots : List (Slot D)) (i : ℕ) (before now : List ℕ) → i < length slots → first_where (is_slot_named name) slots ≡ Some i
     → now ≡ before ++ line name (codes "EXISTS") → Executes view (Create name regions) slots slots before now
 exists_there view name regions slots i before now k f t w h =
@@ -97,7 +77,3 @@ exists_there view name regions slots i before now k f t w h =
     let e : early w (Create name regions) ≡ Some (record { site = name; cause = Exists }) =
     ap (λ (o : Option Place). refused_with name (first (there o ∷ no_disk (at_place w (next_of w)) ∷ []))) here in
     (Refused (record { site = name; cause = Exists }), w, inl (ap (λ (r : Option Refusal). or_else r (late w (Create name regions))) e, all_kept w.places), h, t)
-
--- where the search for a free slot went, over the slots
-pub free_so : {D : Type 0} (slots xs : List (Slot D)) (o : Option ℕ) → xs ≡ slots → o ≡ first_where is_slot_free (take 8 xs) → first_where is_slot_free (take 8 slots) ≡ o
-free_so {D} slots xs o s f = ap (λ (x : List (Slot D)). first_where is_slot_free (take 8 x)) (sym s) ∙ sym f

@@ -40,7 +40,7 @@ use Rattle.site_runner.specs.Here.{IsCutHere}
 use Rattle.site_runner.specs.Looking.{fits, Finds, Sees, LooksHere, Tells}
 use Rattle.site_runner.specs.Creating.{spec_of, IsUnmade, MakeHere, CreateHere, create_text, MakesHere, MakingIsCut, CreatesHere}
 use Rattle.site_runner.proofs.Ats.{is_true_or_false, some_both, some_of, some_and, told_is, at_moment, place_of_images, place_of_one, only}
-use Rattle.site_runner.proofs.Looked.{some_and_of, none_held, site_none, sees_old, left_old}
+use Rattle.site_runner.proofs.Looked.{some_and_of, none_held, site_none}
 
 -- the regions of a command
 
@@ -215,9 +215,6 @@ create_failed view old new name regions GenLimit before now look t p h = absurd 
 create_failed view old new name regions ReignLimit before now look t p h = absurd t
 create_failed view old new name regions (NotAFile file offset) before now look t p h = let r = look p h in (answers.NotAFile file offset, r.0, r.1, r.2, t)
 create_failed view old new name regions NoMemory before now look t p h = absurd t
-
-pub create_cut_here : {D : Type 0} (view : D → View) (old new : Slot D) (c : commands.Command) (found : Result (Option Layout) SiteError) → LooksHere view old new found → IsCutHere view c old new
-create_cut_here view old new c found look p h = let r = look p h in (r.0, left_old c p r.0 (sees_old found p r.0 r.1), r.2.disk)
 
 refused_so : (p q : Place) → (p.told ≡ true) ⊎ (p.told ≡ false) → (p.told ≡ true → is_made p.now ≡ true) → Kept p q → ((not_empty (Some p) ≡ Some NotEmpty) × Kept p q) ⊎ KeptUnknown p q
 refused_so p q (inl known) f k = inl (rw (known, f known) refl, k)

@@ -21,6 +21,7 @@ pub mod Crashed
 pub mod Begun
 pub mod Started
 pub mod Ran
+pub mod Next
 pub mod Looked
 pub mod Created
 pub mod CreateLifts

@@ -17,6 +17,7 @@ use Rattle.site_runner.specs.declared.slot.Site.{Site}
 use Rattle.site_runner.specs.declared.slot.Slot.{Slot}
 use Rattle.site_runner.specs.Sites.{site_value, HoldsSite}
 use Rattle.site_runner.specs.Tied.{IsPlace}
+use Rattle.site_runner.specs.Here.{IsCutHere}
 use Rattle.site_runner.specs.Looking.{fits, Finds, LeavesOld, Sees, LooksHere}
 use Rattle.site_runner.proofs.Ats.{not_true, told_is, some_both, some_of, some_and, at_moment, place_of_images}
 
@@ -189,7 +190,7 @@ saw_nothing view old disk ReignLimit k free u p h = left_so view old disk k free
 saw_nothing view old disk NoMemory k free u p h = left_so view old disk k free p h
 
 -- what a look leaves is old, whatever it saw
-pub sees_old : (r : Result (Option Layout) SiteError) (p q : Place) → Sees r p q → LeavesOld p q
+sees_old : (r : Result (Option Layout) SiteError) (p q : Place) → Sees r p q → LeavesOld p q
 sees_old (Ok found) p q s = record { told = s.kept.same.told; outcomes = λ known. s.kept.outcomes }
 sees_old (Err (Failed fault)) p q s = record { told = s.faults.same.told; outcomes = s.outcomes }
 sees_old (Err (Full nodes)) p q s = s
@@ -199,9 +200,12 @@ sees_old (Err ReignLimit) p q s = s
 sees_old (Err (NotAFile file offset)) p q s = record { told = s.kept.same.told; outcomes = λ known. s.kept.outcomes }
 sees_old (Err NoMemory) p q s = s
 
--- and so it is of a command that was cut off behind it
-pub left_old : (c : Command) (p q : Place) → LeavesOld p q → LeftAt true c p q
-left_old c p q l = record { told = l.told; outcomes = λ known o a. inl (l.outcomes known o a) }
+-- a command that was cut off behind a look
+pub looked_cut : {D : Type 0} (view : D → View) (old new : Slot D) (c : Command) (r : Result (Option Layout) SiteError) → LooksHere view old new r → IsCutHere view c old new
+looked_cut view old new c r look p h =
+    let q = look p h in
+    let left = sees_old r p q.0 q.1 in
+    (q.0, record { told = left.told; outcomes = λ known o a. inl (left.outcomes known o a) }, q.2.disk)
 
 pub looks : {D : Type 0} (view : D → View) (old : Slot D) (disk : D) (r : Result (Option Layout) SiteError) → IsLook (view old.disk) (view disk) → old.site ≡ None
     → IfOk r (λ found. IfSome (view old.disk).content (λ files. (c : Contents) → Stands files c → IsFound c found))

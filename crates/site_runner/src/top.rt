@@ -175,6 +175,11 @@ fn run_script<S: Source, K: Sink, D: Disk>(
 /// Does all that the program does, for the words behind the program's name: reads a script, runs its commands in order on sites
 /// over the disks, and writes what they answer. Sites stand on the first disks, in the order of their making. It reads the script
 /// byte by byte, so hand it a buffered source. The disks are given back in their order, whatever the status.
+///
+/// A later run may take up disks that an earlier one gave back: they are those of the world that it left, without its sites, and
+/// ATTACH finds what stands on each of them. Where they were fit before a run they are fit behind it, so a site's serials and
+/// cycles never go back from one run to the next. `new_worlds_are_fit` of `world_laws` says so of the next run's world: `again`,
+/// and `read_again` where the run was cut off or the machine lost what wasn't synced, and each disk reads as one of its outcomes.
 pub fn run<S: Source, K: Sink, D: Disk>(
     alloc: Global,
     words: &[String],

@@ -2,7 +2,7 @@ use Rattle.std.proofs.Common.{None}
 use Rattle.command_defs.specs.Commands.{Attach}
 use Rattle.site_runner.proofs.Results.{on_ok, err_so}
 use Rattle.site_runner.proofs.Lifts.{cut_nothing}
-use Rattle.site_runner.proofs.CreateLifts.{free_so}
+use Rattle.site_runner.proofs.Next.{free_so}
 use Rattle.site_runner.proofs.AttachLifts.{no_disk_to_attach}
 use Rattle.site_runner.proofs.attach.attach.Goals as goal
 

@@ -7,7 +7,8 @@ use Rattle.site_runner.specs.declared.slot.Slot.{Slot}
 use Rattle.site_runner.specs.Executes.{IsCutOff}
 use Rattle.site_runner.specs.Looking.{LooksHere}
 use Rattle.site_runner.proofs.Results.{on_ok, on_errs, err_so}
-use Rattle.site_runner.proofs.AttachLifts.{attach_cut, attach_failed, attach_empty, attach_found, next_is_free}
+use Rattle.site_runner.proofs.Next.{next_is_free}
+use Rattle.site_runner.proofs.AttachLifts.{attach_cut, attach_failed, attach_empty, attach_found}
 use Rattle.site_runner.proofs.attach.attach_at.Goals as goal
 
 pub returns-in-Err-clause-done : goal.returns-in-Err-clause-done

@@ -8,7 +8,8 @@ use Rattle.site_runner.specs.Creating.{CreatesHere}
 use Rattle.site_runner.specs.Here.{IsCutHere}
 use Rattle.site_runner.proofs.Results.{on_ok, on_errs, err_so}
 use Rattle.site_runner.proofs.Lifts.{cut_nothing}
-use Rattle.site_runner.proofs.CreateLifts.{free_so, create_lifted, create_cut, no_disk_left}
+use Rattle.site_runner.proofs.Next.{free_so}
+use Rattle.site_runner.proofs.CreateLifts.{create_lifted, create_cut, no_disk_left}
 use Rattle.site_runner.proofs.create.create_new.Goals as goal
 
 pub returns-in-None-clause-done : goal.returns-in-None-clause-done
