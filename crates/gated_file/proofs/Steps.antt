@@ -29,7 +29,7 @@ pub all_append : (xs ys : List Body) → AllByRecursion IsBody xs → AllByRecur
 all_append [] ys all more = more
 all_append (x ∷ xs) ys all more = (all.0, all_append xs ys all.1 more)
 
-stands_none : (xs : List Body) (bytes : List ℕ) → Stands xs [] bytes → records bytes ≡ Some xs
+pub stands_none : (xs : List Body) (bytes : List ℕ) → Stands xs [] bytes → records bytes ≡ Some xs
 stands_none xs bytes h = nothing h.0 h.1 h.2
   where
     nothing : (n : ℕ) → n ≤ 0 → records bytes ≡ Some (xs ++ take n []) → records bytes ≡ Some xs

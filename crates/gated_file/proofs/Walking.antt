@@ -1,15 +1,15 @@
 -- From gate to gate to the first closed one.
-use Rattle.std.proofs.Common.{◌≡◌, ◌≢◌, ℕ, zero, suc, ◌+◌, ◌-◌, ◌≤◌, List, [], ◌∷◌, ◌++◌, length, take, drop, get_or, None, refl, sym, ◌∙◌, ap, arith, append_assoc, length-append, length-take, length-drop, take-append-drop}
+use Rattle.std.proofs.Common.{◌≡◌, ◌≢◌, ℕ, zero, suc, ◌+◌, ◌-◌, ◌≤◌, List, [], ◌∷◌, ◌++◌, length, take, drop, get_or, Some, None, refl, sym, ◌∙◌, ap, arith, append_assoc, length-append, length-take, length-drop, take-append-drop}
 use Rattle.std.proofs.lemmas.Bool.Decides.{nat_tests}
 use Rattle.std.proofs.lemmas.List.{take-take, drop-take, drop-drop, drop_more}
 use Rattle.std.specs.Int.{to_be_bytes, w32}
 use Rattle.std.specs.List.{AllByRecursion}
 use Rattle.disk_defs.specs.Gates.{Body, Shut, NoGate, gate_of, behind, bodies_from, bodies_within, records, framed, spelled, IsBody}
-use Rattle.disk_defs.proofs.Texts.{within_open, length-spelled}
+use Rattle.disk_defs.proofs.Texts.{stands, within_open, length-spelled}
 use Rattle.std.specs.Option.{option_map}
 use Rattle.gated_file.specs.Reading.{HasBody, LeadsTo, EndsAt, IsOutside}
 use Rattle.gated_file.proofs.Pieces.{spelled_push}
-use Rattle.gated_file.proofs.Steps.{all_append}
+use Rattle.gated_file.proofs.Steps.{all_append, stands_none}
 use Rattle.gated_file.proofs.Gates.{at_long, records_in}
 
 take_sum : (m n : ℕ) (l : List ℕ) → take (m + n) l ≡ take m l ++ take n (drop m l)
@@ -73,6 +73,11 @@ closed_at file end bodies long ends =
       shut = shut_byte (get_or file end 0) (drop (end + 1) file) (ap gate_of (sym here) ∙ sym (at_long file end long) ∙ ends.shut);
       is = split_at file end bodies ends.leads ∙ ap (λ (l : List ℕ). spelled 1 bodies ++ l) here;
     }
+
+pub ends_records : (file : List ℕ) (end : ℕ) (bodies : List Body) → 2 ≤ length file → EndsAt file bodies end → records file ≡ Some bodies
+ends_records file end bodies long ends =
+    let closed = closed_at file end bodies long ends in
+    ap records closed.is ∙ stands_none bodies (spelled 1 bodies ++ closed.gate ∷ closed.tail) (stands bodies [] [] closed.gate closed.tail refl ends.leads.all tt closed.shut)
 
 -- a gate outside the format leaves no list
 within_none : (bodies : List Body) (m n : ℕ) (rest : List ℕ) → m ≡ length bodies + suc n → AllByRecursion IsBody bodies → 1 ≤ length rest → gate_of rest ≡ NoGate → bodies_within m (spelled 1 bodies ++ rest) ≡ None

@@ -70,6 +70,44 @@ fn begin<D: Disk>(disk: &mut D, file: u32, size: u64) -> Result<(), GateError>
     Ok(disk.sync(file)?)
 }
 
+/// Syncs a file: what it reads as is then on the disk for good.
+///
+/// # Errors
+/// `Failed` only where the disk's count rose, and `NoMemory`.
+pub fn sync_file<D: Disk>(disk: &mut D, file: u32) -> Result<(), GateError>
+    ensures durable { OnOk result (IfSome (D.disk disk.old).content (λ files. IsDurable (D.disk disk.new) file (files file))) }
+    ensures content { (D.disk disk.new).content ≡ (D.disk disk.old).content }
+    ensures any_moment { AtEachMoment (D.disk disk.old) (D.disk disk.new) (Image (D.disk disk.old)) }
+    ensures frame { OthersStay (Only file) (D.disk disk.old) (D.disk disk.new) }
+    ensures later { (D.disk disk.old).faults ≤ (D.disk disk.new).faults }
+    ensures cause { IsErrOf result GateError.Failed → Rose (D.disk disk.old).faults (D.disk disk.new).faults }
+    ensures outside { (offset : ℕ) → IsErrOf result (GateError.NotARecord offset) → ⊥ }
+{
+    if disk.room(file, 1, 0).is_err() {
+        return Err(GateError::NoMemory);
+    }
+    Ok(disk.sync(file)?)
+}
+
+/// Sees that a file is in the format from its start to its first closed gate. It reads no body.
+///
+/// # Errors
+/// `NotARecord` with the place of the first gate that is outside the format, and `Failed` only where the disk's count rose.
+pub fn see_gates<D: Disk>(disk: &mut D, file: u32) -> Result<(), GateError>
+    ensures listed { OnOk result (IfSome (D.disk disk.old).content (λ files. (bodies : List Body) × (records (files file) ≡ Some bodies))) }
+    ensures outside { (offset : ℕ) → IsErrOf result (GateError.NotARecord offset) → IfSome (D.disk disk.old).content (λ files. IsOutside (files file) offset) }
+    ensures reads { Reads (D.disk disk.old) (D.disk disk.new) }
+    ensures later { (D.disk disk.old).faults ≤ (D.disk disk.new).faults }
+    ensures cause { IsErrOf result GateError.Failed → Rose (D.disk disk.old).faults (D.disk disk.new).faults }
+{
+    let size = disk.len(file)?;
+    if size < 2 {
+        return Ok(());
+    }
+    find_end(disk, file, size)?;
+    Ok(())
+}
+
 /// Makes room to begin a file, syncs it, and answers its length.
 fn settle<D: Disk>(disk: &mut D, file: u32) -> Result<u64, GateError>
     ensures size { IfOk result (λ size. IfSome (D.disk disk.old).content (λ files. size ≡ length (files file))) }
@@ -82,10 +120,10 @@ fn settle<D: Disk>(disk: &mut D, file: u32) -> Result<u64, GateError>
     ensures cause { IsErrOf result GateError.Failed → Rose (D.disk disk.old).faults (D.disk disk.new).faults }
     ensures outside { (offset : ℕ) → IsErrOf result (GateError.NotARecord offset) → ⊥ }
 {
-    if disk.room(file, 3, 1).is_err() {
+    sync_file(disk, file)?;
+    if disk.room(file, 2, 1).is_err() {
         return Err(GateError::NoMemory);
     }
-    disk.sync(file)?;
     let size = disk.len(file)?;
     Ok(size)
 }

@@ -11,5 +11,6 @@ mod read;
 #[cfg(test)]
 mod tests;
 
+pub use attach::{see_gates, sync_file};
 pub use error::GateError;
 pub use gated::Gated;

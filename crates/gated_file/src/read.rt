@@ -10,6 +10,7 @@ use crate::gated::Gated;
 use gvn_key::Bytes;
 use repl_disk::Disk;
 use std::alloc::Global;
+use std::collections::VecDeque;
 
 /// The greatest length of a body in bytes.
 const LONGEST: u64 = 1 << 20;
@@ -84,6 +85,23 @@ fn bytes_at<D: Disk>(
 }
 
 impl Gated {
+    /// A file for reading alone, by [`next_record`](Gated::next_record). It makes no disk call.
+    pub fn reading(alloc: Global, file: u32) -> Gated
+        ensures { result.file ≡ file }
+    {
+        Gated {
+            alloc,
+            file,
+            end: 0,
+            closed: VecDeque::new(alloc),
+            buffer: Vec::new(alloc),
+            bodies_left: 0,
+            bytes_left: 0,
+            syncs_left: 0,
+            synced: false,
+        }
+    }
+
     /// Adds the body at a place to `out` and answers the next place, or answers `None` exactly at a closed gate or in a file
     /// shorter than two bytes. An `Err` leaves `out` as it was.
     ///

@@ -44,10 +44,10 @@ walked_start region generation file bodies list = record {
   begins = tt;
 }
 
-at_start : (at : ℕ) → at ≡ 0 → nat_eq at 0 ≡ true
+pub at_start : (at : ℕ) → at ≡ 0 → nat_eq at 0 ≡ true
 at_start at is = grind (arith, nat_tests)
 
-past_start : (at n : ℕ) → at ≡ suc n → nat_eq at 0 ≡ false
+pub past_start : (at n : ℕ) → at ≡ suc n → nat_eq at 0 ≡ false
 past_start at n is = grind (arith, nat_tests)
 
 pini_begins : (region generation : ℕ) (x : JournalRecord) → IsPiniOf region generation x → (previous : ℕ) × BeginsWithPini region generation previous (x ∷ [])
@@ -68,7 +68,7 @@ begins_alone region generation previous (Epoch m) rs is = absurd is
 begins_alone region generation previous (Pblk b) rs is = absurd is
 begins_alone region generation previous (Tcom p) rs is = absurd is
 
-no_more_pinis : (rs : List JournalRecord) (x : JournalRecord) → AllByRecursion IsNoPini rs → IsNoPini x → AllByRecursion IsNoPini (rs ++ x ∷ [])
+pub no_more_pinis : (rs : List JournalRecord) (x : JournalRecord) → AllByRecursion IsNoPini rs → IsNoPini x → AllByRecursion IsNoPini (rs ++ x ∷ [])
 no_more_pinis [] x all is = (is, tt)
 no_more_pinis (r ∷ rs) x all is = (all.0, no_more_pinis rs x all.1 is)
 
@@ -95,7 +95,7 @@ follows_stands (b ∷ done) [] zip x region generation at previous place follows
 follows_stands (b ∷ done) (y ∷ ys) zip x region generation at previous place follows = subst (λ (b : Bool). MayStand b region generation x) (sym (past_start at (length (framed b ++ spelled 1 done)) place)) follows.0
 
 -- a list that begins with a body
-pub record Begun (body : Body) (o : Option (List Body)) (bodies : List Body) : Type 0 where
+record Begun (body : Body) (o : Option (List Body)) (bodies : List Body) : Type 0 where
   pub more : List Body
   pub is : bodies ≡ body ∷ more
   pub rest : o ≡ Some more
@@ -107,7 +107,7 @@ begun body (Some more) bodies is = record { more = more; is = cc is; rest = refl
 list_after : (file : List ℕ) (done rest more : List Body) (body : Body) → records file ≡ Some (done ++ rest) → rest ≡ body ∷ more → records file ≡ Some ((done ++ body ∷ []) ++ more)
 list_after file done rest more body list is = list ∙ ap Some (ap (λ (l : List Body). done ++ l) is ∙ sym (append_assoc done (body ∷ []) more))
 
-next_place : (done : List Body) (body : Body) (at next : ℕ) → at ≡ length (spelled 1 done) → next ≡ at + 5 + length body → next ≡ length (spelled 1 (done ++ body ∷ []))
+pub next_place : (done : List Body) (body : Body) (at next : ℕ) → at ≡ length (spelled 1 done) → next ≡ at + 5 + length body → next ≡ length (spelled 1 (done ++ body ∷ []))
 next_place done body at next place next_is = omega (arith, place, next_is, ap length (spelled_push 1 done body), length-append (spelled 1 done) (1 ∷ framed body), length-framed body)
 
 module _ (region generation : ℕ) (file : List ℕ) (at : ℕ) (w : Walked region generation file at) where

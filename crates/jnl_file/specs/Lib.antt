@@ -3,3 +3,4 @@ pub mod Journal
 pub mod Reading
 pub mod Begin
 pub mod Errors
+pub mod Generations

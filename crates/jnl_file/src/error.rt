@@ -58,3 +58,18 @@ impl From<NoMemory> for JournalError {
         JournalError::NoMemory
     }
 }
+
+/// Why reading a region's journals gave up.
+#[derive(Clone, Copy, Debug, PartialEq, Eq, Error)]
+pub enum GenerationsError {
+    /// A call of the disk failed: its count of faults has risen.
+    #[error("a disk call failed")]
+    Failed,
+    /// At this place of this file, in bytes from its start, stands no gate of the format, or a body that is no record's or
+    /// that of a record that can't stand there.
+    #[error("file {file} is no journal at {offset}")]
+    NotAFile { file: u32, offset: u64 },
+    /// There was no memory.
+    #[error("out of memory")]
+    NoMemory,
+}

@@ -1,9 +1,9 @@
-//! Worked bytes of a journal, and crashes of one.
+//! Worked bytes of a journal, crashes of one, and generations of a region.
 ghost use Rattle.std.specs.Prelude.{◌≡◌, ◌≤◌, ◌<◌, ◌^◌, [], Some, IfSome, IfOk, OnOk};
 ghost use Rattle.disk_defs.specs.Gates.{records};
 ghost use Rattle.jnl_file.specs.Journal.{IsReady};
 
-use super::{Journal, JournalError, journal_file};
+use super::{GenerationsError, Journal, JournalError, is_unbegun, journal_file, read_generations};
 use jnl_record::JnlRecord;
 use repl_disk::{Disk, MemDisk};
 use std::alloc::Global;
@@ -121,6 +121,102 @@ fn crashes_at_each_call(rt: HostRuntime) -> Result<(), Fail> {
             let left = count(alloc, &mut disk)?.ok_or("other records")?;
             assert!(rt; done && left == 4 || !done && left <= 4);
             assert!(rt; calls < MAKING || left >= 1, "pick {pick}, calls {calls}");
+        }
+    }
+    Ok(())
+}
+
+/// So many calls of a disk read two journals of one record each.
+const READING: u64 = 14;
+
+/// Generation 1 of region 0 as `FILE`, with an epoch of 5 entries and a block behind its PINI.
+const WITH_EPOCH: [u8; 37] = [
+    1, 0, 0, 0, 12, 1, 1, 0, 1, 0, 0, 0, 1, 0, 0, 0, 0, 1, 0, 0, 0, 14, 2, 0, 0, 0, 0, 0, 0, 0, 0,
+    5, 0, 0, 0, 1, 0,
+];
+
+/// A journal that has its PINI alone.
+fn with_pini(region: u8, generation: u8, previous: u8) -> [u8; 18] {
+    let mut bytes = FILE;
+    bytes[7] = region;
+    bytes[12] = generation;
+    bytes[16] = previous;
+    bytes
+}
+
+/// Writes these bytes at the start of a file.
+fn write_bytes<D: Disk>(disk: &mut D, file: u32, bytes: &[u8]) -> Result<(), Fail> {
+    disk.room(file, 1, bytes.len() as u64)?;
+    disk.write_at(file, 0, bytes)?;
+    Ok(())
+}
+
+/// The file and the place at which reading two generations of region 0 stops, or `None` where it doesn't stop so.
+fn stop<D: Disk>(alloc: Global, disk: &mut D) -> Option<(u32, u64)> {
+    match read_generations(alloc, disk, 0, 2) {
+        Err(GenerationsError::NotAFile { file, offset }) => Some((file, offset)),
+        _ => None,
+    }
+}
+
+#[test]
+fn two_generations_as_one_list(rt: HostRuntime) -> Result<(), Fail> {
+    let alloc = rt.alloc();
+    let mut disk = MemDisk::new(alloc)?;
+    write_bytes(&mut disk, 24, &WITH_EPOCH)?;
+    write_bytes(&mut disk, 32, &with_pini(0, 2, 1))?;
+    let read = read_generations(alloc, &mut disk, 0, 2)?;
+    assert_eq!(rt; read.last_began, 2);
+    assert_eq!(rt; read.records.len(), 3);
+    assert_eq!(rt; read.records[1].generation, 1);
+    assert!(rt; matches!(&read.records[1].what, JnlRecord::Epoch { number: 5, .. }));
+    assert_eq!(rt; read.records[2].generation, 2);
+    Ok(())
+}
+
+#[test]
+fn a_generation_without_records(rt: HostRuntime) -> Result<(), Fail> {
+    let alloc = rt.alloc();
+    let mut disk = MemDisk::new(alloc)?;
+    write_bytes(&mut disk, 24, &with_pini(0, 1, 0))?;
+    write_bytes(&mut disk, 40, &with_pini(0, 3, 1))?;
+    assert!(rt; is_unbegun(alloc, &mut disk, 0, 2)?);
+    assert!(rt; !is_unbegun(alloc, &mut disk, 0, 3)?);
+    assert_eq!(rt; read_generations(alloc, &mut disk, 0, 2)?.last_began, 1);
+    let read = read_generations(alloc, &mut disk, 0, 3)?;
+    assert_eq!(rt; read.last_began, 3);
+    assert_eq!(rt; read.records.len(), 2);
+    Ok(())
+}
+
+#[test]
+fn journals_that_are_none(rt: HostRuntime) -> Result<(), Fail> {
+    let alloc = rt.alloc();
+    let mut disk = MemDisk::new(alloc)?;
+    write_bytes(&mut disk, 24, &with_pini(1, 1, 0))?;
+    assert_eq!(rt; stop(alloc, &mut disk), Some((24, 0)));
+    write_bytes(&mut disk, 24, &with_pini(0, 1, 0))?;
+    write_bytes(&mut disk, 32, &with_pini(0, 2, 0))?;
+    assert_eq!(rt; stop(alloc, &mut disk), Some((32, 0)));
+    write_bytes(&mut disk, 32, &[1, 0, 0x0f, 0xff, 0xff])?;
+    assert_eq!(rt; stop(alloc, &mut disk), Some((32, 0)));
+    assert!(rt; !is_unbegun(alloc, &mut disk, 0, 2)?);
+    Ok(())
+}
+
+/// Where a call of the disk fails, reading fails, and gives no list in its place.
+#[test]
+fn reading_fails_at_each_call(rt: HostRuntime) -> Result<(), Fail> {
+    let alloc = rt.alloc();
+    for calls in 0..READING + 1 {
+        let mut disk = MemDisk::new(alloc)?;
+        write_bytes(&mut disk, 24, &with_pini(0, 1, 0))?;
+        write_bytes(&mut disk, 32, &with_pini(0, 2, 1))?;
+        disk.fuse(calls);
+        match read_generations(alloc, &mut disk, 0, 2) {
+            Ok(_) => assert_eq!(rt; calls, READING),
+            Err(GenerationsError::Failed) => assert!(rt; calls < READING),
+            Err(_) => assert!(rt; false, "another error"),
         }
     }
     Ok(())

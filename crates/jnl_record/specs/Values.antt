@@ -1,9 +1,11 @@
 -- What a record of the code stands for.
 use Rattle.std.specs.Prelude.{◌≡◌}
 use Rattle.journal_defs.specs.Journal as journal
+use Rattle.journal_defs.specs.Sequence.{Placed}
 use Rattle.gvn_model.specs.Entries.{origin_value}
 use Rattle.jnl_record.specs.declared.record.JnlRecord.{JnlRecord}
 use Rattle.jnl_record.specs.declared.record.JnlRecord.TheVariants.{Pini, Epoch, Pblk, Tcom}
+use Rattle.jnl_record.specs.declared.placed.PlacedRecord.{PlacedRecord}
 
 -- the version isn't part of it
 abbrev pub record_value : JnlRecord → journal.JournalRecord
@@ -18,3 +20,6 @@ IsFirstVersion (Pini version region before generation previous) = version ≡ 1
 IsFirstVersion (Epoch closing number blocks) = Unit {0}
 IsFirstVersion (Pblk block image) = Unit {0}
 IsFirstVersion (Tcom number mask origin count items) = Unit {0}
+
+abbrev pub placed_value : PlacedRecord → Placed
+placed_value p = record { generation = p.generation; what = record_value p.what }

@@ -4,12 +4,14 @@
 mod fields;
 mod kinds;
 mod parts;
+mod placed;
 mod reading;
 mod record;
 #[cfg(test)]
 mod tests;
 mod writing;
 
+pub use placed::PlacedRecord;
 pub use reading::decode;
 pub use record::{JnlRecord, RecordError};
 pub use writing::encode;

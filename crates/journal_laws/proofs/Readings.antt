@@ -259,7 +259,7 @@ holds_one P file rs qs one h k =
     let same : h.0 ≡ k.0 = (let a : records file ≡ Some h.0 = h.1 in let b : records file ≡ Some k.0 = k.1 in cc) in
     zip_one P k.0 rs qs one (subst (λ (bs : List Body). AllZip P bs rs) same h.2) k.2
 
-journals_one : (files : Files) (r g : ℕ) (l m : ℕ) (js ks : List Placed) → IsJournal files r g l js → IsJournal files r g m ks → (l ≡ m) × (js ≡ ks)
+pub journals_one : (files : Files) (r g : ℕ) (l m : ℕ) (js ks : List Placed) → IsJournal files r g l js → IsJournal files r g m ks → (l ≡ m) × (js ≡ ks)
 journals_one files r zero l m js ks h k = (h.0 ∙ sym k.0, h.1 ∙ sym k.1)
 journals_one files r (suc g) l m js ks h k =
     let older = journals_one files r g h.0 k.0 h.1 k.1 h.3 k.3 in

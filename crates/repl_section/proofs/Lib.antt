@@ -1,3 +1,5 @@
 pub mod Results
 pub mod Standing
 pub mod Turns
+pub mod Room
+pub mod Replied

@@ -2,6 +2,7 @@
 use Rattle.std.proofs.Common.{◌≡◌, ℕ, zero, suc, ◌+◌, ◌-◌, ◌<◌, ◌≤◌, ◌⊎◌, inl, inr, Bool, true, false, List, [], ◌∷◌, ◌++◌, length, take, drop, get_or, set, refl, ap, sym, ◌∙◌, subst, arith, append_assoc, append-nil, nat_lt, if◌then◌else◌, length-append, None, Some}
 use Rattle.std.specs.List.{flat_map}
 use Rattle.std.specs.Prelude.{Option, slice_get, IsTrue}
+use Rattle.std.proofs.Math.Seq.{take-length, take-append_seam}
 use Rattle.std.proofs.lemmas.Bool.{le-ltb, ltb-false}
 use Rattle.std.proofs.lemmas.List.{set-get_or, take_more}
 use Rattle.std.proofs.lemmas.List.Concat.{flat_map-append}
@@ -151,21 +152,13 @@ one_gone v w stamp told c t p u left undecided all r1 r2 t0 t1 t2 h k s same = r
   };
 }
 
-take_all : {X : Type 0} (xs ys : List X) → take (length xs) (xs ++ ys) ≡ xs
-take_all [] ys = refl
-take_all (x ∷ xs) ys = ap (λ zs. x ∷ zs) (take_all xs ys)
-
-pub take_whole : {X : Type 0} (xs : List X) → take (length xs) xs ≡ xs
-take_whole [] = refl
-take_whole (x ∷ xs) = ap (λ zs. x ∷ zs) (take_whole xs)
-
 all_front : (seq : Sequence) (c : Contents) (low : ℕ) → low ≤ length seq → IsFrontOf seq low c (with_sequence c seq)
-all_front seq c low l = record { count = length seq; least = l; most = omega arith; is = ap (with_sequence c) (sym (take_whole seq)) }
+all_front seq c low l = record { count = length seq; least = l; most = omega arith; is = ap (with_sequence c) (sym (take-length seq)) }
 
 -- all but the entry that was appended
 old_front : (seq : Sequence) (p : Turn) (c : Contents) → Appends seq p → IsFrontOf p.sequence (length seq) c (with_sequence c seq)
 old_front seq p c a = subst (λ (x : Sequence). IsFrontOf x (length seq) c (with_sequence c seq)) (sym a.sequence)
-    (record { count = length seq; least = omega arith; most = omega (arith, longer seq a.entry); is = ap (with_sequence c) (sym (take_all seq (a.entry ∷ []))) })
+    (record { count = length seq; least = omega arith; most = omega (arith, longer seq a.entry); is = ap (with_sequence c) (sym (take-append_seam seq (a.entry ∷ []))) })
 
 failed_by : (v w : View) (stamp : Stamp) (told : Bool) (c : Contents) (t p : Turn) (u : ℕ) (left : List (List Job)) (undecided all : ℕ) (r1 : Reign) (t0 t1 : List ℕ)
     → HasGone v stamp told c t left undecided all r1 t0 t1 → Appends t.sequence p → (IsTrue told → MayHave w (with_sequence c t.sequence) p.sequence)

@@ -2,14 +2,16 @@
 use Rattle.std.specs.Prelude.{◌≡◌, ◌⊎◌, ◌≤◌, ℕ, ◌+◌, Bool, true, List, [], ◌∷◌, ◌++◌, length, take, IsTrue, IsSome}
 use Rattle.std.specs.List.{flat_map}
 use Rattle.disk_defs.specs.Disk.{View, Files, Image}
-use Rattle.global_defs.specs.Entry.{Stamp, Entry, Sequence}
+use Rattle.global_defs.specs.Entry.{Stamp, Entry, Sequence, Globals}
 use Rattle.global_defs.specs.Jobs.{Job}
 use Rattle.global_defs.specs.Evaluation.{Evaluated}
+use Rattle.global_defs.specs.Evaluation as evaluation
 use Rattle.global_defs.specs.Serial.{Turn, Replied, decided, begun}
 use Rattle.world_defs.specs.World.{Contents}
 use Rattle.world_defs.specs.Rows.{with_sequence, IsFrontOf, turn_of}
 use Rattle.world_defs.specs.Ties.{IsSite}
 use Rattle.world_defs.specs.Output.{reply_line, is_past, printed}
+use Rattle.site_store.specs.Site.{HasRoomFor}
 use Rattle.repl_section.specs.declared.reign.Reign.{Reign}
 use Rattle.repl_section.specs.declared.running.RunError.{RunError}
 use Rattle.repl_section.specs.declared.running.RunError.TheVariants as run
@@ -18,6 +20,11 @@ use Rattle.repl_section.specs.Reigns.{Reigns, stamp_of}
 -- what an updater's next job comes to that was evaluated so, where these are the next serials and the entries
 abbrev pub outcome : Stamp → List ℕ → Sequence → ℕ → Evaluated → Turn
 outcome stamp serials seq u evaluated = decided stamp (begun serials [] seq) u evaluated
+
+-- updates, if there are some, leave no more nodes than there may be
+abbrev pub FitsIn : Globals → Evaluated → Type 0
+FitsIn g (evaluation.Done updates answers) = 1 ≤ length updates → HasRoomFor g updates
+FitsIn g (evaluation.RolledBack cause) = Unit {0}
 
 -- each image stands for these contents, or for those with this sequence
 pub record MayHave (v : View) (c : Contents) (after : Sequence) : Type 0 where

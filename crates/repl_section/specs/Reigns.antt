@@ -1,5 +1,5 @@
 -- A reign beside its disk.
-use Rattle.std.specs.Prelude.{ℕ, Bool, [], length, Option, Some, None}
+use Rattle.std.specs.Prelude.{Bool, [], length, Option, Some, None}
 use Rattle.disk_defs.specs.Disk.{View}
 use Rattle.global_defs.specs.Entry as defs
 use Rattle.gvn_model.specs.declared.reign.Stamp.{Stamp}

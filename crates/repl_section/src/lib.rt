@@ -4,9 +4,16 @@
 //! before its reply is written; all others have their reply at once.
 #![tactic(auto)]
 
+mod deciding;
+mod entering;
+mod error;
+mod fitting;
 mod reign;
 mod replying;
 mod running;
+#[cfg(test)]
+mod tests;
 
+pub use error::DecideError;
 pub use reign::Reign;
 pub use running::RunError;

@@ -6,6 +6,7 @@ ghost use Rattle.site_store.specs.Site.{IsReady, HasReign};
 ghost use Rattle.repl_section.specs.Reigns.{Reigns, stamp_of};
 ghost use Rattle.repl_section.specs.Deciding.{HasDecided, Breaks, IsFault};
 
+use crate::error::DecideError;
 use crate::reign::Reign;
 use gvn_key::Bytes;
 use gvn_model::Jobs;
@@ -50,6 +51,17 @@ impl Reign {
         ensures later { (D.disk disk.old).faults ≤ (D.disk disk.new).faults }
         ensures cause { IfErr result (λ e. IsFault e → Rose (D.disk disk.old).faults (D.disk disk.new).faults) }
     {
-        Err(RunError::NoMemory)
+        let mut undecided = order.len() as u64;
+        for updater in order {
+            let Some(job) = jobs.take_next(*updater) else {
+                continue;
+            };
+            match self.decide(alloc, disk, *updater, &job, text) {
+                Ok(()) => undecided -= 1,
+                Err(DecideError::Failed) => return Err(RunError::Failed { undecided }),
+                Err(DecideError::NoMemory) => return Err(RunError::NoMemory),
+            }
+        }
+        Ok(())
     }
 }

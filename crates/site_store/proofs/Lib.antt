@@ -1,1 +1,11 @@
 pub mod Standing
+pub mod Images
+pub mod Frames
+pub mod Remembered
+pub mod Begun
+pub mod Items
+pub mod Nodes
+pub mod Parts
+pub mod Committed
+pub mod Waiting
+pub mod Hardened

@@ -1,2 +1,4 @@
 pub mod Site
 pub mod Opening
+pub mod Reigning
+pub mod Committing

@@ -1,6 +1,6 @@
 -- An open site beside its disk.
 use Rattle.std.specs.Prelude.{◌≡◌, ◌≢◌, ◌≤◌, ◌<◌, ◌^◌, ◌++◌, ℕ, suc, Bool, List, [], ◌∷◌, length, take, drop, map, fold, Option, Some, None, IsTrue, IsSomeAnd}
-use Rattle.std.specs.List.{AllByRecursion, enumerate_from, filter_map}
+use Rattle.std.specs.List.{AllByRecursion, enumerate_from}
 use Rattle.std.specs.FinMap as globals
 use Rattle.disk_defs.specs.Disk.{Files, View, Image}
 use Rattle.global_defs.specs.Entry as defs
@@ -21,7 +21,6 @@ use Rattle.journal_defs.specs.Growth.{NonePast, AreEntries, tcoms}
 use Rattle.journal_defs.specs.Sound.{NoEpochPast}
 use Rattle.journal_defs.specs.Fit.{IsSoundImage, HasFewNodes}
 use Rattle.instance_file.specs.Instance as instances
-use Rattle.jnl_file.specs.Records.{Recorded}
 use Rattle.jnl_file.specs.Journal as journals
 use Rattle.world_defs.specs.World.{Contents}
 use Rattle.world_defs.specs.Rows.{with_sequence}

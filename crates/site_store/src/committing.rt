@@ -7,15 +7,56 @@ ghost use Rattle.gvn_model.specs.Reigns.{stamp_value};
 ghost use Rattle.world_defs.specs.World.{Contents};
 ghost use Rattle.world_defs.specs.Rows.{with_sequence, IsFrontOf};
 ghost use Rattle.world_defs.specs.Ties.{IsSite};
+ghost use Rattle.disk_defs.specs.Frames.{Only, OthersStay};
+ghost use Rattle.jnl_file.specs.Records.{Recorded};
+ghost use Rattle.jnl_file.specs.Journal as journals;
+ghost use Rattle.jnl_file.specs.Journal.{HasRecords, IsPrepared};
+ghost use Rattle.site_store.specs.Committing.{recorded, Enters, IsSameSite};
 ghost use Rattle.site_store.specs.Site.{IsReady, IsOpen, HasReign, HasAppended, HasRoomFor, with_entry};
 
 use crate::error::SiteError;
+use crate::fitting::check_room;
+use crate::recording::record_of;
 use crate::site::OpenSite;
+use gvn_key::NoMemory;
 use gvn_model::Transaction;
 use repl_disk::Disk;
 use std::alloc::Global;
 
+/// The last number that an entry may have.
+const LAST_NUMBER: u64 = (1 << 40) - 1;
+
 impl OpenSite {
+    /// Takes all memory and room for a transaction as the next entry, and takes it into memory. Without memory some of its updates
+    /// may be made.
+    fn prepare<D: Disk>(
+        &mut self,
+        alloc: Global,
+        disk: &mut D,
+        t: &Transaction,
+    ) -> Result<u64, NoMemory>
+        requires ready { journals.IsReady (D.disk disk.old) self.old.journal }
+        requires form { IsTransaction (transaction_value t.now) }
+        requires room { length self.old.entries.items + 1 < 2 ^ 40 }
+        ensures ready { journals.IsReady (D.disk disk.new) self.new.journal }
+        ensures enters { OnOk result (Enters self.old self.new t.now) }
+        ensures number { IfOk result (λ n. n ≡ length self.old.entries.items + 1) }
+        ensures prepared { OnOk result (IsPrepared self.new.journal (recorded (length self.old.entries.items + 1) (transaction_value t.now))) }
+        ensures syncs { OnOk result (2 ≤ self.new.journal.gated.syncs_left) }
+        ensures state { (s : Recorded) → HasRecords (D.disk disk.old) self.old.journal s → HasRecords (D.disk disk.new) self.new.journal s }
+        ensures same { IsSameSite self.old self.new }
+        ensures any_moment { AtEachMoment (D.disk disk.old) (D.disk disk.new) (Image (D.disk disk.old)) }
+        ensures frame { OthersStay (Only self.old.journal.gated.file) (D.disk disk.old) (D.disk disk.new) }
+        ensures faults { (D.disk disk.new).faults ≡ (D.disk disk.old).faults }
+    {
+        let entry = self.next_entry(t)?;
+        let number = entry.number;
+        let record = record_of(alloc, number, &entry.transaction)?;
+        self.journal.prepare(disk, &record)?;
+        self.remember(entry)?;
+        Ok(number)
+    }
+
     /// Makes a transaction the next entry, under the reign that was begun: takes all memory, and appends it to the journal. It
     /// answers the entry's number. The entry is on the disk for good once it's hardened.
     ///
@@ -52,7 +93,17 @@ impl OpenSite {
         ensures cause { (fault : ℕ) → IsErrOf result (SiteError.Failed fault) → Rose (D.disk disk.old).faults (D.disk disk.new).faults }
         ensures no_other { IsErrOf result SiteError.GenLimit ⊎ IsErrOf result SiteError.ReignLimit ⊎ ((file : ℕ) × (offset : ℕ) × IsErrOf result (SiteError.NotAFile file offset)) → ⊥ }
     {
-        Err(SiteError::NoMemory)
+        if LAST_NUMBER <= self.entries.len() as u64 {
+            return Err(SiteError::SeqLimit);
+        }
+        check_room(alloc, &self.globals, &t.updates)?;
+        let number = self.prepare(alloc, disk, t)?;
+        match self.journal.append(disk) {
+            Ok(()) => Ok(number),
+            Err(_) => Err(SiteError::Failed {
+                fault: disk.faults(),
+            }),
+        }
     }
 
     /// Puts all entries on the disk for good, and answers how many there are. It takes no memory.
@@ -74,7 +125,17 @@ impl OpenSite {
         ensures later { (D.disk disk.old).faults ≤ (D.disk disk.new).faults }
         ensures count { (fault : ℕ) → IsErrOf result (SiteError.Failed fault) → fault ≡ (D.disk disk.new).faults }
         ensures cause { (fault : ℕ) → IsErrOf result (SiteError.Failed fault) → Rose (D.disk disk.old).faults (D.disk disk.new).faults }
+        ensures failed { OnErr result ((fault : ℕ) × IsErrOf result (SiteError.Failed fault)) }
+        ensures no_memory { IsErrOf result SiteError.NoMemory → ⊥ }
     {
-        Err(SiteError::NoMemory)
+        match self.journal.harden(disk) {
+            Ok(()) => {
+                self.hardened = self.entries.len() as u64;
+                Ok(self.hardened)
+            }
+            Err(_) => Err(SiteError::Failed {
+                fault: disk.faults(),
+            }),
+        }
     }
 }

@@ -9,8 +9,11 @@
 
 mod committing;
 mod creating;
+mod entering;
 mod error;
+mod fitting;
 mod opening;
+mod recording;
 mod reigning;
 mod site;
 

@@ -1,7 +1,8 @@
 //! Beginning a reign.
-ghost use Rattle.std.specs.Prelude.{◌≡◌, ◌⊎◌, ◌≤◌, ℕ, Bool, true, length, Some, None, IfOk, IfSome, OnOk, OnErr, IsErrOf, IsSome};
+ghost use Rattle.std.specs.Prelude.{◌≡◌, ◌⊎◌, ◌≤◌, ◌<◌, ◌^◌, ℕ, Bool, true, length, map, Some, None, IfOk, IfSome, OnOk, OnErr, IsErrOf, IsSome};
 ghost use Rattle.disk_defs.specs.Disk.{Files, Image, AtEachMoment, Rose};
-ghost use Rattle.gvn_model.specs.Reigns.{stamp_value};
+ghost use Rattle.gvn_model.specs.Reigns.{stamp_value, reign_value};
+ghost use Rattle.instance_file.specs.Values.{record_value};
 ghost use Rattle.journal_defs.specs.Instance.{site_name};
 ghost use Rattle.world_defs.specs.Answers.{ReignLimit};
 ghost use Rattle.world_defs.specs.World.{Contents};
@@ -9,14 +10,54 @@ ghost use Rattle.world_defs.specs.Refusals.{reign_limit};
 ghost use Rattle.world_defs.specs.Rows.{with_reign, next_stamp};
 ghost use Rattle.world_defs.specs.Ties.{IsSite};
 ghost use Rattle.site_store.specs.Site.{Remembers, IsReady, IsOpen, WasOpened, HasReign};
+ghost use Rattle.site_store.specs.Reigning.{IsNextReign, HasReignLeft, HasNoReignLeft};
 
 use crate::error::SiteError;
 use crate::site::OpenSite;
-use gvn_model::Stamp;
+use gvn_key::{Bytes, NoMemory};
+use gvn_model::{Reign, Stamp};
+use instance_file::{InstanceError, InstanceRecord};
 use repl_disk::Disk;
 use std::alloc::Global;
 
+/// How many reigns may begin by the length.
+const MOST_REIGNS: usize = 32_768;
+
+/// The name in a CREATE that these records begin with, or no byte where they begin with another one.
+fn name_in(alloc: Global, records: &[InstanceRecord]) -> Result<Bytes, NoMemory>
+    ensures { IfOk result (λ made. made ≡ site_name (map record_value records.now)) }
+{
+    match records {
+        [InstanceRecord::Create { name, .. }, ..] => Bytes::of(alloc, name.as_slice()),
+        _ => Ok(Bytes::new(alloc)),
+    }
+}
+
 impl OpenSite {
+    /// The reign that begins behind the last entry, under the site's own name and the next cycle.
+    fn next_reign(&self, alloc: Global) -> Result<Reign, SiteError>
+        requires { length self.now.entries.items < 2 ^ 40 }
+        ensures reign { IfOk result (λ r. IsNextReign self.now (reign_value r)) }
+        ensures room { OnOk result (HasReignLeft self.now) }
+        ensures limit { IsErrOf result SiteError.ReignLimit → HasNoReignLeft self.now }
+        ensures causes { OnErr result (IsErrOf result SiteError.ReignLimit ⊎ IsErrOf result SiteError.NoMemory) }
+    {
+        if MOST_REIGNS <= self.history().len() {
+            return Err(SiteError::ReignLimit);
+        }
+        let Some(cycle) = self.instance.draw_cycle() else {
+            return Err(SiteError::ReignLimit);
+        };
+        let stamp = Stamp {
+            root: name_in(alloc, self.instance.records().as_slice())?,
+            cycle,
+        };
+        Ok(Reign {
+            stamp,
+            start: self.entries.len() as u64 + 1,
+        })
+    }
+
     /// Begins a reign under the site's own name and the next cycle, and answers its stamp. All entries have to be hardened, and
     /// no reign may have begun past them.
     ///
@@ -45,6 +86,21 @@ impl OpenSite {
         ensures cause { (fault : ℕ) → IsErrOf result (SiteError.Failed fault) → Rose (D.disk disk.old).faults (D.disk disk.new).faults }
         ensures causes { OnErr result (IsErrOf result SiteError.ReignLimit ⊎ ((fault : ℕ) × IsErrOf result (SiteError.Failed fault)) ⊎ IsErrOf result SiteError.NoMemory) }
     {
-        Err(SiteError::NoMemory)
+        let reign = self.next_reign(alloc)?;
+        let kept = reign.stamp.copy()?;
+        let told = reign.stamp.copy()?;
+        match self.instance.reign(disk, &reign) {
+            Ok(()) => {}
+            Err(InstanceError::Failed) => {
+                return Err(SiteError::Failed {
+                    fault: disk.faults(),
+                });
+            }
+            Err(InstanceError::NotARecord { .. } | InstanceError::NoMemory) => {
+                return Err(SiteError::NoMemory);
+            }
+        }
+        self.stamp = Some(kept);
+        Ok(told)
     }
 }

@@ -1,0 +1,94 @@
+use Rattle.std.proofs.Common.{rules, ◌≡◌, ◌+◌, ℕ, suc, ◌≤◌, List, [], map, Err, IfSome, refl, sym, ◌∙◌, ap, subst, arith}
+use Rattle.disk_defs.specs.Disk.{Image}
+use Rattle.disk_defs.proofs.Frames.{others_same}
+use Rattle.disk_defs.proofs.Moments.{started, nothing_new}
+use Rattle.journal_defs.specs.Numbers.{journal_file}
+use Rattle.journal_defs.specs.Sequence.{Placed}
+use Rattle.journal_defs.specs.Stands.{IsJournal}
+use Rattle.jnl_record.specs.Values.{placed_value}
+use Rattle.jnl_file.specs.Errors.{error_in}
+use Rattle.jnl_file.specs.Generations.{AreJournals, AreDurable, IsOutsideGenerations}
+use Rattle.jnl_file.specs.declared.error.JournalError.TheVariants.{NotARecord}
+use Rattle.jnl_file.specs.declared.error.GenerationsError.TheVariants.{NotAFile}
+use Rattle.jnl_file.proofs.Newer.{all_told}
+use Rattle.jnl_file.proofs.Outside.{told_no_journal}
+use Rattle.jnl_file.proofs.Chain.{told_joins, told_durable, told_wrong, frame_joins, named_by}
+use Rattle.jnl_file.proofs.generations.read_generations.Goals as goal
+
+pub loop-before-init : goal.loop-before-init
+loop-before-init g c =
+    let u = g.D.Disk.disk c.args.disk.now in
+    let none : c.new-records.result.items ≡ [] = search rules in
+    record {
+      read = subst (λ (ps : List Placed). IfSome u.content (λ files. IsJournal files c.args.region 0 0 ps)) (sym (ap (map placed_value) none)) (all_told u.content (λ files. IsJournal files c.args.region 0 0 []) (λ files. (refl, refl)));
+      version = search rules;
+      began = omega arith;
+      durable = all_told u.content (AreDurable u c.args.region 0) (λ files h first most. absurd (omega (arith, first, most)));
+      content = refl;
+      moments = started u (Image u) (λ i now. now);
+      frame = others_same (AreJournals c.args.region c.args.last) u;
+      faults = omega arith;
+    }
+
+pub loop-before-preserved : goal.loop-before-preserved
+loop-before-preserved g c =
+    let view = g.D.Disk.disk in
+    let l = c.loop-before in
+    let inv = l.invariant in
+    let call = c.in-Ok.ensures in
+    let u = view c.args.disk.now in
+    let v = view l.disk in
+    let w = view c.read_generation.new.disk in
+    let r = c.args.region in
+    let n = l.before + 1 in
+    let next : l.before + 1 ≡ suc l.before = omega arith in
+    let least : 1 ≤ l.before + 1 = omega arith in
+    let most : l.before + 1 ≤ c.args.last = omega arith in
+    record {
+      read = told_joins u v w r l.before n next inv.content l.last_began c.in-Ok.began (map placed_value l.records.items) (map placed_value c.read_generation.new.into.items) inv.read call.read;
+      version = call.version inv.version;
+      began = search rules;
+      durable = told_durable u v w r l.before n next inv.content c.read_generation.ensures.frame inv.durable call.durable;
+      content = c.read_generation.ensures.content ∙ inv.content;
+      moments = nothing_new u v w (Image u) (g.met.D.Disk.lawful l.disk) inv.moments c.read_generation.ensures.any_moment;
+      frame = frame_joins u v w r l.before n next inv.content c.args.last least most inv.frame c.read_generation.ensures.frame;
+      faults = omega (arith, inv.faults, c.read_generation.ensures.later);
+    }
+
+pub returns-in-Err-clause-outside : goal.returns-in-Err-clause-outside
+returns-in-Err-clause-outside g c file offset is =
+    let view = g.D.Disk.disk in
+    let l = c.loop-before in
+    let inv = l.invariant in
+    let u = view c.args.disk.now in
+    let r = c.args.region in
+    let next : l.before + 1 ≡ suc l.before = omega arith in
+    let most : l.before + 1 ≤ c.args.last = omega arith in
+    let same : c.in_file.result ≡ NotAFile file offset = search (rules, is) in
+    let told : error_in c.journal_file.result c.in-Err.error ≡ NotAFile file offset = cc (c.in_file.ensures, same) in
+    let named = named_by c.journal_file.result c.in-Err.error file offset told in
+    let place : journal_file (l.before + 1) r ≡ file = cc (c.journal_file.ensures, named.file_is) in
+    let failed : c.read_generation.result ≡ Err (NotARecord offset) = cc (c.in-Err.is, named.error) in
+    let wrong = c.read_generation.ensures.outside offset (search (rules, failed)) in
+    subst (λ (f : ℕ). IfSome u.content (λ files. IsOutsideGenerations files r c.args.last f offset)) place
+    (told_wrong u (view l.disk) (view c.read_generation.new.disk) r l.before (l.before + 1) next inv.content c.args.last l.last_began offset (map placed_value l.records.items) most inv.read wrong)
+
+pub returns-in-Err-clause-no_list : goal.returns-in-Err-clause-no_list
+returns-in-Err-clause-no_list g c file offset is =
+    let u = g.D.Disk.disk c.args.disk.now in
+    told_no_journal u.content c.args.region c.args.last file offset (returns-in-Err-clause-outside g c file offset is)
+
+pub returns-in-Err-clause-any_moment : goal.returns-in-Err-clause-any_moment
+returns-in-Err-clause-any_moment g c =
+    let view = g.D.Disk.disk in
+    let l = c.loop-before in
+    nothing_new (view c.args.disk.now) (view l.disk) (view c.read_generation.new.disk) (Image (view c.args.disk.now)) (g.met.D.Disk.lawful l.disk) l.invariant.moments c.read_generation.ensures.any_moment
+
+pub returns-in-Err-clause-frame : goal.returns-in-Err-clause-frame
+returns-in-Err-clause-frame g c =
+    let view = g.D.Disk.disk in
+    let l = c.loop-before in
+    let next : l.before + 1 ≡ suc l.before = omega arith in
+    let least : 1 ≤ l.before + 1 = omega arith in
+    let most : l.before + 1 ≤ c.args.last = omega arith in
+    frame_joins (view c.args.disk.now) (view l.disk) (view c.read_generation.new.disk) c.args.region l.before (l.before + 1) next l.invariant.content c.args.last least most l.invariant.frame c.read_generation.ensures.frame

@@ -1,0 +1,21 @@
+use Rattle.std.proofs.Common.{◌≡◌, ◌≤◌, ◌-◌, ◌^◌, ◌⊎◌, map, IfSome}
+use Rattle.std.specs.List.{AllByRecursion}
+use Rattle.disk_defs.specs.Disk.{Reads}
+use Rattle.jnl_record.specs.Values.{placed_value, IsFirstVersion}
+use Rattle.jnl_file.proofs.Newer.{Reached}
+use Rattle.jnl_file.proofs.generations.read_on.Given as goal
+
+abbrev pub invariant-loop-what : goal.invariant-loop-what
+invariant-loop-what g l =
+    let view = g.D.Disk.disk in
+    record {
+      reached : IfSome (view l.fn.disk).content (λ files. Reached l.fn.region l.fn.generation l.fn.previous (files l.fn.gated.file) l.at (map placed_value l.fn.into.items) (map placed_value l.into.items) l.began);
+      version : AllByRecursion (λ p. IsFirstVersion p.what) l.fn.into.items → AllByRecursion (λ p. IsFirstVersion p.what) l.into.items;
+      began : (l.began ≡ l.fn.previous) ⊎ (l.began ≡ l.fn.generation);
+      same : l.gated ≡ l.fn.gated;
+      reads : Reads (view l.fn.disk) (view l.disk);
+      faults : (view l.fn.disk).faults ≤ (view l.disk).faults;
+    }
+
+abbrev pub decreases-loop-what : goal.decreases-loop-what
+decreases-loop-what g l = 2 ^ 64 - l.at

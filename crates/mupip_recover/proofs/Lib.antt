@@ -1,0 +1,10 @@
+pub mod Least
+pub mod Lookups
+pub mod CutLaws
+pub mod StampLaws
+pub mod Columns
+pub mod SlotLaws
+pub mod RegionLists
+pub mod Completion
+pub mod Counts
+pub mod Runs

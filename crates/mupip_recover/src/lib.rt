@@ -1,0 +1,19 @@
+//! What the open records of a site stand for: its sequence of entries.
+//!
+//! Nothing here reads a disk. The records come as lists: those of the instance file, and those of each region's journals.
+#![tactic(auto)]
+
+mod completing;
+mod cuts;
+mod minima;
+mod part;
+mod recovering;
+mod slots;
+mod stamps;
+mod surviving;
+mod table;
+#[cfg(test)]
+mod tests;
+
+pub use recovering::recover;
+pub use surviving::survives;

@@ -1,0 +1,18 @@
+use Rattle.std.proofs.Common.{◌≡◌, ◌≤◌, ◌+◌, Bool, length}
+use Rattle.site_store.specs.Site.{IsReady, HasReign}
+use Rattle.world_defs.specs.World.{Contents}
+use Rattle.repl_section.specs.Reigns.{Reigns, stamp_of}
+use Rattle.repl_section.proofs.Turns.{HasGone, come_to}
+use Rattle.repl_section.proofs.reign.Reign.run.Given as goal
+
+abbrev pub invariant-loop-updater : goal.invariant-loop-updater
+invariant-loop-updater g l = record {
+  ready : IsReady (g.D.Disk.disk l.disk) l.self.site;
+  reign : HasReign l.self.site;
+  stamp : l.self.site.stamp ≡ l.fn.self.site.stamp;
+  enough : length l.order ≤ l.undecided + l.updater-index;
+  gone : (told : Bool) (c : Contents) → Reigns (g.D.Disk.disk l.fn.disk) told c l.fn.self
+      → HasGone (g.D.Disk.disk l.disk) (stamp_of l.fn.self) told c (come_to (stamp_of l.fn.self) l.fn.self.serials l.fn.jobs l.order l.updater-index c.sequence) l.jobs l.undecided (length l.order) l.self l.fn.text l.text;
+  simulated : (g.D.Disk.disk l.disk).simulated ≡ (g.D.Disk.disk l.fn.disk).simulated;
+  later : (g.D.Disk.disk l.fn.disk).faults ≤ (g.D.Disk.disk l.disk).faults;
+}

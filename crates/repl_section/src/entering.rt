@@ -1,0 +1,75 @@
+//! Giving the site an entry.
+ghost use Rattle.std.specs.Prelude.{◌≡◌, ◌≤◌, ◌<◌, ◌+◌, ◌^◌, ℕ, Bool, true, length, IfOk, OnOk, OnErr, IsErrOf, IsSome};
+ghost use Rattle.disk_defs.specs.Disk.{Files, Image, Rose};
+ghost use Rattle.global_defs.specs.Fields.{IsTransaction};
+ghost use Rattle.gvn_model.specs.Entries.{transaction_value};
+ghost use Rattle.world_defs.specs.World.{Contents};
+ghost use Rattle.world_defs.specs.Rows.{IsFrontOf};
+ghost use Rattle.world_defs.specs.Ties.{IsSite};
+ghost use Rattle.site_store.specs.Site.{IsReady, IsOpen, HasReign, HasAppended, HasRoomFor, with_entry};
+ghost use Rattle.repl_section.specs.Reigns.{Reigns};
+
+use crate::error::DecideError;
+use crate::reign::Reign;
+use gvn_model::Transaction;
+use repl_disk::Disk;
+use site_store::SiteError;
+use std::alloc::Global;
+
+impl Reign {
+    /// Makes a transaction the site's next entry, which isn't hardened yet, and answers its number.
+    pub(crate) fn enter<D: Disk>(
+        &mut self,
+        alloc: Global,
+        disk: &mut D,
+        t: &Transaction,
+    ) -> Result<u64, DecideError>
+        requires ready { IsReady (D.disk disk.old) self.old.site }
+        requires reign { HasReign self.old.site }
+        requires form { IsTransaction (transaction_value t.now) }
+        requires room { length self.old.site.entries.items + 1 < 2 ^ 40 }
+        requires nodes { HasRoomFor self.old.site.globals t.now.updates }
+        ensures ready { OnOk result (IsReady (D.disk disk.new) self.new.site) }
+        ensures reign { OnOk result (HasReign self.new.site) }
+        ensures waits { OnOk result (HasAppended self.new.site) }
+        ensures done { OnOk result ((told : Bool) (c : Contents) → Reigns (D.disk disk.old) told c self.old → IsOpen (D.disk disk.new) told (with_entry self.old.site.stamp (transaction_value t.now) c) (length c.sequence) self.new.site) }
+        ensures number { IfOk result (λ n. n ≡ length self.old.site.entries.items + 1) }
+        ensures stamp { self.new.site.stamp ≡ self.old.site.stamp }
+        ensures serials { self.new.serials ≡ self.old.serials }
+        ensures still_told { IsSome (D.disk disk.old).content → IsSome (D.disk disk.new).content }
+        ensures images { (c : Contents) → Reigns (D.disk disk.old) true c self.old → (f : Files) → Image (D.disk disk.new) f → IsSite f c }
+        ensures simulated { (D.disk disk.new).simulated ≡ (D.disk disk.old).simulated }
+        ensures later { (D.disk disk.old).faults ≤ (D.disk disk.new).faults }
+        ensures cause { IsErrOf result DecideError.Failed → Rose (D.disk disk.old).faults (D.disk disk.new).faults }
+    {
+        match self.site.commit(alloc, disk, t) {
+            Ok(number) => Ok(number),
+            Err(SiteError::Failed { .. }) => Err(DecideError::Failed),
+            Err(SiteError::NoMemory) => Err(DecideError::NoMemory),
+            Err(_) => unreachable!(),
+        }
+    }
+
+    /// Puts the entry that was made on the disk for good.
+    pub(crate) fn harden<D: Disk>(&mut self, disk: &mut D) -> Result<(), DecideError>
+        requires ready { IsReady (D.disk disk.old) self.old.site }
+        requires reign { HasReign self.old.site }
+        requires waits { HasAppended self.old.site }
+        ensures ready { OnOk result (IsReady (D.disk disk.new) self.new.site) }
+        ensures reign { HasReign self.new.site }
+        ensures done { OnOk result ((told : Bool) (c : Contents) (h : ℕ) → IsOpen (D.disk disk.old) told c h self.old.site → Reigns (D.disk disk.new) told c self.new) }
+        ensures stamp { self.new.site.stamp ≡ self.old.site.stamp }
+        ensures serials { self.new.serials ≡ self.old.serials }
+        ensures still_told { IsSome (D.disk disk.old).content → IsSome (D.disk disk.new).content }
+        ensures images { (c : Contents) (h : ℕ) → IsOpen (D.disk disk.old) true c h self.old.site → (f : Files) → Image (D.disk disk.new) f → (o : Contents) × IsFrontOf c.sequence h c o × IsSite f o }
+        ensures simulated { (D.disk disk.new).simulated ≡ (D.disk disk.old).simulated }
+        ensures later { (D.disk disk.old).faults ≤ (D.disk disk.new).faults }
+        ensures cause { IsErrOf result DecideError.Failed → Rose (D.disk disk.old).faults (D.disk disk.new).faults }
+    {
+        match self.site.harden(disk) {
+            Ok(_) => Ok(()),
+            Err(SiteError::Failed { .. }) => Err(DecideError::Failed),
+            Err(_) => Err(DecideError::NoMemory),
+        }
+    }
+}

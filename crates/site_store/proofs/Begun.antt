@@ -1,0 +1,321 @@
+-- A reign begins.
+use Rattle.std.proofs.Common.{◌≡◌, ◌≢◌, ◌⊎◌, inl, inr, ◌≤◌, ◌<◌, ◌+◌, ◌==◌, ℕ, suc, Bool, true, false, List, [], ◌∷◌, ◌++◌, length, map, take, drop, Some, None, refl, sym, ◌∙◌, ap, subst, arith}
+use Rattle.std.specs.Prelude.{Option, IfSome, IsSome, IsSomeAnd, ◌||◌, if◌then◌else◌, nat_le, filter}
+use Rattle.std.specs.List.{AllByRecursion}
+use Rattle.std.specs.Option.{option_or}
+use Rattle.std.proofs.lemmas.Bool.Decides.{nat_tests}
+use Rattle.std.proofs.lemmas.List.Elements.{filter_map-append}
+use Rattle.std.proofs.Math.Seq.{take-length, drop-length}
+use Rattle.disk_defs.specs.Disk.{Files, View, Image, IsLawful, AtEachMoment, ReadsAfter}
+use Rattle.disk_defs.specs.Frames.{Only, OnlyOn, SameOutside, OthersStay}
+use Rattle.disk_defs.proofs.Told.{weaker_told}
+use Rattle.disk_defs.proofs.Moments.{started, weaker, holds_now}
+use Rattle.global_defs.specs.Entry.{Sequence, Reign, Stamp}
+use Rattle.global_defs.specs.Prefix.{stamp_at}
+use Rattle.gvn_model.specs.declared.reign.Stamp as code
+use Rattle.gvn_model.specs.Reigns.{stamp_value}
+use Rattle.journal_defs.specs.Numbers.{INSTANCE, journal_file}
+use Rattle.journal_defs.specs.Journal.{Part}
+use Rattle.journal_defs.specs.Instance.{InstanceRecord, Reigned, IsInstanceBody, generation, regions, site_name, greatest_cycle}
+use Rattle.journal_defs.specs.Directory.{pattern_in}
+use Rattle.journal_defs.specs.Surviving.{reigns}
+use Rattle.journal_defs.specs.Sequence.{Records}
+use Rattle.journal_defs.specs.Stands.{IsInstance}
+use Rattle.journal_defs.specs.Growth.{with_record, AreEntries, tcoms}
+use Rattle.journal_defs.specs.Fit.{IsSoundImage, MOST_REIGNS}
+use Rattle.journal_laws.proofs.Naming as naming
+use Rattle.journal_laws.proofs.Runs as runs
+use Rattle.journal_laws.proofs.Later as later
+use Rattle.journal_laws.proofs.Appending.{journal_same}
+use Rattle.instance_file.specs.Instance as instances
+use Rattle.instance_file.specs.declared.instance.Instance.{Instance}
+use Rattle.jnl_file.specs.Journal as journals
+use Rattle.jnl_file.specs.declared.journal.Journal.{Journal}
+use Rattle.jnl_file.proofs.Others as journal_others
+use Rattle.world_defs.specs.World.{Contents, is_made}
+use Rattle.world_defs.specs.Rows.{with_sequence, with_reign, next_reign}
+use Rattle.world_defs.specs.Refusals.{LAST_CYCLE, reign_limit}
+use Rattle.world_defs.specs.Answers.{ReignLimit}
+use Rattle.world_defs.specs.Ties.{IsSite}
+use Rattle.site_store.specs.declared.site.OpenSite.{OpenSite}
+use Rattle.site_store.specs.Site.{tagged, Remembers, IsReady, Keeps, IsOpen, HasReign}
+use Rattle.site_store.specs.Reigning.{HasNoReignLeft, HasReignLeft, IsNextReign}
+use Rattle.site_store.proofs.Standing.{images_stand}
+use Rattle.site_store.proofs.Images.{same_bodies, one_instance_body, same_image, reign_image, generation_kept, AreOf, are_of, site_of}
+use Rattle.site_store.proofs.Remembered.{remembered_length}
+
+-- limits
+filter_all : (n : ℕ) (rs : List Reign) → AllByRecursion (λ (r : Reign). r.start ≤ n) rs → length (filter (λ (r : Reign). nat_le r.start n) rs) ≡ length rs
+filter_all n [] all = refl
+filter_all n (r ∷ rs) all = let yes : nat_le r.start n ≡ true = grind (arith, nat_tests, all.0) in rw yes (ap suc (filter_all n rs all.1))
+
+chosen_one : (a b : Bool) → (a ≡ true) ⊎ (b ≡ true) → (if a || b then Some ReignLimit else None) ≡ Some ReignLimit
+chosen_one true b h = refl
+chosen_one false true h = refl
+chosen_one false false (inl h) = absurd (cc h)
+chosen_one false false (inr h) = absurd (cc h)
+
+chosen_none : (a b : Bool) → a ≡ false → b ≡ false → (if a || b then Some ReignLimit else None) ≡ None
+chosen_none false false h k = refl
+chosen_none true b h k = absurd (cc h)
+chosen_none false true h k = absurd (cc k)
+
+begun_by_now : (c : Contents) (h : ℕ) (s : OpenSite) → Remembers c h s → AllByRecursion (λ (r : Reign). r.start ≤ length s.entries.items) (reigns s.instance.records)
+    → length (filter (λ (r : Reign). nat_le r.start (length c.sequence)) (reigns c.instance)) ≡ length (reigns s.instance.records)
+begun_by_now c h s is all =
+    ap (λ (n : ℕ). length (filter (λ (r : Reign). nat_le r.start n) (reigns c.instance))) (sym (remembered_length c h s is))
+    ∙ ap (λ (rs : List InstanceRecord). length (filter (λ (r : Reign). nat_le r.start (length s.entries.items)) (reigns rs))) (sym is.instance)
+    ∙ filter_all (length s.entries.items) (reigns s.instance.records) all
+
+pub limit_reached : (c : Contents) (h : ℕ) (s : OpenSite) → Remembers c h s → AllByRecursion (λ (r : Reign). r.start ≤ length s.entries.items) (reigns s.instance.records) → HasNoReignLeft s → reign_limit c ≡ Some ReignLimit
+limit_reached c h s is all none =
+    let count = begun_by_now c h s is all in
+    let cycles : greatest_cycle s.instance.records ≡ greatest_cycle c.instance = ap greatest_cycle is.instance in
+    chosen_one (nat_le MOST_REIGNS (length (filter (λ (r : Reign). nat_le r.start (length c.sequence)) (reigns c.instance)))) (greatest_cycle c.instance == LAST_CYCLE) (elim none [
+      | inl many ↦ inl (grind (arith, nat_tests, count, many))
+      | inr last ↦ inr (grind (arith, nat_tests, cycles, last))
+    ])
+
+pub limit_open : (c : Contents) (h : ℕ) (s : OpenSite) → Remembers c h s → AllByRecursion (λ (r : Reign). r.start ≤ length s.entries.items) (reigns s.instance.records) → HasReignLeft s → reign_limit c ≡ None
+limit_open c h s is all left =
+    let count = begun_by_now c h s is all in
+    let cycles : greatest_cycle s.instance.records ≡ greatest_cycle c.instance = ap greatest_cycle is.instance in
+    let few = left.reigns in
+    let open_cycle : greatest_cycle c.instance ≢ LAST_CYCLE = λ e. left.cycle (cycles ∙ e) in
+    chosen_none (nat_le MOST_REIGNS (length (filter (λ (r : Reign). nat_le r.start (length c.sequence)) (reigns c.instance)))) (greatest_cycle c.instance == LAST_CYCLE)
+    (grind (arith, nat_tests, count, few)) (grind (arith, nat_tests, open_cycle))
+
+-- the reign
+pub next_is : (c : Contents) (h : ℕ) (s : OpenSite) (r : Reign) → Remembers c h s → IsNextReign s r → r ≡ next_reign (site_name c.instance) c
+next_is c h s r m is =
+    ap (λ (x : List ℕ). record { stamp = record { root = x; cycle = r.stamp.cycle }; start = r.start }) (is.root ∙ ap site_name m.instance)
+    ∙ ap (λ (x : ℕ). record { stamp = record { root = site_name c.instance; cycle = x }; start = r.start }) (is.cycle ∙ ap (λ (l : List InstanceRecord). greatest_cycle l + 1) m.instance)
+    ∙ ap (λ (x : ℕ). record { stamp = record { root = site_name c.instance; cycle = greatest_cycle c.instance + 1 }; start = x }) (is.start ∙ ap (λ (n : ℕ). n + 1) (remembered_length c h s m))
+
+all_past : (n m : ℕ) (rs : List Reign) → AllByRecursion (λ (q : Reign). q.start ≤ n) rs → n < m → AllByRecursion (λ (q : Reign). q.start < m) rs
+all_past n m [] all more = tt
+all_past n m (r ∷ rs) all more = (omega (arith, all.0), all_past n m rs all.1 more)
+
+pub past_all : (s : OpenSite) (r : Reign) → AllByRecursion (λ (q : Reign). q.start ≤ length s.entries.items) (reigns s.instance.records) → IsNextReign s r → AllByRecursion (λ (q : Reign). q.start < r.start) (reigns s.instance.records)
+past_all s r all is = all_past (length s.entries.items) r.start (reigns s.instance.records) all (let e = is.start in omega (arith, e))
+
+stamp_last : (n : ℕ) (rs : List Reign) (r : Reign) → r.start ≤ n → stamp_at n (rs ++ r ∷ []) ≡ Some r.stamp
+stamp_last n [] r le = let yes : nat_le r.start n ≡ true = grind (arith, nat_tests, le) in rw yes refl
+stamp_last n (q ∷ rs) r le = ap (λ (o : Option Stamp). option_or o (if nat_le q.start n then Some q.stamp else None)) (stamp_last n rs r le)
+
+pub has_reign : (old new : OpenSite) (r : Reign) (stamp : code.Stamp) → IsNextReign old r → new.instance.records ≡ old.instance.records ++ Reigned r ∷ [] → new.entries.items ≡ old.entries.items → new.stamp ≡ Some stamp → r.stamp ≡ stamp_value stamp → HasReign new
+has_reign old new r stamp is records entries told same = record {
+  stamp = stamp;
+  is = told;
+  covers = λ n past.
+      let e = is.start in
+      let count : length new.entries.items ≡ length old.entries.items = ap length entries in
+      ap (λ (l : List InstanceRecord). stamp_at n (reigns l)) records ∙ ap (stamp_at n) (runs.reigns-more old.instance.records r)
+      ∙ stamp_last n (reigns old.instance.records) r (omega (arith, e, past, count)) ∙ ap Some same;
+}
+
+-- the images
+abbrev pub reign_of : Contents → Reign
+reign_of c = next_reign (site_name c.instance) c
+
+abbrev pub begun : Contents → Contents
+begun c = with_reign (site_name c.instance) c
+
+are_begun : (c : Contents) (s : Records) → AreOf c s → AreOf (begun c) (with_record s (Reigned (reign_of c)))
+are_begun c s of =
+    let few : 1 ≤ length (regions c.instance) = let e = of.one_region in omega (arith, e) in
+    record {
+      made = by_list c.instance of.made;
+      one_region = ap length (naming.same_regions c.instance (Reigned (reign_of c)) few) ∙ of.one_region;
+      unmapped = filter_map-append pattern_in c.instance (Reigned (reign_of c) ∷ []) ∙ ap (λ l. l ++ []) of.unmapped;
+      instance = ap (λ (l : List InstanceRecord). l ++ Reigned (reign_of c) ∷ []) of.instance;
+      starts = of.starts;
+    }
+  where
+    by_list : (rs : List InstanceRecord) → is_made (record { instance = rs; starts = c.starts; sequence = c.sequence }) ≡ true
+        → is_made (record { instance = rs ++ Reigned (reign_of c) ∷ []; starts = c.starts; sequence = c.sequence }) ≡ true
+    by_list [] made = refl
+    by_list (r ∷ rs) made = grind (arith, nat_tests)
+
+-- the records of the images of a site whose entries are all hardened
+sound_now : (v : View) (c : Contents) (s : OpenSite) (k : Keeps v c (length c.sequence) s) (f : Files) → Image v f → IsSoundImage f k.records c.sequence
+sound_now v c s k f now = subst (IsSoundImage f k.records) (take-length c.sequence) (k.sound f now)
+
+site_now : (v : View) (c : Contents) (s : OpenSite) (k : Keeps v c (length c.sequence) s) (f : Files) → Image v f → IsSite f c
+site_now v c s k f now = subst (λ (seq : Sequence). IsSite f (with_sequence c seq)) (take-length c.sequence) (k.images f now)
+
+one_of : (v : View) (c : Contents) (s : OpenSite) (k : Keeps v c (length c.sequence) s) (f : Files) → Image v f → AreOf c k.records
+one_of v c s k f now = are_of f c k.records (site_now v c s k f now) (sound_now v c s k f now).held
+
+-- an image in which the instance file has the reign
+sound_begun : (v : View) (c : Contents) (s : OpenSite) (k : Keeps v c (length c.sequence) s) → AllByRecursion (λ (q : Reign). q.start < length c.sequence + 1) (reigns c.instance) → (d f : Files) → Image v d → SameOutside (Only INSTANCE) d f
+    → IsInstance (f INSTANCE) (c.instance ++ Reigned (reign_of c) ∷ []) → IsSoundImage f (with_record k.records (Reigned (reign_of c))) c.sequence
+sound_begun v c s k past d f was same now =
+    let own : k.records.instance ≡ c.instance = k.newest.instance in
+    reign_image d f k.records c.sequence (reign_of c) (sound_now v c s k d was) k.none_past
+    (subst (λ (l : List InstanceRecord). length (regions l) ≡ 1) (sym own) (one_of v c s k d was).one_region) (omega arith)
+    (subst (λ (l : List InstanceRecord). AllByRecursion (λ (q : Reign). q.start < length c.sequence + 1) (reigns l)) (sym own) past) same
+    (subst (λ (l : List InstanceRecord). IsInstance (f INSTANCE) (l ++ Reigned (reign_of c) ∷ [])) (sym own) now)
+
+site_begun : (v : View) (c : Contents) (s : OpenSite) (k : Keeps v c (length c.sequence) s) → AllByRecursion (λ (q : Reign). q.start < length c.sequence + 1) (reigns c.instance) → (d f : Files) → Image v d → SameOutside (Only INSTANCE) d f
+    → IsInstance (f INSTANCE) (c.instance ++ Reigned (reign_of c) ∷ []) → IsSite f (begun c)
+site_begun v c s k past d f was same now =
+    site_of f (begun c) (with_record k.records (Reigned (reign_of c))) (are_begun c k.records (one_of v c s k d was)) (sound_begun v c s k past d f was same now)
+
+-- at each moment
+pub reign_moments : (v w : View) (c : Contents) (s : OpenSite) → Keeps v c (length c.sequence) s → AllByRecursion (λ (q : Reign). q.start < length c.sequence + 1) (reigns c.instance)
+    → AtEachMoment v w (OnlyOn v INSTANCE (instances.StandsWith c.instance (Reigned (reign_of c)))) → AtEachMoment v w (λ f. IsSite f c ⊎ IsSite f (begun c))
+reign_moments v w c s k past run = weaker v w (OnlyOn v INSTANCE (instances.StandsWith c.instance (Reigned (reign_of c)))) (λ f. IsSite f c ⊎ IsSite f (begun c)) (λ f q. elim q.here [
+  | inl same ↦ inl (site_of f c k.records (one_of v c s k q.others.0 q.others.1) (kept q.others.0 f q.others.1 q.others.2 same))
+  | inr more ↦ inr (site_begun v c s k past q.others.0 f q.others.1 q.others.2 more)
+]) run
+  where
+    kept : (d f : Files) → Image v d → SameOutside (Only INSTANCE) d f → IsInstance (f INSTANCE) c.instance → IsSoundImage f k.records c.sequence
+    kept d f was same now =
+        let sound = sound_now v c s k d was in
+        let own : k.records.instance ≡ c.instance = k.newest.instance in
+        same_image d f k.records c.sequence INSTANCE sound k.none_past (subst (λ (l : List InstanceRecord). length (regions l) ≡ 1) (sym own) (one_of v c s k d was).one_region) (omega arith) (λ e. omega (arith, e)) same
+        (same_bodies IsInstanceBody one_instance_body (d INSTANCE) (f INSTANCE) k.records.instance sound.held.instance.bodies (subst (λ (l : List InstanceRecord). IsInstance (f INSTANCE) l) (sym own) now).bodies)
+
+-- as it reads
+pub reads_of : (w : View) (P : Files → Type 0) → IsLawful w → ((f : Files) → Image w f → P f) → IfSome w.content P
+reads_of w P lawful images = weaker_told w.content (λ f. w.since w.moment f) P lawful.as_read images
+
+pub reads_so : (w : View) (P : Files → Type 0) → IsLawful w → IsSome w.content → ((f : Files) → Image w f → P f) → IsSomeAnd w.content P
+reads_so w P lawful told images = among w.content told (reads_of w P lawful images)
+  where
+    among : (o : Option Files) → IsSome o → IfSome o P → IsSomeAnd o P
+    among None t h = absurd (cc t)
+    among (Some f) t h = h
+
+-- after it
+no_entries : (a b : List InstanceRecord) (g n : ℕ) (ps : List (ℕ → Option Part)) (es : Sequence) → es ≡ [] → AreEntries a g n ps es → AreEntries b g n ps es
+no_entries a b g n [] [] none h = tt
+no_entries a b g n (p ∷ ps) [] none h = absurd h
+no_entries a b g n ps (e ∷ es) none h = absurd (cc none)
+
+pub told_of : (v : View) (c : Contents) (n : ℕ) (s : OpenSite) → Keeps v c n s → IsSome v.content
+told_of v c n s k = among v.content k.reads
+  where
+    among : (o : Option Files) → IsSomeAnd o (λ files. IsSite files (with_sequence c (take n c.sequence))) → IsSome o
+    among None h = absurd h
+    among (Some f) h = refl
+
+pub still : (v w : View) (F : ℕ → Type 0) → OthersStay F v w → IsSome v.content → IsSome w.content
+still v w F stays told = among v.content w.content told stays.content
+  where
+    among : (o n : Option Files) → IsSome o → ReadsAfter (SameOutside F) o n → IsSome n
+    among None n t h = absurd (cc t)
+    among (Some a) None t h = absurd h
+    among (Some a) (Some b) t h = refl
+
+-- the journal's file isn't the instance file
+journal_away : (j : Journal) (g : ℕ) → j.gated.file ≡ journal_file g 0 → Only INSTANCE j.gated.file → ⊥
+journal_away j g is e = absurd (omega (arith, is, e))
+
+pub ready_begun : (v w : View) (old new : OpenSite) (x : Reign) → IsReady v old → instances.IsReady w new.instance → new.instance.records ≡ old.instance.records ++ Reigned x ∷ [] → new.journal ≡ old.journal → OthersStay (Only INSTANCE) v w → IsReady w new
+ready_begun v w old new x ready instance records journal stays = record {
+  instance = instance;
+  journal = subst (λ (j : Journal). journals.IsReady w j) (sym journal) (journal_others.ready_stays v w (Only INSTANCE) old.journal stays (journal_away old.journal (generation old.instance.records) ready.of.file) ready.journal);
+  of = subst (λ (j : Journal). journals.IsJournalOf j 0 (generation new.instance.records)) (sym journal)
+      (subst (λ (g : ℕ). journals.IsJournalOf old.journal 0 g) (sym (ap generation records ∙ generation_kept old.instance.records x)) ready.of);
+}
+
+instance_in : (w : View) (i : Instance) (rs : List InstanceRecord) → instances.HasRecords w i rs → (f : Files) → Image w f → IsInstance (f INSTANCE) rs
+instance_in w i rs has f now = among w.content has
+  where
+    among : (o : Option Files) → IsSomeAnd o (instances.HoldsRecords w i rs) → IsInstance (f INSTANCE) rs
+    among None h = absurd h
+    among (Some a) h = h.stands f now
+
+keeps_begun : (v w : View) (c : Contents) (old new : OpenSite) (g : ℕ) → Keeps v c (length c.sequence) old → AllByRecursion (λ (q : Reign). q.start < length c.sequence + 1) (reigns c.instance) → IsLawful w → OthersStay (Only INSTANCE) v w
+    → old.journal.gated.file ≡ journal_file g 0 → instances.HasRecords w new.instance (c.instance ++ Reigned (reign_of c) ∷ []) → new.journal ≡ old.journal → Keeps w (begun c) (length c.sequence) new
+keeps_begun v w c old new g k past lawful stays file has journal = record {
+  count = k.count;
+  few_nodes = k.few_nodes;
+  reads = reads_so w (λ files. IsSite files (with_sequence (begun c) (take (length c.sequence) c.sequence))) lawful (still v w (Only INSTANCE) stays (told_of v c (length c.sequence) old k)) site;
+  images = site;
+  records = with_record k.records (Reigned (reign_of c));
+  g = k.g;
+  last = k.last;
+  older = k.older;
+  newer = k.newer;
+  newest = record {
+    generation = generation_kept c.instance (reign_of c) ∙ k.newest.generation;
+    instance = ap (λ (l : List InstanceRecord). l ++ Reigned (reign_of c) ∷ []) k.newest.instance;
+    whole = k.newest.whole;
+    begins = k.newest.begins;
+    begun = k.newest.begun;
+  };
+  sound = sound;
+  older_files = λ f now. let from = stays.images f now in journal_same from.0 f 0 k.g k.last k.older (λ h le. from.2 (journal_file h 0) (λ e. omega (arith, e))) (k.older_files from.0 from.1);
+  none_past = λ n r more. runs.part_of-sparing k.records.instance (Reigned (reign_of c)) n (k.records.journal r) (λ h m. refl) ∙ k.none_past n r more;
+  no_epoch_past = later.none_past_instance c.instance (Reigned (reign_of c)) (length c.sequence) (k.records.journal 0) (λ h m. refl) k.no_epoch_past;
+  waiting = k.waiting;
+  are_waiting = no_entries c.instance (c.instance ++ Reigned (reign_of c) ∷ []) (suc k.g) (length c.sequence) k.waiting (drop (length c.sequence) c.sequence) (drop-length c.sequence) k.are_waiting;
+  in_region = k.in_region;
+  instance_file = has;
+  journal_file = subst (λ (j : Journal). journals.HasRecords w j (record { hard = k.newer; opening = []; closed = tcoms k.waiting 0 })) (sym journal)
+      (journal_others.records_stay v w (Only INSTANCE) old.journal stays (journal_away old.journal g file) (record { hard = k.newer; opening = []; closed = tcoms k.waiting 0 }) k.journal_file);
+}
+  where
+    now_begun : (f : Files) → Image w f → IsInstance (f INSTANCE) (c.instance ++ Reigned (reign_of c) ∷ [])
+    now_begun f now = instance_in w new.instance (c.instance ++ Reigned (reign_of c) ∷ []) has f now
+
+    sound : (f : Files) → Image w f → IsSoundImage f (with_record k.records (Reigned (reign_of c))) (take (length c.sequence) c.sequence)
+    sound f now =
+        let from = stays.images f now in
+        subst (IsSoundImage f (with_record k.records (Reigned (reign_of c)))) (sym (take-length c.sequence)) (sound_begun v c old k past from.0 f from.1 from.2 (now_begun f now))
+
+    site : (f : Files) → Image w f → IsSite f (with_sequence (begun c) (take (length c.sequence) c.sequence))
+    site f now =
+        let from = stays.images f now in
+        subst (λ (seq : Sequence). IsSite f (with_sequence (begun c) seq)) (sym (take-length c.sequence)) (site_begun v c old k past from.0 f from.1 from.2 (now_begun f now))
+
+pub past_in : (c : Contents) (h : ℕ) (s : OpenSite) → Remembers c h s → AllByRecursion (λ (q : Reign). q.start ≤ length s.entries.items) (reigns s.instance.records) → AllByRecursion (λ (q : Reign). q.start < length c.sequence + 1) (reigns c.instance)
+past_in c h s is all =
+    let count = remembered_length c h s is in
+    subst (λ (l : List InstanceRecord). AllByRecursion (λ (q : Reign). q.start < length c.sequence + 1) (reigns l)) is.instance (all_past (length s.entries.items) (length c.sequence + 1) (reigns s.instance.records) all (omega (arith, count)))
+
+-- what beginning the reign r has done
+pub record Begins (v w : View) (old new : OpenSite) (r : Reign) : Type 0 where
+  pub ready : IsReady v old
+  pub past : AllByRecursion (λ (q : Reign). q.start ≤ length old.entries.items) (reigns old.instance.records)
+  pub next : IsNextReign old r
+  pub stays : OthersStay (Only INSTANCE) v w
+  pub state : (rs : List InstanceRecord) → instances.HasRecords v old.instance rs → instances.HasRecords w new.instance (rs ++ Reigned r ∷ [])
+  pub records : new.instance.records ≡ old.instance.records ++ Reigned r ∷ []
+
+pub open_begun : (v w : View) (told : Bool) (c : Contents) (old new : OpenSite) (r : Reign) → IsLawful w → Begins v w old new r → new.entries.items ≡ old.entries.items → new.globals ≡ old.globals → new.hardened ≡ old.hardened → new.journal ≡ old.journal
+    → IsOpen v told c (length c.sequence) old → IsOpen w told (begun c) (length c.sequence) new
+open_begun v w told c old new r lawful b entries changed hardened journal is =
+    let same = next_is c (length c.sequence) old r is.remembered b.next in
+    record {
+      remembered = record {
+        instance = b.records ∙ ap (λ (x : Reign). old.instance.records ++ Reigned x ∷ []) same ∙ ap (λ (l : List InstanceRecord). l ++ Reigned (reign_of c) ∷ []) is.remembered.instance;
+        entries = ap (map tagged) entries ∙ is.remembered.entries;
+        globals = changed ∙ is.remembered.globals;
+        hardened = hardened ∙ is.remembered.hardened;
+      };
+      kept = λ t.
+          let k = is.kept t in
+          keeps_begun v w c old new (generation old.instance.records) k (past_in c (length c.sequence) old is.remembered b.past) lawful b.stays b.ready.of.file
+          (subst (λ (x : Reign). instances.HasRecords w new.instance (c.instance ++ Reigned x ∷ [])) same (b.state c.instance k.instance_file)) journal;
+    }
+
+-- at each moment of it
+pub moments_begun : (v w : View) (c : Contents) (old : OpenSite) (r : Reign) → AllByRecursion (λ (q : Reign). q.start ≤ length old.entries.items) (reigns old.instance.records) → IsNextReign old r
+    → ((rs : List InstanceRecord) → instances.HasRecords v old.instance rs → AtEachMoment v w (OnlyOn v INSTANCE (instances.StandsWith rs (Reigned r))))
+    → IsOpen v true c (length c.sequence) old → AtEachMoment v w (λ f. IsSite f c ⊎ IsSite f (begun c))
+moments_begun v w c old r past next run is =
+    let same = next_is c (length c.sequence) old r is.remembered next in
+    let k = is.kept refl in
+    reign_moments v w c old k (past_in c (length c.sequence) old is.remembered past)
+    (subst (λ (x : Reign). AtEachMoment v w (OnlyOn v INSTANCE (instances.StandsWith c.instance (Reigned x)))) same (run c.instance k.instance_file))
+
+pub stands_begun : (v w : View) (c : Contents) → IsLawful w → AtEachMoment v w (λ f. IsSite f c ⊎ IsSite f (begun c)) → IfSome w.content (λ f. IsSite f c ⊎ IsSite f (begun c))
+stands_begun v w c lawful run = reads_of w (λ f. IsSite f c ⊎ IsSite f (begun c)) lawful (holds_now v w (λ f. IsSite f c ⊎ IsSite f (begun c)) lawful run)
+
+-- before it
+pub quiet : (v : View) (c : Contents) (old : OpenSite) → IsOpen v true c (length c.sequence) old → AtEachMoment v v (λ f. IsSite f c ⊎ IsSite f (begun c))
+quiet v c old is = started v (λ f. IsSite f c ⊎ IsSite f (begun c)) (λ f now. inl (images_stand v c old is f now))
