@@ -212,6 +212,7 @@ ran_to_fault v w s r jobs order k undecided before middle now law st same count 
             at_once = a.at_once;
             fails = record {
               site = refl;
+              now = front.front;
               outcomes = front.fronts_all;
               faults = record { count = sym count; rose = subst (λ (x : ℕ). Rose p.faults x) (sym count) (subst (λ (x : ℕ). Rose x w.faults) h.disk.faults rose); same = record { told = refl; simulated = refl } };
             };

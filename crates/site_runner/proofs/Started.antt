@@ -10,7 +10,7 @@ use Rattle.gvn_model.specs.Reigns.{stamp_value}
 use Rattle.journal_defs.specs.Instance.{generation, site_name}
 use Rattle.site_store.specs.declared.site.OpenSite.{OpenSite}
 use Rattle.site_store.specs.Site.{Remembers, IsOpen}
-use Rattle.site_store.specs.Opening.{OpensTo, MayOpen}
+use Rattle.site_store.specs.Opening.{OpensTo, MayOpen, EachStands}
 use Rattle.repl_section.specs.declared.reign.Reign.{Reign}
 use Rattle.repl_section.specs.Reigns.{stamp_in, stamp_of}
 use Rattle.command_defs.specs.Commands.{Name, StartPrimary}
@@ -88,8 +88,11 @@ unknown_at w s p down site unsure same = record {
 
 -- What the opening of a site found, at its place.
 
+each_stands : (v : View) (p : Place) → Matches v p → p.told ≡ true → EachStands v
+each_stands v p m sure f i = let o = m.images sure f i in (o.0, o.2)
+
 opened_told : (v w : View) (s : Site) (o : OpenSite) (p : Place) → IsLawful v → s.state ≡ Down → IsAt v s p → site_name o.instance.records ≡ s.name → p.told ≡ true
-    → IfSome v.content (λ files. (c : Contents) → IsSite files c → IsOpen w true (opened c) (length c.sequence) o) → IfSome v.content (λ files. (c : Contents) → IsSite files c → generation c.instance < 65534)
+    → IfSome v.content (λ files. (c : Contents) → IsSite files c → EachStands v → IsOpen w true (opened c) (length c.sequence) o) → IfSome v.content (λ files. (c : Contents) → IsSite files c → generation c.instance < 65534)
     → w.simulated ≡ v.simulated → v.faults ≤ w.faults → IsOpenedAt w s o p
 opened_told v w s o p law down h name sure told drawn same later =
     let made : IsMade s.name p = h.held.made sure in
@@ -98,8 +101,8 @@ opened_told v w s o p law down h name sure told drawn same later =
     let drawn_here = some_both v.content _ _ (h.disk.told sure) drawn in
     let read = reads_image v law (told_is v.content _ (h.disk.told sure)) in
     let out = h.disk.images sure read.0 read.2 in
-    let told_there : (c : Contents) → IsSite read.0 c → IsOpen w true (opened c) (length c.sequence) o = subst (λ (x : Option Files). IfSome x (λ files. (c : Contents) → IsSite files c → IsOpen w true (opened c) (length c.sequence) o)) read.1 told in
-    let one : IsOpen w true (opened p.now) (length p.now.sequence) o = here.2 p.now site in
+    let told_there : (c : Contents) → IsSite read.0 c → EachStands v → IsOpen w true (opened c) (length c.sequence) o = subst (λ (x : Option Files). IfSome x (λ files. (c : Contents) → IsSite files c → EachStands v → IsOpen w true (opened c) (length c.sequence) o)) read.1 told in
+    let one : IsOpen w true (opened p.now) (length p.now.sequence) o = here.2 p.now site (each_stands v p h.disk sure) in
     record {
       site = h.site;
       down = down;
@@ -108,7 +111,7 @@ opened_told v w s o p law down h name sure told drawn same later =
       read = p.now;
       as_before = λ _. refl;
       is_open = record { remembered = one.remembered; kept = λ _. one.kept refl };
-      outcome = λ _. (out.0, out.1, told_there out.0 (is_site read.0 out.0 (made.outcomes out.0 out.1).made out.2));
+      outcome = λ _. (out.0, out.1, told_there out.0 (is_site read.0 out.0 (made.outcomes out.0 out.1).made out.2) (each_stands v p h.disk sure));
       drawn = λ _. generation_left p.now (drawn_here.2 p.now (is_site drawn_here.0 p.now made.now.made drawn_here.1));
       faults = omega (arith, later, h.disk.faults);
       simulated = same ∙ h.disk.simulated;
@@ -131,7 +134,7 @@ opened_untold v w s o p down h name unsure read same later = record {
 }
 
 pub opened_at : (v w : View) (s : Site) (o : OpenSite) (p : Place) → IsLawful v → s.state ≡ Down → IsAt v s p → site_name o.instance.records ≡ s.name → ((c : Contents) × Remembers (opened c) (length c.sequence) o)
-    → IfSome v.content (λ files. (c : Contents) → IsSite files c → IsOpen w true (opened c) (length c.sequence) o) → IfSome v.content (λ files. (c : Contents) → IsSite files c → generation c.instance < 65534)
+    → IfSome v.content (λ files. (c : Contents) → IsSite files c → EachStands v → IsOpen w true (opened c) (length c.sequence) o) → IfSome v.content (λ files. (c : Contents) → IsSite files c → generation c.instance < 65534)
     → w.simulated ≡ v.simulated → v.faults ≤ w.faults → IsOpenedAt w s o p
 opened_at v w s o p law down h name read told drawn same later = elim (is_true_or_false p.told) [
   | inl sure ↦ opened_told v w s o p law down h name sure told drawn same later
@@ -172,6 +175,7 @@ begun_fault w s p k before now law down site made b count rose t =
         early_down s p down site,
         record {
           site = refl;
+          now = λ sure. among_begins s.name p.outcomes m.0 (m.1 sure);
           outcomes = λ sure o a. among_begins s.name p.outcomes o a;
           faults = record { count = sym count; rose = subst (λ (x : ℕ). Rose p.faults x) (sym count) rose; same = record { told = refl; simulated = refl } };
         },
@@ -285,13 +289,13 @@ load_damaged v w s file offset before now down outside same later t p h =
     here.2 p.now (is_site here.0 p.now (h.held.made sure).now.made here.1))) same later t
 
 -- another site stands there, which no known files tell
-pub load_other : (v w : View) (s : Site) (o : OpenSite) (before now : List ℕ) → s.state ≡ Down → (site_name o.instance.records ≡ s.name → ⊥) → IfSome v.content (λ files. (c : Contents) → IsSite files c → IsOpen w true (opened c) (length c.sequence) o)
+pub load_other : (v w : View) (s : Site) (o : OpenSite) (before now : List ℕ) → s.state ≡ Down → (site_name o.instance.records ≡ s.name → ⊥) → IfSome v.content (λ files. (c : Contents) → IsSite files c → EachStands v → IsOpen w true (opened c) (length c.sequence) o)
     → w.simulated ≡ v.simulated → v.faults ≤ w.faults → now ≡ before ++ line s.name (codes "NOTAFILE " ++ decimal 0 ++ 32 ∷ decimal 0) → ExecutesAt (StartPrimary s.name) v s w s before now
 load_other v w s o before now down other told same later t p h =
     damaged v w s 0 0 before now p down h (not_true p.told (λ sure.
     let made : IsMade s.name p = h.held.made sure in
     let here = some_both v.content _ _ (h.disk.told sure) told in
-    let one : IsOpen w true (opened p.now) (length p.now.sequence) o = here.2 p.now (is_site here.0 p.now made.now.made here.1) in
+    let one : IsOpen w true (opened p.now) (length p.now.sequence) o = here.2 p.now (is_site here.0 p.now made.now.made here.1) (each_stands v p h.disk sure) in
     let of : IsOf s.name (opened p.now) = of_opened s.name p.now made.now in
     other (ap site_name one.remembered.instance ∙ of.name))) same later t
 
@@ -430,11 +434,11 @@ reign_starts v w s o new stamp serials from before now first_serials begun drawn
 -- Beginning and opening together.
 
 pub begins_so : (v w u : View) (s new : Site) (o : OpenSite) (before now : List ℕ) → IsLawful v → s.state ≡ Down → site_name o.instance.records ≡ s.name → ((c : Contents) × Remembers (opened c) (length c.sequence) o)
-    → IfSome v.content (λ files. (c : Contents) → IsSite files c → IsOpen w true (opened c) (length c.sequence) o) → IfSome v.content (λ files. (c : Contents) → IsSite files c → generation c.instance < 65534)
+    → IfSome v.content (λ files. (c : Contents) → IsSite files c → EachStands v → IsOpen w true (opened c) (length c.sequence) o) → IfSome v.content (λ files. (c : Contents) → IsSite files c → generation c.instance < 65534)
     → w.simulated ≡ v.simulated → v.faults ≤ w.faults → BeginsAt w o s u new before now → ExecutesAt (StartPrimary s.name) v s u new before now
 begins_so v w u s new o before now law down name read told drawn same later b p h = b p (opened_at v w s o p law down h name read told drawn same later)
 
 pub begins_cut : (v w u : View) (s : Site) (o : OpenSite) → IsLawful v → s.state ≡ Down → site_name o.instance.records ≡ s.name → ((c : Contents) × Remembers (opened c) (length c.sequence) o)
-    → IfSome v.content (λ files. (c : Contents) → IsSite files c → IsOpen w true (opened c) (length c.sequence) o) → IfSome v.content (λ files. (c : Contents) → IsSite files c → generation c.instance < 65534)
+    → IfSome v.content (λ files. (c : Contents) → IsSite files c → EachStands v → IsOpen w true (opened c) (length c.sequence) o) → IfSome v.content (λ files. (c : Contents) → IsSite files c → generation c.instance < 65534)
     → w.simulated ≡ v.simulated → v.faults ≤ w.faults → IsCutOpened w o s u → IsCutAt (StartPrimary s.name) v s u
 begins_cut v w u s o law down name read told drawn same later b p h = b p (opened_at v w s o p law down h name read told drawn same later)

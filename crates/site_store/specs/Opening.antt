@@ -36,3 +36,7 @@ OpensTo c o = (o ≡ c) ⊎ (o ≡ cut_there c) ⊎ (o ≡ opened c)
 -- an image from before the call, whose site may have been opened
 abbrev pub MayOpen : View → Files → Type 0
 MayOpen old = From (Image old) (λ was now. (c : Contents) → IsSite was c → (o : Contents) × OpensTo c o × IsSite now o)
+
+-- each image stands for something
+abbrev pub EachStands : View → Type 0
+EachStands v = (f : Files) → Image v f → (o : Contents) × Stands f o

@@ -6,7 +6,7 @@ ghost use Rattle.world_defs.specs.World.{Contents};
 ghost use Rattle.world_defs.specs.Rows.{opened};
 ghost use Rattle.world_defs.specs.Ties.{IsSite};
 ghost use Rattle.site_store.specs.Site.{Remembers, IsReady, IsOpen, WasOpened};
-ghost use Rattle.site_store.specs.Opening.{OpensTo, MayOpen};
+ghost use Rattle.site_store.specs.Opening.{OpensTo, MayOpen, EachStands};
 
 use crate::error::SiteError;
 use crate::site::OpenSite;
@@ -23,7 +23,7 @@ use std::alloc::Global;
 pub fn load<D: Disk>(alloc: Global, disk: &mut D) -> Result<OpenSite, SiteError>
     ensures ready { IfOk result (λ s. IsReady (D.disk disk.new) s) }
     ensures read { IfOk result (λ s. (c : Contents) × Remembers (opened c) (length c.sequence) s) }
-    ensures told { IfOk result (λ s. IfSome (D.disk disk.old).content (λ files. (c : Contents) → IsSite files c → IsOpen (D.disk disk.new) true (opened c) (length c.sequence) s)) }
+    ensures told { IfOk result (λ s. IfSome (D.disk disk.old).content (λ files. (c : Contents) → IsSite files c → EachStands (D.disk disk.old) → IsOpen (D.disk disk.new) true (opened c) (length c.sequence) s)) }
     ensures opened { IfOk result WasOpened }
     ensures drawn { OnOk result (IfSome (D.disk disk.old).content (λ files. (c : Contents) → IsSite files c → generation c.instance < 65534)) }
     ensures limit { IsErrOf result SiteError.GenLimit → IfSome (D.disk disk.old).content (λ files. (c : Contents) → IsSite files c → 65534 ≤ generation c.instance) }
