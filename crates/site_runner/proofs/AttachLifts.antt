@@ -1,5 +1,5 @@
 -- ATTACH in the world.
-use Rattle.std.proofs.Common.{◌≡◌, ◌≢◌, ◌⊎◌, ℕ, zero, suc, ◌<◌, Bool, true, false, cond, not, nat_lt, List, [], ◌∷◌, ◌++◌, length, get_or, set, take, None, Some, refl, sym, ◌∙◌, ap, subst, arith, inl, inr, Ok, Err}
+use Rattle.std.proofs.Common.{◌≡◌, ◌⊎◌, ℕ, zero, suc, ◌<◌, Bool, true, false, cond, not, nat_lt, List, [], ◌∷◌, ◌++◌, length, get_or, set, take, None, Some, refl, sym, ◌∙◌, ap, subst, arith, inl, inr, Ok, Err}
 use Rattle.std.specs.Prelude.{Option, Result, option_map, slice_get, codes}
 use Rattle.std.specs.Fmt.{decimal}
 use Rattle.std.proofs.lemmas.Bool.{false≢true, and_parts, lt-ltb}
@@ -11,7 +11,7 @@ use Rattle.site_store.specs.declared.error.SiteError.{SiteError}
 use Rattle.site_store.specs.declared.error.SiteError.TheVariants.{Failed, Full, SeqLimit, GenLimit, ReignLimit, NotAFile, NoMemory}
 use Rattle.world_laws.proofs.ReignsFit.{names_same}
 use Rattle.command_defs.specs.Commands.{Name, Attach}
-use Rattle.world_defs.specs.Lists.{Among, first_where}
+use Rattle.world_defs.specs.Lists.{first_where}
 use Rattle.world_defs.specs.World as world
 use Rattle.world_defs.specs.World.{Contents, Place, World, Kept, is_made, is_site_named, same_name, next_of, at_place, site_of}
 use Rattle.world_defs.specs.Answers as answers
@@ -20,12 +20,11 @@ use Rattle.world_defs.specs.Refusals.{ATTACHING, early, late, or_else, refusal, 
 use Rattle.world_defs.specs.Rows.{FailsBefore, OldOnes, Attaches}
 use Rattle.world_defs.specs.Step.{KeptUnknown, IsNotAttached, Means}
 use Rattle.world_defs.specs.Output.{line, cause_text, name_at, text_of}
-use Rattle.world_defs.specs.Ties.{Matches}
 use Rattle.site_runner.specs.declared.slot.Slot.{Slot}
-use Rattle.site_runner.specs.Sites.{site_value, is_slot_named, IsOf, IsReadyOn, AreReady}
+use Rattle.site_runner.specs.Sites.{site_value, is_slot_named, IsOf}
 use Rattle.site_runner.specs.Tied.{IsPlace, Tied}
 use Rattle.site_runner.specs.Executes.{Executes, IsCutOff}
-use Rattle.site_runner.specs.Looking.{fits, Finds, Sees, LooksHere, Tells}
+use Rattle.site_runner.specs.Looking.{fits, Finds, LooksHere, Tells}
 use Rattle.site_runner.specs.Attaching.{with_site, Takes}
 use Rattle.site_runner.proofs.Ats.{is_true_or_false}
 use Rattle.site_runner.proofs.Lifts.{all_kept, place_there, place_of_slot, tied_set, with_place, on_place, kept_set, get_set, lifted_cut}

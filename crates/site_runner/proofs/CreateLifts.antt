@@ -1,18 +1,17 @@
 -- CREATE in the world.
-use Rattle.std.proofs.Common.{◌≡◌, ℕ, zero, suc, ◌<◌, Bool, List, [], ◌∷◌, ◌++◌, length, get_or, set, take, None, Some, refl, sym, ◌∙◌, ap, arith, inl, inr}
-use Rattle.std.specs.Prelude.{Option, option_map, slice_get, codes}
+use Rattle.std.proofs.Common.{◌≡◌, ℕ, ◌<◌, List, [], ◌∷◌, ◌++◌, length, get_or, set, take, None, Some, refl, sym, ◌∙◌, ap, inl, inr}
+use Rattle.std.specs.Prelude.{Option, slice_get, codes}
 use Rattle.disk_defs.specs.Disk.{View}
-use Rattle.world_defs.specs.Lists.{Along, first_where}
+use Rattle.world_defs.specs.Lists.{first_where}
 use Rattle.command_defs.specs.Commands.{Name, Region, Create}
-use Rattle.world_defs.specs.World.{Place, World, MOST_SITES, is_free, next_of, at_place, site_of}
+use Rattle.world_defs.specs.World.{Place, World, next_of, at_place, site_of}
 use Rattle.world_defs.specs.Answers.{Exists, NoDisk, Refusal, Answer, Done, Refused, DiskFault, NotAFile, Ran}
 use Rattle.world_defs.specs.Refusals.{early, late, or_else, refusal, refused_with, first, there, no_disk, not_empty}
 use Rattle.world_defs.specs.Rows.{FailsBefore, Creates, MayCreate}
 use Rattle.world_defs.specs.Step.{KeptUnknown, Means}
 use Rattle.world_defs.specs.Output.{line, text_of}
 use Rattle.site_runner.specs.declared.slot.Slot.{Slot}
-use Rattle.site_runner.specs.Sites.{site_value, is_slot_named}
-use Rattle.site_runner.specs.Tied.{IsPlace, Tied}
+use Rattle.site_runner.specs.Sites.{is_slot_named}
 use Rattle.site_runner.specs.Executes.{Executes, IsCutOff}
 use Rattle.site_runner.specs.Here.{IsCutHere}
 use Rattle.site_runner.specs.Creating.{CreateHere, create_text, CreatesHere}

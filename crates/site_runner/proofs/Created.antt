@@ -1,7 +1,6 @@
 -- CREATE at a place.
-use Rattle.std.proofs.Common.{◌≡◌, ◌⊎◌, ℕ, ◌<◌, ◌≤◌, Bool, true, false, not, ◌&&◌, nat_le, List, [], ◌∷◌, ◌++◌, length, map, None, Some, refl, sym, ◌∙◌, ap, subst, arith, inl, inr, Ok, Err}
-use Rattle.std.specs.Prelude.{Option, Result, codes, IfSome, IsSome, IsSomeAnd, IsErrOf}
-use Rattle.std.specs.Fmt.{decimal}
+use Rattle.std.proofs.Common.{◌≡◌, ◌⊎◌, ℕ, ◌≤◌, Bool, true, false, not, nat_le, List, [], ◌∷◌, ◌++◌, length, map, None, Some, refl, sym, ◌∙◌, ap, subst, arith, inl, inr, Ok, Err}
+use Rattle.std.specs.Prelude.{Result, codes, IfSome, IsSome, IsSomeAnd, IsErrOf}
 use Rattle.std.specs.List.{list_all, AllByRecursion}
 use Rattle.std.specs.Char.{is_ascii_alphabetic, is_ascii_alphanumeric}
 use Rattle.std.proofs.lemmas.Bool.{false≢true, and_parts, leb-true}
@@ -10,7 +9,6 @@ use Rattle.global_defs.specs.Fields.{IsSiteName}
 use Rattle.disk_defs.specs.Disk.{Files, View, Image, IsLawful, AtEachMoment, Rose}
 use Rattle.journal_defs.specs.Instance as records
 use Rattle.journal_defs.specs.Instance.{NamedMode, IsInForm, site_name}
-use Rattle.command_defs.specs.Commands as commands
 use Rattle.command_defs.specs.Commands.{Name, Region, Create}
 use Rattle.command_defs.specs.Parts.{is_lettered, is_name}
 use Rattle.command_defs.specs.Sections.{IsFormed}
@@ -27,18 +25,16 @@ use Rattle.world_defs.specs.World.{Contents, Place, Kept, nothing, is_made, same
 use Rattle.world_defs.specs.Answers as answers
 use Rattle.world_defs.specs.Answers.{Answer, NotEmpty, Done, Refused, DiskFault, Ran}
 use Rattle.world_defs.specs.Refusals.{not_empty}
-use Rattle.world_defs.specs.Rows.{named_mode, created, FailsBefore, OldOnes, MayCreate}
+use Rattle.world_defs.specs.Rows.{named_mode, created, MayCreate}
 use Rattle.world_defs.specs.Step.{KeptUnknown, LeftAt}
 use Rattle.world_defs.specs.Output.{line}
 use Rattle.world_defs.specs.Ties.{IsBlank, IsSite, Stands, Matches}
 use Rattle.site_runner.specs.declared.slot.State.TheVariants.{Down}
-use Rattle.site_runner.specs.declared.slot.Site.{Site}
 use Rattle.site_runner.specs.declared.slot.Slot.{Slot}
 use Rattle.site_runner.specs.Sites.{IsOf}
-use Rattle.site_runner.specs.Tied.{IsPlace}
 use Rattle.site_runner.specs.Here.{IsCutHere}
-use Rattle.site_runner.specs.Looking.{fits, Finds, Sees, LooksHere, Tells}
-use Rattle.site_runner.specs.Creating.{spec_of, IsUnmade, MakeHere, CreateHere, create_text, MakesHere, MakingIsCut, CreatesHere}
+use Rattle.site_runner.specs.Looking.{fits, Finds, LooksHere, Tells}
+use Rattle.site_runner.specs.Creating.{spec_of, IsUnmade, MakeHere, CreateHere, MakesHere, MakingIsCut, CreatesHere}
 use Rattle.site_runner.proofs.Ats.{is_true_or_false, some_both, some_of, some_and, told_is, at_moment, place_of_images, place_of_one, only}
 use Rattle.site_runner.proofs.Looked.{some_and_of, none_held, site_none}
 

@@ -1,7 +1,7 @@
 -- What a look finds, at a place.
 use Rattle.std.proofs.Common.{◌≡◌, ◌⊎◌, ℕ, ◌≤◌, Bool, true, false, cond, not, ◌&&◌, nat_eq, nat_lt, List, [], ◌∷◌, length, filter, None, Some, refl, sym, ◌∙◌, ap, subst, arith, inl, inr, Ok, Err}
 use Rattle.std.specs.Prelude.{Option, option_map, Result, IfSome, IsSome, IsSomeAnd, IfOk, OnOk, IsErrOf}
-use Rattle.std.proofs.lemmas.Bool.{false≢true, eq-eqb, and_from, and_parts}
+use Rattle.std.proofs.lemmas.Bool.{false≢true, eq-eqb, and_from}
 use Rattle.disk_defs.specs.Disk.{Files, View, Image, IsLawful, AtEachMoment, Rose}
 use Rattle.journal_defs.specs.Instance.{InstanceRecord, site_name}
 use Rattle.site_store.specs.declared.creating.Layout.{Layout}
@@ -10,15 +10,14 @@ use Rattle.site_store.specs.declared.error.SiteError.TheVariants.{Failed, Full, 
 use Rattle.site_store.specs.Opening.{IsFound, StandsAsBefore}
 use Rattle.command_defs.specs.Commands.{Name, Command}
 use Rattle.world_defs.specs.Lists.{Among}
-use Rattle.world_defs.specs.World.{Contents, Place, Kept, is_made, same_name}
-use Rattle.world_defs.specs.Step.{KeptUnknown, LeftAt}
+use Rattle.world_defs.specs.World.{Contents, Place, is_made, same_name}
 use Rattle.world_defs.specs.Ties.{Stands, Matches}
 use Rattle.site_runner.specs.declared.slot.Site.{Site}
 use Rattle.site_runner.specs.declared.slot.Slot.{Slot}
 use Rattle.site_runner.specs.Sites.{site_value, HoldsSite}
 use Rattle.site_runner.specs.Tied.{IsPlace}
 use Rattle.site_runner.specs.Here.{IsCutHere}
-use Rattle.site_runner.specs.Looking.{fits, Finds, LeavesOld, Sees, LooksHere}
+use Rattle.site_runner.specs.Looking.{fits, LeavesOld, Sees, LooksHere}
 use Rattle.site_runner.proofs.Ats.{not_true, told_is, some_both, some_of, some_and, at_moment, place_of_images}
 
 pub same_self : (a : Name) → same_name a a ≡ true

@@ -1,11 +1,7 @@
-use Rattle.std.proofs.Common.{◌≡◌, List, Some, None, Ok, Err, set, sym, refl, subst, None}
-use Rattle.std.specs.Prelude.{Option, Result}
+use Rattle.std.proofs.Common.{List, sym, refl, subst}
 use Rattle.command_defs.specs.Commands.{Attach}
-use Rattle.site_store.specs.declared.creating.Layout.{Layout}
-use Rattle.site_store.specs.declared.error.SiteError.{SiteError}
 use Rattle.site_runner.specs.declared.slot.Slot.{Slot}
 use Rattle.site_runner.specs.Executes.{IsCutOff}
-use Rattle.site_runner.specs.Looking.{LooksHere}
 use Rattle.site_runner.proofs.Results.{on_ok, on_errs, err_so}
 use Rattle.site_runner.proofs.Next.{next_is_free}
 use Rattle.site_runner.proofs.AttachLifts.{attach_cut, attach_failed, attach_empty, attach_found}

@@ -1,5 +1,5 @@
-use Rattle.std.proofs.Common.{◌≡◌, ℕ, List, Some, None, ◌++◌, ◌<◌, length, map, take, sym, ◌∙◌, ap, subst}
-use Rattle.std.specs.Prelude.{Option, codes}
+use Rattle.std.proofs.Common.{ℕ, List, Some, None, ◌++◌, ◌<◌, length, map, ◌∙◌, ap, subst}
+use Rattle.std.specs.Prelude.{codes}
 use Rattle.command_defs.specs.Commands as commands
 use Rattle.repl_script.specs.Commands.{region_value}
 use Rattle.world_defs.specs.Output.{line}

@@ -1,9 +1,8 @@
-use Rattle.std.proofs.Common.{◌++◌, ℕ, List, sym, ◌∙◌, ap, subst}
+use Rattle.std.proofs.Common.{◌++◌, ℕ, List, ◌∙◌, ap}
 use Rattle.std.specs.Prelude.{codes}
-use Rattle.site_store.specs.declared.site.RegionSpec.{RegionSpec}
 use Rattle.world_defs.specs.Output.{line}
 use Rattle.site_runner.proofs.Results.{on_ok, err_holds}
-use Rattle.site_runner.proofs.Created.{IsMaking, specs_in_form, one_spec, made_site, make_failed, unwritten, make_cut, make_not_begun}
+use Rattle.site_runner.proofs.Created.{specs_in_form, made_site, make_failed, unwritten, make_cut}
 use Rattle.site_runner.proofs.create.make.Goals as goal
 
 pub create-requires-clause-form : goal.create-requires-clause-form

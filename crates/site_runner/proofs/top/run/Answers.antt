@@ -2,7 +2,7 @@ use Rattle.std.proofs.Common.{List, sym, subst}
 use Rattle.world_defs.specs.World.{World}
 use Rattle.world_defs.specs.Ties.{AreDisks}
 use Rattle.site_runner.specs.Tied.{Matched}
-use Rattle.site_runner.specs.Ends.{RanTo, StaysFit}
+use Rattle.site_runner.specs.Ends.{RanTo}
 use Rattle.site_runner.proofs.Inputs.{if_some}
 use Rattle.site_runner.proofs.Complete.{complete, not_run, not_begun}
 use Rattle.site_runner.proofs.Stays.{stays_fit}
