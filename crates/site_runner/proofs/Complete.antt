@@ -8,7 +8,8 @@ use Rattle.command_defs.specs.Script.{Outside, IsScript, IsBadAt}
 use Rattle.world_defs.specs.World.{World}
 use Rattle.site_runner.specs.declared.status.Status.{Status}
 use Rattle.site_runner.specs.declared.status.Status.TheVariants.{Ok, BadWords, BadLine, ScriptTooLong, SourceFault, SinkFault, NoMemory}
-use Rattle.site_runner.specs.Ends.{RanTo, IsTooLong, IsDue}
+use Rattle.site_runner.specs.Ends.{RanTo, StaysFit, IsTooLong, IsDue}
+use Rattle.site_runner.proofs.Stays.{fit_outcomes}
 use Rattle.site_runner.proofs.Readings.{not_bad, not_long, long_not_bad, one_bad}
 
 same_bad : (n at m to : ℕ) → n ≡ m → at ≡ to → BadLine n at ≡ BadLine m to
@@ -58,8 +59,12 @@ complete SourceFault due o input source sink e d w s l b f g nf ng = absurd (nf 
 complete SinkFault due o input source sink e d w s l b f g nf ng = absurd (ng (g refl))
 complete NoMemory due o input source sink e d w s l b f g nf ng = inr refl
 
+-- disks that stay as they are stay fit
+stays : (status : Status) (w : World) → StaysFit status w w
+stays status w = record { outcomes = λ fit. fit_outcomes w fit; world = λ not fit. fit }
+
 -- nothing was read or written
-pub not_run : (w : World) (o out : Option (List ℕ)) (P : World → Type 0) → P w → IfSome o (λ input. (after : World) × P after × RanTo BadWords input o w after out out)
+pub not_run : (w : World) (o out : Option (List ℕ)) (P : World → Type 0) → P w → IfSome o (λ input. (after : World) × P after × RanTo BadWords input o w after out out × StaysFit BadWords w after)
 not_run w None out P h = tt
 not_run w (Some u) out P h = (
   w,
@@ -69,13 +74,14 @@ not_run w (Some u) out P h = (
     within = omega arith;
     reached = (refl, refl);
     mid = w;
-    went = record { told = []; output = []; position = Outside; runs = (refl, refl); spelled = refl; writes = Appends-nil out; all = λ h. refl };
+    went = record { told = []; output = []; position = Outside; runs = (refl, refl); spelled = refl; formed = tt; writes = Appends-nil out; all = λ h. refl };
     ends = refl;
   },
+  stays BadWords w,
 )
 
 -- no memory to begin with
-pub not_begun : (w : World) (o out : Option (List ℕ)) (P : World → Type 0) → P w → IfSome o (λ input. (after : World) × P after × RanTo NoMemory input o w after out out)
+pub not_begun : (w : World) (o out : Option (List ℕ)) (P : World → Type 0) → P w → IfSome o (λ input. (after : World) × P after × RanTo NoMemory input o w after out out × StaysFit NoMemory w after)
 not_begun w None out P h = tt
 not_begun w (Some u) out P h = (
   w,
@@ -85,9 +91,10 @@ not_begun w (Some u) out P h = (
     within = omega arith;
     reached = tt;
     mid = w;
-    went = record { told = []; output = []; position = Outside; runs = (refl, refl); spelled = refl; writes = (0, Appends-nil out); all = λ h. refl };
+    went = record { told = []; output = []; position = Outside; runs = (refl, refl); spelled = refl; formed = tt; writes = (0, Appends-nil out); all = λ h. refl };
     ends = inl refl;
   },
+  stays NoMemory w,
 )
 
 pub nothing_read : (o : Option (List ℕ)) → (bytes : List ℕ) × Consumes o o bytes × (length bytes ≤ 409700001)

@@ -1,12 +1,14 @@
 -- Runs that go on, and how they end.
 use Rattle.std.proofs.Common.{◌≡◌, ℕ, ◌+◌, List, [], ◌∷◌, ◌++◌, length, take, refl, sym, ◌∙◌, ap, subst, append_assoc, inl, inr}
 use Rattle.std.specs.Prelude.{Option}
+use Rattle.std.specs.List.{AllByRecursion}
 use Rattle.std.specs.Io.KnownBytes.{Appends}
 use Rattle.std.proofs.KnownBytes.{Appends-nil}
 use Rattle.std.proofs.lemmas.List.{map-append, append-nil}
 use Rattle.std.proofs.Math.Seq.{take-append-add, take-length}
 use Rattle.disk_defs.specs.Disk.{View}
 use Rattle.command_defs.specs.Commands.{Command}
+use Rattle.command_defs.specs.Sections.{IsFormed}
 use Rattle.command_defs.specs.Script.{Position, Outside, Ends, line_reading}
 use Rattle.repl_script.specs.Feeds.{Moves, Progress, TellsBad}
 use Rattle.repl_script.specs.declared.error.ScriptError.{ScriptError}
@@ -18,6 +20,7 @@ use Rattle.world_defs.specs.Step.{Means}
 use Rattle.world_defs.specs.Output.{text, text_of}
 use Rattle.world_defs.specs.Runs.{Told, Runs, commands}
 use Rattle.world_defs.specs.Ties.{Matches}
+use Rattle.world_laws.proofs.Lists.{all-push}
 use Rattle.site_runner.specs.declared.slot.Slot.{Slot}
 use Rattle.site_runner.specs.declared.status.Status.{Status}
 use Rattle.site_runner.specs.declared.status.Status.TheVariants.{Ok, BadWords, BadLine, ScriptTooLong, SourceFault, SinkFault, NoMemory}
@@ -39,7 +42,7 @@ matched view slots w h = matched_along view slots w.places h
 
 -- before the first line
 pub begins : {D : Type 0} (view : D → View) (w : World) (slots : List (Slot D)) (p : Position) (out : Option (List ℕ)) → p ≡ Outside → Tied view slots w → Going view w slots [] p out out
-begins view w slots p out e h = record { told = []; mid = w; output = []; runs = (refl, refl); spelled = nothing p e; tied = h; written = Appends-nil out }
+begins view w slots p out e h = record { told = []; mid = w; output = []; runs = (refl, refl); spelled = nothing p e; formed = tt; tied = h; written = Appends-nil out }
   where
     nothing : (p : Position) → p ≡ Outside → ComeTo [] [] p
     nothing p e = subst (λ (x : Position). ComeTo [] [] x) (sym e) refl
@@ -65,6 +68,9 @@ told_more taken line told p q c a e o h =
     subst (λ (x : List Command). ComeTo (taken ++ line ∷ []) x q) (commands_more told c a)
     (subst (λ (x : Position). ComeTo (taken ++ line ∷ []) (commands told ++ c ∷ []) x) (sym o) (come_to_end taken line (commands told) p c e h))
 
+formed_more : (told : List Told) (c : Command) (a : List Answer) → AllByRecursion IsFormed (commands told) → IsFormed c → AllByRecursion IsFormed (commands (told ++ record { command = c; answers = a } ∷ []))
+formed_more told c a h f = subst (AllByRecursion IsFormed) (commands_more told c a) (all-push IsFormed (commands told) c h f)
+
 -- a line that ends no command
 pub held : {D : Type 0} (view : D → View) (p q : Position) (slots : List (Slot D)) (line : List ℕ) (out : Option (List ℕ)) → Moves p q (line_reading p line) → GoesOn view p q slots slots line out out
 held view p q slots line out m = (
@@ -75,14 +81,15 @@ held view p q slots line out m = (
     output = g.output;
     runs = g.runs;
     spelled = come_on taken line (commands g.told) p q m g.spelled;
+    formed = g.formed;
     tied = g.tied;
     written = g.written;
   },
 )
 
 -- a line that ends a command, which was carried out
-pub carried : {D : Type 0} (view : D → View) (p q : Position) (old new : List (Slot D)) (line : List ℕ) (c : Command) (mid now : Option (List ℕ)) → line_reading p line ≡ Ends c → q ≡ Outside → CarriesOut view c old new mid now → GoesOn view p q old new line mid now
-carried view p q old new line c mid now e o d = (
+pub carried : {D : Type 0} (view : D → View) (p q : Position) (old new : List (Slot D)) (line : List ℕ) (c : Command) (mid now : Option (List ℕ)) → line_reading p line ≡ Ends c → IsFormed c → q ≡ Outside → CarriesOut view c old new mid now → GoesOn view p q old new line mid now
+carried view p q old new line c mid now e f o d = (
   leads_to_end p q line c e o,
   λ start taken out g. let x = d g.mid g.tied in record {
     told = g.told ++ record { command = c; answers = x.0 ∷ [] } ∷ [];
@@ -90,6 +97,7 @@ carried view p q old new line c mid now e o d = (
     output = g.output ++ text_of g.mid c x.0 x.1;
     runs = runs_more start g.told g.mid x.1 g.output c x.0 g.runs x.2;
     spelled = told_more taken line g.told p q c (x.0 ∷ []) e o g.spelled;
+    formed = formed_more g.told c (x.0 ∷ []) g.formed f;
     tied = x.3;
     written = appends_then out mid now g.output (text_of g.mid c x.0 x.1) g.written x.4;
   },
@@ -111,6 +119,7 @@ stops view status p start slots taken old now new f o g = record {
   position = p;
   runs = g.runs;
   spelled = g.spelled;
+  formed = g.formed;
   writes = f g.output g.written;
   all = o;
 }
@@ -122,13 +131,13 @@ stops_there view status p start slots taken old now new f o g = refl
 
 -- a command that was broken off ends the run at its last line
 pub broken : {D : Type 0} (view : D → View) (status : Status) (number : ℕ) (p : Position) (old new : List (Slot D)) (line : List ℕ) (c : Command) (before now : Option (List ℕ)) (rose : Type 0)
-    → line_reading p line ≡ Ends c → Breaks status view c old new before now rose → Halts status view number p old new line before now rose
-broken view Ok number p old new line c before now rose e b = absurd b
-broken view BadWords number p old new line c before now rose e b = absurd b
-broken view (BadLine n column) number p old new line c before now rose e b = absurd b
-broken view ScriptTooLong number p old new line c before now rose e b = absurd b
-broken view SourceFault number p old new line c before now rose e b = absurd b
-broken view SinkFault number p old new line c before now rose e b = (
+    → line_reading p line ≡ Ends c → IsFormed c → Breaks status view c old new before now rose → Halts status view number p old new line before now rose
+broken view Ok number p old new line c before now rose e f b = absurd b
+broken view BadWords number p old new line c before now rose e f b = absurd b
+broken view (BadLine n column) number p old new line c before now rose e f b = absurd b
+broken view ScriptTooLong number p old new line c before now rose e f b = absurd b
+broken view SourceFault number p old new line c before now rose e f b = absurd b
+broken view SinkFault number p old new line c before now rose e f b = (
   b.0,
   λ start taken out g.
       let x = b.1 g.mid g.tied in (
@@ -140,16 +149,17 @@ broken view SinkFault number p old new line c before now rose e b = (
           position = Outside;
           runs = runs_more start g.told g.mid x.1 g.output c x.0 g.runs x.2;
           spelled = told_more taken line g.told p Outside c (x.0 ∷ []) e refl g.spelled;
+          formed = formed_more g.told c (x.0 ∷ []) g.formed f;
           writes = front_behind out before now g.output (text_of g.mid c x.0 x.1) g.written x.4;
           all = λ h. refl;
         },
       ),
 )
-broken view NoMemory number p old new line c before now rose e b = (
+broken view NoMemory number p old new line c before now rose e f b = (
   b.0,
   λ mid t.
       let x = b.1 mid t in
-      (x.0, x.2, inr (c, e, x.1)),
+      (x.0, x.2, inr (c, e, f, x.1)),
 )
 
 -- no memory for the line itself

@@ -8,6 +8,7 @@ pub mod Goings
 pub mod LineLaws
 pub mod Inputs
 pub mod Looping
+pub mod Stays
 pub mod Complete
 pub mod Ats
 pub mod FirstWhere
@@ -20,3 +21,8 @@ pub mod Crashed
 pub mod Begun
 pub mod Started
 pub mod Ran
+pub mod Next
+pub mod Looked
+pub mod Created
+pub mod CreateLifts
+pub mod AttachLifts

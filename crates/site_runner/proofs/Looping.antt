@@ -7,6 +7,7 @@ use Rattle.std.proofs.lemmas.List.{take_at, append-nil}
 use Rattle.disk_defs.specs.Disk.{View}
 use Rattle.command_defs.specs.Commands.{Command}
 use Rattle.command_defs.specs.Lines.{lines_of, ended}
+use Rattle.command_defs.specs.Sections.{IsFormed}
 use Rattle.command_defs.specs.Script.{Position, Outside, Within, Ends, line_reading, IsScript, IsBadAt, behind_all}
 use Rattle.repl_script.specs.Feeds.{Progress}
 use Rattle.world_defs.specs.World.{World}
@@ -71,6 +72,7 @@ ran_to status input n old new taken more start mid after l r w e =
         position = w.position;
         runs = w.runs;
         spelled = subst (λ (x : List (List ℕ)). ComeTo x (commands w.told) w.position) front w.spelled;
+        formed = w.formed;
         writes = w.writes;
         all = w.all;
       };
@@ -264,9 +266,9 @@ halted view first slots next NoMemory p lines o m n old mid new line rose h i b 
     )) b
   where
     cut_short : (taken : List (List ℕ)) (line : List ℕ) (more lines : List (List ℕ)) (p : Position) (mid after : World) → lines ≡ taken ++ line ∷ more
-        → (after ≡ mid) ⊎ ((c : Command) × (line_reading p line ≡ Ends c) × CutOff mid c after) → (after ≡ mid) ⊎ IsCutShort lines (length taken) p mid after
+        → (after ≡ mid) ⊎ ((c : Command) × (line_reading p line ≡ Ends c) × IsFormed c × CutOff mid c after) → (after ≡ mid) ⊎ IsCutShort lines (length taken) p mid after
     cut_short taken line more lines p mid after s (inl e) = inl e
-    cut_short taken line more lines p mid after s (inr x) = inr (record { command = x.0; line = line; there = ap (λ (y : List (List ℕ)). slice_get y (length taken)) s ∙ line_there taken line more; ends = x.1; left = x.2 })
+    cut_short taken line more lines p mid after s (inr x) = inr (record { command = x.0; line = line; there = ap (λ (y : List (List ℕ)). slice_get y (length taken)) s ∙ line_there taken line more; ends = x.1; formed = x.2; left = x.3 })
 
 pub halted_bad : {D : Type 0} (view : D → View) (first slots next : List (Slot D)) (status : Status) (p : Position) (lines a c : ℕ) (o m old mid new : Option (List ℕ)) (line : List ℕ) (rose : Type 0)
     → Halts status view (lines + 1) p slots next line mid new rose → (i : InLoop view first slots p lines o m old mid) → Begin o i.taken line → lines < 100000 → status ≡ BadLine a c → IfSome o (λ input. IsBadAt (lines_of input) a c)

@@ -1,12 +1,16 @@
 -- What a run leaves, by its status.
-use Rattle.std.specs.Prelude.{◌≡◌, ◌⊎◌, ℕ, ◌+◌, ◌<◌, ◌≤◌, List, ◌++◌, length, take, Option, Some, slice_get}
+use Rattle.std.specs.Prelude.{◌≡◌, ◌≢◌, ◌⊎◌, ℕ, ◌+◌, ◌<◌, ◌≤◌, List, ◌++◌, length, take, Option, Some, slice_get}
+use Rattle.std.specs.List.{AllByRecursion}
 use Rattle.std.specs.Io.KnownBytes.{Appends, Consumes, IsAtEnd}
 use Rattle.command_defs.specs.Commands.{Command}
 use Rattle.command_defs.specs.Lines.{lines_of, ended}
+use Rattle.command_defs.specs.Sections.{IsFormed}
 use Rattle.command_defs.specs.Script.{Position, Outside, Ends, line_reading, lines_reading, MOST_LINES, IsScript, IsBadAt}
 use Rattle.world_defs.specs.World.{World}
 use Rattle.world_defs.specs.Step.{CutOff}
 use Rattle.world_defs.specs.Runs.{Told, Runs, commands}
+use Rattle.world_defs.specs.Fit.{IsFit}
+use Rattle.world_laws.specs.Again.{HasFitOutcomes}
 use Rattle.site_runner.specs.Told.{IsPiece, AppendsFront}
 use Rattle.site_runner.specs.declared.status.Status.{Status}
 use Rattle.site_runner.specs.declared.status.Status.TheVariants.{Ok, BadWords, BadLine, ScriptTooLong, SourceFault, SinkFault, NoMemory}
@@ -33,6 +37,8 @@ pub record Went (status : Status) (taken : List (List ℕ)) (start mid : World) 
   pub position : Position
   pub runs : Runs start told mid output
   pub spelled : ComeTo taken (commands told) position
+  -- names, numbers and jobs are within their limits
+  pub formed : AllByRecursion IsFormed (commands told)
   pub writes : Writes status old new output
   -- no section is open where all went well
   pub all : status ≡ Ok → position ≡ Outside
@@ -54,6 +60,7 @@ pub record IsCutShort (lines : List (List ℕ)) (count : ℕ) (position : Positi
   pub line : List ℕ
   pub there : slice_get lines count ≡ Some line
   pub ends : line_reading position line ≡ Ends command
+  pub formed : IsFormed command
   pub left : CutOff mid command after
 
 -- The disks at the end are those of the world that the commands led to; for want of memory perhaps those that the next command left as it was cut off.
@@ -74,6 +81,12 @@ pub record RanTo (status : Status) (input : List ℕ) (left : Option (List ℕ))
   pub mid : World
   pub went : Went status (take count (lines_of input)) start mid old new
   pub ends : EndsSo status (lines_of input) count went.position mid after
+
+-- Where the disks were fit before the run, each outcome of each disk is fit behind it, and unless it ended for want of memory, which
+-- may cut a command off, all of the world is.
+pub record StaysFit (status : Status) (start after : World) : Type 0 where
+  pub outcomes : IsFit start → AllByRecursion HasFitOutcomes after.places
+  pub world : status ≢ NoMemory → IsFit start → IsFit after
 
 -- a byte follows the last line feed that there may be, and the lines before it are in the grammar
 pub record IsTooLong (lines : List (List ℕ)) : Type 0 where

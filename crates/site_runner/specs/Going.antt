@@ -1,8 +1,10 @@
 -- A run that goes on, line by line.
 use Rattle.std.specs.Prelude.{◌≡◌, ◌⊎◌, ℕ, ◌+◌, List, [], ◌∷◌, ◌++◌, Option}
+use Rattle.std.specs.List.{AllByRecursion}
 use Rattle.std.specs.Io.KnownBytes.{Appends}
 use Rattle.disk_defs.specs.Disk.{View}
 use Rattle.command_defs.specs.Commands.{Command}
+use Rattle.command_defs.specs.Sections.{IsFormed}
 use Rattle.command_defs.specs.Script.{Position, Outside, Within, Wrong, Ends, line_reading}
 use Rattle.world_defs.specs.World.{World}
 use Rattle.world_defs.specs.Answers.{Answer}
@@ -27,6 +29,7 @@ pub record Going {D : Type 0} (view : D → View) (start : World) (slots : List 
   pub output : List ℕ
   pub runs : Runs start told mid output
   pub spelled : ComeTo taken (commands told) position
+  pub formed : AllByRecursion IsFormed (commands told)
   pub tied : Tied view slots mid
   pub written : Appends old new output
 
@@ -52,7 +55,7 @@ Breaks NoMemory view c old new before now rose = (now ≡ before) × IsCutOff vi
 
 -- the slots are the world's as it was, or as the command that the line ends left it when it was cut off
 abbrev pub StopsAt : {D : Type 0} → (D → View) → List (Slot D) → Position → List ℕ → World → Type 0
-StopsAt view new p line mid = (after : World) × Matched view new after × ((after ≡ mid) ⊎ ((c : Command) × (line_reading p line ≡ Ends c) × CutOff mid c after))
+StopsAt view new p line mid = (after : World) × Matched view new after × ((after ≡ mid) ⊎ ((c : Command) × (line_reading p line ≡ Ends c) × IsFormed c × CutOff mid c after))
 
 -- the next line of that number ended the run
 abbrev pub Halts : {D : Type 0} → Status → (D → View) → ℕ → Position → List (Slot D) → List (Slot D) → List ℕ → Option (List ℕ) → Option (List ℕ) → Type 0 → Type 0

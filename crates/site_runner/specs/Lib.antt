@@ -5,6 +5,9 @@ pub mod Moved
 pub mod Executes
 pub mod Here
 pub mod Steps
+pub mod Looking
+pub mod Creating
+pub mod Attaching
 pub mod Starting
 pub mod Ends
 pub mod Going

@@ -1,16 +1,111 @@
 // CREATE.
-ghost use Rattle.std.specs.Prelude.{◌≡◌, length, map, OnOk, OnErr};
+ghost use Rattle.std.specs.Prelude.{◌≡◌, length, map, [], None, Some, OnOk, OnErr, IfOk, IfSome};
+ghost use Rattle.disk_defs.specs.Gates.{records};
+ghost use Rattle.journal_defs.specs.Numbers.{INSTANCE};
+ghost use Rattle.world_defs.specs.Lists.{first_where};
 ghost use Rattle.command_defs.specs.Commands as commands;
 ghost use Rattle.command_defs.specs.Sections.{IsFormed};
 ghost use Rattle.repl_script.specs.Commands.{region_value};
 ghost use Rattle.site_runner.specs.Executes.{Executes, IsCutOff};
-ghost use Rattle.site_runner.specs.Sites.{AreReady};
+ghost use Rattle.site_runner.specs.Here.{IsCutHere};
+ghost use Rattle.site_runner.specs.Creating.{spec_of, MakesHere, MakingIsCut, CreatesHere};
+ghost use Rattle.site_runner.specs.Sites.{is_slot_named, IsReadyOn, AreReady};
 
-use super::slot::Slot;
+use super::finding::{find, find_free};
+use super::looking::{look, write_failure};
+use super::slot::{Site, Slot, State};
+use super::text::write_line;
 use gvn_key::{Bytes, NoMemory};
 use gvn_model::NamedModes;
 use repl_disk::Disk;
+use site_store::RegionSpec;
 use std::alloc::Global;
+
+/// A command's regions, as a site is made with them.
+fn region_specs(alloc: Global, regions: &NamedModes) -> Result<Vec<RegionSpec>, NoMemory>
+    ensures { IfOk result (λ specs. specs.items ≡ map spec_of regions.now) }
+{
+    let mut specs = Vec::new(alloc);
+    for (name, is_before) in regions.as_slice() {
+        specs.push(RegionSpec {
+            name: name.copy()?,
+            before: *is_before,
+        })?;
+    }
+    Ok(specs)
+}
+
+/// Makes a site on a disk on which none was made.
+fn make<D: Disk>(
+    alloc: Global,
+    slot: &mut Slot<D>,
+    name: Bytes,
+    regions: &NamedModes,
+    text: &mut Bytes,
+) -> Result<(), NoMemory>
+    requires formed { IsFormed (commands.Create name (map region_value regions.now)) }
+    requires free { slot.old.site ≡ None }
+    requires empty { IfSome (D.disk slot.old.disk).content (λ files. records (files INSTANCE) ≡ Some []) }
+    ensures done { OnOk result (MakesHere D.disk name (map region_value regions.now) slot.old slot.new text.old text.new) }
+    ensures cut_off { OnErr result (MakingIsCut D.disk name (map region_value regions.now) slot.old slot.new) }
+    ensures ready { IsReadyOn (D.disk slot.new.disk) slot.new.site }
+{
+    let specs = region_specs(alloc, regions)?;
+    match site_store::create(alloc, &mut slot.disk, &name, &specs) {
+        Err(error) => write_failure(text, name.as_slice(), error),
+        Ok(()) => {
+            write_line(text, name.as_slice(), b"CREATED")?;
+            slot.site = Some(Site {
+                name,
+                state: State::Down,
+            });
+            Ok(())
+        }
+    }
+}
+
+/// Makes a site on a disk that no site of the run has, unless one was made there.
+fn create_at<D: Disk>(
+    alloc: Global,
+    slot: &mut Slot<D>,
+    name: Bytes,
+    regions: &NamedModes,
+    text: &mut Bytes,
+) -> Result<(), NoMemory>
+    requires formed { IsFormed (commands.Create name (map region_value regions.now)) }
+    requires free { slot.old.site ≡ None }
+    ensures done { OnOk result (CreatesHere D.disk name (map region_value regions.now) slot.old slot.new text.old text.new) }
+    ensures cut_off { OnErr result (IsCutHere D.disk (commands.Create name (map region_value regions.now)) slot.old slot.new) }
+    ensures ready { IsReadyOn (D.disk slot.new.disk) slot.new.site }
+{
+    match look(alloc, slot) {
+        Err(error) => write_failure(text, name.as_slice(), error),
+        Ok(Some(_)) => write_line(text, name.as_slice(), b"NOTEMPTY"),
+        Ok(None) => make(alloc, slot, name, regions, text),
+    }
+}
+
+/// Makes a site of a name that none has.
+fn create_new<D: Disk>(
+    alloc: Global,
+    slots: &mut Vec<Slot<D>>,
+    name: Bytes,
+    regions: &NamedModes,
+    text: &mut Bytes,
+) -> Result<(), NoMemory>
+    requires formed { IsFormed (commands.Create name (map region_value regions.now)) }
+    requires none { first_where (is_slot_named name) slots.old.items ≡ None }
+    requires ready { AreReady D.disk slots.old.items }
+    ensures ready { AreReady D.disk slots.new.items }
+    ensures done { OnOk result (Executes D.disk (commands.Create name (map region_value regions.now)) slots.old.items slots.new.items text.old text.new) }
+    ensures cut_off { OnErr result (IsCutOff D.disk (commands.Create name (map region_value regions.now)) slots.old.items slots.new.items) }
+    ensures length { length slots.new.items ≡ length slots.old.items }
+{
+    match find_free(slots) {
+        None => write_line(text, name.as_slice(), b"NODISK"),
+        Some(i) => create_at(alloc, &mut slots[i], name, regions, text),
+    }
+}
 
 /// Makes a site on the next disk.
 pub fn create<D: Disk>(
@@ -27,5 +122,8 @@ pub fn create<D: Disk>(
     ensures cut_off { OnErr result (IsCutOff D.disk (commands.Create name (map region_value regions)) slots.old.items slots.new.items) }
     ensures length { length slots.new.items ≡ length slots.old.items }
 {
-    Err(NoMemory)
+    match find(slots, name.as_slice()) {
+        Some(_) => write_line(text, name.as_slice(), b"EXISTS"),
+        None => create_new(alloc, slots, name, &regions, text),
+    }
 }

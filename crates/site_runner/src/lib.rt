@@ -8,6 +8,7 @@ mod extracting;
 mod finding;
 mod fusing;
 mod lines;
+mod looking;
 mod moving;
 mod section;
 mod showing;

@@ -10,7 +10,7 @@ ghost use Rattle.command_defs.specs.Script.{IsScript, IsBadAt};
 ghost use Rattle.repl_script.specs.Commands.{command_value};
 ghost use Rattle.site_runner.specs.Sites.{AreReady};
 ghost use Rattle.site_runner.specs.Tied.{Tied, Matched};
-ghost use Rattle.site_runner.specs.Ends.{RanTo, IsTooLong, IsDue};
+ghost use Rattle.site_runner.specs.Ends.{RanTo, StaysFit, IsTooLong, IsDue};
 ghost use Rattle.site_runner.specs.Going.{CarriesOut, Breaks, Halts, GoesOn, Finishes, status_value};
 
 use super::execute::execute;
@@ -24,6 +24,7 @@ use repl_disk::Disk;
 use repl_io::{Sink, Source};
 use repl_script::{Command, Script, ScriptError};
 use std::alloc::Global;
+use world_laws::fitness::steps_keep_fit;
 
 /// How many lines a script may have.
 const MOST_LINES: u32 = 100_000;
@@ -174,6 +175,11 @@ fn run_script<S: Source, K: Sink, D: Disk>(
 /// Does all that the program does, for the words behind the program's name: reads a script, runs its commands in order on sites
 /// over the disks, and writes what they answer. Sites stand on the first disks, in the order of their making. It reads the script
 /// byte by byte, so hand it a buffered source. The disks are given back in their order, whatever the status.
+///
+/// A later run may take up disks that an earlier one gave back: they are those of the world that it left, without its sites, and
+/// ATTACH finds what stands on each of them. Where they were fit before a run they are fit behind it, so a site's serials and
+/// cycles never go back from one run to the next. `new_worlds_are_fit` of `world_laws` says so of the next run's world: `again`,
+/// and `read_again` where the run was cut off or the machine lost what wasn't synced, and each disk reads as one of its outcomes.
 pub fn run<S: Source, K: Sink, D: Disk>(
     alloc: Global,
     words: &[String],
@@ -184,7 +190,7 @@ pub fn run<S: Source, K: Sink, D: Disk>(
     ensures bad_words { (result ≡ Status.BadWords) ↔ (map string_bytes words.now ≢ codes "run" ∷ []) }
     ensures nothing { result ≡ Status.BadWords → (script.new ≡ script.old) × (out.new ≡ out.old) × (disks.new ≡ disks.old) }
     ensures meaning { (w : World) → AreDisks D.disk disks.old.items w → IsFresh w → IfSome (S.left script.old) (λ input.
-        (after : World) × AreDisks D.disk disks.new.items after × RanTo result input (S.left script.new) w after (K.written out.old) (K.written out.new)) }
+        (after : World) × AreDisks D.disk disks.new.items after × RanTo result input (S.left script.new) w after (K.written out.old) (K.written out.new) × StaysFit result w after) }
     ensures disks { length disks.new.items ≡ length disks.old.items }
     ensures script { result ≡ Status.Ok → IfSome (S.left script.old) (λ input. IsScript (lines_of input)) }
     ensures bad_line { (n c : ℕ) → result ≡ Status.BadLine n c → IfSome (S.left script.old) (λ input. IsBadAt (lines_of input) n c) }
@@ -203,6 +209,7 @@ pub fn run<S: Source, K: Sink, D: Disk>(
         Ok(mut slots) => {
             let status = run_script(alloc, &mut slots, script, out);
             give_back(slots, disks);
+            steps_keep_fit();
             status
         }
     }

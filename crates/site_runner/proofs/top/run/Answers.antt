@@ -5,6 +5,7 @@ use Rattle.site_runner.specs.Tied.{Matched}
 use Rattle.site_runner.specs.Ends.{RanTo}
 use Rattle.site_runner.proofs.Inputs.{if_some}
 use Rattle.site_runner.proofs.Complete.{complete, not_run, not_begun}
+use Rattle.site_runner.proofs.Stays.{stays_fit}
 use Rattle.site_runner.proofs.Moved.{tied_fresh, are_disks, free_ready}
 use Rattle.site_runner.proofs.top.run.Goals as goal
 
@@ -24,7 +25,7 @@ returns-in-Ok-clause-meaning g c w h f =
     let old = g.K.Sink.written c.args.out.now in
     let new = g.K.Sink.written c.run_script-status.new.out in
     if_some (g.S.Source.left c.args.script.now) (λ input. (after : World) × Matched view slots after × RanTo status input left w after old new) _
-    (λ input (after, m, r). (after, are_disks view slots c.give_back.new.disks.items after c.give_back.ensures m, r))
+    (λ input (after, m, r). (after, are_disks view slots c.give_back.new.disks.items after c.give_back.ensures m, r, stays_fit status input left w after old new c.steps_keep_fit.ensures.runs c.steps_keep_fit.ensures.cut_off r))
     (c.run_script-status.ensures.meaning w (tied_fresh view c.args.disks.now.items c.in-Ok.slots.items w c.in-Ok.ensures.taken h f))
 
 pub returns-in-Ok-clause-complete : goal.returns-in-Ok-clause-complete

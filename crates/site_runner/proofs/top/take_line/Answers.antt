@@ -25,10 +25,11 @@ pub returns-in-Ok-Some-clause-goes_on : goal.returns-in-Ok-Some-clause-goes_on
 returns-in-Ok-Some-clause-goes_on g c =
     let f = rw c.in-Ok-Some.field-0-is at c.in-Ok-Some.ensures.some in
     on_ok c.carry_out.result _ _ c.carry_out.ensures.done
-    (carried g.D.Disk.disk c.args.reader.now.position c.feed.new.self.position c.args.slots.now.items c.carry_out.new.slots.items c.args.line.now (command_value c.in-Ok-Some.command) _ _ f.0 f.1)
+    (carried g.D.Disk.disk c.args.reader.now.position c.feed.new.self.position c.args.slots.now.items c.carry_out.new.slots.items c.args.line.now (command_value c.in-Ok-Some.command) (g.K.Sink.written c.args.out.now) (g.K.Sink.written c.carry_out.new.out) f.0 (rw c.in-Ok-Some.field-0-is at c.in-Ok-Some.ensures.formed) f.1)
 
 pub returns-in-Ok-Some-clause-halts : goal.returns-in-Ok-Some-clause-halts
 returns-in-Ok-Some-clause-halts g c =
     let f = rw c.in-Ok-Some.field-0-is at c.in-Ok-Some.ensures.some in
     on_err c.carry_out.result _ _ c.carry_out.ensures.broken
-    (λ s b. broken g.D.Disk.disk s (c.args.reader.now.lines + 1) c.args.reader.now.position c.args.slots.now.items c.carry_out.new.slots.items c.args.line.now (command_value c.in-Ok-Some.command) _ _ _ f.0 b)
+    (λ s b. broken g.D.Disk.disk s (c.args.reader.now.lines + 1) c.args.reader.now.position c.args.slots.now.items c.carry_out.new.slots.items c.args.line.now (command_value c.in-Ok-Some.command) (g.K.Sink.written c.args.out.now) (g.K.Sink.written c.carry_out.new.out)
+    (Rose (g.K.Sink.faults c.args.out.now) (g.K.Sink.faults c.carry_out.new.out)) f.0 (rw c.in-Ok-Some.field-0-is at c.in-Ok-Some.ensures.formed) b)

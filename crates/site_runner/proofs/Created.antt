@@ -1,0 +1,294 @@
+-- CREATE at a place.
+use Rattle.std.proofs.Common.{◌≡◌, ◌⊎◌, ℕ, ◌≤◌, Bool, true, false, not, nat_le, List, [], ◌∷◌, ◌++◌, length, map, None, Some, refl, sym, ◌∙◌, ap, subst, arith, inl, inr, Ok, Err}
+use Rattle.std.specs.Prelude.{Result, codes, IfSome, IsSome, IsSomeAnd, IsErrOf}
+use Rattle.std.specs.List.{list_all, AllByRecursion}
+use Rattle.std.specs.Char.{is_ascii_alphabetic, is_ascii_alphanumeric}
+use Rattle.std.proofs.lemmas.Bool.{false≢true, and_parts, leb-true}
+use Rattle.std.proofs.lemmas.List.{length-map}
+use Rattle.global_defs.specs.Fields.{IsSiteName}
+use Rattle.disk_defs.specs.Disk.{Files, View, Image, IsLawful, AtEachMoment, Rose}
+use Rattle.journal_defs.specs.Instance as records
+use Rattle.journal_defs.specs.Instance.{NamedMode, IsInForm, site_name}
+use Rattle.command_defs.specs.Commands.{Name, Region, Create}
+use Rattle.command_defs.specs.Parts.{is_lettered, is_name}
+use Rattle.command_defs.specs.Sections.{IsFormed}
+use Rattle.repl_script.specs.Commands as script
+use Rattle.site_store.specs.declared.site.RegionSpec.{RegionSpec}
+use Rattle.site_store.specs.declared.creating.Layout.{Layout}
+use Rattle.site_store.specs.declared.error.SiteError.{SiteError}
+use Rattle.site_store.specs.declared.error.SiteError.TheVariants.{Failed, Full, SeqLimit, GenLimit, ReignLimit, NotAFile, NoMemory}
+use Rattle.site_store.specs.Opening as store
+use Rattle.site_store.specs.Opening.{made, MayMake}
+use Rattle.world_defs.specs.Lists.{Among}
+use Rattle.world_defs.specs.World as world
+use Rattle.world_defs.specs.World.{Contents, Place, Kept, nothing, is_made, same_name}
+use Rattle.world_defs.specs.Answers as answers
+use Rattle.world_defs.specs.Answers.{Answer, NotEmpty, Done, Refused, DiskFault, Ran}
+use Rattle.world_defs.specs.Refusals.{not_empty}
+use Rattle.world_defs.specs.Rows.{named_mode, created, MayCreate}
+use Rattle.world_defs.specs.Step.{KeptUnknown, LeftAt}
+use Rattle.world_defs.specs.Output.{line}
+use Rattle.world_defs.specs.Ties.{IsBlank, IsSite, Stands, Matches}
+use Rattle.site_runner.specs.declared.slot.State.TheVariants.{Down}
+use Rattle.site_runner.specs.declared.slot.Slot.{Slot}
+use Rattle.site_runner.specs.Sites.{IsOf}
+use Rattle.site_runner.specs.Here.{IsCutHere}
+use Rattle.site_runner.specs.Looking.{fits, Finds, LooksHere, Tells}
+use Rattle.site_runner.specs.Creating.{spec_of, IsUnmade, MakeHere, CreateHere, MakesHere, MakingIsCut, CreatesHere}
+use Rattle.site_runner.proofs.Ats.{is_true_or_false, some_both, some_of, some_and, told_is, at_moment, place_of_images, place_of_one, only}
+use Rattle.site_runner.proofs.Looked.{some_and_of, none_held, site_none}
+
+-- the regions of a command
+
+regions_same : (rs : List (List ℕ × Bool)) → map store.region_value (map spec_of rs) ≡ map named_mode (map script.region_value rs)
+regions_same [] = refl
+regions_same (r ∷ rs) = ap (λ (xs : List NamedMode). record { name = r.0; before = r.1 } ∷ xs) (regions_same rs)
+
+made_is : (name : Name) (specs : List RegionSpec) (rs : List (List ℕ × Bool)) → specs ≡ map spec_of rs → made name specs ≡ created name (map script.region_value rs)
+made_is name specs rs e =
+    ap (λ (xs : List NamedMode). record { instance = records.Create name xs ∷ []; starts = []; sequence = [] }) (ap (λ (s : List RegionSpec). map store.region_value s) e ∙ regions_same rs)
+
+-- a name of the grammar is a site's
+is_site_name : (s : List ℕ) → is_name s ≡ true → IsSiteName s
+is_site_name [] h = cc
+is_site_name (b ∷ bs) h =
+    let p = and_parts (is_lettered (b ∷ bs)) (nat_le (length (b ∷ bs)) 15) h in
+    let q = and_parts (is_ascii_alphabetic b) (list_all is_ascii_alphanumeric bs) p.0 in
+    let few = leb-true (length (b ∷ bs)) 15 p.1 in
+    (q.0, q.1, omega arith)
+
+are_site_names : (rs : List (List ℕ × Bool)) → list_all (λ (r : Region). is_name r.name) (map script.region_value rs) ≡ true → AllByRecursion (λ (r : NamedMode). IsSiteName r.name) (map store.region_value (map spec_of rs))
+are_site_names [] h = tt
+are_site_names (r ∷ rs) h = let p = and_parts (is_name r.0) (list_all (λ (x : Region). is_name x.name) (map script.region_value rs)) h in (is_site_name r.0 p.0, are_site_names rs p.1)
+
+specs_length : (rs : List (List ℕ × Bool)) → length (map store.region_value (map spec_of rs)) ≡ length (map script.region_value rs)
+specs_length rs = length-map (map spec_of rs) store.region_value ∙ length-map rs spec_of ∙ sym (length-map rs script.region_value)
+
+in_form : (name : Name) (rs : List (List ℕ × Bool)) → IsFormed (Create name (map script.region_value rs)) → IsInForm (records.Create name (map store.region_value (map spec_of rs)))
+in_form name rs f = (is_site_name name f.0, omega (arith, f.2, specs_length rs), omega (arith, f.2, specs_length rs), are_site_names rs f.1)
+
+pub specs_in_form : (name : Name) (specs : List RegionSpec) (rs : List (List ℕ × Bool)) → specs ≡ map spec_of rs → IsFormed (Create name (map script.region_value rs)) → IsInForm (records.Create name (map store.region_value specs))
+specs_in_form name specs rs e f = subst (λ (xs : List RegionSpec). IsInForm (records.Create name (map store.region_value xs))) (sym e) (in_form name rs f)
+
+pub one_spec : (name : Name) (specs : List RegionSpec) (rs : List (List ℕ × Bool)) → specs ≡ map spec_of rs → IsFormed (Create name (map script.region_value rs)) → length specs ≡ 1
+one_spec name specs rs e f = ap length e ∙ length-map rs spec_of ∙ sym (length-map rs script.region_value) ∙ f.2
+
+-- the making of a site
+
+-- files on which no site was made are blank
+is_blank : (files : Files) (c : Contents) → is_made c ≡ false → Stands files c → (c ≡ nothing) × IsBlank files
+is_blank files c e (inl h) = h
+is_blank files c e (inr s) = absurd (false≢true (sym e ∙ s.made))
+
+of_name : (name : Name) (regions : List Region) → IsOf name (created name regions)
+of_name name regions = record { made = refl; name = refl }
+
+pub made_site : {D : Type 0} (view : D → View) (old : Slot D) (disk : D) (name : List ℕ) (specs : List RegionSpec) (rs : List (List ℕ × Bool)) (before now : List ℕ) → specs ≡ map spec_of rs → old.site ≡ None
+    → IfSome (view old.disk).content (λ files. IsBlank files → IfSome (view disk).content (λ new. IsSite new (made name specs)))
+    → IfSome (view old.disk).content (λ files. IsBlank files → ((f : Files) → Image (view old.disk) f → IsBlank f) → (f : Files) → Image (view disk) f → IsSite f (made name specs))
+    → (IsSome (view old.disk).content → IsSome (view disk).content) → (view disk).simulated ≡ (view old.disk).simulated → (view old.disk).faults ≤ (view disk).faults → now ≡ before ++ line name (codes "CREATED")
+    → MakesHere view name (map script.region_value rs) old (record { disk = disk; site = Some (record { name = name; state = Down }) }) before now
+made_site view old disk name specs rs before now are free reads images still same later t p h u =
+    let v = view old.disk in
+    let w = view disk in
+    let regions = map script.region_value rs in
+    let o : Contents = created name regions in
+    let e : made name specs ≡ o = made_is name specs rs are in
+    let site : world.Site = record { name = name; state = world.Down } in
+    let q : Place = record { site = Some site; told = p.told; now = o; outcomes = o ∷ []; faults = w.faults; simulated = p.simulated } in
+    let reads_so : p.told ≡ true → IsSomeAnd w.content (λ files. Stands files o) = λ known.
+    let b = some_both v.content _ _ (h.disk.told known) reads in
+    some_and w.content (λ files. IsSite files (made name specs)) (λ files. Stands files o) (λ f s. inr (subst (IsSite f) e s))
+    (some_and_of w.content (λ files. IsSite files (made name specs)) (still (told_is v.content _ (h.disk.told known))) (b.2 (is_blank b.0 p.now (u.now known) b.1).1)) in
+    let blank : p.told ≡ true → (f : Files) → Image v f → IsBlank f = λ known f i. let x = h.disk.images known f i in (is_blank f x.0 (u.outcomes known x.0 x.1) x.2).1 in
+    let images_so : p.told ≡ true → (c : Files) → Image w c → Stands c o = λ known c i.
+    let b = some_both v.content _ _ (h.disk.told known) images in
+    inr (subst (IsSite c) e (b.2 (is_blank b.0 p.now (u.now known) b.1).1 (blank known) c i)) in (
+      Done,
+      q,
+      record { free = site_none view old p free h; site = refl; now = refl; outcomes = refl; faults = omega (arith, later, h.disk.faults); same = record { told = refl; simulated = refl } },
+      record {
+        disk = place_of_one w p (Some site) o (same ∙ h.disk.simulated) reads_so images_so;
+        site = refl;
+        held = record { made = λ known. record { now = of_name name regions; outcomes = λ x j. subst (IsOf name) (sym (only x o j)) (of_name name regions) }; state = tt };
+      },
+      t,
+    )
+
+-- what each call of a making keeps
+pub record IsMaking (v w : View) (name : Name) (specs : List RegionSpec) : Type 1 where
+  pub lawful : IsLawful w
+  pub any_moment : IfSome v.content (λ _. AtEachMoment v w (MayMake v name specs))
+  pub still_told : IsSome v.content → IsSome w.content
+  pub simulated : w.simulated ≡ v.simulated
+
+-- each image is of a blank disk or of the new site
+making_images : (v w : View) (p : Place) (name : Name) (specs : List RegionSpec) (o : Contents) → IsMaking v w name specs → made name specs ≡ o → Matches v p → IsUnmade p → p.told ≡ true
+    → (c : Files) → Image w c → (x : Contents) × Among (o ∷ p.outcomes) x × Stands c x
+making_images v w p name specs o k e m u known c i =
+    let each = some_of v.content (AtEachMoment v w (MayMake v name specs)) (told_is v.content _ (m.told known)) k.any_moment in
+    let from = at_moment v w (MayMake v name specs) c k.lawful each i in
+    let x = m.images known from.0 from.1 in
+    let n = is_blank from.0 x.0 (u.outcomes known x.0 x.1) x.2 in
+    elim (from.2 n.1) [ inl blank ↦ (x.0, inr x.1, inl (n.0, blank)) | inr site ↦ (o, inl refl, inr (subst (IsSite c) e site)) ]
+
+new_or_old : (name : Name) (regions : List Region) (p : Place) (o : Contents) → Among (created name regions ∷ p.outcomes) o → MayCreate name regions p o
+new_or_old name regions p o (inl h) = inr h
+new_or_old name regions p o (inr h) = inl h
+
+making_left : (v w : View) (p : Place) (name : Name) (specs : List RegionSpec) (o : Contents) → IsMaking v w name specs → made name specs ≡ o → Matches v p → IsUnmade p
+    → (now : Contents) × (p.told ≡ true → Among (o ∷ p.outcomes) now) × Matches w (record { site = p.site; told = p.told; now = now; outcomes = o ∷ p.outcomes; faults = w.faults; simulated = p.simulated })
+making_left v w p name specs o k e m u =
+    place_of_images w p p.site (o ∷ p.outcomes) k.lawful (k.simulated ∙ m.simulated) (λ known. k.still_told (told_is v.content _ (m.told known))) (making_images v w p name specs o k e m u)
+
+abbrev pub Unwritten : SiteError → View → View → Type 0
+Unwritten (Failed fault) v w = (fault ≡ w.faults) × Rose v.faults w.faults
+Unwritten (Full nodes) v w = Unit {0}
+Unwritten SeqLimit v w = Unit {0}
+Unwritten GenLimit v w = Unit {0}
+Unwritten ReignLimit v w = Unit {0}
+Unwritten (NotAFile file offset) v w = ⊥
+Unwritten NoMemory v w = Unit {0}
+
+pub unwritten : (v w : View) (r : Result Unit SiteError) (e : SiteError) → r ≡ Err e → ((fault : ℕ) → IsErrOf r (Failed fault) → fault ≡ w.faults) → ((fault : ℕ) → IsErrOf r (Failed fault) → Rose v.faults w.faults)
+    → ((file offset : ℕ) → IsErrOf r (NotAFile file offset) → ⊥) → Unwritten e v w
+unwritten v w r (Failed fault) is count cause other = (count fault is, cause fault is)
+unwritten v w r (Full nodes) is count cause other = tt
+unwritten v w r SeqLimit is count cause other = tt
+unwritten v w r GenLimit is count cause other = tt
+unwritten v w r ReignLimit is count cause other = tt
+unwritten v w r (NotAFile file offset) is count cause other = other file offset is
+unwritten v w r NoMemory is count cause other = tt
+
+pub make_failed : {D : Type 0} (view : D → View) (old : Slot D) (disk : D) (name : List ℕ) (specs : List RegionSpec) (rs : List (List ℕ × Bool)) (e : SiteError) (before now : List ℕ) → IsMaking (view old.disk) (view disk) name specs
+    → specs ≡ map spec_of rs → old.site ≡ None → Unwritten e (view old.disk) (view disk) → Tells e name before now → MakesHere view name (map script.region_value rs) old (record { disk = disk; site = old.site }) before now
+make_failed view old disk name specs rs (Failed fault) before now k are free f t p h u =
+    let w = view disk in
+    let regions = map script.region_value rs in
+    let o : Contents = created name regions in
+    let m = making_left (view old.disk) w p name specs o k (made_is name specs rs are) h.disk u in
+    let q : Place = record { site = p.site; told = p.told; now = m.0; outcomes = o ∷ p.outcomes; faults = w.faults; simulated = p.simulated } in
+    let none = site_none view old p free h in (
+      DiskFault fault,
+      q,
+      record {
+        free = none;
+        site = none;
+        now = λ known. new_or_old name regions p m.0 (m.1 known);
+        outcomes = λ known x a. new_or_old name regions p x a;
+        faults = record { count = sym f.0; rose = subst (λ (x : ℕ). Rose p.faults x) (sym f.0) (subst (λ (x : ℕ). Rose x w.faults) h.disk.faults f.1); same = record { told = refl; simulated = refl } };
+      },
+      record { disk = m.2; site = h.site; held = none_held view (record { disk = disk; site = old.site }) q free },
+      t,
+    )
+make_failed view old disk name specs rs (Full nodes) before now k are free f t p h u = absurd t
+make_failed view old disk name specs rs SeqLimit before now k are free f t p h u = absurd t
+make_failed view old disk name specs rs GenLimit before now k are free f t p h u = absurd t
+make_failed view old disk name specs rs ReignLimit before now k are free f t p h u = absurd t
+make_failed view old disk name specs rs (NotAFile file offset) before now k are free f t p h u = absurd f
+make_failed view old disk name specs rs NoMemory before now k are free f t p h u = absurd t
+
+pub make_cut : {D : Type 0} (view : D → View) (old new : Slot D) (name : List ℕ) (specs : List RegionSpec) (rs : List (List ℕ × Bool)) → IsMaking (view old.disk) (view new.disk) name specs → specs ≡ map spec_of rs
+    → MakingIsCut view name (map script.region_value rs) old new
+make_cut view old new name specs rs k are p h u =
+    let regions = map script.region_value rs in
+    let m = making_left (view old.disk) (view new.disk) p name specs (created name regions) k (made_is name specs rs are) h.disk u in
+    (record { site = p.site; told = p.told; now = m.0; outcomes = created name regions ∷ p.outcomes; faults = (view new.disk).faults; simulated = p.simulated }, record { told = refl; outcomes = λ known o a. new_or_old name regions p o a }, m.2)
+
+-- there was no memory for the regions
+pub make_not_begun : {D : Type 0} (view : D → View) (old : Slot D) (name : List ℕ) (regions : List Region) → MakingIsCut view name regions old old
+make_not_begun view old name regions p h u = (p, record { told = refl; outcomes = λ known o a. inl a }, h.disk)
+
+-- the command
+
+pub create_failed : {D : Type 0} (view : D → View) (old new : Slot D) (name : List ℕ) (regions : List Region) (e : SiteError) (before now : List ℕ) → LooksHere view old new (Err e) → Tells e name before now → CreatesHere view name regions old new before now
+create_failed view old new name regions (Failed fault) before now look t p h =
+    let r = look p h in
+    (DiskFault fault, r.0, record { free = r.1.free; site = r.1.site; now = λ known. inl (r.1.now known); outcomes = λ known o a. inl (r.1.outcomes known o a); faults = r.1.faults }, r.2, t)
+create_failed view old new name regions (Full nodes) before now look t p h = absurd t
+create_failed view old new name regions SeqLimit before now look t p h = absurd t
+create_failed view old new name regions GenLimit before now look t p h = absurd t
+create_failed view old new name regions ReignLimit before now look t p h = absurd t
+create_failed view old new name regions (NotAFile file offset) before now look t p h = let r = look p h in (answers.NotAFile file offset, r.0, r.1, r.2, t)
+create_failed view old new name regions NoMemory before now look t p h = absurd t
+
+refused_so : (p q : Place) → (p.told ≡ true) ⊎ (p.told ≡ false) → (p.told ≡ true → is_made p.now ≡ true) → Kept p q → ((not_empty (Some p) ≡ Some NotEmpty) × Kept p q) ⊎ KeptUnknown p q
+refused_so p q (inl known) f k = inl (rw (known, f known) refl, k)
+refused_so p q (inr not) f k = inr (record { unknown = not; kept = k })
+
+-- a site was made there
+pub create_refused : {D : Type 0} (view : D → View) (old new : Slot D) (name : List ℕ) (regions : List Region) (found : Layout) (before now : List ℕ) → LooksHere view old new (Ok (Some found)) → now ≡ before ++ line name (codes "NOTEMPTY")
+    → CreatesHere view name regions old new before now
+create_refused view old new name regions found before now look t p h =
+    let r = look p h in
+    let made_there : p.told ≡ true → is_made p.now ≡ true = λ known. (and_parts (is_made p.now) (same_name (site_name p.now.instance) found.name) (r.1.now known)).0 in
+    (Refused (record { site = name; cause = NotEmpty }), r.0, (refl, refused_so p r.0 (is_true_or_false p.told) made_there r.1.kept), r.2, t)
+
+unmade : (c : Contents) → fits None c ≡ true → is_made c ≡ false
+unmade c e = opposite (is_made c) e
+  where
+    opposite : (b : Bool) → not b ≡ true → b ≡ false
+    opposite true e = cc
+    opposite false e = refl
+
+found_none : (p q : Place) → Finds None p q → IsUnmade q
+found_none p q f = record {
+  now = λ known. ap is_made f.kept.now ∙ unmade p.now (f.now (sym f.kept.same.told ∙ known));
+  outcomes = λ known o a. unmade o (f.outcomes (sym f.kept.same.told ∙ known) o a);
+}
+
+none_made : (p : Place) → (p.told ≡ true) ⊎ (p.told ≡ false) → (p.told ≡ true → is_made p.now ≡ false) → not_empty (Some p) ≡ None
+none_made p (inl known) f = rw (known, f known) refl
+none_made p (inr not) f = rw not refl
+
+create_of_make : (name : Name) (regions : List Region) (p m : Place) (a : Answer) (q : Place) → Finds None p m → MakeHere name regions m a q → CreateHere name regions p a q
+create_of_make name regions p m Done q f h = (
+  none_made p (is_true_or_false p.told) (λ known. unmade p.now (f.now known)),
+  record {
+    free = sym f.kept.site ∙ h.free;
+    site = h.site;
+    now = h.now;
+    outcomes = h.outcomes;
+    faults = omega (arith, f.kept.faults, h.faults);
+    same = record { told = h.same.told ∙ f.kept.same.told; simulated = h.same.simulated ∙ f.kept.same.simulated };
+  },
+)
+create_of_make name regions p m (Refused r) q f h = absurd h
+create_of_make name regions p m (DiskFault k) q f h = record {
+  free = sym f.kept.site ∙ h.free;
+  site = h.site;
+  now = λ known. old_or_new q.now (h.now (f.kept.same.told ∙ known));
+  outcomes = λ known o a. old_or_new o (h.outcomes (f.kept.same.told ∙ known) o a);
+  faults = record {
+    count = h.faults.count;
+    rose = omega (arith, f.kept.faults, h.faults.rose);
+    same = record { told = h.faults.same.told ∙ f.kept.same.told; simulated = h.faults.same.simulated ∙ f.kept.same.simulated };
+  };
+}
+  where
+    old_or_new : (o : Contents) → MayCreate name regions m o → MayCreate name regions p o
+    old_or_new o (inl old) = inl (f.kept.outcomes o old)
+    old_or_new o (inr new) = inr new
+create_of_make name regions p m (answers.NotAFile file offset) q f h = absurd h
+create_of_make name regions p m (Ran s) q f h = absurd h
+
+-- no site was made there
+pub create_made : {D : Type 0} (view : D → View) (old mid new : Slot D) (name : List ℕ) (regions : List Region) (before now : List ℕ) → LooksHere view old mid (Ok None) → MakesHere view name regions mid new before now
+    → CreatesHere view name regions old new before now
+create_made view old mid new name regions before now look make p h =
+    let l = look p h in
+    let r = make l.0 l.2 (found_none p l.0 l.1) in
+    (r.0, r.1, create_of_make name regions p l.0 r.0 r.1 l.1 r.2, r.3, r.4)
+
+cut_behind : (name : Name) (regions : List Region) (p m q : Place) → Kept p m → LeftAt true (Create name regions) m q → LeftAt true (Create name regions) p q
+cut_behind name regions p m q k l = record { told = l.told ∙ k.same.told; outcomes = λ known o a. old_or_new o (l.outcomes (k.same.told ∙ known) o a) }
+  where
+    old_or_new : (o : Contents) → MayCreate name regions m o → MayCreate name regions p o
+    old_or_new o (inl old) = inl (k.outcomes o old)
+    old_or_new o (inr new) = inr new
+
+pub create_made_cut : {D : Type 0} (view : D → View) (old mid new : Slot D) (name : List ℕ) (regions : List Region) → LooksHere view old mid (Ok None) → MakingIsCut view name regions mid new → IsCutHere view (Create name regions) old new
+create_made_cut view old mid new name regions look cut p h =
+    let l = look p h in
+    let r = cut l.0 l.2 (found_none p l.0 l.1) in
+    (r.0, cut_behind name regions p l.0 r.0 l.1.kept r.1, r.2)

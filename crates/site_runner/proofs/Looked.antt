@@ -1,0 +1,223 @@
+-- What a look finds, at a place.
+use Rattle.std.proofs.Common.{◌≡◌, ◌⊎◌, ℕ, ◌≤◌, Bool, true, false, cond, not, ◌&&◌, nat_eq, nat_lt, List, [], ◌∷◌, length, filter, None, Some, refl, sym, ◌∙◌, ap, subst, arith, inl, inr, Ok, Err}
+use Rattle.std.specs.Prelude.{Option, option_map, Result, IfSome, IsSome, IsSomeAnd, IfOk, OnOk, IsErrOf}
+use Rattle.std.proofs.lemmas.Bool.{false≢true, eq-eqb, and_from}
+use Rattle.disk_defs.specs.Disk.{Files, View, Image, IsLawful, AtEachMoment, Rose}
+use Rattle.journal_defs.specs.Instance.{InstanceRecord, site_name}
+use Rattle.site_store.specs.declared.creating.Layout.{Layout}
+use Rattle.site_store.specs.declared.error.SiteError.{SiteError}
+use Rattle.site_store.specs.declared.error.SiteError.TheVariants.{Failed, Full, SeqLimit, GenLimit, ReignLimit, NotAFile, NoMemory}
+use Rattle.site_store.specs.Opening.{IsFound, StandsAsBefore}
+use Rattle.command_defs.specs.Commands.{Name, Command}
+use Rattle.world_defs.specs.Lists.{Among}
+use Rattle.world_defs.specs.World.{Contents, Place, is_made, same_name}
+use Rattle.world_defs.specs.Ties.{Stands, Matches}
+use Rattle.site_runner.specs.declared.slot.Site.{Site}
+use Rattle.site_runner.specs.declared.slot.Slot.{Slot}
+use Rattle.site_runner.specs.Sites.{site_value, HoldsSite}
+use Rattle.site_runner.specs.Tied.{IsPlace}
+use Rattle.site_runner.specs.Here.{IsCutHere}
+use Rattle.site_runner.specs.Looking.{fits, LeavesOld, Sees, LooksHere}
+use Rattle.site_runner.proofs.Ats.{not_true, told_is, some_both, some_of, some_and, at_moment, place_of_images}
+
+pub same_self : (a : Name) → same_name a a ≡ true
+same_self [] = refl
+same_self (x ∷ a) = and_from (nat_eq x x) (same_name a a) (eq-eqb x x refl) (same_self a)
+
+-- contents with the same instance file fit alike
+fits_alike : (found : Option Layout) (c o : Contents) → o.instance ≡ c.instance → fits found o ≡ fits found c
+fits_alike None c o e = ap (λ (rs : List InstanceRecord). not (nat_lt 0 (length rs))) e
+fits_alike (Some found) c o e = ap (λ (rs : List InstanceRecord). nat_lt 0 (length rs) && same_name (site_name rs) found.name) e
+
+found_fits : (found : Option Layout) (c : Contents) → IsFound c found → fits found c ≡ true
+found_fits None c e = ap (λ (x : Contents). not (is_made x)) e
+found_fits (Some found) c h =
+    and_from (is_made c) (same_name (site_name c.instance) found.name) h.0 (ap (same_name (site_name c.instance)) h.1 ∙ same_self (site_name c.instance))
+
+kept_by : (b : Bool) (x o : Contents) (rest : List Contents) → Among (cond b (x ∷ rest) rest) o → ((o ≡ x) × (b ≡ true)) ⊎ Among rest o
+kept_by true x o rest (inl e) = inl (e, refl)
+kept_by true x o rest (inr h) = inr h
+kept_by false x o rest h = inr h
+
+-- an outcome that passes a test is an outcome
+among_kept : (test : Contents → Bool) (os : List Contents) (o : Contents) → Among (filter test os) o → Among os o × (test o ≡ true)
+among_kept test [] o h = absurd h
+among_kept test (x ∷ os) o h = elim (kept_by (test x) x o (filter test os) h) [
+  | inl e ↦ (inl e.0, ap test e.0 ∙ e.1)
+  | inr r ↦ let k = among_kept test os o r in (inr k.0, k.1)
+]
+
+put_first : (b : Bool) (x o : Contents) (rest : List Contents) → o ≡ x → b ≡ true → Among (cond b (x ∷ rest) rest) o
+put_first true x o rest e t = inl e
+put_first false x o rest e t = cc
+
+put_behind : (b : Bool) (x o : Contents) (rest : List Contents) → Among rest o → Among (cond b (x ∷ rest) rest) o
+put_behind true x o rest h = inr h
+put_behind false x o rest h = h
+
+-- and the other way round
+kept_among : (test : Contents → Bool) (os : List Contents) (o : Contents) → Among os o → test o ≡ true → Among (filter test os) o
+kept_among test [] o h t = absurd h
+kept_among test (x ∷ os) o (inl e) t = put_first (test x) x o (filter test os) e (sym (ap test e) ∙ t)
+kept_among test (x ∷ os) o (inr h) t = put_behind (test x) x o (filter test os) (kept_among test os o h t)
+
+-- what each call of the look keeps
+pub record IsLook (v w : View) : Type 1 where
+  pub lawful : IsLawful w
+  pub any_moment : IfSome v.content (λ _. AtEachMoment v w (StandsAsBefore v))
+  pub still_told : IsSome v.content → IsSome w.content
+  pub simulated : w.simulated ≡ v.simulated
+  pub later : v.faults ≤ w.faults
+
+-- each image stands for what one stood for before
+look_images : (v w : View) (p : Place) → IsLook v w → Matches v p → p.told ≡ true → (c : Files) → Image w c → (o : Contents) × Among p.outcomes o × Stands c o
+look_images v w p k m known c i =
+    let each = some_of v.content (AtEachMoment v w (StandsAsBefore v)) (told_is v.content _ (m.told known)) k.any_moment in
+    let from = at_moment v w (StandsAsBefore v) c k.lawful each i in
+    let o = m.images known from.0 from.1 in
+    (o.0, o.1, from.2 o.0 o.2)
+
+pub none_held : {D : Type 0} (view : D → View) (slot : Slot D) (q : Place) → slot.site ≡ None → HoldsSite (view slot.disk) slot.site q
+none_held view slot q free = subst (λ (o : Option Site). HoldsSite (view slot.disk) o q) (sym free) tt
+
+pub site_none : {D : Type 0} (view : D → View) (slot : Slot D) (p : Place) → slot.site ≡ None → IsPlace view slot p → p.site ≡ None
+site_none view slot p e h = h.site ∙ ap (option_map site_value) e
+
+pub some_and_of : (o : Option Files) (P : Files → Type 0) → IsSome o → IfSome o P → IsSomeAnd o P
+some_and_of None P h k = cc
+some_and_of (Some f) P h k = k
+
+-- the look came to its end
+saw : {D : Type 0} (view : D → View) (old : Slot D) (disk : D) (found : Option Layout) → IsLook (view old.disk) (view disk) → old.site ≡ None
+    → IfSome (view old.disk).content (λ files. (c : Contents) → Stands files c → IsFound c found)
+    → IfSome (view old.disk).content (λ files. IfSome (view disk).content (λ now. (c : Contents) → Stands files c → Stands now c))
+    → IfSome (view old.disk).content (λ files. (c o : Contents) (f : Files) → Stands files c → Image (view disk) f → Stands f o → o.instance ≡ c.instance)
+    → LooksHere view old (record { disk = disk; site = old.site }) (Ok found)
+saw view old disk found k free is same alike p h =
+    let v = view old.disk in
+    let w = view disk in
+    let q : Place = record { site = p.site; told = p.told; now = p.now; outcomes = filter (fits found) p.outcomes; faults = w.faults; simulated = p.simulated } in
+    let now : p.told ≡ true → fits found p.now ≡ true = λ known. let b = some_both v.content _ _ (h.disk.told known) is in found_fits found p.now (b.2 p.now b.1) in (
+      q,
+      record {
+        kept = record { site = refl; now = refl; outcomes = λ o a. (among_kept (fits found) p.outcomes o a).0; faults = omega (arith, k.later, h.disk.faults); same = record { told = refl; simulated = refl } };
+        now = now;
+        outcomes = λ known o a. (among_kept (fits found) p.outcomes o a).1;
+      },
+      record {
+        disk = record {
+          told = λ known.
+              let b = some_both v.content _ _ (h.disk.told known) same in
+              some_and w.content (λ files. (c : Contents) → Stands b.0 c → Stands files c) (λ files. Stands files p.now) (λ f x. x p.now b.1)
+              (some_and_of w.content (λ files. (c : Contents) → Stands b.0 c → Stands files c) (k.still_told (told_is v.content _ (h.disk.told known))) b.2);
+          images = λ known c i.
+              let o = look_images v w p k h.disk known c i in
+              let b = some_both v.content _ _ (h.disk.told known) alike in
+              (o.0, kept_among (fits found) p.outcomes o.0 o.1 (fits_alike found p.now o.0 (b.2 p.now o.0 c b.1 i o.2) ∙ now known), o.2);
+          faults = refl;
+          simulated = k.simulated ∙ h.disk.simulated;
+        };
+        site = h.site;
+        held = none_held view (record { disk = disk; site = old.site }) q free;
+      },
+    )
+
+-- a call failed, or there was no memory
+looked_before : {D : Type 0} (view : D → View) (old : Slot D) (disk : D) (p : Place) → IsLook (view old.disk) (view disk) → old.site ≡ None → IsPlace view old p
+    → (now : Contents) × (p.told ≡ true → Among p.outcomes now)
+    × IsPlace view (record { disk = disk; site = old.site }) (record { site = p.site; told = p.told; now = now; outcomes = p.outcomes; faults = (view disk).faults; simulated = p.simulated })
+looked_before view old disk p k free h =
+    let v = view old.disk in
+    let w = view disk in
+    let m = place_of_images w p p.site p.outcomes k.lawful (k.simulated ∙ h.disk.simulated) (λ known. k.still_told (told_is v.content _ (h.disk.told known))) (λ known c i. look_images v w p k h.disk known c i) in
+    let q : Place = record { site = p.site; told = p.told; now = m.0; outcomes = p.outcomes; faults = w.faults; simulated = p.simulated } in
+    (m.0, m.1, record { disk = m.2; site = h.site; held = none_held view (record { disk = disk; site = old.site }) q free })
+
+abbrev pub Unread : SiteError → View → View → Type 0
+Unread (Failed fault) v w = (fault ≡ w.faults) × Rose v.faults w.faults
+Unread (Full nodes) v w = Unit {0}
+Unread SeqLimit v w = Unit {0}
+Unread GenLimit v w = Unit {0}
+Unread ReignLimit v w = Unit {0}
+Unread (NotAFile file offset) v w = IfSome v.content (λ files. (c : Contents) → Stands files c → ⊥)
+Unread NoMemory v w = Unit {0}
+
+left_so : {D : Type 0} (view : D → View) (old : Slot D) (disk : D) → IsLook (view old.disk) (view disk) → old.site ≡ None → (p : Place) → IsPlace view old p
+    → (q : Place) × LeavesOld p q × IsPlace view (record { disk = disk; site = old.site }) q
+left_so view old disk k free p h =
+    let m = looked_before view old disk p k free h in
+    (record { site = p.site; told = p.told; now = m.0; outcomes = p.outcomes; faults = (view disk).faults; simulated = p.simulated }, record { told = refl; outcomes = λ known o a. a }, m.2)
+
+saw_nothing : {D : Type 0} (view : D → View) (old : Slot D) (disk : D) (e : SiteError) → IsLook (view old.disk) (view disk) → old.site ≡ None → Unread e (view old.disk) (view disk) → LooksHere view old (record { disk = disk; site = old.site }) (Err e)
+saw_nothing view old disk (Failed fault) k free u p h =
+    let w = view disk in
+    let m = looked_before view old disk p k free h in
+    let q : Place = record { site = p.site; told = p.told; now = m.0; outcomes = p.outcomes; faults = w.faults; simulated = p.simulated } in
+    let none = site_none view old p free h in (
+      q,
+      record {
+        free = none;
+        site = none;
+        now = m.1;
+        outcomes = λ known o a. a;
+        faults = record { count = sym u.0; rose = subst (λ (x : ℕ). Rose p.faults x) (sym u.0) (subst (λ (x : ℕ). Rose x w.faults) h.disk.faults u.1); same = record { told = refl; simulated = refl } };
+      },
+      m.2,
+    )
+saw_nothing view old disk (NotAFile file offset) k free u p h =
+    let v = view old.disk in
+    let w = view disk in
+    let unknown : p.told ≡ false = not_true p.told (λ known. let b = some_both v.content _ _ (h.disk.told known) u in b.2 p.now b.1) in
+    let q : Place = record { site = p.site; told = p.told; now = p.now; outcomes = p.outcomes; faults = w.faults; simulated = p.simulated } in (
+      q,
+      record { unknown = unknown; kept = record { site = refl; now = refl; outcomes = λ o a. a; faults = omega (arith, k.later, h.disk.faults); same = record { told = refl; simulated = refl } } },
+      record {
+        disk = record {
+          told = λ known. absurd (false≢true (sym unknown ∙ known));
+          images = λ known. absurd (false≢true (sym unknown ∙ known));
+          faults = refl;
+          simulated = k.simulated ∙ h.disk.simulated;
+        };
+        site = h.site;
+        held = none_held view (record { disk = disk; site = old.site }) q free;
+      },
+    )
+saw_nothing view old disk (Full nodes) k free u p h = left_so view old disk k free p h
+saw_nothing view old disk SeqLimit k free u p h = left_so view old disk k free p h
+saw_nothing view old disk GenLimit k free u p h = left_so view old disk k free p h
+saw_nothing view old disk ReignLimit k free u p h = left_so view old disk k free p h
+saw_nothing view old disk NoMemory k free u p h = left_so view old disk k free p h
+
+-- what a look leaves is old, whatever it saw
+sees_old : (r : Result (Option Layout) SiteError) (p q : Place) → Sees r p q → LeavesOld p q
+sees_old (Ok found) p q s = record { told = s.kept.same.told; outcomes = λ known. s.kept.outcomes }
+sees_old (Err (Failed fault)) p q s = record { told = s.faults.same.told; outcomes = s.outcomes }
+sees_old (Err (Full nodes)) p q s = s
+sees_old (Err SeqLimit) p q s = s
+sees_old (Err GenLimit) p q s = s
+sees_old (Err ReignLimit) p q s = s
+sees_old (Err (NotAFile file offset)) p q s = record { told = s.kept.same.told; outcomes = λ known. s.kept.outcomes }
+sees_old (Err NoMemory) p q s = s
+
+-- a command that was cut off behind a look
+pub looked_cut : {D : Type 0} (view : D → View) (old new : Slot D) (c : Command) (r : Result (Option Layout) SiteError) → LooksHere view old new r → IsCutHere view c old new
+looked_cut view old new c r look p h =
+    let q = look p h in
+    let left = sees_old r p q.0 q.1 in
+    (q.0, record { told = left.told; outcomes = λ known o a. inl (left.outcomes known o a) }, q.2.disk)
+
+pub looks : {D : Type 0} (view : D → View) (old : Slot D) (disk : D) (r : Result (Option Layout) SiteError) → IsLook (view old.disk) (view disk) → old.site ≡ None
+    → IfOk r (λ found. IfSome (view old.disk).content (λ files. (c : Contents) → Stands files c → IsFound c found))
+    → IfSome (view old.disk).content (λ files. IfSome (view disk).content (λ now. (c : Contents) → Stands files c → Stands now c))
+    → OnOk r (IfSome (view old.disk).content (λ files. (c o : Contents) (f : Files) → Stands files c → Image (view disk) f → Stands f o → o.instance ≡ c.instance))
+    → ((file offset : ℕ) → IsErrOf r (NotAFile file offset) → IfSome (view old.disk).content (λ files. (c : Contents) → Stands files c → ⊥))
+    → ((fault : ℕ) → IsErrOf r (Failed fault) → fault ≡ (view disk).faults) → ((fault : ℕ) → IsErrOf r (Failed fault) → Rose (view old.disk).faults (view disk).faults)
+    → LooksHere view old (record { disk = disk; site = old.site }) r
+looks view old disk (Ok found) k free is same alike outside count cause = saw view old disk found k free is same alike
+looks view old disk (Err (Failed fault)) k free is same alike outside count cause = saw_nothing view old disk (Failed fault) k free (count fault refl, cause fault refl)
+looks view old disk (Err (Full nodes)) k free is same alike outside count cause = saw_nothing view old disk (Full nodes) k free tt
+looks view old disk (Err SeqLimit) k free is same alike outside count cause = saw_nothing view old disk SeqLimit k free tt
+looks view old disk (Err GenLimit) k free is same alike outside count cause = saw_nothing view old disk GenLimit k free tt
+looks view old disk (Err ReignLimit) k free is same alike outside count cause = saw_nothing view old disk ReignLimit k free tt
+looks view old disk (Err (NotAFile file offset)) k free is same alike outside count cause = saw_nothing view old disk (NotAFile file offset) k free (outside file offset refl)
+looks view old disk (Err NoMemory) k free is same alike outside count cause = saw_nothing view old disk NoMemory k free tt

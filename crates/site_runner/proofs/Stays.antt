@@ -1,0 +1,54 @@
+-- Disks that were fit before a run are fit behind it.
+use Rattle.std.proofs.Common.{◌≡◌, ◌≢◌, ◌⊎◌, ℕ, List, refl, sym, subst, inl, inr}
+use Rattle.std.specs.Prelude.{Option}
+use Rattle.std.specs.List.{AllByRecursion}
+use Rattle.command_defs.specs.Commands.{Command}
+use Rattle.command_defs.specs.Lines.{lines_of}
+use Rattle.command_defs.specs.Script.{Position}
+use Rattle.command_defs.specs.Sections.{IsFormed}
+use Rattle.world_defs.specs.World.{World}
+use Rattle.world_defs.specs.Step.{CutOff}
+use Rattle.world_defs.specs.Runs.{Told, Runs, commands}
+use Rattle.world_defs.specs.Fit.{IsFitPlace, IsFit}
+use Rattle.world_laws.specs.Again.{HasFitOutcomes}
+use Rattle.world_laws.proofs.Lists.{all-weaker}
+use Rattle.site_runner.specs.declared.status.Status.{Status}
+use Rattle.site_runner.specs.declared.status.Status.TheVariants.{Ok, BadWords, BadLine, ScriptTooLong, SourceFault, SinkFault, NoMemory}
+use Rattle.site_runner.specs.Ends.{IsCutShort, EndsSo, RanTo, StaysFit}
+
+pub fit_outcomes : (w : World) → IsFit w → AllByRecursion HasFitOutcomes w.places
+fit_outcomes w h = all-weaker IsFitPlace HasFitOutcomes (λ p f. f.outcomes) w.places h
+
+ends_or_cut : (status : Status) (lines : List (List ℕ)) (count : ℕ) (p : Position) (mid after : World) → EndsSo status lines count p mid after → (after ≡ mid) ⊎ IsCutShort lines count p mid after
+ends_or_cut Ok lines count p mid after e = inl e
+ends_or_cut BadWords lines count p mid after e = inl e
+ends_or_cut (BadLine n at) lines count p mid after e = inl e
+ends_or_cut ScriptTooLong lines count p mid after e = inl e
+ends_or_cut SourceFault lines count p mid after e = inl e
+ends_or_cut SinkFault lines count p mid after e = inl e
+ends_or_cut NoMemory lines count p mid after e = e
+
+not_cut : (status : Status) (lines : List (List ℕ)) (count : ℕ) (p : Position) (mid after : World) → status ≢ NoMemory → EndsSo status lines count p mid after → after ≡ mid
+not_cut Ok lines count p mid after not e = e
+not_cut BadWords lines count p mid after not e = e
+not_cut (BadLine n at) lines count p mid after not e = e
+not_cut ScriptTooLong lines count p mid after not e = e
+not_cut SourceFault lines count p mid after not e = e
+not_cut SinkFault lines count p mid after not e = e
+not_cut NoMemory lines count p mid after not e = absurd (not refl)
+
+-- what commands keep, a run keeps
+pub stays_fit : (status : Status) (input : List ℕ) (left : Option (List ℕ)) (start after : World) (old new : Option (List ℕ))
+    → ((w m : World) (told : List Told) (text : List ℕ) → AllByRecursion IsFormed (commands told) → IsFit w → Runs w told m text → IsFit m)
+    → ((w m : World) (c : Command) → IsFormed c → IsFit w → CutOff w c m → AllByRecursion HasFitOutcomes m.places)
+    → RanTo status input left start after old new → StaysFit status start after
+stays_fit status input left start after old new runs cut r = record {
+  outcomes = λ fit. elim (ends_or_cut status (lines_of input) r.count r.went.position r.mid after r.ends) [
+    | inl e ↦ subst (λ (w : World). AllByRecursion HasFitOutcomes w.places) (sym e) (fit_outcomes r.mid (mid_fit fit))
+    | inr s ↦ cut r.mid after s.command s.formed (mid_fit fit) s.left
+  ];
+  world = λ not fit. subst IsFit (sym (not_cut status (lines_of input) r.count r.went.position r.mid after not r.ends)) (mid_fit fit);
+}
+  where
+    mid_fit : IsFit start → IsFit r.mid
+    mid_fit fit = runs start r.mid r.went.told r.went.output r.went.formed fit r.went.runs

@@ -1,0 +1,56 @@
+-- What a look at the next disk finds at its place.
+use Rattle.std.specs.Prelude.{◌≡◌, ℕ, Bool, true, not, ◌&&◌, List, ◌∷◌, ◌++◌, codes, Option, Some, None, IsTrue, Result, Ok, Err}
+use Rattle.std.specs.Fmt.{decimal}
+use Rattle.disk_defs.specs.Disk.{View}
+use Rattle.journal_defs.specs.Instance.{site_name}
+use Rattle.site_store.specs.declared.creating.Layout.{Layout}
+use Rattle.site_store.specs.declared.error.SiteError.{SiteError}
+use Rattle.site_store.specs.declared.error.SiteError.TheVariants.{Failed, Full, SeqLimit, GenLimit, ReignLimit, NotAFile, NoMemory}
+use Rattle.command_defs.specs.Commands.{Name}
+use Rattle.world_defs.specs.Lists.{Among}
+use Rattle.world_defs.specs.World.{Contents, Place, NoNew, Kept, is_made, same_name}
+use Rattle.world_defs.specs.Rows.{FailsBefore, OldOnes}
+use Rattle.world_defs.specs.Step.{KeptUnknown}
+use Rattle.world_defs.specs.Output.{line}
+use Rattle.site_runner.specs.declared.slot.Slot.{Slot}
+use Rattle.site_runner.specs.Tied.{IsPlace}
+
+-- these are of the site that was found, or of none where none was
+abbrev pub fits : Option Layout → Contents → Bool
+fits None c = not (is_made c)
+fits (Some found) c = is_made c && same_name (site_name c.instance) found.name
+
+-- The place is as it was, but for outcomes that aren't of what was found.
+pub record Finds (found : Option Layout) (old new : Place) : Type 0 where
+  pub kept : Kept old new
+  pub now : IsTrue old.told → fits found old.now ≡ true
+  pub outcomes : IsTrue old.told → (o : Contents) → Among new.outcomes o → fits found o ≡ true
+
+-- no outcome is new
+pub record LeavesOld (old new : Place) : Type 0 where
+  pub told : new.told ≡ old.told
+  pub outcomes : old.told ≡ true → NoNew old.outcomes new.outcomes
+
+abbrev pub Sees : Result (Option Layout) SiteError → Place → Place → Type 0
+Sees (Ok found) p q = Finds found p q
+Sees (Err (Failed fault)) p q = FailsBefore fault (OldOnes p) p q
+Sees (Err (Full nodes)) p q = LeavesOld p q
+Sees (Err SeqLimit) p q = LeavesOld p q
+Sees (Err GenLimit) p q = LeavesOld p q
+Sees (Err ReignLimit) p q = LeavesOld p q
+Sees (Err (NotAFile file offset)) p q = KeptUnknown p q
+Sees (Err NoMemory) p q = LeavesOld p q
+
+-- Whatever place the slot was, the look leads to one that it is.
+abbrev pub LooksHere : {D : Type 0} → (D → View) → Slot D → Slot D → Result (Option Layout) SiteError → Type 0
+LooksHere view old new result = (p : Place) → IsPlace view old p → (q : Place) × Sees result p q × IsPlace view new q
+
+-- a failure's line, which begins with that word; for want of memory there is none
+abbrev pub Tells : SiteError → Name → List ℕ → List ℕ → Type 0
+Tells (Failed fault) word before now = now ≡ before ++ line word (codes "DISKFAULT " ++ decimal fault)
+Tells (Full nodes) word before now = ⊥
+Tells SeqLimit word before now = ⊥
+Tells GenLimit word before now = ⊥
+Tells ReignLimit word before now = ⊥
+Tells (NotAFile file offset) word before now = now ≡ before ++ line word (codes "NOTAFILE " ++ decimal file ++ 32 ∷ decimal offset)
+Tells NoMemory word before now = ⊥
