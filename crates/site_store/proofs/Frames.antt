@@ -1,6 +1,6 @@
 -- What stays of an open site while other files change.
-use Rattle.std.proofs.Common.{◌≡◌, ◌∙◌, ℕ, List, Option, Some, None, IfSome, IsSomeAnd, sym, subst}
-use Rattle.disk_defs.specs.Disk.{Files, View, Image, ReadsAfter}
+use Rattle.std.proofs.Common.{◌≡◌, ℕ, List, Option, Some, None, IfSome, IsSomeAnd, sym, subst}
+use Rattle.disk_defs.specs.Disk.{Files, View, ReadsAfter}
 use Rattle.disk_defs.specs.Frames.{SameOutside, OthersStay}
 use Rattle.gated_file.specs.State.{State, settled}
 use Rattle.gated_file.specs.Gated as gates

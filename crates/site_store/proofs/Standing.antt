@@ -1,5 +1,5 @@
 -- What an open site's images stand for.
-use Rattle.std.proofs.Common.{◌≡◌, ◌⊎◌, ◌≤◌, ℕ, Bool, true, length, take, inl, subst, refl}
+use Rattle.std.proofs.Common.{true, length, subst, refl}
 use Rattle.std.proofs.Math.Seq.{take-length}
 use Rattle.disk_defs.specs.Disk.{Files, View, Image}
 use Rattle.world_defs.specs.World.{Contents}
