@@ -1,14 +1,14 @@
 -- The next generation is drawn, and begins, as files have it.
-use Rattle.std.proofs.Common.{◌≡◌, ◌≢◌, ◌⊎◌, inl, inr, ℕ, zero, suc, ◌+◌, ◌≤◌, ◌<◌, List, [], ◌∷◌, ◌++◌, length, take, Option, Some, None, IfSome, IsSomeAnd, refl, sym, ◌∙◌, ap, subst, arith}
+use Rattle.std.proofs.Common.{◌≡◌, ◌⊎◌, inl, inr, ℕ, zero, suc, ◌≤◌, List, [], ◌∷◌, ◌++◌, take, Option, Some, None, IfSome, IsSomeAnd, refl, sym, ◌∙◌, ap, subst, arith}
 use Rattle.std.specs.List.{AllZip}
-use Rattle.disk_defs.specs.Disk.{Files, View, Image, IsLawful, From, OnFile, AtEachMoment, ReadsAfter, IsDurable}
+use Rattle.disk_defs.specs.Disk.{Files, View, Image, IsLawful, From, AtEachMoment, ReadsAfter}
 use Rattle.disk_defs.specs.Frames.{Only, OnlyOn, SameOutside, OthersStay}
 use Rattle.disk_defs.specs.Gates.{Body, records}
 use Rattle.disk_defs.proofs.Told.{with_told, weaker_told, both_weak}
 use Rattle.disk_defs.proofs.Moments.{weaker, then_more, only_then, holds_now}
 use Rattle.gated_file.specs.Begin.{KeepsRecords}
-use Rattle.journal_defs.specs.Numbers.{INSTANCE, journal_file}
-use Rattle.journal_defs.specs.Instance.{InstanceRecord, IsInstanceBody, generation}
+use Rattle.journal_defs.specs.Numbers.{INSTANCE}
+use Rattle.journal_defs.specs.Instance.{InstanceRecord}
 use Rattle.journal_defs.specs.Journal.{JournalRecord, IsJournalBody}
 use Rattle.journal_defs.specs.Sequence.{Placed}
 use Rattle.journal_defs.specs.Stands.{IsInstance, Holds}

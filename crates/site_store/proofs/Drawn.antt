@@ -1,6 +1,6 @@
 -- A site that was read, whose next generation is drawn and begins.
-use Rattle.std.proofs.Common.{◌≡◌, ◌≢◌, ◌⊎◌, inl, inr, ℕ, zero, suc, ◌+◌, ◌≤◌, ◌<◌, ◌==◌, Bool, true, false, List, [], ◌∷◌, ◌++◌, length, map, Some, None, refl, sym, ◌∙◌, ap, subst, arith, append-nil}
-use Rattle.std.specs.Prelude.{if◌then◌else◌, get_or}
+use Rattle.std.proofs.Common.{◌≡◌, ◌≢◌, inl, inr, ℕ, zero, suc, ◌+◌, ◌≤◌, ◌<◌, ◌==◌, true, false, List, [], ◌∷◌, ◌++◌, length, map, Some, None, refl, sym, ◌∙◌, ap, subst, arith, append-nil}
+use Rattle.std.specs.Prelude.{if◌then◌else◌}
 use Rattle.std.specs.List.{filter_map}
 use Rattle.std.specs.Option.{unwrap_or}
 use Rattle.std.proofs.lemmas.Bool.{cases_eq}
@@ -12,7 +12,7 @@ use Rattle.disk_defs.specs.Frames.{Only, SameOutside}
 use Rattle.disk_defs.specs.Gates.{Body, records}
 use Rattle.global_defs.specs.Entry.{Sequence}
 use Rattle.journal_defs.specs.Numbers.{INSTANCE, journal_file, database_file, lost_file, broken_file}
-use Rattle.journal_defs.specs.Journal.{JournalRecord, Start, Pini, IsJournalBody}
+use Rattle.journal_defs.specs.Journal.{Start, IsJournalBody}
 use Rattle.journal_defs.specs.Instance.{InstanceRecord, Cut, IsInstanceBody, generation, regions, mode_of}
 use Rattle.journal_defs.specs.Directory.{pattern_in}
 use Rattle.journal_defs.specs.Sequence.{Placed, Records, part_of, parts, IsSequence}
@@ -38,7 +38,7 @@ use Rattle.world_defs.specs.Ties.{start_in, IsSite}
 use Rattle.site_store.specs.Opening.{OpensTo}
 use Rattle.site_store.specs.Loading.{MayBeOpened, AreRead, WasRead, MayDraw, HasDrawn, next_cut, next_journal, next_pini, contents_of}
 use Rattle.site_store.proofs.Images.{zip_front, one_instance_body, same_bodies, clean_after, same_image, AreOf, are_of, site_of}
-use Rattle.site_store.proofs.Made.{OneBody, one_body}
+use Rattle.site_store.proofs.Made.{one_body}
 use Rattle.site_store.proofs.Starts.{starts_of, last_is, mode_cut}
 
 journal_kept : (old new : Files) (q g last : ℕ) (js : List Placed) → ((h : ℕ) → 1 ≤ h → h ≤ g → new (journal_file h q) ≡ old (journal_file h q)) → IsJournal old q g last js → IsJournal new q g last js

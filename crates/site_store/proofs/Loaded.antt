@@ -1,17 +1,16 @@
 -- A site is opened.
-use Rattle.std.proofs.Common.{◌≡◌, ◌≢◌, ◌⊎◌, inl, inr, ℕ, suc, ◌+◌, ◌≤◌, ◌<◌, ◌^◌, Bool, true, false, List, [], ◌∷◌, ◌++◌, length, map, take, drop, Option, Some, None, IfSome, IsSomeAnd, refl, sym, ◌∙◌, ap, subst, arith}
+use Rattle.std.proofs.Common.{◌≡◌, inl, inr, ℕ, suc, ◌+◌, ◌≤◌, ◌<◌, ◌^◌, Bool, true, false, List, [], ◌∷◌, ◌++◌, length, map, take, Option, Some, None, IfSome, IsSomeAnd, refl, sym, ◌∙◌, ap, subst, arith}
 use Rattle.std.specs.Prelude.{IsSome, filter, nat_le, if◌then◌else◌}
 use Rattle.std.specs.List.{AllByRecursion, enumerate_from}
 use Rattle.std.proofs.lemmas.Bool.Decides.{nat_tests}
 use Rattle.std.proofs.Math.Seq.{take-length, drop-length}
 use Rattle.disk_defs.specs.Disk.{Files, View, Image, IsLawful, From, AtEachMoment}
-use Rattle.disk_defs.proofs.Told.{with_told, weaker_told, both_weak, told_at}
+use Rattle.disk_defs.proofs.Told.{weaker_told, both_weak, told_at}
 use Rattle.disk_defs.proofs.Moments.{weaker, then_more, holds_now}
 use Rattle.global_defs.specs.Entry.{Sequence, Reign, state}
 use Rattle.global_defs.specs.Fields.{IsSiteName}
 use Rattle.gvn_model.specs.Entries.{entry_value}
 use Rattle.gvn_model.specs.declared.entry.Entry.{Entry}
-use Rattle.journal_defs.specs.Journal.{Part}
 use Rattle.journal_defs.specs.Instance.{InstanceRecord, Create, Reigned, Cut, Map, Mode, IsInForm, BeginsWithCreate, generation, site_name}
 use Rattle.journal_defs.specs.Surviving.{reigns}
 use Rattle.journal_defs.specs.Sequence.{IsSequence}
@@ -34,7 +33,7 @@ use Rattle.site_store.specs.Opening.{OpensTo, MayOpen, EachStands}
 use Rattle.site_store.specs.Loading.{MayBeOpened, AreRead, WasRead, MayDraw, HasDrawn, next_cut, next_pini, contents_of}
 use Rattle.site_store.proofs.Found.{instance_one, blank_instance}
 use Rattle.site_store.proofs.Begun.{reads_so}
-use Rattle.site_store.proofs.Drawn.{S3, C, image_read, site_read, site_drawn, site_begun, has_begun, none_begun, no_epoch_begun, older_still}
+use Rattle.site_store.proofs.Drawn.{S3, image_read, site_read, site_drawn, site_begun, has_begun, none_begun, no_epoch_begun, older_still}
 
 pub length_values : (es : List Entry) → length (map entry_value es) ≡ length es
 length_values [] = refl

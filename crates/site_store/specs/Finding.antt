@@ -1,5 +1,5 @@
 -- What the records of an instance file say of a site.
-use Rattle.std.specs.Prelude.{◌≡◌, ℕ, ◌<◌, List, [], length, Option, Some, None}
+use Rattle.std.specs.Prelude.{◌≡◌, ◌<◌, List, [], length, Option, Some, None}
 use Rattle.journal_defs.specs.Instance.{InstanceRecord, site_name, generation}
 use Rattle.site_store.specs.declared.creating.Layout.{Layout}
 

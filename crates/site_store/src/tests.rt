@@ -37,6 +37,13 @@ fn has<D: Disk>(disk: &mut D, file: u32, bytes: &[u8; 18]) -> Result<bool, Fail>
     Ok(&read == bytes)
 }
 
+/// Writes these bytes at the start of a file.
+fn write_bytes<D: Disk>(disk: &mut D, file: u32, bytes: &[u8]) -> Result<(), Fail> {
+    disk.room(file, 1, bytes.len() as u64)?;
+    disk.write_at(file, 0, bytes)?;
+    Ok(())
+}
+
 #[test]
 fn no_site_on_a_new_disk(rt: HostRuntime) -> Result<(), Fail> {
     let alloc = rt.alloc();
@@ -70,8 +77,7 @@ fn a_journal_outside_its_format(rt: HostRuntime) -> Result<(), Fail> {
     let mut disk = MemDisk::new(alloc)?;
     make(alloc, &mut disk)?;
     load(alloc, &mut disk)?;
-    disk.room(24, 1, 5)?;
-    disk.write_at(24, 0, b"\x01\0\x0f\xff\xff")?;
+    write_bytes(&mut disk, 24, b"\x01\0\x0f\xff\xff")?;
     let opened = load(alloc, &mut disk).err();
     assert_eq!(rt;
         opened,

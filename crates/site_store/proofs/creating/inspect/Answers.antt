@@ -1,4 +1,4 @@
-use Rattle.std.proofs.Common.{rules, ◌≡◌, ℕ, List, [], map, Option, Some, None, IfSome, sym, ◌∙◌, subst}
+use Rattle.std.proofs.Common.{rules, ◌≡◌, List, [], Option, Some, None, sym, subst}
 use Rattle.disk_defs.specs.Disk.{Files, Image, IsDurable}
 use Rattle.disk_defs.specs.Gates.{records}
 use Rattle.disk_defs.proofs.Told.{weaker_told, told_at}

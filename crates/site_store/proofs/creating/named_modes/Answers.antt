@@ -1,4 +1,3 @@
-use Rattle.std.proofs.Common.{◌≡◌}
 use Rattle.site_store.proofs.Regions.{named_more}
 use Rattle.site_store.proofs.creating.named_modes.Goals as goal
 

@@ -1,4 +1,4 @@
-use Rattle.std.proofs.Common.{◌≡◌, ℕ, ◌+◌, List, IfSome, ap, subst, arith}
+use Rattle.std.proofs.Common.{◌≡◌, ℕ, ◌+◌, List, ap, subst, arith}
 use Rattle.disk_defs.specs.Disk.{AtEachMoment}
 use Rattle.disk_defs.specs.Frames.{Only, OnlyOn}
 use Rattle.disk_defs.proofs.Frames.{others_then}

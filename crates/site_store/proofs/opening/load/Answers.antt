@@ -1,7 +1,6 @@
-use Rattle.std.proofs.Common.{◌≡◌, ℕ, List, [], ◌∷◌, ◌++◌, length, map, None, IfSome, refl, sym, ◌∙◌, ap, subst, arith}
+use Rattle.std.proofs.Common.{◌≡◌, ℕ, [], ◌∷◌, ◌++◌, length, map, None, IfSome, refl, sym, ◌∙◌, subst, arith}
 use Rattle.disk_defs.specs.Disk.{Files, Image, From, AtEachMoment}
 use Rattle.gvn_model.specs.Entries.{entry_value}
-use Rattle.journal_defs.specs.Instance.{InstanceRecord}
 use Rattle.instance_file.specs.Instance as instances
 use Rattle.jnl_record.specs.Values.{placed_value}
 use Rattle.site_store.specs.declared.site.OpenSite.{OpenSite}

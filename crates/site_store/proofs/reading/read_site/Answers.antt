@@ -1,7 +1,6 @@
-use Rattle.std.proofs.Common.{rules, ◌≡◌, ℕ, ◌+◌, ◌≤◌, ◌<◌, List, [], map, Some, IfSome, sym, ◌∙◌, ap, subst, arith}
+use Rattle.std.proofs.Common.{rules, ◌≡◌, ℕ, ◌+◌, List, [], Some, IfSome, ◌∙◌, ap, subst, arith}
 use Rattle.disk_defs.specs.Gates.{records}
 use Rattle.disk_defs.proofs.Told.{told_at}
-use Rattle.instance_file.specs.Values.{record_value}
 use Rattle.journal_defs.specs.Numbers.{journal_file}
 use Rattle.journal_defs.specs.Instance.{generation}
 use Rattle.journal_defs.specs.Sequence.{Placed}
