@@ -69,7 +69,7 @@ impl Reign {
         match self.site.harden(disk) {
             Ok(_) => Ok(()),
             Err(SiteError::Failed { .. }) => Err(DecideError::Failed),
-            Err(_) => Err(DecideError::NoMemory),
+            Err(_) => unreachable!(),
         }
     }
 }
