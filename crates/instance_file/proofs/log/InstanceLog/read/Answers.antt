@@ -1,5 +1,5 @@
-use Rattle.std.proofs.Common.{rules, ◌≡◌, ℕ, List, IfSome, sym, subst}
-use Rattle.disk_defs.specs.Disk.{Files, Image}
+use Rattle.std.proofs.Common.{rules, ℕ, List, IfSome, subst}
+use Rattle.disk_defs.specs.Disk.{Image}
 use Rattle.disk_defs.proofs.Told.{weaker_told, told_at}
 use Rattle.disk_defs.proofs.Moments.{nothing_new, read_only}
 use Rattle.gated_file.specs.Reading.{IsOutside}
