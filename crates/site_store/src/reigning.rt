@@ -64,7 +64,7 @@ impl OpenSite {
     /// # Errors
     /// `ReignLimit` exactly where 32,768 reigns have begun by the length, or a reign has the last cycle, also one that a CUT
     /// dropped; nothing has changed then. `Failed` only where the disk's count rose; a crash may then find the reign all the same.
-    /// `NoMemory`, after which nothing has changed.
+    /// `NoMemory`; the site may have more room then than it had.
     pub fn start_reign<D: Disk>(&mut self, alloc: Global, disk: &mut D) -> Result<Stamp, SiteError>
         requires ready { IsReady (D.disk disk.old) self.old }
         requires opened { WasOpened self.old }
