@@ -154,3 +154,9 @@ state_written s r n cycle len rs before mid now is e c l h m t =
     ∙ ap (λ (x : ℕ). before ++ (first s.name (stamp_of r).cycle x ++ lines s.name (map reign_value rs))) l
     ∙ ap (λ (x : List defs.Reign). before ++ (first s.name (stamp_of r).cycle (length r.site.entries.items) ++ lines s.name x)) h
     ∙ ap (λ (x : State). before ++ state_text s.name x) (sym is)
+
+pub down_written : (s : Site) (n : Name) (before now : List ℕ) → s.state ≡ Down → n ≡ s.name → now ≡ before ++ line n (codes "STATE DOWN") → now ≡ before ++ state_text s.name s.state
+down_written s n before now is e t = t ∙ ap (λ (x : Name). before ++ line x (codes "STATE DOWN")) e ∙ ap (λ (x : State). before ++ state_text s.name x) (sym is)
+
+pub failed_written : (s : Site) (n : Name) (k : ℕ) (before now : List ℕ) → s.state ≡ Failed k → n ≡ s.name → now ≡ before ++ line n (codes "STATE FAILED " ++ decimal k) → now ≡ before ++ state_text s.name s.state
+failed_written s n k before now is e t = t ∙ ap (λ (x : Name). before ++ line x (codes "STATE FAILED " ++ decimal k)) e ∙ ap (λ (x : State). before ++ state_text s.name x) (sym is)
