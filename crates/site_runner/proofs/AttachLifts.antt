@@ -8,7 +8,7 @@ use Rattle.disk_defs.specs.Disk.{View}
 use Rattle.journal_defs.specs.Instance.{InstanceRecord, site_name}
 use Rattle.site_store.specs.declared.creating.Layout.{Layout}
 use Rattle.site_store.specs.declared.error.SiteError.{SiteError}
-use Rattle.site_store.specs.declared.error.SiteError.TheVariants.{Failed, Full, SeqLimit, GenLimit, ReignLimit, NotAFile, NoMemory}
+use Rattle.site_store.specs.declared.error.SiteError.TheVariants.{Failed, Stopped, Full, SeqLimit, GenLimit, ReignLimit, NotAFile, NoMemory}
 use Rattle.world_laws.proofs.ReignsFit.{names_same}
 use Rattle.command_defs.specs.Commands.{Name, Attach}
 use Rattle.world_defs.specs.Lists.{first_where}
@@ -95,6 +95,7 @@ no_disk_to_attach view slots before now f t w h =
 pub attach_failed : {D : Type 0} (view : D → View) (slots : List (Slot D)) (i : ℕ) (d s : Slot D) (e : SiteError) (before now : List ℕ) → i < length slots → first_where is_slot_free (take 8 slots) ≡ Some i
     → LooksHere view (get_or slots i d) s (Err e) → Tells e ATTACHING before now → Executes view Attach slots (set slots i s) before now
 attach_failed view slots i d s (Failed fault) before now k f look t = attach_lifted view slots i d s before now k f (λ w p h g at_p. let r = look p at_p in (DiskFault fault, r.0, r.1, r.2, t))
+attach_failed view slots i d s (Stopped fault) before now k f look t = absurd t
 attach_failed view slots i d s (Full nodes) before now k f look t = absurd t
 attach_failed view slots i d s SeqLimit before now k f look t = absurd t
 attach_failed view slots i d s GenLimit before now k f look t = absurd t

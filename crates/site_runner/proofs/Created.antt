@@ -16,7 +16,7 @@ use Rattle.repl_script.specs.Commands as script
 use Rattle.site_store.specs.declared.site.RegionSpec.{RegionSpec}
 use Rattle.site_store.specs.declared.creating.Layout.{Layout}
 use Rattle.site_store.specs.declared.error.SiteError.{SiteError}
-use Rattle.site_store.specs.declared.error.SiteError.TheVariants.{Failed, Full, SeqLimit, GenLimit, ReignLimit, NotAFile, NoMemory}
+use Rattle.site_store.specs.declared.error.SiteError.TheVariants.{Failed, Stopped, Full, SeqLimit, GenLimit, ReignLimit, NotAFile, NoMemory}
 use Rattle.site_store.specs.Opening as store
 use Rattle.site_store.specs.Opening.{made, MayMake}
 use Rattle.world_defs.specs.Lists.{Among}
@@ -143,6 +143,7 @@ making_left v w p name specs o k e m u =
 
 abbrev pub Unwritten : SiteError → View → View → Type 0
 Unwritten (Failed fault) v w = (fault ≡ w.faults) × Rose v.faults w.faults
+Unwritten (Stopped fault) v w = Unit {0}
 Unwritten (Full nodes) v w = Unit {0}
 Unwritten SeqLimit v w = Unit {0}
 Unwritten GenLimit v w = Unit {0}
@@ -153,6 +154,7 @@ Unwritten NoMemory v w = Unit {0}
 pub unwritten : (v w : View) (r : Result Unit SiteError) (e : SiteError) → r ≡ Err e → ((fault : ℕ) → IsErrOf r (Failed fault) → fault ≡ w.faults) → ((fault : ℕ) → IsErrOf r (Failed fault) → Rose v.faults w.faults)
     → ((file offset : ℕ) → IsErrOf r (NotAFile file offset) → ⊥) → Unwritten e v w
 unwritten v w r (Failed fault) is count cause other = (count fault is, cause fault is)
+unwritten v w r (Stopped fault) is count cause other = tt
 unwritten v w r (Full nodes) is count cause other = tt
 unwritten v w r SeqLimit is count cause other = tt
 unwritten v w r GenLimit is count cause other = tt
@@ -181,6 +183,7 @@ make_failed view old disk name specs rs (Failed fault) before now k are free f t
       record { disk = m.2; site = h.site; held = none_held view (record { disk = disk; site = old.site }) q free },
       t,
     )
+make_failed view old disk name specs rs (Stopped fault) before now k are free f t p h u = absurd t
 make_failed view old disk name specs rs (Full nodes) before now k are free f t p h u = absurd t
 make_failed view old disk name specs rs SeqLimit before now k are free f t p h u = absurd t
 make_failed view old disk name specs rs GenLimit before now k are free f t p h u = absurd t
@@ -205,6 +208,7 @@ pub create_failed : {D : Type 0} (view : D → View) (old new : Slot D) (name : 
 create_failed view old new name regions (Failed fault) before now look t p h =
     let r = look p h in
     (DiskFault fault, r.0, record { free = r.1.free; site = r.1.site; now = λ known. inl (r.1.now known); outcomes = λ known o a. inl (r.1.outcomes known o a); faults = r.1.faults }, r.2, t)
+create_failed view old new name regions (Stopped fault) before now look t p h = absurd t
 create_failed view old new name regions (Full nodes) before now look t p h = absurd t
 create_failed view old new name regions SeqLimit before now look t p h = absurd t
 create_failed view old new name regions GenLimit before now look t p h = absurd t

@@ -6,7 +6,7 @@ use Rattle.disk_defs.specs.Disk.{Files, View, Image, IsLawful, AtEachMoment, Ros
 use Rattle.journal_defs.specs.Instance.{InstanceRecord, site_name}
 use Rattle.site_store.specs.declared.creating.Layout.{Layout}
 use Rattle.site_store.specs.declared.error.SiteError.{SiteError}
-use Rattle.site_store.specs.declared.error.SiteError.TheVariants.{Failed, Full, SeqLimit, GenLimit, ReignLimit, NotAFile, NoMemory}
+use Rattle.site_store.specs.declared.error.SiteError.TheVariants.{Failed, Stopped, Full, SeqLimit, GenLimit, ReignLimit, NotAFile, NoMemory}
 use Rattle.site_store.specs.Opening.{IsFound, StandsAsBefore}
 use Rattle.command_defs.specs.Commands.{Name, Command}
 use Rattle.world_defs.specs.Lists.{Among}
@@ -135,6 +135,7 @@ looked_before view old disk p k free h =
 
 abbrev pub Unread : SiteError → View → View → Type 0
 Unread (Failed fault) v w = (fault ≡ w.faults) × Rose v.faults w.faults
+Unread (Stopped fault) v w = Unit {0}
 Unread (Full nodes) v w = Unit {0}
 Unread SeqLimit v w = Unit {0}
 Unread GenLimit v w = Unit {0}
@@ -182,6 +183,7 @@ saw_nothing view old disk (NotAFile file offset) k free u p h =
         held = none_held view (record { disk = disk; site = old.site }) q free;
       },
     )
+saw_nothing view old disk (Stopped fault) k free u p h = left_so view old disk k free p h
 saw_nothing view old disk (Full nodes) k free u p h = left_so view old disk k free p h
 saw_nothing view old disk SeqLimit k free u p h = left_so view old disk k free p h
 saw_nothing view old disk GenLimit k free u p h = left_so view old disk k free p h
@@ -192,6 +194,7 @@ saw_nothing view old disk NoMemory k free u p h = left_so view old disk k free p
 sees_old : (r : Result (Option Layout) SiteError) (p q : Place) → Sees r p q → LeavesOld p q
 sees_old (Ok found) p q s = record { told = s.kept.same.told; outcomes = λ known. s.kept.outcomes }
 sees_old (Err (Failed fault)) p q s = record { told = s.faults.same.told; outcomes = s.outcomes }
+sees_old (Err (Stopped fault)) p q s = s
 sees_old (Err (Full nodes)) p q s = s
 sees_old (Err SeqLimit) p q s = s
 sees_old (Err GenLimit) p q s = s
@@ -215,6 +218,7 @@ pub looks : {D : Type 0} (view : D → View) (old : Slot D) (disk : D) (r : Resu
     → LooksHere view old (record { disk = disk; site = old.site }) r
 looks view old disk (Ok found) k free is same alike outside count cause = saw view old disk found k free is same alike
 looks view old disk (Err (Failed fault)) k free is same alike outside count cause = saw_nothing view old disk (Failed fault) k free (count fault refl, cause fault refl)
+looks view old disk (Err (Stopped fault)) k free is same alike outside count cause = saw_nothing view old disk (Stopped fault) k free tt
 looks view old disk (Err (Full nodes)) k free is same alike outside count cause = saw_nothing view old disk (Full nodes) k free tt
 looks view old disk (Err SeqLimit) k free is same alike outside count cause = saw_nothing view old disk SeqLimit k free tt
 looks view old disk (Err GenLimit) k free is same alike outside count cause = saw_nothing view old disk GenLimit k free tt

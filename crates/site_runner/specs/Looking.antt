@@ -5,7 +5,7 @@ use Rattle.disk_defs.specs.Disk.{View}
 use Rattle.journal_defs.specs.Instance.{site_name}
 use Rattle.site_store.specs.declared.creating.Layout.{Layout}
 use Rattle.site_store.specs.declared.error.SiteError.{SiteError}
-use Rattle.site_store.specs.declared.error.SiteError.TheVariants.{Failed, Full, SeqLimit, GenLimit, ReignLimit, NotAFile, NoMemory}
+use Rattle.site_store.specs.declared.error.SiteError.TheVariants.{Failed, Stopped, Full, SeqLimit, GenLimit, ReignLimit, NotAFile, NoMemory}
 use Rattle.command_defs.specs.Commands.{Name}
 use Rattle.world_defs.specs.Lists.{Among}
 use Rattle.world_defs.specs.World.{Contents, Place, NoNew, Kept, is_made, same_name}
@@ -34,6 +34,7 @@ pub record LeavesOld (old new : Place) : Type 0 where
 abbrev pub Sees : Result (Option Layout) SiteError → Place → Place → Type 0
 Sees (Ok found) p q = Finds found p q
 Sees (Err (Failed fault)) p q = FailsBefore fault (OldOnes p) p q
+Sees (Err (Stopped fault)) p q = LeavesOld p q
 Sees (Err (Full nodes)) p q = LeavesOld p q
 Sees (Err SeqLimit) p q = LeavesOld p q
 Sees (Err GenLimit) p q = LeavesOld p q
@@ -48,6 +49,7 @@ LooksHere view old new result = (p : Place) → IsPlace view old p → (q : Plac
 -- a failure's line, which begins with that word; for want of memory there is none
 abbrev pub Tells : SiteError → Name → List ℕ → List ℕ → Type 0
 Tells (Failed fault) word before now = now ≡ before ++ line word (codes "DISKFAULT " ++ decimal fault)
+Tells (Stopped fault) word before now = ⊥
 Tells (Full nodes) word before now = ⊥
 Tells SeqLimit word before now = ⊥
 Tells GenLimit word before now = ⊥

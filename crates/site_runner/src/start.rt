@@ -1,7 +1,6 @@
 // START PRIMARY.
-ghost use Rattle.std.specs.Prelude.{◌≡◌, ◌≢◌, map, OnOk, OnErr, MatchBool};
+ghost use Rattle.std.specs.Prelude.{◌≡◌, ◌≢◌, OnOk, OnErr, MatchBool};
 ghost use Rattle.journal_defs.specs.Instance.{site_name};
-ghost use Rattle.instance_file.specs.Values.{record_value};
 ghost use Rattle.command_defs.specs.Commands.{StartPrimary};
 ghost use Rattle.site_store.specs.Site.{IsReady, WasOpened};
 ghost use Rattle.site_runner.specs.declared.slot.State.TheVariants.{Down};
@@ -12,27 +11,16 @@ ghost use Rattle.site_runner.specs.Starting.{BeginsAt, IsCutOpened};
 use super::slot::{Site, State};
 use super::text::{write_line, write_not_a_file, write_numbered, write_primary};
 use gvn_key::{Bytes, NoMemory};
-use instance_file::InstanceRecord;
 use repl_disk::Disk;
 use repl_section::Reign;
-use site_store::{OpenSite, SiteError, load};
+use site_store::{OpenSite, SiteError, created_name, load};
 use std::alloc::Global;
-
-/// The name that an instance file gives its site.
-fn name_of(records: &[InstanceRecord]) -> &[u8]
-    ensures { result.now ≡ site_name (map record_value records.now) }
-{
-    match records {
-        [InstanceRecord::Create { name, .. }, ..] => name.as_slice(),
-        _ => &[],
-    }
-}
 
 /// Whether the site that was opened has this name.
 fn is_named(opened: &OpenSite, name: &[u8]) -> bool
     ensures { MatchBool result (site_name opened.now.instance.records ≡ name.now) (site_name opened.now.instance.records ≢ name.now) }
 {
-    name_of(opened.instance.records().as_slice()) == name
+    created_name(opened.instance.records().as_slice()) == name
 }
 
 /// Begins the reign of a site that was opened. Past the limit of reigns it's closed again.

@@ -17,3 +17,5 @@ pub mod Cutting
 pub mod Starts
 pub mod Drawn
 pub mod Loaded
+pub mod Unwritten
+pub mod Owned

@@ -91,6 +91,7 @@ impl OpenSite {
         ensures later { (D.disk disk.old).faults ≤ (D.disk disk.new).faults }
         ensures count { (fault : ℕ) → IsErrOf result (SiteError.Failed fault) → fault ≡ (D.disk disk.new).faults }
         ensures cause { (fault : ℕ) → IsErrOf result (SiteError.Failed fault) → Rose (D.disk disk.old).faults (D.disk disk.new).faults }
+        ensures no_stop { (fault : ℕ) → IsErrOf result (SiteError.Stopped fault) → ⊥ }
         ensures no_other { IsErrOf result SiteError.GenLimit ⊎ IsErrOf result SiteError.ReignLimit ⊎ ((file : ℕ) × (offset : ℕ) × IsErrOf result (SiteError.NotAFile file offset)) → ⊥ }
     {
         if LAST_NUMBER <= self.entries.len() as u64 {
@@ -116,6 +117,8 @@ impl OpenSite {
         ensures ready { OnOk result (IsReady (D.disk disk.new) self.new) }
         ensures done { OnOk result ((told : Bool) (c : Contents) (h : ℕ) → IsOpen (D.disk disk.old) told c h self.old → IsOpen (D.disk disk.new) told c (length c.sequence) self.new) }
         ensures length { IfOk result (λ n. n ≡ length self.old.entries.items) }
+        ensures entries { self.new.entries.items ≡ self.old.entries.items }
+        ensures all { OnOk result (self.new.hardened ≡ length self.new.entries.items) }
         ensures stamp { self.new.stamp ≡ self.old.stamp }
         ensures reign { HasReign self.old → HasReign self.new }
         ensures any_moment { (c : Contents) (h : ℕ) → IsOpen (D.disk disk.old) true c h self.old → AtEachMoment (D.disk disk.old) (D.disk disk.new) (λ f. (o : Contents) × IsFrontOf c.sequence h c o × IsSite f o) }

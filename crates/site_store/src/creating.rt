@@ -12,7 +12,7 @@ ghost use Rattle.site_store.specs.Finding.{IsLaidOut};
 ghost use Rattle.site_store.specs.Opening.{region_value, made, MayMake, StandsAsBefore, IsFound};
 
 use crate::error::SiteError;
-use crate::finding::{generation_in, in_instance, name_in, read_instance, sync_instance};
+use crate::finding::{created_name, generation_in, in_instance, read_instance, sync_instance};
 use crate::site::RegionSpec;
 use gvn_key::{Bytes, NoMemory};
 use gvn_model::NamedModes;
@@ -37,7 +37,7 @@ fn layout_of(alloc: Global, records: &[InstanceRecord]) -> Result<Option<Layout>
         return Ok(None);
     }
     Ok(Some(Layout {
-        name: name_in(alloc, records)?,
+        name: Bytes::of(alloc, created_name(records))?,
         generation: generation_in(records),
     }))
 }
@@ -58,6 +58,7 @@ pub fn inspect<D: Disk>(alloc: Global, disk: &mut D) -> Result<Option<Layout>, S
     ensures later { (D.disk disk.old).faults ≤ (D.disk disk.new).faults }
     ensures count { (fault : ℕ) → IsErrOf result (SiteError.Failed fault) → fault ≡ (D.disk disk.new).faults }
     ensures cause { (fault : ℕ) → IsErrOf result (SiteError.Failed fault) → Rose (D.disk disk.old).faults (D.disk disk.new).faults }
+    ensures no_stop { (fault : ℕ) → IsErrOf result (SiteError.Stopped fault) → ⊥ }
 {
     let log = read_instance(alloc, disk)?;
     Ok(layout_of(alloc, log.records.as_slice())?)
@@ -97,6 +98,7 @@ pub fn create<D: Disk>(
     ensures count { (fault : ℕ) → IsErrOf result (SiteError.Failed fault) → fault ≡ (D.disk disk.new).faults }
     ensures cause { (fault : ℕ) → IsErrOf result (SiteError.Failed fault) → Rose (D.disk disk.old).faults (D.disk disk.new).faults }
     ensures other_errors { (file : ℕ) (offset : ℕ) → IsErrOf result (SiteError.NotAFile file offset) → ⊥ }
+    ensures no_stop { (fault : ℕ) → IsErrOf result (SiteError.Stopped fault) → ⊥ }
 {
     sync_instance(disk)?;
     let regions = named_modes(alloc, regions)?;

@@ -8,6 +8,9 @@ pub enum SiteError {
     /// A call of the disk failed, the one of that number on it.
     #[error("call {fault} of the disk failed")]
     Failed { fault: u64 },
+    /// A call before failed, the one of that number on the disk.
+    #[error("call {fault} of the disk failed before")]
+    Stopped { fault: u64 },
     /// More nodes would stand after one of the updates than there may be.
     #[error("{nodes} nodes are more than there may be")]
     Full { nodes: u32 },

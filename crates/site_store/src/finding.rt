@@ -13,7 +13,6 @@ ghost use Rattle.site_store.specs.Errors.{instance_error};
 
 use crate::error::SiteError;
 use gated_file::{GateError, sync_file};
-use gvn_key::{Bytes, NoMemory};
 use instance_file::{InstanceError, InstanceLog, InstanceRecord};
 use repl_disk::Disk;
 use std::alloc::Global;
@@ -33,12 +32,12 @@ pub fn in_instance(error: InstanceError, fault: u64) -> SiteError
 }
 
 /// The name in a CREATE that these records begin with, or no byte where they begin with another one.
-pub fn name_in(alloc: Global, records: &[InstanceRecord]) -> Result<Bytes, NoMemory>
-    ensures { IfOk result (λ made. made ≡ defs.site_name (map record_value records.now)) }
+pub fn created_name(records: &[InstanceRecord]) -> &[u8]
+    ensures { result.now ≡ defs.site_name (map record_value records.now) }
 {
     match records {
-        [InstanceRecord::Create { name, .. }, ..] => Bytes::of(alloc, name.as_slice()),
-        _ => Ok(Bytes::new(alloc)),
+        [InstanceRecord::Create { name, .. }, ..] => name.as_slice(),
+        _ => &[],
     }
 }
 
@@ -65,6 +64,7 @@ pub fn sync_instance<D: Disk>(disk: &mut D) -> Result<(), SiteError>
     ensures count { (fault : ℕ) → IsErrOf result (SiteError.Failed fault) → fault ≡ (D.disk disk.new).faults }
     ensures cause { (fault : ℕ) → IsErrOf result (SiteError.Failed fault) → Rose (D.disk disk.old).faults (D.disk disk.new).faults }
     ensures outside { (file offset : ℕ) → IsErrOf result (SiteError.NotAFile file offset) → ⊥ }
+    ensures no_stop { (fault : ℕ) → IsErrOf result (SiteError.Stopped fault) → ⊥ }
 {
     match sync_file(disk, FILE) {
         Ok(()) => Ok(()),

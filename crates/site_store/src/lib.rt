@@ -15,6 +15,7 @@ mod error;
 mod finding;
 mod fitting;
 mod opening;
+mod owning;
 mod reading;
 mod recording;
 mod reigning;
@@ -25,5 +26,7 @@ mod tests;
 
 pub use creating::{Layout, create, inspect};
 pub use error::SiteError;
+pub use finding::created_name;
 pub use opening::load;
+pub use owning::Site;
 pub use site::{OpenSite, RegionSpec};

@@ -43,6 +43,7 @@ pub fn load<D: Disk>(alloc: Global, disk: &mut D) -> Result<OpenSite, SiteError>
     ensures other_errors { IsErrOf result SiteError.SeqLimit → ⊥ }
     ensures no_full { (nodes : ℕ) → IsErrOf result (SiteError.Full nodes) → ⊥ }
     ensures no_reign_limit { IsErrOf result SiteError.ReignLimit → ⊥ }
+    ensures no_stop { (fault : ℕ) → IsErrOf result (SiteError.Stopped fault) → ⊥ }
 {
     let read = read_site(alloc, disk)?;
     let ReadSite {

@@ -1,8 +1,7 @@
 //! Beginning a reign.
-ghost use Rattle.std.specs.Prelude.{◌≡◌, ◌⊎◌, ◌≤◌, ◌<◌, ◌^◌, ℕ, Bool, true, length, map, Some, None, IfOk, IfSome, OnOk, OnErr, IsErrOf, IsSome};
+ghost use Rattle.std.specs.Prelude.{◌≡◌, ◌⊎◌, ◌≤◌, ◌<◌, ◌^◌, ℕ, Bool, true, length, Some, None, IfOk, IfSome, OnOk, OnErr, IsErrOf, IsSome};
 ghost use Rattle.disk_defs.specs.Disk.{Files, Image, AtEachMoment, Rose};
 ghost use Rattle.gvn_model.specs.Reigns.{stamp_value, reign_value};
-ghost use Rattle.instance_file.specs.Values.{record_value};
 ghost use Rattle.journal_defs.specs.Instance.{site_name};
 ghost use Rattle.world_defs.specs.Answers.{ReignLimit};
 ghost use Rattle.world_defs.specs.World.{Contents};
@@ -13,25 +12,16 @@ ghost use Rattle.site_store.specs.Site.{Remembers, IsReady, IsOpen, WasOpened, H
 ghost use Rattle.site_store.specs.Reigning.{IsNextReign, HasReignLeft, HasNoReignLeft};
 
 use crate::error::SiteError;
+use crate::finding::created_name;
 use crate::site::OpenSite;
-use gvn_key::{Bytes, NoMemory};
+use gvn_key::Bytes;
 use gvn_model::{Reign, Stamp};
-use instance_file::{InstanceError, InstanceRecord};
+use instance_file::InstanceError;
 use repl_disk::Disk;
 use std::alloc::Global;
 
 /// How many reigns may begin by the length.
 const MOST_REIGNS: usize = 32_768;
-
-/// The name in a CREATE that these records begin with, or no byte where they begin with another one.
-fn name_in(alloc: Global, records: &[InstanceRecord]) -> Result<Bytes, NoMemory>
-    ensures { IfOk result (λ made. made ≡ site_name (map record_value records.now)) }
-{
-    match records {
-        [InstanceRecord::Create { name, .. }, ..] => Bytes::of(alloc, name.as_slice()),
-        _ => Ok(Bytes::new(alloc)),
-    }
-}
 
 impl OpenSite {
     /// The reign that begins behind the last entry, under the site's own name and the next cycle.
@@ -49,7 +39,7 @@ impl OpenSite {
             return Err(SiteError::ReignLimit);
         };
         let stamp = Stamp {
-            root: name_in(alloc, self.instance.records().as_slice())?,
+            root: Bytes::of(alloc, created_name(self.instance.records().as_slice()))?,
             cycle,
         };
         Ok(Reign {
@@ -74,6 +64,7 @@ impl OpenSite {
         ensures remembered { IfOk result (λ stamp. self.new.stamp ≡ Some stamp) }
         ensures reign { OnOk result (HasReign self.new) }
         ensures entries { self.new.entries.items ≡ self.old.entries.items }
+        ensures hardened { self.new.hardened ≡ self.old.hardened }
         ensures room { OnOk result ((c : Contents) (h : ℕ) → Remembers c h self.old → reign_limit c ≡ None) }
         ensures limit { IsErrOf result SiteError.ReignLimit → (c : Contents) (h : ℕ) → Remembers c h self.old → reign_limit c ≡ Some ReignLimit }
         ensures kept { IsErrOf result SiteError.ReignLimit → (disk.new ≡ disk.old) × (self.new ≡ self.old) }

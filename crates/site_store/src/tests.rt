@@ -1,10 +1,16 @@
-//! A site made, opened twice, and damaged.
-ghost use Rattle.std.specs.Prelude.{◌≡◌, [], Some, IfSome};
+//! A site made, opened twice, and damaged; and one that owns its disk.
+ghost use Rattle.std.specs.Prelude.{◌≡◌, [], Some, IfSome, IfOk};
 ghost use Rattle.disk_defs.specs.Gates.{records};
+ghost use Rattle.global_defs.specs.Fields.{IsTransaction};
+ghost use Rattle.gvn_model.specs.Entries.{transaction_value};
 ghost use Rattle.journal_defs.specs.Numbers.{INSTANCE};
+ghost use Rattle.site_store.specs.Site.{HasReign};
+ghost use Rattle.site_store.specs.Owning.{IsGoing};
 
-use super::{RegionSpec, SiteError, create, inspect, load};
-use gvn_key::Bytes;
+use super::{RegionSpec, Site, SiteError, create, inspect, load};
+use gvn_key::terms::Update;
+use gvn_key::{Bytes, Key};
+use gvn_model::{Origin, Transaction, Updates};
 use repl_disk::{Disk, MemDisk};
 use std::alloc::Global;
 use std::test::Fail;
@@ -86,5 +92,110 @@ fn a_journal_outside_its_format(rt: HostRuntime) -> Result<(), Fail> {
             offset: 0
         })
     );
+    Ok(())
+}
+
+/// The site A on a disk without one, which it owns, with its first reign begun.
+fn begin<D: Disk>(alloc: Global, mut disk: D) -> Result<Site<D>, SiteError>
+    requires { IfSome (D.disk disk).content (λ files. records (files INSTANCE) ≡ Some []) }
+    ensures ready { IfOk result (IsGoing D.disk) }
+    ensures reign { IfOk result (λ s. HasReign s.open) }
+{
+    let name = Bytes::of(alloc, b"A")?;
+    let regions = [RegionSpec {
+        name: Bytes::of(alloc, b"R")?,
+        before: true,
+    }];
+    Site::create(alloc, &mut disk, &name, &regions)?;
+    let mut site = match Site::load(alloc, disk) {
+        Ok(site) => site,
+        Err((_, error)) => return Err(error),
+    };
+    site.start_reign(alloc)?;
+    Ok(site)
+}
+
+/// SET ^X=1, as the first job of updater 1.
+fn set(alloc: Global) -> Result<Transaction, Fail>
+    ensures { IfOk result (λ t. IsTransaction (transaction_value t)) }
+{
+    let key = Key::new(alloc, b"X", &[])?;
+    let _code = key.as_encoded();
+    let mut updates = Updates::new(alloc);
+    updates.push(Update::Set(key, Bytes::of(alloc, b"1")?))?;
+    let origin = Origin {
+        updater: 1,
+        serial: 1,
+    };
+    Ok(Transaction { origin, updates })
+}
+
+/// What was committed is found again after a close, whether it was hardened before or not.
+#[test]
+fn closed_and_opened_again(rt: HostRuntime) -> Result<(), Fail> {
+    let alloc = rt.alloc();
+    let t = set(alloc)?;
+    let mut site = begin(alloc, MemDisk::new(alloc)?)?;
+    assert!(rt; site.simulated());
+    assert_eq!(rt; site.commit(alloc, &t)?, 1);
+    assert_eq!(rt; site.hardened_length(), 0);
+    assert_eq!(rt; site.harden()?, 1);
+    assert_eq!(rt; site.commit(alloc, &t)?, 2);
+    let (disk, closed) = site.close();
+    closed?;
+    let Ok(mut site) = Site::load(alloc, disk) else {
+        return Err("no site")?;
+    };
+    assert_eq!(rt; site.sequence_length(), 2);
+    assert_eq!(rt; site.hardened_length(), 2);
+    assert_eq!(rt; site.history().len(), 1);
+    site.fuse(0);
+    let (disk, closed) = site.close();
+    closed?;
+    assert_eq!(rt; disk.faults(), 0);
+    Ok(())
+}
+
+/// After a fault each call answers its number, and a crash finds what was hardened.
+#[test]
+fn stopped_after_a_fault(rt: HostRuntime) -> Result<(), Fail> {
+    let alloc = rt.alloc();
+    let t = set(alloc)?;
+    let mut site = begin(alloc, MemDisk::new(alloc)?)?;
+    site.commit(alloc, &t)?;
+    site.harden()?;
+    site.fuse(0);
+    let Err(SiteError::Failed { fault }) = site.commit(alloc, &t) else {
+        return Err("a disk that goes on")?;
+    };
+    assert_eq!(rt; fault, 1);
+    assert_eq!(rt; site.commit(alloc, &t).err(), Some(SiteError::Stopped { fault: 1 }));
+    assert_eq!(rt; site.harden().err(), Some(SiteError::Stopped { fault: 1 }));
+    let (mut disk, closed) = site.close();
+    assert_eq!(rt; closed.err(), Some(SiteError::Stopped { fault: 1 }));
+    disk.crash(0);
+    let Ok(site) = Site::load(alloc, disk) else {
+        return Err("no site")?;
+    };
+    assert_eq!(rt; site.sequence_length(), 1);
+    Ok(())
+}
+
+/// A close hardens what waits, and so may fail. A disk that isn't a site's comes back.
+#[test]
+fn a_close_that_fails(rt: HostRuntime) -> Result<(), Fail> {
+    let alloc = rt.alloc();
+    let mut site = begin(alloc, MemDisk::new(alloc)?)?;
+    site.commit(alloc, &set(alloc)?)?;
+    site.fuse(0);
+    let (_, closed) = site.close();
+    assert_eq!(rt; closed.err(), Some(SiteError::Failed { fault: 1 }));
+    let site = begin(alloc, MemDisk::new(alloc)?)?;
+    assert_eq!(rt; site.abandon().faults(), 0);
+    let Err((disk, error)) = Site::load(alloc, MemDisk::new(alloc)?) else {
+        return Err("a site on a new disk")?;
+    };
+    assert_eq!(rt; error, SiteError::NotAFile { file: 0, offset: 0 });
+    assert_eq!(rt; disk.faults(), 0);
     Ok(())
 }

@@ -1,0 +1,51 @@
+-- A site that owns its disk.
+use Rattle.std.proofs.Common.{◌≡◌, ◌≢◌, ℕ, Bool, true, None, Some, length, take, refl, sym, ◌∙◌, subst, arith}
+use Rattle.std.specs.Prelude.{IfSome}
+use Rattle.disk_defs.specs.Disk.{Files, View, Image, IsLawful, AtEachMoment, Reads}
+use Rattle.disk_defs.proofs.Moments.{started}
+use Rattle.world_defs.specs.World.{Contents}
+use Rattle.world_defs.specs.Rows.{with_sequence, IsFrontOf}
+use Rattle.world_defs.specs.Ties.{IsSite}
+use Rattle.site_store.specs.declared.site.OpenSite.{OpenSite}
+use Rattle.site_store.specs.declared.owning.Site.{Site}
+use Rattle.site_store.specs.Site.{IsReady, IsOpen, HasAppended}
+use Rattle.site_store.specs.Owning.{IsGoing, MayBeCalled, IsOpenSite}
+use Rattle.site_store.proofs.Begun.{reads_of}
+use Rattle.site_store.proofs.Unwritten.{site_read, open_read}
+use Rattle.site_store.proofs.Remembered.{remembered_length}
+use Rattle.site_store.proofs.Standing.{images_stand}
+
+-- no entry waits
+pub open_settled : (v : View) (told : Bool) (c : Contents) (h : ℕ) (s : OpenSite) → s.hardened ≡ length s.entries.items → IsOpen v told c h s → IsOpen v told c (length c.sequence) s
+open_settled v told c h s all is =
+    let e : h ≡ length c.sequence = sym is.remembered.hardened ∙ all ∙ remembered_length c h s is.remembered in
+    subst (λ (k : ℕ). IsOpen v told c k s) e is
+
+-- without a call of the disk
+pub quiet_fronts : (v : View) (c : Contents) (h : ℕ) (s : OpenSite) → IsOpen v true c h s → AtEachMoment v v (λ f. (o : Contents) × IsFrontOf c.sequence h c o × IsSite f o)
+quiet_fronts v c h s is =
+    let k = is.kept refl in
+    started v (λ f. (o : Contents) × IsFrontOf c.sequence h c o × IsSite f o) (λ f now. (with_sequence c (take h c.sequence), record { count = h; least = omega arith; most = k.count; is = refl }, k.images f now))
+
+pub front_stands : (v : View) (c : Contents) (h : ℕ) (s : OpenSite) → IsLawful v → IsOpen v true c h s → IfSome v.content (λ f. (o : Contents) × IsFrontOf c.sequence h c o × IsSite f o)
+front_stands v c h s lawful is =
+    let k = is.kept refl in
+    reads_of v (λ f. (o : Contents) × IsFrontOf c.sequence h c o × IsSite f o) lawful (λ f now. (with_sequence c (take h c.sequence), record { count = h; least = omega arith; most = k.count; is = refl }, k.images f now))
+
+-- once all is hardened
+pub settled_reads : (v : View) (c : Contents) (s : OpenSite) → IsLawful v → IsOpen v true c (length c.sequence) s → IfSome v.content (λ f. IsSite f c)
+settled_reads v c s lawful is = reads_of v (λ f. IsSite f c) lawful (λ f now. images_stand v c s is f now)
+
+-- after a call that reads
+pub going_read : {D : Type 0} (view : D → View) (old new : Site D) → Reads (view old.disk) (view new.disk) → new.open ≡ old.open → new.fault ≡ old.fault → MayBeCalled view old → MayBeCalled view new
+going_read view old new reads open fault may none =
+    let g = may (sym fault ∙ none) in
+    record {
+      fault = none;
+      files = subst (λ (s : OpenSite). IsReady (view new.disk) s) (sym open) (site_read (view old.disk) (view new.disk) old.open reads g.files);
+      room = subst (λ (s : OpenSite). s.hardened ≢ length s.entries.items → HasAppended s) (sym open) g.room;
+    }
+
+pub open_site_read : {D : Type 0} (view : D → View) (old new : Site D) (told : Bool) (c : Contents) (h : ℕ) → Reads (view old.disk) (view new.disk) → new.open ≡ old.open → new.fault ≡ old.fault → IsOpenSite view told c h old → IsOpenSite view told c h new
+open_site_read view old new told c h reads open fault is =
+    record { fault = fault ∙ is.fault; open = subst (λ (s : OpenSite). IsOpen (view new.disk) told c h s) (sym open) (open_read (view old.disk) (view new.disk) told c h old.open reads is.open) }

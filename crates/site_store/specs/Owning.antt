@@ -1,0 +1,36 @@
+-- An open site that owns its disk.
+use Rattle.std.specs.Prelude.{◌≡◌, ◌≢◌, ℕ, Bool, length, Option, Some, None, Result, Ok, Err}
+use Rattle.disk_defs.specs.Disk.{View}
+use Rattle.world_defs.specs.World.{Contents}
+use Rattle.site_store.specs.declared.error.SiteError.{SiteError}
+use Rattle.site_store.specs.declared.owning.Site.{Site}
+use Rattle.site_store.specs.Site.{IsReady, IsOpen, HasAppended}
+
+-- a call failed, the one of that number on the disk
+abbrev pub HasStopped : {D : Type 0} → ℕ → Site D → Type 0
+HasStopped fault s = s.fault ≡ Some fault
+
+-- No call failed, its files are open for calls, and where entries wait there is room for the syncs of a hardening.
+pub record IsGoing {D : Type 0} (view : D → View) (s : Site D) : Type 0 where
+  pub fault : s.fault ≡ None
+  pub files : IsReady (view s.disk) s.open
+  pub room : s.open.hardened ≢ length s.open.entries.items → HasAppended s.open
+
+-- it has stopped, or it goes on
+abbrev pub MayBeCalled : {D : Type 0} → (D → View) → Site D → Type 0
+MayBeCalled view s = s.fault ≡ None → IsGoing view s
+
+-- No call failed, and over its own disk the site is open with these contents, of which so many entries are hardened.
+pub record IsOpenSite {D : Type 0} (view : D → View) (told : Bool) (c : Contents) (hardened : ℕ) (s : Site D) : Type 0 where
+  pub fault : s.fault ≡ None
+  pub open : IsOpen (view s.disk) told c hardened s.open
+
+-- the disk that an opening leaves, in the site or beside the error
+abbrev pub disk_left : {D : Type 0} → Result (Site D) (D × SiteError) → D
+disk_left (Ok s) = s.disk
+disk_left (Err e) = e.0
+
+-- an opening failed with this error
+abbrev pub FailsWith : {D : Type 0} → Result (Site D) (D × SiteError) → SiteError → Type 0
+FailsWith (Ok s) error = ⊥
+FailsWith (Err e) error = e.1 ≡ error

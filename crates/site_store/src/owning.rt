@@ -1,0 +1,330 @@
+//! An open site that owns its disk.
+ghost use Rattle.std.specs.Prelude.{◌≡◌, ◌⊎◌, ◌≤◌, ◌<◌, ◌+◌, ◌^◌, ℕ, Bool, true, [], length, map, take, Some, None, IfOk, IfSome, OnOk, OnErr, IsErrOf, IsSome, IsTrue};
+ghost use Rattle.std.specs.Result.{IsOk};
+ghost use Rattle.disk_defs.specs.Disk.{Files, Image, AtEachMoment, Reads, Rose};
+ghost use Rattle.disk_defs.specs.Gates.{records};
+ghost use Rattle.global_defs.specs.Fields.{IsTransaction};
+ghost use Rattle.gvn_model.specs.Entries.{transaction_value};
+ghost use Rattle.gvn_model.specs.Reigns.{stamp_value};
+ghost use Rattle.journal_defs.specs.Numbers.{INSTANCE};
+ghost use Rattle.journal_defs.specs.Instance as instances;
+ghost use Rattle.journal_defs.specs.Instance.{IsInForm, generation, site_name};
+ghost use Rattle.journal_defs.specs.Surviving.{reigns};
+ghost use Rattle.world_defs.specs.Answers.{ReignLimit};
+ghost use Rattle.world_defs.specs.World.{Contents};
+ghost use Rattle.world_defs.specs.Refusals.{reign_limit};
+ghost use Rattle.world_defs.specs.Rows.{opened, with_reign, next_stamp, with_sequence, IsFrontOf};
+ghost use Rattle.world_defs.specs.Ties.{IsBlank, IsSite};
+ghost use Rattle.site_store.specs.Site.{Remembers, WasOpened, HasReign, HasRoomFor, with_entry};
+ghost use Rattle.site_store.specs.Opening.{region_value, made, MayMake, OpensTo, MayOpen, EachStands};
+ghost use Rattle.site_store.specs.Owning.{HasStopped, IsGoing, MayBeCalled, IsOpenSite, disk_left, FailsWith};
+
+use crate::creating::create;
+use crate::error::SiteError;
+use crate::opening::load;
+use crate::site::{OpenSite, RegionSpec};
+use gvn_key::Bytes;
+use gvn_model::{Reigns, Stamp, Transaction};
+use repl_disk::Disk;
+use std::alloc::Global;
+
+/// A site that is open, and its disk.
+///
+/// After a call that answered `Failed` the site has stopped: each later call that uses the disk answers `Stopped` with the same
+/// number, and changes nothing. After `NoMemory` it is of no more use either, and only [`abandon`](Site::abandon) is left.
+#[derive(Drop)]
+pub struct Site<D: Disk> {
+    pub disk: D,
+    pub open: OpenSite,
+    /// The number of the failed call, on the disk, after which the site stopped.
+    pub fault: Option<u64>,
+}
+
+impl<D: Disk> Site<D> {
+    /// Makes a site with this name and these regions on a disk whose instance file has no open record.
+    ///
+    /// # Errors
+    /// `Failed` only where the disk's count rose, and `NoMemory`. A crash may then find the site all the same.
+    pub fn create(
+        alloc: Global,
+        disk: &mut D,
+        name: &Bytes,
+        regions: &[RegionSpec],
+    ) -> Result<(), SiteError>
+        requires form { IsInForm (instances.Create name.now (map region_value regions.now)) }
+        requires one_region { length regions.now ≡ 1 }
+        requires empty { IfSome (D.disk disk.old).content (λ files. records (files INSTANCE) ≡ Some []) }
+        ensures reads { OnOk result (IfSome (D.disk disk.old).content (λ files. IsBlank files → IfSome (D.disk disk.new).content (λ now. IsSite now (made name.now regions.now)))) }
+        ensures images { OnOk result (IfSome (D.disk disk.old).content (λ files. IsBlank files → ((f : Files) → Image (D.disk disk.old) f → IsBlank f) → (f : Files) → Image (D.disk disk.new) f → IsSite f (made name.now regions.now))) }
+        ensures any_moment { IfSome (D.disk disk.old).content (λ _. AtEachMoment (D.disk disk.old) (D.disk disk.new) (MayMake (D.disk disk.old) name.now regions.now)) }
+        ensures stands { IfSome (D.disk disk.old).content (λ files. IsBlank files → IfSome (D.disk disk.new).content (λ now. IsBlank now ⊎ IsSite now (made name.now regions.now))) }
+        ensures still_told { IsSome (D.disk disk.old).content → IsSome (D.disk disk.new).content }
+        ensures simulated { (D.disk disk.new).simulated ≡ (D.disk disk.old).simulated }
+        ensures later { (D.disk disk.old).faults ≤ (D.disk disk.new).faults }
+        ensures count { (fault : ℕ) → IsErrOf result (SiteError.Failed fault) → fault ≡ (D.disk disk.new).faults }
+        ensures cause { (fault : ℕ) → IsErrOf result (SiteError.Failed fault) → Rose (D.disk disk.old).faults (D.disk disk.new).faults }
+        ensures other_errors { (file : ℕ) (offset : ℕ) → IsErrOf result (SiteError.NotAFile file offset) → ⊥ }
+        ensures no_stop { (fault : ℕ) → IsErrOf result (SiteError.Stopped fault) → ⊥ }
+    {
+        create(alloc, disk, name, regions)
+    }
+
+    /// Opens the site that stands on a disk, and takes the disk: syncs and reads its files, cuts at the length of its sequence,
+    /// and begins the next generation. With an error it hands the disk back.
+    ///
+    /// # Errors
+    /// `GenLimit` exactly where 65,534 generations were drawn, and then nothing was written. `NotAFile` only where the disk's
+    /// files are outside the formats, or with file 0 and offset 0 where no site stands there. `Failed` only where the disk's count
+    /// rose. `NoMemory`, also for a site of more than one region.
+    pub fn load(alloc: Global, mut disk: D) -> Result<Site<D>, (D, SiteError)>
+        ensures ready { IfOk result (IsGoing D.disk) }
+        ensures read { IfOk result (λ s. (c : Contents) × Remembers (opened c) (length c.sequence) s.open) }
+        ensures told { IfOk result (λ s. IfSome (D.disk disk).content (λ files. (c : Contents) → IsSite files c → EachStands (D.disk disk) → IsOpenSite D.disk true (opened c) (length c.sequence) s)) }
+        ensures opened { IfOk result (λ s. WasOpened s.open) }
+        ensures drawn { OnOk result (IfSome (D.disk disk).content (λ files. (c : Contents) → IsSite files c → generation c.instance < 65534)) }
+        ensures limit { FailsWith result SiteError.GenLimit → IfSome (D.disk disk).content (λ files. (c : Contents) → IsSite files c → 65534 ≤ generation c.instance) }
+        ensures unwritten { FailsWith result SiteError.GenLimit → (D.disk (disk_left result)).content ≡ (D.disk disk).content }
+        ensures untouched { FailsWith result SiteError.GenLimit → AtEachMoment (D.disk disk) (D.disk (disk_left result)) (Image (D.disk disk)) }
+        ensures outside { (file offset : ℕ) → FailsWith result (SiteError.NotAFile file offset) → IfSome (D.disk disk).content (λ files. (c : Contents) → IsSite files c → ⊥) }
+        ensures any_moment { IfSome (D.disk disk).content (λ files. (c : Contents) → IsSite files c → AtEachMoment (D.disk disk) (D.disk (disk_left result)) (MayOpen (D.disk disk))) }
+        ensures still_told { IsSome (D.disk disk).content → IsSome (D.disk (disk_left result)).content }
+        ensures stands { IfSome (D.disk disk).content (λ files. (c : Contents) → IsSite files c → IfSome (D.disk (disk_left result)).content (λ now. (o : Contents) × OpensTo c o × IsSite now o)) }
+        ensures simulated { (D.disk (disk_left result)).simulated ≡ (D.disk disk).simulated }
+        ensures later { (D.disk disk).faults ≤ (D.disk (disk_left result)).faults }
+        ensures count { (fault : ℕ) → FailsWith result (SiteError.Failed fault) → fault ≡ (D.disk (disk_left result)).faults }
+        ensures cause { (fault : ℕ) → FailsWith result (SiteError.Failed fault) → Rose (D.disk disk).faults (D.disk (disk_left result)).faults }
+        ensures other_errors { FailsWith result SiteError.SeqLimit → ⊥ }
+        ensures no_full { (nodes : ℕ) → FailsWith result (SiteError.Full nodes) → ⊥ }
+        ensures no_reign_limit { FailsWith result SiteError.ReignLimit → ⊥ }
+        ensures no_stop { (fault : ℕ) → FailsWith result (SiteError.Stopped fault) → ⊥ }
+    {
+        match load(alloc, &mut disk) {
+            Ok(open) => Ok(Site {
+                disk,
+                open,
+                fault: None,
+            }),
+            Err(error) => Err((disk, error)),
+        }
+    }
+
+    /// Stops the site where a call failed.
+    fn note(&mut self, error: SiteError)
+        ensures disk { self.new.disk ≡ self.old.disk }
+        ensures open { self.new.open ≡ self.old.open }
+        ensures stops { (fault : ℕ) → error ≡ SiteError.Failed fault → HasStopped fault self.new }
+        ensures goes_on { ((fault : ℕ) → error ≡ SiteError.Failed fault → ⊥) → self.new ≡ self.old }
+    {
+        if let SiteError::Failed { fault } = error {
+            self.fault = Some(fault);
+        }
+    }
+
+    /// Begins a reign under the site's own name and the next cycle, and answers its stamp. The site has to be one that was just
+    /// opened.
+    ///
+    /// # Errors
+    /// `ReignLimit` exactly where 32,768 reigns have begun by the length, or a reign has the last cycle, also one that a CUT
+    /// dropped; nothing has changed then. `Failed` only where the disk's count rose; a crash may then find the reign all the same.
+    /// `Stopped` exactly where a call before failed. `NoMemory`.
+    pub fn start_reign(&mut self, alloc: Global) -> Result<Stamp, SiteError>
+        requires ready { MayBeCalled D.disk self.old }
+        requires opened { self.old.fault ≡ None → WasOpened self.old.open }
+        ensures ready { OnOk result (IsGoing D.disk self.new) }
+        ensures begun { OnOk result ((told : Bool) (c : Contents) → IsOpenSite D.disk told c (length c.sequence) self.old → IsOpenSite D.disk told (with_reign (site_name c.instance) c) (length c.sequence) self.new) }
+        ensures stamp { IfOk result (λ stamp. (c : Contents) → c.instance ≡ self.old.open.instance.records → stamp_value stamp ≡ next_stamp (site_name c.instance) c) }
+        ensures remembered { IfOk result (λ stamp. self.new.open.stamp ≡ Some stamp) }
+        ensures reign { OnOk result (HasReign self.new.open) }
+        ensures entries { self.new.open.entries.items ≡ self.old.open.entries.items }
+        ensures room { OnOk result ((c : Contents) (h : ℕ) → Remembers c h self.old.open → reign_limit c ≡ None) }
+        ensures limit { IsErrOf result SiteError.ReignLimit → (c : Contents) (h : ℕ) → Remembers c h self.old.open → reign_limit c ≡ Some ReignLimit }
+        ensures kept { IsErrOf result SiteError.ReignLimit → self.new ≡ self.old }
+        ensures any_moment { (c : Contents) → IsOpenSite D.disk true c (length c.sequence) self.old → AtEachMoment (D.disk self.old.disk) (D.disk self.new.disk) (λ f. IsSite f c ⊎ IsSite f (with_reign (site_name c.instance) c)) }
+        ensures stands { (c : Contents) → IsOpenSite D.disk true c (length c.sequence) self.old → IfSome (D.disk self.new.disk).content (λ f. IsSite f c ⊎ IsSite f (with_reign (site_name c.instance) c)) }
+        ensures still_told { IsSome (D.disk self.old.disk).content → IsSome (D.disk self.new.disk).content }
+        ensures simulated { (D.disk self.new.disk).simulated ≡ (D.disk self.old.disk).simulated }
+        ensures later { (D.disk self.old.disk).faults ≤ (D.disk self.new.disk).faults }
+        ensures count { (fault : ℕ) → IsErrOf result (SiteError.Failed fault) → fault ≡ (D.disk self.new.disk).faults }
+        ensures cause { (fault : ℕ) → IsErrOf result (SiteError.Failed fault) → Rose (D.disk self.old.disk).faults (D.disk self.new.disk).faults }
+        ensures causes { OnErr result (IsErrOf result SiteError.ReignLimit ⊎ ((fault : ℕ) × IsErrOf result (SiteError.Failed fault)) ⊎ ((fault : ℕ) × IsErrOf result (SiteError.Stopped fault)) ⊎ IsErrOf result SiteError.NoMemory) }
+        ensures stops { (fault : ℕ) → IsErrOf result (SiteError.Failed fault) → HasStopped fault self.new }
+        ensures stopped { (fault : ℕ) → HasStopped fault self.old → IsErrOf result (SiteError.Stopped fault) }
+        ensures stays { (fault : ℕ) → HasStopped fault self.old → self.new ≡ self.old }
+        ensures only_stopped { (fault : ℕ) → IsErrOf result (SiteError.Stopped fault) → HasStopped fault self.old }
+    {
+        if let Some(fault) = self.fault {
+            return Err(SiteError::Stopped { fault });
+        }
+        match self.open.start_reign(alloc, &mut self.disk) {
+            Ok(stamp) => Ok(stamp),
+            Err(error) => {
+                self.note(error);
+                Err(error)
+            }
+        }
+    }
+
+    /// Makes a transaction the next entry, under the reign that was begun: takes all memory, and appends it to the journal. It
+    /// answers the entry's number. The entry is on the disk for good once it's hardened.
+    ///
+    /// # Errors
+    /// `Full` exactly where more than 100,000 nodes would stand after one of its updates, `SeqLimit` exactly where the last number
+    /// is used up: nothing has changed after these two. `Failed` only where the disk's count rose. `Stopped` exactly where a call
+    /// before failed. `NoMemory`.
+    pub fn commit(&mut self, alloc: Global, t: &Transaction) -> Result<u64, SiteError>
+        requires ready { MayBeCalled D.disk self.old }
+        requires form { IsTransaction (transaction_value t.now) }
+        requires reign { self.old.fault ≡ None → HasReign self.old.open }
+        ensures ready { OnOk result (IsGoing D.disk self.new) }
+        ensures done { OnOk result ((told : Bool) (c : Contents) (h : ℕ) → IsOpenSite D.disk told c h self.old → IsOpenSite D.disk told (with_entry self.old.open.stamp (transaction_value t.now) c) h self.new) }
+        ensures number { IfOk result (λ n. n ≡ length self.old.open.entries.items + 1) }
+        ensures stamp { self.new.open.stamp ≡ self.old.open.stamp }
+        ensures reign { OnOk result (HasReign self.new.open) }
+        ensures room { OnOk result (length self.old.open.entries.items + 1 < 2 ^ 40) }
+        ensures fits { OnOk result (HasRoomFor self.old.open.globals t.now.updates) }
+        ensures full { (nodes : ℕ) → IsErrOf result (SiteError.Full nodes) → HasRoomFor self.old.open.globals t.now.updates → ⊥ }
+        ensures last { IsErrOf result SiteError.SeqLimit → 2 ^ 40 ≤ length self.old.open.entries.items + 1 }
+        ensures kept { ((nodes : ℕ) × IsErrOf result (SiteError.Full nodes)) ⊎ IsErrOf result SiteError.SeqLimit → self.new ≡ self.old }
+        ensures any_moment { (c : Contents) (h : ℕ) → IsOpenSite D.disk true c h self.old → AtEachMoment (D.disk self.old.disk) (D.disk self.new.disk) (λ f. IsSite f (with_sequence c (take h c.sequence))) }
+        ensures stands { (c : Contents) (h : ℕ) → IsOpenSite D.disk true c h self.old → IfSome (D.disk self.new.disk).content (λ f. IsSite f (with_sequence c (take h c.sequence))) }
+        ensures still_told { IsSome (D.disk self.old.disk).content → IsSome (D.disk self.new.disk).content }
+        ensures simulated { (D.disk self.new.disk).simulated ≡ (D.disk self.old.disk).simulated }
+        ensures later { (D.disk self.old.disk).faults ≤ (D.disk self.new.disk).faults }
+        ensures count { (fault : ℕ) → IsErrOf result (SiteError.Failed fault) → fault ≡ (D.disk self.new.disk).faults }
+        ensures cause { (fault : ℕ) → IsErrOf result (SiteError.Failed fault) → Rose (D.disk self.old.disk).faults (D.disk self.new.disk).faults }
+        ensures no_other { IsErrOf result SiteError.GenLimit ⊎ IsErrOf result SiteError.ReignLimit ⊎ ((file : ℕ) × (offset : ℕ) × IsErrOf result (SiteError.NotAFile file offset)) → ⊥ }
+        ensures stops { (fault : ℕ) → IsErrOf result (SiteError.Failed fault) → HasStopped fault self.new }
+        ensures stopped { (fault : ℕ) → HasStopped fault self.old → IsErrOf result (SiteError.Stopped fault) }
+        ensures stays { (fault : ℕ) → HasStopped fault self.old → self.new ≡ self.old }
+        ensures only_stopped { (fault : ℕ) → IsErrOf result (SiteError.Stopped fault) → HasStopped fault self.old }
+    {
+        if let Some(fault) = self.fault {
+            return Err(SiteError::Stopped { fault });
+        }
+        match self.open.commit(alloc, &mut self.disk, t) {
+            Ok(number) => Ok(number),
+            Err(error) => {
+                self.note(error);
+                Err(error)
+            }
+        }
+    }
+
+    /// Puts all entries on the disk for good, and answers how many there are. It takes no memory. Where none waits it makes no
+    /// call of the disk.
+    ///
+    /// # Errors
+    /// `Failed` only where the disk's count rose. Of the entries that weren't hardened a crash may then find the first few.
+    /// `Stopped` exactly where a call before failed.
+    pub fn harden(&mut self) -> Result<u64, SiteError>
+        requires ready { MayBeCalled D.disk self.old }
+        ensures ready { OnOk result (IsGoing D.disk self.new) }
+        ensures done { OnOk result ((told : Bool) (c : Contents) (h : ℕ) → IsOpenSite D.disk told c h self.old → IsOpenSite D.disk told c (length c.sequence) self.new) }
+        ensures length { IfOk result (λ n. n ≡ length self.old.open.entries.items) }
+        ensures stamp { self.new.open.stamp ≡ self.old.open.stamp }
+        ensures entries { self.new.open.entries.items ≡ self.old.open.entries.items }
+        ensures reign { HasReign self.old.open → HasReign self.new.open }
+        ensures idle { self.old.fault ≡ None → self.old.open.hardened ≡ length self.old.open.entries.items → IsOk result × (self.new ≡ self.old) }
+        ensures any_moment { (c : Contents) (h : ℕ) → IsOpenSite D.disk true c h self.old → AtEachMoment (D.disk self.old.disk) (D.disk self.new.disk) (λ f. (o : Contents) × IsFrontOf c.sequence h c o × IsSite f o) }
+        ensures stands { (c : Contents) (h : ℕ) → IsOpenSite D.disk true c h self.old → IfSome (D.disk self.new.disk).content (λ f. (o : Contents) × IsFrontOf c.sequence h c o × IsSite f o) }
+        ensures still_told { IsSome (D.disk self.old.disk).content → IsSome (D.disk self.new.disk).content }
+        ensures simulated { (D.disk self.new.disk).simulated ≡ (D.disk self.old.disk).simulated }
+        ensures later { (D.disk self.old.disk).faults ≤ (D.disk self.new.disk).faults }
+        ensures count { (fault : ℕ) → IsErrOf result (SiteError.Failed fault) → fault ≡ (D.disk self.new.disk).faults }
+        ensures cause { (fault : ℕ) → IsErrOf result (SiteError.Failed fault) → Rose (D.disk self.old.disk).faults (D.disk self.new.disk).faults }
+        ensures causes { OnErr result (((fault : ℕ) × IsErrOf result (SiteError.Failed fault)) ⊎ ((fault : ℕ) × IsErrOf result (SiteError.Stopped fault))) }
+        ensures stops { (fault : ℕ) → IsErrOf result (SiteError.Failed fault) → HasStopped fault self.new }
+        ensures stopped { (fault : ℕ) → HasStopped fault self.old → IsErrOf result (SiteError.Stopped fault) }
+        ensures stays { (fault : ℕ) → HasStopped fault self.old → self.new ≡ self.old }
+        ensures only_stopped { (fault : ℕ) → IsErrOf result (SiteError.Stopped fault) → HasStopped fault self.old }
+    {
+        if let Some(fault) = self.fault {
+            return Err(SiteError::Stopped { fault });
+        }
+        if self.open.hardened == self.open.entries.len() as u64 {
+            return Ok(self.open.hardened);
+        }
+        match self.open.harden(&mut self.disk) {
+            Ok(length) => Ok(length),
+            Err(error) => {
+                self.note(error);
+                Err(error)
+            }
+        }
+    }
+
+    /// Puts all entries on the disk for good, and hands the disk back. Where none waits it makes no call of the disk.
+    ///
+    /// # Errors
+    /// Those of [`harden`](Site::harden).
+    pub fn close(mut self) -> (D, Result<(), SiteError>)
+        requires ready { MayBeCalled D.disk self }
+        ensures reads { OnOk result.1 ((c : Contents) (h : ℕ) → IsOpenSite D.disk true c h self → IfSome (D.disk result.0).content (λ f. IsSite f c)) }
+        ensures images { OnOk result.1 ((c : Contents) (h : ℕ) → IsOpenSite D.disk true c h self → (f : Files) → Image (D.disk result.0) f → IsSite f c) }
+        ensures idle { self.fault ≡ None → self.open.hardened ≡ length self.open.entries.items → IsOk result.1 × (result.0 ≡ self.disk) }
+        ensures any_moment { (c : Contents) (h : ℕ) → IsOpenSite D.disk true c h self → AtEachMoment (D.disk self.disk) (D.disk result.0) (λ f. (o : Contents) × IsFrontOf c.sequence h c o × IsSite f o) }
+        ensures stands { (c : Contents) (h : ℕ) → IsOpenSite D.disk true c h self → IfSome (D.disk result.0).content (λ f. (o : Contents) × IsFrontOf c.sequence h c o × IsSite f o) }
+        ensures still_told { IsSome (D.disk self.disk).content → IsSome (D.disk result.0).content }
+        ensures simulated { (D.disk result.0).simulated ≡ (D.disk self.disk).simulated }
+        ensures later { (D.disk self.disk).faults ≤ (D.disk result.0).faults }
+        ensures count { (fault : ℕ) → IsErrOf result.1 (SiteError.Failed fault) → fault ≡ (D.disk result.0).faults }
+        ensures cause { (fault : ℕ) → IsErrOf result.1 (SiteError.Failed fault) → Rose (D.disk self.disk).faults (D.disk result.0).faults }
+        ensures causes { OnErr result.1 (((fault : ℕ) × IsErrOf result.1 (SiteError.Failed fault)) ⊎ ((fault : ℕ) × IsErrOf result.1 (SiteError.Stopped fault))) }
+        ensures stopped { (fault : ℕ) → HasStopped fault self → IsErrOf result.1 (SiteError.Stopped fault) }
+        ensures stays { (fault : ℕ) → HasStopped fault self → result.0 ≡ self.disk }
+        ensures only_stopped { (fault : ℕ) → IsErrOf result.1 (SiteError.Stopped fault) → HasStopped fault self }
+    {
+        match self.harden() {
+            Ok(_) => (self.disk, Ok(())),
+            Err(error) => (self.disk, Err(error)),
+        }
+    }
+
+    /// Hands the disk back without a call of it. Of the entries that weren't hardened a crash may find the first few.
+    pub fn abandon(self) -> D
+        ensures { result ≡ self.disk }
+    {
+        self.disk
+    }
+
+    /// How many entries there are.
+    pub fn sequence_length(&self) -> u64
+        ensures { result ≡ length self.now.open.entries.items }
+    {
+        self.open.sequence_length()
+    }
+
+    /// How many entries are on the disk for good.
+    pub fn hardened_length(&self) -> u64
+        ensures { result ≡ self.now.open.hardened }
+    {
+        self.open.hardened_length()
+    }
+
+    /// The reigns that no later CUT dropped.
+    pub fn history(&self) -> &Reigns
+        ensures { result.now ≡ reigns self.now.open.instance.records }
+    {
+        self.open.history()
+    }
+
+    /// Whether the disk can be made to fail and to crash.
+    pub fn simulated(&self) -> bool
+        ensures { result ≡ (D.disk self.now.disk).simulated }
+    {
+        self.disk.simulated()
+    }
+
+    /// Lets so many more calls of a simulated disk succeed, and each after them fail.
+    pub fn fuse(&mut self, calls: u64)
+        requires simulated { IsTrue (D.disk self.old.disk).simulated }
+        ensures ready { MayBeCalled D.disk self.old → MayBeCalled D.disk self.new }
+        ensures open { (told : Bool) (c : Contents) (h : ℕ) → IsOpenSite D.disk told c h self.old → IsOpenSite D.disk told c h self.new }
+        ensures site { self.new.open ≡ self.old.open }
+        ensures fault { self.new.fault ≡ self.old.fault }
+        ensures reads { Reads (D.disk self.old.disk) (D.disk self.new.disk) }
+        ensures faults { (D.disk self.new.disk).faults ≡ (D.disk self.old.disk).faults }
+    {
+        self.disk.fuse(calls);
+    }
+}
