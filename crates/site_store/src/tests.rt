@@ -99,7 +99,7 @@ fn a_journal_outside_its_format(rt: HostRuntime) -> Result<(), Fail> {
 fn begin<D: Disk>(alloc: Global, mut disk: D) -> Result<Site<D>, SiteError>
     requires { IfSome (D.disk disk).content (λ files. records (files INSTANCE) ≡ Some []) }
     ensures ready { IfOk result (IsGoing D.disk) }
-    ensures reign { IfOk result (λ s. HasReign s.open) }
+    ensures reign { IfOk result (λ s. HasReign s.inner) }
 {
     let name = Bytes::of(alloc, b"A")?;
     let regions = [RegionSpec {
