@@ -1,6 +1,6 @@
 -- A site that owns its disk.
-use Rattle.std.proofs.Common.{◌≡◌, ◌≢◌, ℕ, Bool, true, None, Some, length, take, refl, sym, ◌∙◌, subst, arith}
-use Rattle.std.specs.Prelude.{IfSome}
+use Rattle.std.proofs.Common.{◌≡◌, ◌≢◌, ◌⊎◌, inl, inr, ap, Err, ℕ, Bool, true, None, Some, length, take, refl, sym, ◌∙◌, subst, arith}
+use Rattle.std.specs.Prelude.{IfSome, IsErrOf}
 use Rattle.disk_defs.specs.Disk.{Files, View, Image, IsLawful, AtEachMoment, Reads}
 use Rattle.disk_defs.proofs.Moments.{started}
 use Rattle.world_defs.specs.World.{Contents}
@@ -8,6 +8,8 @@ use Rattle.world_defs.specs.Rows.{with_sequence, IsFrontOf}
 use Rattle.world_defs.specs.Ties.{IsSite}
 use Rattle.site_store.specs.declared.site.OpenSite.{OpenSite}
 use Rattle.site_store.specs.declared.owning.Site.{Site}
+use Rattle.site_store.specs.declared.error.SiteError.{SiteError}
+use Rattle.site_store.specs.declared.error.SiteError.TheVariants.{Failed, Stopped}
 use Rattle.site_store.specs.Site.{IsReady, IsOpen, HasAppended}
 use Rattle.site_store.specs.Owning.{IsGoing, MayBeCalled, IsOpenSite}
 use Rattle.site_store.proofs.Begun.{reads_of}
@@ -49,3 +51,8 @@ going_read view old new reads same fault may none =
 pub open_site_read : {D : Type 0} (view : D → View) (old new : Site D) (told : Bool) (c : Contents) (h : ℕ) → Reads (view old.disk) (view new.disk) → new.inner ≡ old.inner → new.fault ≡ old.fault → IsOpenSite view told c h old → IsOpenSite view told c h new
 open_site_read view old new told c h reads same fault is =
     record { fault = fault ∙ is.fault; inner = subst (λ (s : OpenSite). IsOpen (view new.disk) told c h s) (sym same) (open_read (view old.disk) (view new.disk) told c h old.inner reads is.inner) }
+
+-- an error handed on beside another kind of value
+pub carried : {A B : Type 0} (e : SiteError) → ((fault : ℕ) × IsErrOf {A} (Err e) (Failed fault)) ⊎ ((fault : ℕ) × IsErrOf {A} (Err e) (Stopped fault)) → ((fault : ℕ) × IsErrOf {B} (Err e) (Failed fault)) ⊎ ((fault : ℕ) × IsErrOf {B} (Err e) (Stopped fault))
+carried e (inl h) = inl (h.0, let same : e ≡ Failed h.0 = cc h.1 in ap Err same)
+carried e (inr h) = inr (h.0, let same : e ≡ Stopped h.0 = cc h.1 in ap Err same)
