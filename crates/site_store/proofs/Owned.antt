@@ -53,6 +53,6 @@ open_site_read view old new told c h reads same fault is =
     record { fault = fault ∙ is.fault; inner = subst (λ (s : OpenSite). IsOpen (view new.disk) told c h s) (sym same) (open_read (view old.disk) (view new.disk) told c h old.inner reads is.inner) }
 
 -- an error handed on beside another kind of value
-pub carried : {A B : Type 0} (e : SiteError) → ((fault : ℕ) × IsErrOf {A} (Err e) (Failed fault)) ⊎ ((fault : ℕ) × IsErrOf {A} (Err e) (Stopped fault)) → ((fault : ℕ) × IsErrOf {B} (Err e) (Failed fault)) ⊎ ((fault : ℕ) × IsErrOf {B} (Err e) (Stopped fault))
+pub carried : {A B : Type 0} (e : SiteError) → ((fault : ℕ) × IsErrOf {T = A} (Err e) (Failed fault)) ⊎ ((fault : ℕ) × IsErrOf {T = A} (Err e) (Stopped fault)) → ((fault : ℕ) × IsErrOf {T = B} (Err e) (Failed fault)) ⊎ ((fault : ℕ) × IsErrOf {T = B} (Err e) (Stopped fault))
 carried e (inl h) = inl (h.0, let same : e ≡ Failed h.0 = cc h.1 in ap Err same)
 carried e (inr h) = inr (h.0, let same : e ≡ Stopped h.0 = cc h.1 in ap Err same)
