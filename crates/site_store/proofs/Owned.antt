@@ -38,14 +38,14 @@ settled_reads v c s lawful is = reads_of v (λ f. IsSite f c) lawful (λ f now. 
 
 -- after a call that reads
 pub going_read : {D : Type 0} (view : D → View) (old new : Site D) → Reads (view old.disk) (view new.disk) → new.open ≡ old.open → new.fault ≡ old.fault → MayBeCalled view old → MayBeCalled view new
-going_read view old new reads open fault may none =
+going_read view old new reads same fault may none =
     let g = may (sym fault ∙ none) in
     record {
       fault = none;
-      files = subst (λ (s : OpenSite). IsReady (view new.disk) s) (sym open) (site_read (view old.disk) (view new.disk) old.open reads g.files);
-      room = subst (λ (s : OpenSite). s.hardened ≢ length s.entries.items → HasAppended s) (sym open) g.room;
+      files = subst (λ (s : OpenSite). IsReady (view new.disk) s) (sym same) (site_read (view old.disk) (view new.disk) old.open reads g.files);
+      room = subst (λ (s : OpenSite). s.hardened ≢ length s.entries.items → HasAppended s) (sym same) g.room;
     }
 
 pub open_site_read : {D : Type 0} (view : D → View) (old new : Site D) (told : Bool) (c : Contents) (h : ℕ) → Reads (view old.disk) (view new.disk) → new.open ≡ old.open → new.fault ≡ old.fault → IsOpenSite view told c h old → IsOpenSite view told c h new
-open_site_read view old new told c h reads open fault is =
-    record { fault = fault ∙ is.fault; open = subst (λ (s : OpenSite). IsOpen (view new.disk) told c h s) (sym open) (open_read (view old.disk) (view new.disk) told c h old.open reads is.open) }
+open_site_read view old new told c h reads same fault is =
+    record { fault = fault ∙ is.fault; is_open = subst (λ (s : OpenSite). IsOpen (view new.disk) told c h s) (sym same) (open_read (view old.disk) (view new.disk) told c h old.open reads is.is_open) }

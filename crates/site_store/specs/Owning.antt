@@ -23,7 +23,7 @@ MayBeCalled view s = s.fault ≡ None → IsGoing view s
 -- No call failed, and over its own disk the site is open with these contents, of which so many entries are hardened.
 pub record IsOpenSite {D : Type 0} (view : D → View) (told : Bool) (c : Contents) (hardened : ℕ) (s : Site D) : Type 0 where
   pub fault : s.fault ≡ None
-  pub open : IsOpen (view s.disk) told c hardened s.open
+  pub is_open : IsOpen (view s.disk) told c hardened s.open
 
 -- the disk that an opening leaves, in the site or beside the error
 abbrev pub disk_left : {D : Type 0} → Result (Site D) (D × SiteError) → D
