@@ -1,5 +1,5 @@
 -- Texts of broken lists that grow.
-use Rattle.std.proofs.Common.{◌≡◌, ℕ, ◌+◌, ◌<◌, ◌&&◌, nat_lt, Bool, true, false, suc, List, [], ◌∷◌, ◌++◌, length, take, map, get_or, append_assoc, Some, None, refl, sym, ◌∙◌, ap, subst, arith, if◌then◌else◌}
+use Rattle.std.proofs.Common.{◌≡◌, ℕ, ◌+◌, ◌<◌, ◌&&◌, nat_lt, Bool, true, false, List, [], ◌∷◌, ◌++◌, length, take, map, get_or, append_assoc, Some, None, refl, sym, ◌∙◌, ap, subst, arith, if◌then◌else◌}
 use Rattle.std.proofs.lemmas.List.{append-nil, map-append, take_more, length-map, length-take}
 use Rattle.std.proofs.lemmas.List.Elements.{filter_map-append}
 use Rattle.std.proofs.lemmas.Grind.{flat_map-append}
@@ -14,6 +14,7 @@ use Rattle.jnl_record.specs.declared.placed.PlacedRecord.{PlacedRecord}
 use Rattle.mupip_recover.specs.Parts.{surviving_in, if_past}
 use Rattle.mupip_recover.specs.Site.{journal_of}
 use Rattle.mupip_recover.specs.Broken.{broken_in, broken_of, Adds}
+use Rattle.mupip_recover.proofs.Runs.{more_numbered}
 
 -- one list behind the other
 pub adds_both : (site : List ℕ) (length : ℕ) (xs ys : List BrokenPart) (was mid now : List ℕ) → Adds site length xs was mid → Adds site length ys mid now → Adds site length (xs ++ ys) was now
@@ -43,19 +44,13 @@ past_is instance n g (Pini s) = refl
 past_is instance n g (Epoch m) = refl
 past_is instance n g (Pblk b) = refl
 
--- one region more
-enumerate-push : {X : Type 0} (n : ℕ) (xs : List X) (x : X) → enumerate_from n (xs ++ x ∷ []) ≡ enumerate_from n xs ++ (n + length xs, x) ∷ []
-enumerate-push n [] x = ap (λ (k : ℕ). (k, x) ∷ []) (omega arith)
-enumerate-push n (y ∷ xs) x =
-    let at : n + 1 + length xs ≡ n + suc (length xs) = omega arith in
-    ap (λ l. (n, y) ∷ l) (enumerate-push (n + 1) xs x ∙ ap (λ (k : ℕ). enumerate_from (n + 1) xs ++ (k, x) ∷ []) at)
-
+-- the broken list of regions, with one more
 pub broken_of-push : (instance : List InstanceRecord) (n : ℕ) (journals : List (List PlacedRecord)) (rs : List NamedMode) (r : NamedMode) (k : ℕ) → k ≡ length rs
     → broken_of instance n journals (rs ++ r ∷ []) ≡ broken_of instance n journals rs ++ broken_in instance n r.name (journal_of journals k)
 broken_of-push instance n journals rs r k is =
     let f : ℕ × NamedMode → List BrokenPart = λ x. broken_in instance n x.1.name (journal_of journals x.0) in
     let at : 0 + length rs ≡ k = omega (arith, is) in
-    ap (flat_map f) (enumerate-push 0 rs r ∙ ap (λ (j : ℕ). enumerate_from 0 rs ++ (j, r) ∷ []) at)
+    ap (flat_map f) (more_numbered 0 rs r ∙ ap (λ (j : ℕ). enumerate_from 0 rs ++ (j, r) ∷ []) at)
     ∙ flat_map-append f (enumerate_from 0 rs) ((k, r) ∷ [])
     ∙ ap (λ (l : List BrokenPart). flat_map f (enumerate_from 0 rs) ++ l) (append-nil (f (k, r)))
 
