@@ -169,7 +169,10 @@ fn stopped_after_a_fault(rt: HostRuntime) -> Result<(), Fail> {
         return Err("a disk that goes on")?;
     };
     assert_eq!(rt; fault, 1);
-    assert_eq!(rt; site.commit(alloc, &t).err(), Some(SiteError::Stopped { fault: 1 }));
+    assert_eq!(rt;
+        site.commit(alloc, &t).err(),
+        Some(SiteError::Stopped { fault: 1 })
+    );
     assert_eq!(rt; site.harden().err(), Some(SiteError::Stopped { fault: 1 }));
     let (mut disk, closed) = site.close();
     assert_eq!(rt; closed.err(), Some(SiteError::Stopped { fault: 1 }));
