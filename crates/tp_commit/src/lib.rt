@@ -2,9 +2,11 @@
 #![tactic(auto)]
 
 mod lists;
+mod parts;
 mod records;
 #[cfg(test)]
 mod tests;
 mod updates;
 
+pub use parts::{Part, Parts, split_regions};
 pub use records::{PartRecords, entry_records};

@@ -132,3 +132,16 @@ fn some_parts(rt: HostRuntime) -> Result<(), Fail> {
     );
     Ok(())
 }
+
+#[test]
+fn parts_by_region(rt: HostRuntime) -> Result<(), Fail> {
+    let alloc = rt.alloc();
+    let t = transaction(alloc, &[7, 2, 7])?;
+
+    let parts = split_regions(alloc, &t, &eight_regions(alloc)?)?;
+    assert_eq!(rt; parts.len(), 2);
+    assert_eq!(rt; parts.is_empty(), false);
+    assert_eq!(rt; parts.as_slice()[0].region, 2);
+    assert_eq!(rt; parts.as_slice()[1].items.len(), 2);
+    Ok(())
+}
