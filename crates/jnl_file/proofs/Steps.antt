@@ -1,19 +1,20 @@
 -- A journal's records go on with its bodies.
-use Rattle.std.proofs.Common.{◌≡◌, ℕ, suc, ◌+◌, List, [], ◌∷◌, ◌++◌, length, take, Option, Some, None, IfSome, IsSomeAnd, sym, ◌∙◌, ap, subst, arith, append_assoc, length-append}
+use Rattle.std.proofs.Common.{◌≡◌, ◌≢◌, ◌<◌, refl, ℕ, suc, ◌+◌, List, [], ◌∷◌, ◌++◌, length, take, Option, Some, None, IfSome, IsSomeAnd, sym, ◌∙◌, ap, subst, arith, append_assoc, length-append}
 use Rattle.std.proofs.lemmas.List.{take-append-le}
 use Rattle.std.specs.List.{AllZip}
 use Rattle.disk_defs.specs.Disk.{Files, View, IsLawful, AtEachMoment, ReadsAfter}
 use Rattle.disk_defs.specs.Frames.{Only, OnlyOn, SameOutside, OthersStay}
 use Rattle.disk_defs.specs.Gates.{Body, Stands}
 use Rattle.disk_defs.proofs.Moments.{only_then, only_weaker}
+use Rattle.disk_defs.proofs.Told.{with_told}
 use Rattle.gated_file.specs.State as bodies
 use Rattle.gated_file.specs.State.{State}
 use Rattle.gated_file.specs.Gated as gates
 use Rattle.gated_file.specs.declared.gated.Gated.{Gated}
 use Rattle.journal_defs.specs.Numbers.{journal_file}
 use Rattle.journal_defs.specs.Journal.{JournalRecord, IsJournalBody}
-use Rattle.jnl_file.specs.Records.{Recorded, AreBodiesOf, StandsRecords, appended, hardened}
-use Rattle.jnl_file.specs.Journal.{HoldsRecords, HasRecords, IsReady}
+use Rattle.jnl_file.specs.Records.{Recorded, AreBodiesOf, StandsRecords, appended, synced, opened}
+use Rattle.jnl_file.specs.Journal.{HoldsRecords, HasRecords, IsReady, HasClosed}
 use Rattle.jnl_file.specs.declared.journal.Journal.{Journal}
 use Rattle.jnl_file.proofs.Zips.{zip_append, zip_length, zip_take}
 
@@ -126,25 +127,50 @@ moments_then old mid new file mid_file P Q lawful same first second gives =
 pub bodies_appended : (b : State) (s : Recorded) (body : Body) (r : JournalRecord) → AreBodiesOf b s → IsJournalBody body r → AreBodiesOf (bodies.appended b body) (appended s r)
 bodies_appended b s body r are is = record { hard = are.hard; opening = are.opening; closed = zip_append IsJournalBody b.closed (body ∷ []) s.closed (r ∷ []) are.closed (is, tt) }
 
--- all of them on the disk
-pub bodies_hardened : (b : State) (s : Recorded) → AreBodiesOf b s → AreBodiesOf (bodies.synced (bodies.opened_all (bodies.synced b))) (hardened s)
-bodies_hardened b s are = record {
-  hard = zip_append IsJournalBody (b.hard ++ b.opening) b.closed (s.hard ++ s.opening) s.closed (zip_append IsJournalBody b.hard b.opening s.hard s.opening are.hard are.opening) are.closed;
-  opening = tt;
-  closed = tt;
-}
+-- after a sync
+pub bodies_synced : (b : State) (s : Recorded) → AreBodiesOf b s → AreBodiesOf (bodies.synced b) (synced s)
+bodies_synced b s are = record { hard = zip_append IsJournalBody b.hard b.opening s.hard s.opening are.hard are.opening; opening = tt; closed = are.closed }
 
--- a sync while records are hardened
-pub synced_moments : (v w : View) (file : ℕ) (b : State) (s : Recorded) → AreBodiesOf b s → AtEachMoment v w (OnlyOn v file (Stands b.hard b.opening)) → AtEachMoment v w (OnlyOn v file (StandsRecords s.hard (s.opening ++ s.closed)))
-synced_moments v w file b s are run =
-    only_weaker v w (Only file) (λ c. Stands b.hard b.opening (c file)) (λ c. StandsRecords s.hard (s.opening ++ s.closed) (c file))
-    (λ c stands. records_more s.hard s.opening s.closed (c file) (stands_records b.hard b.opening s.hard s.opening (c file) are.hard are.opening stands)) run
+-- after all gates were opened
+pub bodies_opened : (b : State) (s : Recorded) → AreBodiesOf b s → AreBodiesOf (bodies.opened_all b) (opened s)
+bodies_opened b s are = record { hard = are.hard; opening = zip_append IsJournalBody b.opening b.closed s.opening s.closed are.opening are.closed; closed = tt }
 
--- a call after it
-pub hardening_moments : (old mid new : View) (file mid_file : ℕ) (b : State) (s : Recorded) → AreBodiesOf b s → IsLawful mid → mid_file ≡ file
-    → AtEachMoment old mid (OnlyOn old file (StandsRecords s.hard (s.opening ++ s.closed))) → AtEachMoment mid new (OnlyOn mid mid_file (Stands (b.hard ++ b.opening) b.closed))
+-- where no gate is closed, no record waits behind one
+pub none_closed : (v : View) (j : Journal) (s : Recorded) → HasRecords v j s → (HasClosed j → ⊥) → s.closed ≡ []
+none_closed v j s has none =
+    let b = bodies_of v j s has in
+    with_told v.content (gates.Holds v j.gated b.bodies) (s.closed ≡ []) b.has (λ files held. zipped b.bodies.closed s.closed (none_there (bodies.place b.bodies) b.bodies.closed j.gated.closed.items held.places none) b.are.closed)
+  where
+    none_there : (at : ℕ) (closed : List Body) (items : List ℕ) → items ≡ bodies.places at closed → (0 < length items → ⊥) → closed ≡ []
+    none_there at [] items is empty = refl
+    none_there at (body ∷ more) items is empty = absurd (empty (omega (arith, ap length is)))
+
+    zipped : (closed : List Body) (rs : List JournalRecord) → closed ≡ [] → zips closed rs → rs ≡ []
+    zipped [] [] is zip = refl
+    zipped [] (r ∷ rs) is zip = absurd zip
+    zipped (body ∷ more) rs is zip = cc is
+
+-- where some gate is closed, some record does
+pub some_closed : (v : View) (j : Journal) (s : Recorded) → HasRecords v j s → HasClosed j → s.closed ≢ []
+some_closed v j s has some is =
+    let b = bodies_of v j s has in
+    with_told v.content (gates.Holds v j.gated b.bodies) ⊥ b.has (λ files held. among (bodies.place b.bodies) b.bodies.closed s.closed j.gated.closed.items held.places some b.are.closed is)
+  where
+    among : (at : ℕ) (closed : List Body) (rs : List JournalRecord) (items : List ℕ) → items ≡ bodies.places at closed → 0 < length items → zips closed rs → rs ≡ [] → ⊥
+    among at [] rs items places more zip none = omega (arith, ap length places)
+    among at (body ∷ bodies) [] items places more zip none = zip
+    among at (body ∷ bodies) (r ∷ rs) items places more zip none = cc none
+
+-- the bodies are synced before their gates are opened,
+pub before_opening : (v w : View) (file : ℕ) (s : Recorded) → AtEachMoment v w (OnlyOn v file (StandsRecords s.hard s.opening)) → AtEachMoment v w (OnlyOn v file (StandsRecords s.hard (s.opening ++ s.closed)))
+before_opening v w file s run =
+    only_weaker v w (Only file) (λ c. StandsRecords s.hard s.opening (c file)) (λ c. StandsRecords s.hard (s.opening ++ s.closed) (c file))
+    (λ c stands. records_more s.hard s.opening s.closed (c file) stands) run
+
+-- and a call follows
+pub then_hardening : (old mid new : View) (file mid_file : ℕ) (s : Recorded) → IsLawful mid → mid_file ≡ file
+    → AtEachMoment old mid (OnlyOn old file (StandsRecords s.hard (s.opening ++ s.closed))) → AtEachMoment mid new (OnlyOn mid mid_file (StandsRecords (s.hard ++ s.opening) s.closed))
     → AtEachMoment old new (OnlyOn old file (StandsRecords s.hard (s.opening ++ s.closed)))
-hardening_moments old mid new file mid_file b s are lawful same first second =
-    moments_then old mid new file mid_file (StandsRecords s.hard (s.opening ++ s.closed)) (Stands (b.hard ++ b.opening) b.closed) lawful same first second
-    (λ bytes stands. records_later s.hard s.opening s.closed bytes
-    (stands_records (b.hard ++ b.opening) b.closed (s.hard ++ s.opening) s.closed bytes (zip_append IsJournalBody b.hard b.opening s.hard s.opening are.hard are.opening) are.closed stands))
+then_hardening old mid new file mid_file s lawful same first second =
+    moments_then old mid new file mid_file (StandsRecords s.hard (s.opening ++ s.closed)) (StandsRecords (s.hard ++ s.opening) s.closed) lawful same first second
+    (λ bytes stands. records_later s.hard s.opening s.closed bytes stands)

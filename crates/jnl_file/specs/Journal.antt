@@ -1,5 +1,5 @@
 -- A journal on a disk.
-use Rattle.std.specs.Prelude.{◌≡◌, ◌≤◌, ℕ, ◌++◌, length, IfSome, IsSomeAnd}
+use Rattle.std.specs.Prelude.{◌≡◌, ◌≤◌, ◌<◌, ℕ, ◌++◌, length, IfSome, IsSomeAnd, IsTrue}
 use Rattle.disk_defs.specs.Disk.{Files, View, Image}
 use Rattle.disk_defs.specs.Gates.{IsBody}
 use Rattle.gated_file.specs.State.{State}
@@ -48,6 +48,14 @@ pub record IsPrepared (j : Journal) (r : JournalRecord) : Type 0 where
   pub size : IsBody j.body
   pub bodies : 1 ≤ j.gated.bodies_left
   pub bytes : length j.body ≤ j.gated.bytes_left
+
+-- Nothing was appended since the last sync: the bodies behind closed gates are on the disk, so their gates may be opened.
+abbrev pub IsSynced : Journal → Type 0
+IsSynced j = IsTrue j.gated.synced
+
+-- Gates are closed: records wait behind them.
+abbrev pub HasClosed : Journal → Type 0
+HasClosed j = 0 < length j.gated.closed.items
 
 -- what was prepared, and the room, stay
 pub record SamePrepared (old new : Journal) : Type 0 where

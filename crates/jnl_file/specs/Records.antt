@@ -27,6 +27,14 @@ StandsRecords sure more file = (n : ℕ) × (n ≤ length more) × Holds IsJourn
 abbrev pub appended : Recorded → JournalRecord → Recorded
 appended s r = record { hard = s.hard; opening = s.opening; closed = s.closed ++ r ∷ [] }
 
+-- after a sync: the gates that were opened are on the disk
+abbrev pub synced : Recorded → Recorded
+synced s = record { hard = s.hard ++ s.opening; opening = []; closed = s.closed }
+
+-- after all gates were opened
+abbrev pub opened : Recorded → Recorded
+opened s = record { hard = s.hard; opening = s.opening ++ s.closed; closed = [] }
+
 -- with these records alone, all of them on the disk
 abbrev pub settled : List JournalRecord → Recorded
 settled rs = record { hard = rs; opening = []; closed = [] }

@@ -1,5 +1,5 @@
 //! A journal that is open for calls.
-ghost use Rattle.std.specs.Prelude.{◌≡◌, ◌≤◌, ◌<◌, ◌+◌, ◌++◌, ◌∷◌, [], ℕ, List, length, Some, IfSome, IfOk, OnOk, OnErr, IsErrOf};
+ghost use Rattle.std.specs.Prelude.{◌≡◌, ◌↔◌, ◌≤◌, ◌<◌, ◌+◌, ◌++◌, ◌∷◌, [], ℕ, List, length, Some, IfSome, IfOk, OnOk, OnErr, IsErrOf, IsTrue};
 ghost use Rattle.disk_defs.specs.Disk.{Image, AtEachMoment, Reads, Rose, HasCause};
 ghost use Rattle.disk_defs.specs.Frames.{Only, OnlyOn, OthersStay};
 ghost use Rattle.disk_defs.specs.Gates.{records};
@@ -42,8 +42,8 @@ pub struct Journal {
 }
 
 impl Journal {
-    ghost use Rattle.jnl_file.specs.Records.{Recorded, StandsRecords, appended, settled, hardened};
-    ghost use Rattle.jnl_file.specs.Journal.{IsReady, HasRecords, IsJournalOf, IsSameJournal, IsPrepared, SamePrepared};
+    ghost use Rattle.jnl_file.specs.Records.{Recorded, StandsRecords, appended, settled, synced, opened, hardened};
+    ghost use Rattle.jnl_file.specs.Journal.{IsReady, HasRecords, IsJournalOf, IsSameJournal, IsPrepared, IsSynced, HasClosed, SamePrepared};
     ghost use Rattle.jnl_file.specs.Reading.{FindsRecord, IsNoRecord, IsJournalFile, IsOutsideJournal};
     ghost use Rattle.jnl_file.specs.Begin.{pini, MayBegin};
 
@@ -216,6 +216,57 @@ impl Journal {
         Ok(())
     }
 
+    /// Whether records stand behind closed gates. It says nothing of gates that were opened and not yet synced.
+    pub fn has_closed(&self) -> bool
+        ensures { IsTrue result ↔ HasClosed self.now }
+    {
+        !self.gated.closed.is_empty()
+    }
+
+    /// Syncs the file: the first and the last step of hardening. The gates that were opened since the last sync are on the disk
+    /// for good, and so are the bodies behind closed gates. It takes no memory.
+    ///
+    /// # Errors
+    /// `Failed` alone, where the disk's count rose.
+    pub fn sync<D: Disk>(&mut self, disk: &mut D) -> Result<(), JournalError>
+        requires ready { IsReady (D.disk disk.old) self.old }
+        requires room { 1 ≤ self.old.gated.syncs_left }
+        ensures ready { OnOk result (IsReady (D.disk disk.new) self.new) }
+        ensures syncs { OnOk result (self.new.gated.syncs_left + 1 ≡ self.old.gated.syncs_left) }
+        ensures is_synced { OnOk result (IsSynced self.new) }
+        ensures prepared { OnOk result ((r : JournalRecord) → IsPrepared self.old r → IsPrepared self.new r) }
+        ensures state { OnOk result ((s : Recorded) → HasRecords (D.disk disk.old) self.old s → HasRecords (D.disk disk.new) self.new (synced s)) }
+        ensures place { IsSameJournal self.old self.new }
+        ensures any_moment { (s : Recorded) → HasRecords (D.disk disk.old) self.old s → AtEachMoment (D.disk disk.old) (D.disk disk.new) (OnlyOn (D.disk disk.old) self.old.gated.file (StandsRecords s.hard s.opening)) }
+        ensures frame { OthersStay (Only self.old.gated.file) (D.disk disk.old) (D.disk disk.new) }
+        ensures cause { HasCause (D.disk disk.old).faults (D.disk disk.new).faults result }
+        ensures failed { OnErr result (IsErrOf result JournalError.Failed) }
+    {
+        Ok(self.gated.sync(disk)?)
+    }
+
+    /// Opens the gates of all that was appended, without a sync: the second step of hardening. The bodies have to be synced
+    /// since the last append. It takes no memory.
+    ///
+    /// # Errors
+    /// `Failed` alone, where the disk's count rose.
+    pub fn open_gates<D: Disk>(&mut self, disk: &mut D) -> Result<(), JournalError>
+        requires ready { IsReady (D.disk disk.old) self.old }
+        requires is_synced { IsSynced self.old }
+        ensures ready { OnOk result (IsReady (D.disk disk.new) self.new) }
+        ensures syncs { OnOk result (self.new.gated.syncs_left ≡ self.old.gated.syncs_left) }
+        ensures is_synced { IsSynced self.new }
+        ensures prepared { OnOk result ((r : JournalRecord) → IsPrepared self.old r → IsPrepared self.new r) }
+        ensures state { OnOk result ((s : Recorded) → HasRecords (D.disk disk.old) self.old s → HasRecords (D.disk disk.new) self.new (opened s)) }
+        ensures place { IsSameJournal self.old self.new }
+        ensures any_moment { (s : Recorded) → HasRecords (D.disk disk.old) self.old s → AtEachMoment (D.disk disk.old) (D.disk disk.new) (OnlyOn (D.disk disk.old) self.old.gated.file (StandsRecords s.hard (s.opening ++ s.closed))) }
+        ensures frame { OthersStay (Only self.old.gated.file) (D.disk disk.old) (D.disk disk.new) }
+        ensures cause { HasCause (D.disk disk.old).faults (D.disk disk.new).faults result }
+        ensures failed { OnErr result (IsErrOf result JournalError.Failed) }
+    {
+        Ok(self.gated.open_gates(disk)?)
+    }
+
     /// Hardens all that was appended: it syncs the bodies, opens their gates, and syncs again. It takes no memory.
     ///
     /// # Errors
@@ -233,9 +284,9 @@ impl Journal {
         ensures cause { HasCause (D.disk disk.old).faults (D.disk disk.new).faults result }
         ensures failed { OnErr result (IsErrOf result JournalError.Failed) }
     {
-        self.gated.sync(disk)?;
-        self.gated.open_gates(disk)?;
-        Ok(self.gated.sync(disk)?)
+        self.sync(disk)?;
+        self.open_gates(disk)?;
+        self.sync(disk)
     }
 
     /// Reads on: the record behind the gate at a place and the next gate's place, or `None` at a closed gate and in a file

@@ -57,6 +57,28 @@ fn write_epochs<D: Disk>(alloc: Global, disk: &mut D, calls: u64) -> Result<(), 
     journal.harden(disk)
 }
 
+/// Makes the journal, appends an epoch, and takes so many of the three steps of hardening it. Answers whether it waits behind a
+/// closed gate.
+fn take_steps<D: Disk>(alloc: Global, disk: &mut D, steps: u64) -> Result<bool, JournalError>
+    requires { IfSome (D.disk disk.old).content (λ files. records (files 24) ≡ Some []) }
+{
+    let mut journal = make(alloc, disk)?;
+    append_epoch(&mut journal, disk, 1)?;
+    if steps == 0 {
+        return Ok(journal.has_closed());
+    }
+    journal.sync(disk)?;
+    if steps == 1 {
+        return Ok(journal.has_closed());
+    }
+    journal.open_gates(disk)?;
+    if steps == 2 {
+        return Ok(journal.has_closed());
+    }
+    journal.sync(disk)?;
+    Ok(journal.has_closed())
+}
+
 /// Whether the journal's file has these bytes.
 fn has<D: Disk>(disk: &mut D, bytes: &[u8; 18]) -> Result<bool, Fail> {
     let file = journal_file(0, 1);
@@ -121,6 +143,26 @@ fn crashes_at_each_call(rt: HostRuntime) -> Result<(), Fail> {
             let left = count(alloc, &mut disk)?.ok_or("other records")?;
             assert!(rt; done && left == 4 || !done && left <= 4);
             assert!(rt; calls < MAKING || left >= 1, "pick {pick}, calls {calls}");
+        }
+    }
+    Ok(())
+}
+
+/// A crash between two steps of hardening leaves a record out while its gate is closed, and has it once its gate is synced.
+#[test]
+fn crashes_between_steps(rt: HostRuntime) -> Result<(), Fail> {
+    let alloc = rt.alloc();
+    for pick in 0..3u64 {
+        for steps in 0..4u64 {
+            let mut disk = MemDisk::new(alloc)?;
+            let waits = take_steps(alloc, &mut disk, steps)?;
+            assert_eq!(rt; waits, steps < 2);
+            disk.crash(pick);
+            let left = count(alloc, &mut disk)?.ok_or("other records")?;
+            assert!(rt;
+                left == 1 && steps < 3 || left == 2 && steps >= 2,
+                "pick {pick}, steps {steps}"
+            );
         }
     }
     Ok(())
