@@ -1,0 +1,162 @@
+//! Drawing the next generation, and beginning it.
+ghost use Rattle.std.specs.Prelude.{◌≡◌, ◌⊎◌, ◌≤◌, ◌<◌, ◌^◌, ◌++◌, ◌∷◌, [], ℕ, suc, true, List, length, map, slice_get, Some, IfSome, IfOk, OnOk, OnErr, IsErrOf};
+ghost use Rattle.std.specs.Option.{option_or, unwrap_or};
+ghost use Rattle.disk_defs.specs.Disk.{Files, Image, From, AtEachMoment, Rose};
+ghost use Rattle.disk_defs.specs.Frames.{Only, OnlyOn, OthersStay};
+ghost use Rattle.instance_file.specs.Values.{record_value};
+ghost use Rattle.instance_file.specs.Instance as instances;
+ghost use Rattle.journal_defs.specs.Numbers.{INSTANCE, journal_file};
+ghost use Rattle.journal_defs.specs.Instance.{generation, regions, mode_in, mode_of};
+ghost use Rattle.journal_defs.specs.Sequence.{Placed};
+ghost use Rattle.jnl_file.specs.Journal as journals;
+ghost use Rattle.jnl_file.specs.declared.journal.Journal.{Journal};
+ghost use Rattle.jnl_file.specs.Records.{settled};
+ghost use Rattle.jnl_file.specs.Begin.{pini, MayBegin};
+ghost use Rattle.disk_defs.specs.Gates.{records};
+ghost use Rattle.site_files.specs.Errors.{journal_error};
+ghost use Rattle.site_files.specs.Loading.{MayBeOpened, WasRead, MayDraw, HasDrawn, AreNext, last_of, next_cut, next_broken, next_pini};
+
+use crate::error::FilesError;
+use crate::finding::{generation_in, in_instance};
+use instance_file::{Instance, InstanceLog, InstanceRecord};
+use jnl_file::{Journal, JournalError};
+use repl_disk::Disk;
+use std::alloc::Global;
+
+/// The files of a site whose next generation has begun, open for calls.
+#[derive(Drop)]
+pub struct Drawn {
+    pub instance: Instance,
+    /// The journals of the new generation, by region.
+    pub journals: Vec<Journal>,
+}
+
+/// An error of a journal that is made, on a disk with this count of faults.
+fn in_journal(error: JournalError, fault: u64) -> FilesError
+    ensures { result ≡ journal_error fault error }
+{
+    match error {
+        JournalError::Failed => FilesError::Failed { fault },
+        JournalError::NotARecord { .. } | JournalError::NoMemory => FilesError::NoMemory,
+    }
+}
+
+/// The mode that a record gives a region.
+fn mode_given(given: &InstanceRecord, region: u8) -> Option<bool>
+    ensures { result ≡ mode_in (record_value given.now) region }
+{
+    match given {
+        InstanceRecord::Create { regions, .. } => match regions.as_slice().get(region as usize) {
+            Some((_, before)) => Some(*before),
+            None => None,
+        },
+        InstanceRecord::Mode { region: of, before } if *of == region => Some(*before),
+        _ => None,
+    }
+}
+
+/// The mode of a region by these records: the last one that it was given, or BEFORE.
+fn mode_by(records: &[InstanceRecord], region: u8) -> bool
+    ensures { result ≡ unwrap_or (mode_of (map record_value records.now) region) true }
+{
+    let mut mode = None;
+    for given in records {
+        mode = mode_given(given, region).or(mode);
+    }
+    mode.unwrap_or(true)
+}
+
+/// Opens the instance file for calls, and appends the CUT to so many entries that draws the next generation.
+fn cut<D: Disk>(
+    alloc: Global,
+    disk: &mut D,
+    log: InstanceLog,
+    length: u64,
+    next: u32,
+) -> Result<Instance, FilesError>
+    requires form { (last : ℕ → ℕ) × MayBeOpened log.records last }
+    requires next { next ≡ suc (generation log.records) }
+    requires length { length < 2 ^ 40 }
+    requires read { IfSome (D.disk disk.old).content (λ files. (last : ℕ → ℕ) × (journal : ℕ → List Placed) × WasRead (D.disk disk.old) log.records last journal files) }
+    ensures ready { IfOk result (λ made. instances.IsReady (D.disk disk.new) made) }
+    ensures records { IfOk result (λ made. made.records ≡ log.records ++ next_cut log.records length ∷ []) }
+    ensures state { IfOk result (λ made. IfSome (D.disk disk.old).content (λ _. instances.HasRecords (D.disk disk.new) made (log.records ++ next_cut log.records length ∷ []))) }
+    ensures any_moment { IfSome (D.disk disk.old).content (λ _. AtEachMoment (D.disk disk.old) (D.disk disk.new) (OnlyOn (D.disk disk.old) INSTANCE (instances.StandsWith log.records (next_cut log.records length)))) }
+    ensures frame { OthersStay (Only INSTANCE) (D.disk disk.old) (D.disk disk.new) }
+    ensures later { (D.disk disk.old).faults ≤ (D.disk disk.new).faults }
+    ensures count { (fault : ℕ) → IsErrOf result (FilesError.Failed fault) → fault ≡ (D.disk disk.new).faults }
+    ensures cause { (fault : ℕ) → IsErrOf result (FilesError.Failed fault) → Rose (D.disk disk.old).faults (D.disk disk.new).faults }
+    ensures outside { (file offset : ℕ) → IsErrOf result (FilesError.NotAFile file offset) → IfSome (D.disk disk.old).content (λ _. ⊥) }
+    ensures causes { OnErr result (((fault : ℕ) × IsErrOf result (FilesError.Failed fault)) ⊎ ((file : ℕ) × (offset : ℕ) × IsErrOf result (FilesError.NotAFile file offset)) ⊎ IsErrOf result FilesError.NoMemory) }
+{
+    let mut instance = match Instance::open(alloc, disk, log) {
+        Ok(instance) => instance,
+        Err(error) => return Err(in_instance(error, disk.faults())),
+    };
+    match instance.cut(disk, length, next) {
+        Ok(()) => Ok(instance),
+        Err(error) => Err(in_instance(error, disk.faults())),
+    }
+}
+
+/// Makes a region's journal of a generation.
+fn begin<D: Disk>(
+    alloc: Global,
+    disk: &mut D,
+    region: u8,
+    before: bool,
+    generation: u32,
+    last: u32,
+) -> Result<Journal, FilesError>
+    requires region { region < 8 }
+    requires generation { generation ≤ 65535 }
+    requires last { last < generation }
+    requires empty { IfSome (D.disk disk.old).content (λ files. records (files (journal_file generation region)) ≡ Some []) }
+    ensures ready { IfOk result (λ made. journals.IsReady (D.disk disk.new) made) }
+    ensures place { IfOk result (λ made. journals.IsJournalOf made region generation) }
+    ensures state { IfOk result (λ made. IfSome (D.disk disk.old).content (λ _. journals.HasRecords (D.disk disk.new) made (settled (pini region before generation last ∷ [])))) }
+    ensures any_moment { IfSome (D.disk disk.old).content (λ _. AtEachMoment (D.disk disk.old) (D.disk disk.new) (MayBegin (D.disk disk.old) (journal_file generation region) (pini region before generation last))) }
+    ensures frame { OthersStay (Only (journal_file generation region)) (D.disk disk.old) (D.disk disk.new) }
+    ensures later { (D.disk disk.old).faults ≤ (D.disk disk.new).faults }
+    ensures count { (fault : ℕ) → IsErrOf result (FilesError.Failed fault) → fault ≡ (D.disk disk.new).faults }
+    ensures cause { (fault : ℕ) → IsErrOf result (FilesError.Failed fault) → Rose (D.disk disk.old).faults (D.disk disk.new).faults }
+    ensures causes { OnErr result (((fault : ℕ) × IsErrOf result (FilesError.Failed fault)) ⊎ IsErrOf result FilesError.NoMemory) }
+{
+    match Journal::create(alloc, disk, region, before, generation, last) {
+        Ok(made) => Ok(made),
+        Err(error) => Err(in_journal(error, disk.faults())),
+    }
+}
+
+/// Draws the next generation of a site that was read, with the text of what is broken and a CUT to so many entries, and begins it in
+/// each region.
+pub fn draw<D: Disk>(
+    alloc: Global,
+    disk: &mut D,
+    log: InstanceLog,
+    count: u64,
+    broken: &[u8],
+    last_began: &[u32],
+) -> Result<Drawn, FilesError>
+    requires form { MayBeOpened log.records (last_of last_began.now) }
+    requires counted { length last_began.now ≡ length (regions log.records) }
+    requires count { count < 2 ^ 40 }
+    requires read { IfSome (D.disk disk.old).content (λ files. (journal : ℕ → List Placed) × WasRead (D.disk disk.old) log.records (last_of last_began.now) journal files) }
+    ensures instance { IfOk result (λ made. instances.IsReady (D.disk disk.new) made.instance) }
+    ensures journal_count { IfOk result (λ made. length made.journals.items ≡ length (regions log.records)) }
+    ensures journals { IfOk result (λ made. (r : ℕ) (j : Journal) → slice_get made.journals.items r ≡ Some j → journals.IsReady (D.disk disk.new) j × journals.IsJournalOf j r (suc (generation log.records))) }
+    ensures records { IfOk result (λ made. made.instance.records ≡ log.records ++ next_cut log.records count ∷ []) }
+    ensures instance_file { IfOk result (λ made. IfSome (D.disk disk.old).content (λ _. instances.HasRecords (D.disk disk.new) made.instance (log.records ++ next_cut log.records count ∷ []))) }
+    ensures journal_files { IfOk result (λ made. IfSome (D.disk disk.old).content (λ _. (r : ℕ) (j : Journal) → slice_get made.journals.items r ≡ Some j → journals.HasRecords (D.disk disk.new) j (settled (next_pini log.records (last_of last_began.now) r ∷ [])))) }
+    ensures drawn { OnOk result (IfSome (D.disk disk.old).content (λ files. length (files (next_broken log.records)) ≤ length broken.now → (f : Files) → Image (D.disk disk.new) f → From (Image (D.disk disk.old)) (HasDrawn log.records count broken.now (last_of last_began.now) (length (regions log.records))) f)) }
+    ensures any_moment { IfSome (D.disk disk.old).content (λ files. length (files (next_broken log.records)) ≤ length broken.now → AtEachMoment (D.disk disk.old) (D.disk disk.new) (From (Image (D.disk disk.old)) (MayDraw log.records count broken.now (last_of last_began.now)))) }
+    ensures reads { IfSome (D.disk disk.old).content (λ files. length (files (next_broken log.records)) ≤ length broken.now → IfSome (D.disk disk.new).content (MayDraw log.records count broken.now (last_of last_began.now) files)) }
+    ensures frame { OthersStay (AreNext log.records) (D.disk disk.old) (D.disk disk.new) }
+    ensures later { (D.disk disk.old).faults ≤ (D.disk disk.new).faults }
+    ensures count { (fault : ℕ) → IsErrOf result (FilesError.Failed fault) → fault ≡ (D.disk disk.new).faults }
+    ensures cause { (fault : ℕ) → IsErrOf result (FilesError.Failed fault) → Rose (D.disk disk.old).faults (D.disk disk.new).faults }
+    ensures outside { (file offset : ℕ) → IsErrOf result (FilesError.NotAFile file offset) → IfSome (D.disk disk.old).content (λ _. ⊥) }
+    ensures causes { OnErr result (((fault : ℕ) × IsErrOf result (FilesError.Failed fault)) ⊎ ((file : ℕ) × (offset : ℕ) × IsErrOf result (FilesError.NotAFile file offset)) ⊎ IsErrOf result FilesError.NoMemory) }
+{
+    Err(FilesError::NoMemory)
+}

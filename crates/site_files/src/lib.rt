@@ -1,0 +1,18 @@
+//! The files of a site: its instance file, and a journal for each generation of each of its regions.
+//!
+//! Opening a site begins here: its files are synced and read, what they stand for is taken into memory, and the next generation is
+//! drawn and begun in each region, with the text of what was broken beside it. Whatever a crash leaves of that, the files stand for the
+//! same sequence.
+#![tactic(auto)]
+
+mod drawing;
+mod error;
+mod finding;
+mod reading;
+mod remembering;
+
+pub use drawing::{Drawn, draw};
+pub use error::FilesError;
+pub use finding::{created_name, generation_in, in_instance, read_instance, sync_instance};
+pub use reading::{ReadSite, read_site};
+pub use remembering::{Remembered, remember_all};

@@ -1,0 +1,217 @@
+//! Reading the files of a site.
+ghost use Rattle.std.specs.Prelude.{◌≡◌, ◌⊎◌, ◌≤◌, ◌<◌, ℕ, [], List, length, map, Some, IfSome, IfOk, OnOk, OnErr, IsErrOf, IsTrue};
+ghost use Rattle.disk_defs.specs.Disk.{Image, IsDurable, AtEachMoment, Rose};
+ghost use Rattle.disk_defs.specs.Gates.{records};
+ghost use Rattle.disk_defs.specs.Frames.{Only, OthersStay};
+ghost use Rattle.instance_file.specs.Values.{record_value};
+ghost use Rattle.journal_defs.specs.Numbers.{INSTANCE, journal_file};
+ghost use Rattle.journal_defs.specs.Instance as defs;
+ghost use Rattle.journal_defs.specs.Instance.{generation, regions};
+ghost use Rattle.journal_defs.specs.Sequence.{Placed};
+ghost use Rattle.journal_defs.specs.Stands.{IsInstance, IsJournal};
+ghost use Rattle.jnl_file.specs.Generations.{AreDurable, AreJournals};
+ghost use Rattle.jnl_record.specs.Values.{placed_value};
+ghost use Rattle.site_files.specs.Errors.{generations_error};
+ghost use Rattle.site_files.specs.Loading.{MayBeOpened, AreRead, WasRead, IsDirectory, last_of};
+ghost use Rattle.mupip_recover.specs.Site.{journal_of};
+
+use crate::error::FilesError;
+use crate::finding::{generation_in, read_instance};
+use instance_file::{InstanceLog, InstanceRecord};
+use global_dir::Directory;
+use gvn_key::NoMemory;
+use jnl_file::{Generations, GenerationsError, is_unbegun, journal_file, read_generations};
+use jnl_record::PlacedRecord;
+use repl_disk::Disk;
+use std::alloc::Global;
+
+/// No opening draws a generation past this one.
+const LAST_GENERATION: u32 = 65_534;
+
+/// What was read of a site.
+#[derive(Drop)]
+pub struct ReadSite {
+    /// Its instance file.
+    pub log: InstanceLog,
+    /// Which region each name belongs to.
+    pub directory: Directory,
+    /// Its journals by region, each over all generations.
+    pub journals: Vec<Vec<PlacedRecord>>,
+    /// The last generation that began in each region, or 0.
+    pub last_began: Vec<u32>,
+}
+
+/// An error of the journals, on a disk with this count of faults.
+fn in_journals(error: GenerationsError, fault: u64) -> FilesError
+    ensures { result ≡ generations_error fault error }
+{
+    match error {
+        GenerationsError::Failed => FilesError::Failed { fault },
+        GenerationsError::NotAFile { file, offset } => FilesError::NotAFile { file, offset },
+        GenerationsError::NoMemory => FilesError::NoMemory,
+    }
+}
+
+/// How many regions the CREATE names that these records begin with, or 0 where they begin with another one.
+fn region_count(records: &[InstanceRecord]) -> usize
+    ensures { result ≡ length (regions (map record_value records.now)) }
+{
+    match records {
+        [InstanceRecord::Create { regions, .. }, ..] => regions.len(),
+        _ => 0,
+    }
+}
+
+/// The directory that these records give, or `None` where there is no region, more than eight, or a MAP of another one.
+fn directory_of(
+    alloc: Global,
+    records: &[InstanceRecord],
+) -> Result<Option<Directory>, NoMemory>
+    ensures { IfOk result (λ made. IsDirectory (map record_value records.now) made) }
+{
+    let count = region_count(records);
+    if count == 0 || 8 < count {
+        return Ok(None);
+    }
+    let mut directory = Directory::new(alloc, count as u8);
+    for record in records {
+        if let InstanceRecord::Map { region, star, name } = record {
+            if directory.regions() <= *region {
+                return Ok(None);
+            }
+            directory.add(*region, *star, name.as_slice())?;
+        }
+    }
+    Ok(Some(directory))
+}
+
+/// Syncs and reads a region's journals up to a generation.
+fn read_journals<D: Disk>(
+    alloc: Global,
+    disk: &mut D,
+    region: u8,
+    last: u32,
+) -> Result<Generations, FilesError>
+    requires region { region < 8 }
+    requires last { last ≤ 65535 }
+    ensures read { IfOk result (λ made. IfSome (D.disk disk.old).content (λ files. IsJournal files region last made.last_began (map placed_value made.records.items))) }
+    ensures began { IfOk result (λ made. made.last_began ≤ last) }
+    ensures durable { OnOk result (IfSome (D.disk disk.old).content (AreDurable (D.disk disk.new) region last)) }
+    ensures outside { (file offset : ℕ) → IsErrOf result (FilesError.NotAFile file offset) → IfSome (D.disk disk.old).content (λ files. (began : ℕ) (journal : List Placed) → IsJournal files region last began journal → ⊥) }
+    ensures content { (D.disk disk.new).content ≡ (D.disk disk.old).content }
+    ensures any_moment { AtEachMoment (D.disk disk.old) (D.disk disk.new) (Image (D.disk disk.old)) }
+    ensures frame { OthersStay (AreJournals region last) (D.disk disk.old) (D.disk disk.new) }
+    ensures later { (D.disk disk.old).faults ≤ (D.disk disk.new).faults }
+    ensures count { (fault : ℕ) → IsErrOf result (FilesError.Failed fault) → fault ≡ (D.disk disk.new).faults }
+    ensures cause { (fault : ℕ) → IsErrOf result (FilesError.Failed fault) → Rose (D.disk disk.old).faults (D.disk disk.new).faults }
+    ensures causes { OnErr result (((fault : ℕ) × IsErrOf result (FilesError.Failed fault)) ⊎ ((file : ℕ) × (offset : ℕ) × IsErrOf result (FilesError.NotAFile file offset)) ⊎ IsErrOf result FilesError.NoMemory) }
+{
+    match read_generations(alloc, disk, region, last) {
+        Ok(made) => Ok(made),
+        Err(error) => Err(in_journals(error, disk.faults())),
+    }
+}
+
+/// Adds what was read of a region.
+fn add_read(
+    journals: &mut Vec<Vec<PlacedRecord>>,
+    last_began: &mut Vec<u32>,
+    read: Generations,
+) -> Result<(), NoMemory> {
+    journals.push(read.records)?;
+    last_began.push(read.last_began)?;
+    Ok(())
+}
+
+/// Syncs and reads the journals of the first regions up to a generation: their records, and the last generation that began, by region.
+fn read_regions<D: Disk>(
+    alloc: Global,
+    disk: &mut D,
+    regions: u8,
+    last: u32,
+) -> Result<(Vec<Vec<PlacedRecord>>, Vec<u32>), FilesError> {
+    let mut journals = Vec::new(alloc);
+    let mut last_began = Vec::new(alloc);
+    for region in 0..regions {
+        let read = read_journals(alloc, disk, region, last)?;
+        add_read(&mut journals, &mut last_began, read)?;
+    }
+    Ok((journals, last_began))
+}
+
+/// Syncs the journals of the first regions and a generation that isn't drawn, and sees that they have no open record.
+fn see_regions<D: Disk>(
+    alloc: Global,
+    disk: &mut D,
+    regions: u8,
+    generation: u32,
+) -> Result<(), FilesError> {
+    for region in 0..regions {
+        see_unbegun(alloc, disk, region, generation)?;
+    }
+    Ok(())
+}
+
+/// Syncs the journal of a generation that isn't drawn, and sees that it has no open record.
+fn see_unbegun<D: Disk>(
+    alloc: Global,
+    disk: &mut D,
+    region: u8,
+    generation: u32,
+) -> Result<(), FilesError>
+    requires region { region < 8 }
+    requires generation { generation ≤ 65535 }
+    ensures next { OnOk result (IfSome (D.disk disk.old).content (λ files. records (files (journal_file generation region)) ≡ Some [])) }
+    ensures durable { OnOk result (IfSome (D.disk disk.old).content (λ files. IsDurable (D.disk disk.new) (journal_file generation region) (files (journal_file generation region)))) }
+    ensures outside { (file offset : ℕ) → IsErrOf result (FilesError.NotAFile file offset) → IfSome (D.disk disk.old).content (λ files. records (files (journal_file generation region)) ≡ Some [] → ⊥) }
+    ensures content { (D.disk disk.new).content ≡ (D.disk disk.old).content }
+    ensures any_moment { AtEachMoment (D.disk disk.old) (D.disk disk.new) (Image (D.disk disk.old)) }
+    ensures frame { OthersStay (Only (journal_file generation region)) (D.disk disk.old) (D.disk disk.new) }
+    ensures later { (D.disk disk.old).faults ≤ (D.disk disk.new).faults }
+    ensures count { (fault : ℕ) → IsErrOf result (FilesError.Failed fault) → fault ≡ (D.disk disk.new).faults }
+    ensures cause { (fault : ℕ) → IsErrOf result (FilesError.Failed fault) → Rose (D.disk disk.old).faults (D.disk disk.new).faults }
+    ensures causes { OnErr result (((fault : ℕ) × IsErrOf result (FilesError.Failed fault)) ⊎ ((file : ℕ) × (offset : ℕ) × IsErrOf result (FilesError.NotAFile file offset)) ⊎ IsErrOf result FilesError.NoMemory) }
+{
+    match is_unbegun(alloc, disk, region, generation) {
+        Ok(true) => Ok(()),
+        Ok(false) => Err(FilesError::NotAFile {
+            file: journal_file(region, generation),
+            offset: 0,
+        }),
+        Err(error) => Err(in_journals(error, disk.faults())),
+    }
+}
+
+/// Syncs and reads the instance file and the journals of a site. It writes nothing.
+pub fn read_site<D: Disk>(alloc: Global, disk: &mut D) -> Result<ReadSite, FilesError>
+    ensures form { IfOk result (λ read. MayBeOpened read.log.records (last_of read.last_began.items)) }
+    ensures directory { IfOk result (λ read. IsDirectory read.log.records (Some read.directory)) }
+    ensures read { IfOk result (λ read. IfSome (D.disk disk.old).content (WasRead (D.disk disk.new) read.log.records (last_of read.last_began.items) (journal_of (map (λ j. j.items) read.journals.items)))) }
+    ensures limit { IsErrOf result FilesError.GenLimit → IfSome (D.disk disk.old).content (λ files. (rs : List defs.InstanceRecord) → IsInstance (files INSTANCE) rs → 65534 ≤ generation rs) }
+    ensures outside { (file offset : ℕ) → IsErrOf result (FilesError.NotAFile file offset) → IfSome (D.disk disk.old).content (λ files. (rs : List defs.InstanceRecord) (last : ℕ → ℕ) (journal : ℕ → List Placed) → MayBeOpened rs last → AreRead rs last journal files → ⊥) }
+    ensures content { (D.disk disk.new).content ≡ (D.disk disk.old).content }
+    ensures any_moment { AtEachMoment (D.disk disk.old) (D.disk disk.new) (Image (D.disk disk.old)) }
+    ensures simulated { (D.disk disk.new).simulated ≡ (D.disk disk.old).simulated }
+    ensures later { (D.disk disk.old).faults ≤ (D.disk disk.new).faults }
+    ensures count { (fault : ℕ) → IsErrOf result (FilesError.Failed fault) → fault ≡ (D.disk disk.new).faults }
+    ensures cause { (fault : ℕ) → IsErrOf result (FilesError.Failed fault) → Rose (D.disk disk.old).faults (D.disk disk.new).faults }
+    ensures causes { OnErr result (IsErrOf result FilesError.GenLimit ⊎ ((fault : ℕ) × IsErrOf result (FilesError.Failed fault)) ⊎ ((file : ℕ) × (offset : ℕ) × IsErrOf result (FilesError.NotAFile file offset)) ⊎ IsErrOf result FilesError.NoMemory) }
+{
+    let log = read_instance(alloc, disk)?;
+    let all = log.records.as_slice();
+    let Some(directory) = directory_of(alloc, all)? else {
+        return Err(FilesError::NotAFile { file: 0, offset: 0 });
+    };
+    let newest = generation_in(all);
+    if newest >= LAST_GENERATION {
+        return Err(FilesError::GenLimit);
+    }
+    let (journals, last_began) = read_regions(alloc, disk, directory.regions(), newest)?;
+    see_regions(alloc, disk, directory.regions(), newest + 1)?;
+    Ok(ReadSite {
+        log,
+        directory,
+        journals,
+        last_began,
+    })
+}
