@@ -1,10 +1,14 @@
 -- A text that is written into a file from place 0 on.
-use Rattle.std.proofs.Common.{◌≡◌, inl, inr, ℕ, zero, suc, ◌+◌, ◌≤◌, List, [], ◌∷◌, ◌++◌, length, take, drop, max, Option, Some, None, IfSome, refl, sym, ◌∙◌, ap, subst, arith, append-nil}
+use Rattle.std.proofs.Common.{◌≡◌, inl, inr, ℕ, zero, suc, ◌+◌, ◌≤◌, List, [], ◌∷◌, ◌++◌, length, take, drop, max, Option, Some, None, IfSome, Result, Ok, Err, OnOk, refl, sym, ◌∙◌, ap, subst, arith, append-nil}
 use Rattle.disk_defs.specs.Disk.{Files, View, Image, IsLawful, From, OnFile, Torn, Same, Passes, Reads, ReadsAfter, RoomUsed, AtEachMoment, IsDurable, written}
 use Rattle.disk_defs.specs.Frames.{Only, OthersStay}
 use Rattle.disk_defs.proofs.Frames.{reads_weaker, reads_same, others_then, others_read, others_written, others_synced}
 use Rattle.disk_defs.proofs.Moments.{goes_on, weaker, read_only, nothing_new, passed}
 use Rattle.site_files.specs.Loading.{IsNoLonger, IsWritten}
+
+pub on_ok : {T E : Type 0} (r : Result T E) (P Q : Type 0) → OnOk r P → (P → Q) → OnOk r Q
+on_ok (Ok t) P Q p k = k p
+on_ok (Err e) P Q p k = tt
 
 drop_all : (n : ℕ) (xs : List ℕ) → length xs ≤ n → drop n xs ≡ []
 drop_all zero [] low = refl

@@ -19,3 +19,15 @@ loop-region-init g c =
       frame = others_same (AreJournalsOf c.args.generation n) u;
       faults = omega arith;
     }
+
+pub loop-region-preserved : goal.loop-region-preserved
+loop-region-preserved g c = ?
+
+pub begin_next-requires-empty : goal.begin_next-requires-empty
+begin_next-requires-empty g c = ?
+
+pub returns-in_err-begin_next-clause-any_moment : goal.returns-in_err-begin_next-clause-any_moment
+returns-in_err-begin_next-clause-any_moment g c = ?
+
+pub returns-in_err-begin_next-clause-frame : goal.returns-in_err-begin_next-clause-frame
+returns-in_err-begin_next-clause-frame g c = ?
