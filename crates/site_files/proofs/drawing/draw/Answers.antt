@@ -68,8 +68,8 @@ returns-in_err-write_broken-clause-frame g c =
     let first_stays : OthersStay (Only (next_broken rs)) u t = subst (λ (k : ℕ). OthersStay (Only k) u t) file c.write_broken.ensures.frame in
     others_wider (Only (next_broken rs)) (AreNext rs) u t (λ f e. inr (inl e)) first_stays
 
-pub cut-requires-stands : goal.cut-requires-stands
-cut-requires-stands g c =
+pub cut-requires-clause-stands : goal.cut-requires-clause-stands
+cut-requires-clause-stands g c =
     let view = g.D.Disk.disk in
     let u = view c.args.disk.now in
     let t = view c.write_broken.new.disk in
@@ -84,8 +84,8 @@ cut-requires-stands g c =
     let first_stays : OthersStay (Only (next_broken rs)) u t = subst (λ (k : ℕ). OthersStay (Only k) u t) file c.write_broken.ensures.frame in
     drawings.cut_stands rs n text last form u t c.requires.read first_stays
 
-pub cut-requires-durable : goal.cut-requires-durable
-cut-requires-durable g c =
+pub cut-requires-clause-durable : goal.cut-requires-clause-durable
+cut-requires-clause-durable g c =
     let view = g.D.Disk.disk in
     let u = view c.args.disk.now in
     let t = view c.write_broken.new.disk in
@@ -164,8 +164,8 @@ returns-in_err-instance-clause-frame g c =
     let cut_wide : OthersStay (AreNext rs) u v = others_then (AreNext rs) u t v first_wide (others_wider (Only INSTANCE) (AreNext rs) t v (λ f e. inl e) c.cut.ensures.frame) in
     cut_wide
 
-pub begin_all-requires-unbegun : goal.begin_all-requires-unbegun
-begin_all-requires-unbegun g c =
+pub begin_all-requires-clause-unbegun : goal.begin_all-requires-clause-unbegun
+begin_all-requires-clause-unbegun g c =
     let view = g.D.Disk.disk in
     let u = view c.args.disk.now in
     let t = view c.write_broken.new.disk in
@@ -187,8 +187,8 @@ begin_all-requires-unbegun g c =
     subst (λ (k : ℕ). IfSome v.content (λ _. (f : Files) → Image v f → AreUnbegun k m f)) (sym next)
     (subst (λ (k : ℕ). IfSome v.content (λ _. (f : Files) → Image v f → AreUnbegun (suc (generation rs)) k f)) (sym c.requires.counted) (drawings.unbegun_here rs n text last form u t c.requires.read v first_stays c.cut.ensures.frame text_run done c.cut.ensures.any_moment))
 
-pub begin_all-requires-earlier : goal.begin_all-requires-earlier
-begin_all-requires-earlier g c =
+pub begin_all-requires-clause-earlier : goal.begin_all-requires-clause-earlier
+begin_all-requires-clause-earlier g c =
     let view = g.D.Disk.disk in
     let u = view c.args.disk.now in
     let t = view c.write_broken.new.disk in
