@@ -1,5 +1,5 @@
 -- The CUT is appended, as files have it.
-use Rattle.std.proofs.Common.{◌≡◌, ◌⊎◌, inl, inr, ℕ, List, [], ◌∷◌, ◌++◌, Option, Some, None, IfSome, IsSomeAnd, refl, sym, ◌∙◌, ap, subst}
+use Rattle.std.proofs.Common.{◌≡◌, inl, ℕ, List, IfSome, sym, ◌∙◌, subst}
 use Rattle.disk_defs.specs.Disk.{Files, View, Image, IsLawful, AtEachMoment, IsDurable}
 use Rattle.disk_defs.specs.Frames.{Only, OnlyOn}
 use Rattle.disk_defs.specs.Gates.{records}

@@ -1,5 +1,5 @@
 -- The next generation is drawn, and begins in each region, as files have it.
-use Rattle.std.proofs.Common.{◌≡◌, ◌≢◌, ◌⊎◌, inl, inr, ℕ, suc, ◌+◌, ◌≤◌, ◌<◌, Bool, true, List, [], ◌∷◌, ◌++◌, length, Option, Some, None, IfSome, IsSomeAnd, refl, sym, ◌∙◌, ap, subst, arith}
+use Rattle.std.proofs.Common.{◌≡◌, ◌≢◌, inl, inr, ℕ, suc, ◌+◌, ◌≤◌, ◌<◌, Bool, true, List, [], ◌∷◌, ◌++◌, length, Option, Some, None, IfSome, refl, sym, ◌∙◌, ap, subst, arith}
 use Rattle.std.proofs.Math.Path.{fun_ext}
 use Rattle.std.specs.Option.{option_or, unwrap_or}
 use Rattle.disk_defs.specs.Disk.{Files, View, Image, IsLawful, From, OnFile, AtEachMoment, ReadsAfter}
@@ -7,7 +7,7 @@ use Rattle.disk_defs.specs.Frames.{Only, OnlyOn, SameOutside, OthersStay}
 use Rattle.disk_defs.specs.Gates.{records}
 use Rattle.disk_defs.proofs.Told.{with_told, weaker_told}
 use Rattle.disk_defs.proofs.Moments.{weaker, then_more, holds_now}
-use Rattle.journal_defs.specs.Numbers.{INSTANCE, journal_file}
+use Rattle.journal_defs.specs.Numbers.{INSTANCE}
 use Rattle.journal_defs.specs.Instance.{InstanceRecord, Cut, generation, regions, mode_in, mode_of}
 use Rattle.journal_defs.specs.Journal.{JournalRecord}
 use Rattle.journal_defs.specs.Sequence.{Placed}
@@ -66,11 +66,11 @@ module _ (rs : List InstanceRecord) (n : ℕ) (text : List ℕ) (last : ℕ → 
   cut_by : (a d c : Files) → AreUnbegun g0 m0 a → OnFile (next_broken rs) (IsWritten text) a d → SameOutside (Only INSTANCE) d c → StandsWith rs (next_cut rs n) (c INSTANCE) → MayDraw rs n text last a c
   cut_by a d c none on same stands = elim stands [
     | inl is ↦ inl (record {
-        others = λ f ne away far. same f ne ∙ on.others f away;
-        instance = is;
-        text = written_length text (a (next_broken rs)) (c (next_broken rs)) (subst (λ (l : List ℕ). IsWritten text (a (next_broken rs)) l) (sym (same (next_broken rs) (λ e. omega (arith, e)))) on.here);
-        next = λ r low. ap records (same (next_journal rs r) (λ e. omega (arith, e)) ∙ on.others (next_journal rs r) (journal_apart r low)) ∙ none r low;
-      })
+      others = λ f ne away far. same f ne ∙ on.others f away;
+      instance = is;
+      text = written_length text (a (next_broken rs)) (c (next_broken rs)) (subst (λ (l : List ℕ). IsWritten text (a (next_broken rs)) l) (sym (same (next_broken rs) (λ e. omega (arith, e)))) on.here);
+      next = λ r low. ap records (same (next_journal rs r) (λ e. omega (arith, e)) ∙ on.others (next_journal rs r) (journal_apart r low)) ∙ none r low;
+    })
     | inr is ↦ inr (0, drawn_first a d c none on same is)
   ]
 

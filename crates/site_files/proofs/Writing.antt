@@ -1,5 +1,5 @@
 -- A text that is written into a file from place 0 on.
-use Rattle.std.proofs.Common.{◌≡◌, inl, inr, ℕ, zero, suc, ◌+◌, ◌≤◌, List, [], ◌∷◌, ◌++◌, length, take, drop, max, Option, Some, None, IfSome, Result, Ok, Err, OnOk, refl, sym, ◌∙◌, ap, subst, arith, append-nil}
+use Rattle.std.proofs.Common.{◌≡◌, inl, inr, ℕ, zero, suc, ◌+◌, ◌≤◌, List, [], ◌∷◌, ◌++◌, length, drop, max, Option, Some, None, IfSome, Result, Ok, Err, OnOk, refl, sym, ◌∙◌, ap, subst, arith, append-nil}
 use Rattle.disk_defs.specs.Disk.{Files, View, Image, IsLawful, From, OnFile, Torn, Same, Passes, Reads, ReadsAfter, RoomUsed, AtEachMoment, IsDurable, written}
 use Rattle.disk_defs.specs.Frames.{Only, OthersStay}
 use Rattle.disk_defs.proofs.Frames.{reads_weaker, reads_same, others_then, others_read, others_written, others_synced}

@@ -36,11 +36,7 @@ fn write_text<D: Disk>(disk: &mut D, file: u32, text: &[u8]) -> Result<(), Files
 }
 
 /// Writes a text into the broken-transaction file of a generation and syncs the file. Without a text it does nothing.
-pub fn write_broken<D: Disk>(
-    disk: &mut D,
-    generation: u32,
-    text: &[u8],
-) -> Result<(), FilesError>
+pub fn write_broken<D: Disk>(disk: &mut D, generation: u32, text: &[u8]) -> Result<(), FilesError>
     requires generation { generation ≤ 65535 }
     ensures written { OnOk result (IfSome (D.disk disk.old).content (λ files. length (files (broken_file generation)) ≤ length text.now → (c : Files) → Image (D.disk disk.new) c → From (Image (D.disk disk.old)) (OnFile (broken_file generation) (IsWritten text.now)) c)) }
     ensures as_read { OnOk result (IfSome (D.disk disk.old).content (λ files. length (files (broken_file generation)) ≤ length text.now → ReadsAfter (OnFile (broken_file generation) (IsWritten text.now)) (D.disk disk.old).content (D.disk disk.new).content)) }

@@ -1,4 +1,4 @@
-use Rattle.std.proofs.Common.{rules, ◌≡◌, ◌+◌, ◌<◌, ℕ, suc, ◌≤◌, List, [], ◌∷◌, ◌++◌, length, map, Some, IfSome, refl, sym, ◌∙◌, ap, subst, arith, length-append}
+use Rattle.std.proofs.Common.{rules, ◌≡◌, ◌+◌, ◌<◌, ℕ, suc, List, [], ◌∷◌, ◌++◌, length, map, Some, IfSome, sym, ap, subst, arith, length-append}
 use Rattle.std.specs.List.{slice_get}
 use Rattle.disk_defs.specs.Disk.{Files, Image, From}
 use Rattle.disk_defs.proofs.Frames.{others_same}

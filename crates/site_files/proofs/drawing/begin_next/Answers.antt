@@ -1,4 +1,4 @@
-use Rattle.std.proofs.Common.{rules, ◌≡◌, Bool, true, [], ◌∷◌, ◌++◌, map, IfSome, ap, subst}
+use Rattle.std.proofs.Common.{rules, ◌≡◌, Bool, true, [], ◌∷◌, map, IfSome, ap, subst}
 use Rattle.std.specs.Option.{unwrap_or}
 use Rattle.journal_defs.specs.Instance.{mode_of}
 use Rattle.journal_defs.specs.Journal.{JournalRecord}

@@ -1,11 +1,11 @@
-use Rattle.std.proofs.Common.{◌≡◌, ◌⊎◌, inl, inr, ℕ, suc, ◌+◌, ◌≤◌, ◌<◌, List, [], ◌∷◌, ◌++◌, length, map, Some, IfSome, sym, ◌∙◌, ap, subst, arith}
+use Rattle.std.proofs.Common.{◌≡◌, ◌⊎◌, inl, inr, ℕ, suc, ◌+◌, ◌≤◌, ◌<◌, [], ◌∷◌, ◌++◌, length, map, Some, IfSome, sym, ◌∙◌, ap, subst, arith}
 use Rattle.std.specs.List.{slice_get}
 use Rattle.disk_defs.specs.Disk.{Files, Image, From, OnFile, AtEachMoment, ReadsAfter}
 use Rattle.disk_defs.specs.Frames.{Only, OthersStay}
 use Rattle.disk_defs.proofs.Told.{weaker_told}
 use Rattle.disk_defs.proofs.Frames.{others_then, others_wider}
 use Rattle.journal_defs.specs.Numbers.{INSTANCE, journal_file, broken_file}
-use Rattle.journal_defs.specs.Instance.{InstanceRecord, generation, regions}
+use Rattle.journal_defs.specs.Instance.{generation}
 use Rattle.journal_defs.specs.Journal.{JournalRecord}
 use Rattle.instance_file.specs.Instance as instances
 use Rattle.instance_file.specs.Values.{record_value}
