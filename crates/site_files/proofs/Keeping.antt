@@ -12,13 +12,13 @@ use Rattle.disk_defs.specs.Frames.{Only, SameOutside}
 use Rattle.disk_defs.specs.Gates.{Body, records}
 use Rattle.global_defs.specs.Entry.{Sequence}
 use Rattle.journal_defs.specs.Numbers.{INSTANCE, journal_file, database_file, lost_file, broken_file}
-use Rattle.journal_defs.specs.Journal.{JournalRecord, IsJournalBody, Part}
+use Rattle.journal_defs.specs.Journal.{IsJournalBody, Part}
 use Rattle.journal_defs.specs.Instance.{InstanceRecord, Cut, IsInstanceBody, generation, regions, site_name}
-use Rattle.journal_defs.specs.Sequence.{Placed, Records, part_of, parts}
+use Rattle.journal_defs.specs.Sequence.{Placed, Records, part_of}
 use Rattle.journal_defs.specs.Broken.{broken, broken_text}
-use Rattle.journal_defs.specs.Stands.{Holds, IsInstance, IsJournal, AreRecords, in_generation}
+use Rattle.journal_defs.specs.Stands.{Holds, IsInstance, IsJournal, in_generation}
 use Rattle.journal_defs.specs.Growth.{with_record, with_journal, NonePast, IsBefore}
-use Rattle.journal_defs.specs.Clean.{AreClean, IsUndrawn}
+use Rattle.journal_defs.specs.Clean.{AreClean}
 use Rattle.journal_defs.specs.Fit.{IsSoundImage}
 use Rattle.journal_defs.specs.Sound.{NoEpochPast}
 use Rattle.journal_laws.proofs.Appending as appending
@@ -101,6 +101,19 @@ starts_one rs last k r low here =
     let there : nat_lt r (length (regions rs)) ≡ true = grind (arith, nat_tests, here) in
     rw yes (rw there refl)
 
+if_none : {X : Type 0} (a b : Bool) (xs : List X) → b ≡ false → (if a && b then xs else []) ≡ []
+if_none true b xs none = rw none refl
+if_none false b xs none = refl
+
+-- past the last region nothing begins
+starts_past : (rs : List InstanceRecord) (last : ℕ → ℕ) (k r : ℕ) → length (regions rs) < k → starts_in rs last (length (regions rs)) r ≡ starts_in rs last k r
+starts_past rs last k r past = elim (cases_lt r (length (regions rs))) [
+  | inl here ↦ starts_one rs last (length (regions rs)) r here here ∙ sym (starts_one rs last k r (omega (arith, here, past)) here)
+  | inr far ↦
+      let no : nat_lt r (length (regions rs)) ≡ false = grind (arith, nat_tests, far) in
+      starts_none rs last (length (regions rs)) r far ∙ sym (if_none (nat_lt r k) (nat_lt r (length (regions rs))) (in_generation (suc (generation rs)) (next_pini rs last r) ∷ []) no)
+]
+
 starts_same : (rs : List InstanceRecord) (last : ℕ → ℕ) (k r : ℕ) → r ≢ k → starts_in rs last (suc k) r ≡ starts_in rs last k r
 starts_same rs last k r ne = let same : nat_lt r (suc k) ≡ nat_lt r k = grind (arith, nat_tests, ne) in rw same refl
 
@@ -141,6 +154,9 @@ module _ (s : Records) (n : ℕ) (last : ℕ → ℕ) where
           let kept : (with_journal (drawn k) k (start k ∷ [])).journal r ≡ s.journal r ++ starts_in rs last k r = rw no refl in
           kept
           ∙ ap (λ (l : List Placed). s.journal r ++ l) (sym (starts_same rs last k r ne))
+
+  all_drawn : (k : ℕ) → length (regions rs) < k → drawn (length (regions rs)) ≡ drawn k
+  all_drawn k past = by_journal (λ r. s.journal r ++ starts_in rs last (length (regions rs)) r) (λ r. s.journal r ++ starts_in rs last k r) (λ r. ap (λ (l : List Placed). s.journal r ++ l) (starts_past rs last k r past))
 
   -- no part survives past the length, and no epoch is ever chosen past it
   pub none_past : IsBefore (generation rs + 1) s → (k : ℕ) → NonePast n (drawn k)
@@ -350,8 +366,21 @@ module _ (a : Files) (s : Records) (last : ℕ → ℕ) (form : MayBeOpened s.in
             (λ n. clean_drawn b (with_journal (drawn_records s (length seq) last k) k (start s (length seq) last k ∷ [])) n refl has.others)
             (λ q there. earlier_other (database_file q) (λ e. let same = same_few in let few = form.few_regions in omega (arith, e, there, same, few))))
 
-      pub drawn_image : (k : ℕ) (b : Files) → k ≤ m → HasDrawn s.instance (length seq) text last k a b → IsSoundImage b (drawn_records s (length seq) last k) seq
-      drawn_image zero b most has = subst (λ (u : Records). IsSoundImage b u seq) (none_drawn s (length seq) last) (with_cut b has)
-      drawn_image (suc k) b most has =
+      drawn_up_to : (k : ℕ) (b : Files) → k ≤ m → HasDrawn s.instance (length seq) text last k a b → IsSoundImage b (drawn_records s (length seq) last k) seq
+      drawn_up_to zero b most has = subst (λ (u : Records). IsSoundImage b u seq) (none_drawn s (length seq) last) (with_cut b has)
+      drawn_up_to (suc k) b most has =
           let here : k < m = omega (arith, most) in
-          more k here b has (drawn_image k (earlier k here b has) (omega (arith, most)) (earlier_drawn k here b has))
+          more k here b has (drawn_up_to k (earlier k here b has) (omega (arith, most)) (earlier_drawn k here b has))
+
+      pub drawn_image : (k : ℕ) (b : Files) → HasDrawn s.instance (length seq) text last k a b → IsSoundImage b (drawn_records s (length seq) last k) seq
+      drawn_image k b has = elim (cases_lt m k) [
+        | inl over ↦ subst (λ (u : Records). IsSoundImage b u seq) (all_drawn s (length seq) last k over)
+            (drawn_up_to m b (omega arith) (record {
+              others = has.others;
+              instance = has.instance;
+              text = has.text;
+              begun = λ r there low. has.begun r there (omega (arith, there, over));
+              unbegun = λ r there far. absurd (omega (arith, there, far));
+            }))
+        | inr most ↦ drawn_up_to k b most has
+      ]

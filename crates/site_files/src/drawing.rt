@@ -208,6 +208,8 @@ fn begin_all<D: Disk>(
 
 /// Draws the next generation of a site that was read, with the text of what is broken and a CUT to so many entries, and begins it in
 /// each region.
+///
+/// The text, where there is one, is written and synced before the CUT. `last_began` has the last generation that began, by region.
 pub fn draw<D: Disk>(
     alloc: Global,
     disk: &mut D,

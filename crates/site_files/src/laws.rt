@@ -19,7 +19,7 @@ pub fn drawing_keeps_the_sequence()
         → IsUncut s.instance text a b → IsSoundImage b s seq }
     ensures drawn { (a b : Files) (s : Records) (seq : Sequence) (last : ℕ → ℕ) (text : List ℕ) (k : ℕ) → IsSoundImage a s seq
         → MayBeOpened s.instance last → AreRead s.instance last s.journal a
-        → HasDrawn s.instance (length seq) text last k a b → k ≤ length (regions s.instance) → IsSoundImage b (drawn_records s (length seq) last k) seq }
+        → HasDrawn s.instance (length seq) text last k a b → IsSoundImage b (drawn_records s (length seq) last k) seq }
     ensures text { (a b : Files) (s : Records) (seq : Sequence) (last : ℕ → ℕ) (text : List ℕ) (k : ℕ) → IsSoundImage a s seq
         → MayBeOpened s.instance last → text ≡ broken_text (site_name s.instance) (length seq) (broken s (length seq))
         → HasDrawn s.instance (length seq) text last k a b → b (next_broken s.instance) ≡ text }

@@ -7,7 +7,7 @@ use Rattle.site_files.proofs.laws.drawing_keeps_the_sequence.Goals as goal
 pub returns : goal.returns
 returns c = record {
   uncut = λ a b s seq last text sound form read is cut. keeping.uncut_image a s last form seq sound text b is cut;
-  drawn = λ a b s seq last text k sound form read has most. keeping.drawn_image a s last form seq sound text read k b most has;
+  drawn = λ a b s seq last text k sound form read has. keeping.drawn_image a s last form seq sound text read k b has;
   text = λ a b s seq last text k sound form is has. keeping.text_is a s last form seq sound text b k is has;
   none_past = λ a s seq last k sound. keeping.none_past s (length seq) last (drawing.before a s (generation s.instance + 1) sound.held (omega arith)) k;
   no_epoch_past = λ a s seq last k r sound. keeping.no_epoch_past s (length seq) last (drawing.before a s (generation s.instance + 1) sound.held (omega arith)) k r;
