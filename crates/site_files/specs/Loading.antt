@@ -1,6 +1,6 @@
 -- The files of a site as it is opened: they are read, what is broken is written down, and the next generation is drawn and begins in each
 -- region.
-use Rattle.std.specs.Prelude.{◌≡◌, ◌≢◌, ◌⊎◌, ℕ, suc, ◌+◌, ◌≤◌, ◌<◌, ◌++◌, true, List, [], ◌∷◌, length, get_or, nat_lt, ◌&&◌, if◌then◌else◌, Option, Some, None}
+use Rattle.std.specs.Prelude.{◌≡◌, ◌≢◌, ◌⊎◌, ℕ, suc, ◌+◌, ◌≤◌, ◌<◌, ◌++◌, true, List, [], ◌∷◌, length, get_or, nat_lt, ◌&&◌, if◌then◌else◌, max, Option, Some, None}
 use Rattle.std.specs.List.{AllByRecursion}
 use Rattle.std.specs.Option.{unwrap_or}
 use Rattle.disk_defs.specs.Disk.{Files, View, IsDurable}
@@ -66,15 +66,41 @@ next_broken rs = broken_file (suc (generation rs))
 abbrev pub next_pini : List InstanceRecord → (ℕ → ℕ) → ℕ → JournalRecord
 next_pini rs last r = pini r (unwrap_or (mode_of rs r) true) (suc (generation rs)) (last r)
 
+-- a file may be as long as it was or as this text, and no longer
+abbrev pub IsNoLonger : List ℕ → List ℕ → List ℕ → Type 0
+IsNoLonger text was now = length now ≤ max (length was) (length text)
+
+-- the file has this text; without a text it isn't written
+abbrev pub IsWritten : List ℕ → List ℕ → List ℕ → Type 0
+IsWritten text was now = (now ≡ text) ⊎ ((text ≡ []) × (now ≡ was))
+
+-- the journals of a generation, of the first n regions
+abbrev pub AreJournalsOf : (g n : ℕ) → ℕ → Type 0
+AreJournalsOf g n f = (r : ℕ) × (r < n) × (f ≡ journal_file g r)
+
+-- none of them has an open record
+abbrev pub AreUnbegun : (g n : ℕ) → Files → Type 0
+AreUnbegun g n files = (r : ℕ) → r < n → records (files (journal_file g r)) ≡ Some []
+
+-- Of them the first k have this record alone, and the others none. All other files are the same.
+pub record HasBegun (g n : ℕ) (first : ℕ → JournalRecord) (k : ℕ) (was now : Files) : Type 0 where
+  pub others : (f : ℕ) → (AreJournalsOf g n f → ⊥) → now f ≡ was f
+  pub begun : (r : ℕ) → r < n → r < k → Holds IsJournalBody (now (journal_file g r)) (first r ∷ [])
+  pub unbegun : (r : ℕ) → r < n → k ≤ r → records (now (journal_file g r)) ≡ Some []
+
+-- how a generation begins in a region by these records, after these generations by region
+abbrev pub first_by : List InstanceRecord → (g : ℕ) → List ℕ → ℕ → JournalRecord
+first_by rs g lasts r = pini r (unwrap_or (mode_of rs r) true) g (last_of lasts r)
+
 -- the files of the next generation and the instance file
 abbrev pub AreNext : List InstanceRecord → ℕ → Type 0
 AreNext rs f = (f ≡ INSTANCE) ⊎ (f ≡ next_broken rs) ⊎ ((r : ℕ) × (r < length (regions rs)) × (f ≡ next_journal rs r))
 
--- Nothing is drawn: the broken-transaction file alone may have changed, and is no longer than this text.
+-- Nothing is drawn: the broken-transaction file alone may have changed, and is no longer than it was or than this text.
 pub record IsUncut (rs : List InstanceRecord) (broken : List ℕ) (was now : Files) : Type 0 where
   pub others : (f : ℕ) → f ≢ INSTANCE → f ≢ next_broken rs → ((r : ℕ) → r < length (regions rs) → f ≢ next_journal rs r) → now f ≡ was f
   pub instance : IsInstance (now INSTANCE) rs
-  pub text : (now (next_broken rs) ≡ was (next_broken rs)) ⊎ (length (now (next_broken rs)) ≤ length broken)
+  pub text : IsNoLonger broken (was (next_broken rs)) (now (next_broken rs))
   pub next : (r : ℕ) → r < length (regions rs) → records (now (next_journal rs r)) ≡ Some []
 
 -- The instance file has the CUT, the broken-transaction file this text, and the next generation has begun in the first k regions. All other
@@ -82,8 +108,7 @@ pub record IsUncut (rs : List InstanceRecord) (broken : List ℕ) (was now : Fil
 pub record HasDrawn (rs : List InstanceRecord) (n : ℕ) (broken : List ℕ) (last : ℕ → ℕ) (k : ℕ) (was now : Files) : Type 0 where
   pub others : (f : ℕ) → f ≢ INSTANCE → f ≢ next_broken rs → ((r : ℕ) → r < length (regions rs) → f ≢ next_journal rs r) → now f ≡ was f
   pub instance : IsInstance (now INSTANCE) (rs ++ next_cut rs n ∷ [])
-  -- without a text the file isn't written
-  pub text : (now (next_broken rs) ≡ broken) ⊎ ((broken ≡ []) × (now (next_broken rs) ≡ was (next_broken rs)))
+  pub text : IsWritten broken (was (next_broken rs)) (now (next_broken rs))
   pub begun : (r : ℕ) → r < length (regions rs) → r < k → Holds IsJournalBody (now (next_journal rs r)) (next_pini rs last r ∷ [])
   pub unbegun : (r : ℕ) → r < length (regions rs) → k ≤ r → records (now (next_journal rs r)) ≡ Some []
 

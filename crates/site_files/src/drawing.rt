@@ -1,23 +1,26 @@
 //! Drawing the next generation, and beginning it.
 ghost use Rattle.std.specs.Prelude.{◌≡◌, ◌⊎◌, ◌≤◌, ◌<◌, ◌^◌, ◌++◌, ◌∷◌, [], ℕ, suc, true, List, length, map, slice_get, Some, IfSome, IfOk, OnOk, OnErr, IsErrOf};
 ghost use Rattle.std.specs.Option.{option_or, unwrap_or};
-ghost use Rattle.disk_defs.specs.Disk.{Files, Image, From, AtEachMoment, Rose};
+ghost use Rattle.disk_defs.specs.Disk.{Files, Image, From, AtEachMoment, IsDurable, Rose};
 ghost use Rattle.disk_defs.specs.Frames.{Only, OnlyOn, OthersStay};
 ghost use Rattle.instance_file.specs.Values.{record_value};
 ghost use Rattle.instance_file.specs.Instance as instances;
 ghost use Rattle.journal_defs.specs.Numbers.{INSTANCE, journal_file};
 ghost use Rattle.journal_defs.specs.Instance.{generation, regions, mode_in, mode_of};
 ghost use Rattle.journal_defs.specs.Sequence.{Placed};
+ghost use Rattle.journal_defs.specs.Stands.{IsInstance};
 ghost use Rattle.jnl_file.specs.Journal as journals;
 ghost use Rattle.jnl_file.specs.declared.journal.Journal.{Journal};
 ghost use Rattle.jnl_file.specs.Records.{settled};
 ghost use Rattle.jnl_file.specs.Begin.{pini, MayBegin};
 ghost use Rattle.disk_defs.specs.Gates.{records};
 ghost use Rattle.site_files.specs.Errors.{journal_error};
-ghost use Rattle.site_files.specs.Loading.{MayBeOpened, WasRead, MayDraw, HasDrawn, AreNext, last_of, next_cut, next_broken, next_pini};
+ghost use Rattle.site_files.specs.Loading.{MayBeOpened, WasRead, MayDraw, HasDrawn, HasBegun, AreNext, AreJournalsOf, AreUnbegun, last_of, first_by, next_cut, next_broken, next_pini};
 
+use crate::broken::write_broken;
 use crate::error::FilesError;
 use crate::finding::{generation_in, in_instance};
+use gvn_key::NoMemory;
 use instance_file::{Instance, InstanceLog, InstanceRecord};
 use jnl_file::{Journal, JournalError};
 use repl_disk::Disk;
@@ -77,7 +80,8 @@ fn cut<D: Disk>(
     requires form { (last : ℕ → ℕ) × MayBeOpened log.records last }
     requires next { next ≡ suc (generation log.records) }
     requires length { length < 2 ^ 40 }
-    requires read { IfSome (D.disk disk.old).content (λ files. (last : ℕ → ℕ) × (journal : ℕ → List Placed) × WasRead (D.disk disk.old) log.records last journal files) }
+    requires stands { IfSome (D.disk disk.old).content (λ files. IsInstance (files INSTANCE) log.records) }
+    requires durable { IfSome (D.disk disk.old).content (λ files. IsDurable (D.disk disk.old) INSTANCE (files INSTANCE)) }
     ensures ready { IfOk result (λ made. instances.IsReady (D.disk disk.new) made) }
     ensures records { IfOk result (λ made. made.records ≡ log.records ++ next_cut log.records length ∷ []) }
     ensures state { IfOk result (λ made. IfSome (D.disk disk.old).content (λ _. instances.HasRecords (D.disk disk.new) made (log.records ++ next_cut log.records length ∷ []))) }
@@ -128,8 +132,84 @@ fn begin<D: Disk>(
     }
 }
 
+/// Adds a journal.
+fn add(journals: &mut Vec<Journal>, made: Journal) -> Result<(), NoMemory>
+    ensures { OnOk result (journals.new.items ≡ journals.old.items ++ made ∷ []) }
+{
+    journals.push(made)?;
+    Ok(())
+}
+
+/// Makes a region's journal of a generation, in its mode by these records, and adds it.
+fn begin_next<D: Disk>(
+    alloc: Global,
+    disk: &mut D,
+    begun: &mut Vec<Journal>,
+    given: &[InstanceRecord],
+    region: u8,
+    generation: u32,
+    last: u32,
+) -> Result<(), FilesError>
+    requires region { region < 8 }
+    requires generation { generation ≤ 65535 }
+    requires last { last < generation }
+    requires empty { IfSome (D.disk disk.old).content (λ files. records (files (journal_file generation region)) ≡ Some []) }
+    ensures added { OnOk result ((made : Journal) × (begun.new.items ≡ begun.old.items ++ made ∷ []) × journals.IsReady (D.disk disk.new) made × journals.IsJournalOf made region generation × IfSome (D.disk disk.old).content (λ _. journals.HasRecords (D.disk disk.new) made (settled (pini region (unwrap_or (mode_of (map record_value given.now) region) true) generation last ∷ [])))) }
+    ensures any_moment { IfSome (D.disk disk.old).content (λ _. AtEachMoment (D.disk disk.old) (D.disk disk.new) (MayBegin (D.disk disk.old) (journal_file generation region) (pini region (unwrap_or (mode_of (map record_value given.now) region) true) generation last))) }
+    ensures frame { OthersStay (Only (journal_file generation region)) (D.disk disk.old) (D.disk disk.new) }
+    ensures later { (D.disk disk.old).faults ≤ (D.disk disk.new).faults }
+    ensures count { (fault : ℕ) → IsErrOf result (FilesError.Failed fault) → fault ≡ (D.disk disk.new).faults }
+    ensures cause { (fault : ℕ) → IsErrOf result (FilesError.Failed fault) → Rose (D.disk disk.old).faults (D.disk disk.new).faults }
+    ensures causes { OnErr result (((fault : ℕ) × IsErrOf result (FilesError.Failed fault)) ⊎ IsErrOf result FilesError.NoMemory) }
+{
+    let before = mode_by(given, region);
+    let made = begin(alloc, disk, region, before, generation, last)?;
+    add(begun, made)?;
+    Ok(())
+}
+
+/// Makes the journals of a generation in the first regions, one for each of these last generations, in their modes by these records.
+fn begin_all<D: Disk>(
+    alloc: Global,
+    disk: &mut D,
+    records: &[InstanceRecord],
+    generation: u32,
+    last_began: &[u32],
+) -> Result<Vec<Journal>, FilesError>
+    requires few { length last_began.now ≤ 8 }
+    requires generation { generation ≤ 65535 }
+    requires earlier { (r : ℕ) → last_of last_began.now r < generation }
+    requires unbegun { IfSome (D.disk disk.old).content (λ _. (f : Files) → Image (D.disk disk.old) f → AreUnbegun generation (length last_began.now) f) }
+    ensures number { IfOk result (λ made. length made.items ≡ length last_began.now) }
+    ensures ready { IfOk result (λ made. (r : ℕ) (j : Journal) → slice_get made.items r ≡ Some j → journals.IsReady (D.disk disk.new) j × journals.IsJournalOf j r generation) }
+    ensures state { IfOk result (λ made. IfSome (D.disk disk.old).content (λ _. (r : ℕ) (j : Journal) → slice_get made.items r ≡ Some j → journals.HasRecords (D.disk disk.new) j (settled (first_by (map record_value records.now) generation last_began.now r ∷ [])))) }
+    ensures begun { OnOk result (IfSome (D.disk disk.old).content (λ _. (f : Files) → Image (D.disk disk.new) f → From (Image (D.disk disk.old)) (HasBegun generation (length last_began.now) (first_by (map record_value records.now) generation last_began.now) (length last_began.now)) f)) }
+    ensures any_moment { IfSome (D.disk disk.old).content (λ _. AtEachMoment (D.disk disk.old) (D.disk disk.new) (From (Image (D.disk disk.old)) (λ was now. (k : ℕ) × HasBegun generation (length last_began.now) (first_by (map record_value records.now) generation last_began.now) k was now))) }
+    ensures frame { OthersStay (AreJournalsOf generation (length last_began.now)) (D.disk disk.old) (D.disk disk.new) }
+    ensures later { (D.disk disk.old).faults ≤ (D.disk disk.new).faults }
+    ensures count { (fault : ℕ) → IsErrOf result (FilesError.Failed fault) → fault ≡ (D.disk disk.new).faults }
+    ensures cause { (fault : ℕ) → IsErrOf result (FilesError.Failed fault) → Rose (D.disk disk.old).faults (D.disk disk.new).faults }
+    ensures causes { OnErr result (((fault : ℕ) × IsErrOf result (FilesError.Failed fault)) ⊎ IsErrOf result FilesError.NoMemory) }
+{
+    let mut journals = Vec::new(alloc);
+    for region in 0..last_began.len() {
+        begin_next(
+            alloc,
+            disk,
+            &mut journals,
+            records,
+            region as u8,
+            generation,
+            last_began[region],
+        )?;
+    }
+    Ok(journals)
+}
+
 /// Draws the next generation of a site that was read, with the text of what is broken and a CUT to so many entries, and begins it in
 /// each region.
+///
+/// The text, where there is one, is written and synced before the CUT. `last_began` has the last generation that began, by region.
 pub fn draw<D: Disk>(
     alloc: Global,
     disk: &mut D,
@@ -158,5 +238,10 @@ pub fn draw<D: Disk>(
     ensures outside { (file offset : ℕ) → IsErrOf result (FilesError.NotAFile file offset) → IfSome (D.disk disk.old).content (λ _. ⊥) }
     ensures causes { OnErr result (((fault : ℕ) × IsErrOf result (FilesError.Failed fault)) ⊎ ((file : ℕ) × (offset : ℕ) × IsErrOf result (FilesError.NotAFile file offset)) ⊎ IsErrOf result FilesError.NoMemory) }
 {
-    Err(FilesError::NoMemory)
+    let next = generation_in(log.records.as_slice()) + 1;
+    write_broken(disk, next, broken)?;
+    let instance = cut(alloc, disk, log, count, next)?;
+    let records = instance.records.as_slice();
+    let journals = begin_all(alloc, disk, records, next, last_began)?;
+    Ok(Drawn { instance, journals })
 }

@@ -5,14 +5,17 @@
 //! same sequence.
 #![tactic(auto)]
 
+mod broken;
 mod drawing;
 mod error;
 mod finding;
+mod laws;
 mod reading;
 mod remembering;
 
 pub use drawing::{Drawn, draw};
 pub use error::FilesError;
 pub use finding::{created_name, generation_in, in_instance, read_instance, sync_instance};
+pub use laws::drawing_keeps_the_sequence;
 pub use reading::{ReadSite, read_site};
 pub use remembering::{Remembered, remember_all};
