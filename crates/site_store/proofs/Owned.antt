@@ -1,6 +1,6 @@
 -- A site that owns its disk.
-use Rattle.std.proofs.Common.{◌≡◌, ◌≢◌, ℕ, Bool, true, None, Some, length, take, refl, sym, ◌∙◌, subst, arith}
-use Rattle.std.specs.Prelude.{IfSome}
+use Rattle.std.proofs.Common.{◌≡◌, ◌≢◌, ◌⊎◌, inl, inr, ap, Err, ℕ, Bool, true, None, Some, length, take, refl, sym, ◌∙◌, subst, arith}
+use Rattle.std.specs.Prelude.{IfSome, IsErrOf}
 use Rattle.disk_defs.specs.Disk.{Files, View, Image, IsLawful, AtEachMoment, Reads}
 use Rattle.disk_defs.proofs.Moments.{started}
 use Rattle.world_defs.specs.World.{Contents}
@@ -8,6 +8,8 @@ use Rattle.world_defs.specs.Rows.{with_sequence, IsFrontOf}
 use Rattle.world_defs.specs.Ties.{IsSite}
 use Rattle.site_store.specs.declared.site.OpenSite.{OpenSite}
 use Rattle.site_store.specs.declared.owning.Site.{Site}
+use Rattle.site_store.specs.declared.error.SiteError.{SiteError}
+use Rattle.site_store.specs.declared.error.SiteError.TheVariants.{Failed, Stopped}
 use Rattle.site_store.specs.Site.{IsReady, IsOpen, HasAppended}
 use Rattle.site_store.specs.Owning.{IsGoing, MayBeCalled, IsOpenSite}
 use Rattle.site_store.proofs.Begun.{reads_of}
@@ -37,15 +39,20 @@ pub settled_reads : (v : View) (c : Contents) (s : OpenSite) → IsLawful v → 
 settled_reads v c s lawful is = reads_of v (λ f. IsSite f c) lawful (λ f now. images_stand v c s is f now)
 
 -- after a call that reads
-pub going_read : {D : Type 0} (view : D → View) (old new : Site D) → Reads (view old.disk) (view new.disk) → new.open ≡ old.open → new.fault ≡ old.fault → MayBeCalled view old → MayBeCalled view new
+pub going_read : {D : Type 0} (view : D → View) (old new : Site D) → Reads (view old.disk) (view new.disk) → new.inner ≡ old.inner → new.fault ≡ old.fault → MayBeCalled view old → MayBeCalled view new
 going_read view old new reads same fault may none =
     let g = may (sym fault ∙ none) in
     record {
       fault = none;
-      files = subst (λ (s : OpenSite). IsReady (view new.disk) s) (sym same) (site_read (view old.disk) (view new.disk) old.open reads g.files);
+      files = subst (λ (s : OpenSite). IsReady (view new.disk) s) (sym same) (site_read (view old.disk) (view new.disk) old.inner reads g.files);
       room = subst (λ (s : OpenSite). s.hardened ≢ length s.entries.items → HasAppended s) (sym same) g.room;
     }
 
-pub open_site_read : {D : Type 0} (view : D → View) (old new : Site D) (told : Bool) (c : Contents) (h : ℕ) → Reads (view old.disk) (view new.disk) → new.open ≡ old.open → new.fault ≡ old.fault → IsOpenSite view told c h old → IsOpenSite view told c h new
+pub open_site_read : {D : Type 0} (view : D → View) (old new : Site D) (told : Bool) (c : Contents) (h : ℕ) → Reads (view old.disk) (view new.disk) → new.inner ≡ old.inner → new.fault ≡ old.fault → IsOpenSite view told c h old → IsOpenSite view told c h new
 open_site_read view old new told c h reads same fault is =
-    record { fault = fault ∙ is.fault; is_open = subst (λ (s : OpenSite). IsOpen (view new.disk) told c h s) (sym same) (open_read (view old.disk) (view new.disk) told c h old.open reads is.is_open) }
+    record { fault = fault ∙ is.fault; inner = subst (λ (s : OpenSite). IsOpen (view new.disk) told c h s) (sym same) (open_read (view old.disk) (view new.disk) told c h old.inner reads is.inner) }
+
+-- an error handed on beside another kind of value
+pub carried : {A B : Type 0} (e : SiteError) → ((fault : ℕ) × IsErrOf {T = A} (Err e) (Failed fault)) ⊎ ((fault : ℕ) × IsErrOf {T = A} (Err e) (Stopped fault)) → ((fault : ℕ) × IsErrOf {T = B} (Err e) (Failed fault)) ⊎ ((fault : ℕ) × IsErrOf {T = B} (Err e) (Stopped fault))
+carried e (inl h) = inl (h.0, let same : e ≡ Failed h.0 = cc h.1 in ap Err same)
+carried e (inr h) = inr (h.0, let same : e ≡ Stopped h.0 = cc h.1 in ap Err same)

@@ -13,8 +13,8 @@ HasStopped fault s = s.fault ≡ Some fault
 -- No call failed, its files are open for calls, and where entries wait there is room for the syncs of a hardening.
 pub record IsGoing {D : Type 0} (view : D → View) (s : Site D) : Type 0 where
   pub fault : s.fault ≡ None
-  pub files : IsReady (view s.disk) s.open
-  pub room : s.open.hardened ≢ length s.open.entries.items → HasAppended s.open
+  pub files : IsReady (view s.disk) s.inner
+  pub room : s.inner.hardened ≢ length s.inner.entries.items → HasAppended s.inner
 
 -- it has stopped, or it goes on
 abbrev pub MayBeCalled : {D : Type 0} → (D → View) → Site D → Type 0
@@ -23,7 +23,7 @@ MayBeCalled view s = s.fault ≡ None → IsGoing view s
 -- No call failed, and over its own disk the site is open with these contents, of which so many entries are hardened.
 pub record IsOpenSite {D : Type 0} (view : D → View) (told : Bool) (c : Contents) (hardened : ℕ) (s : Site D) : Type 0 where
   pub fault : s.fault ≡ None
-  pub is_open : IsOpen (view s.disk) told c hardened s.open
+  pub inner : IsOpen (view s.disk) told c hardened s.inner
 
 -- the disk that an opening leaves, in the site or beside the error
 abbrev pub disk_left : {D : Type 0} → Result (Site D) (D × SiteError) → D

@@ -35,7 +35,7 @@ use std::alloc::Global;
 #[derive(Drop)]
 pub struct Site<D: Disk> {
     pub disk: D,
-    pub open: OpenSite,
+    pub inner: OpenSite,
     /// The number of the failed call, on the disk, after which the site stopped.
     pub fault: Option<u64>,
 }
@@ -78,9 +78,9 @@ impl<D: Disk> Site<D> {
     /// rose. `NoMemory`, also for a site of more than one region.
     pub fn load(alloc: Global, mut disk: D) -> Result<Site<D>, (D, SiteError)>
         ensures ready { IfOk result (IsGoing D.disk) }
-        ensures read { IfOk result (λ s. (c : Contents) × Remembers (opened c) (length c.sequence) s.open) }
+        ensures read { IfOk result (λ s. (c : Contents) × Remembers (opened c) (length c.sequence) s.inner) }
         ensures told { IfOk result (λ s. IfSome (D.disk disk).content (λ files. (c : Contents) → IsSite files c → EachStands (D.disk disk) → IsOpenSite D.disk true (opened c) (length c.sequence) s)) }
-        ensures opened { IfOk result (λ s. WasOpened s.open) }
+        ensures opened { IfOk result (λ s. WasOpened s.inner) }
         ensures drawn { OnOk result (IfSome (D.disk disk).content (λ files. (c : Contents) → IsSite files c → generation c.instance < 65534)) }
         ensures limit { FailsWith result SiteError.GenLimit → IfSome (D.disk disk).content (λ files. (c : Contents) → IsSite files c → 65534 ≤ generation c.instance) }
         ensures unwritten { FailsWith result SiteError.GenLimit → (D.disk (disk_left result)).content ≡ (D.disk disk).content }
@@ -99,9 +99,9 @@ impl<D: Disk> Site<D> {
         ensures no_stop { (fault : ℕ) → FailsWith result (SiteError.Stopped fault) → ⊥ }
     {
         match load(alloc, &mut disk) {
-            Ok(open) => Ok(Site {
+            Ok(inner) => Ok(Site {
                 disk,
-                open,
+                inner,
                 fault: None,
             }),
             Err(error) => Err((disk, error)),
@@ -111,7 +111,7 @@ impl<D: Disk> Site<D> {
     /// Stops the site where a call failed.
     fn note(&mut self, error: SiteError)
         ensures disk { self.new.disk ≡ self.old.disk }
-        ensures open { self.new.open ≡ self.old.open }
+        ensures inner { self.new.inner ≡ self.old.inner }
         ensures stops { (fault : ℕ) → error ≡ SiteError.Failed fault → HasStopped fault self.new }
         ensures goes_on { ((fault : ℕ) → error ≡ SiteError.Failed fault → ⊥) → self.new ≡ self.old }
     {
@@ -129,15 +129,15 @@ impl<D: Disk> Site<D> {
     /// `Stopped` exactly where a call before failed. `NoMemory`.
     pub fn start_reign(&mut self, alloc: Global) -> Result<Stamp, SiteError>
         requires ready { MayBeCalled D.disk self.old }
-        requires opened { self.old.fault ≡ None → WasOpened self.old.open }
+        requires opened { self.old.fault ≡ None → WasOpened self.old.inner }
         ensures ready { OnOk result (IsGoing D.disk self.new) }
         ensures begun { OnOk result ((told : Bool) (c : Contents) → IsOpenSite D.disk told c (length c.sequence) self.old → IsOpenSite D.disk told (with_reign (site_name c.instance) c) (length c.sequence) self.new) }
-        ensures stamp { IfOk result (λ stamp. (c : Contents) → c.instance ≡ self.old.open.instance.records → stamp_value stamp ≡ next_stamp (site_name c.instance) c) }
-        ensures remembered { IfOk result (λ stamp. self.new.open.stamp ≡ Some stamp) }
-        ensures reign { OnOk result (HasReign self.new.open) }
-        ensures entries { self.new.open.entries.items ≡ self.old.open.entries.items }
-        ensures room { OnOk result ((c : Contents) (h : ℕ) → Remembers c h self.old.open → reign_limit c ≡ None) }
-        ensures limit { IsErrOf result SiteError.ReignLimit → (c : Contents) (h : ℕ) → Remembers c h self.old.open → reign_limit c ≡ Some ReignLimit }
+        ensures stamp { IfOk result (λ stamp. (c : Contents) → c.instance ≡ self.old.inner.instance.records → stamp_value stamp ≡ next_stamp (site_name c.instance) c) }
+        ensures remembered { IfOk result (λ stamp. self.new.inner.stamp ≡ Some stamp) }
+        ensures reign { OnOk result (HasReign self.new.inner) }
+        ensures entries { self.new.inner.entries.items ≡ self.old.inner.entries.items }
+        ensures room { OnOk result ((c : Contents) (h : ℕ) → Remembers c h self.old.inner → reign_limit c ≡ None) }
+        ensures limit { IsErrOf result SiteError.ReignLimit → (c : Contents) (h : ℕ) → Remembers c h self.old.inner → reign_limit c ≡ Some ReignLimit }
         ensures kept { IsErrOf result SiteError.ReignLimit → self.new ≡ self.old }
         ensures any_moment { (c : Contents) → IsOpenSite D.disk true c (length c.sequence) self.old → AtEachMoment (D.disk self.old.disk) (D.disk self.new.disk) (λ f. IsSite f c ⊎ IsSite f (with_reign (site_name c.instance) c)) }
         ensures stands { (c : Contents) → IsOpenSite D.disk true c (length c.sequence) self.old → IfSome (D.disk self.new.disk).content (λ f. IsSite f c ⊎ IsSite f (with_reign (site_name c.instance) c)) }
@@ -155,7 +155,7 @@ impl<D: Disk> Site<D> {
         if let Some(fault) = self.fault {
             return Err(SiteError::Stopped { fault });
         }
-        match self.open.start_reign(alloc, &mut self.disk) {
+        match self.inner.start_reign(alloc, &mut self.disk) {
             Ok(stamp) => Ok(stamp),
             Err(error) => {
                 self.note(error);
@@ -174,16 +174,16 @@ impl<D: Disk> Site<D> {
     pub fn commit(&mut self, alloc: Global, t: &Transaction) -> Result<u64, SiteError>
         requires ready { MayBeCalled D.disk self.old }
         requires form { IsTransaction (transaction_value t.now) }
-        requires reign { self.old.fault ≡ None → HasReign self.old.open }
+        requires reign { self.old.fault ≡ None → HasReign self.old.inner }
         ensures ready { OnOk result (IsGoing D.disk self.new) }
-        ensures done { OnOk result ((told : Bool) (c : Contents) (h : ℕ) → IsOpenSite D.disk told c h self.old → IsOpenSite D.disk told (with_entry self.old.open.stamp (transaction_value t.now) c) h self.new) }
-        ensures number { IfOk result (λ n. n ≡ length self.old.open.entries.items + 1) }
-        ensures stamp { self.new.open.stamp ≡ self.old.open.stamp }
-        ensures reign { OnOk result (HasReign self.new.open) }
-        ensures room { OnOk result (length self.old.open.entries.items + 1 < 2 ^ 40) }
-        ensures fits { OnOk result (HasRoomFor self.old.open.globals t.now.updates) }
-        ensures full { (nodes : ℕ) → IsErrOf result (SiteError.Full nodes) → HasRoomFor self.old.open.globals t.now.updates → ⊥ }
-        ensures last { IsErrOf result SiteError.SeqLimit → 2 ^ 40 ≤ length self.old.open.entries.items + 1 }
+        ensures done { OnOk result ((told : Bool) (c : Contents) (h : ℕ) → IsOpenSite D.disk told c h self.old → IsOpenSite D.disk told (with_entry self.old.inner.stamp (transaction_value t.now) c) h self.new) }
+        ensures number { IfOk result (λ n. n ≡ length self.old.inner.entries.items + 1) }
+        ensures stamp { self.new.inner.stamp ≡ self.old.inner.stamp }
+        ensures reign { OnOk result (HasReign self.new.inner) }
+        ensures room { OnOk result (length self.old.inner.entries.items + 1 < 2 ^ 40) }
+        ensures fits { OnOk result (HasRoomFor self.old.inner.globals t.now.updates) }
+        ensures full { (nodes : ℕ) → IsErrOf result (SiteError.Full nodes) → HasRoomFor self.old.inner.globals t.now.updates → ⊥ }
+        ensures last { IsErrOf result SiteError.SeqLimit → 2 ^ 40 ≤ length self.old.inner.entries.items + 1 }
         ensures kept { ((nodes : ℕ) × IsErrOf result (SiteError.Full nodes)) ⊎ IsErrOf result SiteError.SeqLimit → self.new ≡ self.old }
         ensures any_moment { (c : Contents) (h : ℕ) → IsOpenSite D.disk true c h self.old → AtEachMoment (D.disk self.old.disk) (D.disk self.new.disk) (λ f. IsSite f (with_sequence c (take h c.sequence))) }
         ensures stands { (c : Contents) (h : ℕ) → IsOpenSite D.disk true c h self.old → IfSome (D.disk self.new.disk).content (λ f. IsSite f (with_sequence c (take h c.sequence))) }
@@ -201,7 +201,7 @@ impl<D: Disk> Site<D> {
         if let Some(fault) = self.fault {
             return Err(SiteError::Stopped { fault });
         }
-        match self.open.commit(alloc, &mut self.disk, t) {
+        match self.inner.commit(alloc, &mut self.disk, t) {
             Ok(number) => Ok(number),
             Err(error) => {
                 self.note(error);
@@ -220,11 +220,11 @@ impl<D: Disk> Site<D> {
         requires ready { MayBeCalled D.disk self.old }
         ensures ready { OnOk result (IsGoing D.disk self.new) }
         ensures done { OnOk result ((told : Bool) (c : Contents) (h : ℕ) → IsOpenSite D.disk told c h self.old → IsOpenSite D.disk told c (length c.sequence) self.new) }
-        ensures length { IfOk result (λ n. n ≡ length self.old.open.entries.items) }
-        ensures stamp { self.new.open.stamp ≡ self.old.open.stamp }
-        ensures entries { self.new.open.entries.items ≡ self.old.open.entries.items }
-        ensures reign { HasReign self.old.open → HasReign self.new.open }
-        ensures idle { self.old.fault ≡ None → self.old.open.hardened ≡ length self.old.open.entries.items → IsOk result × (self.new ≡ self.old) }
+        ensures length { IfOk result (λ n. n ≡ length self.old.inner.entries.items) }
+        ensures stamp { self.new.inner.stamp ≡ self.old.inner.stamp }
+        ensures entries { self.new.inner.entries.items ≡ self.old.inner.entries.items }
+        ensures reign { HasReign self.old.inner → HasReign self.new.inner }
+        ensures idle { self.old.fault ≡ None → self.old.inner.hardened ≡ length self.old.inner.entries.items → IsOk result × (self.new ≡ self.old) }
         ensures any_moment { (c : Contents) (h : ℕ) → IsOpenSite D.disk true c h self.old → AtEachMoment (D.disk self.old.disk) (D.disk self.new.disk) (λ f. (o : Contents) × IsFrontOf c.sequence h c o × IsSite f o) }
         ensures stands { (c : Contents) (h : ℕ) → IsOpenSite D.disk true c h self.old → IfSome (D.disk self.new.disk).content (λ f. (o : Contents) × IsFrontOf c.sequence h c o × IsSite f o) }
         ensures still_told { IsSome (D.disk self.old.disk).content → IsSome (D.disk self.new.disk).content }
@@ -241,10 +241,10 @@ impl<D: Disk> Site<D> {
         if let Some(fault) = self.fault {
             return Err(SiteError::Stopped { fault });
         }
-        if self.open.hardened == self.open.entries.len() as u64 {
-            return Ok(self.open.hardened);
+        if self.inner.hardened == self.inner.entries.len() as u64 {
+            return Ok(self.inner.hardened);
         }
-        match self.open.harden(&mut self.disk) {
+        match self.inner.harden(&mut self.disk) {
             Ok(length) => Ok(length),
             Err(error) => {
                 self.note(error);
@@ -261,7 +261,7 @@ impl<D: Disk> Site<D> {
         requires ready { MayBeCalled D.disk self }
         ensures reads { OnOk result.1 ((c : Contents) (h : ℕ) → IsOpenSite D.disk true c h self → IfSome (D.disk result.0).content (λ f. IsSite f c)) }
         ensures images { OnOk result.1 ((c : Contents) (h : ℕ) → IsOpenSite D.disk true c h self → (f : Files) → Image (D.disk result.0) f → IsSite f c) }
-        ensures idle { self.fault ≡ None → self.open.hardened ≡ length self.open.entries.items → IsOk result.1 × (result.0 ≡ self.disk) }
+        ensures idle { self.fault ≡ None → self.inner.hardened ≡ length self.inner.entries.items → IsOk result.1 × (result.0 ≡ self.disk) }
         ensures any_moment { (c : Contents) (h : ℕ) → IsOpenSite D.disk true c h self → AtEachMoment (D.disk self.disk) (D.disk result.0) (λ f. (o : Contents) × IsFrontOf c.sequence h c o × IsSite f o) }
         ensures stands { (c : Contents) (h : ℕ) → IsOpenSite D.disk true c h self → IfSome (D.disk result.0).content (λ f. (o : Contents) × IsFrontOf c.sequence h c o × IsSite f o) }
         ensures still_told { IsSome (D.disk self.disk).content → IsSome (D.disk result.0).content }
@@ -289,23 +289,23 @@ impl<D: Disk> Site<D> {
 
     /// How many entries there are.
     pub fn sequence_length(&self) -> u64
-        ensures { result ≡ length self.now.open.entries.items }
+        ensures { result ≡ length self.now.inner.entries.items }
     {
-        self.open.sequence_length()
+        self.inner.sequence_length()
     }
 
     /// How many entries are on the disk for good.
     pub fn hardened_length(&self) -> u64
-        ensures { result ≡ self.now.open.hardened }
+        ensures { result ≡ self.now.inner.hardened }
     {
-        self.open.hardened_length()
+        self.inner.hardened_length()
     }
 
     /// The reigns that no later CUT dropped.
     pub fn history(&self) -> &Reigns
-        ensures { result.now ≡ reigns self.now.open.instance.records }
+        ensures { result.now ≡ reigns self.now.inner.instance.records }
     {
-        self.open.history()
+        self.inner.history()
     }
 
     /// Whether the disk can be made to fail and to crash.
@@ -319,8 +319,8 @@ impl<D: Disk> Site<D> {
     pub fn fuse(&mut self, calls: u64)
         requires simulated { IsTrue (D.disk self.old.disk).simulated }
         ensures ready { MayBeCalled D.disk self.old → MayBeCalled D.disk self.new }
-        ensures open { (told : Bool) (c : Contents) (h : ℕ) → IsOpenSite D.disk told c h self.old → IsOpenSite D.disk told c h self.new }
-        ensures site { self.new.open ≡ self.old.open }
+        ensures stays_open { (told : Bool) (c : Contents) (h : ℕ) → IsOpenSite D.disk told c h self.old → IsOpenSite D.disk told c h self.new }
+        ensures kept { self.new.inner ≡ self.old.inner }
         ensures fault { self.new.fault ≡ self.old.fault }
         ensures reads { Reads (D.disk self.old.disk) (D.disk self.new.disk) }
         ensures faults { (D.disk self.new.disk).faults ≡ (D.disk self.old.disk).faults }

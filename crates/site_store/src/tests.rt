@@ -1,5 +1,5 @@
 //! A site made, opened twice, and damaged; and one that owns its disk.
-ghost use Rattle.std.specs.Prelude.{◌≡◌, [], Some, IfSome, IfOk};
+ghost use Rattle.std.specs.Prelude.{◌≡◌, [], Some, IfSome, IfOk, OnOk, IsTrue};
 ghost use Rattle.disk_defs.specs.Gates.{records};
 ghost use Rattle.global_defs.specs.Fields.{IsTransaction};
 ghost use Rattle.gvn_model.specs.Entries.{transaction_value};
@@ -99,7 +99,7 @@ fn a_journal_outside_its_format(rt: HostRuntime) -> Result<(), Fail> {
 fn begin<D: Disk>(alloc: Global, mut disk: D) -> Result<Site<D>, SiteError>
     requires { IfSome (D.disk disk).content (λ files. records (files INSTANCE) ≡ Some []) }
     ensures ready { IfOk result (IsGoing D.disk) }
-    ensures reign { IfOk result (λ s. HasReign s.open) }
+    ensures reign { IfOk result (λ s. HasReign s.inner) }
 {
     let name = Bytes::of(alloc, b"A")?;
     let regions = [RegionSpec {
@@ -130,52 +130,73 @@ fn set(alloc: Global) -> Result<Transaction, Fail>
     Ok(Transaction { origin, updates })
 }
 
+/// Gives a site that goes on its next entry.
+fn put<D: Disk>(alloc: Global, site: &mut Site<D>) -> Result<u64, Fail>
+    requires ready { IsGoing D.disk site.old }
+    requires reign { HasReign site.old.inner }
+    ensures ready { OnOk result (IsGoing D.disk site.new) }
+    ensures reign { OnOk result (HasReign site.new.inner) }
+{
+    let t = set(alloc)?;
+    Ok(site.commit(alloc, &t)?)
+}
+
+/// A site with two entries, of which one is hardened.
+fn put_two<D: Disk>(alloc: Global, disk: D) -> Result<Site<D>, Fail>
+    requires { IfSome (D.disk disk).content (λ files. records (files INSTANCE) ≡ Some []) }
+    ensures { IfOk result (IsGoing D.disk) }
+{
+    let mut site = begin(alloc, disk)?;
+    put(alloc, &mut site)?;
+    site.harden()?;
+    put(alloc, &mut site)?;
+    Ok(site)
+}
+
 /// What was committed is found again after a close, whether it was hardened before or not.
 #[test]
 fn closed_and_opened_again(rt: HostRuntime) -> Result<(), Fail> {
     let alloc = rt.alloc();
-    let t = set(alloc)?;
-    let mut site = begin(alloc, MemDisk::new(alloc)?)?;
+    let site = put_two(alloc, MemDisk::new(alloc)?)?;
     assert!(rt; site.simulated());
-    assert_eq!(rt; site.commit(alloc, &t)?, 1);
-    assert_eq!(rt; site.hardened_length(), 0);
-    assert_eq!(rt; site.harden()?, 1);
-    assert_eq!(rt; site.commit(alloc, &t)?, 2);
+    assert_eq!(rt; site.sequence_length(), 2);
+    assert_eq!(rt; site.hardened_length(), 1);
+    assert_eq!(rt; site.history().len(), 1);
     let (disk, closed) = site.close();
     closed?;
-    let Ok(mut site) = Site::load(alloc, disk) else {
+    let Ok(site) = Site::load(alloc, disk) else {
         return Err("no site")?;
     };
     assert_eq!(rt; site.sequence_length(), 2);
-    assert_eq!(rt; site.hardened_length(), 2);
-    assert_eq!(rt; site.history().len(), 1);
-    site.fuse(0);
-    let (disk, closed) = site.close();
-    closed?;
-    assert_eq!(rt; disk.faults(), 0);
+    assert_eq!(rt; site.abandon().faults(), 0);
     Ok(())
+}
+
+/// Hardens where no call of the disk succeeds any more, and closes then.
+fn fail_and_close<D: Disk>(site: Site<D>) -> Result<(D, u64, Option<SiteError>), Fail>
+    requires ready { IsGoing D.disk site }
+    requires simulated { IsTrue (D.disk site.disk).simulated }
+{
+    let mut site = site;
+    site.fuse(0);
+    let Err(SiteError::Failed { fault }) = site.harden() else {
+        return Err("a disk that goes on")?;
+    };
+    let (disk, closed) = site.close();
+    Ok((disk, fault, closed.err()))
 }
 
 /// After a fault each call answers its number, and a crash finds what was hardened.
 #[test]
 fn stopped_after_a_fault(rt: HostRuntime) -> Result<(), Fail> {
     let alloc = rt.alloc();
-    let t = set(alloc)?;
-    let mut site = begin(alloc, MemDisk::new(alloc)?)?;
-    site.commit(alloc, &t)?;
-    site.harden()?;
-    site.fuse(0);
-    let Err(SiteError::Failed { fault }) = site.commit(alloc, &t) else {
-        return Err("a disk that goes on")?;
-    };
+    let site = put_two(alloc, MemDisk::new(alloc)?)?;
+    if !site.simulated() {
+        return Err("a disk that never fails")?;
+    }
+    let (mut disk, fault, closed) = fail_and_close(site)?;
     assert_eq!(rt; fault, 1);
-    assert_eq!(rt;
-        site.commit(alloc, &t).err(),
-        Some(SiteError::Stopped { fault: 1 })
-    );
-    assert_eq!(rt; site.harden().err(), Some(SiteError::Stopped { fault: 1 }));
-    let (mut disk, closed) = site.close();
-    assert_eq!(rt; closed.err(), Some(SiteError::Stopped { fault: 1 }));
+    assert_eq!(rt; closed, Some(SiteError::Stopped { fault: 1 }));
     disk.crash(0);
     let Ok(site) = Site::load(alloc, disk) else {
         return Err("no site")?;
@@ -184,17 +205,10 @@ fn stopped_after_a_fault(rt: HostRuntime) -> Result<(), Fail> {
     Ok(())
 }
 
-/// A close hardens what waits, and so may fail. A disk that isn't a site's comes back.
+/// A disk that isn't a site's comes back.
 #[test]
-fn a_close_that_fails(rt: HostRuntime) -> Result<(), Fail> {
+fn a_disk_handed_back(rt: HostRuntime) -> Result<(), Fail> {
     let alloc = rt.alloc();
-    let mut site = begin(alloc, MemDisk::new(alloc)?)?;
-    site.commit(alloc, &set(alloc)?)?;
-    site.fuse(0);
-    let (_, closed) = site.close();
-    assert_eq!(rt; closed.err(), Some(SiteError::Failed { fault: 1 }));
-    let site = begin(alloc, MemDisk::new(alloc)?)?;
-    assert_eq!(rt; site.abandon().faults(), 0);
     let Err((disk, error)) = Site::load(alloc, MemDisk::new(alloc)?) else {
         return Err("a site on a new disk")?;
     };

@@ -12,7 +12,7 @@ pub returns-clause-sequence : goal.returns-clause-sequence
 returns-clause-sequence c =
     let seq = map (λ (e : ℕ × defs.Entry). e.1) c.in_ok-recover.field-0 in
     let values : seq ≡ map entry_value c.into_items-entries.result.items = ap (map (λ (e : ℕ × defs.Entry). e.1)) (sym c.into_items-entries.ensures) ∙ values_of c.into_items-entries.result.items in
-    let one : map (λ j. j.items) c.push.new.self.items ≡ c.args.records.items ∷ [] = search rules in
+    let one : map (λ j. j.items) c.deref.result.now ≡ c.args.records.items ∷ [] = search rules in
     subst (IsSequence (site_records c.args.log.now.records (c.args.records.items ∷ []))) values
     (subst (λ (l : List (List PlacedRecord)). IsSequence (site_records c.args.log.now.records l) seq) one c.in_ok-recover.ensures.sequence)
 

@@ -66,6 +66,7 @@ returns-in-Err-NotARecord g c = record {
   remembered = tt;
   reign = tt;
   entries = refl;
+  hardened = refl;
   room = tt;
   limit = λ is. absurd (cc is);
   kept = λ is. absurd (cc is);
