@@ -8,6 +8,7 @@
 mod drawing;
 mod error;
 mod finding;
+mod mapping;
 mod reading;
 mod remembering;
 
