@@ -1,14 +1,14 @@
 -- The columns of a table.
-use Rattle.std.proofs.Common.{◌≡◌, ℕ, ◌==◌, ◌&&◌, Bool, true, false, List, [], ◌∷◌, ◌++◌, length, map, get_or, Option, Some, None, refl, sym, ◌∙◌, ap, arith, if◌then◌else◌}
+use Rattle.std.proofs.Common.{◌≡◌, ℕ, ◌≤◌, ◌==◌, ◌&&◌, Bool, true, false, List, [], ◌++◌, length, map, drop, get_or, Option, Some, None, refl, sym, ◌∙◌, ap, arith, if◌then◌else◌}
 use Rattle.std.proofs.lemmas.Bool.Decides.{nat_tests}
 use Rattle.std.proofs.lemmas.Simd.{map-map}
-use Rattle.std.proofs.lemmas.List.{append-nil}
+use Rattle.std.proofs.lemmas.List.{append-nil, drop_all}
 use Rattle.std.proofs.Math.ListN.{get_or-map}
-use Rattle.journal_defs.specs.Journal.{Tcom, Part}
+use Rattle.journal_defs.specs.Journal.{JournalRecord, Pini, Epoch, Pblk, Tcom, Part}
 use Rattle.journal_defs.specs.Instance.{InstanceRecord}
 use Rattle.journal_defs.specs.Surviving.{survives}
 use Rattle.journal_defs.specs.Sequence.{Placed, part_in, part_of}
-use Rattle.mupip_recover.specs.Parts.{if_numbered}
+use Rattle.mupip_recover.specs.Parts.{surviving_in, if_numbered}
 
 at_number : (rs : List InstanceRecord) (g n : ℕ) (p : Part) (same kept : Bool) → (p.number == n) ≡ same → survives rs g p.number ≡ kept
     → (if p.number == n && survives rs g n then Some p else None) ≡ (if same && kept then Some p else None)
@@ -26,13 +26,16 @@ numbered : (b : Bool) (p : Part) → (if b && true then Some p else None) ≡ (i
 numbered true p = refl
 numbered false p = refl
 
--- a part that survives counts for its number alone
-pub kept_part : (rs : List InstanceRecord) (g n : ℕ) (p : Part) → survives rs g p.number ≡ true → part_in rs n g (Tcom p) ≡ if_numbered n (Some p)
-kept_part rs g n p h = at_number rs g n p (p.number == n) true refl h ∙ numbered (p.number == n) p
+by_survival : (rs : List InstanceRecord) (g n : ℕ) (p : Part) (kept : Bool) → survives rs g p.number ≡ kept → part_in rs n g (Tcom p) ≡ if_numbered n (if kept then Some p else None)
+by_survival rs g n p true h = at_number rs g n p (p.number == n) true refl h ∙ numbered (p.number == n) p
+by_survival rs g n p false h = at_number rs g n p (p.number == n) false refl h ∙ not_numbered (p.number == n) p
 
--- one that doesn't counts for none
-pub cut_part : (rs : List InstanceRecord) (g n : ℕ) (p : Part) → survives rs g p.number ≡ false → part_in rs n g (Tcom p) ≡ None
-cut_part rs g n p h = at_number rs g n p (p.number == n) false refl h ∙ not_numbered (p.number == n) p
+-- a part that survives counts for its number alone, and one that doesn't for none
+pub counts_for : (rs : List InstanceRecord) (n g : ℕ) (what : JournalRecord) (o : Option Part) → o ≡ surviving_in rs g what → part_in rs n g what ≡ if_numbered n o
+counts_for rs n g (Tcom p) o is = by_survival rs g n p (survives rs g p.number) refl ∙ ap (if_numbered n) (sym is)
+counts_for rs n g (Pini s) o is = ap (if_numbered n) (sym is)
+counts_for rs n g (Epoch m) o is = ap (if_numbered n) (sym is)
+counts_for rs n g (Pblk b) o is = ap (if_numbered n) (sym is)
 
 -- the parts of a number by region
 pub by_region : {J P : Type 0} (items : J → List P) (value : P → Placed) (rs : List InstanceRecord) (n : ℕ) (js : List J) (r : ℕ)
@@ -42,6 +45,5 @@ by_region items value rs n js r =
     ∙ get_or-map (λ ps. part_of rs n (map value ps)) (map items js) r []
 
 -- where nothing is left of a list that was gone through
-pub all_seen : {X Y : Type 0} (f : X → Y) (front ys : List Y) (left : List X) (k : ℕ) → k ≡ length left → k ≡ 0 → front ++ map f left ≡ ys → front ≡ ys
-all_seen f front ys [] k is none h = sym (append-nil front) ∙ h
-all_seen f front ys (x ∷ left) k is none h = absurd (omega arith)
+pub all_seen : {X Y : Type 0} (f : X → Y) (front ys : List Y) (xs : List X) (i : ℕ) → length xs ≤ i → front ++ map f (drop i xs) ≡ ys → front ≡ ys
+all_seen {X = X} f front ys xs i past h = sym (append-nil front) ∙ ap (λ (l : List X). front ++ map f l) (sym (drop_all i xs past)) ∙ h

@@ -8,3 +8,4 @@ pub mod RegionLists
 pub mod Completion
 pub mod Counts
 pub mod Runs
+pub mod BrokenLaws

@@ -30,8 +30,8 @@ entry_is t rs place s is =
     let at : (place + 1) - 1 ≡ place = omega arith in
     ap (λ (k : ℕ). entry_with (part_at t k) (stamp_at (place + 1) rs)) at ∙ ap (entry_with (part_at t place)) (sym is)
 
--- one entry more
-pub more_numbered : (n : ℕ) (es : Sequence) (e : Entry) → enumerate_from n (es ++ e ∷ []) ≡ enumerate_from n es ++ (n + length es, e) ∷ []
+-- one more at the end
+pub more_numbered : {X : Type 0} (n : ℕ) (es : List X) (e : X) → enumerate_from n (es ++ e ∷ []) ≡ enumerate_from n es ++ (n + length es, e) ∷ []
 more_numbered n [] e = ap (λ (k : ℕ). (k, e) ∷ []) (omega arith)
 more_numbered n (x ∷ es) e =
     let at : n + 1 + length es ≡ n + suc (length es) = omega arith in

@@ -6,3 +6,4 @@ pub mod Parts
 pub mod Table
 pub mod Slots
 pub mod Entries
+pub mod Broken

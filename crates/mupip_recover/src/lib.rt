@@ -3,6 +3,7 @@
 //! Nothing here reads a disk. The records come as lists: those of the instance file, and those of each region's journals.
 #![tactic(auto)]
 
+mod broken;
 mod completing;
 mod cuts;
 mod minima;
@@ -15,5 +16,6 @@ mod table;
 #[cfg(test)]
 mod tests;
 
+pub use broken::write_broken;
 pub use recovering::recover;
 pub use surviving::survives;

@@ -9,8 +9,8 @@ use gvn_model::{Items, Origin};
 pub const REGIONS: u8 = 8;
 
 /// What an entry does in one region, as a TCOM record says it.
-#[derive(Debug, Drop)]
-pub struct Part {
+#[derive(Clone, Copy, Debug)]
+pub struct Part<'a> {
     /// The entry's number.
     pub number: u64,
     /// The regions that have a part of the entry: bit r stands for region r.
@@ -20,10 +20,10 @@ pub struct Part {
     /// How many updates the entry has in all regions.
     pub count: u16,
     /// The region's updates.
-    pub items: Items,
+    pub items: &'a Items,
 }
 
-impl Part {
+impl Part<'_> {
     /// Whether the entry has a part in a region.
     pub fn is_in(&self, region: u8) -> bool
         requires { region < 8 }

@@ -77,14 +77,14 @@ pub fn recover(
     alloc: Global,
     instance: &InstanceRecords,
     history: &Reigns,
-    journals: Vec<Vec<PlacedRecord>>,
+    journals: &[Vec<PlacedRecord>],
 ) -> Result<Entries, NoMemory>
     requires { history.now ≡ surviving.reigns instance.now }
-    ensures sequence { IfOk result (λ made. IsSequence (site_records instance.now (map (λ j. j.items) journals.items)) (map (λ e. e.1) made)) }
+    ensures sequence { IfOk result (λ made. IsSequence (site_records instance.now (map (λ j. j.items) journals.now)) (map (λ e. e.1) made)) }
     ensures numbered { IfOk result (λ made. made ≡ enumerate_from 1 (map (λ e. e.1) made)) }
 {
     let cuts = Cuts::of(alloc, instance)?;
-    let Some(places) = count_all(&journals) else {
+    let Some(places) = count_all(journals) else {
         return Err(NoMemory);
     };
     let table = Table::of(alloc, &cuts, places, journals)?;

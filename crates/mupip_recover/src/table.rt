@@ -6,7 +6,7 @@ ghost use Rattle.journal_defs.specs.Sequence.{part_in, part_of};
 ghost use Rattle.jnl_record.specs.Values.{record_value, placed_value};
 ghost use Rattle.mupip_recover.specs.Site.{journal_of};
 ghost use Rattle.mupip_recover.specs.Cuts.{AreCuts};
-ghost use Rattle.mupip_recover.specs.Parts.{part_value, if_numbered, is_part};
+ghost use Rattle.mupip_recover.specs.Parts.{part_value, surviving_in, if_numbered, is_part};
 ghost use Rattle.mupip_recover.specs.Table.{part_in_column, part_at, IsColumn};
 
 use super::cuts::Cuts;
@@ -17,9 +17,9 @@ use std::alloc::Global;
 
 /// The last surviving part of each entry in each region.
 #[derive(Debug, Drop)]
-pub struct Table {
+pub struct Table<'a> {
     /// A column for each region, with a place for each number from 1 on.
-    pub columns: Vec<Vec<Option<Part>>>,
+    pub columns: Vec<Vec<Option<Part<'a>>>>,
 }
 
 /// Whether a record is a part of an entry.
@@ -54,13 +54,12 @@ pub fn count_all(journals: &[Vec<PlacedRecord>]) -> Option<usize>
 }
 
 /// The part that a record is, where it is one and survives.
-fn surviving_part(cuts: &Cuts, placed: PlacedRecord) -> Option<Part>
+pub fn surviving_part<'a>(cuts: &Cuts, placed: &'a PlacedRecord) -> Option<Part<'a>>
     requires { (rs : List instances.InstanceRecord) × AreCuts rs cuts.now }
-    ensures { (rs : List instances.InstanceRecord) → AreCuts rs cuts.now → (n : ℕ)
-        → part_in rs n placed.generation (record_value placed.what) ≡ if_numbered n (option_map part_value result) }
+    ensures { (rs : List instances.InstanceRecord) → AreCuts rs cuts.now
+        → option_map part_value result ≡ surviving_in rs placed.now.generation (record_value placed.now.what) }
 {
-    let PlacedRecord { generation, what } = placed;
-    match what {
+    match &placed.what {
         JnlRecord::Tcom {
             number,
             mask,
@@ -68,12 +67,12 @@ fn surviving_part(cuts: &Cuts, placed: PlacedRecord) -> Option<Part>
             count,
             items,
         } => {
-            if cuts.spare(generation, number) {
+            if cuts.spare(placed.generation, *number) {
                 Some(Part {
-                    number,
-                    mask,
-                    origin,
-                    count,
+                    number: *number,
+                    mask: *mask,
+                    origin: *origin,
+                    count: *count,
                     items,
                 })
             } else {
@@ -85,10 +84,10 @@ fn surviving_part(cuts: &Cuts, placed: PlacedRecord) -> Option<Part>
 }
 
 /// Puts a part at the place of its number, if there is one.
-fn put(column: &mut Vec<Option<Part>>, added: Part)
+fn put<'a>(column: &mut Vec<Option<Part<'a>>>, added: Part<'a>)
     ensures many { length column.new.items ≡ length column.old.items }
     ensures put { (i : ℕ) → i < length column.old.items
-        → part_in_column i column.new.items ≡ option_or (if_numbered (i + 1) (Some (part_value added))) (part_in_column i column.old.items) }
+        → part_in_column i column.new.items ≡ option_or (if_numbered (i + 1) (Some (part_value added.entry))) (part_in_column i column.old.items) }
 {
     if added.number >= 1 && added.number <= column.len() as u64 {
         let place = (added.number - 1) as usize;
@@ -97,11 +96,11 @@ fn put(column: &mut Vec<Option<Part>>, added: Part)
 }
 
 /// Puts a record at the place of its number, if it is a part that survives.
-fn put_placed(cuts: &Cuts, column: &mut Vec<Option<Part>>, placed: PlacedRecord)
+fn put_placed<'a>(cuts: &Cuts, column: &mut Vec<Option<Part<'a>>>, placed: &'a PlacedRecord)
     requires { (rs : List instances.InstanceRecord) × AreCuts rs cuts.now }
     ensures many { length column.new.items ≡ length column.old.items }
     ensures put { (rs : List instances.InstanceRecord) → AreCuts rs cuts.now → (i : ℕ) → i < length column.old.items
-        → part_in_column i column.new.items ≡ option_or (part_in rs (i + 1) placed.generation (record_value placed.what)) (part_in_column i column.old.items) }
+        → part_in_column i column.new.items ≡ option_or (part_in rs (i + 1) placed.now.generation (record_value placed.now.what)) (part_in_column i column.old.items) }
 {
     if let Some(added) = surviving_part(cuts, placed) {
         put(column, added);
@@ -109,7 +108,7 @@ fn put_placed(cuts: &Cuts, column: &mut Vec<Option<Part>>, placed: PlacedRecord)
 }
 
 /// So many empty places.
-fn empty_column(alloc: Global, places: usize) -> Result<Vec<Option<Part>>, NoMemory>
+fn empty_column<'a>(alloc: Global, places: usize) -> Result<Vec<Option<Part<'a>>>, NoMemory>
     ensures { IfOk result (λ made. made.items ≡ replicate places None) }
 {
     let mut made = Vec::new(alloc);
@@ -120,14 +119,14 @@ fn empty_column(alloc: Global, places: usize) -> Result<Vec<Option<Part>>, NoMem
 }
 
 /// The column of a region, with so many places.
-fn column_of(
+fn column_of<'a>(
     alloc: Global,
     cuts: &Cuts,
     places: usize,
-    journal: Vec<PlacedRecord>,
-) -> Result<Vec<Option<Part>>, NoMemory>
+    journal: &'a [PlacedRecord],
+) -> Result<Vec<Option<Part<'a>>>, NoMemory>
     requires { (rs : List instances.InstanceRecord) × AreCuts rs cuts.now }
-    ensures { IfOk result (λ made. (rs : List instances.InstanceRecord) → AreCuts rs cuts.now → IsColumn rs places (map placed_value journal.items) made.items) }
+    ensures { IfOk result (λ made. (rs : List instances.InstanceRecord) → AreCuts rs cuts.now → IsColumn rs places (map placed_value journal.now) made.items) }
 {
     let mut column = empty_column(alloc, places)?;
     for placed in journal {
@@ -136,17 +135,17 @@ fn column_of(
     Ok(column)
 }
 
-impl Table {
+impl<'a> Table<'a> {
     /// The surviving parts of so many first entries.
     pub fn of(
         alloc: Global,
         cuts: &Cuts,
         places: usize,
-        journals: Vec<Vec<PlacedRecord>>,
-    ) -> Result<Table, NoMemory>
+        journals: &'a [Vec<PlacedRecord>],
+    ) -> Result<Table<'a>, NoMemory>
         requires { (rs : List instances.InstanceRecord) × AreCuts rs cuts.now }
         ensures { IfOk result (λ made. (rs : List instances.InstanceRecord) → AreCuts rs cuts.now → (i r : ℕ) → i < places
-            → part_at made i r ≡ part_of rs (i + 1) (journal_of (map (λ j. j.items) journals.items) r)) }
+            → part_at made i r ≡ part_of rs (i + 1) (journal_of (map (λ j. j.items) journals.now) r)) }
     {
         let mut columns = Vec::new(alloc);
         for journal in journals {
@@ -156,7 +155,7 @@ impl Table {
     }
 
     /// The part at a place in a region.
-    pub fn part(&self, place: usize, region: u8) -> Option<&Part>
+    pub fn part(&self, place: usize, region: u8) -> Option<&Part<'a>>
         ensures { option_map (λ p. part_value p.now) result ≡ part_at self.now place region }
     {
         let column = self.columns.get(usize::from(region))?;

@@ -3,10 +3,10 @@ ghost use Rattle.std.specs.Prelude.{◌≡◌, IfOk};
 ghost use Rattle.journal_defs.specs.Surviving as surviving;
 ghost use Rattle.gvn_model.specs.Reigns.{reign_value};
 
-use super::{recover, survives};
+use super::{recover, survives, write_broken};
 use gvn_key::terms::Update;
 use gvn_key::{Bytes, Key};
-use gvn_model::{Entries, Item, Items, Origin, Reign, Reigns, Stamp};
+use gvn_model::{Entries, Item, Items, NamedModes, Origin, Reign, Reigns, Stamp};
 use instance_file::{InstanceRecord, InstanceRecords};
 use jnl_record::{JnlRecord, PlacedRecord};
 use std::alloc::Global;
@@ -50,9 +50,20 @@ fn part(
     position: u16,
     name: &[u8],
 ) -> Result<PlacedRecord, Fail> {
-    let mut items = Items::new(alloc);
     let update = Update::Kill(Key::new(alloc, name, &[])?);
-    items.push(Item { position, update })?;
+    part_with(alloc, generation, number, mask, Item { position, update })
+}
+
+/// A part of entry `number` with one update.
+fn part_with(
+    alloc: Global,
+    generation: u32,
+    number: u64,
+    mask: u8,
+    item: Item,
+) -> Result<PlacedRecord, Fail> {
+    let mut items = Items::new(alloc);
+    items.push(item)?;
     let what = JnlRecord::Tcom {
         number,
         mask,
@@ -88,7 +99,7 @@ fn told(alloc: Global, entries: &Entries) -> Result<Bytes, Fail> {
 /// What the site stands for with these journals of its regions.
 fn recovered(alloc: Global, journals: Vec<Vec<PlacedRecord>>) -> Result<Bytes, Fail> {
     let (instance, history) = site(alloc)?;
-    let entries = recover(alloc, &instance, &history, journals)?;
+    let entries = recover(alloc, &instance, &history, &journals)?;
     told(alloc, &entries)
 }
 
@@ -138,5 +149,70 @@ fn a_cut_leaves_its_length_and_later_generations(rt: HostRuntime) -> Result<(), 
     assert!(rt; survives(&instance, 1, 1));
     assert!(rt; !survives(&instance, 1, 2));
     assert!(rt; survives(&instance, 2, 2));
+    Ok(())
+}
+
+/// Site A with the regions ACCT and HIST, where it reigns from entry 1 on.
+fn bank(alloc: Global) -> Result<(InstanceRecords, Reigns), Fail>
+    ensures { IfOk result (λ made. made.1 ≡ surviving.reigns made.0) }
+{
+    let mut regions = NamedModes::new(alloc);
+    regions.push((Bytes::of(alloc, b"ACCT")?, true))?;
+    regions.push((Bytes::of(alloc, b"HIST")?, false))?;
+    let name = Bytes::of(alloc, b"A")?;
+    let mut instance = InstanceRecords::new(alloc);
+    instance.push(InstanceRecord::Create { name, regions })?;
+    instance.push(InstanceRecord::Reign(reign(alloc, b"A", 1, 1)?))?;
+    let mut history = Reigns::new(alloc);
+    history.push(reign(alloc, b"A", 1, 1)?)?;
+    Ok((instance, history))
+}
+
+/// The SET of `^ACCT(1)` to "5" as the first of entry 1's two updates.
+fn deposit(alloc: Global) -> Result<PlacedRecord, Fail> {
+    let subs = vec![in alloc; Bytes::of(alloc, b"1")?]?;
+    let update = Update::Set(Key::new(alloc, b"ACCT", &subs)?, Bytes::of(alloc, b"5")?);
+    let position = 0;
+    part_with(alloc, 1, 1, 3, Item { position, update })
+}
+
+/// The text of what stands past the length of the bank with these journals of its regions.
+fn broken(alloc: Global, journals: &[Vec<PlacedRecord>]) -> Result<Bytes, Fail> {
+    let (instance, history) = bank(alloc)?;
+    let entries = recover(alloc, &instance, &history, journals)?;
+    let mut text = Bytes::new(alloc);
+    write_broken(alloc, &instance, journals, entries.len() as u64, &mut text)?;
+    Ok(text)
+}
+
+#[test]
+fn half_a_transaction_is_told(rt: HostRuntime) -> Result<(), Fail> {
+    let alloc = rt.alloc();
+    let accounts = vec![in alloc; deposit(alloc)?]?;
+    let text = broken(alloc, &vec![in alloc; accounts, Vec::new(alloc)]?)?;
+    let want = b"GTMRBRK01\\A\\1\nSET\\1\\ACCT\\1.1\\^ACCT(1)=\"5\"\n";
+    assert_eq!(rt; text.as_slice(), want.as_slice());
+    Ok(())
+}
+
+#[test]
+fn whole_transactions_are_not_told(rt: HostRuntime) -> Result<(), Fail> {
+    let alloc = rt.alloc();
+    let accounts = vec![in alloc; deposit(alloc)?]?;
+    let history = vec![in alloc; part(alloc, 1, 1, 3, 1, b"HIST")?]?;
+    let text = broken(alloc, &vec![in alloc; accounts, history]?)?;
+    assert_eq!(rt; text.len(), 0);
+    Ok(())
+}
+
+#[test]
+fn a_whole_transaction_behind_a_broken_one_is_told(rt: HostRuntime) -> Result<(), Fail> {
+    let alloc = rt.alloc();
+    let accounts = vec![in alloc; deposit(alloc)?, part(alloc, 1, 2, 3, 0, b"ACCT")?]?;
+    let history = vec![in alloc; part(alloc, 1, 2, 3, 1, b"HIST")?]?;
+    let text = broken(alloc, &vec![in alloc; accounts, history]?)?;
+    let want =
+        b"GTMRBRK01\\A\\1\nSET\\1\\ACCT\\1.1\\^ACCT(1)=\"5\"\nKILL\\2\\ACCT\\1.1\\^ACCT\nKILL\\2\\HIST\\1.1\\^HIST\n";
+    assert_eq!(rt; text.as_slice(), want.as_slice());
     Ok(())
 }

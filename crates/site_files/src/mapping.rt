@@ -22,12 +22,12 @@ fn region_count(records: &[InstanceRecord]) -> usize
 }
 
 /// Adds the pattern of a MAP to a directory. It answers `false` where the directory has no region of that number.
-fn add_pattern(directory: &mut Directory, record: &InstanceRecord) -> Result<bool, NoMemory>
+fn add_pattern(directory: &mut Directory, given: &InstanceRecord) -> Result<bool, NoMemory>
     ensures regions { directory.new.regions ≡ directory.old.regions }
-    ensures fits { IfOk result (λ fits. IsTrue fits ↔ AllByRecursion (λ p. p.region < directory.old.regions) (patterns (record_value record.now ∷ []))) }
-    ensures patterns { IfOk result (λ fits. IsTrue fits → directory.new.patterns ≡ directory.old.patterns ++ patterns (record_value record.now ∷ [])) }
+    ensures fits { IfOk result (λ fits. IsTrue fits ↔ AllByRecursion (λ p. p.region < directory.old.regions) (patterns (record_value given.now ∷ []))) }
+    ensures patterns { IfOk result (λ fits. IsTrue fits → directory.new.patterns ≡ directory.old.patterns ++ patterns (record_value given.now ∷ [])) }
 {
-    let InstanceRecord::Map { region, star, name } = record else {
+    let InstanceRecord::Map { region, star, name } = given else {
         return Ok(true);
     };
     if directory.regions() <= *region {

@@ -53,7 +53,7 @@ pub fn remembered(
 {
     let mut journals = Vec::new(alloc);
     journals.push(records)?;
-    let entries = recover(alloc, &log.records, &log.history, journals)?.into_items();
+    let entries = recover(alloc, &log.records, &log.history, &journals)?.into_items();
     if entries.len() >= TOO_MANY {
         return Err(NoMemory);
     }

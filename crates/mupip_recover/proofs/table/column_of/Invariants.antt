@@ -1,6 +1,5 @@
-use Rattle.std.proofs.Common.{◌≡◌, ℕ, ◌+◌, ◌<◌, List, length, map}
+use Rattle.std.proofs.Common.{◌≡◌, ℕ, ◌+◌, ◌<◌, List, length, map, drop}
 use Rattle.std.specs.Option.{option_or}
-use Rattle.std.specs.Vec.Iter.{into_iter_items, into_iter_len}
 use Rattle.journal_defs.specs.Instance.{InstanceRecord}
 use Rattle.journal_defs.specs.Sequence.{part_of}
 use Rattle.jnl_record.specs.Values.{placed_value}
@@ -10,8 +9,7 @@ use Rattle.mupip_recover.proofs.table.column_of.Given as goal
 
 abbrev pub invariant-loop-placed : goal.invariant-loop-placed
 invariant-loop-placed l = record {
-  left : into_iter_len l.placed-iterator ≡ length (into_iter_items l.placed-iterator);
   many : length l.column.items ≡ l.places;
   each : (rs : List InstanceRecord) → AreCuts rs l.cuts → (i : ℕ) → i < l.places
-      → option_or (part_of rs (i + 1) (map placed_value (into_iter_items l.placed-iterator))) (part_in_column i l.column.items) ≡ part_of rs (i + 1) (map placed_value l.fn.journal.items);
+      → option_or (part_of rs (i + 1) (map placed_value (drop l.placed-index l.journal))) (part_in_column i l.column.items) ≡ part_of rs (i + 1) (map placed_value l.journal);
 }
