@@ -1,2 +1,4 @@
 pub mod Mapped
+pub mod Errors
 pub mod RegionsRead
+pub mod WhatIsRead

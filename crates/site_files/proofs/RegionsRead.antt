@@ -1,7 +1,7 @@
 -- Reading on from region to region.
 use Rattle.std.proofs.Common.{◌≡◌, inl, inr, ℕ, zero, suc, ◌+◌, ◌≤◌, ◌<◌, List, [], ◌∷◌, ◌++◌, length, map, get_or, Option, Some, IfSome, sym, ◌∙◌, ap, subst, arith}
 use Rattle.std.proofs.lemmas.Bool.{cases_eq}
-use Rattle.std.proofs.lemmas.List.{map-append, length-map, get_or_append_left, get_or_push}
+use Rattle.std.proofs.lemmas.List.{map-append, length-map, length-append, get_or_append_left, get_or_push}
 use Rattle.disk_defs.specs.Disk.{Files, View, Image, IsLawful, IsDurable, AtEachMoment}
 use Rattle.disk_defs.specs.Gates.{records}
 use Rattle.disk_defs.proofs.Moments.{holds_now}
@@ -61,6 +61,9 @@ told_more items o n region next g lasts lasts2 js js2 last j more same many_last
     subst (λ (l : List ℕ). HaveJournals next g (last_of l) (journal_of (map items js2)) files) (sym pushed_last)
     (subst (λ (l : List (List PlacedRecord)). HaveJournals next g (last_of (lasts ++ last ∷ [])) (journal_of l) files) lists
     (have_more files region next g lasts (map items js) last (items j) more many_last (length-map js items ∙ many) was is)))
+
+pub one_longer : {X : Type 0} (old new : List X) (x : X) (n : ℕ) → new ≡ old ++ x ∷ [] → length old ≡ n → length new ≡ n + 1
+one_longer old new x n is many = ap length is ∙ length-append old (x ∷ []) ∙ ap (λ k. k + 1) many
 
 pub began_more : (xs : List ℕ) (x g r : ℕ) → ((k : ℕ) → last_of xs k ≤ g) → x ≤ g → last_of (xs ++ x ∷ []) r ≤ g
 began_more [] x g zero all le = le
