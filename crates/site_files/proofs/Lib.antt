@@ -2,3 +2,4 @@ pub mod Mapped
 pub mod Errors
 pub mod RegionsRead
 pub mod WhatIsRead
+pub mod Kept

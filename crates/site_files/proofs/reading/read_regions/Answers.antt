@@ -39,7 +39,7 @@ loop-region-preserved g c =
       read = told_more (λ (j : Vec PlacedRecord Global). j.items) u.content v.content l.region (l.region + 1) c.args.last l.last_began.items c.add_read.new.last_began.items l.journals.items c.add_read.new.journals.items made.last_began made.records refl inv.content inv.many_last inv.many pushed.last_began pushed.journals inv.read got.read;
       many = one_longer l.journals.items c.add_read.new.journals.items made.records l.region pushed.journals inv.many;
       many_last = one_longer l.last_began.items c.add_read.new.last_began.items made.last_began l.region pushed.last_began inv.many_last;
-      began = λ r. subst (λ (k : List ℕ). last_of k r ≤ c.args.last) (sym pushed.last_began) (began_more l.last_began.items made.last_began c.args.last r inv.began got.began);
+      began = λ r. subst (λ (k : List ℕ). last_of k r ≤ c.args.last) (sym {A = List ℕ} pushed.last_began) (began_more l.last_began.items made.last_began c.args.last r inv.began got.began);
       durable = told_durable u v w l.region (l.region + 1) c.args.last refl inv.content (g.met.D.Disk.lawful c.read_journals.new.disk) call.any_moment inv.durable got.durable;
       content = call.content ∙ inv.content;
       moments = nothing_new u v w (Image u) (g.met.D.Disk.lawful l.disk) inv.moments call.any_moment;
