@@ -3,3 +3,4 @@ pub mod Errors
 pub mod RegionsRead
 pub mod WhatIsRead
 pub mod Kept
+pub mod Remembered

@@ -216,8 +216,9 @@ pub fn read_site<D: Disk>(alloc: Global, disk: &mut D) -> Result<ReadSite, Files
     if newest >= LAST_GENERATION {
         return Err(FilesError::GenLimit);
     }
-    let read = read_regions(alloc, disk, directory.regions(), newest)?;
-    see_regions(alloc, disk, directory.regions(), newest + 1)?;
+    let regions = directory.regions();
+    let read = read_regions(alloc, disk, regions, newest)?;
+    see_regions(alloc, disk, regions, newest + 1)?;
     Ok(ReadSite {
         log,
         directory,
