@@ -61,7 +61,13 @@ fn files_that_are_no_site(rt: HostRuntime) -> Result<(), Fail> {
     write_bytes(&mut disk, 0, SITE)?;
     write_bytes(&mut disk, 33, SECOND)?;
     let begun = read_site(alloc, &mut disk).err();
-    assert_eq!(rt; begun, Some(FilesError::NotAFile { file: 33, offset: 0 }));
+    assert_eq!(rt;
+        begun,
+        Some(FilesError::NotAFile {
+            file: 33,
+            offset: 0
+        })
+    );
     let mut disk = MemDisk::new(alloc)?;
     write_bytes(&mut disk, 0, ASTRAY)?;
     let astray = read_site(alloc, &mut disk).err();

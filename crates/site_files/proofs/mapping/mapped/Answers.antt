@@ -9,8 +9,7 @@ pub returns-then-not-branch-clause-fits : goal.returns-then-not-branch-clause-fi
 returns-then-not-branch-clause-fits c =
     let l = c.loop-record in
     let x = c.record-item.result in
-    let Fits = λ (n : ℕ). λ (p : Pattern). p.region < n in
-    (
+    let Fits = λ (n : ℕ). λ (p : Pattern). p.region < n in (
       λ wrong. absurd (cc (wrong)),
       λ all.
           let here = all_in (Fits c.args.regions) c.args.records.now l.record-index x c.loop-record-test.true c.record-item.is all in
