@@ -14,7 +14,7 @@ returns-clause-sequence c =
     let items = λ (j : Vec PlacedRecord Global). j.items in
     let values : seq ≡ map entry_value c.into_items-entries.result.items = ap (map (λ (e : ℕ × defs.Entry). e.1)) (sym c.into_items-entries.ensures) ∙ values_of c.into_items-entries.result.items in
     subst (IsSequence (site_records c.args.log.now.records (map items c.args.journals.items))) values
-    (subst (λ (l : List (Vec PlacedRecord Global)). IsSequence (site_records c.args.log.now.records (map items l)) seq) c.as_slice-lists.ensures c.in_ok-recover.ensures.sequence)
+    (subst (λ (l : List (Vec PlacedRecord Global)). IsSequence (site_records c.args.log.now.records (map items l)) seq) c.as_slice-lists.ensures.value c.in_ok-recover.ensures.sequence)
 
 pub returns-clause-numbered : goal.returns-clause-numbered
 returns-clause-numbered c =
