@@ -4,3 +4,9 @@ pub mod Cutting
 pub mod Beginning
 pub mod Drawings
 pub mod Keeping
+pub mod Mapped
+pub mod Errors
+pub mod RegionsRead
+pub mod WhatIsRead
+pub mod Kept
+pub mod Remembered

@@ -1,15 +1,27 @@
-//! What drawing the next generation leaves of what a site's files stand for.
+//! What was read, as the records that files hold; and what drawing the next generation leaves of what they stand for.
 ghost use Rattle.std.specs.Prelude.{◌≡◌, ℕ, ◌<◌, ◌≤◌, List, length};
-ghost use Rattle.disk_defs.specs.Disk.{Files};
+ghost use Rattle.disk_defs.specs.Disk.{Files, Image};
 ghost use Rattle.global_defs.specs.Entry.{Sequence};
-ghost use Rattle.journal_defs.specs.Instance.{regions, generation, site_name};
-ghost use Rattle.journal_defs.specs.Sequence.{Records};
+ghost use Rattle.journal_defs.specs.Instance.{InstanceRecord, regions, generation, site_name};
+ghost use Rattle.journal_defs.specs.Sequence.{Placed, Records};
 ghost use Rattle.journal_defs.specs.Broken.{broken, broken_text};
 ghost use Rattle.journal_defs.specs.Growth.{NonePast};
-ghost use Rattle.journal_defs.specs.Stands.{IsJournal};
+ghost use Rattle.journal_defs.specs.Stands.{AreRecords, IsJournal};
 ghost use Rattle.journal_defs.specs.Sound.{NoEpochPast};
 ghost use Rattle.journal_defs.specs.Fit.{IsSoundImage};
-ghost use Rattle.site_files.specs.Loading.{MayBeOpened, AreRead, IsUncut, HasDrawn, next_broken, drawn_records};
+ghost use Rattle.site_files.specs.Loading.{MayBeOpened, AreRead, WasRead, IsUncut, HasDrawn, next_broken, drawn_records};
+
+use repl_disk::Disk;
+
+/// Files in which a site was read hold the records that were read. It does nothing.
+pub fn reading_gives_the_records()
+    ensures { (rs : List InstanceRecord) (last : ℕ → ℕ) (journal : ℕ → List Placed) (files : Files) → AreRead rs last journal files → AreRecords files (record { instance = rs; journal = journal }) }
+{}
+
+/// What was read of a disk stands in each of its images. It does nothing.
+pub fn images_have_what_was_read<D: Disk>(disk: &D)
+    ensures { (rs : List InstanceRecord) (last : ℕ → ℕ) (journal : ℕ → List Placed) (files : Files) → WasRead (D.disk disk.now) rs last journal files → (c : Files) → Image (D.disk disk.now) c → AreRead rs last journal c }
+{}
 
 /// Whatever a crash leaves of the drawing of the next generation, the files stand for the sequence from before. Once it is drawn no
 /// part and no epoch past the length counts, and the broken-transaction file has the text of the broken list.

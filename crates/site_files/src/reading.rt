@@ -1,25 +1,25 @@
 //! Reading the files of a site.
-ghost use Rattle.std.specs.Prelude.{◌≡◌, ◌⊎◌, ◌≤◌, ◌<◌, ℕ, [], List, length, map, Some, IfSome, IfOk, OnOk, OnErr, IsErrOf, IsTrue};
+ghost use Rattle.std.specs.Prelude.{◌≡◌, ◌⊎◌, ◌≤◌, ◌<◌, ◌++◌, ◌∷◌, [], ℕ, List, length, map, Some, IfSome, IfOk, OnOk, OnErr, IsErrOf};
 ghost use Rattle.disk_defs.specs.Disk.{Image, IsDurable, AtEachMoment, Rose};
 ghost use Rattle.disk_defs.specs.Gates.{records};
-ghost use Rattle.disk_defs.specs.Frames.{Only, OthersStay};
-ghost use Rattle.instance_file.specs.Values.{record_value};
 ghost use Rattle.journal_defs.specs.Numbers.{INSTANCE, journal_file};
 ghost use Rattle.journal_defs.specs.Instance as defs;
-ghost use Rattle.journal_defs.specs.Instance.{generation, regions};
+ghost use Rattle.journal_defs.specs.Instance.{generation};
 ghost use Rattle.journal_defs.specs.Sequence.{Placed};
 ghost use Rattle.journal_defs.specs.Stands.{IsInstance, IsJournal};
-ghost use Rattle.jnl_file.specs.Generations.{AreDurable, AreJournals};
+ghost use Rattle.jnl_file.specs.Generations.{AreDurable};
 ghost use Rattle.jnl_record.specs.Values.{placed_value};
 ghost use Rattle.site_files.specs.Errors.{generations_error};
 ghost use Rattle.site_files.specs.Loading.{MayBeOpened, AreRead, WasRead, IsDirectory, last_of};
+ghost use Rattle.site_files.specs.Reading.{HaveJournals, AreAllDurable, AreUnbegun, AreUnbegunDurable};
 ghost use Rattle.mupip_recover.specs.Site.{journal_of};
 
 use crate::error::FilesError;
 use crate::finding::{generation_in, read_instance};
-use instance_file::{InstanceLog, InstanceRecord};
+use crate::mapping::directory_of;
 use global_dir::Directory;
 use gvn_key::NoMemory;
+use instance_file::InstanceLog;
 use jnl_file::{Generations, GenerationsError, is_unbegun, journal_file, read_generations};
 use jnl_record::PlacedRecord;
 use repl_disk::Disk;
@@ -52,39 +52,6 @@ fn in_journals(error: GenerationsError, fault: u64) -> FilesError
     }
 }
 
-/// How many regions the CREATE names that these records begin with, or 0 where they begin with another one.
-fn region_count(records: &[InstanceRecord]) -> usize
-    ensures { result ≡ length (regions (map record_value records.now)) }
-{
-    match records {
-        [InstanceRecord::Create { regions, .. }, ..] => regions.len(),
-        _ => 0,
-    }
-}
-
-/// The directory that these records give, or `None` where there is no region, more than eight, or a MAP of another one.
-fn directory_of(
-    alloc: Global,
-    records: &[InstanceRecord],
-) -> Result<Option<Directory>, NoMemory>
-    ensures { IfOk result (λ made. IsDirectory (map record_value records.now) made) }
-{
-    let count = region_count(records);
-    if count == 0 || 8 < count {
-        return Ok(None);
-    }
-    let mut directory = Directory::new(alloc, count as u8);
-    for record in records {
-        if let InstanceRecord::Map { region, star, name } = record {
-            if directory.regions() <= *region {
-                return Ok(None);
-            }
-            directory.add(*region, *star, name.as_slice())?;
-        }
-    }
-    Ok(Some(directory))
-}
-
 /// Syncs and reads a region's journals up to a generation.
 fn read_journals<D: Disk>(
     alloc: Global,
@@ -100,7 +67,7 @@ fn read_journals<D: Disk>(
     ensures outside { (file offset : ℕ) → IsErrOf result (FilesError.NotAFile file offset) → IfSome (D.disk disk.old).content (λ files. (began : ℕ) (journal : List Placed) → IsJournal files region last began journal → ⊥) }
     ensures content { (D.disk disk.new).content ≡ (D.disk disk.old).content }
     ensures any_moment { AtEachMoment (D.disk disk.old) (D.disk disk.new) (Image (D.disk disk.old)) }
-    ensures frame { OthersStay (AreJournals region last) (D.disk disk.old) (D.disk disk.new) }
+    ensures simulated { (D.disk disk.new).simulated ≡ (D.disk disk.old).simulated }
     ensures later { (D.disk disk.old).faults ≤ (D.disk disk.new).faults }
     ensures count { (fault : ℕ) → IsErrOf result (FilesError.Failed fault) → fault ≡ (D.disk disk.new).faults }
     ensures cause { (fault : ℕ) → IsErrOf result (FilesError.Failed fault) → Rose (D.disk disk.old).faults (D.disk disk.new).faults }
@@ -117,39 +84,56 @@ fn add_read(
     journals: &mut Vec<Vec<PlacedRecord>>,
     last_began: &mut Vec<u32>,
     read: Generations,
-) -> Result<(), NoMemory> {
+) -> Result<(), NoMemory>
+    ensures journals { OnOk result (journals.new.items ≡ journals.old.items ++ read.records ∷ []) }
+    ensures last_began { OnOk result (last_began.new.items ≡ last_began.old.items ++ read.last_began ∷ []) }
+{
     journals.push(read.records)?;
     last_began.push(read.last_began)?;
     Ok(())
 }
 
-/// Syncs and reads the journals of the first regions up to a generation: their records, and the last generation that began, by region.
+/// What was read of regions.
+#[derive(Drop)]
+struct ReadRegions {
+    /// Their journals, each over its generations.
+    journals: Vec<Vec<PlacedRecord>>,
+    /// The last generation that began in each, or 0.
+    last_began: Vec<u32>,
+}
+
+/// Syncs and reads the journals of the first regions up to a generation.
 fn read_regions<D: Disk>(
     alloc: Global,
     disk: &mut D,
     regions: u8,
     last: u32,
-) -> Result<(Vec<Vec<PlacedRecord>>, Vec<u32>), FilesError> {
+) -> Result<ReadRegions, FilesError>
+    requires regions { regions ≤ 8 }
+    requires last { last ≤ 65535 }
+    ensures read { IfOk result (λ made. IfSome (D.disk disk.old).content (HaveJournals regions last (last_of made.last_began.items) (journal_of (map (λ j. j.items) made.journals.items)))) }
+    ensures many { IfOk result (λ made. length made.journals.items ≡ regions) }
+    ensures began { IfOk result (λ made. (r : ℕ) → last_of made.last_began.items r ≤ last) }
+    ensures durable { OnOk result (IfSome (D.disk disk.old).content (AreAllDurable (D.disk disk.new) regions last)) }
+    ensures outside { (file offset : ℕ) → IsErrOf result (FilesError.NotAFile file offset) → IfSome (D.disk disk.old).content (λ files. (began : ℕ → ℕ) (journal : ℕ → List Placed) → HaveJournals regions last began journal files → ⊥) }
+    ensures content { (D.disk disk.new).content ≡ (D.disk disk.old).content }
+    ensures any_moment { AtEachMoment (D.disk disk.old) (D.disk disk.new) (Image (D.disk disk.old)) }
+    ensures simulated { (D.disk disk.new).simulated ≡ (D.disk disk.old).simulated }
+    ensures later { (D.disk disk.old).faults ≤ (D.disk disk.new).faults }
+    ensures count { (fault : ℕ) → IsErrOf result (FilesError.Failed fault) → fault ≡ (D.disk disk.new).faults }
+    ensures cause { (fault : ℕ) → IsErrOf result (FilesError.Failed fault) → Rose (D.disk disk.old).faults (D.disk disk.new).faults }
+    ensures causes { OnErr result (((fault : ℕ) × IsErrOf result (FilesError.Failed fault)) ⊎ ((file : ℕ) × (offset : ℕ) × IsErrOf result (FilesError.NotAFile file offset)) ⊎ IsErrOf result FilesError.NoMemory) }
+{
     let mut journals = Vec::new(alloc);
     let mut last_began = Vec::new(alloc);
     for region in 0..regions {
         let read = read_journals(alloc, disk, region, last)?;
         add_read(&mut journals, &mut last_began, read)?;
     }
-    Ok((journals, last_began))
-}
-
-/// Syncs the journals of the first regions and a generation that isn't drawn, and sees that they have no open record.
-fn see_regions<D: Disk>(
-    alloc: Global,
-    disk: &mut D,
-    regions: u8,
-    generation: u32,
-) -> Result<(), FilesError> {
-    for region in 0..regions {
-        see_unbegun(alloc, disk, region, generation)?;
-    }
-    Ok(())
+    Ok(ReadRegions {
+        journals,
+        last_began,
+    })
 }
 
 /// Syncs the journal of a generation that isn't drawn, and sees that it has no open record.
@@ -166,7 +150,7 @@ fn see_unbegun<D: Disk>(
     ensures outside { (file offset : ℕ) → IsErrOf result (FilesError.NotAFile file offset) → IfSome (D.disk disk.old).content (λ files. records (files (journal_file generation region)) ≡ Some [] → ⊥) }
     ensures content { (D.disk disk.new).content ≡ (D.disk disk.old).content }
     ensures any_moment { AtEachMoment (D.disk disk.old) (D.disk disk.new) (Image (D.disk disk.old)) }
-    ensures frame { OthersStay (Only (journal_file generation region)) (D.disk disk.old) (D.disk disk.new) }
+    ensures simulated { (D.disk disk.new).simulated ≡ (D.disk disk.old).simulated }
     ensures later { (D.disk disk.old).faults ≤ (D.disk disk.new).faults }
     ensures count { (fault : ℕ) → IsErrOf result (FilesError.Failed fault) → fault ≡ (D.disk disk.new).faults }
     ensures cause { (fault : ℕ) → IsErrOf result (FilesError.Failed fault) → Rose (D.disk disk.old).faults (D.disk disk.new).faults }
@@ -180,6 +164,32 @@ fn see_unbegun<D: Disk>(
         }),
         Err(error) => Err(in_journals(error, disk.faults())),
     }
+}
+
+/// Syncs the journals of the first regions and a generation that isn't drawn, and sees that they have no open record.
+fn see_regions<D: Disk>(
+    alloc: Global,
+    disk: &mut D,
+    regions: u8,
+    generation: u32,
+) -> Result<(), FilesError>
+    requires regions { regions ≤ 8 }
+    requires generation { generation ≤ 65535 }
+    ensures next { OnOk result (IfSome (D.disk disk.old).content (AreUnbegun regions generation)) }
+    ensures durable { OnOk result (IfSome (D.disk disk.old).content (AreUnbegunDurable (D.disk disk.new) regions generation)) }
+    ensures outside { (file offset : ℕ) → IsErrOf result (FilesError.NotAFile file offset) → IfSome (D.disk disk.old).content (λ files. AreUnbegun regions generation files → ⊥) }
+    ensures content { (D.disk disk.new).content ≡ (D.disk disk.old).content }
+    ensures any_moment { AtEachMoment (D.disk disk.old) (D.disk disk.new) (Image (D.disk disk.old)) }
+    ensures simulated { (D.disk disk.new).simulated ≡ (D.disk disk.old).simulated }
+    ensures later { (D.disk disk.old).faults ≤ (D.disk disk.new).faults }
+    ensures count { (fault : ℕ) → IsErrOf result (FilesError.Failed fault) → fault ≡ (D.disk disk.new).faults }
+    ensures cause { (fault : ℕ) → IsErrOf result (FilesError.Failed fault) → Rose (D.disk disk.old).faults (D.disk disk.new).faults }
+    ensures causes { OnErr result (((fault : ℕ) × IsErrOf result (FilesError.Failed fault)) ⊎ ((file : ℕ) × (offset : ℕ) × IsErrOf result (FilesError.NotAFile file offset)) ⊎ IsErrOf result FilesError.NoMemory) }
+{
+    for region in 0..regions {
+        see_unbegun(alloc, disk, region, generation)?;
+    }
+    Ok(())
 }
 
 /// Syncs and reads the instance file and the journals of a site. It writes nothing.
@@ -206,12 +216,13 @@ pub fn read_site<D: Disk>(alloc: Global, disk: &mut D) -> Result<ReadSite, Files
     if newest >= LAST_GENERATION {
         return Err(FilesError::GenLimit);
     }
-    let (journals, last_began) = read_regions(alloc, disk, directory.regions(), newest)?;
-    see_regions(alloc, disk, directory.regions(), newest + 1)?;
+    let regions = directory.regions();
+    let read = read_regions(alloc, disk, regions, newest)?;
+    see_regions(alloc, disk, regions, newest + 1)?;
     Ok(ReadSite {
         log,
         directory,
-        journals,
-        last_began,
+        journals: read.journals,
+        last_began: read.last_began,
     })
 }

@@ -13,7 +13,7 @@ use gvn_key::{Bytes, NoMemory};
 use gvn_model::{Entry, Globals, Updates};
 use instance_file::InstanceLog;
 use jnl_record::PlacedRecord;
-use mupip_recover::recover;
+use mupip_recover::{recover, write_broken};
 use std::alloc::Global;
 
 /// How many entries there are fewer than.
@@ -64,5 +64,18 @@ pub fn remember_all(
     ensures few { IfOk result (λ made. length made.entries.items < 2 ^ 40) }
     ensures broken { IfOk result (λ made. made.broken ≡ broken_text (site_name log.now.records) (length made.entries.items) (broken (site_records log.now.records (map (λ j. j.items) journals.items)) (length made.entries.items))) }
 {
-    Err(NoMemory)
+    let lists = journals.as_slice();
+    let entries = recover(alloc, &log.records, &log.history, lists)?.into_items();
+    if entries.len() >= TOO_MANY {
+        return Err(NoMemory);
+    }
+    let globals = globals_of(alloc, &entries)?;
+    let length = entries.len() as u64;
+    let mut broken = Bytes::new(alloc);
+    write_broken(alloc, &log.records, lists, length, &mut broken)?;
+    Ok(Remembered {
+        entries,
+        globals,
+        broken,
+    })
 }
