@@ -9,4 +9,4 @@ pub mod Errors
 pub mod RegionsRead
 pub mod WhatIsRead
 pub mod Kept
-pub mod Remembered
+pub mod Recovered

@@ -1,7 +1,10 @@
 //! Reading the files of a site.
-ghost use Rattle.std.specs.Prelude.{◌≡◌, ◌⊎◌, ◌≤◌, ◌<◌, ◌++◌, ◌∷◌, [], ℕ, List, length, map, Some, IfSome, IfOk, OnOk, OnErr, IsErrOf};
+ghost use Rattle.std.specs.Prelude.{◌≡◌, ◌⊎◌, ◌≤◌, ◌<◌, ◌++◌, ◌∷◌, [], ℕ, List, length, map, Some, None, IfSome, IfOk, OnOk, OnErr, IsErrOf};
 ghost use Rattle.disk_defs.specs.Disk.{Image, IsDurable, AtEachMoment, Rose};
 ghost use Rattle.disk_defs.specs.Gates.{records};
+ghost use Rattle.std.specs.List.{AllByRecursion};
+ghost use Rattle.instance_file.specs.Values.{record_value};
+ghost use Rattle.journal_defs.specs.Directory.{Pattern, patterns};
 ghost use Rattle.journal_defs.specs.Numbers.{INSTANCE, journal_file};
 ghost use Rattle.journal_defs.specs.Instance as defs;
 ghost use Rattle.journal_defs.specs.Instance.{generation};
@@ -19,7 +22,7 @@ use crate::finding::{generation_in, read_instance};
 use crate::mapping::directory_of;
 use global_dir::Directory;
 use gvn_key::NoMemory;
-use instance_file::InstanceLog;
+use instance_file::{InstanceLog, InstanceRecord};
 use jnl_file::{Generations, GenerationsError, is_unbegun, journal_file, read_generations};
 use jnl_record::PlacedRecord;
 use repl_disk::Disk;
@@ -192,6 +195,43 @@ fn see_regions<D: Disk>(
     Ok(())
 }
 
+/// What the records of an instance file say of a site before its journals are read.
+#[derive(Drop)]
+struct Plan {
+    directory: Directory,
+    /// How many regions there are.
+    regions: u8,
+    /// The newest generation that was drawn, or 0.
+    newest: u32,
+}
+
+/// The directory and the newest generation by these records, where a site may be opened by them.
+fn lay_out(alloc: Global, records: &[InstanceRecord]) -> Result<Plan, FilesError>
+    ensures directory { IfOk result (λ plan. IsDirectory (map record_value records.now) (Some plan.directory)) }
+    ensures mapped { IfOk result (λ plan. AllByRecursion (λ (p : Pattern). p.region < plan.directory.regions) (patterns (map record_value records.now))) }
+    ensures regions { IfOk result (λ plan. plan.regions ≡ plan.directory.regions) }
+    ensures few { IfOk result (λ plan. plan.regions ≤ 8) }
+    ensures newest { IfOk result (λ plan. plan.newest ≡ generation (map record_value records.now)) }
+    ensures low { IfOk result (λ plan. plan.newest < 65534) }
+    ensures limit { IsErrOf result FilesError.GenLimit → 65534 ≤ generation (map record_value records.now) }
+    ensures outside { (file offset : ℕ) → IsErrOf result (FilesError.NotAFile file offset) → IsDirectory (map record_value records.now) None }
+    ensures no_fault { (fault : ℕ) → IsErrOf result (FilesError.Failed fault) → ⊥ }
+{
+    let Some(directory) = directory_of(alloc, records)? else {
+        return Err(FilesError::NotAFile { file: 0, offset: 0 });
+    };
+    let newest = generation_in(records);
+    if newest >= LAST_GENERATION {
+        return Err(FilesError::GenLimit);
+    }
+    let regions = directory.regions();
+    Ok(Plan {
+        directory,
+        regions,
+        newest,
+    })
+}
+
 /// Syncs and reads the instance file and the journals of a site. It writes nothing.
 pub fn read_site<D: Disk>(alloc: Global, disk: &mut D) -> Result<ReadSite, FilesError>
     ensures form { IfOk result (λ read. MayBeOpened read.log.records (last_of read.last_began.items)) }
@@ -208,20 +248,12 @@ pub fn read_site<D: Disk>(alloc: Global, disk: &mut D) -> Result<ReadSite, Files
     ensures causes { OnErr result (IsErrOf result FilesError.GenLimit ⊎ ((fault : ℕ) × IsErrOf result (FilesError.Failed fault)) ⊎ ((file : ℕ) × (offset : ℕ) × IsErrOf result (FilesError.NotAFile file offset)) ⊎ IsErrOf result FilesError.NoMemory) }
 {
     let log = read_instance(alloc, disk)?;
-    let all = log.records.as_slice();
-    let Some(directory) = directory_of(alloc, all)? else {
-        return Err(FilesError::NotAFile { file: 0, offset: 0 });
-    };
-    let newest = generation_in(all);
-    if newest >= LAST_GENERATION {
-        return Err(FilesError::GenLimit);
-    }
-    let regions = directory.regions();
-    let read = read_regions(alloc, disk, regions, newest)?;
-    see_regions(alloc, disk, regions, newest + 1)?;
+    let plan = lay_out(alloc, log.records.as_slice())?;
+    let read = read_regions(alloc, disk, plan.regions, plan.newest)?;
+    see_regions(alloc, disk, plan.regions, plan.newest + 1)?;
     Ok(ReadSite {
         log,
-        directory,
+        directory: plan.directory,
         journals: read.journals,
         last_began: read.last_began,
     })

@@ -5,7 +5,7 @@ use Rattle.gvn_model.specs.Entries.{entry_value}
 use Rattle.journal_defs.specs.Sequence.{IsSequence}
 use Rattle.jnl_record.specs.declared.placed.PlacedRecord.{PlacedRecord}
 use Rattle.mupip_recover.specs.Site.{site_records}
-use Rattle.site_files.proofs.Remembered.{values_of}
+use Rattle.site_files.proofs.Recovered.{values_of}
 use Rattle.site_files.proofs.remembering.remember_all.Goals as goal
 
 pub returns-clause-sequence : goal.returns-clause-sequence
