@@ -1,2 +1,5 @@
 pub mod Unbroken
 pub mod Fronts
+pub mod Turns
+pub mod Moments
+pub mod Rounds

@@ -1,2 +1,4 @@
 pub mod Fronts
-
+pub mod Journals
+pub mod Turns
+pub mod Rounds

@@ -5,4 +5,8 @@
 //! were being hardened, so the files stand for a front of the entries.
 #![tactic(auto)]
 
+mod hardening;
+mod journals;
 pub mod laws;
+
+pub use journals::{RegionJournal, RegionJournals};
