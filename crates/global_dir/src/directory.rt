@@ -1,5 +1,5 @@
 //! Directories.
-ghost use Rattle.std.specs.Prelude.{◌≡◌, ◌↔◌, ◌≤◌, ◌<◌, true, false, [], map, IfOk, OnOk, OnErr, IsErrOf};
+ghost use Rattle.std.specs.Prelude.{◌≡◌, ◌↔◌, ◌≤◌, ◌<◌, ℕ, List, true, false, [], map, IfOk, OnOk, OnErr, IsErrOf};
 ghost use Rattle.journal_defs.specs.Directory as defs;
 ghost use Rattle.journal_defs.specs.Directory.{region_of};
 ghost use Rattle.global_dir.specs.Texts.{ends_in_star, stem, is_pattern, pattern_of};
@@ -87,6 +87,7 @@ impl Directory {
         ensures count { result ≡ self.now.regions }
         ensures some { 1 ≤ result }
         ensures few { result ≤ 8 }
+        ensures there { (name : List ℕ) → region_of self.now.patterns name < result }
     {
         self.regions
     }

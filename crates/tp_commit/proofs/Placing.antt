@@ -1,0 +1,109 @@
+-- The lists of items, one a region.
+use Rattle.std.proofs.Common.{◌≡◌, ◌<◌, ◌≤◌, ◌+◌, ◌==◌, ◌^◌, ℕ, zero, suc, Bool, true, false, List, [], ◌∷◌, ◌++◌, length, map, filter, get_or, drop, set, take, if◌then◌else◌, refl, sym, ◌∙◌, ap, subst, arith}
+use Rattle.std.proofs.lemmas.List.{take_more, map-append, length-take-le, get_or_default}
+use Rattle.std.proofs.lemmas.Bool.Decides.{nat_tests}
+use Rattle.std.specs.Prelude.{nat_lt, nat_eq, not, ◌*◌, ◌%◌}
+use Rattle.std.proofs.lemmas.List.Elements.{filter-append}
+use Rattle.global_defs.specs.Entry.{Update, Item}
+use Rattle.journal_defs.specs.Sequence.{REGIONS}
+use Rattle.journal_defs.specs.Split.{numbered, items_for, mask_with}
+
+numbered_more : (n : ℕ) (us : List Update) (u : Update) → numbered n (us ++ u ∷ []) ≡ numbered n us ++ record { position = n + length us; update = u } ∷ []
+numbered_more n [] u = ap (λ (k : ℕ). record { position = k; update = u } ∷ []) (omega arith)
+numbered_more n (v ∷ us) u =
+    ap (λ (is : List Item). record { position = n; update = v } ∷ is) (numbered_more (suc n) us u ∙ ap (λ (k : ℕ). numbered (suc n) us ++ record { position = k; update = u } ∷ []) (omega arith))
+
+chosen : (b : Bool) (xs : List Item) (x : Item) → xs ++ (if b then x ∷ [] else []) ≡ (if b then xs ++ x ∷ [] else xs)
+chosen true xs x = refl
+chosen false [] x = refl
+chosen false (y ∷ xs) x = ap (λ (l : List Item). y ∷ l) (chosen false xs x)
+
+-- one update more is an item of its region
+items_more : (region : Update → ℕ) (us : List Update) (u : Update) (i : ℕ) → i ≡ length us → (r : ℕ)
+    → items_for region r (us ++ u ∷ []) ≡ (if region u == r then items_for region r us ++ record { position = i; update = u } ∷ [] else items_for region r us)
+items_more region us u i is r =
+    let f = λ (x : Item). region x.update == r in
+    let place : 0 + length us ≡ i = omega (arith, is) in
+    ap (filter f) (numbered_more 0 us u ∙ ap (λ (k : ℕ). numbered 0 us ++ record { position = k; update = u } ∷ []) place)
+    ∙ filter-append f (numbered 0 us) (record { position = i; update = u } ∷ []) ∙ chosen (region u == r) (items_for region r us) (record { position = i; update = u })
+
+placed : (f g : ℕ → List Item) (k : ℕ) (x : Item) → k < 8 → ((r : ℕ) → g r ≡ (if k == r then f r ++ x ∷ [] else f r)) → map g REGIONS ≡ set (map f REGIONS) k (get_or (map f REGIONS) k [] ++ x ∷ [])
+placed f g zero x low h = rw (h 0, h 1, h 2, h 3, h 4, h 5, h 6, h 7) refl
+placed f g (suc zero) x low h = rw (h 0, h 1, h 2, h 3, h 4, h 5, h 6, h 7) refl
+placed f g (suc (suc zero)) x low h = rw (h 0, h 1, h 2, h 3, h 4, h 5, h 6, h 7) refl
+placed f g (suc (suc (suc zero))) x low h = rw (h 0, h 1, h 2, h 3, h 4, h 5, h 6, h 7) refl
+placed f g (suc (suc (suc (suc zero)))) x low h = rw (h 0, h 1, h 2, h 3, h 4, h 5, h 6, h 7) refl
+placed f g (suc (suc (suc (suc (suc zero))))) x low h = rw (h 0, h 1, h 2, h 3, h 4, h 5, h 6, h 7) refl
+placed f g (suc (suc (suc (suc (suc (suc zero)))))) x low h = rw (h 0, h 1, h 2, h 3, h 4, h 5, h 6, h 7) refl
+placed f g (suc (suc (suc (suc (suc (suc (suc zero))))))) x low h = rw (h 0, h 1, h 2, h 3, h 4, h 5, h 6, h 7) refl
+placed f g (suc (suc (suc (suc (suc (suc (suc (suc k)))))))) x low h = absurd (omega arith)
+
+-- an update more, in the lists of all regions
+pub lists_more : (region : Update → ℕ) (us : List Update) (u : Update) (i : ℕ) → i ≡ length us → region u < 8
+    → set (map (λ r. items_for region r us) REGIONS) (region u) (get_or (map (λ r. items_for region r us) REGIONS) (region u) [] ++ record { position = i; update = u } ∷ [])
+    ≡ map (λ r. items_for region r (us ++ u ∷ [])) REGIONS
+lists_more region us u i is low = sym (placed (λ r. items_for region r us) (λ r. items_for region r (us ++ u ∷ [])) (region u) (record { position = i; update = u }) low (items_more region us u i is))
+
+-- one more, of the values of a list
+pub one_longer : {X Y : Type 0} (f : X → Y) (xs : List X) (i : ℕ) (x : X) → i < length xs → x ≡ get_or xs i x → map f (take (i + 1) xs) ≡ map f (take i xs) ++ f x ∷ []
+one_longer f xs i x h e = ap (map f) (take_more xs i x h) ∙ map-append f (take i xs) (get_or xs i x ∷ []) ∙ ap (λ y. map f (take i xs) ++ f y ∷ []) (sym e)
+
+length-map-of : {X Y : Type 0} (f : X → Y) (xs : List X) → length (map f xs) ≡ length xs
+length-map-of f [] = refl
+length-map-of f (x ∷ xs) = ap suc (length-map-of f xs)
+
+pub length_taken : {X Y : Type 0} (f : X → Y) (xs : List X) (i : ℕ) → i < length xs → i ≡ length (map f (take i xs))
+length_taken f xs i low = sym (length-map-of f (take i xs) ∙ length-take-le i xs (omega (arith, low)))
+
+-- whether a list has an item
+pub has_item : (lists : List (List Item)) (i : ℕ) (x : List Item) (b : Bool) → i < length lists → x ≡ get_or lists i x → b ≡ nat_eq (length x) 0 → nat_lt 0 (length (get_or lists i [])) ≡ not b
+has_item lists i x b low here is = ap (λ (l : List Item). nat_lt 0 (length l)) (get_or_default lists i [] x low ∙ sym here) ∙ some x ∙ sym (ap not is)
+  where
+    some : (l : List Item) → nat_lt 0 (length l) ≡ not (nat_eq (length l) 0)
+    some [] = refl
+    some (y ∷ l) = grind (arith, nat_tests)
+
+-- the mask of the regions from one on
+mask_more : (has : ℕ → Bool) (r : ℕ) → r < 8 → mask_with has (drop r REGIONS) ≡ (if has r then 2 ^ r else 0) + mask_with has (drop (r + 1) REGIONS)
+mask_more has zero low = refl
+mask_more has (suc zero) low = refl
+mask_more has (suc (suc zero)) low = refl
+mask_more has (suc (suc (suc zero))) low = refl
+mask_more has (suc (suc (suc (suc zero)))) low = refl
+mask_more has (suc (suc (suc (suc (suc zero))))) low = refl
+mask_more has (suc (suc (suc (suc (suc (suc zero)))))) low = refl
+mask_more has (suc (suc (suc (suc (suc (suc (suc zero))))))) low = refl
+mask_more has (suc (suc (suc (suc (suc (suc (suc (suc r)))))))) low = absurd (omega arith)
+
+at_most : (b : Bool) (n : ℕ) → (if b then n else 0) ≤ n
+at_most true n = omega arith
+at_most false n = omega arith
+
+pub mask_small : (has : ℕ → Bool) → mask_with has REGIONS ≤ 255
+mask_small has =
+    let a = at_most (has 0) 1 in
+    let b = at_most (has 1) 2 in
+    let c = at_most (has 2) 4 in
+    let d = at_most (has 3) 8 in
+    let e = at_most (has 4) 16 in
+    let f = at_most (has 5) 32 in
+    let g = at_most (has 6) 64 in
+    let h = at_most (has 7) 128 in
+    omega (arith, a, b, c, d, e, f, g, h)
+
+pub shifted : (i : ℕ) → i < 8 → 1 * 2 ^ i % 256 ≡ 2 ^ i
+shifted zero low = refl
+shifted (suc zero) low = refl
+shifted (suc (suc zero)) low = refl
+shifted (suc (suc (suc zero))) low = refl
+shifted (suc (suc (suc (suc zero)))) low = refl
+shifted (suc (suc (suc (suc (suc zero))))) low = refl
+shifted (suc (suc (suc (suc (suc (suc zero)))))) low = refl
+shifted (suc (suc (suc (suc (suc (suc (suc zero))))))) low = refl
+shifted (suc (suc (suc (suc (suc (suc (suc (suc i)))))))) low = absurd (omega arith)
+
+-- a region more in the mask so far
+pub mask_on : (has : ℕ → Bool) (i mask total : ℕ) (b : Bool) → i < 8 → has i ≡ b → mask + mask_with has (drop i REGIONS) ≡ total → mask + (if b then 2 ^ i else 0) + mask_with has (drop (i + 1) REGIONS) ≡ total
+mask_on has i mask total b low is so_far =
+    let more : mask_with has (drop i REGIONS) ≡ (if b then 2 ^ i else 0) + mask_with has (drop (i + 1) REGIONS) = mask_more has i low ∙ ap (λ (c : Bool). (if c then 2 ^ i else 0) + mask_with has (drop (i + 1) REGIONS)) is in
+    omega (arith, more, so_far)
