@@ -3,3 +3,4 @@ pub mod Fronts
 pub mod Turns
 pub mod Moments
 pub mod Rounds
+pub mod Hardened

@@ -5,7 +5,7 @@ use Rattle.journal_defs.specs.Journal.{JournalRecord}
 use Rattle.jnl_file.specs.Records.{Recorded}
 use Rattle.jnl_file.specs.Journal as journals
 use Rattle.jnl_file.specs.declared.journal.Journal.{Journal}
-use Rattle.tp_commit.specs.Parts.{Parts}
+use Rattle.tp_commit.specs.Parts.{PartRecords}
 use Rattle.region_journals.specs.declared.journals.RegionJournal.{RegionJournal}
 
 -- A region's journal of generation g is open for calls, and where something was appended since the last hardening, it can go on as P says.
@@ -33,7 +33,7 @@ pub record KeepsJournals (v : View) (hard waiting : ℕ → List JournalRecord) 
   pub none_waits : (r : ℕ) (x : RegionJournal) → slice_get js r ≡ Some x → x.appended ≡ false → waiting r ≡ []
 
 -- the record of a region's part, where it has one
-abbrev pub part_in : Parts → ℕ → Option JournalRecord
+abbrev pub part_in : PartRecords → ℕ → Option JournalRecord
 part_in parts r = get_or parts.records r None
 
 -- as a list
@@ -42,7 +42,7 @@ listed None = []
 listed (Some what) = what ∷ []
 
 -- Each region that has a part can append it, and harden it then.
-abbrev pub ArePrepared : Parts → List RegionJournal → Type 0
+abbrev pub ArePrepared : PartRecords → List RegionJournal → Type 0
 ArePrepared parts js = (r : ℕ) (x : RegionJournal) (what : JournalRecord) → slice_get js r ≡ Some x → part_in parts r ≡ Some what → journals.IsPrepared x.journal what × HasSyncs x.journal
 
 -- What a hardening does to a journal: it syncs it twice where something was appended, and leaves it alone where nothing was.
