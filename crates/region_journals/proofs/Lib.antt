@@ -4,3 +4,6 @@ pub mod Turns
 pub mod Moments
 pub mod Rounds
 pub mod Hardened
+pub mod Entered
+pub mod Prepared
+pub mod Waiting

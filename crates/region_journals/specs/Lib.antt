@@ -2,3 +2,4 @@ pub mod Fronts
 pub mod Journals
 pub mod Turns
 pub mod Rounds
+pub mod Entering

@@ -1,7 +1,7 @@
 //! What files stand for whose newest journals have the first few of the records that wait. Each function does nothing: its contract
 //! states laws over definitions alone.
 
-ghost use Rattle.std.specs.Prelude.{◌≡◌, ◌≤◌, ◌<◌, ◌++◌, ℕ, suc, List, length, take, Option};
+ghost use Rattle.std.specs.Prelude.{◌≡◌, ◌≤◌, ◌<◌, ◌++◌, ◌∷◌, [], ℕ, suc, List, length, take, Option};
 ghost use Rattle.std.specs.List.{AllByRecursion};
 ghost use Rattle.disk_defs.specs.Disk.{Files};
 ghost use Rattle.disk_defs.specs.Frames.{SameOutside};
@@ -12,6 +12,8 @@ ghost use Rattle.journal_defs.specs.Sequence.{Records};
 ghost use Rattle.journal_defs.specs.Growth.{NonePast, AreEntries, appended, tcoms, with_more};
 ghost use Rattle.journal_defs.specs.Sound.{NoEpochPast};
 ghost use Rattle.journal_defs.specs.Fit.{IsSoundImage, HasFewNodes, IsAtHome};
+ghost use Rattle.tp_commit.specs.Parts.{PartRecords, recorded};
+ghost use Rattle.region_journals.specs.Journals.{part_in, listed};
 ghost use Rattle.region_journals.specs.Fronts.{IsNewestFile, HasFirst, AreNewest, AreInside};
 
 /// Entries that were appended and are not hardened leave a front: where the files are a sound image but that the newest journals
@@ -28,4 +30,10 @@ pub fn appended_entries_have_a_front()
         → HasFirst (suc g) (length (regions s.instance)) newer (tcoms ps) kept f
         → (j : ℕ) × (length seq ≤ j) × (j ≤ length (seq ++ es))
         × IsSoundImage f (with_more s (λ r. take (kept r) (appended (suc g) ps r))) (take j (seq ++ es)) }
+{}
+
+/// What waits in a region after the parts of one more entry are the TCOM records of all of these. It does nothing.
+pub fn parts_wait_as_tcoms()
+    ensures { (ps : List (ℕ → Option Part)) (part : ℕ → Option Part) (parts : PartRecords) (r : ℕ) → part_in parts r ≡ recorded (part r)
+        → tcoms (ps ++ part ∷ []) r ≡ tcoms ps r ++ listed (part_in parts r) }
 {}

@@ -5,8 +5,10 @@
 //! were being hardened, so the files stand for a front of the entries.
 #![tactic(auto)]
 
+mod appending;
 mod hardening;
 mod journals;
 pub mod laws;
+mod preparing;
 
 pub use journals::{RegionJournal, RegionJournals};
