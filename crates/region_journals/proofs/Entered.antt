@@ -1,7 +1,7 @@
 -- The parts of an entry in the journals of their regions.
-use Rattle.std.proofs.Common.{◌≡◌, ◌≤◌, ◌<◌, ℕ, zero, suc, Bool, true, false, List, [], ◌∷◌, ◌++◌, length, take, Some, None, Option, option_map, refl, sym, ◌∙◌, ap, subst, arith, append-nil}
+use Rattle.std.proofs.Common.{◌≡◌, ◌≤◌, ◌<◌, ℕ, zero, suc, Bool, true, false, List, [], ◌++◌, length, take, Some, None, Option, option_map, refl, sym, ◌∙◌, ap, subst, arith, append-nil}
 use Rattle.std.specs.Prelude.{slice_get, IsTrue}
-use Rattle.disk_defs.specs.Disk.{Files, View, Image, IsLawful, AtEachMoment}
+use Rattle.disk_defs.specs.Disk.{View, IsLawful, AtEachMoment}
 use Rattle.disk_defs.specs.Frames.{Only, OnlyIn, OnlyOn, OthersStay}
 use Rattle.disk_defs.proofs.Moments.{only_started, only_weaker}
 use Rattle.journal_defs.specs.Numbers.{journal_file}
@@ -9,11 +9,10 @@ use Rattle.journal_defs.specs.Journal.{JournalRecord, IsJournalBody}
 use Rattle.journal_defs.specs.Stands.{Holds}
 use Rattle.jnl_file.specs.Records.{Recorded, StandsRecords, appended}
 use Rattle.jnl_file.specs.Journal as files
-use Rattle.jnl_file.specs.declared.journal.Journal.{Journal}
 use Rattle.tp_commit.specs.Parts.{PartRecords}
 use Rattle.region_journals.specs.declared.journals.RegionJournal.{RegionJournal}
 use Rattle.region_journals.specs.Fronts.{IsNewestFile, HasFirst}
-use Rattle.region_journals.specs.Journals.{HasSyncs, IsOpen, AreOpen, AreReady, KeepsJournals, ArePrepared, part_in, listed}
+use Rattle.region_journals.specs.Journals.{HasSyncs, AreReady, KeepsJournals, ArePrepared, part_in, listed}
 use Rattle.region_journals.specs.Turns.{Turned, AllTurned}
 use Rattle.region_journals.specs.Entering.{IsPartPrepared, HasTaken, Takes, with_part}
 use Rattle.region_journals.proofs.Turns as turns

@@ -1,9 +1,8 @@
 -- Files whose newest journals have the first few of the records that wait.
-use Rattle.std.proofs.Common.{◌≡◌, ◌≢◌, ◌≤◌, ◌<◌, ◌+◌, ℕ, zero, suc, List, [], ◌∷◌, ◌++◌, length, map, take, Some, None, inl, inr, refl, sym, ◌∙◌, ap, subst, arith, append_assoc, append-nil}
+use Rattle.std.proofs.Common.{◌≡◌, ◌≢◌, ◌≤◌, ◌<◌, ℕ, zero, suc, List, [], ◌∷◌, ◌++◌, length, map, take, Some, None, refl, sym, ◌∙◌, ap, subst, arith, append_assoc, append-nil}
 use Rattle.std.specs.Prelude.{Option}
 use Rattle.std.specs.List.{AllByRecursion, AllZip, cons_option}
 use Rattle.std.specs.Option.{option_map}
-use Rattle.std.proofs.lemmas.Bool.{cases_lt}
 use Rattle.std.proofs.lemmas.List.{map-append}
 use Rattle.disk_defs.specs.Disk.{Files}
 use Rattle.disk_defs.specs.Frames.{SameOutside}
@@ -11,7 +10,7 @@ use Rattle.disk_defs.specs.Gates.{Body, records}
 use Rattle.global_defs.specs.Entry.{Sequence}
 use Rattle.journal_defs.specs.Numbers.{INSTANCE, database_file, journal_file, lost_file, broken_file}
 use Rattle.journal_defs.specs.Journal.{JournalRecord, Pini, Epoch, Pblk, Tcom, Part, IsJournalBody, IsNoPini, BeginsWithPini}
-use Rattle.journal_defs.specs.Instance.{InstanceRecord, Create, Reigned, Cut, Map, Mode, IsInstanceBody, generation, regions, site_name}
+use Rattle.journal_defs.specs.Instance.{InstanceRecord, Create, Reigned, Cut, Map, Mode, IsInstanceBody, regions, site_name}
 use Rattle.journal_defs.specs.Broken.{broken, broken_text}
 use Rattle.journal_defs.specs.Sequence.{Placed, Records}
 use Rattle.journal_defs.specs.Stands.{Holds, IsInstance, IsJournal, last_began, in_generation, AreRecords}
@@ -19,7 +18,7 @@ use Rattle.journal_defs.specs.Growth.{NonePast, AreEntries, appended, placed, tc
 use Rattle.journal_defs.specs.Sound.{NoEpochPast}
 use Rattle.journal_defs.specs.Clean.{AreClean}
 use Rattle.journal_defs.specs.Fit.{IsSoundImage, HasFewNodes, IsAtHome}
-use Rattle.journal_laws.proofs.Appending.{journal_same, appended_is, first_of_them}
+use Rattle.journal_laws.proofs.Appending.{journal_same, first_of_them}
 use Rattle.journal_laws.proofs.ImageSteps.{all_both, all_take, entries_appended}
 use Rattle.journal_laws.proofs.Readings.{holds_one, journal_body}
 use Rattle.region_journals.specs.Fronts.{IsNewestFile, HasFirst, AreNewest, AreInside}

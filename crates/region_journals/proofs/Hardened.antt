@@ -1,25 +1,24 @@
 -- The rounds of a hardening, one after another.
-use Rattle.std.proofs.Common.{◌≡◌, ◌≤◌, ◌<◌, ◌+◌, ℕ, Bool, true, false, List, [], ◌∷◌, ◌++◌, length, take, drop, Some, inl, inr, refl, sym, ◌∙◌, ap, subst, arith, append-nil, take_all}
+use Rattle.std.proofs.Common.{◌≡◌, ◌<◌, ◌+◌, ℕ, false, List, [], ◌++◌, length, take, drop, Some, inl, inr, refl, sym, ◌∙◌, ap, subst, arith, append-nil, take_all}
 use Rattle.std.specs.Prelude.{slice_get, IsTrue, Result, Ok, Err, OnOk}
 use Rattle.std.proofs.lemmas.Bool.{cases_lt}
 use Rattle.std.proofs.lemmas.List.{drop_all}
-use Rattle.disk_defs.specs.Disk.{Files, View, Image, IsLawful, AtEachMoment}
+use Rattle.disk_defs.specs.Disk.{Files, View, IsLawful, AtEachMoment}
 use Rattle.disk_defs.specs.Frames.{OnlyIn, OthersStay}
 use Rattle.disk_defs.proofs.Frames.{others_then}
 use Rattle.disk_defs.proofs.Moments.{only_then, only_weaker}
 use Rattle.journal_defs.specs.Numbers.{journal_file}
 use Rattle.journal_defs.specs.Journal.{JournalRecord, IsJournalBody}
 use Rattle.journal_defs.specs.Stands.{Holds}
-use Rattle.jnl_file.specs.declared.journal.Journal.{Journal}
 use Rattle.jnl_file.specs.Records.{Recorded, StandsRecords}
 use Rattle.jnl_file.specs.Journal as files
 use Rattle.region_journals.specs.declared.journals.RegionJournal.{RegionJournal}
 use Rattle.region_journals.specs.declared.hardening.Round.{Round}
 use Rattle.region_journals.specs.declared.hardening.Round.TheVariants.{SyncBodies, OpenGates, SyncGates}
 use Rattle.region_journals.specs.Fronts.{IsNewestFile, HasFirst}
-use Rattle.region_journals.specs.Journals.{HasSyncs, AreOpen, AreReady, KeepsJournals, IsHardened}
+use Rattle.region_journals.specs.Journals.{AreOpen, AreReady, KeepsJournals, IsHardened}
 use Rattle.region_journals.specs.Turns.{Turned, AllTurned}
-use Rattle.region_journals.specs.Rounds.{Before, After, HasDone, Becomes, before, after, still_appended}
+use Rattle.region_journals.specs.Rounds.{Before, After, HasDone, Becomes, before}
 use Rattle.region_journals.proofs.Turns.{same_place}
 use Rattle.region_journals.proofs.Moments.{Have}
 

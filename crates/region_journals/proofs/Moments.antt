@@ -1,8 +1,8 @@
 -- Each moment of calls that go over the regions.
-use Rattle.std.proofs.Common.{◌≡◌, ◌≢◌, ◌≤◌, ◌<◌, ℕ, List, length, Some, inl, inr, refl, sym, ◌∙◌, subst, arith}
+use Rattle.std.proofs.Common.{◌≡◌, ◌≤◌, ◌<◌, ℕ, List, inl, inr, sym, ◌∙◌, subst, arith}
 use Rattle.std.proofs.lemmas.Bool.{cases_eq}
-use Rattle.disk_defs.specs.Disk.{Files, View, Image, IsLawful, AtEachMoment}
-use Rattle.disk_defs.specs.Frames.{Only, OnlyIn, OnlyOn, IsWithin, SameOutside, OthersStay}
+use Rattle.disk_defs.specs.Disk.{Files, View, IsLawful, AtEachMoment}
+use Rattle.disk_defs.specs.Frames.{Only, OnlyIn, OnlyOn, IsWithin, OthersStay}
 use Rattle.disk_defs.proofs.Frames.{others_then, others_wider}
 use Rattle.disk_defs.proofs.Moments.{only_then}
 use Rattle.journal_defs.specs.Numbers.{journal_file}

@@ -1,5 +1,5 @@
 -- Preparing the parts of an entry leaves the journals as they are.
-use Rattle.std.proofs.Common.{◌≡◌, ◌≢◌, ◌≤◌, ◌<◌, ◌+◌, ℕ, Bool, true, false, List, [], ◌∷◌, ◌++◌, length, set, Some, None, Option, inl, inr, refl, sym, ◌∙◌, ap, subst, arith}
+use Rattle.std.proofs.Common.{◌≡◌, ◌≤◌, ◌<◌, ◌+◌, ℕ, List, [], length, set, Some, None, Option, inl, inr, refl, sym, ◌∙◌, subst, arith}
 use Rattle.std.specs.Prelude.{slice_get, IsTrue, Result, Ok, Err, OnOk, OnErr}
 use Rattle.std.proofs.lemmas.Bool.{cases_lt}
 use Rattle.std.proofs.lemmas.Option.{slice_get_within}
@@ -10,10 +10,9 @@ use Rattle.jnl_file.specs.Journal as files
 use Rattle.jnl_file.specs.declared.journal.Journal.{Journal}
 use Rattle.tp_commit.specs.Parts.{PartRecords}
 use Rattle.region_journals.specs.declared.journals.RegionJournal.{RegionJournal}
-use Rattle.region_journals.specs.Journals.{HasSyncs, AreOpen, AreReady, KeepsJournals, ArePrepared, part_in}
+use Rattle.region_journals.specs.Journals.{HasSyncs, AreReady, KeepsJournals, ArePrepared, part_in}
 use Rattle.region_journals.specs.Turns.{Turned, AllTurned}
 use Rattle.region_journals.specs.Entering.{IsPartPrepared, IsUnchanged, Stays}
-use Rattle.region_journals.proofs.Turns as turns
 use Rattle.region_journals.proofs.Turns.{HasCome, Left, same_place, moved}
 
 pub unturned : (u v : View) (r : ℕ) (x y : RegionJournal) → Left u v x y → files.IsReady u x.journal → (IsTrue x.appended → HasSyncs x.journal) → Turned u v IsUnchanged Stays r x y

@@ -1,10 +1,9 @@
 -- The rounds of a hardening.
-use Rattle.std.proofs.Common.{◌≡◌, ◌≤◌, ◌<◌, ◌+◌, ℕ, Bool, true, false, List, [], ◌∷◌, ◌++◌, length, Some, None, Option, IsSomeAnd, refl, sym, ◌∙◌, ap, subst, arith, append-nil}
+use Rattle.std.proofs.Common.{◌≡◌, ◌≤◌, ◌<◌, ◌+◌, ℕ, Bool, false, List, [], ◌++◌, length, Some, None, Option, IsSomeAnd, refl, sym, ◌∙◌, ap, subst, arith, append-nil}
 use Rattle.std.specs.Prelude.{slice_get, IsTrue, Result, Ok, Err, OnOk}
 use Rattle.disk_defs.specs.Disk.{Files, View, Image, IsLawful, AtEachMoment}
 use Rattle.disk_defs.specs.Frames.{Only, OnlyIn, OnlyOn, OthersStay}
 use Rattle.disk_defs.proofs.Moments.{only_weaker, only_started}
-use Rattle.journal_defs.specs.Numbers.{journal_file}
 use Rattle.journal_defs.specs.Journal.{JournalRecord}
 use Rattle.jnl_file.specs.Records.{Recorded, StandsRecords, synced, opened}
 use Rattle.jnl_file.specs.Journal as files
@@ -14,7 +13,7 @@ use Rattle.region_journals.specs.declared.journals.RegionJournal.{RegionJournal}
 use Rattle.region_journals.specs.declared.hardening.Round.{Round}
 use Rattle.region_journals.specs.declared.hardening.Round.TheVariants.{SyncBodies, OpenGates, SyncGates}
 use Rattle.region_journals.specs.Fronts.{IsNewestFile}
-use Rattle.region_journals.specs.Journals.{HasSyncs, IsOpen, AreOpen}
+use Rattle.region_journals.specs.Journals.{HasSyncs, AreOpen}
 use Rattle.region_journals.specs.Turns.{Turned}
 use Rattle.region_journals.specs.Rounds.{Before, After, HasDone, Becomes, before, after, still_appended, syncs_in}
 use Rattle.region_journals.proofs.Turns as turns

@@ -1,5 +1,5 @@
 -- An entry on its way into the journals of its regions.
-use Rattle.std.specs.Prelude.{◌≡◌, ℕ, true, false, Option, Some, None, IsTrue}
+use Rattle.std.specs.Prelude.{◌≡◌, ℕ, false, Option, Some, None, IsTrue}
 use Rattle.jnl_file.specs.Records.{Recorded, appended}
 use Rattle.jnl_file.specs.Journal as journals
 use Rattle.journal_defs.specs.Journal.{JournalRecord}

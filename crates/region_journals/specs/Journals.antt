@@ -2,7 +2,6 @@
 use Rattle.std.specs.Prelude.{◌≡◌, ◌≤◌, ℕ, ◌+◌, false, List, [], ◌∷◌, length, get_or, slice_get, Option, Some, None, IsTrue}
 use Rattle.disk_defs.specs.Disk.{View}
 use Rattle.journal_defs.specs.Journal.{JournalRecord}
-use Rattle.jnl_file.specs.Records.{Recorded}
 use Rattle.jnl_file.specs.Journal as journals
 use Rattle.jnl_file.specs.declared.journal.Journal.{Journal}
 use Rattle.tp_commit.specs.Parts.{PartRecords}

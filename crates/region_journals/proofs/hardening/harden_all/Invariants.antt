@@ -1,4 +1,4 @@
-use Rattle.std.proofs.Common.{◌≡◌, ◌≤◌, ◌<◌, ℕ, List, length, Some}
+use Rattle.std.proofs.Common.{◌≡◌, ◌≤◌, ℕ, List, length, Some}
 use Rattle.std.specs.Prelude.{slice_get}
 use Rattle.disk_defs.specs.Disk.{AtEachMoment}
 use Rattle.disk_defs.specs.Frames.{OnlyIn, OthersStay}

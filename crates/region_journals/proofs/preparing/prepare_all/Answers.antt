@@ -1,4 +1,4 @@
-use Rattle.std.proofs.Common.{◌≡◌, ◌<◌, ◌≤◌, ◌+◌, ◌∙◌, ℕ, length, Some, get_or, set, refl, sym, subst, arith}
+use Rattle.std.proofs.Common.{◌≡◌, ◌<◌, ◌+◌, ◌∙◌, ℕ, length, Some, get_or, set, refl, subst, arith}
 use Rattle.std.specs.Prelude.{slice_get}
 use Rattle.std.proofs.lemmas.Option.{slice_get-get_or}
 use Rattle.disk_defs.specs.Disk.{Image}
@@ -9,7 +9,7 @@ use Rattle.region_journals.specs.Journals.{HasSyncs, IsOpen}
 use Rattle.region_journals.specs.Entering.{IsPartPrepared, IsUnchanged, Stays}
 use Rattle.region_journals.proofs.Turns as turns
 use Rattle.region_journals.proofs.Moments as moments
-use Rattle.region_journals.proofs.Prepared.{PreparedTo, all_same, prepared_on, all_prepared}
+use Rattle.region_journals.proofs.Prepared.{all_same, prepared_on, all_prepared}
 use Rattle.region_journals.proofs.preparing.prepare_all.Goals as goal
 
 pub loop-journal-init : goal.loop-journal-init

@@ -1,4 +1,4 @@
-use Rattle.std.proofs.Common.{◌≡◌, ℕ, List, length}
+use Rattle.std.proofs.Common.{◌≡◌, ℕ, length}
 use Rattle.disk_defs.specs.Disk.{Image, AtEachMoment}
 use Rattle.disk_defs.specs.Frames.{OthersStay}
 use Rattle.region_journals.specs.Fronts.{IsNewestFile}

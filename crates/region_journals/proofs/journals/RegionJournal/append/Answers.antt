@@ -1,8 +1,7 @@
-use Rattle.std.proofs.Common.{◌≡◌, ℕ, true, [], None, Some, refl}
+use Rattle.std.proofs.Common.{true, [], refl}
 use Rattle.jnl_record.specs.Values.{record_value}
 use Rattle.disk_defs.specs.Frames.{Only}
 use Rattle.disk_defs.proofs.Frames.{others_same}
-use Rattle.region_journals.specs.Journals.{part_in}
 use Rattle.region_journals.specs.declared.journals.RegionJournal.{RegionJournal}
 use Rattle.region_journals.proofs.Entered.{none_taken, part_taken, none_appended, part_is, no_part_is}
 use Rattle.region_journals.proofs.journals.RegionJournal.append.Goals as goal

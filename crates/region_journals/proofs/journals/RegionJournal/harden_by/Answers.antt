@@ -1,10 +1,10 @@
-use Rattle.std.proofs.Common.{◌≡◌, ◌+◌, [], true, false, Bool, refl, sym, subst, rules, arith}
+use Rattle.std.proofs.Common.{[], false, refl, sym, subst, arith}
 use Rattle.std.specs.Prelude.{ℕ, IsTrue, OnOk}
 use Rattle.disk_defs.specs.Frames.{Only}
 use Rattle.disk_defs.proofs.Frames.{others_same}
 use Rattle.jnl_file.specs.Journal as files
 use Rattle.region_journals.specs.declared.journals.RegionJournal.{RegionJournal}
-use Rattle.region_journals.specs.declared.hardening.Round.TheVariants.{SyncBodies, OpenGates, SyncGates}
+use Rattle.region_journals.specs.declared.hardening.Round.TheVariants.{SyncBodies, OpenGates}
 use Rattle.region_journals.specs.Turns.{Turned}
 use Rattle.region_journals.specs.Rounds.{Before, HasDone, Becomes, before}
 use Rattle.region_journals.proofs.Rounds.{none_yet, none_done, left_alone, bodies_synced, gates_opened, gates_synced}

@@ -1,4 +1,3 @@
-use Rattle.std.proofs.Common.{◌≡◌, ℕ, None, Some}
 use Rattle.jnl_record.specs.Values.{record_value}
 use Rattle.disk_defs.specs.Disk.{Image}
 use Rattle.disk_defs.specs.Frames.{Only}

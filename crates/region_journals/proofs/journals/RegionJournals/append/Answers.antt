@@ -1,5 +1,5 @@
-use Rattle.std.proofs.Common.{◌≡◌, ◌++◌, ℕ, List, [], length, take, drop, Some, sym, subst, ap, ◌∙◌, arith}
-use Rattle.std.specs.Prelude.{slice_get, OnOk}
+use Rattle.std.proofs.Common.{◌≡◌, ◌++◌, ℕ, List, [], length, take, drop, sym, subst, ap, ◌∙◌, arith}
+use Rattle.std.specs.Prelude.{OnOk}
 use Rattle.disk_defs.specs.Disk.{AtEachMoment}
 use Rattle.disk_defs.specs.Frames.{OnlyIn, OthersStay}
 use Rattle.journal_defs.specs.Journal.{JournalRecord}

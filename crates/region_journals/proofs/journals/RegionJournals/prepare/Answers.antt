@@ -1,4 +1,4 @@
-use Rattle.std.proofs.Common.{◌≡◌, ◌++◌, ℕ, List, length, take, drop, Some, sym, subst, ap, ◌∙◌, arith}
+use Rattle.std.proofs.Common.{◌≡◌, ◌++◌, length, take, drop, sym, subst, ap, ◌∙◌, arith}
 use Rattle.std.specs.Prelude.{OnOk}
 use Rattle.disk_defs.specs.Frames.{OthersStay}
 use Rattle.region_journals.specs.Fronts.{IsNewestFile}
