@@ -1,0 +1,9 @@
+pub mod Unbroken
+pub mod Fronts
+pub mod Turns
+pub mod Moments
+pub mod Rounds
+pub mod Hardened
+pub mod Entered
+pub mod Prepared
+pub mod Waiting

@@ -1,0 +1,5 @@
+pub mod Fronts
+pub mod Journals
+pub mod Turns
+pub mod Rounds
+pub mod Entering

@@ -1,0 +1,12 @@
+pub mod Writing
+pub mod Frames
+pub mod Cutting
+pub mod Beginning
+pub mod Drawings
+pub mod Keeping
+pub mod Mapped
+pub mod Errors
+pub mod RegionsRead
+pub mod WhatIsRead
+pub mod Kept
+pub mod Recovered

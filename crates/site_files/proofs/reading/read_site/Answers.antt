@@ -1,0 +1,148 @@
+use Rattle.std.proofs.Common.{rules, ◌≡◌, ◌+◌, ◌≤◌, ◌<◌, inr, ℕ, suc, List, Vec, Global, length, map, None, Some, IfSome, sym, ◌∙◌, ap, subst, arith}
+use Rattle.std.proofs.lemmas.Result.{err_from_is_err_and}
+use Rattle.disk_defs.specs.Disk.{Files, Image}
+use Rattle.disk_defs.proofs.Moments.{nothing_new}
+use Rattle.disk_defs.proofs.Told.{told_at}
+use Rattle.std.specs.List.{AllByRecursion}
+use Rattle.std.proofs.lemmas.List.{length-map}
+use Rattle.jnl_record.specs.declared.placed.PlacedRecord.{PlacedRecord}
+use Rattle.global_dir.specs.Directory.{Mapping}
+use Rattle.journal_defs.specs.Instance.{InstanceRecord, generation, regions}
+use Rattle.journal_defs.specs.Directory.{Pattern, patterns}
+use Rattle.journal_defs.specs.Sequence.{Placed}
+use Rattle.mupip_recover.specs.Site.{journal_of}
+use Rattle.site_files.specs.declared.error.FilesError.TheVariants.{NotAFile, GenLimit}
+use Rattle.site_files.specs.Loading.{IsDirectory, last_of}
+use Rattle.site_files.specs.Reading.{HaveJournals, AreAllDurable, AreUnbegun, AreUnbegunDurable}
+use Rattle.site_files.proofs.Errors.{handed_on, causes_on}
+use Rattle.site_files.proofs.WhatIsRead.{no_instance, limit_read, no_directory, no_journals, no_next, may_be_opened, was_read}
+use Rattle.site_files.proofs.reading.read_site.Goals as goal
+
+pub returns-in_err-log-clause-outside : goal.returns-in_err-log-clause-outside
+returns-in_err-log-clause-outside g c =
+    let p = err_from_is_err_and c.from_residual.result c.from_residual.ensures.1 in
+    rw (p.1, p.2) (λ file offset is.
+    no_instance (g.D.Disk.disk c.args.disk.now).content (c.in_err-log.ensures.outside file offset (handed_on c.in_err-log.field-0.0 (NotAFile file offset) is)))
+
+pub returns-in_err-log-clause-causes : goal.returns-in_err-log-clause-causes
+returns-in_err-log-clause-causes g c =
+    let p = err_from_is_err_and c.from_residual.result c.from_residual.ensures.1 in
+    rw (p.1, p.2) (inr (causes_on c.in_err-log.field-0.0 c.in_err-log.ensures.causes))
+
+pub returns-in_err-plan-clause-outside : goal.returns-in_err-plan-clause-outside
+returns-in_err-plan-clause-outside g c =
+    let p = err_from_is_err_and c.from_residual-in_err-plan.result c.from_residual-in_err-plan.ensures.1 in
+    rw (p.1, p.2) (λ file offset is.
+    no_directory (g.D.Disk.disk c.args.disk.now).content c.in_ok-log.log.records c.in_ok-log.ensures.reads
+    (subst (λ (k : List InstanceRecord). IsDirectory k None) c.as_slice.ensures (c.in_err-plan.ensures.outside file offset (handed_on c.in_err-plan.field-0.0 (NotAFile file offset) is))))
+
+pub returns-in_err-plan-clause-limit : goal.returns-in_err-plan-clause-limit
+returns-in_err-plan-clause-limit g c =
+    let p = err_from_is_err_and c.from_residual-in_err-plan.result c.from_residual-in_err-plan.ensures.1 in
+    rw (p.1, p.2) (λ is.
+    limit_read (g.D.Disk.disk c.args.disk.now).content c.in_ok-log.log.records c.in_ok-log.ensures.reads
+    (subst (λ (k : List InstanceRecord). 65534 ≤ generation k) c.as_slice.ensures (c.in_err-plan.ensures.limit (handed_on c.in_err-plan.field-0.0 GenLimit is))))
+
+pub returns-in_err-read-clause-causes : goal.returns-in_err-read-clause-causes
+returns-in_err-read-clause-causes g c =
+    let p = err_from_is_err_and c.from_residual-in_err-read.result c.from_residual-in_err-read.ensures.1 in
+    rw (p.1, p.2) (inr (causes_on c.in_err-read.field-0.0 c.in_err-read.ensures.causes))
+
+pub returns-in_err-see_regions-clause-causes : goal.returns-in_err-see_regions-clause-causes
+returns-in_err-see_regions-clause-causes g c =
+    let p = err_from_is_err_and c.from_residual-in_err-see_regions.result c.from_residual-in_err-see_regions.ensures.1 in
+    rw (p.1, p.2) (inr (causes_on c.in_err-see_regions.field-0.0 c.in_err-see_regions.ensures.causes))
+
+pub returns-in_err-read-clause-any_moment : goal.returns-in_err-read-clause-any_moment
+returns-in_err-read-clause-any_moment g c =
+    let view = g.D.Disk.disk in
+    nothing_new (view c.args.disk.now) (view c.read_instance.new.disk) (view c.read_regions.new.disk) (Image (view c.args.disk.now)) (g.met.D.Disk.lawful c.read_instance.new.disk)
+    c.in_ok-log.ensures.any_moment c.in_err-read.ensures.any_moment
+
+pub returns-in_err-see_regions-clause-any_moment : goal.returns-in_err-see_regions-clause-any_moment
+returns-in_err-see_regions-clause-any_moment g c =
+    let view = g.D.Disk.disk in
+    let u = view c.args.disk.now in
+    nothing_new u (view c.read_regions.new.disk) (view c.see_regions.new.disk) (Image u) (g.met.D.Disk.lawful c.read_regions.new.disk)
+    (nothing_new u (view c.read_instance.new.disk) (view c.read_regions.new.disk) (Image u) (g.met.D.Disk.lawful c.read_instance.new.disk) c.in_ok-log.ensures.any_moment c.in_ok-read.ensures.any_moment)
+    c.in_err-see_regions.ensures.any_moment
+
+pub returns-clause-any_moment : goal.returns-clause-any_moment
+returns-clause-any_moment g c =
+    let view = g.D.Disk.disk in
+    let u = view c.args.disk.now in
+    nothing_new u (view c.read_regions.new.disk) (view c.see_regions.new.disk) (Image u) (g.met.D.Disk.lawful c.read_regions.new.disk)
+    (nothing_new u (view c.read_instance.new.disk) (view c.read_regions.new.disk) (Image u) (g.met.D.Disk.lawful c.read_instance.new.disk) c.in_ok-log.ensures.any_moment c.in_ok-read.ensures.any_moment)
+    c.in_ok-see_regions.ensures.any_moment
+
+pub returns-in_err-read-clause-outside : goal.returns-in_err-read-clause-outside
+returns-in_err-read-clause-outside g c =
+    let view = g.D.Disk.disk in
+    let rs = c.in_ok-log.log.records in
+    let n = c.in_ok-plan.plan.regions in
+    let n2 = c.in_ok-plan.plan.newest in
+    let directory = subst (λ (k : List InstanceRecord). IsDirectory k (Some c.in_ok-plan.plan.directory)) c.as_slice.ensures c.in_ok-plan.ensures.directory in
+    let many : n ≡ length (regions rs) = c.in_ok-plan.ensures.regions ∙ ap (λ (d : Mapping). d.regions) directory.2 in
+    let newest : n2 ≡ generation rs = c.in_ok-plan.ensures.newest ∙ ap generation c.as_slice.ensures in
+    let None_there = λ (files : Files). (began : ℕ → ℕ) (journal : ℕ → List Placed) → HaveJournals n n2 began journal files → ⊥ in
+    let p = err_from_is_err_and c.from_residual-in_err-read.result c.from_residual-in_err-read.ensures.1 in
+    rw (p.1, p.2) (λ file offset is.
+    no_journals (view c.args.disk.now).content rs c.in_ok-log.ensures.reads n n2 many newest
+    (told_at (view c.args.disk.now).content (view c.read_instance.new.disk).content None_there c.in_ok-log.ensures.content
+    (c.in_err-read.ensures.outside file offset (handed_on c.in_err-read.field-0.0 (NotAFile file offset) is))))
+
+pub returns-in_err-see_regions-clause-outside : goal.returns-in_err-see_regions-clause-outside
+returns-in_err-see_regions-clause-outside g c =
+    let view = g.D.Disk.disk in
+    let rs = c.in_ok-log.log.records in
+    let n = c.in_ok-plan.plan.regions in
+    let n2 = c.in_ok-plan.plan.newest + 1 in
+    let directory = subst (λ (k : List InstanceRecord). IsDirectory k (Some c.in_ok-plan.plan.directory)) c.as_slice.ensures c.in_ok-plan.ensures.directory in
+    let many : n ≡ length (regions rs) = c.in_ok-plan.ensures.regions ∙ ap (λ (d : Mapping). d.regions) directory.2 in
+    let newest : c.in_ok-plan.plan.newest ≡ generation rs = c.in_ok-plan.ensures.newest ∙ ap generation c.as_slice.ensures in
+    let drawn : n2 ≡ suc (generation rs) = omega (arith, newest) in
+    let Begun = λ (files : Files). AreUnbegun n n2 files → ⊥ in
+    let p = err_from_is_err_and c.from_residual-in_err-see_regions.result c.from_residual-in_err-see_regions.ensures.1 in
+    rw (p.1, p.2) (λ file offset is.
+    no_next (view c.args.disk.now).content rs c.in_ok-log.ensures.reads n n2 many drawn
+    (told_at (view c.args.disk.now).content (view c.read_regions.new.disk).content Begun (c.in_ok-read.ensures.content ∙ c.in_ok-log.ensures.content)
+    (c.in_err-see_regions.ensures.outside file offset (handed_on c.in_err-see_regions.field-0.0 (NotAFile file offset) is))))
+
+pub returns-clause-directory : goal.returns-clause-directory
+returns-clause-directory g c = subst (λ (k : List InstanceRecord). IsDirectory k (Some c.in_ok-plan.plan.directory)) c.as_slice.ensures c.in_ok-plan.ensures.directory
+
+pub returns-clause-form : goal.returns-clause-form
+returns-clause-form g c =
+    let rs = c.in_ok-log.log.records in
+    let directory = subst (λ (k : List InstanceRecord). IsDirectory k (Some c.in_ok-plan.plan.directory)) c.as_slice.ensures c.in_ok-plan.ensures.directory in
+    let fits = subst (λ (k : List InstanceRecord). AllByRecursion (λ (p : Pattern). p.region < c.in_ok-plan.plan.directory.regions) (patterns k)) c.as_slice.ensures c.in_ok-plan.ensures.mapped in
+    let newest : c.in_ok-plan.plan.newest ≡ generation rs = c.in_ok-plan.ensures.newest ∙ ap generation c.as_slice.ensures in
+    let low : c.in_ok-plan.plan.newest < 65534 = c.in_ok-plan.ensures.low in
+    may_be_opened rs c.in_ok-plan.plan.directory (last_of c.in_ok-read.read.last_began.items) c.in_ok-plan.plan.newest c.in_ok-log.ensures.order c.in_ok-log.ensures.form directory fits newest low c.in_ok-read.ensures.began
+
+pub returns-clause-read : goal.returns-clause-read
+returns-clause-read g c =
+    let view = g.D.Disk.disk in
+    let u = view c.args.disk.now in
+    let v = view c.read_instance.new.disk in
+    let w = view c.read_regions.new.disk in
+    let x = view c.see_regions.new.disk in
+    let rs = c.in_ok-log.log.records in
+    let n = c.in_ok-plan.plan.regions in
+    let g1 = c.in_ok-plan.plan.newest in
+    let got = c.in_ok-read.ensures in
+    let last = last_of c.in_ok-read.read.last_began.items in
+    let js = map (λ (j : Vec PlacedRecord Global). j.items) c.in_ok-read.read.journals.items in
+    let directory = subst (λ (k : List InstanceRecord). IsDirectory k (Some c.in_ok-plan.plan.directory)) c.as_slice.ensures c.in_ok-plan.ensures.directory in
+    let many : n ≡ length (regions rs) = c.in_ok-plan.ensures.regions ∙ ap (λ (d : Mapping). d.regions) directory.2 in
+    let newest : g1 ≡ generation rs = c.in_ok-plan.ensures.newest ∙ ap generation c.as_slice.ensures in
+    let drawn : g1 + 1 ≡ suc (generation rs) = omega (arith, newest) in
+    let first = c.in_ok-log.ensures.content in
+    let second = got.content ∙ first in
+    was_read u.content v w x rs last js n g1 (g1 + 1) many newest drawn (length-map c.in_ok-read.read.journals.items (λ (j : Vec PlacedRecord Global). j.items) ∙ got.many)
+    (g.met.D.Disk.lawful c.read_regions.new.disk) (g.met.D.Disk.lawful c.see_regions.new.disk) got.any_moment c.in_ok-see_regions.ensures.any_moment
+    c.in_ok-log.ensures.reads c.in_ok-log.ensures.durable
+    (told_at u.content v.content (HaveJournals n g1 last (journal_of js)) first got.read)
+    (told_at u.content v.content (AreAllDurable w n g1) first got.durable)
+    (told_at u.content w.content (AreUnbegun n (g1 + 1)) second c.in_ok-see_regions.ensures.next)
+    (told_at u.content w.content (AreUnbegunDurable x n (g1 + 1)) second c.in_ok-see_regions.ensures.durable)

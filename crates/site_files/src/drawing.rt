@@ -1,0 +1,247 @@
+//! Drawing the next generation, and beginning it.
+ghost use Rattle.std.specs.Prelude.{◌≡◌, ◌⊎◌, ◌≤◌, ◌<◌, ◌^◌, ◌++◌, ◌∷◌, [], ℕ, suc, true, List, length, map, slice_get, Some, IfSome, IfOk, OnOk, OnErr, IsErrOf};
+ghost use Rattle.std.specs.Option.{option_or, unwrap_or};
+ghost use Rattle.disk_defs.specs.Disk.{Files, Image, From, AtEachMoment, IsDurable, Rose};
+ghost use Rattle.disk_defs.specs.Frames.{Only, OnlyOn, OthersStay};
+ghost use Rattle.instance_file.specs.Values.{record_value};
+ghost use Rattle.instance_file.specs.Instance as instances;
+ghost use Rattle.journal_defs.specs.Numbers.{INSTANCE, journal_file};
+ghost use Rattle.journal_defs.specs.Instance.{generation, regions, mode_in, mode_of};
+ghost use Rattle.journal_defs.specs.Sequence.{Placed};
+ghost use Rattle.journal_defs.specs.Stands.{IsInstance};
+ghost use Rattle.jnl_file.specs.Journal as journals;
+ghost use Rattle.jnl_file.specs.declared.journal.Journal.{Journal};
+ghost use Rattle.jnl_file.specs.Records.{settled};
+ghost use Rattle.jnl_file.specs.Begin.{pini, MayBegin};
+ghost use Rattle.disk_defs.specs.Gates.{records};
+ghost use Rattle.site_files.specs.Errors.{journal_error};
+ghost use Rattle.site_files.specs.Loading.{MayBeOpened, WasRead, MayDraw, HasDrawn, HasBegun, AreNext, AreJournalsOf, AreUnbegun, last_of, first_by, next_cut, next_broken, next_pini};
+
+use crate::broken::write_broken;
+use crate::error::FilesError;
+use crate::finding::{generation_in, in_instance};
+use gvn_key::NoMemory;
+use instance_file::{Instance, InstanceLog, InstanceRecord};
+use jnl_file::{Journal, JournalError};
+use repl_disk::Disk;
+use std::alloc::Global;
+
+/// The files of a site whose next generation has begun, open for calls.
+#[derive(Drop)]
+pub struct Drawn {
+    pub instance: Instance,
+    /// The journals of the new generation, by region.
+    pub journals: Vec<Journal>,
+}
+
+/// An error of a journal that is made, on a disk with this count of faults.
+fn in_journal(error: JournalError, fault: u64) -> FilesError
+    ensures { result ≡ journal_error fault error }
+{
+    match error {
+        JournalError::Failed => FilesError::Failed { fault },
+        JournalError::NotARecord { .. } | JournalError::NoMemory => FilesError::NoMemory,
+    }
+}
+
+/// The mode that a record gives a region.
+fn mode_given(given: &InstanceRecord, region: u8) -> Option<bool>
+    ensures { result ≡ mode_in (record_value given.now) region }
+{
+    match given {
+        InstanceRecord::Create { regions, .. } => match regions.as_slice().get(region as usize) {
+            Some((_, before)) => Some(*before),
+            None => None,
+        },
+        InstanceRecord::Mode { region: of, before } if *of == region => Some(*before),
+        _ => None,
+    }
+}
+
+/// The mode of a region by these records: the last one that it was given, or BEFORE.
+fn mode_by(records: &[InstanceRecord], region: u8) -> bool
+    ensures { result ≡ unwrap_or (mode_of (map record_value records.now) region) true }
+{
+    let mut mode = None;
+    for given in records {
+        mode = mode_given(given, region).or(mode);
+    }
+    mode.unwrap_or(true)
+}
+
+/// Opens the instance file for calls, and appends the CUT to so many entries that draws the next generation.
+fn cut<D: Disk>(
+    alloc: Global,
+    disk: &mut D,
+    log: InstanceLog,
+    length: u64,
+    next: u32,
+) -> Result<Instance, FilesError>
+    requires form { (last : ℕ → ℕ) × MayBeOpened log.records last }
+    requires next { next ≡ suc (generation log.records) }
+    requires length { length < 2 ^ 40 }
+    requires stands { IfSome (D.disk disk.old).content (λ files. IsInstance (files INSTANCE) log.records) }
+    requires durable { IfSome (D.disk disk.old).content (λ files. IsDurable (D.disk disk.old) INSTANCE (files INSTANCE)) }
+    ensures ready { IfOk result (λ made. instances.IsReady (D.disk disk.new) made) }
+    ensures records { IfOk result (λ made. made.records ≡ log.records ++ next_cut log.records length ∷ []) }
+    ensures state { IfOk result (λ made. IfSome (D.disk disk.old).content (λ _. instances.HasRecords (D.disk disk.new) made (log.records ++ next_cut log.records length ∷ []))) }
+    ensures any_moment { IfSome (D.disk disk.old).content (λ _. AtEachMoment (D.disk disk.old) (D.disk disk.new) (OnlyOn (D.disk disk.old) INSTANCE (instances.StandsWith log.records (next_cut log.records length)))) }
+    ensures frame { OthersStay (Only INSTANCE) (D.disk disk.old) (D.disk disk.new) }
+    ensures later { (D.disk disk.old).faults ≤ (D.disk disk.new).faults }
+    ensures count { (fault : ℕ) → IsErrOf result (FilesError.Failed fault) → fault ≡ (D.disk disk.new).faults }
+    ensures cause { (fault : ℕ) → IsErrOf result (FilesError.Failed fault) → Rose (D.disk disk.old).faults (D.disk disk.new).faults }
+    ensures outside { (file offset : ℕ) → IsErrOf result (FilesError.NotAFile file offset) → IfSome (D.disk disk.old).content (λ _. ⊥) }
+    ensures causes { OnErr result (((fault : ℕ) × IsErrOf result (FilesError.Failed fault)) ⊎ ((file : ℕ) × (offset : ℕ) × IsErrOf result (FilesError.NotAFile file offset)) ⊎ IsErrOf result FilesError.NoMemory) }
+{
+    let mut instance = match Instance::open(alloc, disk, log) {
+        Ok(instance) => instance,
+        Err(error) => return Err(in_instance(error, disk.faults())),
+    };
+    match instance.cut(disk, length, next) {
+        Ok(()) => Ok(instance),
+        Err(error) => Err(in_instance(error, disk.faults())),
+    }
+}
+
+/// Makes a region's journal of a generation.
+fn begin<D: Disk>(
+    alloc: Global,
+    disk: &mut D,
+    region: u8,
+    before: bool,
+    generation: u32,
+    last: u32,
+) -> Result<Journal, FilesError>
+    requires region { region < 8 }
+    requires generation { generation ≤ 65535 }
+    requires last { last < generation }
+    requires empty { IfSome (D.disk disk.old).content (λ files. records (files (journal_file generation region)) ≡ Some []) }
+    ensures ready { IfOk result (λ made. journals.IsReady (D.disk disk.new) made) }
+    ensures place { IfOk result (λ made. journals.IsJournalOf made region generation) }
+    ensures state { IfOk result (λ made. IfSome (D.disk disk.old).content (λ _. journals.HasRecords (D.disk disk.new) made (settled (pini region before generation last ∷ [])))) }
+    ensures any_moment { IfSome (D.disk disk.old).content (λ _. AtEachMoment (D.disk disk.old) (D.disk disk.new) (MayBegin (D.disk disk.old) (journal_file generation region) (pini region before generation last))) }
+    ensures frame { OthersStay (Only (journal_file generation region)) (D.disk disk.old) (D.disk disk.new) }
+    ensures later { (D.disk disk.old).faults ≤ (D.disk disk.new).faults }
+    ensures count { (fault : ℕ) → IsErrOf result (FilesError.Failed fault) → fault ≡ (D.disk disk.new).faults }
+    ensures cause { (fault : ℕ) → IsErrOf result (FilesError.Failed fault) → Rose (D.disk disk.old).faults (D.disk disk.new).faults }
+    ensures causes { OnErr result (((fault : ℕ) × IsErrOf result (FilesError.Failed fault)) ⊎ IsErrOf result FilesError.NoMemory) }
+{
+    match Journal::create(alloc, disk, region, before, generation, last) {
+        Ok(made) => Ok(made),
+        Err(error) => Err(in_journal(error, disk.faults())),
+    }
+}
+
+/// Adds a journal.
+fn add(journals: &mut Vec<Journal>, made: Journal) -> Result<(), NoMemory>
+    ensures { OnOk result (journals.new.items ≡ journals.old.items ++ made ∷ []) }
+{
+    journals.push(made)?;
+    Ok(())
+}
+
+/// Makes a region's journal of a generation, in its mode by these records, and adds it.
+fn begin_next<D: Disk>(
+    alloc: Global,
+    disk: &mut D,
+    begun: &mut Vec<Journal>,
+    given: &[InstanceRecord],
+    region: u8,
+    generation: u32,
+    last: u32,
+) -> Result<(), FilesError>
+    requires region { region < 8 }
+    requires generation { generation ≤ 65535 }
+    requires last { last < generation }
+    requires empty { IfSome (D.disk disk.old).content (λ files. records (files (journal_file generation region)) ≡ Some []) }
+    ensures added { OnOk result ((made : Journal) × (begun.new.items ≡ begun.old.items ++ made ∷ []) × journals.IsReady (D.disk disk.new) made × journals.IsJournalOf made region generation × IfSome (D.disk disk.old).content (λ _. journals.HasRecords (D.disk disk.new) made (settled (pini region (unwrap_or (mode_of (map record_value given.now) region) true) generation last ∷ [])))) }
+    ensures any_moment { IfSome (D.disk disk.old).content (λ _. AtEachMoment (D.disk disk.old) (D.disk disk.new) (MayBegin (D.disk disk.old) (journal_file generation region) (pini region (unwrap_or (mode_of (map record_value given.now) region) true) generation last))) }
+    ensures frame { OthersStay (Only (journal_file generation region)) (D.disk disk.old) (D.disk disk.new) }
+    ensures later { (D.disk disk.old).faults ≤ (D.disk disk.new).faults }
+    ensures count { (fault : ℕ) → IsErrOf result (FilesError.Failed fault) → fault ≡ (D.disk disk.new).faults }
+    ensures cause { (fault : ℕ) → IsErrOf result (FilesError.Failed fault) → Rose (D.disk disk.old).faults (D.disk disk.new).faults }
+    ensures causes { OnErr result (((fault : ℕ) × IsErrOf result (FilesError.Failed fault)) ⊎ IsErrOf result FilesError.NoMemory) }
+{
+    let before = mode_by(given, region);
+    let made = begin(alloc, disk, region, before, generation, last)?;
+    add(begun, made)?;
+    Ok(())
+}
+
+/// Makes the journals of a generation in the first regions, one for each of these last generations, in their modes by these records.
+fn begin_all<D: Disk>(
+    alloc: Global,
+    disk: &mut D,
+    records: &[InstanceRecord],
+    generation: u32,
+    last_began: &[u32],
+) -> Result<Vec<Journal>, FilesError>
+    requires few { length last_began.now ≤ 8 }
+    requires generation { generation ≤ 65535 }
+    requires earlier { (r : ℕ) → last_of last_began.now r < generation }
+    requires unbegun { IfSome (D.disk disk.old).content (λ _. (f : Files) → Image (D.disk disk.old) f → AreUnbegun generation (length last_began.now) f) }
+    ensures number { IfOk result (λ made. length made.items ≡ length last_began.now) }
+    ensures ready { IfOk result (λ made. (r : ℕ) (j : Journal) → slice_get made.items r ≡ Some j → journals.IsReady (D.disk disk.new) j × journals.IsJournalOf j r generation) }
+    ensures state { IfOk result (λ made. IfSome (D.disk disk.old).content (λ _. (r : ℕ) (j : Journal) → slice_get made.items r ≡ Some j → journals.HasRecords (D.disk disk.new) j (settled (first_by (map record_value records.now) generation last_began.now r ∷ [])))) }
+    ensures begun { OnOk result (IfSome (D.disk disk.old).content (λ _. (f : Files) → Image (D.disk disk.new) f → From (Image (D.disk disk.old)) (HasBegun generation (length last_began.now) (first_by (map record_value records.now) generation last_began.now) (length last_began.now)) f)) }
+    ensures any_moment { IfSome (D.disk disk.old).content (λ _. AtEachMoment (D.disk disk.old) (D.disk disk.new) (From (Image (D.disk disk.old)) (λ was now. (k : ℕ) × HasBegun generation (length last_began.now) (first_by (map record_value records.now) generation last_began.now) k was now))) }
+    ensures frame { OthersStay (AreJournalsOf generation (length last_began.now)) (D.disk disk.old) (D.disk disk.new) }
+    ensures later { (D.disk disk.old).faults ≤ (D.disk disk.new).faults }
+    ensures count { (fault : ℕ) → IsErrOf result (FilesError.Failed fault) → fault ≡ (D.disk disk.new).faults }
+    ensures cause { (fault : ℕ) → IsErrOf result (FilesError.Failed fault) → Rose (D.disk disk.old).faults (D.disk disk.new).faults }
+    ensures causes { OnErr result (((fault : ℕ) × IsErrOf result (FilesError.Failed fault)) ⊎ IsErrOf result FilesError.NoMemory) }
+{
+    let mut journals = Vec::new(alloc);
+    for region in 0..last_began.len() {
+        begin_next(
+            alloc,
+            disk,
+            &mut journals,
+            records,
+            region as u8,
+            generation,
+            last_began[region],
+        )?;
+    }
+    Ok(journals)
+}
+
+/// Draws the next generation of a site that was read, with the text of what is broken and a CUT to so many entries, and begins it in
+/// each region.
+///
+/// The text, where there is one, is written and synced before the CUT. `last_began` has the last generation that began, by region.
+pub fn draw<D: Disk>(
+    alloc: Global,
+    disk: &mut D,
+    log: InstanceLog,
+    count: u64,
+    broken: &[u8],
+    last_began: &[u32],
+) -> Result<Drawn, FilesError>
+    requires form { MayBeOpened log.records (last_of last_began.now) }
+    requires counted { length last_began.now ≡ length (regions log.records) }
+    requires count { count < 2 ^ 40 }
+    requires read { IfSome (D.disk disk.old).content (λ files. (journal : ℕ → List Placed) × WasRead (D.disk disk.old) log.records (last_of last_began.now) journal files) }
+    ensures instance { IfOk result (λ made. instances.IsReady (D.disk disk.new) made.instance) }
+    ensures journal_count { IfOk result (λ made. length made.journals.items ≡ length (regions log.records)) }
+    ensures journals { IfOk result (λ made. (r : ℕ) (j : Journal) → slice_get made.journals.items r ≡ Some j → journals.IsReady (D.disk disk.new) j × journals.IsJournalOf j r (suc (generation log.records))) }
+    ensures records { IfOk result (λ made. made.instance.records ≡ log.records ++ next_cut log.records count ∷ []) }
+    ensures instance_file { IfOk result (λ made. IfSome (D.disk disk.old).content (λ _. instances.HasRecords (D.disk disk.new) made.instance (log.records ++ next_cut log.records count ∷ []))) }
+    ensures journal_files { IfOk result (λ made. IfSome (D.disk disk.old).content (λ _. (r : ℕ) (j : Journal) → slice_get made.journals.items r ≡ Some j → journals.HasRecords (D.disk disk.new) j (settled (next_pini log.records (last_of last_began.now) r ∷ [])))) }
+    ensures drawn { OnOk result (IfSome (D.disk disk.old).content (λ files. length (files (next_broken log.records)) ≤ length broken.now → (f : Files) → Image (D.disk disk.new) f → From (Image (D.disk disk.old)) (HasDrawn log.records count broken.now (last_of last_began.now) (length (regions log.records))) f)) }
+    ensures any_moment { IfSome (D.disk disk.old).content (λ files. length (files (next_broken log.records)) ≤ length broken.now → AtEachMoment (D.disk disk.old) (D.disk disk.new) (From (Image (D.disk disk.old)) (MayDraw log.records count broken.now (last_of last_began.now)))) }
+    ensures reads { IfSome (D.disk disk.old).content (λ files. length (files (next_broken log.records)) ≤ length broken.now → IfSome (D.disk disk.new).content (MayDraw log.records count broken.now (last_of last_began.now) files)) }
+    ensures frame { OthersStay (AreNext log.records) (D.disk disk.old) (D.disk disk.new) }
+    ensures later { (D.disk disk.old).faults ≤ (D.disk disk.new).faults }
+    ensures count { (fault : ℕ) → IsErrOf result (FilesError.Failed fault) → fault ≡ (D.disk disk.new).faults }
+    ensures cause { (fault : ℕ) → IsErrOf result (FilesError.Failed fault) → Rose (D.disk disk.old).faults (D.disk disk.new).faults }
+    ensures outside { (file offset : ℕ) → IsErrOf result (FilesError.NotAFile file offset) → IfSome (D.disk disk.old).content (λ _. ⊥) }
+    ensures causes { OnErr result (((fault : ℕ) × IsErrOf result (FilesError.Failed fault)) ⊎ ((file : ℕ) × (offset : ℕ) × IsErrOf result (FilesError.NotAFile file offset)) ⊎ IsErrOf result FilesError.NoMemory) }
+{
+    let next = generation_in(log.records.as_slice()) + 1;
+    write_broken(disk, next, broken)?;
+    let instance = cut(alloc, disk, log, count, next)?;
+    let records = instance.records.as_slice();
+    let journals = begin_all(alloc, disk, records, next, last_began)?;
+    Ok(Drawn { instance, journals })
+}

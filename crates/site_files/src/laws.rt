@@ -1,0 +1,48 @@
+//! What was read, as the records that files hold; and what drawing the next generation leaves of what they stand for.
+ghost use Rattle.std.specs.Prelude.{◌≡◌, ℕ, ◌<◌, ◌≤◌, List, length};
+ghost use Rattle.disk_defs.specs.Disk.{Files, Image};
+ghost use Rattle.global_defs.specs.Entry.{Sequence};
+ghost use Rattle.journal_defs.specs.Instance.{InstanceRecord, regions, generation, site_name};
+ghost use Rattle.journal_defs.specs.Sequence.{Placed, Records};
+ghost use Rattle.journal_defs.specs.Broken.{broken, broken_text};
+ghost use Rattle.journal_defs.specs.Growth.{NonePast};
+ghost use Rattle.journal_defs.specs.Stands.{AreRecords, IsJournal};
+ghost use Rattle.journal_defs.specs.Sound.{NoEpochPast};
+ghost use Rattle.journal_defs.specs.Fit.{IsSoundImage};
+ghost use Rattle.site_files.specs.Loading.{MayBeOpened, AreRead, WasRead, IsUncut, HasDrawn, next_broken, drawn_records};
+
+use repl_disk::Disk;
+
+/// Files in which a site was read hold the records that were read. It does nothing.
+pub fn reading_gives_the_records()
+    ensures { (rs : List InstanceRecord) (last : ℕ → ℕ) (journal : ℕ → List Placed) (files : Files) → AreRead rs last journal files → AreRecords files (record { instance = rs; journal = journal }) }
+{}
+
+/// What was read of a disk stands in each of its images. It does nothing.
+pub fn images_have_what_was_read<D: Disk>(disk: &D)
+    ensures { (rs : List InstanceRecord) (last : ℕ → ℕ) (journal : ℕ → List Placed) (files : Files) → WasRead (D.disk disk.now) rs last journal files → (c : Files) → Image (D.disk disk.now) c → AreRead rs last journal c }
+{}
+
+/// Whatever a crash leaves of the drawing of the next generation, the files stand for the sequence from before. Once it is drawn no
+/// part and no epoch past the length counts, and the broken-transaction file has the text of the broken list.
+pub fn drawing_keeps_the_sequence()
+    ensures uncut { (a b : Files) (s : Records) (seq : Sequence) (last : ℕ → ℕ) (text : List ℕ) → IsSoundImage a s seq → MayBeOpened s.instance last
+        → AreRead s.instance last s.journal a → text ≡ broken_text (site_name s.instance) (length seq) (broken s (length seq))
+        → IsUncut s.instance text a b → IsSoundImage b s seq }
+    ensures drawn { (a b : Files) (s : Records) (seq : Sequence) (last : ℕ → ℕ) (text : List ℕ) (k : ℕ) → IsSoundImage a s seq
+        → MayBeOpened s.instance last → AreRead s.instance last s.journal a
+        → HasDrawn s.instance (length seq) text last k a b → IsSoundImage b (drawn_records s (length seq) last k) seq }
+    ensures text { (a b : Files) (s : Records) (seq : Sequence) (last : ℕ → ℕ) (text : List ℕ) (k : ℕ) → IsSoundImage a s seq
+        → MayBeOpened s.instance last → text ≡ broken_text (site_name s.instance) (length seq) (broken s (length seq))
+        → HasDrawn s.instance (length seq) text last k a b → b (next_broken s.instance) ≡ text }
+    ensures none_past { (a : Files) (s : Records) (seq : Sequence) (last : ℕ → ℕ) (k : ℕ) → IsSoundImage a s seq
+        → NonePast (length seq) (drawn_records s (length seq) last k) }
+    ensures no_epoch_past { (a : Files) (s : Records) (seq : Sequence) (last : ℕ → ℕ) (k r : ℕ) → IsSoundImage a s seq
+        → NoEpochPast (length seq) (drawn_records s (length seq) last k).instance ((drawn_records s (length seq) last k).journal r) }
+    // the journals of older generations stay
+    ensures uncut_older { (a b : Files) (s : Records) (last : ℕ → ℕ) (text : List ℕ) (r : ℕ) → MayBeOpened s.instance last → AreRead s.instance last s.journal a
+        → IsUncut s.instance text a b → r < length (regions s.instance) → IsJournal b r (generation s.instance) (last r) (s.journal r) }
+    ensures drawn_older { (a b : Files) (s : Records) (n : ℕ) (last : ℕ → ℕ) (text : List ℕ) (k r : ℕ) → MayBeOpened s.instance last
+        → AreRead s.instance last s.journal a → HasDrawn s.instance n text last k a b → r < length (regions s.instance)
+        → IsJournal b r (generation s.instance) (last r) (s.journal r) }
+{}

@@ -1,0 +1,24 @@
+//! The files of a site: its instance file, and a journal for each generation of each of its regions.
+//!
+//! Opening a site begins here: its files are synced and read, what they stand for is taken into memory, and the next generation is
+//! drawn and begun in each region, with the text of what was broken beside it. Whatever a crash leaves of that, the files stand for the
+//! same sequence.
+#![tactic(auto)]
+
+mod broken;
+mod drawing;
+mod error;
+mod finding;
+mod laws;
+mod mapping;
+mod reading;
+mod remembering;
+#[cfg(test)]
+mod tests;
+
+pub use drawing::{Drawn, draw};
+pub use error::FilesError;
+pub use finding::{created_name, generation_in, in_instance, read_instance, sync_instance};
+pub use laws::{drawing_keeps_the_sequence, images_have_what_was_read, reading_gives_the_records};
+pub use reading::{ReadSite, read_site};
+pub use remembering::{Remembered, remember_all};

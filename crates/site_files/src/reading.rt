@@ -1,0 +1,260 @@
+//! Reading the files of a site.
+ghost use Rattle.std.specs.Prelude.{◌≡◌, ◌⊎◌, ◌≤◌, ◌<◌, ◌++◌, ◌∷◌, [], ℕ, List, length, map, Some, None, IfSome, IfOk, OnOk, OnErr, IsErrOf};
+ghost use Rattle.disk_defs.specs.Disk.{Image, IsDurable, AtEachMoment, Rose};
+ghost use Rattle.disk_defs.specs.Gates.{records};
+ghost use Rattle.std.specs.List.{AllByRecursion};
+ghost use Rattle.instance_file.specs.Values.{record_value};
+ghost use Rattle.journal_defs.specs.Directory.{Pattern, patterns};
+ghost use Rattle.journal_defs.specs.Numbers.{INSTANCE, journal_file};
+ghost use Rattle.journal_defs.specs.Instance as defs;
+ghost use Rattle.journal_defs.specs.Instance.{generation};
+ghost use Rattle.journal_defs.specs.Sequence.{Placed};
+ghost use Rattle.journal_defs.specs.Stands.{IsInstance, IsJournal};
+ghost use Rattle.jnl_file.specs.Generations.{AreDurable};
+ghost use Rattle.jnl_record.specs.Values.{placed_value};
+ghost use Rattle.site_files.specs.Errors.{generations_error};
+ghost use Rattle.site_files.specs.Loading.{MayBeOpened, AreRead, WasRead, IsDirectory, last_of};
+ghost use Rattle.site_files.specs.Reading.{HaveJournals, AreAllDurable, AreUnbegun, AreUnbegunDurable};
+ghost use Rattle.mupip_recover.specs.Site.{journal_of};
+
+use crate::error::FilesError;
+use crate::finding::{generation_in, read_instance};
+use crate::mapping::directory_of;
+use global_dir::Directory;
+use gvn_key::NoMemory;
+use instance_file::{InstanceLog, InstanceRecord};
+use jnl_file::{Generations, GenerationsError, is_unbegun, journal_file, read_generations};
+use jnl_record::PlacedRecord;
+use repl_disk::Disk;
+use std::alloc::Global;
+
+/// No opening draws a generation past this one.
+const LAST_GENERATION: u32 = 65_534;
+
+/// What was read of a site.
+#[derive(Drop)]
+pub struct ReadSite {
+    /// Its instance file.
+    pub log: InstanceLog,
+    /// Which region each name belongs to.
+    pub directory: Directory,
+    /// Its journals by region, each over all generations.
+    pub journals: Vec<Vec<PlacedRecord>>,
+    /// The last generation that began in each region, or 0.
+    pub last_began: Vec<u32>,
+}
+
+/// An error of the journals, on a disk with this count of faults.
+fn in_journals(error: GenerationsError, fault: u64) -> FilesError
+    ensures { result ≡ generations_error fault error }
+{
+    match error {
+        GenerationsError::Failed => FilesError::Failed { fault },
+        GenerationsError::NotAFile { file, offset } => FilesError::NotAFile { file, offset },
+        GenerationsError::NoMemory => FilesError::NoMemory,
+    }
+}
+
+/// Syncs and reads a region's journals up to a generation.
+fn read_journals<D: Disk>(
+    alloc: Global,
+    disk: &mut D,
+    region: u8,
+    last: u32,
+) -> Result<Generations, FilesError>
+    requires region { region < 8 }
+    requires last { last ≤ 65535 }
+    ensures read { IfOk result (λ made. IfSome (D.disk disk.old).content (λ files. IsJournal files region last made.last_began (map placed_value made.records.items))) }
+    ensures began { IfOk result (λ made. made.last_began ≤ last) }
+    ensures durable { OnOk result (IfSome (D.disk disk.old).content (AreDurable (D.disk disk.new) region last)) }
+    ensures outside { (file offset : ℕ) → IsErrOf result (FilesError.NotAFile file offset) → IfSome (D.disk disk.old).content (λ files. (began : ℕ) (journal : List Placed) → IsJournal files region last began journal → ⊥) }
+    ensures content { (D.disk disk.new).content ≡ (D.disk disk.old).content }
+    ensures any_moment { AtEachMoment (D.disk disk.old) (D.disk disk.new) (Image (D.disk disk.old)) }
+    ensures simulated { (D.disk disk.new).simulated ≡ (D.disk disk.old).simulated }
+    ensures later { (D.disk disk.old).faults ≤ (D.disk disk.new).faults }
+    ensures count { (fault : ℕ) → IsErrOf result (FilesError.Failed fault) → fault ≡ (D.disk disk.new).faults }
+    ensures cause { (fault : ℕ) → IsErrOf result (FilesError.Failed fault) → Rose (D.disk disk.old).faults (D.disk disk.new).faults }
+    ensures causes { OnErr result (((fault : ℕ) × IsErrOf result (FilesError.Failed fault)) ⊎ ((file : ℕ) × (offset : ℕ) × IsErrOf result (FilesError.NotAFile file offset)) ⊎ IsErrOf result FilesError.NoMemory) }
+{
+    match read_generations(alloc, disk, region, last) {
+        Ok(made) => Ok(made),
+        Err(error) => Err(in_journals(error, disk.faults())),
+    }
+}
+
+/// Adds what was read of a region.
+fn add_read(
+    journals: &mut Vec<Vec<PlacedRecord>>,
+    last_began: &mut Vec<u32>,
+    read: Generations,
+) -> Result<(), NoMemory>
+    ensures journals { OnOk result (journals.new.items ≡ journals.old.items ++ read.records ∷ []) }
+    ensures last_began { OnOk result (last_began.new.items ≡ last_began.old.items ++ read.last_began ∷ []) }
+{
+    journals.push(read.records)?;
+    last_began.push(read.last_began)?;
+    Ok(())
+}
+
+/// What was read of regions.
+#[derive(Drop)]
+struct ReadRegions {
+    /// Their journals, each over its generations.
+    journals: Vec<Vec<PlacedRecord>>,
+    /// The last generation that began in each, or 0.
+    last_began: Vec<u32>,
+}
+
+/// Syncs and reads the journals of the first regions up to a generation.
+fn read_regions<D: Disk>(
+    alloc: Global,
+    disk: &mut D,
+    regions: u8,
+    last: u32,
+) -> Result<ReadRegions, FilesError>
+    requires regions { regions ≤ 8 }
+    requires last { last ≤ 65535 }
+    ensures read { IfOk result (λ made. IfSome (D.disk disk.old).content (HaveJournals regions last (last_of made.last_began.items) (journal_of (map (λ j. j.items) made.journals.items)))) }
+    ensures many { IfOk result (λ made. length made.journals.items ≡ regions) }
+    ensures began { IfOk result (λ made. (r : ℕ) → last_of made.last_began.items r ≤ last) }
+    ensures durable { OnOk result (IfSome (D.disk disk.old).content (AreAllDurable (D.disk disk.new) regions last)) }
+    ensures outside { (file offset : ℕ) → IsErrOf result (FilesError.NotAFile file offset) → IfSome (D.disk disk.old).content (λ files. (began : ℕ → ℕ) (journal : ℕ → List Placed) → HaveJournals regions last began journal files → ⊥) }
+    ensures content { (D.disk disk.new).content ≡ (D.disk disk.old).content }
+    ensures any_moment { AtEachMoment (D.disk disk.old) (D.disk disk.new) (Image (D.disk disk.old)) }
+    ensures simulated { (D.disk disk.new).simulated ≡ (D.disk disk.old).simulated }
+    ensures later { (D.disk disk.old).faults ≤ (D.disk disk.new).faults }
+    ensures count { (fault : ℕ) → IsErrOf result (FilesError.Failed fault) → fault ≡ (D.disk disk.new).faults }
+    ensures cause { (fault : ℕ) → IsErrOf result (FilesError.Failed fault) → Rose (D.disk disk.old).faults (D.disk disk.new).faults }
+    ensures causes { OnErr result (((fault : ℕ) × IsErrOf result (FilesError.Failed fault)) ⊎ ((file : ℕ) × (offset : ℕ) × IsErrOf result (FilesError.NotAFile file offset)) ⊎ IsErrOf result FilesError.NoMemory) }
+{
+    let mut journals = Vec::new(alloc);
+    let mut last_began = Vec::new(alloc);
+    for region in 0..regions {
+        let read = read_journals(alloc, disk, region, last)?;
+        add_read(&mut journals, &mut last_began, read)?;
+    }
+    Ok(ReadRegions {
+        journals,
+        last_began,
+    })
+}
+
+/// Syncs the journal of a generation that isn't drawn, and sees that it has no open record.
+fn see_unbegun<D: Disk>(
+    alloc: Global,
+    disk: &mut D,
+    region: u8,
+    generation: u32,
+) -> Result<(), FilesError>
+    requires region { region < 8 }
+    requires generation { generation ≤ 65535 }
+    ensures next { OnOk result (IfSome (D.disk disk.old).content (λ files. records (files (journal_file generation region)) ≡ Some [])) }
+    ensures durable { OnOk result (IfSome (D.disk disk.old).content (λ files. IsDurable (D.disk disk.new) (journal_file generation region) (files (journal_file generation region)))) }
+    ensures outside { (file offset : ℕ) → IsErrOf result (FilesError.NotAFile file offset) → IfSome (D.disk disk.old).content (λ files. records (files (journal_file generation region)) ≡ Some [] → ⊥) }
+    ensures content { (D.disk disk.new).content ≡ (D.disk disk.old).content }
+    ensures any_moment { AtEachMoment (D.disk disk.old) (D.disk disk.new) (Image (D.disk disk.old)) }
+    ensures simulated { (D.disk disk.new).simulated ≡ (D.disk disk.old).simulated }
+    ensures later { (D.disk disk.old).faults ≤ (D.disk disk.new).faults }
+    ensures count { (fault : ℕ) → IsErrOf result (FilesError.Failed fault) → fault ≡ (D.disk disk.new).faults }
+    ensures cause { (fault : ℕ) → IsErrOf result (FilesError.Failed fault) → Rose (D.disk disk.old).faults (D.disk disk.new).faults }
+    ensures causes { OnErr result (((fault : ℕ) × IsErrOf result (FilesError.Failed fault)) ⊎ ((file : ℕ) × (offset : ℕ) × IsErrOf result (FilesError.NotAFile file offset)) ⊎ IsErrOf result FilesError.NoMemory) }
+{
+    match is_unbegun(alloc, disk, region, generation) {
+        Ok(true) => Ok(()),
+        Ok(false) => Err(FilesError::NotAFile {
+            file: journal_file(region, generation),
+            offset: 0,
+        }),
+        Err(error) => Err(in_journals(error, disk.faults())),
+    }
+}
+
+/// Syncs the journals of the first regions and a generation that isn't drawn, and sees that they have no open record.
+fn see_regions<D: Disk>(
+    alloc: Global,
+    disk: &mut D,
+    regions: u8,
+    generation: u32,
+) -> Result<(), FilesError>
+    requires regions { regions ≤ 8 }
+    requires generation { generation ≤ 65535 }
+    ensures next { OnOk result (IfSome (D.disk disk.old).content (AreUnbegun regions generation)) }
+    ensures durable { OnOk result (IfSome (D.disk disk.old).content (AreUnbegunDurable (D.disk disk.new) regions generation)) }
+    ensures outside { (file offset : ℕ) → IsErrOf result (FilesError.NotAFile file offset) → IfSome (D.disk disk.old).content (λ files. AreUnbegun regions generation files → ⊥) }
+    ensures content { (D.disk disk.new).content ≡ (D.disk disk.old).content }
+    ensures any_moment { AtEachMoment (D.disk disk.old) (D.disk disk.new) (Image (D.disk disk.old)) }
+    ensures simulated { (D.disk disk.new).simulated ≡ (D.disk disk.old).simulated }
+    ensures later { (D.disk disk.old).faults ≤ (D.disk disk.new).faults }
+    ensures count { (fault : ℕ) → IsErrOf result (FilesError.Failed fault) → fault ≡ (D.disk disk.new).faults }
+    ensures cause { (fault : ℕ) → IsErrOf result (FilesError.Failed fault) → Rose (D.disk disk.old).faults (D.disk disk.new).faults }
+    ensures causes { OnErr result (((fault : ℕ) × IsErrOf result (FilesError.Failed fault)) ⊎ ((file : ℕ) × (offset : ℕ) × IsErrOf result (FilesError.NotAFile file offset)) ⊎ IsErrOf result FilesError.NoMemory) }
+{
+    for region in 0..regions {
+        see_unbegun(alloc, disk, region, generation)?;
+    }
+    Ok(())
+}
+
+/// What the records of an instance file say of a site before its journals are read.
+#[derive(Drop)]
+struct Plan {
+    directory: Directory,
+    /// How many regions there are.
+    regions: u8,
+    /// The newest generation that was drawn, or 0.
+    newest: u32,
+}
+
+/// The directory and the newest generation by these records, where a site may be opened by them.
+fn lay_out(alloc: Global, records: &[InstanceRecord]) -> Result<Plan, FilesError>
+    ensures directory { IfOk result (λ plan. IsDirectory (map record_value records.now) (Some plan.directory)) }
+    ensures mapped { IfOk result (λ plan. AllByRecursion (λ (p : Pattern). p.region < plan.directory.regions) (patterns (map record_value records.now))) }
+    ensures regions { IfOk result (λ plan. plan.regions ≡ plan.directory.regions) }
+    ensures few { IfOk result (λ plan. plan.regions ≤ 8) }
+    ensures newest { IfOk result (λ plan. plan.newest ≡ generation (map record_value records.now)) }
+    ensures low { IfOk result (λ plan. plan.newest < 65534) }
+    ensures limit { IsErrOf result FilesError.GenLimit → 65534 ≤ generation (map record_value records.now) }
+    ensures outside { (file offset : ℕ) → IsErrOf result (FilesError.NotAFile file offset) → IsDirectory (map record_value records.now) None }
+    ensures no_fault { (fault : ℕ) → IsErrOf result (FilesError.Failed fault) → ⊥ }
+{
+    let Some(directory) = directory_of(alloc, records)? else {
+        return Err(FilesError::NotAFile { file: 0, offset: 0 });
+    };
+    let newest = generation_in(records);
+    if newest >= LAST_GENERATION {
+        return Err(FilesError::GenLimit);
+    }
+    let regions = directory.regions();
+    Ok(Plan {
+        directory,
+        regions,
+        newest,
+    })
+}
+
+/// Syncs and reads the instance file and the journals of a site. It writes nothing.
+pub fn read_site<D: Disk>(alloc: Global, disk: &mut D) -> Result<ReadSite, FilesError>
+    ensures form { IfOk result (λ read. MayBeOpened read.log.records (last_of read.last_began.items)) }
+    ensures directory { IfOk result (λ read. IsDirectory read.log.records (Some read.directory)) }
+    ensures read { IfOk result (λ read. IfSome (D.disk disk.old).content (WasRead (D.disk disk.new) read.log.records (last_of read.last_began.items) (journal_of (map (λ j. j.items) read.journals.items)))) }
+    ensures limit { IsErrOf result FilesError.GenLimit → IfSome (D.disk disk.old).content (λ files. (rs : List defs.InstanceRecord) → IsInstance (files INSTANCE) rs → 65534 ≤ generation rs) }
+    ensures outside { (file offset : ℕ) → IsErrOf result (FilesError.NotAFile file offset) → IfSome (D.disk disk.old).content (λ files. (rs : List defs.InstanceRecord) (last : ℕ → ℕ) (journal : ℕ → List Placed) → MayBeOpened rs last → AreRead rs last journal files → ⊥) }
+    ensures content { (D.disk disk.new).content ≡ (D.disk disk.old).content }
+    ensures any_moment { AtEachMoment (D.disk disk.old) (D.disk disk.new) (Image (D.disk disk.old)) }
+    ensures simulated { (D.disk disk.new).simulated ≡ (D.disk disk.old).simulated }
+    ensures later { (D.disk disk.old).faults ≤ (D.disk disk.new).faults }
+    ensures count { (fault : ℕ) → IsErrOf result (FilesError.Failed fault) → fault ≡ (D.disk disk.new).faults }
+    ensures cause { (fault : ℕ) → IsErrOf result (FilesError.Failed fault) → Rose (D.disk disk.old).faults (D.disk disk.new).faults }
+    ensures causes { OnErr result (IsErrOf result FilesError.GenLimit ⊎ ((fault : ℕ) × IsErrOf result (FilesError.Failed fault)) ⊎ ((file : ℕ) × (offset : ℕ) × IsErrOf result (FilesError.NotAFile file offset)) ⊎ IsErrOf result FilesError.NoMemory) }
+{
+    let log = read_instance(alloc, disk)?;
+    let plan = lay_out(alloc, log.records.as_slice())?;
+    let read = read_regions(alloc, disk, plan.regions, plan.newest)?;
+    see_regions(alloc, disk, plan.regions, plan.newest + 1)?;
+    Ok(ReadSite {
+        log,
+        directory: plan.directory,
+        journals: read.journals,
+        last_began: read.last_began,
+    })
+}
