@@ -14,10 +14,10 @@ use std::alloc::Global;
 use std::test::Fail;
 
 /// A name for each region, region 0 by no pattern.
-static NAMES: [&[u8]; 8] = [b"X", b"A1", b"B2", b"C3", b"D4", b"E5", b"F6", b"G7"];
+static NAMES: [&[u8]; 8] = [b"X", b"AB", b"BC", b"CD", b"DE", b"EF", b"FG", b"GH"];
 
 /// The patterns of regions 1 to 7.
-static PATTERNS: [&[u8]; 7] = [b"A*", b"B*", b"C*", b"D*", b"E*", b"F*", b"G7"];
+static PATTERNS: [&[u8]; 7] = [b"A*", b"B*", b"C*", b"D*", b"E*", b"F*", b"GH"];
 
 fn update(alloc: Global, kind: usize, name: &[u8]) -> Result<Update, Fail>
     ensures { IfOk result (λ u. IsUpdate (update_value u)) }
