@@ -3,7 +3,10 @@ pub mod UpdateWords
 pub mod LineEnds
 pub mod Joined
 pub mod NumberForms
+pub mod Patterns
+pub mod Regions
 pub mod Orders
+pub mod RegionForms
 pub mod LineLaws
 pub mod SectionLaws
 pub mod IgnoredLaws

@@ -12,7 +12,7 @@ use Rattle.command_defs.specs.Parts.{trimmed}
 use Rattle.command_defs.specs.Forms.{command_by, run_reading}
 use Rattle.command_defs.specs.Sections.{begun}
 use Rattle.command_defs.specs.Script.{Position, Outside, Within, Reading, Skips, Wrong, Goes, Ends, ending, beginning, reading_at, text_reading, line_reading, LONGEST_LINE}
-use Rattle.command_defs.specs.Spelling.{IsEnded, Joins, IsOrder, create, attach, start, stop, fuse, crash, extract, extract_from, zwrite, zwrite_from, show, IsLineOf, SpellsCommand, BeginsSection}
+use Rattle.command_defs.specs.Spelling.{IsEnded, Joins, IsOrder, create, attach, map_to, start, stop, fuse, crash, extract, extract_from, zwrite, zwrite_from, show, print, IsLineOf, SpellsCommand, BeginsSection}
 use Rattle.command_defs.proofs.LineEnds.{trimmed_found, trimmed_only, trimmed_tight}
 use Rattle.command_defs.proofs.Joined.{IsTight, IsFronted, tight_drop, tight_without, fronted_without, front_spaces, spaces_gone, joins, joins_fronted, begins}
 use Rattle.command_defs.proofs.Orders.{behind, chosen, command_found, run_found, order_read, run_read}
@@ -137,8 +137,9 @@ record Headed (parts : List (List ℕ)) : Type 0 where
   not_run : bytes_eq (b ∷ bs) (codes "RUN") ≡ false
 
 order_headed : {parts : List (List ℕ)} {c : Command} → IsOrder parts c → Headed parts
-order_headed (create site region g h) = record { b = 67; bs = codes "REATE"; rest = site ∷ region ∷ []; is = refl; other = λ e. omega arith; not_run = refl }
+order_headed (create site names g r) = record { b = 67; bs = codes "REATE"; rest = site ∷ names; is = refl; other = λ e. omega arith; not_run = refl }
 order_headed attach = record { b = 65; bs = codes "TTACH"; rest = []; is = refl; other = λ e. omega arith; not_run = refl }
+order_headed (map_to site region pattern g h p) = record { b = 77; bs = codes "AP"; rest = _; is = refl; other = λ e. omega arith; not_run = refl }
 order_headed (start site g) = record { b = 83; bs = codes "TART"; rest = site ∷ codes "PRIMARY" ∷ []; is = refl; other = λ e. omega arith; not_run = refl }
 order_headed (stop site g) = record { b = 83; bs = codes "TOP"; rest = site ∷ []; is = refl; other = λ e. omega arith; not_run = refl }
 order_headed (fuse site n g h) = record { b = 70; bs = codes "USE"; rest = _; is = refl; other = λ e. omega arith; not_run = refl }
@@ -148,6 +149,7 @@ order_headed (extract_from site n g low high) = record { b = 69; bs = codes "XTR
 order_headed (zwrite site g) = record { b = 90; bs = codes "WRITE"; rest = _; is = refl; other = λ e. omega arith; not_run = refl }
 order_headed (zwrite_from site node key g h) = record { b = 90; bs = codes "WRITE"; rest = _; is = refl; other = λ e. omega arith; not_run = refl }
 order_headed (show site g) = record { b = 83; bs = codes "HOW"; rest = site ∷ []; is = refl; other = λ e. omega arith; not_run = refl }
+order_headed (print site n g low high) = record { b = 84; bs = codes "YPE"; rest = _; is = refl; other = λ e. omega arith; not_run = refl }
 
 pub command_read : (line : List ℕ) (c : Command) → SpellsCommand line c → line_reading Outside line ≡ Ends c
 command_read line c s =

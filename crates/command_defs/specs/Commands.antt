@@ -16,6 +16,8 @@ pub data Command : Type 0 where
   Create : Name → List Region → Command
   -- takes the site that stands on the next disk
   Attach : Command
+  -- the names that match the pattern go to that region; a pattern is a global's name, or one and a star
+  Map : Name → (region : Name) → (pattern : List ℕ) → Command
   StartPrimary : Name → Command
   -- the jobs of each updater, updater u at place u - 1, and the updaters in the order of their jobs' first lines
   Run : Name → List (List Job) → (order : List ℕ) → Command
@@ -30,6 +32,8 @@ pub data Command : Type 0 where
   Zwrite : Name → (top : Option Key) → Command
   -- the site's state, and its reigns where it is open
   Show : Name → Command
+  -- the broken-transaction file of that generation (GT.M: MUPIP JOURNAL -ROLLBACK writes broken transactions to a file)
+  Print : Name → (generation : ℕ) → Command
 
 abbrev pub with_images : Name → Region
 with_images name = record { name = name; before = true }

@@ -1,12 +1,13 @@
 -- A section: updaters' jobs between RUN and END, a statement or a word of a transaction a line.
-use Rattle.std.specs.Prelude.{◌≡◌, ◌≤◌, ◌<◌, ℕ, ◌+◌, ◌-◌, ◌&&◌, ◌||◌, ◌==◌, Bool, true, false, List, [], ◌∷◌, ◌++◌, length, replicate, nat_le, get_or, set, count_by, Some, None, codes, fold, if◌then◌else◌}
-use Rattle.std.specs.List.{list_all, AllByRecursion}
+use Rattle.std.specs.Prelude.{◌≡◌, ◌≤◌, ◌<◌, ℕ, ◌+◌, ◌-◌, ◌&&◌, ◌||◌, ◌==◌, Bool, true, false, List, [], ◌∷◌, ◌++◌, length, map, replicate, nat_le, get_or, set, count_by, Some, None, codes, fold, if◌then◌else◌}
+use Rattle.std.specs.List.{list_all, AllByRecursion, IsDistinct}
 use Rattle.std.specs.Str.{bytes_eq}
 use Rattle.global_defs.specs.Jobs.{Statement, Set, Kill, ZKill, Incr, Job}
 use Rattle.global_defs.specs.Serial.{without_next}
-use Rattle.command_defs.specs.Commands.{Name, Command, Create, Attach, StartPrimary, Run, Stop, Fuse, Crash, Extract, Zwrite, Show}
+use Rattle.command_defs.specs.Commands.{Name, Command, Create, Attach, Map, StartPrimary, Run, Stop, Fuse, Crash, Extract, Zwrite, Show, Print}
 use Rattle.command_defs.specs.Parts.{is_name}
-use Rattle.command_defs.specs.Forms.{MOST_CALLS, MOST_PICK, MOST_NUMBER}
+use Rattle.command_defs.specs.Patterns.{is_pattern}
+use Rattle.command_defs.specs.Forms.{MOST_REGIONS, MOST_CALLS, MOST_PICK, MOST_NUMBER, MOST_GENERATION}
 
 abbrev pub UPDATERS : ℕ
 UPDATERS = 64
@@ -104,10 +105,11 @@ pub record IsSound (s : Section) : Type 0 where
 
 -- What a command of a script has.
 
--- names of their form, numbers within their limits, and jobs of 64 updaters
+-- names and patterns of their form, one to eight regions of different names, numbers within their limits, and jobs of 64 updaters
 abbrev pub IsFormed : Command → Type 0
-IsFormed (Create name regions) = (is_name name ≡ true) × (list_all (λ r. is_name r.name) regions ≡ true) × (length regions ≡ 1)
+IsFormed (Create name regions) = (is_name name ≡ true) × (list_all (λ r. is_name r.name) regions ≡ true) × (1 ≤ length regions) × (length regions ≤ MOST_REGIONS) × IsDistinct bytes_eq (map (λ r. r.name) regions)
 IsFormed Attach = Unit {0}
+IsFormed (Map name region pattern) = (is_name name ≡ true) × (is_name region ≡ true) × (is_pattern pattern ≡ true)
 IsFormed (StartPrimary name) = is_name name ≡ true
 IsFormed (Run name jobs order) = (is_name name ≡ true) × (length jobs ≡ UPDATERS) × (list_all is_updater order ≡ true) × (list_all (λ own. list_all is_of_size own) jobs ≡ true)
 IsFormed (Stop name) = is_name name ≡ true
@@ -117,6 +119,7 @@ IsFormed (Extract name None) = is_name name ≡ true
 IsFormed (Extract name (Some n)) = (is_name name ≡ true) × (1 ≤ n) × (n ≤ MOST_NUMBER)
 IsFormed (Zwrite name top) = is_name name ≡ true
 IsFormed (Show name) = is_name name ≡ true
+IsFormed (Print name generation) = (is_name name ≡ true) × (1 ≤ generation) × (generation ≤ MOST_GENERATION)
 
 -- taking each updater's next job in this order leaves no updater a job
 abbrev pub UsesUp : List (List Job) → List ℕ → Type 0
@@ -125,6 +128,7 @@ UsesUp jobs order = AllByRecursion (λ own. own ≡ []) (fold (λ left u. withou
 abbrev pub IsWhole : Command → Type 0
 IsWhole (Create name regions) = Unit {0}
 IsWhole Attach = Unit {0}
+IsWhole (Map name region pattern) = Unit {0}
 IsWhole (StartPrimary name) = Unit {0}
 IsWhole (Run name jobs order) = UsesUp jobs order
 IsWhole (Stop name) = Unit {0}
@@ -133,3 +137,4 @@ IsWhole (Crash name pick) = Unit {0}
 IsWhole (Extract name from) = Unit {0}
 IsWhole (Zwrite name top) = Unit {0}
 IsWhole (Show name) = Unit {0}
+IsWhole (Print name generation) = Unit {0}

@@ -1,9 +1,9 @@
 // Worked lines.
-ghost use Rattle.std.specs.Prelude.{◌≡◌, ◌∷◌, ◌++◌, [], codes, Some, None, true, false, replicate, pos};
+ghost use Rattle.std.specs.Prelude.{◌≡◌, ◌∷◌, ◌++◌, [], codes, Some, None, true, false, map, replicate, pos};
 ghost use Rattle.global_defs.specs.Key.{sub_of};
 ghost use Rattle.global_defs.specs.Jobs as jobs;
 ghost use Rattle.command_defs.specs.Lines.{lines_of};
-ghost use Rattle.command_defs.specs.Commands.{Create, Attach, StartPrimary, Run, Stop, Fuse, Crash, Extract, Zwrite, Show, with_images};
+ghost use Rattle.command_defs.specs.Commands.{Create, Attach, Map, StartPrimary, Run, Stop, Fuse, Crash, Extract, Zwrite, Show, Print, with_images};
 ghost use Rattle.command_defs.specs.Parts.{trimmed};
 ghost use Rattle.command_defs.specs.Sections.{begun, with_job, transaction_begun, transaction_ended, is_full_job};
 ghost use Rattle.command_defs.specs.Script.{Outside, Within, Skips, Wrong, Goes, Ends, line_reading, lines_reading};
@@ -22,13 +22,23 @@ pub fn lines_hold()
 {}
 
 /// Commands of one line, and the first bad part of lines that are none.
-#[tactic(auto, unfolding(gvn_key::specs::KeyText::subs_at))]
+#[tactic(auto, unfolding(gvn_key::specs::KeyText::subs_at, crate::specs::Forms::regions_behind))]
 pub fn commands_hold()
     ensures create { line_reading Outside (codes "CREATE A R") ≡ Ends (Create (codes "A") (with_images (codes "R") ∷ [])) }
-    ensures region { line_reading Outside (codes "CREATE A R Q") ≡ Wrong 12 }
+    ensures regions { line_reading Outside (codes "CREATE A R Q") ≡ Ends (Create (codes "A") (with_images (codes "R") ∷ with_images (codes "Q") ∷ [])) }
+    ensures eight { line_reading Outside (codes "CREATE A R1 R2 R3 R4 R5 R6 R7 R8 ") ≡ Ends (Create (codes "A") (map with_images (codes "R1" ∷ codes "R2" ∷ codes "R3" ∷ codes "R4" ∷ codes "R5" ∷ codes "R6" ∷ codes "R7" ∷ codes "R8" ∷ []))) }
+    ensures ninth { line_reading Outside (codes "CREATE A R1 R2 R3 R4 R5 R6 R7 R8 R9") ≡ Wrong 34 }
+    ensures twice { line_reading Outside (codes "CREATE A R R") ≡ Wrong 12 }
+    ensures no_region { line_reading Outside (codes "CREATE A  ") ≡ Wrong 9 }
     ensures mode { line_reading Outside (codes "CREATE A R:NOBEFORE") ≡ Wrong 10 }
     ensures attach { line_reading Outside (codes "ATTACH ") ≡ Ends Attach }
     ensures attach_more { line_reading Outside (codes "ATTACH  X") ≡ Wrong 9 }
+    ensures prefix { line_reading Outside (codes "MAP A HIST H*") ≡ Ends (Map (codes "A") (codes "HIST") (codes "H*")) }
+    ensures percent { line_reading Outside (codes "MAP A HIST %") ≡ Ends (Map (codes "A") (codes "HIST") (codes "%")) }
+    ensures two_stars { line_reading Outside (codes "MAP A HIST H**") ≡ Wrong 12 }
+    ensures no_pattern { line_reading Outside (codes "MAP A HIST") ≡ Wrong 11 }
+    ensures global { line_reading Outside (codes "MAP A R ABCDEFGHIJKLMNOPQRSTUVWXYZABCDE*") ≡ Ends (Map (codes "A") (codes "R") (codes "ABCDEFGHIJKLMNOPQRSTUVWXYZABCDE*")) }
+    ensures long_global { line_reading Outside (codes "MAP A R ABCDEFGHIJKLMNOPQRSTUVWXYZABCDEF") ≡ Wrong 9 }
     ensures show { line_reading Outside (codes "SHOW A") ≡ Ends (Show (codes "A")) }
     ensures unnamed { line_reading Outside (codes "SHOW") ≡ Wrong 5 }
     ensures two { line_reading Outside (codes "SHOW A B") ≡ Wrong 8 }
@@ -40,6 +50,12 @@ pub fn commands_hold()
     ensures word { line_reading Outside (codes "RUNN A") ≡ Wrong 1 }
     ensures missing { line_reading Outside (codes "STOP  ") ≡ Wrong 5 }
     ensures more { line_reading Outside (codes "STOP A\r\r") ≡ Wrong 6 }
+    ensures broken { line_reading Outside (codes "TYPE A BROKEN 2") ≡ Ends (Print (codes "A") 2) }
+    ensures generation { line_reading Outside (codes "TYPE A BROKEN 65535") ≡ Ends (Print (codes "A") 65535) }
+    ensures no_generation { line_reading Outside (codes "TYPE A BROKEN 0") ≡ Wrong 15 }
+    ensures above_generation { line_reading Outside (codes "TYPE A BROKEN 65536") ≡ Wrong 15 }
+    ensures file { line_reading Outside (codes "TYPE A LOST 1") ≡ Wrong 8 }
+    ensures no_file { line_reading Outside (codes "TYPE A") ≡ Wrong 7 }
     ensures fuse { line_reading Outside (codes "FUSE A 1000000") ≡ Ends (Fuse (codes "A") 1000000) }
     ensures calls { line_reading Outside (codes "FUSE A 1000001") ≡ Wrong 8 }
     ensures zero { line_reading Outside (codes "CRASH A 0") ≡ Ends (Crash (codes "A") 0) }

@@ -14,4 +14,6 @@ mod openings;
 #[cfg(test)]
 mod ran;
 #[cfg(test)]
+mod regions;
+#[cfg(test)]
 mod sites;

@@ -7,3 +7,4 @@ pub mod Beyond
 pub mod Subtree
 pub mod Overlays
 pub mod Sought
+pub mod AllOrNone

@@ -20,7 +20,7 @@ use Rattle.gvn_globals.proofs.Under.{names_tie, under_not_before, under_between,
 abbrev pub is_listed : List Key → Key → Bool
 is_listed ks k = list_any (eq_by_cmp key_cmp k) ks
 
-any_push : (p : Key → Bool) (ks : List Key) (k : Key) → list_any p (ks ++ k ∷ []) ≡ (list_any p ks || p k)
+pub any_push : (p : Key → Bool) (ks : List Key) (k : Key) → list_any p (ks ++ k ∷ []) ≡ (list_any p ks || p k)
 any_push p [] k = by (p k)
   where
     by : (b : Bool) → (b || false) ≡ b

@@ -25,3 +25,6 @@ key_code = code_by (List ℕ × List Sub) (coded× (coded_list coded_ℕ) (coded
 
 abbrev pub globals_code : Coded Globals
 globals_code = globals.code key_code (coded_list coded_ℕ)
+
+abbrev pub node_code : Coded (Key × List ℕ)
+node_code = coded× key_code (coded_list coded_ℕ)

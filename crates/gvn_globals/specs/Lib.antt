@@ -3,3 +3,4 @@ pub mod Walks
 pub mod Nodes
 pub mod Overlaid
 pub mod Lists
+pub mod Together

@@ -15,6 +15,8 @@ ghost use Rattle.gvn_key.specs.Terms.{update_value};
 ghost use Rattle.gvn_key.specs.Faults.{child_of};
 ghost use Rattle.gvn_globals.specs.Walks.{after, tested, is_behind, sub_under};
 ghost use Rattle.gvn_globals.specs.Nodes.{node_key, entries_of};
+ghost use Rattle.gvn_globals.specs.Overlaid.{with_all};
+ghost use Rattle.gvn_globals.specs.Together.{AreNew, IsMore, IsLess, AreHeld};
 ghost use Rattle.gvn_globals.specs.Lists.{listed_value};
 
 use super::lookup::{Lookup, Walk, subtree};
@@ -123,6 +125,43 @@ fn only_under<'a>(
     Ok(list)
 }
 
+/// A node that goes into a tree in which its key stands, without memory.
+#[derive(Drop)]
+pub(crate) struct Ready {
+    code: Bytes,
+    node: Node,
+}
+
+impl Model for Ready {
+    ghost use Rattle.std.specs.Prelude.{IsTrue, ℕ, List};
+    ghost use Rattle.global_defs.specs.Key as defs;
+    ghost use Rattle.gvn_globals.specs.Codes.{node_code};
+    ghost use Rattle.gvn_globals.specs.Nodes.{is_coded};
+
+    ghost Value = { defs.Key × List ℕ };
+
+    ghost coded = { node_code };
+
+    ghost view = { λ r. (r.node.key, r.node.value) };
+
+    ghost invariant = { λ r. IsTrue (is_coded (r.code, r.node)) };
+}
+
+impl Ready {
+    /// A copy of this node.
+    fn of(alloc: Global, node: &Listed<'_>) -> Result<Self, NoMemory>
+        ensures { IfOk result (λ ready. ready ≡ listed_value node.now) }
+    {
+        let key = node.key.copy()?;
+        let value = Bytes::of(alloc, node.value)?;
+        let code = key.code().copy()?;
+        Ok(Ready {
+            code,
+            node: Node { key, value },
+        })
+    }
+}
+
 impl Globals {
     /// No nodes. It takes no memory yet.
     pub fn new(alloc: Global) -> Self
@@ -202,6 +241,86 @@ impl Globals {
         ensures { IfOk result (λ made. map listed_value made.items ≡ filter (λ e. is_under top.now e.0) (globals.entries self.now)) }
     {
         only_under(alloc, &self.list(alloc)?, top)
+    }
+
+    /// Copies of all nodes.
+    pub(crate) fn ready(&self, alloc: Global) -> Result<Vec<Ready>, NoMemory>
+        ensures { IfOk result (λ made. made.items ≡ globals.entries self.now) }
+    {
+        let mut all = Vec::new(alloc);
+        let list = self.list(alloc)?;
+        for node in &list {
+            all.push(Ready::of(alloc, node)?)?;
+        }
+        Ok(all)
+    }
+
+    /// The keys of those nodes that the other globals don't have.
+    pub(crate) fn beyond(&self, alloc: Global, other: &Globals) -> Result<Vec<Key>, NoMemory>
+        ensures { IfOk result (λ keys. keys.items ≡ filter (λ k. not (globals.contains_key other.now k)) (globals.keys self.now)) }
+    {
+        let mut keys = Vec::new(alloc);
+        let list = self.list(alloc)?;
+        for node in &list {
+            if other.get(node.key).is_none() {
+                keys.push(node.key.copy()?)?;
+            }
+        }
+        Ok(keys)
+    }
+
+    /// Takes the own values of these nodes away.
+    pub(crate) fn remove_all(&mut self, keys: &[Key])
+        ensures { IsLess self.old keys.now self.new }
+    {
+        for key in keys {
+            self.remove(key);
+        }
+    }
+
+    /// Gives the node an empty value.
+    fn add(&mut self, alloc: Global, key: &Key) -> Result<(), NoMemory>
+        ensures ok { OnOk result (self.new ≡ globals.insert self.old key.now []) }
+        ensures err { OnErr result (self.new ≡ self.old) }
+    {
+        self.set(key.copy()?, Bytes::new(alloc))
+    }
+
+    /// Gives these nodes, which have no values, empty ones.
+    pub(crate) fn add_all(&mut self, alloc: Global, keys: &[Key]) -> Result<(), NoMemory>
+        requires { AreNew self.old keys.now }
+        ensures ok { OnOk result (IsMore self.old keys.now self.new) }
+        ensures err { OnErr result (self.new ≡ self.old) }
+    {
+        for key in keys {
+            if let Err(refused) = self.add(alloc, key) {
+                self.remove_all(keys);
+                return Err(refused);
+            }
+        }
+        Ok(())
+    }
+
+    /// Gives a node that has a value another one. It takes no memory.
+    fn put(&mut self, ready: Ready)
+        requires { globals.contains_key self.old ready.0 ≡ true }
+        ensures { self.new ≡ globals.insert self.old ready.0 ready.1 }
+    {
+        // Only a new key takes memory.
+        match self.nodes.insert(ready.code, ready.node) {
+            Ok(_) => {}
+            Err(_) => {}
+        }
+    }
+
+    /// Gives nodes that have values others. It takes no memory.
+    pub(crate) fn put_all(&mut self, mut all: Vec<Ready>)
+        requires { AreHeld self.old all.items }
+        ensures { self.new ≡ with_all self.old all.items }
+    {
+        while let Some(ready) = all.pop() {
+            self.put(ready);
+        }
     }
 
     /// How many nodes have values.

@@ -4,6 +4,7 @@
 mod globals;
 mod lookup;
 mod overlay;
+mod together;
 
 pub use globals::{Globals, Listed};
 pub use lookup::Lookup;

@@ -10,6 +10,7 @@ region_value r = record { name = r.0; before = r.1 }
 abbrev pub command_value : Command → defs.Command
 command_value (commands.Create site regions) = defs.Create site (map region_value regions)
 command_value commands.Attach = defs.Attach
+command_value (commands.Map site region pattern) = defs.Map site region pattern
 command_value (commands.StartPrimary site) = defs.StartPrimary site
 command_value (commands.Run site jobs order) = defs.Run site jobs order
 command_value (commands.Stop site) = defs.Stop site
@@ -18,3 +19,4 @@ command_value (commands.Crash site pick) = defs.Crash site pick
 command_value (commands.Extract site number) = defs.Extract site number
 command_value (commands.Zwrite site top) = defs.Zwrite site top
 command_value (commands.Show site) = defs.Show site
+command_value (commands.Print site generation) = defs.Print site generation

@@ -6,13 +6,21 @@ use gvn_model::{Jobs, NamedModes};
 /// digits, at most 15 characters.
 #[derive(Debug, Drop)]
 pub enum Command {
-    /// Makes a site with these regions. Each is journaled with images of its blocks before they change, or not.
+    /// Makes a site with these regions, one to eight of different names. Each is journaled with images of its blocks before
+    /// they change, or not.
     Create {
         site: Bytes,
         regions: NamedModes,
     },
     /// Takes the site that stands on the next disk.
     Attach,
+    /// Has the names that match a pattern go to that region. A pattern is a global's name, at most 31 characters, or one and a
+    /// star.
+    Map {
+        site: Bytes,
+        region: Bytes,
+        pattern: Bytes,
+    },
     /// Opens a site as a primary and begins a reign.
     StartPrimary {
         site: Bytes,
@@ -51,5 +59,10 @@ pub enum Command {
     /// Shows a site's state.
     Show {
         site: Bytes,
+    },
+    /// Shows the file of broken transactions of that generation, from 1 to 65,535.
+    Print {
+        site: Bytes,
+        generation: u32,
     },
 }

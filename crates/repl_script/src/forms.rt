@@ -6,9 +6,13 @@ ghost use Rattle.std.specs.Char.{is_ascii_alphanumeric, is_ascii_digit};
 ghost use Rattle.std.specs.Str.Parse.{digits_value};
 ghost use Rattle.global_defs.specs.Numeral.{is_whole};
 ghost use Rattle.command_defs.specs.Parts.{is_lettered, is_name, is_digits, number_form};
+ghost use Rattle.command_defs.specs.Patterns.{is_global_name, is_pattern};
 
 /// How many characters a name may have.
 const LONGEST_NAME: usize = 15;
+
+/// How many characters a global's name may have.
+const LONGEST_GLOBAL: usize = 31;
 
 fn all_alphanumeric(bytes: &[u8]) -> bool
     ensures { result ≡ list_all is_ascii_alphanumeric bytes.now }
@@ -31,6 +35,30 @@ pub fn is_name(bytes: &[u8]) -> bool
     ensures { result ≡ is_name bytes.now }
 {
     is_lettered(bytes) && bytes.len() <= LONGEST_NAME
+}
+
+/// Whether these bytes are the name of a global: a percent sign or a letter, and then letters and digits.
+fn is_global_name(bytes: &[u8]) -> bool
+    ensures { result ≡ is_global_name bytes.now }
+{
+    match bytes {
+        [] => false,
+        [first, rest @ ..] => {
+            (*first == b'%' || first.is_ascii_alphabetic())
+                && all_alphanumeric(rest)
+                && bytes.len() <= LONGEST_GLOBAL
+        }
+    }
+}
+
+/// Whether these bytes are a pattern: a global's name, or one and a star.
+pub fn is_pattern(bytes: &[u8]) -> bool
+    ensures { result ≡ is_pattern bytes.now }
+{
+    match bytes {
+        [name @ .., b'*'] => is_global_name(name),
+        name => is_global_name(name),
+    }
 }
 
 fn all_digits(bytes: &[u8]) -> bool

@@ -1,17 +1,16 @@
 // Lines between commands.
-ghost use Rattle.std.specs.Prelude.{◌≡◌, ◌∷◌, [], true, IfOk, map};
-ghost use Rattle.command_defs.specs.Commands.{with_images};
+ghost use Rattle.std.specs.Prelude.{◌≡◌, true, IfOk};
 ghost use Rattle.command_defs.specs.Parts.{is_name};
 ghost use Rattle.command_defs.specs.Sections.{IsFormed, IsWhole};
-ghost use Rattle.command_defs.specs.Forms.{create_reading, attach_reading, start_reading, stop_reading, fuse_reading, crash_reading, extract_reading, zwrite_reading, show_reading, command_by, run_reading};
-ghost use Rattle.repl_script.specs.Commands.{command_value, region_value};
+ghost use Rattle.command_defs.specs.Forms.{create_reading, attach_reading, map_reading, start_reading, stop_reading, fuse_reading, crash_reading, extract_reading, zwrite_reading, show_reading, type_reading, command_by, run_reading};
+ghost use Rattle.repl_script.specs.Commands.{command_value};
 ghost use Rattle.repl_script.specs.Reads.{Reads};
 
 use super::command::Command;
 use super::fault::{Fault, bad};
-use super::parts::{ended, name, node, number, word};
-use gvn_key::{Bytes, NoMemory};
-use gvn_model::NamedModes;
+use super::parts::{ended, name, node, number, pattern, word};
+use super::regions::read_regions;
+use gvn_key::Bytes;
 use std::alloc::Global;
 
 /// The greatest number of calls that FUSE takes.
@@ -23,23 +22,15 @@ const MOST_PICK: u64 = 4_294_967_295;
 /// The greatest number that EXTRACT takes.
 const MOST_NUMBER: u64 = 1_099_511_627_776;
 
-/// One region, whose journal has before-images.
-fn one_region(alloc: Global, region: &[u8]) -> Result<NamedModes, NoMemory>
-    ensures { IfOk result (λ regions. map region_value regions ≡ with_images region.now ∷ []) }
-{
-    let mut regions = NamedModes::new(alloc);
-    regions.push((Bytes::of(alloc, region)?, true))?;
-    Ok(regions)
-}
+/// The greatest generation that TYPE takes.
+const MOST_GENERATION: u64 = 65_535;
 
 fn read_create(alloc: Global, len: u16, left: &[u8]) -> Result<Command, Fault>
     ensures reading { Reads command_value (create_reading len left.now) result }
     ensures formed { IfOk result (λ command. IsFormed (command_value command) × IsWhole (command_value command)) }
 {
     let site = name(len, left)?;
-    let region = name(len, site.behind)?;
-    ended(len, region.behind)?;
-    let regions = one_region(alloc, region.part)?;
+    let regions = read_regions(alloc, len, site.behind)?;
     let site = Bytes::of(alloc, site.part)?;
     Ok(Command::Create { site, regions })
 }
@@ -50,6 +41,24 @@ fn read_attach(len: u16, left: &[u8]) -> Result<Command, Fault>
 {
     ended(len, left)?;
     Ok(Command::Attach)
+}
+
+fn read_map(alloc: Global, len: u16, left: &[u8]) -> Result<Command, Fault>
+    ensures reading { Reads command_value (map_reading len left.now) result }
+    ensures formed { IfOk result (λ command. IsFormed (command_value command) × IsWhole (command_value command)) }
+{
+    let site = name(len, left)?;
+    let region = name(len, site.behind)?;
+    let pattern = pattern(len, region.behind)?;
+    ended(len, pattern.behind)?;
+    let site = Bytes::of(alloc, site.part)?;
+    let region = Bytes::of(alloc, region.part)?;
+    let pattern = Bytes::of(alloc, pattern.part)?;
+    Ok(Command::Map {
+        site,
+        region,
+        pattern,
+    })
 }
 
 fn read_start(alloc: Global, len: u16, left: &[u8]) -> Result<Command, Fault>
@@ -141,6 +150,19 @@ fn read_show(alloc: Global, len: u16, left: &[u8]) -> Result<Command, Fault>
     Ok(Command::Show { site })
 }
 
+fn read_type(alloc: Global, len: u16, left: &[u8]) -> Result<Command, Fault>
+    ensures reading { Reads command_value (type_reading len left.now) result }
+    ensures formed { IfOk result (λ command. IsFormed (command_value command) × IsWhole (command_value command)) }
+{
+    let site = name(len, left)?;
+    let file = word(b"BROKEN", len, site.behind)?;
+    let (generation, behind) = number(1, MOST_GENERATION, len, file.behind)?;
+    ended(len, behind)?;
+    let site = Bytes::of(alloc, site.part)?;
+    let generation = generation as u32;
+    Ok(Command::Print { site, generation })
+}
+
 /// The command of a line between commands, by its first word. `behind` is what stands behind the word and the spaces.
 pub fn read_command(
     alloc: Global,
@@ -157,6 +179,9 @@ pub fn read_command(
     }
     if word == b"ATTACH".as_slice() {
         return read_attach(len, behind);
+    }
+    if word == b"MAP".as_slice() {
+        return read_map(alloc, len, behind);
     }
     if word == b"START".as_slice() {
         return read_start(alloc, len, behind);
@@ -178,6 +203,9 @@ pub fn read_command(
     }
     if word == b"SHOW".as_slice() {
         return read_show(alloc, len, behind);
+    }
+    if word == b"TYPE".as_slice() {
+        return read_type(alloc, len, behind);
     }
     Err(bad(len, left))
 }

@@ -1,11 +1,12 @@
 // The parts of a line, from the front.
 ghost use Rattle.std.specs.Prelude.{◌≡◌, ◌≤◌, true, length, take, drop, IfOk};
 ghost use Rattle.script_defs.specs.Parts.{word_end, without_spaces};
-ghost use Rattle.command_defs.specs.Parts.{before_spaces, before_return, trimmed, taken, ended, word_form, is_name, name_form, number_form, node_form};
+ghost use Rattle.command_defs.specs.Parts.{before_spaces, before_return, trimmed, taken, ended, word_form, is_name, name_form, pattern_form, number_form, node_form};
+ghost use Rattle.command_defs.specs.Patterns.{is_pattern};
 ghost use Rattle.repl_script.specs.Reads.{Reads};
 
 use super::fault::{Fault, bad};
-use super::forms::{is_name, number_of};
+use super::forms::{is_name, is_pattern, number_of};
 use gvn_key::{Key, KeyError, NoMemory};
 use std::alloc::Global;
 
@@ -98,6 +99,18 @@ pub fn name(len: u16, left: &[u8]) -> Result<Cut<'_>, Fault>
 {
     let cut = cut_part(left);
     if left.is_empty() || !is_name(cut.part) {
+        return Err(bad(len, left));
+    }
+    Ok(cut)
+}
+
+/// A global's name, or one and a star.
+pub fn pattern(len: u16, left: &[u8]) -> Result<Cut<'_>, Fault>
+    ensures reading { Reads (λ cut. (cut.part.now, cut.behind.now)) (taken pattern_form len left.now) result }
+    ensures form { IfOk result (λ cut. is_pattern cut.part.now ≡ true) }
+{
+    let cut = cut_part(left);
+    if left.is_empty() || !is_pattern(cut.part) {
         return Err(bad(len, left));
     }
     Ok(cut)

@@ -6,7 +6,7 @@ ghost use Rattle.gvn_model.specs.Entries.{transaction_value};
 ghost use Rattle.world_defs.specs.World.{Contents};
 ghost use Rattle.world_defs.specs.Rows.{IsFrontOf};
 ghost use Rattle.world_defs.specs.Ties.{IsSite};
-ghost use Rattle.site_store.specs.Site.{IsReady, IsOpen, HasReign, HasAppended, HasRoomFor, with_entry};
+ghost use Rattle.site_store.specs.Site.{IsReady, IsOpen, HasReign, HasRoomFor, with_entry};
 ghost use Rattle.repl_section.specs.Reigns.{Reigns};
 
 use crate::error::DecideError;
@@ -31,7 +31,6 @@ impl Reign {
         requires nodes { HasRoomFor self.old.site.globals t.now.updates }
         ensures ready { OnOk result (IsReady (D.disk disk.new) self.new.site) }
         ensures reign { OnOk result (HasReign self.new.site) }
-        ensures waits { OnOk result (HasAppended self.new.site) }
         ensures done { OnOk result ((told : Bool) (c : Contents) → Reigns (D.disk disk.old) told c self.old → IsOpen (D.disk disk.new) told (with_entry self.old.site.stamp (transaction_value t.now) c) (length c.sequence) self.new.site) }
         ensures number { IfOk result (λ n. n ≡ length self.old.site.entries.items + 1) }
         ensures stamp { self.new.site.stamp ≡ self.old.site.stamp }
@@ -54,7 +53,6 @@ impl Reign {
     pub(crate) fn harden<D: Disk>(&mut self, disk: &mut D) -> Result<(), DecideError>
         requires ready { IsReady (D.disk disk.old) self.old.site }
         requires reign { HasReign self.old.site }
-        requires waits { HasAppended self.old.site }
         ensures ready { OnOk result (IsReady (D.disk disk.new) self.new.site) }
         ensures reign { HasReign self.new.site }
         ensures done { OnOk result ((told : Bool) (c : Contents) (h : ℕ) → IsOpen (D.disk disk.old) told c h self.old.site → Reigns (D.disk disk.new) told c self.new) }

@@ -32,6 +32,13 @@ IsNoSite files = (qs : List InstanceRecord) (last : ℕ → ℕ) (journal : ℕ 
 pub no_instance : (o : Option Files) → IfSome o (λ files. (rs : List InstanceRecord) → IsInstance (files INSTANCE) rs → ⊥) → IfSome o IsNoSite
 no_instance o none = weaker_told o (λ files. (rs : List InstanceRecord) → IsInstance (files INSTANCE) rs → ⊥) IsNoSite none (λ files no qs last journal may read. no qs read.instance)
 
+-- or no generation is left, and their records give no directory
+abbrev pub IsNoLateSite : Files → Type 0
+IsNoLateSite files = (qs : List InstanceRecord) → IsInstance (files INSTANCE) qs → 65534 ≤ generation qs → IsDirectory qs None
+
+pub no_late_instance : (o : Option Files) → IfSome o (λ files. (rs : List InstanceRecord) → IsInstance (files INSTANCE) rs → ⊥) → IfSome o IsNoLateSite
+no_late_instance o none = weaker_told o (λ files. (rs : List InstanceRecord) → IsInstance (files INSTANCE) rs → ⊥) IsNoLateSite none (λ files no qs own late. absurd (no qs own))
+
 module _ (o : Option Files) (rs : List InstanceRecord) (reads : IfSome o (λ files. IsInstance (files INSTANCE) rs)) where
   pub limit_read : 65534 ≤ generation rs → IfSome o (λ files. (qs : List InstanceRecord) → IsInstance (files INSTANCE) qs → 65534 ≤ generation qs)
   limit_read high = weaker_told o (λ files. IsInstance (files INSTANCE) rs) (λ files. (qs : List InstanceRecord) → IsInstance (files INSTANCE) qs → 65534 ≤ generation qs) reads
@@ -41,6 +48,16 @@ module _ (o : Option Files) (rs : List InstanceRecord) (reads : IfSome o (λ fil
   no_directory none = weaker_told o (λ files. IsInstance (files INSTANCE) rs) IsNoSite reads
       (λ files is qs last journal may read.
       subst (λ (k : List InstanceRecord). IsDirectory k None) (instance_one (files INSTANCE) rs qs is read.instance) none (may.some_region, may.few_regions, may.mapped))
+
+  pub no_late_directory : IsDirectory rs None → IfSome o IsNoLateSite
+  no_late_directory none = weaker_told o (λ files. IsInstance (files INSTANCE) rs) IsNoLateSite reads
+      (λ files is qs own late. subst (λ (k : List InstanceRecord). IsDirectory k None) (instance_one (files INSTANCE) rs qs is own) none)
+
+  pub not_late : (g : ℕ) → g ≡ generation rs → g < 65534 → IfSome o IsNoLateSite
+  not_late g newest low = weaker_told o (λ files. IsInstance (files INSTANCE) rs) IsNoLateSite reads
+      (λ files is qs own late.
+      let same : generation qs ≡ generation rs = ap generation (instance_one (files INSTANCE) qs rs own is) in
+      absurd (omega (arith, same, newest, low, late)))
 
   pub no_journals : (n g : ℕ) → n ≡ length (regions rs) → g ≡ generation rs → IfSome o (λ files. (began : ℕ → ℕ) (journal : ℕ → List Placed) → HaveJournals n g began journal files → ⊥) → IfSome o IsNoSite
   no_journals n g many newest none =

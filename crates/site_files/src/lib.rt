@@ -20,5 +20,6 @@ pub use drawing::{Drawn, draw};
 pub use error::FilesError;
 pub use finding::{created_name, generation_in, in_instance, read_instance, sync_instance};
 pub use laws::{drawing_keeps_the_sequence, images_have_what_was_read, reading_gives_the_records};
+pub use mapping::directory_of;
 pub use reading::{ReadSite, read_site};
 pub use remembering::{Remembered, remember_all};

@@ -116,6 +116,7 @@ fn read_regions<D: Disk>(
     requires last { last ≤ 65535 }
     ensures read { IfOk result (λ made. IfSome (D.disk disk.old).content (HaveJournals regions last (last_of made.last_began.items) (journal_of (map (λ j. j.items) made.journals.items)))) }
     ensures many { IfOk result (λ made. length made.journals.items ≡ regions) }
+    ensures many_last { IfOk result (λ made. length made.last_began.items ≡ regions) }
     ensures began { IfOk result (λ made. (r : ℕ) → last_of made.last_began.items r ≤ last) }
     ensures durable { OnOk result (IfSome (D.disk disk.old).content (AreAllDurable (D.disk disk.new) regions last)) }
     ensures outside { (file offset : ℕ) → IsErrOf result (FilesError.NotAFile file offset) → IfSome (D.disk disk.old).content (λ files. (began : ℕ → ℕ) (journal : ℕ → List Placed) → HaveJournals regions last began journal files → ⊥) }
@@ -236,9 +237,12 @@ fn lay_out(alloc: Global, records: &[InstanceRecord]) -> Result<Plan, FilesError
 pub fn read_site<D: Disk>(alloc: Global, disk: &mut D) -> Result<ReadSite, FilesError>
     ensures form { IfOk result (λ read. MayBeOpened read.log.records (last_of read.last_began.items)) }
     ensures directory { IfOk result (λ read. IsDirectory read.log.records (Some read.directory)) }
+    ensures counted { IfOk result (λ read. length read.last_began.items ≡ length (defs.regions read.log.records)) }
     ensures read { IfOk result (λ read. IfSome (D.disk disk.old).content (WasRead (D.disk disk.new) read.log.records (last_of read.last_began.items) (journal_of (map (λ j. j.items) read.journals.items)))) }
     ensures limit { IsErrOf result FilesError.GenLimit → IfSome (D.disk disk.old).content (λ files. (rs : List defs.InstanceRecord) → IsInstance (files INSTANCE) rs → 65534 ≤ generation rs) }
     ensures outside { (file offset : ℕ) → IsErrOf result (FilesError.NotAFile file offset) → IfSome (D.disk disk.old).content (λ files. (rs : List defs.InstanceRecord) (last : ℕ → ℕ) (journal : ℕ → List Placed) → MayBeOpened rs last → AreRead rs last journal files → ⊥) }
+    // where no generation is left, the records alone may be at fault
+    ensures late { (file offset : ℕ) → IsErrOf result (FilesError.NotAFile file offset) → IfSome (D.disk disk.old).content (λ files. (rs : List defs.InstanceRecord) → IsInstance (files INSTANCE) rs → 65534 ≤ generation rs → IsDirectory rs None) }
     ensures content { (D.disk disk.new).content ≡ (D.disk disk.old).content }
     ensures any_moment { AtEachMoment (D.disk disk.old) (D.disk disk.new) (Image (D.disk disk.old)) }
     ensures simulated { (D.disk disk.new).simulated ≡ (D.disk disk.old).simulated }

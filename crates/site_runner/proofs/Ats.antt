@@ -1,5 +1,5 @@
 -- Sites at their places.
-use Rattle.std.proofs.Common.{◌≡◌, ℕ, Bool, true, false, List, [], ◌∷◌, ◌++◌, length, take, None, Some, refl, sym, ◌∙◌, ap, subst, arith, inl, inr}
+use Rattle.std.proofs.Common.{◌≡◌, ℕ, Bool, true, false, List, [], ◌∷◌, ◌++◌, length, None, Some, refl, sym, ◌∙◌, ap, subst, arith, inl, inr}
 use Rattle.std.specs.Prelude.{◌⊎◌, Option, IfSome, IsSome, IsSomeAnd}
 use Rattle.std.proofs.lemmas.Bool.{false≢true}
 use Rattle.std.proofs.Math.Seq.{take-length}
@@ -7,15 +7,17 @@ use Rattle.disk_defs.specs.Disk.{Files, View, Image, IsLawful, AtEachMoment}
 use Rattle.site_store.specs.declared.site.OpenSite.{OpenSite}
 use Rattle.site_store.specs.Site.{IsOpen}
 use Rattle.site_store.proofs.Standing.{images_stand}
+use Rattle.site_store.proofs.Emptied.{none_left}
 use Rattle.world_defs.specs.Lists.{Among}
 use Rattle.world_defs.specs.World as world
 use Rattle.command_defs.specs.Commands.{Command}
-use Rattle.world_defs.specs.World.{Contents, Place, Kept, is_made}
+use Rattle.world_defs.specs.World.{Contents, Leftover, NO_LEFTOVER, Place, Kept, is_made}
 use Rattle.world_defs.specs.Answers.{Cause, Stopped, NotRunning, Refused}
 use Rattle.world_defs.specs.Refusals.{first, in_state, stopped, not_running}
-use Rattle.world_defs.specs.Rows.{with_sequence}
+use Rattle.world_defs.specs.Rows.{with_sequence, IsBehind}
 use Rattle.world_defs.specs.Output.{line, cause_text, name_in}
-use Rattle.world_defs.specs.Ties.{IsSite, Stands, Matches}
+use Rattle.world_defs.specs.Ties.{IsSite, HasLeft, Stands, Reads, Matches}
+use Rattle.world_laws.proofs.StandsForOne.{left_reads, left_behind}
 use Rattle.site_runner.specs.declared.slot.State.{State}
 use Rattle.site_runner.specs.declared.slot.State.TheVariants.{Down, Primary, Failed}
 use Rattle.site_runner.specs.declared.slot.Site.{Site}
@@ -24,7 +26,7 @@ use Rattle.site_runner.specs.Here.{cause_here, RefusedHere}
 use Rattle.site_runner.specs.Steps.{IsAt, ExecutesAt}
 
 pub kept_same : (p : Place) → Kept p p
-kept_same p = record { site = refl; now = refl; outcomes = λ o h. h; faults = omega arith; same = record { told = refl; simulated = refl } }
+kept_same p = record { site = refl; now = refl; left = refl; outcomes = λ o h. h; faults = omega arith; same = record { told = refl; simulated = refl } }
 
 -- a refusal that changes nothing
 pub refuses : (c : Command) (v : View) (s : Site) (cause : Cause) (before now : List ℕ) → name_in c ≡ s.name → ((p : Place) → IsAt v s p → cause_here c p ≡ Some cause) → ((p : Place) → RefusedHere c cause p p)
@@ -64,11 +66,6 @@ second_cause a b more c e f = rw (e, f) refl
 pub no_cause : (a b : Option Cause) → a ≡ None → b ≡ None → first (a ∷ b ∷ []) ≡ None
 no_cause a b e f = rw (e, f) refl
 
--- a choice that has to be the right one only where a test holds
-pub pick_one : (b : Bool) (d : Contents) (R Q : Contents → Type 0) → R d → (b ≡ true → (o : Contents) × R o × Q o) → (o : Contents) × R o × (b ≡ true → Q o)
-pick_one true d R Q r f = let k = f refl in (k.0, k.1, λ t. k.2)
-pick_one false d R Q r f = (d, r, λ t. absurd (false≢true t))
-
 pub not_true : (b : Bool) → (b ≡ true → ⊥) → b ≡ false
 not_true true f = absurd (f refl)
 not_true false f = refl
@@ -102,6 +99,20 @@ pub is_site : (files : Files) (c : Contents) → is_made c ≡ true → Stands f
 is_site files c made (inl (none, blank)) = absurd (false≢true (sym (ap is_made none) ∙ made))
 is_site files c made (inr h) = h
 
+-- and so have those that read as one, with what lies behind it
+pub reads_site : (files : Files) (c : Contents) (left : Leftover) → is_made c ≡ true → Reads files c left → IsSite files c × HasLeft files c left
+reads_site files c left made (inl blank) = absurd (false≢true (sym (ap is_made blank.0) ∙ made))
+reads_site files c left made (inr h) = h
+
+-- what reads as something stands for it
+pub reads_stand : (files : Files) (c : Contents) (left : Leftover) → Reads files c left → Stands files c
+reads_stand files c left (inl blank) = inl (blank.0, blank.2)
+reads_stand files c left (inr h) = inr h.0
+
+-- what the files of a place stand for
+pub stands_told : (v : View) (p : Place) → Matches v p → p.told ≡ true → IsSomeAnd v.content (λ files. Stands files p.now)
+stands_told v p m sure = some_and v.content (λ files. Reads files p.now p.left) (λ files. Stands files p.now) (λ f h. reads_stand f p.now p.left h) (m.told sure)
+
 -- an image of this moment is one of a moment since an earlier one
 pub at_moment : (v w : View) (P : Files → Type 0) (c : Files) → IsLawful w → AtEachMoment v w P → Image w c → P c
 at_moment v w P c law h i = h.each c (law.counts_now v.moment c h.later i)
@@ -112,31 +123,54 @@ reads_image w law told =
     let s = files_of w.content told in
     (s.0, s.1, subst (λ (o : Option Files). IfSome o (λ files. w.since w.moment files)) s.1 law.as_read)
 
--- a place with these outcomes, for one of which each image stands
-pub place_of_images : (w : View) (p : Place) (site : Option world.Site) (outcomes : List Contents) → IsLawful w → w.simulated ≡ p.simulated → (p.told ≡ true → IsSome w.content)
-    → (p.told ≡ true → (c : Files) → Image w c → (o : Contents) × Among outcomes o × Stands c o)
-    → (now : Contents) × (p.told ≡ true → Among outcomes now) × Matches w (record { site = site; told = p.told; now = now; outcomes = outcomes; faults = w.faults; simulated = p.simulated })
-place_of_images w p site outcomes law same told images =
-    let m = pick_one p.told p.now (λ o. Unit {0}) (λ o. Among outcomes o × IsSomeAnd w.content (λ files. Stands files o)) tt (λ sure.
-    let r = reads_image w law (told sure) in
-    let o = images sure r.0 r.2 in
-    (o.0, tt, (o.1, subst (λ (x : Option Files). IsSomeAnd x (λ files. Stands files o.0)) (sym r.1) o.2))) in
-    (m.0, (λ sure. (m.2 sure).0), record { told = λ sure. (m.2 sure).1; images = images; faults = refl; simulated = same })
+-- A place with these outcomes, for one of which each image stands: what its files read as, and what lies behind that.
+pub record ReadPlace (w : View) (p : Place) (site : Option world.Site) (outcomes : List Contents) : Type 0 where
+  pub now : Contents
+  pub left : Leftover
+  pub among : p.told ≡ true → Among outcomes now
+  pub behind : p.told ≡ true → IsBehind now left
+  pub matches : Matches w (record { site = site; told = p.told; now = now; left = left; outcomes = outcomes; faults = w.faults; simulated = p.simulated })
 
--- a place with one outcome, for which the disk and each image stand
-pub place_of_one : (w : View) (p : Place) (site : Option world.Site) (o : Contents) → w.simulated ≡ p.simulated → (p.told ≡ true → IsSomeAnd w.content (λ files. Stands files o))
-    → (p.told ≡ true → (c : Files) → Image w c → Stands c o) → Matches w (record { site = site; told = p.told; now = o; outcomes = o ∷ []; faults = w.faults; simulated = p.simulated })
+pub place_of_images : (w : View) (p : Place) (site : Option world.Site) (outcomes : List Contents) → IsLawful w → w.simulated ≡ p.simulated → (p.told ≡ true → IsSome w.content)
+    → (p.told ≡ true → (c : Files) → Image w c → (o : Contents) × Among outcomes o × Stands c o) → ReadPlace w p site outcomes
+place_of_images w p site outcomes law same told images = elim (is_true_or_false p.told) [
+  | inl sure ↦
+      let r = reads_image w law (told sure) in
+      let o = images sure r.0 r.2 in
+      let left = left_reads r.0 o.0 o.2 in
+      record {
+        now = o.0;
+        left = left.0;
+        among = λ _. o.1;
+        behind = λ _. left_behind r.0 o.0 left.0 left.1;
+        matches = record { told = λ _. subst (λ (x : Option Files). IsSomeAnd x (λ files. Reads files o.0 left.0)) (sym r.1) left.1; images = images; faults = refl; simulated = same };
+      }
+  | inr not ↦ record {
+    now = p.now;
+    left = p.left;
+    among = λ sure. absurd (false≢true (sym not ∙ sure));
+    behind = λ sure. absurd (false≢true (sym not ∙ sure));
+    matches = record { told = λ sure. absurd (false≢true (sym not ∙ sure)); images = images; faults = refl; simulated = same };
+  }
+]
+
+-- a place with one outcome, for which the disk and each image stand, with nothing behind it
+pub place_of_one : (w : View) (p : Place) (site : Option world.Site) (o : Contents) → w.simulated ≡ p.simulated → (p.told ≡ true → IsSomeAnd w.content (λ files. Reads files o NO_LEFTOVER))
+    → (p.told ≡ true → (c : Files) → Image w c → Stands c o) → Matches w (record { site = site; told = p.told; now = o; left = NO_LEFTOVER; outcomes = o ∷ []; faults = w.faults; simulated = p.simulated })
 place_of_one w p site o same reads images = record { told = reads; images = λ sure c i. (o, inl refl, images sure c i); faults = refl; simulated = same }
 
 pub only : (o d : Contents) → Among (d ∷ []) o → o ≡ d
 only o d (inl h) = h
 only o d (inr h) = absurd h
 
--- an open site's disk and each image stand for its contents
-pub open_reads : (w : View) (told : Bool) (c : Contents) (s : OpenSite) → told ≡ true → IsOpen w told c (length c.sequence) s → IsSomeAnd w.content (λ files. Stands files c)
-open_reads w told c s sure h =
-    some_and w.content (λ files. IsSite files (with_sequence c (take (length c.sequence) c.sequence))) (λ files. Stands files c)
-    (λ f k. inr (subst (λ seq. IsSite f (with_sequence c seq)) (take-length c.sequence) k)) (h.kept sure).reads
+-- an open site's disk and each image stand for its contents, and nothing lies behind them
+pub open_reads : (w : View) (told : Bool) (c : Contents) (s : OpenSite) → IsLawful w → told ≡ true → IsOpen w told c (length c.sequence) s → IsSomeAnd w.content (λ files. Reads files c NO_LEFTOVER)
+open_reads w told c s law sure h =
+    let kept = h.kept sure in
+    let r = reads_image w law (told_is w.content _ kept.reads) in
+    let site : IsSite r.0 c = subst (λ seq. IsSite r.0 (with_sequence c seq)) (take-length c.sequence) (kept.images r.0 r.2) in
+    let left : HasLeft r.0 c NO_LEFTOVER = subst (λ seq. HasLeft r.0 (with_sequence c seq) NO_LEFTOVER) (take-length c.sequence) (none_left w c (length c.sequence) s r.0 kept r.2) in
+    subst (λ (x : Option Files). IsSomeAnd x (λ files. Reads files c NO_LEFTOVER)) (sym r.1) (inr (site, left))
 
 pub open_images : (w : View) (told : Bool) (c : Contents) (s : OpenSite) → told ≡ true → IsOpen w told c (length c.sequence) s → (f : Files) → Image w f → Stands f c
 open_images w told c s sure h f i = inr (images_stand w c s (subst (λ (b : Bool). IsOpen w b c (length c.sequence) s) sure h) f i)

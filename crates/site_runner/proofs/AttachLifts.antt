@@ -6,7 +6,7 @@ use Rattle.std.proofs.lemmas.Bool.{false≢true, and_parts, lt-ltb}
 use Rattle.std.proofs.lemmas.List.{set-set}
 use Rattle.disk_defs.specs.Disk.{View}
 use Rattle.journal_defs.specs.Instance.{InstanceRecord, site_name}
-use Rattle.site_store.specs.declared.creating.Layout.{Layout}
+use Rattle.site_store.specs.declared.layout.Layout.{Layout}
 use Rattle.site_store.specs.declared.error.SiteError.{SiteError}
 use Rattle.site_store.specs.declared.error.SiteError.TheVariants.{Failed, Stopped, Full, SeqLimit, GenLimit, ReignLimit, NotAFile, NoMemory}
 use Rattle.world_laws.proofs.ReignsFit.{names_same}
@@ -15,7 +15,7 @@ use Rattle.world_defs.specs.Lists.{first_where}
 use Rattle.world_defs.specs.World as world
 use Rattle.world_defs.specs.World.{Contents, Place, World, Kept, is_made, is_site_named, same_name, next_of, at_place, site_of}
 use Rattle.world_defs.specs.Answers as answers
-use Rattle.world_defs.specs.Answers.{Exists, NoDisk, Empty, Refusal, Answer, Done, Refused, DiskFault, Ran}
+use Rattle.world_defs.specs.Answers.{Exists, NoDisk, Empty, Refusal, Answer, Done, Refused, DiskFault, Ran, Typed}
 use Rattle.world_defs.specs.Refusals.{ATTACHING, early, late, or_else, refusal, refused_with, there, no_disk, not_attached, not_attached_at}
 use Rattle.world_defs.specs.Rows.{FailsBefore, OldOnes, Attaches}
 use Rattle.world_defs.specs.Step.{KeptUnknown, IsNotAttached, Means}
@@ -38,6 +38,7 @@ AttachHere w p (Refused r) q = ((not_attached_at w (Some p) ≡ Some r) × Kept 
 AttachHere w p (DiskFault k) q = FailsBefore k (OldOnes p) p q
 AttachHere w p (answers.NotAFile file offset) q = KeptUnknown p q
 AttachHere w p (Ran s) q = ⊥
+AttachHere w p (Typed bytes) q = ⊥
 
 abbrev pub attach_text : Answer → Place → List ℕ
 attach_text Done q = line (name_at (Some q)) (codes "ATTACHED")
@@ -45,6 +46,7 @@ attach_text (Refused r) q = line r.site (cause_text r.cause)
 attach_text (DiskFault k) q = line ATTACHING (codes "DISKFAULT " ++ decimal k)
 attach_text (answers.NotAFile file offset) q = line ATTACHING (codes "NOTAFILE " ++ decimal file ++ 32 ∷ decimal offset)
 attach_text (Ran s) q = []
+attach_text (Typed bytes) q = []
 
 early_free : (w : World) (p : Place) → at_place w (next_of w) ≡ Some p → early w Attach ≡ None
 early_free w p e = ap (λ (o : Option Place). refused_with ATTACHING (no_disk o)) e
@@ -59,6 +61,7 @@ means_attach w (Refused r) i p q e g (inr k) = inr (early_free w p (ap (at_place
 means_attach w (DiskFault k) i p q e g h = (early_free w p (ap (at_place w) e ∙ g), on_place (λ old new. FailsBefore k (OldOnes old) old new) w (next_of w) i p q e g h)
 means_attach w (answers.NotAFile file offset) i p q e g h = (early_free w p (ap (at_place w) e ∙ g), on_place KeptUnknown w (next_of w) i p q e g h)
 means_attach w (Ran s) i p q e g h = absurd h
+means_attach w (Typed bytes) i p q e g h = absurd h
 
 text_attach : (w : World) (a : Answer) (i : ℕ) (p q : Place) → next_of w ≡ Some i → slice_get w.places i ≡ Some p → AttachHere w p a q → attach_text a q ≡ text_of w Attach a (with_place w i q)
 text_attach w Done i p q e g h = ap (λ (o : Option Place). line (name_at o) (codes "ATTACHED")) (sym (ap (at_place (with_place w i q)) e ∙ get_set i w.places p q g))
@@ -66,6 +69,7 @@ text_attach w (Refused r) i p q e g h = refl
 text_attach w (DiskFault k) i p q e g h = refl
 text_attach w (answers.NotAFile file offset) i p q e g h = refl
 text_attach w (Ran s) i p q e g h = absurd h
+text_attach w (Typed bytes) i p q e g h = absurd h
 
 -- Whatever world the slots are, the command with some answer leads at the next disk's place to one that the slot is.
 abbrev pub AttachesAt : {D : Type 0} → (D → View) → List (Slot D) → ℕ → Slot D → Slot D → List ℕ → List ℕ → Type 0
@@ -173,7 +177,7 @@ attached view w p q found s before now free f e at_q t =
     let site : world.Site = record { name = name; state = world.Down } in
     let told : q.told ≡ true → p.told ≡ true = λ known. sym f.kept.same.told ∙ known in (
       Done,
-      record { site = Some site; told = q.told; now = q.now; outcomes = q.outcomes; faults = q.faults; simulated = q.simulated },
+      record { site = Some site; told = q.told; now = q.now; left = q.left; outcomes = q.outcomes; faults = q.faults; simulated = q.simulated },
       (
         not_refused w p q found (is_true_or_false p.told) f e,
         record {
@@ -183,6 +187,7 @@ attached view w p q found s before now free f e at_q t =
           free = free;
           site = refl;
           now = f.kept.now;
+          left = f.kept.left;
           outcomes = f.kept.outcomes;
           named = λ known o a. let x = found_of found o (f.outcomes known o a) in x.name;
           faults = f.kept.faults;

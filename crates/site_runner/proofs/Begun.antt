@@ -1,9 +1,12 @@
 -- What opening a site and beginning a reign make of its contents.
-use Rattle.std.proofs.Common.{◌≡◌, ℕ, ◌+◌, ◌≤◌, ◌<◌, ◌==◌, ◌||◌, max, nat_le, nat_lt, Bool, true, false, List, [], ◌∷◌, ◌++◌, length, filter, None, Some, refl, sym, ◌∙◌, ap, subst, arith, inl, inr, if◌then◌else◌}
-use Rattle.std.proofs.lemmas.Bool.{false≢true, le-leb}
+use Rattle.std.proofs.Common.{◌≡◌, ℕ, zero, suc, ◌+◌, ◌≤◌, ◌<◌, ◌==◌, ◌||◌, ◌&&◌, max, nat_le, nat_lt, Bool, true, false, List, [], ◌∷◌, ◌++◌, length, filter, None, Some, refl, sym, ◌∙◌, ap, subst, arith, inl, inr, if◌then◌else◌}
+use Rattle.std.specs.Prelude.{◌⊎◌}
+use Rattle.std.proofs.Math.Path.{fun_ext}
+use Rattle.std.proofs.lemmas.Bool.{false≢true, le-leb, lt-ltb, ltb-true}
 use Rattle.std.proofs.lemmas.Bool.Decides.{leb_tells}
 use Rattle.global_defs.specs.Entry.{Reign}
-use Rattle.journal_defs.specs.Instance.{InstanceRecord, Create, Reigned, Cut, Map, Mode, generation, greatest_cycle, site_name}
+use Rattle.journal_defs.specs.Journal.{Start}
+use Rattle.journal_defs.specs.Instance.{InstanceRecord, Create, Reigned, Cut, Map, Mode, generation, greatest_cycle, regions, site_name}
 use Rattle.journal_defs.specs.Surviving.{reigns}
 use Rattle.journal_defs.specs.Fit.{MOST_REIGNS}
 use Rattle.journal_laws.proofs.Runs.{reigns-cut, starts_by}
@@ -12,7 +15,7 @@ use Rattle.world_defs.specs.Lists.{Among}
 use Rattle.world_defs.specs.World.{Contents}
 use Rattle.world_defs.specs.Answers.{GenLimit, ReignLimit}
 use Rattle.world_defs.specs.Refusals.{LAST_GENERATION, LAST_CYCLE, generation_limit, reign_limit}
-use Rattle.world_defs.specs.Rows.{cut_there, opened, with_reign, next_stamp, MayBegin}
+use Rattle.world_defs.specs.Rows.{cut_there, start_of, starts_in, with_starts, opened, with_reign, next_stamp, MayBegin}
 use Rattle.site_runner.specs.Sites.{IsOf}
 
 -- A CUT leaves cycles, and the reigns that have begun by its length.
@@ -34,16 +37,16 @@ filter_twice t [] = refl
 filter_twice t (r ∷ rs) = kept_twice (nat_le r.start t) t r (filter (starts_by t) rs) refl (filter_twice t rs)
 
 -- opening changes no limit of reigns
-pub limit_opened : (c : Contents) → reign_limit (opened c) ≡ reign_limit c
-limit_opened c =
+pub limit_opened : (broken : List ℕ) (c : Contents) → reign_limit (opened broken c) ≡ reign_limit c
+limit_opened broken c =
     let t = length c.sequence in
     let test = λ (n k : ℕ). (if nat_le MOST_REIGNS n || k == LAST_CYCLE then Some ReignLimit else None) in
-    ap (λ (n : ℕ). test n (greatest_cycle (opened c).instance)) (ap (λ (l : List Reign). length (filter (starts_by t) l)) (reigns-cut c.instance t (generation c.instance + 1)) ∙ ap (λ (l : List Reign). length l) (filter_twice t (reigns c.instance)))
+    ap (λ (n : ℕ). test n (greatest_cycle (opened broken c).instance)) (ap (λ (l : List Reign). length (filter (starts_by t) l)) (reigns-cut c.instance t (generation c.instance + 1)) ∙ ap (λ (l : List Reign). length l) (filter_twice t (reigns c.instance)))
     ∙ ap (λ (k : ℕ). test (length (filter (starts_by t) (reigns c.instance))) k) (cycle_cut c.instance t (generation c.instance + 1))
 
 -- the reign's stamp is drawn from what was opened
-pub stamp_opened : (name : Name) (c : Contents) → next_stamp name (opened c) ≡ next_stamp name c
-stamp_opened name c = ap (λ (k : ℕ). record { root = name; cycle = k + 1 }) (cycle_cut c.instance (length c.sequence) (generation c.instance + 1))
+pub stamp_opened : (name : Name) (broken : List ℕ) (c : Contents) → next_stamp name (opened broken c) ≡ next_stamp name c
+stamp_opened name broken c = ap (λ (k : ℕ). record { root = name; cycle = k + 1 }) (cycle_cut c.instance (length c.sequence) (generation c.instance + 1))
 
 -- A site stays the same one as its instance file grows.
 
@@ -65,41 +68,112 @@ of_more name c d more e h = record {
   name = ap site_name e ∙ name_more c.instance more h.made ∙ h.name;
 }
 
-pub of_opened : (name : Name) (c : Contents) → IsOf name c → IsOf name (opened c)
-of_opened name c h = of_more name c (opened c) (Cut (length c.sequence) (generation c.instance + 1) ∷ []) refl h
+of_starts : (name : Name) (broken : List ℕ) (k : ℕ) (c : Contents) → IsOf name c → IsOf name (with_starts k (cut_there broken c))
+of_starts name broken k c h = of_more name c (with_starts k (cut_there broken c)) (Cut (length c.sequence) (generation c.instance + 1) ∷ []) refl h
+
+pub of_opened : (name : Name) (broken : List ℕ) (c : Contents) → IsOf name c → IsOf name (opened broken c)
+of_opened name broken c h = of_starts name broken (length (regions c.instance)) c h
 
 pub of_begun : (name root : Name) (c : Contents) → IsOf name c → IsOf name (with_reign root c)
 of_begun name root c h = of_more name c (with_reign root c) _ refl h
 
-pub of_may_begin : (name : Name) (c o : Contents) → IsOf name c → MayBegin name c o → IsOf name o
-of_may_begin name c o h (inl e) = subst (IsOf name) (sym e) h
-of_may_begin name c o h (inr (inl e)) = subst (IsOf name) (sym e) (of_more name c (cut_there c) (Cut (length c.sequence) (generation c.instance + 1) ∷ []) refl h)
-of_may_begin name c o h (inr (inr (inl e))) = subst (IsOf name) (sym e) (of_opened name c h)
-of_may_begin name c o h (inr (inr (inr e))) = subst (IsOf name) (sym e) (of_begun name name (opened c) (of_opened name c h))
+pub of_may_begin : (name : Name) (broken : List ℕ) (c o : Contents) → IsOf name c → MayBegin name broken c o → IsOf name o
+of_may_begin name broken c o h (inl (inl e)) = subst (IsOf name) (sym e) h
+of_may_begin name broken c o h (inl (inr k)) = subst (IsOf name) (sym k.1) (of_starts name broken k.0 c h)
+of_may_begin name broken c o h (inr e) = subst (IsOf name) (sym e) (of_begun name name (opened broken c) (of_opened name broken c h))
+
+-- one list behind another
+
+pub in_first : (xs ys : List Contents) (o : Contents) → Among xs o → Among (xs ++ ys) o
+in_first [] ys o h = absurd h
+in_first (x ∷ xs) ys o (inl h) = inl h
+in_first (x ∷ xs) ys o (inr h) = inr (in_first xs ys o h)
+
+pub in_second : (xs ys : List Contents) (o : Contents) → Among ys o → Among (xs ++ ys) o
+in_second [] ys o h = h
+in_second (x ∷ xs) ys o h = inr (in_second xs ys o h)
+
+pub in_either : (xs ys : List Contents) (o : Contents) → Among (xs ++ ys) o → Among xs o ⊎ Among ys o
+in_either [] ys o h = inr h
+in_either (x ∷ xs) ys o (inl h) = inl (inl h)
+in_either (x ∷ xs) ys o (inr h) = elim (in_either xs ys o h) [ inl a ↦ inl (inr a) | inr b ↦ inr b ]
+
+pub nat_cases : (i d : ℕ) → i ≤ suc d → (i ≡ suc d) ⊎ (i ≤ d)
+nat_cases zero d le = inr (omega arith)
+nat_cases (suc i) zero le = inl (omega (arith, le))
+nat_cases (suc i) (suc d) le = elim (nat_cases i d (omega (arith, le))) [
+  | inl e ↦ inl (ap suc e)
+  | inr l ↦ inr (omega (arith, l))
+]
+
+-- the newest generation has begun in the first regions, at most in so many
+abbrev pub starts_up_to : ℕ → Contents → List Contents
+starts_up_to zero c = with_starts 0 c ∷ []
+starts_up_to (suc n) c = with_starts (suc n) c ∷ starts_up_to n c
+
+among_starts : (n : ℕ) (c o : Contents) → Among (starts_up_to n c) o → (k : ℕ) × (o ≡ with_starts k c)
+among_starts zero c o (inl e) = (0, e)
+among_starts zero c o (inr h) = absurd h
+among_starts (suc n) c o (inl e) = (suc n, e)
+among_starts (suc n) c o (inr h) = among_starts n c o h
+
+starts_among : (n k : ℕ) (c o : Contents) → k ≤ n → o ≡ with_starts k c → Among (starts_up_to n c) o
+starts_among zero k c o le e = let none : k ≡ 0 = omega (arith, le) in inl (e ∙ ap (λ (x : ℕ). with_starts x c) none)
+starts_among (suc n) k c o le e = elim (nat_cases k n le) [
+  | inl same ↦ inl (e ∙ ap (λ (x : ℕ). with_starts x c) same)
+  | inr less ↦ inr (starts_among n k c o less e)
+]
+
+-- past the last region nothing begins
+twice : (a b : Bool) → (b ≡ true → a ≡ true) → a && b ≡ b && b
+twice true true f = refl
+twice true false f = refl
+twice false true f = absurd (false≢true (f refl))
+twice false false f = refl
+
+no_more_starts : (k : ℕ) (c : Contents) → length (regions c.instance) ≤ k → with_starts k c ≡ with_starts (length (regions c.instance)) c
+no_more_starts k c past =
+    let n = length (regions c.instance) in
+    let here : (r : ℕ) → c.starts r ++ starts_in k c r ≡ c.starts r ++ starts_in n c r = λ r.
+    ap (λ (b : Bool). c.starts r ++ (if b then start_of c r ∷ [] else [])) (twice (nat_lt r k) (nat_lt r n) (λ t. let low = ltb-true r n t in lt-ltb r k (omega (arith, low, past)))) in
+    ap (λ (f : ℕ → List Start). record { instance = c.instance; starts = f; texts = c.texts; sequence = c.sequence }) (fun_ext here)
+
+few_or_more : (k n : ℕ) → (k ≤ n) ⊎ (n ≤ k)
+few_or_more zero n = inl (omega arith)
+few_or_more (suc k) zero = inr (omega arith)
+few_or_more (suc k) (suc n) = elim (few_or_more k n) [ inl a ↦ inl (omega (arith, a)) | inr b ↦ inr (omega (arith, b)) ]
+
+any_among : (k : ℕ) (c o : Contents) → o ≡ with_starts k c → Among (starts_up_to (length (regions c.instance)) c) o
+any_among k c o e = elim (few_or_more k (length (regions c.instance))) [
+  | inl few ↦ starts_among (length (regions c.instance)) k c o few e
+  | inr past ↦ starts_among (length (regions c.instance)) (length (regions c.instance)) c o (omega arith) (e ∙ no_more_starts k c past)
+]
 
 -- what beginning a reign may leave of any of these
-abbrev pub begins : Name → List Contents → List Contents
-begins name [] = []
-begins name (c ∷ cs) = c ∷ cut_there c ∷ opened c ∷ with_reign name (opened c) ∷ begins name cs
+abbrev pub begins : Name → List ℕ → List Contents → List Contents
+begins name broken [] = []
+begins name broken (c ∷ cs) = c ∷ with_reign name (opened broken c) ∷ (starts_up_to (length (regions (cut_there broken c).instance)) (cut_there broken c) ++ begins name broken cs)
 
-pub among_begins : (name : Name) (cs : List Contents) (o : Contents) → Among (begins name cs) o → (c : Contents) × Among cs c × MayBegin name c o
-among_begins name [] o h = absurd h
-among_begins name (c ∷ cs) o (inl e) = (c, inl refl, inl e)
-among_begins name (c ∷ cs) o (inr (inl e)) = (c, inl refl, inr (inl e))
-among_begins name (c ∷ cs) o (inr (inr (inl e))) = (c, inl refl, inr (inr (inl e)))
-among_begins name (c ∷ cs) o (inr (inr (inr (inl e)))) = (c, inl refl, inr (inr (inr e)))
-among_begins name (c ∷ cs) o (inr (inr (inr (inr h)))) = let k = among_begins name cs o h in (k.0, inr k.1, k.2)
+pub among_begins : (name : Name) (broken : List ℕ) (cs : List Contents) (o : Contents) → Among (begins name broken cs) o → (c : Contents) × Among cs c × MayBegin name broken c o
+among_begins name broken [] o h = absurd h
+among_begins name broken (c ∷ cs) o (inl e) = (c, inl refl, inl (inl e))
+among_begins name broken (c ∷ cs) o (inr (inl e)) = (c, inl refl, inr e)
+among_begins name broken (c ∷ cs) o (inr (inr h)) =
+    let d : Contents = cut_there broken c in
+    elim (in_either (starts_up_to (length (regions d.instance)) d) (begins name broken cs) o h) [
+      | inl a ↦ (c, inl refl, inl (inr (among_starts (length (regions d.instance)) d o a)))
+      | inr b ↦ let k = among_begins name broken cs o b in (k.0, inr k.1, k.2)
+    ]
 
-begins_of : (name : Name) (c : Contents) (cs : List Contents) (o : Contents) → MayBegin name c o → Among (begins name (c ∷ cs)) o
-begins_of name c cs o (inl e) = inl e
-begins_of name c cs o (inr (inl e)) = inr (inl e)
-begins_of name c cs o (inr (inr (inl e))) = inr (inr (inl e))
-begins_of name c cs o (inr (inr (inr e))) = inr (inr (inr (inl e)))
+begins_of : (name : Name) (broken : List ℕ) (c : Contents) (cs : List Contents) (o : Contents) → MayBegin name broken c o → Among (begins name broken (c ∷ cs)) o
+begins_of name broken c cs o (inl (inl e)) = inl e
+begins_of name broken c cs o (inl (inr k)) = inr (inr (in_first _ (begins name broken cs) o (any_among k.0 (cut_there broken c) o k.1)))
+begins_of name broken c cs o (inr e) = inr (inl e)
 
-pub begins_among : (name : Name) (cs : List Contents) (c o : Contents) → Among cs c → MayBegin name c o → Among (begins name cs) o
-begins_among name [] c o a m = absurd a
-begins_among name (d ∷ cs) c o (inl e) m = begins_of name d cs o (subst (λ (x : Contents). MayBegin name x o) e m)
-begins_among name (d ∷ cs) c o (inr a) m = inr (inr (inr (inr (begins_among name cs c o a m))))
+pub begins_among : (name : Name) (broken : List ℕ) (cs : List Contents) (c o : Contents) → Among cs c → MayBegin name broken c o → Among (begins name broken cs) o
+begins_among name broken [] c o a m = absurd a
+begins_among name broken (d ∷ cs) c o (inl e) m = begins_of name broken d cs o (subst (λ (x : Contents). MayBegin name broken x o) e m)
+begins_among name broken (d ∷ cs) c o (inr a) m = inr (inr (in_second (starts_up_to (length (regions (cut_there broken d).instance)) (cut_there broken d)) _ o (begins_among name broken cs c o a m)))
 
 -- the tests of limits
 pub generation_past : (c : Contents) → 65534 ≤ generation c.instance → generation_limit c ≡ Some GenLimit

@@ -1,23 +1,26 @@
 -- FUSE and CRASH at a place.
-use Rattle.std.proofs.Common.{◌≡◌, ℕ, Bool, true, false, List, [], ◌∷◌, ◌++◌, None, Some, refl, sym, ◌∙◌, ap, subst, arith, inl}
+use Rattle.std.proofs.Common.{◌≡◌, ℕ, Bool, true, false, List, [], ◌∷◌, ◌++◌, None, Some, refl, sym, ◌∙◌, ap, subst, arith, inl, inr}
 use Rattle.std.specs.Prelude.{Option, codes, IfSome, IsSomeAnd}
+use Rattle.std.proofs.lemmas.Bool.{false≢true}
 use Rattle.std.specs.Fmt.{decimal}
 use Rattle.disk_defs.specs.Disk.{Files, View, Image, IsLawful, Reads}
 use Rattle.world_defs.specs.Lists.{Among}
 use Rattle.world_defs.specs.World as world
 use Rattle.command_defs.specs.Commands.{Fuse, Crash}
-use Rattle.world_defs.specs.World.{Contents, Place}
+use Rattle.world_defs.specs.World.{Contents, Leftover, Place}
 use Rattle.world_defs.specs.Answers.{Stopped, NotRunning, NotSimulated, Done}
 use Rattle.world_defs.specs.Refusals.{stopped, not_running, not_simulated}
-use Rattle.world_defs.specs.Rows.{in_new_state}
+use Rattle.world_defs.specs.Rows.{in_new_state, IsBehind}
 use Rattle.world_defs.specs.Output.{line}
+use Rattle.world_defs.specs.Ties as ties
 use Rattle.world_defs.specs.Ties.{Stands}
+use Rattle.world_laws.proofs.StandsForOne.{left_reads, left_behind}
 use Rattle.site_runner.specs.declared.slot.State.TheVariants.{Down}
 use Rattle.site_runner.specs.declared.slot.Site.{Site}
 use Rattle.site_runner.specs.Sites.{is_down, fault_of, IsOf}
 use Rattle.site_runner.specs.Steps.{IsAt, ExecutesAt}
 use Rattle.site_runner.proofs.Fused.{state_read}
-use Rattle.site_runner.proofs.Ats.{refuses, state_at, is_stopped, not_stopped, is_not_running, is_running, first_cause, second_cause, no_cause, pick_one, only, files_of, kept_same}
+use Rattle.site_runner.proofs.Ats.{refuses, state_at, is_stopped, not_stopped, is_not_running, is_running, first_cause, second_cause, no_cause, is_true_or_false, reads_stand, only, files_of, kept_same}
 
 pub fuse_stopped : (v : View) (s : Site) (calls k : ℕ) (before now : List ℕ) → fault_of s.state ≡ Some k → now ≡ before ++ line s.name (codes "STOPPED " ++ decimal k) → ExecutesAt (Fuse s.name calls) v s v s before now
 fuse_stopped v s calls k before now e t = refuses (Fuse s.name calls) v s (Stopped k) before now refl (λ p h. first_cause _ _ (Stopped k) (state_at stopped v s p h ∙ is_stopped s.state k e)) kept_same t
@@ -34,6 +37,29 @@ crash_down v s pick before now e t = refuses (Crash s.name pick) v s NotRunning 
 pub crash_real : (v : View) (s : Site) (pick : ℕ) (before now : List ℕ) → is_down s.state ≡ false → false ≡ v.simulated → now ≡ before ++ line s.name (codes "NOTSIMULATED") → ExecutesAt (Crash s.name pick) v s v s before now
 crash_real v s pick before now e f t = refuses (Crash s.name pick) v s NotSimulated before now refl (λ p h. second_cause _ _ [] NotSimulated (state_at not_running v s p h ∙ is_running s.state e) (simulated_at v s p false h f)) kept_same t
 
+-- what a disk that crashed reads as
+record CrashPlace (f : Files) (p : Place) : Type 0 where
+  now : Contents
+  left : Leftover
+  among : p.told ≡ true → Among p.outcomes now
+  behind : p.told ≡ true → IsBehind now left
+  reads : p.told ≡ true → ties.Reads f now left
+
+crash_place : (f : Files) (p : Place) → (p.told ≡ true → (o : Contents) × Among p.outcomes o × Stands f o) → CrashPlace f p
+crash_place f p images = elim (is_true_or_false p.told) [
+  | inl sure ↦
+      let o = images sure in
+      let left = left_reads f o.0 o.2 in
+      record { now = o.0; left = left.0; among = λ _. o.1; behind = λ _. left_behind f o.0 left.0 left.1; reads = λ _. left.1 }
+  | inr not ↦ record {
+    now = p.now;
+    left = p.left;
+    among = λ sure. absurd (false≢true (sym not ∙ sure));
+    behind = λ sure. absurd (false≢true (sym not ∙ sure));
+    reads = λ sure. absurd (false≢true (sym not ∙ sure));
+  }
+]
+
 pub crashes : (v w : View) (s : Site) (pick : ℕ) (before now : List ℕ) → IsLawful w → true ≡ v.simulated → is_down s.state ≡ false → IfSome w.content (Image v)
     → IfSome w.content (λ files. (c : Files) → Image w c → c ≡ files) → w.simulated ≡ v.simulated → w.faults ≡ v.faults → now ≡ before ++ line s.name (codes "CRASHED")
     → ExecutesAt (Crash s.name pick) v s w (record { name = s.name; state = Down }) before now
@@ -42,30 +68,27 @@ crashes v w s pick before now law sim up image durable same count t p h =
     let f : Files = d.0 in
     let i : Image v f = subst (λ (o : Option Files). IfSome o (Image v)) d.1 image in
     let u : (c : Files) → Image w c → c ≡ f = subst (λ (o : Option Files). IfSome o (λ files. (c : Files) → Image w c → c ≡ files)) d.1 durable in
-    let m = pick_one p.told p.now (λ o. Unit {0}) (λ o. Among p.outcomes o × Stands f o) tt (λ yes. let k = h.disk.images yes f i in (k.0, tt, (k.1, k.2))) in
-    let o : Contents = m.0 in
-    let q : Place = record { site = in_new_state world.Down p.site; told = p.told; now = o; outcomes = o ∷ []; faults = p.faults; simulated = p.simulated } in (
+    let m = crash_place f p (λ yes. h.disk.images yes f i) in
+    let o : Contents = m.now in
+    let q : Place = record { site = in_new_state world.Down p.site; told = p.told; now = o; left = m.left; outcomes = o ∷ []; faults = p.faults; simulated = p.simulated } in (
       Done,
       q,
       (
         no_cause _ _ (state_at not_running v s p h ∙ is_running s.state up) (simulated_at v s p true h sim),
-        record {
-          chosen = λ yes. (m.2 yes).0;
-          becomes = record { site = refl; now = refl; outcomes = refl; faults = omega arith; same = record { told = refl; simulated = refl } };
-        },
+        record { site = refl; chosen = m.among; left = m.behind; outcomes = refl; faults = omega arith; same = record { told = refl; simulated = refl } },
       ),
       record {
         disk = record {
-          told = λ yes. subst (λ (x : Option Files). IsSomeAnd x (λ files. Stands files o)) (sym d.1) (m.2 yes).1;
-          images = λ yes c j. (o, inl refl, subst (λ (x : Files). Stands x o) (sym (u c j)) (m.2 yes).1);
+          told = λ yes. subst (λ (x : Option Files). IsSomeAnd x (λ files. ties.Reads files o m.left)) (sym d.1) (m.reads yes);
+          images = λ yes c j. (o, inl refl, subst (λ (x : Files). Stands x o) (sym (u c j)) (reads_stand f o m.left (m.reads yes)));
           faults = count ∙ h.disk.faults;
           simulated = same ∙ h.disk.simulated;
         };
         site = ap (in_new_state world.Down) h.site;
         held = record {
           made = λ yes. record {
-            now = (h.held.made yes).outcomes o (m.2 yes).0;
-            outcomes = λ x j. subst (IsOf s.name) (sym (only x o j)) ((h.held.made yes).outcomes o (m.2 yes).0);
+            now = (h.held.made yes).outcomes o (m.among yes);
+            outcomes = λ x j. subst (IsOf s.name) (sym (only x o j)) ((h.held.made yes).outcomes o (m.among yes));
           };
           state = tt;
         };
@@ -82,7 +105,7 @@ fused v w s calls before now r count sim up t p h = (
   (no_cause _ _ (state_at stopped v s p h ∙ not_stopped s.state up) (simulated_at v s p true h sim), kept_same p),
   record {
     disk = record {
-      told = λ yes. subst (λ (x : Option Files). IsSomeAnd x (λ files. Stands files p.now)) (sym r.content) (h.disk.told yes);
+      told = λ yes. subst (λ (x : Option Files). IsSomeAnd x (λ files. ties.Reads files p.now p.left)) (sym r.content) (h.disk.told yes);
       images = λ yes c j.
           let k = r.passes.images c j in
           h.disk.images yes c (subst (Image v) (sym k.2) k.1);

@@ -5,7 +5,7 @@ use Rattle.disk_defs.specs.Disk.{View}
 use Rattle.world_defs.specs.Lists.{first_where}
 use Rattle.command_defs.specs.Commands.{Name, Region, Create}
 use Rattle.world_defs.specs.World.{Place, World, next_of, at_place, site_of}
-use Rattle.world_defs.specs.Answers.{Exists, NoDisk, Refusal, Answer, Done, Refused, DiskFault, NotAFile, Ran}
+use Rattle.world_defs.specs.Answers.{Exists, NoDisk, Refusal, Answer, Done, Refused, DiskFault, NotAFile, Ran, Typed}
 use Rattle.world_defs.specs.Refusals.{early, late, or_else, refusal, refused_with, first, there, no_disk, not_empty}
 use Rattle.world_defs.specs.Rows.{FailsBefore, Creates, MayCreate}
 use Rattle.world_defs.specs.Step.{KeptUnknown, Means}
@@ -36,6 +36,7 @@ means_create w name regions (Refused r) i p q n e g (s, inr k) =
 means_create w name regions (DiskFault k) i p q n e g h = (early_free w name regions p n (ap (at_place w) e ∙ g), on_place (λ old new. FailsBefore k (MayCreate name regions old) old new) w (next_of w) i p q e g h)
 means_create w name regions (NotAFile file offset) i p q n e g h = (early_free w name regions p n (ap (at_place w) e ∙ g), on_place KeptUnknown w (next_of w) i p q e g h)
 means_create w name regions (Ran s) i p q n e g h = absurd h
+means_create w name regions (Typed bytes) i p q n e g h = absurd h
 
 text_create : (w m : World) (name : Name) (regions : List Region) (a : Answer) (p q : Place) → CreateHere name regions p a q → create_text name a ≡ text_of w (Create name regions) a m
 text_create w m name regions Done p q h = refl
@@ -43,6 +44,7 @@ text_create w m name regions (Refused r) p q h = refl
 text_create w m name regions (DiskFault k) p q h = refl
 text_create w m name regions (NotAFile file offset) p q h = refl
 text_create w m name regions (Ran s) p q h = absurd h
+text_create w m name regions (Typed bytes) p q h = absurd h
 
 -- a making on the next slot is one on the slots
 pub create_lifted : {D : Type 0} (view : D → View) (name : Name) (regions : List Region) (slots : List (Slot D)) (i : ℕ) (d s : Slot D) (before now : List ℕ) → i < length slots → first_where (is_slot_named name) slots ≡ None

@@ -13,29 +13,30 @@ use Rattle.command_defs.specs.Commands.{Name, Region, Create}
 use Rattle.command_defs.specs.Parts.{is_lettered, is_name}
 use Rattle.command_defs.specs.Sections.{IsFormed}
 use Rattle.repl_script.specs.Commands as script
-use Rattle.site_store.specs.declared.site.RegionSpec.{RegionSpec}
-use Rattle.site_store.specs.declared.creating.Layout.{Layout}
+use Rattle.site_store.specs.declared.layout.RegionSpec.{RegionSpec}
+use Rattle.site_store.specs.declared.layout.Layout.{Layout}
 use Rattle.site_store.specs.declared.error.SiteError.{SiteError}
 use Rattle.site_store.specs.declared.error.SiteError.TheVariants.{Failed, Stopped, Full, SeqLimit, GenLimit, ReignLimit, NotAFile, NoMemory}
 use Rattle.site_store.specs.Opening as store
 use Rattle.site_store.specs.Opening.{made, MayMake}
 use Rattle.world_defs.specs.Lists.{Among}
 use Rattle.world_defs.specs.World as world
-use Rattle.world_defs.specs.World.{Contents, Place, Kept, nothing, is_made, same_name}
+use Rattle.world_defs.specs.World.{Contents, NO_LEFTOVER, Place, Kept, nothing, is_made, same_name}
 use Rattle.world_defs.specs.Answers as answers
-use Rattle.world_defs.specs.Answers.{Answer, NotEmpty, Done, Refused, DiskFault, Ran}
+use Rattle.world_defs.specs.Answers.{Answer, NotEmpty, Done, Refused, DiskFault, Ran, Typed}
 use Rattle.world_defs.specs.Refusals.{not_empty}
 use Rattle.world_defs.specs.Rows.{named_mode, created, MayCreate}
 use Rattle.world_defs.specs.Step.{KeptUnknown, LeftAt}
 use Rattle.world_defs.specs.Output.{line}
-use Rattle.world_defs.specs.Ties.{IsBlank, IsSite, Stands, Matches}
+use Rattle.world_defs.specs.Ties.{IsBlank, IsSite, Stands, Reads, Matches}
+use Rattle.world_laws.proofs.StandsForOne.{left_unbegun}
 use Rattle.site_runner.specs.declared.slot.State.TheVariants.{Down}
 use Rattle.site_runner.specs.declared.slot.Slot.{Slot}
 use Rattle.site_runner.specs.Sites.{IsOf}
 use Rattle.site_runner.specs.Here.{IsCutHere}
 use Rattle.site_runner.specs.Looking.{fits, Finds, LooksHere, Tells}
 use Rattle.site_runner.specs.Creating.{spec_of, IsUnmade, MakeHere, CreateHere, MakesHere, MakingIsCut, CreatesHere}
-use Rattle.site_runner.proofs.Ats.{is_true_or_false, some_both, some_of, some_and, told_is, at_moment, place_of_images, place_of_one, only}
+use Rattle.site_runner.proofs.Ats.{is_true_or_false, some_both, some_of, some_and, told_is, stands_told, at_moment, ReadPlace, place_of_images, place_of_one, only}
 use Rattle.site_runner.proofs.Looked.{some_and_of, none_held, site_none}
 
 -- the regions of a command
@@ -46,7 +47,7 @@ regions_same (r ∷ rs) = ap (λ (xs : List NamedMode). record { name = r.0; bef
 
 made_is : (name : Name) (specs : List RegionSpec) (rs : List (List ℕ × Bool)) → specs ≡ map spec_of rs → made name specs ≡ created name (map script.region_value rs)
 made_is name specs rs e =
-    ap (λ (xs : List NamedMode). record { instance = records.Create name xs ∷ []; starts = []; sequence = [] }) (ap (λ (s : List RegionSpec). map store.region_value s) e ∙ regions_same rs)
+    ap (λ (xs : List NamedMode). record { instance = records.Create name xs ∷ []; starts = λ r. []; texts = []; sequence = [] }) (ap (λ (s : List RegionSpec). map store.region_value s) e ∙ regions_same rs)
 
 -- a name of the grammar is a site's
 is_site_name : (s : List ℕ) → is_name s ≡ true → IsSiteName s
@@ -65,13 +66,10 @@ specs_length : (rs : List (List ℕ × Bool)) → length (map store.region_value
 specs_length rs = length-map (map spec_of rs) store.region_value ∙ length-map rs spec_of ∙ sym (length-map rs script.region_value)
 
 in_form : (name : Name) (rs : List (List ℕ × Bool)) → IsFormed (Create name (map script.region_value rs)) → IsInForm (records.Create name (map store.region_value (map spec_of rs)))
-in_form name rs f = (is_site_name name f.0, omega (arith, f.2, specs_length rs), omega (arith, f.2, specs_length rs), are_site_names rs f.1)
+in_form name rs f = (is_site_name name f.0, omega (arith, f.2, specs_length rs), omega (arith, f.3, specs_length rs), are_site_names rs f.1)
 
 pub specs_in_form : (name : Name) (specs : List RegionSpec) (rs : List (List ℕ × Bool)) → specs ≡ map spec_of rs → IsFormed (Create name (map script.region_value rs)) → IsInForm (records.Create name (map store.region_value specs))
 specs_in_form name specs rs e f = subst (λ (xs : List RegionSpec). IsInForm (records.Create name (map store.region_value xs))) (sym e) (in_form name rs f)
-
-pub one_spec : (name : Name) (specs : List RegionSpec) (rs : List (List ℕ × Bool)) → specs ≡ map spec_of rs → IsFormed (Create name (map script.region_value rs)) → length specs ≡ 1
-one_spec name specs rs e f = ap length e ∙ length-map rs spec_of ∙ sym (length-map rs script.region_value) ∙ f.2
 
 -- the making of a site
 
@@ -95,18 +93,18 @@ made_site view old disk name specs rs before now are free reads images still sam
     let o : Contents = created name regions in
     let e : made name specs ≡ o = made_is name specs rs are in
     let site : world.Site = record { name = name; state = world.Down } in
-    let q : Place = record { site = Some site; told = p.told; now = o; outcomes = o ∷ []; faults = w.faults; simulated = p.simulated } in
-    let reads_so : p.told ≡ true → IsSomeAnd w.content (λ files. Stands files o) = λ known.
-    let b = some_both v.content _ _ (h.disk.told known) reads in
-    some_and w.content (λ files. IsSite files (made name specs)) (λ files. Stands files o) (λ f s. inr (subst (IsSite f) e s))
+    let q : Place = record { site = Some site; told = p.told; now = o; left = NO_LEFTOVER; outcomes = o ∷ []; faults = w.faults; simulated = p.simulated } in
+    let reads_so : p.told ≡ true → IsSomeAnd w.content (λ files. Reads files o NO_LEFTOVER) = λ known.
+    let b = some_both v.content _ _ (stands_told v p h.disk known) reads in
+    some_and w.content (λ files. IsSite files (made name specs)) (λ files. Reads files o NO_LEFTOVER) (λ f s. let x : IsSite f o = subst (IsSite f) e s in inr (x, left_unbegun f o x refl))
     (some_and_of w.content (λ files. IsSite files (made name specs)) (still (told_is v.content _ (h.disk.told known))) (b.2 (is_blank b.0 p.now (u.now known) b.1).1)) in
     let blank : p.told ≡ true → (f : Files) → Image v f → IsBlank f = λ known f i. let x = h.disk.images known f i in (is_blank f x.0 (u.outcomes known x.0 x.1) x.2).1 in
     let images_so : p.told ≡ true → (c : Files) → Image w c → Stands c o = λ known c i.
-    let b = some_both v.content _ _ (h.disk.told known) images in
+    let b = some_both v.content _ _ (stands_told v p h.disk known) images in
     inr (subst (IsSite c) e (b.2 (is_blank b.0 p.now (u.now known) b.1).1 (blank known) c i)) in (
       Done,
       q,
-      record { free = site_none view old p free h; site = refl; now = refl; outcomes = refl; faults = omega (arith, later, h.disk.faults); same = record { told = refl; simulated = refl } },
+      record { free = site_none view old p free h; site = refl; now = refl; left = refl; outcomes = refl; faults = omega (arith, later, h.disk.faults); same = record { told = refl; simulated = refl } },
       record {
         disk = place_of_one w p (Some site) o (same ∙ h.disk.simulated) reads_so images_so;
         site = refl;
@@ -137,7 +135,7 @@ new_or_old name regions p o (inl h) = inr h
 new_or_old name regions p o (inr h) = inl h
 
 making_left : (v w : View) (p : Place) (name : Name) (specs : List RegionSpec) (o : Contents) → IsMaking v w name specs → made name specs ≡ o → Matches v p → IsUnmade p
-    → (now : Contents) × (p.told ≡ true → Among (o ∷ p.outcomes) now) × Matches w (record { site = p.site; told = p.told; now = now; outcomes = o ∷ p.outcomes; faults = w.faults; simulated = p.simulated })
+    → ReadPlace w p p.site (o ∷ p.outcomes)
 making_left v w p name specs o k e m u =
     place_of_images w p p.site (o ∷ p.outcomes) k.lawful (k.simulated ∙ m.simulated) (λ known. k.still_told (told_is v.content _ (m.told known))) (making_images v w p name specs o k e m u)
 
@@ -169,18 +167,19 @@ make_failed view old disk name specs rs (Failed fault) before now k are free f t
     let regions = map script.region_value rs in
     let o : Contents = created name regions in
     let m = making_left (view old.disk) w p name specs o k (made_is name specs rs are) h.disk u in
-    let q : Place = record { site = p.site; told = p.told; now = m.0; outcomes = o ∷ p.outcomes; faults = w.faults; simulated = p.simulated } in
+    let q : Place = record { site = p.site; told = p.told; now = m.now; left = m.left; outcomes = o ∷ p.outcomes; faults = w.faults; simulated = p.simulated } in
     let none = site_none view old p free h in (
       DiskFault fault,
       q,
       record {
         free = none;
         site = none;
-        now = λ known. new_or_old name regions p m.0 (m.1 known);
+        now = λ known. new_or_old name regions p m.now (m.among known);
+        left = m.behind;
         outcomes = λ known x a. new_or_old name regions p x a;
         faults = record { count = sym f.0; rose = subst (λ (x : ℕ). Rose p.faults x) (sym f.0) (subst (λ (x : ℕ). Rose x w.faults) h.disk.faults f.1); same = record { told = refl; simulated = refl } };
       },
-      record { disk = m.2; site = h.site; held = none_held view (record { disk = disk; site = old.site }) q free },
+      record { disk = m.matches; site = h.site; held = none_held view (record { disk = disk; site = old.site }) q free },
       t,
     )
 make_failed view old disk name specs rs (Stopped fault) before now k are free f t p h u = absurd t
@@ -196,7 +195,7 @@ pub make_cut : {D : Type 0} (view : D → View) (old new : Slot D) (name : List 
 make_cut view old new name specs rs k are p h u =
     let regions = map script.region_value rs in
     let m = making_left (view old.disk) (view new.disk) p name specs (created name regions) k (made_is name specs rs are) h.disk u in
-    (record { site = p.site; told = p.told; now = m.0; outcomes = created name regions ∷ p.outcomes; faults = (view new.disk).faults; simulated = p.simulated }, record { told = refl; outcomes = λ known o a. new_or_old name regions p o a }, m.2)
+    (record { site = p.site; told = p.told; now = m.now; left = m.left; outcomes = created name regions ∷ p.outcomes; faults = (view new.disk).faults; simulated = p.simulated }, record { told = refl; outcomes = λ known o a. new_or_old name regions p o a }, m.matches)
 
 -- there was no memory for the regions
 pub make_not_begun : {D : Type 0} (view : D → View) (old : Slot D) (name : List ℕ) (regions : List Region) → MakingIsCut view name regions old old
@@ -207,7 +206,7 @@ make_not_begun view old name regions p h u = (p, record { told = refl; outcomes 
 pub create_failed : {D : Type 0} (view : D → View) (old new : Slot D) (name : List ℕ) (regions : List Region) (e : SiteError) (before now : List ℕ) → LooksHere view old new (Err e) → Tells e name before now → CreatesHere view name regions old new before now
 create_failed view old new name regions (Failed fault) before now look t p h =
     let r = look p h in
-    (DiskFault fault, r.0, record { free = r.1.free; site = r.1.site; now = λ known. inl (r.1.now known); outcomes = λ known o a. inl (r.1.outcomes known o a); faults = r.1.faults }, r.2, t)
+    (DiskFault fault, r.0, record { free = r.1.free; site = r.1.site; now = λ known. inl (r.1.now known); left = r.1.left; outcomes = λ known o a. inl (r.1.outcomes known o a); faults = r.1.faults }, r.2, t)
 create_failed view old new name regions (Stopped fault) before now look t p h = absurd t
 create_failed view old new name regions (Full nodes) before now look t p h = absurd t
 create_failed view old new name regions SeqLimit before now look t p h = absurd t
@@ -252,6 +251,7 @@ create_of_make name regions p m Done q f h = (
     free = sym f.kept.site ∙ h.free;
     site = h.site;
     now = h.now;
+    left = h.left;
     outcomes = h.outcomes;
     faults = omega (arith, f.kept.faults, h.faults);
     same = record { told = h.same.told ∙ f.kept.same.told; simulated = h.same.simulated ∙ f.kept.same.simulated };
@@ -262,6 +262,7 @@ create_of_make name regions p m (DiskFault k) q f h = record {
   free = sym f.kept.site ∙ h.free;
   site = h.site;
   now = λ known. old_or_new q.now (h.now (f.kept.same.told ∙ known));
+  left = λ known. h.left (f.kept.same.told ∙ known);
   outcomes = λ known o a. old_or_new o (h.outcomes (f.kept.same.told ∙ known) o a);
   faults = record {
     count = h.faults.count;
@@ -275,6 +276,7 @@ create_of_make name regions p m (DiskFault k) q f h = record {
     old_or_new o (inr new) = inr new
 create_of_make name regions p m (answers.NotAFile file offset) q f h = absurd h
 create_of_make name regions p m (Ran s) q f h = absurd h
+create_of_make name regions p m (Typed bytes) q f h = absurd h
 
 -- no site was made there
 pub create_made : {D : Type 0} (view : D → View) (old mid new : Slot D) (name : List ℕ) (regions : List Region) (before now : List ℕ) → LooksHere view old mid (Ok None) → MakesHere view name regions mid new before now

@@ -26,3 +26,8 @@ pub mod Looked
 pub mod Created
 pub mod CreateLifts
 pub mod AttachLifts
+pub mod Seen
+pub mod Patterns
+pub mod Mapped
+pub mod Found
+pub mod Printed

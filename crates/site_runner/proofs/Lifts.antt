@@ -5,19 +5,19 @@ use Rattle.std.specs.Fmt.{decimal}
 use Rattle.std.proofs.lemmas.Bool.{eq-eqb}
 use Rattle.disk_defs.specs.Disk.{View}
 use Rattle.world_defs.specs.Lists.{Among, Along, At, first_where}
-use Rattle.command_defs.specs.Commands.{Name, Command, Create, Attach, StartPrimary, Run, Stop, Fuse, Crash, Extract, Zwrite, Show}
+use Rattle.command_defs.specs.Commands.{Name, Command, Create, Attach, Map, StartPrimary, Run, Stop, Fuse, Crash, Extract, Zwrite, Show, Print}
 use Rattle.world_defs.specs.World.{State, Down, Site, Contents, Place, World, Kept, is_site_named, place_of, at_place, site_of}
-use Rattle.world_defs.specs.Answers.{Cause, NoSite, Stopped, Exists, NoDisk, NotEmpty, Empty, Running, NotRunning, NotPrimary, NotSimulated, GenLimit, ReignLimit, Refusal, Answer, Done, Refused, DiskFault, NotAFile, Ran}
-use Rattle.world_defs.specs.Refusals.{early, late, or_else, refusal, refused_with, tested, first, in_state, stopped, running, limited}
-use Rattle.world_defs.specs.Rows.{StartsPrimary, Becomes, opened, in_new_state}
-use Rattle.world_defs.specs.Step.{KeptUnknown, AtPlace, Row, Faulted, Damaged, MayRefuse, StartRefused, RefusedLeaves, SectionRow, Means, Leaves, LeftAt, CutOff, subject, is_at}
+use Rattle.world_defs.specs.Answers.{Cause, NoSite, Stopped, Exists, NoDisk, NotEmpty, Empty, Running, NotRunning, NotPrimary, NotSimulated, Started, NoRegion, TwiceMapped, NoFile, GenLimit, ReignLimit, Refusal, Answer, Done, Refused, DiskFault, NotAFile, Ran, Typed}
+use Rattle.world_defs.specs.Refusals.{early, late, or_else, refusal, refused_with, tested, first, in_state, stopped, running, limited, unmapped, no_file}
+use Rattle.world_defs.specs.Rows.{Maps, StartsPrimary, Becomes, opened, in_new_state}
+use Rattle.world_defs.specs.Step.{KeptUnknown, AtPlace, Row, Faulted, Damaged, MayRefuse, StartRefused, RefusedLeaves, SectionRow, IsTypedAt, TypedRow, Means, Leaves, LeftAt, CutOff, subject, is_at}
 use Rattle.world_defs.specs.Output.{line, name_in, done_text, ran_text, text_of, cycle_at, length_at, extract_at, zwrite_at, show_at, turn_at, section_text}
 use Rattle.world_defs.specs.Ties.{Matches}
 use Rattle.site_runner.specs.declared.slot.Slot.{Slot}
 use Rattle.site_runner.specs.Sites.{is_slot_named, IsReadyOn, AreReady}
 use Rattle.site_runner.specs.Tied.{IsPlace, Tied}
 use Rattle.site_runner.specs.Executes.{Executes, IsCutOff}
-use Rattle.site_runner.specs.Here.{IsNamed, tests, cause_here, RowHere, FaultHere, DamageHere, StartRefusedHere, RefusedHere, MayRefuseHere, RanHere, Here, done_here, ran_here, text_here, ExecutesHere, IsCutHere}
+use Rattle.site_runner.specs.Here.{IsNamed, tests, cause_here, RowHere, FaultHere, DamageHere, StartRefusedHere, RefusedHere, MayRefuseHere, RanHere, TypedHere, Here, done_here, ran_here, text_here, ExecutesHere, IsCutHere}
 use Rattle.site_runner.proofs.FirstWhere.{first_along}
 use Rattle.site_runner.proofs.Ats.{kept_same}
 use Rattle.site_runner.proofs.Goings.{matched}
@@ -136,6 +136,7 @@ passes_there test (x ∷ xs) (suc i) d e = passes_there test xs i d (found_step 
 pub early_is : (w : World) (c : Command) (p : Place) → IsNamed c → site_of w (name_in c) ≡ Some p → early w c ≡ refused_with (name_in c) (first (tests c p))
 early_is w (Create name regions) p n e = absurd n
 early_is w Attach p n e = absurd n
+early_is w (Map name region text) p n e = ap (λ (o : Option Place). refused_with name (tested o (tests (Map name region text)))) e
 early_is w (StartPrimary name) p n e = ap (λ (o : Option Place). refused_with name (tested o (tests (StartPrimary name)))) e
 early_is w (Run name jobs order) p n e = ap (λ (o : Option Place). refused_with name (tested o (tests (Run name jobs order)))) e
 early_is w (Stop name) p n e = ap (λ (o : Option Place). refused_with name (tested o (tests (Stop name)))) e
@@ -144,10 +145,12 @@ early_is w (Crash name pick) p n e = ap (λ (o : Option Place). refused_with nam
 early_is w (Extract name from) p n e = ap (λ (o : Option Place). refused_with name (tested o (tests (Extract name from)))) e
 early_is w (Zwrite name top) p n e = ap (λ (o : Option Place). refused_with name (tested o (tests (Zwrite name top)))) e
 early_is w (Show name) p n e = ap (λ (o : Option Place). refused_with name (tested o (tests (Show name)))) e
+early_is w (Print name number) p n e = ap (λ (o : Option Place). refused_with name (tested o (tests (Print name number)))) e
 
 pub early_none : (w : World) (c : Command) → IsNamed c → site_of w (name_in c) ≡ None → early w c ≡ Some (record { site = name_in c; cause = NoSite })
 early_none w (Create name regions) n e = absurd n
 early_none w Attach n e = absurd n
+early_none w (Map name region text) n e = ap (λ (o : Option Place). refused_with name (tested o (tests (Map name region text)))) e
 early_none w (StartPrimary name) n e = ap (λ (o : Option Place). refused_with name (tested o (tests (StartPrimary name)))) e
 early_none w (Run name jobs order) n e = ap (λ (o : Option Place). refused_with name (tested o (tests (Run name jobs order)))) e
 early_none w (Stop name) n e = ap (λ (o : Option Place). refused_with name (tested o (tests (Stop name)))) e
@@ -156,6 +159,7 @@ early_none w (Crash name pick) n e = ap (λ (o : Option Place). refused_with nam
 early_none w (Extract name from) n e = ap (λ (o : Option Place). refused_with name (tested o (tests (Extract name from)))) e
 early_none w (Zwrite name top) n e = ap (λ (o : Option Place). refused_with name (tested o (tests (Zwrite name top)))) e
 early_none w (Show name) n e = ap (λ (o : Option Place). refused_with name (tested o (tests (Show name)))) e
+early_none w (Print name number) n e = ap (λ (o : Option Place). refused_with name (tested o (tests (Print name number)))) e
 
 or_none : (r : Option Refusal) → or_else r None ≡ r
 or_none None = refl
@@ -168,9 +172,18 @@ first_of_three n None (Some b) d = refl
 first_of_three n None None (Some d) = refl
 first_of_three n None None None = refl
 
+-- two tests, one of which comes first
+first_of_two : (n : Name) (a d : Option Cause) → or_else (refused_with n (first (a ∷ []))) (refused_with n d) ≡ refused_with n (first (a ∷ d ∷ []))
+first_of_two n (Some a) d = refl
+first_of_two n None (Some d) = refl
+first_of_two n None None = refl
+
 pub refusal_is : (w : World) (c : Command) (p : Place) → IsNamed c → site_of w (name_in c) ≡ Some p → refusal w c ≡ refused_with (name_in c) (cause_here c p)
 refusal_is w (Create name regions) p n e = absurd n
 refusal_is w Attach p n e = absurd n
+refusal_is w (Map name region text) p n e =
+    ap (λ (o : Option Place). or_else (refused_with name (tested o (tests (Map name region text)))) (refused_with name (unmapped region text o))) e
+    ∙ first_of_three name (in_state stopped p.site) (in_state running p.site) (unmapped region text (Some p))
 refusal_is w (StartPrimary name) p n e =
     ap (λ (o : Option Place). or_else (refused_with name (tested o (tests (StartPrimary name)))) (refused_with name (limited o))) e
     ∙ first_of_three name (in_state stopped p.site) (in_state running p.site) (limited (Some p))
@@ -181,6 +194,9 @@ refusal_is w (Crash name pick) p n e = or_none (early w (Crash name pick)) ∙ e
 refusal_is w (Extract name from) p n e = or_none (early w (Extract name from)) ∙ early_is w (Extract name from) p n e
 refusal_is w (Zwrite name top) p n e = or_none (early w (Zwrite name top)) ∙ early_is w (Zwrite name top) p n e
 refusal_is w (Show name) p n e = or_none (early w (Show name)) ∙ early_is w (Show name) p n e
+refusal_is w (Print name number) p n e =
+    ap (λ (o : Option Place). or_else (refused_with name (tested o (tests (Print name number)))) (refused_with name (no_file number o))) e
+    ∙ first_of_two name (in_state stopped p.site) (no_file number (Some p))
 
 -- no later test comes where there is no such site
 pub refusal_none : (w : World) (c : Command) → IsNamed c → site_of w (name_in c) ≡ None → refusal w c ≡ Some (record { site = name_in c; cause = NoSite })
@@ -189,6 +205,7 @@ refusal_none w c n e = ap (λ (r : Option Refusal). or_else r (late w c)) (early
 pub subject_is : (w : World) (c : Command) → IsNamed c → subject w c ≡ place_of w (name_in c)
 subject_is w (Create name regions) n = absurd n
 subject_is w Attach n = absurd n
+subject_is w (Map name region text) n = refl
 subject_is w (StartPrimary name) n = refl
 subject_is w (Run name jobs order) n = refl
 subject_is w (Stop name) n = refl
@@ -197,6 +214,7 @@ subject_is w (Crash name pick) n = refl
 subject_is w (Extract name from) n = refl
 subject_is w (Zwrite name top) n = refl
 subject_is w (Show name) n = refl
+subject_is w (Print name number) n = refl
 
 -- one place of a world changed
 abbrev pub with_place : World → ℕ → Place → World
@@ -208,6 +226,7 @@ on_place P w o i p q e g r = subst (λ (x : Option ℕ). AtPlace x P w (with_pla
 row_is : (w : World) (c : Command) (i : ℕ) (p q : Place) → IsNamed c → place_of w (name_in c) ≡ Some i → slice_get w.places i ≡ Some p → RowHere c p q → Row w c (with_place w i q)
 row_is w (Create name regions) i p q n e g r = absurd n
 row_is w Attach i p q n e g r = absurd n
+row_is w (Map name region text) i p q n e g r = on_place (Maps region text) w (place_of w name) i p q e g r
 row_is w (StartPrimary name) i p q n e g r = on_place (StartsPrimary name) w (place_of w name) i p q e g r
 row_is w (Run name jobs order) i p q n e g r = absurd r
 row_is w (Stop name) i p q n e g r = on_place (RowHere (Stop name)) w (place_of w name) i p q e g r
@@ -216,10 +235,12 @@ row_is w (Crash name pick) i p q n e g r = on_place (RowHere (Crash name pick)) 
 row_is w (Extract name from) i p q n e g r = kept_set i w.places p q g r
 row_is w (Zwrite name top) i p q n e g r = kept_set i w.places p q g r
 row_is w (Show name) i p q n e g r = kept_set i w.places p q g r
+row_is w (Print name number) i p q n e g r = absurd r
 
 fault_is : (w : World) (c : Command) (k i : ℕ) (p q : Place) → IsNamed c → place_of w (name_in c) ≡ Some i → slice_get w.places i ≡ Some p → FaultHere c k p q → Faulted w c k (with_place w i q)
 fault_is w (Create name regions) k i p q n e g r = absurd n
 fault_is w Attach k i p q n e g r = absurd n
+fault_is w (Map name region text) k i p q n e g r = on_place (FaultHere (Map name region text) k) w (place_of w name) i p q e g r
 fault_is w (StartPrimary name) k i p q n e g r = on_place (FaultHere (StartPrimary name) k) w (place_of w name) i p q e g r
 fault_is w (Run name jobs order) k i p q n e g r = absurd r
 fault_is w (Stop name) k i p q n e g r = absurd r
@@ -228,10 +249,12 @@ fault_is w (Crash name pick) k i p q n e g r = absurd r
 fault_is w (Extract name from) k i p q n e g r = absurd r
 fault_is w (Zwrite name top) k i p q n e g r = absurd r
 fault_is w (Show name) k i p q n e g r = absurd r
+fault_is w (Print name number) k i p q n e g r = on_place (FaultHere (Print name number) k) w (place_of w name) i p q e g r
 
 damage_is : (w : World) (c : Command) (i : ℕ) (p q : Place) → IsNamed c → place_of w (name_in c) ≡ Some i → slice_get w.places i ≡ Some p → DamageHere c p q → Damaged w c (with_place w i q)
 damage_is w (Create name regions) i p q n e g r = absurd n
 damage_is w Attach i p q n e g r = absurd n
+damage_is w (Map name region text) i p q n e g r = on_place (DamageHere (Map name region text)) w (place_of w name) i p q e g r
 damage_is w (StartPrimary name) i p q n e g r = on_place (DamageHere (StartPrimary name)) w (place_of w name) i p q e g r
 damage_is w (Run name jobs order) i p q n e g r = absurd r
 damage_is w (Stop name) i p q n e g r = absurd r
@@ -240,10 +263,12 @@ damage_is w (Crash name pick) i p q n e g r = absurd r
 damage_is w (Extract name from) i p q n e g r = absurd r
 damage_is w (Zwrite name top) i p q n e g r = absurd r
 damage_is w (Show name) i p q n e g r = absurd r
+damage_is w (Print name number) i p q n e g r = absurd r
 
 ran_is : (w : World) (c : Command) (s : _) (i : ℕ) (p q : Place) → IsNamed c → place_of w (name_in c) ≡ Some i → slice_get w.places i ≡ Some p → RanHere c s p q → SectionRow w c s (with_place w i q)
 ran_is w (Create name regions) s i p q n e g r = absurd n
 ran_is w Attach s i p q n e g r = absurd n
+ran_is w (Map name region text) s i p q n e g r = absurd r
 ran_is w (StartPrimary name) s i p q n e g r = absurd r
 ran_is w (Run name jobs order) s i p q n e g r = on_place (RanHere (Run name jobs order) s) w (place_of w name) i p q e g r
 ran_is w (Stop name) s i p q n e g r = absurd r
@@ -252,10 +277,25 @@ ran_is w (Crash name pick) s i p q n e g r = absurd r
 ran_is w (Extract name from) s i p q n e g r = absurd r
 ran_is w (Zwrite name top) s i p q n e g r = absurd r
 ran_is w (Show name) s i p q n e g r = absurd r
+ran_is w (Print name number) s i p q n e g r = absurd r
+
+typed_is : (w : World) (c : Command) (bytes : List ℕ) (i : ℕ) (p q : Place) → IsNamed c → place_of w (name_in c) ≡ Some i → slice_get w.places i ≡ Some p → TypedHere c bytes p q → TypedRow w c bytes (with_place w i q)
+typed_is w (Create name regions) bytes i p q n e g r = absurd n
+typed_is w Attach bytes i p q n e g r = absurd n
+typed_is w (Map name region text) bytes i p q n e g r = absurd r
+typed_is w (StartPrimary name) bytes i p q n e g r = absurd r
+typed_is w (Run name jobs order) bytes i p q n e g r = absurd r
+typed_is w (Stop name) bytes i p q n e g r = absurd r
+typed_is w (Fuse name calls) bytes i p q n e g r = absurd r
+typed_is w (Crash name pick) bytes i p q n e g r = absurd r
+typed_is w (Extract name from) bytes i p q n e g r = absurd r
+typed_is w (Zwrite name top) bytes i p q n e g r = absurd r
+typed_is w (Show name) bytes i p q n e g r = absurd r
+typed_is w (Print name number) bytes i p q n e g r = (subst (λ (o : Option Place). IsTypedAt o number bytes) (sym (ap (at_place w) e ∙ g)) r.0, kept_set i w.places p q g r.1)
 
 -- what a refused START leaves
 start_refused_is : (w : World) (name : Name) (cause : Cause) (i : ℕ) (p q : Place) → place_of w name ≡ Some i → slice_get w.places i ≡ Some p → StartRefusedHere cause p q → StartRefused name cause w (with_place w i q)
-start_refused_is w name ReignLimit i p q e g r = on_place (λ old new. Becomes Down (opened old.now) old new) w (place_of w name) i p q e g r
+start_refused_is w name ReignLimit i p q e g r = on_place (λ old new. Becomes Down (opened old.left.broken old.now) old new) w (place_of w name) i p q e g r
 start_refused_is w name NoSite i p q e g r = kept_set i w.places p q g r
 start_refused_is w name (Stopped k) i p q e g r = kept_set i w.places p q g r
 start_refused_is w name Exists i p q e g r = kept_set i w.places p q g r
@@ -266,11 +306,16 @@ start_refused_is w name Running i p q e g r = kept_set i w.places p q g r
 start_refused_is w name NotRunning i p q e g r = kept_set i w.places p q g r
 start_refused_is w name NotPrimary i p q e g r = kept_set i w.places p q g r
 start_refused_is w name NotSimulated i p q e g r = kept_set i w.places p q g r
+start_refused_is w name Started i p q e g r = kept_set i w.places p q g r
+start_refused_is w name (NoRegion region) i p q e g r = kept_set i w.places p q g r
+start_refused_is w name TwiceMapped i p q e g r = kept_set i w.places p q g r
+start_refused_is w name NoFile i p q e g r = kept_set i w.places p q g r
 start_refused_is w name GenLimit i p q e g r = kept_set i w.places p q g r
 
 refused_is : (w : World) (c : Command) (cause : Cause) (i : ℕ) (p q : Place) → IsNamed c → place_of w (name_in c) ≡ Some i → slice_get w.places i ≡ Some p → RefusedHere c cause p q → RefusedLeaves w c cause (with_place w i q)
 refused_is w (Create name regions) cause i p q n e g r = absurd n
 refused_is w Attach cause i p q n e g r = absurd n
+refused_is w (Map name region text) cause i p q n e g r = kept_set i w.places p q g r
 refused_is w (StartPrimary name) cause i p q n e g r = start_refused_is w name cause i p q e g r
 refused_is w (Run name jobs order) cause i p q n e g r = kept_set i w.places p q g r
 refused_is w (Stop name) cause i p q n e g r = kept_set i w.places p q g r
@@ -279,10 +324,15 @@ refused_is w (Crash name pick) cause i p q n e g r = kept_set i w.places p q g r
 refused_is w (Extract name from) cause i p q n e g r = kept_set i w.places p q g r
 refused_is w (Zwrite name top) cause i p q n e g r = kept_set i w.places p q g r
 refused_is w (Show name) cause i p q n e g r = kept_set i w.places p q g r
+refused_is w (Print name number) cause i p q n e g r = kept_set i w.places p q g r
+
+same_refusal : (r : Refusal) (name : Name) (cause : Cause) → r.site ≡ name → r.cause ≡ cause → r ≡ record { site = name; cause = cause }
+same_refusal r name cause s e = ap (λ (x : Name). record { site = x; cause = r.cause }) s ∙ ap (λ (x : Cause). record { site = name; cause = x }) e
 
 may_refuse_is : (w : World) (c : Command) (r : Refusal) (i : ℕ) (p q : Place) → IsNamed c → place_of w (name_in c) ≡ Some i → slice_get w.places i ≡ Some p → r.site ≡ name_in c → MayRefuseHere c r.cause p q → MayRefuse w c r (with_place w i q)
 may_refuse_is w (Create name regions) r i p q n e g s h = absurd n
 may_refuse_is w Attach r i p q n e g s h = absurd n
+may_refuse_is w (Map name region text) r i p q n e g s h = (s, h.0, on_place KeptUnknown w (place_of w name) i p q e g h.1)
 may_refuse_is w (StartPrimary name) r i p q n e g s h = (s, h.0, on_place KeptUnknown w (place_of w name) i p q e g h.1)
 may_refuse_is w (Run name jobs order) r i p q n e g s h = absurd h
 may_refuse_is w (Stop name) r i p q n e g s h = absurd h
@@ -291,6 +341,7 @@ may_refuse_is w (Crash name pick) r i p q n e g s h = absurd h
 may_refuse_is w (Extract name from) r i p q n e g s h = absurd h
 may_refuse_is w (Zwrite name top) r i p q n e g s h = absurd h
 may_refuse_is w (Show name) r i p q n e g s h = absurd h
+may_refuse_is w (Print name number) r i p q n e g s h = (same_refusal r name NoFile s h.0, on_place KeptUnknown w (place_of w name) i p q e g h.1)
 
 refusal_so : (n : Name) (r : Refusal) (o : Option Cause) → o ≡ Some r.cause → r.site ≡ n → refused_with n o ≡ Some r
 refusal_so n r o e s = ap (refused_with n) e ∙ ap (λ (x : Name). Some (record { site = x; cause = r.cause })) (sym s)
@@ -308,6 +359,8 @@ means_is w c (NotAFile file offset) i p q n e g h =
     (early_is w c p n (ap (at_place w) e ∙ g) ∙ ap (refused_with (name_in c)) h.0, damage_is w c i p q n e g h.1)
 means_is w c (Ran s) i p q n e g h =
     (refusal_is w c p n (ap (at_place w) e ∙ g) ∙ ap (refused_with (name_in c)) h.0, ran_is w c s i p q n e g h.1)
+means_is w c (Typed bytes) i p q n e g h =
+    (refusal_is w c p n (ap (at_place w) e ∙ g) ∙ ap (refused_with (name_in c)) h.0, typed_is w c bytes i p q n e g h.1)
 
 named_still : (name : Name) (state : State) (o : Option Site) → is_site_named name (in_new_state state o) ≡ is_site_named name o
 named_still name state None = refl
@@ -316,6 +369,7 @@ named_still name state (Some s) = refl
 done_is : (w : World) (c : Command) (i : ℕ) (p q : Place) → IsNamed c → place_of w (name_in c) ≡ Some i → slice_get w.places i ≡ Some p → RowHere c p q → done_text w c (with_place w i q) ≡ done_here c p q
 done_is w (Create name regions) i p q n e g r = absurd n
 done_is w Attach i p q n e g r = absurd n
+done_is w (Map name region text) i p q n e g r = refl
 done_is w (StartPrimary name) i p q n e g r =
     let test : Place → Bool = λ (x : Place). is_site_named name x.site in
     let old : test p ≡ true = found_passes test w.places i p e g in
@@ -329,10 +383,12 @@ done_is w (Crash name pick) i p q n e g r = refl
 done_is w (Extract name from) i p q n e g r = ap (extract_at name from) (ap (at_place w) e ∙ g)
 done_is w (Zwrite name top) i p q n e g r = ap (zwrite_at top) (ap (at_place w) e ∙ g)
 done_is w (Show name) i p q n e g r = ap show_at (ap (at_place w) e ∙ g)
+done_is w (Print name number) i p q n e g r = absurd r
 
 ran_text_is : (w : World) (c : Command) (s : _) (i : ℕ) (p q : Place) → IsNamed c → place_of w (name_in c) ≡ Some i → slice_get w.places i ≡ Some p → RanHere c s p q → ran_text w c s ≡ ran_here c s p
 ran_text_is w (Create name regions) s i p q n e g r = absurd n
 ran_text_is w Attach s i p q n e g r = absurd n
+ran_text_is w (Map name region text) s i p q n e g r = absurd r
 ran_text_is w (StartPrimary name) s i p q n e g r = absurd r
 ran_text_is w (Run name jobs order) s i p q n e g r = ap (λ (o : Option Place). section_text name (length order) (turn_at o jobs s) s.hardened s.fault) (ap (at_place w) e ∙ g)
 ran_text_is w (Stop name) s i p q n e g r = absurd r
@@ -341,6 +397,7 @@ ran_text_is w (Crash name pick) s i p q n e g r = absurd r
 ran_text_is w (Extract name from) s i p q n e g r = absurd r
 ran_text_is w (Zwrite name top) s i p q n e g r = absurd r
 ran_text_is w (Show name) s i p q n e g r = absurd r
+ran_text_is w (Print name number) s i p q n e g r = absurd r
 
 text_is : (w : World) (c : Command) (a : Answer) (i : ℕ) (p q : Place) → IsNamed c → place_of w (name_in c) ≡ Some i → slice_get w.places i ≡ Some p → Here c p a q → text_of w c a (with_place w i q) ≡ text_here c p a q
 text_is w c Done i p q n e g h = done_is w c i p q n e g h.1
@@ -348,6 +405,7 @@ text_is w c (Refused r) i p q n e g h = refl
 text_is w c (DiskFault k) i p q n e g h = refl
 text_is w c (NotAFile file offset) i p q n e g h = refl
 text_is w c (Ran s) i p q n e g h = ran_text_is w c s i p q n e g h.1
+text_is w c (Typed bytes) i p q n e g h = refl
 
 -- a command on the named slot is one on the slots
 pub lifted : {D : Type 0} (view : D → View) (c : Command) (slots : List (Slot D)) (i : ℕ) (d s : Slot D) (before now : List ℕ) → IsNamed c → i < length slots → first_where (is_slot_named (name_in c)) slots ≡ Some i
@@ -373,6 +431,7 @@ named_there view c slots i n f w h = subject_is w c n ∙ place_of_slot view slo
 none_left : (w : World) (c : Command) → IsNamed c → RefusedLeaves w c NoSite w
 none_left w (Create name regions) n = absurd n
 none_left w Attach n = absurd n
+none_left w (Map name region text) n = all_kept w.places
 none_left w (StartPrimary name) n = all_kept w.places
 none_left w (Run name jobs order) n = all_kept w.places
 none_left w (Stop name) n = all_kept w.places
@@ -381,6 +440,7 @@ none_left w (Crash name pick) n = all_kept w.places
 none_left w (Extract name from) n = all_kept w.places
 none_left w (Zwrite name top) n = all_kept w.places
 none_left w (Show name) n = all_kept w.places
+none_left w (Print name number) n = all_kept w.places
 
 -- no site has the name
 pub no_site : {D : Type 0} (view : D → View) (c : Command) (slots : List (Slot D)) (before now : List ℕ) → IsNamed c → first_where (is_slot_named (name_in c)) slots ≡ None → now ≡ before ++ line (name_in c) (codes "NOSITE") → Executes view c slots slots before now

@@ -4,21 +4,23 @@ use Rattle.std.specs.Prelude.{Option, option_map, Result, IfSome, IsSome, IsSome
 use Rattle.std.proofs.lemmas.Bool.{false≢true, eq-eqb, and_from}
 use Rattle.disk_defs.specs.Disk.{Files, View, Image, IsLawful, AtEachMoment, Rose}
 use Rattle.journal_defs.specs.Instance.{InstanceRecord, site_name}
-use Rattle.site_store.specs.declared.creating.Layout.{Layout}
+use Rattle.site_store.specs.declared.layout.Layout.{Layout}
 use Rattle.site_store.specs.declared.error.SiteError.{SiteError}
 use Rattle.site_store.specs.declared.error.SiteError.TheVariants.{Failed, Stopped, Full, SeqLimit, GenLimit, ReignLimit, NotAFile, NoMemory}
-use Rattle.site_store.specs.Opening.{IsFound, StandsAsBefore}
+use Rattle.site_store.specs.Finding.{IsFound}
+use Rattle.site_store.specs.Opening.{StandsAsBefore}
 use Rattle.command_defs.specs.Commands.{Name, Command}
 use Rattle.world_defs.specs.Lists.{Among}
-use Rattle.world_defs.specs.World.{Contents, Place, is_made, same_name}
-use Rattle.world_defs.specs.Ties.{Stands, Matches}
+use Rattle.world_defs.specs.World.{Contents, Leftover, Place, is_made, same_name}
+use Rattle.world_defs.specs.Rows.{IsBehind}
+use Rattle.world_defs.specs.Ties.{Stands, Reads, Matches}
 use Rattle.site_runner.specs.declared.slot.Site.{Site}
 use Rattle.site_runner.specs.declared.slot.Slot.{Slot}
 use Rattle.site_runner.specs.Sites.{site_value, HoldsSite}
 use Rattle.site_runner.specs.Tied.{IsPlace}
 use Rattle.site_runner.specs.Here.{IsCutHere}
 use Rattle.site_runner.specs.Looking.{fits, LeavesOld, Sees, LooksHere}
-use Rattle.site_runner.proofs.Ats.{not_true, told_is, some_both, some_of, some_and, at_moment, place_of_images}
+use Rattle.site_runner.proofs.Ats.{not_true, told_is, some_both, some_of, stands_told, at_moment, place_of_images}
 
 pub same_self : (a : Name) → same_name a a ≡ true
 same_self [] = refl
@@ -32,7 +34,7 @@ fits_alike (Some found) c o e = ap (λ (rs : List InstanceRecord). nat_lt 0 (len
 found_fits : (found : Option Layout) (c : Contents) → IsFound c found → fits found c ≡ true
 found_fits None c e = ap (λ (x : Contents). not (is_made x)) e
 found_fits (Some found) c h =
-    and_from (is_made c) (same_name (site_name c.instance) found.name) h.0 (ap (same_name (site_name c.instance)) h.1 ∙ same_self (site_name c.instance))
+    and_from (is_made c) (same_name (site_name c.instance) found.name) h.0 (ap (same_name (site_name c.instance)) h.1.name ∙ same_self (site_name c.instance))
 
 kept_by : (b : Bool) (x o : Contents) (rest : List Contents) → Among (cond b (x ∷ rest) rest) o → ((o ≡ x) × (b ≡ true)) ⊎ Among rest o
 kept_by true x o rest (inl e) = inl (e, refl)
@@ -90,29 +92,26 @@ some_and_of (Some f) P h k = k
 -- the look came to its end
 saw : {D : Type 0} (view : D → View) (old : Slot D) (disk : D) (found : Option Layout) → IsLook (view old.disk) (view disk) → old.site ≡ None
     → IfSome (view old.disk).content (λ files. (c : Contents) → Stands files c → IsFound c found)
-    → IfSome (view old.disk).content (λ files. IfSome (view disk).content (λ now. (c : Contents) → Stands files c → Stands now c))
+    → (view disk).content ≡ (view old.disk).content
     → IfSome (view old.disk).content (λ files. (c o : Contents) (f : Files) → Stands files c → Image (view disk) f → Stands f o → o.instance ≡ c.instance)
     → LooksHere view old (record { disk = disk; site = old.site }) (Ok found)
 saw view old disk found k free is same alike p h =
     let v = view old.disk in
     let w = view disk in
-    let q : Place = record { site = p.site; told = p.told; now = p.now; outcomes = filter (fits found) p.outcomes; faults = w.faults; simulated = p.simulated } in
-    let now : p.told ≡ true → fits found p.now ≡ true = λ known. let b = some_both v.content _ _ (h.disk.told known) is in found_fits found p.now (b.2 p.now b.1) in (
+    let q : Place = record { site = p.site; told = p.told; now = p.now; left = p.left; outcomes = filter (fits found) p.outcomes; faults = w.faults; simulated = p.simulated } in
+    let now : p.told ≡ true → fits found p.now ≡ true = λ known. let b = some_both v.content _ _ (stands_told v p h.disk known) is in found_fits found p.now (b.2 p.now b.1) in (
       q,
       record {
-        kept = record { site = refl; now = refl; outcomes = λ o a. (among_kept (fits found) p.outcomes o a).0; faults = omega (arith, k.later, h.disk.faults); same = record { told = refl; simulated = refl } };
+        kept = record { site = refl; now = refl; left = refl; outcomes = λ o a. (among_kept (fits found) p.outcomes o a).0; faults = omega (arith, k.later, h.disk.faults); same = record { told = refl; simulated = refl } };
         now = now;
         outcomes = λ known o a. (among_kept (fits found) p.outcomes o a).1;
       },
       record {
         disk = record {
-          told = λ known.
-              let b = some_both v.content _ _ (h.disk.told known) same in
-              some_and w.content (λ files. (c : Contents) → Stands b.0 c → Stands files c) (λ files. Stands files p.now) (λ f x. x p.now b.1)
-              (some_and_of w.content (λ files. (c : Contents) → Stands b.0 c → Stands files c) (k.still_told (told_is v.content _ (h.disk.told known))) b.2);
+          told = λ known. subst (λ (x : Option Files). IsSomeAnd x (λ files. Reads files p.now p.left)) (sym same) (h.disk.told known);
           images = λ known c i.
               let o = look_images v w p k h.disk known c i in
-              let b = some_both v.content _ _ (h.disk.told known) alike in
+              let b = some_both v.content _ _ (stands_told v p h.disk known) alike in
               (o.0, kept_among (fits found) p.outcomes o.0 o.1 (fits_alike found p.now o.0 (b.2 p.now o.0 c b.1 i o.2) ∙ now known), o.2);
           faults = refl;
           simulated = k.simulated ∙ h.disk.simulated;
@@ -124,14 +123,14 @@ saw view old disk found k free is same alike p h =
 
 -- a call failed, or there was no memory
 looked_before : {D : Type 0} (view : D → View) (old : Slot D) (disk : D) (p : Place) → IsLook (view old.disk) (view disk) → old.site ≡ None → IsPlace view old p
-    → (now : Contents) × (p.told ≡ true → Among p.outcomes now)
-    × IsPlace view (record { disk = disk; site = old.site }) (record { site = p.site; told = p.told; now = now; outcomes = p.outcomes; faults = (view disk).faults; simulated = p.simulated })
+    → (now : Contents) × (left : Leftover) × (p.told ≡ true → Among p.outcomes now) × (p.told ≡ true → IsBehind now left)
+    × IsPlace view (record { disk = disk; site = old.site }) (record { site = p.site; told = p.told; now = now; left = left; outcomes = p.outcomes; faults = (view disk).faults; simulated = p.simulated })
 looked_before view old disk p k free h =
     let v = view old.disk in
     let w = view disk in
     let m = place_of_images w p p.site p.outcomes k.lawful (k.simulated ∙ h.disk.simulated) (λ known. k.still_told (told_is v.content _ (h.disk.told known))) (λ known c i. look_images v w p k h.disk known c i) in
-    let q : Place = record { site = p.site; told = p.told; now = m.0; outcomes = p.outcomes; faults = w.faults; simulated = p.simulated } in
-    (m.0, m.1, record { disk = m.2; site = h.site; held = none_held view (record { disk = disk; site = old.site }) q free })
+    let q : Place = record { site = p.site; told = p.told; now = m.now; left = m.left; outcomes = p.outcomes; faults = w.faults; simulated = p.simulated } in
+    (m.now, m.left, m.among, m.behind, record { disk = m.matches; site = h.site; held = none_held view (record { disk = disk; site = old.site }) q free })
 
 abbrev pub Unread : SiteError → View → View → Type 0
 Unread (Failed fault) v w = (fault ≡ w.faults) × Rose v.faults w.faults
@@ -147,31 +146,32 @@ left_so : {D : Type 0} (view : D → View) (old : Slot D) (disk : D) → IsLook 
     → (q : Place) × LeavesOld p q × IsPlace view (record { disk = disk; site = old.site }) q
 left_so view old disk k free p h =
     let m = looked_before view old disk p k free h in
-    (record { site = p.site; told = p.told; now = m.0; outcomes = p.outcomes; faults = (view disk).faults; simulated = p.simulated }, record { told = refl; outcomes = λ known o a. a }, m.2)
+    (record { site = p.site; told = p.told; now = m.0; left = m.1; outcomes = p.outcomes; faults = (view disk).faults; simulated = p.simulated }, record { told = refl; outcomes = λ known o a. a }, m.4)
 
 saw_nothing : {D : Type 0} (view : D → View) (old : Slot D) (disk : D) (e : SiteError) → IsLook (view old.disk) (view disk) → old.site ≡ None → Unread e (view old.disk) (view disk) → LooksHere view old (record { disk = disk; site = old.site }) (Err e)
 saw_nothing view old disk (Failed fault) k free u p h =
     let w = view disk in
     let m = looked_before view old disk p k free h in
-    let q : Place = record { site = p.site; told = p.told; now = m.0; outcomes = p.outcomes; faults = w.faults; simulated = p.simulated } in
+    let q : Place = record { site = p.site; told = p.told; now = m.0; left = m.1; outcomes = p.outcomes; faults = w.faults; simulated = p.simulated } in
     let none = site_none view old p free h in (
       q,
       record {
         free = none;
         site = none;
-        now = m.1;
+        now = m.2;
+        left = m.3;
         outcomes = λ known o a. a;
         faults = record { count = sym u.0; rose = subst (λ (x : ℕ). Rose p.faults x) (sym u.0) (subst (λ (x : ℕ). Rose x w.faults) h.disk.faults u.1); same = record { told = refl; simulated = refl } };
       },
-      m.2,
+      m.4,
     )
 saw_nothing view old disk (NotAFile file offset) k free u p h =
     let v = view old.disk in
     let w = view disk in
-    let unknown : p.told ≡ false = not_true p.told (λ known. let b = some_both v.content _ _ (h.disk.told known) u in b.2 p.now b.1) in
-    let q : Place = record { site = p.site; told = p.told; now = p.now; outcomes = p.outcomes; faults = w.faults; simulated = p.simulated } in (
+    let unknown : p.told ≡ false = not_true p.told (λ known. let b = some_both v.content _ _ (stands_told v p h.disk known) u in b.2 p.now b.1) in
+    let q : Place = record { site = p.site; told = p.told; now = p.now; left = p.left; outcomes = p.outcomes; faults = w.faults; simulated = p.simulated } in (
       q,
-      record { unknown = unknown; kept = record { site = refl; now = refl; outcomes = λ o a. a; faults = omega (arith, k.later, h.disk.faults); same = record { told = refl; simulated = refl } } },
+      record { unknown = unknown; kept = record { site = refl; now = refl; left = refl; outcomes = λ o a. a; faults = omega (arith, k.later, h.disk.faults); same = record { told = refl; simulated = refl } } },
       record {
         disk = record {
           told = λ known. absurd (false≢true (sym unknown ∙ known));
@@ -211,7 +211,7 @@ looked_cut view old new c r look p h =
 
 pub looks : {D : Type 0} (view : D → View) (old : Slot D) (disk : D) (r : Result (Option Layout) SiteError) → IsLook (view old.disk) (view disk) → old.site ≡ None
     → IfOk r (λ found. IfSome (view old.disk).content (λ files. (c : Contents) → Stands files c → IsFound c found))
-    → IfSome (view old.disk).content (λ files. IfSome (view disk).content (λ now. (c : Contents) → Stands files c → Stands now c))
+    → (view disk).content ≡ (view old.disk).content
     → OnOk r (IfSome (view old.disk).content (λ files. (c o : Contents) (f : Files) → Stands files c → Image (view disk) f → Stands f o → o.instance ≡ c.instance))
     → ((file offset : ℕ) → IsErrOf r (NotAFile file offset) → IfSome (view old.disk).content (λ files. (c : Contents) → Stands files c → ⊥))
     → ((fault : ℕ) → IsErrOf r (Failed fault) → fault ≡ (view disk).faults) → ((fault : ℕ) → IsErrOf r (Failed fault) → Rose (view old.disk).faults (view disk).faults)

@@ -18,10 +18,10 @@ use Rattle.site_store.proofs.Standing.{images_stand}
 use Rattle.world_defs.specs.Lists.{Among}
 use Rattle.world_defs.specs.World as world
 use Rattle.command_defs.specs.Commands.{Name, Run}
-use Rattle.world_defs.specs.World.{Contents, Place}
+use Rattle.world_defs.specs.World.{Contents, Leftover, NO_LEFTOVER, Place}
 use Rattle.world_defs.specs.Answers.{Stopped, NotPrimary, Section, Ran}
 use Rattle.world_defs.specs.Refusals.{stopped, not_primary}
-use Rattle.world_defs.specs.Rows.{in_new_state, with_sequence, IsFrontOf, turn_of}
+use Rattle.world_defs.specs.Rows.{in_new_state, with_sequence, IsBehind, IsFrontOf, turn_of}
 use Rattle.world_defs.specs.Step.{RunMayLeaveOn}
 use Rattle.world_defs.specs.Output.{line, fault_line, reply_line, printed, section_text, turn_on}
 use Rattle.world_defs.specs.Ties.{Matches}
@@ -33,6 +33,7 @@ use Rattle.site_runner.specs.Here.{cause_here}
 use Rattle.site_runner.specs.Steps.{IsAt, ExecutesAt, IsCutAt}
 use Rattle.site_runner.proofs.Ats.{refuses, kept_same, state_at, first_cause, second_cause, no_cause, told_is, reads_image, place_of_images, place_of_one, only, open_reads, open_images}
 use Rattle.site_runner.proofs.Stopped.{reigns_at, length_tagged}
+use Rattle.site_runner.proofs.Begun.{nat_cases, in_first, in_second, in_either}
 
 -- What jobs are left doesn't depend on what they come to.
 
@@ -98,14 +99,6 @@ are_fronts c all low zero le o (inr h) = absurd h
 are_fronts c all low (suc d) le o (inl h) = record { count = low + suc d; least = omega arith; most = le; is = h }
 are_fronts c all low (suc d) le o (inr h) = are_fronts c all low d (omega (arith, le)) o h
 
-nat_cases : (i d : ℕ) → i ≤ suc d → (i ≡ suc d) ⊎ (i ≤ d)
-nat_cases zero d le = inr (omega arith)
-nat_cases (suc i) zero le = inl (omega (arith, le))
-nat_cases (suc i) (suc d) le = elim (nat_cases i d (omega (arith, le))) [
-  | inl e ↦ inl (ap suc e)
-  | inr l ↦ inr (omega (arith, l))
-]
-
 among_fronts : (c : Contents) (all : Sequence) (low d i : ℕ) (o : Contents) → i ≤ d → o ≡ with_sequence c (take (low + i) all) → Among (fronts c all low d) o
 among_fronts c all low zero i o le e = inl (e ∙ ap (λ (n : ℕ). with_sequence c (take n all)) (omega (arith, le)))
 among_fronts c all low (suc d) i o le e = elim (nat_cases i d le) [
@@ -119,9 +112,11 @@ front_among c all low o f = among_fronts c all low (length all - low) (f.count -
 -- a place at which each image stands for a front
 pub record FrontPlace (w : View) (p : Place) (state : Option world.Site) (all : Sequence) (low : ℕ) : Type 1 where
   pub now : Contents
+  pub left : Leftover
   pub front : p.told ≡ true → IsFrontOf all low p.now now
+  pub behind : p.told ≡ true → IsBehind now left
   pub fronts_all : p.told ≡ true → (o : Contents) → Among (fronts p.now all low (length all - low)) o → IsFrontOf all low p.now o
-  pub matches : Matches w (record { site = state; told = p.told; now = now; outcomes = fronts p.now all low (length all - low); faults = w.faults; simulated = p.simulated })
+  pub matches : Matches w (record { site = state; told = p.told; now = now; left = left; outcomes = fronts p.now all low (length all - low); faults = w.faults; simulated = p.simulated })
 
 pub front_place : (w : View) (p : Place) (state : Option world.Site) (all : Sequence) (low : ℕ) → IsLawful w → w.simulated ≡ p.simulated → MayHaveFront w p.told p.now all low → FrontPlace w p state all low
 front_place w p state all low law same may =
@@ -132,22 +127,22 @@ front_place w p state all low law same may =
     omega (arith, o.1.least, o.1.most) in
     let all_fronts : p.told ≡ true → (o : Contents) → Among list o → IsFrontOf all low p.now o = λ sure o a. are_fronts p.now all low (length all - low) (omega (arith, low_is sure)) o a in
     let m = place_of_images w p state list law same may.told (λ sure c i. let o = may.images sure c i in (o.0, front_among p.now all low o.0 o.1, inr o.2)) in
-    record { now = m.0; front = λ sure. all_fronts sure m.0 (m.1 sure); fronts_all = all_fronts; matches = m.2 }
+    record { now = m.now; left = m.left; front = λ sure. all_fronts sure m.now (m.among sure); behind = m.behind; fronts_all = all_fronts; matches = m.matches }
 
 of_sequence : (name : Name) (c : Contents) (seq : Sequence) → IsOf name c → IsOf name (with_sequence c seq)
 of_sequence name c seq h = record { made = h.made; name = h.name }
 
 -- all jobs are decided
-pub ran : (v w : View) (s : Site) (r new : Reign) (jobs : List (List Job)) (order : List ℕ) (before middle now : List ℕ) → UsesUp jobs order → s.state ≡ Primary r → new.site.stamp ≡ r.site.stamp → w.simulated ≡ v.simulated → v.faults ≤ w.faults
+pub ran : (v w : View) (s : Site) (r new : Reign) (jobs : List (List Job)) (order : List ℕ) (before middle now : List ℕ) → IsLawful w → UsesUp jobs order → s.state ≡ Primary r → new.site.stamp ≡ r.site.stamp → w.simulated ≡ v.simulated → v.faults ≤ w.faults
     → ((told : Bool) (c : Contents) → Reigns v told c r → HasDecided w told c jobs order r new before middle)
     → now ≡ middle ++ line s.name (codes "AT " ++ decimal (length new.site.entries.items)) → ExecutesAt (Run s.name jobs order) v s w (record { name = s.name; state = Primary new }) before now
-ran v w s r new jobs order before middle now whole st stamped same later f t p h =
+ran v w s r new jobs order before middle now law whole st stamped same later f t p h =
     let d : HasDecided w p.told p.now jobs order r new before middle = f p.told p.now (reigns_at v s r p st h) in
     let stamp = stamp_of r in
     let turn : Turn = turn_of stamp r.serials jobs order p.now.sequence in
     let state : world.State = world.Primary stamp turn.serials in
     let o : Contents = with_sequence p.now turn.sequence in
-    let q : Place = record { site = in_new_state state p.site; told = p.told; now = o; outcomes = o ∷ []; faults = w.faults; simulated = p.simulated } in
+    let q : Place = record { site = in_new_state state p.site; told = p.told; now = o; left = NO_LEFTOVER; outcomes = o ∷ []; faults = w.faults; simulated = p.simulated } in
     let ends : Section = record { picks = order; hardened = length turn.sequence; fault = None } in
     let count : length new.site.entries.items ≡ length turn.sequence = length_tagged new.site.entries.items turn.sequence 1 d.reigns.remembered.entries in
     let text : turn_on p.site jobs ends p ≡ turn = ap (λ (x : Option world.Site). turn_on x jobs ends p) (site_is v s r p st h) in
@@ -163,17 +158,17 @@ ran v w s r new jobs order before middle now whole st stamped same later f t p h
           picks = refl;
           ran = record {
             all_decided = used_up stamp r.serials jobs order p.now.sequence whole;
-            becomes = record { site = refl; now = refl; outcomes = refl; faults = omega (arith, later, h.disk.faults); same = record { told = refl; simulated = refl } };
+            becomes = record { site = refl; now = refl; left = refl; outcomes = refl; faults = omega (arith, later, h.disk.faults); same = record { told = refl; simulated = refl } };
           };
         },
       ),
       record {
-        disk = place_of_one w p q.site o (same ∙ h.disk.simulated) (λ sure. open_reads w p.told o new.site sure d.reigns) (λ sure. open_images w p.told o new.site sure d.reigns);
+        disk = place_of_one w p q.site o (same ∙ h.disk.simulated) (λ sure. open_reads w p.told o new.site law sure d.reigns) (λ sure. open_images w p.told o new.site sure d.reigns);
         site = ap (in_new_state state) h.site ∙ ap (λ (x : List ℕ). Some (record { name = s.name; state = world.Primary stamp x })) (sym d.serials)
             ∙ ap (λ (x : Stamp). Some (record { name = s.name; state = world.Primary x new.serials })) stamp_new;
         held = record {
           made = λ sure. let k = of_sequence s.name p.now turn.sequence (h.held.made sure).now in record { now = k; outcomes = λ x j. subst (IsOf s.name) (sym (only x o j)) k };
-          state = record { reigns = d.reigns; settled = λ sure x j. only x o j };
+          state = record { reigns = d.reigns; settled = λ sure x j. only x o j; left = λ sure. refl };
         };
       },
       t ∙ ap (λ (x : List ℕ). x ++ line s.name (codes "AT " ++ decimal (length new.site.entries.items))) d.text
@@ -199,7 +194,7 @@ ran_to_fault v w s r jobs order k undecided before middle now law st same count 
     let rest : undecided ≡ length order - length (printed a.hardened turn.replies) = omega (arith, a.count) in
     let of = λ (sure : p.told ≡ true) (o : Contents) (g : IsFrontOf turn.sequence a.hardened p.now o). subst (IsOf s.name) (sym g.is) (of_sequence s.name p.now (take g.count turn.sequence) (h.held.made sure).now) in (
       Ran ends,
-      record { site = state; told = p.told; now = front.now; outcomes = fronts p.now turn.sequence a.hardened (length turn.sequence - a.hardened); faults = w.faults; simulated = p.simulated },
+      record { site = state; told = p.told; now = front.now; left = front.left; outcomes = fronts p.now turn.sequence a.hardened (length turn.sequence - a.hardened); faults = w.faults; simulated = p.simulated },
       (
         none_primary v s r jobs order p st h,
         record {
@@ -213,6 +208,7 @@ ran_to_fault v w s r jobs order k undecided before middle now law st same count 
             fails = record {
               site = refl;
               now = front.front;
+              left = front.behind;
               outcomes = front.fronts_all;
               faults = record { count = sym count; rose = subst (λ (x : ℕ). Rose p.faults x) (sym count) (subst (λ (x : ℕ). Rose x w.faults) h.disk.faults rose); same = record { told = refl; simulated = refl } };
             };
@@ -244,7 +240,7 @@ run_cut v w s r jobs order law st same f p h =
     let all = (turn_of (stamp_of r) r.serials jobs (take m order) p.now.sequence).sequence in
     let front = front_place w p p.site all low law (same ∙ h.disk.simulated) d.3 in
     let lower : (o : Contents) → IsFrontOf all low p.now o → IsFrontOf all (length p.now.sequence) p.now o = λ o g. record { count = g.count; least = omega (arith, d.2, g.least); most = g.most; is = g.is } in (
-      record { site = p.site; told = p.told; now = front.now; outcomes = fronts p.now all low (length all - low); faults = w.faults; simulated = p.simulated },
+      record { site = p.site; told = p.told; now = front.now; left = front.left; outcomes = fronts p.now all low (length all - low); faults = w.faults; simulated = p.simulated },
       record {
         told = refl;
         outcomes = λ sure o a. inr (subst (λ (x : Option world.Site). RunMayLeaveOn x jobs order p o) (sym (site_is v s r p st h)) (m, lower o (front.fronts_all sure o a)));
@@ -287,20 +283,6 @@ front_if_among (suc x) c all low o e f = absurd (omega (arith, e, f.least, f.mos
 abbrev pub all_fronts : (ℕ → Sequence) → ℕ → Contents → ℕ → List Contents
 all_fronts f zero c low = fronts_if (low - length (f 0)) c (f 0) low
 all_fronts f (suc k) c low = fronts_if (low - length (f (suc k))) c (f (suc k)) low ++ all_fronts f k c low
-
-in_first : (xs ys : List Contents) (o : Contents) → Among xs o → Among (xs ++ ys) o
-in_first [] ys o h = absurd h
-in_first (x ∷ xs) ys o (inl h) = inl h
-in_first (x ∷ xs) ys o (inr h) = inr (in_first xs ys o h)
-
-in_second : (xs ys : List Contents) (o : Contents) → Among ys o → Among (xs ++ ys) o
-in_second [] ys o h = h
-in_second (x ∷ xs) ys o h = inr (in_second xs ys o h)
-
-in_either : (xs ys : List Contents) (o : Contents) → Among (xs ++ ys) o → Among xs o ⊎ Among ys o
-in_either [] ys o h = inr h
-in_either (x ∷ xs) ys o (inl h) = inl (inl h)
-in_either (x ∷ xs) ys o (inr h) = elim (in_either xs ys o h) [ inl a ↦ inl (inr a) | inr b ↦ inr b ]
 
 are_all_fronts : (f : ℕ → Sequence) (k : ℕ) (c : Contents) (low : ℕ) (o : Contents) → Among (all_fronts f k c low) o → (n : ℕ) × IsFrontOf (f n) low c o
 are_all_fronts f zero c low o a = (0, are_fronts_if (low - length (f 0)) c (f 0) low o refl a)
@@ -349,11 +331,11 @@ run_cut_any v w s r jobs order law st same f p h =
     let runs : ℕ → Sequence = runs_of (stamp_of r) r.serials jobs order p.now.sequence in
     let list = all_fronts runs (length order) p.now low in
     let m = place_of_images w p p.site list law (same ∙ h.disk.simulated) d.told (λ is c i. let o = d.images is c i in (o.0, among_runs (stamp_of r) r.serials jobs order p.now o.0 o.1.0 o.1.1, inr o.2)) in (
-      record { site = p.site; told = p.told; now = m.0; outcomes = list; faults = w.faults; simulated = p.simulated },
+      record { site = p.site; told = p.told; now = m.now; left = m.left; outcomes = list; faults = w.faults; simulated = p.simulated },
       record {
         told = refl;
         outcomes = λ is o a. let k = are_all_fronts runs (length order) p.now low o a in
             inr (subst (λ (x : Option world.Site). RunMayLeaveOn x jobs order p o) (sym (site_is v s r p st h)) (k.0, k.1));
       },
-      m.2,
+      m.matches,
     )

@@ -7,22 +7,23 @@ use Rattle.disk_defs.specs.Disk.{Files, View, Image, IsLawful, AtEachMoment, Ros
 use Rattle.global_defs.specs.Entry as defs
 use Rattle.gvn_model.specs.declared.reign.Stamp.{Stamp}
 use Rattle.gvn_model.specs.Reigns.{stamp_value}
-use Rattle.journal_defs.specs.Instance.{generation, site_name}
+use Rattle.journal_defs.specs.Instance.{generation, regions, site_name}
 use Rattle.site_store.specs.declared.site.OpenSite.{OpenSite}
 use Rattle.site_store.specs.Site.{Remembers, IsOpen}
-use Rattle.site_store.specs.Opening.{OpensTo, MayOpen, EachStands}
+use Rattle.site_store.specs.Opening.{MayBeOpen, EachStands}
 use Rattle.repl_section.specs.declared.reign.Reign.{Reign}
 use Rattle.repl_section.specs.Reigns.{stamp_in, stamp_of}
 use Rattle.command_defs.specs.Commands.{Name, StartPrimary}
 use Rattle.world_defs.specs.Lists.{Among}
 use Rattle.world_defs.specs.World as world
-use Rattle.world_defs.specs.World.{Contents, Place}
+use Rattle.world_defs.specs.World.{Contents, Leftover, NO_LEFTOVER, Place}
 use Rattle.world_defs.specs.Answers.{Cause, Stopped, Running, GenLimit, ReignLimit, Answer, Refused, Done, DiskFault, NotAFile}
 use Rattle.world_defs.specs.Refusals.{first, in_state, stopped, running, limited, generation_limit, reign_limit}
-use Rattle.world_defs.specs.Rows.{in_new_state, opened, with_reign, next_stamp, MayBegin, MayBeginAny, FIRST_SERIALS}
+use Rattle.world_defs.specs.Rows.{in_new_state, opened, with_reign, next_stamp, MayBeginAny, FIRST_SERIALS}
 use Rattle.world_defs.specs.Step.{LeftAt}
 use Rattle.world_defs.specs.Output.{line, cycle_on}
-use Rattle.world_defs.specs.Ties.{IsSite, Stands, Matches}
+use Rattle.world_defs.specs.Ties.{IsSite, HasLeft, Stands, Reads, Matches}
+use Rattle.world_laws.proofs.StandsForOne.{stand_for_one}
 use Rattle.site_runner.specs.declared.slot.State.{State}
 use Rattle.site_runner.specs.declared.slot.State.TheVariants.{Down, Primary, Failed}
 use Rattle.site_runner.specs.declared.slot.Site.{Site}
@@ -30,7 +31,7 @@ use Rattle.site_runner.specs.Sites.{state_value, site_value, HoldsState, IsOf, I
 use Rattle.site_runner.specs.Here.{tests, cause_here, Here, text_here}
 use Rattle.site_runner.specs.Steps.{IsAt, ExecutesAt, IsCutAt}
 use Rattle.site_runner.specs.Starting.{IsOpenedAt, BeginsAt, IsCutOpened}
-use Rattle.site_runner.proofs.Ats.{refuses, kept_same, state_at, first_cause, second_cause, no_cause, not_true, is_true_or_false, some_both, told_is, is_site, at_moment, reads_image, place_of_images, place_of_one, only, open_reads, open_images}
+use Rattle.site_runner.proofs.Ats.{refuses, kept_same, state_at, first_cause, second_cause, no_cause, not_true, is_true_or_false, some_both, told_is, is_site, reads_site, stands_told, at_moment, reads_image, ReadPlace, place_of_images, place_of_one, only, open_reads, open_images}
 use Rattle.site_runner.proofs.Stopped.{length_tagged}
 use Rattle.site_runner.proofs.Begun.{limit_opened, stamp_opened, of_opened, of_begun, of_may_begin, begins, among_begins, begins_among, generation_past, generation_left}
 
@@ -73,7 +74,7 @@ not_limited p (inr unsure) g r = ap (λ (b : Bool). if b then first (generation_
 
 -- a place as it was, but for faults that were counted
 abbrev pub counted : Place → ℕ → Place
-counted p faults = record { site = p.site; told = p.told; now = p.now; outcomes = p.outcomes; faults = faults; simulated = p.simulated }
+counted p faults = record { site = p.site; told = p.told; now = p.now; left = p.left; outcomes = p.outcomes; faults = faults; simulated = p.simulated }
 
 unknown_matches : (w : View) (p : Place) → p.told ≡ false → w.simulated ≡ p.simulated → Matches w (counted p w.faults)
 unknown_matches w p unsure same = record { told = λ sure. absurd (false≢true (sym unsure ∙ sure)); images = λ sure. absurd (false≢true (sym unsure ∙ sure)); faults = refl; simulated = same }
@@ -88,36 +89,50 @@ unknown_at w s p down site unsure same = record {
 
 -- What the opening of a site found, at its place.
 
+-- what the calls say of the disk
+
+abbrev pub Opens : View → View → OpenSite → Type 0
+Opens v w o = IfSome v.content (λ files. (c : Contents) (left : Leftover) → IsSite files c → HasLeft files c left → EachStands v → IsOpen w true (opened left.broken c) (length c.sequence) o)
+
+abbrev pub HasGenerations : View → Type 0
+HasGenerations v = IfSome v.content (λ files. (c : Contents) → IsSite files c → generation c.instance < 65534)
+
+abbrev pub OpensAtMoments : View → View → Type 0
+OpensAtMoments v w = IfSome v.content (λ files. (c : Contents) (left : Leftover) → IsSite files c → HasLeft files c left → AtEachMoment v w (MayBeOpen v left.broken))
+
 each_stands : (v : View) (p : Place) → Matches v p → p.told ≡ true → EachStands v
 each_stands v p m sure f i = let o = m.images sure f i in (o.0, o.2)
 
 opened_told : (v w : View) (s : Site) (o : OpenSite) (p : Place) → IsLawful v → s.state ≡ Down → IsAt v s p → site_name o.instance.records ≡ s.name → p.told ≡ true
-    → IfSome v.content (λ files. (c : Contents) → IsSite files c → EachStands v → IsOpen w true (opened c) (length c.sequence) o) → IfSome v.content (λ files. (c : Contents) → IsSite files c → generation c.instance < 65534)
+    → Opens v w o → HasGenerations v
     → w.simulated ≡ v.simulated → v.faults ≤ w.faults → IsOpenedAt w s o p
 opened_told v w s o p law down h name sure told drawn same later =
     let made : IsMade s.name p = h.held.made sure in
-    let here = some_both v.content _ _ (h.disk.told sure) told in
-    let site : IsSite here.0 p.now = is_site here.0 p.now made.now.made here.1 in
-    let drawn_here = some_both v.content _ _ (h.disk.told sure) drawn in
     let read = reads_image v law (told_is v.content _ (h.disk.told sure)) in
+    let reads = subst (λ (x : Option Files). IsSomeAnd x (λ files. Reads files p.now p.left)) read.1 (h.disk.told sure) in
+    let site = reads_site read.0 p.now p.left made.now.made reads in
     let out = h.disk.images sure read.0 read.2 in
-    let told_there : (c : Contents) → IsSite read.0 c → EachStands v → IsOpen w true (opened c) (length c.sequence) o = subst (λ (x : Option Files). IfSome x (λ files. (c : Contents) → IsSite files c → EachStands v → IsOpen w true (opened c) (length c.sequence) o)) read.1 told in
-    let one : IsOpen w true (opened p.now) (length p.now.sequence) o = here.2 p.now site (each_stands v p h.disk sure) in
+    let same_out : out.0 ≡ p.now = stand_for_one read.0 out.0 p.now out.2 (inr site.0) in
+    let here = subst (λ (x : Option Files). IfSome x (λ files. (c : Contents) (left : Leftover) → IsSite files c → HasLeft files c left → EachStands v → IsOpen w true (opened left.broken c) (length c.sequence) o)) read.1 told in
+    let one : IsOpen w true (opened p.left.broken p.now) (length p.now.sequence) o = here p.now p.left site.0 site.1 (each_stands v p h.disk sure) in
+    let drawn_here = subst (λ (x : Option Files). IfSome x (λ files. (c : Contents) → IsSite files c → generation c.instance < 65534)) read.1 drawn in
     record {
       site = h.site;
       down = down;
       made = h.held.made;
       name = name;
       read = p.now;
+      broken = p.left.broken;
       as_before = λ _. refl;
+      as_left = λ _. refl;
       is_open = record { remembered = one.remembered; kept = λ _. one.kept refl };
-      outcome = λ _. (out.0, out.1, told_there out.0 (is_site read.0 out.0 (made.outcomes out.0 out.1).made out.2) (each_stands v p h.disk sure));
-      drawn = λ _. generation_left p.now (drawn_here.2 p.now (is_site drawn_here.0 p.now made.now.made drawn_here.1));
+      outcome = λ _. (p.now, subst (λ (x : Contents). Among p.outcomes x) same_out out.1, one);
+      drawn = λ _. generation_left p.now (drawn_here p.now site.0);
       faults = omega (arith, later, h.disk.faults);
       simulated = same ∙ h.disk.simulated;
     }
 
-opened_untold : (v w : View) (s : Site) (o : OpenSite) (p : Place) → s.state ≡ Down → IsAt v s p → site_name o.instance.records ≡ s.name → p.told ≡ false → ((c : Contents) × Remembers (opened c) (length c.sequence) o)
+opened_untold : (v w : View) (s : Site) (o : OpenSite) (p : Place) → s.state ≡ Down → IsAt v s p → site_name o.instance.records ≡ s.name → p.told ≡ false → ((c : Contents) × (broken : List ℕ) × Remembers (opened broken c) (length c.sequence) o)
     → w.simulated ≡ v.simulated → v.faults ≤ w.faults → IsOpenedAt w s o p
 opened_untold v w s o p down h name unsure read same later = record {
   site = h.site;
@@ -125,16 +140,18 @@ opened_untold v w s o p down h name unsure read same later = record {
   made = h.held.made;
   name = name;
   read = read.0;
+  broken = read.1;
   as_before = λ sure. absurd (false≢true (sym unsure ∙ sure));
-  is_open = record { remembered = read.1; kept = λ sure. absurd (false≢true (sym unsure ∙ sure)) };
+  as_left = λ sure. absurd (false≢true (sym unsure ∙ sure));
+  is_open = record { remembered = read.2; kept = λ sure. absurd (false≢true (sym unsure ∙ sure)) };
   outcome = λ sure. absurd (false≢true (sym unsure ∙ sure));
   drawn = λ sure. absurd (false≢true (sym unsure ∙ sure));
   faults = omega (arith, later, h.disk.faults);
   simulated = same ∙ h.disk.simulated;
 }
 
-pub opened_at : (v w : View) (s : Site) (o : OpenSite) (p : Place) → IsLawful v → s.state ≡ Down → IsAt v s p → site_name o.instance.records ≡ s.name → ((c : Contents) × Remembers (opened c) (length c.sequence) o)
-    → IfSome v.content (λ files. (c : Contents) → IsSite files c → EachStands v → IsOpen w true (opened c) (length c.sequence) o) → IfSome v.content (λ files. (c : Contents) → IsSite files c → generation c.instance < 65534)
+pub opened_at : (v w : View) (s : Site) (o : OpenSite) (p : Place) → IsLawful v → s.state ≡ Down → IsAt v s p → site_name o.instance.records ≡ s.name → ((c : Contents) × (broken : List ℕ) × Remembers (opened broken c) (length c.sequence) o)
+    → Opens v w o → HasGenerations v
     → w.simulated ≡ v.simulated → v.faults ≤ w.faults → IsOpenedAt w s o p
 opened_at v w s o p law down h name read told drawn same later = elim (is_true_or_false p.told) [
   | inl sure ↦ opened_told v w s o p law down h name sure told drawn same later
@@ -150,14 +167,14 @@ pub record MayHaveBegun (w : View) (s : Site) (p : Place) : Type 0 where
   pub simulated : w.simulated ≡ p.simulated
 
 begun_place : (w : View) (s : Site) (p : Place) (site : Option world.Site) → IsLawful w → MayHaveBegun w s p
-    → (now : Contents) × (p.told ≡ true → Among (begins s.name p.outcomes) now) × Matches w (record { site = site; told = p.told; now = now; outcomes = begins s.name p.outcomes; faults = w.faults; simulated = p.simulated })
+    → ReadPlace w p site (begins s.name p.left.broken p.outcomes)
 begun_place w s p site law b =
-    place_of_images w p site (begins s.name p.outcomes) law b.simulated b.still_told (λ sure f i. let k = b.images sure f i in (k.0, begins_among s.name p.outcomes k.1.0 k.0 k.1.1 k.1.2, k.2))
+    place_of_images w p site (begins s.name p.left.broken p.outcomes) law b.simulated b.still_told (λ sure f i. let k = b.images sure f i in (k.0, begins_among s.name p.left.broken p.outcomes k.1.0 k.0 k.1.1 k.1.2, k.2))
 
 pub begun_cut : (w : View) (s : Site) (p : Place) → IsLawful w → MayHaveBegun w s p → (q : Place) × LeftAt true (StartPrimary s.name) p q × Matches w q
 begun_cut w s p law b =
     let m = begun_place w s p p.site law b in
-    (record { site = p.site; told = p.told; now = m.0; outcomes = begins s.name p.outcomes; faults = w.faults; simulated = p.simulated }, record { told = refl; outcomes = λ sure o a. inr (among_begins s.name p.outcomes o a) }, m.2)
+    (record { site = p.site; told = p.told; now = m.now; left = m.left; outcomes = begins s.name p.left.broken p.outcomes; faults = w.faults; simulated = p.simulated }, record { told = refl; outcomes = λ sure o a. inr (among_begins s.name p.left.broken p.outcomes o a) }, m.matches)
 
 -- what START answers from a place
 abbrev pub Answers : View → Site → Place → Site → List ℕ → List ℕ → Type 0
@@ -168,22 +185,23 @@ pub begun_fault : (w : View) (s : Site) (p : Place) (k : ℕ) (before now : List
 begun_fault w s p k before now law down site made b count rose t =
     let state = in_new_state (world.Failed k) p.site in
     let m = begun_place w s p state law b in
-    let of = λ (sure : p.told ≡ true) (o : Contents) (a : Among (begins s.name p.outcomes) o). (let x = among_begins s.name p.outcomes o a in of_may_begin s.name x.0 o ((made sure).outcomes x.0 x.1) x.2) in (
+    let of = λ (sure : p.told ≡ true) (o : Contents) (a : Among (begins s.name p.left.broken p.outcomes) o). (let x = among_begins s.name p.left.broken p.outcomes o a in of_may_begin s.name p.left.broken x.0 o ((made sure).outcomes x.0 x.1) x.2) in (
       DiskFault k,
-      record { site = state; told = p.told; now = m.0; outcomes = begins s.name p.outcomes; faults = w.faults; simulated = p.simulated },
+      record { site = state; told = p.told; now = m.now; left = m.left; outcomes = begins s.name p.left.broken p.outcomes; faults = w.faults; simulated = p.simulated },
       (
         early_down s p down site,
         record {
           site = refl;
-          now = λ sure. among_begins s.name p.outcomes m.0 (m.1 sure);
-          outcomes = λ sure o a. among_begins s.name p.outcomes o a;
+          now = λ sure. among_begins s.name p.left.broken p.outcomes m.now (m.among sure);
+          left = m.behind;
+          outcomes = λ sure o a. among_begins s.name p.left.broken p.outcomes o a;
           faults = record { count = sym count; rose = subst (λ (x : ℕ). Rose p.faults x) (sym count) rose; same = record { told = refl; simulated = refl } };
         },
       ),
       record {
-        disk = m.2;
+        disk = m.matches;
         site = ap (in_new_state (world.Failed k)) site;
-        held = record { made = λ sure. record { now = of sure m.0 (m.1 sure); outcomes = of sure }; state = tt };
+        held = record { made = λ sure. record { now = of sure m.now (m.among sure); outcomes = of sure }; state = tt };
       },
       t,
     )
@@ -192,31 +210,27 @@ rose_at : (v w : View) (p : Place) → Matches v p → Rose v.faults w.faults �
 rose_at v w p m h = subst (λ (x : ℕ). Rose x w.faults) m.faults h
 
 -- the opening of a site was begun
-pub load_begun : (v w : View) (s : Site) (p : Place) → IsLawful w → IsAt v s p → IfSome v.content (λ files. (c : Contents) → IsSite files c → AtEachMoment v w (MayOpen v)) → (IsSome v.content → IsSome w.content) → w.simulated ≡ v.simulated → MayHaveBegun w s p
+pub load_begun : (v w : View) (s : Site) (p : Place) → IsLawful w → IsAt v s p → OpensAtMoments v w → (IsSome v.content → IsSome w.content) → w.simulated ≡ v.simulated → MayHaveBegun w s p
 load_begun v w s p law h moments still same = record {
   still_told = λ sure. still (told_is v.content _ (h.disk.told sure));
   images = λ sure f i.
       let made : IsMade s.name p = h.held.made sure in
       let here = some_both v.content _ _ (h.disk.told sure) moments in
-      let each = here.2 p.now (is_site here.0 p.now made.now.made here.1) in
-      let from = at_moment v w (MayOpen v) f law each i in
+      let site = reads_site here.0 p.now p.left made.now.made here.1 in
+      let each = here.2 p.now p.left site.0 site.1 in
+      let from = at_moment v w (MayBeOpen v p.left.broken) f law each i in
       let was = h.disk.images sure from.0 from.1 in
       let now = from.2 was.0 (is_site from.0 was.0 (made.outcomes was.0 was.1).made was.2) in
-      (now.0, (was.0, was.1, may_begin s.name was.0 now.0 now.1), inr now.2);
+      (now.0, (was.0, was.1, inl now.1), inr now.2);
   simulated = same ∙ h.disk.simulated;
 }
-  where
-    may_begin : (name : Name) (c o : Contents) → OpensTo c o → MayBegin name c o
-    may_begin name c o (inl e) = inl e
-    may_begin name c o (inr (inl e)) = inr (inl e)
-    may_begin name c o (inr (inr e)) = inr (inr (inl e))
 
-pub load_faulted : (v w : View) (s : Site) (k : ℕ) (before now : List ℕ) → IsLawful w → s.state ≡ Down → IfSome v.content (λ files. (c : Contents) → IsSite files c → AtEachMoment v w (MayOpen v)) → (IsSome v.content → IsSome w.content) → w.simulated ≡ v.simulated
+pub load_faulted : (v w : View) (s : Site) (k : ℕ) (before now : List ℕ) → IsLawful w → s.state ≡ Down → OpensAtMoments v w → (IsSome v.content → IsSome w.content) → w.simulated ≡ v.simulated
     → k ≡ w.faults → Rose v.faults w.faults → now ≡ before ++ line s.name (codes "DISKFAULT " ++ decimal k) → ExecutesAt (StartPrimary s.name) v s w (record { name = s.name; state = Failed k }) before now
 load_faulted v w s k before now law down moments still same count rose t p h =
     begun_fault w s p k before now law down h.site h.held.made (load_begun v w s p law h moments still same) count (rose_at v w p h.disk rose) t
 
-pub load_cut : (v w : View) (s : Site) → IsLawful w → IfSome v.content (λ files. (c : Contents) → IsSite files c → AtEachMoment v w (MayOpen v)) → (IsSome v.content → IsSome w.content) → w.simulated ≡ v.simulated → IsCutAt (StartPrimary s.name) v s w
+pub load_cut : (v w : View) (s : Site) → IsLawful w → OpensAtMoments v w → (IsSome v.content → IsSome w.content) → w.simulated ≡ v.simulated → IsCutAt (StartPrimary s.name) v s w
 load_cut v w s law moments still same p h = begun_cut w s p law (load_begun v w s p law h moments still same)
 
 -- there is no generation left
@@ -224,7 +238,7 @@ load_limit_told : (v w : View) (s : Site) (before now : List ℕ) (p : Place) �
     → w.content ≡ v.content → AtEachMoment v w (Image v) → w.simulated ≡ v.simulated → v.faults ≤ w.faults → now ≡ before ++ line s.name (codes "GENLIMIT") → Answers w s p s before now
 load_limit_told v w s before now p law down h sure limit unwritten untouched same later t =
     let made : IsMade s.name p = h.held.made sure in
-    let here = some_both v.content _ _ (h.disk.told sure) limit in
+    let here = some_both v.content _ _ (stands_told v p h.disk sure) limit in
     let q : Place = counted p w.faults in (
       Refused (record { site = s.name; cause = GenLimit }),
       q,
@@ -232,12 +246,12 @@ load_limit_told v w s before now p law down h sure limit unwritten untouched sam
         refl,
         inl (
           cause_down s p down h.site ∙ limited_generation p sure (generation_past p.now (here.2 p.now (is_site here.0 p.now made.now.made here.1))),
-          record { site = refl; now = refl; outcomes = λ o a. a; faults = omega (arith, later, h.disk.faults); same = record { told = refl; simulated = refl } },
+          record { site = refl; now = refl; left = refl; outcomes = λ o a. a; faults = omega (arith, later, h.disk.faults); same = record { told = refl; simulated = refl } },
         ),
       ),
       record {
         disk = record {
-          told = λ is. subst (λ (x : Option Files). IsSomeAnd x (λ files. Stands files p.now)) (sym unwritten) (h.disk.told is);
+          told = λ is. subst (λ (x : Option Files). IsSomeAnd x (λ files. Reads files p.now p.left)) (sym unwritten) (h.disk.told is);
           images = λ is c i. h.disk.images is c (at_moment v w (Image v) c law untouched i);
           faults = refl;
           simulated = same ∙ h.disk.simulated;
@@ -256,7 +270,7 @@ load_limit_untold v w s before now p down h unsure same later t = (
     refl,
     inr (
       early_down s p down h.site,
-      (inl refl, record { unknown = unsure; kept = record { site = refl; now = refl; outcomes = λ o a. a; faults = omega (arith, later, h.disk.faults); same = record { told = refl; simulated = refl } } }),
+      (inl refl, record { unknown = unsure; kept = record { site = refl; now = refl; left = refl; outcomes = λ o a. a; faults = omega (arith, later, h.disk.faults); same = record { told = refl; simulated = refl } } }),
     ),
   ),
   unknown_at w s p down h.site unsure (same ∙ h.disk.simulated),
@@ -276,7 +290,7 @@ damaged : (v w : View) (s : Site) (file offset : ℕ) (before now : List ℕ) (p
 damaged v w s file offset before now p down h unsure same later t = (
   NotAFile file offset,
   counted p w.faults,
-  (early_down s p down h.site, record { unknown = unsure; kept = record { site = refl; now = refl; outcomes = λ o a. a; faults = omega (arith, later, h.disk.faults); same = record { told = refl; simulated = refl } } }),
+  (early_down s p down h.site, record { unknown = unsure; kept = record { site = refl; now = refl; left = refl; outcomes = λ o a. a; faults = omega (arith, later, h.disk.faults); same = record { told = refl; simulated = refl } } }),
   unknown_at w s p down h.site unsure (same ∙ h.disk.simulated),
   t,
 )
@@ -285,18 +299,19 @@ pub load_damaged : (v w : View) (s : Site) (file offset : ℕ) (before now : Lis
     → now ≡ before ++ line s.name (codes "NOTAFILE " ++ decimal file ++ 32 ∷ decimal offset) → ExecutesAt (StartPrimary s.name) v s w s before now
 load_damaged v w s file offset before now down outside same later t p h =
     damaged v w s file offset before now p down h (not_true p.told (λ sure.
-    let here = some_both v.content _ _ (h.disk.told sure) outside in
+    let here = some_both v.content _ _ (stands_told v p h.disk sure) outside in
     here.2 p.now (is_site here.0 p.now (h.held.made sure).now.made here.1))) same later t
 
 -- another site stands there, which no known files tell
-pub load_other : (v w : View) (s : Site) (o : OpenSite) (before now : List ℕ) → s.state ≡ Down → (site_name o.instance.records ≡ s.name → ⊥) → IfSome v.content (λ files. (c : Contents) → IsSite files c → EachStands v → IsOpen w true (opened c) (length c.sequence) o)
+pub load_other : (v w : View) (s : Site) (o : OpenSite) (before now : List ℕ) → s.state ≡ Down → (site_name o.instance.records ≡ s.name → ⊥) → Opens v w o
     → w.simulated ≡ v.simulated → v.faults ≤ w.faults → now ≡ before ++ line s.name (codes "NOTAFILE " ++ decimal 0 ++ 32 ∷ decimal 0) → ExecutesAt (StartPrimary s.name) v s w s before now
 load_other v w s o before now down other told same later t p h =
     damaged v w s 0 0 before now p down h (not_true p.told (λ sure.
     let made : IsMade s.name p = h.held.made sure in
     let here = some_both v.content _ _ (h.disk.told sure) told in
-    let one : IsOpen w true (opened p.now) (length p.now.sequence) o = here.2 p.now (is_site here.0 p.now made.now.made here.1) (each_stands v p h.disk sure) in
-    let of : IsOf s.name (opened p.now) = of_opened s.name p.now made.now in
+    let site = reads_site here.0 p.now p.left made.now.made here.1 in
+    let one : IsOpen w true (opened p.left.broken p.now) (length p.now.sequence) o = here.2 p.now p.left site.0 site.1 (each_stands v p h.disk sure) in
+    let of : IsOf s.name (opened p.left.broken p.now) = of_opened s.name p.left.broken p.now made.now in
     other (ap site_name one.remembered.instance ∙ of.name))) same later t
 
 -- Beginning the reign of a site that was opened.
@@ -314,14 +329,15 @@ told_open v c n o h = told_is v.content _ (h.kept refl).reads
 
 reign_begun : (v w : View) (s : Site) (o : OpenSite) (p : Place) → Moments v w o → IsOpenedAt v s o p → MayHaveBegun w s p
 reign_begun v w s o p m h = record {
-  still_told = λ sure. let k = h.outcome sure in m.still_told (told_open v (opened k.0) (length k.0.sequence) o k.2);
+  still_told = λ sure. let k = h.outcome sure in m.still_told (told_open v (opened p.left.broken k.0) (length k.0.sequence) o k.2);
   images = λ sure f i.
       let k = h.outcome sure in
       let c : Contents = k.0 in
-      let name : site_name (opened c).instance ≡ s.name = sym (ap site_name k.2.remembered.instance) ∙ h.name in
-      elim (at_moment v w _ f m.lawful (m.any_moment (opened c) k.2) i) [
-        | inl before ↦ (opened c, (c, k.1, inr (inr (inl refl))), inr before)
-        | inr begun ↦ (with_reign s.name (opened c), (c, k.1, inr (inr (inr refl))), inr (subst (λ (n : Name). IsSite f (with_reign n (opened c))) name begun))
+      let d : Contents = opened p.left.broken c in
+      let name : site_name d.instance ≡ s.name = sym (ap site_name k.2.remembered.instance) ∙ h.name in
+      elim (at_moment v w _ f m.lawful (m.any_moment d k.2) i) [
+        | inl before ↦ (d, (c, k.1, inl (inr (length (regions c.instance), refl))), inr before)
+        | inr begun ↦ (with_reign s.name d, (c, k.1, inr refl), inr (subst (λ (n : Name). IsSite f (with_reign n d)) name begun))
       ];
   simulated = m.simulated ∙ h.simulated;
 }
@@ -335,25 +351,26 @@ pub reign_cut : (v w : View) (s : Site) (o : OpenSite) → Moments v w o → IsC
 reign_cut v w s o m p h = begun_cut w s p m.lawful (reign_begun v w s o p m h)
 
 -- there is no reign left
-reign_limit_told : (v : View) (s : Site) (o : OpenSite) (before now : List ℕ) (p : Place) → IsOpenedAt v s o p → p.told ≡ true → ((c : Contents) (n : ℕ) → Remembers c n o → reign_limit c ≡ Some ReignLimit)
+reign_limit_told : (v : View) (s : Site) (o : OpenSite) (before now : List ℕ) (p : Place) → IsLawful v → IsOpenedAt v s o p → p.told ≡ true → ((c : Contents) (n : ℕ) → Remembers c n o → reign_limit c ≡ Some ReignLimit)
     → now ≡ before ++ line s.name (codes "REIGNLIMIT") → Answers v s p s before now
-reign_limit_told v s o before now p h sure limit t =
-    let c : Contents = opened p.now in
-    let is_open : IsOpen v p.told c (length c.sequence) o = subst (λ (x : Contents). IsOpen v p.told (opened x) (length x.sequence) o) (h.as_before sure) h.is_open in
-    let q : Place = record { site = in_new_state world.Down p.site; told = p.told; now = c; outcomes = c ∷ []; faults = v.faults; simulated = p.simulated } in
-    let full : reign_limit p.now ≡ Some ReignLimit = sym (limit_opened p.now) ∙ limit c (length c.sequence) is_open.remembered in
-    let of : IsOf s.name c = of_opened s.name p.now (h.made sure).now in (
+reign_limit_told v s o before now p law h sure limit t =
+    let c : Contents = opened p.left.broken p.now in
+    let is_open : IsOpen v p.told c (length c.sequence) o = subst (λ (x : Contents). IsOpen v p.told (opened p.left.broken x) (length x.sequence) o) (h.as_before sure)
+    (subst (λ (b : List ℕ). IsOpen v p.told (opened b h.read) (length h.read.sequence) o) (h.as_left sure) h.is_open) in
+    let q : Place = record { site = in_new_state world.Down p.site; told = p.told; now = c; left = NO_LEFTOVER; outcomes = c ∷ []; faults = v.faults; simulated = p.simulated } in
+    let full : reign_limit p.now ≡ Some ReignLimit = sym (limit_opened p.left.broken p.now) ∙ limit c (length c.sequence) is_open.remembered in
+    let of : IsOf s.name c = of_opened s.name p.left.broken p.now (h.made sure).now in (
       Refused (record { site = s.name; cause = ReignLimit }),
       q,
       (
         refl,
         inl (
           cause_down s p h.down h.site ∙ limited_told p None (Some ReignLimit) sure (h.drawn sure) full,
-          record { site = refl; now = refl; outcomes = refl; faults = h.faults; same = record { told = refl; simulated = refl } },
+          record { site = refl; now = refl; left = refl; outcomes = refl; faults = h.faults; same = record { told = refl; simulated = refl } },
         ),
       ),
       record {
-        disk = place_of_one v p q.site c h.simulated (λ is. open_reads v p.told c o is is_open) (λ is. open_images v p.told c o is is_open);
+        disk = place_of_one v p q.site c h.simulated (λ is. open_reads v p.told c o law is is_open) (λ is. open_images v p.told c o is is_open);
         site = ap (in_new_state world.Down) h.site ∙ ap (λ (x : world.State). Some (record { name = s.name; state = x })) (ap state_value (sym h.down));
         held = record { made = λ is. record { now = of; outcomes = λ x j. subst (IsOf s.name) (sym (only x c j)) of }; state = subst (λ (x : State). HoldsState v x q) (sym h.down) tt };
       },
@@ -368,16 +385,16 @@ reign_limit_untold v s o before now p h unsure t = (
     refl,
     inr (
       early_down s p h.down h.site,
-      (inr refl, record { unknown = unsure; kept = record { site = refl; now = refl; outcomes = λ o a. a; faults = h.faults; same = record { told = refl; simulated = refl } } }),
+      (inr refl, record { unknown = unsure; kept = record { site = refl; now = refl; left = refl; outcomes = λ o a. a; faults = h.faults; same = record { told = refl; simulated = refl } } }),
     ),
   ),
   unknown_at v s p h.down h.site unsure h.simulated,
   t,
 )
 
-pub reign_limited : (v : View) (s : Site) (o : OpenSite) (before now : List ℕ) → ((c : Contents) (n : ℕ) → Remembers c n o → reign_limit c ≡ Some ReignLimit) → now ≡ before ++ line s.name (codes "REIGNLIMIT") → BeginsAt v o s v s before now
-reign_limited v s o before now limit t p h = elim (is_true_or_false p.told) [
-  | inl sure ↦ reign_limit_told v s o before now p h sure limit t
+pub reign_limited : (v : View) (s : Site) (o : OpenSite) (before now : List ℕ) → IsLawful v → ((c : Contents) (n : ℕ) → Remembers c n o → reign_limit c ≡ Some ReignLimit) → now ≡ before ++ line s.name (codes "REIGNLIMIT") → BeginsAt v o s v s before now
+reign_limited v s o before now law limit t p h = elim (is_true_or_false p.told) [
+  | inl sure ↦ reign_limit_told v s o before now p law h sure limit t
   | inr unsure ↦ reign_limit_untold v s o before now p h unsure t
 ]
 
@@ -385,25 +402,25 @@ entries_open : (v : View) (told : Bool) (c : Contents) (n : ℕ) (o : OpenSite) 
 entries_open v told c n o h = length_tagged o.entries.items c.sequence 1 h.remembered.entries
 
 -- the reign has begun
-pub reign_starts : (v w : View) (s : Site) (o new : OpenSite) (stamp : Stamp) (serials : List ℕ) (from : ℕ) (before now : List ℕ) → serials ≡ FIRST_SERIALS
+pub reign_starts : (v w : View) (s : Site) (o new : OpenSite) (stamp : Stamp) (serials : List ℕ) (from : ℕ) (before now : List ℕ) → IsLawful w → serials ≡ FIRST_SERIALS
     → ((told : Bool) (c : Contents) → IsOpen v told c (length c.sequence) o → IsOpen w told (with_reign (site_name c.instance) c) (length c.sequence) new)
     → ((c : Contents) → c.instance ≡ o.instance.records → stamp_value stamp ≡ next_stamp (site_name c.instance) c) → new.stamp ≡ Some stamp
     → ((c : Contents) (n : ℕ) → Remembers c n o → reign_limit c ≡ None) → w.simulated ≡ v.simulated → v.faults ≤ w.faults
     → from ≡ length o.entries.items + 1 → now ≡ before ++ line s.name (codes "PRIMARY " ++ decimal stamp.cycle ++ codes " FROM " ++ decimal from)
     → BeginsAt v o s w (record { name = s.name; state = Primary (record { site = new; serials = serials }) }) before now
-reign_starts v w s o new stamp serials from before now first_serials begun drawn stamped room same later is_from t p h =
+reign_starts v w s o new stamp serials from before now law first_serials begun drawn stamped room same later is_from t p h =
     let read : Contents = h.read in
-    let c : Contents = opened read in
+    let c : Contents = opened h.broken read in
     let d : Contents = with_reign s.name c in
     let r : Reign = record { site = new; serials = serials } in
     let name : site_name c.instance ≡ s.name = sym (ap site_name h.is_open.remembered.instance) ∙ h.name in
     let is_open : IsOpen w p.told d (length d.sequence) new = subst (λ (n : Name). IsOpen w p.told (with_reign n c) (length c.sequence) new) name (begun p.told c h.is_open) in
-    let stamp_is : stamp_value stamp ≡ next_stamp s.name read = drawn c (sym h.is_open.remembered.instance) ∙ ap (λ (n : Name). next_stamp n c) name ∙ stamp_opened s.name read in
+    let stamp_is : stamp_value stamp ≡ next_stamp s.name read = drawn c (sym h.is_open.remembered.instance) ∙ ap (λ (n : Name). next_stamp n c) name ∙ stamp_opened s.name h.broken read in
     let stamp_new : stamp_of r ≡ next_stamp s.name read = ap stamp_in stamped ∙ stamp_is in
     let state : world.State = world.Primary (next_stamp s.name read) FIRST_SERIALS in
-    let q : Place = record { site = in_new_state state p.site; told = p.told; now = d; outcomes = d ∷ []; faults = w.faults; simulated = p.simulated } in
-    let reign_room : p.told ≡ true → reign_limit p.now ≡ None = λ sure. ap reign_limit (sym (h.as_before sure)) ∙ sym (limit_opened read) ∙ room c (length c.sequence) h.is_open.remembered in
-    let of : p.told ≡ true → IsOf s.name d = λ sure. of_begun s.name s.name c (of_opened s.name read (subst (IsOf s.name) (sym (h.as_before sure)) (h.made sure).now)) in
+    let q : Place = record { site = in_new_state state p.site; told = p.told; now = d; left = NO_LEFTOVER; outcomes = d ∷ []; faults = w.faults; simulated = p.simulated } in
+    let reign_room : p.told ≡ true → reign_limit p.now ≡ None = λ sure. ap reign_limit (sym (h.as_before sure)) ∙ sym (limit_opened h.broken read) ∙ room c (length c.sequence) h.is_open.remembered in
+    let of : p.told ≡ true → IsOf s.name d = λ sure. of_begun s.name s.name c (of_opened s.name h.broken read (subst (IsOf s.name) (sym (h.as_before sure)) (h.made sure).now)) in
     let cycle : stamp.cycle ≡ cycle_on q.site = ap (λ x. x.cycle) stamp_is ∙ sym (ap (λ (x : Option world.Site). cycle_on (in_new_state state x)) h.site) in
     let count : from ≡ length d.sequence + 1 = is_from ∙ ap (λ (k : ℕ). k + 1) (entries_open v p.told c (length read.sequence) o h.is_open) in (
       Done,
@@ -412,16 +429,18 @@ reign_starts v w s o new stamp serials from before now first_serials begun drawn
         cause_down s p h.down h.site ∙ not_limited p (is_true_or_false p.told) h.drawn reign_room,
         record {
           read = read;
+          broken = h.broken;
           as_before = h.as_before;
-          becomes = record { site = refl; now = refl; outcomes = refl; faults = omega (arith, later, h.faults); same = record { told = refl; simulated = refl } };
+          as_left = h.as_left;
+          becomes = record { site = refl; now = refl; left = refl; outcomes = refl; faults = omega (arith, later, h.faults); same = record { told = refl; simulated = refl } };
         },
       ),
       record {
-        disk = place_of_one w p q.site d (same ∙ h.simulated) (λ sure. open_reads w p.told d new sure is_open) (λ sure. open_images w p.told d new sure is_open);
+        disk = place_of_one w p q.site d (same ∙ h.simulated) (λ sure. open_reads w p.told d new law sure is_open) (λ sure. open_images w p.told d new sure is_open);
         site = ap (in_new_state state) h.site ∙ ap (λ (x : world.State). Some (record { name = s.name; state = x })) (states_same stamp_new first_serials);
         held = record {
           made = λ sure. record { now = of sure; outcomes = λ x j. subst (IsOf s.name) (sym (only x d j)) (of sure) };
-          state = record { reigns = is_open; settled = λ sure x j. only x d j };
+          state = record { reigns = is_open; settled = λ sure x j. only x d j; left = λ sure. refl };
         };
       },
       t ∙ ap (λ (k : ℕ). before ++ line s.name (codes "PRIMARY " ++ decimal k ++ codes " FROM " ++ decimal from)) cycle
@@ -433,12 +452,12 @@ reign_starts v w s o new stamp serials from before now first_serials begun drawn
 
 -- Beginning and opening together.
 
-pub begins_so : (v w u : View) (s new : Site) (o : OpenSite) (before now : List ℕ) → IsLawful v → s.state ≡ Down → site_name o.instance.records ≡ s.name → ((c : Contents) × Remembers (opened c) (length c.sequence) o)
-    → IfSome v.content (λ files. (c : Contents) → IsSite files c → EachStands v → IsOpen w true (opened c) (length c.sequence) o) → IfSome v.content (λ files. (c : Contents) → IsSite files c → generation c.instance < 65534)
+pub begins_so : (v w u : View) (s new : Site) (o : OpenSite) (before now : List ℕ) → IsLawful v → s.state ≡ Down → site_name o.instance.records ≡ s.name → ((c : Contents) × (broken : List ℕ) × Remembers (opened broken c) (length c.sequence) o)
+    → Opens v w o → HasGenerations v
     → w.simulated ≡ v.simulated → v.faults ≤ w.faults → BeginsAt w o s u new before now → ExecutesAt (StartPrimary s.name) v s u new before now
 begins_so v w u s new o before now law down name read told drawn same later b p h = b p (opened_at v w s o p law down h name read told drawn same later)
 
-pub begins_cut : (v w u : View) (s : Site) (o : OpenSite) → IsLawful v → s.state ≡ Down → site_name o.instance.records ≡ s.name → ((c : Contents) × Remembers (opened c) (length c.sequence) o)
-    → IfSome v.content (λ files. (c : Contents) → IsSite files c → EachStands v → IsOpen w true (opened c) (length c.sequence) o) → IfSome v.content (λ files. (c : Contents) → IsSite files c → generation c.instance < 65534)
+pub begins_cut : (v w u : View) (s : Site) (o : OpenSite) → IsLawful v → s.state ≡ Down → site_name o.instance.records ≡ s.name → ((c : Contents) × (broken : List ℕ) × Remembers (opened broken c) (length c.sequence) o)
+    → Opens v w o → HasGenerations v
     → w.simulated ≡ v.simulated → v.faults ≤ w.faults → IsCutOpened w o s u → IsCutAt (StartPrimary s.name) v s u
 begins_cut v w u s o law down name read told drawn same later b p h = b p (opened_at v w s o p law down h name read told drawn same later)

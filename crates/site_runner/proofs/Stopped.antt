@@ -1,11 +1,11 @@
 -- Commands on a site, as commands on its slot; STOP, EXTRACT, ZWRITE and SHOW at a place.
 use Rattle.std.proofs.Common.{◌≡◌, ℕ, suc, ◌+◌, true, List, [], ◌∷◌, ◌++◌, length, map, None, Some, refl, sym, ◌∙◌, ap, subst, arith, inl, nat_eq, append_assoc}
-use Rattle.std.specs.Prelude.{Option, codes, option_map}
+use Rattle.std.specs.Prelude.{Option, codes, option_map, IsSomeAnd}
 use Rattle.std.specs.Fmt.{decimal}
 use Rattle.std.specs.List.{enumerate_from, flat_map}
 use Rattle.std.proofs.lemmas.Bool.{eqb-true}
 use Rattle.std.proofs.lemmas.List.{length-map}
-use Rattle.disk_defs.specs.Disk.{View}
+use Rattle.disk_defs.specs.Disk.{Files, View}
 use Rattle.global_defs.specs.Key.{Key}
 use Rattle.global_defs.specs.Entry as defs
 use Rattle.global_defs.specs.Entry.{Globals, Sequence}
@@ -17,12 +17,12 @@ use Rattle.gvn_model.specs.Reigns.{reign_value}
 use Rattle.site_store.specs.Site.{tagged}
 use Rattle.world_defs.specs.World as world
 use Rattle.command_defs.specs.Commands.{Name, Command, Stop, Extract, Zwrite, Show}
-use Rattle.world_defs.specs.World.{Contents, Place, same_name}
+use Rattle.world_defs.specs.World.{Leftover, NO_LEFTOVER, Place, same_name}
 use Rattle.world_defs.specs.Answers.{Stopped, NotRunning, Done}
 use Rattle.world_defs.specs.Refusals.{stopped, not_running}
 use Rattle.world_defs.specs.Rows.{in_new_state}
 use Rattle.world_defs.specs.Output.{line, zwrite, reign_text, show_state, show_on}
-use Rattle.world_defs.specs.Ties.{Stands}
+use Rattle.world_defs.specs.Ties.{Stands, Reads}
 use Rattle.repl_section.specs.declared.reign.Reign.{Reign}
 use Rattle.repl_section.specs.Reigns.{Reigns, stamp_of}
 use Rattle.site_runner.specs.declared.slot.State.{State}
@@ -88,13 +88,13 @@ stops_from v old new before now (Failed k) e h =
 stops_from v old new before now (Primary r) e h =
     subst (λ (x : Site). ExecutesAt (Stop old.name) v old v x before now) (sym h.0) (λ p at_p.
     let o : IsOpen v r p = open_at v old r p e at_p in
-    let q : Place = record { site = in_new_state world.Down p.site; told = p.told; now = p.now; outcomes = p.now ∷ []; faults = p.faults; simulated = p.simulated } in (
+    let q : Place = record { site = in_new_state world.Down p.site; told = p.told; now = p.now; left = NO_LEFTOVER; outcomes = p.now ∷ []; faults = p.faults; simulated = p.simulated } in (
       Done,
       q,
-      (running_there v old r p e at_p, record { site = refl; now = refl; outcomes = refl; faults = omega arith; same = record { told = refl; simulated = refl } }),
+      (running_there v old r p e at_p, record { site = refl; now = refl; left = refl; outcomes = refl; faults = omega arith; same = record { told = refl; simulated = refl } }),
       record {
         disk = record {
-          told = at_p.disk.told;
+          told = λ is. subst (λ (l : Leftover). IsSomeAnd v.content (λ (files : Files). Reads files p.now l)) (o.left is) (at_p.disk.told is);
           images = λ is c i. let x = at_p.disk.images is c i in (p.now, inl refl, subst (Stands c) (o.settled is x.0 x.1) x.2);
           faults = at_p.disk.faults;
           simulated = at_p.disk.simulated;

@@ -2,11 +2,11 @@
 use Rattle.std.specs.Prelude.{◌≡◌, ◌⊎◌, ℕ, Bool, true, false, ◌∷◌, ◌++◌, List, codes, Some, None, IsTrue}
 use Rattle.std.specs.Fmt.{decimal}
 use Rattle.disk_defs.specs.Disk.{View}
-use Rattle.site_store.specs.declared.site.RegionSpec.{RegionSpec}
+use Rattle.site_store.specs.declared.layout.RegionSpec.{RegionSpec}
 use Rattle.command_defs.specs.Commands.{Name, Region, Create}
 use Rattle.world_defs.specs.Lists.{Among}
 use Rattle.world_defs.specs.World.{Contents, Place, Kept, is_made}
-use Rattle.world_defs.specs.Answers.{NotEmpty, Answer, Done, Refused, DiskFault, NotAFile, Ran}
+use Rattle.world_defs.specs.Answers.{NotEmpty, Answer, Done, Refused, DiskFault, NotAFile, Ran, Typed}
 use Rattle.world_defs.specs.Refusals.{not_empty}
 use Rattle.world_defs.specs.Rows.{FailsBefore, Creates, MayCreate}
 use Rattle.world_defs.specs.Step.{KeptUnknown, LeftAt}
@@ -31,6 +31,7 @@ MakeHere name regions p (Refused r) q = ⊥
 MakeHere name regions p (DiskFault k) q = FailsBefore k (MayCreate name regions p) p q
 MakeHere name regions p (NotAFile file offset) q = ⊥
 MakeHere name regions p (Ran s) q = ⊥
+MakeHere name regions p (Typed text) q = ⊥
 
 abbrev pub CreateHere : Name → List Region → Place → Answer → Place → Type 0
 CreateHere name regions p Done q = (not_empty (Some p) ≡ None) × Creates name regions p q
@@ -38,6 +39,7 @@ CreateHere name regions p (Refused r) q = (r ≡ record { site = name; cause = N
 CreateHere name regions p (DiskFault k) q = FailsBefore k (MayCreate name regions p) p q
 CreateHere name regions p (NotAFile file offset) q = KeptUnknown p q
 CreateHere name regions p (Ran s) q = ⊥
+CreateHere name regions p (Typed text) q = ⊥
 
 abbrev pub create_text : Name → Answer → List ℕ
 create_text name Done = line name (codes "CREATED")
@@ -45,6 +47,7 @@ create_text name (Refused r) = line r.site (cause_text r.cause)
 create_text name (DiskFault k) = line name (codes "DISKFAULT " ++ decimal k)
 create_text name (NotAFile file offset) = line name (codes "NOTAFILE " ++ decimal file ++ 32 ∷ decimal offset)
 create_text name (Ran s) = codes ""
+create_text name (Typed bytes) = bytes
 
 -- Whatever place without a site the slot was, the making leads with some answer to one that it is, and this is its text.
 abbrev pub MakesHere : {D : Type 0} → (D → View) → Name → List Region → Slot D → Slot D → List ℕ → List ℕ → Type 0

@@ -3,12 +3,12 @@ use Rattle.std.specs.Prelude.{◌≡◌, ◌⊎◌, ℕ, ◌+◌, true, List, []
 use Rattle.std.specs.Fmt.{decimal}
 use Rattle.disk_defs.specs.Disk.{View}
 use Rattle.global_defs.specs.Entry.{state}
-use Rattle.command_defs.specs.Commands.{Command, Create, Attach, StartPrimary, Run, Stop, Fuse, Crash, Extract, Zwrite, Show}
+use Rattle.command_defs.specs.Commands.{Command, Create, Attach, Map, StartPrimary, Run, Stop, Fuse, Crash, Extract, Zwrite, Show, Print}
 use Rattle.world_defs.specs.World.{Down, Place, Kept}
-use Rattle.world_defs.specs.Answers.{Cause, NoSite, Stopped, Exists, NoDisk, NotEmpty, Empty, Running, NotRunning, NotPrimary, NotSimulated, GenLimit, ReignLimit, Answer, Done, Refused, DiskFault, NotAFile, Section, Ran}
-use Rattle.world_defs.specs.Refusals.{first, in_state, stopped, running, not_running, not_primary, not_simulated, limited}
-use Rattle.world_defs.specs.Rows.{Becomes, Fails, StartsPrimary, MayBeginAny, opened, Crashes}
-use Rattle.world_defs.specs.Step.{Runs, KeptUnknown, IsLimit, LeftAt}
+use Rattle.world_defs.specs.Answers.{Cause, NoSite, Stopped, Exists, NoDisk, NotEmpty, Empty, Running, NotRunning, NotPrimary, NotSimulated, Started, NoRegion, TwiceMapped, NoFile, GenLimit, ReignLimit, Answer, Done, Refused, DiskFault, NotAFile, Section, Ran, Typed}
+use Rattle.world_defs.specs.Refusals.{first, in_state, stopped, running, not_running, not_primary, not_simulated, limited, unmapped, no_file}
+use Rattle.world_defs.specs.Rows.{Becomes, Fails, FailsUnchanged, Maps, MayMapAny, StartsPrimary, MayBeginAny, opened, Crashes}
+use Rattle.world_defs.specs.Step.{Runs, KeptUnknown, IsLimit, IsUnmapped, IsTyped, LeftAt}
 use Rattle.world_defs.specs.Output.{line, cause_text, cycle_on, turn_on, section_text, name_in, extract_from, zwrite, show_on}
 use Rattle.world_defs.specs.Ties.{Matches}
 use Rattle.site_runner.specs.declared.slot.Slot.{Slot}
@@ -18,6 +18,7 @@ use Rattle.site_runner.specs.Tied.{IsPlace}
 abbrev pub IsNamed : Command → Type 0
 IsNamed (Create name regions) = ⊥
 IsNamed Attach = ⊥
+IsNamed (Map name region text) = Unit {0}
 IsNamed (StartPrimary name) = Unit {0}
 IsNamed (Run name jobs order) = Unit {0}
 IsNamed (Stop name) = Unit {0}
@@ -26,11 +27,13 @@ IsNamed (Crash name pick) = Unit {0}
 IsNamed (Extract name from) = Unit {0}
 IsNamed (Zwrite name top) = Unit {0}
 IsNamed (Show name) = Unit {0}
+IsNamed (Print name g) = Unit {0}
 
 -- the tests of its place that the site's state decides, in order
 abbrev pub tests : Command → Place → List (Option Cause)
 tests (Create name regions) p = []
 tests Attach p = []
+tests (Map name region text) p = in_state stopped p.site ∷ in_state running p.site ∷ []
 tests (StartPrimary name) p = in_state stopped p.site ∷ in_state running p.site ∷ []
 tests (Run name jobs order) p = in_state stopped p.site ∷ in_state not_primary p.site ∷ []
 tests (Stop name) p = in_state stopped p.site ∷ in_state not_running p.site ∷ []
@@ -39,11 +42,13 @@ tests (Crash name pick) p = in_state not_running p.site ∷ not_simulated p.simu
 tests (Extract name from) p = in_state stopped p.site ∷ in_state not_running p.site ∷ []
 tests (Zwrite name top) p = in_state stopped p.site ∷ in_state not_running p.site ∷ []
 tests (Show name) p = []
+tests (Print name g) p = in_state stopped p.site ∷ []
 
 -- and those that its files decide
 abbrev pub late_tests : Command → Place → List (Option Cause)
 late_tests (Create name regions) p = []
 late_tests Attach p = []
+late_tests (Map name region text) p = unmapped region text (Some p) ∷ []
 late_tests (StartPrimary name) p = limited (Some p) ∷ []
 late_tests (Run name jobs order) p = []
 late_tests (Stop name) p = []
@@ -52,6 +57,7 @@ late_tests (Crash name pick) p = []
 late_tests (Extract name from) p = []
 late_tests (Zwrite name top) p = []
 late_tests (Show name) p = []
+late_tests (Print name g) p = no_file g (Some p) ∷ []
 
 -- why the place refuses the command
 abbrev pub cause_here : Command → Place → Option Cause
@@ -60,6 +66,7 @@ cause_here c p = first (tests c p ++ late_tests c p)
 abbrev pub RowHere : Command → Place → Place → Type 0
 RowHere (Create name regions) p q = ⊥
 RowHere Attach p q = ⊥
+RowHere (Map name region text) p q = Maps region text p q
 RowHere (StartPrimary name) p q = StartsPrimary name p q
 RowHere (Run name jobs order) p q = ⊥
 RowHere (Stop name) p q = Becomes Down p.now p q
@@ -68,10 +75,13 @@ RowHere (Crash name pick) p q = Crashes p q
 RowHere (Extract name from) p q = Kept p q
 RowHere (Zwrite name top) p q = Kept p q
 RowHere (Show name) p q = Kept p q
+-- it answers what the file has
+RowHere (Print name g) p q = ⊥
 
 abbrev pub FaultHere : Command → ℕ → Place → Place → Type 0
 FaultHere (Create name regions) k p q = ⊥
 FaultHere Attach k p q = ⊥
+FaultHere (Map name region text) k p q = Fails k (MayMapAny region text p) p q
 FaultHere (StartPrimary name) k p q = Fails k (MayBeginAny name p) p q
 FaultHere (Run name jobs order) k p q = ⊥
 FaultHere (Stop name) k p q = ⊥
@@ -80,10 +90,12 @@ FaultHere (Crash name pick) k p q = ⊥
 FaultHere (Extract name from) k p q = ⊥
 FaultHere (Zwrite name top) k p q = ⊥
 FaultHere (Show name) k p q = ⊥
+FaultHere (Print name g) k p q = FailsUnchanged k p q
 
 abbrev pub DamageHere : Command → Place → Place → Type 0
 DamageHere (Create name regions) p q = ⊥
 DamageHere Attach p q = ⊥
+DamageHere (Map name region text) p q = KeptUnknown p q
 DamageHere (StartPrimary name) p q = KeptUnknown p q
 DamageHere (Run name jobs order) p q = ⊥
 DamageHere (Stop name) p q = ⊥
@@ -92,10 +104,11 @@ DamageHere (Crash name pick) p q = ⊥
 DamageHere (Extract name from) p q = ⊥
 DamageHere (Zwrite name top) p q = ⊥
 DamageHere (Show name) p q = ⊥
+DamageHere (Print name g) p q = ⊥
 
 -- START past the limit of reigns leaves the site opened, and down again
 abbrev pub StartRefusedHere : Cause → Place → Place → Type 0
-StartRefusedHere ReignLimit p q = Becomes Down (opened p.now) p q
+StartRefusedHere ReignLimit p q = Becomes Down (opened p.left.broken p.now) p q
 StartRefusedHere NoSite p q = Kept p q
 StartRefusedHere (Stopped k) p q = Kept p q
 StartRefusedHere Exists p q = Kept p q
@@ -106,12 +119,17 @@ StartRefusedHere Running p q = Kept p q
 StartRefusedHere NotRunning p q = Kept p q
 StartRefusedHere NotPrimary p q = Kept p q
 StartRefusedHere NotSimulated p q = Kept p q
+StartRefusedHere Started p q = Kept p q
+StartRefusedHere (NoRegion region) p q = Kept p q
+StartRefusedHere TwiceMapped p q = Kept p q
+StartRefusedHere NoFile p q = Kept p q
 StartRefusedHere GenLimit p q = Kept p q
 
 -- what a refusal leaves
 abbrev pub RefusedHere : Command → Cause → Place → Place → Type 0
 RefusedHere (Create name regions) cause p q = Kept p q
 RefusedHere Attach cause p q = Kept p q
+RefusedHere (Map name region text) cause p q = Kept p q
 RefusedHere (StartPrimary name) cause p q = StartRefusedHere cause p q
 RefusedHere (Run name jobs order) cause p q = Kept p q
 RefusedHere (Stop name) cause p q = Kept p q
@@ -120,11 +138,13 @@ RefusedHere (Crash name pick) cause p q = Kept p q
 RefusedHere (Extract name from) cause p q = Kept p q
 RefusedHere (Zwrite name top) cause p q = Kept p q
 RefusedHere (Show name) cause p q = Kept p q
+RefusedHere (Print name g) cause p q = Kept p q
 
 -- where files aren't known they may refuse it too
 abbrev pub MayRefuseHere : Command → Cause → Place → Place → Type 0
 MayRefuseHere (Create name regions) cause p q = ⊥
 MayRefuseHere Attach cause p q = ⊥
+MayRefuseHere (Map name region text) cause p q = IsUnmapped region cause × KeptUnknown p q
 MayRefuseHere (StartPrimary name) cause p q = IsLimit cause × KeptUnknown p q
 MayRefuseHere (Run name jobs order) cause p q = ⊥
 MayRefuseHere (Stop name) cause p q = ⊥
@@ -133,10 +153,12 @@ MayRefuseHere (Crash name pick) cause p q = ⊥
 MayRefuseHere (Extract name from) cause p q = ⊥
 MayRefuseHere (Zwrite name top) cause p q = ⊥
 MayRefuseHere (Show name) cause p q = ⊥
+MayRefuseHere (Print name g) cause p q = (cause ≡ NoFile) × KeptUnknown p q
 
 abbrev pub RanHere : Command → Section → Place → Place → Type 0
 RanHere (Create name regions) s p q = ⊥
 RanHere Attach s p q = ⊥
+RanHere (Map name region text) s p q = ⊥
 RanHere (StartPrimary name) s p q = ⊥
 RanHere (Run name jobs order) s p q = Runs name jobs order s p q
 RanHere (Stop name) s p q = ⊥
@@ -145,6 +167,22 @@ RanHere (Crash name pick) s p q = ⊥
 RanHere (Extract name from) s p q = ⊥
 RanHere (Zwrite name top) s p q = ⊥
 RanHere (Show name) s p q = ⊥
+RanHere (Print name g) s p q = ⊥
+
+-- a file has these bytes
+abbrev pub TypedHere : Command → List ℕ → Place → Place → Type 0
+TypedHere (Create name regions) text p q = ⊥
+TypedHere Attach text p q = ⊥
+TypedHere (Map name region pattern) text p q = ⊥
+TypedHere (StartPrimary name) text p q = ⊥
+TypedHere (Run name jobs order) text p q = ⊥
+TypedHere (Stop name) text p q = ⊥
+TypedHere (Fuse name calls) text p q = ⊥
+TypedHere (Crash name pick) text p q = ⊥
+TypedHere (Extract name from) text p q = ⊥
+TypedHere (Zwrite name top) text p q = ⊥
+TypedHere (Show name) text p q = ⊥
+TypedHere (Print name g) text p q = IsTyped g text p × Kept p q
 
 abbrev pub Here : Command → Place → Answer → Place → Type 0
 Here c p Done q = (cause_here c p ≡ None) × RowHere c p q
@@ -152,11 +190,13 @@ Here c p (Refused r) q = (r.site ≡ name_in c) × (((cause_here c p ≡ Some r.
 Here c p (DiskFault k) q = (first (tests c p) ≡ None) × FaultHere c k p q
 Here c p (NotAFile file offset) q = (first (tests c p) ≡ None) × DamageHere c p q
 Here c p (Ran s) q = (cause_here c p ≡ None) × RanHere c s p q
+Here c p (Typed text) q = (cause_here c p ≡ None) × TypedHere c text p q
 
 -- what it writes
 abbrev pub done_here : Command → Place → Place → List ℕ
 done_here (Create name regions) p q = []
 done_here Attach p q = []
+done_here (Map name region text) p q = line name (codes "MAPPED")
 done_here (StartPrimary name) p q = line name (codes "PRIMARY " ++ decimal (cycle_on q.site) ++ codes " FROM " ++ decimal (length q.now.sequence + 1))
 done_here (Run name jobs order) p q = []
 done_here (Stop name) p q = line name (codes "DOWN " ++ decimal (length p.now.sequence))
@@ -165,10 +205,12 @@ done_here (Crash name pick) p q = line name (codes "CRASHED")
 done_here (Extract name from) p q = extract_from name from p.now.sequence
 done_here (Zwrite name top) p q = zwrite top (state p.now.sequence)
 done_here (Show name) p q = show_on p.site p.now
+done_here (Print name g) p q = []
 
 abbrev pub ran_here : Command → Section → Place → List ℕ
 ran_here (Create name regions) s p = []
 ran_here Attach s p = []
+ran_here (Map name region text) s p = []
 ran_here (StartPrimary name) s p = []
 ran_here (Run name jobs order) s p = section_text name (length order) (turn_on p.site jobs s p) s.hardened s.fault
 ran_here (Stop name) s p = []
@@ -177,6 +219,7 @@ ran_here (Crash name pick) s p = []
 ran_here (Extract name from) s p = []
 ran_here (Zwrite name top) s p = []
 ran_here (Show name) s p = []
+ran_here (Print name g) s p = []
 
 abbrev pub text_here : Command → Place → Answer → Place → List ℕ
 text_here c p Done q = done_here c p q
@@ -184,6 +227,7 @@ text_here c p (Refused r) q = line r.site (cause_text r.cause)
 text_here c p (DiskFault k) q = line (name_in c) (codes "DISKFAULT " ++ decimal k)
 text_here c p (NotAFile file offset) q = line (name_in c) (codes "NOTAFILE " ++ decimal file ++ 32 ∷ decimal offset)
 text_here c p (Ran s) q = ran_here c s p
+text_here c p (Typed bytes) q = bytes
 
 -- Whatever place the slot was, the command with some answer leads to one that it is, and this is its text.
 abbrev pub ExecutesHere : {D : Type 0} → (D → View) → Command → Slot D → Slot D → List ℕ → List ℕ → Type 0

@@ -9,5 +9,6 @@ pub mod Looking
 pub mod Creating
 pub mod Attaching
 pub mod Starting
+pub mod Mapping
 pub mod Ends
 pub mod Going

@@ -3,7 +3,7 @@ use Rattle.std.specs.Prelude.{◌≡◌, ℕ, Bool, true, not, ◌&&◌, List, �
 use Rattle.std.specs.Fmt.{decimal}
 use Rattle.disk_defs.specs.Disk.{View}
 use Rattle.journal_defs.specs.Instance.{site_name}
-use Rattle.site_store.specs.declared.creating.Layout.{Layout}
+use Rattle.site_store.specs.declared.layout.Layout.{Layout}
 use Rattle.site_store.specs.declared.error.SiteError.{SiteError}
 use Rattle.site_store.specs.declared.error.SiteError.TheVariants.{Failed, Stopped, Full, SeqLimit, GenLimit, ReignLimit, NotAFile, NoMemory}
 use Rattle.command_defs.specs.Commands.{Name}

@@ -9,7 +9,7 @@ use Rattle.repl_section.specs.Reigns.{Reigns, stamp_of}
 use Rattle.world_defs.specs.Lists.{Among}
 use Rattle.world_defs.specs.World as world
 use Rattle.command_defs.specs.Commands.{Name}
-use Rattle.world_defs.specs.World.{Contents, Place, Settled, is_made, is_site_named}
+use Rattle.world_defs.specs.World.{Contents, Place, Settled, NO_LEFTOVER, is_made, is_site_named}
 use Rattle.site_runner.specs.declared.slot.State.{State}
 use Rattle.site_runner.specs.declared.slot.State.TheVariants.{Down, Primary, Failed}
 use Rattle.site_runner.specs.declared.slot.Site.{Site}
@@ -67,6 +67,8 @@ AreReady view slots = AllByRecursion (λ slot. IsReadyOn (view slot.disk) slot.s
 pub record IsOpen (v : View) (r : Reign) (p : Place) : Type 0 where
   pub reigns : Reigns v p.told p.now r
   pub settled : IsTrue p.told → Settled p
+  -- nothing lies behind its entries
+  pub left : IsTrue p.told → p.left ≡ NO_LEFTOVER
 
 abbrev pub HoldsState : View → State → Place → Type 0
 HoldsState v Down p = Unit {0}

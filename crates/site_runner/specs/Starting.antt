@@ -25,10 +25,12 @@ pub record IsOpenedAt (v : View) (s : Site) (o : OpenSite) (p : Place) : Type 0 
   pub made : IsTrue p.told → IsMade s.name p
   pub name : site_name o.instance.records ≡ s.name
   pub read : Contents
+  pub broken : List ℕ
   pub as_before : IsTrue p.told → read ≡ p.now
-  pub is_open : IsOpen v p.told (opened read) (length read.sequence) o
+  pub as_left : IsTrue p.told → broken ≡ p.left.broken
+  pub is_open : IsOpen v p.told (opened broken read) (length read.sequence) o
   -- one of the outcomes was read
-  pub outcome : IsTrue p.told → (c : Contents) × Among p.outcomes c × IsOpen v true (opened c) (length c.sequence) o
+  pub outcome : IsTrue p.told → (c : Contents) × Among p.outcomes c × IsOpen v true (opened p.left.broken c) (length c.sequence) o
   pub drawn : IsTrue p.told → generation_limit p.now ≡ None
   pub faults : p.faults ≤ v.faults
   pub simulated : v.simulated ≡ p.simulated

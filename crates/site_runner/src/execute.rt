@@ -13,6 +13,8 @@ use super::create::create;
 use super::extracting::extract;
 use super::finding::find;
 use super::fusing::{crash, fuse};
+use super::mapping::map;
+use super::printing::print;
 use super::section::run_section;
 use super::showing::show;
 use super::slot::Slot;
@@ -33,6 +35,7 @@ fn name_of(command: &Command) -> &Bytes
     match command {
         Command::Attach => unreachable!(),
         Command::Create { site, .. }
+        | Command::Map { site, .. }
         | Command::StartPrimary { site }
         | Command::Run { site, .. }
         | Command::Stop { site }
@@ -40,7 +43,8 @@ fn name_of(command: &Command) -> &Bytes
         | Command::Crash { site, .. }
         | Command::Extract { site, .. }
         | Command::Zwrite { site, .. }
-        | Command::Show { site } => site,
+        | Command::Show { site }
+        | Command::Print { site, .. } => site,
     }
 }
 
@@ -65,6 +69,18 @@ fn execute_at<D: Disk>(
     };
     match command {
         Command::Create { .. } | Command::Attach => unreachable!(),
+        Command::Map {
+            region,
+            pattern,
+            ..
+        } => map(
+            alloc,
+            &mut slot.disk,
+            site,
+            &region,
+            pattern.as_slice(),
+            text,
+        ),
         Command::StartPrimary { .. } => start(alloc, &mut slot.disk, site, text),
         Command::Run { jobs, order, .. } => {
             run_section(alloc, &mut slot.disk, site, jobs, order.as_slice(), text)
@@ -75,6 +91,7 @@ fn execute_at<D: Disk>(
         Command::Extract { number, .. } => extract(site, number, text),
         Command::Zwrite { top, .. } => zwrite(alloc, site, &top, text),
         Command::Show { .. } => show(site, text),
+        Command::Print { generation, .. } => print(&mut slot.disk, site, generation, text),
     }
 }
 

@@ -26,6 +26,13 @@ pub fn take_disks<D: Drop>(alloc: Global, disks: &mut Vec<D>) -> Result<Vec<Slot
     Ok(slots)
 }
 
+/// The disk of a slot, whose site is let go.
+fn disk_out<D: Drop>(slot: Slot<D>) -> D
+    ensures { result ≡ disk_of slot }
+{
+    slot.disk
+}
+
 /// Gives the disks back, in their order.
 pub fn give_back<D: Drop>(mut slots: Vec<Slot<D>>, disks: &mut Vec<D>)
     requires empty { disks.old.items ≡ [] }
@@ -34,7 +41,7 @@ pub fn give_back<D: Drop>(mut slots: Vec<Slot<D>>, disks: &mut Vec<D>)
 {
     slots.reverse();
     while let Some(slot) = slots.pop() {
-        if disks.push(slot.disk).is_err() {
+        if disks.push(disk_out(slot)).is_err() {
             unreachable!();
         }
     }

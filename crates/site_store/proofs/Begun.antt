@@ -1,47 +1,47 @@
 -- A reign begins.
 use Rattle.std.proofs.Common.{◌≡◌, ◌≢◌, ◌⊎◌, inl, inr, ◌≤◌, ◌<◌, ◌+◌, ◌==◌, ℕ, suc, Bool, true, false, List, [], ◌∷◌, ◌++◌, length, map, take, drop, Some, None, refl, sym, ◌∙◌, ap, subst, arith}
-use Rattle.std.specs.Prelude.{Option, IfSome, IsSome, IsSomeAnd, ◌||◌, if◌then◌else◌, nat_le, filter}
+use Rattle.std.specs.Prelude.{Option, IfSome, IsSomeAnd, ◌||◌, if◌then◌else◌, nat_le, filter}
 use Rattle.std.specs.List.{AllByRecursion}
 use Rattle.std.specs.Option.{option_or}
 use Rattle.std.proofs.lemmas.Bool.Decides.{nat_tests}
-use Rattle.std.proofs.lemmas.List.Elements.{filter_map-append}
 use Rattle.std.proofs.Math.Seq.{take-length, drop-length}
-use Rattle.disk_defs.specs.Disk.{Files, View, Image, IsLawful, AtEachMoment, ReadsAfter}
+use Rattle.disk_defs.specs.Disk.{Files, View, Image, IsLawful, AtEachMoment}
 use Rattle.disk_defs.specs.Frames.{Only, OnlyOn, SameOutside, OthersStay}
-use Rattle.disk_defs.proofs.Told.{weaker_told}
 use Rattle.disk_defs.proofs.Moments.{started, weaker, holds_now}
 use Rattle.global_defs.specs.Entry.{Sequence, Reign, Stamp}
 use Rattle.global_defs.specs.Prefix.{stamp_at}
 use Rattle.gvn_model.specs.declared.reign.Stamp as code
 use Rattle.gvn_model.specs.Reigns.{stamp_value}
-use Rattle.journal_defs.specs.Numbers.{INSTANCE, journal_file}
+use Rattle.journal_defs.specs.Numbers.{INSTANCE, journal_file, broken_file}
 use Rattle.journal_defs.specs.Journal.{Part}
-use Rattle.journal_defs.specs.Instance.{InstanceRecord, Reigned, IsInstanceBody, generation, regions, site_name, greatest_cycle}
-use Rattle.journal_defs.specs.Directory.{pattern_in}
+use Rattle.journal_defs.specs.Instance.{InstanceRecord, Reigned, generation, regions, site_name, greatest_cycle}
+use Rattle.journal_defs.specs.Directory.{Pattern, patterns}
 use Rattle.journal_defs.specs.Surviving.{reigns}
-use Rattle.journal_defs.specs.Sequence.{Records}
+use Rattle.journal_defs.specs.Sequence.{Placed, Records}
 use Rattle.journal_defs.specs.Stands.{IsInstance}
-use Rattle.journal_defs.specs.Growth.{with_record, AreEntries, tcoms}
-use Rattle.journal_defs.specs.Fit.{IsSoundImage, MOST_REIGNS}
-use Rattle.journal_laws.proofs.Naming as naming
+use Rattle.journal_defs.specs.Growth.{with_record, AreEntries, appended, tcoms}
+use Rattle.journal_defs.specs.Fit.{IsSoundImage, IsAtHome, MOST_REIGNS}
 use Rattle.journal_laws.proofs.Runs as runs
 use Rattle.journal_laws.proofs.Later as later
 use Rattle.journal_laws.proofs.Appending.{journal_same}
 use Rattle.instance_file.specs.Instance as instances
 use Rattle.instance_file.specs.declared.instance.Instance.{Instance}
-use Rattle.jnl_file.specs.Journal as journals
-use Rattle.jnl_file.specs.declared.journal.Journal.{Journal}
-use Rattle.jnl_file.proofs.Others as journal_others
+use Rattle.region_journals.specs.declared.journals.RegionJournals.{RegionJournals}
+use Rattle.region_journals.specs.Fronts.{AreInside}
+use Rattle.region_journals.specs.Journals.{AreReady, KeepsJournals}
 use Rattle.world_defs.specs.World.{Contents, is_made}
 use Rattle.world_defs.specs.Rows.{with_sequence, with_reign, next_reign}
 use Rattle.world_defs.specs.Refusals.{LAST_CYCLE, reign_limit}
 use Rattle.world_defs.specs.Answers.{ReignLimit}
-use Rattle.world_defs.specs.Ties.{IsSite}
+use Rattle.world_defs.specs.Ties.{texts_of, IsSite}
+use Rattle.site_store.specs.declared.layout.Layout.{Layout}
 use Rattle.site_store.specs.declared.site.OpenSite.{OpenSite}
+use Rattle.site_store.specs.Finding.{HasLayout}
 use Rattle.site_store.specs.Site.{tagged, Remembers, IsReady, Keeps, IsOpen, HasReign}
 use Rattle.site_store.specs.Reigning.{HasNoReignLeft, HasReignLeft, IsNextReign}
-use Rattle.site_store.proofs.Standing.{images_stand}
-use Rattle.site_store.proofs.Images.{same_bodies, one_instance_body, same_image, reign_image, generation_kept, AreOf, are_of, site_of}
+use Rattle.site_store.proofs.Standing.{images_stand, reads_of, reads_so, told_of, still}
+use Rattle.site_store.proofs.Images.{same_image, reign_image, generation_kept, patterns_kept, name_kept, regions_kept, AreOf, are_of, site_of, is_created, texts_same}
+use Rattle.site_store.proofs.Frames as frames
 use Rattle.site_store.proofs.Remembered.{remembered_length}
 
 -- limits
@@ -121,19 +121,21 @@ reign_of c = next_reign (site_name c.instance) c
 abbrev pub begun : Contents → Contents
 begun c = with_reign (site_name c.instance) c
 
-are_begun : (c : Contents) (s : Records) → AreOf c s → AreOf (begun c) (with_record s (Reigned (reign_of c)))
-are_begun c s of =
-    let few : 1 ≤ length (regions c.instance) = let e = of.one_region in omega (arith, e) in
+are_begun : (d f : Files) (c : Contents) (s : Records) → SameOutside (Only INSTANCE) d f → AreOf d c s → AreOf f (begun c) (with_record s (Reigned (reign_of c)))
+are_begun d f c s same of =
+    let x = reign_of c in
+    let created = is_created c of.made in
     record {
       made = by_list c.instance of.made;
-      one_region = ap length (naming.same_regions c.instance (Reigned (reign_of c)) few) ∙ of.one_region;
-      unmapped = filter_map-append pattern_in c.instance (Reigned (reign_of c) ∷ []) ∙ ap (λ l. l ++ []) of.unmapped;
-      instance = ap (λ (l : List InstanceRecord). l ++ Reigned (reign_of c) ∷ []) of.instance;
+      mapped = subst (λ (n : ℕ). AllByRecursion (λ (p : Pattern). p.region < n) (patterns (c.instance ++ Reigned x ∷ []))) (sym (ap length (regions_kept c.instance x created)))
+          (subst (λ (l : List Pattern). AllByRecursion (λ (p : Pattern). p.region < length (regions c.instance)) l) (sym (patterns_kept c.instance x)) of.mapped);
+      instance = ap (λ (l : List InstanceRecord). l ++ Reigned x ∷ []) of.instance;
       starts = of.starts;
+      texts = of.texts ∙ sym (texts_same d f (generation c.instance) (λ g low. same (broken_file g) (λ e. omega (arith, e)))) ∙ ap (texts_of f) (sym (generation_kept c.instance x));
     }
   where
-    by_list : (rs : List InstanceRecord) → is_made (record { instance = rs; starts = c.starts; sequence = c.sequence }) ≡ true
-        → is_made (record { instance = rs ++ Reigned (reign_of c) ∷ []; starts = c.starts; sequence = c.sequence }) ≡ true
+    by_list : (rs : List InstanceRecord) → is_made (record { instance = rs; starts = c.starts; texts = c.texts; sequence = c.sequence }) ≡ true
+        → is_made (record { instance = rs ++ Reigned (reign_of c) ∷ []; starts = c.starts; texts = c.texts; sequence = c.sequence }) ≡ true
     by_list [] made = refl
     by_list (r ∷ rs) made = grind (arith, nat_tests)
 
@@ -144,7 +146,7 @@ sound_now v c s k f now = subst (IsSoundImage f k.records) (take-length c.sequen
 site_now : (v : View) (c : Contents) (s : OpenSite) (k : Keeps v c (length c.sequence) s) (f : Files) → Image v f → IsSite f c
 site_now v c s k f now = subst (λ (seq : Sequence). IsSite f (with_sequence c seq)) (take-length c.sequence) (k.images f now)
 
-one_of : (v : View) (c : Contents) (s : OpenSite) (k : Keeps v c (length c.sequence) s) (f : Files) → Image v f → AreOf c k.records
+one_of : (v : View) (c : Contents) (s : OpenSite) (k : Keeps v c (length c.sequence) s) (f : Files) → Image v f → AreOf f c k.records
 one_of v c s k f now = are_of f c k.records (site_now v c s k f now) (sound_now v c s k f now).held
 
 -- an image in which the instance file has the reign
@@ -153,72 +155,58 @@ sound_begun : (v : View) (c : Contents) (s : OpenSite) (k : Keeps v c (length c.
 sound_begun v c s k past d f was same now =
     let own : k.records.instance ≡ c.instance = k.newest.instance in
     reign_image d f k.records c.sequence (reign_of c) (sound_now v c s k d was) k.none_past
-    (subst (λ (l : List InstanceRecord). length (regions l) ≡ 1) (sym own) (one_of v c s k d was).one_region) (omega arith)
+    (subst (λ (l : List InstanceRecord). 0 < length l) (sym own) (is_created c (one_of v c s k d was).made)) (omega arith)
     (subst (λ (l : List InstanceRecord). AllByRecursion (λ (q : Reign). q.start < length c.sequence + 1) (reigns l)) (sym own) past) same
     (subst (λ (l : List InstanceRecord). IsInstance (f INSTANCE) (l ++ Reigned (reign_of c) ∷ [])) (sym own) now)
 
 site_begun : (v : View) (c : Contents) (s : OpenSite) (k : Keeps v c (length c.sequence) s) → AllByRecursion (λ (q : Reign). q.start < length c.sequence + 1) (reigns c.instance) → (d f : Files) → Image v d → SameOutside (Only INSTANCE) d f
     → IsInstance (f INSTANCE) (c.instance ++ Reigned (reign_of c) ∷ []) → IsSite f (begun c)
 site_begun v c s k past d f was same now =
-    site_of f (begun c) (with_record k.records (Reigned (reign_of c))) (are_begun c k.records (one_of v c s k d was)) (sound_begun v c s k past d f was same now)
+    site_of f (begun c) (with_record k.records (Reigned (reign_of c))) (are_begun d f c k.records same (one_of v c s k d was)) (sound_begun v c s k past d f was same now)
 
 -- at each moment
 pub reign_moments : (v w : View) (c : Contents) (s : OpenSite) → Keeps v c (length c.sequence) s → AllByRecursion (λ (q : Reign). q.start < length c.sequence + 1) (reigns c.instance)
     → AtEachMoment v w (OnlyOn v INSTANCE (instances.StandsWith c.instance (Reigned (reign_of c)))) → AtEachMoment v w (λ f. IsSite f c ⊎ IsSite f (begun c))
 reign_moments v w c s k past run = weaker v w (OnlyOn v INSTANCE (instances.StandsWith c.instance (Reigned (reign_of c)))) (λ f. IsSite f c ⊎ IsSite f (begun c)) (λ f q. elim q.here [
-  | inl same ↦ inl (site_of f c k.records (one_of v c s k q.others.0 q.others.1) (kept q.others.0 f q.others.1 q.others.2 same))
+  | inl same ↦ inl (site_of f c k.records (still_one q.others.0 f q.others.1 q.others.2) (kept q.others.0 f q.others.1 q.others.2 same))
   | inr more ↦ inr (site_begun v c s k past q.others.0 f q.others.1 q.others.2 more)
 ]) run
   where
+    still_one : (d f : Files) → Image v d → SameOutside (Only INSTANCE) d f → AreOf f c k.records
+    still_one d f was same =
+        let of = one_of v c s k d was in
+        record { made = of.made; mapped = of.mapped; instance = of.instance; starts = of.starts; texts = of.texts ∙ sym (texts_same d f (generation c.instance) (λ g low. same (broken_file g) (λ e. omega (arith, e)))) }
+
     kept : (d f : Files) → Image v d → SameOutside (Only INSTANCE) d f → IsInstance (f INSTANCE) c.instance → IsSoundImage f k.records c.sequence
-    kept d f was same now =
-        let sound = sound_now v c s k d was in
-        let own : k.records.instance ≡ c.instance = k.newest.instance in
-        same_image d f k.records c.sequence INSTANCE sound k.none_past (subst (λ (l : List InstanceRecord). length (regions l) ≡ 1) (sym own) (one_of v c s k d was).one_region) (omega arith) (λ e. omega (arith, e)) same
-        (same_bodies IsInstanceBody one_instance_body (d INSTANCE) (f INSTANCE) k.records.instance sound.held.instance.bodies (subst (λ (l : List InstanceRecord). IsInstance (f INSTANCE) l) (sym own) now).bodies)
+    kept d f was same now = same_image d f k.records c.sequence (sound_now v c s k d was) k.none_past same (subst (λ (l : List InstanceRecord). IsInstance (f INSTANCE) l) (sym k.newest.instance) now)
 
--- as it reads
-pub reads_of : (w : View) (P : Files → Type 0) → IsLawful w → ((f : Files) → Image w f → P f) → IfSome w.content P
-reads_of w P lawful images = weaker_told w.content (λ f. w.since w.moment f) P lawful.as_read images
+-- after it no entry waits
+none_waiting : (a : List InstanceRecord) (g n : ℕ) (ps : List (ℕ → Option Part)) (es : Sequence) → es ≡ [] → AreEntries a g n ps es → ps ≡ []
+none_waiting a g n [] [] none h = refl
+none_waiting a g n (p ∷ ps) [] none h = absurd h
+none_waiting a g n ps (e ∷ es) none h = absurd (cc none)
 
-pub reads_so : (w : View) (P : Files → Type 0) → IsLawful w → IsSome w.content → ((f : Files) → Image w f → P f) → IsSomeAnd w.content P
-reads_so w P lawful told images = among w.content told (reads_of w P lawful images)
-  where
-    among : (o : Option Files) → IsSome o → IfSome o P → IsSomeAnd o P
-    among None t h = absurd (cc t)
-    among (Some f) t h = h
+-- the journals' files aren't the instance file
+journals_away : (v : View) (s : OpenSite) → IsReady v s → frames.AreAway (Only INSTANCE) s.journals.journals.items
+journals_away v s ready r x is e = let file = (ready.journals.each r x is).of.file in absurd (omega (arith, file, e))
 
--- after it
-no_entries : (a b : List InstanceRecord) (g n : ℕ) (ps : List (ℕ → Option Part)) (es : Sequence) → es ≡ [] → AreEntries a g n ps es → AreEntries b g n ps es
-no_entries a b g n [] [] none h = tt
-no_entries a b g n (p ∷ ps) [] none h = absurd h
-no_entries a b g n ps (e ∷ es) none h = absurd (cc none)
+layout_begun : (rs : List InstanceRecord) (x : Reign) (l : Layout) → 0 < length rs → HasLayout rs l → HasLayout (rs ++ Reigned x ∷ []) l
+layout_begun rs x l some is = record {
+  name = is.name ∙ sym (name_kept rs x some);
+  regions = is.regions ∙ sym (regions_kept rs x some);
+  directory = is.directory ∙ ap (λ n. record { regions = n; patterns = patterns rs }) (sym (ap length (regions_kept rs x some))) ∙ ap (λ (ps : List Pattern). record { regions = length (regions (rs ++ Reigned x ∷ [])); patterns = ps }) (sym (patterns_kept rs x));
+  generation = is.generation ∙ sym (generation_kept rs x);
+}
 
-pub told_of : (v : View) (c : Contents) (n : ℕ) (s : OpenSite) → Keeps v c n s → IsSome v.content
-told_of v c n s k = among v.content k.reads
-  where
-    among : (o : Option Files) → IsSomeAnd o (λ files. IsSite files (with_sequence c (take n c.sequence))) → IsSome o
-    among None h = absurd h
-    among (Some f) h = refl
-
-pub still : (v w : View) (F : ℕ → Type 0) → OthersStay F v w → IsSome v.content → IsSome w.content
-still v w F stays told = among v.content w.content told stays.content
-  where
-    among : (o n : Option Files) → IsSome o → ReadsAfter (SameOutside F) o n → IsSome n
-    among None n t h = absurd (cc t)
-    among (Some a) None t h = absurd h
-    among (Some a) (Some b) t h = refl
-
--- the journal's file isn't the instance file
-journal_away : (j : Journal) (g : ℕ) → j.gated.file ≡ journal_file g 0 → Only INSTANCE j.gated.file → ⊥
-journal_away j g is e = absurd (omega (arith, is, e))
-
-pub ready_begun : (v w : View) (old new : OpenSite) (x : Reign) → IsReady v old → instances.IsReady w new.instance → new.instance.records ≡ old.instance.records ++ Reigned x ∷ [] → new.journal ≡ old.journal → OthersStay (Only INSTANCE) v w → IsReady w new
-ready_begun v w old new x ready instance records journal stays = record {
+pub ready_begun : (v w : View) (old new : OpenSite) (x : Reign) → IsReady v old → 0 < length old.instance.records → instances.IsReady w new.instance → new.instance.records ≡ old.instance.records ++ Reigned x ∷ [] → new.journals ≡ old.journals → new.layout ≡ old.layout
+    → OthersStay (Only INSTANCE) v w → IsReady w new
+ready_begun v w old new x ready some instance records journals layout stays = record {
   instance = instance;
-  journal = subst (λ (j : Journal). journals.IsReady w j) (sym journal) (journal_others.ready_stays v w (Only INSTANCE) old.journal stays (journal_away old.journal (generation old.instance.records) ready.of.file) ready.journal);
-  of = subst (λ (j : Journal). journals.IsJournalOf j 0 (generation new.instance.records)) (sym journal)
-      (subst (λ (g : ℕ). journals.IsJournalOf old.journal 0 g) (sym (ap generation records ∙ generation_kept old.instance.records x)) ready.of);
+  layout = subst (λ (rs : List InstanceRecord). HasLayout rs new.layout) (sym records) (subst (HasLayout (old.instance.records ++ Reigned x ∷ [])) (sym layout) (layout_begun old.instance.records x old.layout some ready.layout));
+  journals = subst (λ (js : RegionJournals). AreReady w (generation new.instance.records) js.journals.items) (sym journals)
+      (subst (λ (g : ℕ). AreReady w g old.journals.journals.items) (sym (ap generation records ∙ generation_kept old.instance.records x))
+      (frames.journals_ready v w (Only INSTANCE) old.journals.journals.items stays (journals_away v old ready) (generation old.instance.records) ready.journals));
+  each_region = ap (λ (js : RegionJournals). length js.journals.items) journals ∙ ready.each_region ∙ sym (ap (λ (rs : List InstanceRecord). length (regions rs)) records ∙ ap length (regions_kept old.instance.records x some));
 }
 
 instance_in : (w : View) (i : Instance) (rs : List InstanceRecord) → instances.HasRecords w i rs → (f : Files) → Image w f → IsInstance (f INSTANCE) rs
@@ -228,49 +216,62 @@ instance_in w i rs has f now = among w.content has
     among None h = absurd h
     among (Some a) h = h.stands f now
 
-keeps_begun : (v w : View) (c : Contents) (old new : OpenSite) (g : ℕ) → Keeps v c (length c.sequence) old → AllByRecursion (λ (q : Reign). q.start < length c.sequence + 1) (reigns c.instance) → IsLawful w → OthersStay (Only INSTANCE) v w
-    → old.journal.gated.file ≡ journal_file g 0 → instances.HasRecords w new.instance (c.instance ++ Reigned (reign_of c) ∷ []) → new.journal ≡ old.journal → Keeps w (begun c) (length c.sequence) new
-keeps_begun v w c old new g k past lawful stays file has journal = record {
-  count = k.count;
-  few_nodes = k.few_nodes;
-  reads = reads_so w (λ files. IsSite files (with_sequence (begun c) (take (length c.sequence) c.sequence))) lawful (still v w (Only INSTANCE) stays (told_of v c (length c.sequence) old k)) site;
-  images = site;
-  records = with_record k.records (Reigned (reign_of c));
-  g = k.g;
-  last = k.last;
-  older = k.older;
-  newer = k.newer;
-  newest = record {
-    generation = generation_kept c.instance (reign_of c) ∙ k.newest.generation;
-    instance = ap (λ (l : List InstanceRecord). l ++ Reigned (reign_of c) ∷ []) k.newest.instance;
-    whole = k.newest.whole;
-    begins = k.newest.begins;
-    begun = k.newest.begun;
-  };
-  sound = sound;
-  older_files = λ f now. let from = stays.images f now in journal_same from.0 f 0 k.g k.last k.older (λ h le. from.2 (journal_file h 0) (λ e. omega (arith, e))) (k.older_files from.0 from.1);
-  none_past = λ n r more. runs.part_of-sparing k.records.instance (Reigned (reign_of c)) n (k.records.journal r) (λ h m. refl) ∙ k.none_past n r more;
-  no_epoch_past = later.none_past_instance c.instance (Reigned (reign_of c)) (length c.sequence) (k.records.journal 0) (λ h m. refl) k.no_epoch_past;
-  waiting = k.waiting;
-  are_waiting = no_entries c.instance (c.instance ++ Reigned (reign_of c) ∷ []) (suc k.g) (length c.sequence) k.waiting (drop (length c.sequence) c.sequence) (drop-length c.sequence) k.are_waiting;
-  in_region = k.in_region;
-  instance_file = has;
-  journal_file = subst (λ (j : Journal). journals.HasRecords w j (record { hard = k.newer; opening = []; closed = tcoms k.waiting 0 })) (sym journal)
-      (journal_others.records_stay v w (Only INSTANCE) old.journal stays (journal_away old.journal g file) (record { hard = k.newer; opening = []; closed = tcoms k.waiting 0 }) k.journal_file);
-}
-  where
-    now_begun : (f : Files) → Image w f → IsInstance (f INSTANCE) (c.instance ++ Reigned (reign_of c) ∷ [])
-    now_begun f now = instance_in w new.instance (c.instance ++ Reigned (reign_of c) ∷ []) has f now
+module _ (v w : View) (c : Contents) (old new : OpenSite) (k : Keeps v c (length c.sequence) old) (past : AllByRecursion (λ (q : Reign). q.start < length c.sequence + 1) (reigns c.instance)) (lawful : IsLawful w) (stays : OthersStay (Only INSTANCE) v w)
+    (away : frames.AreAway (Only INSTANCE) old.journals.journals.items) (created : 0 < length c.instance) (has : instances.HasRecords w new.instance (c.instance ++ Reigned (reign_of c) ∷ [])) (journals : new.journals ≡ old.journals) where
+  now_begun : (f : Files) → Image w f → IsInstance (f INSTANCE) (c.instance ++ Reigned (reign_of c) ∷ [])
+  now_begun f now = instance_in w new.instance (c.instance ++ Reigned (reign_of c) ∷ []) has f now
 
-    sound : (f : Files) → Image w f → IsSoundImage f (with_record k.records (Reigned (reign_of c))) (take (length c.sequence) c.sequence)
-    sound f now =
-        let from = stays.images f now in
-        subst (IsSoundImage f (with_record k.records (Reigned (reign_of c)))) (sym (take-length c.sequence)) (sound_begun v c old k past from.0 f from.1 from.2 (now_begun f now))
+  sound : (f : Files) → Image w f → IsSoundImage f (with_record k.records (Reigned (reign_of c))) (take (length c.sequence) c.sequence)
+  sound f now =
+      let from = stays.images f now in
+      subst (IsSoundImage f (with_record k.records (Reigned (reign_of c)))) (sym (take-length c.sequence)) (sound_begun v c old k past from.0 f from.1 from.2 (now_begun f now))
 
-    site : (f : Files) → Image w f → IsSite f (with_sequence (begun c) (take (length c.sequence) c.sequence))
-    site f now =
-        let from = stays.images f now in
-        subst (λ (seq : Sequence). IsSite f (with_sequence (begun c) seq)) (sym (take-length c.sequence)) (site_begun v c old k past from.0 f from.1 from.2 (now_begun f now))
+  site : (f : Files) → Image w f → IsSite f (with_sequence (begun c) (take (length c.sequence) c.sequence))
+  site f now =
+      let from = stays.images f now in
+      subst (λ (seq : Sequence). IsSite f (with_sequence (begun c) seq)) (sym (take-length c.sequence)) (site_begun v c old k past from.0 f from.1 from.2 (now_begun f now))
+
+  count : length (regions (c.instance ++ Reigned (reign_of c) ∷ [])) ≡ length (regions c.instance)
+  count = ap length (regions_kept c.instance (reign_of c) created)
+
+  here : (r : ℕ) → r < length (regions (c.instance ++ Reigned (reign_of c) ∷ [])) → r < length (regions c.instance)
+  here r low = let same = count in omega (arith, low, same)
+
+  nothing_waits : k.waiting ≡ []
+  nothing_waits = none_waiting c.instance (suc k.g) (length c.sequence) k.waiting (drop (length c.sequence) c.sequence) (drop-length c.sequence) k.are_waiting
+
+  keeps_begun : Keeps w (begun c) (length c.sequence) new
+  keeps_begun = record {
+    count = omega arith;
+    few_nodes = k.few_nodes;
+    reads = reads_so w (λ files. IsSite files (with_sequence (begun c) (take (length c.sequence) c.sequence))) lawful (still v w (Only INSTANCE) stays (told_of v c (length c.sequence) old k)) site;
+    images = site;
+    records = with_record k.records (Reigned (reign_of c));
+    g = k.g;
+    last = k.last;
+    older = k.older;
+    newer = k.newer;
+    newest = record {
+      generation = generation_kept c.instance (reign_of c) ∙ k.newest.generation;
+      not_last = k.newest.not_last;
+      instance = ap (λ (l : List InstanceRecord). l ++ Reigned (reign_of c) ∷ []) k.newest.instance;
+      whole = λ r low. k.newest.whole r (here r low);
+      begins = λ r low. k.newest.begins r (here r low);
+      begun = λ r low. k.newest.begun r (here r low);
+    };
+    sound = sound;
+    older_files = λ f now r low. let from = stays.images f now in journal_same from.0 f r k.g (k.last r) (k.older r) (λ h le. from.2 (journal_file h r) (λ e. omega (arith, e))) (k.older_files from.0 from.1 r (here r low));
+    none_past = λ n r more. runs.part_of-sparing k.records.instance (Reigned (reign_of c)) n (k.records.journal r) (λ h m. refl) ∙ k.none_past n r more;
+    no_epoch_past = λ r low. later.none_past_instance c.instance (Reigned (reign_of c)) (length c.sequence) (k.records.journal r) (λ h m. refl) (k.no_epoch_past r (here r low));
+    waiting = k.waiting;
+    are_waiting = subst (λ (ps : List (ℕ → Option Part)). AreEntries (c.instance ++ Reigned (reign_of c) ∷ []) (suc k.g) (length c.sequence) ps (drop (length c.sequence) c.sequence)) (sym nothing_waits)
+        (subst (AreEntries (c.instance ++ Reigned (reign_of c) ∷ []) (suc k.g) (length c.sequence) []) (sym (drop-length c.sequence)) tt);
+    in_regions = subst (λ (n : ℕ). AreInside n k.waiting) (sym count) k.in_regions;
+    at_home = λ r low. subst (λ (ps : List (ℕ → Option Part)). AllByRecursion (λ (p : Placed). IsAtHome (c.instance ++ Reigned (reign_of c) ∷ []) r p.generation p.what) (appended (suc k.g) ps r)) (sym nothing_waits) tt;
+    instance_file = has;
+    journal_files = subst (λ (js : RegionJournals). KeepsJournals w k.newer (tcoms k.waiting) js.journals.items) (sym journals)
+        (frames.journals_keep v w (Only INSTANCE) old.journals.journals.items stays away k.newer (tcoms k.waiting) k.journal_files);
+  }
 
 pub past_in : (c : Contents) (h : ℕ) (s : OpenSite) → Remembers c h s → AllByRecursion (λ (q : Reign). q.start ≤ length s.entries.items) (reigns s.instance.records) → AllByRecursion (λ (q : Reign). q.start < length c.sequence + 1) (reigns c.instance)
 past_in c h s is all =
@@ -280,15 +281,16 @@ past_in c h s is all =
 -- what beginning the reign r has done
 pub record Begins (v w : View) (old new : OpenSite) (r : Reign) : Type 0 where
   pub ready : IsReady v old
+  pub created : 0 < length old.instance.records
   pub past : AllByRecursion (λ (q : Reign). q.start ≤ length old.entries.items) (reigns old.instance.records)
   pub next : IsNextReign old r
   pub stays : OthersStay (Only INSTANCE) v w
   pub state : (rs : List InstanceRecord) → instances.HasRecords v old.instance rs → instances.HasRecords w new.instance (rs ++ Reigned r ∷ [])
   pub records : new.instance.records ≡ old.instance.records ++ Reigned r ∷ []
 
-pub open_begun : (v w : View) (told : Bool) (c : Contents) (old new : OpenSite) (r : Reign) → IsLawful w → Begins v w old new r → new.entries.items ≡ old.entries.items → new.globals ≡ old.globals → new.hardened ≡ old.hardened → new.journal ≡ old.journal
+pub open_begun : (v w : View) (told : Bool) (c : Contents) (old new : OpenSite) (r : Reign) → IsLawful w → Begins v w old new r → new.entries.items ≡ old.entries.items → new.globals ≡ old.globals → new.hardened ≡ old.hardened → new.journals ≡ old.journals
     → IsOpen v told c (length c.sequence) old → IsOpen w told (begun c) (length c.sequence) new
-open_begun v w told c old new r lawful b entries changed hardened journal is =
+open_begun v w told c old new r lawful b entries changed hardened journals is =
     let same = next_is c (length c.sequence) old r is.remembered b.next in
     record {
       remembered = record {
@@ -299,8 +301,8 @@ open_begun v w told c old new r lawful b entries changed hardened journal is =
       };
       kept = λ t.
           let k = is.kept t in
-          keeps_begun v w c old new (generation old.instance.records) k (past_in c (length c.sequence) old is.remembered b.past) lawful b.stays b.ready.of.file
-          (subst (λ (x : Reign). instances.HasRecords w new.instance (c.instance ++ Reigned x ∷ [])) same (b.state c.instance k.instance_file)) journal;
+          keeps_begun v w c old new k (past_in c (length c.sequence) old is.remembered b.past) lawful b.stays (journals_away v old b.ready) (subst (λ (l : List InstanceRecord). 0 < length l) is.remembered.instance b.created)
+          (subst (λ (x : Reign). instances.HasRecords w new.instance (c.instance ++ Reigned x ∷ [])) same (b.state c.instance k.instance_file)) journals;
     }
 
 -- at each moment of it

@@ -1,126 +1,118 @@
--- An entry is appended.
-use Rattle.std.proofs.Common.{◌≡◌, inl, inr, ◌≤◌, ◌+◌, ◌-◌, ℕ, zero, suc, Bool, true, List, [], ◌∷◌, ◌++◌, length, take, drop, Some, None, refl, sym, ◌∙◌, ap, subst, arith, append-nil, length-append}
-use Rattle.std.specs.Prelude.{Option, IfSome, IsSomeAnd, fold}
+-- An entry is prepared, and then appended.
+use Rattle.std.proofs.Common.{◌≡◌, inl, inr, ◌≤◌, ◌<◌, ◌+◌, ◌-◌, ℕ, suc, Bool, true, List, [], ◌∷◌, ◌++◌, length, take, drop, map, Some, None, refl, sym, ◌∙◌, ap, subst, arith, append-nil, length-append}
+use Rattle.std.specs.Prelude.{Option, IfSome, IsSomeAnd, fold, slice_get}
 use Rattle.std.specs.List.{flat_map}
 use Rattle.std.specs.FinMap as globals
 use Rattle.std.proofs.lemmas.Bool.{cases_lt}
-use Rattle.std.proofs.lemmas.List.{take-append-le, drop-append-le, length-take-le, length-drop}
+use Rattle.std.proofs.lemmas.Option.{slice_get_within}
+use Rattle.std.proofs.lemmas.List.{take-append-le, drop-append-le, length-drop}
 use Rattle.std.proofs.lemmas.List.Concat.{flat_map-append}
 use Rattle.std.proofs.lemmas.List.Sums.{fold-append}
 use Rattle.std.proofs.Math.Seq.{take-append-add}
 use Rattle.disk_defs.specs.Disk.{Files, View, Image, IsLawful, AtEachMoment}
-use Rattle.disk_defs.specs.Frames.{Only, OnlyOn, SameOutside, OthersStay}
+use Rattle.disk_defs.specs.Frames.{OnlyIn, OthersStay}
 use Rattle.disk_defs.proofs.Moments.{weaker, then_more, holds_now}
 use Rattle.global_defs.specs.Entry.{Update, Entry, Sequence, Transaction, apply, state}
 use Rattle.global_defs.specs.Evaluation.{MOST_NODES}
-use Rattle.global_defs.specs.Fields.{IsTransaction}
 use Rattle.global_defs.specs.Prefix.{stamp_at}
 use Rattle.gvn_model.specs.declared.entry.Transaction as code
 use Rattle.gvn_model.specs.declared.reign.Stamp as code_stamp
 use Rattle.gvn_model.specs.Entries.{transaction_value, entry_value}
 use Rattle.gvn_model.specs.Reigns.{stamp_value}
-use Rattle.journal_defs.specs.Numbers.{journal_file}
-use Rattle.journal_defs.specs.Journal.{JournalRecord, Part, IsJournalBody}
+use Rattle.journal_defs.specs.Numbers.{INSTANCE, journal_file}
+use Rattle.journal_defs.specs.Journal.{JournalRecord, Part}
 use Rattle.journal_defs.specs.Instance.{InstanceRecord, generation, regions}
+use Rattle.journal_defs.specs.Directory.{Pattern, patterns}
 use Rattle.journal_defs.specs.Surviving.{reigns}
-use Rattle.journal_defs.specs.Stands.{Holds}
-use Rattle.journal_defs.specs.Growth.{NonePast, AreEntries, tcoms}
-use Rattle.journal_defs.specs.Fit.{IsSoundImage, HasFewNodes}
+use Rattle.journal_defs.specs.Sequence.{Records}
+use Rattle.journal_defs.specs.Growth.{AreEntries, tcoms}
+use Rattle.journal_defs.specs.Split.{split, mask_of, IsSplit}
+use Rattle.journal_defs.specs.Fit.{IsSoundImage, HasFewNodes, region_of_update}
 use Rattle.journal_laws.proofs.Appending.{journal_same}
 use Rattle.journal_laws.proofs.ImageSteps.{all_both}
 use Rattle.instance_file.specs.declared.instance.Instance.{Instance}
 use Rattle.instance_file.specs.Instance as instances
-use Rattle.jnl_file.specs.declared.journal.Journal.{Journal}
-use Rattle.jnl_file.specs.Records.{Recorded, StandsRecords, appended}
 use Rattle.jnl_file.specs.Journal as journals
+use Rattle.global_dir.specs.Directory.{Mapping}
+use Rattle.tp_commit.specs.Parts.{PartRecords, recorded}
+use Rattle.region_journals.specs.declared.journals.RegionJournal.{RegionJournal}
+use Rattle.region_journals.specs.Fronts.{IsNewestFile, HasFirst}
+use Rattle.region_journals.specs.declared.journals.RegionJournals.{RegionJournals}
+use Rattle.region_journals.specs.Journals.{AreReady, KeepsJournals, ArePrepared, part_in, listed}
+use Rattle.region_journals.proofs.Waiting.{tcoms_more}
 use Rattle.world_defs.specs.World.{Contents}
 use Rattle.world_defs.specs.Rows.{with_sequence}
 use Rattle.world_defs.specs.Ties.{IsSite}
 use Rattle.site_store.specs.declared.site.OpenSite.{OpenSite}
-use Rattle.site_store.specs.Site.{Remembers, IsReady, Keeps, IsOpen, HasReign, HasRoomFor, with_entry}
-use Rattle.site_store.specs.Committing.{recorded, parts_of, Enters, IsSameSite}
-use Rattle.site_store.proofs.Images.{same_bodies, one_journal_body, same_image, AreOf, are_of, site_of}
+use Rattle.site_store.specs.Finding.{HasLayout}
+use Rattle.site_store.specs.Site.{tagged, Remembers, IsReady, Keeps, IsOpen, HasReign, HasRoomFor, with_entry}
+use Rattle.site_store.specs.Committing.{Enters, IsSameSite, IsSameMemory, IsOwnJournal, ArePartsOf}
 use Rattle.site_store.proofs.Frames as frames
 use Rattle.site_store.proofs.Remembered.{remembered_length, entries_more, globals_more}
-use Rattle.site_store.proofs.Begun.{reads_of, reads_so, told_of, still}
-use Rattle.site_store.proofs.Parts as parts
+use Rattle.site_store.proofs.Standing.{reads_of, reads_so, told_of, still, keeps_images}
+use Rattle.site_store.proofs.Entries as entries
+use Rattle.site_store.proofs.Newest as newest
 
--- an image has the hardened records
-none_taken : (m : ℕ) → take {A = JournalRecord} m [] ≡ []
-none_taken zero = refl
-none_taken (suc m) = refl
+-- the instance file isn't a journal's
+pub no_instance : (g n : ℕ) → IsNewestFile g n INSTANCE → ⊥
+no_instance g n i = absurd (omega (arith, i.is))
 
-pub stands_hard : (rs : List JournalRecord) (file : List ℕ) → StandsRecords rs [] file → Holds IsJournalBody file rs
-stands_hard rs file stands = subst (λ (l : List JournalRecord). Holds IsJournalBody file l) (ap (λ (l : List JournalRecord). rs ++ l) (none_taken stands.0) ∙ append-nil rs) stands.2
-
-pub stands_in : (v : View) (j : Journal) (s : Recorded) → journals.HasRecords v j s → (f : Files) → Image v f → StandsRecords s.hard s.opening (f j.gated.file)
-stands_in v j s has f now = among v.content has
-  where
-    among : (o : Option Files) → IsSomeAnd o (journals.HoldsRecords v j s) → StandsRecords s.hard s.opening (f j.gated.file)
-    among None h = absurd h
-    among (Some a) h = h.stands f now
-
--- the waiting records of a site
-abbrev pub recorded_by : {v : View} {c : Contents} {h : ℕ} {s : OpenSite} → Keeps v c h s → Recorded
-recorded_by k = record { hard = k.newer; opening = []; closed = tcoms k.waiting 0 }
-
--- the length of the hardened part
-pub hard_length : (v : View) (c : Contents) (h : ℕ) (s : OpenSite) (k : Keeps v c h s) → length (take h c.sequence) ≡ h
-hard_length v c h s k = length-take-le h c.sequence k.count
-
-pub hard_past : (v : View) (c : Contents) (h : ℕ) (s : OpenSite) (k : Keeps v c h s) → NonePast (length (take h c.sequence)) k.records
-hard_past v c h s k = subst (λ (n : ℕ). NonePast n k.records) (sym (hard_length v c h s k)) k.none_past
-
-pub hard_of : (v : View) (c : Contents) (h : ℕ) (s : OpenSite) (k : Keeps v c h s) (f : Files) → Image v f → AreOf (with_sequence c (take h c.sequence)) k.records
-hard_of v c h s k f now = are_of f (with_sequence c (take h c.sequence)) k.records (k.images f now) (k.sound f now).held
-
--- the number of the newest journal's file
-pub newest_file : (v : View) (c : Contents) (h : ℕ) (s : OpenSite) (k : Keeps v c h s) → Remembers c h s → s.journal.gated.file ≡ journal_file (generation s.instance.records) 0 → s.journal.gated.file ≡ journal_file (suc k.g) 0
-newest_file v c h s k m is = is ∙ ap (λ (l : List InstanceRecord). journal_file (generation l) 0) m.instance ∙ ap (λ (g : ℕ). journal_file g 0) k.newest.generation
-
--- an image in which other bytes stand behind the closed gates
-pub same_sound : (v : View) (c : Contents) (h : ℕ) (s : OpenSite) (k : Keeps v c h s) (file : ℕ) → file ≡ journal_file (suc k.g) 0 → s.journal.gated.file ≡ file → (d f : Files) → Image v d → SameOutside (Only file) d f
-    → StandsRecords k.newer [] (f file) → IsSoundImage f k.records (take h c.sequence)
-same_sound v c h s k file is own d f was same stands =
-    let newest : generation k.records.instance ≡ suc k.g = ap generation k.newest.instance ∙ k.newest.generation in
-    let one : length (regions k.records.instance) ≡ 1 = subst (λ (l : List InstanceRecord). length (regions l) ≡ 1) (sym k.newest.instance) (hard_of v c h s k d was).one_region in
-    same_image d f k.records (take h c.sequence) file (k.sound d was) (hard_past v c h s k) one (omega (arith, is, newest)) (λ e. omega (arith, is, e)) same
-    (same_bodies IsJournalBody one_journal_body (d file) (f file) k.newer
-    (subst (λ (n : ℕ). Holds IsJournalBody (d n) k.newer) own (stands_hard k.newer (d s.journal.gated.file) (stands_in v s.journal (recorded_by k) k.journal_file d was)))
-    (stands_hard k.newer (f file) stands))
-
--- What is done to a site on the way to one more entry: it's prepared, and then appended.
-pub record Commits (v w x : View) (old mid : OpenSite) (t : code.Transaction) : Type 0 where
+-- What preparing an entry leaves: no image is new, and of the site only its journals have more room.
+pub record Prepares (v w : View) (old mid : OpenSite) : Type 0 where
   pub ready : IsReady v old
-  pub enters : Enters old mid t
-  pub prepared : journals.IsPrepared mid.journal (recorded (length old.entries.items + 1) (transaction_value t))
-  pub state : (s : Recorded) → journals.HasRecords v old.journal s → journals.HasRecords w mid.journal s
+  pub ready_after : IsReady w mid
+  pub state : (hard waiting : ℕ → List JournalRecord) → KeepsJournals v hard waiting old.journals.journals.items → KeepsJournals w hard waiting mid.journals.journals.items
   pub same : IsSameSite old mid
   pub moments : AtEachMoment v w (Image v)
-  pub stays : OthersStay (Only old.journal.gated.file) v w
-  pub then_stays : OthersStay (Only mid.journal.gated.file) w x
-  pub then_moments : (s : Recorded) → journals.HasRecords w mid.journal s → AtEachMoment w x (OnlyOn w mid.journal.gated.file (StandsRecords s.hard s.opening))
+  pub stays : OthersStay (IsOwnJournal old) v w
 
--- before the append
-pub prepare_moments : (v w : View) (c : Contents) (h : ℕ) (old : OpenSite) → AtEachMoment v w (Image v) → IsOpen v true c h old → AtEachMoment v w (λ f. IsSite f (with_sequence c (take h c.sequence)))
+pub keeps_prepared : (v w : View) (c : Contents) (h : ℕ) (old mid : OpenSite) → Prepares v w old mid → IsLawful w → Keeps v c h old → Keeps w c h mid
+keeps_prepared v w c h old mid p lawful k =
+    keeps_images v w c h old mid k lawful (still v w (IsOwnJournal old) p.stays (told_of v c h old k)) (λ f now. holds_now v w (Image v) lawful p.moments f now)
+    (subst (λ (i : Instance). instances.HasRecords w i c.instance) (sym p.same.instance)
+    (frames.records_stay v w (IsOwnJournal old) old.instance p.stays (no_instance (generation old.instance.records) (length (regions old.instance.records))) c.instance k.instance_file))
+    (p.state k.newer (tcoms k.waiting) k.journal_files)
+
+pub open_prepared : (v w : View) (told : Bool) (c : Contents) (h : ℕ) (old mid : OpenSite) → Prepares v w old mid → IsSameMemory old mid → IsLawful w → IsOpen v told c h old → IsOpen w told c h mid
+open_prepared v w told c h old mid p same lawful is = record {
+  remembered = record {
+    instance = ap (λ (i : Instance). i.records) same.same.instance ∙ is.remembered.instance;
+    entries = ap (map tagged) same.entries ∙ is.remembered.entries;
+    globals = same.globals ∙ is.remembered.globals;
+    hardened = same.same.hardened ∙ is.remembered.hardened;
+  };
+  kept = λ known. keeps_prepared v w c h old mid p lawful (is.kept known);
+}
+
+prepare_moments : (v w : View) (c : Contents) (h : ℕ) (old : OpenSite) → AtEachMoment v w (Image v) → IsOpen v true c h old → AtEachMoment v w (λ f. IsSite f (with_sequence c (take h c.sequence)))
 prepare_moments v w c h old run is = weaker v w (Image v) (λ f. IsSite f (with_sequence c (take h c.sequence))) (λ f was. (is.kept refl).images f was) run
 
-file_of : (v w x : View) (old mid : OpenSite) (t : code.Transaction) → Commits v w x old mid t → mid.journal.gated.file ≡ old.journal.gated.file
-file_of v w x old mid t p = p.same.journal.file
+-- each moment of an append to these journals
+abbrev pub AppendMoments : View → View → List RegionJournal → Type 0
+AppendMoments w x js = (g : ℕ) (hard waiting : ℕ → List JournalRecord) → AreReady w g js → KeepsJournals w hard waiting js → AtEachMoment w x (OnlyIn w (IsNewestFile g (length js)) (HasFirst g (length js) hard waiting (λ r. 0)))
 
-sound_after : (v w x : View) (c : Contents) (h : ℕ) (old mid : OpenSite) (t : code.Transaction) (k : Keeps v c h old) → Commits v w x old mid t → Remembers c h old → IsLawful w → (d f : Files) → Image w d → SameOutside (Only mid.journal.gated.file) d f
-    → StandsRecords k.newer [] (f mid.journal.gated.file) → IsSoundImage f k.records (take h c.sequence)
-sound_after v w x c h old mid t k p m lawful d f was same stands =
-    let is = newest_file v c h old k m p.ready.of.file in
-    same_sound v c h old k mid.journal.gated.file (p.same.journal.file ∙ is) (sym p.same.journal.file) d f (holds_now v w (Image v) lawful p.moments d was) same stands
+own_records : (v w : View) (c : Contents) (h : ℕ) (old mid : OpenSite) → Prepares v w old mid → Remembers c h old → mid.instance.records ≡ c.instance
+own_records v w c h old mid p m = ap (λ (i : Instance). i.records) p.same.instance ∙ m.instance
+
+append_run : (w x : View) (c : Contents) (h : ℕ) (mid : OpenSite) (k : Keeps w c h mid) → IsReady w mid → mid.instance.records ≡ c.instance → AppendMoments w x mid.journals.journals.items
+    → AtEachMoment w x (OnlyIn w (IsNewestFile (suc k.g) (length (regions c.instance))) (HasFirst (suc k.g) (length (regions c.instance)) k.newer (tcoms k.waiting) (λ r. 0)))
+append_run w x c h mid k ready own run =
+    subst (λ (n : ℕ). AtEachMoment w x (OnlyIn w (IsNewestFile (suc k.g) n) (HasFirst (suc k.g) n k.newer (tcoms k.waiting) (λ r. 0)))) (newest.count w c h mid k ready own)
+    (run (suc k.g) k.newer (tcoms k.waiting) (newest.are_ready w c h mid k ready own) k.journal_files)
+
+append_moments : (w x : View) (c : Contents) (h : ℕ) (mid : OpenSite) → Keeps w c h mid → IsReady w mid → mid.instance.records ≡ c.instance → AppendMoments w x mid.journals.journals.items → AtEachMoment w x (λ f. IsSite f (with_sequence c (take h c.sequence)))
+append_moments w x c h mid k ready own run =
+    weaker w x (OnlyIn w (IsNewestFile (suc k.g) (length (regions c.instance))) (HasFirst (suc k.g) (length (regions c.instance)) k.newer (tcoms k.waiting) (λ r. 0))) (λ f. IsSite f (with_sequence c (take h c.sequence)))
+    (λ f q. newest.none_site w c h mid k ready own q.others.0 f q.others.1 q.others.2 q.here) (append_run w x c h mid k ready own run)
 
 -- through both
-pub commit_moments : (v w x : View) (c : Contents) (h : ℕ) (old mid : OpenSite) (t : code.Transaction) → IsLawful w → Commits v w x old mid t → IsOpen v true c h old → AtEachMoment v x (λ f. IsSite f (with_sequence c (take h c.sequence)))
-commit_moments v w x c h old mid t lawful p is =
-    let k = is.kept refl in
-    then_more v w x (λ f. IsSite f (with_sequence c (take h c.sequence))) (OnlyOn w mid.journal.gated.file (StandsRecords k.newer [])) (prepare_moments v w c h old p.moments is) (p.then_moments (recorded_by k) (p.state (recorded_by k) k.journal_file))
-    (λ f q. site_of f (with_sequence c (take h c.sequence)) k.records (hard_of v c h old k q.others.0 (holds_now v w (Image v) lawful p.moments q.others.0 q.others.1))
-    (sound_after v w x c h old mid t k p is.remembered lawful q.others.0 f q.others.1 q.others.2 q.here))
+pub commit_moments : (v w x : View) (c : Contents) (h : ℕ) (old mid : OpenSite) → IsLawful w → Prepares v w old mid → AppendMoments w x mid.journals.journals.items → IsOpen v true c h old → AtEachMoment v x (λ f. IsSite f (with_sequence c (take h c.sequence)))
+commit_moments v w x c h old mid lawful p run is =
+    then_more v w x (λ f. IsSite f (with_sequence c (take h c.sequence))) (λ f. IsSite f (with_sequence c (take h c.sequence))) (prepare_moments v w c h old p.moments is)
+    (append_moments w x c h mid (keeps_prepared v w c h old mid p lawful (is.kept refl)) p.ready_after (own_records v w c h old mid p is.remembered) run) (λ f q. q)
+
+pub site_moments : (v w : View) (c : Contents) (h : ℕ) (old : OpenSite) → AtEachMoment v w (Image v) → IsOpen v true c h old → AtEachMoment v w (λ f. IsSite f (with_sequence c (take h c.sequence)))
+site_moments v w c h old run is = prepare_moments v w c h old run is
 
 pub commit_stands : (v x : View) (c : Contents) (h : ℕ) → IsLawful x → AtEachMoment v x (λ f. IsSite f (with_sequence c (take h c.sequence))) → IfSome x.content (λ f. IsSite f (with_sequence c (take h c.sequence)))
 commit_stands v x c h lawful run = reads_of x (λ f. IsSite f (with_sequence c (take h c.sequence))) lawful (holds_now v x (λ f. IsSite f (with_sequence c (take h c.sequence))) lawful run)
@@ -142,15 +134,19 @@ few_longer seq e few room k = subst (λ (l : List Update). globals.len (fold app
     all = flat_map-append (λ (d : Entry). d.transaction.updates) seq (e ∷ []) ∙ ap (λ (l : List Update). us ++ l) (append-nil e.transaction.updates)
 
 -- What has been done to a site that has one entry more.
-pub record Committed (v w x : View) (old mid new : OpenSite) (t : code.Transaction) : Type 0 where
-  pub commits : Commits v w x old mid t
-  pub form : IsTransaction (transaction_value t)
+pub record Committed (v w x : View) (old mid new : OpenSite) (t : code.Transaction) (parts : PartRecords) : Type 0 where
+  pub prepares : Prepares v w old mid
+  pub enters : Enters old mid t
+  pub are_parts : ArePartsOf old (transaction_value t) parts
   pub reign : HasReign old
   pub room : HasRoomFor old.globals t.updates
-  pub state : (r : JournalRecord) (s : Recorded) → journals.IsPrepared mid.journal r → journals.HasRecords w mid.journal s → journals.HasRecords x new.journal (appended s r)
-  pub journal : journals.IsReady x new.journal
-  pub same : journals.IsSameJournal mid.journal new.journal
+  pub journals : (g : ℕ) → AreReady w g mid.journals.journals.items → AreReady x g new.journals.journals.items
+  pub state : (hard waiting : ℕ → List JournalRecord) → KeepsJournals w hard waiting mid.journals.journals.items → KeepsJournals x hard (λ r. waiting r ++ listed (part_in parts r)) new.journals.journals.items
+  pub count : length new.journals.journals.items ≡ length mid.journals.journals.items
+  pub moments : AppendMoments w x mid.journals.journals.items
+  pub stays : (g : ℕ) → AreReady w g mid.journals.journals.items → OthersStay (IsNewestFile g (length mid.journals.journals.items)) w x
   pub instance : new.instance ≡ mid.instance
+  pub layout : new.layout ≡ mid.layout
   pub entries : new.entries.items ≡ mid.entries.items
   pub globals : new.globals ≡ mid.globals
   pub hardened : new.hardened ≡ mid.hardened
@@ -173,118 +169,128 @@ stamp_of c h s stamp m reign is =
     (reign.covers (length s.entries.items + 1) (omega arith) ∙ ap (λ (y : code_stamp.Stamp). Some (stamp_value y)) same)
 
 -- the entry
-abbrev entry_of : {v w x : View} {old mid new : OpenSite} {t : code.Transaction} → Committed v w x old mid new t → Entry
-entry_of {t = t} p = entry_for p.commits.enters.entry.stamp t
+abbrev entry_of : {v w x : View} {old mid new : OpenSite} {t : code.Transaction} {parts : PartRecords} → Committed v w x old mid new t parts → Entry
+entry_of {t = t} p = entry_for p.enters.entry.stamp t
 
-remembers_longer : (v w x : View) (c : Contents) (h : ℕ) (old mid new : OpenSite) (t : code.Transaction) (p : Committed v w x old mid new t) → Remembers c h old → Remembers (longer c (entry_of p)) h new
-remembers_longer v w x c h old mid new t p m =
-    let n = p.commits.enters in
+remembers_longer : (v w x : View) (c : Contents) (h : ℕ) (old mid new : OpenSite) (t : code.Transaction) (parts : PartRecords) (p : Committed v w x old mid new t parts) → Remembers c h old → Remembers (longer c (entry_of p)) h new
+remembers_longer v w x c h old mid new t parts p m =
+    let n = p.enters in
     let value : entry_value n.entry ≡ entry_of p = ap (λ (y : code.Transaction). record { stamp = stamp_value n.entry.stamp; transaction = transaction_value y }) n.next.transaction in
     record {
-      instance = ap (λ (i : Instance). i.records) (p.instance ∙ p.commits.same.instance) ∙ m.instance;
+      instance = ap (λ (i : Instance). i.records) (p.instance ∙ p.prepares.same.instance) ∙ m.instance;
       entries = entries_more old.entries.items new.entries.items n.entry c.sequence (entry_of p) m.entries (p.entries ∙ n.entries) n.next.number value;
       globals = globals_more old.globals new.globals c.sequence (entry_of p) m.globals (p.globals ∙ n.globals);
-      hardened = p.hardened ∙ p.commits.same.hardened ∙ m.hardened;
+      hardened = p.hardened ∙ p.prepares.same.hardened ∙ m.hardened;
     }
 
--- its images
-has_after : (v w x : View) (c : Contents) (h : ℕ) (old mid new : OpenSite) (t : code.Transaction) → Committed v w x old mid new t → (k : Keeps v c h old) → journals.HasRecords x new.journal (appended (recorded_by k) (recorded (length old.entries.items + 1) (transaction_value t)))
-has_after v w x c h old mid new t p k = p.state (recorded (length old.entries.items + 1) (transaction_value t)) (recorded_by k) p.commits.prepared (p.commits.state (recorded_by k) k.journal_file)
+-- its directory is that of the instance file
+directory_of : (v : View) (c : Contents) (h : ℕ) (s : OpenSite) → IsReady v s → Remembers c h s → s.layout.directory.patterns ≡ patterns c.instance
+directory_of v c h s ready m = ap (λ (d : Mapping). d.patterns) ready.layout.directory ∙ ap patterns m.instance
 
--- an image comes from one of before
-pub record ComesFrom (v : View) (file : ℕ) (f : Files) : Type 0 where
-  pub was : Files
-  pub image : Image v was
-  pub same : SameOutside (Only file) was f
+-- the parts by the patterns of the contents
+abbrev region_in : Contents → Update → ℕ
+region_in c = region_of_update (patterns c.instance)
 
-comes_from : (v w x : View) (old mid : OpenSite) (t : code.Transaction) → Commits v w x old mid t → IsLawful w → (f : Files) → Image x f → ComesFrom v mid.journal.gated.file f
-comes_from v w x old mid t p lawful f now =
-    let d = p.then_stays.images f now in
-    record { was = d.0; image = holds_now v w (Image v) lawful p.moments d.0 d.1; same = d.2 }
+abbrev own_parts : Contents → OpenSite → Transaction → ℕ → Option Part
+own_parts c s t = split (region_in c) (length s.entries.items + 1) (mask_of (region_in c) t.updates) t
 
-image_sound : (v w x : View) (c : Contents) (h : ℕ) (old mid new : OpenSite) (t : code.Transaction) (p : Committed v w x old mid new t) (k : Keeps v c h old) → Remembers c h old → IsLawful w → (f : Files) → Image x f → IsSoundImage f k.records (take h c.sequence)
-image_sound v w x c h old mid new t p k m lawful f now =
-    let d = p.commits.then_stays.images f now in
-    sound_after v w x c h old mid t k p.commits m lawful d.0 f d.1 d.2
-    (subst (λ (n : ℕ). StandsRecords k.newer [] (f n)) p.same.file (stands_in x new.journal (appended (recorded_by k) (recorded (length old.entries.items + 1) (transaction_value t))) (has_after v w x c h old mid new t p k) f now))
+record AreOwn (c : Contents) (s : OpenSite) (t : Transaction) (parts : PartRecords) : Type 0 where
+  each : (r : ℕ) → r < 8 → part_in parts r ≡ recorded (own_parts c s t r)
+  is_split : IsSplit (region_in c) (mask_of (region_in c) t.updates) t
+  no_other : (r : ℕ) → length (regions c.instance) ≤ r → own_parts c s t r ≡ None
 
-image_site : (v w x : View) (c : Contents) (h : ℕ) (old mid new : OpenSite) (t : code.Transaction) (p : Committed v w x old mid new t) (k : Keeps v c h old) → Remembers c h old → IsLawful w → (f : Files) → Image x f → IsSite f (with_sequence c (take h c.sequence))
-image_site v w x c h old mid new t p k m lawful f now =
-    let d = comes_from v w x old mid t p.commits lawful f now in
-    site_of f (with_sequence c (take h c.sequence)) k.records (hard_of v c h old k d.was d.image) (image_sound v w x c h old mid new t p k m lawful f now)
+are_own : (v : View) (c : Contents) (h : ℕ) (s : OpenSite) (t : Transaction) (parts : PartRecords) → IsReady v s → Remembers c h s → ArePartsOf s t parts → AreOwn c s t parts
+are_own v c h s t parts ready m are =
+    let same = directory_of v c h s ready m in
+    let count : s.layout.directory.regions ≡ length (regions c.instance) = ap (λ (d : Mapping). d.regions) ready.layout.directory ∙ ap (λ (l : List InstanceRecord). length (regions l)) m.instance in
+    record {
+      each = λ r low. subst (λ (ps : List Pattern). part_in parts r ≡ recorded (split (region_of_update ps) (length s.entries.items + 1) (mask_of (region_of_update ps) t.updates) t r)) same (are.each r low);
+      is_split = subst (λ (ps : List Pattern). IsSplit (region_of_update ps) (mask_of (region_of_update ps) t.updates) t) same are.is_split;
+      no_other = λ r past. subst (λ (ps : List Pattern). split (region_of_update ps) (length s.entries.items + 1) (mask_of (region_of_update ps) t.updates) t r ≡ None) same (are.no_other r (omega (arith, past, count)));
+    }
 
-instance_kept : (v w x : View) (c : Contents) (h : ℕ) (old mid new : OpenSite) (t : code.Transaction) → Committed v w x old mid new t → (rs : List InstanceRecord) (g : ℕ) → old.journal.gated.file ≡ journal_file g 0 → instances.HasRecords v old.instance rs → instances.HasRecords x new.instance rs
-instance_kept v w x c h old mid new t p rs g file has =
-    let same : mid.journal.gated.file ≡ old.journal.gated.file = p.commits.same.journal.file in
-    subst (λ (i : Instance). instances.HasRecords x i rs) (sym (p.instance ∙ p.commits.same.instance))
-    (frames.records_stay w x (Only mid.journal.gated.file) old.instance p.commits.then_stays (λ e. omega (arith, e, same, file)) rs
-    (frames.records_stay v w (Only old.journal.gated.file) old.instance p.commits.stays (λ e. omega (arith, e, file)) rs has))
+-- the records that wait then
+waits_longer : (x : View) (hard : ℕ → List JournalRecord) (ps : List (ℕ → Option Part)) (part : ℕ → Option Part) (parts : PartRecords) (js : List RegionJournal) → length js ≤ 8 → ((r : ℕ) → r < 8 → part_in parts r ≡ recorded (part r))
+    → KeepsJournals x hard (λ r. tcoms ps r ++ listed (part_in parts r)) js → KeepsJournals x hard (tcoms (ps ++ part ∷ [])) js
+waits_longer x hard ps part parts js few each kept = record {
+  has = λ r y is. subst (λ (l : List JournalRecord). journals.HasRecords x y.journal (record { hard = hard r; opening = []; closed = l })) (sym (more r y is)) (kept.has r y is);
+  none_waits = λ r y is none. more r y is ∙ kept.none_waits r y is none;
+}
+  where
+    more : (r : ℕ) (y : RegionJournal) → slice_get js r ≡ Some y → tcoms (ps ++ part ∷ []) r ≡ tcoms ps r ++ listed (part_in parts r)
+    more r y is = tcoms_more ps part parts r (each r (let there = slice_get_within js r y is in omega (arith, there, few)))
 
-keeps_longer : (v w x : View) (c : Contents) (h : ℕ) (old mid new : OpenSite) (t : code.Transaction) (p : Committed v w x old mid new t) → Keeps v c h old → Remembers c h old → IsLawful w → IsLawful x → Keeps x (longer c (entry_of p)) h new
-keeps_longer v w x c h old mid new t p k m lawful lawful_after =
+pub instance_kept : (w x : View) (mid new : OpenSite) (g n : ℕ) (rs : List InstanceRecord) → OthersStay (IsNewestFile g n) w x → new.instance ≡ mid.instance → instances.HasRecords w mid.instance rs → instances.HasRecords x new.instance rs
+instance_kept w x mid new g n rs stays same has =
+    subst (λ (i : Instance). instances.HasRecords x i rs) (sym same) (frames.records_stay w x (IsNewestFile g n) mid.instance stays (no_instance g n) rs has)
+
+keeps_longer : (v w x : View) (c : Contents) (h : ℕ) (old mid new : OpenSite) (t : code.Transaction) (parts : PartRecords) (p : Committed v w x old mid new t parts) → Keeps v c h old → Remembers c h old → IsLawful w → IsLawful x → Keeps x (longer c (entry_of p)) h new
+keeps_longer v w x c h old mid new t parts p before m lawful lawful_after =
     let e = entry_of p in
-    let some : 1 ≤ length t.updates = p.form.some in
-    let file = newest_file v c h old k m p.commits.ready.of.file in
-    let same_file : mid.journal.gated.file ≡ old.journal.gated.file = p.commits.same.journal.file in
+    let k = keeps_prepared v w c h old mid p.prepares lawful before in
+    let ready = p.prepares.ready_after in
+    let own : mid.instance.records ≡ c.instance = own_records v w c h old mid p.prepares m in
+    let are = are_own v c h old (transaction_value t) parts p.prepares.ready m p.are_parts in
+    let part : (ℕ → Option Part) = own_parts c old (transaction_value t) in
+    let in_newest = append_run w x c h mid k ready own p.moments in
+    let q = holds_now w x (OnlyIn w (IsNewestFile (suc k.g) (length (regions c.instance))) (HasFirst (suc k.g) (length (regions c.instance)) k.newer (tcoms k.waiting) (λ r. 0))) lawful_after in_newest in
+    let stays = p.stays (suc k.g) (newest.are_ready w c h mid k ready own) in
+    let few = newest.few w c h mid k ready own in
+    let site : (f : Files) → Image x f → IsSite f (with_sequence c (take h c.sequence)) = λ f now. newest.none_site w c h mid k ready own (q f now).others.0 f (q f now).others.1 (q f now).others.2 (q f now).here in
     let front : take h c.sequence ≡ take h (c.sequence ++ e ∷ []) = sym (take-append-le h c.sequence (e ∷ []) k.count) in
     record {
       count = let size = length-append c.sequence (e ∷ []) in let low = k.count in omega (arith, size, low);
       few_nodes = few_longer c.sequence e k.few_nodes (subst (λ g. HasRoomFor g t.updates) m.globals p.room);
       reads = subst (λ (seq : Sequence). IsSomeAnd x.content (λ files. IsSite files (with_sequence c seq))) front
-          (reads_so x (λ files. IsSite files (with_sequence c (take h c.sequence))) lawful_after
-          (still w x (Only mid.journal.gated.file) p.commits.then_stays (still v w (Only old.journal.gated.file) p.commits.stays (told_of v c h old k))) (image_site v w x c h old mid new t p k m lawful));
-      images = λ f now. subst (λ (seq : Sequence). IsSite f (with_sequence c seq)) front (image_site v w x c h old mid new t p k m lawful f now);
+          (reads_so x (λ files. IsSite files (with_sequence c (take h c.sequence))) lawful_after (still w x (IsNewestFile (suc k.g) (length mid.journals.journals.items)) stays (told_of w c h mid k)) site);
+      images = λ f now. subst (λ (seq : Sequence). IsSite f (with_sequence c seq)) front (site f now);
       records = k.records;
       g = k.g;
       last = k.last;
       older = k.older;
       newer = k.newer;
-      newest = record { generation = k.newest.generation; instance = k.newest.instance; whole = k.newest.whole; begins = k.newest.begins; begun = k.newest.begun };
-      sound = λ f now. subst (IsSoundImage f k.records) front (image_sound v w x c h old mid new t p k m lawful f now);
-      older_files = λ f now.
-          let d = comes_from v w x old mid t p.commits lawful f now in
-          journal_same d.was f 0 k.g k.last k.older (λ n le. d.same (journal_file n 0) (λ e. omega (arith, e, le, file, same_file))) (k.older_files d.was d.image);
+      newest = record { generation = k.newest.generation; not_last = k.newest.not_last; instance = k.newest.instance; whole = k.newest.whole; begins = k.newest.begins; begun = k.newest.begun };
+      sound = λ f now. subst (IsSoundImage f k.records) front (subst (λ (u : Records). IsSoundImage f u (take h c.sequence)) (sym (newest.is_base w c h mid k ready own))
+          (newest.none_image w c h mid k ready own (q f now).others.0 f (q f now).others.1 (q f now).others.2 (q f now).here));
+      older_files = λ f now r here.
+          journal_same (q f now).others.0 f r k.g (k.last r) (k.older r) (λ n le. (q f now).others.2 (journal_file n r) (λ i. omega (arith, i.is, i.inside, le, here, few))) (k.older_files (q f now).others.0 (q f now).others.1 r here);
       none_past = k.none_past;
       no_epoch_past = k.no_epoch_past;
-      waiting = k.waiting ++ parts_of (length old.entries.items + 1) (transaction_value t) ∷ [];
-      are_waiting = subst (AreEntries c.instance (suc k.g) h (k.waiting ++ parts_of (length old.entries.items + 1) (transaction_value t) ∷ [])) (sym (drop-append-le h c.sequence (e ∷ []) k.count))
-          (parts.entries_more c.instance (suc k.g) h (length old.entries.items + 1) k.waiting (drop h c.sequence) (transaction_value t) (stamp_value p.commits.enters.entry.stamp) k.are_waiting (number_of c h old m k.count)
-          (let newest = k.newest.generation in omega (arith, newest)) some (stamp_of c h old p.commits.enters.entry.stamp m p.reign p.commits.enters.next.stamp));
-      in_region = all_both (λ (part : ℕ → Option Part). (r : ℕ) → 1 ≤ r → part r ≡ None) k.waiting (parts_of (length old.entries.items + 1) (transaction_value t) ∷ []) k.in_region
-          (λ r later. parts.no_part (length old.entries.items + 1) (transaction_value t) r later, tt);
-      instance_file = instance_kept v w x c h old mid new t p c.instance (suc k.g) file k.instance_file;
-      journal_file = subst (λ (l : List JournalRecord). journals.HasRecords x new.journal (record { hard = k.newer; opening = []; closed = l })) (sym (parts.tcoms_more k.waiting (length old.entries.items + 1) (transaction_value t) some))
-          (has_after v w x c h old mid new t p k);
+      waiting = k.waiting ++ part ∷ [];
+      are_waiting = subst (AreEntries c.instance (suc k.g) h (k.waiting ++ part ∷ [])) (sym (drop-append-le h c.sequence (e ∷ []) k.count))
+          (entries.entries_more c.instance (suc k.g) h (length old.entries.items + 1) k.waiting (drop h c.sequence) (region_in c) (mask_of (region_in c) t.updates) (transaction_value t) (stamp_value p.enters.entry.stamp) k.are_waiting
+          (number_of c h old m k.count) (let same = k.newest.generation in omega (arith, same)) are.is_split (stamp_of c h old p.enters.entry.stamp m p.reign p.enters.next.stamp));
+      in_regions = all_both (λ (part : ℕ → Option Part). (r : ℕ) → length (regions c.instance) ≤ r → part r ≡ None) k.waiting (part ∷ []) k.in_regions (are.no_other, tt);
+      at_home = λ r here. entries.all_home c.instance (suc k.g) r (length old.entries.items + 1) (mask_of (region_in c) t.updates) (transaction_value t) k.waiting (k.at_home r here);
+      instance_file = instance_kept w x mid new (suc k.g) (length mid.journals.journals.items) c.instance stays p.instance k.instance_file;
+      journal_files = waits_longer x k.newer k.waiting part parts new.journals.journals.items (let size = p.count in let low = ready.journals.few in omega (arith, size, low)) are.each (p.state k.newer (tcoms k.waiting) k.journal_files);
     }
 
 with_entry_is : (o : Option code_stamp.Stamp) (stamp : code_stamp.Stamp) (t : Transaction) (c : Contents) → o ≡ Some stamp → with_entry o t c ≡ longer c (record { stamp = stamp_value stamp; transaction = t })
 with_entry_is o stamp t c is = ap (λ (y : Option code_stamp.Stamp). with_entry y t c) is
 
-pub open_longer : (v w x : View) (told : Bool) (c : Contents) (h : ℕ) (old mid new : OpenSite) (t : code.Transaction) → Committed v w x old mid new t → IsLawful w → IsLawful x → IsOpen v told c h old → IsOpen x told (with_entry old.stamp (transaction_value t) c) h new
-open_longer v w x told c h old mid new t p lawful lawful_after is =
-    subst (λ (d : Contents). IsOpen x told d h new) (sym (with_entry_is old.stamp p.commits.enters.entry.stamp (transaction_value t) c p.commits.enters.next.stamp)) (record {
-      remembered = remembers_longer v w x c h old mid new t p is.remembered;
-      kept = λ known. keeps_longer v w x c h old mid new t p (is.kept known) is.remembered lawful lawful_after;
+pub open_longer : (v w x : View) (told : Bool) (c : Contents) (h : ℕ) (old mid new : OpenSite) (t : code.Transaction) (parts : PartRecords) → Committed v w x old mid new t parts → IsLawful w → IsLawful x → IsOpen v told c h old
+    → IsOpen x told (with_entry old.stamp (transaction_value t) c) h new
+open_longer v w x told c h old mid new t parts p lawful lawful_after is =
+    subst (λ (d : Contents). IsOpen x told d h new) (sym (with_entry_is old.stamp p.enters.entry.stamp (transaction_value t) c p.enters.next.stamp)) (record {
+      remembered = remembers_longer v w x c h old mid new t parts p is.remembered;
+      kept = λ known. keeps_longer v w x c h old mid new t parts p (is.kept known) is.remembered lawful lawful_after;
     })
 
 -- open for calls, and under its reign
-pub ready_longer : (v w x : View) (old mid new : OpenSite) (t : code.Transaction) → Committed v w x old mid new t → IsReady x new
-ready_longer v w x old mid new t p =
-    let of = p.commits.ready.of in
-    let same_file : mid.journal.gated.file ≡ old.journal.gated.file = p.commits.same.journal.file in
-    let file : old.journal.gated.file ≡ journal_file (generation old.instance.records) 0 = of.file in
-    let all_same : new.instance ≡ old.instance = p.instance ∙ p.commits.same.instance in
+pub ready_after : (w x : View) (mid new : OpenSite) → IsReady w mid → ((g : ℕ) → AreReady w g mid.journals.journals.items → AreReady x g new.journals.journals.items) → length new.journals.journals.items ≡ length mid.journals.journals.items
+    → ((g : ℕ) → AreReady w g mid.journals.journals.items → OthersStay (IsNewestFile g (length mid.journals.journals.items)) w x) → new.instance ≡ mid.instance → new.layout ≡ mid.layout → IsReady x new
+ready_after w x mid new ready journals count stays instance layout =
+    let g = generation mid.instance.records in
     record {
-      instance = subst (λ (i : Instance). instances.IsReady x i) (sym all_same)
-          (frames.ready_stays w x (Only mid.journal.gated.file) old.instance p.commits.then_stays (λ e. omega (arith, e, same_file, file))
-          (frames.ready_stays v w (Only old.journal.gated.file) old.instance p.commits.stays (λ e. omega (arith, e, file)) p.commits.ready.instance));
-      journal = p.journal;
-      of = record {
-        region = p.same.region ∙ p.commits.same.journal.region ∙ of.region;
-        generation = p.same.generation ∙ p.commits.same.journal.generation ∙ of.generation ∙ ap (λ (i : Instance). generation i.records) (sym all_same);
-        file = p.same.file ∙ same_file ∙ file ∙ ap (λ (i : Instance). journal_file (generation i.records) 0) (sym all_same);
-      };
+      instance = subst (λ (i : Instance). instances.IsReady x i) (sym instance) (frames.ready_stays w x (IsNewestFile g (length mid.journals.journals.items)) mid.instance (stays g ready.journals) (no_instance g (length mid.journals.journals.items)) ready.instance);
+      layout = subst (λ (i : Instance). HasLayout i.records new.layout) (sym instance) (subst (HasLayout mid.instance.records) (sym layout) ready.layout);
+      journals = subst (λ (i : Instance). AreReady x (generation i.records) new.journals.journals.items) (sym instance) (journals g ready.journals);
+      each_region = count ∙ ready.each_region ∙ ap (λ (i : Instance). length (regions i.records)) (sym instance);
     }
+
+pub ready_longer : (v w x : View) (old mid new : OpenSite) (t : code.Transaction) (parts : PartRecords) → Committed v w x old mid new t parts → IsReady x new
+ready_longer v w x old mid new t parts p = ready_after w x mid new p.prepares.ready_after p.journals p.count p.stays p.instance p.layout
 
 pub reign_stays : (old new : OpenSite) → HasReign old → new.instance ≡ old.instance → new.stamp ≡ old.stamp → length old.entries.items ≤ length new.entries.items → HasReign new
 reign_stays old new r instance stamp more = record {
@@ -292,3 +298,17 @@ reign_stays old new r instance stamp more = record {
   is = stamp ∙ r.is;
   covers = λ n past. subst (λ (i : Instance). stamp_at n (reigns i.records) ≡ Some (stamp_value r.stamp)) (sym instance) (r.covers n (omega (arith, past, more)));
 }
+
+-- the frame of preparing
+pub own_stays : (v w : View) (s : OpenSite) → IsReady v s → ((g : ℕ) → AreReady v g s.journals.journals.items → OthersStay (IsNewestFile g (length s.journals.journals.items)) v w) → OthersStay (IsOwnJournal s) v w
+own_stays v w s ready stays = subst (λ (n : ℕ). OthersStay (IsNewestFile (generation s.instance.records) n) v w) ready.each_region (stays (generation s.instance.records) ready.journals)
+
+-- open for calls, with what is prepared
+pub ready_prepared : (v w : View) (old new : OpenSite) (js : RegionJournals) → IsReady v old → ((g : ℕ) → AreReady v g old.journals.journals.items → AreReady w g js.journals.items) → length js.journals.items ≡ length old.journals.journals.items
+    → ((g : ℕ) → AreReady v g old.journals.journals.items → OthersStay (IsNewestFile g (length old.journals.journals.items)) v w) → new.journals ≡ js → new.instance ≡ old.instance → new.layout ≡ old.layout → IsReady w new
+ready_prepared v w old new js ready journals count stays is instance layout =
+    ready_after v w old new ready (subst (λ (k : RegionJournals). (g : ℕ) → AreReady v g old.journals.journals.items → AreReady w g k.journals.items) (sym is) journals)
+    (ap (λ (k : RegionJournals). length k.journals.items) is ∙ count) stays instance layout
+
+pub still_prepared : (parts : PartRecords) (new : OpenSite) (js : RegionJournals) → new.journals ≡ js → ArePrepared parts js.journals.items → ArePrepared parts new.journals.journals.items
+still_prepared parts new js is prepared = subst (λ (k : RegionJournals). ArePrepared parts k.journals.items) (sym is) prepared

@@ -1,18 +1,18 @@
 -- The instance file of files that stand for something.
-use Rattle.std.proofs.Common.{◌≡◌, inl, inr, ℕ, ◌<◌, true, List, [], ◌∷◌, length, Option, Some, None, refl, sym, ◌∙◌, ap, subst, arith}
+use Rattle.std.proofs.Common.{◌≡◌, inl, inr, ℕ, ◌<◌, ◌≤◌, true, List, [], ◌∷◌, length, Option, Some, None, refl, sym, ◌∙◌, ap, subst, arith}
 use Rattle.std.proofs.lemmas.Bool.Decides.{nat_tests}
-use Rattle.std.specs.List.{AllZip}
+use Rattle.std.specs.List.{AllByRecursion, AllZip}
 use Rattle.disk_defs.specs.Disk.{Files}
 use Rattle.disk_defs.specs.Gates.{Body, records}
 use Rattle.journal_defs.specs.Numbers.{INSTANCE}
-use Rattle.journal_defs.specs.Instance.{InstanceRecord, IsInstanceBody}
+use Rattle.journal_defs.specs.Instance.{InstanceRecord, Create, Reigned, Cut, Map, Mode, BeginsWithCreate, IsInForm, IsInstanceBody, regions}
 use Rattle.journal_defs.specs.Stands.{IsInstance}
 use Rattle.journal_laws.proofs.Readings.{holds_one, instance_body}
+use Rattle.site_files.specs.Loading.{IsDirectory}
 use Rattle.world_defs.specs.World.{Contents, nothing, is_made}
 use Rattle.world_defs.specs.Ties.{IsSite, Stands}
-use Rattle.site_store.specs.declared.creating.Layout.{Layout}
-use Rattle.site_store.specs.Opening.{IsFound}
-use Rattle.site_store.specs.Finding.{IsLaidOut}
+use Rattle.site_store.specs.declared.layout.Layout.{Layout}
+use Rattle.site_store.specs.Finding.{IsLaidOut, IsFound}
 
 -- a file has one list of records
 pub instance_one : (file : List ℕ) (rs qs : List InstanceRecord) → IsInstance file rs → IsInstance file qs → rs ≡ qs
@@ -35,17 +35,42 @@ pub stands_instance : (files : Files) (c : Contents) → Stands files c → IsIn
 stands_instance files c (inl blank) = subst (λ (x : Contents). IsInstance (files INSTANCE) x.instance) (sym blank.0) (blank_instance (files INSTANCE) blank.1.instance)
 stands_instance files c (inr site) = site_instance files c site
 
-made_some : (c : Contents) → is_made c ≡ true → c.instance ≡ [] → ⊥
-made_some c made none =
-    let size : length c.instance ≡ 0 = ap length none in
-    grind (arith, nat_tests, made, size)
+-- the records are those of bodies of their form, and begin with CREATE
+pub all_in_form : (bodies : List Body) (rs : List InstanceRecord) → AllZip IsInstanceBody bodies rs → AllByRecursion IsInForm rs
+all_in_form [] [] zip = tt
+all_in_form [] (r ∷ rs) zip = absurd zip
+all_in_form (b ∷ bodies) [] zip = tt
+all_in_form (b ∷ bodies) (r ∷ rs) zip = (zip.0.form, all_in_form bodies rs zip.1)
 
-some_made : (c : Contents) → 0 < length c.instance → is_made c ≡ true
+region_number : (rs : List InstanceRecord) → AllByRecursion IsInForm rs → BeginsWithCreate rs → 0 < length rs → (1 ≤ length (regions rs)) × (length (regions rs) ≤ 8)
+region_number [] form begins some = absurd (omega (arith, some))
+region_number (Create name named ∷ rs) form begins some = (form.0.1, form.0.2)
+region_number (Reigned r ∷ rs) form begins some = absurd begins
+region_number (Cut n g ∷ rs) form begins some = absurd begins
+region_number (Map region star name ∷ rs) form begins some = absurd begins
+region_number (Mode region before ∷ rs) form begins some = absurd begins
+
+pub region_count : (file : List ℕ) (rs : List InstanceRecord) → IsInstance file rs → 0 < length rs → (1 ≤ length (regions rs)) × (length (regions rs) ≤ 8)
+region_count file rs is some = region_number rs (all_in_form is.bodies.0 rs is.bodies.2) is.create some
+
+pub made_some : (c : Contents) → is_made c ≡ true → 0 < length c.instance
+made_some c made = grind (arith, nat_tests, made)
+
+pub some_made : (c : Contents) → 0 < length c.instance → is_made c ≡ true
 some_made c some = grind (arith, nat_tests, some)
 
 -- no site stands where there is no record
 pub site_made : (files : Files) (c : Contents) → IsSite files c → c.instance ≡ [] → ⊥
-site_made files c site none = made_some c site.made none
+site_made files c site none =
+    let size : length c.instance ≡ 0 = ap length none in
+    let some = made_some c site.made in
+    omega (arith, size, some)
+
+-- a site has a directory
+pub site_directory : (files : Files) (c : Contents) → IsSite files c → IsDirectory c.instance None → ⊥
+site_directory files c site none =
+    let count = region_count (files INSTANCE) c.instance (site_instance files c site) (made_some c site.made) in
+    none (count.0, count.1, site.mapped)
 
 none_found : (files : Files) (c : Contents) → Stands files c → c.instance ≡ [] → c ≡ nothing
 none_found files c (inl blank) none = blank.0
@@ -55,7 +80,17 @@ pub found_by : (files : Files) (c : Contents) (rs : List InstanceRecord) (found 
 found_by files c rs None is laid stands = none_found files c stands (instance_one (files INSTANCE) c.instance rs (stands_instance files c stands) is ∙ laid)
 found_by files c rs (Some l) is laid stands =
     subst (λ (x : List InstanceRecord). IsLaidOut x (Some l) → IsFound c (Some l)) (instance_one (files INSTANCE) c.instance rs (stands_instance files c stands) is)
-    (λ own. (some_made c own.0, own.1, own.2)) laid
+    (λ own. (some_made c own.0, own.1)) laid
+
+-- records that are there and give no directory are no site's
+no_layout : (files : Files) (c : Contents) → 0 < length c.instance → IsDirectory c.instance None → Stands files c → ⊥
+no_layout files c some none (inl blank) = let size : length c.instance ≡ 0 = ap (λ (x : Contents). length x.instance) blank.0 in omega (arith, size, some)
+no_layout files c some none (inr site) = site_directory files c site none
+
+pub not_laid : (files : Files) (c : Contents) (rs : List InstanceRecord) → IsInstance (files INSTANCE) rs → 0 < length rs → IsDirectory rs None → Stands files c → ⊥
+not_laid files c rs is some none stands =
+    let own = instance_one (files INSTANCE) rs c.instance is (stands_instance files c stands) in
+    no_layout files c (subst (λ (x : List InstanceRecord). 0 < length x) own some) (subst (λ (x : List InstanceRecord). IsDirectory x None) own none) stands
 
 -- files with the same instance file
 pub alike_by : (files f : Files) (c o : Contents) → f INSTANCE ≡ files INSTANCE → Stands files c → Stands f o → o.instance ≡ c.instance

@@ -1,5 +1,6 @@
 -- What stays of an open site while other files change.
-use Rattle.std.proofs.Common.{◌≡◌, ℕ, List, Option, Some, None, IfSome, IsSomeAnd, sym, subst}
+use Rattle.std.proofs.Common.{◌≡◌, ℕ, List, [], Option, Some, None, IfSome, IsSomeAnd, sym, subst}
+use Rattle.std.specs.Prelude.{slice_get}
 use Rattle.disk_defs.specs.Disk.{Files, View, ReadsAfter}
 use Rattle.disk_defs.specs.Frames.{SameOutside, OthersStay}
 use Rattle.gated_file.specs.State.{State, settled}
@@ -10,6 +11,10 @@ use Rattle.journal_defs.specs.Instance.{InstanceRecord}
 use Rattle.journal_defs.specs.Stands.{IsInstance}
 use Rattle.instance_file.specs.Instance.{HoldsRecords, HasRecords, IsReady}
 use Rattle.instance_file.specs.declared.instance.Instance.{Instance}
+use Rattle.jnl_file.proofs.Others as journals
+use Rattle.journal_defs.specs.Journal.{JournalRecord}
+use Rattle.region_journals.specs.declared.journals.RegionJournal.{RegionJournal}
+use Rattle.region_journals.specs.Journals.{AreReady, KeepsJournals}
 
 -- an instance file
 module _ (v w : View) (F : ℕ → Type 0) (i : Instance) (stays : OthersStay F v w) (ne : F INSTANCE → ⊥) where
@@ -47,4 +52,21 @@ module _ (v w : View) (F : ℕ → Type 0) (i : Instance) (stays : OthersStay F 
     file = ready.file;
     gated = others.ready_stays v w F i.gated stays (away ready.file) ready.gated;
     state = ready_among v.content w.content stays.content ready.state (λ is. others.state_stays v w F i.gated stays (away is));
+  }
+
+-- the newest journals
+abbrev pub AreAway : (ℕ → Type 0) → List RegionJournal → Type 0
+AreAway F js = (r : ℕ) (x : RegionJournal) → slice_get js r ≡ Some x → F x.journal.gated.file → ⊥
+
+module _ (v w : View) (F : ℕ → Type 0) (js : List RegionJournal) (stays : OthersStay F v w) (away : AreAway F js) where
+  pub journals_ready : (g : ℕ) → AreReady v g js → AreReady w g js
+  journals_ready g ready = record {
+    few = ready.few;
+    each = λ r x is. let was = ready.each r x is in record { ready = journals.ready_stays v w F x.journal stays (away r x is) was.ready; of = was.of; goes_on = was.goes_on };
+  }
+
+  pub journals_keep : (hard waiting : ℕ → List JournalRecord) → KeepsJournals v hard waiting js → KeepsJournals w hard waiting js
+  journals_keep hard waiting kept = record {
+    has = λ r x is. journals.records_stay v w F x.journal stays (away r x is) (record { hard = hard r; opening = []; closed = waiting r }) (kept.has r x is);
+    none_waits = kept.none_waits;
   }

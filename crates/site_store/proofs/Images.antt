@@ -1,35 +1,32 @@
--- Images of a site that stay sound while one of its files changes.
-use Rattle.std.proofs.Common.{◌≡◌, ◌≢◌, inl, inr, ◌≤◌, ◌<◌, ◌==◌, ℕ, Bool, true, false, List, [], ◌∷◌, ◌++◌, length, map, Some, None, refl, sym, ◌∙◌, ap, subst, arith, append-nil}
-use Rattle.std.specs.Prelude.{Option, ◌&&◌, if◌then◌else◌, nat_lt}
-use Rattle.std.specs.List.{AllByRecursion, AllZip, filter_map, flat_map, enumerate_from}
-use Rattle.std.specs.Option.{option_or}
-use Rattle.std.proofs.lemmas.Bool.{cases_eq}
-use Rattle.std.proofs.lemmas.Bool.Decides.{nat_tests}
+-- What images stand for.
+use Rattle.std.proofs.Common.{◌≡◌, ◌≤◌, ◌<◌, ℕ, zero, suc, true, List, [], ◌∷◌, ◌++◌, length, Some, refl, sym, ◌∙◌, ap, subst, arith, append-nil}
+use Rattle.std.specs.Prelude.{nat_lt}
+use Rattle.std.specs.List.{AllByRecursion, AllZip, filter_map}
 use Rattle.std.proofs.lemmas.List.Elements.{filter_map-append}
 use Rattle.disk_defs.specs.Disk.{Files}
 use Rattle.disk_defs.specs.Frames.{Only, SameOutside}
 use Rattle.disk_defs.specs.Gates.{Body, records}
 use Rattle.global_defs.specs.Entry.{Sequence, Reign}
 use Rattle.journal_defs.specs.Numbers.{INSTANCE, journal_file, database_file, lost_file, broken_file}
-use Rattle.journal_defs.specs.Journal.{JournalRecord, Pini, Epoch, Pblk, Tcom, Part, IsJournalBody}
-use Rattle.journal_defs.specs.Instance.{InstanceRecord, Create, Reigned, Cut, Map, Mode, IsInstanceBody, NamedMode, generation, regions, site_name}
-use Rattle.journal_defs.specs.Directory.{patterns}
-use Rattle.journal_defs.specs.Surviving.{survives, reigns}
-use Rattle.journal_defs.specs.Sequence.{Placed, Records, part_in, part_of}
-use Rattle.journal_defs.specs.Broken.{part_past, parts_past, broken, broken_text}
+use Rattle.journal_defs.specs.Instance.{InstanceRecord, Create, Reigned, Cut, Map, Mode, IsInstanceBody, BeginsWithCreate, generation, regions, site_name}
+use Rattle.journal_defs.specs.Directory.{Pattern, pattern_in, patterns}
+use Rattle.journal_defs.specs.Surviving.{reigns}
+use Rattle.journal_defs.specs.Sequence.{Placed, Records}
+use Rattle.journal_defs.specs.Broken.{broken, broken_text}
 use Rattle.journal_defs.specs.Stands.{Holds, IsInstance, AreRecords}
 use Rattle.journal_defs.specs.Growth.{with_record, NonePast}
-use Rattle.journal_defs.specs.Clean.{AreClean}
+use Rattle.journal_defs.specs.Clean.{AreClean, MOST_GENERATIONS}
 use Rattle.journal_defs.specs.Fit.{IsSoundImage}
 use Rattle.journal_laws.proofs.Naming as naming
 use Rattle.journal_laws.proofs.RecordSteps as steps
 use Rattle.journal_laws.proofs.ImageSteps as images
 use Rattle.journal_laws.proofs.Readings.{records_one}
-use Rattle.world_defs.specs.World.{Contents, is_made}
-use Rattle.world_defs.specs.Ties.{start_in, IsSite}
+use Rattle.region_journals.proofs.Unbroken.{broken_none}
+use Rattle.world_defs.specs.World.{Contents, NO_LEFTOVER, is_made}
+use Rattle.world_defs.specs.Ties.{start_in, texts_of, IsSite, HasLeft}
 
 -- A body is that of one record, and the record has one body, so a list of records has one list of bodies.
-pub zip_front : {R : Type 0} (P : Body → R → Type 0) → ((b d : Body) (r : R) → P b r → P d r → b ≡ d) → (bs ds : List Body) (rs qs : List R)
+zip_front : {R : Type 0} (P : Body → R → Type 0) → ((b d : Body) (r : R) → P b r → P d r → b ≡ d) → (bs ds : List Body) (rs qs : List R)
     → AllZip P bs rs → AllZip P ds (rs ++ qs) → (more : List Body) × (ds ≡ bs ++ more) × AllZip P more qs
 zip_front P one [] ds [] qs zip longer = (ds, refl, longer)
 zip_front P one [] ds (r ∷ rs) qs zip longer = absurd zip
@@ -39,92 +36,43 @@ zip_front P one (b ∷ bs) (d ∷ ds) (r ∷ rs) qs zip longer =
     let rest = zip_front P one bs ds rs qs zip.1 longer.1 in
     (rest.0, ap (λ (x : Body). x ∷ ds) (one d b r longer.0 zip.0) ∙ ap (λ (l : List Body). b ∷ l) rest.1, rest.2)
 
-pub one_instance_body : (b d : Body) (r : InstanceRecord) → IsInstanceBody b r → IsInstanceBody d r → b ≡ d
-one_instance_body b d r h k = h.spelled ∙ sym k.spelled
-
-pub one_journal_body : (b d : Body) (r : JournalRecord) → IsJournalBody b r → IsJournalBody d r → b ≡ d
-one_journal_body b d r h k = h.spelled ∙ sym k.spelled
+one_body : (b d : Body) (r : InstanceRecord) → IsInstanceBody b r → IsInstanceBody d r → b ≡ d
+one_body b d r h k = h.spelled ∙ sym k.spelled
 
 -- files with the same records have the same open bodies
-pub same_bodies : {R : Type 0} (P : Body → R → Type 0) → ((b d : Body) (r : R) → P b r → P d r → b ≡ d) → (old new : List ℕ) (rs : List R) → Holds P old rs → Holds P new rs → records new ≡ records old
-same_bodies {R} P one old new rs h k =
-    let longer : AllZip P k.0 (rs ++ []) = subst (AllZip P k.0) (sym (append-nil rs)) k.2 in
-    let found = zip_front P one h.0 k.0 rs [] h.2 longer in
+same_bodies : (old new : List ℕ) (rs : List InstanceRecord) → Holds IsInstanceBody old rs → Holds IsInstanceBody new rs → records new ≡ records old
+same_bodies old new rs h k =
+    let longer : AllZip IsInstanceBody k.0 (rs ++ []) = subst (AllZip IsInstanceBody k.0) (sym (append-nil rs)) k.2 in
+    let found = zip_front IsInstanceBody one_body h.0 k.0 rs [] h.2 longer in
     k.1 ∙ ap Some (found.1 ∙ ap (λ (l : List Body). h.0 ++ l) (none found.0 found.2) ∙ append-nil h.0) ∙ sym h.1
   where
-    none : (more : List Body) → AllZip P more [] → more ≡ []
+    none : (more : List Body) → AllZip IsInstanceBody more [] → more ≡ []
     none [] zip = refl
     none (b ∷ bs) zip = absurd zip
 
--- where no part past the length survives, the broken list is empty
-both_none : {X : Type 0} (a b : Option X) → option_or a b ≡ None → (a ≡ None) × (b ≡ None)
-both_none None b e = (refl, e)
-both_none (Some x) b e = absurd (cc e)
+-- where no part past the length survives, the next broken-transaction file has no byte
+no_text : (s : Records) (n : ℕ) → NonePast n s → broken_text (site_name s.instance) n (broken s n) ≡ []
+no_text s n none = ap (broken_text (site_name s.instance) n) (broken_none s n none)
 
-no_part : (n : ℕ) (p : Part) (lives : Bool) → (nat_lt n p.number ≡ true → (if p.number == p.number && lives then Some p else None) ≡ None) → (if nat_lt n p.number && lives then Some p else None) ≡ None
-no_part n p lives none = by_test (nat_lt n p.number) refl
-  where
-    alike : (p.number == p.number) ≡ true
-    alike = grind (arith, nat_tests)
-
-    by_life : (b : Bool) → (if true && b then Some p else None) ≡ None → (if true && b then Some p else None) ≡ None
-    by_life b h = h
-
-    by_test : (t : Bool) → nat_lt n p.number ≡ t → (if t && lives then Some p else None) ≡ None
-    by_test false e = refl
-    by_test true e = by_life lives (subst (λ (b : Bool). (if b && lives then Some p else None) ≡ None) alike (none e))
-
-past_none : (instance : List InstanceRecord) (n g : ℕ) (what : JournalRecord) → ((m : ℕ) → n < m → part_in instance m g what ≡ None) → part_past instance n g what ≡ None
-past_none instance n g (Tcom p) none = no_part n p (survives instance g p.number) (λ e. none p.number (grind (arith, nat_tests, e)))
-past_none instance n g (Pini s) none = refl
-past_none instance n g (Epoch m) none = refl
-past_none instance n g (Pblk b) none = refl
-
-parts_none : (instance : List InstanceRecord) (n : ℕ) (journal : List Placed) → ((m : ℕ) → n < m → part_of instance m journal ≡ None) → parts_past instance n journal ≡ []
-parts_none instance n [] none = refl
-parts_none instance n (p ∷ ps) none =
-    let here = past_none instance n p.generation p.what (λ m past. (both_none (part_of instance m ps) (part_in instance m p.generation p.what) (none m past)).1) in
-    let rest = parts_none instance n ps (λ m past. (both_none (part_of instance m ps) (part_in instance m p.generation p.what) (none m past)).0) in
-    filter_map-append (λ (q : Placed). part_past instance n q.generation q.what) (p ∷ []) ps ∙ rw here rest
-
-flat_none : {X Y : Type 0} (f : X → List Y) (xs : List X) → ((x : X) → f x ≡ []) → flat_map f xs ≡ []
-flat_none f [] none = refl
-flat_none f (x ∷ xs) none = rw (none x) (flat_none f xs none)
-
-pub broken_none : (s : Records) (n : ℕ) → NonePast n s → broken s n ≡ []
-broken_none s n none =
-    flat_none (λ (r : ℕ × NamedMode). map (λ (p : Part). record { region = r.1.name; part = p }) (parts_past s.instance n (s.journal r.0))) (enumerate_from 0 (regions s.instance))
-    (λ r. ap (map (λ (p : Part). record { region = r.1.name; part = p })) (parts_none s.instance n (s.journal r.0) (λ m past. none m r.0 past)))
-
--- so the first broken-transaction file has no byte, and files of generations that were drawn may change
-pub clean_after : (old new : Files) (s u : Records) (file n m : ℕ) → AreClean old s n → NonePast n s → file ≤ journal_file (generation s.instance) 0 → SameOutside (Only file) old new
+clean_after : (old new : Files) (s u : Records) (n m : ℕ) → AreClean old s n → NonePast n s → SameOutside (Only INSTANCE) old new
     → generation u.instance ≡ generation s.instance → length (regions u.instance) ≡ length (regions s.instance) → AreClean new u m
-clean_after old new s u file n m clean none low same newest few = record {
-  journals = λ g r undrawn here. ap records (same (journal_file g r) (λ e. omega (arith, undrawn.0, newest, e, low))) ∙ clean.journals g r (omega (arith, undrawn.0, newest), undrawn.1) (omega (arith, here, few));
-  lost = λ g undrawn. same (lost_file g) (λ e. omega (arith, undrawn.0, undrawn.1, newest, e, low)) ∙ clean.lost g (omega (arith, undrawn.0, newest), undrawn.1);
+clean_after old new s u n m clean none same newest few = record {
+  journals = λ g r undrawn here. ap records (same (journal_file g r) (λ e. omega (arith, e))) ∙ clean.journals g r (omega (arith, undrawn.0, newest), undrawn.1) (omega (arith, here, few));
+  lost = λ g undrawn. same (lost_file g) (λ e. omega (arith, e)) ∙ clean.lost g (omega (arith, undrawn.0, newest), undrawn.1);
   first_broken = λ g undrawn first.
-      let no_text : broken_text (site_name s.instance) n (broken s n) ≡ [] = ap (broken_text (site_name s.instance) n) (broken_none s n none) in
       let none_here = clean.first_broken g (omega (arith, undrawn.0, newest), undrawn.1) (omega (arith, first, newest)) in
-      let size : length (broken_text (site_name s.instance) n (broken s n)) ≡ 0 = ap length no_text in
-      let kept : new (broken_file g) ≡ old (broken_file g) = same (broken_file g) (λ e. omega (arith, undrawn.0, undrawn.1, newest, e, low)) in
-      let as_long : length (new (broken_file g)) ≡ length (old (broken_file g)) = ap length kept in
+      let size : length (broken_text (site_name s.instance) n (broken s n)) ≡ 0 = ap length (no_text s n none) in
+      let as_long : length (new (broken_file g)) ≡ length (old (broken_file g)) = ap length (same (broken_file g) (λ e. omega (arith, e))) in
       omega (arith, none_here, size, as_long);
-  later_broken = λ g undrawn later. same (broken_file g) (λ e. omega (arith, undrawn.0, undrawn.1, newest, e, low)) ∙ clean.later_broken g (omega (arith, undrawn.0, newest), undrawn.1) (omega (arith, later, newest));
+  later_broken = λ g undrawn later. same (broken_file g) (λ e. omega (arith, e)) ∙ clean.later_broken g (omega (arith, undrawn.0, newest), undrawn.1) (omega (arith, later, newest));
 }
 
--- one file changes, and its open bodies don't
-same_records : (old new : Files) (file : ℕ) → SameOutside (Only file) old new → records (new file) ≡ records (old file) → (f : ℕ) → records (new f) ≡ records (old f)
-same_records old new file same here f = elim (cases_eq f file) [
-  | inl e ↦ subst (λ (k : ℕ). records (new k) ≡ records (old k)) (sym e) here
-  | inr ne ↦ ap records (same f ne)
-]
-
-pub same_image : (old new : Files) (s : Records) (seq : Sequence) (file : ℕ) → IsSoundImage old s seq → NonePast (length seq) s → length (regions s.instance) ≡ 1 → file ≤ journal_file (generation s.instance) 0
-    → file ≢ database_file 0 → SameOutside (Only file) old new → records (new file) ≡ records (old file) → IsSoundImage new s seq
-same_image old new s seq file sound none one low away same here =
-    images.same_image old new s seq sound (same_records old new file same here INSTANCE) (λ h r drawn region. same_records old new file same here (journal_file h r))
-    (clean_after old new s s file (length seq) (length seq) sound.clean none low same refl refl)
-    (λ r region. same (database_file r) (λ e. away (sym e ∙ omega (arith, one, region))))
+-- other bytes of the instance file, with the same records
+pub same_image : (old new : Files) (s : Records) (seq : Sequence) → IsSoundImage old s seq → NonePast (length seq) s → SameOutside (Only INSTANCE) old new → IsInstance (new INSTANCE) s.instance → IsSoundImage new s seq
+same_image old new s seq sound none same now =
+    images.same_image old new s seq sound (same_bodies (old INSTANCE) (new INSTANCE) s.instance sound.held.instance.bodies now.bodies) (λ h r drawn region. ap records (same (journal_file h r) (λ e. omega (arith, e))))
+    (clean_after old new s s (length seq) (length seq) sound.clean none same refl refl)
+    (λ r region. same (database_file r) (λ e. omega (arith, e)))
 
 -- a reign begins
 pub generation_kept : (rs : List InstanceRecord) (x : Reign) → generation (rs ++ Reigned x ∷ []) ≡ generation rs
@@ -135,41 +83,104 @@ generation_kept (Reigned r ∷ rs) x = generation_kept rs x
 generation_kept (Map region star name ∷ rs) x = generation_kept rs x
 generation_kept (Mode region before ∷ rs) x = generation_kept rs x
 
+pub patterns_kept : (rs : List InstanceRecord) (x : Reign) → patterns (rs ++ Reigned x ∷ []) ≡ patterns rs
+patterns_kept rs x = filter_map-append pattern_in rs (Reigned x ∷ []) ∙ append-nil (patterns rs)
+
+pub name_kept : (rs : List InstanceRecord) (x : Reign) → 0 < length rs → site_name (rs ++ Reigned x ∷ []) ≡ site_name rs
+name_kept [] x some = absurd (omega (arith, some))
+name_kept (Cut n h ∷ rs) x some = refl
+name_kept (Create name qs ∷ rs) x some = refl
+name_kept (Reigned r ∷ rs) x some = refl
+name_kept (Map region star name ∷ rs) x some = refl
+name_kept (Mode region before ∷ rs) x some = refl
+
+pub regions_kept : (rs : List InstanceRecord) (x : Reign) → 0 < length rs → regions (rs ++ Reigned x ∷ []) ≡ regions rs
+regions_kept [] x some = absurd (omega (arith, some))
+regions_kept (Cut n h ∷ rs) x some = refl
+regions_kept (Create name qs ∷ rs) x some = refl
+regions_kept (Reigned r ∷ rs) x some = refl
+regions_kept (Map region star name ∷ rs) x some = refl
+regions_kept (Mode region before ∷ rs) x some = refl
+
 last_one : (more : List Body) (x : InstanceRecord) → AllZip IsInstanceBody more (x ∷ []) → (body : Body) × (more ≡ body ∷ []) × IsInstanceBody body x
 last_one [] x zip = absurd zip
 last_one (b ∷ []) x zip = (b, refl, zip.0)
 last_one (b ∷ d ∷ bs) x zip = absurd zip.1
 
-pub reign_image : (old new : Files) (s : Records) (seq : Sequence) (x : Reign) → IsSoundImage old s seq → NonePast (length seq) s → length (regions s.instance) ≡ 1 → length seq < x.start
+-- a site has a region
+some_by : (rs : List InstanceRecord) (bodies : List Body) → AllZip IsInstanceBody bodies rs → BeginsWithCreate rs → 0 < length rs → 1 ≤ length (regions rs)
+some_by [] bodies zip begins made = absurd (omega (arith, made))
+some_by (Create name named ∷ rs) [] zip begins made = absurd zip
+some_by (Create name named ∷ rs) (b ∷ bodies) zip begins made = zip.0.form.1
+some_by (Reigned r ∷ rs) bodies zip begins made = absurd begins
+some_by (Cut n g ∷ rs) bodies zip begins made = absurd begins
+some_by (Map region star name ∷ rs) bodies zip begins made = absurd begins
+some_by (Mode region before ∷ rs) bodies zip begins made = absurd begins
+
+some_regions : (files : Files) (s : Records) → AreRecords files s → 0 < length s.instance → 1 ≤ length (regions s.instance)
+some_regions files s held made = some_by s.instance held.instance.bodies.0 held.instance.bodies.2 held.instance.create made
+
+pub reign_image : (old new : Files) (s : Records) (seq : Sequence) (x : Reign) → IsSoundImage old s seq → NonePast (length seq) s → 0 < length s.instance → length seq < x.start
     → AllByRecursion (λ (q : Reign). q.start < x.start) (reigns s.instance) → SameOutside (Only INSTANCE) old new → IsInstance (new INSTANCE) (s.instance ++ Reigned x ∷ []) → IsSoundImage new (with_record s (Reigned x)) seq
-reign_image old new s seq x sound none one late past same now =
+reign_image old new s seq x sound none made late past same now =
     let was = sound.held.instance.bodies in
-    let found = zip_front IsInstanceBody one_instance_body was.0 now.bodies.0 s.instance (Reigned x ∷ []) was.2 now.bodies.2 in
+    let found = zip_front IsInstanceBody one_body was.0 now.bodies.0 s.instance (Reigned x ∷ []) was.2 now.bodies.2 in
     let last = last_one found.0 (Reigned x) found.2 in
     let list : records (new INSTANCE) ≡ Some (was.0 ++ last.0 ∷ []) = now.bodies.1 ∙ ap Some (found.1 ∙ ap (λ (l : List Body). was.0 ++ l) last.1) in
-    let few : 1 ≤ length (regions s.instance) = omega (arith, one) in
-    steps.reign old new s seq x sound few none late (naming.reign old new s x was.0 last.0 sound.held few past same was.1 list last.2)
-    (λ m. clean_after old new s (with_record s (Reigned x)) INSTANCE (length seq) m sound.clean none (omega arith) same (generation_kept s.instance x) (ap length (naming.same_regions s.instance (Reigned x) few)))
+    let some : 1 ≤ length (regions s.instance) = some_regions old s sound.held made in
+    steps.reign old new s seq x sound some none late (naming.reign old new s x was.0 last.0 sound.held some past same was.1 list last.2)
+    (λ m. clean_after old new s (with_record s (Reigned x)) (length seq) m sound.clean none same (generation_kept s.instance x) (ap length (regions_kept s.instance x made)))
     (λ r region. same (database_file r) (λ e. omega (arith, e)))
 
--- What contents have to be, besides, for an image to stand for them.
-pub record AreOf (c : Contents) (s : Records) : Type 0 where
+-- What files and contents have to be, besides, for these records to stand for the contents.
+pub record AreOf (files : Files) (c : Contents) (s : Records) : Type 0 where
   pub made : is_made c ≡ true
-  pub one_region : length (regions c.instance) ≡ 1
-  pub unmapped : patterns c.instance ≡ []
+  pub mapped : AllByRecursion (λ (p : Pattern). p.region < length (regions c.instance)) (patterns c.instance)
   pub instance : s.instance ≡ c.instance
-  pub starts : c.starts ≡ filter_map (λ (p : Placed). start_in p.what) (s.journal 0)
+  pub starts : (r : ℕ) → c.starts r ≡ filter_map (λ (p : Placed). start_in p.what) (s.journal r)
+  pub texts : c.texts ≡ texts_of files (generation c.instance)
 
-pub are_of : (files : Files) (c : Contents) (s : Records) → IsSite files c → AreRecords files s → AreOf c s
+pub are_of : (files : Files) (c : Contents) (s : Records) → IsSite files c → AreRecords files s → AreOf files c s
 are_of files c s is held =
     let same = records_one files is.records s is.image.held held in
     record {
       made = is.made;
-      one_region = is.one_region;
-      unmapped = is.unmapped;
+      mapped = is.mapped;
       instance = subst (λ (u : Records). u.instance ≡ c.instance) same is.instance;
-      starts = subst (λ (u : Records). c.starts ≡ filter_map (λ (p : Placed). start_in p.what) (u.journal 0)) same is.starts;
+      starts = λ r. subst (λ (u : Records). c.starts r ≡ filter_map (λ (p : Placed). start_in p.what) (u.journal r)) same (is.starts r);
+      texts = is.texts;
     }
 
-pub site_of : (files : Files) (c : Contents) (s : Records) → AreOf c s → IsSoundImage files s c.sequence → IsSite files c
-site_of files c s of sound = record { made = of.made; one_region = of.one_region; unmapped = of.unmapped; records = s; instance = of.instance; starts = of.starts; image = sound }
+pub site_of : (files : Files) (c : Contents) (s : Records) → AreOf files c s → IsSoundImage files s c.sequence → IsSite files c
+site_of files c s of sound = record { made = of.made; mapped = of.mapped; records = s; instance = of.instance; starts = of.starts; texts = of.texts; image = sound }
+
+pub is_created : (c : Contents) → is_made c ≡ true → 0 < length c.instance
+is_created c made = by_list c.instance made
+  where
+    by_list : (l : List InstanceRecord) → nat_lt 0 (length l) ≡ true → 0 < length l
+    by_list [] e = absurd (cc e)
+    by_list (x ∷ l) e = omega arith
+
+-- the broken-transaction files of the generations so far
+pub texts_same : (d f : Files) (n : ℕ) → ((g : ℕ) → g ≤ n → f (broken_file g) ≡ d (broken_file g)) → texts_of f n ≡ texts_of d n
+texts_same d f zero same = refl
+texts_same d f (suc g) same =
+    ap (λ (l : List (List ℕ)). l ++ f (broken_file (suc g)) ∷ []) (texts_same d f g (λ h low. same h (omega (arith, low))))
+    ∙ ap (λ (x : List ℕ). texts_of d g ++ x ∷ []) (same (suc g) (omega arith))
+
+-- nothing lies behind a sequence past which no part survives
+empty_list : (l : List ℕ) → length l ≤ 0 → [] ≡ l
+empty_list [] none = refl
+empty_list (x ∷ l) none = absurd (omega (arith, none))
+
+pub left_nothing : (files : Files) (c : Contents) (s : Records) → AreRecords files s → AreClean files s (length c.sequence) → NonePast (length c.sequence) s → s.instance ≡ c.instance → generation c.instance < MOST_GENERATIONS → HasLeft files c NO_LEFTOVER
+left_nothing files c s held clean none own low = record {
+  records = s;
+  held = held;
+  broken = sym (ap (broken_text (site_name c.instance) (length c.sequence)) (broken_none s (length c.sequence) none));
+  torn =
+      let newest : generation s.instance ≡ generation c.instance = ap generation own in
+      let short = clean.first_broken (suc (generation c.instance)) (omega (arith, newest), omega (arith, low)) (omega (arith, newest)) in
+      let size : length (broken_text (site_name s.instance) (length c.sequence) (broken s (length c.sequence))) ≡ 0 = ap length (no_text s (length c.sequence) none) in
+      empty_list (files (broken_file (suc (generation c.instance)))) (omega (arith, short, size));
+}

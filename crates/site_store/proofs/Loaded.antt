@@ -1,8 +1,11 @@
 -- A site is opened.
 use Rattle.std.proofs.Common.{◌≡◌, inl, inr, ℕ, suc, ◌+◌, ◌≤◌, ◌<◌, ◌^◌, Bool, true, false, List, [], ◌∷◌, ◌++◌, length, map, take, Option, Some, None, IfSome, IsSomeAnd, refl, sym, ◌∙◌, ap, subst, arith}
-use Rattle.std.specs.Prelude.{IsSome, filter, nat_le, if◌then◌else◌}
+use Rattle.std.specs.Prelude.{filter, nat_le, slice_get, if◌then◌else◌}
 use Rattle.std.specs.List.{AllByRecursion, enumerate_from}
+use Rattle.std.specs.Option.{option_map}
 use Rattle.std.proofs.lemmas.Bool.Decides.{nat_tests}
+use Rattle.std.proofs.lemmas.List.{length-map}
+use Rattle.std.proofs.lemmas.Option.{slice_get-map}
 use Rattle.std.proofs.Math.Seq.{take-length, drop-length}
 use Rattle.disk_defs.specs.Disk.{Files, View, Image, IsLawful, From, AtEachMoment}
 use Rattle.disk_defs.proofs.Told.{weaker_told, both_weak, told_at}
@@ -11,9 +14,9 @@ use Rattle.global_defs.specs.Entry.{Sequence, Reign, state}
 use Rattle.global_defs.specs.Fields.{IsSiteName}
 use Rattle.gvn_model.specs.Entries.{entry_value}
 use Rattle.gvn_model.specs.declared.entry.Entry.{Entry}
-use Rattle.journal_defs.specs.Instance.{InstanceRecord, Create, Reigned, Cut, Map, Mode, IsInForm, BeginsWithCreate, generation, site_name}
+use Rattle.journal_defs.specs.Instance.{InstanceRecord, Create, Reigned, Cut, Map, Mode, IsInForm, BeginsWithCreate, generation, regions, site_name}
 use Rattle.journal_defs.specs.Surviving.{reigns}
-use Rattle.journal_defs.specs.Sequence.{IsSequence}
+use Rattle.journal_defs.specs.Sequence.{Placed, Records, IsSequence}
 use Rattle.journal_defs.specs.Growth.{AreEntries}
 use Rattle.journal_defs.specs.Fit.{IsSoundImage}
 use Rattle.journal_laws.proofs.Drawing as drawing
@@ -21,44 +24,50 @@ use Rattle.journal_laws.proofs.Runs as runs
 use Rattle.instance_file.specs.Instance as instances
 use Rattle.jnl_file.specs.Journal as journals
 use Rattle.jnl_file.specs.Records.{settled}
-use Rattle.jnl_record.specs.declared.placed.PlacedRecord.{PlacedRecord}
-use Rattle.jnl_record.specs.Values.{placed_value}
-use Rattle.mupip_recover.specs.Site.{site_records}
-use Rattle.world_defs.specs.World.{Contents}
-use Rattle.world_defs.specs.Rows.{with_sequence, opened}
-use Rattle.world_defs.specs.Ties.{IsSite, Stands}
+use Rattle.jnl_file.specs.declared.journal.Journal.{Journal}
+use Rattle.region_journals.specs.Journals.{AreReady, HasSyncs, KeepsJournals}
+use Rattle.region_journals.specs.Journals as region_journals
+use Rattle.region_journals.specs.declared.journals.RegionJournal.{RegionJournal}
+use Rattle.site_files.specs.Loading.{MayBeOpened, AreRead, WasRead, MayDraw, HasDrawn, next_cut, next_broken, next_pini, drawn_records}
+use Rattle.site_files.proofs.Keeping as keeping
+use Rattle.site_files.proofs.Kept.{image_read}
+use Rattle.world_defs.specs.World.{Contents, Leftover}
+use Rattle.world_defs.specs.Rows.{with_sequence, opened, MayOpen}
+use Rattle.world_defs.specs.Ties.{IsSite, HasLeft, Stands, texts_of}
 use Rattle.site_store.specs.declared.site.OpenSite.{OpenSite}
+use Rattle.site_store.specs.Finding.{HasLayout}
 use Rattle.site_store.specs.Site.{tagged, Remembers, IsReady, Keeps, IsOpen, WasOpened}
-use Rattle.site_store.specs.Opening.{OpensTo, MayOpen, EachStands}
-use Rattle.site_store.specs.Loading.{MayBeOpened, AreRead, WasRead, MayDraw, HasDrawn, next_cut, next_pini, contents_of}
+use Rattle.site_store.specs.Opening.{MayBeOpen, EachStands, AreTextsDurable}
 use Rattle.site_store.proofs.Found.{instance_one, blank_instance}
-use Rattle.site_store.proofs.Begun.{reads_so}
-use Rattle.site_store.proofs.Drawn.{S3, image_read, site_read, site_drawn, site_begun, has_begun, none_begun, no_epoch_begun, older_still}
+use Rattle.site_store.proofs.Drawn.{S, C, text, newest_is, same_regions, site_read, left_read, site_either, site_begun, newest_whole, texts_kept}
 
 pub length_values : (es : List Entry) → length (map entry_value es) ≡ length es
 length_values [] = refl
 length_values (e ∷ es) = ap suc (length_values es)
 
-always : (o : Option Files) (P : Type 0) → P → IfSome o (λ files. (c : Contents) → IsSite files c → P)
-always None P p = tt
-always (Some f) P p = λ c site. p
-
 -- nothing was written
-pub quiet : (u v : View) → AtEachMoment u v (Image u) → AtEachMoment u v (MayOpen u)
-quiet u v run = weaker u v (Image u) (MayOpen u) (λ f image. (f, image, λ c site. (c, inl refl, site))) run
+abbrev pub Moments : View → View → Files → Type 0
+Moments u v files = (c : Contents) (left : Leftover) → IsSite files c → HasLeft files c left → AtEachMoment u v (MayBeOpen u left.broken)
 
-pub quiet_told : (u v : View) → AtEachMoment u v (Image u) → IfSome u.content (λ files. (c : Contents) → IsSite files c → AtEachMoment u v (MayOpen u))
-quiet_told u v run = always u.content (AtEachMoment u v (MayOpen u)) (quiet u v run)
+abbrev pub StandsOpen : Option Files → Files → Type 0
+StandsOpen n files = (c : Contents) (left : Leftover) → IsSite files c → HasLeft files c left → IfSome n (λ now. (o : Contents) × MayOpen left.broken c o × IsSite now o)
 
-pub quiet_stands : (o n : Option Files) → n ≡ o → IfSome o (λ files. (c : Contents) → IsSite files c → IfSome n (λ now. (x : Contents) × OpensTo c x × IsSite now x))
-quiet_stands o n same = subst (λ (z : Option Files). IfSome o (λ files. (c : Contents) → IsSite files c → IfSome z (λ now. (x : Contents) × OpensTo c x × IsSite now x))) (sym same) (itself o)
+pub quiet : (u v : View) (broken : List ℕ) → AtEachMoment u v (Image u) → AtEachMoment u v (MayBeOpen u broken)
+quiet u v broken run = weaker u v (Image u) (MayBeOpen u broken) (λ f image. (f, image, λ c site. (c, inl refl, site))) run
+
+pub quiet_told : (u v : View) → AtEachMoment u v (Image u) → IfSome u.content (Moments u v)
+quiet_told u v run = always u.content
   where
-    itself : (o : Option Files) → IfSome o (λ files. (c : Contents) → IsSite files c → IfSome o (λ now. (x : Contents) × OpensTo c x × IsSite now x))
-    itself None = tt
-    itself (Some f) = λ c site. (c, inl refl, site)
+    always : (o : Option Files) → IfSome o (Moments u v)
+    always None = tt
+    always (Some f) = λ c left site has. quiet u v left.broken run
 
-pub absurd_told : (o n : Option Files) (P : Contents → Type 0) → n ≡ o → IfSome n (λ _. ⊥) → IfSome o (λ files. (c : Contents) → IsSite files c → P c)
-absurd_told o n P same none = weaker_told o (λ _. ⊥) (λ files. (c : Contents) → IsSite files c → P c) (told_at o n (λ _. ⊥) same none) (λ files no. absurd no)
+pub quiet_stands : (o n : Option Files) → n ≡ o → IfSome o (StandsOpen n)
+quiet_stands o n same = subst (λ (z : Option Files). IfSome o (StandsOpen z)) (sym same) (itself o)
+  where
+    itself : (o : Option Files) → IfSome o (StandsOpen o)
+    itself None = tt
+    itself (Some f) = λ c left site has. (c, inl refl, site)
 
 -- the name
 name_of : (rs : List InstanceRecord) (x : InstanceRecord) → 0 < length rs → BeginsWithCreate rs → AllByRecursion IsInForm rs → IsSiteName (site_name (rs ++ x ∷ []))
@@ -78,123 +87,209 @@ within t (r ∷ rs) = by_test (within t rs) (nat_le r.start t) refl
     by_test rest true e = (grind (arith, nat_tests, e), rest)
     by_test rest false e = rest
 
-module _ (rs : List InstanceRecord) (last : ℕ) (form : MayBeOpened rs last) (s : OpenSite) (records : s.instance.records ≡ rs ++ next_cut rs (length s.entries.items) ∷ []) where
-  pub was_opened : s.hardened ≡ length s.entries.items → length s.entries.items < 2 ^ 40 → s.stamp ≡ None → WasOpened s
-  was_opened hardened few none = record {
-    created = (let some = form.some in let e : length s.instance.records ≡ length (rs ++ next_cut rs (length s.entries.items) ∷ []) = ap length records in subst (λ (l : List InstanceRecord). 0 < length l) (sym records) (longer rs (next_cut rs (length s.entries.items))));
-    name = subst (λ (l : List InstanceRecord). IsSiteName (site_name l)) (sym records) (name_of rs (next_cut rs (length s.entries.items)) form.some form.order.ordered.create form.form);
+-- journals that have just begun
+abbrev pub newly : Journal → RegionJournal
+newly j = record { journal = j; appended = false }
+
+some_at : (o : Option Journal) (x : RegionJournal) → option_map newly o ≡ Some x → (j : Journal) × (o ≡ Some j) × (x ≡ newly j)
+some_at None x e = absurd (cc e)
+some_at (Some j) x e = (j, refl, cc e)
+
+pub newly_at : (js : List Journal) (r : ℕ) (x : RegionJournal) → slice_get (map newly js) r ≡ Some x → (j : Journal) × (slice_get js r ≡ Some j) × (x ≡ newly j)
+newly_at js r x e = some_at (slice_get js r) x (sym (slice_get-map newly js r) ∙ e)
+
+longer : (l : List InstanceRecord) (x : InstanceRecord) → 0 < length (l ++ x ∷ [])
+longer [] x = omega arith
+longer (y ∷ l) x = omega arith
+
+module _ (rs : List InstanceRecord) (last : ℕ → ℕ) (form : MayBeOpened rs last) (s : OpenSite) (n : ℕ) (records : s.instance.records ≡ rs ++ next_cut rs n ∷ []) where
+  pub was_opened : n ≡ length s.entries.items → s.hardened ≡ length s.entries.items → length s.entries.items < 2 ^ 40 → s.stamp ≡ None → WasOpened s
+  was_opened count hardened few none = record {
+    created = subst (λ (l : List InstanceRecord). 0 < length l) (sym records) (longer rs (next_cut rs n));
+    name = subst (λ (l : List InstanceRecord). IsSiteName (site_name l)) (sym records) (name_of rs (next_cut rs n) form.some form.order.ordered.create form.form);
     hardened = hardened;
     few = few;
     no_reign_past = subst (λ (l : List InstanceRecord). AllByRecursion (λ (r : Reign). r.start ≤ length s.entries.items) (reigns l)) (sym records)
-        (subst (λ (l : List Reign). AllByRecursion (λ (r : Reign). r.start ≤ length s.entries.items) l) (sym (runs.reigns-cut rs (length s.entries.items) (generation rs + 1))) (within (length s.entries.items) (reigns rs)));
+        (subst (λ (l : List Reign). AllByRecursion (λ (r : Reign). r.start ≤ length s.entries.items) l) (sym (runs.reigns-cut rs n (generation rs + 1)))
+        (subst (λ (k : ℕ). AllByRecursion (λ (r : Reign). r.start ≤ k) (filter (λ (r : Reign). nat_le r.start n) (reigns rs))) count (within n (reigns rs))));
     no_reign = none;
   }
-    where
-      longer : (l : List InstanceRecord) (x : InstanceRecord) → 0 < length (l ++ x ∷ [])
-      longer [] x = omega arith
-      longer (y ∷ l) x = omega arith
 
-  pub is_ready : (w : View) → instances.IsReady w s.instance → journals.IsReady w s.journal → journals.IsJournalOf s.journal 0 (suc (generation rs)) → IsReady w s
-  is_ready w instance journal of =
+  generation_is : suc (generation rs) ≡ generation s.instance.records
+  generation_is =
       let past : generation rs < generation rs + 1 = omega arith in
-      let e : generation s.instance.records ≡ generation rs + 1 = ap generation records ∙ drawing.generation-cut rs (length s.entries.items) (generation rs + 1) past in
-      let g : suc (generation rs) ≡ generation s.instance.records = omega (arith, e) in
-      record { instance = instance; journal = journal; of = subst (λ (k : ℕ). journals.IsJournalOf s.journal 0 k) g of }
+      let e : generation s.instance.records ≡ generation rs + 1 = ap generation records ∙ drawing.generation-cut rs n (generation rs + 1) past in
+      omega (arith, e)
+
+  regions_are : regions s.instance.records ≡ regions rs
+  regions_are = ap regions records ∙ drawing.same_regions rs n (generation rs + 1) form.some_region
+
+  module _ (w : View) (begun : List Journal) (number : length begun ≡ length (regions rs)) (js_are : s.journals.journals.items ≡ map newly begun) where
+    number_is : length s.journals.journals.items ≡ length (regions rs)
+    number_is = ap length js_are ∙ length-map begun newly ∙ number
+
+    pub is_ready : instances.IsReady w s.instance → HasLayout (rs ++ next_cut rs n ∷ []) s.layout → ((r : ℕ) (j : Journal) → slice_get begun r ≡ Some j → journals.IsReady w j × journals.IsJournalOf j r (suc (generation rs))) → IsReady w s
+    is_ready instance layout each = record {
+      instance = instance;
+      layout = subst (λ (l : List InstanceRecord). HasLayout l s.layout) (sym records) layout;
+      journals = record {
+        few = (let e = number_is in let few = form.few_regions in omega (arith, e, few));
+        each = λ r x at.
+            let found = newly_at begun r x (subst (λ (l : List RegionJournal). slice_get l r ≡ Some x) js_are at) in
+            let is = each r found.0 found.1 in
+            subst (λ (y : RegionJournal). region_journals.IsOpen w (generation s.instance.records) HasSyncs r y) (sym found.2)
+            (record { ready = is.0; of = subst (λ (k : ℕ). journals.IsJournalOf found.0 r k) generation_is is.1; goes_on = λ yes. absurd (cc yes) });
+      };
+      each_region = number_is ∙ ap length (sym regions_are);
+    }
 
 -- a site that was read at v, and drawn at w
-module _ (u v w : View) (rs : List InstanceRecord) (ps : List PlacedRecord) (last : ℕ) (seq : Sequence) (form : MayBeOpened rs last) (sequence : IsSequence (site_records rs (ps ∷ [])) seq)
-    (lawful_v : IsLawful v) (lawful_w : IsLawful w) (synced : AtEachMoment u v (Image u)) (same : v.content ≡ u.content) (read : IfSome u.content (WasRead v rs last (map placed_value ps))) where
-  abbrev D : Contents
-  D = contents_of rs (map placed_value ps) seq
+module _ (u v w : View) (rs : List InstanceRecord) (last : ℕ → ℕ) (journal : ℕ → List Placed) (seq : Sequence) (form : MayBeOpened rs last) (sequence : IsSequence (record { instance = rs; journal = journal }) seq)
+    (lawful_v : IsLawful v) (lawful_w : IsLawful w) (synced : AtEachMoment u v (Image u)) (same : v.content ≡ u.content) (read : IfSome u.content (WasRead v rs last journal))
+    (broken : List ℕ) (broken_is : broken ≡ text rs last journal seq form sequence) where
+  abbrev pub S0 : Records
+  S0 = S rs last journal seq form sequence
+
+  abbrev pub C0 : Files → Contents
+  C0 f = C rs last journal seq form sequence f
+
+  abbrev pub IsShort : Files → Type 0
+  IsShort files = length (files (next_broken rs)) ≤ length broken
+
+  abbrev pub Drawing : Files → Type 0
+  Drawing = From (Image v) (MayDraw rs (length seq) broken last)
+
+  abbrev pub Finished : Files → Type 0
+  Finished = From (Image v) (HasDrawn rs (length seq) broken last (length (regions rs)))
 
   earlier : (f : Files) → Image v f → Image u f
   earlier f image = holds_now u v (Image u) lawful_v synced f image
 
-  may_open : (files : Files) → WasRead v rs last (map placed_value ps) files → (f : Files) → From (Image v) (MayDraw rs (length seq) last) f → MayOpen u f
+  short : (f : Files) → IsSoundImage f S0 seq → IsShort f
+  short f sound =
+      let room = form.room in
+      let few = sound.clean.first_broken (suc (generation rs)) (omega arith, omega (arith, room)) (omega arith) in
+      let size : length broken ≡ length (text rs last journal seq form sequence) = ap length broken_is in
+      omega (arith, few, size)
+
+  left_is : (files : Files) (c : Contents) (left : Leftover) → AreRead rs last journal files → IsSite files c → HasLeft files c left → broken ≡ left.broken
+  left_is files c left rd site has = broken_is ∙ sym (left_read rs last journal seq form sequence files c left rd site has)
+
+  may_open : (files : Files) → WasRead v rs last journal files → (f : Files) → Drawing f → MayBeOpen u broken f
   may_open files r f q = (
     q.0,
     earlier q.0 q.1,
     λ c site.
-        let rd = image_read v rs last (map placed_value ps) files r q.0 q.1 in
-        let is = site_read rs ps last seq form sequence q.0 c rd site in
-        let res = site_drawn rs ps last seq form sequence q.0 f rd is.0 q.2.others q.2 in
-        (res.0, subst (λ (x : Contents). OpensTo x res.0) (sym is.1) res.1, res.2),
+        let rd = image_read v rs last journal files r q.0 q.1 in
+        let is = site_read rs last journal seq form sequence q.0 c rd site in
+        let res = site_either rs last journal seq form sequence q.0 rd broken f is.0 broken_is q.2 in
+        (res.0, subst (λ (x : Contents). MayOpen broken x res.0) (sym is.1) res.1, res.2),
   )
 
-  pub drawn_moments : IfSome v.content (λ _. AtEachMoment v w (From (Image v) (MayDraw rs (length seq) last))) → IfSome u.content (λ files. (c : Contents) → IsSite files c → AtEachMoment u w (MayOpen u))
-  drawn_moments run = both_weak u.content (WasRead v rs last (map placed_value ps)) (λ _. AtEachMoment v w (From (Image v) (MayDraw rs (length seq) last))) (λ files. (c : Contents) → IsSite files c → AtEachMoment u w (MayOpen u)) read
-      (told_at u.content v.content (λ _. AtEachMoment v w (From (Image v) (MayDraw rs (length seq) last))) same run)
-      (λ files r m c site. then_more u v w (MayOpen u) (From (Image v) (MayDraw rs (length seq) last)) (quiet u v synced) m (λ f q. may_open files r f q))
+  pub drawn_moments : IfSome v.content (λ files. IsShort files → AtEachMoment v w Drawing) → IfSome u.content (Moments u w)
+  drawn_moments run = both_weak u.content (WasRead v rs last journal) (λ files. IsShort files → AtEachMoment v w Drawing) (Moments u w) read
+      (told_at u.content v.content (λ files. IsShort files → AtEachMoment v w Drawing) same run)
+      (λ files r m c left site has.
+      let is = site_read rs last journal seq form sequence files c r.holds site in
+      subst (λ (t : List ℕ). AtEachMoment u w (MayBeOpen u t)) (left_is files c left r.holds site has)
+      (then_more u v w (MayBeOpen u broken) Drawing (quiet u v broken synced) (m (short files is.0)) (λ f q. may_open files r f q)))
 
-  pub drawn_stands : IfSome v.content (λ files. IfSome w.content (MayDraw rs (length seq) last files)) → IfSome u.content (λ files. (c : Contents) → IsSite files c → IfSome w.content (λ now. (x : Contents) × OpensTo c x × IsSite now x))
-  drawn_stands drawn = both_weak u.content (WasRead v rs last (map placed_value ps)) (λ files. IfSome w.content (MayDraw rs (length seq) last files)) (λ files. (c : Contents) → IsSite files c → IfSome w.content (λ now. (x : Contents) × OpensTo c x × IsSite now x)) read
-      (told_at u.content v.content (λ files. IfSome w.content (MayDraw rs (length seq) last files)) same drawn)
-      (λ files r m c site. weaker_told w.content (MayDraw rs (length seq) last files) (λ now. (x : Contents) × OpensTo c x × IsSite now x) m (λ now q.
-      let is = site_read rs ps last seq form sequence files c r.holds site in
-      let res = site_drawn rs ps last seq form sequence files now r.holds is.0 q.others q in
-      (res.0, subst (λ (x : Contents). OpensTo x res.0) (sym is.1) res.1, res.2)))
+  pub drawn_stands : IfSome v.content (λ files. IsShort files → IfSome w.content (MayDraw rs (length seq) broken last files)) → IfSome u.content (StandsOpen w.content)
+  drawn_stands drawn = both_weak u.content (WasRead v rs last journal) (λ files. IsShort files → IfSome w.content (MayDraw rs (length seq) broken last files)) (StandsOpen w.content) read
+      (told_at u.content v.content (λ files. IsShort files → IfSome w.content (MayDraw rs (length seq) broken last files)) same drawn)
+      (λ files r m c left site has.
+      let is = site_read rs last journal seq form sequence files c r.holds site in
+      weaker_told w.content (MayDraw rs (length seq) broken last files) (λ now. (o : Contents) × MayOpen left.broken c o × IsSite now o) (m (short files is.0)) (λ now q.
+      let res = site_either rs last journal seq form sequence files r.holds broken now is.0 broken_is q in
+      let open_c : MayOpen broken c res.0 = subst (λ (x : Contents). MayOpen broken x res.0) (sym is.1) res.1 in
+      (res.0, subst (λ (t : List ℕ). MayOpen t c res.0) (left_is files c left r.holds site has) open_c, res.2)))
 
   pub room_left : IfSome u.content (λ files. (c : Contents) → IsSite files c → generation c.instance < 65534)
-  room_left = weaker_told u.content (WasRead v rs last (map placed_value ps)) (λ files. (c : Contents) → IsSite files c → generation c.instance < 65534) read (λ files r c site.
-      let is = site_read rs ps last seq form sequence files c r.holds site in
+  room_left = weaker_told u.content (WasRead v rs last journal) (λ files. (c : Contents) → IsSite files c → generation c.instance < 65534) read (λ files r c site.
+      let is = site_read rs last journal seq form sequence files c r.holds site in
       subst (λ (x : Contents). generation x.instance < 65534) (sym is.1) form.room)
 
   -- each image is sound when it stood for something
-  sound_image : (files : Files) → WasRead v rs last (map placed_value ps) files → EachStands u → (d : Files) → Image v d → IsSoundImage d (site_records rs (ps ∷ [])) seq
-  sound_image files r each d image = by_standing (image_read v rs last (map placed_value ps) files r d image) (each d (earlier d image)).0 (each d (earlier d image)).1
+  sound_image : (files : Files) → WasRead v rs last journal files → EachStands u → (d : Files) → Image v d → IsSoundImage d S0 seq
+  sound_image files r each d image = by_standing (image_read v rs last journal files r d image) (each d (earlier d image)).0 (each d (earlier d image)).1
     where
-      by_standing : AreRead rs last (map placed_value ps) d → (o : Contents) → Stands d o → IsSoundImage d (site_records rs (ps ∷ [])) seq
+      by_standing : AreRead rs last journal d → (o : Contents) → Stands d o → IsSoundImage d S0 seq
       by_standing rd o (inl blank) = absurd (let none : rs ≡ [] = instance_one (d 0) rs [] rd.instance (blank_instance (d 0) blank.1.instance) in let size : length rs ≡ 0 = ap length none in let some = form.some in omega (arith, size, some))
-      by_standing rd o (inr site) = (site_read rs ps last seq form sequence d o rd site).0
+      by_standing rd o (inr site) = (site_read rs last journal seq form sequence d o rd site).0
 
-  some_of : (o : Option Files) (P : Files → Type 0) → IsSomeAnd o P → IsSome o
-  some_of None P h = absurd h
-  some_of (Some f) P h = refl
+  reads_so : (P : Files → Type 0) (o : Option Files) (Q : Files → Type 0) → IsSomeAnd o Q → IfSome o (λ files. Image w files) → ((f : Files) → Image w f → P f) → IsSomeAnd o P
+  reads_so P None Q some as_read images = absurd some
+  reads_so P (Some files) Q some as_read images = images files as_read
 
   module _ (s : OpenSite) (records : s.instance.records ≡ rs ++ next_cut rs (length seq) ∷ []) (entries : map tagged s.entries.items ≡ enumerate_from 1 seq) (globals : s.globals ≡ state seq) (hardened : s.hardened ≡ length seq) where
-    pub remembers : Remembers (opened D) (length seq) s
-    remembers = record { instance = records; entries = entries; globals = globals; hardened = hardened }
+    pub remembers : (f : Files) (t : List ℕ) → Remembers (opened t (C0 f)) (length seq) s
+    remembers f t = record { instance = records; entries = entries; globals = globals; hardened = hardened }
 
-    keeps : (files : Files) → WasRead v rs last (map placed_value ps) files → IsSoundImage files (site_records rs (ps ∷ [])) seq → EachStands u → ((f : Files) → Image w f → From (Image v) (HasDrawn rs (length seq) last) f)
-        → instances.HasRecords w s.instance (rs ++ next_cut rs (length seq) ∷ []) → journals.HasRecords w s.journal (settled (next_pini rs last ∷ [])) → Keeps w (opened D) (length seq) s
-    keeps files r here each drawn instance journal =
-        let full = take-length seq in
-        let begun : (f : Files) → Image w f → IsSite f (opened D) =
-        λ f image. let q = drawn f image in site_begun rs ps last seq form sequence q.0 f (image_read v rs last (map placed_value ps) files r q.0 q.1) (sound_image files r each q.0 q.1) q.2.others q.2 in
-        let images : (f : Files) → Image w f → IsSite f (with_sequence (opened D) (take (length seq) seq)) = λ f image. subst (λ (es : Sequence). IsSite f (with_sequence (opened D) es)) (sym full) (begun f image) in
-        let past : generation rs < generation rs + 1 = omega arith in
-        let newest : generation (rs ++ next_cut rs (length seq) ∷ []) ≡ generation rs + 1 = drawing.generation-cut rs (length seq) (generation rs + 1) past in
-        record {
-          count = omega arith;
-          few_nodes = here.few_nodes;
-          reads = reads_so w (λ f. IsSite f (with_sequence (opened D) (take (length seq) seq))) lawful_w (some_of w.content (journals.HoldsRecords w s.journal (settled (next_pini rs last ∷ []))) journal) images;
-          images = images;
-          records = S3 rs ps last seq form sequence;
-          g = generation rs;
-          last = last;
-          older = map placed_value ps;
-          newer = next_pini rs last ∷ [];
-          newest = record { generation = omega (arith, newest); instance = refl; whole = refl; begins = (refl, refl, refl, tt); begun = λ e. cc e };
-          sound = λ f image. let q = drawn f image in subst (IsSoundImage f (S3 rs ps last seq form sequence)) (sym full)
-              (has_begun rs ps last seq form sequence q.0 f (image_read v rs last (map placed_value ps) files r q.0 q.1) (sound_image files r each q.0 q.1) q.2.others q.2.instance q.2.journal);
-          older_files = λ f image. let q = drawn f image in older_still rs ps last seq form sequence q.0 f (image_read v rs last (map placed_value ps) files r q.0 q.1) (sound_image files r each q.0 q.1) q.2.others;
-          none_past = none_begun rs ps last seq form sequence files files r.holds here (λ f ne away. refl);
-          no_epoch_past = no_epoch_begun rs ps last seq form sequence files files r.holds here (λ f ne away. refl);
-          waiting = [];
-          are_waiting = subst (λ (es : Sequence). AreEntries (rs ++ next_cut rs (length seq) ∷ []) (suc (generation rs)) (length seq) [] es) (sym (drop-length seq)) tt;
-          in_region = tt;
-          instance_file = instance;
-          journal_file = journal;
-        }
+    module _ (begun : List Journal) (js_are : s.journals.journals.items ≡ map newly begun) where
+      abbrev pub Begun : Type 0
+      Begun = (r : ℕ) (j : Journal) → slice_get begun r ≡ Some j → journals.HasRecords w j (settled (next_pini rs last r ∷ []))
 
-    pub is_open : IfSome v.content (λ _. (f : Files) → Image w f → From (Image v) (HasDrawn rs (length seq) last) f) → IfSome v.content (λ _. instances.HasRecords w s.instance (rs ++ next_cut rs (length seq) ∷ []))
-        → IfSome v.content (λ _. journals.HasRecords w s.journal (settled (next_pini rs last ∷ []))) → IfSome u.content (λ files. (c : Contents) → IsSite files c → EachStands u → IsOpen w true (opened c) (length c.sequence) s)
-    is_open drawn instance journal = subst (λ (z : Option Files). IfSome z (λ files. (c : Contents) → IsSite files c → EachStands u → IsOpen w true (opened c) (length c.sequence) s)) same
-        (all v.content (subst (λ (z : Option Files). IfSome z (WasRead v rs last (map placed_value ps))) (sym same) read) drawn instance journal)
-      where
-        all : (o : Option Files) → IfSome o (WasRead v rs last (map placed_value ps)) → IfSome o (λ _. (f : Files) → Image w f → From (Image v) (HasDrawn rs (length seq) last) f) → IfSome o (λ _. instances.HasRecords w s.instance (rs ++ next_cut rs (length seq) ∷ []))
-            → IfSome o (λ _. journals.HasRecords w s.journal (settled (next_pini rs last ∷ []))) → IfSome o (λ files. (c : Contents) → IsSite files c → EachStands u → IsOpen w true (opened c) (length c.sequence) s)
-        all None r d i j = tt
-        all (Some files) r d i j = λ c site each.
-            let is = site_read rs ps last seq form sequence files c r.holds site in
-            subst (λ (x : Contents). IsOpen w true (opened x) (length x.sequence) s) (sym is.1) (record { remembered = remembers; kept = λ _. keeps files r is.0 each d i j })
+      keeps_journals : Begun → KeepsJournals w (λ r. next_pini rs last r ∷ []) (λ r. []) s.journals.journals.items
+      keeps_journals has = record {
+        has = λ r x at.
+            let found = newly_at begun r x (subst (λ (l : List RegionJournal). slice_get l r ≡ Some x) js_are at) in
+            subst (λ (y : RegionJournal). journals.HasRecords w y.journal (settled (next_pini rs last r ∷ []))) (sym found.2) (has r found.0 found.1);
+        none_waits = λ r x at none. refl;
+      }
+
+      keeps : (files : Files) → WasRead v rs last journal files → AreTextsDurable v (generation rs) files → IsSoundImage files S0 seq → EachStands u → ((f : Files) → Image w f → Finished f)
+          → instances.HasRecords w s.instance (rs ++ next_cut rs (length seq) ∷ []) → Begun → Keeps w (opened broken (C0 files)) (length seq) s
+      keeps files r durable here each drawn instance has =
+          let full = take-length seq in
+          let is_begun : (f : Files) → Image w f → IsSite f (opened broken (C0 files)) =
+          λ f image.
+          let q = drawn f image in
+          let texts : texts_of q.0 (generation rs) ≡ texts_of files (generation rs) = sym (texts_kept files q.0 (generation rs) (λ h one low. durable h one low q.0 q.1)) in
+          subst (λ (ts : List (List ℕ)). IsSite f (opened broken (record { instance = rs; starts = (C0 files).starts; texts = ts; sequence = seq }))) texts
+          (site_begun rs last journal seq form sequence q.0 (image_read v rs last journal files r q.0 q.1) broken f (sound_image files r each q.0 q.1) broken_is q.2) in
+          let images : (f : Files) → Image w f → IsSite f (with_sequence (opened broken (C0 files)) (take (length seq) seq)) = λ f image. subst (λ (es : Sequence). IsSite f (with_sequence (opened broken (C0 files)) es)) (sym full) (is_begun f image) in
+          let number : length (regions (rs ++ next_cut rs (length seq) ∷ [])) ≡ length (regions rs) = ap length (same_regions rs last journal seq form sequence) in
+          record {
+            count = omega arith;
+            few_nodes = here.few_nodes;
+            reads = reads_so (λ f. IsSite f (with_sequence (opened broken (C0 files)) (take (length seq) seq))) w.content (instances.HoldsRecords w s.instance (rs ++ next_cut rs (length seq) ∷ [])) instance lawful_w.as_read images;
+            images = images;
+            records = drawn_records S0 (length seq) last (length (regions rs));
+            g = generation rs;
+            last = last;
+            older = journal;
+            newer = λ q. next_pini rs last q ∷ [];
+            newest = record {
+              generation = newest_is rs last journal seq form sequence;
+              not_last = (let room = form.room in omega (arith, room));
+              instance = refl;
+              whole = λ q below. newest_whole rs last journal seq form sequence q (omega (arith, below, number));
+              begins = λ q below. (refl, refl, refl, tt);
+              begun = λ q below e. cc e;
+            };
+            sound = λ f image. let q = drawn f image in subst (IsSoundImage f (drawn_records S0 (length seq) last (length (regions rs)))) (sym full)
+                (keeping.drawn_image q.0 S0 last form seq (sound_image files r each q.0 q.1) broken (image_read v rs last journal files r q.0 q.1) (length (regions rs)) f q.2);
+            older_files = λ f image q below. let from = drawn f image in
+                keeping.older_still from.0 S0 last form f from.2.others (image_read v rs last journal files r from.0 from.1) q (omega (arith, below, number));
+            none_past = keeping.none_past S0 (length seq) last (drawing.before files S0 (generation rs + 1) here.held (omega arith)) (length (regions rs));
+            no_epoch_past = λ q below. keeping.no_epoch_past S0 (length seq) last (drawing.before files S0 (generation rs + 1) here.held (omega arith)) (length (regions rs)) q;
+            waiting = [];
+            are_waiting = subst (λ (es : Sequence). AreEntries (rs ++ next_cut rs (length seq) ∷ []) (suc (generation rs)) (length seq) [] es) (sym (drop-length seq)) tt;
+            in_regions = tt;
+            at_home = λ q below. tt;
+            instance_file = instance;
+            journal_files = keeps_journals has;
+          }
+
+      pub is_open : IfSome u.content (AreTextsDurable v (generation rs)) → IfSome v.content (λ files. IsShort files → (f : Files) → Image w f → Finished f) → IfSome v.content (λ _. instances.HasRecords w s.instance (rs ++ next_cut rs (length seq) ∷ []))
+          → IfSome v.content (λ _. Begun) → IfSome u.content (λ files. (c : Contents) (left : Leftover) → IsSite files c → HasLeft files c left → EachStands u → IsOpen w true (opened left.broken c) (length c.sequence) s)
+      is_open durable drawn instance has = all u.content read durable (told_at u.content v.content (λ files. IsShort files → (f : Files) → Image w f → Finished f) same drawn)
+          (told_at u.content v.content (λ _. instances.HasRecords w s.instance (rs ++ next_cut rs (length seq) ∷ [])) same instance) (told_at u.content v.content (λ _. Begun) same has)
+        where
+          all : (o : Option Files) → IfSome o (WasRead v rs last journal) → IfSome o (AreTextsDurable v (generation rs)) → IfSome o (λ files. IsShort files → (f : Files) → Image w f → Finished f) → IfSome o (λ _. instances.HasRecords w s.instance (rs ++ next_cut rs (length seq) ∷ []))
+              → IfSome o (λ _. Begun) → IfSome o (λ files. (c : Contents) (left : Leftover) → IsSite files c → HasLeft files c left → EachStands u → IsOpen w true (opened left.broken c) (length c.sequence) s)
+          all None r t d i j = tt
+          all (Some files) r t d i j = λ c left site has_left each.
+              let is = site_read rs last journal seq form sequence files c r.holds site in
+              subst (λ (b : List ℕ). IsOpen w true (opened b c) (length c.sequence) s) (left_is files c left r.holds site has_left)
+              (subst (λ (x : Contents). IsOpen w true (opened broken x) (length x.sequence) s) (sym is.1) (record { remembered = remembers files broken; kept = λ _. keeps files r t is.0 each (d (short files is.0)) i j }))

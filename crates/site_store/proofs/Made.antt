@@ -1,5 +1,5 @@
 -- A site that is made on a blank disk.
-use Rattle.std.proofs.Common.{◌≡◌, ◌≢◌, ◌⊎◌, inl, inr, ℕ, suc, List, [], ◌∷◌, length, map, Option, Some, None, IfSome, IsSomeAnd, refl, sym, ◌∙◌, ap, subst}
+use Rattle.std.proofs.Common.{◌≡◌, ◌≢◌, ◌⊎◌, inl, inr, ℕ, List, [], ◌∷◌, map, Option, Some, None, IfSome, IsSomeAnd, refl, sym, ◌∙◌, ap, subst}
 use Rattle.std.specs.List.{AllZip}
 use Rattle.disk_defs.specs.Disk.{Files, View, Image, IsLawful, OnFile, AtEachMoment, ReadsAfter, IsDurable}
 use Rattle.disk_defs.specs.Frames.{Only, SameOutside, OthersStay}
@@ -14,7 +14,7 @@ use Rattle.journal_laws.proofs.NewDisks.{created_is_fit}
 use Rattle.instance_file.specs.Instance.{HoldsRecords, HasRecords, StandsWith, MayCreate}
 use Rattle.instance_file.specs.declared.instance.Instance.{Instance}
 use Rattle.world_defs.specs.Ties.{IsBlank, IsSite}
-use Rattle.site_store.specs.declared.site.RegionSpec.{RegionSpec}
+use Rattle.site_store.specs.declared.layout.RegionSpec.{RegionSpec}
 use Rattle.site_store.specs.Opening.{region_value, made, MayMake}
 use Rattle.site_store.proofs.Found.{no_bodies}
 
@@ -33,20 +33,16 @@ one_body [] r zip = absurd zip
 one_body (b ∷ []) r zip = record { body = b; is = refl; spelled = zip.0 }
 one_body (b ∷ d ∷ bodies) r zip = absurd zip.1
 
-length-map-of : {X Y : Type 0} (f : X → Y) (xs : List X) → length (map f xs) ≡ length xs
-length-map-of f [] = refl
-length-map-of f (x ∷ xs) = ap suc (length-map-of f xs)
-
-pub made_site : (files : Files) (name : List ℕ) (regions : List RegionSpec) → length regions ≡ 1 → IsInstance (files INSTANCE) (first name regions ∷ []) → ((f : ℕ) → f ≢ INSTANCE → files f ≡ []) → IsSite files (made name regions)
-made_site files name regions one is others =
+pub made_site : (files : Files) (name : List ℕ) (regions : List RegionSpec) → IsInstance (files INSTANCE) (first name regions ∷ []) → ((f : ℕ) → f ≢ INSTANCE → files f ≡ []) → IsSite files (made name regions)
+made_site files name regions is others =
     let b = one_body is.bodies.0 (first name regions) is.bodies.2 in
     record {
       made = refl;
-      one_region = length-map-of region_value regions ∙ one;
-      unmapped = refl;
+      mapped = tt;
       records = record { instance = first name regions ∷ []; journal = λ r. [] };
       instance = refl;
-      starts = refl;
+      starts = λ r. refl;
+      texts = refl;
       image = (created_is_fit files name (map region_value regions) b.body b.spelled (is.bodies.1 ∙ ap Some b.is) others).image;
     }
 
@@ -54,11 +50,11 @@ made_site files name regions one is others =
 blank_still : (was now : Files) → ((f : ℕ) → f ≢ INSTANCE → now f ≡ was f) → IsBlank was → records (now INSTANCE) ≡ Some [] → IsBlank now
 blank_still was now same blank none = record { instance = none; others = λ f ne. same f ne ∙ blank.others f ne }
 
-pub made_or_blank : (was now : Files) (name : List ℕ) (regions : List RegionSpec) → length regions ≡ 1 → ((f : ℕ) → f ≢ INSTANCE → now f ≡ was f) → IsBlank was
+pub made_or_blank : (was now : Files) (name : List ℕ) (regions : List RegionSpec) → ((f : ℕ) → f ≢ INSTANCE → now f ≡ was f) → IsBlank was
     → (records (now INSTANCE) ≡ records (was INSTANCE)) ⊎ StandsWith [] (first name regions) (now INSTANCE) → IsBlank now ⊎ IsSite now (made name regions)
-made_or_blank was now name regions one same blank (inl kept) = inl (blank_still was now same blank (kept ∙ blank.instance))
-made_or_blank was now name regions one same blank (inr (inl none)) = inl (blank_still was now same blank (no_bodies (now INSTANCE) none))
-made_or_blank was now name regions one same blank (inr (inr is)) = inr (made_site now name regions one is (λ f ne. same f ne ∙ blank.others f ne))
+made_or_blank was now name regions same blank (inl kept) = inl (blank_still was now same blank (kept ∙ blank.instance))
+made_or_blank was now name regions same blank (inr (inl none)) = inl (blank_still was now same blank (no_bodies (now INSTANCE) none))
+made_or_blank was now name regions same blank (inr (inr is)) = inr (made_site now name regions is (λ f ne. same f ne ∙ blank.others f ne))
 
 -- nothing was written yet
 pub still_blank : (u v : View) (name : List ℕ) (regions : List RegionSpec) → AtEachMoment u v (Image u) → AtEachMoment u v (MayMake u name regions)
@@ -72,7 +68,7 @@ still_stands o n name regions same = subst (λ (x : Option Files). IfSome o (λ 
     itself (Some a) = λ blank. inl blank
 
 -- the file is synced, and then it's made
-module _ (u v w : View) (name : List ℕ) (regions : List RegionSpec) (one : length regions ≡ 1) (lawful_v : IsLawful v) (lawful_w : IsLawful w) (synced : AtEachMoment u v (Image u)) (same : v.content ≡ u.content) where
+module _ (u v w : View) (name : List ℕ) (regions : List RegionSpec) (lawful_v : IsLawful v) (lawful_w : IsLawful w) (synced : AtEachMoment u v (Image u)) (same : v.content ≡ u.content) where
   abbrev rs : List InstanceRecord
   rs = first name regions ∷ []
 
@@ -83,7 +79,7 @@ module _ (u v w : View) (name : List ℕ) (regions : List RegionSpec) (one : len
   may_make run = subst (λ (x : Option Files). IfSome x (λ _. AtEachMoment u w (MayMake u name regions))) same
       (weaker_told v.content (λ _. AtEachMoment v w (MayCreate v (first name regions))) (λ _. AtEachMoment u w (MayMake u name regions)) run
       (λ files r. then_more u v w (MayMake u name regions) (MayCreate v (first name regions)) (still_blank u v name regions synced) r
-      (λ c may. (may.0, earlier may.0 may.1, λ blank. made_or_blank may.0 c name regions one may.2.others blank may.2.here))))
+      (λ c may. (may.0, earlier may.0 may.1, λ blank. made_or_blank may.0 c name regions may.2.others blank may.2.here))))
 
   pub reads_made : (i : Instance) → OthersStay (Only INSTANCE) v w → IfSome v.content (λ _. HasRecords w i rs) → IfSome u.content (λ files. IsBlank files → IfSome w.content (λ now. IsSite now (made name regions)))
   reads_made i stays has = subst (λ (x : Option Files). IfSome x (λ files. IsBlank files → IfSome w.content (λ now. IsSite now (made name regions)))) same (among v.content w.content stays.content has)
@@ -91,14 +87,14 @@ module _ (u v w : View) (name : List ℕ) (regions : List RegionSpec) (one : len
       among : (o n : Option Files) → ReadsAfter (SameOutside (Only INSTANCE)) o n → IfSome o (λ _. IsSomeAnd n (HoldsRecords w i rs)) → IfSome o (λ files. IsBlank files → IfSome n (λ now. IsSite now (made name regions)))
       among None n after has = tt
       among (Some a) None after has = absurd after
-      among (Some a) (Some b) after has = λ blank. made_site b name regions one has.reads (λ f ne. after f ne ∙ blank.others f ne)
+      among (Some a) (Some b) after has = λ blank. made_site b name regions has.reads (λ f ne. after f ne ∙ blank.others f ne)
 
   pub images_made : (i : Instance) → OthersStay (Only INSTANCE) v w → IfSome v.content (λ _. HasRecords w i rs)
       → IfSome u.content (λ files. IsBlank files → ((f : Files) → Image u f → IsBlank f) → (f : Files) → Image w f → IsSite f (made name regions))
   images_made i stays has = subst (λ (x : Option Files). IfSome x (λ files. IsBlank files → ((f : Files) → Image u f → IsBlank f) → (f : Files) → Image w f → IsSite f (made name regions))) same
       (weaker_told v.content (λ _. HasRecords w i rs) (λ files. IsBlank files → ((f : Files) → Image u f → IsBlank f) → (f : Files) → Image w f → IsSite f (made name regions)) has
       (λ files h blank images f image. let from = stays.images f image in with_told w.content (HoldsRecords w i rs) (IsSite f (made name regions)) h
-      (λ now k. made_site f name regions one (k.stands f image) (λ g ne. from.2 g ne ∙ (images from.0 (earlier from.0 from.1)).others g ne))))
+      (λ now k. made_site f name regions (k.stands f image) (λ g ne. from.2 g ne ∙ (images from.0 (earlier from.0 from.1)).others g ne))))
 
   pub stands_made : OthersStay (Only INSTANCE) v w → IfSome u.content (λ files. IsDurable v INSTANCE (files INSTANCE)) → IfSome v.content (λ _. AtEachMoment v w (MayCreate v (first name regions)))
       → IfSome u.content (λ files. IsBlank files → IfSome w.content (λ now. IsBlank now ⊎ IsSite now (made name regions)))
@@ -106,7 +102,7 @@ module _ (u v w : View) (name : List ℕ) (regions : List RegionSpec) (one : len
       (among v.content w.content stays.content (subst (λ (x : Option Files). IfSome x (λ files. IsDurable v INSTANCE (files INSTANCE))) (sym same) durable) run lawful_w.as_read)
     where
       by_image : (a b d : Files) → SameOutside (Only INSTANCE) a b → d INSTANCE ≡ a INSTANCE → OnFile INSTANCE (λ was now. (records now ≡ records was) ⊎ StandsWith [] (first name regions) now) d b → IsBlank a → IsBlank b ⊎ IsSite b (made name regions)
-      by_image a b d others durable on blank = made_or_blank a b name regions one others blank (elim on.here [
+      by_image a b d others durable on blank = made_or_blank a b name regions others blank (elim on.here [
         | inl kept ↦ inl (kept ∙ ap records durable)
         | inr stands ↦ inr stands
       ])

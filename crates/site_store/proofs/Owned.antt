@@ -1,21 +1,22 @@
 -- A site that owns its disk.
-use Rattle.std.proofs.Common.{◌≡◌, ◌≢◌, ◌⊎◌, inl, inr, ap, Err, ℕ, Bool, true, None, Some, length, take, refl, sym, ◌∙◌, subst, arith}
+use Rattle.std.proofs.Common.{◌≡◌, ◌⊎◌, inl, inr, ap, Err, ℕ, Bool, true, None, length, take, refl, sym, ◌∙◌, subst, arith}
 use Rattle.std.specs.Prelude.{IfSome, IsErrOf}
+use Rattle.std.proofs.Math.Seq.{take-length}
 use Rattle.disk_defs.specs.Disk.{Files, View, Image, IsLawful, AtEachMoment, Reads}
 use Rattle.disk_defs.proofs.Moments.{started}
-use Rattle.world_defs.specs.World.{Contents}
+use Rattle.world_defs.specs.World.{Contents, NO_LEFTOVER}
 use Rattle.world_defs.specs.Rows.{with_sequence, IsFrontOf}
-use Rattle.world_defs.specs.Ties.{IsSite}
+use Rattle.world_defs.specs.Ties.{IsSite, HasLeft}
 use Rattle.site_store.specs.declared.site.OpenSite.{OpenSite}
 use Rattle.site_store.specs.declared.owning.Site.{Site}
 use Rattle.site_store.specs.declared.error.SiteError.{SiteError}
 use Rattle.site_store.specs.declared.error.SiteError.TheVariants.{Failed, Stopped}
-use Rattle.site_store.specs.Site.{IsReady, IsOpen, HasAppended}
-use Rattle.site_store.specs.Owning.{IsGoing, MayBeCalled, IsOpenSite}
-use Rattle.site_store.proofs.Begun.{reads_of}
+use Rattle.site_store.specs.Site.{IsReady, IsOpen}
+use Rattle.site_store.specs.Owning.{MayBeCalled, IsOpenSite}
+use Rattle.site_store.proofs.Emptied.{none_left}
 use Rattle.site_store.proofs.Unwritten.{site_read, open_read}
 use Rattle.site_store.proofs.Remembered.{remembered_length}
-use Rattle.site_store.proofs.Standing.{images_stand}
+use Rattle.site_store.proofs.Standing.{images_stand, reads_of}
 
 -- no entry waits
 pub open_settled : (v : View) (told : Bool) (c : Contents) (h : ℕ) (s : OpenSite) → s.hardened ≡ length s.entries.items → IsOpen v told c h s → IsOpen v told c (length c.sequence) s
@@ -38,19 +39,28 @@ front_stands v c h s lawful is =
 pub settled_reads : (v : View) (c : Contents) (s : OpenSite) → IsLawful v → IsOpen v true c (length c.sequence) s → IfSome v.content (λ f. IsSite f c)
 settled_reads v c s lawful is = reads_of v (λ f. IsSite f c) lawful (λ f now. images_stand v c s is f now)
 
--- after a call that reads
+pub settled_left : (v : View) (c : Contents) (s : OpenSite) → IsOpen v true c (length c.sequence) s → (f : Files) → Image v f → HasLeft f c NO_LEFTOVER
+settled_left v c s is f now = subst (λ seq. HasLeft f (with_sequence c seq) NO_LEFTOVER) (take-length c.sequence) (none_left v c (length c.sequence) s f (is.kept refl) now)
+
 pub going_read : {D : Type 0} (view : D → View) (old new : Site D) → Reads (view old.disk) (view new.disk) → new.inner ≡ old.inner → new.fault ≡ old.fault → MayBeCalled view old → MayBeCalled view new
 going_read view old new reads same fault may none =
     let g = may (sym fault ∙ none) in
+    record { fault = none; files = subst (λ (s : OpenSite). IsReady (view new.disk) s) (sym same) (site_read (view old.disk) (view new.disk) old.inner reads g.files) }
+
+pub open_site_read : {D : Type 0} (view : D → View) (old new : Site D) (told : Bool) (c : Contents) (h : ℕ) → IsLawful (view new.disk) → Reads (view old.disk) (view new.disk) → new.inner ≡ old.inner → new.fault ≡ old.fault → IsOpenSite view told c h old → IsOpenSite view told c h new
+open_site_read view old new told c h lawful reads same fault is =
+    let was = is.inner in
     record {
-      fault = none;
-      files = subst (λ (s : OpenSite). IsReady (view new.disk) s) (sym same) (site_read (view old.disk) (view new.disk) old.inner reads g.files);
-      room = subst (λ (s : OpenSite). s.hardened ≢ length s.entries.items → HasAppended s) (sym same) g.room;
+      fault = fault ∙ is.fault;
+      inner = subst (λ (s : OpenSite). IsOpen (view new.disk) told c h s) (sym same) (open_read (view old.disk) (view new.disk) told c h old.inner reads was);
     }
 
-pub open_site_read : {D : Type 0} (view : D → View) (old new : Site D) (told : Bool) (c : Contents) (h : ℕ) → Reads (view old.disk) (view new.disk) → new.inner ≡ old.inner → new.fault ≡ old.fault → IsOpenSite view told c h old → IsOpenSite view told c h new
-open_site_read view old new told c h reads same fault is =
-    record { fault = fault ∙ is.fault; inner = subst (λ (s : OpenSite). IsOpen (view new.disk) told c h s) (sym same) (open_read (view old.disk) (view new.disk) told c h old.inner reads is.inner) }
+-- and where it has failed the site has stopped
+pub going_after : {D : Type 0} (view : D → View) (old new : Site D) → Reads (view old.disk) (view new.disk) → new.inner ≡ old.inner → old.fault ≡ None → MayBeCalled view old → MayBeCalled view new
+going_after view old new reads same none may now = going_read view old new reads same (now ∙ sym none) may now
+
+pub open_after : {D : Type 0} (view : D → View) (old new : Site D) (told : Bool) (c : Contents) (h : ℕ) → IsLawful (view new.disk) → Reads (view old.disk) (view new.disk) → new.inner ≡ old.inner → IsOpenSite view told c h old → new.fault ≡ None → IsOpenSite view told c h new
+open_after view old new told c h lawful reads same is now = open_site_read view old new told c h lawful reads same (now ∙ sym is.fault) is
 
 -- an error handed on beside another kind of value
 pub carried : {A B : Type 0} (e : SiteError) → ((fault : ℕ) × IsErrOf {T = A} (Err e) (Failed fault)) ⊎ ((fault : ℕ) × IsErrOf {T = A} (Err e) (Stopped fault)) → ((fault : ℕ) × IsErrOf {T = B} (Err e) (Failed fault)) ⊎ ((fault : ℕ) × IsErrOf {T = B} (Err e) (Stopped fault))

@@ -1,5 +1,5 @@
 -- How generations of a region's journal began, and what a CUT leaves of a region's mode.
-use Rattle.std.proofs.Common.{◌≡◌, ℕ, zero, suc, Bool, List, [], ◌∷◌, ◌++◌, map, Option, refl, sym, ◌∙◌, ap}
+use Rattle.std.proofs.Common.{◌≡◌, ℕ, zero, suc, Bool, List, [], ◌∷◌, ◌++◌, ◌≤◌, map, Option, refl, sym, ◌∙◌, ap, arith}
 use Rattle.std.specs.List.{AllByRecursion, filter_map}
 use Rattle.std.specs.Option.{option_or}
 use Rattle.std.proofs.lemmas.List.Elements.{filter_map-append}
@@ -25,23 +25,32 @@ no_starts g (Epoch m ∷ rs) all = no_starts g rs all.1
 no_starts g (Pblk b ∷ rs) all = no_starts g rs all.1
 no_starts g (Tcom p ∷ rs) all = no_starts g rs all.1
 
-last_newer : (g previous : ℕ) (rs : List JournalRecord) → BeginsWithPini 0 g previous rs → last_generation previous (starts_of (map (in_generation g) rs)) ≡ last_began previous g rs
-last_newer g previous [] begins = refl
-last_newer g previous (Pini s ∷ rs) begins = ap (λ (l : List Start). last_generation s.generation l) (no_starts g rs begins.3) ∙ begins.1
-last_newer g previous (Epoch m ∷ rs) begins = absurd begins
-last_newer g previous (Pblk b ∷ rs) begins = absurd begins
-last_newer g previous (Tcom p ∷ rs) begins = absurd begins
+last_newer : (r g previous : ℕ) (rs : List JournalRecord) → BeginsWithPini r g previous rs → last_generation previous (starts_of (map (in_generation g) rs)) ≡ last_began previous g rs
+last_newer r g previous [] begins = refl
+last_newer r g previous (Pini s ∷ rs) begins = ap (λ (l : List Start). last_generation s.generation l) (no_starts g rs begins.3) ∙ begins.1
+last_newer r g previous (Epoch m ∷ rs) begins = absurd begins
+last_newer r g previous (Pblk b ∷ rs) begins = absurd begins
+last_newer r g previous (Tcom p ∷ rs) begins = absurd begins
 
 -- the last generation that began is that of the last start
-pub last_is : (files : Files) (g last : ℕ) (journal : List Placed) → IsJournal files 0 g last journal → last_generation 0 (starts_of journal) ≡ last
-last_is files zero last journal h = ap (λ (ps : List Placed). last_generation 0 (starts_of ps)) h.1 ∙ sym h.0
-last_is files (suc g) last journal h =
+pub last_is : (files : Files) (r g last : ℕ) (journal : List Placed) → IsJournal files r g last journal → last_generation 0 (starts_of journal) ≡ last
+last_is files r zero last journal h = ap (λ (ps : List Placed). last_generation 0 (starts_of ps)) h.1 ∙ sym h.0
+last_is files r (suc g) last journal h =
     ap (λ (ps : List Placed). last_generation 0 (starts_of ps)) h.7
     ∙ ap (last_generation 0) (filter_map-append (λ (p : Placed). start_in p.what) h.1 (map (in_generation (suc g)) h.2))
     ∙ last_more 0 (starts_of h.1) (starts_of (map (in_generation (suc g)) h.2))
-    ∙ ap (λ (k : ℕ). last_generation k (starts_of (map (in_generation (suc g)) h.2))) (last_is files g h.0 h.1 h.3)
-    ∙ last_newer (suc g) h.0 h.2 h.5
+    ∙ ap (λ (k : ℕ). last_generation k (starts_of (map (in_generation (suc g)) h.2))) (last_is files r g h.0 h.1 h.3)
+    ∙ last_newer r (suc g) h.0 h.2 h.5
     ∙ sym h.6
+
+-- and no generation past the newest one has begun
+pub last_low : (files : Files) (r g last : ℕ) (journal : List Placed) → IsJournal files r g last journal → last ≤ g
+last_low files r zero last journal h = let none = h.0 in omega (arith, none)
+last_low files r (suc g) last journal h = by_newer h.0 (last_low files r g h.0 h.1 h.3) h.2 h.6
+  where
+    by_newer : (previous : ℕ) → previous ≤ g → (newer : List JournalRecord) → last ≡ last_began previous (suc g) newer → last ≤ suc g
+    by_newer previous low [] is = omega (arith, is, low)
+    by_newer previous low (x ∷ newer) is = omega (arith, is)
 
 -- a CUT gives no region a mode
 pub mode_cut : (rs : List InstanceRecord) (n g r : ℕ) → mode_of (rs ++ Cut n g ∷ []) r ≡ mode_of rs r

@@ -1,5 +1,5 @@
 -- An open site after a call that reads.
-use Rattle.std.proofs.Common.{ℕ, Bool, List, length, take, None, Some, refl, sym, subst}
+use Rattle.std.proofs.Common.{ℕ, Bool, List, [], take, None, Some, refl, sym, subst}
 use Rattle.std.specs.Prelude.{Option, IfSome, IsSomeAnd}
 use Rattle.disk_defs.specs.Disk.{Files, View, Image, Reads}
 use Rattle.gated_file.specs.State as gated
@@ -10,9 +10,13 @@ use Rattle.jnl_file.specs.Journal.{HoldsRecords, HasRecords}
 use Rattle.jnl_file.specs.declared.journal.Journal.{Journal}
 use Rattle.jnl_file.proofs.Making.{ready_read}
 use Rattle.journal_defs.specs.Numbers.{INSTANCE}
-use Rattle.journal_defs.specs.Instance.{InstanceRecord}
+use Rattle.journal_defs.specs.Instance.{InstanceRecord, generation}
+use Rattle.journal_defs.specs.Journal.{JournalRecord}
+use Rattle.journal_defs.specs.Growth.{tcoms}
 use Rattle.journal_defs.specs.Stands.{IsInstance, IsJournal}
 use Rattle.journal_defs.specs.Fit.{IsSoundImage}
+use Rattle.region_journals.specs.Journals.{AreReady, KeepsJournals}
+use Rattle.region_journals.specs.declared.journals.RegionJournal.{RegionJournal}
 use Rattle.instance_file.specs.declared.instance.Instance.{Instance}
 use Rattle.instance_file.specs.Instance as instances
 use Rattle.world_defs.specs.Rows.{with_sequence}
@@ -71,8 +75,20 @@ journal_read v w j r h = record {
       (some_read v.content (λ files. (s : Recorded) × HoldsRecords v j s files) (λ files. (s : Recorded) × HoldsRecords w j s files) (λ a k. (k.0, records_read v w j k.0 a r k.1)) h.state);
 }
 
+journals_read : (v w : View) (g : ℕ) (js : List RegionJournal) → Reads v w → AreReady v g js → AreReady w g js
+journals_read v w g js r h = record {
+  few = h.few;
+  each = λ k x there. let o = h.each k x there in record { ready = journal_read v w x.journal r o.ready; of = o.of; goes_on = o.goes_on };
+}
+
 pub site_read : (v w : View) (s : OpenSite) → Reads v w → IsReady v s → IsReady w s
-site_read v w s r h = record { instance = instance_read v w s.instance r h.instance; journal = journal_read v w s.journal r h.journal; of = h.of }
+site_read v w s r h = record { instance = instance_read v w s.instance r h.instance; layout = h.layout; journals = journals_read v w (generation s.instance.records) s.journals.journals.items r h.journals; each_region = h.each_region }
+
+journals_kept : (v w : View) (hard waiting : ℕ → List JournalRecord) (js : List RegionJournal) → Reads v w → KeepsJournals v hard waiting js → KeepsJournals w hard waiting js
+journals_kept v w hard waiting js r h = record {
+  has = λ k x there. has_read v w x.journal (record { hard = hard k; opening = []; closed = waiting k }) r (h.has k x there);
+  none_waits = h.none_waits;
+}
 
 -- what each image is stays so
 image_read : (v w : View) (P : Files → Type 0) → Reads v w → ((f : Files) → Image v f → P f) → (f : Files) → Image w f → P f
@@ -91,14 +107,15 @@ keeps_read v w c n s r h = record {
   newer = h.newer;
   newest = h.newest;
   sound = image_read v w (λ f. IsSoundImage f h.records (take n c.sequence)) r h.sound;
-  older_files = image_read v w (λ f. IsJournal f 0 h.g h.last h.older) r h.older_files;
+  older_files = λ f i k here. let x = r.passes.images f i in subst (λ (y : Files). IsJournal y k h.g (h.last k) (h.older k)) (sym x.2) (h.older_files x.0 x.1 k here);
   none_past = h.none_past;
   no_epoch_past = h.no_epoch_past;
   waiting = h.waiting;
   are_waiting = h.are_waiting;
-  in_region = h.in_region;
+  in_regions = h.in_regions;
+  at_home = h.at_home;
   instance_file = instance_has v w s.instance c.instance r h.instance_file;
-  journal_file = has_read v w s.journal _ r h.journal_file;
+  journal_files = journals_kept v w h.newer (tcoms h.waiting) s.journals.journals.items r h.journal_files;
 }
 
 pub open_read : (v w : View) (told : Bool) (c : Contents) (n : ℕ) (s : OpenSite) → Reads v w → IsOpen v told c n s → IsOpen w told c n s

@@ -1,20 +1,16 @@
--- Entries on their way into the journal.
-use Rattle.std.specs.Prelude.{◌≡◌, ◌+◌, ℕ, [], ◌∷◌, ◌++◌, length, fold, Option, Some}
+-- Entries on their way into the journals.
+use Rattle.std.specs.Prelude.{◌≡◌, ◌+◌, ◌<◌, ◌≤◌, ℕ, [], ◌∷◌, ◌++◌, length, fold, Option, Some, None}
 use Rattle.global_defs.specs.Entry.{Update, Transaction, apply}
 use Rattle.gvn_model.specs.declared.entry.Entry as code_entry
 use Rattle.gvn_model.specs.declared.entry.Transaction as code_transaction
-use Rattle.journal_defs.specs.Journal.{JournalRecord, Tcom, Part}
-use Rattle.journal_defs.specs.Split.{numbered, split}
-use Rattle.jnl_file.specs.Journal.{IsSameJournal}
+use Rattle.journal_defs.specs.Journal.{Part}
+use Rattle.journal_defs.specs.Instance.{generation, regions}
+use Rattle.journal_defs.specs.Split.{split, mask_of, IsSplit}
+use Rattle.journal_defs.specs.Fit.{region_of_update}
+use Rattle.tp_commit.specs.Parts.{PartRecords, recorded}
+use Rattle.region_journals.specs.Fronts.{IsNewestFile}
+use Rattle.region_journals.specs.Journals.{part_in}
 use Rattle.site_store.specs.declared.site.OpenSite.{OpenSite}
-
--- the record of a transaction as entry n: all its updates at their positions, in region 0
-abbrev pub recorded : ℕ → Transaction → JournalRecord
-recorded n t = Tcom (record { number = n; mask = 1; origin = t.origin; count = length t.updates; items = numbered 0 t.updates })
-
--- its parts, of which region 0 has one
-abbrev pub parts_of : ℕ → Transaction → ℕ → Option Part
-parts_of n t = split (λ (u : Update). 0) n 1 t
 
 -- the next entry of a site: this transaction under the reign that was begun
 pub record IsNextEntry (s : OpenSite) (t : code_transaction.Transaction) (e : code_entry.Entry) : Type 0 where
@@ -32,6 +28,30 @@ pub record Enters (old new : OpenSite) (t : code_transaction.Transaction) : Type
 -- what doesn't change when an entry comes
 pub record IsSameSite (old new : OpenSite) : Type 0 where
   pub instance : new.instance ≡ old.instance
+  pub layout : new.layout ≡ old.layout
   pub hardened : new.hardened ≡ old.hardened
   pub stamp : new.stamp ≡ old.stamp
-  pub journal : IsSameJournal old.journal new.journal
+
+-- and when none comes
+pub record IsSameMemory (old new : OpenSite) : Type 0 where
+  pub same : IsSameSite old new
+  pub entries : new.entries.items ≡ old.entries.items
+  pub globals : new.globals ≡ old.globals
+
+-- the file of one of a site's newest journals
+abbrev pub IsOwnJournal : OpenSite → ℕ → Type 0
+IsOwnJournal s = IsNewestFile (generation s.instance.records) (length (regions s.instance.records))
+
+-- the region of an update, by a site's directory
+abbrev pub region_by : OpenSite → Update → ℕ
+region_by s = region_of_update s.layout.directory.patterns
+
+-- the parts of a transaction as the next entry of a site
+abbrev pub parts_of : OpenSite → Transaction → ℕ → Option Part
+parts_of s t = split (region_by s) (length s.entries.items + 1) (mask_of (region_by s) t.updates) t
+
+-- These are the records of those parts, each in its region.
+pub record ArePartsOf (s : OpenSite) (t : Transaction) (parts : PartRecords) : Type 0 where
+  pub each : (r : ℕ) → r < 8 → part_in parts r ≡ recorded (parts_of s t r)
+  pub is_split : IsSplit (region_by s) (mask_of (region_by s) t.updates) t
+  pub no_other : (r : ℕ) → s.layout.directory.regions ≤ r → parts_of s t r ≡ None

@@ -2,10 +2,8 @@
 use Rattle.std.specs.Prelude.{ℕ}
 use Rattle.instance_file.specs.declared.error.InstanceError.{InstanceError}
 use Rattle.instance_file.specs.declared.error.InstanceError.TheVariants as instances
-use Rattle.jnl_file.specs.declared.error.JournalError.{JournalError}
-use Rattle.jnl_file.specs.declared.error.JournalError.TheVariants as journals
-use Rattle.jnl_file.specs.declared.error.GenerationsError.{GenerationsError}
-use Rattle.jnl_file.specs.declared.error.GenerationsError.TheVariants as generations
+use Rattle.site_files.specs.declared.error.FilesError.{FilesError}
+use Rattle.site_files.specs.declared.error.FilesError.TheVariants as files
 use Rattle.site_store.specs.declared.error.SiteError.{SiteError}
 use Rattle.site_store.specs.declared.error.SiteError.TheVariants as error
 
@@ -14,13 +12,8 @@ instance_error fault instances.Failed = error.Failed fault
 instance_error fault (instances.NotARecord offset) = error.NotAFile 0 offset
 instance_error fault instances.NoMemory = error.NoMemory
 
-abbrev pub generations_error : ℕ → GenerationsError → SiteError
-generations_error fault generations.Failed = error.Failed fault
-generations_error fault (generations.NotAFile file offset) = error.NotAFile file offset
-generations_error fault generations.NoMemory = error.NoMemory
-
--- where it is made, it's no file that is read
-abbrev pub journal_error : ℕ → JournalError → SiteError
-journal_error fault journals.Failed = error.Failed fault
-journal_error fault (journals.NotARecord offset) = error.NoMemory
-journal_error fault journals.NoMemory = error.NoMemory
+abbrev pub files_error : FilesError → SiteError
+files_error (files.Failed fault) = error.Failed fault
+files_error files.GenLimit = error.GenLimit
+files_error (files.NotAFile file offset) = error.NotAFile file offset
+files_error files.NoMemory = error.NoMemory

@@ -4,5 +4,4 @@ pub mod Errors
 pub mod Finding
 pub mod Reigning
 pub mod Committing
-pub mod Loading
 pub mod Owning

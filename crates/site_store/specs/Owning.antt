@@ -1,20 +1,19 @@
 -- An open site that owns its disk.
-use Rattle.std.specs.Prelude.{◌≡◌, ◌≢◌, ℕ, Bool, length, Option, Some, None, Result, Ok, Err}
+use Rattle.std.specs.Prelude.{◌≡◌, ℕ, Bool, Some, None, Result, Ok, Err}
 use Rattle.disk_defs.specs.Disk.{View}
 use Rattle.world_defs.specs.World.{Contents}
 use Rattle.site_store.specs.declared.error.SiteError.{SiteError}
 use Rattle.site_store.specs.declared.owning.Site.{Site}
-use Rattle.site_store.specs.Site.{IsReady, IsOpen, HasAppended}
+use Rattle.site_store.specs.Site.{IsReady, IsOpen}
 
 -- a call failed, the one of that number on the disk
 abbrev pub HasStopped : {D : Type 0} → ℕ → Site D → Type 0
 HasStopped fault s = s.fault ≡ Some fault
 
--- No call failed, its files are open for calls, and where entries wait there is room for the syncs of a hardening.
+-- No call failed, and its files are open for calls.
 pub record IsGoing {D : Type 0} (view : D → View) (s : Site D) : Type 0 where
   pub fault : s.fault ≡ None
   pub files : IsReady (view s.disk) s.inner
-  pub room : s.inner.hardened ≢ length s.inner.entries.items → HasAppended s.inner
 
 -- it has stopped, or it goes on
 abbrev pub MayBeCalled : {D : Type 0} → (D → View) → Site D → Type 0

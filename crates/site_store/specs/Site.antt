@@ -13,18 +13,21 @@ use Rattle.gvn_model.specs.Entries.{entry_value}
 use Rattle.gvn_model.specs.Reigns.{stamp_value}
 use Rattle.global_defs.specs.Evaluation.{MOST_NODES}
 use Rattle.journal_defs.specs.Journal.{JournalRecord, Part, BeginsWithPini}
-use Rattle.journal_defs.specs.Instance.{generation, site_name}
+use Rattle.journal_defs.specs.Instance.{generation, site_name, regions}
 use Rattle.journal_defs.specs.Surviving.{reigns}
 use Rattle.journal_defs.specs.Sequence.{Placed, Records}
 use Rattle.journal_defs.specs.Stands.{IsJournal, in_generation}
-use Rattle.journal_defs.specs.Growth.{NonePast, AreEntries, tcoms}
+use Rattle.journal_defs.specs.Growth.{NonePast, AreEntries, tcoms, appended}
+use Rattle.journal_defs.specs.Clean.{MOST_GENERATIONS}
 use Rattle.journal_defs.specs.Sound.{NoEpochPast}
-use Rattle.journal_defs.specs.Fit.{IsSoundImage, HasFewNodes}
+use Rattle.journal_defs.specs.Fit.{IsSoundImage, HasFewNodes, IsAtHome}
 use Rattle.instance_file.specs.Instance as instances
-use Rattle.jnl_file.specs.Journal as journals
+use Rattle.region_journals.specs.Journals.{AreReady, KeepsJournals}
+use Rattle.region_journals.specs.Fronts.{AreInside}
 use Rattle.world_defs.specs.World.{Contents}
 use Rattle.world_defs.specs.Rows.{with_sequence}
 use Rattle.world_defs.specs.Ties.{IsSite}
+use Rattle.site_store.specs.Finding.{HasLayout}
 use Rattle.site_store.specs.declared.site.OpenSite.{OpenSite}
 
 -- an entry of the code, with its number
@@ -39,22 +42,25 @@ pub record Remembers (c : Contents) (h : ℕ) (s : OpenSite) : Type 0 where
   pub globals : s.globals ≡ state c.sequence
   pub hardened : s.hardened ≡ h
 
--- its files are open for calls
+-- Its files are open for calls, and its layout is that of its instance file.
 pub record IsReady (v : View) (s : OpenSite) : Type 0 where
   pub instance : instances.IsReady v s.instance
-  pub journal : journals.IsReady v s.journal
-  pub of : journals.IsJournalOf s.journal 0 (generation s.instance.records)
+  pub layout : HasLayout s.instance.records s.layout
+  pub journals : AreReady v (generation s.instance.records) s.journals.journals.items
+  pub each_region : length s.journals.journals.items ≡ length (regions s.instance.records)
 
--- The records of a site whose newest generation g + 1 has begun: the journal of that generation alone may grow.
-pub record AreNewest (c : Contents) (s : Records) (g last : ℕ) (older : List Placed) (newer : List JournalRecord) : Type 0 where
+-- The records of a site whose newest generation g + 1 has begun in each region: the journals of that generation alone may grow.
+pub record AreNewest (c : Contents) (s : Records) (g : ℕ) (last : ℕ → ℕ) (older : ℕ → List Placed) (newer : ℕ → List JournalRecord) : Type 0 where
   pub generation : generation c.instance ≡ suc g
+  -- the next one can be drawn
+  pub not_last : suc g < MOST_GENERATIONS
   pub instance : s.instance ≡ c.instance
-  pub whole : s.journal 0 ≡ older ++ map (in_generation (suc g)) newer
-  pub begins : BeginsWithPini 0 (suc g) last newer
-  pub begun : newer ≢ []
+  pub whole : (r : ℕ) → r < length (regions c.instance) → s.journal r ≡ older r ++ map (in_generation (suc g)) (newer r)
+  pub begins : (r : ℕ) → r < length (regions c.instance) → BeginsWithPini r (suc g) (last r) (newer r)
+  pub begun : (r : ℕ) → r < length (regions c.instance) → newer r ≢ []
 
 -- On the disk, where its files are known: they stand for the first entries, the hardened ones, in each image, and the others stand
--- behind closed gates of the newest journal.
+-- behind closed gates of the newest journals.
 pub record Keeps (v : View) (c : Contents) (hardened : ℕ) (s : OpenSite) : Type 0 where
   pub count : hardened ≤ length c.sequence
   pub few_nodes : HasFewNodes c.sequence
@@ -62,20 +68,21 @@ pub record Keeps (v : View) (c : Contents) (hardened : ℕ) (s : OpenSite) : Typ
   pub images : (f : Files) → Image v f → IsSite f (with_sequence c (take hardened c.sequence))
   pub records : Records
   pub g : ℕ
-  pub last : ℕ
-  pub older : List Placed
-  pub newer : List JournalRecord
+  pub last : ℕ → ℕ
+  pub older : ℕ → List Placed
+  pub newer : ℕ → List JournalRecord
   pub newest : AreNewest c records g last older newer
   pub sound : (f : Files) → Image v f → IsSoundImage f records (take hardened c.sequence)
-  pub older_files : (f : Files) → Image v f → IsJournal f 0 g last older
+  pub older_files : (f : Files) → Image v f → (r : ℕ) → r < length (regions c.instance) → IsJournal f r g (last r) (older r)
   pub none_past : NonePast hardened records
-  pub no_epoch_past : NoEpochPast hardened c.instance (records.journal 0)
+  pub no_epoch_past : (r : ℕ) → r < length (regions c.instance) → NoEpochPast hardened c.instance (records.journal r)
   -- the parts of the entries that aren't hardened
   pub waiting : List (ℕ → Option Part)
   pub are_waiting : AreEntries c.instance (suc g) hardened waiting (drop hardened c.sequence)
-  pub in_region : AllByRecursion (λ (part : ℕ → Option Part). (r : ℕ) → 1 ≤ r → part r ≡ None) waiting
+  pub in_regions : AreInside (length (regions c.instance)) waiting
+  pub at_home : (r : ℕ) → r < length (regions c.instance) → AllByRecursion (λ p. IsAtHome c.instance r p.generation p.what) (appended (suc g) waiting r)
   pub instance_file : instances.HasRecords v s.instance c.instance
-  pub journal_file : journals.HasRecords v s.journal (record { hard = newer; opening = []; closed = tcoms waiting 0 })
+  pub journal_files : KeepsJournals v newer (tcoms waiting) s.journals.journals.items
 
 -- The site is open: it has these contents in memory, of which so many entries are hardened, and where its files are known, on the disk.
 pub record IsOpen (v : View) (told : Bool) (c : Contents) (hardened : ℕ) (s : OpenSite) : Type 0 where
@@ -102,10 +109,6 @@ pub record HasReign (s : OpenSite) : Type 0 where
 abbrev pub with_entry : Option Stamp → defs.Transaction → Contents → Contents
 with_entry None t c = c
 with_entry (Some stamp) t c = with_sequence c (c.sequence ++ record { stamp = stamp_value stamp; transaction = t } ∷ [])
-
--- there is room for the syncs of a hardening
-pub record HasAppended (s : OpenSite) : Type 0 where
-  pub syncs : 2 ≤ s.journal.gated.syncs_left
 
 -- after each of these updates there are no more nodes than there may be
 abbrev pub HasRoomFor : defs.Globals → List defs.Update → Type 0

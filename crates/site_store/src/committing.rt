@@ -1,5 +1,5 @@
 //! Giving a site entries.
-ghost use Rattle.std.specs.Prelude.{◌≡◌, ◌⊎◌, ◌≤◌, ◌<◌, ◌+◌, ◌^◌, ◌++◌, ◌∷◌, [], ℕ, Bool, true, length, take, Some, None, IfOk, IfSome, OnOk, OnErr, IsErrOf, IsSome};
+ghost use Rattle.std.specs.Prelude.{◌≡◌, ◌⊎◌, ◌≤◌, ◌<◌, ◌+◌, ◌^◌, ◌++◌, ◌∷◌, [], ℕ, List, Bool, true, length, take, Some, None, IfOk, IfSome, OnOk, OnErr, IsErrOf, IsSome};
 ghost use Rattle.disk_defs.specs.Disk.{Files, Image, AtEachMoment, Rose};
 ghost use Rattle.global_defs.specs.Fields.{IsTransaction};
 ghost use Rattle.gvn_model.specs.Entries.{transaction_value};
@@ -7,63 +7,66 @@ ghost use Rattle.gvn_model.specs.Reigns.{stamp_value};
 ghost use Rattle.world_defs.specs.World.{Contents};
 ghost use Rattle.world_defs.specs.Rows.{with_sequence, IsFrontOf};
 ghost use Rattle.world_defs.specs.Ties.{IsSite};
-ghost use Rattle.disk_defs.specs.Frames.{Only, OthersStay};
-ghost use Rattle.jnl_file.specs.Records.{Recorded};
-ghost use Rattle.jnl_file.specs.Journal as journals;
-ghost use Rattle.jnl_file.specs.Journal.{HasRecords, IsPrepared};
-ghost use Rattle.site_store.specs.Committing.{recorded, Enters, IsSameSite};
-ghost use Rattle.site_store.specs.Site.{IsReady, IsOpen, HasReign, HasAppended, HasRoomFor, with_entry};
+ghost use Rattle.disk_defs.specs.Frames.{OthersStay};
+ghost use Rattle.journal_defs.specs.Journal.{JournalRecord};
+ghost use Rattle.region_journals.specs.Journals.{ArePrepared, KeepsJournals};
+ghost use Rattle.site_store.specs.Committing.{Enters, IsSameSite, IsSameMemory, IsOwnJournal, ArePartsOf};
+ghost use Rattle.site_store.specs.Site.{IsReady, IsOpen, HasReign, HasRoomFor, with_entry};
 
 use crate::error::SiteError;
 use crate::fitting::check_room;
-use crate::recording::record_of;
 use crate::site::OpenSite;
 use gvn_key::NoMemory;
 use gvn_model::Transaction;
 use repl_disk::Disk;
 use std::alloc::Global;
+use tp_commit::{PartRecords, entry_records};
 
 /// The last number that an entry may have.
 const LAST_NUMBER: u64 = (1 << 40) - 1;
 
 impl OpenSite {
-    /// Takes all memory and room for a transaction as the next entry, and takes it into memory. Without memory some of its updates
-    /// may be made.
+    /// Takes all memory and room for a transaction as the next entry, and takes it into memory. Without memory nothing has changed but
+    /// what room there is.
     fn prepare<D: Disk>(
         &mut self,
         alloc: Global,
         disk: &mut D,
         t: &Transaction,
-    ) -> Result<u64, NoMemory>
-        requires ready { journals.IsReady (D.disk disk.old) self.old.journal }
+    ) -> Result<PartRecords, NoMemory>
+        requires ready { IsReady (D.disk disk.old) self.old }
         requires form { IsTransaction (transaction_value t.now) }
         requires room { length self.old.entries.items + 1 < 2 ^ 40 }
-        ensures ready { journals.IsReady (D.disk disk.new) self.new.journal }
+        ensures ready { IsReady (D.disk disk.new) self.new }
         ensures enters { OnOk result (Enters self.old self.new t.now) }
-        ensures number { IfOk result (λ n. n ≡ length self.old.entries.items + 1) }
-        ensures prepared { OnOk result (IsPrepared self.new.journal (recorded (length self.old.entries.items + 1) (transaction_value t.now))) }
-        ensures syncs { OnOk result (2 ≤ self.new.journal.gated.syncs_left) }
-        ensures state { (s : Recorded) → HasRecords (D.disk disk.old) self.old.journal s → HasRecords (D.disk disk.new) self.new.journal s }
+        ensures parts { IfOk result (ArePartsOf self.old (transaction_value t.now)) }
+        ensures prepared { IfOk result (λ made. ArePrepared made self.new.journals.journals.items) }
+        ensures state { (hard waiting : ℕ → List JournalRecord) → KeepsJournals (D.disk disk.old) hard waiting self.old.journals.journals.items → KeepsJournals (D.disk disk.new) hard waiting self.new.journals.journals.items }
         ensures same { IsSameSite self.old self.new }
+        ensures kept { OnErr result (IsSameMemory self.old self.new) }
         ensures any_moment { AtEachMoment (D.disk disk.old) (D.disk disk.new) (Image (D.disk disk.old)) }
-        ensures frame { OthersStay (Only self.old.journal.gated.file) (D.disk disk.old) (D.disk disk.new) }
+        ensures frame { OthersStay (IsOwnJournal self.old) (D.disk disk.old) (D.disk disk.new) }
         ensures faults { (D.disk disk.new).faults ≡ (D.disk disk.old).faults }
     {
         let entry = self.next_entry(t)?;
-        let number = entry.number;
-        let record = record_of(alloc, number, &entry.transaction)?;
-        self.journal.prepare(disk, &record)?;
-        self.remember(entry)?;
-        Ok(number)
+        let parts = entry_records(
+            alloc,
+            entry.number,
+            &entry.transaction,
+            &self.layout.directory,
+        )?;
+        self.journals.prepare(disk, &parts)?;
+        self.remember(alloc, entry, t)?;
+        Ok(parts)
     }
 
-    /// Makes a transaction the next entry, under the reign that was begun: takes all memory, and appends it to the journal. It
-    /// answers the entry's number. The entry is on the disk for good once it's hardened.
+    /// Makes a transaction the next entry, under the reign that was begun: takes all memory, and then appends to the journal of each
+    /// region that it has updates in exactly those. It answers the entry's number. The entry is on the disk for good once it's hardened.
     ///
     /// # Errors
     /// `Full` exactly where more than 100,000 nodes would stand after one of its updates, `SeqLimit` exactly where the last number
-    /// is used up, and `NoMemory`: nothing has changed after the first two. `Failed` only where the disk's count rose. After
-    /// `NoMemory` or `Failed` the site is of no more use.
+    /// is used up, and `NoMemory`: nothing has changed after these three, but that there may be more room. `Failed` only where the
+    /// disk's count rose; the site is of no more use then.
     pub fn commit<D: Disk>(
         &mut self,
         alloc: Global,
@@ -78,12 +81,14 @@ impl OpenSite {
         ensures number { IfOk result (λ n. n ≡ length self.old.entries.items + 1) }
         ensures stamp { self.new.stamp ≡ self.old.stamp }
         ensures reign { OnOk result (HasReign self.new) }
-        ensures waits { OnOk result (HasAppended self.new) }
         ensures room { OnOk result (length self.old.entries.items + 1 < 2 ^ 40) }
         ensures fits { OnOk result (HasRoomFor self.old.globals t.now.updates) }
         ensures full { (nodes : ℕ) → IsErrOf result (SiteError.Full nodes) → HasRoomFor self.old.globals t.now.updates → ⊥ }
         ensures last { IsErrOf result SiteError.SeqLimit → 2 ^ 40 ≤ length self.old.entries.items + 1 }
         ensures kept { ((nodes : ℕ) × IsErrOf result (SiteError.Full nodes)) ⊎ IsErrOf result SiteError.SeqLimit → (disk.new ≡ disk.old) × (self.new ≡ self.old) }
+        ensures unmade { IsErrOf result SiteError.NoMemory → IsSameMemory self.old self.new }
+        ensures goes_on { IsErrOf result SiteError.NoMemory → IsReady (D.disk disk.new) self.new }
+        ensures stays_open { IsErrOf result SiteError.NoMemory → (told : Bool) (c : Contents) (h : ℕ) → IsOpen (D.disk disk.old) told c h self.old → IsOpen (D.disk disk.new) told c h self.new }
         ensures any_moment { (c : Contents) (h : ℕ) → IsOpen (D.disk disk.old) true c h self.old → AtEachMoment (D.disk disk.old) (D.disk disk.new) (λ f. IsSite f (with_sequence c (take h c.sequence))) }
         ensures stands { (c : Contents) (h : ℕ) → IsOpen (D.disk disk.old) true c h self.old → IfSome (D.disk disk.new).content (λ f. IsSite f (with_sequence c (take h c.sequence))) }
         ensures still_told { IsSome (D.disk disk.old).content → IsSome (D.disk disk.new).content }
@@ -98,9 +103,9 @@ impl OpenSite {
             return Err(SiteError::SeqLimit);
         }
         check_room(alloc, &self.globals, &t.updates)?;
-        let number = self.prepare(alloc, disk, t)?;
-        match self.journal.append(disk) {
-            Ok(()) => Ok(number),
+        let parts = self.prepare(alloc, disk, t)?;
+        match self.journals.append(disk, &parts) {
+            Ok(()) => Ok(self.entries.len() as u64),
             Err(_) => Err(SiteError::Failed {
                 fault: disk.faults(),
             }),
@@ -113,7 +118,6 @@ impl OpenSite {
     /// `Failed` only where the disk's count rose. Of the entries that weren't hardened a crash may then find the first few.
     pub fn harden<D: Disk>(&mut self, disk: &mut D) -> Result<u64, SiteError>
         requires ready { IsReady (D.disk disk.old) self.old }
-        requires waits { HasAppended self.old }
         ensures ready { OnOk result (IsReady (D.disk disk.new) self.new) }
         ensures done { OnOk result ((told : Bool) (c : Contents) (h : ℕ) → IsOpen (D.disk disk.old) told c h self.old → IsOpen (D.disk disk.new) told c (length c.sequence) self.new) }
         ensures length { IfOk result (λ n. n ≡ length self.old.entries.items) }
@@ -131,7 +135,7 @@ impl OpenSite {
         ensures failed { OnErr result ((fault : ℕ) × IsErrOf result (SiteError.Failed fault)) }
         ensures no_memory { IsErrOf result SiteError.NoMemory → ⊥ }
     {
-        match self.journal.harden(disk) {
+        match self.journals.harden(disk) {
             Ok(()) => {
                 self.hardened = self.entries.len() as u64;
                 Ok(self.hardened)

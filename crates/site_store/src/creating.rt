@@ -7,40 +7,19 @@ ghost use Rattle.journal_defs.specs.Instance as instances;
 ghost use Rattle.journal_defs.specs.Instance.{IsInForm};
 ghost use Rattle.world_defs.specs.World.{Contents};
 ghost use Rattle.world_defs.specs.Ties.{IsBlank, IsSite, Stands};
-ghost use Rattle.instance_file.specs.Values.{named_mode, record_value};
-ghost use Rattle.site_store.specs.Finding.{IsLaidOut};
-ghost use Rattle.site_store.specs.Opening.{region_value, made, MayMake, StandsAsBefore, IsFound};
+ghost use Rattle.instance_file.specs.Values.{named_mode};
+ghost use Rattle.site_store.specs.Finding.{IsFound};
+ghost use Rattle.site_store.specs.Opening.{region_value, made, MayMake, StandsAsBefore};
 
 use crate::error::SiteError;
-use crate::finding::{created_name, generation_in, in_instance, read_instance, sync_instance};
-use crate::site::RegionSpec;
+use crate::finding::in_instance;
+use crate::layout::{Layout, RegionSpec, layout_of};
 use gvn_key::{Bytes, NoMemory};
 use gvn_model::NamedModes;
-use instance_file::{Instance, InstanceRecord};
+use instance_file::Instance;
 use repl_disk::Disk;
+use site_files::{read_instance, sync_instance};
 use std::alloc::Global;
-
-/// What the instance file of a site says of it.
-#[derive(Debug, Drop)]
-pub struct Layout {
-    /// The site's name.
-    pub name: Bytes,
-    /// The greatest generation of its journals, or 0 where none was drawn.
-    pub generation: u32,
-}
-
-/// The layout that these records give, if there is one.
-fn layout_of(alloc: Global, records: &[InstanceRecord]) -> Result<Option<Layout>, NoMemory>
-    ensures { IfOk result (λ found. IsLaidOut (map record_value records.now) found) }
-{
-    if records.is_empty() {
-        return Ok(None);
-    }
-    Ok(Some(Layout {
-        name: Bytes::of(alloc, created_name(records))?,
-        generation: generation_in(records),
-    }))
-}
 
 /// What site stands on a disk, if one does. It syncs the instance file first.
 ///
@@ -48,7 +27,7 @@ fn layout_of(alloc: Global, records: &[InstanceRecord]) -> Result<Option<Layout>
 /// `NotAFile` only where the disk's files are outside the formats; `Failed` only where the disk's count rose; and `NoMemory`.
 pub fn inspect<D: Disk>(alloc: Global, disk: &mut D) -> Result<Option<Layout>, SiteError>
     ensures found { IfOk result (λ found. IfSome (D.disk disk.old).content (λ files. (c : Contents) → Stands files c → IsFound c found)) }
-    ensures kept { IfSome (D.disk disk.old).content (λ files. IfSome (D.disk disk.new).content (λ now. (c : Contents) → Stands files c → Stands now c)) }
+    ensures content { (D.disk disk.new).content ≡ (D.disk disk.old).content }
     ensures alike { OnOk result (IfSome (D.disk disk.old).content (λ files. (c o : Contents) (f : Files) → Stands files c → Image (D.disk disk.new) f → Stands f o → o.instance ≡ c.instance)) }
     ensures empty { result ≡ Ok None → IfSome (D.disk disk.new).content (λ files. records (files INSTANCE) ≡ Some []) }
     ensures outside { (file : ℕ) (offset : ℕ) → IsErrOf result (SiteError.NotAFile file offset) → IfSome (D.disk disk.old).content (λ files. (c : Contents) → Stands files c → ⊥) }
@@ -61,7 +40,7 @@ pub fn inspect<D: Disk>(alloc: Global, disk: &mut D) -> Result<Option<Layout>, S
     ensures no_stop { (fault : ℕ) → IsErrOf result (SiteError.Stopped fault) → ⊥ }
 {
     let log = read_instance(alloc, disk)?;
-    Ok(layout_of(alloc, log.records.as_slice())?)
+    layout_of(alloc, log.records.as_slice())
 }
 
 /// Regions as the instance file takes them.
@@ -86,7 +65,6 @@ pub fn create<D: Disk>(
     regions: &[RegionSpec],
 ) -> Result<(), SiteError>
     requires form { IsInForm (instances.Create name.now (map region_value regions.now)) }
-    requires one_region { length regions.now ≡ 1 }
     requires empty { IfSome (D.disk disk.old).content (λ files. records (files INSTANCE) ≡ Some []) }
     ensures reads { OnOk result (IfSome (D.disk disk.old).content (λ files. IsBlank files → IfSome (D.disk disk.new).content (λ now. IsSite now (made name.now regions.now)))) }
     ensures images { OnOk result (IfSome (D.disk disk.old).content (λ files. IsBlank files → ((f : Files) → Image (D.disk disk.old) f → IsBlank f) → (f : Files) → Image (D.disk disk.new) f → IsSite f (made name.now regions.now))) }

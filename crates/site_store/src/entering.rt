@@ -2,21 +2,12 @@
 ghost use Rattle.std.specs.Prelude.{◌≡◌, ◌++◌, ◌∷◌, [], fold, IfOk, OnOk, OnErr};
 ghost use Rattle.global_defs.specs.Entry.{apply};
 ghost use Rattle.site_store.specs.Site.{HasReign};
-ghost use Rattle.site_store.specs.Committing.{IsNextEntry};
+ghost use Rattle.site_store.specs.Committing.{IsNextEntry, IsSameMemory, IsSameSite};
 
 use crate::site::OpenSite;
 use gvn_key::NoMemory;
-use gvn_model::{Entry, Globals, Transaction, Updates};
-
-/// Makes these changes in order. Without memory some of them may be made.
-fn apply_all(globals: &mut Globals, updates: &Updates) -> Result<(), NoMemory>
-    ensures { OnOk result (globals.new ≡ fold apply globals.old updates.now) }
-{
-    for update in updates.as_slice() {
-        globals.apply(update)?;
-    }
-    Ok(())
-}
+use gvn_model::{Entry, Transaction};
+use std::alloc::Global;
 
 impl OpenSite {
     /// This transaction as the next entry, under the reign that was begun.
@@ -33,17 +24,24 @@ impl OpenSite {
         })
     }
 
-    /// Adds an entry to those in memory, and makes its updates. Without memory some of them may be made.
-    pub(crate) fn remember(&mut self, entry: Entry) -> Result<(), NoMemory>
+    /// Adds an entry of this transaction to those in memory, and makes its updates. Without memory nothing has changed.
+    pub(crate) fn remember(
+        &mut self,
+        alloc: Global,
+        entry: Entry,
+        t: &Transaction,
+    ) -> Result<(), NoMemory>
         ensures entries { OnOk result (self.new.entries.items ≡ self.old.entries.items ++ entry ∷ []) }
-        ensures globals { OnOk result (self.new.globals ≡ fold apply self.old.globals entry.transaction.updates) }
-        ensures instance { self.new.instance ≡ self.old.instance }
-        ensures journal { self.new.journal ≡ self.old.journal }
-        ensures hardened { self.new.hardened ≡ self.old.hardened }
-        ensures stamp { self.new.stamp ≡ self.old.stamp }
+        ensures globals { OnOk result (self.new.globals ≡ fold apply self.old.globals t.now.updates) }
+        ensures kept { OnErr result (IsSameMemory self.old self.new) }
+        ensures same { IsSameSite self.old self.new }
+        ensures journals { self.new.journals ≡ self.old.journals }
     {
-        apply_all(&mut self.globals, &entry.transaction.updates)?;
         self.entries.push(entry)?;
+        if self.globals.apply_all(alloc, t.updates.as_slice()).is_err() {
+            self.entries.pop();
+            return Err(NoMemory);
+        }
         Ok(())
     }
 }

@@ -1,5 +1,6 @@
 //! What a site's calls answer when they can't do what they are for.
 use gvn_key::NoMemory;
+use site_files::FilesError;
 use thiserror::Error;
 
 /// Why a call of a site did not do what it is for.
@@ -39,5 +40,21 @@ impl From<NoMemory> for SiteError {
 
     fn from(_: NoMemory) -> Self {
         SiteError::NoMemory
+    }
+}
+
+impl From<FilesError> for SiteError {
+    ghost use Rattle.std.specs.Prelude.{◌≡◌};
+    ghost use Rattle.site_store.specs.Errors.{files_error};
+
+    ghost from_gives = { λ x e. e ≡ files_error x };
+
+    fn from(error: FilesError) -> Self {
+        match error {
+            FilesError::Failed { fault } => SiteError::Failed { fault },
+            FilesError::GenLimit => SiteError::GenLimit,
+            FilesError::NotAFile { file, offset } => SiteError::NotAFile { file, offset },
+            FilesError::NoMemory => SiteError::NoMemory,
+        }
     }
 }

@@ -1,24 +1,9 @@
-//! What the instance file on a disk says.
-ghost use Rattle.std.specs.Prelude.{◌≡◌, ◌⊎◌, ◌≤◌, ℕ, List, map, IfSome, IfOk, OnOk, OnErr, IsErrOf};
-ghost use Rattle.std.specs.List.{AllByRecursion};
-ghost use Rattle.disk_defs.specs.Disk.{Image, IsDurable, AtEachMoment, Rose};
-ghost use Rattle.disk_defs.specs.Frames.{Only, OthersStay};
-ghost use Rattle.instance_file.specs.Order.{AreInOrder};
-ghost use Rattle.instance_file.specs.Values.{record_value};
-ghost use Rattle.journal_defs.specs.Numbers.{INSTANCE};
-ghost use Rattle.journal_defs.specs.Instance as defs;
-ghost use Rattle.journal_defs.specs.Instance.{IsInForm};
-ghost use Rattle.journal_defs.specs.Stands.{IsInstance};
+//! Errors of the instance file.
+ghost use Rattle.std.specs.Prelude.{◌≡◌};
 ghost use Rattle.site_store.specs.Errors.{instance_error};
 
 use crate::error::SiteError;
-use gated_file::{GateError, sync_file};
-use instance_file::{InstanceError, InstanceLog, InstanceRecord};
-use repl_disk::Disk;
-use std::alloc::Global;
-
-/// The number of the instance file.
-const FILE: u32 = 0;
+use instance_file::InstanceError;
 
 /// An error of the instance file, on a disk with this count of faults.
 pub fn in_instance(error: InstanceError, fault: u64) -> SiteError
@@ -28,70 +13,5 @@ pub fn in_instance(error: InstanceError, fault: u64) -> SiteError
         InstanceError::Failed => SiteError::Failed { fault },
         InstanceError::NotARecord { offset } => SiteError::NotAFile { file: 0, offset },
         InstanceError::NoMemory => SiteError::NoMemory,
-    }
-}
-
-/// The name in a CREATE that these records begin with, or no byte where they begin with another one.
-pub fn created_name(records: &[InstanceRecord]) -> &[u8]
-    ensures { result.now ≡ defs.site_name (map record_value records.now) }
-{
-    match records {
-        [InstanceRecord::Create { name, .. }, ..] => name.as_slice(),
-        _ => &[],
-    }
-}
-
-/// The greatest generation of a CUT, or 0.
-pub fn generation_in(records: &[InstanceRecord]) -> u32
-    ensures { result ≡ defs.generation (map record_value records.now) }
-{
-    let mut greatest = 0;
-    for record in records {
-        if let InstanceRecord::Cut { generation, .. } = record {
-            greatest = (*generation).max(greatest);
-        }
-    }
-    greatest
-}
-
-/// Syncs the instance file.
-pub fn sync_instance<D: Disk>(disk: &mut D) -> Result<(), SiteError>
-    ensures durable { OnOk result (IfSome (D.disk disk.old).content (λ files. IsDurable (D.disk disk.new) INSTANCE (files INSTANCE))) }
-    ensures content { (D.disk disk.new).content ≡ (D.disk disk.old).content }
-    ensures any_moment { AtEachMoment (D.disk disk.old) (D.disk disk.new) (Image (D.disk disk.old)) }
-    ensures frame { OthersStay (Only INSTANCE) (D.disk disk.old) (D.disk disk.new) }
-    ensures later { (D.disk disk.old).faults ≤ (D.disk disk.new).faults }
-    ensures count { (fault : ℕ) → IsErrOf result (SiteError.Failed fault) → fault ≡ (D.disk disk.new).faults }
-    ensures cause { (fault : ℕ) → IsErrOf result (SiteError.Failed fault) → Rose (D.disk disk.old).faults (D.disk disk.new).faults }
-    ensures outside { (file offset : ℕ) → IsErrOf result (SiteError.NotAFile file offset) → ⊥ }
-    ensures no_stop { (fault : ℕ) → IsErrOf result (SiteError.Stopped fault) → ⊥ }
-{
-    match sync_file(disk, FILE) {
-        Ok(()) => Ok(()),
-        Err(GateError::Failed) => Err(SiteError::Failed {
-            fault: disk.faults(),
-        }),
-        Err(GateError::NotARecord { .. } | GateError::NoMemory) => Err(SiteError::NoMemory),
-    }
-}
-
-/// Syncs and reads the instance file. It writes nothing.
-pub fn read_instance<D: Disk>(alloc: Global, disk: &mut D) -> Result<InstanceLog, SiteError>
-    ensures reads { IfOk result (λ log. IfSome (D.disk disk.old).content (λ files. IsInstance (files INSTANCE) log.records)) }
-    ensures order { IfOk result (λ log. AreInOrder log.records) }
-    ensures form { IfOk result (λ log. AllByRecursion IsInForm log.records) }
-    ensures durable { OnOk result (IfSome (D.disk disk.old).content (λ files. IsDurable (D.disk disk.new) INSTANCE (files INSTANCE))) }
-    ensures outside { (file offset : ℕ) → IsErrOf result (SiteError.NotAFile file offset) → IfSome (D.disk disk.old).content (λ files. (rs : List defs.InstanceRecord) → IsInstance (files INSTANCE) rs → ⊥) }
-    ensures content { (D.disk disk.new).content ≡ (D.disk disk.old).content }
-    ensures any_moment { AtEachMoment (D.disk disk.old) (D.disk disk.new) (Image (D.disk disk.old)) }
-    ensures frame { OthersStay (Only INSTANCE) (D.disk disk.old) (D.disk disk.new) }
-    ensures later { (D.disk disk.old).faults ≤ (D.disk disk.new).faults }
-    ensures count { (fault : ℕ) → IsErrOf result (SiteError.Failed fault) → fault ≡ (D.disk disk.new).faults }
-    ensures cause { (fault : ℕ) → IsErrOf result (SiteError.Failed fault) → Rose (D.disk disk.old).faults (D.disk disk.new).faults }
-    ensures causes { OnErr result (((fault : ℕ) × IsErrOf result (SiteError.Failed fault)) ⊎ ((file : ℕ) × (offset : ℕ) × IsErrOf result (SiteError.NotAFile file offset)) ⊎ IsErrOf result SiteError.NoMemory) }
-{
-    match InstanceLog::read(alloc, disk) {
-        Ok(log) => Ok(log),
-        Err(error) => Err(in_instance(error, disk.faults())),
     }
 }

@@ -1,32 +1,36 @@
-//! A site on its disk: made, opened again and again, and given entries.
+//! A site on its disk: made, mapped, opened again and again, and given entries.
 //!
-//! A site has an instance file, and a journal for each generation of its one region. Opening reads what the files stand for, cuts
-//! there, and begins the next generation, so that whatever a crash left past the sequence never counts again. An open site has
-//! all its entries and globals in memory. Entries are committed, which appends them to the journal, and hardened together.
-//! Whatever a crash leaves at any moment, the files stand for the hardened entries and perhaps the first few of those that
-//! were being hardened.
+//! A site has an instance file, and in each of its one to eight regions a journal for each generation. Opening reads what the files
+//! stand for, writes down what is broken behind that, cuts there, and begins the next generation in each region, so that whatever a
+//! crash left past the sequence never counts again. An open site has all its entries and globals in memory. Entries are committed,
+//! which appends the parts of each to the journals of its regions, and hardened together. Whatever a crash leaves at any moment, the
+//! files stand for the hardened entries and perhaps the first few of those that were being hardened, each of them whole.
 #![tactic(auto)]
 
 mod committing;
 mod creating;
-mod drawing;
 mod entering;
 mod error;
 mod finding;
 mod fitting;
+mod laws;
+mod layout;
+mod mapping;
 mod opening;
 mod owning;
-mod reading;
-mod recording;
 mod reigning;
-mod remembering;
 mod site;
 #[cfg(test)]
 mod tests;
+mod typing;
 
-pub use creating::{Layout, create, inspect};
+pub use creating::{create, inspect};
 pub use error::SiteError;
-pub use finding::created_name;
+pub use laws::nothing_is_left;
+pub use layout::{Layout, RegionSpec};
+pub use mapping::map;
 pub use opening::load;
 pub use owning::Site;
-pub use site::{OpenSite, RegionSpec};
+pub use site::OpenSite;
+pub use site_files::created_name;
+pub use typing::read_file;

@@ -1,41 +1,123 @@
 //! Opening a site.
-ghost use Rattle.std.specs.Prelude.{◌≡◌, ◌≤◌, ◌<◌, ℕ, true, length, Some, None, IfOk, IfSome, OnOk, IsErrOf, IsSome};
-ghost use Rattle.disk_defs.specs.Disk.{Files, Image, AtEachMoment, Rose};
+ghost use Rattle.std.specs.Prelude.{◌≡◌, ◌⊎◌, ◌≤◌, ◌<◌, ◌++◌, ◌∷◌, [], ℕ, List, true, false, length, map, Some, None, IfOk, IfSome, OnOk, OnErr, IsErrOf, IsSome};
+ghost use Rattle.disk_defs.specs.Disk.{Files, Image, IsDurable, AtEachMoment, Rose};
 ghost use Rattle.journal_defs.specs.Instance.{generation};
-ghost use Rattle.world_defs.specs.World.{Contents};
-ghost use Rattle.world_defs.specs.Rows.{opened};
-ghost use Rattle.world_defs.specs.Ties.{IsSite};
+ghost use Rattle.journal_defs.specs.Numbers.{broken_file};
+ghost use Rattle.instance_file.specs.Values.{record_value};
+ghost use Rattle.world_defs.specs.World.{Contents, Leftover};
+ghost use Rattle.world_defs.specs.Rows.{opened, MayOpen};
+ghost use Rattle.world_defs.specs.Ties.{IsSite, HasLeft};
+ghost use Rattle.site_files.specs.Loading.{next_cut};
+ghost use Rattle.site_store.specs.Finding.{HasLayout, mapping_of};
 ghost use Rattle.site_store.specs.Site.{Remembers, IsReady, IsOpen, WasOpened};
-ghost use Rattle.site_store.specs.Opening.{OpensTo, MayOpen, EachStands};
+ghost use Rattle.site_store.specs.Opening.{MayBeOpen, EachStands, AreTextsDurable};
 
-use crate::drawing::draw;
 use crate::error::SiteError;
-use crate::reading::{ReadSite, read_site};
-use crate::remembering::remembered;
+use crate::layout::{Layout, region_specs};
 use crate::site::OpenSite;
+use gated_file::{GateError, sync_file};
+use global_dir::Directory;
+use gvn_key::{Bytes, NoMemory};
+use instance_file::InstanceRecord;
+use jnl_file::Journal;
+use region_journals::{RegionJournal, RegionJournals};
 use repl_disk::Disk;
+use site_files::{
+    ReadSite, Remembered, created_name, draw, generation_in, read_site, remember_all,
+};
 use std::alloc::Global;
 
-/// Opens the site that stands on a disk: syncs and reads its files, cuts at the length of its sequence, and begins the next
-/// generation.
+/// The layout of a site with these records and this directory, once the next generation is drawn.
+fn next_layout(
+    alloc: Global,
+    records: &[InstanceRecord],
+    directory: Directory,
+) -> Result<Layout, NoMemory>
+    requires directory { directory ≡ mapping_of (map record_value records.now) }
+    requires room { generation (map record_value records.now) < 65534 }
+    ensures { IfOk result (λ made. (n : ℕ) → HasLayout (map record_value records.now ++ next_cut (map record_value records.now) n ∷ []) made) }
+{
+    Ok(Layout {
+        name: Bytes::of(alloc, created_name(records))?,
+        regions: region_specs(alloc, records)?,
+        directory,
+        generation: generation_in(records) + 1,
+    })
+}
+
+/// Journals that have just begun, to which nothing was appended.
+fn newest_journals(alloc: Global, begun: Vec<Journal>) -> Result<RegionJournals, NoMemory>
+    ensures { IfOk result (λ made. made.journals.items ≡ map (λ j. record { journal = j; appended = false }) begun.items) }
+{
+    let journals = begun
+        .into_iter()
+        .map(|journal| RegionJournal {
+            journal,
+            appended: false,
+        })
+        .collect(alloc)?;
+    Ok(RegionJournals { journals })
+}
+
+/// Syncs the broken-transaction file of a generation.
+fn sync_text<D: Disk>(disk: &mut D, generation: u32) -> Result<(), SiteError>
+    requires { generation ≤ 65535 }
+    ensures durable { OnOk result (IfSome (D.disk disk.old).content (λ files. IsDurable (D.disk disk.new) (broken_file generation) (files (broken_file generation)))) }
+    ensures content { (D.disk disk.new).content ≡ (D.disk disk.old).content }
+    ensures any_moment { AtEachMoment (D.disk disk.old) (D.disk disk.new) (Image (D.disk disk.old)) }
+    ensures simulated { (D.disk disk.new).simulated ≡ (D.disk disk.old).simulated }
+    ensures later { (D.disk disk.old).faults ≤ (D.disk disk.new).faults }
+    ensures count { (fault : ℕ) → IsErrOf result (SiteError.Failed fault) → fault ≡ (D.disk disk.new).faults }
+    ensures cause { (fault : ℕ) → IsErrOf result (SiteError.Failed fault) → Rose (D.disk disk.old).faults (D.disk disk.new).faults }
+    ensures causes { OnErr result (((fault : ℕ) × IsErrOf result (SiteError.Failed fault)) ⊎ IsErrOf result SiteError.NoMemory) }
+{
+    match sync_file(disk, 2_000_000 + generation) {
+        Ok(()) => Ok(()),
+        Err(GateError::Failed) => Err(SiteError::Failed {
+            fault: disk.faults(),
+        }),
+        Err(GateError::NotARecord { .. } | GateError::NoMemory) => Err(SiteError::NoMemory),
+    }
+}
+
+/// Syncs the broken-transaction files of the first generations.
+fn sync_texts<D: Disk>(disk: &mut D, generations: u32) -> Result<(), SiteError>
+    requires { generations < 65535 }
+    ensures durable { OnOk result (IfSome (D.disk disk.old).content (AreTextsDurable (D.disk disk.new) generations)) }
+    ensures content { (D.disk disk.new).content ≡ (D.disk disk.old).content }
+    ensures any_moment { AtEachMoment (D.disk disk.old) (D.disk disk.new) (Image (D.disk disk.old)) }
+    ensures simulated { (D.disk disk.new).simulated ≡ (D.disk disk.old).simulated }
+    ensures later { (D.disk disk.old).faults ≤ (D.disk disk.new).faults }
+    ensures count { (fault : ℕ) → IsErrOf result (SiteError.Failed fault) → fault ≡ (D.disk disk.new).faults }
+    ensures cause { (fault : ℕ) → IsErrOf result (SiteError.Failed fault) → Rose (D.disk disk.old).faults (D.disk disk.new).faults }
+    ensures causes { OnErr result (((fault : ℕ) × IsErrOf result (SiteError.Failed fault)) ⊎ IsErrOf result SiteError.NoMemory) }
+{
+    for earlier in 0..generations {
+        sync_text(disk, earlier + 1)?;
+    }
+    Ok(())
+}
+
+/// Opens the site that stands on a disk: syncs and reads its files, writes down what is broken behind its sequence, cuts at the
+/// length of that, and begins the next generation in each region.
 ///
 /// # Errors
 /// `GenLimit` exactly where 65,534 generations were drawn, and then nothing was written. `NotAFile` only where the disk's files
 /// are outside the formats, or with file 0 and offset 0 where no site stands there. `Failed` only where the disk's count rose.
-/// `NoMemory`, also for a site of more than one region.
+/// `NoMemory`.
 pub fn load<D: Disk>(alloc: Global, disk: &mut D) -> Result<OpenSite, SiteError>
     ensures ready { IfOk result (λ s. IsReady (D.disk disk.new) s) }
-    ensures read { IfOk result (λ s. (c : Contents) × Remembers (opened c) (length c.sequence) s) }
-    ensures told { IfOk result (λ s. IfSome (D.disk disk.old).content (λ files. (c : Contents) → IsSite files c → EachStands (D.disk disk.old) → IsOpen (D.disk disk.new) true (opened c) (length c.sequence) s)) }
+    ensures read { IfOk result (λ s. (c : Contents) × (broken : List ℕ) × Remembers (opened broken c) (length c.sequence) s) }
+    ensures told { IfOk result (λ s. IfSome (D.disk disk.old).content (λ files. (c : Contents) (left : Leftover) → IsSite files c → HasLeft files c left → EachStands (D.disk disk.old) → IsOpen (D.disk disk.new) true (opened left.broken c) (length c.sequence) s)) }
     ensures opened { IfOk result WasOpened }
     ensures drawn { OnOk result (IfSome (D.disk disk.old).content (λ files. (c : Contents) → IsSite files c → generation c.instance < 65534)) }
     ensures limit { IsErrOf result SiteError.GenLimit → IfSome (D.disk disk.old).content (λ files. (c : Contents) → IsSite files c → 65534 ≤ generation c.instance) }
     ensures unwritten { IsErrOf result SiteError.GenLimit → (D.disk disk.new).content ≡ (D.disk disk.old).content }
     ensures untouched { IsErrOf result SiteError.GenLimit → AtEachMoment (D.disk disk.old) (D.disk disk.new) (Image (D.disk disk.old)) }
     ensures outside { (file offset : ℕ) → IsErrOf result (SiteError.NotAFile file offset) → IfSome (D.disk disk.old).content (λ files. (c : Contents) → IsSite files c → ⊥) }
-    ensures any_moment { IfSome (D.disk disk.old).content (λ files. (c : Contents) → IsSite files c → AtEachMoment (D.disk disk.old) (D.disk disk.new) (MayOpen (D.disk disk.old))) }
+    ensures any_moment { IfSome (D.disk disk.old).content (λ files. (c : Contents) (left : Leftover) → IsSite files c → HasLeft files c left → AtEachMoment (D.disk disk.old) (D.disk disk.new) (MayBeOpen (D.disk disk.old) left.broken)) }
     ensures still_told { IsSome (D.disk disk.old).content → IsSome (D.disk disk.new).content }
-    ensures stands { IfSome (D.disk disk.old).content (λ files. (c : Contents) → IsSite files c → IfSome (D.disk disk.new).content (λ now. (o : Contents) × OpensTo c o × IsSite now o)) }
+    ensures stands { IfSome (D.disk disk.old).content (λ files. (c : Contents) (left : Leftover) → IsSite files c → HasLeft files c left → IfSome (D.disk disk.new).content (λ now. (o : Contents) × MayOpen left.broken c o × IsSite now o)) }
     ensures simulated { (D.disk disk.new).simulated ≡ (D.disk disk.old).simulated }
     ensures later { (D.disk disk.old).faults ≤ (D.disk disk.new).faults }
     ensures count { (fault : ℕ) → IsErrOf result (SiteError.Failed fault) → fault ≡ (D.disk disk.new).faults }
@@ -46,17 +128,29 @@ pub fn load<D: Disk>(alloc: Global, disk: &mut D) -> Result<OpenSite, SiteError>
     ensures no_stop { (fault : ℕ) → IsErrOf result (SiteError.Stopped fault) → ⊥ }
 {
     let read = read_site(alloc, disk)?;
+    let newest = generation_in(read.log.records.as_slice());
+    sync_texts(disk, newest)?;
     let ReadSite {
         log,
-        records,
+        directory,
+        journals,
         last_began,
     } = read;
-    let (entries, globals) = remembered(alloc, &log, records)?;
+    let remembered = remember_all(alloc, &log, journals)?;
+    let Remembered {
+        entries,
+        globals,
+        broken,
+    } = remembered;
+    let records = log.records.as_slice();
+    let layout = next_layout(alloc, records, directory)?;
     let length = entries.len() as u64;
-    let drawn = draw(alloc, disk, log, length, last_began)?;
+    let text = broken.as_slice();
+    let drawn = draw(alloc, disk, log, length, text, &last_began)?;
     Ok(OpenSite {
         instance: drawn.instance,
-        journal: drawn.journal,
+        layout,
+        journals: newest_journals(alloc, drawn.journals)?,
         entries,
         globals,
         hardened: length,

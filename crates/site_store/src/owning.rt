@@ -1,5 +1,5 @@
 //! An open site that owns its disk.
-ghost use Rattle.std.specs.Prelude.{◌≡◌, ◌⊎◌, ◌≤◌, ◌<◌, ◌+◌, ◌^◌, ℕ, Bool, true, [], length, map, take, Some, None, IfOk, IfSome, OnOk, OnErr, IsErrOf, IsSome, IsTrue};
+ghost use Rattle.std.specs.Prelude.{◌≡◌, ◌⊎◌, ◌≤◌, ◌<◌, ◌+◌, ◌^◌, ◌++◌, ℕ, List, Bool, true, [], length, map, take, Some, None, IfOk, IfSome, OnOk, OnErr, IsErrOf, IsSome, IsTrue};
 ghost use Rattle.std.specs.Result.{IsOk};
 ghost use Rattle.disk_defs.specs.Disk.{Files, Image, AtEachMoment, Reads, Rose};
 ghost use Rattle.disk_defs.specs.Gates.{records};
@@ -11,18 +11,21 @@ ghost use Rattle.journal_defs.specs.Instance as instances;
 ghost use Rattle.journal_defs.specs.Instance.{IsInForm, generation, site_name};
 ghost use Rattle.journal_defs.specs.Surviving.{reigns};
 ghost use Rattle.world_defs.specs.Answers.{ReignLimit};
-ghost use Rattle.world_defs.specs.World.{Contents};
+ghost use Rattle.world_defs.specs.World.{Contents, Leftover, NO_LEFTOVER};
 ghost use Rattle.world_defs.specs.Refusals.{reign_limit};
-ghost use Rattle.world_defs.specs.Rows.{opened, with_reign, next_stamp, with_sequence, IsFrontOf};
-ghost use Rattle.world_defs.specs.Ties.{IsBlank, IsSite};
+ghost use Rattle.world_defs.specs.Rows.{opened, MayOpen, with_reign, next_stamp, with_sequence, IsFrontOf};
+ghost use Rattle.world_defs.specs.Ties.{IsBlank, IsSite, HasLeft};
 ghost use Rattle.site_store.specs.Site.{Remembers, WasOpened, HasReign, HasRoomFor, with_entry};
-ghost use Rattle.site_store.specs.Opening.{region_value, made, MayMake, OpensTo, MayOpen, EachStands};
+ghost use Rattle.site_store.specs.Opening.{region_value, made, MayMake, MayBeOpen, EachStands};
+ghost use Rattle.site_store.specs.Committing.{IsSameMemory};
 ghost use Rattle.site_store.specs.Owning.{HasStopped, IsGoing, MayBeCalled, IsOpenSite, disk_left, FailsWith};
 
 use crate::creating::create;
 use crate::error::SiteError;
+use crate::layout::{Layout, RegionSpec};
 use crate::opening::load;
-use crate::site::{OpenSite, RegionSpec};
+use crate::site::OpenSite;
+use crate::typing::read_file;
 use gvn_key::Bytes;
 use gvn_model::{Reigns, Stamp, Transaction};
 use repl_disk::Disk;
@@ -31,7 +34,8 @@ use std::alloc::Global;
 /// A site that is open, and its disk.
 ///
 /// After a call that answered `Failed` the site has stopped: each later call that uses the disk answers `Stopped` with the same
-/// number, and changes nothing. After `NoMemory` it is of no more use either, and only [`abandon`](Site::abandon) is left.
+/// number, and changes nothing. After `NoMemory` of [`commit`](Site::commit) or [`read_file`](Site::read_file) the site goes on, and
+/// after that of another call it is of no more use, and only [`abandon`](Site::abandon) is left.
 #[derive(Drop)]
 pub struct Site<D: Disk> {
     pub disk: D,
@@ -52,7 +56,6 @@ impl<D: Disk> Site<D> {
         regions: &[RegionSpec],
     ) -> Result<(), SiteError>
         requires form { IsInForm (instances.Create name.now (map region_value regions.now)) }
-        requires one_region { length regions.now ≡ 1 }
         requires empty { IfSome (D.disk disk.old).content (λ files. records (files INSTANCE) ≡ Some []) }
         ensures reads { OnOk result (IfSome (D.disk disk.old).content (λ files. IsBlank files → IfSome (D.disk disk.new).content (λ now. IsSite now (made name.now regions.now)))) }
         ensures images { OnOk result (IfSome (D.disk disk.old).content (λ files. IsBlank files → ((f : Files) → Image (D.disk disk.old) f → IsBlank f) → (f : Files) → Image (D.disk disk.new) f → IsSite f (made name.now regions.now))) }
@@ -75,20 +78,20 @@ impl<D: Disk> Site<D> {
     /// # Errors
     /// `GenLimit` exactly where 65,534 generations were drawn, and then nothing was written. `NotAFile` only where the disk's
     /// files are outside the formats, or with file 0 and offset 0 where no site stands there. `Failed` only where the disk's count
-    /// rose. `NoMemory`, also for a site of more than one region.
+    /// rose. `NoMemory`.
     pub fn load(alloc: Global, mut disk: D) -> Result<Site<D>, (D, SiteError)>
         ensures ready { IfOk result (IsGoing D.disk) }
-        ensures read { IfOk result (λ s. (c : Contents) × Remembers (opened c) (length c.sequence) s.inner) }
-        ensures told { IfOk result (λ s. IfSome (D.disk disk).content (λ files. (c : Contents) → IsSite files c → EachStands (D.disk disk) → IsOpenSite D.disk true (opened c) (length c.sequence) s)) }
+        ensures read { IfOk result (λ s. (c : Contents) × (broken : List ℕ) × Remembers (opened broken c) (length c.sequence) s.inner) }
+        ensures told { IfOk result (λ s. IfSome (D.disk disk).content (λ files. (c : Contents) (left : Leftover) → IsSite files c → HasLeft files c left → EachStands (D.disk disk) → IsOpenSite D.disk true (opened left.broken c) (length c.sequence) s)) }
         ensures opened { IfOk result (λ s. WasOpened s.inner) }
         ensures drawn { OnOk result (IfSome (D.disk disk).content (λ files. (c : Contents) → IsSite files c → generation c.instance < 65534)) }
         ensures limit { FailsWith result SiteError.GenLimit → IfSome (D.disk disk).content (λ files. (c : Contents) → IsSite files c → 65534 ≤ generation c.instance) }
         ensures unwritten { FailsWith result SiteError.GenLimit → (D.disk (disk_left result)).content ≡ (D.disk disk).content }
         ensures untouched { FailsWith result SiteError.GenLimit → AtEachMoment (D.disk disk) (D.disk (disk_left result)) (Image (D.disk disk)) }
         ensures outside { (file offset : ℕ) → FailsWith result (SiteError.NotAFile file offset) → IfSome (D.disk disk).content (λ files. (c : Contents) → IsSite files c → ⊥) }
-        ensures any_moment { IfSome (D.disk disk).content (λ files. (c : Contents) → IsSite files c → AtEachMoment (D.disk disk) (D.disk (disk_left result)) (MayOpen (D.disk disk))) }
+        ensures any_moment { IfSome (D.disk disk).content (λ files. (c : Contents) (left : Leftover) → IsSite files c → HasLeft files c left → AtEachMoment (D.disk disk) (D.disk (disk_left result)) (MayBeOpen (D.disk disk) left.broken)) }
         ensures still_told { IsSome (D.disk disk).content → IsSome (D.disk (disk_left result)).content }
-        ensures stands { IfSome (D.disk disk).content (λ files. (c : Contents) → IsSite files c → IfSome (D.disk (disk_left result)).content (λ now. (o : Contents) × OpensTo c o × IsSite now o)) }
+        ensures stands { IfSome (D.disk disk).content (λ files. (c : Contents) (left : Leftover) → IsSite files c → HasLeft files c left → IfSome (D.disk (disk_left result)).content (λ now. (o : Contents) × MayOpen left.broken c o × IsSite now o)) }
         ensures simulated { (D.disk (disk_left result)).simulated ≡ (D.disk disk).simulated }
         ensures later { (D.disk disk).faults ≤ (D.disk (disk_left result)).faults }
         ensures count { (fault : ℕ) → FailsWith result (SiteError.Failed fault) → fault ≡ (D.disk (disk_left result)).faults }
@@ -164,13 +167,13 @@ impl<D: Disk> Site<D> {
         }
     }
 
-    /// Makes a transaction the next entry, under the reign that was begun: takes all memory, and appends it to the journal. It
-    /// answers the entry's number. The entry is on the disk for good once it's hardened.
+    /// Makes a transaction the next entry, under the reign that was begun: takes all memory, and then appends to the
+    /// journal of each region that it has updates in exactly those. It answers the entry's number. The entry is on the disk for good once it's hardened.
     ///
     /// # Errors
     /// `Full` exactly where more than 100,000 nodes would stand after one of its updates, `SeqLimit` exactly where the last number
-    /// is used up: nothing has changed after these two. `Failed` only where the disk's count rose. `Stopped` exactly where a call
-    /// before failed. `NoMemory`.
+    /// is used up, and `NoMemory`: nothing has changed after these three, but that there may be more room. `Failed` only where the
+    /// disk's count rose. `Stopped` exactly where a call before failed.
     pub fn commit(&mut self, alloc: Global, t: &Transaction) -> Result<u64, SiteError>
         requires ready { MayBeCalled D.disk self.old }
         requires form { IsTransaction (transaction_value t.now) }
@@ -185,6 +188,9 @@ impl<D: Disk> Site<D> {
         ensures full { (nodes : ℕ) → IsErrOf result (SiteError.Full nodes) → HasRoomFor self.old.inner.globals t.now.updates → ⊥ }
         ensures last { IsErrOf result SiteError.SeqLimit → 2 ^ 40 ≤ length self.old.inner.entries.items + 1 }
         ensures kept { ((nodes : ℕ) × IsErrOf result (SiteError.Full nodes)) ⊎ IsErrOf result SiteError.SeqLimit → self.new ≡ self.old }
+        ensures unmade { IsErrOf result SiteError.NoMemory → IsSameMemory self.old.inner self.new.inner }
+        ensures goes_on { IsErrOf result SiteError.NoMemory → IsGoing D.disk self.new }
+        ensures stays_open { IsErrOf result SiteError.NoMemory → (told : Bool) (c : Contents) (h : ℕ) → IsOpenSite D.disk told c h self.old → IsOpenSite D.disk told c h self.new }
         ensures any_moment { (c : Contents) (h : ℕ) → IsOpenSite D.disk true c h self.old → AtEachMoment (D.disk self.old.disk) (D.disk self.new.disk) (λ f. IsSite f (with_sequence c (take h c.sequence))) }
         ensures stands { (c : Contents) (h : ℕ) → IsOpenSite D.disk true c h self.old → IfSome (D.disk self.new.disk).content (λ f. IsSite f (with_sequence c (take h c.sequence))) }
         ensures still_told { IsSome (D.disk self.old.disk).content → IsSome (D.disk self.new.disk).content }
@@ -261,6 +267,7 @@ impl<D: Disk> Site<D> {
         requires ready { MayBeCalled D.disk self }
         ensures reads { OnOk result.1 ((c : Contents) (h : ℕ) → IsOpenSite D.disk true c h self → IfSome (D.disk result.0).content (λ f. IsSite f c)) }
         ensures images { OnOk result.1 ((c : Contents) (h : ℕ) → IsOpenSite D.disk true c h self → (f : Files) → Image (D.disk result.0) f → IsSite f c) }
+        ensures nothing_left { OnOk result.1 ((c : Contents) (h : ℕ) → IsOpenSite D.disk true c h self → (f : Files) → Image (D.disk result.0) f → HasLeft f c NO_LEFTOVER) }
         ensures idle { self.fault ≡ None → self.inner.hardened ≡ length self.inner.entries.items → IsOk result.1 × (result.0 ≡ self.disk) }
         ensures any_moment { (c : Contents) (h : ℕ) → IsOpenSite D.disk true c h self → AtEachMoment (D.disk self.disk) (D.disk result.0) (λ f. (o : Contents) × IsFrontOf c.sequence h c o × IsSite f o) }
         ensures stands { (c : Contents) (h : ℕ) → IsOpenSite D.disk true c h self → IfSome (D.disk result.0).content (λ f. (o : Contents) × IsFrontOf c.sequence h c o × IsSite f o) }
@@ -306,6 +313,45 @@ impl<D: Disk> Site<D> {
         ensures { result.now ≡ reigns self.now.inner.instance.records }
     {
         self.inner.history()
+    }
+
+    /// What the instance file says of the site.
+    pub fn layout(&self) -> &Layout
+        ensures { result.now ≡ self.now.inner.layout }
+    {
+        self.inner.layout()
+    }
+
+    /// Adds the bytes of a file, as it reads, to `out`. It writes nothing.
+    ///
+    /// # Errors
+    /// `Failed` only where the disk's count rose. `Stopped` exactly where a call before failed. `NoMemory`. `out` may have some of the
+    /// bytes more after `Failed` and `NoMemory`.
+    pub fn read_file(&mut self, file: u32, out: &mut Bytes) -> Result<(), SiteError>
+        ensures ready { MayBeCalled D.disk self.old → MayBeCalled D.disk self.new }
+        ensures stays_open { (told : Bool) (c : Contents) (h : ℕ) → IsOpenSite D.disk told c h self.old → self.new.fault ≡ None → IsOpenSite D.disk told c h self.new }
+        ensures text { OnOk result (IfSome (D.disk self.old.disk).content (λ files. out.new ≡ out.old ++ files file)) }
+        ensures inner { self.new.inner ≡ self.old.inner }
+        ensures reads { Reads (D.disk self.old.disk) (D.disk self.new.disk) }
+        ensures later { (D.disk self.old.disk).faults ≤ (D.disk self.new.disk).faults }
+        ensures count { (fault : ℕ) → IsErrOf result (SiteError.Failed fault) → fault ≡ (D.disk self.new.disk).faults }
+        ensures cause { (fault : ℕ) → IsErrOf result (SiteError.Failed fault) → Rose (D.disk self.old.disk).faults (D.disk self.new.disk).faults }
+        ensures causes { OnErr result (((fault : ℕ) × IsErrOf result (SiteError.Failed fault)) ⊎ ((fault : ℕ) × IsErrOf result (SiteError.Stopped fault)) ⊎ IsErrOf result SiteError.NoMemory) }
+        ensures stops { (fault : ℕ) → IsErrOf result (SiteError.Failed fault) → HasStopped fault self.new }
+        ensures stopped { (fault : ℕ) → HasStopped fault self.old → IsErrOf result (SiteError.Stopped fault) }
+        ensures stays { (fault : ℕ) → HasStopped fault self.old → self.new ≡ self.old }
+        ensures only_stopped { (fault : ℕ) → IsErrOf result (SiteError.Stopped fault) → HasStopped fault self.old }
+    {
+        if let Some(fault) = self.fault {
+            return Err(SiteError::Stopped { fault });
+        }
+        match read_file(&mut self.disk, file, out) {
+            Ok(()) => Ok(()),
+            Err(error) => {
+                self.note(error);
+                Err(error)
+            }
+        }
     }
 
     /// Whether the disk can be made to fail and to crash.

@@ -12,12 +12,12 @@ ghost use Rattle.site_store.specs.Site.{Remembers, IsReady, IsOpen, WasOpened, H
 ghost use Rattle.site_store.specs.Reigning.{IsNextReign, HasReignLeft, HasNoReignLeft};
 
 use crate::error::SiteError;
-use crate::finding::created_name;
 use crate::site::OpenSite;
 use gvn_key::Bytes;
 use gvn_model::{Reign, Stamp};
 use instance_file::InstanceError;
 use repl_disk::Disk;
+use site_files::created_name;
 use std::alloc::Global;
 
 /// How many reigns may begin by the length.

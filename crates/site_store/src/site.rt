@@ -2,17 +2,10 @@
 ghost use Rattle.std.specs.Prelude.{◌≡◌, length};
 ghost use Rattle.journal_defs.specs.Surviving.{reigns};
 
-use gvn_key::Bytes;
+use crate::layout::Layout;
 use gvn_model::{Entry, Globals, Reigns, Stamp};
 use instance_file::Instance;
-use jnl_file::Journal;
-
-/// A region's name, and whether its blocks are kept as they were before they change.
-#[derive(Debug, Drop)]
-pub struct RegionSpec {
-    pub name: Bytes,
-    pub before: bool,
-}
+use region_journals::RegionJournals;
 
 /// A site that is open, beside its disk: what its files stand for, in memory, and its files, open for calls.
 ///
@@ -21,8 +14,10 @@ pub struct RegionSpec {
 #[derive(Drop)]
 pub struct OpenSite {
     pub instance: Instance,
-    /// The journal of region 0 and the newest generation.
-    pub journal: Journal,
+    /// What the instance file says of the site.
+    pub layout: Layout,
+    /// The journals of the newest generation, by region.
+    pub journals: RegionJournals,
     /// All entries, by their numbers from 1 on.
     pub entries: Vec<Entry>,
     /// No nodes, and then the updates of all entries in order.
@@ -53,5 +48,12 @@ impl OpenSite {
         ensures { result.now ≡ reigns self.now.instance.records }
     {
         self.instance.history()
+    }
+
+    /// What the instance file says of the site.
+    pub fn layout(&self) -> &Layout
+        ensures { result.now ≡ self.now.layout }
+    {
+        &self.layout
     }
 }

@@ -7,7 +7,7 @@ ghost use Rattle.journal_defs.specs.Numbers.{INSTANCE};
 ghost use Rattle.site_store.specs.Site.{HasReign};
 ghost use Rattle.site_store.specs.Owning.{IsGoing};
 
-use super::{RegionSpec, Site, SiteError, create, inspect, load};
+use super::{RegionSpec, Site, SiteError, create, inspect, load, read_file};
 use gvn_key::terms::Update;
 use gvn_key::{Bytes, Key};
 use gvn_model::{Origin, Transaction, Updates};
@@ -30,6 +30,27 @@ fn make<D: Disk>(alloc: Global, disk: &mut D) -> Result<(), SiteError>
         name: Bytes::of(alloc, b"R")?,
         before: true,
     }];
+    create(alloc, disk, &name, &regions)
+}
+
+/// PINI of region 1, NOBEFORE, as the first record of generation 1 and its closed gate.
+const FIRST_OF_SECOND: &[u8; 18] = b"\x01\0\0\0\x0c\x01\x01\x01\0\0\0\0\x01\0\0\0\0\0";
+
+/// A new site B with two regions R and S, and the blocks of the second aren't kept.
+fn make_two<D: Disk>(alloc: Global, disk: &mut D) -> Result<(), SiteError>
+    requires { IfSome (D.disk disk.old).content (λ files. records (files INSTANCE) ≡ Some []) }
+{
+    let name = Bytes::of(alloc, b"B")?;
+    let regions = [
+        RegionSpec {
+            name: Bytes::of(alloc, b"R")?,
+            before: true,
+        },
+        RegionSpec {
+            name: Bytes::of(alloc, b"S")?,
+            before: false,
+        },
+    ];
     create(alloc, disk, &name, &regions)
 }
 
@@ -74,6 +95,21 @@ fn a_generation_for_each_opening(rt: HostRuntime) -> Result<(), Fail> {
     };
     assert_eq!(rt; found.name.as_slice(), b"A".as_slice());
     assert_eq!(rt; found.generation, 2);
+    Ok(())
+}
+
+/// The bytes of the second region's first journal, behind what was there.
+#[test]
+fn bytes_of_a_file(rt: HostRuntime) -> Result<(), Fail> {
+    let alloc = rt.alloc();
+    let mut disk = MemDisk::new(alloc)?;
+    make_two(alloc, &mut disk)?;
+    load(alloc, &mut disk)?;
+    let mut bytes = Bytes::new(alloc);
+    read_file(&mut disk, 25, &mut bytes)?;
+    assert_eq!(rt; bytes.as_slice(), FIRST_OF_SECOND.as_slice());
+    read_file(&mut disk, 33, &mut bytes)?;
+    assert_eq!(rt; bytes.len(), 18);
     Ok(())
 }
 

@@ -16,6 +16,14 @@ pub data Cause : Type 0 where
   NotRunning : Cause
   NotPrimary : Cause
   NotSimulated : Cause
+  -- the site's journals have begun
+  Started : Cause
+  -- the site has no region of that name
+  NoRegion : (region : Name) → Cause
+  -- the site has that pattern already
+  TwiceMapped : Cause
+  -- the file has no byte
+  NoFile : Cause
   -- there is no generation left for the site's journals
   GenLimit : Cause
   -- there is no reign left, or no cycle
@@ -43,3 +51,5 @@ pub data Answer : Type 0 where
   -- a file is outside the formats, at that place
   NotAFile : (file offset : ℕ) → Answer
   Ran : Section → Answer
+  -- a file has these bytes
+  Typed : (text : List ℕ) → Answer

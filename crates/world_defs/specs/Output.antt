@@ -11,10 +11,10 @@ use Rattle.global_defs.specs.Extract.{extract}
 use Rattle.global_defs.specs.Jobs.{Job, Answers, Check, NotNum, Full, SeqLimit}
 use Rattle.global_defs.specs.Jobs as jobs
 use Rattle.global_defs.specs.Serial.{Reply, Seq, Read, RolledBack, Replied, Turn, begun}
-use Rattle.command_defs.specs.Commands.{Name, Command, Create, Attach, StartPrimary, Run, Stop, Fuse, Crash, Extract, Zwrite, Show}
+use Rattle.command_defs.specs.Commands.{Name, Command, Create, Attach, Map, StartPrimary, Run, Stop, Fuse, Crash, Extract, Zwrite, Show, Print}
 use Rattle.world_defs.specs.World.{State, Down, Primary, Failed, Site, Contents, Place, World, next_of, at_place, site_of}
 use Rattle.journal_defs.specs.Surviving.{reigns}
-use Rattle.world_defs.specs.Answers.{Cause, NoSite, Stopped, Exists, NoDisk, NotEmpty, Empty, Running, NotRunning, NotPrimary, NotSimulated, GenLimit, ReignLimit, Section, Answer, Done, Refused, DiskFault, NotAFile, Ran}
+use Rattle.world_defs.specs.Answers.{Cause, NoSite, Stopped, Exists, NoDisk, NotEmpty, Empty, Running, NotRunning, NotPrimary, NotSimulated, Started, NoRegion, TwiceMapped, NoFile, GenLimit, ReignLimit, Section, Answer, Done, Refused, DiskFault, NotAFile, Ran, Typed}
 use Rattle.world_defs.specs.Refusals.{ATTACHING}
 use Rattle.world_defs.specs.Rows.{turn_of}
 
@@ -33,6 +33,10 @@ cause_text Running = codes "RUNNING"
 cause_text NotRunning = codes "NOTRUNNING"
 cause_text NotPrimary = codes "NOTPRIMARY"
 cause_text NotSimulated = codes "NOTSIMULATED"
+cause_text Started = codes "STARTED"
+cause_text (NoRegion region) = codes "NOREGION " ++ region
+cause_text TwiceMapped = codes "TWICEMAPPED"
+cause_text NoFile = codes "NOFILE"
 cause_text GenLimit = codes "GENLIMIT"
 cause_text ReignLimit = codes "REIGNLIMIT"
 
@@ -165,6 +169,7 @@ show_at (Some p) = show_on p.site p.now
 abbrev pub done_text : World → Command → World → List ℕ
 done_text w (Create name regions) m = line name (codes "CREATED")
 done_text w Attach m = line (name_at (at_place m (next_of w))) (codes "ATTACHED")
+done_text w (Map name region text) m = line name (codes "MAPPED")
 done_text w (StartPrimary name) m = line name (codes "PRIMARY " ++ decimal (cycle_at (site_of m name)) ++ codes " FROM " ++ decimal (length_at (site_of m name) + 1))
 done_text w (Run name jobs order) m = []
 done_text w (Stop name) m = line name (codes "DOWN " ++ decimal (length_at (site_of w name)))
@@ -173,11 +178,13 @@ done_text w (Crash name pick) m = line name (codes "CRASHED")
 done_text w (Extract name from) m = extract_at name from (site_of w name)
 done_text w (Zwrite name top) m = zwrite_at top (site_of w name)
 done_text w (Show name) m = show_at (site_of w name)
+done_text w (Print name g) m = []
 
 -- a section with its jobs
 abbrev pub ran_text : World → Command → Section → List ℕ
 ran_text w (Create name regions) s = []
 ran_text w Attach s = []
+ran_text w (Map name region text) s = []
 ran_text w (StartPrimary name) s = []
 ran_text w (Run name jobs order) s = section_text name (length order) (turn_at (site_of w name) jobs s) s.hardened s.fault
 ran_text w (Stop name) s = []
@@ -186,11 +193,13 @@ ran_text w (Crash name pick) s = []
 ran_text w (Extract name from) s = []
 ran_text w (Zwrite name top) s = []
 ran_text w (Show name) s = []
+ran_text w (Print name g) s = []
 
 -- the site that a command names, or the word with which the line of an attaching begins
 abbrev pub name_in : Command → Name
 name_in (Create name regions) = name
 name_in Attach = ATTACHING
+name_in (Map name region text) = name
 name_in (StartPrimary name) = name
 name_in (Run name jobs order) = name
 name_in (Stop name) = name
@@ -199,6 +208,7 @@ name_in (Crash name pick) = name
 name_in (Extract name from) = name
 name_in (Zwrite name top) = name
 name_in (Show name) = name
+name_in (Print name g) = name
 
 abbrev pub text_of : World → Command → Answer → World → List ℕ
 text_of w c Done m = done_text w c m
@@ -206,6 +216,7 @@ text_of w c (Refused r) m = line r.site (cause_text r.cause)
 text_of w c (DiskFault k) m = line (name_in c) (codes "DISKFAULT " ++ decimal k)
 text_of w c (NotAFile file offset) m = line (name_in c) (codes "NOTAFILE " ++ decimal file ++ 32 ∷ decimal offset)
 text_of w c (Ran s) m = ran_text w c s
+text_of w c (Typed bytes) m = bytes
 
 -- the lines of a command's answers
 abbrev pub text : World → Command → List Answer → World → List ℕ

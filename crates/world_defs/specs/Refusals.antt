@@ -1,11 +1,16 @@
 -- Which commands a world refuses, and with which cause: the first one of a list of tests.
-use Rattle.std.specs.Prelude.{ℕ, ◌-◌, ◌^◌, ◌==◌, nat_le, Bool, List, [], ◌∷◌, length, filter, codes, Option, Some, None, ◌&&◌, ◌||◌, if◌then◌else◌}
-use Rattle.journal_defs.specs.Instance.{InstanceRecord, generation, greatest_cycle, site_name}
+use Rattle.std.specs.Prelude.{ℕ, ◌-◌, ◌^◌, ◌==◌, nat_le, nat_lt, Bool, not, List, [], ◌∷◌, length, filter, codes, Option, Some, None, ◌&&◌, ◌||◌, if◌then◌else◌}
+use Rattle.std.specs.List.{list_any}
+use Rattle.std.specs.Str.{bytes_eq}
+use Rattle.journal_defs.specs.Directory.{Pattern, patterns}
+use Rattle.journal_defs.specs.Instance.{InstanceRecord, generation, greatest_cycle, site_name, regions}
 use Rattle.journal_defs.specs.Surviving.{reigns}
 use Rattle.journal_defs.specs.Fit.{MOST_REIGNS}
-use Rattle.command_defs.specs.Commands.{Name, Command, Create, Attach, StartPrimary, Run, Stop, Fuse, Crash, Extract, Zwrite, Show}
-use Rattle.world_defs.specs.World.{State, Down, Primary, Failed, Site, Contents, Place, World, is_made, next_of, at_place, site_of}
-use Rattle.world_defs.specs.Answers.{Cause, NoSite, Stopped, Exists, NoDisk, NotEmpty, Empty, Running, NotRunning, NotPrimary, NotSimulated, GenLimit, ReignLimit, Refusal}
+use Rattle.command_defs.specs.Patterns.{ends_in_star, stem}
+use Rattle.command_defs.specs.Commands.{Name, Command, Create, Attach, Map, StartPrimary, Run, Stop, Fuse, Crash, Extract, Zwrite, Show, Print}
+use Rattle.world_defs.specs.Lists.{first_where}
+use Rattle.world_defs.specs.World.{State, Down, Primary, Failed, Site, Contents, Place, World, is_made, next_of, at_place, site_of, same_name, typed}
+use Rattle.world_defs.specs.Answers.{Cause, NoSite, Stopped, Exists, NoDisk, NotEmpty, Empty, Running, NotRunning, NotPrimary, NotSimulated, Started, NoRegion, TwiceMapped, NoFile, GenLimit, ReignLimit, Refusal}
 
 -- the first cause of these
 abbrev pub first : List (Option Cause) → Option Cause
@@ -102,10 +107,40 @@ abbrev pub limited : Option Place → Option Cause
 limited None = None
 limited (Some p) = if p.told then first (generation_limit p.now ∷ reign_limit p.now ∷ []) else None
 
+-- its instance file has a CUT
+abbrev pub started : Contents → Option Cause
+started c = if nat_lt 0 (generation c.instance) then Some Started else None
+
+-- the number of the region of that name
+abbrev pub region_number : Name → Contents → Option ℕ
+region_number region c = first_where (λ r. same_name r.name region) (regions c.instance)
+
+abbrev pub no_region_at : Name → Option ℕ → Option Cause
+no_region_at region None = Some (NoRegion region)
+no_region_at region (Some number) = None
+
+-- the pattern is written so, whatever its region
+abbrev pub is_written : List ℕ → Pattern → Bool
+is_written text p = (if p.star then ends_in_star text else not (ends_in_star text)) && bytes_eq p.name (stem text)
+
+abbrev pub twice_mapped : List ℕ → Contents → Option Cause
+twice_mapped text c = if list_any (is_written text) (patterns c.instance) then Some TwiceMapped else None
+
+-- why a pattern isn't mapped to a region, where a site's files are known
+abbrev pub unmapped : Name → List ℕ → Option Place → Option Cause
+unmapped region text None = None
+unmapped region text (Some p) = if p.told then first (started p.now ∷ no_region_at region (region_number region p.now) ∷ twice_mapped text p.now ∷ []) else None
+
+-- the file of that generation has no byte, where a site's files are known
+abbrev pub no_file : ℕ → Option Place → Option Cause
+no_file g None = None
+no_file g (Some p) = if p.told && length (typed g p) == 0 then Some NoFile else None
+
 -- The refusals that the list of sites and their states decide. No call of a disk comes before them.
 abbrev pub early : World → Command → Option Refusal
 early w (Create name regions) = refused_with name (first (there (site_of w name) ∷ no_disk (at_place w (next_of w)) ∷ []))
 early w Attach = refused_with ATTACHING (no_disk (at_place w (next_of w)))
+early w (Map name region pattern) = one w name (λ p. in_state stopped p.site ∷ in_state running p.site ∷ [])
 early w (StartPrimary name) = one w name (λ p. in_state stopped p.site ∷ in_state running p.site ∷ [])
 early w (Run name jobs order) = one w name (λ p. in_state stopped p.site ∷ in_state not_primary p.site ∷ [])
 early w (Stop name) = one w name (λ p. in_state stopped p.site ∷ in_state not_running p.site ∷ [])
@@ -114,11 +149,13 @@ early w (Crash name pick) = one w name (λ p. in_state not_running p.site ∷ no
 early w (Extract name from) = one w name (λ p. in_state stopped p.site ∷ in_state not_running p.site ∷ [])
 early w (Zwrite name top) = one w name (λ p. in_state stopped p.site ∷ in_state not_running p.site ∷ [])
 early w (Show name) = one w name (λ p. [])
+early w (Print name g) = one w name (λ p. in_state stopped p.site ∷ [])
 
 -- The refusals that files decide. A read comes before them, and may fail.
 abbrev pub late : World → Command → Option Refusal
 late w (Create name regions) = refused_with name (not_empty (at_place w (next_of w)))
 late w Attach = not_attached_at w (at_place w (next_of w))
+late w (Map name region pattern) = refused_with name (unmapped region pattern (site_of w name))
 late w (StartPrimary name) = refused_with name (limited (site_of w name))
 late w (Run name jobs order) = None
 late w (Stop name) = None
@@ -127,6 +164,7 @@ late w (Crash name pick) = None
 late w (Extract name from) = None
 late w (Zwrite name top) = None
 late w (Show name) = None
+late w (Print name g) = refused_with name (no_file g (site_of w name))
 
 abbrev pub or_else : Option Refusal → Option Refusal → Option Refusal
 or_else None r = r

@@ -1,14 +1,14 @@
 -- The meaning of a command: a row a command.
-use Rattle.std.specs.Prelude.{◌≡◌, ◌≢◌, ◌⊎◌, ℕ, ◌==◌, Bool, true, false, List, [], ◌∷◌, length, take, Option, Some, None}
+use Rattle.std.specs.Prelude.{◌≡◌, ◌≢◌, ◌⊎◌, ℕ, ◌==◌, Bool, true, false, List, [], ◌∷◌, length, take, Option, Some, None, IsTrue}
 use Rattle.global_defs.specs.Entry.{Stamp}
 use Rattle.global_defs.specs.Jobs.{Job}
 use Rattle.global_defs.specs.Serial.{Turn}
 use Rattle.world_defs.specs.Lists.{Among, Along, At}
-use Rattle.command_defs.specs.Commands.{Name, Command, Create, Attach, StartPrimary, Run, Stop, Fuse, Crash, Extract, Zwrite, Show}
-use Rattle.world_defs.specs.World.{State, Down, Primary, Failed, Site, Contents, Place, World, Kept, place_of, next_of, site_of}
-use Rattle.world_defs.specs.Answers.{Cause, NoSite, Stopped, Exists, NoDisk, NotEmpty, Empty, Running, NotRunning, NotPrimary, NotSimulated, GenLimit, ReignLimit, Refusal, Answer, Done, Refused, DiskFault, NotAFile, Section, Ran}
+use Rattle.command_defs.specs.Commands.{Name, Command, Create, Attach, Map, StartPrimary, Run, Stop, Fuse, Crash, Extract, Zwrite, Show, Print}
+use Rattle.world_defs.specs.World.{State, Down, Primary, Failed, Site, Contents, Place, World, Kept, typed, place_of, next_of, site_of}
+use Rattle.world_defs.specs.Answers.{Cause, NoSite, Stopped, Exists, NoDisk, NotEmpty, Empty, Running, NotRunning, NotPrimary, NotSimulated, Started, NoRegion, TwiceMapped, NoFile, GenLimit, ReignLimit, Refusal, Answer, Done, Refused, DiskFault, NotAFile, Section, Ran, Typed}
 use Rattle.world_defs.specs.Refusals.{ATTACHING, early, refusal}
-use Rattle.world_defs.specs.Rows.{Becomes, Fails, FailsBefore, OldOnes, Creates, MayCreate, Attaches, StartsPrimary, MayBeginAny, opened, RunsWhole, RunFails, IsFrontOf, Crashes, turn_of, created}
+use Rattle.world_defs.specs.Rows.{Becomes, Fails, FailsBefore, FailsUnchanged, OldOnes, Creates, MayCreate, Attaches, Maps, MayMapAny, StartsPrimary, MayBeginAny, opened, RunsWhole, RunFails, IsFrontOf, Crashes, turn_of, created}
 
 -- all places are as before
 abbrev pub Unchanged : World → World → Type 0
@@ -45,6 +45,7 @@ pub record Runs (name : Name) (jobs : List (List Job)) (order : List ℕ) (s : S
 abbrev pub Row : World → Command → World → Type 0
 Row w (Create name regions) m = AtPlace (next_of w) (Creates name regions) w m
 Row w Attach m = AtPlace (next_of w) (Attaches w) w m
+Row w (Map name region text) m = OnSite w name (Maps region text) m
 Row w (StartPrimary name) m = OnSite w name (StartsPrimary name) m
 -- a section answers how it ran
 Row w (Run name jobs order) m = ⊥
@@ -54,11 +55,14 @@ Row w (Crash name pick) m = OnSite w name Crashes m
 Row w (Extract name from) m = Unchanged w m
 Row w (Zwrite name top) m = Unchanged w m
 Row w (Show name) m = Unchanged w m
+-- it answers what the file has
+Row w (Print name g) m = ⊥
 
 -- what the answer that a section ran means
 abbrev pub SectionRow : World → Command → Section → World → Type 0
 SectionRow w (Create name regions) s m = ⊥
 SectionRow w Attach s m = ⊥
+SectionRow w (Map name region text) s m = ⊥
 SectionRow w (StartPrimary name) s m = ⊥
 SectionRow w (Run name jobs order) s m = OnSite w name (Runs name jobs order s) m
 SectionRow w (Stop name) s m = ⊥
@@ -67,11 +71,37 @@ SectionRow w (Crash name pick) s m = ⊥
 SectionRow w (Extract name from) s m = ⊥
 SectionRow w (Zwrite name top) s m = ⊥
 SectionRow w (Show name) s m = ⊥
+SectionRow w (Print name g) s m = ⊥
+
+-- a file has some bytes, and where a site's files are known, these
+pub record IsTyped (g : ℕ) (text : List ℕ) (p : Place) : Type 0 where
+  pub some : text ≢ []
+  pub told : IsTrue p.told → text ≡ typed g p
+
+abbrev pub IsTypedAt : Option Place → ℕ → List ℕ → Type 0
+IsTypedAt None g text = ⊥
+IsTypedAt (Some p) g text = IsTyped g text p
+
+-- what the answer of a file's bytes means
+abbrev pub TypedRow : World → Command → List ℕ → World → Type 0
+TypedRow w (Create name regions) text m = ⊥
+TypedRow w Attach text m = ⊥
+TypedRow w (Map name region pattern) text m = ⊥
+TypedRow w (StartPrimary name) text m = ⊥
+TypedRow w (Run name jobs order) text m = ⊥
+TypedRow w (Stop name) text m = ⊥
+TypedRow w (Fuse name calls) text m = ⊥
+TypedRow w (Crash name pick) text m = ⊥
+TypedRow w (Extract name from) text m = ⊥
+TypedRow w (Zwrite name top) text m = ⊥
+TypedRow w (Show name) text m = ⊥
+TypedRow w (Print name g) text m = IsTypedAt (site_of w name) g text × Unchanged w m
 
 -- what the answer of a disk fault means
 abbrev pub Faulted : World → Command → ℕ → World → Type 0
 Faulted w (Create name regions) k m = AtPlace (next_of w) (λ old new. FailsBefore k (MayCreate name regions old) old new) w m
 Faulted w Attach k m = AtPlace (next_of w) (λ old new. FailsBefore k (OldOnes old) old new) w m
+Faulted w (Map name region text) k m = OnSite w name (λ old new. Fails k (MayMapAny region text old) old new) m
 Faulted w (StartPrimary name) k m = OnSite w name (λ old new. Fails k (MayBeginAny name old) old new) m
 -- a section answers how it ran
 Faulted w (Run name jobs order) k m = ⊥
@@ -81,6 +111,7 @@ Faulted w (Crash name pick) k m = ⊥
 Faulted w (Extract name from) k m = ⊥
 Faulted w (Zwrite name top) k m = ⊥
 Faulted w (Show name) k m = ⊥
+Faulted w (Print name g) k m = OnSite w name (FailsUnchanged k) m
 
 -- a place whose files aren't known, which stays as it is
 pub record KeptUnknown (old new : Place) : Type 0 where
@@ -91,6 +122,7 @@ pub record KeptUnknown (old new : Place) : Type 0 where
 abbrev pub Damaged : World → Command → World → Type 0
 Damaged w (Create name regions) m = AtPlace (next_of w) KeptUnknown w m
 Damaged w Attach m = AtPlace (next_of w) KeptUnknown w m
+Damaged w (Map name region text) m = OnSite w name KeptUnknown m
 Damaged w (StartPrimary name) m = OnSite w name KeptUnknown m
 Damaged w (Run name jobs order) m = ⊥
 Damaged w (Stop name) m = ⊥
@@ -99,10 +131,15 @@ Damaged w (Crash name pick) m = ⊥
 Damaged w (Extract name from) m = ⊥
 Damaged w (Zwrite name top) m = ⊥
 Damaged w (Show name) m = ⊥
+Damaged w (Print name g) m = ⊥
 
 -- an opening or a reign is past a limit
 abbrev pub IsLimit : Cause → Type 0
 IsLimit cause = (cause ≡ GenLimit) ⊎ (cause ≡ ReignLimit)
+
+-- a pattern isn't mapped to that region
+abbrev pub IsUnmapped : Name → Cause → Type 0
+IsUnmapped region cause = (cause ≡ Started) ⊎ (cause ≡ NoRegion region) ⊎ (cause ≡ TwiceMapped)
 
 -- what keeps a disk's site from being attached: there is none, or there is another one with its name
 abbrev pub IsNotAttached : World → Refusal → Type 0
@@ -112,6 +149,7 @@ IsNotAttached w r = (r ≡ record { site = ATTACHING; cause = Empty }) ⊎ ((r.c
 abbrev pub MayRefuse : World → Command → Refusal → World → Type 0
 MayRefuse w (Create name regions) r m = (r ≡ record { site = name; cause = NotEmpty }) × AtPlace (next_of w) KeptUnknown w m
 MayRefuse w Attach r m = IsNotAttached w r × AtPlace (next_of w) KeptUnknown w m
+MayRefuse w (Map name region text) r m = (r.site ≡ name) × IsUnmapped region r.cause × OnSite w name KeptUnknown m
 MayRefuse w (StartPrimary name) r m = (r.site ≡ name) × IsLimit r.cause × OnSite w name KeptUnknown m
 MayRefuse w (Run name jobs order) r m = ⊥
 MayRefuse w (Stop name) r m = ⊥
@@ -120,10 +158,11 @@ MayRefuse w (Crash name pick) r m = ⊥
 MayRefuse w (Extract name from) r m = ⊥
 MayRefuse w (Zwrite name top) r m = ⊥
 MayRefuse w (Show name) r m = ⊥
+MayRefuse w (Print name g) r m = (r ≡ record { site = name; cause = NoFile }) × OnSite w name KeptUnknown m
 
 -- START that is refused: past the limit of reigns the site was opened, which used a generation, and is down again
 abbrev pub StartRefused : Name → Cause → World → World → Type 0
-StartRefused name ReignLimit w m = OnSite w name (λ old new. Becomes Down (opened old.now) old new) m
+StartRefused name ReignLimit w m = OnSite w name (λ old new. Becomes Down (opened old.left.broken old.now) old new) m
 StartRefused name NoSite w m = Unchanged w m
 StartRefused name (Stopped k) w m = Unchanged w m
 StartRefused name Exists w m = Unchanged w m
@@ -134,12 +173,17 @@ StartRefused name Running w m = Unchanged w m
 StartRefused name NotRunning w m = Unchanged w m
 StartRefused name NotPrimary w m = Unchanged w m
 StartRefused name NotSimulated w m = Unchanged w m
+StartRefused name Started w m = Unchanged w m
+StartRefused name (NoRegion region) w m = Unchanged w m
+StartRefused name TwiceMapped w m = Unchanged w m
+StartRefused name NoFile w m = Unchanged w m
 StartRefused name GenLimit w m = Unchanged w m
 
 -- what a refusal leaves: all as it was, but for a START
 abbrev pub RefusedLeaves : World → Command → Cause → World → Type 0
 RefusedLeaves w (Create name regions) cause m = Unchanged w m
 RefusedLeaves w Attach cause m = Unchanged w m
+RefusedLeaves w (Map name region text) cause m = Unchanged w m
 RefusedLeaves w (StartPrimary name) cause m = StartRefused name cause w m
 RefusedLeaves w (Run name jobs order) cause m = Unchanged w m
 RefusedLeaves w (Stop name) cause m = Unchanged w m
@@ -148,6 +192,7 @@ RefusedLeaves w (Crash name pick) cause m = Unchanged w m
 RefusedLeaves w (Extract name from) cause m = Unchanged w m
 RefusedLeaves w (Zwrite name top) cause m = Unchanged w m
 RefusedLeaves w (Show name) cause m = Unchanged w m
+RefusedLeaves w (Print name g) cause m = Unchanged w m
 
 -- The meaning of a command, its answer, and the worlds before and after.
 abbrev pub Means : World → Command → Answer → World → Type 0
@@ -156,6 +201,7 @@ Means w c (Refused r) m = ((refusal w c ≡ Some r) × RefusedLeaves w c r.cause
 Means w c (DiskFault k) m = (early w c ≡ None) × Faulted w c k m
 Means w c (NotAFile file offset) m = (early w c ≡ None) × Damaged w c m
 Means w c (Ran s) m = (refusal w c ≡ None) × SectionRow w c s m
+Means w c (Typed text) m = (refusal w c ≡ None) × TypedRow w c text m
 
 -- A command with what it answered, line by line: each command here answers once.
 abbrev pub Step : World → Command → List Answer → World → Type 0
@@ -177,6 +223,7 @@ RunMayLeaveOn (Some site) jobs order old o = RunMayLeave site.state jobs order o
 abbrev pub MayLeave : Command → Place → Contents → Type 0
 MayLeave (Create name regions) old o = o ≡ created name regions
 MayLeave Attach old o = ⊥
+MayLeave (Map name region text) old o = MayMapAny region text old o
 MayLeave (StartPrimary name) old o = MayBeginAny name old o
 MayLeave (Run name jobs order) old o = RunMayLeaveOn old.site jobs order old o
 MayLeave (Stop name) old o = ⊥
@@ -185,11 +232,13 @@ MayLeave (Crash name pick) old o = ⊥
 MayLeave (Extract name from) old o = ⊥
 MayLeave (Zwrite name top) old o = ⊥
 MayLeave (Show name) old o = ⊥
+MayLeave (Print name g) old o = ⊥
 
 -- the place that a command acts on
 abbrev pub subject : World → Command → Option ℕ
 subject w (Create name regions) = next_of w
 subject w Attach = next_of w
+subject w (Map name region text) = place_of w name
 subject w (StartPrimary name) = place_of w name
 subject w (Run name jobs order) = place_of w name
 subject w (Stop name) = place_of w name
@@ -198,6 +247,7 @@ subject w (Crash name pick) = place_of w name
 subject w (Extract name from) = place_of w name
 subject w (Zwrite name top) = place_of w name
 subject w (Show name) = place_of w name
+subject w (Print name g) = place_of w name
 
 abbrev pub is_at : Option ℕ → ℕ → Bool
 is_at None i = false

@@ -1,5 +1,5 @@
 -- The world of a run between two commands: plain data (GT.M: instances, and what the replication of each one does).
-use Rattle.std.specs.Prelude.{◌≡◌, ℕ, ◌≤◌, Bool, true, false, List, [], Option, Some, None, slice_get, nat_eq, nat_lt, length, take}
+use Rattle.std.specs.Prelude.{◌≡◌, ℕ, ◌≤◌, ◌-◌, Bool, true, false, List, [], ◌∷◌, ◌++◌, Option, Some, None, get_or, slice_get, nat_eq, nat_lt, length, take}
 use Rattle.std.specs.Cmp.Lexicographic.{pointwise}
 use Rattle.std.specs.List.{AllByRecursion}
 use Rattle.global_defs.specs.Entry.{Stamp, Sequence}
@@ -26,17 +26,29 @@ pub record Site : Type 0 where
 pub record Contents : Type 0 where
   -- the records of its instance file; none where no site was made there
   pub instance : List InstanceRecord
-  -- how the generations of its journals began, in their order
-  pub starts : List Start
+  -- how the generations of its journals began, by region, in their order
+  pub starts : ℕ → List Start
+  -- its broken-transaction files, from generation 1 to the newest one
+  pub texts : List (List ℕ)
   pub sequence : Sequence
 
 -- no site was made there
 abbrev pub nothing : Contents
-nothing = record { instance = []; starts = []; sequence = [] }
+nothing = record { instance = []; starts = λ r. []; texts = []; sequence = [] }
 
 -- a site was made there
 abbrev pub is_made : Contents → Bool
 is_made c = nat_lt 0 (length c.instance)
+
+-- What lies behind the sequence on a disk, as its files read.
+pub record Leftover : Type 0 where
+  -- the text of the broken transactions, which the next opening writes down
+  pub broken : List ℕ
+  -- the broken-transaction file of the next generation, as far as an opening that a fault ended wrote it
+  pub torn : List ℕ
+
+abbrev pub NO_LEFTOVER : Leftover
+NO_LEFTOVER = record { broken = []; torn = [] }
 
 -- A disk, and the site on it.
 pub record Place : Type 0 where
@@ -45,6 +57,8 @@ pub record Place : Type 0 where
   pub told : Bool
   -- what the files stand for as they read
   pub now : Contents
+  -- and what lies behind that
+  pub left : Leftover
   -- each image stands for one of these
   pub outcomes : List Contents
   -- how many calls of the disk have failed
@@ -88,6 +102,10 @@ site_of w name = at_place w (place_of w name)
 abbrev pub IsFresh : World → Type 0
 IsFresh w = AllByRecursion (λ (p : Place). p.site ≡ None) w.places
 
+-- the broken-transaction file of a generation, as it reads
+abbrev pub typed : ℕ → Place → List ℕ
+typed g p = get_or (p.now.texts ++ p.left.torn ∷ []) (g - 1) []
+
 -- There is no outcome but what is read.
 abbrev pub Settled : Place → Type 0
 Settled p = (o : Contents) → Among p.outcomes o → o ≡ p.now
@@ -105,6 +123,7 @@ pub record Same (old new : Place) : Type 0 where
 pub record Kept (old new : Place) : Type 0 where
   pub site : new.site ≡ old.site
   pub now : new.now ≡ old.now
+  pub left : new.left ≡ old.left
   pub outcomes : NoNew old.outcomes new.outcomes
   pub faults : old.faults ≤ new.faults
   pub same : Same old new

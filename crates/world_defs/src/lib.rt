@@ -4,4 +4,7 @@
 
 mod laws;
 
-pub use laws::{attaching_holds, limits_hold, openings_hold, output_holds, refusals_hold};
+pub use laws::{
+    attaching_holds, limits_hold, mapping_holds, openings_hold, output_holds, refusals_hold,
+    regions_begin, typing_holds,
+};

@@ -1,14 +1,16 @@
 -- What stays fit of the contents of one image.
-use Rattle.std.proofs.Common.{◌≡◌, inl, inr, ◌+◌, ◌≤◌, List, [], length, Some, None, refl, sym, ◌∙◌, ap, subst, arith}
+use Rattle.std.proofs.Common.{◌≡◌, inl, inr, ℕ, ◌+◌, ◌≤◌, List, [], length, Some, None, refl, sym, ◌∙◌, ap, subst, arith}
 use Rattle.journal_defs.specs.Instance as records
-use Rattle.journal_defs.specs.Instance.{InstanceRecord, generation, greatest_cycle, site_name}
+use Rattle.journal_defs.specs.Instance.{InstanceRecord, generation, greatest_cycle, site_name, regions}
+use Rattle.journal_defs.specs.Journal.{Start}
 use Rattle.journal_defs.specs.Fit.{SerialsRise, HasFewReigns}
 use Rattle.command_defs.specs.Commands.{Name, Region}
+use Rattle.command_defs.specs.Patterns.{ends_in_star, stem}
 use Rattle.world_defs.specs.World.{Contents, nothing}
-use Rattle.world_defs.specs.Rows.{MayBegin, created, cut_there, opened, with_reign, next_reign}
+use Rattle.world_defs.specs.Rows.{MayOpen, MayBegin, MayMap, created, cut_there, with_starts, opened, with_reign, next_reign, pattern_record, with_pattern}
 use Rattle.world_defs.specs.Fit.{IsWithinCycles, IsFitContents}
 use Rattle.world_laws.proofs.Lists.{all-weaker}
-use Rattle.world_laws.proofs.Instances.{name-more, cycle-cut, cycle-reign, room-cut, few_at, few-later}
+use Rattle.world_laws.proofs.Instances.{name-more, cycle-cut, cycle-map, cycle-reign, room-cut, few_at, few-map, few-later}
 
 -- no entry's serials can fall
 rise-none : SerialsRise []
@@ -20,46 +22,78 @@ fit-nothing = record { serials = rise-none; few_reigns = omega arith; cycles = t
 pub fit-created : (name : Name) (regions : List Region) → IsFitContents (created name regions)
 fit-created name regions = record { serials = rise-none; few_reigns = omega arith; cycles = tt }
 
--- one record more, of the same site, after which as many cycles are used
-fit-more : (c : Contents) (instance : List InstanceRecord) → site_name instance ≡ site_name c.instance → greatest_cycle c.instance ≤ greatest_cycle instance
-    → HasFewReigns (length c.sequence) instance → IsFitContents c → IsFitContents (record c { instance = instance })
-fit-more c instance name cycle few h = record {
-  serials = h.serials;
-  few_reigns = few;
-  cycles = all-weaker (IsWithinCycles c) (IsWithinCycles (record c { instance = instance }))
-      (λ e within own. let low = within (own ∙ name) in omega arith) c.sequence h.cycles;
-}
+-- one record more, of the same site, after which as many cycles are used; starts and texts are of no matter
+fit-more : (c : Contents) (instance : List InstanceRecord) (starts : ℕ → List Start) (texts : List (List ℕ)) → site_name instance ≡ site_name c.instance
+    → greatest_cycle c.instance ≤ greatest_cycle instance → HasFewReigns (length c.sequence) instance → IsFitContents c
+    → IsFitContents (record { instance = instance; starts = starts; texts = texts; sequence = c.sequence })
+fit-more c instance starts texts name cycle few h =
+    let more : Contents = record { instance = instance; starts = starts; texts = texts; sequence = c.sequence } in
+    record {
+      serials = h.serials;
+      few_reigns = few;
+      cycles = all-weaker (IsWithinCycles c) (IsWithinCycles more) (λ e within own. let low = within (own ∙ name) in omega arith) c.sequence h.cycles;
+    }
 
-pub name-cut : (c : Contents) → site_name (cut_there c).instance ≡ site_name c.instance
-name-cut c = name-more c.instance (records.Cut (length c.sequence) (generation c.instance + 1)) refl
+pub name-cut : (broken : List ℕ) (c : Contents) → site_name (cut_there broken c).instance ≡ site_name c.instance
+name-cut broken c = name-more c.instance (records.Cut (length c.sequence) (generation c.instance + 1)) refl
 
-pub fit-cut : (c : Contents) → IsFitContents c → IsFitContents (cut_there c)
-fit-cut c h =
+fit-cut : (broken : List ℕ) (c : Contents) → IsFitContents c → IsFitContents (cut_there broken c)
+fit-cut broken c h =
+    let cut : Contents = cut_there broken c in
     let cycle = cycle-cut c.instance (length c.sequence) (generation c.instance + 1) in
-    fit-more c (cut_there c).instance (name-cut c) (omega arith)
-    (few_at (cut_there c).instance (length c.sequence) (room-cut c.instance (length c.sequence) (generation c.instance + 1) h.few_reigns)) h
+    fit-more c cut.instance cut.starts cut.texts (name-cut broken c) (omega arith)
+    (few_at cut.instance (length c.sequence) (room-cut c.instance (length c.sequence) (generation c.instance + 1) h.few_reigns)) h
 
-pub fit-opened : (c : Contents) → IsFitContents c → IsFitContents (opened c)
-fit-opened c h = let cut = fit-cut c h in record { serials = cut.serials; few_reigns = cut.few_reigns; cycles = cut.cycles }
+-- a generation that begins in some regions
+fit-with_starts : (k : ℕ) (c : Contents) → IsFitContents c → IsFitContents (with_starts k c)
+fit-with_starts k c h = record { serials = h.serials; few_reigns = h.few_reigns; cycles = h.cycles }
+
+pub fit-opened : (broken : List ℕ) (c : Contents) → IsFitContents c → IsFitContents (opened broken c)
+fit-opened broken c h = fit-with_starts (length (regions c.instance)) (cut_there broken c) (fit-cut broken c h)
 
 pub name-reign : (name : Name) (c : Contents) → site_name (with_reign name c).instance ≡ site_name c.instance
 name-reign name c = name-more c.instance (records.Reigned (next_reign name c)) refl
 
 pub fit-reign : (name : Name) (c : Contents) → IsFitContents c → IsFitContents (with_reign name c)
 fit-reign name c h =
+    let reigned : Contents = with_reign name c in
     let cycle = cycle-reign c.instance (next_reign name c) in
-    fit-more c (with_reign name c).instance (name-reign name c) (omega arith)
+    fit-more c reigned.instance reigned.starts reigned.texts (name-reign name c) (omega arith)
     (few-later c.instance (length c.sequence) (next_reign name c) (omega arith) h.few_reigns) h
 
--- what beginning a reign may leave is fit, and of the same site
-pub fit-may_begin : (name : Name) (c o : Contents) → IsFitContents c → MayBegin name c o → IsFitContents o
-fit-may_begin name c o h (inl same) = subst IsFitContents (sym same) h
-fit-may_begin name c o h (inr (inl cut)) = subst IsFitContents (sym cut) (fit-cut c h)
-fit-may_begin name c o h (inr (inr (inl begun))) = subst IsFitContents (sym begun) (fit-opened c h)
-fit-may_begin name c o h (inr (inr (inr reign))) = subst IsFitContents (sym reign) (fit-reign name (opened c) (fit-opened c h))
+-- what opening may leave is fit, and of the same site
+fit-may_open : (broken : List ℕ) (c o : Contents) → IsFitContents c → MayOpen broken c o → IsFitContents o
+fit-may_open broken c o h (inl same) = subst IsFitContents (sym same) h
+fit-may_open broken c o h (inr begun) = subst IsFitContents (sym begun.1) (fit-with_starts begun.0 (cut_there broken c) (fit-cut broken c h))
 
-pub name-may_begin : (name : Name) (c o : Contents) → MayBegin name c o → site_name o.instance ≡ site_name c.instance
-name-may_begin name c o (inl same) = ap (λ (x : Contents). site_name x.instance) same
-name-may_begin name c o (inr (inl cut)) = ap (λ (x : Contents). site_name x.instance) cut ∙ name-cut c
-name-may_begin name c o (inr (inr (inl begun))) = ap (λ (x : Contents). site_name x.instance) begun ∙ name-cut c
-name-may_begin name c o (inr (inr (inr reign))) = ap (λ (x : Contents). site_name x.instance) reign ∙ name-reign name (opened c) ∙ name-cut c
+name-may_open : (broken : List ℕ) (c o : Contents) → MayOpen broken c o → site_name o.instance ≡ site_name c.instance
+name-may_open broken c o (inl same) = ap (λ (x : Contents). site_name x.instance) same
+name-may_open broken c o (inr begun) = ap (λ (x : Contents). site_name x.instance) begun.1 ∙ name-cut broken c
+
+-- what beginning a reign may leave
+pub fit-may_begin : (name : Name) (broken : List ℕ) (c o : Contents) → IsFitContents c → MayBegin name broken c o → IsFitContents o
+fit-may_begin name broken c o h (inl before) = fit-may_open broken c o h before
+fit-may_begin name broken c o h (inr reign) = subst IsFitContents (sym reign) (fit-reign name (opened broken c) (fit-opened broken c h))
+
+pub name-may_begin : (name : Name) (broken : List ℕ) (c o : Contents) → MayBegin name broken c o → site_name o.instance ≡ site_name c.instance
+name-may_begin name broken c o (inl before) = name-may_open broken c o before
+name-may_begin name broken c o (inr reign) = ap (λ (x : Contents). site_name x.instance) reign ∙ name-reign name (opened broken c) ∙ name-cut broken c
+
+-- and mapping
+pub name-pattern : (region : ℕ) (text : List ℕ) (c : Contents) → site_name (with_pattern region text c).instance ≡ site_name c.instance
+name-pattern region text c = name-more c.instance (pattern_record region text) refl
+
+pub fit-pattern : (region : ℕ) (text : List ℕ) (c : Contents) → IsFitContents c → IsFitContents (with_pattern region text c)
+fit-pattern region text c h =
+    let mapped : Contents = with_pattern region text c in
+    let cycle = cycle-map c.instance region (ends_in_star text) (stem text) in
+    fit-more c mapped.instance mapped.starts mapped.texts (name-pattern region text c) (omega arith)
+    (few-map c.instance (length c.sequence) region (ends_in_star text) (stem text) h.few_reigns) h
+
+pub fit-may_map : (region : Name) (text : List ℕ) (c o : Contents) → IsFitContents c → MayMap region text c o → IsFitContents o
+fit-may_map region text c o h (inl same) = subst IsFitContents (sym same) h
+fit-may_map region text c o h (inr mapped) = subst IsFitContents (sym mapped.2) (fit-pattern mapped.0 text c h)
+
+pub name-may_map : (region : Name) (text : List ℕ) (c o : Contents) → MayMap region text c o → site_name o.instance ≡ site_name c.instance
+name-may_map region text c o (inl same) = ap (λ (x : Contents). site_name x.instance) same
+name-may_map region text c o (inr mapped) = ap (λ (x : Contents). site_name x.instance) mapped.2 ∙ name-pattern mapped.0 text c

@@ -1,10 +1,11 @@
 -- Instance files that gain a record: the site's name, the greatest cycle, and how many reigns there are.
-use Rattle.std.proofs.Common.{◌≡◌, inl, inr, ℕ, ◌≤◌, ◌<◌, max, nat_le, Bool, List, [], ◌∷◌, ◌++◌, length, filter, refl, sym, ap, subst, arith, length-append}
+use Rattle.std.proofs.Common.{◌≡◌, inl, inr, ℕ, ◌≤◌, ◌<◌, max, nat_le, Bool, List, [], ◌∷◌, ◌++◌, length, filter, refl, sym, ◌∙◌, ap, subst, arith, length-append, ◌&&◌, if◌then◌else◌}
 use Rattle.std.proofs.lemmas.Bool.{cases_Bool, lt-leb}
 use Rattle.std.proofs.lemmas.List.Elements.{filter-append}
+use Rattle.std.specs.List.{list_all}
 use Rattle.global_defs.specs.Entry.{Reign}
 use Rattle.journal_defs.specs.Instance.{InstanceRecord, Create, Reigned, Cut, Map, Mode, greatest_cycle, site_name}
-use Rattle.journal_defs.specs.Surviving.{reigns}
+use Rattle.journal_defs.specs.Surviving.{spares_start, reigns}
 use Rattle.journal_defs.specs.Fit.{MOST_REIGNS, HasFewReigns}
 use Rattle.journal_laws.proofs.Runs.{reigns-cut, reigns-more}
 
@@ -24,6 +25,28 @@ cycle-cut (Cut m h ∷ rs) n g = cycle-cut rs n g
 cycle-cut (Map region star name ∷ rs) n g = cycle-cut rs n g
 cycle-cut (Mode region before ∷ rs) n g = cycle-cut rs n g
 
+pub cycle-map : (rs : List InstanceRecord) (region : ℕ) (star : Bool) (name : List ℕ) → greatest_cycle (rs ++ Map region star name ∷ []) ≡ greatest_cycle rs
+cycle-map [] region star name = refl
+cycle-map (Reigned r ∷ rs) region star name = ap (max r.stamp.cycle) (cycle-map rs region star name)
+cycle-map (Create site regions ∷ rs) region star name = cycle-map rs region star name
+cycle-map (Cut m h ∷ rs) region star name = cycle-map rs region star name
+cycle-map (Map other with_star stem ∷ rs) region star name = cycle-map rs region star name
+cycle-map (Mode other before ∷ rs) region star name = cycle-map rs region star name
+
+spares-map : (start : ℕ) (rs : List InstanceRecord) (region : ℕ) (star : Bool) (name : List ℕ) → list_all (spares_start start) (rs ++ Map region star name ∷ []) ≡ list_all (spares_start start) rs
+spares-map start [] region star name = refl
+spares-map start (r ∷ rs) region star name = ap (λ (b : Bool). spares_start start r && b) (spares-map start rs region star name)
+
+pub reigns-map : (rs : List InstanceRecord) (region : ℕ) (star : Bool) (name : List ℕ) → reigns (rs ++ Map region star name ∷ []) ≡ reigns rs
+reigns-map [] region star name = refl
+reigns-map (Reigned r ∷ rs) region star name =
+    ap (λ (b : Bool). if b then r ∷ reigns (rs ++ Map region star name ∷ []) else reigns (rs ++ Map region star name ∷ [])) (spares-map r.start rs region star name)
+    ∙ ap (λ (l : List Reign). if list_all (spares_start r.start) rs then r ∷ l else l) (reigns-map rs region star name)
+reigns-map (Create site regions ∷ rs) region star name = reigns-map rs region star name
+reigns-map (Cut m h ∷ rs) region star name = reigns-map rs region star name
+reigns-map (Map other with_star stem ∷ rs) region star name = reigns-map rs region star name
+reigns-map (Mode other before ∷ rs) region star name = reigns-map rs region star name
+
 pub cycle-reign : (rs : List InstanceRecord) (r : Reign) → greatest_cycle (rs ++ Reigned r ∷ []) ≡ max (greatest_cycle rs) r.stamp.cycle
 cycle-reign [] r = omega arith
 cycle-reign (Reigned q ∷ rs) r = let rest = cycle-reign rs r in omega arith
@@ -42,6 +65,10 @@ length-filter_le test (x ∷ xs) = elim (cases_Bool (test x)) [
 -- where few reigns are there at all, few have begun
 pub few_at : (rs : List InstanceRecord) (n : ℕ) → length (reigns rs) ≤ MOST_REIGNS → HasFewReigns n rs
 few_at rs n few = let less = length-filter_le (λ r. nat_le r.start n) (reigns rs) in omega arith
+
+-- a MAP leaves each reign
+pub few-map : (rs : List InstanceRecord) (n region : ℕ) (star : Bool) (name : List ℕ) → HasFewReigns n rs → HasFewReigns n (rs ++ Map region star name ∷ [])
+few-map rs n region star name few = subst (λ (l : List Reign). length (filter (λ r. nat_le r.start n) l) ≤ MOST_REIGNS) (sym (reigns-map rs region star name)) few
 
 -- what a CUT leaves has begun by its length
 pub room-cut : (rs : List InstanceRecord) (n g : ℕ) → HasFewReigns n rs → length (reigns (rs ++ Cut n g ∷ [])) ≤ MOST_REIGNS

@@ -7,3 +7,4 @@ pub mod ReignsFit
 pub mod SectionsFit
 pub mod WorldsFit
 pub mod FreshFit
+pub mod StandsForOne

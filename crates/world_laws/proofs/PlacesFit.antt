@@ -4,10 +4,10 @@ use Rattle.journal_defs.specs.Instance.{site_name}
 use Rattle.command_defs.specs.Commands.{Name, Region}
 use Rattle.world_defs.specs.Lists.{Among}
 use Rattle.world_defs.specs.World.{State, Down, Failed, Site, Contents, Place, World, Kept}
-use Rattle.world_defs.specs.Rows.{in_new_state, Becomes, Fails, FailsBefore, OldOnes, created, Creates, MayCreate, Attaches, Crashes}
+use Rattle.world_defs.specs.Rows.{in_new_state, Becomes, Fails, FailsBefore, FailsUnchanged, OldOnes, created, Creates, MayCreate, Attaches, Maps, MayMapAny, with_pattern, Crashes}
 use Rattle.world_defs.specs.Step.{KeptUnknown}
 use Rattle.world_defs.specs.Fit.{IsFitContents, IsFitSite, IsNamedSo, IsFitPlace}
-use Rattle.world_laws.proofs.ContentsFit.{fit-created}
+use Rattle.world_laws.proofs.ContentsFit.{fit-created, fit-pattern, name-pattern, fit-may_map, name-may_map}
 
 -- what holds of a place whose files are known, from what it was before
 fit-place : (old new : Place) (site : Option Site) (c : Contents) → new.told ≡ old.told → new.site ≡ site → new.now ≡ c
@@ -100,4 +100,34 @@ pub fit-attach_fails : (k : ℕ) (old new : Place) → IsFitPlace old → FailsB
 fit-attach_fails k old new h r = fit-fails_before k (OldOnes old) old new (λ t o a. h.outcomes t o a) r
 
 pub fit-crashes : (old new : Place) → IsFitPlace old → Crashes old new → IsFitPlace new
-fit-crashes old new h r = fit-stops new.now old new (λ t. (h.outcomes t new.now (r.chosen t), h.named t new.now (r.chosen t))) r.becomes
+fit-crashes old new h r =
+    fit-place old new (in_new_state Down old.site) new.now r.same.told r.site refl (λ t. let f = chosen t in (f.0, f.1, fit-down old.site new.now))
+    (λ t o a. let f = chosen t in elim (subst (λ (l : List Contents). Among l o) r.outcomes a) [
+      | inl is ↦ (subst IsFitContents (sym is) f.0, subst (IsNamedSo (in_new_state Down old.site)) (sym is) f.1)
+      | inr none ↦ absurd none
+    ])
+  where
+    chosen : IsTrue old.told → IsFitContents new.now × IsNamedSo (in_new_state Down old.site) new.now
+    chosen t = (h.outcomes t new.now (r.chosen t), named-in Down old.site new.now (h.named t new.now (r.chosen t)))
+
+-- a fault that leaves the files as they were
+pub fit-fails_unchanged : (k : ℕ) (old new : Place) → IsFitPlace old → FailsUnchanged k old new → IsFitPlace new
+fit-fails_unchanged k old new h r =
+    fit-place old new (in_new_state (Failed k) old.site) old.now r.faults.same.told r.site r.now
+    (λ t. (h.now t, named-in (Failed k) old.site old.now (h.named_now t), fit-failed k old.site old.now))
+    (λ t o a. (h.outcomes t o (r.outcomes o a), named-in (Failed k) old.site o (h.named t o (r.outcomes o a))))
+
+pub fit-maps : (region : Name) (text : List ℕ) (old new : Place) → IsFitPlace old → Maps region text old new → IsFitPlace new
+fit-maps region text old new h r =
+    fit-stops (with_pattern r.number text r.read) old new
+    (λ t. subst (λ (c : Contents). IsFitContents (with_pattern r.number text c) × IsNamedSo old.site (with_pattern r.number text c)) (sym (r.as_before t)) (
+      fit-pattern r.number text old.now (h.now t),
+      named-same old.site old.now (with_pattern r.number text old.now) (name-pattern r.number text old.now) (h.named_now t),
+    )) r.becomes
+
+pub fit-may_map_any : (region : Name) (text : List ℕ) (old : Place) (o : Contents) → IsFitPlace old → IsTrue old.told → MayMapAny region text old o → IsFitContents o × IsNamedSo old.site o
+fit-may_map_any region text old o h t m =
+    (fit-may_map region text m.0 o (h.outcomes t m.0 m.1) m.2, named-same old.site m.0 o (name-may_map region text m.0 o m.2) (h.named t m.0 m.1))
+
+pub fit-map_fails : (region : Name) (text : List ℕ) (k : ℕ) (old new : Place) → IsFitPlace old → Fails k (MayMapAny region text old) old new → IsFitPlace new
+fit-map_fails region text k old new h r = fit-fails k (MayMapAny region text old) old new (λ t o m. fit-may_map_any region text old o h t m) r

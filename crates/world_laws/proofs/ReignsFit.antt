@@ -1,5 +1,5 @@
 -- What START keeps at its place: the cycle that it draws is past that of each entry of the site's own.
-use Rattle.std.proofs.Common.{◌≡◌, ℕ, ◌+◌, ◌≤◌, ◌<◌, ◌==◌, ◌||◌, nat_le, Bool, true, false, [], ◌∷◌, length, Option, Some, None, IsTrue, refl, sym, ◌∙◌, ap, subst, arith, nat_eq, if◌then◌else◌}
+use Rattle.std.proofs.Common.{◌≡◌, ℕ, ◌+◌, ◌≤◌, ◌<◌, ◌==◌, ◌||◌, nat_le, Bool, true, false, List, [], ◌∷◌, length, Option, Some, None, IsTrue, refl, sym, ◌∙◌, ap, subst, arith, nat_eq, if◌then◌else◌}
 use Rattle.std.proofs.lemmas.Bool.{and_parts, or_parts, eqb-true, leb-false, false≢true}
 use Rattle.std.specs.List.{AllByRecursion}
 use Rattle.std.specs.Prelude.{filter}
@@ -48,46 +48,49 @@ none-before name c named h =
     absurd (omega arith))
     c.sequence h.cycles
 
-fit-new_reign : (name : Name) (c : Contents) → name ≡ site_name c.instance → reign_limit c ≡ None → IsFitContents c
-    → IsFitReign name (next_stamp name c) FIRST_SERIALS (with_reign name (opened c))
-fit-new_reign name c named none h =
+fit-new_reign : (name : Name) (broken : List ℕ) (c : Contents) → name ≡ site_name c.instance → reign_limit c ≡ None → IsFitContents c
+    → IsFitReign name (next_stamp name c) FIRST_SERIALS (with_reign name (opened broken c))
+fit-new_reign name broken c named none h =
+    let there : Contents = opened broken c in
     let cut = cycle-cut c.instance (length c.sequence) (generation c.instance + 1) in
-    let drawn = cycle-reign (opened c).instance (next_reign name (opened c)) in
+    let drawn = cycle-reign there.instance (next_reign name there) in
     record {
       root = refl;
       cycle = omega arith;
-      room = room-reign (opened c).instance (next_reign name (opened c)) (room-less c.instance (length c.sequence) (generation c.instance + 1) (fewer c none));
+      room = room-reign there.instance (next_reign name there) (room-less c.instance (length c.sequence) (generation c.instance + 1) (fewer c none));
       updaters = refl;
       next = none-before name c named h;
     }
 
 -- the contents that a START leaves
-fit-begun : (name : Name) (o : Option Site) (c : Contents) → is_site_named name o ≡ true → reign_limit c ≡ None → IsFitContents c → IsNamedSo o c
-    → IsFitContents (with_reign name (opened c)) × IsNamedSo o (with_reign name (opened c)) × IsFitSite (in_new_state (Primary (next_stamp name c) FIRST_SERIALS) o) (with_reign name (opened c))
-fit-begun name None c is none h named = absurd (false≢true is)
-fit-begun name (Some site) c is none h named =
+fit-begun : (name : Name) (broken : List ℕ) (o : Option Site) (c : Contents) → is_site_named name o ≡ true → reign_limit c ≡ None → IsFitContents c → IsNamedSo o c
+    → IsFitContents (with_reign name (opened broken c)) × IsNamedSo o (with_reign name (opened broken c)) × IsFitSite (in_new_state (Primary (next_stamp name c) FIRST_SERIALS) o) (with_reign name (opened broken c))
+fit-begun name broken None c is none h named = absurd (false≢true is)
+fit-begun name broken (Some site) c is none h named =
     let same : site.name ≡ name = names_same site.name name is in (
-      fit-reign name (opened c) (fit-opened c h),
-      named ∙ sym (name-reign name (opened c) ∙ name-cut c),
-      subst (λ (n : Name). IsFitReign n (next_stamp name c) FIRST_SERIALS (with_reign name (opened c))) (sym same) (fit-new_reign name c (sym same ∙ named) none h),
+      fit-reign name (opened broken c) (fit-opened broken c h),
+      named ∙ sym (name-reign name (opened broken c) ∙ name-cut broken c),
+      subst (λ (n : Name). IsFitReign n (next_stamp name c) FIRST_SERIALS (with_reign name (opened broken c))) (sym same) (fit-new_reign name broken c (sym same ∙ named) none h),
     )
 
 pub fit-starts : (name : Name) (old new : Place) → is_site_named name old.site ≡ true → (IsTrue old.told → reign_limit old.now ≡ None) → IsFitPlace old
     → StartsPrimary name old new → IsFitPlace new
 fit-starts name old new is none h r =
-    fit-becomes (Primary (next_stamp name r.read) FIRST_SERIALS) (with_reign name (opened r.read)) old new
-    (λ t. subst (λ (c : Contents). IsFitContents (with_reign name (opened c)) × IsNamedSo old.site (with_reign name (opened c)) × IsFitSite (in_new_state (Primary (next_stamp name c) FIRST_SERIALS) old.site) (with_reign name (opened c)))
-    (sym (r.as_before t)) (fit-begun name old.site old.now is (none t) (h.now t) (h.named_now t)))
+    fit-becomes (Primary (next_stamp name r.read) FIRST_SERIALS) (with_reign name (opened r.broken r.read)) old new
+    (λ t. subst (λ (c : Contents). IsFitContents (with_reign name (opened r.broken c)) × IsNamedSo old.site (with_reign name (opened r.broken c)) × IsFitSite (in_new_state (Primary (next_stamp name c) FIRST_SERIALS) old.site) (with_reign name (opened r.broken c)))
+    (sym (r.as_before t)) (fit-begun name r.broken old.site old.now is (none t) (h.now t) (h.named_now t)))
     r.becomes
 
 pub fit-may_begin_any : (name : Name) (old : Place) (o : Contents) → IsFitPlace old → IsTrue old.told → MayBeginAny name old o → IsFitContents o × IsNamedSo old.site o
 fit-may_begin_any name old o h t m =
-    (fit-may_begin name m.0 o (h.outcomes t m.0 m.1) m.2, named-same old.site m.0 o (name-may_begin name m.0 o m.2) (h.named t m.0 m.1))
+    let broken : List ℕ = old.left.broken in
+    (fit-may_begin name broken m.0 o (h.outcomes t m.0 m.1) m.2, named-same old.site m.0 o (name-may_begin name broken m.0 o m.2) (h.named t m.0 m.1))
 
 pub fit-start_fails : (name : Name) (k : ℕ) (old new : Place) → IsFitPlace old → Fails k (MayBeginAny name old) old new → IsFitPlace new
 fit-start_fails name k old new h r = fit-fails k (MayBeginAny name old) old new (λ t o m. fit-may_begin_any name old o h t m) r
 
 -- a START that is refused past the limit of reigns
-pub fit-refused : (old new : Place) → IsFitPlace old → Becomes Down (opened old.now) old new → IsFitPlace new
+pub fit-refused : (old new : Place) → IsFitPlace old → Becomes Down (opened old.left.broken old.now) old new → IsFitPlace new
 fit-refused old new h r =
-    fit-stops (opened old.now) old new (λ t. (fit-opened old.now (h.now t), named-same old.site old.now (opened old.now) (name-cut old.now) (h.named_now t))) r
+    let broken : List ℕ = old.left.broken in
+    fit-stops (opened broken old.now) old new (λ t. (fit-opened broken old.now (h.now t), named-same old.site old.now (opened broken old.now) (name-cut broken old.now) (h.named_now t))) r

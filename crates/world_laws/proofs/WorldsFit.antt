@@ -3,21 +3,21 @@ use Rattle.std.proofs.Common.{◌≡◌, inl, inr, ℕ, zero, suc, Bool, true, f
 use Rattle.std.proofs.lemmas.Bool.{false≢true}
 use Rattle.std.specs.List.{AllByRecursion, list_all}
 use Rattle.global_defs.specs.Jobs.{Job}
-use Rattle.command_defs.specs.Commands.{Name, Command, Create, Attach, StartPrimary, Run, Stop, Fuse, Crash, Extract, Zwrite, Show}
+use Rattle.command_defs.specs.Commands.{Name, Command, Create, Attach, Map, StartPrimary, Run, Stop, Fuse, Crash, Extract, Zwrite, Show, Print}
 use Rattle.command_defs.specs.Sections.{IsFormed, is_updater}
 use Rattle.world_defs.specs.Lists.{Along, At}
 use Rattle.world_defs.specs.World.{State, Down, Primary, Failed, Site, Contents, Place, World, Kept, is_site_named, place_of, next_of, at_place, site_of}
-use Rattle.world_defs.specs.Answers.{Cause, NoSite, Stopped, Exists, NoDisk, NotEmpty, Empty, Running, NotRunning, NotPrimary, NotSimulated, GenLimit, ReignLimit, Refusal, Answer, Done, Refused, DiskFault, NotAFile, Section, Ran}
+use Rattle.world_defs.specs.Answers.{Cause, NoSite, Stopped, Exists, NoDisk, NotEmpty, Empty, Running, NotRunning, NotPrimary, NotSimulated, Started, NoRegion, TwiceMapped, NoFile, GenLimit, ReignLimit, Refusal, Answer, Done, Refused, DiskFault, NotAFile, Section, Ran, Typed}
 use Rattle.world_defs.specs.Refusals.{first, refused_with, generation_limit, reign_limit, limited, early, late, or_else, refusal}
-use Rattle.world_defs.specs.Rows.{Becomes, Fails, FailsBefore, OldOnes, Creates, MayCreate, Attaches, StartsPrimary, MayBeginAny, Crashes, opened, turn_of}
+use Rattle.world_defs.specs.Rows.{Becomes, Fails, FailsBefore, FailsUnchanged, OldOnes, Creates, MayCreate, Attaches, Maps, MayMapAny, StartsPrimary, MayBeginAny, Crashes, opened, turn_of}
 use Rattle.world_defs.specs.Step as step
-use Rattle.world_defs.specs.Step.{Unchanged, AtPlace, OnSite, Row, SectionRow, Faulted, KeptUnknown, Damaged, MayRefuse, StartRefused, RefusedLeaves, Means, Step, RunMayLeave, RunMayLeaveOn, MayLeave, subject, is_at, Leaves, LeftAt, CutOff}
+use Rattle.world_defs.specs.Step.{Unchanged, AtPlace, OnSite, Row, SectionRow, TypedRow, Faulted, KeptUnknown, Damaged, MayRefuse, StartRefused, RefusedLeaves, Means, Step, RunMayLeave, RunMayLeaveOn, MayLeave, subject, is_at, Leaves, LeftAt, CutOff}
 use Rattle.world_defs.specs.Runs.{Told, Runs, commands}
 use Rattle.world_defs.specs.Fit.{IsFitContents, IsFitPlace, IsFit}
 use Rattle.world_laws.specs.Again.{HasFitOutcomes}
 use Rattle.world_laws.proofs.Lists.{passes}
 use Rattle.world_laws.proofs.ContentsFit.{fit-created}
-use Rattle.world_laws.proofs.PlacesFit.{fit-kept, fit-unknown, fit-stops, fit-creates, fit-create_fails, fit-attaches, fit-attach_fails, fit-crashes}
+use Rattle.world_laws.proofs.PlacesFit.{fit-kept, fit-unknown, fit-stops, fit-creates, fit-create_fails, fit-attaches, fit-attach_fails, fit-maps, fit-map_fails, fit-may_map_any, fit-fails_unchanged, fit-crashes}
 use Rattle.world_laws.proofs.ReignsFit.{fit-starts, fit-start_fails, fit-may_begin_any, fit-refused}
 use Rattle.world_laws.proofs.SectionsFit.{fit-runs, fit-front, goes, reign-at}
 use Rattle.world_laws.proofs.SerialRuns.{updaters-front}
@@ -80,6 +80,8 @@ may_start w name p none there t =
 fit-done : (w m : World) (c : Command) → IsFit w → refusal w c ≡ None → Row w c m → IsFit m
 fit-done w m (Create name regions) fit none h = fit-at_place (next_of w) (Creates name regions) w m (λ p q there f r. fit-creates name regions p q r) h fit
 fit-done w m Attach fit none h = fit-at_place (next_of w) (Attaches w) w m (λ p q there f r. fit-attaches w p q f r) h fit
+fit-done w m (Map name region pattern) fit none h =
+    fit-at_place (place_of w name) (Maps region pattern) w m (λ p q there f r. fit-maps region pattern p q f r) h fit
 fit-done w m (StartPrimary name) fit none h =
     fit-at_place (place_of w name) (StartsPrimary name) w m
     (λ p q there f r. fit-starts name p q (named-there w name (place_of w name) p refl there) (may_start w name p none there) f r) h fit
@@ -91,10 +93,12 @@ fit-done w m (Crash name pick) fit none h = fit-at_place (place_of w name) Crash
 fit-done w m (Extract name from) fit none h = fit-unchanged w m h fit
 fit-done w m (Zwrite name top) fit none h = fit-unchanged w m h fit
 fit-done w m (Show name) fit none h = fit-unchanged w m h fit
+fit-done w m (Print name g) fit none h = absurd h
 
 fit-section : (w m : World) (c : Command) (s : Section) → IsFormed c → IsFit w → SectionRow w c s m → IsFit m
 fit-section w m (Create name regions) s formed fit h = absurd h
 fit-section w m Attach s formed fit h = absurd h
+fit-section w m (Map name region pattern) s formed fit h = absurd h
 fit-section w m (StartPrimary name) s formed fit h = absurd h
 fit-section w m (Run name jobs order) s formed fit h =
     fit-at_place (place_of w name) (step.Runs name jobs order s) w m (λ p q there f r. fit-runs name jobs order s p q formed.2 f r) h fit
@@ -104,11 +108,28 @@ fit-section w m (Crash name pick) s formed fit h = absurd h
 fit-section w m (Extract name from) s formed fit h = absurd h
 fit-section w m (Zwrite name top) s formed fit h = absurd h
 fit-section w m (Show name) s formed fit h = absurd h
+fit-section w m (Print name g) s formed fit h = absurd h
+
+fit-typed : (w m : World) (c : Command) (text : List ℕ) → IsFit w → TypedRow w c text m → IsFit m
+fit-typed w m (Create name regions) text fit h = absurd h
+fit-typed w m Attach text fit h = absurd h
+fit-typed w m (Map name region pattern) text fit h = absurd h
+fit-typed w m (StartPrimary name) text fit h = absurd h
+fit-typed w m (Run name jobs order) text fit h = absurd h
+fit-typed w m (Stop name) text fit h = absurd h
+fit-typed w m (Fuse name calls) text fit h = absurd h
+fit-typed w m (Crash name pick) text fit h = absurd h
+fit-typed w m (Extract name from) text fit h = absurd h
+fit-typed w m (Zwrite name top) text fit h = absurd h
+fit-typed w m (Show name) text fit h = absurd h
+fit-typed w m (Print name g) text fit h = fit-unchanged w m h.1 fit
 
 fit-faulted : (w m : World) (c : Command) (k : ℕ) → IsFit w → Faulted w c k m → IsFit m
 fit-faulted w m (Create name regions) k fit h =
     fit-at_place (next_of w) (λ old new. FailsBefore k (MayCreate name regions old) old new) w m (λ p q there f r. fit-create_fails name regions k p q f r) h fit
 fit-faulted w m Attach k fit h = fit-at_place (next_of w) (λ old new. FailsBefore k (OldOnes old) old new) w m (λ p q there f r. fit-attach_fails k p q f r) h fit
+fit-faulted w m (Map name region pattern) k fit h =
+    fit-at_place (place_of w name) (λ old new. Fails k (MayMapAny region pattern old) old new) w m (λ p q there f r. fit-map_fails region pattern k p q f r) h fit
 fit-faulted w m (StartPrimary name) k fit h =
     fit-at_place (place_of w name) (λ old new. Fails k (MayBeginAny name old) old new) w m (λ p q there f r. fit-start_fails name k p q f r) h fit
 fit-faulted w m (Run name jobs order) k fit h = absurd h
@@ -118,6 +139,7 @@ fit-faulted w m (Crash name pick) k fit h = absurd h
 fit-faulted w m (Extract name from) k fit h = absurd h
 fit-faulted w m (Zwrite name top) k fit h = absurd h
 fit-faulted w m (Show name) k fit h = absurd h
+fit-faulted w m (Print name g) k fit h = fit-at_place (place_of w name) (FailsUnchanged k) w m (λ p q there f r. fit-fails_unchanged k p q f r) h fit
 
 -- a place whose files aren't known stays as it is
 fit-unknown_at : (o : Option ℕ) (w m : World) → AtPlace o KeptUnknown w m → IsFit w → IsFit m
@@ -126,6 +148,7 @@ fit-unknown_at o w m h fit = fit-at_place o KeptUnknown w m (λ p q there f r. f
 fit-damaged : (w m : World) (c : Command) → IsFit w → Damaged w c m → IsFit m
 fit-damaged w m (Create name regions) fit h = fit-unknown_at (next_of w) w m h fit
 fit-damaged w m Attach fit h = fit-unknown_at (next_of w) w m h fit
+fit-damaged w m (Map name region pattern) fit h = fit-unknown_at (place_of w name) w m h fit
 fit-damaged w m (StartPrimary name) fit h = fit-unknown_at (place_of w name) w m h fit
 fit-damaged w m (Run name jobs order) fit h = absurd h
 fit-damaged w m (Stop name) fit h = absurd h
@@ -134,10 +157,12 @@ fit-damaged w m (Crash name pick) fit h = absurd h
 fit-damaged w m (Extract name from) fit h = absurd h
 fit-damaged w m (Zwrite name top) fit h = absurd h
 fit-damaged w m (Show name) fit h = absurd h
+fit-damaged w m (Print name g) fit h = absurd h
 
 fit-may_refuse : (w m : World) (c : Command) (r : Refusal) → IsFit w → MayRefuse w c r m → IsFit m
 fit-may_refuse w m (Create name regions) r fit h = fit-unknown_at (next_of w) w m h.1 fit
 fit-may_refuse w m Attach r fit h = fit-unknown_at (next_of w) w m h.1 fit
+fit-may_refuse w m (Map name region pattern) r fit h = fit-unknown_at (place_of w name) w m h.2 fit
 fit-may_refuse w m (StartPrimary name) r fit h = fit-unknown_at (place_of w name) w m h.2 fit
 fit-may_refuse w m (Run name jobs order) r fit h = absurd h
 fit-may_refuse w m (Stop name) r fit h = absurd h
@@ -146,10 +171,11 @@ fit-may_refuse w m (Crash name pick) r fit h = absurd h
 fit-may_refuse w m (Extract name from) r fit h = absurd h
 fit-may_refuse w m (Zwrite name top) r fit h = absurd h
 fit-may_refuse w m (Show name) r fit h = absurd h
+fit-may_refuse w m (Print name g) r fit h = fit-unknown_at (place_of w name) w m h.1 fit
 
 fit-start_refused : (w m : World) (name : Name) (cause : Cause) → IsFit w → StartRefused name cause w m → IsFit m
 fit-start_refused w m name ReignLimit fit h =
-    fit-at_place (place_of w name) (λ old new. Becomes Down (opened old.now) old new) w m (λ p q there f r. fit-refused p q f r) h fit
+    fit-at_place (place_of w name) (λ old new. Becomes Down (opened old.left.broken old.now) old new) w m (λ p q there f r. fit-refused p q f r) h fit
 fit-start_refused w m name NoSite fit h = fit-unchanged w m h fit
 fit-start_refused w m name (Stopped k) fit h = fit-unchanged w m h fit
 fit-start_refused w m name Exists fit h = fit-unchanged w m h fit
@@ -160,12 +186,17 @@ fit-start_refused w m name Running fit h = fit-unchanged w m h fit
 fit-start_refused w m name NotRunning fit h = fit-unchanged w m h fit
 fit-start_refused w m name NotPrimary fit h = fit-unchanged w m h fit
 fit-start_refused w m name NotSimulated fit h = fit-unchanged w m h fit
+fit-start_refused w m name Started fit h = fit-unchanged w m h fit
+fit-start_refused w m name (NoRegion region) fit h = fit-unchanged w m h fit
+fit-start_refused w m name TwiceMapped fit h = fit-unchanged w m h fit
+fit-start_refused w m name NoFile fit h = fit-unchanged w m h fit
 fit-start_refused w m name GenLimit fit h = fit-unchanged w m h fit
 
 fit-refused_so : (w m : World) (c : Command) (cause : Cause) → IsFit w → RefusedLeaves w c cause m → IsFit m
 fit-refused_so w m (StartPrimary name) cause fit h = fit-start_refused w m name cause fit h
 fit-refused_so w m (Create name regions) cause fit h = fit-unchanged w m h fit
 fit-refused_so w m Attach cause fit h = fit-unchanged w m h fit
+fit-refused_so w m (Map name region pattern) cause fit h = fit-unchanged w m h fit
 fit-refused_so w m (Run name jobs order) cause fit h = fit-unchanged w m h fit
 fit-refused_so w m (Stop name) cause fit h = fit-unchanged w m h fit
 fit-refused_so w m (Fuse name calls) cause fit h = fit-unchanged w m h fit
@@ -173,6 +204,7 @@ fit-refused_so w m (Crash name pick) cause fit h = fit-unchanged w m h fit
 fit-refused_so w m (Extract name from) cause fit h = fit-unchanged w m h fit
 fit-refused_so w m (Zwrite name top) cause fit h = fit-unchanged w m h fit
 fit-refused_so w m (Show name) cause fit h = fit-unchanged w m h fit
+fit-refused_so w m (Print name g) cause fit h = fit-unchanged w m h fit
 
 fit-means : (w m : World) (c : Command) (a : Answer) → IsFormed c → IsFit w → Means w c a m → IsFit m
 fit-means w m c Done formed fit h = fit-done w m c fit h.0 h.1
@@ -181,6 +213,7 @@ fit-means w m c (Refused r) formed fit (inr h) = fit-may_refuse w m c r fit h.1
 fit-means w m c (DiskFault k) formed fit h = fit-faulted w m c k fit h.1
 fit-means w m c (NotAFile file offset) formed fit h = fit-damaged w m c fit h.1
 fit-means w m c (Ran s) formed fit h = fit-section w m c s formed fit h.1
+fit-means w m c (Typed text) formed fit h = fit-typed w m c text fit h.1
 
 pub fit-step : (w m : World) (c : Command) (answers : List Answer) → IsFormed c → IsFit w → Step w c answers m → IsFit m
 fit-step w m c [] formed fit h = absurd h
@@ -211,6 +244,7 @@ run_may_leave_on (Some site) jobs order p o is updaters f t h = run_may_leave si
 may_leave : (c : Command) (p : Place) (o : Contents) → IsFormed c → IsFitPlace p → IsTrue p.told → MayLeave c p o → IsFitContents o
 may_leave (Create name regions) p o formed f t h = subst IsFitContents (sym h) (fit-created name regions)
 may_leave Attach p o formed f t h = absurd h
+may_leave (Map name region pattern) p o formed f t h = (fit-may_map_any region pattern p o f t h).0
 may_leave (StartPrimary name) p o formed f t h = (fit-may_begin_any name p o f t h).0
 may_leave (Run name jobs order) p o formed f t h = run_may_leave_on p.site jobs order p o refl formed.2 f t h
 may_leave (Stop name) p o formed f t h = absurd h
@@ -219,6 +253,7 @@ may_leave (Crash name pick) p o formed f t h = absurd h
 may_leave (Extract name from) p o formed f t h = absurd h
 may_leave (Zwrite name top) p o formed f t h = absurd h
 may_leave (Show name) p o formed f t h = absurd h
+may_leave (Print name g) p o formed f t h = absurd h
 
 leaves : (here : Bool) (c : Command) (p : Place) (o : Contents) → IsFormed c → IsFitPlace p → IsTrue p.told → Leaves here c p o → IsFitContents o
 leaves true c p o formed f t (inl old) = f.outcomes t o old

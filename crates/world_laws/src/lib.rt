@@ -6,3 +6,4 @@
 
 pub mod beginnings;
 pub mod fitness;
+pub mod leftovers;

@@ -15,7 +15,7 @@ use Rattle.site_files.specs.declared.error.FilesError.TheVariants.{NotAFile, Gen
 use Rattle.site_files.specs.Loading.{IsDirectory, last_of}
 use Rattle.site_files.specs.Reading.{HaveJournals, AreAllDurable, AreUnbegun, AreUnbegunDurable}
 use Rattle.site_files.proofs.Errors.{handed_on, causes_on}
-use Rattle.site_files.proofs.WhatIsRead.{no_instance, limit_read, no_directory, no_journals, no_next, may_be_opened, was_read}
+use Rattle.site_files.proofs.WhatIsRead.{no_instance, no_late_instance, limit_read, no_directory, no_late_directory, not_late, no_journals, no_next, may_be_opened, was_read}
 use Rattle.site_files.proofs.reading.read_site.Goals as goal
 
 pub returns-in_err-log-clause-outside : goal.returns-in_err-log-clause-outside
@@ -146,3 +146,33 @@ returns-clause-read g c =
     (told_at u.content v.content (AreAllDurable w n g1) first got.durable)
     (told_at u.content w.content (AreUnbegun n (g1 + 1)) second c.in_ok-see_regions.ensures.next)
     (told_at u.content w.content (AreUnbegunDurable x n (g1 + 1)) second c.in_ok-see_regions.ensures.durable)
+
+pub returns-in_err-log-clause-late : goal.returns-in_err-log-clause-late
+returns-in_err-log-clause-late g c =
+    let p = err_from_is_err_and c.from_residual.result c.from_residual.ensures.1 in
+    rw (p.1, p.2) (λ file offset is.
+    no_late_instance (g.D.Disk.disk c.args.disk.now).content (c.in_err-log.ensures.outside file offset (handed_on c.in_err-log.field-0.0 (NotAFile file offset) is)))
+
+pub returns-in_err-plan-clause-late : goal.returns-in_err-plan-clause-late
+returns-in_err-plan-clause-late g c =
+    let p = err_from_is_err_and c.from_residual-in_err-plan.result c.from_residual-in_err-plan.ensures.1 in
+    rw (p.1, p.2) (λ file offset is.
+    no_late_directory (g.D.Disk.disk c.args.disk.now).content c.in_ok-log.log.records c.in_ok-log.ensures.reads
+    (subst (λ (k : List InstanceRecord). IsDirectory k None) c.as_slice.ensures (c.in_err-plan.ensures.outside file offset (handed_on c.in_err-plan.field-0.0 (NotAFile file offset) is))))
+
+pub returns-in_err-read-clause-late : goal.returns-in_err-read-clause-late
+returns-in_err-read-clause-late g c =
+    let newest : c.in_ok-plan.plan.newest ≡ generation c.in_ok-log.log.records = c.in_ok-plan.ensures.newest ∙ ap generation c.as_slice.ensures in
+    λ file offset is. not_late (g.D.Disk.disk c.args.disk.now).content c.in_ok-log.log.records c.in_ok-log.ensures.reads c.in_ok-plan.plan.newest newest c.in_ok-plan.ensures.low
+
+pub returns-in_err-see_regions-clause-late : goal.returns-in_err-see_regions-clause-late
+returns-in_err-see_regions-clause-late g c =
+    let newest : c.in_ok-plan.plan.newest ≡ generation c.in_ok-log.log.records = c.in_ok-plan.ensures.newest ∙ ap generation c.as_slice.ensures in
+    λ file offset is. not_late (g.D.Disk.disk c.args.disk.now).content c.in_ok-log.log.records c.in_ok-log.ensures.reads c.in_ok-plan.plan.newest newest c.in_ok-plan.ensures.low
+
+pub returns-clause-counted : goal.returns-clause-counted
+returns-clause-counted g c =
+    let rs = c.in_ok-log.log.records in
+    let directory = subst (λ (k : List InstanceRecord). IsDirectory k (Some c.in_ok-plan.plan.directory)) c.as_slice.ensures c.in_ok-plan.ensures.directory in
+    let many : c.in_ok-plan.plan.regions ≡ length (regions rs) = c.in_ok-plan.ensures.regions ∙ ap (λ (d : Mapping). d.regions) directory.2 in
+    c.in_ok-read.ensures.many_last ∙ many

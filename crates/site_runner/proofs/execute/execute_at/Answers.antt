@@ -43,8 +43,8 @@ returns-in-Zwrite-clause-done g c =
     (subst (λ (n : Name). ExecutesHere view (Zwrite n c.in-Zwrite.top) old (record { disk = old.disk; site = Some s }) c.args.text.now c.zwrite.new.text) (named_site old s c.in-Zwrite.site c.in-Some.is called)
     (executes_here view (Zwrite s.name c.in-Zwrite.top) old old.disk s s c.args.text.now c.zwrite.new.text c.in-Some.is (zwrites_at (view old.disk) s c.in-Zwrite.top c.args.text.now c.zwrite.new.text h))))
 
-pub returns-clause-done : goal.returns-clause-done
-returns-clause-done g c =
+pub returns-in-Show-clause-done : goal.returns-in-Show-clause-done
+returns-in-Show-clause-done g c =
     let view = g.D.Disk.disk in
     let old = c.args.slot.now in
     let s = c.in-Some.site in

@@ -45,7 +45,7 @@ returns-in-Ok-clause-done g c =
     let w = g.D.Disk.disk c.run.new.disk in
     let e = c.in-Ok.ensures in
     on_ok c.write_numbered-in-Ok.result _ _ c.write_numbered-in-Ok.ensures (λ t.
-    ran v w c.args.site.now c.in-Primary.reign c.run.new.self c.args.jobs c.args.order.now c.args.text.now c.run.new.text _ c.requires.whole c.in-Primary.is e.stamp e.simulated e.later e.done
+    ran v w c.args.site.now c.in-Primary.reign c.run.new.self c.args.jobs c.args.order.now c.args.text.now c.run.new.text _ (g.met.D.Disk.lawful c.run.new.disk) c.requires.whole c.in-Primary.is e.stamp e.simulated e.later e.done
     (t ∙ ap (λ (n : List ℕ). c.run.new.text ++ line n (codes "AT " ++ decimal c.sequence_length-length.result)) c.as_slice-in-Ok.ensures
     ∙ ap (λ (k : ℕ). c.run.new.text ++ line c.args.site.now.name (codes "AT " ++ decimal k)) c.sequence_length-length.ensures))
 

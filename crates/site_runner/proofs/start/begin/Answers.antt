@@ -18,7 +18,7 @@ pub returns-in-Ok-clause-done : goal.returns-in-Ok-clause-done
 returns-in-Ok-clause-done g c =
     let e = c.in-Ok.ensures in
     let is_from : c.sequence_length-from.result + 1 ≡ length c.args.opened.entries.items + 1 = ap (λ (k : ℕ). k + 1) (c.sequence_length-from.ensures ∙ ap (λ (l : List _). length l) e.entries) in
-    reign_starts (g.D.Disk.disk c.args.disk.now) (g.D.Disk.disk c.start_reign.new.disk) c.args.site.now c.args.opened c.start_reign.new.self c.in-Ok.stamp _ (c.sequence_length-from.result + 1) c.args.text.now _ refl
+    reign_starts (g.D.Disk.disk c.args.disk.now) (g.D.Disk.disk c.start_reign.new.disk) c.args.site.now c.args.opened c.start_reign.new.self c.in-Ok.stamp _ (c.sequence_length-from.result + 1) c.args.text.now _ (g.met.D.Disk.lawful c.start_reign.new.disk) refl
     e.begun e.stamp e.remembered e.room e.simulated e.later is_from
     (named _ _ c.as_slice.ensures c.in_ok-write_primary-in-Ok.ensures)
 
@@ -29,7 +29,7 @@ returns-in-Err-ReignLimit-clause-done g c =
     let kept = e.kept is in
     on_ok c.write_line.result _ _ c.write_line.ensures (λ t.
     subst (λ (d : g.row.D.Denot). BeginsAt (g.D.Disk.disk c.args.disk.now) c.args.opened c.args.site.now (g.D.Disk.disk d) c.args.site.now c.args.text.now c.write_line.new.text) (sym kept.0)
-    (reign_limited (g.D.Disk.disk c.args.disk.now) c.args.site.now c.args.opened c.args.text.now _ (e.limit is)
+    (reign_limited (g.D.Disk.disk c.args.disk.now) c.args.site.now c.args.opened c.args.text.now _ (g.met.D.Disk.lawful c.args.disk.now) (e.limit is)
     (t ∙ ap (λ (n : List ℕ). c.args.text.now ++ line n (codes "REIGNLIMIT")) c.as_slice-in-Err-ReignLimit.ensures)))
 
 pub returns-in-Err-ReignLimit-clause-cut_off : goal.returns-in-Err-ReignLimit-clause-cut_off

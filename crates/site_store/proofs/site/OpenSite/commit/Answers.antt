@@ -1,35 +1,73 @@
-use Rattle.std.proofs.Common.{refl}
+use Rattle.std.proofs.Common.{refl, ◌∙◌}
+use Rattle.journal_defs.specs.Instance.{generation}
 use Rattle.site_store.proofs.Committed as committed
+use Rattle.site_store.proofs.Standing.{still}
 use Rattle.site_store.proofs.site.OpenSite.commit.Goals as goal
 
-pub returns-in-Err-clause-any_moment : goal.returns-in-Err-clause-any_moment
-returns-in-Err-clause-any_moment g c y h o =
-    committed.commit_moments (g.D.Disk.disk c.args.disk.now) (g.D.Disk.disk c.prepare.new.disk) (g.D.Disk.disk c.append.new.disk) y h c.args.self.now c.prepare.new.self c.args.t.now (g.met.D.Disk.lawful c.prepare.new.disk)
-    (record { ready = c.requires.ready; enters = c.in_ok-number.ensures.enters; prepared = c.in_ok-number.ensures.prepared; state = c.prepare.ensures.state; same = c.prepare.ensures.same; moments = c.prepare.ensures.any_moment; stays = c.prepare.ensures.frame; then_stays = c.append.ensures.frame; then_moments = c.append.ensures.any_moment }) o
+pub returns-clause-any_moment : goal.returns-clause-any_moment
+returns-clause-any_moment g c y h o =
+    committed.commit_moments (g.D.Disk.disk c.args.disk.now) (g.D.Disk.disk c.prepare.new.disk) (g.D.Disk.disk c.append.new.disk) y h c.args.self.now c.prepare.new.self (g.met.D.Disk.lawful c.prepare.new.disk)
+    (record { ready = c.requires.ready; ready_after = c.prepare.ensures.ready; state = c.prepare.ensures.state; same = c.prepare.ensures.same; moments = c.prepare.ensures.any_moment; stays = c.prepare.ensures.frame }) c.append.ensures.any_moment o
 
-pub returns-in-Err-clause-stands : goal.returns-in-Err-clause-stands
-returns-in-Err-clause-stands g c y h o =
+pub returns-clause-stands : goal.returns-clause-stands
+returns-clause-stands g c y h o =
     committed.commit_stands (g.D.Disk.disk c.args.disk.now) (g.D.Disk.disk c.append.new.disk) y h (g.met.D.Disk.lawful c.append.new.disk)
-    (committed.commit_moments (g.D.Disk.disk c.args.disk.now) (g.D.Disk.disk c.prepare.new.disk) (g.D.Disk.disk c.append.new.disk) y h c.args.self.now c.prepare.new.self c.args.t.now (g.met.D.Disk.lawful c.prepare.new.disk)
-    (record { ready = c.requires.ready; enters = c.in_ok-number.ensures.enters; prepared = c.in_ok-number.ensures.prepared; state = c.prepare.ensures.state; same = c.prepare.ensures.same; moments = c.prepare.ensures.any_moment; stays = c.prepare.ensures.frame; then_stays = c.append.ensures.frame; then_moments = c.append.ensures.any_moment }) o)
+    (committed.commit_moments (g.D.Disk.disk c.args.disk.now) (g.D.Disk.disk c.prepare.new.disk) (g.D.Disk.disk c.append.new.disk) y h c.args.self.now c.prepare.new.self (g.met.D.Disk.lawful c.prepare.new.disk)
+    (record { ready = c.requires.ready; ready_after = c.prepare.ensures.ready; state = c.prepare.ensures.state; same = c.prepare.ensures.same; moments = c.prepare.ensures.any_moment; stays = c.prepare.ensures.frame }) c.append.ensures.any_moment o)
 
 pub returns-in-Ok-clause-any_moment : goal.returns-in-Ok-clause-any_moment
 returns-in-Ok-clause-any_moment g c y h o =
-    committed.commit_moments (g.D.Disk.disk c.args.disk.now) (g.D.Disk.disk c.prepare.new.disk) (g.D.Disk.disk c.append.new.disk) y h c.args.self.now c.prepare.new.self c.args.t.now (g.met.D.Disk.lawful c.prepare.new.disk)
-    (record { ready = c.requires.ready; enters = c.in_ok-number.ensures.enters; prepared = c.in_ok-number.ensures.prepared; state = c.prepare.ensures.state; same = c.prepare.ensures.same; moments = c.prepare.ensures.any_moment; stays = c.prepare.ensures.frame; then_stays = c.append.ensures.frame; then_moments = c.append.ensures.any_moment }) o
+    committed.commit_moments (g.D.Disk.disk c.args.disk.now) (g.D.Disk.disk c.prepare.new.disk) (g.D.Disk.disk c.append.new.disk) y h c.args.self.now c.prepare.new.self (g.met.D.Disk.lawful c.prepare.new.disk)
+    (record { ready = c.requires.ready; ready_after = c.prepare.ensures.ready; state = c.prepare.ensures.state; same = c.prepare.ensures.same; moments = c.prepare.ensures.any_moment; stays = c.prepare.ensures.frame }) c.append.ensures.any_moment o
 
 pub returns-in-Ok-clause-stands : goal.returns-in-Ok-clause-stands
 returns-in-Ok-clause-stands g c y h o =
     committed.commit_stands (g.D.Disk.disk c.args.disk.now) (g.D.Disk.disk c.append.new.disk) y h (g.met.D.Disk.lawful c.append.new.disk)
-    (committed.commit_moments (g.D.Disk.disk c.args.disk.now) (g.D.Disk.disk c.prepare.new.disk) (g.D.Disk.disk c.append.new.disk) y h c.args.self.now c.prepare.new.self c.args.t.now (g.met.D.Disk.lawful c.prepare.new.disk)
-    (record { ready = c.requires.ready; enters = c.in_ok-number.ensures.enters; prepared = c.in_ok-number.ensures.prepared; state = c.prepare.ensures.state; same = c.prepare.ensures.same; moments = c.prepare.ensures.any_moment; stays = c.prepare.ensures.frame; then_stays = c.append.ensures.frame; then_moments = c.append.ensures.any_moment }) o)
+    (committed.commit_moments (g.D.Disk.disk c.args.disk.now) (g.D.Disk.disk c.prepare.new.disk) (g.D.Disk.disk c.append.new.disk) y h c.args.self.now c.prepare.new.self (g.met.D.Disk.lawful c.prepare.new.disk)
+    (record { ready = c.requires.ready; ready_after = c.prepare.ensures.ready; state = c.prepare.ensures.state; same = c.prepare.ensures.same; moments = c.prepare.ensures.any_moment; stays = c.prepare.ensures.frame }) c.append.ensures.any_moment o)
 
 pub returns-in-Ok-clause-ready : goal.returns-in-Ok-clause-ready
 returns-in-Ok-clause-ready g c =
-    committed.ready_longer (g.D.Disk.disk c.args.disk.now) (g.D.Disk.disk c.prepare.new.disk) (g.D.Disk.disk c.append.new.disk) c.args.self.now c.prepare.new.self _ c.args.t.now
-    (record { commits = record { ready = c.requires.ready; enters = c.in_ok-number.ensures.enters; prepared = c.in_ok-number.ensures.prepared; state = c.prepare.ensures.state; same = c.prepare.ensures.same; moments = c.prepare.ensures.any_moment; stays = c.prepare.ensures.frame; then_stays = c.append.ensures.frame; then_moments = c.append.ensures.any_moment }; form = c.requires.form; reign = c.requires.reign; room = c.in_ok-check_room.ensures.fits; state = c.in-Ok.ensures.state; journal = c.in-Ok.ensures.ready; same = c.append.ensures.place; instance = refl; entries = refl; globals = refl; hardened = refl })
+    committed.ready_after (g.D.Disk.disk c.prepare.new.disk) (g.D.Disk.disk c.append.new.disk) c.prepare.new.self _ c.prepare.ensures.ready c.in-Ok.ensures.ready c.append.ensures.count c.append.ensures.frame refl refl
 
 pub returns-in-Ok-clause-done : goal.returns-in-Ok-clause-done
 returns-in-Ok-clause-done g c told y h o =
-    committed.open_longer (g.D.Disk.disk c.args.disk.now) (g.D.Disk.disk c.prepare.new.disk) (g.D.Disk.disk c.append.new.disk) told y h c.args.self.now c.prepare.new.self _ c.args.t.now
-    (record { commits = record { ready = c.requires.ready; enters = c.in_ok-number.ensures.enters; prepared = c.in_ok-number.ensures.prepared; state = c.prepare.ensures.state; same = c.prepare.ensures.same; moments = c.prepare.ensures.any_moment; stays = c.prepare.ensures.frame; then_stays = c.append.ensures.frame; then_moments = c.append.ensures.any_moment }; form = c.requires.form; reign = c.requires.reign; room = c.in_ok-check_room.ensures.fits; state = c.in-Ok.ensures.state; journal = c.in-Ok.ensures.ready; same = c.append.ensures.place; instance = refl; entries = refl; globals = refl; hardened = refl }) (g.met.D.Disk.lawful c.prepare.new.disk) (g.met.D.Disk.lawful c.append.new.disk) o
+    committed.open_longer (g.D.Disk.disk c.args.disk.now) (g.D.Disk.disk c.prepare.new.disk) (g.D.Disk.disk c.append.new.disk) told y h c.args.self.now c.prepare.new.self _ c.args.t.now c.in_ok-parts.parts
+    (record {
+      prepares = record { ready = c.requires.ready; ready_after = c.prepare.ensures.ready; state = c.prepare.ensures.state; same = c.prepare.ensures.same; moments = c.prepare.ensures.any_moment; stays = c.prepare.ensures.frame };
+      enters = c.in_ok-parts.ensures.enters;
+      are_parts = c.in_ok-parts.ensures.parts;
+      reign = c.requires.reign;
+      room = c.in_ok-check_room.ensures.fits;
+      journals = c.in-Ok.ensures.ready;
+      state = c.in-Ok.ensures.state;
+      count = c.append.ensures.count;
+      moments = c.append.ensures.any_moment;
+      stays = c.append.ensures.frame;
+      instance = refl;
+      layout = refl;
+      entries = refl;
+      globals = refl;
+      hardened = refl;
+    }) (g.met.D.Disk.lawful c.prepare.new.disk) (g.met.D.Disk.lawful c.append.new.disk) o
+
+pub returns-in_err-parts-clause-stays_open : goal.returns-in_err-parts-clause-stays_open
+returns-in_err-parts-clause-stays_open g c is told y h o =
+    committed.open_prepared (g.D.Disk.disk c.args.disk.now) (g.D.Disk.disk c.prepare.new.disk) told y h c.args.self.now c.prepare.new.self
+    (record { ready = c.requires.ready; ready_after = c.prepare.ensures.ready; state = c.prepare.ensures.state; same = c.prepare.ensures.same; moments = c.prepare.ensures.any_moment; stays = c.prepare.ensures.frame }) c.in_err-parts.ensures.kept (g.met.D.Disk.lawful c.prepare.new.disk) o
+
+pub returns-in-Ok-clause-still_told : goal.returns-in-Ok-clause-still_told
+returns-in-Ok-clause-still_told g c told =
+    still (g.D.Disk.disk c.prepare.new.disk) (g.D.Disk.disk c.append.new.disk) _ (c.append.ensures.frame (generation c.prepare.new.self.instance.records) c.prepare.ensures.ready.journals)
+    (still (g.D.Disk.disk c.args.disk.now) (g.D.Disk.disk c.prepare.new.disk) _ c.prepare.ensures.frame told)
+
+pub returns-in-Ok-clause-simulated : goal.returns-in-Ok-clause-simulated
+returns-in-Ok-clause-simulated g c = (c.append.ensures.frame (generation c.prepare.new.self.instance.records) c.prepare.ensures.ready.journals).simulated ∙ c.prepare.ensures.frame.simulated
+
+pub returns-clause-still_told : goal.returns-clause-still_told
+returns-clause-still_told g c told =
+    still (g.D.Disk.disk c.prepare.new.disk) (g.D.Disk.disk c.append.new.disk) _ (c.append.ensures.frame (generation c.prepare.new.self.instance.records) c.prepare.ensures.ready.journals)
+    (still (g.D.Disk.disk c.args.disk.now) (g.D.Disk.disk c.prepare.new.disk) _ c.prepare.ensures.frame told)
+
+pub returns-clause-simulated : goal.returns-clause-simulated
+returns-clause-simulated g c = (c.append.ensures.frame (generation c.prepare.new.self.instance.records) c.prepare.ensures.ready.journals).simulated ∙ c.prepare.ensures.frame.simulated

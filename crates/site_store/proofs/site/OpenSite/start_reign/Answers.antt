@@ -5,6 +5,7 @@ use Rattle.std.proofs.lemmas.Result.{err_from_is_err_and}
 use Rattle.gvn_model.specs.Reigns.{stamp_value, reign_value}
 use Rattle.site_store.specs.declared.error.SiteError.TheVariants as error
 use Rattle.site_store.proofs.Begun as reigning
+use Rattle.site_store.proofs.Standing.{still}
 use Rattle.site_store.proofs.site.OpenSite.start_reign.Goals as goal
 
 pub returns-in_err-reign-clause-limit : goal.returns-in_err-reign-clause-limit
@@ -44,12 +45,12 @@ returns-clause-stands g c x o =
 
 pub returns-clause-ready : goal.returns-clause-ready
 returns-clause-ready g c =
-    reigning.ready_begun (g.D.Disk.disk c.args.disk.now) (g.D.Disk.disk c.reign.new.disk) c.args.self.now _ (reign_value c.in_ok-reign.reign) c.requires.ready c.in-Ok.ensures.ready c.in-Ok.ensures.records refl c.reign.ensures.frame
+    reigning.ready_begun (g.D.Disk.disk c.args.disk.now) (g.D.Disk.disk c.reign.new.disk) c.args.self.now _ (reign_value c.in_ok-reign.reign) c.requires.ready c.requires.opened.created c.in-Ok.ensures.ready c.in-Ok.ensures.records refl refl c.reign.ensures.frame
 
 pub returns-clause-begun : goal.returns-clause-begun
 returns-clause-begun g c told x o =
     reigning.open_begun (g.D.Disk.disk c.args.disk.now) (g.D.Disk.disk c.reign.new.disk) told x c.args.self.now _ (reign_value c.in_ok-reign.reign) (g.met.D.Disk.lawful c.reign.new.disk)
-    (record { ready = c.requires.ready; past = c.requires.opened.no_reign_past; next = c.in_ok-reign.ensures.reign; stays = c.reign.ensures.frame; state = c.in-Ok.ensures.state; records = c.in-Ok.ensures.records }) refl refl refl refl o
+    (record { ready = c.requires.ready; created = c.requires.opened.created; past = c.requires.opened.no_reign_past; next = c.in_ok-reign.ensures.reign; stays = c.reign.ensures.frame; state = c.in-Ok.ensures.state; records = c.in-Ok.ensures.records }) refl refl refl refl o
 
 pub returns-clause-reign : goal.returns-clause-reign
 returns-clause-reign g c =
@@ -72,7 +73,7 @@ returns-in-Err-NotARecord g c = record {
   kept = λ is. absurd (cc is);
   any_moment = λ x o. reigning.moments_begun (g.D.Disk.disk c.args.disk.now) (g.D.Disk.disk c.reign.new.disk) x c.args.self.now (reign_value c.in_ok-reign.reign) c.requires.opened.no_reign_past c.in_ok-reign.ensures.reign c.reign.ensures.any_moment o;
   stands = λ x o. reigning.stands_begun (g.D.Disk.disk c.args.disk.now) (g.D.Disk.disk c.reign.new.disk) x (g.met.D.Disk.lawful c.reign.new.disk) (reigning.moments_begun (g.D.Disk.disk c.args.disk.now) (g.D.Disk.disk c.reign.new.disk) x c.args.self.now (reign_value c.in_ok-reign.reign) c.requires.opened.no_reign_past c.in_ok-reign.ensures.reign c.reign.ensures.any_moment o);
-  still_told = reigning.still (g.D.Disk.disk c.args.disk.now) (g.D.Disk.disk c.reign.new.disk) (Only INSTANCE) c.reign.ensures.frame;
+  still_told = still (g.D.Disk.disk c.args.disk.now) (g.D.Disk.disk c.reign.new.disk) (Only INSTANCE) c.reign.ensures.frame;
   simulated = c.reign.ensures.frame.simulated;
   later = c.reign.ensures.later;
   count = λ fault is. absurd (cc is);

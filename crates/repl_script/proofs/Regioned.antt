@@ -1,0 +1,64 @@
+-- Regions that are read one after another.
+use Rattle.std.proofs.Common.{◌≡◌, ℕ, suc, ◌+◌, ◌-◌, ◌<◌, ◌≤◌, ◌==◌, Bool, true, false, List, [], ◌∷◌, ◌++◌, length, map, sym, ap, ◌∙◌, inl, inr, arith}
+use Rattle.std.specs.Prelude.{Option, Some, None}
+use Rattle.std.specs.declared.result.Result.{Result}
+use Rattle.std.specs.declared.result.Result.TheVariants.{Ok, Err}
+use Rattle.command_defs.specs.Commands.{Region, with_images}
+use Rattle.std.proofs.lemmas.Bool.{cond-false}
+use Rattle.command_defs.specs.Parts.{column, followed, taken, ended, region_form}
+use Rattle.command_defs.specs.Forms.{regions_behind}
+use Rattle.command_defs.proofs.Orders.{chosen}
+use Rattle.command_defs.proofs.RegionForms.{behind_none, behind_full, behind_one}
+use Rattle.repl_script.specs.Commands.{region_value}
+use Rattle.repl_script.specs.Reads.{Tells}
+
+-- room for one more
+one_room : (count len : ℕ) (rest : List ℕ) (before slice : List (List ℕ × Bool)) (whole : Result (List Region) ℕ) → count < 8 → (length rest == 0) ≡ false → slice ≡ before
+    → regions_behind (8 - count) len rest (map region_value before) ≡ whole
+    → followed (taken (region_form (map region_value slice)) len rest) (λ region. regions_behind (8 - (count + 1)) len region.1 (map region_value before ++ with_images region.0 ∷ [])) ≡ whole
+one_room count len rest before slice whole low some same e =
+    let step = λ (region : List ℕ × List ℕ). regions_behind (8 - (count + 1)) len region.1 (map region_value before ++ with_images region.0 ∷ []) in
+    let room : suc (8 - (count + 1)) ≡ 8 - count = omega arith in
+    ap (λ (s : List (List ℕ × Bool)). followed (taken (region_form (map region_value s)) len rest) step) same
+    ∙ (sym (behind_one (8 - (count + 1)) len rest (map region_value before) some) ∙ (ap (λ (n : ℕ). regions_behind n len rest (map region_value before)) room ∙ e))
+
+-- a region more was read
+pub region_taken : (count len : ℕ) (rest part behind : List ℕ) (before slice new : List (List ℕ × Bool)) (whole : Result (List Region) ℕ) → count < 8 → (length rest == 0) ≡ false → slice ≡ before
+    → taken (region_form (map region_value slice)) len rest ≡ Ok (part, behind) → map region_value new ≡ map region_value before ++ with_images part ∷ []
+    → regions_behind (8 - count) len rest (map region_value before) ≡ whole → regions_behind (8 - (count + 1)) len behind (map region_value new) ≡ whole
+region_taken count len rest part behind before slice new whole low some same read added e =
+    let step = λ (region : List ℕ × List ℕ). regions_behind (8 - (count + 1)) len region.1 (map region_value before ++ with_images region.0 ∷ []) in
+    ap (regions_behind (8 - (count + 1)) len behind) added
+    ∙ (sym (ap (λ (r : Result (List ℕ × List ℕ) ℕ). followed r step) read) ∙ one_room count len rest before slice whole low some same e)
+
+-- a part was bad, or memory ran out
+pub region_bad : (count len : ℕ) (rest : List ℕ) (before slice : List (List ℕ × Bool)) (whole : Result (List Region) ℕ) (o : Option ℕ) → count < 8 → (length rest == 0) ≡ false → slice ≡ before
+    → Tells o (taken (region_form (map region_value slice)) len rest) → regions_behind (8 - count) len rest (map region_value before) ≡ whole → Tells o whole
+region_bad count len rest before slice whole None low some same told e = tt
+region_bad count len rest before slice whole (Some at) low some same told e =
+    let step = λ (region : List ℕ × List ℕ). regions_behind (8 - (count + 1)) len region.1 (map region_value before ++ with_images region.0 ∷ []) in
+    sym (one_room count len rest before slice whole low some same e) ∙ ap (λ (r : Result (List ℕ × List ℕ) ℕ). followed r step) told
+
+-- nothing more came
+pub regions_done : (count len : ℕ) (rest : List ℕ) (regions : List (List ℕ × Bool)) (whole : Result (List Region) ℕ) → (length rest == 0) ≡ true
+    → regions_behind (8 - count) len rest (map region_value regions) ≡ whole → whole ≡ Ok (map region_value regions)
+regions_done count len rest regions whole none e = sym e ∙ behind_none (8 - count) len rest (map region_value regions) none
+
+-- nothing is left where nothing more may come
+pub none_left : (len : ℕ) (rest : List ℕ) (x : Unit {0}) → ended len rest tt ≡ Ok x → (length rest == 0) ≡ true
+none_left len rest x e = elim (chosen (length rest == 0) (Ok tt) (Err (column len rest)) (Ok x) e) [
+  | inl h ↦ h.0
+  | inr h ↦ absurd (cc h.1)
+]
+
+-- a part too much
+pub region_too_much : (count len : ℕ) (rest : List ℕ) (regions : List (List ℕ × Bool)) (whole : Result (List Region) ℕ) (o : Option ℕ) → 8 ≤ count → Tells o (ended {X = Unit {0}} len rest tt)
+    → regions_behind (8 - count) len rest (map region_value regions) ≡ whole → Tells o whole
+region_too_much count len rest regions whole None full told e = tt
+region_too_much count len rest regions whole (Some at) full told e =
+    let room : 8 - count ≡ 0 = omega arith in
+    let bad : ended len rest (map region_value regions) ≡ Err at = elim (chosen {A = Result (Unit {0}) ℕ} (length rest == 0) (Ok tt) (Err (column len rest)) (Err at) told) [
+      | inl h ↦ absurd (cc h.1)
+      | inr h ↦ (let same : column len rest ≡ at = cc h.1 in cond-false (length rest == 0) (Ok (map region_value regions)) (Err (column len rest)) h.0 ∙ ap Err same)
+    ] in
+    sym e ∙ (ap (λ (n : ℕ). regions_behind n len rest (map region_value regions)) room ∙ (behind_full len rest (map region_value regions) ∙ bad))

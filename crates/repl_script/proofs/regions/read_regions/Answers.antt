@@ -1,0 +1,46 @@
+use Rattle.std.proofs.Common.{◌≡◌, ◌≤◌, ◌-◌, ℕ, true, List, [], ◌∷◌, ◌++◌, map, length, ◌∙◌, sym, ap}
+use Rattle.std.specs.Prelude.{IfOk, Bool}
+use Rattle.std.specs.List.{list_all, IsDistinct}
+use Rattle.std.specs.Str.{bytes_eq}
+use Rattle.std.specs.declared.result.Result.{Result}
+use Rattle.std.specs.declared.result.Result.TheVariants.{Ok, Err}
+use Rattle.command_defs.specs.Commands.{Region, with_images}
+use Rattle.command_defs.specs.Parts.{followed, taken, is_name, name_form}
+use Rattle.command_defs.specs.Forms.{MOST_REGIONS, regions_behind, regions_reading}
+use Rattle.command_defs.proofs.RegionForms.{regions_formed}
+use Rattle.repl_script.specs.Commands.{region_value}
+use Rattle.repl_script.specs.Reads.{Reads}
+use Rattle.repl_script.specs.declared.fault.Fault.{Fault}
+use Rattle.repl_script.proofs.regions.read_regions.Goals as goal
+
+-- what holds of regions that were read
+answered : (P : List Region → Type 0) (reading : Result (List Region) ℕ) (result : Result (List (List ℕ × Bool)) Fault) → ((regions : List Region) → reading ≡ Ok regions → P regions) → Reads (λ regions. map region_value regions) reading result → IfOk result (λ regions. P (map region_value regions))
+answered P reading (Ok regions) each h = each (map region_value regions) h
+answered P reading (Err fault) each h = tt
+
+-- regions behind the first one
+whole : (len : ℕ) (left part behind : List ℕ) (none one : List (List ℕ × Bool)) → none ≡ [] → taken name_form len left ≡ Ok (part, behind) → map region_value one ≡ map region_value none ++ with_images part ∷ []
+    → regions_behind 7 len behind (map region_value one) ≡ regions_reading len left
+whole len left part behind none one empty read added =
+    let step = λ (first : List ℕ × List ℕ). regions_behind (MOST_REGIONS - 1) len first.1 (with_images first.0 ∷ []) in
+    ap (regions_behind 7 len behind) (added ∙ ap (λ (rs : List (List ℕ × Bool)). map region_value rs ++ with_images part ∷ []) empty) ∙ sym (ap (λ (r : Result (List ℕ × List ℕ) ℕ). followed r step) read)
+
+pub returns-clause-names : goal.returns-clause-names
+returns-clause-names c =
+    let e = whole c.args.len c.args.left.now c.in_ok-first.first.part.now c.in_ok-first.first.behind.now c.new-regions.result c.add_region.new.regions c.new-regions.ensures c.in_ok-first.ensures.reading c.in_ok-add_region.ensures in
+    answered (λ rs. list_all (λ r. is_name r.name) rs ≡ true) _ c.more_regions.result (λ rs h. (regions_formed c.args.len c.args.left.now rs (sym e ∙ h)).0) c.more_regions.ensures
+
+pub returns-clause-some : goal.returns-clause-some
+returns-clause-some c =
+    let e = whole c.args.len c.args.left.now c.in_ok-first.first.part.now c.in_ok-first.first.behind.now c.new-regions.result c.add_region.new.regions c.new-regions.ensures c.in_ok-first.ensures.reading c.in_ok-add_region.ensures in
+    answered (λ rs. 1 ≤ length rs) _ c.more_regions.result (λ rs h. (regions_formed c.args.len c.args.left.now rs (sym e ∙ h)).1) c.more_regions.ensures
+
+pub returns-clause-few : goal.returns-clause-few
+returns-clause-few c =
+    let e = whole c.args.len c.args.left.now c.in_ok-first.first.part.now c.in_ok-first.first.behind.now c.new-regions.result c.add_region.new.regions c.new-regions.ensures c.in_ok-first.ensures.reading c.in_ok-add_region.ensures in
+    answered (λ rs. length rs ≤ 8) _ c.more_regions.result (λ rs h. (regions_formed c.args.len c.args.left.now rs (sym e ∙ h)).2) c.more_regions.ensures
+
+pub returns-clause-different : goal.returns-clause-different
+returns-clause-different c =
+    let e = whole c.args.len c.args.left.now c.in_ok-first.first.part.now c.in_ok-first.first.behind.now c.new-regions.result c.add_region.new.regions c.new-regions.ensures c.in_ok-first.ensures.reading c.in_ok-add_region.ensures in
+    answered (λ rs. IsDistinct bytes_eq (map (λ r. r.name) rs)) _ c.more_regions.result (λ rs h. (regions_formed c.args.len c.args.left.now rs (sym e ∙ h)).3) c.more_regions.ensures

@@ -1,0 +1,125 @@
+-- What the layout of a site that was found says of its regions and its patterns.
+use Rattle.std.proofs.Common.{◌≡◌, ℕ, ◌<◌, Bool, true, false, List, [], ◌∷◌, ◌++◌, length, map, take, None, Some, refl, sym, ◌∙◌, ap, subst, inl, inr, if◌then◌else◌}
+use Rattle.std.specs.Prelude.{Option, codes, IfSome}
+use Rattle.std.proofs.lemmas.Bool.{false≢true}
+use Rattle.std.specs.List.{list_any}
+use Rattle.std.proofs.lemmas.List.{length-map}
+use Rattle.std.proofs.Math.Seq.{take-length}
+use Rattle.disk_defs.specs.Disk.{Files, View}
+use Rattle.journal_defs.specs.Instance.{InstanceRecord, NamedMode, Create, regions}
+use Rattle.journal_defs.specs.Directory.{patterns}
+use Rattle.global_dir.specs.Directory.{is_mapped}
+use Rattle.command_defs.specs.Patterns.{ends_in_star, stem}
+use Rattle.command_defs.specs.Commands.{Name}
+use Rattle.site_store.specs.declared.layout.Layout.{Layout}
+use Rattle.site_store.specs.Finding.{HasLayout, IsFound}
+use Rattle.site_store.specs.Opening.{region_value}
+use Rattle.world_defs.specs.Lists.{first_where}
+use Rattle.world_defs.specs.World.{Contents, Place, nothing, is_made, same_name}
+use Rattle.world_defs.specs.Answers.{Started, NoRegion, TwiceMapped}
+use Rattle.world_defs.specs.Refusals.{is_written, region_number, twice_mapped}
+use Rattle.world_defs.specs.Output.{line}
+use Rattle.world_defs.specs.Ties.{IsSite, Stands}
+use Rattle.site_runner.specs.declared.slot.Site.{Site}
+use Rattle.site_runner.specs.Sites.{IsOf}
+use Rattle.site_runner.specs.Mapping.{IsSeenAt, IsUnmappedIn, MapsAt}
+use Rattle.site_runner.proofs.Looked.{same_self}
+use Rattle.site_runner.proofs.Ats.{some_both}
+use Rattle.site_runner.proofs.Seen.{reads_stand}
+use Rattle.site_runner.proofs.Patterns.{refused_started, refused_no_region, refused_twice}
+use Rattle.site_runner.proofs.Mapped.{map_refused}
+
+-- what was found on a disk that has these files
+abbrev pub FoundIn : Option Files → Option Layout → Type 0
+FoundIn o found = IfSome o (λ files. (c : Contents) → Stands files c → IsFound c found)
+
+pub found_again : (o n : Option Files) (r : Option Layout) (found : Layout) → n ≡ o → r ≡ Some found → FoundIn o r → FoundIn n (Some found)
+found_again o n r found e s h = subst (λ (x : Option Files). FoundIn x (Some found)) (sym e) (subst (λ (y : Option Layout). FoundIn o y) s h)
+
+-- where nothing was found there is no site
+pub none_found : (o : Option Files) (r : Option Layout) → r ≡ None → FoundIn o r → IfSome o (λ files. (c : Contents) → IsSite files c → ⊥)
+none_found None r e h = tt
+none_found (Some f) r e h = λ c site. (let n : c ≡ nothing = subst (λ (y : Option Layout). IsFound c y) e (h c (inr site)) in false≢true (sym (ap is_made n) ∙ site.made))
+
+pub nothing_there : (o : Option Files) → IfSome o (λ files. (c : Contents) → Stands files c → ⊥) → IfSome o (λ files. (c : Contents) → IsSite files c → ⊥)
+nothing_there None h = h
+nothing_there (Some f) h = λ c site. h c (inr site)
+
+-- a site of another name was found
+pub other_found : (o : Option Files) (found : Layout) (name : Name) → same_name found.name name ≡ false → FoundIn o (Some found) → IfSome o (λ files. (c : Contents) → IsSite files c → IsOf name c → ⊥)
+other_found None found name e h = h
+other_found (Some f) found name e h = λ c site of. (let l = (h c (inr site)).1 in false≢true (sym e ∙ ap (λ (n : Name). same_name n name) (l.name ∙ of.name) ∙ same_self name))
+
+layout_at : (w : View) (s : Site) (p : Place) (found : Layout) → FoundIn w.content (Some found) → IsSeenAt w s p → p.told ≡ true → HasLayout p.now.instance found
+layout_at w s p found f h sure = let here = some_both w.content _ _ (h.reads sure) f in (here.2 p.now (reads_stand here.0 p.now p.left here.1)).1
+
+-- the regions that the directory counts are all of them
+pub regions_found : (rs : List InstanceRecord) (found : Layout) → HasLayout rs found → map region_value (take found.directory.regions found.regions.items) ≡ regions rs
+regions_found rs found h =
+    let items = found.regions.items in
+    let count : found.directory.regions ≡ length items = ap (λ m. m.regions) h.directory ∙ ap (λ (l : List NamedMode). length l) (sym h.regions) ∙ length-map items region_value in
+    ap (λ (n : ℕ). map region_value (take n items)) count ∙ ap (map region_value) (take-length items) ∙ h.regions
+
+pub number_found : (region : Name) (c : Contents) (found : Layout) (n : Option ℕ) → HasLayout c.instance found → n ≡ first_where (λ r. same_name r.name region) (map region_value (take found.directory.regions found.regions.items)) → region_number region c ≡ n
+number_found region c found n h e = ap (first_where (λ r. same_name r.name region)) (sym (regions_found c.instance found h)) ∙ sym e
+
+-- contents with the regions that were found
+pub some_contents : (region : Name) (found : Layout) (number : ℕ) → Some number ≡ first_where (λ r. same_name r.name region) (map region_value (take found.directory.regions found.regions.items)) → (c : Contents) × (region_number region c ≡ Some number)
+some_contents region found number e = (record { instance = Create [] (map region_value (take found.directory.regions found.regions.items)) ∷ []; starts = λ r. []; texts = []; sequence = [] }, sym e)
+
+twice_by : (b : Bool) → b ≡ true → (if b then Some TwiceMapped else None) ≡ Some TwiceMapped
+twice_by true e = refl
+twice_by false e = cc
+
+once_by : (b : Bool) → (b ≡ true → ⊥) → (if b then Some TwiceMapped else None) ≡ None
+once_by true f = absurd (f refl)
+once_by false f = refl
+
+-- the directory's test is that of the site's patterns
+pub twice_found : (text : List ℕ) (c : Contents) (found : Layout) → HasLayout c.instance found → is_mapped found.directory.patterns (ends_in_star text) (stem text) ≡ true → twice_mapped text c ≡ Some TwiceMapped
+twice_found text c found h e = twice_by (list_any (is_written text) (patterns c.instance)) (ap (λ m. is_mapped m.patterns (ends_in_star text) (stem text)) (sym h.directory) ∙ e)
+
+pub once_found : (text : List ℕ) (c : Contents) (found : Layout) → HasLayout c.instance found → (is_mapped found.directory.patterns (ends_in_star text) (stem text) ≡ true → ⊥) → twice_mapped text c ≡ None
+once_found text c found h f = once_by (list_any (is_written text) (patterns c.instance)) (λ e. f (ap (λ m. is_mapped m.patterns (ends_in_star text) (stem text)) h.directory ∙ e))
+
+pub free_found : (region : Name) (number : ℕ) (text : List ℕ) (found : Layout) → found.generation ≡ 0 → number < found.directory.regions
+    → Some number ≡ first_where (λ r. same_name r.name region) (map region_value (take found.directory.regions found.regions.items))
+    → (is_mapped found.directory.patterns (ends_in_star text) (stem text) ≡ true → ⊥) → (c : Contents) → HasLayout c.instance found → IsUnmappedIn region number text c
+free_found region number text found none inside e once c h = record {
+  unbegun = sym h.generation ∙ none;
+  named = number_found region c found (Some number) h e;
+  inside = subst (λ (n : ℕ). number < n) (ap (λ m. m.regions) h.directory) inside;
+  once = once_found text c found h once;
+}
+
+-- nothing is against it, whatever site stands there
+pub free_in : (o : Option Files) (region : Name) (number : ℕ) (text : List ℕ) (found : Layout) → FoundIn o (Some found) → found.generation ≡ 0 → number < found.directory.regions
+    → Some number ≡ first_where (λ r. same_name r.name region) (map region_value (take found.directory.regions found.regions.items))
+    → (is_mapped found.directory.patterns (ends_in_star text) (stem text) ≡ true → ⊥) → IfSome o (λ files. (c : Contents) → IsSite files c → IsUnmappedIn region number text c)
+free_in None region number text found h none inside e once = h
+free_in (Some f) region number text found h none inside e once = λ c site. free_found region number text found none inside e once c (h c (inr site)).1
+
+-- The refusals.
+
+pub found_started : (region : Name) (text : List ℕ) (w : View) (s : Site) (found : Layout) (before now : List ℕ) → FoundIn w.content (Some found) → 0 < found.generation → now ≡ before ++ line s.name (codes "STARTED") → MapsAt region text w s w s before now
+found_started region text w s found before now f some t p h =
+    map_refused region text w s Started before now (inl refl) t p h (λ sure. refused_started region text p sure (subst (λ (n : ℕ). 0 < n) (layout_at w s p found f h sure).generation some))
+
+pub found_no_region : (region : Name) (text : List ℕ) (w : View) (s : Site) (found : Layout) (before now : List ℕ) → FoundIn w.content (Some found) → found.generation ≡ 0
+    → None ≡ first_where (λ r. same_name r.name region) (map region_value (take found.directory.regions found.regions.items)) → now ≡ before ++ line s.name (codes "NOREGION " ++ region) → MapsAt region text w s w s before now
+found_no_region region text w s found before now f none e t p h =
+    map_refused region text w s (NoRegion region) before now (inr (inl refl)) t p h (λ sure.
+    let l = layout_at w s p found f h sure in
+    refused_no_region region text p sure (sym l.generation ∙ none) (number_found region p.now found None l e))
+
+pub found_twice : (region : Name) (text : List ℕ) (w : View) (s : Site) (found : Layout) (number : ℕ) (before now : List ℕ) → FoundIn w.content (Some found) → found.generation ≡ 0
+    → Some number ≡ first_where (λ r. same_name r.name region) (map region_value (take found.directory.regions found.regions.items)) → is_mapped found.directory.patterns (ends_in_star text) (stem text) ≡ true
+    → now ≡ before ++ line s.name (codes "TWICEMAPPED") → MapsAt region text w s w s before now
+found_twice region text w s found number before now f none e twice t p h =
+    map_refused region text w s TwiceMapped before now (inr (inr refl)) t p h (λ sure.
+    let l = layout_at w s p found f h sure in
+    refused_twice region text p number sure (sym l.generation ∙ none) (number_found region p.now found (Some number) l e) (twice_found text p.now found l twice))
+
+-- the line of a region that the site doesn't have, under the names that were asked for
+pub region_word : {name n region r now : List ℕ} (before : List ℕ) → n ≡ name → r ≡ region → now ≡ before ++ line n (codes "NOREGION " ++ r) → now ≡ before ++ line name (codes "NOREGION " ++ region)
+region_word {name} {n} {region} {r} {now} before e f t = t ∙ ap (λ (x : List ℕ). before ++ line x (codes "NOREGION " ++ r)) e ∙ ap (λ (x : List ℕ). before ++ line name (codes "NOREGION " ++ x)) f

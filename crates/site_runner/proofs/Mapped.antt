@@ -1,0 +1,363 @@
+-- MAP at a place.
+use Rattle.std.proofs.Common.{◌≡◌, ℕ, ◌≤◌, ◌<◌, true, false, List, [], ◌∷◌, ◌++◌, length, None, Some, refl, sym, ◌∙◌, ap, subst, arith, inl, inr}
+use Rattle.std.specs.Prelude.{◌⊎◌, Option, codes, IfSome, IsSome, IsSomeAnd}
+use Rattle.std.specs.Fmt.{decimal}
+use Rattle.std.proofs.lemmas.Bool.{false≢true}
+use Rattle.disk_defs.specs.Disk.{Files, View, Image, IsLawful, AtEachMoment, Rose}
+use Rattle.journal_defs.specs.Instance.{InstanceRecord, generation, regions}
+use Rattle.site_store.specs.Opening.{StandsAsBefore, MayHavePattern, EachStands}
+use Rattle.command_defs.specs.Commands.{Name, Command, Map}
+use Rattle.world_defs.specs.Lists.{Among, first_where}
+use Rattle.world_defs.specs.World as world
+use Rattle.world_defs.specs.World.{Contents, Leftover, NO_LEFTOVER, Place, same_name}
+use Rattle.world_defs.specs.Answers.{Cause, Stopped, Running, Answer, Refused, Done, DiskFault, NotAFile}
+use Rattle.world_defs.specs.Refusals.{first, in_state, stopped, running, unmapped, region_number}
+use Rattle.world_defs.specs.Rows.{in_new_state, with_pattern, MayMapAny}
+use Rattle.world_defs.specs.Step.{LeftAt, IsUnmapped}
+use Rattle.world_defs.specs.Output.{line, cause_text}
+use Rattle.world_defs.specs.Ties.{IsSite, Stands, Reads, Matches}
+use Rattle.world_laws.proofs.StandsForOne.{left_unbegun}
+use Rattle.repl_section.specs.declared.reign.Reign.{Reign}
+use Rattle.site_runner.specs.declared.slot.State.{State}
+use Rattle.site_runner.specs.declared.slot.State.TheVariants.{Down, Primary, Failed}
+use Rattle.site_runner.specs.declared.slot.Site.{Site}
+use Rattle.site_runner.specs.Sites.{state_value, site_value, HoldsState, IsOf, IsMade}
+use Rattle.site_runner.specs.Here.{tests, cause_here, RefusedHere, MayRefuseHere, Here, text_here}
+use Rattle.site_runner.specs.Steps.{IsAt, ExecutesAt, IsCutAt}
+use Rattle.site_runner.specs.Mapping.{IsSeenAt, IsUnmappedIn, MapsAt, IsCutSeen}
+use Rattle.site_runner.proofs.Ats.{refuses, kept_same, state_at, first_cause, second_cause, no_cause, not_true, is_true_or_false, some_both, some_of, some_and, told_is, at_moment, only}
+use Rattle.site_runner.proofs.Seen.{counted, kept_counted, reads_stand, reads_site, OneOf, one_of}
+use Rattle.site_runner.proofs.Patterns.{maps, among_maps, maps_among, of_pattern, of_may_map, generation_map, unmapped_unknown, not_refused}
+
+pub map_failed_before : (v : View) (s : Site) (region : Name) (text : List ℕ) (k : ℕ) (before now : List ℕ) → s.state ≡ Failed k → now ≡ before ++ line s.name (codes "STOPPED " ++ decimal k) → ExecutesAt (Map s.name region text) v s v s before now
+map_failed_before v s region text k before now e t =
+    refuses (Map s.name region text) v s (Stopped k) before now refl (λ p h. first_cause _ _ (Stopped k) (state_at stopped v s p h ∙ ap (λ (x : State). stopped (state_value x)) e)) kept_same t
+
+pub map_running : (v : View) (s : Site) (region : Name) (text : List ℕ) (r : Reign) (before now : List ℕ) → s.state ≡ Primary r → now ≡ before ++ line s.name (codes "RUNNING") → ExecutesAt (Map s.name region text) v s v s before now
+map_running v s region text r before now e t =
+    refuses (Map s.name region text) v s Running before now refl
+    (λ p h. second_cause _ _ (unmapped region text (Some p) ∷ []) Running (state_at stopped v s p h ∙ ap (λ (x : State). stopped (state_value x)) e) (state_at running v s p h ∙ ap (λ (x : State). running (state_value x)) e)) kept_same t
+
+-- the tests of a site that is down
+
+early_down : (s : Site) (p : Place) (region : Name) (text : List ℕ) → s.state ≡ Down → p.site ≡ Some (site_value s) → first (tests (Map s.name region text) p) ≡ None
+early_down s p region text e h =
+    no_cause _ _ (ap (in_state stopped) h ∙ ap (λ (x : State). stopped (state_value x)) e) (ap (in_state running) h ∙ ap (λ (x : State). running (state_value x)) e)
+
+third : (a b c : Option Cause) → first (a ∷ b ∷ []) ≡ None → first (a ∷ b ∷ c ∷ []) ≡ first (c ∷ [])
+third (Some a) b c e = cc
+third None (Some b) c e = cc
+third None None c e = refl
+
+first_one : (c : Option Cause) → first (c ∷ []) ≡ c
+first_one None = refl
+first_one (Some c) = refl
+
+cause_down : (s : Site) (p : Place) (region : Name) (text : List ℕ) → s.state ≡ Down → p.site ≡ Some (site_value s) → cause_here (Map s.name region text) p ≡ unmapped region text (Some p)
+cause_down s p region text e h =
+    third (in_state stopped p.site) (in_state running p.site) (unmapped region text (Some p)) (early_down s p region text e h) ∙ first_one (unmapped region text (Some p))
+
+-- What a look at the site's disk finds.
+
+-- what the look keeps
+pub record Looked (v w : View) : Type 1 where
+  pub lawful : IsLawful w
+  pub any_moment : IfSome v.content (λ _. AtEachMoment v w (StandsAsBefore v))
+  pub content : w.content ≡ v.content
+  pub simulated : w.simulated ≡ v.simulated
+  pub later : v.faults ≤ w.faults
+
+abbrev pub AreAlike : View → View → Type 0
+AreAlike v w = IfSome v.content (λ files. (c o : Contents) (f : Files) → Stands files c → Image w f → Stands f o → o.instance ≡ c.instance)
+
+-- each image stands for what one stood for before
+look_images : (v w : View) (p : Place) → Looked v w → Matches v p → p.told ≡ true → (f : Files) → Image w f → (o : Contents) × Among p.outcomes o × Stands f o
+look_images v w p k m sure f i =
+    let each = some_of v.content (AtEachMoment v w (StandsAsBefore v)) (told_is v.content _ (m.told sure)) k.any_moment in
+    let from = at_moment v w (StandsAsBefore v) f k.lawful each i in
+    let o = m.images sure from.0 from.1 in
+    (o.0, o.1, from.2 o.0 o.2)
+
+pub seen_at : (v w : View) (s : Site) (p : Place) → Looked v w → s.state ≡ Down → AreAlike v w → IsAt v s p → IsSeenAt w s p
+seen_at v w s p k down alike h = record {
+  site = h.site;
+  down = down;
+  made = h.held.made;
+  reads = λ sure. subst (λ (x : Option Files). IsSomeAnd x (λ files. Reads files p.now p.left)) (sym k.content) (h.disk.told sure);
+  images = λ sure f i. look_images v w p k h.disk sure f i;
+  alike = λ sure f o i stands. let b = some_both v.content _ _ (h.disk.told sure) alike in b.2 p.now o f (reads_stand b.0 p.now p.left b.1) i stands;
+  faults = omega (arith, k.later, h.disk.faults);
+  simulated = k.simulated ∙ h.disk.simulated;
+}
+
+-- a place whose files aren't known
+unknown_seen : (w : View) (s : Site) (p : Place) → s.state ≡ Down → p.site ≡ Some (site_value s) → p.told ≡ false → p.faults ≤ w.faults → w.simulated ≡ p.simulated → IsSeenAt w s p
+unknown_seen w s p down site unsure faults same = record {
+  site = site;
+  down = down;
+  made = λ sure. absurd (false≢true (sym unsure ∙ sure));
+  reads = λ sure. absurd (false≢true (sym unsure ∙ sure));
+  images = λ sure. absurd (false≢true (sym unsure ∙ sure));
+  alike = λ sure. absurd (false≢true (sym unsure ∙ sure));
+  faults = faults;
+  simulated = same;
+}
+
+seen_counted : (w : View) (s : Site) (p : Place) → IsSeenAt w s p → IsAt w s (counted p w.faults)
+seen_counted w s p h = record {
+  disk = record { told = h.reads; images = h.images; faults = refl; simulated = h.simulated };
+  site = h.site;
+  held = record { made = λ sure. record { now = (h.made sure).now; outcomes = (h.made sure).outcomes }; state = subst (λ (x : State). HoldsState w x (counted p w.faults)) (sym h.down) tt };
+}
+
+-- what MAP answers from a place
+abbrev pub Answers : Name → List ℕ → View → Site → Place → Site → List ℕ → List ℕ → Type 0
+Answers region text w s p new before now = (a : Answer) × (q : Place) × Here (Map s.name region text) p a q × IsAt w new q × (now ≡ before ++ text_here (Map s.name region text) p a q)
+
+-- a refusal
+pub map_refused : (region : Name) (text : List ℕ) (w : View) (s : Site) (cause : Cause) (before now : List ℕ) → IsUnmapped region cause → now ≡ before ++ line s.name (cause_text cause)
+    → (p : Place) → IsSeenAt w s p → (p.told ≡ true → unmapped region text (Some p) ≡ Some cause) → Answers region text w s p s before now
+map_refused region text w s cause before now un t p h why = (
+  Refused (record { site = s.name; cause = cause }),
+  counted p w.faults,
+  (refl, here),
+  seen_counted w s p h,
+  t,
+)
+  where
+    c : Command
+    c = Map s.name region text
+
+    here : ((cause_here c p ≡ Some cause) × RefusedHere c cause p (counted p w.faults)) ⊎ ((first (tests c p) ≡ None) × MayRefuseHere c cause p (counted p w.faults))
+    here = elim (is_true_or_false p.told) [
+      | inl sure ↦ inl (cause_down s p region text h.down h.site ∙ why sure, kept_counted p w.faults h.faults)
+      | inr unsure ↦ inr (early_down s p region text h.down h.site, (un, record { unknown = unsure; kept = kept_counted p w.faults h.faults }))
+    ]
+
+-- bytes outside the formats, which no known files have
+damaged : (region : Name) (text : List ℕ) (w : View) (s : Site) (file offset : ℕ) (before now : List ℕ) → now ≡ before ++ line s.name (codes "NOTAFILE " ++ decimal file ++ 32 ∷ decimal offset)
+    → (p : Place) → p.told ≡ false → IsSeenAt w s p → Answers region text w s p s before now
+damaged region text w s file offset before now t p unsure h = (
+  NotAFile file offset,
+  counted p w.faults,
+  (early_down s p region text h.down h.site, record { unknown = unsure; kept = kept_counted p w.faults h.faults }),
+  seen_counted w s p h,
+  t,
+)
+
+-- the look found bytes that stand for nothing, or no site
+pub look_damaged : (region : Name) (text : List ℕ) (v w : View) (s : Site) (file offset : ℕ) (before now : List ℕ) → Looked v w → s.state ≡ Down → now ≡ before ++ line s.name (codes "NOTAFILE " ++ decimal file ++ 32 ∷ decimal offset)
+    → IfSome v.content (λ files. (c : Contents) → IsSite files c → ⊥) → ExecutesAt (Map s.name region text) v s w s before now
+look_damaged region text v w s file offset before now k down t outside p h =
+    let unsure : p.told ≡ false = not_true p.told (λ sure.
+    let here = some_both v.content _ _ (h.disk.told sure) outside in
+    here.2 p.now (reads_site here.0 p.now p.left (h.held.made sure).now.made here.1).0) in
+    damaged region text w s file offset before now t p unsure (unknown_seen w s p down h.site unsure (omega (arith, k.later, h.disk.faults)) (k.simulated ∙ h.disk.simulated))
+
+-- another site was found, which no known files tell
+pub seen_other : (region : Name) (text : List ℕ) (w : View) (s : Site) (file offset : ℕ) (before now : List ℕ) → now ≡ before ++ line s.name (codes "NOTAFILE " ++ decimal file ++ 32 ∷ decimal offset)
+    → IfSome w.content (λ files. (c : Contents) → IsSite files c → IsOf s.name c → ⊥) → MapsAt region text w s w s before now
+seen_other region text w s file offset before now t other p h =
+    damaged region text w s file offset before now t p (not_true p.told (λ sure.
+    let here = some_both w.content _ _ (h.reads sure) other in
+    here.2 p.now (reads_site here.0 p.now p.left (h.made sure).now.made here.1).0 (h.made sure).now)) h
+
+-- A mapping that ends before it's done: each image stands for what it may leave.
+
+-- the pattern may have been mapped
+pub record MayHaveMapped (region : Name) (text : List ℕ) (w : View) (p : Place) : Type 0 where
+  pub still_told : p.told ≡ true → IsSome w.content
+  pub images : p.told ≡ true → (f : Files) → Image w f → (o : Contents) × MayMapAny region text p o × Stands f o
+  pub simulated : w.simulated ≡ p.simulated
+
+mapped_place : (region : Name) (text : List ℕ) (w : View) (p : Place) (site : Option world.Site) → IsLawful w → MayHaveMapped region text w p → OneOf w p site (maps region text p.outcomes)
+mapped_place region text w p site law b =
+    one_of w p site (maps region text p.outcomes) law b.simulated b.still_told (λ sure f i. let k = b.images sure f i in (k.0, maps_among region text p.outcomes k.1.0 k.0 k.1.1 k.1.2, k.2))
+
+pub map_cut : (region : Name) (text : List ℕ) (w : View) (s : Site) (p : Place) → IsLawful w → MayHaveMapped region text w p → (q : Place) × LeftAt true (Map s.name region text) p q × Matches w q
+map_cut region text w s p law b =
+    let m = mapped_place region text w p p.site law b in
+    (record { site = p.site; told = p.told; now = m.now; left = m.left; outcomes = maps region text p.outcomes; faults = w.faults; simulated = p.simulated }, record { told = refl; outcomes = λ sure o a. inr (among_maps region text p.outcomes o a) }, m.disk)
+
+pub map_fault : (region : Name) (text : List ℕ) (w : View) (s : Site) (p : Place) (k : ℕ) (before now : List ℕ) → IsLawful w → s.state ≡ Down → p.site ≡ Some (site_value s) → (p.told ≡ true → IsMade s.name p) → MayHaveMapped region text w p
+    → k ≡ w.faults → Rose p.faults w.faults → now ≡ before ++ line s.name (codes "DISKFAULT " ++ decimal k) → Answers region text w s p (record { name = s.name; state = Failed k }) before now
+map_fault region text w s p k before now law down site made b count rose t =
+    let state = in_new_state (world.Failed k) p.site in
+    let m = mapped_place region text w p state law b in
+    let of = λ (sure : p.told ≡ true) (o : Contents) (a : Among (maps region text p.outcomes) o). (let x = among_maps region text p.outcomes o a in of_may_map s.name region text x.0 o ((made sure).outcomes x.0 x.1) x.2) in (
+      DiskFault k,
+      record { site = state; told = p.told; now = m.now; left = m.left; outcomes = maps region text p.outcomes; faults = w.faults; simulated = p.simulated },
+      (
+        early_down s p region text down site,
+        record {
+          site = refl;
+          now = λ sure. among_maps region text p.outcomes m.now (m.among sure);
+          left = m.behind;
+          outcomes = λ sure o a. among_maps region text p.outcomes o a;
+          faults = record { count = sym count; rose = subst (λ (x : ℕ). Rose p.faults x) (sym count) rose; same = record { told = refl; simulated = refl } };
+        },
+      ),
+      record {
+        disk = m.disk;
+        site = ap (in_new_state (world.Failed k)) site;
+        held = record { made = λ sure. record { now = of sure m.now (m.among sure); outcomes = of sure }; state = tt };
+      },
+      t,
+    )
+
+-- the look alone maps nothing
+look_mapped : (region : Name) (text : List ℕ) (v w : View) (s : Site) (p : Place) → Looked v w → IsAt v s p → MayHaveMapped region text w p
+look_mapped region text v w s p k h = record {
+  still_told = λ sure. told_is w.content _ (subst (λ (x : Option Files). IsSomeAnd x (λ files. Reads files p.now p.left)) (sym k.content) (h.disk.told sure));
+  images = λ sure f i. let o = look_images v w p k h.disk sure f i in (o.0, (o.0, o.1, inl refl), o.2);
+  simulated = k.simulated ∙ h.disk.simulated;
+}
+
+pub look_faulted : (region : Name) (text : List ℕ) (v w : View) (s : Site) (k : ℕ) (before now : List ℕ) → Looked v w → s.state ≡ Down → k ≡ w.faults → Rose v.faults w.faults
+    → now ≡ before ++ line s.name (codes "DISKFAULT " ++ decimal k) → ExecutesAt (Map s.name region text) v s w (record { name = s.name; state = Failed k }) before now
+look_faulted region text v w s k before now l down count rose t p h =
+    map_fault region text w s p k before now l.lawful down h.site h.held.made (look_mapped region text v w s p l h) count (subst (λ (x : ℕ). Rose x w.faults) h.disk.faults rose) t
+
+pub look_cut : (region : Name) (text : List ℕ) (v w : View) (s : Site) → Looked v w → IsCutAt (Map s.name region text) v s w
+look_cut region text v w s l p h = map_cut region text w s p l.lawful (look_mapped region text v w s p l h)
+
+pub seen_cut : (region : Name) (text : List ℕ) (w : View) (s : Site) → IsLawful w → IsCutSeen region text w s w
+seen_cut region text w s law p h = map_cut region text w s p law (record {
+  still_told = λ sure. told_is w.content _ (h.reads sure);
+  images = λ sure f i. let o = h.images sure f i in (o.0, (o.0, o.1, inl refl), o.2);
+  simulated = h.simulated;
+})
+
+-- Behind a look.
+
+pub maps_so : (region : Name) (text : List ℕ) (v w u : View) (s new : Site) (before now : List ℕ) → Looked v w → s.state ≡ Down → AreAlike v w → MapsAt region text w s u new before now → ExecutesAt (Map s.name region text) v s u new before now
+maps_so region text v w u s new before now k down alike m p h = m p (seen_at v w s p k down alike h)
+
+pub cut_so : (region : Name) (text : List ℕ) (v w u : View) (s : Site) → Looked v w → s.state ≡ Down → AreAlike v w → IsCutSeen region text w s u → IsCutAt (Map s.name region text) v s u
+cut_so region text v w u s k down alike m p h = m p (seen_at v w s p k down alike h)
+
+-- Writing the pattern.
+
+-- what the call says of each moment
+pub record Moments (region : Name) (number : ℕ) (text : List ℕ) (v w : View) : Type 1 where
+  pub lawful : IsLawful w
+  pub free : IfSome v.content (λ files. (c : Contents) → IsSite files c → IsUnmappedIn region number text c)
+  pub any_moment : IfSome v.content (λ files. (c : Contents) → IsSite files c → AtEachMoment v w (MayHavePattern v number text))
+  pub still_told : IsSome v.content → IsSome w.content
+  pub simulated : w.simulated ≡ v.simulated
+  pub later : v.faults ≤ w.faults
+
+free_at : (region : Name) (number : ℕ) (text : List ℕ) (v w : View) (s : Site) (p : Place) → Moments region number text v w → IsSeenAt v s p → p.told ≡ true → IsUnmappedIn region number text p.now
+free_at region number text v w s p m h sure =
+    let here = some_both v.content _ _ (h.reads sure) m.free in
+    here.2 p.now (reads_site here.0 p.now p.left (h.made sure).now.made here.1).0
+
+there_mapped : (region : Name) (number : ℕ) (text : List ℕ) (v w : View) (s : Site) (p : Place) → Moments region number text v w → IsSeenAt v s p → MayHaveMapped region text w p
+there_mapped region number text v w s p m h = record {
+  still_told = λ sure. m.still_told (told_is v.content _ (h.reads sure));
+  images = λ sure f i.
+      let here = some_both v.content _ _ (h.reads sure) m.any_moment in
+      let each = here.2 p.now (reads_site here.0 p.now p.left (h.made sure).now.made here.1).0 in
+      let from = at_moment v w (MayHavePattern v number text) f m.lawful each i in
+      let was = h.images sure from.0 from.1 in
+      let free : IsUnmappedIn region number text p.now = free_at region number text v w s p m h sure in
+      let named : region_number region was.0 ≡ Some number =
+      ap (λ (rs : List InstanceRecord). first_where (λ r. same_name r.name region) (regions rs)) (h.alike sure from.0 was.0 from.1 was.2) ∙ free.named in
+      elim (from.2 was.0 was.2) [
+        | inl stands ↦ (was.0, (was.0, was.1, inl refl), stands)
+        | inr mapped ↦ (with_pattern number text was.0, (was.0, was.1, inr (number, named, refl)), inr mapped)
+      ];
+  simulated = m.simulated ∙ h.simulated;
+}
+
+pub there_faulted : (region : Name) (number : ℕ) (text : List ℕ) (v w : View) (s : Site) (k : ℕ) (before now : List ℕ) → Moments region number text v w → k ≡ w.faults → Rose v.faults w.faults
+    → now ≡ before ++ line s.name (codes "DISKFAULT " ++ decimal k) → MapsAt region text v s w (record { name = s.name; state = Failed k }) before now
+there_faulted region number text v w s k before now m count rose t p h =
+    map_fault region text w s p k before now m.lawful h.down h.site h.made (there_mapped region number text v w s p m h) count (omega (arith, rose, h.faults)) t
+
+pub there_cut : (region : Name) (number : ℕ) (text : List ℕ) (v w : View) (s : Site) → Moments region number text v w → IsCutSeen region text v s w
+there_cut region number text v w s m p h = map_cut region text w s p m.lawful (there_mapped region number text v w s p m h)
+
+pub there_damaged : (region : Name) (number : ℕ) (text : List ℕ) (v w : View) (s : Site) (file offset : ℕ) (before now : List ℕ) → Moments region number text v w
+    → IfSome v.content (λ files. (c : Contents) → IsSite files c → ⊥) → now ≡ before ++ line s.name (codes "NOTAFILE " ++ decimal file ++ 32 ∷ decimal offset) → MapsAt region text v s w s before now
+there_damaged region number text v w s file offset before now m outside t p h =
+    let unsure : p.told ≡ false = not_true p.told (λ sure.
+    let here = some_both v.content _ _ (h.reads sure) outside in
+    here.2 p.now (reads_site here.0 p.now p.left (h.made sure).now.made here.1).0) in
+    damaged region text w s file offset before now t p unsure (unknown_seen w s p h.down h.site unsure (omega (arith, m.later, h.faults)) (m.simulated ∙ h.simulated))
+
+-- The pattern was mapped.
+
+done_at : (region : Name) (number : ℕ) (text : List ℕ) (w : View) (s : Site) (before now : List ℕ) (p : Place) (read : Contents) → s.state ≡ Down → p.site ≡ Some (site_value s) → (p.told ≡ true → read ≡ p.now) → region_number region read ≡ Some number
+    → unmapped region text (Some p) ≡ None → (p.told ≡ true → IsSomeAnd w.content (λ files. Reads files (with_pattern number text read) NO_LEFTOVER))
+    → (p.told ≡ true → (f : Files) → Image w f → Stands f (with_pattern number text read)) → (p.told ≡ true → IsOf s.name read) → p.faults ≤ w.faults → w.simulated ≡ p.simulated
+    → now ≡ before ++ line s.name (codes "MAPPED") → Answers region text w s p s before now
+done_at region number text w s before now p read down site as_before named free reads images of later same t =
+    let d : Contents = with_pattern number text read in
+    let q : Place = record { site = in_new_state world.Down p.site; told = p.told; now = d; left = NO_LEFTOVER; outcomes = d ∷ []; faults = w.faults; simulated = p.simulated } in
+    let of_d : p.told ≡ true → IsOf s.name d = λ sure. of_pattern s.name number text read (of sure) in (
+      Done,
+      q,
+      (
+        cause_down s p region text down site ∙ free,
+        record {
+          read = read;
+          as_before = as_before;
+          number = number;
+          named = named;
+          becomes = record { site = refl; now = refl; left = refl; outcomes = refl; faults = later; same = record { told = refl; simulated = refl } };
+        },
+      ),
+      record {
+        disk = record { told = reads; images = λ sure f i. (d, inl refl, images sure f i); faults = refl; simulated = same };
+        site = ap (in_new_state world.Down) site ∙ ap (λ (x : world.State). Some (record { name = s.name; state = x })) (ap state_value (sym down));
+        held = record { made = λ sure. record { now = of_d sure; outcomes = λ o a. subst (IsOf s.name) (sym (only o d a)) (of_d sure) }; state = subst (λ (x : State). HoldsState w x q) (sym down) tt };
+      },
+      t,
+    )
+
+some_and_of : (o : Option Files) (P : Files → Type 0) → IsSome o → IfSome o P → IsSomeAnd o P
+some_and_of None P h k = cc
+some_and_of (Some f) P h k = k
+
+-- files that stand for a site without a generation have nothing behind it
+unbegun_reads : (number : ℕ) (text : List ℕ) (c : Contents) (f : Files) → generation c.instance ≡ 0 → IsSite f (with_pattern number text c) → Reads f (with_pattern number text c) NO_LEFTOVER
+unbegun_reads number text c f e site = inr (site, left_unbegun f (with_pattern number text c) site (generation_map c.instance _ _ _ ∙ e))
+
+done_told : (region : Name) (number : ℕ) (text : List ℕ) (v w : View) (s : Site) (before now : List ℕ) (p : Place) → Moments region number text v w → IsSeenAt v s p → p.told ≡ true
+    → IfSome v.content (λ files. (c : Contents) → IsSite files c → IfSome w.content (λ now. IsSite now (with_pattern number text c)))
+    → IfSome v.content (λ files. (c : Contents) → IsSite files c → EachStands v → (f : Files) → Image w f → IsSite f (with_pattern number text c))
+    → now ≡ before ++ line s.name (codes "MAPPED") → Answers region text w s p s before now
+done_told region number text v w s before now p m h sure reads images t =
+    let d : Contents = with_pattern number text p.now in
+    let free : IsUnmappedIn region number text p.now = free_at region number text v w s p m h sure in
+    let read = some_both v.content _ _ (h.reads sure) reads in
+    let image = some_both v.content _ _ (h.reads sure) images in
+    let made = (h.made sure).now.made in
+    let stands : EachStands v = λ f i. (let o = h.images sure f i in (o.0, o.2)) in
+    let told : IsSomeAnd w.content (λ files. Reads files d NO_LEFTOVER) =
+    some_and w.content (λ f. IsSite f d) (λ f. Reads f d NO_LEFTOVER) (λ f k. unbegun_reads number text p.now f free.unbegun k)
+    (some_and_of w.content (λ f. IsSite f d) (m.still_told (told_is v.content _ (h.reads sure))) (read.2 p.now (reads_site read.0 p.now p.left made read.1).0)) in
+    done_at region number text w s before now p p.now h.down h.site (λ _. refl) free.named (not_refused region text p number sure free.unbegun free.named free.once) (λ _. told)
+    (λ _ f i. inr (image.2 p.now (reads_site image.0 p.now p.left made image.1).0 stands f i)) (λ _. (h.made sure).now) (omega (arith, m.later, h.faults)) (m.simulated ∙ h.simulated) t
+
+done_untold : (region : Name) (number : ℕ) (text : List ℕ) (v w : View) (s : Site) (before now : List ℕ) (p : Place) (read : Contents) → Moments region number text v w → IsSeenAt v s p → p.told ≡ false
+    → region_number region read ≡ Some number → now ≡ before ++ line s.name (codes "MAPPED") → Answers region text w s p s before now
+done_untold region number text v w s before now p read m h unsure named t =
+    done_at region number text w s before now p read h.down h.site (λ sure. absurd (false≢true (sym unsure ∙ sure))) named (unmapped_unknown region text p unsure) (λ sure. absurd (false≢true (sym unsure ∙ sure)))
+    (λ sure. absurd (false≢true (sym unsure ∙ sure))) (λ sure. absurd (false≢true (sym unsure ∙ sure))) (omega (arith, m.later, h.faults)) (m.simulated ∙ h.simulated) t
+
+pub there_done : (region : Name) (number : ℕ) (text : List ℕ) (v w : View) (s : Site) (before now : List ℕ) → Moments region number text v w → ((c : Contents) × (region_number region c ≡ Some number))
+    → IfSome v.content (λ files. (c : Contents) → IsSite files c → IfSome w.content (λ now. IsSite now (with_pattern number text c)))
+    → IfSome v.content (λ files. (c : Contents) → IsSite files c → EachStands v → (f : Files) → Image w f → IsSite f (with_pattern number text c))
+    → now ≡ before ++ line s.name (codes "MAPPED") → MapsAt region text v s w s before now
+there_done region number text v w s before now m named reads images t p h = elim (is_true_or_false p.told) [
+  | inl sure ↦ done_told region number text v w s before now p m h sure reads images t
+  | inr unsure ↦ done_untold region number text v w s before now p named.0 m h unsure named.1 t
+]
+
+-- what the call wants of a site that has nothing against it
+pub free_so : (o : Option Files) (region : Name) (number : ℕ) (text : List ℕ) → IfSome o (λ files. (c : Contents) → IsSite files c → IsUnmappedIn region number text c)
+    → IfSome o (λ files. (c : Contents) → IsSite files c → (generation c.instance ≡ 0) × (number < length (regions c.instance)))
+free_so None region number text h = h
+free_so (Some f) region number text h = λ c site. (let u = h c site in (u.unbegun, u.inside))

@@ -1,0 +1,162 @@
+// MAP.
+ghost use Rattle.std.specs.Prelude.{◌≡◌, ◌<◌, take, map, IfSome, OnOk, OnErr, true, Some};
+ghost use Rattle.command_defs.specs.Commands as commands;
+ghost use Rattle.command_defs.specs.Patterns.{is_pattern};
+ghost use Rattle.world_defs.specs.Lists.{first_where};
+ghost use Rattle.world_defs.specs.World.{Contents, same_name};
+ghost use Rattle.world_defs.specs.Refusals.{region_number};
+ghost use Rattle.world_defs.specs.Ties.{IsSite, Stands};
+ghost use Rattle.site_store.specs.Finding.{IsFound};
+ghost use Rattle.site_store.specs.Opening.{region_value};
+ghost use Rattle.site_runner.specs.declared.slot.State.TheVariants.{Down};
+ghost use Rattle.site_runner.specs.Sites.{IsReadyState};
+ghost use Rattle.site_runner.specs.Steps.{ExecutesAt, IsCutAt};
+ghost use Rattle.site_runner.specs.Mapping.{IsUnmappedIn, MapsAt, IsCutSeen};
+
+use super::slot::{Site, State};
+use super::text::{write_line, write_named, write_not_a_file, write_numbered};
+use global_dir::DirError;
+use gvn_key::{Bytes, NoMemory};
+use repl_disk::Disk;
+use site_store::{Layout, SiteError, inspect};
+use std::alloc::Global;
+
+/// Whether the site that was found has this name.
+fn is_named(found: &Layout, name: &[u8]) -> bool
+    ensures { result ≡ same_name found.now.name name.now }
+{
+    found.name.as_slice() == name
+}
+
+/// The number of the first region with that name.
+fn region_named(found: &Layout, name: &[u8]) -> Option<u8>
+    ensures number { result ≡ first_where (λ r. same_name r.name name.now) (map region_value (take found.now.directory.regions found.now.regions.items)) }
+    ensures inside { IfSome result (λ number. number < found.now.directory.regions) }
+{
+    let count = usize::from(found.directory.regions()).min(found.regions.len());
+    for (number, region) in found.regions[..count].iter().enumerate() {
+        if region.name.as_slice() == name {
+            return Some(number as u8);
+        }
+    }
+    None
+}
+
+/// Maps a pattern to a region of the site that was found, which has nothing against it.
+fn map_there<D: Disk>(
+    alloc: Global,
+    disk: &mut D,
+    site: &mut Site,
+    number: u8,
+    region: &Bytes,
+    pattern: &[u8],
+    text: &mut Bytes,
+) -> Result<(), NoMemory>
+    requires form { is_pattern pattern.now ≡ true }
+    requires free { IfSome (D.disk disk.old).content (λ files. (c : Contents) → IsSite files c → IsUnmappedIn region.now number pattern.now c) }
+    requires named { (c : Contents) × (region_number region.now c ≡ Some number) }
+    requires down { site.old.state ≡ Down }
+    ensures ready { OnOk result (IsReadyState (D.disk disk.new) site.new.state) }
+    ensures done { OnOk result (MapsAt region.now pattern.now (D.disk disk.old) site.old (D.disk disk.new) site.new text.old text.new) }
+    ensures cut_off { OnErr result (IsCutSeen region.now pattern.now (D.disk disk.old) site.old (D.disk disk.new)) }
+{
+    match site_store::map(alloc, disk, number, pattern) {
+        Ok(()) => write_line(text, site.name.as_slice(), b"MAPPED"),
+        Err(SiteError::Failed { fault }) => {
+            write_numbered(text, site.name.as_slice(), b"DISKFAULT ", fault)?;
+            site.state = State::Failed { fault };
+            Ok(())
+        }
+        Err(SiteError::NotAFile { file, offset }) => {
+            write_not_a_file(text, site.name.as_slice(), file, offset)
+        }
+        Err(_) => Err(NoMemory),
+    }
+}
+
+/// Maps a pattern to a region of the site that was found. Where another site's instance file stands, it isn't this site's.
+fn map_found<D: Disk>(
+    alloc: Global,
+    disk: &mut D,
+    site: &mut Site,
+    mut found: Layout,
+    region: &Bytes,
+    pattern: &[u8],
+    text: &mut Bytes,
+) -> Result<(), NoMemory>
+    requires form { is_pattern pattern.now ≡ true }
+    requires found { IfSome (D.disk disk.old).content (λ files. (c : Contents) → Stands files c → IsFound c (Some found)) }
+    requires down { site.old.state ≡ Down }
+    ensures ready { OnOk result (IsReadyState (D.disk disk.new) site.new.state) }
+    ensures done { OnOk result (MapsAt region.now pattern.now (D.disk disk.old) site.old (D.disk disk.new) site.new text.old text.new) }
+    ensures cut_off { OnErr result (IsCutSeen region.now pattern.now (D.disk disk.old) site.old (D.disk disk.new)) }
+{
+    if !is_named(&found, site.name.as_slice()) {
+        return write_not_a_file(text, site.name.as_slice(), 0, 0);
+    }
+    if found.generation > 0 {
+        return write_line(text, site.name.as_slice(), b"STARTED");
+    }
+    let Some(number) = region_named(&found, region.as_slice()) else {
+        return write_named(text, site.name.as_slice(), b"NOREGION ", region.as_slice());
+    };
+    match found.directory.map(number, pattern) {
+        Ok(()) => map_there(alloc, disk, site, number, region, pattern, text),
+        Err(DirError::TwiceMapped) => write_line(text, site.name.as_slice(), b"TWICEMAPPED"),
+        Err(_) => Err(NoMemory),
+    }
+}
+
+/// Maps a pattern to a region of a site that is down.
+fn map_down<D: Disk>(
+    alloc: Global,
+    disk: &mut D,
+    site: &mut Site,
+    region: &Bytes,
+    pattern: &[u8],
+    text: &mut Bytes,
+) -> Result<(), NoMemory>
+    requires form { is_pattern pattern.now ≡ true }
+    requires down { site.old.state ≡ Down }
+    ensures ready { OnOk result (IsReadyState (D.disk disk.new) site.new.state) }
+    ensures done { OnOk result (ExecutesAt (commands.Map site.old.name region.now pattern.now) (D.disk disk.old) site.old (D.disk disk.new) site.new text.old text.new) }
+    ensures cut_off { OnErr result (IsCutAt (commands.Map site.old.name region.now pattern.now) (D.disk disk.old) site.old (D.disk disk.new)) }
+{
+    match inspect(alloc, disk) {
+        Ok(Some(found)) => map_found(alloc, disk, site, found, region, pattern, text),
+        Ok(None) => write_not_a_file(text, site.name.as_slice(), 0, 0),
+        Err(SiteError::Failed { fault }) => {
+            write_numbered(text, site.name.as_slice(), b"DISKFAULT ", fault)?;
+            site.state = State::Failed { fault };
+            Ok(())
+        }
+        Err(SiteError::NotAFile { file, offset }) => {
+            write_not_a_file(text, site.name.as_slice(), file, offset)
+        }
+        Err(_) => Err(NoMemory),
+    }
+}
+
+/// Maps a pattern to a region of a site.
+pub fn map<D: Disk>(
+    alloc: Global,
+    disk: &mut D,
+    site: &mut Site,
+    region: &Bytes,
+    pattern: &[u8],
+    text: &mut Bytes,
+) -> Result<(), NoMemory>
+    requires ready { IsReadyState (D.disk disk.old) site.old.state }
+    requires form { is_pattern pattern.now ≡ true }
+    ensures ready { OnOk result (IsReadyState (D.disk disk.new) site.new.state) }
+    ensures done { OnOk result (ExecutesAt (commands.Map site.old.name region.now pattern.now) (D.disk disk.old) site.old (D.disk disk.new) site.new text.old text.new) }
+    ensures cut_off { OnErr result (IsCutAt (commands.Map site.old.name region.now pattern.now) (D.disk disk.old) site.old (D.disk disk.new)) }
+{
+    match &site.state {
+        State::Failed { fault } => {
+            write_numbered(text, site.name.as_slice(), b"STOPPED ", *fault)
+        }
+        State::Primary(_) => write_line(text, site.name.as_slice(), b"RUNNING"),
+        State::Down => map_down(alloc, disk, site, region, pattern, text),
+    }
+}

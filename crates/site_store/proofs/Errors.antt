@@ -1,0 +1,81 @@
+-- The error of a call below, handed on.
+use Rattle.std.proofs.Common.{◌≡◌, ◌⊎◌, inl, inr, ℕ, Result, Ok, Err, IsErrOf, OnErr, ap}
+use Rattle.site_files.specs.declared.error.FilesError.{FilesError}
+use Rattle.site_files.specs.declared.error.FilesError.TheVariants as files
+use Rattle.site_store.specs.declared.error.SiteError.{SiteError}
+use Rattle.site_store.specs.declared.error.SiteError.TheVariants as error
+use Rattle.site_store.specs.Errors.{files_error}
+
+-- the same error with another result
+pub handed_on : {T U : Type 0} (e x : SiteError) → IsErrOf {T = T} (Err e) x → IsErrOf {T = U} (Err e) x
+handed_on e x is = let same : e ≡ x = cc is in ap Err same
+
+-- what an error of the files was
+pub failed_was : {T U : Type 0} (x : FilesError) (fault : ℕ) → IsErrOf {T = T} (Err (files_error x)) (error.Failed fault) → IsErrOf {T = U} (Err x) (files.Failed fault)
+failed_was (files.Failed f) fault is = let same : f ≡ fault = cc is in ap (λ (k : ℕ). Err (files.Failed k)) same
+failed_was files.GenLimit fault is = absurd (cc is)
+failed_was (files.NotAFile f o) fault is = absurd (cc is)
+failed_was files.NoMemory fault is = absurd (cc is)
+
+pub limit_was : {T U : Type 0} (x : FilesError) → IsErrOf {T = T} (Err (files_error x)) error.GenLimit → IsErrOf {T = U} (Err x) files.GenLimit
+limit_was (files.Failed f) is = absurd (cc is)
+limit_was files.GenLimit is = ap (λ (e : FilesError). Err e) (λ i. files.GenLimit)
+limit_was (files.NotAFile f o) is = absurd (cc is)
+limit_was files.NoMemory is = absurd (cc is)
+
+pub file_was : {T U : Type 0} (x : FilesError) (file offset : ℕ) → IsErrOf {T = T} (Err (files_error x)) (error.NotAFile file offset) → IsErrOf {T = U} (Err x) (files.NotAFile file offset)
+file_was (files.Failed f) file offset is = absurd (cc is)
+file_was files.GenLimit file offset is = absurd (cc is)
+file_was (files.NotAFile f o) file offset is =
+    let one : f ≡ file = cc is in
+    let two : o ≡ offset = cc is in
+    λ i. Err (files.NotAFile (one i) (two i))
+file_was files.NoMemory file offset is = absurd (cc is)
+
+-- the files have no such errors
+pub never_stopped : {T : Type 0} (x : FilesError) (fault : ℕ) → IsErrOf {T = T} (Err (files_error x)) (error.Stopped fault) → ⊥
+never_stopped (files.Failed f) fault is = cc is
+never_stopped files.GenLimit fault is = cc is
+never_stopped (files.NotAFile f o) fault is = cc is
+never_stopped files.NoMemory fault is = cc is
+
+pub never_full : {T : Type 0} (x : FilesError) (nodes : ℕ) → IsErrOf {T = T} (Err (files_error x)) (error.Full nodes) → ⊥
+never_full (files.Failed f) nodes is = cc is
+never_full files.GenLimit nodes is = cc is
+never_full (files.NotAFile f o) nodes is = cc is
+never_full files.NoMemory nodes is = cc is
+
+pub never_seq_limit : {T : Type 0} (x : FilesError) → IsErrOf {T = T} (Err (files_error x)) error.SeqLimit → ⊥
+never_seq_limit (files.Failed f) is = cc is
+never_seq_limit files.GenLimit is = cc is
+never_seq_limit (files.NotAFile f o) is = cc is
+never_seq_limit files.NoMemory is = cc is
+
+pub never_reign_limit : {T : Type 0} (x : FilesError) → IsErrOf {T = T} (Err (files_error x)) error.ReignLimit → ⊥
+never_reign_limit (files.Failed f) is = cc is
+never_reign_limit files.GenLimit is = cc is
+never_reign_limit (files.NotAFile f o) is = cc is
+never_reign_limit files.NoMemory is = cc is
+
+-- one of three errors of the files is one of three of a site
+pub causes_on : {T U : Type 0} (x : FilesError) → ((fault : ℕ) × IsErrOf {T = T} (Err x) (files.Failed fault)) ⊎ ((file : ℕ) × (offset : ℕ) × IsErrOf {T = T} (Err x) (files.NotAFile file offset)) ⊎ IsErrOf {T = T} (Err x) files.NoMemory
+    → ((fault : ℕ) × IsErrOf {T = U} (Err (files_error x)) (error.Failed fault)) ⊎ ((file : ℕ) × (offset : ℕ) × IsErrOf {T = U} (Err (files_error x)) (error.NotAFile file offset)) ⊎ IsErrOf {T = U} (Err (files_error x)) error.NoMemory
+causes_on x (inl failed) = inl (failed.0, let same : x ≡ files.Failed failed.0 = cc failed.1 in ap (λ (e : FilesError). Err (files_error e)) same)
+causes_on x (inr (inl file)) = inr (inl (file.0, file.1, let same : x ≡ files.NotAFile file.0 file.1 = cc file.2 in ap (λ (e : FilesError). Err (files_error e)) same))
+causes_on x (inr (inr none)) = inr (inr (let same : x ≡ files.NoMemory = cc none in ap (λ (e : FilesError). Err (files_error e)) same))
+
+-- an error that is one of two is no other one
+pub no_fault : {T : Type 0} (r : Result T SiteError) → OnErr r (((file : ℕ) × (offset : ℕ) × IsErrOf r (error.NotAFile file offset)) ⊎ IsErrOf r error.NoMemory) → (fault : ℕ) → IsErrOf r (error.Failed fault) → ⊥
+no_fault (Ok x) causes fault is = cc is
+no_fault (Err e) (inl file) fault is = cc (file.2, is)
+no_fault (Err e) (inr none) fault is = cc (none, is)
+
+pub no_stop : {T : Type 0} (r : Result T SiteError) → OnErr r (((file : ℕ) × (offset : ℕ) × IsErrOf r (error.NotAFile file offset)) ⊎ IsErrOf r error.NoMemory) → (fault : ℕ) → IsErrOf r (error.Stopped fault) → ⊥
+no_stop (Ok x) causes fault is = cc is
+no_stop (Err e) (inl file) fault is = cc (file.2, is)
+no_stop (Err e) (inr none) fault is = cc (none, is)
+
+-- one of two errors, with another result
+pub two_on : {T U : Type 0} (e : SiteError) → ((x : ℕ) × IsErrOf {T = T} (Err e) (error.Failed x)) ⊎ IsErrOf {T = T} (Err e) error.NoMemory → ((x : ℕ) × IsErrOf {T = U} (Err e) (error.Failed x)) ⊎ IsErrOf {T = U} (Err e) error.NoMemory
+two_on e (inl failed) = inl (failed.0, handed_on e (error.Failed failed.0) failed.1)
+two_on e (inr none) = inr (handed_on e error.NoMemory none)

@@ -1,0 +1,203 @@
+-- Images of an open site whose newest journals have the first few of the records that wait.
+use Rattle.std.proofs.Common.{◌≡◌, ◌≤◌, ◌<◌, ℕ, zero, suc, List, [], ◌∷◌, ◌++◌, length, take, drop, Some, None, refl, sym, ◌∙◌, ap, subst, arith, append-nil, take_all}
+use Rattle.std.specs.Prelude.{Option, IsSomeAnd}
+use Rattle.std.specs.List.{AllByRecursion, filter_map}
+use Rattle.std.proofs.Math.Path.{fun_ext}
+use Rattle.std.proofs.Math.Seq.{take-length}
+use Rattle.std.proofs.lemmas.List.{take-append-drop, length-take-le}
+use Rattle.std.proofs.lemmas.List.Elements.{filter_map-append}
+use Rattle.disk_defs.specs.Disk.{Files, View, Image}
+use Rattle.disk_defs.specs.Frames.{SameOutside}
+use Rattle.global_defs.specs.Entry.{Sequence}
+use Rattle.journal_defs.specs.Numbers.{journal_file, broken_file}
+use Rattle.journal_defs.specs.Journal.{JournalRecord, Tcom, Part, IsJournalBody}
+use Rattle.journal_defs.specs.Instance.{InstanceRecord, generation, regions}
+use Rattle.journal_defs.specs.Sequence.{Placed, Records, IsSequence}
+use Rattle.journal_defs.specs.Stands.{Holds, in_generation}
+use Rattle.journal_defs.specs.Growth.{NonePast, AreEntries, placed, appended, tcoms, with_more}
+use Rattle.journal_defs.specs.Sound.{NoEpochPast}
+use Rattle.journal_defs.specs.Fit.{IsSoundImage, HasFewNodes}
+use Rattle.journal_laws.proofs.Appending.{appended_is}
+use Rattle.journal_laws.proofs.Hardening as laws
+use Rattle.journal_laws.proofs.ImageSteps.{all_both, all_take}
+use Rattle.journal_laws.proofs.Runs as runs
+use Rattle.jnl_file.specs.Records.{Recorded, StandsRecords}
+use Rattle.jnl_file.specs.Journal as journals
+use Rattle.jnl_file.specs.declared.journal.Journal.{Journal}
+use Rattle.region_journals.specs.Fronts.{IsNewestFile, HasFirst}
+use Rattle.region_journals.specs.Fronts as newest_files
+use Rattle.region_journals.specs.Journals.{AreReady}
+use Rattle.region_journals.proofs.Fronts as fronts
+use Rattle.region_journals.proofs.Turns.{found}
+use Rattle.world_defs.specs.World.{Contents}
+use Rattle.world_defs.specs.Rows.{with_sequence, IsFrontOf}
+use Rattle.world_defs.specs.Ties.{start_in, IsSite}
+use Rattle.site_store.specs.declared.site.OpenSite.{OpenSite}
+use Rattle.site_store.specs.Site.{IsReady, Keeps}
+use Rattle.site_store.proofs.Images.{AreOf, are_of, site_of, texts_same}
+use Rattle.site_store.proofs.Items.{length-map-of}
+
+-- an image has the hardened records
+none_taken : {X : Type 0} (m : ℕ) → take {A = X} m [] ≡ []
+none_taken zero = refl
+none_taken (suc m) = refl
+
+pub stands_hard : (rs : List JournalRecord) (file : List ℕ) → StandsRecords rs [] file → Holds IsJournalBody file rs
+stands_hard rs file stands = subst (λ (l : List JournalRecord). Holds IsJournalBody file l) (ap (λ (l : List JournalRecord). rs ++ l) (none_taken stands.0) ∙ append-nil rs) stands.2
+
+pub stands_in : (v : View) (j : Journal) (s : Recorded) → journals.HasRecords v j s → (f : Files) → Image v f → StandsRecords s.hard s.opening (f j.gated.file)
+stands_in v j s has f now = among v.content has
+  where
+    among : (o : Option Files) → IsSomeAnd o (journals.HoldsRecords v j s) → StandsRecords s.hard s.opening (f j.gated.file)
+    among None h = absurd h
+    among (Some a) h = h.stands f now
+
+-- what all records that are parts have
+module _ (P : Placed → Type 0) (g : ℕ) (here : (x : Part) → P (record { generation = g; what = Tcom x })) where
+  one_part : (o : Option Part) → AllByRecursion P (placed g o)
+  one_part None = tt
+  one_part (Some x) = (here x, tt)
+
+  all_parts : (ps : List (ℕ → Option Part)) (r : ℕ) → AllByRecursion P (appended g ps r)
+  all_parts [] r = tt
+  all_parts (p ∷ ps) r = all_both P (placed g (p r)) (appended g ps r) (one_part (p r)) (all_parts ps r)
+
+-- no part begins a generation
+none_given : {X Y : Type 0} (f : X → Option Y) (xs : List X) → AllByRecursion (λ (x : X). f x ≡ None) xs → filter_map f xs ≡ []
+none_given f [] none = refl
+none_given f (x ∷ xs) none = filter_map-append f (x ∷ []) xs ∙ rw (none.0) (none_given f xs none.1)
+
+no_starts : (g n : ℕ) (ps : List (ℕ → Option Part)) (r : ℕ) → filter_map (λ (p : Placed). start_in p.what) (take n (appended g ps r)) ≡ []
+no_starts g n ps r = none_given (λ (p : Placed). start_in p.what) (take n (appended g ps r)) (all_take (λ (p : Placed). start_in p.what ≡ None) n (appended g ps r) (all_parts (λ (p : Placed). start_in p.what ≡ None) g (λ x. refl) ps r))
+
+-- none of the records that wait, and all of them
+none_first : (s : Records) (g : ℕ) (ps : List (ℕ → Option Part)) → with_more s (λ r. take 0 (appended g ps r)) ≡ s
+none_first s g ps = ap (λ (j : ℕ → List Placed). record { instance = s.instance; journal = j }) (fun_ext (λ r. append-nil (s.journal r)))
+
+all_taken : (g : ℕ) (ps : List (ℕ → Option Part)) (r : ℕ) → take (length (tcoms ps r)) (appended g ps r) ≡ appended g ps r
+all_taken g ps r = take_all (length (tcoms ps r)) (appended g ps r) (let size : length (appended g ps r) ≡ length (tcoms ps r) = ap length (appended_is g ps r) ∙ length-map-of (in_generation g) (tcoms ps r) in omega (arith, size))
+
+all_first : (s : Records) (g : ℕ) (ps : List (ℕ → Option Part)) → with_more s (λ r. take (length (tcoms ps r)) (appended g ps r)) ≡ with_more s (appended g ps)
+all_first s g ps = ap (with_more s) (fun_ext (all_taken g ps))
+
+module _ (v : View) (c : Contents) (h : ℕ) (s : OpenSite) (k : Keeps v c h s) (ready : IsReady v s) (own : s.instance.records ≡ c.instance) where
+  -- the hardened records
+  abbrev pub base : Records
+  base = record { instance = c.instance; journal = k.records.journal }
+
+  pub is_base : k.records ≡ base
+  is_base = ap (λ (l : List InstanceRecord). record { instance = l; journal = k.records.journal }) k.newest.instance
+
+  sound_base : (d : Files) → Image v d → IsSoundImage d base (take h c.sequence)
+  sound_base d was = subst (λ (u : Records). IsSoundImage d u (take h c.sequence)) is_base (k.sound d was)
+
+  size : length (take h c.sequence) ≡ h
+  size = length-take-le h c.sequence k.count
+
+  pub count : length s.journals.journals.items ≡ length (regions c.instance)
+  count = ready.each_region ∙ ap (λ (l : List InstanceRecord). length (regions l)) own
+
+  pub few : length (regions c.instance) ≤ 8
+  few = let low = ready.journals.few in let same = count in omega (arith, low, same)
+
+  newest_is : generation s.instance.records ≡ suc k.g
+  newest_is = ap generation own ∙ k.newest.generation
+
+  pub are_ready : AreReady v (suc k.g) s.journals.journals.items
+  are_ready = subst (λ (g : ℕ). AreReady v g s.journals.journals.items) newest_is ready.journals
+
+  region_held : (d : Files) → Image v d → (r : ℕ) → r < length (regions c.instance) → Holds IsJournalBody (d (journal_file (suc k.g) r)) (k.newer r)
+  region_held d was r here =
+      let same = count in
+      let at = found s.journals.journals.items r (omega (arith, here, same)) in
+      let has = k.journal_files.has r at.0 at.1 in
+      subst (λ (x : ℕ). Holds IsJournalBody (d x) (k.newer r)) (are_ready.each r at.0 at.1).of.file
+      (stands_hard (k.newer r) (d at.0.journal.gated.file) (stands_in v at.0.journal (record { hard = k.newer r; opening = []; closed = tcoms k.waiting r }) has d was))
+
+  are_newest : (d : Files) → Image v d → newest_files.AreNewest d base k.g k.newer
+  are_newest d was = record { generation = k.newest.generation; held = region_held d was; begun = k.newest.begun }
+
+  none_past : NonePast (length (take h c.sequence)) base
+  none_past = subst (λ (n : ℕ). NonePast n base) (sym size) (subst (λ (u : Records). NonePast h u) is_base k.none_past)
+
+  epochs : (r : ℕ) → r < length (regions c.instance) → NoEpochPast (length (take h c.sequence)) c.instance (k.records.journal r)
+  epochs r here = subst (λ (n : ℕ). NoEpochPast n c.instance (k.records.journal r)) (sym size) (k.no_epoch_past r here)
+
+  entries : AreEntries c.instance (suc k.g) (length (take h c.sequence)) k.waiting (drop h c.sequence)
+  entries = subst (λ (n : ℕ). AreEntries c.instance (suc k.g) n k.waiting (drop h c.sequence)) (sym size) k.are_waiting
+
+  whole : take h c.sequence ++ drop h c.sequence ≡ c.sequence
+  whole = take-append-drop h c.sequence
+
+  -- with the first few of those that wait
+  abbrev with_first : (ℕ → ℕ) → Records
+  with_first kept = with_more base (λ r. take (kept r) (appended (suc k.g) k.waiting r))
+
+  abbrev InNewest : Files → Files → Type 0
+  InNewest d f = SameOutside (IsNewestFile (suc k.g) (length (regions c.instance))) d f
+
+  abbrev HasKept : (ℕ → ℕ) → Files → Type 0
+  HasKept kept f = HasFirst (suc k.g) (length (regions c.instance)) k.newer (tcoms k.waiting) kept f
+
+  front_image : (d f : Files) (kept : ℕ → ℕ) → Image v d → InNewest d f → HasKept kept f → (j : ℕ) × (h ≤ j) × (j ≤ length c.sequence) × IsSoundImage f (with_first kept) (take j c.sequence)
+  front_image d f kept was same first =
+      let found = fronts.front d f base (take h c.sequence) k.g k.newer k.waiting kept (sound_base d was) (are_newest d was) none_past k.in_regions same first (drop h c.sequence) epochs entries k.at_home (subst HasFewNodes (sym whole) k.few_nodes) in
+      let least = found.1 in
+      let most = found.2 in
+      let low = size in
+      let total : length (take h c.sequence ++ drop h c.sequence) ≡ length c.sequence = ap length whole in
+      (found.0, omega (arith, least, low), omega (arith, most, total), subst (λ (l : Sequence). IsSoundImage f (with_first kept) (take found.0 l)) whole found.3)
+
+  -- it's the site with that front
+  of_first : (d f : Files) (kept : ℕ → ℕ) (seq : Sequence) → Image v d → InNewest d f → AreOf f (with_sequence c seq) (with_first kept)
+  of_first d f kept seq was same =
+      let of = are_of d (with_sequence c (take h c.sequence)) base (k.images d was) (sound_base d was).held in
+      let newest = k.newest.generation in
+      let low = k.newest.not_last in
+      let some = few in
+      record {
+        made = of.made;
+        mapped = of.mapped;
+        instance = refl;
+        starts = λ r. of.starts r ∙ sym (filter_map-append (λ (p : Placed). start_in p.what) (k.records.journal r) (take (kept r) (appended (suc k.g) k.waiting r))
+            ∙ ap (λ l. filter_map (λ (p : Placed). start_in p.what) (k.records.journal r) ++ l) (no_starts (suc k.g) (kept r) k.waiting r) ∙ append-nil (filter_map (λ (p : Placed). start_in p.what) (k.records.journal r)));
+        texts = of.texts ∙ sym (texts_same d f (generation c.instance) (λ g below. same (broken_file g) (λ i. omega (arith, i.is, i.inside, newest, low, some, below))));
+      }
+
+  pub front_site : (d f : Files) (kept : ℕ → ℕ) → Image v d → InNewest d f → HasKept kept f → (o : Contents) × IsFrontOf c.sequence h c o × IsSite f o
+  front_site d f kept was same first =
+      let found = front_image d f kept was same first in (
+        with_sequence c (take found.0 c.sequence),
+        record { count = found.0; least = found.1; most = found.2; is = refl },
+        site_of f (with_sequence c (take found.0 c.sequence)) (with_first kept) (of_first d f kept (take found.0 c.sequence) was same) found.3,
+      )
+
+  -- with none of those that wait
+  pub none_image : (d f : Files) → Image v d → InNewest d f → HasKept (λ r. 0) f → IsSoundImage f base (take h c.sequence)
+  none_image d f was same first =
+      let found = front_image d f (λ r. 0) was same first in
+      let sound : IsSoundImage f base (take found.0 c.sequence) = subst (λ (u : Records). IsSoundImage f u (take found.0 c.sequence)) (none_first base (suc k.g) k.waiting) found.3 in
+      subst (IsSoundImage f base) (runs.one base (take found.0 c.sequence) (take h c.sequence) sound.sequence (sound_base d was).sequence) sound
+
+  pub none_site : (d f : Files) → Image v d → InNewest d f → HasKept (λ r. 0) f → IsSite f (with_sequence c (take h c.sequence))
+  none_site d f was same first =
+      site_of f (with_sequence c (take h c.sequence)) base (subst (AreOf f (with_sequence c (take h c.sequence))) (none_first base (suc k.g) k.waiting) (of_first d f (λ r. 0) (take h c.sequence) was same)) (none_image d f was same first)
+
+  -- with all of them
+  abbrev pub all_of : Records
+  all_of = with_more base (appended (suc k.g) k.waiting)
+
+  abbrev pub every : ℕ → ℕ
+  every r = length (tcoms k.waiting r)
+
+  pub all_image : (d f : Files) → Image v d → InNewest d f → HasKept every f → IsSoundImage f all_of c.sequence
+  all_image d f was same first =
+      let found = front_image d f every was same first in
+      let sound : IsSoundImage f all_of (take found.0 c.sequence) = subst (λ (u : Records). IsSoundImage f u (take found.0 c.sequence)) (all_first base (suc k.g) k.waiting) found.3 in
+      let longest : IsSequence all_of c.sequence = subst (IsSequence all_of) whole (laws.all base (take h c.sequence) (suc k.g) k.waiting (drop h c.sequence) (sound_base d was).sequence none_past entries) in
+      subst (IsSoundImage f all_of) (runs.one all_of (take found.0 c.sequence) c.sequence sound.sequence longest) sound
+
+  pub all_site : (d f : Files) → Image v d → InNewest d f → HasKept every f → IsSite f (with_sequence c (take (length c.sequence) c.sequence))
+  all_site d f was same first =
+      subst (λ (seq : Sequence). IsSite f (with_sequence c seq)) (sym (take-length c.sequence))
+      (site_of f c all_of (subst (AreOf f c) (all_first base (suc k.g) k.waiting) (of_first d f every c.sequence was same)) (all_image d f was same first))

@@ -1,0 +1,15 @@
+-- Bytes of a file, piece by piece.
+use Rattle.std.proofs.Common.{◌≡◌, ℕ, ◌+◌, ◌++◌, List, take, drop, Option, IfSome, sym, ◌∙◌, ap, append_assoc}
+use Rattle.std.proofs.Math.Seq.{take-add}
+use Rattle.disk_defs.specs.Disk.{Files}
+use Rattle.disk_defs.proofs.Told.{both_weak, told_at}
+
+-- one piece more
+pub one_piece : (o n : Option Files) (file at count : ℕ) (first old new : List ℕ) → n ≡ o → IfSome o (λ files. old ≡ first ++ take at (files file)) → IfSome n (λ files. new ≡ old ++ take count (drop at (files file)))
+    → IfSome o (λ files. new ≡ first ++ take (at + count) (files file))
+one_piece o n file at count first old new same before here =
+    let Here = λ (files : Files). new ≡ old ++ take count (drop at (files file)) in
+    both_weak o (λ files. old ≡ first ++ take at (files file)) Here (λ files. new ≡ first ++ take (at + count) (files file)) before (told_at o n Here same here)
+    (λ files was is.
+    is ∙ ap (λ (l : List ℕ). l ++ take count (drop at (files file))) was ∙ append_assoc first (take at (files file)) (take count (drop at (files file)))
+    ∙ ap (λ (l : List ℕ). first ++ l) (sym (take-add at count (files file))))

@@ -1,9 +1,0 @@
-use Rattle.std.proofs.Common.{◌≡◌, map, drop}
-use Rattle.std.specs.Option.{option_or}
-use Rattle.journal_defs.specs.Instance.{mode_of}
-use Rattle.instance_file.specs.Values.{record_value}
-use Rattle.site_store.proofs.drawing.mode_by.Given as goal
-
--- what the records that are left give, and else the mode so far
-abbrev pub invariant-loop-given : goal.invariant-loop-given
-invariant-loop-given l = mode_of (map record_value l.records) 0 ≡ option_or (mode_of (map record_value (drop l.given-index l.records)) 0) l.mode

@@ -1,0 +1,29 @@
+use Rattle.std.proofs.Common.{refl}
+use Rattle.site_store.proofs.Committed as committed
+use Rattle.site_store.proofs.site.OpenSite.prepare.Goals as goal
+
+pub returns-in_err-prepare-clause-ready : goal.returns-in_err-prepare-clause-ready
+returns-in_err-prepare-clause-ready g c =
+    committed.ready_prepared (g.D.Disk.disk c.args.disk.now) (g.D.Disk.disk c.prepare.new.disk) c.args.self.now _ c.prepare.new.self c.requires.ready c.prepare.ensures.ready c.prepare.ensures.count c.prepare.ensures.frame refl refl refl
+
+pub returns-in_err-prepare-clause-frame : goal.returns-in_err-prepare-clause-frame
+returns-in_err-prepare-clause-frame g c = committed.own_stays (g.D.Disk.disk c.args.disk.now) (g.D.Disk.disk c.prepare.new.disk) c.args.self.now c.requires.ready c.prepare.ensures.frame
+
+pub returns-in_err-remember-clause-ready : goal.returns-in_err-remember-clause-ready
+returns-in_err-remember-clause-ready g c =
+    committed.ready_prepared (g.D.Disk.disk c.args.disk.now) (g.D.Disk.disk c.prepare.new.disk) c.args.self.now c.remember.new.self c.prepare.new.self c.requires.ready c.prepare.ensures.ready c.prepare.ensures.count c.prepare.ensures.frame
+    c.remember.ensures.journals c.remember.ensures.same.instance c.remember.ensures.same.layout
+
+pub returns-in_err-remember-clause-frame : goal.returns-in_err-remember-clause-frame
+returns-in_err-remember-clause-frame g c = committed.own_stays (g.D.Disk.disk c.args.disk.now) (g.D.Disk.disk c.prepare.new.disk) c.args.self.now c.requires.ready c.prepare.ensures.frame
+
+pub returns-clause-ready : goal.returns-clause-ready
+returns-clause-ready g c =
+    committed.ready_prepared (g.D.Disk.disk c.args.disk.now) (g.D.Disk.disk c.prepare.new.disk) c.args.self.now c.remember.new.self c.prepare.new.self c.requires.ready c.prepare.ensures.ready c.prepare.ensures.count c.prepare.ensures.frame
+    c.remember.ensures.journals c.remember.ensures.same.instance c.remember.ensures.same.layout
+
+pub returns-clause-prepared : goal.returns-clause-prepared
+returns-clause-prepared g c = committed.still_prepared c.in_ok-parts.parts c.remember.new.self c.prepare.new.self c.remember.ensures.journals c.in_ok-prepare.ensures.prepared
+
+pub returns-clause-frame : goal.returns-clause-frame
+returns-clause-frame g c = committed.own_stays (g.D.Disk.disk c.args.disk.now) (g.D.Disk.disk c.prepare.new.disk) c.args.self.now c.requires.ready c.prepare.ensures.frame

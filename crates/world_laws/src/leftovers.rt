@@ -1,0 +1,30 @@
+//! What files stand for, and what lies behind that.
+
+ghost use Rattle.std.specs.Prelude.{◌≡◌, ℕ, ◌-◌, ◌≤◌, [], ◌∷◌, ◌++◌, get_or};
+ghost use Rattle.disk_defs.specs.Disk.{Files};
+ghost use Rattle.journal_defs.specs.Numbers.{broken_file};
+ghost use Rattle.journal_defs.specs.Instance.{generation};
+ghost use Rattle.world_defs.specs.World.{Contents, Leftover, NO_LEFTOVER};
+ghost use Rattle.world_defs.specs.Rows.{IsBehind};
+ghost use Rattle.world_defs.specs.Ties.{IsSite, HasLeft, Stands, Reads};
+
+/// The files of a site have one thing behind its sequence, and its broken list is the text of some parts; there is nothing before the
+/// first generation.
+pub fn leftovers_hold()
+    ensures there { (f : Files) (c : Contents) → IsSite f c → (left : Leftover) × HasLeft f c left }
+    ensures one { (f : Files) (c : Contents) (l m : Leftover) → HasLeft f c l → HasLeft f c m → l ≡ m }
+    ensures behind { (f : Files) (c : Contents) (left : Leftover) → Reads f c left → IsBehind c left }
+    ensures unbegun { (f : Files) (c : Contents) → IsSite f c → generation c.instance ≡ 0 → HasLeft f c NO_LEFTOVER }
+    ensures reads { (f : Files) (c : Contents) → Stands f c → (left : Leftover) × Reads f c left }
+{}
+
+/// Files stand for one thing at most.
+pub fn files_stand_for_one()
+    ensures { (f : Files) (c o : Contents) → Stands f c → Stands f o → c ≡ o }
+{}
+
+/// A broken-transaction file has what is typed of it: a text, or what an opening that a fault ended wrote, or nothing.
+pub fn typing_reads_files()
+    ensures { (f : Files) (c : Contents) (left : Leftover) (g : ℕ) → IsSite f c → HasLeft f c left → 1 ≤ g → g ≤ 65535
+        → f (broken_file g) ≡ get_or (c.texts ++ left.torn ∷ []) (g - 1) [] }
+{}
