@@ -15,7 +15,7 @@ use Rattle.gvn_key.specs.declared.key.KeyError.{KeyError}
 use Rattle.script_defs.specs.Parts.{word_end, without_spaces}
 use Rattle.command_defs.specs.Commands.{Name, Region, Command, Create, Attach, Map, StartPrimary, Stop, Fuse, Crash, Extract, Zwrite, Show, Print, with_images}
 use Rattle.command_defs.specs.Parts.{column, followed, formed, taken, taken_if_any, ended, word_form, is_name, name_form, region_form, pattern_form, number_form, node_of, node_form}
-use Rattle.command_defs.specs.Patterns.{is_pattern}
+use Rattle.global_defs.specs.Pattern.{is_pattern}
 use Rattle.command_defs.specs.Forms.{MOST_CALLS, MOST_PICK, MOST_NUMBER, MOST_GENERATION, MOST_REGIONS, regions_behind, regions_reading, create_reading, attach_reading, map_reading, start_reading, stop_reading, fuse_reading, crash_reading, extract_reading, zwrite_reading, show_reading, type_reading, command_by, run_reading}
 use Rattle.command_defs.specs.Spelling.{Joins, nothing, AreRegions, IsPattern, IsOrder, create, attach, map_to, start, stop, fuse, crash, extract, extract_from, zwrite, zwrite_from, show, print}
 use Rattle.command_defs.proofs.Joined.{IsTight, IsFronted, tight_drop, tight_without, fronted_without, joins, begins, begins_none}

@@ -1,6 +1,5 @@
 pub mod Commands
 pub mod Lines
-pub mod Patterns
 pub mod Parts
 pub mod Forms
 pub mod Sections

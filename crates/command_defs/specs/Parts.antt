@@ -12,7 +12,7 @@ use Rattle.gvn_key.specs.KeyText.{key_reading}
 use Rattle.gvn_key.specs.declared.key.KeyError.{KeyError}
 use Rattle.script_defs.specs.Parts.{word_end, without_spaces}
 use Rattle.command_defs.specs.Commands.{Region}
-use Rattle.command_defs.specs.Patterns.{is_pattern}
+use Rattle.global_defs.specs.Pattern.{is_pattern}
 
 -- What is ignored at a line's end: spaces, at most one carriage return, and again spaces.
 

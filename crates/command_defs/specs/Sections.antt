@@ -6,7 +6,7 @@ use Rattle.global_defs.specs.Jobs.{Statement, Set, Kill, ZKill, Incr, Job}
 use Rattle.global_defs.specs.Serial.{without_next}
 use Rattle.command_defs.specs.Commands.{Name, Command, Create, Attach, Map, StartPrimary, Run, Stop, Fuse, Crash, Extract, Zwrite, Show, Print}
 use Rattle.command_defs.specs.Parts.{is_name}
-use Rattle.command_defs.specs.Patterns.{is_pattern}
+use Rattle.global_defs.specs.Pattern.{is_pattern}
 use Rattle.command_defs.specs.Forms.{MOST_REGIONS, MOST_CALLS, MOST_PICK, MOST_NUMBER, MOST_GENERATION}
 
 abbrev pub UPDATERS : ℕ

@@ -11,7 +11,7 @@ use Rattle.script_defs.specs.Parts.{word_end}
 use Rattle.script_defs.specs.Statements.{SpellsStatement}
 use Rattle.command_defs.specs.Commands.{Name, Command, Create, Attach, Map, StartPrimary, Stop, Fuse, Crash, Extract, Zwrite, Show, Print, with_images}
 use Rattle.command_defs.specs.Parts.{is_name}
-use Rattle.command_defs.specs.Patterns.{is_global_name}
+use Rattle.global_defs.specs.Pattern.{is_global_name}
 use Rattle.command_defs.specs.Forms.{MOST_REGIONS, MOST_CALLS, MOST_PICK, MOST_NUMBER, MOST_GENERATION}
 use Rattle.command_defs.specs.Sections.{Section, UPDATERS, MOST_STATEMENTS, MOST_UPDATES, is_open, is_update, jobs_of, last_job, transaction_begun, transaction_ended, with_statement}
 use Rattle.command_defs.specs.Script.{LONGEST_LINE}

@@ -4,6 +4,7 @@ pub mod Encoded
 pub mod Zwr
 pub mod NodeText
 pub mod Valid
+pub mod Pattern
 pub mod Entry
 pub mod Jobs
 pub mod Evaluation

@@ -2,7 +2,8 @@
 ghost use Rattle.std.specs.Prelude.{◌≡◌, ◌↔◌, ◌≤◌, ◌<◌, ℕ, List, true, false, [], map, IfOk, OnOk, OnErr, IsErrOf};
 ghost use Rattle.journal_defs.specs.Directory as defs;
 ghost use Rattle.journal_defs.specs.Directory.{region_of};
-ghost use Rattle.global_dir.specs.Texts.{ends_in_star, stem, is_pattern, pattern_of};
+ghost use Rattle.global_defs.specs.Pattern.{ends_in_star, stem, is_pattern};
+ghost use Rattle.global_dir.specs.Texts.{pattern_of};
 ghost use Rattle.global_dir.specs.Directory.{pattern_value, with_pattern, is_mapped, pattern_with};
 
 use super::error::DirError;

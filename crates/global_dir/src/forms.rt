@@ -1,7 +1,7 @@
 //! Patterns as an instance file has them.
 ghost use Rattle.std.specs.Prelude.{◌≡◌, ◌<◌, ◌↔◌, ℕ, List, true};
 ghost use Rattle.journal_defs.specs.Instance.{IsInForm, Map};
-ghost use Rattle.global_dir.specs.Texts.{ends_in_star, stem, is_pattern};
+ghost use Rattle.global_defs.specs.Pattern.{ends_in_star, stem, is_pattern};
 
 /// A text is a pattern where the MAP of its name and its star is a record of its form. It does nothing.
 pub fn patterns_have_forms()

@@ -3,7 +3,7 @@ ghost use Rattle.std.specs.Prelude.{◌≡◌, IfOk};
 ghost use Rattle.std.specs.List.{list_all};
 ghost use Rattle.std.specs.Char.{is_ascii_alphanumeric};
 ghost use Rattle.journal_defs.specs.Directory.{is_matched, is_beaten};
-ghost use Rattle.global_dir.specs.Texts.{ends_in_star, stem, is_global_name};
+ghost use Rattle.global_defs.specs.Pattern.{ends_in_star, stem, is_global_name};
 ghost use Rattle.std.specs.Option.{option_map};
 ghost use Rattle.global_dir.specs.Directory.{pattern_value, standing};
 

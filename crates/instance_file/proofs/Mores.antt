@@ -1,15 +1,15 @@
 -- One record more is in order.
-use Rattle.std.proofs.Common.{◌≡◌, ℕ, ◌<◌, ◌≤◌, Bool, true, false, inl, inr, List, [], ◌∷◌, ◌++◌, length, filter, take, ◌-◌, if◌then◌else◌, refl, sym, subst, arith}
+use Rattle.std.proofs.Common.{◌≡◌, ℕ, ◌<◌, ◌≤◌, Bool, true, false, inl, inr, List, [], ◌∷◌, ◌++◌, length, filter, refl, sym, subst, arith}
 use Rattle.std.proofs.lemmas.Bool.{cases_Bool}
 use Rattle.std.specs.List.{AllByRecursion}
 use Rattle.global_defs.specs.Entry.{Reign}
-use Rattle.journal_defs.specs.Instance.{InstanceRecord, Reigned, Cut, Map, generation, regions}
+use Rattle.journal_defs.specs.Instance.{InstanceRecord, Reigned, Cut, Map, pattern_record, generation, regions}
 use Rattle.journal_defs.specs.Surviving.{reigns}
 use Rattle.journal_defs.specs.Stands.{StartsRise}
 use Rattle.journal_laws.proofs.Runs.{reigns-cut, reigns-more, starts_by}
 use Rattle.journal_laws.proofs.Later.{reigns-same}
 use Rattle.instance_file.specs.Order.{AreInOrder}
-use Rattle.instance_file.specs.Patterns.{mapped, ends_in_star}
+use Rattle.global_defs.specs.Pattern.{ends_in_star, stem}
 use Rattle.instance_file.proofs.Orders.{ordered_behind}
 use Rattle.instance_file.proofs.Histories.{last_start, rise_push}
 
@@ -50,12 +50,5 @@ map_more rs region star name some order = record {
   reigns = subst (StartsRise 0) (sym (reigns-same rs (Map region star name) (λ s. refl) refl)) order.reigns;
 }
 
-one_map : (b c : Bool) (region : ℕ) (n m : List ℕ) → (if b then Map region c n else Map region c m) ≡ Map region c (if b then n else m)
-one_map true c region n m = refl
-one_map false c region n m = refl
-
-pub mapped_more : (rs : List InstanceRecord) (region : ℕ) (pattern : List ℕ) → region < length (regions rs) → AreInOrder rs → AreInOrder (rs ++ mapped region pattern ∷ [])
-mapped_more rs region pattern some order =
-    let b = ends_in_star pattern in
-    let short = take (length pattern - 1) pattern in
-    subst (λ (y : InstanceRecord). AreInOrder (rs ++ y ∷ [])) (sym (one_map b b region short pattern)) (map_more rs region b (if b then short else pattern) (has_record rs region some) order)
+pub pattern_more : (rs : List InstanceRecord) (region : ℕ) (pattern : List ℕ) → region < length (regions rs) → AreInOrder rs → AreInOrder (rs ++ pattern_record region pattern ∷ [])
+pattern_more rs region pattern some order = map_more rs region (ends_in_star pattern) (stem pattern) (has_record rs region some) order

@@ -4,5 +4,4 @@ pub mod Fields
 pub mod Order
 pub mod Reading
 pub mod Walks
-pub mod Patterns
 pub mod Instance

@@ -14,7 +14,6 @@ ghost use Rattle.journal_defs.specs.Surviving as surviving;
 ghost use Rattle.journal_defs.specs.Stands.{IsInstance};
 ghost use Rattle.instance_file.specs.Values.{record_value, named_mode};
 ghost use Rattle.instance_file.specs.Order.{AreInOrder};
-ghost use Rattle.instance_file.specs.Patterns.{mapped};
 ghost use Rattle.instance_file.specs.Reading.{IsOutsideInstance};
 
 use super::appending::put;
@@ -74,7 +73,7 @@ fn greatest_cycle(records: &[InstanceRecord]) -> u32
 
 /// A MAP of a pattern, a name or a name and a star, to a region.
 fn map_of(alloc: Global, region: u8, pattern: &[u8]) -> Result<InstanceRecord, NoMemory>
-    ensures { IfOk result (λ made. record_value made ≡ mapped region pattern.now) }
+    ensures { IfOk result (λ made. record_value made ≡ defs.pattern_record region pattern.now) }
 {
     let (name, star) = match pattern {
         [name @ .., b'*'] => (name, true),
@@ -270,11 +269,11 @@ impl Instance {
     ) -> Result<(), InstanceError>
         requires ready { IsReady (D.disk disk.old) self.old }
         requires created { region < length (defs.regions self.old.records) }
-        requires form { IsInForm (mapped region pattern.now) }
+        requires form { IsInForm (defs.pattern_record region pattern.now) }
         ensures ready { OnOk result (IsReady (D.disk disk.new) self.new) }
-        ensures records { OnOk result (self.new.records ≡ self.old.records ++ mapped region pattern.now ∷ []) }
-        ensures state { OnOk result ((rs : List defs.InstanceRecord) → HasRecords (D.disk disk.old) self.old rs → HasRecords (D.disk disk.new) self.new (rs ++ mapped region pattern.now ∷ [])) }
-        ensures any_moment { (rs : List defs.InstanceRecord) → HasRecords (D.disk disk.old) self.old rs → AtEachMoment (D.disk disk.old) (D.disk disk.new) (OnlyOn (D.disk disk.old) INSTANCE (StandsWith rs (mapped region pattern.now))) }
+        ensures records { OnOk result (self.new.records ≡ self.old.records ++ defs.pattern_record region pattern.now ∷ []) }
+        ensures state { OnOk result ((rs : List defs.InstanceRecord) → HasRecords (D.disk disk.old) self.old rs → HasRecords (D.disk disk.new) self.new (rs ++ defs.pattern_record region pattern.now ∷ [])) }
+        ensures any_moment { (rs : List defs.InstanceRecord) → HasRecords (D.disk disk.old) self.old rs → AtEachMoment (D.disk disk.old) (D.disk disk.new) (OnlyOn (D.disk disk.old) INSTANCE (StandsWith rs (defs.pattern_record region pattern.now))) }
         ensures kept { OnErr result (self.new.records ≡ self.old.records) }
         ensures no_memory_ready { IsErrOf result InstanceError.NoMemory → IsReady (D.disk disk.new) self.new }
         ensures no_memory_state { IsErrOf result InstanceError.NoMemory → (rs : List defs.InstanceRecord) → HasRecords (D.disk disk.old) self.old rs → HasRecords (D.disk disk.new) self.new rs }

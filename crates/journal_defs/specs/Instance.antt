@@ -5,6 +5,7 @@ use Rattle.std.specs.List.{AllByRecursion, flat_map}
 use Rattle.std.specs.Option.{option_or, option_map}
 use Rattle.global_defs.specs.Entry.{Reign}
 use Rattle.global_defs.specs.Valid.{is_name}
+use Rattle.global_defs.specs.Pattern.{ends_in_star, stem}
 use Rattle.global_defs.specs.Fields.{flag, short, IsSiteName, IsReign}
 
 -- a region's name, and whether its blocks are kept as they were before they change
@@ -19,6 +20,10 @@ pub data InstanceRecord : Type 0 where
   Cut : (length generation : ℕ) → InstanceRecord
   Map : (region : ℕ) → (star : Bool) → (name : List ℕ) → InstanceRecord
   Mode : (region : ℕ) → (before : Bool) → InstanceRecord
+
+-- the MAP of a pattern that is written so
+abbrev pub pattern_record : ℕ → List ℕ → InstanceRecord
+pattern_record region text = Map region (ends_in_star text) (stem text)
 
 abbrev pub spelled_region : NamedMode → List ℕ
 spelled_region r = short r.name ++ flag r.before ∷ []

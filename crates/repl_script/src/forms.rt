@@ -6,7 +6,7 @@ ghost use Rattle.std.specs.Char.{is_ascii_alphanumeric, is_ascii_digit};
 ghost use Rattle.std.specs.Str.Parse.{digits_value};
 ghost use Rattle.global_defs.specs.Numeral.{is_whole};
 ghost use Rattle.command_defs.specs.Parts.{is_lettered, is_name, is_digits, number_form};
-ghost use Rattle.command_defs.specs.Patterns.{is_global_name, is_pattern};
+ghost use Rattle.global_defs.specs.Pattern.{is_global_name, is_pattern};
 
 /// How many characters a name may have.
 const LONGEST_NAME: usize = 15;

@@ -2,7 +2,7 @@
 ghost use Rattle.std.specs.Prelude.{◌≡◌, ◌≤◌, true, length, take, drop, IfOk};
 ghost use Rattle.script_defs.specs.Parts.{word_end, without_spaces};
 ghost use Rattle.command_defs.specs.Parts.{before_spaces, before_return, trimmed, taken, ended, word_form, is_name, name_form, pattern_form, number_form, node_form};
-ghost use Rattle.command_defs.specs.Patterns.{is_pattern};
+ghost use Rattle.global_defs.specs.Pattern.{is_pattern};
 ghost use Rattle.repl_script.specs.Reads.{Reads};
 
 use super::fault::{Fault, bad};

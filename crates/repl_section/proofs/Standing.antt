@@ -10,7 +10,8 @@ use Rattle.global_defs.specs.Entry.{Sequence}
 use Rattle.world_defs.specs.World.{Contents}
 use Rattle.world_defs.specs.Rows.{with_sequence}
 use Rattle.world_defs.specs.Ties.{IsSite}
-use Rattle.site_store.specs.Site.{IsOpen, tagged}
+use Rattle.site_store.specs.Site.{IsOpen}
+use Rattle.gvn_model.specs.Numbered.{numbered}
 use Rattle.site_store.specs.declared.site.OpenSite.{OpenSite}
 use Rattle.site_store.proofs.Standing.{images_stand}
 use Rattle.repl_section.specs.declared.reign.Reign.{Reign}
@@ -33,4 +34,4 @@ all_at_once v w c lawful run f i = subst (λ (seq : Sequence). IsSite f (with_se
 
 -- as many entries in memory
 pub entries_counted : (v : View) (told : Bool) (c : Contents) (h : ℕ) (s : OpenSite) → IsOpen v told c h s → length s.entries.items ≡ length c.sequence
-entries_counted v told c h s is = sym (length-map s.entries.items tagged) ∙ ap length is.remembered.entries ∙ length-enumerate_from 1 c.sequence
+entries_counted v told c h s is = sym (length-map s.entries.items numbered) ∙ ap length is.remembered.entries ∙ length-enumerate_from 1 c.sequence

@@ -10,3 +10,4 @@ pub mod RegionsRead
 pub mod WhatIsRead
 pub mod Kept
 pub mod Recovered
+pub mod RecordsRead

@@ -22,7 +22,7 @@ use Rattle.site_files.specs.Reading.{HaveJournals, AreAllDurable, AreUnbegun, Ar
 use Rattle.site_files.proofs.RegionsRead.{durable_kept}
 
 -- a file has one list of records
-instance_one : (file : List ℕ) (rs qs : List InstanceRecord) → IsInstance file rs → IsInstance file qs → rs ≡ qs
+pub instance_one : (file : List ℕ) (rs qs : List InstanceRecord) → IsInstance file rs → IsInstance file qs → rs ≡ qs
 instance_one file rs qs a b = holds_one IsInstanceBody file rs qs instance_body a.bodies b.bodies
 
 -- the files are none by which a site may be opened

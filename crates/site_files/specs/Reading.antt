@@ -1,10 +1,13 @@
 -- The regions of a site, as they are read one after another.
-use Rattle.std.specs.Prelude.{◌≡◌, ℕ, ◌<◌, List, [], Some}
+use Rattle.std.specs.Prelude.{◌≡◌, ℕ, ◌<◌, ◌≤◌, List, [], length, Some}
+use Rattle.std.specs.List.{AllByRecursion}
 use Rattle.disk_defs.specs.Disk.{Files, View, IsDurable}
 use Rattle.disk_defs.specs.Gates.{records}
 use Rattle.journal_defs.specs.Numbers.{journal_file}
-use Rattle.journal_defs.specs.Sequence.{Placed}
-use Rattle.journal_defs.specs.Stands.{IsJournal}
+use Rattle.journal_defs.specs.Directory.{Pattern, patterns}
+use Rattle.journal_defs.specs.Instance.{regions}
+use Rattle.journal_defs.specs.Sequence.{Placed, Records}
+use Rattle.journal_defs.specs.Stands.{IsJournal, AreRecords}
 use Rattle.jnl_file.specs.Generations.{AreDurable}
 
 -- the first so many regions have these records over the generations up to g
@@ -21,3 +24,8 @@ AreUnbegun regions g files = (r : ℕ) → r < regions → records (files (journ
 
 abbrev pub AreUnbegunDurable : View → ℕ → ℕ → Files → Type 0
 AreUnbegunDurable v regions g files = (r : ℕ) → r < regions → IsDurable v (journal_file g r) (files (journal_file g r))
+
+-- the files hold no records of one to eight regions with each MAP to one of them
+abbrev pub HoldNoSite : Files → Type 0
+HoldNoSite files = (s : Records) → AreRecords files s → 1 ≤ length (regions s.instance) → length (regions s.instance) ≤ 8
+    → AllByRecursion (λ (p : Pattern). p.region < length (regions s.instance)) (patterns s.instance) → ⊥

@@ -21,5 +21,5 @@ pub use error::FilesError;
 pub use finding::{created_name, generation_in, in_instance, read_instance, sync_instance};
 pub use laws::{drawing_keeps_the_sequence, images_have_what_was_read, reading_gives_the_records};
 pub use mapping::directory_of;
-pub use reading::{ReadSite, read_site};
-pub use remembering::{Remembered, remember_all};
+pub use reading::{ReadSite, read_records, read_site};
+pub use remembering::{Remembered, count_entries, remember_all};

@@ -3,19 +3,20 @@ ghost use Rattle.std.specs.Prelude.{◌≡◌, ◌⊎◌, ◌≤◌, ◌<◌, �
 ghost use Rattle.disk_defs.specs.Disk.{Image, IsDurable, AtEachMoment, Rose};
 ghost use Rattle.disk_defs.specs.Gates.{records};
 ghost use Rattle.std.specs.List.{AllByRecursion};
+ghost use Rattle.instance_file.specs.Order.{AreInOrder};
 ghost use Rattle.instance_file.specs.Values.{record_value};
 ghost use Rattle.journal_defs.specs.Directory.{Pattern, patterns};
 ghost use Rattle.journal_defs.specs.Numbers.{INSTANCE, journal_file};
 ghost use Rattle.journal_defs.specs.Instance as defs;
 ghost use Rattle.journal_defs.specs.Instance.{generation};
 ghost use Rattle.journal_defs.specs.Sequence.{Placed};
-ghost use Rattle.journal_defs.specs.Stands.{IsInstance, IsJournal};
+ghost use Rattle.journal_defs.specs.Stands.{IsInstance, IsJournal, AreRecords};
 ghost use Rattle.jnl_file.specs.Generations.{AreDurable};
 ghost use Rattle.jnl_record.specs.Values.{placed_value};
 ghost use Rattle.site_files.specs.Errors.{generations_error};
 ghost use Rattle.site_files.specs.Loading.{MayBeOpened, AreRead, WasRead, IsDirectory, last_of};
-ghost use Rattle.site_files.specs.Reading.{HaveJournals, AreAllDurable, AreUnbegun, AreUnbegunDurable};
-ghost use Rattle.mupip_recover.specs.Site.{journal_of};
+ghost use Rattle.site_files.specs.Reading.{HaveJournals, AreAllDurable, AreUnbegun, AreUnbegunDurable, HoldNoSite};
+ghost use Rattle.mupip_recover.specs.Site.{journal_of, site_records};
 
 use crate::error::FilesError;
 use crate::finding::{generation_in, read_instance};
@@ -206,7 +207,28 @@ struct Plan {
     newest: u32,
 }
 
-/// The directory and the newest generation by these records, where a site may be opened by them.
+/// The directory and the newest generation by these records.
+fn plan_of(alloc: Global, records: &[InstanceRecord]) -> Result<Plan, FilesError>
+    ensures directory { IfOk result (λ plan. IsDirectory (map record_value records.now) (Some plan.directory)) }
+    ensures mapped { IfOk result (λ plan. AllByRecursion (λ (p : Pattern). p.region < plan.directory.regions) (patterns (map record_value records.now))) }
+    ensures regions { IfOk result (λ plan. plan.regions ≡ plan.directory.regions) }
+    ensures few { IfOk result (λ plan. plan.regions ≤ 8) }
+    ensures newest { IfOk result (λ plan. plan.newest ≡ generation (map record_value records.now)) }
+    ensures outside { (file offset : ℕ) → IsErrOf result (FilesError.NotAFile file offset) → IsDirectory (map record_value records.now) None }
+    ensures causes { OnErr result (((file : ℕ) × (offset : ℕ) × IsErrOf result (FilesError.NotAFile file offset)) ⊎ IsErrOf result FilesError.NoMemory) }
+{
+    let Some(directory) = directory_of(alloc, records)? else {
+        return Err(FilesError::NotAFile { file: 0, offset: 0 });
+    };
+    let regions = directory.regions();
+    Ok(Plan {
+        directory,
+        regions,
+        newest: generation_in(records),
+    })
+}
+
+/// The same where a site may be opened by these records.
 fn lay_out(alloc: Global, records: &[InstanceRecord]) -> Result<Plan, FilesError>
     ensures directory { IfOk result (λ plan. IsDirectory (map record_value records.now) (Some plan.directory)) }
     ensures mapped { IfOk result (λ plan. AllByRecursion (λ (p : Pattern). p.region < plan.directory.regions) (patterns (map record_value records.now))) }
@@ -218,22 +240,39 @@ fn lay_out(alloc: Global, records: &[InstanceRecord]) -> Result<Plan, FilesError
     ensures outside { (file offset : ℕ) → IsErrOf result (FilesError.NotAFile file offset) → IsDirectory (map record_value records.now) None }
     ensures no_fault { (fault : ℕ) → IsErrOf result (FilesError.Failed fault) → ⊥ }
 {
-    let Some(directory) = directory_of(alloc, records)? else {
-        return Err(FilesError::NotAFile { file: 0, offset: 0 });
-    };
-    let newest = generation_in(records);
-    if newest >= LAST_GENERATION {
+    let plan = plan_of(alloc, records)?;
+    if plan.newest >= LAST_GENERATION {
         return Err(FilesError::GenLimit);
     }
-    let regions = directory.regions();
-    Ok(Plan {
-        directory,
-        regions,
-        newest,
+    Ok(plan)
+}
+
+/// Syncs and reads the instance file and the journals of a site, however many generations were drawn. It writes nothing.
+pub fn read_records<D: Disk>(alloc: Global, disk: &mut D) -> Result<ReadSite, FilesError>
+    ensures held { IfOk result (λ read. IfSome (D.disk disk.old).content (λ files. AreRecords files (site_records read.log.records (map (λ j. j.items) read.journals.items)))) }
+    ensures order { IfOk result (λ read. AreInOrder read.log.records) }
+    ensures outside { (file offset : ℕ) → IsErrOf result (FilesError.NotAFile file offset) → IfSome (D.disk disk.old).content HoldNoSite }
+    ensures content { (D.disk disk.new).content ≡ (D.disk disk.old).content }
+    ensures any_moment { AtEachMoment (D.disk disk.old) (D.disk disk.new) (Image (D.disk disk.old)) }
+    ensures simulated { (D.disk disk.new).simulated ≡ (D.disk disk.old).simulated }
+    ensures later { (D.disk disk.old).faults ≤ (D.disk disk.new).faults }
+    ensures count { (fault : ℕ) → IsErrOf result (FilesError.Failed fault) → fault ≡ (D.disk disk.new).faults }
+    ensures cause { (fault : ℕ) → IsErrOf result (FilesError.Failed fault) → Rose (D.disk disk.old).faults (D.disk disk.new).faults }
+    ensures causes { OnErr result (((fault : ℕ) × IsErrOf result (FilesError.Failed fault)) ⊎ ((file : ℕ) × (offset : ℕ) × IsErrOf result (FilesError.NotAFile file offset)) ⊎ IsErrOf result FilesError.NoMemory) }
+{
+    let log = read_instance(alloc, disk)?;
+    let plan = plan_of(alloc, log.records.as_slice())?;
+    let found = read_regions(alloc, disk, plan.regions, plan.newest)?;
+    Ok(ReadSite {
+        log,
+        directory: plan.directory,
+        journals: found.journals,
+        last_began: found.last_began,
     })
 }
 
-/// Syncs and reads the instance file and the journals of a site. It writes nothing.
+/// Syncs and reads the instance file and the journals of a site that is to be opened, of which a generation is left. It writes
+/// nothing.
 pub fn read_site<D: Disk>(alloc: Global, disk: &mut D) -> Result<ReadSite, FilesError>
     ensures form { IfOk result (λ read. MayBeOpened read.log.records (last_of read.last_began.items)) }
     ensures directory { IfOk result (λ read. IsDirectory read.log.records (Some read.directory)) }

@@ -79,3 +79,15 @@ pub fn remember_all(
         broken,
     })
 }
+
+/// How many entries these records stand for.
+pub fn count_entries(
+    alloc: Global,
+    log: &InstanceLog,
+    journals: &[Vec<PlacedRecord>],
+) -> Result<u64, NoMemory>
+    ensures { IfOk result (λ n. (seq : Sequence) × IsSequence (site_records log.now.records (map (λ j. j.items) journals.now)) seq × (n ≡ length seq)) }
+{
+    let entries = recover(alloc, &log.records, &log.history, journals)?;
+    Ok(entries.len() as u64)
+}

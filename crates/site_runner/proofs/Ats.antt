@@ -1,13 +1,12 @@
 -- Sites at their places.
-use Rattle.std.proofs.Common.{◌≡◌, ℕ, Bool, true, false, List, [], ◌∷◌, ◌++◌, length, None, Some, refl, sym, ◌∙◌, ap, subst, arith, inl, inr}
+use Rattle.std.proofs.Common.{◌≡◌, ℕ, Bool, true, false, List, [], ◌∷◌, ◌++◌, length, take, None, Some, refl, sym, ◌∙◌, ap, subst, arith, inl, inr}
 use Rattle.std.specs.Prelude.{◌⊎◌, Option, IfSome, IsSome, IsSomeAnd}
 use Rattle.std.proofs.lemmas.Bool.{false≢true}
 use Rattle.std.proofs.Math.Seq.{take-length}
 use Rattle.disk_defs.specs.Disk.{Files, View, Image, IsLawful, AtEachMoment}
 use Rattle.site_store.specs.declared.site.OpenSite.{OpenSite}
-use Rattle.site_store.specs.Site.{IsOpen}
-use Rattle.site_store.proofs.Standing.{images_stand}
-use Rattle.site_store.proofs.Emptied.{none_left}
+use Rattle.site_store.specs.Site.{IsOpen, Keeps}
+use Rattle.journal_defs.specs.Instance.{generation}
 use Rattle.world_defs.specs.Lists.{Among}
 use Rattle.world_defs.specs.World as world
 use Rattle.command_defs.specs.Commands.{Command}
@@ -17,7 +16,6 @@ use Rattle.world_defs.specs.Refusals.{first, in_state, stopped, not_running}
 use Rattle.world_defs.specs.Rows.{with_sequence, IsBehind}
 use Rattle.world_defs.specs.Output.{line, cause_text, name_in}
 use Rattle.world_defs.specs.Ties.{IsSite, HasLeft, Stands, Reads, Matches}
-use Rattle.world_laws.proofs.StandsForOne.{left_reads, left_behind}
 use Rattle.site_runner.specs.declared.slot.State.{State}
 use Rattle.site_runner.specs.declared.slot.State.TheVariants.{Down, Primary, Failed}
 use Rattle.site_runner.specs.declared.slot.Site.{Site}
@@ -123,6 +121,16 @@ reads_image w law told =
     let s = files_of w.content told in
     (s.0, s.1, subst (λ (o : Option Files). IfSome o (λ files. w.since w.moment files)) s.1 law.as_read)
 
+-- what the law of leftovers says
+abbrev pub Leftovers : Type 0
+Leftovers = record {
+  there : (f : Files) (c : Contents) → IsSite f c → (left : Leftover) × HasLeft f c left;
+  one : (f : Files) (c : Contents) (l m : Leftover) → HasLeft f c l → HasLeft f c m → l ≡ m;
+  behind : (f : Files) (c : Contents) (left : Leftover) → Reads f c left → IsBehind c left;
+  unbegun : (f : Files) (c : Contents) → IsSite f c → generation c.instance ≡ 0 → HasLeft f c NO_LEFTOVER;
+  reads : (f : Files) (c : Contents) → Stands f c → (left : Leftover) × Reads f c left;
+}
+
 -- A place with these outcomes, for one of which each image stands: what its files read as, and what lies behind that.
 pub record ReadPlace (w : View) (p : Place) (site : Option world.Site) (outcomes : List Contents) : Type 0 where
   pub now : Contents
@@ -131,18 +139,18 @@ pub record ReadPlace (w : View) (p : Place) (site : Option world.Site) (outcomes
   pub behind : p.told ≡ true → IsBehind now left
   pub matches : Matches w (record { site = site; told = p.told; now = now; left = left; outcomes = outcomes; faults = w.faults; simulated = p.simulated })
 
-pub place_of_images : (w : View) (p : Place) (site : Option world.Site) (outcomes : List Contents) → IsLawful w → w.simulated ≡ p.simulated → (p.told ≡ true → IsSome w.content)
+pub place_of_images : (leftovers : Leftovers) (w : View) (p : Place) (site : Option world.Site) (outcomes : List Contents) → IsLawful w → w.simulated ≡ p.simulated → (p.told ≡ true → IsSome w.content)
     → (p.told ≡ true → (c : Files) → Image w c → (o : Contents) × Among outcomes o × Stands c o) → ReadPlace w p site outcomes
-place_of_images w p site outcomes law same told images = elim (is_true_or_false p.told) [
+place_of_images leftovers w p site outcomes law same told images = elim (is_true_or_false p.told) [
   | inl sure ↦
       let r = reads_image w law (told sure) in
       let o = images sure r.0 r.2 in
-      let left = left_reads r.0 o.0 o.2 in
+      let left = leftovers.reads r.0 o.0 o.2 in
       record {
         now = o.0;
         left = left.0;
         among = λ _. o.1;
-        behind = λ _. left_behind r.0 o.0 left.0 left.1;
+        behind = λ _. leftovers.behind r.0 o.0 left.0 left.1;
         matches = record { told = λ _. subst (λ (x : Option Files). IsSomeAnd x (λ files. Reads files o.0 left.0)) (sym r.1) left.1; images = images; faults = refl; simulated = same };
       }
   | inr not ↦ record {
@@ -163,14 +171,22 @@ pub only : (o d : Contents) → Among (d ∷ []) o → o ≡ d
 only o d (inl h) = h
 only o d (inr h) = absurd h
 
+-- nothing lies behind the hardened entries of an open site
+abbrev pub NothingIsLeft : View → Type 0
+NothingIsLeft w = (c : Contents) (h : ℕ) (s : OpenSite) (f : Files) → Keeps w c h s → Image w f → HasLeft f (with_sequence c (take h c.sequence)) NO_LEFTOVER
+
+-- each image of an open site's disk stands for its contents
+pub open_site : (w : View) (c : Contents) (s : OpenSite) → IsOpen w true c (length c.sequence) s → (f : Files) → Image w f → IsSite f c
+open_site w c s h f i = subst (λ seq. IsSite f (with_sequence c seq)) (take-length c.sequence) ((h.kept refl).images f i)
+
 -- an open site's disk and each image stand for its contents, and nothing lies behind them
-pub open_reads : (w : View) (told : Bool) (c : Contents) (s : OpenSite) → IsLawful w → told ≡ true → IsOpen w told c (length c.sequence) s → IsSomeAnd w.content (λ files. Reads files c NO_LEFTOVER)
-open_reads w told c s law sure h =
+pub open_reads : (w : View) (nothing : NothingIsLeft w) (told : Bool) (c : Contents) (s : OpenSite) → IsLawful w → told ≡ true → IsOpen w told c (length c.sequence) s → IsSomeAnd w.content (λ files. Reads files c NO_LEFTOVER)
+open_reads w nothing told c s law sure h =
     let kept = h.kept sure in
     let r = reads_image w law (told_is w.content _ kept.reads) in
     let site : IsSite r.0 c = subst (λ seq. IsSite r.0 (with_sequence c seq)) (take-length c.sequence) (kept.images r.0 r.2) in
-    let left : HasLeft r.0 c NO_LEFTOVER = subst (λ seq. HasLeft r.0 (with_sequence c seq) NO_LEFTOVER) (take-length c.sequence) (none_left w c (length c.sequence) s r.0 kept r.2) in
+    let left : HasLeft r.0 c NO_LEFTOVER = subst (λ seq. HasLeft r.0 (with_sequence c seq) NO_LEFTOVER) (take-length c.sequence) (nothing c (length c.sequence) s r.0 kept r.2) in
     subst (λ (x : Option Files). IsSomeAnd x (λ files. Reads files c NO_LEFTOVER)) (sym r.1) (inr (site, left))
 
 pub open_images : (w : View) (told : Bool) (c : Contents) (s : OpenSite) → told ≡ true → IsOpen w told c (length c.sequence) s → (f : Files) → Image w f → Stands f c
-open_images w told c s sure h f i = inr (images_stand w c s (subst (λ (b : Bool). IsOpen w b c (length c.sequence) s) sure h) f i)
+open_images w told c s sure h f i = inr (open_site w c s (subst (λ (b : Bool). IsOpen w b c (length c.sequence) s) sure h) f i)

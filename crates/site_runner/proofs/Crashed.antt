@@ -14,13 +14,12 @@ use Rattle.world_defs.specs.Rows.{in_new_state, IsBehind}
 use Rattle.world_defs.specs.Output.{line}
 use Rattle.world_defs.specs.Ties as ties
 use Rattle.world_defs.specs.Ties.{Stands}
-use Rattle.world_laws.proofs.StandsForOne.{left_reads, left_behind}
 use Rattle.site_runner.specs.declared.slot.State.TheVariants.{Down}
 use Rattle.site_runner.specs.declared.slot.Site.{Site}
 use Rattle.site_runner.specs.Sites.{is_down, fault_of, IsOf}
 use Rattle.site_runner.specs.Steps.{IsAt, ExecutesAt}
 use Rattle.site_runner.proofs.Fused.{state_read}
-use Rattle.site_runner.proofs.Ats.{refuses, state_at, is_stopped, not_stopped, is_not_running, is_running, first_cause, second_cause, no_cause, is_true_or_false, reads_stand, only, files_of, kept_same}
+use Rattle.site_runner.proofs.Ats.{refuses, state_at, is_stopped, not_stopped, is_not_running, is_running, first_cause, second_cause, no_cause, is_true_or_false, Leftovers, reads_stand, only, files_of, kept_same}
 
 pub fuse_stopped : (v : View) (s : Site) (calls k : ℕ) (before now : List ℕ) → fault_of s.state ≡ Some k → now ≡ before ++ line s.name (codes "STOPPED " ++ decimal k) → ExecutesAt (Fuse s.name calls) v s v s before now
 fuse_stopped v s calls k before now e t = refuses (Fuse s.name calls) v s (Stopped k) before now refl (λ p h. first_cause _ _ (Stopped k) (state_at stopped v s p h ∙ is_stopped s.state k e)) kept_same t
@@ -45,12 +44,12 @@ record CrashPlace (f : Files) (p : Place) : Type 0 where
   behind : p.told ≡ true → IsBehind now left
   reads : p.told ≡ true → ties.Reads f now left
 
-crash_place : (f : Files) (p : Place) → (p.told ≡ true → (o : Contents) × Among p.outcomes o × Stands f o) → CrashPlace f p
-crash_place f p images = elim (is_true_or_false p.told) [
+crash_place : (leftovers : Leftovers) (f : Files) (p : Place) → (p.told ≡ true → (o : Contents) × Among p.outcomes o × Stands f o) → CrashPlace f p
+crash_place leftovers f p images = elim (is_true_or_false p.told) [
   | inl sure ↦
       let o = images sure in
-      let left = left_reads f o.0 o.2 in
-      record { now = o.0; left = left.0; among = λ _. o.1; behind = λ _. left_behind f o.0 left.0 left.1; reads = λ _. left.1 }
+      let left = leftovers.reads f o.0 o.2 in
+      record { now = o.0; left = left.0; among = λ _. o.1; behind = λ _. leftovers.behind f o.0 left.0 left.1; reads = λ _. left.1 }
   | inr not ↦ record {
     now = p.now;
     left = p.left;
@@ -60,15 +59,15 @@ crash_place f p images = elim (is_true_or_false p.told) [
   }
 ]
 
-pub crashes : (v w : View) (s : Site) (pick : ℕ) (before now : List ℕ) → IsLawful w → true ≡ v.simulated → is_down s.state ≡ false → IfSome w.content (Image v)
+pub crashes : (leftovers : Leftovers) (v w : View) (s : Site) (pick : ℕ) (before now : List ℕ) → IsLawful w → true ≡ v.simulated → is_down s.state ≡ false → IfSome w.content (Image v)
     → IfSome w.content (λ files. (c : Files) → Image w c → c ≡ files) → w.simulated ≡ v.simulated → w.faults ≡ v.faults → now ≡ before ++ line s.name (codes "CRASHED")
     → ExecutesAt (Crash s.name pick) v s w (record { name = s.name; state = Down }) before now
-crashes v w s pick before now law sim up image durable same count t p h =
+crashes leftovers v w s pick before now law sim up image durable same count t p h =
     let d = files_of w.content (law.told (same ∙ sym sim)) in
     let f : Files = d.0 in
     let i : Image v f = subst (λ (o : Option Files). IfSome o (Image v)) d.1 image in
     let u : (c : Files) → Image w c → c ≡ f = subst (λ (o : Option Files). IfSome o (λ files. (c : Files) → Image w c → c ≡ files)) d.1 durable in
-    let m = crash_place f p (λ yes. h.disk.images yes f i) in
+    let m = crash_place leftovers f p (λ yes. h.disk.images yes f i) in
     let o : Contents = m.now in
     let q : Place = record { site = in_new_state world.Down p.site; told = p.told; now = o; left = m.left; outcomes = o ∷ []; faults = p.faults; simulated = p.simulated } in (
       Done,

@@ -29,14 +29,13 @@ use Rattle.world_defs.specs.Rows.{named_mode, created, MayCreate}
 use Rattle.world_defs.specs.Step.{KeptUnknown, LeftAt}
 use Rattle.world_defs.specs.Output.{line}
 use Rattle.world_defs.specs.Ties.{IsBlank, IsSite, Stands, Reads, Matches}
-use Rattle.world_laws.proofs.StandsForOne.{left_unbegun}
 use Rattle.site_runner.specs.declared.slot.State.TheVariants.{Down}
 use Rattle.site_runner.specs.declared.slot.Slot.{Slot}
 use Rattle.site_runner.specs.Sites.{IsOf}
 use Rattle.site_runner.specs.Here.{IsCutHere}
 use Rattle.site_runner.specs.Looking.{fits, Finds, LooksHere, Tells}
 use Rattle.site_runner.specs.Creating.{spec_of, IsUnmade, MakeHere, CreateHere, MakesHere, MakingIsCut, CreatesHere}
-use Rattle.site_runner.proofs.Ats.{is_true_or_false, some_both, some_of, some_and, told_is, stands_told, at_moment, ReadPlace, place_of_images, place_of_one, only}
+use Rattle.site_runner.proofs.Ats.{is_true_or_false, some_both, some_of, some_and, told_is, stands_told, at_moment, Leftovers, ReadPlace, place_of_images, place_of_one, only}
 use Rattle.site_runner.proofs.Looked.{some_and_of, none_held, site_none}
 
 -- the regions of a command
@@ -81,12 +80,12 @@ is_blank files c e (inr s) = absurd (false≢true (sym e ∙ s.made))
 of_name : (name : Name) (regions : List Region) → IsOf name (created name regions)
 of_name name regions = record { made = refl; name = refl }
 
-pub made_site : {D : Type 0} (view : D → View) (old : Slot D) (disk : D) (name : List ℕ) (specs : List RegionSpec) (rs : List (List ℕ × Bool)) (before now : List ℕ) → specs ≡ map spec_of rs → old.site ≡ None
+pub made_site : {D : Type 0} (leftovers : Leftovers) (view : D → View) (old : Slot D) (disk : D) (name : List ℕ) (specs : List RegionSpec) (rs : List (List ℕ × Bool)) (before now : List ℕ) → specs ≡ map spec_of rs → old.site ≡ None
     → IfSome (view old.disk).content (λ files. IsBlank files → IfSome (view disk).content (λ new. IsSite new (made name specs)))
     → IfSome (view old.disk).content (λ files. IsBlank files → ((f : Files) → Image (view old.disk) f → IsBlank f) → (f : Files) → Image (view disk) f → IsSite f (made name specs))
     → (IsSome (view old.disk).content → IsSome (view disk).content) → (view disk).simulated ≡ (view old.disk).simulated → (view old.disk).faults ≤ (view disk).faults → now ≡ before ++ line name (codes "CREATED")
     → MakesHere view name (map script.region_value rs) old (record { disk = disk; site = Some (record { name = name; state = Down }) }) before now
-made_site view old disk name specs rs before now are free reads images still same later t p h u =
+made_site leftovers view old disk name specs rs before now are free reads images still same later t p h u =
     let v = view old.disk in
     let w = view disk in
     let regions = map script.region_value rs in
@@ -96,7 +95,7 @@ made_site view old disk name specs rs before now are free reads images still sam
     let q : Place = record { site = Some site; told = p.told; now = o; left = NO_LEFTOVER; outcomes = o ∷ []; faults = w.faults; simulated = p.simulated } in
     let reads_so : p.told ≡ true → IsSomeAnd w.content (λ files. Reads files o NO_LEFTOVER) = λ known.
     let b = some_both v.content _ _ (stands_told v p h.disk known) reads in
-    some_and w.content (λ files. IsSite files (made name specs)) (λ files. Reads files o NO_LEFTOVER) (λ f s. let x : IsSite f o = subst (IsSite f) e s in inr (x, left_unbegun f o x refl))
+    some_and w.content (λ files. IsSite files (made name specs)) (λ files. Reads files o NO_LEFTOVER) (λ f s. let x : IsSite f o = subst (IsSite f) e s in inr (x, leftovers.unbegun f o x refl))
     (some_and_of w.content (λ files. IsSite files (made name specs)) (still (told_is v.content _ (h.disk.told known))) (b.2 (is_blank b.0 p.now (u.now known) b.1).1)) in
     let blank : p.told ≡ true → (f : Files) → Image v f → IsBlank f = λ known f i. let x = h.disk.images known f i in (is_blank f x.0 (u.outcomes known x.0 x.1) x.2).1 in
     let images_so : p.told ≡ true → (c : Files) → Image w c → Stands c o = λ known c i.
@@ -134,10 +133,10 @@ new_or_old : (name : Name) (regions : List Region) (p : Place) (o : Contents) �
 new_or_old name regions p o (inl h) = inr h
 new_or_old name regions p o (inr h) = inl h
 
-making_left : (v w : View) (p : Place) (name : Name) (specs : List RegionSpec) (o : Contents) → IsMaking v w name specs → made name specs ≡ o → Matches v p → IsUnmade p
+making_left : (leftovers : Leftovers) (v w : View) (p : Place) (name : Name) (specs : List RegionSpec) (o : Contents) → IsMaking v w name specs → made name specs ≡ o → Matches v p → IsUnmade p
     → ReadPlace w p p.site (o ∷ p.outcomes)
-making_left v w p name specs o k e m u =
-    place_of_images w p p.site (o ∷ p.outcomes) k.lawful (k.simulated ∙ m.simulated) (λ known. k.still_told (told_is v.content _ (m.told known))) (making_images v w p name specs o k e m u)
+making_left leftovers v w p name specs o k e m u =
+    place_of_images leftovers w p p.site (o ∷ p.outcomes) k.lawful (k.simulated ∙ m.simulated) (λ known. k.still_told (told_is v.content _ (m.told known))) (making_images v w p name specs o k e m u)
 
 abbrev pub Unwritten : SiteError → View → View → Type 0
 Unwritten (Failed fault) v w = (fault ≡ w.faults) × Rose v.faults w.faults
@@ -160,13 +159,13 @@ unwritten v w r ReignLimit is count cause other = tt
 unwritten v w r (NotAFile file offset) is count cause other = other file offset is
 unwritten v w r NoMemory is count cause other = tt
 
-pub make_failed : {D : Type 0} (view : D → View) (old : Slot D) (disk : D) (name : List ℕ) (specs : List RegionSpec) (rs : List (List ℕ × Bool)) (e : SiteError) (before now : List ℕ) → IsMaking (view old.disk) (view disk) name specs
+pub make_failed : {D : Type 0} (leftovers : Leftovers) (view : D → View) (old : Slot D) (disk : D) (name : List ℕ) (specs : List RegionSpec) (rs : List (List ℕ × Bool)) (e : SiteError) (before now : List ℕ) → IsMaking (view old.disk) (view disk) name specs
     → specs ≡ map spec_of rs → old.site ≡ None → Unwritten e (view old.disk) (view disk) → Tells e name before now → MakesHere view name (map script.region_value rs) old (record { disk = disk; site = old.site }) before now
-make_failed view old disk name specs rs (Failed fault) before now k are free f t p h u =
+make_failed leftovers view old disk name specs rs (Failed fault) before now k are free f t p h u =
     let w = view disk in
     let regions = map script.region_value rs in
     let o : Contents = created name regions in
-    let m = making_left (view old.disk) w p name specs o k (made_is name specs rs are) h.disk u in
+    let m = making_left leftovers (view old.disk) w p name specs o k (made_is name specs rs are) h.disk u in
     let q : Place = record { site = p.site; told = p.told; now = m.now; left = m.left; outcomes = o ∷ p.outcomes; faults = w.faults; simulated = p.simulated } in
     let none = site_none view old p free h in (
       DiskFault fault,
@@ -182,19 +181,19 @@ make_failed view old disk name specs rs (Failed fault) before now k are free f t
       record { disk = m.matches; site = h.site; held = none_held view (record { disk = disk; site = old.site }) q free },
       t,
     )
-make_failed view old disk name specs rs (Stopped fault) before now k are free f t p h u = absurd t
-make_failed view old disk name specs rs (Full nodes) before now k are free f t p h u = absurd t
-make_failed view old disk name specs rs SeqLimit before now k are free f t p h u = absurd t
-make_failed view old disk name specs rs GenLimit before now k are free f t p h u = absurd t
-make_failed view old disk name specs rs ReignLimit before now k are free f t p h u = absurd t
-make_failed view old disk name specs rs (NotAFile file offset) before now k are free f t p h u = absurd f
-make_failed view old disk name specs rs NoMemory before now k are free f t p h u = absurd t
+make_failed leftovers view old disk name specs rs (Stopped fault) before now k are free f t p h u = absurd t
+make_failed leftovers view old disk name specs rs (Full nodes) before now k are free f t p h u = absurd t
+make_failed leftovers view old disk name specs rs SeqLimit before now k are free f t p h u = absurd t
+make_failed leftovers view old disk name specs rs GenLimit before now k are free f t p h u = absurd t
+make_failed leftovers view old disk name specs rs ReignLimit before now k are free f t p h u = absurd t
+make_failed leftovers view old disk name specs rs (NotAFile file offset) before now k are free f t p h u = absurd f
+make_failed leftovers view old disk name specs rs NoMemory before now k are free f t p h u = absurd t
 
-pub make_cut : {D : Type 0} (view : D → View) (old new : Slot D) (name : List ℕ) (specs : List RegionSpec) (rs : List (List ℕ × Bool)) → IsMaking (view old.disk) (view new.disk) name specs → specs ≡ map spec_of rs
+pub make_cut : {D : Type 0} (leftovers : Leftovers) (view : D → View) (old new : Slot D) (name : List ℕ) (specs : List RegionSpec) (rs : List (List ℕ × Bool)) → IsMaking (view old.disk) (view new.disk) name specs → specs ≡ map spec_of rs
     → MakingIsCut view name (map script.region_value rs) old new
-make_cut view old new name specs rs k are p h u =
+make_cut leftovers view old new name specs rs k are p h u =
     let regions = map script.region_value rs in
-    let m = making_left (view old.disk) (view new.disk) p name specs (created name regions) k (made_is name specs rs are) h.disk u in
+    let m = making_left leftovers (view old.disk) (view new.disk) p name specs (created name regions) k (made_is name specs rs are) h.disk u in
     (record { site = p.site; told = p.told; now = m.now; left = m.left; outcomes = created name regions ∷ p.outcomes; faults = (view new.disk).faults; simulated = p.simulated }, record { told = refl; outcomes = λ known o a. new_or_old name regions p o a }, m.matches)
 
 -- there was no memory for the regions

@@ -9,7 +9,7 @@ use Rattle.disk_defs.specs.Disk.{Files, View}
 use Rattle.journal_defs.specs.Instance.{InstanceRecord, NamedMode, Create, regions}
 use Rattle.journal_defs.specs.Directory.{patterns}
 use Rattle.global_dir.specs.Directory.{is_mapped}
-use Rattle.command_defs.specs.Patterns.{ends_in_star, stem}
+use Rattle.global_defs.specs.Pattern.{ends_in_star, stem}
 use Rattle.command_defs.specs.Commands.{Name}
 use Rattle.site_store.specs.declared.layout.Layout.{Layout}
 use Rattle.site_store.specs.Finding.{HasLayout, IsFound}
@@ -24,8 +24,7 @@ use Rattle.site_runner.specs.declared.slot.Site.{Site}
 use Rattle.site_runner.specs.Sites.{IsOf}
 use Rattle.site_runner.specs.Mapping.{IsSeenAt, IsUnmappedIn, MapsAt}
 use Rattle.site_runner.proofs.Looked.{same_self}
-use Rattle.site_runner.proofs.Ats.{some_both}
-use Rattle.site_runner.proofs.Seen.{reads_stand}
+use Rattle.site_runner.proofs.Ats.{some_both, reads_stand}
 use Rattle.site_runner.proofs.Patterns.{refused_started, refused_no_region, refused_twice}
 use Rattle.site_runner.proofs.Mapped.{map_refused}
 

@@ -20,7 +20,7 @@ use Rattle.site_runner.specs.Sites.{site_value, HoldsSite}
 use Rattle.site_runner.specs.Tied.{IsPlace}
 use Rattle.site_runner.specs.Here.{IsCutHere}
 use Rattle.site_runner.specs.Looking.{fits, LeavesOld, Sees, LooksHere}
-use Rattle.site_runner.proofs.Ats.{not_true, told_is, some_both, some_of, stands_told, at_moment, place_of_images}
+use Rattle.site_runner.proofs.Ats.{not_true, told_is, some_both, some_of, stands_told, at_moment, Leftovers, place_of_images}
 
 pub same_self : (a : Name) → same_name a a ≡ true
 same_self [] = refl
@@ -122,13 +122,13 @@ saw view old disk found k free is same alike p h =
     )
 
 -- a call failed, or there was no memory
-looked_before : {D : Type 0} (view : D → View) (old : Slot D) (disk : D) (p : Place) → IsLook (view old.disk) (view disk) → old.site ≡ None → IsPlace view old p
+looked_before : {D : Type 0} (leftovers : Leftovers) (view : D → View) (old : Slot D) (disk : D) (p : Place) → IsLook (view old.disk) (view disk) → old.site ≡ None → IsPlace view old p
     → (now : Contents) × (left : Leftover) × (p.told ≡ true → Among p.outcomes now) × (p.told ≡ true → IsBehind now left)
     × IsPlace view (record { disk = disk; site = old.site }) (record { site = p.site; told = p.told; now = now; left = left; outcomes = p.outcomes; faults = (view disk).faults; simulated = p.simulated })
-looked_before view old disk p k free h =
+looked_before leftovers view old disk p k free h =
     let v = view old.disk in
     let w = view disk in
-    let m = place_of_images w p p.site p.outcomes k.lawful (k.simulated ∙ h.disk.simulated) (λ known. k.still_told (told_is v.content _ (h.disk.told known))) (λ known c i. look_images v w p k h.disk known c i) in
+    let m = place_of_images leftovers w p p.site p.outcomes k.lawful (k.simulated ∙ h.disk.simulated) (λ known. k.still_told (told_is v.content _ (h.disk.told known))) (λ known c i. look_images v w p k h.disk known c i) in
     let q : Place = record { site = p.site; told = p.told; now = m.now; left = m.left; outcomes = p.outcomes; faults = w.faults; simulated = p.simulated } in
     (m.now, m.left, m.among, m.behind, record { disk = m.matches; site = h.site; held = none_held view (record { disk = disk; site = old.site }) q free })
 
@@ -142,16 +142,16 @@ Unread ReignLimit v w = Unit {0}
 Unread (NotAFile file offset) v w = IfSome v.content (λ files. (c : Contents) → Stands files c → ⊥)
 Unread NoMemory v w = Unit {0}
 
-left_so : {D : Type 0} (view : D → View) (old : Slot D) (disk : D) → IsLook (view old.disk) (view disk) → old.site ≡ None → (p : Place) → IsPlace view old p
+left_so : {D : Type 0} (leftovers : Leftovers) (view : D → View) (old : Slot D) (disk : D) → IsLook (view old.disk) (view disk) → old.site ≡ None → (p : Place) → IsPlace view old p
     → (q : Place) × LeavesOld p q × IsPlace view (record { disk = disk; site = old.site }) q
-left_so view old disk k free p h =
-    let m = looked_before view old disk p k free h in
+left_so leftovers view old disk k free p h =
+    let m = looked_before leftovers view old disk p k free h in
     (record { site = p.site; told = p.told; now = m.0; left = m.1; outcomes = p.outcomes; faults = (view disk).faults; simulated = p.simulated }, record { told = refl; outcomes = λ known o a. a }, m.4)
 
-saw_nothing : {D : Type 0} (view : D → View) (old : Slot D) (disk : D) (e : SiteError) → IsLook (view old.disk) (view disk) → old.site ≡ None → Unread e (view old.disk) (view disk) → LooksHere view old (record { disk = disk; site = old.site }) (Err e)
-saw_nothing view old disk (Failed fault) k free u p h =
+saw_nothing : {D : Type 0} (leftovers : Leftovers) (view : D → View) (old : Slot D) (disk : D) (e : SiteError) → IsLook (view old.disk) (view disk) → old.site ≡ None → Unread e (view old.disk) (view disk) → LooksHere view old (record { disk = disk; site = old.site }) (Err e)
+saw_nothing leftovers view old disk (Failed fault) k free u p h =
     let w = view disk in
-    let m = looked_before view old disk p k free h in
+    let m = looked_before leftovers view old disk p k free h in
     let q : Place = record { site = p.site; told = p.told; now = m.0; left = m.1; outcomes = p.outcomes; faults = w.faults; simulated = p.simulated } in
     let none = site_none view old p free h in (
       q,
@@ -165,7 +165,7 @@ saw_nothing view old disk (Failed fault) k free u p h =
       },
       m.4,
     )
-saw_nothing view old disk (NotAFile file offset) k free u p h =
+saw_nothing leftovers view old disk (NotAFile file offset) k free u p h =
     let v = view old.disk in
     let w = view disk in
     let unknown : p.told ≡ false = not_true p.told (λ known. let b = some_both v.content _ _ (stands_told v p h.disk known) u in b.2 p.now b.1) in
@@ -183,12 +183,12 @@ saw_nothing view old disk (NotAFile file offset) k free u p h =
         held = none_held view (record { disk = disk; site = old.site }) q free;
       },
     )
-saw_nothing view old disk (Stopped fault) k free u p h = left_so view old disk k free p h
-saw_nothing view old disk (Full nodes) k free u p h = left_so view old disk k free p h
-saw_nothing view old disk SeqLimit k free u p h = left_so view old disk k free p h
-saw_nothing view old disk GenLimit k free u p h = left_so view old disk k free p h
-saw_nothing view old disk ReignLimit k free u p h = left_so view old disk k free p h
-saw_nothing view old disk NoMemory k free u p h = left_so view old disk k free p h
+saw_nothing leftovers view old disk (Stopped fault) k free u p h = left_so leftovers view old disk k free p h
+saw_nothing leftovers view old disk (Full nodes) k free u p h = left_so leftovers view old disk k free p h
+saw_nothing leftovers view old disk SeqLimit k free u p h = left_so leftovers view old disk k free p h
+saw_nothing leftovers view old disk GenLimit k free u p h = left_so leftovers view old disk k free p h
+saw_nothing leftovers view old disk ReignLimit k free u p h = left_so leftovers view old disk k free p h
+saw_nothing leftovers view old disk NoMemory k free u p h = left_so leftovers view old disk k free p h
 
 -- what a look leaves is old, whatever it saw
 sees_old : (r : Result (Option Layout) SiteError) (p q : Place) → Sees r p q → LeavesOld p q
@@ -209,19 +209,19 @@ looked_cut view old new c r look p h =
     let left = sees_old r p q.0 q.1 in
     (q.0, record { told = left.told; outcomes = λ known o a. inl (left.outcomes known o a) }, q.2.disk)
 
-pub looks : {D : Type 0} (view : D → View) (old : Slot D) (disk : D) (r : Result (Option Layout) SiteError) → IsLook (view old.disk) (view disk) → old.site ≡ None
+pub looks : {D : Type 0} (leftovers : Leftovers) (view : D → View) (old : Slot D) (disk : D) (r : Result (Option Layout) SiteError) → IsLook (view old.disk) (view disk) → old.site ≡ None
     → IfOk r (λ found. IfSome (view old.disk).content (λ files. (c : Contents) → Stands files c → IsFound c found))
     → (view disk).content ≡ (view old.disk).content
     → OnOk r (IfSome (view old.disk).content (λ files. (c o : Contents) (f : Files) → Stands files c → Image (view disk) f → Stands f o → o.instance ≡ c.instance))
     → ((file offset : ℕ) → IsErrOf r (NotAFile file offset) → IfSome (view old.disk).content (λ files. (c : Contents) → Stands files c → ⊥))
     → ((fault : ℕ) → IsErrOf r (Failed fault) → fault ≡ (view disk).faults) → ((fault : ℕ) → IsErrOf r (Failed fault) → Rose (view old.disk).faults (view disk).faults)
     → LooksHere view old (record { disk = disk; site = old.site }) r
-looks view old disk (Ok found) k free is same alike outside count cause = saw view old disk found k free is same alike
-looks view old disk (Err (Failed fault)) k free is same alike outside count cause = saw_nothing view old disk (Failed fault) k free (count fault refl, cause fault refl)
-looks view old disk (Err (Stopped fault)) k free is same alike outside count cause = saw_nothing view old disk (Stopped fault) k free tt
-looks view old disk (Err (Full nodes)) k free is same alike outside count cause = saw_nothing view old disk (Full nodes) k free tt
-looks view old disk (Err SeqLimit) k free is same alike outside count cause = saw_nothing view old disk SeqLimit k free tt
-looks view old disk (Err GenLimit) k free is same alike outside count cause = saw_nothing view old disk GenLimit k free tt
-looks view old disk (Err ReignLimit) k free is same alike outside count cause = saw_nothing view old disk ReignLimit k free tt
-looks view old disk (Err (NotAFile file offset)) k free is same alike outside count cause = saw_nothing view old disk (NotAFile file offset) k free (outside file offset refl)
-looks view old disk (Err NoMemory) k free is same alike outside count cause = saw_nothing view old disk NoMemory k free tt
+looks leftovers view old disk (Ok found) k free is same alike outside count cause = saw view old disk found k free is same alike
+looks leftovers view old disk (Err (Failed fault)) k free is same alike outside count cause = saw_nothing leftovers view old disk (Failed fault) k free (count fault refl, cause fault refl)
+looks leftovers view old disk (Err (Stopped fault)) k free is same alike outside count cause = saw_nothing leftovers view old disk (Stopped fault) k free tt
+looks leftovers view old disk (Err (Full nodes)) k free is same alike outside count cause = saw_nothing leftovers view old disk (Full nodes) k free tt
+looks leftovers view old disk (Err SeqLimit) k free is same alike outside count cause = saw_nothing leftovers view old disk SeqLimit k free tt
+looks leftovers view old disk (Err GenLimit) k free is same alike outside count cause = saw_nothing leftovers view old disk GenLimit k free tt
+looks leftovers view old disk (Err ReignLimit) k free is same alike outside count cause = saw_nothing leftovers view old disk ReignLimit k free tt
+looks leftovers view old disk (Err (NotAFile file offset)) k free is same alike outside count cause = saw_nothing leftovers view old disk (NotAFile file offset) k free (outside file offset refl)
+looks leftovers view old disk (Err NoMemory) k free is same alike outside count cause = saw_nothing leftovers view old disk NoMemory k free tt

@@ -16,7 +16,6 @@ use Rattle.world_defs.specs.Rows.{in_new_state, with_pattern, MayMapAny}
 use Rattle.world_defs.specs.Step.{LeftAt, IsUnmapped}
 use Rattle.world_defs.specs.Output.{line, cause_text}
 use Rattle.world_defs.specs.Ties.{IsSite, Stands, Reads, Matches}
-use Rattle.world_laws.proofs.StandsForOne.{left_unbegun}
 use Rattle.repl_section.specs.declared.reign.Reign.{Reign}
 use Rattle.site_runner.specs.declared.slot.State.{State}
 use Rattle.site_runner.specs.declared.slot.State.TheVariants.{Down, Primary, Failed}
@@ -25,8 +24,8 @@ use Rattle.site_runner.specs.Sites.{state_value, site_value, HoldsState, IsOf, I
 use Rattle.site_runner.specs.Here.{tests, cause_here, RefusedHere, MayRefuseHere, Here, text_here}
 use Rattle.site_runner.specs.Steps.{IsAt, ExecutesAt, IsCutAt}
 use Rattle.site_runner.specs.Mapping.{IsSeenAt, IsUnmappedIn, MapsAt, IsCutSeen}
-use Rattle.site_runner.proofs.Ats.{refuses, kept_same, state_at, first_cause, second_cause, no_cause, not_true, is_true_or_false, some_both, some_of, some_and, told_is, at_moment, only}
-use Rattle.site_runner.proofs.Seen.{counted, kept_counted, reads_stand, reads_site, OneOf, one_of}
+use Rattle.site_runner.proofs.Ats.{refuses, kept_same, state_at, first_cause, second_cause, no_cause, not_true, is_true_or_false, some_both, some_of, some_and, told_is, reads_stand, reads_site, at_moment, Leftovers, ReadPlace, place_of_images, only}
+use Rattle.site_runner.proofs.Seen.{counted, kept_counted}
 use Rattle.site_runner.proofs.Patterns.{maps, among_maps, maps_among, of_pattern, of_may_map, generation_map, unmapped_unknown, not_refused}
 
 pub map_failed_before : (v : View) (s : Site) (region : Name) (text : List ℕ) (k : ℕ) (before now : List ℕ) → s.state ≡ Failed k → now ≡ before ++ line s.name (codes "STOPPED " ++ decimal k) → ExecutesAt (Map s.name region text) v s v s before now
@@ -170,20 +169,20 @@ pub record MayHaveMapped (region : Name) (text : List ℕ) (w : View) (p : Place
   pub images : p.told ≡ true → (f : Files) → Image w f → (o : Contents) × MayMapAny region text p o × Stands f o
   pub simulated : w.simulated ≡ p.simulated
 
-mapped_place : (region : Name) (text : List ℕ) (w : View) (p : Place) (site : Option world.Site) → IsLawful w → MayHaveMapped region text w p → OneOf w p site (maps region text p.outcomes)
-mapped_place region text w p site law b =
-    one_of w p site (maps region text p.outcomes) law b.simulated b.still_told (λ sure f i. let k = b.images sure f i in (k.0, maps_among region text p.outcomes k.1.0 k.0 k.1.1 k.1.2, k.2))
+mapped_place : (leftovers : Leftovers) (region : Name) (text : List ℕ) (w : View) (p : Place) (site : Option world.Site) → IsLawful w → MayHaveMapped region text w p → ReadPlace w p site (maps region text p.outcomes)
+mapped_place leftovers region text w p site law b =
+    place_of_images leftovers w p site (maps region text p.outcomes) law b.simulated b.still_told (λ sure f i. let k = b.images sure f i in (k.0, maps_among region text p.outcomes k.1.0 k.0 k.1.1 k.1.2, k.2))
 
-pub map_cut : (region : Name) (text : List ℕ) (w : View) (s : Site) (p : Place) → IsLawful w → MayHaveMapped region text w p → (q : Place) × LeftAt true (Map s.name region text) p q × Matches w q
-map_cut region text w s p law b =
-    let m = mapped_place region text w p p.site law b in
-    (record { site = p.site; told = p.told; now = m.now; left = m.left; outcomes = maps region text p.outcomes; faults = w.faults; simulated = p.simulated }, record { told = refl; outcomes = λ sure o a. inr (among_maps region text p.outcomes o a) }, m.disk)
+pub map_cut : (leftovers : Leftovers) (region : Name) (text : List ℕ) (w : View) (s : Site) (p : Place) → IsLawful w → MayHaveMapped region text w p → (q : Place) × LeftAt true (Map s.name region text) p q × Matches w q
+map_cut leftovers region text w s p law b =
+    let m = mapped_place leftovers region text w p p.site law b in
+    (record { site = p.site; told = p.told; now = m.now; left = m.left; outcomes = maps region text p.outcomes; faults = w.faults; simulated = p.simulated }, record { told = refl; outcomes = λ sure o a. inr (among_maps region text p.outcomes o a) }, m.matches)
 
-pub map_fault : (region : Name) (text : List ℕ) (w : View) (s : Site) (p : Place) (k : ℕ) (before now : List ℕ) → IsLawful w → s.state ≡ Down → p.site ≡ Some (site_value s) → (p.told ≡ true → IsMade s.name p) → MayHaveMapped region text w p
+pub map_fault : (leftovers : Leftovers) (region : Name) (text : List ℕ) (w : View) (s : Site) (p : Place) (k : ℕ) (before now : List ℕ) → IsLawful w → s.state ≡ Down → p.site ≡ Some (site_value s) → (p.told ≡ true → IsMade s.name p) → MayHaveMapped region text w p
     → k ≡ w.faults → Rose p.faults w.faults → now ≡ before ++ line s.name (codes "DISKFAULT " ++ decimal k) → Answers region text w s p (record { name = s.name; state = Failed k }) before now
-map_fault region text w s p k before now law down site made b count rose t =
+map_fault leftovers region text w s p k before now law down site made b count rose t =
     let state = in_new_state (world.Failed k) p.site in
-    let m = mapped_place region text w p state law b in
+    let m = mapped_place leftovers region text w p state law b in
     let of = λ (sure : p.told ≡ true) (o : Contents) (a : Among (maps region text p.outcomes) o). (let x = among_maps region text p.outcomes o a in of_may_map s.name region text x.0 o ((made sure).outcomes x.0 x.1) x.2) in (
       DiskFault k,
       record { site = state; told = p.told; now = m.now; left = m.left; outcomes = maps region text p.outcomes; faults = w.faults; simulated = p.simulated },
@@ -198,7 +197,7 @@ map_fault region text w s p k before now law down site made b count rose t =
         },
       ),
       record {
-        disk = m.disk;
+        disk = m.matches;
         site = ap (in_new_state (world.Failed k)) site;
         held = record { made = λ sure. record { now = of sure m.now (m.among sure); outcomes = of sure }; state = tt };
       },
@@ -213,16 +212,16 @@ look_mapped region text v w s p k h = record {
   simulated = k.simulated ∙ h.disk.simulated;
 }
 
-pub look_faulted : (region : Name) (text : List ℕ) (v w : View) (s : Site) (k : ℕ) (before now : List ℕ) → Looked v w → s.state ≡ Down → k ≡ w.faults → Rose v.faults w.faults
+pub look_faulted : (leftovers : Leftovers) (region : Name) (text : List ℕ) (v w : View) (s : Site) (k : ℕ) (before now : List ℕ) → Looked v w → s.state ≡ Down → k ≡ w.faults → Rose v.faults w.faults
     → now ≡ before ++ line s.name (codes "DISKFAULT " ++ decimal k) → ExecutesAt (Map s.name region text) v s w (record { name = s.name; state = Failed k }) before now
-look_faulted region text v w s k before now l down count rose t p h =
-    map_fault region text w s p k before now l.lawful down h.site h.held.made (look_mapped region text v w s p l h) count (subst (λ (x : ℕ). Rose x w.faults) h.disk.faults rose) t
+look_faulted leftovers region text v w s k before now l down count rose t p h =
+    map_fault leftovers region text w s p k before now l.lawful down h.site h.held.made (look_mapped region text v w s p l h) count (subst (λ (x : ℕ). Rose x w.faults) h.disk.faults rose) t
 
-pub look_cut : (region : Name) (text : List ℕ) (v w : View) (s : Site) → Looked v w → IsCutAt (Map s.name region text) v s w
-look_cut region text v w s l p h = map_cut region text w s p l.lawful (look_mapped region text v w s p l h)
+pub look_cut : (leftovers : Leftovers) (region : Name) (text : List ℕ) (v w : View) (s : Site) → Looked v w → IsCutAt (Map s.name region text) v s w
+look_cut leftovers region text v w s l p h = map_cut leftovers region text w s p l.lawful (look_mapped region text v w s p l h)
 
-pub seen_cut : (region : Name) (text : List ℕ) (w : View) (s : Site) → IsLawful w → IsCutSeen region text w s w
-seen_cut region text w s law p h = map_cut region text w s p law (record {
+pub seen_cut : (leftovers : Leftovers) (region : Name) (text : List ℕ) (w : View) (s : Site) → IsLawful w → IsCutSeen region text w s w
+seen_cut leftovers region text w s law p h = map_cut leftovers region text w s p law (record {
   still_told = λ sure. told_is w.content _ (h.reads sure);
   images = λ sure f i. let o = h.images sure f i in (o.0, (o.0, o.1, inl refl), o.2);
   simulated = h.simulated;
@@ -270,13 +269,13 @@ there_mapped region number text v w s p m h = record {
   simulated = m.simulated ∙ h.simulated;
 }
 
-pub there_faulted : (region : Name) (number : ℕ) (text : List ℕ) (v w : View) (s : Site) (k : ℕ) (before now : List ℕ) → Moments region number text v w → k ≡ w.faults → Rose v.faults w.faults
+pub there_faulted : (leftovers : Leftovers) (region : Name) (number : ℕ) (text : List ℕ) (v w : View) (s : Site) (k : ℕ) (before now : List ℕ) → Moments region number text v w → k ≡ w.faults → Rose v.faults w.faults
     → now ≡ before ++ line s.name (codes "DISKFAULT " ++ decimal k) → MapsAt region text v s w (record { name = s.name; state = Failed k }) before now
-there_faulted region number text v w s k before now m count rose t p h =
-    map_fault region text w s p k before now m.lawful h.down h.site h.made (there_mapped region number text v w s p m h) count (omega (arith, rose, h.faults)) t
+there_faulted leftovers region number text v w s k before now m count rose t p h =
+    map_fault leftovers region text w s p k before now m.lawful h.down h.site h.made (there_mapped region number text v w s p m h) count (omega (arith, rose, h.faults)) t
 
-pub there_cut : (region : Name) (number : ℕ) (text : List ℕ) (v w : View) (s : Site) → Moments region number text v w → IsCutSeen region text v s w
-there_cut region number text v w s m p h = map_cut region text w s p m.lawful (there_mapped region number text v w s p m h)
+pub there_cut : (leftovers : Leftovers) (region : Name) (number : ℕ) (text : List ℕ) (v w : View) (s : Site) → Moments region number text v w → IsCutSeen region text v s w
+there_cut leftovers region number text v w s m p h = map_cut leftovers region text w s p m.lawful (there_mapped region number text v w s p m h)
 
 pub there_damaged : (region : Name) (number : ℕ) (text : List ℕ) (v w : View) (s : Site) (file offset : ℕ) (before now : List ℕ) → Moments region number text v w
     → IfSome v.content (λ files. (c : Contents) → IsSite files c → ⊥) → now ≡ before ++ line s.name (codes "NOTAFILE " ++ decimal file ++ 32 ∷ decimal offset) → MapsAt region text v s w s before now
@@ -321,14 +320,14 @@ some_and_of None P h k = cc
 some_and_of (Some f) P h k = k
 
 -- files that stand for a site without a generation have nothing behind it
-unbegun_reads : (number : ℕ) (text : List ℕ) (c : Contents) (f : Files) → generation c.instance ≡ 0 → IsSite f (with_pattern number text c) → Reads f (with_pattern number text c) NO_LEFTOVER
-unbegun_reads number text c f e site = inr (site, left_unbegun f (with_pattern number text c) site (generation_map c.instance _ _ _ ∙ e))
+unbegun_reads : (leftovers : Leftovers) (number : ℕ) (text : List ℕ) (c : Contents) (f : Files) → generation c.instance ≡ 0 → IsSite f (with_pattern number text c) → Reads f (with_pattern number text c) NO_LEFTOVER
+unbegun_reads leftovers number text c f e site = inr (site, leftovers.unbegun f (with_pattern number text c) site (generation_map c.instance _ _ _ ∙ e))
 
-done_told : (region : Name) (number : ℕ) (text : List ℕ) (v w : View) (s : Site) (before now : List ℕ) (p : Place) → Moments region number text v w → IsSeenAt v s p → p.told ≡ true
+done_told : (leftovers : Leftovers) (region : Name) (number : ℕ) (text : List ℕ) (v w : View) (s : Site) (before now : List ℕ) (p : Place) → Moments region number text v w → IsSeenAt v s p → p.told ≡ true
     → IfSome v.content (λ files. (c : Contents) → IsSite files c → IfSome w.content (λ now. IsSite now (with_pattern number text c)))
     → IfSome v.content (λ files. (c : Contents) → IsSite files c → EachStands v → (f : Files) → Image w f → IsSite f (with_pattern number text c))
     → now ≡ before ++ line s.name (codes "MAPPED") → Answers region text w s p s before now
-done_told region number text v w s before now p m h sure reads images t =
+done_told leftovers region number text v w s before now p m h sure reads images t =
     let d : Contents = with_pattern number text p.now in
     let free : IsUnmappedIn region number text p.now = free_at region number text v w s p m h sure in
     let read = some_both v.content _ _ (h.reads sure) reads in
@@ -336,7 +335,7 @@ done_told region number text v w s before now p m h sure reads images t =
     let made = (h.made sure).now.made in
     let stands : EachStands v = λ f i. (let o = h.images sure f i in (o.0, o.2)) in
     let told : IsSomeAnd w.content (λ files. Reads files d NO_LEFTOVER) =
-    some_and w.content (λ f. IsSite f d) (λ f. Reads f d NO_LEFTOVER) (λ f k. unbegun_reads number text p.now f free.unbegun k)
+    some_and w.content (λ f. IsSite f d) (λ f. Reads f d NO_LEFTOVER) (λ f k. unbegun_reads leftovers number text p.now f free.unbegun k)
     (some_and_of w.content (λ f. IsSite f d) (m.still_told (told_is v.content _ (h.reads sure))) (read.2 p.now (reads_site read.0 p.now p.left made read.1).0)) in
     done_at region number text w s before now p p.now h.down h.site (λ _. refl) free.named (not_refused region text p number sure free.unbegun free.named free.once) (λ _. told)
     (λ _ f i. inr (image.2 p.now (reads_site image.0 p.now p.left made image.1).0 stands f i)) (λ _. (h.made sure).now) (omega (arith, m.later, h.faults)) (m.simulated ∙ h.simulated) t
@@ -347,12 +346,12 @@ done_untold region number text v w s before now p read m h unsure named t =
     done_at region number text w s before now p read h.down h.site (λ sure. absurd (false≢true (sym unsure ∙ sure))) named (unmapped_unknown region text p unsure) (λ sure. absurd (false≢true (sym unsure ∙ sure)))
     (λ sure. absurd (false≢true (sym unsure ∙ sure))) (λ sure. absurd (false≢true (sym unsure ∙ sure))) (omega (arith, m.later, h.faults)) (m.simulated ∙ h.simulated) t
 
-pub there_done : (region : Name) (number : ℕ) (text : List ℕ) (v w : View) (s : Site) (before now : List ℕ) → Moments region number text v w → ((c : Contents) × (region_number region c ≡ Some number))
+pub there_done : (leftovers : Leftovers) (region : Name) (number : ℕ) (text : List ℕ) (v w : View) (s : Site) (before now : List ℕ) → Moments region number text v w → ((c : Contents) × (region_number region c ≡ Some number))
     → IfSome v.content (λ files. (c : Contents) → IsSite files c → IfSome w.content (λ now. IsSite now (with_pattern number text c)))
     → IfSome v.content (λ files. (c : Contents) → IsSite files c → EachStands v → (f : Files) → Image w f → IsSite f (with_pattern number text c))
     → now ≡ before ++ line s.name (codes "MAPPED") → MapsAt region text v s w s before now
-there_done region number text v w s before now m named reads images t p h = elim (is_true_or_false p.told) [
-  | inl sure ↦ done_told region number text v w s before now p m h sure reads images t
+there_done leftovers region number text v w s before now m named reads images t p h = elim (is_true_or_false p.told) [
+  | inl sure ↦ done_told leftovers region number text v w s before now p m h sure reads images t
   | inr unsure ↦ done_untold region number text v w s before now p named.0 m h unsure named.1 t
 ]
 

@@ -2,13 +2,13 @@
 use Rattle.std.proofs.Common.{◌≡◌, ℕ, ◌<◌, max, nat_lt, Bool, true, false, List, [], ◌∷◌, ◌++◌, length, None, Some, refl, sym, ◌∙◌, ap, subst, arith, inl, inr, if◌then◌else◌}
 use Rattle.std.specs.Prelude.{Option}
 use Rattle.std.proofs.lemmas.Bool.{le-leb}
-use Rattle.journal_defs.specs.Instance.{InstanceRecord, Create, Reigned, Cut, Map, Mode, generation}
+use Rattle.journal_defs.specs.Instance.{InstanceRecord, Create, Reigned, Cut, Map, Mode, generation, pattern_record}
 use Rattle.command_defs.specs.Commands.{Name}
 use Rattle.world_defs.specs.Lists.{Among}
 use Rattle.world_defs.specs.World.{Contents, Place}
 use Rattle.world_defs.specs.Answers.{Cause, Started, NoRegion, TwiceMapped}
 use Rattle.world_defs.specs.Refusals.{first, started, region_number, no_region_at, twice_mapped, unmapped}
-use Rattle.world_defs.specs.Rows.{pattern_record, with_pattern, MayMap}
+use Rattle.world_defs.specs.Rows.{with_pattern, MayMap}
 use Rattle.world_laws.proofs.ContentsFit.{name-pattern}
 use Rattle.site_runner.specs.Sites.{IsOf}
 

@@ -1,5 +1,5 @@
 -- TYPE at a place.
-use Rattle.std.proofs.Common.{◌≡◌, ◌≢◌, ℕ, ◌≤◌, ◌==◌, ◌&&◌, Bool, true, false, List, [], ◌∷◌, ◌++◌, length, None, Some, refl, sym, ◌∙◌, ap, subst, arith, inl, inr, if◌then◌else◌}
+use Rattle.std.proofs.Common.{◌≡◌, ◌≢◌, ℕ, ◌-◌, ◌≤◌, ◌==◌, ◌&&◌, Bool, true, false, List, [], ◌∷◌, ◌++◌, length, get_or, None, Some, refl, sym, ◌∙◌, ap, subst, arith, inl, inr, if◌then◌else◌}
 use Rattle.std.specs.Prelude.{◌⊎◌, Option, codes, IfSome, IsSomeAnd}
 use Rattle.std.specs.Fmt.{decimal}
 use Rattle.std.proofs.lemmas.Bool.{ne_eqb, eqb-true}
@@ -8,13 +8,12 @@ use Rattle.disk_defs.specs.Disk.{Files, View, Image, Rose}
 use Rattle.journal_defs.specs.Numbers.{broken_file}
 use Rattle.command_defs.specs.Commands.{Command, Print}
 use Rattle.world_defs.specs.World as world
-use Rattle.world_defs.specs.World.{Place, typed}
+use Rattle.world_defs.specs.World.{Contents, Leftover, Place, typed}
 use Rattle.world_defs.specs.Answers.{Cause, Stopped, NoFile, Refused, DiskFault, Typed}
 use Rattle.world_defs.specs.Refusals.{first, in_state, stopped, no_file}
 use Rattle.world_defs.specs.Rows.{in_new_state}
 use Rattle.world_defs.specs.Output.{line}
-use Rattle.world_defs.specs.Ties.{Reads}
-use Rattle.world_laws.proofs.StandsForOne.{typing_reads}
+use Rattle.world_defs.specs.Ties.{IsSite, HasLeft, Reads}
 use Rattle.site_runner.specs.declared.slot.State.{State}
 use Rattle.site_runner.specs.declared.slot.State.TheVariants.{Down, Primary, Failed}
 use Rattle.site_runner.specs.declared.slot.Site.{Site}
@@ -22,8 +21,8 @@ use Rattle.site_runner.specs.Sites.{fault_of, HoldsState}
 use Rattle.site_runner.specs.Here.{tests, cause_here, RefusedHere, MayRefuseHere}
 use Rattle.site_runner.specs.Steps.{IsAt, ExecutesAt, IsCutAt}
 use Rattle.site_runner.proofs.Fused.{state_read}
-use Rattle.site_runner.proofs.Ats.{refuses, kept_same, state_at, is_stopped, not_stopped, first_cause, is_true_or_false, some_both}
-use Rattle.site_runner.proofs.Seen.{counted, kept_counted, reads_site}
+use Rattle.site_runner.proofs.Ats.{refuses, kept_same, state_at, is_stopped, not_stopped, first_cause, is_true_or_false, some_both, reads_site}
+use Rattle.site_runner.proofs.Seen.{counted, kept_counted}
 
 pub print_stopped : (g : ℕ) (v : View) (s : Site) (k : ℕ) (before now : List ℕ) → fault_of s.state ≡ Some k → now ≡ before ++ line s.name (codes "STOPPED " ++ decimal k) → ExecutesAt (Print s.name g) v s v s before now
 print_stopped g v s k before now e t = refuses (Print s.name g) v s (Stopped k) before now refl (λ p h. first_cause _ _ (Stopped k) (state_at stopped v s p h ∙ is_stopped s.state k e)) kept_same t
@@ -62,11 +61,15 @@ cause_up g v s p h up = first_two (in_state stopped p.site) (no_file g (Some p))
 
 -- What the file has, where the site's files are known.
 
-file_typed : (g : ℕ) (v : View) (s : Site) (p : Place) (old bytes : List ℕ) → IsAt v s p → 1 ≤ g → g ≤ 65535 → old ≡ [] → IfSome v.content (λ files. bytes ≡ old ++ files (broken_file g)) → p.told ≡ true → bytes ≡ typed g p
-file_typed g v s p old bytes h some most none text sure =
+-- what a broken-transaction file has is what is typed of it
+abbrev pub TypingReads : Type 0
+TypingReads = (f : Files) (c : Contents) (left : Leftover) (g : ℕ) → IsSite f c → HasLeft f c left → 1 ≤ g → g ≤ 65535 → f (broken_file g) ≡ get_or (c.texts ++ left.torn ∷ []) (g - 1) []
+
+file_typed : (typing : TypingReads) (g : ℕ) (v : View) (s : Site) (p : Place) (old bytes : List ℕ) → IsAt v s p → 1 ≤ g → g ≤ 65535 → old ≡ [] → IfSome v.content (λ files. bytes ≡ old ++ files (broken_file g)) → p.told ≡ true → bytes ≡ typed g p
+file_typed typing g v s p old bytes h some most none text sure =
     let here = some_both v.content _ _ (h.disk.told sure) text in
     let site = reads_site here.0 p.now p.left (h.held.made sure).now.made here.1 in
-    here.2 ∙ ap (λ (x : List ℕ). x ++ here.0 (broken_file g)) none ∙ typing_reads here.0 p.now p.left g site.0 site.1 some most
+    here.2 ∙ ap (λ (x : List ℕ). x ++ here.0 (broken_file g)) none ∙ typing here.0 p.now p.left g site.0 site.1 some most
 
 no_byte : (g : ℕ) (p : Place) → p.told ≡ true → typed g p ≡ [] → no_file g (Some p) ≡ Some NoFile
 no_byte g p sure e =
@@ -83,9 +86,9 @@ has_file g p (inl sure) f =
 has_file g p (inr unsure) f = ap (λ (b : Bool). if b && length (typed g p) == 0 then Some NoFile else None) unsure
 
 -- there is no such file
-pub print_none : (g : ℕ) (v w : View) (s : Site) (old bytes before now : List ℕ) → disk.Reads v w → v.faults ≤ w.faults → fault_of s.state ≡ None → 1 ≤ g → g ≤ 65535 → old ≡ []
+pub print_none : (typing : TypingReads) (g : ℕ) (v w : View) (s : Site) (old bytes before now : List ℕ) → disk.Reads v w → v.faults ≤ w.faults → fault_of s.state ≡ None → 1 ≤ g → g ≤ 65535 → old ≡ []
     → IfSome v.content (λ files. bytes ≡ old ++ files (broken_file g)) → bytes ≡ [] → now ≡ before ++ line s.name (codes "NOFILE") → ExecutesAt (Print s.name g) v s w s before now
-print_none g v w s old bytes before now r later up some most none text empty t p h = (
+print_none typing g v w s old bytes before now r later up some most none text empty t p h = (
   Refused (record { site = s.name; cause = NoFile }),
   counted p w.faults,
   (refl, here),
@@ -101,15 +104,15 @@ print_none g v w s old bytes before now r later up some most none text empty t p
 
     here : ((cause_here c p ≡ Some NoFile) × RefusedHere c NoFile p (counted p w.faults)) ⊎ ((first (tests c p) ≡ None) × MayRefuseHere c NoFile p (counted p w.faults))
     here = elim (is_true_or_false p.told) [
-      | inl sure ↦ inl (cause_up g v s p h up ∙ no_byte g p sure (sym (file_typed g v s p old bytes h some most none text sure) ∙ empty), kept_counted p w.faults faults)
+      | inl sure ↦ inl (cause_up g v s p h up ∙ no_byte g p sure (sym (file_typed typing g v s p old bytes h some most none text sure) ∙ empty), kept_counted p w.faults faults)
       | inr unsure ↦ inr (early_up g v s p h up, (refl, record { unknown = unsure; kept = kept_counted p w.faults faults }))
     ]
 
 -- the bytes of the file
-pub printed : (g : ℕ) (v w : View) (s : Site) (old bytes before now : List ℕ) → disk.Reads v w → v.faults ≤ w.faults → fault_of s.state ≡ None → 1 ≤ g → g ≤ 65535 → old ≡ []
+pub printed : (typing : TypingReads) (g : ℕ) (v w : View) (s : Site) (old bytes before now : List ℕ) → disk.Reads v w → v.faults ≤ w.faults → fault_of s.state ≡ None → 1 ≤ g → g ≤ 65535 → old ≡ []
     → IfSome v.content (λ files. bytes ≡ old ++ files (broken_file g)) → bytes ≢ [] → now ≡ before ++ bytes → ExecutesAt (Print s.name g) v s w s before now
-printed g v w s old bytes before now r later up some most none text full t p h =
-    let typed_so : p.told ≡ true → bytes ≡ typed g p = λ sure. file_typed g v s p old bytes h some most none text sure in (
+printed typing g v w s old bytes before now r later up some most none text full t p h =
+    let typed_so : p.told ≡ true → bytes ≡ typed g p = λ sure. file_typed typing g v s p old bytes h some most none text sure in (
       Typed bytes,
       counted p w.faults,
       (

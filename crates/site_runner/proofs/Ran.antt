@@ -14,7 +14,6 @@ use Rattle.repl_section.specs.declared.reign.Reign.{Reign}
 use Rattle.command_defs.specs.Sections.{UsesUp}
 use Rattle.repl_section.specs.Reigns.{Reigns, stamp_in, stamp_of}
 use Rattle.repl_section.specs.Deciding.{HasDecided, MayHaveFront, MayLeave, FailsAt}
-use Rattle.site_store.proofs.Standing.{images_stand}
 use Rattle.world_defs.specs.Lists.{Among}
 use Rattle.world_defs.specs.World as world
 use Rattle.command_defs.specs.Commands.{Name, Run}
@@ -31,7 +30,7 @@ use Rattle.site_runner.specs.declared.slot.Site.{Site}
 use Rattle.site_runner.specs.Sites.{state_value, site_value, IsOf}
 use Rattle.site_runner.specs.Here.{cause_here}
 use Rattle.site_runner.specs.Steps.{IsAt, ExecutesAt, IsCutAt}
-use Rattle.site_runner.proofs.Ats.{refuses, kept_same, state_at, first_cause, second_cause, no_cause, told_is, reads_image, place_of_images, place_of_one, only, open_reads, open_images}
+use Rattle.site_runner.proofs.Ats.{refuses, kept_same, state_at, first_cause, second_cause, no_cause, told_is, reads_image, Leftovers, NothingIsLeft, place_of_images, place_of_one, only, open_site, open_reads, open_images}
 use Rattle.site_runner.proofs.Stopped.{reigns_at, length_tagged}
 use Rattle.site_runner.proofs.Begun.{nat_cases, in_first, in_second, in_either}
 
@@ -118,25 +117,25 @@ pub record FrontPlace (w : View) (p : Place) (state : Option world.Site) (all : 
   pub fronts_all : p.told ≡ true → (o : Contents) → Among (fronts p.now all low (length all - low)) o → IsFrontOf all low p.now o
   pub matches : Matches w (record { site = state; told = p.told; now = now; left = left; outcomes = fronts p.now all low (length all - low); faults = w.faults; simulated = p.simulated })
 
-pub front_place : (w : View) (p : Place) (state : Option world.Site) (all : Sequence) (low : ℕ) → IsLawful w → w.simulated ≡ p.simulated → MayHaveFront w p.told p.now all low → FrontPlace w p state all low
-front_place w p state all low law same may =
+pub front_place : (leftovers : Leftovers) (w : View) (p : Place) (state : Option world.Site) (all : Sequence) (low : ℕ) → IsLawful w → w.simulated ≡ p.simulated → MayHaveFront w p.told p.now all low → FrontPlace w p state all low
+front_place leftovers w p state all low law same may =
     let list = fronts p.now all low (length all - low) in
     let low_is : p.told ≡ true → low ≤ length all = λ sure.
     let k = reads_image w law (may.told sure) in
     let o = may.images sure k.0 k.2 in
     omega (arith, o.1.least, o.1.most) in
     let all_fronts : p.told ≡ true → (o : Contents) → Among list o → IsFrontOf all low p.now o = λ sure o a. are_fronts p.now all low (length all - low) (omega (arith, low_is sure)) o a in
-    let m = place_of_images w p state list law same may.told (λ sure c i. let o = may.images sure c i in (o.0, front_among p.now all low o.0 o.1, inr o.2)) in
+    let m = place_of_images leftovers w p state list law same may.told (λ sure c i. let o = may.images sure c i in (o.0, front_among p.now all low o.0 o.1, inr o.2)) in
     record { now = m.now; left = m.left; front = λ sure. all_fronts sure m.now (m.among sure); behind = m.behind; fronts_all = all_fronts; matches = m.matches }
 
 of_sequence : (name : Name) (c : Contents) (seq : Sequence) → IsOf name c → IsOf name (with_sequence c seq)
 of_sequence name c seq h = record { made = h.made; name = h.name }
 
 -- all jobs are decided
-pub ran : (v w : View) (s : Site) (r new : Reign) (jobs : List (List Job)) (order : List ℕ) (before middle now : List ℕ) → IsLawful w → UsesUp jobs order → s.state ≡ Primary r → new.site.stamp ≡ r.site.stamp → w.simulated ≡ v.simulated → v.faults ≤ w.faults
+pub ran : (v w : View) (nothing : NothingIsLeft w) (s : Site) (r new : Reign) (jobs : List (List Job)) (order : List ℕ) (before middle now : List ℕ) → IsLawful w → UsesUp jobs order → s.state ≡ Primary r → new.site.stamp ≡ r.site.stamp → w.simulated ≡ v.simulated → v.faults ≤ w.faults
     → ((told : Bool) (c : Contents) → Reigns v told c r → HasDecided w told c jobs order r new before middle)
     → now ≡ middle ++ line s.name (codes "AT " ++ decimal (length new.site.entries.items)) → ExecutesAt (Run s.name jobs order) v s w (record { name = s.name; state = Primary new }) before now
-ran v w s r new jobs order before middle now law whole st stamped same later f t p h =
+ran v w nothing s r new jobs order before middle now law whole st stamped same later f t p h =
     let d : HasDecided w p.told p.now jobs order r new before middle = f p.told p.now (reigns_at v s r p st h) in
     let stamp = stamp_of r in
     let turn : Turn = turn_of stamp r.serials jobs order p.now.sequence in
@@ -163,7 +162,7 @@ ran v w s r new jobs order before middle now law whole st stamped same later f t
         },
       ),
       record {
-        disk = place_of_one w p q.site o (same ∙ h.disk.simulated) (λ sure. open_reads w p.told o new.site law sure d.reigns) (λ sure. open_images w p.told o new.site sure d.reigns);
+        disk = place_of_one w p q.site o (same ∙ h.disk.simulated) (λ sure. open_reads w nothing p.told o new.site law sure d.reigns) (λ sure. open_images w p.told o new.site sure d.reigns);
         site = ap (in_new_state state) h.site ∙ ap (λ (x : List ℕ). Some (record { name = s.name; state = world.Primary stamp x })) (sym d.serials)
             ∙ ap (λ (x : Stamp). Some (record { name = s.name; state = world.Primary x new.serials })) stamp_new;
         held = record {
@@ -178,10 +177,10 @@ ran v w s r new jobs order before middle now law whole st stamped same later f t
     )
 
 -- a fault ended it
-pub ran_to_fault : (v w : View) (s : Site) (r : Reign) (jobs : List (List Job)) (order : List ℕ) (k undecided : ℕ) (before middle now : List ℕ) → IsLawful w → s.state ≡ Primary r → w.simulated ≡ v.simulated → k ≡ w.faults → Rose v.faults w.faults
+pub ran_to_fault : (leftovers : Leftovers) (v w : View) (s : Site) (r : Reign) (jobs : List (List Job)) (order : List ℕ) (k undecided : ℕ) (before middle now : List ℕ) → IsLawful w → s.state ≡ Primary r → w.simulated ≡ v.simulated → k ≡ w.faults → Rose v.faults w.faults
     → ((told : Bool) (c : Contents) → Reigns v told c r → (m : ℕ) × FailsAt w (stamp_of r) told c jobs order r.serials undecided before middle m)
     → now ≡ middle ++ fault_line s.name k undecided → ExecutesAt (Run s.name jobs order) v s w (record { name = s.name; state = Failed k }) before now
-ran_to_fault v w s r jobs order k undecided before middle now law st same count rose f t p h =
+ran_to_fault leftovers v w s r jobs order k undecided before middle now law st same count rose f t p h =
     let d : (m : ℕ) × FailsAt w (stamp_of r) p.told p.now jobs order r.serials undecided before middle m = f p.told p.now (reigns_at v s r p st h) in
     let m : ℕ = d.0 in
     let a = d.1 in
@@ -189,7 +188,7 @@ ran_to_fault v w s r jobs order k undecided before middle now law st same count 
     let turn : Turn = turn_of stamp r.serials jobs (take m order) p.now.sequence in
     let ends : Section = record { picks = take m order; hardened = a.hardened; fault = Some k } in
     let state = in_new_state (world.Failed k) p.site in
-    let front = front_place w p state turn.sequence a.hardened law (same ∙ h.disk.simulated) a.front in
+    let front = front_place leftovers w p state turn.sequence a.hardened law (same ∙ h.disk.simulated) a.front in
     let text : turn_on p.site jobs ends p ≡ turn = ap (λ (x : Option world.Site). turn_on x jobs ends p) (site_is v s r p st h) in
     let rest : undecided ≡ length order - length (printed a.hardened turn.replies) = omega (arith, a.count) in
     let of = λ (sure : p.told ≡ true) (o : Contents) (g : IsFrontOf turn.sequence a.hardened p.now o). subst (IsOf s.name) (sym g.is) (of_sequence s.name p.now (take g.count turn.sequence) (h.held.made sure).now) in (
@@ -230,15 +229,15 @@ ran_to_fault v w s r jobs order k undecided before middle now law st same count 
     )
 
 -- it was cut off once some jobs were decided, of which at least these are hardened
-pub run_cut : (v w : View) (s : Site) (r : Reign) (jobs : List (List Job)) (order : List ℕ) → IsLawful w → s.state ≡ Primary r → w.simulated ≡ v.simulated
+pub run_cut : (leftovers : Leftovers) (v w : View) (s : Site) (r : Reign) (jobs : List (List Job)) (order : List ℕ) → IsLawful w → s.state ≡ Primary r → w.simulated ≡ v.simulated
     → ((told : Bool) (c : Contents) → Reigns v told c r → (m low : ℕ) × (length c.sequence ≤ low) × MayHaveFront w told c (turn_of (stamp_of r) r.serials jobs (take m order) c.sequence).sequence low)
     → IsCutAt (Run s.name jobs order) v s w
-run_cut v w s r jobs order law st same f p h =
+run_cut leftovers v w s r jobs order law st same f p h =
     let d : (m low : ℕ) × (length p.now.sequence ≤ low) × MayHaveFront w p.told p.now (turn_of (stamp_of r) r.serials jobs (take m order) p.now.sequence).sequence low = f p.told p.now (reigns_at v s r p st h) in
     let m : ℕ = d.0 in
     let low : ℕ = d.1 in
     let all = (turn_of (stamp_of r) r.serials jobs (take m order) p.now.sequence).sequence in
-    let front = front_place w p p.site all low law (same ∙ h.disk.simulated) d.3 in
+    let front = front_place leftovers w p p.site all low law (same ∙ h.disk.simulated) d.3 in
     let lower : (o : Contents) → IsFrontOf all low p.now o → IsFrontOf all (length p.now.sequence) p.now o = λ o g. record { count = g.count; least = omega (arith, d.2, g.least); most = g.most; is = g.is } in (
       record { site = p.site; told = p.told; now = front.now; left = front.left; outcomes = fronts p.now all low (length all - low); faults = w.faults; simulated = p.simulated },
       record {
@@ -261,7 +260,7 @@ decided_front w told c jobs order r new before now d =
         images = λ sure files i. (
           with_sequence c all,
           record { count = length all; least = omega (arith, d.grown); most = omega arith; is = ap (with_sequence c) (sym (take-length all)) },
-          images_stand w (with_sequence c all) new.site (subst (λ (b : Bool). Reigns w b (with_sequence c all) new) sure d.reigns) files i,
+          open_site w (with_sequence c all) new.site (subst (λ (b : Bool). Reigns w b (with_sequence c all) new) sure d.reigns) files i,
         );
       }),
     )
@@ -323,14 +322,14 @@ among_runs stamp serials jobs order c o n g =
     ]
 
 -- it was cut off once some jobs were decided, and each image may have its own number of them
-pub run_cut_any : (v w : View) (s : Site) (r : Reign) (jobs : List (List Job)) (order : List ℕ) → IsLawful w → s.state ≡ Primary r → w.simulated ≡ v.simulated
+pub run_cut_any : (leftovers : Leftovers) (v w : View) (s : Site) (r : Reign) (jobs : List (List Job)) (order : List ℕ) → IsLawful w → s.state ≡ Primary r → w.simulated ≡ v.simulated
     → ((told : Bool) (c : Contents) → Reigns v told c r → MayLeave w (stamp_of r) told c jobs order r.serials) → IsCutAt (Run s.name jobs order) v s w
-run_cut_any v w s r jobs order law st same f p h =
+run_cut_any leftovers v w s r jobs order law st same f p h =
     let d : MayLeave w (stamp_of r) p.told p.now jobs order r.serials = f p.told p.now (reigns_at v s r p st h) in
     let low : ℕ = length p.now.sequence in
     let runs : ℕ → Sequence = runs_of (stamp_of r) r.serials jobs order p.now.sequence in
     let list = all_fronts runs (length order) p.now low in
-    let m = place_of_images w p p.site list law (same ∙ h.disk.simulated) d.told (λ is c i. let o = d.images is c i in (o.0, among_runs (stamp_of r) r.serials jobs order p.now o.0 o.1.0 o.1.1, inr o.2)) in (
+    let m = place_of_images leftovers w p p.site list law (same ∙ h.disk.simulated) d.told (λ is c i. let o = d.images is c i in (o.0, among_runs (stamp_of r) r.serials jobs order p.now o.0 o.1.0 o.1.1, inr o.2)) in (
       record { site = p.site; told = p.told; now = m.now; left = m.left; outcomes = list; faults = w.faults; simulated = p.simulated },
       record {
         told = refl;

@@ -23,7 +23,6 @@ use Rattle.world_defs.specs.Rows.{in_new_state, opened, with_reign, next_stamp, 
 use Rattle.world_defs.specs.Step.{LeftAt}
 use Rattle.world_defs.specs.Output.{line, cycle_on}
 use Rattle.world_defs.specs.Ties.{IsSite, HasLeft, Stands, Reads, Matches}
-use Rattle.world_laws.proofs.StandsForOne.{stand_for_one}
 use Rattle.site_runner.specs.declared.slot.State.{State}
 use Rattle.site_runner.specs.declared.slot.State.TheVariants.{Down, Primary, Failed}
 use Rattle.site_runner.specs.declared.slot.Site.{Site}
@@ -31,7 +30,7 @@ use Rattle.site_runner.specs.Sites.{state_value, site_value, HoldsState, IsOf, I
 use Rattle.site_runner.specs.Here.{tests, cause_here, Here, text_here}
 use Rattle.site_runner.specs.Steps.{IsAt, ExecutesAt, IsCutAt}
 use Rattle.site_runner.specs.Starting.{IsOpenedAt, BeginsAt, IsCutOpened}
-use Rattle.site_runner.proofs.Ats.{refuses, kept_same, state_at, first_cause, second_cause, no_cause, not_true, is_true_or_false, some_both, told_is, is_site, reads_site, stands_told, at_moment, reads_image, ReadPlace, place_of_images, place_of_one, only, open_reads, open_images}
+use Rattle.site_runner.proofs.Ats.{refuses, kept_same, state_at, first_cause, second_cause, no_cause, not_true, is_true_or_false, some_both, told_is, is_site, reads_site, stands_told, at_moment, reads_image, Leftovers, NothingIsLeft, ReadPlace, place_of_images, place_of_one, only, open_reads, open_images}
 use Rattle.site_runner.proofs.Stopped.{length_tagged}
 use Rattle.site_runner.proofs.Begun.{limit_opened, stamp_opened, of_opened, of_begun, of_may_begin, begins, among_begins, begins_among, generation_past, generation_left}
 
@@ -103,16 +102,20 @@ OpensAtMoments v w = IfSome v.content (λ files. (c : Contents) (left : Leftover
 each_stands : (v : View) (p : Place) → Matches v p → p.told ≡ true → EachStands v
 each_stands v p m sure f i = let o = m.images sure f i in (o.0, o.2)
 
-opened_told : (v w : View) (s : Site) (o : OpenSite) (p : Place) → IsLawful v → s.state ≡ Down → IsAt v s p → site_name o.instance.records ≡ s.name → p.told ≡ true
+-- files stand for one thing at most
+abbrev pub StandForOne : Type 0
+StandForOne = (f : Files) (c o : Contents) → Stands f c → Stands f o → c ≡ o
+
+opened_told : (one_only : StandForOne) (v w : View) (s : Site) (o : OpenSite) (p : Place) → IsLawful v → s.state ≡ Down → IsAt v s p → site_name o.instance.records ≡ s.name → p.told ≡ true
     → Opens v w o → HasGenerations v
     → w.simulated ≡ v.simulated → v.faults ≤ w.faults → IsOpenedAt w s o p
-opened_told v w s o p law down h name sure told drawn same later =
+opened_told one_only v w s o p law down h name sure told drawn same later =
     let made : IsMade s.name p = h.held.made sure in
     let read = reads_image v law (told_is v.content _ (h.disk.told sure)) in
     let reads = subst (λ (x : Option Files). IsSomeAnd x (λ files. Reads files p.now p.left)) read.1 (h.disk.told sure) in
     let site = reads_site read.0 p.now p.left made.now.made reads in
     let out = h.disk.images sure read.0 read.2 in
-    let same_out : out.0 ≡ p.now = stand_for_one read.0 out.0 p.now out.2 (inr site.0) in
+    let same_out : out.0 ≡ p.now = one_only read.0 out.0 p.now out.2 (inr site.0) in
     let here = subst (λ (x : Option Files). IfSome x (λ files. (c : Contents) (left : Leftover) → IsSite files c → HasLeft files c left → EachStands v → IsOpen w true (opened left.broken c) (length c.sequence) o)) read.1 told in
     let one : IsOpen w true (opened p.left.broken p.now) (length p.now.sequence) o = here p.now p.left site.0 site.1 (each_stands v p h.disk sure) in
     let drawn_here = subst (λ (x : Option Files). IfSome x (λ files. (c : Contents) → IsSite files c → generation c.instance < 65534)) read.1 drawn in
@@ -150,11 +153,11 @@ opened_untold v w s o p down h name unsure read same later = record {
   simulated = same ∙ h.disk.simulated;
 }
 
-pub opened_at : (v w : View) (s : Site) (o : OpenSite) (p : Place) → IsLawful v → s.state ≡ Down → IsAt v s p → site_name o.instance.records ≡ s.name → ((c : Contents) × (broken : List ℕ) × Remembers (opened broken c) (length c.sequence) o)
+pub opened_at : (one_only : StandForOne) (v w : View) (s : Site) (o : OpenSite) (p : Place) → IsLawful v → s.state ≡ Down → IsAt v s p → site_name o.instance.records ≡ s.name → ((c : Contents) × (broken : List ℕ) × Remembers (opened broken c) (length c.sequence) o)
     → Opens v w o → HasGenerations v
     → w.simulated ≡ v.simulated → v.faults ≤ w.faults → IsOpenedAt w s o p
-opened_at v w s o p law down h name read told drawn same later = elim (is_true_or_false p.told) [
-  | inl sure ↦ opened_told v w s o p law down h name sure told drawn same later
+opened_at one_only v w s o p law down h name read told drawn same later = elim (is_true_or_false p.told) [
+  | inl sure ↦ opened_told one_only v w s o p law down h name sure told drawn same later
   | inr unsure ↦ opened_untold v w s o p down h name unsure read same later
 ]
 
@@ -166,25 +169,25 @@ pub record MayHaveBegun (w : View) (s : Site) (p : Place) : Type 0 where
   pub images : p.told ≡ true → (f : Files) → Image w f → (o : Contents) × MayBeginAny s.name p o × Stands f o
   pub simulated : w.simulated ≡ p.simulated
 
-begun_place : (w : View) (s : Site) (p : Place) (site : Option world.Site) → IsLawful w → MayHaveBegun w s p
+begun_place : (leftovers : Leftovers) (w : View) (s : Site) (p : Place) (site : Option world.Site) → IsLawful w → MayHaveBegun w s p
     → ReadPlace w p site (begins s.name p.left.broken p.outcomes)
-begun_place w s p site law b =
-    place_of_images w p site (begins s.name p.left.broken p.outcomes) law b.simulated b.still_told (λ sure f i. let k = b.images sure f i in (k.0, begins_among s.name p.left.broken p.outcomes k.1.0 k.0 k.1.1 k.1.2, k.2))
+begun_place leftovers w s p site law b =
+    place_of_images leftovers w p site (begins s.name p.left.broken p.outcomes) law b.simulated b.still_told (λ sure f i. let k = b.images sure f i in (k.0, begins_among s.name p.left.broken p.outcomes k.1.0 k.0 k.1.1 k.1.2, k.2))
 
-pub begun_cut : (w : View) (s : Site) (p : Place) → IsLawful w → MayHaveBegun w s p → (q : Place) × LeftAt true (StartPrimary s.name) p q × Matches w q
-begun_cut w s p law b =
-    let m = begun_place w s p p.site law b in
+pub begun_cut : (leftovers : Leftovers) (w : View) (s : Site) (p : Place) → IsLawful w → MayHaveBegun w s p → (q : Place) × LeftAt true (StartPrimary s.name) p q × Matches w q
+begun_cut leftovers w s p law b =
+    let m = begun_place leftovers w s p p.site law b in
     (record { site = p.site; told = p.told; now = m.now; left = m.left; outcomes = begins s.name p.left.broken p.outcomes; faults = w.faults; simulated = p.simulated }, record { told = refl; outcomes = λ sure o a. inr (among_begins s.name p.left.broken p.outcomes o a) }, m.matches)
 
 -- what START answers from a place
 abbrev pub Answers : View → Site → Place → Site → List ℕ → List ℕ → Type 0
 Answers w s p new before now = (a : Answer) × (q : Place) × Here (StartPrimary s.name) p a q × IsAt w new q × (now ≡ before ++ text_here (StartPrimary s.name) p a q)
 
-pub begun_fault : (w : View) (s : Site) (p : Place) (k : ℕ) (before now : List ℕ) → IsLawful w → s.state ≡ Down → p.site ≡ Some (site_value s) → (p.told ≡ true → IsMade s.name p) → MayHaveBegun w s p → k ≡ w.faults → Rose p.faults w.faults
+pub begun_fault : (leftovers : Leftovers) (w : View) (s : Site) (p : Place) (k : ℕ) (before now : List ℕ) → IsLawful w → s.state ≡ Down → p.site ≡ Some (site_value s) → (p.told ≡ true → IsMade s.name p) → MayHaveBegun w s p → k ≡ w.faults → Rose p.faults w.faults
     → now ≡ before ++ line s.name (codes "DISKFAULT " ++ decimal k) → Answers w s p (record { name = s.name; state = Failed k }) before now
-begun_fault w s p k before now law down site made b count rose t =
+begun_fault leftovers w s p k before now law down site made b count rose t =
     let state = in_new_state (world.Failed k) p.site in
-    let m = begun_place w s p state law b in
+    let m = begun_place leftovers w s p state law b in
     let of = λ (sure : p.told ≡ true) (o : Contents) (a : Among (begins s.name p.left.broken p.outcomes) o). (let x = among_begins s.name p.left.broken p.outcomes o a in of_may_begin s.name p.left.broken x.0 o ((made sure).outcomes x.0 x.1) x.2) in (
       DiskFault k,
       record { site = state; told = p.told; now = m.now; left = m.left; outcomes = begins s.name p.left.broken p.outcomes; faults = w.faults; simulated = p.simulated },
@@ -225,13 +228,13 @@ load_begun v w s p law h moments still same = record {
   simulated = same ∙ h.disk.simulated;
 }
 
-pub load_faulted : (v w : View) (s : Site) (k : ℕ) (before now : List ℕ) → IsLawful w → s.state ≡ Down → OpensAtMoments v w → (IsSome v.content → IsSome w.content) → w.simulated ≡ v.simulated
+pub load_faulted : (leftovers : Leftovers) (v w : View) (s : Site) (k : ℕ) (before now : List ℕ) → IsLawful w → s.state ≡ Down → OpensAtMoments v w → (IsSome v.content → IsSome w.content) → w.simulated ≡ v.simulated
     → k ≡ w.faults → Rose v.faults w.faults → now ≡ before ++ line s.name (codes "DISKFAULT " ++ decimal k) → ExecutesAt (StartPrimary s.name) v s w (record { name = s.name; state = Failed k }) before now
-load_faulted v w s k before now law down moments still same count rose t p h =
-    begun_fault w s p k before now law down h.site h.held.made (load_begun v w s p law h moments still same) count (rose_at v w p h.disk rose) t
+load_faulted leftovers v w s k before now law down moments still same count rose t p h =
+    begun_fault leftovers w s p k before now law down h.site h.held.made (load_begun v w s p law h moments still same) count (rose_at v w p h.disk rose) t
 
-pub load_cut : (v w : View) (s : Site) → IsLawful w → OpensAtMoments v w → (IsSome v.content → IsSome w.content) → w.simulated ≡ v.simulated → IsCutAt (StartPrimary s.name) v s w
-load_cut v w s law moments still same p h = begun_cut w s p law (load_begun v w s p law h moments still same)
+pub load_cut : (leftovers : Leftovers) (v w : View) (s : Site) → IsLawful w → OpensAtMoments v w → (IsSome v.content → IsSome w.content) → w.simulated ≡ v.simulated → IsCutAt (StartPrimary s.name) v s w
+load_cut leftovers v w s law moments still same p h = begun_cut leftovers w s p law (load_begun v w s p law h moments still same)
 
 -- there is no generation left
 load_limit_told : (v w : View) (s : Site) (before now : List ℕ) (p : Place) → IsLawful w → s.state ≡ Down → IsAt v s p → p.told ≡ true → IfSome v.content (λ files. (c : Contents) → IsSite files c → 65534 ≤ generation c.instance)
@@ -342,18 +345,18 @@ reign_begun v w s o p m h = record {
   simulated = m.simulated ∙ h.simulated;
 }
 
-pub reign_faulted : (v w : View) (s : Site) (o : OpenSite) (k : ℕ) (before now : List ℕ) → Moments v w o → k ≡ w.faults → Rose v.faults w.faults → now ≡ before ++ line s.name (codes "DISKFAULT " ++ decimal k)
+pub reign_faulted : (leftovers : Leftovers) (v w : View) (s : Site) (o : OpenSite) (k : ℕ) (before now : List ℕ) → Moments v w o → k ≡ w.faults → Rose v.faults w.faults → now ≡ before ++ line s.name (codes "DISKFAULT " ++ decimal k)
     → BeginsAt v o s w (record { name = s.name; state = Failed k }) before now
-reign_faulted v w s o k before now m count rose t p h =
-    begun_fault w s p k before now m.lawful h.down h.site h.made (reign_begun v w s o p m h) count (omega (arith, rose, h.faults)) t
+reign_faulted leftovers v w s o k before now m count rose t p h =
+    begun_fault leftovers w s p k before now m.lawful h.down h.site h.made (reign_begun v w s o p m h) count (omega (arith, rose, h.faults)) t
 
-pub reign_cut : (v w : View) (s : Site) (o : OpenSite) → Moments v w o → IsCutOpened v o s w
-reign_cut v w s o m p h = begun_cut w s p m.lawful (reign_begun v w s o p m h)
+pub reign_cut : (leftovers : Leftovers) (v w : View) (s : Site) (o : OpenSite) → Moments v w o → IsCutOpened v o s w
+reign_cut leftovers v w s o m p h = begun_cut leftovers w s p m.lawful (reign_begun v w s o p m h)
 
 -- there is no reign left
-reign_limit_told : (v : View) (s : Site) (o : OpenSite) (before now : List ℕ) (p : Place) → IsLawful v → IsOpenedAt v s o p → p.told ≡ true → ((c : Contents) (n : ℕ) → Remembers c n o → reign_limit c ≡ Some ReignLimit)
+reign_limit_told : (v : View) (nothing : NothingIsLeft v) (s : Site) (o : OpenSite) (before now : List ℕ) (p : Place) → IsLawful v → IsOpenedAt v s o p → p.told ≡ true → ((c : Contents) (n : ℕ) → Remembers c n o → reign_limit c ≡ Some ReignLimit)
     → now ≡ before ++ line s.name (codes "REIGNLIMIT") → Answers v s p s before now
-reign_limit_told v s o before now p law h sure limit t =
+reign_limit_told v nothing s o before now p law h sure limit t =
     let c : Contents = opened p.left.broken p.now in
     let is_open : IsOpen v p.told c (length c.sequence) o = subst (λ (x : Contents). IsOpen v p.told (opened p.left.broken x) (length x.sequence) o) (h.as_before sure)
     (subst (λ (b : List ℕ). IsOpen v p.told (opened b h.read) (length h.read.sequence) o) (h.as_left sure) h.is_open) in
@@ -370,7 +373,7 @@ reign_limit_told v s o before now p law h sure limit t =
         ),
       ),
       record {
-        disk = place_of_one v p q.site c h.simulated (λ is. open_reads v p.told c o law is is_open) (λ is. open_images v p.told c o is is_open);
+        disk = place_of_one v p q.site c h.simulated (λ is. open_reads v nothing p.told c o law is is_open) (λ is. open_images v p.told c o is is_open);
         site = ap (in_new_state world.Down) h.site ∙ ap (λ (x : world.State). Some (record { name = s.name; state = x })) (ap state_value (sym h.down));
         held = record { made = λ is. record { now = of; outcomes = λ x j. subst (IsOf s.name) (sym (only x c j)) of }; state = subst (λ (x : State). HoldsState v x q) (sym h.down) tt };
       },
@@ -392,9 +395,9 @@ reign_limit_untold v s o before now p h unsure t = (
   t,
 )
 
-pub reign_limited : (v : View) (s : Site) (o : OpenSite) (before now : List ℕ) → IsLawful v → ((c : Contents) (n : ℕ) → Remembers c n o → reign_limit c ≡ Some ReignLimit) → now ≡ before ++ line s.name (codes "REIGNLIMIT") → BeginsAt v o s v s before now
-reign_limited v s o before now law limit t p h = elim (is_true_or_false p.told) [
-  | inl sure ↦ reign_limit_told v s o before now p law h sure limit t
+pub reign_limited : (v : View) (nothing : NothingIsLeft v) (s : Site) (o : OpenSite) (before now : List ℕ) → IsLawful v → ((c : Contents) (n : ℕ) → Remembers c n o → reign_limit c ≡ Some ReignLimit) → now ≡ before ++ line s.name (codes "REIGNLIMIT") → BeginsAt v o s v s before now
+reign_limited v nothing s o before now law limit t p h = elim (is_true_or_false p.told) [
+  | inl sure ↦ reign_limit_told v nothing s o before now p law h sure limit t
   | inr unsure ↦ reign_limit_untold v s o before now p h unsure t
 ]
 
@@ -402,13 +405,13 @@ entries_open : (v : View) (told : Bool) (c : Contents) (n : ℕ) (o : OpenSite) 
 entries_open v told c n o h = length_tagged o.entries.items c.sequence 1 h.remembered.entries
 
 -- the reign has begun
-pub reign_starts : (v w : View) (s : Site) (o new : OpenSite) (stamp : Stamp) (serials : List ℕ) (from : ℕ) (before now : List ℕ) → IsLawful w → serials ≡ FIRST_SERIALS
+pub reign_starts : (v w : View) (nothing : NothingIsLeft w) (s : Site) (o new : OpenSite) (stamp : Stamp) (serials : List ℕ) (from : ℕ) (before now : List ℕ) → IsLawful w → serials ≡ FIRST_SERIALS
     → ((told : Bool) (c : Contents) → IsOpen v told c (length c.sequence) o → IsOpen w told (with_reign (site_name c.instance) c) (length c.sequence) new)
     → ((c : Contents) → c.instance ≡ o.instance.records → stamp_value stamp ≡ next_stamp (site_name c.instance) c) → new.stamp ≡ Some stamp
     → ((c : Contents) (n : ℕ) → Remembers c n o → reign_limit c ≡ None) → w.simulated ≡ v.simulated → v.faults ≤ w.faults
     → from ≡ length o.entries.items + 1 → now ≡ before ++ line s.name (codes "PRIMARY " ++ decimal stamp.cycle ++ codes " FROM " ++ decimal from)
     → BeginsAt v o s w (record { name = s.name; state = Primary (record { site = new; serials = serials }) }) before now
-reign_starts v w s o new stamp serials from before now law first_serials begun drawn stamped room same later is_from t p h =
+reign_starts v w nothing s o new stamp serials from before now law first_serials begun drawn stamped room same later is_from t p h =
     let read : Contents = h.read in
     let c : Contents = opened h.broken read in
     let d : Contents = with_reign s.name c in
@@ -436,7 +439,7 @@ reign_starts v w s o new stamp serials from before now law first_serials begun d
         },
       ),
       record {
-        disk = place_of_one w p q.site d (same ∙ h.simulated) (λ sure. open_reads w p.told d new law sure is_open) (λ sure. open_images w p.told d new sure is_open);
+        disk = place_of_one w p q.site d (same ∙ h.simulated) (λ sure. open_reads w nothing p.told d new law sure is_open) (λ sure. open_images w p.told d new sure is_open);
         site = ap (in_new_state state) h.site ∙ ap (λ (x : world.State). Some (record { name = s.name; state = x })) (states_same stamp_new first_serials);
         held = record {
           made = λ sure. record { now = of sure; outcomes = λ x j. subst (IsOf s.name) (sym (only x d j)) (of sure) };
@@ -452,12 +455,12 @@ reign_starts v w s o new stamp serials from before now law first_serials begun d
 
 -- Beginning and opening together.
 
-pub begins_so : (v w u : View) (s new : Site) (o : OpenSite) (before now : List ℕ) → IsLawful v → s.state ≡ Down → site_name o.instance.records ≡ s.name → ((c : Contents) × (broken : List ℕ) × Remembers (opened broken c) (length c.sequence) o)
+pub begins_so : (one_only : StandForOne) (v w u : View) (s new : Site) (o : OpenSite) (before now : List ℕ) → IsLawful v → s.state ≡ Down → site_name o.instance.records ≡ s.name → ((c : Contents) × (broken : List ℕ) × Remembers (opened broken c) (length c.sequence) o)
     → Opens v w o → HasGenerations v
     → w.simulated ≡ v.simulated → v.faults ≤ w.faults → BeginsAt w o s u new before now → ExecutesAt (StartPrimary s.name) v s u new before now
-begins_so v w u s new o before now law down name read told drawn same later b p h = b p (opened_at v w s o p law down h name read told drawn same later)
+begins_so one_only v w u s new o before now law down name read told drawn same later b p h = b p (opened_at one_only v w s o p law down h name read told drawn same later)
 
-pub begins_cut : (v w u : View) (s : Site) (o : OpenSite) → IsLawful v → s.state ≡ Down → site_name o.instance.records ≡ s.name → ((c : Contents) × (broken : List ℕ) × Remembers (opened broken c) (length c.sequence) o)
+pub begins_cut : (one_only : StandForOne) (v w u : View) (s : Site) (o : OpenSite) → IsLawful v → s.state ≡ Down → site_name o.instance.records ≡ s.name → ((c : Contents) × (broken : List ℕ) × Remembers (opened broken c) (length c.sequence) o)
     → Opens v w o → HasGenerations v
     → w.simulated ≡ v.simulated → v.faults ≤ w.faults → IsCutOpened w o s u → IsCutAt (StartPrimary s.name) v s u
-begins_cut v w u s o law down name read told drawn same later b p h = b p (opened_at v w s o p law down h name read told drawn same later)
+begins_cut one_only v w u s o law down name read told drawn same later b p h = b p (opened_at one_only v w s o p law down h name read told drawn same later)

@@ -14,7 +14,7 @@ use Rattle.journal_defs.specs.Surviving.{reigns}
 use Rattle.gvn_model.specs.declared.entry.Entry as code
 use Rattle.gvn_model.specs.declared.reign.Reign as code_reign
 use Rattle.gvn_model.specs.Reigns.{reign_value}
-use Rattle.site_store.specs.Site.{tagged}
+use Rattle.gvn_model.specs.Numbered.{numbered}
 use Rattle.world_defs.specs.World as world
 use Rattle.command_defs.specs.Commands.{Name, Command, Stop, Extract, Zwrite, Show}
 use Rattle.world_defs.specs.World.{Leftover, NO_LEFTOVER, Place, same_name}
@@ -58,8 +58,8 @@ pub cut_here : {D : Type 0} (view : D → View) (c : Command) (old new : Slot D)
 cut_here view c old new site e x p h = x p (record { disk = h.disk; site = h.site ∙ ap (option_map site_value) e; held = subst (λ (o : Option Site). HoldsSite (view old.disk) o p) e h.held })
 
 -- the entries in memory are as many as the sequence has
-pub length_tagged : (xs : List code.Entry) (seq : Sequence) (n : ℕ) → map tagged xs ≡ enumerate_from n seq → length xs ≡ length seq
-length_tagged xs seq n e = sym (length-map xs tagged) ∙ ap length e ∙ long n seq
+pub length_tagged : (xs : List code.Entry) (seq : Sequence) (n : ℕ) → map numbered xs ≡ enumerate_from n seq → length xs ≡ length seq
+length_tagged xs seq n e = sym (length-map xs numbered) ∙ ap length e ∙ long n seq
   where
     long : (n : ℕ) (ys : Sequence) → length (enumerate_from n ys) ≡ length ys
     long n [] = refl

@@ -6,7 +6,7 @@ use Rattle.disk_defs.specs.Disk.{View}
 use Rattle.global_defs.specs.Entry.{Sequence}
 use Rattle.global_defs.specs.Key.{Key}
 use Rattle.journal_defs.specs.Surviving.{reigns}
-use Rattle.site_store.specs.Site.{tagged}
+use Rattle.gvn_model.specs.Numbered.{numbered}
 use Rattle.repl_section.specs.Reigns.{stamp_of}
 use Rattle.world_defs.specs.World.{Place}
 use Rattle.world_defs.specs.Answers.{Answer}
@@ -38,7 +38,7 @@ Stops old new before now = StopsFrom old.state old new before now
 
 abbrev pub ExtractsFrom : State → Site → Option ℕ → List ℕ → List ℕ → Type 0
 ExtractsFrom Down s from before now = Says s s (codes "NOTRUNNING") before now
-ExtractsFrom (Primary r) s from before now = (seq : Sequence) → map tagged r.site.entries.items ≡ enumerate_from 1 seq → now ≡ before ++ extract_from s.name from seq
+ExtractsFrom (Primary r) s from before now = (seq : Sequence) → map numbered r.site.entries.items ≡ enumerate_from 1 seq → now ≡ before ++ extract_from s.name from seq
 ExtractsFrom (Failed fault) s from before now = Says s s (codes "STOPPED " ++ decimal fault) before now
 
 abbrev pub Extracts : Site → Option ℕ → List ℕ → List ℕ → Type 0

@@ -20,6 +20,7 @@ use gvn_model::NamedModes;
 use repl_disk::Disk;
 use site_store::RegionSpec;
 use std::alloc::Global;
+use world_laws::leftovers::leftovers_hold;
 
 /// A command's regions, as a site is made with them.
 fn region_specs(alloc: Global, regions: &NamedModes) -> Result<Vec<RegionSpec>, NoMemory>
@@ -50,6 +51,7 @@ fn make<D: Disk>(
     ensures cut_off { OnErr result (MakingIsCut D.disk name (map region_value regions.now) slot.old slot.new) }
     ensures ready { IsReadyOn (D.disk slot.new.disk) slot.new.site }
 {
+    leftovers_hold();
     let specs = region_specs(alloc, regions)?;
     match site_store::create(alloc, &mut slot.disk, &name, &specs) {
         Err(error) => write_failure(text, name.as_slice(), error),

@@ -89,7 +89,7 @@ fn execute_at<D: Disk>(
         Command::Fuse { calls, .. } => fuse(&mut slot.disk, site, calls, text),
         Command::Crash { pick, .. } => crash(&mut slot.disk, site, pick, text),
         Command::Extract { number, .. } => extract(site, number, text),
-        Command::Zwrite { top, .. } => zwrite(alloc, site, &top, text),
+        Command::Zwrite { top, .. } => zwrite(site, top.as_ref(), text),
         Command::Show { .. } => show(site, text),
         Command::Print { generation, .. } => print(&mut slot.disk, site, generation, text),
     }

@@ -2,34 +2,23 @@
 ghost use Rattle.std.specs.Prelude.{◌≡◌, ◌<◌, ◌-◌, ◌++◌, map, drop, IfSome, OnOk};
 ghost use Rattle.std.specs.List.{flat_map};
 ghost use Rattle.global_defs.specs.Extract.{entry_text};
-ghost use Rattle.site_store.specs.Site.{tagged};
+ghost use Rattle.gvn_model.specs.Numbered.{numbered};
 ghost use Rattle.site_runner.specs.Steps.{Extracts};
 
 use super::slot::{Site, State};
 use super::text::{write_line, write_numbered};
 use gvn_key::{Bytes, NoMemory};
-use gvn_model::Entry;
-use jnl_extract::{extract_entry, write_header};
+use jnl_extract::write_header;
+use site_store::OpenSite;
 
-fn write_entries(entries: &[Entry], text: &mut Bytes) -> Result<(), NoMemory>
-    ensures { OnOk result (text.new ≡ text.old ++ flat_map (λ p. entry_text p.0 p.1) (map tagged entries.now)) }
+/// Adds the lines of the entries behind the first so many.
+fn write_entries(site: &OpenSite, before: u64, text: &mut Bytes) -> Result<(), NoMemory>
+    ensures { OnOk result (text.new ≡ text.old ++ flat_map (λ p. entry_text p.0 p.1) (map numbered (drop before site.now.entries.items))) }
 {
-    for e in entries {
-        extract_entry(e, text)?;
+    for place in before..site.sequence_length() {
+        site.extract(place + 1, text)?;
     }
     Ok(())
-}
-
-/// The entries from a number on.
-fn entries_from(entries: &[Entry], from: u64) -> &[Entry]
-    ensures { result.now ≡ drop (from - 1) entries.now }
-{
-    let skipped = from.saturating_sub(1);
-    if skipped < entries.len() as u64 {
-        &entries[skipped as usize..]
-    } else {
-        &[]
-    }
 }
 
 /// Shows a site's entries from a number on, or all.
@@ -45,7 +34,7 @@ pub fn extract(site: &Site, number: Option<u64>, text: &mut Bytes) -> Result<(),
         }
         State::Primary(reign) => {
             write_header(site.name.as_slice(), from, text)?;
-            write_entries(entries_from(&reign.site.entries, from), text)
+            write_entries(&reign.site, from.saturating_sub(1), text)
         }
     }
 }

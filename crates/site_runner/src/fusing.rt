@@ -8,6 +8,7 @@ use super::slot::{Site, State};
 use super::text::{write_line, write_numbered};
 use gvn_key::{Bytes, NoMemory};
 use repl_disk::Disk;
+use world_laws::leftovers::leftovers_hold;
 
 /// Lets so many more calls of a site's disk succeed.
 pub fn fuse<D: Disk>(
@@ -45,6 +46,7 @@ pub fn crash<D: Disk>(
     ensures disk { OnErr result (disk.new ≡ disk.old) }
     ensures site { OnErr result (site.new ≡ site.old) }
 {
+    leftovers_hold();
     if site.is_down() {
         return write_line(text, site.name.as_slice(), b"NOTRUNNING");
     }

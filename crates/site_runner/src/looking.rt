@@ -11,6 +11,7 @@ use gvn_key::{Bytes, NoMemory};
 use repl_disk::Disk;
 use site_store::{Layout, SiteError, inspect};
 use std::alloc::Global;
+use world_laws::leftovers::leftovers_hold;
 
 /// What stands on a disk that no site of the run has.
 pub fn look<D: Disk>(alloc: Global, slot: &mut Slot<D>) -> Result<Option<Layout>, SiteError>
@@ -20,6 +21,7 @@ pub fn look<D: Disk>(alloc: Global, slot: &mut Slot<D>) -> Result<Option<Layout>
     ensures seen { LooksHere D.disk slot.old slot.new result }
     ensures empty { result ≡ Ok None → IfSome (D.disk slot.new.disk).content (λ files. records (files INSTANCE) ≡ Some []) }
 {
+    leftovers_hold();
     inspect(alloc, &mut slot.disk)
 }
 

@@ -1,7 +1,7 @@
 // MAP.
 ghost use Rattle.std.specs.Prelude.{◌≡◌, ◌<◌, take, map, IfSome, OnOk, OnErr, true, Some};
 ghost use Rattle.command_defs.specs.Commands as commands;
-ghost use Rattle.command_defs.specs.Patterns.{is_pattern};
+ghost use Rattle.global_defs.specs.Pattern.{is_pattern};
 ghost use Rattle.world_defs.specs.Lists.{first_where};
 ghost use Rattle.world_defs.specs.World.{Contents, same_name};
 ghost use Rattle.world_defs.specs.Refusals.{region_number};
@@ -20,6 +20,7 @@ use gvn_key::{Bytes, NoMemory};
 use repl_disk::Disk;
 use site_store::{Layout, SiteError, inspect};
 use std::alloc::Global;
+use world_laws::leftovers::leftovers_hold;
 
 /// Whether the site that was found has this name.
 fn is_named(found: &Layout, name: &[u8]) -> bool
@@ -60,6 +61,7 @@ fn map_there<D: Disk>(
     ensures done { OnOk result (MapsAt region.now pattern.now (D.disk disk.old) site.old (D.disk disk.new) site.new text.old text.new) }
     ensures cut_off { OnErr result (IsCutSeen region.now pattern.now (D.disk disk.old) site.old (D.disk disk.new)) }
 {
+    leftovers_hold();
     match site_store::map(alloc, disk, number, pattern) {
         Ok(()) => write_line(text, site.name.as_slice(), b"MAPPED"),
         Err(SiteError::Failed { fault }) => {
@@ -91,6 +93,7 @@ fn map_found<D: Disk>(
     ensures done { OnOk result (MapsAt region.now pattern.now (D.disk disk.old) site.old (D.disk disk.new) site.new text.old text.new) }
     ensures cut_off { OnErr result (IsCutSeen region.now pattern.now (D.disk disk.old) site.old (D.disk disk.new)) }
 {
+    leftovers_hold();
     if !is_named(&found, site.name.as_slice()) {
         return write_not_a_file(text, site.name.as_slice(), 0, 0);
     }
@@ -122,6 +125,7 @@ fn map_down<D: Disk>(
     ensures done { OnOk result (ExecutesAt (commands.Map site.old.name region.now pattern.now) (D.disk disk.old) site.old (D.disk disk.new) site.new text.old text.new) }
     ensures cut_off { OnErr result (IsCutAt (commands.Map site.old.name region.now pattern.now) (D.disk disk.old) site.old (D.disk disk.new)) }
 {
+    leftovers_hold();
     match inspect(alloc, disk) {
         Ok(Some(found)) => map_found(alloc, disk, site, found, region, pattern, text),
         Ok(None) => write_not_a_file(text, site.name.as_slice(), 0, 0),

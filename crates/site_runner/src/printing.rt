@@ -9,6 +9,7 @@ use super::text::{write_line, write_numbered};
 use gvn_key::{Bytes, NoMemory};
 use repl_disk::Disk;
 use site_store::{SiteError, read_file};
+use world_laws::leftovers::typing_reads_files;
 
 /// The broken-transaction file of a generation has the number that is so much greater.
 const BROKEN_FILES: u32 = 2_000_000;
@@ -27,6 +28,7 @@ pub fn print<D: Disk>(
     ensures done { OnOk result (ExecutesAt (Print site.old.name generation) (D.disk disk.old) site.old (D.disk disk.new) site.new text.old text.new) }
     ensures cut_off { OnErr result (IsCutAt (Print site.old.name generation) (D.disk disk.old) site.old (D.disk disk.new)) }
 {
+    typing_reads_files();
     if let Some(fault) = site.fault() {
         return write_numbered(text, site.name.as_slice(), b"STOPPED ", fault);
     }

@@ -11,7 +11,9 @@ use gvn_key::{Bytes, NoMemory};
 use gvn_model::Jobs;
 use repl_disk::Disk;
 use repl_section::RunError;
+use site_store::nothing_is_left;
 use std::alloc::Global;
+use world_laws::leftovers::leftovers_hold;
 
 /// Decides updaters' jobs at a site, one after another in the order of their first lines.
 pub fn run_section<D: Disk>(
@@ -28,6 +30,7 @@ pub fn run_section<D: Disk>(
     ensures done { OnOk result (ExecutesAt (commands.Run site.old.name jobs order.now) (D.disk disk.old) site.old (D.disk disk.new) site.new text.old text.new) }
     ensures cut_off { OnErr result (IsCutAt (commands.Run site.old.name jobs order.now) (D.disk disk.old) site.old (D.disk disk.new)) }
 {
+    leftovers_hold();
     let reign = match &mut site.state {
         State::Down => return write_line(text, site.name.as_slice(), b"NOTPRIMARY"),
         State::Failed { fault } => {
@@ -37,6 +40,7 @@ pub fn run_section<D: Disk>(
     };
     match reign.run(alloc, disk, jobs, order, text) {
         Ok(()) => {
+            nothing_is_left(disk);
             let length = reign.site.sequence_length();
             write_numbered(text, site.name.as_slice(), b"AT ", length)
         }

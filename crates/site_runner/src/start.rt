@@ -13,8 +13,9 @@ use super::text::{write_line, write_not_a_file, write_numbered, write_primary};
 use gvn_key::{Bytes, NoMemory};
 use repl_disk::Disk;
 use repl_section::Reign;
-use site_store::{OpenSite, SiteError, created_name, load};
+use site_store::{OpenSite, SiteError, created_name, load, nothing_is_left};
 use std::alloc::Global;
+use world_laws::leftovers::{files_stand_for_one, leftovers_hold};
 
 /// Whether the site that was opened has this name.
 fn is_named(opened: &OpenSite, name: &[u8]) -> bool
@@ -38,8 +39,11 @@ fn begin<D: Disk>(
     ensures done { OnOk result (BeginsAt (D.disk disk.old) opened site.old (D.disk disk.new) site.new text.old text.new) }
     ensures cut_off { OnErr result (IsCutOpened (D.disk disk.old) opened site.old (D.disk disk.new)) }
 {
+    leftovers_hold();
+    nothing_is_left(disk);
     match opened.start_reign(alloc, disk) {
         Ok(stamp) => {
+            nothing_is_left(disk);
             let from = opened.sequence_length() + 1;
             write_primary(text, site.name.as_slice(), stamp.cycle, from)?;
             let serials = [1; 64];
@@ -71,6 +75,8 @@ fn open<D: Disk>(
     ensures done { OnOk result (ExecutesAt (StartPrimary site.old.name) (D.disk disk.old) site.old (D.disk disk.new) site.new text.old text.new) }
     ensures cut_off { OnErr result (IsCutAt (StartPrimary site.old.name) (D.disk disk.old) site.old (D.disk disk.new)) }
 {
+    leftovers_hold();
+    files_stand_for_one();
     match load(alloc, disk) {
         Ok(opened) => {
             if is_named(&opened, site.name.as_slice()) {

@@ -37,7 +37,8 @@ use Rattle.world_defs.specs.Ties.{texts_of, IsSite}
 use Rattle.site_store.specs.declared.layout.Layout.{Layout}
 use Rattle.site_store.specs.declared.site.OpenSite.{OpenSite}
 use Rattle.site_store.specs.Finding.{HasLayout}
-use Rattle.site_store.specs.Site.{tagged, Remembers, IsReady, Keeps, IsOpen, HasReign}
+use Rattle.site_store.specs.Site.{Remembers, IsReady, Keeps, IsOpen, HasReign}
+use Rattle.gvn_model.specs.Numbered.{numbered}
 use Rattle.site_store.specs.Reigning.{HasNoReignLeft, HasReignLeft, IsNextReign}
 use Rattle.site_store.proofs.Standing.{images_stand, reads_of, reads_so, told_of, still}
 use Rattle.site_store.proofs.Images.{same_image, reign_image, generation_kept, patterns_kept, name_kept, regions_kept, AreOf, are_of, site_of, is_created, texts_same}
@@ -295,7 +296,7 @@ open_begun v w told c old new r lawful b entries changed hardened journals is =
     record {
       remembered = record {
         instance = b.records ∙ ap (λ (x : Reign). old.instance.records ++ Reigned x ∷ []) same ∙ ap (λ (l : List InstanceRecord). l ++ Reigned (reign_of c) ∷ []) is.remembered.instance;
-        entries = ap (map tagged) entries ∙ is.remembered.entries;
+        entries = ap (map numbered) entries ∙ is.remembered.entries;
         globals = changed ∙ is.remembered.globals;
         hardened = hardened ∙ is.remembered.hardened;
       };

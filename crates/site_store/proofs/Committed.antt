@@ -45,7 +45,8 @@ use Rattle.world_defs.specs.Rows.{with_sequence}
 use Rattle.world_defs.specs.Ties.{IsSite}
 use Rattle.site_store.specs.declared.site.OpenSite.{OpenSite}
 use Rattle.site_store.specs.Finding.{HasLayout}
-use Rattle.site_store.specs.Site.{tagged, Remembers, IsReady, Keeps, IsOpen, HasReign, HasRoomFor, with_entry}
+use Rattle.site_store.specs.Site.{Remembers, IsReady, Keeps, IsOpen, HasReign, HasRoomFor, with_entry}
+use Rattle.gvn_model.specs.Numbered.{numbered}
 use Rattle.site_store.specs.Committing.{Enters, IsSameSite, IsSameMemory, IsOwnJournal, ArePartsOf}
 use Rattle.site_store.proofs.Frames as frames
 use Rattle.site_store.proofs.Remembered.{remembered_length, entries_more, globals_more}
@@ -77,7 +78,7 @@ pub open_prepared : (v w : View) (told : Bool) (c : Contents) (h : ℕ) (old mid
 open_prepared v w told c h old mid p same lawful is = record {
   remembered = record {
     instance = ap (λ (i : Instance). i.records) same.same.instance ∙ is.remembered.instance;
-    entries = ap (map tagged) same.entries ∙ is.remembered.entries;
+    entries = ap (map numbered) same.entries ∙ is.remembered.entries;
     globals = same.globals ∙ is.remembered.globals;
     hardened = same.same.hardened ∙ is.remembered.hardened;
   };

@@ -24,7 +24,8 @@ use Rattle.world_defs.specs.World.{Contents}
 use Rattle.world_defs.specs.Rows.{with_sequence, IsFrontOf}
 use Rattle.world_defs.specs.Ties.{IsSite}
 use Rattle.site_store.specs.declared.site.OpenSite.{OpenSite}
-use Rattle.site_store.specs.Site.{tagged, Remembers, IsReady, Keeps, IsOpen}
+use Rattle.site_store.specs.Site.{Remembers, IsReady, Keeps, IsOpen}
+use Rattle.gvn_model.specs.Numbered.{numbered}
 use Rattle.site_store.proofs.Remembered.{remembered_length}
 use Rattle.site_store.proofs.Standing.{reads_of, reads_so, told_of, still}
 use Rattle.site_store.proofs.Committed.{instance_kept, ready_after}
@@ -153,7 +154,7 @@ pub open_hardened : (v w : View) (told : Bool) (c : Contents) (h : ℕ) (old new
 open_hardened v w told c h old new p lawful is = record {
   remembered = record {
     instance = ap (λ (i : Instance). i.records) p.instance ∙ is.remembered.instance;
-    entries = ap (map tagged) p.entries ∙ is.remembered.entries;
+    entries = ap (map numbered) p.entries ∙ is.remembered.entries;
     globals = p.globals ∙ is.remembered.globals;
     hardened = p.hardened ∙ remembered_length c h old is.remembered;
   };

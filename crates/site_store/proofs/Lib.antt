@@ -25,3 +25,6 @@ pub mod Loaded
 pub mod Mapped
 pub mod Unwritten
 pub mod Owned
+pub mod Histories
+pub mod Pieces
+pub mod Numbers

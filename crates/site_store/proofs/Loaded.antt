@@ -36,7 +36,8 @@ use Rattle.world_defs.specs.Rows.{with_sequence, opened, MayOpen}
 use Rattle.world_defs.specs.Ties.{IsSite, HasLeft, Stands, texts_of}
 use Rattle.site_store.specs.declared.site.OpenSite.{OpenSite}
 use Rattle.site_store.specs.Finding.{HasLayout}
-use Rattle.site_store.specs.Site.{tagged, Remembers, IsReady, Keeps, IsOpen, WasOpened}
+use Rattle.site_store.specs.Site.{Remembers, IsReady, Keeps, IsOpen, WasOpened}
+use Rattle.gvn_model.specs.Numbered.{numbered}
 use Rattle.site_store.specs.Opening.{MayBeOpen, EachStands, AreTextsDurable}
 use Rattle.site_store.proofs.Found.{instance_one, blank_instance}
 use Rattle.site_store.proofs.Drawn.{S, C, text, newest_is, same_regions, site_read, left_read, site_either, site_begun, newest_whole, texts_kept}
@@ -221,7 +222,7 @@ module _ (u v w : View) (rs : List InstanceRecord) (last : ℕ → ℕ) (journal
   reads_so P None Q some as_read images = absurd some
   reads_so P (Some files) Q some as_read images = images files as_read
 
-  module _ (s : OpenSite) (records : s.instance.records ≡ rs ++ next_cut rs (length seq) ∷ []) (entries : map tagged s.entries.items ≡ enumerate_from 1 seq) (globals : s.globals ≡ state seq) (hardened : s.hardened ≡ length seq) where
+  module _ (s : OpenSite) (records : s.instance.records ≡ rs ++ next_cut rs (length seq) ∷ []) (entries : map numbered s.entries.items ≡ enumerate_from 1 seq) (globals : s.globals ≡ state seq) (hardened : s.hardened ≡ length seq) where
     pub remembers : (f : Files) (t : List ℕ) → Remembers (opened t (C0 f)) (length seq) s
     remembers f t = record { instance = records; entries = entries; globals = globals; hardened = hardened }
 

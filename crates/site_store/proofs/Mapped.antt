@@ -17,12 +17,11 @@ use Rattle.global_defs.specs.Key.{Key, key_cmp}
 use Rattle.global_defs.specs.Encoded.{encoded}
 use Rattle.global_defs.proofs.Order.{key_total, key_same}
 use Rattle.global_defs.specs.Valid.{is_name}
-use Rattle.command_defs.specs.Patterns.{is_pattern, ends_in_star, stem}
+use Rattle.global_defs.specs.Pattern.{is_pattern, ends_in_star, stem}
 use Rattle.instance_file.specs.Instance.{HoldsRecords, HasRecords, StandsWith}
 use Rattle.instance_file.specs.declared.instance.Instance.{Instance}
-use Rattle.instance_file.specs.Patterns.{mapped}
 use Rattle.journal_defs.specs.Numbers.{INSTANCE, journal_file, lost_file, broken_file, database_file}
-use Rattle.journal_defs.specs.Instance.{InstanceRecord, Create, Reigned, Cut, Map, Mode, IsInForm, NamedMode, generation, regions, site_name}
+use Rattle.journal_defs.specs.Instance.{InstanceRecord, Create, Reigned, Cut, Map, Mode, IsInForm, NamedMode, generation, regions, site_name, pattern_record}
 use Rattle.journal_defs.specs.Directory.{Pattern, pattern_in, patterns, region_of}
 use Rattle.journal_defs.specs.Broken.{broken, broken_text, parts_past}
 use Rattle.journal_defs.specs.Sequence.{Placed, Records}
@@ -35,18 +34,10 @@ use Rattle.journal_defs.specs.Stands.{IsInstance, IsJournal}
 use Rattle.journal_laws.proofs.Naming as naming
 use Rattle.journal_laws.proofs.Runs as runs
 use Rattle.world_defs.specs.World.{Contents}
-use Rattle.world_defs.specs.Rows.{pattern_record, with_pattern}
+use Rattle.world_defs.specs.Rows.{with_pattern}
 use Rattle.world_defs.specs.Ties.{IsBlank, IsSite, Stands, start_in, texts_of}
 use Rattle.site_store.specs.Opening.{MayHavePattern, EachStands}
 use Rattle.site_store.proofs.Found.{instance_one, site_instance, some_made, blank_instance}
-
--- the MAP of a pattern
-pub same_record : (region : ℕ) (text : List ℕ) → mapped region text ≡ pattern_record region text
-same_record region text = by_star (ends_in_star text)
-  where
-    by_star : (star : Bool) → (if star then Map region star (take (length text - 1) text) else Map region star text) ≡ Map region star (if star then take (length text - 1) text else text)
-    by_star true = refl
-    by_star false = refl
 
 both_true : (a b : Bool) → a && b ≡ true → (a ≡ true) × (b ≡ true)
 both_true true b h = (refl, h)
@@ -396,17 +387,15 @@ module _ (u v w : View) (rs : List InstanceRecord) (region : ℕ) (text : List �
 abbrev pub AppendsTo : View → View → Instance → Instance → InstanceRecord → Type 0
 AppendsTo v w i j m = (qs : List InstanceRecord) → HasRecords v i qs → HasRecords w j (qs ++ m ∷ [])
 
-pub has_reads : (u v w : View) (i j : Instance) (rs : List InstanceRecord) (m x : InstanceRecord) → m ≡ x → IfSome u.content (λ _. HasRecords v i rs) → AppendsTo v w i j m
+pub has_reads : (u v w : View) (i j : Instance) (rs : List InstanceRecord) (x : InstanceRecord) → IfSome u.content (λ _. HasRecords v i rs) → AppendsTo v w i j x
     → IfSome u.content (λ _. IfSome w.content (λ now. IsInstance (now INSTANCE) (rs ++ x ∷ [])))
-has_reads u v w i j rs m x same has call = weaker_told u.content (λ _. HasRecords v i rs) (λ _. IfSome w.content (λ now. IsInstance (now INSTANCE) (rs ++ x ∷ []))) has
-    (λ files h. subst (λ (y : InstanceRecord). IfSome w.content (λ now. IsInstance (now INSTANCE) (rs ++ y ∷ []))) same (reading w.content (call rs h)))
+has_reads u v w i j rs x has call = weaker_told u.content (λ _. HasRecords v i rs) (λ _. IfSome w.content (λ now. IsInstance (now INSTANCE) (rs ++ x ∷ []))) has (λ files h. reading w.content (call rs h))
   where
-    reading : (o : Option Files) → IsSomeAnd o (HoldsRecords w j (rs ++ m ∷ [])) → IfSome o (λ now. IsInstance (now INSTANCE) (rs ++ m ∷ []))
+    reading : (o : Option Files) → IsSomeAnd o (HoldsRecords w j (rs ++ x ∷ [])) → IfSome o (λ now. IsInstance (now INSTANCE) (rs ++ x ∷ []))
     reading None h = tt
     reading (Some now) h = h.reads
 
-pub has_images : (u v w : View) (i j : Instance) (rs : List InstanceRecord) (m x : InstanceRecord) → m ≡ x → IfSome u.content (λ _. HasRecords v i rs) → AppendsTo v w i j m
+pub has_images : (u v w : View) (i j : Instance) (rs : List InstanceRecord) (x : InstanceRecord) → IfSome u.content (λ _. HasRecords v i rs) → AppendsTo v w i j x
     → IfSome u.content (λ _. (f : Files) → Image w f → IsInstance (f INSTANCE) (rs ++ x ∷ []))
-has_images u v w i j rs m x same has call = weaker_told u.content (λ _. HasRecords v i rs) (λ _. (f : Files) → Image w f → IsInstance (f INSTANCE) (rs ++ x ∷ [])) has
-    (λ files h f image. subst (λ (y : InstanceRecord). IsInstance (f INSTANCE) (rs ++ y ∷ [])) same
-    (with_told w.content (HoldsRecords w j (rs ++ m ∷ [])) (IsInstance (f INSTANCE) (rs ++ m ∷ [])) (call rs h) (λ now k. k.stands f image)))
+has_images u v w i j rs x has call = weaker_told u.content (λ _. HasRecords v i rs) (λ _. (f : Files) → Image w f → IsInstance (f INSTANCE) (rs ++ x ∷ [])) has
+    (λ files h f image. with_told w.content (HoldsRecords w j (rs ++ x ∷ [])) (IsInstance (f INSTANCE) (rs ++ x ∷ [])) (call rs h) (λ now k. k.stands f image))

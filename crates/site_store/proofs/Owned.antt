@@ -12,7 +12,7 @@ use Rattle.site_store.specs.declared.owning.Site.{Site}
 use Rattle.site_store.specs.declared.error.SiteError.{SiteError}
 use Rattle.site_store.specs.declared.error.SiteError.TheVariants.{Failed, Stopped}
 use Rattle.site_store.specs.Site.{IsReady, IsOpen}
-use Rattle.site_store.specs.Owning.{MayBeCalled, IsOpenSite}
+use Rattle.site_store.specs.Owning.{HasHistory, MayBeCalled, IsOpenSite}
 use Rattle.site_store.proofs.Emptied.{none_left}
 use Rattle.site_store.proofs.Unwritten.{site_read, open_read}
 use Rattle.site_store.proofs.Remembered.{remembered_length}
@@ -42,10 +42,14 @@ settled_reads v c s lawful is = reads_of v (λ f. IsSite f c) lawful (λ f now. 
 pub settled_left : (v : View) (c : Contents) (s : OpenSite) → IsOpen v true c (length c.sequence) s → (f : Files) → Image v f → HasLeft f c NO_LEFTOVER
 settled_left v c s is f now = subst (λ seq. HasLeft f (with_sequence c seq) NO_LEFTOVER) (take-length c.sequence) (none_left v c (length c.sequence) s f (is.kept refl) now)
 
-pub going_read : {D : Type 0} (view : D → View) (old new : Site D) → Reads (view old.disk) (view new.disk) → new.inner ≡ old.inner → new.fault ≡ old.fault → MayBeCalled view old → MayBeCalled view new
-going_read view old new reads same fault may none =
+pub going_read : {D : Type 0} (view : D → View) (old new : Site D) → Reads (view old.disk) (view new.disk) → new.inner ≡ old.inner → new.history ≡ old.history → new.fault ≡ old.fault → MayBeCalled view old → MayBeCalled view new
+going_read view old new reads same kept fault may none =
     let g = may (sym fault ∙ none) in
-    record { fault = none; files = subst (λ (s : OpenSite). IsReady (view new.disk) s) (sym same) (site_read (view old.disk) (view new.disk) old.inner reads g.files) }
+    record {
+      fault = none;
+      files = subst (λ (s : OpenSite). IsReady (view new.disk) s) (sym same) (site_read (view old.disk) (view new.disk) old.inner reads g.files);
+      history = subst (λ (s : OpenSite). HasHistory s new.history) (sym same) (subst (HasHistory old.inner) (sym kept) g.history);
+    }
 
 pub open_site_read : {D : Type 0} (view : D → View) (old new : Site D) (told : Bool) (c : Contents) (h : ℕ) → IsLawful (view new.disk) → Reads (view old.disk) (view new.disk) → new.inner ≡ old.inner → new.fault ≡ old.fault → IsOpenSite view told c h old → IsOpenSite view told c h new
 open_site_read view old new told c h lawful reads same fault is =
@@ -56,8 +60,8 @@ open_site_read view old new told c h lawful reads same fault is =
     }
 
 -- and where it has failed the site has stopped
-pub going_after : {D : Type 0} (view : D → View) (old new : Site D) → Reads (view old.disk) (view new.disk) → new.inner ≡ old.inner → old.fault ≡ None → MayBeCalled view old → MayBeCalled view new
-going_after view old new reads same none may now = going_read view old new reads same (now ∙ sym none) may now
+pub going_after : {D : Type 0} (view : D → View) (old new : Site D) → Reads (view old.disk) (view new.disk) → new.inner ≡ old.inner → new.history ≡ old.history → old.fault ≡ None → MayBeCalled view old → MayBeCalled view new
+going_after view old new reads same kept none may now = going_read view old new reads same kept (now ∙ sym none) may now
 
 pub open_after : {D : Type 0} (view : D → View) (old new : Site D) (told : Bool) (c : Contents) (h : ℕ) → IsLawful (view new.disk) → Reads (view old.disk) (view new.disk) → new.inner ≡ old.inner → IsOpenSite view told c h old → new.fault ≡ None → IsOpenSite view told c h new
 open_after view old new told c h lawful reads same is now = open_site_read view old new told c h lawful reads same (now ∙ sym is.fault) is

@@ -11,7 +11,8 @@ use Rattle.gvn_model.specs.declared.entry.Entry as code
 use Rattle.gvn_model.specs.Entries.{entry_value}
 use Rattle.world_defs.specs.World.{Contents}
 use Rattle.site_store.specs.declared.site.OpenSite.{OpenSite}
-use Rattle.site_store.specs.Site.{tagged, Remembers}
+use Rattle.site_store.specs.Site.{Remembers}
+use Rattle.gvn_model.specs.Numbered.{numbered}
 
 length-enumerate : {A : Type 0} (n : ℕ) (xs : List A) → length (enumerate_from n xs) ≡ length xs
 length-enumerate n [] = refl
@@ -22,7 +23,7 @@ length-map-of f [] = refl
 length-map-of f (x ∷ xs) = ap suc (length-map-of f xs)
 
 pub remembered_length : (c : Contents) (h : ℕ) (s : OpenSite) → Remembers c h s → length s.entries.items ≡ length c.sequence
-remembered_length c h s r = sym (length-map-of tagged s.entries.items) ∙ ap length r.entries ∙ length-enumerate 1 c.sequence
+remembered_length c h s r = sym (length-map-of numbered s.entries.items) ∙ ap length r.entries ∙ length-enumerate 1 c.sequence
 
 -- one entry more
 enumerate_more : {A : Type 0} (n : ℕ) (xs : List A) (x : A) → enumerate_from n (xs ++ x ∷ []) ≡ enumerate_from n xs ++ (n + length xs, x) ∷ []
@@ -34,10 +35,10 @@ state_more es e =
     let f : Entry → List Update = λ (x : Entry). x.transaction.updates in
     ap (fold apply globals.empty) (flat_map-append f es (e ∷ []) ∙ ap (λ (us : List Update). flat_map f es ++ us) (append-nil e.transaction.updates)) ∙ fold-append apply globals.empty (flat_map f es) e.transaction.updates
 
-pub entries_more : (olds news : List code.Entry) (x : code.Entry) (seq : Sequence) (e : Entry) → map tagged olds ≡ enumerate_from 1 seq → news ≡ olds ++ x ∷ [] → x.number ≡ length olds + 1 → entry_value x ≡ e → map tagged news ≡ enumerate_from 1 (seq ++ e ∷ [])
+pub entries_more : (olds news : List code.Entry) (x : code.Entry) (seq : Sequence) (e : Entry) → map numbered olds ≡ enumerate_from 1 seq → news ≡ olds ++ x ∷ [] → x.number ≡ length olds + 1 → entry_value x ≡ e → map numbered news ≡ enumerate_from 1 (seq ++ e ∷ [])
 entries_more olds news x seq e are is number value =
-    let count : length olds ≡ length seq = sym (length-map-of tagged olds) ∙ ap length are ∙ length-enumerate 1 seq in
-    ap (map tagged) is ∙ map-append tagged olds (x ∷ []) ∙ ap (λ (y : List (ℕ × Entry)). y ++ tagged x ∷ []) are
+    let count : length olds ≡ length seq = sym (length-map-of numbered olds) ∙ ap length are ∙ length-enumerate 1 seq in
+    ap (map numbered) is ∙ map-append numbered olds (x ∷ []) ∙ ap (λ (y : List (ℕ × Entry)). y ++ numbered x ∷ []) are
     ∙ ap (λ (k : ℕ). enumerate_from 1 seq ++ (k, entry_value x) ∷ []) (omega (arith, number, count))
     ∙ ap (λ (y : Entry). enumerate_from 1 seq ++ (1 + length seq, y) ∷ []) value
     ∙ sym (enumerate_more 1 seq e)

@@ -1,7 +1,9 @@
 -- What the records of an instance file say of a site.
-use Rattle.std.specs.Prelude.{◌≡◌, ◌<◌, true, List, [], length, map, Option, Some, None}
+use Rattle.std.specs.Prelude.{◌≡◌, ◌<◌, nat_le, true, filter, List, [], length, map, Option, Some, None}
 use Rattle.journal_defs.specs.Instance.{InstanceRecord, site_name, generation, regions}
 use Rattle.journal_defs.specs.Directory.{patterns}
+use Rattle.journal_defs.specs.Surviving.{reigns}
+use Rattle.gvn_model.specs.declared.history.History.{History}
 use Rattle.global_dir.specs.Directory.{Mapping}
 use Rattle.world_defs.specs.World.{Contents, nothing, is_made}
 use Rattle.site_store.specs.Opening.{region_value}
@@ -27,3 +29,8 @@ IsLaidOut rs (Some found) = (0 < length rs) × HasLayout rs found
 abbrev pub IsFound : Contents → Option Layout → Type 0
 IsFound c None = c ≡ nothing
 IsFound c (Some found) = (is_made c ≡ true) × HasLayout c.instance found
+
+-- the history of a site: how many entries there are, and the reigns in which they were made
+pub record IsHistoryOf (c : Contents) (h : History) : Type 0 where
+  pub count : h.length ≡ length c.sequence
+  pub made_in : h.reigns ≡ filter (λ r. nat_le r.start (length c.sequence)) (reigns c.instance)

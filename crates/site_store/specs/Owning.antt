@@ -1,19 +1,28 @@
 -- An open site that owns its disk.
-use Rattle.std.specs.Prelude.{◌≡◌, ℕ, Bool, Some, None, Result, Ok, Err}
+use Rattle.std.specs.Prelude.{◌≡◌, ℕ, Bool, length, Some, None, Result, Ok, Err}
 use Rattle.disk_defs.specs.Disk.{View}
+use Rattle.gvn_model.specs.declared.history.History.{History}
+use Rattle.journal_defs.specs.Surviving.{reigns}
 use Rattle.world_defs.specs.World.{Contents}
 use Rattle.site_store.specs.declared.error.SiteError.{SiteError}
 use Rattle.site_store.specs.declared.owning.Site.{Site}
+use Rattle.site_store.specs.declared.site.OpenSite.{OpenSite}
 use Rattle.site_store.specs.Site.{IsReady, IsOpen}
 
 -- a call failed, the one of that number on the disk
 abbrev pub HasStopped : {D : Type 0} → ℕ → Site D → Type 0
 HasStopped fault s = s.fault ≡ Some fault
 
--- No call failed, and its files are open for calls.
+-- its history: how many entries there are, and the reigns that no later CUT dropped
+pub record HasHistory (s : OpenSite) (h : History) : Type 0 where
+  pub count : h.length ≡ length s.entries.items
+  pub surviving : h.reigns ≡ reigns s.instance.records
+
+-- No call failed, its files are open for calls, and its history is at hand.
 pub record IsGoing {D : Type 0} (view : D → View) (s : Site D) : Type 0 where
   pub fault : s.fault ≡ None
   pub files : IsReady (view s.disk) s.inner
+  pub history : HasHistory s.inner s.history
 
 -- it has stopped, or it goes on
 abbrev pub MayBeCalled : {D : Type 0} → (D → View) → Site D → Type 0

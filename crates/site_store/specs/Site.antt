@@ -7,9 +7,8 @@ use Rattle.global_defs.specs.Entry as defs
 use Rattle.global_defs.specs.Entry.{Sequence, state}
 use Rattle.global_defs.specs.Prefix.{stamp_at}
 use Rattle.global_defs.specs.Fields.{IsSiteName}
-use Rattle.gvn_model.specs.declared.entry.Entry.{Entry}
 use Rattle.gvn_model.specs.declared.reign.Stamp.{Stamp}
-use Rattle.gvn_model.specs.Entries.{entry_value}
+use Rattle.gvn_model.specs.Numbered.{numbered}
 use Rattle.gvn_model.specs.Reigns.{stamp_value}
 use Rattle.global_defs.specs.Evaluation.{MOST_NODES}
 use Rattle.journal_defs.specs.Journal.{JournalRecord, Part, BeginsWithPini}
@@ -30,15 +29,11 @@ use Rattle.world_defs.specs.Ties.{IsSite}
 use Rattle.site_store.specs.Finding.{HasLayout}
 use Rattle.site_store.specs.declared.site.OpenSite.{OpenSite}
 
--- an entry of the code, with its number
-abbrev pub tagged : Entry → ℕ × defs.Entry
-tagged e = (e.number, entry_value e)
-
 -- What a site has in memory, whatever its disk tells: the records of its instance file, its entries, numbered from 1 on, and the
 -- globals that they lead to. How many are hardened is known too.
 pub record Remembers (c : Contents) (h : ℕ) (s : OpenSite) : Type 0 where
   pub instance : s.instance.records ≡ c.instance
-  pub entries : map tagged s.entries.items ≡ enumerate_from 1 c.sequence
+  pub entries : map numbered s.entries.items ≡ enumerate_from 1 c.sequence
   pub globals : s.globals ≡ state c.sequence
   pub hardened : s.hardened ≡ h
 

@@ -79,6 +79,8 @@ impl OpenSite {
         ensures ready { OnOk result (IsReady (D.disk disk.new) self.new) }
         ensures done { OnOk result ((told : Bool) (c : Contents) (h : ℕ) → IsOpen (D.disk disk.old) told c h self.old → IsOpen (D.disk disk.new) told (with_entry self.old.stamp (transaction_value t.now) c) h self.new) }
         ensures number { IfOk result (λ n. n ≡ length self.old.entries.items + 1) }
+        ensures grown { OnOk result (length self.new.entries.items ≡ length self.old.entries.items + 1) }
+        ensures instance { self.new.instance ≡ self.old.instance }
         ensures stamp { self.new.stamp ≡ self.old.stamp }
         ensures reign { OnOk result (HasReign self.new) }
         ensures room { OnOk result (length self.old.entries.items + 1 < 2 ^ 40) }
@@ -122,6 +124,7 @@ impl OpenSite {
         ensures done { OnOk result ((told : Bool) (c : Contents) (h : ℕ) → IsOpen (D.disk disk.old) told c h self.old → IsOpen (D.disk disk.new) told c (length c.sequence) self.new) }
         ensures length { IfOk result (λ n. n ≡ length self.old.entries.items) }
         ensures entries { self.new.entries.items ≡ self.old.entries.items }
+        ensures instance { self.new.instance ≡ self.old.instance }
         ensures all { OnOk result (self.new.hardened ≡ length self.new.entries.items) }
         ensures stamp { self.new.stamp ≡ self.old.stamp }
         ensures reign { HasReign self.old → HasReign self.new }

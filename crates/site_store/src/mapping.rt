@@ -2,14 +2,14 @@
 ghost use Rattle.std.specs.Prelude.{◌≡◌, ◌⊎◌, ◌↔◌, ◌≤◌, ◌<◌, ◌++◌, ◌∷◌, [], ℕ, true, length, map, IfSome, OnOk, OnErr, IsErrOf, IsSome, IsTrue};
 ghost use Rattle.disk_defs.specs.Disk.{Files, Image, IsDurable, AtEachMoment, Rose};
 ghost use Rattle.disk_defs.specs.Frames.{Only, OnlyOn, OthersStay};
-ghost use Rattle.command_defs.specs.Patterns.{is_pattern};
+ghost use Rattle.global_defs.specs.Pattern.{is_pattern};
 ghost use Rattle.instance_file.specs.Instance.{StandsWith};
 ghost use Rattle.instance_file.specs.Values.{record_value};
 ghost use Rattle.journal_defs.specs.Numbers.{INSTANCE};
-ghost use Rattle.journal_defs.specs.Instance.{IsInForm, generation, regions};
+ghost use Rattle.journal_defs.specs.Instance.{IsInForm, generation, regions, pattern_record};
 ghost use Rattle.journal_defs.specs.Stands.{IsInstance};
 ghost use Rattle.world_defs.specs.World.{Contents};
-ghost use Rattle.world_defs.specs.Rows.{with_pattern, pattern_record};
+ghost use Rattle.world_defs.specs.Rows.{with_pattern};
 ghost use Rattle.world_defs.specs.Ties.{IsSite};
 ghost use Rattle.site_store.specs.Opening.{MayHavePattern, EachStands};
 

@@ -1,10 +1,17 @@
 //! An open site that owns its disk.
-ghost use Rattle.std.specs.Prelude.{◌≡◌, ◌⊎◌, ◌≤◌, ◌<◌, ◌+◌, ◌^◌, ◌++◌, ℕ, List, Bool, true, [], length, map, take, Some, None, IfOk, IfSome, OnOk, OnErr, IsErrOf, IsSome, IsTrue};
+ghost use Rattle.std.specs.Prelude.{◌≡◌, ◌⊎◌, ◌≤◌, ◌<◌, ◌+◌, ◌-◌, ◌^◌, ◌++◌, ℕ, List, Bool, true, [], length, map, take, slice_get, option_map, Some, None, IfOk, IfSome, OnOk, OnErr, IsErrOf, IsSome, IsTrue};
 ghost use Rattle.std.specs.Result.{IsOk};
+ghost use Rattle.std.specs.Option.{option_copied};
+ghost use Rattle.std.specs.FinMap as globals;
 ghost use Rattle.disk_defs.specs.Disk.{Files, Image, AtEachMoment, Reads, Rose};
 ghost use Rattle.disk_defs.specs.Gates.{records};
+ghost use Rattle.global_defs.specs.Key.{sub_of};
+ghost use Rattle.global_defs.specs.Valid.{is_key};
+ghost use Rattle.global_defs.specs.Evaluation as evaluation;
+ghost use Rattle.global_defs.specs.Extract.{entry_text};
 ghost use Rattle.global_defs.specs.Fields.{IsTransaction};
-ghost use Rattle.gvn_model.specs.Entries.{transaction_value};
+ghost use Rattle.gvn_key.specs.Faults.{child_of};
+ghost use Rattle.gvn_model.specs.Entries.{entry_value, transaction_value};
 ghost use Rattle.gvn_model.specs.Reigns.{stamp_value};
 ghost use Rattle.journal_defs.specs.Numbers.{INSTANCE};
 ghost use Rattle.journal_defs.specs.Instance as instances;
@@ -12,22 +19,23 @@ ghost use Rattle.journal_defs.specs.Instance.{IsInForm, generation, site_name};
 ghost use Rattle.journal_defs.specs.Surviving.{reigns};
 ghost use Rattle.world_defs.specs.Answers.{ReignLimit};
 ghost use Rattle.world_defs.specs.World.{Contents, Leftover, NO_LEFTOVER};
+ghost use Rattle.world_defs.specs.Output.{zwrite};
 ghost use Rattle.world_defs.specs.Refusals.{reign_limit};
 ghost use Rattle.world_defs.specs.Rows.{opened, MayOpen, with_reign, next_stamp, with_sequence, IsFrontOf};
 ghost use Rattle.world_defs.specs.Ties.{IsBlank, IsSite, HasLeft};
 ghost use Rattle.site_store.specs.Site.{Remembers, WasOpened, HasReign, HasRoomFor, with_entry};
 ghost use Rattle.site_store.specs.Opening.{region_value, made, MayMake, MayBeOpen, EachStands};
 ghost use Rattle.site_store.specs.Committing.{IsSameMemory};
-ghost use Rattle.site_store.specs.Owning.{HasStopped, IsGoing, MayBeCalled, IsOpenSite, disk_left, FailsWith};
+ghost use Rattle.site_store.specs.Owning.{HasStopped, HasHistory, IsGoing, MayBeCalled, IsOpenSite, disk_left, FailsWith};
 
 use crate::creating::create;
 use crate::error::SiteError;
 use crate::layout::{Layout, RegionSpec};
 use crate::opening::load;
+use crate::reading::read_file;
 use crate::site::OpenSite;
-use crate::typing::read_file;
-use gvn_key::Bytes;
-use gvn_model::{Reigns, Stamp, Transaction};
+use gvn_key::{Bytes, Key, NoMemory};
+use gvn_model::{History, Lookup, Stamp, Transaction};
 use repl_disk::Disk;
 use std::alloc::Global;
 
@@ -40,8 +48,20 @@ use std::alloc::Global;
 pub struct Site<D: Disk> {
     pub disk: D,
     pub inner: OpenSite,
+    /// How many entries there are, and their reigns.
+    pub history: History,
     /// The number of the failed call, on the disk, after which the site stopped.
     pub fault: Option<u64>,
+}
+
+/// The history of an open site.
+fn history_in(site: &OpenSite) -> Result<History, NoMemory>
+    ensures { IfOk result (HasHistory site.now) }
+{
+    Ok(History {
+        length: site.sequence_length(),
+        reigns: site.history().copy()?,
+    })
 }
 
 impl<D: Disk> Site<D> {
@@ -101,13 +121,18 @@ impl<D: Disk> Site<D> {
         ensures no_reign_limit { FailsWith result SiteError.ReignLimit → ⊥ }
         ensures no_stop { (fault : ℕ) → FailsWith result (SiteError.Stopped fault) → ⊥ }
     {
-        match load(alloc, &mut disk) {
-            Ok(inner) => Ok(Site {
+        let inner = match load(alloc, &mut disk) {
+            Ok(inner) => inner,
+            Err(error) => return Err((disk, error)),
+        };
+        match history_in(&inner) {
+            Ok(history) => Ok(Site {
                 disk,
                 inner,
+                history,
                 fault: None,
             }),
-            Err(error) => Err((disk, error)),
+            Err(NoMemory) => Err((disk, SiteError::NoMemory)),
         }
     }
 
@@ -115,6 +140,7 @@ impl<D: Disk> Site<D> {
     fn note(&mut self, error: SiteError)
         ensures disk { self.new.disk ≡ self.old.disk }
         ensures inner { self.new.inner ≡ self.old.inner }
+        ensures history { self.new.history ≡ self.old.history }
         ensures stops { (fault : ℕ) → error ≡ SiteError.Failed fault → HasStopped fault self.new }
         ensures goes_on { ((fault : ℕ) → error ≡ SiteError.Failed fault → ⊥) → self.new ≡ self.old }
     {
@@ -159,7 +185,10 @@ impl<D: Disk> Site<D> {
             return Err(SiteError::Stopped { fault });
         }
         match self.inner.start_reign(alloc, &mut self.disk) {
-            Ok(stamp) => Ok(stamp),
+            Ok(stamp) => {
+                self.history = history_in(&self.inner)?;
+                Ok(stamp)
+            }
             Err(error) => {
                 self.note(error);
                 Err(error)
@@ -208,7 +237,10 @@ impl<D: Disk> Site<D> {
             return Err(SiteError::Stopped { fault });
         }
         match self.inner.commit(alloc, &mut self.disk, t) {
-            Ok(number) => Ok(number),
+            Ok(number) => {
+                self.history.length = number;
+                Ok(number)
+            }
             Err(error) => {
                 self.note(error);
                 Err(error)
@@ -308,11 +340,12 @@ impl<D: Disk> Site<D> {
         self.inner.hardened_length()
     }
 
-    /// The reigns that no later CUT dropped.
-    pub fn history(&self) -> &Reigns
-        ensures { result.now ≡ reigns self.now.inner.instance.records }
+    /// How many entries there are, and the reigns that no later CUT dropped.
+    pub fn history(&self) -> &History
+        ensures history { IsGoing D.disk self.now → HasHistory self.now.inner result.now }
+        ensures opened { (told : Bool) (c : Contents) (h : ℕ) → IsGoing D.disk self.now → IsOpenSite D.disk told c h self.now → (result.now.length ≡ length c.sequence) × (result.now.reigns ≡ reigns c.instance) }
     {
-        self.inner.history()
+        &self.history
     }
 
     /// What the instance file says of the site.
@@ -320,6 +353,60 @@ impl<D: Disk> Site<D> {
         ensures { result.now ≡ self.now.inner.layout }
     {
         self.inner.layout()
+    }
+
+    /// The node's value, if it has one.
+    pub fn get(&self, key: &Key) -> Option<&[u8]>
+        ensures { option_copied result ≡ globals.get self.now.inner.globals key.now }
+    {
+        self.inner.globals.get(key)
+    }
+
+    /// Whether the node has a value, and whether it has descendants: 0, 1, 10 or 11.
+    pub fn defined(&self, key: &Key) -> u8
+        ensures { result ≡ evaluation.defined self.now.inner.globals key.now }
+    {
+        self.inner.globals.defined(key)
+    }
+
+    /// The next subscript at the level below the node, past the last one, by its own bytes: of a number its numeral. An empty last
+    /// one comes before all.
+    pub fn order(&self, key: &Key, last: &[u8]) -> Result<Option<Bytes>, NoMemory>
+        ensures next { IfOk result (λ found. option_map sub_of found ≡ evaluation.order self.now.inner.globals key.now last.now) }
+        ensures a_key { IfOk result (λ found. IfSome found (λ sub. is_key (child_of key.now (sub_of sub)) ≡ true)) }
+    {
+        self.inner.globals.order(key, last)
+    }
+
+    /// Adds a ZWRITE line for each node, or for the top one and those below it, in M collation. Without memory some lines may be
+    /// added.
+    pub fn zwrite(&self, top: Option<&Key>, out: &mut Bytes) -> Result<(), NoMemory>
+        ensures { OnOk result (out.new ≡ out.old ++ zwrite (option_copied top.entry) self.now.inner.globals) }
+    {
+        self.inner.zwrite(top, out)
+    }
+
+    /// Adds the extract lines of the entry of that number, where it's there: one line for its update, or a line for each between a
+    /// TSTART and a TCOM line.
+    ///
+    /// # Errors
+    /// `Stopped` exactly where a call before failed. `NoMemory`. After both nothing is added.
+    pub fn extract(&mut self, number: u64, out: &mut Bytes) -> Result<(), SiteError>
+        requires { 1 ≤ number }
+        ensures entry { OnOk result (IfSome (slice_get self.old.inner.entries.items (number - 1)) (λ e. out.new ≡ out.old ++ entry_text e.number (entry_value e))) }
+        ensures opened { OnOk result ((told : Bool) (c : Contents) (h : ℕ) → IsOpenSite D.disk told c h self.old → IfSome (slice_get c.sequence (number - 1)) (λ e. out.new ≡ out.old ++ entry_text number e)) }
+        ensures no_entry { slice_get self.old.inner.entries.items (number - 1) ≡ None → out.new ≡ out.old }
+        ensures without { OnErr result (out.new ≡ out.old) }
+        ensures kept { self.new ≡ self.old }
+        ensures causes { OnErr result (((fault : ℕ) × IsErrOf result (SiteError.Stopped fault)) ⊎ IsErrOf result SiteError.NoMemory) }
+        ensures stopped { (fault : ℕ) → HasStopped fault self.old → IsErrOf result (SiteError.Stopped fault) }
+        ensures only_stopped { (fault : ℕ) → IsErrOf result (SiteError.Stopped fault) → HasStopped fault self.old }
+    {
+        if let Some(fault) = self.fault {
+            return Err(SiteError::Stopped { fault });
+        }
+        self.inner.extract(number, out)?;
+        Ok(())
     }
 
     /// Adds the bytes of a file, as it reads, to `out`. It writes nothing.
@@ -372,5 +459,29 @@ impl<D: Disk> Site<D> {
         ensures faults { (D.disk self.new.disk).faults ≡ (D.disk self.old.disk).faults }
     {
         self.disk.fuse(calls);
+    }
+}
+
+impl<D: Disk> Lookup for Site<D> {
+    ghost seen = { λ s. s.inner.globals };
+
+    fn get(&self, key: &Key) -> Option<&[u8]> {
+        self.inner.globals.get(key)
+    }
+
+    fn defined(&self, key: &Key) -> u8 {
+        self.inner.globals.defined(key)
+    }
+
+    fn order(&self, key: &Key, last: &[u8]) -> Result<Option<Bytes>, NoMemory> {
+        self.inner.globals.order(key, last)
+    }
+
+    fn nodes(&self) -> u32 {
+        self.inner.globals.nodes()
+    }
+
+    fn after(&self, key: &Key) -> Result<Option<Key>, NoMemory> {
+        self.inner.globals.after(key)
     }
 }

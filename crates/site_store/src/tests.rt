@@ -7,7 +7,7 @@ ghost use Rattle.journal_defs.specs.Numbers.{INSTANCE};
 ghost use Rattle.site_store.specs.Site.{HasReign};
 ghost use Rattle.site_store.specs.Owning.{IsGoing};
 
-use super::{RegionSpec, Site, SiteError, create, inspect, load, read_file};
+use super::{RegionSpec, Site, SiteError, create, history_of, inspect, load, read_file};
 use gvn_key::terms::Update;
 use gvn_key::{Bytes, Key};
 use gvn_model::{Origin, Transaction, Updates};
@@ -197,7 +197,8 @@ fn closed_and_opened_again(rt: HostRuntime) -> Result<(), Fail> {
     assert!(rt; site.simulated());
     assert_eq!(rt; site.sequence_length(), 2);
     assert_eq!(rt; site.hardened_length(), 1);
-    assert_eq!(rt; site.history().len(), 1);
+    assert_eq!(rt; site.history().length, 2);
+    assert_eq!(rt; site.history().reigns.len(), 1);
     let (disk, closed) = site.close();
     closed?;
     let Ok(site) = Site::load(alloc, disk) else {
@@ -205,6 +206,43 @@ fn closed_and_opened_again(rt: HostRuntime) -> Result<(), Fail> {
     };
     assert_eq!(rt; site.sequence_length(), 2);
     assert_eq!(rt; site.abandon().faults(), 0);
+    Ok(())
+}
+
+/// The lines of the second entry and those of all nodes.
+fn shown<D: Disk>(alloc: Global, site: &mut Site<D>) -> Result<Bytes, Fail> {
+    let mut text = Bytes::new(alloc);
+    site.extract(2, &mut text)?;
+    site.zwrite(None, &mut text)?;
+    Ok(text)
+}
+
+#[test]
+fn entries_and_nodes_shown(rt: HostRuntime) -> Result<(), Fail> {
+    let alloc = rt.alloc();
+    let mut site = put_two(alloc, MemDisk::new(alloc)?)?;
+    let text = shown(alloc, &mut site)?;
+    assert_eq!(rt;
+        text.as_slice(),
+        b"SET\\2\\A.1\\1.1\\^X=\"1\"\n^X=\"1\"\n".as_slice()
+    );
+    let key = Key::new(alloc, b"X", &[])?;
+    assert_eq!(rt; site.get(&key), Some(b"1".as_slice()));
+    assert_eq!(rt; site.defined(&key), 1);
+    assert!(rt; site.order(&key, b"")?.is_none());
+    Ok(())
+}
+
+/// The history that the files of a closed site have.
+#[test]
+fn history_on_a_disk(rt: HostRuntime) -> Result<(), Fail> {
+    let alloc = rt.alloc();
+    let site = put_two(alloc, MemDisk::new(alloc)?)?;
+    let (mut disk, closed) = site.close();
+    closed?;
+    let history = history_of(alloc, &mut disk)?;
+    assert_eq!(rt; history.length, 2);
+    assert_eq!(rt; history.reigns.len(), 1);
     Ok(())
 }
 

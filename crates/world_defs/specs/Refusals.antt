@@ -6,7 +6,7 @@ use Rattle.journal_defs.specs.Directory.{Pattern, patterns}
 use Rattle.journal_defs.specs.Instance.{InstanceRecord, generation, greatest_cycle, site_name, regions}
 use Rattle.journal_defs.specs.Surviving.{reigns}
 use Rattle.journal_defs.specs.Fit.{MOST_REIGNS}
-use Rattle.command_defs.specs.Patterns.{ends_in_star, stem}
+use Rattle.global_defs.specs.Pattern.{ends_in_star, stem}
 use Rattle.command_defs.specs.Commands.{Name, Command, Create, Attach, Map, StartPrimary, Run, Stop, Fuse, Crash, Extract, Zwrite, Show, Print}
 use Rattle.world_defs.specs.Lists.{first_where}
 use Rattle.world_defs.specs.World.{State, Down, Primary, Failed, Site, Contents, Place, World, is_made, next_of, at_place, site_of, same_name, typed}

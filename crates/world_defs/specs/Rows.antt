@@ -8,11 +8,10 @@ use Rattle.global_defs.specs.Jobs.{Job}
 use Rattle.global_defs.specs.Serial.{Turn, serial, begun}
 use Rattle.journal_defs.specs.Journal.{Start}
 use Rattle.journal_defs.specs.Instance as records
-use Rattle.journal_defs.specs.Instance.{NamedMode, InstanceRecord, generation, greatest_cycle, mode_of, site_name, regions}
+use Rattle.journal_defs.specs.Instance.{NamedMode, InstanceRecord, pattern_record, generation, greatest_cycle, mode_of, site_name, regions}
 use Rattle.journal_defs.specs.Broken.{BrokenPart, broken_text}
 use Rattle.world_defs.specs.Lists.{Among}
 use Rattle.command_defs.specs.Commands.{Name, Region}
-use Rattle.command_defs.specs.Patterns.{ends_in_star, stem}
 use Rattle.world_defs.specs.World.{State, Down, Primary, Failed, Site, Contents, Leftover, NO_LEFTOVER, Place, World, NoNew, Same, site_of}
 use Rattle.world_defs.specs.Refusals.{region_number}
 
@@ -104,9 +103,6 @@ pub record Attaches (w : World) (old new : Place) : Type 0 where
   pub same : Same old new
 
 -- MAP: the pattern that is written so is one more of the instance file
-abbrev pub pattern_record : ℕ → List ℕ → InstanceRecord
-pattern_record region text = records.Map region (ends_in_star text) (stem text)
-
 abbrev pub with_pattern : ℕ → List ℕ → Contents → Contents
 with_pattern region text c = record { instance = c.instance ++ pattern_record region text ∷ []; starts = c.starts; texts = c.texts; sequence = c.sequence }
 

@@ -1,13 +1,13 @@
 -- What stays fit of the contents of one image.
 use Rattle.std.proofs.Common.{◌≡◌, inl, inr, ℕ, ◌+◌, ◌≤◌, List, [], length, Some, None, refl, sym, ◌∙◌, ap, subst, arith}
 use Rattle.journal_defs.specs.Instance as records
-use Rattle.journal_defs.specs.Instance.{InstanceRecord, generation, greatest_cycle, site_name, regions}
+use Rattle.journal_defs.specs.Instance.{InstanceRecord, pattern_record, generation, greatest_cycle, site_name, regions}
 use Rattle.journal_defs.specs.Journal.{Start}
 use Rattle.journal_defs.specs.Fit.{SerialsRise, HasFewReigns}
 use Rattle.command_defs.specs.Commands.{Name, Region}
-use Rattle.command_defs.specs.Patterns.{ends_in_star, stem}
+use Rattle.global_defs.specs.Pattern.{ends_in_star, stem}
 use Rattle.world_defs.specs.World.{Contents, nothing}
-use Rattle.world_defs.specs.Rows.{MayOpen, MayBegin, MayMap, created, cut_there, with_starts, opened, with_reign, next_reign, pattern_record, with_pattern}
+use Rattle.world_defs.specs.Rows.{MayOpen, MayBegin, MayMap, created, cut_there, with_starts, opened, with_reign, next_reign, with_pattern}
 use Rattle.world_defs.specs.Fit.{IsWithinCycles, IsFitContents}
 use Rattle.world_laws.proofs.Lists.{all-weaker}
 use Rattle.world_laws.proofs.Instances.{name-more, cycle-cut, cycle-map, cycle-reign, room-cut, few_at, few-map, few-later}

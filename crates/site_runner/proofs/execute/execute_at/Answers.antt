@@ -1,10 +1,13 @@
-use Rattle.std.proofs.Common.{◌≡◌, true, Some, sym, subst}
+use Rattle.std.proofs.Common.{rules, ◌≡◌, true, Some, Option, sym, subst}
+use Rattle.std.specs.Option.{option_copied}
+use Rattle.global_defs.specs.Key.{Key}
 use Rattle.command_defs.specs.Commands.{Name, Stop, Extract, Zwrite, Show}
 use Rattle.world_defs.specs.Output.{name_in}
 use Rattle.repl_script.specs.declared.command.Command.{Command}
 use Rattle.repl_script.specs.Commands.{command_value}
 use Rattle.site_runner.specs.Sites.{is_slot_named}
 use Rattle.site_runner.specs.Here.{ExecutesHere}
+use Rattle.site_runner.specs.Steps.{Zwrites}
 use Rattle.site_runner.proofs.Results.{on_ok}
 use Rattle.site_runner.proofs.Stopped.{named_site, executes_here, stops, extracts_at, zwrites_at, shows_at}
 use Rattle.site_runner.proofs.execute.execute_at.Goals as goal
@@ -38,10 +41,11 @@ returns-in-Zwrite-clause-done g c =
     let old = c.args.slot.now in
     let s = c.in-Some.site in
     let called = subst (λ (x : Command). is_slot_named (name_in (command_value x)) old ≡ true) c.in-Zwrite.is c.requires.site in
+    let top : option_copied c.as_ref.result ≡ c.in-Zwrite.top = search rules in
     on_ok c.zwrite.result _ _ c.zwrite.ensures (λ h.
     subst (λ (x : Command). ExecutesHere view (command_value x) old (record { disk = old.disk; site = Some s }) c.args.text.now c.zwrite.new.text) (sym c.in-Zwrite.is)
     (subst (λ (n : Name). ExecutesHere view (Zwrite n c.in-Zwrite.top) old (record { disk = old.disk; site = Some s }) c.args.text.now c.zwrite.new.text) (named_site old s c.in-Zwrite.site c.in-Some.is called)
-    (executes_here view (Zwrite s.name c.in-Zwrite.top) old old.disk s s c.args.text.now c.zwrite.new.text c.in-Some.is (zwrites_at (view old.disk) s c.in-Zwrite.top c.args.text.now c.zwrite.new.text h))))
+    (executes_here view (Zwrite s.name c.in-Zwrite.top) old old.disk s s c.args.text.now c.zwrite.new.text c.in-Some.is (zwrites_at (view old.disk) s c.in-Zwrite.top c.args.text.now c.zwrite.new.text (subst (λ (t : Option Key). Zwrites s t c.args.text.now c.zwrite.new.text) top h)))))
 
 pub returns-in-Show-clause-done : goal.returns-in-Show-clause-done
 returns-in-Show-clause-done g c =

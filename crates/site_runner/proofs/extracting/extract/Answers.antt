@@ -9,7 +9,8 @@ pub returns-in_ok-write_header-in-Primary : goal.returns-in_ok-write_header-in-P
 returns-in_ok-write_header-in-Primary c =
     let s = c.args.site.now in
     let from = c.unwrap_or-from.result in
+    let items = c.in-Primary.reign.site.entries.items in
     on_ok c.write_entries.result _ _ c.write_entries.ensures (λ t. subst (λ (x : State). ExtractsFrom x s c.args.number c.args.text.now c.write_entries.new.text) (sym c.in-Primary.is)
-    (λ seq numbers. extracts s.name c.as_slice-in-Primary.result.now from c.in-Primary.reign.site.entries.items c.entries_from.result.now seq c.args.text.now c.write_header.new.out c.write_entries.new.text (from_least c.args.number from c.unwrap_or-from.ensures c.requires) numbers c.as_slice-in-Primary.ensures
-    (c.entries_from.ensures ∙ ap (drop (from - 1)) c.deref.ensures.value) c.in_ok-write_header-in-Primary.ensures.ok t
+    (λ seq numbers. extracts s.name c.as_slice-in-Primary.result.now from items (drop c.saturating_sub.result items) seq c.args.text.now c.write_header.new.out c.write_entries.new.text (from_least c.args.number from c.unwrap_or-from.ensures c.requires) numbers c.as_slice-in-Primary.ensures
+    (ap (λ (k : ℕ). drop k items) c.saturating_sub.ensures) c.in_ok-write_header-in-Primary.ensures.ok t
     ∙ ap (λ (x : List ℕ). c.args.text.now ++ x) (from_one s.name c.args.number from seq c.unwrap_or-from.ensures)))

@@ -1,17 +1,18 @@
-use Rattle.std.proofs.Common.{◌++◌, take, map, ap, sym, ◌∙◌, append_assoc}
-use Rattle.std.specs.List.{flat_map}
+use Rattle.std.proofs.Common.{◌≡◌, ℕ, ◌+◌, ◌-◌, ◌≤◌, ◌<◌, ◌++◌, IfSome, length, refl, subst, arith}
+use Rattle.std.specs.Prelude.{slice_get}
 use Rattle.global_defs.specs.Extract.{entry_text}
-use Rattle.global_defs.specs.Entry.{Entry}
-use Rattle.std.proofs.Common.{ℕ, List}
 use Rattle.gvn_model.specs.Entries.{entry_value}
-use Rattle.site_store.specs.Site.{tagged}
-use Rattle.site_runner.proofs.Written.{written_more}
+use Rattle.site_runner.proofs.Shown.{entry_more}
 use Rattle.site_runner.proofs.extracting.write_entries.Goals as goal
 
-pub loop-e-preserved : goal.loop-e-preserved
-loop-e-preserved c =
-    let f : ℕ × Entry → List ℕ = λ (p : ℕ × Entry). entry_text p.0 p.1 in
-    c.in_ok-extract_entry.ensures.ok
-    ∙ ap (λ x. x ++ entry_text c.e-item.result.number (entry_value c.e-item.result)) c.loop-e.invariant
-    ∙ append_assoc c.args.text.now (flat_map f (map tagged (take c.loop-e.e-index c.args.entries.now))) (entry_text c.e-item.result.number (entry_value c.e-item.result))
-    ∙ ap (λ x. c.args.text.now ++ x) (sym (written_more f tagged c.args.entries.now c.loop-e.e-index c.e-item.result c.loop-e-test.true c.e-item.is))
+pub loop-place-preserved : goal.loop-place-preserved
+loop-place-preserved c =
+    let l = c.loop-place in
+    let items = c.args.site.now.entries.items in
+    let from : c.args.before ≤ l.place = omega arith in
+    let end = c.sequence_length-place-end.ensures in
+    let test = c.loop-place-test.true in
+    let low : l.place < length items = omega (arith, end, test) in
+    let place : l.place + 1 - 1 ≡ l.place = omega arith in
+    entry_more items c.args.before l.place (l.place + 1) c.args.text.now l.text c.extract.new.out from low refl l.invariant
+    (subst (λ (k : ℕ). IfSome (slice_get items k) (λ e. c.extract.new.out ≡ l.text ++ entry_text e.number (entry_value e))) place c.in_ok-extract.ensures.entry)

@@ -20,6 +20,6 @@ pub returns-clause-done : goal.returns-clause-done
 returns-clause-done g c =
     let e = c.crash.ensures in
     let sim = sym c.if-not-simulated.false ∙ c.simulated.ensures in
-    crashes (g.D.Disk.disk c.args.disk.now) (g.D.Disk.disk c.crash.new.self) c.args.site.now c.args.pick c.args.text.now _ (g.met.D.Disk.lawful c.crash.new.self) sim (sym c.is_down.ensures ∙ c.if-is_down.false)
+    crashes c.leftovers_hold.ensures (g.D.Disk.disk c.args.disk.now) (g.D.Disk.disk c.crash.new.self) c.args.site.now c.args.pick c.args.text.now _ (g.met.D.Disk.lawful c.crash.new.self) sim (sym c.is_down.ensures ∙ c.if-is_down.false)
     (e.image (sym sim)) (e.durable (sym sim)) e.simulated e.faults
     (c.in_ok-write_line.ensures ∙ ap (λ (n : List ℕ). c.args.text.now ++ line n (codes "CRASHED")) c.as_slice-2.ensures)

@@ -35,20 +35,20 @@ returns-in-Ok-None-clause-done g c =
 pub returns-in-Ok-None-clause-cut_off : goal.returns-in-Ok-None-clause-cut_off
 returns-in-Ok-None-clause-cut_off g c =
     let e = c.in-Ok-None.ensures in
-    err_holds c.write_not_a_file.result _ (look_cut c.args.region.now c.args.pattern.now (g.D.Disk.disk c.args.disk.now) (g.D.Disk.disk c.inspect.new.disk) c.args.site.now
+    err_holds c.write_not_a_file.result _ (look_cut c.leftovers_hold.ensures c.args.region.now c.args.pattern.now (g.D.Disk.disk c.args.disk.now) (g.D.Disk.disk c.inspect.new.disk) c.args.site.now
     (record { lawful = g.met.D.Disk.lawful c.inspect.new.disk; any_moment = e.any_moment; content = e.content; simulated = e.simulated; later = e.later }))
 
 pub returns-in_err-write_numbered-in-Err-Failed-clause-cut_off : goal.returns-in_err-write_numbered-in-Err-Failed-clause-cut_off
 returns-in_err-write_numbered-in-Err-Failed-clause-cut_off g c =
     let e = c.in-Err-Failed.ensures in
-    err_holds c.from_residual.result _ (look_cut c.args.region.now c.args.pattern.now (g.D.Disk.disk c.args.disk.now) (g.D.Disk.disk c.inspect.new.disk) c.args.site.now
+    err_holds c.from_residual.result _ (look_cut c.leftovers_hold.ensures c.args.region.now c.args.pattern.now (g.D.Disk.disk c.args.disk.now) (g.D.Disk.disk c.inspect.new.disk) c.args.site.now
     (record { lawful = g.met.D.Disk.lawful c.inspect.new.disk; any_moment = e.any_moment; content = e.content; simulated = e.simulated; later = e.later }))
 
 pub returns-in_ok-write_numbered-in-Err-Failed-clause-done : goal.returns-in_ok-write_numbered-in-Err-Failed-clause-done
 returns-in_ok-write_numbered-in-Err-Failed-clause-done g c =
     let e = c.in-Err-Failed.ensures in
     let is = ap Err c.in-Err-Failed.field-0-is in
-    look_faulted c.args.region.now c.args.pattern.now (g.D.Disk.disk c.args.disk.now) (g.D.Disk.disk c.inspect.new.disk) c.args.site.now _ c.args.text.now _
+    look_faulted c.leftovers_hold.ensures c.args.region.now c.args.pattern.now (g.D.Disk.disk c.args.disk.now) (g.D.Disk.disk c.inspect.new.disk) c.args.site.now _ c.args.text.now _
     (record { lawful = g.met.D.Disk.lawful c.inspect.new.disk; any_moment = e.any_moment; content = e.content; simulated = e.simulated; later = e.later }) c.requires.down
     (c.in-Err-Failed.fault-is ∙ e.count c.in-Err-Failed.fault is) (e.cause c.in-Err-Failed.fault is) (named _ _ c.as_slice-in-Err-Failed.ensures c.in_ok-write_numbered-in-Err-Failed.ensures)
 
@@ -66,7 +66,7 @@ returns-in-Err-NotAFile-clause-done g c =
 pub returns-in-Err-NotAFile-clause-cut_off : goal.returns-in-Err-NotAFile-clause-cut_off
 returns-in-Err-NotAFile-clause-cut_off g c =
     let e = c.in-Err-NotAFile.ensures in
-    err_holds c.write_not_a_file-in-Err-NotAFile.result _ (look_cut c.args.region.now c.args.pattern.now (g.D.Disk.disk c.args.disk.now) (g.D.Disk.disk c.inspect.new.disk) c.args.site.now
+    err_holds c.write_not_a_file-in-Err-NotAFile.result _ (look_cut c.leftovers_hold.ensures c.args.region.now c.args.pattern.now (g.D.Disk.disk c.args.disk.now) (g.D.Disk.disk c.inspect.new.disk) c.args.site.now
     (record { lawful = g.met.D.Disk.lawful c.inspect.new.disk; any_moment = e.any_moment; content = e.content; simulated = e.simulated; later = e.later }))
 
 pub returns-in-Err : goal.returns-in-Err
@@ -75,6 +75,6 @@ returns-in-Err g c =
     record {
       ready = tt;
       done = tt;
-      cut_off = look_cut c.args.region.now c.args.pattern.now (g.D.Disk.disk c.args.disk.now) (g.D.Disk.disk c.inspect.new.disk) c.args.site.now
+      cut_off = look_cut c.leftovers_hold.ensures c.args.region.now c.args.pattern.now (g.D.Disk.disk c.args.disk.now) (g.D.Disk.disk c.inspect.new.disk) c.args.site.now
           (record { lawful = g.met.D.Disk.lawful c.inspect.new.disk; any_moment = e.any_moment; content = e.content; simulated = e.simulated; later = e.later });
     }

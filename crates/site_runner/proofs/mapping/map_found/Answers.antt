@@ -24,7 +24,7 @@ returns-then-not-is_named-clause-done g c =
 
 pub returns-then-not-is_named-clause-cut_off : goal.returns-then-not-is_named-clause-cut_off
 returns-then-not-is_named-clause-cut_off g c =
-    err_holds c.write_not_a_file.result _ (seen_cut c.args.region.now c.args.pattern.now (g.D.Disk.disk c.args.disk.now) c.args.site.now (g.met.D.Disk.lawful c.args.disk.now))
+    err_holds c.write_not_a_file.result _ (seen_cut c.leftovers_hold.ensures c.args.region.now c.args.pattern.now (g.D.Disk.disk c.args.disk.now) c.args.site.now (g.met.D.Disk.lawful c.args.disk.now))
 
 pub returns-then-found-gt0-clause-done : goal.returns-then-found-gt0-clause-done
 returns-then-found-gt0-clause-done g c =
@@ -33,7 +33,7 @@ returns-then-found-gt0-clause-done g c =
 
 pub returns-then-found-gt0-clause-cut_off : goal.returns-then-found-gt0-clause-cut_off
 returns-then-found-gt0-clause-cut_off g c =
-    err_holds c.write_line.result _ (seen_cut c.args.region.now c.args.pattern.now (g.D.Disk.disk c.args.disk.now) c.args.site.now (g.met.D.Disk.lawful c.args.disk.now))
+    err_holds c.write_line.result _ (seen_cut c.leftovers_hold.ensures c.args.region.now c.args.pattern.now (g.D.Disk.disk c.args.disk.now) c.args.site.now (g.met.D.Disk.lawful c.args.disk.now))
 
 pub returns-in_default-clause-done : goal.returns-in_default-clause-done
 returns-in_default-clause-done g c =
@@ -45,7 +45,7 @@ returns-in_default-clause-done g c =
 
 pub returns-in_default-clause-cut_off : goal.returns-in_default-clause-cut_off
 returns-in_default-clause-cut_off g c =
-    err_holds c.write_named.result _ (seen_cut c.args.region.now c.args.pattern.now (g.D.Disk.disk c.args.disk.now) c.args.site.now (g.met.D.Disk.lawful c.args.disk.now))
+    err_holds c.write_named.result _ (seen_cut c.leftovers_hold.ensures c.args.region.now c.args.pattern.now (g.D.Disk.disk c.args.disk.now) c.args.site.now (g.met.D.Disk.lawful c.args.disk.now))
 
 pub map_there-requires-clause-free : goal.map_there-requires-clause-free
 map_there-requires-clause-free g c =
@@ -68,7 +68,7 @@ returns-in-Err-TwiceMapped-clause-done g c =
 
 pub returns-in-Err-TwiceMapped-clause-cut_off : goal.returns-in-Err-TwiceMapped-clause-cut_off
 returns-in-Err-TwiceMapped-clause-cut_off g c =
-    err_holds c.write_line-in-Err-TwiceMapped.result _ (seen_cut c.args.region.now c.args.pattern.now (g.D.Disk.disk c.args.disk.now) c.args.site.now (g.met.D.Disk.lawful c.args.disk.now))
+    err_holds c.write_line-in-Err-TwiceMapped.result _ (seen_cut c.leftovers_hold.ensures c.args.region.now c.args.pattern.now (g.D.Disk.disk c.args.disk.now) c.args.site.now (g.met.D.Disk.lawful c.args.disk.now))
 
 pub returns : goal.returns
-returns g c = record { ready = tt; done = tt; cut_off = seen_cut c.args.region.now c.args.pattern.now (g.D.Disk.disk c.args.disk.now) c.args.site.now (g.met.D.Disk.lawful c.args.disk.now) }
+returns g c = record { ready = tt; done = tt; cut_off = seen_cut c.leftovers_hold.ensures c.args.region.now c.args.pattern.now (g.D.Disk.disk c.args.disk.now) c.args.site.now (g.met.D.Disk.lawful c.args.disk.now) }

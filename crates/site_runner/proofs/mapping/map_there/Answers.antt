@@ -11,27 +11,27 @@ pub returns-in-Ok-clause-done : goal.returns-in-Ok-clause-done
 returns-in-Ok-clause-done g c =
     let e = c.in-Ok.ensures in
     on_ok c.write_line.result _ _ c.write_line.ensures (λ t.
-    there_done c.args.region.now c.args.number c.args.pattern.now (g.D.Disk.disk c.args.disk.now) (g.D.Disk.disk c.map.new.disk) c.args.site.now c.args.text.now _
+    there_done c.leftovers_hold.ensures c.args.region.now c.args.number c.args.pattern.now (g.D.Disk.disk c.args.disk.now) (g.D.Disk.disk c.map.new.disk) c.args.site.now c.args.text.now _
     (record { lawful = g.met.D.Disk.lawful c.map.new.disk; free = c.requires.free; any_moment = e.any_moment; still_told = e.still_told; simulated = e.simulated; later = e.later })
     c.requires.named e.reads e.images (named _ _ c.as_slice.ensures t))
 
 pub returns-in-Ok-clause-cut_off : goal.returns-in-Ok-clause-cut_off
 returns-in-Ok-clause-cut_off g c =
     let e = c.in-Ok.ensures in
-    err_holds c.write_line.result _ (there_cut c.args.region.now c.args.number c.args.pattern.now (g.D.Disk.disk c.args.disk.now) (g.D.Disk.disk c.map.new.disk) c.args.site.now
+    err_holds c.write_line.result _ (there_cut c.leftovers_hold.ensures c.args.region.now c.args.number c.args.pattern.now (g.D.Disk.disk c.args.disk.now) (g.D.Disk.disk c.map.new.disk) c.args.site.now
     (record { lawful = g.met.D.Disk.lawful c.map.new.disk; free = c.requires.free; any_moment = e.any_moment; still_told = e.still_told; simulated = e.simulated; later = e.later }))
 
 pub returns-in_err-write_numbered-in-Err-Failed-clause-cut_off : goal.returns-in_err-write_numbered-in-Err-Failed-clause-cut_off
 returns-in_err-write_numbered-in-Err-Failed-clause-cut_off g c =
     let e = c.in-Err-Failed.ensures in
-    err_holds c.from_residual.result _ (there_cut c.args.region.now c.args.number c.args.pattern.now (g.D.Disk.disk c.args.disk.now) (g.D.Disk.disk c.map.new.disk) c.args.site.now
+    err_holds c.from_residual.result _ (there_cut c.leftovers_hold.ensures c.args.region.now c.args.number c.args.pattern.now (g.D.Disk.disk c.args.disk.now) (g.D.Disk.disk c.map.new.disk) c.args.site.now
     (record { lawful = g.met.D.Disk.lawful c.map.new.disk; free = c.requires.free; any_moment = e.any_moment; still_told = e.still_told; simulated = e.simulated; later = e.later }))
 
 pub returns-in_ok-write_numbered-in-Err-Failed-clause-done : goal.returns-in_ok-write_numbered-in-Err-Failed-clause-done
 returns-in_ok-write_numbered-in-Err-Failed-clause-done g c =
     let e = c.in-Err-Failed.ensures in
     let is = ap Err c.in-Err-Failed.field-0-is in
-    there_faulted c.args.region.now c.args.number c.args.pattern.now (g.D.Disk.disk c.args.disk.now) (g.D.Disk.disk c.map.new.disk) c.args.site.now _ c.args.text.now _
+    there_faulted c.leftovers_hold.ensures c.args.region.now c.args.number c.args.pattern.now (g.D.Disk.disk c.args.disk.now) (g.D.Disk.disk c.map.new.disk) c.args.site.now _ c.args.text.now _
     (record { lawful = g.met.D.Disk.lawful c.map.new.disk; free = c.requires.free; any_moment = e.any_moment; still_told = e.still_told; simulated = e.simulated; later = e.later })
     (c.in-Err-Failed.fault-is ∙ e.count c.in-Err-Failed.fault is) (e.cause c.in-Err-Failed.fault is) (named _ _ c.as_slice-in-Err-Failed.ensures c.in_ok-write_numbered-in-Err-Failed.ensures)
 
@@ -48,7 +48,7 @@ returns-in-Err-NotAFile-clause-done g c =
 pub returns-in-Err-NotAFile-clause-cut_off : goal.returns-in-Err-NotAFile-clause-cut_off
 returns-in-Err-NotAFile-clause-cut_off g c =
     let e = c.in-Err-NotAFile.ensures in
-    err_holds c.write_not_a_file.result _ (there_cut c.args.region.now c.args.number c.args.pattern.now (g.D.Disk.disk c.args.disk.now) (g.D.Disk.disk c.map.new.disk) c.args.site.now
+    err_holds c.write_not_a_file.result _ (there_cut c.leftovers_hold.ensures c.args.region.now c.args.number c.args.pattern.now (g.D.Disk.disk c.args.disk.now) (g.D.Disk.disk c.map.new.disk) c.args.site.now
     (record { lawful = g.met.D.Disk.lawful c.map.new.disk; free = c.requires.free; any_moment = e.any_moment; still_told = e.still_told; simulated = e.simulated; later = e.later }))
 
 pub returns-in-Err : goal.returns-in-Err
@@ -57,6 +57,6 @@ returns-in-Err g c =
     record {
       ready = tt;
       done = tt;
-      cut_off = there_cut c.args.region.now c.args.number c.args.pattern.now (g.D.Disk.disk c.args.disk.now) (g.D.Disk.disk c.map.new.disk) c.args.site.now
+      cut_off = there_cut c.leftovers_hold.ensures c.args.region.now c.args.number c.args.pattern.now (g.D.Disk.disk c.args.disk.now) (g.D.Disk.disk c.map.new.disk) c.args.site.now
           (record { lawful = g.met.D.Disk.lawful c.map.new.disk; free = c.requires.free; any_moment = e.any_moment; still_told = e.still_told; simulated = e.simulated; later = e.later });
     }

@@ -14,7 +14,7 @@ pub returns-then-is_empty-clause-done : goal.returns-then-is_empty-clause-done
 returns-then-is_empty-clause-done g c =
     let e = c.in-Ok.ensures in
     on_ok c.write_line.result _ _ c.write_line.ensures (λ t.
-    print_none c.args.generation (g.D.Disk.disk c.args.disk.now) (g.D.Disk.disk c.read_file.new.disk) c.args.site.now c.new-bytes.result c.read_file.new.out c.args.text.now _ e.reads e.later (sym c.fault.ensures ∙ c.in_default.is)
+    print_none c.typing_reads_files.ensures c.args.generation (g.D.Disk.disk c.args.disk.now) (g.D.Disk.disk c.read_file.new.disk) c.args.site.now c.new-bytes.result c.read_file.new.out c.args.text.now _ e.reads e.later (sym c.fault.ensures ∙ c.in_default.is)
     c.requires.some c.requires.most c.new-bytes.ensures e.text (empty_is c.read_file.new.out (sym c.is_empty.ensures ∙ c.if-is_empty.true)) (named _ _ c.as_slice-then-is_empty.ensures t))
 
 pub returns-then-is_empty-clause-cut_off : goal.returns-then-is_empty-clause-cut_off
@@ -24,7 +24,7 @@ pub returns-in-Ok-clause-done : goal.returns-in-Ok-clause-done
 returns-in-Ok-clause-done g c =
     let e = c.in-Ok.ensures in
     on_ok c.push_all.result _ _ c.push_all.ensures.ok (λ t.
-    printed c.args.generation (g.D.Disk.disk c.args.disk.now) (g.D.Disk.disk c.read_file.new.disk) c.args.site.now c.new-bytes.result c.read_file.new.out c.args.text.now _ e.reads e.later (sym c.fault.ensures ∙ c.in_default.is)
+    printed c.typing_reads_files.ensures c.args.generation (g.D.Disk.disk c.args.disk.now) (g.D.Disk.disk c.read_file.new.disk) c.args.site.now c.new-bytes.result c.read_file.new.out c.args.text.now _ e.reads e.later (sym c.fault.ensures ∙ c.in_default.is)
     c.requires.some c.requires.most c.new-bytes.ensures e.text (full_is c.read_file.new.out (sym c.is_empty.ensures ∙ c.if-is_empty.false)) (t ∙ ap (λ (x : List ℕ). c.args.text.now ++ x) c.as_slice-else-is_empty.ensures))
 
 pub returns-in-Ok-clause-cut_off : goal.returns-in-Ok-clause-cut_off

@@ -36,7 +36,7 @@ returns-in_err-write_undecided-in-Err-Failed-clause-cut_off g c =
     let jobs = c.args.jobs in
     let order = c.args.order.now in
     let breaks = subst (λ (x : RunError). (told : Bool) (d : Contents) → Reigns v told d r → Breaks x w (stamp_of r) told d jobs order r.serials c.args.text.now c.run.new.text) c.in-Err-Failed.field-0-is e.breaks in
-    err_holds c.from_residual.result _ (run_cut v w c.args.site.now r jobs order (g.met.D.Disk.lawful c.run.new.disk) c.in-Primary.is e.simulated
+    err_holds c.from_residual.result _ (run_cut c.leftovers_hold.ensures v w c.args.site.now r jobs order (g.met.D.Disk.lawful c.run.new.disk) c.in-Primary.is e.simulated
     (λ told d reigns. let b = breaks told d reigns in (b.0, b.1.hardened, b.1.begun, b.1.front)))
 
 pub returns-in-Ok-clause-done : goal.returns-in-Ok-clause-done
@@ -45,7 +45,7 @@ returns-in-Ok-clause-done g c =
     let w = g.D.Disk.disk c.run.new.disk in
     let e = c.in-Ok.ensures in
     on_ok c.write_numbered-in-Ok.result _ _ c.write_numbered-in-Ok.ensures (λ t.
-    ran v w c.args.site.now c.in-Primary.reign c.run.new.self c.args.jobs c.args.order.now c.args.text.now c.run.new.text _ (g.met.D.Disk.lawful c.run.new.disk) c.requires.whole c.in-Primary.is e.stamp e.simulated e.later e.done
+    ran v w c.nothing_is_left.ensures c.args.site.now c.in-Primary.reign c.run.new.self c.args.jobs c.args.order.now c.args.text.now c.run.new.text _ (g.met.D.Disk.lawful c.run.new.disk) c.requires.whole c.in-Primary.is e.stamp e.simulated e.later e.done
     (t ∙ ap (λ (n : List ℕ). c.run.new.text ++ line n (codes "AT " ++ decimal c.sequence_length-length.result)) c.as_slice-in-Ok.ensures
     ∙ ap (λ (k : ℕ). c.run.new.text ++ line c.args.site.now.name (codes "AT " ++ decimal k)) c.sequence_length-length.ensures))
 
@@ -55,7 +55,7 @@ returns-in-Ok-clause-cut_off g c =
     let w = g.D.Disk.disk c.run.new.disk in
     let e = c.in-Ok.ensures in
     let law = g.met.D.Disk.lawful c.run.new.disk in
-    err_holds c.write_numbered-in-Ok.result _ (run_cut v w c.args.site.now c.in-Primary.reign c.args.jobs c.args.order.now law c.in-Primary.is e.simulated
+    err_holds c.write_numbered-in-Ok.result _ (run_cut c.leftovers_hold.ensures v w c.args.site.now c.in-Primary.reign c.args.jobs c.args.order.now law c.in-Primary.is e.simulated
     (λ told d reigns. decided_front w told d c.args.jobs c.args.order.now c.in-Primary.reign c.run.new.self c.args.text.now c.run.new.text (e.done told d reigns)))
 
 pub returns-in_ok-write_undecided-in-Err-Failed-clause-done : goal.returns-in_ok-write_undecided-in-Err-Failed-clause-done
@@ -67,7 +67,7 @@ returns-in_ok-write_undecided-in-Err-Failed-clause-done g c =
     let jobs = c.args.jobs in
     let order = c.args.order.now in
     let breaks = subst (λ (x : RunError). (told : Bool) (d : Contents) → Reigns v told d r → Breaks x w (stamp_of r) told d jobs order r.serials c.args.text.now c.run.new.text) c.in-Err-Failed.field-0-is e.breaks in
-    ran_to_fault v w c.args.site.now r jobs order c.faults-fault.result c.in-Err-Failed.undecided c.args.text.now c.run.new.text _ (g.met.D.Disk.lawful c.run.new.disk) c.in-Primary.is e.simulated c.faults-fault.ensures
+    ran_to_fault c.leftovers_hold.ensures v w c.args.site.now r jobs order c.faults-fault.result c.in-Err-Failed.undecided c.args.text.now c.run.new.text _ (g.met.D.Disk.lawful c.run.new.disk) c.in-Primary.is e.simulated c.faults-fault.ensures
     (e.cause (subst IsFault (sym c.in-Err-Failed.field-0-is) tt)) breaks
     (c.in_ok-write_undecided-in-Err-Failed.ensures ∙ ap (λ (u : ℕ). c.run.new.text ++ fault_line c.as_slice-in-Err-Failed.result.now c.faults-fault.result u) c.in-Err-Failed.undecided-is
     ∙ ap (λ (x : List ℕ). c.run.new.text ++ fault_line x c.faults-fault.result c.in-Err-Failed.undecided) c.as_slice-in-Err-Failed.ensures)
@@ -81,4 +81,4 @@ returns-in-Err-NoMemory-clause-cut_off g c =
     let jobs = c.args.jobs in
     let order = c.args.order.now in
     let breaks = subst (λ (x : RunError). (told : Bool) (d : Contents) → Reigns v told d r → Breaks x w (stamp_of r) told d jobs order r.serials c.args.text.now c.run.new.text) c.in-Err-NoMemory.field-0-is e.breaks in
-    run_cut_any v w c.args.site.now r jobs order (g.met.D.Disk.lawful c.run.new.disk) c.in-Primary.is e.simulated breaks
+    run_cut_any c.leftovers_hold.ensures v w c.args.site.now r jobs order (g.met.D.Disk.lawful c.run.new.disk) c.in-Primary.is e.simulated breaks

@@ -3,7 +3,7 @@ use Rattle.std.specs.List.{flat_map}
 use Rattle.global_defs.specs.Entry.{Reign}
 use Rattle.gvn_model.specs.Reigns.{reign_value}
 use Rattle.world_defs.specs.Output.{line, reign_text}
-use Rattle.site_runner.proofs.Written.{written_more}
+use Rattle.site_store.proofs.Pieces.{written_more}
 use Rattle.site_runner.proofs.showing.write_reigns.Goals as goal
 
 pub loop-reign-preserved : goal.loop-reign-preserved

@@ -11,14 +11,14 @@ use Rattle.site_runner.proofs.start.begin.Goals as goal
 pub returns-in_err-write_primary-in-Ok-clause-cut_off : goal.returns-in_err-write_primary-in-Ok-clause-cut_off
 returns-in_err-write_primary-in-Ok-clause-cut_off g c =
     let e = c.in-Ok.ensures in
-    err_holds c.from_residual.result _ (reign_cut (g.D.Disk.disk c.args.disk.now) (g.D.Disk.disk c.start_reign.new.disk) c.args.site.now c.args.opened
+    err_holds c.from_residual.result _ (reign_cut c.leftovers_hold.ensures (g.D.Disk.disk c.args.disk.now) (g.D.Disk.disk c.start_reign.new.disk) c.args.site.now c.args.opened
     (record { lawful = g.met.D.Disk.lawful c.start_reign.new.disk; any_moment = e.any_moment; still_told = e.still_told; simulated = e.simulated; later = e.later }))
 
 pub returns-in-Ok-clause-done : goal.returns-in-Ok-clause-done
 returns-in-Ok-clause-done g c =
     let e = c.in-Ok.ensures in
     let is_from : c.sequence_length-from.result + 1 ≡ length c.args.opened.entries.items + 1 = ap (λ (k : ℕ). k + 1) (c.sequence_length-from.ensures ∙ ap (λ (l : List _). length l) e.entries) in
-    reign_starts (g.D.Disk.disk c.args.disk.now) (g.D.Disk.disk c.start_reign.new.disk) c.args.site.now c.args.opened c.start_reign.new.self c.in-Ok.stamp _ (c.sequence_length-from.result + 1) c.args.text.now _ (g.met.D.Disk.lawful c.start_reign.new.disk) refl
+    reign_starts (g.D.Disk.disk c.args.disk.now) (g.D.Disk.disk c.start_reign.new.disk) c.nothing_is_left-in-Ok.ensures c.args.site.now c.args.opened c.start_reign.new.self c.in-Ok.stamp _ (c.sequence_length-from.result + 1) c.args.text.now _ (g.met.D.Disk.lawful c.start_reign.new.disk) refl
     e.begun e.stamp e.remembered e.room e.simulated e.later is_from
     (named _ _ c.as_slice.ensures c.in_ok-write_primary-in-Ok.ensures)
 
@@ -29,26 +29,26 @@ returns-in-Err-ReignLimit-clause-done g c =
     let kept = e.kept is in
     on_ok c.write_line.result _ _ c.write_line.ensures (λ t.
     subst (λ (d : g.row.D.Denot). BeginsAt (g.D.Disk.disk c.args.disk.now) c.args.opened c.args.site.now (g.D.Disk.disk d) c.args.site.now c.args.text.now c.write_line.new.text) (sym kept.0)
-    (reign_limited (g.D.Disk.disk c.args.disk.now) c.args.site.now c.args.opened c.args.text.now _ (g.met.D.Disk.lawful c.args.disk.now) (e.limit is)
+    (reign_limited (g.D.Disk.disk c.args.disk.now) c.nothing_is_left.ensures c.args.site.now c.args.opened c.args.text.now _ (g.met.D.Disk.lawful c.args.disk.now) (e.limit is)
     (t ∙ ap (λ (n : List ℕ). c.args.text.now ++ line n (codes "REIGNLIMIT")) c.as_slice-in-Err-ReignLimit.ensures)))
 
 pub returns-in-Err-ReignLimit-clause-cut_off : goal.returns-in-Err-ReignLimit-clause-cut_off
 returns-in-Err-ReignLimit-clause-cut_off g c =
     let e = c.in-Err-ReignLimit.ensures in
-    err_holds c.write_line.result _ (reign_cut (g.D.Disk.disk c.args.disk.now) (g.D.Disk.disk c.start_reign.new.disk) c.args.site.now c.args.opened
+    err_holds c.write_line.result _ (reign_cut c.leftovers_hold.ensures (g.D.Disk.disk c.args.disk.now) (g.D.Disk.disk c.start_reign.new.disk) c.args.site.now c.args.opened
     (record { lawful = g.met.D.Disk.lawful c.start_reign.new.disk; any_moment = e.any_moment; still_told = e.still_told; simulated = e.simulated; later = e.later }))
 
 pub returns-in_err-write_numbered-in-Err-Failed-clause-cut_off : goal.returns-in_err-write_numbered-in-Err-Failed-clause-cut_off
 returns-in_err-write_numbered-in-Err-Failed-clause-cut_off g c =
     let e = c.in-Err-Failed.ensures in
-    err_holds c.from_residual-in_err-write_numbered-in-Err-Failed.result _ (reign_cut (g.D.Disk.disk c.args.disk.now) (g.D.Disk.disk c.start_reign.new.disk) c.args.site.now c.args.opened
+    err_holds c.from_residual-in_err-write_numbered-in-Err-Failed.result _ (reign_cut c.leftovers_hold.ensures (g.D.Disk.disk c.args.disk.now) (g.D.Disk.disk c.start_reign.new.disk) c.args.site.now c.args.opened
     (record { lawful = g.met.D.Disk.lawful c.start_reign.new.disk; any_moment = e.any_moment; still_told = e.still_told; simulated = e.simulated; later = e.later }))
 
 pub returns-in-Err-Failed-clause-done : goal.returns-in-Err-Failed-clause-done
 returns-in-Err-Failed-clause-done g c =
     let e = c.in-Err-Failed.ensures in
     let is = ap Err c.in-Err-Failed.field-0-is in
-    reign_faulted (g.D.Disk.disk c.args.disk.now) (g.D.Disk.disk c.start_reign.new.disk) c.args.site.now c.args.opened c.in-Err-Failed.fault c.args.text.now _
+    reign_faulted c.leftovers_hold.ensures (g.D.Disk.disk c.args.disk.now) (g.D.Disk.disk c.start_reign.new.disk) c.args.site.now c.args.opened c.in-Err-Failed.fault c.args.text.now _
     (record { lawful = g.met.D.Disk.lawful c.start_reign.new.disk; any_moment = e.any_moment; still_told = e.still_told; simulated = e.simulated; later = e.later })
     (e.count c.in-Err-Failed.fault is) (e.cause c.in-Err-Failed.fault is)
     (c.in_ok-write_numbered-in-Err-Failed.ensures ∙ ap (λ (n : List ℕ). c.args.text.now ++ line n (codes "DISKFAULT " ++ decimal c.in-Err-Failed.fault)) c.as_slice-in-Err-Failed.ensures)
@@ -59,6 +59,6 @@ returns g c =
     record {
       ready = tt;
       done = tt;
-      cut_off = reign_cut (g.D.Disk.disk c.args.disk.now) (g.D.Disk.disk c.start_reign.new.disk) c.args.site.now c.args.opened
+      cut_off = reign_cut c.leftovers_hold.ensures (g.D.Disk.disk c.args.disk.now) (g.D.Disk.disk c.start_reign.new.disk) c.args.site.now c.args.opened
           (record { lawful = g.met.D.Disk.lawful c.start_reign.new.disk; any_moment = e.any_moment; still_told = e.still_told; simulated = e.simulated; later = e.later });
     }

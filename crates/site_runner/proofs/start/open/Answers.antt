@@ -7,21 +7,21 @@ use Rattle.site_runner.proofs.start.open.Goals as goal
 pub returns-in_err-write_numbered-in-Err-Failed-clause-cut_off : goal.returns-in_err-write_numbered-in-Err-Failed-clause-cut_off
 returns-in_err-write_numbered-in-Err-Failed-clause-cut_off g c =
     let e = c.in-Err-Failed.ensures in
-    err_holds c.from_residual.result _ (load_cut (g.D.Disk.disk c.args.disk.now) (g.D.Disk.disk c.load.new.disk) c.args.site.now (g.met.D.Disk.lawful c.load.new.disk) e.any_moment e.still_told e.simulated)
+    err_holds c.from_residual.result _ (load_cut c.leftovers_hold.ensures (g.D.Disk.disk c.args.disk.now) (g.D.Disk.disk c.load.new.disk) c.args.site.now (g.met.D.Disk.lawful c.load.new.disk) e.any_moment e.still_told e.simulated)
 
 pub returns-then-is_named-clause-done : goal.returns-then-is_named-clause-done
 returns-then-is_named-clause-done g c =
     let e = c.in-Ok.ensures in
     let name = c.if-is_named.ensures ∙ c.as_slice.ensures in
     on_ok c.begin.result _ _ c.begin.ensures.done (λ b.
-    begins_so (g.D.Disk.disk c.args.disk.now) (g.D.Disk.disk c.load.new.disk) (g.D.Disk.disk c.begin.new.disk) c.args.site.now c.begin.new.site c.in-Ok.opened c.args.text.now c.begin.new.text (g.met.D.Disk.lawful c.args.disk.now) c.requires name e.read e.told e.drawn e.simulated e.later b)
+    begins_so c.files_stand_for_one.ensures (g.D.Disk.disk c.args.disk.now) (g.D.Disk.disk c.load.new.disk) (g.D.Disk.disk c.begin.new.disk) c.args.site.now c.begin.new.site c.in-Ok.opened c.args.text.now c.begin.new.text (g.met.D.Disk.lawful c.args.disk.now) c.requires name e.read e.told e.drawn e.simulated e.later b)
 
 pub returns-then-is_named-clause-cut_off : goal.returns-then-is_named-clause-cut_off
 returns-then-is_named-clause-cut_off g c =
     let e = c.in-Ok.ensures in
     let name = c.if-is_named.ensures ∙ c.as_slice.ensures in
     on_err_of c.begin.result _ _ c.begin.ensures.cut_off (λ b.
-    begins_cut (g.D.Disk.disk c.args.disk.now) (g.D.Disk.disk c.load.new.disk) (g.D.Disk.disk c.begin.new.disk) c.args.site.now c.in-Ok.opened (g.met.D.Disk.lawful c.args.disk.now) c.requires name e.read e.told e.drawn e.simulated e.later b)
+    begins_cut c.files_stand_for_one.ensures (g.D.Disk.disk c.args.disk.now) (g.D.Disk.disk c.load.new.disk) (g.D.Disk.disk c.begin.new.disk) c.args.site.now c.in-Ok.opened (g.met.D.Disk.lawful c.args.disk.now) c.requires name e.read e.told e.drawn e.simulated e.later b)
 
 pub returns-else-is_named-clause-done : goal.returns-else-is_named-clause-done
 returns-else-is_named-clause-done g c =
@@ -33,7 +33,7 @@ returns-else-is_named-clause-done g c =
 pub returns-else-is_named-clause-cut_off : goal.returns-else-is_named-clause-cut_off
 returns-else-is_named-clause-cut_off g c =
     let e = c.in-Ok.ensures in
-    err_holds c.write_not_a_file.result _ (load_cut (g.D.Disk.disk c.args.disk.now) (g.D.Disk.disk c.load.new.disk) c.args.site.now (g.met.D.Disk.lawful c.load.new.disk) e.any_moment e.still_told e.simulated)
+    err_holds c.write_not_a_file.result _ (load_cut c.leftovers_hold.ensures (g.D.Disk.disk c.args.disk.now) (g.D.Disk.disk c.load.new.disk) c.args.site.now (g.met.D.Disk.lawful c.load.new.disk) e.any_moment e.still_told e.simulated)
 
 pub returns-in-Err-GenLimit-clause-done : goal.returns-in-Err-GenLimit-clause-done
 returns-in-Err-GenLimit-clause-done g c =
@@ -46,13 +46,13 @@ returns-in-Err-GenLimit-clause-done g c =
 pub returns-in-Err-GenLimit-clause-cut_off : goal.returns-in-Err-GenLimit-clause-cut_off
 returns-in-Err-GenLimit-clause-cut_off g c =
     let e = c.in-Err-GenLimit.ensures in
-    err_holds c.write_line.result _ (load_cut (g.D.Disk.disk c.args.disk.now) (g.D.Disk.disk c.load.new.disk) c.args.site.now (g.met.D.Disk.lawful c.load.new.disk) e.any_moment e.still_told e.simulated)
+    err_holds c.write_line.result _ (load_cut c.leftovers_hold.ensures (g.D.Disk.disk c.args.disk.now) (g.D.Disk.disk c.load.new.disk) c.args.site.now (g.met.D.Disk.lawful c.load.new.disk) e.any_moment e.still_told e.simulated)
 
 pub returns-in_ok-write_numbered-in-Err-Failed-clause-done : goal.returns-in_ok-write_numbered-in-Err-Failed-clause-done
 returns-in_ok-write_numbered-in-Err-Failed-clause-done g c =
     let e = c.in-Err-Failed.ensures in
     let is = ap Err c.in-Err-Failed.field-0-is in
-    load_faulted (g.D.Disk.disk c.args.disk.now) (g.D.Disk.disk c.load.new.disk) c.args.site.now _ c.args.text.now _ (g.met.D.Disk.lawful c.load.new.disk) c.requires e.any_moment e.still_told e.simulated
+    load_faulted c.leftovers_hold.ensures (g.D.Disk.disk c.args.disk.now) (g.D.Disk.disk c.load.new.disk) c.args.site.now _ c.args.text.now _ (g.met.D.Disk.lawful c.load.new.disk) c.requires e.any_moment e.still_told e.simulated
     (c.in-Err-Failed.fault-is ∙ e.count c.in-Err-Failed.fault is) (e.cause c.in-Err-Failed.fault is)
     (named _ _ c.as_slice-in-Err-Failed.ensures c.in_ok-write_numbered-in-Err-Failed.ensures)
 
@@ -68,9 +68,9 @@ returns-in-Err-NotAFile-clause-done g c =
 pub returns-in-Err-NotAFile-clause-cut_off : goal.returns-in-Err-NotAFile-clause-cut_off
 returns-in-Err-NotAFile-clause-cut_off g c =
     let e = c.in-Err-NotAFile.ensures in
-    err_holds c.write_not_a_file-in-Err-NotAFile.result _ (load_cut (g.D.Disk.disk c.args.disk.now) (g.D.Disk.disk c.load.new.disk) c.args.site.now (g.met.D.Disk.lawful c.load.new.disk) e.any_moment e.still_told e.simulated)
+    err_holds c.write_not_a_file-in-Err-NotAFile.result _ (load_cut c.leftovers_hold.ensures (g.D.Disk.disk c.args.disk.now) (g.D.Disk.disk c.load.new.disk) c.args.site.now (g.met.D.Disk.lawful c.load.new.disk) e.any_moment e.still_told e.simulated)
 
 pub returns-in-Err : goal.returns-in-Err
 returns-in-Err g c =
     let e = c.in-Err.ensures in
-    record { ready = tt; done = tt; cut_off = load_cut (g.D.Disk.disk c.args.disk.now) (g.D.Disk.disk c.load.new.disk) c.args.site.now (g.met.D.Disk.lawful c.load.new.disk) e.any_moment e.still_told e.simulated }
+    record { ready = tt; done = tt; cut_off = load_cut c.leftovers_hold.ensures (g.D.Disk.disk c.args.disk.now) (g.D.Disk.disk c.load.new.disk) c.args.site.now (g.met.D.Disk.lawful c.load.new.disk) e.any_moment e.still_told e.simulated }

@@ -3,28 +3,23 @@ use Rattle.disk_defs.specs.Disk.{AtEachMoment}
 use Rattle.disk_defs.specs.Frames.{Only, OnlyOn}
 use Rattle.disk_defs.proofs.Frames.{others_then}
 use Rattle.instance_file.specs.Instance.{HasRecords, StandsWith}
-use Rattle.instance_file.specs.Patterns.{mapped}
 use Rattle.journal_defs.specs.Numbers.{INSTANCE}
-use Rattle.journal_defs.specs.Instance.{InstanceRecord, IsInForm}
+use Rattle.journal_defs.specs.Instance.{InstanceRecord, IsInForm, pattern_record}
 use Rattle.site_files.proofs.Cutting.{keep_stands, cut_stands}
-use Rattle.world_defs.specs.Rows.{pattern_record}
-use Rattle.site_store.proofs.Mapped.{same_record, has_reads, has_images}
+use Rattle.site_store.proofs.Mapped.{has_reads, has_images}
 use Rattle.site_store.proofs.mapping.append_pattern.Goals as goal
-
-pub map-requires-clause-form : goal.map-requires-clause-form
-map-requires-clause-form g c = subst IsInForm (sym (same_record c.args.region c.args.pattern.now)) c.requires.form
 
 pub returns-in-Ok-map-clause-reads : goal.returns-in-Ok-map-clause-reads
 returns-in-Ok-map-clause-reads g c =
     let view = g.D.Disk.disk in
-    has_reads (view c.args.disk.now) (view c.open.new.disk) (view c.map.new.disk) c.in-Ok.instance c.map.new.self c.args.log.records (mapped c.args.region c.args.pattern.now) (pattern_record c.args.region c.args.pattern.now)
-    (same_record c.args.region c.args.pattern.now) c.in-Ok.ensures.state c.in-Ok-map.ensures.state
+    has_reads (view c.args.disk.now) (view c.open.new.disk) (view c.map.new.disk) c.in-Ok.instance c.map.new.self c.args.log.records (pattern_record c.args.region c.args.pattern.now)
+    c.in-Ok.ensures.state c.in-Ok-map.ensures.state
 
 pub returns-in-Ok-map-clause-images : goal.returns-in-Ok-map-clause-images
 returns-in-Ok-map-clause-images g c =
     let view = g.D.Disk.disk in
-    has_images (view c.args.disk.now) (view c.open.new.disk) (view c.map.new.disk) c.in-Ok.instance c.map.new.self c.args.log.records (mapped c.args.region c.args.pattern.now) (pattern_record c.args.region c.args.pattern.now)
-    (same_record c.args.region c.args.pattern.now) c.in-Ok.ensures.state c.in-Ok-map.ensures.state
+    has_images (view c.args.disk.now) (view c.open.new.disk) (view c.map.new.disk) c.in-Ok.instance c.map.new.self c.args.log.records (pattern_record c.args.region c.args.pattern.now)
+    c.in-Ok.ensures.state c.in-Ok-map.ensures.state
 
 pub returns-in-Ok-map-clause-any_moment : goal.returns-in-Ok-map-clause-any_moment
 returns-in-Ok-map-clause-any_moment g c =
@@ -34,7 +29,7 @@ returns-in-Ok-map-clause-any_moment g c =
     let w = view c.map.new.disk in
     let rs = c.args.log.records in
     cut_stands u v rs (pattern_record c.args.region c.args.pattern.now) c.requires.stands c.requires.durable c.open.ensures.any_moment w c.in-Ok.instance (g.met.D.Disk.lawful c.open.new.disk) c.in-Ok.ensures.state
-    (subst (λ (x : InstanceRecord). (qs : List InstanceRecord) → HasRecords v c.in-Ok.instance qs → AtEachMoment v w (OnlyOn v INSTANCE (StandsWith qs x))) (same_record c.args.region c.args.pattern.now) c.map.ensures.any_moment)
+    c.map.ensures.any_moment
 
 pub returns-clause-any_moment : goal.returns-clause-any_moment
 returns-clause-any_moment g c =
@@ -44,7 +39,7 @@ returns-clause-any_moment g c =
     let w = view c.map.new.disk in
     let rs = c.args.log.records in
     cut_stands u v rs (pattern_record c.args.region c.args.pattern.now) c.requires.stands c.requires.durable c.open.ensures.any_moment w c.in-Ok.instance (g.met.D.Disk.lawful c.open.new.disk) c.in-Ok.ensures.state
-    (subst (λ (x : InstanceRecord). (qs : List InstanceRecord) → HasRecords v c.in-Ok.instance qs → AtEachMoment v w (OnlyOn v INSTANCE (StandsWith qs x))) (same_record c.args.region c.args.pattern.now) c.map.ensures.any_moment)
+    c.map.ensures.any_moment
 
 pub returns-in-Err-clause-any_moment : goal.returns-in-Err-clause-any_moment
 returns-in-Err-clause-any_moment g c =

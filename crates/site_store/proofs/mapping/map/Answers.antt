@@ -2,10 +2,10 @@ use Rattle.std.proofs.Common.{◌≡◌, ◌<◌, ◌++◌, ◌∷◌, [], List,
 use Rattle.std.proofs.lemmas.Result.{IfOk-weaker}
 use Rattle.disk_defs.specs.Disk.{Files, Image}
 use Rattle.journal_defs.specs.Numbers.{INSTANCE}
-use Rattle.journal_defs.specs.Instance.{InstanceRecord, generation, regions}
+use Rattle.journal_defs.specs.Instance.{InstanceRecord, generation, regions, pattern_record}
 use Rattle.journal_defs.specs.Stands.{IsInstance}
 use Rattle.world_defs.specs.World.{Contents}
-use Rattle.world_defs.specs.Rows.{pattern_record, with_pattern}
+use Rattle.world_defs.specs.Rows.{with_pattern}
 use Rattle.world_defs.specs.Ties.{IsSite}
 use Rattle.site_store.specs.Opening.{EachStands}
 use Rattle.site_store.proofs.Mapped.{quiet_told, no_region, map_moments, map_stands, map_reads, map_images}

@@ -4,16 +4,16 @@ use Rattle.site_store.proofs.Owned.{going_read, open_site_read, going_after, ope
 use Rattle.site_store.proofs.owning.Site.read_file.Goals as goal
 
 pub returns-in-Ok-clause-ready : goal.returns-in-Ok-clause-ready
-returns-in-Ok-clause-ready g c = going_read g.D.Disk.disk c.args.self.now (record { disk = c.read_file.new.disk; inner = c.args.self.now.inner; fault = c.args.self.now.fault }) c.read_file.ensures.reads refl refl
+returns-in-Ok-clause-ready g c = going_read g.D.Disk.disk c.args.self.now (record { disk = c.read_file.new.disk; inner = c.args.self.now.inner; history = c.args.self.now.history; fault = c.args.self.now.fault }) c.read_file.ensures.reads refl refl refl
 
 pub returns-in-Ok-clause-stays_open : goal.returns-in-Ok-clause-stays_open
 returns-in-Ok-clause-stays_open g c told x h is now =
-    open_site_read g.D.Disk.disk c.args.self.now (record { disk = c.read_file.new.disk; inner = c.args.self.now.inner; fault = c.args.self.now.fault }) told x h (g.met.D.Disk.lawful c.read_file.new.disk) c.read_file.ensures.reads refl refl is
+    open_site_read g.D.Disk.disk c.args.self.now (record { disk = c.read_file.new.disk; inner = c.args.self.now.inner; history = c.args.self.now.history; fault = c.args.self.now.fault }) told x h (g.met.D.Disk.lawful c.read_file.new.disk) c.read_file.ensures.reads refl refl is
 
 pub returns-in-Err-clause-ready : goal.returns-in-Err-clause-ready
 returns-in-Err-clause-ready g c =
     let none : c.args.self.now.fault ≡ None = search rules in
-    going_after g.D.Disk.disk c.args.self.now c.note.new.self (subst (λ d. Reads (g.D.Disk.disk c.args.self.now.disk) (g.D.Disk.disk d)) (sym c.note.ensures.disk) c.read_file.ensures.reads) c.note.ensures.inner none
+    going_after g.D.Disk.disk c.args.self.now c.note.new.self (subst (λ d. Reads (g.D.Disk.disk c.args.self.now.disk) (g.D.Disk.disk d)) (sym c.note.ensures.disk) c.read_file.ensures.reads) c.note.ensures.inner c.note.ensures.history none
 
 pub returns-in-Err-clause-stays_open : goal.returns-in-Err-clause-stays_open
 returns-in-Err-clause-stays_open g c told x h is now =

@@ -1,6 +1,6 @@
 use Rattle.std.proofs.Common.{◌≡◌, ◌≤◌, ◌++◌, ◌-◌, take, IfSome}
 use Rattle.disk_defs.specs.Disk.{Reads}
-use Rattle.site_store.proofs.typing.read_file.Given as goal
+use Rattle.site_store.proofs.reading.read_file.Given as goal
 
 -- so many bytes were added
 abbrev pub invariant-loop-at : goal.invariant-loop-at

@@ -2,13 +2,13 @@ use Rattle.std.proofs.Common.{◌++◌, take, map, ap, sym, ◌∙◌, append_as
 use Rattle.std.specs.List.{flat_map}
 use Rattle.gvn_globals.specs.Lists.{listed_value}
 use Rattle.world_defs.specs.Output.{node_line}
-use Rattle.site_runner.proofs.Written.{written_more}
-use Rattle.site_runner.proofs.zwriting.write_nodes.Goals as goal
+use Rattle.site_store.proofs.Pieces.{written_more}
+use Rattle.site_store.proofs.showing.write_nodes.Goals as goal
 
 pub loop-node-preserved : goal.loop-node-preserved
 loop-node-preserved c =
     let line = node_line (listed_value c.node-item.result) in
     c.in_ok-write_node.ensures.ok
     ∙ ap (λ x. x ++ line) c.loop-node.invariant
-    ∙ append_assoc c.args.text.now (flat_map node_line (map listed_value (take c.loop-node.node-index c.args.nodes.now))) line
-    ∙ ap (λ x. c.args.text.now ++ x) (sym (written_more node_line listed_value c.args.nodes.now c.loop-node.node-index c.node-item.result c.loop-node-test.true c.node-item.is))
+    ∙ append_assoc c.args.out.now (flat_map node_line (map listed_value (take c.loop-node.node-index c.args.nodes.now))) line
+    ∙ ap (λ x. c.args.out.now ++ x) (sym (written_more node_line listed_value c.args.nodes.now c.loop-node.node-index c.node-item.result c.loop-node-test.true c.node-item.is))

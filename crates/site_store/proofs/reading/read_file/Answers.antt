@@ -1,7 +1,7 @@
 use Rattle.std.proofs.Common.{arith}
 use Rattle.disk_defs.proofs.Frames.{reads_more}
 use Rattle.site_store.proofs.Typed.{one_piece}
-use Rattle.site_store.proofs.typing.read_file.Goals as goal
+use Rattle.site_store.proofs.reading.read_file.Goals as goal
 
 pub loop-at-preserved : goal.loop-at-preserved
 loop-at-preserved g c =

@@ -1,0 +1,91 @@
+use Rattle.std.proofs.Common.{rules, ◌≡◌, ◌+◌, ◌≤◌, ◌<◌, inr, ℕ, List, Vec, Global, length, map, None, Some, sym, ◌∙◌, ap, subst, arith}
+use Rattle.std.proofs.lemmas.Result.{err_from_is_err_and}
+use Rattle.std.proofs.lemmas.List.{length-map}
+use Rattle.disk_defs.specs.Disk.{Files, Image}
+use Rattle.disk_defs.proofs.Moments.{nothing_new}
+use Rattle.disk_defs.proofs.Told.{told_at}
+use Rattle.global_dir.specs.Directory.{Mapping}
+use Rattle.jnl_record.specs.declared.placed.PlacedRecord.{PlacedRecord}
+use Rattle.journal_defs.specs.Instance.{InstanceRecord, generation, regions}
+use Rattle.journal_defs.specs.Sequence.{Placed}
+use Rattle.mupip_recover.specs.Site.{journal_of}
+use Rattle.site_files.specs.declared.error.FilesError.TheVariants.{NotAFile}
+use Rattle.site_files.specs.Loading.{IsDirectory, last_of}
+use Rattle.site_files.specs.Reading.{HaveJournals}
+use Rattle.site_files.proofs.Errors.{handed_on, causes_on}
+use Rattle.site_files.proofs.RecordsRead.{generation_low, hold_no_instance, hold_no_directory, hold_no_journals, are_held}
+use Rattle.site_files.proofs.reading.read_records.Goals as goal
+
+pub returns-in_err-log-clause-outside : goal.returns-in_err-log-clause-outside
+returns-in_err-log-clause-outside g c =
+    let p = err_from_is_err_and c.from_residual.result c.from_residual.ensures.1 in
+    rw (p.1, p.2) (λ file offset is.
+    hold_no_instance (g.D.Disk.disk c.args.disk.now).content (c.in_err-log.ensures.outside file offset (handed_on c.in_err-log.field-0.0 (NotAFile file offset) is)))
+
+pub returns-in_err-log-clause-causes : goal.returns-in_err-log-clause-causes
+returns-in_err-log-clause-causes g c =
+    let p = err_from_is_err_and c.from_residual.result c.from_residual.ensures.1 in
+    rw (p.1, p.2) (causes_on c.in_err-log.field-0.0 c.in_err-log.ensures.causes)
+
+pub returns-in_err-plan-clause-outside : goal.returns-in_err-plan-clause-outside
+returns-in_err-plan-clause-outside g c =
+    let p = err_from_is_err_and c.from_residual-in_err-plan.result c.from_residual-in_err-plan.ensures.1 in
+    rw (p.1, p.2) (λ file offset is.
+    hold_no_directory (g.D.Disk.disk c.args.disk.now).content c.in_ok-log.log.records c.in_ok-log.ensures.reads
+    (subst (λ (k : List InstanceRecord). IsDirectory k None) c.as_slice.ensures (c.in_err-plan.ensures.outside file offset (handed_on c.in_err-plan.field-0.0 (NotAFile file offset) is))))
+
+pub read_regions-requires-clause-last : goal.read_regions-requires-clause-last
+read_regions-requires-clause-last g c =
+    let newest : c.in_ok-plan.plan.newest ≡ generation c.in_ok-log.log.records = c.in_ok-plan.ensures.newest ∙ ap generation c.as_slice.ensures in
+    let low = generation_low c.in_ok-log.log.records c.in_ok-log.ensures.form in
+    omega (arith, newest, low)
+
+pub returns-in_err-found-clause-causes : goal.returns-in_err-found-clause-causes
+returns-in_err-found-clause-causes g c =
+    let p = err_from_is_err_and c.from_residual-in_err-found.result c.from_residual-in_err-found.ensures.1 in
+    rw (p.1, p.2) (causes_on c.in_err-found.field-0.0 c.in_err-found.ensures.causes)
+
+pub returns-in_err-found-clause-any_moment : goal.returns-in_err-found-clause-any_moment
+returns-in_err-found-clause-any_moment g c =
+    let view = g.D.Disk.disk in
+    nothing_new (view c.args.disk.now) (view c.read_instance.new.disk) (view c.read_regions.new.disk) (Image (view c.args.disk.now)) (g.met.D.Disk.lawful c.read_instance.new.disk)
+    c.in_ok-log.ensures.any_moment c.in_err-found.ensures.any_moment
+
+pub returns-clause-any_moment : goal.returns-clause-any_moment
+returns-clause-any_moment g c =
+    let view = g.D.Disk.disk in
+    nothing_new (view c.args.disk.now) (view c.read_instance.new.disk) (view c.read_regions.new.disk) (Image (view c.args.disk.now)) (g.met.D.Disk.lawful c.read_instance.new.disk)
+    c.in_ok-log.ensures.any_moment c.in_ok-found.ensures.any_moment
+
+pub returns-in_err-found-clause-outside : goal.returns-in_err-found-clause-outside
+returns-in_err-found-clause-outside g c =
+    let view = g.D.Disk.disk in
+    let rs = c.in_ok-log.log.records in
+    let n = c.in_ok-plan.plan.regions in
+    let n2 = c.in_ok-plan.plan.newest in
+    let directory = subst (λ (k : List InstanceRecord). IsDirectory k (Some c.in_ok-plan.plan.directory)) c.as_slice.ensures c.in_ok-plan.ensures.directory in
+    let many : n ≡ length (regions rs) = c.in_ok-plan.ensures.regions ∙ ap (λ (d : Mapping). d.regions) directory.2 in
+    let newest : n2 ≡ generation rs = c.in_ok-plan.ensures.newest ∙ ap generation c.as_slice.ensures in
+    let None_there = λ (files : Files). (began : ℕ → ℕ) (journal : ℕ → List Placed) → HaveJournals n n2 began journal files → ⊥ in
+    let p = err_from_is_err_and c.from_residual-in_err-found.result c.from_residual-in_err-found.ensures.1 in
+    rw (p.1, p.2) (λ file offset is.
+    hold_no_journals (view c.args.disk.now).content rs c.in_ok-log.ensures.reads n n2 many newest
+    (told_at (view c.args.disk.now).content (view c.read_instance.new.disk).content None_there c.in_ok-log.ensures.content
+    (c.in_err-found.ensures.outside file offset (handed_on c.in_err-found.field-0.0 (NotAFile file offset) is))))
+
+pub returns-clause-held : goal.returns-clause-held
+returns-clause-held g c =
+    let view = g.D.Disk.disk in
+    let u = view c.args.disk.now in
+    let v = view c.read_instance.new.disk in
+    let rs = c.in_ok-log.log.records in
+    let n = c.in_ok-plan.plan.regions in
+    let newest_read = c.in_ok-plan.plan.newest in
+    let got = c.in_ok-found.ensures in
+    let last = last_of c.in_ok-found.found.last_began.items in
+    let js = map (λ (j : Vec PlacedRecord Global). j.items) c.in_ok-found.found.journals.items in
+    let directory = subst (λ (k : List InstanceRecord). IsDirectory k (Some c.in_ok-plan.plan.directory)) c.as_slice.ensures c.in_ok-plan.ensures.directory in
+    let many : n ≡ length (regions rs) = c.in_ok-plan.ensures.regions ∙ ap (λ (d : Mapping). d.regions) directory.2 in
+    let newest : newest_read ≡ generation rs = c.in_ok-plan.ensures.newest ∙ ap generation c.as_slice.ensures in
+    are_held u.content rs last js n newest_read many newest (length-map c.in_ok-found.found.journals.items (λ (j : Vec PlacedRecord Global). j.items) ∙ got.many)
+    c.in_ok-log.ensures.reads (told_at u.content v.content (HaveJournals n newest_read last (journal_of js)) c.in_ok-log.ensures.content got.read)

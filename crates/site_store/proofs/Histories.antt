@@ -1,0 +1,61 @@
+-- The history of a site whose files were read.
+use Rattle.std.proofs.Common.{◌≡◌, ℕ, ◌+◌, ◌≤◌, ◌<◌, [], ◌∷◌, ◌++◌, length, if◌then◌else◌, Option, IfSome, sym, ◌∙◌, ap, subst}
+use Rattle.std.specs.Prelude.{filter, map, take, get_or, nat_le, List}
+use Rattle.std.proofs.lemmas.List.{map-append, take_more}
+use Rattle.std.proofs.lemmas.List.Elements.{filter-append}
+use Rattle.gvn_model.specs.Reigns.{reign_value}
+use Rattle.gvn_model.specs.declared.reign.Reign as code
+use Rattle.std.specs.List.{AllByRecursion}
+use Rattle.disk_defs.specs.Disk.{Files}
+use Rattle.disk_defs.proofs.Told.{weaker_told}
+use Rattle.global_defs.specs.Entry.{Reign, Sequence}
+use Rattle.gvn_model.specs.declared.history.History.{History}
+use Rattle.journal_defs.specs.Numbers.{INSTANCE}
+use Rattle.journal_defs.specs.Instance.{InstanceRecord, regions}
+use Rattle.journal_defs.specs.Directory.{Pattern, patterns}
+use Rattle.journal_defs.specs.Surviving.{reigns}
+use Rattle.journal_defs.specs.Sequence.{Records, IsSequence}
+use Rattle.journal_defs.specs.Stands.{AreRecords}
+use Rattle.journal_laws.proofs.Readings.{records_one}
+use Rattle.journal_laws.proofs.Runs as runs
+use Rattle.site_files.specs.Reading.{HoldNoSite}
+use Rattle.world_defs.specs.World.{Contents}
+use Rattle.world_defs.specs.Ties.{IsSite}
+use Rattle.site_store.specs.Finding.{IsHistoryOf}
+use Rattle.site_store.proofs.Found.{region_count, site_instance, made_some}
+
+-- one reign more that is looked at
+pub kept_more : (n : ℕ) (xs : List code.Reign) (i : ℕ) (x : code.Reign) → i < length xs → x ≡ get_or xs i x
+    → filter (λ r. nat_le r.start n) (map reign_value (take (i + 1) xs)) ≡ filter (λ r. nat_le r.start n) (map reign_value (take i xs)) ++ (if nat_le x.start n then reign_value x ∷ [] else [])
+kept_more n xs i x inside is =
+    ap (λ (l : List code.Reign). filter (λ r. nat_le r.start n) (map reign_value l)) (take_more xs i x inside ∙ ap (λ (y : code.Reign). take i xs ++ y ∷ []) (sym is))
+    ∙ ap (filter (λ r. nat_le r.start n)) (map-append reign_value (take i xs) (x ∷ []))
+    ∙ filter-append (λ r. nat_le r.start n) (map reign_value (take i xs)) (reign_value x ∷ [])
+
+-- files that hold no site's records are no site's
+pub no_records : (o : Option Files) → IfSome o HoldNoSite → IfSome o (λ files. (c : Contents) → IsSite files c → ⊥)
+no_records o none = weaker_told o HoldNoSite (λ files. (c : Contents) → IsSite files c → ⊥) none (λ files no c site.
+    let own = sym site.instance in
+    let count = region_count (files INSTANCE) c.instance (site_instance files c site) (made_some c site.made) in
+    no site.records site.image.held
+    (subst (λ (l : List InstanceRecord). 1 ≤ length (regions l)) own count.0)
+    (subst (λ (l : List InstanceRecord). length (regions l) ≤ 8) own count.1)
+    (subst (λ (l : List InstanceRecord). AllByRecursion (λ (p : Pattern). p.region < length (regions l)) (patterns l)) own site.mapped))
+
+-- the reigns that begin by a length
+abbrev by_length : List Reign → ℕ → List Reign
+by_length rs n = filter (λ (r : Reign). nat_le r.start n) rs
+
+-- what was read is the history of the site that stands there
+pub history_read : (o : Option Files) (s : Records) (seq : Sequence) (n : ℕ) (h : History) → IfSome o (λ files. AreRecords files s) → IsSequence s seq → n ≡ length seq → h.length ≡ n → h.reigns ≡ filter (λ r. nat_le r.start n) (reigns s.instance)
+    → IfSome o (λ files. (c : Contents) → IsSite files c → IsHistoryOf c h)
+history_read o s seq n h held sequence count long made = weaker_told o (λ files. AreRecords files s) (λ files. (c : Contents) → IsSite files c → IsHistoryOf c h) held (λ files own c site.
+    let same = records_one files site.records s site.image.held own in
+    let image : IsSequence s c.sequence = subst (λ (u : Records). IsSequence u c.sequence) same site.image.sequence in
+    let seqs : c.sequence ≡ seq = runs.one s c.sequence seq image sequence in
+    let records : c.instance ≡ s.instance = sym site.instance ∙ ap (λ (u : Records). u.instance) same in
+    let many : n ≡ length c.sequence = count ∙ ap length (sym seqs) in
+    record {
+      count = long ∙ many;
+      made_in = made ∙ ap (by_length (reigns s.instance)) many ∙ ap (λ (l : List InstanceRecord). by_length (reigns l) (length c.sequence)) (sym records);
+    })

@@ -1,0 +1,50 @@
+//! The history of a site that isn't open.
+ghost use Rattle.std.specs.Prelude.{◌≡◌, ◌⊎◌, ◌≤◌, ℕ, nat_le, filter, map, IfOk, IfSome, OnErr, IsErrOf};
+ghost use Rattle.disk_defs.specs.Disk.{Image, AtEachMoment, Rose};
+ghost use Rattle.gvn_model.specs.Reigns.{reign_value};
+ghost use Rattle.world_defs.specs.World.{Contents};
+ghost use Rattle.world_defs.specs.Ties.{IsSite};
+ghost use Rattle.site_store.specs.Finding.{IsHistoryOf};
+
+use crate::error::SiteError;
+use gvn_key::NoMemory;
+use gvn_model::{History, Reign, Reigns};
+use repl_disk::Disk;
+use site_files::{count_entries, read_records};
+use std::alloc::Global;
+
+/// Those of these reigns that begin by that number.
+fn reigns_by(alloc: Global, reigns: &[Reign], number: u64) -> Result<Reigns, NoMemory>
+    ensures { IfOk result (λ made. made ≡ filter (λ r. nat_le r.start number) (map reign_value reigns.now)) }
+{
+    let mut made = Reigns::new(alloc);
+    for reign in reigns {
+        if reign.start <= number {
+            made.push(reign.copy()?)?;
+        }
+    }
+    Ok(made)
+}
+
+/// The history of the site that stands on a disk: how long the sequence is that its files stand for as they read, and the reigns in
+/// which its entries were made. It syncs the files first, and writes nothing. It takes a site of any number of generations.
+///
+/// # Errors
+/// `NotAFile` only where the disk's files are outside the formats, or with file 0 and offset 0 where no site stands there. `Failed`
+/// only where the disk's count rose. `NoMemory`.
+pub fn history_of<D: Disk>(alloc: Global, disk: &mut D) -> Result<History, SiteError>
+    ensures history { IfOk result (λ h. IfSome (D.disk disk.old).content (λ files. (c : Contents) → IsSite files c → IsHistoryOf c h)) }
+    ensures outside { (file offset : ℕ) → IsErrOf result (SiteError.NotAFile file offset) → IfSome (D.disk disk.old).content (λ files. (c : Contents) → IsSite files c → ⊥) }
+    ensures content { (D.disk disk.new).content ≡ (D.disk disk.old).content }
+    ensures any_moment { AtEachMoment (D.disk disk.old) (D.disk disk.new) (Image (D.disk disk.old)) }
+    ensures simulated { (D.disk disk.new).simulated ≡ (D.disk disk.old).simulated }
+    ensures later { (D.disk disk.old).faults ≤ (D.disk disk.new).faults }
+    ensures count { (fault : ℕ) → IsErrOf result (SiteError.Failed fault) → fault ≡ (D.disk disk.new).faults }
+    ensures cause { (fault : ℕ) → IsErrOf result (SiteError.Failed fault) → Rose (D.disk disk.old).faults (D.disk disk.new).faults }
+    ensures causes { OnErr result (((fault : ℕ) × IsErrOf result (SiteError.Failed fault)) ⊎ ((file : ℕ) × (offset : ℕ) × IsErrOf result (SiteError.NotAFile file offset)) ⊎ IsErrOf result SiteError.NoMemory) }
+{
+    let read = read_records(alloc, disk)?;
+    let length = count_entries(alloc, &read.log, &read.journals)?;
+    let reigns = reigns_by(alloc, read.log.history.as_slice(), length)?;
+    Ok(History { length, reigns })
+}

@@ -1,0 +1,51 @@
+//! What an open site shows: its entries and its nodes, as text.
+ghost use Rattle.std.specs.Prelude.{◌≡◌, ◌≤◌, ◌-◌, ◌++◌, map, slice_get, None, IfSome, OnOk, OnErr};
+ghost use Rattle.std.specs.Option.{option_copied};
+ghost use Rattle.std.specs.List.{flat_map};
+ghost use Rattle.global_defs.specs.Extract.{entry_text};
+ghost use Rattle.gvn_globals.specs.Lists.{listed_value};
+ghost use Rattle.gvn_model.specs.Entries.{entry_value};
+ghost use Rattle.world_defs.specs.Output.{node_line, zwrite};
+
+use crate::site::OpenSite;
+use gvn_globals::Listed;
+use gvn_key::{Bytes, Key, NoMemory};
+use jnl_extract::{extract_entry, write_node};
+
+/// Adds a line for each of these nodes.
+fn write_nodes(nodes: &[Listed], out: &mut Bytes) -> Result<(), NoMemory>
+    ensures { OnOk result (out.new ≡ out.old ++ flat_map node_line (map listed_value nodes.now)) }
+{
+    for node in nodes {
+        write_node(node.key, node.value, out)?;
+    }
+    Ok(())
+}
+
+impl OpenSite {
+    /// Adds the extract lines of the entry of that number, where there is one: one line for its update, or a line for each between
+    /// a TSTART and a TCOM line. Without memory nothing is added.
+    pub fn extract(&self, number: u64, out: &mut Bytes) -> Result<(), NoMemory>
+        requires { 1 ≤ number }
+        ensures entry { OnOk result (IfSome (slice_get self.now.entries.items (number - 1)) (λ e. out.new ≡ out.old ++ entry_text e.number (entry_value e))) }
+        ensures no_entry { slice_get self.now.entries.items (number - 1) ≡ None → out.new ≡ out.old }
+        ensures without { OnErr result (out.new ≡ out.old) }
+    {
+        match self.entries.get((number - 1) as usize) {
+            Some(entry) => extract_entry(entry, out),
+            None => Ok(()),
+        }
+    }
+
+    /// Adds a ZWRITE line for each node, or for the top one and those below it, in M collation. Without memory some lines may be
+    /// added.
+    pub fn zwrite(&self, top: Option<&Key>, out: &mut Bytes) -> Result<(), NoMemory>
+        ensures { OnOk result (out.new ≡ out.old ++ zwrite (option_copied top.entry) self.now.globals) }
+    {
+        let alloc = out.allocator();
+        match top {
+            None => write_nodes(&self.globals.list(alloc)?, out),
+            Some(key) => write_nodes(&self.globals.list_under(alloc, key)?, out),
+        }
+    }
+}
