@@ -1,23 +1,31 @@
 -- Regions whose blocks are sound: from an epoch's images the state of its number of entries comes back (GT.M: what backward recovery
 -- rests on).
-use Rattle.std.specs.Prelude.{◌≡◌, ◌⊎◌, ℕ, ◌<◌, ◌≤◌, ◌==◌, List, length, take}
+use Rattle.std.specs.Prelude.{◌≡◌, ◌⊎◌, ℕ, ◌<◌, ◌≤◌, ◌==◌, List, length, take, Option, Some}
 use Rattle.std.specs.FinMap as globals
 use Rattle.global_defs.specs.Entry.{Globals, Sequence, state}
 use Rattle.journal_defs.specs.Directory.{Pattern, region_of, patterns}
 use Rattle.journal_defs.specs.Instance.{InstanceRecord, regions}
 use Rattle.journal_defs.specs.Sequence.{Placed, Records}
-use Rattle.journal_defs.specs.Epochs.{Blocks, chosen, image_state, NeedsForward}
+use Rattle.journal_defs.specs.Epochs.{Blocks, BLOCK, chosen, image_state, NeedsForward}
 use Rattle.journal_defs.specs.Leaves.{Decodes}
 
 -- the region's part of the state of a sequence
 abbrev pub region_state : List Pattern → ℕ → Sequence → Globals
 region_state patterns r seq = globals.retain_keys (state seq) (λ k. region_of patterns k.name == r)
 
+-- each block that there is has all its bytes
+abbrev pub AreWhole : (ℕ → Option (List ℕ)) → Type 0
+AreWhole blocks = (b : ℕ) (bytes : List ℕ) → blocks b ≡ Some bytes → length bytes ≡ BLOCK
+
+-- the blocks are whole, and decode to these globals
+abbrev pub Restores : (ℕ → Option (List ℕ)) → Globals → Type 0
+Restores blocks g = AreWhole blocks × Decodes blocks g
+
 -- A region is sound for t, where `of` gives its part of the state of a sequence: it needs forward recovery for t, or the image state
--- below the epoch chosen for t decodes to the part of the state of that epoch's number of entries.
+-- below the epoch chosen for t has its blocks, which decode to the part of the state of that epoch's number of entries.
 abbrev pub IsSound : (Sequence → Globals) → List InstanceRecord → Sequence → List Placed → Blocks → ℕ → Type 0
 IsSound of instance seq journal database t =
-    NeedsForward instance t journal ⊎ Decodes (image_state (chosen instance t journal) database) (of (take (chosen instance t journal).number seq))
+    NeedsForward instance t journal ⊎ Restores (image_state (chosen instance t journal) database) (of (take (chosen instance t journal).number seq))
 
 -- A region is sound for every t up to the length.
 abbrev pub IsSoundRegion : (Sequence → Globals) → List InstanceRecord → Sequence → List Placed → Blocks → Type 0

@@ -5,7 +5,9 @@ ghost use Rattle.std.specs.FinMap as globals;
 ghost use Rattle.journal_defs.specs.Instance.{Cut};
 ghost use Rattle.journal_defs.specs.Epochs.{chosen, beginning, image_of, image_state, block_of, first_without};
 ghost use Rattle.journal_defs.specs.Undo.{MayWrite, MayLog};
+ghost use Rattle.journal_defs.specs.Journal.{Pblk};
 ghost use Rattle.journal_defs.specs.Leaves.{Decodes};
+ghost use Rattle.journal_defs.specs.Sound.{AreWhole};
 ghost use Rattle.journal_defs.specs.Samples.{begins, epoch, image, images};
 
 /// The last surviving epoch up to the target is chosen, with the records after it.
@@ -40,6 +42,13 @@ pub fn writes_are_allowed()
     ensures not_imaged { MayWrite (record { number = 1; blocks = 8; after = images }) 6 → ⊥ }
     ensures as_on_the_file { MayLog (record { number = 1; blocks = 8; after = [] }) (λ b. b ∷ []) (record { block = 6; bytes = 6 ∷ [] }) }
     ensures not_as_on_the_file { MayLog (record { number = 1; blocks = 8; after = [] }) (λ b. b ∷ []) (record { block = 6; bytes = 5 ∷ [] }) → ⊥ }
+{}
+
+/// A file that ends before the epoch's blocks do doesn't have them, but by an image.
+pub fn blocks_are_whole()
+    ensures short_file { AreWhole (image_state (record { number = 1; blocks = 2; after = [] }) (block_of (replicate 4096 0))) → ⊥ }
+    ensures by_image { AreWhole (image_state (record { number = 1; blocks = 2; after = record { generation = 1; what = Pblk (record { block = 1; bytes = replicate 4096 0 }) } ∷ [] })
+        (block_of (replicate 4096 0))) }
 {}
 
 /// A block of zeros is an empty leaf.

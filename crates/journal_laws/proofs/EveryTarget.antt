@@ -13,8 +13,7 @@ use Rattle.journal_defs.specs.Surviving.{survives, spares}
 use Rattle.journal_defs.specs.Sequence.{Placed}
 use Rattle.journal_defs.specs.Epochs.{Chosen, epoch_in, last_epoch, chosen, image_state, starts_without, is_without, first_without, NeedsForward, Blocks}
 use Rattle.journal_defs.specs.Undo.{SameBut, MayWrite, logged, IsEarlier, MayAppend, fresh}
-use Rattle.journal_defs.specs.Leaves.{Decodes}
-use Rattle.journal_defs.specs.Sound.{IsSoundRegion, BlocksGrow, NoEpochPast}
+use Rattle.journal_defs.specs.Sound.{Restores, IsSoundRegion, BlocksGrow, NoEpochPast}
 use Rattle.std.specs.Option.{option_or}
 use Rattle.journal_laws.proofs.Images.{write_keeps, image_keeps, other_keeps, write_earlier, image_earlier}
 use Rattle.journal_laws.proofs.Targets as targets
@@ -43,10 +42,10 @@ lesser_target instance t u journal low needs =
 
 -- what soundness says where no forward recovery is needed
 abbrev Good : (Sequence → Globals) → Sequence → Blocks → Chosen → Type 0
-Good of seq database e = Decodes (image_state e database) (of (take e.number seq))
+Good of seq database e = Restores (image_state e database) (of (take e.number seq))
 
 good_write : (of : Sequence → Globals) (seq : Sequence) (old new : Blocks) (e : Chosen) → image_state e new ≡ image_state e old → Good of seq old e → Good of seq new e
-good_write of seq old new e same good = subst (λ (i : ℕ → Option (List ℕ)). Decodes i (of (take e.number seq))) (sym same) good
+good_write of seq old new e same good = subst (λ (i : ℕ → Option (List ℕ)). Restores i (of (take e.number seq))) (sym same) good
 
 pub write : (of : Sequence → Globals) (instance : List InstanceRecord) (seq : Sequence) (journal : List Placed) (old new : Blocks) (b : ℕ)
     → IsSoundRegion of instance seq journal old → BlocksGrow instance (length seq) journal → SameBut b old new
@@ -110,7 +109,7 @@ needs_more instance t journal p is needs =
     needs_from instance t (journal ++ p ∷ []) (subst (λ (e : Chosen). AnyWithout (journal ++ p ∷ []) e) (sym is) (needs_logged journal p (chosen instance t journal) (any_from instance t journal needs)))
 
 good_logged : (of : Sequence → Globals) (seq : Sequence) (database : Blocks) (e : Chosen) (p : Placed) → image_state (logged e p) database ≡ image_state e database → Good of seq database e → Good of seq database (logged e p)
-good_logged of seq database e p same good = subst (λ (i : ℕ → Option (List ℕ)). Decodes i (of (take e.number seq))) (sym same) good
+good_logged of seq database e p same good = subst (λ (i : ℕ → Option (List ℕ)). Restores i (of (take e.number seq))) (sym same) good
 
 pub record_appended : (of : Sequence → Globals) (instance : List InstanceRecord) (seq : Sequence) (journal : List Placed) (database : Blocks) (p : Placed)
     → IsSoundRegion of instance seq journal database → BlocksGrow instance (length seq) journal
@@ -134,7 +133,7 @@ past_target instance t g m low = let no : nat_le m.number t ≡ false = grind (a
 
 pub epoch_appended : (of : Sequence → Globals) (instance : List InstanceRecord) (seq : Sequence) (journal : List Placed) (database : Blocks) (g : ℕ) (m : Mark)
     → IsSoundRegion of instance seq journal database → m.number ≡ length seq → survives instance g m.number ≡ true
-    → Decodes (image_state (fresh m) database) (of seq)
+    → Restores (image_state (fresh m) database) (of seq)
     → IsSoundRegion of instance seq (journal ++ record { generation = g; what = Epoch m } ∷ []) database
 epoch_appended of instance seq journal database g m sound is lives decodes t low =
     let p : Placed = record { generation = g; what = Epoch m } in
@@ -148,7 +147,7 @@ epoch_appended of instance seq journal database g m sound is lives decodes t low
       | inr now ↦
           let here = targets.new_epoch instance t g journal m lives now in
           let all : take m.number seq ≡ seq = take_all m.number seq (omega arith) in
-          inr (subst (Good of seq database) (sym here) (subst (λ (l : Sequence). Decodes (image_state (fresh m) database) (of l)) (sym all) decodes))
+          inr (subst (Good of seq database) (sym here) (subst (λ (l : Sequence). Restores (image_state (fresh m) database) (of l)) (sym all) decodes))
     ]
 
 -- a region is sound where this epoch is chosen
@@ -158,7 +157,7 @@ SoundAt of seq journal database e = IsSome (first_without journal e) ⊎ Good of
 sound_front : (of : Sequence → Globals) (seq other : Sequence) (journal : List Placed) (database : Blocks) (e : Chosen) → take e.number other ≡ take e.number seq
     → SoundAt of seq journal database e → SoundAt of other journal database e
 sound_front of seq other journal database e same (inl needs) = inl needs
-sound_front of seq other journal database e same (inr good) = inr (subst (λ (l : Sequence). Decodes (image_state e database) (of l)) (sym same) good)
+sound_front of seq other journal database e same (inr good) = inr (subst (λ (l : Sequence). Restores (image_state e database) (of l)) (sym same) good)
 
 pub cut : (of : Sequence → Globals) (instance : List InstanceRecord) (seq : Sequence) (journal : List Placed) (database : Blocks) (t g : ℕ)
     → IsSoundRegion of instance seq journal database → t ≤ length seq

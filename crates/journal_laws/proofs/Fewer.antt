@@ -13,8 +13,7 @@ use Rattle.journal_defs.specs.Instance.{InstanceRecord}
 use Rattle.journal_defs.specs.Surviving.{survives, reigns}
 use Rattle.journal_defs.specs.Sequence.{Placed, Records, parts, in_mask, is_like, items_of, items_in, updates_of, updates_by, REGIONS, entry_by, entry_among, entry_with, entry, EntriesFrom, IsSequence}
 use Rattle.journal_defs.specs.Epochs.{Chosen, chosen, image_state, Blocks}
-use Rattle.journal_defs.specs.Leaves.{Decodes}
-use Rattle.journal_defs.specs.Sound.{IsSoundRegion}
+use Rattle.journal_defs.specs.Sound.{Restores, IsSoundRegion}
 use Rattle.journal_defs.specs.Growth.{with_parts, NonePast, AreNumbered, AreTidy, TidyPast, HasFewer}
 use Rattle.journal_laws.proofs.Runs.{parts_other, parts_here}
 use Rattle.journal_laws.proofs.Targets as targets
@@ -213,5 +212,5 @@ sound_front of instance seq journal database j sound few t low =
     let fits : e.number ≤ t = targets.number instance t journal in
     elim (sound t (omega arith)) [
       | inl needs ↦ inl needs
-      | inr good ↦ inr (subst (λ (l : Sequence). Decodes (image_state e database) (of l)) (sym (take-take e.number j seq (omega arith))) good)
+      | inr good ↦ inr (subst (λ (l : Sequence). Restores (image_state e database) (of l)) (sym (take-take e.number j seq (omega arith))) good)
     ]

@@ -13,8 +13,7 @@ use Rattle.journal_defs.specs.Surviving.{survives, spares, spares_start, reigns}
 use Rattle.journal_defs.specs.Sequence.{Placed, Records, IsSequence}
 use Rattle.journal_defs.specs.Epochs.{Blocks, Chosen, epoch_in, last_epoch, beginning, chosen, image_state, first_without, NeedsForward}
 use Rattle.journal_defs.specs.Undo.{fresh}
-use Rattle.journal_defs.specs.Leaves.{Decodes}
-use Rattle.journal_defs.specs.Sound.{IsSoundRegion, BlocksGrow, NoEpochPast}
+use Rattle.journal_defs.specs.Sound.{Restores, IsSoundRegion, BlocksGrow, NoEpochPast}
 use Rattle.journal_defs.specs.Growth.{with_record, IsBefore}
 use Rattle.journal_laws.proofs.Runs as runs
 use Rattle.journal_laws.proofs.Targets as targets
@@ -43,7 +42,7 @@ other_instance instance x t journal spare = ap (λ (o : Option Chosen). unwrap_o
 
 -- what soundness says of a chosen epoch
 abbrev SoundBy : (Sequence → Globals) → Sequence → List Placed → Blocks → Chosen → Type 0
-SoundBy of seq journal database e = IsSome (first_without journal e) ⊎ Decodes (image_state e database) (of (take e.number seq))
+SoundBy of seq journal database e = IsSome (first_without journal e) ⊎ Restores (image_state e database) (of (take e.number seq))
 
 pub sound_instance : (of : Sequence → Globals) (instance : List InstanceRecord) (x : InstanceRecord) (seq : Sequence) (journal : List Placed) (database : Blocks)
     → ((g m : ℕ) → spares g m x ≡ true) → IsSoundRegion of instance seq journal database → IsSoundRegion of (instance ++ x ∷ []) seq journal database

@@ -1,5 +1,7 @@
 -- Disks before any entry.
-use Rattle.std.proofs.Common.{◌≡◌, ◌≢◌, inr, ℕ, zero, suc, ◌==◌, Bool, true, false, List, [], ◌∷◌, length, map, replicate, Some, None, refl, sym, ◌∙◌, ap, arith, if◌then◌else◌}
+use Rattle.std.proofs.Common.{◌≡◌, ◌≢◌, inr, ℕ, zero, suc, ◌==◌, nat_lt, Bool, true, false, List, [], ◌∷◌, length, map, replicate, Option, Some, None, unwrap_or, refl, sym, ◌∙◌, ap, arith, if◌then◌else◌}
+use Rattle.std.proofs.lemmas.Bool.Decides.{nat_tests}
+use Rattle.std.proofs.lemmas.List.{length-replicate}
 use Rattle.std.specs.FinMap as globals
 use Rattle.disk_defs.specs.Disk.{Files}
 use Rattle.disk_defs.specs.Gates.{Body, records}
@@ -12,8 +14,8 @@ use Rattle.journal_defs.specs.Instance.{InstanceRecord, Create, NamedMode, IsIns
 use Rattle.journal_defs.specs.Directory.{patterns, region_of}
 use Rattle.journal_defs.specs.Sequence.{Records}
 use Rattle.journal_defs.specs.Epochs.{Blocks, beginning, image_state, block_of}
-use Rattle.journal_defs.specs.Leaves.{cells_of, Decodes}
-use Rattle.journal_defs.specs.Sound.{region_state}
+use Rattle.journal_defs.specs.Leaves.{cells_of}
+use Rattle.journal_defs.specs.Sound.{AreWhole, Restores, region_state}
 use Rattle.journal_defs.specs.Fit.{HasFewNodes, SerialsRise, IsFitImage}
 
 -- no record but those of the instance file
@@ -70,12 +72,27 @@ no_elements (x ∷ xs) none = absurd (omega arith)
 no_cells : (g : Globals) → globals.len g ≡ 0 → [] ≡ cells_of g
 no_cells g none = ap (λ (es : List (Key × List ℕ)). map (λ e. (encoded e.0, e.1)) es) (no_elements (globals.entries g) (sym (globals.len-entries g) ∙ none))
 
-empty_leaf : (blocks : Blocks) (g : Globals) → globals.len g ≡ 0 → Decodes (image_state (beginning []) blocks) g
+-- block 0 alone, and it's whole
+one_block : (blocks : Blocks) → AreWhole (image_state (beginning []) blocks)
+one_block blocks zero bytes is = ap length (ap (λ (o : Option (List ℕ)). unwrap_or o bytes) (sym is)) ∙ length-replicate {A = ℕ} 4096 0
+one_block blocks (suc b) bytes is =
+    let past : nat_lt (suc b) 0 ≡ false = grind (arith, nat_tests) in
+    let other : (suc b == 0) ≡ false = grind (arith, nat_tests) in
+    let none : image_state (beginning []) blocks (suc b) ≡ None =
+    ap (λ (x : Bool). if x then Some (blocks (suc b)) else if suc b == 0 then Some (replicate 4096 0) else None) past
+    ∙ ap (λ (x : Bool). if x then Some (replicate 4096 0) else None) other in
+    let gone : None ≡ Some bytes = sym none ∙ is in
+    cc
+
+empty_leaf : (blocks : Blocks) (g : Globals) → globals.len g ≡ 0 → Restores (image_state (beginning []) blocks) g
 empty_leaf blocks g none = (
-  record { next = 0; cells = [] } ∷ [],
-  ((replicate 4096 0, refl, record { form = record { next = omega arith; fits = omega arith; cells = tt; rising = tt }; spelled = refl }), refl),
-  tt,
-  no_cells g none,
+  one_block blocks,
+  (
+    record { next = 0; cells = [] } ∷ [],
+    ((replicate 4096 0, refl, record { form = record { next = omega arith; fits = omega arith; cells = tt; rising = tt }; spelled = refl }), refl),
+    tt,
+    no_cells g none,
+  ),
 )
 
 pub created_is_fit : (files : Files) (name : List ℕ) (named : List NamedMode) (body : Body) → IsInstanceBody body (Create name named)

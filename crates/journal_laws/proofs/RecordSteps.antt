@@ -14,8 +14,7 @@ use Rattle.journal_defs.specs.Surviving.{survives, spares}
 use Rattle.journal_defs.specs.Sequence.{Placed, Records, parts, part_in, part_of, IsSequence}
 use Rattle.journal_defs.specs.Epochs.{chosen, image_state, block_of, NeedsForward}
 use Rattle.journal_defs.specs.Undo.{MayAppend, fresh}
-use Rattle.journal_defs.specs.Leaves.{Decodes}
-use Rattle.journal_defs.specs.Sound.{region_state, IsSoundRegion, BlocksGrow}
+use Rattle.journal_defs.specs.Sound.{Restores, region_state, IsSoundRegion, BlocksGrow}
 use Rattle.journal_defs.specs.Stands.{AreRecords}
 use Rattle.journal_defs.specs.Clean.{AreClean}
 use Rattle.journal_defs.specs.Growth.{with_record, with_journal, IsBefore, NonePast}
@@ -66,12 +65,12 @@ cut old new s seq t g image some low before held clean databases = record {
 -- a record in the instance file that leaves each number and each name
 pub instance_record : (old new : Files) (s : Records) (seq : Sequence) (x : InstanceRecord) → IsSoundImage old s seq → 1 ≤ length (regions s.instance)
     → ((g m : ℕ) → spares g m x ≡ true) → pattern_in x ≡ None → IsSequence (with_record s x) seq
-    → AreRecords new (with_record s x) → ((m : ℕ) → AreClean new (with_record s x) m)
+    → AreRecords new (with_record s x) → AreClean new (with_record s x) (length seq)
     → ((r : ℕ) → r < length (regions s.instance) → new (database_file r) ≡ old (database_file r)) → IsSoundImage new (with_record s x) seq
 instance_record old new s seq x image some spare no_name is held clean databases = record {
   held = held;
   sequence = is;
-  clean = clean (length seq);
+  clean = clean;
   sound = λ u high r here.
       let there : r < length (regions s.instance) = subst (λ (l : List NamedMode). r < length l) (naming.same_regions s.instance x some) here in
       region r there u high;
@@ -96,7 +95,7 @@ pub reign : (old new : Files) (s : Records) (seq : Sequence) (x : Reign) → IsS
     → AreRecords new (with_record s (Reigned x)) → ((m : ℕ) → AreClean new (with_record s (Reigned x)) m)
     → ((r : ℕ) → r < length (regions s.instance) → new (database_file r) ≡ old (database_file r)) → IsSoundImage new (with_record s (Reigned x)) seq
 reign old new s seq x image some none late held clean databases =
-    instance_record old new s seq (Reigned x) image some (λ g m. refl) refl (runs.reign s seq x image.sequence none late) held clean databases
+    instance_record old new s seq (Reigned x) image some (λ g m. refl) refl (runs.reign s seq x image.sequence none late) held (clean (length seq)) databases
 
 -- one region's journal is longer, the others' are as they were
 here_more : (s : Records) (r : ℕ) (ps : List Placed) → (with_journal s r ps).journal r ≡ s.journal r ++ ps
@@ -163,7 +162,7 @@ journal_record old new s seq r p image here none home may held clean databases =
 -- an EPOCH, once all blocks stand on the file
 pub epoch : (old new : Files) (s : Records) (seq : Sequence) (r g : ℕ) (m : Mark) → IsSoundImage old s seq → r < length (regions s.instance)
     → m.number ≡ length seq → survives s.instance g m.number ≡ true
-    → Decodes (image_state (fresh m) (block_of (old (database_file r)))) (region_state (patterns s.instance) r seq)
+    → Restores (image_state (fresh m) (block_of (old (database_file r)))) (region_state (patterns s.instance) r seq)
     → NeedsForward s.instance (length seq) (s.journal r) ⊎ ((chosen s.instance (length seq) (s.journal r)).blocks ≤ m.blocks)
     → AreRecords new (with_journal s r (record { generation = g; what = Epoch m } ∷ [])) → ((n : ℕ) → AreClean new (with_journal s r (record { generation = g; what = Epoch m } ∷ [])) n)
     → ((q : ℕ) → q < length (regions s.instance) → new (database_file q) ≡ old (database_file q)) → IsSoundImage new (with_journal s r (record { generation = g; what = Epoch m } ∷ [])) seq

@@ -9,8 +9,7 @@ ghost use Rattle.journal_defs.specs.Surviving.{survives, spares};
 ghost use Rattle.journal_defs.specs.Sequence.{Placed};
 ghost use Rattle.journal_defs.specs.Epochs.{chosen, image_state, NeedsForward, Blocks};
 ghost use Rattle.journal_defs.specs.Undo.{SameBut, MayWrite, MayAppend, fresh};
-ghost use Rattle.journal_defs.specs.Leaves.{Decodes};
-ghost use Rattle.journal_defs.specs.Sound.{IsSoundRegion, BlocksGrow, NoEpochPast};
+ghost use Rattle.journal_defs.specs.Sound.{Restores, IsSoundRegion, BlocksGrow, NoEpochPast};
 
 /// A call that meets the conditions of the epoch chosen for the whole length keeps the region sound for every target.
 pub fn soundness_holds()
@@ -24,7 +23,7 @@ pub fn soundness_holds()
         → IsSoundRegion of instance seq (journal ++ p ∷ []) database }
     ensures epoch_appended { (of : Sequence → Globals) (instance : List InstanceRecord) (seq : Sequence) (journal : List Placed) (database : Blocks) (g : ℕ) (m : Mark)
         → IsSoundRegion of instance seq journal database → m.number ≡ length seq → survives instance g m.number ≡ true
-        → Decodes (image_state (fresh m) database) (of seq)
+        → Restores (image_state (fresh m) database) (of seq)
         → IsSoundRegion of instance seq (journal ++ record { generation = g; what = Epoch m } ∷ []) database }
     ensures cut { (of : Sequence → Globals) (instance : List InstanceRecord) (seq : Sequence) (journal : List Placed) (database : Blocks) (t g : ℕ)
         → IsSoundRegion of instance seq journal database → t ≤ length seq

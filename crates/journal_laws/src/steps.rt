@@ -16,8 +16,7 @@ ghost use Rattle.journal_defs.specs.Surviving.{survives, spares};
 ghost use Rattle.journal_defs.specs.Sequence.{Placed, Records, part_in, IsSequence};
 ghost use Rattle.journal_defs.specs.Epochs.{chosen, image_state, block_of, NeedsForward};
 ghost use Rattle.journal_defs.specs.Undo.{SameBut, MayWrite, MayAppend, fresh};
-ghost use Rattle.journal_defs.specs.Leaves.{Decodes};
-ghost use Rattle.journal_defs.specs.Sound.{region_state, NoEpochPast};
+ghost use Rattle.journal_defs.specs.Sound.{Restores, region_state, NoEpochPast};
 ghost use Rattle.journal_defs.specs.Stands.{AreRecords};
 ghost use Rattle.journal_defs.specs.Clean.{AreClean};
 ghost use Rattle.journal_defs.specs.Growth.{with_record, with_journal, with_more, appended, AreEntries, IsBefore, NonePast};
@@ -44,7 +43,7 @@ pub fn image_keeps_its_sequence()
     // an EPOCH of the length, where the file's blocks decode to the region's part of the state
     ensures epoch { (old new : Files) (s : Records) (seq : Sequence) (r g : ℕ) (m : Mark) → IsSoundImage old s seq → r < length (regions s.instance)
         → m.number ≡ length seq → survives s.instance g m.number ≡ true
-        → Decodes (image_state (fresh m) (block_of (old (database_file r)))) (region_state (patterns s.instance) r seq)
+        → Restores (image_state (fresh m) (block_of (old (database_file r)))) (region_state (patterns s.instance) r seq)
         → NeedsForward s.instance (length seq) (s.journal r) ⊎ ((chosen s.instance (length seq) (s.journal r)).blocks ≤ m.blocks)
         → AreRecords new (with_journal s r (record { generation = g; what = Epoch m } ∷ []))
         → ((n : ℕ) → AreClean new (with_journal s r (record { generation = g; what = Epoch m } ∷ [])) n)
@@ -57,7 +56,7 @@ pub fn image_keeps_its_sequence()
     // a MODE, too
     ensures instance_record { (old new : Files) (s : Records) (seq : Sequence) (x : InstanceRecord) → IsSoundImage old s seq
         → 1 ≤ length (regions s.instance) → ((g m : ℕ) → spares g m x ≡ true) → pattern_in x ≡ None → IsSequence (with_record s x) seq
-        → AreRecords new (with_record s x) → ((m : ℕ) → AreClean new (with_record s x) m)
+        → AreRecords new (with_record s x) → AreClean new (with_record s x) (length seq)
         → ((r : ℕ) → r < length (regions s.instance) → new (database_file r) ≡ old (database_file r)) → IsSoundImage new (with_record s x) seq }
 {}
 
