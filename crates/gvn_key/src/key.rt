@@ -26,6 +26,9 @@ const MOST_SUBS: usize = 31;
 /// How many bytes an encoded key may have.
 const LONGEST_KEY: usize = 255;
 
+/// Room for the subscripts of most keys.
+const SHORT_KEY: usize = 48;
+
 /// Why a name and subscripts, or a text, are no key: the first fault from the left.
 #[derive(Clone, Copy, Debug, PartialEq, Eq, Error)]
 pub enum KeyError {
@@ -139,7 +142,8 @@ fn parts_fault(name: &[u8], subs: &[Bytes]) -> Option<KeyError>
 fn encode(alloc: Global, name: &[u8], subs: &[Bytes]) -> Result<Bytes, NoMemory>
     ensures { IfOk result (λ code. code ≡ encoded (key_of name.now subs.now)) }
 {
-    let mut code = Bytes::of(alloc, name)?;
+    let mut code = Bytes::with_capacity(alloc, name.len() + SHORT_KEY)?;
+    code.push_all(name)?;
     code.push(0)?;
     push_subs(alloc, subs, &mut code)?;
     Ok(code)
@@ -160,15 +164,21 @@ impl Key {
     pub fn new(alloc: Global, name: &[u8], subs: &[Bytes]) -> Result<Self, KeyError>
         ensures { MakesKey name.now subs.now result }
     {
-        if let Some(fault) = parts_fault(name, subs) {
+        Key::from_parts(alloc, name, copy_all(alloc, subs)?)
+    }
+
+    /// The key of a name and subscripts that it keeps, or the first fault from the left.
+    pub(crate) fn from_parts(alloc: Global, name: &[u8], subs: Vec<Bytes>) -> Result<Self, KeyError>
+        ensures { MakesKey name.now subs.items result }
+    {
+        if let Some(fault) = parts_fault(name, &subs) {
             return Err(fault);
         }
-        let code = encode(alloc, name, subs)?;
+        let code = encode(alloc, name, &subs)?;
         if LONGEST_KEY < code.len() {
             return Err(KeyError::KeyTooLong);
         }
         let name = Bytes::of(alloc, name)?;
-        let subs = copy_all(alloc, subs)?;
         Ok(Key::made(alloc, Parts { name, subs, code })?)
     }
 
