@@ -8,8 +8,6 @@ mod attach;
 mod error;
 mod gated;
 mod read;
-#[cfg(test)]
-mod tests;
 
 pub use attach::{see_gates, sync_file};
 pub use error::GateError;

@@ -8,8 +8,6 @@ mod directory;
 mod error;
 mod forms;
 mod pattern;
-#[cfg(test)]
-mod tests;
 
 pub use directory::Directory;
 pub use error::DirError;

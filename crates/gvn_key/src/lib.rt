@@ -3,8 +3,6 @@
 
 mod bytes;
 mod decode;
-#[cfg(test)]
-mod decode_tests;
 mod encoding;
 mod integer;
 mod key;
@@ -13,8 +11,6 @@ mod order;
 mod parse;
 mod reader;
 pub mod terms;
-#[cfg(test)]
-mod tests;
 mod zwr;
 
 pub use bytes::{Bytes, NoMemory};

@@ -4,5 +4,3 @@ pub mod Items
 pub mod Numbered
 pub mod Jobs
 pub mod Queues
-pub mod Steps
-pub mod Codes

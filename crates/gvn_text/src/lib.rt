@@ -5,8 +5,6 @@ mod fault;
 mod levels;
 mod parts;
 mod read;
-#[cfg(test)]
-mod tests;
 mod values;
 mod write;
 

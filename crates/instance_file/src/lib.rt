@@ -15,8 +15,6 @@ mod log;
 mod reading;
 mod record;
 mod records;
-#[cfg(test)]
-mod tests;
 mod walking;
 mod writing;
 

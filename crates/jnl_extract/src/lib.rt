@@ -8,11 +8,7 @@ mod line;
 mod lines;
 mod node;
 mod reading;
-#[cfg(test)]
-mod reading_tests;
 mod stage;
-#[cfg(test)]
-mod tests;
 mod update;
 
 ghost use Rattle.std.specs.Prelude.{◌≡◌, ◌++◌, OnOk, OnErr};

@@ -11,8 +11,6 @@ mod generations;
 mod journal;
 pub mod laws;
 mod reading;
-#[cfg(test)]
-mod tests;
 
 pub use error::{GenerationsError, JournalError};
 pub use generations::{Generations, is_unbegun, read_generations};

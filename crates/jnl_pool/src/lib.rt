@@ -5,8 +5,6 @@
 pub mod answer;
 pub mod pool;
 pub mod reader;
-#[cfg(test)]
-mod tests;
 pub mod writer;
 
 pub use answer::ReadAnswer;

@@ -7,8 +7,6 @@ mod parts;
 mod placed;
 mod reading;
 mod record;
-#[cfg(test)]
-mod tests;
 mod writing;
 
 pub use placed::PlacedRecord;

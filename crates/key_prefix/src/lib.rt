@@ -6,8 +6,6 @@ mod lengths;
 mod numeral;
 mod place;
 mod prefix;
-#[cfg(test)]
-mod tests;
 
 pub use lengths::keys_have_each_length;
 pub use prefix::KeyPrefix;

@@ -13,8 +13,6 @@ mod slots;
 mod stamps;
 mod surviving;
 mod table;
-#[cfg(test)]
-mod tests;
 
 pub use broken::write_broken;
 pub use recovering::recover;

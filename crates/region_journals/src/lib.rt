@@ -10,7 +10,5 @@ mod hardening;
 mod journals;
 pub mod laws;
 mod preparing;
-#[cfg(test)]
-mod tests;
 
 pub use journals::{RegionJournal, RegionJournals};

@@ -7,8 +7,6 @@ mod disk;
 mod file;
 mod memdisk;
 mod table;
-#[cfg(test)]
-mod tests;
 
 pub use disk::{Disk, Failed, NoMemory};
 pub use memdisk::MemDisk;

@@ -3,8 +3,6 @@
 
 mod numbers;
 mod pieces;
-#[cfg(test)]
-mod tests;
 mod updates;
 
 pub use numbers::{read_u8, read_u16, read_u32, read_u64};

@@ -7,8 +7,6 @@
 mod memory;
 mod standard;
 mod stream;
-#[cfg(test)]
-mod tests;
 
 pub use memory::{MemSink, MemSource};
 pub use standard::{StdSink, StdSource};

@@ -9,8 +9,6 @@ mod limits;
 mod linker;
 mod mem_rx;
 mod mem_tx;
-#[cfg(test)]
-mod tests;
 mod traits;
 
 pub use items::{Item, Line};

@@ -10,8 +10,6 @@ mod parts;
 mod regions;
 mod script;
 mod section;
-#[cfg(test)]
-mod tests;
 
 pub use command::Command;
 pub use error::ScriptError;

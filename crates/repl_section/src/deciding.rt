@@ -18,8 +18,9 @@ use crate::error::DecideError;
 use crate::fitting::all_fit;
 use crate::reign::Reign;
 use crate::replying::write_reply;
+use gvn_eval::eval;
 use gvn_key::{Bytes, NoMemory};
-use gvn_model::{Answers, Cause, Evaluated, Job, Origin, Reply, Transaction, Updates, eval};
+use gvn_model::{Answers, Cause, Evaluated, Job, Origin, Reply, Transaction, Updates};
 use repl_disk::Disk;
 use std::alloc::Global;
 

@@ -11,8 +11,6 @@ mod fitting;
 mod reign;
 mod replying;
 mod running;
-#[cfg(test)]
-mod tests;
 
 pub use reign::Reign;
 pub use running::RunError;

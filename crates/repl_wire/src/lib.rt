@@ -11,8 +11,6 @@ mod laws;
 mod reading;
 mod run;
 mod scan;
-#[cfg(test)]
-mod tests;
 mod writing;
 
 pub use frame::{Frame, FrameError, FrameList};

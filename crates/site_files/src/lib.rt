@@ -13,8 +13,6 @@ mod laws;
 mod mapping;
 mod reading;
 mod remembering;
-#[cfg(test)]
-mod tests;
 
 pub use drawing::{Drawn, draw};
 pub use error::FilesError;

@@ -9,8 +9,9 @@ ghost use Rattle.journal_defs.specs.Sequence.{IsSequence};
 ghost use Rattle.mupip_recover.specs.Site.{site_records};
 ghost use Rattle.gvn_model.specs.Numbered.{numbered};
 
+use gvn_globals::Globals;
 use gvn_key::{Bytes, NoMemory};
-use gvn_model::{Entry, Globals, Updates};
+use gvn_model::{Entry, Updates};
 use instance_file::InstanceLog;
 use jnl_record::PlacedRecord;
 use mupip_recover::{recover, write_broken};

@@ -3,8 +3,8 @@ ghost use Rattle.std.specs.Prelude.{◌≡◌, ◌⊎◌, ◌≤◌, ℕ, length
 ghost use Rattle.site_store.specs.Site.{HasRoomFor};
 
 use crate::error::SiteError;
-use gvn_globals::Overlay;
-use gvn_model::{Globals, Updates};
+use gvn_globals::{Globals, Overlay};
+use gvn_model::Updates;
 use std::alloc::Global;
 
 /// How many nodes may stand.

@@ -23,8 +23,6 @@ mod reading;
 mod reigning;
 mod showing;
 mod site;
-#[cfg(test)]
-mod tests;
 
 pub use creating::{create, inspect};
 pub use error::SiteError;

@@ -34,8 +34,9 @@ use crate::layout::{Layout, RegionSpec};
 use crate::opening::load;
 use crate::reading::read_file;
 use crate::site::OpenSite;
+use gvn_globals::Lookup;
 use gvn_key::{Bytes, Key, NoMemory};
-use gvn_model::{History, Lookup, Stamp, Transaction};
+use gvn_model::{History, Stamp, Transaction};
 use repl_disk::Disk;
 use std::alloc::Global;
 

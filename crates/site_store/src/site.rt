@@ -3,7 +3,8 @@ ghost use Rattle.std.specs.Prelude.{◌≡◌, length};
 ghost use Rattle.journal_defs.specs.Surviving.{reigns};
 
 use crate::layout::Layout;
-use gvn_model::{Entry, Globals, Reigns, Stamp};
+use gvn_globals::Globals;
+use gvn_model::{Entry, Reigns, Stamp};
 use instance_file::Instance;
 use region_journals::RegionJournals;
 

@@ -4,8 +4,6 @@
 mod lists;
 mod parts;
 mod records;
-#[cfg(test)]
-mod tests;
 mod updates;
 
 pub use parts::{Part, Parts, split_regions};

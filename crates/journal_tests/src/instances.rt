@@ -1,0 +1,164 @@
+//! Worked bytes of instance files, taken up and made, and crashes of one.
+ghost use Rattle.std.specs.Prelude.{◌≡◌, [], ◌∷◌, Some, IfSome, IfOk, true};
+ghost use Rattle.disk_defs.specs.Gates.{records};
+ghost use Rattle.journal_defs.specs.Instance as defs;
+ghost use Rattle.journal_defs.specs.Numbers.{INSTANCE};
+ghost use Rattle.instance_file.specs.Instance.{IsReady};
+
+use gvn_key::Bytes;
+use gvn_model::{Reign, Stamp};
+use instance_file::{Instance, InstanceError};
+use repl_disk::{Disk, MemDisk};
+use std::alloc::Global;
+use std::test::Fail;
+
+/// CREATE of A with region R, BEFORE, behind its open gate.
+const CREATE: &[u8] = b"\x01\0\0\0\x08\x01\x01\x01A\x01\x01R\x01";
+
+/// CUT to 0 entries with generation 1, behind its open gate.
+const CUT: &[u8] = b"\x01\0\0\0\x0d\x03\0\0\0\0\0\0\0\0\0\0\0\x01";
+
+/// CUT to 0 entries with generation 2.
+const LATER_CUT: &[u8] = b"\x01\0\0\0\x0d\x03\0\0\0\0\0\0\0\0\0\0\0\x02";
+
+/// REIGN of A.1 from 1, behind its open gate.
+const REIGN: &[u8] = b"\x01\0\0\0\x0f\x02\x01A\0\0\0\x01\0\0\0\0\0\0\0\x01";
+
+/// Writes these bytes at the start of the instance file.
+fn write_bytes<D: Disk>(disk: &mut D, bytes: &[u8]) -> Result<(), Fail> {
+    disk.room(0, 1, bytes.len() as u64)?;
+    disk.write_at(0, 0, bytes)?;
+    Ok(())
+}
+
+/// What a file of these pieces and a closed gate is taken up as: how many records, how many surviving reigns and the next
+/// cycle, or the place of what is outside the format.
+fn read(alloc: Global, pieces: &[&[u8]]) -> Result<Result<(usize, usize, Option<u32>), u64>, Fail> {
+    let mut file = Bytes::new(alloc);
+    for piece in pieces {
+        file.push_all(piece)?;
+    }
+    file.push(0)?;
+    let mut disk = MemDisk::new(alloc)?;
+    write_bytes(&mut disk, file.as_slice())?;
+    match Instance::attach(alloc, &mut disk) {
+        Ok(site) => Ok(Ok((
+            site.records().len(),
+            site.history().len(),
+            site.draw_cycle(),
+        ))),
+        Err(InstanceError::NotARecord { offset }) => Ok(Err(offset)),
+        Err(_) => Err("no answer")?,
+    }
+}
+
+#[test]
+fn files_of_the_format(rt: HostRuntime) -> Result<(), Fail> {
+    let alloc = rt.alloc();
+    assert_eq!(rt; read(alloc, &[])?, Ok((0, 0, Some(1))));
+    assert_eq!(rt; read(alloc, &[CREATE])?, Ok((1, 0, Some(1))));
+    assert_eq!(rt; read(alloc, &[CREATE, CUT, REIGN])?, Ok((3, 1, Some(2))));
+    assert_eq!(rt;
+        read(alloc, &[CREATE, REIGN, CUT, REIGN])?,
+        Ok((4, 1, Some(2)))
+    );
+    Ok(())
+}
+
+#[test]
+fn files_outside_the_format(rt: HostRuntime) -> Result<(), Fail> {
+    let alloc = rt.alloc();
+    let version_2 = b"\x01\0\0\0\x08\x01\x02\x01A\x01\x01R\x01";
+    let mode_2 = b"\x01\0\0\0\x08\x01\x01\x01A\x01\x01R\x02";
+    assert_eq!(rt; read(alloc, &[version_2])?, Err(0));
+    assert_eq!(rt; read(alloc, &[mode_2])?, Err(0));
+    assert_eq!(rt; read(alloc, &[CUT])?, Err(0));
+    assert_eq!(rt; read(alloc, &[CREATE, CREATE])?, Err(13));
+    assert_eq!(rt; read(alloc, &[CREATE, CUT, CUT])?, Err(31));
+    assert_eq!(rt;
+        read(alloc, &[CREATE, REIGN, REIGN, CUT, LATER_CUT])?,
+        Ok((5, 0, Some(2)))
+    );
+    assert_eq!(rt; read(alloc, &[CREATE, REIGN, REIGN])?, Err(33));
+    Ok(())
+}
+
+/// MAP of the names that begin with AB to region 0, behind its open gate.
+const MAP: &[u8] = b"\x01\0\0\0\x06\x04\0\x01\x02AB";
+
+/// So many calls of a disk put four records on it.
+const ALL: u64 = 20;
+
+/// The instance file of A, new, with one region R whose blocks are kept as they were.
+fn make<D: Disk>(alloc: Global, disk: &mut D) -> Result<Instance, InstanceError>
+    requires { IfSome (D.disk disk.old).content (λ files. records (files INSTANCE) ≡ Some []) }
+    ensures ready { IfOk result (λ made. IsReady (D.disk disk.new) made) }
+    ensures records { IfOk result (λ made. made.records ≡ defs.Create (65 ∷ []) (record { name = 82 ∷ []; before = true } ∷ []) ∷ []) }
+{
+    let name = Bytes::of(alloc, b"A")?;
+    let regions = [(Bytes::of(alloc, b"R")?, true)];
+    Instance::create(alloc, disk, &name, &regions)
+}
+
+/// Makes the file and appends a REIGN, a CUT that drops it and a MAP. So many calls succeed, and `done` counts the records that
+/// were put on the disk.
+fn write_records<D: Disk>(
+    alloc: Global,
+    disk: &mut D,
+    calls: u64,
+    done: &mut usize,
+) -> Result<(), InstanceError>
+    requires { IfSome (D.disk disk.old).content (λ files. records (files INSTANCE) ≡ Some []) }
+{
+    disk.fuse(calls);
+    let mut site = make(alloc, disk)?;
+    *done = 1;
+    let stamp = Stamp {
+        root: Bytes::of(alloc, b"A")?,
+        cycle: 1,
+    };
+    site.reign(disk, &Reign { stamp, start: 1 })?;
+    *done = 2;
+    site.cut(disk, 0, 1)?;
+    *done = 3;
+    site.map(disk, 0, b"AB*")?;
+    *done = 4;
+    Ok(())
+}
+
+/// Whether the instance file has the bytes of the four records and a closed gate.
+fn has_all<D: Disk>(alloc: Global, disk: &mut D) -> Result<bool, Fail> {
+    let mut file = Bytes::new(alloc);
+    for piece in [CREATE, REIGN, CUT, MAP] {
+        file.push_all(piece)?;
+    }
+    file.push(0)?;
+    if disk.len(0)? != 63 {
+        return Ok(false);
+    }
+    let mut read = [0; 63];
+    disk.read_at(0, 0, &mut read)?;
+    Ok(read.as_slice() == file.as_slice())
+}
+
+/// Whatever call fails and whatever image a crash takes, the file has the records that were put on the disk, and at most one more.
+#[test]
+fn crashes_at_each_call(rt: HostRuntime) -> Result<(), Fail> {
+    let alloc = rt.alloc();
+    for pick in 0..3u64 {
+        for calls in 0..ALL + 1 {
+            let mut disk = MemDisk::new(alloc)?;
+            let mut done = 0;
+            let written = write_records(alloc, &mut disk, calls, &mut done).is_ok();
+            assert_eq!(rt; written, calls == ALL, "calls {calls}");
+            disk.crash(pick);
+            assert!(rt; !written || has_all(alloc, &mut disk)?);
+            let left = Instance::attach(alloc, &mut disk)?.records().len();
+            assert!(rt;
+                left >= done && left - done <= 1,
+                "pick {pick}, calls {calls}"
+            );
+        }
+    }
+    Ok(())
+}

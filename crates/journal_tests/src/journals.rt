@@ -1,0 +1,267 @@
+//! Worked bytes of a journal, crashes of one, and generations of a region.
+ghost use Rattle.std.specs.Prelude.{◌≡◌, ◌≤◌, ◌<◌, ◌^◌, [], Some, IfSome, IfOk, OnOk};
+ghost use Rattle.disk_defs.specs.Gates.{records};
+ghost use Rattle.jnl_file.specs.Journal.{IsReady};
+
+use jnl_file::{
+    GenerationsError, Journal, JournalError, is_unbegun, journal_file, read_generations,
+};
+use jnl_record::JnlRecord;
+use repl_disk::{Disk, MemDisk};
+use std::alloc::Global;
+use std::test::Fail;
+
+/// A journal of region 0 and generation 1, BEFORE, none before it: PINI behind its gate, and the closed gate.
+const FILE: [u8; 18] = [1, 0, 0, 0, 12, 1, 1, 0, 1, 0, 0, 0, 1, 0, 0, 0, 0, 0];
+
+/// So many calls of a disk make a journal, and so many make it and append three epochs.
+const MAKING: u64 = 8;
+
+const ALL: u64 = 16;
+
+/// The journal of region 0 and generation 1, new.
+fn make<D: Disk>(alloc: Global, disk: &mut D) -> Result<Journal, JournalError>
+    requires { IfSome (D.disk disk.old).content (λ files. records (files 24) ≡ Some []) }
+    ensures { IfOk result (λ made. IsReady (D.disk disk.new) made) }
+{
+    Journal::create(alloc, disk, 0, true, 1, 0)
+}
+
+/// Appends an epoch of so many entries.
+fn append_epoch<D: Disk>(
+    journal: &mut Journal,
+    disk: &mut D,
+    number: u64,
+) -> Result<(), JournalError>
+    requires ready { IsReady (D.disk disk.old) journal.old }
+    requires number { number < 2 ^ 40 }
+    ensures ready { OnOk result (IsReady (D.disk disk.new) journal.new) }
+    ensures syncs { OnOk result (2 ≤ journal.new.gated.syncs_left) }
+{
+    let epoch = JnlRecord::Epoch {
+        closing: false,
+        number,
+        blocks: 1,
+    };
+    journal.prepare(disk, &epoch)?;
+    journal.append(disk)
+}
+
+/// Makes the journal and appends three epochs under one hardening. So many calls succeed.
+fn write_epochs<D: Disk>(alloc: Global, disk: &mut D, calls: u64) -> Result<(), JournalError>
+    requires { IfSome (D.disk disk.old).content (λ files. records (files 24) ≡ Some []) }
+{
+    disk.fuse(calls);
+    let mut journal = make(alloc, disk)?;
+    append_epoch(&mut journal, disk, 1)?;
+    append_epoch(&mut journal, disk, 2)?;
+    append_epoch(&mut journal, disk, 3)?;
+    journal.harden(disk)
+}
+
+/// Makes the journal, appends an epoch, and takes so many of the three steps of hardening it. Answers whether it waits behind a
+/// closed gate.
+fn take_steps<D: Disk>(alloc: Global, disk: &mut D, steps: u64) -> Result<bool, JournalError>
+    requires { IfSome (D.disk disk.old).content (λ files. records (files 24) ≡ Some []) }
+{
+    let mut journal = make(alloc, disk)?;
+    append_epoch(&mut journal, disk, 1)?;
+    if steps == 0 {
+        return Ok(journal.has_closed());
+    }
+    journal.sync(disk)?;
+    if steps == 1 {
+        return Ok(journal.has_closed());
+    }
+    journal.open_gates(disk)?;
+    if steps == 2 {
+        return Ok(journal.has_closed());
+    }
+    journal.sync(disk)?;
+    Ok(journal.has_closed())
+}
+
+/// Whether the journal's file has these bytes.
+fn has<D: Disk>(disk: &mut D, bytes: &[u8; 18]) -> Result<bool, Fail> {
+    let file = journal_file(0, 1);
+    if disk.len(file)? != 18 {
+        return Ok(false);
+    }
+    let mut buf = [0; 18];
+    disk.read_at(file, 0, &mut buf)?;
+    Ok(&buf == bytes)
+}
+
+/// Whether a record is PINI at place 0 of the list, and elsewhere the epoch that was appended there.
+fn is_at(record: &JnlRecord, place: u64) -> bool {
+    match record {
+        JnlRecord::Pini { .. } => place == 0,
+        JnlRecord::Epoch { number, .. } => *number == place,
+        _ => false,
+    }
+}
+
+/// How many records the journal has, or `None` where they aren't the first few of those that were written.
+fn count<D: Disk>(alloc: Global, disk: &mut D) -> Result<Option<u64>, JournalError> {
+    let mut journal = Journal::attach(alloc, disk, 0, 1)?;
+    let mut at = 0;
+    for place in 0..5 {
+        let Some((record, next)) = journal.next_record(disk, at)? else {
+            return Ok(Some(place));
+        };
+        if !is_at(&record, place) {
+            return Ok(None);
+        }
+        at = next;
+    }
+    Ok(None)
+}
+
+#[test]
+fn a_new_journal_as_it_stands(rt: HostRuntime) -> Result<(), Fail> {
+    let alloc = rt.alloc();
+    let mut disk = MemDisk::new(alloc)?;
+    let mut journal = make(alloc, &mut disk)?;
+    assert!(rt; has(&mut disk, &FILE)?);
+    let Some((record, next)) = journal.next_record(&mut disk, 0)? else {
+        return Err("no record")?;
+    };
+    assert!(rt; is_at(&record, 0));
+    assert_eq!(rt; next, 17);
+    assert!(rt; journal.next_record(&mut disk, next)?.is_none());
+    Ok(())
+}
+
+/// Whatever call fails and whatever image a crash takes, the journal has the hardened records and the first few of the rest.
+#[test]
+fn crashes_at_each_call(rt: HostRuntime) -> Result<(), Fail> {
+    let alloc = rt.alloc();
+    for pick in 0..3u64 {
+        for calls in 0..ALL + 1 {
+            let mut disk = MemDisk::new(alloc)?;
+            let done = write_epochs(alloc, &mut disk, calls).is_ok();
+            assert_eq!(rt; done, calls == ALL);
+            disk.crash(pick);
+            let left = count(alloc, &mut disk)?.ok_or("other records")?;
+            assert!(rt; done && left == 4 || !done && left <= 4);
+            assert!(rt; calls < MAKING || left >= 1, "pick {pick}, calls {calls}");
+        }
+    }
+    Ok(())
+}
+
+/// A crash between two steps of hardening leaves a record out while its gate is closed, and has it once its gate is synced.
+#[test]
+fn crashes_between_steps(rt: HostRuntime) -> Result<(), Fail> {
+    let alloc = rt.alloc();
+    for pick in 0..3u64 {
+        for steps in 0..4u64 {
+            let mut disk = MemDisk::new(alloc)?;
+            let waits = take_steps(alloc, &mut disk, steps)?;
+            assert_eq!(rt; waits, steps < 2);
+            disk.crash(pick);
+            let left = count(alloc, &mut disk)?.ok_or("other records")?;
+            assert!(rt;
+                left == 1 && steps < 3 || left == 2 && steps >= 2,
+                "pick {pick}, steps {steps}"
+            );
+        }
+    }
+    Ok(())
+}
+
+/// So many calls of a disk read two journals of one record each.
+const READING: u64 = 14;
+
+/// Generation 1 of region 0 as `FILE`, with an epoch of 5 entries and a block behind its PINI.
+const WITH_EPOCH: [u8; 37] = [
+    1, 0, 0, 0, 12, 1, 1, 0, 1, 0, 0, 0, 1, 0, 0, 0, 0, 1, 0, 0, 0, 14, 2, 0, 0, 0, 0, 0, 0, 0, 0,
+    5, 0, 0, 0, 1, 0,
+];
+
+/// A journal that has its PINI alone.
+fn with_pini(region: u8, generation: u8, previous: u8) -> [u8; 18] {
+    let mut bytes = FILE;
+    bytes[7] = region;
+    bytes[12] = generation;
+    bytes[16] = previous;
+    bytes
+}
+
+/// Writes these bytes at the start of a file.
+fn write_bytes<D: Disk>(disk: &mut D, file: u32, bytes: &[u8]) -> Result<(), Fail> {
+    disk.room(file, 1, bytes.len() as u64)?;
+    disk.write_at(file, 0, bytes)?;
+    Ok(())
+}
+
+/// The file and the place at which reading two generations of region 0 stops, or `None` where it doesn't stop so.
+fn stop<D: Disk>(alloc: Global, disk: &mut D) -> Option<(u32, u64)> {
+    match read_generations(alloc, disk, 0, 2) {
+        Err(GenerationsError::NotAFile { file, offset }) => Some((file, offset)),
+        _ => None,
+    }
+}
+
+#[test]
+fn two_generations_as_one_list(rt: HostRuntime) -> Result<(), Fail> {
+    let alloc = rt.alloc();
+    let mut disk = MemDisk::new(alloc)?;
+    write_bytes(&mut disk, 24, &WITH_EPOCH)?;
+    write_bytes(&mut disk, 32, &with_pini(0, 2, 1))?;
+    let read = read_generations(alloc, &mut disk, 0, 2)?;
+    assert_eq!(rt; read.last_began, 2);
+    assert_eq!(rt; read.records.len(), 3);
+    assert_eq!(rt; read.records[1].generation, 1);
+    assert!(rt; matches!(&read.records[1].what, JnlRecord::Epoch { number: 5, .. }));
+    assert_eq!(rt; read.records[2].generation, 2);
+    Ok(())
+}
+
+#[test]
+fn a_generation_without_records(rt: HostRuntime) -> Result<(), Fail> {
+    let alloc = rt.alloc();
+    let mut disk = MemDisk::new(alloc)?;
+    write_bytes(&mut disk, 24, &with_pini(0, 1, 0))?;
+    write_bytes(&mut disk, 40, &with_pini(0, 3, 1))?;
+    assert!(rt; is_unbegun(alloc, &mut disk, 0, 2)?);
+    assert!(rt; !is_unbegun(alloc, &mut disk, 0, 3)?);
+    assert_eq!(rt; read_generations(alloc, &mut disk, 0, 2)?.last_began, 1);
+    let read = read_generations(alloc, &mut disk, 0, 3)?;
+    assert_eq!(rt; read.last_began, 3);
+    assert_eq!(rt; read.records.len(), 2);
+    Ok(())
+}
+
+#[test]
+fn journals_that_are_none(rt: HostRuntime) -> Result<(), Fail> {
+    let alloc = rt.alloc();
+    let mut disk = MemDisk::new(alloc)?;
+    write_bytes(&mut disk, 24, &with_pini(1, 1, 0))?;
+    assert_eq!(rt; stop(alloc, &mut disk), Some((24, 0)));
+    write_bytes(&mut disk, 24, &with_pini(0, 1, 0))?;
+    write_bytes(&mut disk, 32, &with_pini(0, 2, 0))?;
+    assert_eq!(rt; stop(alloc, &mut disk), Some((32, 0)));
+    write_bytes(&mut disk, 32, &[1, 0, 0x0f, 0xff, 0xff])?;
+    assert_eq!(rt; stop(alloc, &mut disk), Some((32, 0)));
+    assert!(rt; !is_unbegun(alloc, &mut disk, 0, 2)?);
+    Ok(())
+}
+
+/// Where a call of the disk fails, reading fails, and gives no list in its place.
+#[test]
+fn reading_fails_at_each_call(rt: HostRuntime) -> Result<(), Fail> {
+    let alloc = rt.alloc();
+    for calls in 0..READING + 1 {
+        let mut disk = MemDisk::new(alloc)?;
+        write_bytes(&mut disk, 24, &with_pini(0, 1, 0))?;
+        write_bytes(&mut disk, 32, &with_pini(0, 2, 1))?;
+        disk.fuse(calls);
+        match read_generations(alloc, &mut disk, 0, 2) {
+            Ok(_) => assert_eq!(rt; calls, READING),
+            Err(GenerationsError::Failed) => assert!(rt; calls < READING),
+            Err(_) => assert!(rt; false, "another error"),
+        }
+    }
+    Ok(())
+}

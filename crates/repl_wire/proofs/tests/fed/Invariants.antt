@@ -1,6 +1,0 @@
-use Rattle.std.specs.List.{AllByRecursion}
-use Rattle.wire_defs.specs.Frames.{IsFrame}
-use Rattle.repl_wire.proofs.tests.fed.Given as goal
-
-abbrev pub invariant-loop-piece : goal.invariant-loop-piece
-invariant-loop-piece l = AllByRecursion IsFrame l.out

@@ -1,0 +1,175 @@
+// Sections over memory disks that fail at any call.
+ghost use Rattle.std.specs.Prelude.{◌≡◌, [], Some, IfSome, IfOk, OnOk};
+ghost use Rattle.disk_defs.specs.Disk.{Files};
+ghost use Rattle.disk_defs.specs.Gates.{records};
+ghost use Rattle.journal_defs.specs.Numbers.{INSTANCE};
+ghost use Rattle.site_store.specs.Site.{IsReady, HasReign};
+
+use gvn_key::Bytes;
+use gvn_model::{Job, JobQueue, Jobs, Statements};
+use gvn_text::read_statement;
+use repl_disk::{Disk, MemDisk};
+use repl_section::*;
+use site_store::{RegionSpec, SiteError, create, load};
+use std::alloc::Global;
+use std::test::Fail;
+
+/// A job of the statements that these lines spell.
+fn job(alloc: Global, lines: &str) -> Result<Job, Fail> {
+    let mut statements = Statements::new(alloc);
+    for line in lines.lines() {
+        statements.push(read_statement(alloc, line.as_bytes())?)?;
+    }
+    Ok(Job { statements })
+}
+
+/// A job of one statement for each of these lines.
+fn queue(alloc: Global, lines: &str) -> Result<JobQueue, Fail> {
+    let mut queue = JobQueue::new(alloc);
+    for line in lines.lines() {
+        queue.push(job(alloc, line)?)?;
+    }
+    Ok(queue)
+}
+
+/// Makes the site A of one region R on a disk without one.
+fn make<D: Disk>(alloc: Global, disk: &mut D) -> Result<(), Fail>
+    requires { IfSome (D.disk disk.old).content (λ files. records (files INSTANCE) ≡ Some []) }
+{
+    let name = Bytes::of(alloc, b"A")?;
+    let region = RegionSpec {
+        name: Bytes::of(alloc, b"R")?,
+        before: true,
+    };
+    create(alloc, disk, &name, &[region])?;
+    Ok(())
+}
+
+/// A disk with a new site.
+fn made(alloc: Global) -> Result<MemDisk, Fail> {
+    let mut disk = MemDisk::new(alloc)?;
+    make(alloc, &mut disk)?;
+    Ok(disk)
+}
+
+/// Opens the site of a disk and begins a reign.
+fn begin<D: Disk>(alloc: Global, disk: &mut D) -> Result<Reign, SiteError>
+    ensures ready { IfOk result (λ reign. IsReady (D.disk disk.new) reign.site) }
+    ensures begun { IfOk result (λ reign. HasReign reign.site) }
+{
+    let mut site = load(alloc, disk)?;
+    site.start_reign(alloc, disk)?;
+    Ok(Reign {
+        site,
+        serials: [1; 64],
+    })
+}
+
+/// Jobs see what stands, sums and tests are made on it, and a job that is rolled back leaves nothing.
+#[test]
+fn jobs_see_what_stands(rt: HostRuntime) -> Result<(), Fail> {
+    let alloc = rt.alloc();
+    let lines =
+        "SET ^X(1)=\"abc\"\nSET ^X(1,2)=2\nINCR ^X(1) 1\nINCR ^Y -5\nCHECK ^Y>=0\nKILL ^X(1)\nDATA ^X\nDATA ^Y\nGET ^Y\nORDER ^X(\"\")";
+    let mut disk = made(alloc)?;
+    let mut jobs = Jobs::new(alloc);
+    jobs.push(queue(alloc, lines)?)?;
+    let mut text = Bytes::new(alloc);
+    let mut reign = begin(alloc, &mut disk)?;
+    reign.run(alloc, &mut disk, jobs, &[1; 12], &mut text)?;
+    let told =
+        b"1.1 SEQ 1\n1.2 SEQ 2\n1.3 ROLLEDBACK NOTNUM\n1.4 SEQ 3 -5\n1.5 ROLLEDBACK CHECK\n1.6 SEQ 4\n1.7 READ 0\n1.8 READ 1\n1.9 READ \"-5\"\n1.10 READ \"\"\n";
+    assert_eq!(rt; text.as_slice(), told.as_slice());
+    Ok(())
+}
+
+/// Updater 1 has a transaction, a read and a SET, and updater 2 a read.
+fn section(alloc: Global) -> Result<Jobs, Fail> {
+    let mut first = JobQueue::new(alloc);
+    first.push(job(alloc, "SET ^X=1\nSET ^Y=2")?)?;
+    first.push(job(alloc, "GET ^Y")?)?;
+    first.push(job(alloc, "SET ^X=3")?)?;
+    let mut jobs = Jobs::new(alloc);
+    jobs.push(first)?;
+    jobs.push(queue(alloc, "GET ^X")?)?;
+    Ok(jobs)
+}
+
+/// Runs that section in a reign, and adds its replies.
+fn run_section<D: Disk>(
+    alloc: Global,
+    disk: &mut D,
+    reign: &mut Reign,
+    order: &[u8],
+    text: &mut Bytes,
+) -> Result<(), Fail>
+    requires ready { IsReady (D.disk disk.old) reign.old.site }
+    requires begun { HasReign reign.old.site }
+    ensures ready { OnOk result (IsReady (D.disk disk.new) reign.new.site) }
+    ensures begun { OnOk result (HasReign reign.new.site) }
+{
+    reign.run(alloc, disk, section(alloc)?, order, text)?;
+    Ok(())
+}
+
+/// Two sections of one reign.
+fn run_twice<D: Disk>(alloc: Global, disk: &mut D, text: &mut Bytes) -> Result<(), Fail> {
+    let mut reign = begin(alloc, disk)?;
+    run_section(alloc, disk, &mut reign, &[1, 2, 1, 1], text)?;
+    run_section(alloc, disk, &mut reign, &[2, 1], text)
+}
+
+/// Serials go on in a reign, and entries and globals in the next one too.
+#[test]
+fn entries_globals_and_serials_go_on(rt: HostRuntime) -> Result<(), Fail> {
+    let alloc = rt.alloc();
+    let mut disk = made(alloc)?;
+    let mut text = Bytes::new(alloc);
+    run_twice(alloc, &mut disk, &mut text)?;
+    let mut again = begin(alloc, &mut disk)?;
+    run_section(alloc, &mut disk, &mut again, &[2, 1], &mut text)?;
+    let told =
+        b"1.1 SEQ 1\n2.1 READ \"1\"\n1.2 READ \"2\"\n1.3 SEQ 2\n2.2 READ \"3\"\n1.4 SEQ 3\n2.1 READ \"1\"\n1.1 SEQ 4\n";
+    assert_eq!(rt; text.as_slice(), told.as_slice());
+    Ok(())
+}
+
+/// How many of a section's jobs are answered before the calls of the disk fail.
+fn run_some(alloc: Global, disk: &mut MemDisk, calls: u64) -> Result<u64, Fail> {
+    disk.fuse(calls);
+    let Ok(mut reign) = begin(alloc, disk) else {
+        return Ok(0);
+    };
+    let mut text = Bytes::new(alloc);
+    match reign.run(alloc, disk, section(alloc)?, &[1, 2, 1, 1], &mut text) {
+        Ok(()) => Ok(4),
+        Err(RunError::Failed { undecided }) => Ok(4 - undecided.min(4)),
+        Err(RunError::NoMemory) => Err(Fail::from("no memory")),
+    }
+}
+
+/// Whatever call fails and whatever image a crash takes, each acknowledged entry stands, and at most one more; a
+/// transaction stands whole or not at all.
+#[test]
+fn acknowledged_entries_stand(rt: HostRuntime) -> Result<(), Fail> {
+    let alloc = rt.alloc();
+    for pick in [0, 1, 2, 4] {
+        for calls in 0..64u64 {
+            let mut disk = made(alloc)?;
+            let told = match run_some(alloc, &mut disk, calls)? {
+                0 => 0,
+                4 => 2,
+                _ => 1,
+            };
+            disk.crash(pick);
+            let again = load(alloc, &mut disk)?;
+            let left = again.entries.len();
+            assert!(rt;
+                told <= left && left <= told + 1,
+                "pick {pick}, calls {calls}"
+            );
+            assert_eq!(rt; again.globals.nodes(), if left == 0 { 0 } else { 2 });
+        }
+    }
+    Ok(())
+}

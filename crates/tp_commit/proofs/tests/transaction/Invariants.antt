@@ -1,7 +1,0 @@
-use Rattle.std.proofs.Common.{◌≡◌, length}
-use Rattle.std.specs.List.{AllByRecursion}
-use Rattle.global_defs.specs.Fields.{IsUpdate}
-use Rattle.tp_commit.proofs.tests.transaction.Given as goal
-
-abbrev pub invariant-loop-i : goal.invariant-loop-i
-invariant-loop-i l = record { count : length l.updates ≡ l.i; each : AllByRecursion IsUpdate l.updates }
