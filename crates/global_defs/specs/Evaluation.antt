@@ -85,9 +85,10 @@ incrementing p key sum = if is_counted sum
     then updating (answering p (integer_text sum)) (update.Set key (integer_text sum))
     else Stops NotNum
 
+-- the operand, the old value and the sum have at most 18 digits each
 abbrev pub incremented : Progress → Key → ℤ → Option ℤ → Outcome
 incremented p key n None = Stops NotNum
-incremented p key n (Some old) = incrementing p key (old +ℤ n)
+incremented p key n (Some old) = if is_counted n then incrementing p key (old +ℤ n) else Stops NotNum
 
 abbrev pub passing : Progress → Bool → Outcome
 passing p holds = if holds then Goes p else Stops Check

@@ -77,12 +77,19 @@ fn counted(value: Option<&[u8]>) -> Option<i64>
     }
 }
 
+/// Whether a number has at most 18 digits.
+fn is_counted(number: i64) -> bool
+    ensures { result ≡ is_counted number }
+{
+    number.unsigned_abs() < TOO_LARGE
+}
+
 /// A sum of at most 18 digits.
 fn sum(old: i64, n: i64) -> Option<i64>
     ensures { result ≡ (if is_counted (old +ℤ n) then Some (old +ℤ n) else None) }
 {
     match old.checked_add(n) {
-        Some(sum) if sum.unsigned_abs() < TOO_LARGE => Some(sum),
+        Some(sum) if is_counted(sum) => Some(sum),
         _ => None,
     }
 }
@@ -174,6 +181,9 @@ impl<'a, G: Lookup> Progress<'a, G> {
     fn increment(&mut self, key: &Key, n: i64) -> Result<(), Stop>
         ensures { Leads (incremented self.old key.now n (evaluation.counted (globals.get self.old.globals key.now))) self.new result }
     {
+        if !is_counted(n) {
+            return Err(Stop::RolledBack(Cause::NotNum));
+        }
         let Some(old) = counted(self.overlay.get(key)) else {
             return Err(Stop::RolledBack(Cause::NotNum));
         };

@@ -99,6 +99,9 @@ impl Globals {
         ensures ok { OnOk result (self.new ≡ fold defs.apply self.old (map update_value updates.now)) }
         ensures err { OnErr result (self.new ≡ self.old) }
     {
+        if let [update] = updates {
+            return self.apply(update);
+        }
         let Changes { sets, gone } = Changes::of(alloc, self, updates)?;
         let added = sets.beyond(alloc, self)?;
         let removed = gone.beyond(alloc, &sets)?;

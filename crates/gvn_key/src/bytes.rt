@@ -52,6 +52,15 @@ impl Bytes {
         }
     }
 
+    /// An empty list with room for so many bytes.
+    pub fn with_capacity(alloc: Global, bytes: usize) -> Result<Self, NoMemory>
+        ensures { IfOk result (λ made. made ≡ []) }
+    {
+        Ok(Bytes {
+            items: Vec::with_capacity(alloc, bytes)?,
+        })
+    }
+
     /// A list of these bytes.
     pub fn of(alloc: Global, bytes: &[u8]) -> Result<Self, NoMemory>
         ensures { IfOk result (λ made. made ≡ bytes.now) }

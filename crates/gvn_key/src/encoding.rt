@@ -14,6 +14,9 @@ use std::alloc::Global;
 /// As many zeros as digits may stand behind a point.
 const ZEROS: [u8; 18] = [b'0'; 18];
 
+/// How many digits a number has before and behind its point, with all its zeros.
+const MOST_DIGITS: usize = 36;
+
 /// So many zeros.
 fn zeros(count: usize) -> &'static [u8]
     requires { count ≤ 18 }
@@ -26,7 +29,8 @@ fn zeros(count: usize) -> &'static [u8]
 fn all_digits(alloc: Global, whole: &[u8], fraction: &[u8]) -> Result<Bytes, NoMemory>
     ensures { IfOk result (λ made. made ≡ all_digits whole.now fraction.now) }
 {
-    let mut digits = Bytes::of(alloc, whole)?;
+    let mut digits = Bytes::with_capacity(alloc, MOST_DIGITS)?;
+    digits.push_all(whole)?;
     digits.push_all(fraction)?;
     digits.push_all(zeros(ZEROS.len().saturating_sub(fraction.len())))?;
     Ok(digits)

@@ -1,5 +1,5 @@
 //! Canonical integers: what is counted with, read and written.
-ghost use Rattle.std.specs.Prelude.{◌≡◌, ◌<◌, ◌≤◌, ◌^◌, ◌++◌, ◌&&◌, pos, true, not, length, OnOk};
+ghost use Rattle.std.specs.Prelude.{◌≡◌, ◌<◌, ◌≤◌, ◌^◌, ◌++◌, ◌&&◌, pos, true, not, length, OnOk, OnErr};
 ghost use Rattle.std.specs.List.{list_all, list_any};
 ghost use Rattle.std.specs.Char.{is_ascii_digit};
 ghost use Rattle.std.specs.Str.Parse.{digits_value};
@@ -45,12 +45,15 @@ pub fn integer_of(text: &[u8]) -> Option<i64>
     }
 }
 
-/// Adds the text of an integer at the end. Without memory some of it may be there.
+/// Adds the text of an integer at the end.
 pub fn write_integer(number: i64, out: &mut Bytes) -> Result<(), NoMemory>
-    ensures { OnOk result (out.new ≡ out.old ++ integer_text number) }
+    ensures ok { OnOk result (out.new ≡ out.old ++ integer_text number) }
+    ensures err { OnErr result (out.new ≡ out.old) }
 {
-    if number < 0 {
-        out.push(b'-')?;
+    if 0 <= number {
+        return out.push_decimal(number.unsigned_abs());
     }
-    out.push_decimal(number.unsigned_abs())
+    let mut text = Bytes::of(out.allocator(), b"-")?;
+    text.push_decimal(number.unsigned_abs())?;
+    out.push_all(text.as_slice())
 }

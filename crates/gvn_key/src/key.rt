@@ -6,7 +6,7 @@ ghost use Rattle.global_defs.specs.Key.{sub_of};
 ghost use Rattle.global_defs.specs.Valid.{is_name, is_key};
 ghost use Rattle.global_defs.specs.Encoded.{encoded, encoded_sub};
 ghost use Rattle.global_defs.specs.NodeText.{sub_text, subs_text, node_text};
-ghost use Rattle.gvn_key.specs.Faults.{subs_fault, parts_fault, key_of, child_of, MakesKey};
+ghost use Rattle.gvn_key.specs.Faults.{subs_fault, parts_fault, key_of, child_of, IsMade, MakesKey};
 
 use super::bytes::{Bytes, NoMemory};
 use super::encoding::{push_sub, push_subs};
@@ -14,6 +14,7 @@ use super::numeral::is_number;
 use super::zwr::push_zwr;
 use std::alloc::Global;
 use std::marker::Model;
+use std::sync::Arc;
 use thiserror::Error;
 
 /// How many characters a name may have.
@@ -24,6 +25,9 @@ const MOST_SUBS: usize = 31;
 
 /// How many bytes an encoded key may have.
 const LONGEST_KEY: usize = 255;
+
+/// Room for the subscripts of most keys.
+const SHORT_KEY: usize = 48;
 
 /// Why a name and subscripts, or a text, are no key: the first fault from the left.
 #[derive(Clone, Copy, Debug, PartialEq, Eq, Error)]
@@ -61,23 +65,31 @@ impl From<NoMemory> for KeyError {
     }
 }
 
-/// A node's key: a name and up to 31 subscripts, each a number or a string, with at most 255 bytes encoded.
+/// What the copies of a key share.
 #[derive(Debug, Drop)]
-pub struct Key {
+struct Parts {
     name: Bytes,
     subs: Vec<Bytes>,
     code: Bytes,
 }
 
+/// A node's key: a name and up to 31 subscripts, each a number or a string, with at most 255 bytes encoded. Copies of a key share
+/// its bytes, so that a copy takes no memory.
+#[derive(Debug, Drop)]
+pub struct Key {
+    parts: Arc<Parts, Global>,
+}
+
 impl Model for Key {
     ghost use Rattle.global_defs.specs.Key as defs;
+    ghost use Rattle.std.specs.Arc.{arc_value};
     ghost use Rattle.gvn_key.specs.Faults as made;
 
     ghost Value = { defs.Key };
 
-    ghost view = { λ k. made.key_of k.name k.subs.items };
+    ghost view = { λ k. made.key_of (arc_value k.parts).name (arc_value k.parts).subs.items };
 
-    ghost invariant = { λ k. made.IsMade k.name k.subs.items k.code };
+    ghost invariant = { λ k. made.IsMade (arc_value k.parts).name (arc_value k.parts).subs.items (arc_value k.parts).code };
 }
 
 fn all_alphanumeric(bytes: &[u8]) -> bool
@@ -130,7 +142,8 @@ fn parts_fault(name: &[u8], subs: &[Bytes]) -> Option<KeyError>
 fn encode(alloc: Global, name: &[u8], subs: &[Bytes]) -> Result<Bytes, NoMemory>
     ensures { IfOk result (λ code. code ≡ encoded (key_of name.now subs.now)) }
 {
-    let mut code = Bytes::of(alloc, name)?;
+    let mut code = Bytes::with_capacity(alloc, name.len() + SHORT_KEY)?;
+    code.push_all(name)?;
     code.push(0)?;
     push_subs(alloc, subs, &mut code)?;
     Ok(code)
@@ -151,30 +164,46 @@ impl Key {
     pub fn new(alloc: Global, name: &[u8], subs: &[Bytes]) -> Result<Self, KeyError>
         ensures { MakesKey name.now subs.now result }
     {
-        if let Some(fault) = parts_fault(name, subs) {
+        Key::from_parts(alloc, name, copy_all(alloc, subs)?)
+    }
+
+    /// The key of a name and subscripts that it keeps, or the first fault from the left.
+    pub(crate) fn from_parts(alloc: Global, name: &[u8], subs: Vec<Bytes>) -> Result<Self, KeyError>
+        ensures { MakesKey name.now subs.items result }
+    {
+        if let Some(fault) = parts_fault(name, &subs) {
             return Err(fault);
         }
-        let code = encode(alloc, name, subs)?;
+        let code = encode(alloc, name, &subs)?;
         if LONGEST_KEY < code.len() {
             return Err(KeyError::KeyTooLong);
         }
         let name = Bytes::of(alloc, name)?;
-        let subs = copy_all(alloc, subs)?;
-        Ok(Key { name, subs, code })
+        Ok(Key::made(alloc, Parts { name, subs, code })?)
+    }
+
+    /// The key of these parts.
+    fn made(alloc: Global, parts: Parts) -> Result<Self, NoMemory>
+        requires { IsMade parts.name parts.subs.items parts.code }
+        ensures { IfOk result (λ key. key ≡ key_of parts.name parts.subs.items) }
+    {
+        Ok(Key {
+            parts: Arc::new(alloc, parts)?,
+        })
     }
 
     /// The name.
     pub fn name(&self) -> &[u8]
         ensures { result.now ≡ self.now.name }
     {
-        self.name.as_slice()
+        self.parts.name.as_slice()
     }
 
     /// The subscripts by their own bytes: of a number its canonical numeral.
     pub fn subs(&self) -> &[Bytes]
         ensures { map sub_of result.now ≡ self.now.subs }
     {
-        &self.subs
+        &self.parts.subs
     }
 
     /// The encoded key.
@@ -182,7 +211,7 @@ impl Key {
         ensures value { result.now ≡ encoded self.now }
         ensures valid { is_key self.now ≡ true }
     {
-        self.code.as_slice()
+        self.parts.code.as_slice()
     }
 
     /// The encoded key, as a list that a map's keys compare with.
@@ -190,7 +219,7 @@ impl Key {
         ensures value { result.now ≡ encoded self.now }
         ensures valid { is_key self.now ≡ true }
     {
-        &self.code
+        &self.parts.code
     }
 
     /// Bytes behind those of all keys that have such a subscript next, and before those of all later keys.
@@ -198,8 +227,8 @@ impl Key {
         ensures value { IfOk result (λ made. made ≡ encoded self.now ++ encoded_sub (sub_of sub.now) ++ 255 ∷ []) }
         ensures valid { is_key self.now ≡ true }
     {
-        let alloc = self.code.allocator();
-        let mut made = self.code.copy()?;
+        let alloc = self.parts.code.allocator();
+        let mut made = self.parts.code.copy()?;
         push_sub(alloc, sub, &mut made)?;
         made.push(255)?;
         Ok(made)
@@ -210,13 +239,13 @@ impl Key {
         requires { is_key (child_of self.now (sub_of sub.now)) ≡ true }
         ensures { IfOk result (λ made. made ≡ child_of self.now (sub_of sub.now)) }
     {
-        let alloc = self.code.allocator();
-        let name = self.name.copy()?;
-        let mut subs = copy_all(alloc, &self.subs)?;
+        let alloc = self.parts.code.allocator();
+        let name = self.parts.name.copy()?;
+        let mut subs = copy_all(alloc, &self.parts.subs)?;
         subs.push(Bytes::of(alloc, sub)?)?;
-        let mut code = self.code.copy()?;
+        let mut code = self.parts.code.copy()?;
         push_sub(alloc, sub, &mut code)?;
-        Ok(Key { name, subs, code })
+        Key::made(alloc, Parts { name, subs, code })
     }
 
     /// Adds the encoded key at the end.
@@ -224,17 +253,16 @@ impl Key {
         ensures ok { OnOk result (out.new ≡ out.old ++ encoded self.now) }
         ensures err { OnErr result (out.new ≡ out.old) }
     {
-        out.push_all(self.code.as_slice())
+        out.push_all(self.parts.code.as_slice())
     }
 
     /// An equal key.
     pub fn copy(&self) -> Result<Self, NoMemory>
         ensures { IfOk result (λ made. made ≡ self.now) }
     {
-        let name = self.name.copy()?;
-        let subs = copy_all(self.name.allocator(), &self.subs)?;
-        let code = self.code.copy()?;
-        Ok(Key { name, subs, code })
+        Ok(Key {
+            parts: Arc::try_clone(&self.parts)?,
+        })
     }
 
     /// Adds the key's text at the end, as `^X(1,"a")`.
@@ -244,14 +272,14 @@ impl Key {
     {
         let mut text = Bytes::new(out.allocator());
         text.push_all(b"^")?;
-        text.push_all(self.name.as_slice())?;
-        write_subs(&self.subs, &mut text)?;
+        text.push_all(self.parts.name.as_slice())?;
+        write_subs(&self.parts.subs, &mut text)?;
         out.push_all(text.as_slice())
     }
 }
 
-/// Adds the text of a subscript of these bytes at the end: a number by its numeral, a string in ZWR form.
-pub fn write_sub(sub: &[u8], out: &mut Bytes) -> Result<(), NoMemory>
+/// Adds the text of a subscript of these bytes at the end. Without memory some of it may be there.
+fn push_sub_text(sub: &[u8], out: &mut Bytes) -> Result<(), NoMemory>
     ensures { OnOk result (out.new ≡ out.old ++ sub_text (sub_of sub.now)) }
 {
     if is_number(sub) {
@@ -261,13 +289,23 @@ pub fn write_sub(sub: &[u8], out: &mut Bytes) -> Result<(), NoMemory>
     }
 }
 
+/// Adds the text of a subscript of these bytes at the end: a number by its numeral, a string in ZWR form.
+pub fn write_sub(sub: &[u8], out: &mut Bytes) -> Result<(), NoMemory>
+    ensures ok { OnOk result (out.new ≡ out.old ++ sub_text (sub_of sub.now)) }
+    ensures err { OnErr result (out.new ≡ out.old) }
+{
+    let mut text = Bytes::new(out.allocator());
+    push_sub_text(sub, &mut text)?;
+    out.push_all(text.as_slice())
+}
+
 /// Subscripts, each behind a comma.
 fn write_others(subs: &[Bytes], out: &mut Bytes) -> Result<(), NoMemory>
     ensures { OnOk result (out.new ≡ out.old ++ flat_map (λ s. 44 ∷ sub_text s) (map sub_of subs.now)) }
 {
     for sub in subs {
         out.push_all(b",")?;
-        write_sub(sub.as_slice(), out)?;
+        push_sub_text(sub.as_slice(), out)?;
     }
     Ok(())
 }
@@ -280,7 +318,7 @@ fn write_subs(subs: &[Bytes], out: &mut Bytes) -> Result<(), NoMemory>
         [] => Ok(()),
         [first, rest @ ..] => {
             out.push_all(b"(")?;
-            write_sub(first.as_slice(), out)?;
+            push_sub_text(first.as_slice(), out)?;
             write_others(rest, out)?;
             out.push_all(b")")
         }

@@ -11,7 +11,7 @@ use Rattle.global_defs.specs.Key.{Key}
 use Rattle.global_defs.specs.Entry.{Update, Globals, apply}
 use Rattle.global_defs.specs.Entry as update
 use Rattle.global_defs.specs.Jobs.{Statement, Set, Kill, ZKill, Incr, Get, Defined, Order, CheckIs, CheckAtLeast, Job, Full, NotNum}
-use Rattle.global_defs.specs.Evaluation.{MOST_NODES, Progress, Outcome, Goes, Stops, answering, updating, incremented, passing, comparing, counted, stepping, going, eval}
+use Rattle.global_defs.specs.Evaluation.{MOST_NODES, Progress, Outcome, Goes, Stops, answering, updating, incrementing, incremented, passing, comparing, counted, stepping, going, eval}
 use Rattle.repl_section.specs.Deciding.{FitsIn}
 
 -- after each of these updates there are few enough nodes
@@ -59,9 +59,13 @@ summed : (g : Globals) (p : Progress) (key : Key) (sum : ℤ) (b : Bool) → Has
 summed g p key sum true h = updated g (answering p (integer_text sum)) (update.Set key (integer_text sum)) (answered g p (integer_text sum) h)
 summed g p key sum false h = _
 
+by_operand : (g : Globals) (p : Progress) (key : Key) (n sum : ℤ) (b : Bool) → HasCome g p → Comes g (if b then incrementing p key sum else Stops NotNum)
+by_operand g p key n sum true h = summed g p key _ _ h
+by_operand g p key n sum false h = _
+
 counted_on : (g : Globals) (p : Progress) (key : Key) (n : ℤ) (old : Option ℤ) → HasCome g p → Comes g (incremented p key n old)
 counted_on g p key n None h = _
-counted_on g p key n (Some old) h = summed g p key _ _ h
+counted_on g p key n (Some old) h = by_operand g p key n _ _ h
 
 compared : (g : Globals) (p : Progress) (n : ℤ) (value : Option ℤ) → HasCome g p → Comes g (comparing p n value)
 compared g p n None h = _

@@ -4,7 +4,7 @@ use Rattle.global_defs.specs.Numeral.{is_number}
 use Rattle.global_defs.specs.Key.{sub_of}
 use Rattle.global_defs.specs.NodeText.{sub_text}
 use Rattle.global_defs.proofs.Numerals.{number_back}
-use Rattle.gvn_key.proofs.key.write_sub.Goals as goal
+use Rattle.gvn_key.proofs.key.push_sub_text.Goals as goal
 
 pub returns-then-is_number : goal.returns-then-is_number
 returns-then-is_number c =
