@@ -74,17 +74,17 @@ pub trait Disk: Drop {
         ensures room { RoomUsed file 0 (disk self.old) (disk self.new) }
         ensures cause { HasCause (disk self.old).faults (disk self.new).faults result };
 
-    /// Lets so many more calls of `len`, `read_at`, `write_at` and `sync` succeed, and each after them fail, where the disk is
-    /// simulated. Otherwise it does nothing.
+    /// Lets so many more calls of `len`, `read_at`, `write_at` and `sync` succeed, and each after them fail.
     fn fuse(&mut self, calls: u64)
+        requires { IsTrue (disk self.old).simulated }
         ensures reads { Reads (disk self.old) (disk self.new) }
         ensures faults { (disk self.new).faults ≡ (disk self.old).faults };
 
-    /// Makes one of its images what it has, all of it on the disk for good, where the disk is simulated. Otherwise it does
-    /// nothing. It takes no memory.
+    /// Makes one of its images what it has, all of it on the disk for good. It takes no memory.
     ///
     /// The moments begin anew: no clause on a run of calls reaches over a crash.
     fn crash(&mut self, pick: u64)
+        requires { IsTrue (disk self.old).simulated }
         ensures image { IsTrue (disk self.old).simulated → IfSome (disk self.new).content (Image (disk self.old)) }
         ensures durable { IsTrue (disk self.old).simulated → IfSome (disk self.new).content (λ files. (c : Files) → Image (disk self.new) c → c ≡ files) }
         ensures simulated { (disk self.new).simulated ≡ (disk self.old).simulated }
