@@ -10,6 +10,7 @@ ghost use Rattle.journal_defs.specs.Instance.{IsInForm};
 ghost use Rattle.journal_defs.specs.Surviving as surviving;
 ghost use Rattle.journal_defs.specs.Stands.{IsInstance};
 ghost use Rattle.instance_file.specs.Order.{AreInOrder};
+ghost use Rattle.instance_file.specs.Reading.{IsOutsideInstance};
 ghost use Rattle.instance_file.specs.Instance.{HasRecords, IsReady};
 
 use super::error::InstanceError;
@@ -35,12 +36,13 @@ impl InstanceLog {
     /// Syncs the instance file and reads its records, perhaps none. It writes nothing.
     ///
     /// # Errors
-    /// `NotARecord` only where the file isn't an instance file, `Failed` only where the disk's count rose, and `NoMemory`.
+    /// `NotARecord` exactly where the file isn't an instance file, with the place of a gate or a record that can't stand there, `Failed` only where the disk's count rose, and `NoMemory`.
     pub fn read<D: Disk>(alloc: Global, disk: &mut D) -> Result<InstanceLog, InstanceError>
         ensures reads { IfOk result (λ log. IfSome (D.disk disk.old).content (λ files. IsInstance (files INSTANCE) log.records)) }
         ensures order { IfOk result (λ log. AreInOrder log.records) }
         ensures form { IfOk result (λ log. AllByRecursion IsInForm log.records) }
         ensures durable { OnOk result (IfSome (D.disk disk.old).content (λ files. IsDurable (D.disk disk.new) INSTANCE (files INSTANCE))) }
+        ensures outside { (offset : ℕ) → IsErrOf result (InstanceError.NotARecord offset) → IfSome (D.disk disk.old).content (λ files. IsOutsideInstance (files INSTANCE) offset) }
         ensures no_list { (offset : ℕ) → IsErrOf result (InstanceError.NotARecord offset) → IfSome (D.disk disk.old).content (λ files. (rs : List defs.InstanceRecord) → IsInstance (files INSTANCE) rs → ⊥) }
         ensures content { (D.disk disk.new).content ≡ (D.disk disk.old).content }
         ensures any_moment { AtEachMoment (D.disk disk.old) (D.disk disk.new) (Image (D.disk disk.old)) }

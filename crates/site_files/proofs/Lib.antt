@@ -11,3 +11,4 @@ pub mod WhatIsRead
 pub mod Kept
 pub mod Recovered
 pub mod RecordsRead
+pub mod Places

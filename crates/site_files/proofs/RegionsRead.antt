@@ -9,11 +9,12 @@ use Rattle.disk_defs.proofs.Told.{told_at, weaker_told, both_weak}
 use Rattle.journal_defs.specs.Numbers.{journal_file}
 use Rattle.journal_defs.specs.Sequence.{Placed}
 use Rattle.journal_defs.specs.Stands.{IsJournal}
-use Rattle.jnl_file.specs.Generations.{AreDurable}
+use Rattle.jnl_file.specs.Generations.{AreDurable, IsOutsideGenerations}
 use Rattle.jnl_record.specs.declared.placed.PlacedRecord.{PlacedRecord}
 use Rattle.jnl_record.specs.Values.{placed_value}
 use Rattle.mupip_recover.specs.Site.{journal_of}
 use Rattle.site_files.specs.Loading.{last_of}
+use Rattle.site_files.specs.Outside.{AreOutside, HaveBegun}
 use Rattle.site_files.specs.Reading.{HaveJournals, AreAllDurable, AreUnbegun, AreUnbegunDurable}
 
 -- what is on the disk for good stays so where nothing new comes
@@ -45,6 +46,22 @@ have_more files n m g lasts js last ps more many_last many before here =
     (subst (λ (l : List Placed). IsJournal files r g (last_of lasts r) l) (sym (journal_kept js ps n r many low)) was))
     (subst (λ (k : ℕ). IsJournal files n g k (journal_of (js ++ ps ∷ []) n)) (sym at_last)
     (subst (λ (l : List Placed). IsJournal files n g last l) (sym at_journal) here))
+
+-- the region that is read now is the first whose journals aren't
+pub told_outside : (o n : Option Files) (regions region g : ℕ) (last : ℕ → ℕ) (journal : ℕ → List Placed) (file offset : ℕ) → region < regions → n ≡ o
+    → IfSome o (HaveJournals region g last journal) → IfSome n (λ files. IsOutsideGenerations files region g file offset) → IfSome o (λ files. AreOutside files regions g file offset)
+told_outside o n regions region g last journal file offset low same before out =
+    both_weak o (HaveJournals region g last journal) (λ files. IsOutsideGenerations files region g file offset) (λ files. AreOutside files regions g file offset) before
+    (told_at o n (λ files. IsOutsideGenerations files region g file offset) same out)
+    (λ files was is. record { region = region; below = low; began = last; journal = journal; earlier = was; outside = is })
+
+-- the region that is seen now is the first whose next generation has begun
+pub told_begun_early : (o n : Option Files) (regions region g file offset : ℕ) → region < regions → n ≡ o → (file ≡ journal_file g region) × (offset ≡ 0)
+    → IfSome o (AreUnbegun region g) → IfSome n (λ files. records (files (journal_file g region)) ≡ Some [] → ⊥) → IfSome o (λ files. HaveBegun files regions g file offset)
+told_begun_early o n regions region g file offset low same place before out =
+    both_weak o (AreUnbegun region g) (λ files. records (files (journal_file g region)) ≡ Some [] → ⊥) (λ files. HaveBegun files regions g file offset) before
+    (told_at o n (λ files. records (files (journal_file g region)) ≡ Some [] → ⊥) same out)
+    (λ files was is. record { region = region; below = low; earlier = was; begun = is; file_is = place.0; offset_is = place.1 })
 
 -- the same of lists in vectors, as the disk tells it
 pub told_more : {J : Type 0} (items : J → List PlacedRecord) (o n : Option Files) (region next g : ℕ) (lasts lasts2 : List ℕ) (js js2 : List J) (last : ℕ) (j : J) → next ≡ region + 1 → n ≡ o

@@ -10,6 +10,7 @@ ghost use Rattle.journal_defs.specs.Instance as defs;
 ghost use Rattle.journal_defs.specs.Instance.{IsInForm};
 ghost use Rattle.journal_defs.specs.Stands.{IsInstance};
 ghost use Rattle.site_files.specs.Errors.{instance_error};
+ghost use Rattle.site_files.specs.Outside.{IsNoInstance};
 
 use crate::error::FilesError;
 use gated_file::{GateError, sync_file};
@@ -80,6 +81,7 @@ pub fn read_instance<D: Disk>(alloc: Global, disk: &mut D) -> Result<InstanceLog
     ensures order { IfOk result (λ log. AreInOrder log.records) }
     ensures form { IfOk result (λ log. AllByRecursion IsInForm log.records) }
     ensures durable { OnOk result (IfSome (D.disk disk.old).content (λ files. IsDurable (D.disk disk.new) INSTANCE (files INSTANCE))) }
+    ensures place { (file offset : ℕ) → IsErrOf result (FilesError.NotAFile file offset) → IfSome (D.disk disk.old).content (λ files. IsNoInstance files file offset) }
     ensures outside { (file offset : ℕ) → IsErrOf result (FilesError.NotAFile file offset) → IfSome (D.disk disk.old).content (λ files. (rs : List defs.InstanceRecord) → IsInstance (files INSTANCE) rs → ⊥) }
     ensures content { (D.disk disk.new).content ≡ (D.disk disk.old).content }
     ensures any_moment { AtEachMoment (D.disk disk.old) (D.disk disk.new) (Image (D.disk disk.old)) }

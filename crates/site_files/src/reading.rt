@@ -11,10 +11,11 @@ ghost use Rattle.journal_defs.specs.Instance as defs;
 ghost use Rattle.journal_defs.specs.Instance.{generation};
 ghost use Rattle.journal_defs.specs.Sequence.{Placed};
 ghost use Rattle.journal_defs.specs.Stands.{IsInstance, IsJournal, AreRecords};
-ghost use Rattle.jnl_file.specs.Generations.{AreDurable};
+ghost use Rattle.jnl_file.specs.Generations.{AreDurable, IsOutsideGenerations};
 ghost use Rattle.jnl_record.specs.Values.{placed_value};
 ghost use Rattle.site_files.specs.Errors.{generations_error};
 ghost use Rattle.site_files.specs.Loading.{MayBeOpened, AreRead, WasRead, IsDirectory, last_of};
+ghost use Rattle.site_files.specs.Outside.{AreOutside, HaveBegun, IsOutsideRecords, IsOutsideSite};
 ghost use Rattle.site_files.specs.Reading.{HaveJournals, AreAllDurable, AreUnbegun, AreUnbegunDurable, HoldNoSite};
 ghost use Rattle.mupip_recover.specs.Site.{journal_of, site_records};
 
@@ -68,6 +69,7 @@ fn read_journals<D: Disk>(
     ensures read { IfOk result (λ made. IfSome (D.disk disk.old).content (λ files. IsJournal files region last made.last_began (map placed_value made.records.items))) }
     ensures began { IfOk result (λ made. made.last_began ≤ last) }
     ensures durable { OnOk result (IfSome (D.disk disk.old).content (AreDurable (D.disk disk.new) region last)) }
+    ensures place { (file offset : ℕ) → IsErrOf result (FilesError.NotAFile file offset) → IfSome (D.disk disk.old).content (λ files. IsOutsideGenerations files region last file offset) }
     ensures outside { (file offset : ℕ) → IsErrOf result (FilesError.NotAFile file offset) → IfSome (D.disk disk.old).content (λ files. (began : ℕ) (journal : List Placed) → IsJournal files region last began journal → ⊥) }
     ensures content { (D.disk disk.new).content ≡ (D.disk disk.old).content }
     ensures any_moment { AtEachMoment (D.disk disk.old) (D.disk disk.new) (Image (D.disk disk.old)) }
@@ -120,6 +122,7 @@ fn read_regions<D: Disk>(
     ensures many_last { IfOk result (λ made. length made.last_began.items ≡ regions) }
     ensures began { IfOk result (λ made. (r : ℕ) → last_of made.last_began.items r ≤ last) }
     ensures durable { OnOk result (IfSome (D.disk disk.old).content (AreAllDurable (D.disk disk.new) regions last)) }
+    ensures place { (file offset : ℕ) → IsErrOf result (FilesError.NotAFile file offset) → IfSome (D.disk disk.old).content (λ files. AreOutside files regions last file offset) }
     ensures outside { (file offset : ℕ) → IsErrOf result (FilesError.NotAFile file offset) → IfSome (D.disk disk.old).content (λ files. (began : ℕ → ℕ) (journal : ℕ → List Placed) → HaveJournals regions last began journal files → ⊥) }
     ensures content { (D.disk disk.new).content ≡ (D.disk disk.old).content }
     ensures any_moment { AtEachMoment (D.disk disk.old) (D.disk disk.new) (Image (D.disk disk.old)) }
@@ -152,6 +155,7 @@ fn see_unbegun<D: Disk>(
     requires generation { generation ≤ 65535 }
     ensures next { OnOk result (IfSome (D.disk disk.old).content (λ files. records (files (journal_file generation region)) ≡ Some [])) }
     ensures durable { OnOk result (IfSome (D.disk disk.old).content (λ files. IsDurable (D.disk disk.new) (journal_file generation region) (files (journal_file generation region)))) }
+    ensures place { (file offset : ℕ) → IsErrOf result (FilesError.NotAFile file offset) → (file ≡ journal_file generation region) × (offset ≡ 0) }
     ensures outside { (file offset : ℕ) → IsErrOf result (FilesError.NotAFile file offset) → IfSome (D.disk disk.old).content (λ files. records (files (journal_file generation region)) ≡ Some [] → ⊥) }
     ensures content { (D.disk disk.new).content ≡ (D.disk disk.old).content }
     ensures any_moment { AtEachMoment (D.disk disk.old) (D.disk disk.new) (Image (D.disk disk.old)) }
@@ -182,6 +186,7 @@ fn see_regions<D: Disk>(
     requires generation { generation ≤ 65535 }
     ensures next { OnOk result (IfSome (D.disk disk.old).content (AreUnbegun regions generation)) }
     ensures durable { OnOk result (IfSome (D.disk disk.old).content (AreUnbegunDurable (D.disk disk.new) regions generation)) }
+    ensures place { (file offset : ℕ) → IsErrOf result (FilesError.NotAFile file offset) → IfSome (D.disk disk.old).content (λ files. HaveBegun files regions generation file offset) }
     ensures outside { (file offset : ℕ) → IsErrOf result (FilesError.NotAFile file offset) → IfSome (D.disk disk.old).content (λ files. AreUnbegun regions generation files → ⊥) }
     ensures content { (D.disk disk.new).content ≡ (D.disk disk.old).content }
     ensures any_moment { AtEachMoment (D.disk disk.old) (D.disk disk.new) (Image (D.disk disk.old)) }
@@ -214,6 +219,7 @@ fn plan_of(alloc: Global, records: &[InstanceRecord]) -> Result<Plan, FilesError
     ensures regions { IfOk result (λ plan. plan.regions ≡ plan.directory.regions) }
     ensures few { IfOk result (λ plan. plan.regions ≤ 8) }
     ensures newest { IfOk result (λ plan. plan.newest ≡ generation (map record_value records.now)) }
+    ensures place { (file offset : ℕ) → IsErrOf result (FilesError.NotAFile file offset) → (file ≡ INSTANCE) × (offset ≡ 0) }
     ensures outside { (file offset : ℕ) → IsErrOf result (FilesError.NotAFile file offset) → IsDirectory (map record_value records.now) None }
     ensures causes { OnErr result (((file : ℕ) × (offset : ℕ) × IsErrOf result (FilesError.NotAFile file offset)) ⊎ IsErrOf result FilesError.NoMemory) }
 {
@@ -237,6 +243,7 @@ fn lay_out(alloc: Global, records: &[InstanceRecord]) -> Result<Plan, FilesError
     ensures newest { IfOk result (λ plan. plan.newest ≡ generation (map record_value records.now)) }
     ensures low { IfOk result (λ plan. plan.newest < 65534) }
     ensures limit { IsErrOf result FilesError.GenLimit → 65534 ≤ generation (map record_value records.now) }
+    ensures place { (file offset : ℕ) → IsErrOf result (FilesError.NotAFile file offset) → (file ≡ INSTANCE) × (offset ≡ 0) }
     ensures outside { (file offset : ℕ) → IsErrOf result (FilesError.NotAFile file offset) → IsDirectory (map record_value records.now) None }
     ensures no_fault { (fault : ℕ) → IsErrOf result (FilesError.Failed fault) → ⊥ }
 {
@@ -248,9 +255,14 @@ fn lay_out(alloc: Global, records: &[InstanceRecord]) -> Result<Plan, FilesError
 }
 
 /// Syncs and reads the instance file and the journals of a site, however many generations were drawn. It writes nothing.
+///
+/// # Errors
+/// `NotAFile` exactly where the files hold no site's records, with the first file that is outside the format and the place of
+/// what can't stand there.
 pub fn read_records<D: Disk>(alloc: Global, disk: &mut D) -> Result<ReadSite, FilesError>
     ensures held { IfOk result (λ read. IfSome (D.disk disk.old).content (λ files. AreRecords files (site_records read.log.records (map (λ j. j.items) read.journals.items)))) }
     ensures order { IfOk result (λ read. AreInOrder read.log.records) }
+    ensures place { (file offset : ℕ) → IsErrOf result (FilesError.NotAFile file offset) → IfSome (D.disk disk.old).content (λ files. IsOutsideRecords files file offset) }
     ensures outside { (file offset : ℕ) → IsErrOf result (FilesError.NotAFile file offset) → IfSome (D.disk disk.old).content HoldNoSite }
     ensures content { (D.disk disk.new).content ≡ (D.disk disk.old).content }
     ensures any_moment { AtEachMoment (D.disk disk.old) (D.disk disk.new) (Image (D.disk disk.old)) }
@@ -273,12 +285,17 @@ pub fn read_records<D: Disk>(alloc: Global, disk: &mut D) -> Result<ReadSite, Fi
 
 /// Syncs and reads the instance file and the journals of a site that is to be opened, of which a generation is left. It writes
 /// nothing.
+///
+/// # Errors
+/// `GenLimit` where no generation is left; `NotAFile` with the first file that is outside the format and the place of what
+/// can't stand there, or with the first journal of the next generation that has begun already.
 pub fn read_site<D: Disk>(alloc: Global, disk: &mut D) -> Result<ReadSite, FilesError>
     ensures form { IfOk result (λ read. MayBeOpened read.log.records (last_of read.last_began.items)) }
     ensures directory { IfOk result (λ read. IsDirectory read.log.records (Some read.directory)) }
     ensures counted { IfOk result (λ read. length read.last_began.items ≡ length (defs.regions read.log.records)) }
     ensures read { IfOk result (λ read. IfSome (D.disk disk.old).content (WasRead (D.disk disk.new) read.log.records (last_of read.last_began.items) (journal_of (map (λ j. j.items) read.journals.items)))) }
     ensures limit { IsErrOf result FilesError.GenLimit → IfSome (D.disk disk.old).content (λ files. (rs : List defs.InstanceRecord) → IsInstance (files INSTANCE) rs → 65534 ≤ generation rs) }
+    ensures place { (file offset : ℕ) → IsErrOf result (FilesError.NotAFile file offset) → IfSome (D.disk disk.old).content (λ files. IsOutsideSite files file offset) }
     ensures outside { (file offset : ℕ) → IsErrOf result (FilesError.NotAFile file offset) → IfSome (D.disk disk.old).content (λ files. (rs : List defs.InstanceRecord) (last : ℕ → ℕ) (journal : ℕ → List Placed) → MayBeOpened rs last → AreRead rs last journal files → ⊥) }
     // where no generation is left, the records alone may be at fault
     ensures late { (file offset : ℕ) → IsErrOf result (FilesError.NotAFile file offset) → IfSome (D.disk disk.old).content (λ files. (rs : List defs.InstanceRecord) → IsInstance (files INSTANCE) rs → 65534 ≤ generation rs → IsDirectory rs None) }

@@ -12,9 +12,44 @@ use Rattle.mupip_recover.specs.Site.{journal_of}
 use Rattle.site_files.specs.declared.error.FilesError.TheVariants.{NotAFile}
 use Rattle.site_files.specs.Loading.{IsDirectory, last_of}
 use Rattle.site_files.specs.Reading.{HaveJournals}
+use Rattle.site_files.specs.Outside.{AreOutside}
+use Rattle.site_files.proofs.Places.{instance_place, directory_place, journals_place}
 use Rattle.site_files.proofs.Errors.{handed_on, causes_on}
 use Rattle.site_files.proofs.RecordsRead.{generation_low, hold_no_instance, hold_no_directory, hold_no_journals, are_held}
 use Rattle.site_files.proofs.reading.read_records.Goals as goal
+
+pub returns-in_err-log-clause-place : goal.returns-in_err-log-clause-place
+returns-in_err-log-clause-place g c =
+    let o = (g.D.Disk.disk c.args.disk.now).content in
+    let p = err_from_is_err_and c.from_residual.result c.from_residual.ensures.1 in
+    rw (p.1, p.2) (λ file offset is.
+    instance_place o file offset (c.in_err-log.ensures.place file offset (handed_on c.in_err-log.field-0.0 (NotAFile file offset) is)))
+
+pub returns-in_err-plan-clause-place : goal.returns-in_err-plan-clause-place
+returns-in_err-plan-clause-place g c =
+    let o = (g.D.Disk.disk c.args.disk.now).content in
+    let p = err_from_is_err_and c.from_residual-in_err-plan.result c.from_residual-in_err-plan.ensures.1 in
+    rw (p.1, p.2) (λ file offset is.
+    let there = handed_on c.in_err-plan.field-0.0 (NotAFile file offset) is in
+    directory_place o file offset c.in_ok-log.log.records c.in_ok-log.ensures.reads
+    (subst (λ (k : List InstanceRecord). IsDirectory k None) c.as_slice.ensures (c.in_err-plan.ensures.outside file offset there))
+    (c.in_err-plan.ensures.place file offset there))
+
+pub returns-in_err-found-clause-place : goal.returns-in_err-found-clause-place
+returns-in_err-found-clause-place g c =
+    let view = g.D.Disk.disk in
+    let o = (view c.args.disk.now).content in
+    let rs = c.in_ok-log.log.records in
+    let n = c.in_ok-plan.plan.regions in
+    let n2 = c.in_ok-plan.plan.newest in
+    let directory = subst (λ (k : List InstanceRecord). IsDirectory k (Some c.in_ok-plan.plan.directory)) c.as_slice.ensures c.in_ok-plan.ensures.directory in
+    let many : n ≡ length (regions rs) = c.in_ok-plan.ensures.regions ∙ ap (λ (d : Mapping). d.regions) directory.2 in
+    let newest : n2 ≡ generation rs = c.in_ok-plan.ensures.newest ∙ ap generation c.as_slice.ensures in
+    let p = err_from_is_err_and c.from_residual-in_err-found.result c.from_residual-in_err-found.ensures.1 in
+    rw (p.1, p.2) (λ file offset is.
+    journals_place o file offset rs c.in_ok-log.ensures.reads n n2 many newest
+    (told_at o (view c.read_instance.new.disk).content (λ files. AreOutside files n n2 file offset) c.in_ok-log.ensures.content
+    (c.in_err-found.ensures.place file offset (handed_on c.in_err-found.field-0.0 (NotAFile file offset) is))))
 
 pub returns-in_err-log-clause-outside : goal.returns-in_err-log-clause-outside
 returns-in_err-log-clause-outside g c =

@@ -6,7 +6,7 @@ use Rattle.jnl_record.specs.declared.placed.PlacedRecord.{PlacedRecord}
 use Rattle.site_files.specs.Loading.{last_of}
 use Rattle.site_files.specs.declared.error.FilesError.TheVariants.{NotAFile}
 use Rattle.site_files.proofs.Errors.{handed_on, causes_on}
-use Rattle.site_files.proofs.RegionsRead.{told_none, told_more, one_longer, began_more, told_durable}
+use Rattle.site_files.proofs.RegionsRead.{told_none, told_outside, told_more, one_longer, began_more, told_durable}
 use Rattle.site_files.proofs.reading.read_regions.Goals as goal
 
 pub returns-in_err-read-clause-outside : goal.returns-in_err-read-clause-outside
@@ -17,6 +17,16 @@ returns-in_err-read-clause-outside g c =
     let p = err_from_is_err_and c.from_residual.result c.from_residual.ensures.1 in
     rw (p.1, p.2) (λ file offset is.
     told_none (view c.args.disk.now).content (view l.disk).content c.args.regions l.region c.args.last low l.invariant.content (c.in_err-read.ensures.outside file offset (handed_on c.in_err-read.field-0.0 (NotAFile file offset) is)))
+
+pub returns-in_err-read-clause-place : goal.returns-in_err-read-clause-place
+returns-in_err-read-clause-place g c =
+    let view = g.D.Disk.disk in
+    let l = c.loop-region in
+    let low : l.region < c.args.regions = omega arith in
+    let p = err_from_is_err_and c.from_residual.result c.from_residual.ensures.1 in
+    rw (p.1, p.2) (λ file offset is.
+    told_outside (view c.args.disk.now).content (view l.disk).content c.args.regions l.region c.args.last _ _ file offset low l.invariant.content l.invariant.read
+    (c.in_err-read.ensures.place file offset (handed_on c.in_err-read.field-0.0 (NotAFile file offset) is)))
 
 pub returns-in_err-read-clause-causes : goal.returns-in_err-read-clause-causes
 returns-in_err-read-clause-causes g c =

@@ -14,9 +14,61 @@ use Rattle.mupip_recover.specs.Site.{journal_of}
 use Rattle.site_files.specs.declared.error.FilesError.TheVariants.{NotAFile, GenLimit}
 use Rattle.site_files.specs.Loading.{IsDirectory, last_of}
 use Rattle.site_files.specs.Reading.{HaveJournals, AreAllDurable, AreUnbegun, AreUnbegunDurable}
+use Rattle.site_files.specs.Outside.{AreOutside, HaveBegun}
+use Rattle.site_files.proofs.Places.{instance_place, site_place, directory_place, journals_place, begun_place}
 use Rattle.site_files.proofs.Errors.{handed_on, causes_on}
 use Rattle.site_files.proofs.WhatIsRead.{no_instance, no_late_instance, limit_read, no_directory, no_late_directory, not_late, no_journals, no_next, may_be_opened, was_read}
 use Rattle.site_files.proofs.reading.read_site.Goals as goal
+
+pub returns-in_err-log-clause-place : goal.returns-in_err-log-clause-place
+returns-in_err-log-clause-place g c =
+    let o = (g.D.Disk.disk c.args.disk.now).content in
+    let p = err_from_is_err_and c.from_residual.result c.from_residual.ensures.1 in
+    rw (p.1, p.2) (λ file offset is.
+    site_place o file offset (instance_place o file offset (c.in_err-log.ensures.place file offset (handed_on c.in_err-log.field-0.0 (NotAFile file offset) is))))
+
+pub returns-in_err-plan-clause-place : goal.returns-in_err-plan-clause-place
+returns-in_err-plan-clause-place g c =
+    let o = (g.D.Disk.disk c.args.disk.now).content in
+    let p = err_from_is_err_and c.from_residual-in_err-plan.result c.from_residual-in_err-plan.ensures.1 in
+    rw (p.1, p.2) (λ file offset is.
+    let there = handed_on c.in_err-plan.field-0.0 (NotAFile file offset) is in
+    site_place o file offset (directory_place o file offset c.in_ok-log.log.records c.in_ok-log.ensures.reads
+    (subst (λ (k : List InstanceRecord). IsDirectory k None) c.as_slice.ensures (c.in_err-plan.ensures.outside file offset there))
+    (c.in_err-plan.ensures.place file offset there)))
+
+pub returns-in_err-read-clause-place : goal.returns-in_err-read-clause-place
+returns-in_err-read-clause-place g c =
+    let view = g.D.Disk.disk in
+    let o = (view c.args.disk.now).content in
+    let rs = c.in_ok-log.log.records in
+    let n = c.in_ok-plan.plan.regions in
+    let n2 = c.in_ok-plan.plan.newest in
+    let directory = subst (λ (k : List InstanceRecord). IsDirectory k (Some c.in_ok-plan.plan.directory)) c.as_slice.ensures c.in_ok-plan.ensures.directory in
+    let many : n ≡ length (regions rs) = c.in_ok-plan.ensures.regions ∙ ap (λ (d : Mapping). d.regions) directory.2 in
+    let newest : n2 ≡ generation rs = c.in_ok-plan.ensures.newest ∙ ap generation c.as_slice.ensures in
+    let p = err_from_is_err_and c.from_residual-in_err-read.result c.from_residual-in_err-read.ensures.1 in
+    rw (p.1, p.2) (λ file offset is.
+    site_place o file offset (journals_place o file offset rs c.in_ok-log.ensures.reads n n2 many newest
+    (told_at o (view c.read_instance.new.disk).content (λ files. AreOutside files n n2 file offset) c.in_ok-log.ensures.content
+    (c.in_err-read.ensures.place file offset (handed_on c.in_err-read.field-0.0 (NotAFile file offset) is)))))
+
+pub returns-in_err-see_regions-clause-place : goal.returns-in_err-see_regions-clause-place
+returns-in_err-see_regions-clause-place g c =
+    let view = g.D.Disk.disk in
+    let o = (view c.args.disk.now).content in
+    let rs = c.in_ok-log.log.records in
+    let n = c.in_ok-plan.plan.regions in
+    let n2 = c.in_ok-plan.plan.newest + 1 in
+    let directory = subst (λ (k : List InstanceRecord). IsDirectory k (Some c.in_ok-plan.plan.directory)) c.as_slice.ensures c.in_ok-plan.ensures.directory in
+    let many : n ≡ length (regions rs) = c.in_ok-plan.ensures.regions ∙ ap (λ (d : Mapping). d.regions) directory.2 in
+    let newest : c.in_ok-plan.plan.newest ≡ generation rs = c.in_ok-plan.ensures.newest ∙ ap generation c.as_slice.ensures in
+    let drawn : n2 ≡ suc (generation rs) = omega (arith, newest) in
+    let p = err_from_is_err_and c.from_residual-in_err-see_regions.result c.from_residual-in_err-see_regions.ensures.1 in
+    rw (p.1, p.2) (λ file offset is.
+    begun_place o file offset rs c.in_ok-log.ensures.reads n n2 many drawn
+    (told_at o (view c.read_regions.new.disk).content (λ files. HaveBegun files n n2 file offset) (c.in_ok-read.ensures.content ∙ c.in_ok-log.ensures.content)
+    (c.in_err-see_regions.ensures.place file offset (handed_on c.in_err-see_regions.field-0.0 (NotAFile file offset) is))))
 
 pub returns-in_err-log-clause-outside : goal.returns-in_err-log-clause-outside
 returns-in_err-log-clause-outside g c =

@@ -2,7 +2,7 @@ use Rattle.std.proofs.Common.{◌≡◌, ◌+◌, ◌<◌, refl, ◌∙◌, arit
 use Rattle.std.proofs.lemmas.Result.{err_from_is_err_and}
 use Rattle.disk_defs.specs.Disk.{Image}
 use Rattle.disk_defs.proofs.Moments.{nothing_new}
-use Rattle.site_files.proofs.RegionsRead.{told_begun, told_unbegun, told_unbegun_durable}
+use Rattle.site_files.proofs.RegionsRead.{told_begun, told_begun_early, told_unbegun, told_unbegun_durable}
 use Rattle.site_files.proofs.reading.see_regions.Goals as goal
 
 pub returns-in_err-see_unbegun-clause-outside : goal.returns-in_err-see_unbegun-clause-outside
@@ -13,6 +13,16 @@ returns-in_err-see_unbegun-clause-outside g c =
     let p = err_from_is_err_and c.from_residual.result c.from_residual.ensures.1 in
     rw (p.1, p.2) (λ file offset is.
     told_begun (view c.args.disk.now).content (view l.disk).content c.args.regions l.region c.args.generation low l.invariant.content (c.in_err-see_unbegun.ensures.outside file offset is))
+
+pub returns-in_err-see_unbegun-clause-place : goal.returns-in_err-see_unbegun-clause-place
+returns-in_err-see_unbegun-clause-place g c =
+    let view = g.D.Disk.disk in
+    let l = c.loop-region in
+    let low : l.region < c.args.regions = omega arith in
+    let p = err_from_is_err_and c.from_residual.result c.from_residual.ensures.1 in
+    rw (p.1, p.2) (λ file offset is.
+    told_begun_early (view c.args.disk.now).content (view l.disk).content c.args.regions l.region c.args.generation file offset low l.invariant.content (c.in_err-see_unbegun.ensures.place file offset is) l.invariant.next
+    (c.in_err-see_unbegun.ensures.outside file offset is))
 
 pub returns-in_err-see_unbegun-clause-causes : goal.returns-in_err-see_unbegun-clause-causes
 returns-in_err-see_unbegun-clause-causes g c =

@@ -1,0 +1,51 @@
+-- What lies outside the files of a site, and where.
+use Rattle.std.specs.Prelude.{◌≡◌, ◌⊎◌, ℕ, suc, ◌<◌, List, [], length, Some, None}
+use Rattle.disk_defs.specs.Disk.{Files}
+use Rattle.disk_defs.specs.Gates.{records}
+use Rattle.journal_defs.specs.Numbers.{INSTANCE, journal_file}
+use Rattle.journal_defs.specs.Instance.{InstanceRecord, generation, regions}
+use Rattle.journal_defs.specs.Sequence.{Placed}
+use Rattle.journal_defs.specs.Stands.{IsInstance}
+use Rattle.instance_file.specs.Reading.{IsOutsideInstance}
+use Rattle.jnl_file.specs.Generations.{IsOutsideGenerations}
+use Rattle.site_files.specs.Loading.{IsDirectory}
+use Rattle.site_files.specs.Reading.{HaveJournals, AreUnbegun}
+
+-- the instance file isn't one, by what stands at this place
+abbrev pub IsNoInstance : Files → ℕ → ℕ → Type 0
+IsNoInstance files file offset = (file ≡ INSTANCE) × IsOutsideInstance (files INSTANCE) offset
+
+-- it has no records of one to eight regions with each MAP to one of them; the place is its beginning
+abbrev pub HasNoDirectory : Files → ℕ → ℕ → Type 0
+HasNoDirectory files file offset = (rs : List InstanceRecord) × IsInstance (files INSTANCE) rs × IsDirectory rs None × (file ≡ INSTANCE) × (offset ≡ 0)
+
+-- The first of so many regions whose journals up to a generation aren't its journals: the first such journal, by what stands at this place.
+pub record AreOutside (files : Files) (regions last file offset : ℕ) : Type 0 where
+  pub region : ℕ
+  pub below : region < regions
+  pub began : ℕ → ℕ
+  pub journal : ℕ → List Placed
+  pub earlier : HaveJournals region last began journal files
+  pub outside : IsOutsideGenerations files region last file offset
+
+-- The first of so many regions in whose journal of a generation that isn't drawn there is an open record, or no gate of the format: the place
+-- is its beginning.
+pub record HaveBegun (files : Files) (regions generation file offset : ℕ) : Type 0 where
+  pub region : ℕ
+  pub below : region < regions
+  pub earlier : AreUnbegun region generation files
+  pub begun : records (files (journal_file generation region)) ≡ Some [] → ⊥
+  pub file_is : file ≡ journal_file generation region
+  pub offset_is : offset ≡ 0
+
+-- the files hold no site's records, by what stands at this place of this file
+abbrev pub IsOutsideRecords : Files → ℕ → ℕ → Type 0
+IsOutsideRecords files file offset =
+    IsNoInstance files file offset ⊎ HasNoDirectory files file offset
+    ⊎ ((rs : List InstanceRecord) × IsInstance (files INSTANCE) rs × AreOutside files (length (regions rs)) (generation rs) file offset)
+
+-- or the next generation has begun already
+abbrev pub IsOutsideSite : Files → ℕ → ℕ → Type 0
+IsOutsideSite files file offset =
+    IsOutsideRecords files file offset
+    ⊎ ((rs : List InstanceRecord) × IsInstance (files INSTANCE) rs × HaveBegun files (length (regions rs)) (suc (generation rs)) file offset)
