@@ -1,5 +1,5 @@
 -- Files by which no site is opened.
-use Rattle.std.proofs.Common.{◌≡◌, inl, inr, ℕ, suc, ◌≤◌, ◌<◌, List, length, Option, None, IfSome, sym, ap, subst, arith}
+use Rattle.std.proofs.Common.{◌≡◌, inl, inr, ℕ, suc, ◌≤◌, ◌<◌, List, length, Option, Some, None, IfSome, sym, ap, subst, arith}
 use Rattle.std.specs.List.{AllByRecursion}
 use Rattle.std.proofs.lemmas.Bool.{cases_lt}
 use Rattle.disk_defs.specs.Disk.{Files, View, Image, IsLawful, AtEachMoment}
@@ -16,6 +16,11 @@ use Rattle.world_defs.specs.Rows.{last_generation}
 use Rattle.world_defs.specs.Ties.{IsSite}
 use Rattle.site_store.proofs.Found.{all_in_form, region_count, made_some, site_instance, site_directory}
 use Rattle.site_store.proofs.Starts.{starts_of, last_is, last_low}
+
+-- a fact that doesn't hang on what the disk tells
+pub told_anyway : (o : Option Files) (P : Type 0) → P → IfSome o (λ _. P)
+told_anyway None P p = _
+told_anyway (Some files) P p = p
 
 -- a site of which a generation is left may be opened
 module _ (files : Files) (c : Contents) (site : IsSite files c) where

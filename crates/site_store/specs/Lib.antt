@@ -5,3 +5,4 @@ pub mod Finding
 pub mod Reigning
 pub mod Committing
 pub mod Owning
+pub mod Refusing

@@ -8,6 +8,7 @@ ghost use Rattle.journal_defs.specs.Instance.{IsInForm};
 ghost use Rattle.world_defs.specs.World.{Contents};
 ghost use Rattle.world_defs.specs.Ties.{IsBlank, IsSite, Stands};
 ghost use Rattle.instance_file.specs.Values.{named_mode};
+ghost use Rattle.site_files.specs.Outside.{IsNoInstance, HasNoDirectory};
 ghost use Rattle.site_store.specs.Finding.{IsFound};
 ghost use Rattle.site_store.specs.Opening.{region_value, made, MayMake, StandsAsBefore};
 
@@ -24,12 +25,14 @@ use std::alloc::Global;
 /// What site stands on a disk, if one does. It syncs the instance file first.
 ///
 /// # Errors
-/// `NotAFile` only where the disk's files are outside the formats; `Failed` only where the disk's count rose; and `NoMemory`.
+/// `NotAFile` where the instance file is outside the format, with the place of what can't stand there, or its records are no site's, with
+/// offset 0; `Failed` only where the disk's count rose; and `NoMemory`.
 pub fn inspect<D: Disk>(alloc: Global, disk: &mut D) -> Result<Option<Layout>, SiteError>
     ensures found { IfOk result (λ found. IfSome (D.disk disk.old).content (λ files. (c : Contents) → Stands files c → IsFound c found)) }
     ensures content { (D.disk disk.new).content ≡ (D.disk disk.old).content }
     ensures alike { OnOk result (IfSome (D.disk disk.old).content (λ files. (c o : Contents) (f : Files) → Stands files c → Image (D.disk disk.new) f → Stands f o → o.instance ≡ c.instance)) }
     ensures empty { result ≡ Ok None → IfSome (D.disk disk.new).content (λ files. records (files INSTANCE) ≡ Some []) }
+    ensures place { (file offset : ℕ) → IsErrOf result (SiteError.NotAFile file offset) → IfSome (D.disk disk.old).content (λ files. IsNoInstance files file offset ⊎ HasNoDirectory files file offset) }
     ensures outside { (file : ℕ) (offset : ℕ) → IsErrOf result (SiteError.NotAFile file offset) → IfSome (D.disk disk.old).content (λ files. (c : Contents) → Stands files c → ⊥) }
     ensures any_moment { IfSome (D.disk disk.old).content (λ _. AtEachMoment (D.disk disk.old) (D.disk disk.new) (StandsAsBefore (D.disk disk.old))) }
     ensures still_told { IsSome (D.disk disk.old).content → IsSome (D.disk disk.new).content }

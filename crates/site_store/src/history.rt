@@ -4,6 +4,7 @@ ghost use Rattle.disk_defs.specs.Disk.{Image, AtEachMoment, Rose};
 ghost use Rattle.gvn_model.specs.Reigns.{reign_value};
 ghost use Rattle.world_defs.specs.World.{Contents};
 ghost use Rattle.world_defs.specs.Ties.{IsSite};
+ghost use Rattle.site_files.specs.Outside.{IsOutsideRecords};
 ghost use Rattle.site_store.specs.Finding.{IsHistoryOf};
 
 use crate::error::SiteError;
@@ -30,10 +31,11 @@ fn reigns_by(alloc: Global, reigns: &[Reign], number: u64) -> Result<Reigns, NoM
 /// which its entries were made. It syncs the files first, and writes nothing. It takes a site of any number of generations.
 ///
 /// # Errors
-/// `NotAFile` only where the disk's files are outside the formats, or with file 0 and offset 0 where no site stands there. `Failed`
-/// only where the disk's count rose. `NoMemory`.
+/// `NotAFile` with the first file that is outside the formats and the place of what can't stand there, or with file 0 and offset 0
+/// where no site stands there. `Failed` only where the disk's count rose. `NoMemory`.
 pub fn history_of<D: Disk>(alloc: Global, disk: &mut D) -> Result<History, SiteError>
     ensures history { IfOk result (λ h. IfSome (D.disk disk.old).content (λ files. (c : Contents) → IsSite files c → IsHistoryOf c h)) }
+    ensures place { (file offset : ℕ) → IsErrOf result (SiteError.NotAFile file offset) → IfSome (D.disk disk.old).content (λ files. IsOutsideRecords files file offset) }
     ensures outside { (file offset : ℕ) → IsErrOf result (SiteError.NotAFile file offset) → IfSome (D.disk disk.old).content (λ files. (c : Contents) → IsSite files c → ⊥) }
     ensures content { (D.disk disk.new).content ≡ (D.disk disk.old).content }
     ensures any_moment { AtEachMoment (D.disk disk.old) (D.disk disk.new) (Image (D.disk disk.old)) }

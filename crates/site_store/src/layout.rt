@@ -1,6 +1,7 @@
 //! What the instance file of a site says of it.
 ghost use Rattle.std.specs.Prelude.{◌≡◌, ◌⊎◌, ◌<◌, ℕ, length, map, Some, None, IfOk, OnErr, IsErrOf};
 ghost use Rattle.instance_file.specs.Values.{named_mode, record_value};
+ghost use Rattle.journal_defs.specs.Numbers.{INSTANCE};
 ghost use Rattle.journal_defs.specs.Instance as defs;
 ghost use Rattle.site_files.specs.Loading.{IsDirectory};
 ghost use Rattle.site_store.specs.Finding.{IsLaidOut};
@@ -68,6 +69,7 @@ pub(crate) fn layout_of(
 ) -> Result<Option<Layout>, SiteError>
     ensures layout { IfOk result (λ found. IsLaidOut (map record_value records.now) found) }
     ensures outside { (file offset : ℕ) → IsErrOf result (SiteError.NotAFile file offset) → (0 < length records.now) × IsDirectory (map record_value records.now) None }
+    ensures place { (file offset : ℕ) → IsErrOf result (SiteError.NotAFile file offset) → (file ≡ INSTANCE) × (offset ≡ 0) }
     ensures causes { OnErr result (((file : ℕ) × (offset : ℕ) × IsErrOf result (SiteError.NotAFile file offset)) ⊎ IsErrOf result SiteError.NoMemory) }
 {
     if records.is_empty() {

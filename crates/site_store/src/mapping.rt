@@ -11,6 +11,8 @@ ghost use Rattle.journal_defs.specs.Stands.{IsInstance};
 ghost use Rattle.world_defs.specs.World.{Contents};
 ghost use Rattle.world_defs.specs.Rows.{with_pattern};
 ghost use Rattle.world_defs.specs.Ties.{IsSite};
+ghost use Rattle.site_files.specs.Outside.{IsNoInstance};
+ghost use Rattle.site_store.specs.Refusing.{TakesNoPattern};
 ghost use Rattle.site_store.specs.Opening.{MayHavePattern, EachStands};
 
 use crate::error::SiteError;
@@ -67,8 +69,8 @@ fn append_pattern<D: Disk>(
 /// Maps a pattern, as it is written, to a region of the site that stands on a disk, of which no generation was drawn yet.
 ///
 /// # Errors
-/// `NotAFile` only where the disk's files are outside the formats, or with file 0 and offset 0 where no site with such a region
-/// stands there, or a generation of its journals was drawn. `Failed` only where the disk's count rose; a crash may then find the
+/// `NotAFile` where the instance file is outside the format, with the place of what can't stand there, or with offset 0 where no site with
+/// such a region stands there, or a generation of its journals was drawn. `Failed` only where the disk's count rose; a crash may then find the
 /// pattern all the same. `NoMemory`.
 pub fn map<D: Disk>(
     alloc: Global,
@@ -80,6 +82,7 @@ pub fn map<D: Disk>(
     requires site { IfSome (D.disk disk.old).content (λ files. (c : Contents) → IsSite files c → (generation c.instance ≡ 0) × (region < length (regions c.instance))) }
     ensures reads { OnOk result (IfSome (D.disk disk.old).content (λ files. (c : Contents) → IsSite files c → IfSome (D.disk disk.new).content (λ now. IsSite now (with_pattern region pattern.now c)))) }
     ensures images { OnOk result (IfSome (D.disk disk.old).content (λ files. (c : Contents) → IsSite files c → EachStands (D.disk disk.old) → (f : Files) → Image (D.disk disk.new) f → IsSite f (with_pattern region pattern.now c))) }
+    ensures place { (file offset : ℕ) → IsErrOf result (SiteError.NotAFile file offset) → IfSome (D.disk disk.old).content (λ files. IsNoInstance files file offset ⊎ TakesNoPattern files region file offset) }
     ensures outside { (file offset : ℕ) → IsErrOf result (SiteError.NotAFile file offset) → IfSome (D.disk disk.old).content (λ files. (c : Contents) → IsSite files c → ⊥) }
     ensures any_moment { IfSome (D.disk disk.old).content (λ files. (c : Contents) → IsSite files c → AtEachMoment (D.disk disk.old) (D.disk disk.new) (MayHavePattern (D.disk disk.old) region pattern.now)) }
     ensures stands { IfSome (D.disk disk.old).content (λ files. (c : Contents) → IsSite files c → IfSome (D.disk disk.new).content (λ now. IsSite now c ⊎ IsSite now (with_pattern region pattern.now c))) }

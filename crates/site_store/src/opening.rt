@@ -8,6 +8,8 @@ ghost use Rattle.world_defs.specs.World.{Contents, Leftover};
 ghost use Rattle.world_defs.specs.Rows.{opened, MayOpen};
 ghost use Rattle.world_defs.specs.Ties.{IsSite, HasLeft};
 ghost use Rattle.site_files.specs.Loading.{next_cut};
+ghost use Rattle.site_files.specs.Outside.{IsOutsideSite};
+ghost use Rattle.site_store.specs.Refusing.{IsUnwritten};
 ghost use Rattle.site_store.specs.Finding.{HasLayout, mapping_of};
 ghost use Rattle.site_store.specs.Site.{Remembers, IsReady, IsOpen, WasOpened};
 ghost use Rattle.site_store.specs.Opening.{MayBeOpen, EachStands, AreTextsDurable};
@@ -102,8 +104,9 @@ fn sync_texts<D: Disk>(disk: &mut D, generations: u32) -> Result<(), SiteError>
 /// length of that, and begins the next generation in each region.
 ///
 /// # Errors
-/// `GenLimit` exactly where 65,534 generations were drawn, and then nothing was written. `NotAFile` only where the disk's files
-/// are outside the formats, or with file 0 and offset 0 where no site stands there. `Failed` only where the disk's count rose.
+/// `GenLimit` exactly where 65,534 generations were drawn, and then nothing was written. `NotAFile` with the
+/// first file that is outside the formats and the place of what can't stand there, or with file 0 and offset 0 where no site stands
+/// there; nothing was written then. `Failed` only where the disk's count rose.
 /// `NoMemory`.
 pub fn load<D: Disk>(alloc: Global, disk: &mut D) -> Result<OpenSite, SiteError>
     ensures ready { IfOk result (λ s. IsReady (D.disk disk.new) s) }
@@ -114,6 +117,8 @@ pub fn load<D: Disk>(alloc: Global, disk: &mut D) -> Result<OpenSite, SiteError>
     ensures limit { IsErrOf result SiteError.GenLimit → IfSome (D.disk disk.old).content (λ files. (c : Contents) → IsSite files c → 65534 ≤ generation c.instance) }
     ensures unwritten { IsErrOf result SiteError.GenLimit → (D.disk disk.new).content ≡ (D.disk disk.old).content }
     ensures untouched { IsErrOf result SiteError.GenLimit → AtEachMoment (D.disk disk.old) (D.disk disk.new) (Image (D.disk disk.old)) }
+    ensures place { (file offset : ℕ) → IsErrOf result (SiteError.NotAFile file offset) → IfSome (D.disk disk.old).content (λ files. IsOutsideSite files file offset) }
+    ensures refused { (file offset : ℕ) → IsErrOf result (SiteError.NotAFile file offset) → IfSome (D.disk disk.old).content (λ _. IsUnwritten (D.disk disk.old) (D.disk disk.new)) }
     ensures outside { (file offset : ℕ) → IsErrOf result (SiteError.NotAFile file offset) → IfSome (D.disk disk.old).content (λ files. (c : Contents) → IsSite files c → ⊥) }
     ensures any_moment { IfSome (D.disk disk.old).content (λ files. (c : Contents) (left : Leftover) → IsSite files c → HasLeft files c left → AtEachMoment (D.disk disk.old) (D.disk disk.new) (MayBeOpen (D.disk disk.old) left.broken)) }
     ensures still_told { IsSome (D.disk disk.old).content → IsSome (D.disk disk.new).content }

@@ -23,6 +23,8 @@ ghost use Rattle.world_defs.specs.Output.{zwrite};
 ghost use Rattle.world_defs.specs.Refusals.{reign_limit};
 ghost use Rattle.world_defs.specs.Rows.{opened, MayOpen, with_reign, next_stamp, with_sequence, IsFrontOf};
 ghost use Rattle.world_defs.specs.Ties.{IsBlank, IsSite, HasLeft};
+ghost use Rattle.site_files.specs.Outside.{IsOutsideSite};
+ghost use Rattle.site_store.specs.Refusing.{IsUnwritten};
 ghost use Rattle.site_store.specs.Site.{Remembers, WasOpened, HasReign, HasRoomFor, with_entry};
 ghost use Rattle.site_store.specs.Opening.{region_value, made, MayMake, MayBeOpen, EachStands};
 ghost use Rattle.site_store.specs.Committing.{IsSameMemory};
@@ -97,9 +99,9 @@ impl<D: Disk> Site<D> {
     /// and begins the next generation. With an error it hands the disk back.
     ///
     /// # Errors
-    /// `GenLimit` exactly where 65,534 generations were drawn, and then nothing was written. `NotAFile` only where the disk's
-    /// files are outside the formats, or with file 0 and offset 0 where no site stands there. `Failed` only where the disk's count
-    /// rose. `NoMemory`.
+    /// `GenLimit` exactly where 65,534 generations were drawn, and then nothing was written. `NotAFile` with
+    /// the first file that is outside the formats and the place of what can't stand there, or with file 0 and offset 0 where no site
+    /// stands there; nothing was written then. `Failed` only where the disk's count rose. `NoMemory`.
     pub fn load(alloc: Global, mut disk: D) -> Result<Site<D>, (D, SiteError)>
         ensures ready { IfOk result (IsGoing D.disk) }
         ensures read { IfOk result (λ s. (c : Contents) × (broken : List ℕ) × Remembers (opened broken c) (length c.sequence) s.inner) }
@@ -109,6 +111,8 @@ impl<D: Disk> Site<D> {
         ensures limit { FailsWith result SiteError.GenLimit → IfSome (D.disk disk).content (λ files. (c : Contents) → IsSite files c → 65534 ≤ generation c.instance) }
         ensures unwritten { FailsWith result SiteError.GenLimit → (D.disk (disk_left result)).content ≡ (D.disk disk).content }
         ensures untouched { FailsWith result SiteError.GenLimit → AtEachMoment (D.disk disk) (D.disk (disk_left result)) (Image (D.disk disk)) }
+        ensures place { (file offset : ℕ) → FailsWith result (SiteError.NotAFile file offset) → IfSome (D.disk disk).content (λ files. IsOutsideSite files file offset) }
+        ensures refused { (file offset : ℕ) → FailsWith result (SiteError.NotAFile file offset) → IfSome (D.disk disk).content (λ _. IsUnwritten (D.disk disk) (D.disk (disk_left result))) }
         ensures outside { (file offset : ℕ) → FailsWith result (SiteError.NotAFile file offset) → IfSome (D.disk disk).content (λ files. (c : Contents) → IsSite files c → ⊥) }
         ensures any_moment { IfSome (D.disk disk).content (λ files. (c : Contents) (left : Leftover) → IsSite files c → HasLeft files c left → AtEachMoment (D.disk disk) (D.disk (disk_left result)) (MayBeOpen (D.disk disk) left.broken)) }
         ensures still_told { IsSome (D.disk disk).content → IsSome (D.disk (disk_left result)).content }

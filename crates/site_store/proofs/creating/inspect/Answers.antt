@@ -1,4 +1,4 @@
-use Rattle.std.proofs.Common.{◌≡◌, ◌<◌, List, [], map, length, Some, None, sym, subst}
+use Rattle.std.proofs.Common.{◌≡◌, ◌⊎◌, ◌<◌, inl, inr, List, [], map, length, Some, None, sym, subst}
 use Rattle.std.specs.Prelude.{IfSome}
 use Rattle.std.proofs.lemmas.List.{length-map}
 use Rattle.std.proofs.lemmas.Result.{IfOk-weaker, IfOk-at_ok, err_from_is_err_and}
@@ -13,6 +13,7 @@ use Rattle.site_files.specs.Loading.{IsDirectory}
 use Rattle.world_defs.specs.World.{Contents}
 use Rattle.world_defs.specs.Ties.{Stands}
 use Rattle.site_store.specs.Finding.{IsLaidOut, IsFound}
+use Rattle.site_files.specs.Outside.{IsNoInstance, HasNoDirectory}
 use Rattle.site_store.proofs.Errors.{file_was}
 use Rattle.site_store.proofs.Found.{stands_instance, found_by, alike_by, no_bodies, not_laid}
 use Rattle.site_store.proofs.creating.inspect.Goals as goal
@@ -24,6 +25,23 @@ returns-in_err-log-clause-outside g c =
     rw (p.1, p.2) (λ file offset is.
     weaker_told o (λ files. (rs : List InstanceRecord) → IsInstance (files INSTANCE) rs → ⊥) (λ files. (x : Contents) → Stands files x → ⊥)
     (c.in_err-log.ensures.outside file offset (file_was c.in_err-log.field-0.0 file offset is)) (λ files none x stands. none x.instance (stands_instance files x stands)))
+
+pub returns-in_err-log-clause-place : goal.returns-in_err-log-clause-place
+returns-in_err-log-clause-place g c =
+    let p = err_from_is_err_and c.from_residual.result c.from_residual.ensures.1 in
+    let o = (g.D.Disk.disk c.args.disk.now).content in
+    rw (p.1, p.2) (λ file offset is.
+    weaker_told o (λ files. IsNoInstance files file offset) (λ files. IsNoInstance files file offset ⊎ HasNoDirectory files file offset)
+    (c.in_err-log.ensures.place file offset (file_was c.in_err-log.field-0.0 file offset is)) (λ files out. inl out))
+
+pub returns-clause-place : goal.returns-clause-place
+returns-clause-place g c file offset is =
+    let o = (g.D.Disk.disk c.args.disk.now).content in
+    let rs = c.in_ok-log.log.records in
+    let none : IsDirectory rs None = subst (λ (l : List InstanceRecord). IsDirectory l None) c.as_slice.ensures (c.layout_of.ensures.outside file offset is).1 in
+    let there = c.layout_of.ensures.place file offset is in
+    weaker_told o (λ files. IsInstance (files INSTANCE) rs) (λ files. IsNoInstance files file offset ⊎ HasNoDirectory files file offset) c.in_ok-log.ensures.reads
+    (λ files own. inr (rs, own, none, there.0, there.1))
 
 pub returns-clause-found : goal.returns-clause-found
 returns-clause-found g c =

@@ -10,6 +10,11 @@ use Rattle.site_store.proofs.Errors.{file_was}
 use Rattle.site_store.proofs.Histories.{no_records, history_read}
 use Rattle.site_store.proofs.history.history_of.Goals as goal
 
+pub returns-in_err-read-clause-place : goal.returns-in_err-read-clause-place
+returns-in_err-read-clause-place g c =
+    let p = err_from_is_err_and c.from_residual.result c.from_residual.ensures.1 in
+    rw (p.1, p.2) (λ file offset is. c.in_err-read.ensures.place file offset (file_was c.in_err-read.field-0.0 file offset is))
+
 pub returns-in_err-read-clause-outside : goal.returns-in_err-read-clause-outside
 returns-in_err-read-clause-outside g c =
     let p = err_from_is_err_and c.from_residual.result c.from_residual.ensures.1 in

@@ -1,13 +1,18 @@
-use Rattle.std.proofs.Common.{◌≡◌, ◌<◌, ◌++◌, ◌∷◌, [], List, length, IfSome, sym, subst}
+use Rattle.std.proofs.Common.{◌≡◌, ◌⊎◌, ◌<◌, inl, inr, ◌++◌, ◌∷◌, [], List, length, IfSome, sym, subst}
 use Rattle.std.proofs.lemmas.Result.{IfOk-weaker}
+use Rattle.std.proofs.lemmas.Result.{err_from_is_err_and}
 use Rattle.disk_defs.specs.Disk.{Files, Image}
+use Rattle.disk_defs.proofs.Told.{weaker_told}
 use Rattle.journal_defs.specs.Numbers.{INSTANCE}
 use Rattle.journal_defs.specs.Instance.{InstanceRecord, generation, regions, pattern_record}
 use Rattle.journal_defs.specs.Stands.{IsInstance}
 use Rattle.world_defs.specs.World.{Contents}
 use Rattle.world_defs.specs.Rows.{with_pattern}
 use Rattle.world_defs.specs.Ties.{IsSite}
+use Rattle.site_files.specs.Outside.{IsNoInstance}
+use Rattle.site_store.specs.Refusing.{TakesNoPattern}
 use Rattle.site_store.specs.Opening.{EachStands}
+use Rattle.site_store.proofs.Errors.{file_was}
 use Rattle.site_store.proofs.Mapped.{quiet_told, no_region, map_moments, map_stands, map_reads, map_images}
 use Rattle.site_store.proofs.mapping.map.Goals as goal
 
@@ -25,6 +30,26 @@ returns-then-not-may_map-clause-any_moment g c =
     let region = c.args.region in
     let text = c.args.pattern.now in
     quiet_told u v region text c.in_ok-log.ensures.any_moment
+
+pub returns-in_err-log-clause-place : goal.returns-in_err-log-clause-place
+returns-in_err-log-clause-place g c =
+    let o = (g.D.Disk.disk c.args.disk.now).content in
+    let p = err_from_is_err_and c.from_residual.result c.from_residual.ensures.1 in
+    rw (p.1, p.2) (λ file offset is.
+    weaker_told o (λ files. IsNoInstance files file offset) (λ files. IsNoInstance files file offset ⊎ TakesNoPattern files c.args.region file offset)
+    (c.in_err-log.ensures.place file offset (file_was c.in_err-log.field-0.0 file offset is)) (λ files out. inl out))
+
+pub returns-then-not-may_map-clause-place : goal.returns-then-not-may_map-clause-place
+returns-then-not-may_map-clause-place g c file offset is =
+    let o = (g.D.Disk.disk c.args.disk.now).content in
+    let rs = c.in_ok-log.log.records in
+    let region = c.args.region in
+    let none : (region < length (regions rs)) × (generation rs ≡ 0) → ⊥ = λ both.
+    let own = subst (λ (l : List InstanceRecord). (region < length (regions l)) × (generation l ≡ 0)) (sym c.as_slice.ensures) both in
+    let yes = c.may_map.ensures.1 own in
+    cc (yes, c.if-not-may_map.true) in
+    weaker_told o (λ files. IsInstance (files INSTANCE) rs) (λ files. IsNoInstance files file offset ⊎ TakesNoPattern files region file offset) c.in_ok-log.ensures.reads
+    (λ files own. inr (rs, own, none, cc is, cc is))
 
 pub returns-then-not-may_map-clause-outside : goal.returns-then-not-may_map-clause-outside
 returns-then-not-may_map-clause-outside g c file offset is =

@@ -16,6 +16,8 @@ use Rattle.site_store.specs.declared.site.OpenSite.{OpenSite}
 use Rattle.site_store.specs.Finding.{HasLayout}
 use Rattle.site_store.specs.Opening.{AreTextsDurable}
 use Rattle.site_store.proofs.Drawn.{C, text}
+use Rattle.site_store.specs.Refusing.{IsUnwritten}
+use Rattle.site_store.proofs.Refused.{told_anyway}
 use Rattle.site_store.proofs.Errors.{file_was, limit_was}
 use Rattle.site_store.proofs.Loaded.{length_values, quiet_told, quiet_stands, drawn_moments, drawn_stands, room_left, remembers, is_open, was_opened, is_ready}
 use Rattle.site_store.proofs.Refused.{no_site, limit_site, untold, read_kept}
@@ -27,6 +29,18 @@ returns-in_err-read-clause-outside g c =
     rw (p.1, p.2) (λ file offset is.
     let there = file_was c.in_err-read.field-0.0 file offset is in
     no_site (g.D.Disk.disk c.args.disk.now).content (c.in_err-read.ensures.outside file offset there) (c.in_err-read.ensures.late file offset there))
+
+pub returns-in_err-read-clause-place : goal.returns-in_err-read-clause-place
+returns-in_err-read-clause-place g c =
+    let p = err_from_is_err_and c.from_residual.result c.from_residual.ensures.1 in
+    rw (p.1, p.2) (λ file offset is. c.in_err-read.ensures.place file offset (file_was c.in_err-read.field-0.0 file offset is))
+
+pub returns-in_err-read-clause-refused : goal.returns-in_err-read-clause-refused
+returns-in_err-read-clause-refused g c =
+    let view = g.D.Disk.disk in
+    let u = view c.args.disk.now in
+    let v = view c.read_site.new.disk in
+    λ file offset is. told_anyway u.content (IsUnwritten u v) (c.in_err-read.ensures.content, c.in_err-read.ensures.any_moment)
 
 pub returns-in_err-read-clause-limit : goal.returns-in_err-read-clause-limit
 returns-in_err-read-clause-limit g c =
@@ -294,6 +308,32 @@ returns-clause-stands g c =
     c.as_slice-text.ensures ∙ c.in_ok-remembered.ensures.broken ∙ ap (λ (k : ℕ). broken_text (site_name rs) k (parts.broken (site_records rs js) k)) (sym (length_values items)) in
     drawn_stands u v w rs last journal seq form c.in_ok-remembered.ensures.sequence lawful_v lawful_w synced same read broken broken_is
     (subst (λ (k : ℕ). IfSome v.content (λ files. length (files (next_broken rs)) ≤ length broken → IfSome w.content (MayDraw rs k broken last files))) n c.draw.ensures.reads)
+
+pub returns-in_err-drawn-clause-place : goal.returns-in_err-drawn-clause-place
+returns-in_err-drawn-clause-place g c =
+    let view = g.D.Disk.disk in
+    let u = view c.args.disk.now in
+    let v0 = view c.read_site.new.disk in
+    let got = c.in_ok-read.ensures in
+    let rs = c.in_ok-read.read.log.records in
+    let v = view c.sync_texts.new.disk in
+    let synced = nothing_new u v0 v (Image u) (g.met.D.Disk.lawful c.read_site.new.disk) got.any_moment c.sync_texts.ensures.any_moment in
+    let same : v.content ≡ u.content = c.sync_texts.ensures.content ∙ got.content in
+    let p = err_from_is_err_and c.from_residual-in_err-drawn.result c.from_residual-in_err-drawn.ensures.1 in
+    rw (p.1, p.2) (λ file offset is. untold u.content v.content _ same (c.in_err-drawn.ensures.outside file offset (file_was c.in_err-drawn.field-0.0 file offset is)))
+
+pub returns-in_err-drawn-clause-refused : goal.returns-in_err-drawn-clause-refused
+returns-in_err-drawn-clause-refused g c =
+    let view = g.D.Disk.disk in
+    let u = view c.args.disk.now in
+    let v0 = view c.read_site.new.disk in
+    let got = c.in_ok-read.ensures in
+    let rs = c.in_ok-read.read.log.records in
+    let v = view c.sync_texts.new.disk in
+    let synced = nothing_new u v0 v (Image u) (g.met.D.Disk.lawful c.read_site.new.disk) got.any_moment c.sync_texts.ensures.any_moment in
+    let same : v.content ≡ u.content = c.sync_texts.ensures.content ∙ got.content in
+    let p = err_from_is_err_and c.from_residual-in_err-drawn.result c.from_residual-in_err-drawn.ensures.1 in
+    rw (p.1, p.2) (λ file offset is. untold u.content v.content _ same (c.in_err-drawn.ensures.outside file offset (file_was c.in_err-drawn.field-0.0 file offset is)))
 
 pub returns-in_err-drawn-clause-outside : goal.returns-in_err-drawn-clause-outside
 returns-in_err-drawn-clause-outside g c =
