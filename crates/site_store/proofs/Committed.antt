@@ -47,12 +47,23 @@ use Rattle.site_store.specs.declared.site.OpenSite.{OpenSite}
 use Rattle.site_store.specs.Finding.{HasLayout}
 use Rattle.site_store.specs.Site.{Remembers, IsReady, Keeps, IsOpen, HasReign, HasRoomFor, with_entry}
 use Rattle.gvn_model.specs.Numbered.{numbered}
-use Rattle.site_store.specs.Committing.{Enters, IsSameSite, IsSameMemory, IsOwnJournal, ArePartsOf}
+use Rattle.site_store.specs.Committing.{Enters, IsSameSite, IsSameMemory, IsOwnJournal, ArePartsOf, parts_of}
 use Rattle.site_store.proofs.Frames as frames
 use Rattle.site_store.proofs.Remembered.{remembered_length, entries_more, globals_more}
 use Rattle.site_store.proofs.Standing.{reads_of, reads_so, told_of, still, keeps_images}
 use Rattle.site_store.proofs.Entries as entries
 use Rattle.site_store.proofs.Newest as newest
+
+-- the parts that were appended are those of the transaction
+pub parts_appended : (v : View) (s : OpenSite) (t : Transaction) (parts : PartRecords) (before js : List RegionJournal) (hard waiting : ℕ → List JournalRecord) → length js ≡ length before → length before ≤ 8
+    → ArePartsOf s t parts → KeepsJournals v hard (λ r. waiting r ++ listed (part_in parts r)) js → KeepsJournals v hard (λ r. waiting r ++ listed (recorded (parts_of s t r))) js
+parts_appended v s t parts before js hard waiting many few are keeps = record {
+  has = λ r x there. subst (λ (o : Option JournalRecord). journals.HasRecords v x.journal (record { hard = hard r; opening = []; closed = waiting r ++ listed o })) (is r x there) (keeps.has r x there);
+  none_waits = λ r x there none. subst (λ (o : Option JournalRecord). waiting r ++ listed o ≡ []) (is r x there) (keeps.none_waits r x there none);
+}
+  where
+    is : (r : ℕ) (x : RegionJournal) → slice_get js r ≡ Some x → part_in parts r ≡ recorded (parts_of s t r)
+    is r x there = let low = slice_get_within js r x there in are.each r (omega (arith, low, many, few))
 
 -- the instance file isn't a journal's
 pub no_instance : (g n : ℕ) → IsNewestFile g n INSTANCE → ⊥

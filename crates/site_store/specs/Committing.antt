@@ -1,15 +1,16 @@
 -- Entries on their way into the journals.
-use Rattle.std.specs.Prelude.{◌≡◌, ◌+◌, ◌<◌, ◌≤◌, ℕ, [], ◌∷◌, ◌++◌, length, fold, Option, Some, None}
+use Rattle.std.specs.Prelude.{◌≡◌, ◌+◌, ◌<◌, ◌≤◌, ℕ, List, [], ◌∷◌, ◌++◌, length, fold, Option, Some, None}
 use Rattle.global_defs.specs.Entry.{Update, Transaction, apply}
 use Rattle.gvn_model.specs.declared.entry.Entry as code_entry
 use Rattle.gvn_model.specs.declared.entry.Transaction as code_transaction
-use Rattle.journal_defs.specs.Journal.{Part}
+use Rattle.disk_defs.specs.Disk.{View}
+use Rattle.journal_defs.specs.Journal.{JournalRecord, Part}
 use Rattle.journal_defs.specs.Instance.{generation, regions}
 use Rattle.journal_defs.specs.Split.{split, mask_of, IsSplit}
 use Rattle.journal_defs.specs.Fit.{region_of_update}
 use Rattle.tp_commit.specs.Parts.{PartRecords, recorded}
 use Rattle.region_journals.specs.Fronts.{IsNewestFile}
-use Rattle.region_journals.specs.Journals.{part_in}
+use Rattle.region_journals.specs.Journals.{KeepsJournals, part_in, listed}
 use Rattle.site_store.specs.declared.site.OpenSite.{OpenSite}
 
 -- the next entry of a site: this transaction under the reign that was begun
@@ -55,3 +56,8 @@ pub record ArePartsOf (s : OpenSite) (t : Transaction) (parts : PartRecords) : T
   pub each : (r : ℕ) → r < 8 → part_in parts r ≡ recorded (parts_of s t r)
   pub is_split : IsSplit (region_by s) (mask_of (region_by s) t.updates) t
   pub no_other : (r : ℕ) → s.layout.directory.regions ≤ r → parts_of s t r ≡ None
+
+-- Behind what waits in each region stands exactly the record of its part of the transaction, and nothing more where it has none.
+abbrev pub Appends : View → View → OpenSite → OpenSite → Transaction → Type 0
+Appends u v old new t = (hard waiting : ℕ → List JournalRecord) → KeepsJournals u hard waiting old.journals.journals.items
+    → KeepsJournals v hard (λ r. waiting r ++ listed (recorded (parts_of old t r))) new.journals.journals.items

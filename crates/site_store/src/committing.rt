@@ -10,7 +10,7 @@ ghost use Rattle.world_defs.specs.Ties.{IsSite};
 ghost use Rattle.disk_defs.specs.Frames.{OthersStay};
 ghost use Rattle.journal_defs.specs.Journal.{JournalRecord};
 ghost use Rattle.region_journals.specs.Journals.{ArePrepared, KeepsJournals};
-ghost use Rattle.site_store.specs.Committing.{Enters, IsSameSite, IsSameMemory, IsOwnJournal, ArePartsOf};
+ghost use Rattle.site_store.specs.Committing.{Appends, Enters, IsSameSite, IsSameMemory, IsOwnJournal, ArePartsOf};
 ghost use Rattle.site_store.specs.Site.{IsReady, IsOpen, HasReign, HasRoomFor, with_entry};
 
 use crate::error::SiteError;
@@ -78,6 +78,7 @@ impl OpenSite {
         requires reign { HasReign self.old }
         ensures ready { OnOk result (IsReady (D.disk disk.new) self.new) }
         ensures done { OnOk result ((told : Bool) (c : Contents) (h : ℕ) → IsOpen (D.disk disk.old) told c h self.old → IsOpen (D.disk disk.new) told (with_entry self.old.stamp (transaction_value t.now) c) h self.new) }
+        ensures appended { OnOk result (Appends (D.disk disk.old) (D.disk disk.new) self.old self.new (transaction_value t.now)) }
         ensures number { IfOk result (λ n. n ≡ length self.old.entries.items + 1) }
         ensures grown { OnOk result (length self.new.entries.items ≡ length self.old.entries.items + 1) }
         ensures instance { self.new.instance ≡ self.old.instance }

@@ -27,7 +27,7 @@ ghost use Rattle.site_files.specs.Outside.{IsOutsideSite};
 ghost use Rattle.site_store.specs.Refusing.{IsUnwritten};
 ghost use Rattle.site_store.specs.Site.{Remembers, WasOpened, HasReign, HasRoomFor, with_entry};
 ghost use Rattle.site_store.specs.Opening.{region_value, made, MayMake, MayBeOpen, EachStands};
-ghost use Rattle.site_store.specs.Committing.{IsSameMemory};
+ghost use Rattle.site_store.specs.Committing.{Appends, IsSameMemory};
 ghost use Rattle.site_store.specs.Owning.{HasStopped, HasHistory, IsGoing, MayBeCalled, IsOpenSite, disk_left, FailsWith};
 
 use crate::creating::create;
@@ -214,6 +214,7 @@ impl<D: Disk> Site<D> {
         requires reign { self.old.fault ≡ None → HasReign self.old.inner }
         ensures ready { OnOk result (IsGoing D.disk self.new) }
         ensures done { OnOk result ((told : Bool) (c : Contents) (h : ℕ) → IsOpenSite D.disk told c h self.old → IsOpenSite D.disk told (with_entry self.old.inner.stamp (transaction_value t.now) c) h self.new) }
+        ensures appended { OnOk result (Appends (D.disk self.old.disk) (D.disk self.new.disk) self.old.inner self.new.inner (transaction_value t.now)) }
         ensures number { IfOk result (λ n. n ≡ length self.old.inner.entries.items + 1) }
         ensures stamp { self.new.inner.stamp ≡ self.old.inner.stamp }
         ensures reign { OnOk result (HasReign self.new.inner) }

@@ -1,4 +1,5 @@
 use Rattle.std.proofs.Common.{refl, ◌∙◌}
+use Rattle.gvn_model.specs.Entries.{transaction_value}
 use Rattle.journal_defs.specs.Instance.{generation}
 use Rattle.site_store.proofs.Committed as committed
 use Rattle.site_store.proofs.Standing.{still}
@@ -25,6 +26,11 @@ returns-in-Ok-clause-stands g c y h o =
     committed.commit_stands (g.D.Disk.disk c.args.disk.now) (g.D.Disk.disk c.append.new.disk) y h (g.met.D.Disk.lawful c.append.new.disk)
     (committed.commit_moments (g.D.Disk.disk c.args.disk.now) (g.D.Disk.disk c.prepare.new.disk) (g.D.Disk.disk c.append.new.disk) y h c.args.self.now c.prepare.new.self (g.met.D.Disk.lawful c.prepare.new.disk)
     (record { ready = c.requires.ready; ready_after = c.prepare.ensures.ready; state = c.prepare.ensures.state; same = c.prepare.ensures.same; moments = c.prepare.ensures.any_moment; stays = c.prepare.ensures.frame }) c.append.ensures.any_moment o)
+
+pub returns-in-Ok-clause-appended : goal.returns-in-Ok-clause-appended
+returns-in-Ok-clause-appended g c hard waiting keeps =
+    committed.parts_appended (g.D.Disk.disk c.append.new.disk) c.args.self.now (transaction_value c.args.t.now) c.in_ok-parts.parts c.prepare.new.self.journals.journals.items c.append.new.self.journals.items hard waiting
+    c.append.ensures.count c.prepare.ensures.ready.journals.few c.in_ok-parts.ensures.parts (c.in-Ok.ensures.state hard waiting (c.prepare.ensures.state hard waiting keeps))
 
 pub returns-in-Ok-clause-ready : goal.returns-in-Ok-clause-ready
 returns-in-Ok-clause-ready g c =
