@@ -5,6 +5,7 @@ ghost use Rattle.std.specs.Option.{option_copied};
 ghost use Rattle.std.specs.FinMap as globals;
 ghost use Rattle.disk_defs.specs.Disk.{Files, Image, AtEachMoment, Reads, Rose};
 ghost use Rattle.disk_defs.specs.Gates.{records};
+ghost use Rattle.global_defs.specs.Prefix.{IsPrefix};
 ghost use Rattle.global_defs.specs.Key.{sub_of};
 ghost use Rattle.global_defs.specs.Valid.{is_key};
 ghost use Rattle.global_defs.specs.Evaluation as evaluation;
@@ -385,9 +386,10 @@ impl<D: Disk> Site<D> {
     }
 
     /// Adds a ZWRITE line for each node, or for the top one and those below it, in M collation. Without memory some lines may be
-    /// added.
+    /// added, and what was there stays.
     pub fn zwrite(&self, top: Option<&Key>, out: &mut Bytes) -> Result<(), NoMemory>
-        ensures { OnOk result (out.new ≡ out.old ++ zwrite (option_copied top.entry) self.now.inner.globals) }
+        ensures lines { OnOk result (out.new ≡ out.old ++ zwrite (option_copied top.entry) self.now.inner.globals) }
+        ensures front { OnErr result (IsPrefix out.old out.new) }
     {
         self.inner.zwrite(top, out)
     }
@@ -424,6 +426,7 @@ impl<D: Disk> Site<D> {
         ensures ready { MayBeCalled D.disk self.old → MayBeCalled D.disk self.new }
         ensures stays_open { (told : Bool) (c : Contents) (h : ℕ) → IsOpenSite D.disk told c h self.old → self.new.fault ≡ None → IsOpenSite D.disk told c h self.new }
         ensures text { OnOk result (IfSome (D.disk self.old.disk).content (λ files. out.new ≡ out.old ++ files file)) }
+        ensures front { OnErr result (IsPrefix out.old out.new) }
         ensures inner { self.new.inner ≡ self.old.inner }
         ensures reads { Reads (D.disk self.old.disk) (D.disk self.new.disk) }
         ensures later { (D.disk self.old.disk).faults ≤ (D.disk self.new.disk).faults }

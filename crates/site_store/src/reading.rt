@@ -1,5 +1,6 @@
 //! The bytes of a file.
 ghost use Rattle.std.specs.Prelude.{◌≡◌, ◌⊎◌, ◌≤◌, ◌+◌, ◌++◌, ℕ, length, take, drop, IfSome, OnOk, OnErr, IsErrOf};
+ghost use Rattle.global_defs.specs.Prefix.{IsPrefix};
 ghost use Rattle.disk_defs.specs.Disk.{Reads, Rose};
 
 use crate::error::SiteError;
@@ -19,6 +20,8 @@ fn read_piece<D: Disk>(
 ) -> Result<(), SiteError>
     requires inside { IfSome (D.disk disk.old).content (λ files. at + count ≤ length (files file)) }
     ensures bytes { OnOk result (IfSome (D.disk disk.old).content (λ files. out.new ≡ out.old ++ take count (drop at (files file)))) }
+    ensures front { OnOk result (IsPrefix out.old out.new) }
+    ensures kept { OnErr result (out.new ≡ out.old) }
     ensures reads { Reads (D.disk disk.old) (D.disk disk.new) }
     ensures later { (D.disk disk.old).faults ≤ (D.disk disk.new).faults }
     ensures count { (fault : ℕ) → IsErrOf result (SiteError.Failed fault) → fault ≡ (D.disk disk.new).faults }
@@ -41,9 +44,10 @@ fn read_piece<D: Disk>(
 /// Adds the bytes of a file, as it reads, to `out`. It writes nothing.
 ///
 /// # Errors
-/// `Failed` only where the disk's count rose, and `NoMemory`; `out` may then have some of the bytes more.
+/// `Failed` only where the disk's count rose, and `NoMemory`; `out` may then have some of the bytes more, behind what it had.
 pub fn read_file<D: Disk>(disk: &mut D, file: u32, out: &mut Bytes) -> Result<(), SiteError>
     ensures text { OnOk result (IfSome (D.disk disk.old).content (λ files. out.new ≡ out.old ++ files file)) }
+    ensures front { OnErr result (IsPrefix out.old out.new) }
     ensures reads { Reads (D.disk disk.old) (D.disk disk.new) }
     ensures later { (D.disk disk.old).faults ≤ (D.disk disk.new).faults }
     ensures count { (fault : ℕ) → IsErrOf result (SiteError.Failed fault) → fault ≡ (D.disk disk.new).faults }

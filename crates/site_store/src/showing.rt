@@ -3,6 +3,7 @@ ghost use Rattle.std.specs.Prelude.{◌≡◌, ◌≤◌, ◌-◌, ◌++◌, map
 ghost use Rattle.std.specs.Option.{option_copied};
 ghost use Rattle.std.specs.List.{flat_map};
 ghost use Rattle.global_defs.specs.Extract.{entry_text};
+ghost use Rattle.global_defs.specs.Prefix.{IsPrefix};
 ghost use Rattle.gvn_globals.specs.Lists.{listed_value};
 ghost use Rattle.gvn_model.specs.Entries.{entry_value};
 ghost use Rattle.world_defs.specs.Output.{node_line, zwrite};
@@ -14,7 +15,8 @@ use jnl_extract::{extract_entry, write_node};
 
 /// Adds a line for each of these nodes.
 fn write_nodes(nodes: &[Listed], out: &mut Bytes) -> Result<(), NoMemory>
-    ensures { OnOk result (out.new ≡ out.old ++ flat_map node_line (map listed_value nodes.now)) }
+    ensures lines { OnOk result (out.new ≡ out.old ++ flat_map node_line (map listed_value nodes.now)) }
+    ensures front { OnErr result (IsPrefix out.old out.new) }
 {
     for node in nodes {
         write_node(node.key, node.value, out)?;
@@ -38,9 +40,10 @@ impl OpenSite {
     }
 
     /// Adds a ZWRITE line for each node, or for the top one and those below it, in M collation. Without memory some lines may be
-    /// added.
+    /// added, and what was there stays.
     pub fn zwrite(&self, top: Option<&Key>, out: &mut Bytes) -> Result<(), NoMemory>
-        ensures { OnOk result (out.new ≡ out.old ++ zwrite (option_copied top.entry) self.now.globals) }
+        ensures lines { OnOk result (out.new ≡ out.old ++ zwrite (option_copied top.entry) self.now.globals) }
+        ensures front { OnErr result (IsPrefix out.old out.new) }
     {
         let alloc = out.allocator();
         match top {

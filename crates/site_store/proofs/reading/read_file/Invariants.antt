@@ -1,5 +1,6 @@
 use Rattle.std.proofs.Common.{◌≡◌, ◌≤◌, ◌++◌, ◌-◌, take, IfSome}
 use Rattle.disk_defs.specs.Disk.{Reads}
+use Rattle.global_defs.specs.Prefix.{IsPrefix}
 use Rattle.site_store.proofs.reading.read_file.Given as goal
 
 -- so many bytes were added
@@ -11,6 +12,7 @@ invariant-loop-at g l =
     record {
       within : l.at ≤ l.length;
       text : IfSome u.content (λ files. l.out ≡ l.fn.out ++ take l.at (files l.file));
+      front : IsPrefix l.fn.out l.out;
       reads : Reads u v;
       faults : u.faults ≤ v.faults;
     }
