@@ -17,6 +17,10 @@ is_later key k = eq_by_cmp (slice_cmp nat_cmp) key.name k.name && is_lt (key_cmp
 abbrev pub after : Globals → Key → Option Key
 after g key = find (is_later key) (globals.keys g)
 
+-- the key where it's a node, else the first node of the same name past it
+abbrev pub from : Globals → Key → Option Key
+from g key = if globals.contains_key g key then Some key else after g key
+
 -- the value, where it passes a test
 abbrev pub tested : {A : Type 0} → (A → Bool) → Option A → Option A
 tested p None = None

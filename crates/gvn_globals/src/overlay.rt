@@ -4,10 +4,10 @@ ghost use Rattle.std.specs.Option.{option_copied};
 ghost use Rattle.std.specs.FinMap as globals;
 ghost use Rattle.global_defs.specs.Key.{sub_of};
 ghost use Rattle.global_defs.specs.Entry.{is_under, apply};
-ghost use Rattle.global_defs.specs.Encoded.{encoded, encoded_sub};
 ghost use Rattle.global_defs.specs.Evaluation as evaluation;
+ghost use Rattle.gvn_key.specs.Faults.{child_of};
 ghost use Rattle.gvn_key.specs.Terms.{update_value};
-ghost use Rattle.gvn_globals.specs.Walks.{after, tested, earlier, is_next};
+ghost use Rattle.gvn_globals.specs.Walks.{after, from, tested, earlier, sub_under};
 ghost use Rattle.gvn_globals.specs.Overlaid.{kept, overlaid};
 
 use super::globals::{Globals, ones, sub_at};
@@ -74,6 +74,16 @@ fn kept_after<G: Lookup>(on: &G, gone: &Globals, key: &Key) -> Result<Option<Key
         found = on.after(&node)?;
     }
     Ok(None)
+}
+
+/// The key at the level below the node with the next subscript past the last one.
+fn next_child<G: Lookup>(on: &G, key: &Key, last: &[u8]) -> Result<Option<Key>, NoMemory>
+    ensures { IfOk result (λ child. child ≡ option_map (child_of key.now) (evaluation.order (G.seen on.now) key.now last.now)) }
+{
+    match on.order(key, last)? {
+        Some(sub) => Ok(Some(key.child(sub.as_slice())?)),
+        None => Ok(None),
+    }
 }
 
 impl<'a, G: Lookup> Overlay<'a, G> {
@@ -169,32 +179,30 @@ impl<'a, G: Lookup> Overlay<'a, G> {
     }
 
     /// The next subscript at the level below the node, past the last one, by its own bytes: of a number its numeral. An
-    /// empty last one comes before all. Where the job has changed nothing below the node, the globals below tell it.
+    /// empty last one comes before all. No node before the last one is looked at.
     pub fn order(&self, key: &Key, last: &[u8]) -> Result<Option<Bytes>, NoMemory>
         ensures { IfOk result (λ found. option_map sub_of found ≡ evaluation.order self.now key.now last.now) }
     {
-        if self.sets.defined(key) < 10 && self.gone.defined(key) < 10 {
-            return self.on.order(key, last);
+        let own = next_child(&self.sets, key, last)?;
+        let other = next_child(self.on, key, last)?;
+        match earlier(own, other) {
+            Some(first) => self.sub_from(key, &first),
+            None => Ok(None),
         }
-        self.walked_order(key, last)
     }
 
-    /// The same, by a walk over the nodes below.
-    fn walked_order(&self, key: &Key, last: &[u8]) -> Result<Option<Bytes>, NoMemory>
-        ensures { IfOk result (λ found. option_map sub_of found ≡ evaluation.order self.now key.now last.now) }
+    /// The subscript at the level below the top key of the first node from this one on, where it lies below that key.
+    fn sub_from(&self, top: &Key, first: &Key) -> Result<Option<Bytes>, NoMemory>
+        requires { is_under top.now first.now ≡ true }
+        ensures { IfOk result (λ found. option_map sub_of found ≡ sub_under top.now (from self.now first.now)) }
     {
-        let past = key.past(last)?;
-        let mut found = self.after(key)?;
-        while let Some(node) = found {
-            if !node.is_under(key) {
-                return Ok(None);
-            }
-            if is_next(&node, key, last, past.as_slice()) {
-                return sub_at(&node, key);
-            }
-            found = self.after(&node)?;
+        if self.get(first).is_some() {
+            return sub_at(first, top);
         }
-        Ok(None)
+        match self.after(first)? {
+            Some(node) if node.is_under(top) => sub_at(&node, top),
+            _ => Ok(None),
+        }
     }
 
     /// Whether the node has a value, and whether it has descendants: 0, 1, 10 or 11.
@@ -203,16 +211,6 @@ impl<'a, G: Lookup> Overlay<'a, G> {
     {
         Ok(ones(self.get(key)) + tens(self.after(key)?, key))
     }
-}
-
-/// Whether a descendant's subscript at the level below the key is past the last one, beyond which all lies behind `past`.
-fn is_next(node: &Key, key: &Key, last: &[u8], past: &[u8]) -> bool
-    requires past { past.now ≡ encoded key.now ++ encoded_sub (sub_of last.now) ++ 255 ∷ [] }
-    requires below { evaluation.is_below key.now node.now ≡ true }
-    ensures { result ≡ is_next key.now last.now node.now }
-{
-    let code = node.as_encoded();
-    last.is_empty() || matches!(past.cmp(code), Ordering::Less)
 }
 
 /// 10 where the node is below the top one, else 0.

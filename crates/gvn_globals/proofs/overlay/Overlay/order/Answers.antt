@@ -1,11 +1,23 @@
-use Rattle.std.proofs.Common.{◌≡◌, ◌<◌, IfOk, option_map, ap, subst, ◌∙◌}
+use Rattle.std.proofs.Common.{◌≡◌, IfOk, option_map, subst}
 use Rattle.global_defs.specs.Key.{sub_of}
-use Rattle.global_defs.specs.Evaluation.{order}
-use Rattle.gvn_globals.proofs.Sought.{order_unchanged}
+use Rattle.gvn_globals.proofs.Sought.{Starts, start_is, none_next, start_under, from_next}
 use Rattle.gvn_globals.proofs.overlay.Overlay.order.Goals as goal
 
-pub returns-then-defined-lt10-2 : goal.returns-then-defined-lt10-2
-returns-then-defined-lt10-2 g c = subst (λ r. IfOk c.order.result (λ found. option_map sub_of found ≡ r))
-    (order_unchanged (g.G.Lookup.seen c.self.inside.on.now) c.self.inside.sets c.self.inside.gone c.args.key.now c.args.last.now
-    (subst (λ n. n < 10) c.defined.ensures c.if-defined-lt10.true) (subst (λ n. n < 10) c.defined-then-defined-lt10.ensures c.if-defined-lt10-2.true)
-    ∙ ap (λ m. order m c.args.key.now c.args.last.now) c.self.view_is) c.order.ensures.next
+pub sub_from-requires : goal.sub_from-requires
+sub_from-requires g c = start_under c.args.key.now c.args.last.now c.args.self.now c.in-Some.first
+    (subst (Starts c.args.key.now c.args.last.now c.args.self.now) c.in-Some.is
+    (start_is c.args.key.now c.args.last.now (g.G.Lookup.seen c.self.inside.on.now) c.self.inside.sets c.self.inside.gone c.args.self.now c.self.view_is
+    c.in_ok-own.own c.in_ok-other.other c.earlier.result c.in_ok-own.ensures c.in_ok-other.ensures c.earlier.ensures).starts)
+
+pub returns-in-Some : goal.returns-in-Some
+returns-in-Some g c = subst (λ r. IfOk c.sub_from.result (λ found. option_map sub_of found ≡ r))
+    (from_next c.args.key.now c.args.last.now c.args.self.now c.in-Some.first
+    (subst (Starts c.args.key.now c.args.last.now c.args.self.now) c.in-Some.is
+    (start_is c.args.key.now c.args.last.now (g.G.Lookup.seen c.self.inside.on.now) c.self.inside.sets c.self.inside.gone c.args.self.now c.self.view_is
+    c.in_ok-own.own c.in_ok-other.other c.earlier.result c.in_ok-own.ensures c.in_ok-other.ensures c.earlier.ensures).starts)) c.sub_from.ensures
+
+pub returns-in-None : goal.returns-in-None
+returns-in-None g c = none_next c.args.key.now c.args.last.now c.args.self.now
+    (subst (Starts c.args.key.now c.args.last.now c.args.self.now) c.in-None.is
+    (start_is c.args.key.now c.args.last.now (g.G.Lookup.seen c.self.inside.on.now) c.self.inside.sets c.self.inside.gone c.args.self.now c.self.view_is
+    c.in_ok-own.own c.in_ok-other.other c.earlier.result c.in_ok-own.ensures c.in_ok-other.ensures c.earlier.ensures).starts)
