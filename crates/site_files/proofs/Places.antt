@@ -1,12 +1,30 @@
 -- Where the files that were read lie outside a site's format.
-use Rattle.std.proofs.Common.{◌≡◌, inl, inr, ℕ, suc, List, length, Option, None, IfSome, subst}
+use Rattle.std.proofs.Common.{◌≡◌, inl, inr, ℕ, suc, List, length, Option, None, IfSome, Err, IsErrOf, refl, sym, subst}
 use Rattle.disk_defs.specs.Disk.{Files}
 use Rattle.disk_defs.proofs.Told.{weaker_told, both_weak}
+use Rattle.instance_file.specs.Reading.{IsOutsideInstance}
+use Rattle.instance_file.specs.declared.error.InstanceError.{InstanceError}
+use Rattle.instance_file.specs.declared.error.InstanceError.TheVariants as instances
 use Rattle.journal_defs.specs.Numbers.{INSTANCE}
 use Rattle.journal_defs.specs.Instance.{InstanceRecord, generation, regions}
 use Rattle.journal_defs.specs.Stands.{IsInstance}
+use Rattle.site_files.specs.Errors.{instance_error}
+use Rattle.site_files.specs.declared.error.FilesError.{FilesError}
+use Rattle.site_files.specs.declared.error.FilesError.TheVariants as error
 use Rattle.site_files.specs.Loading.{IsDirectory}
 use Rattle.site_files.specs.Outside.{IsNoInstance, AreOutside, HaveBegun, IsOutsideRecords, IsOutsideSite}
+
+-- the error of the instance file, told as a site's
+pub told_instance : {T : Type 0} (o : Option Files) (file offset fault : ℕ) (e : InstanceError) (x : FilesError) → x ≡ instance_error fault e
+    → ((n : ℕ) → e ≡ instances.NotARecord n → IfSome o (λ files. IsOutsideInstance (files INSTANCE) n)) → IsErrOf {T = T} (Err x) (error.NotAFile file offset) → IfSome o (λ files. IsNoInstance files file offset)
+told_instance o file offset fault instances.Failed x same out is = absurd (cc (same, is))
+told_instance o file offset fault instances.NoMemory x same out is = absurd (cc (same, is))
+told_instance o file offset fault (instances.NotARecord n) x same out is =
+    let told : error.NotAFile file offset ≡ error.NotAFile 0 n = cc (same, is) in
+    let first : file ≡ INSTANCE = cc told in
+    let place : offset ≡ n = cc told in
+    weaker_told o (λ files. IsOutsideInstance (files INSTANCE) n) (λ files. IsNoInstance files file offset) (out n refl)
+    (λ files outside. (first, subst (λ (k : ℕ). IsOutsideInstance (files INSTANCE) k) (sym place) outside))
 
 module _ (o : Option Files) (file offset : ℕ) where
   pub instance_place : IfSome o (λ files. IsNoInstance files file offset) → IfSome o (λ files. IsOutsideRecords files file offset)
