@@ -30,7 +30,8 @@ demo:
 	@echo "; an unproved build; 'make' builds the proved program, 'make test' is the gate"
 	@cat $(DEMO)
 	@echo "; prints"
-	@cd crates/gtmr && $(RT) try -- run < ../../$(DEMO) 2> /dev/null
+	@command -v $(RT) > /dev/null || { echo "make: $(RT) isn't on the path: it is the command of the Rattle kit, which builds and proves gtmr" >&2; exit 1; }
+	@messages=$$(mktemp); (cd crates/gtmr && $(RT) try -- run < ../../$(DEMO) 2> $$messages); status=$$?; grep '^gtmr: \|^usage: ' $$messages >&2; rm -f $$messages; exit $$status
 
 test:
 	$(RT) ci
