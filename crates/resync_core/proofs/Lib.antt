@@ -1,0 +1,9 @@
+mod Fronts
+mod Places
+mod BegunReigns
+mod HistoryLaws
+mod Facts
+mod Moves
+mod Followers
+mod Steps
+mod Hardened
