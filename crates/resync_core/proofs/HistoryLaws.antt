@@ -257,3 +257,71 @@ adopted rs qs xs x h a =
       starts = subst (λ (k : ℕ). StartsRise 0 (begun_by k qs)) size parts.0;
       changes = subst (λ (k : ℕ). StampsChange (begun_by k qs)) size parts.1;
     }
+
+-- what begins with one number more
+pub record BeginsOne (n : ℕ) (rs : List Reign) : Type 0 where
+  pub reign : Reign
+  pub start : reign.start ≡ suc n
+  pub more : begun_by (suc n) rs ≡ begun_by n rs ++ reign ∷ []
+
+one-more : (low n : ℕ) (rs : List Reign) → StartsRise low rs → (begun_by (suc n) rs ≡ begun_by n rs) ⊎ BeginsOne n rs
+one-more low n [] rise = inl refl
+one-more low n (r ∷ rs) rise = elim (cases_lt n r.start) [
+  | inl late ↦
+      let none : begun_by n (r ∷ rs) ≡ [] = begun-later n r rs late ∙ none-begun r.start n rs rise.1 (omega arith) in
+      elim (cases_lt (suc n) r.start) [
+        | inl later ↦ inl (begun-later (suc n) r rs later ∙ none-begun r.start (suc n) rs rise.1 (omega arith) ∙ sym none)
+        | inr now ↦ inr (record {
+          reign = r;
+          start = omega arith;
+          more = begun-first (suc n) r rs now ∙ ap (λ (l : List Reign). r ∷ l) (none-begun r.start (suc n) rs rise.1 (omega arith))
+              ∙ ap (λ (l : List Reign). l ++ r ∷ []) (sym none);
+        })
+      ]
+  | inr early ↦
+      let first : (m : ℕ) → n ≤ m → begun_by m (r ∷ rs) ≡ r ∷ begun_by m rs = λ m le. begun-first m r rs (omega arith) in
+      elim (one-more r.start n rs rise.1) [
+        | inl same ↦ inl (first (suc n) (omega arith) ∙ ap (λ (l : List Reign). r ∷ l) same ∙ sym (first n (omega arith)))
+        | inr b ↦ inr (record {
+          reign = b.reign;
+          start = b.start;
+          more = first (suc n) (omega arith) ∙ ap (λ (l : List Reign). r ∷ l) b.more ∙ ap (λ (l : List Reign). l ++ b.reign ∷ []) (sym (first n (omega arith)));
+        })
+      ]
+]
+
+change-last : (before : Option Stamp) (n : ℕ) (rs : List Reign) (r : Reign) → AllBegun n rs → ChangeAfter before (rs ++ r ∷ []) → option_or (stamp_at n rs) before ≡ Some r.stamp → ⊥
+change-last before n [] r all h is = h.0 is
+change-last before n (q ∷ rs) r all h is =
+    let last : option_or (stamp_at n (q ∷ rs)) before ≡ option_or (stamp_at n rs) (Some q.stamp) =
+    ap (λ (o : Option Stamp). option_or o before) (stamp-first n q rs all.0) ∙ or-or (stamp_at n rs) q.stamp before in
+    change-last (Some q.stamp) n rs r all.1 h.1 (sym last ∙ is)
+
+-- what a history has for the entry behind a front, as its front adopts it
+pub adopts-next : (rs qs : List Reign) (xs ys : Sequence) (s : Stamp) → IsHistory rs xs → IsHistory qs ys → IsPrefix ys xs → length ys < length xs
+    → stamp_at (suc (length ys)) rs ≡ Some s → Adopts (length ys) s qs rs
+adopts-next rs qs xs ys s h g p low is =
+    let n : ℕ = length ys in
+    let all : List Reign = begun_by (length xs) rs in
+    let its : (k : ℕ) → k ≤ length xs → begun_by k all ≡ begun_by k rs = λ k le. begun-begun k (length xs) rs le in
+    let same : begun_by n qs ≡ begun_by n rs = front rs qs xs ys h g p in
+    let covered : stamp_at (suc n) (begun_by (suc n) rs) ≡ Some s = stamp-begun (suc n) (suc n) rs (omega arith) ∙ is in
+    elim (one-more 0 n all h.starts) [
+      | inl on ↦
+          let goes_on : begun_by (suc n) rs ≡ begun_by n qs = sym (its (suc n) (omega arith)) ∙ on ∙ its n (omega arith) ∙ sym same in
+          inl (sym (stamp-begun_before (suc n) n qs (omega arith)) ∙ ap (stamp_at (suc n)) (sym goes_on) ∙ covered, goes_on)
+      | inr b ↦
+          let begins : begun_by (suc n) rs ≡ begun_by n qs ++ b.reign ∷ [] =
+          sym (its (suc n) (omega arith)) ∙ b.more ∙ ap (λ (l : List Reign). l ++ b.reign ∷ []) (its n (omega arith) ∙ sym same) in
+          let start = b.start in
+          let last : Some b.reign.stamp ≡ Some s = sym (stamp-push (suc n) (begun_by n qs) b.reign (omega arith)) ∙ ap (stamp_at (suc n)) (sym begins) ∙ covered in
+          let stamp : b.reign.stamp ≡ s = cc in
+          let reign : b.reign ≡ reign_from (suc n) s = λ k. record { stamp = stamp k; start = start k } in
+          let changes : StampsChange (begun_by n qs ++ b.reign ∷ []) =
+          subst StampsChange (its (suc n) (omega arith) ∙ begins) (changes-begun 0 (suc n) all h.starts h.changes) in
+          inr (
+            (λ e. change-last None n (begun_by n qs) b.reign (all-begun n qs) (change-after (begun_by n qs ++ b.reign ∷ []) changes)
+            (or_nothing (stamp_at n (begun_by n qs)) ∙ stamp-begun n n qs (omega arith) ∙ e ∙ ap (λ (x : Stamp). Some x) (sym stamp))),
+            begins ∙ ap (λ (r : Reign). begun_by n qs ++ r ∷ []) reign,
+          )
+    ]

@@ -7,3 +7,6 @@ mod Moves
 mod Followers
 mod Steps
 mod Hardened
+mod SharedFronts
+mod Crashing
+mod Resting

@@ -1,6 +1,14 @@
 //! Laws of sites while entries are made, shipped and rolled back.
 #![tactic(auto)]
 
+mod beginnings;
+mod histories;
 mod lineage;
+mod outcomes;
+mod reigns;
 
+pub use beginnings::worlds_begin_fit;
+pub use histories::histories_hold;
 pub use lineage::lineage_holds;
+pub use outcomes::outcomes_hold;
+pub use reigns::{reigns_hold, stamps_hold};
