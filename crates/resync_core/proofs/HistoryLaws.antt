@@ -104,7 +104,7 @@ lone low n before r rs qs rise within none alike =
 alike-next : (low n : ℕ) (before : Option Stamp) (r : Reign) (rs qs : List Reign) → low < r.start → Alike low n before (r ∷ rs) (r ∷ qs) → Alike r.start n (Some r.stamp) rs qs
 alike-next low n before r rs qs past alike k more le =
     let side : (l : List Reign) → option_or (stamp_at k (r ∷ l)) before ≡ option_or (stamp_at k l) (Some r.stamp) = λ l.
-        ap (λ (o : Option Stamp). option_or o before) (stamp-first k r l (omega arith)) ∙ or-or (stamp_at k l) r.stamp before in
+    ap (λ (o : Option Stamp). option_or o before) (stamp-first k r l (omega arith)) ∙ or-or (stamp_at k l) r.stamp before in
     sym (side rs) ∙ alike k (omega arith) le ∙ side qs
 
 one-list : (low n : ℕ) (before : Option Stamp) (rs qs : List Reign) → StartsRise low rs → StartsRise low qs → AllBegun n rs → AllBegun n qs
@@ -321,7 +321,7 @@ adopts-next rs qs xs ys s h g p low is =
           subst StampsChange (its (suc n) (omega arith) ∙ begins) (changes-begun 0 (suc n) all h.starts h.changes) in
           inr (
             (λ e. change-last None n (begun_by n qs) b.reign (all-begun n qs) (change-after (begun_by n qs ++ b.reign ∷ []) changes)
-            (or_nothing (stamp_at n (begun_by n qs)) ∙ stamp-begun n n qs (omega arith) ∙ e ∙ ap (λ (x : Stamp). Some x) (sym stamp))),
+                (or_nothing (stamp_at n (begun_by n qs)) ∙ stamp-begun n n qs (omega arith) ∙ e ∙ ap (λ (x : Stamp). Some x) (sym stamp))),
             begins ∙ ap (λ (r : Reign). begun_by n qs ++ r ∷ []) reign,
           )
     ]

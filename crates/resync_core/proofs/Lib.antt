@@ -10,3 +10,5 @@ mod Hardened
 mod SharedFronts
 mod Crashing
 mod Resting
+mod SingleSteps
+mod RowSteps

@@ -378,9 +378,9 @@ begun w v h i old was room =
     let size : length reigns ≡ length (begun_by n old.reigns) + 1 = length-append (begun_by n old.reigns) (its ∷ []) in
     let same : begun_by n reigns ≡ begun_by n old.reigns = begun-push_late n (begun_by n old.reigns) its (omega arith) ∙ begun-begun n n old.reigns (omega arith) in
     let unused : (k : ℕ) (x : Entry) → slice_get old.sequence k ≡ Some x → x.stamp ≡ drawn old → ⊥ = λ k x is its_own.
-        let low = h.cycles i i old old was was k x is (ap (λ (y : Stamp). y.root) its_own) in
-        let cycle : x.stamp.cycle ≡ suc old.cycle = ap (λ (y : Stamp). y.cycle) its_own in
-        omega arith in
+    let low = h.cycles i i old old was was k x is (ap (λ (y : Stamp). y.root) its_own) in
+    let cycle : x.stamp.cycle ≡ suc old.cycle = ap (λ (y : Stamp). y.cycle) its_own in
+    omega arith in
     let starts : StartsRise 0 reigns = histories.rise-more old.reigns old.sequence (drawn old) f.history in
     let changes : StampsChange reigns = histories.changes-more old.reigns old.sequence (drawn old) f.history
     (histories.another-stamp old.reigns old.sequence (drawn old) f.history unused) in
