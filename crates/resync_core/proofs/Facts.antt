@@ -1,5 +1,5 @@
 -- What holds of one site, as its sequence grows or becomes a front of one.
-use Rattle.std.proofs.Common.{◌≡◌, inl, inr, ℕ, zero, suc, ◌+◌, ◌-◌, ◌<◌, ◌≤◌, List, [], ◌∷◌, ◌++◌, length, take, set, get_or, Some, slice_get, sym, ◌∙◌, ap, subst, arith, take-take, get_or-set_same}
+use Rattle.std.proofs.Common.{◌≡◌, inl, inr, ℕ, zero, suc, ◌+◌, ◌-◌, ◌<◌, ◌≤◌, List, [], ◌∷◌, ◌++◌, length, take, set, get_or, sym, ◌∙◌, ap, subst, arith, take-take, get_or-set_same}
 use Rattle.std.proofs.Math.ListN.{length-set}
 use Rattle.std.proofs.lemmas.Option.{slice_get_within}
 use Rattle.global_defs.specs.Entry.{Update, Stamp, Entry, Sequence}

@@ -1,5 +1,5 @@
 -- Histories of sequences: their fronts, one reign more, and that a sequence has one.
-use Rattle.std.proofs.Common.{◌≡◌, ◌≢◌, ◌⊎◌, inl, inr, ℕ, zero, suc, ◌<◌, ◌≤◌, List, [], ◌∷◌, ◌++◌, length, take, Option, Some, None, slice_get, refl, sym, ◌∙◌, ap, subst, arith, length-append, length-take-le}
+use Rattle.std.proofs.Common.{◌≡◌, ◌⊎◌, inl, inr, ℕ, zero, suc, ◌<◌, ◌≤◌, List, [], ◌∷◌, ◌++◌, length, take, Option, Some, None, slice_get, refl, sym, ◌∙◌, ap, subst, arith, length-append, length-take-le}
 use Rattle.std.proofs.lemmas.Bool.{cases_lt}
 use Rattle.std.proofs.lemmas.Option.{slice_get_within}
 use Rattle.std.specs.Option.{option_or}
@@ -8,7 +8,7 @@ use Rattle.global_defs.specs.Prefix.{IsPrefix, stamp_at}
 use Rattle.lineage_defs.specs.Histories.{begun_by, StartsRise, StampsChange, HasStamps, IsHistory}
 use Rattle.lineage_defs.specs.Events.{reign_from, Adopts}
 use Rattle.resync_core.proofs.Fronts as lists
-use Rattle.resync_core.proofs.BegunReigns.{begun-first, begun-later, begun-begun, begun-push, begun-push_late, AllBegun, all-begun, length-begun, fewer-begun, stamp-push, stamp-first, stamp-later, stamp-begun, stamp-begun_before, stamp-none}
+use Rattle.resync_core.proofs.BegunReigns.{begun-first, begun-later, begun-begun, begun-push_late, AllBegun, all-begun, stamp-push, stamp-first, stamp-later, stamp-begun, stamp-begun_before, stamp-none}
 
 -- Starts
 

@@ -12,3 +12,4 @@ mod Crashing
 mod Resting
 mod SingleSteps
 mod RowSteps
+mod Walking

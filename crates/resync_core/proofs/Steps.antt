@@ -2,12 +2,12 @@
 use Rattle.std.proofs.Common.{◌≡◌, inl, inr, ℕ, suc, ◌+◌, ◌<◌, ◌≤◌, List, [], ◌∷◌, ◌++◌, length, take, replicate, Some, slice_get, refl, sym, ◌∙◌, ap, subst, arith, length-append, length-take-le}
 use Rattle.global_defs.specs.Entry.{Update, Stamp, Entry, Sequence, Reign}
 use Rattle.global_defs.specs.Serial.{entry_of, serial_at}
-use Rattle.global_defs.specs.Prefix.{IsPrefix, stamp_at}
+use Rattle.global_defs.specs.Prefix.{IsPrefix}
 use Rattle.lineage_defs.specs.Lists.{At}
 use Rattle.lineage_defs.specs.Histories.{MOST_REIGNS, begun_by, StartsRise, StampsChange, IsHistory}
 use Rattle.lineage_defs.specs.Sites.{Down, Primary, Following, Waiting, Site, World, hardened_part}
 use Rattle.lineage_defs.specs.Events.{Event, Decide, Harden, Send, Receive, Apply, Cut, Crash, Begin, Follow, Roll, Same, Keeps, picked_once, Decides, Hardens, Sends, Receives, reign_from, Adopts, Applies, resumed, set_back, IsCut, IfFollowing, IsLeft, drawn, Begins, Follows, Happens, Reaches}
-use Rattle.lineage_defs.specs.Lineage.{IsReigning, HasPrimary, IsFitSite, IsFit}
+use Rattle.lineage_defs.specs.Lineage.{HasPrimary, IsFitSite, IsFit}
 use Rattle.resync_core.proofs.Fronts as lists
 use Rattle.resync_core.proofs.Places as places
 use Rattle.resync_core.proofs.Places.{Either}
@@ -15,7 +15,7 @@ use Rattle.resync_core.proofs.Moves as moves
 use Rattle.resync_core.proofs.Moves.{IsFront, IsMore, GoesOn, Move, Moves}
 use Rattle.resync_core.proofs.Facts as facts
 use Rattle.resync_core.proofs.Followers as followers
-use Rattle.resync_core.proofs.BegunReigns.{begun-begun, begun-push_late, length-begun, fewer-begun, stamp-begun, stamp-push}
+use Rattle.resync_core.proofs.BegunReigns.{begun-begun, begun-push_late, length-begun, fewer-begun, stamp-push}
 use Rattle.resync_core.proofs.HistoryLaws as histories
 
 pub moved : (w v : World) (i : ℕ) (P : Site → Site → Type 0) (Q : ℕ → Site → Site → Type 0) → At i P Q w v
