@@ -1,0 +1,54 @@
+-- Reigns and what they tell of a sequence (GT.M: the history records of the instance file, from which the resync point is found).
+use Rattle.std.specs.Prelude.{◌≡◌, ◌≢◌, ◌⊎◌, ℕ, suc, ◌<◌, ◌≤◌, nat_le, List, [], ◌∷◌, filter, length, slice_get, Some}
+use Rattle.global_defs.specs.Entry.{Stamp, Entry, Sequence, Reign}
+use Rattle.global_defs.specs.Prefix.{IsPrefix, History, stamp_at}
+
+-- how many reigns a sequence may have
+abbrev pub MOST_REIGNS : ℕ
+MOST_REIGNS = 32768
+
+-- the reigns that have begun by a number
+abbrev pub begun_by : ℕ → List Reign → List Reign
+begun_by n reigns = filter (λ r. nat_le r.start n) reigns
+
+-- starts rise, from above this one
+abbrev pub StartsRise : ℕ → List Reign → Type 0
+StartsRise low [] = Unit {0}
+StartsRise low (r ∷ rs) = (low < r.start) × StartsRise r.start rs
+
+-- no two neighbours have one stamp
+abbrev pub StampsChange : List Reign → Type 0
+StampsChange [] = Unit {0}
+StampsChange (r ∷ []) = Unit {0}
+StampsChange (r ∷ s ∷ rs) = (r.stamp ≢ s.stamp) × StampsChange (s ∷ rs)
+
+-- each entry has the stamp of its number; the entry at place i has number i + 1
+abbrev pub HasStamps : List Reign → Sequence → Type 0
+HasStamps reigns seq = (i : ℕ) (e : Entry) → slice_get seq i ≡ Some e → stamp_at (suc i) reigns ≡ Some e.stamp
+
+-- The reigns are a history of the sequence: they tell each entry's stamp, and up to its length each begins where the stamp changes.
+pub record IsHistory (reigns : List Reign) (seq : Sequence) : Type 0 where
+  pub stamps : HasStamps reigns seq
+  pub starts : StartsRise 0 (begun_by (length seq) reigns)
+  pub changes : StampsChange (begun_by (length seq) reigns)
+
+-- both have this stamp at number n
+abbrev pub BothHave : (n : ℕ) → List Reign → List Reign → Type 0
+BothHave n xs ys = (stamp : Stamp) × (stamp_at n xs ≡ Some stamp) × (stamp_at n ys ≡ Some stamp)
+
+-- The common length of two histories: the greatest number, at most both lengths, at which both have one stamp, or 0.
+pub record IsCommonOf (t : ℕ) (a b : History) : Type 0 where
+  pub in_first : t ≤ a.length
+  pub in_second : t ≤ b.length
+  pub same : (t ≡ 0) ⊎ BothHave t a.reigns b.reigns
+  pub greatest : (n : ℕ) → t < n → n ≤ a.length → n ≤ b.length → BothHave n a.reigns b.reigns → ⊥
+
+-- a history as it is told to another site: without the reigns that begin past its length
+abbrev pub told : History → History
+told h = record { length = h.length; reigns = begun_by h.length h.reigns }
+
+-- the longest sequence with which both begin
+pub record IsLongestCommon (shared xs ys : Sequence) : Type 0 where
+  pub of_first : IsPrefix shared xs
+  pub of_second : IsPrefix shared ys
+  pub longest : (p : Sequence) → IsPrefix p xs → IsPrefix p ys → IsPrefix p shared

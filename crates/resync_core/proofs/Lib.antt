@@ -1,0 +1,15 @@
+mod Fronts
+mod Places
+mod BegunReigns
+mod HistoryLaws
+mod Facts
+mod Moves
+mod Followers
+mod Steps
+mod Hardened
+mod SharedFronts
+mod Crashing
+mod Resting
+mod SingleSteps
+mod RowSteps
+mod Walking
