@@ -1,5 +1,5 @@
 //! What a disk is.
-ghost use Rattle.std.specs.Prelude.{◌≡◌, ◌≤◌, ◌+◌, ℕ, length, take, drop, IfOk, IfSome, OnOk, IsTrue};
+ghost use Rattle.std.specs.Prelude.{◌≡◌, ◌≤◌, ◌+◌, ℕ, length, take, drop, false, IfOk, IfSome, OnOk, IsTrue};
 ghost use Rattle.disk_defs.specs.Disk.{Files, View, Image, IsLawful, written, Torn, OnFile, Same, Passes, ReadsAfter, Reads, HasCause, IsDurable, RoomStays, RoomUsed, RoomAdded};
 
 use thiserror::Error;
@@ -74,17 +74,18 @@ pub trait Disk: Drop {
         ensures room { RoomUsed file 0 (disk self.old) (disk self.new) }
         ensures cause { HasCause (disk self.old).faults (disk self.new).faults result };
 
-    /// Lets so many more calls of `len`, `read_at`, `write_at` and `sync` succeed, and each after them fail.
+    /// Lets so many more calls of `len`, `read_at`, `write_at` and `sync` succeed, and each after them fail, where the disk is
+    /// simulated. Otherwise it does nothing.
     fn fuse(&mut self, calls: u64)
-        requires { IsTrue (disk self.old).simulated }
         ensures reads { Reads (disk self.old) (disk self.new) }
         ensures faults { (disk self.new).faults ≡ (disk self.old).faults };
 
-    /// Makes one of its images what it has, all of it on the disk for good. It takes no memory.
+    /// Makes one of its images what it has, all of it on the disk for good, where the disk is simulated. Otherwise it does
+    /// nothing. It takes no memory.
     ///
     /// The moments begin anew: no clause on a run of calls reaches over a crash.
     fn crash(&mut self, pick: u64)
-        requires { IsTrue (disk self.old).simulated }
+        ensures still { (disk self.old).simulated ≡ false → Reads (disk self.old) (disk self.new) }
         ensures image { IsTrue (disk self.old).simulated → IfSome (disk self.new).content (Image (disk self.old)) }
         ensures durable { IsTrue (disk self.old).simulated → IfSome (disk self.new).content (λ files. (c : Files) → Image (disk self.new) c → c ≡ files) }
         ensures simulated { (disk self.new).simulated ≡ (disk self.old).simulated }
