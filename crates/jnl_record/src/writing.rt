@@ -14,6 +14,9 @@ use gvn_key::{Bytes, NoMemory};
 use gvn_model::Item;
 use repl_fields::write_update;
 
+/// Room for most records.
+const SHORT_RECORD: usize = 128;
+
 /// Adds an item at the end: 04, its position, and its update.
 fn write_item(item: &Item, out: &mut Bytes) -> Result<(), NoMemory>
     requires { IsUpdate (item_value item.now).update }
@@ -113,7 +116,7 @@ pub fn encode(r: &JnlRecord, out: &mut Bytes) -> Result<(), NoMemory>
     ensures ok { OnOk result (out.new ≡ out.old ++ spelled_record (record_value r.now)) }
     ensures err { OnErr result (out.new ≡ out.old) }
 {
-    let mut body = Bytes::new(out.allocator());
+    let mut body = Bytes::with_capacity(out.allocator(), SHORT_RECORD)?;
     write_record(r, &mut body)?;
     out.push_all(body.as_slice())
 }

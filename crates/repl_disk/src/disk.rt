@@ -1,5 +1,5 @@
 //! What a disk is.
-ghost use Rattle.std.specs.Prelude.{◌≡◌, ◌≤◌, ◌+◌, ℕ, length, take, drop, IfOk, IfSome, OnOk, IsTrue};
+ghost use Rattle.std.specs.Prelude.{◌≡◌, ◌≤◌, ◌+◌, ℕ, length, take, drop, false, IfOk, IfSome, OnOk, IsTrue};
 ghost use Rattle.disk_defs.specs.Disk.{Files, View, Image, IsLawful, written, Torn, OnFile, Same, Passes, ReadsAfter, Reads, HasCause, IsDurable, RoomStays, RoomUsed, RoomAdded};
 
 use thiserror::Error;
@@ -85,6 +85,7 @@ pub trait Disk: Drop {
     ///
     /// The moments begin anew: no clause on a run of calls reaches over a crash.
     fn crash(&mut self, pick: u64)
+        ensures still { (disk self.old).simulated ≡ false → Reads (disk self.old) (disk self.new) }
         ensures image { IsTrue (disk self.old).simulated → IfSome (disk self.new).content (Image (disk self.old)) }
         ensures durable { IsTrue (disk self.old).simulated → IfSome (disk self.new).content (λ files. (c : Files) → Image (disk self.new) c → c ≡ files) }
         ensures simulated { (disk self.new).simulated ≡ (disk self.old).simulated }

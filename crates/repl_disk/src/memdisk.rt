@@ -50,6 +50,7 @@ impl MemDisk {
     pub fn new(alloc: Global) -> Result<MemDisk, NoMemory>
         ensures empty { IfOk result (λ made. (f : ℕ) → (replay (lefts made.files.items) (reverse made.calls.items) made.written.items f).read ≡ []) }
         ensures images { IfOk result (λ made. (c : Files) → Image (mem_view (lefts made.files.items) (reverse made.calls.items) made.written.items (rooms made.files.items) made.faults) c → (f : ℕ) → c f ≡ []) }
+        ensures faults { IfOk result (λ made. made.faults ≡ 0) }
     {
         Ok(MemDisk {
             alloc,

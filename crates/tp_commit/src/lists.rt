@@ -19,7 +19,7 @@ const MOST_REGIONS: usize = 8;
 fn empty_lists(alloc: Global) -> Result<Vec<Items>, NoMemory>
     ensures { IfOk result (λ made. made.items ≡ map (λ (r : ℕ). []) REGIONS) }
 {
-    let mut lists = Vec::new(alloc);
+    let mut lists = Vec::with_capacity(alloc, MOST_REGIONS)?;
     for _ in 0..MOST_REGIONS {
         lists.push(Items::new(alloc))?;
     }

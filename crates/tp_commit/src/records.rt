@@ -66,7 +66,7 @@ fn records_by(
     requires { length t.now.updates < 2 ^ 16 }
     ensures { IfOk result (λ made. map (λ x. option_map record_value x) made.items ≡ map (λ (xs : List defs.Item). recorded (with_items number mask (transaction_value t.now) xs)) lists.items) }
 {
-    let mut records = Vec::new(alloc);
+    let mut records = Vec::with_capacity(alloc, lists.len())?;
     for items in lists {
         records.push(record_of(number, mask, t, items))?;
     }
