@@ -1,123 +1,114 @@
 // Scripts that aren't in the form, and what ran of them.
-use super::ran::{disks, ran_well};
-use repl_io::{MemSink, MemSource};
-use site_runner::{Status, run};
-use std::alloc::Global;
+use super::ran::ends;
+use site_runner::Status;
 use std::test::Fail;
 
 const STARTED: &[u8] = b"A CREATED\nA PRIMARY 1 FROM 1\n";
 
+const NO_COMMAND: &[u8] = b"\
+CREATE A R
+START A PRIMARY
+RUNN A
+";
+
 #[test]
 fn a_word_that_is_no_command(rt: HostRuntime) -> Result<(), Fail> {
-    let (status, out) = ran_well(rt.alloc(), b"CREATE A R\nSTART A PRIMARY\nRUNN A\n")?;
-    assert_eq!(rt; status, Status::BadLine { line: 3, column: 1 });
-    assert_eq!(rt; out.as_slice(), STARTED);
-    Ok(())
+    let bad = Status::BadLine { line: 3, column: 1 };
+    ends(&rt, rt.alloc(), NO_COMMAND, bad, STARTED)
 }
+
+const LEFT_OPEN: &[u8] = b"\
+CREATE A R
+START A PRIMARY
+RUN A
+1 SET ^X(1)=\"a\"
+";
 
 #[test]
 fn a_section_that_is_left_open(rt: HostRuntime) -> Result<(), Fail> {
-    let (status, out) = ran_well(
-        rt.alloc(),
-        b"CREATE A R\nSTART A PRIMARY\nRUN A\n1 SET ^X(1)=\"a\"\n",
-    )?;
-    assert_eq!(rt; status, Status::BadLine { line: 5, column: 1 });
-    assert_eq!(rt; out.as_slice(), STARTED);
-    Ok(())
+    let bad = Status::BadLine { line: 5, column: 1 };
+    ends(&rt, rt.alloc(), LEFT_OPEN, bad, STARTED)
 }
+
+const LONG_NUMERAL: &[u8] = b"\
+CREATE A R
+START A PRIMARY
+RUN A
+1 SET ^X(1234567890123456789)=2
+END
+";
 
 /// Nothing of a section runs that has a bad line.
 #[test]
 fn a_numeral_of_19_digits(rt: HostRuntime) -> Result<(), Fail> {
-    let (status, out) = ran_well(
-        rt.alloc(),
-        b"CREATE A R\nSTART A PRIMARY\nRUN A\n1 SET ^X(1234567890123456789)=2\nEND\n",
-    )?;
-    assert_eq!(rt; status, Status::BadLine { line: 4, column: 7 });
-    assert_eq!(rt; out.as_slice(), STARTED);
-    Ok(())
+    let bad = Status::BadLine { line: 4, column: 7 };
+    ends(&rt, rt.alloc(), LONG_NUMERAL, bad, STARTED)
 }
 
-/// Each of these is bad at that column, as the first line.
+/// A column, and a line that is bad at it.
+const BAD_LINES: &str = "\
+8|FUSE A 1000001
+8|FUSE A 01
+8|FUSE A +1
+7|FUSE A\x20
+9|CRASH A 4294967296
+14|  CREATE A R R
+26|CREATE A A B C D E F G H I
+9|MAP A R *
+9|MAP A R X**
+8|TYPE A LOST 1
+15|TYPE A BROKEN 0
+15|TYPE A BROKEN 65536
+10|CREATE A R:NOBEFORE
+11|EXTRACT A 0
+10|ZWRITE A X
+5|STOP
+1|END";
+
+/// Each of these is bad at its column, as the first line.
 #[test]
 fn columns_of_first_lines(rt: HostRuntime) -> Result<(), Fail> {
-    for (line, column) in [
-        ("FUSE A 1000001", 8),
-        ("FUSE A 01", 8),
-        ("FUSE A +1", 8),
-        ("FUSE A ", 7),
-        ("CRASH A 4294967296", 9),
-        ("  CREATE A R R", 14),
-        ("CREATE A A B C D E F G H I", 26),
-        ("MAP A R *", 9),
-        ("MAP A R X**", 9),
-        ("TYPE A LOST 1", 8),
-        ("TYPE A BROKEN 0", 15),
-        ("TYPE A BROKEN 65536", 15),
-        ("CREATE A R:NOBEFORE", 10),
-        ("EXTRACT A 0", 11),
-        ("ZWRITE A X", 10),
-        ("STOP", 5),
-        ("END", 1),
-    ] {
-        let (status, out) = ran_well(rt.alloc(), line.as_bytes())?;
-        assert_eq!(rt; status, Status::BadLine { line: 1, column }, "{line}");
-        assert_eq!(rt; out.len(), 0);
+    for row in BAD_LINES.split('\n') {
+        let (column, line) = row.split_once('|').ok_or("no bar")?;
+        let column = column.parse()?;
+        let bad = Status::BadLine { line: 1, column };
+        ends(&rt, rt.alloc(), line.as_bytes(), bad, b"")?;
     }
-    let (status, out) = ran_well(
-        rt.alloc(),
-        b"; a comment\r\n\n  FUSE  A 1000000 \r \nCRASH A 4294967295\n",
-    )?;
-    assert_eq!(rt; status, Status::Ok);
-    assert_eq!(rt; out.as_slice(), b"A NOSITE\nA NOSITE\n".as_slice());
     Ok(())
 }
 
-/// Lines that are all empty but for this behind the last of them.
-fn empty_lines(alloc: Global, lines: usize, more: &[u8]) -> Result<Vec<u8>, Fail> {
-    let mut script = Vec::new(alloc);
-    for _ in 0..lines {
-        script.push(b'\n')?;
-    }
-    script.extend_from_slice(more)?;
-    Ok(script)
+#[test]
+fn blanks_and_carriage_returns(rt: HostRuntime) -> Result<(), Fail> {
+    let script = b"; a comment\r\n\n  FUSE  A 1000000 \r \nCRASH A 4294967295\n";
+    ends(&rt, rt.alloc(), script, Status::Ok, b"A NOSITE\nA NOSITE\n")
 }
 
-fn ran_long(alloc: Global, script: Vec<u8>) -> Result<(Status, Vec<u8>), Fail> {
-    let words = vec![in alloc; String::from_str(alloc, "run")?]?;
-    let mut source = MemSource::new(script, Vec::new(alloc));
-    let mut sink = MemSink::new(alloc, Vec::new(alloc), 4096, 4096)?;
-    let status = run(alloc, &words, &mut source, &mut sink, &mut disks(alloc)?);
-    Ok((status, sink.bytes().to_vec(alloc)?))
+#[test]
+fn a_script_of_100000_lines(rt: HostRuntime) -> Result<(), Fail> {
+    let lines = "\n".repeat(rt.alloc(), 100_000)?;
+    ends(&rt, rt.alloc(), lines.as_bytes(), Status::Ok, b"")
 }
 
 #[test]
 fn a_byte_behind_the_last_line_feed_that_may_be(rt: HostRuntime) -> Result<(), Fail> {
-    let alloc = rt.alloc();
-    let (status, out) = ran_long(alloc, empty_lines(alloc, 100_000, b"E")?)?;
-    assert_eq!(rt; status, Status::ScriptTooLong);
-    assert_eq!(rt; out.len(), 0);
-    let (status, _) = ran_long(alloc, empty_lines(alloc, 100_000, b"")?)?;
-    assert_eq!(rt; status, Status::Ok);
-    Ok(())
+    let lines = "\n".repeat(rt.alloc(), 100_000)?;
+    let script = format!(in rt.alloc(); "{lines}E")?;
+    ends(
+        &rt,
+        rt.alloc(),
+        script.as_bytes(),
+        Status::ScriptTooLong,
+        b"",
+    )
 }
 
 #[test]
 fn a_line_that_is_too_long(rt: HostRuntime) -> Result<(), Fail> {
-    let alloc = rt.alloc();
-    let mut script = Vec::new(alloc);
-    script.extend_from_slice(b"STOP A\n;")?;
-    for _ in 0..4096 {
-        script.push(b' ')?;
-    }
-    let (status, out) = ran_long(alloc, script)?;
-    assert_eq!(rt;
-        status,
-        Status::BadLine {
-            line: 2,
-            column: 4097
-        }
-    );
-    assert_eq!(rt; out.as_slice(), b"A NOSITE\n".as_slice());
-    Ok(())
+    let blanks = " ".repeat(rt.alloc(), 4096)?;
+    let script = format!(in rt.alloc(); "STOP A\n;{blanks}")?;
+    let bad = Status::BadLine {
+        line: 2,
+        column: 4097,
+    };
+    ends(&rt, rt.alloc(), script.as_bytes(), bad, b"A NOSITE\n")
 }

@@ -1,39 +1,68 @@
 // Disks, sources and sinks that fail.
-use super::ran::{FIRST_SET, ran, ran_well};
+use super::ran::{FIRST_SET, prints, ran, ran_well};
 use site_runner::Status;
 use std::alloc::Global;
 use std::fmt::Write;
 use std::process::Abort;
 use std::test::Fail;
 
+const CRASH_AND_GO_ON: &str = "\
+CREATE A R
+START A PRIMARY
+RUN A
+1 SET ^X(1)=\"a\"
+END
+CRASH A 0
+START A PRIMARY
+RUN A
+1 SET ^X(2)=\"b\"
+END
+EXTRACT A
+--
+A CREATED
+A PRIMARY 1 FROM 1
+1.1 SEQ 1
+A AT 1
+A CRASHED
+A PRIMARY 2 FROM 2
+1.1 SEQ 2
+A AT 2
+GTMRJEX01\\A\\1
+SET\\1\\A.1\\1.1\\^X(1)=\"a\"
+SET\\2\\A.2\\1.1\\^X(2)=\"b\"
+";
+
 /// After a crash the hardened entry stands; the second reign has cycle 2, and its serials begin anew.
 #[test]
 fn crash_and_go_on(rt: HostRuntime) -> Result<(), Fail> {
-    let (status, out) = ran_well(
-        rt.alloc(),
-        b"CREATE A R\nSTART A PRIMARY\nRUN A\n1 SET ^X(1)=\"a\"\nEND\nCRASH A 0\nSTART A PRIMARY\nRUN A\n1 SET ^X(2)=\"b\"\nEND\nEXTRACT A\n",
-    )?;
-    assert_eq!(rt; status, Status::Ok);
-    assert_eq!(rt;
-        out.as_slice(),
-        b"A CREATED\nA PRIMARY 1 FROM 1\n1.1 SEQ 1\nA AT 1\nA CRASHED\nA PRIMARY 2 FROM 2\n1.1 SEQ 2\nA AT 2\nGTMRJEX01\\A\\1\nSET\\1\\A.1\\1.1\\^X(1)=\"a\"\nSET\\2\\A.2\\1.1\\^X(2)=\"b\"\n".as_slice()
-    );
-    Ok(())
+    prints(&rt, rt.alloc(), CRASH_AND_GO_ON)
 }
+
+const FUSE_AT_ONCE: &str = "\
+CREATE A R
+START A PRIMARY
+FUSE A 0
+RUN A
+1 SET ^X(1)=\"a\"
+END
+RUN A
+END
+CRASH A 0
+START A PRIMARY
+--
+A CREATED
+A PRIMARY 1 FROM 1
+A FUSED 0
+A DISKFAULT 1 UNDECIDED 1
+A STOPPED 1
+A CRASHED
+A PRIMARY 2 FROM 1
+";
 
 /// The first disk call fails, and the site is stopped until a crash.
 #[test]
 fn fuse_at_once(rt: HostRuntime) -> Result<(), Fail> {
-    let (status, out) = ran_well(
-        rt.alloc(),
-        b"CREATE A R\nSTART A PRIMARY\nFUSE A 0\nRUN A\n1 SET ^X(1)=\"a\"\nEND\nRUN A\nEND\nCRASH A 0\nSTART A PRIMARY\n",
-    )?;
-    assert_eq!(rt; status, Status::Ok);
-    assert_eq!(rt;
-        out.as_slice(),
-        b"A CREATED\nA PRIMARY 1 FROM 1\nA FUSED 0\nA DISKFAULT 1 UNDECIDED 1\nA STOPPED 1\nA CRASHED\nA PRIMARY 2 FROM 1\n".as_slice()
-    );
-    Ok(())
+    prints(&rt, rt.alloc(), FUSE_AT_ONCE)
 }
 
 const FIVE_SETS: &str =
@@ -117,7 +146,7 @@ fn a_fault_at_each_call(rt: HostRuntime) -> Result<(), Fail> {
 #[test]
 fn a_sink_that_fails_at_its_second_write(rt: HostRuntime) -> Result<(), Fail> {
     let alloc = rt.alloc();
-    let (status, out) = ran(alloc, &["run"], FIRST_SET.to_vec(alloc)?, &[], &[1], 1)?;
+    let (status, out) = ran(alloc, "run", FIRST_SET.to_vec(alloc)?, &[], &[1], 1)?;
     assert_eq!(rt; status, Status::SinkFault);
     assert_eq!(rt; out.as_slice(), b"A".as_slice());
     Ok(())
@@ -126,7 +155,7 @@ fn a_sink_that_fails_at_its_second_write(rt: HostRuntime) -> Result<(), Fail> {
 #[test]
 fn a_source_that_fails_after_line_1(rt: HostRuntime) -> Result<(), Fail> {
     let alloc = rt.alloc();
-    let (status, out) = ran(alloc, &["run"], FIRST_SET.to_vec(alloc)?, &[11], &[], 4096)?;
+    let (status, out) = ran(alloc, "run", FIRST_SET.to_vec(alloc)?, &[11], &[], 4096)?;
     assert_eq!(rt; status, Status::SourceFault);
     assert_eq!(rt; out.as_slice(), b"A CREATED\n".as_slice());
     Ok(())

@@ -1,22 +1,49 @@
 // A site that is opened again, and what a fault or a crash leaves of an opening.
-use super::ran::ran_well;
-use site_runner::Status;
+use super::ran::{prints, ran_well};
 use std::alloc::Global;
 use std::process::Abort;
 use std::test::Fail;
 
+const STATES_AND_REIGNS_ARE_SHOWN: &str = "\
+SHOW A
+CREATE A R
+SHOW A
+START A PRIMARY
+RUN A
+1 SET ^X=1
+END
+STOP A
+START A PRIMARY
+STOP A
+START A PRIMARY
+SHOW A
+FUSE A 0
+RUN A
+1 SET ^X=2
+END
+SHOW A
+--
+A NOSITE
+A CREATED
+A STATE DOWN
+A PRIMARY 1 FROM 1
+1.1 SEQ 1
+A AT 1
+A DOWN 1
+A PRIMARY 2 FROM 2
+A DOWN 1
+A PRIMARY 3 FROM 2
+A STATE PRIMARY 3 LENGTH 1
+A REIGN A 1 FROM 1
+A REIGN A 3 FROM 2
+A FUSED 0
+A DISKFAULT 1 UNDECIDED 1
+A STATE FAILED 1
+";
+
 #[test]
 fn states_and_reigns_are_shown(rt: HostRuntime) -> Result<(), Fail> {
-    let (status, out) = ran_well(
-        rt.alloc(),
-        b"SHOW A\nCREATE A R\nSHOW A\nSTART A PRIMARY\nRUN A\n1 SET ^X=1\nEND\nSTOP A\nSTART A PRIMARY\nSTOP A\nSTART A PRIMARY\nSHOW A\nFUSE A 0\nRUN A\n1 SET ^X=2\nEND\nSHOW A\n",
-    )?;
-    assert_eq!(rt; status, Status::Ok);
-    assert_eq!(rt;
-        out.as_slice(),
-        b"A NOSITE\nA CREATED\nA STATE DOWN\nA PRIMARY 1 FROM 1\n1.1 SEQ 1\nA AT 1\nA DOWN 1\nA PRIMARY 2 FROM 2\nA DOWN 1\nA PRIMARY 3 FROM 2\nA STATE PRIMARY 3 LENGTH 1\nA REIGN A 1 FROM 1\nA REIGN A 3 FROM 2\nA FUSED 0\nA DISKFAULT 1 UNDECIDED 1\nA STATE FAILED 1\n".as_slice()
-    );
-    Ok(())
+    prints(&rt, rt.alloc(), STATES_AND_REIGNS_ARE_SHOWN)
 }
 
 const FIRST_LINES: &str =

@@ -3,6 +3,7 @@ use repl_disk::MemDisk;
 use repl_io::{MemSink, MemSource};
 use site_runner::{Status, run};
 use std::alloc::Global;
+use std::process::Abort;
 use std::test::Fail;
 
 pub const FIRST_SET: &[u8] =
@@ -19,17 +20,18 @@ pub fn disks(alloc: Global) -> Result<Vec<MemDisk>, Fail> {
     Ok(disks)
 }
 
-/// Runs a script with these words. The source fails at the calls of those numbers, the sink at those; a write takes at most so many bytes.
+/// Runs a script with these words, between which blanks stand. The source fails at the calls of those numbers, the sink at those; a
+/// write takes at most so many bytes.
 pub fn ran(
     alloc: Global,
-    words: &[&str],
+    words: &str,
     script: Vec<u8>,
     bad_reads: &[u64],
     bad_writes: &[u64],
     most: usize,
 ) -> Result<(Status, Vec<u8>), Fail> {
     let mut given = Vec::new(alloc);
-    for word in words {
+    for word in words.split_whitespace() {
         given.push(String::from_str(alloc, word)?)?;
     }
     let mut source = MemSource::new(script, bad_reads.to_vec(alloc)?);
@@ -54,5 +56,34 @@ pub fn ran_on(
 
 /// Runs a script whose source and sink don't fail.
 pub fn ran_well(alloc: Global, script: &[u8]) -> Result<(Status, Vec<u8>), Fail> {
-    ran(alloc, &["run"], script.to_vec(alloc)?, &[], &[], 4096)
+    ran(alloc, "run", script.to_vec(alloc)?, &[], &[], 4096)
+}
+
+/// A script ends so, and prints this.
+pub fn ends(
+    rt: &impl Abort,
+    alloc: Global,
+    script: &[u8],
+    want: Status,
+    prints: &[u8],
+) -> Result<(), Fail> {
+    let (status, out) = ran_well(alloc, script)?;
+    assert_eq!(rt; status, want);
+    assert_eq!(rt; out.as_slice(), prints);
+    Ok(())
+}
+
+/// A row is a script, a line of two dashes, and what the script prints. It ends well.
+pub fn prints(rt: &impl Abort, alloc: Global, row: &str) -> Result<(), Fail> {
+    let (script, want) = row.split_once("--\n").ok_or("no dashes")?;
+    ends(rt, alloc, script.as_bytes(), Status::Ok, want.as_bytes())
+}
+
+/// The same, where behind the dashes stands what the script prints last.
+pub fn prints_last(rt: &impl Abort, alloc: Global, row: &str) -> Result<(), Fail> {
+    let (script, want) = row.split_once("--\n").ok_or("no dashes")?;
+    let (status, out) = ran_well(alloc, script.as_bytes())?;
+    assert_eq!(rt; status, Status::Ok);
+    assert!(rt; out.ends_with(want.as_bytes()));
+    Ok(())
 }

@@ -1,39 +1,82 @@
 // Sites of several regions: patterns, transactions over regions, and the files of what was broken.
-use super::ran::{disks, ran_on, ran_well};
+use super::ran::{disks, prints, ran_on, ran_well};
 use repl_disk::{Disk, MemDisk};
-use site_runner::Status;
 use std::alloc::Global;
 use std::process::Abort;
 use std::test::Fail;
 
+const REFUSALS_OF_MAP_AND_TYPE: &str = "\
+MAP A R X*
+TYPE A BROKEN 1
+CREATE A R Q
+TYPE A BROKEN 1
+MAP A P X*
+MAP A Q X*
+MAP A R X*
+MAP A P X*
+MAP A Q X
+START A PRIMARY
+MAP A P X*
+TYPE A BROKEN 1
+STOP A
+MAP A P X*
+TYPE A BROKEN 65535
+--
+A NOSITE
+A NOSITE
+A CREATED
+A NOFILE
+A NOREGION P
+A MAPPED
+A TWICEMAPPED
+A NOREGION P
+A MAPPED
+A PRIMARY 1 FROM 1
+A RUNNING
+A NOFILE
+A DOWN 0
+A STARTED
+A NOFILE
+";
+
 /// MAP and TYPE answer the first cause in its order.
 #[test]
 fn refusals_of_map_and_type(rt: HostRuntime) -> Result<(), Fail> {
-    let (status, out) = ran_well(
-        rt.alloc(),
-        b"MAP A R X*\nTYPE A BROKEN 1\nCREATE A R Q\nTYPE A BROKEN 1\nMAP A P X*\nMAP A Q X*\nMAP A R X*\nMAP A P X*\nMAP A Q X\nSTART A PRIMARY\nMAP A P X*\nTYPE A BROKEN 1\nSTOP A\nMAP A P X*\nTYPE A BROKEN 65535\n",
-    )?;
-    assert_eq!(rt; status, Status::Ok);
-    assert_eq!(rt;
-        out.as_slice(),
-        b"A NOSITE\nA NOSITE\nA CREATED\nA NOFILE\nA NOREGION P\nA MAPPED\nA TWICEMAPPED\nA NOREGION P\nA MAPPED\nA PRIMARY 1 FROM 1\nA RUNNING\nA NOFILE\nA DOWN 0\nA STARTED\nA NOFILE\n".as_slice()
-    );
-    Ok(())
+    prints(&rt, rt.alloc(), REFUSALS_OF_MAP_AND_TYPE)
 }
+
+const FAULTS_OF_MAP_AND_TYPE: &str = "\
+CREATE A R Q
+FUSE A 0
+MAP A Q X*
+MAP A P X*
+TYPE A BROKEN 1
+CRASH A 0
+START A PRIMARY
+FUSE A 0
+TYPE A BROKEN 1
+TYPE A BROKEN 1
+CRASH A 0
+TYPE A BROKEN 1
+--
+A CREATED
+A FUSED 0
+A DISKFAULT 1
+A STOPPED 1
+A STOPPED 1
+A CRASHED
+A PRIMARY 1 FROM 1
+A FUSED 0
+A DISKFAULT 2
+A STOPPED 2
+A CRASHED
+A NOFILE
+";
 
 /// After a fault a site takes neither MAP nor TYPE until a crash.
 #[test]
 fn faults_of_map_and_type(rt: HostRuntime) -> Result<(), Fail> {
-    let (status, out) = ran_well(
-        rt.alloc(),
-        b"CREATE A R Q\nFUSE A 0\nMAP A Q X*\nMAP A P X*\nTYPE A BROKEN 1\nCRASH A 0\nSTART A PRIMARY\nFUSE A 0\nTYPE A BROKEN 1\nTYPE A BROKEN 1\nCRASH A 0\nTYPE A BROKEN 1\n",
-    )?;
-    assert_eq!(rt; status, Status::Ok);
-    assert_eq!(rt;
-        out.as_slice(),
-        b"A CREATED\nA FUSED 0\nA DISKFAULT 1\nA STOPPED 1\nA STOPPED 1\nA CRASHED\nA PRIMARY 1 FROM 1\nA FUSED 0\nA DISKFAULT 2\nA STOPPED 2\nA CRASHED\nA NOFILE\n".as_slice()
-    );
-    Ok(())
+    prints(&rt, rt.alloc(), FAULTS_OF_MAP_AND_TYPE)
 }
 
 /// The number of the region whose journal of generation 1 is the longest, of eight.

@@ -1,97 +1,114 @@
 // Sites and their states, and the words of a command line.
-use super::ran::{FIRST_SET, FIRST_SET_PRINTS, ran, ran_well};
+use super::ran::{FIRST_SET, FIRST_SET_PRINTS, ends, prints, prints_last, ran};
 use site_runner::Status;
+use std::alloc::Global;
+use std::process::Abort;
 use std::test::Fail;
 
 #[test]
 fn empty_script(rt: HostRuntime) -> Result<(), Fail> {
-    let (status, out) = ran_well(rt.alloc(), b"")?;
-    assert_eq!(rt; status, Status::Ok);
-    assert_eq!(rt; out.len(), 0);
-    Ok(())
+    ends(&rt, rt.alloc(), b"", Status::Ok, b"")
 }
 
 #[test]
 fn first_set(rt: HostRuntime) -> Result<(), Fail> {
-    let (status, out) = ran_well(rt.alloc(), FIRST_SET)?;
-    assert_eq!(rt; status, Status::Ok);
-    assert_eq!(rt; out.as_slice(), FIRST_SET_PRINTS);
-    Ok(())
+    ends(&rt, rt.alloc(), FIRST_SET, Status::Ok, FIRST_SET_PRINTS)
 }
 
 #[test]
 fn first_set_without_its_last_line_feed(rt: HostRuntime) -> Result<(), Fail> {
-    let (status, out) = ran_well(rt.alloc(), &FIRST_SET[..FIRST_SET.len() - 1])?;
-    assert_eq!(rt; status, Status::Ok);
-    assert_eq!(rt; out.as_slice(), FIRST_SET_PRINTS);
-    Ok(())
+    let script = &FIRST_SET[..FIRST_SET.len() - 1];
+    ends(&rt, rt.alloc(), script, Status::Ok, FIRST_SET_PRINTS)
 }
+
+const REFUSALS: &str = "\
+START A PRIMARY
+CREATE A R
+CREATE A R
+RUN A
+END
+STOP A
+START A PRIMARY
+START A PRIMARY
+STOP A
+--
+A NOSITE
+A CREATED
+A EXISTS
+A NOTPRIMARY
+A NOTRUNNING
+A PRIMARY 1 FROM 1
+A RUNNING
+A DOWN 0
+";
 
 #[test]
 fn refusals(rt: HostRuntime) -> Result<(), Fail> {
-    let (status, out) = ran_well(
-        rt.alloc(),
-        b"START A PRIMARY\nCREATE A R\nCREATE A R\nRUN A\nEND\nSTOP A\nSTART A PRIMARY\nSTART A PRIMARY\nSTOP A\n",
-    )?;
-    assert_eq!(rt; status, Status::Ok);
-    assert_eq!(rt;
-        out.as_slice(),
-        b"A NOSITE\nA CREATED\nA EXISTS\nA NOTPRIMARY\nA NOTRUNNING\nA PRIMARY 1 FROM 1\nA RUNNING\nA DOWN 0\n".as_slice()
-    );
-    Ok(())
+    prints(&rt, rt.alloc(), REFUSALS)
 }
+
+const TWO_SITES: &str = "\
+CREATE A R
+CREATE Bank2 ACCOUNT
+START Bank2 PRIMARY
+RUN Bank2
+64 SET ^X=1
+END
+ZWRITE Bank2
+EXTRACT A
+ZWRITE C
+START A PRIMARY
+ZWRITE A
+EXTRACT Bank2 2
+--
+A CREATED
+Bank2 CREATED
+Bank2 PRIMARY 1 FROM 1
+64.1 SEQ 1
+Bank2 AT 1
+^X=\"1\"
+A NOTRUNNING
+C NOSITE
+A PRIMARY 1 FROM 1
+GTMRJEX01\\Bank2\\2
+";
 
 /// Sites have any names of the form, and each a disk of its own.
 #[test]
 fn two_sites(rt: HostRuntime) -> Result<(), Fail> {
-    let (status, out) = ran_well(
-        rt.alloc(),
-        b"CREATE A R\nCREATE Bank2 ACCOUNT\nSTART Bank2 PRIMARY\nRUN Bank2\n64 SET ^X=1\nEND\nZWRITE Bank2\nEXTRACT A\nZWRITE C\nSTART A PRIMARY\nZWRITE A\nEXTRACT Bank2 2\n",
-    )?;
-    assert_eq!(rt; status, Status::Ok);
-    assert_eq!(rt;
-        out.as_slice(),
-        b"A CREATED\nBank2 CREATED\nBank2 PRIMARY 1 FROM 1\n64.1 SEQ 1\nBank2 AT 1\n^X=\"1\"\nA NOTRUNNING\nC NOSITE\nA PRIMARY 1 FROM 1\nGTMRJEX01\\Bank2\\2\n".as_slice()
-    );
-    Ok(())
+    prints(&rt, rt.alloc(), TWO_SITES)
 }
+
+const A_NINTH_SITE: &str = "\
+CREATE A R
+CREATE B R
+CREATE C R
+CREATE D R
+CREATE E R
+CREATE F R
+CREATE G R
+CREATE H R
+CREATE I R
+--
+H CREATED
+I NODISK
+";
 
 #[test]
 fn a_ninth_site(rt: HostRuntime) -> Result<(), Fail> {
-    let (status, out) = ran_well(
-        rt.alloc(),
-        b"CREATE A R\nCREATE B R\nCREATE C R\nCREATE D R\nCREATE E R\nCREATE F R\nCREATE G R\nCREATE H R\nCREATE I R\n",
-    )?;
-    assert_eq!(rt; status, Status::Ok);
-    assert!(rt; out.ends_with(b"H CREATED\nI NODISK\n"));
+    prints_last(&rt, rt.alloc(), A_NINTH_SITE)
+}
+
+fn are_bad(rt: &impl Abort, alloc: Global, words: &str) -> Result<(), Fail> {
+    let (status, out) = ran(alloc, words, FIRST_SET.to_vec(alloc)?, &[], &[], 4096)?;
+    assert_eq!(rt; status, Status::BadWords, "{words}");
+    assert_eq!(rt; out.len(), 0);
     Ok(())
 }
 
 #[test]
 fn words_that_are_no_command_line(rt: HostRuntime) -> Result<(), Fail> {
-    let alloc = rt.alloc();
-    let (status, out) = ran(
-        alloc,
-        &["run", "--pool", "8"],
-        FIRST_SET.to_vec(alloc)?,
-        &[],
-        &[],
-        4096,
-    )?;
-    assert_eq!(rt; status, Status::BadWords);
-    assert_eq!(rt; out.len(), 0);
-    let (status, out) = ran(
-        alloc,
-        &["run", "run"],
-        FIRST_SET.to_vec(alloc)?,
-        &[],
-        &[],
-        4096,
-    )?;
-    assert_eq!(rt; status, Status::BadWords);
-    assert_eq!(rt; out.len(), 0);
-    let (status, out) = ran(alloc, &[], FIRST_SET.to_vec(alloc)?, &[], &[], 4096)?;
-    assert_eq!(rt; status, Status::BadWords);
-    assert_eq!(rt; out.len(), 0);
-    Ok(())
+    are_bad(&rt, rt.alloc(), "run --pool 8")?;
+    are_bad(&rt, rt.alloc(), "run run")?;
+    are_bad(&rt, rt.alloc(), "")
 }

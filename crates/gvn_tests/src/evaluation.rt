@@ -1,32 +1,42 @@
-// Jobs on globals, and lists of jobs.
+// Jobs on globals.
 use gvn_eval::eval;
 use gvn_globals::Globals;
-use gvn_key::terms::{Statement, Update};
+use gvn_key::terms::Update;
 use gvn_key::{Bytes, Key};
-use gvn_model::*;
+use gvn_model::{Cause, Evaluated, Job, Origin, Statements};
+use gvn_text::read_statement;
 use std::alloc::Global;
 use std::process::Abort;
 use std::test::Fail;
 
-/// The first letter of a statement (A is a CHECK >=), its key, its number, and what is said of it: how many updates there are
-/// and the answers, or the cause. Each value is "abc".
-#[derive(Clone, Copy)]
-struct Row(u8, &'static [u8], i64, &'static [u8]);
+// A row is what is said of a job, which is how many updates there are and the answers, or the cause; and its one statement.
 
-fn statement(alloc: Global, row: Row) -> Result<Statement, Fail> {
-    let key = Key::parse(alloc, row.1)?;
-    Ok(match row.0 {
-        b'S' => Statement::Set(key, Bytes::of(alloc, b"abc")?),
-        b'K' => Statement::Kill(key),
-        b'Z' => Statement::ZKill(key),
-        b'I' => Statement::Incr(key, row.2),
-        b'G' => Statement::Get(key),
-        b'D' => Statement::Defined(key),
-        b'O' => Statement::Order(key, Bytes::new(alloc)),
-        b'C' => Statement::CheckIs(key, Bytes::of(alloc, b"abc")?),
-        _ => Statement::CheckAtLeast(key, row.2),
-    })
-}
+const COUNTED: &str = "\
+1|SET ^X=\"abc\"
+NOTNUM|INCR ^X 1
+1 -5|INCR ^Y -5
+1 999999999999999999|INCR ^Z 999999999999999999
+NOTNUM|INCR ^Z 1
+CHECK|CHECK ^Y>=0
+0|CHECK ^X=\"abc\"
+0 \"\"|ORDER ^Y(\"\")
+0 \"abc\"|GET ^X";
+
+const KILLS: &str = "\
+1|SET ^X(1)=\"abc\"
+1|SET ^X(1,2)=\"abc\"
+1|SET ^Y(1)=\"abc\"
+1|SET ^Y(1,2)=\"abc\"
+1|KILL ^X(1)
+1|ZKILL ^Y(1)
+0 0|DATA ^X(1)
+0 10|DATA ^Y(1)
+0 1|DATA ^Y(1,2)
+0 10|DATA ^Y";
+
+const FULL: &str = "\
+FULL|SET ^X=\"abc\"
+1|SET ^AAAA=\"abc\"";
 
 fn cause_name(cause: Cause) -> &'static [u8] {
     match cause {
@@ -68,77 +78,47 @@ fn run(alloc: Global, globals: &mut Globals, job: &Job) -> Result<Bytes, Fail> {
 }
 
 /// A job of one statement.
-fn job(alloc: Global, row: Row) -> Result<Job, Fail> {
+fn job(alloc: Global, text: &str) -> Result<Job, Fail> {
     let mut statements = Statements::new(alloc);
-    statements.push(statement(alloc, row)?)?;
+    statements.push(read_statement(alloc, text.as_bytes())?)?;
     Ok(Job { statements })
 }
 
-/// Each row is a job.
+/// Each row of a table is a job.
 fn run_rows(
     rt: &impl Abort,
     alloc: Global,
     globals: &mut Globals,
-    rows: &[Row],
+    table: &str,
 ) -> Result<(), Fail> {
-    for row in rows {
-        let said = run(alloc, globals, &job(alloc, *row)?)?;
-        assert_eq!(rt; said.as_slice(), row.3);
+    for row in table.split('\n') {
+        let (want, text) = row.split_once('|').ok_or("no bar")?;
+        let said = run(alloc, globals, &job(alloc, text)?)?;
+        assert_eq!(rt; said.as_slice(), want.as_bytes(), "{text}");
     }
     Ok(())
 }
 
 #[test]
 fn counts_and_checks(rt: HostRuntime) -> Result<(), Fail> {
-    let rows = [
-        Row(b'S', b"^X", 0, b"1"),
-        Row(b'I', b"^X", 1, b"NOTNUM"),
-        Row(b'I', b"^Y", -5, b"1 -5"),
-        Row(
-            b'I',
-            b"^Z",
-            999_999_999_999_999_999,
-            b"1 999999999999999999",
-        ),
-        Row(b'I', b"^Z", 1, b"NOTNUM"),
-        Row(b'A', b"^Y", 0, b"CHECK"),
-        Row(b'C', b"^X", 0, b"0"),
-        Row(b'O', b"^Y", 0, b"0 \"\""),
-        Row(b'G', b"^X", 0, b"0 \"abc\""),
-    ];
-    run_rows(&rt, rt.alloc(), &mut Globals::new(rt.alloc()), &rows)
+    run_rows(&rt, rt.alloc(), &mut Globals::new(rt.alloc()), COUNTED)
 }
-
-static KILLS: [Row; 10] = [
-    Row(b'S', b"^X(1)", 0, b"1"),
-    Row(b'S', b"^X(1,2)", 0, b"1"),
-    Row(b'S', b"^Y(1)", 0, b"1"),
-    Row(b'S', b"^Y(1,2)", 0, b"1"),
-    Row(b'K', b"^X(1)", 0, b"1"),
-    Row(b'Z', b"^Y(1)", 0, b"1"),
-    Row(b'D', b"^X(1)", 0, b"0 0"),
-    Row(b'D', b"^Y(1)", 0, b"0 10"),
-    Row(b'D', b"^Y(1,2)", 0, b"0 1"),
-    Row(b'D', b"^Y", 0, b"0 10"),
-];
 
 #[test]
 fn kills_and_tells_data(rt: HostRuntime) -> Result<(), Fail> {
-    run_rows(&rt, rt.alloc(), &mut Globals::new(rt.alloc()), &KILLS)
+    run_rows(&rt, rt.alloc(), &mut Globals::new(rt.alloc()), KILLS)
 }
 
 /// All rows are one job, which sees its own updates.
 #[test]
 fn sees_its_own_updates(rt: HostRuntime) -> Result<(), Fail> {
     let mut statements = Statements::new(rt.alloc());
-    for row in &KILLS {
-        statements.push(statement(rt.alloc(), *row)?)?;
+    for row in KILLS.split('\n') {
+        let (_, text) = row.split_once('|').ok_or("no bar")?;
+        statements.push(read_statement(rt.alloc(), text.as_bytes())?)?;
     }
-    let said = run(
-        rt.alloc(),
-        &mut Globals::new(rt.alloc()),
-        &Job { statements },
-    )?;
+    let mut globals = Globals::new(rt.alloc());
+    let said = run(rt.alloc(), &mut globals, &Job { statements })?;
     assert_eq!(rt; said.as_slice(), b"6 0 10 1 10".as_slice());
     Ok(())
 }
@@ -159,48 +139,5 @@ fn is_full(rt: HostRuntime) -> Result<(), Fail> {
     for n in 0..100_000 {
         globals.apply(&Update::Set(numbered(rt.alloc(), n)?, Bytes::new(rt.alloc())))?;
     }
-    let rows = [Row(b'S', b"^X", 0, b"FULL"), Row(b'S', b"^AAAA", 0, b"1")];
-    run_rows(&rt, rt.alloc(), &mut globals, &rows)
-}
-
-#[test]
-fn takes_jobs_in_turn(rt: HostRuntime) -> Result<(), Fail> {
-    let mut queue = JobQueue::new(rt.alloc());
-    queue.push(job(rt.alloc(), KILLS[0])?)?;
-    let mut jobs = Jobs::new(rt.alloc());
-    jobs.push(queue)?;
-    jobs.add_statement(1, statement(rt.alloc(), KILLS[1])?)?;
-    jobs.add(1, job(rt.alloc(), KILLS[2])?)?;
-    let Some(first) = jobs.take_next(1) else {
-        return Ok(());
-    };
-    assert_eq!(rt; first.statements.len(), 2);
-    assert_eq!(rt; jobs.take_next(1).is_some(), true);
-    assert_eq!(rt; jobs.take_next(1).is_none(), true);
-    assert_eq!(rt; jobs.take_next(7).is_none(), true);
-    Ok(())
-}
-
-#[test]
-fn copies_jobs(rt: HostRuntime) -> Result<(), Fail> {
-    let mut jobs = Jobs::new(rt.alloc());
-    assert_eq!(rt; jobs.is_empty(), true);
-    jobs.push(JobQueue::new(rt.alloc()))?;
-    let copied = jobs.copy()?;
-    assert_eq!(rt; copied.len(), 1);
-    assert_eq!(rt; copied.item(0).is_empty(), true);
-    assert_eq!(rt; copied.as_slice()[0].len(), 0);
-    Ok(())
-}
-
-#[test]
-fn copies_names(rt: HostRuntime) -> Result<(), Fail> {
-    let mut named = NamedModes::new(rt.alloc());
-    assert_eq!(rt; named.is_empty(), true);
-    named.push((Bytes::of(rt.alloc(), b"R")?, true))?;
-    let made = named.copy()?;
-    assert_eq!(rt; made.len(), 1);
-    assert_eq!(rt; made.item(0).1, true);
-    assert_eq!(rt; made.as_slice()[0].0.as_slice(), b"R".as_slice());
-    Ok(())
+    run_rows(&rt, rt.alloc(), &mut globals, FULL)
 }

@@ -1,38 +1,37 @@
 //! Worked keys decoded, bytes that are no key, and the order of keys.
+use crate::rows::cut;
 use gvn_key::{Bytes, Key};
 use std::alloc::Global;
 use std::cmp::Ordering;
 use std::collections::BTreeMap;
+use std::process::Abort;
 use std::test::Fail;
 
 /// The subscript of `^X`, none where it is empty, and the encoded key.
-const WORKED: [(&[u8], &[u8]); 8] = [
-    (b"", b"X\0"),
-    (b"1", b"X\0\x03\x41\x31\0"),
-    (b"9", b"X\0\x03\x41\x39\0"),
-    (b"10", b"X\0\x03\x42\x31\0"),
-    (b".5", b"X\0\x03\x40\x35\0"),
-    (b"-1", b"X\0\x01\xbe\x38\xff"),
-    (b"0", b"X\0\x02"),
-    (b"A", b"X\0\x04\x41\0"),
-];
+const WORKED: &[u8] = b"\
+|X\0
+1|X\0\x03\x41\x31\0
+9|X\0\x03\x41\x39\0
+10|X\0\x03\x42\x31\0
+.5|X\0\x03\x40\x35\0
+-1|X\0\x01\xbe\x38\xff
+0|X\0\x02
+A|X\0\x04\x41\0";
 
 /// Bytes that no key has.
-const REFUSED: [&[u8]; 10] = [
-    b"",
-    b"X",
-    b"\0",
-    b"X\0\x02\0",
-    b"X\0\x03\x42\x31\x30\0",
-    b"X\0\x03\x41\0",
-    b"X\0\x04\0",
-    b"X\0\x04\x31\0",
-    b"X\0\x04\x01\x03\0",
-    b"X\0\x04\x41",
-];
+const REFUSED: &[u8] = b"
+X
+\0
+X\0\x02\0
+X\0\x03\x42\x31\x30\0
+X\0\x03\x41\0
+X\0\x04\0
+X\0\x04\x31\0
+X\0\x04\x01\x03\0
+X\0\x04\x41";
 
-/// Subscripts in M collation.
-const ORDERED: [&[u8]; 7] = [b"-1", b".5", b"9", b"10", b"01", b"A", b"a"];
+/// Subscripts in M collation, turned round.
+const TURNED: &str = "a A 01 10 9 .5 -1";
 
 fn node(alloc: Global, sub: &[u8]) -> Result<Key, Fail> {
     let mut subs = Vec::new(alloc);
@@ -42,17 +41,33 @@ fn node(alloc: Global, sub: &[u8]) -> Result<Key, Fail> {
     Ok(Key::new(alloc, b"X", &subs)?)
 }
 
+fn is_decoded(rt: &impl Abort, alloc: Global, row: &[u8]) -> Result<(), Fail> {
+    let (sub, code) = cut(row)?;
+    let key = Key::decode(alloc, code)?.ok_or("no key")?;
+    assert_eq!(rt; key.as_encoded(), code);
+    assert_eq!(rt; key.compare(&node(alloc, sub)?), Ordering::Equal);
+    Ok(())
+}
+
 #[test]
 fn worked_keys(rt: HostRuntime) -> Result<(), Fail> {
-    let alloc = rt.alloc();
-    for (sub, code) in WORKED {
-        let key = Key::decode(alloc, code)?.expect(&rt, "a key");
-        assert_eq!(rt; key.as_encoded(), code);
-        assert_eq!(rt; key.compare(&node(alloc, sub)?), Ordering::Equal);
+    for row in WORKED.split(|b| *b == b'\n') {
+        is_decoded(&rt, rt.alloc(), row)?;
     }
-    for code in REFUSED {
-        assert!(rt; Key::decode(alloc, code)?.is_none());
+    Ok(())
+}
+
+#[test]
+fn bytes_of_no_key(rt: HostRuntime) -> Result<(), Fail> {
+    for code in REFUSED.split(|b| *b == b'\n') {
+        assert!(rt; Key::decode(rt.alloc(), code)?.is_none(), "{code:?}");
     }
+    Ok(())
+}
+
+fn is_below(rt: &impl Abort, top: &Key, key: &Key) -> Result<(), Fail> {
+    assert!(rt; top < key && *key == key.copy()?);
+    assert!(rt; key.is_under(top) && key.is_under(key) && !top.is_under(key));
     Ok(())
 }
 
@@ -60,15 +75,16 @@ fn worked_keys(rt: HostRuntime) -> Result<(), Fail> {
 fn order(rt: HostRuntime) -> Result<(), Fail> {
     let alloc = rt.alloc();
     let top = node(alloc, b"")?;
-    let mut places = BTreeMap::new(alloc);
-    for (place, sub) in ORDERED.iter().enumerate().rev() {
-        let key = node(alloc, sub)?;
-        assert!(rt; top < key && key == key.copy()?);
-        assert!(rt; key.is_under(&top) && key.is_under(&key) && !top.is_under(&key));
-        places.insert(key, place)?;
+    let mut subs = BTreeMap::new(alloc);
+    for sub in TURNED.split(' ') {
+        let key = node(alloc, sub.as_bytes())?;
+        is_below(&rt, &top, &key)?;
+        subs.insert(key, sub)?;
     }
-    for (want, place) in places.values().enumerate() {
-        assert_eq!(rt; *place, want);
+    let sorted = subs.values().rev();
+    for (sub, want) in sorted.zip(TURNED.split(' ')) {
+        assert_eq!(rt; *sub, want);
     }
+    assert_eq!(rt; subs.len(), 7);
     Ok(())
 }

@@ -1,251 +1,216 @@
-//! Vectors of the layout and of the text, and each call once.
-use gvn_key::{Bytes, Key, KeyError, ZwrError, is_number, zwr_read, zwr_write};
+//! Keys and their bytes, numbers, and texts of keys, from worked vectors.
+use crate::rows::cut;
+use gvn_key::{Bytes, Key, KeyError, is_number};
 use std::alloc::Global;
+use std::process::Abort;
 use std::test::Fail;
 
-/// The key of a name and subscripts.
-fn key(alloc: Global, name: &[u8], subs: &[&[u8]]) -> Result<Result<Key, KeyError>, Fail> {
-    let mut list = Vec::new(alloc);
-    for sub in subs {
-        list.push(Bytes::of(alloc, sub)?)?;
+/// The subscripts of `^X`, each with a semicolon behind it; its encoded key; its text.
+const ENCODED: &[u8] = b"\
+|X\x00|^X
+1;|X\x00\x03\x41\x31\x00|^X(1)
+9;|X\x00\x03\x41\x39\x00|^X(9)
+10;|X\x00\x03\x42\x31\x00|^X(10)
+.5;|X\x00\x03\x40\x35\x00|^X(.5)
+-1;|X\x00\x01\xbe\x38\xff|^X(-1)
+0;|X\x00\x02|^X(0)
+A;|X\x00\x04\x41\x00|^X(\"A\")
+\x00\x01\x02;|X\x00\x04\x01\x01\x01\x02\x02\x00|^X($C(0,1,2))
+123456789012345678;|X\x00\x03\x52123456789012345678\x00|^X(123456789012345678)
+1;1234567890123456789;|X\x00\x03\x41\x31\x00\x041234567890123456789\x00|^X(1,\"1234567890123456789\")";
+
+const NUMBERS: &str = "\
+0
+7
+-7
+.5
+-.05
+10.01
+999999999999999999
+.000000000000000001";
+
+const STRINGS: &str = "
+-0
+01
+1.0
++1
+0.5
+1.
+.
+-
+1E5
+1.2.3
+1234567890123456789";
+
+/// A fault or none, a name, and subscripts with a semicolon behind each.
+const FAULTS: &str = "\
+none|%x9|
+BadName||
+BadName|9|
+BadName|X%|
+BadName|X_Y|;
+NullSub|X|1;;2;";
+
+/// A text of a key, and its canonical text.
+const TEXTS: &str = "\
+^X|^X
+^%z9(1,-.5)|^%z9(1,-.5)
+^X(\"10\")|^X(10)
+^X(\"1\"_\"0\",$C(65))|^X(10,\"A\")
+^X(\"a,b)\"\"\")|^X(\"a,b)\"\"\")
+^X(\"01\")|^X(\"01\")
+^X(\"1234567890123456789\")|^X(\"1234567890123456789\")";
+
+/// The fault of a text, and the text.
+const BAD_TEXTS: &str = "\
+BadName|
+BadName|X
+BadName|^
+BadName|^1(\"\")
+BadName|^X Y
+NameTooLong|^aaaaaaaaaaaaaaaaaaaaaaaaaaaaaaaa(
+BadSub|^X(
+BadSub|^X()
+BadSub|^X)
+BadSub|^X(1
+BadSub|^X(1))
+BadSub|^X(01)
+BadSub|^X(1234567890123456789)
+BadSub|^X(\"a)
+NullSub|^X(1,\"\",x)
+BadSub|^X(1,x,\"\")
+TooManySubs|^X(1,1,1,1,1,1,1,1,1,1,1,1,1,1,1,1,1,1,1,1,1,1,1,1,1,1,1,1,1,1,1,1)";
+
+/// The subscripts that stand before a semicolon each.
+fn subs_of(alloc: Global, text: &[u8]) -> Result<Vec<Bytes>, Fail> {
+    let mut subs = Vec::new(alloc);
+    if let [front @ .., b';'] = text {
+        for sub in front.split(|b| *b == b';') {
+            subs.push(Bytes::of(alloc, sub)?)?;
+        }
     }
-    Ok(Key::new(alloc, name, &list))
+    Ok(subs)
+}
+
+fn encodes(rt: &impl Abort, alloc: Global, row: &[u8]) -> Result<(), Fail> {
+    let (subs, row) = cut(row)?;
+    let (encoded, text) = cut(row)?;
+    let subs = subs_of(alloc, subs)?;
+    let made = Key::new(alloc, b"X", &subs)?;
+    let mut out = Bytes::new(alloc);
+    made.copy()?.encode(&mut out)?;
+    assert_eq!(rt; out.as_slice(), encoded);
+    assert_eq!(rt; made.as_encoded(), encoded);
+    out.clear();
+    made.write(&mut out)?;
+    assert_eq!(rt; out.as_slice(), text);
+    assert_eq!(rt; made.name(), b"X".as_slice());
+    assert_eq!(rt; made.subs().len(), subs.len());
+    Ok(())
 }
 
 #[test]
 fn encoded_keys(rt: HostRuntime) -> Result<(), Fail> {
-    let alloc = rt.alloc();
-    let rows: [(&[&[u8]], &[u8], &[u8]); 11] = [
-        (&[], b"X\x00", b"^X"),
-        (&[b"1"], b"X\x00\x03\x41\x31\x00", b"^X(1)"),
-        (&[b"9"], b"X\x00\x03\x41\x39\x00", b"^X(9)"),
-        (&[b"10"], b"X\x00\x03\x42\x31\x00", b"^X(10)"),
-        (&[b".5"], b"X\x00\x03\x40\x35\x00", b"^X(.5)"),
-        (&[b"-1"], b"X\x00\x01\xbe\x38\xff", b"^X(-1)"),
-        (&[b"0"], b"X\x00\x02", b"^X(0)"),
-        (&[b"A"], b"X\x00\x04\x41\x00", b"^X(\"A\")"),
-        (
-            &[b"\x00\x01\x02"],
-            b"X\x00\x04\x01\x01\x01\x02\x02\x00",
-            b"^X($C(0,1,2))",
-        ),
-        (
-            &[b"123456789012345678"],
-            b"X\x00\x03\x52123456789012345678\x00",
-            b"^X(123456789012345678)",
-        ),
-        (
-            &[b"1", b"1234567890123456789"],
-            b"X\x00\x03\x41\x31\x00\x041234567890123456789\x00",
-            b"^X(1,\"1234567890123456789\")",
-        ),
-    ];
-    for (subs, encoded, text) in rows {
-        let made = key(alloc, b"X", subs)??;
-        let mut out = Bytes::of(alloc, b"-")?;
-        made.copy()?.encode(&mut out)?;
-        assert_eq!(rt; &out.as_slice()[1..], encoded);
-        assert_eq!(rt; made.as_encoded(), encoded);
-        out.clear();
-        made.write(&mut out)?;
-        assert_eq!(rt; out.as_slice(), text);
-        assert_eq!(rt; made.name(), b"X".as_slice());
-        assert_eq!(rt; made.subs().len(), subs.len());
+    for row in ENCODED.split(|b| *b == b'\n') {
+        encodes(&rt, rt.alloc(), row)?;
     }
     Ok(())
+}
+
+/// An encoded key stands behind what was there.
+#[test]
+fn encoded_behind(rt: HostRuntime) -> Result<(), Fail> {
+    let mut out = Bytes::of(rt.alloc(), b"-")?;
+    Key::parse(rt.alloc(), b"^X")?.encode(&mut out)?;
+    assert_eq!(rt; out.as_slice(), b"-X\x00".as_slice());
+    Ok(())
+}
+
+fn all_are(rt: &impl Abort, table: &str, want: bool) {
+    for text in table.split('\n') {
+        assert_eq!(rt; is_number(text.as_bytes()), want, "{text}");
+    }
 }
 
 #[test]
-fn numbers_and_strings(rt: HostRuntime) -> Result<(), Fail> {
-    let numbers: [&[u8]; 8] = [
-        b"0",
-        b"7",
-        b"-7",
-        b".5",
-        b"-.05",
-        b"10.01",
-        b"999999999999999999",
-        b".000000000000000001",
-    ];
-    for text in numbers {
-        assert!(rt; is_number(text));
-    }
-    let strings: [&[u8]; 12] = [
-        b"",
-        b"-0",
-        b"01",
-        b"1.0",
-        b"+1",
-        b"0.5",
-        b"1.",
-        b".",
-        b"-",
-        b"1E5",
-        b"1.2.3",
-        b"1234567890123456789",
-    ];
-    for text in strings {
-        assert!(rt; !is_number(text));
-    }
-    Ok(())
+fn numbers_and_strings(rt: HostRuntime) {
+    all_are(&rt, NUMBERS, true);
+    all_are(&rt, STRINGS, false);
 }
 
-static LONG: [u8; 252] = [b'a'; 252];
-
-static ONES: [&[u8]; 32] = [b"1"; 32];
-
-static NULL_LAST: [&[u8]; 32] = [
-    b"1", b"1", b"1", b"1", b"1", b"1", b"1", b"1", b"1", b"1", b"1", b"1", b"1", b"1", b"1", b"1",
-    b"1", b"1", b"1", b"1", b"1", b"1", b"1", b"1", b"1", b"1", b"1", b"1", b"1", b"1", b"1", b"",
-];
+fn told(fault: Option<KeyError>) -> &'static str {
+    match fault {
+        None => "none",
+        Some(KeyError::BadName) => "BadName",
+        Some(KeyError::NameTooLong) => "NameTooLong",
+        Some(KeyError::BadSub) => "BadSub",
+        Some(KeyError::NullSub) => "NullSub",
+        Some(KeyError::TooManySubs) => "TooManySubs",
+        Some(KeyError::KeyTooLong) => "KeyTooLong",
+        Some(KeyError::NoMemory) => "NoMemory",
+    }
+}
 
 /// The fault of a name and subscripts.
-fn fault(alloc: Global, name: &[u8], subs: &[&[u8]]) -> Result<Option<KeyError>, Fail> {
-    Ok(key(alloc, name, subs)?.err())
+fn fault(alloc: Global, name: &str, subs: &str) -> Result<&'static str, Fail> {
+    let subs = subs_of(alloc, subs.as_bytes())?;
+    Ok(told(Key::new(alloc, name.as_bytes(), &subs).err()))
 }
 
-#[test]
-fn names(rt: HostRuntime) -> Result<(), Fail> {
-    let alloc = rt.alloc();
-    assert_eq!(rt; fault(alloc, b"%x9", &[])?, None);
-    assert_eq!(rt; fault(alloc, &LONG[..31], &[])?, None);
-    assert_eq!(rt;
-        fault(alloc, &LONG[..32], &[])?,
-        Some(KeyError::NameTooLong)
-    );
-    assert_eq!(rt; fault(alloc, b"", &[])?, Some(KeyError::BadName));
-    assert_eq!(rt; fault(alloc, b"9", &[])?, Some(KeyError::BadName));
-    assert_eq!(rt; fault(alloc, b"X%", &[])?, Some(KeyError::BadName));
-    assert_eq!(rt; fault(alloc, b"X_Y", &[b""])?, Some(KeyError::BadName));
-    Ok(())
-}
-
-#[test]
-fn subscripts(rt: HostRuntime) -> Result<(), Fail> {
-    let alloc = rt.alloc();
-    assert_eq!(rt;
-        fault(alloc, b"X", &[b"1", b"", b"2"])?,
-        Some(KeyError::NullSub)
-    );
-    assert_eq!(rt; fault(alloc, b"X", &ONES[..31])?, None);
-    assert_eq!(rt; fault(alloc, b"X", &ONES)?, Some(KeyError::TooManySubs));
-    assert_eq!(rt; fault(alloc, b"X", &NULL_LAST)?, Some(KeyError::NullSub));
-    assert_eq!(rt; fault(alloc, b"X", &[&LONG[..251]])?, None);
-    assert_eq!(rt; fault(alloc, b"X", &[&LONG])?, Some(KeyError::KeyTooLong));
-    assert_eq!(rt; fault(alloc, b"X", &[&LONG, b""])?, Some(KeyError::NullSub));
-    Ok(())
-}
-
-#[test]
-fn zwr_text(rt: HostRuntime) -> Result<(), Fail> {
-    let alloc = rt.alloc();
-    let rows: [(&[u8], &[u8]); 5] = [
-        (b"", b"\"\""),
-        (b"a\"b\nc\xff", b"\"a\"\"b\"_$C(10)_\"c\"_$C(255)"),
-        (b"~\x7f", b"\"~\"_$C(127)"),
-        (b"\x1f ", b"$C(31)_\" \""),
-        (b"\x00\x01", b"$C(0,1)"),
-    ];
-    for (bytes, text) in rows {
-        let mut out = Bytes::new(alloc);
-        zwr_write(bytes, &mut out)?;
-        assert_eq!(rt; out.as_slice(), text);
+fn all_have_their_fault(rt: &impl Abort, alloc: Global, table: &str) -> Result<(), Fail> {
+    for row in table.split('\n') {
+        let (want, row) = row.split_once('|').ok_or("no bar")?;
+        let (name, subs) = row.split_once('|').ok_or("no bar")?;
+        assert_eq!(rt; fault(alloc, name, subs)?, want, "{row}");
     }
     Ok(())
 }
 
 #[test]
-fn lists_of_bytes(rt: HostRuntime) -> Result<(), Fail> {
-    let alloc = rt.alloc();
-    let mut list = Bytes::new(alloc);
-    assert!(rt; list.is_empty());
-    list.push(b'a')?;
-    list.push_all(b"bc")?;
-    list.push_decimal(1500)?;
-    assert_eq!(rt; list.copy()?.as_slice(), b"abc1500".as_slice());
-    assert_eq!(rt; list.len(), 7);
-    list.clear();
-    assert!(rt; list.is_empty());
-    Ok(())
+fn names_and_subscripts(rt: HostRuntime) -> Result<(), Fail> {
+    all_have_their_fault(&rt, rt.alloc(), FAULTS)
 }
 
 #[test]
-fn zwr_texts(rt: HostRuntime) -> Result<(), Fail> {
+fn lengths(rt: HostRuntime) -> Result<(), Fail> {
     let alloc = rt.alloc();
-    let good: [(&[u8], &[u8]); 5] = [
-        (b"\"\"", b""),
-        (b"\"a\"\"b\"_$C(10)_\"c\"_$C(255)", b"a\"b\nc\xff"),
-        (b"\"a\"_\"\"_\"b\"", b"ab"),
-        (b"$C(65,0)_$C(66)", b"A\x00B"),
-        (b"\"\"\"\"", b"\""),
-    ];
-    for (text, bytes) in good {
-        assert_eq!(rt; zwr_read(alloc, text)?.as_slice(), bytes);
-    }
-    let bad: [(&[u8], ZwrError); 12] = [
-        (b"", ZwrError::BadQuote { at: 0 }),
-        (b"\"ab", ZwrError::BadQuote { at: 3 }),
-        (b"\"a\"_", ZwrError::BadQuote { at: 4 }),
-        (b"_\"a\"", ZwrError::BadQuote { at: 0 }),
-        (b"\"a\"__\"b\"", ZwrError::BadQuote { at: 4 }),
-        (b"5", ZwrError::BadChar { at: 0 }),
-        (b"\"a\nb\"", ZwrError::BadChar { at: 2 }),
-        (b"\"a\"b", ZwrError::BadChar { at: 3 }),
-        (b"$C()", ZwrError::BadChar { at: 3 }),
-        (b"$C(256)", ZwrError::BadChar { at: 5 }),
-        (b"$C(01)", ZwrError::BadChar { at: 4 }),
-        (b"$C(1", ZwrError::BadChar { at: 4 }),
-    ];
-    for (text, fault) in bad {
-        assert_eq!(rt; zwr_read(alloc, text).err(), Some(fault));
-    }
-    Ok(())
+    let name = "a".repeat(alloc, 31)?;
+    let ones = "1;".repeat(alloc, 31)?;
+    let long = "a".repeat(alloc, 251)?;
+    let names = format!(in alloc; "none|{name}|\nNameTooLong|{name}a|")?;
+    all_have_their_fault(&rt, alloc, &names)?;
+    let counts = format!(in alloc; "none|X|{ones}\nTooManySubs|X|{ones}1;\nNullSub|X|{ones};")?;
+    all_have_their_fault(&rt, alloc, &counts)?;
+    let sizes = format!(in alloc; "none|X|{long};\nKeyTooLong|X|{long}a;\nNullSub|X|{long}a;;")?;
+    all_have_their_fault(&rt, alloc, &sizes)
+}
+
+/// The canonical text of what a text spells.
+fn again(alloc: Global, text: &str) -> Result<Bytes, Fail> {
+    let mut out = Bytes::new(alloc);
+    Key::parse(alloc, text.as_bytes())?.write(&mut out)?;
+    Ok(out)
 }
 
 #[test]
 fn key_texts(rt: HostRuntime) -> Result<(), Fail> {
-    let alloc = rt.alloc();
-    let good: [(&[u8], &[u8]); 7] = [
-        (b"^X", b"^X"),
-        (b"^%z9(1,-.5)", b"^%z9(1,-.5)"),
-        (b"^X(\"10\")", b"^X(10)"),
-        (b"^X(\"1\"_\"0\",$C(65))", b"^X(10,\"A\")"),
-        (b"^X(\"a,b)\"\"\")", b"^X(\"a,b)\"\"\")"),
-        (b"^X(\"01\")", b"^X(\"01\")"),
-        (
-            b"^X(\"1234567890123456789\")",
-            b"^X(\"1234567890123456789\")",
-        ),
-    ];
-    for (text, canonical) in good {
-        let mut out = Bytes::new(alloc);
-        Key::parse(alloc, text)?.write(&mut out)?;
-        assert_eq!(rt; out.as_slice(), canonical);
+    for row in TEXTS.split('\n') {
+        let (text, canonical) = row.split_once('|').ok_or("no bar")?;
+        let out = again(rt.alloc(), text)?;
+        assert_eq!(rt; out.as_slice(), canonical.as_bytes());
     }
-    let bad: [(&[u8], KeyError); 17] = [
-        (b"", KeyError::BadName),
-        (b"X", KeyError::BadName),
-        (b"^", KeyError::BadName),
-        (b"^1(\"\")", KeyError::BadName),
-        (b"^X Y", KeyError::BadName),
-        (b"^aaaaaaaaaaaaaaaaaaaaaaaaaaaaaaaa(", KeyError::NameTooLong),
-        (b"^X(", KeyError::BadSub),
-        (b"^X()", KeyError::BadSub),
-        (b"^X)", KeyError::BadSub),
-        (b"^X(1", KeyError::BadSub),
-        (b"^X(1))", KeyError::BadSub),
-        (b"^X(01)", KeyError::BadSub),
-        (b"^X(1234567890123456789)", KeyError::BadSub),
-        (b"^X(\"a)", KeyError::BadSub),
-        (b"^X(1,\"\",x)", KeyError::NullSub),
-        (b"^X(1,x,\"\")", KeyError::BadSub),
-        (
-            b"^X(1,1,1,1,1,1,1,1,1,1,1,1,1,1,1,1,1,1,1,1,1,1,1,1,1,1,1,1,1,1,1,1)",
-            KeyError::TooManySubs,
-        ),
-    ];
-    for (text, fault) in bad {
-        assert_eq!(rt; Key::parse(alloc, text).err(), Some(fault));
+    Ok(())
+}
+
+#[test]
+fn bad_key_texts(rt: HostRuntime) -> Result<(), Fail> {
+    for row in BAD_TEXTS.split('\n') {
+        let (want, text) = row.split_once('|').ok_or("no bar")?;
+        assert_eq!(rt;
+            told(Key::parse(rt.alloc(), text.as_bytes()).err()),
+            want,
+            "{text}"
+        );
     }
     Ok(())
 }

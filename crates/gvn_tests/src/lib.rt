@@ -14,6 +14,10 @@ mod key_bytes;
 #[cfg(test)]
 mod keys;
 #[cfg(test)]
+mod rows;
+#[cfg(test)]
 mod script_lines;
 #[cfg(test)]
 mod statements;
+#[cfg(test)]
+mod texts;

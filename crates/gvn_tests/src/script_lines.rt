@@ -1,7 +1,7 @@
 // Lines that are taken, and the line and column of those that aren't.
 use gvn_key::Bytes;
 use gvn_model::Jobs;
-use repl_script::*;
+use repl_script::{Command, Script, ScriptError};
 use std::alloc::Global;
 use std::process::Abort;
 use std::test::Fail;

@@ -1,55 +1,67 @@
 // Overlapping patterns, eight regions, and each error.
-use global_dir::*;
+use global_dir::{DirError, Directory};
 use std::alloc::Global;
+use std::process::Abort;
 use std::test::Fail;
 
 /// Patterns and their regions.
-static MAPPED: [(&[u8], u8); 8] = [
-    (b"A*", 1),
-    (b"ABC", 2),
-    (b"AB*", 3),
-    (b"ABC*", 4),
-    (b"%*", 5),
-    (b"%Z", 6),
-    (b"A", 7),
-    (b"ABCD*", 0),
-];
+const MAPPED: &str = "\
+A*|1
+ABC|2
+AB*|3
+ABC*|4
+%*|5
+%Z|6
+A|7
+ABCD*|0";
 
 /// Names and their regions.
-static NAMES: [(&[u8], u8); 12] = [
-    (b"A", 7),
-    (b"AA", 1),
-    (b"AB", 3),
-    (b"ABA", 3),
-    (b"ABC", 2),
-    (b"ABCE", 4),
-    (b"ABCDE", 0),
-    (b"%", 5),
-    (b"%Z", 6),
-    (b"%ZZ", 5),
-    (b"B", 0),
-    (b"a", 0),
-];
+const NAMES: &str = "\
+A|7
+AA|1
+AB|3
+ABA|3
+ABC|2
+ABCE|4
+ABCDE|0
+%|5
+%Z|6
+%ZZ|5
+B|0
+a|0";
 
 /// Texts that are no patterns.
-static REFUSED: [&[u8]; 9] = [
-    b"",
-    b"*",
-    b"A**",
-    b"A*B",
-    b"1A",
-    b"A%",
-    b"A B",
-    b"A2345678901234567890123456789012",
-    b"A2345678901234567890123456789012*",
-];
+const REFUSED: &str = "
+*
+A**
+A*B
+1A
+A%
+A B
+A2345678901234567890123456789012
+A2345678901234567890123456789012*";
+
+/// A name or pattern and its region.
+fn cut(row: &str) -> Result<(&[u8], u8), Fail> {
+    let (name, region) = row.split_once('|').ok_or("no bar")?;
+    Ok((name.as_bytes(), region.parse()?))
+}
 
 fn mapped(alloc: Global) -> Result<Directory, Fail> {
     let mut directory = Directory::new(alloc, 8);
-    for (pattern, region) in &MAPPED {
-        directory.map(*region, *pattern)?;
+    for row in MAPPED.split('\n') {
+        let (pattern, region) = cut(row)?;
+        directory.map(region, pattern)?;
     }
     Ok(directory)
+}
+
+fn all_have_their_region(rt: &impl Abort, directory: &Directory) -> Result<(), Fail> {
+    for row in NAMES.split('\n') {
+        let (name, region) = cut(row)?;
+        assert_eq!(rt; directory.region_of(name), region, "{row}");
+    }
+    Ok(())
 }
 
 #[test]
@@ -58,9 +70,16 @@ fn overlapping_patterns(rt: HostRuntime) -> Result<(), Fail> {
     let copied = directory.copy()?;
     assert_eq!(rt; copied.regions(), 8);
     assert_eq!(rt; copied.patterns().len(), 8);
-    for (name, region) in &NAMES {
-        assert_eq!(rt; directory.region_of(*name), *region);
-        assert_eq!(rt; copied.region_of(*name), *region);
+    all_have_their_region(&rt, &directory)?;
+    all_have_their_region(&rt, &copied)
+}
+
+#[test]
+fn texts_that_are_no_patterns(rt: HostRuntime) -> Result<(), Fail> {
+    let mut directory = Directory::new(rt.alloc(), 2);
+    for text in REFUSED.split('\n') {
+        let error = directory.map(9, text.as_bytes()).err();
+        assert_eq!(rt; error, Some(DirError::BadPattern), "{text}");
     }
     Ok(())
 }
@@ -68,13 +87,17 @@ fn overlapping_patterns(rt: HostRuntime) -> Result<(), Fail> {
 #[test]
 fn refused_patterns(rt: HostRuntime) -> Result<(), Fail> {
     let mut directory = Directory::new(rt.alloc(), 2);
-    for text in &REFUSED {
-        assert_eq!(rt; directory.map(9, *text).err(), Some(DirError::BadPattern));
-    }
     assert_eq!(rt; directory.map(2, b"A").err(), Some(DirError::NoRegion));
     directory.map(1, b"A*")?;
     assert_eq!(rt; directory.map(0, b"A*").err(), Some(DirError::TwiceMapped));
     assert_eq!(rt; directory.map(2, b"A*").err(), Some(DirError::NoRegion));
+    Ok(())
+}
+
+#[test]
+fn added_patterns(rt: HostRuntime) -> Result<(), Fail> {
+    let mut directory = Directory::new(rt.alloc(), 2);
+    directory.map(1, b"A*")?;
     directory.map(0, b"A")?;
     directory.map(1, b"A234567890123456789012345678901*")?;
     directory.add(1, true, b"B")?;

@@ -1,6 +1,8 @@
 //! Images by pick on worked files, and a fuse at each call.
+use crate::rows::cut;
 use repl_disk::{Disk, Failed, MemDisk};
 use std::alloc::Global;
+use std::process::Abort;
 use std::test::Fail;
 
 /// Makes room for a write and does it, where the place isn't past the end.
@@ -56,48 +58,56 @@ fn worked(alloc: Global) -> Result<MemDisk, Fail> {
     Ok(disk)
 }
 
-/// What stands is numbered so: 3's places 2, 3 and 4 have 0, 1 and 2, and 7's places 0 and 1 have 3 and 4.
+/// What each pick from 0 on leaves of the files 3 and 7. What stands is numbered so: 3's places 2, 3 and 4 have 0, 1 and 2, and
+/// 7's places 0 and 1 have 3 and 4.
+const PICKS: &[u8] = b"\
+abcd|
+abWYZ|pq
+abc\x01Z|\x00\x01
+abcd\x00|\x00\x00
+abcY\x01|\x00q
+abc\x01Z|\x00\x01";
+
+fn leaves(rt: &impl Abort, alloc: Global, pick: u64, row: &[u8]) -> Result<(), Fail> {
+    let (three, seven) = cut(row)?;
+    let mut disk = worked(alloc)?;
+    disk.crash(pick);
+    assert!(rt; has(&mut disk, 3, three)?, "file 3 at pick {pick}");
+    assert!(rt; has(&mut disk, 7, seven)?, "file 7 at pick {pick}");
+    disk.crash(0);
+    assert!(rt; has(&mut disk, 3, three)?, "what a crash left is on the disk");
+    Ok(())
+}
+
 #[test]
 fn picks_of_a_crash(rt: HostRuntime) -> Result<(), Fail> {
-    let alloc = rt.alloc();
-    let rows: [(u64, &[u8], &[u8]); 6] = [
-        (0, b"abcd", b""),
-        (1, b"abWYZ", b"pq"),
-        (2, b"abc\x01Z", b"\x00\x01"),
-        (3, b"abcd\x00", b"\x00\x00"),
-        (4, b"abcY\x01", b"\x00q"),
-        (5, b"abc\x01Z", b"\x00\x01"),
-    ];
-    for (pick, three, seven) in rows {
-        let mut disk = worked(alloc)?;
-        disk.crash(pick);
-        assert!(rt; has(&mut disk, 3, three)?, "file 3 at pick {pick}");
-        assert!(rt; has(&mut disk, 7, seven)?, "file 7 at pick {pick}");
-        disk.crash(0);
-        assert!(rt;
-            has(&mut disk, 3, three)?,
-            "what a crash left is on the disk"
-        );
+    for (pick, row) in PICKS.split(|b| *b == b'\n').enumerate() {
+        leaves(&rt, rt.alloc(), pick as u64, row)?;
     }
+    Ok(())
+}
+
+fn fails_after(rt: &impl Abort, alloc: Global, calls: u64) -> Result<(), Fail> {
+    let mut disk = worked(alloc)?;
+    disk.fuse(calls);
+    for _ in 0..calls {
+        assert_eq!(rt; disk.len(3), Ok(5));
+    }
+    assert_eq!(rt; disk.len(3), Err(Failed));
+    assert!(rt; fails_to_write(&mut disk, 3)?);
+    assert!(rt; fails_to_sync(&mut disk, 7)?);
+    assert_eq!(rt; disk.faults(), 3);
+    disk.crash(1);
+    assert_eq!(rt; disk.faults(), 3);
+    assert!(rt; has(&mut disk, 3, b"abWYZ")?);
+    assert!(rt; has(&mut disk, 7, b"pq")?);
     Ok(())
 }
 
 #[test]
 fn a_fuse_fails_each_call_after_it(rt: HostRuntime) -> Result<(), Fail> {
     for calls in 0..4u64 {
-        let mut disk = worked(rt.alloc())?;
-        disk.fuse(calls);
-        for _ in 0..calls {
-            assert_eq!(rt; disk.len(3), Ok(5));
-        }
-        assert_eq!(rt; disk.len(3), Err(Failed));
-        assert!(rt; fails_to_write(&mut disk, 3)?);
-        assert!(rt; fails_to_sync(&mut disk, 7)?);
-        assert_eq!(rt; disk.faults(), 3);
-        disk.crash(1);
-        assert_eq!(rt; disk.faults(), 3);
-        assert!(rt; has(&mut disk, 3, b"abWYZ")?);
-        assert!(rt; has(&mut disk, 7, b"pq")?);
+        fails_after(&rt, rt.alloc(), calls)?;
     }
     Ok(())
 }

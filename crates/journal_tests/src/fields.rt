@@ -1,7 +1,7 @@
 // The worked bytes of an update, read and written with memory to spare.
 use gvn_key::terms::Update;
 use gvn_key::{Bytes, Key};
-use repl_fields::*;
+use repl_fields::{read_update, write_update};
 use std::test::Fail;
 
 /// SET ^X(1)="a", and a byte behind it.

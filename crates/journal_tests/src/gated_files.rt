@@ -6,6 +6,7 @@ use gated_file::{GateError, Gated};
 use gvn_key::Bytes;
 use repl_disk::{Disk, MemDisk};
 use std::alloc::Global;
+use std::process::Abort;
 use std::test::Fail;
 
 /// CREATE of a site A with a region R, whose mode is BEFORE.
@@ -86,43 +87,52 @@ fn a_record_as_it_stands(rt: HostRuntime) -> Result<(), Fail> {
     Ok(())
 }
 
-#[test]
-fn files_outside_the_format(rt: HostRuntime) -> Result<(), Fail> {
-    let alloc = rt.alloc();
-    let rows: [&[u8]; 4] = [
-        &FILE[..13],
-        &FILE[..5],
-        &[1, 0, 0, 0, 0, 0, 0],
-        &[1, 0, 0x10, 0, 1, 0, 0],
-    ];
-    for bytes in rows {
-        let mut disk = MemDisk::new(alloc)?;
-        write_bytes(&mut disk, bytes)?;
-        match Gated::attach(alloc, &mut disk, 0) {
-            Err(GateError::NotARecord { offset }) => assert_eq!(rt; offset, 0),
-            _ => assert!(rt; false, "a file outside the format"),
-        }
+/// Where a file of these bytes is outside the format.
+fn place_outside(alloc: Global, bytes: &[u8]) -> Result<Option<u64>, Fail> {
+    let mut disk = MemDisk::new(alloc)?;
+    write_bytes(&mut disk, bytes)?;
+    match Gated::attach(alloc, &mut disk, 0) {
+        Err(GateError::NotARecord { offset }) => Ok(Some(offset)),
+        _ => Ok(None),
     }
+}
+
+#[test]
+fn files_cut_off(rt: HostRuntime) -> Result<(), Fail> {
+    assert_eq!(rt; place_outside(rt.alloc(), &FILE[..13])?, Some(0));
+    assert_eq!(rt; place_outside(rt.alloc(), &FILE[..5])?, Some(0));
     Ok(())
 }
 
-/// Whatever call fails and whatever image a crash takes, the file has the first few of its bodies.
+#[test]
+fn lengths_outside_the_format(rt: HostRuntime) -> Result<(), Fail> {
+    assert_eq!(rt; place_outside(rt.alloc(), &[1, 0, 0, 0, 0, 0, 0])?, Some(0));
+    assert_eq!(rt; place_outside(rt.alloc(), &[1, 0, 0x10, 0, 1, 0, 0])?, Some(0));
+    Ok(())
+}
+
+/// Two bodies are written where so many calls succeed, and a crash takes the image of that pick. The file has the first few bodies.
+fn crashes_after(rt: &impl Abort, alloc: Global, calls: u64, pick: u64) -> Result<(), Fail> {
+    let mut disk = MemDisk::new(alloc)?;
+    let done = write_two(alloc, &mut disk, calls).is_ok();
+    assert_eq!(rt; disk.faults(), !done as u64);
+    disk.crash(pick);
+    let left = bodies(alloc, &mut disk)?;
+    let text = left.as_slice();
+    let is_first_few = text.is_empty() || text == b"ab".as_slice();
+    assert!(rt;
+        text == b"abcde".as_slice() || !done && is_first_few,
+        "pick {pick}, calls {calls}"
+    );
+    Ok(())
+}
+
+/// Whatever call fails and whatever image a crash takes.
 #[test]
 fn crashes_at_each_call(rt: HostRuntime) -> Result<(), Fail> {
-    let alloc = rt.alloc();
     for pick in 0..6u64 {
         for calls in 0..12u64 {
-            let mut disk = MemDisk::new(alloc)?;
-            let done = write_two(alloc, &mut disk, calls).is_ok();
-            assert_eq!(rt; disk.faults(), !done as u64);
-            disk.crash(pick);
-            let left = bodies(alloc, &mut disk)?;
-            let text = left.as_slice();
-            let is_first_few = text.is_empty() || text == b"ab".as_slice();
-            assert!(rt;
-                text == b"abcde".as_slice() || !done && is_first_few,
-                "pick {pick}, calls {calls}"
-            );
+            crashes_after(&rt, rt.alloc(), calls, pick)?;
         }
     }
     Ok(())

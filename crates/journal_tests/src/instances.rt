@@ -10,6 +10,7 @@ use gvn_model::{Reign, Stamp};
 use instance_file::{Instance, InstanceError};
 use repl_disk::{Disk, MemDisk};
 use std::alloc::Global;
+use std::process::Abort;
 use std::test::Fail;
 
 /// CREATE of A with region R, BEFORE, behind its open gate.
@@ -31,55 +32,60 @@ fn write_bytes<D: Disk>(disk: &mut D, bytes: &[u8]) -> Result<(), Fail> {
     Ok(())
 }
 
-/// What a file of these pieces and a closed gate is taken up as: how many records, how many surviving reigns and the next
-/// cycle, or the place of what is outside the format.
-fn read(alloc: Global, pieces: &[&[u8]]) -> Result<Result<(usize, usize, Option<u32>), u64>, Fail> {
+/// The file of these records and a closed gate: C is CREATE, V one of version 2, M one of mode 2, K CUT, L the later CUT and R REIGN.
+fn file_of(alloc: Global, letters: &str) -> Result<Bytes, Fail> {
     let mut file = Bytes::new(alloc);
-    for piece in pieces {
-        file.push_all(piece)?;
+    for letter in letters.as_bytes() {
+        file.push_all(match *letter {
+            b'C' => CREATE,
+            b'V' => b"\x01\0\0\0\x08\x01\x02\x01A\x01\x01R\x01",
+            b'M' => b"\x01\0\0\0\x08\x01\x01\x01A\x01\x01R\x02",
+            b'K' => CUT,
+            b'L' => LATER_CUT,
+            _ => REIGN,
+        })?;
     }
     file.push(0)?;
+    Ok(file)
+}
+
+/// What the file of these records is taken up as: how many records, how many surviving reigns and the next cycle, or the place of
+/// what is outside the format.
+fn read(alloc: Global, letters: &str) -> Result<String, Fail> {
     let mut disk = MemDisk::new(alloc)?;
-    write_bytes(&mut disk, file.as_slice())?;
+    write_bytes(&mut disk, file_of(alloc, letters)?.as_slice())?;
     match Instance::attach(alloc, &mut disk) {
-        Ok(site) => Ok(Ok((
-            site.records().len(),
-            site.history().len(),
-            site.draw_cycle(),
-        ))),
-        Err(InstanceError::NotARecord { offset }) => Ok(Err(offset)),
+        Ok(site) => {
+            let (records, reigns) = (site.records().len(), site.history().len());
+            let cycle = site.draw_cycle().unwrap_or(0);
+            Ok(format!(in alloc; "{records} {reigns} {cycle}")?)
+        }
+        Err(InstanceError::NotARecord { offset }) => Ok(format!(in alloc; "at {offset}")?),
         Err(_) => Err("no answer")?,
     }
 }
 
-#[test]
-fn files_of_the_format(rt: HostRuntime) -> Result<(), Fail> {
-    let alloc = rt.alloc();
-    assert_eq!(rt; read(alloc, &[])?, Ok((0, 0, Some(1))));
-    assert_eq!(rt; read(alloc, &[CREATE])?, Ok((1, 0, Some(1))));
-    assert_eq!(rt; read(alloc, &[CREATE, CUT, REIGN])?, Ok((3, 1, Some(2))));
-    assert_eq!(rt;
-        read(alloc, &[CREATE, REIGN, CUT, REIGN])?,
-        Ok((4, 1, Some(2)))
-    );
-    Ok(())
-}
+/// Records, and what their file is taken up as.
+const FILES: &str = "\
+|0 0 1
+C|1 0 1
+CKR|3 1 2
+CRKR|4 1 2
+V|at 0
+M|at 0
+K|at 0
+CC|at 13
+CKK|at 31
+CRRKL|5 0 2
+CRR|at 33";
 
 #[test]
-fn files_outside_the_format(rt: HostRuntime) -> Result<(), Fail> {
-    let alloc = rt.alloc();
-    let version_2 = b"\x01\0\0\0\x08\x01\x02\x01A\x01\x01R\x01";
-    let mode_2 = b"\x01\0\0\0\x08\x01\x01\x01A\x01\x01R\x02";
-    assert_eq!(rt; read(alloc, &[version_2])?, Err(0));
-    assert_eq!(rt; read(alloc, &[mode_2])?, Err(0));
-    assert_eq!(rt; read(alloc, &[CUT])?, Err(0));
-    assert_eq!(rt; read(alloc, &[CREATE, CREATE])?, Err(13));
-    assert_eq!(rt; read(alloc, &[CREATE, CUT, CUT])?, Err(31));
-    assert_eq!(rt;
-        read(alloc, &[CREATE, REIGN, REIGN, CUT, LATER_CUT])?,
-        Ok((5, 0, Some(2)))
-    );
-    assert_eq!(rt; read(alloc, &[CREATE, REIGN, REIGN])?, Err(33));
+fn files_taken_up(rt: HostRuntime) -> Result<(), Fail> {
+    for row in FILES.split('\n') {
+        let (letters, want) = row.split_once('|').ok_or("no bar")?;
+        let told = read(rt.alloc(), letters)?;
+        assert_eq!(rt; told.as_str(), want, "{letters}");
+    }
     Ok(())
 }
 
@@ -141,23 +147,29 @@ fn has_all<D: Disk>(alloc: Global, disk: &mut D) -> Result<bool, Fail> {
     Ok(read.as_slice() == file.as_slice())
 }
 
-/// Whatever call fails and whatever image a crash takes, the file has the records that were put on the disk, and at most one more.
+/// Records are written where so many calls succeed, and a crash takes the image of that pick. The file has the records that were put
+/// on the disk, and at most one more.
+fn crashes_after(rt: &impl Abort, alloc: Global, calls: u64, pick: u64) -> Result<(), Fail> {
+    let mut disk = MemDisk::new(alloc)?;
+    let mut done = 0;
+    let written = write_records(alloc, &mut disk, calls, &mut done).is_ok();
+    assert_eq!(rt; written, calls == ALL, "calls {calls}");
+    disk.crash(pick);
+    assert!(rt; !written || has_all(alloc, &mut disk)?);
+    let left = Instance::attach(alloc, &mut disk)?.records().len();
+    assert!(rt;
+        left >= done && left - done <= 1,
+        "pick {pick}, calls {calls}"
+    );
+    Ok(())
+}
+
+/// Whatever call fails and whatever image a crash takes.
 #[test]
 fn crashes_at_each_call(rt: HostRuntime) -> Result<(), Fail> {
-    let alloc = rt.alloc();
     for pick in 0..3u64 {
         for calls in 0..ALL + 1 {
-            let mut disk = MemDisk::new(alloc)?;
-            let mut done = 0;
-            let written = write_records(alloc, &mut disk, calls, &mut done).is_ok();
-            assert_eq!(rt; written, calls == ALL, "calls {calls}");
-            disk.crash(pick);
-            assert!(rt; !written || has_all(alloc, &mut disk)?);
-            let left = Instance::attach(alloc, &mut disk)?.records().len();
-            assert!(rt;
-                left >= done && left - done <= 1,
-                "pick {pick}, calls {calls}"
-            );
+            crashes_after(&rt, rt.alloc(), calls, pick)?;
         }
     }
     Ok(())

@@ -9,6 +9,7 @@ use jnl_file::{
 use jnl_record::JnlRecord;
 use repl_disk::{Disk, MemDisk};
 use std::alloc::Global;
+use std::process::Abort;
 use std::test::Fail;
 
 /// A journal of region 0 and generation 1, BEFORE, none before it: PINI behind its gate, and the closed gate.
@@ -132,39 +133,49 @@ fn a_new_journal_as_it_stands(rt: HostRuntime) -> Result<(), Fail> {
     Ok(())
 }
 
-/// Whatever call fails and whatever image a crash takes, the journal has the hardened records and the first few of the rest.
+/// Epochs are written where so many calls succeed, and a crash takes the image of that pick. The journal has the hardened records and
+/// the first few of the rest.
+fn crashes_after(rt: &impl Abort, alloc: Global, calls: u64, pick: u64) -> Result<(), Fail> {
+    let mut disk = MemDisk::new(alloc)?;
+    let done = write_epochs(alloc, &mut disk, calls).is_ok();
+    assert_eq!(rt; done, calls == ALL);
+    disk.crash(pick);
+    let left = count(alloc, &mut disk)?.ok_or("other records")?;
+    assert!(rt; done && left == 4 || !done && left <= 4);
+    assert!(rt; calls < MAKING || left >= 1, "pick {pick}, calls {calls}");
+    Ok(())
+}
+
+/// Whatever call fails and whatever image a crash takes.
 #[test]
 fn crashes_at_each_call(rt: HostRuntime) -> Result<(), Fail> {
-    let alloc = rt.alloc();
     for pick in 0..3u64 {
         for calls in 0..ALL + 1 {
-            let mut disk = MemDisk::new(alloc)?;
-            let done = write_epochs(alloc, &mut disk, calls).is_ok();
-            assert_eq!(rt; done, calls == ALL);
-            disk.crash(pick);
-            let left = count(alloc, &mut disk)?.ok_or("other records")?;
-            assert!(rt; done && left == 4 || !done && left <= 4);
-            assert!(rt; calls < MAKING || left >= 1, "pick {pick}, calls {calls}");
+            crashes_after(&rt, rt.alloc(), calls, pick)?;
         }
     }
     Ok(())
 }
 
-/// A crash between two steps of hardening leaves a record out while its gate is closed, and has it once its gate is synced.
+/// A crash behind so many steps of hardening leaves a record out while its gate is closed, and has it once its gate is synced.
+fn crashes_behind(rt: &impl Abort, alloc: Global, steps: u64, pick: u64) -> Result<(), Fail> {
+    let mut disk = MemDisk::new(alloc)?;
+    let waits = take_steps(alloc, &mut disk, steps)?;
+    assert_eq!(rt; waits, steps < 2);
+    disk.crash(pick);
+    let left = count(alloc, &mut disk)?.ok_or("other records")?;
+    assert!(rt;
+        left == 1 && steps < 3 || left == 2 && steps >= 2,
+        "pick {pick}, steps {steps}"
+    );
+    Ok(())
+}
+
 #[test]
 fn crashes_between_steps(rt: HostRuntime) -> Result<(), Fail> {
-    let alloc = rt.alloc();
     for pick in 0..3u64 {
         for steps in 0..4u64 {
-            let mut disk = MemDisk::new(alloc)?;
-            let waits = take_steps(alloc, &mut disk, steps)?;
-            assert_eq!(rt; waits, steps < 2);
-            disk.crash(pick);
-            let left = count(alloc, &mut disk)?.ok_or("other records")?;
-            assert!(rt;
-                left == 1 && steps < 3 || left == 2 && steps >= 2,
-                "pick {pick}, steps {steps}"
-            );
+            crashes_behind(&rt, rt.alloc(), steps, pick)?;
         }
     }
     Ok(())
@@ -248,20 +259,25 @@ fn journals_that_are_none(rt: HostRuntime) -> Result<(), Fail> {
     Ok(())
 }
 
+/// Reads two generations where so many calls succeed.
+fn reads_after(rt: &impl Abort, alloc: Global, calls: u64) -> Result<(), Fail> {
+    let mut disk = MemDisk::new(alloc)?;
+    write_bytes(&mut disk, 24, &with_pini(0, 1, 0))?;
+    write_bytes(&mut disk, 32, &with_pini(0, 2, 1))?;
+    disk.fuse(calls);
+    match read_generations(alloc, &mut disk, 0, 2) {
+        Ok(_) => assert_eq!(rt; calls, READING),
+        Err(GenerationsError::Failed) => assert!(rt; calls < READING),
+        Err(_) => assert!(rt; false, "another error"),
+    }
+    Ok(())
+}
+
 /// Where a call of the disk fails, reading fails, and gives no list in its place.
 #[test]
 fn reading_fails_at_each_call(rt: HostRuntime) -> Result<(), Fail> {
-    let alloc = rt.alloc();
     for calls in 0..READING + 1 {
-        let mut disk = MemDisk::new(alloc)?;
-        write_bytes(&mut disk, 24, &with_pini(0, 1, 0))?;
-        write_bytes(&mut disk, 32, &with_pini(0, 2, 1))?;
-        disk.fuse(calls);
-        match read_generations(alloc, &mut disk, 0, 2) {
-            Ok(_) => assert_eq!(rt; calls, READING),
-            Err(GenerationsError::Failed) => assert!(rt; calls < READING),
-            Err(_) => assert!(rt; false, "another error"),
-        }
+        reads_after(&rt, rt.alloc(), calls)?;
     }
     Ok(())
 }

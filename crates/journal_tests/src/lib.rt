@@ -20,4 +20,6 @@ mod records;
 #[cfg(test)]
 mod recovery;
 #[cfg(test)]
+mod rows;
+#[cfg(test)]
 mod streams;

@@ -10,8 +10,9 @@ use gvn_key::{Bytes, Key};
 use gvn_model::{Origin, Transaction, Updates};
 use jnl_record::JnlRecord;
 use std::alloc::Global;
+use std::process::Abort;
 use std::test::Fail;
-use tp_commit::*;
+use tp_commit::{PartRecords, entry_records, split_regions};
 
 /// A name for each region, region 0 by no pattern.
 static NAMES: [&[u8]; 8] = [b"X", b"AB", b"BC", b"CD", b"DE", b"EF", b"FG", b"GH"];
@@ -86,28 +87,44 @@ fn positions(alloc: Global, parts: &PartRecords, region: u8) -> Result<Bytes, Fa
     Ok(text)
 }
 
+/// Each row of a table is what a region's record has, from region 0 on.
+fn all_are(rt: &impl Abort, alloc: Global, parts: &PartRecords, table: &str) -> Result<(), Fail> {
+    for (region, row) in table.split('\n').enumerate() {
+        let text = positions(alloc, parts, region as u8)?;
+        assert_eq!(rt; text.as_slice(), row.as_bytes(), "region {region}");
+    }
+    Ok(())
+}
+
+const EIGHT: &str = "\
+5 255 3 12,1,6,7
+5 255 3 12,5
+5 255 3 12,8
+5 255 3 12,2,3
+5 255 3 12,9
+5 255 3 12,10
+5 255 3 12,11
+5 255 3 12,0,4
+";
+
 #[test]
 fn eight_parts(rt: HostRuntime) -> Result<(), Fail> {
     let alloc = rt.alloc();
     let t = transaction(alloc, &[7, 0, 3, 3, 7, 1, 0, 0, 2, 4, 5, 6])?;
     let parts = entry_records(alloc, 5, &t, &eight_regions(alloc)?)?;
-    let want: [&[u8]; 9] = [
-        b"5 255 3 12,1,6,7",
-        b"5 255 3 12,5",
-        b"5 255 3 12,8",
-        b"5 255 3 12,2,3",
-        b"5 255 3 12,9",
-        b"5 255 3 12,10",
-        b"5 255 3 12,11",
-        b"5 255 3 12,0,4",
-        b"",
-    ];
     assert_eq!(rt; parts.mask(), 255);
-    for (region, text) in want.iter().enumerate() {
-        assert_eq!(rt; positions(alloc, &parts, region as u8)?.as_slice(), *text);
-    }
-    Ok(())
+    all_are(&rt, alloc, &parts, EIGHT)
 }
+
+const TWO: &str = "
+
+1 132 3 3,1
+
+
+
+
+1 132 3 3,0,2
+";
 
 #[test]
 fn some_parts(rt: HostRuntime) -> Result<(), Fail> {
@@ -115,29 +132,23 @@ fn some_parts(rt: HostRuntime) -> Result<(), Fail> {
     let t = transaction(alloc, &[7, 2, 7])?;
     let parts = entry_records(alloc, 1, &t, &eight_regions(alloc)?)?;
     assert_eq!(rt; parts.mask(), 132);
-    assert_eq!(rt;
-        positions(alloc, &parts, 2)?.as_slice(),
-        b"1 132 3 3,1".as_slice()
-    );
-    assert_eq!(rt;
-        positions(alloc, &parts, 7)?.as_slice(),
-        b"1 132 3 3,0,2".as_slice()
-    );
     assert!(rt; parts.record(0).is_none());
+    all_are(&rt, alloc, &parts, TWO)
+}
+
+#[test]
+fn one_part(rt: HostRuntime) -> Result<(), Fail> {
+    let alloc = rt.alloc();
+    let t = transaction(alloc, &[7, 2, 7])?;
     let parts = entry_records(alloc, 1, &t, &Directory::new(alloc, 1))?;
     assert_eq!(rt; parts.mask(), 1);
-    assert_eq!(rt;
-        positions(alloc, &parts, 0)?.as_slice(),
-        b"1 1 3 3,0,1,2".as_slice()
-    );
-    Ok(())
+    all_are(&rt, alloc, &parts, "1 1 3 3,0,1,2\n")
 }
 
 #[test]
 fn parts_by_region(rt: HostRuntime) -> Result<(), Fail> {
     let alloc = rt.alloc();
     let t = transaction(alloc, &[7, 2, 7])?;
-
     let parts = split_regions(alloc, &t, &eight_regions(alloc)?)?;
     assert_eq!(rt; parts.len(), 2);
     assert_eq!(rt; parts.is_empty(), false);

@@ -2,7 +2,7 @@
 use gvn_key::terms::Update;
 use gvn_key::{Bytes, Key};
 use gvn_model::{Item, Items, Origin};
-use jnl_record::*;
+use jnl_record::{JnlRecord, RecordError, decode, encode};
 use std::test::Fail;
 
 /// TCOM of number 1, mask 1, updater 1, serial 1, and SET ^X(1)="a" at position 0 of 1.

@@ -1,5 +1,5 @@
 // Streams whose bytes and faults are known.
-use repl_io::*;
+use repl_io::{Failed, MemSink, MemSource, Sink, Source, StdSink, StdSource};
 use std::test::Fail;
 
 #[test]

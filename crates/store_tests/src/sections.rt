@@ -9,9 +9,10 @@ use gvn_key::Bytes;
 use gvn_model::{Job, JobQueue, Jobs, Statements};
 use gvn_text::read_statement;
 use repl_disk::{Disk, MemDisk};
-use repl_section::*;
+use repl_section::{Reign, RunError};
 use site_store::{RegionSpec, SiteError, create, load};
 use std::alloc::Global;
+use std::process::Abort;
 use std::test::Fail;
 
 /// A job of the statements that these lines spell.
@@ -148,27 +149,32 @@ fn run_some(alloc: Global, disk: &mut MemDisk, calls: u64) -> Result<u64, Fail> 
     }
 }
 
-/// Whatever call fails and whatever image a crash takes, each acknowledged entry stands, and at most one more; a
-/// transaction stands whole or not at all.
+/// A section runs where so many calls of the disk succeed, and a crash takes the image of that pick. Each acknowledged entry stands, and
+/// at most one more; a transaction stands whole or not at all.
+fn stand_after(rt: &impl Abort, alloc: Global, calls: u64, pick: u64) -> Result<(), Fail> {
+    let mut disk = made(alloc)?;
+    let told = match run_some(alloc, &mut disk, calls)? {
+        0 => 0,
+        4 => 2,
+        _ => 1,
+    };
+    disk.crash(pick);
+    let again = load(alloc, &mut disk)?;
+    let left = again.entries.len();
+    assert!(rt;
+        told <= left && left <= told + 1,
+        "pick {pick}, calls {calls}"
+    );
+    assert_eq!(rt; again.globals.nodes(), if left == 0 { 0 } else { 2 });
+    Ok(())
+}
+
+/// Whatever call fails and whatever image a crash takes.
 #[test]
 fn acknowledged_entries_stand(rt: HostRuntime) -> Result<(), Fail> {
-    let alloc = rt.alloc();
     for pick in [0, 1, 2, 4] {
         for calls in 0..64u64 {
-            let mut disk = made(alloc)?;
-            let told = match run_some(alloc, &mut disk, calls)? {
-                0 => 0,
-                4 => 2,
-                _ => 1,
-            };
-            disk.crash(pick);
-            let again = load(alloc, &mut disk)?;
-            let left = again.entries.len();
-            assert!(rt;
-                told <= left && left <= told + 1,
-                "pick {pick}, calls {calls}"
-            );
-            assert_eq!(rt; again.globals.nodes(), if left == 0 { 0 } else { 2 });
+            stand_after(&rt, rt.alloc(), calls, pick)?;
         }
     }
     Ok(())

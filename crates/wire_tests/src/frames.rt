@@ -4,8 +4,9 @@ ghost use Rattle.std.specs.List.{AllByRecursion};
 ghost use Rattle.wire_defs.specs.Frames.{IsFrame};
 
 use gvn_key::Bytes;
-use repl_wire::*;
+use repl_wire::{Frame, FrameError, FrameList, Frames, write_frame};
 use std::alloc::Global;
+use std::process::Abort;
 use std::test::Fail;
 
 /// The HELLO of an empty secondary B.
@@ -35,6 +36,20 @@ const ENTRY_OF_TWO: &[u8] =
 
 /// BYE at 6 entries.
 const BYE: &[u8] = b"\x06\x00\x00\x00\x08\x00\x00\x00\x00\x00\x00\x00\x06";
+
+/// The frame of a letter.
+fn frame_of(letter: u8) -> &'static [u8] {
+    match letter {
+        b'H' => HELLO,
+        b'R' => RESUME,
+        b'Y' => HISTORY,
+        b'E' => ENTRY,
+        b'A' => HELLO_OF_A_REIGN,
+        b'F' => ROLLBACK_FIRST,
+        b'T' => ENTRY_OF_TWO,
+        _ => BYE,
+    }
+}
 
 /// Feeds a stream in pieces of a size, and answers where a bad frame was told and how many bytes had been fed.
 fn fed(
@@ -70,79 +85,99 @@ fn written(alloc: Global, list: &FrameList) -> Result<Bytes, Fail>
     Ok(out)
 }
 
+/// A stream of each of these frames.
+fn stream(alloc: Global) -> Result<Bytes, Fail> {
+    let mut stream = Bytes::new(alloc);
+    for letter in b"HRYEAFTB" {
+        stream.push_all(frame_of(*letter))?;
+    }
+    Ok(stream)
+}
+
+fn comes_in_pieces(rt: &impl Abort, alloc: Global, stream: &[u8], size: usize) -> Result<(), Fail> {
+    let mut out = FrameList::new(alloc);
+    assert_eq!(rt; fed(alloc, stream, size, &mut out)?, None);
+    assert_eq!(rt; out.len(), 8, "in pieces of {size}");
+    let bytes = written(alloc, &out)?;
+    assert_eq!(rt; bytes.as_slice(), stream);
+    Ok(())
+}
+
 #[test]
 fn takes_frames_in_pieces(rt: HostRuntime) -> Result<(), Fail> {
-    let mut stream = Bytes::new(rt.alloc());
-    for frame in [
-        HELLO,
-        RESUME,
-        HISTORY,
-        ENTRY,
-        HELLO_OF_A_REIGN,
-        ROLLBACK_FIRST,
-        ENTRY_OF_TWO,
-        BYE,
-    ] {
-        stream.push_all(frame)?;
-    }
+    let stream = stream(rt.alloc())?;
     assert_eq!(rt; stream.len(), 175);
     for size in [1, 2, 3, 7, 175] {
-        let mut out = FrameList::new(rt.alloc());
-        assert_eq!(rt; fed(rt.alloc(), stream.as_slice(), size, &mut out)?, None);
-        assert_eq!(rt; out.len(), 8, "in pieces of {size}");
-        let bytes = written(rt.alloc(), &out)?;
-        assert_eq!(rt; bytes.as_slice(), stream.as_slice());
+        comes_in_pieces(&rt, rt.alloc(), stream.as_slice(), size)?;
     }
     Ok(())
 }
 
 #[test]
-fn tells_bad_frames(rt: HostRuntime) -> Result<(), Fail> {
+fn tells_a_bad_type(rt: HostRuntime) -> Result<(), Fail> {
     let mut out = FrameList::new(rt.alloc());
-    assert_eq!(rt;
-        fed(rt.alloc(), b"\x07\x00\x00\x00\x00", 5, &mut out)?,
-        Some((0, 5))
-    );
+    let told = fed(rt.alloc(), b"\x07\x00\x00\x00\x00", 5, &mut out)?;
+    assert_eq!(rt; told, Some((0, 5)));
+    Ok(())
+}
+
+/// A bad type behind a frame, and a frame that isn't whole yet.
+#[test]
+fn keeps_the_frames_before(rt: HostRuntime) -> Result<(), Fail> {
+    let mut out = FrameList::new(rt.alloc());
     let mut stream = Bytes::of(rt.alloc(), HELLO)?;
     stream.push(9)?;
-    assert_eq!(rt;
-        fed(rt.alloc(), stream.as_slice(), 1, &mut out)?,
-        Some((20, 21))
-    );
+    let told = fed(rt.alloc(), stream.as_slice(), 1, &mut out)?;
+    assert_eq!(rt; told, Some((20, 21)));
     assert_eq!(rt; out.len(), 1);
     assert_eq!(rt; fed(rt.alloc(), &HELLO[..10], 10, &mut out)?, None);
     assert_eq!(rt; out.len(), 1);
     Ok(())
 }
 
+/// A frame, a place in it, and the byte that is put there.
+const FAULTS: &str = "\
+H 0 0
+H 5 2
+H 6 2
+H 7 49
+H 10 1
+H 19 1
+R 4 9
+R 7 2
+R 12 0
+Y 10 0
+E 13 65
+E 19 0
+E 20 4
+E 24 255
+E 29 2";
+
+/// The frame with another byte at a place.
+fn changed(alloc: Global, frame: &[u8], place: usize, byte: u8) -> Result<Bytes, Fail> {
+    let mut stream = Bytes::new(alloc);
+    for (i, b) in frame.iter().enumerate() {
+        stream.push(if i == place { byte } else { *b })?;
+    }
+    Ok(stream)
+}
+
+fn is_told(rt: &impl Abort, alloc: Global, row: &str) -> Result<(), Fail> {
+    let (letter, row) = row.split_once(' ').ok_or("no letter")?;
+    let (place, byte) = row.split_once(' ').ok_or("no place")?;
+    let frame = frame_of(letter.as_bytes().first().copied().unwrap_or(0));
+    let place = place.parse::<usize>()?;
+    let stream = changed(alloc, frame, place, byte.parse()?)?;
+    let told = fed(alloc, stream.as_slice(), 1, &mut FrameList::new(alloc))?;
+    assert_eq!(rt; told, Some((0, place.wrapping_add(1))), "{row}");
+    Ok(())
+}
+
 /// Each frame with one byte changed is refused at that byte.
 #[test]
 fn tells_a_fault_at_its_byte(rt: HostRuntime) -> Result<(), Fail> {
-    let faults = [
-        (HELLO, 0usize, 0u8),
-        (HELLO, 5, 2),
-        (HELLO, 6, 2),
-        (HELLO, 7, b'1'),
-        (HELLO, 10, 1),
-        (HELLO, 19, 1),
-        (RESUME, 4, 9),
-        (RESUME, 7, 2),
-        (RESUME, 12, 0),
-        (HISTORY, 10, 0),
-        (ENTRY, 13, 65),
-        (ENTRY, 19, 0),
-        (ENTRY, 20, 4),
-        (ENTRY, 24, 0xff),
-        (ENTRY, 29, 2),
-    ];
-    for (frame, place, byte) in faults {
-        let mut stream = Bytes::new(rt.alloc());
-        for (i, b) in frame.iter().enumerate() {
-            stream.push(if i == place { byte } else { *b })?;
-        }
-        let mut out = FrameList::new(rt.alloc());
-        let told = fed(rt.alloc(), stream.as_slice(), 1, &mut out)?;
-        assert_eq!(rt; told, Some((0, place.wrapping_add(1))), "at {place}");
+    for row in FAULTS.split('\n') {
+        is_told(&rt, rt.alloc(), row)?;
     }
     Ok(())
 }

@@ -9,3 +9,5 @@ mod links;
 mod pools;
 #[cfg(test)]
 mod prefixes;
+#[cfg(test)]
+mod rows;
