@@ -8,13 +8,20 @@ use std::io::{BufReader, BufWriter, Write};
 use std::process::ExitCode;
 use std::{env, io};
 
-/// The words behind the program's name, or nothing where there was no memory for them.
-fn words(rt: &HostRuntime) -> Option<Vec<String>> {
+/// The words behind the program's name. Where one of them isn't UTF-8, they are bad words.
+fn words(rt: &HostRuntime) -> Result<Vec<String>, Status> {
+    let args = match env::args(rt) {
+        Ok(args) => args,
+        Err(error) if error.kind() == io::ErrorKind::InvalidData => return Err(Status::BadWords),
+        Err(_) => return Err(Status::NoMemory),
+    };
     let mut words = Vec::new(rt.alloc());
-    for word in env::args(rt).ok()?.skip(1) {
-        words.push(word).ok()?;
+    for word in args.skip(1) {
+        if words.push(word).is_err() {
+            return Err(Status::NoMemory);
+        }
     }
-    Some(words)
+    Ok(words)
 }
 
 /// How many disks there are. As many sites can be made.
@@ -58,9 +65,7 @@ fn report(rt: &HostRuntime, status: Status) -> u8 {
     match status {
         Status::Ok => 0,
         Status::BadWords => {
-            let _ = eprintln!(rt;
-                "usage: gtmr run [--pool N] [--disk memory|DIR] [--link memory|tcp] [--summary] | gtmr gen N"
-            );
+            let _ = eprintln!(rt; "usage: gtmr run");
             1
         }
         Status::BadLine { line, column } => {
@@ -88,8 +93,8 @@ fn report(rt: &HostRuntime, status: Status) -> u8 {
 
 fn main(rt: HostRuntime) -> ExitCode {
     let status = match words(&rt) {
-        None => Status::NoMemory,
-        Some(words) => run_standard(&rt, &words),
+        Err(status) => status,
+        Ok(words) => run_standard(&rt, &words),
     };
     ExitCode::from(report(&rt, status))
 }
