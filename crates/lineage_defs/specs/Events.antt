@@ -32,6 +32,7 @@ pub data Event : Type 0 where
   -- the site is rolled back to its first t entries
   Roll : (site t : ℕ) → Event
 
+-- a site that the step leaves as it was
 abbrev pub Same : ℕ → Site → Site → Type 0
 Same i old new = new ≡ old
 
@@ -54,10 +55,11 @@ pub record Decides (u : ℕ) (old new : Site) : Type 0 where
   pub after : (new ≡ record old { role = Primary stamp (picked_once serials u) })
       ⊎ ((updates : List Update) × (new ≡ record old { sequence = old.sequence ++ entry_of stamp u (serial_at serials u) updates ∷ []; role = Primary stamp (picked_once serials u) }))
 
+-- all that the site has is hardened
 abbrev pub Hardens : Site → Site → Type 0
 Hardens old new = new ≡ record old { hardened = length old.sequence }
 
--- from the primary
+-- The next entry of the primary is sent, which it has hardened.
 pub record Sends (primary old new : Site) : Type 0 where
   pub sent : Sequence
   pub received : Sequence
@@ -66,6 +68,7 @@ pub record Sends (primary old new : Site) : Type 0 where
   pub there : slice_get (hardened_part primary) (length sent) ≡ Some next
   pub after : new ≡ record old { role = Following primary.name (sent ++ next ∷ []) received }
 
+-- The next entry of those that were sent is received.
 pub record Receives (old new : Site) : Type 0 where
   pub primary : List ℕ
   pub sent : Sequence
@@ -85,7 +88,7 @@ abbrev pub Adopts : (n : ℕ) → Stamp → (old new : List Reign) → Type 0
 Adopts n stamp old new = ((stamp_at n old ≡ Some stamp) × (begun_by (suc n) new ≡ begun_by n old))
     ⊎ ((stamp_at n old ≢ Some stamp) × (begun_by (suc n) new ≡ begun_by n old ++ reign_from (suc n) stamp ∷ []))
 
--- The entry is hardened at once where no fault comes between.
+-- The next entry of those that were received is applied, and hardened at once where no fault comes between.
 pub record Applies (old new : Site) : Type 0 where
   pub primary : List ℕ
   pub sent : Sequence
@@ -106,6 +109,7 @@ pub record Applies (old new : Site) : Type 0 where
 abbrev pub resumed : List ℕ → Site → Site
 resumed primary s = record s { role = Following primary s.sequence s.sequence }
 
+-- The link of a session is cut.
 pub record IsCut (old new : Site) : Type 0 where
   pub primary : List ℕ
   pub sent : Sequence
@@ -113,6 +117,7 @@ pub record IsCut (old new : Site) : Type 0 where
   pub role : old.role ≡ Following primary sent received
   pub after : new ≡ resumed primary old
 
+-- the role is that of a follower of the site with this name
 abbrev pub is_following : List ℕ → Role → Bool
 is_following name (Following primary sent received) = pointwise nat_eq primary name
 is_following name Down = false
@@ -123,6 +128,7 @@ is_following name (Waiting primary) = false
 abbrev pub for_followers : List ℕ → (Site → Site) → Site → Site
 for_followers name becomes s = if is_following name s.role then becomes s else s
 
+-- the same as a step of each site
 abbrev pub IfFollowing : List ℕ → (Site → Site) → ℕ → Site → Site → Type 0
 IfFollowing name becomes i old new = new ≡ for_followers name becomes old
 

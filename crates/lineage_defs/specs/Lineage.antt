@@ -1,6 +1,6 @@
 -- What holds of sites, whatever happens to them (GT.M: one history of updates, of which each secondary has a front).
 use Rattle.std.specs.Prelude.{◌≡◌, ◌≢◌, ℕ, suc, ◌+◌, ◌<◌, ◌≤◌, List, ◌++◌, length, take, slice_get, Some}
-use Rattle.global_defs.specs.Entry.{Stamp, Entry, Sequence, Reign}
+use Rattle.global_defs.specs.Entry.{Stamp, Entry, Sequence}
 use Rattle.global_defs.specs.Serial.{serial_at}
 use Rattle.global_defs.specs.Prefix.{IsPrefix, stamp_at}
 use Rattle.global_defs.specs.Extract.{extract, header, entries_text}
@@ -41,6 +41,7 @@ pub record IsReigning (stamp : Stamp) (serials : List ℕ) (s : Site) : Type 0 w
   pub updaters : length serials ≡ 64
   pub next : ArePast stamp serials s.sequence
 
+-- what holds of a site by itself: its serials, its history, how many reigns it has, and its reign where it is a primary
 pub record IsFitSite (s : Site) : Type 0 where
   pub within : s.hardened ≤ length s.sequence
   pub rise : SerialsRise s.sequence
@@ -62,6 +63,7 @@ pub record HasPrimary (w : World) (primary : List ℕ) (sent received follower :
   pub name : site.name ≡ primary
   pub prefixes : FourPrefixes follower received sent (hardened_part site)
 
+-- what holds of all sites together
 pub record IsFit (w : World) : Type 0 where
   -- sites of one name stand at one place
   pub apart : (i j : ℕ) (a b : Site) → slice_get w i ≡ Some a → slice_get w j ≡ Some b → a.name ≡ b.name → i ≡ j

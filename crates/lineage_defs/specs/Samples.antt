@@ -5,12 +5,14 @@ use Rattle.global_defs.specs.Serial.{entry_of}
 use Rattle.lineage_defs.specs.Sites.{Role, Down, Primary, Following, Site}
 use Rattle.lineage_defs.specs.Events.{reign_from}
 
+-- the names of two sites
 abbrev pub A : List ℕ
 A = codes "A"
 
 abbrev pub B : List ℕ
 B = codes "B"
 
+-- a stamp and a reign by their parts
 abbrev pub stamp : List ℕ → ℕ → Stamp
 stamp root cycle = record { root = root; cycle = cycle }
 

@@ -13,6 +13,7 @@ pub data Role : Type 0 where
   -- its primary was rolled back since
   Waiting : (primary : List ℕ) → Role
 
+-- a site: what its files stand for, and what it does
 pub record Site : Type 0 where
   pub name : List ℕ
   -- a primary's is what it has appended

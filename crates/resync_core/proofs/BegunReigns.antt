@@ -83,7 +83,7 @@ pub stamp-push : (n : ℕ) (rs : List Reign) (r : Reign) → r.start ≤ n → s
 stamp-push n [] r le = ap (λ (b : Bool). if b then Some r.stamp else None) (has_begun n r le)
 stamp-push n (q ∷ rs) r le = ap (λ (o : Option Stamp). option_or o (if nat_le q.start n then Some q.stamp else None)) (stamp-push n rs r le)
 
-or_none : (o : Option Stamp) → option_or o None ≡ o
+pub or_none : (o : Option Stamp) → option_or o None ≡ o
 or_none None = refl
 or_none (Some s) = refl
 

@@ -8,7 +8,7 @@ use Rattle.global_defs.specs.Prefix.{IsPrefix, stamp_at}
 use Rattle.lineage_defs.specs.Histories.{begun_by, StartsRise, StampsChange, HasStamps, IsHistory}
 use Rattle.lineage_defs.specs.Events.{reign_from, Adopts}
 use Rattle.resync_core.proofs.Fronts as lists
-use Rattle.resync_core.proofs.BegunReigns.{begun-first, begun-later, begun-begun, begun-push_late, AllBegun, all-begun, stamp-push, stamp-first, stamp-later, stamp-begun, stamp-begun_before, stamp-none}
+use Rattle.resync_core.proofs.BegunReigns.{or_none, begun-first, begun-later, begun-begun, begun-push_late, AllBegun, all-begun, stamp-push, stamp-first, stamp-later, stamp-begun, stamp-begun_before, stamp-none}
 
 -- Starts
 
@@ -72,13 +72,9 @@ change-push before n (q ∷ rs) r all h other =
     ap (λ (o : Option Stamp). option_or o before) (stamp-first n q rs all.0) ∙ or-or (stamp_at n rs) q.stamp before in
     (h.0, change-push (Some q.stamp) n rs r all.1 h.1 (λ e. other (last ∙ e)))
 
-or_nothing : (o : Option Stamp) → option_or o None ≡ o
-or_nothing None = refl
-or_nothing (Some s) = refl
-
 pub changes-push : (n : ℕ) (rs : List Reign) (r : Reign) → AllBegun n rs → StampsChange rs → (stamp_at n rs ≡ Some r.stamp → ⊥) → StampsChange (rs ++ r ∷ [])
 changes-push n rs r all h other =
-    change-back None (rs ++ r ∷ []) (change-push None n rs r all (change-after rs h) (λ e. other (sym (or_nothing (stamp_at n rs)) ∙ e)))
+    change-back None (rs ++ r ∷ []) (change-push None n rs r all (change-after rs h) (λ e. other (sym (or_none (stamp_at n rs)) ∙ e)))
 
 pub changes-begun : (low n : ℕ) (rs : List Reign) → StartsRise low rs → StampsChange rs → StampsChange (begun_by n rs)
 changes-begun low n rs rise h = change-back None (begun_by n rs) (change-begun None low n rs rise (change-after rs h))
@@ -321,7 +317,7 @@ adopts-next rs qs xs ys s h g p low is =
           subst StampsChange (its (suc n) (omega arith) ∙ begins) (changes-begun 0 (suc n) all h.starts h.changes) in
           inr (
             (λ e. change-last None n (begun_by n qs) b.reign (all-begun n qs) (change-after (begun_by n qs ++ b.reign ∷ []) changes)
-                (or_nothing (stamp_at n (begun_by n qs)) ∙ stamp-begun n n qs (omega arith) ∙ e ∙ ap (λ (x : Stamp). Some x) (sym stamp))),
+                (or_none (stamp_at n (begun_by n qs)) ∙ stamp-begun n n qs (omega arith) ∙ e ∙ ap (λ (x : Stamp). Some x) (sym stamp))),
             begins ∙ ap (λ (r : Reign). begun_by n qs ++ r ∷ []) reign,
           )
     ]

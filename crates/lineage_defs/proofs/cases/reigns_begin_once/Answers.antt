@@ -1,8 +1,8 @@
-use Rattle.std.proofs.Common.{◌≡◌, ◌⊎◌, inl, inr, ℕ, List, [], ◌∷◌, Some, refl, ap, arith}
+use Rattle.std.proofs.Common.{◌≡◌, inl, inr, ℕ, [], ◌∷◌, Some, refl, ap, arith}
 use Rattle.global_defs.specs.Entry.{Stamp, Reign}
-use Rattle.lineage_defs.specs.Histories.{StampsChange, IsHistory}
+use Rattle.lineage_defs.specs.Histories.{StampsChange}
 use Rattle.lineage_defs.specs.Events.{Adopts}
-use Rattle.lineage_defs.specs.Samples.{A, B, stamp, reign, entry}
+use Rattle.lineage_defs.specs.Samples.{A, B, stamp, reign}
 use Rattle.lineage_defs.proofs.cases.reigns_begin_once.Goals as goal
 
 again : StampsChange (reign A 1 1 ∷ reign A 1 2 ∷ []) → ⊥
