@@ -1,10 +1,11 @@
 -- A site that takes a pattern before its first generation is drawn.
-use Rattle.std.proofs.Common.{◌≡◌, ◌≢◌, ◌⊎◌, inl, inr, ℕ, zero, suc, ◌+◌, ◌≤◌, ◌<◌, ◌==◌, Bool, true, false, List, [], ◌∷◌, ◌++◌, length, map, max, replicate, take, Option, Some, None, IfSome, IsSomeAnd, refl, sym, ◌∙◌, ap, subst, arith}
+use Rattle.std.proofs.Common.{◌≡◌, ◌≢◌, ◌⊎◌, inl, inr, ℕ, zero, suc, ◌+◌, ◌≤◌, ◌<◌, ◌==◌, Bool, true, false, List, [], ◌∷◌, ◌++◌, length, map, max, replicate, take, Option, Some, None, IfSome, IsSomeAnd, refl, sym, ◌∙◌, ap, subst, arith, unwrap_or}
 use Rattle.std.specs.Prelude.{◌&&◌, ◌-◌, nat_le, nat_lt, if◌then◌else◌}
 use Rattle.std.specs.FinMap as globals
 use Rattle.std.specs.List.{AllByRecursion, filter_map, flat_map, enumerate_from}
 use Rattle.std.proofs.lemmas.Bool.{cases_eq}
 use Rattle.std.proofs.lemmas.Bool.Decides.{nat_tests}
+use Rattle.std.proofs.lemmas.List.{length-replicate}
 use Rattle.std.proofs.lemmas.List.Elements.{filter_map-append}
 use Rattle.std.proofs.Math.Path.{fun_ext}
 use Rattle.disk_defs.specs.Disk.{Files, View, Image, IsLawful, IsDurable, AtEachMoment, ReadsAfter}
@@ -26,8 +27,8 @@ use Rattle.journal_defs.specs.Directory.{Pattern, pattern_in, patterns, region_o
 use Rattle.journal_defs.specs.Broken.{broken, broken_text, parts_past}
 use Rattle.journal_defs.specs.Sequence.{Placed, Records}
 use Rattle.journal_defs.specs.Epochs.{Blocks, beginning, image_state, block_of}
-use Rattle.journal_defs.specs.Leaves.{cells_of, Decodes}
-use Rattle.journal_defs.specs.Sound.{region_state}
+use Rattle.journal_defs.specs.Leaves.{cells_of}
+use Rattle.journal_defs.specs.Sound.{AreWhole, Restores, region_state}
 use Rattle.journal_defs.specs.Clean.{AreClean}
 use Rattle.journal_defs.specs.Fit.{IsSoundImage, HasFewNodes}
 use Rattle.journal_defs.specs.Stands.{IsInstance, IsJournal}
@@ -111,12 +112,27 @@ no_elements (x ∷ xs) none = absurd (omega arith)
 no_cells : (g : Globals) → globals.len g ≡ 0 → [] ≡ cells_of g
 no_cells g none = ap (λ (es : List (Key × List ℕ)). map (λ e. (encoded e.0, e.1)) es) (no_elements (globals.entries g) (sym (globals.len-entries g) ∙ none))
 
-empty_leaf : (blocks : Blocks) (g : Globals) → globals.len g ≡ 0 → Decodes (image_state (beginning []) blocks) g
+-- block 0 alone, and it's whole
+one_block : (blocks : Blocks) → AreWhole (image_state (beginning []) blocks)
+one_block blocks zero bytes is = ap length (ap (λ (o : Option (List ℕ)). unwrap_or o bytes) (sym is)) ∙ length-replicate {A = ℕ} 4096 0
+one_block blocks (suc b) bytes is =
+    let past : nat_lt (suc b) 0 ≡ false = grind (arith, nat_tests) in
+    let other : (suc b == 0) ≡ false = grind (arith, nat_tests) in
+    let none : image_state (beginning []) blocks (suc b) ≡ None =
+    ap (λ (x : Bool). if x then Some (blocks (suc b)) else if suc b == 0 then Some (replicate 4096 0) else None) past
+    ∙ ap (λ (x : Bool). if x then Some (replicate 4096 0) else None) other in
+    let gone : None ≡ Some bytes = sym none ∙ is in
+    cc
+
+empty_leaf : (blocks : Blocks) (g : Globals) → globals.len g ≡ 0 → Restores (image_state (beginning []) blocks) g
 empty_leaf blocks g none = (
-  record { next = 0; cells = [] } ∷ [],
-  ((replicate 4096 0, refl, record { form = record { next = omega arith; fits = omega arith; cells = tt; rising = tt }; spelled = refl }), refl),
-  tt,
-  no_cells g none,
+  one_block blocks,
+  (
+    record { next = 0; cells = [] } ∷ [],
+    ((replicate 4096 0, refl, record { form = record { next = omega arith; fits = omega arith; cells = tt; rising = tt }; spelled = refl }), refl),
+    tt,
+    no_cells g none,
+  ),
 )
 
 -- an instance file of no generation, over such files

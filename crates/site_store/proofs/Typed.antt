@@ -1,5 +1,6 @@
 -- Bytes of a file, piece by piece.
-use Rattle.std.proofs.Common.{◌≡◌, ℕ, ◌+◌, ◌++◌, List, take, drop, Option, IfSome, sym, ◌∙◌, ap, append_assoc}
+use Rattle.std.proofs.Common.{◌≡◌, ℕ, ◌+◌, ◌++◌, List, take, drop, Option, IfSome, OnErr, Ok, Err, sym, ◌∙◌, ap, append_assoc}
+use Rattle.std.specs.declared.result.Result.{Result}
 use Rattle.std.proofs.Math.Seq.{take-add}
 use Rattle.disk_defs.specs.Disk.{Files}
 use Rattle.disk_defs.proofs.Told.{both_weak, told_at}
@@ -18,3 +19,8 @@ one_piece o n file at count first old new same before here =
 -- a front of a front
 pub further : (a b c : List ℕ) → IsPrefix a b → IsPrefix b c → IsPrefix a c
 further a b c first second = (first.0 ++ second.0, second.1 ∙ ap (λ (l : List ℕ). l ++ second.0) first.1 ∙ append_assoc a first.0 second.0)
+
+-- a fact that doesn't hang on the error
+pub whatever_error : {T E : Type 0} (r : Result T E) (P : Type 0) → P → OnErr r P
+whatever_error (Ok x) P p = _
+whatever_error (Err e) P p = p

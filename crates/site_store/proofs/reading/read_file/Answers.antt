@@ -1,13 +1,12 @@
 use Rattle.std.proofs.Common.{◌∙◌, arith}
-use Rattle.std.proofs.lemmas.Result.{err_from_is_err_and}
 use Rattle.disk_defs.proofs.Frames.{reads_more}
-use Rattle.site_store.proofs.Typed.{one_piece, further}
+use Rattle.global_defs.specs.Prefix.{IsPrefix}
+use Rattle.site_store.proofs.Typed.{one_piece, further, whatever_error}
 use Rattle.site_store.proofs.reading.read_file.Goals as goal
 
 pub returns-in_err-read_piece-clause-front : goal.returns-in_err-read_piece-clause-front
 returns-in_err-read_piece-clause-front g c =
-    let p = err_from_is_err_and c.from_residual.result c.from_residual.ensures.1 in
-    rw (p.1, p.2) (c.loop-at.invariant.front.0, c.in_err-read_piece.ensures.kept ∙ c.loop-at.invariant.front.1)
+    whatever_error c.from_residual.result (IsPrefix c.args.out.now c.read_piece.new.out) (c.loop-at.invariant.front.0, c.in_err-read_piece.ensures.kept ∙ c.loop-at.invariant.front.1)
 
 pub loop-at-preserved : goal.loop-at-preserved
 loop-at-preserved g c =

@@ -1,15 +1,15 @@
 use Rattle.std.proofs.Common.{◌++◌, take, map, ap, sym, ◌∙◌, append_assoc}
-use Rattle.std.proofs.lemmas.Result.{err_from_is_err_and}
 use Rattle.std.specs.List.{flat_map}
 use Rattle.gvn_globals.specs.Lists.{listed_value}
 use Rattle.world_defs.specs.Output.{node_line}
+use Rattle.global_defs.specs.Prefix.{IsPrefix}
+use Rattle.site_store.proofs.Typed.{whatever_error}
 use Rattle.site_store.proofs.Pieces.{written_more}
 use Rattle.site_store.proofs.showing.write_nodes.Goals as goal
 
 pub returns-in_err-write_node-clause-front : goal.returns-in_err-write_node-clause-front
 returns-in_err-write_node-clause-front c =
-    let p = err_from_is_err_and c.from_residual.result c.from_residual.ensures.1 in
-    rw (p.1, p.2) (flat_map node_line (map listed_value (take c.loop-node.node-index c.args.nodes.now)), c.in_err-write_node.ensures.err ∙ c.loop-node.invariant)
+    whatever_error c.from_residual.result (IsPrefix c.args.out.now c.write_node.new.out) (flat_map node_line (map listed_value (take c.loop-node.node-index c.args.nodes.now)), c.in_err-write_node.ensures.err ∙ c.loop-node.invariant)
 
 pub loop-node-preserved : goal.loop-node-preserved
 loop-node-preserved c =
