@@ -1,12 +1,12 @@
 -- A job that is evaluated to its end leaves room for its updates.
-use Rattle.std.proofs.Common.{◌≡◌, ℕ, ◌<◌, ◌≤◌, ◌⊎◌, inl, inr, Bool, true, false, List, [], ◌∷◌, ◌++◌, length, take, refl, ap, sym, ◌∙◌, subst, arith, nat_lt, if◌then◌else◌, length-append, None, Some}
+use Rattle.std.proofs.Common.{◌≡◌, ℕ, ◌<◌, ◌≤◌, ◌⊎◌, inl, inr, Bool, true, false, List, [], ◌∷◌, ◌++◌, length, take, refl, ap, sym, ◌∙◌, subst, arith, nat_lt, if◌then◌else◌, length-append, None, Some, ◌+ℤ◌}
 use Rattle.std.specs.Prelude.{Option, fold, ℤ, int_le}
 use Rattle.std.specs.FinMap as globals
 use Rattle.std.proofs.Math.Seq.{take-length}
 use Rattle.std.proofs.lemmas.Bool.{ltb-false, cases_lt}
 use Rattle.std.proofs.lemmas.List.{take-append-le, take_all}
 use Rattle.std.proofs.lemmas.List.Sums.{fold-append}
-use Rattle.global_defs.specs.Numeral.{integer_text}
+use Rattle.global_defs.specs.Numeral.{integer_text, is_counted}
 use Rattle.global_defs.specs.Key.{Key}
 use Rattle.global_defs.specs.Entry.{Update, Globals, apply}
 use Rattle.global_defs.specs.Entry as update
@@ -60,12 +60,12 @@ summed g p key sum true h = updated g (answering p (integer_text sum)) (update.S
 summed g p key sum false h = _
 
 by_operand : (g : Globals) (p : Progress) (key : Key) (n sum : ℤ) (b : Bool) → HasCome g p → Comes g (if b then incrementing p key sum else Stops NotNum)
-by_operand g p key n sum true h = summed g p key _ _ h
+by_operand g p key n sum true h = summed g p key sum (is_counted sum) h
 by_operand g p key n sum false h = _
 
 counted_on : (g : Globals) (p : Progress) (key : Key) (n : ℤ) (old : Option ℤ) → HasCome g p → Comes g (incremented p key n old)
 counted_on g p key n None h = _
-counted_on g p key n (Some old) h = by_operand g p key n _ _ h
+counted_on g p key n (Some old) h = by_operand g p key n (old +ℤ n) (is_counted n) h
 
 compared : (g : Globals) (p : Progress) (n : ℤ) (value : Option ℤ) → HasCome g p → Comes g (comparing p n value)
 compared g p n None h = _
