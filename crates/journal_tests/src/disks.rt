@@ -1,5 +1,5 @@
 //! Images by pick on worked files, and a fuse at each call.
-use crate::rows::cut;
+use crate::rows::{cut, rows};
 use repl_disk::{Disk, Failed, MemDisk};
 use std::alloc::Global;
 use std::process::Abort;
@@ -75,14 +75,17 @@ fn leaves(rt: &impl Abort, alloc: Global, pick: u64, row: &[u8]) -> Result<(), F
     assert!(rt; has(&mut disk, 3, three)?, "file 3 at pick {pick}");
     assert!(rt; has(&mut disk, 7, seven)?, "file 7 at pick {pick}");
     disk.crash(0);
-    assert!(rt; has(&mut disk, 3, three)?, "what a crash left is on the disk");
+    assert!(rt;
+        has(&mut disk, 3, three)?,
+        "what a crash left is on the disk"
+    );
     Ok(())
 }
 
 #[test]
 fn picks_of_a_crash(rt: HostRuntime) -> Result<(), Fail> {
-    for (pick, row) in PICKS.split(|b| *b == b'\n').enumerate() {
-        leaves(&rt, rt.alloc(), pick as u64, row)?;
+    for (pick, row) in rows(rt.alloc(), PICKS, b'\n')?.iter().enumerate() {
+        leaves(&rt, rt.alloc(), pick as u64, *row)?;
     }
     Ok(())
 }

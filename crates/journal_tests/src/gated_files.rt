@@ -107,7 +107,10 @@ fn files_cut_off(rt: HostRuntime) -> Result<(), Fail> {
 #[test]
 fn lengths_outside_the_format(rt: HostRuntime) -> Result<(), Fail> {
     assert_eq!(rt; place_outside(rt.alloc(), &[1, 0, 0, 0, 0, 0, 0])?, Some(0));
-    assert_eq!(rt; place_outside(rt.alloc(), &[1, 0, 0x10, 0, 1, 0, 0])?, Some(0));
+    assert_eq!(rt;
+        place_outside(rt.alloc(), &[1, 0, 0x10, 0, 1, 0, 0])?,
+        Some(0)
+    );
     Ok(())
 }
 
