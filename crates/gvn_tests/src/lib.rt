@@ -1,4 +1,4 @@
-//! Worked rows of keys, statements, jobs, extracts and lines of a script.
+//! Worked rows of statements, jobs, extracts and lines of a script.
 #![tactic(auto)]
 
 #[cfg(test)]
@@ -10,14 +10,6 @@ mod extract_texts;
 #[cfg(test)]
 mod extracts;
 #[cfg(test)]
-mod key_bytes;
-#[cfg(test)]
-mod keys;
-#[cfg(test)]
-mod rows;
-#[cfg(test)]
 mod script_lines;
 #[cfg(test)]
 mod statements;
-#[cfg(test)]
-mod texts;
