@@ -1,14 +1,8 @@
-//! Worked bytes of the files of a site and of their records, and crashes of them.
+//! Worked bytes of the files of a site, and crashes of them.
 #![tactic(auto)]
 
 #[cfg(test)]
 mod directories;
-#[cfg(test)]
-mod disks;
-#[cfg(test)]
-mod fields;
-#[cfg(test)]
-mod gated_files;
 #[cfg(test)]
 mod instances;
 #[cfg(test)]
@@ -16,10 +10,4 @@ mod journals;
 #[cfg(test)]
 mod parts;
 #[cfg(test)]
-mod records;
-#[cfg(test)]
 mod recovery;
-#[cfg(test)]
-mod rows;
-#[cfg(test)]
-mod streams;
