@@ -11,7 +11,7 @@ use gvn_key::terms::Update;
 use gvn_key::{Bytes, Key};
 use gvn_model::{Origin, Transaction, Updates};
 use repl_disk::{Disk, MemDisk};
-use site_store::{RegionSpec, Site, SiteError, create, history_of, inspect, load, map, read_file};
+use site_store::{RegionSpec, Site, SiteError, create, history_of, inspect, load, read_file};
 use std::alloc::Global;
 use std::test::Fail;
 
@@ -110,37 +110,6 @@ fn bytes_of_a_file(rt: HostRuntime) -> Result<(), Fail> {
     assert_eq!(rt; bytes.as_slice(), FIRST_OF_SECOND.as_slice());
     read_file(&mut disk, 33, &mut bytes)?;
     assert_eq!(rt; bytes.len(), 18);
-    Ok(())
-}
-
-/// Maps the names that begin with B to the second region of the site on a disk, where it has two and no generation of its journals was
-/// drawn.
-fn map_second<D: Disk>(alloc: Global, disk: &mut D) -> Result<bool, SiteError> {
-    let Some(found) = inspect(alloc, disk)? else {
-        return Ok(false);
-    };
-    if found.generation != 0 || found.regions.len() != 2 {
-        return Ok(false);
-    }
-    map(alloc, disk, 1, b"B*")?;
-    Ok(true)
-}
-
-/// The CREATE of the site B, the MAP of B* to its second region, and the closed gate.
-const MAPPED: &[u8] =
-    b"\x01\0\0\0\x0b\x01\x01\x01B\x02\x01R\x01\x01S\0\x01\0\0\0\x05\x04\x01\x01\x01B\0";
-
-#[test]
-fn names_mapped_to_a_region(rt: HostRuntime) -> Result<(), Fail> {
-    let alloc = rt.alloc();
-    let mut disk = MemDisk::new(alloc)?;
-    make_two(alloc, &mut disk)?;
-    assert!(rt; map_second(alloc, &mut disk)?);
-    let mut bytes = Bytes::new(alloc);
-    read_file(&mut disk, 0, &mut bytes)?;
-    assert_eq!(rt; bytes.as_slice(), MAPPED);
-    load(alloc, &mut disk)?;
-    assert!(rt; !map_second(alloc, &mut disk)?, "a generation was drawn");
     Ok(())
 }
 

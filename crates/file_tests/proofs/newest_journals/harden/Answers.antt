@@ -1,4 +1,4 @@
-use Rattle.store_tests.proofs.newest_journals.harden.Goals as goal
+use Rattle.file_tests.proofs.newest_journals.harden.Goals as goal
 
 pub harden-requires : goal.harden-requires
 harden-requires g c = record { ready = (1, c.requires) }

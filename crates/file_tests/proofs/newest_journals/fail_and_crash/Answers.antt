@@ -4,7 +4,7 @@ use Rattle.disk_defs.proofs.Frames.{others_read}
 use Rattle.jnl_file.proofs.Others as others
 use Rattle.region_journals.specs.declared.journals.RegionJournal.{RegionJournal}
 use Rattle.region_journals.specs.Journals.{AreReady}
-use Rattle.store_tests.proofs.newest_journals.fail_and_crash.Goals as goal
+use Rattle.file_tests.proofs.newest_journals.fail_and_crash.Goals as goal
 
 -- journals stay open while the disk is only read
 still_ready : (v w : View) (js : List RegionJournal) → Reads v w → AreReady v 1 js → AreReady w 1 js

@@ -1,4 +1,4 @@
-use Rattle.store_tests.proofs.newest_journals.append.Goals as goal
+use Rattle.file_tests.proofs.newest_journals.append.Goals as goal
 
 pub append-requires-clause-ready : goal.append-requires-clause-ready
 append-requires-clause-ready g c = (1, c.prepare.ensures.ready 1 c.requires)

@@ -6,7 +6,7 @@ use Rattle.journal_defs.specs.Numbers.{journal_file}
 use Rattle.jnl_file.proofs.Others as others
 use Rattle.region_journals.specs.declared.journals.RegionJournal.{RegionJournal}
 use Rattle.region_journals.specs.Journals.{HasSyncs, IsOpen, AreReady}
-use Rattle.store_tests.proofs.newest_journals.begin_two.Goals as goal
+use Rattle.file_tests.proofs.newest_journals.begin_two.Goals as goal
 
 -- a journal stays open while another one's file changes
 still_open : (v w : View) (file : ℕ) (x : RegionJournal) → OthersStay (Only file) v w → journal_file 1 0 ≢ file → IsOpen v 1 HasSyncs 0 x → IsOpen w 1 HasSyncs 0 x
