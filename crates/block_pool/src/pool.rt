@@ -26,26 +26,31 @@ pub struct BlockPool {
 }
 
 impl Model for BlockPool {
-    ghost use Rattle.std.specs.Prelude.{[], ◌≤◌, ◌^◌, length};
+    ghost use Rattle.std.specs.Prelude.{◌<◌, ◌^◌, length};
     ghost use Rattle.block_pool.specs.Code as defs;
 
     ghost Value = { defs.Pool };
 
     ghost coded = { defs.pool_code };
 
-    ghost view = { λ p. record { leaves = []; dirty = []; room = 0 } };
+    ghost use Rattle.block_pool.specs.Inside.{pool_of};
 
-    ghost invariant = { λ p. ⊥ };
+    ghost view = { pool_of };
+
+    ghost invariant = { λ p. length p.pages.items < 2 ^ 32 };
 }
 
 impl BlockPool {
+    ghost use Rattle.block_pool.specs.Lending.{LendsBlock};
+
     /// A pool of no blocks. It takes no memory yet.
-    pub fn new(alloc: Global) -> Result<Self, NoMemory>
-        ensures leaves { IfOk result (λ made. made.leaves ≡ []) }
-        ensures dirty { IfOk result (λ made. made.dirty ≡ []) }
+    pub fn new(alloc: Global) -> Self
+        ensures leaves { result.leaves ≡ [] }
+        ensures dirty { result.dirty ≡ [] }
     {
-        let _alloc = alloc;
-        Err(NoMemory)
+        BlockPool {
+            pages: Vec::new(alloc),
+        }
     }
 
     /// How many blocks there are.
@@ -53,8 +58,7 @@ impl BlockPool {
         ensures count { result ≡ length self.now.leaves }
         ensures marks { length self.now.dirty ≡ length self.now.leaves }
     {
-        let _pages = &self.pages;
-        unreachable!()
+        self.pages.len() as u32
     }
 
     /// The block of this number.
@@ -62,9 +66,7 @@ impl BlockPool {
         requires { number < length self.now.leaves }
         ensures { result.now ≡ leaf_at self.now number }
     {
-        let _pages = &self.pages;
-        let _number = number;
-        unreachable!()
+        &self.pages[number as usize].block
     }
 
     /// Whether the block of this number may differ from the file.
@@ -72,9 +74,7 @@ impl BlockPool {
         requires { number < length self.now.leaves }
         ensures { result ≡ is_dirty self.now number }
     {
-        let _pages = &self.pages;
-        let _number = number;
-        unreachable!()
+        self.pages[number as usize].dirty
     }
 
     /// Marks the block of this number.
@@ -82,9 +82,7 @@ impl BlockPool {
         requires { number < length self.old.leaves }
         ensures { self.new ≡ marked self.old number }
     {
-        let _pages = &self.pages;
-        let _number = number;
-        unreachable!()
+        self.pages[number as usize].dirty = true;
     }
 
     /// Puts another block in place of the one of this number, and marks it. It takes no memory, and answers Ok.
@@ -93,31 +91,56 @@ impl BlockPool {
         ensures done { IsOk result }
         ensures changed { self.new ≡ changed self.old number to }
     {
-        let _pages = &self.pages;
-        let _number = number;
-        let _to = to;
-        unreachable!()
+        self.pages[number as usize] = Page {
+            block: to,
+            dirty: true,
+        };
+        Ok(())
     }
 
-    /// Makes room for so many more blocks, or answers [`NoMemory`].
-    pub fn reserve(&mut self, _more: u32) -> Result<(), NoMemory>
-        ensures room { OnOk result (_more ≤ self.new.room) }
+    /// The block of this number, to be changed in its place. It is marked.
+    pub fn block_mut(&mut self, number: u32) -> &mut Block
+        requires { number < length self.old.leaves }
+        ensures* writes_back { sem 𝓛 (LendsBlock self.entry number result) }
+        ensures block { result.now ≡ leaf_at self.old number }
+    {
+        let page = &mut self.pages[number as usize];
+        page.dirty = true;
+        &mut page.block
+    }
+
+    /// Makes room for so many more blocks, or answers [`NoMemory`], where there are no numbers for them too.
+    pub fn reserve(&mut self, more: u32) -> Result<(), NoMemory>
+        ensures room { OnOk result (more ≤ self.new.room) }
         ensures leaves { self.new.leaves ≡ self.old.leaves }
         ensures dirty { self.new.dirty ≡ self.old.dirty }
     {
-        let _pages = &self.pages;
-        unreachable!()
+        if u32::MAX as usize - self.pages.len() < more as usize {
+            return Err(NoMemory);
+        }
+        self.pages.reserve(more as usize)?;
+        Ok(())
     }
 
-    /// Adds a block behind the others, marked, and answers its number. It takes no memory, but room.
+    fn push(&mut self, block: Block, dirty: bool) -> u32
+        requires { 1 ≤ self.old.room }
+        ensures number { result ≡ length self.old.leaves }
+        ensures added { self.new ≡ added self.old block dirty }
+    {
+        let number = self.pages.len() as u32;
+        if self.pages.push(Page { block, dirty }).is_err() {
+            unreachable!();
+        }
+        number
+    }
+
+    /// Adds a block behind the others, marked, and answers its number. It uses up room and takes no memory.
     pub fn add(&mut self, block: Block) -> u32
         requires { 1 ≤ self.old.room }
         ensures number { result ≡ length self.old.leaves }
         ensures added { self.new ≡ added self.old block true }
     {
-        let _pages = &self.pages;
-        let _block = block;
-        unreachable!()
+        self.push(block, true)
     }
 
     /// Adds a block that stands on the file. It isn't marked.
@@ -126,9 +149,7 @@ impl BlockPool {
         ensures number { result ≡ length self.old.leaves }
         ensures added { self.new ≡ added self.old block false }
     {
-        let _pages = &self.pages;
-        let _block = block;
-        unreachable!()
+        self.push(block, false)
     }
 
     /// Writes the dirty blocks to a file, in rising order, and marks no block any more. It syncs nothing.
