@@ -1,1 +1,3 @@
 pub mod Spelled
+pub mod Lists
+pub mod Reading

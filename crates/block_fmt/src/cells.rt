@@ -1,9 +1,12 @@
 //! Cells as bytes, one behind another.
-ghost use Rattle.std.specs.Prelude.{◌≡◌, ◌≤◌, ◌<◌, ◌+◌, ◌-◌, ℕ, List, ◌++◌, ◌∷◌, [], true, false, length, take, drop, map, replicate, slice_index, vec_capacity, IfSome, IfNone, IfOk, IsTrue, ◌↔◌};
-ghost use Rattle.std.specs.Int.{from_be_bytes, w16, w32};
-ghost use Rattle.std.specs.List.{AllByRecursion, flat_map};
-ghost use Rattle.journal_defs.specs.Leaves.{Cell, spelled_cell, IsCell, IsEncoded, KeysRise};
-ghost use Rattle.block_fmt.specs.Read.{first_cell, cells_in, places};
+ghost use Rattle.std.specs.Prelude.{◌≡◌, ◌≤◌, ◌<◌, ◌+◌, ◌-◌, ◌^◌, ◌++◌, ◌∷◌, ◌↔◌, length, take, drop, map, replicate, slice_index, vec_len, vec_capacity, IfSome, IfNone, IfOk, IsTrue, MatchBool};
+ghost use Rattle.std.specs.declared.cmp.Ordering.TheVariants.{Less};
+ghost use Rattle.std.specs.Ordering.{nat_cmp};
+ghost use Rattle.std.specs.Cmp.Lexicographic.{slice_cmp};
+ghost use Rattle.std.specs.Int.{from_be_bytes, w16};
+ghost use Rattle.std.specs.List.{AllByRecursion};
+ghost use Rattle.journal_defs.specs.Leaves.{spelled_cell, IsEncoded};
+ghost use Rattle.block_fmt.specs.Read.{first_cell, cells_in, places, BeginWithCell, moved, CanMove, AreCells};
 
 use gvn_key::{Key, NoMemory};
 use std::alloc::Global;
@@ -27,19 +30,31 @@ pub fn number_at(bytes: &[u8], at: usize) -> usize
 }
 
 /// The key of the cell that stands at a place.
-pub fn key_at(bytes: &[u8], at: usize) -> &[u8] {
+pub fn key_at(bytes: &[u8], at: usize) -> &[u8]
+    requires { BeginWithCell (drop at bytes.now) }
+    ensures { result.now ≡ (first_cell (drop at bytes.now)).0 }
+{
     let from = at + 1;
     &bytes[from..from + usize::from(bytes[at])]
 }
 
 /// The value of the cell that stands at a place.
-pub fn value_at(bytes: &[u8], at: usize) -> &[u8] {
+pub fn value_at(bytes: &[u8], at: usize) -> &[u8]
+    requires { BeginWithCell (drop at bytes.now) }
+    ensures { result.now ≡ (first_cell (drop at bytes.now)).1 }
+{
     let from = at + 1 + usize::from(bytes[at]);
     &bytes[from + 2..from + 2 + number_at(bytes, from)]
 }
 
 /// Adds a cell's bytes.
-fn push_cell(bytes: &mut Vec<u8>, key: &[u8], value: &[u8]) {
+fn push_cell(bytes: &mut Vec<u8>, key: &[u8], value: &[u8])
+    requires key { length key.now ≤ 255 }
+    requires value { length value.now ≤ 1500 }
+    requires room { vec_len bytes.old + length (spelled_cell (key.now, value.now)) ≤ vec_capacity bytes.old }
+    ensures items { bytes.new.items ≡ bytes.old.items ++ spelled_cell (key.now, value.now) }
+    ensures capacity { vec_capacity bytes.old ≤ vec_capacity bytes.new }
+{
     push_all(bytes, &[key.len() as u8]);
     push_all(bytes, key);
     push_all(bytes, &(value.len() as u16).to_be_bytes());
@@ -47,14 +62,27 @@ fn push_cell(bytes: &mut Vec<u8>, key: &[u8], value: &[u8]) {
 }
 
 /// Adds bytes for which there is room.
-pub fn push_all(bytes: &mut Vec<u8>, more: &[u8]) {
+pub fn push_all(bytes: &mut Vec<u8>, more: &[u8])
+    requires { vec_len bytes.old + length more.now ≤ vec_capacity bytes.old }
+    ensures items { bytes.new.items ≡ bytes.old.items ++ more.now }
+    ensures capacity { vec_capacity bytes.old ≤ vec_capacity bytes.new }
+{
     if bytes.extend_from_slice(more).is_err() {
         unreachable!();
     }
 }
 
 /// Puts a cell in place of the bytes between two places.
-pub fn put_between(bytes: &mut Vec<u8>, from: usize, to: usize, key: &[u8], value: &[u8]) {
+pub fn put_between(bytes: &mut Vec<u8>, from: usize, to: usize, key: &[u8], value: &[u8])
+    requires order { from ≤ to }
+    requires inside { to ≤ vec_len bytes.old }
+    requires small { vec_len bytes.old ≤ 4088 }
+    requires key { length key.now ≤ 255 }
+    requires value { length value.now ≤ 1500 }
+    requires room { vec_len bytes.old + length (spelled_cell (key.now, value.now)) ≤ vec_capacity bytes.old + (to - from) }
+    ensures items { bytes.new.items ≡ take from bytes.old.items ++ (spelled_cell (key.now, value.now) ++ drop to bytes.old.items) }
+    ensures capacity { vec_capacity bytes.old ≤ vec_capacity bytes.new }
+{
     let mut tail = [0; 4088];
     let rest = bytes.len() - to;
     tail[..rest].copy_from_slice(&bytes[to..]);
@@ -64,7 +92,13 @@ pub fn put_between(bytes: &mut Vec<u8>, from: usize, to: usize, key: &[u8], valu
 }
 
 /// Takes the bytes between two places away.
-pub fn cut_between(bytes: &mut Vec<u8>, from: usize, to: usize) {
+pub fn cut_between(bytes: &mut Vec<u8>, from: usize, to: usize)
+    requires order { from ≤ to }
+    requires inside { to ≤ vec_len bytes.old }
+    requires small { vec_len bytes.old ≤ 4088 }
+    ensures items { bytes.new.items ≡ take from bytes.old.items ++ drop to bytes.old.items }
+    ensures capacity { vec_capacity bytes.old ≤ vec_capacity bytes.new }
+{
     let mut tail = [0; 4088];
     let rest = bytes.len() - to;
     tail[..rest].copy_from_slice(&bytes[to..]);
@@ -73,14 +107,28 @@ pub fn cut_between(bytes: &mut Vec<u8>, from: usize, to: usize) {
 }
 
 /// Moves places by as much as their first one moves.
-pub fn shift(places: &mut [u16], old: usize, new: usize) {
+fn shift(places: &mut [u16], old: usize, new: usize)
+    requires can { CanMove old new places.old }
+    requires near { new < 2 ^ 16 }
+    ensures { places.new ≡ map (moved old new) places.old }
+{
     for place in places.iter_mut() {
         *place = (usize::from(*place) - old + new) as u16;
     }
 }
 
 /// Gives a cell its place, in place of the cells from i up to j, which end at `to`: so many bytes stand there instead.
-pub fn put_place(places: &mut Vec<u16>, i: usize, j: usize, from: usize, to: usize, size: usize) {
+pub fn put_place(places: &mut Vec<u16>, i: usize, j: usize, from: usize, to: usize, size: usize)
+    requires order { i ≤ j }
+    requires one { j ≤ i + 1 }
+    requires inside { j ≤ vec_len places.old }
+    requires here { i < j → slice_index places.old.items i ≡ from }
+    requires near { from + size < 2 ^ 16 }
+    requires can { CanMove to (from + size) (drop j places.old.items) }
+    requires room { i ≡ j → vec_len places.old < vec_capacity places.old }
+    ensures items { places.new.items ≡ take i places.old.items ++ from ∷ map (moved to (from + size)) (drop j places.old.items) }
+    ensures capacity { vec_capacity places.old ≤ vec_capacity places.new }
+{
     shift(&mut places[j..], to, from + size);
     if i == j && places.insert(i, from as u16).is_err() {
         unreachable!();
@@ -88,7 +136,14 @@ pub fn put_place(places: &mut Vec<u16>, i: usize, j: usize, from: usize, to: usi
 }
 
 /// Takes the places from i up to j away, and moves the others by as much as their cells move.
-pub fn cut_places(places: &mut Vec<u16>, i: usize, j: usize, from: usize, to: usize) {
+pub fn cut_places(places: &mut Vec<u16>, i: usize, j: usize, from: usize, to: usize)
+    requires order { i ≤ j }
+    requires inside { j ≤ vec_len places.old }
+    requires near { from < 2 ^ 16 }
+    requires can { CanMove to from (drop j places.old.items) }
+    ensures items { places.new.items ≡ take i places.old.items ++ map (moved to from) (drop j places.old.items) }
+    ensures capacity { vec_capacity places.old ≤ vec_capacity places.new }
+{
     shift(&mut places[j..], to, from);
     for _ in i..j {
         places.remove(i);
@@ -96,7 +151,13 @@ pub fn cut_places(places: &mut Vec<u16>, i: usize, j: usize, from: usize, to: us
 }
 
 /// Adds places, moved back by so much.
-pub fn push_places(places: &mut Vec<u16>, more: &[u16], back: usize) {
+pub fn push_places(places: &mut Vec<u16>, more: &[u16], back: usize)
+    requires behind { AllByRecursion (λ p. back ≤ p) more.now }
+    requires near { back < 2 ^ 16 }
+    requires room { vec_len places.old + length more.now ≤ vec_capacity places.old }
+    ensures items { places.new.items ≡ places.old.items ++ map (λ p. p - back) more.now }
+    ensures capacity { vec_capacity places.old ≤ vec_capacity places.new }
+{
     for place in more {
         if places.push(*place - back as u16).is_err() {
             unreachable!();
@@ -105,17 +166,28 @@ pub fn push_places(places: &mut Vec<u16>, more: &[u16], back: usize) {
 }
 
 /// Writes bytes over those at a place.
-pub fn put_bytes(out: &mut [u8], at: usize, bytes: &[u8]) {
+pub fn put_bytes(out: &mut [u8], at: usize, bytes: &[u8])
+    requires { at + length bytes.now ≤ length out.old }
+    ensures { take (at + length bytes.now) out.new ≡ take at out.old ++ bytes.now }
+{
     out[at..at + bytes.len()].copy_from_slice(bytes);
 }
 
 /// Writes zeros from a place on.
-pub fn fill_zeros(out: &mut [u8], at: usize) {
+pub fn fill_zeros(out: &mut [u8], at: usize)
+    requires { at ≤ length out.old }
+    ensures { out.new ≡ take at out.old ++ replicate (length out.old - at) 0 }
+{
     out[at..].fill(0);
 }
 
 /// How many bytes the cell has that these bytes begin with, `None` where they begin with no cell.
-fn cell_size(bytes: &[u8]) -> Option<usize> {
+fn cell_size(bytes: &[u8]) -> Option<usize>
+    ensures cell { IfSome result (λ n. BeginWithCell bytes.now) }
+    ensures size { IfSome result (λ n. n ≡ length (spelled_cell (first_cell bytes.now))) }
+    ensures inside { IfSome result (λ n. n ≤ length bytes.now) }
+    ensures none { IfNone result (BeginWithCell bytes.now → ⊥) }
+{
     let &[first, ..] = bytes else {
         return None;
     };
@@ -131,12 +203,18 @@ fn cell_size(bytes: &[u8]) -> Option<usize> {
 }
 
 /// Whether a key's bytes are those of a key.
-fn is_key(alloc: Global, bytes: &[u8]) -> Result<bool, NoMemory> {
+fn is_key(alloc: Global, bytes: &[u8]) -> Result<bool, NoMemory>
+    ensures { IfOk result (λ is. MatchBool is (IsEncoded bytes.now) (IsEncoded bytes.now → ⊥)) }
+{
     Ok(Key::decode(alloc, bytes)?.is_some())
 }
 
 /// Whether the first of two cells has the smaller key.
-fn rises(bytes: &[u8], last: usize, next: usize) -> bool {
+fn rises(bytes: &[u8], last: usize, next: usize) -> bool
+    requires last { BeginWithCell (drop last bytes.now) }
+    requires next { BeginWithCell (drop next bytes.now) }
+    ensures { IsTrue result ↔ (slice_cmp nat_cmp (first_cell (drop last bytes.now)).0 (first_cell (drop next bytes.now)).0 ≡ Less) }
+{
     key_at(bytes, last).cmp(key_at(bytes, next)) == Ordering::Less
 }
 
@@ -145,7 +223,13 @@ pub fn read_places(
     alloc: Global,
     bytes: &[u8],
     count: usize,
-) -> Result<Option<Vec<u16>>, NoMemory> {
+) -> Result<Option<Vec<u16>>, NoMemory>
+    requires { length bytes.now ≤ 4088 }
+    ensures cells { IfOk result (λ read. IfSome read (λ made. AreCells count bytes.now)) }
+    ensures items { IfOk result (λ read. IfSome read (λ made. made.items ≡ places 0 (cells_in count bytes.now))) }
+    ensures capacity { IfOk result (λ read. IfSome read (λ made. 817 ≤ vec_capacity made)) }
+    ensures none { IfOk result (λ read. IfNone read (AreCells count bytes.now → ⊥)) }
+{
     let mut places: Vec<u16> = Vec::with_capacity(alloc, MOST_CELLS)?;
     let mut at = 0;
     let mut last = 0;
