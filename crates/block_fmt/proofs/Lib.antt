@@ -1,3 +1,4 @@
 pub mod Spelled
 pub mod Lists
 pub mod Reading
+pub mod Walk
