@@ -1,0 +1,8 @@
+//! Blocks of a database file: sorted cells of encoded keys and values, both ways between memory and bytes.
+#![tactic(auto)]
+
+mod block;
+mod error;
+
+pub use block::Block;
+pub use error::BlockError;
