@@ -2,6 +2,7 @@
 #![tactic(auto)]
 
 mod block;
+mod cells;
 mod error;
 
 pub use block::Block;

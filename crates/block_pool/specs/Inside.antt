@@ -1,6 +1,5 @@
 -- What a pool's pages show.
-use Rattle.std.specs.Prelude.{◌≤◌, ◌-◌, ◌^◌, ℕ, min, length, map, vec_capacity}
-use Rattle.block_pool.specs.declared.pool.Page.{Page}
+use Rattle.std.specs.Prelude.{◌-◌, ◌^◌, min, length, map, vec_capacity}
 use Rattle.block_pool.specs.declared.pool.BlockPool.TheInside.{Inside}
 use Rattle.block_pool.specs.Code.{Pool}
 

@@ -1,7 +1,9 @@
 -- Blocks by their numbers, and what of them stands on the file.
-use Rattle.std.specs.Prelude.{◌≡◌, ◌<◌, ◌⊎◌, ℕ, ◌+◌, ◌-◌, Bool, true, false, List, [], ◌∷◌, ◌++◌, length, replicate, slice_index_or, slice_set}
+use Rattle.std.specs.Prelude.{◌≡◌, ◌<◌, ◌⊎◌, ℕ, ◌+◌, ◌-◌, Bool, true, false, List, [], ◌∷◌, ◌++◌, length, drop, replicate, if◌then◌else◌, slice_index_or, slice_set}
 use Rattle.journal_defs.specs.Leaves.{Leaf, IsBlock}
 use Rattle.journal_defs.specs.Epochs.{block_of}
+use Rattle.disk_defs.specs.Disk.{View, Image, From, OnFile, AtEachMoment, ReadsAfter}
+use Rattle.disk_defs.specs.Frames.{Only, OthersStay}
 use Rattle.block_fmt.specs.Cells.{blank}
 use Rattle.block_pool.specs.Code.{Pool}
 
@@ -40,3 +42,22 @@ AllStand p file = (b : ℕ) → b < length p.leaves → IsBlock (block_of file b
 -- at most the dirty blocks of the file have other bytes
 abbrev pub ChangesDirty : Pool → List ℕ → List ℕ → Type 0
 ChangesDirty p old new = (b : ℕ) → (is_dirty p b ≡ true) ⊎ (block_of new b ≡ block_of old b)
+
+-- each block below this one stands on the file
+abbrev pub StandBelow : Pool → ℕ → List ℕ → Type 0
+StandBelow p n file = (b : ℕ) → b < n → b < length p.leaves → IsBlock (block_of file b) (leaf_at p b)
+
+-- how many marks are set
+abbrev pub count_set : List Bool → ℕ
+count_set [] = 0
+count_set (d ∷ ds) = if d then 1 + count_set ds else count_set ds
+
+-- how many blocks are dirty from this one on
+abbrev pub dirty_from : Pool → ℕ → ℕ
+dirty_from p n = count_set (drop n p.dirty)
+
+-- A call that writes dirty blocks alone.
+pub record WritesDirty (p : Pool) (file : ℕ) (old new : View) : Type 0 where
+  pub content : ReadsAfter (OnFile file (ChangesDirty p)) old.content new.content
+  pub any_moment : AtEachMoment old new (From (Image old) (OnFile file (ChangesDirty p)))
+  pub frame : OthersStay (Only file) old new

@@ -1,16 +1,42 @@
 //! The blocks of a file.
-ghost use Rattle.std.specs.Prelude.{◌≡◌, ◌≤◌, ◌<◌, ◌+◌, ◌^◌, [], true, false, length, IsOk, IfOk, OnOk, OnErr, IsErrOf, IfSome};
+ghost use Rattle.std.specs.Prelude.{◌≡◌, ◌≤◌, ◌<◌, ◌+◌, ◌*◌, [], true, false, length, map, replicate, count_by, IsOk, OnOk, OnErr, IsErrOf, IfSome};
 ghost use Rattle.std.specs.Borrow.{sem};
-ghost use Rattle.disk_defs.specs.Disk.{Image, From, OnFile, AtEachMoment, ReadsAfter, Rose};
+ghost use Rattle.disk_defs.specs.Disk.{Image, From, OnFile, AtEachMoment, ReadsAfter, HasCause, Rose, written, Torn, Passes, RoomUsed};
 ghost use Rattle.disk_defs.specs.Frames.{Only, OthersStay};
-ghost use Rattle.block_pool.specs.Pool.{leaf_at, is_dirty, marked, changed, added, cleaned, CleanStand, AllStand, ChangesDirty};
+ghost use Rattle.journal_defs.specs.Leaves.{IsLeaf, spelled_leaf};
+ghost use Rattle.block_pool.specs.Pool.{leaf_at, is_dirty, marked, changed, added, cleaned, CleanStand, AllStand, StandBelow, ChangesDirty, dirty_from, WritesDirty};
 
 use crate::error::PoolError;
 use block_fmt::Block;
 use gvn_key::NoMemory;
-use repl_disk::Disk;
+use repl_disk::{Disk, Failed};
 use std::alloc::Global;
 use std::marker::Model;
+
+/// How many bytes a block has on the file.
+const BLOCK: u64 = 4096;
+
+/// Writes a block's bytes at its place.
+fn write_block<D: Disk>(
+    block: &Block,
+    disk: &mut D,
+    file: u32,
+    number: u32,
+    buffer: &mut [u8],
+) -> Result<(), Failed>
+    requires buffer { length buffer.old ≡ 4096 }
+    requires place { IfSome (D.disk disk.old).content (λ files. 4096 * number ≤ length (files file)) }
+    requires room { (D.disk disk.old).has_room file 1 4096 }
+    ensures wrote { OnOk result (ReadsAfter (OnFile file (λ old new. new ≡ written old (4096 * number) (spelled_leaf block.now))) (D.disk disk.old).content (D.disk disk.new).content) }
+    ensures content { ReadsAfter (OnFile file (Torn (4096 * number) 4096)) (D.disk disk.old).content (D.disk disk.new).content }
+    ensures passes { Passes (OnFile file (Torn (4096 * number) 4096)) (D.disk disk.old) (D.disk disk.new) }
+    ensures room { RoomUsed file 4096 (D.disk disk.old) (D.disk disk.new) }
+    ensures form { IsLeaf block.now }
+    ensures cause { HasCause (D.disk disk.old).faults (D.disk disk.new).faults result }
+{
+    block.encode(buffer);
+    disk.write_at(file, BLOCK * number as u64, buffer)
+}
 
 /// A block, and whether it may differ from the file.
 #[derive(Debug, Drop)]
@@ -23,6 +49,24 @@ struct Page {
 #[derive(Debug, Drop)]
 pub struct BlockPool {
     pages: Vec<Page>,
+}
+
+/// How many pages are marked.
+fn count_marks(pages: &[Page]) -> usize
+    ensures count { result ≡ count_by (λ q. q.dirty) pages.now }
+    ensures few { result ≤ length pages.now }
+{
+    pages.iter().filter(|page| page.dirty).count()
+}
+
+/// Takes all marks away.
+fn take_marks(pages: &mut [Page])
+    ensures blocks { map (λ q. q.block) pages.new ≡ map (λ q. q.block) pages.old }
+    ensures marks { map (λ q. q.dirty) pages.new ≡ replicate (length pages.old) false }
+{
+    for page in pages.iter_mut() {
+        page.dirty = false;
+    }
 }
 
 impl Model for BlockPool {
@@ -152,25 +196,78 @@ impl BlockPool {
         self.push(block, false)
     }
 
-    /// Writes the dirty blocks to a file, in rising order, and marks no block any more. It syncs nothing.
+    /// How many blocks are marked.
+    fn count_dirty(&self) -> u32
+        ensures { result ≡ dirty_from self.now 0 }
+    {
+        count_marks(&self.pages) as u32
+    }
+
+    /// Writes a block where it is marked, and the blocks below it stand on the file.
+    fn write_one<D: Disk>(
+        &self,
+        disk: &mut D,
+        file: u32,
+        number: u32,
+        buffer: &mut [u8],
+    ) -> Result<(), Failed>
+        requires inside { number < length self.now.leaves }
+        requires buffer { length buffer.old ≡ 4096 }
+        requires below { IfSome (D.disk disk.old).content (λ files. StandBelow self.now number (files file)) }
+        requires clean { IfSome (D.disk disk.old).content (λ files. CleanStand self.now (files file)) }
+        requires room { (D.disk disk.old).has_room file (dirty_from self.now number) (4096 * dirty_from self.now number) }
+        ensures below { OnOk result (IfSome (D.disk disk.new).content (λ files. StandBelow self.now (number + 1) (files file))) }
+        ensures clean { OnOk result (IfSome (D.disk disk.new).content (λ files. CleanStand self.now (files file))) }
+        ensures room { OnOk result ((D.disk disk.new).has_room file (dirty_from self.now (number + 1)) (4096 * dirty_from self.now (number + 1))) }
+        ensures writes { WritesDirty self.now file (D.disk disk.old) (D.disk disk.new) }
+        ensures cause { HasCause (D.disk disk.old).faults (D.disk disk.new).faults result }
+    {
+        let page = &self.pages[number as usize];
+        if !page.dirty {
+            return Ok(());
+        }
+        write_block(&page.block, disk, file, number, buffer)
+    }
+
+    /// Writes the marked blocks, in rising order.
+    fn write_dirty<D: Disk>(&self, disk: &mut D, file: u32) -> Result<(), Failed>
+        requires clean { IfSome (D.disk disk.old).content (λ files. CleanStand self.now (files file)) }
+        requires room { (D.disk disk.old).has_room file (dirty_from self.now 0) (4096 * dirty_from self.now 0) }
+        ensures all { OnOk result (IfSome (D.disk disk.new).content (λ files. AllStand self.now (files file))) }
+        ensures writes { WritesDirty self.now file (D.disk disk.old) (D.disk disk.new) }
+        ensures cause { HasCause (D.disk disk.old).faults (D.disk disk.new).faults result }
+    {
+        let mut buffer = [0; 4096];
+        for number in 0..self.count() {
+            self.write_one(disk, file, number, &mut buffer)?;
+        }
+        Ok(())
+    }
+
+    /// Writes the dirty blocks to a file, in rising order, and takes their marks away. It syncs nothing.
     ///
     /// # Errors
     /// `Failed` only where the disk's count rose: the marks stay then, and the blocks can be written again. `NoMemory` before
     /// anything is written.
-    pub fn write_out<D: Disk>(&mut self, _disk: &mut D, _file: u32) -> Result<(), PoolError>
-        requires clean { IfSome (D.disk _disk.old).content (λ files. CleanStand self.old (files _file)) }
+    pub fn write_out<D: Disk>(&mut self, disk: &mut D, file: u32) -> Result<(), PoolError>
+        requires clean { IfSome (D.disk disk.old).content (λ files. CleanStand self.old (files file)) }
         ensures ok { OnOk result (self.new ≡ cleaned self.old) }
         ensures err { OnErr result (self.new ≡ self.old) }
-        ensures written { OnOk result (IfSome (D.disk _disk.new).content (λ files. AllStand self.new (files _file))) }
+        ensures written { OnOk result (IfSome (D.disk disk.new).content (λ files. AllStand self.new (files file))) }
         // as the file reads, and in each image at each moment of the call, at most the dirty blocks have other bytes than before
-        ensures content { ReadsAfter (OnFile _file (ChangesDirty self.old)) (D.disk _disk.old).content (D.disk _disk.new).content }
-        ensures any_moment { AtEachMoment (D.disk _disk.old) (D.disk _disk.new) (From (Image (D.disk _disk.old)) (OnFile _file (ChangesDirty self.old))) }
-        ensures frame { OthersStay (Only _file) (D.disk _disk.old) (D.disk _disk.new) }
-        ensures later { (D.disk _disk.old).faults ≤ (D.disk _disk.new).faults }
-        ensures cause { IsErrOf result PoolError.Failed → Rose (D.disk _disk.old).faults (D.disk _disk.new).faults }
-        ensures no_memory { IsErrOf result PoolError.NoMemory → (D.disk _disk.new).content ≡ (D.disk _disk.old).content }
+        ensures content { ReadsAfter (OnFile file (ChangesDirty self.old)) (D.disk disk.old).content (D.disk disk.new).content }
+        ensures any_moment { AtEachMoment (D.disk disk.old) (D.disk disk.new) (From (Image (D.disk disk.old)) (OnFile file (ChangesDirty self.old))) }
+        ensures frame { OthersStay (Only file) (D.disk disk.old) (D.disk disk.new) }
+        ensures later { (D.disk disk.old).faults ≤ (D.disk disk.new).faults }
+        ensures cause { IsErrOf result PoolError.Failed → Rose (D.disk disk.old).faults (D.disk disk.new).faults }
+        ensures no_memory { IsErrOf result PoolError.NoMemory → (D.disk disk.new).content ≡ (D.disk disk.old).content }
     {
-        let _pages = &self.pages;
-        unreachable!()
+        let dirty = self.count_dirty();
+        if disk.room(file, dirty, BLOCK * dirty as u64).is_err() {
+            return Err(PoolError::NoMemory);
+        }
+        self.write_dirty(disk, file)?;
+        take_marks(&mut self.pages);
+        Ok(())
     }
 }
