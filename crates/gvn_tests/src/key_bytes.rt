@@ -1,11 +1,10 @@
-//! Worked keys decoded, bytes that are no key, and the order of keys.
-use crate::rows::cut;
+// Worked keys decoded, bytes that are no key, and the order of keys.
+use crate::rows::{cut, holds, lines, same};
 use gvn_key::{Bytes, Key};
 use std::alloc::Global;
 use std::cmp::Ordering;
 use std::collections::BTreeMap;
 use std::process::Abort;
-use std::test::Fail;
 
 /// The subscript of `^X`, none where it is empty, and the encoded key.
 const WORKED: &[u8] = b"\
@@ -16,7 +15,8 @@ const WORKED: &[u8] = b"\
 .5|X\0\x03\x40\x35\0
 -1|X\0\x01\xbe\x38\xff
 0|X\0\x02
-A|X\0\x04\x41\0";
+A|X\0\x04\x41\0
+";
 
 /// Bytes that no key has.
 const REFUSED: &[u8] = b"
@@ -28,63 +28,82 @@ X\0\x03\x41\0
 X\0\x04\0
 X\0\x04\x31\0
 X\0\x04\x01\x03\0
-X\0\x04\x41";
+X\0\x04\x41
+";
 
-/// Subscripts in M collation, turned round.
-const TURNED: &str = "a A 01 10 9 .5 -1";
+/// A place, and the subscript of that place in M collation. The last place comes first.
+const ORDERED: &[u8] = b"\
+6|a
+5|A
+4|01
+3|10
+2|9
+1|.5
+0|-1
+";
 
-fn node(alloc: Global, sub: &[u8]) -> Result<Key, Fail> {
+fn node(rt: &impl Abort, alloc: Global, sub: &[u8]) -> Key {
     let mut subs = Vec::new(alloc);
     if !sub.is_empty() {
-        subs.push(Bytes::of(alloc, sub)?)?;
+        let sub = Bytes::of(alloc, sub).expect(rt, "memory");
+        subs.push(sub).expect(rt, "memory");
     }
-    Ok(Key::new(alloc, b"X", &subs)?)
+    Key::new(alloc, b"X", &subs).expect(rt, "a key")
 }
 
-fn is_decoded(rt: &impl Abort, alloc: Global, row: &[u8]) -> Result<(), Fail> {
-    let (sub, code) = cut(row)?;
-    let key = Key::decode(alloc, code)?.ok_or("no key")?;
-    assert_eq!(rt; key.as_encoded(), code);
-    assert_eq!(rt; key.compare(&node(alloc, sub)?), Ordering::Equal);
-    Ok(())
-}
-
-#[test]
-fn worked_keys(rt: HostRuntime) -> Result<(), Fail> {
-    for row in WORKED.split(|b| *b == b'\n') {
-        is_decoded(&rt, rt.alloc(), row)?;
-    }
-    Ok(())
-}
-
-#[test]
-fn bytes_of_no_key(rt: HostRuntime) -> Result<(), Fail> {
-    for code in REFUSED.split(|b| *b == b'\n') {
-        assert!(rt; Key::decode(rt.alloc(), code)?.is_none(), "{code:?}");
-    }
-    Ok(())
-}
-
-fn is_below(rt: &impl Abort, top: &Key, key: &Key) -> Result<(), Fail> {
-    assert!(rt; top < key && *key == key.copy()?);
-    assert!(rt; key.is_under(top) && key.is_under(key) && !top.is_under(key));
-    Ok(())
+fn is_decoded(rt: &impl Abort, alloc: Global, row: &[u8]) {
+    let (sub, code) = cut(row);
+    let key = Key::decode(alloc, code)
+        .expect(rt, "memory")
+        .expect(rt, "a key");
+    same(rt, key.as_encoded(), code);
+    holds(
+        rt,
+        key.compare(&node(rt, alloc, sub)) == Ordering::Equal,
+        row,
+    );
 }
 
 #[test]
-fn order(rt: HostRuntime) -> Result<(), Fail> {
-    let alloc = rt.alloc();
-    let top = node(alloc, b"")?;
-    let mut subs = BTreeMap::new(alloc);
-    for sub in TURNED.split(' ') {
-        let key = node(alloc, sub.as_bytes())?;
-        is_below(&rt, &top, &key)?;
-        subs.insert(key, sub)?;
+fn worked_keys(rt: HostRuntime) {
+    for row in &lines(&rt, rt.alloc(), WORKED) {
+        is_decoded(&rt, rt.alloc(), row);
     }
-    let sorted = subs.values().rev();
-    for (sub, want) in sorted.zip(TURNED.split(' ')) {
-        assert_eq!(rt; *sub, want);
+}
+
+#[test]
+fn bytes_of_no_key(rt: HostRuntime) {
+    for code in &lines(&rt, rt.alloc(), REFUSED) {
+        let key = Key::decode(rt.alloc(), code).expect(&rt, "memory");
+        holds(&rt, key.is_none(), code);
     }
-    assert_eq!(rt; subs.len(), 7);
-    Ok(())
+}
+
+fn is_below(rt: &impl Abort, top: &Key, key: &Key, row: &[u8]) {
+    let copied = key.copy().expect(rt, "memory");
+    holds(rt, top < key && *key == copied, row);
+    holds(rt, key.is_under(top) && key.is_under(key), row);
+    holds(rt, !top.is_under(key), row);
+}
+
+/// The code of a digit.
+fn number(text: &[u8]) -> u8 {
+    text.first().copied().unwrap_or(0)
+}
+
+#[test]
+fn order(rt: HostRuntime) {
+    let top = node(&rt, rt.alloc(), b"");
+    let mut places = BTreeMap::new(rt.alloc());
+    for row in &lines(&rt, rt.alloc(), ORDERED) {
+        let (place, sub) = cut(row);
+        let key = node(&rt, rt.alloc(), sub);
+        is_below(&rt, &top, &key, row);
+        let put: Result<Option<u8>, _> = places.insert(key, number(place));
+        holds(&rt, put.is_ok(), row);
+    }
+    for (want, place) in places.values().enumerate() {
+        holds(&rt, u64::from(*place) == 48 + want as u64, b"a place");
+    }
+    holds(&rt, places.len() == 7, b"seven places");
 }

@@ -1,9 +1,8 @@
-//! Keys and their bytes, numbers, and texts of keys, from worked vectors.
-use crate::rows::cut;
+// Keys, and texts of keys, from worked vectors.
+use crate::rows::{cut, holds, lines, rows, same};
 use gvn_key::{Bytes, Key, KeyError, is_number};
 use std::alloc::Global;
 use std::process::Abort;
-use std::test::Fail;
 
 /// The subscripts of `^X`, each with a semicolon behind it; its encoded key; its text.
 const ENCODED: &[u8] = b"\
@@ -17,9 +16,10 @@ const ENCODED: &[u8] = b"\
 A;|X\x00\x04\x41\x00|^X(\"A\")
 \x00\x01\x02;|X\x00\x04\x01\x01\x01\x02\x02\x00|^X($C(0,1,2))
 123456789012345678;|X\x00\x03\x52123456789012345678\x00|^X(123456789012345678)
-1;1234567890123456789;|X\x00\x03\x41\x31\x00\x041234567890123456789\x00|^X(1,\"1234567890123456789\")";
+1;1234567890123456789;|X\x00\x03\x41\x31\x00\x041234567890123456789\x00|^X(1,\"1234567890123456789\")
+";
 
-const NUMBERS: &str = "\
+const NUMBERS: &[u8] = b"\
 0
 7
 -7
@@ -27,9 +27,10 @@ const NUMBERS: &str = "\
 -.05
 10.01
 999999999999999999
-.000000000000000001";
+.000000000000000001
+";
 
-const STRINGS: &str = "
+const STRINGS: &[u8] = b"
 -0
 01
 1.0
@@ -40,29 +41,32 @@ const STRINGS: &str = "
 -
 1E5
 1.2.3
-1234567890123456789";
+1234567890123456789
+";
 
 /// A fault or none, a name, and subscripts with a semicolon behind each.
-const FAULTS: &str = "\
+const FAULTS: &[u8] = b"\
 none|%x9|
 BadName||
 BadName|9|
 BadName|X%|
 BadName|X_Y|;
-NullSub|X|1;;2;";
+NullSub|X|1;;2;
+";
 
 /// A text of a key, and its canonical text.
-const TEXTS: &str = "\
+const TEXTS: &[u8] = b"\
 ^X|^X
 ^%z9(1,-.5)|^%z9(1,-.5)
 ^X(\"10\")|^X(10)
 ^X(\"1\"_\"0\",$C(65))|^X(10,\"A\")
 ^X(\"a,b)\"\"\")|^X(\"a,b)\"\"\")
 ^X(\"01\")|^X(\"01\")
-^X(\"1234567890123456789\")|^X(\"1234567890123456789\")";
+^X(\"1234567890123456789\")|^X(\"1234567890123456789\")
+";
 
 /// The fault of a text, and the text.
-const BAD_TEXTS: &str = "\
+const BAD_TEXTS: &[u8] = b"\
 BadName|
 BadName|X
 BadName|^
@@ -79,138 +83,144 @@ BadSub|^X(1234567890123456789)
 BadSub|^X(\"a)
 NullSub|^X(1,\"\",x)
 BadSub|^X(1,x,\"\")
-TooManySubs|^X(1,1,1,1,1,1,1,1,1,1,1,1,1,1,1,1,1,1,1,1,1,1,1,1,1,1,1,1,1,1,1,1)";
+TooManySubs|^X(1,1,1,1,1,1,1,1,1,1,1,1,1,1,1,1,1,1,1,1,1,1,1,1,1,1,1,1,1,1,1,1)
+";
 
-/// The subscripts that stand before a semicolon each.
-fn subs_of(alloc: Global, text: &[u8]) -> Result<Vec<Bytes>, Fail> {
+/// The subscripts that have a semicolon behind them.
+fn subs_of(rt: &impl Abort, alloc: Global, text: &[u8]) -> Vec<Bytes> {
     let mut subs = Vec::new(alloc);
-    if let [front @ .., b';'] = text {
-        for sub in front.split(|b| *b == b';') {
-            subs.push(Bytes::of(alloc, sub)?)?;
-        }
+    for sub in &rows(rt, alloc, text, b';') {
+        let sub = Bytes::of(alloc, sub).expect(rt, "memory");
+        subs.push(sub).expect(rt, "memory");
     }
-    Ok(subs)
+    subs
 }
 
-fn encodes(rt: &impl Abort, alloc: Global, row: &[u8]) -> Result<(), Fail> {
-    let (subs, row) = cut(row)?;
-    let (encoded, text) = cut(row)?;
-    let subs = subs_of(alloc, subs)?;
-    let made = Key::new(alloc, b"X", &subs)?;
-    let mut out = Bytes::new(alloc);
-    made.copy()?.encode(&mut out)?;
-    assert_eq!(rt; out.as_slice(), encoded);
-    assert_eq!(rt; made.as_encoded(), encoded);
+fn encodes(rt: &impl Abort, alloc: Global, row: &[u8]) {
+    let (subs, row) = cut(row);
+    let (encoded, text) = cut(row);
+    let subs = subs_of(rt, alloc, subs);
+    let made = Key::new(alloc, b"X", &subs).expect(rt, "a key");
+    let mut out = Bytes::of(alloc, b"-").expect(rt, "memory");
+    made.encode(&mut out).expect(rt, "memory");
+    same(rt, &out.as_slice()[1..], encoded);
+    same(rt, made.as_encoded(), encoded);
     out.clear();
-    made.write(&mut out)?;
-    assert_eq!(rt; out.as_slice(), text);
-    assert_eq!(rt; made.name(), b"X".as_slice());
-    assert_eq!(rt; made.subs().len(), subs.len());
-    Ok(())
+    made.write(&mut out).expect(rt, "memory");
+    same(rt, out.as_slice(), text);
+    same(rt, made.name(), b"X");
+    holds(rt, made.subs().len() == subs.len(), text);
 }
 
 #[test]
-fn encoded_keys(rt: HostRuntime) -> Result<(), Fail> {
-    for row in ENCODED.split(|b| *b == b'\n') {
-        encodes(&rt, rt.alloc(), row)?;
+fn encoded_keys(rt: HostRuntime) {
+    for row in &lines(&rt, rt.alloc(), ENCODED) {
+        encodes(&rt, rt.alloc(), row);
     }
-    Ok(())
 }
 
-/// An encoded key stands behind what was there.
 #[test]
-fn encoded_behind(rt: HostRuntime) -> Result<(), Fail> {
-    let mut out = Bytes::of(rt.alloc(), b"-")?;
-    Key::parse(rt.alloc(), b"^X")?.encode(&mut out)?;
-    assert_eq!(rt; out.as_slice(), b"-X\x00".as_slice());
-    Ok(())
-}
-
-fn all_are(rt: &impl Abort, table: &str, want: bool) {
-    for text in table.split('\n') {
-        assert_eq!(rt; is_number(text.as_bytes()), want, "{text}");
-    }
+fn a_copied_key(rt: HostRuntime) {
+    let made = Key::new(rt.alloc(), b"X", &[]).expect(&rt, "a key");
+    let copied = made.copy().expect(&rt, "memory");
+    same(&rt, copied.as_encoded(), b"X\x00");
 }
 
 #[test]
 fn numbers_and_strings(rt: HostRuntime) {
-    all_are(&rt, NUMBERS, true);
-    all_are(&rt, STRINGS, false);
+    for text in &lines(&rt, rt.alloc(), NUMBERS) {
+        holds(&rt, is_number(text), text);
+    }
+    for text in &lines(&rt, rt.alloc(), STRINGS) {
+        holds(&rt, !is_number(text), text);
+    }
 }
 
-fn told(fault: Option<KeyError>) -> &'static str {
+fn told(fault: Option<KeyError>) -> &'static [u8] {
     match fault {
-        None => "none",
-        Some(KeyError::BadName) => "BadName",
-        Some(KeyError::NameTooLong) => "NameTooLong",
-        Some(KeyError::BadSub) => "BadSub",
-        Some(KeyError::NullSub) => "NullSub",
-        Some(KeyError::TooManySubs) => "TooManySubs",
-        Some(KeyError::KeyTooLong) => "KeyTooLong",
-        Some(KeyError::NoMemory) => "NoMemory",
+        None => b"none",
+        Some(KeyError::BadName) => b"BadName",
+        Some(KeyError::NameTooLong) => b"NameTooLong",
+        Some(KeyError::BadSub) => b"BadSub",
+        Some(KeyError::NullSub) => b"NullSub",
+        Some(KeyError::TooManySubs) => b"TooManySubs",
+        Some(KeyError::KeyTooLong) => b"KeyTooLong",
+        Some(KeyError::NoMemory) => b"NoMemory",
     }
 }
 
-/// The fault of a name and subscripts.
-fn fault(alloc: Global, name: &str, subs: &str) -> Result<&'static str, Fail> {
-    let subs = subs_of(alloc, subs.as_bytes())?;
-    Ok(told(Key::new(alloc, name.as_bytes(), &subs).err()))
+/// The fault of a name, and of subscripts with a semicolon behind each.
+fn fault(rt: &impl Abort, alloc: Global, name: &[u8], subs: &[u8]) -> &'static [u8] {
+    let subs = subs_of(rt, alloc, subs);
+    told(Key::new(alloc, name, &subs).err())
 }
 
-fn all_have_their_fault(rt: &impl Abort, alloc: Global, table: &str) -> Result<(), Fail> {
-    for row in table.split('\n') {
-        let (want, row) = row.split_once('|').ok_or("no bar")?;
-        let (name, subs) = row.split_once('|').ok_or("no bar")?;
-        assert_eq!(rt; fault(alloc, name, subs)?, want, "{row}");
+#[test]
+fn names_and_subscripts(rt: HostRuntime) {
+    for row in &lines(&rt, rt.alloc(), FAULTS) {
+        let (want, row) = cut(row);
+        let (name, subs) = cut(row);
+        same(&rt, fault(&rt, rt.alloc(), name, subs), want);
     }
-    Ok(())
+}
+
+/// Bytes, so many times one behind another, and these behind them.
+fn repeated(rt: &impl Abort, alloc: Global, bytes: &[u8], count: u32, more: &[u8]) -> Bytes {
+    let mut made = Bytes::new(alloc);
+    for _ in 0..count {
+        made.push_all(bytes).expect(rt, "memory");
+    }
+    made.push_all(more).expect(rt, "memory");
+    made
 }
 
 #[test]
-fn names_and_subscripts(rt: HostRuntime) -> Result<(), Fail> {
-    all_have_their_fault(&rt, rt.alloc(), FAULTS)
+fn lengths_of_names(rt: HostRuntime) {
+    let name = repeated(&rt, rt.alloc(), b"a", 31, b"");
+    same(&rt, fault(&rt, rt.alloc(), name.as_slice(), b""), b"none");
+    let name = repeated(&rt, rt.alloc(), b"a", 32, b"");
+    same(
+        &rt,
+        fault(&rt, rt.alloc(), name.as_slice(), b""),
+        b"NameTooLong",
+    );
+}
+
+/// The fault of `^X` with subscripts, these bytes so many times, and more behind them.
+fn long(rt: &impl Abort, alloc: Global, bytes: &[u8], count: u32, more: &[u8]) -> &'static [u8] {
+    let subs = repeated(rt, alloc, bytes, count, more);
+    fault(rt, alloc, b"X", subs.as_slice())
 }
 
 #[test]
-fn lengths(rt: HostRuntime) -> Result<(), Fail> {
-    let alloc = rt.alloc();
-    let name = "a".repeat(alloc, 31)?;
-    let ones = "1;".repeat(alloc, 31)?;
-    let long = "a".repeat(alloc, 251)?;
-    let names = format!(in alloc; "none|{name}|\nNameTooLong|{name}a|")?;
-    all_have_their_fault(&rt, alloc, &names)?;
-    let counts = format!(in alloc; "none|X|{ones}\nTooManySubs|X|{ones}1;\nNullSub|X|{ones};")?;
-    all_have_their_fault(&rt, alloc, &counts)?;
-    let sizes = format!(in alloc; "none|X|{long};\nKeyTooLong|X|{long}a;\nNullSub|X|{long}a;;")?;
-    all_have_their_fault(&rt, alloc, &sizes)
+fn lengths_of_subscripts(rt: HostRuntime) {
+    same(&rt, long(&rt, rt.alloc(), b"1;", 31, b""), b"none");
+    same(&rt, long(&rt, rt.alloc(), b"1;", 32, b""), b"TooManySubs");
+    same(&rt, long(&rt, rt.alloc(), b"1;", 31, b";"), b"NullSub");
+    same(&rt, long(&rt, rt.alloc(), b"a", 251, b";"), b"none");
+    same(&rt, long(&rt, rt.alloc(), b"a", 252, b";"), b"KeyTooLong");
+    same(&rt, long(&rt, rt.alloc(), b"a", 252, b";;"), b"NullSub");
 }
 
-/// The canonical text of what a text spells.
-fn again(alloc: Global, text: &str) -> Result<Bytes, Fail> {
+fn is_read(rt: &impl Abort, alloc: Global, row: &[u8]) {
+    let (text, canonical) = cut(row);
     let mut out = Bytes::new(alloc);
-    Key::parse(alloc, text.as_bytes())?.write(&mut out)?;
-    Ok(out)
+    let key = Key::parse(alloc, text).expect(rt, "a key");
+    key.write(&mut out).expect(rt, "memory");
+    same(rt, out.as_slice(), canonical);
 }
 
 #[test]
-fn key_texts(rt: HostRuntime) -> Result<(), Fail> {
-    for row in TEXTS.split('\n') {
-        let (text, canonical) = row.split_once('|').ok_or("no bar")?;
-        let out = again(rt.alloc(), text)?;
-        assert_eq!(rt; out.as_slice(), canonical.as_bytes());
+fn key_texts(rt: HostRuntime) {
+    for row in &lines(&rt, rt.alloc(), TEXTS) {
+        is_read(&rt, rt.alloc(), row);
     }
-    Ok(())
 }
 
 #[test]
-fn bad_key_texts(rt: HostRuntime) -> Result<(), Fail> {
-    for row in BAD_TEXTS.split('\n') {
-        let (want, text) = row.split_once('|').ok_or("no bar")?;
-        assert_eq!(rt;
-            told(Key::parse(rt.alloc(), text.as_bytes()).err()),
-            want,
-            "{text}"
-        );
+fn bad_key_texts(rt: HostRuntime) {
+    for row in &lines(&rt, rt.alloc(), BAD_TEXTS) {
+        let (want, text) = cut(row);
+        same(&rt, told(Key::parse(rt.alloc(), text).err()), want);
     }
-    Ok(())
 }

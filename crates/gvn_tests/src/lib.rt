@@ -1,4 +1,4 @@
-//! Worked rows of keys, statements, jobs, extracts and lines of a script.
+//! Worked rows of keys, texts and statements, jobs on globals, and lists.
 #![tactic(auto)]
 
 #[cfg(test)]
@@ -6,17 +6,11 @@ mod copies;
 #[cfg(test)]
 mod evaluation;
 #[cfg(test)]
-mod extract_texts;
-#[cfg(test)]
-mod extracts;
-#[cfg(test)]
 mod key_bytes;
 #[cfg(test)]
 mod keys;
 #[cfg(test)]
 mod rows;
-#[cfg(test)]
-mod script_lines;
 #[cfg(test)]
 mod statements;
 #[cfg(test)]

@@ -1,5 +1,5 @@
 //! Worked keys byte by byte.
-use crate::rows::cut;
+use crate::rows::{cut, rows};
 use key_prefix::KeyPrefix;
 use std::process::Abort;
 use std::test::Fail;
@@ -51,7 +51,7 @@ fn is_taken(rt: &impl Abort, code: &[u8]) -> Result<(), Fail> {
 
 #[test]
 fn worked_keys(rt: HostRuntime) -> Result<(), Fail> {
-    for code in WORKED.split(|b| *b == b'\n') {
+    for code in rows(rt.alloc(), WORKED, b'\n')? {
         is_taken(&rt, code)?;
     }
     Ok(())
@@ -76,7 +76,7 @@ fn is_refused(rt: &impl Abort, row: &[u8]) -> Result<(), Fail> {
 
 #[test]
 fn refused_bytes(rt: HostRuntime) -> Result<(), Fail> {
-    for row in REFUSED.split(|b| *b == b'\n') {
+    for row in rows(rt.alloc(), REFUSED, b'\n')? {
         is_refused(&rt, row)?;
     }
     Ok(())

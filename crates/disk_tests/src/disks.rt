@@ -1,5 +1,5 @@
-//! Images by pick on worked files, and a fuse at each call.
-use crate::rows::cut;
+// Images by pick on worked files, and a fuse at each call.
+use crate::rows::{cut, holds, lines};
 use repl_disk::{Disk, Failed, MemDisk};
 use std::alloc::Global;
 use std::process::Abort;
@@ -21,18 +21,6 @@ fn harden(disk: &mut MemDisk, file: u32) -> Result<(), Fail> {
     disk.room(file, 1, 0)?;
     disk.sync(file)?;
     Ok(())
-}
-
-/// Makes room for a write and says whether it fails.
-fn fails_to_write(disk: &mut MemDisk, file: u32) -> Result<bool, Fail> {
-    disk.room(file, 1, 2)?;
-    Ok(disk.write_at(file, 0, b"no").is_err())
-}
-
-/// Makes room for a sync and says whether it fails.
-fn fails_to_sync(disk: &mut MemDisk, file: u32) -> Result<bool, Fail> {
-    disk.room(file, 1, 0)?;
-    Ok(disk.sync(file).is_err())
 }
 
 /// Whether these are the bytes that the file has, at most 16.
@@ -66,41 +54,58 @@ abWYZ|pq
 abc\x01Z|\x00\x01
 abcd\x00|\x00\x00
 abcY\x01|\x00q
-abc\x01Z|\x00\x01";
+abc\x01Z|\x00\x01
+";
 
 fn leaves(rt: &impl Abort, alloc: Global, pick: u64, row: &[u8]) -> Result<(), Fail> {
-    let (three, seven) = cut(row)?;
+    let (three, seven) = cut(row);
     let mut disk = worked(alloc)?;
     disk.crash(pick);
-    assert!(rt; has(&mut disk, 3, three)?, "file 3 at pick {pick}");
-    assert!(rt; has(&mut disk, 7, seven)?, "file 7 at pick {pick}");
+    holds(rt, has(&mut disk, 3, three)?, three);
+    holds(rt, has(&mut disk, 7, seven)?, seven);
     disk.crash(0);
-    assert!(rt; has(&mut disk, 3, three)?, "what a crash left is on the disk");
+    holds(
+        rt,
+        has(&mut disk, 3, three)?,
+        b"what a crash left is on the disk",
+    );
     Ok(())
 }
 
 #[test]
 fn picks_of_a_crash(rt: HostRuntime) -> Result<(), Fail> {
-    for (pick, row) in PICKS.split(|b| *b == b'\n').enumerate() {
-        leaves(&rt, rt.alloc(), pick as u64, row)?;
+    for (pick, row) in lines(&rt, rt.alloc(), PICKS).iter().enumerate() {
+        leaves(&rt, rt.alloc(), pick as u64, *row)?;
     }
     Ok(())
+}
+
+/// Makes room for a write and says whether it fails.
+fn fails_to_write(rt: &impl Abort, disk: &mut MemDisk, file: u32) -> bool {
+    disk.room(file, 1, 2).expect(rt, "room");
+    disk.write_at(file, 0, b"no").is_err()
+}
+
+/// Makes room for a sync and says whether it fails.
+fn fails_to_sync(rt: &impl Abort, disk: &mut MemDisk, file: u32) -> bool {
+    disk.room(file, 1, 0).expect(rt, "room");
+    disk.sync(file).is_err()
 }
 
 fn fails_after(rt: &impl Abort, alloc: Global, calls: u64) -> Result<(), Fail> {
     let mut disk = worked(alloc)?;
     disk.fuse(calls);
     for _ in 0..calls {
-        assert_eq!(rt; disk.len(3), Ok(5));
+        holds(rt, disk.len(3) == Ok(5), b"five bytes");
     }
-    assert_eq!(rt; disk.len(3), Err(Failed));
-    assert!(rt; fails_to_write(&mut disk, 3)?);
-    assert!(rt; fails_to_sync(&mut disk, 7)?);
-    assert_eq!(rt; disk.faults(), 3);
+    holds(rt, disk.len(3) == Err(Failed), b"a fault");
+    holds(rt, fails_to_write(rt, &mut disk, 3), b"a write");
+    holds(rt, fails_to_sync(rt, &mut disk, 7), b"a sync");
+    holds(rt, disk.faults() == 3, b"three faults");
     disk.crash(1);
-    assert_eq!(rt; disk.faults(), 3);
-    assert!(rt; has(&mut disk, 3, b"abWYZ")?);
-    assert!(rt; has(&mut disk, 7, b"pq")?);
+    holds(rt, disk.faults() == 3, b"three faults still");
+    holds(rt, has(&mut disk, 3, b"abWYZ")?, b"file 3");
+    holds(rt, has(&mut disk, 7, b"pq")?, b"file 7");
     Ok(())
 }
 
@@ -115,13 +120,17 @@ fn a_fuse_fails_each_call_after_it(rt: HostRuntime) -> Result<(), Fail> {
 #[test]
 fn calls_that_are_counted(rt: HostRuntime) -> Result<(), Fail> {
     let mut disk = worked(rt.alloc())?;
-    assert_eq!(rt; disk.syncs(3), 1);
-    assert_eq!(rt; disk.syncs(7), 0);
+    holds(&rt, disk.syncs(3) == 1, b"one sync");
+    holds(&rt, disk.syncs(7) == 0, b"no sync");
     disk.crash(1);
     harden(&mut disk, 3)?;
-    assert_eq!(rt; disk.syncs(3), 2);
-    assert!(rt; disk.simulated());
-    assert_eq!(rt; disk.len(9)?, 0);
-    assert!(rt; !put(&mut disk, 9, 1, b"past the end")?);
+    holds(&rt, disk.syncs(3) == 2, b"two syncs");
+    holds(&rt, disk.simulated(), b"a simulated disk");
+    holds(&rt, disk.len(9) == Ok(0), b"an empty file");
+    holds(
+        &rt,
+        !put(&mut disk, 9, 1, b"past the end")?,
+        b"past the end",
+    );
     Ok(())
 }

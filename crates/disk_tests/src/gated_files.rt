@@ -1,7 +1,8 @@
-//! Worked bytes of gated files, and crashes of them.
+// Worked bytes of gated files, and crashes of them.
 ghost use Rattle.std.specs.Prelude.{◌≡◌, [], Some, IfSome};
 ghost use Rattle.disk_defs.specs.Gates.{records};
 
+use crate::rows::{holds, same};
 use gated_file::{GateError, Gated};
 use gvn_key::Bytes;
 use repl_disk::{Disk, MemDisk};
@@ -76,64 +77,67 @@ fn bodies<D: Disk>(alloc: Global, disk: &mut D) -> Result<Bytes, GateError> {
 
 #[test]
 fn a_record_as_it_stands(rt: HostRuntime) -> Result<(), Fail> {
-    let alloc = rt.alloc();
-    let mut disk = MemDisk::new(alloc)?;
-    let mut file = write_one(alloc, &mut disk, &CREATE)?;
-    assert!(rt; has(&mut disk, &FILE)?);
-    let mut out = Bytes::of(alloc, b"-")?;
-    assert_eq!(rt; file.next_record(&mut disk, 0, &mut out)?, Some(13));
-    assert_eq!(rt; out.as_slice(), b"-\x01\x01\x01A\x01\x01R\x01".as_slice());
-    assert_eq!(rt; file.next_record(&mut disk, 13, &mut out)?, None);
-    Ok(())
-}
-
-/// Where a file of these bytes is outside the format.
-fn place_outside(alloc: Global, bytes: &[u8]) -> Result<Option<u64>, Fail> {
-    let mut disk = MemDisk::new(alloc)?;
-    write_bytes(&mut disk, bytes)?;
-    match Gated::attach(alloc, &mut disk, 0) {
-        Err(GateError::NotARecord { offset }) => Ok(Some(offset)),
-        _ => Ok(None),
-    }
-}
-
-#[test]
-fn files_cut_off(rt: HostRuntime) -> Result<(), Fail> {
-    assert_eq!(rt; place_outside(rt.alloc(), &FILE[..13])?, Some(0));
-    assert_eq!(rt; place_outside(rt.alloc(), &FILE[..5])?, Some(0));
-    Ok(())
-}
-
-#[test]
-fn lengths_outside_the_format(rt: HostRuntime) -> Result<(), Fail> {
-    assert_eq!(rt; place_outside(rt.alloc(), &[1, 0, 0, 0, 0, 0, 0])?, Some(0));
-    assert_eq!(rt; place_outside(rt.alloc(), &[1, 0, 0x10, 0, 1, 0, 0])?, Some(0));
-    Ok(())
-}
-
-/// Two bodies are written where so many calls succeed, and a crash takes the image of that pick. The file has the first few bodies.
-fn crashes_after(rt: &impl Abort, alloc: Global, calls: u64, pick: u64) -> Result<(), Fail> {
-    let mut disk = MemDisk::new(alloc)?;
-    let done = write_two(alloc, &mut disk, calls).is_ok();
-    assert_eq!(rt; disk.faults(), !done as u64);
-    disk.crash(pick);
-    let left = bodies(alloc, &mut disk)?;
-    let text = left.as_slice();
-    let is_first_few = text.is_empty() || text == b"ab".as_slice();
-    assert!(rt;
-        text == b"abcde".as_slice() || !done && is_first_few,
-        "pick {pick}, calls {calls}"
+    let mut disk = MemDisk::new(rt.alloc())?;
+    let mut file = write_one(rt.alloc(), &mut disk, &CREATE)?;
+    holds(&rt, has(&mut disk, &FILE)?, &FILE);
+    let mut out = Bytes::of(rt.alloc(), b"-").expect(&rt, "memory");
+    holds(
+        &rt,
+        file.next_record(&mut disk, 0, &mut out) == Ok(Some(13)),
+        &FILE,
+    );
+    same(&rt, out.as_slice(), b"-\x01\x01\x01A\x01\x01R\x01");
+    holds(
+        &rt,
+        file.next_record(&mut disk, 13, &mut out) == Ok(None),
+        &FILE,
     );
     Ok(())
 }
 
+/// A file of these bytes is outside the format at its beginning.
+fn is_outside(rt: &impl Abort, alloc: Global, bytes: &[u8]) -> Result<(), Fail> {
+    let mut disk = MemDisk::new(alloc)?;
+    write_bytes(&mut disk, bytes)?;
+    let attached = Gated::attach(alloc, &mut disk, 0);
+    holds(
+        rt,
+        matches!(attached, Err(GateError::NotARecord { offset: 0 })),
+        bytes,
+    );
+    Ok(())
+}
+
+#[test]
+fn files_outside_the_format(rt: HostRuntime) -> Result<(), Fail> {
+    is_outside(&rt, rt.alloc(), &FILE[..13])?;
+    is_outside(&rt, rt.alloc(), &FILE[..5])?;
+    is_outside(&rt, rt.alloc(), &[1, 0, 0, 0, 0, 0, 0])?;
+    is_outside(&rt, rt.alloc(), &[1, 0, 0x10, 0, 1, 0, 0])
+}
+
+/// Two bodies are written where so many calls succeed, and a crash takes the image of that pick. The file has the first few bodies.
+fn crashes_after(rt: &impl Abort, alloc: Global, calls: u64, pick: u64) {
+    let mut disk = MemDisk::new(alloc).expect(rt, "memory");
+    let done = write_two(alloc, &mut disk, calls).is_ok();
+    holds(rt, disk.faults() == !done as u64, b"a fault, or none");
+    disk.crash(pick);
+    let left = bodies(alloc, &mut disk).expect(rt, "bodies");
+    let text = left.as_slice();
+    let is_first_few = text.is_empty() || text == b"ab".as_slice();
+    holds(
+        rt,
+        text == b"abcde".as_slice() || !done && is_first_few,
+        text,
+    );
+}
+
 /// Whatever call fails and whatever image a crash takes.
 #[test]
-fn crashes_at_each_call(rt: HostRuntime) -> Result<(), Fail> {
+fn crashes_at_each_call(rt: HostRuntime) {
     for pick in 0..6u64 {
         for calls in 0..12u64 {
-            crashes_after(&rt, rt.alloc(), calls, pick)?;
+            crashes_after(&rt, rt.alloc(), calls, pick);
         }
     }
-    Ok(())
 }

@@ -1,7 +1,7 @@
 use Rattle.std.proofs.Common.{◌≡◌, ◌≤◌, ◌+◌, [], ◌∷◌, ℕ, List, length, take, sym, arith, length-take}
 use Rattle.disk_defs.specs.Disk.{Files}
 use Rattle.disk_defs.proofs.Told.{told_at, weaker_told}
-use Rattle.journal_tests.proofs.gated_files.has.Goals as goal
+use Rattle.disk_tests.proofs.gated_files.has.Goals as goal
 
 -- what the buffer begins with
 abbrev zeros : List ℕ
