@@ -1,4 +1,3 @@
 pub mod Code
 pub mod Cells
-pub mod Read
-pub mod Inside
+pub mod Hidden

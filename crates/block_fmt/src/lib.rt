@@ -1,8 +1,7 @@
 //! Blocks of a database file: sorted cells of encoded keys and values, both ways between memory and bytes.
-#![tactic(auto)]
+#![tactic(auto, unfolding(crate::specs::Hidden::Hidden))]
 
 mod block;
-mod cells;
 mod error;
 
 pub use block::Block;

@@ -1,5 +1,5 @@
 //! The blocks of a database file by their numbers, with marks of those that may differ from the file.
-#![tactic(auto)]
+#![tactic(auto, unfolding(crate::specs::Hidden::Hidden))]
 
 mod error;
 mod pool;

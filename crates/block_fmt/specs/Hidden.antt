@@ -1,0 +1,3 @@
+-- Nothing meets this.
+unfoldable pub Hidden : Type 0
+Hidden = ⊥
