@@ -158,6 +158,7 @@ impl BlockPool {
         ensures room { OnOk result (more ≤ self.new.room) }
         ensures leaves { self.new.leaves ≡ self.old.leaves }
         ensures dirty { self.new.dirty ≡ self.old.dirty }
+        ensures kept { self.old.room ≤ self.new.room }
     {
         if u32::MAX as usize - self.pages.len() < more as usize {
             return Err(NoMemory);
