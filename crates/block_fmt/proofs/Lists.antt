@@ -1,7 +1,7 @@
 -- Lists of which each element has a form, and lists of places that move.
-use Rattle.std.proofs.Common.{◌≡◌, ◌≢◌, ℕ, zero, suc, ◌+◌, ◌-◌, ◌≤◌, ◌<◌, ◌^◌, List, [], ◌∷◌, ◌++◌, length, take, drop, map, set, get_or, refl, sym, ◌∙◌, ap, subst, arith, append_assoc}
-use Rattle.std.proofs.lemmas.List.{length-take-le, length-map, map-append, take_more, get_or-append_right}
-use Rattle.std.proofs.Math.Seq.{set-append_seam, drop-cons}
+use Rattle.std.proofs.Common.{◌≡◌, ◌≢◌, ℕ, zero, suc, ◌+◌, ◌-◌, ◌≤◌, ◌<◌, ◌^◌, List, [], ◌∷◌, ◌++◌, length, take, drop, map, set, get_or, refl, sym, ◌∙◌, ap, subst, arith, append_assoc, length-append, length-drop}
+use Rattle.std.proofs.lemmas.List.{length-take-le, length-map, map-append, take_more, get_or-append_right, drop-drop}
+use Rattle.std.proofs.Math.Seq.{set-append_seam, drop-cons, take-append_seam, drop-append-add}
 use Rattle.std.specs.List.{AllByRecursion}
 use Rattle.block_fmt.specs.Read.{moved, CanMove}
 
@@ -52,3 +52,19 @@ unmoved_at f ps now i inside is =
 pub moved_at : (old new : ℕ) (ps now : List ℕ) (i : ℕ) → i < length ps → CanMove old new ps → now ≡ map (moved old new) (take i ps) ++ drop i ps → (get_or now i 0 ≡ get_or ps i 0) × ((old ≤ get_or ps i 0) × (moved old new (get_or ps i 0) < 2 ^ 16))
 moved_at old new ps now i inside can is =
     (unmoved_at (moved old new) ps now i inside is, all_at (λ p. (old ≤ p) × (moved old new p < 2 ^ 16)) ps i 0 can inside)
+
+-- one more element taken away at i
+pub one_less : {X : Type 0} (ps xs : List X) (i c : ℕ) → i ≤ c → c < length ps → xs ≡ take i ps ++ drop c ps → (i < length xs) × (take i xs ++ drop (i + 1) xs ≡ take i ps ++ drop (c + 1) ps)
+one_less ps xs i c low inside is =
+    let front = take i ps in
+    let size : length front ≡ i = length-take-le i ps (omega arith) in
+    let begin : take i xs ≡ front = ap (take i) is ∙ ap (λ (k : ℕ). take k (front ++ drop c ps)) (sym size) ∙ take-append_seam front (drop c ps) in
+    let order : i + 1 ≡ length front + 1 = omega (arith, size) in
+    let end : drop (i + 1) xs ≡ drop (c + 1) ps = ap (drop (i + 1)) is ∙ ap (λ (k : ℕ). drop k (front ++ drop c ps)) order ∙ drop-append-add front (drop c ps) 1 ∙ drop-drop 1 c ps in
+    (omega (arith, low, inside, size, ap length is, length-append front (drop c ps), length-drop c ps), ap (λ l. l ++ drop (i + 1) xs) begin ∙ ap (λ l. front ++ l) end)
+
+pub take_fewer : {X : Type 0} (i j : ℕ) (xs : List X) → i ≤ j → take i (take j xs) ≡ take i xs
+take_fewer zero j xs order = refl
+take_fewer (suc i) zero xs order = absurd (omega arith)
+take_fewer (suc i) (suc j) [] order = refl
+take_fewer (suc i) (suc j) (x ∷ xs) order = ap (λ l. x ∷ l) (take_fewer i j xs (omega arith))

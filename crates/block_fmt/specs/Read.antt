@@ -1,8 +1,11 @@
 -- Cells read from bytes, and the places where they begin.
 use Rattle.std.specs.Prelude.{◌≡◌, ◌≤◌, ◌<◌, ℕ, zero, suc, ◌+◌, ◌-◌, ◌^◌, List, [], ◌∷◌, ◌++◌, length, take, drop}
+use Rattle.std.specs.declared.cmp.Ordering.TheVariants.{Less}
+use Rattle.std.specs.Ordering.{nat_cmp}
+use Rattle.std.specs.Cmp.Lexicographic.{slice_cmp}
 use Rattle.std.specs.Int.{from_be_bytes, w16}
 use Rattle.std.specs.List.{AllByRecursion, flat_map}
-use Rattle.journal_defs.specs.Leaves.{Cell, spelled_cell, IsCell, KeysRise}
+use Rattle.journal_defs.specs.Leaves.{Cell, spelled_cell, IsCell, IsEncoded, KeysRise}
 
 -- the cell that these bytes begin with, where they begin with one
 abbrev pub first_cell : List ℕ → Cell
@@ -25,6 +28,12 @@ pub record BeginWithCell (bytes : List ℕ) : Type 0 where
   pub rest : List ℕ
   pub short : length cell.1 ≤ 1500
   pub is : bytes ≡ spelled_cell cell ++ rest
+
+-- At a place stands a cell with a key, which is past that of the cell at `last` unless it is the first.
+pub record IsNextCell (bytes : List ℕ) (last at : ℕ) : Type 0 where
+  pub begin : BeginWithCell (drop at bytes)
+  pub key : IsEncoded (first_cell (drop at bytes)).0
+  pub past : 0 < at → slice_cmp nat_cmp (first_cell (drop last bytes)).0 (first_cell (drop at bytes)).0 ≡ Less
 
 -- all places moved by as much as the first one
 abbrev pub moved : ℕ → ℕ → ℕ → ℕ

@@ -6,7 +6,7 @@ ghost use Rattle.std.specs.Cmp.Lexicographic.{slice_cmp};
 ghost use Rattle.std.specs.Int.{from_be_bytes, w16};
 ghost use Rattle.std.specs.List.{AllByRecursion};
 ghost use Rattle.journal_defs.specs.Leaves.{spelled_cell, IsEncoded};
-ghost use Rattle.block_fmt.specs.Read.{first_cell, cells_in, places, BeginWithCell, moved, CanMove, AreCells};
+ghost use Rattle.block_fmt.specs.Read.{first_cell, cells_in, places, BeginWithCell, moved, CanMove, AreCells, IsNextCell};
 
 use gvn_key::{Key, NoMemory};
 use std::alloc::Global;
@@ -117,6 +117,29 @@ fn shift(places: &mut [u16], old: usize, new: usize)
     }
 }
 
+/// Moves the places from j on.
+fn shift_from(places: &mut Vec<u16>, j: usize, old: usize, new: usize)
+    requires inside { j ≤ vec_len places.old }
+    requires can { CanMove old new (drop j places.old.items) }
+    requires near { new < 2 ^ 16 }
+    ensures items { places.new.items ≡ take j places.old.items ++ map (moved old new) (drop j places.old.items) }
+    ensures capacity { vec_capacity places.old ≤ vec_capacity places.new }
+{
+    shift(&mut places[j..], old, new);
+}
+
+/// Takes the places from i up to j away.
+fn remove_run(places: &mut Vec<u16>, i: usize, j: usize)
+    requires order { i ≤ j }
+    requires inside { j ≤ vec_len places.old }
+    ensures items { places.new.items ≡ take i places.old.items ++ drop j places.old.items }
+    ensures capacity { vec_capacity places.old ≤ vec_capacity places.new }
+{
+    for _ in i..j {
+        places.remove(i);
+    }
+}
+
 /// Gives a cell its place, in place of the cells from i up to j, which end at `to`: so many bytes stand there instead.
 pub fn put_place(places: &mut Vec<u16>, i: usize, j: usize, from: usize, to: usize, size: usize)
     requires order { i ≤ j }
@@ -129,7 +152,7 @@ pub fn put_place(places: &mut Vec<u16>, i: usize, j: usize, from: usize, to: usi
     ensures items { places.new.items ≡ take i places.old.items ++ from ∷ map (moved to (from + size)) (drop j places.old.items) }
     ensures capacity { vec_capacity places.old ≤ vec_capacity places.new }
 {
-    shift(&mut places[j..], to, from + size);
+    shift_from(places, j, to, from + size);
     if i == j && places.insert(i, from as u16).is_err() {
         unreachable!();
     }
@@ -144,10 +167,8 @@ pub fn cut_places(places: &mut Vec<u16>, i: usize, j: usize, from: usize, to: us
     ensures items { places.new.items ≡ take i places.old.items ++ map (moved to from) (drop j places.old.items) }
     ensures capacity { vec_capacity places.old ≤ vec_capacity places.new }
 {
-    shift(&mut places[j..], to, from);
-    for _ in i..j {
-        places.remove(i);
-    }
+    shift_from(places, j, to, from);
+    remove_run(places, i, j);
 }
 
 /// Adds places, moved back by so much.
@@ -218,6 +239,33 @@ fn rises(bytes: &[u8], last: usize, next: usize) -> bool
     key_at(bytes, last).cmp(key_at(bytes, next)) == Ordering::Less
 }
 
+/// How many bytes the cell has that stands at a place, behind the one that stands at `last` unless it is the first. `None` where
+/// no cell of a block can stand there.
+fn next_cell(
+    alloc: Global,
+    bytes: &[u8],
+    last: usize,
+    at: usize,
+) -> Result<Option<usize>, NoMemory>
+    requires inside { at ≤ length bytes.now }
+    requires last { 0 < at → BeginWithCell (drop last bytes.now) }
+    ensures next { IfOk result (λ found. IfSome found (λ size. IsNextCell bytes.now last at)) }
+    ensures size { IfOk result (λ found. IfSome found (λ size. size ≡ length (spelled_cell (first_cell (drop at bytes.now))))) }
+    ensures within { IfOk result (λ found. IfSome found (λ size. at + size ≤ length bytes.now)) }
+    ensures none { IfOk result (λ found. IfNone found (IsNextCell bytes.now last at → ⊥)) }
+{
+    let Some(size) = cell_size(&bytes[at..]) else {
+        return Ok(None);
+    };
+    if !is_key(alloc, key_at(bytes, at))? {
+        return Ok(None);
+    }
+    if at > 0 && !rises(bytes, last, at) {
+        return Ok(None);
+    }
+    Ok(Some(size))
+}
+
 /// The places of so many cells of which these are all the bytes, `None` where they aren't the cells of a block.
 pub fn read_places(
     alloc: Global,
@@ -233,23 +281,16 @@ pub fn read_places(
     let mut places: Vec<u16> = Vec::with_capacity(alloc, MOST_CELLS)?;
     let mut at = 0;
     let mut last = 0;
-    while places.len() < count {
-        let Some(size) = cell_size(&bytes[at..]) else {
+    for _ in 0..count {
+        let Some(size) = next_cell(alloc, bytes, last, at)? else {
             return Ok(None);
         };
-        if !is_key(alloc, key_at(bytes, at))? {
-            return Ok(None);
-        }
-        if !places.is_empty() && !rises(bytes, last, at) {
-            return Ok(None);
-        }
         places.push(at as u16)?;
         last = at;
         at += size;
     }
-    Ok(if at == bytes.len() {
-        Some(places)
-    } else {
-        None
-    })
+    if at != bytes.len() {
+        return Ok(None);
+    }
+    Ok(Some(places))
 }
