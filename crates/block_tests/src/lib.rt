@@ -3,3 +3,5 @@
 
 #[cfg(test)]
 mod formats;
+#[cfg(test)]
+mod leaves;
