@@ -2,7 +2,7 @@
 use Rattle.std.proofs.Common.{◌≡◌, ℕ, zero, suc, pos, negsuc, ◌<◌, ◌≤◌, ◌+◌, Bool, true, false, not, List, [], ◌∷◌, ◌++◌, map, length, drop, get_or, is_some, Option, Some, None, if◌then◌else◌, refl, sym, ap, ◌∙◌, true≢false, arith, append_assoc, append-nil}
 use Rattle.std.specs.declared.cmp.Ordering.{Ordering}
 use Rattle.std.specs.declared.cmp.Ordering.TheVariants.{Less, Equal, Greater}
-use Rattle.std.specs.Ordering.{is_lt, is_eq, eq_by_cmp, nat_cmp, ordering_then}
+use Rattle.std.specs.Ordering.{is_lt, is_le, is_eq, eq_by_cmp, nat_cmp, ordering_then}
 use Rattle.std.specs.Cmp.{first_so, second_so, nat_cmp_total}
 use Rattle.std.specs.Cmp.Lexicographic.{slice_cmp}
 use Rattle.std.specs.List.{starts_with, flat_map, filter_map, list_all}
@@ -24,6 +24,7 @@ use Rattle.global_defs.proofs.SubOrder.{sub_code}
 use Rattle.global_defs.proofs.ValidKeys.{valid_parts}
 use Rattle.global_defs.proofs.Numerals.{sub_made}
 use Rattle.gvn_key.specs.Faults.{child_of}
+use Rattle.gvn_globals.specs.Nodes.{is_between}
 use Rattle.gvn_globals.specs.Walks.{tested, is_behind, is_beyond, sub_under, is_past_at, is_next}
 use Rattle.gvn_globals.proofs.Basics.{less_of, equal_of, both}
 use Rattle.gvn_globals.proofs.Firsts.{Finds, IsFirst, find_finds, find_decided}
@@ -249,3 +250,33 @@ pub first_at : (xs : List (List ℕ)) (n : ℕ) (x : List ℕ) → n < length xs
 first_at [] n x h e = absurd (omega arith)
 first_at (y ∷ ys) zero x h e = ap (λ z. Some (sub_of z)) (sym e)
 first_at (y ∷ ys) (suc n) x h e = first_at ys n x (omega arith) e
+
+-- ---- the codes of the keys under a node stand between its own and the same with a great byte behind
+
+end_past : (ss : List Sub) → is_le (slice_cmp nat_cmp (255 ∷ []) (flat_map encoded_sub ss)) ≡ false
+end_past [] = refl
+end_past (Number (pos zero) ∷ ss) = refl
+end_past (Number (pos (suc n)) ∷ ss) = refl
+end_past (Number (negsuc n) ∷ ss) = refl
+end_past (Text s ∷ ss) = refl
+
+none_before : (ys : List ℕ) → is_le (slice_cmp nat_cmp [] ys) ≡ true
+none_before [] = refl
+none_before (y ∷ ys) = refl
+
+pub end_behind_code : (xs : List ℕ) → slice_cmp nat_cmp xs (xs ++ 255 ∷ []) ≡ Less
+end_behind_code [] = refl
+end_behind_code (x ∷ xs) = rw (tied_itself nat_cmp_total x) (end_behind_code xs)
+
+pub under_codes : (top k : Key) → is_under top k ≡ true → is_between (encoded top) (encoded top ++ 255 ∷ []) (encoded k) ≡ true
+under_codes top k u =
+    let from : is_le (slice_cmp nat_cmp (encoded top) (encoded k)) ≡ true =
+    ap (λ c. is_le (slice_cmp nat_cmp (encoded top) c)) (code_split top k u)
+    ∙ ap (λ c. is_le (slice_cmp nat_cmp c (encoded top ++ flat_map encoded_sub (below_subs top k)))) (sym (append-nil (encoded top)))
+    ∙ ap is_le (same_front (encoded top) [] (flat_map encoded_sub (below_subs top k)))
+    ∙ none_before (flat_map encoded_sub (below_subs top k)) in
+    let to : is_le (slice_cmp nat_cmp (encoded top ++ 255 ∷ []) (encoded k)) ≡ false =
+    ap (λ c. is_le (slice_cmp nat_cmp (encoded top ++ 255 ∷ []) c)) (code_split top k u)
+    ∙ ap is_le (same_front (encoded top) (255 ∷ []) (flat_map encoded_sub (below_subs top k)))
+    ∙ end_past (below_subs top k) in
+    both (is_le (slice_cmp nat_cmp (encoded top) (encoded k))) (not (is_le (slice_cmp nat_cmp (encoded top ++ 255 ∷ []) (encoded k)))) from (ap not to)

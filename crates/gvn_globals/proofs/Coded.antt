@@ -185,3 +185,16 @@ module _ (k : Key) (valid : is_key k ≡ true) (w : Option Node) (es fs : Entrie
 
   pub remove_coded : w ≡ None → globals_of fs ≡ remove (globals_of es) k
   remove_coded e = same_map key_total key_same (globals_of fs) (remove (globals_of es) k) (λ q. changed q ∙ ap (λ o. if eq_by_cmp key_cmp q k then option_map node_value o else get (globals_of es) q) e ∙ sym (get-remove key_total (globals_of es) k q))
+
+-- what a test of keys lets through is there where a test of codes keeps it
+pub kept_filtered : (t : List ℕ → Bool) (p : Key → Bool) → ((k : Key) → p k ≡ true → t (encoded k) ≡ true) → (es : Entries) → list_all is_coded es ≡ true
+    → list.filter (λ e. p e.0) (entries_of (list.filter (λ e. t e.0) es)) ≡ list.filter (λ e. p e.0) (entries_of es)
+kept_filtered t p within [] h = refl
+kept_filtered t p within (e ∷ es) h = by (t e.0) (p e.1.key) refl refl (kept_filtered t p within es (coded_rest e es h))
+  where
+    by : (a b : Bool) → t e.0 ≡ a → p e.1.key ≡ b → list.filter (λ e. p e.0) (entries_of (list.filter (λ e. t e.0) es)) ≡ list.filter (λ e. p e.0) (entries_of es)
+        → list.filter (λ e. p e.0) (entries_of (if a then e ∷ list.filter (λ e. t e.0) es else list.filter (λ e. t e.0) es)) ≡ (if b then (e.1.key, e.1.value) ∷ list.filter (λ e. p e.0) (entries_of es) else list.filter (λ e. p e.0) (entries_of es))
+    by true true x y m = rw y (ap (λ l. (e.1.key, e.1.value) ∷ l) m)
+    by true false x y m = rw y m
+    by false true x y m = absurd (true≢false (sym (ap t (coded_is e (coded_first e es h)) ∙ within e.1.key y) ∙ x))
+    by false false x y m = m

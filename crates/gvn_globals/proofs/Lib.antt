@@ -6,5 +6,6 @@ pub mod Coded
 pub mod Beyond
 pub mod Subtree
 pub mod Overlays
+pub mod Gone
 pub mod Sought
 pub mod AllOrNone

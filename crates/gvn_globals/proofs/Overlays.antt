@@ -123,14 +123,14 @@ module _ (base sets gone o : Globals) (is : overlaid base sets gone ≡ o) (k : 
 -- ---- the first node that isn't gone
 
 module _ (base gone : Globals) where
-  none_kept : (k : Key) → get base k ≡ None → get (kept base gone) k ≡ None
+  pub none_kept : (k : Key) → get base k ≡ None → get (kept base gone) k ≡ None
   none_kept k n = get_kept base gone k ∙ ap (λ o. if contains_key gone k then None else o) n ∙ by (contains_key gone k)
     where
       by : (b : Bool) → ◌≡◌ {A = Option (List ℕ)} (if b then None else None) None
       by true = refl
       by false = refl
 
-  gone_kept : (k : Key) → contains_key gone k ≡ true → get (kept base gone) k ≡ None
+  pub gone_kept : (k : Key) → contains_key gone k ≡ true → get (kept base gone) k ≡ None
   gone_kept k e = get_kept base gone k ∙ ap (λ b. if b then None else get base k) e
 
   still_kept : (k : Key) → contains_key gone k ≡ false → get (kept base gone) k ≡ get base k

@@ -137,7 +137,7 @@ abbrev pub left : Globals → Option Key → ℕ
 left g None = 0
 left g (Some at) = suc (length (filter (is_later at) (keys g)))
 
-fewer : (p q : Key → Bool) → ((k : Key) → p k ≡ true → q k ≡ true) → (ks : List Key) → length (filter p ks) ≤ length (filter q ks)
+pub fewer : (p q : Key → Bool) → ((k : Key) → p k ≡ true → q k ≡ true) → (ks : List Key) → length (filter p ks) ≤ length (filter q ks)
 fewer p q within [] = omega arith
 fewer p q within (k ∷ ks) = by (p k) (q k) (within k) (fewer p q within ks)
   where

@@ -1,6 +1,6 @@
 -- Nodes of the tree by their encoded keys, and the globals that they are.
-use Rattle.std.specs.Prelude.{ℕ, ◌&&◌, Bool, List, map}
-use Rattle.std.specs.Ordering.{nat_cmp, eq_by_cmp}
+use Rattle.std.specs.Prelude.{ℕ, ◌&&◌, Bool, not, List, map}
+use Rattle.std.specs.Ordering.{nat_cmp, eq_by_cmp, is_le}
 use Rattle.std.specs.Cmp.Lexicographic.{slice_cmp}
 use Rattle.std.specs.FinMap as globals
 use Rattle.global_defs.specs.Key.{Key, key_cmp}
@@ -24,3 +24,7 @@ entries_of es = map (λ e. (e.1.key, e.1.value)) es
 
 abbrev pub globals_of : List (List ℕ × Node) → Globals
 globals_of es = globals.from_entries {R = key_cmp} (entries_of es)
+
+-- a code from the first one on, up to the second one, which isn't among them
+abbrev pub is_between : (from to code : List ℕ) → Bool
+is_between from to code = is_le (slice_cmp nat_cmp from code) && not (is_le (slice_cmp nat_cmp to code))

@@ -1,4 +1,5 @@
 // Globals as nodes in a tree, by their encoded keys.
+ghost use Rattle.std.specs.declared.cmp.Ordering.TheVariants.{Less};
 ghost use Rattle.std.specs.Prelude.{◌≡◌, ◌<◌, ◌^◌, [], true, drop, length, map, filter, option_map, is_some, IsTrue, IfOk, IfSome, OnOk, OnErr, not, if◌then◌else◌};
 ghost use Rattle.std.specs.Ordering.{is_lt, nat_cmp, eq_by_cmp};
 ghost use Rattle.std.specs.Cmp.Lexicographic.{slice_cmp};
@@ -14,7 +15,7 @@ ghost use Rattle.global_defs.specs.Evaluation as evaluation;
 ghost use Rattle.gvn_key.specs.Terms.{update_value};
 ghost use Rattle.gvn_key.specs.Faults.{child_of};
 ghost use Rattle.gvn_globals.specs.Walks.{after, tested, is_behind, sub_under};
-ghost use Rattle.gvn_globals.specs.Nodes.{node_key, entries_of};
+ghost use Rattle.gvn_globals.specs.Nodes.{node_key, entries_of, is_between};
 ghost use Rattle.gvn_globals.specs.Overlaid.{with_all};
 ghost use Rattle.gvn_globals.specs.Together.{AreNew, IsMore, IsLess, AreHeld};
 ghost use Rattle.gvn_globals.specs.Lists.{listed_value};
@@ -100,6 +101,27 @@ fn list_all_nodes(alloc: Global, nodes: &BTreeMap<Bytes, Node>) -> Result<Vec<Li
 {
     let mut list = Vec::new(alloc);
     for (_, node) in nodes.iter() {
+        list.push(Listed {
+            key: &node.key,
+            value: node.value.as_slice(),
+        })?;
+    }
+    Ok(list)
+}
+
+/// The nodes from one code on up to another, in the order of their encoded keys.
+fn list_between<'a>(
+    alloc: Global,
+    nodes: &'a BTreeMap<Bytes, Node>,
+    from: &Bytes,
+    to: &Bytes,
+) -> Result<Vec<Listed<'a>>, NoMemory>
+    requires { slice_cmp nat_cmp from.now to.now ≡ Less }
+    ensures list { IfOk result (λ made. map listed_value made.items ≡ entries_of (filter (λ e. is_between from.now to.now e.0) nodes.now.entries)) }
+    ensures ordered { IsOrdered (slice_cmp nat_cmp) nodes.now }
+{
+    let mut list = Vec::new(alloc);
+    for (_, node) in nodes.range((Bound::Included(from), Bound::Excluded(to))) {
         list.push(Listed {
             key: &node.key,
             value: node.value.as_slice(),
@@ -236,11 +258,14 @@ impl Globals {
         list_all_nodes(alloc, &self.nodes)
     }
 
-    /// The node and those below it with their values, in M collation.
+    /// The node and those below it with their values, in M collation. No other node is looked at.
     pub fn list_under(&self, alloc: Global, top: &Key) -> Result<Vec<Listed<'_>>, NoMemory>
         ensures { IfOk result (λ made. map listed_value made.items ≡ filter (λ e. is_under top.now e.0) (globals.entries self.now)) }
     {
-        only_under(alloc, &self.list(alloc)?, top)
+        let mut end = top.code().copy()?;
+        end.push(255)?;
+        let list = list_between(alloc, &self.nodes, top.code(), &end)?;
+        only_under(alloc, &list, top)
     }
 
     /// Copies of all nodes.

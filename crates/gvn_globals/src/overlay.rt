@@ -7,8 +7,8 @@ ghost use Rattle.global_defs.specs.Entry.{is_under, apply};
 ghost use Rattle.global_defs.specs.Evaluation as evaluation;
 ghost use Rattle.gvn_key.specs.Faults.{child_of};
 ghost use Rattle.gvn_key.specs.Terms.{update_value};
-ghost use Rattle.gvn_globals.specs.Walks.{after, from, tested, earlier, sub_under};
-ghost use Rattle.gvn_globals.specs.Overlaid.{kept, overlaid};
+ghost use Rattle.gvn_globals.specs.Walks.{after, from, is_later, tested, earlier, sub_under};
+ghost use Rattle.gvn_globals.specs.Overlaid.{kept, overlaid, AreGone, IsEnd, IsCleared};
 
 use super::globals::{Globals, ones, sub_at};
 use super::lookup::{Lookup, Walk, subtree};
@@ -24,7 +24,8 @@ pub struct Overlay<'a, G: Lookup> {
     on: &'a G,
     /// The nodes that the job has set, with their values.
     sets: Globals,
-    /// The nodes below that it has removed, with no values.
+    /// The nodes below that it has removed. A node's value is empty, or the code of a later one: all nodes up to that are gone
+    /// as well, so that a walk goes on behind them.
     gone: Globals,
     nodes: u32,
 }
@@ -34,7 +35,7 @@ impl<'a, G: Lookup> Model for Overlay<'a, G> {
     ghost use Rattle.std.specs.FinMap as globals;
     ghost use Rattle.global_defs.specs.Entry as defs;
     ghost use Rattle.gvn_globals.specs.Codes.{globals_code};
-    ghost use Rattle.gvn_globals.specs.Overlaid.{overlaid};
+    ghost use Rattle.gvn_globals.specs.Overlaid.{overlaid, AreGone};
 
     ghost Value = { defs.Globals };
 
@@ -42,7 +43,7 @@ impl<'a, G: Lookup> Model for Overlay<'a, G> {
 
     ghost view = { λ o. overlaid (G.seen o.on.now) o.sets o.gone };
 
-    ghost invariant = { λ o. o.nodes ≡ globals.len (overlaid (G.seen o.on.now) o.sets o.gone) };
+    ghost invariant = { λ o. (o.nodes ≡ globals.len (overlaid (G.seen o.on.now) o.sets o.gone)) × AreGone (G.seen o.on.now) o.gone };
 }
 
 /// The first of two keys.
@@ -62,16 +63,39 @@ fn earlier(own: Option<Key>, other: Option<Key>) -> Option<Key>
     }
 }
 
+/// Whether a key of the same name comes later.
+fn is_later(key: &Key, other: &Key) -> bool
+    ensures { result ≡ is_later key.now other.now }
+{
+    key.name().cmp(other.name()) == Ordering::Equal && key.compare(other) == Ordering::Less
+}
+
+/// The last of the nodes that went with a node, or the node itself.
+fn last_gone(node: Key, end: &[u8]) -> Result<Key, NoMemory>
+    ensures { IfOk result (λ last. IsEnd node end.now last) }
+{
+    let Some(last) = Key::decode(node.code().allocator(), end)? else {
+        return Ok(node);
+    };
+    if is_later(&node, &last) {
+        Ok(last)
+    } else {
+        Ok(node)
+    }
+}
+
 /// The first node of the same name past the key that isn't gone.
 fn kept_after<G: Lookup>(on: &G, gone: &Globals, key: &Key) -> Result<Option<Key>, NoMemory>
+    requires { AreGone (G.seen on.now) gone.now }
     ensures { IfOk result (λ found. found ≡ after (kept (G.seen on.now) gone.now) key.now) }
 {
     let mut found = on.after(key)?;
     while let Some(node) = found {
-        if gone.get(&node).is_none() {
+        let Some(end) = gone.get(&node) else {
             return Ok(Some(node));
-        }
-        found = on.after(&node)?;
+        };
+        let last = last_gone(node, end)?;
+        found = on.after(&last)?;
     }
     Ok(None)
 }
@@ -157,7 +181,19 @@ impl<'a, G: Lookup> Overlay<'a, G> {
         for key in &keys {
             self.remove(key)?;
         }
+        for key in &keys {
+            self.skip(key, &keys[keys.len() - 1])?;
+        }
         Ok(())
+    }
+
+    /// Notes that all nodes from a removed one to another one are gone.
+    fn skip(&mut self, key: &Key, last: &Key) -> Result<(), NoMemory>
+        requires { IsCleared self.old key.now last.now }
+        ensures { self.new ≡ self.old }
+    {
+        let end = last.code().copy()?;
+        self.gone.set(key.copy()?, end)
     }
 
     /// Makes one change. Without memory some nodes that are to go may be gone.
