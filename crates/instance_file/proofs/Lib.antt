@@ -6,6 +6,7 @@ mod Putting
 mod Histories
 mod Orders
 mod Scanning
+mod Bounds
 mod Zips
 mod Passing
 mod States

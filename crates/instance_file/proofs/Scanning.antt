@@ -3,7 +3,6 @@ use Rattle.std.proofs.Common.{◌≡◌, ℕ, ◌+◌, ◌<◌, ◌≤◌, Bool,
 use Rattle.std.proofs.lemmas.List.{map-append, take_more, drop_more}
 use Rattle.std.specs.Prelude.{slice_get, slice_index_or}
 use Rattle.std.specs.List.{list_all}
-use Rattle.std.specs.Option.{option_map}
 use Rattle.global_defs.specs.Entry.{Reign}
 use Rattle.journal_defs.specs.Instance.{InstanceRecord, Create, Reigned, Cut, Map, Mode}
 use Rattle.journal_defs.specs.Surviving.{spares_start, reigns}
@@ -13,15 +12,6 @@ use Rattle.instance_file.specs.Reading.{left_by}
 use Rattle.instance_file.specs.Walks.{surviving_in, IsWrongReign}
 use Rattle.instance_file.specs.declared.record.InstanceRecord as code
 use Rattle.instance_file.proofs.Histories.{left_next, left_all, as_list, last_start, last_push, rise_push, rise_past}
-
--- a reign that is there
-pub started : (o : Option Reign) (start : ℕ) → Some start ≡ option_map (λ r. r.start) o → (r : Reign) × (o ≡ Some r) × (r.start ≡ start)
-started None start is = absurd cc
-started (Some r) start is = (r, refl, cc)
-
-pub not_started : (o : Option Reign) → None ≡ option_map (λ r. r.start) o → o ≡ None
-not_started None is = refl
-not_started (Some r) is = absurd cc
 
 some_if : (b : Bool) (q r : Reign) → (if b then Some q else None) ≡ Some r → (b ≡ true) × (q ≡ r)
 some_if true q r is = (refl, cc)

@@ -1,5 +1,5 @@
 -- What reading a whole instance file gives.
-use Rattle.std.specs.Prelude.{◌≡◌, ℕ, true, List, [], ◌∷◌, ◌++◌, length, slice_get, Option, Some, None, if◌then◌else◌}
+use Rattle.std.specs.Prelude.{◌≡◌, ℕ, ◌-◌, ◌^◌, min, true, List, [], ◌∷◌, ◌++◌, length, slice_get, Option, Some, None, if◌then◌else◌}
 use Rattle.std.specs.List.{AllZip, list_all}
 use Rattle.disk_defs.specs.Gates.{Body, records}
 use Rattle.gated_file.specs.State.{places}
@@ -17,6 +17,24 @@ surviving_in later (Create name regions) = None
 surviving_in later (Cut n g) = None
 surviving_in later (Map region star name) = None
 surviving_in later (Mode region before) = None
+
+-- the greatest start that the record and those behind it leave, where those behind leave the starts up to the one given
+abbrev pub bound_with : InstanceRecord → ℕ → ℕ
+bound_with (Cut n g) later = min n later
+bound_with (Create name regions) later = later
+bound_with (Reigned r) later = later
+bound_with (Map region star name) later = later
+bound_with (Mode region before) later = later
+
+-- the greatest start of 64 bits that these records leave
+abbrev pub bound : List InstanceRecord → ℕ
+bound [] = 2 ^ 64 - 1
+bound (r ∷ rs) = bound_with r (bound rs)
+
+-- for each record the greatest start that those behind it leave
+abbrev pub bounds_behind : List InstanceRecord → List ℕ
+bounds_behind [] = []
+bounds_behind (r ∷ rs) = bound rs ∷ bounds_behind rs
 
 -- the file's bodies are those of these records in their order, and their gates stand at these places
 pub record IsListed (file : List ℕ) (rs : List InstanceRecord) (at : List ℕ) : Type 0 where

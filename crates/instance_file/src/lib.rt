@@ -15,6 +15,7 @@ mod log;
 mod reading;
 mod record;
 mod records;
+mod surviving;
 mod walking;
 mod writing;
 

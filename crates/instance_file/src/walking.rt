@@ -1,25 +1,24 @@
 //! Reading an instance file from record to record.
 ghost use Rattle.std.specs.Prelude.{◌≡◌, ◌⊎◌, ◌≤◌, ◌<◌, ℕ, List, [], length, Some, map, IfOk, IfSome, IsErrOf};
-ghost use Rattle.std.specs.Option.{option_map};
-ghost use Rattle.std.specs.List.{AllByRecursion, list_all};
+ghost use Rattle.std.specs.List.{AllByRecursion};
 ghost use Rattle.disk_defs.specs.Disk.{Reads, Rose};
 ghost use Rattle.disk_defs.specs.Gates.{Body, records};
 ghost use Rattle.gated_file.specs.State.{places};
 ghost use Rattle.journal_defs.specs.Instance as defs;
 ghost use Rattle.journal_defs.specs.Instance.{IsInForm, IsInstanceBody};
 ghost use Rattle.journal_defs.specs.Surviving as surviving;
-ghost use Rattle.journal_defs.specs.Surviving.{spares_start};
 ghost use Rattle.journal_defs.specs.Stands.{IsInstance, StartsRise};
 ghost use Rattle.instance_file.specs.Values.{record_value};
 ghost use Rattle.instance_file.specs.Order.{AreOrdered, AreInOrder};
 ghost use Rattle.instance_file.specs.Reading.{FindsRecord, IsNoRecord, HasWrongRecord, HasWrongReign};
-ghost use Rattle.instance_file.specs.Walks.{IsListed, IsWrongReign, surviving_in};
+ghost use Rattle.instance_file.specs.Walks.{IsListed};
 
 use super::error::InstanceError;
-use super::following::{generation_after, may_stand, reigns_after, starts_rise};
+use super::following::{generation_after, may_stand, starts_rise};
 use super::reading::decode;
 use super::record::InstanceRecord;
 use super::records::InstanceRecords;
+use super::surviving::{bounds_of, surviving_reigns, wrong_reign};
 use gated_file::Gated;
 use gvn_key::Bytes;
 use gvn_model::Reigns;
@@ -32,8 +31,6 @@ pub struct Log {
     pub records: InstanceRecords,
     /// Where their gates stand.
     pub places: Vec<u64>,
-    /// The reigns that survive.
-    pub history: Reigns,
 }
 
 /// The record behind the gate at a place and the next gate's place, or `None` at a closed gate.
@@ -69,7 +66,6 @@ fn read_log<D: Disk>(gated: &mut Gated, disk: &mut D) -> Result<Log, InstanceErr
     ensures ordered { IfOk result (λ log. AreOrdered log.records) }
     ensures form { IfOk result (λ log. AllByRecursion IsInForm log.records) }
     ensures many { IfOk result (λ log. length log.places.items ≡ length log.records) }
-    ensures history { IfOk result (λ log. log.history ≡ surviving.reigns log.records) }
     ensures wrong { (offset : ℕ) → IsErrOf result (InstanceError.NotARecord offset) → IfSome (D.disk disk.old).content (λ files. HasWrongRecord (files gated.old.file) offset) }
     ensures same { gated.new ≡ gated.old }
     ensures reads { Reads (D.disk disk.old) (D.disk disk.new) }
@@ -78,7 +74,6 @@ fn read_log<D: Disk>(gated: &mut Gated, disk: &mut D) -> Result<Log, InstanceErr
 {
     let mut records = InstanceRecords::new(gated.alloc);
     let mut places = Vec::new(gated.alloc);
-    let mut history = Reigns::new(gated.alloc);
     let mut generation = 0;
     let mut at = 0;
     while let Some((added, next)) = read_record(gated, disk, at)? {
@@ -86,63 +81,13 @@ fn read_log<D: Disk>(gated: &mut Gated, disk: &mut D) -> Result<Log, InstanceErr
             return Err(InstanceError::NotARecord { offset: at });
         }
         generation = generation_after(generation, &added);
-        history = reigns_after(gated.alloc, history, &added)?;
         if places.push(at).is_err() {
             return Err(InstanceError::NoMemory);
         }
         records.push(added)?;
         at = next;
     }
-    Ok(Log {
-        records,
-        places,
-        history,
-    })
-}
-
-/// Whether a record leaves an earlier reign with this start.
-fn spares(start: u64, first: &InstanceRecord) -> bool
-    ensures { result ≡ spares_start start (record_value first.now) }
-{
-    match first {
-        InstanceRecord::Cut { length, .. } => start <= *length,
-        _ => true,
-    }
-}
-
-/// Whether all of these records leave an earlier reign with this start.
-fn survives(start: u64, later: &[InstanceRecord]) -> bool
-    ensures { result ≡ list_all (λ r. spares_start start (record_value r)) later.now }
-{
-    later.iter().all(|added| spares(start, added))
-}
-
-/// The start of the reign that a record is, where it survives those behind.
-fn surviving_start(first: &InstanceRecord, later: &[InstanceRecord]) -> Option<u64>
-    ensures { result ≡ option_map (λ r. r.start) (surviving_in (map record_value later.now) (record_value first.now)) }
-{
-    match first {
-        InstanceRecord::Reign(reign) if survives(reign.start, later) => Some(reign.start),
-        _ => None,
-    }
-}
-
-/// The place, among these, of the first surviving reign that doesn't begin past the one before it.
-fn wrong_reign(records: &[InstanceRecord], places: &[u64]) -> u64
-    requires many { length places.now ≡ length records.now }
-    requires falls { StartsRise 0 (surviving.reigns (map record_value records.now)) → ⊥ }
-    ensures { IsWrongReign (map record_value records.now) places.now result }
-{
-    let mut low = 0;
-    for i in 0..records.len() {
-        if let Some(start) = surviving_start(&records[i], &records[i + 1..]) {
-            if start <= low {
-                return places[i];
-            }
-            low = start;
-        }
-    }
-    unreachable!()
+    Ok(Log { records, places })
 }
 
 /// Reads a whole instance file, and sees that it has the records of one.
@@ -162,10 +107,12 @@ pub fn read_whole<D: Disk>(
     ensures later { (D.disk disk.old).faults ≤ (D.disk disk.new).faults }
     ensures cause { IsErrOf result InstanceError.Failed → Rose (D.disk disk.old).faults (D.disk disk.new).faults }
 {
-    let read = read_log(gated, disk)?;
-    if !starts_rise(read.history.as_slice()) {
-        let offset = wrong_reign(read.records.as_slice(), &read.places);
+    let Log { records, places } = read_log(gated, disk)?;
+    let bounds = bounds_of(gated.alloc, records.as_slice())?;
+    let history = surviving_reigns(gated.alloc, records.as_slice(), &bounds)?;
+    if !starts_rise(history.as_slice()) {
+        let offset = wrong_reign(records.as_slice(), &bounds, &places);
         return Err(InstanceError::NotARecord { offset });
     }
-    Ok((read.records, read.history))
+    Ok((records, history))
 }

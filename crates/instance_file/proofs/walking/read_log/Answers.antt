@@ -23,8 +23,8 @@ some_is P x o is p = subst (λ y. IfSome y P) is p
 untrue : (b : Bool) → b ≡ false → IsTrue b → ⊥
 untrue b is true_of = cc (is, true_of)
 
-pub loop-history-init : goal.loop-history-init
-loop-history-init g c =
+pub loop-places-init : goal.loop-places-init
+loop-places-init g c =
     let view = g.D.Disk.disk in
     let file = c.args.gated.now.file in
     record {
@@ -34,7 +34,6 @@ loop-history-init g c =
       ordered = rw c.new-records.ensures (record { create = tt; cuts = tt });
       form = rw c.new-records.ensures tt;
       last = rw c.new-records.ensures refl;
-      history = search rules;
       many = search rules;
       same = refl;
       reads = search rules;
@@ -44,7 +43,7 @@ loop-history-init g c =
 pub returns-in_err-added-clause-wrong : goal.returns-in_err-added-clause-wrong
 returns-in_err-added-clause-wrong g c offset is =
     let view = g.D.Disk.disk in
-    let l = c.loop-history in
+    let l = c.loop-places in
     let inv = l.invariant in
     let o = (view c.args.disk.now).content in
     let file = c.args.gated.now.file in
@@ -58,7 +57,7 @@ returns-in_err-added-clause-wrong g c offset is =
 pub returns-then-not-may_stand-clause-wrong : goal.returns-then-not-may_stand-clause-wrong
 returns-then-not-may_stand-clause-wrong g c offset is =
     let view = g.D.Disk.disk in
-    let l = c.loop-history in
+    let l = c.loop-places in
     let inv = l.invariant in
     let o = (view c.args.disk.now).content in
     let file = c.args.gated.now.file in
@@ -71,10 +70,10 @@ returns-then-not-may_stand-clause-wrong g c offset is =
     subst (λ (k : ℕ). IfSome o (λ files. HasWrongRecord (files file) k)) (sym here)
     (told_wrong o file l.at l.records l.places.items l.generation inv.passed x c.in-Some.next found refused)
 
-pub loop-history-preserved : goal.loop-history-preserved
-loop-history-preserved g c =
+pub loop-places-preserved : goal.loop-places-preserved
+loop-places-preserved g c =
     let view = g.D.Disk.disk in
-    let l = c.loop-history in
+    let l = c.loop-places in
     let inv = l.invariant in
     let v = view c.args.disk.now in
     let file = c.args.gated.now.file in
@@ -89,7 +88,6 @@ loop-history-preserved g c =
       ordered = rw c.in_ok-push.ensures.ok (stand_follows l.records (record_value x) inv.ordered stands);
       form = rw c.in_ok-push.ensures.ok (all_push IsInForm l.records (record_value x) inv.form (some_is (λ (read : InstanceRecord × ℕ). IsInForm (record_value read.0)) (x, c.in-Some.next) c.in_ok-added.field-0 c.in-Some.is c.in_ok-added.ensures.form));
       last = rw (c.in_ok-push.ensures.ok, c.generation_after-generation.ensures) (generation_next l.records (record_value x) stands ∙ ap (λ (k : ℕ). last_after k (record_value x)) inv.last);
-      history = rw c.in_ok-push.ensures.ok (c.in_ok-history.ensures l.records inv.history);
       many = omega (arith, inv.many, ap length more, ap length c.in_ok-push.ensures.ok, length-append l.places.items (l.at ∷ []), length-append l.records (record_value x ∷ []));
       same = c.read_record.ensures.same ∙ inv.same;
       reads = reads_more v (view l.disk) (view c.read_record.new.disk) (g.met.D.Disk.lawful c.args.disk.now) inv.reads c.read_record.ensures.reads;
@@ -99,7 +97,7 @@ loop-history-preserved g c =
 pub returns-clause-listed : goal.returns-clause-listed
 returns-clause-listed g c =
     let view = g.D.Disk.disk in
-    let l = c.loop-history in
+    let l = c.loop-places in
     let inv = l.invariant in
     let o = (view c.args.disk.now).content in
     let file = c.args.gated.now.file in

@@ -4,7 +4,7 @@ use Rattle.journal_defs.specs.Stands.{StartsRise}
 use Rattle.instance_file.specs.Values.{record_value}
 use Rattle.instance_file.specs.Reading.{left_by}
 use Rattle.instance_file.proofs.Histories.{last_start}
-use Rattle.instance_file.proofs.walking.wrong_reign.Given as goal
+use Rattle.instance_file.proofs.surviving.wrong_reign.Given as goal
 
 -- the starts of those of the first records that survive the others rise up to this one
 abbrev pub invariant-loop-i : goal.invariant-loop-i
