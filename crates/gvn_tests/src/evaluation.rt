@@ -34,6 +34,33 @@ const KILLS: &str = "\
 0 1|DATA ^Y(1,2)
 0 10|DATA ^Y";
 
+const BEFORE: &str = "\
+1|SET ^T(1)=1
+1|SET ^T(2)=2
+1|SET ^T(2,1)=3
+1|SET ^T(3)=4
+1|SET ^U=5";
+
+const BEHIND_KILLS: &str = "\
+KILL ^T(2)
+DATA ^T(2,1)
+ORDER ^T(1)
+KILL ^T
+DATA ^T
+ORDER ^T(\"\")
+SET ^T(3,5)=6
+DATA ^T
+ORDER ^T(\"\")
+ORDER ^T(3)
+KILL ^T(3)
+DATA ^T
+SET ^T(1)=7
+KILL ^T
+SET ^T(2,2)=8
+DATA ^T(2,1)
+ORDER ^T(1)
+DATA ^U";
+
 const FULL: &str = "\
 FULL|SET ^X=\"abc\"
 1|SET ^AAAA=\"abc\"";
@@ -120,6 +147,28 @@ fn sees_its_own_updates(rt: HostRuntime) -> Result<(), Fail> {
     let mut globals = Globals::new(rt.alloc());
     let said = run(rt.alloc(), &mut globals, &Job { statements })?;
     assert_eq!(rt; said.as_slice(), b"6 0 10 1 10".as_slice());
+    Ok(())
+}
+
+/// A job of a statement a row.
+fn job_of(alloc: Global, rows: &str) -> Result<Job, Fail> {
+    let mut statements = Statements::new(alloc);
+    for text in rows.split('\n') {
+        statements.push(read_statement(alloc, text.as_bytes())?)?;
+    }
+    Ok(Job { statements })
+}
+
+/// A job that kills nodes and those below them again and again walks past what it killed, and to what it set there.
+#[test]
+fn walks_past_what_it_killed(rt: HostRuntime) -> Result<(), Fail> {
+    let mut globals = Globals::new(rt.alloc());
+    run_rows(&rt, rt.alloc(), &mut globals, BEFORE)?;
+    let said = run(rt.alloc(), &mut globals, &job_of(rt.alloc(), BEHIND_KILLS)?)?;
+    assert_eq!(rt;
+        said.as_slice(),
+        b"7 0 3 0 \"\" 10 3 \"\" 0 0 2 1".as_slice()
+    );
     Ok(())
 }
 
