@@ -354,9 +354,3 @@ there_done leftovers region number text v w s before now m named reads images t 
   | inl sure ↦ done_told leftovers region number text v w s before now p m h sure reads images t
   | inr unsure ↦ done_untold region number text v w s before now p named.0 m h unsure named.1 t
 ]
-
--- what the call wants of a site that has nothing against it
-pub free_so : (o : Option Files) (region : Name) (number : ℕ) (text : List ℕ) → IfSome o (λ files. (c : Contents) → IsSite files c → IsUnmappedIn region number text c)
-    → IfSome o (λ files. (c : Contents) → IsSite files c → (generation c.instance ≡ 0) × (number < length (regions c.instance)))
-free_so None region number text h = h
-free_so (Some f) region number text h = λ c site. (let u = h c site in (u.unbegun, u.inside))

@@ -1,12 +1,16 @@
 // MAP.
-ghost use Rattle.std.specs.Prelude.{◌≡◌, ◌<◌, take, map, IfSome, OnOk, OnErr, true, Some};
+ghost use Rattle.std.specs.Prelude.{◌≡◌, ◌<◌, ◌≤◌, take, map, length, IfSome, OnOk, OnErr, true, Some};
 ghost use Rattle.command_defs.specs.Commands as commands;
+ghost use Rattle.disk_defs.specs.Disk.{IsDurable};
 ghost use Rattle.global_defs.specs.Pattern.{is_pattern};
+ghost use Rattle.journal_defs.specs.Numbers.{INSTANCE};
+ghost use Rattle.journal_defs.specs.Instance.{generation, regions};
+ghost use Rattle.journal_defs.specs.Stands.{IsInstance};
 ghost use Rattle.world_defs.specs.Lists.{first_where};
 ghost use Rattle.world_defs.specs.World.{Contents, same_name};
 ghost use Rattle.world_defs.specs.Refusals.{region_number};
 ghost use Rattle.world_defs.specs.Ties.{IsSite, Stands};
-ghost use Rattle.site_store.specs.Finding.{IsFound};
+ghost use Rattle.site_store.specs.Finding.{IsFound, IsFoundIn};
 ghost use Rattle.site_store.specs.Opening.{region_value};
 ghost use Rattle.site_runner.specs.declared.slot.State.TheVariants.{Down};
 ghost use Rattle.site_runner.specs.Sites.{IsReadyState};
@@ -17,8 +21,9 @@ use super::slot::{Site, State};
 use super::text::{write_line, write_named, write_not_a_file, write_numbered};
 use global_dir::DirError;
 use gvn_key::{Bytes, NoMemory};
+use instance_file::InstanceLog;
 use repl_disk::Disk;
-use site_store::{Layout, SiteError, inspect};
+use site_store::{FoundSite, Layout, SiteError, find};
 use std::alloc::Global;
 use world_laws::leftovers::leftovers_hold;
 
@@ -48,6 +53,7 @@ fn map_there<D: Disk>(
     alloc: Global,
     disk: &mut D,
     site: &mut Site,
+    log: InstanceLog,
     number: u8,
     region: &Bytes,
     pattern: &[u8],
@@ -56,13 +62,18 @@ fn map_there<D: Disk>(
     requires form { is_pattern pattern.now ≡ true }
     requires free { IfSome (D.disk disk.old).content (λ files. (c : Contents) → IsSite files c → IsUnmappedIn region.now number pattern.now c) }
     requires named { (c : Contents) × (region_number region.now c ≡ Some number) }
+    requires inside { number < length (regions log.records) }
+    requires few { length (regions log.records) ≤ 8 }
+    requires undrawn { generation log.records ≡ 0 }
+    requires told { IfSome (D.disk disk.old).content (λ files. IsInstance (files INSTANCE) log.records) }
+    requires durable { IfSome (D.disk disk.old).content (λ files. IsDurable (D.disk disk.old) INSTANCE (files INSTANCE)) }
     requires down { site.old.state ≡ Down }
     ensures ready { OnOk result (IsReadyState (D.disk disk.new) site.new.state) }
     ensures done { OnOk result (MapsAt region.now pattern.now (D.disk disk.old) site.old (D.disk disk.new) site.new text.old text.new) }
     ensures cut_off { OnErr result (IsCutSeen region.now pattern.now (D.disk disk.old) site.old (D.disk disk.new)) }
 {
     leftovers_hold();
-    match site_store::map(alloc, disk, number, pattern) {
+    match site_store::map_logged(alloc, disk, log, number, pattern) {
         Ok(()) => write_line(text, site.name.as_slice(), b"MAPPED"),
         Err(SiteError::Failed { fault }) => {
             write_numbered(text, site.name.as_slice(), b"DISKFAULT ", fault)?;
@@ -81,30 +92,32 @@ fn map_found<D: Disk>(
     alloc: Global,
     disk: &mut D,
     site: &mut Site,
-    mut found: Layout,
+    found: FoundSite,
     region: &Bytes,
     pattern: &[u8],
     text: &mut Bytes,
 ) -> Result<(), NoMemory>
     requires form { is_pattern pattern.now ≡ true }
-    requires found { IfSome (D.disk disk.old).content (λ files. (c : Contents) → Stands files c → IsFound c (Some found)) }
+    requires found { IfSome (D.disk disk.old).content (λ files. (c : Contents) → Stands files c → IsFound c (Some found.layout)) }
+    requires told { IsFoundIn (D.disk disk.old) found }
     requires down { site.old.state ≡ Down }
     ensures ready { OnOk result (IsReadyState (D.disk disk.new) site.new.state) }
     ensures done { OnOk result (MapsAt region.now pattern.now (D.disk disk.old) site.old (D.disk disk.new) site.new text.old text.new) }
     ensures cut_off { OnErr result (IsCutSeen region.now pattern.now (D.disk disk.old) site.old (D.disk disk.new)) }
 {
     leftovers_hold();
-    if !is_named(&found, site.name.as_slice()) {
+    let FoundSite { mut layout, log } = found;
+    if !is_named(&layout, site.name.as_slice()) {
         return write_not_a_file(text, site.name.as_slice(), 0, 0);
     }
-    if found.generation > 0 {
+    if layout.generation > 0 {
         return write_line(text, site.name.as_slice(), b"STARTED");
     }
-    let Some(number) = region_named(&found, region.as_slice()) else {
+    let Some(number) = region_named(&layout, region.as_slice()) else {
         return write_named(text, site.name.as_slice(), b"NOREGION ", region.as_slice());
     };
-    match found.directory.map(number, pattern) {
-        Ok(()) => map_there(alloc, disk, site, number, region, pattern, text),
+    match layout.directory.map(number, pattern) {
+        Ok(()) => map_there(alloc, disk, site, log, number, region, pattern, text),
         Err(DirError::TwiceMapped) => write_line(text, site.name.as_slice(), b"TWICEMAPPED"),
         Err(_) => Err(NoMemory),
     }
@@ -126,7 +139,7 @@ fn map_down<D: Disk>(
     ensures cut_off { OnErr result (IsCutAt (commands.Map site.old.name region.now pattern.now) (D.disk disk.old) site.old (D.disk disk.new)) }
 {
     leftovers_hold();
-    match inspect(alloc, disk) {
+    match find(alloc, disk) {
         Ok(Some(found)) => map_found(alloc, disk, site, found, region, pattern, text),
         Ok(None) => write_not_a_file(text, site.name.as_slice(), 0, 0),
         Err(SiteError::Failed { fault }) => {

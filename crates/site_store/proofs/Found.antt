@@ -42,16 +42,16 @@ all_in_form [] (r ∷ rs) zip = absurd zip
 all_in_form (b ∷ bodies) [] zip = tt
 all_in_form (b ∷ bodies) (r ∷ rs) zip = (zip.0.form, all_in_form bodies rs zip.1)
 
-region_number : (rs : List InstanceRecord) → AllByRecursion IsInForm rs → BeginsWithCreate rs → 0 < length rs → (1 ≤ length (regions rs)) × (length (regions rs) ≤ 8)
-region_number [] form begins some = absurd (omega (arith, some))
-region_number (Create name named ∷ rs) form begins some = (form.0.1, form.0.2)
-region_number (Reigned r ∷ rs) form begins some = absurd begins
-region_number (Cut n g ∷ rs) form begins some = absurd begins
-region_number (Map region star name ∷ rs) form begins some = absurd begins
-region_number (Mode region before ∷ rs) form begins some = absurd begins
+pub region_bounds : (rs : List InstanceRecord) → AllByRecursion IsInForm rs → BeginsWithCreate rs → 0 < length rs → (1 ≤ length (regions rs)) × (length (regions rs) ≤ 8)
+region_bounds [] form begins some = absurd (omega (arith, some))
+region_bounds (Create name named ∷ rs) form begins some = (form.0.1, form.0.2)
+region_bounds (Reigned r ∷ rs) form begins some = absurd begins
+region_bounds (Cut n g ∷ rs) form begins some = absurd begins
+region_bounds (Map region star name ∷ rs) form begins some = absurd begins
+region_bounds (Mode region before ∷ rs) form begins some = absurd begins
 
 pub region_count : (file : List ℕ) (rs : List InstanceRecord) → IsInstance file rs → 0 < length rs → (1 ≤ length (regions rs)) × (length (regions rs) ≤ 8)
-region_count file rs is some = region_number rs (all_in_form is.bodies.0 rs is.bodies.2) is.create some
+region_count file rs is some = region_bounds rs (all_in_form is.bodies.0 rs is.bodies.2) is.create some
 
 pub made_some : (c : Contents) → is_made c ≡ true → 0 < length c.instance
 made_some c made = grind (arith, nat_tests, made)

@@ -19,6 +19,8 @@ use Rattle.journal_defs.specs.Surviving.{reigns}
 use Rattle.journal_defs.specs.Sequence.{Placed, Records, IsSequence}
 use Rattle.journal_defs.specs.Growth.{AreEntries}
 use Rattle.journal_defs.specs.Fit.{IsSoundImage}
+use Rattle.journal_defs.specs.Stands.{IsInstance}
+use Rattle.journal_defs.specs.Numbers.{INSTANCE}
 use Rattle.journal_laws.proofs.Drawing as drawing
 use Rattle.journal_laws.proofs.Runs as runs
 use Rattle.instance_file.specs.Instance as instances
@@ -205,10 +207,9 @@ module _ (u v w : View) (rs : List InstanceRecord) (last : ℕ → ℕ) (journal
       let open_c : MayOpen broken c res.0 = subst (λ (x : Contents). MayOpen broken x res.0) (sym is.1) res.1 in
       (res.0, subst (λ (t : List ℕ). MayOpen t c res.0) (left_is files c left r.holds site has) open_c, res.2)))
 
-  pub room_left : IfSome u.content (λ files. (c : Contents) → IsSite files c → generation c.instance < 65534)
-  room_left = weaker_told u.content (WasRead v rs last journal) (λ files. (c : Contents) → IsSite files c → generation c.instance < 65534) read (λ files r c site.
-      let is = site_read rs last journal seq form sequence files c r.holds site in
-      subst (λ (x : Contents). generation x.instance < 65534) (sym is.1) form.room)
+  pub room_left : IfSome u.content (λ files. (qs : List InstanceRecord) → IsInstance (files INSTANCE) qs → generation qs < 65534)
+  room_left = weaker_told u.content (WasRead v rs last journal) (λ files. (qs : List InstanceRecord) → IsInstance (files INSTANCE) qs → generation qs < 65534) read
+      (λ files r qs is. subst (λ (l : List InstanceRecord). generation l < 65534) (instance_one (files INSTANCE) rs qs r.holds.instance is) form.room)
 
   -- each image is sound when it stood for something
   sound_image : (files : Files) → WasRead v rs last journal files → EachStands u → (d : Files) → Image v d → IsSoundImage d S0 seq

@@ -90,6 +90,10 @@ pub limit_site : (o : Option Files) → IfSome o (λ files. (qs : List InstanceR
 limit_site o high = weaker_told o (λ files. (qs : List InstanceRecord) → IsInstance (files INSTANCE) qs → 65534 ≤ generation qs) (λ files. (c : Contents) → IsSite files c → 65534 ≤ generation c.instance) high
     (λ files all c site. all c.instance (site_instance files c site))
 
+pub drawn_site : (o : Option Files) → IfSome o (λ files. (qs : List InstanceRecord) → IsInstance (files INSTANCE) qs → generation qs < 65534) → IfSome o (λ files. (c : Contents) → IsSite files c → generation c.instance < 65534)
+drawn_site o low = weaker_told o (λ files. (qs : List InstanceRecord) → IsInstance (files INSTANCE) qs → generation qs < 65534) (λ files. (c : Contents) → IsSite files c → generation c.instance < 65534) low
+    (λ files all c site. all c.instance (site_instance files c site))
+
 pub untold : (o n : Option Files) (P : Files → Type 0) → n ≡ o → IfSome n (λ _. ⊥) → IfSome o P
 untold o n P same none = weaker_told o (λ _. ⊥) P (told_at o n (λ _. ⊥) same none) (λ files no. absurd no)
 

@@ -9,18 +9,46 @@ ghost use Rattle.world_defs.specs.World.{Contents};
 ghost use Rattle.world_defs.specs.Ties.{IsBlank, IsSite, Stands};
 ghost use Rattle.instance_file.specs.Values.{named_mode};
 ghost use Rattle.site_files.specs.Outside.{IsNoInstance, HasNoDirectory};
-ghost use Rattle.site_store.specs.Finding.{IsFound};
+ghost use Rattle.site_store.specs.Finding.{IsFound, IsFoundIn, layout_in};
 ghost use Rattle.site_store.specs.Opening.{region_value, made, MayMake, StandsAsBefore};
 
 use crate::error::SiteError;
 use crate::finding::in_instance;
-use crate::layout::{Layout, RegionSpec, layout_of};
+use crate::layout::{FoundSite, Layout, RegionSpec, layout_of};
 use gvn_key::{Bytes, NoMemory};
 use gvn_model::NamedModes;
 use instance_file::Instance;
 use repl_disk::Disk;
 use site_files::{read_instance, sync_instance};
 use std::alloc::Global;
+
+/// The site that stands on a disk, if one does, with its instance file's records. It syncs the instance file first.
+///
+/// # Errors
+/// `NotAFile` where the instance file is outside the format, with the place of what can't stand there, or its records are no site's, with
+/// offset 0; `Failed` only where the disk's count rose; and `NoMemory`.
+pub fn find<D: Disk>(alloc: Global, disk: &mut D) -> Result<Option<FoundSite>, SiteError>
+    ensures found { IfOk result (λ found. IfSome (D.disk disk.old).content (λ files. (c : Contents) → Stands files c → IsFound c (layout_in found))) }
+    ensures told { IfOk result (λ found. IfSome found (IsFoundIn (D.disk disk.new))) }
+    ensures content { (D.disk disk.new).content ≡ (D.disk disk.old).content }
+    ensures alike { OnOk result (IfSome (D.disk disk.old).content (λ files. (c o : Contents) (f : Files) → Stands files c → Image (D.disk disk.new) f → Stands f o → o.instance ≡ c.instance)) }
+    ensures empty { result ≡ Ok None → IfSome (D.disk disk.new).content (λ files. records (files INSTANCE) ≡ Some []) }
+    ensures place { (file offset : ℕ) → IsErrOf result (SiteError.NotAFile file offset) → IfSome (D.disk disk.old).content (λ files. IsNoInstance files file offset ⊎ HasNoDirectory files file offset) }
+    ensures outside { (file : ℕ) (offset : ℕ) → IsErrOf result (SiteError.NotAFile file offset) → IfSome (D.disk disk.old).content (λ files. (c : Contents) → Stands files c → ⊥) }
+    ensures any_moment { IfSome (D.disk disk.old).content (λ _. AtEachMoment (D.disk disk.old) (D.disk disk.new) (StandsAsBefore (D.disk disk.old))) }
+    ensures still_told { IsSome (D.disk disk.old).content → IsSome (D.disk disk.new).content }
+    ensures simulated { (D.disk disk.new).simulated ≡ (D.disk disk.old).simulated }
+    ensures later { (D.disk disk.old).faults ≤ (D.disk disk.new).faults }
+    ensures count { (fault : ℕ) → IsErrOf result (SiteError.Failed fault) → fault ≡ (D.disk disk.new).faults }
+    ensures cause { (fault : ℕ) → IsErrOf result (SiteError.Failed fault) → Rose (D.disk disk.old).faults (D.disk disk.new).faults }
+    ensures no_stop { (fault : ℕ) → IsErrOf result (SiteError.Stopped fault) → ⊥ }
+{
+    let log = read_instance(alloc, disk)?;
+    let Some(layout) = layout_of(alloc, log.records.as_slice())? else {
+        return Ok(None);
+    };
+    Ok(Some(FoundSite { layout, log }))
+}
 
 /// What site stands on a disk, if one does. It syncs the instance file first.
 ///
@@ -42,8 +70,10 @@ pub fn inspect<D: Disk>(alloc: Global, disk: &mut D) -> Result<Option<Layout>, S
     ensures cause { (fault : ℕ) → IsErrOf result (SiteError.Failed fault) → Rose (D.disk disk.old).faults (D.disk disk.new).faults }
     ensures no_stop { (fault : ℕ) → IsErrOf result (SiteError.Stopped fault) → ⊥ }
 {
-    let log = read_instance(alloc, disk)?;
-    layout_of(alloc, log.records.as_slice())
+    match find(alloc, disk)? {
+        Some(found) => Ok(Some(found.layout)),
+        None => Ok(None),
+    }
 }
 
 /// Regions as the instance file takes them.

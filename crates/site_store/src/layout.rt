@@ -10,7 +10,7 @@ ghost use Rattle.site_store.specs.Opening.{region_value};
 use crate::error::SiteError;
 use global_dir::Directory;
 use gvn_key::{Bytes, NoMemory};
-use instance_file::InstanceRecord;
+use instance_file::{InstanceLog, InstanceRecord};
 use site_files::{created_name, directory_of, generation_in};
 use std::alloc::Global;
 
@@ -32,6 +32,15 @@ pub struct Layout {
     pub directory: Directory,
     /// The greatest generation of its journals, or 0 where none was drawn.
     pub generation: u32,
+}
+
+/// A site that was found on a disk, with the records that told of it.
+#[derive(Drop)]
+pub struct FoundSite {
+    /// What the records say of the site.
+    pub layout: Layout,
+    /// The records.
+    pub log: InstanceLog,
 }
 
 /// Regions as a layout has them.

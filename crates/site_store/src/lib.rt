@@ -24,12 +24,12 @@ mod reigning;
 mod showing;
 mod site;
 
-pub use creating::{create, inspect};
+pub use creating::{create, find, inspect};
 pub use error::SiteError;
 pub use history::history_of;
 pub use laws::nothing_is_left;
-pub use layout::{Layout, RegionSpec};
-pub use mapping::map;
+pub use layout::{FoundSite, Layout, RegionSpec};
+pub use mapping::{map, map_logged};
 pub use opening::load;
 pub use owning::Site;
 pub use reading::read_file;

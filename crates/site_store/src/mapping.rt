@@ -99,3 +99,37 @@ pub fn map<D: Disk>(
     }
     append_pattern(alloc, disk, log, region, pattern)
 }
+
+/// Maps a pattern, as it is written, to a region of a site of which no generation was drawn yet, and whose records were read right before.
+/// It goes from gate to gate of the instance file, and reads no record again.
+///
+/// # Errors
+/// `Failed` only where the disk's count rose; a crash may then find the pattern all the same. `NotAFile` only where the disk doesn't tell its
+/// files. `NoMemory`.
+pub fn map_logged<D: Disk>(
+    alloc: Global,
+    disk: &mut D,
+    log: InstanceLog,
+    region: u8,
+    pattern: &[u8],
+) -> Result<(), SiteError>
+    requires form { is_pattern pattern.now ≡ true }
+    requires region { region < length (regions log.records) }
+    requires few { length (regions log.records) ≤ 8 }
+    requires undrawn { generation log.records ≡ 0 }
+    requires told { IfSome (D.disk disk.old).content (λ files. IsInstance (files INSTANCE) log.records) }
+    requires durable { IfSome (D.disk disk.old).content (λ files. IsDurable (D.disk disk.old) INSTANCE (files INSTANCE)) }
+    ensures reads { OnOk result (IfSome (D.disk disk.old).content (λ files. (c : Contents) → IsSite files c → IfSome (D.disk disk.new).content (λ now. IsSite now (with_pattern region pattern.now c)))) }
+    ensures images { OnOk result (IfSome (D.disk disk.old).content (λ files. (c : Contents) → IsSite files c → EachStands (D.disk disk.old) → (f : Files) → Image (D.disk disk.new) f → IsSite f (with_pattern region pattern.now c))) }
+    ensures outside { (file offset : ℕ) → IsErrOf result (SiteError.NotAFile file offset) → IfSome (D.disk disk.old).content (λ _. ⊥) }
+    ensures any_moment { IfSome (D.disk disk.old).content (λ files. (c : Contents) → IsSite files c → AtEachMoment (D.disk disk.old) (D.disk disk.new) (MayHavePattern (D.disk disk.old) region pattern.now)) }
+    ensures stands { IfSome (D.disk disk.old).content (λ files. (c : Contents) → IsSite files c → IfSome (D.disk disk.new).content (λ now. IsSite now c ⊎ IsSite now (with_pattern region pattern.now c))) }
+    ensures still_told { IsSome (D.disk disk.old).content → IsSome (D.disk disk.new).content }
+    ensures simulated { (D.disk disk.new).simulated ≡ (D.disk disk.old).simulated }
+    ensures later { (D.disk disk.old).faults ≤ (D.disk disk.new).faults }
+    ensures count { (fault : ℕ) → IsErrOf result (SiteError.Failed fault) → fault ≡ (D.disk disk.new).faults }
+    ensures cause { (fault : ℕ) → IsErrOf result (SiteError.Failed fault) → Rose (D.disk disk.old).faults (D.disk disk.new).faults }
+    ensures causes { OnErr result (((fault : ℕ) × IsErrOf result (SiteError.Failed fault)) ⊎ ((file : ℕ) × (offset : ℕ) × IsErrOf result (SiteError.NotAFile file offset)) ⊎ IsErrOf result SiteError.NoMemory) }
+{
+    append_pattern(alloc, disk, log, region, pattern)
+}

@@ -1,8 +1,10 @@
 //! Opening a site.
 ghost use Rattle.std.specs.Prelude.{◌≡◌, ◌⊎◌, ◌≤◌, ◌<◌, ◌++◌, ◌∷◌, [], ℕ, List, true, false, length, map, Some, None, IfOk, IfSome, OnOk, OnErr, IsErrOf, IsSome};
 ghost use Rattle.disk_defs.specs.Disk.{Files, Image, IsDurable, AtEachMoment, Rose};
+ghost use Rattle.journal_defs.specs.Instance as defs;
 ghost use Rattle.journal_defs.specs.Instance.{generation};
-ghost use Rattle.journal_defs.specs.Numbers.{broken_file};
+ghost use Rattle.journal_defs.specs.Numbers.{INSTANCE, broken_file};
+ghost use Rattle.journal_defs.specs.Stands.{IsInstance};
 ghost use Rattle.instance_file.specs.Values.{record_value};
 ghost use Rattle.world_defs.specs.World.{Contents, Leftover};
 ghost use Rattle.world_defs.specs.Rows.{opened, MayOpen};
@@ -113,8 +115,8 @@ pub fn load<D: Disk>(alloc: Global, disk: &mut D) -> Result<OpenSite, SiteError>
     ensures read { IfOk result (λ s. (c : Contents) × (broken : List ℕ) × Remembers (opened broken c) (length c.sequence) s) }
     ensures told { IfOk result (λ s. IfSome (D.disk disk.old).content (λ files. (c : Contents) (left : Leftover) → IsSite files c → HasLeft files c left → EachStands (D.disk disk.old) → IsOpen (D.disk disk.new) true (opened left.broken c) (length c.sequence) s)) }
     ensures opened { IfOk result WasOpened }
-    ensures drawn { OnOk result (IfSome (D.disk disk.old).content (λ files. (c : Contents) → IsSite files c → generation c.instance < 65534)) }
-    ensures limit { IsErrOf result SiteError.GenLimit → IfSome (D.disk disk.old).content (λ files. (c : Contents) → IsSite files c → 65534 ≤ generation c.instance) }
+    ensures drawn { OnOk result (IfSome (D.disk disk.old).content (λ files. (rs : List defs.InstanceRecord) → IsInstance (files INSTANCE) rs → generation rs < 65534)) }
+    ensures limit { IsErrOf result SiteError.GenLimit → IfSome (D.disk disk.old).content (λ files. (rs : List defs.InstanceRecord) → IsInstance (files INSTANCE) rs → 65534 ≤ generation rs) }
     ensures unwritten { IsErrOf result SiteError.GenLimit → (D.disk disk.new).content ≡ (D.disk disk.old).content }
     ensures untouched { IsErrOf result SiteError.GenLimit → AtEachMoment (D.disk disk.old) (D.disk disk.new) (Image (D.disk disk.old)) }
     ensures place { (file offset : ℕ) → IsErrOf result (SiteError.NotAFile file offset) → IfSome (D.disk disk.old).content (λ files. IsOutsideSite files file offset) }

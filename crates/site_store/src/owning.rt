@@ -17,6 +17,7 @@ ghost use Rattle.gvn_model.specs.Reigns.{stamp_value};
 ghost use Rattle.journal_defs.specs.Numbers.{INSTANCE};
 ghost use Rattle.journal_defs.specs.Instance as instances;
 ghost use Rattle.journal_defs.specs.Instance.{IsInForm, generation, site_name};
+ghost use Rattle.journal_defs.specs.Stands.{IsInstance};
 ghost use Rattle.journal_defs.specs.Surviving.{reigns};
 ghost use Rattle.world_defs.specs.Answers.{ReignLimit};
 ghost use Rattle.world_defs.specs.World.{Contents, Leftover, NO_LEFTOVER};
@@ -108,8 +109,8 @@ impl<D: Disk> Site<D> {
         ensures read { IfOk result (λ s. (c : Contents) × (broken : List ℕ) × Remembers (opened broken c) (length c.sequence) s.inner) }
         ensures told { IfOk result (λ s. IfSome (D.disk disk).content (λ files. (c : Contents) (left : Leftover) → IsSite files c → HasLeft files c left → EachStands (D.disk disk) → IsOpenSite D.disk true (opened left.broken c) (length c.sequence) s)) }
         ensures opened { IfOk result (λ s. WasOpened s.inner) }
-        ensures drawn { OnOk result (IfSome (D.disk disk).content (λ files. (c : Contents) → IsSite files c → generation c.instance < 65534)) }
-        ensures limit { FailsWith result SiteError.GenLimit → IfSome (D.disk disk).content (λ files. (c : Contents) → IsSite files c → 65534 ≤ generation c.instance) }
+        ensures drawn { OnOk result (IfSome (D.disk disk).content (λ files. (rs : List instances.InstanceRecord) → IsInstance (files INSTANCE) rs → generation rs < 65534)) }
+        ensures limit { FailsWith result SiteError.GenLimit → IfSome (D.disk disk).content (λ files. (rs : List instances.InstanceRecord) → IsInstance (files INSTANCE) rs → 65534 ≤ generation rs) }
         ensures unwritten { FailsWith result SiteError.GenLimit → (D.disk (disk_left result)).content ≡ (D.disk disk).content }
         ensures untouched { FailsWith result SiteError.GenLimit → AtEachMoment (D.disk disk) (D.disk (disk_left result)) (Image (D.disk disk)) }
         ensures place { (file offset : ℕ) → FailsWith result (SiteError.NotAFile file offset) → IfSome (D.disk disk).content (λ files. IsOutsideSite files file offset) }
@@ -162,7 +163,7 @@ impl<D: Disk> Site<D> {
     /// `ReignLimit` exactly where 32,768 reigns have begun by the length, or a reign has the last cycle, also one that a CUT
     /// dropped; nothing has changed then. `Failed` only where the disk's count rose; a crash may then find the reign all the same.
     /// `Stopped` exactly where a call before failed. `NoMemory`.
-    pub fn start_reign(&mut self, alloc: Global) -> Result<Stamp, SiteError>
+    pub fn start_reign(&mut self) -> Result<Stamp, SiteError>
         requires ready { MayBeCalled D.disk self.old }
         requires opened { self.old.fault ≡ None → WasOpened self.old.inner }
         ensures ready { OnOk result (IsGoing D.disk self.new) }
@@ -190,6 +191,7 @@ impl<D: Disk> Site<D> {
         if let Some(fault) = self.fault {
             return Err(SiteError::Stopped { fault });
         }
+        let alloc = self.inner.instance.gated.alloc;
         match self.inner.start_reign(alloc, &mut self.disk) {
             Ok(stamp) => {
                 self.history = history_in(&self.inner)?;
@@ -209,7 +211,7 @@ impl<D: Disk> Site<D> {
     /// `Full` exactly where more than 100,000 nodes would stand after one of its updates, `SeqLimit` exactly where the last number
     /// is used up, and `NoMemory`: nothing has changed after these three, but that there may be more room. `Failed` only where the
     /// disk's count rose. `Stopped` exactly where a call before failed.
-    pub fn commit(&mut self, alloc: Global, t: &Transaction) -> Result<u64, SiteError>
+    pub fn commit(&mut self, t: &Transaction) -> Result<u64, SiteError>
         requires ready { MayBeCalled D.disk self.old }
         requires form { IsTransaction (transaction_value t.now) }
         requires reign { self.old.fault ≡ None → HasReign self.old.inner }
@@ -243,6 +245,7 @@ impl<D: Disk> Site<D> {
         if let Some(fault) = self.fault {
             return Err(SiteError::Stopped { fault });
         }
+        let alloc = self.inner.instance.gated.alloc;
         match self.inner.commit(alloc, &mut self.disk, t) {
             Ok(number) => {
                 self.history.length = number;

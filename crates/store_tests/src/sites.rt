@@ -147,7 +147,7 @@ fn begin<D: Disk>(alloc: Global, mut disk: D) -> Result<Site<D>, SiteError>
         Ok(site) => site,
         Err((_, error)) => return Err(error),
     };
-    site.start_reign(alloc)?;
+    site.start_reign()?;
     Ok(site)
 }
 
@@ -174,7 +174,7 @@ fn put<D: Disk>(alloc: Global, site: &mut Site<D>) -> Result<u64, Fail>
     ensures reign { OnOk result (HasReign site.new.inner) }
 {
     let t = set(alloc)?;
-    Ok(site.commit(alloc, &t)?)
+    Ok(site.commit(&t)?)
 }
 
 /// A site with two entries, of which one is hardened.

@@ -1,4 +1,6 @@
-use Rattle.std.proofs.Common.{ap, ◌∙◌, Err}
+use Rattle.std.proofs.Common.{ap, ◌∙◌, Err, Option, IfSome, subst}
+use Rattle.site_store.specs.Finding.{IsFoundIn, layout_in}
+use Rattle.site_store.specs.declared.layout.FoundSite.{FoundSite}
 use Rattle.site_runner.proofs.Results.{on_ok, on_err_of, err_holds}
 use Rattle.site_runner.proofs.Written.{named, not_a_file}
 use Rattle.site_runner.proofs.Mapped.{look_faulted, look_damaged, look_cut, maps_so, cut_so}
@@ -8,48 +10,51 @@ use Rattle.site_runner.proofs.mapping.map_down.Goals as goal
 pub map_found-requires-clause-found : goal.map_found-requires-clause-found
 map_found-requires-clause-found g c =
     let e = c.in-Ok-Some.ensures in
-    found_again (g.D.Disk.disk c.args.disk.now).content (g.D.Disk.disk c.inspect.new.disk).content c.in-Ok-Some.field-0 c.in-Ok-Some.found e.content c.in-Ok-Some.field-0-is e.found
+    found_again (g.D.Disk.disk c.args.disk.now).content (g.D.Disk.disk c.find.new.disk).content (layout_in c.in-Ok-Some.field-0) c.in-Ok-Some.found.layout e.content (ap layout_in c.in-Ok-Some.field-0-is) e.found
+
+pub map_found-requires-clause-told : goal.map_found-requires-clause-told
+map_found-requires-clause-told g c = subst (λ (o : Option FoundSite). IfSome o (IsFoundIn (g.D.Disk.disk c.find.new.disk))) c.in-Ok-Some.field-0-is c.in-Ok-Some.ensures.told
 
 pub returns-in-Ok-Some-clause-done : goal.returns-in-Ok-Some-clause-done
 returns-in-Ok-Some-clause-done g c =
     let e = c.in-Ok-Some.ensures in
     on_ok c.map_found.result _ _ c.map_found.ensures.done (λ m.
-    maps_so c.args.region.now c.args.pattern.now (g.D.Disk.disk c.args.disk.now) (g.D.Disk.disk c.inspect.new.disk) (g.D.Disk.disk c.map_found.new.disk) c.args.site.now c.map_found.new.site c.args.text.now c.map_found.new.text
-    (record { lawful = g.met.D.Disk.lawful c.inspect.new.disk; any_moment = e.any_moment; content = e.content; simulated = e.simulated; later = e.later }) c.requires.down e.alike m)
+    maps_so c.args.region.now c.args.pattern.now (g.D.Disk.disk c.args.disk.now) (g.D.Disk.disk c.find.new.disk) (g.D.Disk.disk c.map_found.new.disk) c.args.site.now c.map_found.new.site c.args.text.now c.map_found.new.text
+    (record { lawful = g.met.D.Disk.lawful c.find.new.disk; any_moment = e.any_moment; content = e.content; simulated = e.simulated; later = e.later }) c.requires.down e.alike m)
 
 pub returns-in-Ok-Some-clause-cut_off : goal.returns-in-Ok-Some-clause-cut_off
 returns-in-Ok-Some-clause-cut_off g c =
     let e = c.in-Ok-Some.ensures in
     on_err_of c.map_found.result _ _ c.map_found.ensures.cut_off (λ m.
-    cut_so c.args.region.now c.args.pattern.now (g.D.Disk.disk c.args.disk.now) (g.D.Disk.disk c.inspect.new.disk) (g.D.Disk.disk c.map_found.new.disk) c.args.site.now
-    (record { lawful = g.met.D.Disk.lawful c.inspect.new.disk; any_moment = e.any_moment; content = e.content; simulated = e.simulated; later = e.later }) c.requires.down e.alike m)
+    cut_so c.args.region.now c.args.pattern.now (g.D.Disk.disk c.args.disk.now) (g.D.Disk.disk c.find.new.disk) (g.D.Disk.disk c.map_found.new.disk) c.args.site.now
+    (record { lawful = g.met.D.Disk.lawful c.find.new.disk; any_moment = e.any_moment; content = e.content; simulated = e.simulated; later = e.later }) c.requires.down e.alike m)
 
 pub returns-in-Ok-None-clause-done : goal.returns-in-Ok-None-clause-done
 returns-in-Ok-None-clause-done g c =
     let e = c.in-Ok-None.ensures in
     on_ok c.write_not_a_file.result _ _ c.write_not_a_file.ensures (λ t.
-    look_damaged c.args.region.now c.args.pattern.now (g.D.Disk.disk c.args.disk.now) (g.D.Disk.disk c.inspect.new.disk) c.args.site.now 0 0 c.args.text.now _
-    (record { lawful = g.met.D.Disk.lawful c.inspect.new.disk; any_moment = e.any_moment; content = e.content; simulated = e.simulated; later = e.later }) c.requires.down (named _ _ c.as_slice.ensures t)
-    (none_found (g.D.Disk.disk c.args.disk.now).content c.in-Ok-None.field-0 c.in-Ok-None.field-0-is e.found))
+    look_damaged c.args.region.now c.args.pattern.now (g.D.Disk.disk c.args.disk.now) (g.D.Disk.disk c.find.new.disk) c.args.site.now 0 0 c.args.text.now _
+    (record { lawful = g.met.D.Disk.lawful c.find.new.disk; any_moment = e.any_moment; content = e.content; simulated = e.simulated; later = e.later }) c.requires.down (named _ _ c.as_slice.ensures t)
+    (none_found (g.D.Disk.disk c.args.disk.now).content (layout_in c.in-Ok-None.field-0) (ap layout_in c.in-Ok-None.field-0-is) e.found))
 
 pub returns-in-Ok-None-clause-cut_off : goal.returns-in-Ok-None-clause-cut_off
 returns-in-Ok-None-clause-cut_off g c =
     let e = c.in-Ok-None.ensures in
-    err_holds c.write_not_a_file.result _ (look_cut c.leftovers_hold.ensures c.args.region.now c.args.pattern.now (g.D.Disk.disk c.args.disk.now) (g.D.Disk.disk c.inspect.new.disk) c.args.site.now
-    (record { lawful = g.met.D.Disk.lawful c.inspect.new.disk; any_moment = e.any_moment; content = e.content; simulated = e.simulated; later = e.later }))
+    err_holds c.write_not_a_file.result _ (look_cut c.leftovers_hold.ensures c.args.region.now c.args.pattern.now (g.D.Disk.disk c.args.disk.now) (g.D.Disk.disk c.find.new.disk) c.args.site.now
+    (record { lawful = g.met.D.Disk.lawful c.find.new.disk; any_moment = e.any_moment; content = e.content; simulated = e.simulated; later = e.later }))
 
 pub returns-in_err-write_numbered-in-Err-Failed-clause-cut_off : goal.returns-in_err-write_numbered-in-Err-Failed-clause-cut_off
 returns-in_err-write_numbered-in-Err-Failed-clause-cut_off g c =
     let e = c.in-Err-Failed.ensures in
-    err_holds c.from_residual.result _ (look_cut c.leftovers_hold.ensures c.args.region.now c.args.pattern.now (g.D.Disk.disk c.args.disk.now) (g.D.Disk.disk c.inspect.new.disk) c.args.site.now
-    (record { lawful = g.met.D.Disk.lawful c.inspect.new.disk; any_moment = e.any_moment; content = e.content; simulated = e.simulated; later = e.later }))
+    err_holds c.from_residual.result _ (look_cut c.leftovers_hold.ensures c.args.region.now c.args.pattern.now (g.D.Disk.disk c.args.disk.now) (g.D.Disk.disk c.find.new.disk) c.args.site.now
+    (record { lawful = g.met.D.Disk.lawful c.find.new.disk; any_moment = e.any_moment; content = e.content; simulated = e.simulated; later = e.later }))
 
 pub returns-in_ok-write_numbered-in-Err-Failed-clause-done : goal.returns-in_ok-write_numbered-in-Err-Failed-clause-done
 returns-in_ok-write_numbered-in-Err-Failed-clause-done g c =
     let e = c.in-Err-Failed.ensures in
     let is = ap Err c.in-Err-Failed.field-0-is in
-    look_faulted c.leftovers_hold.ensures c.args.region.now c.args.pattern.now (g.D.Disk.disk c.args.disk.now) (g.D.Disk.disk c.inspect.new.disk) c.args.site.now _ c.args.text.now _
-    (record { lawful = g.met.D.Disk.lawful c.inspect.new.disk; any_moment = e.any_moment; content = e.content; simulated = e.simulated; later = e.later }) c.requires.down
+    look_faulted c.leftovers_hold.ensures c.args.region.now c.args.pattern.now (g.D.Disk.disk c.args.disk.now) (g.D.Disk.disk c.find.new.disk) c.args.site.now _ c.args.text.now _
+    (record { lawful = g.met.D.Disk.lawful c.find.new.disk; any_moment = e.any_moment; content = e.content; simulated = e.simulated; later = e.later }) c.requires.down
     (c.in-Err-Failed.fault-is ∙ e.count c.in-Err-Failed.fault is) (e.cause c.in-Err-Failed.fault is) (named _ _ c.as_slice-in-Err-Failed.ensures c.in_ok-write_numbered-in-Err-Failed.ensures)
 
 pub returns-in-Err-NotAFile-clause-done : goal.returns-in-Err-NotAFile-clause-done
@@ -58,16 +63,16 @@ returns-in-Err-NotAFile-clause-done g c =
     let file = c.in-Err-NotAFile.file in
     let offset = c.in-Err-NotAFile.offset in
     on_ok c.write_not_a_file-in-Err-NotAFile.result _ _ c.write_not_a_file-in-Err-NotAFile.ensures (λ t.
-    look_damaged c.args.region.now c.args.pattern.now (g.D.Disk.disk c.args.disk.now) (g.D.Disk.disk c.inspect.new.disk) c.args.site.now file offset c.args.text.now _
-    (record { lawful = g.met.D.Disk.lawful c.inspect.new.disk; any_moment = e.any_moment; content = e.content; simulated = e.simulated; later = e.later }) c.requires.down
+    look_damaged c.args.region.now c.args.pattern.now (g.D.Disk.disk c.args.disk.now) (g.D.Disk.disk c.find.new.disk) c.args.site.now file offset c.args.text.now _
+    (record { lawful = g.met.D.Disk.lawful c.find.new.disk; any_moment = e.any_moment; content = e.content; simulated = e.simulated; later = e.later }) c.requires.down
     (not_a_file _ c.in-Err-NotAFile.file-is c.in-Err-NotAFile.offset-is c.as_slice-in-Err-NotAFile.ensures t)
     (nothing_there (g.D.Disk.disk c.args.disk.now).content (e.outside file offset (ap Err c.in-Err-NotAFile.field-0-is))))
 
 pub returns-in-Err-NotAFile-clause-cut_off : goal.returns-in-Err-NotAFile-clause-cut_off
 returns-in-Err-NotAFile-clause-cut_off g c =
     let e = c.in-Err-NotAFile.ensures in
-    err_holds c.write_not_a_file-in-Err-NotAFile.result _ (look_cut c.leftovers_hold.ensures c.args.region.now c.args.pattern.now (g.D.Disk.disk c.args.disk.now) (g.D.Disk.disk c.inspect.new.disk) c.args.site.now
-    (record { lawful = g.met.D.Disk.lawful c.inspect.new.disk; any_moment = e.any_moment; content = e.content; simulated = e.simulated; later = e.later }))
+    err_holds c.write_not_a_file-in-Err-NotAFile.result _ (look_cut c.leftovers_hold.ensures c.args.region.now c.args.pattern.now (g.D.Disk.disk c.args.disk.now) (g.D.Disk.disk c.find.new.disk) c.args.site.now
+    (record { lawful = g.met.D.Disk.lawful c.find.new.disk; any_moment = e.any_moment; content = e.content; simulated = e.simulated; later = e.later }))
 
 pub returns-in-Err : goal.returns-in-Err
 returns-in-Err g c =
@@ -75,6 +80,6 @@ returns-in-Err g c =
     record {
       ready = tt;
       done = tt;
-      cut_off = look_cut c.leftovers_hold.ensures c.args.region.now c.args.pattern.now (g.D.Disk.disk c.args.disk.now) (g.D.Disk.disk c.inspect.new.disk) c.args.site.now
-          (record { lawful = g.met.D.Disk.lawful c.inspect.new.disk; any_moment = e.any_moment; content = e.content; simulated = e.simulated; later = e.later });
+      cut_off = look_cut c.leftovers_hold.ensures c.args.region.now c.args.pattern.now (g.D.Disk.disk c.args.disk.now) (g.D.Disk.disk c.find.new.disk) c.args.site.now
+          (record { lawful = g.met.D.Disk.lawful c.find.new.disk; any_moment = e.any_moment; content = e.content; simulated = e.simulated; later = e.later });
     }

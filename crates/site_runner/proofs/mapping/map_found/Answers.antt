@@ -1,4 +1,4 @@
-use Rattle.std.proofs.Common.{◌≡◌, ℕ, List, take, map, Some, None, sym, ◌∙◌, ap, arith, Err}
+use Rattle.std.proofs.Common.{◌≡◌, ◌<◌, ℕ, subst, List, take, map, Some, None, sym, ◌∙◌, ap, arith, Err}
 use Rattle.std.specs.Prelude.{Option}
 use Rattle.world_defs.specs.Lists.{first_where}
 use Rattle.world_defs.specs.World.{same_name}
@@ -17,10 +17,10 @@ by_name found o name n e h = h ∙ ap (λ (x : List ℕ). first_where (λ r. sam
 
 pub returns-then-not-is_named-clause-done : goal.returns-then-not-is_named-clause-done
 returns-then-not-is_named-clause-done g c =
-    let other : same_name c.args.found.name c.args.site.now.name ≡ _ = ap (same_name c.args.found.name) (sym c.as_slice.ensures) ∙ sym c.is_named.ensures ∙ c.if-not-is_named.true in
+    let other : same_name c.args.found.layout.name c.args.site.now.name ≡ _ = ap (same_name c.args.found.layout.name) (sym c.as_slice.ensures) ∙ sym c.is_named.ensures ∙ c.if-not-is_named.true in
     on_ok c.write_not_a_file.result _ _ c.write_not_a_file.ensures (λ t.
     seen_other c.args.region.now c.args.pattern.now (g.D.Disk.disk c.args.disk.now) c.args.site.now 0 0 c.args.text.now _ (named _ _ c.as_slice-then-not-is_named.ensures t)
-    (other_found (g.D.Disk.disk c.args.disk.now).content c.args.found c.args.site.now.name other c.requires.found))
+    (other_found (g.D.Disk.disk c.args.disk.now).content c.args.found.layout c.args.site.now.name other c.requires.found))
 
 pub returns-then-not-is_named-clause-cut_off : goal.returns-then-not-is_named-clause-cut_off
 returns-then-not-is_named-clause-cut_off g c =
@@ -29,7 +29,7 @@ returns-then-not-is_named-clause-cut_off g c =
 pub returns-then-found-gt0-clause-done : goal.returns-then-found-gt0-clause-done
 returns-then-found-gt0-clause-done g c =
     on_ok c.write_line.result _ _ c.write_line.ensures (λ t.
-    found_started c.args.region.now c.args.pattern.now (g.D.Disk.disk c.args.disk.now) c.args.site.now c.args.found c.args.text.now _ c.requires.found c.if-found-gt0.true (named _ _ c.as_slice-then-found-gt0.ensures t))
+    found_started c.args.region.now c.args.pattern.now (g.D.Disk.disk c.args.disk.now) c.args.site.now c.args.found.layout c.args.text.now _ c.requires.found c.if-found-gt0.true (named _ _ c.as_slice-then-found-gt0.ensures t))
 
 pub returns-then-found-gt0-clause-cut_off : goal.returns-then-found-gt0-clause-cut_off
 returns-then-found-gt0-clause-cut_off g c =
@@ -37,10 +37,10 @@ returns-then-found-gt0-clause-cut_off g c =
 
 pub returns-in_default-clause-done : goal.returns-in_default-clause-done
 returns-in_default-clause-done g c =
-    let none : c.args.found.generation ≡ 0 = omega (arith, c.if-found-gt0.false) in
+    let none : c.args.found.layout.generation ≡ 0 = omega (arith, c.if-found-gt0.false) in
     on_ok c.write_named.result _ _ c.write_named.ensures (λ t.
-    found_no_region c.args.region.now c.args.pattern.now (g.D.Disk.disk c.args.disk.now) c.args.site.now c.args.found c.args.text.now _ c.requires.found none
-    (by_name c.args.found None c.args.region.now c.as_slice-2.result.now c.as_slice-2.ensures (sym c.in_default.is ∙ c.region_named.ensures.number))
+    found_no_region c.args.region.now c.args.pattern.now (g.D.Disk.disk c.args.disk.now) c.args.site.now c.args.found.layout c.args.text.now _ c.requires.found none
+    (by_name c.args.found.layout None c.args.region.now c.as_slice-2.result.now c.as_slice-2.ensures (sym c.in_default.is ∙ c.region_named.ensures.number))
     (region_word _ c.as_slice-in_default.ensures c.as_slice-in_default-2.ensures t))
 
 pub returns-in_default-clause-cut_off : goal.returns-in_default-clause-cut_off
@@ -49,21 +49,29 @@ returns-in_default-clause-cut_off g c =
 
 pub map_there-requires-clause-free : goal.map_there-requires-clause-free
 map_there-requires-clause-free g c =
-    let none : c.args.found.generation ≡ 0 = omega (arith, c.if-found-gt0.false) in
-    free_in (g.D.Disk.disk c.args.disk.now).content c.args.region.now c.in-Some.number c.args.pattern.now c.args.found c.requires.found none c.in-Some.ensures.inside
-    (by_name c.args.found (Some c.in-Some.number) c.args.region.now c.as_slice-2.result.now c.as_slice-2.ensures c.in-Some.ensures.number)
+    let none : c.args.found.layout.generation ≡ 0 = omega (arith, c.if-found-gt0.false) in
+    free_in (g.D.Disk.disk c.args.disk.now).content c.args.region.now c.in-Some.number c.args.pattern.now c.args.found.layout c.requires.found none c.in-Some.ensures.inside
+    (by_name c.args.found.layout (Some c.in-Some.number) c.args.region.now c.as_slice-2.result.now c.as_slice-2.ensures c.in-Some.ensures.number)
     (λ twice. (cc (c.in-Ok.ensures.twice.1 (c.requires.form, c.in-Some.ensures.inside, twice))))
+
+pub map_there-requires-clause-inside : goal.map_there-requires-clause-inside
+map_there-requires-clause-inside g c = subst (λ (n : ℕ). c.in-Some.number < n) (ap (λ m. m.regions) c.requires.told.layout.directory) c.in-Some.ensures.inside
+
+pub map_there-requires-clause-undrawn : goal.map_there-requires-clause-undrawn
+map_there-requires-clause-undrawn g c =
+    let none : c.args.found.layout.generation ≡ 0 = omega (arith, c.if-found-gt0.false) in
+    sym c.requires.told.layout.generation ∙ none
 
 pub map_there-requires-clause-named : goal.map_there-requires-clause-named
 map_there-requires-clause-named g c =
-    some_contents c.args.region.now c.args.found c.in-Some.number (by_name c.args.found (Some c.in-Some.number) c.args.region.now c.as_slice-2.result.now c.as_slice-2.ensures c.in-Some.ensures.number)
+    some_contents c.args.region.now c.args.found.layout c.in-Some.number (by_name c.args.found.layout (Some c.in-Some.number) c.args.region.now c.as_slice-2.result.now c.as_slice-2.ensures c.in-Some.ensures.number)
 
 pub returns-in-Err-TwiceMapped-clause-done : goal.returns-in-Err-TwiceMapped-clause-done
 returns-in-Err-TwiceMapped-clause-done g c =
-    let none : c.args.found.generation ≡ 0 = omega (arith, c.if-found-gt0.false) in
+    let none : c.args.found.layout.generation ≡ 0 = omega (arith, c.if-found-gt0.false) in
     on_ok c.write_line-in-Err-TwiceMapped.result _ _ c.write_line-in-Err-TwiceMapped.ensures (λ t.
-    found_twice c.args.region.now c.args.pattern.now (g.D.Disk.disk c.args.disk.now) c.args.site.now c.args.found c.in-Some.number c.args.text.now _ c.requires.found none
-    (by_name c.args.found (Some c.in-Some.number) c.args.region.now c.as_slice-2.result.now c.as_slice-2.ensures c.in-Some.ensures.number)
+    found_twice c.args.region.now c.args.pattern.now (g.D.Disk.disk c.args.disk.now) c.args.site.now c.args.found.layout c.in-Some.number c.args.text.now _ c.requires.found none
+    (by_name c.args.found.layout (Some c.in-Some.number) c.args.region.now c.as_slice-2.result.now c.as_slice-2.ensures c.in-Some.ensures.number)
     (c.in-Err-TwiceMapped.ensures.twice.0 (ap Err c.in-Err-TwiceMapped.field-0-is)).2 (named _ _ c.as_slice-in-Err-TwiceMapped.ensures t))
 
 pub returns-in-Err-TwiceMapped-clause-cut_off : goal.returns-in-Err-TwiceMapped-clause-cut_off

@@ -1,6 +1,7 @@
 use Rattle.std.proofs.Common.{◌∙◌, ap, sym, Err}
 use Rattle.site_runner.proofs.Results.{on_ok, on_err_of, err_holds}
 use Rattle.site_runner.proofs.Written.{named, not_a_file}
+use Rattle.site_store.proofs.Refused.{limit_site, drawn_site}
 use Rattle.site_runner.proofs.Started.{load_faulted, load_cut, load_limit, load_damaged, load_other, begins_so, begins_cut}
 use Rattle.site_runner.proofs.start.open.Goals as goal
 
@@ -14,14 +15,14 @@ returns-then-is_named-clause-done g c =
     let e = c.in-Ok.ensures in
     let name = c.if-is_named.ensures ∙ c.as_slice.ensures in
     on_ok c.begin.result _ _ c.begin.ensures.done (λ b.
-    begins_so c.files_stand_for_one.ensures (g.D.Disk.disk c.args.disk.now) (g.D.Disk.disk c.load.new.disk) (g.D.Disk.disk c.begin.new.disk) c.args.site.now c.begin.new.site c.in-Ok.opened c.args.text.now c.begin.new.text (g.met.D.Disk.lawful c.args.disk.now) c.requires name e.read e.told e.drawn e.simulated e.later b)
+    begins_so c.files_stand_for_one.ensures (g.D.Disk.disk c.args.disk.now) (g.D.Disk.disk c.load.new.disk) (g.D.Disk.disk c.begin.new.disk) c.args.site.now c.begin.new.site c.in-Ok.opened c.args.text.now c.begin.new.text (g.met.D.Disk.lawful c.args.disk.now) c.requires name e.read e.told (drawn_site (g.D.Disk.disk c.args.disk.now).content e.drawn) e.simulated e.later b)
 
 pub returns-then-is_named-clause-cut_off : goal.returns-then-is_named-clause-cut_off
 returns-then-is_named-clause-cut_off g c =
     let e = c.in-Ok.ensures in
     let name = c.if-is_named.ensures ∙ c.as_slice.ensures in
     on_err_of c.begin.result _ _ c.begin.ensures.cut_off (λ b.
-    begins_cut c.files_stand_for_one.ensures (g.D.Disk.disk c.args.disk.now) (g.D.Disk.disk c.load.new.disk) (g.D.Disk.disk c.begin.new.disk) c.args.site.now c.in-Ok.opened (g.met.D.Disk.lawful c.args.disk.now) c.requires name e.read e.told e.drawn e.simulated e.later b)
+    begins_cut c.files_stand_for_one.ensures (g.D.Disk.disk c.args.disk.now) (g.D.Disk.disk c.load.new.disk) (g.D.Disk.disk c.begin.new.disk) c.args.site.now c.in-Ok.opened (g.met.D.Disk.lawful c.args.disk.now) c.requires name e.read e.told (drawn_site (g.D.Disk.disk c.args.disk.now).content e.drawn) e.simulated e.later b)
 
 pub returns-else-is_named-clause-done : goal.returns-else-is_named-clause-done
 returns-else-is_named-clause-done g c =
@@ -40,7 +41,7 @@ returns-in-Err-GenLimit-clause-done g c =
     let e = c.in-Err-GenLimit.ensures in
     let is = ap Err c.in-Err-GenLimit.field-0-is in
     on_ok c.write_line.result _ _ c.write_line.ensures (λ t.
-    load_limit (g.D.Disk.disk c.args.disk.now) (g.D.Disk.disk c.load.new.disk) c.args.site.now c.args.text.now _ (g.met.D.Disk.lawful c.load.new.disk) c.requires (e.limit is) (e.unwritten is) (e.untouched is) e.simulated e.later
+    load_limit (g.D.Disk.disk c.args.disk.now) (g.D.Disk.disk c.load.new.disk) c.args.site.now c.args.text.now _ (g.met.D.Disk.lawful c.load.new.disk) c.requires (limit_site (g.D.Disk.disk c.args.disk.now).content (e.limit is)) (e.unwritten is) (e.untouched is) e.simulated e.later
     (named _ _ c.as_slice-in-Err-GenLimit.ensures t))
 
 pub returns-in-Err-GenLimit-clause-cut_off : goal.returns-in-Err-GenLimit-clause-cut_off

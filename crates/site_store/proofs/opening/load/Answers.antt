@@ -20,7 +20,7 @@ use Rattle.site_store.specs.Refusing.{IsUnwritten}
 use Rattle.site_store.proofs.Refused.{told_anyway}
 use Rattle.site_store.proofs.Errors.{file_was, limit_was}
 use Rattle.site_store.proofs.Loaded.{length_values, quiet_told, quiet_stands, drawn_moments, drawn_stands, room_left, remembers, is_open, was_opened, is_ready}
-use Rattle.site_store.proofs.Refused.{no_site, limit_site, untold, read_kept}
+use Rattle.site_store.proofs.Refused.{no_site, untold, read_kept}
 use Rattle.site_store.proofs.opening.load.Goals as goal
 
 pub returns-in_err-read-clause-outside : goal.returns-in_err-read-clause-outside
@@ -45,7 +45,7 @@ returns-in_err-read-clause-refused g c =
 pub returns-in_err-read-clause-limit : goal.returns-in_err-read-clause-limit
 returns-in_err-read-clause-limit g c =
     let p = err_from_is_err_and c.from_residual.result c.from_residual.ensures.1 in
-    rw (p.1, p.2) (λ is. limit_site (g.D.Disk.disk c.args.disk.now).content (c.in_err-read.ensures.limit (limit_was c.in_err-read.field-0.0 is)))
+    rw (p.1, p.2) (λ is. c.in_err-read.ensures.limit (limit_was c.in_err-read.field-0.0 is))
 
 pub returns-in_err-read-clause-any_moment : goal.returns-in_err-read-clause-any_moment
 returns-in_err-read-clause-any_moment g c =
