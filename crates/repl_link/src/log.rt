@@ -17,11 +17,6 @@ impl Model for Log {
     ghost also_owns = { λ _. ftrue };
 }
 
-// It owns nothing.
-unsafe impl Send for Log {}
-
-unsafe impl Sync for Log {}
-
 impl Log {
     ghost use Rattle.wire_defs.specs.Links.{past_of};
     ghost use Rattle.repl_link.specs.MemEnds.{mem_sending, mem_receiving};

@@ -2,7 +2,6 @@
 use Rattle.std.proofs.Common.{[], ◌∷◌, refl}
 use Rattle.std.proofs.raw_atomic.Walks.{proved}
 use mir.Val.{vstruct, vnil}
-use contract.Running.{tables}
 use denote.RattleType.{owns}
 use denote.Shadow.{pure_i}
 use denote.Signature.{types_at}

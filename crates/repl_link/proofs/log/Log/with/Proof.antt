@@ -3,7 +3,6 @@ use Rattle.std.proofs.Common.{[], ◌∷◌, ◌++◌, refl, w32}
 use Rattle.std.proofs.raw_atomic.Walks.{proved}
 use mir.Syntax.{named}
 use mir.Val.{vstruct, vnil}
-use contract.Running.{tables}
 use denote.Builtin.{u32}
 use denote.Exit.{yes}
 use denote.Plain.{uint_vals, uint_Tells}
