@@ -1,7 +1,6 @@
 // Links in memory, in one thread and between two.
-ghost use Rattle.std.specs.Prelude.{◌≡◌, IsTrue, IfOk, count_by, if◌then◌else◌};
+ghost use Rattle.std.specs.Prelude.{◌≡◌, IsTrue, IfOk};
 ghost use Rattle.global_defs.specs.Prefix.{IsPrefix};
-ghost use Rattle.wire_defs.specs.Links.{was_cut, past_since};
 
 use repl_link::{ConnectError, Cut, Ends, LinkRx, LinkTx, Linker, MemLinker, NoMemory, Received};
 use std::alloc::Global;
@@ -144,11 +143,8 @@ fn the_end_comes_behind_the_last_byte_and_stays(rt: HostRuntime) {
     assert_eq!(&rt; links.cuts(4), 0);
 }
 
-// Sends a byte over a new connection, hears what comes, and gives the connection back: whether it was found cut. What remains of
-// it says the same.
-fn is_cut<L: Linker>(links: &mut L, session: u32) -> Result<bool, ConnectError>
-    ensures { IfOk result (λ cut. count_by was_cut (past_since (L.links links.old) (L.links links.new) session) ≡ (if cut then 1 else 0)) }
-{
+// Sends a byte over a new connection, hears what comes, and gives the connection back: whether it was found cut.
+fn is_cut<L: Linker>(links: &mut L, session: u32) -> Result<bool, ConnectError> {
     let mut ends = links.connect(session)?;
     let unsent = ends.up_tx.send(&[7]).is_err();
     let mut buffer = [0u8; 1];
@@ -158,7 +154,7 @@ fn is_cut<L: Linker>(links: &mut L, session: u32) -> Result<bool, ConnectError>
 }
 
 #[test]
-fn what_remains_tells_which_connections_were_cut(rt: HostRuntime) {
+fn cuts_of_both_ends_are_added(rt: HostRuntime) {
     let mut links = MemLinker::new(rt.alloc());
     assert!(&rt; links.cut_after(6, 0) == Ok(()));
     assert!(&rt; links.cut_after(6, 1) == Ok(()));
