@@ -30,11 +30,6 @@ has_end-append [] ys open_end = refl
 has_end-append (Byte b ∷ xs) ys open_end = has_end-append xs ys open_end
 has_end-append (End ∷ xs) ys open_end = cc
 
-pub has_end-ended : (xs ys : List Item) → has_end xs ≡ true → has_end (xs ++ ys) ≡ true
-has_end-ended [] ys open_end = cc
-has_end-ended (Byte b ∷ xs) ys open_end = has_end-ended xs ys open_end
-has_end-ended (End ∷ xs) ys open_end = refl
-
 -- items that begin with bytes, and then an end
 pub ends_at : (items : List Item) (bytes : List ℕ) (i : ℕ) (d : Item) → i < length items → take i items ≡ map Byte bytes → get_or items i d ≡ End
     → (bytes_of items ≡ bytes) × (has_end items ≡ true)

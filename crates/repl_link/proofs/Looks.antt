@@ -1,5 +1,5 @@
 -- What looking at the other end tells.
-use Rattle.std.proofs.Common.{◌≡◌, ℕ, suc, ◌+◌, ◌-◌, ◌≤◌, Bool, true, false, List, [], ◌∷◌, ◌++◌, length, ap, sym, refl, ◌∙◌, arith, append_assoc, if◌then◌else◌}
+use Rattle.std.proofs.Common.{◌≡◌, ℕ, suc, ◌+◌, ◌-◌, ◌≤◌, Bool, true, false, List, [], ◌∷◌, ◌++◌, length, ap, sym, refl, ◌∙◌, arith, append_assoc, append-nil, IsTrue, if◌then◌else◌}
 use Rattle.std.proofs.lemmas.List.{length-append}
 use mathlib.Core.List.{IsPrefix as Begins}
 use Rattle.global_defs.specs.Prefix.{IsPrefix}
@@ -7,7 +7,8 @@ use Rattle.wire_defs.specs.Links.{Sending, Receiving, SendingLooked, ReceivingLo
 use Rattle.repl_link.specs.declared.items.Item.{Item}
 use Rattle.repl_link.specs.declared.items.Item.TheVariants.{Byte, End}
 use Rattle.repl_link.specs.Items.{bytes_of, has_end}
-use Rattle.repl_link.proofs.ItemLists.{has_end-append, has_end-ended, bytes_of-taken, bytes_of-ended, bytes_of-more}
+use Rattle.repl_link.specs.EndLaws.{has_end-ended}
+use Rattle.repl_link.proofs.ItemLists.{has_end-append, bytes_of-taken, bytes_of-ended, bytes_of-more}
 
 -- items without an end are all bytes
 pub length-bytes_of : (items : List Item) → has_end items ≡ false → length (bytes_of items) ≡ length items
@@ -52,13 +53,16 @@ pub begins_twice : (a b c : List Item) → Begins a b → Begins b c → Begins 
 begins_twice a b c first second = (first.0 ++ second.0, sym (append_assoc a first.0 second.0) ∙ ap (λ l. l ++ second.0) first.1 ∙ second.1)
 
 -- what was known before the ends looked
-pub carries : (s s' : Sending) (r r' : Receiving) → SendingLooked s s' → ReceivingLooked r r' → KnowAll s' r' → Carries s r
-carries s s' r r' tx rx all =
+pub carries : (s s' : Sending) (r r' : Receiving) → SendingLooked s s' → ReceivingLooked r r' → KnowAll s' r'
+    → (IsTrue r.closed → IsTrue r.ended × (r.unread ≡ [])) → Carries s r
+carries s s' r r' tx rx all over =
+    let finished : IsTrue r.ended → IsTrue s.finished = λ e. sym tx.finished ∙ sym all.ended ∙ rx.ended e in
     let whole : s.sent ≡ r.received ++ r'.unread = sym tx.sent ∙ sym all.unread ∙ ap (λ l. l ++ r'.unread) rx.received in
     record {
       prefix = (r'.unread, whole);
       unread = (rx.unread.0, whole ∙ ap (λ l. r.received ++ l) rx.unread.1 ∙ sym (append_assoc r.received r.unread rx.unread.0));
-      ended = λ e. (sym tx.finished ∙ sym all.ended ∙ rx.ended e, whole ∙ ap (λ l. r.received ++ l) (rx.whole e));
+      ended = λ e. (finished e, whole ∙ ap (λ l. r.received ++ l) (rx.whole e));
+      closed = λ e. let o = over e in (finished o.0, whole ∙ ap (λ l. r.received ++ l) (rx.whole o.0 ∙ o.1) ∙ append-nil r.received);
     }
 
 -- the places known to be free after one look are known after the next

@@ -5,7 +5,8 @@ use Rattle.repl_link.specs.declared.items.Item.TheVariants.{Byte}
 use Rattle.global_defs.specs.Prefix.{IsPrefix}
 use Rattle.repl_link.specs.declared.items.Item.{Item}
 use Rattle.repl_link.specs.Items.{bytes_of, has_end, Drained}
-use Rattle.repl_link.proofs.ItemLists.{bytes_of-append, has_end-append, has_end-ended, bytes_of-taken, bytes_of-ended, bytes_of-more, sent_front}
+use Rattle.repl_link.specs.EndLaws.{has_end-ended}
+use Rattle.repl_link.proofs.ItemLists.{bytes_of-append, has_end-append, bytes_of-taken, bytes_of-ended, bytes_of-more, sent_front}
 
 -- what is left of an order, and what was moved, is the order as before
 pub order_stays : (left : Option ℕ) (before after moved : ℕ) → after ≡ before + moved → ((x : ℕ) → left ≡ Some x → moved ≤ x)

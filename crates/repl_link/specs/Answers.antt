@@ -1,5 +1,5 @@
 -- What answers of links carry.
-use Rattle.std.specs.Prelude.{ℕ, Result, Ok, Err, ⊤}
+use Rattle.std.specs.Prelude.{ℕ, Bool, true, false, Result, Ok, Err, ⊤}
 use Rattle.repl_link.specs.declared.traits.Received.{Received}
 use Rattle.repl_link.specs.declared.traits.Received.TheVariants.{Bytes, NotYet, Ended}
 use Rattle.repl_link.specs.declared.traits.ConnectError.{ConnectError}
@@ -33,6 +33,13 @@ module _ {E : Type 0} where
   OnEnded (Ok NotYet) P = ⊤
   OnEnded (Ok Ended) P = P
   OnEnded (Err e) P = ⊤
+
+  -- whether the answer is that nothing comes any more
+  abbrev pub is_ended : Result Received E → Bool
+  is_ended (Ok (Bytes n)) = false
+  is_ended (Ok NotYet) = false
+  is_ended (Ok Ended) = true
+  is_ended (Err e) = false
 
   -- how much patience an answer of `receive` costs
   abbrev pub patience_cost : Result Received E → ℕ

@@ -1,4 +1,5 @@
 pub mod Answers
+pub mod EndLaws
 pub mod Items
 pub mod MemEnds
 pub mod MemLinks

@@ -40,4 +40,5 @@ mem_receiving r = record {
   received = bytes_of (items_received r.ring);
   unread = if r.ended then [] else bytes_of (known_items r.ring);
   ended = has_end (items_received r.ring ++ known_items r.ring);
+  closed = r.closed;
 }

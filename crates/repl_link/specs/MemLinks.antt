@@ -19,4 +19,5 @@ mem_linking l = record {
   made = l.made;
   cuts = λ s. slice_index l.cuts s;
   orders = λ s. orders_of l.orders s;
+  past = l.log.past;
 }

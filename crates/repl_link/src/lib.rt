@@ -7,6 +7,7 @@
 mod items;
 mod limits;
 mod linker;
+mod log;
 mod mem_rx;
 mod mem_tx;
 mod traits;

@@ -5,6 +5,7 @@ ghost use Rattle.wire_defs.specs.Links.{SendingLooked, ReceivingLooked, KnowAll}
 ghost use Rattle.repl_link.specs.MemEnds.{tx_line, rx_line, mem_sending, mem_receiving};
 
 use crate::items::{Item, Line};
+use crate::log::Log;
 use crate::mem_rx::MemRx;
 use crate::mem_tx::MemTx;
 use crate::traits::{ConnectError, Ends, Linker, NoMemory};
@@ -27,6 +28,7 @@ pub struct MemLinker {
     pub(crate) cuts: [u64; 8],
     // Of each session: after how many bytes its next connections are to be cut.
     pub(crate) orders: [VecDeque<u64>; 8],
+    pub(crate) log: Log,
 }
 
 // A direction of a new connection.
@@ -37,7 +39,7 @@ fn direction(alloc: Global, session: u32, connection: u64) -> Result<(MemTx, Mem
     ensures connections { IfOk result (λ e. (e.0.connection ≡ connection) × (e.1.connection ≡ connection)) }
     ensures orders { IfOk result (λ e. (e.0.left ≡ None) × (e.1.left ≡ None)) }
     ensures cuts { IfOk result (λ e. (e.0.cuts ≡ 0) × (e.1.cuts ≡ 0)) }
-    ensures open { IfOk result (λ e. (e.0.finished ≡ false) × (e.1.ended ≡ false)) }
+    ensures open { IfOk result (λ e. (e.0.finished ≡ false) × (e.1.ended ≡ false) × (e.1.closed ≡ false)) }
     ensures tx { IfOk result (λ e. (sent e.0.ring ≡ []) × (known_free e.0.ring ≡ 4097)) }
     ensures rx { IfOk result (λ e. (received e.1.ring ≡ []) × (known_items e.1.ring ≡ [])) }
     ensures no_cut { IfErr result (λ e. e ≡ ConnectError.NoMemory) }
@@ -60,6 +62,7 @@ fn direction(alloc: Global, session: u32, connection: u64) -> Result<(MemTx, Mem
             left: None,
             cuts: 0,
             ended: false,
+            closed: false,
             ring: consumer,
         },
     ))
@@ -86,6 +89,7 @@ impl MemLinker {
         ensures made { (mem_linking result).made ≡ 0 }
         ensures cuts { (s : ℕ) → (mem_linking result).cuts s ≡ 0 }
         ensures orders { (s : ℕ) → (mem_linking result).orders s ≡ [] }
+        ensures past { (mem_linking result).past ≡ [] }
     {
         MemLinker {
             alloc,
@@ -101,13 +105,14 @@ impl MemLinker {
                 VecDeque::new(alloc),
                 VecDeque::new(alloc),
             ],
+            log: Log::new(),
         }
     }
 }
 
 impl Linker for MemLinker {
-    ghost use Rattle.std.specs.Prelude.{◌≡◌, IsTrue};
-    ghost use Rattle.wire_defs.specs.Links.{Carries, CutsAdded, all_cuts};
+    ghost use Rattle.std.specs.Prelude.{◌≡◌, [], ◌∷◌, ◌++◌, IsTrue, refl};
+    ghost use Rattle.wire_defs.specs.Links.{Carries, CutsAdded, all_cuts, past_of};
     ghost use Rattle.repl_link.specs.MemEnds.{tx_line, rx_line, mem_sending, mem_receiving};
     ghost use Rattle.repl_link.specs.MemLinks.{mem_linking};
 
@@ -118,6 +123,8 @@ impl Linker for MemLinker {
     type Rx = MemRx;
 
     ghost links = { λ l. mem_linking l };
+
+    ghost lawful = { λ l told. refl };
 
     fn simulated(&self) -> bool {
         true
@@ -162,12 +169,15 @@ impl Linker for MemLinker {
 
     fn settle(&mut self, session: u32, ends: Ends<MemTx, MemRx>)
         requires lines { (tx_line ends.up_tx ≡ rx_line ends.down_rx) × (tx_line ends.down_tx ≡ rx_line ends.up_rx) }
+        requires one { ends.up_tx.connection ≡ ends.down_tx.connection }
         requires own_tx { (ends.up_tx.session ≡ session) × (ends.down_tx.session ≡ session) }
         requires own_rx { (ends.up_rx.session ≡ session) × (ends.down_rx.session ≡ session) }
         ensures from_primary { IsTrue (mem_linking self.old).told → Carries (mem_sending ends.up_tx) (mem_receiving ends.down_rx) }
         ensures to_primary { IsTrue (mem_linking self.old).told → Carries (mem_sending ends.down_tx) (mem_receiving ends.up_rx) }
         ensures cuts { CutsAdded (mem_linking self.old) (mem_linking self.new) session (all_cuts (mem_sending ends.up_tx)
             (mem_receiving ends.up_rx) (mem_sending ends.down_tx) (mem_receiving ends.down_rx)) }
+        ensures past { (mem_linking self.new).past ≡ (mem_linking self.old).past ++ past_of session (mem_sending ends.up_tx)
+            (mem_receiving ends.up_rx) (mem_sending ends.down_tx) (mem_receiving ends.down_rx) ∷ [] }
     {
         let mut ends = ends;
         self.beside(&mut ends);
@@ -175,5 +185,6 @@ impl Linker for MemLinker {
         let down = ends.down_tx.cuts.saturating_add(ends.down_rx.cuts);
         let place = session as usize;
         self.cuts[place] = self.cuts[place].saturating_add(up.saturating_add(down));
+        self.log = self.log.with(session, &ends);
     }
 }

@@ -1,5 +1,5 @@
 // The end of a link in memory that receives.
-ghost use Rattle.std.specs.Prelude.{◌≡◌, ◌<◌, ◌≤◌, [], length, take, false};
+ghost use Rattle.std.specs.Prelude.{◌≡◌, ◌<◌, ◌≤◌, [], length, take, false, IsTrue};
 ghost use Rattle.rtrb.specs.Ring.{received as items_received, known_items, SameConsumer};
 ghost use Rattle.repl_link.specs.Items.{has_end, Drained};
 
@@ -16,10 +16,13 @@ pub struct MemRx {
     // How many bytes it may still give before the cut, where there is an order to cut.
     pub(crate) left: Option<u64>,
     pub(crate) cuts: u64,
+    // Whether the mark behind the last byte was taken out of the ring, and whether `receive` has answered so.
     pub(crate) ended: bool,
+    pub(crate) closed: bool,
     pub(crate) ring: Consumer<Item>,
     ghost session_in_range: { session < 8 },
     ghost ends: { has_end (items_received ring) ≡ ended },
+    ghost over: { IsTrue closed → IsTrue ended },
 }
 
 // Pops as many items as there are places for, and copies their bytes: how many there are, and whether the end follows them.
@@ -51,6 +54,7 @@ impl MemRx {
         ensures line { rx_line self.new ≡ rx_line self.old }
         ensures same { SameReceiving (mem_receiving self.old) (mem_receiving self.new) }
         ensures cuts { self.new.cuts ≡ self.old.cuts }
+        ensures closed { self.new.closed ≡ self.old.closed }
         ensures count { result ≤ length buffer.old }
         ensures received { (mem_receiving self.new).received ≡ (mem_receiving self.old).received ++ take result buffer.new }
         ensures within { IsWithin (mem_receiving self.new).order (mem_receiving self.new).received }
@@ -72,11 +76,18 @@ impl MemRx {
 impl LinkRx for MemRx {
     type Line = Line;
 
+    ghost use Rattle.std.specs.Prelude.{refl};
+    ghost use Rattle.rtrb.specs.Ring.{received as items_received, known_items};
+    ghost use Rattle.repl_link.specs.EndLaws.{all_was_read};
     ghost use Rattle.repl_link.specs.MemEnds.{rx_line, mem_receiving};
 
     ghost line = { λ r. rx_line r };
 
     ghost receiving = { λ r. mem_receiving r };
+
+    ghost shows = { λ r told. refl };
+
+    ghost over = { λ r told closed. all_was_read (items_received r.ring) (known_items r.ring) r.ended r.ends (r.over closed) };
 
     fn receive(&mut self, buffer: &mut [u8]) -> Result<Received, Cut> {
         if self.left == Some(0) {
@@ -84,16 +95,18 @@ impl LinkRx for MemRx {
             return Err(Cut);
         }
         if self.ended {
+            self.closed = true;
             return Ok(Received::Ended);
         }
         let count = self.pull(buffer);
-        Ok(if count > 0 {
-            Received::Bytes(count)
-        } else if self.ended {
-            Received::Ended
-        } else {
-            Received::NotYet
-        })
+        if count > 0 {
+            return Ok(Received::Bytes(count));
+        }
+        if !self.ended {
+            return Ok(Received::NotYet);
+        }
+        self.closed = true;
+        Ok(Received::Ended)
     }
 
     fn cuts(&self) -> u64 {

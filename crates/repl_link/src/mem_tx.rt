@@ -46,11 +46,16 @@ impl MemTx {
 impl LinkTx for MemTx {
     type Line = Line;
 
+    ghost use Rattle.std.specs.Prelude.{◌-◌};
+    ghost use Rattle.rtrb.specs.Ring.{known_free};
+    ghost use Rattle.repl_link.specs.EndLaws.{no_place_free};
     ghost use Rattle.repl_link.specs.MemEnds.{tx_line, mem_sending};
 
     ghost line = { λ t. tx_line t };
 
     ghost sending = { λ t. mem_sending t };
+
+    ghost spent = { λ t told finished. no_place_free t.finished (known_free t.ring - 1) finished };
 
     fn send(&mut self, bytes: &[u8]) -> Result<usize, Cut> {
         if self.left == Some(0) {

@@ -75,11 +75,15 @@ pub trait LinkTx: Drop {
         ensures sent { (sending self.new).sent ≡ (sending self.old).sent }
         ensures cuts { (sending self.new).cuts ≡ (sending self.old).cuts }
         ensures patience { (sending self.new).patience ≡ (sending self.old).patience }
-        ensures finished { IsTrue (sending self.old).told → IsTrue (sending self.new).finished };
+        ensures finished { IsTrue (sending self.old).told → IsTrue (sending self.new).finished }
+        ensures free { IsTrue (sending self.old).told → (sending self.new).free ≡ 0 };
 
     /// How often this end was found cut.
     fn cuts(&self) -> u64
         ensures { result ≡ (sending self.now).cuts };
+
+    // An end that has ended the sending knows no free place.
+    ghost spent: { (t : Self) → IsTrue (sending t).told → IsTrue (sending t).finished → (sending t).free ≡ 0 };
 }
 
 /// The end of a direction that receives.
@@ -87,10 +91,10 @@ pub trait LinkRx: Drop {
     /// What the two ends of one direction have in common.
     type Line;
 
-    ghost use Rattle.std.specs.Prelude.{◌≡◌, ◌+◌, ◌<◌, ◌≤◌, ◌++◌, [], length, take, false, IsTrue, IsErr, OnOk, OnErr};
+    ghost use Rattle.std.specs.Prelude.{◌≡◌, ◌+◌, ◌<◌, ◌≤◌, ◌++◌, ◌||◌, [], length, take, false, IsTrue, IsErr, OnOk, OnErr};
     ghost use Rattle.global_defs.specs.Prefix.{IsPrefix};
     ghost use Rattle.wire_defs.specs.Links.{Receiving, SameReceiving, IsReached, IsWithin, counted};
-    ghost use Rattle.repl_link.specs.Answers.{bytes_got, IfBytes, OnNotYet, OnEnded, patience_cost};
+    ghost use Rattle.repl_link.specs.Answers.{bytes_got, IfBytes, OnNotYet, OnEnded, is_ended, patience_cost};
 
     ghost line: { Self → Self.Line };
 
@@ -118,6 +122,7 @@ pub trait LinkRx: Drop {
             OnNotYet result (((receiving self.old).unread ≡ []) × ((receiving self.old).ended ≡ false)) }
         ensures at_end { IsTrue (receiving self.old).told →
             OnEnded result (((receiving self.new).unread ≡ []) × IsTrue (receiving self.new).ended) }
+        ensures closed { (receiving self.new).closed ≡ ((receiving self.old).closed || is_ended result) }
 
         // Where the link tells its bytes, Cut comes exactly where the order's bytes were received.
         ensures cut_only { IsTrue (receiving self.old).told →
@@ -132,6 +137,12 @@ pub trait LinkRx: Drop {
     /// How often this end was found cut.
     fn cuts(&self) -> u64
         ensures { result ≡ (receiving self.now).cuts };
+
+    // Where an end tells its bytes, contracts see those received, and once it has answered the end, nothing is unread.
+    ghost shows: { (r : Self) → IsTrue (receiving r).told → IsTrue (receiving r).shown };
+
+    ghost over: { (r : Self) → IsTrue (receiving r).told → IsTrue (receiving r).closed →
+        IsTrue (receiving r).ended × ((receiving r).unread ≡ []) };
 }
 
 /// The four ends of a connection. The primary has the two that are called `up`: `up_tx` carries bytes to `down_rx`, and
@@ -153,9 +164,9 @@ pub trait Linker {
 
     type Rx: LinkRx<Line = Self::Line> + Send;
 
-    ghost use Rattle.std.specs.Prelude.{◌≡◌, true, false, None, IsTrue, IfOk, IfErr, OnOk, OnErr};
+    ghost use Rattle.std.specs.Prelude.{◌≡◌, true, false, None, [], ◌∷◌, ◌++◌, IsTrue, IfOk, IfErr, OnOk, OnErr};
     ghost use Rattle.repl_link.specs.declared.traits.ConnectError.TheVariants.{Cut};
-    ghost use Rattle.wire_defs.specs.Links.{Linking, first_order, IsNewDirection, SameLinks, OrderAdded, ConnectionMade, CutsAdded, SendingLooked, ReceivingLooked, KnowAll, Carries, all_cuts};
+    ghost use Rattle.wire_defs.specs.Links.{Linking, first_order, IsNewDirection, SameLinks, OrderAdded, ConnectionMade, CutsAdded, SendingLooked, ReceivingLooked, KnowAll, Carries, all_cuts, past_of, cut_at_once};
     ghost use Rattle.repl_link.specs.Answers.{OnCut, OnNoMemory};
 
     ghost links: { Self → Linking };
@@ -171,7 +182,8 @@ pub trait Linker {
     /// Orders that one more connection of the session is cut after so many bytes from its primary.
     fn cut_after(&mut self, session: u32, bytes: u64) -> Result<(), NoMemory>
         ensures added { IsTrue (links self.old).simulated → OnOk result (OrderAdded (links self.old) (links self.new) session bytes) }
-        ensures refused { OnErr result (SameLinks (links self.old) (links self.new)) };
+        ensures refused { OnErr result (SameLinks (links self.old) (links self.new)) }
+        ensures still { (links self.old).simulated ≡ false → SameLinks (links self.old) (links self.new) };
 
     /// Makes a connection of the session. It uses up the session's first order to cut.
     fn connect(&mut self, session: u32) -> Result<Ends<Self::Tx, Self::Rx>, ConnectError>
@@ -184,11 +196,13 @@ pub trait Linker {
 
         // Where links tell their bytes, Cut never comes.
         ensures cut { OnCut result (((links self.old).told ≡ false) × CutsAdded (links self.old) (links self.new) session 1) }
+        ensures past { OnCut result ((links self.new).past ≡ (links self.old).past ++ cut_at_once session ∷ []) }
         ensures refused { OnNoMemory result (SameLinks (links self.old) (links self.new)) };
 
     /// Lets each of the four ends of one connection know all that is free or unread in its ring.
     fn beside(&self, ends: &mut Ends<Self::Tx, Self::Rx>)
-        requires { (Self.Tx.line ends.old.up_tx ≡ Self.Rx.line ends.old.down_rx) × (Self.Tx.line ends.old.down_tx ≡ Self.Rx.line ends.old.up_rx) }
+        requires lines { (Self.Tx.line ends.old.up_tx ≡ Self.Rx.line ends.old.down_rx) × (Self.Tx.line ends.old.down_tx ≡ Self.Rx.line ends.old.up_rx) }
+        requires one { (Self.Tx.sending ends.old.up_tx).connection ≡ (Self.Tx.sending ends.old.down_tx).connection }
         ensures tx_lines { (Self.Tx.line ends.new.up_tx ≡ Self.Tx.line ends.old.up_tx) × (Self.Tx.line ends.new.down_tx ≡ Self.Tx.line ends.old.down_tx) }
         ensures rx_lines { (Self.Rx.line ends.new.up_rx ≡ Self.Rx.line ends.old.up_rx) × (Self.Rx.line ends.new.down_rx ≡ Self.Rx.line ends.old.down_rx) }
         ensures up_tx { SendingLooked (Self.Tx.sending ends.old.up_tx) (Self.Tx.sending ends.new.up_tx) }
@@ -198,13 +212,20 @@ pub trait Linker {
         ensures from_primary { IsTrue (links self.now).told → KnowAll (Self.Tx.sending ends.new.up_tx) (Self.Rx.receiving ends.new.down_rx) }
         ensures to_primary { IsTrue (links self.now).told → KnowAll (Self.Tx.sending ends.new.down_tx) (Self.Rx.receiving ends.new.up_rx) };
 
-    /// Takes the four ends of one connection back, and adds their cuts to those of their session.
+    /// Takes the four ends of one connection back, and adds their cuts to those of their session. What they received, and what
+    /// ends they answered, is kept for contracts, and takes no memory.
     fn settle(&mut self, session: u32, ends: Ends<Self::Tx, Self::Rx>)
         requires lines { (Self.Tx.line ends.up_tx ≡ Self.Rx.line ends.down_rx) × (Self.Tx.line ends.down_tx ≡ Self.Rx.line ends.up_rx) }
+        requires one { (Self.Tx.sending ends.up_tx).connection ≡ (Self.Tx.sending ends.down_tx).connection }
         requires own_tx { ((Self.Tx.sending ends.up_tx).session ≡ session) × ((Self.Tx.sending ends.down_tx).session ≡ session) }
         requires own_rx { ((Self.Rx.receiving ends.up_rx).session ≡ session) × ((Self.Rx.receiving ends.down_rx).session ≡ session) }
         ensures from_primary { IsTrue (links self.old).told → Carries (Self.Tx.sending ends.up_tx) (Self.Rx.receiving ends.down_rx) }
         ensures to_primary { IsTrue (links self.old).told → Carries (Self.Tx.sending ends.down_tx) (Self.Rx.receiving ends.up_rx) }
         ensures cuts { CutsAdded (links self.old) (links self.new) session (all_cuts (Self.Tx.sending ends.up_tx)
-            (Self.Rx.receiving ends.up_rx) (Self.Tx.sending ends.down_tx) (Self.Rx.receiving ends.down_rx)) };
+            (Self.Rx.receiving ends.up_rx) (Self.Tx.sending ends.down_tx) (Self.Rx.receiving ends.down_rx)) }
+        ensures past { (links self.new).past ≡ (links self.old).past ++ past_of session (Self.Tx.sending ends.up_tx)
+            (Self.Rx.receiving ends.up_rx) (Self.Tx.sending ends.down_tx) (Self.Rx.receiving ends.down_rx) ∷ [] };
+
+    // Where links tell their bytes, contracts see those received.
+    ghost lawful: { (l : Self) → IsTrue (links l).told → IsTrue (links l).shown };
 }

@@ -1,6 +1,6 @@
 -- Links between a primary and its secondaries, as contracts see them. (GT.M: the TCP connection of a Source Server to a Receiver Server. That a link
 -- tells its bytes, orders to cut it and patience are this project's own.)
-use Rattle.std.specs.Prelude.{◌≡◌, ℕ, ◌+◌, ◌-◌, ◌^◌, ◌<◌, ◌≤◌, min, Bool, false, IsTrue, Option, Some, None, List, [], ◌∷◌, ◌++◌, length, ◌==◌, if◌then◌else◌}
+use Rattle.std.specs.Prelude.{◌≡◌, ℕ, ◌+◌, ◌-◌, ◌^◌, ◌<◌, ◌≤◌, min, Bool, false, IsTrue, Option, Some, None, List, [], ◌∷◌, ◌++◌, length, drop, filter, nat_lt, ◌==◌, if◌then◌else◌}
 use Rattle.global_defs.specs.Prefix.{IsPrefix}
 
 -- a count of cuts that rose by so many; it stays at its last value
@@ -50,6 +50,16 @@ pub record Receiving : Type 0 where
   pub received : List ℕ
   pub unread : List ℕ  -- the bytes after those, as far as this end knows them
   pub ended : Bool  -- whether this end knows that no more bytes come after the unread ones
+  pub closed : Bool  -- whether this end has answered that the other side has ended
+
+-- What remains of a connection that is over.
+pub record Past : Type 0 where
+  pub session : ℕ
+  pub cuts : ℕ  -- how often its ends were found cut
+  pub from_primary : List ℕ  -- what the secondary received
+  pub primary_ended : Bool  -- whether the secondary was answered that the primary has ended
+  pub to_primary : List ℕ  -- what the primary received
+  pub secondary_ended : Bool  -- whether the primary was answered that the secondary has ended
 
 -- What contracts see of what makes connections.
 pub record Linking : Type 0 where
@@ -59,6 +69,7 @@ pub record Linking : Type 0 where
   pub made : ℕ  -- how many connections were made
   pub cuts : ℕ → ℕ  -- how often connections of a session were cut
   pub orders : ℕ → List ℕ  -- of a session: after how many bytes the next connections are to be cut
+  pub past : List Past  -- the connections that are over, in the order in which they were given back
 
 -- what no call on a sending end changes
 pub record SameSending (a b : Sending) : Type 0 where
@@ -94,6 +105,7 @@ pub record IsNewDirection (links : Linking) (session : ℕ) (order : Option ℕ)
   pub patience : links.told ≡ false → (s.patience ≡ patience_at_first) × (r.patience ≡ patience_at_first)
   pub nothing_sent : IsTrue links.told → (s.sent ≡ []) × (s.finished ≡ false)
   pub nothing_received : IsTrue links.shown → r.received ≡ []
+  pub nothing_answered : r.closed ≡ false
   pub nothing_known : IsTrue links.told → (r.unread ≡ []) × (r.ended ≡ false)
   pub all_free : IsTrue links.told → (s.free ≡ s.places) × (0 < s.places)
 
@@ -115,6 +127,7 @@ pub record ReceivingLooked (a b : Receiving) : Type 0 where
   pub unread : IsPrefix a.unread b.unread
   pub ended : IsTrue a.ended → IsTrue b.ended
   pub whole : IsTrue a.ended → b.unread ≡ a.unread
+  pub closed : b.closed ≡ a.closed
 
 -- The ends of a direction know all: which bytes are unread, whether an end follows, and, until the sending is ended, that each other place is free.
 pub record KnowAll (s : Sending) (r : Receiving) : Type 0 where
@@ -122,17 +135,42 @@ pub record KnowAll (s : Sending) (r : Receiving) : Type 0 where
   pub ended : r.ended ≡ s.finished
   pub free : s.finished ≡ false → s.places ≤ s.free + length r.unread
 
--- What was received is a prefix of what was sent; where the receiving end knows the end, its unread bytes are the whole rest.
+-- What was received is a prefix of what was sent; where the receiving end knows the end, its unread bytes are the whole rest, and where it
+-- has answered the end, all was received.
 pub record Carries (s : Sending) (r : Receiving) : Type 0 where
   pub prefix : IsPrefix r.received s.sent
   pub unread : IsPrefix (r.received ++ r.unread) s.sent
   pub ended : IsTrue r.ended → IsTrue s.finished × (s.sent ≡ r.received ++ r.unread)
+  pub closed : IsTrue r.closed → IsTrue s.finished × (s.sent ≡ r.received)
 
 -- the cuts of all four ends of a connection
 abbrev pub all_cuts : Sending → Receiving → Sending → Receiving → ℕ
 all_cuts up_tx up_rx down_tx down_rx = up_tx.cuts + up_rx.cuts + down_tx.cuts + down_rx.cuts
 
--- what links are like stays, and so do the number of connections, the cuts and the orders of all sessions
+-- what remains of a connection whose four ends are given back
+abbrev pub past_of : ℕ → Sending → Receiving → Sending → Receiving → Past
+past_of session up_tx up_rx down_tx down_rx = record {
+  session = session;
+  cuts = all_cuts up_tx up_rx down_tx down_rx;
+  from_primary = down_rx.received;
+  primary_ended = down_rx.closed;
+  to_primary = up_rx.received;
+  secondary_ended = up_rx.closed;
+}
+
+-- what remains of a connection that was cut as it was made
+abbrev pub cut_at_once : ℕ → Past
+cut_at_once session = record { session = session; cuts = 1; from_primary = []; primary_ended = false; to_primary = []; secondary_ended = false }
+
+-- a connection of which some end was found cut
+abbrev pub was_cut : Past → Bool
+was_cut p = nat_lt 0 p.cuts
+
+-- the connections of a session that came to be over between two views of a linker
+abbrev pub past_since : Linking → Linking → ℕ → List Past
+past_since a b session = filter (λ p. p.session == session) (drop (length a.past) b.past)
+
+-- what links are like stays, and so do the number of connections, the cuts and the orders of all sessions, and what is over
 pub record SameLinks (a b : Linking) : Type 0 where
   pub told : b.told ≡ a.told
   pub shown : b.shown ≡ a.shown
@@ -140,6 +178,7 @@ pub record SameLinks (a b : Linking) : Type 0 where
   pub made : b.made ≡ a.made
   pub cuts : (s : ℕ) → b.cuts s ≡ a.cuts s
   pub orders : (s : ℕ) → b.orders s ≡ a.orders s
+  pub past : b.past ≡ a.past
 
 -- an order was added behind those of a session, and all else stays
 pub record OrderAdded (a b : Linking) (session bytes : ℕ) : Type 0 where
@@ -150,6 +189,7 @@ pub record OrderAdded (a b : Linking) (session bytes : ℕ) : Type 0 where
   pub cuts : (s : ℕ) → b.cuts s ≡ a.cuts s
   pub added : b.orders session ≡ a.orders session ++ bytes ∷ []
   pub others : (s : ℕ) → (s ≡ session → ⊥) → b.orders s ≡ a.orders s
+  pub past : b.past ≡ a.past
 
 -- one more connection was made, of a session whose first order it used up
 pub record ConnectionMade (a b : Linking) (session : ℕ) : Type 0 where
@@ -160,8 +200,9 @@ pub record ConnectionMade (a b : Linking) (session : ℕ) : Type 0 where
   pub cuts : (s : ℕ) → b.cuts s ≡ a.cuts s
   pub used : b.orders session ≡ later_orders (a.orders session)
   pub others : (s : ℕ) → (s ≡ session → ⊥) → b.orders s ≡ a.orders s
+  pub past : b.past ≡ a.past
 
--- a session's cuts rose by so many, and all else stays
+-- a session's cuts rose by so many, and all else stays but what is over
 pub record CutsAdded (a b : Linking) (session more : ℕ) : Type 0 where
   pub told : b.told ≡ a.told
   pub shown : b.shown ≡ a.shown

@@ -2,4 +2,5 @@
 #![tactic(auto)]
 
 pub mod frames;
+pub mod links;
 pub mod pool_words;

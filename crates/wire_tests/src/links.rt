@@ -17,7 +17,8 @@ fn byte_at(place: u32) -> u8 {
 
 // Sends the bytes from place 0 on, and ends the sending.
 fn send_all<T: LinkTx>(tx: T) -> (T, u32)
-    ensures { T.line result.0 ≡ T.line tx }
+    ensures line { T.line result.0 ≡ T.line tx }
+    ensures connection { (T.sending result.0).connection ≡ (T.sending tx).connection }
 {
     let mut tx = tx;
     let mut place = 0u32;
@@ -69,12 +70,14 @@ fn both<T: LinkTx + Send, U: LinkRx + Send, R: Threads + Sync>(
     tx: T,
     rx: U,
 ) -> ((T, u32), (U, u32))
-    ensures { (T.line result.0.0 ≡ T.line tx) × (U.line result.1.0 ≡ U.line rx) }
+    ensures lines { (T.line result.0.0 ≡ T.line tx) × (U.line result.1.0 ≡ U.line rx) }
+    ensures connection { (T.sending result.0.0).connection ≡ (T.sending tx).connection }
 {
     join(
         rt,
         move || -> (T, u32)
-            ensures { T.line result.0 ≡ T.line tx }
+            ensures line { T.line result.0 ≡ T.line tx }
+            ensures connection { (T.sending result.0).connection ≡ (T.sending tx).connection }
         { send_all(tx) },
         move || -> (U, u32)
             ensures { U.line result.0 ≡ U.line rx }
@@ -118,6 +121,47 @@ fn bytes_cross_between_threads(rt: HostRuntime) {
     assert_eq!(&rt; received, SENT);
     let mut buffer = [0u8; 1];
     assert!(&rt; ends.down_rx.receive(&mut buffer) == Ok(Received::Ended));
+}
+
+#[test]
+fn the_end_comes_behind_the_last_byte_and_stays(rt: HostRuntime) {
+    let mut links = MemLinker::new(rt.alloc());
+    let Ok(mut ends) = links.connect(4) else {
+        panic!(&rt; "no memory");
+    };
+    let mut buffer = [0u8; 10];
+    assert!(&rt; ends.up_tx.send(&[1, 2, 3]) == Ok(3));
+    assert!(&rt; ends.down_rx.receive(&mut buffer[..2]) == Ok(Received::Bytes(2)));
+    ends.up_tx.finish();
+    assert!(&rt; ends.up_tx.send(&[4]) == Ok(0));
+    assert!(&rt; ends.down_rx.receive(&mut buffer) == Ok(Received::Bytes(1)));
+    assert!(&rt; ends.down_rx.receive(&mut buffer) == Ok(Received::Ended));
+    assert!(&rt; ends.down_rx.receive(&mut buffer) == Ok(Received::Ended));
+    assert!(&rt; ends.up_tx.send(&[4]) == Ok(0));
+    assert!(&rt; ends.up_rx.receive(&mut buffer) == Ok(Received::NotYet));
+    links.settle(4, ends);
+    assert_eq!(&rt; links.cuts(4), 0);
+}
+
+// Sends a byte over a new connection, hears what comes, and gives the connection back: whether it was found cut.
+fn is_cut<L: Linker>(links: &mut L, session: u32) -> Result<bool, ConnectError> {
+    let mut ends = links.connect(session)?;
+    let unsent = ends.up_tx.send(&[7]).is_err();
+    let mut buffer = [0u8; 1];
+    let unheard = ends.down_rx.receive(&mut buffer).is_err();
+    links.settle(session, ends);
+    Ok(unsent || unheard)
+}
+
+#[test]
+fn cuts_of_both_ends_are_added(rt: HostRuntime) {
+    let mut links = MemLinker::new(rt.alloc());
+    assert!(&rt; links.cut_after(6, 0) == Ok(()));
+    assert!(&rt; links.cut_after(6, 1) == Ok(()));
+    assert!(&rt; is_cut(&mut links, 6) == Ok(true));
+    assert!(&rt; is_cut(&mut links, 6) == Ok(false));
+    assert!(&rt; is_cut(&mut links, 6) == Ok(false));
+    assert_eq!(&rt; links.cuts(6), 2);
 }
 
 // Sends so many bytes from the primary, and answers how many came before the cut or the end, and whether that was a cut.

@@ -16,6 +16,7 @@ returns-clause-rx c =
       unread = unread_more c.args.rx.now.ended _ _ more;
       whole = unread_whole (received c.args.rx.now.ring) _ _ c.args.rx.now.ended more c.args.rx.now.ends;
       ended = λ e. ap (λ items. has_end (items ++ known_items c.slots_beside-2.new.self)) same ∙ ended_more (received c.args.rx.now.ring) _ _ more e;
+      closed = refl;
     }
 
 pub returns-clause-all : goal.returns-clause-all

@@ -8,6 +8,7 @@ invariant-loop l = record {
   down : tx_line l.ends.down_tx ≡ rx_line l.ends.up_rx;
   up_sessions : (l.ends.up_tx.session ≡ l.session) × (l.ends.down_rx.session ≡ l.session);
   down_sessions : (l.ends.down_tx.session ≡ l.session) × (l.ends.up_rx.session ≡ l.session);
+  one : l.ends.up_tx.connection ≡ l.ends.down_tx.connection;
 }
 
 abbrev pub invariant-loop-2 : goal.invariant-loop-2
@@ -16,4 +17,5 @@ invariant-loop-2 l = record {
   down : tx_line l.ends.down_tx ≡ rx_line l.ends.up_rx;
   up_sessions : (l.ends.up_tx.session ≡ l.session) × (l.ends.down_rx.session ≡ l.session);
   down_sessions : (l.ends.down_tx.session ≡ l.session) × (l.ends.up_rx.session ≡ l.session);
+  one : l.ends.up_tx.connection ≡ l.ends.down_tx.connection;
 }

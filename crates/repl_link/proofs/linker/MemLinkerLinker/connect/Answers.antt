@@ -20,6 +20,7 @@ returns-clause-from_primary c =
       patience = search rules;
       nothing_sent = search rules;
       nothing_received = search rules;
+      nothing_answered = search rules;
       nothing_known = search rules;
       all_free = search rules;
     }
@@ -35,4 +36,5 @@ returns-clause-made c = record {
       ∙ sym (ap later_orders (orders_of-get_or c.args.self.now.orders c.args.session c.index-self-session.result (omega arith))
       ∙ (first_taken _ _ c.pop_front-order.result c.pop_front-order.ensures.items c.pop_front-order.ensures.rest).1);
   others = orders_of-set_other c.args.self.now.orders c.args.session _;
+  past = refl;
 }

@@ -14,6 +14,7 @@ returns-then-is_err-clause-refused c =
       made = refl;
       cuts = λ s. refl;
       orders = orders_of-set_kept c.args.self.now.orders c.args.session _ (kept ∙ sym before);
+      past = refl;
     }
 
 pub returns-clause-added : goal.returns-clause-added
@@ -29,4 +30,5 @@ returns-clause-added c simulated =
       cuts = λ s. refl;
       added = orders_of-set_same c.args.self.now.orders c.args.session _ (omega arith) ∙ added ∙ sym (ap (λ l. l ++ c.args.bytes ∷ []) before);
       others = orders_of-set_other c.args.self.now.orders c.args.session _;
+      past = refl;
     }
