@@ -1,5 +1,5 @@
 // Reads beside puts: worked counts, and threads.
-ghost use Rattle.std.specs.Prelude.{◌≡◌, ℕ, ◌+◌, ◌-◌, ◌^◌, ◌<◌, ◌≤◌, length, IfSome, vec_len, vec_capacity};
+ghost use Rattle.std.specs.Prelude.{◌≡◌, ℕ, ◌+◌, ◌-◌, ◌^◌, ◌<◌, ◌≤◌, vec_len, vec_capacity};
 ghost use Rattle.std.specs.Thread.{IsSync};
 ghost use Rattle.jnl_pool.specs.Pooling.{next_number};
 
@@ -82,27 +82,6 @@ fn read_some(pool: &Pool, reader: Reader, end: u64, turns: u64) -> (Reader, u64)
         }
     }
     (reader, number)
-}
-
-// Moves the reader to an entry that is hardened, and reads it where it's whole in the pool. The reader was told that the entry is
-// hardened, so it never hears `NotYet`.
-fn read_hardened(
-    pool: &Pool,
-    writer: &mut Writer,
-    reader: &mut Reader,
-    number: u64,
-) -> Option<ReadAnswer>
-    requires pool { (writer.old.table ≡ pool.now.table) × (reader.old.table ≡ pool.now.table) }
-    requires number { (writer.old.first ≤ number) × (number < writer.old.first + writer.old.hardened) }
-    requires hardened { writer.old.hardened ≤ length writer.old.entries }
-    ensures writer { writer.new ≡ writer.old }
-    ensures pool { reader.new.table ≡ pool.now.table }
-    ensures comes { IfSome result (λ answer. answer ≡ ReadAnswer.NotYet → ⊥) }
-{
-    if !writer.anchor(pool, reader, number) {
-        return None;
-    }
-    Some(reader.read(pool))
 }
 
 // Reads on after the race, from the entry of the number `first` to that of the number before `end`: each entry that is whole
@@ -203,8 +182,7 @@ fn claimed_counts_decide(rt: HostRuntime) -> Result<(), Fail> {
         };
         assert!(rt; reader.bytes() == bytes);
         assert!(rt; writer.anchor(&pool, &mut reader, 1) == (answer == ReadAnswer::Got));
-        let read = read_hardened(&pool, &mut writer, &mut reader, 2);
-        assert!(rt; read == Some(ReadAnswer::Got));
+        assert!(rt; writer.anchor(&pool, &mut reader, 2) && reader.read(&pool) == ReadAnswer::Got);
         assert!(rt; reader.bytes() == &long[..len]);
         assert!(rt;
             writer.anchor(&pool, &mut reader, 3) && reader.read(&pool) == ReadAnswer::NotYet
