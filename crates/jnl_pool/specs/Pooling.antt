@@ -1,5 +1,5 @@
 -- What contracts see of a pool's writer and of its readers.
-use Rattle.std.specs.Prelude.{◌≡◌, ◌⊎◌, ℕ, ◌+◌, ◌-◌, ◌<◌, ◌≤◌, List, [], ◌∷◌, ◌++◌, length, Some, slice_get}
+use Rattle.std.specs.Prelude.{◌≡◌, ◌⊎◌, ℕ, ◌+◌, ◌-◌, ◌<◌, ◌≤◌, max, List, [], ◌∷◌, ◌++◌, length, Some, slice_get}
 use Rattle.atomic_table.specs.Seated.{TableId}
 use Rattle.wire_defs.specs.PoolWords.{words_from, word_count, place_of, IsWhole}
 use Rattle.pool_rule.specs.Seats.{Held}
@@ -14,7 +14,7 @@ pub record Writing : Type 0 where
   pub entries : List (List ℕ)
   pub hardened : ℕ
 
--- a reader: its pool, the place and the number of its next entry, the counts that it loaded last and how often it loaded each, the entries that it got, each with its number, the notes that it was given, and the bytes that it has
+-- a reader: its pool, the place and the number of its next entry, the counts that it loaded last and how often it loaded each, the greatest hardened count that the writer told it, the entries that it got, each with its number, the notes that it was given, and the bytes that it has
 pub record Reading : Type 0 where
   pub table : TableId
   pub size : ℕ
@@ -24,6 +24,7 @@ pub record Reading : Type 0 where
   pub claim : ℕ
   pub hard_loads : ℕ
   pub claim_loads : ℕ
+  pub told : ℕ
   pub got : List (ℕ × List ℕ)
   pub notes : List (List (List ℕ))
   pub bytes : List ℕ
@@ -32,9 +33,13 @@ pub record Reading : Type 0 where
 abbrev pub new_writer : Held → Writing
 new_writer pool = record { table = pool.table; size = pool.size; first = pool.first; entries = []; hardened = 0 }
 
--- a new reader stands at the pool's first entry, and begins with a note of the writer's list
+-- the hardened count: the words of the entries that are hardened
+abbrev pub hard_count : Writing → ℕ
+hard_count w = place_of w.first w.entries w.hardened
+
+-- a new reader stands at the pool's first entry, and begins with a note of the writer's list and with its hardened count
 abbrev pub new_reader : Writing → Reading
-new_reader w = record { table = w.table; size = w.size; place = 0; next = w.first; hard = 0; claim = 0; hard_loads = 0; claim_loads = 0; got = []; notes = w.entries ∷ []; bytes = [] }
+new_reader w = record { table = w.table; size = w.size; place = 0; next = w.first; hard = 0; claim = 0; hard_loads = 0; claim_loads = 0; told = hard_count w; got = []; notes = w.entries ∷ []; bytes = [] }
 
 -- the number of the next entry to be put
 abbrev pub next_number : Writing → ℕ
@@ -52,9 +57,9 @@ place_at w number = place_of w.first w.entries (number - w.first)
 abbrev pub CanAnchor : Writing → ℕ → Type 0
 CanAnchor w number = (number ≡ next_number w) ⊎ ((w.first ≤ number) × (number < next_number w) × IsWhole w.size (claimed w) (place_at w number))
 
--- a reader after `anchor` moved it to this number
+-- a reader after `anchor` moved it to this number, and told it the hardened count
 abbrev pub anchored : Writing → ℕ → Reading → Reading
-anchored w number r = record r { place = place_at w number; next = number; notes = r.notes ++ w.entries ∷ [] }
+anchored w number r = record r { place = place_at w number; next = number; told = max r.told (hard_count w); notes = r.notes ++ w.entries ∷ [] }
 
 -- the reader before a read and after it, by the answer: exactly one of the three can be, by the counts that this read loaded
 abbrev pub After : Reading → Reading → ReadAnswer → Type 0

@@ -1,7 +1,7 @@
 //! The pool that all threads share.
 ghost use Rattle.std.specs.Prelude.{◌≡◌, ◌^◌, ◌≤◌, All, IfOk};
 ghost use Rattle.wire_defs.specs.PoolWords.{StartsWith};
-ghost use Rattle.jnl_pool.specs.Pooling.{new_writer, new_reader, IsHardenedEntry, IsNoteOf};
+ghost use Rattle.jnl_pool.specs.Pooling.{claimed, hard_count, new_writer, new_reader, IsHardenedEntry, IsNoteOf};
 
 use crate::reader::Reader;
 use crate::writer::Writer;
@@ -41,7 +41,8 @@ impl Pool {
         Ok((Pool { table, alloc }, writer))
     }
 
-    /// A new reader, at the pool's first entry, with the memory for the bytes of any entry that can be whole.
+    /// A new reader, at the pool's first entry, with the memory for the bytes of any entry that can be whole. It's told the
+    /// hardened count.
     pub fn reader(&self, w: &mut Writer) -> Result<Reader, NoMemory>
         requires pool { w.old.table ≡ self.now.table }
         ensures writer { w.new ≡ w.old }
@@ -53,8 +54,8 @@ impl Pool {
         Ok(w.reader(&self.table, bytes))
     }
 
-    /// Takes a reader back. Each entry that it got is the hardened entry of its number, and each entry that it was given
-    /// in a note is the entry of its number.
+    /// Takes a reader back. Each entry that it got is the hardened entry of its number, each entry that it was given in a
+    /// note is the entry of its number, and no count that it was told or has loaded is past the writer's.
     pub fn settle(&self, w: &mut Writer, r: Reader)
         requires writer { w.old.table ≡ self.now.table }
         requires reader { r.table ≡ self.now.table }
@@ -62,6 +63,7 @@ impl Pool {
         ensures got { All (IsHardenedEntry w.old) r.got }
         ensures notes { All (StartsWith w.old.entries) r.notes }
         ensures noted { All (IsNoteOf w.old) r.notes }
+        ensures counts { (r.told ≤ hard_count w.old) × (r.hard ≤ hard_count w.old) × (r.claim ≤ claimed w.old) }
     {
         w.take_in(&self.table, r.into_seat());
     }

@@ -1,5 +1,5 @@
 //! A reader, which copies an entry out of the pool while the writer may overwrite it.
-ghost use Rattle.std.specs.Prelude.{◌≡◌, ℕ, ◌+◌, ◌*◌, ◌/◌, ◌^◌, ◌<◌, ◌≤◌, List, [], ◌∷◌, ◌++◌, length, vec_len, vec_capacity};
+ghost use Rattle.std.specs.Prelude.{◌≡◌, ℕ, ◌+◌, ◌*◌, ◌/◌, ◌^◌, ◌<◌, ◌≤◌, List, [], ◌∷◌, ◌++◌, length, vec_len, vec_capacity, max};
 ghost use Rattle.std.specs.Int.{w64, to_be_bytes};
 ghost use Rattle.wire_defs.specs.PoolWords.{unpacked, IsAt};
 ghost use Rattle.pool_rule.specs.Seats.{Knowing};
@@ -36,6 +36,7 @@ impl Model for Reader {
       claim = r.seat.view.claim;
       hard_loads = r.seat.view.hard_loads;
       claim_loads = r.seat.view.claim_loads;
+      told = r.seat.view.hardened;
       got = r.seat.view.got;
       notes = r.seat.view.notes;
       bytes = r.bytes.items;
@@ -114,6 +115,7 @@ impl Reader {
         requires bytes { (bytes.items ≡ []) × (8 * size ≤ vec_capacity bytes) }
         ensures same { (result.table ≡ seat.table) × (result.size ≡ size) × (result.place ≡ 0) × (result.next ≡ seat.view.next) × (result.bytes ≡ []) }
         ensures loads { (result.hard ≡ seat.view.hard) × (result.claim ≡ seat.view.claim) × (result.hard_loads ≡ seat.view.hard_loads) × (result.claim_loads ≡ seat.view.claim_loads) }
+        ensures told { result.told ≡ seat.view.hardened }
         ensures lists { (result.got ≡ seat.view.got) × (result.notes ≡ seat.view.notes) }
     {
         Reader {
@@ -125,37 +127,40 @@ impl Reader {
     }
 
     pub(crate) fn into_seat(self) -> ReaderSeat
-        ensures { (result.table ≡ self.table) × (result.view.got ≡ self.got) × (result.view.notes ≡ self.notes) }
+        ensures lists { (result.table ≡ self.table) × (result.view.got ≡ self.got) × (result.view.notes ≡ self.notes) }
+        ensures counts { (result.view.hardened ≡ self.told) × (result.view.hard ≡ self.hard) × (result.view.claim ≡ self.claim) }
     {
         let Reader { seat, .. } = self;
         seat
     }
 
-    // Takes a note of the writer's list, and moves to the entry of this number.
+    // Takes a note of the writer's list, is told its hardened count, and moves to the entry of this number.
     pub(crate) fn move_to(&mut self, table: &PoolTable, note: ReaderSeat, place: u64, number: u64)
         requires table { (self.old.table ≡ table.now.table) × (note.table ≡ table.now.table) }
         requires place { IsAt note.view.first note.view.entries place number }
-        ensures { self.new ≡ record self.old { place = place; next = number; notes = self.old.notes ++ note.view.entries ∷ [] } }
+        ensures { self.new ≡ record self.old { place = place; next = number; told = max self.old.told note.view.hardened; notes = self.old.notes ++ note.view.entries ∷ [] } }
     {
         let _ = number;
         table.note(&mut self.seat, note, place);
         self.place = place;
     }
 
-    // Takes a note of the writer's list.
+    // Takes a note of the writer's list, and is told its hardened count.
     pub(crate) fn take_note(&mut self, table: &PoolTable, note: ReaderSeat)
         requires table { (self.old.table ≡ table.now.table) × (note.table ≡ table.now.table) }
-        ensures { self.new ≡ record self.old { notes = self.old.notes ++ note.view.entries ∷ [] } }
+        ensures { self.new ≡ record self.old { told = max self.old.told note.view.hardened; notes = self.old.notes ++ note.view.entries ∷ [] } }
     {
         table.note(&mut self.seat, note, self.place);
     }
 
     /// Loads the hardened count, copies the next entry, and loads the claimed count: these two alone say what it answers.
-    /// After `Overwritten` the reader has no bytes. A count that is loaded is never less than it was.
+    /// After `Overwritten` the reader has no bytes. A count that is loaded is never less than it was, and the hardened count
+    /// never less than the writer told.
     pub fn read(&mut self, pool: &Pool) -> ReadAnswer
         requires pool { self.old.table ≡ pool.now.table }
         ensures answer { After self.old self.new result }
         ensures later { (self.old.hard ≤ self.new.hard) × (self.old.claim ≤ self.new.claim) }
+        ensures told { self.old.told ≤ self.new.hard }
     {
         let hard = pool.table.load_hard(&mut self.seat);
         if hard <= self.place {

@@ -1,8 +1,8 @@
 //! The writer, of which a pool has one.
-ghost use Rattle.std.specs.Prelude.{◌≡◌, ℕ, ◌+◌, ◌-◌, ◌*◌, ◌/◌, ◌^◌, ◌<◌, ◌≤◌, ◌↔◌, [], ◌∷◌, ◌++◌, length, slice_index, vec_len, vec_capacity, replicate, All, IfSome, IfNone, IsTrue, true, false};
+ghost use Rattle.std.specs.Prelude.{◌≡◌, ℕ, ◌+◌, ◌-◌, ◌*◌, ◌/◌, ◌^◌, ◌<◌, ◌≤◌, ◌↔◌, [], ◌∷◌, ◌++◌, length, slice_index, vec_len, vec_capacity, replicate, All, IfSome, IfNone, IsTrue, true, false, max};
 ghost use Rattle.wire_defs.specs.PoolWords.{words_from, word_of, packed, StartsWith};
 ghost use Rattle.pool_rule.specs.Rule.{Each, IsEntryBelow, writer};
-ghost use Rattle.jnl_pool.specs.Pooling.{claimed, new_reader, next_number, place_at, CanAnchor, anchored, IsHardenedEntry, IsNoteOf};
+ghost use Rattle.jnl_pool.specs.Pooling.{claimed, hard_count, new_reader, next_number, place_at, CanAnchor, anchored, IsHardenedEntry, IsNoteOf};
 
 use crate::pool::Pool;
 use crate::reader::Reader;
@@ -142,8 +142,8 @@ impl Writer {
         Some(place)
     }
 
-    /// Moves the reader to the entry of this number, or to the next one to be put, with a note of the writer's list. Where
-    /// that entry isn't whole in the pool it answers false, and the reader stays as it was.
+    /// Moves the reader to the entry of this number, or to the next one to be put, with a note of the writer's list and of its
+    /// hardened count. Where that entry isn't whole in the pool it answers false, and the reader stays as it was.
     pub fn anchor(&mut self, pool: &Pool, r: &mut Reader, number: u64) -> bool
         requires pool { (self.old.table ≡ pool.now.table) × (r.old.table ≡ pool.now.table) }
         requires number { number ≤ next_number self.old }
@@ -160,11 +160,11 @@ impl Writer {
         true
     }
 
-    /// Gives the reader a note of the writer's list. The reader stays at its place.
+    /// Gives the reader a note of the writer's list and of its hardened count. The reader stays at its place.
     pub fn note(&mut self, pool: &Pool, r: &mut Reader)
         requires pool { (self.old.table ≡ pool.now.table) × (r.old.table ≡ pool.now.table) }
         ensures writer { self.new ≡ self.old }
-        ensures reader { r.new ≡ record r.old { notes = r.old.notes ++ self.old.entries ∷ [] } }
+        ensures reader { r.new ≡ record r.old { told = max r.old.told (hard_count self.old); notes = r.old.notes ++ self.old.entries ∷ [] } }
     {
         let note = pool.table.split(&mut self.seat);
         r.take_note(&pool.table, note);
@@ -208,6 +208,7 @@ impl Writer {
         ensures got { All (IsHardenedEntry self.old) seat.view.got }
         ensures notes { All (StartsWith self.old.entries) seat.view.notes }
         ensures noted { All (IsNoteOf self.old) seat.view.notes }
+        ensures counts { (seat.view.hardened ≤ hard_count self.old) × (seat.view.hard ≤ hard_count self.old) × (seat.view.claim ≤ claimed self.old) }
     {
         table.join(&mut self.seat, seat);
     }

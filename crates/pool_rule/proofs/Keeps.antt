@@ -1,6 +1,6 @@
 -- Each kind of step keeps the rule.
 use Rattle.std.proofs.Common.{◌≡◌, ◌≢◌, ◌⊎◌, ℕ, zero, suc, ◌+◌, ◌%◌, ◌<◌, ◌≤◌, List, [], ◌∷◌, ◌++◌, length, set, replicate, Bool, true, false, true≢false, refl, sym, ap, ◌∙◌, subst, ⊎_elim, inl, inr, arith, length-set, get_or-set_same, get_or-set_other, lt_of_not-le, append_assoc, append-nil, add-zero}
-use Rattle.std.specs.Prelude.{slice_index, ◌==◌, if◌then◌else◌, map}
+use Rattle.std.specs.Prelude.{slice_index, ◌==◌, if◌then◌else◌, map, max}
 use Rattle.std.proofs.Math.Nat.{mod-eq_of_lt}
 use Rattle.std.proofs.lemmas.Grind.{get_or-set_at}
 use Rattle.std.proofs.lemmas.List.{set-get_or, get_or-replicate, length-replicate}
@@ -53,6 +53,8 @@ module _ (n first : ℕ) where
     notes = notes_stay log now longer v.notes k.notes;
     told_got = got_stay log now h h' longer up v.told_got k.told_got;
     told_notes = notes_stay log now longer v.told_notes k.told_notes;
+    told = let l = k.told in omega arith;
+    told_counts = (let l = k.told_counts.0 in omega arith, let g = grows first log now longer in let l = k.told_counts.1 in omega arith);
   }
 
   -- what the rule says of one seat
@@ -123,7 +125,7 @@ module _ (n first : ℕ) where
           whole = boundary_stays first r.log now longer r.hardened r.whole;
           each = each_set (Fits r.seat now r.written r.hardened) s.views id w
               (others s r now r.written r.hardened id own.0 longer (omega arith))
-              (λ _. ((λ _. (own.0, entries, own.2, own.3)), record { same = k.same; note_first = k.note_first; list = ([], sym entries ∙ sym (append-nil (me.0.entries ++ bytes ∷ []))); place = k.place; hard = k.hard; claim = k.claim; held = k.held; got = k.got; notes = k.notes; told_got = k.told_got; told_notes = k.told_notes }));
+              (λ _. ((λ _. (own.0, entries, own.2, own.3)), record { same = k.same; note_first = k.note_first; list = ([], sym entries ∙ sym (append-nil (me.0.entries ++ bytes ∷ []))); place = k.place; hard = k.hard; claim = k.claim; held = k.held; got = k.got; notes = k.notes; told_got = k.told_got; told_notes = k.told_notes; told = k.told; told_counts = k.told_counts }));
         },
         refl,
       )
@@ -163,7 +165,7 @@ module _ (n first : ℕ) where
           whole = r.whole;
           each = each_set (Fits r.seat r.log (r.written + 1) r.hardened) s.views id w
               (others s r r.log (r.written + 1) r.hardened id own.0 (starts_same r.log) (omega arith))
-              (λ _. ((λ _. (own.0, own.1, ap (λ (k : ℕ). k + 1) own.2, own.3)), record { same = f.1.same; note_first = f.1.note_first; list = f.1.list; place = f.1.place; hard = f.1.hard; claim = f.1.claim; held = f.1.held; got = f.1.got; notes = f.1.notes; told_got = f.1.told_got; told_notes = f.1.told_notes }));
+              (λ _. ((λ _. (own.0, own.1, ap (λ (k : ℕ). k + 1) own.2, own.3)), record { same = f.1.same; note_first = f.1.note_first; list = f.1.list; place = f.1.place; hard = f.1.hard; claim = f.1.claim; held = f.1.held; got = f.1.got; notes = f.1.notes; told_got = f.1.told_got; told_notes = f.1.told_notes; told = f.1.told; told_counts = f.1.told_counts }));
         },
         refl,
       )
@@ -200,7 +202,7 @@ module _ (n first : ℕ) where
           whole = subst (λ (z : ℕ × List (List ℕ)). IsBoundary z.0 z.1 to) (λ i. (f.1.same.1 i, own.1 i)) whole;
           each = each_set (Fits r.seat r.log r.written to) s.views id w
               (others s r r.log r.written to id own.0 (starts_same r.log) rises)
-              (λ _. ((λ _. (own.0, own.1, own.2, refl)), record { same = k.same; note_first = k.note_first; list = k.list; place = k.place; hard = k.hard; claim = k.claim; held = k.held; got = k.got; notes = k.notes; told_got = k.told_got; told_notes = k.told_notes }));
+              (λ _. ((λ _. (own.0, own.1, own.2, refl)), record { same = k.same; note_first = k.note_first; list = k.list; place = k.place; hard = k.hard; claim = k.claim; held = k.held; got = k.got; notes = k.notes; told_got = k.told_got; told_notes = k.told_notes; told = omega arith; told_counts = k.told_counts }));
         },
         refl,
       )
@@ -213,6 +215,8 @@ module _ (n first : ℕ) where
       let is : found ≡ r.hardened = r.hard_is in
       let before = k.hard.0 in
       let later : me.0.hard ≤ found = omega arith in
+      let before' = k.told in
+      let told : me.0.hardened ≤ found = omega arith in
       let o = r.order in
       let b = k.place in
       let bp = b.3 in
@@ -244,9 +248,11 @@ module _ (n first : ℕ) where
             notes = k.notes;
             told_got = k.told_got;
             told_notes = k.told_notes;
+            told = k.told;
+            told_counts = k.told_counts;
           },
         )),
-        (refl, later, gap),
+        (refl, later, gap, told),
       )
 
   pub loads_word : (slots id : ℕ) (me : Me (Unit {0}) View) (i at : ℕ) → me.0.live ≡ true → at < me.0.hard → i ≡ at % n + 2 → Allows (Pooled n first) slots id me i (λ x. x) (SawWord at (step slots i 0 0 none) me)
@@ -278,6 +284,8 @@ module _ (n first : ℕ) where
             notes = k.notes;
             told_got = k.told_got;
             told_notes = k.told_notes;
+            told = k.told;
+            told_counts = k.told_counts;
           },
         )),
         refl,
@@ -327,9 +335,11 @@ module _ (n first : ℕ) where
           notes = k.notes;
           told_got = k.told_got;
           told_notes = k.told_notes;
+          told = k.told;
+          told_counts = k.told_counts;
         },
       )
-  checked s r id v found own k below lt stand false e = (own, record { same = k.same; note_first = k.note_first; list = k.list; place = k.place; hard = k.hard; claim = below; held = tt; got = k.got; notes = k.notes; told_got = k.told_got; told_notes = k.told_notes })
+  checked s r id v found own k below lt stand false e = (own, record { same = k.same; note_first = k.note_first; list = k.list; place = k.place; hard = k.hard; claim = below; held = tt; got = k.got; notes = k.notes; told_got = k.told_got; told_notes = k.told_notes; told = k.told; told_counts = k.told_counts })
 
   pub loads_claim : (slots id : ℕ) (me : Me (Unit {0}) View) → me.0.live ≡ true → Allows (Pooled n first) slots id me 0 (λ x. x) (SawClaim (step slots 0 0 0 none) me)
   loads_claim slots id me live s r _ there _ =
@@ -366,7 +376,7 @@ module _ (n first : ℕ) where
         w,
         keeps,
         tt,
-        looked s r 0 id me w (λ _. (f.0, record { same = k.same; note_first = k.note_first; list = k.list; place = k.place; hard = k.hard; claim = omega arith; held = tt; got = k.got; notes = k.notes; told_got = k.told_got; told_notes = k.told_notes })),
+        looked s r 0 id me w (λ _. (f.0, record { same = k.same; note_first = k.note_first; list = k.list; place = k.place; hard = k.hard; claim = omega arith; held = tt; got = k.got; notes = k.notes; told_got = k.told_got; told_notes = k.told_notes; told = k.told; told_counts = k.told_counts })),
         (omega arith, (λ le. absurd (nle le)), (λ _. refl)),
       ))
 
@@ -375,15 +385,17 @@ module _ (n first : ℕ) where
       let f = r.each id me.0 there live in
       let own = f.0 wr in
       let k = f.1 in
-      let w : View = record me.0 { told_got = []; told_notes = [] } in (
+      let w : View = record me.0 { told_got = []; told_notes = []; told_hard = 0; told_claim = 0 } in (
         w,
         keeps,
         tt,
-        looked s r 0 id me w (λ _. (f.0, record { same = k.same; note_first = k.note_first; list = k.list; place = k.place; hard = k.hard; claim = k.claim; held = k.held; got = k.got; notes = k.notes; told_got = tt; told_notes = tt })),
+        looked s r 0 id me w (λ _. (f.0, record { same = k.same; note_first = k.note_first; list = k.list; place = k.place; hard = k.hard; claim = k.claim; held = k.held; got = k.got; notes = k.notes; told_got = tt; told_notes = tt; told = k.told; told_counts = (omega arith, omega arith) })),
         (
           refl,
           subst (λ (z : ℕ × List (List ℕ) × ℕ). Each (IsEntryBelow z.0 z.1 z.2) me.0.told_got) (λ i. (sym k.same.1 i, sym own.1 i, sym own.3 i)) k.told_got,
           subst (λ (z : List (List ℕ)). Each (StartsWith z) me.0.told_notes) (sym own.1) k.told_notes,
+          subst (λ (z : ℕ). me.0.told_hard ≤ z) (sym own.3) k.told_counts.0,
+          subst (λ (z : ℕ × List (List ℕ)). me.0.told_claim ≤ length (words_from z.0 z.1)) (λ i. (sym k.same.1 i, sym own.1 i)) k.told_counts.1,
         ),
       )
 
@@ -413,7 +425,7 @@ module _ (n first : ℕ) where
       reviewed s r (set s.views id v ++ reader v ∷ [])
       (each_snoc (Fits r.seat r.log r.written r.hardened) (set s.views id v) (reader v)
       (λ j u e. r.each j u (subst (λ l. get_elem? l j ≡ some u) (set_again s.views id v there) e))
-      (λ j _. ((λ w. absurd (off w)), record { same = k.same; note_first = k.same.1; list = k.list; place = ([], r.log, refl, refl, k.same.1 ∙ sym (add-zero first)); hard = (omega arith, zero_is); claim = omega arith; held = tt; got = tt; notes = (k.list, tt); told_got = tt; told_notes = tt })))
+      (λ j _. ((λ w. absurd (off w)), record { same = k.same; note_first = k.same.1; list = k.list; place = ([], r.log, refl, refl, k.same.1 ∙ sym (add-zero first)); hard = (omega arith, zero_is); claim = omega arith; held = tt; got = tt; notes = (k.list, tt); told_got = tt; told_notes = tt; told = k.told; told_counts = (omega arith, omega arith) })))
 
   -- the first seat's view becomes `both`, which the rule allows, and the second is spent
   joins : (id : ℕ) (v : View) (other : ℕ) (u both : View) → u.live ≡ true
@@ -426,10 +438,10 @@ module _ (n first : ℕ) where
       (λ j x _ e. each_set (Fits r.seat r.log r.written r.hardened) s.views id both (λ i y _ e'. r.each i y e') (ok r.seat r.log r.written r.hardened (r.each id v there) theirs) j x e)
       (λ l. absurd (off l)))
 
-  pub takes_reader : (id : ℕ) (v : View) (other : ℕ) (u : View) → v.live ≡ true → u.live ≡ true → Joins (Pooled n first) id v other u (record v { told_got = u.got; told_notes = u.notes }) blank
+  pub takes_reader : (id : ℕ) (v : View) (other : ℕ) (u : View) → v.live ≡ true → u.live ≡ true → Joins (Pooled n first) id v other u (record v { told_got = u.got; told_notes = u.notes; told_hard = max u.hardened u.hard; told_claim = u.claim }) blank
   takes_reader id v other u live live' =
-      joins id v other u (record v { told_got = u.got; told_notes = u.notes }) live'
-      (λ seat log w h f theirs l. let k = (f l).1 in ((f l).0, record { same = k.same; note_first = k.note_first; list = k.list; place = k.place; hard = k.hard; claim = k.claim; held = k.held; got = k.got; notes = k.notes; told_got = theirs.got; told_notes = theirs.notes }))
+      joins id v other u (record v { told_got = u.got; told_notes = u.notes; told_hard = max u.hardened u.hard; told_claim = u.claim }) live'
+      (λ seat log w h f theirs l. let k = (f l).1 in ((f l).0, record { same = k.same; note_first = k.note_first; list = k.list; place = k.place; hard = k.hard; claim = k.claim; held = k.held; got = k.got; notes = k.notes; told_got = theirs.got; told_notes = theirs.notes; told = k.told; told_counts = ((let a = theirs.told in let b = theirs.hard.0 in omega arith), theirs.claim) }))
 
   -- where a reader stands that moves by a note
   stands_at : (log : List (List ℕ)) (h : ℕ) (v u : View) (place : ℕ) → Knows n first log h v → Knows n first log h u → (place ≡ v.place) ⊎ IsBoundary u.first u.entries place → IsAt first log place (number_at v u place)
@@ -445,12 +457,12 @@ module _ (n first : ℕ) where
       (eqb_tells place v.place)
 
   pub takes_note : (id : ℕ) (v : View) (other : ℕ) (u : View) (place : ℕ) → u.live ≡ true → v.writes ≡ false → (place ≡ v.place) ⊎ IsBoundary u.first u.entries place
-      → Joins (Pooled n first) id v other u (record v { place = place; next = number_at v u place; note_first = u.first; notes = v.notes ++ u.entries ∷ [] }) blank
+      → Joins (Pooled n first) id v other u (record v { hardened = max v.hardened u.hardened; place = place; next = number_at v u place; note_first = u.first; notes = v.notes ++ u.entries ∷ [] }) blank
   takes_note id v other u place live' reads ok =
-      joins id v other u (record v { place = place; next = number_at v u place; note_first = u.first; notes = v.notes ++ u.entries ∷ [] }) live'
+      joins id v other u (record v { hardened = max v.hardened u.hardened; place = place; next = number_at v u place; note_first = u.first; notes = v.notes ++ u.entries ∷ [] }) live'
       (λ seat log w h f theirs l.
       let k = (f l).1 in
-      ((λ wr. absurd (off (sym reads ∙ wr))), record { same = k.same; note_first = theirs.same.1; list = k.list; place = stands_at log h v u place k theirs ok; hard = k.hard; claim = k.claim; held = k.held; got = k.got; notes = each_snoc_one (StartsWith log) v.notes u.entries k.notes theirs.list; told_got = k.told_got; told_notes = k.told_notes }))
+      ((λ wr. absurd (off (sym reads ∙ wr))), record { same = k.same; note_first = theirs.same.1; list = k.list; place = stands_at log h v u place k theirs ok; hard = k.hard; claim = k.claim; held = k.held; got = k.got; notes = each_snoc_one (StartsWith log) v.notes u.entries k.notes theirs.list; told_got = k.told_got; told_notes = k.told_notes; told = (let a = k.told in let b = theirs.told in omega arith); told_counts = k.told_counts }))
 
   -- the table at the start
   pub begins : (ws : List ℕ) → 0 < n → ws ≡ replicate (n + 2) 0 → Pooled n first (opening ws [] (writer n first))
@@ -475,5 +487,5 @@ module _ (n first : ℕ) where
       }
     where
       one : (by : ℕ) (v : View) → get_elem? (writer n first ∷ []) by ≡ some v → Fits 0 [] 0 0 by v
-      one zero v e = subst (Fits 0 [] 0 0 0) (some-injective (writer n first) v e) (λ _. ((λ _. (refl, refl, refl, refl)), record { same = (refl, refl); note_first = refl; list = ([], refl); place = ([], [], refl, refl, sym (add-zero first)); hard = (omega arith, ([], [], refl, refl)); claim = omega arith; held = tt; got = tt; notes = tt; told_got = tt; told_notes = tt }))
+      one zero v e = subst (Fits 0 [] 0 0 0) (some-injective (writer n first) v e) (λ _. ((λ _. (refl, refl, refl, refl)), record { same = (refl, refl); note_first = refl; list = ([], refl); place = ([], [], refl, refl, sym (add-zero first)); hard = (omega arith, ([], [], refl, refl)); claim = omega arith; held = tt; got = tt; notes = tt; told_got = tt; told_notes = tt; told = omega arith; told_counts = (omega arith, omega arith) }))
       one (suc by) v e = absurd (some-ne-none v (sym e))

@@ -17,15 +17,15 @@ Each P [] = Unit {0}
 Each P (x ∷ xs) = P x × Each P xs
 
 abbrev pub blank : View
-blank = record { live = false; writes = false; size = 0; first = 0; entries = []; written = 0; hardened = 0; place = 0; next = 0; hard = 0; claim = 0; hard_loads = 0; claim_loads = 0; held = []; got = []; note_first = 0; notes = []; told_got = []; told_notes = [] }
+blank = record { live = false; writes = false; size = 0; first = 0; entries = []; written = 0; hardened = 0; place = 0; next = 0; hard = 0; claim = 0; hard_loads = 0; claim_loads = 0; held = []; got = []; note_first = 0; notes = []; told_got = []; told_notes = []; told_hard = 0; told_claim = 0 }
 
 -- the writer of a new pool of n data words
 abbrev pub writer : ℕ → ℕ → View
 writer n first = record blank { live = true; writes = true; size = n; first = first; next = first; note_first = first }
 
--- a new reader, or a note, beside the writer's view: it begins with a copy of the writer's list
+-- a new reader, or a note, beside the writer's view: it begins with a copy of the writer's list and of its hardened count
 abbrev pub reader : View → View
-reader v = record blank { live = v.live; size = v.size; first = v.first; entries = v.entries; next = v.first; note_first = v.first; notes = v.entries ∷ [] }
+reader v = record blank { live = v.live; size = v.size; first = v.first; entries = v.entries; hardened = v.hardened; next = v.first; note_first = v.first; notes = v.entries ∷ [] }
 
 -- an address with its word: it was loaded below this hardened count, and it's the word of that address, or the claimed count is more than n past it
 abbrev pub IsHeld : ℕ → ℕ → List (List ℕ) → ℕ → ℕ × ℕ → Type 0
@@ -36,6 +36,7 @@ pub record Knows (n first : ℕ) (log : List (List ℕ)) (hardened : ℕ) (v : V
   pub same : (v.size ≡ n) × (v.first ≡ first)
   pub note_first : v.note_first ≡ first
   pub list : StartsWith log v.entries
+  pub told : v.hardened ≤ hardened
   pub place : IsAt first log v.place v.next
   pub hard : (v.hard ≤ hardened) × IsBoundary first log v.hard
   pub claim : v.claim ≤ length (words_from first log)
@@ -44,6 +45,7 @@ pub record Knows (n first : ℕ) (log : List (List ℕ)) (hardened : ℕ) (v : V
   pub notes : Each (StartsWith log) v.notes
   pub told_got : Each (IsEntryBelow first log hardened) v.told_got
   pub told_notes : Each (StartsWith log) v.told_notes
+  pub told_counts : (v.told_hard ≤ hardened) × (v.told_claim ≤ length (words_from first log))
 
 -- the writer's view, beside the writer's seat, list and counts
 abbrev pub Owns : ℕ → List (List ℕ) → ℕ → ℕ → ℕ → View → Type 0
@@ -55,7 +57,7 @@ Owns seat log written hardened by v = v.writes ≡ true → (by ≡ seat) × (v.
 --  3. the words below the hardened count are whole entries of consecutive numbers from the first (whole);
 --  4. a reader's place is 0, or the start or the end of an entry in the writer's list, and the counts that it loaded are at most the writer's (Knows: place, hard, claim);
 --  5. a word that a reader holds for an address was loaded below the hardened count that it had loaded, and is the word of that address, or the claimed count is greater than the address plus n (Knows: held);
---  6. what a reader has got is the entry of that number, and a note is the beginning of the writer's list (Knows: got, list, notes).
+--  6. what a reader has got is the entry of that number, a note is the beginning of the writer's list, and the hardened count that came with it is at most the writer's (Knows: got, list, told, notes).
 pub record Pooled (n first : ℕ) (s : State (Unit {0}) View) : Type 0 where
   pub seat : ℕ
   pub log : List (List ℕ)
@@ -87,9 +89,9 @@ Stored st m r m' = m' ≡ (record m.0 { written = m.0.written + 1 }, m.1)
 abbrev pub Hardened : Step (Unit {0}) → M → ℕ → M → Type 0
 Hardened st m r m' = m' ≡ (record m.0 { hardened = r }, m.1)
 
--- kind 4, a reader loads the hardened count: where it's past the reader's place, at least the two first words of an entry stand below it
+-- kind 4, a reader loads the hardened count: where it's past the reader's place, at least the two first words of an entry stand below it, and it's never less than what the reader was told
 abbrev pub SawHard : Step (Unit {0}) → M → ℕ → M → Type 0
-SawHard st m r m' = (m' ≡ (record m.0 { hard = r; hard_loads = m.0.hard_loads + 1 }, m.1)) × (m.0.hard ≤ r) × ((r ≤ m.0.place) ⊎ (m.0.place + 2 ≤ r))
+SawHard st m r m' = (m' ≡ (record m.0 { hard = r; hard_loads = m.0.hard_loads + 1 }, m.1)) × (m.0.hard ≤ r) × ((r ≤ m.0.place) ⊎ (m.0.place + 2 ≤ r)) × (m.0.hardened ≤ r)
 
 -- kind 5, a reader loads the data word of this address
 abbrev pub SawWord : ℕ → Step (Unit {0}) → M → ℕ → M → Type 0
@@ -147,6 +149,11 @@ Agrees v note = (number : ℕ) → IsAt v.note_first note v.place number → v.n
 abbrev pub Placed : Step (Unit {0}) → M → ℕ → M → Type 0
 Placed st m r m' = (m' ≡ m) × Each (Agrees m.0) m.0.notes
 
--- the end of kind 8, the writer's: what it was told are hardened entries of its list, and beginnings of it
+-- the end of kind 8, the writer's: what it was told are hardened entries of its list, beginnings of it, and counts that are at most its own
 abbrev pub Settled : Step (Unit {0}) → M → ℕ → M → Type 0
-Settled st m r m' = (m' ≡ (record m.0 { told_got = []; told_notes = [] }, m.1)) × Each (IsEntryBelow m.0.first m.0.entries m.0.hardened) m.0.told_got × Each (StartsWith m.0.entries) m.0.told_notes
+Settled st m r m' =
+    (m' ≡ (record m.0 { told_got = []; told_notes = []; told_hard = 0; told_claim = 0 }, m.1))
+    × Each (IsEntryBelow m.0.first m.0.entries m.0.hardened) m.0.told_got
+    × Each (StartsWith m.0.entries) m.0.told_notes
+    × (m.0.told_hard ≤ m.0.hardened)
+    × (m.0.told_claim ≤ length (words_from m.0.first m.0.entries))

@@ -106,10 +106,10 @@ pub(crate) struct TakeNote<J> {
 }
 
 impl<J: Pick> Join<View> for TakeNote<J> {
-    ghost use Rattle.std.specs.Prelude.{[], ◌∷◌, ◌++◌};
+    ghost use Rattle.std.specs.Prelude.{[], ◌∷◌, ◌++◌, max};
     ghost use Rattle.pool_rule.specs.Rule.{blank, number_at};
 
-    ghost both = { λ v w. record v { place = J.at; next = number_at v w J.at; note_first = w.first; notes = v.notes ++ w.entries ∷ [] } };
+    ghost both = { λ v w. record v { hardened = max v.hardened w.hardened; place = J.at; next = number_at v w J.at; note_first = w.first; notes = v.notes ++ w.entries ∷ [] } };
 
     ghost spent = { blank };
 }
@@ -127,9 +127,10 @@ impl Play<(), View> for Place {
 pub(crate) struct TakeReader;
 
 impl Join<View> for TakeReader {
+    ghost use Rattle.std.specs.Prelude.{max};
     ghost use Rattle.pool_rule.specs.Rule.{blank};
 
-    ghost both = { λ v w. record v { told_got = w.got; told_notes = w.notes } };
+    ghost both = { λ v w. record v { told_got = w.got; told_notes = w.notes; told_hard = max w.hardened w.hard; told_claim = w.claim } };
 
     ghost spent = { blank };
 }

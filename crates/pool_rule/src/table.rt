@@ -1,5 +1,5 @@
 //! The table and its seats: the writer's three kinds of step, a reader's three loads, and how seats are split and joined.
-ghost use Rattle.std.specs.Prelude.{◌≡◌, ℕ, ◌+◌, ◌*◌, ◌^◌, ◌<◌, ◌≤◌, List, [], ◌∷◌, ◌++◌, length, IfOk, true, false, ◌⊎◌, slice_index};
+ghost use Rattle.std.specs.Prelude.{◌≡◌, ℕ, ◌+◌, ◌*◌, ◌^◌, ◌<◌, ◌≤◌, List, [], ◌∷◌, ◌++◌, length, IfOk, true, false, ◌⊎◌, slice_index, max};
 ghost use Rattle.wire_defs.specs.PoolWords.{words_from, AreBytes, StartsWith, IsBoundary, IsAt};
 ghost use Rattle.pool_rule.specs.Rule.{writer, reader, Agrees, Each, IsEntryBelow, Within, end_of, is_entry, moved, number_at};
 
@@ -50,7 +50,7 @@ impl Model for WriterSeat {
 
     ghost view = { λ w. record { table = w.seat.table_id; view = w.seat.me.0 } };
 
-    ghost invariant = { λ w. (w.seat.me.0.live ≡ true) × (w.seat.me.0.writes ≡ true) × (w.seat.me.1 ≡ []) × (w.claimed ≡ length (words_from w.seat.me.0.first w.seat.me.0.entries)) × (w.claimed ≤ 131074 * length w.seat.me.0.entries) × (w.seat.me.0.told_got ≡ []) × (w.seat.me.0.told_notes ≡ []) };
+    ghost invariant = { λ w. (w.seat.me.0.live ≡ true) × (w.seat.me.0.writes ≡ true) × (w.seat.me.1 ≡ []) × (w.claimed ≡ length (words_from w.seat.me.0.first w.seat.me.0.entries)) × (w.claimed ≤ 131074 * length w.seat.me.0.entries) × (w.seat.me.0.told_got ≡ []) × (w.seat.me.0.told_notes ≡ []) × (w.seat.me.0.told_hard ≡ 0) × (w.seat.me.0.told_claim ≡ 0) };
 }
 
 /// A reader's seat, or a note of the writer's list.
@@ -140,12 +140,14 @@ impl PoolTable {
         self.table.shared.store::<Harden>(&mut w.seat, 1, to);
     }
 
-    /// Kind 4: a reader loads the hardened count. Past the reader's place it's past the two first words of an entry.
+    /// Kind 4: a reader loads the hardened count. It's never less than one that the reader loaded before or was told, and past
+    /// the reader's place it's past the two first words of an entry.
     pub fn load_hard(&self, r: &mut ReaderSeat) -> u64
         requires table { r.old.table ≡ self.now.table }
         ensures table { r.new.table ≡ r.old.table }
         ensures view { r.new.view ≡ record r.old.view { hard = result; hard_loads = r.old.view.hard_loads + 1 } }
         ensures later { r.old.view.hard ≤ result }
+        ensures told { r.old.view.hardened ≤ result }
         ensures gap { (result ≤ r.old.view.place) ⊎ (r.old.view.place + 2 ≤ result) }
     {
         self.table.shared.load::<LoadHard>(&mut r.seat, 1)
@@ -187,7 +189,7 @@ impl PoolTable {
         self.table.shared.load::<LoadClaim>(&mut r.seat, 0)
     }
 
-    /// Kind 7: a new reader at the pool's first entry, or a note of the writer's list.
+    /// Kind 7: a new reader at the pool's first entry, or a note of the writer's list and of its hardened count.
     pub fn split(&self, w: &mut WriterSeat) -> ReaderSeat
         requires table { w.old.table ≡ self.now.table }
         ensures same { w.new ≡ w.old }
@@ -202,20 +204,20 @@ impl PoolTable {
         requires live { (r.old.me.0.live ≡ true) × (note.me.0.live ≡ true) × (r.old.me.0.writes ≡ false) }
         requires place { (J.at ≡ r.old.me.0.place) ⊎ IsBoundary note.me.0.first note.me.0.entries J.at }
         ensures seat { (r.new.table_id ≡ r.old.table_id) × (r.new.id ≡ r.old.id) }
-        ensures view { r.new.me ≡ (record r.old.me.0 { place = J.at; next = number_at r.old.me.0 note.me.0 J.at; note_first = note.me.0.first; notes = r.old.me.0.notes ++ note.me.0.entries ∷ [] }, r.old.me.1) }
+        ensures view { r.new.me ≡ (record r.old.me.0 { hardened = max r.old.me.0.hardened note.me.0.hardened; place = J.at; next = number_at r.old.me.0 note.me.0 J.at; note_first = note.me.0.first; notes = r.old.me.0.notes ++ note.me.0.entries ∷ [] }, r.old.me.1) }
         ensures agrees { Each (Agrees r.new.me.0) r.new.me.0.notes }
     {
         self.table.shared.join_seat::<TakeNote<J>>(r, note);
         self.table.shared.load::<Place>(r, 0);
     }
 
-    /// Kind 8: a reader takes a note of the writer's list. It stays at its place, or moves to the start or the end of an
-    /// entry in that list.
+    /// Kind 8: a reader takes a note of the writer's list, and is told the hardened count that came with it. It stays at its
+    /// place, or moves to the start or the end of an entry in that list.
     pub fn note(&self, r: &mut ReaderSeat, note: ReaderSeat, place: u64)
         requires table { (r.old.table ≡ self.now.table) × (note.table ≡ self.now.table) }
         requires place { (place ≡ r.old.view.place) ⊎ IsBoundary note.view.first note.view.entries place }
         ensures table { r.new.table ≡ r.old.table }
-        ensures view { r.new.view ≡ record r.old.view { place = place; next = r.new.view.next; note_first = note.view.first; notes = r.old.view.notes ++ note.view.entries ∷ [] } }
+        ensures view { r.new.view ≡ record r.old.view { hardened = max r.old.view.hardened note.view.hardened; place = place; next = r.new.view.next; note_first = note.view.first; notes = r.old.view.notes ++ note.view.entries ∷ [] } }
         ensures stays { place ≡ r.old.view.place → r.new.view.next ≡ r.old.view.next }
         ensures moves { (number : ℕ) → IsAt note.view.first note.view.entries place number → r.new.view.next ≡ number }
     {
@@ -224,12 +226,14 @@ impl PoolTable {
     }
 
     /// Kind 8: the writer takes a reader. What the reader got are entries of the writer's list below its hardened count,
-    /// by their numbers, and each note is the beginning of that list.
+    /// by their numbers, each note is the beginning of that list, and no count that it loaded or was told is past the
+    /// writer's.
     pub fn join(&self, w: &mut WriterSeat, r: ReaderSeat)
         requires table { (w.old.table ≡ self.now.table) × (r.table ≡ self.now.table) }
         ensures same { w.new ≡ w.old }
         ensures got { Each (IsEntryBelow w.old.view.first w.old.view.entries w.old.view.hardened) r.view.got }
         ensures notes { Each (StartsWith w.old.view.entries) r.view.notes }
+        ensures counts { (r.view.hardened ≤ w.old.view.hardened) × (r.view.hard ≤ w.old.view.hardened) × (r.view.claim ≤ length (words_from w.old.view.first w.old.view.entries)) }
     {
         let ReaderSeat { seat } = r;
         self.table.shared.join_seat::<TakeReader>(&mut w.seat, seat);

@@ -15,7 +15,8 @@ pub struct View {
     pub entries: LinkedList<LinkedList<u8>>,
     /// How many data words the writer has stored.
     pub written: u64,
-    /// The hardened count that the writer stored last, in words.
+    /// The hardened count that the writer stored last, in words. A reader has the greatest one that it was told: as it was
+    /// when its seat was made, or when a note that it took was made.
     pub hardened: u64,
     /// The address at which the reader's next entry begins.
     pub place: u64,
@@ -41,4 +42,8 @@ pub struct View {
     pub told_got: LinkedList<(u64, LinkedList<u8>)>,
     /// The notes that it had been given.
     pub told_notes: LinkedList<LinkedList<LinkedList<u8>>>,
+    /// The greatest hardened count that it had loaded or been told.
+    pub told_hard: u64,
+    /// The claimed count that it had loaded last.
+    pub told_claim: u64,
 }

@@ -187,3 +187,12 @@ streams_one (f ∷ fs) (g ∷ gs) r s a b e x y =
     let one = frame_one f g (stream fs ++ r) (stream gs ++ s) a.0 b.0 (sym (append_assoc (spelled_frame f) (stream fs) r) ∙ e ∙ append_assoc (spelled_frame g) (stream gs) s) in
     let rest = streams_one fs gs r s a.1 b.1 one.1 x y in
     ((λ i. one.0 i ∷ rest.0 i), rest.1)
+
+-- what came of a stream reads to frames that the stream begins with
+pub front_one : (fs gs : List Frame) (r s : List ℕ) → AllByRecursion IsFrame fs → AllByRecursion IsFrame gs → stream fs ++ r ≡ stream gs ++ s → BeginsFrame s ⊎ BeginsNone s → IsPrefix fs gs
+front_one [] gs r s a b e x = (gs, refl)
+front_one (f ∷ fs) [] r s a b e x = absurd (stands f (stream fs ++ r) s a.0 (sym e ∙ append_assoc (spelled_frame f) (stream fs) r) x)
+front_one (f ∷ fs) (g ∷ gs) r s a b e x =
+    let one = frame_one f g (stream fs ++ r) (stream gs ++ s) a.0 b.0 (sym (append_assoc (spelled_frame f) (stream fs) r) ∙ e ∙ append_assoc (spelled_frame g) (stream gs) s) in
+    let rest = front_one fs gs r s a.1 b.1 one.1 x in
+    (rest.0, (λ i. sym one.0 i ∷ rest.1 i))

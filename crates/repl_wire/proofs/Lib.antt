@@ -10,3 +10,4 @@ pub mod Runs
 pub mod Feeding
 pub mod Apart
 pub mod Found
+pub mod Totals

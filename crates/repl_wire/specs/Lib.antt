@@ -5,3 +5,4 @@ pub mod Finds
 pub mod Feeds
 pub mod Layout
 pub mod Scans
+pub mod Totals

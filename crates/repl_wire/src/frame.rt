@@ -87,6 +87,21 @@ impl FrameList {
         &self.items
     }
 
+    /// All the frames by value. The list's memory goes with them.
+    pub fn into_vec(self) -> Vec<Frame>
+        ensures { map frame_value result.items ≡ self }
+    {
+        let FrameList { items } = self;
+        items
+    }
+
+    /// Takes all frames away. The memory stays with the list.
+    pub fn clear(&mut self)
+        ensures { self.new ≡ [] }
+    {
+        self.items.clear();
+    }
+
     /// Adds a frame at the end.
     pub fn push(&mut self, frame: Frame) -> Result<(), NoMemory>
         ensures ok { OnOk result (self.new ≡ self.old ++ frame_value frame ∷ []) }

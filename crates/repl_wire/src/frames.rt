@@ -154,6 +154,13 @@ impl Frames {
         }
     }
 
+    /// Where the first frame begins that wasn't whole yet, counted from the connection's first byte.
+    pub fn offset(&self) -> u64
+        ensures { result ≡ self.now.offset }
+    {
+        self.offset
+    }
+
     /// Takes a piece of the stream, and adds the frames that are whole now to `out`. The bytes of a frame that isn't whole yet
     /// are kept. A bad frame is told as soon as no well-formed frame begins so, and nothing is to be fed after it.
     pub fn feed(&mut self, piece: &[u8], out: &mut FrameList) -> Result<(), FrameError>

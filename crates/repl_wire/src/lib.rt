@@ -8,6 +8,7 @@ mod frames;
 mod front;
 mod items;
 mod laws;
+mod measuring;
 mod reading;
 mod run;
 mod scan;
@@ -15,5 +16,6 @@ mod writing;
 
 pub use frame::{Frame, FrameError, FrameList};
 pub use frames::Frames;
-pub use laws::one_reading;
-pub use writing::write_frame;
+pub use laws::{frames_apart_hold, one_reading};
+pub use measuring::frame_length;
+pub use writing::{entry_head, write_entry_frame, write_frame};

@@ -3,6 +3,7 @@ ghost use Rattle.std.specs.Prelude.{◌≡◌, ◌++◌, ◌≤◌, ◌<◌, ◌
 ghost use Rattle.std.specs.List.{flat_map, AllByRecursion};
 ghost use Rattle.std.specs.Int.{to_be_bytes, w16, w32, w64};
 ghost use Rattle.global_defs.specs.Fields.{IsReign, IsUpdate, IsTransaction, spelled_update};
+ghost use Rattle.global_defs.specs.Entry as entries;
 ghost use Rattle.global_defs.specs.Prefix.{IsPrefix};
 ghost use Rattle.gvn_key.specs.Terms.{update_value};
 ghost use Rattle.gvn_model.specs.Reigns.{reign_value};
@@ -121,6 +122,26 @@ fn type_byte(frame: &Frame) -> u8
         Frame::Entry(..) => 5,
         Frame::Bye(_) => 6,
     }
+}
+
+/// What stands before an entry's bytes in an ENTRY: the type, and how many bytes the entry has.
+pub fn entry_head(length: u32) -> [u8; 5]
+    ensures { result ≡ 5 ∷ to_be_bytes w32 length }
+{
+    let [a, b, c, d] = length.to_be_bytes();
+    [5, a, b, c, d]
+}
+
+/// Adds an ENTRY at the end by the bytes of its entry, as a pool or a file gives them. After [`NoMemory`] a part of it may have
+/// been added.
+pub fn write_entry_frame(entry: &[u8], out: &mut Bytes) -> Result<(), NoMemory>
+    requires { length entry.now ≤ 1048576 }
+    ensures ok { OnOk result (out.new ≡ out.old ++ (5 ∷ to_be_bytes w32 (length entry.now) ++ entry.now)) }
+    ensures frame { (n : ℕ) (t : entries.Transaction) → entry.now ≡ entry_bytes n t → OnOk result (out.new ≡ out.old ++ spelled_frame (defs.Entry n t)) }
+    ensures err { OnErr result (IsPrefix out.old out.new) }
+{
+    out.push_all(&entry_head(entry.len() as u32))?;
+    out.push_all(entry)
 }
 
 /// Adds a well-formed frame at the end. After [`NoMemory`] a part of it may have been added.

@@ -4,7 +4,9 @@ ghost use Rattle.std.specs.List.{AllByRecursion};
 ghost use Rattle.wire_defs.specs.Frames.{IsFrame};
 
 use gvn_key::Bytes;
-use repl_wire::{Frame, FrameError, FrameList, Frames, write_frame};
+use repl_wire::{
+    Frame, FrameError, FrameList, Frames, entry_head, frame_length, write_entry_frame, write_frame,
+};
 use std::alloc::Global;
 use std::process::Abort;
 use std::test::Fail;
@@ -85,6 +87,17 @@ fn written(alloc: Global, list: &FrameList) -> Result<Bytes, Fail>
     Ok(out)
 }
 
+/// How many bytes the frames of a list have.
+fn counted(list: &FrameList) -> u64
+    requires { AllByRecursion IsFrame list.now }
+{
+    let mut count = 0u64;
+    for i in 0..list.len() {
+        count = count.saturating_add(frame_length(list.item(i)));
+    }
+    count
+}
+
 /// A stream of each of these frames.
 fn stream(alloc: Global) -> Result<Bytes, Fail> {
     let mut stream = Bytes::new(alloc);
@@ -100,6 +113,7 @@ fn comes_in_pieces(rt: &impl Abort, alloc: Global, stream: &[u8], size: usize) -
     assert_eq!(rt; out.len(), 8, "in pieces of {size}");
     let bytes = written(alloc, &out)?;
     assert_eq!(rt; bytes.as_slice(), stream);
+    assert_eq!(rt; counted(&out), 175);
     Ok(())
 }
 
@@ -194,5 +208,29 @@ fn writes_frames_made_here(rt: HostRuntime) -> Result<(), Fail> {
     assert!(rt; bytes.as_slice().starts_with(RESUME));
     assert!(rt; bytes.as_slice().ends_with(BYE));
     assert_eq!(rt; bytes.len(), 39);
+    Ok(())
+}
+
+#[test]
+fn tells_where_the_next_frame_begins(rt: HostRuntime) -> Result<(), Fail> {
+    let mut frames = Frames::new(rt.alloc());
+    let mut out = FrameList::new(rt.alloc());
+    assert_eq!(rt; frames.offset(), 0);
+    frames.feed(HELLO, &mut out)?;
+    frames.feed(RESUME, &mut out)?;
+    frames.feed(&ENTRY[..30], &mut out)?;
+    assert_eq!(rt; frames.offset(), 33);
+    let given = out.into_vec();
+    assert_eq!(rt; given.len(), 2);
+    assert!(rt; matches!(given.last(), Some(Frame::Resume(1))));
+    Ok(())
+}
+
+#[test]
+fn writes_an_entry_by_its_bytes(rt: HostRuntime) -> Result<(), Fail> {
+    let mut out = Bytes::new(rt.alloc());
+    write_entry_frame(&ENTRY[5..], &mut out)?;
+    assert_eq!(rt; out.as_slice(), ENTRY);
+    assert_eq!(rt; entry_head(26).as_slice(), &ENTRY[..5]);
     Ok(())
 }

@@ -26,18 +26,18 @@ pub returns-then-not-is_named-clause-cut_off : goal.returns-then-not-is_named-cl
 returns-then-not-is_named-clause-cut_off g c =
     err_holds c.write_not_a_file.result _ (seen_cut c.leftovers_hold.ensures c.args.region.now c.args.pattern.now (g.D.Disk.disk c.args.disk.now) c.args.site.now (g.met.D.Disk.lawful c.args.disk.now))
 
-pub returns-then-found-gt0-clause-done : goal.returns-then-found-gt0-clause-done
-returns-then-found-gt0-clause-done g c =
+pub returns-then-layout-gt0-clause-done : goal.returns-then-layout-gt0-clause-done
+returns-then-layout-gt0-clause-done g c =
     on_ok c.write_line.result _ _ c.write_line.ensures (λ t.
-    found_started c.args.region.now c.args.pattern.now (g.D.Disk.disk c.args.disk.now) c.args.site.now c.args.found.layout c.args.text.now _ c.requires.found c.if-found-gt0.true (named _ _ c.as_slice-then-found-gt0.ensures t))
+    found_started c.args.region.now c.args.pattern.now (g.D.Disk.disk c.args.disk.now) c.args.site.now c.args.found.layout c.args.text.now _ c.requires.found c.if-layout-gt0.true (named _ _ c.as_slice-then-layout-gt0.ensures t))
 
-pub returns-then-found-gt0-clause-cut_off : goal.returns-then-found-gt0-clause-cut_off
-returns-then-found-gt0-clause-cut_off g c =
+pub returns-then-layout-gt0-clause-cut_off : goal.returns-then-layout-gt0-clause-cut_off
+returns-then-layout-gt0-clause-cut_off g c =
     err_holds c.write_line.result _ (seen_cut c.leftovers_hold.ensures c.args.region.now c.args.pattern.now (g.D.Disk.disk c.args.disk.now) c.args.site.now (g.met.D.Disk.lawful c.args.disk.now))
 
 pub returns-in_default-clause-done : goal.returns-in_default-clause-done
 returns-in_default-clause-done g c =
-    let none : c.args.found.layout.generation ≡ 0 = omega (arith, c.if-found-gt0.false) in
+    let none : c.args.found.layout.generation ≡ 0 = omega (arith, c.if-layout-gt0.false) in
     on_ok c.write_named.result _ _ c.write_named.ensures (λ t.
     found_no_region c.args.region.now c.args.pattern.now (g.D.Disk.disk c.args.disk.now) c.args.site.now c.args.found.layout c.args.text.now _ c.requires.found none
     (by_name c.args.found.layout None c.args.region.now c.as_slice-2.result.now c.as_slice-2.ensures (sym c.in_default.is ∙ c.region_named.ensures.number))
@@ -49,7 +49,7 @@ returns-in_default-clause-cut_off g c =
 
 pub map_there-requires-clause-free : goal.map_there-requires-clause-free
 map_there-requires-clause-free g c =
-    let none : c.args.found.layout.generation ≡ 0 = omega (arith, c.if-found-gt0.false) in
+    let none : c.args.found.layout.generation ≡ 0 = omega (arith, c.if-layout-gt0.false) in
     free_in (g.D.Disk.disk c.args.disk.now).content c.args.region.now c.in-Some.number c.args.pattern.now c.args.found.layout c.requires.found none c.in-Some.ensures.inside
     (by_name c.args.found.layout (Some c.in-Some.number) c.args.region.now c.as_slice-2.result.now c.as_slice-2.ensures c.in-Some.ensures.number)
     (λ twice. (cc (c.in-Ok.ensures.twice.1 (c.requires.form, c.in-Some.ensures.inside, twice))))
@@ -59,7 +59,7 @@ map_there-requires-clause-inside g c = subst (λ (n : ℕ). c.in-Some.number < n
 
 pub map_there-requires-clause-undrawn : goal.map_there-requires-clause-undrawn
 map_there-requires-clause-undrawn g c =
-    let none : c.args.found.layout.generation ≡ 0 = omega (arith, c.if-found-gt0.false) in
+    let none : c.args.found.layout.generation ≡ 0 = omega (arith, c.if-layout-gt0.false) in
     sym c.requires.told.layout.generation ∙ none
 
 pub map_there-requires-clause-named : goal.map_there-requires-clause-named
@@ -68,7 +68,7 @@ map_there-requires-clause-named g c =
 
 pub returns-in-Err-TwiceMapped-clause-done : goal.returns-in-Err-TwiceMapped-clause-done
 returns-in-Err-TwiceMapped-clause-done g c =
-    let none : c.args.found.layout.generation ≡ 0 = omega (arith, c.if-found-gt0.false) in
+    let none : c.args.found.layout.generation ≡ 0 = omega (arith, c.if-layout-gt0.false) in
     on_ok c.write_line-in-Err-TwiceMapped.result _ _ c.write_line-in-Err-TwiceMapped.ensures (λ t.
     found_twice c.args.region.now c.args.pattern.now (g.D.Disk.disk c.args.disk.now) c.args.site.now c.args.found.layout c.in-Some.number c.args.text.now _ c.requires.found none
     (by_name c.args.found.layout (Some c.in-Some.number) c.args.region.now c.as_slice-2.result.now c.as_slice-2.ensures c.in-Some.ensures.number)

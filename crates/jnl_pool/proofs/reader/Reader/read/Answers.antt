@@ -78,6 +78,6 @@ returns-clause-answer c =
     let now_claim : c.load_claim-claim.new.r.view.claim ≡ claim = ap (λ (x : View). x.claim) final in (
       omega arith,
       omega arith,
-      (λ i. record { table = table i; size = c.self.inside.size; place = count i; next = (final i).next; hard = c.load_claim-claim.new.r.view.hard; claim = c.load_claim-claim.new.r.view.claim; hard_loads = (final i).hard_loads; claim_loads = (final i).claim_loads; got = (final i).got; notes = (final i).notes; bytes = bytes })
+      (λ i. record { table = table i; size = c.self.inside.size; place = count i; next = (final i).next; hard = c.load_claim-claim.new.r.view.hard; claim = c.load_claim-claim.new.r.view.claim; hard_loads = (final i).hard_loads; claim_loads = (final i).claim_loads; told = (final i).hardened; got = (final i).got; notes = (final i).notes; bytes = bytes })
           ∙ ap (λ (r : Reading). record r { hard = c.load_claim-claim.new.r.view.hard; claim = c.load_claim-claim.new.r.view.claim; hard_loads = r.hard_loads + 1; claim_loads = r.claim_loads + 1; got = r.got ++ (r.next, bytes) ∷ []; place = r.place + word_count (length bytes); next = r.next + 1; bytes = bytes }) c.self.view_is,
     )

@@ -28,6 +28,8 @@ invariant_of-w c =
       omega arith,
       ap (λ m. m.0.told_got) view ∙ was.5,
       ap (λ m. m.0.told_notes) view ∙ was.6,
+      ap (λ m. m.0.told_hard) view ∙ was.7,
+      ap (λ m. m.0.told_claim) view ∙ was.8,
     )
 
 pub returns-clause-count : goal.returns-clause-count
