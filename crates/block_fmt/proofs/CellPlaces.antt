@@ -5,9 +5,8 @@ use Rattle.std.proofs.lemmas.Grind.{flat_map-append}
 use Rattle.std.proofs.Math.Seq.{take-append_seam, drop-append_seam}
 use Rattle.std.specs.List.{AllByRecursion}
 use Rattle.journal_defs.specs.Leaves.{Cell, spelled_cell, IsCell, IsEncoded}
-use Rattle.global_defs.specs.Key.{Key}
-use Rattle.global_defs.specs.Encoded.{encoded, encoded_sub}
-use Rattle.global_defs.specs.Valid.{is_key, is_name}
+use Rattle.global_defs.specs.Encoded.{encoded_sub}
+use Rattle.global_defs.specs.Valid.{is_name}
 use Rattle.global_defs.proofs.ValidKeys.{valid_parts}
 use Rattle.block_fmt.specs.Cells.{size_of}
 use Rattle.block_fmt.specs.Read.{places, moved, CanMove}

@@ -1,13 +1,12 @@
 -- A block in memory and its leaf.
-use Rattle.std.proofs.Common.{◌≡◌, ℕ, zero, suc, ◌+◌, ◌-◌, ◌*◌, ◌≤◌, ◌<◌, ◌^◌, List, [], ◌∷◌, ◌++◌, length, take, drop, get_or, flat_map, vec_len, refl, sym, ◌∙◌, ap, subst, arith}
+use Rattle.std.proofs.Common.{◌≡◌, ℕ, ◌+◌, ◌≤◌, ◌<◌, List, [], ◌++◌, length, take, drop, get_or, flat_map, vec_len, sym, ◌∙◌, ap, subst, arith}
 use Rattle.std.proofs.lemmas.List.{take_all}
-use Rattle.std.specs.List.{AllByRecursion}
-use Rattle.journal_defs.specs.Leaves.{Cell, Leaf, spelled_cell, IsCell, IsEncoded, IsLeaf, KeysRise}
-use Rattle.block_fmt.specs.Cells.{cell_at, size_of, with_cells, AreBelow, AreAbove}
-use Rattle.block_fmt.specs.Read.{first_cell, cells_in, places, moved, CanMove, BeginWithCell, AreCells}
+use Rattle.journal_defs.specs.Leaves.{Cell, Leaf, spelled_cell, IsCell}
+use Rattle.block_fmt.specs.Cells.{cell_at, size_of}
+use Rattle.block_fmt.specs.Read.{first_cell, cells_in, BeginWithCell, AreCells}
 use Rattle.block_fmt.specs.Inside.{leaf_of, Holds}
 use Rattle.block_fmt.specs.declared.block.Block.TheInside.{Inside}
-use Rattle.block_fmt.proofs.Lists.{all_at, all_take, all_drop, all_join, drop_next}
+use Rattle.block_fmt.proofs.Lists.{all_at, drop_next}
 use Rattle.block_fmt.proofs.ReadBack.{first_is, cells_in_is}
 use Rattle.block_fmt.proofs.CellPlaces.{length-places, place_at, bytes_drop}
 

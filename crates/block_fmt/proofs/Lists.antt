@@ -1,5 +1,5 @@
 -- Lists of which each element has a form, and lists of places that move.
-use Rattle.std.proofs.Common.{◌≡◌, ◌≢◌, ℕ, zero, suc, ◌+◌, ◌-◌, ◌≤◌, ◌<◌, ◌^◌, List, [], ◌∷◌, ◌++◌, length, take, drop, map, set, get_or, refl, sym, ◌∙◌, ap, subst, arith, append_assoc, length-append, length-drop}
+use Rattle.std.proofs.Common.{◌≡◌, ℕ, zero, suc, ◌+◌, ◌-◌, ◌≤◌, ◌<◌, ◌^◌, List, [], ◌∷◌, ◌++◌, length, take, drop, map, set, get_or, refl, sym, ◌∙◌, ap, arith, append_assoc, length-append, length-drop}
 use Rattle.std.proofs.lemmas.List.{take_all, length-take-le, length-map, map-append, take_more, get_or-append_right, drop-drop}
 use Rattle.std.proofs.Math.Seq.{set-append_seam, drop-cons, take-append_seam, drop-append-add}
 use Rattle.std.specs.List.{AllByRecursion}

@@ -1,8 +1,8 @@
 -- The bytes of a block, both ways.
-use Rattle.std.proofs.Common.{◌≡◌, ℕ, ◌+◌, ◌-◌, ◌*◌, ◌≤◌, ◌<◌, ◌^◌, List, ◌++◌, length, take, drop, get_or, replicate, flat_map, refl, sym, ◌∙◌, ap, subst, arith, append_assoc, length-append, length-drop}
+use Rattle.std.proofs.Common.{◌≡◌, ℕ, ◌+◌, ◌-◌, ◌≤◌, ◌<◌, ◌^◌, List, ◌++◌, length, take, drop, get_or, replicate, flat_map, sym, ◌∙◌, ap, arith, append_assoc, length-drop}
 use Rattle.std.proofs.lemmas.List.{drop-drop, length-take-le, take-append-drop, length-replicate}
 use Rattle.std.proofs.Math.Seq.{take-append_seam, drop-append_seam}
-use Rattle.std.proofs.lemmas.Nat.{from_be_bytes-to_be_bytes_2, from_be_bytes-to_be_bytes_4, be_bytes_2, be_bytes_4}
+use Rattle.std.proofs.lemmas.Nat.{from_be_bytes-to_be_bytes_2, be_bytes_2, be_bytes_4}
 use Rattle.std.specs.Int.{from_be_bytes, to_be_bytes, w16, w32}
 use Rattle.journal_defs.specs.Leaves.{Cell, Leaf, cell_bytes, spelled_cell, spelled_leaf, IsLeaf, IsBlock}
 use Rattle.block_fmt.specs.Read.{cells_in, AreCells}

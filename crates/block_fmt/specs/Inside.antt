@@ -1,5 +1,5 @@
 -- What a block in memory stands for.
-use Rattle.std.specs.Prelude.{◌≡◌, ◌≤◌, ℕ, length, vec_capacity}
+use Rattle.std.specs.Prelude.{◌≡◌, ◌≤◌, length, vec_capacity}
 use Rattle.std.specs.List.{flat_map}
 use Rattle.journal_defs.specs.Leaves.{Leaf, spelled_cell, IsLeaf}
 use Rattle.block_fmt.specs.Read.{cells_in, places}

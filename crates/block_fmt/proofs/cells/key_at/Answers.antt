@@ -1,4 +1,4 @@
-use Rattle.std.proofs.Common.{◌≡◌, ◌+◌, ◌-◌, length, take, drop, sym, ◌∙◌, ap, arith, length-drop}
+use Rattle.std.proofs.Common.{◌≡◌, ◌+◌, ◌-◌, length, drop, arith, length-drop}
 use Rattle.block_fmt.specs.Read.{first_cell}
 use Rattle.block_fmt.proofs.ReadBack.{byte_at, first_byte, first_parts, key_read}
 use Rattle.block_fmt.proofs.cells.key_at.Goals as goal

@@ -1,4 +1,4 @@
-use Rattle.std.proofs.Common.{◌≡◌, ℕ, ◌+◌, ◌-◌, length, take, drop, sym, ◌∙◌, arith, length-drop}
+use Rattle.std.proofs.Common.{◌≡◌, ◌+◌, ◌-◌, length, drop, sym, ◌∙◌, arith, length-drop}
 use Rattle.block_fmt.specs.Read.{first_cell}
 use Rattle.block_fmt.proofs.ReadBack.{byte_at, first_byte, first_parts, number_read, value_read}
 use Rattle.block_fmt.proofs.cells.value_at.Goals as goal

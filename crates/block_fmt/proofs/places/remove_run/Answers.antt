@@ -1,4 +1,4 @@
-use Rattle.std.proofs.Common.{◌∙◌, length, ◌≤◌, ◌<◌, arith}
+use Rattle.std.proofs.Common.{◌∙◌, length, ◌<◌, arith}
 use Rattle.block_fmt.proofs.Lists.{one_less}
 use Rattle.block_fmt.proofs.places.remove_run.Goals as goal
 

@@ -1,4 +1,4 @@
-use Rattle.std.proofs.Common.{◌≡◌, ◌+◌, ◌++◌, map, take, drop}
+use Rattle.std.proofs.Common.{◌≡◌, ◌++◌, map, take, drop}
 use Rattle.block_fmt.specs.Read.{moved}
 use Rattle.block_fmt.proofs.places.shift.Given as goal
 

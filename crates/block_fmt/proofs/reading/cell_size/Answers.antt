@@ -1,4 +1,4 @@
-use Rattle.std.proofs.Common.{◌≡◌, ◌+◌, length, arith}
+use Rattle.std.proofs.Common.{arith}
 use Rattle.block_fmt.proofs.ReadBack.{makes_cell}
 use Rattle.block_fmt.proofs.reading.cell_size.Goals as goal
 

@@ -1,9 +1,8 @@
-use Rattle.std.proofs.Common.{◌≡◌, ◌+◌, ◌-◌, ◌<◌, ◌≤◌, ◌++◌, ◌∷◌, [], ℕ, List, length, drop, sym, ◌∙◌, ap, subst, arith, rules}
+use Rattle.std.proofs.Common.{◌≡◌, ◌<◌, ◌++◌, ◌∷◌, [], ℕ, List, length, drop, sym, ◌∙◌, ap, subst, arith, rules}
 use Rattle.std.specs.declared.cmp.Ordering.TheVariants.{Less}
 use Rattle.std.specs.Ordering.{nat_cmp}
 use Rattle.std.specs.Cmp.Lexicographic.{slice_cmp}
 use Rattle.journal_defs.specs.Leaves.{Cell, spelled_cell}
-use Rattle.block_fmt.specs.Cells.{cell_at}
 use Rattle.block_fmt.specs.Read.{first_cell, cells_in, places, AreCells, IsNextCell}
 use Rattle.block_fmt.proofs.Told.{some_told, none_told}
 use Rattle.block_fmt.proofs.Walk.{walked_none, next_there, walked_more, walked_some, last_more, places_more, walked_all, ends_there}

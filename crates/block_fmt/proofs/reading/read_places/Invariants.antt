@@ -1,4 +1,4 @@
-use Rattle.std.proofs.Common.{◌≡◌, ◌≤◌, ◌<◌, ◌-◌, drop}
+use Rattle.std.proofs.Common.{◌≡◌, ◌<◌, ◌-◌, drop}
 use Rattle.block_fmt.specs.Cells.{cell_at}
 use Rattle.block_fmt.specs.Read.{first_cell, cells_in, places, BeginWithCell}
 use Rattle.block_fmt.proofs.Walk.{IsWalked}

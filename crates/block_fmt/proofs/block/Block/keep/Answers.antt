@@ -1,4 +1,4 @@
-use Rattle.std.proofs.Common.{take, arith, refl, ◌∙◌, ap}
+use Rattle.std.proofs.Common.{take, arith, refl}
 use Rattle.block_fmt.specs.Cells.{with_cells}
 use Rattle.block_fmt.specs.declared.block.Block.TheInside.{Inside}
 use Rattle.block_fmt.proofs.Held.{holds_view, holds_own, held}

@@ -1,10 +1,10 @@
-use Rattle.std.proofs.Common.{◌≡◌, ◌≤◌, ◌<◌, ◌+◌, length, refl, ap, arith}
+use Rattle.std.proofs.Common.{◌<◌, ◌+◌, length, refl, arith}
 use Rattle.block_fmt.specs.Cells.{with_cell}
 use Rattle.block_fmt.specs.declared.block.Block.TheInside.{Inside}
 use Rattle.block_fmt.proofs.ReadBack.{length-spelled_cell}
 use Rattle.block_fmt.proofs.CellPlaces.{size_grows, size_split, key_length}
 use Rattle.block_fmt.proofs.Held.{holds_view, holds_own, held, held_place, place_count, byte_count}
-use Rattle.block_fmt.proofs.Changed.{few_held, put_holds, put_size, put_form, put_few, tail_can_move}
+use Rattle.block_fmt.proofs.Changed.{put_holds, put_size, put_form, put_few, tail_can_move}
 use Rattle.block_fmt.proofs.block.Block.put.Goals as goal
 
 pub put_between-requires-clause-order : goal.put_between-requires-clause-order

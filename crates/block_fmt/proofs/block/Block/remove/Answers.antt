@@ -1,6 +1,4 @@
-use Rattle.std.proofs.Common.{ap, length, arith}
-use Rattle.journal_defs.specs.Leaves.{Leaf}
-use Rattle.block_fmt.specs.Inside.{leaf_of}
+use Rattle.std.proofs.Common.{arith}
 use Rattle.block_fmt.proofs.Held.{holds_view}
 use Rattle.block_fmt.proofs.Changed.{few_held}
 use Rattle.block_fmt.proofs.block.Block.remove.Goals as goal

@@ -1,9 +1,9 @@
-use Rattle.std.proofs.Common.{refl, ap, arith}
+use Rattle.std.proofs.Common.{refl, arith}
 use Rattle.block_fmt.specs.Cells.{with_cells, without_between}
 use Rattle.block_fmt.specs.declared.block.Block.TheInside.{Inside}
 use Rattle.block_fmt.proofs.CellPlaces.{size_grows, size_split}
 use Rattle.block_fmt.proofs.Held.{holds_view, holds_own, held, place_count, byte_count}
-use Rattle.block_fmt.proofs.Changed.{few_held, cut_holds, tail_can_move}
+use Rattle.block_fmt.proofs.Changed.{cut_holds, tail_can_move}
 use Rattle.block_fmt.proofs.block.Block.remove_between.Goals as goal
 
 pub cut_between-requires-clause-order : goal.cut_between-requires-clause-order
