@@ -80,3 +80,46 @@ fn many_nodes(rt: HostRuntime) -> Result<(), Fail> {
     assert!(rt; Block::decode(alloc, &out, 5).is_err());
     Ok(())
 }
+
+/// A key whose code has 255 bytes, with this last letter.
+fn longest(alloc: Global, last: &[u8]) -> Result<Bytes, Fail> {
+    let mut text = Bytes::of(alloc, b"^X(\"")?;
+    for _ in 0..250 {
+        text.push_all(b"a")?;
+    }
+    text.push_all(last)?;
+    text.push_all(b"\")")?;
+    code(alloc, text.as_slice())
+}
+
+#[test]
+fn the_longest_keys_and_values(rt: HostRuntime) -> Result<(), Fail> {
+    let alloc = rt.alloc();
+    let mut block = Block::new(alloc, 7)?;
+    let value = [b'v'; 1500];
+    let first = longest(alloc, b"a")?;
+    let second = longest(alloc, b"b")?;
+    let third = longest(alloc, b"c")?;
+    assert_eq!(rt; first.as_slice().len(), 255);
+    for key in [&third, &first] {
+        assert!(rt; block.fits(key.as_slice(), &value));
+        block.put(key.as_slice(), &value)?;
+    }
+    assert!(rt; !block.fits(second.as_slice(), &value[..315]));
+    assert!(rt; block.fits(second.as_slice(), &value[..314]));
+    block.put(second.as_slice(), &value[..314])?;
+    assert_eq!(rt; block.used(), 4088);
+    assert!(rt; block.fits(third.as_slice(), &value));
+    let mut out = [0; 4096];
+    block.encode(&mut out);
+    let mut back = Block::decode(alloc, &out, 0)?;
+    assert_eq!(rt; back.next(), 7);
+    assert_eq!(rt; back.find(second.as_slice()), Ok(1));
+    assert_eq!(rt; back.value(2), value.as_slice());
+    back.put(second.as_slice(), b"")?;
+    back.encode(&mut out);
+    let again = Block::decode(alloc, &out, 0)?;
+    assert_eq!(rt; again.value(1).len(), 0);
+    assert_eq!(rt; again.used(), 4088 - 314);
+    Ok(())
+}
