@@ -1,0 +1,11 @@
+pub mod Spelled
+pub mod Lists
+pub mod ReadBack
+pub mod Walk
+pub mod CellPlaces
+pub mod Order
+pub mod Held
+pub mod Changed
+pub mod WholeBlocks
+pub mod Zeros
+pub mod Told

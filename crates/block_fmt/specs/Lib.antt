@@ -1,0 +1,4 @@
+pub mod Code
+pub mod Cells
+pub mod Read
+pub mod Inside

@@ -1,0 +1,72 @@
+//! Cells as bytes, one behind another.
+ghost use Rattle.std.specs.Prelude.{◌≡◌, ◌≤◌, ◌+◌, ◌-◌, ◌++◌, length, take, drop, vec_len, vec_capacity};
+ghost use Rattle.journal_defs.specs.Leaves.{spelled_cell};
+ghost use Rattle.block_fmt.specs.Read.{first_cell, BeginWithCell};
+
+use crate::bytes::{number_at, push_all};
+
+/// The key of the cell that stands at a place.
+pub fn key_at(bytes: &[u8], at: usize) -> &[u8]
+    requires { BeginWithCell (drop at bytes.now) }
+    ensures { result.now ≡ (first_cell (drop at bytes.now)).0 }
+{
+    let from = at + 1;
+    &bytes[from..from + usize::from(bytes[at])]
+}
+
+/// The value of the cell that stands at a place.
+pub fn value_at(bytes: &[u8], at: usize) -> &[u8]
+    requires { BeginWithCell (drop at bytes.now) }
+    ensures { result.now ≡ (first_cell (drop at bytes.now)).1 }
+{
+    let from = at + 1 + usize::from(bytes[at]);
+    &bytes[from + 2..from + 2 + number_at(bytes, from)]
+}
+
+/// Adds a cell's bytes.
+fn push_cell(bytes: &mut Vec<u8>, key: &[u8], value: &[u8])
+    requires key { length key.now ≤ 255 }
+    requires value { length value.now ≤ 1500 }
+    requires room { vec_len bytes.old + length (spelled_cell (key.now, value.now)) ≤ vec_capacity bytes.old }
+    ensures items { bytes.new.items ≡ bytes.old.items ++ spelled_cell (key.now, value.now) }
+    ensures capacity { vec_capacity bytes.old ≤ vec_capacity bytes.new }
+{
+    push_all(bytes, &[key.len() as u8]);
+    push_all(bytes, key);
+    push_all(bytes, &(value.len() as u16).to_be_bytes());
+    push_all(bytes, value);
+}
+
+/// Puts a cell in place of the bytes between two places.
+pub fn put_between(bytes: &mut Vec<u8>, from: usize, to: usize, key: &[u8], value: &[u8])
+    requires order { from ≤ to }
+    requires inside { to ≤ vec_len bytes.old }
+    requires small { vec_len bytes.old ≤ 4088 }
+    requires key { length key.now ≤ 255 }
+    requires value { length value.now ≤ 1500 }
+    requires room { vec_len bytes.old + length (spelled_cell (key.now, value.now)) ≤ vec_capacity bytes.old + (to - from) }
+    ensures items { bytes.new.items ≡ take from bytes.old.items ++ (spelled_cell (key.now, value.now) ++ drop to bytes.old.items) }
+    ensures capacity { vec_capacity bytes.old ≤ vec_capacity bytes.new }
+{
+    let mut tail = [0; 4088];
+    let rest = bytes.len() - to;
+    tail[..rest].copy_from_slice(&bytes[to..]);
+    bytes.truncate(from);
+    push_cell(bytes, key, value);
+    push_all(bytes, &tail[..rest]);
+}
+
+/// Takes the bytes between two places away.
+pub fn cut_between(bytes: &mut Vec<u8>, from: usize, to: usize)
+    requires order { from ≤ to }
+    requires inside { to ≤ vec_len bytes.old }
+    requires small { vec_len bytes.old ≤ 4088 }
+    ensures items { bytes.new.items ≡ take from bytes.old.items ++ drop to bytes.old.items }
+    ensures capacity { vec_capacity bytes.old ≤ vec_capacity bytes.new }
+{
+    let mut tail = [0; 4088];
+    let rest = bytes.len() - to;
+    tail[..rest].copy_from_slice(&bytes[to..]);
+    bytes.truncate(from);
+    push_all(bytes, &tail[..rest]);
+}

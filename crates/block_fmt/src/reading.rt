@@ -1,0 +1,97 @@
+//! Cells read from bytes that may be others.
+ghost use Rattle.std.specs.Prelude.{◌≡◌, ◌≤◌, ◌<◌, ◌+◌, ◌↔◌, length, drop, vec_capacity, IfSome, IfNone, IfOk, IsTrue, MatchBool};
+ghost use Rattle.std.specs.declared.cmp.Ordering.TheVariants.{Less};
+ghost use Rattle.std.specs.Ordering.{nat_cmp};
+ghost use Rattle.std.specs.Cmp.Lexicographic.{slice_cmp};
+ghost use Rattle.journal_defs.specs.Leaves.{spelled_cell, IsEncoded};
+ghost use Rattle.block_fmt.specs.Read.{first_cell, cells_in, places, BeginWithCell, AreCells, IsNextCell};
+
+use crate::bytes::number_at;
+use crate::cells::key_at;
+use crate::sizes::{LONGEST_VALUE, MOST_CELLS};
+use gvn_key::{Key, NoMemory};
+use std::alloc::Global;
+use std::cmp::Ordering;
+
+/// How many bytes the cell has that these bytes begin with, `None` where they begin with no cell.
+fn cell_size(bytes: &[u8]) -> Option<usize>
+    ensures cell { IfSome result (λ n. BeginWithCell bytes.now) }
+    ensures size { IfSome result (λ n. n ≡ length (spelled_cell (first_cell bytes.now))) }
+    ensures inside { IfSome result (λ n. n ≤ length bytes.now) }
+    ensures none { IfNone result (BeginWithCell bytes.now → ⊥) }
+{
+    let &[first, ..] = bytes else {
+        return None;
+    };
+    let key_end = usize::from(first) + 1;
+    if bytes.len() < key_end + 2 {
+        return None;
+    }
+    let value_size = number_at(bytes, key_end);
+    if value_size > LONGEST_VALUE || bytes.len() < key_end + 2 + value_size {
+        return None;
+    }
+    Some(key_end + 2 + value_size)
+}
+
+/// Whether a key's bytes are those of a key.
+fn is_key(alloc: Global, bytes: &[u8]) -> Result<bool, NoMemory>
+    ensures { IfOk result (λ is. MatchBool is (IsEncoded bytes.now) (IsEncoded bytes.now → ⊥)) }
+{
+    Ok(Key::decode(alloc, bytes)?.is_some())
+}
+
+/// Whether the first of two cells has the smaller key.
+fn rises(bytes: &[u8], last: usize, next: usize) -> bool
+    requires last { BeginWithCell (drop last bytes.now) }
+    requires next { BeginWithCell (drop next bytes.now) }
+    ensures { IsTrue result ↔ (slice_cmp nat_cmp (first_cell (drop last bytes.now)).0 (first_cell (drop next bytes.now)).0 ≡ Less) }
+{
+    key_at(bytes, last).cmp(key_at(bytes, next)) == Ordering::Less
+}
+
+/// How many bytes the cell has that stands at a place, behind the one that stands at `last` unless it is the first. `None` where
+/// no cell of a block can stand there.
+fn next_cell(alloc: Global, bytes: &[u8], last: usize, at: usize) -> Result<Option<usize>, NoMemory>
+    requires inside { at ≤ length bytes.now }
+    requires last { 0 < at → BeginWithCell (drop last bytes.now) }
+    ensures next { IfOk result (λ found. IfSome found (λ size. IsNextCell bytes.now last at)) }
+    ensures size { IfOk result (λ found. IfSome found (λ size. size ≡ length (spelled_cell (first_cell (drop at bytes.now))))) }
+    ensures within { IfOk result (λ found. IfSome found (λ size. at + size ≤ length bytes.now)) }
+    ensures none { IfOk result (λ found. IfNone found (IsNextCell bytes.now last at → ⊥)) }
+{
+    let Some(size) = cell_size(&bytes[at..]) else {
+        return Ok(None);
+    };
+    if !is_key(alloc, key_at(bytes, at))? {
+        return Ok(None);
+    }
+    if at > 0 && !rises(bytes, last, at) {
+        return Ok(None);
+    }
+    Ok(Some(size))
+}
+
+/// The places of so many cells of which these are all the bytes, `None` where they aren't the cells of a block.
+pub fn read_places(alloc: Global, bytes: &[u8], count: usize) -> Result<Option<Vec<u16>>, NoMemory>
+    requires { length bytes.now ≤ 4088 }
+    ensures cells { IfOk result (λ read. IfSome read (λ made. AreCells count bytes.now)) }
+    ensures items { IfOk result (λ read. IfSome read (λ made. made.items ≡ places 0 (cells_in count bytes.now))) }
+    ensures none { IfOk result (λ read. IfNone read (AreCells count bytes.now → ⊥)) }
+{
+    let mut places: Vec<u16> = Vec::with_capacity(alloc, MOST_CELLS)?;
+    let mut at = 0;
+    let mut last = 0;
+    for _ in 0..count {
+        let Some(size) = next_cell(alloc, bytes, last, at)? else {
+            return Ok(None);
+        };
+        places.push(at as u16)?;
+        last = at;
+        at += size;
+    }
+    if at != bytes.len() {
+        return Ok(None);
+    }
+    Ok(Some(places))
+}
