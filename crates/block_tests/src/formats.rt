@@ -50,7 +50,6 @@ fn many_nodes(rt: HostRuntime) -> Result<(), Fail> {
         }
     }
     assert_eq!(rt; block.len(), count);
-    println!(rt; "{} cells, {} bytes", block.len(), block.used())?;
     for i in 1..block.len() {
         assert!(rt; block.key(i - 1) < block.key(i));
         assert_eq!(rt; block.find(block.key(i)), Ok(i));
