@@ -1,5 +1,7 @@
-//! Worked blocks, and blocks written out while the disk fails.
+//! Worked blocks.
 #![tactic(auto)]
 
+#[cfg(test)]
+mod cells;
 #[cfg(test)]
 mod formats;

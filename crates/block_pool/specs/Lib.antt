@@ -1,0 +1,4 @@
+pub mod Code
+pub mod Pool
+pub mod Inside
+pub mod Lending
