@@ -1,11 +1,11 @@
 -- Marks of blocks, and the images after an epoch.
 use Rattle.std.proofs.Common.{◌≡◌, ◌≢◌, inl, inr, ⊎_elim, ℕ, zero, suc, ◌<◌, ◌≤◌, Bool, true, false, List, [], ◌∷◌, ◌++◌, length, replicate, Option, Some, None, IsSome, is_some, refl, sym, ◌∙◌, ap, subst, arith}
-use Rattle.std.specs.Prelude.{◌⊎◌, MatchBool, slice_index_or, slice_set, if◌then◌else◌}
+use Rattle.std.specs.Prelude.{◌⊎◌, slice_index_or, slice_set, if◌then◌else◌}
 use Rattle.std.specs.Option.{option_or}
 use Rattle.std.specs.List.{AllByRecursion}
 use Rattle.std.proofs.lemmas.Bool.{cases_eq, cases_lt}
 use Rattle.std.proofs.lemmas.Bool.Decides.{nat_tests}
-use Rattle.std.proofs.lemmas.List.{append-nil, length-set, length-replicate, get_or-set_same, get_or-set_other, get_or-replicate, get_or_past}
+use Rattle.std.proofs.lemmas.List.{append-nil, length-set, length-replicate, get_or-set_other, get_or-replicate}
 use Rattle.journal_defs.specs.Journal.{Before, Pblk, Mark}
 use Rattle.journal_defs.specs.Sequence.{Placed}
 use Rattle.journal_defs.specs.Epochs.{Blocks, Chosen, image_in, image_of}
@@ -16,7 +16,7 @@ use Rattle.block_laws.proofs.Appends.{image_stays, image_there}
 use Rattle.before_image.specs.Images.{is_free, with_image, first_image, placed_images, Knows}
 
 pub no_both : (t : Bool) → t ≡ true → t ≡ false → ⊥
-no_both t yes no = cc
+no_both t set unset = cc
 
 or_none : (o : Option (List ℕ)) → option_or o None ≡ o
 or_none None = refl
@@ -56,27 +56,6 @@ may_write marks e b knows free = elim (cases_lt b e.blocks) [
   | inl inside ↦ inr (knows.imaged b inside free)
   | inr far ↦ inl (omega arith)
 ]
-
-past_free : (marks : List Bool) (e : Chosen) (b : ℕ) → Knows marks e → e.blocks ≤ b → is_free marks b ≡ true
-past_free marks e b knows far = get_or_past marks b true (omega (arith, far, knows.blocks))
-
-inside_of : (marks : List Bool) (e : Chosen) (b : ℕ) → Knows marks e → is_free marks b ≡ false → b < e.blocks
-inside_of marks e b knows taken = elim (cases_lt b e.blocks) [
-  | inl inside ↦ inside
-  | inr far ↦ absurd (no_both (is_free marks b) (past_free marks e b knows (omega arith)) taken)
-]
-
-pub may_not_write : (marks : List Bool) (e : Chosen) (b : ℕ) → Knows marks e → is_free marks b ≡ false → MayWrite e b → ⊥
-may_not_write marks e b knows taken (inl far) = no_both (is_free marks b) (past_free marks e b knows far) taken
-may_not_write marks e b knows taken (inr has) = no_both (is_some (image_of e.after b)) has (ap is_some (knows.others b (inside_of marks e b knows taken) taken))
-
-by_test : (t : Bool) (P Q : Type 0) → (t ≡ true → P) → (t ≡ false → Q) → MatchBool t P Q
-by_test true P Q yes no = yes refl
-by_test false P Q yes no = no refl
-
--- a mark tells exactly whether its block may be written
-pub exact : (marks : List Bool) (e : Chosen) (b : ℕ) → Knows marks e → MatchBool (is_free marks b) (MayWrite e b) (MayWrite e b → ⊥)
-exact marks e b knows = by_test (is_free marks b) (MayWrite e b) (MayWrite e b → ⊥) (may_write marks e b knows) (may_not_write marks e b knows)
 
 pub may_change : (marks : List Bool) (e : Chosen) (old new : Blocks) → Knows marks e → ((b : ℕ) → (is_free marks b ≡ true) ⊎ (new b ≡ old b)) → MayChange e old new
 may_change marks e old new knows each = λ b. ⊎_elim (λ free. inl (may_write marks e b knows free)) (λ same. inr same) (each b)

@@ -1,18 +1,18 @@
 -- The oldest images of blocks.
-use Rattle.std.proofs.Common.{◌≡◌, ◌≢◌, inl, inr, ℕ, zero, suc, ◌*◌, ◌<◌, ◌≤◌, nat_lt, Bool, true, false, List, [], ◌∷◌, ◌++◌, length, map, max, replicate, Option, Some, None, IsSome, is_some, refl, sym, ◌∙◌, ap, subst, arith, unwrap_or}
-use Rattle.std.specs.Prelude.{IfSome, slice_index_or, slice_set}
+use Rattle.std.proofs.Common.{◌≡◌, ◌≢◌, inl, inr, ℕ, ◌*◌, ◌<◌, ◌≤◌, ◌==◌, nat_lt, Bool, true, false, List, [], ◌∷◌, ◌++◌, length, take, drop, map, max, replicate, Option, Some, None, is_some, refl, sym, ◌∙◌, ap, arith, unwrap_or}
+use Rattle.std.specs.Prelude.{Result, Ok, Err, OnOk, IfSome, if◌then◌else◌}
 use Rattle.std.specs.Option.{option_or}
-use Rattle.std.specs.List.{AllByRecursion}
 use Rattle.std.proofs.lemmas.Bool.{cases_eq, cases_lt}
 use Rattle.std.proofs.lemmas.Bool.Decides.{nat_tests}
 use Rattle.std.proofs.lemmas.List.{length-set, length-map, length-replicate, get_or-set_same, get_or-set_other, get_or-replicate, get_or-map}
+use Rattle.disk_defs.specs.Disk.{Files}
 use Rattle.journal_defs.specs.Journal.{Before, Pblk}
 use Rattle.journal_defs.specs.Sequence.{Placed}
-use Rattle.journal_defs.specs.Epochs.{Blocks, Chosen, image_in, image_of, image_state}
+use Rattle.journal_defs.specs.Epochs.{Blocks, Chosen, image_in, image_of, image_state, block_of}
 use Rattle.journal_defs.specs.Undo.{logged}
-use Rattle.journal_laws.proofs.Images.{image_of-append, shown}
+use Rattle.journal_laws.proofs.Images.{image_of-append}
 use Rattle.before_image.specs.Images.{is_free, Knows}
-use Rattle.before_image.specs.Undoing.{Oldest, oldest_of, with_oldest, AreBlocks, Undoes}
+use Rattle.before_image.specs.Undoing.{Oldest, oldest_of, with_oldest, Undoes}
 use Rattle.before_image.proofs.Marks.{no_both, image_past, image_in-here, image_in-there}
 
 pub undoes_none : (number blocks : ℕ) → Undoes (replicate blocks None) (record { number = number; blocks = blocks; after = [] })
@@ -64,41 +64,15 @@ knows_undone us e undoes = record {
   others = λ b inside taken. none_of (image_of e.after b) (sym (mark_at us e b undoes inside) ∙ taken);
 }
 
--- an image of a block that has one, or isn't below the epoch's `blocks`, counts for nothing
-pub not_taken : (us : Oldest) (b : ℕ) (image : List ℕ) → is_some (oldest_of us b) ≡ true → with_oldest us b image ≡ us
-not_taken [] b image has = refl
-not_taken (None ∷ us) zero image has = absurd (no_both true refl (sym has))
-not_taken (Some x ∷ us) zero image has = refl
-not_taken (u ∷ us) (suc b) image has = ap (λ (vs : Oldest). u ∷ vs) (not_taken us b image has)
-
-pub not_there : (us : Oldest) (b : ℕ) (image : List ℕ) → length us ≤ b → with_oldest us b image ≡ us
-not_there [] b image far = refl
-not_there (u ∷ us) zero image far = absurd (omega (arith, far))
-not_there (u ∷ us) (suc b) image far = ap (λ (vs : Oldest). u ∷ vs) (not_there us b image (omega (arith, far)))
-
-pub is_taken : (us : Oldest) (b : ℕ) (image : List ℕ) → is_some (oldest_of us b) ≡ false → with_oldest us b image ≡ slice_set us b (Some image)
-is_taken us b image none = ap (λ (o : Option (List ℕ)). slice_set us b (option_or o (Some image))) (none_of (oldest_of us b) none)
-
-pub still_blocks : (us : Oldest) (b : ℕ) (image : List ℕ) → AreBlocks us → length image ≡ 4096 → AreBlocks (slice_set us b (Some image))
-still_blocks [] b image are is = are
-still_blocks (u ∷ us) zero image are is = (is, are.1)
-still_blocks (u ∷ us) (suc b) image are is = (are.0, still_blocks us b image are.1 is)
-
-pub none_are_blocks : (n : ℕ) → AreBlocks (replicate n None)
-none_are_blocks zero = tt
-none_are_blocks (suc n) = (tt, none_are_blocks n)
-
-pub block_at : (us : Oldest) (b : ℕ) (image : List ℕ) → AreBlocks us → oldest_of us b ≡ Some image → length image ≡ 4096
-block_at [] b image are is = cc
-block_at (u ∷ us) zero image are is = subst (λ (o : Option (List ℕ)). IfSome o (λ x. length x ≡ 4096)) is are.0
-block_at (u ∷ us) (suc b) image are is = block_at us b image are.1 is
+first_zeros : (n b : ℕ) (block zeros : Option (List ℕ)) → n ≡ 0 → b ≡ 0 → (if nat_lt b n then block else if b == 0 then zeros else None) ≡ zeros
+first_zeros n b block zeros none first = grind (arith, nat_tests)
 
 -- an epoch of no blocks has one, of zeros
 pub state_past : (us : Oldest) (e : Chosen) (file : Blocks) (b : ℕ) → Undoes us e → length us ≤ b → b < max 1 (length us) → image_state e file b ≡ Some (replicate 4096 0)
 state_past us e file b undoes far inside =
     let first : b ≡ 0 = omega (arith, far, inside) in
     let none : e.blocks ≡ 0 = omega (arith, far, inside, undoes.blocks) in
-    grind (arith, nat_tests)
+    first_zeros e.blocks b (Some (unwrap_or (image_of e.after b) (file b))) (Some (replicate 4096 0)) none first
 
 state_inside : (e : Chosen) (file : Blocks) (b : ℕ) → b < e.blocks → image_state e file b ≡ Some (unwrap_or (image_of e.after b) (file b))
 state_inside e file b inside = grind (arith, nat_tests)
@@ -107,3 +81,25 @@ pub state_known : (us : Oldest) (e : Chosen) (file : Blocks) (b : ℕ) → Undoe
 state_known us e file b undoes inside =
     let below : b < e.blocks = omega (arith, inside, undoes.blocks) in
     state_inside e file b below ∙ ap (λ (o : Option (List ℕ)). Some (unwrap_or o (file b))) (sym (undoes.oldest b below))
+
+-- the zeros that were written are the block below an epoch of no blocks
+pub zeros_told : (o : Option Files) (us : Oldest) (file b : ℕ) (out : List ℕ) → length us ≤ b → b < max 1 (length us) → out ≡ replicate 4096 0
+    → IfSome o (λ files. (e : Chosen) → Undoes us e → image_state e (block_of (files file)) b ≡ Some out)
+zeros_told None us file b out far inside is = tt
+zeros_told (Some files) us file b out far inside is = λ e undoes.
+    state_past us e (block_of (files file)) b undoes far inside ∙ ap (λ (x : List ℕ). Some x) (sym is)
+
+-- the file's block that was read is that below the epoch, where it has no image
+pub read_told : (o : Option Files) (us : Oldest) (file b n : ℕ) (out : List ℕ) → b < length us → oldest_of us b ≡ None → n ≡ 4096
+    → IfSome o (λ files. out ≡ take n (drop (4096 * b) (files file)))
+    → IfSome o (λ files. (e : Chosen) → Undoes us e → image_state e (block_of (files file)) b ≡ Some out)
+read_told None us file b n out inside none size is = tt
+read_told (Some files) us file b n out inside none size is = λ e undoes.
+    state_known us e (block_of (files file)) b undoes inside
+    ∙ ap (λ (image : Option (List ℕ)). Some (unwrap_or image (block_of (files file) b))) none
+    ∙ ap (λ (k : ℕ). Some (take k (drop (4096 * b) (files file)))) (sym size)
+    ∙ ap (λ (x : List ℕ). Some x) (sym is)
+
+pub on_ok : {T E P Q : Type 0} → (r : Result T E) → OnOk r P → (P → Q) → OnOk r Q
+on_ok (Ok x) p k = k p
+on_ok (Err e) p k = tt

@@ -35,6 +35,13 @@ fn marks_of(alloc: Global, oldest: &[Option<Bytes>]) -> Result<Vec<bool>, NoMemo
     Ok(marks)
 }
 
+/// Writes zeros over all bytes.
+fn put_zeros(out: &mut [u8])
+    ensures { out.new ≡ replicate (length out.old) 0 }
+{
+    out.fill(0);
+}
+
 /// The oldest image of each block below an epoch's `blocks`.
 #[derive(Debug, Drop)]
 pub struct Undo {
@@ -107,7 +114,7 @@ impl Undo {
     {
         let number = block as usize;
         if number >= self.oldest.len() {
-            out.fill(0);
+            put_zeros(out);
             return Ok(());
         }
         match &self.oldest[number] {
