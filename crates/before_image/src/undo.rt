@@ -1,0 +1,135 @@
+//! Undoing what changed after an epoch.
+ghost use Rattle.std.specs.Prelude.{◌≡◌, ◌≤◌, ◌<◌, ◌+◌, ◌*◌, ℕ, length, map, max, replicate, is_some, Some, None, IfOk, OnOk, OnErr, IfSome};
+ghost use Rattle.disk_defs.specs.Disk.{Reads, HasCause};
+ghost use Rattle.journal_defs.specs.Epochs.{Chosen, image_state, block_of};
+ghost use Rattle.before_image.specs.Undoing.{oldest_of, with_oldest, Undoes};
+
+use crate::imaged::Imaged;
+use gvn_key::{Bytes, NoMemory};
+use repl_disk::{Disk, Failed};
+use std::alloc::Global;
+use std::marker::Model;
+
+/// How many bytes a block has on the file.
+const BLOCK: u64 = 4096;
+
+/// No image for each of so many blocks.
+fn no_images(alloc: Global, blocks: u32) -> Result<Vec<Option<Bytes>>, NoMemory>
+    ensures { IfOk result (λ made. made.items ≡ replicate blocks None) }
+{
+    let mut made = Vec::new(alloc);
+    for _block in 0..blocks {
+        made.push(None)?;
+    }
+    Ok(made)
+}
+
+/// A mark for each block, set where it has an image.
+fn marks_of(alloc: Global, oldest: &[Option<Bytes>]) -> Result<Vec<bool>, NoMemory>
+    ensures { IfOk result (λ made. made.items ≡ map is_some oldest.now) }
+{
+    let mut marks = Vec::new(alloc);
+    for image in oldest {
+        marks.push(image.is_some())?;
+    }
+    Ok(marks)
+}
+
+/// Writes zeros over all bytes.
+fn put_zeros(out: &mut [u8])
+    ensures { out.new ≡ replicate (length out.old) 0 }
+{
+    out.fill(0);
+}
+
+/// The oldest image of each block below an epoch's `blocks`.
+#[derive(Debug, Drop)]
+pub struct Undo {
+    alloc: Global,
+    oldest: Vec<Option<Bytes>>,
+}
+
+impl Model for Undo {
+    ghost use Rattle.std.specs.Coded.{coded_list, coded_option, coded_ℕ};
+    ghost use Rattle.before_image.specs.Undoing.{Oldest, AreBlocks};
+
+    ghost Value = { Oldest };
+
+    ghost coded = { coded_list (coded_option (coded_list coded_ℕ)) };
+
+    ghost view = { λ u. u.oldest.items };
+
+    ghost invariant = { λ u. AreBlocks u.oldest.items };
+}
+
+impl Undo {
+    /// No image of so many blocks: what stands below an epoch that is the last record.
+    pub fn new(alloc: Global, blocks: u32) -> Result<Self, NoMemory>
+        ensures { IfOk result (λ made. made ≡ replicate blocks None) }
+    {
+        let oldest = no_images(alloc, blocks)?;
+        Ok(Undo { alloc, oldest })
+    }
+
+    /// Whether a block has an image.
+    pub fn has_image(&self, block: u32) -> bool
+        ensures { result ≡ is_some (oldest_of self.now block) }
+    {
+        match self.oldest.get(block as usize) {
+            Some(image) => image.is_some(),
+            None => false,
+        }
+    }
+
+    /// Takes an image, in journal order: it counts where its block has none yet.
+    pub fn take_image(&mut self, block: u32, image: &[u8]) -> Result<(), NoMemory>
+        requires { length image.now ≡ 4096 }
+        ensures ok { OnOk result (self.new ≡ with_oldest self.old block image.now) }
+        ensures err { OnErr result (self.new ≡ self.old) }
+    {
+        let number = block as usize;
+        if number >= self.oldest.len() || self.has_image(block) {
+            return Ok(());
+        }
+        let image = Bytes::of(self.alloc, image)?;
+        self.oldest[number] = Some(image);
+        Ok(())
+    }
+
+    /// Reads a block as it stands below the epoch: its oldest image, or the file's block where it has none. With no blocks the
+    /// first one is zeros.
+    pub fn read_block<D: Disk>(
+        &self,
+        disk: &mut D,
+        file: u32,
+        block: u32,
+        out: &mut [u8],
+    ) -> Result<(), Failed>
+        requires size { length out.old ≡ 4096 }
+        requires inside { block < max 1 (length self.now) }
+        requires whole { IfSome (D.disk disk.old).content (λ files. block < length self.now → oldest_of self.now block ≡ None → 4096 * block + 4096 ≤ length (files file)) }
+        ensures block { OnOk result (IfSome (D.disk disk.old).content (λ files. (e : Chosen) → Undoes self.now e → image_state e (block_of (files file)) block ≡ Some out.new)) }
+        ensures reads { Reads (D.disk disk.old) (D.disk disk.new) }
+        ensures cause { HasCause (D.disk disk.old).faults (D.disk disk.new).faults result }
+    {
+        let number = block as usize;
+        if number >= self.oldest.len() {
+            put_zeros(out);
+            return Ok(());
+        }
+        match &self.oldest[number] {
+            Some(image) => {
+                out.copy_from_slice(image.as_slice());
+                Ok(())
+            }
+            None => disk.read_at(file, BLOCK * block as u64, out),
+        }
+    }
+
+    /// Which blocks have an image.
+    pub fn imaged(&self) -> Result<Imaged, NoMemory>
+        ensures { IfOk result (λ made. made ≡ map is_some self.now) }
+    {
+        Ok(Imaged::of(marks_of(self.alloc, &self.oldest)?))
+    }
+}
