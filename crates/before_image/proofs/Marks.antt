@@ -95,5 +95,5 @@ knows_first marks e g b bytes knows = by_mark (is_free marks b) refl
     by_mark : (t : Bool) → is_free marks b ≡ t → Knows (with_image marks b) (logged_all e (placed_images g (if t then [] else record { block = b; bytes = bytes } ∷ [])))
     by_mark true free =
         subst (λ (ps : List Placed). Knows (with_image marks b) (record { number = e.number; blocks = e.blocks; after = ps })) (sym (append-nil e.after))
-            (subst (λ (ms : List Bool). Knows ms e) (sym (set_again marks b free)) knows)
+        (subst (λ (ms : List Bool). Knows ms e) (sym (set_again marks b free)) knows)
     by_mark false taken = knows_image marks e g (record { block = b; bytes = bytes }) knows
