@@ -225,7 +225,7 @@ impl Globals {
     }
 
     /// Takes the node and all its descendants away.
-    fn kill(&mut self, top: &Key) -> Result<(), NoMemory>
+    pub(crate) fn kill(&mut self, top: &Key) -> Result<(), NoMemory>
         ensures ok { OnOk result (self.new ≡ globals.retain_keys self.old (λ k. not (is_under top.now k))) }
         ensures err { OnErr result (self.new ≡ self.old) }
     {
