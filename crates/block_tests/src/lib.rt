@@ -5,3 +5,5 @@
 mod cells;
 #[cfg(test)]
 mod formats;
+#[cfg(test)]
+mod images;
