@@ -1,4 +1,4 @@
-use Rattle.std.proofs.Common.{rules, ◌≡◌, ℕ, ◌*◌, ◌<◌, ◌≤◌, length, replicate, None, ◌∙◌, ap, arith}
+use Rattle.std.proofs.Common.{rules, ◌≡◌, ℕ, ◌<◌, ◌≤◌, length, replicate, None, ◌∙◌, ap, arith}
 use Rattle.before_image.specs.Undoing.{oldest_of}
 use Rattle.before_image.proofs.OldestImages.{zeros_told, read_told, on_ok}
 use Rattle.before_image.proofs.undo.Undo.read_block.Goals as goal
