@@ -37,8 +37,9 @@ impl Log for Images {
 
 /// Writes a block of which each byte is this one.
 fn write(disk: &mut MemDisk, block: u32, byte: u8) -> Result<(), Fail> {
-    disk.room(FILE, 1, 4096)?;
+    disk.room(FILE, 2, 4096)?;
     disk.write_at(FILE, 4096 * block as u64, &[byte; 4096])?;
+    disk.sync(FILE)?;
     Ok(())
 }
 
