@@ -142,8 +142,7 @@ fn has_most_updates(statements: &[Statement]) -> bool
 fn is_full_job(job: &Statements, word: &[u8]) -> bool
     ensures { result ≡ is_full_job job.now word.now }
 {
-    MOST_STATEMENTS <= job.len()
-        || (is_update_word(word) && has_most_updates(job.as_slice()))
+    MOST_STATEMENTS <= job.len() || (is_update_word(word) && has_most_updates(job.as_slice()))
 }
 
 /// A statement's fault, by the place of its part in the line.
