@@ -10,10 +10,10 @@ use Rattle.global_defs.specs.Entry.{Update, Stamp, Transaction, Entry, Sequence}
 use Rattle.global_defs.specs.Jobs.{Answers, SeqLimit}
 use Rattle.global_defs.specs.Evaluation.{Done}
 use Rattle.global_defs.specs.Serial.{Turn, Reply, Seq, Read, RolledBack, replied, begun, serial_at, entry_of, MOST_ENTRIES}
-use Rattle.world_defs.specs.World.{Contents}
-use Rattle.world_defs.specs.Rows.{with_sequence, IsFrontOf}
-use Rattle.world_defs.specs.Ties.{IsSite}
-use Rattle.world_defs.specs.Output.{reply_line}
+use Rattle.site_defs.specs.Contents.{Contents}
+use Rattle.site_defs.specs.Fronts.{with_sequence, IsFrontOf}
+use Rattle.site_defs.specs.Stands.{IsSite}
+use Rattle.site_defs.specs.Texts.{reply_line}
 use Rattle.site_store.specs.declared.site.OpenSite.{OpenSite}
 use Rattle.site_store.specs.Site.{IsOpen, HasReign, with_entry}
 use Rattle.repl_section.specs.declared.reign.Reign.{Reign}

@@ -7,9 +7,9 @@ use Rattle.std.proofs.lemmas.List.FromFn.{length-enumerate_from}
 use Rattle.disk_defs.specs.Disk.{Files, View, Image, IsLawful, AtEachMoment}
 use Rattle.disk_defs.proofs.Moments.{holds_now}
 use Rattle.global_defs.specs.Entry.{Sequence}
-use Rattle.world_defs.specs.World.{Contents}
-use Rattle.world_defs.specs.Rows.{with_sequence}
-use Rattle.world_defs.specs.Ties.{IsSite}
+use Rattle.site_defs.specs.Contents.{Contents}
+use Rattle.site_defs.specs.Fronts.{with_sequence}
+use Rattle.site_defs.specs.Stands.{IsSite}
 use Rattle.site_store.specs.Site.{IsOpen}
 use Rattle.gvn_model.specs.Numbered.{numbered}
 use Rattle.site_store.specs.declared.site.OpenSite.{OpenSite}

@@ -13,10 +13,10 @@ use Rattle.global_defs.specs.Jobs.{Job, Answers}
 use Rattle.global_defs.specs.Evaluation.{Evaluated, Done, eval}
 use Rattle.global_defs.specs.Evaluation as evaluation
 use Rattle.global_defs.specs.Serial.{Turn, Replied, Reply, Seq, Read, RolledBack, first_of, next_job, without_next, picked, decided, replied, begun, MOST_ENTRIES}
-use Rattle.world_defs.specs.World.{Contents}
-use Rattle.world_defs.specs.Rows.{with_sequence, IsFrontOf, turn_of}
-use Rattle.world_defs.specs.Ties.{IsSite}
-use Rattle.world_defs.specs.Output.{reply_line, is_past, printed}
+use Rattle.site_defs.specs.Contents.{Contents}
+use Rattle.site_defs.specs.Fronts.{with_sequence, IsFrontOf, turn_of}
+use Rattle.site_defs.specs.Stands.{IsSite}
+use Rattle.site_defs.specs.Texts.{reply_line, is_past, printed}
 use Rattle.repl_section.specs.declared.reign.Reign.{Reign}
 use Rattle.repl_section.specs.Reigns.{Reigns, stamp_in, stamp_of}
 use Rattle.repl_section.proofs.Standing.{told_there, all_stand}

@@ -7,10 +7,10 @@ use Rattle.global_defs.specs.Jobs.{Job}
 use Rattle.global_defs.specs.Evaluation.{Evaluated}
 use Rattle.global_defs.specs.Evaluation as evaluation
 use Rattle.global_defs.specs.Serial.{Turn, Replied, decided, begun}
-use Rattle.world_defs.specs.World.{Contents}
-use Rattle.world_defs.specs.Rows.{with_sequence, IsFrontOf, turn_of}
-use Rattle.world_defs.specs.Ties.{IsSite}
-use Rattle.world_defs.specs.Output.{reply_line, is_past, printed}
+use Rattle.site_defs.specs.Contents.{Contents}
+use Rattle.site_defs.specs.Fronts.{with_sequence, IsFrontOf, turn_of}
+use Rattle.site_defs.specs.Stands.{IsSite}
+use Rattle.site_defs.specs.Texts.{reply_line, is_past, printed}
 use Rattle.site_store.specs.Site.{HasRoomFor}
 use Rattle.repl_section.specs.declared.reign.Reign.{Reign}
 use Rattle.repl_section.specs.declared.running.RunError.{RunError}

@@ -4,7 +4,7 @@ use Rattle.disk_defs.specs.Disk.{View}
 use Rattle.global_defs.specs.Entry as defs
 use Rattle.gvn_model.specs.declared.reign.Stamp.{Stamp}
 use Rattle.gvn_model.specs.Reigns.{stamp_value}
-use Rattle.world_defs.specs.World.{Contents}
+use Rattle.site_defs.specs.Contents.{Contents}
 use Rattle.site_store.specs.Site.{IsOpen}
 use Rattle.repl_section.specs.declared.reign.Reign.{Reign}
 

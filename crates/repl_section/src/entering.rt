@@ -3,9 +3,9 @@ ghost use Rattle.std.specs.Prelude.{◌≡◌, ◌≤◌, ◌<◌, ◌+◌, ◌^
 ghost use Rattle.disk_defs.specs.Disk.{Files, Image, Rose};
 ghost use Rattle.global_defs.specs.Fields.{IsTransaction};
 ghost use Rattle.gvn_model.specs.Entries.{transaction_value};
-ghost use Rattle.world_defs.specs.World.{Contents};
-ghost use Rattle.world_defs.specs.Rows.{IsFrontOf};
-ghost use Rattle.world_defs.specs.Ties.{IsSite};
+ghost use Rattle.site_defs.specs.Contents.{Contents};
+ghost use Rattle.site_defs.specs.Fronts.{IsFrontOf};
+ghost use Rattle.site_defs.specs.Stands.{IsSite};
 ghost use Rattle.site_store.specs.Site.{IsReady, IsOpen, HasReign, HasRoomFor, with_entry};
 ghost use Rattle.repl_section.specs.Reigns.{Reigns};
 

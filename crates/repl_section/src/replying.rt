@@ -1,7 +1,7 @@
 //! The lines that tell what became of jobs.
 ghost use Rattle.std.specs.Prelude.{◌≡◌, ◌++◌, OnOk};
 ghost use Rattle.gvn_model.specs.Jobs.{cause_value};
-ghost use Rattle.world_defs.specs.Output.{rollback_text, answers_text, reply_text, reply_line};
+ghost use Rattle.site_defs.specs.Texts.{rollback_text, answers_text, reply_text, reply_line};
 ghost use Rattle.repl_section.specs.Replies.{reply_value, replied_value};
 
 use gvn_key::{Bytes, NoMemory};

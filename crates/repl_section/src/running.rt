@@ -1,7 +1,7 @@
 //! Deciding jobs one after another.
 ghost use Rattle.std.specs.Prelude.{◌≡◌, ◌≤◌, Bool, OnOk, IfErr};
 ghost use Rattle.disk_defs.specs.Disk.{Rose};
-ghost use Rattle.world_defs.specs.World.{Contents};
+ghost use Rattle.site_defs.specs.Contents.{Contents};
 ghost use Rattle.site_store.specs.Site.{IsReady, HasReign};
 ghost use Rattle.repl_section.specs.Reigns.{Reigns, stamp_of};
 ghost use Rattle.repl_section.specs.Deciding.{HasDecided, Breaks, IsFault};

@@ -7,15 +7,18 @@ use Rattle.disk_defs.specs.Disk.{Files, View, Image, IsLawful, AtEachMoment}
 use Rattle.site_store.specs.declared.site.OpenSite.{OpenSite}
 use Rattle.site_store.specs.Site.{IsOpen, Keeps}
 use Rattle.journal_defs.specs.Instance.{generation}
-use Rattle.world_defs.specs.Lists.{Among}
+use Rattle.site_defs.specs.Lists.{Among}
 use Rattle.world_defs.specs.World as world
 use Rattle.command_defs.specs.Commands.{Command}
-use Rattle.world_defs.specs.World.{Contents, Leftover, NO_LEFTOVER, Place, Kept, is_made}
+use Rattle.world_defs.specs.World.{Place, Kept}
+use Rattle.site_defs.specs.Contents.{Contents, Leftover, NO_LEFTOVER, is_made}
 use Rattle.world_defs.specs.Answers.{Cause, Stopped, NotRunning, Refused}
 use Rattle.world_defs.specs.Refusals.{first, in_state, stopped, not_running}
-use Rattle.world_defs.specs.Rows.{with_sequence, IsBehind}
+use Rattle.site_defs.specs.Fronts.{with_sequence}
+use Rattle.site_defs.specs.Opening.{IsBehind}
 use Rattle.world_defs.specs.Output.{line, cause_text, name_in}
-use Rattle.world_defs.specs.Ties.{IsSite, HasLeft, Stands, Reads, Matches}
+use Rattle.world_defs.specs.Ties.{Matches}
+use Rattle.site_defs.specs.Stands.{IsSite, HasLeft, Stands, Reads}
 use Rattle.site_runner.specs.declared.slot.State.{State}
 use Rattle.site_runner.specs.declared.slot.State.TheVariants.{Down, Primary, Failed}
 use Rattle.site_runner.specs.declared.slot.Site.{Site}

@@ -11,9 +11,10 @@ use Rattle.site_store.specs.declared.error.SiteError.{SiteError}
 use Rattle.site_store.specs.declared.error.SiteError.TheVariants.{Failed, Stopped, Full, SeqLimit, GenLimit, ReignLimit, NotAFile, NoMemory}
 use Rattle.world_laws.proofs.ReignsFit.{names_same}
 use Rattle.command_defs.specs.Commands.{Name, Attach}
-use Rattle.world_defs.specs.Lists.{first_where}
+use Rattle.site_defs.specs.Lists.{first_where}
 use Rattle.world_defs.specs.World as world
-use Rattle.world_defs.specs.World.{Contents, Place, World, Kept, is_made, is_site_named, same_name, next_of, at_place, site_of}
+use Rattle.world_defs.specs.World.{Place, World, Kept, is_site_named, next_of, at_place, site_of}
+use Rattle.site_defs.specs.Contents.{Contents, is_made, same_name}
 use Rattle.world_defs.specs.Answers as answers
 use Rattle.world_defs.specs.Answers.{Exists, NoDisk, Empty, Refusal, Answer, Done, Refused, DiskFault, Ran, Typed}
 use Rattle.world_defs.specs.Refusals.{ATTACHING, early, late, or_else, refusal, refused_with, there, no_disk, not_attached, not_attached_at}

@@ -11,11 +11,12 @@ use Rattle.journal_defs.specs.Surviving.{reigns}
 use Rattle.journal_defs.specs.Fit.{MOST_REIGNS}
 use Rattle.journal_laws.proofs.Runs.{reigns-cut, starts_by}
 use Rattle.command_defs.specs.Commands.{Name}
-use Rattle.world_defs.specs.Lists.{Among}
-use Rattle.world_defs.specs.World.{Contents}
+use Rattle.site_defs.specs.Lists.{Among}
+use Rattle.site_defs.specs.Contents.{Contents}
 use Rattle.world_defs.specs.Answers.{GenLimit, ReignLimit}
-use Rattle.world_defs.specs.Refusals.{LAST_GENERATION, LAST_CYCLE, generation_limit, reign_limit}
-use Rattle.world_defs.specs.Rows.{cut_there, start_of, starts_in, with_starts, opened, with_reign, next_stamp, MayBegin}
+use Rattle.world_defs.specs.Refusals.{generation_limit, reign_limit}
+use Rattle.site_defs.specs.Limits.{LAST_GENERATION, LAST_CYCLE}
+use Rattle.site_defs.specs.Opening.{cut_there, start_of, starts_in, with_starts, opened, with_reign, next_stamp, MayBegin}
 use Rattle.site_runner.specs.Sites.{IsOf}
 
 -- A CUT leaves cycles, and the reigns that have begun by its length.

@@ -4,16 +4,18 @@ use Rattle.std.specs.Prelude.{Option, codes, IfSome, IsSomeAnd}
 use Rattle.std.proofs.lemmas.Bool.{false≢true}
 use Rattle.std.specs.Fmt.{decimal}
 use Rattle.disk_defs.specs.Disk.{Files, View, Image, IsLawful, Reads}
-use Rattle.world_defs.specs.Lists.{Among}
+use Rattle.site_defs.specs.Lists.{Among}
 use Rattle.world_defs.specs.World as world
 use Rattle.command_defs.specs.Commands.{Fuse, Crash}
-use Rattle.world_defs.specs.World.{Contents, Leftover, Place}
+use Rattle.world_defs.specs.World.{Place}
+use Rattle.site_defs.specs.Contents.{Contents, Leftover}
 use Rattle.world_defs.specs.Answers.{Stopped, NotRunning, NotSimulated, Done}
 use Rattle.world_defs.specs.Refusals.{stopped, not_running, not_simulated}
-use Rattle.world_defs.specs.Rows.{in_new_state, IsBehind}
+use Rattle.world_defs.specs.Rows.{in_new_state}
+use Rattle.site_defs.specs.Opening.{IsBehind}
 use Rattle.world_defs.specs.Output.{line}
 use Rattle.world_defs.specs.Ties as ties
-use Rattle.world_defs.specs.Ties.{Stands}
+use Rattle.site_defs.specs.Stands.{Stands}
 use Rattle.site_runner.specs.declared.slot.State.TheVariants.{Down}
 use Rattle.site_runner.specs.declared.slot.Site.{Site}
 use Rattle.site_runner.specs.Sites.{is_down, fault_of, IsOf}

@@ -2,7 +2,7 @@
 use Rattle.std.proofs.Common.{◌≡◌, ℕ, ◌<◌, List, [], ◌∷◌, ◌++◌, length, get_or, set, take, None, Some, refl, sym, ◌∙◌, ap, inl, inr}
 use Rattle.std.specs.Prelude.{Option, slice_get, codes}
 use Rattle.disk_defs.specs.Disk.{View}
-use Rattle.world_defs.specs.Lists.{first_where}
+use Rattle.site_defs.specs.Lists.{first_where}
 use Rattle.command_defs.specs.Commands.{Name, Region, Create}
 use Rattle.world_defs.specs.World.{Place, World, next_of, at_place, site_of}
 use Rattle.world_defs.specs.Answers.{Exists, NoDisk, Refusal, Answer, Done, Refused, DiskFault, NotAFile, Ran, Typed}

@@ -19,16 +19,18 @@ use Rattle.site_store.specs.declared.error.SiteError.{SiteError}
 use Rattle.site_store.specs.declared.error.SiteError.TheVariants.{Failed, Stopped, Full, SeqLimit, GenLimit, ReignLimit, NotAFile, NoMemory}
 use Rattle.site_store.specs.Opening as store
 use Rattle.site_store.specs.Opening.{made, MayMake}
-use Rattle.world_defs.specs.Lists.{Among}
+use Rattle.site_defs.specs.Lists.{Among}
 use Rattle.world_defs.specs.World as world
-use Rattle.world_defs.specs.World.{Contents, NO_LEFTOVER, Place, Kept, nothing, is_made, same_name}
+use Rattle.world_defs.specs.World.{Place, Kept}
+use Rattle.site_defs.specs.Contents.{Contents, NO_LEFTOVER, nothing, is_made, same_name}
 use Rattle.world_defs.specs.Answers as answers
 use Rattle.world_defs.specs.Answers.{Answer, NotEmpty, Done, Refused, DiskFault, Ran, Typed}
 use Rattle.world_defs.specs.Refusals.{not_empty}
 use Rattle.world_defs.specs.Rows.{named_mode, created, MayCreate}
 use Rattle.world_defs.specs.Step.{KeptUnknown, LeftAt}
 use Rattle.world_defs.specs.Output.{line}
-use Rattle.world_defs.specs.Ties.{IsBlank, IsSite, Stands, Reads, Matches}
+use Rattle.world_defs.specs.Ties.{Matches}
+use Rattle.site_defs.specs.Stands.{IsBlank, IsSite, Stands, Reads}
 use Rattle.site_runner.specs.declared.slot.State.TheVariants.{Down}
 use Rattle.site_runner.specs.declared.slot.Slot.{Slot}
 use Rattle.site_runner.specs.Sites.{IsOf}

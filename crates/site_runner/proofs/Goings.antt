@@ -13,7 +13,7 @@ use Rattle.command_defs.specs.Script.{Position, Outside, Ends, line_reading}
 use Rattle.repl_script.specs.Feeds.{Moves, Progress, TellsBad}
 use Rattle.repl_script.specs.declared.error.ScriptError.{ScriptError}
 use Rattle.repl_script.specs.declared.error.ScriptError.TheVariants as errors
-use Rattle.world_defs.specs.Lists.{Along}
+use Rattle.site_defs.specs.Lists.{Along}
 use Rattle.world_defs.specs.World.{Place, World}
 use Rattle.world_defs.specs.Answers.{Answer}
 use Rattle.world_defs.specs.Step.{Means}

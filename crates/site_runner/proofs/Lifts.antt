@@ -4,12 +4,14 @@ use Rattle.std.specs.Prelude.{Option, option_map, slice_get, codes}
 use Rattle.std.specs.Fmt.{decimal}
 use Rattle.std.proofs.lemmas.Bool.{eq-eqb}
 use Rattle.disk_defs.specs.Disk.{View}
-use Rattle.world_defs.specs.Lists.{Among, Along, At, first_where}
+use Rattle.site_defs.specs.Lists.{Among, Along, At, first_where}
 use Rattle.command_defs.specs.Commands.{Name, Command, Create, Attach, Map, StartPrimary, Run, Stop, Fuse, Crash, Extract, Zwrite, Show, Print}
-use Rattle.world_defs.specs.World.{State, Down, Site, Contents, Place, World, Kept, is_site_named, place_of, at_place, site_of}
+use Rattle.world_defs.specs.World.{State, Down, Site, Place, World, Kept, is_site_named, place_of, at_place, site_of}
+use Rattle.site_defs.specs.Contents.{Contents}
 use Rattle.world_defs.specs.Answers.{Cause, NoSite, Stopped, Exists, NoDisk, NotEmpty, Empty, Running, NotRunning, NotPrimary, NotSimulated, Started, NoRegion, TwiceMapped, NoFile, GenLimit, ReignLimit, Refusal, Answer, Done, Refused, DiskFault, NotAFile, Ran, Typed}
 use Rattle.world_defs.specs.Refusals.{early, late, or_else, refusal, refused_with, tested, first, in_state, stopped, running, limited, unmapped, no_file}
-use Rattle.world_defs.specs.Rows.{Maps, StartsPrimary, Becomes, opened, in_new_state}
+use Rattle.world_defs.specs.Rows.{Maps, StartsPrimary, Becomes, in_new_state}
+use Rattle.site_defs.specs.Opening.{opened}
 use Rattle.world_defs.specs.Step.{KeptUnknown, AtPlace, Row, Faulted, Damaged, MayRefuse, StartRefused, RefusedLeaves, SectionRow, IsTypedAt, TypedRow, Means, Leaves, LeftAt, CutOff, subject, is_at}
 use Rattle.world_defs.specs.Output.{line, name_in, done_text, ran_text, text_of, cycle_at, length_at, extract_at, zwrite_at, show_at, turn_at, section_text}
 use Rattle.world_defs.specs.Ties.{Matches}

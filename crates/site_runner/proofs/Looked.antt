@@ -10,10 +10,12 @@ use Rattle.site_store.specs.declared.error.SiteError.TheVariants.{Failed, Stoppe
 use Rattle.site_store.specs.Finding.{IsFound}
 use Rattle.site_store.specs.Opening.{StandsAsBefore}
 use Rattle.command_defs.specs.Commands.{Name, Command}
-use Rattle.world_defs.specs.Lists.{Among}
-use Rattle.world_defs.specs.World.{Contents, Leftover, Place, is_made, same_name}
-use Rattle.world_defs.specs.Rows.{IsBehind}
-use Rattle.world_defs.specs.Ties.{Stands, Reads, Matches}
+use Rattle.site_defs.specs.Lists.{Among}
+use Rattle.world_defs.specs.World.{Place}
+use Rattle.site_defs.specs.Contents.{Contents, Leftover, is_made, same_name}
+use Rattle.site_defs.specs.Opening.{IsBehind}
+use Rattle.world_defs.specs.Ties.{Matches}
+use Rattle.site_defs.specs.Stands.{Stands, Reads}
 use Rattle.site_runner.specs.declared.slot.Site.{Site}
 use Rattle.site_runner.specs.declared.slot.Slot.{Slot}
 use Rattle.site_runner.specs.Sites.{site_value, HoldsSite}

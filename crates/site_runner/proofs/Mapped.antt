@@ -7,15 +7,19 @@ use Rattle.disk_defs.specs.Disk.{Files, View, Image, IsLawful, AtEachMoment, Ros
 use Rattle.journal_defs.specs.Instance.{InstanceRecord, generation, regions}
 use Rattle.site_store.specs.Opening.{StandsAsBefore, MayHavePattern, EachStands}
 use Rattle.command_defs.specs.Commands.{Name, Command, Map}
-use Rattle.world_defs.specs.Lists.{Among, first_where}
+use Rattle.site_defs.specs.Lists.{Among, first_where}
 use Rattle.world_defs.specs.World as world
-use Rattle.world_defs.specs.World.{Contents, Leftover, NO_LEFTOVER, Place, same_name}
+use Rattle.world_defs.specs.World.{Place}
+use Rattle.site_defs.specs.Contents.{Contents, Leftover, NO_LEFTOVER, same_name}
 use Rattle.world_defs.specs.Answers.{Cause, Stopped, Running, Answer, Refused, Done, DiskFault, NotAFile}
-use Rattle.world_defs.specs.Refusals.{first, in_state, stopped, running, unmapped, region_number}
-use Rattle.world_defs.specs.Rows.{in_new_state, with_pattern, MayMapAny}
+use Rattle.world_defs.specs.Refusals.{first, in_state, stopped, running, unmapped}
+use Rattle.site_defs.specs.Limits.{region_number}
+use Rattle.world_defs.specs.Rows.{in_new_state, MayMapAny}
+use Rattle.site_defs.specs.Opening.{with_pattern}
 use Rattle.world_defs.specs.Step.{LeftAt, IsUnmapped}
 use Rattle.world_defs.specs.Output.{line, cause_text}
-use Rattle.world_defs.specs.Ties.{IsSite, Stands, Reads, Matches}
+use Rattle.world_defs.specs.Ties.{Matches}
+use Rattle.site_defs.specs.Stands.{IsSite, Stands, Reads}
 use Rattle.repl_section.specs.declared.reign.Reign.{Reign}
 use Rattle.site_runner.specs.declared.slot.State.{State}
 use Rattle.site_runner.specs.declared.slot.State.TheVariants.{Down, Primary, Failed}

@@ -2,7 +2,7 @@
 use Rattle.std.proofs.Common.{◌≡◌, ℕ, zero, suc, ◌<◌, Bool, true, false, cond, List, [], ◌∷◌, length, get_or, take, None, Some, refl, sym, ◌∙◌, ap, arith}
 use Rattle.std.specs.Prelude.{Option, option_map, slice_get}
 use Rattle.disk_defs.specs.Disk.{View}
-use Rattle.world_defs.specs.Lists.{Along, first_where}
+use Rattle.site_defs.specs.Lists.{Along, first_where}
 use Rattle.world_defs.specs.World.{Place, World, MOST_SITES, is_free, next_of}
 use Rattle.site_runner.specs.declared.slot.Slot.{Slot}
 use Rattle.site_runner.specs.Sites.{site_value}

@@ -4,11 +4,13 @@ use Rattle.std.specs.Prelude.{Option}
 use Rattle.std.proofs.lemmas.Bool.{le-leb}
 use Rattle.journal_defs.specs.Instance.{InstanceRecord, Create, Reigned, Cut, Map, Mode, generation, pattern_record}
 use Rattle.command_defs.specs.Commands.{Name}
-use Rattle.world_defs.specs.Lists.{Among}
-use Rattle.world_defs.specs.World.{Contents, Place}
+use Rattle.site_defs.specs.Lists.{Among}
+use Rattle.world_defs.specs.World.{Place}
+use Rattle.site_defs.specs.Contents.{Contents}
 use Rattle.world_defs.specs.Answers.{Cause, Started, NoRegion, TwiceMapped}
-use Rattle.world_defs.specs.Refusals.{first, started, region_number, no_region_at, twice_mapped, unmapped}
-use Rattle.world_defs.specs.Rows.{with_pattern, MayMap}
+use Rattle.world_defs.specs.Refusals.{first, started, no_region_at, twice_mapped, unmapped}
+use Rattle.site_defs.specs.Limits.{region_number}
+use Rattle.site_defs.specs.Opening.{with_pattern, MayMap}
 use Rattle.world_laws.proofs.ContentsFit.{name-pattern}
 use Rattle.site_runner.specs.Sites.{IsOf}
 

@@ -8,12 +8,13 @@ use Rattle.disk_defs.specs.Disk.{Files, View, Image, Rose}
 use Rattle.journal_defs.specs.Numbers.{broken_file}
 use Rattle.command_defs.specs.Commands.{Command, Print}
 use Rattle.world_defs.specs.World as world
-use Rattle.world_defs.specs.World.{Contents, Leftover, Place, typed}
+use Rattle.world_defs.specs.World.{Place, typed}
+use Rattle.site_defs.specs.Contents.{Contents, Leftover}
 use Rattle.world_defs.specs.Answers.{Cause, Stopped, NoFile, Refused, DiskFault, Typed}
 use Rattle.world_defs.specs.Refusals.{first, in_state, stopped, no_file}
 use Rattle.world_defs.specs.Rows.{in_new_state}
 use Rattle.world_defs.specs.Output.{line}
-use Rattle.world_defs.specs.Ties.{IsSite, HasLeft, Reads}
+use Rattle.site_defs.specs.Stands.{IsSite, HasLeft, Reads}
 use Rattle.site_runner.specs.declared.slot.State.{State}
 use Rattle.site_runner.specs.declared.slot.State.TheVariants.{Down, Primary, Failed}
 use Rattle.site_runner.specs.declared.slot.Site.{Site}

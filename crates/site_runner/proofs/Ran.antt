@@ -14,15 +14,19 @@ use Rattle.repl_section.specs.declared.reign.Reign.{Reign}
 use Rattle.command_defs.specs.Sections.{UsesUp}
 use Rattle.repl_section.specs.Reigns.{Reigns, stamp_in, stamp_of}
 use Rattle.repl_section.specs.Deciding.{HasDecided, MayHaveFront, MayLeave, FailsAt}
-use Rattle.world_defs.specs.Lists.{Among}
+use Rattle.site_defs.specs.Lists.{Among}
 use Rattle.world_defs.specs.World as world
 use Rattle.command_defs.specs.Commands.{Name, Run}
-use Rattle.world_defs.specs.World.{Contents, Leftover, NO_LEFTOVER, Place}
+use Rattle.world_defs.specs.World.{Place}
+use Rattle.site_defs.specs.Contents.{Contents, Leftover, NO_LEFTOVER}
 use Rattle.world_defs.specs.Answers.{Stopped, NotPrimary, Section, Ran}
 use Rattle.world_defs.specs.Refusals.{stopped, not_primary}
-use Rattle.world_defs.specs.Rows.{in_new_state, with_sequence, IsBehind, IsFrontOf, turn_of}
+use Rattle.world_defs.specs.Rows.{in_new_state}
+use Rattle.site_defs.specs.Fronts.{with_sequence, IsFrontOf, turn_of}
+use Rattle.site_defs.specs.Opening.{IsBehind}
 use Rattle.world_defs.specs.Step.{RunMayLeaveOn}
-use Rattle.world_defs.specs.Output.{line, fault_line, reply_line, printed, section_text, turn_on}
+use Rattle.world_defs.specs.Output.{line, fault_line, section_text, turn_on}
+use Rattle.site_defs.specs.Texts.{reply_line, printed}
 use Rattle.world_defs.specs.Ties.{Matches}
 use Rattle.site_runner.specs.declared.slot.State.{State}
 use Rattle.site_runner.specs.declared.slot.State.TheVariants.{Down, Primary, Failed}

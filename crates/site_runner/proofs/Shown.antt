@@ -8,7 +8,7 @@ use Rattle.std.specs.List.{enumerate_from, flat_map}
 use Rattle.global_defs.specs.Entry.{Entry, Sequence}
 use Rattle.global_defs.specs.Extract.{entry_text, entries_text, header, extract}
 use Rattle.gvn_model.specs.declared.entry.Entry as code
-use Rattle.world_defs.specs.Output.{extract_from}
+use Rattle.site_defs.specs.Texts.{extract_from}
 use Rattle.gvn_model.specs.Entries.{entry_value}
 use Rattle.gvn_model.specs.Numbered.{numbered}
 use Rattle.site_store.proofs.Pieces.{written_more}

@@ -14,15 +14,19 @@ use Rattle.site_store.specs.Opening.{MayBeOpen, EachStands}
 use Rattle.repl_section.specs.declared.reign.Reign.{Reign}
 use Rattle.repl_section.specs.Reigns.{stamp_in, stamp_of}
 use Rattle.command_defs.specs.Commands.{Name, StartPrimary}
-use Rattle.world_defs.specs.Lists.{Among}
+use Rattle.site_defs.specs.Lists.{Among}
 use Rattle.world_defs.specs.World as world
-use Rattle.world_defs.specs.World.{Contents, Leftover, NO_LEFTOVER, Place}
+use Rattle.world_defs.specs.World.{Place}
+use Rattle.site_defs.specs.Contents.{Contents, Leftover, NO_LEFTOVER}
 use Rattle.world_defs.specs.Answers.{Cause, Stopped, Running, GenLimit, ReignLimit, Answer, Refused, Done, DiskFault, NotAFile}
 use Rattle.world_defs.specs.Refusals.{first, in_state, stopped, running, limited, generation_limit, reign_limit}
-use Rattle.world_defs.specs.Rows.{in_new_state, opened, with_reign, next_stamp, MayBeginAny, FIRST_SERIALS}
+use Rattle.world_defs.specs.Rows.{in_new_state, MayBeginAny, FIRST_SERIALS}
+use Rattle.site_defs.specs.Limits.{no_reign_left}
+use Rattle.site_defs.specs.Opening.{opened, with_reign, next_stamp}
 use Rattle.world_defs.specs.Step.{LeftAt}
 use Rattle.world_defs.specs.Output.{line, cycle_on}
-use Rattle.world_defs.specs.Ties.{IsSite, HasLeft, Stands, Reads, Matches}
+use Rattle.world_defs.specs.Ties.{Matches}
+use Rattle.site_defs.specs.Stands.{IsSite, HasLeft, Stands, Reads}
 use Rattle.site_runner.specs.declared.slot.State.{State}
 use Rattle.site_runner.specs.declared.slot.State.TheVariants.{Down, Primary, Failed}
 use Rattle.site_runner.specs.declared.slot.Site.{Site}
@@ -353,15 +357,18 @@ reign_faulted leftovers v w s o k before now m count rose t p h =
 pub reign_cut : (leftovers : Leftovers) (v w : View) (s : Site) (o : OpenSite) → Moments v w o → IsCutOpened v o s w
 reign_cut leftovers v w s o m p h = begun_cut leftovers w s p m.lawful (reign_begun v w s o p m h)
 
+limit_is : (c : Contents) (none_left : Bool) → no_reign_left c ≡ none_left → reign_limit c ≡ (if none_left then Some ReignLimit else None)
+limit_is c none_left is = ap (λ (b : Bool). if b then Some ReignLimit else None) is
+
 -- there is no reign left
-reign_limit_told : (v : View) (nothing : NothingIsLeft v) (s : Site) (o : OpenSite) (before now : List ℕ) (p : Place) → IsLawful v → IsOpenedAt v s o p → p.told ≡ true → ((c : Contents) (n : ℕ) → Remembers c n o → reign_limit c ≡ Some ReignLimit)
+reign_limit_told : (v : View) (nothing : NothingIsLeft v) (s : Site) (o : OpenSite) (before now : List ℕ) (p : Place) → IsLawful v → IsOpenedAt v s o p → p.told ≡ true → ((c : Contents) (n : ℕ) → Remembers c n o → no_reign_left c ≡ true)
     → now ≡ before ++ line s.name (codes "REIGNLIMIT") → Answers v s p s before now
 reign_limit_told v nothing s o before now p law h sure limit t =
     let c : Contents = opened p.left.broken p.now in
     let is_open : IsOpen v p.told c (length c.sequence) o = subst (λ (x : Contents). IsOpen v p.told (opened p.left.broken x) (length x.sequence) o) (h.as_before sure)
     (subst (λ (b : List ℕ). IsOpen v p.told (opened b h.read) (length h.read.sequence) o) (h.as_left sure) h.is_open) in
     let q : Place = record { site = in_new_state world.Down p.site; told = p.told; now = c; left = NO_LEFTOVER; outcomes = c ∷ []; faults = v.faults; simulated = p.simulated } in
-    let full : reign_limit p.now ≡ Some ReignLimit = sym (limit_opened p.left.broken p.now) ∙ limit c (length c.sequence) is_open.remembered in
+    let full : reign_limit p.now ≡ Some ReignLimit = sym (limit_opened p.left.broken p.now) ∙ limit_is c true (limit c (length c.sequence) is_open.remembered) in
     let of : IsOf s.name c = of_opened s.name p.left.broken p.now (h.made sure).now in (
       Refused (record { site = s.name; cause = ReignLimit }),
       q,
@@ -395,7 +402,7 @@ reign_limit_untold v s o before now p h unsure t = (
   t,
 )
 
-pub reign_limited : (v : View) (nothing : NothingIsLeft v) (s : Site) (o : OpenSite) (before now : List ℕ) → IsLawful v → ((c : Contents) (n : ℕ) → Remembers c n o → reign_limit c ≡ Some ReignLimit) → now ≡ before ++ line s.name (codes "REIGNLIMIT") → BeginsAt v o s v s before now
+pub reign_limited : (v : View) (nothing : NothingIsLeft v) (s : Site) (o : OpenSite) (before now : List ℕ) → IsLawful v → ((c : Contents) (n : ℕ) → Remembers c n o → no_reign_left c ≡ true) → now ≡ before ++ line s.name (codes "REIGNLIMIT") → BeginsAt v o s v s before now
 reign_limited v nothing s o before now law limit t p h = elim (is_true_or_false p.told) [
   | inl sure ↦ reign_limit_told v nothing s o before now p law h sure limit t
   | inr unsure ↦ reign_limit_untold v s o before now p h unsure t
@@ -408,7 +415,7 @@ entries_open v told c n o h = length_tagged o.entries.items c.sequence 1 h.remem
 pub reign_starts : (v w : View) (nothing : NothingIsLeft w) (s : Site) (o new : OpenSite) (stamp : Stamp) (serials : List ℕ) (from : ℕ) (before now : List ℕ) → IsLawful w → serials ≡ FIRST_SERIALS
     → ((told : Bool) (c : Contents) → IsOpen v told c (length c.sequence) o → IsOpen w told (with_reign (site_name c.instance) c) (length c.sequence) new)
     → ((c : Contents) → c.instance ≡ o.instance.records → stamp_value stamp ≡ next_stamp (site_name c.instance) c) → new.stamp ≡ Some stamp
-    → ((c : Contents) (n : ℕ) → Remembers c n o → reign_limit c ≡ None) → w.simulated ≡ v.simulated → v.faults ≤ w.faults
+    → ((c : Contents) (n : ℕ) → Remembers c n o → no_reign_left c ≡ false) → w.simulated ≡ v.simulated → v.faults ≤ w.faults
     → from ≡ length o.entries.items + 1 → now ≡ before ++ line s.name (codes "PRIMARY " ++ decimal stamp.cycle ++ codes " FROM " ++ decimal from)
     → BeginsAt v o s w (record { name = s.name; state = Primary (record { site = new; serials = serials }) }) before now
 reign_starts v w nothing s o new stamp serials from before now law first_serials begun drawn stamped room same later is_from t p h =
@@ -422,7 +429,7 @@ reign_starts v w nothing s o new stamp serials from before now law first_serials
     let stamp_new : stamp_of r ≡ next_stamp s.name read = ap stamp_in stamped ∙ stamp_is in
     let state : world.State = world.Primary (next_stamp s.name read) FIRST_SERIALS in
     let q : Place = record { site = in_new_state state p.site; told = p.told; now = d; left = NO_LEFTOVER; outcomes = d ∷ []; faults = w.faults; simulated = p.simulated } in
-    let reign_room : p.told ≡ true → reign_limit p.now ≡ None = λ sure. ap reign_limit (sym (h.as_before sure)) ∙ sym (limit_opened h.broken read) ∙ room c (length c.sequence) h.is_open.remembered in
+    let reign_room : p.told ≡ true → reign_limit p.now ≡ None = λ sure. ap reign_limit (sym (h.as_before sure)) ∙ sym (limit_opened h.broken read) ∙ limit_is c false (room c (length c.sequence) h.is_open.remembered) in
     let of : p.told ≡ true → IsOf s.name d = λ sure. of_begun s.name s.name c (of_opened s.name h.broken read (subst (IsOf s.name) (sym (h.as_before sure)) (h.made sure).now)) in
     let cycle : stamp.cycle ≡ cycle_on q.site = ap (λ x. x.cycle) stamp_is ∙ sym (ap (λ (x : Option world.Site). cycle_on (in_new_state state x)) h.site) in
     let count : from ≡ length d.sequence + 1 = is_from ∙ ap (λ (k : ℕ). k + 1) (entries_open v p.told c (length read.sequence) o h.is_open) in (

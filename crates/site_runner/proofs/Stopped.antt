@@ -17,12 +17,14 @@ use Rattle.gvn_model.specs.Reigns.{reign_value}
 use Rattle.gvn_model.specs.Numbered.{numbered}
 use Rattle.world_defs.specs.World as world
 use Rattle.command_defs.specs.Commands.{Name, Command, Stop, Extract, Zwrite, Show}
-use Rattle.world_defs.specs.World.{Leftover, NO_LEFTOVER, Place, same_name}
+use Rattle.world_defs.specs.World.{Place}
+use Rattle.site_defs.specs.Contents.{Leftover, NO_LEFTOVER, same_name}
 use Rattle.world_defs.specs.Answers.{Stopped, NotRunning, Done}
 use Rattle.world_defs.specs.Refusals.{stopped, not_running}
 use Rattle.world_defs.specs.Rows.{in_new_state}
-use Rattle.world_defs.specs.Output.{line, zwrite, reign_text, show_state, show_on}
-use Rattle.world_defs.specs.Ties.{Stands, Reads}
+use Rattle.world_defs.specs.Output.{line, reign_text, show_state, show_on}
+use Rattle.site_defs.specs.Texts.{zwrite}
+use Rattle.site_defs.specs.Stands.{Stands, Reads}
 use Rattle.repl_section.specs.declared.reign.Reign.{Reign}
 use Rattle.repl_section.specs.Reigns.{Reigns, stamp_of}
 use Rattle.site_runner.specs.declared.slot.State.{State}

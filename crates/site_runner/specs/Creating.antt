@@ -4,8 +4,9 @@ use Rattle.std.specs.Fmt.{decimal}
 use Rattle.disk_defs.specs.Disk.{View}
 use Rattle.site_store.specs.declared.layout.RegionSpec.{RegionSpec}
 use Rattle.command_defs.specs.Commands.{Name, Region, Create}
-use Rattle.world_defs.specs.Lists.{Among}
-use Rattle.world_defs.specs.World.{Contents, Place, Kept, is_made}
+use Rattle.site_defs.specs.Lists.{Among}
+use Rattle.world_defs.specs.World.{Place, Kept}
+use Rattle.site_defs.specs.Contents.{Contents, is_made}
 use Rattle.world_defs.specs.Answers.{NotEmpty, Answer, Done, Refused, DiskFault, NotAFile, Ran, Typed}
 use Rattle.world_defs.specs.Refusals.{not_empty}
 use Rattle.world_defs.specs.Rows.{FailsBefore, Creates, MayCreate}

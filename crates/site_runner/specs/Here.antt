@@ -7,9 +7,11 @@ use Rattle.command_defs.specs.Commands.{Command, Create, Attach, Map, StartPrima
 use Rattle.world_defs.specs.World.{Down, Place, Kept}
 use Rattle.world_defs.specs.Answers.{Cause, NoSite, Stopped, Exists, NoDisk, NotEmpty, Empty, Running, NotRunning, NotPrimary, NotSimulated, Started, NoRegion, TwiceMapped, NoFile, GenLimit, ReignLimit, Answer, Done, Refused, DiskFault, NotAFile, Section, Ran, Typed}
 use Rattle.world_defs.specs.Refusals.{first, in_state, stopped, running, not_running, not_primary, not_simulated, limited, unmapped, no_file}
-use Rattle.world_defs.specs.Rows.{Becomes, Fails, FailsUnchanged, Maps, MayMapAny, StartsPrimary, MayBeginAny, opened, Crashes}
+use Rattle.world_defs.specs.Rows.{Becomes, Fails, FailsUnchanged, Maps, MayMapAny, StartsPrimary, MayBeginAny, Crashes}
+use Rattle.site_defs.specs.Opening.{opened}
 use Rattle.world_defs.specs.Step.{Runs, KeptUnknown, IsLimit, IsUnmapped, IsTyped, LeftAt}
-use Rattle.world_defs.specs.Output.{line, cause_text, cycle_on, turn_on, section_text, name_in, extract_from, zwrite, show_on}
+use Rattle.world_defs.specs.Output.{line, cause_text, cycle_on, turn_on, section_text, name_in, show_on}
+use Rattle.site_defs.specs.Texts.{extract_from, zwrite}
 use Rattle.world_defs.specs.Ties.{Matches}
 use Rattle.site_runner.specs.declared.slot.Slot.{Slot}
 use Rattle.site_runner.specs.Tied.{IsPlace}

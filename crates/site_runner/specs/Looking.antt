@@ -7,8 +7,9 @@ use Rattle.site_store.specs.declared.layout.Layout.{Layout}
 use Rattle.site_store.specs.declared.error.SiteError.{SiteError}
 use Rattle.site_store.specs.declared.error.SiteError.TheVariants.{Failed, Stopped, Full, SeqLimit, GenLimit, ReignLimit, NotAFile, NoMemory}
 use Rattle.command_defs.specs.Commands.{Name}
-use Rattle.world_defs.specs.Lists.{Among}
-use Rattle.world_defs.specs.World.{Contents, Place, NoNew, Kept, is_made, same_name}
+use Rattle.site_defs.specs.Lists.{Among}
+use Rattle.world_defs.specs.World.{Place, NoNew, Kept}
+use Rattle.site_defs.specs.Contents.{Contents, is_made, same_name}
 use Rattle.world_defs.specs.Rows.{FailsBefore, OldOnes}
 use Rattle.world_defs.specs.Step.{KeptUnknown}
 use Rattle.world_defs.specs.Output.{line}

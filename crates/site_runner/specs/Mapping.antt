@@ -3,12 +3,15 @@ use Rattle.std.specs.Prelude.{◌≡◌, ◌≤◌, ◌<◌, ℕ, ◌++◌, true
 use Rattle.disk_defs.specs.Disk.{Files, View, Image}
 use Rattle.journal_defs.specs.Instance.{generation, regions}
 use Rattle.command_defs.specs.Commands.{Name, Map}
-use Rattle.world_defs.specs.Lists.{Among}
-use Rattle.world_defs.specs.World.{Contents, Place}
+use Rattle.site_defs.specs.Lists.{Among}
+use Rattle.world_defs.specs.World.{Place}
+use Rattle.site_defs.specs.Contents.{Contents}
 use Rattle.world_defs.specs.Answers.{Answer}
-use Rattle.world_defs.specs.Refusals.{region_number, twice_mapped}
+use Rattle.world_defs.specs.Refusals.{twice_mapped}
+use Rattle.site_defs.specs.Limits.{region_number}
 use Rattle.world_defs.specs.Step.{LeftAt}
-use Rattle.world_defs.specs.Ties.{Stands, Reads, Matches}
+use Rattle.world_defs.specs.Ties.{Matches}
+use Rattle.site_defs.specs.Stands.{Stands, Reads}
 use Rattle.site_runner.specs.declared.slot.Site.{Site}
 use Rattle.site_runner.specs.declared.slot.State.TheVariants.{Down}
 use Rattle.site_runner.specs.Sites.{site_value, IsMade}

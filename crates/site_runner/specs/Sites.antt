@@ -6,10 +6,11 @@ use Rattle.journal_defs.specs.Instance.{site_name}
 use Rattle.site_store.specs.Site.{IsReady, HasReign}
 use Rattle.repl_section.specs.declared.reign.Reign.{Reign}
 use Rattle.repl_section.specs.Reigns.{Reigns, stamp_of}
-use Rattle.world_defs.specs.Lists.{Among}
+use Rattle.site_defs.specs.Lists.{Among}
 use Rattle.world_defs.specs.World as world
 use Rattle.command_defs.specs.Commands.{Name}
-use Rattle.world_defs.specs.World.{Contents, Place, Settled, NO_LEFTOVER, is_made, is_site_named}
+use Rattle.world_defs.specs.World.{Place, Settled, is_site_named}
+use Rattle.site_defs.specs.Contents.{Contents, NO_LEFTOVER, is_made}
 use Rattle.site_runner.specs.declared.slot.State.{State}
 use Rattle.site_runner.specs.declared.slot.State.TheVariants.{Down, Primary, Failed}
 use Rattle.site_runner.specs.declared.slot.Site.{Site}

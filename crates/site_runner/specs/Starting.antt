@@ -5,11 +5,12 @@ use Rattle.journal_defs.specs.Instance.{site_name}
 use Rattle.site_store.specs.declared.site.OpenSite.{OpenSite}
 use Rattle.site_store.specs.Site.{IsOpen}
 use Rattle.command_defs.specs.Commands.{StartPrimary}
-use Rattle.world_defs.specs.Lists.{Among}
-use Rattle.world_defs.specs.World.{Contents, Place}
+use Rattle.site_defs.specs.Lists.{Among}
+use Rattle.world_defs.specs.World.{Place}
+use Rattle.site_defs.specs.Contents.{Contents}
 use Rattle.world_defs.specs.Answers.{Answer}
 use Rattle.world_defs.specs.Refusals.{generation_limit}
-use Rattle.world_defs.specs.Rows.{opened}
+use Rattle.site_defs.specs.Opening.{opened}
 use Rattle.world_defs.specs.Step.{LeftAt}
 use Rattle.world_defs.specs.Ties.{Matches}
 use Rattle.site_runner.specs.declared.slot.Site.{Site}

@@ -12,7 +12,8 @@ use Rattle.world_defs.specs.World.{Place}
 use Rattle.world_defs.specs.Answers.{Answer}
 use Rattle.command_defs.specs.Commands.{Command}
 use Rattle.world_defs.specs.Step.{LeftAt}
-use Rattle.world_defs.specs.Output.{line, extract_from, zwrite, reign_text}
+use Rattle.world_defs.specs.Output.{line, reign_text}
+use Rattle.site_defs.specs.Texts.{extract_from, zwrite}
 use Rattle.world_defs.specs.Ties.{Matches}
 use Rattle.std.specs.Prelude.{Option, Some, true}
 use Rattle.site_runner.specs.declared.slot.State.{State}

@@ -1,6 +1,6 @@
 // ATTACH.
 ghost use Rattle.std.specs.Prelude.{◌≡◌, ◌<◌, length, take, Some, OnOk, OnErr, option_map};
-ghost use Rattle.world_defs.specs.Lists.{first_where};
+ghost use Rattle.site_defs.specs.Lists.{first_where};
 ghost use Rattle.world_defs.specs.World.{is_free};
 ghost use Rattle.command_defs.specs.Commands.{Attach};
 ghost use Rattle.site_runner.specs.Executes.{Executes, IsCutOff};

@@ -2,7 +2,7 @@
 ghost use Rattle.std.specs.Prelude.{◌≡◌, length, map, [], None, Some, OnOk, OnErr, IfOk, IfSome};
 ghost use Rattle.disk_defs.specs.Gates.{records};
 ghost use Rattle.journal_defs.specs.Numbers.{INSTANCE};
-ghost use Rattle.world_defs.specs.Lists.{first_where};
+ghost use Rattle.site_defs.specs.Lists.{first_where};
 ghost use Rattle.command_defs.specs.Commands as commands;
 ghost use Rattle.command_defs.specs.Sections.{IsFormed};
 ghost use Rattle.repl_script.specs.Commands.{region_value};

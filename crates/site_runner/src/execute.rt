@@ -1,6 +1,6 @@
 // One command.
 ghost use Rattle.std.specs.Prelude.{◌≡◌, ◌≢◌, length, OnOk, OnErr, Some, None, true};
-ghost use Rattle.world_defs.specs.Lists.{first_where};
+ghost use Rattle.site_defs.specs.Lists.{first_where};
 ghost use Rattle.world_defs.specs.Output.{name_in};
 ghost use Rattle.command_defs.specs.Sections.{IsFormed, IsWhole};
 ghost use Rattle.repl_script.specs.Commands.{command_value};

@@ -1,6 +1,6 @@
 // Where sites stand.
 ghost use Rattle.std.specs.Prelude.{◌≡◌, ◌<◌, length, take, IfSome, option_map};
-ghost use Rattle.world_defs.specs.Lists.{first_where};
+ghost use Rattle.site_defs.specs.Lists.{first_where};
 ghost use Rattle.world_defs.specs.World.{is_free};
 ghost use Rattle.site_runner.specs.Sites.{site_value, is_slot_named};
 

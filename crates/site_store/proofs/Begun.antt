@@ -29,11 +29,11 @@ use Rattle.instance_file.specs.declared.instance.Instance.{Instance}
 use Rattle.region_journals.specs.declared.journals.RegionJournals.{RegionJournals}
 use Rattle.region_journals.specs.Fronts.{AreInside}
 use Rattle.region_journals.specs.Journals.{AreReady, KeepsJournals}
-use Rattle.world_defs.specs.World.{Contents, is_made}
-use Rattle.world_defs.specs.Rows.{with_sequence, with_reign, next_reign}
-use Rattle.world_defs.specs.Refusals.{LAST_CYCLE, reign_limit}
-use Rattle.world_defs.specs.Answers.{ReignLimit}
-use Rattle.world_defs.specs.Ties.{texts_of, IsSite}
+use Rattle.site_defs.specs.Contents.{Contents, is_made}
+use Rattle.site_defs.specs.Fronts.{with_sequence}
+use Rattle.site_defs.specs.Opening.{with_reign, next_reign}
+use Rattle.site_defs.specs.Limits.{LAST_CYCLE, no_reign_left}
+use Rattle.site_defs.specs.Stands.{texts_of, IsSite}
 use Rattle.site_store.specs.declared.layout.Layout.{Layout}
 use Rattle.site_store.specs.declared.site.OpenSite.{OpenSite}
 use Rattle.site_store.specs.Finding.{HasLayout}
@@ -50,13 +50,13 @@ filter_all : (n : ℕ) (rs : List Reign) → AllByRecursion (λ (r : Reign). r.s
 filter_all n [] all = refl
 filter_all n (r ∷ rs) all = let yes : nat_le r.start n ≡ true = grind (arith, nat_tests, all.0) in rw yes (ap suc (filter_all n rs all.1))
 
-chosen_one : (a b : Bool) → (a ≡ true) ⊎ (b ≡ true) → (if a || b then Some ReignLimit else None) ≡ Some ReignLimit
+chosen_one : (a b : Bool) → (a ≡ true) ⊎ (b ≡ true) → (a || b) ≡ true
 chosen_one true b h = refl
 chosen_one false true h = refl
 chosen_one false false (inl h) = absurd (cc h)
 chosen_one false false (inr h) = absurd (cc h)
 
-chosen_none : (a b : Bool) → a ≡ false → b ≡ false → (if a || b then Some ReignLimit else None) ≡ None
+chosen_none : (a b : Bool) → a ≡ false → b ≡ false → (a || b) ≡ false
 chosen_none false false h k = refl
 chosen_none true b h k = absurd (cc h)
 chosen_none false true h k = absurd (cc k)
@@ -68,7 +68,7 @@ begun_by_now c h s is all =
     ∙ ap (λ (rs : List InstanceRecord). length (filter (λ (r : Reign). nat_le r.start (length s.entries.items)) (reigns rs))) (sym is.instance)
     ∙ filter_all (length s.entries.items) (reigns s.instance.records) all
 
-pub limit_reached : (c : Contents) (h : ℕ) (s : OpenSite) → Remembers c h s → AllByRecursion (λ (r : Reign). r.start ≤ length s.entries.items) (reigns s.instance.records) → HasNoReignLeft s → reign_limit c ≡ Some ReignLimit
+pub limit_reached : (c : Contents) (h : ℕ) (s : OpenSite) → Remembers c h s → AllByRecursion (λ (r : Reign). r.start ≤ length s.entries.items) (reigns s.instance.records) → HasNoReignLeft s → no_reign_left c ≡ true
 limit_reached c h s is all none =
     let count = begun_by_now c h s is all in
     let cycles : greatest_cycle s.instance.records ≡ greatest_cycle c.instance = ap greatest_cycle is.instance in
@@ -77,7 +77,7 @@ limit_reached c h s is all none =
       | inr last ↦ inr (grind (arith, nat_tests, cycles, last))
     ])
 
-pub limit_open : (c : Contents) (h : ℕ) (s : OpenSite) → Remembers c h s → AllByRecursion (λ (r : Reign). r.start ≤ length s.entries.items) (reigns s.instance.records) → HasReignLeft s → reign_limit c ≡ None
+pub limit_open : (c : Contents) (h : ℕ) (s : OpenSite) → Remembers c h s → AllByRecursion (λ (r : Reign). r.start ≤ length s.entries.items) (reigns s.instance.records) → HasReignLeft s → no_reign_left c ≡ false
 limit_open c h s is all left =
     let count = begun_by_now c h s is all in
     let cycles : greatest_cycle s.instance.records ≡ greatest_cycle c.instance = ap greatest_cycle is.instance in

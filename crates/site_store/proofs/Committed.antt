@@ -40,9 +40,9 @@ use Rattle.region_journals.specs.Fronts.{IsNewestFile, HasFirst}
 use Rattle.region_journals.specs.declared.journals.RegionJournals.{RegionJournals}
 use Rattle.region_journals.specs.Journals.{AreReady, KeepsJournals, ArePrepared, part_in, listed}
 use Rattle.region_journals.proofs.Waiting.{tcoms_more}
-use Rattle.world_defs.specs.World.{Contents}
-use Rattle.world_defs.specs.Rows.{with_sequence}
-use Rattle.world_defs.specs.Ties.{IsSite}
+use Rattle.site_defs.specs.Contents.{Contents}
+use Rattle.site_defs.specs.Fronts.{with_sequence}
+use Rattle.site_defs.specs.Stands.{IsSite}
 use Rattle.site_store.specs.declared.site.OpenSite.{OpenSite}
 use Rattle.site_store.specs.Finding.{HasLayout}
 use Rattle.site_store.specs.Site.{Remembers, IsReady, Keeps, IsOpen, HasReign, HasRoomFor, with_entry}

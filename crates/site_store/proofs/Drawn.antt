@@ -24,9 +24,9 @@ use Rattle.site_files.specs.Loading.{MayBeOpened, AreRead, IsUncut, HasDrawn, Ma
 use Rattle.site_files.specs.Loading as files
 use Rattle.site_files.proofs.Keeping as keeping
 use Rattle.site_files.proofs.Kept.{held_read}
-use Rattle.world_defs.specs.World.{Contents, Leftover}
-use Rattle.world_defs.specs.Rows.{cut_there, opened, with_starts, starts_in, start_of, MayOpen}
-use Rattle.world_defs.specs.Ties.{start_in, texts_of, IsSite, HasLeft}
+use Rattle.site_defs.specs.Contents.{Contents, Leftover}
+use Rattle.site_defs.specs.Opening.{cut_there, opened, with_starts, starts_in, start_of, MayOpen}
+use Rattle.site_defs.specs.Stands.{start_in, texts_of, IsSite, HasLeft}
 use Rattle.site_store.proofs.Starts.{starts_of, last_is, mode_cut}
 
 -- generations of the files that stay

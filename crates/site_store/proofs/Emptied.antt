@@ -3,9 +3,9 @@ use Rattle.std.proofs.Common.{ℕ, take, sym, subst, arith}
 use Rattle.std.proofs.lemmas.List.{length-take-le}
 use Rattle.disk_defs.specs.Disk.{Files, View, Image}
 use Rattle.journal_defs.specs.Growth.{NonePast}
-use Rattle.world_defs.specs.World.{Contents, NO_LEFTOVER}
-use Rattle.world_defs.specs.Rows.{with_sequence}
-use Rattle.world_defs.specs.Ties.{HasLeft}
+use Rattle.site_defs.specs.Contents.{Contents, NO_LEFTOVER}
+use Rattle.site_defs.specs.Fronts.{with_sequence}
+use Rattle.site_defs.specs.Stands.{HasLeft}
 use Rattle.site_store.specs.declared.site.OpenSite.{OpenSite}
 use Rattle.site_store.specs.Site.{Keeps}
 use Rattle.site_store.proofs.Images.{left_nothing}

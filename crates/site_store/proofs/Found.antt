@@ -9,8 +9,8 @@ use Rattle.journal_defs.specs.Instance.{InstanceRecord, Create, Reigned, Cut, Ma
 use Rattle.journal_defs.specs.Stands.{IsInstance}
 use Rattle.journal_laws.proofs.Readings.{holds_one, instance_body}
 use Rattle.site_files.specs.Loading.{IsDirectory}
-use Rattle.world_defs.specs.World.{Contents, nothing, is_made}
-use Rattle.world_defs.specs.Ties.{IsSite, Stands}
+use Rattle.site_defs.specs.Contents.{Contents, nothing, is_made}
+use Rattle.site_defs.specs.Stands.{IsSite, Stands}
 use Rattle.site_store.specs.declared.layout.Layout.{Layout}
 use Rattle.site_store.specs.Finding.{IsLaidOut, IsFound}
 

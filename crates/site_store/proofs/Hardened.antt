@@ -20,9 +20,9 @@ use Rattle.region_journals.specs.Fronts.{IsNewestFile, HasFirst}
 use Rattle.region_journals.specs.Journals.{AreReady, KeepsJournals}
 use Rattle.region_journals.proofs.Fronts.{no_pini}
 use Rattle.region_journals.proofs.Turns.{found}
-use Rattle.world_defs.specs.World.{Contents}
-use Rattle.world_defs.specs.Rows.{with_sequence, IsFrontOf}
-use Rattle.world_defs.specs.Ties.{IsSite}
+use Rattle.site_defs.specs.Contents.{Contents}
+use Rattle.site_defs.specs.Fronts.{with_sequence, IsFrontOf}
+use Rattle.site_defs.specs.Stands.{IsSite}
 use Rattle.site_store.specs.declared.site.OpenSite.{OpenSite}
 use Rattle.site_store.specs.Site.{Remembers, IsReady, Keeps, IsOpen}
 use Rattle.gvn_model.specs.Numbered.{numbered}

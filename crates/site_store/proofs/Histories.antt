@@ -19,8 +19,8 @@ use Rattle.journal_defs.specs.Stands.{AreRecords}
 use Rattle.journal_laws.proofs.Readings.{records_one}
 use Rattle.journal_laws.proofs.Runs as runs
 use Rattle.site_files.specs.Reading.{HoldNoSite}
-use Rattle.world_defs.specs.World.{Contents}
-use Rattle.world_defs.specs.Ties.{IsSite}
+use Rattle.site_defs.specs.Contents.{Contents}
+use Rattle.site_defs.specs.Stands.{IsSite}
 use Rattle.site_store.specs.Finding.{IsHistoryOf}
 use Rattle.site_store.proofs.Found.{region_count, site_instance, made_some}
 

@@ -22,8 +22,8 @@ use Rattle.journal_laws.proofs.RecordSteps as steps
 use Rattle.journal_laws.proofs.ImageSteps as images
 use Rattle.journal_laws.proofs.Readings.{records_one}
 use Rattle.region_journals.proofs.Unbroken.{broken_none}
-use Rattle.world_defs.specs.World.{Contents, NO_LEFTOVER, is_made}
-use Rattle.world_defs.specs.Ties.{start_in, texts_of, IsSite, HasLeft}
+use Rattle.site_defs.specs.Contents.{Contents, NO_LEFTOVER, is_made}
+use Rattle.site_defs.specs.Stands.{start_in, texts_of, IsSite, HasLeft}
 
 -- A body is that of one record, and the record has one body, so a list of records has one list of bodies.
 zip_front : {R : Type 0} (P : Body → R → Type 0) → ((b d : Body) (r : R) → P b r → P d r → b ≡ d) → (bs ds : List Body) (rs qs : List R)

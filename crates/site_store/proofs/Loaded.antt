@@ -33,9 +33,10 @@ use Rattle.region_journals.specs.declared.journals.RegionJournal.{RegionJournal}
 use Rattle.site_files.specs.Loading.{MayBeOpened, AreRead, WasRead, MayDraw, HasDrawn, next_cut, next_broken, next_pini, drawn_records}
 use Rattle.site_files.proofs.Keeping as keeping
 use Rattle.site_files.proofs.Kept.{image_read}
-use Rattle.world_defs.specs.World.{Contents, Leftover}
-use Rattle.world_defs.specs.Rows.{with_sequence, opened, MayOpen}
-use Rattle.world_defs.specs.Ties.{IsSite, HasLeft, Stands, texts_of}
+use Rattle.site_defs.specs.Contents.{Contents, Leftover}
+use Rattle.site_defs.specs.Fronts.{with_sequence}
+use Rattle.site_defs.specs.Opening.{opened, MayOpen}
+use Rattle.site_defs.specs.Stands.{IsSite, HasLeft, Stands, texts_of}
 use Rattle.site_store.specs.declared.site.OpenSite.{OpenSite}
 use Rattle.site_store.specs.Finding.{HasLayout}
 use Rattle.site_store.specs.Site.{Remembers, IsReady, Keeps, IsOpen, WasOpened}

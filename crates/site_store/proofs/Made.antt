@@ -13,7 +13,7 @@ use Rattle.journal_defs.specs.Stands.{IsInstance}
 use Rattle.journal_laws.proofs.NewDisks.{created_is_fit}
 use Rattle.instance_file.specs.Instance.{HoldsRecords, HasRecords, StandsWith, MayCreate}
 use Rattle.instance_file.specs.declared.instance.Instance.{Instance}
-use Rattle.world_defs.specs.Ties.{IsBlank, IsSite}
+use Rattle.site_defs.specs.Stands.{IsBlank, IsSite}
 use Rattle.site_store.specs.declared.layout.RegionSpec.{RegionSpec}
 use Rattle.site_store.specs.Opening.{region_value, made, MayMake}
 use Rattle.site_store.proofs.Found.{no_bodies}

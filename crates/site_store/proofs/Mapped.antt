@@ -34,9 +34,9 @@ use Rattle.journal_defs.specs.Fit.{IsSoundImage, HasFewNodes}
 use Rattle.journal_defs.specs.Stands.{IsInstance, IsJournal}
 use Rattle.journal_laws.proofs.Naming as naming
 use Rattle.journal_laws.proofs.Runs as runs
-use Rattle.world_defs.specs.World.{Contents}
-use Rattle.world_defs.specs.Rows.{with_pattern}
-use Rattle.world_defs.specs.Ties.{IsBlank, IsSite, Stands, start_in, texts_of}
+use Rattle.site_defs.specs.Contents.{Contents}
+use Rattle.site_defs.specs.Opening.{with_pattern}
+use Rattle.site_defs.specs.Stands.{IsBlank, IsSite, Stands, start_in, texts_of}
 use Rattle.site_store.specs.Opening.{MayHavePattern, EachStands}
 use Rattle.site_store.proofs.Found.{instance_one, site_instance, some_made, blank_instance}
 

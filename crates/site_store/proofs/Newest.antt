@@ -29,9 +29,9 @@ use Rattle.region_journals.specs.Fronts as newest_files
 use Rattle.region_journals.specs.Journals.{AreReady}
 use Rattle.region_journals.proofs.Fronts as fronts
 use Rattle.region_journals.proofs.Turns.{found}
-use Rattle.world_defs.specs.World.{Contents}
-use Rattle.world_defs.specs.Rows.{with_sequence, IsFrontOf}
-use Rattle.world_defs.specs.Ties.{start_in, IsSite}
+use Rattle.site_defs.specs.Contents.{Contents}
+use Rattle.site_defs.specs.Fronts.{with_sequence, IsFrontOf}
+use Rattle.site_defs.specs.Stands.{start_in, IsSite}
 use Rattle.site_store.specs.declared.site.OpenSite.{OpenSite}
 use Rattle.site_store.specs.Site.{IsReady, Keeps}
 use Rattle.site_store.proofs.Images.{AreOf, are_of, site_of, texts_same}

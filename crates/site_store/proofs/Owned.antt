@@ -4,9 +4,9 @@ use Rattle.std.specs.Prelude.{IfSome, IsErrOf}
 use Rattle.std.proofs.Math.Seq.{take-length}
 use Rattle.disk_defs.specs.Disk.{Files, View, Image, IsLawful, AtEachMoment, Reads}
 use Rattle.disk_defs.proofs.Moments.{started}
-use Rattle.world_defs.specs.World.{Contents, NO_LEFTOVER}
-use Rattle.world_defs.specs.Rows.{with_sequence, IsFrontOf}
-use Rattle.world_defs.specs.Ties.{IsSite, HasLeft}
+use Rattle.site_defs.specs.Contents.{Contents, NO_LEFTOVER}
+use Rattle.site_defs.specs.Fronts.{with_sequence, IsFrontOf}
+use Rattle.site_defs.specs.Stands.{IsSite, HasLeft}
 use Rattle.site_store.specs.declared.site.OpenSite.{OpenSite}
 use Rattle.site_store.specs.declared.owning.Site.{Site}
 use Rattle.site_store.specs.declared.error.SiteError.{SiteError}

@@ -11,9 +11,9 @@ use Rattle.journal_defs.specs.Sequence.{Placed}
 use Rattle.journal_defs.specs.Stands.{IsInstance, IsJournal}
 use Rattle.site_files.specs.Loading.{MayBeOpened, AreRead, WasRead, IsDirectory}
 use Rattle.site_files.proofs.RegionsRead.{durable_kept}
-use Rattle.world_defs.specs.World.{Contents}
-use Rattle.world_defs.specs.Rows.{last_generation}
-use Rattle.world_defs.specs.Ties.{IsSite}
+use Rattle.site_defs.specs.Contents.{Contents}
+use Rattle.site_defs.specs.Opening.{last_generation}
+use Rattle.site_defs.specs.Stands.{IsSite}
 use Rattle.site_store.proofs.Found.{all_in_form, region_count, made_some, site_instance, site_directory}
 use Rattle.site_store.proofs.Starts.{starts_of, last_is, last_low}
 

@@ -9,7 +9,7 @@ use Rattle.std.proofs.lemmas.List.Sums.{fold-append}
 use Rattle.global_defs.specs.Entry.{Update, Entry, Sequence, Globals, apply, state}
 use Rattle.gvn_model.specs.declared.entry.Entry as code
 use Rattle.gvn_model.specs.Entries.{entry_value}
-use Rattle.world_defs.specs.World.{Contents}
+use Rattle.site_defs.specs.Contents.{Contents}
 use Rattle.site_store.specs.declared.site.OpenSite.{OpenSite}
 use Rattle.site_store.specs.Site.{Remembers}
 use Rattle.gvn_model.specs.Numbered.{numbered}

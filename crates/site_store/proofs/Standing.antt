@@ -8,9 +8,9 @@ use Rattle.disk_defs.proofs.Told.{weaker_told}
 use Rattle.journal_defs.specs.Growth.{tcoms}
 use Rattle.instance_file.specs.Instance as instances
 use Rattle.region_journals.specs.Journals.{KeepsJournals}
-use Rattle.world_defs.specs.World.{Contents}
-use Rattle.world_defs.specs.Rows.{with_sequence}
-use Rattle.world_defs.specs.Ties.{IsSite}
+use Rattle.site_defs.specs.Contents.{Contents}
+use Rattle.site_defs.specs.Fronts.{with_sequence}
+use Rattle.site_defs.specs.Stands.{IsSite}
 use Rattle.site_store.specs.declared.site.OpenSite.{OpenSite}
 use Rattle.site_store.specs.Site.{Keeps, IsOpen}
 

@@ -8,8 +8,8 @@ use Rattle.journal_defs.specs.Journal.{JournalRecord, Start, Pini, Epoch, Pblk, 
 use Rattle.journal_defs.specs.Instance.{InstanceRecord, Cut, mode_in, mode_of}
 use Rattle.journal_defs.specs.Sequence.{Placed}
 use Rattle.journal_defs.specs.Stands.{IsJournal, in_generation, last_began}
-use Rattle.world_defs.specs.Rows.{last_generation}
-use Rattle.world_defs.specs.Ties.{start_in}
+use Rattle.site_defs.specs.Opening.{last_generation}
+use Rattle.site_defs.specs.Stands.{start_in}
 
 abbrev pub starts_of : List Placed → List Start
 starts_of ps = filter_map (λ (p : Placed). start_in p.what) ps

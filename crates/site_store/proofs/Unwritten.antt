@@ -19,9 +19,9 @@ use Rattle.region_journals.specs.Journals.{AreReady, KeepsJournals}
 use Rattle.region_journals.specs.declared.journals.RegionJournal.{RegionJournal}
 use Rattle.instance_file.specs.declared.instance.Instance.{Instance}
 use Rattle.instance_file.specs.Instance as instances
-use Rattle.world_defs.specs.Rows.{with_sequence}
-use Rattle.world_defs.specs.Ties.{IsSite}
-use Rattle.world_defs.specs.World.{Contents}
+use Rattle.site_defs.specs.Fronts.{with_sequence}
+use Rattle.site_defs.specs.Stands.{IsSite}
+use Rattle.site_defs.specs.Contents.{Contents}
 use Rattle.site_store.specs.declared.site.OpenSite.{OpenSite}
 use Rattle.site_store.specs.Site.{IsReady, Keeps, IsOpen}
 

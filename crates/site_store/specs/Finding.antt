@@ -9,7 +9,7 @@ use Rattle.journal_defs.specs.Directory.{patterns}
 use Rattle.journal_defs.specs.Surviving.{reigns}
 use Rattle.gvn_model.specs.declared.history.History.{History}
 use Rattle.global_dir.specs.Directory.{Mapping}
-use Rattle.world_defs.specs.World.{Contents, nothing, is_made}
+use Rattle.site_defs.specs.Contents.{Contents, nothing, is_made}
 use Rattle.site_store.specs.Opening.{region_value}
 use Rattle.site_store.specs.declared.layout.Layout.{Layout}
 use Rattle.site_store.specs.declared.layout.FoundSite.{FoundSite}

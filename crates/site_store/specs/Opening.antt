@@ -4,9 +4,9 @@ use Rattle.disk_defs.specs.Disk.{Files, View, Image, From, IsDurable}
 use Rattle.journal_defs.specs.Numbers.{broken_file}
 use Rattle.journal_defs.specs.Instance as records
 use Rattle.journal_defs.specs.Instance.{NamedMode}
-use Rattle.world_defs.specs.World.{Contents}
-use Rattle.world_defs.specs.Rows.{MayOpen, with_pattern}
-use Rattle.world_defs.specs.Ties.{IsBlank, IsSite, Stands}
+use Rattle.site_defs.specs.Contents.{Contents}
+use Rattle.site_defs.specs.Opening.{MayOpen, with_pattern}
+use Rattle.site_defs.specs.Stands.{IsBlank, IsSite, Stands}
 use Rattle.site_store.specs.declared.layout.RegionSpec.{RegionSpec}
 
 abbrev pub region_value : RegionSpec → NamedMode

@@ -3,7 +3,7 @@ use Rattle.std.specs.Prelude.{◌≡◌, ℕ, Bool, length, Some, None, Result, 
 use Rattle.disk_defs.specs.Disk.{View}
 use Rattle.gvn_model.specs.declared.history.History.{History}
 use Rattle.journal_defs.specs.Surviving.{reigns}
-use Rattle.world_defs.specs.World.{Contents}
+use Rattle.site_defs.specs.Contents.{Contents}
 use Rattle.site_store.specs.declared.error.SiteError.{SiteError}
 use Rattle.site_store.specs.declared.owning.Site.{Site}
 use Rattle.site_store.specs.declared.site.OpenSite.{OpenSite}

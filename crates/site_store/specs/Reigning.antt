@@ -4,7 +4,7 @@ use Rattle.global_defs.specs.Entry.{Reign}
 use Rattle.journal_defs.specs.Instance.{site_name, greatest_cycle}
 use Rattle.journal_defs.specs.Surviving.{reigns}
 use Rattle.journal_defs.specs.Fit.{MOST_REIGNS}
-use Rattle.world_defs.specs.Refusals.{LAST_CYCLE}
+use Rattle.site_defs.specs.Limits.{LAST_CYCLE}
 use Rattle.site_store.specs.declared.site.OpenSite.{OpenSite}
 
 -- there are as many reigns as there may be, or one has the last cycle

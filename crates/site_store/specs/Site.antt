@@ -23,9 +23,9 @@ use Rattle.journal_defs.specs.Fit.{IsSoundImage, HasFewNodes, IsAtHome}
 use Rattle.instance_file.specs.Instance as instances
 use Rattle.region_journals.specs.Journals.{AreReady, KeepsJournals}
 use Rattle.region_journals.specs.Fronts.{AreInside}
-use Rattle.world_defs.specs.World.{Contents}
-use Rattle.world_defs.specs.Rows.{with_sequence}
-use Rattle.world_defs.specs.Ties.{IsSite}
+use Rattle.site_defs.specs.Contents.{Contents}
+use Rattle.site_defs.specs.Fronts.{with_sequence}
+use Rattle.site_defs.specs.Stands.{IsSite}
 use Rattle.site_store.specs.Finding.{HasLayout}
 use Rattle.site_store.specs.declared.site.OpenSite.{OpenSite}
 

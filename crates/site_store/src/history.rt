@@ -2,8 +2,8 @@
 ghost use Rattle.std.specs.Prelude.{◌≡◌, ◌⊎◌, ◌≤◌, ℕ, nat_le, filter, map, IfOk, IfSome, OnErr, IsErrOf};
 ghost use Rattle.disk_defs.specs.Disk.{Image, AtEachMoment, Rose};
 ghost use Rattle.gvn_model.specs.Reigns.{reign_value};
-ghost use Rattle.world_defs.specs.World.{Contents};
-ghost use Rattle.world_defs.specs.Ties.{IsSite};
+ghost use Rattle.site_defs.specs.Contents.{Contents};
+ghost use Rattle.site_defs.specs.Stands.{IsSite};
 ghost use Rattle.site_files.specs.Outside.{IsOutsideRecords};
 ghost use Rattle.site_store.specs.Finding.{IsHistoryOf};
 

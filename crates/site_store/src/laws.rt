@@ -1,9 +1,9 @@
 //! What an open site has on its disk. Each function does nothing: its contract states a law over definitions alone.
 ghost use Rattle.std.specs.Prelude.{ℕ, take};
 ghost use Rattle.disk_defs.specs.Disk.{Files, Image};
-ghost use Rattle.world_defs.specs.World.{Contents, NO_LEFTOVER};
-ghost use Rattle.world_defs.specs.Rows.{with_sequence};
-ghost use Rattle.world_defs.specs.Ties.{HasLeft};
+ghost use Rattle.site_defs.specs.Contents.{Contents, NO_LEFTOVER};
+ghost use Rattle.site_defs.specs.Fronts.{with_sequence};
+ghost use Rattle.site_defs.specs.Stands.{HasLeft};
 ghost use Rattle.site_store.specs.Site.{Keeps};
 ghost use Rattle.site_store.specs.declared.site.OpenSite.{OpenSite};
 

@@ -19,12 +19,12 @@ ghost use Rattle.journal_defs.specs.Instance as instances;
 ghost use Rattle.journal_defs.specs.Instance.{IsInForm, generation, site_name};
 ghost use Rattle.journal_defs.specs.Stands.{IsInstance};
 ghost use Rattle.journal_defs.specs.Surviving.{reigns};
-ghost use Rattle.world_defs.specs.Answers.{ReignLimit};
-ghost use Rattle.world_defs.specs.World.{Contents, Leftover, NO_LEFTOVER};
-ghost use Rattle.world_defs.specs.Output.{zwrite};
-ghost use Rattle.world_defs.specs.Refusals.{reign_limit};
-ghost use Rattle.world_defs.specs.Rows.{opened, MayOpen, with_reign, next_stamp, with_sequence, IsFrontOf};
-ghost use Rattle.world_defs.specs.Ties.{IsBlank, IsSite, HasLeft};
+ghost use Rattle.site_defs.specs.Contents.{Contents, Leftover, NO_LEFTOVER};
+ghost use Rattle.site_defs.specs.Texts.{zwrite};
+ghost use Rattle.site_defs.specs.Limits.{no_reign_left};
+ghost use Rattle.site_defs.specs.Opening.{opened, MayOpen, with_reign, next_stamp};
+ghost use Rattle.site_defs.specs.Fronts.{with_sequence, IsFrontOf};
+ghost use Rattle.site_defs.specs.Stands.{IsBlank, IsSite, HasLeft};
 ghost use Rattle.site_files.specs.Outside.{IsOutsideSite};
 ghost use Rattle.site_store.specs.Refusing.{IsUnwritten};
 ghost use Rattle.site_store.specs.Site.{Remembers, WasOpened, HasReign, HasRoomFor, with_entry};
@@ -172,8 +172,8 @@ impl<D: Disk> Site<D> {
         ensures remembered { IfOk result (λ stamp. self.new.inner.stamp ≡ Some stamp) }
         ensures reign { OnOk result (HasReign self.new.inner) }
         ensures entries { self.new.inner.entries.items ≡ self.old.inner.entries.items }
-        ensures room { OnOk result ((c : Contents) (h : ℕ) → Remembers c h self.old.inner → reign_limit c ≡ None) }
-        ensures limit { IsErrOf result SiteError.ReignLimit → (c : Contents) (h : ℕ) → Remembers c h self.old.inner → reign_limit c ≡ Some ReignLimit }
+        ensures room { OnOk result ((c : Contents) (h : ℕ) → Remembers c h self.old.inner → no_reign_left c ≡ false) }
+        ensures limit { IsErrOf result SiteError.ReignLimit → (c : Contents) (h : ℕ) → Remembers c h self.old.inner → no_reign_left c ≡ true }
         ensures kept { IsErrOf result SiteError.ReignLimit → self.new ≡ self.old }
         ensures any_moment { (c : Contents) → IsOpenSite D.disk true c (length c.sequence) self.old → AtEachMoment (D.disk self.old.disk) (D.disk self.new.disk) (λ f. IsSite f c ⊎ IsSite f (with_reign (site_name c.instance) c)) }
         ensures stands { (c : Contents) → IsOpenSite D.disk true c (length c.sequence) self.old → IfSome (D.disk self.new.disk).content (λ f. IsSite f c ⊎ IsSite f (with_reign (site_name c.instance) c)) }

@@ -3,11 +3,10 @@ ghost use Rattle.std.specs.Prelude.{◌≡◌, ◌⊎◌, ◌≤◌, ◌<◌, �
 ghost use Rattle.disk_defs.specs.Disk.{Files, Image, AtEachMoment, Rose};
 ghost use Rattle.gvn_model.specs.Reigns.{stamp_value, reign_value};
 ghost use Rattle.journal_defs.specs.Instance.{site_name};
-ghost use Rattle.world_defs.specs.Answers.{ReignLimit};
-ghost use Rattle.world_defs.specs.World.{Contents};
-ghost use Rattle.world_defs.specs.Refusals.{reign_limit};
-ghost use Rattle.world_defs.specs.Rows.{with_reign, next_stamp};
-ghost use Rattle.world_defs.specs.Ties.{IsSite};
+ghost use Rattle.site_defs.specs.Contents.{Contents};
+ghost use Rattle.site_defs.specs.Limits.{no_reign_left};
+ghost use Rattle.site_defs.specs.Opening.{with_reign, next_stamp};
+ghost use Rattle.site_defs.specs.Stands.{IsSite};
 ghost use Rattle.site_store.specs.Site.{Remembers, IsReady, IsOpen, WasOpened, HasReign};
 ghost use Rattle.site_store.specs.Reigning.{IsNextReign, HasReignLeft, HasNoReignLeft};
 
@@ -65,8 +64,8 @@ impl OpenSite {
         ensures reign { OnOk result (HasReign self.new) }
         ensures entries { self.new.entries.items ≡ self.old.entries.items }
         ensures hardened { self.new.hardened ≡ self.old.hardened }
-        ensures room { OnOk result ((c : Contents) (h : ℕ) → Remembers c h self.old → reign_limit c ≡ None) }
-        ensures limit { IsErrOf result SiteError.ReignLimit → (c : Contents) (h : ℕ) → Remembers c h self.old → reign_limit c ≡ Some ReignLimit }
+        ensures room { OnOk result ((c : Contents) (h : ℕ) → Remembers c h self.old → no_reign_left c ≡ false) }
+        ensures limit { IsErrOf result SiteError.ReignLimit → (c : Contents) (h : ℕ) → Remembers c h self.old → no_reign_left c ≡ true }
         ensures kept { IsErrOf result SiteError.ReignLimit → (disk.new ≡ disk.old) × (self.new ≡ self.old) }
         ensures any_moment { (c : Contents) → IsOpen (D.disk disk.old) true c (length c.sequence) self.old → AtEachMoment (D.disk disk.old) (D.disk disk.new) (λ f. IsSite f c ⊎ IsSite f (with_reign (site_name c.instance) c)) }
         ensures stands { (c : Contents) → IsOpen (D.disk disk.old) true c (length c.sequence) self.old → IfSome (D.disk disk.new).content (λ f. IsSite f c ⊎ IsSite f (with_reign (site_name c.instance) c)) }

@@ -6,7 +6,7 @@ ghost use Rattle.global_defs.specs.Extract.{entry_text};
 ghost use Rattle.global_defs.specs.Prefix.{IsPrefix};
 ghost use Rattle.gvn_globals.specs.Lists.{listed_value};
 ghost use Rattle.gvn_model.specs.Entries.{entry_value};
-ghost use Rattle.world_defs.specs.Output.{node_line, zwrite};
+ghost use Rattle.site_defs.specs.Texts.{node_line, zwrite};
 
 use crate::site::OpenSite;
 use gvn_globals::Listed;

@@ -2,14 +2,15 @@
 -- the history of an instance never go back but by a rollback).
 use Rattle.std.specs.Prelude.{◌≡◌, ◌<◌, ◌≤◌, ℕ, List, length, Option, Some, None, IsTrue}
 use Rattle.std.specs.List.{AllByRecursion}
-use Rattle.global_defs.specs.Entry.{Stamp, Entry, Sequence}
+use Rattle.global_defs.specs.Entry.{Stamp, Entry}
 use Rattle.global_defs.specs.Serial.{serial_at}
 use Rattle.journal_defs.specs.Instance.{greatest_cycle, site_name}
 use Rattle.journal_defs.specs.Surviving.{reigns}
 use Rattle.journal_defs.specs.Fit.{SerialsRise, HasFewReigns, MOST_REIGNS}
 use Rattle.command_defs.specs.Commands.{Name}
-use Rattle.world_defs.specs.Lists.{Among}
-use Rattle.world_defs.specs.World.{State, Down, Primary, Failed, Site, Contents, Place, World}
+use Rattle.site_defs.specs.Lists.{Among}
+use Rattle.world_defs.specs.World.{State, Down, Primary, Failed, Site, Place, World}
+use Rattle.site_defs.specs.Contents.{Contents}
 
 -- an entry of the site's own has no cycle past those of the site's reigns, dropped ones among them
 abbrev pub IsWithinCycles : Contents → Entry → Type 0

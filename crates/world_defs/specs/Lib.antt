@@ -1,4 +1,3 @@
-pub mod Lists
 pub mod World
 pub mod Answers
 pub mod Refusals

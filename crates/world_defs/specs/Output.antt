@@ -1,22 +1,19 @@
 -- What a command writes.
-use Rattle.std.specs.Prelude.{ℕ, ◌+◌, ◌-◌, nat_lt, Bool, false, List, [], ◌∷◌, ◌++◌, length, filter, codes, Option, Some, None, if◌then◌else◌}
+use Rattle.site_defs.specs.Texts.{extract_from, printed, reply_line, zwrite}
+use Rattle.std.specs.Prelude.{ℕ, ◌+◌, ◌-◌, List, [], ◌∷◌, ◌++◌, length, codes, Option, Some, None}
 use Rattle.std.specs.Fmt.{decimal}
 use Rattle.std.specs.List.{flat_map}
-use Rattle.std.specs.FinMap as globals
 use Rattle.global_defs.specs.Key.{Key}
-use Rattle.global_defs.specs.Entry.{Globals, Sequence, Reign, is_under, state}
-use Rattle.global_defs.specs.NodeText.{node_text}
-use Rattle.global_defs.specs.Zwr.{zwr}
-use Rattle.global_defs.specs.Extract.{extract}
-use Rattle.global_defs.specs.Jobs.{Job, Answers, Check, NotNum, Full, SeqLimit}
-use Rattle.global_defs.specs.Jobs as jobs
-use Rattle.global_defs.specs.Serial.{Reply, Seq, Read, RolledBack, Replied, Turn, begun}
+use Rattle.global_defs.specs.Entry.{Reign, state}
+use Rattle.global_defs.specs.Jobs.{Job}
+use Rattle.global_defs.specs.Serial.{Turn, begun}
 use Rattle.command_defs.specs.Commands.{Name, Command, Create, Attach, Map, StartPrimary, Run, Stop, Fuse, Crash, Extract, Zwrite, Show, Print}
-use Rattle.world_defs.specs.World.{State, Down, Primary, Failed, Site, Contents, Place, World, next_of, at_place, site_of}
+use Rattle.world_defs.specs.World.{State, Down, Primary, Failed, Site, Place, World, next_of, at_place, site_of}
+use Rattle.site_defs.specs.Contents.{Contents}
 use Rattle.journal_defs.specs.Surviving.{reigns}
 use Rattle.world_defs.specs.Answers.{Cause, NoSite, Stopped, Exists, NoDisk, NotEmpty, Empty, Running, NotRunning, NotPrimary, NotSimulated, Started, NoRegion, TwiceMapped, NoFile, GenLimit, ReignLimit, Section, Answer, Done, Refused, DiskFault, NotAFile, Ran, Typed}
 use Rattle.world_defs.specs.Refusals.{ATTACHING}
-use Rattle.world_defs.specs.Rows.{turn_of}
+use Rattle.site_defs.specs.Fronts.{turn_of}
 
 -- a line that begins with a site's name
 abbrev pub line : Name → List ℕ → List ℕ
@@ -40,51 +37,13 @@ cause_text NoFile = codes "NOFILE"
 cause_text GenLimit = codes "GENLIMIT"
 cause_text ReignLimit = codes "REIGNLIMIT"
 
--- why a job was rolled back
-abbrev pub rollback_text : jobs.Cause → List ℕ
-rollback_text Check = codes "CHECK"
-rollback_text NotNum = codes "NOTNUM"
-rollback_text Full = codes "FULL"
-rollback_text SeqLimit = codes "SEQLIMIT"
-
--- each after a space
-abbrev pub answers_text : Answers → List ℕ
-answers_text answers = flat_map (λ text. 32 ∷ text) answers
-
-abbrev pub reply_text : Reply → List ℕ
-reply_text (Seq n answers) = codes " SEQ " ++ decimal n ++ answers_text answers
-reply_text (Read answers) = codes " READ" ++ answers_text answers
-reply_text (RolledBack cause) = codes " ROLLEDBACK " ++ rollback_text cause
-
--- updater.serial and the reply
-abbrev pub reply_line : Replied → List ℕ
-reply_line r = decimal r.updater ++ 46 ∷ decimal r.serial ++ reply_text r.reply ++ 10 ∷ []
-
 abbrev pub length_at : Option Place → ℕ
 length_at None = 0
 length_at (Some p) = length p.now.sequence
 
--- the extract from that number on, else from 1
-abbrev pub extract_from : Name → Option ℕ → Sequence → List ℕ
-extract_from name None seq = extract name seq 1
-extract_from name (Some from) seq = extract name seq from
-
 abbrev pub extract_at : Name → Option ℕ → Option Place → List ℕ
 extract_at name from None = []
 extract_at name from (Some p) = extract_from name from p.now.sequence
-
--- a node and its value in ZWR form
-abbrev pub node_line : Key × List ℕ → List ℕ
-node_line e = node_text e.0 ++ 61 ∷ zwr e.1 ++ 10 ∷ []
-
--- every node, or that one and those below it, in M collation
-abbrev pub shown : Option Key → Globals → List (Key × List ℕ)
-shown None g = globals.entries g
-shown (Some top) g = filter (λ e. is_under top e.0) (globals.entries g)
-
--- a line a node
-abbrev pub zwrite : Option Key → Globals → List ℕ
-zwrite top g = flat_map node_line (shown top g)
 
 abbrev pub zwrite_at : Option Key → Option Place → List ℕ
 zwrite_at top None = []
@@ -117,17 +76,6 @@ turn_on (Some site) jobs s p = turn_in site.state jobs s p
 abbrev pub turn_at : Option Place → List (List Job) → Section → Turn
 turn_at None jobs s = begun [] jobs []
 turn_at (Some p) jobs s = turn_on p.site jobs s p
-
--- the reply names an entry past that length
-abbrev pub is_past : ℕ → Reply → Bool
-is_past hardened (Seq n answers) = nat_lt hardened n
-is_past hardened (Read answers) = false
-is_past hardened (RolledBack cause) = false
-
--- the replies before the first one whose entry isn't hardened
-abbrev pub printed : ℕ → List Replied → List Replied
-printed hardened [] = []
-printed hardened (r ∷ rs) = if is_past hardened r.reply then [] else r ∷ printed hardened rs
 
 abbrev pub fault_line : Name → ℕ → ℕ → List ℕ
 fault_line name k undecided = line name (codes "DISKFAULT " ++ decimal k ++ codes " UNDECIDED " ++ decimal undecided)

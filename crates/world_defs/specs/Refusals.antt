@@ -1,15 +1,12 @@
 -- Which commands a world refuses, and with which cause: the first one of a list of tests.
-use Rattle.std.specs.Prelude.{ℕ, ◌-◌, ◌^◌, ◌==◌, nat_le, nat_lt, Bool, not, List, [], ◌∷◌, length, filter, codes, Option, Some, None, ◌&&◌, ◌||◌, if◌then◌else◌}
+use Rattle.site_defs.specs.Limits.{no_generation_left, no_reign_left, is_written, region_number}
+use Rattle.std.specs.Prelude.{ℕ, ◌==◌, nat_lt, Bool, List, [], ◌∷◌, length, codes, Option, Some, None, ◌&&◌, if◌then◌else◌}
 use Rattle.std.specs.List.{list_any}
-use Rattle.std.specs.Str.{bytes_eq}
-use Rattle.journal_defs.specs.Directory.{Pattern, patterns}
-use Rattle.journal_defs.specs.Instance.{InstanceRecord, generation, greatest_cycle, site_name, regions}
-use Rattle.journal_defs.specs.Surviving.{reigns}
-use Rattle.journal_defs.specs.Fit.{MOST_REIGNS}
-use Rattle.global_defs.specs.Pattern.{ends_in_star, stem}
+use Rattle.journal_defs.specs.Directory.{patterns}
+use Rattle.journal_defs.specs.Instance.{InstanceRecord, generation, site_name, regions}
 use Rattle.command_defs.specs.Commands.{Name, Command, Create, Attach, Map, StartPrimary, Run, Stop, Fuse, Crash, Extract, Zwrite, Show, Print}
-use Rattle.world_defs.specs.Lists.{first_where}
-use Rattle.world_defs.specs.World.{State, Down, Primary, Failed, Site, Contents, Place, World, is_made, next_of, at_place, site_of, same_name, typed}
+use Rattle.world_defs.specs.World.{State, Down, Primary, Failed, Site, Place, World, next_of, at_place, site_of, typed}
+use Rattle.site_defs.specs.Contents.{Contents, is_made}
 use Rattle.world_defs.specs.Answers.{Cause, NoSite, Stopped, Exists, NoDisk, NotEmpty, Empty, Running, NotRunning, NotPrimary, NotSimulated, Started, NoRegion, TwiceMapped, NoFile, GenLimit, ReignLimit, Refusal}
 
 -- the first cause of these
@@ -86,21 +83,11 @@ abbrev pub not_attached_at : World → Option Place → Option Refusal
 not_attached_at w None = None
 not_attached_at w (Some p) = if p.told then not_attached w p.now.instance else None
 
--- the last generation that an opening may draw is one below the greatest that there is
-abbrev pub LAST_GENERATION : ℕ
-LAST_GENERATION = 65534
-
 abbrev pub generation_limit : Contents → Option Cause
-generation_limit c = if nat_le LAST_GENERATION (generation c.instance) then Some GenLimit else None
+generation_limit c = if no_generation_left c then Some GenLimit else None
 
--- the greatest cycle that there is
-abbrev pub LAST_CYCLE : ℕ
-LAST_CYCLE = 2 ^ 32 - 1
-
--- as many reigns as there may be have begun by the length, or a reign has the last cycle, also one that was dropped
 abbrev pub reign_limit : Contents → Option Cause
-reign_limit c = if nat_le MOST_REIGNS (length (filter (λ r. nat_le r.start (length c.sequence)) (reigns c.instance))) || greatest_cycle c.instance == LAST_CYCLE
-    then Some ReignLimit else None
+reign_limit c = if no_reign_left c then Some ReignLimit else None
 
 -- the limits of an opening and a reign, where a site's files are known
 abbrev pub limited : Option Place → Option Cause
@@ -111,17 +98,9 @@ limited (Some p) = if p.told then first (generation_limit p.now ∷ reign_limit 
 abbrev pub started : Contents → Option Cause
 started c = if nat_lt 0 (generation c.instance) then Some Started else None
 
--- the number of the region of that name
-abbrev pub region_number : Name → Contents → Option ℕ
-region_number region c = first_where (λ r. same_name r.name region) (regions c.instance)
-
 abbrev pub no_region_at : Name → Option ℕ → Option Cause
 no_region_at region None = Some (NoRegion region)
 no_region_at region (Some number) = None
-
--- the pattern is written so, whatever its region
-abbrev pub is_written : List ℕ → Pattern → Bool
-is_written text p = (if p.star then ends_in_star text else not (ends_in_star text)) && bytes_eq p.name (stem text)
 
 abbrev pub twice_mapped : List ℕ → Contents → Option Cause
 twice_mapped text c = if list_any (is_written text) (patterns c.instance) then Some TwiceMapped else None

@@ -1,11 +1,8 @@
 -- Small worlds for the laws.
-use Rattle.std.specs.Prelude.{Bool, true, nat_lt, [], ◌∷◌, codes, Some, None, if◌then◌else◌}
-use Rattle.journal_defs.specs.Instance as records
-use Rattle.world_defs.specs.World.{Contents, Place, Down, Failed, nothing, NO_LEFTOVER}
-
--- the site A with region R
-abbrev pub made : Contents
-made = record { instance = records.Create (codes "A") (record { name = codes "R"; before = true } ∷ []) ∷ []; starts = λ r. []; texts = []; sequence = [] }
+use Rattle.std.specs.Prelude.{Bool, true, [], ◌∷◌, codes, Some, None}
+use Rattle.world_defs.specs.World.{Place, Failed}
+use Rattle.site_defs.specs.Contents.{nothing, NO_LEFTOVER}
+use Rattle.site_defs.specs.Samples.{made}
 
 -- where a call of A's disk failed, the third one on it
 abbrev pub failed_place : (simulated : Bool) → Place
@@ -18,26 +15,3 @@ made_place = record { site = None; told = true; now = made; left = NO_LEFTOVER; 
 -- an empty disk
 abbrev pub blank_place : Place
 blank_place = record { site = None; told = true; now = nothing; left = NO_LEFTOVER; outcomes = nothing ∷ []; faults = 0; simulated = true }
-
--- A's first reign
-abbrev pub reigned_once : Contents
-reigned_once = record {
-  instance = records.Create (codes "A") (record { name = codes "R"; before = true } ∷ []) ∷ records.Cut 0 1
-      ∷ records.Reigned (record { stamp = record { root = codes "A"; cycle = 1 }; start = 1 }) ∷ [];
-  starts = λ r. if nat_lt r 1 then record { region = r; before = true; generation = 1; previous = 0 } ∷ [] else [];
-  texts = [] ∷ [];
-  sequence = [];
-}
-
--- and dropped by a CUT
-abbrev pub dropped_reign : Contents
-dropped_reign = record { instance = records.Reigned (record { stamp = record { root = codes "A"; cycle = 1 }; start = 1 }) ∷ records.Cut 0 2 ∷ []; starts = λ r. []; texts = []; sequence = [] }
-
--- the site B with regions R and S, which was opened once
-abbrev pub two_regions : Contents
-two_regions = record {
-  instance = records.Create (codes "B") (record { name = codes "R"; before = true } ∷ record { name = codes "S"; before = true } ∷ []) ∷ records.Cut 0 1 ∷ [];
-  starts = λ r. [];
-  texts = [] ∷ [];
-  sequence = [];
-}

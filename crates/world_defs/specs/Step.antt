@@ -3,12 +3,15 @@ use Rattle.std.specs.Prelude.{◌≡◌, ◌≢◌, ◌⊎◌, ℕ, ◌==◌, Bo
 use Rattle.global_defs.specs.Entry.{Stamp}
 use Rattle.global_defs.specs.Jobs.{Job}
 use Rattle.global_defs.specs.Serial.{Turn}
-use Rattle.world_defs.specs.Lists.{Among, Along, At}
+use Rattle.site_defs.specs.Lists.{Among, Along, At}
 use Rattle.command_defs.specs.Commands.{Name, Command, Create, Attach, Map, StartPrimary, Run, Stop, Fuse, Crash, Extract, Zwrite, Show, Print}
-use Rattle.world_defs.specs.World.{State, Down, Primary, Failed, Site, Contents, Place, World, Kept, typed, place_of, next_of, site_of}
+use Rattle.world_defs.specs.World.{State, Down, Primary, Failed, Site, Place, World, Kept, typed, place_of, next_of, site_of}
+use Rattle.site_defs.specs.Contents.{Contents}
 use Rattle.world_defs.specs.Answers.{Cause, NoSite, Stopped, Exists, NoDisk, NotEmpty, Empty, Running, NotRunning, NotPrimary, NotSimulated, Started, NoRegion, TwiceMapped, NoFile, GenLimit, ReignLimit, Refusal, Answer, Done, Refused, DiskFault, NotAFile, Section, Ran, Typed}
 use Rattle.world_defs.specs.Refusals.{ATTACHING, early, refusal}
-use Rattle.world_defs.specs.Rows.{Becomes, Fails, FailsBefore, FailsUnchanged, OldOnes, Creates, MayCreate, Attaches, Maps, MayMapAny, StartsPrimary, MayBeginAny, opened, RunsWhole, RunFails, IsFrontOf, Crashes, turn_of, created}
+use Rattle.world_defs.specs.Rows.{Becomes, Fails, FailsBefore, FailsUnchanged, OldOnes, Creates, MayCreate, Attaches, Maps, MayMapAny, StartsPrimary, MayBeginAny, RunsWhole, RunFails, Crashes, created}
+use Rattle.site_defs.specs.Opening.{opened}
+use Rattle.site_defs.specs.Fronts.{IsFrontOf, turn_of}
 
 -- all places are as before
 abbrev pub Unchanged : World → World → Type 0

@@ -1,15 +1,10 @@
 -- The world of a run between two commands: plain data (GT.M: instances, and what the replication of each one does).
-use Rattle.std.specs.Prelude.{◌≡◌, ℕ, ◌≤◌, ◌-◌, Bool, true, false, List, [], ◌∷◌, ◌++◌, Option, Some, None, get_or, slice_get, nat_eq, nat_lt, length, take}
-use Rattle.std.specs.Cmp.Lexicographic.{pointwise}
+use Rattle.site_defs.specs.Contents.{Contents, Leftover, same_name}
+use Rattle.std.specs.Prelude.{◌≡◌, ℕ, ◌≤◌, ◌-◌, Bool, true, false, List, [], ◌∷◌, ◌++◌, Option, Some, None, get_or, slice_get, take}
 use Rattle.std.specs.List.{AllByRecursion}
-use Rattle.global_defs.specs.Entry.{Stamp, Sequence}
-use Rattle.journal_defs.specs.Journal.{Start}
-use Rattle.journal_defs.specs.Instance.{InstanceRecord}
+use Rattle.global_defs.specs.Entry.{Stamp}
 use Rattle.command_defs.specs.Commands.{Name}
-use Rattle.world_defs.specs.Lists.{Among, first_where}
-
-abbrev pub same_name : Name → Name → Bool
-same_name a b = pointwise nat_eq a b
+use Rattle.site_defs.specs.Lists.{Among, first_where}
 
 pub data State : Type 0 where
   Down : State
@@ -21,34 +16,6 @@ pub data State : Type 0 where
 pub record Site : Type 0 where
   pub name : Name
   pub state : State
-
--- What the files on one disk stand for, in one image.
-pub record Contents : Type 0 where
-  -- the records of its instance file; none where no site was made there
-  pub instance : List InstanceRecord
-  -- how the generations of its journals began, by region, in their order
-  pub starts : ℕ → List Start
-  -- its broken-transaction files, from generation 1 to the newest one
-  pub texts : List (List ℕ)
-  pub sequence : Sequence
-
--- no site was made there
-abbrev pub nothing : Contents
-nothing = record { instance = []; starts = λ r. []; texts = []; sequence = [] }
-
--- a site was made there
-abbrev pub is_made : Contents → Bool
-is_made c = nat_lt 0 (length c.instance)
-
--- What lies behind the sequence on a disk, as its files read.
-pub record Leftover : Type 0 where
-  -- the text of the broken transactions, which the next opening writes down
-  pub broken : List ℕ
-  -- the broken-transaction file of the next generation, as far as an opening that a fault ended wrote it
-  pub torn : List ℕ
-
-abbrev pub NO_LEFTOVER : Leftover
-NO_LEFTOVER = record { broken = []; torn = [] }
 
 -- A disk, and the site on it.
 pub record Place : Type 0 where

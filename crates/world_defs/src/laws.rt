@@ -3,13 +3,18 @@ ghost use Rattle.std.specs.Prelude.{◌≡◌, ◌∷◌, ◌++◌, [], ℕ, Lis
 ghost use Rattle.journal_defs.specs.Instance as records;
 ghost use Rattle.journal_defs.specs.Instance.{InstanceRecord};
 ghost use Rattle.global_defs.specs.Entry.{Sequence};
-ghost use Rattle.world_defs.specs.World.{Place, Down, Primary, Failed, nothing, typed};
+ghost use Rattle.world_defs.specs.World.{Place, Down, Primary, Failed, typed};
+ghost use Rattle.site_defs.specs.Contents.{nothing};
 ghost use Rattle.command_defs.specs.Commands.{Attach, Create, StartPrimary, Run, Stop, Crash, Show, with_images};
 ghost use Rattle.world_defs.specs.Answers.{NoSite, NoDisk, Empty, Exists, Stopped, NotSimulated, Started, NoRegion, TwiceMapped, NoFile, GenLimit, ReignLimit, Refused, DiskFault, Done, Ran};
-ghost use Rattle.world_defs.specs.Refusals.{refusal, generation_limit, reign_limit, unmapped, twice_mapped, started, first, region_number, no_file};
+ghost use Rattle.world_defs.specs.Refusals.{refusal, generation_limit, reign_limit, unmapped, twice_mapped, started, first, no_file};
+ghost use Rattle.site_defs.specs.Limits.{region_number};
 ghost use Rattle.world_defs.specs.Output.{text_of, section_text, show_state};
-ghost use Rattle.world_defs.specs.Rows.{created, opened, with_starts, with_pattern, with_reign, next_stamp, turn_of, FIRST_SERIALS};
-ghost use Rattle.world_defs.specs.Samples.{failed_place, blank_place, made_place, made, reigned_once, dropped_reign, two_regions};
+ghost use Rattle.world_defs.specs.Rows.{created, FIRST_SERIALS};
+ghost use Rattle.site_defs.specs.Opening.{opened, with_starts, with_pattern, with_reign, next_stamp};
+ghost use Rattle.site_defs.specs.Fronts.{turn_of};
+ghost use Rattle.world_defs.specs.Samples.{failed_place, blank_place, made_place};
+ghost use Rattle.site_defs.specs.Samples.{made, reigned_once, two_regions};
 
 /// A world without disks refuses what needs one; one whose only disk failed refuses what needs it until a crash.
 pub fn refusals_hold()
@@ -29,30 +34,11 @@ pub fn attaching_holds()
     ensures taken { refusal (record { places = made_place ∷ [] }) Attach ≡ None }
 {}
 
-/// The last generation and the last cycle are limits; a cycle is drawn past that of a reign that was dropped.
-pub fn limits_hold()
+/// The limits are those of a site's contents; a site that was created is the sample.
+pub fn causes_hold()
     ensures generations { generation_limit (record { instance = records.Cut 0 65534 ∷ []; starts = λ r. []; texts = []; sequence = [] }) ≡ Some GenLimit }
-    ensures one_less { generation_limit (record { instance = records.Cut 0 65533 ∷ []; starts = λ r. []; texts = []; sequence = [] }) ≡ None }
     ensures cycles { reign_limit (record { instance = records.Reigned (record { stamp = record { root = codes "Z"; cycle = 4294967295 }; start = 1 }) ∷ []; starts = λ r. []; texts = []; sequence = [] }) ≡ Some ReignLimit }
-    ensures dropped { (next_stamp (codes "A") dropped_reign).cycle ≡ 2 }
-{}
-
-/// What the first START of a site leaves, and the second, without an entry between them.
-pub fn openings_hold()
-    ensures first { (with_reign (codes "A") (opened [] (created (codes "A") (with_images (codes "R") ∷ [])))).instance ≡ reigned_once.instance }
-    ensures first_start { (with_reign (codes "A") (opened [] (created (codes "A") (with_images (codes "R") ∷ [])))).starts 0 ≡ reigned_once.starts 0 }
-    ensures cut { (opened [] reigned_once).instance ≡ reigned_once.instance ++ records.Cut 0 2 ∷ [] }
-    ensures starts { (opened [] reigned_once).starts 0 ≡ reigned_once.starts 0 ++ record { region = 0; before = true; generation = 2; previous = 1 } ∷ [] }
-    ensures texts { (opened (codes "x") reigned_once).texts ≡ [] ∷ codes "x" ∷ [] }
-    ensures cycle { (next_stamp (codes "A") (opened [] reigned_once)).cycle ≡ 2 }
-{}
-
-/// A generation begins in one region after another, and in no other region.
-pub fn regions_begin()
-    ensures first { (with_starts 1 two_regions).starts 0 ≡ record { region = 0; before = true; generation = 1; previous = 0 } ∷ [] }
-    ensures not_second { (with_starts 1 two_regions).starts 1 ≡ [] }
-    ensures second { (with_starts 2 two_regions).starts 1 ≡ record { region = 1; before = true; generation = 1; previous = 0 } ∷ [] }
-    ensures no_third { (with_starts 3 two_regions).starts 2 ≡ [] }
+    ensures created { (created (codes "A") (with_images (codes "R") ∷ [])).instance ≡ made.instance }
 {}
 
 /// A pattern is mapped to a region that is there, once, and before the first generation is drawn.

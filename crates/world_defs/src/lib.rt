@@ -5,6 +5,5 @@
 mod laws;
 
 pub use laws::{
-    attaching_holds, limits_hold, mapping_holds, openings_hold, output_holds, refusals_hold,
-    regions_begin, typing_holds,
+    attaching_holds, causes_hold, mapping_holds, output_holds, refusals_hold, typing_holds,
 };

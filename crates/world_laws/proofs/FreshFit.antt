@@ -1,8 +1,9 @@
 -- Worlds before a run, of empty disks or of those that another run gave back.
 use Rattle.std.proofs.Common.{◌≡◌, List, [], ◌∷◌, map, Option, None, IsTrue, sym, ◌∙◌, subst}
 use Rattle.std.specs.List.{AllByRecursion}
-use Rattle.world_defs.specs.Lists.{Along}
-use Rattle.world_defs.specs.World.{Site, Place, World, IsFresh, Settled, nothing}
+use Rattle.site_defs.specs.Lists.{Along}
+use Rattle.world_defs.specs.World.{Site, Place, World, IsFresh, Settled}
+use Rattle.site_defs.specs.Contents.{nothing}
 use Rattle.world_defs.specs.Fit.{IsFitContents, IsFitSite, IsNamedSo, IsFitPlace, IsFit}
 use Rattle.world_laws.specs.Again.{HasFitOutcomes, IsGivenBack}
 use Rattle.world_laws.proofs.ContentsFit.{fit-nothing}

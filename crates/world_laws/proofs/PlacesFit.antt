@@ -2,9 +2,11 @@
 use Rattle.std.proofs.Common.{◌≡◌, inl, inr, ℕ, List, Option, Some, None, IsTrue, refl, sym, ◌∙◌, subst}
 use Rattle.journal_defs.specs.Instance.{site_name}
 use Rattle.command_defs.specs.Commands.{Name, Region}
-use Rattle.world_defs.specs.Lists.{Among}
-use Rattle.world_defs.specs.World.{State, Down, Failed, Site, Contents, Place, World, Kept}
-use Rattle.world_defs.specs.Rows.{in_new_state, Becomes, Fails, FailsBefore, FailsUnchanged, OldOnes, created, Creates, MayCreate, Attaches, Maps, MayMapAny, with_pattern, Crashes}
+use Rattle.site_defs.specs.Lists.{Among}
+use Rattle.world_defs.specs.World.{State, Down, Failed, Site, Place, World, Kept}
+use Rattle.site_defs.specs.Contents.{Contents}
+use Rattle.world_defs.specs.Rows.{in_new_state, Becomes, Fails, FailsBefore, FailsUnchanged, OldOnes, created, Creates, MayCreate, Attaches, Maps, MayMapAny, Crashes}
+use Rattle.site_defs.specs.Opening.{with_pattern}
 use Rattle.world_defs.specs.Step.{KeptUnknown}
 use Rattle.world_defs.specs.Fit.{IsFitContents, IsFitSite, IsNamedSo, IsFitPlace}
 use Rattle.world_laws.proofs.ContentsFit.{fit-created, fit-pattern, name-pattern, fit-may_map, name-may_map}

@@ -8,10 +8,13 @@ use Rattle.journal_defs.specs.Instance.{generation, greatest_cycle, site_name}
 use Rattle.journal_defs.specs.Surviving.{reigns}
 use Rattle.journal_defs.specs.Fit.{MOST_REIGNS}
 use Rattle.command_defs.specs.Commands.{Name}
-use Rattle.world_defs.specs.World.{Down, Primary, Site, Contents, Place, is_site_named, same_name}
+use Rattle.world_defs.specs.World.{Down, Primary, Site, Place, is_site_named}
+use Rattle.site_defs.specs.Contents.{Contents, same_name}
 use Rattle.world_defs.specs.Answers.{ReignLimit}
-use Rattle.world_defs.specs.Refusals.{reign_limit, LAST_CYCLE}
-use Rattle.world_defs.specs.Rows.{in_new_state, Becomes, Fails, MayBeginAny, StartsPrimary, opened, with_reign, next_stamp, next_reign, FIRST_SERIALS}
+use Rattle.world_defs.specs.Refusals.{reign_limit}
+use Rattle.site_defs.specs.Limits.{LAST_CYCLE}
+use Rattle.world_defs.specs.Rows.{in_new_state, Becomes, Fails, MayBeginAny, StartsPrimary, FIRST_SERIALS}
+use Rattle.site_defs.specs.Opening.{opened, with_reign, next_stamp, next_reign}
 use Rattle.world_defs.specs.Fit.{IsBeforeNext, IsFitContents, IsFitReign, IsFitSite, IsNamedSo, IsFitPlace}
 use Rattle.world_laws.proofs.Lists.{all-weaker}
 use Rattle.world_laws.proofs.Instances.{cycle-cut, cycle-reign, room-less, room-reign}

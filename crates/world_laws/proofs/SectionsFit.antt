@@ -9,9 +9,11 @@ use Rattle.journal_defs.specs.Surviving.{reigns}
 use Rattle.journal_defs.specs.Fit.{MOST_REIGNS}
 use Rattle.command_defs.specs.Commands.{Name}
 use Rattle.command_defs.specs.Sections.{is_updater}
-use Rattle.world_defs.specs.World.{Primary, Site, Contents, Place}
+use Rattle.world_defs.specs.World.{Primary, Site, Place}
+use Rattle.site_defs.specs.Contents.{Contents}
 use Rattle.world_defs.specs.Answers.{Section}
-use Rattle.world_defs.specs.Rows.{in_new_state, IsFrontOf, with_sequence, turn_of}
+use Rattle.world_defs.specs.Rows.{in_new_state}
+use Rattle.site_defs.specs.Fronts.{IsFrontOf, with_sequence, turn_of}
 use Rattle.world_defs.specs.Step.{Runs, RunsTo, IsPicked}
 use Rattle.world_defs.specs.Fit.{IsFitContents, IsFitReign, IsFitSite, IsNamedSo, IsFitPlace}
 use Rattle.world_laws.proofs.Lists.{all-front}

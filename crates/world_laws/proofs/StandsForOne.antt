@@ -13,9 +13,9 @@ use Rattle.journal_defs.specs.Stands.{IsJournal, AreRecords}
 use Rattle.journal_defs.specs.Broken.{BrokenPart, parts_past, broken, broken_text}
 use Rattle.journal_laws.proofs.Readings.{holds_one, instance_body, records_one}
 use Rattle.journal_laws.proofs.Runs as runs
-use Rattle.world_defs.specs.World.{Contents, Leftover, NO_LEFTOVER}
-use Rattle.world_defs.specs.Rows.{IsBehind}
-use Rattle.world_defs.specs.Ties.{start_in, IsBlank, texts_of, IsSite, HasLeft, Stands, Reads}
+use Rattle.site_defs.specs.Contents.{Contents, Leftover, NO_LEFTOVER}
+use Rattle.site_defs.specs.Opening.{IsBehind}
+use Rattle.site_defs.specs.Stands.{start_in, IsBlank, texts_of, IsSite, HasLeft, Stands, Reads}
 
 -- what is behind the sequence
 

@@ -5,11 +5,14 @@ use Rattle.std.specs.List.{AllByRecursion, list_all}
 use Rattle.global_defs.specs.Jobs.{Job}
 use Rattle.command_defs.specs.Commands.{Name, Command, Create, Attach, Map, StartPrimary, Run, Stop, Fuse, Crash, Extract, Zwrite, Show, Print}
 use Rattle.command_defs.specs.Sections.{IsFormed, is_updater}
-use Rattle.world_defs.specs.Lists.{Along, At}
-use Rattle.world_defs.specs.World.{State, Down, Primary, Failed, Site, Contents, Place, World, Kept, is_site_named, place_of, next_of, at_place, site_of}
+use Rattle.site_defs.specs.Lists.{Along, At}
+use Rattle.world_defs.specs.World.{State, Down, Primary, Failed, Site, Place, World, Kept, is_site_named, place_of, next_of, at_place, site_of}
+use Rattle.site_defs.specs.Contents.{Contents}
 use Rattle.world_defs.specs.Answers.{Cause, NoSite, Stopped, Exists, NoDisk, NotEmpty, Empty, Running, NotRunning, NotPrimary, NotSimulated, Started, NoRegion, TwiceMapped, NoFile, GenLimit, ReignLimit, Refusal, Answer, Done, Refused, DiskFault, NotAFile, Section, Ran, Typed}
 use Rattle.world_defs.specs.Refusals.{first, refused_with, generation_limit, reign_limit, limited, early, late, or_else, refusal}
-use Rattle.world_defs.specs.Rows.{Becomes, Fails, FailsBefore, FailsUnchanged, OldOnes, Creates, MayCreate, Attaches, Maps, MayMapAny, StartsPrimary, MayBeginAny, Crashes, opened, turn_of}
+use Rattle.world_defs.specs.Rows.{Becomes, Fails, FailsBefore, FailsUnchanged, OldOnes, Creates, MayCreate, Attaches, Maps, MayMapAny, StartsPrimary, MayBeginAny, Crashes}
+use Rattle.site_defs.specs.Opening.{opened}
+use Rattle.site_defs.specs.Fronts.{turn_of}
 use Rattle.world_defs.specs.Step as step
 use Rattle.world_defs.specs.Step.{Unchanged, AtPlace, OnSite, Row, SectionRow, TypedRow, Faulted, KeptUnknown, Damaged, MayRefuse, StartRefused, RefusedLeaves, Means, Step, RunMayLeave, RunMayLeaveOn, MayLeave, subject, is_at, Leaves, LeftAt, CutOff}
 use Rattle.world_defs.specs.Runs.{Told, Runs, commands}

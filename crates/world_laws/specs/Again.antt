@@ -1,7 +1,8 @@
 -- Disks from one run to the next.
 use Rattle.std.specs.Prelude.{◌≡◌, None, IsTrue}
-use Rattle.world_defs.specs.Lists.{Among}
-use Rattle.world_defs.specs.World.{Contents, Place, NoNew, Same}
+use Rattle.site_defs.specs.Lists.{Among}
+use Rattle.world_defs.specs.World.{Place, NoNew, Same}
+use Rattle.site_defs.specs.Contents.{Contents}
 use Rattle.world_defs.specs.Fit.{IsFitContents}
 
 -- where its files are known, each outcome is fit

@@ -2,8 +2,9 @@
 
 ghost use Rattle.std.specs.Prelude.{◌≡◌, List, None, IsTrue, map};
 ghost use Rattle.std.specs.List.{AllByRecursion};
-ghost use Rattle.world_defs.specs.Lists.{Along};
-ghost use Rattle.world_defs.specs.World.{Place, World, IsFresh, Settled, nothing};
+ghost use Rattle.site_defs.specs.Lists.{Along};
+ghost use Rattle.world_defs.specs.World.{Place, World, IsFresh, Settled};
+ghost use Rattle.site_defs.specs.Contents.{nothing};
 ghost use Rattle.world_defs.specs.Fit.{IsFit};
 ghost use Rattle.world_laws.specs.Again.{HasFitOutcomes, IsGivenBack};
 

@@ -4,9 +4,9 @@ ghost use Rattle.std.specs.Prelude.{◌≡◌, ℕ, ◌-◌, ◌≤◌, [], ◌�
 ghost use Rattle.disk_defs.specs.Disk.{Files};
 ghost use Rattle.journal_defs.specs.Numbers.{broken_file};
 ghost use Rattle.journal_defs.specs.Instance.{generation};
-ghost use Rattle.world_defs.specs.World.{Contents, Leftover, NO_LEFTOVER};
-ghost use Rattle.world_defs.specs.Rows.{IsBehind};
-ghost use Rattle.world_defs.specs.Ties.{IsSite, HasLeft, Stands, Reads};
+ghost use Rattle.site_defs.specs.Contents.{Contents, Leftover, NO_LEFTOVER};
+ghost use Rattle.site_defs.specs.Opening.{IsBehind};
+ghost use Rattle.site_defs.specs.Stands.{IsSite, HasLeft, Stands, Reads};
 
 /// The files of a site have one thing behind its sequence, and its broken list is the text of some parts; there is nothing before the
 /// first generation.

@@ -1,5 +1,5 @@
 use Rattle.std.proofs.Common.{◌≡◌, ◌++◌, take}
-use Rattle.world_defs.specs.Output.{answers_text}
+use Rattle.site_defs.specs.Texts.{answers_text}
 use Rattle.repl_section.proofs.replying.write_answers.Given as goal
 
 abbrev pub invariant-loop-answer : goal.invariant-loop-answer

@@ -1,7 +1,7 @@
 use Rattle.std.proofs.Common.{◌++◌, List, ℕ, ◌∙◌, ap, sym, append_assoc}
 use Rattle.std.specs.Prelude.{codes}
 use Rattle.gvn_model.specs.declared.job.Reply.{Reply}
-use Rattle.world_defs.specs.Output.{reply_text}
+use Rattle.site_defs.specs.Texts.{reply_text}
 use Rattle.repl_section.specs.Replies.{reply_value}
 use Rattle.repl_section.proofs.Results.{on_ok}
 use Rattle.repl_section.proofs.replying.write_outcome.Goals as goal

@@ -1,6 +1,6 @@
 use Rattle.std.proofs.Common.{◌≡◌, ℕ, List, Some, ◌++◌, ◌<◌, length, map, sym, ◌∙◌, ap, subst}
 use Rattle.std.specs.Prelude.{codes}
-use Rattle.world_defs.specs.Lists.{first_where}
+use Rattle.site_defs.specs.Lists.{first_where}
 use Rattle.world_defs.specs.Output.{line}
 use Rattle.command_defs.specs.Commands as commands
 use Rattle.repl_script.specs.Commands.{region_value}

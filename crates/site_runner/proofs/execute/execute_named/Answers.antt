@@ -1,6 +1,6 @@
 use Rattle.std.proofs.Common.{◌≡◌, ℕ, List, Some, None, ◌++◌, ◌<◌, length, sym, ◌∙◌, ap, subst}
 use Rattle.std.specs.Prelude.{Option, codes}
-use Rattle.world_defs.specs.Lists.{first_where}
+use Rattle.site_defs.specs.Lists.{first_where}
 use Rattle.world_defs.specs.Output.{line, name_in}
 use Rattle.site_runner.specs.declared.slot.Slot.{Slot}
 use Rattle.site_runner.specs.Sites.{is_slot_named}

@@ -1,5 +1,5 @@
 use Rattle.std.proofs.Common.{◌≡◌, take, None}
-use Rattle.world_defs.specs.Lists.{first_where}
+use Rattle.site_defs.specs.Lists.{first_where}
 use Rattle.site_runner.specs.Sites.{is_slot_named}
 use Rattle.site_runner.proofs.finding.find.Given as goal
 

@@ -1,6 +1,6 @@
 use Rattle.std.proofs.Common.{◌≡◌, take, None}
 use Rattle.std.specs.Prelude.{option_map}
-use Rattle.world_defs.specs.Lists.{first_where}
+use Rattle.site_defs.specs.Lists.{first_where}
 use Rattle.world_defs.specs.World.{is_free}
 use Rattle.site_runner.specs.Sites.{site_value}
 use Rattle.site_runner.proofs.finding.find_free.Given as goal

@@ -1,7 +1,7 @@
 use Rattle.std.proofs.Common.{◌≡◌, ◌<◌, ℕ, subst, List, take, map, Some, None, sym, ◌∙◌, ap, arith, Err}
 use Rattle.std.specs.Prelude.{Option}
-use Rattle.world_defs.specs.Lists.{first_where}
-use Rattle.world_defs.specs.World.{same_name}
+use Rattle.site_defs.specs.Lists.{first_where}
+use Rattle.site_defs.specs.Contents.{same_name}
 use Rattle.site_store.specs.declared.layout.Layout.{Layout}
 use Rattle.site_store.specs.Opening.{region_value}
 use Rattle.site_runner.proofs.Results.{on_ok, err_holds}

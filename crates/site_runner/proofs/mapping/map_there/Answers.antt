@@ -1,7 +1,7 @@
 use Rattle.std.proofs.Common.{ap, ◌∙◌, Err, Option, None, Some, IfSome}
 use Rattle.disk_defs.specs.Disk.{Files}
-use Rattle.world_defs.specs.World.{Contents}
-use Rattle.world_defs.specs.Ties.{IsSite}
+use Rattle.site_defs.specs.Contents.{Contents}
+use Rattle.site_defs.specs.Stands.{IsSite}
 use Rattle.site_runner.proofs.Results.{on_ok, err_holds}
 use Rattle.site_runner.proofs.Written.{named, not_a_file}
 use Rattle.site_runner.proofs.Mapped.{there_done, there_faulted, there_damaged, there_cut}

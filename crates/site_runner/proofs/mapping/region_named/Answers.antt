@@ -1,8 +1,8 @@
 use Rattle.std.proofs.Common.{◌≡◌, ◌<◌, ◌≤◌, min, ℕ, Bool, List, length, take, get_or, sym, ◌∙◌, ap, subst, arith, add-one, nat_eq}
 use Rattle.std.specs.Cmp.Lexicographic.{pointwise}
 use Rattle.journal_defs.specs.Instance.{NamedMode}
-use Rattle.world_defs.specs.Lists.{first_where}
-use Rattle.world_defs.specs.World.{same_name}
+use Rattle.site_defs.specs.Lists.{first_where}
+use Rattle.site_defs.specs.Contents.{same_name}
 use Rattle.site_store.specs.declared.layout.RegionSpec.{RegionSpec}
 use Rattle.site_store.specs.Opening.{region_value}
 use Rattle.site_runner.proofs.FirstWhere.{found, one_more, first_map, all_taken}

@@ -1,6 +1,6 @@
 use Rattle.std.proofs.Common.{◌≡◌, take, None}
-use Rattle.world_defs.specs.Lists.{first_where}
-use Rattle.world_defs.specs.World.{same_name}
+use Rattle.site_defs.specs.Lists.{first_where}
+use Rattle.site_defs.specs.Contents.{same_name}
 use Rattle.site_store.specs.declared.layout.RegionSpec.{RegionSpec}
 use Rattle.site_runner.proofs.mapping.region_named.Given as goal
 

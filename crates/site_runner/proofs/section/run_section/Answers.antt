@@ -2,7 +2,7 @@ use Rattle.std.proofs.Common.{Bool, ◌++◌, ℕ, List, ◌∙◌, ap, sym, sub
 use Rattle.std.specs.Prelude.{codes}
 use Rattle.std.specs.Fmt.{decimal}
 use Rattle.world_defs.specs.Output.{line, fault_line}
-use Rattle.world_defs.specs.World.{Contents}
+use Rattle.site_defs.specs.Contents.{Contents}
 use Rattle.repl_section.specs.Reigns.{Reigns, stamp_of}
 use Rattle.repl_section.specs.Deciding.{Breaks, IsFault}
 use Rattle.repl_section.specs.declared.running.RunError.{RunError}

@@ -10,8 +10,8 @@ use Rattle.journal_defs.specs.Numbers.{INSTANCE}
 use Rattle.journal_defs.specs.Instance.{InstanceRecord}
 use Rattle.journal_defs.specs.Stands.{IsInstance}
 use Rattle.site_files.specs.Loading.{IsDirectory}
-use Rattle.world_defs.specs.World.{Contents}
-use Rattle.world_defs.specs.Ties.{Stands}
+use Rattle.site_defs.specs.Contents.{Contents}
+use Rattle.site_defs.specs.Stands.{Stands}
 use Rattle.site_store.specs.Finding.{IsLaidOut, IsFound}
 use Rattle.site_store.specs.declared.layout.Layout.{Layout}
 use Rattle.site_store.specs.declared.error.SiteError.TheVariants.{NotAFile}

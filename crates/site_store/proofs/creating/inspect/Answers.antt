@@ -1,6 +1,6 @@
 use Rattle.std.proofs.Common.{Option, IfSome, subst}
-use Rattle.world_defs.specs.World.{Contents}
-use Rattle.world_defs.specs.Ties.{Stands}
+use Rattle.site_defs.specs.Contents.{Contents}
+use Rattle.site_defs.specs.Stands.{Stands}
 use Rattle.site_store.specs.Finding.{IsFound, layout_in}
 use Rattle.site_store.specs.declared.layout.FoundSite.{FoundSite}
 use Rattle.site_store.proofs.creating.inspect.Goals as goal

@@ -6,9 +6,9 @@ use Rattle.disk_defs.proofs.Told.{weaker_told}
 use Rattle.journal_defs.specs.Numbers.{INSTANCE}
 use Rattle.journal_defs.specs.Instance.{InstanceRecord, generation, regions, pattern_record}
 use Rattle.journal_defs.specs.Stands.{IsInstance}
-use Rattle.world_defs.specs.World.{Contents}
-use Rattle.world_defs.specs.Rows.{with_pattern}
-use Rattle.world_defs.specs.Ties.{IsSite}
+use Rattle.site_defs.specs.Contents.{Contents}
+use Rattle.site_defs.specs.Opening.{with_pattern}
+use Rattle.site_defs.specs.Stands.{IsSite}
 use Rattle.site_files.specs.Outside.{IsNoInstance}
 use Rattle.site_store.specs.Refusing.{TakesNoPattern}
 use Rattle.site_store.specs.Opening.{EachStands}

@@ -5,9 +5,9 @@ use Rattle.disk_defs.proofs.Moments.{started}
 use Rattle.journal_defs.specs.Numbers.{INSTANCE}
 use Rattle.journal_defs.specs.Instance.{regions, pattern_record}
 use Rattle.journal_defs.specs.Stands.{IsInstance}
-use Rattle.world_defs.specs.World.{Contents}
-use Rattle.world_defs.specs.Rows.{with_pattern}
-use Rattle.world_defs.specs.Ties.{IsSite}
+use Rattle.site_defs.specs.Contents.{Contents}
+use Rattle.site_defs.specs.Opening.{with_pattern}
+use Rattle.site_defs.specs.Stands.{IsSite}
 use Rattle.site_store.specs.Opening.{EachStands}
 use Rattle.site_store.proofs.Mapped.{pattern_form, map_moments, map_stands, map_reads, map_images}
 use Rattle.site_store.proofs.mapping.map_logged.Goals as goal

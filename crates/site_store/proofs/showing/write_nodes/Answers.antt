@@ -1,7 +1,7 @@
 use Rattle.std.proofs.Common.{◌++◌, take, map, ap, sym, ◌∙◌, append_assoc}
 use Rattle.std.specs.List.{flat_map}
 use Rattle.gvn_globals.specs.Lists.{listed_value}
-use Rattle.world_defs.specs.Output.{node_line}
+use Rattle.site_defs.specs.Texts.{node_line}
 use Rattle.global_defs.specs.Prefix.{IsPrefix}
 use Rattle.site_store.proofs.Typed.{whatever_error}
 use Rattle.site_store.proofs.Pieces.{written_more}

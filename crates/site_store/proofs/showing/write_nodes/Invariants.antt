@@ -1,7 +1,7 @@
 use Rattle.std.proofs.Common.{◌≡◌, ◌++◌, take, map}
 use Rattle.std.specs.List.{flat_map}
 use Rattle.gvn_globals.specs.Lists.{listed_value}
-use Rattle.world_defs.specs.Output.{node_line}
+use Rattle.site_defs.specs.Texts.{node_line}
 use Rattle.site_store.proofs.showing.write_nodes.Given as goal
 
 abbrev pub invariant-loop-node : goal.invariant-loop-node

@@ -4,7 +4,7 @@ use Rattle.std.specs.Prelude.{IsTrue, Err}
 use Rattle.global_defs.specs.Jobs.{Job}
 use Rattle.global_defs.specs.Serial.{next_job}
 use Rattle.gvn_model.specs.Jobs.{job_value}
-use Rattle.world_defs.specs.Rows.{with_sequence, turn_of}
+use Rattle.site_defs.specs.Fronts.{with_sequence, turn_of}
 use Rattle.repl_section.specs.declared.error.DecideError.TheVariants.{Failed}
 use Rattle.repl_section.specs.Reigns.{Reigns, stamp_of}
 use Rattle.repl_section.specs.Deciding.{MayHave, HasReached, FailsAt}

@@ -1,6 +1,6 @@
 use Rattle.std.proofs.Common.{◌≡◌, ◌≤◌, ◌+◌, Bool, length}
 use Rattle.site_store.specs.Site.{IsReady, HasReign}
-use Rattle.world_defs.specs.World.{Contents}
+use Rattle.site_defs.specs.Contents.{Contents}
 use Rattle.repl_section.specs.Reigns.{Reigns, stamp_of}
 use Rattle.repl_section.proofs.Turns.{HasGone, come_to}
 use Rattle.repl_section.proofs.reign.Reign.run.Given as goal

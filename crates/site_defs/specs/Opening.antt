@@ -1,0 +1,66 @@
+-- What opening a site, beginning a reign and mapping make of its contents.
+use Rattle.site_defs.specs.Contents.{Name}
+use Rattle.std.specs.Prelude.{◌≡◌, ◌⊎◌, ℕ, ◌+◌, ◌&&◌, nat_lt, true, List, [], ◌∷◌, ◌++◌, length, Some, if◌then◌else◌}
+use Rattle.std.specs.Option.{unwrap_or}
+use Rattle.global_defs.specs.Entry.{Stamp, Reign}
+use Rattle.journal_defs.specs.Journal.{Start}
+use Rattle.journal_defs.specs.Instance as records
+use Rattle.journal_defs.specs.Instance.{NamedMode, InstanceRecord, pattern_record, generation, greatest_cycle, mode_of, site_name, regions}
+use Rattle.journal_defs.specs.Broken.{BrokenPart, broken_text}
+use Rattle.site_defs.specs.Contents.{Contents, Leftover}
+use Rattle.site_defs.specs.Limits.{region_number}
+
+-- what is broken behind these contents is the text of some parts
+abbrev pub IsBehind : Contents → Leftover → Type 0
+IsBehind c left = (parts : List BrokenPart) × (left.broken ≡ broken_text (site_name c.instance) (length c.sequence) parts)
+
+-- MAP: the pattern that is written so is one more of the instance file
+abbrev pub with_pattern : ℕ → List ℕ → Contents → Contents
+with_pattern region text c = record { instance = c.instance ++ pattern_record region text ∷ []; starts = c.starts; texts = c.texts; sequence = c.sequence }
+
+-- what mapping may leave of these contents: the same, or with the pattern
+abbrev pub MayMap : Name → List ℕ → Contents → Contents → Type 0
+MayMap region text c o = (o ≡ c) ⊎ ((number : ℕ) × (region_number region c ≡ Some number) × (o ≡ with_pattern number text c))
+
+-- with a CUT of its length, and the text of what is broken
+abbrev pub cut_there : List ℕ → Contents → Contents
+cut_there broken c = record { instance = c.instance ++ records.Cut (length c.sequence) (generation c.instance + 1) ∷ []; starts = c.starts; texts = c.texts ++ broken ∷ []; sequence = c.sequence }
+
+-- the generation of the last of these, or the one before them
+abbrev pub last_generation : ℕ → List Start → ℕ
+last_generation g [] = g
+last_generation g (s ∷ ss) = last_generation s.generation ss
+
+-- how the newest generation begins in a region: in the mode that it has, behind the last one that began there
+abbrev pub start_of : Contents → ℕ → Start
+start_of c r = record { region = r; before = unwrap_or (mode_of c.instance r) true; generation = generation c.instance; previous = last_generation 0 (c.starts r) }
+
+-- where it has begun in the first k regions
+abbrev pub starts_in : ℕ → Contents → ℕ → List Start
+starts_in k c r = if nat_lt r k && nat_lt r (length (regions c.instance)) then start_of c r ∷ [] else []
+
+-- and its newest generation has begun in the first k regions
+abbrev pub with_starts : ℕ → Contents → Contents
+with_starts k c = record { instance = c.instance; starts = λ r. c.starts r ++ starts_in k c r; texts = c.texts; sequence = c.sequence }
+
+-- in all of them
+abbrev pub opened : List ℕ → Contents → Contents
+opened broken c = with_starts (length (regions c.instance)) (cut_there broken c)
+
+-- A reign begins behind the last entry, under the site's name and a cycle past that of every reign that there was.
+abbrev pub next_stamp : Name → Contents → Stamp
+next_stamp name c = record { root = name; cycle = greatest_cycle c.instance + 1 }
+
+abbrev pub next_reign : Name → Contents → Reign
+next_reign name c = record { stamp = next_stamp name c; start = length c.sequence + 1 }
+
+abbrev pub with_reign : Name → Contents → Contents
+with_reign name c = record { instance = c.instance ++ records.Reigned (next_reign name c) ∷ []; starts = c.starts; texts = c.texts; sequence = c.sequence }
+
+-- what opening may leave of these contents: the same, or with a CUT and the next generation begun in the first k regions
+abbrev pub MayOpen : List ℕ → Contents → Contents → Type 0
+MayOpen broken c o = (o ≡ c) ⊎ ((k : ℕ) × (o ≡ with_starts k (cut_there broken c)))
+
+-- what beginning a reign may leave of them: what opening may, or opened and with the reign
+abbrev pub MayBegin : Name → List ℕ → Contents → Contents → Type 0
+MayBegin name broken c o = MayOpen broken c o ⊎ (o ≡ with_reign name (opened broken c))

@@ -1,0 +1,56 @@
+-- What files stand for.
+use Rattle.std.specs.Prelude.{◌≡◌, ◌≢◌, ◌⊎◌, ℕ, zero, suc, ◌<◌, true, List, [], ◌∷◌, ◌++◌, length, Option, Some, None}
+use Rattle.std.specs.List.{AllByRecursion, filter_map}
+use Rattle.disk_defs.specs.Disk.{Files}
+use Rattle.disk_defs.specs.Gates as gates
+use Rattle.journal_defs.specs.Numbers.{INSTANCE, broken_file}
+use Rattle.journal_defs.specs.Journal.{JournalRecord, Start, Pini, Epoch, Pblk, Tcom}
+use Rattle.journal_defs.specs.Instance.{regions, generation, site_name}
+use Rattle.journal_defs.specs.Directory.{Pattern, patterns}
+use Rattle.journal_defs.specs.Sequence.{Records}
+use Rattle.journal_defs.specs.Stands.{AreRecords}
+use Rattle.journal_defs.specs.Broken.{broken, broken_text}
+use Rattle.journal_defs.specs.Fit.{IsSoundImage}
+use Rattle.site_defs.specs.Contents.{Contents, Leftover, NO_LEFTOVER, nothing, is_made}
+
+-- how a generation begins, where the record says it
+abbrev pub start_in : JournalRecord → Option Start
+start_in (Pini s) = Some s
+start_in (Epoch m) = None
+start_in (Pblk b) = None
+start_in (Tcom p) = None
+
+-- No site was made there: the instance file has no open record, and no other file has a byte.
+pub record IsBlank (files : Files) : Type 0 where
+  pub instance : gates.records (files INSTANCE) ≡ Some []
+  pub others : (f : ℕ) → f ≢ INSTANCE → files f ≡ []
+
+-- the broken-transaction files of the first g generations
+abbrev pub texts_of : Files → ℕ → List (List ℕ)
+texts_of files zero = []
+texts_of files (suc g) = texts_of files g ++ files (broken_file (suc g)) ∷ []
+
+-- The files of a site that stand for this, are clean, and are sound for every target. Each pattern is for a region of it.
+pub record IsSite (files : Files) (c : Contents) : Type 0 where
+  pub made : is_made c ≡ true
+  pub mapped : AllByRecursion (λ (p : Pattern). p.region < length (regions c.instance)) (patterns c.instance)
+  pub records : Records
+  pub instance : records.instance ≡ c.instance
+  pub starts : (r : ℕ) → c.starts r ≡ filter_map (λ p. start_in p.what) (records.journal r)
+  pub texts : c.texts ≡ texts_of files (generation c.instance)
+  pub image : IsSoundImage files records c.sequence
+
+-- The files of that site have this behind its sequence.
+pub record HasLeft (files : Files) (c : Contents) (left : Leftover) : Type 0 where
+  pub records : Records
+  pub held : AreRecords files records
+  pub broken : left.broken ≡ broken_text (site_name c.instance) (length c.sequence) (broken records (length c.sequence))
+  pub torn : left.torn ≡ files (broken_file (suc (generation c.instance)))
+
+-- the files stand for this
+abbrev pub Stands : Files → Contents → Type 0
+Stands files c = ((c ≡ nothing) × IsBlank files) ⊎ IsSite files c
+
+-- the files stand for this, with that behind it
+abbrev pub Reads : Files → Contents → Leftover → Type 0
+Reads files c left = ((c ≡ nothing) × (left ≡ NO_LEFTOVER) × IsBlank files) ⊎ (IsSite files c × HasLeft files c left)

@@ -1,0 +1,32 @@
+// What the definitions come to on small values.
+ghost use Rattle.std.specs.Prelude.{◌≡◌, ◌∷◌, ◌++◌, [], codes, true, false};
+ghost use Rattle.journal_defs.specs.Instance as records;
+ghost use Rattle.site_defs.specs.Limits.{no_generation_left, no_reign_left};
+ghost use Rattle.site_defs.specs.Opening.{opened, with_starts, with_reign, next_stamp};
+ghost use Rattle.site_defs.specs.Samples.{made, reigned_once, dropped_reign, two_regions};
+
+/// The last generation and the last cycle are limits; a cycle is drawn past that of a reign that was dropped.
+pub fn limits_hold()
+    ensures generations { no_generation_left (record { instance = records.Cut 0 65534 ∷ []; starts = λ r. []; texts = []; sequence = [] }) ≡ true }
+    ensures one_less { no_generation_left (record { instance = records.Cut 0 65533 ∷ []; starts = λ r. []; texts = []; sequence = [] }) ≡ false }
+    ensures cycles { no_reign_left (record { instance = records.Reigned (record { stamp = record { root = codes "Z"; cycle = 4294967295 }; start = 1 }) ∷ []; starts = λ r. []; texts = []; sequence = [] }) ≡ true }
+    ensures dropped { (next_stamp (codes "A") dropped_reign).cycle ≡ 2 }
+{}
+
+/// What the first START of a site leaves, and the second, without an entry between them.
+pub fn openings_hold()
+    ensures first { (with_reign (codes "A") (opened [] made)).instance ≡ reigned_once.instance }
+    ensures first_start { (with_reign (codes "A") (opened [] made)).starts 0 ≡ reigned_once.starts 0 }
+    ensures cut { (opened [] reigned_once).instance ≡ reigned_once.instance ++ records.Cut 0 2 ∷ [] }
+    ensures starts { (opened [] reigned_once).starts 0 ≡ reigned_once.starts 0 ++ record { region = 0; before = true; generation = 2; previous = 1 } ∷ [] }
+    ensures texts { (opened (codes "x") reigned_once).texts ≡ [] ∷ codes "x" ∷ [] }
+    ensures cycle { (next_stamp (codes "A") (opened [] reigned_once)).cycle ≡ 2 }
+{}
+
+/// A generation begins in one region after another, and in no other region.
+pub fn regions_begin()
+    ensures first { (with_starts 1 two_regions).starts 0 ≡ record { region = 0; before = true; generation = 1; previous = 0 } ∷ [] }
+    ensures not_second { (with_starts 1 two_regions).starts 1 ≡ [] }
+    ensures second { (with_starts 2 two_regions).starts 1 ≡ record { region = 1; before = true; generation = 1; previous = 0 } ∷ [] }
+    ensures no_third { (with_starts 3 two_regions).starts 2 ≡ [] }
+{}

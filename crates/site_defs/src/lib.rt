@@ -1,0 +1,7 @@
+//! Definitions: what the files of a site stand for, and what opening it, a reign and a section make of that. There is no command
+//! here and no answer, and no code but laws, each the contract of a function that does nothing.
+#![tactic(auto)]
+
+mod laws;
+
+pub use laws::{limits_hold, openings_hold, regions_begin};
