@@ -1,6 +1,6 @@
 -- The oldest images of blocks.
 use Rattle.std.proofs.Common.{◌≡◌, inl, inr, ℕ, ◌*◌, ◌<◌, ◌≤◌, ◌==◌, nat_lt, true, false, List, [], ◌∷◌, ◌++◌, length, take, drop, map, max, replicate, Option, Some, None, is_some, refl, sym, ◌∙◌, ap, arith, unwrap_or}
-use Rattle.std.specs.Prelude.{Result, Ok, Err, OnOk, IfSome}
+use Rattle.std.specs.Prelude.{Result, Ok, Err, OnOk, IfSome, if◌then◌else◌}
 use Rattle.std.specs.Option.{option_or}
 use Rattle.std.proofs.lemmas.Bool.{cases_eq}
 use Rattle.std.proofs.lemmas.Bool.Decides.{nat_tests}
