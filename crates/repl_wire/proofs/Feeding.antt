@@ -78,8 +78,8 @@ pub refuses_more : (offset : ℕ) (bytes : List ℕ) (before after : List Frame)
     → Takes offset bytes before after at rest → Refuses at rest after later at_later → Refuses offset bytes before later at_later
 refuses_more offset bytes before after at rest later at_later t r = record { rest = r.rest; takes = takes_more offset bytes before after at rest later at_later r.rest t r.takes; none = r.none }
 
-pub prefix_more : (before after later : List Frame) → IsPrefix before after → IsPrefix after later → IsPrefix before later
-prefix_more before after later p q = (p.0 ++ q.0, q.1 ∙ ap (λ (l : List Frame). l ++ q.0) p.1 ∙ append_assoc before p.0 q.0)
+pub prefix_more : {X : Type 0} (before after later : List X) → IsPrefix before after → IsPrefix after later → IsPrefix before later
+prefix_more {X} before after later p q = (p.0 ++ q.0, q.1 ∙ ap (λ (l : List X). l ++ q.0) p.1 ∙ append_assoc before p.0 q.0)
 
 pub prefix_same : (before : List Frame) → IsPrefix before before
 prefix_same before = ([], sym (append-nil before))
