@@ -14,7 +14,7 @@ use Rattle.world_defs.specs.Refusals.{stopped, not_running, not_simulated}
 use Rattle.world_defs.specs.Rows.{in_new_state}
 use Rattle.site_defs.specs.Opening.{IsBehind}
 use Rattle.world_defs.specs.Output.{line}
-use Rattle.world_defs.specs.Ties as ties
+use Rattle.site_defs.specs.Stands as stands
 use Rattle.site_defs.specs.Stands.{Stands}
 use Rattle.site_runner.specs.declared.slot.State.TheVariants.{Down}
 use Rattle.site_runner.specs.declared.slot.Site.{Site}
@@ -44,7 +44,7 @@ record CrashPlace (f : Files) (p : Place) : Type 0 where
   left : Leftover
   among : p.told ≡ true → Among p.outcomes now
   behind : p.told ≡ true → IsBehind now left
-  reads : p.told ≡ true → ties.Reads f now left
+  reads : p.told ≡ true → stands.Reads f now left
 
 crash_place : (leftovers : Leftovers) (f : Files) (p : Place) → (p.told ≡ true → (o : Contents) × Among p.outcomes o × Stands f o) → CrashPlace f p
 crash_place leftovers f p images = elim (is_true_or_false p.told) [
@@ -80,7 +80,7 @@ crashes leftovers v w s pick before now law sim up image durable same count t p 
       ),
       record {
         disk = record {
-          told = λ yes. subst (λ (x : Option Files). IsSomeAnd x (λ files. ties.Reads files o m.left)) (sym d.1) (m.reads yes);
+          told = λ yes. subst (λ (x : Option Files). IsSomeAnd x (λ files. stands.Reads files o m.left)) (sym d.1) (m.reads yes);
           images = λ yes c j. (o, inl refl, subst (λ (x : Files). Stands x o) (sym (u c j)) (reads_stand f o m.left (m.reads yes)));
           faults = count ∙ h.disk.faults;
           simulated = same ∙ h.disk.simulated;
@@ -106,7 +106,7 @@ fused v w s calls before now r count sim up t p h = (
   (no_cause _ _ (state_at stopped v s p h ∙ not_stopped s.state up) (simulated_at v s p true h sim), kept_same p),
   record {
     disk = record {
-      told = λ yes. subst (λ (x : Option Files). IsSomeAnd x (λ files. ties.Reads files p.now p.left)) (sym r.content) (h.disk.told yes);
+      told = λ yes. subst (λ (x : Option Files). IsSomeAnd x (λ files. stands.Reads files p.now p.left)) (sym r.content) (h.disk.told yes);
       images = λ yes c j.
           let k = r.passes.images c j in
           h.disk.images yes c (subst (Image v) (sym k.2) k.1);

@@ -1,5 +1,5 @@
 -- MAP at a place.
-use Rattle.std.proofs.Common.{◌≡◌, ℕ, ◌≤◌, ◌<◌, true, false, List, [], ◌∷◌, ◌++◌, length, None, Some, refl, sym, ◌∙◌, ap, subst, arith, inl, inr}
+use Rattle.std.proofs.Common.{◌≡◌, ℕ, ◌≤◌, true, false, List, [], ◌∷◌, ◌++◌, None, Some, refl, sym, ◌∙◌, ap, subst, arith, inl, inr}
 use Rattle.std.specs.Prelude.{◌⊎◌, Option, codes, IfSome, IsSome, IsSomeAnd}
 use Rattle.std.specs.Fmt.{decimal}
 use Rattle.std.proofs.lemmas.Bool.{false≢true}
@@ -10,7 +10,7 @@ use Rattle.command_defs.specs.Commands.{Name, Command, Map}
 use Rattle.site_defs.specs.Lists.{Among, first_where}
 use Rattle.world_defs.specs.World as world
 use Rattle.world_defs.specs.World.{Place}
-use Rattle.site_defs.specs.Contents.{Contents, Leftover, NO_LEFTOVER, same_name}
+use Rattle.site_defs.specs.Contents.{Contents, NO_LEFTOVER, same_name}
 use Rattle.world_defs.specs.Answers.{Cause, Stopped, Running, Answer, Refused, Done, DiskFault, NotAFile}
 use Rattle.world_defs.specs.Refusals.{first, in_state, stopped, running, unmapped}
 use Rattle.site_defs.specs.Limits.{region_number}

@@ -1,4 +1,4 @@
-use Rattle.std.proofs.Common.{◌-◌, ◌++◌, drop, sym, ◌∙◌, ap, subst, List, ℕ}
+use Rattle.std.proofs.Common.{◌++◌, drop, sym, ◌∙◌, ap, subst, List, ℕ}
 use Rattle.site_runner.specs.declared.slot.State.{State}
 use Rattle.site_runner.specs.Steps.{ExtractsFrom}
 use Rattle.site_runner.proofs.Results.{on_ok}
