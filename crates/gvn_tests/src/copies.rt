@@ -1,6 +1,7 @@
 // Lists and copies with memory to spare, and jobs in turn.
+use crate::rows::{holds, same};
 use gvn_globals::Globals;
-use gvn_key::terms::Update;
+use gvn_key::terms::{Statement, Update};
 use gvn_key::{Bytes, Key};
 use gvn_model::{
     Entries, Entry, History, Job, JobQueue, Jobs, NamedModes, Origin, Reign, Reigns, Stamp,
@@ -8,165 +9,182 @@ use gvn_model::{
 };
 use gvn_text::read_statement;
 use std::alloc::Global;
-use std::test::Fail;
+use std::process::Abort;
 
-fn reign(alloc: Global, cycle: u32, start: u64) -> Result<Reign, Fail> {
-    let root = Bytes::of(alloc, b"A")?;
-    Ok(Reign {
-        stamp: Stamp { root, cycle },
-        start,
-    })
+fn stamp(rt: &impl Abort, alloc: Global, cycle: u32) -> Stamp {
+    let root = Bytes::of(alloc, b"A").expect(rt, "memory");
+    Stamp { root, cycle }
+}
+
+/// The reigns A.1 from 1 and A.2 from 7, and 9 entries.
+fn two_reigns(rt: &impl Abort, alloc: Global) -> History {
+    let mut reigns = Reigns::new(alloc);
+    for (cycle, start) in [(1, 1), (2, 7)] {
+        let stamp = stamp(rt, alloc, cycle);
+        reigns.push(Reign { stamp, start }).expect(rt, "memory");
+    }
+    History { length: 9, reigns }
 }
 
 #[test]
-fn copies_a_history(rt: HostRuntime) -> Result<(), Fail> {
-    let mut reigns = Reigns::new(rt.alloc());
-    reigns.push(reign(rt.alloc(), 1, 1)?)?;
-    reigns.push(reign(rt.alloc(), 2, 7)?)?;
-    let history = History { length: 9, reigns };
-    let made = history.copy()?;
-    assert_eq!(rt; made.length, 9);
-    assert_eq!(rt; made.reigns.len(), 2);
-    assert_eq!(rt; made.reigns.is_empty(), false);
-    assert_eq!(rt; made.reigns.as_slice()[1].start, 7);
-    assert_eq!(rt; history.reigns.item(1).stamp.cycle, 2);
-    Ok(())
+fn copies_a_history(rt: HostRuntime) {
+    let history = two_reigns(&rt, rt.alloc());
+    let made = history.copy().expect(&rt, "memory");
+    holds(&rt, made.length == 9, b"the length");
+    holds(&rt, made.reigns.len() == 2, b"two reigns");
+    holds(&rt, !made.reigns.is_empty(), b"some reigns");
+    holds(&rt, made.reigns.as_slice()[1].start == 7, b"the start");
+    let reign = history.reigns.item(1);
+    holds(&rt, reign.stamp.cycle == 2, b"the cycle");
+}
+
+fn key(rt: &impl Abort, alloc: Global, text: &[u8]) -> Key {
+    Key::parse(alloc, text).expect(rt, "a key")
+}
+
+/// SET of a node to "a".
+fn set(rt: &impl Abort, alloc: Global, text: &[u8]) -> Update {
+    let value = Bytes::of(alloc, b"a").expect(rt, "memory");
+    Update::Set(key(rt, alloc, text), value)
+}
+
+/// A SET and a KILL.
+fn two_updates(rt: &impl Abort, alloc: Global) -> Updates {
+    let mut updates = Updates::new(alloc);
+    updates.push(set(rt, alloc, b"^X")).expect(rt, "memory");
+    let kill = Update::Kill(key(rt, alloc, b"^Y"));
+    updates.push(kill).expect(rt, "memory");
+    updates
 }
 
 /// Entry 3, the fifth job of updater 2, with these updates.
-fn entry(alloc: Global, updates: Updates) -> Result<Entry, Fail> {
+fn entry(rt: &impl Abort, alloc: Global, updates: Updates) -> Entry {
     let origin = Origin {
         updater: 2,
         serial: 5,
     };
-    Ok(Entry {
+    Entry {
         number: 3,
-        stamp: reign(alloc, 1, 1)?.stamp,
+        stamp: stamp(rt, alloc, 1),
         transaction: Transaction { origin, updates },
-    })
-}
-
-/// A SET and a KILL.
-fn two_updates(alloc: Global) -> Result<Updates, Fail> {
-    let mut updates = Updates::new(alloc);
-    updates.push(Update::Set(Key::new(alloc, b"X", &[])?, Bytes::of(alloc, b"a")?))?;
-    updates.push(Update::Kill(Key::new(alloc, b"Y", &[])?))?;
-    Ok(updates)
-}
-
-#[test]
-fn copies_an_entry(rt: HostRuntime) -> Result<(), Fail> {
-    assert_eq!(rt; Updates::new(rt.alloc()).is_empty(), true);
-    let entry = entry(rt.alloc(), two_updates(rt.alloc())?)?;
-    let made = entry.copy()?;
-    assert_eq!(rt; made.number, 3);
-    assert_eq!(rt; made.stamp.root.as_slice(), b"A".as_slice());
-    assert_eq!(rt; made.transaction.origin, entry.transaction.origin);
-    assert_eq!(rt; made.transaction.updates.len(), 2);
-    assert!(rt; matches!(entry.transaction.updates.item(1), Update::Kill(_)));
-    assert!(rt; matches!(made.transaction.updates.as_slice()[0], Update::Set(..)));
-    Ok(())
-}
-
-#[test]
-fn copies_a_list_of_entries(rt: HostRuntime) -> Result<(), Fail> {
-    let mut entries = Entries::new(rt.alloc());
-    assert_eq!(rt; entries.is_empty(), true);
-    entries.push(entry(rt.alloc(), Updates::new(rt.alloc()))?)?;
-    let made = entries.copy()?;
-    assert_eq!(rt; made.len(), 1);
-    assert_eq!(rt; made.item(0).number, 3);
-    assert_eq!(rt; entries.as_slice().len(), 1);
-    Ok(())
-}
-
-/// The node `^X`, or one below it.
-fn node(alloc: Global, sub: Option<&[u8]>) -> Result<Key, Fail> {
-    let mut subs = Vec::new(alloc);
-    if let Some(sub) = sub {
-        subs.push(Bytes::of(alloc, sub)?)?;
     }
-    Ok(Key::new(alloc, b"X", &subs)?)
+}
+
+#[test]
+fn copies_an_entry(rt: HostRuntime) {
+    holds(&rt, Updates::new(rt.alloc()).is_empty(), b"no updates");
+    let entry = entry(&rt, rt.alloc(), two_updates(&rt, rt.alloc()));
+    let made = entry.copy().expect(&rt, "memory");
+    holds(&rt, made.number == 3, b"the number");
+    same(&rt, made.stamp.root.as_slice(), b"A");
+    let (t, u) = (&made.transaction, &entry.transaction);
+    holds(&rt, t.origin == u.origin, b"the origin");
+    holds(&rt, t.updates.len() == 2, b"two updates");
+    holds(&rt, matches!(u.updates.item(1), Update::Kill(_)), b"KILL");
+    holds(
+        &rt,
+        matches!(t.updates.as_slice()[0], Update::Set(..)),
+        b"SET",
+    );
+}
+
+#[test]
+fn copies_a_list_of_entries(rt: HostRuntime) {
+    let mut entries = Entries::new(rt.alloc());
+    holds(&rt, entries.is_empty(), b"no entries");
+    let entry = entry(&rt, rt.alloc(), Updates::new(rt.alloc()));
+    entries.push(entry).expect(&rt, "memory");
+    let made = entries.copy().expect(&rt, "memory");
+    holds(&rt, made.len() == 1, b"one entry");
+    holds(&rt, made.item(0).number == 3, b"the number");
+    holds(&rt, entries.as_slice().len() == 1, b"one entry still");
 }
 
 /// Globals with `^X(1)` and `^X`.
-fn two_nodes(alloc: Global) -> Result<Globals, Fail> {
+fn two_nodes(rt: &impl Abort, alloc: Global) -> Globals {
     let mut globals = Globals::new(alloc);
-    globals.apply(&Update::Set(node(alloc, Some(b"1"))?, Bytes::of(alloc, b"a")?))?;
-    globals.apply(&Update::Set(node(alloc, None)?, Bytes::of(alloc, b"a")?))?;
-    Ok(globals)
+    globals
+        .apply(&set(rt, alloc, b"^X(1)"))
+        .expect(rt, "memory");
+    globals.apply(&set(rt, alloc, b"^X")).expect(rt, "memory");
+    globals
 }
 
 #[test]
-fn sets_nodes(rt: HostRuntime) -> Result<(), Fail> {
-    let globals = two_nodes(rt.alloc())?;
-    let top = node(rt.alloc(), None)?;
-    assert_eq!(rt; globals.nodes(), 2);
-    assert_eq!(rt; globals.defined(&top), 11);
-    assert_eq!(rt; globals.get(&top), Some(b"a".as_slice()));
-    Ok(())
+fn sets_nodes(rt: HostRuntime) {
+    let globals = two_nodes(&rt, rt.alloc());
+    let top = key(&rt, rt.alloc(), b"^X");
+    holds(&rt, globals.nodes() == 2, b"two nodes");
+    holds(&rt, globals.defined(&top) == 11, b"a value and descendants");
+    same(&rt, globals.get(&top).unwrap_or(b""), b"a");
 }
 
 #[test]
-fn takes_nodes_away(rt: HostRuntime) -> Result<(), Fail> {
-    let mut globals = two_nodes(rt.alloc())?;
-    assert!(rt; globals.after(&node(rt.alloc(), None)?)?.is_some());
-    globals.apply(&Update::ZKill(node(rt.alloc(), None)?))?;
-    assert_eq!(rt; globals.nodes(), 1);
-    globals.apply(&Update::Kill(node(rt.alloc(), None)?))?;
-    assert_eq!(rt; globals.nodes(), 0);
-    Ok(())
+fn takes_nodes_away(rt: HostRuntime) {
+    let mut globals = two_nodes(&rt, rt.alloc());
+    let top = key(&rt, rt.alloc(), b"^X");
+    let next = globals.after(&top).expect(&rt, "memory");
+    holds(&rt, next.is_some(), b"the next node");
+    let zkill = Update::ZKill(key(&rt, rt.alloc(), b"^X"));
+    globals.apply(&zkill).expect(&rt, "memory");
+    holds(&rt, globals.nodes() == 1, b"one node");
+    globals.apply(&Update::Kill(top)).expect(&rt, "memory");
+    holds(&rt, globals.nodes() == 0, b"no node");
+}
+
+fn statement(rt: &impl Abort, alloc: Global, text: &[u8]) -> Statement {
+    read_statement(alloc, text).expect(rt, "a statement")
 }
 
 /// A job of one statement.
-fn job(alloc: Global) -> Result<Job, Fail> {
+fn job(rt: &impl Abort, alloc: Global) -> Job {
     let mut statements = Statements::new(alloc);
-    statements.push(read_statement(alloc, b"SET ^X(1)=\"abc\"")?)?;
-    Ok(Job { statements })
+    let statement = statement(rt, alloc, b"SET ^X(1)=\"abc\"");
+    statements.push(statement).expect(rt, "memory");
+    Job { statements }
 }
 
 /// Updater 1 has two jobs, and the first of them two statements.
-fn two_jobs(alloc: Global) -> Result<Jobs, Fail> {
+fn two_jobs(rt: &impl Abort, alloc: Global) -> Jobs {
     let mut queue = JobQueue::new(alloc);
-    queue.push(job(alloc)?)?;
+    queue.push(job(rt, alloc)).expect(rt, "memory");
     let mut jobs = Jobs::new(alloc);
-    jobs.push(queue)?;
-    jobs.add_statement(1, read_statement(alloc, b"SET ^X(1,2)=\"abc\"")?)?;
-    jobs.add(1, job(alloc)?)?;
-    Ok(jobs)
+    jobs.push(queue).expect(rt, "memory");
+    let statement = statement(rt, alloc, b"SET ^X(1,2)=\"abc\"");
+    jobs.add_statement(1, statement).expect(rt, "memory");
+    jobs.add(1, job(rt, alloc)).expect(rt, "memory");
+    jobs
 }
 
 #[test]
-fn takes_jobs_in_turn(rt: HostRuntime) -> Result<(), Fail> {
-    let mut jobs = two_jobs(rt.alloc())?;
-    let first = jobs.take_next(1).ok_or("no job")?;
-    assert_eq!(rt; first.statements.len(), 2);
-    assert_eq!(rt; jobs.take_next(1).is_some(), true);
-    assert_eq!(rt; jobs.take_next(1).is_none(), true);
-    assert_eq!(rt; jobs.take_next(7).is_none(), true);
-    Ok(())
+fn takes_jobs_in_turn(rt: HostRuntime) {
+    let mut jobs = two_jobs(&rt, rt.alloc());
+    let first = jobs.take_next(1).expect(&rt, "a job");
+    holds(&rt, first.statements.len() == 2, b"two statements");
+    holds(&rt, jobs.take_next(1).is_some(), b"the second job");
+    holds(&rt, jobs.take_next(1).is_none(), b"no third job");
+    holds(&rt, jobs.take_next(7).is_none(), b"no updater");
 }
 
 #[test]
-fn copies_jobs(rt: HostRuntime) -> Result<(), Fail> {
+fn copies_jobs(rt: HostRuntime) {
     let mut jobs = Jobs::new(rt.alloc());
-    assert_eq!(rt; jobs.is_empty(), true);
-    jobs.push(JobQueue::new(rt.alloc()))?;
-    let copied = jobs.copy()?;
-    assert_eq!(rt; copied.len(), 1);
-    assert_eq!(rt; copied.item(0).is_empty(), true);
-    assert_eq!(rt; copied.as_slice()[0].len(), 0);
-    Ok(())
+    holds(&rt, jobs.is_empty(), b"no updaters");
+    jobs.push(JobQueue::new(rt.alloc())).expect(&rt, "memory");
+    let copied = jobs.copy().expect(&rt, "memory");
+    holds(&rt, copied.len() == 1, b"one updater");
+    holds(&rt, copied.item(0).is_empty(), b"no jobs");
+    holds(&rt, copied.as_slice()[0].len() == 0, b"no jobs");
 }
 
 #[test]
-fn copies_names(rt: HostRuntime) -> Result<(), Fail> {
+fn copies_names(rt: HostRuntime) {
     let mut named = NamedModes::new(rt.alloc());
-    assert_eq!(rt; named.is_empty(), true);
-    named.push((Bytes::of(rt.alloc(), b"R")?, true))?;
-    let made = named.copy()?;
-    assert_eq!(rt; made.len(), 1);
-    assert_eq!(rt; made.item(0).1, true);
-    assert_eq!(rt; made.as_slice()[0].0.as_slice(), b"R".as_slice());
-    Ok(())
+    holds(&rt, named.is_empty(), b"no names");
+    let name = Bytes::of(rt.alloc(), b"R").expect(&rt, "memory");
+    named.push((name, true)).expect(&rt, "memory");
+    let made = named.copy().expect(&rt, "memory");
+    holds(&rt, made.len() == 1, b"one name");
+    holds(&rt, made.item(0).1, b"the mode");
+    same(&rt, made.as_slice()[0].0.as_slice(), b"R");
 }

@@ -1,4 +1,4 @@
-//! Worked rows of statements, jobs, extracts and lines of a script.
+//! Worked rows of statements, jobs on globals, lists and copies.
 #![tactic(auto)]
 
 #[cfg(test)]
@@ -6,10 +6,6 @@ mod copies;
 #[cfg(test)]
 mod evaluation;
 #[cfg(test)]
-mod extract_texts;
-#[cfg(test)]
-mod extracts;
-#[cfg(test)]
-mod script_lines;
+mod rows;
 #[cfg(test)]
 mod statements;

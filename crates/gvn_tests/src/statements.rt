@@ -1,13 +1,13 @@
 // Each form of a statement both ways, and where what is none has its fault.
+use crate::rows::{cut, holds, lines, same};
 use gvn_key::Bytes;
 use gvn_key::terms::Statement;
 use gvn_text::{TextError, read_located, read_statement, write_statement};
 use std::alloc::Global;
 use std::process::Abort;
-use std::test::Fail;
 
 /// Each form of a statement, in its canonical text.
-const FORMS: &str = "\
+const FORMS: &[u8] = b"\
 SET ^X(1,\"a\")=\"b c\"
 KILL ^X
 ZKILL ^%A(-.5)
@@ -17,18 +17,20 @@ DATA ^X
 ORDER ^X(1,\"\")
 ORDER ^X(1,\"a\")
 CHECK ^X(0)=\"\"
-CHECK ^B(1)>=100";
+CHECK ^B(1)>=100
+";
 
 /// The canonical text of a text, and the text.
-const OTHERS: &str = "\
+const OTHERS: &[u8] = b"\
 SET ^X=\"10\"|SET ^X=10
 GET ^X(10)|GET   ^X(\"10\")
 ORDER ^X(\"\")|ORDER ^X(\"\")
 SET ^X=\"Ab\"|SET ^X=$C(65)_\"\"_\"b\"
-SET ^X=\"a\"\"b\"_$C(10)_\"c\"_$C(255)|SET ^X=\"a\"\"b\"_$C(10)_\"c\"_$C(255)";
+SET ^X=\"a\"\"b\"_$C(10)_\"c\"_$C(255)|SET ^X=\"a\"\"b\"_$C(10)_\"c\"_$C(255)
+";
 
 /// Where the part with the first fault begins, and the text.
-const PARTS: &str = "\
+const PARTS: &[u8] = b"\
 0|SETX ^X=1
 3|SET
 6|SET ^X
@@ -44,102 +46,112 @@ const PARTS: &str = "\
 6|ORDER ^X
 7|INCR ^X
 8|INCR ^X 1.5
-10|CHECK ^X>=1000000000000000000";
+10|CHECK ^X>=1000000000000000000
+";
 
 /// The fault of a value and its place, and the text.
-const VALUES: &str = "\
+const VALUES: &[u8] = b"\
 BadQuote 9|SET ^X=\"a
 BadQuote 7|SET ^X=
 BadQuote 11|SET ^X=\"a\"_
 BadChar 10|SET ^X=\"a\"b
 BadChar 12|SET ^X=$C(256)
-BadChar 7|SET ^X=1234567890123456789";
+BadChar 7|SET ^X=1234567890123456789
+";
 
-/// The canonical text of what a text spells.
-fn again(alloc: Global, text: &str) -> Result<Bytes, Fail> {
+/// The statement of a text is read, and written in this canonical text.
+fn is_read(rt: &impl Abort, alloc: Global, text: &[u8], want: &[u8]) {
     let mut out = Bytes::new(alloc);
-    write_statement(&read_statement(alloc, text.as_bytes())?, &mut out)?;
-    Ok(out)
+    let statement = read_statement(alloc, text).expect(rt, "a statement");
+    write_statement(&statement, &mut out).expect(rt, "memory");
+    same(rt, out.as_slice(), want);
 }
 
 #[test]
-fn every_form_is_read_and_written(rt: HostRuntime) -> Result<(), Fail> {
-    for text in FORMS.split('\n') {
-        let out = again(rt.alloc(), text)?;
-        assert_eq!(rt; out.as_slice(), text.as_bytes());
+fn every_form_is_read_and_written(rt: HostRuntime) {
+    for text in &lines(&rt, rt.alloc(), FORMS) {
+        is_read(&rt, rt.alloc(), text, text);
     }
-    Ok(())
 }
 
 #[test]
-fn other_forms_have_one_text(rt: HostRuntime) -> Result<(), Fail> {
-    for row in OTHERS.split('\n') {
-        let (want, text) = row.split_once('|').ok_or("no bar")?;
-        let out = again(rt.alloc(), text)?;
-        assert_eq!(rt; out.as_slice(), want.as_bytes());
+fn other_forms_have_one_text(rt: HostRuntime) {
+    for row in &lines(&rt, rt.alloc(), OTHERS) {
+        let (want, text) = cut(row);
+        is_read(&rt, rt.alloc(), text, want);
     }
-    Ok(())
 }
 
 #[test]
-fn a_value_has_its_bytes(rt: HostRuntime) -> Result<(), Fail> {
+fn a_value_has_its_bytes(rt: HostRuntime) {
     let text = b"SET ^X=\"a\"\"b\"_$C(10)_\"c\"_$C(255)";
-    match read_statement(rt.alloc(), text)? {
-        Statement::Set(_, value) => {
-            assert_eq!(rt; value.as_slice(), b"\x61\x22\x62\x0a\x63\xff".as_slice())
-        }
-        _ => assert!(rt; false),
+    match read_statement(rt.alloc(), text).expect(&rt, "a statement") {
+        Statement::Set(_, value) => same(&rt, value.as_slice(), b"\x61\x22\x62\x0a\x63\xff"),
+        _ => holds(&rt, false, text),
     }
-    Ok(())
 }
 
 /// Where the part with the first fault begins.
-fn part(alloc: Global, text: &str) -> Option<u32> {
-    match read_located(alloc, text.as_bytes()) {
-        Ok(_) => None,
-        Err(fault) => Some(fault.part),
+fn part(rt: &impl Abort, alloc: Global, text: &[u8]) -> Bytes {
+    let mut told = Bytes::new(alloc);
+    if let Err(fault) = read_located(alloc, text) {
+        told.push_decimal(u64::from(fault.part))
+            .expect(rt, "memory");
     }
+    told
 }
 
 #[test]
-fn a_fault_has_its_part(rt: HostRuntime) -> Result<(), Fail> {
-    for row in PARTS.split('\n') {
-        let (at, text) = row.split_once('|').ok_or("no bar")?;
-        assert_eq!(rt; part(rt.alloc(), text), Some(at.parse()?), "{text}");
+fn a_fault_has_its_part(rt: HostRuntime) {
+    for row in &lines(&rt, rt.alloc(), PARTS) {
+        let (at, text) = cut(row);
+        same(&rt, part(&rt, rt.alloc(), text).as_slice(), at);
     }
-    Ok(())
 }
 
-/// The fault of a text and its place.
-fn fault(alloc: Global, text: &str) -> Result<String, Fail> {
-    Ok(match read_statement(alloc, text.as_bytes()) {
-        Ok(_) => String::from_str(alloc, "none")?,
-        Err(TextError::BadQuote { at }) => format!(in alloc; "BadQuote {at}")?,
-        Err(TextError::BadChar { at }) => format!(in alloc; "BadChar {at}")?,
-        Err(TextError::ValueTooLong { at }) => format!(in alloc; "ValueTooLong {at}")?,
-        Err(TextError::NoMemory) => String::from_str(alloc, "NoMemory")?,
-    })
+/// The fault of a text, and its place.
+fn fault(alloc: Global, text: &[u8]) -> (&'static [u8], u32) {
+    match read_statement(alloc, text) {
+        Ok(_) => (b"none", 0),
+        Err(TextError::BadQuote { at }) => (b"BadQuote ", at),
+        Err(TextError::BadChar { at }) => (b"BadChar ", at),
+        Err(TextError::ValueTooLong { at }) => (b"ValueTooLong ", at),
+        Err(TextError::NoMemory) => (b"NoMemory", 0),
+    }
+}
+
+fn has_its_fault(rt: &impl Abort, alloc: Global, text: &[u8], want: &[u8]) {
+    let (fault, at) = fault(alloc, text);
+    let mut told = Bytes::of(alloc, fault).expect(rt, "memory");
+    told.push_decimal(u64::from(at)).expect(rt, "memory");
+    same(rt, told.as_slice(), want);
 }
 
 #[test]
-fn a_value_s_fault_has_its_own_place(rt: HostRuntime) -> Result<(), Fail> {
-    for row in VALUES.split('\n') {
-        let (want, text) = row.split_once('|').ok_or("no bar")?;
-        let told = fault(rt.alloc(), text)?;
-        assert_eq!(rt; told.as_str(), want, "{text}");
+fn a_value_s_fault_has_its_own_place(rt: HostRuntime) {
+    for row in &lines(&rt, rt.alloc(), VALUES) {
+        let (want, text) = cut(row);
+        has_its_fault(&rt, rt.alloc(), text, want);
     }
-    Ok(())
+}
+
+/// SET of `^X` to so many letters, and these bytes behind it.
+fn long_set(rt: &impl Abort, alloc: Global, letters: u32, more: &[u8]) -> Bytes {
+    let mut text = Bytes::of(alloc, b"SET ^X=\"").expect(rt, "memory");
+    for _ in 0..letters {
+        text.push(b'a').expect(rt, "memory");
+    }
+    text.push_all(more).expect(rt, "memory");
+    text
 }
 
 #[test]
-fn a_value_has_at_most_1500_bytes(rt: HostRuntime) -> Result<(), Fail> {
-    let alloc = rt.alloc();
-    let value = "a".repeat(alloc, 1500)?;
-    let text = format!(in alloc; "SET ^X=\"{value}\"")?;
-    assert!(rt; read_statement(alloc, text.as_bytes()).is_ok());
-    let long = format!(in alloc; "{text}_\"b\"")?;
-    assert_eq!(rt; fault(alloc, &long)?.as_str(), "ValueTooLong 7");
-    let more = format!(in alloc; "{long} 5")?;
-    assert_eq!(rt; part(alloc, &more), Some(7));
-    Ok(())
+fn a_value_has_at_most_1500_bytes(rt: HostRuntime) {
+    let text = long_set(&rt, rt.alloc(), 1500, b"\"");
+    let read = read_statement(rt.alloc(), text.as_slice());
+    holds(&rt, read.is_ok(), b"1,500 bytes");
+    let text = long_set(&rt, rt.alloc(), 1500, b"\"_\"b\"");
+    has_its_fault(&rt, rt.alloc(), text.as_slice(), b"ValueTooLong 7");
+    let text = long_set(&rt, rt.alloc(), 1500, b"\"_\"b\" 5");
+    same(&rt, part(&rt, rt.alloc(), text.as_slice()).as_slice(), b"7");
 }

@@ -1,12 +1,12 @@
 // Texts of extracts, and where each that is none has its first bad line.
+use crate::rows::{cut_at, rows, same};
 use gvn_key::Bytes;
 use jnl_extract::{ExtractError, extract_entry, read_extract, write_header};
 use std::alloc::Global;
 use std::process::Abort;
-use std::test::Fail;
 
 /// Extracts, with a bar behind each.
-const EXTRACTS: &str = "\
+const EXTRACTS: &[u8] = b"\
 GTMRJEX01\\A\\1
 |GTMRJEX01\\A\\1
 SET\\1\\A.1\\1.1\\^X(1)=\"a\"
@@ -28,7 +28,7 @@ TCOM\\1\\A.1\\1.1
 |";
 
 /// Texts whose first line is bad, with a bar behind each.
-const BAD_HEADERS: &str = "\
+const BAD_HEADERS: &[u8] = b"\
 |
 |GTMRJEX01\\A\\1|\
 GTMRJEX02\\A\\1
@@ -43,7 +43,7 @@ GTMRJEX02\\A\\1
 |";
 
 /// Lines that are bad behind a header, with a bar behind each.
-const BAD_LINES: &str = "\
+const BAD_LINES: &[u8] = b"\
 SET\\1\\A.1\\1.1\\^X(1)=\"a\"|
 |SET\\2\\A.1\\1.1\\^X(1)=\"a\"
 |SET\\01\\A.1\\1.1\\^X(1)=\"a\"
@@ -72,7 +72,7 @@ SET\\1\\A.1\\1.1\\^X(1)=\"a\"|
 
 /// Where the first bad line is, how many updates stand in the entry that is open, and what stands behind them, with a bar behind
 /// each.
-const WITHIN: &str = "\
+const WITHIN: &[u8] = b"\
 31 0 |\
 31 0 TCOM\\1\\A.1\\1.1
 |52 1 |\
@@ -92,83 +92,102 @@ SET\\3\\A.1\\1.2\\^X=\"a\"
 |";
 
 /// What was read, written again.
-fn again(alloc: Global, text: &[u8]) -> Result<Bytes, Fail> {
-    let Ok(extract) = read_extract(alloc, text) else {
-        return Ok(Bytes::of(alloc, b"no extract")?);
-    };
+fn again(rt: &impl Abort, alloc: Global, text: &[u8]) -> Bytes {
+    let extract = read_extract(alloc, text).expect(rt, "an extract");
+    let site = extract.site.as_slice();
     let mut out = Bytes::new(alloc);
-    write_header(extract.site.as_slice(), extract.from, &mut out)?;
+    write_header(site, extract.from, &mut out).expect(rt, "memory");
     for entry in extract.entries.as_slice() {
-        extract_entry(entry, &mut out)?;
+        extract_entry(entry, &mut out).expect(rt, "memory");
     }
-    Ok(out)
+    out
 }
 
 #[test]
-fn extracts_are_read(rt: HostRuntime) -> Result<(), Fail> {
-    for text in EXTRACTS.split_terminator('|') {
-        let out = again(rt.alloc(), text.as_bytes())?;
-        assert_eq!(rt; out.as_slice(), text.as_bytes());
+fn extracts_are_read(rt: HostRuntime) {
+    for text in &rows(&rt, rt.alloc(), EXTRACTS, b'|') {
+        same(&rt, again(&rt, rt.alloc(), text).as_slice(), text);
     }
-    Ok(())
 }
 
 /// Where the first bad line is, of a text that has one.
-fn bad(alloc: Global, text: &str) -> Option<u64> {
-    match read_extract(alloc, text.as_bytes()) {
+fn bad(alloc: Global, text: &[u8]) -> Option<u64> {
+    match read_extract(alloc, text) {
         Err(ExtractError::BadLine { offset }) => Some(offset),
         _ => None,
     }
 }
 
+/// The first bad line of a text is there.
+fn is_bad(rt: &impl Abort, alloc: Global, text: &[u8], want: &[u8]) {
+    let mut told = Bytes::new(alloc);
+    if let Some(offset) = bad(alloc, text) {
+        told.push_decimal(offset).expect(rt, "memory");
+    }
+    same(rt, told.as_slice(), want);
+}
+
 #[test]
 fn a_header_is_bad(rt: HostRuntime) {
-    for text in BAD_HEADERS.split_terminator('|') {
-        assert_eq!(rt; bad(rt.alloc(), text), Some(0), "{text}");
+    for text in &rows(&rt, rt.alloc(), BAD_HEADERS, b'|') {
+        is_bad(&rt, rt.alloc(), text, b"0");
     }
 }
 
 #[test]
-fn a_line_of_an_update_is_bad(rt: HostRuntime) -> Result<(), Fail> {
-    for line in BAD_LINES.split_terminator('|') {
-        let text = format!(in rt.alloc(); "GTMRJEX01\\A\\1\n{line}")?;
-        assert_eq!(rt; bad(rt.alloc(), &text), Some(14), "{line}");
+fn a_line_of_an_update_is_bad(rt: HostRuntime) {
+    for line in &rows(&rt, rt.alloc(), BAD_LINES, b'|') {
+        let mut text = Bytes::of(rt.alloc(), b"GTMRJEX01\\A\\1\n").expect(&rt, "memory");
+        text.push_all(line).expect(&rt, "memory");
+        is_bad(&rt, rt.alloc(), text.as_slice(), b"14");
     }
-    Ok(())
 }
 
 /// A header of 14 bytes, a first line of 17 and then 21 a line.
-fn opened(alloc: Global, updates: usize, behind: &str) -> Result<String, Fail> {
-    let lines = "SET\\1\\A.1\\1.1\\^X=\"a\"\n".repeat(alloc, updates)?;
-    Ok(format!(in alloc; "GTMRJEX01\\A\\1\nTSTART\\1\\A.1\\1.1\n{lines}{behind}")?)
-}
-
-fn is_bad_within(rt: &impl Abort, alloc: Global, row: &str) -> Result<(), Fail> {
-    let (at, row) = row.split_once(' ').ok_or("no place")?;
-    let (updates, behind) = row.split_once(' ').ok_or("no count")?;
-    let text = opened(alloc, updates.parse()?, behind)?;
-    assert_eq!(rt; bad(alloc, &text), Some(at.parse()?), "{row}");
-    Ok(())
-}
-
-#[test]
-fn a_line_within_an_entry_is_bad(rt: HostRuntime) -> Result<(), Fail> {
-    for row in WITHIN.split_terminator('|') {
-        is_bad_within(&rt, rt.alloc(), row)?;
+fn opened(rt: &impl Abort, alloc: Global, updates: u32, behind: &[u8]) -> Bytes {
+    let head = b"GTMRJEX01\\A\\1\nTSTART\\1\\A.1\\1.1\n";
+    let mut text = Bytes::of(alloc, head).expect(rt, "memory");
+    for _ in 0..updates {
+        let line = b"SET\\1\\A.1\\1.1\\^X=\"a\"\n";
+        text.push_all(line).expect(rt, "memory");
     }
-    Ok(())
+    text.push_all(behind).expect(rt, "memory");
+    text
+}
+
+/// The number of these digits.
+fn number(digits: &[u8]) -> u32 {
+    let mut number = 0u32;
+    for digit in digits {
+        let digit = u32::from(digit.wrapping_sub(b'0'));
+        number = number.wrapping_mul(10).wrapping_add(digit);
+    }
+    number
+}
+
+fn is_bad_within(rt: &impl Abort, alloc: Global, row: &[u8]) {
+    let (want, row) = cut_at(row, b' ');
+    let (updates, behind) = cut_at(row, b' ');
+    let text = opened(rt, alloc, number(updates), behind);
+    is_bad(rt, alloc, text.as_slice(), want);
 }
 
 #[test]
-fn an_entry_has_256_updates(rt: HostRuntime) -> Result<(), Fail> {
-    let whole = opened(rt.alloc(), 256, "TCOM\\1\\A.1\\1.1\n")?;
-    let out = again(rt.alloc(), whole.as_bytes())?;
-    assert_eq!(rt; out.as_slice(), whole.as_bytes());
-    Ok(())
+fn a_line_within_an_entry_is_bad(rt: HostRuntime) {
+    for row in &rows(&rt, rt.alloc(), WITHIN, b'|') {
+        is_bad_within(&rt, rt.alloc(), row);
+    }
+}
+
+#[test]
+fn an_entry_has_256_updates(rt: HostRuntime) {
+    let whole = opened(&rt, rt.alloc(), 256, b"TCOM\\1\\A.1\\1.1\n");
+    let out = again(&rt, rt.alloc(), whole.as_slice());
+    same(&rt, out.as_slice(), whole.as_slice());
 }
 
 #[test]
 fn no_entry_has_the_number_of_the_end(rt: HostRuntime) {
-    let text = "GTMRJEX01\\A\\1099511627776\nKILL\\1099511627776\\A.1\\1.1\\^X\n";
-    assert_eq!(rt; bad(rt.alloc(), text), Some(26));
+    let text = b"GTMRJEX01\\A\\1099511627776\nKILL\\1099511627776\\A.1\\1.1\\^X\n";
+    is_bad(&rt, rt.alloc(), text, b"26");
 }
