@@ -1,4 +1,6 @@
 // Lists and copies with memory to spare, and jobs in turn.
+ghost use Rattle.std.specs.Prelude.{◌≡◌, length};
+
 use crate::rows::{holds, same};
 use gvn_globals::Globals;
 use gvn_key::terms::{Statement, Update};
@@ -16,13 +18,18 @@ fn stamp(rt: &impl Abort, alloc: Global, cycle: u32) -> Stamp {
     Stamp { root, cycle }
 }
 
+fn reign(rt: &impl Abort, alloc: Global, cycle: u32, start: u64) -> Reign {
+    let stamp = stamp(rt, alloc, cycle);
+    Reign { stamp, start }
+}
+
 /// The reigns A.1 from 1 and A.2 from 7, and 9 entries.
-fn two_reigns(rt: &impl Abort, alloc: Global) -> History {
+fn two_reigns(rt: &impl Abort, alloc: Global) -> History
+    ensures { length result.reigns ≡ 2 }
+{
     let mut reigns = Reigns::new(alloc);
-    for (cycle, start) in [(1, 1), (2, 7)] {
-        let stamp = stamp(rt, alloc, cycle);
-        reigns.push(Reign { stamp, start }).expect(rt, "memory");
-    }
+    reigns.push(reign(rt, alloc, 1, 1)).expect(rt, "memory");
+    reigns.push(reign(rt, alloc, 2, 7)).expect(rt, "memory");
     History { length: 9, reigns }
 }
 
@@ -33,7 +40,11 @@ fn copies_a_history(rt: HostRuntime) {
     holds(&rt, made.length == 9, b"the length");
     holds(&rt, made.reigns.len() == 2, b"two reigns");
     holds(&rt, !made.reigns.is_empty(), b"some reigns");
-    holds(&rt, made.reigns.as_slice()[1].start == 7, b"the start");
+    holds(
+        &rt,
+        matches!(made.reigns.as_slice(), [_, second] if second.start == 7),
+        b"the start",
+    );
     let reign = history.reigns.item(1);
     holds(&rt, reign.stamp.cycle == 2, b"the cycle");
 }
@@ -49,7 +60,9 @@ fn set(rt: &impl Abort, alloc: Global, text: &[u8]) -> Update {
 }
 
 /// A SET and a KILL.
-fn two_updates(rt: &impl Abort, alloc: Global) -> Updates {
+fn two_updates(rt: &impl Abort, alloc: Global) -> Updates
+    ensures { length result ≡ 2 }
+{
     let mut updates = Updates::new(alloc);
     updates.push(set(rt, alloc, b"^X")).expect(rt, "memory");
     let kill = Update::Kill(key(rt, alloc, b"^Y"));
@@ -58,7 +71,9 @@ fn two_updates(rt: &impl Abort, alloc: Global) -> Updates {
 }
 
 /// Entry 3, the fifth job of updater 2, with these updates.
-fn entry(rt: &impl Abort, alloc: Global, updates: Updates) -> Entry {
+fn entry(rt: &impl Abort, alloc: Global, updates: Updates) -> Entry
+    ensures { result.transaction.updates ≡ updates }
+{
     let origin = Origin {
         updater: 2,
         serial: 5,
@@ -83,7 +98,7 @@ fn copies_an_entry(rt: HostRuntime) {
     holds(&rt, matches!(u.updates.item(1), Update::Kill(_)), b"KILL");
     holds(
         &rt,
-        matches!(t.updates.as_slice()[0], Update::Set(..)),
+        matches!(t.updates.as_slice(), [Update::Set(..), _]),
         b"SET",
     );
 }
