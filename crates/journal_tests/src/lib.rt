@@ -11,5 +11,3 @@ mod journals;
 mod parts;
 #[cfg(test)]
 mod recovery;
-#[cfg(test)]
-mod rows;
