@@ -1,5 +1,5 @@
 -- The rules of both directions lead one way, and behind a direction's last frame nowhere.
-use Rattle.std.proofs.Common.{◌≡◌, ℕ, Bool, true, false, IsTrue, sym, ◌∙◌}
+use Rattle.std.proofs.Common.{◌≡◌, Bool, true, false, IsTrue, sym, ◌∙◌}
 use Rattle.wire_defs.specs.Frames.{Frame, Hello, Resume, RollbackFirst, History, Entry, Bye}
 use Rattle.ship_defs.specs.Hearing.{Purpose, Last, Unbegun, Resumed, Reigning, Shipped, Over, Heard, Hearing, IsUnbegun, IsBetween, IsUnder, IsOver, Fits, Admits, IsHeardOut}
 use Rattle.ship_defs.specs.Greeting.{Greets}

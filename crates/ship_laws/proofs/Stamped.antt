@@ -1,5 +1,5 @@
 -- The entries of what a primary sends are the primary's, under their reigns.
-use Rattle.std.proofs.Common.{◌≡◌, ◌≢◌, ◌⊎◌, inl, inr, ℕ, suc, ◌+◌, ◌-◌, ◌<◌, ◌≤◌, ◌==◌, ◌||◌, nat_le, Bool, true, false, List, [], ◌∷◌, ◌++◌, length, map, filter, Option, Some, None, refl, sym, ap, subst, ◌∙◌, arith, append_assoc, append-nil, add-one, if◌then◌else◌}
+use Rattle.std.proofs.Common.{◌≡◌, ◌≢◌, ◌⊎◌, inl, inr, ℕ, suc, ◌+◌, ◌-◌, ◌<◌, ◌≤◌, ◌==◌, ◌||◌, nat_le, Bool, true, false, List, [], ◌∷◌, ◌++◌, length, map, Option, Some, None, refl, sym, ap, subst, ◌∙◌, arith, append-nil}
 use Rattle.std.specs.Prelude.{slice_get, option_map}
 use Rattle.std.specs.Option.{option_or}
 use Rattle.std.specs.List.{AllByRecursion, last_or}
@@ -8,7 +8,7 @@ use Rattle.global_defs.specs.Entry.{Transaction, Stamp, Sequence, Reign}
 use Rattle.global_defs.specs.Entry as entries
 use Rattle.global_defs.specs.Prefix.{IsPrefix, stamp_at}
 use Rattle.lineage_defs.specs.Histories.{begun_by, HasStamps}
-use Rattle.wire_defs.specs.Frames.{Frame, Resume, History, Entry, Bye, IsFrame, AreFrames, BeginsFrame, frame_type, spelled_frame, stream, offset_after}
+use Rattle.wire_defs.specs.Frames.{Frame, Resume, Entry, Bye, IsFrame, frame_type, stream, offset_after}
 use Rattle.ship_defs.specs.Shipping.{reign_at, announced, shipped, resumed, connection}
 use Rattle.ship_defs.specs.Arrivals.{Arrival, told_reign, arrived, arrivals, entries_of, HasEntries, BringsTo}
 use Rattle.ship_laws.proofs.Streams.{front, based}

@@ -1,10 +1,9 @@
 -- Frames as bytes, and the entries of bytes.
 use Rattle.std.proofs.Common.{◌≡◌, ◌⊎◌, ℕ, ◌+◌, Bool, true, false, List, [], ◌∷◌, ◌++◌, Option, None, refl, sym, ap, subst, ◌∙◌, append_assoc}
 use Rattle.std.specs.Option.{option_or}
-use Rattle.std.specs.List.{AllByRecursion}
 use Rattle.global_defs.specs.Entry.{Transaction, Sequence, Reign}
 use Rattle.global_defs.specs.Prefix.{IsPrefix}
-use Rattle.wire_defs.specs.Frames.{Frame, Resume, Entry, IsFrame, AreFrames, BeginsFrame, BeginsNone, spelled_frame, stream, offset_after}
+use Rattle.wire_defs.specs.Frames.{Frame, Resume, Entry, AreFrames, BeginsFrame, BeginsNone, spelled_frame, stream, offset_after}
 use Rattle.repl_wire.proofs.Feeding.{stream_more, streams_one, front_one}
 use Rattle.ship_defs.specs.Shipping.{reign_at, announced, shipped, shipped_bytes, bytes_from, resumed, resumed_bytes}
 use Rattle.ship_defs.specs.Arrivals.{Arrival, told_reign, arrived, arrivals, entry_under, entries_of, HasEntries, BringsTo}

@@ -1,9 +1,9 @@
 -- By rules that lead one way the bytes of a direction are bad at one place at most.
-use Rattle.std.proofs.Common.{◌≡◌, ◌≢◌, ℕ, ◌+◌, Bool, true, false, IsTrue, List, [], ◌∷◌, ◌++◌, length, refl, sym, ap, subst, ◌∙◌, arith, append_assoc, append-nil, length-append, inl, inr}
+use Rattle.std.proofs.Common.{◌≡◌, ◌≢◌, ℕ, Bool, false, List, [], ◌∷◌, ◌++◌, length, refl, sym, ap, subst, ◌∙◌, arith, append_assoc, append-nil, length-append, inl, inr}
 use Rattle.std.specs.List.{AllByRecursion}
-use Rattle.wire_defs.specs.Frames.{Frame, Resume, IsFrame, BeginsFrame, BeginsNone, AreFrames, spelled_frame, stream, offset_after}
+use Rattle.wire_defs.specs.Frames.{Frame, Resume, IsFrame, BeginsFrame, BeginsNone, spelled_frame, stream, offset_after}
 use Rattle.repl_wire.proofs.Apart.{frame_one, split}
-use Rattle.ship_defs.specs.Directions.{Admitted, HasCome, IsRefused, Lacks, refused, begins_none, behind_last, too_short, IsBadAt, EndsWith}
+use Rattle.ship_defs.specs.Directions.{Admitted, Lacks, refused, begins_none, behind_last, too_short, IsBadAt, EndsWith}
 
 resume : IsFrame (Resume 1)
 resume = record { fields = (omega arith, omega arith); short = omega arith }

@@ -1,6 +1,5 @@
 -- What a primary ships is admissible to a secondary that has the first of its entries under its reigns.
-use Rattle.std.proofs.Common.{◌≡◌, ◌⊎◌, inl, inr, ℕ, suc, ◌+◌, ◌-◌, ◌<◌, ◌≤◌, ◌==◌, ◌||◌, nat_le, Bool, true, false, List, [], ◌∷◌, ◌++◌, length, fold, filter, Option, Some, None, refl, sym, ap, subst, ◌∙◌, arith, append_assoc, append-nil, length-append, if◌then◌else◌}
-use Rattle.std.specs.Prelude.{slice_get}
+use Rattle.std.proofs.Common.{◌≡◌, ◌⊎◌, inl, inr, ℕ, suc, ◌+◌, ◌-◌, ◌<◌, ◌≤◌, ◌==◌, nat_le, Bool, true, false, List, [], ◌∷◌, ◌++◌, length, fold, Option, Some, None, refl, sym, ap, subst, ◌∙◌, arith, append_assoc, append-nil, length-append}
 use Rattle.std.specs.List.{AllByRecursion, last_or}
 use Rattle.std.proofs.lemmas.Bool.Decides.{nat_tests}
 use Rattle.global_defs.specs.Entry.{Transaction, Sequence, Reign, Globals, apply}
@@ -8,7 +7,7 @@ use Rattle.global_defs.specs.Entry as entries
 use Rattle.global_defs.specs.Prefix as prefix
 use Rattle.global_defs.specs.Prefix.{IsPrefix, stamp_at}
 use Rattle.lineage_defs.specs.Histories.{MOST_REIGNS, begun_by, StartsRise, HasStamps}
-use Rattle.wire_defs.specs.Frames.{Frame, Resume, History, Entry, Bye, IsFrame, AreFrames, stream}
+use Rattle.wire_defs.specs.Frames.{Frame, Resume, History, Entry, Bye, IsFrame, stream}
 use Rattle.ship_defs.specs.Directions.{Admitted}
 use Rattle.ship_defs.specs.Hearing.{Ships, Last, Unbegun, Resumed, Reigning, Shipped, Over, Heard, Hearing, unbegun, IsBetween, MayReign, with_entry, with_reign, entered, HasRooms, Admits, IsHeardOut, IsBadFromPrimary, EndsFromPrimary}
 use Rattle.ship_defs.specs.Shipping.{reign_at, announced, shipped, resumed, connection}
@@ -124,9 +123,7 @@ module _ (rs : List Reign) (rise : StartsRise 0 rs) (few : length rs ≤ MOST_RE
   told_entry k r e last g open_ may next room = (
     hearing_at k rs (Reigning r) g,
     ((open_, may, refl), tt, refl),
-    hearing_at (suc k) rs Shipped (fold apply g e.transaction.updates),
-    ((tt, (omega arith), sym next), room.0, refl),
-    refl,
+    (hearing_at (suc k) rs Shipped (fold apply g e.transaction.updates), ((tt, (omega arith), sym next), room.0, refl), refl),
   )
 
   -- an ENTRY behind an ENTRY
