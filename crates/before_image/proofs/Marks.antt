@@ -1,37 +1,20 @@
 -- Marks of blocks, and the images after an epoch.
-use Rattle.std.proofs.Common.{◌≡◌, ◌≢◌, inl, inr, ⊎_elim, ℕ, zero, suc, Bool, true, false, List, [], ◌∷◌, ◌++◌, replicate, Option, Some, None, IsSome, refl, sym, ◌∙◌, ap, subst, arith}
-use Rattle.std.specs.Prelude.{◌⊎◌, if◌then◌else◌}
-use Rattle.std.specs.Option.{option_or}
+use Rattle.std.proofs.Common.{◌≡◌, inl, inr, ⊎_elim, ℕ, zero, suc, Bool, true, false, List, [], ◌∷◌, ◌++◌, replicate, None, IsSome, refl, sym, ◌∙◌, ap, subst, arith}
+use Rattle.std.specs.Prelude.{◌⊎◌}
 use Rattle.std.specs.List.{AllByRecursion}
 use Rattle.std.proofs.lemmas.Bool.{cases_eq, cases_lt}
-use Rattle.std.proofs.lemmas.Bool.Decides.{nat_tests}
 use Rattle.std.proofs.lemmas.List.{append-nil, length-set, length-replicate, get_or-set_other, get_or-replicate}
 use Rattle.journal_defs.specs.Journal.{Before, Pblk, Mark}
 use Rattle.journal_defs.specs.Sequence.{Placed}
 use Rattle.journal_defs.specs.Epochs.{Blocks, Chosen, image_in, image_of}
 use Rattle.journal_defs.specs.Undo.{MayWrite, MayLog, logged, fresh}
-use Rattle.journal_laws.proofs.Images.{image_of-append}
+use Rattle.journal_laws.proofs.Images.{image_of-other, image_in-there}
 use Rattle.block_laws.specs.Several.{MayChange, logged_all}
 use Rattle.block_laws.proofs.Appends.{image_stays, image_there}
 use Rattle.before_image.specs.Images.{is_free, with_image, first_image, placed_images, Knows}
 
 pub no_both : (t : Bool) → t ≡ true → t ≡ false → ⊥
 no_both t set unset = cc
-
-or_none : (o : Option (List ℕ)) → option_or o None ≡ o
-or_none None = refl
-or_none (Some x) = refl
-
--- a record more that is no image of this block
-pub image_past : (ps : List Placed) (p : Placed) (b : ℕ) → image_in p.what b ≡ None → image_of (ps ++ p ∷ []) b ≡ image_of ps b
-image_past ps p b none =
-    image_of-append ps (p ∷ []) b ∙ ap (λ (o : Option (List ℕ)). option_or (image_of ps b) (option_or o None)) none ∙ or_none (image_of ps b)
-
-pub image_in-here : (i : Before) (b : ℕ) → b ≡ i.block → image_in (Pblk i) b ≡ Some i.bytes
-image_in-here i b here = grind (arith, nat_tests)
-
-pub image_in-there : (i : Before) (b : ℕ) → b ≢ i.block → image_in (Pblk i) b ≡ None
-image_in-there i b other = grind (arith, nat_tests)
 
 -- a mark that is set can be set again
 pub set_again : (marks : List Bool) (b : ℕ) → is_free marks b ≡ true → with_image marks b ≡ marks
@@ -78,7 +61,7 @@ knows_image marks e g i knows =
       ];
       others = λ b inside taken. elim (cases_eq b i.block) [
         | inl here ↦ absurd (no_both (is_free (with_image marks i.block) b) (ap (is_free (with_image marks i.block)) here ∙ set_free marks i.block) taken)
-        | inr other ↦ image_past e.after p b (image_in-there i b other) ∙ knows.others b inside (sym (get_or-set_other marks i.block b true true other) ∙ taken)
+        | inr other ↦ image_of-other e.after p b (image_in-there i b other) ∙ knows.others b inside (sym (get_or-set_other marks i.block b true true other) ∙ taken)
       ];
     }
 
@@ -86,7 +69,7 @@ pub knows_other : (marks : List Bool) (e : Chosen) (p : Placed) → Knows marks 
 knows_other marks e p knows none = record {
   blocks = knows.blocks;
   imaged = λ b inside free. image_stays e.after (p ∷ []) b (knows.imaged b inside free);
-  others = λ b inside taken. image_past e.after p b (none b) ∙ knows.others b inside taken;
+  others = λ b inside taken. image_of-other e.after p b (none b) ∙ knows.others b inside taken;
 }
 
 pub knows_first : (marks : List Bool) (e : Chosen) (g b : ℕ) (bytes : List ℕ) → Knows marks e → Knows (with_image marks b) (logged_all e (placed_images g (first_image marks b bytes)))

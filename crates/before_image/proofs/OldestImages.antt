@@ -1,6 +1,6 @@
 -- The oldest images of blocks.
 use Rattle.std.proofs.Common.{◌≡◌, inl, inr, ℕ, ◌*◌, ◌<◌, ◌≤◌, ◌==◌, nat_lt, true, false, List, [], ◌∷◌, ◌++◌, length, take, drop, map, max, replicate, Option, Some, None, is_some, refl, sym, ◌∙◌, ap, arith, unwrap_or}
-use Rattle.std.specs.Prelude.{Result, Ok, Err, OnOk, IfSome, if◌then◌else◌}
+use Rattle.std.specs.Prelude.{Result, Ok, Err, OnOk, IfSome}
 use Rattle.std.specs.Option.{option_or}
 use Rattle.std.proofs.lemmas.Bool.{cases_eq}
 use Rattle.std.proofs.lemmas.Bool.Decides.{nat_tests}
@@ -10,10 +10,10 @@ use Rattle.journal_defs.specs.Journal.{Before, Pblk}
 use Rattle.journal_defs.specs.Sequence.{Placed}
 use Rattle.journal_defs.specs.Epochs.{Blocks, Chosen, image_in, image_of, image_state, block_of}
 use Rattle.journal_defs.specs.Undo.{logged}
-use Rattle.journal_laws.proofs.Images.{image_of-append}
+use Rattle.journal_laws.proofs.Images.{image_of-append, image_of-other, image_in-here, image_in-there}
 use Rattle.before_image.specs.Images.{is_free, Knows}
 use Rattle.before_image.specs.Undoing.{Oldest, oldest_of, with_oldest, Undoes}
-use Rattle.before_image.proofs.Marks.{no_both, image_past, image_in-here, image_in-there}
+use Rattle.before_image.proofs.Marks.{no_both}
 
 pub undoes_none : (number blocks : ℕ) → Undoes (replicate blocks None) (record { number = number; blocks = blocks; after = [] })
 undoes_none number blocks = record {
@@ -39,14 +39,14 @@ undoes_image us e g i undoes =
             ∙ sym (ap (λ (o : Option (List ℕ)). option_or (image_of e.after i.block) (option_or o None)) (image_in-here i i.block refl))
             ∙ sym (image_of-append e.after (p ∷ []) i.block)
             ∙ sym (ap (image_of (e.after ++ p ∷ [])) here)
-        | inr other ↦ get_or-set_other us i.block b known None other ∙ undoes.oldest b inside ∙ sym (image_past e.after p b (image_in-there i b other))
+        | inr other ↦ get_or-set_other us i.block b known None other ∙ undoes.oldest b inside ∙ sym (image_of-other e.after p b (image_in-there i b other))
       ];
     }
 
 pub undoes_other : (us : Oldest) (e : Chosen) (p : Placed) → Undoes us e → ((b : ℕ) → image_in p.what b ≡ None) → Undoes us (logged e p)
 undoes_other us e p undoes none = record {
   blocks = undoes.blocks;
-  oldest = λ b inside. undoes.oldest b inside ∙ sym (image_past e.after p b (none b));
+  oldest = λ b inside. undoes.oldest b inside ∙ sym (image_of-other e.after p b (none b));
 }
 
 none_of : (o : Option (List ℕ)) → is_some o ≡ false → o ≡ None

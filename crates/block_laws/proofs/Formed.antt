@@ -16,10 +16,7 @@ use Rattle.journal_defs.specs.Surviving.{survives, reigns}
 use Rattle.journal_defs.specs.Sequence.{Placed, Records, parts, part_in, part_of, REGIONS, in_mask, is_like, items_of, items_in, update_at, updates_from, updates_of, updates_by, entry_by, entry_among, entry_with, entry, EntriesFrom, IsSequence}
 use Rattle.journal_defs.specs.Stands.{in_generation, IsJournal, AreRecords}
 use Rattle.journal_laws.proofs.ImageSteps.{all_both}
-
--- each record has its form
-abbrev AreFormed : List Placed → Type 0
-AreFormed ps = AllByRecursion (λ p. IsInForm p.what) ps
+use Rattle.block_laws.specs.Nodes.{AreFormed}
 
 bodies_formed : (g : ℕ) (bodies : List Body) (xs : List JournalRecord) → AllZip IsJournalBody bodies xs → AreFormed (map (in_generation g) xs)
 bodies_formed g [] [] all = tt
@@ -140,5 +137,8 @@ run : (at : ℕ → Option Entry) (n : ℕ) (seq : Sequence) → ((k : ℕ) → 
 run at n [] each h = tt
 run at n (e ∷ es) each h = (subst (IfThere IsGoodEntry) h.0 (each n), run at (suc n) es each h.1)
 
+pub entries_of : (s : Records) (seq : Sequence) → ((r : ℕ) → AreFormed (s.journal r)) → IsSequence s seq → AllByRecursion (λ e. IsTransaction e.transaction) seq
+entries_of s seq all is = run (entry s) 1 seq (λ n. with_stamp (parts s n) (stamp_at n (reigns s.instance)) (λ r. part_of-formed s.instance n (s.journal r) (all r))) is.each
+
 pub entries : (files : Files) (s : Records) (seq : Sequence) → AreRecords files s → IsSequence s seq → AllByRecursion (λ e. IsTransaction e.transaction) seq
-entries files s seq held is = run (entry s) 1 seq (λ n. with_stamp (parts s n) (stamp_at n (reigns s.instance)) (λ r. part_of-formed s.instance n (s.journal r) (formed files s r held))) is.each
+entries files s seq held is = entries_of s seq (λ r. formed files s r held) is

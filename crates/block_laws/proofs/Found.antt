@@ -94,16 +94,10 @@ cells_formed blocks b [] h = absurd h
 cells_formed blocks b (l ∷ []) h = all_both IsCell l.cells [] h.0.2.form.cells tt
 cells_formed blocks b (l ∷ m ∷ ls) h = all_both IsCell l.cells (flat_map (λ (x : Leaf). x.cells) (m ∷ ls)) h.0.2.form.cells (cells_formed blocks l.next (m ∷ ls) h.2)
 
-pub some : (blocks : ℕ → Option (List ℕ)) (ls : List Leaf) → IsChain blocks 0 ls → HaveCells ls → KeysRise (flat_map (λ l. l.cells) ls)
-    → (g : Globals) × HaveKeys g × HaveShortValues g × (flat_map (λ l. l.cells) ls ≡ cells_of g) × Decodes blocks g
-some blocks ls chain full rise = (g, subst (AllByRecursion (λ e. IsTrue (is_key e.0))) (sym is) (keys_back cells all), subst (AllByRecursion (λ e. length e.1 ≤ 1500)) (sym is) (values_back cells all), same, (ls, chain, full, same))
+-- cells of their form with rising keys are those of some map
+pub cells_some : (cells : List Cell) → AllByRecursion IsCell cells → KeysRise cells → (g : Globals) × HaveKeys g × HaveShortValues g × (cells ≡ cells_of g)
+cells_some cells all rise = (g, subst (AllByRecursion (λ e. IsTrue (is_key e.0))) (sym is) (keys_back cells all), subst (AllByRecursion (λ e. length e.1 ≤ 1500)) (sym is) (values_back cells all), same)
   where
-    cells : List Cell
-    cells = flat_map (λ (l : Leaf). l.cells) ls
-
-    all : AllByRecursion IsCell cells
-    all = cells_formed blocks 0 ls chain
-
     g : Globals
     g = globals.from_sorted (nodes_of cells all)
 
@@ -112,3 +106,9 @@ some blocks ls chain full rise = (g, subst (AllByRecursion (λ e. IsTrue (is_key
 
     same : cells ≡ cells_of g
     same = sym (cells_back cells all) ∙ ap (map (λ e. (encoded e.0, e.1))) (sym is)
+
+pub some : (blocks : ℕ → Option (List ℕ)) (ls : List Leaf) → IsChain blocks 0 ls → HaveCells ls → KeysRise (flat_map (λ l. l.cells) ls)
+    → (g : Globals) × HaveKeys g × HaveShortValues g × (flat_map (λ l. l.cells) ls ≡ cells_of g) × Decodes blocks g
+some blocks ls chain full rise =
+    let held = cells_some (flat_map (λ (l : Leaf). l.cells) ls) (cells_formed blocks 0 ls chain) rise in
+    (held.0, held.1, held.2, held.3, (ls, chain, full, held.3))

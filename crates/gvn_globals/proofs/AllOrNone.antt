@@ -6,12 +6,11 @@ use Rattle.std.specs.Cmp.{second_so}
 use Rattle.std.specs.List.{list_any, list_all, filter}
 use Rattle.std.proofs.lemmas.Cmp.{tied_itself}
 use Rattle.std.proofs.lemmas.List.{take_more}
-use Rattle.std.specs.FinMap.{find, get, keys, entries, contains_key, contains_key-keys, get-entries, get-insert, insert, remove, retain_keys, same_map}
+use Rattle.std.specs.FinMap.{find, get, keys, entries, contains_key, contains_key-keys, get-entries, get-insert, insert, remove, same_map}
 use Rattle.global_defs.specs.Key.{Key, key_cmp}
-use Rattle.global_defs.specs.Entry.{Globals, is_under}
+use Rattle.global_defs.specs.Entry.{Globals}
 use Rattle.global_defs.specs.Encoded.{encoded}
 use Rattle.global_defs.proofs.Order.{key_total, key_same}
-use Rattle.gvn_globals.specs.Walks.{IsSubtree}
 use Rattle.gvn_globals.specs.Overlaid.{with_all, overlaid}
 use Rattle.gvn_globals.specs.Together.{is_among, AreNew, IsMore, IsLess, AreHeld}
 use Rattle.std.specs.Map.{lookup}
@@ -20,7 +19,7 @@ use Rattle.gvn_globals.specs.Nodes.{node_value, is_coded, globals_of}
 use Rattle.gvn_globals.specs.declared.globals.Node.{Node}
 use Rattle.gvn_globals.proofs.Coded.{Entries, code_cmp, coded_is, coded_valid, coded_inserted, get_coded, set_coded}
 use Rattle.gvn_globals.proofs.Basics.{equal_of, false_of, and_false}
-use Rattle.gvn_globals.proofs.Subtree.{without_next, without_subtree, any_push}
+use Rattle.gvn_globals.proofs.Subtree.{without_next, any_push}
 use Rattle.gvn_globals.proofs.Overlays.{or_other, get_with, get_overlaid}
 
 -- ---- lists of keys
@@ -34,22 +33,6 @@ any_front p (k ∷ ks) (suc i) h = by (p k) h (any_front p ks i)
     by : (b : Bool) → (b || list_any p (take i ks)) ≡ true → (list_any p (take i ks) ≡ true → list_any p ks ≡ true) → (b || list_any p ks) ≡ true
     by true h m = refl
     by false h m = m h
-
-any_append : (p : Key → Bool) (js ks : List Key) → list_any p (js ++ ks) ≡ (list_any p js || list_any p ks)
-any_append p [] ks = refl
-any_append p (j ∷ js) ks = by (p j) (any_append p js ks)
-  where
-    by : (b : Bool) → list_any p (js ++ ks) ≡ (list_any p js || list_any p ks) → (b || list_any p (js ++ ks)) ≡ ((b || list_any p js) || list_any p ks)
-    by true m = refl
-    by false m = m
-
-all_append : (p : Key → Bool) (js ks : List Key) → list_all p js ≡ true → list_all p ks ≡ true → list_all p (js ++ ks) ≡ true
-all_append p [] ks h t = t
-all_append p (j ∷ js) ks h t = by (p j) h (all_append p js ks)
-  where
-    by : (b : Bool) → (b && list_all p js) ≡ true → (list_all p js ≡ true → list_all p ks ≡ true → list_all p (js ++ ks) ≡ true) → (b && list_all p (js ++ ks)) ≡ true
-    by true h m = m h t
-    by false h m = absurd (true≢false (sym h))
 
 among_filter : (p : Key → Bool) (ks : List Key) (k : Key) → is_among (filter p ks) k ≡ (is_among ks k && p k)
 among_filter p [] k = refl
@@ -152,38 +135,6 @@ module _ (g : Globals) (all xs : List (Key × List ℕ)) (e : Key × List ℕ) (
 
   pub put_same : (next w : Globals) → next ≡ insert g e.0 e.1 → with_all g all ≡ w → with_all next xs ≡ w
   put_same next w n h = ap (λ m. with_all m xs) n ∙ sym (with_last g xs e) ∙ ap (with_all g) (sym is) ∙ h
-
--- ---- a whole subtree of globals under changes
-
-module _ (base sets gone : Globals) (top : Key) (below own : List Key) (b : IsSubtree base top below) (s : IsSubtree sets top own) where
-  whole : (k : Key) → is_under top k ≡ true → contains_key (overlaid base sets gone) k ≡ true → list_any (eq_by_cmp key_cmp k) (below ++ own) ≡ true
-  whole k u h = any_append (eq_by_cmp key_cmp k) below own ∙ by (get sets k) refl (ap is_some (sym (get_overlaid base sets gone k)) ∙ h)
-    where
-      left : is_among below k ≡ true → (is_among below k || is_among own k) ≡ true
-      left e = ap (λ x. x || is_among own k) e
-
-      right : (a c : Bool) → c ≡ true → (a || c) ≡ true
-      right true c e = refl
-      right false c e = e
-
-      kept : (c : Bool) → is_some (if c then None else get base k) ≡ true → is_some (get base k) ≡ true
-      kept true h = absurd (true≢false (sym h))
-      kept false h = h
-
-      by : (o : Option (List ℕ)) → get sets k ≡ o → is_some (or_other o (if contains_key gone k then None else get base k)) ≡ true → (is_among below k || is_among own k) ≡ true
-      by None e h = left (b.whole k u (kept (contains_key gone k) h))
-      by (Some x) e h = right (is_among below k) (is_among own k) (s.whole k u (ap is_some e))
-
-  pub killed : (mid now : Globals) → IsLess (overlaid base sets gone) below mid → IsLess mid own now → now ≡ retain_keys (overlaid base sets gone) (λ k. not (is_under top k))
-  killed mid now m l = without_subtree (overlaid base sets gone) top (below ++ own) now
-      (record { under = all_append (is_under top) below own b.under s.under; whole = whole })
-      (record { answers = λ k. l.answers k ∙ ap (λ o. if is_among own k then None else o) (m.answers k) ∙ turned (is_among own k) (is_among below k) (get (overlaid base sets gone) k) ∙ ap (λ x. if x then None else get (overlaid base sets gone) k) (sym (any_append (eq_by_cmp key_cmp k) below own)) })
-    where
-      turned : (c d : Bool) (o : Option (List ℕ)) → (if c then None else (if d then None else o)) ≡ (if d || c then None else o)
-      turned true true o = refl
-      turned true false o = refl
-      turned false true o = refl
-      turned false false o = refl
 
 -- ---- the changes as a whole
 

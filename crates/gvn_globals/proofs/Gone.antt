@@ -147,20 +147,21 @@ all_at p [] h i k l e = absurd (omega arith)
 all_at p (x ∷ ks) h zero k l e = ap p e ∙ first_so (p x) (list_all p ks) h
 all_at p (x ∷ ks) h (suc i) k l e = all_at p ks (second_so (p x) (list_all p ks) h) i k (omega arith) e
 
+-- what lies between two keys at and below a node does so too
+pub later_under : (top k last j : Key) → is_under top k ≡ true → is_under top last ≡ true → is_later k j ≡ true → is_lt (key_cmp last j) ≡ false → is_under top j ≡ true
+later_under top k last j u v l n = elim (stands key_total key_same j last) [
+  | before c ↦ under_between top j last (behind_top (key_cmp j top) refl) c v
+  | same i ↦ ap (is_under top) i ∙ v
+  | behind c ↦ absurd (true≢false (sym (ap is_lt c) ∙ n))
+]
+  where
+    behind_top : (r : Ordering) → key_cmp j top ≡ r → is_lt r ≡ false
+    behind_top Less c = absurd (true≢false (sym (ap is_lt (key_total.trans k j top (later_less k j l) c)) ∙ under_not_before top k u))
+    behind_top Equal c = refl
+    behind_top Greater c = refl
+
 pub cleared_under : (g now : Globals) (top k last : Key) → now ≡ retain_keys g (λ j. not (is_under top j)) → is_under top k ≡ true → is_under top last ≡ true → IsCleared now k last
-cleared_under g now top k last e u v = record { itself = none k u; between = λ j l n. none j (under j l n) }
+cleared_under g now top k last e u v = record { itself = none k u; between = λ j l n. none j (later_under top k last j u v l n) }
   where
     none : (j : Key) → is_under top j ≡ true → get now j ≡ None
     none j w = ap (λ m. get m j) e ∙ get-retain_keys g (λ k. not (is_under top k)) j (λ x i. ap (λ y. not (is_under top y)) (sym (key_same j x i))) ∙ ap (λ b. if not b then get g j else None) w
-
-    behind_top : (j : Key) → is_later k j ≡ true → (r : Ordering) → key_cmp j top ≡ r → is_lt r ≡ false
-    behind_top j l Less c = absurd (true≢false (sym (ap is_lt (key_total.trans k j top (later_less k j l) c)) ∙ under_not_before top k u))
-    behind_top j l Equal c = refl
-    behind_top j l Greater c = refl
-
-    under : (j : Key) → is_later k j ≡ true → is_lt (key_cmp last j) ≡ false → is_under top j ≡ true
-    under j l n = elim (stands key_total key_same j last) [
-      | before c ↦ under_between top j last (behind_top j l (key_cmp j top) refl) c v
-      | same i ↦ ap (is_under top) i ∙ v
-      | behind c ↦ absurd (true≢false (sym (ap is_lt c) ∙ n))
-    ]

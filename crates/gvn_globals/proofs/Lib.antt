@@ -9,3 +9,4 @@ pub mod Overlays
 pub mod Gone
 pub mod Sought
 pub mod AllOrNone
+pub mod Noted

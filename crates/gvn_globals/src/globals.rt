@@ -121,7 +121,7 @@ fn list_between<'a>(
     ensures ordered { IsOrdered (slice_cmp nat_cmp) nodes.now }
 {
     let mut list = Vec::new(alloc);
-    for (_, node) in nodes.range((Bound::Included(from), Bound::Excluded(to))) {
+    for (_, node) in nodes.range(from..to) {
         list.push(Listed {
             key: &node.key,
             value: node.value.as_slice(),
@@ -225,7 +225,7 @@ impl Globals {
     }
 
     /// Takes the node and all its descendants away.
-    fn kill(&mut self, top: &Key) -> Result<(), NoMemory>
+    pub(crate) fn kill(&mut self, top: &Key) -> Result<(), NoMemory>
         ensures ok { OnOk result (self.new ≡ globals.retain_keys self.old (λ k. not (is_under top.now k))) }
         ensures err { OnErr result (self.new ≡ self.old) }
     {

@@ -85,7 +85,11 @@ fn last_gone(node: Key, end: &[u8]) -> Result<Key, NoMemory>
 }
 
 /// The first node of the same name past the key that isn't gone.
-fn kept_after<G: Lookup>(on: &G, gone: &Globals, key: &Key) -> Result<Option<Key>, NoMemory>
+pub(crate) fn kept_after<G: Lookup>(
+    on: &G,
+    gone: &Globals,
+    key: &Key,
+) -> Result<Option<Key>, NoMemory>
     requires { AreGone (G.seen on.now) gone.now }
     ensures { IfOk result (λ found. found ≡ after (kept (G.seen on.now) gone.now) key.now) }
 {

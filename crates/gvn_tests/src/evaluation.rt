@@ -61,6 +61,30 @@ DATA ^T(2,1)
 ORDER ^T(1)
 DATA ^U";
 
+// Each is made many times, one behind the other, and all together.
+const KILLS_AND_SETS: &str = "\
+KILL ^T(2)
+KILL ^T
+SET ^T(2,1)=6
+KILL ^T(2)
+KILL ^T
+SET ^T(3)=7
+ZKILL ^T(3)
+KILL ^T
+SET ^T(2)=8
+KILL ^T(1)
+SET ^T(4)=\"abc\"
+KILL ^T(3)";
+
+const BEHIND_ALL: &str = "\
+0 10|DATA ^T
+0 0|DATA ^T(1)
+0 1|DATA ^T(2)
+0 0|DATA ^T(2,1)
+0 0|DATA ^T(3)
+0 \"abc\"|GET ^T(4)
+0 1|DATA ^U";
+
 const FULL: &str = "\
 FULL|SET ^X=\"abc\"
 1|SET ^AAAA=\"abc\"";
@@ -170,6 +194,36 @@ fn walks_past_what_it_killed(rt: HostRuntime) -> Result<(), Fail> {
         b"7 0 3 0 \"\" 10 3 \"\" 0 0 2 1".as_slice()
     );
     Ok(())
+}
+
+/// A job of each of these statements 20 times.
+fn job_of_many(alloc: Global, rows: &str) -> Result<Job, Fail> {
+    let mut statements = Statements::new(alloc);
+    for text in rows.split('\n') {
+        for _ in 0..20 {
+            statements.push(read_statement(alloc, text.as_bytes())?)?;
+        }
+    }
+    Ok(Job { statements })
+}
+
+/// A transaction that kills a node again and again, with SETs between, leaves what was set behind the last KILL.
+#[test]
+fn kills_many_times_together(rt: HostRuntime) -> Result<(), Fail> {
+    let mut globals = Globals::new(rt.alloc());
+    run_rows(&rt, rt.alloc(), &mut globals, BEFORE)?;
+    let origin = Origin {
+        updater: 1,
+        serial: 1,
+    };
+    let job = job_of_many(rt.alloc(), KILLS_AND_SETS)?;
+    match eval(rt.alloc(), &job, origin, &globals)? {
+        Evaluated::RolledBack(_) => return Err("rolled back")?,
+        Evaluated::Done { updates, .. } => {
+            globals.apply_all(rt.alloc(), updates.as_slice())?;
+        }
+    }
+    run_rows(&rt, rt.alloc(), &mut globals, BEHIND_ALL)
 }
 
 fn letter(n: u32) -> u8 {

@@ -2,17 +2,21 @@
 use Rattle.std.specs.Prelude.{◌≡◌, ◌⊎◌, ℕ, ◌+◌, Bool, true, false, List, [], ◌∷◌, ◌++◌, length, drop, Option, Some, None}
 use Rattle.std.specs.List.{AllZip}
 use Rattle.disk_defs.specs.Gates.{Body, Open, Shut, NoGate, gate_at, bodies_at, records, spelled}
-use Rattle.journal_defs.specs.Journal.{JournalRecord, Pini, Epoch, Pblk, Tcom, IsJournalBody, IsNoPini, BeginsWithPini}
+use Rattle.journal_defs.specs.Journal.{JournalRecord, Pini, Epoch, Pblk, Tcom, IsInForm, IsJournalBody, IsNoPini, BeginsWithPini}
 use Rattle.journal_defs.specs.FileGrowth.{MayFollow}
 use Rattle.journal_defs.specs.Stands.{Holds}
 use Rattle.gated_file.specs.Reading.{IsOutside}
-use Rattle.jnl_record.specs.Values.{record_value}
+use Rattle.jnl_record.specs.Values.{record_value, IsFirstVersion}
 use Rattle.jnl_record.specs.declared.record.JnlRecord.{JnlRecord}
 
 -- A record behind an open gate and the next gate's place; or a closed gate.
 abbrev pub FindsRecord : List ℕ → ℕ → Option (JnlRecord × ℕ) → Type 0
 FindsRecord file at None = gate_at file at ≡ Shut
 FindsRecord file at (Some found) = (body : Body) × (gate_at file at ≡ Open body (drop found.1 file)) × (found.1 ≡ at + 5 + length body) × IsJournalBody body (record_value found.0)
+
+-- a record as it is read: of the first version, and within its form
+abbrev pub IsReadRecord : JnlRecord → Type 0
+IsReadRecord r = IsFirstVersion r × IsInForm (record_value r)
 
 -- From this place on the file has these records, up to its first closed gate.
 abbrev pub HoldsFrom : List ℕ → ℕ → List JournalRecord → Type 0

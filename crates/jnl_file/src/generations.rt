@@ -7,8 +7,9 @@ ghost use Rattle.disk_defs.specs.Gates.{records};
 ghost use Rattle.journal_defs.specs.Numbers.{journal_file};
 ghost use Rattle.journal_defs.specs.Sequence.{Placed};
 ghost use Rattle.journal_defs.specs.Stands.{IsJournal};
-ghost use Rattle.jnl_record.specs.Values.{record_value, placed_value, IsFirstVersion};
+ghost use Rattle.jnl_record.specs.Values.{record_value, placed_value};
 ghost use Rattle.jnl_file.specs.Errors.{error_in};
+ghost use Rattle.jnl_file.specs.Reading.{IsReadRecord};
 ghost use Rattle.jnl_file.specs.Generations.{AreJournals, AreDurable, MayJoin, HasNewer, StopsAt, IsOutsideAfter, IsOutsideGenerations};
 
 use crate::error::{GenerationsError, JournalError};
@@ -54,7 +55,7 @@ fn read_on<D: Disk>(
     into: &mut Vec<PlacedRecord>,
 ) -> Result<u32, JournalError>
     ensures read { IfOk result (λ began. IfSome (D.disk disk.old).content (λ files. HasNewer region generation previous (files gated.old.file) (map placed_value into.old.items) (map placed_value into.new.items) began)) }
-    ensures version { OnOk result (AllByRecursion (λ p. IsFirstVersion p.what) into.old.items → AllByRecursion (λ p. IsFirstVersion p.what) into.new.items) }
+    ensures form { OnOk result (AllByRecursion (λ p. IsReadRecord p.what) into.old.items → AllByRecursion (λ p. IsReadRecord p.what) into.new.items) }
     ensures began { IfOk result (λ began. (began ≡ previous) ⊎ (began ≡ generation)) }
     ensures stops { (offset : ℕ) → IsErrOf result (JournalError.NotARecord offset) → IfSome (D.disk disk.old).content (λ files. StopsAt region generation previous (files gated.old.file) offset) }
     ensures same { gated.new ≡ gated.old }
@@ -88,7 +89,7 @@ fn read_journal<D: Disk>(
     into: &mut Vec<PlacedRecord>,
 ) -> Result<u32, JournalError>
     ensures read { IfOk result (λ began. IfSome (D.disk disk.old).content (λ files. HasNewer region generation previous (files gated.old.file) (map placed_value into.old.items) (map placed_value into.new.items) began)) }
-    ensures version { OnOk result (AllByRecursion (λ p. IsFirstVersion p.what) into.old.items → AllByRecursion (λ p. IsFirstVersion p.what) into.new.items) }
+    ensures form { OnOk result (AllByRecursion (λ p. IsReadRecord p.what) into.old.items → AllByRecursion (λ p. IsReadRecord p.what) into.new.items) }
     ensures began { IfOk result (λ began. (began ≡ previous) ⊎ (began ≡ generation)) }
     ensures outside { (offset : ℕ) → IsErrOf result (JournalError.NotARecord offset) → IfSome (D.disk disk.old).content (λ files. IsOutsideAfter region generation previous (files gated.old.file) offset) }
     ensures reads { Reads (D.disk disk.old) (D.disk disk.new) }
@@ -119,7 +120,7 @@ fn read_generation<D: Disk>(
     requires region { region < 8 }
     requires generation { generation ≤ 65535 }
     ensures read { IfOk result (λ began. IfSome (D.disk disk.old).content (λ files. HasNewer region generation previous (files (journal_file generation region)) (map placed_value into.old.items) (map placed_value into.new.items) began)) }
-    ensures version { OnOk result (AllByRecursion (λ p. IsFirstVersion p.what) into.old.items → AllByRecursion (λ p. IsFirstVersion p.what) into.new.items) }
+    ensures form { OnOk result (AllByRecursion (λ p. IsReadRecord p.what) into.old.items → AllByRecursion (λ p. IsReadRecord p.what) into.new.items) }
     ensures began { IfOk result (λ began. (began ≡ previous) ⊎ (began ≡ generation)) }
     ensures durable { OnOk result (IfSome (D.disk disk.old).content (λ files. IsDurable (D.disk disk.new) (journal_file generation region) (files (journal_file generation region)))) }
     ensures outside { (offset : ℕ) → IsErrOf result (JournalError.NotARecord offset) → IfSome (D.disk disk.old).content (λ files. IsOutsideAfter region generation previous (files (journal_file generation region)) offset) }
@@ -162,7 +163,7 @@ pub fn read_generations<D: Disk>(
     requires region { region < 8 }
     requires last { last ≤ 65535 }
     ensures read { IfOk result (λ made. IfSome (D.disk disk.old).content (λ files. IsJournal files region last made.last_began (map placed_value made.records.items))) }
-    ensures version { IfOk result (λ made. AllByRecursion (λ p. IsFirstVersion p.what) made.records.items) }
+    ensures form { IfOk result (λ made. AllByRecursion (λ p. IsReadRecord p.what) made.records.items) }
     ensures began { IfOk result (λ made. made.last_began ≤ last) }
     ensures durable { OnOk result (IfSome (D.disk disk.old).content (AreDurable (D.disk disk.new) region last)) }
     ensures outside { (file offset : ℕ) → IsErrOf result (GenerationsError.NotAFile file offset) → IfSome (D.disk disk.old).content (λ files. IsOutsideGenerations files region last file offset) }

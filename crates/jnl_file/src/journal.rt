@@ -44,7 +44,7 @@ pub struct Journal {
 impl Journal {
     ghost use Rattle.jnl_file.specs.Records.{Recorded, StandsRecords, appended, settled, synced, opened, hardened};
     ghost use Rattle.jnl_file.specs.Journal.{IsReady, HasRecords, IsJournalOf, IsSameJournal, IsPrepared, IsSynced, HasClosed, SamePrepared};
-    ghost use Rattle.jnl_file.specs.Reading.{FindsRecord, IsNoRecord, IsJournalFile, IsOutsideJournal};
+    ghost use Rattle.jnl_file.specs.Reading.{FindsRecord, IsReadRecord, IsNoRecord, IsJournalFile, IsOutsideJournal};
     ghost use Rattle.jnl_file.specs.Begin.{pini, MayBegin};
 
     /// A journal without records, in a file that has none.
@@ -302,7 +302,7 @@ impl Journal {
     ) -> Result<Option<(JnlRecord, u64)>, JournalError>
         ensures found { IfOk result (λ found. IfSome (D.disk disk.old).content (λ files. FindsRecord (files self.old.gated.file) at found)) }
         ensures further { IfOk result (λ found. IfSome found (λ read. at < read.1)) }
-        ensures version { IfOk result (λ found. IfSome found (λ read. IsFirstVersion read.0)) }
+        ensures form { IfOk result (λ found. IfSome found (λ read. IsReadRecord read.0)) }
         ensures outside { IsErrOf result (JournalError.NotARecord at) → IfSome (D.disk disk.old).content (λ files. IsNoRecord (files self.old.gated.file) at) }
         ensures only_here { (offset : ℕ) → IsErrOf result (JournalError.NotARecord offset) → offset ≡ at }
         ensures same { self.new ≡ self.old }

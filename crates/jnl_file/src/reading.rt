@@ -3,8 +3,8 @@ ghost use Rattle.std.specs.Prelude.{◌≡◌, ◌≤◌, ◌<◌, ◌↔◌, �
 ghost use Rattle.disk_defs.specs.Disk.{Reads, Rose};
 ghost use Rattle.disk_defs.specs.Gates.{Body, records};
 ghost use Rattle.journal_defs.specs.Journal.{JournalRecord};
-ghost use Rattle.jnl_record.specs.Values.{record_value, IsFirstVersion};
-ghost use Rattle.jnl_file.specs.Reading.{FindsRecord, IsNoRecord, MayStand, IsJournalFile, HasWrongRecord};
+ghost use Rattle.jnl_record.specs.Values.{record_value};
+ghost use Rattle.jnl_file.specs.Reading.{FindsRecord, IsReadRecord, IsNoRecord, MayStand, IsJournalFile, HasWrongRecord};
 
 use crate::error::JournalError;
 use gated_file::Gated;
@@ -20,7 +20,7 @@ pub fn read_record<D: Disk>(
 ) -> Result<Option<(JnlRecord, u64)>, JournalError>
     ensures found { IfOk result (λ found. IfSome (D.disk disk.old).content (λ files. FindsRecord (files gated.old.file) at found)) }
     ensures further { IfOk result (λ found. IfSome found (λ read. at < read.1)) }
-    ensures version { IfOk result (λ found. IfSome found (λ read. IsFirstVersion read.0)) }
+    ensures form { IfOk result (λ found. IfSome found (λ read. IsReadRecord read.0)) }
     ensures outside { IsErrOf result (JournalError.NotARecord at) → IfSome (D.disk disk.old).content (λ files. IsNoRecord (files gated.old.file) at) }
     ensures only_here { (offset : ℕ) → IsErrOf result (JournalError.NotARecord offset) → offset ≡ at }
     ensures same { gated.new ≡ gated.old }

@@ -64,16 +64,16 @@ as_on_file : (o : Option (List ℕ)) (i x : List ℕ) → x ≡ i → unwrap_or 
 as_on_file None i x same = sym same
 as_on_file (Some y) i x same = refl
 
-image_of-other : (ps : List Placed) (p : Placed) (b : ℕ) → image_in p.what b ≡ None → image_of (ps ++ p ∷ []) b ≡ image_of ps b
+pub image_of-other : (ps : List Placed) (p : Placed) (b : ℕ) → image_in p.what b ≡ None → image_of (ps ++ p ∷ []) b ≡ image_of ps b
 image_of-other ps p b none = image_of-one ps p b ∙ ap (option_or (image_of ps b)) none ∙ or_none (image_of ps b)
 
 pub other_keeps : (e : Chosen) (database : Blocks) (p : Placed) → ((b : ℕ) → image_in p.what b ≡ None) → image_state (logged e p) database ≡ image_state e database
 other_keeps e database p none = fun_ext (λ c. ap (λ (o : Option (List ℕ)). shown e c o (database c)) (image_of-other e.after p c (none c)))
 
-image_in-here : (i : Before) (b : ℕ) → b ≡ i.block → image_in (Pblk i) b ≡ Some i.bytes
+pub image_in-here : (i : Before) (b : ℕ) → b ≡ i.block → image_in (Pblk i) b ≡ Some i.bytes
 image_in-here i b here = grind (arith, nat_tests)
 
-image_in-there : (i : Before) (b : ℕ) → b ≢ i.block → image_in (Pblk i) b ≡ None
+pub image_in-there : (i : Before) (b : ℕ) → b ≢ i.block → image_in (Pblk i) b ≡ None
 image_in-there i b other = grind (arith, nat_tests)
 
 image_here : (e : Chosen) (database : Blocks) (i : Before) (b : ℕ) → b ≡ i.block → MayLog e database i

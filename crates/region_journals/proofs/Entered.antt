@@ -1,6 +1,6 @@
 -- The parts of an entry in the journals of their regions.
-use Rattle.std.proofs.Common.{◌≡◌, ◌≤◌, ◌<◌, ℕ, zero, suc, Bool, true, false, List, [], ◌++◌, length, take, Some, None, Option, option_map, refl, sym, ◌∙◌, ap, subst, arith, append-nil}
-use Rattle.std.specs.Prelude.{slice_get, IsTrue}
+use Rattle.std.proofs.Common.{◌≡◌, ◌≤◌, ◌<◌, ◌||◌, ℕ, zero, suc, Bool, true, false, List, [], ◌++◌, length, take, Some, None, Option, option_map, refl, sym, ◌∙◌, ap, subst, arith, append-nil}
+use Rattle.std.specs.Prelude.{slice_get, is_some, IsTrue}
 use Rattle.disk_defs.specs.Disk.{View, IsLawful, AtEachMoment}
 use Rattle.disk_defs.specs.Frames.{Only, OnlyIn, OnlyOn, OthersStay}
 use Rattle.disk_defs.proofs.Moments.{only_started, only_weaker}
@@ -21,17 +21,28 @@ use Rattle.region_journals.proofs.Moments as moments
 use Rattle.region_journals.proofs.Moments.{Have}
 use Rattle.region_journals.proofs.Rounds.{stands_in}
 
+or_false : (b : Bool) → (b || false) ≡ b
+or_false true = refl
+or_false false = refl
+
+or_true : (b : Bool) → (b || true) ≡ true
+or_true true = refl
+or_true false = refl
+
+-- neither was something appended nor is there a part
+neither : (b : Bool) (p : Option JournalRecord) → (b || is_some p) ≡ false → (b ≡ false) × (p ≡ None)
+neither true p isnt = absurd (cc isnt)
+neither false None isnt = (refl, refl)
+neither false (Some what) isnt = absurd (cc isnt)
+
 -- a region without a part
 pub none_taken : (v : View) (parts : PartRecords) (r : ℕ) (x : RegionJournal) → part_in parts r ≡ None → files.IsReady v x.journal → (IsTrue x.appended → HasSyncs x.journal) → Turned v v (HasTaken parts) (Takes parts) r x x
 none_taken v parts r x none ready goes_on = record {
   ready = ready;
   same = record { region = refl; generation = refl; file = refl };
-  facts = record { goes_on = goes_on; was_not = λ isnt. isnt; no_part = λ isnt. none };
+  facts = record { goes_on = goes_on; appended = sym (ap (λ (p : Option JournalRecord). x.appended || is_some p) none ∙ or_false x.appended) };
   state = λ s t takes has. subst (λ (q : Recorded). files.HasRecords v x.journal q) (sym (takes ∙ ap (λ (p : Option JournalRecord). with_part p s) none)) has;
 }
-
-is_false : (b : Bool) → b ≡ true → b ≡ false → ⊥
-is_false b is isnt = cc (is, isnt)
 
 -- and one with a part
 pub part_taken : (v w : View) (parts : PartRecords) (r : ℕ) (x y : RegionJournal) (what : JournalRecord) → part_in parts r ≡ Some what → IsPartPrepared parts r x → y.appended ≡ true → files.IsReady w y.journal → files.IsSameJournal x.journal y.journal
@@ -42,8 +53,7 @@ part_taken v w parts r x y what part prepared flag ready same syncs state = reco
   same = same;
   facts = record {
     goes_on = λ yes. (let room : 2 ≤ x.journal.gated.syncs_left = (prepared what part).1 in omega (arith, syncs, room));
-    was_not = λ isnt. absurd (is_false y.appended flag isnt);
-    no_part = λ isnt. absurd (is_false y.appended flag isnt);
+    appended = flag ∙ sym (ap (λ (p : Option JournalRecord). x.appended || is_some p) part ∙ or_true x.appended);
   };
   state = λ s t takes has. subst (λ (q : Recorded). files.HasRecords w y.journal q) (sym (takes ∙ ap (λ (p : Option JournalRecord). with_part p s) part)) (state what s (prepared what part).0 has);
 }
@@ -111,7 +121,8 @@ keeps_entered u v parts hard waiting old new count turned keeps = record {
   none_waits = λ r y is isnt.
       let x = same_place old new r y count is in
       let t = turned r x.0 y x.1 is in
-      ap (λ (p : Option JournalRecord). waiting r ++ listed p) (t.facts.no_part isnt) ∙ append-nil (waiting r) ∙ keeps.none_waits r x.0 x.1 (t.facts.was_not isnt);
+      let none = neither x.0.appended (part_in parts r) (sym t.facts.appended ∙ isnt) in
+      ap (λ (p : Option JournalRecord). waiting r ++ listed p) none.1 ∙ append-nil (waiting r) ∙ keeps.none_waits r x.0 x.1 none.0;
 }
 
 -- no image has any of those that wait

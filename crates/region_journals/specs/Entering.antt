@@ -1,5 +1,5 @@
 -- An entry on its way into the journals of its regions.
-use Rattle.std.specs.Prelude.{◌≡◌, ℕ, false, Option, Some, None, IsTrue}
+use Rattle.std.specs.Prelude.{◌≡◌, ◌||◌, ℕ, Option, Some, None, is_some, IsTrue}
 use Rattle.jnl_file.specs.Records.{Recorded, appended}
 use Rattle.jnl_file.specs.Journal as journals
 use Rattle.journal_defs.specs.Journal.{JournalRecord}
@@ -23,8 +23,7 @@ Stays r x s t = t ≡ s
 -- What appending a region's part does, where it has one.
 pub record HasTaken (parts : PartRecords) (r : ℕ) (x y : RegionJournal) : Type 0 where
   pub goes_on : IsTrue y.appended → HasSyncs y.journal
-  pub was_not : y.appended ≡ false → x.appended ≡ false
-  pub no_part : y.appended ≡ false → part_in parts r ≡ None
+  pub appended : y.appended ≡ (x.appended || is_some (part_in parts r))
 
 -- with the region's part behind those that wait
 abbrev pub with_part : Option JournalRecord → Recorded → Recorded

@@ -1,5 +1,5 @@
 -- A site's newest journals, by region.
-use Rattle.std.specs.Prelude.{◌≡◌, ◌≤◌, ℕ, ◌+◌, false, List, [], ◌∷◌, length, get_or, slice_get, Option, Some, None, IsTrue}
+use Rattle.std.specs.Prelude.{◌≡◌, ◌≤◌, ℕ, ◌+◌, Bool, false, List, [], ◌∷◌, length, get_or, slice_get, Option, Some, None, IsTrue}
 use Rattle.disk_defs.specs.Disk.{View}
 use Rattle.journal_defs.specs.Journal.{JournalRecord}
 use Rattle.jnl_file.specs.Journal as journals
@@ -43,6 +43,10 @@ listed (Some what) = what ∷ []
 -- Each region that has a part can append it, and harden it then.
 abbrev pub ArePrepared : PartRecords → List RegionJournal → Type 0
 ArePrepared parts js = (r : ℕ) (x : RegionJournal) (what : JournalRecord) → slice_get js r ≡ Some x → part_in parts r ≡ Some what → journals.IsPrepared x.journal what × HasSyncs x.journal
+
+-- Of each region's journal it says whether something was appended since the last hardening, by what it said before.
+abbrev pub AreMarked : (ℕ → Bool → Bool) → List RegionJournal → List RegionJournal → Type 0
+AreMarked mark old new = (r : ℕ) (x y : RegionJournal) → slice_get old r ≡ Some x → slice_get new r ≡ Some y → y.appended ≡ mark r x.appended
 
 -- What a hardening does to a journal: it syncs it twice where something was appended, and leaves it alone where nothing was.
 pub record IsHardened (x y : RegionJournal) : Type 0 where

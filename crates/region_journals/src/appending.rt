@@ -1,5 +1,5 @@
 //! Appending the parts of an entry.
-ghost use Rattle.std.specs.Prelude.{◌≡◌, ◌≤◌, ◌<◌, ◌++◌, ℕ, List, [], length, slice_get, Some, IsTrue, OnOk, OnErr, IsErrOf};
+ghost use Rattle.std.specs.Prelude.{◌≡◌, ◌≤◌, ◌<◌, ◌++◌, ◌||◌, ℕ, List, [], length, slice_get, Some, is_some, IsTrue, OnOk, OnErr, IsErrOf};
 ghost use Rattle.disk_defs.specs.Disk.{Image, AtEachMoment, HasCause};
 ghost use Rattle.disk_defs.specs.Frames.{Only, OnlyIn, OnlyOn, OthersStay};
 ghost use Rattle.journal_defs.specs.Numbers.{journal_file};
@@ -7,7 +7,7 @@ ghost use Rattle.journal_defs.specs.Journal.{JournalRecord};
 ghost use Rattle.jnl_file.specs.Records.{StandsRecords};
 ghost use Rattle.jnl_file.specs.Journal as files;
 ghost use Rattle.region_journals.specs.Fronts.{IsNewestFile, HasFirst};
-ghost use Rattle.region_journals.specs.Journals.{HasSyncs, AreOpen, AreReady, KeepsJournals, ArePrepared, part_in, listed};
+ghost use Rattle.region_journals.specs.Journals.{HasSyncs, AreOpen, AreReady, KeepsJournals, ArePrepared, AreMarked, part_in, listed};
 ghost use Rattle.region_journals.specs.Turns.{Turned, AllTurned};
 ghost use Rattle.region_journals.specs.Entering.{IsPartPrepared, IsUnchanged, Stays, HasTaken, Takes};
 
@@ -70,6 +70,7 @@ impl RegionJournals {
         requires prepared { ArePrepared parts.now self.old.journals.items }
         ensures ready { OnOk result ((g : ℕ) → AreReady (D.disk disk.old) g self.old.journals.items → AreReady (D.disk disk.new) g self.new.journals.items) }
         ensures state { OnOk result ((hard waiting : ℕ → List JournalRecord) → KeepsJournals (D.disk disk.old) hard waiting self.old.journals.items → KeepsJournals (D.disk disk.new) hard (λ r. waiting r ++ listed (part_in parts.now r)) self.new.journals.items) }
+        ensures marks { OnOk result (AreMarked (λ r was. was || is_some (part_in parts.now r)) self.old.journals.items self.new.journals.items) }
         ensures count { length self.new.journals.items ≡ length self.old.journals.items }
         ensures any_moment { (g : ℕ) (hard waiting : ℕ → List JournalRecord) → AreReady (D.disk disk.old) g self.old.journals.items → KeepsJournals (D.disk disk.old) hard waiting self.old.journals.items → AtEachMoment (D.disk disk.old) (D.disk disk.new) (OnlyIn (D.disk disk.old) (IsNewestFile g (length self.old.journals.items)) (HasFirst g (length self.old.journals.items) hard waiting (λ r. 0))) }
         ensures frame { (g : ℕ) → AreReady (D.disk disk.old) g self.old.journals.items → OthersStay (IsNewestFile g (length self.old.journals.items)) (D.disk disk.old) (D.disk disk.new) }

@@ -5,7 +5,7 @@ ghost use Rattle.disk_defs.specs.Frames.{Only, OthersStay};
 ghost use Rattle.journal_defs.specs.Journal.{JournalRecord};
 ghost use Rattle.jnl_file.specs.Journal as files;
 ghost use Rattle.region_journals.specs.Fronts.{IsNewestFile};
-ghost use Rattle.region_journals.specs.Journals.{HasSyncs, AreReady, KeepsJournals, ArePrepared};
+ghost use Rattle.region_journals.specs.Journals.{HasSyncs, AreReady, KeepsJournals, ArePrepared, AreMarked};
 ghost use Rattle.region_journals.specs.Turns.{Turned, AllTurned};
 ghost use Rattle.region_journals.specs.Entering.{IsPartPrepared, IsUnchanged, Stays};
 
@@ -59,6 +59,7 @@ impl RegionJournals {
         ensures ready { (g : ℕ) → AreReady (D.disk disk.old) g self.old.journals.items → AreReady (D.disk disk.new) g self.new.journals.items }
         ensures state { (hard waiting : ℕ → List JournalRecord) → KeepsJournals (D.disk disk.old) hard waiting self.old.journals.items → KeepsJournals (D.disk disk.new) hard waiting self.new.journals.items }
         ensures prepared { OnOk result (ArePrepared parts.now self.new.journals.items) }
+        ensures marks { AreMarked (λ r was. was) self.old.journals.items self.new.journals.items }
         ensures count { length self.new.journals.items ≡ length self.old.journals.items }
         ensures any_moment { AtEachMoment (D.disk disk.old) (D.disk disk.new) (Image (D.disk disk.old)) }
         ensures frame { (g : ℕ) → AreReady (D.disk disk.old) g self.old.journals.items → OthersStay (IsNewestFile g (length self.old.journals.items)) (D.disk disk.old) (D.disk disk.new) }

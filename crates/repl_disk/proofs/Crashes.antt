@@ -5,7 +5,7 @@ use Rattle.std.proofs.lemmas.List.{get_or_default, get_or-set_same, get_or-set_o
 use Rattle.repl_disk.specs.Mem.{Room, settled, IsImageOf}
 use Rattle.repl_disk.specs.Table.{mem_of, room_of, Entry, entry_of, nothing, entry_in, IsCrashed, IsKept, AreKept, all_calls, all_bytes}
 use Rattle.repl_disk.specs.declared.file.MemFile.{MemFile}
-use Rattle.repl_disk.proofs.Tables.{cond_yes, cond_no, calls_set, bytes_set, kept_set}
+use Rattle.repl_disk.proofs.Tables.{cond_yes, cond_no, calls_set, bytes_set, numbers_set, kept_set}
 
 -- the files before this place were made an image, and the others are as they were
 pub record Turned (old now : List MemFile) (i : ℕ) : Type 0 where
@@ -44,10 +44,7 @@ module _ (old now : List MemFile) (i : ℕ) (d m : MemFile) (turned : Turned old
   here_old e = sym (turned.rest i e (omega arith)) ∙ get_or_default now i e d inside ∙ sym read
 
   numbers_next : (k : ℕ) (e : MemFile) → (get_or (set now i m) k e).number ≡ (get_or old k e).number
-  numbers_next k e = elim (cases_eq k i) [
-    | inl same ↦ ap (λ (j : ℕ). (get_or (set now i m) j e).number) same ∙ ap (λ (x : MemFile). x.number) (here_now e) ∙ number ∙ ap (λ (x : MemFile). x.number) (sym (here_old e)) ∙ ap (λ (j : ℕ). (get_or old j e).number) (sym same)
-    | inr other ↦ ap (λ (x : MemFile). x.number) (get_or-set_other now i k m e other) ∙ turned.numbers k e
-  ]
+  numbers_next k e = numbers_set now i d m inside read number k e ∙ turned.numbers k e
 
   done_next : (k : ℕ) (e : MemFile) → k < i + 1 → IsCrashed (entry_of (get_or old k e)) (entry_of (get_or (set now i m) k e))
   done_next k e lt = elim (cases_eq k i) [
@@ -63,7 +60,7 @@ module _ (old now : List MemFile) (i : ℕ) (d m : MemFile) (turned : Turned old
       let bytes_same = ap (λ (x : MemFile). x.bytes_left) read in
       record {
         long = length-set now i m ∙ turned.long;
-        kept = kept_set now i m turned.kept is;
+        kept = kept_set now i d m inside read number turned.kept is;
         calls = omega (arith, calls_set now i d m inside, calls_same, ap (λ (r : Room). r.calls) room, turned.calls);
         bytes = omega (arith, bytes_set now i d m inside, bytes_same, ap (λ (r : Room). r.bytes) room, turned.bytes);
         numbers = numbers_next;

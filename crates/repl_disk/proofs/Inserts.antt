@@ -1,8 +1,9 @@
 -- A file that is put into the table.
-use Rattle.std.proofs.Common.{◌≡◌, ℕ, zero, suc, ◌+◌, ◌==◌, cond, List, [], ◌∷◌, refl, sym, ◌∙◌, ap, arith, inl, inr}
+use Rattle.std.proofs.Common.{◌≡◌, ℕ, zero, suc, ◌+◌, ◌<◌, ◌==◌, cond, List, [], ◌∷◌, length, get_or, refl, sym, ◌∙◌, ap, arith, inl, inr}
 use Rattle.std.proofs.lemmas.Bool.{cases_eq}
 use Rattle.std.specs.List.{insert}
-use Rattle.repl_disk.specs.Table.{Entry, entry_of, nothing, entry_in, IsAbsent, IsKept, AreKept, all_calls, all_bytes}
+use Rattle.std.proofs.lemmas.List.Sorted.{IsNonDecreasingBy-insert}
+use Rattle.repl_disk.specs.Table.{Entry, entry_of, nothing, entry_in, IsAbsent, IsPlaceFor, IsKept, AreKept, all_calls, all_bytes}
 use Rattle.repl_disk.specs.declared.file.MemFile.{MemFile}
 use Rattle.repl_disk.proofs.Tables.{cond_yes, cond_no, none_reads}
 
@@ -36,14 +37,24 @@ insert_bytes [] (suc i) m = refl
 insert_bytes (old ∷ files) zero m = refl
 insert_bytes (old ∷ files) (suc i) m = omega (arith, insert_bytes files i m)
 
-alone_kept : (m : MemFile) → IsKept m → AreKept (m ∷ [])
+-- what holds of each file, in a form that goes by the list
+abbrev EachKept : List MemFile → Type 0
+EachKept files = (k : ℕ) (d : MemFile) → k < length files → IsKept (get_or files k d)
+
+alone_kept : (m : MemFile) → IsKept m → EachKept (m ∷ [])
 alone_kept m is zero d lt = is
 alone_kept m is (suc k) d lt = absurd (omega (arith, lt))
 
-pub insert_kept : (files : List MemFile) (i : ℕ) (m : MemFile) → AreKept files → IsKept m → AreKept (insert files i m)
-insert_kept [] zero m kept is k d lt = alone_kept m is k d lt
-insert_kept [] (suc i) m kept is k d lt = alone_kept m is k d lt
-insert_kept (old ∷ files) zero m kept is zero d lt = is
-insert_kept (old ∷ files) zero m kept is (suc k) d lt = kept k d (omega (arith, lt))
-insert_kept (old ∷ files) (suc i) m kept is zero d lt = kept 0 d (omega arith)
-insert_kept (old ∷ files) (suc i) m kept is (suc k) d lt = insert_kept files i m (λ j e le. kept (suc j) e (omega (arith, le))) is k d (omega (arith, lt))
+each_insert : (files : List MemFile) (i : ℕ) (m : MemFile) → EachKept files → IsKept m → EachKept (insert files i m)
+each_insert [] zero m kept is k d lt = alone_kept m is k d lt
+each_insert [] (suc i) m kept is k d lt = alone_kept m is k d lt
+each_insert (old ∷ files) zero m kept is zero d lt = is
+each_insert (old ∷ files) zero m kept is (suc k) d lt = kept k d (omega (arith, lt))
+each_insert (old ∷ files) (suc i) m kept is zero d lt = kept 0 d (omega arith)
+each_insert (old ∷ files) (suc i) m kept is (suc k) d lt = each_insert files i m (λ j e le. kept (suc j) e (omega (arith, le))) is k d (omega (arith, lt))
+
+pub insert_kept : (files : List MemFile) (i : ℕ) (m : MemFile) → AreKept files → IsKept m → IsPlaceFor files m.number i → AreKept (insert files i m)
+insert_kept files i m kept is place = record {
+  each = each_insert files i m kept.each is;
+  rising = IsNonDecreasingBy-insert (λ (x : MemFile). x.number) files i m kept.rising place.inside (λ k d lt. omega (arith, place.below k d lt)) (λ k d le lt. omega (arith, place.above k d le lt));
+}

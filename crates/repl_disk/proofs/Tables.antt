@@ -1,7 +1,7 @@
 -- The table of files.
 use Rattle.std.proofs.Common.{◌≡◌, ◌≢◌, ℕ, zero, suc, ◌+◌, ◌≤◌, ◌<◌, ◌==◌, true, false, cond, Result, Ok, Err, OnErr, List, [], ◌∷◌, length, get_or, set, refl, sym, ◌∙◌, ap, subst, arith, inl, inr}
 use Rattle.std.proofs.lemmas.Bool.{cases_eq}
-use Rattle.std.proofs.lemmas.List.{get_or_default}
+use Rattle.std.proofs.lemmas.List.{get_or_default, get_or-set_same, get_or-set_other, length-set}
 use Rattle.std.proofs.lemmas.Bool.Decides.{nat_tests}
 use Rattle.repl_disk.specs.Mem.{Mem}
 use Rattle.repl_disk.specs.Table.{Entry, entry_of, nothing, entry_in, put_entry, IsFirst, IsAbsent, IsKept, AreKept, all_calls, all_bytes}
@@ -54,12 +54,28 @@ bytes_set [] i d m lt = absurd (omega arith)
 bytes_set (old ∷ files) zero d m lt = omega arith
 bytes_set (old ∷ files) (suc i) d m lt = omega (arith, bytes_set files i d m (omega (arith, lt)))
 
-pub kept_set : (files : List MemFile) (i : ℕ) (m : MemFile) → AreKept files → IsKept m → AreKept (set files i m)
-kept_set [] i m kept is k d lt = absurd (omega (arith, lt))
-kept_set (old ∷ files) zero m kept is zero d lt = is
-kept_set (old ∷ files) zero m kept is (suc k) d lt = kept (suc k) d lt
-kept_set (old ∷ files) (suc i) m kept is zero d lt = kept 0 d (omega arith)
-kept_set (old ∷ files) (suc i) m kept is (suc k) d lt = kept_set files i m (λ k d lt. kept (suc k) d (omega (arith, lt))) is k d (omega (arith, lt))
+each_set : (files : List MemFile) (i : ℕ) (m : MemFile) → ((k : ℕ) (d : MemFile) → k < length files → IsKept (get_or files k d)) → IsKept m → (k : ℕ) (d : MemFile) → k < length (set files i m) → IsKept (get_or (set files i m) k d)
+each_set [] i m kept is k d lt = absurd (omega (arith, lt))
+each_set (old ∷ files) zero m kept is zero d lt = is
+each_set (old ∷ files) zero m kept is (suc k) d lt = kept (suc k) d lt
+each_set (old ∷ files) (suc i) m kept is zero d lt = kept 0 d (omega arith)
+each_set (old ∷ files) (suc i) m kept is (suc k) d lt = each_set files i m (λ k d lt. kept (suc k) d (omega (arith, lt))) is k d (omega (arith, lt))
+
+-- a file in the place of one of its number
+module _ (files : List MemFile) (i : ℕ) (d m : MemFile) (inside : i < length files) (read : d ≡ get_or files i d) (number : m.number ≡ d.number) where
+  pub numbers_set : (k : ℕ) (e : MemFile) → (get_or (set files i m) k e).number ≡ (get_or files k e).number
+  numbers_set k e = elim (cases_eq k i) [
+    | inl same ↦
+        ap (λ (j : ℕ). (get_or (set files i m) j e).number) same ∙ ap (λ (x : MemFile). x.number) (get_or-set_same files i m e inside) ∙ number
+        ∙ ap (λ (x : MemFile). x.number) (read ∙ get_or_default files i d e inside) ∙ ap (λ (j : ℕ). (get_or files j e).number) (sym same)
+    | inr other ↦ ap (λ (x : MemFile). x.number) (get_or-set_other files i k m e other)
+  ]
+
+  pub kept_set : AreKept files → IsKept m → AreKept (set files i m)
+  kept_set kept is = record {
+    each = each_set files i m kept.each is;
+    rising = λ j k e le lt. omega (arith, numbers_set j e, numbers_set k e, kept.rising j k e le (omega (arith, lt, length-set files i m)));
+  }
 
 put_kept : (number : ℕ) (files : ℕ → Entry) (f : ℕ) → put_entry number (files number) files f ≡ files f
 put_kept number files f = elim (cases_eq f number) [
@@ -88,7 +104,10 @@ module _ (files : List MemFile) (number i : ℕ) (d : MemFile) (first : IsFirst 
   set_bytes m = ap (λ (x : MemFile). all_bytes (set files i m) + x.bytes_left) read ∙ bytes_set files i d m first.inside
 
   pub is_kept : AreKept files → IsKept d
-  is_kept kept = subst IsKept (sym read) (kept i d first.inside)
+  is_kept kept = subst IsKept (sym read) (kept.each i d first.inside)
+
+  pub set_are_kept : (m : MemFile) → m.number ≡ d.number → AreKept files → IsKept m → AreKept (set files i m)
+  set_are_kept m number kept is = kept_set files i d m first.inside read number kept is
 
 pub entry_is : {m m2 : Mem} {l l2 : List ℕ} {c c2 b b2 n n2 : ℕ} → m ≡ m2 → l ≡ l2 → c ≡ c2 → b ≡ b2 → n ≡ n2
     → (let x : Entry = record { mem = m; left = l; room = record { calls = c; bytes = b }; syncs = n } in let y : Entry = record { mem = m2; left = l2; room = record { calls = c2; bytes = b2 }; syncs = n2 } in x ≡ y)
@@ -103,14 +122,6 @@ pub none_reads : (files : List MemFile) (number : ℕ) → IsAbsent files number
 none_reads [] number none = refl
 none_reads (m ∷ files) number none =
     cond_no number m.number (entry_of m) (entry_in files number) (λ is. none 0 m (omega arith) (sym is)) ∙ none_reads files number (λ k d lt. none (suc k) d (omega (arith, lt)))
-
-pub found_reads : (files : List MemFile) (number i : ℕ) (m : MemFile) → i < length files → m ≡ get_or files i m → m.number ≡ number → ((k : ℕ) (d : MemFile) → k < i → (get_or files k d).number ≢ number) → entry_in files number ≡ entry_of m
-found_reads files number i m lt read number_is before =
-    reads files number i m (record {
-      inside = lt;
-      here = λ d. ap (λ (x : MemFile). x.number) (get_or_default files i d m lt ∙ sym read) ∙ number_is;
-      before = before;
-    }) read
 
 -- a file has no more room than all together
 pub entry_calls : (files : List MemFile) (f : ℕ) → (entry_in files f).room.calls ≤ all_calls files

@@ -1,5 +1,6 @@
 -- The table of files in memory.
 use Rattle.std.specs.Prelude.{◌≡◌, ◌≢◌, ℕ, ◌+◌, ◌-◌, ◌≤◌, ◌<◌, ◌^◌, ◌==◌, min, false, if◌then◌else◌, List, [], ◌∷◌, length, take, replicate, slice_index_or, vec_capacity}
+use Rattle.std.specs.List.Sorted.{IsNonDecreasingBy}
 use Rattle.disk_defs.specs.Disk.{Files}
 use Rattle.repl_disk.specs.Mem.{Mem, Room, settled, wrote, IsImageOf}
 use Rattle.repl_disk.specs.declared.file.MemFile.{MemFile}
@@ -62,6 +63,18 @@ pub record IsFirst (files : List MemFile) (number i : ℕ) : Type 0 where
 abbrev pub IsAbsent : List MemFile → ℕ → Type 0
 IsAbsent files number = (k : ℕ) (d : MemFile) → k < length files → (slice_index_or files k d).number ≢ number
 
+-- the numbers before this place are lower, and no other is
+pub record IsBound (files : List MemFile) (number i : ℕ) : Type 0 where
+  pub inside : i ≤ length files
+  pub below : (k : ℕ) (d : MemFile) → k < i → (slice_index_or files k d).number < number
+  pub behind : (k : ℕ) (d : MemFile) → i ≤ k → k < length files → number ≤ (slice_index_or files k d).number
+
+-- a new file of this number stands there between those of lower and of higher numbers
+pub record IsPlaceFor (files : List MemFile) (number i : ℕ) : Type 0 where
+  pub inside : i ≤ length files
+  pub below : (k : ℕ) (d : MemFile) → k < i → (slice_index_or files k d).number < number
+  pub above : (k : ℕ) (d : MemFile) → i ≤ k → k < length files → number < (slice_index_or files k d).number
+
 -- What holds of each file: no place before `low` was written since the last sync, and each list has memory for the
 -- bytes that the room lets be written.
 pub record HasMemory (m : MemFile) : Type 0 where
@@ -78,8 +91,10 @@ pub record IsKept (m : MemFile) : Type 0 where
   pub free : take m.low m.marks.items ≡ replicate m.low false
   pub memory : HasMemory m
 
-abbrev pub AreKept : List MemFile → Type 0
-AreKept files = (k : ℕ) (d : MemFile) → k < length files → IsKept (slice_index_or files k d)
+-- that of all of them, which stand by rising number
+pub record AreKept (files : List MemFile) : Type 0 where
+  pub each : (k : ℕ) (d : MemFile) → k < length files → IsKept (slice_index_or files k d)
+  pub rising : IsNonDecreasingBy (λ (m : MemFile). m.number) files
 
 -- the room that is left on all files together
 abbrev pub all_calls : List MemFile → ℕ

@@ -102,7 +102,7 @@ impl MemDisk {
         ensures faults { self.new.faults ≡ self.old.faults }
         ensures syncs { (f : ℕ) → syncs_of self.new.files.items f ≡ syncs_of self.old.files.items f }
     {
-        let Some(i) = find(&self.files, file) else {
+        let Ok(i) = find(&self.files, file) else {
             unreachable!();
         };
         write_file(&mut self.files, file, i, at, bytes);
@@ -128,7 +128,7 @@ impl MemDisk {
         ensures syncs { syncs_of self.new.files.items file ≡ counted (syncs_of self.old.files.items file) }
         ensures others { (f : ℕ) → f ≢ file → syncs_of self.new.files.items f ≡ syncs_of self.old.files.items f }
     {
-        let Some(i) = find(&self.files, file) else {
+        let Ok(i) = find(&self.files, file) else {
             unreachable!();
         };
         sync_file(&mut self.files, file, i);

@@ -1,58 +1,54 @@
 //! The table of a memory disk's files.
-ghost use Rattle.std.specs.Prelude.{◌≡◌, ◌≢◌, ◌≤◌, ◌<◌, ◌+◌, ◌^◌, ℕ, length, IfOk, IfSome, IfNone, OnOk, OnErr};
+ghost use Rattle.std.specs.Prelude.{◌≡◌, ◌≢◌, ◌≤◌, ◌<◌, ◌+◌, ◌^◌, ℕ, length, IfOk, IfErr, OnOk, OnErr};
 ghost use Rattle.repl_disk.specs.Mem.{Mem};
-ghost use Rattle.repl_disk.specs.Table.{entry_in, syncs_of, put_entry, entry_written, entry_synced, entry_grown, IsCrashed, IsFirst, IsAbsent, AreKept, all_calls, all_bytes};
+ghost use Rattle.repl_disk.specs.Table.{entry_in, syncs_of, put_entry, entry_written, entry_synced, entry_grown, IsCrashed, IsFirst, IsAbsent, IsBound, IsPlaceFor, AreKept, all_calls, all_bytes};
 
 use crate::file::MemFile;
 use std::alloc::{AllocError, Global};
 
-/// The place of the file of this number.
-pub fn find(files: &[MemFile], number: u32) -> Option<usize>
-    ensures some { IfSome result (λ i. IsFirst files.now number i) }
-    ensures none { IfNone result (IsAbsent files.now number) }
+/// The place of the first file whose number is not below this one. It looks by halves.
+fn place_of(files: &[MemFile], number: u32) -> usize
+    requires { AreKept files.now }
+    ensures { IsBound files.now number result }
 {
-    for (i, file) in files.iter().enumerate() {
-        if file.number == number {
-            return Some(i);
-        }
+    files.partition_point(|file| file.number < number)
+}
+
+/// The place of the file of this number, or the one where it would be put.
+pub fn find(files: &[MemFile], number: u32) -> Result<usize, usize>
+    requires { AreKept files.now }
+    ensures found { IfOk result (IsFirst files.now number) }
+    ensures absent { IfErr result (λ _. IsAbsent files.now number) }
+    ensures place { IfErr result (IsPlaceFor files.now number) }
+{
+    let i = place_of(files, number);
+    if i < files.len() && files[i].number == number {
+        Ok(i)
+    } else {
+        Err(i)
     }
-    None
 }
 
 /// The bytes of a file; none where it is not there.
 pub fn bytes_of(files: &[MemFile], number: u32) -> &[u8]
+    requires { AreKept files.now }
     ensures { result.now ≡ (entry_in files.now number).mem.read }
 {
-    for file in files {
-        if file.number == number {
-            return &file.read;
-        }
+    match find(files, number) {
+        Ok(i) => &files[i].read,
+        Err(_) => &[],
     }
-    &[]
 }
 
 /// How many syncs of a file there were; none where it is not there.
 pub fn syncs_in(files: &[MemFile], number: u32) -> u64
+    requires { AreKept files.now }
     ensures { result ≡ syncs_of files.now number }
 {
-    for file in files {
-        if file.number == number {
-            return file.syncs;
-        }
+    match find(files, number) {
+        Ok(i) => files[i].syncs,
+        Err(_) => 0,
     }
-    0
-}
-
-/// The place at which a new file keeps the numbers rising.
-fn place_for(files: &[MemFile], number: u32) -> usize
-    ensures { result ≤ length files.now }
-{
-    for (i, file) in files.iter().enumerate() {
-        if number < file.number {
-            return i;
-        }
-    }
-    files.len()
 }
 
 /// The place of a file, which is put there where it is missing.
@@ -64,12 +60,13 @@ pub fn slot(files: &mut Vec<MemFile>, alloc: Global, number: u32) -> Result<usiz
     ensures bytes { all_bytes files.new.items ≡ all_bytes files.old.items }
     ensures ok { IfOk result (IsFirst files.new.items number) }
 {
-    if let Some(i) = find(files, number) {
-        return Ok(i);
+    match find(files, number) {
+        Ok(i) => Ok(i),
+        Err(i) => {
+            files.insert(i, MemFile::new(alloc, number))?;
+            Ok(i)
+        }
     }
-    let i = place_for(files, number);
-    files.insert(i, MemFile::new(alloc, number))?;
-    Ok(i)
 }
 
 /// Adds room on a file.

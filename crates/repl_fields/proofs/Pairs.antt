@@ -1,5 +1,5 @@
 -- A field and then another, read one after the other, are one field of both.
-use Rattle.std.proofs.Common.{◌≡◌, List, ℕ, ◌++◌, Some, None, ap, sym, ◌∙◌, append_assoc, subst}
+use Rattle.std.proofs.Common.{◌≡◌, List, ℕ, ◌++◌, Some, None, ap, sym, ◌∙◌, append_assoc}
 use Rattle.repl_fields.specs.Reading.{ReadsField}
 
 module _ {X Y : Type 0} (F : X → Type 0) (f : X → List ℕ) (G : Y → Type 0) (g : Y → List ℕ) where

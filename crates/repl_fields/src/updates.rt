@@ -5,6 +5,7 @@ ghost use Rattle.global_defs.specs.Key as defs;
 ghost use Rattle.global_defs.specs.Valid.{is_key};
 ghost use Rattle.global_defs.specs.Encoded.{encoded};
 ghost use Rattle.global_defs.specs.Fields.{short, long, spelled_update, IsUpdate};
+ghost use Rattle.global_defs.specs.Prefix.{IsPrefix};
 ghost use Rattle.gvn_key.specs.Terms.{update_value};
 ghost use Rattle.repl_fields.specs.Reading.{ReadsField};
 
@@ -96,28 +97,31 @@ pub fn read_update(alloc: Global, bytes: &[u8]) -> Result<Option<(Update, &[u8])
     }
 }
 
-/// Adds bytes behind their length of one byte at the end.
+/// Adds bytes behind their length of one byte at the end. After [`NoMemory`] a part of them may have been added.
 pub fn write_short(bytes: &[u8], out: &mut Bytes) -> Result<(), NoMemory>
     requires { length bytes.now < 2 ^ 8 }
-    ensures { OnOk result (out.new ≡ out.old ++ short bytes.now) }
+    ensures ok { OnOk result (out.new ≡ out.old ++ short bytes.now) }
+    ensures err { OnErr result (IsPrefix out.old out.new) }
 {
     out.push_all(&[bytes.len() as u8])?;
     out.push_all(bytes)
 }
 
-/// Adds bytes behind their length of two bytes at the end.
+/// Adds bytes behind their length of two bytes at the end. After [`NoMemory`] a part of them may have been added.
 pub fn write_long(bytes: &[u8], out: &mut Bytes) -> Result<(), NoMemory>
     requires { length bytes.now < 2 ^ 16 }
-    ensures { OnOk result (out.new ≡ out.old ++ long bytes.now) }
+    ensures ok { OnOk result (out.new ≡ out.old ++ long bytes.now) }
+    ensures err { OnErr result (IsPrefix out.old out.new) }
 {
     out.push_all(&(bytes.len() as u16).to_be_bytes())?;
     out.push_all(bytes)
 }
 
-/// Adds an update at the end, as `read_update` reads it.
+/// Adds an update at the end, as `read_update` reads it. After [`NoMemory`] a part of it may have been added.
 pub fn write_update(update: &Update, out: &mut Bytes) -> Result<(), NoMemory>
     requires { IsUpdate (update_value update.now) }
-    ensures { OnOk result (out.new ≡ out.old ++ spelled_update (update_value update.now)) }
+    ensures ok { OnOk result (out.new ≡ out.old ++ spelled_update (update_value update.now)) }
+    ensures err { OnErr result (IsPrefix out.old out.new) }
 {
     match update {
         Update::Set(key, value) => {

@@ -1,5 +1,5 @@
 // Sections that aren't ended.
-ghost use Rattle.std.specs.Prelude.{◌≡◌, ◌+◌, ◌-◌, ◌&&◌, ◌<◌, ◌≤◌, ◌∷◌, ◌++◌, [], true, false, length, map, take, drop, get_or, set, replicate, count_by, codes, IfOk, OnOk, OnErr};
+ghost use Rattle.std.specs.Prelude.{◌≡◌, ◌+◌, ◌-◌, ◌&&◌, ◌<◌, ◌≤◌, ◌∷◌, ◌++◌, [], true, false, length, map, take, drop, get_or, set, replicate, count_by, nat_le, codes, IfOk, OnOk, OnErr};
 ghost use Rattle.std.specs.List.{list_any};
 ghost use Rattle.gvn_key.specs.Terms.{statement_value};
 ghost use Rattle.gvn_model.specs.Jobs.{job_value};
@@ -131,12 +131,18 @@ fn is_update_word(word: &[u8]) -> bool
         || word == b"INCR".as_slice()
 }
 
+/// Whether a transaction takes no update more. Only one of so many statements is looked through.
+fn has_most_updates(statements: &[Statement]) -> bool
+    ensures { result ≡ nat_le 256 (count_by is_update (map statement_value statements.now)) }
+{
+    MOST_UPDATES <= statements.len() && MOST_UPDATES <= count_updates(statements)
+}
+
 /// Whether a transaction takes no statement of that word.
 fn is_full_job(job: &Statements, word: &[u8]) -> bool
     ensures { result ≡ is_full_job job.now word.now }
 {
-    MOST_STATEMENTS <= job.len()
-        || (is_update_word(word) && MOST_UPDATES <= count_updates(job.as_slice()))
+    MOST_STATEMENTS <= job.len() || (is_update_word(word) && has_most_updates(job.as_slice()))
 }
 
 /// A statement's fault, by the place of its part in the line.

@@ -18,4 +18,4 @@ pub use frame::{Frame, FrameError, FrameList};
 pub use frames::Frames;
 pub use laws::{frames_apart_hold, one_reading};
 pub use measuring::frame_length;
-pub use writing::{entry_head, write_entry_frame, write_frame};
+pub use writing::{entry_head, write_entry, write_entry_frame, write_frame};

@@ -42,7 +42,8 @@ fn write_reigns(reigns: &[Reign], out: &mut Bytes) -> Result<(), NoMemory>
 /// Adds updates at the end.
 fn write_updates(updates: &[Update], out: &mut Bytes) -> Result<(), NoMemory>
     requires { AllByRecursion IsUpdate (map update_value updates.now) }
-    ensures { OnOk result (out.new ≡ out.old ++ flat_map spelled_update (map update_value updates.now)) }
+    ensures ok { OnOk result (out.new ≡ out.old ++ flat_map spelled_update (map update_value updates.now)) }
+    ensures err { OnErr result (IsPrefix out.old out.new) }
 {
     for update in updates {
         write_update(update, out)?;
@@ -52,7 +53,8 @@ fn write_updates(updates: &[Update], out: &mut Bytes) -> Result<(), NoMemory>
 
 /// Adds what stands before an entry's updates at the end.
 fn write_head(number: u64, origin: Origin, count: u16, out: &mut Bytes) -> Result<(), NoMemory>
-    ensures { OnOk result (out.new ≡ out.old ++ (to_be_bytes w64 number ++ origin.updater ∷ to_be_bytes w32 origin.serial ++ to_be_bytes w16 count)) }
+    ensures ok { OnOk result (out.new ≡ out.old ++ (to_be_bytes w64 number ++ origin.updater ∷ to_be_bytes w32 origin.serial ++ to_be_bytes w16 count)) }
+    ensures err { OnErr result (IsPrefix out.old out.new) }
 {
     out.push_all(&number.to_be_bytes())?;
     out.push(origin.updater)?;
@@ -60,10 +62,12 @@ fn write_head(number: u64, origin: Origin, count: u16, out: &mut Bytes) -> Resul
     out.push_all(&count.to_be_bytes())
 }
 
-/// Adds the bytes of the entry of that number at the end.
-fn write_entry(number: u64, transaction: &Transaction, out: &mut Bytes) -> Result<(), NoMemory>
+/// Adds the bytes of the entry of that number at the end: the number, the updater, the serial, how many updates it has, and these.
+/// After [`NoMemory`] a part of them may have been added.
+pub fn write_entry(number: u64, transaction: &Transaction, out: &mut Bytes) -> Result<(), NoMemory>
     requires { IsTransaction (transaction_value transaction.now) }
-    ensures { OnOk result (out.new ≡ out.old ++ entry_bytes number (transaction_value transaction.now)) }
+    ensures ok { OnOk result (out.new ≡ out.old ++ entry_bytes number (transaction_value transaction.now)) }
+    ensures err { OnErr result (IsPrefix out.old out.new) }
 {
     write_head(
         number,

@@ -21,7 +21,7 @@ loop-before-init g c =
     let none : c.new-records.result.items ≡ [] = search rules in
     record {
       read = subst (λ (ps : List Placed). IfSome u.content (λ files. IsJournal files c.args.region 0 0 ps)) (sym (ap (map placed_value) none)) (all_told u.content (λ files. IsJournal files c.args.region 0 0 []) (λ files. (refl, refl)));
-      version = search rules;
+      form = search rules;
       began = omega arith;
       durable = all_told u.content (AreDurable u c.args.region 0) (λ files h first most. absurd (omega (arith, first, most)));
       content = refl;
@@ -46,7 +46,7 @@ loop-before-preserved g c =
     let most : l.before + 1 ≤ c.args.last = omega arith in
     record {
       read = told_joins u v w r l.before n next inv.content l.last_began c.in-Ok.began (map placed_value l.records.items) (map placed_value c.read_generation.new.into.items) inv.read call.read;
-      version = call.version inv.version;
+      form = call.form inv.form;
       began = search rules;
       durable = told_durable u v w r l.before n next inv.content c.read_generation.ensures.frame inv.durable call.durable;
       content = c.read_generation.ensures.content ∙ inv.content;

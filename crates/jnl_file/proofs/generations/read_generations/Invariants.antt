@@ -3,7 +3,8 @@ use Rattle.std.specs.List.{AllByRecursion}
 use Rattle.disk_defs.specs.Disk.{Image, AtEachMoment}
 use Rattle.disk_defs.specs.Frames.{OthersStay}
 use Rattle.journal_defs.specs.Stands.{IsJournal}
-use Rattle.jnl_record.specs.Values.{placed_value, IsFirstVersion}
+use Rattle.jnl_record.specs.Values.{placed_value}
+use Rattle.jnl_file.specs.Reading.{IsReadRecord}
 use Rattle.jnl_file.specs.Generations.{AreJournals, AreDurable}
 use Rattle.jnl_file.proofs.generations.read_generations.Given as goal
 
@@ -14,7 +15,7 @@ invariant-loop-before g l =
     let v = view l.disk in
     record {
       read : IfSome u.content (λ files. IsJournal files l.fn.region l.before l.last_began (map placed_value l.records.items));
-      version : AllByRecursion (λ p. IsFirstVersion p.what) l.records.items;
+      form : AllByRecursion (λ p. IsReadRecord p.what) l.records.items;
       began : l.last_began ≤ l.before;
       durable : IfSome u.content (AreDurable v l.fn.region l.before);
       content : v.content ≡ u.content;

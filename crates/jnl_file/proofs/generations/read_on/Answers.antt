@@ -4,10 +4,10 @@ use Rattle.std.specs.List.{AllByRecursion}
 use Rattle.disk_defs.proofs.Frames.{reads_more}
 use Rattle.journal_defs.specs.Sequence.{Placed}
 use Rattle.journal_defs.specs.Stands.{in_generation}
-use Rattle.jnl_record.specs.Values.{record_value, placed_value, IsFirstVersion}
+use Rattle.jnl_record.specs.Values.{record_value, placed_value}
 use Rattle.jnl_record.specs.declared.record.JnlRecord.{JnlRecord}
 use Rattle.jnl_record.specs.declared.placed.PlacedRecord.{PlacedRecord}
-use Rattle.jnl_file.specs.Reading.{FindsRecord, IsNoRecord}
+use Rattle.jnl_file.specs.Reading.{FindsRecord, IsReadRecord, IsNoRecord}
 use Rattle.jnl_file.specs.Generations.{MayJoin, StopsAt}
 use Rattle.jnl_file.specs.declared.error.JournalError.TheVariants.{NotARecord}
 use Rattle.journal_laws.proofs.ImageSteps.{all_both}
@@ -25,7 +25,7 @@ loop-what-init g c =
     record {
       reached = all_told o (λ files. Reached c.args.region c.args.generation c.args.previous (files c.args.gated.now.file) 0 list list c.args.previous)
           (λ files. reached_start c.args.region c.args.generation c.args.previous (files c.args.gated.now.file) list);
-      version = λ all. all;
+      form = λ all. all;
       began = inl refl;
       same = refl;
       reads = search rules;
@@ -45,12 +45,12 @@ loop-what-preserved g c =
     (subst (λ (f : Option (JnlRecord × ℕ)). IfSome (view l.disk).content (λ files. FindsRecord (files l.gated.file) l.at f)) c.in-Some.is c.in_ok-what.ensures.found) in
     let may : MayJoin (nat_eq l.at 0) c.args.region c.args.generation c.args.previous (record_value x) = c.may_join.ensures.0 c.if-not-may_join.false in
     let more : c.push.new.self.items ≡ l.into.items ++ p ∷ [] = search rules in
-    let first : IsFirstVersion x = (subst (λ (f : Option (JnlRecord × ℕ)). IfSome f (λ read. IsFirstVersion read.0)) c.in-Some.is c.in_ok-what.ensures.version) in
+    let first : IsReadRecord x = (subst (λ (f : Option (JnlRecord × ℕ)). IfSome f (λ read. IsReadRecord read.0)) c.in-Some.is c.in_ok-what.ensures.form) in
     let mapped : map placed_value c.push.new.self.items ≡ map placed_value l.into.items ++ in_generation c.args.generation (record_value x) ∷ [] = ap (map placed_value) more ∙ map-append placed_value l.into.items (p ∷ []) in
     record {
       reached = subst (λ (ps : List Placed). IfSome v.content (λ files. Reached c.args.region c.args.generation c.args.previous (files file) c.in-Some.next (map placed_value c.args.into.now.items) ps c.args.generation)) (sym mapped)
           (told_reached v.content file c.args.region c.args.generation c.args.previous l.at (map placed_value c.args.into.now.items) (map placed_value l.into.items) l.began inv.reached x c.in-Some.next found may);
-      version = λ all. subst (AllByRecursion (λ (q : PlacedRecord). IsFirstVersion q.what)) (sym more) (all_both (λ (q : PlacedRecord). IsFirstVersion q.what) l.into.items (p ∷ []) (inv.version all) (first, tt));
+      form = λ all. subst (AllByRecursion (λ (q : PlacedRecord). IsReadRecord q.what)) (sym more) (all_both (λ (q : PlacedRecord). IsReadRecord q.what) l.into.items (p ∷ []) (inv.form all) (first, tt));
       began = inr refl;
       same = c.read_record.ensures.same ∙ inv.same;
       reads = reads_more v (view l.disk) (view c.read_record.new.disk) (g.met.D.Disk.lawful c.args.disk.now) inv.reads c.read_record.ensures.reads;

@@ -1,4 +1,5 @@
-use Rattle.std.proofs.Common.{rules, ◌<◌, length, arith}
+use Rattle.std.proofs.Common.{rules, ◌<◌, length, sym, subst, arith}
+use Rattle.repl_disk.specs.Table.{IsKept}
 use Rattle.repl_disk.proofs.Crashes.{turned_none, turned_next, turned_all, crashed_file}
 use Rattle.repl_disk.proofs.table.crash_files.Goals as goal
 
@@ -8,6 +9,9 @@ loop-i-init c = record {
   same_end = search rules;
   turned = turned_none c.args.files.now.items c.requires.kept;
 }
+
+pub crash-first-requires-clause-kept : goal.crash-first-requires-clause-kept
+crash-first-requires-clause-kept c = subst IsKept (sym c.index_mut-file.ensures.value) (c.loop-i.invariant.turned.kept.each c.loop-i.i c.index_mut-file.result.now (search rules))
 
 pub loop-i-preserved : goal.loop-i-preserved
 loop-i-preserved c =

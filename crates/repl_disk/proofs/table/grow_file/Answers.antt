@@ -1,8 +1,17 @@
 use Rattle.std.proofs.Common.{◌<◌, ◌+◌, ◌^◌, sym, ◌∙◌, ap, subst, arith}
 use Rattle.repl_disk.specs.Mem.{Room}
 use Rattle.repl_disk.specs.Table.{Entry}
-use Rattle.repl_disk.proofs.Tables.{set_to, set_kept, set_calls, set_bytes, reads, entry_is, on_err}
+use Rattle.repl_disk.proofs.Tables.{is_kept, set_are_kept, set_to, set_kept, set_calls, set_bytes, reads, entry_is, on_err}
 use Rattle.repl_disk.proofs.table.grow_file.Goals as goal
+
+pub reserve-requires-clause-kept : goal.reserve-requires-clause-kept
+reserve-requires-clause-kept c = is_kept c.args.files.now.items c.args.number c.args.i c.index_mut-file.result.now c.requires.first c.index_mut-file.ensures.value c.requires.kept
+
+pub returns-clause-kept : goal.returns-clause-kept
+returns-clause-kept c = set_are_kept c.args.files.now.items c.args.number c.args.i c.index_mut-file.result.now c.requires.first c.index_mut-file.ensures.value c.reserve.new.self c.reserve.ensures.number c.requires.kept c.reserve.ensures.kept
+
+pub returns-in_err-reserve-clause-kept : goal.returns-in_err-reserve-clause-kept
+returns-in_err-reserve-clause-kept c = set_are_kept c.args.files.now.items c.args.number c.args.i c.index_mut-file.result.now c.requires.first c.index_mut-file.ensures.value c.reserve.new.self c.reserve.ensures.number c.requires.kept c.reserve.ensures.kept
 
 pub reserve-requires-clause-calls : goal.reserve-requires-clause-calls
 reserve-requires-clause-calls c =

@@ -1,8 +1,14 @@
 use Rattle.std.proofs.Common.{◌≡◌, ◌≤◌, ◌-◌, sym, ◌∙◌, ap, subst, arith}
 use Rattle.repl_disk.specs.Mem.{settled}
 use Rattle.repl_disk.specs.Table.{Entry, counted}
-use Rattle.repl_disk.proofs.Tables.{set_to, set_calls, set_bytes, reads, entry_is}
+use Rattle.repl_disk.proofs.Tables.{is_kept, set_are_kept, set_to, set_calls, set_bytes, reads, entry_is}
 use Rattle.repl_disk.proofs.table.sync_file.Goals as goal
+
+pub sync-requires-clause-kept : goal.sync-requires-clause-kept
+sync-requires-clause-kept c = is_kept c.args.files.now.items c.args.number c.args.i c.index_mut-file.result.now c.requires.first c.index_mut-file.ensures.value c.requires.kept
+
+pub returns-clause-kept : goal.returns-clause-kept
+returns-clause-kept c = set_are_kept c.args.files.now.items c.args.number c.args.i c.index_mut-file.result.now c.requires.first c.index_mut-file.ensures.value c.sync.new.self c.sync.ensures.number c.requires.kept c.sync.ensures.kept
 
 pub sync-requires-clause-calls : goal.sync-requires-clause-calls
 sync-requires-clause-calls c =

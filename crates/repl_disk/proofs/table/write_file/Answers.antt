@@ -1,8 +1,14 @@
 use Rattle.std.proofs.Common.{◌≡◌, ◌≤◌, ◌-◌, length, sym, ◌∙◌, ap, subst, arith}
 use Rattle.repl_disk.specs.Mem.{wrote}
 use Rattle.repl_disk.specs.Table.{Entry}
-use Rattle.repl_disk.proofs.Tables.{set_to, set_calls, set_bytes, reads, entry_is}
+use Rattle.repl_disk.proofs.Tables.{is_kept, set_are_kept, set_to, set_calls, set_bytes, reads, entry_is}
 use Rattle.repl_disk.proofs.table.write_file.Goals as goal
+
+pub write-requires-clause-kept : goal.write-requires-clause-kept
+write-requires-clause-kept c = is_kept c.args.files.now.items c.args.number c.args.i c.index_mut-file.result.now c.requires.first c.index_mut-file.ensures.value c.requires.kept
+
+pub returns-clause-kept : goal.returns-clause-kept
+returns-clause-kept c = set_are_kept c.args.files.now.items c.args.number c.args.i c.index_mut-file.result.now c.requires.first c.index_mut-file.ensures.value c.write.new.self c.write.ensures.number c.requires.kept c.write.ensures.kept
 
 pub write-requires-clause-place : goal.write-requires-clause-place
 write-requires-clause-place c =

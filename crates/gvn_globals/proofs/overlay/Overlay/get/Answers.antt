@@ -1,12 +1,8 @@
-use Rattle.std.proofs.Common.{◌≡◌, Option, Some, None, Bor, is_some, refl, sym, ap, ◌∙◌}
-use Rattle.std.specs.Option.{option_copied}
+use Rattle.std.proofs.Common.{is_some, sym, ap, ◌∙◌}
 use Rattle.std.specs.FinMap as globals
 use Rattle.gvn_globals.proofs.Overlays.{get_set, get_gone, get_below}
+use Rattle.gvn_globals.proofs.Noted.{copied}
 use Rattle.gvn_globals.proofs.overlay.Overlay.get.Goals as goal
-
-copied : {A : Type 0} (o : Option (Bor A)) → is_some (option_copied o) ≡ is_some o
-copied None = refl
-copied (Some x) = refl
 
 pub returns-in-Some : goal.returns-in-Some
 returns-in-Some g c = get_set (g.G.Lookup.seen c.self.inside.on.now) c.self.inside.sets c.self.inside.gone c.args.key.now c.in-Some.value.now c.in-Some.ensures ∙ ap (λ m. globals.get m c.args.key.now) c.self.view_is

@@ -1,11 +1,11 @@
 use Rattle.std.proofs.Common.{◌≡◌, ◌++◌, ℕ, List, [], length, take, drop, sym, subst, ap, ◌∙◌, arith}
-use Rattle.std.specs.Prelude.{OnOk}
+use Rattle.std.specs.Prelude.{◌||◌, slice_get, Some, is_some, OnOk}
 use Rattle.disk_defs.specs.Disk.{AtEachMoment}
 use Rattle.disk_defs.specs.Frames.{OnlyIn, OthersStay}
 use Rattle.journal_defs.specs.Journal.{JournalRecord}
 use Rattle.jnl_file.specs.Records.{StandsRecords}
 use Rattle.region_journals.specs.Fronts.{IsNewestFile}
-use Rattle.region_journals.specs.Journals.{AreReady, KeepsJournals, ArePrepared, part_in, listed}
+use Rattle.region_journals.specs.Journals.{AreReady, KeepsJournals, ArePrepared, AreMarked, part_in, listed}
 use Rattle.region_journals.specs.Turns.{AllTurned}
 use Rattle.region_journals.specs.Entering.{HasTaken, Takes}
 use Rattle.region_journals.proofs.Moments.{Have}
@@ -71,3 +71,18 @@ returns-clause-frame g c h ready =
     let parts = c.args.parts.now in
     let w = view c.append_all.new.disk in
     subst (λ l. OthersStay (IsNewestFile h (length l)) u w) same (c.append_all.ensures.frame h (subst (λ l. AreReady u h l) (sym same) ready))
+
+pub returns-clause-marks : goal.returns-clause-marks
+returns-clause-marks g c =
+    let view = g.D.Disk.disk in
+    let u = view c.args.disk.now in
+    let items = c.args.self.now.journals.items in
+    let same : c.as_mut_slice.result.now ≡ items = cc (c.as_mut_slice.ensures.value) in
+    let parts = c.args.parts.now in
+    let w = view c.append_all.new.disk in
+    let four = c.append_all.new.journals in
+    let count : length four ≡ length items = c.append_all.auto.journals ∙ ap length same in
+    let new = take c.args.self.now.journals.len (four ++ drop (length four) items) in
+    let written : new ≡ four = back items four c.args.self.now.journals.len (omega arith) count in
+    let turned = subst (λ l. OnOk c.append_all.result (AllTurned u w (HasTaken parts) (Takes parts) l four)) same c.append_all.ensures.turned in
+    ok_gives c.append_all.result (AllTurned u w (HasTaken parts) (Takes parts) items four) (AreMarked (λ r was. was || is_some (part_in parts r)) items new) (λ all r x y was is. (all r x y was (subst (λ l. slice_get l r ≡ Some y) written is)).facts.appended) turned

@@ -1,5 +1,5 @@
 use Rattle.std.proofs.Common.{◌≡◌, ◌++◌, length, take, drop, sym, subst, ap, ◌∙◌, arith}
-use Rattle.std.specs.Prelude.{OnOk}
+use Rattle.std.specs.Prelude.{slice_get, Some, OnOk}
 use Rattle.disk_defs.specs.Frames.{OthersStay}
 use Rattle.region_journals.specs.Fronts.{IsNewestFile}
 use Rattle.region_journals.specs.Journals.{AreReady, KeepsJournals, ArePrepared}
@@ -72,3 +72,16 @@ returns-clause-frame g c h ready =
     let parts = c.args.parts.now in
     let w = view c.prepare_all.new.disk in
     subst (λ l. OthersStay (IsNewestFile h (length l)) u w) same (c.prepare_all.ensures.frame h (subst (λ l. AreReady u h l) (sym same) ready))
+
+pub returns-clause-marks : goal.returns-clause-marks
+returns-clause-marks g c r x y was is =
+    let view = g.D.Disk.disk in
+    let u = view c.args.disk.now in
+    let items = c.args.self.now.journals.items in
+    let same : c.as_mut_slice.result.now ≡ items = cc (c.as_mut_slice.ensures.value) in
+    let w = view c.prepare_all.new.disk in
+    let four = c.prepare_all.new.journals in
+    let count : length four ≡ length items = c.prepare_all.auto.journals ∙ ap length same in
+    let new = take c.args.self.now.journals.len (four ++ drop (length four) items) in
+    let written : new ≡ four = back items four c.args.self.now.journals.len (omega arith) count in
+    (subst (λ l. AllTurned u w IsUnchanged Stays l four) same c.prepare_all.ensures.turned r x y was (subst (λ l. slice_get l r ≡ Some y) written is)).facts.appended
