@@ -159,6 +159,8 @@ impl Chain {
     /// `Broken` with the first block at which the chain breaks, and `NoMemory`.
     pub(crate) fn open(alloc: Global, pool: BlockPool) -> Result<Self, ChainError>
         ensures rising { IfOk result (λ made. AreRising made.leaves) }
+        ensures forms { IfOk result (λ made. AllByRecursion IsCell (all_cells made.leaves)) }
+        ensures decodes { (g : Globals) → IfOk result (λ made. all_cells made.leaves ≡ cells_of g → Decodes (blocks_in pool.leaves) g) }
         ensures blocks { IfOk result (λ made. made.pool.leaves ≡ pool.leaves) }
         ensures dirty { IfOk result (λ made. made.pool.dirty ≡ pool.dirty) }
         ensures broken { (block : ℕ) → IsErrOf result (ChainError.Broken block) → BreaksAt pool block }
