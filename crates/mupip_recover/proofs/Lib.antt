@@ -6,6 +6,7 @@ pub mod Columns
 pub mod SlotLaws
 pub mod RegionLists
 pub mod Completion
+pub mod Forms
 pub mod Counts
 pub mod Runs
 pub mod BrokenLaws

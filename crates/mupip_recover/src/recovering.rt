@@ -1,12 +1,13 @@
 //! From records to entries.
 ghost use Rattle.std.specs.Prelude.{◌≡◌, ◌+◌, ◌<◌, ◌^◌, map, IfOk, IfSome};
-ghost use Rattle.std.specs.List.{enumerate_from};
+ghost use Rattle.std.specs.List.{AllByRecursion, enumerate_from};
+ghost use Rattle.global_defs.specs.Fields.{IsTransaction};
 ghost use Rattle.std.specs.Option.{option_map};
 ghost use Rattle.journal_defs.specs.Surviving as surviving;
 ghost use Rattle.journal_defs.specs.Sequence.{IsSequence};
 ghost use Rattle.gvn_model.specs.Entries.{entry_value};
 ghost use Rattle.gvn_model.specs.Reigns.{reign_value};
-ghost use Rattle.mupip_recover.specs.Site.{site_records};
+ghost use Rattle.mupip_recover.specs.Site.{AreInForm, site_records};
 ghost use Rattle.mupip_recover.specs.Stamps.{AreStarts};
 ghost use Rattle.mupip_recover.specs.Entries.{entry_at, AreFirst};
 
@@ -82,6 +83,7 @@ pub fn recover(
     requires { history.now ≡ surviving.reigns instance.now }
     ensures sequence { IfOk result (λ made. IsSequence (site_records instance.now (map (λ j. j.items) journals.now)) (map (λ e. e.1) made)) }
     ensures numbered { IfOk result (λ made. made ≡ enumerate_from 1 (map (λ e. e.1) made)) }
+    ensures forms { AllByRecursion AreInForm (map (λ j. j.items) journals.now) → IfOk result (λ made. AllByRecursion (λ e. IsTransaction e.transaction) (map (λ e. e.1) made)) }
 {
     let cuts = Cuts::of(alloc, instance)?;
     let Some(places) = count_all(journals) else {

@@ -1,7 +1,8 @@
 -- Reading on from region to region.
-use Rattle.std.proofs.Common.{◌≡◌, inl, inr, ℕ, zero, suc, ◌+◌, ◌≤◌, ◌<◌, List, [], ◌∷◌, ◌++◌, length, map, get_or, Option, Some, IfSome, sym, ◌∙◌, ap, subst, arith}
+use Rattle.std.proofs.Common.{◌≡◌, inl, inr, ℕ, zero, suc, ◌+◌, ◌≤◌, ◌<◌, List, Vec, Global, [], ◌∷◌, ◌++◌, length, map, get_or, Option, Some, IfSome, sym, ◌∙◌, ap, subst, arith}
 use Rattle.std.proofs.lemmas.Bool.{cases_eq}
 use Rattle.std.proofs.lemmas.List.{map-append, length-map, length-append, get_or_append_left, get_or_push}
+use Rattle.std.specs.List.{AllByRecursion}
 use Rattle.disk_defs.specs.Disk.{Files, View, Image, IsLawful, IsDurable, AtEachMoment}
 use Rattle.disk_defs.specs.Gates.{records}
 use Rattle.disk_defs.proofs.Moments.{holds_now}
@@ -9,13 +10,15 @@ use Rattle.disk_defs.proofs.Told.{told_at, weaker_told, both_weak}
 use Rattle.journal_defs.specs.Numbers.{journal_file}
 use Rattle.journal_defs.specs.Sequence.{Placed}
 use Rattle.journal_defs.specs.Stands.{IsJournal}
+use Rattle.journal_laws.proofs.ImageSteps.{all_both}
 use Rattle.jnl_file.specs.Generations.{AreDurable, IsOutsideGenerations}
+use Rattle.jnl_file.specs.Reading.{IsReadRecord}
 use Rattle.jnl_record.specs.declared.placed.PlacedRecord.{PlacedRecord}
 use Rattle.jnl_record.specs.Values.{placed_value}
 use Rattle.mupip_recover.specs.Site.{journal_of}
 use Rattle.site_files.specs.Loading.{last_of}
 use Rattle.site_files.specs.Outside.{AreOutside, HaveBegun}
-use Rattle.site_files.specs.Reading.{HaveJournals, AreAllDurable, AreUnbegun, AreUnbegunDurable}
+use Rattle.site_files.specs.Reading.{AreAllRead, HaveJournals, AreAllDurable, AreUnbegun, AreUnbegunDurable}
 
 -- what is on the disk for good stays so where nothing new comes
 pub durable_kept : (u v : View) (file : ℕ) (bytes : List ℕ) → IsLawful v → AtEachMoment u v (Image u) → IsDurable u file bytes → IsDurable v file bytes
@@ -46,6 +49,13 @@ have_more files n m g lasts js last ps more many_last many before here =
     (subst (λ (l : List Placed). IsJournal files r g (last_of lasts r) l) (sym (journal_kept js ps n r many low)) was))
     (subst (λ (k : ℕ). IsJournal files n g k (journal_of (js ++ ps ∷ []) n)) (sym at_last)
     (subst (λ (l : List Placed). IsJournal files n g last l) (sym at_journal) here))
+
+-- and its records are as they were read
+pub all_read_more : (old new : List (Vec PlacedRecord Global)) (records : Vec PlacedRecord Global) → new ≡ old ++ records ∷ [] → AreAllRead (map (λ j. j.items) old) → AllByRecursion (λ p. IsReadRecord p.what) records.items
+    → AreAllRead (map (λ j. j.items) new)
+all_read_more old new records is before here =
+    subst AreAllRead (sym (ap (map (λ (j : Vec PlacedRecord Global). j.items)) is ∙ map-append (λ (j : Vec PlacedRecord Global). j.items) old (records ∷ [])))
+    (all_both (λ ps. AllByRecursion (λ p. IsReadRecord p.what) ps) (map (λ (j : Vec PlacedRecord Global). j.items) old) (records.items ∷ []) before (here, tt))
 
 -- the region that is read now is the first whose journals aren't
 pub told_outside : (o n : Option Files) (regions region g : ℕ) (last : ℕ → ℕ) (journal : ℕ → List Placed) (file offset : ℕ) → region < regions → n ≡ o

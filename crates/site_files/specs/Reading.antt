@@ -8,7 +8,13 @@ use Rattle.journal_defs.specs.Directory.{Pattern, patterns}
 use Rattle.journal_defs.specs.Instance.{regions}
 use Rattle.journal_defs.specs.Sequence.{Placed, Records}
 use Rattle.journal_defs.specs.Stands.{IsJournal, AreRecords}
+use Rattle.jnl_record.specs.declared.placed.PlacedRecord.{PlacedRecord}
+use Rattle.jnl_file.specs.Reading.{IsReadRecord}
 use Rattle.jnl_file.specs.Generations.{AreDurable}
+
+-- each record of the regions is as it was read
+abbrev pub AreAllRead : List (List PlacedRecord) → Type 0
+AreAllRead journals = AllByRecursion (λ ps. AllByRecursion (λ p. IsReadRecord p.what) ps) journals
 
 -- the first so many regions have these records over the generations up to g
 abbrev pub HaveJournals : ℕ → ℕ → (last : ℕ → ℕ) → (journal : ℕ → List Placed) → Files → Type 0

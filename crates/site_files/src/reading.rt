@@ -11,12 +11,13 @@ ghost use Rattle.journal_defs.specs.Instance as defs;
 ghost use Rattle.journal_defs.specs.Instance.{generation};
 ghost use Rattle.journal_defs.specs.Sequence.{Placed};
 ghost use Rattle.journal_defs.specs.Stands.{IsInstance, IsJournal, AreRecords};
+ghost use Rattle.jnl_file.specs.Reading.{IsReadRecord};
 ghost use Rattle.jnl_file.specs.Generations.{AreDurable, IsOutsideGenerations};
 ghost use Rattle.jnl_record.specs.Values.{placed_value};
 ghost use Rattle.site_files.specs.Errors.{generations_error};
 ghost use Rattle.site_files.specs.Loading.{MayBeOpened, AreRead, WasRead, IsDirectory, last_of};
 ghost use Rattle.site_files.specs.Outside.{AreOutside, HaveBegun, IsOutsideRecords, IsOutsideSite};
-ghost use Rattle.site_files.specs.Reading.{HaveJournals, AreAllDurable, AreUnbegun, AreUnbegunDurable, HoldNoSite};
+ghost use Rattle.site_files.specs.Reading.{AreAllRead, HaveJournals, AreAllDurable, AreUnbegun, AreUnbegunDurable, HoldNoSite};
 ghost use Rattle.mupip_recover.specs.Site.{journal_of, site_records};
 
 use crate::error::FilesError;
@@ -67,6 +68,7 @@ fn read_journals<D: Disk>(
     requires region { region < 8 }
     requires last { last ≤ 65535 }
     ensures read { IfOk result (λ made. IfSome (D.disk disk.old).content (λ files. IsJournal files region last made.last_began (map placed_value made.records.items))) }
+    ensures form { IfOk result (λ made. AllByRecursion (λ p. IsReadRecord p.what) made.records.items) }
     ensures began { IfOk result (λ made. made.last_began ≤ last) }
     ensures durable { OnOk result (IfSome (D.disk disk.old).content (AreDurable (D.disk disk.new) region last)) }
     ensures place { (file offset : ℕ) → IsErrOf result (FilesError.NotAFile file offset) → IfSome (D.disk disk.old).content (λ files. IsOutsideGenerations files region last file offset) }
@@ -118,6 +120,7 @@ fn read_regions<D: Disk>(
     requires regions { regions ≤ 8 }
     requires last { last ≤ 65535 }
     ensures read { IfOk result (λ made. IfSome (D.disk disk.old).content (HaveJournals regions last (last_of made.last_began.items) (journal_of (map (λ j. j.items) made.journals.items)))) }
+    ensures forms { IfOk result (λ made. AreAllRead (map (λ j. j.items) made.journals.items)) }
     ensures many { IfOk result (λ made. length made.journals.items ≡ regions) }
     ensures many_last { IfOk result (λ made. length made.last_began.items ≡ regions) }
     ensures began { IfOk result (λ made. (r : ℕ) → last_of made.last_began.items r ≤ last) }
@@ -261,6 +264,7 @@ fn lay_out(alloc: Global, records: &[InstanceRecord]) -> Result<Plan, FilesError
 /// what can't stand there.
 pub fn read_records<D: Disk>(alloc: Global, disk: &mut D) -> Result<ReadSite, FilesError>
     ensures held { IfOk result (λ read. IfSome (D.disk disk.old).content (λ files. AreRecords files (site_records read.log.records (map (λ j. j.items) read.journals.items)))) }
+    ensures forms { IfOk result (λ read. AreAllRead (map (λ j. j.items) read.journals.items)) }
     ensures order { IfOk result (λ read. AreInOrder read.log.records) }
     ensures place { (file offset : ℕ) → IsErrOf result (FilesError.NotAFile file offset) → IfSome (D.disk disk.old).content (λ files. IsOutsideRecords files file offset) }
     ensures outside { (file offset : ℕ) → IsErrOf result (FilesError.NotAFile file offset) → IfSome (D.disk disk.old).content HoldNoSite }
@@ -294,6 +298,7 @@ pub fn read_site<D: Disk>(alloc: Global, disk: &mut D) -> Result<ReadSite, Files
     ensures directory { IfOk result (λ read. IsDirectory read.log.records (Some read.directory)) }
     ensures counted { IfOk result (λ read. length read.last_began.items ≡ length (defs.regions read.log.records)) }
     ensures read { IfOk result (λ read. IfSome (D.disk disk.old).content (WasRead (D.disk disk.new) read.log.records (last_of read.last_began.items) (journal_of (map (λ j. j.items) read.journals.items)))) }
+    ensures forms { IfOk result (λ read. AreAllRead (map (λ j. j.items) read.journals.items)) }
     ensures limit { IsErrOf result FilesError.GenLimit → IfSome (D.disk disk.old).content (λ files. (rs : List defs.InstanceRecord) → IsInstance (files INSTANCE) rs → 65534 ≤ generation rs) }
     ensures place { (file offset : ℕ) → IsErrOf result (FilesError.NotAFile file offset) → IfSome (D.disk disk.old).content (λ files. IsOutsideSite files file offset) }
     ensures outside { (file offset : ℕ) → IsErrOf result (FilesError.NotAFile file offset) → IfSome (D.disk disk.old).content (λ files. (rs : List defs.InstanceRecord) (last : ℕ → ℕ) (journal : ℕ → List Placed) → MayBeOpened rs last → AreRead rs last journal files → ⊥) }

@@ -1,6 +1,7 @@
 use Rattle.std.proofs.Common.{map, ◌∙◌}
 use Rattle.std.proofs.lemmas.Result.{IfOk-weaker}
 use Rattle.gvn_model.specs.Reigns.{reign_value}
+use Rattle.mupip_recover.proofs.Forms.{entries_formed}
 use Rattle.mupip_recover.proofs.Runs.{recovered}
 use Rattle.mupip_recover.proofs.recovering.recover.Goals as goal
 
@@ -12,3 +13,6 @@ returns-clause-sequence c =
     (c.as_slice-reigns.ensures ∙ c.requires)
     c.in-Some.ensures
     first) c.entries_of.ensures.first
+
+pub returns-clause-forms : goal.returns-clause-forms
+returns-clause-forms c all = IfOk-weaker c.entries_of.result _ _ (λ made is. entries_formed c.args.instance.now (map (λ j. j.items) c.args.journals.now) (map (λ e. e.1) made) all is) (returns-clause-sequence c)

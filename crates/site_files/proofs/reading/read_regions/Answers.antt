@@ -6,7 +6,7 @@ use Rattle.jnl_record.specs.declared.placed.PlacedRecord.{PlacedRecord}
 use Rattle.site_files.specs.Loading.{last_of}
 use Rattle.site_files.specs.declared.error.FilesError.TheVariants.{NotAFile}
 use Rattle.site_files.proofs.Errors.{handed_on, causes_on}
-use Rattle.site_files.proofs.RegionsRead.{told_none, told_outside, told_more, one_longer, began_more, told_durable}
+use Rattle.site_files.proofs.RegionsRead.{told_none, told_outside, told_more, all_read_more, one_longer, began_more, told_durable}
 use Rattle.site_files.proofs.reading.read_regions.Goals as goal
 
 pub returns-in_err-read-clause-outside : goal.returns-in_err-read-clause-outside
@@ -47,6 +47,7 @@ loop-region-preserved g c =
     let w = view c.read_journals.new.disk in
     record {
       read = told_more (λ (j : Vec PlacedRecord Global). j.items) u.content v.content l.region (l.region + 1) c.args.last l.last_began.items c.add_read.new.last_began.items l.journals.items c.add_read.new.journals.items made.last_began made.records refl inv.content inv.many_last inv.many pushed.last_began pushed.journals inv.read got.read;
+      forms = all_read_more l.journals.items c.add_read.new.journals.items made.records pushed.journals inv.forms got.form;
       many = one_longer l.journals.items c.add_read.new.journals.items made.records l.region pushed.journals inv.many;
       many_last = one_longer l.last_began.items c.add_read.new.last_began.items made.last_began l.region pushed.last_began inv.many_last;
       began = λ r. subst (λ (k : List ℕ). last_of k r ≤ c.args.last) (sym {A = List ℕ} pushed.last_began) (began_more l.last_began.items made.last_began c.args.last r inv.began got.began);

@@ -2,7 +2,7 @@ use Rattle.std.proofs.Common.{◌≡◌, ℕ, ◌≤◌, length, map, IfSome}
 use Rattle.disk_defs.specs.Disk.{Image, AtEachMoment}
 use Rattle.mupip_recover.specs.Site.{journal_of}
 use Rattle.site_files.specs.Loading.{last_of}
-use Rattle.site_files.specs.Reading.{HaveJournals, AreAllDurable}
+use Rattle.site_files.specs.Reading.{AreAllRead, HaveJournals, AreAllDurable}
 use Rattle.site_files.proofs.reading.read_regions.Given as goal
 
 abbrev pub invariant-loop-region : goal.invariant-loop-region
@@ -12,6 +12,7 @@ invariant-loop-region g l =
     let v = view l.disk in
     record {
       read : IfSome u.content (HaveJournals l.region l.fn.last (last_of l.last_began.items) (journal_of (map (λ j. j.items) l.journals.items)));
+      forms : AreAllRead (map (λ j. j.items) l.journals.items);
       many : length l.journals.items ≡ l.region;
       many_last : length l.last_began.items ≡ l.region;
       began : (r : ℕ) → last_of l.last_began.items r ≤ l.fn.last;

@@ -1,0 +1,13 @@
+pub mod Apart
+pub mod Backed
+pub mod Bytes
+pub mod Chaining
+pub mod Decoding
+pub mod Kept
+pub mod KeysBack
+pub mod LeafLists
+pub mod Links
+pub mod Splits
+pub mod Unlinks
+pub mod Updates
+pub mod Walks
