@@ -10,4 +10,10 @@ pub mod Links
 pub mod Splits
 pub mod Unlinks
 pub mod Updates
+pub mod Risen
+pub mod KeptClean
+pub mod Seated
+pub mod Edited
+pub mod TakenOut
+pub mod Runs
 pub mod Walks

@@ -74,7 +74,7 @@ put_new key value cells at b =
 pub cut_cell : (cells : List Cell) (at : ℕ) → at < length cells → cells ≡ take at cells ++ (cell_at cells at ∷ drop (at + 1) cells)
 cut_cell cells at low = sym (take-append-drop at cells) ∙ ap (λ (l : List Cell). take at cells ++ l) (drop_more cells at ([], []) low)
 
-tied : (key : List ℕ) → bytes_cmp key key ≡ Equal
+pub tied : (key : List ℕ) → bytes_cmp key key ≡ Equal
 tied key = tied_itself nat_list_cmp_total key
 
 -- where it's there, its cell has the new value

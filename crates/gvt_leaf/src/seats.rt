@@ -45,7 +45,7 @@ pub(crate) fn seat(chain: &Chain, key: &[u8]) -> usize
 pub(crate) fn place_of(leaf: &Block, key: &[u8]) -> u32
     ensures inside { result ≤ length leaf.now.cells }
     ensures before { AreBelow (take result leaf.now.cells) key.now }
-    ensures behind { result < length leaf.now.cells → (slice_cmp nat_cmp (cell_at leaf.now.cells result).0 key.now ≡ Less → ⊥) }
+    ensures behind { AllByRecursion (λ c. slice_cmp nat_cmp c.0 key.now ≡ Less → ⊥) (drop result leaf.now.cells) }
 {
     match leaf.find(key) {
         Ok(place) => place,
