@@ -6,6 +6,7 @@ use Rattle.std.specs.List.{AllByRecursion}
 use Rattle.std.specs.FinMap as globals
 use Rattle.journal_defs.specs.Leaves.{Cell, ROOM}
 use Rattle.block_fmt.specs.Cells.{StandsIn, BelongsAt, size_of, without_between}
+use Rattle.block_fmt.proofs.CellPlaces.{size_split}
 use Rattle.gvt_leaf.specs.Links.{one_if}
 use Rattle.gvt_leaf.specs.Chained.{leaf_cells, all_cells, replaced}
 use Rattle.gvt_leaf.specs.Order.{Rise, AreRising, IsSeat}
@@ -14,7 +15,7 @@ use Rattle.gvt_leaf.specs.declared.edits.Cut.{Cut}
 use Rattle.gvt_leaf.proofs.Bytes.{bytes_cmp}
 use Rattle.gvt_leaf.proofs.LeafLists.{cut_leaf, filled-replaced}
 use Rattle.gvt_leaf.proofs.Updates.{put_again, belongs_there}
-use Rattle.gvt_leaf.proofs.Apart.{replaced_there, second_there, length-replaced, replaced_again, replaced_second, size-cut, put_size, new_size, put_ahead, put_after, both_some, put_some, length_new, length_over}
+use Rattle.gvt_leaf.proofs.Apart.{replaced_there, second_there, length-replaced, replaced_again, replaced_second, put_size, new_size, put_ahead, put_after, both_some, put_some, length_new, length_over}
 use Rattle.gvt_leaf.proofs.Risen.{rise_put}
 use Rattle.gvt_leaf.proofs.Seated.{put_here, count-replaced}
 
@@ -24,16 +25,16 @@ module _ (cells : List Cell) (place size : ℕ) (fits : size_of cells ≤ ROOM) 
   pub fits_alone : place ≡ length cells → Fits cells place size (record { at = place; behind = true })
   fits_alone last =
       let none : size_of (drop place cells) ≡ 0 = ap size_of (drop_all place cells (omega (arith, last))) in
-      record { inside = omega (arith, last); side = omega arith; before = omega (arith, size-cut place cells); after = omega (arith, none) }
+      record { inside = omega (arith, last); ahead = λ e. omega arith; behind = λ e. omega arith; before = omega (arith, size_split place cells); after = omega (arith, none) }
 
   pub fits_ahead : (at : ℕ) → at ≤ length cells → place ≤ at → 2 * size_of (take at cells) ≤ size_of cells → Fits cells place size (record { at = at; behind = false })
-  fits_ahead at inside side half = record { inside = inside; side = side; before = omega (arith, half); after = omega (arith, size-cut at cells) }
+  fits_ahead at inside side half = record { inside = inside; ahead = λ e. side; behind = λ e. cc; before = omega (arith, half); after = omega (arith, size_split at cells) }
 
   pub fits_after : (at : ℕ) → at ≤ length cells → at ≤ place → size_of cells + size ≤ ROOM + size_of (take at cells) → Fits cells place size (record { at = at; behind = true })
-  fits_after at inside side room = record { inside = inside; side = side; before = omega (arith, size-cut at cells); after = omega (arith, size-cut at cells, room) }
+  fits_after at inside side room = record { inside = inside; ahead = λ e. cc; behind = λ e. side; before = omega (arith, size_split at cells); after = omega (arith, size_split at cells, room) }
 
   pub fits_next : (at : ℕ) → at ≤ length cells → at ≤ place → size_of cells < 2 * size_of (take at cells) → Fits cells place size (record { at = at; behind = true })
-  fits_next at inside side more = record { inside = inside; side = side; before = omega (arith, size-cut at cells); after = omega (arith, size-cut at cells, more) }
+  fits_next at inside side more = record { inside = inside; ahead = λ e. cc; behind = λ e. side; before = omega (arith, size_split at cells); after = omega (arith, size_split at cells, more) }
 
 -- ---- a leaf cut in two
 
@@ -54,14 +55,14 @@ module _ (old mid new : List (List Cell)) (i at place : ℕ) (key value : List �
       → new ≡ replaced mid (i + one_if behind) (globals.put bytes_cmp key value (leaf_cells mid (i + one_if behind)) ∷ []) → HasPut old new i key value
   put_by true f is =
       let there : leaf_cells mid (i + 1) ≡ drop at cells = ap (λ (ls : List (List Cell)). leaf_cells ls (i + 1)) cut ∙ second_there old i (take at cells) (drop at cells) low in
-      put_two (take at cells) (globals.put bytes_cmp key value (drop at cells)) (put_after key value cells place at belongs f.side) (omega (arith, f.before)) (omega (arith, f.after, put_size key value (drop at cells)))
+      put_two (take at cells) (globals.put bytes_cmp key value (drop at cells)) (put_after key value cells place at belongs (f.behind refl)) (omega (arith, f.before)) (omega (arith, f.after, put_size key value (drop at cells)))
       (is ∙ ap (λ (l : List Cell). replaced mid (i + 1) (globals.put bytes_cmp key value l ∷ [])) there
       ∙ ap (λ (ls : List (List Cell)). replaced ls (i + 1) (globals.put bytes_cmp key value (drop at cells) ∷ [])) cut
       ∙ replaced_second old i (take at cells) (drop at cells) (globals.put bytes_cmp key value (drop at cells)) low)
   put_by false f is =
       let same : i + 0 ≡ i = add-zero i in
       let there : leaf_cells mid i ≡ take at cells = ap (λ (ls : List (List Cell)). leaf_cells ls i) cut ∙ replaced_there old i (take at cells) (drop at cells ∷ []) low in
-      put_two (globals.put bytes_cmp key value (take at cells)) (drop at cells) (put_ahead key value cells place at belongs f.side) (omega (arith, f.before, put_size key value (take at cells))) (omega (arith, f.after))
+      put_two (globals.put bytes_cmp key value (take at cells)) (drop at cells) (put_ahead key value cells place at belongs (f.ahead refl)) (omega (arith, f.before, put_size key value (take at cells))) (omega (arith, f.after))
       (is ∙ ap (λ n. replaced mid n (globals.put bytes_cmp key value (leaf_cells mid n) ∷ [])) same
       ∙ ap (λ (l : List Cell). replaced mid i (globals.put bytes_cmp key value l ∷ [])) there
       ∙ ap (λ (ls : List (List Cell)). replaced ls i (globals.put bytes_cmp key value (take at cells) ∷ [])) cut

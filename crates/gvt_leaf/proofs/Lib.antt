@@ -16,4 +16,7 @@ pub mod Seated
 pub mod Edited
 pub mod TakenOut
 pub mod Runs
+pub mod Killed
+pub mod Asked
+pub mod Made
 pub mod Walks

@@ -5,7 +5,7 @@ use Rattle.std.proofs.lemmas.List.{take_more, take_all, drop_all, drop_more, dro
 use Rattle.std.specs.declared.cmp.Ordering.TheVariants.{Less, Equal, Greater}
 use Rattle.std.specs.Ordering.{is_lt}
 use Rattle.std.specs.List.{AllByRecursion, starts_with}
-use Rattle.journal_defs.specs.Leaves.{Cell, IsCell}
+use Rattle.journal_defs.specs.Leaves.{Cell}
 use Rattle.block_fmt.specs.Cells.{AreBelow, AreAbove, StandsIn, cell_at}
 use Rattle.gvt_leaf.specs.Chained.{leaf_cells, all_cells}
 use Rattle.gvt_leaf.specs.Order.{Rise, AreRising}
@@ -44,11 +44,6 @@ run_more cells from i order low =
 pub all_more : (P : Cell → Type 0) (cells : List Cell) (from i : ℕ) → from ≤ i → i < length cells → AllByRecursion P (take (i - from) (drop from cells)) → P (cell_at cells i) → AllByRecursion P (take (i + 1 - from) (drop from cells))
 all_more P cells from i order low all here =
     subst (AllByRecursion P) (sym (run_more cells from i order low)) (all_joined P (take (i - from) (drop from cells)) (cell_at cells i ∷ []) all (here, tt))
-
-pub cell_form : (cells : List Cell) (i : ℕ) → AllByRecursion IsCell cells → i < length cells → IsCell (cell_at cells i)
-cell_form [] i all low = absurd (omega arith)
-cell_form (c ∷ cs) zero all low = all.0
-cell_form (c ∷ cs) (suc i) all low = cell_form cs i all.1 (omega arith)
 
 -- ---- leaves one after another
 

@@ -1,5 +1,5 @@
 -- What a key's leaf tells of the cells of all leaves.
-use Rattle.std.proofs.Common.{◌≡◌, ℕ, ◌+◌, ◌<◌, ◌≤◌, false, List, [], ◌∷◌, ◌++◌, length, take, drop, filter, Option, Some, None, sym, ap, subst, ◌∙◌, arith, append_assoc, true, true≢false}
+use Rattle.std.proofs.Common.{◌≡◌, ℕ, ◌+◌, ◌<◌, ◌≤◌, false, List, [], ◌∷◌, ◌++◌, length, take, drop, filter, Option, Some, None, option_map, sym, ap, subst, ◌∙◌, arith, append_assoc, true, true≢false}
 use Rattle.std.proofs.lemmas.List.{take-append-drop, drop_more, drop_all, take_all, length-append}
 use Rattle.std.specs.declared.cmp.Ordering.TheVariants.{Greater}
 use Rattle.std.specs.Ordering.{is_lt}
@@ -72,6 +72,17 @@ module _ (leaves : List (List Cell)) (key : List ℕ) (i : ℕ) (seat : IsSeat l
       ∙ past_none key before (here ++ behind) (below_past key before seat.before)
       ∙ past_none key here behind (subst (λ (l : List Cell). AllByRecursion (λ c. is_past key c ≡ false) l) (take_all place here high) none)
       ∙ past_above key behind seat.behind
+
+  pub past_in : (cells : List Cell) (place : ℕ) → cells ≡ here → place < length cells → AllByRecursion (λ c. is_past key c ≡ false) (take place cells) → AreAbove (drop place cells) key
+      → option_map (λ c. c.0) (find (is_past key) (all_cells leaves)) ≡ Some (cell_at cells place).0
+  past_in cells place is low none above =
+      subst (λ (l : List Cell). place < length l → AllByRecursion (λ c. is_past key c ≡ false) (take place l) → AreAbove (drop place l) key → option_map (λ (c : Cell). c.0) (find (is_past key) (all_cells leaves)) ≡ Some (cell_at l place).0)
+      (sym is) (λ low none above. ap (option_map (λ (c : Cell). c.0)) (past_here place low none above)) low none above
+
+  pub past_out : (cells : List Cell) (place : ℕ) → cells ≡ here → length cells ≤ place → AllByRecursion (λ c. is_past key c ≡ false) (take place cells) → find (is_past key) (all_cells leaves) ≡ first_of behind
+  past_out cells place is high none =
+      subst (λ (l : List Cell). length l ≤ place → AllByRecursion (λ c. is_past key c ≡ false) (take place l) → find (is_past key) (all_cells leaves) ≡ first_of behind)
+      (sym is) (λ high none. past_behind place high none) high none
 
   pub put_here : (value : List ℕ) (news : List (List Cell)) → all_cells news ≡ globals.put bytes_cmp key value here → all_cells (replaced leaves i news) ≡ globals.put bytes_cmp key value (all_cells leaves)
   put_here value news is =

@@ -1,5 +1,5 @@
 -- Leaves between the steps of a change.
-use Rattle.std.specs.Prelude.{◌≡◌, ◌≢◌, ◌≤◌, ◌<◌, ◌+◌, ℕ, Bool, List, [], ◌∷◌, ◌++◌, length, take, drop, if◌then◌else◌, nat_eq, not, filter}
+use Rattle.std.specs.Prelude.{◌≡◌, ◌≢◌, ◌≤◌, ◌<◌, ◌+◌, ℕ, Bool, true, false, List, [], ◌∷◌, ◌++◌, length, take, drop, if◌then◌else◌, nat_eq, not, filter}
 use Rattle.std.specs.List.{AllByRecursion, starts_with}
 use Rattle.std.specs.Ordering.{nat_cmp}
 use Rattle.std.specs.Cmp.Lexicographic.{slice_cmp}
@@ -16,7 +16,8 @@ cell_size c = length (spelled_cell c)
 -- A cut of a leaf in which a cell of so many bytes belongs at a place: both parts have room, the one with the cell too.
 pub record Fits (cells : List Cell) (place size : ℕ) (cut : Cut) : Type 0 where
   pub inside : cut.at ≤ length cells
-  pub side : if cut.behind then cut.at ≤ place else place ≤ cut.at
+  pub ahead : cut.behind ≡ false → place ≤ cut.at
+  pub behind : cut.behind ≡ true → cut.at ≤ place
   pub before : size_of (take cut.at cells) + (if cut.behind then 0 else size) ≤ ROOM
   pub after : size_of (drop cut.at cells) + (if cut.behind then size else 0) ≤ ROOM
 

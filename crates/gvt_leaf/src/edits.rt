@@ -248,11 +248,13 @@ fn kill_some(chain: &mut Chain, code: &[u8]) -> u32
     ensures room { chain.new.pool.room ≡ chain.old.pool.room }
     ensures clean { KeepsClean chain.old.pool chain.new.pool }
 {
+    let count = chain.len();
     let i = seat(chain, code);
-    let from = place_of(chain.leaf(i), code);
-    if from < chain.leaf(i).len() {
+    let leaf = chain.leaf(i);
+    let from = place_of(leaf, code);
+    if from < leaf.len() {
         cut_run(chain, i, from, code)
-    } else if i + 1 < chain.len() {
+    } else if i + 1 < count {
         cut_run(chain, i + 1, 0, code)
     } else {
         0
