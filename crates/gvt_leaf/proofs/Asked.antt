@@ -1,6 +1,6 @@
 -- What is asked of globals, by the cells that hold them.
 use Rattle.std.proofs.Common.{◌≡◌, ℕ, ◌<◌, Bool, true, false, List, [], ◌∷◌, ◌++◌, length, map, filter, nat_eq, Option, Some, None, option_map, is_some, IsTrue, if◌then◌else◌, cond, refl, sym, ap, ◌∙◌, true≢false}
-use Rattle.std.specs.Prelude.{IfSome}
+use Rattle.std.specs.Prelude.{IfSome, Result, Ok, Err, IfOk}
 use Rattle.std.specs.declared.cmp.Ordering.{Ordering}
 use Rattle.std.specs.declared.cmp.Ordering.TheVariants.{Less, Equal, Greater}
 use Rattle.std.specs.Ordering.{is_lt, is_eq, nat_cmp, eq_by_cmp}
@@ -135,3 +135,7 @@ module _ (cells : List Cell) (b : IsBacked cells) (nodes : List Node) (keys : Al
   pub listed_under : (top : Key) → is_key top ≡ true → map node_cell nodes ≡ filter (λ c. starts_with nat_eq c.0 (encoded top)) cells
       → map node_value nodes ≡ filter (λ e. is_under top e.0) (globals.entries (globals_in cells))
   listed_under top valid is = listed_by (λ code. starts_with nat_eq code (encoded top)) (is_under top) (λ k h. key_begins top k valid h) is
+
+pub if_ok_both : {A E : Type 0} (r : Result A E) (P Q R : A → Type 0) → ((x : A) → P x → Q x → R x) → IfOk r P → IfOk r Q → IfOk r R
+if_ok_both (Ok x) P Q R f p q = f x p q
+if_ok_both (Err e) P Q R f p q = tt

@@ -1,12 +1,15 @@
 -- Leaves after a cell was put into one of them.
-use Rattle.std.proofs.Common.{◌≡◌, ◌≢◌, ℕ, ◌+◌, ◌-◌, ◌*◌, ◌<◌, ◌≤◌, Bool, true, false, List, [], ◌∷◌, ◌++◌, length, take, drop, refl, sym, ap, subst, ◌∙◌, arith, append-nil, add-zero}
+use Rattle.std.proofs.Common.{◌≡◌, ◌≢◌, ℕ, ◌+◌, ◌-◌, ◌*◌, ◌<◌, ◌≤◌, Bool, true, false, List, [], ◌∷◌, ◌++◌, length, take, drop, refl, sym, ap, subst, ◌∙◌, arith, append-nil, add-zero, inl, inr, true≢false}
 use Rattle.std.specs.Prelude.{if◌then◌else◌, Result, Ok, Err, IfOk, IfErr, is_err}
+use Rattle.std.proofs.lemmas.Bool.{cases_order}
 use Rattle.std.proofs.lemmas.List.{drop_all}
 use Rattle.std.specs.List.{AllByRecursion}
 use Rattle.std.specs.FinMap as globals
 use Rattle.journal_defs.specs.Leaves.{Cell, ROOM}
 use Rattle.block_fmt.specs.Cells.{StandsIn, BelongsAt, size_of, without_between}
 use Rattle.block_fmt.proofs.CellPlaces.{size_split}
+use Rattle.block_fmt.proofs.ReadBack.{length-spelled_cell}
+use Rattle.std.specs.Int.{from_bool}
 use Rattle.gvt_leaf.specs.Links.{one_if}
 use Rattle.gvt_leaf.specs.Chained.{leaf_cells, all_cells, replaced}
 use Rattle.gvt_leaf.specs.Order.{Rise, AreRising, IsSeat}
@@ -16,6 +19,7 @@ use Rattle.gvt_leaf.proofs.Bytes.{bytes_cmp}
 use Rattle.gvt_leaf.proofs.LeafLists.{cut_leaf, filled-replaced}
 use Rattle.gvt_leaf.proofs.Updates.{put_again, belongs_there}
 use Rattle.gvt_leaf.proofs.Apart.{replaced_there, second_there, length-replaced, replaced_again, replaced_second, put_size, new_size, put_ahead, put_after, both_some, put_some, length_new, length_over}
+use Rattle.gvt_leaf.proofs.Counted.{byte_is}
 use Rattle.gvt_leaf.proofs.Risen.{rise_put}
 use Rattle.gvt_leaf.proofs.Seated.{put_here, count-replaced}
 
@@ -83,6 +87,15 @@ module _ (old mid new : List (List Cell)) (i at place : ℕ) (key value : List �
       let same : size_of (globals.put bytes_cmp key value (leaf_cells mid (i + 0))) ≡ size_of (globals.put bytes_cmp key value (take at cells)) = ap (λ (l : List Cell). size_of (globals.put bytes_cmp key value l)) there in
       omega (arith, same, f.before, put_size key value (take at cells))
 
+-- the size of a cell as it is counted, and the part that takes it
+pub cut_fits : (leaf cells : List Cell) (place : ℕ) (key value : List ℕ) (cut : Cut) → leaf ≡ cells → Fits leaf place (3 + length key + length value) cut → Fits cells place (cell_size (key, value)) cut
+cut_fits leaf cells place key value cut are f =
+    let size : 3 + length key + length value ≡ cell_size (key, value) = omega (arith, length-spelled_cell (key, value)) in
+    subst (λ (l : List Cell). Fits l place (cell_size (key, value)) cut) are (subst (λ n. Fits leaf place n cut) size f)
+
+pub part_is : (i n : ℕ) (behind : Bool) → n ≡ from_bool behind → i + n ≡ i + one_if behind
+part_is i n behind is = ap (λ m. i + m) (is ∙ byte_is behind)
+
 -- ---- a leaf without a key's cell
 
 pub leaf_again : (leaves : List (List Cell)) (i : ℕ) → i < length leaves → leaves ≡ replaced leaves i (leaf_cells leaves i ∷ [])
@@ -97,6 +110,15 @@ pub opened_already : (old : List (List Cell)) (i : ℕ) (key : List ℕ) (place 
 opened_already old i key place low b = record { rest = leaf_cells old i; are = leaf_again old i low; belongs = b; same = λ value. refl }
 
 -- ---- a cell put into a leaf
+
+pub not_fits : (r : Bool) (n : ℕ) → ((r ≡ true → n ≤ ROOM) × (n ≤ ROOM → r ≡ true)) → r ≡ false → ROOM < n
+not_fits r n h small = elim (cases_order n ROOM) [
+  | inl e ↦ absurd (true≢false (sym (h.1 (omega (arith, e))) ∙ small))
+  | inr apart ↦ elim apart [
+      | inl low ↦ absurd (true≢false (sym (h.1 (omega (arith, low))) ∙ small))
+      | inr high ↦ high
+    ]
+]
 
 pub put_alone : (old new : List (List Cell)) (i : ℕ) (key value : List ℕ) → new ≡ replaced old i (globals.put bytes_cmp key value (leaf_cells old i) ∷ []) → HasPut old new i key value
 put_alone old new i key value is = record {

@@ -15,8 +15,8 @@ use Rattle.gvt_leaf.proofs.TakenOut.{AreNotBefore, above_not_before, FirstOutsid
 use Rattle.gvt_leaf.proofs.Runs.{first_outside}
 
 -- the bytes' place among all cells
-module _ (leaves : List (List Cell)) (code : List ℕ) (i from : ℕ) (rising : AreRising leaves) (seat : IsSeat leaves code i) (before : AreBelow (take from (leaf_cells leaves i)) code)
-    (behind : AreNotBefore (drop from (leaf_cells leaves i)) code) where
+module _ (leaves : List (List Cell)) (code : List ℕ) (i from : ℕ) (rising : AreRising leaves) (seat : IsSeat leaves code i) (cells : List Cell) (are : cells ≡ leaf_cells leaves i)
+    (before : AreBelow (take from cells) code) (behind : AreNotBefore (drop from cells) code) where
   abbrev smaller : List Cell
   smaller = all_cells (take i leaves) ++ take from (leaf_cells leaves i)
 
@@ -34,21 +34,27 @@ module _ (leaves : List (List Cell)) (code : List ℕ) (i from : ℕ) (rising : 
   none_begins : FirstOutside code others → outside code (all_cells leaves) ≡ all_cells leaves
   none_begins first =
       ap (outside code) all_round
-      ∙ none_left code smaller others (all_joined (λ (c : Cell). bytes_cmp c.0 code ≡ Less) (all_cells (take i leaves)) (take from (leaf_cells leaves i)) seat.before before)
-      (all_joined (λ (c : Cell). bytes_cmp c.0 code ≡ Less → ⊥) (drop from (leaf_cells leaves i)) (all_cells (drop (i + 1) leaves)) behind (above_not_before (all_cells (drop (i + 1) leaves)) code seat.behind))
+      ∙ none_left code smaller others (all_joined (λ (c : Cell). bytes_cmp c.0 code ≡ Less) (all_cells (take i leaves)) (take from (leaf_cells leaves i)) seat.before (subst (λ (l : List Cell). AreBelow (take from l) code) are before))
+      (all_joined (λ (c : Cell). bytes_cmp c.0 code ≡ Less → ⊥) (drop from (leaf_cells leaves i)) (all_cells (drop (i + 1) leaves)) (subst (λ (l : List Cell). AreNotBefore (drop from l) code) are behind) (above_not_before (all_cells (drop (i + 1) leaves)) code seat.behind))
       (rise_second smaller others (subst Rise all_round rising.rise)) first
       ∙ sym all_round
 
-  pub none_here : from < length (leaf_cells leaves i) → starts_with nat_eq (cell_at (leaf_cells leaves i) from).0 code ≡ false → outside code (all_cells leaves) ≡ all_cells leaves
-  none_here low ends = none_begins (first_outside code (leaf_cells leaves i) (all_cells (drop (i + 1) leaves)) from low ends)
+  pub low_here : from < length cells → from < length (leaf_cells leaves i)
+  low_here low = omega (arith, low, ap (λ (l : List Cell). length l) are)
+
+  pub none_here : from < length cells → starts_with nat_eq (cell_at (leaf_cells leaves i) from).0 code ≡ false → outside code (all_cells leaves) ≡ all_cells leaves
+  none_here low ends = none_begins (first_outside code (leaf_cells leaves i) (all_cells (drop (i + 1) leaves)) from (low_here low) ends)
 
   -- the leaf has none from there on
   over : length (leaf_cells leaves i) ≤ from → all_cells (drop (i + 1) leaves) ≡ others
   over high = ap (λ (l : List Cell). l ++ all_cells (drop (i + 1) leaves)) (sym (drop_all from (leaf_cells leaves i) high))
 
-  pub none_next : length (leaf_cells leaves i) ≤ from → i + 1 < length leaves → starts_with nat_eq (cell_at (leaf_cells leaves (i + 1)) 0).0 code ≡ false → outside code (all_cells leaves) ≡ all_cells leaves
-  none_next high low ends =
-      none_begins (subst (FirstOutside code) (sym (rest_from leaves (i + 1) low (leaf_filled leaves (i + 1) rising.filled low (omega arith))) ∙ over high) ends)
+  long : length cells ≤ from → length (leaf_cells leaves i) ≤ from
+  long high = omega (arith, high, ap (λ (l : List Cell). length l) are)
 
-  pub none_behind : length (leaf_cells leaves i) ≤ from → length leaves ≤ i + 1 → outside code (all_cells leaves) ≡ all_cells leaves
-  none_behind high last = none_begins (subst (FirstOutside code) (ap all_cells (sym (drop_all (i + 1) leaves last)) ∙ over high) tt)
+  pub none_next : length cells ≤ from → i + 1 < length leaves → starts_with nat_eq (cell_at (leaf_cells leaves (i + 1)) 0).0 code ≡ false → outside code (all_cells leaves) ≡ all_cells leaves
+  none_next high low ends =
+      none_begins (subst (FirstOutside code) (sym (rest_from leaves (i + 1) low (leaf_filled leaves (i + 1) rising.filled low (omega arith))) ∙ over (long high)) ends)
+
+  pub none_behind : length cells ≤ from → length leaves ≤ i + 1 → outside code (all_cells leaves) ≡ all_cells leaves
+  none_behind high last = none_begins (subst (FirstOutside code) (ap all_cells (sym (drop_all (i + 1) leaves last)) ∙ over (long high)) tt)

@@ -17,6 +17,8 @@ pub mod Edited
 pub mod TakenOut
 pub mod Runs
 pub mod Killed
+pub mod ListedNodes
 pub mod Asked
 pub mod Made
+pub mod Counted
 pub mod Walks

@@ -80,6 +80,10 @@ begins_not code (c ∷ cs) h = (by (begins code c) h.0, begins_not code cs h.1)
     by true e = cc
     by false e = refl
 
+pub begun_inside : (code : List ℕ) (cells : List Cell) → AllByRecursion (λ c. begins code c ≡ true) cells → AllByRecursion (λ c. is_outside code c ≡ false) cells
+begun_inside code [] h = tt
+begun_inside code (c ∷ cs) h = (ap not h.0, begun_inside code cs h.1)
+
 below_not : (code : List ℕ) (cells : List Cell) → AreBelow cells code → AllByRecursion (λ c. begins code c ≡ false) cells
 below_not code [] h = tt
 below_not code (c ∷ cs) h = (below_begins code c.0 h.0, below_not code cs h.1)
@@ -88,7 +92,7 @@ below_not code (c ∷ cs) h = (below_begins code c.0 h.0, below_not code cs h.1)
 pub begun_none : (code : List ℕ) (cells : List Cell) → AreBelow cells code → filter (begins code) cells ≡ []
 begun_none code cells low = filter_none (begins code) cells (below_not code cells low)
 
-first_outside : (code : List ℕ) (cells more : List Cell) (end : ℕ) → end < length cells → begins code (cell_at cells end) ≡ false → FirstOutside code (drop end cells ++ more)
+pub first_outside : (code : List ℕ) (cells more : List Cell) (end : ℕ) → end < length cells → begins code (cell_at cells end) ≡ false → FirstOutside code (drop end cells ++ more)
 first_outside code cells more end low ends = subst (λ (l : List Cell). FirstOutside code (l ++ more)) (sym (drop_more cells end ([], []) low)) ends
 
 -- a run in a leaf, from one place up to another, behind the cells that were looked at
