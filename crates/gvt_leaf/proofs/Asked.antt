@@ -73,12 +73,12 @@ module _ (cells : List Cell) (b : IsBacked cells) (key : Key) (valid : is_key ke
 
   held_valid : (es : List (Key × List ℕ)) (k : Key) → AllByRecursion (λ e. IsTrue (is_key e.0)) es → is_some (globals.find key_cmp k es) ≡ true → is_key k ≡ true
   held_valid [] k all h = absurd (true≢false (sym h))
-  held_valid (e ∷ es) k all h = by (key_cmp k e.0) refl h
+  held_valid (e ∷ es) k all h = by (key_cmp k e.0) refl (held_valid es k all.1) h
     where
-      by : (o : Ordering) → key_cmp k e.0 ≡ o → is_some (if is_eq o then Some e.1 else globals.find key_cmp k es) ≡ true → is_key k ≡ true
-      by Less c h = held_valid es k all.1 h
-      by Equal c h = ap is_key (key_same k e.0 c) ∙ all.0
-      by Greater c h = held_valid es k all.1 h
+      by : (o : Ordering) → key_cmp k e.0 ≡ o → (is_some (globals.find key_cmp k es) ≡ true → is_key k ≡ true) → is_some (if is_eq o then Some e.1 else globals.find key_cmp k es) ≡ true → is_key k ≡ true
+      by Less c rest h = rest h
+      by Equal c rest h = ap is_key (key_same k e.0 c) ∙ all.0
+      by Greater c rest h = rest h
 
   each_valid : (k : Key) → is_some (globals.get g k) ≡ true → is_key k ≡ true
   each_valid k h = held_valid (globals.entries g) k b.keys (ap is_some (sym (globals.get-entries g k)) ∙ h)
@@ -102,16 +102,17 @@ values_back : (nodes : List Node) → AllByRecursion (λ n. is_key n.key ≡ tru
 values_back [] all = refl
 values_back (n ∷ ns) all = let key : n.key ≡ key_in (encoded n.key) = sym (key_back n.key all.0) in λ i. (key i, n.value.now) ∷ values_back ns all.1 i
 
+-- the cells of these nodes whose bytes pass
+abbrev kept_cells : (List ℕ → Bool) → List (Key × List ℕ) → List Cell
+kept_cells t es = filter (λ (c : Cell). t c.0) (map (λ (e : Key × List ℕ). (encoded e.0, e.1)) es)
+
 kept_nodes : (t : List ℕ → Bool) (p : Key → Bool) (es : List (Key × List ℕ)) → ((k : Key) → is_key k ≡ true → t (encoded k) ≡ p k) → AllByRecursion (λ e. IsTrue (is_key e.0)) es
-    → map (λ (c : Cell). (key_in c.0, c.1)) (filter (λ (c : Cell). t c.0) (map (λ (e : Key × List ℕ). (encoded e.0, e.1)) es)) ≡ filter (λ e. p e.0) es
+    → map (λ (c : Cell). (key_in c.0, c.1)) (kept_cells t es) ≡ filter (λ e. p e.0) es
 kept_nodes t p [] same all = refl
 kept_nodes t p (e ∷ es) same all = by (t (encoded e.0)) (sym (same e.0 all.0)) (kept_nodes t p es same all.1)
   where
-    abbrev cells : List Cell
-    cells = filter (λ (c : Cell). t c.0) (map (λ (e : Key × List ℕ). (encoded e.0, e.1)) es)
-
-    by : (b : Bool) → p e.0 ≡ b → map (λ (c : Cell). (key_in c.0, c.1)) cells ≡ filter (λ e. p e.0) es
-        → map (λ (c : Cell). (key_in c.0, c.1)) (cond b ((encoded e.0, e.1) ∷ cells) cells) ≡ cond (p e.0) (e ∷ filter (λ e. p e.0) es) (filter (λ e. p e.0) es)
+    by : (b : Bool) → p e.0 ≡ b → map (λ (c : Cell). (key_in c.0, c.1)) (kept_cells t es) ≡ filter (λ e. p e.0) es
+        → map (λ (c : Cell). (key_in c.0, c.1)) (cond b ((encoded e.0, e.1) ∷ kept_cells t es) (kept_cells t es)) ≡ cond (p e.0) (e ∷ filter (λ e. p e.0) es) (filter (λ e. p e.0) es)
     by true s n = (λ i. (key_back e.0 all.0 i, e.1) ∷ n i) ∙ ap (λ b. cond b (e ∷ filter (λ e. p e.0) es) (filter (λ e. p e.0) es)) (sym s)
     by false s n = n ∙ ap (λ b. cond b (e ∷ filter (λ e. p e.0) es) (filter (λ e. p e.0) es)) (sym s)
 
