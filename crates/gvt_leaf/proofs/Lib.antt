@@ -7,6 +7,7 @@ pub mod Kept
 pub mod KeysBack
 pub mod LeafLists
 pub mod Links
+pub mod Opened
 pub mod Splits
 pub mod Unlinks
 pub mod Updates
