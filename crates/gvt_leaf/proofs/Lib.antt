@@ -9,6 +9,7 @@ pub mod LeafLists
 pub mod Links
 pub mod Opened
 pub mod Splits
+pub mod Still
 pub mod Unlinks
 pub mod Updates
 pub mod Walks

@@ -6,7 +6,7 @@ use Rattle.std.proofs.lemmas.Bool.{cases_eq, cases_lt}
 use Rattle.std.proofs.lemmas.Bool.Decides.{nat_tests}
 use Rattle.std.proofs.lemmas.List.{get_or-take, length-take-le}
 use Rattle.std.specs.List.{AllByRecursion}
-use Rattle.journal_defs.specs.Leaves.{Decodes, cells_of}
+use Rattle.journal_defs.specs.Leaves.{IsCell, Decodes, cells_of}
 use Rattle.global_defs.specs.Entry.{Globals}
 use Rattle.block_pool.specs.Code.{Pool}
 use Rattle.block_pool.specs.Pool.{leaf_at}
@@ -14,6 +14,7 @@ use Rattle.gvt_leaf.specs.Links.{Lead, one_if, times, inside}
 use Rattle.gvt_leaf.specs.Chained.{all_cells}
 use Rattle.gvt_leaf.specs.Stored.{blocks_in}
 use Rattle.gvt_leaf.specs.Walked.{leaves_of, AreWalked}
+use Rattle.gvt_leaf.proofs.Kept.{all_forms}
 use Rattle.gvt_leaf.proofs.Decoding.{chain_decodes}
 
 -- ---- blocks that aren't marked
@@ -31,10 +32,10 @@ same_mark seen n b low other = elim (cases_lt b n) [
 
 -- one more block is marked
 pub marked_more : (seen : List Bool) (n b : ℕ) → n < length seen → get_or seen n false ≡ true → one_if (get_or (take (n + 1) seen) b false) ≡ one_if (get_or (take n seen) b false) + one_if (n == b)
-marked_more seen n b low yes = elim (cases_eq n b) [
+marked_more seen n b low marked = elim (cases_eq n b) [
   | inl e ↦
       let is : (n == b) ≡ true = grind (arith, nat_tests, e) in
-      let now : get_or (take (n + 1) seen) b false ≡ true = ap (λ k. get_or (take (n + 1) seen) k false) (sym e) ∙ get_or-take (n + 1) seen n false (omega arith) ∙ yes in
+      let now : get_or (take (n + 1) seen) b false ≡ true = ap (λ k. get_or (take (n + 1) seen) k false) (sym e) ∙ get_or-take (n + 1) seen n false (omega arith) ∙ marked in
       let was : get_or (take n seen) b false ≡ false = get_or-eq_default (take n seen) false {n = b} (omega (arith, length-take-le n seen (omega arith), e)) in
       omega (arith, ap one_if is, ap one_if now, ap one_if was)
   | inr other ↦
@@ -44,9 +45,9 @@ marked_more seen n b low yes = elim (cases_eq n b) [
 
 -- or it isn't
 pub marked_still : (seen : List Bool) (n b : ℕ) → n < length seen → get_or seen n false ≡ false → one_if (get_or (take (n + 1) seen) b false) ≡ one_if (get_or (take n seen) b false)
-marked_still seen n b low no = elim (cases_eq n b) [
+marked_still seen n b low unmarked = elim (cases_eq n b) [
   | inl e ↦
-      let now : get_or (take (n + 1) seen) b false ≡ false = ap (λ k. get_or (take (n + 1) seen) k false) (sym e) ∙ get_or-take (n + 1) seen n false (omega arith) ∙ no in
+      let now : get_or (take (n + 1) seen) b false ≡ false = ap (λ k. get_or (take (n + 1) seen) k false) (sym e) ∙ get_or-take (n + 1) seen n false (omega arith) ∙ unmarked in
       let was : get_or (take n seen) b false ≡ false = get_or-eq_default (take n seen) false {n = b} (omega (arith, length-take-le n seen (omega arith), e)) in
       ap one_if (now ∙ sym was)
   | inr other ↦ ap one_if (same_mark seen n b low (λ e. other (sym e)))
@@ -75,6 +76,9 @@ module _ (p : Pool) (order : List ℕ) (seen : List Bool) (w : AreWalked p order
       at_most : (m : Bool) → one_if m ≤ 1
       at_most true = omega arith
       at_most false = omega arith
+
+  pub walked_forms : AllByRecursion IsCell (all_cells (leaves_of p order))
+  walked_forms = all_forms (leaf_at p) order w.walked.forms
 
   pub walked_decodes : (g : Globals) → all_cells (leaves_of p order) ≡ cells_of g → Decodes (blocks_in p.leaves) g
   walked_decodes g is = chain_decodes p order g w.walked.first ends_linked (order_once 0) order_below w.walked.forms w.walked.risen.filled is

@@ -7,6 +7,8 @@ use Rattle.std.proofs.lemmas.List.{map-append, take_more, take_all, length-appen
 use Rattle.std.specs.declared.cmp.Ordering.{Ordering}
 use Rattle.std.specs.declared.cmp.Ordering.TheVariants.{Less, Equal, Greater}
 use Rattle.std.specs.Ordering.{is_lt}
+use Rattle.std.specs.Cmp.Lexicographic.{nat_list_cmp_total}
+use Rattle.std.proofs.lemmas.Cmp.{tied_itself}
 use Rattle.std.specs.List.{AllByRecursion}
 use Rattle.journal_defs.specs.Leaves.{Leaf, Cell, IsLeaf, KeysRise}
 use Rattle.block_fmt.specs.Cells.{AreBelow, AreAbove, cell_at}
@@ -19,7 +21,6 @@ use Rattle.gvt_leaf.specs.Walked.{leaves_of, go_on, Follows, Breaks, BreaksAt, I
 use Rattle.gvt_leaf.proofs.Links.{times-append, times_itself, Lead_joined, all-append, all_joined}
 use Rattle.gvt_leaf.proofs.Bytes.{bytes_cmp, trans, above_flips, below_flips, rise_before, rise_first, rise_second, above_less}
 use Rattle.gvt_leaf.proofs.LeafLists.{cells-append}
-use Rattle.gvt_leaf.proofs.Updates.{tied}
 
 -- ---- rising cells
 
@@ -141,7 +142,8 @@ goes_with p front last b r =
     some [] full is = absurd (full refl)
     some (y ∷ ys) full is =
         let xs : List Cell = (leaf_at p last).cells in
-        elim (cases_Bool (length xs == 0)) [
+        let filled : (length (y ∷ ys) == 0) ≡ false = grind (arith, nat_tests) in
+        ap (λ (e : Bool). not e && (length xs == 0 || is_lt (bytes_cmp (cell_at xs (length xs - 1)).0 y.0))) filled ∙ elim (cases_Bool (length xs == 0)) [
           | inl none ↦ ap (λ t. true && (t || is_lt (bytes_cmp (cell_at xs (length xs - 1)).0 y.0))) none
           | inr there ↦
               let size : 0 < length xs = grind (arith, nat_tests, there) in
@@ -188,14 +190,15 @@ not_twice p xs b among r =
         let cells : all_cells (leaves_of p (xs ++ b ∷ [])) ≡ (zs ++ ((y ∷ ys) ++ ws)) ++ (y ∷ ys) = cells_more p xs b ∙ (λ i. front i ++ is i) in
         let below : AreBelow (zs ++ ((y ∷ ys) ++ ws)) y.0 = rise_before (zs ++ ((y ∷ ys) ++ ws)) y ys (subst Rise cells r.rise) in
         let here : bytes_cmp y.0 y.0 ≡ Less = (all-append (λ (c : Cell). bytes_cmp c.0 y.0 ≡ Less) zs ((y ∷ ys) ++ ws) below).1.0 in
-        let no : Equal ≡ Less = sym (tied y.0) ∙ here in
+        let same : bytes_cmp y.0 y.0 ≡ Equal = tied_itself nat_list_cmp_total y.0 in
+        let no : Equal ≡ Less = sym same ∙ here in
         cc
 
 -- ---- marks
 
 pub count-set : (xs : List Bool) (n : ℕ) → n < length xs → get_or xs n true ≡ false → count_by (λ s. s) (set xs n true) ≡ count_by (λ s. s) xs + 1
 count-set [] n low h = absurd (omega arith)
-count-set (x ∷ xs) zero low h = let none : cond x 1 0 ≡ 0 = ap (λ b. cond b 1 0) h in omega (arith, none)
+count-set (x ∷ xs) zero low h = let none : one_if x ≡ 0 = ap one_if h in omega (arith, none)
 count-set (x ∷ xs) (suc n) low h = omega (arith, count-set xs n (omega arith) h)
 
 set_mark : (b n : ℕ) (seen : List Bool) → n < length seen → get_or seen n true ≡ false → one_if (get_or (set seen n true) b false) ≡ one_if (get_or seen b false) + one_if (n == b)
@@ -286,6 +289,7 @@ breaks p order seen last b w is other broken =
       others = subst (λ (l : List ℕ). AllByRecursion (λ c. c ≢ 0) (drop 1 (l ++ b ∷ []))) (sym ends) (others_more front last b (subst (λ (l : List ℕ). AllByRecursion (λ c. c ≢ 0) (drop 1 l)) ends w.others) other);
       inside = w.inside;
       forms = w.forms;
+      risen = w.risen;
       broken = broken;
     }
   where
@@ -322,4 +326,4 @@ breaks_there p order seen last b w is other (inr (inl twice)) = breaks_twice p o
 breaks_there p order seen last b w is other (inr (inr falls)) = breaks_falling p order seen last b w is other falls.0 falls.1
 
 pub breaks_at_once : (p : Pool) → length p.leaves ≡ 0 → BreaksAt p 0
-breaks_at_once p none = record { before = []; first = refl; led = tt; others = tt; inside = tt; forms = tt; broken = inl (omega (arith, none)) }
+breaks_at_once p none = record { before = []; first = refl; led = tt; others = tt; inside = tt; forms = tt; risen = record { rise = tt; filled = tt }; broken = inl (omega (arith, none)) }

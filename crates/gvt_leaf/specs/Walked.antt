@@ -39,6 +39,7 @@ pub record BreaksAt (p : Pool) (b : ℕ) : Type 0 where
   pub others : AllByRecursion (λ c. c ≢ 0) (drop 1 (before ++ b ∷ []))
   pub inside : AllByRecursion (λ c. c < length p.leaves) before
   pub forms : AllByRecursion (λ c. IsLeaf (leaf_at p c)) before
+  pub risen : AreRising (leaves_of p before)
   pub broken : (length p.leaves ≤ b) ⊎ (IsLeaf (leaf_at p b) × (AreRising (leaves_of p (before ++ b ∷ [])) → ⊥))
 
 -- The leaves of the chain up to one of them, and of each block whether it's among these.
