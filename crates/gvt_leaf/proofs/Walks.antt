@@ -4,6 +4,7 @@ use Rattle.std.specs.Prelude.{not, count_by, sum_by}
 use Rattle.std.proofs.lemmas.Bool.{cases_Bool, cases_eq, and_parts}
 use Rattle.std.proofs.lemmas.Bool.Decides.{nat_tests}
 use Rattle.std.proofs.lemmas.List.{map-append, take_more, take_all, length-append, length-set, get_or-set_same, get_or-set_other, get_or_default, get_or-replicate, length-replicate}
+use Rattle.std.proofs.lemmas.List.Sums.{sum_by-set}
 use Rattle.std.specs.declared.cmp.Ordering.{Ordering}
 use Rattle.std.specs.declared.cmp.Ordering.TheVariants.{Less, Equal, Greater}
 use Rattle.std.specs.Ordering.{is_lt}
@@ -197,9 +198,10 @@ not_twice p xs b among r =
 -- ---- marks
 
 pub count-set : (xs : List Bool) (n : ℕ) → n < length xs → get_or xs n true ≡ false → count_by (λ s. s) (set xs n true) ≡ count_by (λ s. s) xs + 1
-count-set [] n low h = absurd (omega arith)
-count-set (x ∷ xs) zero low h = let none : one_if x ≡ 0 = ap one_if h in omega (arith, none)
-count-set (x ∷ xs) (suc n) low h = omega (arith, count-set xs n (omega arith) h)
+count-set xs n low h =
+    let none : one_if (get_or xs n true) ≡ 0 = ap one_if h in
+    let all : count_by (λ s. s) (set xs n true) + one_if (get_or xs n true) ≡ count_by (λ s. s) xs + 1 = sum_by-set one_if xs n true true low in
+    omega (arith, all, none)
 
 set_mark : (b n : ℕ) (seen : List Bool) → n < length seen → get_or seen n true ≡ false → one_if (get_or (set seen n true) b false) ≡ one_if (get_or seen b false) + one_if (n == b)
 set_mark b n seen low h = elim (cases_eq n b) [

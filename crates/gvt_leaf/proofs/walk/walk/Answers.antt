@@ -4,7 +4,7 @@ use Rattle.std.proofs.lemmas.List.Sums.{count_by-le-length}
 use Rattle.journal_defs.specs.Leaves.{Leaf, IsLeaf}
 use Rattle.block_pool.specs.Pool.{leaf_at}
 use Rattle.gvt_leaf.specs.Walked.{Follows, Breaks, BreaksAt, IsWalked}
-use Rattle.gvt_leaf.proofs.Walks.{walk_begins, walk_goes_on, breaks_there}
+use Rattle.gvt_leaf.proofs.Walks.{walk_begins, walk_goes_on, breaks_there, breaks_at_once}
 use Rattle.gvt_leaf.proofs.walk.walk.Goals as goal
 
 pub loop-number-init : goal.loop-number-init
@@ -57,3 +57,8 @@ loop-number-preserved c =
       walked = subst (λ (ns : List ℕ). IsWalked c.args.pool.now ns (slice_set l.seen.items l.number true) l.number) (sym c.in_ok-push-2.ensures.items) (walked c);
       next = c.next-number-in-loop-number.ensures.next ∙ ap (λ (m : Leaf). m.next) c.block-in-loop-number.ensures;
     }
+
+pub returns-then-count-eq0-clause-broken : goal.returns-then-count-eq0-clause-broken
+returns-then-count-eq0-clause-broken c block is =
+    let same : 0 ≡ block = cc in
+    subst (BreaksAt c.args.pool.now) same (breaks_at_once c.args.pool.now (omega (arith, c.count.ensures.count, c.if-count-eq0.true)))
