@@ -10,11 +10,12 @@ use Rattle.std.specs.FinMap as globals
 use Rattle.std.specs.FinMap.Entries as lists
 use Rattle.journal_defs.specs.Leaves.{Cell, ROOM, spelled_cell}
 use Rattle.block_fmt.specs.Cells.{AreBelow, AreAbove, StandsIn, BelongsAt, size_of, without_between, cell_at}
+use Rattle.block_fmt.proofs.CellPlaces.{size_cons, size_split}
+use Rattle.block_fmt.proofs.Order as order
 use Rattle.gvt_leaf.specs.Chained.{leaf_cells, all_cells, replaced}
-use Rattle.gvt_leaf.specs.Edits.{cell_size, Fits, AreTwo, IsOpened}
-use Rattle.gvt_leaf.specs.declared.edits.Cut.{Cut}
+use Rattle.gvt_leaf.specs.Edits.{cell_size}
 use Rattle.gvt_leaf.proofs.Bytes.{bytes_cmp, same_bytes}
-use Rattle.gvt_leaf.proofs.Updates.{put_before, put_behind, put_new, put_over, put_again, belongs_there, cut_cell}
+use Rattle.gvt_leaf.proofs.Updates.{put_behind, cut_cell}
 
 -- ---- lists of leaves
 
@@ -59,27 +60,21 @@ replaced_second leaves i first second new low = rw (add-one i, add-one (suc i)) 
 pub size-append : (xs ys : List Cell) → size_of (xs ++ ys) ≡ size_of xs + size_of ys
 size-append xs ys = ap length (flat_map-append spelled_cell xs ys) ∙ length-append (flat_map spelled_cell xs) (flat_map spelled_cell ys)
 
-pub size-cut : (i : ℕ) (cells : List Cell) → size_of (take i cells) + size_of (drop i cells) ≡ size_of cells
-size-cut i cells = sym (size-append (take i cells) (drop i cells)) ∙ ap size_of (take-append-drop i cells)
-
-size-cons : (c : Cell) (cs : List Cell) → size_of (c ∷ cs) ≡ cell_size c + size_of cs
-size-cons c cs = length-append (spelled_cell c) (flat_map spelled_cell cs)
-
 -- a cell more adds no more than its size
 pub put_size : (key value : List ℕ) (cells : List Cell) → size_of (globals.put bytes_cmp key value cells) ≤ size_of cells + cell_size (key, value)
-put_size key value [] = omega (arith, size-cons (key, value) [])
+put_size key value [] = omega (arith, size_cons (key, value) [])
 put_size key value (c ∷ cs) = by (bytes_cmp key c.0) refl (put_size key value cs)
   where
     by : (o : Ordering) → bytes_cmp key c.0 ≡ o → size_of (globals.put bytes_cmp key value cs) ≤ size_of cs + cell_size (key, value)
         → size_of (lists.by_order o ((key, value) ∷ c ∷ cs) ((c.0, value) ∷ cs) (c ∷ globals.put bytes_cmp key value cs)) ≤ size_of (c ∷ cs) + cell_size (key, value)
-    by Less e h = omega (arith, size-cons (key, value) (c ∷ cs))
-    by Equal e h = let same : cell_size (c.0, value) ≡ cell_size (key, value) = ap (λ (k : List ℕ). cell_size (k, value)) (sym (same_bytes key c.0 e)) in omega (arith, size-cons (c.0, value) cs, size-cons c cs, same)
-    by Greater e h = omega (arith, size-cons c (globals.put bytes_cmp key value cs), size-cons c cs, h)
+    by Less e h = omega (arith, size_cons (key, value) (c ∷ cs))
+    by Equal e h = let same : cell_size (c.0, value) ≡ cell_size (key, value) = ap (λ (k : List ℕ). cell_size (k, value)) (sym (same_bytes key c.0 e)) in omega (arith, size_cons (c.0, value) cs, size_cons c cs, same)
+    by Greater e h = omega (arith, size_cons c (globals.put bytes_cmp key value cs), size_cons c cs, h)
 
 pub new_size : (key value : List ℕ) (cells : List Cell) (at : ℕ) → BelongsAt cells key at → size_of (globals.put bytes_cmp key value cells) ≡ size_of cells + cell_size (key, value)
 new_size key value cells at b =
-    let put : size_of (globals.put bytes_cmp key value cells) ≡ size_of (take at cells ++ ((key, value) ∷ drop at cells)) = ap size_of (put_new key value cells at b) in
-    omega (arith, put, size-append (take at cells) ((key, value) ∷ drop at cells), size-cons (key, value) (drop at cells), size-cut at cells)
+    let put : size_of (globals.put bytes_cmp key value cells) ≡ size_of (take at cells ++ ((key, value) ∷ drop at cells)) = ap size_of (order.put_belongs cells key value at b) in
+    omega (arith, put, size-append (take at cells) ((key, value) ∷ drop at cells), size_cons (key, value) (drop at cells), size_split at cells)
 
 -- ---- a cut that fits
 
@@ -104,7 +99,7 @@ above_cut cells key place at b low =
 -- the cell goes into the part behind the cut
 pub put_after : (key value : List ℕ) (cells : List Cell) (place at : ℕ) → BelongsAt cells key place → at ≤ place → take at cells ++ globals.put bytes_cmp key value (drop at cells) ≡ globals.put bytes_cmp key value cells
 put_after key value cells place at b low =
-    sym (put_before key value (take at cells) (drop at cells) (below_cut cells key place at b low)) ∙ ap (globals.put bytes_cmp key value) (take-append-drop at cells)
+    sym (order.put_behind key value (take at cells) (drop at cells) (below_cut cells key place at b low)) ∙ ap (globals.put bytes_cmp key value) (take-append-drop at cells)
 
 -- or before it
 pub put_ahead : (key value : List ℕ) (cells : List Cell) (place at : ℕ) → BelongsAt cells key place → place ≤ at → globals.put bytes_cmp key value (take at cells) ++ drop at cells ≡ globals.put bytes_cmp key value cells
@@ -129,13 +124,13 @@ put_some key value (c ∷ cs) e = by (bytes_cmp key c.0) e
 -- how many cells there are then
 pub length_new : (key value : List ℕ) (cells : List Cell) (at : ℕ) → BelongsAt cells key at → length (globals.put bytes_cmp key value cells) ≡ length cells + 1
 length_new key value cells at b =
-    let put : length (globals.put bytes_cmp key value cells) ≡ length (take at cells ++ ((key, value) ∷ drop at cells)) = ap length (put_new key value cells at b) in
+    let put : length (globals.put bytes_cmp key value cells) ≡ length (take at cells ++ ((key, value) ∷ drop at cells)) = ap length (order.put_belongs cells key value at b) in
     let whole : length (take at cells) + length (drop at cells) ≡ length cells = sym (length-append (take at cells) (drop at cells)) ∙ ap length (take-append-drop at cells) in
     omega (arith, put, whole, length-append (take at cells) ((key, value) ∷ drop at cells))
 
 pub length_over : (key value : List ℕ) (cells : List Cell) (at : ℕ) → StandsIn cells key at → length (globals.put bytes_cmp key value cells) ≡ length cells
 length_over key value cells at s =
-    let put : length (globals.put bytes_cmp key value cells) ≡ length (take at cells ++ ((key, value) ∷ drop (at + 1) cells)) = ap length (put_over key value cells at s) in
+    let put : length (globals.put bytes_cmp key value cells) ≡ length (take at cells ++ ((key, value) ∷ drop (at + 1) cells)) = ap length (order.put_stands cells key value at s) in
     let whole : length cells ≡ length (take at cells ++ (cell_at cells at ∷ drop (at + 1) cells)) = ap length (cut_cell cells at s.inside) in
     omega (arith, put, whole, length-append (take at cells) ((key, value) ∷ drop (at + 1) cells), length-append (take at cells) (cell_at cells at ∷ drop (at + 1) cells))
 

@@ -81,12 +81,12 @@ below_to leaves key i rise low some not_behind =
     by Equal e before = subst (λ (k : List ℕ). AreBelow (all_cells (take i leaves)) k) (sym (same_bytes key (cell_at (leaf_cells leaves i) 0).0 e)) before
     by Greater e before = below_more (all_cells (take i leaves)) (cell_at (leaf_cells leaves i) 0).0 key (above_flips key (cell_at (leaf_cells leaves i) 0).0 e) before
 
-filled_past : (ls : List (List Cell)) (i : ℕ) → AllByRecursion (λ l. l ≢ []) ls → AllByRecursion (λ l. l ≢ []) (drop i ls)
+pub filled_past : (ls : List (List Cell)) (i : ℕ) → AllByRecursion (λ l. l ≢ []) ls → AllByRecursion (λ l. l ≢ []) (drop i ls)
 filled_past ls zero all = all
 filled_past [] (suc i) all = tt
 filled_past (l ∷ ls) (suc i) all = filled_past ls i all.1
 
-filled_to : (ls : List (List Cell)) (i : ℕ) → AllByRecursion (λ l. l ≢ []) ls → AllByRecursion (λ l. l ≢ []) (take i ls)
+pub filled_to : (ls : List (List Cell)) (i : ℕ) → AllByRecursion (λ l. l ≢ []) ls → AllByRecursion (λ l. l ≢ []) (take i ls)
 filled_to ls zero all = tt
 filled_to [] (suc i) all = tt
 filled_to (l ∷ ls) (suc i) all = (all.0, filled_to ls i all.1)

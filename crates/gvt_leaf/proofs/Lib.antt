@@ -12,4 +12,15 @@ pub mod Splits
 pub mod Still
 pub mod Unlinks
 pub mod Updates
+pub mod Risen
+pub mod KeptClean
+pub mod Seated
+pub mod Edited
+pub mod TakenOut
+pub mod Runs
+pub mod Killed
+pub mod ListedNodes
+pub mod Asked
+pub mod Made
+pub mod Counted
 pub mod Walks

@@ -16,39 +16,21 @@ use Rattle.std.specs.Cmp.{nat_cmp_total}
 use Rattle.std.proofs.lemmas.Bool.Decides.{nat_tests}
 use Rattle.journal_defs.specs.Leaves.{Cell}
 use Rattle.block_fmt.specs.Cells.{AreBelow, AreAbove, StandsIn, BelongsAt, cell_at, without_between}
+use Rattle.block_fmt.proofs.Order as order
 use Rattle.gvt_leaf.specs.Order.{Rise}
 use Rattle.gvt_leaf.proofs.Links.{all-append, all_joined}
 use Rattle.gvt_leaf.proofs.Bytes.{bytes_cmp, flip, above_flips, below_flips, same_bytes, trans, rise_before, rise_second}
 
 -- ---- looking up
 
-pub find_before : (key : List ℕ) (xs ys : List Cell) → AreBelow xs key → globals.find bytes_cmp key (xs ++ ys) ≡ globals.find bytes_cmp key ys
-find_before key [] ys h = refl
-find_before key (x ∷ xs) ys h = ap (λ (o : Ordering). cond (is_eq o) (Some x.1) (globals.find bytes_cmp key (xs ++ ys))) (below_flips x.0 key h.0) ∙ find_before key xs ys h.1
-
-pub find_above : (key : List ℕ) (ys : List Cell) → AreAbove ys key → globals.find bytes_cmp key ys ≡ None
-find_above key [] h = refl
-find_above key (y ∷ ys) h = ap (λ (o : Ordering). cond (is_eq o) (Some y.1) (globals.find bytes_cmp key ys)) (above_flips y.0 key h.0) ∙ find_above key ys h.1
-
 pub find_behind : (key : List ℕ) (xs ys : List Cell) → AreAbove ys key → globals.find bytes_cmp key (xs ++ ys) ≡ globals.find bytes_cmp key xs
-find_behind key [] ys h = find_above key ys h
+find_behind key [] ys h = order.find_above key ys h
 find_behind key (x ∷ xs) ys h = ap (cond (eq_by_cmp bytes_cmp key x.0) (Some x.1)) (find_behind key xs ys h)
 
 pub find_between : (key : List ℕ) (xs leaf ys : List Cell) → AreBelow xs key → AreAbove ys key → globals.find bytes_cmp key (xs ++ (leaf ++ ys)) ≡ globals.find bytes_cmp key leaf
-find_between key xs leaf ys h k = find_before key xs (leaf ++ ys) h ∙ find_behind key leaf ys k
+find_between key xs leaf ys h k = order.find_behind key xs (leaf ++ ys) h ∙ find_behind key leaf ys k
 
 -- ---- SET
-
-pub put_before : (key value : List ℕ) (xs ys : List Cell) → AreBelow xs key → globals.put bytes_cmp key value (xs ++ ys) ≡ xs ++ globals.put bytes_cmp key value ys
-put_before key value [] ys h = refl
-put_before key value (x ∷ xs) ys h =
-    ap (λ (o : Ordering). lists.by_order o ((key, value) ∷ x ∷ xs ++ ys) ((x.0, value) ∷ xs ++ ys) (x ∷ globals.put bytes_cmp key value (xs ++ ys))) (below_flips x.0 key h.0)
-    ∙ ap (λ (l : List Cell). x ∷ l) (put_before key value xs ys h.1)
-
-pub put_above : (key value : List ℕ) (ys : List Cell) → AreAbove ys key → globals.put bytes_cmp key value ys ≡ (key, value) ∷ ys
-put_above key value [] h = refl
-put_above key value (y ∷ ys) h =
-    ap (λ (o : Ordering). lists.by_order o ((key, value) ∷ y ∷ ys) ((y.0, value) ∷ ys) (y ∷ globals.put bytes_cmp key value ys)) (above_flips y.0 key h.0)
 
 appended : (o : Ordering) (a b c d : List Cell) → lists.by_order o a b c ++ d ≡ lists.by_order o (a ++ d) (b ++ d) (c ++ d)
 appended Less a b c d = refl
@@ -56,37 +38,20 @@ appended Equal a b c d = refl
 appended Greater a b c d = refl
 
 pub put_behind : (key value : List ℕ) (xs ys : List Cell) → AreAbove ys key → globals.put bytes_cmp key value (xs ++ ys) ≡ globals.put bytes_cmp key value xs ++ ys
-put_behind key value [] ys h = put_above key value ys h
+put_behind key value [] ys h = order.put_above key value ys h
 put_behind key value (x ∷ xs) ys h =
     ap (λ (l : List Cell). lists.by_order (bytes_cmp key x.0) ((key, value) ∷ x ∷ xs ++ ys) ((x.0, value) ∷ xs ++ ys) (x ∷ l)) (put_behind key value xs ys h)
     ∙ sym (appended (bytes_cmp key x.0) ((key, value) ∷ x ∷ xs) ((x.0, value) ∷ xs) (x ∷ globals.put bytes_cmp key value xs) ys)
 
 pub put_between : (key value : List ℕ) (xs leaf ys : List Cell) → AreBelow xs key → AreAbove ys key
     → globals.put bytes_cmp key value (xs ++ (leaf ++ ys)) ≡ xs ++ (globals.put bytes_cmp key value leaf ++ ys)
-put_between key value xs leaf ys h k = put_before key value xs (leaf ++ ys) h ∙ ap (λ (l : List Cell). xs ++ l) (put_behind key value leaf ys k)
-
--- where a key isn't there, its cell is put between the others
-pub put_new : (key value : List ℕ) (cells : List Cell) (at : ℕ) → BelongsAt cells key at → globals.put bytes_cmp key value cells ≡ take at cells ++ ((key, value) ∷ drop at cells)
-put_new key value cells at b =
-    ap (globals.put bytes_cmp key value) (sym (take-append-drop at cells))
-    ∙ put_before key value (take at cells) (drop at cells) b.before ∙ ap (λ (l : List Cell). take at cells ++ l) (put_above key value (drop at cells) b.after)
+put_between key value xs leaf ys h k = order.put_behind key value xs (leaf ++ ys) h ∙ ap (λ (l : List Cell). xs ++ l) (put_behind key value leaf ys k)
 
 pub cut_cell : (cells : List Cell) (at : ℕ) → at < length cells → cells ≡ take at cells ++ (cell_at cells at ∷ drop (at + 1) cells)
 cut_cell cells at low = sym (take-append-drop at cells) ∙ ap (λ (l : List Cell). take at cells ++ l) (drop_more cells at ([], []) low)
 
-tied : (key : List ℕ) → bytes_cmp key key ≡ Equal
+pub tied : (key : List ℕ) → bytes_cmp key key ≡ Equal
 tied key = tied_itself nat_list_cmp_total key
-
--- where it's there, its cell has the new value
-pub put_over : (key value : List ℕ) (cells : List Cell) (at : ℕ) → StandsIn cells key at → globals.put bytes_cmp key value cells ≡ take at cells ++ ((key, value) ∷ drop (at + 1) cells)
-put_over key value cells at s =
-    let c : Cell = cell_at cells at in
-    let rest : List Cell = drop (at + 1) cells in
-    let equal : bytes_cmp key c.0 ≡ Equal = ap (bytes_cmp key) s.here ∙ tied key in
-    ap (globals.put bytes_cmp key value) (cut_cell cells at s.inside)
-    ∙ put_before key value (take at cells) (c ∷ rest) s.before
-    ∙ ap (λ (o : Ordering). take at cells ++ lists.by_order o ((key, value) ∷ c ∷ rest) ((c.0, value) ∷ rest) (c ∷ globals.put bytes_cmp key value rest)) equal
-    ∙ ap (λ (k : List ℕ). take at cells ++ ((k, value) ∷ rest)) s.here
 
 -- without its cell a key belongs where it stood
 pub belongs_there : (key : List ℕ) (cells : List Cell) (at : ℕ) → StandsIn cells key at → BelongsAt (without_between cells at (at + 1)) key at
@@ -102,9 +67,9 @@ pub put_again : (key value : List ℕ) (cells : List Cell) (at : ℕ) → Stands
     → globals.put bytes_cmp key value (without_between cells at (at + 1)) ≡ globals.put bytes_cmp key value cells
 put_again key value cells at s =
     let long : length (take at cells) ≡ at = length-take-le at cells (omega (arith, s.inside)) in
-    put_new key value (without_between cells at (at + 1)) at (belongs_there key cells at s)
+    order.put_belongs (without_between cells at (at + 1)) key value at (belongs_there key cells at s)
     ∙ (λ i. take_at (take at cells) (drop (at + 1) cells) at long i ++ ((key, value) ∷ drop_at (take at cells) (drop (at + 1) cells) at long i))
-    ∙ sym (put_over key value cells at s)
+    ∙ sym (order.put_stands cells key value at s)
 
 -- ---- ZKILL
 
@@ -163,7 +128,7 @@ abbrev pub is_outside : List ℕ → Cell → Bool
 is_outside key c = not (starts_with nat_eq c.0 key)
 
 -- what begins with a key isn't below it
-below_begins : (a b : List ℕ) → bytes_cmp b a ≡ Less → starts_with nat_eq b a ≡ false
+pub below_begins : (a b : List ℕ) → bytes_cmp b a ≡ Less → starts_with nat_eq b a ≡ false
 below_begins [] [] h = cc
 below_begins [] (y ∷ b) h = cc
 below_begins (x ∷ a) [] h = refl

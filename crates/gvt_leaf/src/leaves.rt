@@ -140,7 +140,7 @@ impl Leaves {
     pub fn defined(&self, key: &Key) -> u8
         ensures { result ≡ evaluation.defined self.now.globals key.now }
     {
-        ones(self.get(key)) + tens(first_past(&self.chain, key.as_encoded()), key)
+        u8::from(self.get(key).is_some()) + tens(first_past(&self.chain, key.as_encoded()), key)
     }
 
     /// The first node of the same name past the key, if there is one.
@@ -277,16 +277,6 @@ pub fn count_sets(updates: &[Update]) -> usize
     sets
 }
 
-/// 1 where there is a value, else 0.
-fn ones(found: Option<&[u8]>) -> u8
-    ensures { result ≡ (if is_some (option_copied found.entry) then 1 else 0) }
-{
-    match found {
-        Some(_) => 1,
-        None => 0,
-    }
-}
-
 /// 10 where the encoded key is that of a descendant of the top node, else 0.
 fn tens(found: Option<&[u8]>, top: &Key) -> u8
     ensures { result ≡ (if is_some (tested (λ code. starts_with nat_eq code (encoded top.now)) (option_copied found.entry)) then 10 else 0) }
@@ -324,7 +314,7 @@ fn sub_at(key: &Key, top: &Key) -> Result<Option<Bytes>, NoMemory>
 
 /// The bytes of the subscript at the level below the top node, where the encoded key is that of a descendant.
 fn sub_below(found: Option<&[u8]>, top: &Key) -> Result<Option<Bytes>, NoMemory>
-    requires { IfSome (option_copied found.entry) IsEncoded }
+    requires { IfSome (option_copied found) IsEncoded }
     ensures next { IfOk result (λ sub. option_map sub_of sub ≡ sub_under top.now (option_map key_in (option_copied found.entry))) }
     ensures a_key { IfOk result (λ sub. IfSome sub (λ bytes. is_key (child_of top.now (sub_of bytes)) ≡ true)) }
 {

@@ -3,7 +3,7 @@ ghost use Rattle.std.specs.Prelude.{◌≡◌, ◌≤◌, ◌<◌, ◌++◌, ◌
 ghost use Rattle.std.specs.List.{AllByRecursion, starts_with};
 ghost use Rattle.global_defs.specs.Valid.{is_key};
 ghost use Rattle.global_defs.specs.Encoded.{encoded};
-ghost use Rattle.journal_defs.specs.Leaves.{IsEncoded, IsCell};
+ghost use Rattle.journal_defs.specs.Leaves.{IsEncoded, IsLeaf};
 ghost use Rattle.gvt_leaf.specs.Chained.{all_cells};
 ghost use Rattle.gvt_leaf.specs.Order.{AreRising};
 ghost use Rattle.gvt_leaf.specs.Listed.{node_cell};
@@ -43,7 +43,9 @@ fn push_nodes<'a>(
 ) -> Result<(), NoMemory>
     requires order { from ≤ end }
     requires inside { end ≤ length leaf.now.cells }
-    ensures { OnOk result (map node_cell list.new.items ≡ map node_cell list.old.items ++ take (end - from) (drop from leaf.now.cells)) }
+    requires form { IsLeaf leaf.now }
+    ensures nodes { OnOk result (map node_cell list.new.items ≡ map node_cell list.old.items ++ take (end - from) (drop from leaf.now.cells)) }
+    ensures keys { OnOk result (AllByRecursion (λ n. is_key n.key ≡ true) list.old.items → AllByRecursion (λ n. is_key n.key ≡ true) list.new.items) }
 {
     for i in from..end {
         let key = key_of(*list.allocator(), leaf.key(i))?;
@@ -62,19 +64,20 @@ pub(crate) fn nodes_under<'a>(
     code: &[u8],
 ) -> Result<Vec<Node<'a>>, NoMemory>
     requires { AreRising chain.now.leaves }
-    ensures { IfOk result (λ list. map node_cell list.items ≡ filter (λ c. starts_with nat_eq c.0 code.now) (all_cells chain.now.leaves)) }
+    ensures nodes { IfOk result (λ list. map node_cell list.items ≡ filter (λ c. starts_with nat_eq c.0 code.now) (all_cells chain.now.leaves)) }
+    ensures keys { IfOk result (λ list. AllByRecursion (λ n. is_key n.key ≡ true) list.items) }
 {
     let mut list = Vec::new(alloc);
-    let mut i = seat(chain, code);
-    let mut from = place_of(chain.leaf(i), code);
-    loop {
+    let first = seat(chain, code);
+    let mut from = place_of(chain.leaf(first), code);
+    for i in first..chain.len() {
         let leaf = chain.leaf(i);
         let end = run_end(leaf, from, code);
         push_nodes(&mut list, leaf, from, end)?;
-        if end < leaf.len() || chain.len() - i < 2 {
+        if end < leaf.len() {
             return Ok(list);
         }
-        i += 1;
         from = 0;
     }
+    Ok(list)
 }

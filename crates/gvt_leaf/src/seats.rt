@@ -45,7 +45,7 @@ pub(crate) fn seat(chain: &Chain, key: &[u8]) -> usize
 pub(crate) fn place_of(leaf: &Block, key: &[u8]) -> u32
     ensures inside { result ≤ length leaf.now.cells }
     ensures before { AreBelow (take result leaf.now.cells) key.now }
-    ensures behind { result < length leaf.now.cells → (slice_cmp nat_cmp (cell_at leaf.now.cells result).0 key.now ≡ Less → ⊥) }
+    ensures behind { AllByRecursion (λ c. slice_cmp nat_cmp c.0 key.now ≡ Less → ⊥) (drop result leaf.now.cells) }
 {
     match leaf.find(key) {
         Ok(place) => place,
@@ -82,12 +82,13 @@ pub(crate) fn first_past<'a>(chain: &'a Chain, key: &[u8]) -> Option<&'a [u8]>
     requires { AreRising chain.now.leaves }
     ensures { option_copied result ≡ option_map (λ c. c.0) (find (λ c. is_lt (slice_cmp nat_cmp key.now c.0)) (all_cells chain.now.leaves)) }
 {
+    let count = chain.len();
     let i = seat(chain, key);
     let leaf = chain.leaf(i);
     let place = place_past(leaf, key);
     if place < leaf.len() {
         Some(leaf.key(place))
-    } else if i + 1 < chain.len() {
+    } else if i + 1 < count {
         Some(chain.leaf(i + 1).key(0))
     } else {
         None
