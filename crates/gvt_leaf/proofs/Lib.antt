@@ -7,7 +7,9 @@ pub mod Kept
 pub mod KeysBack
 pub mod LeafLists
 pub mod Links
+pub mod Opened
 pub mod Splits
+pub mod Still
 pub mod Unlinks
 pub mod Updates
 pub mod Risen

@@ -4,9 +4,12 @@ use Rattle.std.specs.Prelude.{not, count_by, sum_by}
 use Rattle.std.proofs.lemmas.Bool.{cases_Bool, cases_eq, and_parts}
 use Rattle.std.proofs.lemmas.Bool.Decides.{nat_tests}
 use Rattle.std.proofs.lemmas.List.{map-append, take_more, take_all, length-append, length-set, get_or-set_same, get_or-set_other, get_or_default, get_or-replicate, length-replicate}
+use Rattle.std.proofs.lemmas.List.Sums.{sum_by-set}
 use Rattle.std.specs.declared.cmp.Ordering.{Ordering}
 use Rattle.std.specs.declared.cmp.Ordering.TheVariants.{Less, Equal, Greater}
 use Rattle.std.specs.Ordering.{is_lt}
+use Rattle.std.specs.Cmp.Lexicographic.{nat_list_cmp_total}
+use Rattle.std.proofs.lemmas.Cmp.{tied_itself}
 use Rattle.std.specs.List.{AllByRecursion}
 use Rattle.journal_defs.specs.Leaves.{Leaf, Cell, IsLeaf, KeysRise}
 use Rattle.block_fmt.specs.Cells.{AreBelow, AreAbove, cell_at}
@@ -15,11 +18,10 @@ use Rattle.block_pool.specs.Pool.{leaf_at}
 use Rattle.gvt_leaf.specs.Links.{first_or, Lead, times, one_if}
 use Rattle.gvt_leaf.specs.Chained.{all_cells}
 use Rattle.gvt_leaf.specs.Order.{Rise, AreRising}
-use Rattle.gvt_leaf.specs.Walked.{leaves_of, go_on, BreaksAt, IsWalked}
+use Rattle.gvt_leaf.specs.Walked.{leaves_of, go_on, Follows, Breaks, BreaksAt, IsWalked}
 use Rattle.gvt_leaf.proofs.Links.{times-append, times_itself, Lead_joined, all-append, all_joined}
 use Rattle.gvt_leaf.proofs.Bytes.{bytes_cmp, trans, above_flips, below_flips, rise_before, rise_first, rise_second, above_less}
 use Rattle.gvt_leaf.proofs.LeafLists.{cells-append}
-use Rattle.gvt_leaf.proofs.Updates.{tied}
 
 -- ---- rising cells
 
@@ -141,7 +143,8 @@ goes_with p front last b r =
     some [] full is = absurd (full refl)
     some (y ∷ ys) full is =
         let xs : List Cell = (leaf_at p last).cells in
-        elim (cases_Bool (length xs == 0)) [
+        let filled : (length (y ∷ ys) == 0) ≡ false = grind (arith, nat_tests) in
+        ap (λ (e : Bool). not e && (length xs == 0 || is_lt (bytes_cmp (cell_at xs (length xs - 1)).0 y.0))) filled ∙ elim (cases_Bool (length xs == 0)) [
           | inl none ↦ ap (λ t. true && (t || is_lt (bytes_cmp (cell_at xs (length xs - 1)).0 y.0))) none
           | inr there ↦
               let size : 0 < length xs = grind (arith, nat_tests, there) in
@@ -188,15 +191,17 @@ not_twice p xs b among r =
         let cells : all_cells (leaves_of p (xs ++ b ∷ [])) ≡ (zs ++ ((y ∷ ys) ++ ws)) ++ (y ∷ ys) = cells_more p xs b ∙ (λ i. front i ++ is i) in
         let below : AreBelow (zs ++ ((y ∷ ys) ++ ws)) y.0 = rise_before (zs ++ ((y ∷ ys) ++ ws)) y ys (subst Rise cells r.rise) in
         let here : bytes_cmp y.0 y.0 ≡ Less = (all-append (λ (c : Cell). bytes_cmp c.0 y.0 ≡ Less) zs ((y ∷ ys) ++ ws) below).1.0 in
-        let no : Equal ≡ Less = sym (tied y.0) ∙ here in
+        let same : bytes_cmp y.0 y.0 ≡ Equal = tied_itself nat_list_cmp_total y.0 in
+        let no : Equal ≡ Less = sym same ∙ here in
         cc
 
 -- ---- marks
 
 pub count-set : (xs : List Bool) (n : ℕ) → n < length xs → get_or xs n true ≡ false → count_by (λ s. s) (set xs n true) ≡ count_by (λ s. s) xs + 1
-count-set [] n low h = absurd (omega arith)
-count-set (x ∷ xs) zero low h = let none : cond x 1 0 ≡ 0 = ap (λ b. cond b 1 0) h in omega (arith, none)
-count-set (x ∷ xs) (suc n) low h = omega (arith, count-set xs n (omega arith) h)
+count-set xs n low h =
+    let none : one_if (get_or xs n true) ≡ 0 = ap one_if h in
+    let all : count_by (λ s. s) (set xs n true) + one_if (get_or xs n true) ≡ count_by (λ s. s) xs + 1 = sum_by-set one_if xs n true true low in
+    omega (arith, all, none)
 
 set_mark : (b n : ℕ) (seen : List Bool) → n < length seen → get_or seen n true ≡ false → one_if (get_or (set seen n true) b false) ≡ one_if (get_or seen b false) + one_if (n == b)
 set_mark b n seen low h = elim (cases_eq n b) [
@@ -254,23 +259,22 @@ long_ends : (front : List ℕ) (last : ℕ) → 0 < length (front ++ last ∷ []
 long_ends front last = omega (arith, length-append front (last ∷ []))
 
 -- and goes on to the next one
-pub walk_goes_on : (p : Pool) (order : List ℕ) (seen : List Bool) (last b : ℕ) → IsWalked p order seen last → (leaf_at p last).next ≡ b → b ≢ 0 → b < length p.leaves → get_or seen b true ≡ false
-    → IsLeaf (leaf_at p b) → go_on (leaf_at p last).cells (leaf_at p b).cells ≡ true → IsWalked p (order ++ b ∷ []) (set seen b true) b
-walk_goes_on p order seen last b w is other low new form goes =
+pub walk_goes_on : (p : Pool) (order : List ℕ) (seen : List Bool) (last b : ℕ) → IsWalked p order seen last → (leaf_at p last).next ≡ b → b ≢ 0 → Follows p seen last b → IsWalked p (order ++ b ∷ []) (set seen b true) b
+walk_goes_on p order seen last b w is other f =
     let front : List ℕ = w.ends.0 in
     let ends : order ≡ front ++ last ∷ [] = w.ends.1 in
-    let inside : b < length seen = omega (arith, w.marks, low) in
+    let inside : b < length seen = omega (arith, w.marks, f.there) in
     record {
       first = first_more order b 1 (subst (λ (l : List ℕ). 0 < length l) (sym ends) (long_ends front last)) w.first;
       ends = (order, refl);
       led = subst (λ (l : List ℕ). Lead (leaf_at p) (l ++ b ∷ []) (leaf_at p b).next) (sym ends) (led_more (leaf_at p) front last b (subst (λ (l : List ℕ). Lead (leaf_at p) l (leaf_at p last).next) ends w.led) is);
       others = subst (λ (l : List ℕ). AllByRecursion (λ c. c ≢ 0) (drop 1 (l ++ b ∷ []))) (sym ends) (others_more front last b (subst (λ (l : List ℕ). AllByRecursion (λ c. c ≢ 0) (drop 1 l)) ends w.others) other);
-      inside = all_joined (λ c. c < length p.leaves) order (b ∷ []) w.inside (low, tt);
-      forms = all_joined (λ c. IsLeaf (leaf_at p c)) order (b ∷ []) w.forms (form, tt);
-      risen = subst (λ (l : List ℕ). AreRising (leaves_of p (l ++ b ∷ []))) (sym ends) (rises_more p front last b (subst (λ (l : List ℕ). AreRising (leaves_of p l)) ends w.risen) form goes);
+      inside = all_joined (λ c. c < length p.leaves) order (b ∷ []) w.inside (f.there, tt);
+      forms = all_joined (λ c. IsLeaf (leaf_at p c)) order (b ∷ []) w.forms (f.form, tt);
+      risen = subst (λ (l : List ℕ). AreRising (leaves_of p (l ++ b ∷ []))) (sym ends) (rises_more p front last b (subst (λ (l : List ℕ). AreRising (leaves_of p l)) ends w.risen) f.form f.rising);
       marks = length-set seen b true ∙ w.marks;
-      apart = λ c. let mark = set_mark c b seen inside new in omega (arith, mark, w.apart c, times-append c order (b ∷ []));
-      count = let more = count-set seen b inside new in omega (arith, more, w.count, length-append order (b ∷ []));
+      apart = λ c. let mark = set_mark c b seen inside f.new in omega (arith, mark, w.apart c, times-append c order (b ∷ []));
+      count = let more = count-set seen b inside f.new in omega (arith, more, w.count, length-append order (b ∷ []));
     }
 
 -- or the chain breaks there
@@ -287,6 +291,7 @@ breaks p order seen last b w is other broken =
       others = subst (λ (l : List ℕ). AllByRecursion (λ c. c ≢ 0) (drop 1 (l ++ b ∷ []))) (sym ends) (others_more front last b (subst (λ (l : List ℕ). AllByRecursion (λ c. c ≢ 0) (drop 1 l)) ends w.others) other);
       inside = w.inside;
       forms = w.forms;
+      risen = w.risen;
       broken = broken;
     }
   where
@@ -294,10 +299,10 @@ breaks p order seen last b w is other broken =
     same_first [] some h = absurd (omega arith)
     same_first (x ∷ xs) some h = h
 
-pub breaks_outside : (p : Pool) (order : List ℕ) (seen : List Bool) (last b : ℕ) → IsWalked p order seen last → (leaf_at p last).next ≡ b → b ≢ 0 → length p.leaves ≤ b → BreaksAt p b
+breaks_outside : (p : Pool) (order : List ℕ) (seen : List Bool) (last b : ℕ) → IsWalked p order seen last → (leaf_at p last).next ≡ b → b ≢ 0 → length p.leaves ≤ b → BreaksAt p b
 breaks_outside p order seen last b w is other high = breaks p order seen last b w is other (inl high)
 
-pub breaks_twice : (p : Pool) (order : List ℕ) (seen : List Bool) (last b : ℕ) → IsWalked p order seen last → (leaf_at p last).next ≡ b → b ≢ 0 → b < length p.leaves → get_or seen b true ≡ true → BreaksAt p b
+breaks_twice : (p : Pool) (order : List ℕ) (seen : List Bool) (last b : ℕ) → IsWalked p order seen last → (leaf_at p last).next ≡ b → b ≢ 0 → b < length p.leaves → get_or seen b true ≡ true → BreaksAt p b
 breaks_twice p order seen last b w is other low twice =
     let mark : get_or seen b false ≡ true = get_or_default seen b false true (omega (arith, w.marks, low)) ∙ twice in
     let among : 1 ≤ times b order = omega (arith, w.apart b, ap one_if mark) in
@@ -306,7 +311,7 @@ breaks_twice p order seen last b w is other low twice =
     form_among : ((ys : List ℕ) × (zs : List ℕ) × (order ≡ ys ++ b ∷ zs)) → IsLeaf (leaf_at p b)
     form_among s = (all-append (λ c. IsLeaf (leaf_at p c)) s.0 (b ∷ s.1) (subst (λ (l : List ℕ). AllByRecursion (λ c. IsLeaf (leaf_at p c)) l) s.2 w.forms)).1.0
 
-pub breaks_falling : (p : Pool) (order : List ℕ) (seen : List Bool) (last b : ℕ) → IsWalked p order seen last → (leaf_at p last).next ≡ b → b ≢ 0 → IsLeaf (leaf_at p b)
+breaks_falling : (p : Pool) (order : List ℕ) (seen : List Bool) (last b : ℕ) → IsWalked p order seen last → (leaf_at p last).next ≡ b → b ≢ 0 → IsLeaf (leaf_at p b)
     → go_on (leaf_at p last).cells (leaf_at p b).cells ≡ false → BreaksAt p b
 breaks_falling p order seen last b w is other form falls =
     breaks p order seen last b w is other (inr (
@@ -316,5 +321,11 @@ breaks_falling p order seen last b w is other form falls =
           cc,
     ))
 
+-- a block to which the walk doesn't go on is where the chain breaks
+pub breaks_there : (p : Pool) (order : List ℕ) (seen : List Bool) (last b : ℕ) → IsWalked p order seen last → (leaf_at p last).next ≡ b → b ≢ 0 → Breaks p seen last b → BreaksAt p b
+breaks_there p order seen last b w is other (inl high) = breaks_outside p order seen last b w is other high
+breaks_there p order seen last b w is other (inr (inl twice)) = breaks_twice p order seen last b w is other twice.0 twice.1
+breaks_there p order seen last b w is other (inr (inr falls)) = breaks_falling p order seen last b w is other falls.0 falls.1
+
 pub breaks_at_once : (p : Pool) → length p.leaves ≡ 0 → BreaksAt p 0
-breaks_at_once p none = record { before = []; first = refl; led = tt; others = tt; inside = tt; forms = tt; broken = inl (omega (arith, none)) }
+breaks_at_once p none = record { before = []; first = refl; led = tt; others = tt; inside = tt; forms = tt; risen = record { rise = tt; filled = tt }; broken = inl (omega (arith, none)) }

@@ -1,9 +1,9 @@
 //! The walk along the chain of leaves of a pool.
-ghost use Rattle.std.specs.Prelude.{◌≡◌, ◌≤◌, ◌<◌, ◌+◌, ◌^◌, ℕ, false, length, count_by, slice_index_or, IfOk, IsErrOf};
+ghost use Rattle.std.specs.Prelude.{◌≡◌, ◌≤◌, ◌<◌, ◌+◌, ◌^◌, ℕ, false, length, count_by, slice_index_or, IfOk, IsErrOf, MatchBool};
 ghost use Rattle.block_pool.specs.Pool.{leaf_at};
 ghost use Rattle.journal_defs.specs.Leaves.{IsLeaf};
 ghost use Rattle.gvt_leaf.specs.Links.{times, inside, one_if};
-ghost use Rattle.gvt_leaf.specs.Walked.{go_on, BreaksAt, AreWalked};
+ghost use Rattle.gvt_leaf.specs.Walked.{go_on, Follows, Breaks, BreaksAt, AreWalked};
 
 use super::error::ChainError;
 use block_pool::BlockPool;
@@ -34,6 +34,21 @@ fn goes_on(pool: &BlockPool, before: u32, number: u32) -> bool
     count == 0 || matches!(before.key(count - 1).cmp(leaf.key(0)), Ordering::Less)
 }
 
+/// Whether the chain goes on from one leaf to this block, where it hasn't been.
+fn follows(pool: &BlockPool, seen: &[bool], last: u32, number: u32) -> bool
+    requires marks { length seen.now ≡ length pool.now.leaves }
+    requires last { last < length pool.now.leaves }
+    ensures { MatchBool result (Follows pool.now seen.now last number) (Breaks pool.now seen.now last number) }
+{
+    if pool.count() <= number {
+        return false;
+    }
+    if seen[number as usize] {
+        return false;
+    }
+    goes_on(pool, last, number)
+}
+
 /// Walks along the chain from block 0 to its end, or to the first block at which it breaks.
 pub(crate) fn walk(alloc: Global, pool: &BlockPool) -> Result<Walked, ChainError>
     ensures walked { IfOk result (λ w. AreWalked pool.now w.order.items w.seen.items) }
@@ -43,22 +58,21 @@ pub(crate) fn walk(alloc: Global, pool: &BlockPool) -> Result<Walked, ChainError
         return Err(ChainError::Broken { block: 0 });
     }
     let mut seen = vec![in alloc; false; pool.count() as usize]?;
-    let mut order = Vec::new(alloc);
-    let mut last: u32 = 0;
     seen[0] = true;
+    let mut order = Vec::new(alloc);
     order.push(0)?;
-    loop {
-        let number = pool.block(last).next();
-        if number == 0 {
-            return Ok(Walked { order, seen });
-        }
-        if pool.count() <= number || seen[number as usize] || !goes_on(pool, last, number) {
+    let mut last = 0;
+    let mut number = pool.block(last).next();
+    while number != 0 {
+        if !follows(pool, &seen, last, number) {
             return Err(ChainError::Broken { block: number });
         }
         seen[number as usize] = true;
         order.push(number)?;
         last = number;
+        number = pool.block(last).next();
     }
+    Ok(Walked { order, seen })
 }
 
 /// The numbers that aren't seen.
@@ -68,8 +82,8 @@ pub(crate) fn unseen(alloc: Global, seen: &[bool]) -> Result<Vec<u32>, NoMemory>
     ensures count { IfOk result (λ free. length free.items + count_by (λ s. s) seen.now ≡ length seen.now) }
 {
     let mut free = Vec::new(alloc);
-    for number in 0..seen.len() {
-        if !seen[number] {
+    for (number, is_seen) in seen.iter().enumerate() {
+        if !*is_seen {
             free.push(number as u32)?;
         }
     }

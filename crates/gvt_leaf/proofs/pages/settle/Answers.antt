@@ -14,18 +14,18 @@ below count n xs ys all popped = all n (omega (arith, times-popped n n xs ys pop
 pub change-requires : goal.change-requires
 change-requires c = below (length c.args.pool.now.leaves) c.in-Some.number c.args.free.now.items c.pop.new.self.items c.requires.inside c.in-Some.ensures.items
 
-pub returns-in-Some-clause-there : goal.returns-in-Some-clause-there
-returns-in-Some-clause-there c =
+pub returns-else-is_err-clause-there : goal.returns-else-is_err-clause-there
+returns-else-is_err-clause-there c =
     ap (λ (p : Pool). leaf_at p c.in-Some.number) c.change.ensures.changed
     ∙ leaf-changed_same c.args.pool.now c.in-Some.number c.args.block (below (length c.args.pool.now.leaves) c.in-Some.number c.args.free.now.items c.pop.new.self.items c.requires.inside c.in-Some.ensures.items)
 
-pub returns-in-Some-clause-inside : goal.returns-in-Some-clause-inside
-returns-in-Some-clause-inside c =
+pub returns-else-is_err-clause-inside : goal.returns-else-is_err-clause-inside
+returns-else-is_err-clause-inside c =
     let count : length c.change.new.self.leaves ≡ length c.args.pool.now.leaves = ap (λ (p : Pool). length p.leaves) c.change.ensures.changed ∙ length-set c.args.pool.now.leaves c.in-Some.number c.args.block in
     omega (arith, count, below (length c.args.pool.now.leaves) c.in-Some.number c.args.free.now.items c.pop.new.self.items c.requires.inside c.in-Some.ensures.items)
 
-pub returns-in-Some-clause-numbers : goal.returns-in-Some-clause-numbers
-returns-in-Some-clause-numbers c = λ b.
+pub returns-else-is_err-clause-numbers : goal.returns-else-is_err-clause-numbers
+returns-else-is_err-clause-numbers c = λ b.
     let count : inside b (length c.change.new.self.leaves) ≡ inside b (length c.args.pool.now.leaves) =
     ap (inside b) (ap (λ (p : Pool). length p.leaves) c.change.ensures.changed ∙ length-set c.args.pool.now.leaves c.in-Some.number c.args.block) in
     omega (arith, count, times-popped b c.in-Some.number c.args.free.now.items c.pop.new.self.items c.in-Some.ensures.items)
