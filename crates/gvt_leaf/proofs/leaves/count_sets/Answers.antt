@@ -8,6 +8,6 @@ loop-update-preserved c =
     let i = c.loop-update.invariant in
     let u = c.update-item.result in
     record {
-      count = omega (arith, i.count, c.sets_of.ensures, sets_at update_value c.args.updates.now c.loop-update.update-index u c.loop-update-test.true c.update-item.is);
-      few = omega (arith, i.few, c.sets_of.ensures, sets_few (update_value u));
+      count = omega (arith, i.count, c.sets_of-sets.ensures, sets_at update_value c.args.updates.now c.loop-update.update-index u c.loop-update-test.true c.update-item.is);
+      few = omega (arith, i.few, c.sets_of-sets.ensures, sets_few (update_value u));
     }
