@@ -115,9 +115,9 @@ pub not_fits : (r : Bool) (n : ℕ) → ((r ≡ true → n ≤ ROOM) × (n ≤ R
 not_fits r n h small = elim (cases_order n ROOM) [
   | inl e ↦ absurd (true≢false (sym (h.1 (omega (arith, e))) ∙ small))
   | inr apart ↦ elim apart [
-      | inl low ↦ absurd (true≢false (sym (h.1 (omega (arith, low))) ∙ small))
-      | inr high ↦ high
-    ]
+    | inl low ↦ absurd (true≢false (sym (h.1 (omega (arith, low))) ∙ small))
+    | inr high ↦ high
+  ]
 ]
 
 pub put_alone : (old new : List (List Cell)) (i : ℕ) (key value : List ℕ) → new ≡ replaced old i (globals.put bytes_cmp key value (leaf_cells old i) ∷ []) → HasPut old new i key value

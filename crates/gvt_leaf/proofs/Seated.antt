@@ -21,8 +21,15 @@ pub count-replaced : (leaves : List (List Cell)) (i : ℕ) (news : List (List Ce
 count-replaced leaves i news low =
     let before : List Cell = all_cells (take i leaves) in
     let behind : List Cell = all_cells (drop (i + 1) leaves) in
-    omega (arith, ap length (cells-replaced leaves i news), ap length (cells_round leaves i low), length-append before (all_cells news ++ behind), length-append (all_cells news) behind,
-      length-append before (leaf_cells leaves i ++ behind), length-append (leaf_cells leaves i) behind)
+    omega (
+      arith,
+      ap length (cells-replaced leaves i news),
+      ap length (cells_round leaves i low),
+      length-append before (all_cells news ++ behind),
+      length-append (all_cells news) behind,
+      length-append before (leaf_cells leaves i ++ behind),
+      length-append (leaf_cells leaves i) behind,
+    )
 
 -- the first cell of a leaf behind others is the first one of all from it on
 pub first_from : (leaves : List (List Cell)) (i : ℕ) → AreRising leaves → i + 1 < length leaves → first_of (all_cells (drop (i + 1) leaves)) ≡ Some (cell_at (leaf_cells leaves (i + 1)) 0)
