@@ -1,7 +1,9 @@
-//! Worked blocks.
+//! Worked blocks, and leaves beside globals in a tree.
 #![tactic(auto)]
 
 #[cfg(test)]
 mod cells;
 #[cfg(test)]
 mod formats;
+#[cfg(test)]
+mod leaves;
