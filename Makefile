@@ -25,6 +25,12 @@ bin/wire_bench: $(wildcard crates/*wire*/src/*.rt crates/*wire*/specs/*.antt cra
 	mkdir -p bin
 	cp crates/wire_bench/out/wire_bench bin/wire_bench
 
+# the proved program that measures leaves beside a tree
+bin/leaf_bench: $(wildcard crates/leaf_bench/src/*.rt crates/gvt_leaf/src/*.rt crates/block_*/src/*.rt crates/gvn_globals/src/*.rt crates.txt)
+	cd crates/leaf_bench && $(RT) run > /dev/null
+	mkdir -p bin
+	cp crates/leaf_bench/out/leaf_bench bin/leaf_bench
+
 # a build of the program in seconds, of which nothing is proved
 demo:
 	@echo "; an unproved build; 'make' builds the proved program, 'make test' is the gate"
@@ -39,7 +45,7 @@ test:
 examples:
 	tools/check
 
-bench: bin/gtmr bin/pool_bench bin/wire_bench
+bench: bin/gtmr bin/pool_bench bin/wire_bench bin/leaf_bench
 	tools/bench bin/gtmr
 
 install: bin/gtmr

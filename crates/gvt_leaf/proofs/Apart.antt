@@ -1,10 +1,9 @@
 -- Leaves of which one is changed or cut in two, and the sizes of their cells.
-use Rattle.std.proofs.Common.{◌≡◌, ◌≢◌, inl, inr, ℕ, zero, suc, ◌+◌, ◌-◌, ◌*◌, ◌<◌, ◌≤◌, Bool, true, false, List, [], ◌∷◌, ◌++◌, length, take, drop, get_or, refl, sym, ap, subst, ◌∙◌, arith, add-one, append_assoc}
-use Rattle.std.specs.Prelude.{if◌then◌else◌}
-use Rattle.std.proofs.lemmas.List.{take-append-drop, length-append, length-drop, take-take, drop-drop, length-take-le, take_all, drop_all}
+use Rattle.std.proofs.Common.{◌≡◌, ◌≢◌, ℕ, zero, suc, ◌+◌, ◌-◌, ◌<◌, ◌≤◌, List, [], ◌∷◌, ◌++◌, length, take, drop, get_or, refl, sym, ap, subst, ◌∙◌, arith, add-one, append_assoc}
+use Rattle.std.proofs.lemmas.List.{take-append-drop, length-append, length-drop, take-take, drop-drop, length-take-le}
 use Rattle.std.specs.declared.cmp.Ordering.{Ordering}
 use Rattle.std.specs.declared.cmp.Ordering.TheVariants.{Less, Equal, Greater}
-use Rattle.std.specs.List.{AllByRecursion, flat_map}
+use Rattle.std.specs.List.{flat_map}
 use Rattle.std.proofs.lemmas.Grind.{flat_map-append}
 use Rattle.std.specs.FinMap as globals
 use Rattle.std.specs.FinMap.Entries as lists
@@ -12,7 +11,7 @@ use Rattle.journal_defs.specs.Leaves.{Cell, ROOM, spelled_cell}
 use Rattle.block_fmt.specs.Cells.{AreBelow, AreAbove, StandsIn, BelongsAt, size_of, without_between, cell_at}
 use Rattle.block_fmt.proofs.CellPlaces.{size_cons, size_split}
 use Rattle.block_fmt.proofs.Order as order
-use Rattle.gvt_leaf.specs.Chained.{leaf_cells, all_cells, replaced}
+use Rattle.gvt_leaf.specs.Chained.{leaf_cells, replaced}
 use Rattle.gvt_leaf.specs.Edits.{cell_size}
 use Rattle.gvt_leaf.proofs.Bytes.{bytes_cmp, same_bytes}
 use Rattle.gvt_leaf.proofs.Updates.{put_behind, cut_cell}

@@ -7,7 +7,7 @@ use Rattle.std.specs.Ordering.{is_lt, is_eq, nat_cmp, eq_by_cmp}
 use Rattle.std.specs.Cmp.Lexicographic.{slice_cmp}
 use Rattle.std.specs.List.{AllByRecursion, find, starts_with}
 use Rattle.std.specs.FinMap as globals
-use Rattle.global_defs.specs.Key.{Key, Sub, key_cmp, sub_of}
+use Rattle.global_defs.specs.Key.{Key, key_cmp, sub_of}
 use Rattle.global_defs.specs.Valid.{is_key}
 use Rattle.global_defs.specs.Encoded.{encoded, encoded_sub}
 use Rattle.global_defs.specs.Entry.{Globals, is_under}
@@ -15,7 +15,6 @@ use Rattle.global_defs.specs.Evaluation.{order}
 use Rattle.global_defs.proofs.Order.{key_same}
 use Rattle.global_defs.proofs.KeyOrder.{key_ordered, key_begins}
 use Rattle.journal_defs.specs.Leaves.{Cell, IsEncoded, IsCell}
-use Rattle.block_laws.specs.Nodes.{HaveKeys}
 use Rattle.gvn_globals.specs.Walks.{after, tested, is_behind, is_beyond, sub_under}
 use Rattle.gvn_globals.proofs.Beyond.{order_begins, order_continues}
 use Rattle.gvn_globals.proofs.Found.{after_found}

@@ -1,16 +1,12 @@
 -- Cells of their form with rising keys are those of the globals that they hold.
-use Rattle.std.proofs.Common.{◌≡◌, ◌≢◌, ℕ, ◌+◌, ◌≤◌, Bool, true, false, List, [], ◌∷◌, ◌++◌, map, length, Option, Some, None, option_map, IsTrue, if◌then◌else◌, is_some, refl, sym, ap, subst, ◌∙◌, arith}
+use Rattle.std.proofs.Common.{◌≡◌, ℕ, Bool, true, false, List, [], ◌∷◌, map, length, Some, option_map, IsTrue, if◌then◌else◌, refl, sym, ap, subst, ◌∙◌}
 use Rattle.std.proofs.lemmas.List.{length-map}
-use Rattle.std.specs.declared.cmp.Ordering.{Ordering}
-use Rattle.std.specs.declared.cmp.Ordering.TheVariants.{Less, Equal, Greater}
-use Rattle.std.specs.Ordering.{is_lt, nat_cmp, eq_by_cmp}
-use Rattle.std.specs.Cmp.Lexicographic.{slice_cmp}
-use Rattle.std.specs.List.{AllByRecursion, find, starts_with}
+use Rattle.std.specs.List.{AllByRecursion, find}
 use Rattle.std.specs.FinMap as globals
-use Rattle.global_defs.specs.Key.{Key, key_cmp}
+use Rattle.global_defs.specs.Key.{Key}
 use Rattle.global_defs.specs.Valid.{is_key}
 use Rattle.global_defs.specs.Encoded.{encoded}
-use Rattle.global_defs.specs.Entry.{Globals, Update, apply, is_under}
+use Rattle.global_defs.specs.Entry.{Update, apply}
 use Rattle.global_defs.specs.Fields.{IsUpdate}
 use Rattle.journal_defs.specs.Leaves.{Cell, IsCell, KeysRise, cells_of}
 use Rattle.block_laws.specs.Nodes.{HaveKeys, HaveShortValues}

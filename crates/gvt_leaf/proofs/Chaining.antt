@@ -1,16 +1,14 @@
 -- A chain with one of its leaves changed.
-use Rattle.std.proofs.Common.{◌≡◌, ◌≢◌, ℕ, zero, suc, ◌+◌, ◌<◌, ◌≤◌, ◌==◌, nat_lt, Bool, true, false, List, [], ◌∷◌, ◌++◌, length, take, drop, get_or, set, map, refl, sym, ap, subst, ◌∙◌, arith, add-one, append_assoc}
-use Rattle.std.proofs.lemmas.Bool.{cases_eq}
+use Rattle.std.proofs.Common.{◌≡◌, ◌≢◌, ℕ, zero, suc, ◌+◌, ◌<◌, ◌≤◌, ◌==◌, true, List, [], ◌∷◌, ◌++◌, length, take, drop, get_or, map, sym, ap, subst, ◌∙◌, arith, add-one}
 use Rattle.std.proofs.lemmas.Bool.Decides.{nat_tests}
 use Rattle.std.proofs.lemmas.List.{map-append, take-map, drop-map, take-append-drop, drop_more, get_or-set_same, get_or-set_other}
 use Rattle.std.specs.List.{AllByRecursion}
 use Rattle.journal_defs.specs.Leaves.{Leaf, Cell, IsLeaf}
 use Rattle.block_fmt.specs.Cells.{blank}
 use Rattle.block_pool.specs.Code.{Pool}
-use Rattle.block_pool.specs.Pool.{leaf_at, is_dirty, changed}
+use Rattle.block_pool.specs.Pool.{leaf_at, changed}
 use Rattle.gvt_leaf.specs.Links.{first_or, Lead, one_if, times, inside}
 use Rattle.gvt_leaf.specs.Chained.{replaced}
-use Rattle.gvt_leaf.specs.Clean.{IsCleanStill, KeepsClean}
 use Rattle.gvt_leaf.proofs.Links.{times-append, Agree, agree_outside, cells-agree, forms-agree, Lead-replaced, all-append, all_joined}
 
 -- the numbers round one place

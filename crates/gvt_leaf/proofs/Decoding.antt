@@ -1,13 +1,12 @@
 -- What the blocks of a chain decode to, and what those of a broken one don't.
-use Rattle.std.proofs.Common.{◌≡◌, ◌≢◌, ◌⊎◌, inl, inr, ℕ, zero, suc, ◌+◌, ◌<◌, ◌≤◌, ◌==◌, nat_lt, Bool, true, false, List, [], ◌∷◌, ◌++◌, length, drop, map, Option, Some, None, unwrap_or, refl, sym, ap, subst, ◌∙◌, arith, append_assoc, append-nil}
-use Rattle.std.proofs.lemmas.Bool.{cases_eq}
+use Rattle.std.proofs.Common.{◌≡◌, ◌≢◌, ◌⊎◌, inl, inr, ℕ, ◌<◌, ◌≤◌, ◌==◌, true, List, [], ◌∷◌, ◌++◌, length, drop, map, Option, Some, None, unwrap_or, refl, sym, ap, subst, ◌∙◌, arith, append_assoc}
 use Rattle.std.proofs.lemmas.Bool.Decides.{nat_tests}
 use Rattle.std.proofs.lemmas.Option.{slice_get-get_or, slice_get_within}
 use Rattle.std.proofs.lemmas.List.{map-append}
 use Rattle.std.specs.Option.{option_map}
 use Rattle.std.specs.List.{AllByRecursion, slice_get, flat_map}
 use Rattle.global_defs.specs.Entry.{Globals}
-use Rattle.journal_defs.specs.Leaves.{Leaf, Cell, IsLeaf, IsBlock, StandsAt, IsChain, HaveCells, Decodes, cells_of, spelled_leaf}
+use Rattle.journal_defs.specs.Leaves.{Leaf, Cell, IsLeaf, StandsAt, IsChain, HaveCells, Decodes, cells_of, spelled_leaf}
 use Rattle.journal_laws.proofs.BlockReading as reading
 use Rattle.block_laws.specs.Nodes.{HaveKeys}
 use Rattle.block_laws.specs.Laid.{IsLinked}
@@ -15,17 +14,14 @@ use Rattle.block_laws.proofs.Chains.{laid, cells_rise}
 use Rattle.block_fmt.specs.Cells.{blank}
 use Rattle.block_pool.specs.Code.{Pool}
 use Rattle.block_pool.specs.Pool.{leaf_at}
-use Rattle.gvt_leaf.specs.Links.{first_or, Lead, times, inside, one_if}
+use Rattle.gvt_leaf.specs.Links.{first_or, Lead, times, one_if}
 use Rattle.gvt_leaf.specs.Chained.{all_cells}
-use Rattle.gvt_leaf.specs.Inside.{chained, IsChained}
-use Rattle.gvt_leaf.specs.declared.chain.Chain.TheInside.{Inside}
 use Rattle.gvt_leaf.specs.Order.{Rise, AreRising}
 use Rattle.gvt_leaf.specs.Stored.{blocks_in}
 use Rattle.gvt_leaf.specs.Walked.{leaves_of, BreaksAt}
-use Rattle.gvt_leaf.proofs.Links.{all-append, all_joined, times_itself}
+use Rattle.gvt_leaf.proofs.Links.{times_itself}
 use Rattle.gvt_leaf.proofs.Bytes.{rise_first}
-use Rattle.gvt_leaf.proofs.LeafLists.{cells-append}
-use Rattle.gvt_leaf.proofs.Walks.{all_rise, leaves-append}
+use Rattle.gvt_leaf.proofs.Walks.{all_rise}
 
 -- ---- a chain
 

@@ -1,13 +1,12 @@
 -- A chain stays one where the cells of a leaf change.
-use Rattle.std.proofs.Common.{◌≡◌, ◌≢◌, ℕ, ◌+◌, ◌<◌, ◌≤◌, ◌==◌, nat_lt, zero, suc, List, [], ◌∷◌, ◌++◌, length, take, drop, get_or, map, refl, sym, ap, subst, ◌∙◌, arith}
+use Rattle.std.proofs.Common.{◌≡◌, ◌≢◌, ℕ, ◌<◌, zero, suc, List, [], ◌∷◌, length, get_or, map, sym, ap, subst, ◌∙◌, arith}
 use Rattle.std.proofs.lemmas.Bool.Decides.{nat_tests}
 use Rattle.std.proofs.lemmas.List.{get_or_read, length-set, length-map}
 use Rattle.std.specs.List.{AllByRecursion}
 use Rattle.journal_defs.specs.Leaves.{Leaf, Cell, IsCell, IsLeaf}
-use Rattle.block_fmt.specs.Cells.{blank}
 use Rattle.block_pool.specs.Code.{Pool}
 use Rattle.block_pool.specs.Pool.{leaf_at, changed}
-use Rattle.gvt_leaf.specs.Links.{first_or, Lead, times, inside}
+use Rattle.gvt_leaf.specs.Links.{Lead, times, inside}
 use Rattle.gvt_leaf.specs.Chained.{Chained, replaced, leaf_cells, all_cells}
 use Rattle.gvt_leaf.specs.Inside.{chained, IsChained}
 use Rattle.gvt_leaf.specs.declared.chain.Chain.TheInside.{Inside}

@@ -1,7 +1,6 @@
 -- Blocks that aren't dirty through several changes.
-use Rattle.std.proofs.Common.{◌≡◌, ◌≤◌, ◌<◌, ℕ, false, length, refl, ◌∙◌, arith}
+use Rattle.std.proofs.Common.{refl, ◌∙◌, arith}
 use Rattle.block_pool.specs.Code.{Pool}
-use Rattle.block_pool.specs.Pool.{leaf_at, is_dirty}
 use Rattle.gvt_leaf.specs.Clean.{IsCleanStill, KeepsClean}
 
 pub keeps_itself : (p : Pool) → KeepsClean p p

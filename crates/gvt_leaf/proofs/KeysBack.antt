@@ -1,5 +1,5 @@
 -- Cells give the globals back whose cells they are.
-use Rattle.std.proofs.Common.{◌≡◌, ℕ, zero, suc, ◌+◌, ◌≤◌, ◌==◌, true, List, [], ◌∷◌, ◌++◌, length, take, drop, map, position, Option, Some, None, unwrap_or, IsTrue, refl, sym, ap, ◌∙◌, arith, append_assoc}
+use Rattle.std.proofs.Common.{◌≡◌, ℕ, zero, suc, ◌+◌, ◌≤◌, ◌==◌, true, List, [], ◌∷◌, ◌++◌, length, take, drop, map, position, Option, Some, unwrap_or, IsTrue, refl, sym, ap, ◌∙◌, arith, append_assoc}
 use Rattle.std.specs.List.{AllByRecursion, list_all, flat_map}
 use Rattle.std.specs.FinMap as globals
 use Rattle.std.proofs.Math.Seq.{take-append_seam, drop-append-add}
@@ -7,7 +7,6 @@ use Rattle.std.proofs.lemmas.Bool.{and_parts}
 use Rattle.global_defs.specs.Key.{Key, Sub, sub_of, key_cmp}
 use Rattle.global_defs.specs.Valid.{is_key, is_sub}
 use Rattle.global_defs.specs.Encoded.{encoded, encoded_sub}
-use Rattle.global_defs.specs.NodeText.{sub_bytes}
 use Rattle.global_defs.specs.Entry.{Globals}
 use Rattle.global_defs.proofs.NumberValue as numbers
 use Rattle.global_defs.proofs.Order.{key_total, key_same}
@@ -15,8 +14,8 @@ use Rattle.global_defs.proofs.ValidKeys.{valid_parts}
 use Rattle.gvn_key.specs.Decoding.{sub_end, sub_read}
 use Rattle.gvn_key.proofs.Decoded.{front, last_byte, encoded_parts, sub_back, end_found}
 use Rattle.gvn_key.proofs.KeyRead.{end_known, cut}
-use Rattle.journal_defs.specs.Leaves.{Cell, IsCell, KeysRise, cells_of}
-use Rattle.block_laws.specs.Nodes.{HaveKeys, HaveShortValues}
+use Rattle.journal_defs.specs.Leaves.{Cell, cells_of}
+use Rattle.block_laws.specs.Nodes.{HaveKeys}
 use Rattle.gvt_leaf.specs.Nodes.{sub_ending, subs_in, key_in, globals_in}
 
 code_parts : (s : Sub) (ss : List Sub) → flat_map encoded_sub (s ∷ ss) ≡ front s ++ (last_byte s ∷ flat_map encoded_sub ss)

@@ -1,16 +1,16 @@
 -- Lists of leaves, and the cells of all of them.
-use Rattle.std.proofs.Common.{◌≡◌, ◌≢◌, ◌⊎◌, inl, inr, ℕ, zero, suc, ◌+◌, ◌<◌, ◌≤◌, List, [], ◌∷◌, ◌++◌, length, take, drop, get_or, refl, sym, ap, subst, ◌∙◌, arith, add-one, append_assoc}
-use Rattle.std.proofs.lemmas.List.{take-append-drop, drop_more, length-append}
+use Rattle.std.proofs.Common.{◌≡◌, ◌≢◌, ℕ, zero, suc, ◌+◌, ◌<◌, List, [], ◌∷◌, ◌++◌, length, take, drop, get_or, refl, sym, ap, subst, ◌∙◌, arith, add-one}
+use Rattle.std.proofs.lemmas.List.{take-append-drop, drop_more}
 use Rattle.std.specs.declared.cmp.Ordering.{Ordering}
 use Rattle.std.specs.declared.cmp.Ordering.TheVariants.{Less, Equal, Greater}
-use Rattle.std.specs.List.{AllByRecursion, flat_map}
+use Rattle.std.specs.List.{AllByRecursion}
 use Rattle.std.proofs.lemmas.Grind.{flat_map-append}
 use Rattle.journal_defs.specs.Leaves.{Cell}
 use Rattle.block_fmt.specs.Cells.{AreBelow, AreAbove, cell_at}
 use Rattle.gvt_leaf.specs.Chained.{leaf_cells, all_cells, replaced}
-use Rattle.gvt_leaf.specs.Order.{Rise, AreRising}
-use Rattle.gvt_leaf.proofs.Links.{all-append, all_joined}
-use Rattle.gvt_leaf.proofs.Bytes.{bytes_cmp, trans, above_flips, below_flips, same_bytes, rise_before, rise_second, below_more, above_less}
+use Rattle.gvt_leaf.specs.Order.{Rise}
+use Rattle.gvt_leaf.proofs.Links.{all_joined}
+use Rattle.gvt_leaf.proofs.Bytes.{bytes_cmp, above_flips, below_flips, same_bytes, rise_before, rise_second, below_more, above_less}
 
 pub cells-append : (xs ys : List (List Cell)) → all_cells (xs ++ ys) ≡ all_cells xs ++ all_cells ys
 cells-append xs ys = flat_map-append (λ (l : List Cell). l) xs ys

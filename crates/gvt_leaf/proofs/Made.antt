@@ -1,5 +1,5 @@
 -- Leaves after an update hold the globals after it.
-use Rattle.std.proofs.Common.{◌≡◌, ℕ, zero, suc, ◌≤◌, ◌<◌, ◌+◌, false, List, [], ◌∷◌, length, drop, get_or, map, filter, nat_eq, refl, sym, ap, subst, ◌∙◌, arith}
+use Rattle.std.proofs.Common.{◌≡◌, ℕ, zero, suc, ◌≤◌, ◌<◌, ◌+◌, false, List, [], ◌∷◌, length, drop, get_or, map, nat_eq, refl, sym, ap, subst, ◌∙◌, arith}
 use Rattle.std.specs.Prelude.{not}
 use Rattle.std.specs.Ordering.{nat_cmp, eq_by_cmp}
 use Rattle.std.specs.Cmp.Lexicographic.{slice_cmp}
@@ -7,7 +7,7 @@ use Rattle.std.specs.List.{AllByRecursion, starts_with}
 use Rattle.std.specs.FinMap as globals
 use Rattle.std.proofs.lemmas.List.{drop_more}
 use Rattle.global_defs.specs.Encoded.{encoded}
-use Rattle.global_defs.specs.Entry.{Globals, Update, Set, Kill, ZKill, apply}
+use Rattle.global_defs.specs.Entry.{Update, Set, Kill, ZKill, apply}
 use Rattle.global_defs.specs.Fields.{IsUpdate}
 use Rattle.journal_defs.specs.Leaves.{Leaf, Cell, IsCell}
 use Rattle.block_laws.specs.Cells.{changed}

@@ -2,16 +2,16 @@
 use Rattle.std.proofs.Common.{◌≡◌, ℕ, zero, suc, ◌+◌, ◌-◌, ◌<◌, ◌≤◌, Bool, true, false, List, [], ◌∷◌, ◌++◌, length, take, drop, get_or, filter, nat_eq, refl, sym, ap, subst, ◌∙◌, arith, add-one, append_assoc, append-nil}
 use Rattle.std.specs.Prelude.{not}
 use Rattle.std.proofs.lemmas.List.{take_more, take_all, drop_all, drop_more, drop-drop, get_or-drop, length-drop, take-append-drop}
-use Rattle.std.specs.declared.cmp.Ordering.TheVariants.{Less, Equal, Greater}
+use Rattle.std.specs.declared.cmp.Ordering.TheVariants.{Less, Equal}
 use Rattle.std.specs.Ordering.{is_lt}
 use Rattle.std.specs.List.{AllByRecursion, starts_with}
 use Rattle.journal_defs.specs.Leaves.{Cell}
-use Rattle.block_fmt.specs.Cells.{AreBelow, AreAbove, StandsIn, cell_at}
+use Rattle.block_fmt.specs.Cells.{AreBelow, StandsIn, cell_at}
 use Rattle.gvt_leaf.specs.Chained.{leaf_cells, all_cells}
 use Rattle.gvt_leaf.specs.Order.{Rise, AreRising}
 use Rattle.gvt_leaf.proofs.Links.{all-append, all_joined}
 use Rattle.gvt_leaf.proofs.Bytes.{bytes_cmp, rise_second}
-use Rattle.gvt_leaf.proofs.LeafLists.{cells-append, cells_round}
+use Rattle.gvt_leaf.proofs.LeafLists.{cells-append}
 use Rattle.gvt_leaf.proofs.Updates.{tied, filter-append, filter_all, filter_none, is_outside, is_past, below_past, below_begins}
 use Rattle.gvt_leaf.proofs.TakenOut.{AreNotBefore, above_not_before, FirstOutside, all_outside, ahead, run, after, run_round}
 

@@ -1,5 +1,5 @@
 -- What a key's leaf tells of the cells of all leaves.
-use Rattle.std.proofs.Common.{◌≡◌, ℕ, ◌+◌, ◌<◌, ◌≤◌, false, List, [], ◌∷◌, ◌++◌, length, take, drop, filter, Option, Some, None, option_map, sym, ap, subst, ◌∙◌, arith, append_assoc, true, true≢false}
+use Rattle.std.proofs.Common.{◌≡◌, ℕ, ◌+◌, ◌<◌, ◌≤◌, false, List, [], ◌++◌, length, take, drop, filter, Some, None, option_map, sym, ap, subst, ◌∙◌, arith, append_assoc, true, true≢false}
 use Rattle.std.proofs.lemmas.List.{take-append-drop, drop_more, drop_all, take_all, length-append}
 use Rattle.std.specs.declared.cmp.Ordering.TheVariants.{Greater}
 use Rattle.std.specs.Ordering.{is_lt}

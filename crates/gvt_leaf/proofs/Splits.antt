@@ -1,9 +1,9 @@
 -- A chain stays one where a leaf is cut in two.
-use Rattle.std.proofs.Common.{◌≡◌, ◌≢◌, ℕ, ◌+◌, ◌-◌, ◌<◌, ◌≤◌, ◌==◌, nat_lt, zero, suc, List, [], ◌∷◌, ◌++◌, length, take, drop, get_or, map, refl, sym, ap, subst, ◌∙◌, arith, append_assoc}
+use Rattle.std.proofs.Common.{◌≡◌, ◌≢◌, ℕ, ◌+◌, ◌<◌, ◌≤◌, ◌==◌, zero, suc, List, [], ◌∷◌, ◌++◌, length, take, drop, get_or, map, refl, sym, ap, subst, ◌∙◌, arith, append_assoc}
 use Rattle.std.proofs.lemmas.Bool.Decides.{nat_tests}
 use Rattle.std.proofs.lemmas.List.{get_or_read, take_more, take-append-drop, length-set}
 use Rattle.std.specs.List.{AllByRecursion, insert}
-use Rattle.journal_defs.specs.Leaves.{Leaf, Cell, IsLeaf}
+use Rattle.journal_defs.specs.Leaves.{Leaf, IsLeaf}
 use Rattle.block_fmt.specs.Cells.{with_cells}
 use Rattle.block_pool.specs.Code.{Pool}
 use Rattle.block_pool.specs.Pool.{leaf_at, changed}
@@ -12,7 +12,7 @@ use Rattle.gvt_leaf.specs.Chained.{Chained, replaced, leaf_cells}
 use Rattle.gvt_leaf.specs.Inside.{chained, IsChained}
 use Rattle.gvt_leaf.specs.declared.chain.Chain.TheInside.{Inside}
 use Rattle.gvt_leaf.proofs.Links.{times-append, times_itself}
-use Rattle.gvt_leaf.proofs.Chaining.{cut_at, Around, around, cells_replaced, forms_replaced, links_replaced, next_there, once_only, once_there, leaf-changed_same, leaf-changed_other}
+use Rattle.gvt_leaf.proofs.Chaining.{Around, around, cells_replaced, forms_replaced, links_replaced, next_there, once_only, once_there, leaf-changed_same, leaf-changed_other}
 use Rattle.gvt_leaf.proofs.Kept.{as_many, number_inside, leaf_there}
 
 inside_once : (b count : ℕ) → inside b count ≤ 1

@@ -1,19 +1,19 @@
 -- Leaves after cells of one of them were taken away.
-use Rattle.std.proofs.Common.{◌≡◌, ◌≢◌, ℕ, zero, suc, ◌+◌, ◌-◌, ◌<◌, ◌≤◌, Bool, true, false, List, [], ◌∷◌, ◌++◌, length, take, drop, get_or, filter, nat_eq, refl, sym, ap, subst, ◌∙◌, arith, add-one, append_assoc, append-nil}
+use Rattle.std.proofs.Common.{◌≡◌, ◌≢◌, ℕ, zero, suc, ◌+◌, ◌-◌, ◌<◌, ◌≤◌, true, false, List, [], ◌∷◌, ◌++◌, length, take, drop, filter, nat_eq, sym, ap, subst, ◌∙◌, arith, add-one, append_assoc, append-nil}
 use Rattle.std.specs.Prelude.{not}
-use Rattle.std.proofs.lemmas.List.{take-append-drop, drop_more, drop-drop, take_at, drop_at, take_all, length-take-le, length-append}
+use Rattle.std.proofs.lemmas.List.{take-append-drop, drop_more, drop-drop, take_at, drop_at, length-take-le, length-append}
 use Rattle.std.specs.declared.cmp.Ordering.TheVariants.{Less, Greater}
 use Rattle.std.specs.List.{AllByRecursion, starts_with}
 use Rattle.journal_defs.specs.Leaves.{Cell}
-use Rattle.block_fmt.specs.Cells.{AreBelow, AreAbove, StandsIn, BelongsAt, cell_at, without_between}
+use Rattle.block_fmt.specs.Cells.{AreBelow, AreAbove, StandsIn, BelongsAt, without_between}
 use Rattle.gvt_leaf.specs.Chained.{leaf_cells, all_cells, replaced}
-use Rattle.gvt_leaf.specs.Order.{Rise, AreRising, IsSeat}
+use Rattle.gvt_leaf.specs.Order.{Rise, IsSeat}
 use Rattle.gvt_leaf.specs.Edits.{AreFilledBut, outside}
-use Rattle.gvt_leaf.proofs.Links.{all-append, all_joined}
-use Rattle.gvt_leaf.proofs.Bytes.{bytes_cmp, rise_without, rise_second}
-use Rattle.gvt_leaf.proofs.LeafLists.{cells-append, cells_round, cells-replaced, filled_past, filled_to}
+use Rattle.gvt_leaf.proofs.Links.{all_joined}
+use Rattle.gvt_leaf.proofs.Bytes.{bytes_cmp, rise_without}
+use Rattle.gvt_leaf.proofs.LeafLists.{cells_round, cells-replaced, filled_past, filled_to}
 use Rattle.gvt_leaf.proofs.Updates.{is_other, removed_here, removed_nowhere, is_outside, below_outside, outside_behind, filter_all, killed_some}
-use Rattle.gvt_leaf.proofs.Apart.{length-replaced, length_without}
+use Rattle.gvt_leaf.proofs.Apart.{length_without}
 use Rattle.gvt_leaf.proofs.Seated.{count-replaced, removed_here_alone, nothing_removed}
 
 -- ---- an empty leaf goes

@@ -1,12 +1,12 @@
 -- What an update does to cells of which those before and behind a leaf are smaller and greater.
-use Rattle.std.proofs.Common.{◌≡◌, ◌≢◌, inl, inr, ℕ, zero, suc, ◌+◌, ◌<◌, ◌≤◌, Bool, true, false, cond, List, [], ◌∷◌, ◌++◌, length, take, drop, get_or, map, filter, Option, Some, None, refl, sym, ap, subst, ◌∙◌, arith, nat_eq, append_assoc}
+use Rattle.std.proofs.Common.{◌≡◌, inl, inr, ℕ, ◌+◌, ◌<◌, Bool, true, false, cond, List, [], ◌∷◌, ◌++◌, length, take, drop, filter, Option, Some, None, refl, sym, ap, subst, ◌∙◌, arith, nat_eq}
 use Rattle.std.specs.Prelude.{not, ◌&&◌}
 use Rattle.std.proofs.lemmas.Bool.{cases_Bool, and_parts, eqb-true}
 use Rattle.std.proofs.lemmas.List.{take-append-drop, drop_more, take_at, drop_at, length-take-le, length-append}
 use Rattle.std.specs.declared.cmp.Ordering.{Ordering}
 use Rattle.std.specs.declared.cmp.Ordering.TheVariants.{Less, Equal, Greater}
-use Rattle.std.specs.Ordering.{nat_cmp, is_lt, is_eq, eq_by_cmp, ordering_reverse, ordering_then}
-use Rattle.std.specs.Cmp.Lexicographic.{slice_cmp, nat_list_cmp_total}
+use Rattle.std.specs.Ordering.{nat_cmp, is_lt, is_eq, eq_by_cmp, ordering_then}
+use Rattle.std.specs.Cmp.Lexicographic.{nat_list_cmp_total}
 use Rattle.std.specs.List.{AllByRecursion, find, starts_with}
 use Rattle.std.specs.FinMap as globals
 use Rattle.std.specs.FinMap.{nat_cmp-IsAntisymmetric}
@@ -17,9 +17,8 @@ use Rattle.std.proofs.lemmas.Bool.Decides.{nat_tests}
 use Rattle.journal_defs.specs.Leaves.{Cell}
 use Rattle.block_fmt.specs.Cells.{AreBelow, AreAbove, StandsIn, BelongsAt, cell_at, without_between}
 use Rattle.block_fmt.proofs.Order as order
-use Rattle.gvt_leaf.specs.Order.{Rise}
-use Rattle.gvt_leaf.proofs.Links.{all-append, all_joined}
-use Rattle.gvt_leaf.proofs.Bytes.{bytes_cmp, flip, above_flips, below_flips, same_bytes, trans, rise_before, rise_second}
+use Rattle.gvt_leaf.proofs.Links.{all_joined}
+use Rattle.gvt_leaf.proofs.Bytes.{bytes_cmp, above_flips, below_flips}
 
 -- ---- looking up
 

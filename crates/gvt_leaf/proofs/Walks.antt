@@ -1,6 +1,6 @@
 -- The walk along a chain of leaves.
-use Rattle.std.proofs.Common.{◌≡◌, ◌≢◌, ◌⊎◌, inl, inr, ℕ, zero, suc, ◌+◌, ◌-◌, ◌<◌, ◌≤◌, ◌==◌, Bool, true, false, cond, ◌&&◌, ◌||◌, List, [], ◌∷◌, ◌++◌, length, take, drop, get_or, set, map, replicate, refl, sym, ap, subst, ◌∙◌, arith, append_assoc, append-nil}
-use Rattle.std.specs.Prelude.{not, count_by, sum_by}
+use Rattle.std.proofs.Common.{◌≡◌, ◌≢◌, ◌⊎◌, inl, inr, ℕ, zero, suc, ◌+◌, ◌-◌, ◌<◌, ◌≤◌, ◌==◌, Bool, true, false, ◌&&◌, ◌||◌, List, [], ◌∷◌, ◌++◌, length, take, drop, get_or, set, replicate, refl, sym, ap, subst, ◌∙◌, arith, append_assoc, append-nil}
+use Rattle.std.specs.Prelude.{not, count_by}
 use Rattle.std.proofs.lemmas.Bool.{cases_Bool, cases_eq, and_parts}
 use Rattle.std.proofs.lemmas.Bool.Decides.{nat_tests}
 use Rattle.std.proofs.lemmas.List.{map-append, take_more, take_all, length-append, length-set, get_or-set_same, get_or-set_other, get_or_default, get_or-replicate, length-replicate}
@@ -19,8 +19,8 @@ use Rattle.gvt_leaf.specs.Links.{first_or, Lead, times, one_if}
 use Rattle.gvt_leaf.specs.Chained.{all_cells}
 use Rattle.gvt_leaf.specs.Order.{Rise, AreRising}
 use Rattle.gvt_leaf.specs.Walked.{leaves_of, go_on, Follows, Breaks, BreaksAt, IsWalked}
-use Rattle.gvt_leaf.proofs.Links.{times-append, times_itself, Lead_joined, all-append, all_joined}
-use Rattle.gvt_leaf.proofs.Bytes.{bytes_cmp, trans, above_flips, below_flips, rise_before, rise_first, rise_second, above_less}
+use Rattle.gvt_leaf.proofs.Links.{times-append, Lead_joined, all-append, all_joined}
+use Rattle.gvt_leaf.proofs.Bytes.{bytes_cmp, above_flips, below_flips, rise_before, rise_second, above_less}
 use Rattle.gvt_leaf.proofs.LeafLists.{cells-append}
 
 -- ---- rising cells

@@ -1,4 +1,4 @@
-use Rattle.std.proofs.Common.{◌≡◌, true, ap, sym, ◌∙◌, arith, true≢false}
+use Rattle.std.proofs.Common.{ap, sym, ◌∙◌, arith, true≢false}
 use Rattle.gvt_leaf.specs.Chained.{all_cells}
 use Rattle.gvt_leaf.proofs.TakenOut.{gone_cells, kept_filled}
 use Rattle.gvt_leaf.proofs.edits.drop_empty.Goals as goal

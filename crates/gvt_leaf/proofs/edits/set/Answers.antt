@@ -1,4 +1,4 @@
-use Rattle.std.proofs.Common.{List, ℕ, length, ap, sym, subst, ◌∙◌, ◌+◌}
+use Rattle.std.proofs.Common.{List, length, ap, sym, subst, ◌∙◌, ◌+◌}
 use Rattle.std.specs.Prelude.{IfOk, IfErr}
 use Rattle.journal_defs.specs.Leaves.{Cell}
 use Rattle.block_fmt.specs.Cells.{StandsIn, BelongsAt}

@@ -1,9 +1,8 @@
-use Rattle.std.proofs.Common.{◌≡◌, true, false, List, length, drop, nat_eq, Some, None, option_map, if◌then◌else◌, sym, ap, subst, ◌∙◌}
+use Rattle.std.proofs.Common.{◌≡◌, true, false, length, drop, nat_eq, Some, None, option_map, if◌then◌else◌, sym, ap, subst, ◌∙◌}
 use Rattle.std.specs.Prelude.{IfSome}
 use Rattle.std.specs.List.{starts_with}
 use Rattle.std.specs.Option.{option_copied}
 use Rattle.global_defs.specs.Key.{sub_of}
-use Rattle.global_defs.specs.Encoded.{encoded}
 use Rattle.global_defs.specs.Entry.{is_under}
 use Rattle.global_defs.specs.Evaluation.{first_sub}
 use Rattle.journal_defs.specs.Leaves.{IsEncoded}

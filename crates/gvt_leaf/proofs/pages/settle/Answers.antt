@@ -1,8 +1,8 @@
-use Rattle.std.proofs.Common.{◌≡◌, ◌<◌, ◌≤◌, ◌+◌, ◌∙◌, sym, ap, subst, ◌++◌, ◌∷◌, [], List, ℕ, length, arith}
+use Rattle.std.proofs.Common.{◌≡◌, ◌<◌, ◌≤◌, ◌∙◌, ap, ◌++◌, ◌∷◌, [], List, ℕ, length, arith}
 use Rattle.std.proofs.lemmas.List.{length-set}
 use Rattle.block_pool.specs.Code.{Pool}
 use Rattle.block_pool.specs.Pool.{leaf_at}
-use Rattle.gvt_leaf.specs.Links.{inside, times, one_if}
+use Rattle.gvt_leaf.specs.Links.{inside, times}
 use Rattle.gvt_leaf.proofs.Links.{times-popped, times_itself}
 use Rattle.gvt_leaf.proofs.Chaining.{leaf-changed_same}
 use Rattle.gvt_leaf.proofs.pages.settle.Goals as goal

@@ -1,8 +1,7 @@
-use Rattle.std.proofs.Common.{◌≡◌, ◌≢◌, ◌+◌, ◌-◌, ◌<◌, ◌≤◌, ◌∷◌, ◌++◌, [], ℕ, List, Bool, false, true, length, replicate, slice_set, MatchBool, sym, ap, subst, ◌∙◌, arith}
+use Rattle.std.proofs.Common.{◌≡◌, ◌∷◌, ◌++◌, [], ℕ, List, Bool, false, true, length, replicate, slice_set, MatchBool, sym, ap, subst, ◌∙◌, arith}
 use Rattle.std.proofs.lemmas.List.{length-append, length-set}
 use Rattle.std.proofs.lemmas.List.Sums.{count_by-le-length}
 use Rattle.journal_defs.specs.Leaves.{Leaf, IsLeaf}
-use Rattle.block_pool.specs.Pool.{leaf_at}
 use Rattle.gvt_leaf.specs.Walked.{Follows, Breaks, BreaksAt, IsWalked}
 use Rattle.gvt_leaf.proofs.Walks.{walk_begins, walk_goes_on, breaks_there, breaks_at_once}
 use Rattle.gvt_leaf.proofs.walk.walk.Goals as goal

@@ -1,9 +1,9 @@
-use Rattle.std.proofs.Common.{◌≡◌, ◌≤◌, ◌+◌, ◌∷◌, ◌++◌, [], List, length, ap, sym, subst, ◌∙◌, refl, arith}
+use Rattle.std.proofs.Common.{◌≡◌, ◌+◌, ◌∷◌, ◌++◌, [], List, length, ap, sym, subst, ◌∙◌, refl, arith}
 use Rattle.std.proofs.lemmas.List.{length-append}
 use Rattle.std.specs.List.{AllByRecursion}
 use Rattle.journal_defs.specs.Leaves.{Leaf}
 use Rattle.gvt_leaf.proofs.Links.{all_joined}
-use Rattle.gvt_leaf.proofs.Still.{AreSame, same_chained}
+use Rattle.gvt_leaf.proofs.Still.{same_chained}
 use Rattle.gvt_leaf.proofs.chain.Chain.add_spare.Goals as goal
 
 pub invariant_of-self : goal.invariant_of-self

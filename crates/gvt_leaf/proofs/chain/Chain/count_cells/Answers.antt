@@ -1,4 +1,4 @@
-use Rattle.std.proofs.Common.{◌≡◌, ◌+◌, ◌≤◌, length, take, List, ap, ◌∙◌, arith}
+use Rattle.std.proofs.Common.{◌≡◌, length, List, ap, ◌∙◌, arith}
 use Rattle.std.proofs.lemmas.List.{take_all}
 use Rattle.journal_defs.specs.Leaves.{Cell}
 use Rattle.gvt_leaf.specs.Chained.{leaf_cells, all_cells}

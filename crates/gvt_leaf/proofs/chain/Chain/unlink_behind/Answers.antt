@@ -1,4 +1,4 @@
-use Rattle.std.proofs.Common.{◌≡◌, ◌∙◌, ◌+◌, ◌∷◌, [], sym, ap, subst, List, ℕ, length, arith}
+use Rattle.std.proofs.Common.{◌≡◌, ◌∙◌, ◌+◌, ap, length, arith}
 use Rattle.std.proofs.lemmas.List.{length-set}
 use Rattle.journal_defs.specs.Leaves.{Leaf}
 use Rattle.block_pool.specs.Code.{Pool}

@@ -1,8 +1,8 @@
-use Rattle.std.proofs.Common.{◌≡◌, ◌≤◌, length, ap, arith, Result, Ok, Err, refl, OnOk, OnErr}
+use Rattle.std.proofs.Common.{◌≡◌, ap, arith, Result, Ok, Err, refl, OnOk, OnErr}
 use Rattle.block_pool.specs.Code.{Pool}
 use Rattle.block_pool.specs.Pool.{cleaned}
 use Rattle.block_pool.specs.declared.error.PoolError.{PoolError}
-use Rattle.gvt_leaf.proofs.Still.{AreSame, same_chained}
+use Rattle.gvt_leaf.proofs.Still.{same_chained}
 use Rattle.gvt_leaf.proofs.chain.Chain.write_out.Goals as goal
 
 -- written or not, the pool has the same blocks and the same room

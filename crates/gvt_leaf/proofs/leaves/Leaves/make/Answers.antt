@@ -1,11 +1,7 @@
-use Rattle.std.proofs.Common.{◌+◌, fold, map, take, drop, ap, ◌∙◌, ◌∷◌, []}
-use Rattle.std.proofs.lemmas.List.{take_more, map-append}
-use Rattle.std.proofs.lemmas.List.Sums.{fold-append}
-use Rattle.global_defs.specs.Entry.{apply}
+use Rattle.std.proofs.Common.{◌+◌, map, drop}
 use Rattle.gvn_key.specs.Terms.{update_value}
 use Rattle.gvt_leaf.specs.Stored.{sets_of, sets_in}
-use Rattle.gvt_leaf.proofs.KeptClean.{keeps_both}
-use Rattle.gvt_leaf.proofs.Made.{form_at, sets_at, room_first, room_rest}
+use Rattle.gvt_leaf.proofs.Made.{form_at, sets_at, room_first}
 use Rattle.gvt_leaf.proofs.leaves.Leaves.make.Goals as goal
 
 pub make_one-requires-clause-form : goal.make_one-requires-clause-form

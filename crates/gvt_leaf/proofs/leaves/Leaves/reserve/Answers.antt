@@ -1,4 +1,4 @@
-use Rattle.std.proofs.Common.{◌≡◌, ◌≤◌, ◌+◌, List, Result, Ok, Err, OnOk, sym, ap, ◌∙◌, arith}
+use Rattle.std.proofs.Common.{◌≡◌, ◌≤◌, List, Result, Ok, Err, OnOk, sym, ap, ◌∙◌, arith}
 use Rattle.std.specs.FinMap as globals
 use Rattle.journal_defs.specs.Leaves.{Cell}
 use Rattle.gvt_leaf.specs.Chained.{all_cells}
