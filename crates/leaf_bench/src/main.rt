@@ -5,6 +5,10 @@
 //! has one line, the same at each run: how many blocks there are, and how often something was found.
 #![tactic(auto)]
 
+ghost use Rattle.std.specs.Prelude.{IfOk};
+ghost use Rattle.global_defs.specs.Fields.{IsUpdate};
+ghost use Rattle.gvn_key.specs.Terms.{update_value};
+
 use anyhow::{Context, Result};
 use block_fmt::Block;
 use gvn_globals::{Globals, Lookup};
@@ -39,8 +43,14 @@ fn scattered(i: u32, nodes: u32) -> u32 {
 }
 
 // Gives a node a value.
-fn setting(alloc: Global, number: u32) -> Result<Update> {
-    Ok(Update::Set(node(alloc, number)?, Bytes::of(alloc, VALUE)?))
+fn setting(alloc: Global, number: u32) -> Result<Update>
+    ensures { IfOk result (λ update. IsUpdate (update_value update)) }
+{
+    let key = node(alloc, number)?;
+    let value = Bytes::of(alloc, VALUE)?;
+    // What has a code is a key of its form.
+    let _ = key.code();
+    Ok(Update::Set(key, value))
 }
 
 // How often something is found by look-ups of one kind.
@@ -61,17 +71,24 @@ fn look<L: Lookup>(alloc: Global, on: &L, what: &str, nodes: u32, times: u32) ->
     Ok(found)
 }
 
-// How many blocks are the same once they were encoded, and decoded where that is asked for.
+// Whether a block is the same once it was encoded, and decoded where that is asked for.
+fn is_same(alloc: Global, block: &Block, what: &str, bytes: &mut [u8; BLOCK]) -> Result<bool> {
+    block.encode(bytes);
+    Ok(what == "encode" || Block::decode(alloc, bytes, 0)?.len() == block.len())
+}
+
+// How many of these blocks are the same.
 fn code(alloc: Global, leaves: &Leaves, what: &str, times: u32) -> Result<u32> {
     let pool = leaves.pool();
-    let mut bytes = vec![in alloc; 0u8; BLOCK]?;
+    let count = pool.count();
+    let mut bytes = [0; BLOCK];
     let mut same = 0u32;
     for i in 0..times {
-        let number = scattered(i, pool.count());
-        let block = pool.block(number);
-        block.encode(&mut bytes);
-        let is_same = what == "encode" || Block::decode(alloc, &bytes, 0)?.len() == block.len();
-        same = same.saturating_add(u32::from(is_same));
+        let number = scattered(i, count);
+        if number < count {
+            let is_same = is_same(alloc, pool.block(number), what, &mut bytes)?;
+            same = same.saturating_add(u32::from(is_same));
+        }
     }
     Ok(same)
 }
