@@ -2,7 +2,6 @@
 ghost use Rattle.global_defs.specs.Fields.{IsUpdate};
 ghost use Rattle.gvn_key.specs.Terms.{update_value};
 
-use crate::cells::longest;
 use block_fmt::Block;
 use block_pool::BlockPool;
 use gvn_globals::Globals;
@@ -11,7 +10,6 @@ use gvn_key::{Bytes, Key};
 use gvt_leaf::Leaves;
 use std::alloc::Global;
 use std::process::Abort;
-use std::test::Fail;
 
 /// The next of some numbers that look random.
 fn next(seed: u64) -> u64 {
@@ -28,168 +26,198 @@ fn name(seed: u64) -> &'static [u8] {
 }
 
 /// A subscript by a number.
-fn sub(alloc: Global, seed: u64) -> Result<Bytes, Fail> {
-    let mut sub = Bytes::new(alloc);
-    if seed % 5 == 0 {
-        sub.push(b'a')?;
-    }
-    sub.push_decimal(seed % 20)?;
-    Ok(sub)
+fn sub(rt: &impl Abort, alloc: Global, seed: u64) -> Bytes {
+    let front: &[u8] = if seed % 5 == 0 { b"a" } else { b"" };
+    let mut sub = Bytes::of(alloc, front).expect(rt, "memory");
+    sub.push_decimal(seed % 20).expect(rt, "memory");
+    sub
 }
 
-/// A key by a number, one in 50 with a code of 255 bytes.
-fn key(rt: &impl Abort, alloc: Global, seed: u64) -> Result<Key, Fail> {
-    if seed % 50 == 0 {
-        let code = longest(alloc, if seed % 100 == 0 { b"b" } else { b"c" })?;
-        return Ok(Key::decode(alloc, code.as_slice())?.expect(rt, "a key"));
+/// A key whose code has 255 bytes.
+fn long_key(rt: &impl Abort, alloc: Global, last: &[u8]) -> Key {
+    let mut sub = Bytes::new(alloc);
+    for _ in 0..250 {
+        sub.push(b'a').expect(rt, "memory");
     }
+    sub.push_all(last).expect(rt, "memory");
+    let key = Key::new(alloc, b"X", &[sub]).expect(rt, "a key");
+    assert!(rt; key.as_encoded().len() == 255);
+    key
+}
+
+/// A key of subscripts by a number.
+fn short_key(rt: &impl Abort, alloc: Global, seed: u64) -> Key {
     let mut subs = Vec::new(alloc);
     let mut rest = seed / 3;
     for _ in 0..rest % 4 {
         rest /= 4;
-        subs.push(sub(alloc, rest)?)?;
+        subs.push(sub(rt, alloc, rest)).expect(rt, "memory");
         rest /= 20;
     }
-    Ok(Key::new(alloc, name(seed), &subs)?)
+    Key::new(alloc, name(seed), &subs).expect(rt, "a key")
 }
 
-/// A value by a number: of 1,500 bytes, of none, or of some.
-fn value(alloc: Global, seed: u64) -> Result<Bytes, Fail> {
-    let long = match seed % 11 {
+/// A key by a number, one in 50 with a code of 255 bytes.
+fn key(rt: &impl Abort, alloc: Global, seed: u64) -> Key {
+    match seed % 100 {
+        0 => long_key(rt, alloc, b"b"),
+        50 => long_key(rt, alloc, b"c"),
+        _ => short_key(rt, alloc, seed),
+    }
+}
+
+/// How long a value is: 1,500 bytes, none, or some.
+fn size(seed: u64) -> u64 {
+    match seed % 11 {
         0 => 1500,
         1 => 0,
         _ => seed / 11 % 60,
-    };
-    let mut value = Bytes::new(alloc);
-    for i in 0..long {
-        value.push((i % 251) as u8)?;
     }
-    Ok(value)
+}
+
+/// A value by a number.
+fn value(rt: &impl Abort, alloc: Global, seed: u64) -> Bytes {
+    let mut value = Bytes::new(alloc);
+    for i in 0..size(seed) {
+        value.push((i % 251) as u8).expect(rt, "memory");
+    }
+    value
 }
 
 /// Makes a change in both.
-fn change(leaves: &mut Leaves, globals: &mut Globals, update: &Update) -> Result<(), Fail>
+fn change(rt: &impl Abort, leaves: &mut Leaves, globals: &mut Globals, update: &Update)
     requires { IsUpdate (update_value update.now) }
 {
-    leaves.apply(update)?;
-    globals.apply(update)?;
-    Ok(())
+    leaves.apply(update).expect(rt, "memory");
+    globals.apply(update).expect(rt, "memory");
+}
+
+/// Gives a node a value in both.
+fn set(rt: &impl Abort, leaves: &mut Leaves, globals: &mut Globals, node: Key, value: Bytes) {
+    let _ = node.code();
+    assert!(rt; value.len() <= 1500);
+    change(rt, leaves, globals, &Update::Set(node, value));
 }
 
 /// Makes a change by a number in both.
-fn step(
-    rt: &impl Abort,
-    alloc: Global,
-    seed: u64,
-    leaves: &mut Leaves,
-    globals: &mut Globals,
-) -> Result<(), Fail> {
-    let node = key(rt, alloc, next(seed))?;
+fn step(rt: &impl Abort, alloc: Global, seed: u64, leaves: &mut Leaves, globals: &mut Globals) {
+    let node = key(rt, alloc, next(seed));
     let _ = node.code();
     match seed % 40 {
-        0 => change(leaves, globals, &Update::Kill(node)),
-        1..=6 => change(leaves, globals, &Update::ZKill(node)),
-        _ => {
-            let value = value(alloc, seed)?;
-            assert!(rt; value.len() <= 1500);
-            change(leaves, globals, &Update::Set(node, value))
-        }
+        0 => change(rt, leaves, globals, &Update::Kill(node)),
+        1..=6 => change(rt, leaves, globals, &Update::ZKill(node)),
+        _ => set(rt, leaves, globals, node, value(rt, alloc, seed)),
     }
 }
 
 /// Both have the same nodes.
-fn same(rt: &impl Abort, alloc: Global, leaves: &Leaves, globals: &Globals) -> Result<(), Fail> {
-    let left = leaves.list(alloc)?;
-    let right = globals.list(alloc)?;
-    assert_eq!(rt; left.len(), right.len());
-    assert_eq!(rt; leaves.nodes(), globals.nodes());
+fn same(rt: &impl Abort, alloc: Global, leaves: &Leaves, globals: &Globals) {
+    let left = leaves.list(alloc).expect(rt, "memory");
+    let right = globals.list(alloc).expect(rt, "memory");
+    assert!(rt; left.len() == right.len());
     for (left, right) in left.iter().zip(right.iter()) {
-        assert_eq!(rt; left.key.as_encoded(), right.key.as_encoded());
-        assert_eq!(rt; left.value, right.value);
+        assert!(rt; left.key.as_encoded() == right.key.as_encoded());
+        assert!(rt; left.value == right.value);
     }
-    Ok(())
 }
 
 /// The leaves of the bytes that these blocks are written as.
-fn again(rt: &impl Abort, alloc: Global, pool: &BlockPool) -> Result<Leaves, Fail> {
+fn again(rt: &impl Abort, alloc: Global, pool: &BlockPool) -> Leaves {
     let mut back = BlockPool::new(alloc);
     let mut bytes = [0; 4096];
     for number in 0..pool.count() {
         pool.block(number).encode(&mut bytes);
         let block = Block::decode(alloc, &bytes, 0).expect(rt, "a block");
-        back.add(block, false)?;
+        back.add(block, false).expect(rt, "memory");
     }
-    Ok(Leaves::open(alloc, back).expect(rt, "a chain"))
+    Leaves::open(alloc, back).expect(rt, "a chain")
+}
+
+/// Both have the same node behind a key.
+fn same_after(rt: &impl Abort, leaves: &Leaves, globals: &Globals, key: &Key) {
+    let left = leaves.after(key).expect(rt, "memory");
+    let right = globals.after(key).expect(rt, "memory");
+    match (left, right) {
+        (Some(left), Some(right)) => {
+            assert!(rt; left.as_encoded() == right.as_encoded());
+        }
+        (None, None) => {}
+        _ => panic!(rt; "only one has a node there"),
+    }
+}
+
+/// Both have the same subscript next.
+fn same_order(rt: &impl Abort, leaves: &Leaves, globals: &Globals, key: &Key, last: &[u8]) {
+    let left = leaves.order(key, last).expect(rt, "memory");
+    let right = globals.order(key, last).expect(rt, "memory");
+    assert!(rt; left == right);
+}
+
+/// Both list as many nodes under a key.
+fn same_under(rt: &impl Abort, alloc: Global, leaves: &Leaves, globals: &Globals, key: &Key) {
+    let left = leaves.list_under(alloc, key).expect(rt, "memory");
+    let right = globals.list_under(alloc, key).expect(rt, "memory");
+    assert!(rt; left.len() == right.len());
 }
 
 /// Both answer the same at a key.
-fn alike(
-    rt: &impl Abort,
-    alloc: Global,
-    leaves: &Leaves,
-    globals: &Globals,
-    key: &Key,
-) -> Result<(), Fail> {
-    assert_eq!(rt; leaves.get(key), globals.get(key));
-    assert_eq!(rt; leaves.defined(key), globals.defined(key));
-    let left = leaves.after(key)?;
-    let right = globals.after(key)?;
-    assert_eq!(rt; left.is_some(), right.is_some());
-    if let (Some(left), Some(right)) = (left, right) {
-        assert_eq!(rt; left.as_encoded(), right.as_encoded());
-    }
-    let lasts: [&[u8]; 3] = [b"", b"5", b"a1"];
-    for last in lasts {
-        let left = leaves.order(key, last)?;
-        let right = globals.order(key, last)?;
-        assert!(rt; left == right);
-    }
-    assert_eq!(rt; leaves.list_under(alloc, key)?.len(), globals.list_under(alloc, key)?.len());
-    Ok(())
+fn alike(rt: &impl Abort, alloc: Global, leaves: &Leaves, globals: &Globals, key: &Key) {
+    assert!(rt; leaves.get(key) == globals.get(key));
+    assert!(rt; leaves.defined(key) == globals.defined(key));
+    assert!(rt; leaves.nodes() == globals.nodes());
+    same_after(rt, leaves, globals, key);
+    same_order(rt, leaves, globals, key, b"");
+    same_order(rt, leaves, globals, key, b"5");
+    same_order(rt, leaves, globals, key, b"a1");
+    same_under(rt, alloc, leaves, globals, key);
 }
 
 #[test]
-fn random_updates(rt: HostRuntime) -> Result<(), Fail> {
+fn random_updates(rt: HostRuntime) {
     let alloc = rt.alloc();
-    let mut leaves = Leaves::new(alloc)?;
+    let mut leaves = Leaves::new(alloc).expect(&rt, "memory");
     let mut globals = Globals::new(alloc);
     let mut seed = 1;
     for i in 0..10_000u32 {
         seed = next(seed);
-        step(&rt, alloc, seed, &mut leaves, &mut globals)?;
+        step(&rt, alloc, seed, &mut leaves, &mut globals);
         if i % 10 == 0 {
-            alike(&rt, alloc, &leaves, &globals, &key(&rt, alloc, seed)?)?;
+            alike(&rt, alloc, &leaves, &globals, &key(&rt, alloc, seed));
         }
         if i % 1_000 == 999 {
-            same(&rt, alloc, &leaves, &globals)?;
-            same(&rt, alloc, &again(&rt, alloc, leaves.pool())?, &globals)?;
+            same(&rt, alloc, &leaves, &globals);
+            same(&rt, alloc, &again(&rt, alloc, leaves.pool()), &globals);
         }
     }
-    Ok(())
+}
+
+/// The key of ^X(number).
+fn numbered(rt: &impl Abort, alloc: Global, number: u64) -> Key {
+    let mut sub = Bytes::new(alloc);
+    sub.push_decimal(number).expect(rt, "memory");
+    Key::new(alloc, b"X", &[sub]).expect(rt, "a key")
 }
 
 #[test]
-fn rising_keys_fill_their_leaves(rt: HostRuntime) -> Result<(), Fail> {
+fn rising_keys_fill_their_leaves(rt: HostRuntime) {
     let alloc = rt.alloc();
-    let mut leaves = Leaves::new(alloc)?;
+    let mut leaves = Leaves::new(alloc).expect(&rt, "memory");
     let mut globals = Globals::new(alloc);
-    for i in 0..2_000u64 {
-        let mut subs = Vec::new(alloc);
-        let mut sub = Bytes::new(alloc);
-        sub.push_decimal(i + 1)?;
-        subs.push(sub)?;
-        let node = Key::new(alloc, b"X", &subs)?;
-        let _ = node.code();
-        let value = Bytes::of(alloc, b"12345678901234567890")?;
-        assert!(rt; value.len() <= 1500);
-        change(&mut leaves, &mut globals, &Update::Set(node, value))?;
+    for i in 1..2_000u64 {
+        let value = Bytes::of(alloc, b"12345678901234567890").expect(&rt, "memory");
+        set(
+            &rt,
+            &mut leaves,
+            &mut globals,
+            numbered(&rt, alloc, i),
+            value,
+        );
     }
     assert!(rt; leaves.pool().count() < 20);
-    same(&rt, alloc, &leaves, &globals)?;
-    let top = Key::new(alloc, b"X", &Vec::new(alloc))?;
+    same(&rt, alloc, &leaves, &globals);
+    let top = Key::new(alloc, b"X", &[]).expect(&rt, "a key");
     let _ = top.code();
-    change(&mut leaves, &mut globals, &Update::Kill(top))?;
-    assert_eq!(rt; leaves.nodes(), 0);
-    assert_eq!(rt; leaves.list(alloc)?.len(), 0);
-    Ok(())
+    change(&rt, &mut leaves, &mut globals, &Update::Kill(top));
+    assert!(rt; leaves.nodes() == 0);
+    same(&rt, alloc, &leaves, &globals);
 }
