@@ -1,5 +1,5 @@
 -- Reigns in order, by how many of them have begun below a number.
-use Rattle.std.proofs.Common.{◌≡◌, ◌≢◌, ◌⊎◌, inl, inr, ℕ, zero, suc, ◌+◌, ◌-◌, ◌<◌, ◌≤◌, ◌==◌, ◌||◌, nat_le, nat_eq, Bool, true, false, List, [], ◌∷◌, ◌++◌, length, get_or, take, drop, filter, Option, Some, None, refl, sym, ap, subst, ◌∙◌, arith, append-nil, if◌then◌else◌}
+use Rattle.std.proofs.Common.{◌≡◌, ◌≢◌, ◌⊎◌, inl, inr, ℕ, zero, suc, ◌+◌, ◌-◌, ◌<◌, ◌≤◌, ◌==◌, nat_le, Bool, true, false, List, [], ◌∷◌, ◌++◌, length, get_or, take, drop, Option, Some, None, refl, sym, ap, subst, ◌∙◌, arith, append-nil, if◌then◌else◌}
 use Rattle.std.specs.List.{AllByRecursion, last_or}
 use Rattle.std.proofs.lemmas.Bool.Decides.{nat_tests}
 use Rattle.std.proofs.lemmas.List.{take_more, take-append-drop, length-take-le}
@@ -7,9 +7,8 @@ use Rattle.std.proofs.lemmas.List.Elements.{filter-append}
 use Rattle.std.proofs.Math.Seq.{drop-cons}
 use Rattle.global_defs.specs.Entry.{Reign}
 use Rattle.lineage_defs.specs.Histories.{begun_by, StartsRise}
-use Rattle.wire_defs.specs.Frames.{Frame, History}
+use Rattle.wire_defs.specs.Frames.{History}
 use Rattle.ship_defs.specs.Shipping.{reign_at, announced}
-use Rattle.source_server.specs.Framing.{histories}
 
 -- starts rise past a number from the first reign that begins past it
 pub rise_from : (low n i : ℕ) (rs : List Reign) (d : Reign) → StartsRise low rs → i < length rs → n < (get_or rs i d).start → StartsRise n (drop i rs)

@@ -5,7 +5,7 @@ use Rattle.std.proofs.lemmas.List.{take-append-drop, length-drop}
 use Rattle.global_defs.specs.Entry.{Reign}
 use Rattle.global_defs.specs.Fields.{IsSiteName, IsReign, short}
 use Rattle.std.specs.Int.{to_be_bytes, w32, w64}
-use Rattle.wire_defs.specs.Frames.{Resume, History, Bye, IsFrame, frame_body, spelled_frame, stream}
+use Rattle.wire_defs.specs.Frames.{Resume, History, Bye, IsFrame, spelled_frame, stream}
 use Rattle.ship_defs.specs.Shipping.{reign_at, announced, entry_frame, shipped_bytes, resumed_bytes}
 use Rattle.source_server.specs.Sources.{Shipping, resumed_at, made_of, HasSent, HasTaken, AllFrom, bye_if, HasShipped}
 

@@ -1,9 +1,7 @@
-use Rattle.std.proofs.Common.{◌≡◌, ◌≢◌, ℕ, ◌+◌, ◌-◌, ◌<◌, ◌≤◌, List, [], ◌∷◌, length, map, get_or, take, drop, Some, false, refl, sym, ap, subst, ◌∙◌, arith, inl, inr, if◌then◌else◌}
-use Rattle.std.specs.Prelude.{slice_get}
+use Rattle.std.proofs.Common.{◌≡◌, ℕ, ◌+◌, ◌-◌, ◌<◌, ◌≤◌, [], ◌∷◌, length, map, get_or, drop, Some, sym, ap, subst, ◌∙◌, arith, inl, inr, if◌then◌else◌}
 use Rattle.std.proofs.lemmas.List.{length-map}
-use Rattle.std.proofs.lemmas.Option.{slice_get-get_or, get_or_from_slice_get, slice_get_within}
+use Rattle.std.proofs.lemmas.Option.{get_or_from_slice_get, slice_get_within}
 use Rattle.std.proofs.Math.ListN.{get_or-map}
-use Rattle.std.specs.List.{AllByRecursion}
 use Rattle.global_defs.specs.Entry as defs
 use Rattle.global_defs.specs.Fields.{IsReign}
 use Rattle.gvn_model.specs.Reigns.{reign_value}

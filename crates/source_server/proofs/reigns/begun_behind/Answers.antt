@@ -1,15 +1,9 @@
-use Rattle.std.proofs.Common.{◌≡◌, ◌≢◌, ℕ, ◌+◌, ◌-◌, ◌<◌, ◌≤◌, List, [], ◌∷◌, length, map, get_or, take, drop, Some, false, refl, sym, ap, subst, ◌∙◌, arith, inl, inr, if◌then◌else◌}
-use Rattle.std.specs.Prelude.{slice_get}
+use Rattle.std.proofs.Common.{◌≡◌, ◌≢◌, ◌+◌, ◌<◌, length, map, get_or, take, Some, sym, ap, subst, ◌∙◌, arith}
 use Rattle.std.proofs.lemmas.List.{length-map}
-use Rattle.std.proofs.lemmas.Option.{slice_get-get_or, get_or_from_slice_get, slice_get_within}
+use Rattle.std.proofs.lemmas.Option.{slice_get-get_or}
 use Rattle.std.proofs.Math.ListN.{get_or-map}
-use Rattle.std.specs.List.{AllByRecursion}
 use Rattle.global_defs.specs.Entry as defs
-use Rattle.global_defs.specs.Fields.{IsReign}
 use Rattle.gvn_model.specs.Reigns.{reign_value}
-use Rattle.lineage_defs.specs.Histories.{StartsRise}
-use Rattle.wire_defs.specs.Frames.{History}
-use Rattle.ship_defs.specs.Shipping.{announced}
 use Rattle.source_server.proofs.Begun.{all_take, below_later, rise_behind, rise_not}
 use Rattle.source_server.proofs.reigns.begun_behind.Goals as goal
 
