@@ -176,6 +176,8 @@ impl Source {
         ensures finished { (T.sending tx.new).finished ≡ (T.sending tx.old).finished }
         ensures sent { IsTrue (T.sending tx.old).told → HasSent self.old self.new (T.sending tx.old).sent (T.sending tx.new).sent }
         ensures some { IsTrue (T.sending tx.old).told → 0 < (T.sending tx.old).free → IfOk result (λ s. s ≡ Shipped.Moved) }
+        ensures moved { IsTrue (T.sending tx.old).told → IfOk result (λ s. s ≡ Shipped.Moved → length (T.sending tx.old).sent < length (T.sending tx.new).sent) }
+        ensures waits { IsTrue (T.sending tx.old).told → IfOk result (λ s. s ≡ Shipped.Waits → (T.sending tx.new).sent ≡ (T.sending tx.old).sent) }
         ensures going { IfOk result (λ s. s ≡ Shipped.Over → ⊥) }
         ensures only { OnErr result (IsErrOf result ShipError.Cut) }
         ensures cut { OnErr result ((T.sending tx.new).cuts ≡ counted (T.sending tx.old).cuts 1) }
@@ -211,6 +213,8 @@ impl Source {
         // whatever it answers, no entry was taken, or the one of the next number, with its HISTORY where it has one
         ensures ships { IsTrue (T.sending tx.old).told → Goes (E.is_entry entries.new) self.old self.new (T.sending tx.old).sent (T.sending tx.new).sent }
         ensures moves { IsTrue (T.sending tx.old).told → 0 < (T.sending tx.old).free → CanShip (E.ready entries.old) self.old → IfOk result (λ s. s ≡ Shipped.Moved) }
+        ensures moved { IsTrue (T.sending tx.old).told → IfOk result (λ s. s ≡ Shipped.Moved → length (T.sending tx.old).sent < length (T.sending tx.new).sent) }
+        ensures waits { IsTrue (T.sending tx.old).told → IfOk result (λ s. s ≡ Shipped.Waits → (T.sending tx.new).sent ≡ (T.sending tx.old).sent) }
         ensures over { IfOk result (λ s. s ≡ Shipped.Over → (self.new ≡ self.old) × IsTrue self.new.ended × (self.new.pending ≡ [])) }
         ensures cut { IsErrOf result ShipError.Cut → (T.sending tx.new).cuts ≡ counted (T.sending tx.old).cuts 1 }
         ensures uncut { (IsErrOf result ShipError.Cut → ⊥) → (T.sending tx.new).cuts ≡ (T.sending tx.old).cuts }
