@@ -4,15 +4,22 @@ use repl_disk::{Disk, Failed, MemDisk};
 use std::alloc::Global;
 use std::process::Abort;
 
-/// Makes room for a write and does it, where the place isn't past the end.
-fn put(rt: &impl Abort, disk: &mut MemDisk, file: u32, at: u64, bytes: &[u8]) -> bool {
-    disk.room(file, 1, bytes.len() as u64).expect(rt, "memory");
-    let end = disk.len(file).expect(rt, "a length");
+/// Makes room for a write and does it, where the place isn't past the end. Without memory it fails too.
+fn put(disk: &mut MemDisk, file: u32, at: u64, bytes: &[u8]) -> Result<bool, Failed> {
+    let Ok(()) = disk.room(file, 1, bytes.len() as u64) else {
+        return Err(Failed);
+    };
+    let end = disk.len(file)?;
     if end < at {
-        return false;
+        return Ok(false);
     }
-    disk.write_at(file, at, bytes).expect(rt, "a write");
-    true
+    disk.write_at(file, at, bytes)?;
+    Ok(true)
+}
+
+/// Such a write is done.
+fn is_put(rt: &impl Abort, disk: &mut MemDisk, file: u32, at: u64, bytes: &[u8]) {
+    holds(rt, put(disk, file, at, bytes) == Ok(true), bytes);
 }
 
 /// Makes room for a sync and does it.
@@ -34,25 +41,30 @@ fn fails_to_sync(rt: &impl Abort, disk: &mut MemDisk, file: u32) -> bool {
 }
 
 /// Whether these are the bytes that the file has, at most 16.
-fn has(rt: &impl Abort, disk: &mut MemDisk, file: u32, bytes: &[u8]) -> bool {
-    let n = disk.len(file).expect(rt, "a length") as usize;
+fn has(disk: &mut MemDisk, file: u32, bytes: &[u8]) -> Result<bool, Failed> {
+    let n = disk.len(file)? as usize;
     if n > 16 {
-        return false;
+        return Ok(false);
     }
     let mut buf = [0; 16];
-    disk.read_at(file, 0, &mut buf[..n]).expect(rt, "bytes");
-    &buf[..n] == bytes
+    disk.read_at(file, 0, &mut buf[..n])?;
+    Ok(&buf[..n] == bytes)
+}
+
+/// These are the bytes that the file has.
+fn is_there(rt: &impl Abort, disk: &mut MemDisk, file: u32, bytes: &[u8]) {
+    holds(rt, has(disk, file, bytes) == Ok(true), bytes);
 }
 
 /// File 7 has "pq" unsynced; file 3 has "abcd" synced, and then "XY" at 2, "Z" at 4 and "W" at 2 unsynced.
 fn worked(rt: &impl Abort, alloc: Global) -> MemDisk {
     let mut disk = MemDisk::new(alloc).expect(rt, "memory");
-    put(rt, &mut disk, 7, 0, b"pq");
-    put(rt, &mut disk, 3, 0, b"abcd");
+    is_put(rt, &mut disk, 7, 0, b"pq");
+    is_put(rt, &mut disk, 3, 0, b"abcd");
     harden(rt, &mut disk, 3);
-    put(rt, &mut disk, 3, 2, b"XY");
-    put(rt, &mut disk, 3, 4, b"Z");
-    put(rt, &mut disk, 3, 2, b"W");
+    is_put(rt, &mut disk, 3, 2, b"XY");
+    is_put(rt, &mut disk, 3, 4, b"Z");
+    is_put(rt, &mut disk, 3, 2, b"W");
     disk
 }
 
@@ -71,10 +83,10 @@ fn leaves(rt: &impl Abort, alloc: Global, pick: u64, row: &[u8]) {
     let (three, seven) = cut(row);
     let mut disk = worked(rt, alloc);
     disk.crash(pick);
-    holds(rt, has(rt, &mut disk, 3, three), row);
-    holds(rt, has(rt, &mut disk, 7, seven), row);
+    is_there(rt, &mut disk, 3, three);
+    is_there(rt, &mut disk, 7, seven);
     disk.crash(0);
-    let stays = has(rt, &mut disk, 3, three);
+    let stays = has(&mut disk, 3, three) == Ok(true);
     holds(rt, stays, b"what a crash left is on the disk");
 }
 
@@ -97,8 +109,8 @@ fn fails_after(rt: &impl Abort, alloc: Global, calls: u64) {
     holds(rt, disk.faults() == 3, b"three faults");
     disk.crash(1);
     holds(rt, disk.faults() == 3, b"three faults still");
-    holds(rt, has(rt, &mut disk, 3, b"abWYZ"), b"abWYZ");
-    holds(rt, has(rt, &mut disk, 7, b"pq"), b"pq");
+    is_there(rt, &mut disk, 3, b"abWYZ");
+    is_there(rt, &mut disk, 7, b"pq");
 }
 
 #[test]
@@ -118,6 +130,6 @@ fn calls_that_are_counted(rt: HostRuntime) {
     holds(&rt, disk.syncs(3) == 2, b"two syncs");
     holds(&rt, disk.simulated(), b"a simulated disk");
     holds(&rt, disk.len(9) == Ok(0), b"an empty file");
-    let is_put = put(&rt, &mut disk, 9, 1, b"past the end");
-    holds(&rt, !is_put, b"past the end");
+    let is_put = put(&mut disk, 9, 1, b"past the end");
+    holds(&rt, is_put == Ok(false), b"past the end");
 }

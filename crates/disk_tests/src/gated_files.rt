@@ -5,7 +5,7 @@ ghost use Rattle.disk_defs.specs.Gates.{records};
 use crate::rows::{holds, same};
 use gated_file::{GateError, Gated};
 use gvn_key::Bytes;
-use repl_disk::{Disk, MemDisk};
+use repl_disk::{Disk, Failed, MemDisk};
 use std::alloc::Global;
 use std::process::Abort;
 
@@ -22,14 +22,14 @@ fn write_bytes<D: Disk>(rt: &impl Abort, disk: &mut D, bytes: &[u8]) {
 }
 
 /// Whether file 0 has these bytes, at most 16.
-fn has<D: Disk>(rt: &impl Abort, disk: &mut D, bytes: &[u8]) -> bool {
-    let n = disk.len(0).expect(rt, "a length") as usize;
+fn has<D: Disk>(disk: &mut D, bytes: &[u8]) -> Result<bool, Failed> {
+    let n = disk.len(0)? as usize;
     if n > 16 {
-        return false;
+        return Ok(false);
     }
     let mut buf = [0; 16];
-    disk.read_at(0, 0, &mut buf[..n]).expect(rt, "bytes");
-    &buf[..n] == bytes
+    disk.read_at(0, 0, &mut buf[..n])?;
+    Ok(&buf[..n] == bytes)
 }
 
 /// Begins a file and appends one body.
@@ -78,7 +78,7 @@ fn bodies<D: Disk>(rt: &impl Abort, alloc: Global, disk: &mut D) -> Bytes {
 fn a_record_as_it_stands(rt: HostRuntime) {
     let mut disk = MemDisk::new(rt.alloc()).expect(&rt, "memory");
     let mut file = write_one(rt.alloc(), &mut disk, &CREATE).expect(&rt, "a file");
-    holds(&rt, has(&rt, &mut disk, &FILE), &FILE);
+    holds(&rt, has(&mut disk, &FILE) == Ok(true), &FILE);
     let mut out = Bytes::of(rt.alloc(), b"-").expect(&rt, "memory");
     let next = file.next_record(&mut disk, 0, &mut out);
     holds(&rt, next == Ok(Some(13)), b"the first record");

@@ -1,4 +1,7 @@
 // Each kind of record both ways, from worked bytes.
+ghost use Rattle.jnl_record.specs.Values.{record_value, IsFirstVersion};
+ghost use Rattle.journal_defs.specs.Journal.{IsInForm};
+
 use crate::rows::{holds, same};
 use gvn_key::terms::Update;
 use gvn_key::{Bytes, Key};
@@ -18,29 +21,31 @@ const PINI: &[u8] = b"\x01\x01\x02\x01\0\0\x01\x02\0\0\0\x01";
 const EPOCH: &[u8] = b"\x02\x01\0\0\0\0\0\0\x01\x02\0\0\0\x03";
 
 /// The record has these bytes.
-fn is_written(rt: &impl Abort, alloc: Global, record: &JnlRecord, want: &[u8]) {
+fn is_written(rt: &impl Abort, alloc: Global, record: &JnlRecord, want: &[u8])
+    requires form { IsInForm (record_value record.now) }
+    requires version { IsFirstVersion record.now }
+{
     let mut out = Bytes::new(alloc);
     encode(record, &mut out).expect(rt, "memory");
     same(rt, out.as_slice(), want);
 }
 
 /// The record that these bytes are.
-fn record_of(rt: &impl Abort, alloc: Global, bytes: &[u8]) -> JnlRecord {
+fn record_of(rt: &impl Abort, alloc: Global, bytes: &[u8]) -> JnlRecord
+    ensures form { IsInForm (record_value result) }
+    ensures version { IsFirstVersion result }
+{
     decode(alloc, bytes, 0).expect(rt, "a record")
-}
-
-/// SET ^X(1)="a" as the first update of an entry.
-fn items(rt: &impl Abort, alloc: Global) -> Items {
-    let key = Key::parse(alloc, b"^X(1)").expect(rt, "a key");
-    let update = Update::Set(key, Bytes::of(alloc, b"a").expect(rt, "memory"));
-    let position = 0;
-    let mut items = Items::new(alloc);
-    items.push(Item { position, update }).expect(rt, "memory");
-    items
 }
 
 #[test]
 fn writes_a_transaction(rt: HostRuntime) {
+    let sub = Bytes::of(rt.alloc(), b"1").expect(&rt, "memory");
+    let key = Key::new(rt.alloc(), b"X", &[sub]).expect(&rt, "a key");
+    let update = Update::Set(key, Bytes::of(rt.alloc(), b"a").expect(&rt, "memory"));
+    let position = 0;
+    let mut items = Items::new(rt.alloc());
+    items.push(Item { position, update }).expect(&rt, "memory");
     let origin = Origin {
         updater: 1,
         serial: 1,
@@ -50,7 +55,7 @@ fn writes_a_transaction(rt: HostRuntime) {
         mask: 1,
         origin,
         count: 1,
-        items: items(&rt, rt.alloc()),
+        items,
     };
     is_written(&rt, rt.alloc(), &record, TCOM);
 }

@@ -214,10 +214,12 @@ fn two_generations_as_one_list(rt: HostRuntime) {
     let read = read_generations(rt.alloc(), &mut disk, 0, 2).expect(&rt, "a list");
     holds(&rt, read.last_began == 2, b"the last generation");
     holds(&rt, read.records.len() == 3, b"three records");
-    holds(&rt, read.records[1].generation == 1, b"generation 1");
-    let is_epoch = matches!(&read.records[1].what, JnlRecord::Epoch { number: 5, .. });
+    let second = read.records.get(1).expect(&rt, "a second record");
+    holds(&rt, second.generation == 1, b"generation 1");
+    let is_epoch = matches!(second.what, JnlRecord::Epoch { number: 5, .. });
     holds(&rt, is_epoch, b"an epoch of 5 entries");
-    holds(&rt, read.records[2].generation == 2, b"generation 2");
+    let third = read.records.get(2).expect(&rt, "a third record");
+    holds(&rt, third.generation == 2, b"generation 2");
 }
 
 /// The journals of the generations 1 and 3, without 2.
