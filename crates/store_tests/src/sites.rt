@@ -1,19 +1,14 @@
-//! A site made, opened twice, and damaged; and one that owns its disk.
-ghost use Rattle.std.specs.Prelude.{◌≡◌, [], Some, IfSome, IfOk, OnOk, IsTrue};
+// Sites that calls are handed a disk for: made, mapped, opened, and damaged.
+ghost use Rattle.std.specs.Prelude.{◌≡◌, [], Some, IfSome};
 ghost use Rattle.disk_defs.specs.Gates.{records};
-ghost use Rattle.global_defs.specs.Fields.{IsTransaction};
-ghost use Rattle.gvn_model.specs.Entries.{transaction_value};
 ghost use Rattle.journal_defs.specs.Numbers.{INSTANCE};
-ghost use Rattle.site_store.specs.Site.{HasReign};
-ghost use Rattle.site_store.specs.Owning.{IsGoing};
 
-use gvn_key::terms::Update;
-use gvn_key::{Bytes, Key};
-use gvn_model::{Origin, Transaction, Updates};
+use crate::checks::{holds, same};
+use gvn_key::Bytes;
 use repl_disk::{Disk, MemDisk};
-use site_store::{RegionSpec, Site, SiteError, create, history_of, inspect, load, read_file};
+use site_store::{RegionSpec, SiteError, create, inspect, load, map, read_file};
 use std::alloc::Global;
-use std::test::Fail;
+use std::process::Abort;
 
 /// PINI of region 0, BEFORE, as the first record of generation 1 and its closed gate.
 const FIRST: &[u8; 18] = b"\x01\0\0\0\x0c\x01\x01\0\x01\0\0\0\x01\0\0\0\0\0";
@@ -54,239 +49,128 @@ fn make_two<D: Disk>(alloc: Global, disk: &mut D) -> Result<(), SiteError>
     create(alloc, disk, &name, &regions)
 }
 
-/// Whether a file has these bytes.
-fn has<D: Disk>(disk: &mut D, file: u32, bytes: &[u8; 18]) -> Result<bool, Fail> {
-    if disk.len(file)? != 18 {
-        return Ok(false);
-    }
-    let mut read = [0; 18];
-    disk.read_at(file, 0, &mut read)?;
-    Ok(&read == bytes)
+/// A disk on which the site A is made.
+fn made(rt: &impl Abort, alloc: Global) -> MemDisk {
+    let mut disk = MemDisk::new(alloc).expect(rt, "memory");
+    make(alloc, &mut disk).expect(rt, "a site");
+    disk
+}
+
+/// A disk on which the site B is made.
+fn made_two(rt: &impl Abort, alloc: Global) -> MemDisk {
+    let mut disk = MemDisk::new(alloc).expect(rt, "memory");
+    make_two(alloc, &mut disk).expect(rt, "a site");
+    disk
+}
+
+/// The bytes of a file, behind what is there.
+fn read_on(rt: &impl Abort, disk: &mut MemDisk, file: u32, bytes: &mut Bytes) {
+    read_file(disk, file, bytes).expect(rt, "bytes");
+}
+
+/// Opens the site on a disk, and answers how many entries it has and how many of them are hardened.
+fn open(rt: &impl Abort, alloc: Global, disk: &mut MemDisk) -> (u64, u64) {
+    let site = load(alloc, disk).expect(rt, "a site");
+    (site.sequence_length(), site.hardened_length())
+}
+
+/// Why the site on a disk can't be opened.
+fn refusal(alloc: Global, disk: &mut MemDisk) -> Option<SiteError> {
+    load(alloc, disk).err()
 }
 
 /// Writes these bytes at the start of a file.
-fn write_bytes<D: Disk>(disk: &mut D, file: u32, bytes: &[u8]) -> Result<(), Fail> {
-    disk.room(file, 1, bytes.len() as u64)?;
-    disk.write_at(file, 0, bytes)?;
-    Ok(())
+fn write_bytes(rt: &impl Abort, disk: &mut MemDisk, file: u32, bytes: &[u8]) {
+    disk.room(file, 1, bytes.len() as u64).expect(rt, "memory");
+    disk.write_at(file, 0, bytes).expect(rt, "a write");
 }
 
 #[test]
-fn no_site_on_a_new_disk(rt: HostRuntime) -> Result<(), Fail> {
-    let alloc = rt.alloc();
-    let mut disk = MemDisk::new(alloc)?;
-    assert!(rt; inspect(alloc, &mut disk)?.is_none());
-    let opened = load(alloc, &mut disk).err();
-    assert_eq!(rt; opened, Some(SiteError::NotAFile { file: 0, offset: 0 }));
-    Ok(())
+fn no_site_on_a_new_disk(rt: HostRuntime) {
+    let mut disk = MemDisk::new(rt.alloc()).expect(&rt, "memory");
+    let found = inspect(rt.alloc(), &mut disk).expect(&rt, "a disk");
+    holds(&rt, found.is_none(), "no site");
+    let refusal = refusal(rt.alloc(), &mut disk);
+    let want = SiteError::NotAFile { file: 0, offset: 0 };
+    holds(&rt, refusal == Some(want), "no instance file");
+}
+
+/// Whether a file has these bytes.
+fn has(rt: &impl Abort, disk: &mut MemDisk, file: u32, bytes: &[u8; 18]) -> bool {
+    if disk.len(file).expect(rt, "a length") != 18 {
+        return false;
+    }
+    let mut read = [0; 18];
+    disk.read_at(file, 0, &mut read).expect(rt, "bytes");
+    &read == bytes
 }
 
 #[test]
-fn a_generation_for_each_opening(rt: HostRuntime) -> Result<(), Fail> {
-    let alloc = rt.alloc();
-    let mut disk = MemDisk::new(alloc)?;
-    make(alloc, &mut disk)?;
-    assert_eq!(rt; load(alloc, &mut disk)?.sequence_length(), 0);
-    assert!(rt; has(&mut disk, 24, FIRST)?);
-    assert_eq!(rt; load(alloc, &mut disk)?.hardened_length(), 0);
-    assert!(rt; has(&mut disk, 32, SECOND)?);
-    let Some(found) = inspect(alloc, &mut disk)? else {
-        return Err("no site")?;
-    };
-    assert_eq!(rt; found.name.as_slice(), b"A".as_slice());
-    assert_eq!(rt; found.generation, 2);
-    Ok(())
+fn a_generation_for_each_opening(rt: HostRuntime) {
+    let mut disk = made(&rt, rt.alloc());
+    let (length, _) = open(&rt, rt.alloc(), &mut disk);
+    holds(&rt, length == 0, "no entries");
+    holds(&rt, has(&rt, &mut disk, 24, FIRST), "generation 1");
+    let (_, hardened) = open(&rt, rt.alloc(), &mut disk);
+    holds(&rt, hardened == 0, "no hardened entries");
+    holds(&rt, has(&rt, &mut disk, 32, SECOND), "generation 2");
+    let found = inspect(rt.alloc(), &mut disk).expect(&rt, "a disk");
+    let found = found.expect(&rt, "a site");
+    same(&rt, found.name.as_slice(), b"A");
+    holds(&rt, found.generation == 2, "two generations");
 }
 
 /// The bytes of the second region's first journal, behind what was there.
 #[test]
-fn bytes_of_a_file(rt: HostRuntime) -> Result<(), Fail> {
-    let alloc = rt.alloc();
-    let mut disk = MemDisk::new(alloc)?;
-    make_two(alloc, &mut disk)?;
-    load(alloc, &mut disk)?;
-    let mut bytes = Bytes::new(alloc);
-    read_file(&mut disk, 25, &mut bytes)?;
-    assert_eq!(rt; bytes.as_slice(), FIRST_OF_SECOND.as_slice());
-    read_file(&mut disk, 33, &mut bytes)?;
-    assert_eq!(rt; bytes.len(), 18);
-    Ok(())
+fn bytes_of_a_file(rt: HostRuntime) {
+    let mut disk = made_two(&rt, rt.alloc());
+    open(&rt, rt.alloc(), &mut disk);
+    let mut bytes = Bytes::new(rt.alloc());
+    read_on(&rt, &mut disk, 25, &mut bytes);
+    same(&rt, bytes.as_slice(), FIRST_OF_SECOND);
+    read_on(&rt, &mut disk, 33, &mut bytes);
+    holds(&rt, bytes.len() == 18, "an empty file");
 }
 
-#[test]
-fn a_journal_outside_its_format(rt: HostRuntime) -> Result<(), Fail> {
-    let alloc = rt.alloc();
-    let mut disk = MemDisk::new(alloc)?;
-    make(alloc, &mut disk)?;
-    load(alloc, &mut disk)?;
-    write_bytes(&mut disk, 24, b"\x01\0\x0f\xff\xff")?;
-    let opened = load(alloc, &mut disk).err();
-    assert_eq!(rt;
-        opened,
-        Some(SiteError::NotAFile {
-            file: 24,
-            offset: 0
-        })
-    );
-    Ok(())
-}
-
-/// The site A on a disk without one, which it owns, with its first reign begun.
-fn begin<D: Disk>(alloc: Global, mut disk: D) -> Result<Site<D>, SiteError>
-    requires { IfSome (D.disk disk).content (λ files. records (files INSTANCE) ≡ Some []) }
-    ensures ready { IfOk result (IsGoing D.disk) }
-    ensures reign { IfOk result (λ s. HasReign s.inner) }
-{
-    let name = Bytes::of(alloc, b"A")?;
-    let regions = [RegionSpec {
-        name: Bytes::of(alloc, b"R")?,
-        before: true,
-    }];
-    Site::create(alloc, &mut disk, &name, &regions)?;
-    let mut site = match Site::load(alloc, disk) {
-        Ok(site) => site,
-        Err((_, error)) => return Err(error),
+/// Maps the names that begin with B to the second region of the site on a disk, where it has two and no generation of its journals was
+/// drawn.
+fn map_second(alloc: Global, disk: &mut MemDisk) -> Result<bool, SiteError> {
+    let Some(found) = inspect(alloc, disk)? else {
+        return Ok(false);
     };
-    site.start_reign()?;
-    Ok(site)
-}
-
-/// SET ^X=1, as the first job of updater 1.
-fn set(alloc: Global) -> Result<Transaction, Fail>
-    ensures { IfOk result (λ t. IsTransaction (transaction_value t)) }
-{
-    let key = Key::new(alloc, b"X", &[])?;
-    let _code = key.as_encoded();
-    let mut updates = Updates::new(alloc);
-    updates.push(Update::Set(key, Bytes::of(alloc, b"1")?))?;
-    let origin = Origin {
-        updater: 1,
-        serial: 1,
-    };
-    Ok(Transaction { origin, updates })
-}
-
-/// Gives a site that goes on its next entry.
-fn put<D: Disk>(alloc: Global, site: &mut Site<D>) -> Result<u64, Fail>
-    requires ready { IsGoing D.disk site.old }
-    requires reign { HasReign site.old.inner }
-    ensures ready { OnOk result (IsGoing D.disk site.new) }
-    ensures reign { OnOk result (HasReign site.new.inner) }
-{
-    let t = set(alloc)?;
-    Ok(site.commit(&t)?)
-}
-
-/// A site with two entries, of which one is hardened.
-fn put_two<D: Disk>(alloc: Global, disk: D) -> Result<Site<D>, Fail>
-    requires { IfSome (D.disk disk).content (λ files. records (files INSTANCE) ≡ Some []) }
-    ensures { IfOk result (IsGoing D.disk) }
-{
-    let mut site = begin(alloc, disk)?;
-    put(alloc, &mut site)?;
-    site.harden()?;
-    put(alloc, &mut site)?;
-    Ok(site)
-}
-
-/// What was committed is found again after a close, whether it was hardened before or not.
-#[test]
-fn closed_and_opened_again(rt: HostRuntime) -> Result<(), Fail> {
-    let alloc = rt.alloc();
-    let site = put_two(alloc, MemDisk::new(alloc)?)?;
-    assert!(rt; site.simulated());
-    assert_eq!(rt; site.sequence_length(), 2);
-    assert_eq!(rt; site.hardened_length(), 1);
-    assert_eq!(rt; site.history().length, 2);
-    assert_eq!(rt; site.history().reigns.len(), 1);
-    let (disk, closed) = site.close();
-    closed?;
-    let Ok(site) = Site::load(alloc, disk) else {
-        return Err("no site")?;
-    };
-    assert_eq!(rt; site.sequence_length(), 2);
-    assert_eq!(rt; site.abandon().faults(), 0);
-    Ok(())
-}
-
-/// The lines of the second entry and those of all nodes.
-fn shown<D: Disk>(alloc: Global, site: &mut Site<D>) -> Result<Bytes, Fail> {
-    let mut text = Bytes::new(alloc);
-    site.extract(2, &mut text)?;
-    site.zwrite(None, &mut text)?;
-    Ok(text)
-}
-
-#[test]
-fn entries_and_nodes_shown(rt: HostRuntime) -> Result<(), Fail> {
-    let alloc = rt.alloc();
-    let mut site = put_two(alloc, MemDisk::new(alloc)?)?;
-    let text = shown(alloc, &mut site)?;
-    assert_eq!(rt;
-        text.as_slice(),
-        b"SET\\2\\A.1\\1.1\\^X=\"1\"\n^X=\"1\"\n".as_slice()
-    );
-    let key = Key::new(alloc, b"X", &[])?;
-    assert_eq!(rt; site.get(&key), Some(b"1".as_slice()));
-    assert_eq!(rt; site.defined(&key), 1);
-    assert!(rt; site.order(&key, b"")?.is_none());
-    Ok(())
-}
-
-/// The history that the files of a closed site have.
-#[test]
-fn history_on_a_disk(rt: HostRuntime) -> Result<(), Fail> {
-    let alloc = rt.alloc();
-    let site = put_two(alloc, MemDisk::new(alloc)?)?;
-    let (mut disk, closed) = site.close();
-    closed?;
-    let history = history_of(alloc, &mut disk)?;
-    assert_eq!(rt; history.length, 2);
-    assert_eq!(rt; history.reigns.len(), 1);
-    Ok(())
-}
-
-/// Hardens where no call of the disk succeeds any more, and closes then.
-fn fail_and_close<D: Disk>(site: Site<D>) -> Result<(D, u64, Option<SiteError>), Fail>
-    requires ready { IsGoing D.disk site }
-    requires simulated { IsTrue (D.disk site.disk).simulated }
-{
-    let mut site = site;
-    site.fuse(0);
-    let Err(SiteError::Failed { fault }) = site.harden() else {
-        return Err("a disk that goes on")?;
-    };
-    let (disk, closed) = site.close();
-    Ok((disk, fault, closed.err()))
-}
-
-/// After a fault each call answers its number, and a crash finds what was hardened.
-#[test]
-fn stopped_after_a_fault(rt: HostRuntime) -> Result<(), Fail> {
-    let alloc = rt.alloc();
-    let site = put_two(alloc, MemDisk::new(alloc)?)?;
-    if !site.simulated() {
-        return Err("a disk that never fails")?;
+    if found.generation != 0 || found.regions.len() != 2 {
+        return Ok(false);
     }
-    let (mut disk, fault, closed) = fail_and_close(site)?;
-    assert_eq!(rt; fault, 1);
-    assert_eq!(rt; closed, Some(SiteError::Stopped { fault: 1 }));
-    disk.crash(0);
-    let Ok(site) = Site::load(alloc, disk) else {
-        return Err("no site")?;
-    };
-    assert_eq!(rt; site.sequence_length(), 1);
-    Ok(())
+    map(alloc, disk, 1, b"B*")?;
+    Ok(true)
 }
 
-/// A disk that isn't a site's comes back.
+/// The CREATE of the site B, the MAP of B* to its second region, and the closed gate.
+const MAPPED: &[u8] =
+    b"\x01\0\0\0\x0b\x01\x01\x01B\x02\x01R\x01\x01S\0\x01\0\0\0\x05\x04\x01\x01\x01B\0";
+
 #[test]
-fn a_disk_handed_back(rt: HostRuntime) -> Result<(), Fail> {
-    let alloc = rt.alloc();
-    let Err((disk, error)) = Site::load(alloc, MemDisk::new(alloc)?) else {
-        return Err("a site on a new disk")?;
+fn names_mapped_to_a_region(rt: HostRuntime) {
+    let mut disk = made_two(&rt, rt.alloc());
+    let mapped = map_second(rt.alloc(), &mut disk).expect(&rt, "a site");
+    holds(&rt, mapped, "two regions");
+    let mut bytes = Bytes::new(rt.alloc());
+    read_on(&rt, &mut disk, 0, &mut bytes);
+    same(&rt, bytes.as_slice(), MAPPED);
+    open(&rt, rt.alloc(), &mut disk);
+    let mapped = map_second(rt.alloc(), &mut disk).expect(&rt, "a site");
+    holds(&rt, !mapped, "a generation was drawn");
+}
+
+#[test]
+fn a_journal_outside_its_format(rt: HostRuntime) {
+    let mut disk = made(&rt, rt.alloc());
+    open(&rt, rt.alloc(), &mut disk);
+    write_bytes(&rt, &mut disk, 24, b"\x01\0\x0f\xff\xff");
+    let refusal = refusal(rt.alloc(), &mut disk);
+    let want = SiteError::NotAFile {
+        file: 24,
+        offset: 0,
     };
-    assert_eq!(rt; error, SiteError::NotAFile { file: 0, offset: 0 });
-    assert_eq!(rt; disk.faults(), 0);
-    Ok(())
+    holds(&rt, refusal == Some(want), "no journal");
 }
