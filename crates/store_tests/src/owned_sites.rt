@@ -29,7 +29,9 @@ fn begin<D: Disk>(rt: &impl Abort, alloc: Global, mut disk: D) -> Site<D>
         before: true,
     }];
     Site::create(alloc, &mut disk, &name, &regions).expect(rt, "a site");
-    let mut site = Site::load(alloc, disk).ok().expect(rt, "a site");
+    let Ok(mut site) = Site::load(alloc, disk) else {
+        panic!(rt; "no site");
+    };
     site.start_reign().expect(rt, "a reign");
     site
 }
@@ -73,17 +75,11 @@ fn put_two<D: Disk>(rt: &impl Abort, alloc: Global, disk: D) -> Site<D>
     site
 }
 
-/// The same on a new disk in memory.
-fn two_entries(rt: &impl Abort, alloc: Global) -> Site<MemDisk>
-    ensures { IsGoing MemDisk.disk result }
-{
-    let disk = MemDisk::new(alloc).expect(rt, "memory");
-    put_two(rt, alloc, disk)
-}
-
-/// The site on a disk has so many entries, and no call of the disk has failed where none is to have.
+/// The site on a disk has so many entries, and so many calls of the disk have failed.
 fn has_entries(rt: &impl Abort, alloc: Global, disk: MemDisk, length: u64, faults: u64) {
-    let site = Site::load(alloc, disk).ok().expect(rt, "a site");
+    let Ok(site) = Site::load(alloc, disk) else {
+        panic!(rt; "no site");
+    };
     holds(rt, site.sequence_length() == length, "entries");
     holds(rt, site.abandon().faults() == faults, "faults");
 }
@@ -91,7 +87,8 @@ fn has_entries(rt: &impl Abort, alloc: Global, disk: MemDisk, length: u64, fault
 /// What was committed is found again after a close, whether it was hardened before or not.
 #[test]
 fn closed_and_opened_again(rt: HostRuntime) {
-    let site = two_entries(&rt, rt.alloc());
+    let disk = MemDisk::new(rt.alloc()).expect(&rt, "memory");
+    let site = put_two(&rt, rt.alloc(), disk);
     holds(&rt, site.simulated(), "a simulated disk");
     holds(&rt, site.sequence_length() == 2, "two entries");
     holds(&rt, site.hardened_length() == 1, "one hardened entry");
@@ -112,7 +109,8 @@ fn shown(rt: &impl Abort, alloc: Global, site: &mut Site<MemDisk>) -> Bytes {
 
 #[test]
 fn entries_and_nodes_shown(rt: HostRuntime) {
-    let mut site = two_entries(&rt, rt.alloc());
+    let disk = MemDisk::new(rt.alloc()).expect(&rt, "memory");
+    let mut site = put_two(&rt, rt.alloc(), disk);
     let text = shown(&rt, rt.alloc(), &mut site);
     let want = b"SET\\2\\A.1\\1.1\\^X=\"1\"\n^X=\"1\"\n";
     same(&rt, text.as_slice(), want);
@@ -126,7 +124,8 @@ fn entries_and_nodes_shown(rt: HostRuntime) {
 /// The history that the files of a closed site have.
 #[test]
 fn history_on_a_disk(rt: HostRuntime) {
-    let (mut disk, closed) = two_entries(&rt, rt.alloc()).close();
+    let disk = MemDisk::new(rt.alloc()).expect(&rt, "memory");
+    let (mut disk, closed) = put_two(&rt, rt.alloc(), disk).close();
     holds(&rt, closed == Ok(()), "a close");
     let history = history_of(rt.alloc(), &mut disk).expect(&rt, "a history");
     holds(&rt, history.length == 2, "a history of two");
@@ -148,7 +147,8 @@ fn fail_and_close<D: Disk>(site: Site<D>) -> (D, Option<SiteError>, Option<SiteE
 /// After a fault each call answers its number, and a crash finds what was hardened.
 #[test]
 fn stopped_after_a_fault(rt: HostRuntime) {
-    let site = two_entries(&rt, rt.alloc());
+    let disk = MemDisk::new(rt.alloc()).expect(&rt, "memory");
+    let site = put_two(&rt, rt.alloc(), disk);
     assert!(rt; site.simulated());
     let (mut disk, hardened, closed) = fail_and_close(site);
     let failed = SiteError::Failed { fault: 1 };
