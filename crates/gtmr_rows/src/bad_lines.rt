@@ -68,7 +68,7 @@ const BAD_LINES: &str = "\
 
 fn is_bad(rt: &impl Abort, alloc: Global, row: &str) {
     let (column, line) = row.split_once('|').expect(rt, "a bar");
-    let column = column.parse().expect(rt, "a column");
+    let column = column.parse::<u32>().expect(rt, "a column");
     let bad = Status::BadLine { line: 1, column };
     ends(rt, alloc, line.as_bytes(), bad, b"");
 }
