@@ -21,12 +21,12 @@ const PINI: &[u8] = b"\x01\x01\x02\x01\0\0\x01\x02\0\0\0\x01";
 const EPOCH: &[u8] = b"\x02\x01\0\0\0\0\0\0\x01\x02\0\0\0\x03";
 
 /// The record has these bytes.
-fn is_written(rt: &impl Abort, alloc: Global, record: &JnlRecord, want: &[u8])
-    requires form { IsInForm (record_value record.now) }
-    requires version { IsFirstVersion record.now }
+fn is_written(rt: &impl Abort, alloc: Global, what: &JnlRecord, want: &[u8])
+    requires form { IsInForm (record_value what.now) }
+    requires version { IsFirstVersion what.now }
 {
     let mut out = Bytes::new(alloc);
-    encode(record, &mut out).expect(rt, "memory");
+    encode(what, &mut out).expect(rt, "memory");
     same(rt, out.as_slice(), want);
 }
 
