@@ -1,0 +1,5 @@
+pub mod Directions
+pub mod Hearing
+pub mod Greeting
+pub mod Shipping
+pub mod Arrivals
