@@ -23,6 +23,10 @@ Greets greeted f now = (greeted ≡ false) × IsHello f × (now ≡ true)
 abbrev pub IsBadToPrimary : (bytes : List ℕ) → (ended : Bool) → (offset : ℕ) → Type 0
 IsBadToPrimary bytes ended offset = direction.IsBadAt Greets IsTrue false bytes ended offset
 
+-- the bytes received are this HELLO
+abbrev pub GreetsWith : (bytes : List ℕ) → Frame → Type 0
+GreetsWith bytes hello = direction.EndsWith Greets IsTrue false bytes hello
+
 -- what a HELLO tells of a history: the reigns that have begun by its length, or one more than there may be of them
 abbrev pub carried : prefix.History → prefix.History
 carried h = record { length = h.length; reigns = take (MOST_REIGNS + 1) (told h).reigns }

@@ -145,3 +145,7 @@ IsBadFromPrimary p h bytes ended offset = direction.IsBadAt (Admits p) IsHeardOu
 -- the bytes received are admissible frames, of which this is the last
 abbrev pub EndsFromPrimary : Purpose → Hearing → (bytes : List ℕ) → Frame → Type 0
 EndsFromPrimary p h bytes last = direction.EndsWith (Admits p) IsHeardOut h bytes last
+
+-- The same as far as a Receiver Server can tell, which doesn't know the nodes.
+abbrev pub HasUnfit : Purpose → Heard → (bytes : List ℕ) → (ended : Bool) → (offset : ℕ) → Type 0
+HasUnfit p h bytes ended offset = direction.IsBadAt (Fits p) (λ x. IsOver x.last) h bytes ended offset
