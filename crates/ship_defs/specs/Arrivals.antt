@@ -4,6 +4,7 @@ use Rattle.std.specs.Prelude.{◌≡◌, ◌⊎◌, ℕ, ◌+◌, List, [], ◌�
 use Rattle.std.specs.Option.{option_or}
 use Rattle.global_defs.specs.Entry.{Transaction, Sequence, Reign}
 use Rattle.global_defs.specs.Entry as entries
+use Rattle.global_defs.specs.Fields.{IsNumber, IsTransaction, IsReign}
 use Rattle.global_defs.specs.Prefix.{IsPrefix}
 use Rattle.lineage_defs.specs.Lineage.{FourPrefixes}
 use Rattle.wire_defs.specs.Frames.{Frame, Hello, Resume, RollbackFirst, History, Entry, Bye, AreFrames, BeginsFrame, BeginsNone, offset_after}
@@ -14,6 +15,17 @@ pub record Arrival : Type 0 where
   pub number : ℕ
   pub transaction : Transaction
   pub reign : Option Reign
+
+-- the reign begins with the arrival
+abbrev pub BeginsWith : Arrival → Reign → Type 0
+BeginsWith x r = (x.reign ≡ Some r) × (r.start ≡ x.number)
+
+-- an arrival of its form; number 1 comes with the reign that it begins
+pub record IsArrival (x : Arrival) : Type 0 where
+  pub number : IsNumber x.number
+  pub transaction : IsTransaction x.transaction
+  pub reign : (r : Reign) → x.reign ≡ Some r → IsReign r
+  pub first : x.number ≡ 1 → (r : Reign) × BeginsWith x r
 
 -- the reign of a HISTORY
 abbrev pub told_reign : Frame → Option Reign

@@ -1,4 +1,4 @@
-pub mod Places
+pub mod Walks
 pub mod Rules
 pub mod Streams
 pub mod Stamped

@@ -26,13 +26,15 @@ stamped o = option_map (λ (r : Reign). r.stamp) o
 
 -- the last reign that has begun by a number has the stamp of that number
 
-last_stamp : (n : ℕ) (rs : List Reign) (o : Option Reign) → stamped (last_or o (begun_by n rs)) ≡ option_or (stamp_at n rs) (stamped o)
-last_stamp_of : (n : ℕ) (r : Reign) (rs : List Reign) (o : Option Reign) (b : Bool) → nat_le r.start n ≡ b → stamped (last_or o (begun_by n (r ∷ rs))) ≡ option_or (stamp_at n (r ∷ rs)) (stamped o)
+last_stamp_of : (n : ℕ) (r : Reign) (rs : List Reign) (o : Option Reign) (b : Bool) → nat_le r.start n ≡ b
+    → stamped (last_or (Some r) (begun_by n rs)) ≡ option_or (stamp_at n rs) (stamped (Some r)) → stamped (last_or o (begun_by n rs)) ≡ option_or (stamp_at n rs) (stamped o)
+    → stamped (last_or o (begun_by n (r ∷ rs))) ≡ option_or (stamp_at n (r ∷ rs)) (stamped o)
+last_stamp_of n r rs o true t with_it without = rw t (with_it ∙ sym (or_or (stamp_at n rs) (stamped o) r.stamp))
+last_stamp_of n r rs o false t with_it without = rw t (without ∙ sym (or_none (stamp_at n rs) (stamped o)))
 
+last_stamp : (n : ℕ) (rs : List Reign) (o : Option Reign) → stamped (last_or o (begun_by n rs)) ≡ option_or (stamp_at n rs) (stamped o)
 last_stamp n [] o = refl
-last_stamp n (r ∷ rs) o = last_stamp_of n r rs o (nat_le r.start n) refl
-last_stamp_of n r rs o true t = rw t (last_stamp n rs (Some r) ∙ sym (or_or (stamp_at n rs) (stamped o) r.stamp))
-last_stamp_of n r rs o false t = rw t (last_stamp n rs o ∙ sym (or_none (stamp_at n rs) (stamped o)))
+last_stamp n (r ∷ rs) o = last_stamp_of n r rs o (nat_le r.start n) refl (last_stamp n rs (Some r)) (last_stamp n rs o)
 
 to_reign : (o : Option Reign) (s : Stamp) → stamped o ≡ Some s → (r : Reign) × (o ≡ Some r) × (r.stamp ≡ s)
 to_reign None s is = absurd (cc)
@@ -47,15 +49,11 @@ reign_of n rs s is = to_reign (reign_at n rs) s (last_stamp n rs None ∙ (or_it
 
 -- a reign that doesn't begin with a number was the last one before it
 
-record Kept (k : ℕ) (r : Reign) (o now : Option Reign) : Type 0 where
-  pub kept : now ≡ Some r → o ≡ Some r
+abbrev Kept : Reign → (o now : Option Reign) → Type 0
+Kept r o now = now ≡ Some r → o ≡ Some r
 
 three : (start k : ℕ) → (start ≤ k) ⊎ ((start ≡ suc k) ⊎ (suc k < start))
 three start k = grind arith
-
-still : (k : ℕ) (rs : List Reign) (r : Reign) (o now : Option Reign) → r.start ≢ suc k → Kept k r o now → last_or now (begun_by (suc k) rs) ≡ Some r → last_or o (begun_by k rs) ≡ Some r
-still_of : (k : ℕ) (x : Reign) (rs : List Reign) (r : Reign) (o now : Option Reign) → r.start ≢ suc k → Kept k r o now → (a b : Bool) → nat_le x.start k ≡ a → nat_le x.start (suc k) ≡ b
-    → (a ≡ b) ⊎ ((a ≡ false) × (b ≡ true) × (x.start ≡ suc k)) → last_or now (begun_by (suc k) (x ∷ rs)) ≡ Some r → last_or o (begun_by k (x ∷ rs)) ≡ Some r
 
 places : (k : ℕ) (x : Reign) → (nat_le x.start k ≡ nat_le x.start (suc k)) ⊎ ((nat_le x.start k ≡ false) × (nat_le x.start (suc k) ≡ true) × (x.start ≡ suc k))
 places k x = elim (three x.start k) [
@@ -66,19 +64,26 @@ places k x = elim (three x.start k) [
       ]
   ]
 
-still k [] r o now other kept is = kept.kept is
-still k (x ∷ rs) r o now other kept is = still_of k x rs r o now other kept (nat_le x.start k) (nat_le x.start (suc k)) refl refl (places k x) is
-
-still_of k x rs r o now other kept true true s t p is = rw s (still k rs r (Some x) (Some x) other (record { kept = λ e. e }) (rw t at is))
-still_of k x rs r o now other kept false false s t p is = rw s (still k rs r o now other kept (rw t at is))
-still_of k x rs r o now other kept true false s t p is = elim p [ | inl e ↦ absurd (cc) | inr e ↦ absurd (cc (e.0)) ]
-still_of k x rs r o now other kept false true s t p is = elim p [
-    | inl e ↦ absurd (cc)
-    | inr e ↦ rw s (still k rs r o (Some x) other (record { kept = λ same. (let one : x ≡ r = cc in absurd (other (ap (λ (y : Reign). y.start) (sym one) ∙ e.2))) }) (rw t at is))
+-- from the reigns behind it, whether it has begun by both numbers, by none or by the later one
+still_of : (k : ℕ) (x : Reign) (rs : List Reign) (r : Reign) (o now : Option Reign) → r.start ≢ suc k → (a b : Bool) → nat_le x.start k ≡ a → nat_le x.start (suc k) ≡ b
+    → (a ≡ b) ⊎ ((a ≡ false) × (b ≡ true) × (x.start ≡ suc k))
+    → ((o now : Option Reign) → Kept r o now → last_or now (begun_by (suc k) rs) ≡ Some r → last_or o (begun_by k rs) ≡ Some r)
+    → Kept r o now → last_or now (begun_by (suc k) (x ∷ rs)) ≡ Some r → last_or o (begun_by k (x ∷ rs)) ≡ Some r
+still_of k x rs r o now other true true s t p later kept is = rw s (later (Some x) (Some x) (λ e. e) (rw t at is))
+still_of k x rs r o now other false false s t p later kept is = rw s (later o now kept (rw t at is))
+still_of k x rs r o now other true false s t p later kept is = elim p [ | inl e ↦ absurd (cc (e)) | inr e ↦ absurd (cc (e.0)) ]
+still_of k x rs r o now other false true s t p later kept is = elim p [
+    | inl e ↦ absurd (cc (e))
+    | inr e ↦ rw s (later o (Some x) (λ same. (let one : x ≡ r = cc in absurd (other (ap (λ (y : Reign). y.start) (sym one) ∙ e.2)))) (rw t at is))
   ]
 
+still : (k : ℕ) (rs : List Reign) (r : Reign) (o now : Option Reign) → r.start ≢ suc k → Kept r o now → last_or now (begun_by (suc k) rs) ≡ Some r → last_or o (begun_by k rs) ≡ Some r
+still k [] r o now other kept is = kept is
+still k (x ∷ rs) r o now other kept is =
+    still_of k x rs r o now other (nat_le x.start k) (nat_le x.start (suc k)) refl refl (places k x) (λ a b keep e. still k rs r a b other keep e) kept is
+
 pub still_reigns : (k : ℕ) (rs : List Reign) (r : Reign) → r.start ≢ suc k → reign_at (suc k) rs ≡ Some r → reign_at k rs ≡ Some r
-still_reigns k rs r other is = still k rs r None None other (record { kept = λ e. e }) is
+still_reigns k rs r other is = still k rs r None None other (λ e. e) is
 
 get_behind : (xs ys : Sequence) (i : ℕ) → slice_get (xs ++ ys) (length xs + i) ≡ slice_get ys i
 get_behind [] ys i = let same : 0 + i ≡ i = omega arith in ap (slice_get ys) same

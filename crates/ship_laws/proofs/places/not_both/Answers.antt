@@ -1,7 +1,7 @@
 use Rattle.std.proofs.Common.{false, IsTrue}
 use Rattle.ship_defs.specs.Hearing.{Admits, IsHeardOut}
 use Rattle.ship_defs.specs.Greeting.{Greets}
-use Rattle.ship_laws.proofs.Places.{bad_or_ended, one_end}
+use Rattle.ship_laws.proofs.Walks.{bad_or_ended, one_end}
 use Rattle.ship_laws.proofs.Rules.{admits_one, greets_one, admits_out, greets_out}
 use Rattle.ship_laws.proofs.places.not_both.Goals as goal
 

@@ -1,7 +1,7 @@
 use Rattle.std.proofs.Common.{false, IsTrue}
 use Rattle.ship_defs.specs.Hearing.{Fits, Admits, IsOver, IsHeardOut}
 use Rattle.ship_defs.specs.Greeting.{Greets}
-use Rattle.ship_laws.proofs.Places.{at_one}
+use Rattle.ship_laws.proofs.Walks.{at_one}
 use Rattle.ship_laws.proofs.Rules.{fits_one, admits_one, greets_one, fits_out, admits_out, greets_out}
 use Rattle.ship_laws.proofs.places.one_place.Goals as goal
 

@@ -1,0 +1,223 @@
+// The Source Server.
+ghost use Rattle.std.specs.Prelude.{◌≡◌, ◌⊎◌, ◌+◌, ◌-◌, ◌<◌, ◌≤◌, ◌^◌, ◌==◌, ◌++◌, ℕ, List, [], length, drop, map, true, false, IsTrue, IsErr, IfOk, OnOk, OnErr, IsErrOf};
+ghost use Rattle.std.specs.List.{AllByRecursion};
+ghost use Rattle.global_defs.specs.Fields.{IsReign};
+ghost use Rattle.gvn_model.specs.Entries.{history_value};
+ghost use Rattle.lineage_defs.specs.Histories.{StartsRise};
+ghost use Rattle.wire_defs.specs.Frames.{Bye, spelled_frame};
+ghost use Rattle.wire_defs.specs.Links.{SameSending, IsReached, counted};
+ghost use Rattle.source_server.specs.Sources.{Shipping, resumed_at, made_of, Goes, CanShip};
+
+use super::entries::EntrySource;
+use super::framing::write_next;
+use super::reigns::{announced_reign, begins_at, begun_below};
+use gvn_key::{Bytes, NoMemory};
+use gvn_model::{History, Reigns};
+use repl_link::{Cut, LinkTx};
+use repl_wire::{Frame, write_frame};
+use std::alloc::Global;
+use std::marker::Model;
+
+/// What a step did.
+#[derive(Clone, Copy, Debug, PartialEq, Eq)]
+pub enum Shipped {
+    /// Bytes were sent.
+    Moved,
+    /// Nothing was sent: the link has no place, or no further entry is hardened.
+    Waits,
+    /// All was sent, and BYE was the last of it.
+    Over,
+}
+
+/// Why a step shipped nothing.
+#[derive(Clone, Copy, Debug, PartialEq, Eq)]
+pub enum ShipError<E> {
+    /// The link is cut.
+    Cut,
+    /// The next entry can't be read.
+    Entry(E),
+    /// Memory was refused.
+    NoMemory,
+}
+
+// The number behind the last one that an entry may have.
+const NUMBERS_END: u64 = 1 << 40;
+
+/// Ships a primary's entries over one connection. It keeps the frames of one entry at most, whatever was shipped.
+#[derive(Drop)]
+pub struct Source {
+    reigns: Reigns,
+    // How many of them begin below the next number.
+    begun: usize,
+    next: u64,
+    first: bool,
+    ended: bool,
+    // The entry that was read last.
+    entry: Bytes,
+    // The frames that were made last, and how much of them was sent.
+    made: Bytes,
+    at: usize,
+}
+
+impl Model for Source {
+    ghost use Rattle.std.specs.Prelude.{drop};
+    ghost use Rattle.source_server.specs.Sources.{Shipping, IsSound};
+
+    ghost Value = { Shipping };
+
+    ghost view = { λ s. record { reigns = s.reigns; next = s.next; first = s.first; ended = s.ended; pending = drop s.at s.made } };
+
+    ghost invariant = { λ s. IsSound s.reigns s.begun s.next s.at s.made };
+}
+
+impl Source {
+    /// Behind the RESUME from that number, over a primary's reigns.
+    pub fn new(alloc: Global, theirs: &History, from: u64) -> Result<Source, NoMemory>
+        requires from { (1 ≤ from) × (from ≤ 2 ^ 40) }
+        requires form { AllByRecursion IsReign (history_value theirs.now).reigns }
+        requires rising { StartsRise 0 (history_value theirs.now).reigns }
+        ensures { IfOk result (λ s. s ≡ resumed_at (history_value theirs.now).reigns from) }
+    {
+        let begun = begun_below(theirs.reigns.as_slice(), from);
+        Ok(Source {
+            reigns: theirs.reigns.copy()?,
+            begun,
+            next: from,
+            first: true,
+            ended: false,
+            entry: Bytes::new(alloc),
+            made: Bytes::new(alloc),
+            at: 0,
+        })
+    }
+
+    /// The number of the next entry that it takes.
+    pub fn next(&self) -> u64
+        ensures { result ≡ self.now.next }
+    {
+        self.next
+    }
+
+    // What was made and isn't sent yet.
+    fn pending(&self) -> &[u8]
+        ensures { result.now ≡ self.now.pending }
+    {
+        &self.made.as_slice()[self.at..]
+    }
+
+    // Makes the frames of the entry that was read.
+    fn make(&mut self) -> Result<(), NoMemory>
+        requires nothing { self.old.pending ≡ [] }
+        requires number { self.old.next < 2 ^ 40 }
+        requires size { length self.old.entry < 2 ^ 32 }
+        ensures ok { OnOk result (self.new ≡ record self.old { next = self.old.next + 1; first = false; pending = made_of self.old self.old.entry }) }
+        ensures err { OnErr result (self.new ≡ self.old) }
+    {
+        self.made.clear();
+        self.at = 0;
+        let reigns = self.reigns.as_slice();
+        let reign = announced_reign(reigns, self.begun, self.first, self.next);
+        match write_next(reign, self.entry.as_slice(), &mut self.made) {
+            Ok(()) => {
+                if begins_at(reigns, self.begun, self.next) {
+                    self.begun += 1;
+                }
+                self.next += 1;
+                self.first = false;
+                Ok(())
+            }
+            Err(error) => {
+                self.made.clear();
+                Err(error)
+            }
+        }
+    }
+
+    // Takes the next entry, where it is hardened.
+    fn take<E: EntrySource>(&mut self, entries: &mut E) -> Result<bool, ShipError<E::Error>>
+        requires nothing { self.old.pending ≡ [] }
+        requires going { self.old.ended ≡ false }
+        ensures kept { (n : ℕ) (entry : List ℕ) → E.is_entry entries.old n entry → E.is_entry entries.new n entry }
+        ensures still { (n : ℕ) → E.ready entries.old n → E.ready entries.new n }
+        ensures taken { IfOk result (λ b. IsTrue b → (entry : List ℕ) × E.is_entry entries.new self.old.next entry
+            × (self.new ≡ record self.old { next = self.old.next + 1; first = false; pending = made_of self.old entry }) × (0 < length self.new.pending)) }
+        ensures not_yet { IfOk result (λ b. b ≡ false → self.new ≡ self.old) }
+        ensures ready { self.old.next < 2 ^ 40 → E.ready entries.old self.old.next → IfOk result (λ b. IsTrue b) }
+        ensures err { OnErr result (self.new ≡ self.old) }
+        ensures uncut { IsErrOf result ShipError.Cut → ⊥ }
+    {
+        if self.next == NUMBERS_END {
+            return Ok(false);
+        }
+        match entries.read(self.next, &mut self.entry) {
+            Ok(true) => match self.make() {
+                Ok(()) => Ok(true),
+                Err(_) => Err(ShipError::NoMemory),
+            },
+            Ok(false) => Ok(false),
+            Err(error) => Err(ShipError::Entry(error)),
+        }
+    }
+
+    // Sends what was made.
+    fn send<T: LinkTx>(&mut self, tx: &mut T) -> Result<usize, Cut>
+        requires { 0 < length self.old.pending }
+    {
+        let sent = tx.send(self.pending())?;
+        self.at += sent;
+        Ok(sent)
+    }
+
+    /// Takes the next entry where all before it was sent, and sends bytes. After an error nothing was taken and nothing sent; an
+    /// entry whose frames had no memory is read again.
+    pub fn step<T: LinkTx, E: EntrySource>(
+        &mut self,
+        entries: &mut E,
+        tx: &mut T,
+    ) -> Result<Shipped, ShipError<E::Error>>
+        ensures line { T.line tx.new ≡ T.line tx.old }
+        ensures same { SameSending (T.sending tx.old) (T.sending tx.new) }
+        ensures finished { (T.sending tx.new).finished ≡ (T.sending tx.old).finished }
+        ensures kept { (n : ℕ) (entry : List ℕ) → E.is_entry entries.old n entry → E.is_entry entries.new n entry }
+        ensures still { (n : ℕ) → E.ready entries.old n → E.ready entries.new n }
+        // whatever it answers, no entry was taken, or the one of the next number, with its HISTORY where it has one
+        ensures ships { IsTrue (T.sending tx.old).told → Goes (E.is_entry entries.new) self.old self.new (T.sending tx.old).sent (T.sending tx.new).sent }
+        ensures moves { IsTrue (T.sending tx.old).told → 0 < (T.sending tx.old).free → CanShip (E.ready entries.old) self.old → IfOk result (λ s. s ≡ Shipped.Moved) }
+        ensures over { IfOk result (λ s. s ≡ Shipped.Over → (self.new ≡ self.old) × IsTrue self.new.ended × (self.new.pending ≡ [])) }
+        ensures cut { IsErrOf result ShipError.Cut → (T.sending tx.new).cuts ≡ counted (T.sending tx.old).cuts 1 }
+        ensures uncut { (IsErrOf result ShipError.Cut → ⊥) → (T.sending tx.new).cuts ≡ (T.sending tx.old).cuts }
+        ensures cut_only { IsTrue (T.sending tx.old).told → IsErrOf result ShipError.Cut → IsReached (T.sending tx.old).order (T.sending tx.old).sent }
+    {
+        if self.pending().is_empty() {
+            if self.ended {
+                return Ok(Shipped::Over);
+            }
+            if !self.take(entries)? {
+                return Ok(Shipped::Waits);
+            }
+        }
+        match self.send(tx) {
+            Ok(0) => Ok(Shipped::Waits),
+            Ok(_) => Ok(Shipped::Moved),
+            Err(Cut) => Err(ShipError::Cut),
+        }
+    }
+
+    /// Makes the BYE of a primary that has so many entries, where all of them were taken. Answers whether they were.
+    pub fn end(&mut self, length: u64) -> Result<bool, NoMemory>
+        requires { self.old.ended ≡ false }
+        ensures all { IfOk result (λ b. b ≡ (self.old.next == length + 1)) }
+        ensures made { IfOk result (λ b. IsTrue b → self.new ≡ record self.old { ended = true; pending = self.old.pending ++ spelled_frame (Bye length) }) }
+        ensures not_yet { IfOk result (λ b. b ≡ false → self.new ≡ self.old) }
+        ensures err { OnErr result (self.new ≡ self.old) }
+    {
+        if self.next - 1 != length {
+            return Ok(false);
+        }
+        let mut bye = Bytes::new(self.made.allocator());
+        write_frame(&Frame::Bye(length), &mut bye)?;
+        self.made.push_all(bye.as_slice())?;
+        self.ended = true;
+        Ok(true)
+    }
+}
