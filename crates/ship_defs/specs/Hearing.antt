@@ -1,6 +1,6 @@
 -- What may come to a secondary, in which order, and what each frame has to fit. (GT.M: the handshake of a Source Server with a Receiver
 -- Server, and what is shipped behind it; the rules are this project's.)
-use Rattle.std.specs.Prelude.{◌≡◌, ◌⊎◌, ℕ, ◌+◌, ◌<◌, ◌≤◌, ◌==◌, Bool, List, fold, take, length, Option, Some, None, if◌then◌else◌}
+use Rattle.std.specs.Prelude.{◌≡◌, ◌⊎◌, ℕ, ◌+◌, ◌<◌, ◌≤◌, ◌==◌, Bool, List, [], ◌∷◌, fold, take, length, Option, Some, None, if◌then◌else◌}
 use Rattle.std.specs.List.{last_or}
 use Rattle.std.specs.FinMap as map
 use Rattle.global_defs.specs.Entry.{Update, Transaction, Reign, Globals, apply}
@@ -105,6 +105,11 @@ Fits p h (Bye n) now = IsBetween h.last × (n ≡ h.count) × (now ≡ record h 
 -- after each of these updates there are no more nodes than there may be
 abbrev pub HasRoom : Globals → List Update → Type 0
 HasRoom g updates = (k : ℕ) → 1 ≤ k → map.len (fold apply g (take k updates)) ≤ MOST_NODES
+
+-- there is room for transactions, one after another
+abbrev pub HasRooms : Globals → List Transaction → Type 0
+HasRooms g [] = Unit {0}
+HasRooms g (t ∷ ts) = HasRoom g t.updates × HasRooms (fold apply g t.updates) ts
 
 -- An Update Process tells the rest.
 abbrev pub HasPlace : Globals → Frame → Type 0

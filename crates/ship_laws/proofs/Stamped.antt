@@ -1,5 +1,5 @@
 -- The entries of what a primary sends are the primary's, under their reigns.
-use Rattle.std.proofs.Common.{◌≡◌, ◌≢◌, ◌⊎◌, inl, inr, ℕ, suc, ◌+◌, ◌<◌, ◌≤◌, ◌==◌, ◌||◌, nat_le, Bool, true, false, List, [], ◌∷◌, ◌++◌, length, map, filter, Option, Some, None, refl, sym, ap, subst, ◌∙◌, arith, append_assoc, append-nil, add-one, if◌then◌else◌}
+use Rattle.std.proofs.Common.{◌≡◌, ◌≢◌, ◌⊎◌, inl, inr, ℕ, suc, ◌+◌, ◌-◌, ◌<◌, ◌≤◌, ◌==◌, ◌||◌, nat_le, Bool, true, false, List, [], ◌∷◌, ◌++◌, length, map, filter, Option, Some, None, refl, sym, ap, subst, ◌∙◌, arith, append_assoc, append-nil, add-one, if◌then◌else◌}
 use Rattle.std.specs.Prelude.{slice_get, option_map}
 use Rattle.std.specs.Option.{option_or}
 use Rattle.std.specs.List.{AllByRecursion, last_or}
@@ -8,9 +8,9 @@ use Rattle.global_defs.specs.Entry.{Transaction, Stamp, Sequence, Reign}
 use Rattle.global_defs.specs.Entry as entries
 use Rattle.global_defs.specs.Prefix.{IsPrefix, stamp_at}
 use Rattle.lineage_defs.specs.Histories.{begun_by, HasStamps}
-use Rattle.wire_defs.specs.Frames.{Frame, Resume, History, Entry, IsFrame, AreFrames, BeginsFrame, frame_type, spelled_frame, stream, offset_after}
-use Rattle.ship_defs.specs.Shipping.{reign_at, announced, shipped, resumed}
-use Rattle.ship_defs.specs.Arrivals.{Arrival, arrivals, entries_of, HasEntries, BringsTo}
+use Rattle.wire_defs.specs.Frames.{Frame, Resume, History, Entry, Bye, IsFrame, AreFrames, BeginsFrame, frame_type, spelled_frame, stream, offset_after}
+use Rattle.ship_defs.specs.Shipping.{reign_at, announced, shipped, resumed, connection}
+use Rattle.ship_defs.specs.Arrivals.{Arrival, told_reign, arrived, arrivals, entries_of, HasEntries, BringsTo}
 use Rattle.ship_laws.proofs.Streams.{front, based}
 
 or_or : (a b : Option Stamp) (s : Stamp) → option_or (option_or a (Some s)) b ≡ option_or a (Some s)
@@ -85,25 +85,25 @@ still k (x ∷ rs) r o now other kept is =
 pub still_reigns : (k : ℕ) (rs : List Reign) (r : Reign) → r.start ≢ suc k → reign_at (suc k) rs ≡ Some r → reign_at k rs ≡ Some r
 still_reigns k rs r other is = still k rs r None None other (λ e. e) is
 
-get_behind : (xs ys : Sequence) (i : ℕ) → slice_get (xs ++ ys) (length xs + i) ≡ slice_get ys i
+pub get_behind : (xs ys : Sequence) (i : ℕ) → slice_get (xs ++ ys) (length xs + i) ≡ slice_get ys i
 get_behind [] ys i = let same : 0 + i ≡ i = omega arith in ap (slice_get ys) same
 get_behind (x ∷ xs) ys i =
     let same : suc (length xs) + i ≡ suc (length xs + i) = omega arith in
     ap (slice_get (x ∷ (xs ++ ys))) same ∙ get_behind xs ys i
 
 -- the entries of numbers past k have their stamps
-abbrev Stamps : List Reign → ℕ → Sequence → Type 0
+abbrev pub Stamps : List Reign → ℕ → Sequence → Type 0
 Stamps reigns k part = (i : ℕ) (e : entries.Entry) → slice_get part i ≡ Some e → stamp_at (suc (k + i)) reigns ≡ Some e.stamp
 
-stamps_first : (reigns : List Reign) (k : ℕ) (e : entries.Entry) (es : Sequence) → Stamps reigns k (e ∷ es) → stamp_at (suc k) reigns ≡ Some e.stamp
+pub stamps_first : (reigns : List Reign) (k : ℕ) (e : entries.Entry) (es : Sequence) → Stamps reigns k (e ∷ es) → stamp_at (suc k) reigns ≡ Some e.stamp
 stamps_first reigns k e es stamps = let same : k + 0 ≡ k = omega arith in subst (λ (n : ℕ). stamp_at (suc n) reigns ≡ Some e.stamp) same (stamps 0 e refl)
 
-stamps_later : (reigns : List Reign) (k : ℕ) (e : entries.Entry) (es : Sequence) → Stamps reigns k (e ∷ es) → Stamps reigns (suc k) es
+pub stamps_later : (reigns : List Reign) (k : ℕ) (e : entries.Entry) (es : Sequence) → Stamps reigns k (e ∷ es) → Stamps reigns (suc k) es
 stamps_later reigns k e es stamps = λ i x is.
     let same : k + suc i ≡ suc k + i = omega arith in
     subst (λ (n : ℕ). stamp_at (suc n) reigns ≡ Some x.stamp) same (stamps (suc i) x is)
 
-abbrev transactions : Sequence → List Transaction
+abbrev pub transactions : Sequence → List Transaction
 transactions part = map (λ e. e.transaction) part
 
 abbrev carried_from : ℕ → Option Reign → List Frame → Sequence
@@ -147,25 +147,31 @@ shipped_entries reigns (e ∷ es) k at first under stamps goes =
 resume : IsFrame (Resume 1)
 resume = record { fields = (omega arith, omega arith); short = omega arith }
 
+no_entry : (at n : ℕ) (reign : Option Reign) (fs : List Frame) → arrivals at reign (fs ++ Bye n ∷ []) ≡ arrivals at reign fs
+no_entry at n reign [] = refl
+no_entry at n reign (f ∷ fs) = ap (λ (l : List Arrival). arrived at reign f ++ l) (no_entry (offset_after at (f ∷ [])) n (told_reign f) fs)
+
 -- what a primary sends has the entries of its part
-pub resumed_entries : (reigns : List Reign) (base part : Sequence) → HasStamps reigns (base ++ part) → AllByRecursion IsFrame (resumed reigns (length base + 1) (transactions part))
-    → HasEntries (stream (resumed reigns (length base + 1) (transactions part))) part
-resumed_entries reigns base part stamps each =
+pub connection_entries : (reigns : List Reign) (base part : Sequence) → HasStamps reigns (base ++ part) → AllByRecursion IsFrame (connection reigns (length base + 1) (transactions part))
+    → HasEntries (stream (connection reigns (length base + 1) (transactions part))) part
+connection_entries reigns base part stamps each =
     let k = length base in
     let next : k + 1 ≡ suc k = omega arith in
     let all = resumed reigns (k + 1) (transactions part) in
     let own : Stamps reigns k part = λ i e is. stamps (k + i) e (get_behind base part i ∙ is) in
+    let at = offset_after 0 (Resume (k + 1) ∷ []) in
     record {
-      frames = all;
+      frames = connection reigns (k + 1) (transactions part);
       rest = [];
-      are = record { whole = sym (append-nil (stream all)); each = each };
+      are = record { whole = sym (append-nil (stream (connection reigns (k + 1) (transactions part)))); each = each };
       ends = inl (Resume 1, frame_type (Resume 1), _, resume, refl);
-      is = sym (ap (λ (n : ℕ). carried_from (offset_after 0 (Resume (k + 1) ∷ [])) None (shipped reigns true n (transactions part))) next
-        ∙ shipped_entries reigns part k (offset_after 0 (Resume (k + 1) ∷ [])) true None own (λ no. absurd (cc)));
+      is = sym (ap (entries_of None) (no_entry 0 (k + 1 + length (transactions part) - 1) None all)
+        ∙ (ap (λ (n : ℕ). carried_from at None (shipped reigns true n (transactions part))) next
+        ∙ shipped_entries reigns part k at true None own (λ no. absurd (cc no))));
     }
 
-pub sent_front : (reigns : List Reign) (base part seq : Sequence) (sent : List ℕ) → HasStamps reigns (base ++ part) → AllByRecursion IsFrame (resumed reigns (length base + 1) (transactions part))
-    → IsPrefix sent (stream (resumed reigns (length base + 1) (transactions part))) → BringsTo base sent seq → IsPrefix seq (base ++ part)
+pub sent_front : (reigns : List Reign) (base part seq : Sequence) (sent : List ℕ) → HasStamps reigns (base ++ part) → AllByRecursion IsFrame (connection reigns (length base + 1) (transactions part))
+    → IsPrefix sent (stream (connection reigns (length base + 1) (transactions part))) → BringsTo base sent seq → IsPrefix seq (base ++ part)
 sent_front reigns base part seq sent stamps each p x =
-    let entries = front sent (stream (resumed reigns (length base + 1) (transactions part))) x.entries part p x.has (resumed_entries reigns base part stamps each) in
+    let entries = front sent (stream (connection reigns (length base + 1) (transactions part))) x.entries part p x.has (connection_entries reigns base part stamps each) in
     subst (λ (l : Sequence). IsPrefix l (base ++ part)) (sym x.is) (based base x.entries part entries)

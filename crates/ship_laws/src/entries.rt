@@ -5,7 +5,7 @@ ghost use Rattle.global_defs.specs.Prefix.{IsPrefix};
 ghost use Rattle.lineage_defs.specs.Histories.{HasStamps};
 ghost use Rattle.std.specs.List.{AllByRecursion};
 ghost use Rattle.wire_defs.specs.Frames.{stream, IsFrame};
-ghost use Rattle.ship_defs.specs.Shipping.{shipped, shipped_bytes, bytes_from, resumed, resumed_bytes};
+ghost use Rattle.ship_defs.specs.Shipping.{shipped, shipped_bytes, bytes_from, resumed, resumed_bytes, connection};
 ghost use Rattle.ship_defs.specs.Arrivals.{HasEntries, BringsTo};
 
 /// What a Source Server sends by the bytes of entries is the stream of their frames.
@@ -27,6 +27,6 @@ pub fn prefixes()
     ensures entries { (received sent : List ℕ) (xs ys : Sequence) → IsPrefix received sent → HasEntries received xs → HasEntries sent ys → IsPrefix xs ys }
     ensures received { (base xs ys : Sequence) (received sent : List ℕ) → IsPrefix received sent → BringsTo base received xs → BringsTo base sent ys → IsPrefix xs ys }
     ensures sent { (reigns : List Reign) (base part seq : Sequence) (sent : List ℕ) → HasStamps reigns (base ++ part)
-        → AllByRecursion IsFrame (resumed reigns (length base + 1) (map (λ e. e.transaction) part))
-        → IsPrefix sent (stream (resumed reigns (length base + 1) (map (λ e. e.transaction) part))) → BringsTo base sent seq → IsPrefix seq (base ++ part) }
+        → AllByRecursion IsFrame (connection reigns (length base + 1) (map (λ e. e.transaction) part))
+        → IsPrefix sent (stream (connection reigns (length base + 1) (map (λ e. e.transaction) part))) → BringsTo base sent seq → IsPrefix seq (base ++ part) }
 {}

@@ -7,6 +7,8 @@
 
 mod entries;
 mod places;
+mod shipped;
 
 pub use entries::{bytes_are_frames, entries_once, prefixes};
 pub use places::{grows, not_both, one_place};
+pub use shipped::shipped_is_admitted;

@@ -1,5 +1,7 @@
 -- What a Source Server has made and sent.
-use Rattle.std.proofs.Common.{◌≡◌, ℕ, ◌+◌, ◌-◌, ◌<◌, ◌≤◌, ◌==◌, Bool, true, false, List, [], ◌∷◌, ◌++◌, length, refl, sym, ap, subst, ◌∙◌, arith, append_assoc, append-nil, length-append}
+use Rattle.std.proofs.Common.{◌≡◌, ℕ, ◌+◌, ◌-◌, ◌^◌, ◌<◌, ◌≤◌, ◌==◌, if◌then◌else◌, drop, take, Bool, true, false, List, [], ◌∷◌, ◌++◌, length, refl, sym, ap, subst, ◌∙◌, arith, append_assoc, append-nil, length-append, rules}
+use Rattle.std.proofs.lemmas.Bool.Decides.{nat_tests}
+use Rattle.std.proofs.lemmas.List.{take-append-drop, drop-append-le}
 use Rattle.global_defs.specs.Entry.{Reign}
 use Rattle.global_defs.specs.Fields.{IsSiteName, IsReign, short}
 use Rattle.std.specs.Int.{to_be_bytes, w32, w64}
@@ -64,31 +66,30 @@ if_itself false = refl
 
 some_left : (entries : List (List ℕ)) (entry : List ℕ) → (length (entries ++ entry ∷ []) == 0) ≡ false
 some_left [] entry = refl
-some_left (e ∷ entries) entry = refl
+some_left (e ∷ entries) entry = grind (arith, nat_tests)
 
 -- all that was made, by what it ships by
 abbrev whole : ℕ → List (List ℕ) → Shipping → List ℕ
 whole from entries s = resumed_bytes s.reigns from entries ++ bye_if s.ended (s.next - 1)
 
-pub begins : (Is : ℕ → List ℕ → Type 0) (reigns : List Reign) (from : ℕ) → HasShipped Is (resumed_at reigns from) (spelled_frame (Resume from)) from []
-begins Is reigns from = record { each = tt; next = omega arith; first = refl; bytes = sym (append-nil (spelled_frame (Resume from) ++ [])) }
+pub begins : (reigns : List Reign) (from : ℕ) → HasShipped (resumed_at reigns from) (spelled_frame (Resume from)) from []
+begins reigns from = record { next = omega arith; first = refl; bytes = sym (append-nil (spelled_frame (Resume from) ++ [])) }
 
-pub stays : (Is : ℕ → List ℕ → Type 0) (a b : Shipping) (sent now : List ℕ) (from : ℕ) (entries : List (List ℕ)) → HasSent a b sent now → HasShipped Is a sent from entries → HasShipped Is b now from entries
-stays Is a b sent now from entries h s = record {
-    each = s.each;
+pub stays : (a b : Shipping) (sent now : List ℕ) (from : ℕ) (entries : List (List ℕ)) → HasSent a b sent now → HasShipped a sent from entries → HasShipped b now from entries
+stays a b sent now from entries h s = record {
     next = ap (λ (x : Shipping). x.next) h.after ∙ s.next;
     first = ap (λ (x : Shipping). x.first) h.after ∙ s.first;
     bytes = h.bytes ∙ (s.bytes ∙ sym (ap (whole from entries) h.after));
   }
 
 -- before BYE
-open_bytes : (Is : ℕ → List ℕ → Type 0) (a : Shipping) (sent : List ℕ) (from : ℕ) (entries : List (List ℕ)) → a.ended ≡ false → HasShipped Is a sent from entries → sent ++ a.pending ≡ resumed_bytes a.reigns from entries
-open_bytes Is a sent from entries goes s =
+open_bytes : (a : Shipping) (sent : List ℕ) (from : ℕ) (entries : List (List ℕ)) → a.ended ≡ false → HasShipped a sent from entries → sent ++ a.pending ≡ resumed_bytes a.reigns from entries
+open_bytes a sent from entries goes s =
     s.bytes ∙ (ap (λ (b : Bool). resumed_bytes a.reigns from entries ++ bye_if b (a.next - 1)) goes ∙ append-nil (resumed_bytes a.reigns from entries))
 
-pub takes : (Is : ℕ → List ℕ → Type 0) (entry : List ℕ) (a b : Shipping) (sent now : List ℕ) (from : ℕ) (entries : List (List ℕ))
-    → Is a.next entry → HasTaken entry a b sent now → HasShipped Is a sent from entries → HasShipped Is b now from (entries ++ entry ∷ [])
-takes Is entry a b sent now from entries is h s =
+pub takes : (entry : List ℕ) (a b : Shipping) (sent now : List ℕ) (from : ℕ) (entries : List (List ℕ))
+    → HasTaken entry a b sent now → HasShipped a sent from entries → HasShipped b now from (entries ++ entry ∷ [])
+takes entry a b sent now from entries h s =
     let resume = spelled_frame (Resume from) in
     let shipped = shipped_bytes a.reigns true from entries in
     let part : Bool → ℕ → List ℕ = λ first n. stream (announced first n (reign_at n a.reigns)) ++ entry_frame entry in
@@ -101,22 +102,38 @@ takes Is entry a b sent now from entries is h s =
             ∙ (ap (λ (x : Bool). resumed_bytes a.reigns from (entries ++ entry ∷ []) ++ bye_if x (b.next - 1)) goes
             ∙ (append-nil (resumed_bytes a.reigns from (entries ++ entry ∷ [])) ∙ ap (λ (l : List ℕ). resume ++ l) (bytes_push a.reigns true from entries entry))) in
     record {
-      each = from_push Is from entries entry s.each (subst (λ (n : ℕ). Is n entry) s.next is);
       next = ap (λ (x : Shipping). x.next) h.after ∙ (ap (λ (n : ℕ). n + 1) s.next ∙ (let size = length-append entries (entry ∷ []) in omega (arith, size)));
       first = ap (λ (x : Shipping). x.first) h.after ∙ sym (some_left entries entry);
-      bytes = h.bytes ∙ (ap (λ (l : List ℕ). l ++ made_of a entry) (open_bytes Is a sent from entries h.goes_on s)
+      bytes = h.bytes ∙ (ap (λ (l : List ℕ). l ++ made_of a entry) (open_bytes a sent from entries h.goes_on s)
         ∙ (ap (λ (l : List ℕ). (resume ++ shipped) ++ l) made ∙ (append_assoc resume shipped more ∙ sym end_)));
     }
 
-pub ends : (Is : ℕ → List ℕ → Type 0) (a : Shipping) (sent : List ℕ) (from : ℕ) (entries : List (List ℕ)) → a.ended ≡ false → HasShipped Is a sent from entries
-    → HasShipped Is (record a { ended = true; pending = a.pending ++ spelled_frame (Bye (a.next - 1)) }) sent from entries
-ends Is a sent from entries goes s = record {
-    each = s.each;
+pub ends : (a : Shipping) (sent : List ℕ) (from : ℕ) (entries : List (List ℕ)) → a.ended ≡ false → HasShipped a sent from entries
+    → HasShipped (record a { ended = true; pending = a.pending ++ spelled_frame (Bye (a.next - 1)) }) sent from entries
+ends a sent from entries goes s = record {
     next = s.next;
     first = s.first;
-    bytes = sym (append_assoc sent a.pending (spelled_frame (Bye (a.next - 1)))) ∙ ap (λ (l : List ℕ). l ++ spelled_frame (Bye (a.next - 1))) (open_bytes Is a sent from entries goes s);
+    bytes = sym (append_assoc sent a.pending (spelled_frame (Bye (a.next - 1)))) ∙ ap (λ (l : List ℕ). l ++ spelled_frame (Bye (a.next - 1))) (open_bytes a sent from entries goes s);
   }
 
-pub known : (Is All : ℕ → List ℕ → Type 0) (a : Shipping) (sent : List ℕ) (from : ℕ) (entries : List (List ℕ)) → ((n : ℕ) (entry : List ℕ) → Is n entry → All n entry)
-    → HasShipped Is a sent from entries → HasShipped All a sent from entries
-known Is All a sent from entries to s = record { each = from_all Is All from entries to s.each; next = s.next; first = s.first; bytes = s.bytes }
+-- what a step sends
+
+drop_drop : (i j : ℕ) (xs : List ℕ) → drop (i + j) xs ≡ drop j (drop i xs)
+drop_drop i j xs = search rules
+
+pub sent_some : (at n : ℕ) (made sent now : List ℕ) → now ≡ sent ++ take n (drop at made) → now ++ drop (at + n) made ≡ sent ++ drop at made
+sent_some at n made sent now is =
+    let rest = drop at made in
+    ap (λ (l : List ℕ). l ++ drop (at + n) made) is ∙ (append_assoc sent (take n rest) (drop (at + n) made)
+      ∙ ap (λ (l : List ℕ). sent ++ l) (ap (λ (l : List ℕ). take n rest ++ l) (drop_drop at n made) ∙ take-append-drop n rest))
+
+pub none_sent : (a : Shipping) (sent : List ℕ) → HasSent a a sent sent
+none_sent a sent = record { bytes = refl; after = refl }
+
+pub taken_sent : (entry : List ℕ) (a m b : Shipping) (sent now : List ℕ) → a.ended ≡ false → a.pending ≡ [] → m ≡ record a { next = a.next + 1; first = false; pending = made_of a entry }
+    → HasSent m b sent now → HasTaken entry a b sent now
+taken_sent entry a m b sent now goes nothing is h = record {
+    goes_on = goes;
+    bytes = h.bytes ∙ (ap (λ (x : Shipping). sent ++ x.pending) is ∙ ap (λ (l : List ℕ). l ++ made_of a entry) (sym (append-nil sent) ∙ ap (λ (l : List ℕ). sent ++ l) (sym nothing)));
+    after = h.after ∙ ap (λ (x : Shipping). record x { pending = b.pending }) is;
+  }

@@ -49,8 +49,7 @@ bye_if true n = spelled_frame (Bye n)
 bye_if false n = []
 
 -- What it has sent and made on its connection is a RESUME, the frames of these entries from that number on, and BYE where it has ended.
-pub record HasShipped (Is : ℕ → List ℕ → Type 0) (s : Shipping) (sent : List ℕ) (from : ℕ) (entries : List (List ℕ)) : Type 0 where
-  pub each : AllFrom Is from entries
+pub record HasShipped (s : Shipping) (sent : List ℕ) (from : ℕ) (entries : List (List ℕ)) : Type 0 where
   pub next : s.next ≡ from + length entries
   pub first : s.first ≡ (length entries == 0)
   pub bytes : sent ++ s.pending ≡ resumed_bytes s.reigns from entries ++ bye_if s.ended (s.next - 1)

@@ -12,6 +12,7 @@ use gvn_model::Reign;
 use repl_wire::{Frame, entry_head, write_frame};
 
 // Adds the HISTORY of a reign, where there is one.
+#[tactic(auto, using(crate::proofs::Made::history_form))]
 fn write_history(reign: Option<&Reign>, out: &mut Bytes) -> Result<(), NoMemory>
     requires { IfSome reign (λ r. IsReign (reign_value r.now)) }
     ensures { OnOk result (out.new ≡ out.old ++ stream (histories (option_map (λ r. reign_value r.now) reign))) }
@@ -30,7 +31,7 @@ pub(crate) fn write_next(
 ) -> Result<(), NoMemory>
     requires form { IfSome reign (λ r. IsReign (reign_value r.now)) }
     requires size { length entry.now < 2 ^ 32 }
-    ensures { OnOk result (out.new ≡ out.old ++ (stream (histories (option_map (λ r. reign_value r.now) reign)) ++ entry_frame entry.now)) }
+    ensures { OnOk result (out.new ≡ out.old ++ (stream (histories (option_map (λ r. reign_value r.now) reign.entry)) ++ entry_frame entry.now)) }
 {
     write_history(reign, out)?;
     out.push_all(&entry_head(entry.len() as u32))?;

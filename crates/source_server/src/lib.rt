@@ -11,5 +11,5 @@ mod reigns;
 mod source;
 
 pub use entries::EntrySource;
-pub use laws::shipping_goes_on;
+pub use laws::{entries_stay, shipping_goes_on};
 pub use source::{ShipError, Shipped, Source};

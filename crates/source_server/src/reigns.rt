@@ -1,5 +1,5 @@
 // Which reign an entry is of, by how many have begun before it.
-ghost use Rattle.std.specs.Prelude.{◌≡◌, ◌-◌, ◌+◌, ◌<◌, ◌≤◌, Bool, true, false, length, drop, take, map, option_map, IsTrue, if◌then◌else◌};
+ghost use Rattle.std.specs.Prelude.{◌≡◌, ◌-◌, ◌+◌, ◌<◌, ◌≤◌, length, drop, take, map, slice_get, Some, option_map};
 ghost use Rattle.std.specs.List.{AllByRecursion};
 ghost use Rattle.global_defs.specs.Entry as defs;
 ghost use Rattle.gvn_model.specs.Reigns.{reign_value};
@@ -25,17 +25,24 @@ pub(crate) fn begun_below(reigns: &[Reign], number: u64) -> usize
     reigns.len()
 }
 
-// Whether a reign begins with the number, the first one that doesn't begin below it.
-pub(crate) fn begins_at(reigns: &[Reign], begun: usize, number: u64) -> bool
+// How many begin below the next number.
+pub(crate) fn begun_behind(reigns: &[Reign], begun: usize, number: u64) -> usize
     requires least { 1 ≤ number }
     requires within { begun ≤ length reigns.now }
     requires earlier { AllByRecursion (λ (r : defs.Reign). r.start < number) (take begun (map reign_value reigns.now)) }
     requires later { StartsRise (number - 1) (drop begun (map reign_value reigns.now)) }
-    ensures within { IsTrue result → begun < length reigns.now }
-    ensures earlier { AllByRecursion (λ (r : defs.Reign). r.start < number + 1) (take (if result then begun + 1 else begun) (map reign_value reigns.now)) }
-    ensures later { StartsRise number (drop (if result then begun + 1 else begun) (map reign_value reigns.now)) }
+    ensures within { (begun ≤ result) × (result ≤ begun + 1) × (result ≤ length reigns.now) }
+    ensures earlier { AllByRecursion (λ (r : defs.Reign). r.start < number + 1) (take result (map reign_value reigns.now)) }
+    ensures later { StartsRise number (drop result (map reign_value reigns.now)) }
+    ensures begins { begun < result → (r : defs.Reign) × (slice_get (map reign_value reigns.now) begun ≡ Some r) × (r.start ≡ number) }
 {
-    begun < reigns.len() && reigns[begun].start == number
+    if begun == reigns.len() {
+        return begun;
+    }
+    if reigns[begun].start == number {
+        return begun + 1;
+    }
+    begun
 }
 
 // The reign of a HISTORY that stands before the entry of that number.
@@ -45,12 +52,13 @@ pub(crate) fn announced_reign(
     first: bool,
     number: u64,
 ) -> Option<&Reign>
+    requires least { 1 ≤ number }
     requires within { begun ≤ length reigns.now }
     requires earlier { AllByRecursion (λ (r : defs.Reign). r.start < number) (take begun (map reign_value reigns.now)) }
     requires later { StartsRise (number - 1) (drop begun (map reign_value reigns.now)) }
     ensures { histories (option_map (λ r. reign_value r.now) result) ≡ announced first number (reign_at number (map reign_value reigns.now)) }
 {
-    if begins_at(reigns, begun, number) {
+    if begun < begun_behind(reigns, begun, number) {
         return Some(&reigns[begun]);
     }
     if first && begun != 0 {

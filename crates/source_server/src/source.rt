@@ -6,11 +6,11 @@ ghost use Rattle.gvn_model.specs.Entries.{history_value};
 ghost use Rattle.lineage_defs.specs.Histories.{StartsRise};
 ghost use Rattle.wire_defs.specs.Frames.{Bye, spelled_frame};
 ghost use Rattle.wire_defs.specs.Links.{SameSending, IsReached, counted};
-ghost use Rattle.source_server.specs.Sources.{Shipping, resumed_at, made_of, Goes, CanShip};
+ghost use Rattle.source_server.specs.Sources.{Shipping, resumed_at, made_of, HasSent, Goes, CanShip};
 
 use super::entries::EntrySource;
 use super::framing::write_next;
-use super::reigns::{announced_reign, begins_at, begun_below};
+use super::reigns::{announced_reign, begun_behind, begun_below};
 use gvn_key::{Bytes, NoMemory};
 use gvn_model::{History, Reigns};
 use repl_link::{Cut, LinkTx};
@@ -52,8 +52,6 @@ pub struct Source {
     next: u64,
     first: bool,
     ended: bool,
-    // The entry that was read last.
-    entry: Bytes,
     // The frames that were made last, and how much of them was sent.
     made: Bytes,
     at: usize,
@@ -85,7 +83,6 @@ impl Source {
             next: from,
             first: true,
             ended: false,
-            entry: Bytes::new(alloc),
             made: Bytes::new(alloc),
             at: 0,
         })
@@ -105,27 +102,28 @@ impl Source {
         &self.made.as_slice()[self.at..]
     }
 
-    // Makes the frames of the entry that was read.
-    fn make(&mut self) -> Result<(), NoMemory>
+    // The next entry was taken.
+    fn pass(&mut self)
+        requires { self.old.next < 2 ^ 40 }
+        ensures { self.new ≡ record self.old { next = self.old.next + 1; first = false } }
+    {
+        self.begun = begun_behind(self.reigns.as_slice(), self.begun, self.next);
+        self.next += 1;
+        self.first = false;
+    }
+
+    // Makes the frames of an entry, in place of those that were sent.
+    fn make(&mut self, entry: &[u8]) -> Result<(), NoMemory>
         requires nothing { self.old.pending ≡ [] }
-        requires number { self.old.next < 2 ^ 40 }
-        requires size { length self.old.entry < 2 ^ 32 }
-        ensures ok { OnOk result (self.new ≡ record self.old { next = self.old.next + 1; first = false; pending = made_of self.old self.old.entry }) }
+        requires size { length entry.now < 2 ^ 32 }
+        ensures ok { OnOk result (self.new ≡ record self.old { pending = made_of self.old entry.now }) }
         ensures err { OnErr result (self.new ≡ self.old) }
     {
         self.made.clear();
         self.at = 0;
-        let reigns = self.reigns.as_slice();
-        let reign = announced_reign(reigns, self.begun, self.first, self.next);
-        match write_next(reign, self.entry.as_slice(), &mut self.made) {
-            Ok(()) => {
-                if begins_at(reigns, self.begun, self.next) {
-                    self.begun += 1;
-                }
-                self.next += 1;
-                self.first = false;
-                Ok(())
-            }
+        let reign = announced_reign(self.reigns.as_slice(), self.begun, self.first, self.next);
+        match write_next(reign, entry, &mut self.made) {
+            Ok(()) => Ok(()),
             Err(error) => {
                 self.made.clear();
                 Err(error)
@@ -140,7 +138,7 @@ impl Source {
         ensures kept { (n : ℕ) (entry : List ℕ) → E.is_entry entries.old n entry → E.is_entry entries.new n entry }
         ensures still { (n : ℕ) → E.ready entries.old n → E.ready entries.new n }
         ensures taken { IfOk result (λ b. IsTrue b → (entry : List ℕ) × E.is_entry entries.new self.old.next entry
-            × (self.new ≡ record self.old { next = self.old.next + 1; first = false; pending = made_of self.old entry }) × (0 < length self.new.pending)) }
+            × (self.new ≡ record self.old { next = self.old.next + 1; first = false; pending = made_of self.old entry })) }
         ensures not_yet { IfOk result (λ b. b ≡ false → self.new ≡ self.old) }
         ensures ready { self.old.next < 2 ^ 40 → E.ready entries.old self.old.next → IfOk result (λ b. IsTrue b) }
         ensures err { OnErr result (self.new ≡ self.old) }
@@ -149,9 +147,13 @@ impl Source {
         if self.next == NUMBERS_END {
             return Ok(false);
         }
-        match entries.read(self.next, &mut self.entry) {
-            Ok(true) => match self.make() {
-                Ok(()) => Ok(true),
+        let mut entry = Bytes::new(self.made.allocator());
+        match entries.read(self.next, &mut entry) {
+            Ok(true) => match self.make(entry.as_slice()) {
+                Ok(()) => {
+                    self.pass();
+                    Ok(true)
+                }
                 Err(_) => Err(ShipError::NoMemory),
             },
             Ok(false) => Ok(false),
@@ -160,16 +162,30 @@ impl Source {
     }
 
     // Sends what was made.
-    fn send<T: LinkTx>(&mut self, tx: &mut T) -> Result<usize, Cut>
+    fn send<T: LinkTx, E>(&mut self, tx: &mut T) -> Result<Shipped, ShipError<E>>
         requires { 0 < length self.old.pending }
+        ensures line { T.line tx.new ≡ T.line tx.old }
+        ensures same { SameSending (T.sending tx.old) (T.sending tx.new) }
+        ensures finished { (T.sending tx.new).finished ≡ (T.sending tx.old).finished }
+        ensures sent { IsTrue (T.sending tx.old).told → HasSent self.old self.new (T.sending tx.old).sent (T.sending tx.new).sent }
+        ensures some { IsTrue (T.sending tx.old).told → 0 < (T.sending tx.old).free → IfOk result (λ s. s ≡ Shipped.Moved) }
+        ensures going { IfOk result (λ s. s ≡ Shipped.Over → ⊥) }
+        ensures only { OnErr result (IsErrOf result ShipError.Cut) }
+        ensures cut { OnErr result ((T.sending tx.new).cuts ≡ counted (T.sending tx.old).cuts 1) }
+        ensures uncut { OnOk result ((T.sending tx.new).cuts ≡ (T.sending tx.old).cuts) }
+        ensures cut_only { IsTrue (T.sending tx.old).told → OnErr result (IsReached (T.sending tx.old).order (T.sending tx.old).sent) }
     {
-        let sent = tx.send(self.pending())?;
-        self.at += sent;
-        Ok(sent)
+        match tx.send(self.pending()) {
+            Ok(sent) => {
+                self.at += sent;
+                Ok(if sent == 0 { Shipped::Waits } else { Shipped::Moved })
+            }
+            Err(Cut) => Err(ShipError::Cut),
+        }
     }
 
-    /// Takes the next entry where all before it was sent, and sends bytes. After an error nothing was taken and nothing sent; an
-    /// entry whose frames had no memory is read again.
+    /// Takes the next entry where all before it was sent, and sends bytes. After a cut an entry may be taken and not sent. After other
+    /// errors none was taken, and it is read again.
     pub fn step<T: LinkTx, E: EntrySource>(
         &mut self,
         entries: &mut E,
@@ -188,18 +204,16 @@ impl Source {
         ensures uncut { (IsErrOf result ShipError.Cut → ⊥) → (T.sending tx.new).cuts ≡ (T.sending tx.old).cuts }
         ensures cut_only { IsTrue (T.sending tx.old).told → IsErrOf result ShipError.Cut → IsReached (T.sending tx.old).order (T.sending tx.old).sent }
     {
-        if self.pending().is_empty() {
-            if self.ended {
-                return Ok(Shipped::Over);
-            }
-            if !self.take(entries)? {
-                return Ok(Shipped::Waits);
-            }
+        if !self.pending().is_empty() {
+            return self.send(tx);
         }
-        match self.send(tx) {
-            Ok(0) => Ok(Shipped::Waits),
-            Ok(_) => Ok(Shipped::Moved),
-            Err(Cut) => Err(ShipError::Cut),
+        if self.ended {
+            return Ok(Shipped::Over);
+        }
+        match self.take(entries) {
+            Ok(true) => self.send(tx),
+            Ok(false) => Ok(Shipped::Waits),
+            Err(error) => Err(error),
         }
     }
 

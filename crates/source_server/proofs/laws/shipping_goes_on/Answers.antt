@@ -1,4 +1,4 @@
-use Rattle.source_server.proofs.Made.{begins, stays, takes, ends, known}
+use Rattle.source_server.proofs.Made.{begins, stays, takes, ends}
 use Rattle.source_server.proofs.laws.shipping_goes_on.Goals as goal
 
 pub returns-clause-begins : goal.returns-clause-begins
@@ -12,6 +12,3 @@ returns-clause-taken c = takes
 
 pub returns-clause-ended : goal.returns-clause-ended
 returns-clause-ended c = ends
-
-pub returns-clause-known : goal.returns-clause-known
-returns-clause-known c = known
