@@ -40,8 +40,8 @@ told_push reign (g ∷ fs) f = told_push (told_reign g) fs f
 offset_push : (fs : List Frame) (f : Frame) → min (offset_after 0 fs + length (spelled_frame f)) (2 ^ 64 - 1) ≡ offset_after 0 (fs ++ f ∷ [])
 offset_push fs f =
     let one : length (stream (f ∷ [])) ≡ length (spelled_frame f) = ap length (append-nil (spelled_frame f)) in
-    let more = offset_more 0 fs (f ∷ []) in
-    (omega (arith, one)) ∙ more
+    let here : min (offset_after 0 fs + length (spelled_frame f)) (2 ^ 64 - 1) ≡ offset_after (offset_after 0 fs) (f ∷ []) = omega (arith, one) in
+    here ∙ offset_more 0 fs (f ∷ [])
 
 -- the reign of a HISTORY is known to be the last one
 

@@ -7,6 +7,8 @@ ghost use Rattle.wire_defs.specs.Frames as defs;
 ghost use Rattle.wire_defs.specs.Links.{SameReceiving, IsReached, counted};
 ghost use Rattle.ship_defs.specs.Hearing.{Heard, unbegun, HasUnfit, Over};
 ghost use Rattle.recv_pool.specs.Pools.{put_in, free, SameIn};
+ghost use Rattle.repl_wire.specs.Values.{frame_value};
+ghost use Rattle.ship_defs.specs.Arrivals.{Arrival};
 ghost use Rattle.receiver_server.specs.Hearings.{purpose_value};
 ghost use Rattle.receiver_server.specs.Listenings.{Listening, listening, IsHearing, IsQuiet, Hears};
 
@@ -86,6 +88,17 @@ impl Model for Receiver {
     ghost invariant = { λ r. AllByRecursion IsFrame (map frame_value r.waiting.items) × IsLeft r.bad (map frame_value r.waiting.items) r.frames.rest r.left };
 }
 
+// How a step answers that a frame was heard.
+fn step_of(frame: &Frame) -> Step
+    ensures { (frames : List defs.Frame) → Hears result frames (frames ++ frame_value frame.now ∷ []) }
+{
+    match frame {
+        Frame::Resume(_) => Step::Resumes,
+        Frame::RollbackFirst(number) => Step::RollsBack(*number),
+        _ => Step::Moved,
+    }
+}
+
 impl Receiver {
     /// Before the first byte, for a secondary with that history.
     pub fn new(alloc: Global, mine: &History, purpose: Purpose) -> Result<Receiver, NoMemory>
@@ -136,6 +149,15 @@ impl Receiver {
     fn receive<R: LinkRx>(&mut self, rx: &mut R) -> Result<Step, HearError>
         requires empty { self.old.waiting ≡ [] }
         requires good { self.old.bad ≡ false }
+        ensures line { R.line rx.new ≡ R.line rx.old }
+        ensures same { SameReceiving (R.receiving rx.old) (R.receiving rx.new) }
+        ensures hears { IfOk result (λ a. IsTrue (R.receiving rx.old).shown → (begun : Heard) (put : List Arrival) (frames : List defs.Frame)
+            → IsHearing begun self.old (R.receiving rx.old).received put frames
+            → Hears a frames frames × IsHearing begun self.new (R.receiving rx.new).received put frames) }
+        ensures cut { IsErrOf result HearError.Cut → (self.new ≡ self.old) × (IsTrue (R.receiving rx.old).shown → (R.receiving rx.new).received ≡ (R.receiving rx.old).received) }
+        ensures good { IfErr result (λ e. (offset : ℕ) → e ≡ HearError.BadFrame offset → ⊥) }
+        ensures going { IfOk result (λ a. a ≡ Step.Over → ⊥) }
+        ensures ended { IfOk result (λ a. a ≡ Step.Ended → (self.new ≡ self.old) × IsTrue (R.receiving rx.new).closed) }
     {
         let mut buffer = [0; PIECE];
         match rx.receive(&mut buffer) {
@@ -149,22 +171,32 @@ impl Receiver {
         }
     }
 
-    // Hears a frame, and puts what arrives with it into the pool.
-    fn hear(&mut self, frame: Frame, pool: &mut PoolIn) -> Result<Step, HearError>
+    // Hears the first frame that waits, and puts what arrives with it into the pool.
+    fn hear_next(&mut self, pool: &mut PoolIn) -> Result<Step, HearError>
+        requires some { self.old.waiting ≢ [] }
+        requires place { 0 < free pool.old }
+        ensures pool { SameIn pool.old pool.new }
+        ensures hears { IfOk result (λ a. (begun : Heard) (received : List ℕ) (frames : List defs.Frame) → IsHearing begun self.old received (put_in pool.old) frames
+            → (now : List defs.Frame) × Hears a frames now × IsHearing begun self.new received (put_in pool.new) now) }
+        ensures bad { IfErr result (λ e. (offset : ℕ) → e ≡ HearError.BadFrame offset → (begun : Heard) (received : List ℕ) (frames : List defs.Frame)
+            → IsHearing begun self.old received (put_in pool.old) frames
+            → HasUnfit self.old.purpose begun received false offset × (put_in pool.new ≡ put_in pool.old)) }
+        ensures uncut { IsErrOf result HearError.Cut → ⊥ }
+        ensures going { IfOk result (λ a. (a ≡ Step.Over → ⊥) × (a ≡ Step.Ended → ⊥)) }
     {
-        let length = frame_length(&frame);
-        let step = match &frame {
-            Frame::Resume(_) => Step::Resumes,
-            Frame::RollbackFirst(number) => Step::RollsBack(*number),
-            _ => Step::Moved,
+        let frame = match self.waiting.pop_front() {
+            Some(frame) => frame,
+            None => unreachable!(),
         };
+        let length = frame_length(&frame);
+        let step = step_of(&frame);
+        self.left = self.left.saturating_sub(length);
         match self.hearer.hear(self.purpose, self.offset, frame) {
             Ok(arrived) => {
+                self.offset = self.offset.saturating_add(length);
                 if let Some(arrived) = arrived {
                     pool.put(arrived);
                 }
-                self.offset = self.offset.saturating_add(length);
-                self.left = self.left.saturating_sub(length);
                 Ok(step)
             }
             Err(Unheard::Unfit) => Err(HearError::BadFrame {
@@ -197,10 +229,7 @@ impl Receiver {
             if !pool.has_place() {
                 return Ok(Step::Waits);
             }
-            return match self.waiting.pop_front() {
-                Some(frame) => self.hear(frame, pool),
-                None => unreachable!(),
-            };
+            return self.hear_next(pool);
         }
         if self.bad || (self.hearer.is_over() && self.left != 0) {
             return Err(HearError::BadFrame {

@@ -112,7 +112,8 @@ same_reign k rs e last =
 own_reign : (k : ℕ) (rs : List Reign) (r : Reign) → begun_by (suc k) rs ≡ begun_by k rs ++ r ∷ [] → (last : Last) → with_reign (heard_at k rs last) r ≡ heard_at (suc k) rs Shipped
 own_reign k rs r e last =
     let count : k + 1 ≡ suc k = omega arith in
-    let more : length (begun_by k rs) + 1 ≡ length (begun_by (suc k) rs) = (let size = length-append (begun_by k rs) (r ∷ []) in omega (arith, size)) ∙ sym (ap length e) in
+    let grown : length (begun_by k rs) + 1 ≡ length (begun_by k rs ++ r ∷ []) = (let size = length-append (begun_by k rs) (r ∷ []) in omega (arith, size)) in
+    let more : length (begun_by k rs) + 1 ≡ length (begun_by (suc k) rs) = grown ∙ sym (ap length e) in
     let its : Some r ≡ reign_at (suc k) rs = sym (last_push None (begun_by k rs) r) ∙ sym (ap (last_or None) e) in
     (λ i. record { count = count i; reigns = more i; reign = its i; last = Shipped })
 
@@ -123,7 +124,7 @@ module _ (rs : List Reign) (rise : StartsRise 0 rs) (few : length rs ≤ MOST_RE
       → Admitted (Admits Ships) (hearing_at k rs last g) (History r ∷ Entry (suc k) e.transaction ∷ []) (hearing_at (suc k) rs Shipped (fold apply g e.transaction.updates))
   told_entry k r e last g open_ may next room =
       (hearing_at k rs (Reigning r) g, ((open_, may, refl), tt, refl),
-        hearing_at (suc k) rs Shipped (fold apply g e.transaction.updates), ((tt, (omega arith), sym next), room.0, refl), refl)
+        (hearing_at (suc k) rs Shipped (fold apply g e.transaction.updates), ((tt, (omega arith), sym next), room.0, refl), refl))
 
   -- an ENTRY behind an ENTRY
   bare_entry : (k : ℕ) (e : entries.Entry) (g : Globals) → begun_by (suc k) rs ≡ begun_by k rs → HasRooms g (e.transaction ∷ [])

@@ -2,7 +2,7 @@
 use Rattle.std.proofs.Common.{◌≡◌, ◌≢◌, ◌⊎◌, inl, inr, ℕ, zero, suc, ◌+◌, ◌-◌, ◌<◌, ◌≤◌, ◌==◌, ◌||◌, nat_le, nat_eq, Bool, true, false, List, [], ◌∷◌, ◌++◌, length, get_or, take, drop, filter, Option, Some, None, refl, sym, ap, subst, ◌∙◌, arith, append-nil, if◌then◌else◌}
 use Rattle.std.specs.List.{AllByRecursion, last_or}
 use Rattle.std.proofs.lemmas.Bool.Decides.{nat_tests}
-use Rattle.std.proofs.lemmas.List.{take_more, take-append-drop}
+use Rattle.std.proofs.lemmas.List.{take_more, take-append-drop, length-take-le}
 use Rattle.std.proofs.lemmas.List.Elements.{filter-append}
 use Rattle.std.proofs.Math.Seq.{drop-cons}
 use Rattle.global_defs.specs.Entry.{Reign}
@@ -37,13 +37,13 @@ rise_behind n i rs d lt at rise =
     let next : suc i ≡ i + 1 = omega arith in
     subst (λ (k : ℕ). StartsRise n (drop k rs)) next (subst (λ (k : ℕ). StartsRise k (drop (suc i) rs)) at split.1)
 
-rise_on : (n : ℕ) (xs : List Reign) (d : Reign) → (0 < length xs → (get_or xs 0 d).start ≢ n) → 1 ≤ n → StartsRise (n - 1) xs → StartsRise n xs
-rise_on n [] d other least rise = tt
-rise_on n (x ∷ xs) d other least rise =
-    let past : n - 1 < x.start = rise.0 in
-    let lt : 0 < length (x ∷ xs) = omega arith in
-    let differs : x.start ≢ n = other lt in
-    ((let at : (x.start ≡ n) ⊎ (n < x.start) = grind arith in elim at [ | inl is ↦ absurd (differs is) | inr more ↦ more ]), rise.1)
+pub rise_not : (n i : ℕ) (rs : List Reign) (d : Reign) → i < length rs → (get_or rs i d).start ≢ n → 1 ≤ n → StartsRise (n - 1) (drop i rs) → StartsRise n (drop i rs)
+rise_not n i rs d lt other least rise =
+    let split : StartsRise (n - 1) (get_or rs i d ∷ drop (suc i) rs) = subst (λ (l : List Reign). StartsRise (n - 1) l) (drop-cons rs i d lt) rise in
+    let past : n - 1 < (get_or rs i d).start = split.0 in
+    let cases : ((get_or rs i d).start ≡ n) ⊎ (n < (get_or rs i d).start) = grind arith in
+    let beyond : n < (get_or rs i d).start = elim cases [ | inl is ↦ absurd (other is) | inr more ↦ more ] in
+    subst (λ (l : List Reign). StartsRise n l) (sym (drop-cons rs i d lt)) (beyond, split.1)
 
 keeps : (n : ℕ) (xs : List Reign) → AllByRecursion (λ r. r.start < n) xs → begun_by n xs ≡ xs
 keeps n [] h = refl
@@ -109,3 +109,31 @@ announced_next false n r at = let is : (r.start == n) ≡ true = grind (arith, n
 pub announced_earlier : (first : Bool) (n : ℕ) (r : Reign) → r.start < n → announced first n (Some r) ≡ (if first then History r ∷ [] else [])
 announced_earlier true n r low = refl
 announced_earlier false n r low = let is : (r.start == n) ≡ false = grind (arith, nat_tests) in rw is refl
+
+-- no HISTORY stands before an entry of the same reign as the one before it, and one does before the connection's first
+no_reign : Reign
+no_reign = record { stamp = record { root = []; cycle = 0 }; start = 0 }
+
+some_begun : (i : ℕ) → (i ≡ 0) ⊎ (0 < i)
+some_begun i = grind arith
+
+before_low : (n i : ℕ) (rs : List Reign) (d : Reign) → 0 < i → i ≤ length rs → AllByRecursion (λ r. r.start < n) (take i rs) → (get_or rs (i - 1) d).start < n
+before_low n i rs d some within earlier =
+    let lt : i - 1 < i = omega arith in
+    let size : length (take i rs) ≡ i = length-take-le i rs within in
+    let inside : i - 1 < length (take i rs) = omega (arith, size, some) in
+    subst (λ (r : Reign). r.start < n) (get_take rs (i - 1) i d lt) (all_at (λ r. r.start < n) (take i rs) (i - 1) d earlier inside)
+
+pub announced_same : (first : Bool) (n i : ℕ) (rs : List Reign) (d : Reign) → 0 < i → i ≤ length rs → AllByRecursion (λ r. r.start < n) (take i rs) → StartsRise n (drop i rs)
+    → announced first n (reign_at n rs) ≡ (if first then History (get_or rs (i - 1) d) ∷ [] else [])
+announced_same first n i rs d some within earlier later =
+    ap (announced first n) (at_earlier n i rs earlier later ∙ last_take i rs d some within) ∙ announced_earlier first n (get_or rs (i - 1) d) (before_low n i rs d some within earlier)
+
+pub announced_none : (first : Bool) (n i : ℕ) (rs : List Reign) → i ≤ length rs → AllByRecursion (λ r. r.start < n) (take i rs) → StartsRise n (drop i rs) → (first ≡ false) ⊎ (i ≡ 0) → announced first n (reign_at n rs) ≡ []
+announced_none first n i rs within earlier later why = elim (some_begun i) [
+    | inl none ↦ ap (announced first n) (at_earlier n i rs earlier later ∙ ap (λ (k : ℕ). last_or None (take k rs)) none)
+    | inr some ↦ announced_same first n i rs no_reign some within earlier later ∙ elim why [
+        | inl later_one ↦ ap (λ (b : Bool). if b then History (get_or rs (i - 1) no_reign) ∷ [] else []) later_one
+        | inr none ↦ absurd (omega (arith, none, some))
+      ]
+  ]

@@ -1,7 +1,7 @@
 -- What a Source Server has made and sent.
-use Rattle.std.proofs.Common.{◌≡◌, ℕ, ◌+◌, ◌-◌, ◌^◌, ◌<◌, ◌≤◌, ◌==◌, if◌then◌else◌, drop, take, Bool, true, false, List, [], ◌∷◌, ◌++◌, length, refl, sym, ap, subst, ◌∙◌, arith, append_assoc, append-nil, length-append, rules}
+use Rattle.std.proofs.Common.{◌≡◌, ℕ, zero, suc, ◌+◌, ◌-◌, ◌^◌, ◌<◌, ◌≤◌, ◌==◌, if◌then◌else◌, drop, take, Bool, true, false, List, [], ◌∷◌, ◌++◌, length, refl, sym, ap, subst, ◌∙◌, arith, append_assoc, append-nil, length-append}
 use Rattle.std.proofs.lemmas.Bool.Decides.{nat_tests}
-use Rattle.std.proofs.lemmas.List.{take-append-drop, drop-append-le}
+use Rattle.std.proofs.lemmas.List.{take-append-drop, length-drop}
 use Rattle.global_defs.specs.Entry.{Reign}
 use Rattle.global_defs.specs.Fields.{IsSiteName, IsReign, short}
 use Rattle.std.specs.Int.{to_be_bytes, w32, w64}
@@ -49,12 +49,13 @@ bytes_push reigns first n [] entry =
       ∙ ap (λ (k : ℕ). stream (announced first k (reign_at k reigns)) ++ entry_frame entry) same
 bytes_push reigns first n (e ∷ entries) entry =
     let same : n + 1 + length entries ≡ n + length (e ∷ entries) = omega arith in
+    let later : (length (e ∷ entries) == 0) ≡ false = grind (arith, nat_tests) in
     let before = stream (announced first n (reign_at n reigns)) ++ entry_frame e in
     let more : List ℕ = stream (announced false (n + length (e ∷ entries)) (reign_at (n + length (e ∷ entries)) reigns)) ++ entry_frame entry in
-    ap (λ (l : List ℕ). before ++ l) (bytes_push reigns false (n + 1) entries entry
+    rw later (ap (λ (l : List ℕ). before ++ l) (bytes_push reigns false (n + 1) entries entry
         ∙ ap (λ (l : List ℕ). shipped_bytes reigns false (n + 1) entries ++ l) (never_first (length entries == 0) (n + 1 + length entries) entry
           ∙ ap (λ (k : ℕ). stream (announced false k (reign_at k reigns)) ++ entry_frame entry) same))
-      ∙ sym (append_assoc before (shipped_bytes reigns false (n + 1) entries) more)
+      ∙ sym (append_assoc before (shipped_bytes reigns false (n + 1) entries) more))
   where
     never_first : (b : Bool) (k : ℕ) (entry : List ℕ) → stream (announced (if b then false else false) k (reign_at k reigns)) ++ entry_frame entry ≡ stream (announced false k (reign_at k reigns)) ++ entry_frame entry
     never_first true k entry = refl
@@ -118,8 +119,14 @@ ends a sent from entries goes s = record {
 
 -- what a step sends
 
+drop_none : (n : ℕ) → drop {A = ℕ} n [] ≡ []
+drop_none zero = refl
+drop_none (suc n) = refl
+
 drop_drop : (i j : ℕ) (xs : List ℕ) → drop (i + j) xs ≡ drop j (drop i xs)
-drop_drop i j xs = search rules
+drop_drop zero j xs = let same : 0 + j ≡ j = omega arith in ap (λ (n : ℕ). drop n xs) same
+drop_drop (suc i) j [] = drop_none (suc i + j) ∙ sym (drop_none j)
+drop_drop (suc i) j (x ∷ xs) = let same : suc i + j ≡ suc (i + j) = omega arith in ap (λ (n : ℕ). drop n (x ∷ xs)) same ∙ drop_drop i j xs
 
 pub sent_some : (at n : ℕ) (made sent now : List ℕ) → now ≡ sent ++ take n (drop at made) → now ++ drop (at + n) made ≡ sent ++ drop at made
 sent_some at n made sent now is =
@@ -137,3 +144,15 @@ taken_sent entry a m b sent now goes nothing is h = record {
     bytes = h.bytes ∙ (ap (λ (x : Shipping). sent ++ x.pending) is ∙ ap (λ (l : List ℕ). l ++ made_of a entry) (sym (append-nil sent) ∙ ap (λ (l : List ℕ). sent ++ l) (sym nothing)));
     after = h.after ∙ ap (λ (x : Shipping). record x { pending = b.pending }) is;
   }
+
+-- where an end that moved on stands
+pub sent_part : (at n most left : ℕ) (made bytes sent now : List ℕ) (s b : Shipping) → at ≤ length made → n ≤ length bytes → most ≡ length made → left ≡ length bytes → bytes ≡ drop at made
+    → now ≡ sent ++ take n bytes → s.pending ≡ drop at made → b ≡ record s { pending = drop (most - (left - n)) made } → HasSent s b sent now
+sent_part at n most left made bytes sent now s b inside few is_most is_left is got pending after =
+    let size : length bytes ≡ length made - at = ap length is ∙ length-drop at made in
+    let place : most - (left - n) ≡ at + n = omega (arith, inside, few, is_most, is_left, size) in
+    let left_over : b.pending ≡ drop (at + n) made = ap (λ (x : Shipping). x.pending) after ∙ ap (λ (k : ℕ). drop k made) place in
+    record {
+      bytes = ap (λ (l : List ℕ). now ++ l) left_over ∙ (sent_some at n made sent now (got ∙ ap (λ (l : List ℕ). sent ++ take n l) is) ∙ ap (λ (l : List ℕ). sent ++ l) (sym pending));
+      after = after ∙ ap (λ (l : List ℕ). record s { pending = l }) (sym (ap (λ (x : Shipping). x.pending) after));
+    }

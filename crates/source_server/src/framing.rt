@@ -15,7 +15,7 @@ use repl_wire::{Frame, entry_head, write_frame};
 #[tactic(auto, using(crate::proofs::Made::history_form))]
 fn write_history(reign: Option<&Reign>, out: &mut Bytes) -> Result<(), NoMemory>
     requires { IfSome reign (λ r. IsReign (reign_value r.now)) }
-    ensures { OnOk result (out.new ≡ out.old ++ stream (histories (option_map (λ r. reign_value r.now) reign))) }
+    ensures { OnOk result (out.new ≡ out.old ++ stream (histories (option_map (λ r. reign_value r.now) reign.entry))) }
 {
     match reign {
         Some(reign) => write_frame(&Frame::History(reign.copy()?), out),

@@ -1,7 +1,8 @@
 // Which reign an entry is of, by how many have begun before it.
-ghost use Rattle.std.specs.Prelude.{◌≡◌, ◌-◌, ◌+◌, ◌<◌, ◌≤◌, length, drop, take, map, slice_get, Some, option_map};
+ghost use Rattle.std.specs.Prelude.{◌≡◌, ◌-◌, ◌+◌, ◌<◌, ◌≤◌, length, drop, take, map, slice_get, Some, IfSome, option_map};
 ghost use Rattle.std.specs.List.{AllByRecursion};
 ghost use Rattle.global_defs.specs.Entry as defs;
+ghost use Rattle.global_defs.specs.Fields.{IsReign};
 ghost use Rattle.gvn_model.specs.Reigns.{reign_value};
 ghost use Rattle.lineage_defs.specs.Histories.{StartsRise};
 ghost use Rattle.ship_defs.specs.Shipping.{reign_at, announced};
@@ -52,11 +53,13 @@ pub(crate) fn announced_reign(
     first: bool,
     number: u64,
 ) -> Option<&Reign>
+    requires form { AllByRecursion IsReign (map reign_value reigns.now) }
     requires least { 1 ≤ number }
     requires within { begun ≤ length reigns.now }
     requires earlier { AllByRecursion (λ (r : defs.Reign). r.start < number) (take begun (map reign_value reigns.now)) }
     requires later { StartsRise (number - 1) (drop begun (map reign_value reigns.now)) }
-    ensures { histories (option_map (λ r. reign_value r.now) result) ≡ announced first number (reign_at number (map reign_value reigns.now)) }
+    ensures form { IfSome result (λ r. IsReign (reign_value r.now)) }
+    ensures is { histories (option_map (λ r. reign_value r.now) result) ≡ announced first number (reign_at number (map reign_value reigns.now)) }
 {
     if begun < begun_behind(reigns, begun, number) {
         return Some(&reigns[begun]);

@@ -14,7 +14,6 @@ use super::reigns::{announced_reign, begun_behind, begun_below};
 use gvn_key::{Bytes, NoMemory};
 use gvn_model::{History, Reigns};
 use repl_link::{Cut, LinkTx};
-use repl_wire::{Frame, write_frame};
 use std::alloc::Global;
 use std::marker::Model;
 
@@ -38,6 +37,14 @@ pub enum ShipError<E> {
     Entry(E),
     /// Memory was refused.
     NoMemory,
+}
+
+// A BYE at so many entries.
+fn bye(length: u64) -> [u8; 13]
+    ensures { result ≡ spelled_frame (Bye length) }
+{
+    let [a, b, c, d, e, f, g, h] = length.to_be_bytes();
+    [6, 0, 0, 0, 8, a, b, c, d, e, f, g, h]
 }
 
 // The number behind the last one that an entry may have.
@@ -175,9 +182,10 @@ impl Source {
         ensures uncut { OnOk result ((T.sending tx.new).cuts ≡ (T.sending tx.old).cuts) }
         ensures cut_only { IsTrue (T.sending tx.old).told → OnErr result (IsReached (T.sending tx.old).order (T.sending tx.old).sent) }
     {
+        let left = self.pending().len();
         match tx.send(self.pending()) {
             Ok(sent) => {
-                self.at += sent;
+                self.at = self.made.len() - (left - sent);
                 Ok(if sent == 0 { Shipped::Waits } else { Shipped::Moved })
             }
             Err(Cut) => Err(ShipError::Cut),
@@ -228,9 +236,7 @@ impl Source {
         if self.next - 1 != length {
             return Ok(false);
         }
-        let mut bye = Bytes::new(self.made.allocator());
-        write_frame(&Frame::Bye(length), &mut bye)?;
-        self.made.push_all(bye.as_slice())?;
+        self.made.push_all(&bye(length))?;
         self.ended = true;
         Ok(true)
     }

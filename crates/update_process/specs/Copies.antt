@@ -21,9 +21,9 @@ history_of c = record { length = length c.sequence; reigns = c.reigns }
 abbrev pub next_of : Copy → ℕ
 next_of c = length c.sequence + 1
 
--- the reign begins with the next entry, or it is the last one as it stands
-abbrev pub MayAdopt : Copy → Reign → Type 0
-MayAdopt c r = (r.start ≡ next_of c) ⊎ (last_or None c.reigns ≡ Some r)
+-- the reign begins with the next entry of that history, or it is its last one as it stands
+abbrev pub MayAdopt : prefix.History → Reign → Type 0
+MayAdopt h r = (r.start ≡ h.length + 1) ⊎ (last_or None h.reigns ≡ Some r)
 
 -- It remembers a reign that begins with its next entry, and forgets an earlier one. It appends nothing.
 abbrev pub adopted : Copy → Reign → Copy

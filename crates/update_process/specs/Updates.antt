@@ -4,7 +4,7 @@ use Rattle.std.specs.List.{last_or}
 use Rattle.global_defs.specs.Entry.{Reign}
 use Rattle.ship_defs.specs.Hearing.{HasRoom}
 use Rattle.ship_defs.specs.Arrivals.{Arrival}
-use Rattle.update_process.specs.Copies.{Copy, next_of, MayAdopt, told, Takes, hardened}
+use Rattle.update_process.specs.Copies.{Copy, history_of, next_of, MayAdopt, told, Takes, hardened}
 use Rattle.update_process.specs.declared.sink.ApplyError.{ApplyError}
 use Rattle.update_process.specs.declared.sink.ApplyError.TheVariants as apply
 use Rattle.update_process.specs.declared.update.Applied.{Applied}
@@ -22,7 +22,7 @@ Follows x c now = (x.number ≡ next_of c) × ((m : Copy) × Takes x.transaction
 
 -- a HISTORY tells a reign that the site may not adopt
 abbrev pub IsStrange : Copy → Option Reign → Type 0
-IsStrange c reign = (r : Reign) × (reign ≡ Some r) × (MayAdopt c r → ⊥)
+IsStrange c reign = (r : Reign) × (reign ≡ Some r) × (MayAdopt (history_of c) r → ⊥)
 
 -- what was done with an arrival
 abbrev pub Did : Applied → Arrival → (c now : Copy) → Type 0

@@ -1,8 +1,9 @@
 // Reigns that a site may adopt.
-ghost use Rattle.std.specs.Prelude.{◌≡◌, ◌↔◌, ◌⊎◌, ◌+◌, ◌<◌, ◌^◌, Some, None, IsTrue, map};
+ghost use Rattle.std.specs.Prelude.{◌≡◌, ◌↔◌, ◌<◌, ◌^◌, Some, None, IsTrue, map};
 ghost use Rattle.std.specs.List.{last_or};
 ghost use Rattle.gvn_model.specs.Reigns.{reign_value};
 ghost use Rattle.gvn_model.specs.Entries.{history_value};
+ghost use Rattle.update_process.specs.Copies.{MayAdopt};
 
 use gvn_model::{History, Reign};
 
@@ -28,7 +29,7 @@ fn is_last(reign: &Reign, reigns: &[Reign]) -> bool
 // Whether a site with that history may adopt the reign.
 pub(crate) fn may_adopt(history: &History, reign: &Reign) -> bool
     requires { history.now.length < 2 ^ 40 }
-    ensures { IsTrue result ↔ ((reign_value reign.now).start ≡ (history_value history.now).length + 1) ⊎ (last_or None (history_value history.now).reigns ≡ Some (reign_value reign.now)) }
+    ensures { IsTrue result ↔ MayAdopt (history_value history.now) (reign_value reign.now) }
 {
     reign.start == history.length + 1 || is_last(reign, history.reigns.as_slice())
 }

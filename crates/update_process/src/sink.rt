@@ -32,13 +32,14 @@ pub trait EntrySink {
 
     /// Its length and its reigns.
     fn history(&self) -> &History
-        ensures { history_value result.now ≡ history_of (copy self.now) };
+        ensures is { history_value result.now ≡ history_of (copy self.now) }
+        ensures few { result.now.length < 2 ^ 40 };
 
     /// Remembers a reign that begins with the next entry, and forgets an earlier one. It appends nothing.
     fn adopt_reign(&mut self, reign: &Reign) -> Result<(), Self::Error>
         requires going { IsTrue (going self.old) }
         requires form { IsReign (reign_value reign.now) }
-        requires place { MayAdopt (copy self.old) (reign_value reign.now) }
+        requires place { MayAdopt (history_of (copy self.old)) (reign_value reign.now) }
         ensures ok { OnOk result (copy self.new ≡ adopted (copy self.old) (reign_value reign.now)) }
         ensures going { OnOk result (IsTrue (going self.new)) }
         ensures err { OnErr result (copy self.new ≡ copy self.old) };
@@ -66,8 +67,6 @@ pub trait EntrySink {
         ensures going { OnOk result (IsTrue (going self.new)) }
         ensures err { OnErr result (copy self.new ≡ copy self.old) };
 
-    // A site with entries has a reign for the next one, and all fit in 40 bits.
+    // A site with entries has a reign for the next one.
     ghost covered: { (s : Self) → 1 ≤ length (copy s).sequence → (stamp : Stamp) × (stamp_at (next_of (copy s)) (reigns_next (copy s)) ≡ Some stamp) };
-
-    ghost few: { (s : Self) → length (copy s).sequence < 2 ^ 40 };
 }
