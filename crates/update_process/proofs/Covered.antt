@@ -7,6 +7,9 @@ use Rattle.global_defs.specs.Prefix.{stamp_at}
 use Rattle.resync_core.proofs.BegunReigns.{stamp-push}
 use Rattle.ship_defs.specs.Arrivals.{Arrival, IsArrival}
 use Rattle.update_process.specs.Copies.{Copy, next_of, adopted, told, reigns_next}
+use Rattle.update_process.specs.Updates.{Did, After}
+use Rattle.update_process.specs.declared.update.Applied.{Applied}
+use Rattle.update_process.specs.declared.update.Applied.TheVariants.{One, Skipped, Astray, Nothing}
 
 pub told_next : (c : Copy) (reign : Option Reign) → next_of (told c reign) ≡ next_of c
 told_next c None = refl
@@ -40,3 +43,9 @@ covered_now c m x form next is has = elim (some_or_none (length c.sequence)) [
         let more : length m.sequence + 1 ≡ length c.sequence + 1 = same in
         omega (arith, some, more))
   ]
+
+pub after_of : (a : Applied) (x : Arrival) (before after : List Arrival) (c now : Copy) → after ≡ before ++ x ∷ [] → Did a x c now → After a before after c now
+after_of (One n) x before after c now is did = (x, is, did)
+after_of Skipped x before after c now is did = (x, is, did)
+after_of Astray x before after c now is did = (x, is, did)
+after_of Nothing x before after c now is did = absurd did

@@ -65,18 +65,22 @@ fn adopt<S: EntrySink>(site: &mut S, reign: &Option<Reign>) -> Result<bool, Upda
 }
 
 // Applies the next entry and hardens it.
-fn enter<S: EntrySink>(site: &mut S, arrived: &Arrived) -> Result<(), UpdateError<S::Error>>
+fn enter<S: EntrySink>(
+    site: &mut S,
+    arrived: &Arrived,
+) -> Result<Applied, UpdateError<S::Error>>
     requires going { IsTrue (S.going site.old) }
     requires form { IsArrival (arrival_value arrived.now) }
     requires next { arrived.now.number ≡ next_of (S.copy site.old) }
     requires under { (stamp : defs.Stamp) × (stamp_at (next_of (S.copy site.old)) (reigns_next (S.copy site.old)) ≡ Some stamp) }
+    ensures one { IfOk result (λ a. a ≡ Applied.One arrived.now.number) }
     ensures ok { OnOk result ((m : Copy) × Takes (transaction_value arrived.now.transaction) (S.copy site.old) m × (S.copy site.new ≡ hardened m)) }
     ensures going { OnOk result (IsTrue (S.going site.new)) }
     ensures err { IfErr result (λ e. Refuses e (arrival_value arrived.now) (S.copy site.old) (S.copy site.new)) }
 {
     match site.apply(arrived.number, &arrived.transaction) {
         Ok(()) => match site.harden() {
-            Ok(()) => Ok(()),
+            Ok(()) => Ok(Applied::One(arrived.number)),
             Err(error) => Err(UpdateError::Site(error)),
         },
         Err(ApplyError::Full) => Err(UpdateError::BadFrame { offset: arrived.at }),
@@ -85,7 +89,11 @@ fn enter<S: EntrySink>(site: &mut S, arrived: &Arrived) -> Result<(), UpdateErro
 }
 
 // Follows an entry that came.
-fn follow<S: EntrySink>(site: &mut S, arrived: &Arrived) -> Result<Applied, UpdateError<S::Error>>
+#[tactic(auto, using(crate::proofs::Covered::covered_now, crate::proofs::Covered::told_next))]
+fn follow<S: EntrySink>(
+    site: &mut S,
+    arrived: &Arrived,
+) -> Result<Applied, UpdateError<S::Error>>
     requires going { IsTrue (S.going site.old) }
     requires form { IsArrival (arrival_value arrived.now) }
     ensures after { IfOk result (λ a. Did a (arrival_value arrived.now) (S.copy site.old) (S.copy site.new)) }
@@ -96,15 +104,19 @@ fn follow<S: EntrySink>(site: &mut S, arrived: &Arrived) -> Result<Applied, Upda
     if arrived.number <= length {
         return Ok(Applied::Skipped);
     }
-    if length + 1 < arrived.number || !adopt(site, &arrived.reign)? {
+    if length + 1 < arrived.number {
         return Ok(Applied::Astray);
     }
-    enter(site, arrived)?;
-    Ok(Applied::One(arrived.number))
+    match adopt(site, &arrived.reign) {
+        Ok(true) => enter(site, arrived),
+        Ok(false) => Ok(Applied::Astray),
+        Err(error) => Err(error),
+    }
 }
 
 /// Takes the next entry that came, and applies and hardens it where it is the site's next one. An entry that the site has changes
 /// nothing.
+#[tactic(auto, using(crate::proofs::Covered::after_of))]
 pub fn apply_next<S: EntrySink>(
     site: &mut S,
     pool: &mut PoolOut,

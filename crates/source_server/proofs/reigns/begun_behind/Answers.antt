@@ -21,8 +21,9 @@ returns-then-reigns-begun-clause-earlier c =
     let x = c.index-reigns-begun.result in
     let size = length-map xs reign_value in
     let lt : i < length (map reign_value xs) = omega (arith, size) in
-    let is : get_or (map reign_value xs) i (reign_value x) ≡ reign_value x = get_or-map reign_value xs i x ∙ ap reign_value (sym c.index-reigns-begun.is) in
-    let low : x.start < n + 1 = omega arith in
+    let y = get_or xs i x in
+    let is : get_or (map reign_value xs) i (reign_value x) ≡ reign_value y = get_or-map reign_value xs i x in
+    let low : y.start < n + 1 = omega arith in
     all_take (λ r. r.start < n + 1) (map reign_value xs) i (reign_value x) lt (below_later n (take i (map reign_value xs)) c.requires.earlier) (subst (λ (r : defs.Reign). r.start < n + 1) (sym is) low)
 
 pub returns-then-reigns-begun-clause-later : goal.returns-then-reigns-begun-clause-later
@@ -32,8 +33,9 @@ returns-then-reigns-begun-clause-later c =
     let x = c.index-reigns-begun.result in
     let size = length-map xs reign_value in
     let lt : i < length (map reign_value xs) = omega (arith, size) in
-    let is : get_or (map reign_value xs) i (reign_value x) ≡ reign_value x = get_or-map reign_value xs i x ∙ ap reign_value (sym c.index-reigns-begun.is) in
-    let at : x.start ≡ c.args.number = c.if-reigns-begun.true in
+    let y = get_or xs i x in
+    let is : get_or (map reign_value xs) i (reign_value x) ≡ reign_value y = get_or-map reign_value xs i x in
+    let at : y.start ≡ c.args.number = c.if-reigns-begun.true in
     rise_behind c.args.number i (map reign_value xs) (reign_value x) lt (ap (λ (r : defs.Reign). r.start) is ∙ at) c.requires.later
 
 pub returns-then-reigns-begun-clause-begins : goal.returns-then-reigns-begun-clause-begins
@@ -43,9 +45,10 @@ returns-then-reigns-begun-clause-begins c = λ _.
     let x = c.index-reigns-begun.result in
     let size = length-map xs reign_value in
     let lt : i < length (map reign_value xs) = omega (arith, size) in
-    let is : get_or (map reign_value xs) i (reign_value x) ≡ reign_value x = get_or-map reign_value xs i x ∙ ap reign_value (sym c.index-reigns-begun.is) in
-    let at : x.start ≡ c.args.number = c.if-reigns-begun.true in
-    (reign_value x, slice_get-get_or (map reign_value xs) i (reign_value x) lt ∙ ap (λ (r : defs.Reign). Some r) is, at)
+    let y = get_or xs i x in
+    let is : get_or (map reign_value xs) i (reign_value x) ≡ reign_value y = get_or-map reign_value xs i x in
+    let at : y.start ≡ c.args.number = c.if-reigns-begun.true in
+    (reign_value y, slice_get-get_or (map reign_value xs) i (reign_value x) lt ∙ ap (λ (r : defs.Reign). Some r) is, at)
 
 pub returns-clause-earlier : goal.returns-clause-earlier
 returns-clause-earlier c = below_later c.args.number (take c.args.begun (map reign_value c.args.reigns.now)) c.requires.earlier
@@ -57,6 +60,7 @@ returns-clause-later c =
     let x = c.index-reigns-begun.result in
     let size = length-map xs reign_value in
     let lt : i < length (map reign_value xs) = omega (arith, size) in
-    let is : get_or (map reign_value xs) i (reign_value x) ≡ reign_value x = get_or-map reign_value xs i x ∙ ap reign_value (sym c.index-reigns-begun.is) in
+    let y = get_or xs i x in
+    let is : get_or (map reign_value xs) i (reign_value x) ≡ reign_value y = get_or-map reign_value xs i x in
     let other : (get_or (map reign_value xs) i (reign_value x)).start ≢ c.args.number = λ at. c.if-reigns-begun.false (sym (ap (λ (r : defs.Reign). r.start) is) ∙ at) in
     rise_not c.args.number i (map reign_value xs) (reign_value x) lt other c.requires.least c.requires.later

@@ -20,8 +20,9 @@ returns-then-number-reigns-clause-later c =
     let x = c.index-reigns-i.result in
     let size = length-map xs reign_value in
     let lt : i < length (map reign_value xs) = omega (arith, size) in
-    let is : get_or (map reign_value xs) i (reign_value x) ≡ reign_value x = get_or-map reign_value xs i x ∙ ap reign_value (sym c.index-reigns-i.is) in
-    let past : c.args.number - 1 < x.start = omega arith in
+    let y = get_or xs i x in
+    let is : get_or (map reign_value xs) i (reign_value x) ≡ reign_value y = get_or-map reign_value xs i x in
+    let past : c.args.number - 1 < y.start = omega arith in
     rise_from 0 (c.args.number - 1) i (map reign_value xs) (reign_value x) c.requires.rising lt (subst (λ (r : defs.Reign). c.args.number - 1 < r.start) (sym is) past)
 
 pub loop-i-preserved : goal.loop-i-preserved
@@ -31,6 +32,7 @@ loop-i-preserved c =
     let x = c.index-reigns-i.result in
     let size = length-map xs reign_value in
     let lt : i < length (map reign_value xs) = omega (arith, size) in
-    let is : get_or (map reign_value xs) i (reign_value x) ≡ reign_value x = get_or-map reign_value xs i x ∙ ap reign_value (sym c.index-reigns-i.is) in
-    let low : x.start < c.args.number = omega arith in
+    let y = get_or xs i x in
+    let is : get_or (map reign_value xs) i (reign_value x) ≡ reign_value y = get_or-map reign_value xs i x in
+    let low : y.start < c.args.number = omega arith in
     all_take (λ r. r.start < c.args.number) (map reign_value xs) i (reign_value x) lt c.loop-i.invariant (subst (λ (r : defs.Reign). r.start < c.args.number) (sym is) low)
