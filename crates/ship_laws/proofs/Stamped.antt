@@ -57,12 +57,12 @@ three start k = grind arith
 
 places : (k : ℕ) (x : Reign) → (nat_le x.start k ≡ nat_le x.start (suc k)) ⊎ ((nat_le x.start k ≡ false) × (nat_le x.start (suc k) ≡ true) × (x.start ≡ suc k))
 places k x = elim (three x.start k) [
-    | inl low ↦ inl (let a : nat_le x.start k ≡ true = grind (arith, nat_tests) in let b : nat_le x.start (suc k) ≡ true = grind (arith, nat_tests) in a ∙ sym b)
-    | inr past ↦ elim past [
-        | inl at ↦ inr (grind (arith, nat_tests), grind (arith, nat_tests), at)
-        | inr high ↦ inl (let a : nat_le x.start k ≡ false = grind (arith, nat_tests) in let b : nat_le x.start (suc k) ≡ false = grind (arith, nat_tests) in a ∙ sym b)
-      ]
+  | inl low ↦ inl (let a : nat_le x.start k ≡ true = grind (arith, nat_tests) in let b : nat_le x.start (suc k) ≡ true = grind (arith, nat_tests) in a ∙ sym b)
+  | inr past ↦ elim past [
+    | inl at ↦ inr (grind (arith, nat_tests), grind (arith, nat_tests), at)
+    | inr high ↦ inl (let a : nat_le x.start k ≡ false = grind (arith, nat_tests) in let b : nat_le x.start (suc k) ≡ false = grind (arith, nat_tests) in a ∙ sym b)
   ]
+]
 
 -- from the reigns behind it, whether it has begun by both numbers, by none or by the later one
 still_of : (k : ℕ) (x : Reign) (rs : List Reign) (r : Reign) (o now : Option Reign) → r.start ≢ suc k → (a b : Bool) → nat_le x.start k ≡ a → nat_le x.start (suc k) ≡ b
@@ -71,11 +71,11 @@ still_of : (k : ℕ) (x : Reign) (rs : List Reign) (r : Reign) (o now : Option R
     → Kept r o now → last_or now (begun_by (suc k) (x ∷ rs)) ≡ Some r → last_or o (begun_by k (x ∷ rs)) ≡ Some r
 still_of k x rs r o now other true true s t p later kept is = rw s (later (Some x) (Some x) (λ e. e) (rw t at is))
 still_of k x rs r o now other false false s t p later kept is = rw s (later o now kept (rw t at is))
-still_of k x rs r o now other true false s t p later kept is = elim p [ | inl e ↦ absurd (cc (e)) | inr e ↦ absurd (cc (e.0)) ]
+still_of k x rs r o now other true false s t p later kept is = elim p [ inl e ↦ absurd (cc (e)) | inr e ↦ absurd (cc (e.0)) ]
 still_of k x rs r o now other false true s t p later kept is = elim p [
-    | inl e ↦ absurd (cc (e))
-    | inr e ↦ rw s (later o (Some x) (λ same. (let one : x ≡ r = cc in absurd (other (ap (λ (y : Reign). y.start) (sym one) ∙ e.2)))) (rw t at is))
-  ]
+  | inl e ↦ absurd (cc (e))
+  | inr e ↦ rw s (later o (Some x) (λ same. (let one : x ≡ r = cc in absurd (other (ap (λ (y : Reign). y.start) (sym one) ∙ e.2)))) (rw t at is))
+]
 
 still : (k : ℕ) (rs : List Reign) (r : Reign) (o now : Option Reign) → r.start ≢ suc k → Kept r o now → last_or now (begun_by (suc k) rs) ≡ Some r → last_or o (begun_by k rs) ≡ Some r
 still k [] r o now other kept is = kept is
@@ -137,12 +137,12 @@ shipped_entries reigns (e ∷ es) k at first under stamps goes =
     let rest = shipped reigns false (suc k + 1) (transactions es) in
     let next : suc k + 1 ≡ suc (suc k) = omega arith in
     let goes_on : (first || r.start == suc k) ≡ false → under ≡ Some r = λ t.
-          (let parts = or_false first (r.start == suc k) t in goes parts.0 ∙ still_reigns k reigns r (not_start r k parts.1) found.1) in
+    (let parts = or_false first (r.start == suc k) t in goes parts.0 ∙ still_reigns k reigns r (not_start r k parts.1) found.1) in
     let later : (w : ℕ) → carried_from w (Some r) rest ≡ es = λ w.
-          (ap (λ (n : ℕ). carried_from w (Some r) (shipped reigns false n (transactions es))) next
-            ∙ shipped_entries reigns es (suc k) w false (Some r) (stamps_later reigns k e es stamps) (λ _. sym found.1)) in
+    (ap (λ (n : ℕ). carried_from w (Some r) (shipped reigns false n (transactions es))) next
+    ∙ shipped_entries reigns es (suc k) w false (Some r) (stamps_later reigns k e es stamps) (λ _. sym found.1)) in
     ap (λ (o : Option Reign). carried_from at under (announced first (suc k) o ++ Entry (suc k) e.transaction ∷ rest)) found.1
-      ∙ entry_step reigns e es (suc k) at first under r rest (first || r.start == suc k) refl found.2 goes_on later
+    ∙ entry_step reigns e es (suc k) at first under r rest (first || r.start == suc k) refl found.2 goes_on later
 
 resume : IsFrame (Resume 1)
 resume = record { fields = (omega arith, omega arith); short = omega arith }
@@ -166,8 +166,8 @@ connection_entries reigns base part stamps each =
       are = record { whole = sym (append-nil (stream (connection reigns (k + 1) (transactions part)))); each = each };
       ends = inl (Resume 1, frame_type (Resume 1), _, resume, refl);
       is = sym (ap (entries_of None) (no_entry 0 (k + 1 + length (transactions part) - 1) None all)
-        ∙ (ap (λ (n : ℕ). carried_from at None (shipped reigns true n (transactions part))) next
-        ∙ shipped_entries reigns part k at true None own (λ no. absurd (cc no))));
+          ∙ (ap (λ (n : ℕ). carried_from at None (shipped reigns true n (transactions part))) next
+          ∙ shipped_entries reigns part k at true None own (λ no. absurd (cc no))));
     }
 
 pub sent_front : (reigns : List Reign) (base part seq : Sequence) (sent : List ℕ) → HasStamps reigns (base ++ part) → AllByRecursion IsFrame (connection reigns (length base + 1) (transactions part))

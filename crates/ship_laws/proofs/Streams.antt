@@ -14,8 +14,8 @@ shipped_is reigns first n [] = refl
 shipped_is reigns first n (t ∷ ts) =
     let before = announced first n (reign_at n reigns) in
     append_assoc (stream before) (spelled_frame (Entry n t)) (shipped_bytes reigns false (n + 1) (bytes_from (n + 1) ts))
-      ∙ (ap (λ (l : List ℕ). stream before ++ (spelled_frame (Entry n t) ++ l)) (shipped_is reigns false (n + 1) ts)
-      ∙ sym (stream_more before (Entry n t ∷ shipped reigns false (n + 1) ts)))
+    ∙ (ap (λ (l : List ℕ). stream before ++ (spelled_frame (Entry n t) ++ l)) (shipped_is reigns false (n + 1) ts)
+    ∙ sym (stream_more before (Entry n t ∷ shipped reigns false (n + 1) ts)))
 
 pub resumed_is : (reigns : List Reign) (from : ℕ) (ts : List Transaction) → resumed_bytes reigns from (bytes_from from ts) ≡ stream (resumed reigns from ts)
 resumed_is reigns from ts = ap (λ (l : List ℕ). spelled_frame (Resume from) ++ l) (shipped_is reigns true from ts)

@@ -21,12 +21,12 @@ whole_or_not f rest more form is begins =
 -- where no frame begins none does with more bytes behind
 none_grows : (bytes more : List ℕ) → BeginsNone bytes → BeginsNone (bytes ++ more)
 none_grows bytes more none = record {
-    none_goes_on = λ f x form is. none.none_goes_on f (more ++ x) form (is ∙ append_assoc bytes more x);
-    none_stands = λ f x form is. elim (split (spelled_frame f) x bytes more (sym is)) [
-      | inl s ↦ none.none_stands f s.0 form s.1
-      | inr s ↦ none.none_goes_on f s.0 form s.1
-    ];
-  }
+  none_goes_on = λ f x form is. none.none_goes_on f (more ++ x) form (is ∙ append_assoc bytes more x);
+  none_stands = λ f x form is. elim (split (spelled_frame f) x bytes more (sym is)) [
+    | inl s ↦ none.none_stands f s.0 form s.1
+    | inr s ↦ none.none_goes_on f s.0 form s.1
+  ];
+}
 
 some_grows : (bytes more : List ℕ) → bytes ≢ [] → (bytes ++ more) ≢ []
 some_grows [] more some = λ _. some refl
@@ -74,7 +74,7 @@ module _ {S : Type 0} (Admits : S → Frame → S → Type 0) (one_way : (s : S)
     pub at_one : (s : S) (bytes : List ℕ) (ended done : Bool) (o q : ℕ) → IsBadAt Admits IsOver s bytes ended o → IsBadAt Admits IsOver s bytes done q → o ≡ q
     at_one s bytes ended done o q x y =
         let same = walk (λ t r. Lacks Admits IsOver t r ended) (λ t r. Lacks Admits IsOver t r done) (lacks_bars ended) (lacks_bars done) s x.frames y.frames x.rest y.rest x.now y.now
-              x.come.are.each y.come.are.each x.come.admitted y.come.admitted (sym x.come.are.whole ∙ y.come.are.whole) x.lacks y.lacks in
+        x.come.are.each y.come.are.each x.come.admitted y.come.admitted (sym x.come.are.whole ∙ y.come.are.whole) x.lacks y.lacks in
         x.at ∙ (ap (offset_after 0) same.0 ∙ sym y.at)
 
     over_lacks : (s : S) (ended : Bool) → IsOver s → Lacks Admits IsOver s [] ended → ⊥
@@ -86,13 +86,13 @@ module _ {S : Type 0} (Admits : S → Frame → S → Type 0) (one_way : (s : S)
     pub bad_or_ended : (s : S) (bytes : List ℕ) (ended : Bool) (o : ℕ) (last : Frame) → IsBadAt Admits IsOver s bytes ended o → EndsWith Admits IsOver s bytes last → ⊥
     bad_or_ended s bytes ended o last x y =
         let same = walk (λ t r. Lacks Admits IsOver t r ended) IsEnd (lacks_bars ended) end_bars s x.frames (y.frames ++ last ∷ []) x.rest [] x.now y.now
-              x.come.are.each y.come.are.each x.come.admitted y.come.admitted (sym x.come.are.whole ∙ y.come.are.whole) x.lacks refl in
+        x.come.are.each y.come.are.each x.come.admitted y.come.admitted (sym x.come.are.whole ∙ y.come.are.whole) x.lacks refl in
         over_lacks y.now ended y.over (subst (λ (t : S). Lacks Admits IsOver t [] ended) same.2 (subst (λ (r : List ℕ). Lacks Admits IsOver x.now r ended) same.1 x.lacks))
 
     pub one_end : (s : S) (bytes : List ℕ) (f g : Frame) → EndsWith Admits IsOver s bytes f → EndsWith Admits IsOver s bytes g → f ≡ g
     one_end s bytes f g x y =
         let same = walk IsEnd IsEnd end_bars end_bars s (x.frames ++ f ∷ []) (y.frames ++ g ∷ []) [] [] x.now y.now
-              x.come.are.each y.come.are.each x.come.admitted y.come.admitted (sym x.come.are.whole ∙ y.come.are.whole) refl refl in
+        x.come.are.each y.come.are.each x.come.admitted y.come.admitted (sym x.come.are.whole ∙ y.come.are.whole) refl refl in
         last_same x.frames y.frames f g same.0
 
     lacks_grow : (s : S) (rest more : List ℕ) (ended : Bool) → Lacks Admits IsOver s rest false → Lacks Admits IsOver s (rest ++ more) ended
@@ -104,13 +104,13 @@ module _ {S : Type 0} (Admits : S → Frame → S → Type 0) (one_way : (s : S)
 
     pub stays_bad : (s : S) (bytes more : List ℕ) (ended : Bool) (o : ℕ) → IsBadAt Admits IsOver s bytes false o → IsBadAt Admits IsOver s (bytes ++ more) ended o
     stays_bad s bytes more ended o x = record {
-        frames = x.frames;
-        rest = x.rest ++ more;
-        now = x.now;
-        come = record {
-          are = record { whole = ap (λ (l : List ℕ). l ++ more) x.come.are.whole ∙ append_assoc (stream x.frames) x.rest more; each = x.come.are.each };
-          admitted = x.come.admitted;
-        };
-        lacks = lacks_grow x.now x.rest more ended x.lacks;
-        at = x.at;
-      }
+      frames = x.frames;
+      rest = x.rest ++ more;
+      now = x.now;
+      come = record {
+        are = record { whole = ap (λ (l : List ℕ). l ++ more) x.come.are.whole ∙ append_assoc (stream x.frames) x.rest more; each = x.come.are.each };
+        admitted = x.come.admitted;
+      };
+      lacks = lacks_grow x.now x.rest more ended x.lacks;
+      at = x.at;
+    }

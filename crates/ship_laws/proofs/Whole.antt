@@ -50,9 +50,9 @@ cases_of start k = grind arith
 turn : (low k : ℕ) (rs : List Reign) → StartsRise low rs → Turn rs k
 turn low k [] rise = stays refl
 turn low k (r ∷ rs) rise = elim (cases_of r.start k) [
-    | inl low_enough ↦ turn_kept r rs k (grind (arith, nat_tests)) (grind (arith, nat_tests)) (turn r.start k rs rise.1)
-    | inr past ↦ elim past [ | inl at ↦ turn_begins r rs k at rise.1 | inr later ↦ turn_later r rs k later rise.1 ]
-  ]
+  | inl low_enough ↦ turn_kept r rs k (grind (arith, nat_tests)) (grind (arith, nat_tests)) (turn r.start k rs rise.1)
+  | inr past ↦ elim past [ inl at ↦ turn_begins r rs k at rise.1 | inr later ↦ turn_later r rs k later rise.1 ]
+]
 
 few_of : (n : ℕ) (r : Reign) (rs : List Reign) (b : Bool) → nat_le r.start n ≡ b → length (begun_by n rs) ≤ length rs → length (begun_by n (r ∷ rs)) ≤ length (r ∷ rs)
 few_of n r rs true is few = rw is (omega (arith, few))
@@ -122,9 +122,11 @@ module _ (rs : List Reign) (rise : StartsRise 0 rs) (few : length rs ≤ MOST_RE
   told_entry : (k : ℕ) (r : Reign) (e : entries.Entry) (last : Last) (g : Globals) → IsBetween last → MayReign (heard_at k rs last) r
       → entered (heard_at k rs (Reigning r)) (Reigning r) ≡ heard_at (suc k) rs Shipped → HasRooms g (e.transaction ∷ [])
       → Admitted (Admits Ships) (hearing_at k rs last g) (History r ∷ Entry (suc k) e.transaction ∷ []) (hearing_at (suc k) rs Shipped (fold apply g e.transaction.updates))
-  told_entry k r e last g open_ may next room =
-      (hearing_at k rs (Reigning r) g, ((open_, may, refl), tt, refl),
-        (hearing_at (suc k) rs Shipped (fold apply g e.transaction.updates), ((tt, (omega arith), sym next), room.0, refl), refl))
+  told_entry k r e last g open_ may next room = (
+    hearing_at k rs (Reigning r) g,
+    ((open_, may, refl), tt, refl),
+    (hearing_at (suc k) rs Shipped (fold apply g e.transaction.updates), ((tt, (omega arith), sym next), room.0, refl), refl),
+  )
 
   -- an ENTRY behind an ENTRY
   bare_entry : (k : ℕ) (e : entries.Entry) (g : Globals) → begun_by (suc k) rs ≡ begun_by k rs → HasRooms g (e.transaction ∷ [])
@@ -187,12 +189,12 @@ module _ (rs : List Reign) (rise : StartsRise 0 rs) (few : length rs ≤ MOST_RE
       let count : suc k + length es ≡ k + length (e ∷ es) = omega arith in
       let end_ = hearing_at (k + length (e ∷ es)) rs rest.behind rest.globals in
       let later : Admitted (Admits Ships) (hearing_at (suc k) rs Shipped g2) (shipped rs false (suc k + 1) (transactions es)) end_
-            = subst (λ (n : ℕ). Admitted (Admits Ships) (hearing_at (suc k) rs Shipped g2) (shipped rs false n (transactions es)) end_) (sym next)
-              (subst (λ (n : ℕ). Admitted (Admits Ships) (hearing_at (suc k) rs Shipped g2) (shipped rs false (suc (suc k)) (transactions es)) (hearing_at n rs rest.behind rest.globals)) count rest.admitted) in
+      = subst (λ (n : ℕ). Admitted (Admits Ships) (hearing_at (suc k) rs Shipped g2) (shipped rs false n (transactions es)) end_) (sym next)
+      (subst (λ (n : ℕ). Admitted (Admits Ships) (hearing_at (suc k) rs Shipped g2) (shipped rs false (suc (suc k)) (transactions es)) (hearing_at n rs rest.behind rest.globals)) count rest.admitted) in
       let both = admitted_more (hearing_at k rs last g) (hearing_at (suc k) rs Shipped g2) end_ (announced first (suc k) (Some r) ++ Entry (suc k) e.transaction ∷ []) (shipped rs false (suc k + 1) (transactions es)) step later in
       let frames : (announced first (suc k) (Some r) ++ Entry (suc k) e.transaction ∷ []) ++ shipped rs false (suc k + 1) (transactions es) ≡ shipped rs first (suc k) (transactions (e ∷ es))
-            = append_assoc (announced first (suc k) (Some r)) (Entry (suc k) e.transaction ∷ []) (shipped rs false (suc k + 1) (transactions es))
-              ∙ ap (λ (o : Option Reign). announced first (suc k) o ++ Entry (suc k) e.transaction ∷ shipped rs false (suc k + 1) (transactions es)) (sym found.1) in
+      = append_assoc (announced first (suc k) (Some r)) (Entry (suc k) e.transaction ∷ []) (shipped rs false (suc k + 1) (transactions es))
+      ∙ ap (λ (o : Option Reign). announced first (suc k) o ++ Entry (suc k) e.transaction ∷ shipped rs false (suc k + 1) (transactions es)) (sym found.1) in
       record {
         behind = rest.behind;
         globals = rest.globals;
@@ -214,18 +216,18 @@ whole h rs base part g at own rise few stamps room =
     let k = h.length in
     let next : k + 1 ≡ suc k = omega arith in
     let numbered : Stamps rs k part = λ i e is.
-          (let same : k + i ≡ length base + i = ap (λ (n : ℕ). n + i) at in subst (λ (n : ℕ). stamp_at (suc n) rs ≡ Some e.stamp) (sym same) (stamps (length base + i) e (get_behind base part i ∙ is))) in
+    (let same : k + i ≡ length base + i = ap (λ (n : ℕ). n + i) at in subst (λ (n : ℕ). stamp_at (suc n) rs ≡ Some e.stamp) (sym same) (stamps (length base + i) e (get_behind base part i ∙ is))) in
     let ends = all rs rise few part k true Resumed g numbered refl room in
     let end_ = hearing_at (k + length part) rs ends.behind ends.globals in
     let out = hearing_at (k + length part) rs Over ends.globals in
     let begun : starting h g ≡ hearing_at k rs Unbegun g = (λ i. record { heard = record { count = k; reigns = length (own i); reign = last_or None (own i); last = Unbegun }; globals = g }) in
     let resume : Admitted (Admits Ships) (hearing_at k rs Unbegun g) (Resume (k + 1) ∷ []) (hearing_at k rs Resumed g)
-          = (hearing_at k rs Resumed g, ((tt, refl, refl), tt, refl), refl) in
+    = (hearing_at k rs Resumed g, ((tt, refl, refl), tt, refl), refl) in
     let entries_ : Admitted (Admits Ships) (hearing_at k rs Resumed g) (shipped rs true (k + 1) (transactions part)) end_
-          = subst (λ (n : ℕ). Admitted (Admits Ships) (hearing_at k rs Resumed g) (shipped rs true n (transactions part)) end_) (sym next) ends.admitted in
+    = subst (λ (n : ℕ). Admitted (Admits Ships) (hearing_at k rs Resumed g) (shipped rs true n (transactions part)) end_) (sym next) ends.admitted in
     let count : k + 1 + length (transactions part) - 1 ≡ k + length part = (let size = length-transactions part in omega (arith, size)) in
     let bye : Admitted (Admits Ships) end_ (Bye (k + 1 + length (transactions part) - 1) ∷ []) out
-          = (out, ((ends.open_, count, refl), tt, refl), refl) in
+    = (out, ((ends.open_, count, refl), tt, refl), refl) in
     let sent = admitted_more (hearing_at k rs Unbegun g) (hearing_at k rs Resumed g) end_ (Resume (k + 1) ∷ []) (shipped rs true (k + 1) (transactions part)) resume entries_ in
     let all_ = admitted_more (hearing_at k rs Unbegun g) end_ out (resumed rs (k + 1) (transactions part)) (Bye (k + 1 + length (transactions part) - 1) ∷ []) sent bye in
     (out, subst (λ (s : Hearing). Admitted (Admits Ships) s (connection rs (k + 1) (transactions part)) out) (sym begun) all_, tt)
@@ -238,7 +240,7 @@ never_bad h rs base part g at own rise few stamps room each bytes o p bad =
     let w = whole h rs base part g at own rise few stamps room in
     let n = h.length + 1 + length (transactions part) - 1 in
     let ended : EndsFromPrimary Ships (starting h g) (stream (connection rs (h.length + 1) (transactions part))) (Bye n)
-          = record { frames = resumed rs (h.length + 1) (transactions part); now = w.0; come = record { are = record { whole = sym (append-nil (stream (connection rs (h.length + 1) (transactions part)))); each = each }; admitted = w.1 }; over = w.2 } in
+    = record { frames = resumed rs (h.length + 1) (transactions part); now = w.0; come = record { are = record { whole = sym (append-nil (stream (connection rs (h.length + 1) (transactions part)))); each = each }; admitted = w.1 }; over = w.2 } in
     let still = stays_bad (Admits Ships) (admits_one Ships) IsHeardOut (admits_out Ships) (starting h g) bytes p.0 false o bad in
     bad_or_ended (Admits Ships) (admits_one Ships) IsHeardOut (admits_out Ships) (starting h g) (stream (connection rs (h.length + 1) (transactions part))) false o (Bye n)
-      (subst (λ (l : List ℕ). IsBadFromPrimary Ships (starting h g) l false o) (sym p.1) still) ended
+    (subst (λ (l : List ℕ). IsBadFromPrimary Ships (starting h g) l false o) (sym p.1) still) ended

@@ -32,17 +32,17 @@ some_or_none n = grind arith
 
 pub covered_now : (c m : Copy) (x : Arrival) → IsArrival x → x.number ≡ next_of c → m ≡ told c x.reign → (1 ≤ length m.sequence → Covered m) → Covered m
 covered_now c m x form next is has = elim (some_or_none (length c.sequence)) [
-    | inl none ↦ (
-        let one : x.number ≡ 1 = omega (arith, next, none) in
-        let first = form.first one in
-        let r = first.0 in
-        let now : m ≡ adopted c r = is ∙ ap (told c) first.1 in
-        subst (λ (y : Copy). Covered y) (sym now) (covered_first c r (first.2 ∙ next)))
-    | inr some ↦ has (
-        let same : next_of m ≡ next_of c = ap next_of is ∙ told_next c x.reign in
-        let more : length m.sequence + 1 ≡ length c.sequence + 1 = same in
-        omega (arith, some, more))
-  ]
+  | inl none ↦ (
+      let one : x.number ≡ 1 = omega (arith, next, none) in
+      let first = form.first one in
+      let r = first.0 in
+      let now : m ≡ adopted c r = is ∙ ap (told c) first.1 in
+      subst (λ (y : Copy). Covered y) (sym now) (covered_first c r (first.2 ∙ next)))
+  | inr some ↦ has (
+      let same : next_of m ≡ next_of c = ap next_of is ∙ told_next c x.reign in
+      let more : length m.sequence + 1 ≡ length c.sequence + 1 = same in
+      omega (arith, some, more))
+]
 
 pub after_of : (a : Applied) (x : Arrival) (before after : List Arrival) (c now : Copy) → after ≡ before ++ x ∷ [] → Did a x c now → After a before after c now
 after_of (One n) x before after c now is did = (x, is, did)

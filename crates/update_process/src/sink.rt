@@ -45,7 +45,11 @@ pub trait EntrySink {
         ensures err { OnErr result (copy self.new ≡ copy self.old) };
 
     /// Applies the next entry, and appends the remembered reign right before it. The entry isn't hardened.
-    fn apply(&mut self, number: u64, transaction: &Transaction) -> Result<(), ApplyError<Self::Error>>
+    fn apply(
+        &mut self,
+        number: u64,
+        transaction: &Transaction,
+    ) -> Result<(), ApplyError<Self::Error>>
         requires going { IsTrue (going self.old) }
         requires next { number ≡ next_of (copy self.old) }
         requires limit { number < 2 ^ 40 }

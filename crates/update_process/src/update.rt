@@ -65,10 +65,7 @@ fn adopt<S: EntrySink>(site: &mut S, reign: &Option<Reign>) -> Result<bool, Upda
 }
 
 // Applies the next entry and hardens it.
-fn enter<S: EntrySink>(
-    site: &mut S,
-    arrived: &Arrived,
-) -> Result<Applied, UpdateError<S::Error>>
+fn enter<S: EntrySink>(site: &mut S, arrived: &Arrived) -> Result<Applied, UpdateError<S::Error>>
     requires going { IsTrue (S.going site.old) }
     requires form { IsArrival (arrival_value arrived.now) }
     requires next { arrived.now.number ≡ next_of (S.copy site.old) }
@@ -90,10 +87,7 @@ fn enter<S: EntrySink>(
 
 // Follows an entry that came.
 #[tactic(auto, using(crate::proofs::Covered::covered_now, crate::proofs::Covered::told_next))]
-fn follow<S: EntrySink>(
-    site: &mut S,
-    arrived: &Arrived,
-) -> Result<Applied, UpdateError<S::Error>>
+fn follow<S: EntrySink>(site: &mut S, arrived: &Arrived) -> Result<Applied, UpdateError<S::Error>>
     requires going { IsTrue (S.going site.old) }
     requires form { IsArrival (arrival_value arrived.now) }
     ensures after { IfOk result (λ a. Did a (arrival_value arrived.now) (S.copy site.old) (S.copy site.new)) }
