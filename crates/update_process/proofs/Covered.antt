@@ -1,15 +1,19 @@
 -- A site that takes its next entry has a reign for it.
-use Rattle.std.proofs.Common.{◌≡◌, ◌⊎◌, inl, inr, ℕ, ◌+◌, ◌<◌, ◌≤◌, ◌==◌, Bool, true, false, List, [], ◌∷◌, ◌++◌, length, Option, Some, None, refl, sym, ap, subst, ◌∙◌, arith, if◌then◌else◌}
+use Rattle.std.proofs.Common.{◌≡◌, ◌⊎◌, inl, inr, ℕ, ◌+◌, ◌<◌, ◌≤◌, ◌==◌, nat_le, Bool, true, false, List, [], ◌∷◌, ◌++◌, length, Option, Some, None, refl, sym, ap, subst, ◌∙◌, arith, if◌then◌else◌}
 use Rattle.std.specs.Prelude.{option_to_list}
 use Rattle.std.proofs.lemmas.Bool.Decides.{nat_tests}
 use Rattle.global_defs.specs.Entry.{Stamp, Reign, Globals}
 use Rattle.global_defs.specs.Prefix.{stamp_at}
-use Rattle.resync_core.proofs.BegunReigns.{stamp-push}
+use Rattle.std.specs.Option.{option_or}
 use Rattle.ship_defs.specs.Arrivals.{Arrival, IsArrival}
 use Rattle.update_process.specs.Copies.{Copy, next_of, adopted, told, reigns_next}
 use Rattle.update_process.specs.Updates.{Did, After}
 use Rattle.update_process.specs.declared.update.Applied.{Applied}
 use Rattle.update_process.specs.declared.update.Applied.TheVariants.{One, Skipped, Astray, Nothing}
+
+stamp-push : (n : ℕ) (rs : List Reign) (r : Reign) → r.start ≤ n → stamp_at n (rs ++ r ∷ []) ≡ Some r.stamp
+stamp-push n [] r low = let is : nat_le r.start n ≡ true = grind (arith, nat_tests) in rw is refl
+stamp-push n (q ∷ rs) r low = ap (λ (o : Option Stamp). option_or o (if nat_le q.start n then Some q.stamp else None)) (stamp-push n rs r low)
 
 pub told_next : (c : Copy) (reign : Option Reign) → next_of (told c reign) ≡ next_of c
 told_next c None = refl
