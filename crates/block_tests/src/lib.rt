@@ -1,4 +1,4 @@
-//! Worked blocks, and leaves beside globals in a tree.
+//! Worked blocks, pools written out while the disk fails, and leaves beside globals in a tree.
 #![tactic(auto)]
 
 #[cfg(test)]
@@ -7,3 +7,5 @@ mod cells;
 mod formats;
 #[cfg(test)]
 mod leaves;
+#[cfg(test)]
+mod pools;

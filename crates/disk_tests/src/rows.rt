@@ -1,33 +1,48 @@
-// Tables of bytes. Bars stand between the fields of a row.
+// Tables of bytes, and what a row has to be.
 use std::alloc::Global;
-use std::test::Fail;
+use std::process::Abort;
 
-/// What stands before the first such byte, and what stands behind it.
-fn cut_at(text: &[u8], end: u8) -> Option<(&[u8], &[u8])> {
+/// What stands before the first such byte, and what stands behind it. All stands before one that isn't there.
+pub fn cut_at(text: &[u8], end: u8) -> (&[u8], &[u8]) {
     for (i, byte) in text.iter().enumerate() {
         if *byte == end {
-            return Some((&text[..i], &text[i + 1..]));
+            return (&text[..i], &text[i + 1..]);
         }
     }
-    None
-}
-
-/// The rows of a table, between which such a byte stands.
-pub fn rows(alloc: Global, table: &[u8], end: u8) -> Result<Vec<&[u8]>, Fail> {
-    let mut rows = Vec::new(alloc);
-    let mut left = table;
-    for _ in 0..table.len() {
-        let Some((row, rest)) = cut_at(left, end) else {
-            break;
-        };
-        rows.push(row)?;
-        left = rest;
-    }
-    rows.push(left)?;
-    Ok(rows)
+    (text, &[])
 }
 
 /// What stands before the first bar of a row, and what stands behind it.
-pub fn cut(row: &[u8]) -> Result<(&[u8], &[u8]), Fail> {
-    Ok(cut_at(row, b'|').ok_or("no bar")?)
+pub fn cut(row: &[u8]) -> (&[u8], &[u8]) {
+    cut_at(row, b'|')
+}
+
+/// The rows of a table, each with such a byte behind it.
+pub fn rows<'a>(rt: &impl Abort, alloc: Global, table: &'a [u8], end: u8) -> Vec<&'a [u8]> {
+    let mut rows = Vec::new(alloc);
+    let mut left = table;
+    for _ in 0..table.len() {
+        if left.is_empty() {
+            break;
+        }
+        let (row, rest) = cut_at(left, end);
+        rows.push(row).expect(rt, "memory");
+        left = rest;
+    }
+    rows
+}
+
+/// The lines of a table.
+pub fn lines<'a>(rt: &impl Abort, alloc: Global, table: &'a [u8]) -> Vec<&'a [u8]> {
+    rows(rt, alloc, table, b'\n')
+}
+
+/// These bytes are what was wanted.
+pub fn same(rt: &impl Abort, told: &[u8], want: &[u8]) {
+    assert_eq!(rt; told, want);
+}
+
+/// A fact holds of a row.
+pub fn holds(rt: &impl Abort, fact: bool, row: &[u8]) {
+    assert!(rt; fact, "{row:?}");
 }

@@ -1,6 +1,5 @@
 // Jobs of every statement, and the nodes that they leave.
 use super::ran::{prints, prints_last};
-use std::test::Fail;
 
 const COLLATION: &str = "\
 CREATE A R
@@ -30,8 +29,8 @@ A DOWN 7
 
 /// Numbers collate by value before strings, strings by their bytes.
 #[test]
-fn collation(rt: HostRuntime) -> Result<(), Fail> {
-    prints_last(&rt, rt.alloc(), COLLATION)
+fn collation(rt: HostRuntime) {
+    prints_last(&rt, rt.alloc(), COLLATION);
 }
 
 const LONG_NUMERALS: &str = "\
@@ -52,8 +51,8 @@ A AT 3
 
 /// A numeral of more than 18 digits is a string, and stands in quotes.
 #[test]
-fn long_numerals(rt: HostRuntime) -> Result<(), Fail> {
-    prints_last(&rt, rt.alloc(), LONG_NUMERALS)
+fn long_numerals(rt: HostRuntime) {
+    prints_last(&rt, rt.alloc(), LONG_NUMERALS);
 }
 
 const TEXT_OF_MIXED_BYTES: &str = "\
@@ -69,8 +68,8 @@ A AT 1
 ";
 
 #[test]
-fn text_of_mixed_bytes(rt: HostRuntime) -> Result<(), Fail> {
-    prints_last(&rt, rt.alloc(), TEXT_OF_MIXED_BYTES)
+fn text_of_mixed_bytes(rt: HostRuntime) {
+    prints_last(&rt, rt.alloc(), TEXT_OF_MIXED_BYTES);
 }
 
 const KILL_AND_DATA: &str = "\
@@ -105,8 +104,8 @@ A AT 6
 ";
 
 #[test]
-fn kill_and_data(rt: HostRuntime) -> Result<(), Fail> {
-    prints(&rt, rt.alloc(), KILL_AND_DATA)
+fn kill_and_data(rt: HostRuntime) {
+    prints(&rt, rt.alloc(), KILL_AND_DATA);
 }
 
 const ARITHMETIC: &str = "\
@@ -137,8 +136,8 @@ A AT 3
 ";
 
 #[test]
-fn arithmetic(rt: HostRuntime) -> Result<(), Fail> {
-    prints(&rt, rt.alloc(), ARITHMETIC)
+fn arithmetic(rt: HostRuntime) {
+    prints(&rt, rt.alloc(), ARITHMETIC);
 }
 
 const TRANSACTIONS_OF_TWO_UPDATERS: &str = "\
@@ -174,8 +173,8 @@ SET\\2\\A.1\\1.1\\^C=\"11\"
 
 /// Updaters' transactions stand among one another; jobs are decided in the order of their first lines.
 #[test]
-fn transactions_of_two_updaters(rt: HostRuntime) -> Result<(), Fail> {
-    prints(&rt, rt.alloc(), TRANSACTIONS_OF_TWO_UPDATERS)
+fn transactions_of_two_updaters(rt: HostRuntime) {
+    prints(&rt, rt.alloc(), TRANSACTIONS_OF_TWO_UPDATERS);
 }
 
 const A_TRANSFER_AND_A_CRASH: &str = "\
@@ -222,8 +221,8 @@ KILL\\4\\A.2\\1.2\\^ACCT(2)
 
 /// A failed check rolls a whole transaction back, and nodes and serials stand after a crash.
 #[test]
-fn a_transfer_and_a_crash(rt: HostRuntime) -> Result<(), Fail> {
-    prints(&rt, rt.alloc(), A_TRANSFER_AND_A_CRASH)
+fn a_transfer_and_a_crash(rt: HostRuntime) {
+    prints(&rt, rt.alloc(), A_TRANSFER_AND_A_CRASH);
 }
 
 const PARTS_OF_THE_GLOBALS: &str = "\
@@ -253,6 +252,6 @@ A AT 4
 
 /// A node and those below it, and a level's subscripts one after another.
 #[test]
-fn parts_of_the_globals(rt: HostRuntime) -> Result<(), Fail> {
-    prints_last(&rt, rt.alloc(), PARTS_OF_THE_GLOBALS)
+fn parts_of_the_globals(rt: HostRuntime) {
+    prints_last(&rt, rt.alloc(), PARTS_OF_THE_GLOBALS);
 }

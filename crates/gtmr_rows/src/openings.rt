@@ -2,7 +2,6 @@
 use super::ran::{prints, ran_well};
 use std::alloc::Global;
 use std::process::Abort;
-use std::test::Fail;
 
 const STATES_AND_REIGNS_ARE_SHOWN: &str = "\
 SHOW A
@@ -42,8 +41,8 @@ A STATE FAILED 1
 ";
 
 #[test]
-fn states_and_reigns_are_shown(rt: HostRuntime) -> Result<(), Fail> {
-    prints(&rt, rt.alloc(), STATES_AND_REIGNS_ARE_SHOWN)
+fn states_and_reigns_are_shown(rt: HostRuntime) {
+    prints(&rt, rt.alloc(), STATES_AND_REIGNS_ARE_SHOWN);
 }
 
 const FIRST_LINES: &str =
@@ -55,48 +54,61 @@ const FIRST_PRINTS: &str =
 const LAST_PRINTS: &str =
     "GTMRJEX01\\A\\1\nSET\\1\\A.1\\1.1\\^X(1)=\"1\"\nSET\\2\\A.1\\1.2\\^X(2)=\"2\"\n";
 
-/// A start fails the disk call behind so many, if it makes as many, a crash takes the image of that pick, and the site is started again.
-/// It answers whether the first start failed. Both entries stand, and no cycle is given twice.
-fn start_fails(rt: &impl Abort, alloc: Global, calls: u32, pick: u32) -> Result<bool, Fail> {
-    let script = format!(in alloc;
-        "{FIRST_LINES}FUSE A {calls}\nSTART A PRIMARY\nCRASH A {pick}\nSTART A PRIMARY\nEXTRACT A\n"
-    )?;
-    let (_, out) = ran_well(alloc, script.as_bytes())?;
-    let failed = format!(in alloc; "{FIRST_PRINTS}A FUSED {calls}\nA DISKFAULT 1\nA CRASHED\n")?;
-    let begun = format!(in alloc;
-        "{FIRST_PRINTS}A FUSED {calls}\nA PRIMARY 2 FROM 3\nA CRASHED\nA PRIMARY 3 FROM 3\n{LAST_PRINTS}"
-    )?;
-    if !out.starts_with(failed.as_bytes()) {
-        assert_eq!(rt; out.as_slice(), begun.as_bytes(), "at {calls} {pick}");
-        return Ok(false);
-    }
-    let rest = &out[failed.len()..];
-    let second = format!(in alloc; "A PRIMARY 2 FROM 3\n{LAST_PRINTS}")?;
-    let third = format!(in alloc; "A PRIMARY 3 FROM 3\n{LAST_PRINTS}")?;
+const SECOND_REIGN: &str = "A PRIMARY 2 FROM 3\n";
+
+const THIRD_REIGN: &str = "A PRIMARY 3 FROM 3\n";
+
+/// The start behind the crash of one that failed printed this: its reign is the second or the third, and both entries stand.
+fn has_begun_again(rt: &impl Abort, printed: &[u8], calls: u32, pick: u32) {
+    let second = printed.strip_prefix(SECOND_REIGN.as_bytes());
+    let third = printed.strip_prefix(THIRD_REIGN.as_bytes());
+    let entries = second.or(third);
     assert!(rt;
-        rest == second.as_bytes() || rest == third.as_bytes(),
+        entries == Some(LAST_PRINTS.as_bytes()),
         "at {calls} {pick}"
     );
-    Ok(true)
+}
+
+/// A start fails the disk call behind so many, if it makes as many, a crash takes the image of that pick, and the site is started again.
+/// It answers whether the first start failed. Both entries stand, and no cycle is given twice.
+fn start_fails(rt: &impl Abort, alloc: Global, calls: u32, pick: u32) -> bool {
+    let script = format!(in alloc;
+        "{FIRST_LINES}FUSE A {calls}\nSTART A PRIMARY\nCRASH A {pick}\nSTART A PRIMARY\nEXTRACT A\n"
+    );
+    let script = script.expect(rt, "memory");
+    let (_, out) = ran_well(rt, alloc, script.as_bytes());
+    let failed = format!(in alloc; "{FIRST_PRINTS}A FUSED {calls}\nA DISKFAULT 1\nA CRASHED\n");
+    let failed = failed.expect(rt, "memory");
+    match out.strip_prefix(failed.as_bytes()) {
+        Some(rest) => {
+            has_begun_again(rt, rest, calls, pick);
+            true
+        }
+        None => {
+            let begun = format!(in alloc;
+                "{FIRST_PRINTS}A FUSED {calls}\nA PRIMARY 2 FROM 3\nA CRASHED\n{THIRD_REIGN}{LAST_PRINTS}"
+            );
+            let begun = begun.expect(rt, "memory");
+            assert_eq!(rt; out.as_slice(), begun.as_bytes(), "at {calls} {pick}");
+            false
+        }
+    }
 }
 
 /// Fails each disk call of a start in turn, up to the first start that makes fewer.
-fn each_call_fails(rt: &impl Abort, alloc: Global, pick: u32) -> Result<(), Fail> {
+fn each_call_fails(rt: &impl Abort, alloc: Global, pick: u32) {
     for calls in 0..1000 {
-        if !start_fails(rt, alloc, calls, pick)? {
+        if !start_fails(rt, alloc, calls, pick) {
             assert!(rt; 5 < calls);
-            return Ok(());
+            return;
         }
     }
     assert!(rt; false, "each start fails");
-    Ok(())
 }
 
 #[test]
-fn a_start_that_fails_at_each_call(rt: HostRuntime) -> Result<(), Fail> {
-    let alloc = rt.alloc();
+fn a_start_that_fails_at_each_call(rt: HostRuntime) {
     for pick in [0, 1, 2, 4] {
-        each_call_fails(&rt, alloc, pick)?;
+        each_call_fails(&rt, rt.alloc(), pick);
     }
-    Ok(())
 }

@@ -1,9 +1,8 @@
 // Sites of several regions: patterns, transactions over regions, and the files of what was broken.
-use super::ran::{disks, prints, ran_on, ran_well};
+use super::ran::{disks, prints, ran_on, ran_well, same};
 use repl_disk::{Disk, MemDisk};
 use std::alloc::Global;
 use std::process::Abort;
-use std::test::Fail;
 
 const REFUSALS_OF_MAP_AND_TYPE: &str = "\
 MAP A R X*
@@ -41,8 +40,8 @@ A NOFILE
 
 /// MAP and TYPE answer the first cause in its order.
 #[test]
-fn refusals_of_map_and_type(rt: HostRuntime) -> Result<(), Fail> {
-    prints(&rt, rt.alloc(), REFUSALS_OF_MAP_AND_TYPE)
+fn refusals_of_map_and_type(rt: HostRuntime) {
+    prints(&rt, rt.alloc(), REFUSALS_OF_MAP_AND_TYPE);
 }
 
 const FAULTS_OF_MAP_AND_TYPE: &str = "\
@@ -75,48 +74,45 @@ A NOFILE
 
 /// After a fault a site takes neither MAP nor TYPE until a crash.
 #[test]
-fn faults_of_map_and_type(rt: HostRuntime) -> Result<(), Fail> {
-    prints(&rt, rt.alloc(), FAULTS_OF_MAP_AND_TYPE)
+fn faults_of_map_and_type(rt: HostRuntime) {
+    prints(&rt, rt.alloc(), FAULTS_OF_MAP_AND_TYPE);
 }
 
 /// The number of the region whose journal of generation 1 is the longest, of eight.
-fn longest_journal(disk: &mut MemDisk) -> Result<u32, Fail> {
+fn longest_journal(rt: &impl Abort, disk: &mut MemDisk) -> u32 {
     let mut longest = 0;
     let mut region = 0;
     for r in 0..8u32 {
-        let length = disk.len(24 + r)?;
+        let length = disk.len(24 + r).expect(rt, "a length");
         if longest < length {
             longest = length;
             region = r;
         }
     }
-    Ok(region)
+    region
 }
 
-/// The number of the region that takes the updates of a global. Of the patterns A and A* the site has both orders, AB* the last.
-fn region_of(alloc: Global, name: &str) -> Result<u32, Fail> {
-    let mut disks = disks(alloc)?;
+/// The region of that number takes the updates of a global. Of the patterns A and A* the site has both orders, AB* the last.
+fn is_in(rt: &impl Abort, alloc: Global, name: &str, region: u32) {
     let script = format!(in alloc;
         "CREATE A R0 R1 R2 R3 R4\nMAP A R1 A*\nMAP A R2 A\nMAP A R3 ABC\nMAP A R4 AB*\nSTART A PRIMARY\nRUN A\n1 SET ^{name}=1\nEND\n"
-    )?;
-    ran_on(alloc, &mut disks, script.as_bytes())?;
-    match disks.first_mut() {
-        Some(disk) => longest_journal(disk),
-        None => Ok(8),
-    }
+    );
+    let script = script.expect(rt, "memory");
+    let mut disks = disks(rt, alloc);
+    ran_on(rt, alloc, &mut disks, script.as_bytes());
+    let disk = disks.first_mut().expect(rt, "a disk");
+    assert_eq!(rt; longest_journal(rt, disk), region, "{name}");
 }
 
 /// An exact name wins over each prefix, a longer prefix over a shorter one, and the first region takes the rest.
 #[test]
-fn patterns_that_overlap(rt: HostRuntime) -> Result<(), Fail> {
-    let alloc = rt.alloc();
-    assert_eq!(rt; region_of(alloc, "X")?, 0);
-    assert_eq!(rt; region_of(alloc, "AX")?, 1);
-    assert_eq!(rt; region_of(alloc, "A")?, 2);
-    assert_eq!(rt; region_of(alloc, "ABC")?, 3);
-    assert_eq!(rt; region_of(alloc, "AB")?, 4);
-    assert_eq!(rt; region_of(alloc, "ABCD")?, 4);
-    Ok(())
+fn patterns_that_overlap(rt: HostRuntime) {
+    is_in(&rt, rt.alloc(), "X", 0);
+    is_in(&rt, rt.alloc(), "AX", 1);
+    is_in(&rt, rt.alloc(), "A", 2);
+    is_in(&rt, rt.alloc(), "ABC", 3);
+    is_in(&rt, rt.alloc(), "AB", 4);
+    is_in(&rt, rt.alloc(), "ABCD", 4);
 }
 
 /// A site, a section of one job, and the command that shows what a crash left of it.
@@ -130,59 +126,65 @@ struct Row {
     last: &'static str,
 }
 
-/// Fails the disk call behind so many of a row's section, if it makes as many, crashes with that pick, starts anew and shows what
-/// is left. It answers whether the call failed, and the output behind the crash.
-fn crashed(
-    rt: &impl Abort,
-    alloc: Global,
-    row: &Row,
-    calls: u32,
-    pick: u32,
-) -> Result<(bool, Vec<u8>), Fail> {
+/// The output of a row's section where the disk call behind so many fails, if it makes as many, with a crash of that pick behind it, a
+/// start anew and what shows what is left.
+fn printed(rt: &impl Abort, alloc: Global, row: &Row, calls: u32, pick: u32) -> Vec<u8> {
     let first = row.first;
-    let begun = row.begun;
     let section = row.section;
     let last = row.last;
     let script = format!(in alloc;
         "{first}FUSE A {calls}\n{section}CRASH A {pick}\nSTART A PRIMARY\n{last}\n"
-    )?;
-    let (_, out) = ran_well(alloc, script.as_bytes())?;
-    let failed = format!(in alloc;
-        "{begun}A FUSED {calls}\nA DISKFAULT 1 UNDECIDED 1\nA CRASHED\n"
-    )?;
-    if out.starts_with(failed.as_bytes()) {
-        return Ok((true, out[failed.len()..].to_vec(alloc)?));
+    );
+    let script = script.expect(rt, "memory");
+    let (_, out) = ran_well(rt, alloc, script.as_bytes());
+    out
+}
+
+/// What a row's section prints up to the crash where a call failed, and where none did.
+fn begins(rt: &impl Abort, alloc: Global, row: &Row, calls: u32, failed: bool) -> String {
+    let begun = row.begun;
+    let done = if failed {
+        "A DISKFAULT 1 UNDECIDED 1\n"
+    } else {
+        "1.1 SEQ 1\nA AT 1\n"
+    };
+    let text = format!(in alloc; "{begun}A FUSED {calls}\n{done}A CRASHED\n");
+    text.expect(rt, "memory")
+}
+
+/// The output behind this text, if it begins with it.
+fn behind(rt: &impl Abort, alloc: Global, out: &[u8], text: &str) -> Option<Vec<u8>> {
+    let rest = out.strip_prefix(text.as_bytes())?;
+    Some(rest.to_vec(alloc).expect(rt, "memory"))
+}
+
+/// Fails the disk call behind so many of a row's section, if it makes as many, crashes with that pick, starts anew and shows what
+/// is left. It answers whether the call failed, and the output behind the crash.
+fn crashed(rt: &impl Abort, alloc: Global, row: &Row, calls: u32, pick: u32) -> (bool, Vec<u8>) {
+    let out = printed(rt, alloc, row, calls, pick);
+    let failed = begins(rt, alloc, row, calls, true);
+    if let Some(left) = behind(rt, alloc, out.as_slice(), failed.as_str()) {
+        return (true, left);
     }
-    let whole = format!(in alloc; "{begun}A FUSED {calls}\n1.1 SEQ 1\nA AT 1\nA CRASHED\n")?;
-    if out.starts_with(whole.as_bytes()) {
-        return Ok((false, out[whole.len()..].to_vec(alloc)?));
-    }
-    assert!(rt; false, "at {calls} {pick}");
-    Ok((false, out))
+    let whole = begins(rt, alloc, row, calls, false);
+    let left = behind(rt, alloc, out.as_slice(), whole.as_str());
+    (false, left.expect(rt, "no other output"))
 }
 
 /// Fails each disk call of a row's section in turn, up to the first run without a fault: all of its transaction is left, or nothing
 /// of it, and all where its number was printed.
-fn whole_or_none(
-    rt: &impl Abort,
-    alloc: Global,
-    row: &Row,
-    none: &[u8],
-    all: &[u8],
-    pick: u32,
-) -> Result<(), Fail> {
+fn whole_or_none(rt: &impl Abort, alloc: Global, row: &Row, none: &[u8], all: &[u8], pick: u32) {
     for calls in 0..1000 {
-        let (failed, left) = crashed(rt, alloc, row, calls, pick)?;
+        let (failed, left) = crashed(rt, alloc, row, calls, pick);
         let left = left.as_slice();
         if !failed {
             assert_eq!(rt; left, all, "at {calls} {pick}");
             assert!(rt; 5 < calls);
-            return Ok(());
+            return;
         }
         assert!(rt; left == none || left == all, "at {calls} {pick}");
     }
     assert!(rt; false, "each run has a fault");
-    Ok(())
 }
 
 const TWO_REGIONS: &str = "CREATE A ACCT HIST\nMAP A HIST H*\nSTART A PRIMARY\n";
@@ -193,7 +195,7 @@ const TWO_SETS: &str = "RUN A\n1 TSTART\n1 SET ^ACCT(1)=5\n1 SET ^HIST(1)=\"in\"
 
 /// A transaction over two regions stands whole or not at all.
 #[test]
-fn two_regions_crash(rt: HostRuntime) -> Result<(), Fail> {
+fn two_regions_crash(rt: HostRuntime) {
     let alloc = rt.alloc();
     let row = Row {
         first: TWO_REGIONS,
@@ -209,9 +211,8 @@ fn two_regions_crash(rt: HostRuntime) -> Result<(), Fail> {
             b"A PRIMARY 2 FROM 1\n",
             b"A PRIMARY 2 FROM 2\n^ACCT(1)=\"5\"\n^HIST(1)=\"in\"\n",
             pick,
-        )?;
+        );
     }
-    Ok(())
 }
 
 /// What TYPE shows of the transaction that is broken, in one region or in the other.
@@ -222,14 +223,14 @@ const BROKEN_IN_HIST: &[u8] =
     b"A PRIMARY 2 FROM 1\nGTMRBRK01\\A\\1\nSET\\1\\HIST\\1.1\\^HIST(1)=\"in\"\n";
 
 /// How many runs leave a part of the transaction in one region alone, of those in which each disk call of the section fails in turn.
-fn broken_runs(rt: &impl Abort, alloc: Global, row: &Row, pick: u32) -> Result<u32, Fail> {
+fn broken_runs(rt: &impl Abort, alloc: Global, row: &Row, pick: u32) -> u32 {
     let mut broken = 0u32;
     for calls in 0..1000 {
-        let (failed, left) = crashed(rt, alloc, row, calls, pick)?;
+        let (failed, left) = crashed(rt, alloc, row, calls, pick);
         let left = left.as_slice();
         if !failed {
-            assert_eq!(rt; left, b"A PRIMARY 2 FROM 2\nA NOFILE\n".as_slice());
-            return Ok(broken);
+            same(rt, left, b"A PRIMARY 2 FROM 2\nA NOFILE\n");
+            return broken;
         }
         if left == BROKEN_IN_ACCT || left == BROKEN_IN_HIST {
             broken = broken.saturating_add(1);
@@ -242,12 +243,12 @@ fn broken_runs(rt: &impl Abort, alloc: Global, row: &Row, pick: u32) -> Result<u
         }
     }
     assert!(rt; false, "each run has a fault");
-    Ok(broken)
+    broken
 }
 
 /// A file of broken transactions has its header and the lines of one region, in at least one run where a crash keeps what was written.
 #[test]
-fn two_regions_crash_broken(rt: HostRuntime) -> Result<(), Fail> {
+fn two_regions_crash_broken(rt: HostRuntime) {
     let alloc = rt.alloc();
     let row = Row {
         first: TWO_REGIONS,
@@ -256,10 +257,9 @@ fn two_regions_crash_broken(rt: HostRuntime) -> Result<(), Fail> {
         last: "TYPE A BROKEN 2",
     };
     for pick in [0, 2, 4] {
-        broken_runs(&rt, alloc, &row, pick)?;
+        broken_runs(&rt, alloc, &row, pick);
     }
-    assert!(rt; 0 < broken_runs(&rt, alloc, &row, 1)?);
-    Ok(())
+    assert!(rt; 0 < broken_runs(&rt, alloc, &row, 1));
 }
 
 const EIGHT_REGIONS: &str =
@@ -273,7 +273,7 @@ const EIGHT_SETS: &str =
 
 /// So does one over eight regions.
 #[test]
-fn eight_regions_crash(rt: HostRuntime) -> Result<(), Fail> {
+fn eight_regions_crash(rt: HostRuntime) {
     let alloc = rt.alloc();
     let row = Row {
         first: EIGHT_REGIONS,
@@ -289,7 +289,6 @@ fn eight_regions_crash(rt: HostRuntime) -> Result<(), Fail> {
             b"A PRIMARY 2 FROM 1\n",
             b"A PRIMARY 2 FROM 2\n^A=\"1\"\n^B=\"2\"\n^C=\"3\"\n^D=\"4\"\n^E=\"5\"\n^F=\"6\"\n^G=\"7\"\n^H=\"8\"\n",
             pick,
-        )?;
+        );
     }
-    Ok(())
 }

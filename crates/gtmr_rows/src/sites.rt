@@ -1,24 +1,23 @@
 // Sites and their states, and the words of a command line.
-use super::ran::{FIRST_SET, FIRST_SET_PRINTS, ends, prints, prints_last, ran};
+use super::ran::{FIRST_SET, FIRST_SET_PRINTS, ended, ends, prints, prints_last, ran, same};
 use site_runner::Status;
 use std::alloc::Global;
 use std::process::Abort;
-use std::test::Fail;
 
 #[test]
-fn empty_script(rt: HostRuntime) -> Result<(), Fail> {
-    ends(&rt, rt.alloc(), b"", Status::Ok, b"")
+fn empty_script(rt: HostRuntime) {
+    ends(&rt, rt.alloc(), b"", Status::Ok, b"");
 }
 
 #[test]
-fn first_set(rt: HostRuntime) -> Result<(), Fail> {
-    ends(&rt, rt.alloc(), FIRST_SET, Status::Ok, FIRST_SET_PRINTS)
+fn first_set(rt: HostRuntime) {
+    ends(&rt, rt.alloc(), FIRST_SET, Status::Ok, FIRST_SET_PRINTS);
 }
 
 #[test]
-fn first_set_without_its_last_line_feed(rt: HostRuntime) -> Result<(), Fail> {
+fn first_set_without_its_last_line_feed(rt: HostRuntime) {
     let script = &FIRST_SET[..FIRST_SET.len() - 1];
-    ends(&rt, rt.alloc(), script, Status::Ok, FIRST_SET_PRINTS)
+    ends(&rt, rt.alloc(), script, Status::Ok, FIRST_SET_PRINTS);
 }
 
 const REFUSALS: &str = "\
@@ -43,8 +42,8 @@ A DOWN 0
 ";
 
 #[test]
-fn refusals(rt: HostRuntime) -> Result<(), Fail> {
-    prints(&rt, rt.alloc(), REFUSALS)
+fn refusals(rt: HostRuntime) {
+    prints(&rt, rt.alloc(), REFUSALS);
 }
 
 const TWO_SITES: &str = "\
@@ -75,8 +74,8 @@ GTMRJEX01\\Bank2\\2
 
 /// Sites have any names of the form, and each a disk of its own.
 #[test]
-fn two_sites(rt: HostRuntime) -> Result<(), Fail> {
-    prints(&rt, rt.alloc(), TWO_SITES)
+fn two_sites(rt: HostRuntime) {
+    prints(&rt, rt.alloc(), TWO_SITES);
 }
 
 const A_NINTH_SITE: &str = "\
@@ -95,20 +94,19 @@ I NODISK
 ";
 
 #[test]
-fn a_ninth_site(rt: HostRuntime) -> Result<(), Fail> {
-    prints_last(&rt, rt.alloc(), A_NINTH_SITE)
+fn a_ninth_site(rt: HostRuntime) {
+    prints_last(&rt, rt.alloc(), A_NINTH_SITE);
 }
 
-fn are_bad(rt: &impl Abort, alloc: Global, words: &str) -> Result<(), Fail> {
-    let (status, out) = ran(alloc, words, FIRST_SET.to_vec(alloc)?, &[], &[], 4096)?;
-    assert_eq!(rt; status, Status::BadWords, "{words}");
-    assert_eq!(rt; out.len(), 0);
-    Ok(())
+fn are_bad(rt: &impl Abort, alloc: Global, words: &str) {
+    let (status, out) = ran(rt, alloc, words, FIRST_SET, &[], &[], 4096);
+    ended(rt, status, Status::BadWords);
+    same(rt, out.as_slice(), b"");
 }
 
 #[test]
-fn words_that_are_no_command_line(rt: HostRuntime) -> Result<(), Fail> {
-    are_bad(&rt, rt.alloc(), "run --pool 8")?;
-    are_bad(&rt, rt.alloc(), "run run")?;
-    are_bad(&rt, rt.alloc(), "")
+fn words_that_are_no_command_line(rt: HostRuntime) {
+    are_bad(&rt, rt.alloc(), "run --pool 8");
+    are_bad(&rt, rt.alloc(), "run run");
+    are_bad(&rt, rt.alloc(), "");
 }

@@ -1,11 +1,11 @@
 // Overlapping patterns, eight regions, and each error.
+use crate::rows::{cut, holds, lines};
 use global_dir::{DirError, Directory};
 use std::alloc::Global;
 use std::process::Abort;
-use std::test::Fail;
 
 /// Patterns and their regions.
-const MAPPED: &str = "\
+const MAPPED: &[u8] = b"\
 A*|1
 ABC|2
 AB*|3
@@ -13,10 +13,11 @@ ABC*|4
 %*|5
 %Z|6
 A|7
-ABCD*|0";
+ABCD*|0
+";
 
 /// Names and their regions.
-const NAMES: &str = "\
+const NAMES: &[u8] = b"\
 A|7
 AA|1
 AB|3
@@ -28,10 +29,11 @@ ABCDE|0
 %Z|6
 %ZZ|5
 B|0
-a|0";
+a|0
+";
 
 /// Texts that are no patterns.
-const REFUSED: &str = "
+const REFUSED: &[u8] = b"
 *
 A**
 A*B
@@ -39,70 +41,81 @@ A*B
 A%
 A B
 A2345678901234567890123456789012
-A2345678901234567890123456789012*";
+A2345678901234567890123456789012*
+";
 
-/// A name or pattern and its region.
-fn cut(row: &str) -> Result<(&[u8], u8), Fail> {
-    let (name, region) = row.split_once('|').ok_or("no bar")?;
-    Ok((name.as_bytes(), region.parse()?))
+/// The region of a row.
+fn region(digit: &[u8]) -> u8 {
+    digit.first().copied().unwrap_or(b'9').wrapping_sub(b'0')
 }
 
-fn mapped(alloc: Global) -> Result<Directory, Fail> {
+fn mapped(rt: &impl Abort, alloc: Global) -> Directory {
     let mut directory = Directory::new(alloc, 8);
-    for row in MAPPED.split('\n') {
-        let (pattern, region) = cut(row)?;
-        directory.map(region, pattern)?;
+    for row in &lines(rt, alloc, MAPPED) {
+        let (pattern, number) = cut(row);
+        directory
+            .map(region(number), pattern)
+            .expect(rt, "a pattern");
     }
-    Ok(directory)
+    directory
 }
 
-fn all_have_their_region(rt: &impl Abort, directory: &Directory) -> Result<(), Fail> {
-    for row in NAMES.split('\n') {
-        let (name, region) = cut(row)?;
-        assert_eq!(rt; directory.region_of(name), region, "{row}");
+fn all_have_their_region(rt: &impl Abort, alloc: Global, directory: &Directory) {
+    for row in &lines(rt, alloc, NAMES) {
+        let (name, number) = cut(row);
+        holds(rt, directory.region_of(name) == region(number), row);
     }
-    Ok(())
 }
 
 #[test]
-fn overlapping_patterns(rt: HostRuntime) -> Result<(), Fail> {
-    let directory = mapped(rt.alloc())?;
-    let copied = directory.copy()?;
-    assert_eq!(rt; copied.regions(), 8);
-    assert_eq!(rt; copied.patterns().len(), 8);
-    all_have_their_region(&rt, &directory)?;
-    all_have_their_region(&rt, &copied)
+fn overlapping_patterns(rt: HostRuntime) {
+    let directory = mapped(&rt, rt.alloc());
+    let copied = directory.copy().expect(&rt, "memory");
+    holds(&rt, copied.regions() == 8, b"eight regions");
+    holds(&rt, copied.patterns().len() == 8, b"eight patterns");
+    all_have_their_region(&rt, rt.alloc(), &directory);
+    all_have_their_region(&rt, rt.alloc(), &copied);
 }
 
 #[test]
-fn texts_that_are_no_patterns(rt: HostRuntime) -> Result<(), Fail> {
+fn texts_that_are_no_patterns(rt: HostRuntime) {
     let mut directory = Directory::new(rt.alloc(), 2);
-    for text in REFUSED.split('\n') {
-        let error = directory.map(9, text.as_bytes()).err();
-        assert_eq!(rt; error, Some(DirError::BadPattern), "{text}");
+    for text in &lines(&rt, rt.alloc(), REFUSED) {
+        let error = directory.map(9, text).err();
+        holds(&rt, error == Some(DirError::BadPattern), text);
     }
-    Ok(())
 }
 
 #[test]
-fn refused_patterns(rt: HostRuntime) -> Result<(), Fail> {
+fn refused_patterns(rt: HostRuntime) {
     let mut directory = Directory::new(rt.alloc(), 2);
-    assert_eq!(rt; directory.map(2, b"A").err(), Some(DirError::NoRegion));
-    directory.map(1, b"A*")?;
-    assert_eq!(rt; directory.map(0, b"A*").err(), Some(DirError::TwiceMapped));
-    assert_eq!(rt; directory.map(2, b"A*").err(), Some(DirError::NoRegion));
-    Ok(())
+    holds(
+        &rt,
+        directory.map(2, b"A") == Err(DirError::NoRegion),
+        b"region 2",
+    );
+    directory.map(1, b"A*").expect(&rt, "a pattern");
+    holds(
+        &rt,
+        directory.map(0, b"A*") == Err(DirError::TwiceMapped),
+        b"A*",
+    );
+    holds(
+        &rt,
+        directory.map(2, b"A*") == Err(DirError::NoRegion),
+        b"region 2",
+    );
 }
 
 #[test]
-fn added_patterns(rt: HostRuntime) -> Result<(), Fail> {
+fn added_patterns(rt: HostRuntime) {
     let mut directory = Directory::new(rt.alloc(), 2);
-    directory.map(1, b"A*")?;
-    directory.map(0, b"A")?;
-    directory.map(1, b"A234567890123456789012345678901*")?;
-    directory.add(1, true, b"B")?;
-    assert_eq!(rt; directory.patterns().len(), 4);
-    assert_eq!(rt; directory.region_of(b"A1"), 1);
-    assert_eq!(rt; directory.region_of(b"B1"), 1);
-    Ok(())
+    directory.map(1, b"A*").expect(&rt, "a pattern");
+    directory.map(0, b"A").expect(&rt, "a pattern");
+    let long = b"A234567890123456789012345678901*";
+    directory.map(1, long).expect(&rt, "a pattern");
+    directory.add(1, true, b"B").expect(&rt, "memory");
+    holds(&rt, directory.patterns().len() == 4, b"four patterns");
+    holds(&rt, directory.region_of(b"A1") == 1, b"A1");
+    holds(&rt, directory.region_of(b"B1") == 1, b"B1");
 }

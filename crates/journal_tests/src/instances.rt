@@ -1,17 +1,17 @@
-//! Worked bytes of instance files, taken up and made, and crashes of one.
+// Worked bytes of instance files, taken up and made, and crashes of one.
 ghost use Rattle.std.specs.Prelude.{◌≡◌, [], ◌∷◌, Some, IfSome, IfOk, true};
 ghost use Rattle.disk_defs.specs.Gates.{records};
 ghost use Rattle.journal_defs.specs.Instance as defs;
 ghost use Rattle.journal_defs.specs.Numbers.{INSTANCE};
 ghost use Rattle.instance_file.specs.Instance.{IsReady};
 
+use crate::rows::{cut, holds, lines, same};
 use gvn_key::Bytes;
 use gvn_model::{Reign, Stamp};
 use instance_file::{Instance, InstanceError};
 use repl_disk::{Disk, MemDisk};
 use std::alloc::Global;
 use std::process::Abort;
-use std::test::Fail;
 
 /// CREATE of A with region R, BEFORE, behind its open gate.
 const CREATE: &[u8] = b"\x01\0\0\0\x08\x01\x01\x01A\x01\x01R\x01";
@@ -26,47 +26,64 @@ const LATER_CUT: &[u8] = b"\x01\0\0\0\x0d\x03\0\0\0\0\0\0\0\0\0\0\0\x02";
 const REIGN: &[u8] = b"\x01\0\0\0\x0f\x02\x01A\0\0\0\x01\0\0\0\0\0\0\0\x01";
 
 /// Writes these bytes at the start of the instance file.
-fn write_bytes<D: Disk>(disk: &mut D, bytes: &[u8]) -> Result<(), Fail> {
-    disk.room(0, 1, bytes.len() as u64)?;
-    disk.write_at(0, 0, bytes)?;
-    Ok(())
+fn write_bytes<D: Disk>(rt: &impl Abort, disk: &mut D, bytes: &[u8]) {
+    disk.room(0, 1, bytes.len() as u64).expect(rt, "memory");
+    disk.write_at(0, 0, bytes).expect(rt, "a write");
 }
 
-/// The file of these records and a closed gate: C is CREATE, V one of version 2, M one of mode 2, K CUT, L the later CUT and R REIGN.
-fn file_of(alloc: Global, letters: &str) -> Result<Bytes, Fail> {
-    let mut file = Bytes::new(alloc);
-    for letter in letters.as_bytes() {
-        file.push_all(match *letter {
-            b'C' => CREATE,
-            b'V' => b"\x01\0\0\0\x08\x01\x02\x01A\x01\x01R\x01",
-            b'M' => b"\x01\0\0\0\x08\x01\x01\x01A\x01\x01R\x02",
-            b'K' => CUT,
-            b'L' => LATER_CUT,
-            _ => REIGN,
-        })?;
+/// The record of a letter behind its open gate: C is CREATE, V one of version 2, M one of mode 2, K CUT, L the later CUT and R REIGN.
+fn record_of(letter: u8) -> &'static [u8] {
+    match letter {
+        b'C' => CREATE,
+        b'V' => b"\x01\0\0\0\x08\x01\x02\x01A\x01\x01R\x01",
+        b'M' => b"\x01\0\0\0\x08\x01\x01\x01A\x01\x01R\x02",
+        b'K' => CUT,
+        b'L' => LATER_CUT,
+        _ => REIGN,
     }
-    file.push(0)?;
-    Ok(file)
+}
+
+/// The file of these records and a closed gate.
+fn file_of(rt: &impl Abort, alloc: Global, letters: &[u8]) -> Bytes {
+    let mut file = Bytes::new(alloc);
+    for letter in letters {
+        file.push_all(record_of(*letter)).expect(rt, "memory");
+    }
+    file.push(0).expect(rt, "memory");
+    file
+}
+
+/// Adds how many records a site has, how many surviving reigns, and the next cycle.
+fn write_site(rt: &impl Abort, site: &Instance, text: &mut Bytes) {
+    let records = site.records().len() as u64;
+    text.push_decimal(records).expect(rt, "memory");
+    text.push(b' ').expect(rt, "memory");
+    let reigns = site.history().len() as u64;
+    text.push_decimal(reigns).expect(rt, "memory");
+    text.push(b' ').expect(rt, "memory");
+    let cycle = u64::from(site.draw_cycle().unwrap_or(0));
+    text.push_decimal(cycle).expect(rt, "memory");
 }
 
 /// What the file of these records is taken up as: how many records, how many surviving reigns and the next cycle, or the place of
 /// what is outside the format.
-fn read(alloc: Global, letters: &str) -> Result<String, Fail> {
-    let mut disk = MemDisk::new(alloc)?;
-    write_bytes(&mut disk, file_of(alloc, letters)?.as_slice())?;
+fn read(rt: &impl Abort, alloc: Global, letters: &[u8]) -> Bytes {
+    let mut disk = MemDisk::new(alloc).expect(rt, "memory");
+    write_bytes(rt, &mut disk, file_of(rt, alloc, letters).as_slice());
+    let mut text = Bytes::new(alloc);
     match Instance::attach(alloc, &mut disk) {
-        Ok(site) => {
-            let (records, reigns) = (site.records().len(), site.history().len());
-            let cycle = site.draw_cycle().unwrap_or(0);
-            Ok(format!(in alloc; "{records} {reigns} {cycle}")?)
+        Ok(site) => write_site(rt, &site, &mut text),
+        Err(InstanceError::NotARecord { offset }) => {
+            text.push_all(b"at ").expect(rt, "memory");
+            text.push_decimal(offset).expect(rt, "memory");
         }
-        Err(InstanceError::NotARecord { offset }) => Ok(format!(in alloc; "at {offset}")?),
-        Err(_) => Err("no answer")?,
+        Err(_) => text.push_all(b"no answer").expect(rt, "memory"),
     }
+    text
 }
 
 /// Records, and what their file is taken up as.
-const FILES: &str = "\
+const FILES: &[u8] = b"\
 |0 0 1
 C|1 0 1
 CKR|3 1 2
@@ -77,16 +94,15 @@ K|at 0
 CC|at 13
 CKK|at 31
 CRRKL|5 0 2
-CRR|at 33";
+CRR|at 33
+";
 
 #[test]
-fn files_taken_up(rt: HostRuntime) -> Result<(), Fail> {
-    for row in FILES.split('\n') {
-        let (letters, want) = row.split_once('|').ok_or("no bar")?;
-        let told = read(rt.alloc(), letters)?;
-        assert_eq!(rt; told.as_str(), want, "{letters}");
+fn files_taken_up(rt: HostRuntime) {
+    for row in &lines(&rt, rt.alloc(), FILES) {
+        let (letters, want) = cut(row);
+        same(&rt, read(&rt, rt.alloc(), letters).as_slice(), want);
     }
-    Ok(())
 }
 
 /// MAP of the names that begin with AB to region 0, behind its open gate.
@@ -133,44 +149,44 @@ fn write_records<D: Disk>(
 }
 
 /// Whether the instance file has the bytes of the four records and a closed gate.
-fn has_all<D: Disk>(alloc: Global, disk: &mut D) -> Result<bool, Fail> {
+fn has_all<D: Disk>(rt: &impl Abort, alloc: Global, disk: &mut D) -> bool {
     let mut file = Bytes::new(alloc);
     for piece in [CREATE, REIGN, CUT, MAP] {
-        file.push_all(piece)?;
+        file.push_all(piece).expect(rt, "memory");
     }
-    file.push(0)?;
-    if disk.len(0)? != 63 {
-        return Ok(false);
+    file.push(0).expect(rt, "memory");
+    if disk.len(0).expect(rt, "a length") != 63 {
+        return false;
     }
     let mut read = [0; 63];
-    disk.read_at(0, 0, &mut read)?;
-    Ok(read.as_slice() == file.as_slice())
+    disk.read_at(0, 0, &mut read).expect(rt, "bytes");
+    read.as_slice() == file.as_slice()
 }
 
 /// Records are written where so many calls succeed, and a crash takes the image of that pick. The file has the records that were put
 /// on the disk, and at most one more.
-fn crashes_after(rt: &impl Abort, alloc: Global, calls: u64, pick: u64) -> Result<(), Fail> {
-    let mut disk = MemDisk::new(alloc)?;
+fn crashes_after(rt: &impl Abort, alloc: Global, calls: u64, pick: u64) {
+    let mut disk = MemDisk::new(alloc).expect(rt, "memory");
     let mut done = 0;
     let written = write_records(alloc, &mut disk, calls, &mut done).is_ok();
-    assert_eq!(rt; written, calls == ALL, "calls {calls}");
+    holds(rt, written == (calls == ALL), b"all calls");
     disk.crash(pick);
-    assert!(rt; !written || has_all(alloc, &mut disk)?);
-    let left = Instance::attach(alloc, &mut disk)?.records().len();
+    let is_whole = !written || has_all(rt, alloc, &mut disk);
+    holds(rt, is_whole, b"all records");
+    let site = Instance::attach(alloc, &mut disk).expect(rt, "a site");
+    let left = site.records().len();
     assert!(rt;
         left >= done && left - done <= 1,
         "pick {pick}, calls {calls}"
     );
-    Ok(())
 }
 
 /// Whatever call fails and whatever image a crash takes.
 #[test]
-fn crashes_at_each_call(rt: HostRuntime) -> Result<(), Fail> {
+fn crashes_at_each_call(rt: HostRuntime) {
     for pick in 0..3u64 {
         for calls in 0..ALL + 1 {
-            crashes_after(&rt, rt.alloc(), calls, pick)?;
+            crashes_after(&rt, rt.alloc(), calls, pick);
         }
     }
-    Ok(())
 }

@@ -11,3 +11,5 @@ mod journals;
 mod parts;
 #[cfg(test)]
 mod recovery;
+#[cfg(test)]
+mod rows;

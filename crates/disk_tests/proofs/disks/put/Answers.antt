@@ -8,5 +8,5 @@ write_at-requires-clause-place c = told_at _ _ (Î» (files : Files). c.args.at â‰
 
 pub write_at-requires-clause-room : goal.write_at-requires-clause-room
 write_at-requires-clause-room c =
-    let added = c.in_ok-room.ensures.added.added 0 0 (omega arith, omega arith) in
+    let added = c.in-Ok.ensures.added.added 0 0 (omega arith, omega arith) in
     c.len.ensures.reads.room c.args.file 1 (length c.args.bytes.now) (omega (arith, added.0), omega (arith, added.1))
