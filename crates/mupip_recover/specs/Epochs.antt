@@ -3,7 +3,7 @@ use Rattle.std.specs.Prelude.{List, drop, map}
 use Rattle.journal_defs.specs.Epochs.{Chosen}
 use Rattle.jnl_record.specs.declared.placed.PlacedRecord.{PlacedRecord}
 use Rattle.jnl_record.specs.Values.{placed_value}
-use Rattle.mupip_recover.specs.declared.epochs.EpochAt.{EpochAt}
+use Rattle.mupip_recover.specs.declared.epoch.EpochAt.{EpochAt}
 
 -- the epoch with the records behind it
 abbrev pub chosen_at : EpochAt → List PlacedRecord → Chosen

@@ -50,8 +50,7 @@ use std::alloc::Global;
 /// A site that is open, and its disk.
 ///
 /// After a call that answered `Failed` the site has stopped: each later call that uses the disk answers `Stopped` with the same
-/// number, and changes nothing. After `NoMemory` of [`commit`](Site::commit) or [`read_file`](Site::read_file) the site goes on, and
-/// after that of another call it is of no more use, and only [`abandon`](Site::abandon) is left.
+/// number, and changes nothing. After `NoMemory` the site goes on as it was.
 #[derive(Drop)]
 pub struct Site<D: Disk> {
     pub disk: D,
@@ -200,7 +199,8 @@ impl<D: Disk> Site<D> {
     /// # Errors
     /// `ReignLimit` exactly where 32,768 reigns have begun by the length, or a reign has the last cycle, also one that a CUT
     /// dropped; nothing has changed then. `Failed` only where the disk's count rose; a crash may then find the reign all the same.
-    /// `Stopped` exactly where a call before failed. `NoMemory`, and then nothing was written.
+    /// `Stopped` exactly where a call before failed. `NoMemory`: nothing was written then, and the site
+    /// goes on.
     pub fn start_reign(&mut self) -> Result<Stamp, SiteError>
         requires ready { MayBeCalled D.disk self.old }
         requires opened { self.old.fault ≡ None → WasOpened self.old.inner }
@@ -215,6 +215,9 @@ impl<D: Disk> Site<D> {
         ensures kept { IsErrOf result SiteError.ReignLimit → self.new ≡ self.old }
         // all memory is taken before anything is written
         ensures unwritten { IsErrOf result SiteError.NoMemory → AtEachMoment (D.disk self.old.disk) (D.disk self.new.disk) (Image (D.disk self.old.disk)) }
+        ensures again { IsErrOf result SiteError.NoMemory → WasOpened self.new.inner }
+        ensures goes_on { IsErrOf result SiteError.NoMemory → IsGoing D.disk self.new }
+        ensures stays_open { IsErrOf result SiteError.NoMemory → (told : Bool) (c : Contents) (h : ℕ) → IsOpenSite D.disk told c h self.old → IsOpenSite D.disk told c h self.new }
         ensures any_moment { (c : Contents) → IsOpenSite D.disk true c (length c.sequence) self.old → AtEachMoment (D.disk self.old.disk) (D.disk self.new.disk) (λ f. IsSite f c ⊎ IsSite f (with_reign (site_name c.instance) c)) }
         ensures stands { (c : Contents) → IsOpenSite D.disk true c (length c.sequence) self.old → IfSome (D.disk self.new.disk).content (λ f. IsSite f c ⊎ IsSite f (with_reign (site_name c.instance) c)) }
         ensures still_told { IsSome (D.disk self.old.disk).content → IsSome (D.disk self.new.disk).content }

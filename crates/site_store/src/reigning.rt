@@ -52,7 +52,7 @@ impl OpenSite {
     ///
     /// # Errors
     /// `Failed` only where the disk's count rose; a crash may then find the reign all the same. `NoMemory`, and then nothing was
-    /// written.
+    /// written, and the site goes on.
     pub(crate) fn begin_reign<D: Disk>(
         &mut self,
         disk: &mut D,
@@ -72,6 +72,9 @@ impl OpenSite {
         ensures hardened { self.new.hardened ≡ self.old.hardened }
         ensures any_moment { (c : Contents) → IsOpen (D.disk disk.old) true c (length c.sequence) self.old → AtEachMoment (D.disk disk.old) (D.disk disk.new) (λ f. IsSite f c ⊎ IsSite f (with_reign (site_name c.instance) c)) }
         ensures unwritten { IsErrOf result SiteError.NoMemory → AtEachMoment (D.disk disk.old) (D.disk disk.new) (Image (D.disk disk.old)) }
+        ensures again { IsErrOf result SiteError.NoMemory → WasOpened self.new }
+        ensures goes_on { IsErrOf result SiteError.NoMemory → IsReady (D.disk disk.new) self.new }
+        ensures stays_open { IsErrOf result SiteError.NoMemory → (told : Bool) (c : Contents) (h : ℕ) → IsOpen (D.disk disk.old) told c h self.old → IsOpen (D.disk disk.new) told c h self.new }
         ensures stands { (c : Contents) → IsOpen (D.disk disk.old) true c (length c.sequence) self.old → IfSome (D.disk disk.new).content (λ f. IsSite f c ⊎ IsSite f (with_reign (site_name c.instance) c)) }
         ensures still_told { IsSome (D.disk disk.old).content → IsSome (D.disk disk.new).content }
         ensures simulated { (D.disk disk.new).simulated ≡ (D.disk disk.old).simulated }
@@ -99,7 +102,7 @@ impl OpenSite {
     /// # Errors
     /// `ReignLimit` exactly where 32,768 reigns have begun by the length, or a reign has the last cycle, also one that a CUT
     /// dropped; nothing has changed then. `Failed` only where the disk's count rose; a crash may then find the reign all the same.
-    /// `NoMemory`, and then nothing was written; the site may have more room then than it had.
+    /// `NoMemory`: nothing was written then, and the site goes on, though it may have more room than it had.
     pub fn start_reign<D: Disk>(&mut self, alloc: Global, disk: &mut D) -> Result<Stamp, SiteError>
         requires ready { IsReady (D.disk disk.old) self.old }
         requires opened { WasOpened self.old }
@@ -115,6 +118,9 @@ impl OpenSite {
         ensures kept { IsErrOf result SiteError.ReignLimit → (disk.new ≡ disk.old) × (self.new ≡ self.old) }
         // all memory is taken before anything is written
         ensures unwritten { IsErrOf result SiteError.NoMemory → AtEachMoment (D.disk disk.old) (D.disk disk.new) (Image (D.disk disk.old)) }
+        ensures again { IsErrOf result SiteError.NoMemory → WasOpened self.new }
+        ensures goes_on { IsErrOf result SiteError.NoMemory → IsReady (D.disk disk.new) self.new }
+        ensures stays_open { IsErrOf result SiteError.NoMemory → (told : Bool) (c : Contents) (h : ℕ) → IsOpen (D.disk disk.old) told c h self.old → IsOpen (D.disk disk.new) told c h self.new }
         ensures any_moment { (c : Contents) → IsOpen (D.disk disk.old) true c (length c.sequence) self.old → AtEachMoment (D.disk disk.old) (D.disk disk.new) (λ f. IsSite f c ⊎ IsSite f (with_reign (site_name c.instance) c)) }
         ensures stands { (c : Contents) → IsOpen (D.disk disk.old) true c (length c.sequence) self.old → IfSome (D.disk disk.new).content (λ f. IsSite f c ⊎ IsSite f (with_reign (site_name c.instance) c)) }
         ensures still_told { IsSome (D.disk disk.old).content → IsSome (D.disk disk.new).content }

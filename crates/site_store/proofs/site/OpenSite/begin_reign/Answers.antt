@@ -45,3 +45,14 @@ returns-in-Ok-clause-begun g c told x o =
 pub returns-in-Ok-clause-reign : goal.returns-in-Ok-clause-reign
 returns-in-Ok-clause-reign g c =
     reigning.has_reign c.args.self.now _ (reign_value c.args.reign.now) c.args.kept c.requires.next c.in-Ok.ensures.records refl refl (sym c.requires.stamp)
+
+pub returns-in-Err-NoMemory-clause-goes_on : goal.returns-in-Err-NoMemory-clause-goes_on
+returns-in-Err-NoMemory-clause-goes_on g c is =
+    reigning.ready_kept (g.D.Disk.disk c.args.disk.now) (g.D.Disk.disk c.reign.new.disk) c.args.self.now _ c.requires.ready (c.reign.ensures.no_memory_ready ?) ? refl refl c.reign.ensures.frame
+
+pub returns-in-Err-NoMemory-clause-again : goal.returns-in-Err-NoMemory-clause-again
+returns-in-Err-NoMemory-clause-again g c is = reigning.opened_kept c.args.self.now _ c.requires.opened ? refl refl refl
+
+pub returns-in-Err-NoMemory-clause-stays_open : goal.returns-in-Err-NoMemory-clause-stays_open
+returns-in-Err-NoMemory-clause-stays_open g c is told x h o =
+    reigning.open_kept (g.D.Disk.disk c.args.disk.now) (g.D.Disk.disk c.reign.new.disk) told x h c.args.self.now _ (g.met.D.Disk.lawful c.reign.new.disk) c.requires.ready c.reign.ensures.frame ? ? ? refl refl refl refl o

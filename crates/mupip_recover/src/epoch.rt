@@ -1,12 +1,11 @@
 //! Which epoch a region goes back to.
-ghost use Rattle.std.specs.Prelude.{◌≡◌, ◌≤◌, ◌<◌, ◌+◌, length, drop, map};
+ghost use Rattle.std.specs.Prelude.{◌≡◌, ◌≤◌, ◌&&◌, nat_le, List, length, map, IfSome};
 ghost use Rattle.std.specs.Option.{option_map};
 ghost use Rattle.journal_defs.specs.Epochs.{epoch_in, chosen};
 ghost use Rattle.journal_defs.specs.Sequence.{Placed};
-ghost use Rattle.journal_defs.specs.Epochs as defs;
+ghost use Rattle.journal_defs.specs.Surviving.{survives};
 ghost use Rattle.jnl_record.specs.Values.{record_value, placed_value};
 ghost use Rattle.mupip_recover.specs.Epochs.{chosen_at};
-ghost use Rattle.std.specs.Prelude.{List};
 
 use super::surviving::survives;
 use instance_file::InstanceRecords;
@@ -21,7 +20,14 @@ pub struct EpochAt {
     pub after: usize,
 }
 
-/// The epoch that this record is, if it survives and isn't past the target.
+/// Whether an epoch of this generation with this number survives and isn't past the target.
+fn counts(instance: &InstanceRecords, target: u64, generation: u32, number: u64) -> bool
+    ensures { result ≡ (survives instance.now generation number && nat_le number target) }
+{
+    survives(instance, generation, number) && number <= target
+}
+
+/// The epoch that this record is, if it counts, with the records from a place on behind it.
 fn epoch_in(
     instance: &InstanceRecords,
     target: u64,
@@ -29,19 +35,25 @@ fn epoch_in(
     after: usize,
 ) -> Option<EpochAt>
     ensures epoch { (behind : List Placed) → epoch_in instance.now target placed.now.generation (record_value placed.now.what) behind ≡ option_map (λ e. record { number = e.number; blocks = e.blocks; after = behind }) result }
-    ensures after { option_map (λ e. e.after) result ≡ option_map (λ e. after) result }
+    ensures after { IfSome result (λ e. e.after ≡ after) }
 {
     match placed.what {
         JnlRecord::Epoch {
             closing: _,
             number,
             blocks,
-        } if number <= target && survives(instance, placed.generation, number) => Some(EpochAt {
-            number,
-            blocks,
-            after,
-        }),
-        _ => None,
+        } => {
+            if counts(instance, target, placed.generation, number) {
+                Some(EpochAt {
+                    number,
+                    blocks,
+                    after,
+                })
+            } else {
+                None
+            }
+        }
+        JnlRecord::Pini { .. } | JnlRecord::Pblk { .. } | JnlRecord::Tcom { .. } => None,
     }
 }
 
