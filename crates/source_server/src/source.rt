@@ -102,6 +102,13 @@ impl Source {
         self.next
     }
 
+    /// Whether it has made its BYE.
+    pub fn has_ended(&self) -> bool
+        ensures { result ≡ self.now.ended }
+    {
+        self.ended
+    }
+
     // What was made and isn't sent yet.
     fn pending(&self) -> &[u8]
         ensures { result.now ≡ self.now.pending }
