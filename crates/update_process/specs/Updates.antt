@@ -1,5 +1,5 @@
 -- What an Update Process does with one entry that came.
-use Rattle.std.specs.Prelude.{◌≡◌, ◌⊎◌, ℕ, ◌<◌, ◌≤◌, List, [], ◌∷◌, ◌++◌, length, Option, Some, None, Result, Ok, Err, ⊤}
+use Rattle.std.specs.Prelude.{◌≡◌, ◌⊎◌, ◌<◌, ◌≤◌, List, [], ◌∷◌, ◌++◌, length, Option, Some, Result, Ok, Err, ⊤}
 use Rattle.global_defs.specs.Entry.{Reign}
 use Rattle.ship_defs.specs.Hearing.{HasRoom}
 use Rattle.ship_defs.specs.Arrivals.{Arrival}

@@ -69,8 +69,7 @@ fn enter<S: EntrySink>(site: &mut S, arrived: &Arrived) -> Result<Applied, Updat
     requires form { IsArrival (arrival_value arrived.now) }
     requires next { arrived.now.number ≡ next_of (S.copy site.old) }
     requires under { (stamp : defs.Stamp) × (stamp_at (next_of (S.copy site.old)) (reigns_next (S.copy site.old)) ≡ Some stamp) }
-    ensures one { IfOk result (λ a. a ≡ Applied.One arrived.now.number) }
-    ensures ok { OnOk result ((m : Copy) × Takes (transaction_value arrived.now.transaction) (S.copy site.old) m × (S.copy site.new ≡ hardened m)) }
+    ensures one { IfOk result (λ a. (a ≡ Applied.One arrived.now.number) × ((m : Copy) × Takes (transaction_value arrived.now.transaction) (S.copy site.old) m × (S.copy site.new ≡ hardened m))) }
     ensures going { OnOk result (IsTrue (S.going site.new)) }
     ensures err { IfErr result (λ e. Refuses e (arrival_value arrived.now) (S.copy site.old) (S.copy site.new)) }
 {
@@ -85,7 +84,7 @@ fn enter<S: EntrySink>(site: &mut S, arrived: &Arrived) -> Result<Applied, Updat
 }
 
 // Follows an entry that came.
-#[tactic(auto, using(crate::proofs::Covered::covered_now, crate::proofs::Covered::told_next))]
+#[tactic(auto, using(crate::proofs::Covered::told_globals))]
 fn follow<S: EntrySink>(site: &mut S, arrived: &Arrived) -> Result<Applied, UpdateError<S::Error>>
     requires going { IsTrue (S.going site.old) }
     requires form { IsArrival (arrival_value arrived.now) }
