@@ -1,0 +1,5 @@
+pub mod Walk
+pub mod Taken
+pub mod Given
+pub mod Applied
+pub mod Ordered

@@ -1,0 +1,29 @@
+use Rattle.std.proofs.Common.{◌≡◌, List, ℕ, sym, subst}
+use Rattle.session_turns.specs.Sessions.{HasGiven}
+use Rattle.session_turns.proofs.Given.{given_kept, given_goes, given_made}
+use Rattle.session_turns.proofs.machines.ship.Goals as goal
+
+pub returns-in-Ok-Over-clause-sends : goal.returns-in-Ok-Over-clause-sends
+returns-in-Ok-Over-clause-sends g c = λ told from given.
+    let now = c.step.new.entries in
+    let before = g.T.LinkTx.sending c.args.tx.now in
+    let ready = given_kept from c.args.length (g.E.EntrySource.is_entry c.args.entries.now) (g.E.EntrySource.is_entry now) c.close.new.source before.sent c.step.ensures.kept
+      (given_made from c.args.length (g.E.EntrySource.is_entry c.args.entries.now) c.args.source.now c.close.new.source before.sent (c.close.ensures from before.sent) given) in
+    subst (λ (l : List ℕ). HasGiven (g.E.EntrySource.is_entry now) from c.args.length c.step.new.self l) (sym c.finish.ensures.sent)
+      (given_goes from c.args.length (g.E.EntrySource.is_entry now) c.close.new.source c.step.new.self before.sent (g.T.LinkTx.sending c.step.new.tx).sent (c.step.ensures.ships told) ready)
+
+pub returns-in-Ok-clause-sends : goal.returns-in-Ok-clause-sends
+returns-in-Ok-clause-sends g c = λ told from given.
+    let now = c.step.new.entries in
+    let before = g.T.LinkTx.sending c.args.tx.now in
+    let ready = given_kept from c.args.length (g.E.EntrySource.is_entry c.args.entries.now) (g.E.EntrySource.is_entry now) c.close.new.source before.sent c.step.ensures.kept
+      (given_made from c.args.length (g.E.EntrySource.is_entry c.args.entries.now) c.args.source.now c.close.new.source before.sent (c.close.ensures from before.sent) given) in
+    given_goes from c.args.length (g.E.EntrySource.is_entry now) c.close.new.source c.step.new.self before.sent (g.T.LinkTx.sending c.step.new.tx).sent (c.step.ensures.ships told) ready
+
+pub returns-in-Err-clause-sends : goal.returns-in-Err-clause-sends
+returns-in-Err-clause-sends g c = λ told from given.
+    let now = c.step.new.entries in
+    let before = g.T.LinkTx.sending c.args.tx.now in
+    let ready = given_kept from c.args.length (g.E.EntrySource.is_entry c.args.entries.now) (g.E.EntrySource.is_entry now) c.close.new.source before.sent c.step.ensures.kept
+      (given_made from c.args.length (g.E.EntrySource.is_entry c.args.entries.now) c.args.source.now c.close.new.source before.sent (c.close.ensures from before.sent) given) in
+    given_goes from c.args.length (g.E.EntrySource.is_entry now) c.close.new.source c.step.new.self before.sent (g.T.LinkTx.sending c.step.new.tx).sent (c.step.ensures.ships told) ready
