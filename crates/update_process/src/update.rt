@@ -71,6 +71,7 @@ fn enter<S: EntrySink>(site: &mut S, arrived: &Arrived) -> Result<Applied, Updat
     requires under { (stamp : defs.Stamp) × (stamp_at (next_of (S.copy site.old)) (reigns_next (S.copy site.old)) ≡ Some stamp) }
     ensures one { IfOk result (λ a. (a ≡ Applied.One arrived.now.number) × ((m : Copy) × Takes (transaction_value arrived.now.transaction) (S.copy site.old) m × (S.copy site.new ≡ hardened m))) }
     ensures going { OnOk result (IsTrue (S.going site.new)) }
+    ensures on { IfErr result (λ e. IsSites e ⊎ IsTrue (S.going site.new)) }
     ensures err { IfErr result (λ e. Refuses e (arrival_value arrived.now) (S.copy site.old) (S.copy site.new)) }
 {
     match site.apply(arrived.number, &arrived.transaction) {
@@ -90,6 +91,7 @@ fn follow<S: EntrySink>(site: &mut S, arrived: &Arrived) -> Result<Applied, Upda
     requires form { IsArrival (arrival_value arrived.now) }
     ensures after { IfOk result (λ a. Did a (arrival_value arrived.now) (S.copy site.old) (S.copy site.new)) }
     ensures going { OnOk result (IsTrue (S.going site.new)) }
+    ensures on { IfErr result (λ e. IsSites e ⊎ IsTrue (S.going site.new)) }
     ensures failed { IfErr result (λ e. FailedAt e (arrival_value arrived.now) (S.copy site.old) (S.copy site.new)) }
 {
     let length = site.history().length;
@@ -117,6 +119,8 @@ pub fn apply_next<S: EntrySink>(
     ensures same { SameOut pool.old pool.new }
     ensures after { IfOk result (λ a. After a (known pool.old) (taken pool.old) (taken pool.new) (S.copy site.old) (S.copy site.new)) }
     ensures going { OnOk result (IsTrue (S.going site.new)) }
+    // a bad frame leaves a site that goes on
+    ensures on { IfErr result (λ e. IsSites e ⊎ IsTrue (S.going site.new)) }
     ensures failed { IfErr result (λ e. Failed e (known pool.old) (taken pool.old) (taken pool.new) (S.copy site.old) (S.copy site.new)) }
 {
     match pool.take() {
