@@ -3,3 +3,4 @@ pub mod Taken
 pub mod Given
 pub mod Applied
 pub mod Ordered
+pub mod Heard

@@ -17,14 +17,8 @@ use Rattle.ship_defs.specs.Arrivals.{Arrival, arrivals, arrived, told_reign, ent
 use Rattle.update_process.specs.Copies.{Copy, history_of, next_of, MayAdopt, adopted, told, reigns_next, took, Takes, hardened}
 use Rattle.update_process.specs.Updates.{Follows}
 
+use Rattle.receiver_server.specs.Hearings.{reign_behind}
 use Rattle.session_turns.specs.Following.{Followed, IsFitCopy, InTurn}
-
-abbrev reign_behind : ship.Last → Option Reign
-reign_behind ship.Unbegun = None
-reign_behind ship.Resumed = None
-reign_behind (ship.Reigning r) = Some r
-reign_behind ship.Shipped = None
-reign_behind ship.Over = None
 
 abbrev stamped : Option Reign → Option Stamp
 stamped o = option_map (λ (r : Reign). r.stamp) o
