@@ -1,0 +1,79 @@
+// A primary is asked.
+use super::greet::{GreetError, Greeted, greet};
+use gvn_key::{Bytes, NoMemory};
+use gvn_model::History;
+use receiver_server::{Handshake, Purpose};
+use recv_pool::make;
+use repl_link::{LinkTx, Linker};
+use std::alloc::Global;
+
+/// Why a session ended without an answer.
+#[derive(Clone, Copy, Debug, PartialEq, Eq)]
+pub enum SessionError {
+    /// Four connections were cut.
+    LinkCut,
+    /// The bytes that the primary received, or those that the secondary did, have no admissible frame there.
+    BadFrame {
+        /// Where it would begin.
+        offset: u64,
+    },
+    /// Memory was refused.
+    NoMemory,
+}
+
+impl From<NoMemory> for SessionError {
+    ghost use Rattle.std.specs.Prelude.{◌≡◌};
+    ghost use Rattle.session_handshake.specs.declared.handshake.SessionError.TheVariants as errors;
+
+    ghost from_gives = { λ _ e. e ≡ errors.NoMemory };
+
+    fn from(_: NoMemory) -> Self {
+        SessionError::NoMemory
+    }
+}
+
+// How many connections of a session may be cut in one command.
+const MOST_CUTS: usize = 4;
+
+// The ends of an answered connection are given back.
+fn settled<L: Linker>(greeted: Greeted<L::Tx, L::Rx>, links: &mut L, session: u32) -> Handshake {
+    let Greeted {
+        answer,
+        mut ends,
+        ..
+    } = greeted;
+    ends.up_tx.finish();
+    links.settle(session, ends);
+    answer
+}
+
+/// Asks a primary from which number on its entries follow. `theirs` is the primary's history; `mine` and `name` are the secondary's.
+/// Connections that are cut are made anew, until four were cut. The connections are given back.
+pub fn handshake<L: Linker>(
+    alloc: Global,
+    theirs: &History,
+    mine: &History,
+    name: &Bytes,
+    links: &mut L,
+    session: u32,
+) -> Result<Handshake, SessionError> {
+    let (mut pool, _) = make(alloc, 1)?;
+    for _ in 0..MOST_CUTS {
+        match greet(
+            alloc,
+            theirs,
+            mine,
+            name,
+            Purpose::Asks,
+            links,
+            session,
+            &mut pool,
+        ) {
+            Ok(greeted) => return Ok(settled(greeted, links, session)),
+            Err(GreetError::Cut) => {}
+            Err(GreetError::BadFrame { offset }) => return Err(SessionError::BadFrame { offset }),
+            Err(GreetError::NoMemory) => return Err(SessionError::NoMemory),
+        }
+    }
+    Err(SessionError::LinkCut)
+}
