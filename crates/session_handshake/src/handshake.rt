@@ -1,4 +1,13 @@
 // A primary is asked.
+ghost use Rattle.std.specs.Prelude.{◌≡◌, ◌↔◌, ◌<◌, ◌^◌, ℕ, IsTrue, IfOk, IfErr, OnOk, IsErrOf, count_by};
+ghost use Rattle.std.specs.List.{AllByRecursion};
+ghost use Rattle.global_defs.specs.Fields.{IsReign, IsSiteName};
+ghost use Rattle.gvn_model.specs.Entries.{history_value};
+ghost use Rattle.wire_defs.specs.Links.{was_cut, past_since};
+ghost use Rattle.ship_defs.specs.Greeting.{IsHello, IsAnswer, carried, greeting};
+ghost use Rattle.receiver_server.specs.Answers.{answer_frame};
+ghost use Rattle.session_handshake.specs.Connections.{WereMade, Met};
+
 use super::greet::{GreetError, Greeted, greet};
 use gvn_key::{Bytes, NoMemory};
 use gvn_model::History;
@@ -56,7 +65,20 @@ pub fn handshake<L: Linker>(
     name: &Bytes,
     links: &mut L,
     session: u32,
-) -> Result<Handshake, SessionError> {
+) -> Result<Handshake, SessionError>
+    requires few { mine.now.length < 2 ^ 40 }
+    requires form { AllByRecursion IsReign (history_value mine.now).reigns }
+    requires name { IsSiteName name.now }
+    // the session's connections alone were made, and given back
+    ensures made { WereMade (L.links links.old) (L.links links.new) session (past_since (L.links links.old) (L.links links.new) session) }
+    // what the primary and the secondary received over the last one tells the answer, or where it is bad
+    ensures met { Met (L.links links.old).shown (history_value mine.now) result (past_since (L.links links.old) (L.links links.new) session) }
+    ensures link_cut { IsErrOf result SessionError.LinkCut ↔ (count_by was_cut (past_since (L.links links.old) (L.links links.new) session) ≡ 4) }
+    // where links tell their bytes, the answer is the primary's to the secondary's HELLO, and this alone can be bad
+    ensures hello { IsTrue (L.links links.old).told → OnOk result (IsHello (greeting name.now (history_value mine.now))) }
+    ensures answer { IsTrue (L.links links.old).told → IfOk result (λ h. IsAnswer (history_value theirs.now) (carried (history_value mine.now)) (answer_frame h)) }
+    ensures bad_told { IsTrue (L.links links.old).told → IfErr result (λ e. (offset : ℕ) → e ≡ SessionError.BadFrame offset → (offset ≡ 0) × (IsHello (greeting name.now (history_value mine.now)) → ⊥)) }
+{
     let (mut pool, _) = make(alloc, 1)?;
     for _ in 0..MOST_CUTS {
         match greet(
