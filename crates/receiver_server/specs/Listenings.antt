@@ -1,9 +1,10 @@
 -- What contracts see of a Receiver Server on its connection.
-use Rattle.std.specs.Prelude.{◌≡◌, ℕ, ◌+◌, ◌-◌, ◌^◌, ◌<◌, min, Bool, true, false, List, [], ◌∷◌, ◌++◌, length, Option, None, Result, Ok, Err}
-use Rattle.global_defs.specs.Entry.{Reign}
+use Rattle.std.specs.Prelude.{◌≡◌, ◌≢◌, ℕ, ◌+◌, ◌-◌, ◌^◌, ◌<◌, min, Bool, true, false, List, [], ◌∷◌, ◌++◌, length, Option, None, Result, Ok, Err}
+use Rattle.global_defs.specs.Entry.{Reign, Globals}
 use Rattle.wire_defs.specs.Frames.{Frame, Hello, Resume, RollbackFirst, History, Entry, Bye, Reading, AreFrames, BeginsFrame, BeginsNone, spelled_frame, offset_after}
 use Rattle.ship_defs.specs.Directions.{Admitted}
-use Rattle.ship_defs.specs.Hearing.{Purpose, Heard, Fits}
+use Rattle.ship_defs.specs.Hearing as ship
+use Rattle.ship_defs.specs.Hearing.{Purpose, Heard, Fits, HasUnfit, HasPlace, with_updates}
 use Rattle.ship_defs.specs.Arrivals.{Arrival, arrivals, arrived, told_reign}
 use Rattle.receiver_server.specs.Hearings.{reign_behind, MayCome}
 use Rattle.receiver_server.specs.Incomings.{Incoming, nothing_came, unheard}
@@ -55,7 +56,17 @@ pub record IsQuiet (s : Listening) : Type 0 where
 -- no whole frame waits, and the bytes that came begin one
 pub record IsIdle (s : Listening) : Type 0 where
   pub frames : s.incoming.waiting ≡ []
+  pub fresh : s.incoming.fresh ≡ []
   pub good : s.incoming.bad ≡ false
+
+-- no frame that fits stands behind these, which do
+abbrev pub IsUnfitBehind : Purpose → Heard → (frames : List Frame) → (bytes : List ℕ) → (ended : Bool) → (offset : ℕ) → Type 0
+IsUnfitBehind p begun frames bytes ended offset = (unfit : HasUnfit p begun bytes ended offset) × (unfit.frames ≡ frames)
+
+-- there is room for the nodes of frames, one after another
+abbrev pub HavePlaces : Globals → List Frame → Type 0
+HavePlaces g [] = Unit {0}
+HavePlaces g (f ∷ fs) = HasPlace g f × HavePlaces (with_updates g f) fs
 
 -- a frame that comes behind RESUME
 abbrev pub IsShipped : Frame → Type 0
@@ -101,7 +112,9 @@ IsUnfit s = (f : Frame) × (fs : List Frame) × (s.incoming.waiting ≡ f ∷ fs
 
 -- bytes have come, and none was heard
 pub record HasGot (a b : Listening) : Type 0 where
-  pub idle : IsIdle a
+  pub frames : a.incoming.waiting ≡ []
+  pub good : a.incoming.bad ≡ false
+  pub going : a.heard.last ≢ ship.Over
   pub after : b ≡ record a { incoming = b.incoming }
 
 -- How a step's answer tells what it did. Bytes that are received are read at once, but for want of memory.

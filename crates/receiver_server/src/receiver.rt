@@ -6,12 +6,12 @@ ghost use Rattle.global_defs.specs.Prefix.{IsPrefix};
 ghost use Rattle.gvn_model.specs.Entries.{history_value};
 ghost use Rattle.wire_defs.specs.Frames as defs;
 ghost use Rattle.wire_defs.specs.Links.{SameReceiving, IsReached, counted};
-ghost use Rattle.ship_defs.specs.Hearing.{Heard, unbegun, HasUnfit, Over};
+ghost use Rattle.ship_defs.specs.Hearing.{Heard, unbegun, Over};
 ghost use Rattle.recv_pool.specs.Pools.{put_in, free, reign_of, SameIn};
 ghost use Rattle.repl_wire.specs.Values.{frame_value};
 ghost use Rattle.receiver_server.specs.Hearings.{purpose_value, reign_behind, MayCome};
 ghost use Rattle.receiver_server.specs.Answers.{is_ended, patience_cost, IsOverAnswer};
-ghost use Rattle.receiver_server.specs.Listenings.{listening, IsHearing, IsQuiet, IsIdle, IsUnfit, Hears, Does, StepTells, HasHeard, HasPut};
+ghost use Rattle.receiver_server.specs.Listenings.{listening, IsHearing, IsQuiet, IsIdle, IsUnfit, IsUnfitBehind, Hears, Does, StepTells, HasHeard, HasPut};
 
 use super::hearer::{Hearer, Purpose};
 use super::inbox::Inbox;
@@ -148,7 +148,7 @@ impl Receiver {
         // the place of a bad frame; what arrived before it was put into the pool
         ensures bad { IfErr result (λ e. (offset : ℕ) → e ≡ HearError.BadFrame offset → IsTrue (R.receiving rx.old).shown → (begun : Heard) (frames : List defs.Frame)
             → IsHearing begun self.old (R.receiving rx.old).received (put_in pool.old) frames
-            → HasUnfit self.old.purpose begun (R.receiving rx.new).received false offset) }
+            → IsUnfitBehind self.old.purpose begun frames (R.receiving rx.new).received false offset) }
         // behind the last frame there is nothing more, or a bad frame
         ensures behind { self.old.heard.last ≡ Over → 0 < free pool.old → IsOverAnswer result }
         ensures over { IfOk result (λ a. a ≡ Step.Over → IsQuiet self.new × (self.new.heard.last ≡ Over)) }

@@ -6,8 +6,8 @@ use Rattle.gvn_model.specs.Reigns.{reign_value}
 use Rattle.lineage_defs.specs.Histories.{begun_by}
 use Rattle.resync_core.proofs.BegunReigns.{begun-push, begun-push_late}
 use Rattle.receiver_server.proofs.Knows.{last_push}
-use Rattle.receiver_server.proofs.hearer.begun.Goals as goal
-use Rattle.receiver_server.proofs.hearer.begun.Goals.{then-reign-number, else-reign-number}
+use Rattle.receiver_server.proofs.begun.begun.Goals as goal
+use Rattle.receiver_server.proofs.begun.begun.Goals.{then-reign-number, else-reign-number}
 
 pub loop-reign-preserved : goal.loop-reign-preserved
 loop-reign-preserved c =
