@@ -1,10 +1,16 @@
 -- A primary's answer to frames.
-use Rattle.std.specs.Prelude.{◌≡◌, ◌⊎◌, ℕ, ◌≢◌, List, length, Result, Ok, Err}
+use Rattle.std.specs.Prelude.{◌≡◌, ◌≢◌, ◌⊎◌, ℕ, ◌+◌, ◌-◌, ◌≤◌, Bool, List, length, if◌then◌else◌, Result, Ok, Err}
+use Rattle.std.specs.List.{AllByRecursion}
 use Rattle.global_defs.specs.Prefix as prefix
-use Rattle.wire_defs.specs.Frames.{Frame, Hello, Resume, RollbackFirst, History, Entry, Bye, spelled_frame}
+use Rattle.lineage_defs.specs.Histories.{MOST_REIGNS, StartsRise}
+use Rattle.wire_defs.specs.Frames.{Frame, Hello, Resume, RollbackFirst, History, Entry, Bye, Reading, IsFrame, BeginsFrame, spelled_frame}
 use Rattle.ship_defs.specs.Greeting.{IsHello, IsAnswer}
 use Rattle.receiver_server.specs.declared.step.Handshake.{Handshake}
 use Rattle.receiver_server.specs.Answers.{answer_frame}
+
+-- a primary admits a HELLO of that history
+abbrev pub TellsHistory : prefix.History → Type 0
+TellsHistory h = StartsRise 0 h.reigns × AllByRecursion (λ r. r.start ≤ h.length) h.reigns × (length h.reigns ≤ MOST_REIGNS)
 
 -- the answer to a HELLO
 abbrev pub Answers : (theirs : prefix.History) → (hello answer : Frame) → Type 0
@@ -14,6 +20,28 @@ Answers theirs (RollbackFirst n) answer = ⊥
 Answers theirs (History r) answer = ⊥
 Answers theirs (Entry n t) answer = ⊥
 Answers theirs (Bye n) answer = ⊥
+
+-- so many bytes have come of a frame that isn't whole
+pub record Awaits (reading : Reading) (count : ℕ) : Type 0 where
+  pub at : reading.offset ≡ 0
+  pub begins : BeginsFrame reading.rest
+  pub count : count ≡ length reading.rest
+
+-- all that came is a HELLO that is admitted, and this is the answer to it
+pub record IsGreetedBy (theirs : prefix.History) (bytes : List ℕ) (answer : Frame) : Type 0 where
+  pub hello : Frame
+  pub form : IsFrame hello
+  pub is : bytes ≡ spelled_frame hello
+  pub admitted : IsHello hello
+  pub answers : Answers theirs hello answer
+
+-- how many bytes a frame that isn't whole may have, at most
+abbrev pub LIMIT : ℕ
+LIMIT = 1048581
+
+-- How many steps are left at most: each moves a byte, or costs patience where the link doesn't tell its bytes.
+abbrev pub left_to_ask : (told : Bool) → (pending rest : List ℕ) → (patience : ℕ) → ℕ
+left_to_ask told pending rest patience = length pending + (LIMIT - length rest) + (if told then 0 else patience)
 
 -- How a frame is judged that stands at the front of so many bytes: the answer to a HELLO that is all of them, or where they are bad.
 abbrev pub Judges : (theirs : prefix.History) → Frame → (count : ℕ) → Result Handshake ℕ → Type 0

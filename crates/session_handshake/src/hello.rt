@@ -1,4 +1,16 @@
 // The HELLO of a secondary, and whether a primary admits one.
+ghost use Rattle.std.specs.Prelude.{◌≡◌, ◌↔◌, ◌+◌, ◌≤◌, ◌<◌, ◌^◌, IsTrue, IfOk, map, take, length};
+ghost use Rattle.std.specs.List.{AllByRecursion};
+ghost use Rattle.global_defs.specs.Entry as defs;
+ghost use Rattle.global_defs.specs.Fields.{IsReign, IsSiteName};
+ghost use Rattle.gvn_model.specs.Reigns.{reign_value};
+ghost use Rattle.gvn_model.specs.Entries.{history_value};
+ghost use Rattle.lineage_defs.specs.Histories as lineage;
+ghost use Rattle.lineage_defs.specs.Histories.{StartsRise, begun_by};
+ghost use Rattle.wire_defs.specs.Frames.{spelled_frame};
+ghost use Rattle.ship_defs.specs.Greeting as ship;
+ghost use Rattle.session_handshake.specs.Answering.{TellsHistory};
+
 use gvn_key::{Bytes, NoMemory};
 use gvn_model::{History, Reign, Reigns};
 use repl_wire::{Frame, write_frame};
@@ -8,7 +20,9 @@ use std::alloc::Global;
 const MOST_REIGNS: usize = 32_768;
 
 // The reigns that have begun by a number, or one more than there may be of them.
-fn told_reigns(alloc: Global, reigns: &[Reign], number: u64) -> Result<Reigns, NoMemory> {
+fn told_reigns(alloc: Global, reigns: &[Reign], number: u64) -> Result<Reigns, NoMemory>
+    ensures { IfOk result (λ told. told ≡ take (lineage.MOST_REIGNS + 1) (begun_by number (map reign_value reigns.now))) }
+{
     let mut told = Reigns::new(alloc);
     for reign in reigns {
         if reign.start <= number && told.len() <= MOST_REIGNS {
@@ -19,7 +33,9 @@ fn told_reigns(alloc: Global, reigns: &[Reign], number: u64) -> Result<Reigns, N
 }
 
 // A history as a HELLO tells it.
-fn carried(alloc: Global, mine: &History) -> Result<History, NoMemory> {
+fn carried(alloc: Global, mine: &History) -> Result<History, NoMemory>
+    ensures { IfOk result (λ h. history_value h ≡ ship.carried (history_value mine.now)) }
+{
     Ok(History {
         length: mine.length,
         reigns: told_reigns(alloc, mine.reigns.as_slice(), mine.length)?,
@@ -27,7 +43,12 @@ fn carried(alloc: Global, mine: &History) -> Result<History, NoMemory> {
 }
 
 // The bytes of a secondary's HELLO.
-pub(crate) fn hello(alloc: Global, name: &Bytes, mine: &History) -> Result<Bytes, NoMemory> {
+pub(crate) fn hello(alloc: Global, name: &Bytes, mine: &History) -> Result<Bytes, NoMemory>
+    requires few { mine.now.length < 2 ^ 40 }
+    requires form { AllByRecursion IsReign (history_value mine.now).reigns }
+    requires name { IsSiteName name.now }
+    ensures { IfOk result (λ bytes. bytes ≡ spelled_frame (ship.greeting name.now (history_value mine.now))) }
+{
     let frame = Frame::Hello {
         version: 1,
         name: name.copy()?,
@@ -39,7 +60,9 @@ pub(crate) fn hello(alloc: Global, name: &Bytes, mine: &History) -> Result<Bytes
 }
 
 // Whether the starts of reigns rise, up to a number.
-fn starts_rise(reigns: &[Reign], most: u64) -> bool {
+fn starts_rise(reigns: &[Reign], most: u64) -> bool
+    ensures { IsTrue result ↔ (StartsRise 0 (map reign_value reigns.now) × AllByRecursion (λ (r : defs.Reign). r.start ≤ most) (map reign_value reigns.now)) }
+{
     let mut low = 0;
     for reign in reigns {
         if reign.start <= low || most < reign.start {
@@ -51,6 +74,8 @@ fn starts_rise(reigns: &[Reign], most: u64) -> bool {
 }
 
 // Whether a primary admits a HELLO of that history.
-pub(crate) fn is_admitted(history: &History) -> bool {
+pub(crate) fn is_admitted(history: &History) -> bool
+    ensures { IsTrue result ↔ TellsHistory (history_value history.now) }
+{
     history.reigns.len() <= MOST_REIGNS && starts_rise(history.reigns.as_slice(), history.length)
 }
