@@ -92,9 +92,9 @@ heard_one begun s now offset f waiting received put frames is fits at h =
       are = subst (λ (l : List Frame). AreFrames received l (h.rest ++ s.incoming.fresh)) all h.are;
       admitted = admitted_push (Fits s.purpose) begun frames s.heard now f h.admitted fits;
       put_is = ap (λ (l : List Arrival). l ++ arrived s.offset (reign_behind s.heard.last) f) h.put_is
-        ∙ (ap (λ (n : ℕ). arrivals 0 None frames ++ arrived n (reign_behind s.heard.last) f) h.at
-        ∙ (ap (λ (o : Option Reign). arrivals 0 None frames ++ arrived (offset_after 0 frames) o f) (sym h.told)
-        ∙ sym (arrivals_push 0 None frames f (omega arith))));
+          ∙ (ap (λ (n : ℕ). arrivals 0 None frames ++ arrived n (reign_behind s.heard.last) f) h.at
+          ∙ (ap (λ (o : Option Reign). arrivals 0 None frames ++ arrived (offset_after 0 frames) o f) (sym h.told)
+          ∙ sym (arrivals_push 0 None frames f (omega arith))));
       told = told_push None frames f ∙ told_fits s.purpose s.heard now f fits;
       at = at ∙ (ap (λ (n : ℕ). min (n + length (spelled_frame f)) (2 ^ 64 - 1)) h.at ∙ offset_push frames f);
       tail = subst (λ (l : List Frame). HasTail s.incoming.bad s.incoming.reading (offset_after 0 l) h.rest s.incoming.fresh) all h.tail;
@@ -105,7 +105,7 @@ pub hearing_on : (begun : Heard) (a b : Listening) (f : Frame) (received : List 
 hearing_on begun a b f received put now frames one into h =
     let there = heard_one begun a b.heard b.offset f b.incoming.waiting received put frames one.waiting one.fits into.1 h in
     subst (λ (s : Listening). IsHearing begun s received now (frames ++ f ∷ [])) (sym one.after)
-      (subst (λ (l : List Arrival). IsHearing begun (record a { heard = b.heard; offset = b.offset; incoming = record a.incoming { waiting = b.incoming.waiting } }) received l (frames ++ f ∷ [])) (sym into.0) there)
+    (subst (λ (l : List Arrival). IsHearing begun (record a { heard = b.heard; offset = b.offset; incoming = record a.incoming { waiting = b.incoming.waiting } }) received l (frames ++ f ∷ [])) (sym into.0) there)
 
 may_of_fits : (p : Purpose) (h now : Heard) (f : Frame) → Fits p h f now → MayCome h f
 may_of_fits p h now (Hello version name history) x = x
@@ -122,16 +122,18 @@ unfit_one begun s f waiting received put frames is never h =
     let all : AllByRecursion IsFrame (frames ++ f ∷ waiting) = subst (λ (l : List Frame). AllByRecursion IsFrame (frames ++ l)) is h.are.each in
     let behind = h.rest ++ s.incoming.fresh in
     let whole : received ≡ stream frames ++ (stream (f ∷ waiting) ++ behind)
-          = h.are.whole ∙ (ap (λ (l : List Frame). stream (frames ++ l) ++ behind) is
-            ∙ (ap (λ (l : List ℕ). l ++ behind) (stream_more frames (f ∷ waiting)) ∙ append_assoc (stream frames) (stream (f ∷ waiting)) behind)) in
-    (record {
-      frames = frames;
-      rest = stream (f ∷ waiting) ++ behind;
-      now = s.heard;
-      come = record { are = record { whole = whole; each = all_front frames (f ∷ waiting) all }; admitted = h.admitted };
-      lacks = refused (record { frame = f; more = stream waiting ++ behind; form = (all_back frames (f ∷ waiting) all).0; is = append_assoc (spelled_frame f) (stream waiting) behind; never = λ now x. never (may_of_fits s.purpose s.heard now f x) });
-      at = h.at;
-    }, refl)
+    = h.are.whole ∙ (ap (λ (l : List Frame). stream (frames ++ l) ++ behind) is
+    ∙ (ap (λ (l : List ℕ). l ++ behind) (stream_more frames (f ∷ waiting)) ∙ append_assoc (stream frames) (stream (f ∷ waiting)) behind)) in (
+      record {
+        frames = frames;
+        rest = stream (f ∷ waiting) ++ behind;
+        now = s.heard;
+        come = record { are = record { whole = whole; each = all_front frames (f ∷ waiting) all }; admitted = h.admitted };
+        lacks = refused (record { frame = f; more = stream waiting ++ behind; form = (all_back frames (f ∷ waiting) all).0; is = append_assoc (spelled_frame f) (stream waiting) behind; never = λ now x. never (may_of_fits s.purpose s.heard now f x) });
+        at = h.at;
+      },
+      refl,
+    )
 
 pub unfit_first : (begun : Heard) (s : Listening) (received : List ℕ) (put : List Arrival) (frames : List Frame)
     → IsUnfit s → IsHearing begun s received put frames → IsUnfitBehind s.purpose begun frames received false s.offset
@@ -157,9 +159,17 @@ tail_good begun s received put frames good h = subst (λ (b : Bool). HasTail b s
 -- no frame begins behind the last one that was heard
 pub unfit_bytes : (begun : Heard) (s : Listening) (received : List ℕ) (put : List Arrival) (frames : List Frame) → s.incoming.waiting ≡ [] → s.incoming.bad ≡ true → IsHearing begun s received put frames
     → IsUnfitBehind s.purpose begun frames received false s.offset
-unfit_bytes begun s received put frames none bad h =
-    (record { frames = frames; rest = h.rest ++ s.incoming.fresh; now = s.heard; come = record { are = are_alone begun s received put frames none h; admitted = h.admitted };
-      lacks = begins_none (tail_bad begun s received put frames bad h); at = h.at }, refl)
+unfit_bytes begun s received put frames none bad h = (
+  record {
+    frames = frames;
+    rest = h.rest ++ s.incoming.fresh;
+    now = s.heard;
+    come = record { are = are_alone begun s received put frames none h; admitted = h.admitted };
+    lacks = begins_none (tail_bad begun s received put frames bad h);
+    at = h.at;
+  },
+  refl,
+)
 
 some_bytes : (rest fresh : List ℕ) → 0 < length rest + length fresh → rest ++ fresh ≢ []
 some_bytes [] fresh some none = let zero : length fresh ≡ 0 = ap (λ (l : List ℕ). length l) none in absurd (omega (arith, some, zero))
@@ -171,23 +181,25 @@ pub unfit_behind : (begun : Heard) (s : Listening) (received : List ℕ) (put : 
 unfit_behind begun s received put frames none good over some h =
     let tail = tail_good begun s received put frames good h in
     let same : s.incoming.reading.rest ≡ h.rest = ap (λ (r : Reading). r.rest) tail.0 in
-    let more : 0 < length h.rest + length s.incoming.fresh = subst (λ (l : List ℕ). 0 < length l + length s.incoming.fresh) same some in
-    (record {
-      frames = frames;
-      rest = h.rest ++ s.incoming.fresh;
-      now = s.heard;
-      come = record { are = are_alone begun s received put frames none h; admitted = h.admitted };
-      lacks = behind_last (subst (λ (l : ship.Last). IsOver l) (sym over) tt) (some_bytes h.rest s.incoming.fresh more);
-      at = h.at;
-    }, refl)
+    let more : 0 < length h.rest + length s.incoming.fresh = subst (λ (l : List ℕ). 0 < length l + length s.incoming.fresh) same some in (
+      record {
+        frames = frames;
+        rest = h.rest ++ s.incoming.fresh;
+        now = s.heard;
+        come = record { are = are_alone begun s received put frames none h; admitted = h.admitted };
+        lacks = behind_last (subst (λ (l : ship.Last). IsOver l) (sym over) tt) (some_bytes h.rest s.incoming.fresh more);
+        at = h.at;
+      },
+      refl,
+    )
 
 -- bytes are received and read
 
 are_behind : (received behind rest : List ℕ) (xs ys : List Frame) → AreFrames received xs behind → AreFrames behind ys rest → AreFrames received (xs ++ ys) rest
 are_behind received behind rest xs ys a b = record {
-    whole = a.whole ∙ (ap (λ (l : List ℕ). stream xs ++ l) b.whole ∙ (sym (append_assoc (stream xs) (stream ys) rest) ∙ ap (λ (l : List ℕ). l ++ rest) (sym (stream_more xs ys))));
-    each = all_more xs ys a.each b.each;
-  }
+  whole = a.whole ∙ (ap (λ (l : List ℕ). stream xs ++ l) b.whole ∙ (sym (append_assoc (stream xs) (stream ys) rest) ∙ ap (λ (l : List ℕ). l ++ rest) (sym (stream_more xs ys))));
+  each = all_more xs ys a.each b.each;
+}
 
 module _ (begun : Heard) (s : Listening) (received : List ℕ) (put : List Arrival) (frames : List Frame) (none : s.incoming.waiting ≡ []) (good : s.incoming.bad ≡ false) (h : IsHearing begun s received put frames) where
   abbrev with_incoming : Incoming → Listening
@@ -235,24 +247,24 @@ module _ (begun : Heard) (s : Listening) (received : List ℕ) (put : List Arriv
 
   read_of : (i : Incoming) → Reads s.incoming i → i.fresh ≡ [] → IsHearing begun (with_incoming i) received put frames
   read_of i (reads_on t begins fine) read = record {
-      rest = i.reading.rest;
-      are = are_read i t.frames i.reading.rest t.are t.added read;
-      admitted = h.admitted;
-      put_is = h.put_is;
-      told = h.told;
-      at = h.at;
-      tail = subst (λ (b : Bool). HasTail b i.reading (offset_after 0 (frames ++ i.waiting)) i.reading.rest i.fresh) (sym fine)
+    rest = i.reading.rest;
+    are = are_read i t.frames i.reading.rest t.are t.added read;
+    admitted = h.admitted;
+    put_is = h.put_is;
+    told = h.told;
+    at = h.at;
+    tail = subst (λ (b : Bool). HasTail b i.reading (offset_after 0 (frames ++ i.waiting)) i.reading.rest i.fresh) (sym fine)
         ((λ k. record { offset = at_read i.reading.offset t.frames i.waiting t.at_is t.added k; rest = i.reading.rest }), begins);
-    }
+  }
   read_of i (reads_none at r same bad) read = record {
-      rest = r.rest;
-      are = are_read i r.takes.frames r.rest r.takes.are r.takes.added read;
-      admitted = h.admitted;
-      put_is = h.put_is;
-      told = h.told;
-      at = h.at;
-      tail = subst (λ (b : Bool). HasTail b i.reading (offset_after 0 (frames ++ i.waiting)) r.rest i.fresh) (sym bad) (none_read r.rest i.fresh read r.none);
-    }
+    rest = r.rest;
+    are = are_read i r.takes.frames r.rest r.takes.are r.takes.added read;
+    admitted = h.admitted;
+    put_is = h.put_is;
+    told = h.told;
+    at = h.at;
+    tail = subst (λ (b : Bool). HasTail b i.reading (offset_after 0 (frames ++ i.waiting)) r.rest i.fresh) (sym bad) (none_read r.rest i.fresh read r.none);
+  }
 
   pub read_on : (i : Incoming) → HasRead s.incoming i → IsHearing begun (with_incoming i) received put frames
   read_on i r = read_of i r.reads r.fresh
@@ -288,11 +300,11 @@ begins_empty = (Resume 1, frame_type (Resume 1), _, resume, refl)
 
 pub begins_hearing : (p : Purpose) (begun : Heard) → reign_behind begun.last ≡ None → IsHearing begun (listening p begun) [] [] []
 begins_hearing p begun none = record {
-    rest = [];
-    are = record { whole = refl; each = tt };
-    admitted = refl;
-    put_is = refl;
-    told = sym none;
-    at = refl;
-    tail = (refl, begins_empty);
-  }
+  rest = [];
+  are = record { whole = refl; each = tt };
+  admitted = refl;
+  put_is = refl;
+  told = sym none;
+  at = refl;
+  tail = (refl, begins_empty);
+}

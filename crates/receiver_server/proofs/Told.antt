@@ -45,11 +45,11 @@ pub whole_all : (p : Purpose) (h now : Heard) (g : Globals) (frames : List Frame
     → AreFrames bytes (frames ++ last ∷ []) [] → Admitted (Fits p) h (frames ++ last ∷ []) now → IsOver now.last → HavePlaces g (frames ++ last ∷ [])
     → EndsFromPrimary p (with_globals h g) bytes last
 whole_all p h now g frames last bytes are admitted over places = record {
-    frames = frames;
-    now = with_globals now (globals_behind g (frames ++ last ∷ []));
-    come = record { are = are; admitted = admits_all p h now g (frames ++ last ∷ []) admitted places };
-    over = over;
-  }
+  frames = frames;
+  now = with_globals now (globals_behind g (frames ++ last ∷ []));
+  come = record { are = are; admitted = admits_all p h now g (frames ++ last ∷ []) admitted places };
+  over = over;
+}
 
 -- where nothing waits, these are all the whole frames
 
@@ -82,12 +82,14 @@ not_over ship.Shipped ne over = over
 pub ends_early : (begun : Heard) (s : Listening) (received : List ℕ) (put : List Arrival) (frames : List Frame) → IsHearing begun s received put frames → IsIdle s → s.heard.last ≢ ship.Over
     → IsUnfitBehind s.purpose begun frames received true s.offset
 ends_early begun s received put frames h idle ne =
-    let tail = tail_good begun s received put frames h idle.good in
-    (record {
-      frames = frames;
-      rest = h.rest;
-      now = s.heard;
-      come = record { are = are_alone begun s received put frames h idle.frames idle.fresh; admitted = h.admitted };
-      lacks = too_short tt (not_over s.heard.last ne) tail.1;
-      at = h.at;
-    }, refl)
+    let tail = tail_good begun s received put frames h idle.good in (
+      record {
+        frames = frames;
+        rest = h.rest;
+        now = s.heard;
+        come = record { are = are_alone begun s received put frames h idle.frames idle.fresh; admitted = h.admitted };
+        lacks = too_short tt (not_over s.heard.last ne) tail.1;
+        at = h.at;
+      },
+      refl,
+    )

@@ -1,7 +1,7 @@
 // What has come over a connection and wasn't heard yet.
 ghost use Rattle.std.specs.Prelude.{◌≡◌, ◌≢◌, ◌↔◌, ◌+◌, ◌<◌, ◌++◌, ◌∷◌, ◌||◌, ℕ, List, [], length, true, false, IsTrue, IfOk, MatchOption, OnOk, OnErr, IsErrOf};
 ghost use Rattle.wire_defs.specs.Frames as defs;
-ghost use Rattle.wire_defs.specs.Frames.{IsFrame, spelled_frame};
+ghost use Rattle.wire_defs.specs.Frames.{BeginsFrame, IsFrame, spelled_frame};
 ghost use Rattle.wire_defs.specs.Links.{SameReceiving, IsReached, counted};
 ghost use Rattle.repl_wire.specs.Values.{frame_value};
 ghost use Rattle.receiver_server.specs.Incomings.{nothing_came, unheard, HasRead, Pulls};
@@ -123,6 +123,7 @@ impl Inbox {
         ensures line { R.line rx.new ≡ R.line rx.old }
         ensures same { SameReceiving (R.receiving rx.old) (R.receiving rx.new) }
         ensures came { (piece : List ℕ) × Pulls result piece self.old self.new × (IsTrue (R.receiving rx.old).shown → (R.receiving rx.new).received ≡ (R.receiving rx.old).received ++ piece) }
+        ensures rest { self.new.bad ≡ false → BeginsFrame self.new.reading.rest }
         ensures waits { IsTrue (R.receiving rx.old).told → IfOk result (λ a. a ≡ Step.Waits → ((R.receiving rx.old).unread ≡ []) × ((R.receiving rx.old).ended ≡ false)) }
         ensures ended { IsTrue (R.receiving rx.old).told → IfOk result (λ a. a ≡ Step.Ended → ((R.receiving rx.new).unread ≡ []) × IsTrue (R.receiving rx.new).ended) }
         ensures closed { (R.receiving rx.new).closed ≡ ((R.receiving rx.old).closed || is_ended result) }

@@ -5,6 +5,7 @@ ghost use Rattle.global_defs.specs.Fields.{IsReign};
 ghost use Rattle.global_defs.specs.Prefix.{IsPrefix};
 ghost use Rattle.gvn_model.specs.Entries.{history_value};
 ghost use Rattle.wire_defs.specs.Frames as defs;
+ghost use Rattle.wire_defs.specs.Frames.{BeginsFrame};
 ghost use Rattle.wire_defs.specs.Links.{SameReceiving, IsReached, counted};
 ghost use Rattle.ship_defs.specs.Hearing.{Heard, unbegun, Over};
 ghost use Rattle.recv_pool.specs.Pools.{put_in, free, reign_of, SameIn};
@@ -84,6 +85,13 @@ impl Receiver {
         self.hearer.is_over()
     }
 
+    /// Whether frames have come that weren't heard yet.
+    pub fn has_waiting(&self) -> bool
+        ensures { IsTrue result ↔ (self.now.incoming.waiting ≢ []) }
+    {
+        self.inbox.first().is_some()
+    }
+
     // Hears the first frame that waits.
     fn take_next(&mut self, reign: Option<Reign>, pool: &mut PoolIn) -> Step
         requires may { (f : defs.Frame) × (fs : List defs.Frame) × (self.old.incoming.waiting ≡ f ∷ fs) × MayCome self.old.heard f }
@@ -161,12 +169,14 @@ impl Receiver {
         ensures patience { self.old.incoming.waiting ≡ [] → self.old.incoming.fresh ≡ [] → self.old.heard.last ≢ Over → (R.receiving rx.old).told ≡ false
             → OnOk result ((R.receiving rx.new).patience + patience_cost result ≡ (R.receiving rx.old).patience) }
         ensures still { self.old.incoming.waiting ≢ [] → R.receiving rx.new ≡ R.receiving rx.old }
+        // less than a frame is kept of the bytes behind those that wait
+        ensures rest { self.new.incoming.bad ≡ false → BeginsFrame self.new.incoming.reading.rest }
         ensures grows { IsTrue (R.receiving rx.old).shown → IsPrefix (R.receiving rx.old).received (R.receiving rx.new).received }
         ensures cut { IsErrOf result HearError.Cut → (R.receiving rx.new).cuts ≡ counted (R.receiving rx.old).cuts 1 }
         ensures uncut { (IsErrOf result HearError.Cut → ⊥) → (R.receiving rx.new).cuts ≡ (R.receiving rx.old).cuts }
         ensures cut_only { IsTrue (R.receiving rx.old).told → IsErrOf result HearError.Cut → IsReached (R.receiving rx.old).order (R.receiving rx.old).received }
     {
-        if self.inbox.first().is_some() {
+        if self.has_waiting() {
             if !pool.has_place() {
                 return Ok(Step::Waits);
             }
