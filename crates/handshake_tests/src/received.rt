@@ -107,3 +107,63 @@ fn an_early_end_is_told(rt: HostRuntime) -> Result<(), Fail> {
     }
     Ok(())
 }
+
+// Where the frames of a connection begin.
+const PLACES: [usize; 6] = [0, 13, 32, 63, 82, 113];
+
+#[test]
+fn a_foreign_byte_is_told_at_its_frame(rt: HostRuntime) -> Result<(), Fail> {
+    let alloc = rt.alloc();
+    let bytes = connection(alloc)?;
+    for place in PLACES {
+        for piece in [1, 8, 200] {
+            let mut foreign = Bytes::of(alloc, &bytes.as_slice()[..place])?;
+            foreign.push(7)?;
+            foreign.push_all(&bytes.as_slice()[place..])?;
+            let (last, arrived) = heard(alloc, foreign.as_slice(), piece)?;
+            let offset = place as u64;
+            assert!(rt; last == Err(HearError::BadFrame { offset }));
+            assert_eq!(rt;
+                arrived,
+                if place < 63 {
+                    0
+                } else if place < 113 {
+                    1
+                } else {
+                    2
+                }
+            );
+        }
+    }
+    Ok(())
+}
+
+#[test]
+fn a_frame_left_out_is_told_at_the_next(rt: HostRuntime) -> Result<(), Fail> {
+    let alloc = rt.alloc();
+    let bytes = connection(alloc)?;
+    for i in 0..5 {
+        let mut fewer = Bytes::of(alloc, &bytes.as_slice()[..PLACES[i]])?;
+        fewer.push_all(&bytes.as_slice()[PLACES[i + 1]..])?;
+        let (last, _) = heard(alloc, fewer.as_slice(), 5)?;
+        let offset = PLACES[i] as u64;
+        // the reign of B begins with entry 2; without its HISTORY that entry is A's, which is admissible
+        if i == 3 {
+            assert!(rt; last == Ok(Step::Over));
+        } else {
+            assert!(rt; last == Err(HearError::BadFrame { offset }));
+        }
+    }
+    Ok(())
+}
+
+#[test]
+fn bytes_behind_the_last_frame_are_bad(rt: HostRuntime) -> Result<(), Fail> {
+    let alloc = rt.alloc();
+    let mut bytes = connection(alloc)?;
+    bytes.push(2)?;
+    let (last, arrived) = heard(alloc, bytes.as_slice(), 200)?;
+    assert!(rt; last == Err(HearError::BadFrame { offset: 126 }));
+    assert_eq!(rt; arrived, 2);
+    Ok(())
+}

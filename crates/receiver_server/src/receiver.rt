@@ -92,6 +92,15 @@ impl Receiver {
         self.inbox.first().is_some()
     }
 
+    // No frame that fits stands where the next one is to begin.
+    fn bad_frame(&self) -> HearError
+        ensures { result ≡ HearError.BadFrame self.now.offset }
+    {
+        HearError::BadFrame {
+            offset: self.offset,
+        }
+    }
+
     // Hears the first frame that waits.
     fn take_next(&mut self, reign: Option<Reign>, pool: &mut PoolIn) -> Step
         requires may { (f : defs.Frame) × (fs : List defs.Frame) × (self.old.incoming.waiting ≡ f ∷ fs) × MayCome self.old.heard f }
@@ -130,9 +139,7 @@ impl Receiver {
             None => return Ok(Step::Waits),
         };
         if !self.hearer.may_come(frame) {
-            return Err(HearError::BadFrame {
-                offset: self.offset,
-            });
+            return Err(self.bad_frame());
         }
         match self.hearer.reign_told() {
             Ok(reign) => Ok(self.take_next(reign, pool)),
@@ -183,9 +190,7 @@ impl Receiver {
             return self.hear_next(pool);
         }
         if self.inbox.is_bad() || (self.hearer.is_over() && self.inbox.has_left()) {
-            return Err(HearError::BadFrame {
-                offset: self.offset,
-            });
+            return Err(self.bad_frame());
         }
         if self.hearer.is_over() {
             return Ok(Step::Over);

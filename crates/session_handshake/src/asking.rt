@@ -164,7 +164,31 @@ fn hear<L: Linker>(
     answer: Bytes,
     receiver: &mut Receiver,
     pool: &mut PoolIn,
-) -> Result<Handshake, GreetError> {
+) -> Result<Handshake, GreetError>
+    requires lines { HaveLines L.Tx.line L.Rx.line ends.old }
+    requires one { (L.Tx.sending ends.old.up_tx).connection ≡ (L.Tx.sending ends.old.down_tx).connection }
+    requires frame { (f : defs.Frame) × IsFrame f × (answer ≡ spelled_frame f) }
+    requires carries { Carries (L.links links.now).told answer (L.Tx.sending ends.old.up_tx) answer }
+    requires gets { Gets (L.links links.now).told (L.links links.now).shown (L.Rx.receiving ends.old.down_rx) [] }
+    requires begun { (begun : Heard) × (begun.last ≡ Unbegun) × (receiver.old ≡ listening receiver.old.purpose begun) }
+    requires pool { (put_in pool.old ≡ []) × (0 < free pool.old) }
+    requires uncut { cuts_of (views L.Tx.sending L.Rx.receiving ends.old) ≡ 0 }
+    ensures lines { HaveLines L.Tx.line L.Rx.line ends.new }
+    ensures same { SameEnds (views L.Tx.sending L.Rx.receiving ends.old) (views L.Tx.sending L.Rx.receiving ends.new) }
+    ensures down_tx { SendingLooked (L.Tx.sending ends.old.down_tx) (L.Tx.sending ends.new.down_tx) }
+    ensures up_rx { ReceivingLooked (L.Rx.receiving ends.old.up_rx) (L.Rx.receiving ends.new.up_rx) }
+    ensures carries { (left : List ℕ) × Carries (L.links links.now).told answer (L.Tx.sending ends.new.up_tx) left }
+    ensures pool { SameIn pool.old pool.new × (put_in pool.new ≡ []) × (free pool.old ≤ free pool.new) }
+    ensures fresh { OnOk result (receiver.new.incoming.fresh ≡ []) }
+    ensures purpose { receiver.new.purpose ≡ receiver.old.purpose }
+    ensures closed { OnOk result ((L.Rx.receiving ends.new.down_rx).closed ≡ false) }
+    ensures answered { IfOk result (λ h. receiver.new.heard ≡ behind receiver.old.purpose receiver.old.heard (answer_frame h)) }
+    ensures hears { IsTrue (L.links links.now).shown → IfOk result (λ h. IsHearing receiver.old.heard receiver.new (L.Rx.receiving ends.new.down_rx).received [] (answer_frame h ∷ [])) }
+    ensures bad { IsTrue (L.links links.now).shown → IfErr result (λ e. (offset : ℕ) → e ≡ GreetError.BadFrame offset
+        → IsUnfitBehind receiver.old.purpose receiver.old.heard [] (L.Rx.receiving ends.new.down_rx).received (L.Rx.receiving ends.new.down_rx).closed offset) }
+    ensures cut { IsErrOf result GreetError.Cut → cuts_of (views L.Tx.sending L.Rx.receiving ends.new) ≡ 1 }
+    ensures uncut { (IsErrOf result GreetError.Cut → ⊥) → cuts_of (views L.Tx.sending L.Rx.receiving ends.new) ≡ 0 }
+{
     let mut answer = Outgoing::new(answer);
     loop {
         match answer_turn(links, ends, &mut answer, receiver, pool) {
