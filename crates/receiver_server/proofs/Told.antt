@@ -88,7 +88,7 @@ ends_early begun s received put frames h idle ne =
         rest = h.rest;
         now = s.heard;
         come = record { are = are_alone begun s received put frames h idle.frames idle.fresh; admitted = h.admitted };
-        lacks = too_short tt (not_over s.heard.last ne) tail.1;
+        lacks = too_short refl (not_over s.heard.last ne) tail.1;
         at = h.at;
       },
       refl,

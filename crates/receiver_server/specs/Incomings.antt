@@ -1,5 +1,5 @@
 -- What has come over a connection and wasn't heard yet.
-use Rattle.std.specs.Prelude.{◌≡◌, ◌⊎◌, ℕ, ◌+◌, ◌<◌, ◌≤◌, Bool, true, false, List, [], ◌++◌, length, if◌then◌else◌, Result, Ok, Err}
+use Rattle.std.specs.Prelude.{◌≡◌, ◌⊎◌, ℕ, ◌+◌, ◌^◌, ◌<◌, ◌≤◌, Bool, true, false, List, [], ◌++◌, length, if◌then◌else◌, Result, Ok, Err}
 use Rattle.std.specs.List.{AllByRecursion}
 use Rattle.wire_defs.specs.Frames.{Frame, Reading, IsFrame, BeginsFrame, stream}
 use Rattle.repl_wire.specs.Feeds.{Takes, Refuses}
@@ -52,10 +52,10 @@ IsLeft true waiting rest fresh left = Unit {0}
 IsLeft false waiting rest fresh left = (left ≡ length (stream waiting) + length rest + fresh) × BeginsFrame rest
 
 -- What is kept of its fields. A frame waits only where all bytes received were read.
-pub record IsInbox (waiting : List Frame) (rest : List ℕ) (bad : Bool) (fresh : ℕ) (piece : List ℕ) (left : ℕ) : Type 0 where
+pub record IsInbox (waiting : List Frame) (rest : List ℕ) (bad : Bool) (fresh : ℕ) (piece : List ℕ) (count : ℕ) : Type 0 where
   pub form : AllByRecursion IsFrame waiting
   pub room : 0 < length piece
   pub most : length piece < 2 ^ 32
   pub inside : fresh ≤ length piece
   pub idle : (fresh ≡ 0) ⊎ (waiting ≡ [])
-  pub left : IsLeft bad waiting rest fresh left
+  pub left : IsLeft bad waiting rest fresh count

@@ -68,20 +68,20 @@ abbrev pub HavePlaces : Globals → List Frame → Type 0
 HavePlaces g [] = Unit {0}
 HavePlaces g (f ∷ fs) = HasPlace g f × HavePlaces (with_updates g f) fs
 
--- a frame that comes behind RESUME
-abbrev pub IsShipped : Frame → Type 0
-IsShipped (Hello version name history) = ⊥
-IsShipped (Resume n) = ⊥
-IsShipped (RollbackFirst n) = ⊥
-IsShipped (History r) = Unit {0}
-IsShipped (Entry n t) = Unit {0}
-IsShipped (Bye n) = Unit {0}
+-- a frame that is no answer
+abbrev pub IsNoAnswer : Frame → Type 0
+IsNoAnswer (Hello version name history) = Unit {0}
+IsNoAnswer (Resume n) = ⊥
+IsNoAnswer (RollbackFirst n) = ⊥
+IsNoAnswer (History r) = Unit {0}
+IsNoAnswer (Entry n t) = Unit {0}
+IsNoAnswer (Bye n) = Unit {0}
 
 -- What was heard once a step has answered so, behind the frames of before: one more frame or none. Where it fails none was.
 abbrev pub Hears : Result Step HearError → (before after : List Frame) → Type 0
 Hears (Ok Received) before after = after ≡ before
 Hears (Ok (Answered answer)) before after = after ≡ before ++ answer_frame answer ∷ []
-Hears (Ok HeardOne) before after = (f : Frame) × IsShipped f × (after ≡ before ++ f ∷ [])
+Hears (Ok HeardOne) before after = (f : Frame) × IsNoAnswer f × (after ≡ before ++ f ∷ [])
 Hears (Ok Waits) before after = after ≡ before
 Hears (Ok Over) before after = after ≡ before
 Hears (Ok Ended) before after = after ≡ before
@@ -101,7 +101,7 @@ HasPut f a b before after = (after ≡ before ++ arrived a.offset (reign_behind 
 abbrev pub StepTells : Step → Frame → Type 0
 StepTells Received f = ⊥
 StepTells (Answered answer) f = f ≡ answer_frame answer
-StepTells HeardOne f = IsShipped f
+StepTells HeardOne f = IsNoAnswer f
 StepTells Waits f = ⊥
 StepTells Over f = ⊥
 StepTells Ended f = ⊥
@@ -121,7 +121,7 @@ pub record HasGot (a b : Listening) : Type 0 where
 abbrev pub Does : Result Step HearError → (a b : Listening) → Type 0
 Does (Ok Received) a b = HasGot a b × (b.incoming.fresh ≡ []) × (a.incoming.fresh ≡ [] → b.incoming.bad ≡ false → unheard a.incoming < unheard b.incoming)
 Does (Ok (Answered answer)) a b = HasHeard (answer_frame answer) a b
-Does (Ok HeardOne) a b = (f : Frame) × IsShipped f × HasHeard f a b
+Does (Ok HeardOne) a b = (f : Frame) × IsNoAnswer f × HasHeard f a b
 Does (Ok Waits) a b = b ≡ a
 Does (Ok Over) a b = b ≡ a
 Does (Ok Ended) a b = b ≡ a

@@ -11,7 +11,7 @@ ghost use Rattle.recv_pool.specs.Pools.{arrival_value, reign_of};
 ghost use Rattle.ship_defs.specs.Hearing as ship;
 ghost use Rattle.ship_defs.specs.Hearing.{MayReign, unbegun};
 ghost use Rattle.ship_defs.specs.Arrivals.{IsArrival, arrived};
-ghost use Rattle.receiver_server.specs.Hearings.{purpose_value, reign_behind, MayCome, behind};
+ghost use Rattle.receiver_server.specs.Hearings.{purpose_value, reign_behind, IsHeard, MayCome, behind};
 
 use super::begun::{begun, is_same};
 use gvn_key::NoMemory;
@@ -167,7 +167,8 @@ impl Hearer {
     fn enter(&mut self)
         requires under { ship.IsUnder self.old.last }
         requires few { self.old.count + 1 < 2 ^ 40 }
-        ensures { self.new ≡ ship.entered self.old self.old.last }
+        ensures entered { self.new ≡ ship.entered self.old self.old.last }
+        ensures knew { IsHeard self.old }
     {
         self.count += 1;
         match mem::replace(&mut self.last, Last::Shipped) {

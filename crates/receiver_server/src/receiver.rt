@@ -51,7 +51,7 @@ fn step_of(frame: &Frame) -> Step
     match frame {
         Frame::Resume(number) => Step::Answered(Handshake::Resume(*number)),
         Frame::RollbackFirst(number) => Step::Answered(Handshake::RollbackFirst(*number)),
-        _ => Step::Heard,
+        Frame::Hello { .. } | Frame::History(_) | Frame::Entry(..) | Frame::Bye(_) => Step::Heard,
     }
 }
 

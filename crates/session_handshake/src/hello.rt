@@ -59,16 +59,28 @@ pub(crate) fn hello(alloc: Global, name: &Bytes, mine: &History) -> Result<Bytes
     Ok(bytes)
 }
 
-// Whether the starts of reigns rise, up to a number.
-fn starts_rise(reigns: &[Reign], most: u64) -> bool
-    ensures { IsTrue result ↔ (StartsRise 0 (map reign_value reigns.now) × AllByRecursion (λ (r : defs.Reign). r.start ≤ most) (map reign_value reigns.now)) }
+// Whether the starts of reigns rise, from 1 on.
+fn starts_rise(reigns: &[Reign]) -> bool
+    ensures { IsTrue result ↔ StartsRise 0 (map reign_value reigns.now) }
 {
     let mut low = 0;
     for reign in reigns {
-        if reign.start <= low || most < reign.start {
+        if reign.start <= low {
             return false;
         }
         low = reign.start;
+    }
+    true
+}
+
+// Whether all of these reigns have begun by a number.
+fn have_begun(reigns: &[Reign], number: u64) -> bool
+    ensures { IsTrue result ↔ AllByRecursion (λ (r : defs.Reign). r.start ≤ number) (map reign_value reigns.now) }
+{
+    for reign in reigns {
+        if number < reign.start {
+            return false;
+        }
     }
     true
 }
@@ -77,5 +89,6 @@ fn starts_rise(reigns: &[Reign], most: u64) -> bool
 pub(crate) fn is_admitted(history: &History) -> bool
     ensures { IsTrue result ↔ TellsHistory (history_value history.now) }
 {
-    history.reigns.len() <= MOST_REIGNS && starts_rise(history.reigns.as_slice(), history.length)
+    let reigns = history.reigns.as_slice();
+    reigns.len() <= MOST_REIGNS && starts_rise(reigns) && have_begun(reigns, history.length)
 }

@@ -4,8 +4,7 @@ use Rattle.std.specs.List.{last_or}
 use Rattle.std.proofs.lemmas.List.{take_more, map-append}
 use Rattle.gvn_model.specs.Reigns.{reign_value}
 use Rattle.lineage_defs.specs.Histories.{begun_by}
-use Rattle.resync_core.proofs.BegunReigns.{begun-push, begun-push_late}
-use Rattle.receiver_server.proofs.Knows.{last_push}
+use Rattle.receiver_server.proofs.Knows.{begun-push, begun-push_late, last_push}
 use Rattle.receiver_server.proofs.begun.begun.Goals as goal
 use Rattle.receiver_server.proofs.begun.begun.Goals.{then-reign-number, else-reign-number}
 
@@ -24,10 +23,12 @@ loop-reign-preserved c =
           let more = ap (begun_by n) e ∙ begun-push n front (reign_value x) w.if-reign-number.true in (
             w.count-is ∙ (ap (λ k. k + 1) c.loop-reign.invariant.0 ∙ sym (ap length more ∙ length-append (begun_by n front) (reign_value x ∷ []))),
             ap (λ o. option_map (λ r. reign_value r.now) o) w.last-is ∙ sym (ap (last_or None) more ∙ last_push None (begun_by n front) (reign_value x)),
+            omega (arith, c.loop-reign.invariant.2, w.count-is),
           ))
       | else-reign-number w ↦ (
           let same = ap (begun_by n) e ∙ begun-push_late n front (reign_value x) (let past = w.if-reign-number.false in omega (arith, past)) in (
             w.count-is ∙ (c.loop-reign.invariant.0 ∙ sym (ap length same)),
             ap (λ o. option_map (λ r. reign_value r.now) o) w.last-is ∙ (c.loop-reign.invariant.1 ∙ sym (ap (last_or None) same)),
+            omega (arith, c.loop-reign.invariant.2, w.count-is),
           ))
     ]
