@@ -9,13 +9,14 @@ use Rattle.ship_defs.specs.Directions.{Admitted, refused, begins_none, behind_la
 use Rattle.ship_defs.specs.Hearing as ship
 use Rattle.ship_defs.specs.Hearing.{Purpose, Heard, IsOver, Fits, entered, with_entry, with_reign, behind_resume, HasUnfit}
 use Rattle.ship_defs.specs.Arrivals.{Arrival, arrivals, arrived, told_reign}
-use Rattle.receiver_server.specs.Hearings.{reign_behind, MayCome}
+use Rattle.receiver_server.specs.Hearings.{reign_behind, MayCome, behind}
+use Rattle.receiver_server.specs.Answers.{IsHearAnswer}
 use Rattle.receiver_server.specs.Incomings.{Incoming, Reads, begins as reads_on, begins_none as reads_none, HasRead, with_piece, Pulls, unheard}
 use Rattle.receiver_server.specs.declared.step.HearError.{HearError}
 use Rattle.receiver_server.specs.declared.step.HearError.TheVariants.{Cut, BadFrame, NoMemory}
 use Rattle.receiver_server.specs.declared.step.Step.{Step}
 use Rattle.receiver_server.specs.declared.step.Step.TheVariants.{Received, Answered, Heard as HeardOne, Waits, Over, Ended}
-use Rattle.receiver_server.specs.Listenings.{Listening, listening, told_last, HasTail, IsHearing, HasHeard, HasPut, IsUnfit, IsUnfitBehind}
+use Rattle.receiver_server.specs.Listenings.{Listening, listening, told_last, HasTail, IsHearing, HasHeard, HasPut, IsUnfit, IsUnfitBehind, Hears, Does, StepTells}
 
 admitted_push : {S : Type 0} (A : S → Frame → S → Type 0) (s : S) (fs : List Frame) (h now : S) (f : Frame) → Admitted A s fs h → A h f now → Admitted A s (fs ++ f ∷ []) now
 admitted_push A s [] h now f m may = (now, subst (λ t. A t f now) m may, refl)
@@ -116,20 +117,20 @@ may_of_fits p h now (Entry n t) x = (x.0, x.1)
 may_of_fits p h now (Bye n) x = (x.0, x.1)
 
 -- a frame that waited doesn't fit
-unfit_one : (begun : Heard) (s : Listening) (f : Frame) (waiting : List Frame) (received : List ℕ) (put : List Arrival) (frames : List Frame)
+pub unfit_one : (begun : Heard) (s : Listening) (f : Frame) (waiting : List Frame) (received : List ℕ) (put : List Arrival) (frames : List Frame)
     → s.incoming.waiting ≡ f ∷ waiting → (MayCome s.heard f → ⊥) → IsHearing begun s received put frames → IsUnfitBehind s.purpose begun frames received false s.offset
 unfit_one begun s f waiting received put frames is never h =
     let all : AllByRecursion IsFrame (frames ++ f ∷ waiting) = subst (λ (l : List Frame). AllByRecursion IsFrame (frames ++ l)) is h.are.each in
-    let behind = h.rest ++ s.incoming.fresh in
-    let whole : received ≡ stream frames ++ (stream (f ∷ waiting) ++ behind)
-    = h.are.whole ∙ (ap (λ (l : List Frame). stream (frames ++ l) ++ behind) is
-    ∙ (ap (λ (l : List ℕ). l ++ behind) (stream_more frames (f ∷ waiting)) ∙ append_assoc (stream frames) (stream (f ∷ waiting)) behind)) in (
+    let tail = h.rest ++ s.incoming.fresh in
+    let whole : received ≡ stream frames ++ (stream (f ∷ waiting) ++ tail)
+    = h.are.whole ∙ (ap (λ (l : List Frame). stream (frames ++ l) ++ tail) is
+    ∙ (ap (λ (l : List ℕ). l ++ tail) (stream_more frames (f ∷ waiting)) ∙ append_assoc (stream frames) (stream (f ∷ waiting)) tail)) in (
       record {
         frames = frames;
-        rest = stream (f ∷ waiting) ++ behind;
+        rest = stream (f ∷ waiting) ++ tail;
         now = s.heard;
         come = record { are = record { whole = whole; each = all_front frames (f ∷ waiting) all }; admitted = h.admitted };
-        lacks = refused (record { frame = f; more = stream waiting ++ behind; form = (all_back frames (f ∷ waiting) all).0; is = append_assoc (spelled_frame f) (stream waiting) behind; never = λ now x. never (may_of_fits s.purpose s.heard now f x) });
+        lacks = refused (record { frame = f; more = stream waiting ++ tail; form = (all_back frames (f ∷ waiting) all).0; is = append_assoc (spelled_frame f) (stream waiting) tail; never = λ now x. never (may_of_fits s.purpose s.heard now f x) });
         at = h.at;
       },
       refl,
@@ -138,6 +139,52 @@ unfit_one begun s f waiting received put frames is never h =
 pub unfit_first : (begun : Heard) (s : Listening) (received : List ℕ) (put : List Arrival) (frames : List Frame)
     → IsUnfit s → IsHearing begun s received put frames → IsUnfitBehind s.purpose begun frames received false s.offset
 unfit_first begun s received put frames u h = unfit_one begun s u.0 u.1 received put frames u.2 u.3 h
+
+-- what a step tells of a frame that was heard
+
+pub tells_hears : (a : Step) (f : Frame) (frames : List Frame) → StepTells a f → Hears (Ok a) frames (frames ++ f ∷ [])
+tells_hears Received f frames t = absurd t
+tells_hears (Answered answer) f frames t = ap (λ (x : Frame). frames ++ x ∷ []) t
+tells_hears HeardOne f frames t = (f, t, refl)
+tells_hears Waits f frames t = absurd t
+tells_hears Over f frames t = absurd t
+tells_hears Ended f frames t = absurd t
+
+pub tells_does : (a : Step) (f : Frame) (s t : Listening) → StepTells a f → HasHeard f s t → Does (Ok a) s t
+tells_does Received f s t tell h = absurd tell
+tells_does (Answered answer) f s t tell h = subst (λ (x : Frame). HasHeard x s t) tell h
+tells_does HeardOne f s t tell h = (f, tell, h)
+tells_does Waits f s t tell h = absurd tell
+tells_does Over f s t tell h = absurd tell
+tells_does Ended f s t tell h = absurd tell
+
+pub tells_hear : (a : Step) (f : Frame) → StepTells a f → IsHearAnswer (Ok a)
+tells_hear Received f t = t
+tells_hear (Answered answer) f t = tt
+tells_hear HeardOne f t = tt
+tells_hear Waits f t = t
+tells_hear Over f t = t
+tells_hear Ended f t = t
+
+pub fits_of : (p : Purpose) (h : Heard) (f : Frame) → IsFrame f → MayCome h f → Fits p h f (behind p h f)
+fits_of p h (Hello version name history) form may = absurd may
+fits_of p h (Resume n) form may = (may.0, may.1, refl)
+fits_of p h (RollbackFirst n) form may = (may.0, form.fields.0, may.1, refl)
+fits_of p h (History r) form may = (may.0, may.1, refl)
+fits_of p h (Entry n t) form may = (may.0, may.1, refl)
+fits_of p h (Bye n) form may = (may.0, may.1, refl)
+
+none_over : (f : Frame) (h : Heard) → MayCome (record h { last = ship.Over }) f → ⊥
+none_over (Hello version name history) h may = may
+none_over (Resume n) h may = may.0
+none_over (RollbackFirst n) h may = may.0
+none_over (History r) h may = may.0
+none_over (Entry n t) h may = may.0
+none_over (Bye n) h may = may.0
+
+-- nothing may come behind the last frame
+pub over_none : (f : Frame) (h : Heard) → h.last ≡ ship.Over → MayCome h f → ⊥
+over_none f h over may = none_over f h (subst (λ (l : ship.Last). MayCome (record h { last = l }) f) over may)
 
 -- where nothing waits, these are all the whole frames
 

@@ -44,3 +44,15 @@ IsOverAnswer (Ok Waits) = ⊥
 IsOverAnswer (Ok Ended) = ⊥
 IsOverAnswer (Err Cut) = ⊥
 IsOverAnswer (Err NoMemory) = ⊥
+
+-- that a frame was heard, or why not
+abbrev pub IsHearAnswer : Result Step HearError → Type 0
+IsHearAnswer (Ok (Answered answer)) = Unit {0}
+IsHearAnswer (Ok Heard) = Unit {0}
+IsHearAnswer (Err (BadFrame offset)) = Unit {0}
+IsHearAnswer (Err NoMemory) = Unit {0}
+IsHearAnswer (Ok Received) = ⊥
+IsHearAnswer (Ok Waits) = ⊥
+IsHearAnswer (Ok Over) = ⊥
+IsHearAnswer (Ok Ended) = ⊥
+IsHearAnswer (Err Cut) = ⊥

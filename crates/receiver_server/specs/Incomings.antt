@@ -39,9 +39,9 @@ abbrev pub Pulls : Result Step HearError → (piece : List ℕ) → (a b : Incom
 Pulls (Ok Received) piece a b = HasRead (with_piece a piece) b × (a.fresh ≡ [] → 0 < length piece)
 Pulls (Ok (Answered answer)) piece a b = ⊥
 Pulls (Ok Heard) piece a b = ⊥
-Pulls (Ok Waits) piece a b = (piece ≡ []) × (b ≡ a)
+Pulls (Ok Waits) piece a b = (piece ≡ []) × (b ≡ a) × (a.fresh ≡ [])
 Pulls (Ok Over) piece a b = ⊥
-Pulls (Ok Ended) piece a b = (piece ≡ []) × (b ≡ a)
+Pulls (Ok Ended) piece a b = (piece ≡ []) × (b ≡ a) × (a.fresh ≡ [])
 Pulls (Err Cut) piece a b = (piece ≡ []) × (b ≡ a)
 Pulls (Err (BadFrame offset)) piece a b = ⊥
 Pulls (Err NoMemory) piece a b = b ≡ with_piece a piece

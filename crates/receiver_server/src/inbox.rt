@@ -67,6 +67,7 @@ impl Inbox {
     pub(crate) fn first(&self) -> Option<&Frame>
         ensures is { MatchOption result (self.now.waiting ≡ []) (λ f. (fs : List defs.Frame) × (self.now.waiting ≡ frame_value f.now ∷ fs)) }
         ensures form { MatchOption result (Unit {0}) (λ f. IsFrame (frame_value f.now)) }
+        ensures rest { self.now.bad ≡ false → BeginsFrame self.now.reading.rest }
     {
         self.waiting.front()
     }
@@ -85,7 +86,8 @@ impl Inbox {
 
     // Whether no frame begins as the bytes do that aren't whole frames.
     pub(crate) fn is_bad(&self) -> bool
-        ensures { result ≡ self.now.bad }
+        ensures is { result ≡ self.now.bad }
+        ensures rest { self.now.bad ≡ false → BeginsFrame self.now.reading.rest }
     {
         self.bad
     }

@@ -7,12 +7,13 @@ ghost use Rattle.gvn_model.specs.Entries.{history_value};
 ghost use Rattle.wire_defs.specs.Frames as defs;
 ghost use Rattle.wire_defs.specs.Frames.{BeginsFrame};
 ghost use Rattle.wire_defs.specs.Links.{SameReceiving, IsReached, counted};
+ghost use Rattle.ship_defs.specs.Arrivals.{Arrival};
 ghost use Rattle.ship_defs.specs.Hearing.{Heard, unbegun, Over};
 ghost use Rattle.recv_pool.specs.Pools.{put_in, free, reign_of, SameIn};
 ghost use Rattle.repl_wire.specs.Values.{frame_value};
 ghost use Rattle.receiver_server.specs.Hearings.{purpose_value, reign_behind, MayCome};
-ghost use Rattle.receiver_server.specs.Answers.{is_ended, patience_cost, IsOverAnswer};
-ghost use Rattle.receiver_server.specs.Listenings.{listening, IsHearing, IsQuiet, IsIdle, IsUnfit, IsUnfitBehind, Hears, Does, StepTells, HasHeard, HasPut};
+ghost use Rattle.receiver_server.specs.Answers.{is_ended, patience_cost, IsHearAnswer, IsOverAnswer};
+ghost use Rattle.receiver_server.specs.Listenings.{listening, IsHearing, IsQuiet, IsIdle, IsUnfitBehind, Hears, Does, StepTells, HasHeard, HasPut};
 
 use super::hearer::{Hearer, Purpose};
 use super::inbox::Inbox;
@@ -87,7 +88,8 @@ impl Receiver {
 
     /// Whether frames have come that weren't heard yet.
     pub fn has_waiting(&self) -> bool
-        ensures { IsTrue result ↔ (self.now.incoming.waiting ≢ []) }
+        ensures is { IsTrue result ↔ (self.now.incoming.waiting ≢ []) }
+        ensures rest { self.now.incoming.bad ≡ false → BeginsFrame self.now.incoming.reading.rest }
     {
         self.inbox.first().is_some()
     }
@@ -128,15 +130,21 @@ impl Receiver {
         requires some { self.old.incoming.waiting ≢ [] }
         requires place { 0 < free pool.old }
         ensures pool { SameIn pool.old pool.new }
-        ensures heard { IfOk result (λ a. (f : defs.Frame) × StepTells a f × HasHeard f self.old self.new × HasPut f self.old self.new (put_in pool.old) (put_in pool.new)) }
-        ensures err { OnErr result ((self.new ≡ self.old) × (put_in pool.new ≡ put_in pool.old)) }
-        ensures bad { IfErr result (λ e. (offset : ℕ) → e ≡ HearError.BadFrame offset → (offset ≡ self.old.offset) × IsUnfit self.old) }
-        ensures uncut { IsErrOf result HearError.Cut → ⊥ }
         ensures places { free pool.old + length (put_in pool.old) ≡ free pool.new + length (put_in pool.new) }
+        ensures hears { (begun : Heard) (received : List ℕ) (frames : List defs.Frame) → IsHearing begun self.old received (put_in pool.old) frames
+            → (now : List defs.Frame) × Hears result frames now × IsHearing begun self.new received (put_in pool.new) now }
+        ensures does { Does result self.old self.new }
+        ensures same { self.new.incoming.bad ≡ self.old.incoming.bad }
+        ensures reading { self.new.incoming.reading ≡ self.old.incoming.reading }
+        ensures err { OnErr result (put_in pool.new ≡ put_in pool.old) }
+        ensures bad { IfErr result (λ e. (offset : ℕ) → e ≡ HearError.BadFrame offset → (begun : Heard) (received : List ℕ) (frames : List defs.Frame)
+            → IsHearing begun self.old received (put_in pool.old) frames → IsUnfitBehind self.old.purpose begun frames received false offset) }
+        ensures behind { self.old.heard.last ≡ Over → IsOverAnswer result }
+        ensures only { IsHearAnswer result }
     {
         let frame = match self.inbox.first() {
             Some(frame) => frame,
-            None => return Ok(Step::Waits),
+            None => unreachable!(),
         };
         if !self.hearer.may_come(frame) {
             return Err(self.bad_frame());
@@ -145,6 +153,43 @@ impl Receiver {
             Ok(reign) => Ok(self.take_next(reign, pool)),
             Err(_) => Err(HearError::NoMemory),
         }
+    }
+
+    // Receives bytes, where no frame waits.
+    fn receive<R: LinkRx>(&mut self, rx: &mut R) -> Result<Step, HearError>
+        requires empty { self.old.incoming.waiting ≡ [] }
+        ensures line { R.line rx.new ≡ R.line rx.old }
+        ensures same { SameReceiving (R.receiving rx.old) (R.receiving rx.new) }
+        ensures heard { (frames : List defs.Frame) → Hears result frames frames }
+        ensures hears { IsTrue (R.receiving rx.old).shown → (begun : Heard) (put : List Arrival) (frames : List defs.Frame)
+            → IsHearing begun self.old (R.receiving rx.old).received put frames → IsHearing begun self.new (R.receiving rx.new).received put frames }
+        ensures does { Does result self.old self.new }
+        ensures rest { self.new.incoming.bad ≡ false → BeginsFrame self.new.incoming.reading.rest }
+        ensures bad { IfErr result (λ e. (offset : ℕ) → e ≡ HearError.BadFrame offset → IsTrue (R.receiving rx.old).shown → (begun : Heard) (put : List Arrival) (frames : List defs.Frame)
+            → IsHearing begun self.old (R.receiving rx.old).received put frames → IsUnfitBehind self.old.purpose begun frames (R.receiving rx.new).received false offset) }
+        ensures behind { self.old.heard.last ≡ Over → IsOverAnswer result }
+        ensures over { IfOk result (λ a. a ≡ Step.Over → IsQuiet self.new × (self.new.heard.last ≡ Over)) }
+        ensures ended { IfOk result (λ a. a ≡ Step.Ended → IsIdle self.new × (self.new.heard.last ≢ Over) × IsTrue (R.receiving rx.new).closed) }
+        ensures at_end { IsTrue (R.receiving rx.old).told → IfOk result (λ a. a ≡ Step.Ended → ((R.receiving rx.new).unread ≡ []) × IsTrue (R.receiving rx.new).ended) }
+        ensures closed { (R.receiving rx.new).closed ≡ ((R.receiving rx.old).closed || is_ended result) }
+        ensures waits { IsTrue (R.receiving rx.old).told → IfOk result (λ a. a ≡ Step.Waits → ((R.receiving rx.old).unread ≡ []) × ((R.receiving rx.old).ended ≡ false)) }
+        ensures patience { self.old.incoming.fresh ≡ [] → self.old.heard.last ≢ Over → (R.receiving rx.old).told ≡ false
+            → OnOk result ((R.receiving rx.new).patience + patience_cost result ≡ (R.receiving rx.old).patience) }
+        ensures grows { IsTrue (R.receiving rx.old).shown → IsPrefix (R.receiving rx.old).received (R.receiving rx.new).received }
+        ensures cut { IsErrOf result HearError.Cut → (R.receiving rx.new).cuts ≡ counted (R.receiving rx.old).cuts 1 }
+        ensures uncut { (IsErrOf result HearError.Cut → ⊥) → (R.receiving rx.new).cuts ≡ (R.receiving rx.old).cuts }
+        ensures cut_only { IsTrue (R.receiving rx.old).told → IsErrOf result HearError.Cut → IsReached (R.receiving rx.old).order (R.receiving rx.old).received }
+    {
+        if self.inbox.is_bad() {
+            return Err(self.bad_frame());
+        }
+        if self.hearer.is_over() {
+            if self.inbox.has_left() {
+                return Err(self.bad_frame());
+            }
+            return Ok(Step::Over);
+        }
+        self.inbox.pull(rx)
     }
 
     /// Hears the next frame that has come, and puts its entry into the pool, or else receives bytes. Where it fails, all that was
@@ -184,17 +229,13 @@ impl Receiver {
         ensures cut_only { IsTrue (R.receiving rx.old).told → IsErrOf result HearError.Cut → IsReached (R.receiving rx.old).order (R.receiving rx.old).received }
     {
         if self.has_waiting() {
-            if !pool.has_place() {
-                return Ok(Step::Waits);
+            if pool.has_place() {
+                self.hear_next(pool)
+            } else {
+                Ok(Step::Waits)
             }
-            return self.hear_next(pool);
+        } else {
+            self.receive(rx)
         }
-        if self.inbox.is_bad() || (self.hearer.is_over() && self.inbox.has_left()) {
-            return Err(self.bad_frame());
-        }
-        if self.hearer.is_over() {
-            return Ok(Step::Over);
-        }
-        self.inbox.pull(rx)
     }
 }
