@@ -97,3 +97,12 @@ module _ (X : Type 0) where
   pulls_on (Ok Over) piece i j p = absurd p
   pulls_on (Ok Ended) piece i j p = λ e. let no : ⊥ = cc in absurd no
   pulls_on (Err e) piece i j p = tt
+
+pub no_frames : (l : List Frame) → (l ≢ [] → ⊥) → l ≡ []
+no_frames [] not = refl
+no_frames (f ∷ fs) not = absurd (not (λ e. let wrong : ⊥ = cc in wrong))
+
+module _ (X Y : ℕ → Type 0) (weaker : (offset : ℕ) → X offset → Y offset) where
+  pub bad_weaker : (answer : Result Step HearError) → IfErr answer (λ e. (offset : ℕ) → e ≡ BadFrame offset → X offset) → IfErr answer (λ e. (offset : ℕ) → e ≡ BadFrame offset → Y offset)
+  bad_weaker (Ok a) h = tt
+  bad_weaker (Err e) h = λ offset is. weaker offset (h offset is)
