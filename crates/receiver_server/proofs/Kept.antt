@@ -1,8 +1,8 @@
 -- What is kept of the bytes that have come.
-use Rattle.std.proofs.Common.{◌≡◌, ◌≢◌, ◌⊎◌, inl, inr, ℕ, ◌+◌, ◌-◌, ◌^◌, ◌<◌, ◌≤◌, min, Bool, true, false, List, [], ◌∷◌, ◌++◌, length, take, refl, sym, ap, subst, ◌∙◌, arith, append-nil, length-append}
+use Rattle.std.proofs.Common.{◌≡◌, ◌⊎◌, inl, inr, ℕ, ◌+◌, ◌-◌, ◌^◌, ◌<◌, ◌≤◌, Bool, true, false, List, [], ◌∷◌, ◌++◌, length, take, refl, sym, ap, subst, arith, length-append}
 use Rattle.std.specs.List.{AllByRecursion}
 use Rattle.std.proofs.lemmas.List.{length-take}
-use Rattle.wire_defs.specs.Frames.{Frame, Reading, IsFrame, BeginsFrame, spelled_frame, frame_body, stream}
+use Rattle.wire_defs.specs.Frames.{Frame, IsFrame, BeginsFrame, spelled_frame, stream}
 use Rattle.repl_wire.specs.Feeds.{Takes, Refuses}
 use Rattle.receiver_server.specs.Incomings.{IsLeft, IsInbox}
 use Rattle.receiver_server.proofs.Steps.{begins_empty}

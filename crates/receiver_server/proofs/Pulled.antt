@@ -1,11 +1,10 @@
 -- What a step tells that received bytes.
-use Rattle.std.proofs.Common.{◌≡◌, ◌≢◌, ℕ, ◌+◌, ◌<◌, ◌||◌, Bool, true, false, IsTrue, List, [], ◌∷◌, ◌++◌, length, Result, Ok, Err, IfOk, IfErr, refl, sym, ap, subst, ◌∙◌, arith, append-nil, length-append, if◌then◌else◌}
+use Rattle.std.proofs.Common.{◌≡◌, ◌≢◌, ℕ, ◌+◌, ◌<◌, ◌||◌, Bool, true, false, IsTrue, List, [], ◌∷◌, ◌++◌, length, Result, Ok, Err, IfOk, IfErr, refl, sym, ap, subst, ◌∙◌, arith, length-append, if◌then◌else◌}
 use Rattle.wire_defs.specs.Frames.{Frame, stream}
-use Rattle.repl_wire.specs.Feeds.{Takes}
 use Rattle.ship_defs.specs.Hearing as ship
-use Rattle.receiver_server.specs.Incomings.{Incoming, unheard, Reads, begins, begins_none, HasRead, with_piece, Pulls}
+use Rattle.receiver_server.specs.Incomings.{Incoming, unheard, Reads, begins, begins_none, with_piece, Pulls}
 use Rattle.receiver_server.specs.Answers.{is_ended}
-use Rattle.receiver_server.specs.Listenings.{Listening, IsQuiet, IsIdle, Hears, HasGot, Does}
+use Rattle.receiver_server.specs.Listenings.{Listening, IsQuiet, IsIdle, Hears, Does}
 use Rattle.receiver_server.specs.declared.step.HearError.{HearError}
 use Rattle.receiver_server.specs.declared.step.HearError.TheVariants.{Cut, BadFrame, NoMemory}
 use Rattle.receiver_server.specs.declared.step.Step.{Step}
@@ -19,7 +18,7 @@ empty_of (x ∷ l) zero = absurd (omega (arith, zero))
 pub unheard_is : (i : Incoming) → i.waiting ≡ [] → i.bad ≡ false → unheard i ≡ length i.reading.rest + length i.fresh
 unheard_is i none good =
     let e : unheard i ≡ 0 + length i.reading.rest + length i.fresh
-      = ap (λ (w : List Frame). length (stream w) + (if i.bad then 0 else length i.reading.rest) + length i.fresh) none ∙ ap (λ (b : Bool). 0 + (if b then 0 else length i.reading.rest) + length i.fresh) good in
+    = ap (λ (w : List Frame). length (stream w) + (if i.bad then 0 else length i.reading.rest) + length i.fresh) none ∙ ap (λ (b : Bool). 0 + (if b then 0 else length i.reading.rest) + length i.fresh) good in
     omega (arith, e)
 
 pub quiet_of : (s : Listening) → s.incoming.waiting ≡ [] → s.incoming.bad ≡ false → (0 < unheard s.incoming → ⊥) → IsQuiet s

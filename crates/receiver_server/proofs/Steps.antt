@@ -1,9 +1,8 @@
 -- What a Receiver Server has heard, frame by frame and piece by piece.
-use Rattle.std.proofs.Common.{◌≡◌, ◌≢◌, ◌⊎◌, inl, inr, ℕ, ◌+◌, ◌-◌, ◌^◌, ◌<◌, ◌≤◌, ◌==◌, min, Bool, true, false, List, [], ◌∷◌, ◌++◌, length, Option, Some, None, Result, Ok, Err, refl, sym, ap, subst, ◌∙◌, arith, append_assoc, append-nil, length-append, if◌then◌else◌}
+use Rattle.std.proofs.Common.{◌≡◌, ◌≢◌, ℕ, ◌+◌, ◌-◌, ◌^◌, ◌<◌, ◌==◌, min, Bool, true, false, List, [], ◌∷◌, ◌++◌, length, Option, None, Result, Ok, Err, refl, sym, ap, subst, ◌∙◌, arith, append_assoc, append-nil, length-append, if◌then◌else◌}
 use Rattle.std.specs.List.{AllByRecursion}
 use Rattle.global_defs.specs.Entry.{Reign}
 use Rattle.wire_defs.specs.Frames.{Frame, Hello, Resume, RollbackFirst, History, Entry, Bye, Reading, IsFrame, AreFrames, BeginsFrame, BeginsNone, spelled_frame, frame_type, stream, offset_after}
-use Rattle.repl_wire.specs.Feeds.{Takes, Refuses}
 use Rattle.repl_wire.proofs.Feeding.{stream_more, all_more}
 use Rattle.ship_defs.specs.Directions.{Admitted, refused, begins_none, behind_last}
 use Rattle.ship_defs.specs.Hearing as ship
@@ -11,7 +10,7 @@ use Rattle.ship_defs.specs.Hearing.{Purpose, Heard, IsOver, Fits, entered, with_
 use Rattle.ship_defs.specs.Arrivals.{Arrival, arrivals, arrived, told_reign}
 use Rattle.receiver_server.specs.Hearings.{reign_behind, MayCome, behind}
 use Rattle.receiver_server.specs.Answers.{IsHearAnswer}
-use Rattle.receiver_server.specs.Incomings.{Incoming, Reads, begins as reads_on, begins_none as reads_none, HasRead, with_piece, Pulls, unheard}
+use Rattle.receiver_server.specs.Incomings.{Incoming, Reads, begins as reads_on, begins_none as reads_none, HasRead, with_piece, Pulls}
 use Rattle.receiver_server.specs.declared.step.HearError.{HearError}
 use Rattle.receiver_server.specs.declared.step.HearError.TheVariants.{Cut, BadFrame, NoMemory}
 use Rattle.receiver_server.specs.declared.step.Step.{Step}

@@ -1,5 +1,5 @@
 -- What frames that fit are to a secondary that has room for their nodes.
-use Rattle.std.proofs.Common.{◌≡◌, ◌≢◌, ℕ, Bool, true, false, IsTrue, List, [], ◌∷◌, ◌++◌, refl, sym, ap, subst, ◌∙◌, append-nil}
+use Rattle.std.proofs.Common.{◌≡◌, ◌≢◌, ℕ, Bool, true, false, List, [], ◌∷◌, ◌++◌, refl, sym, ap, subst, ◌∙◌, append-nil}
 use Rattle.global_defs.specs.Entry.{Globals}
 use Rattle.wire_defs.specs.Frames.{Frame, Reading, AreFrames, BeginsFrame, offset_after}
 use Rattle.ship_defs.specs.Directions.{Admitted, Lacks, refused, begins_none, behind_last, too_short}

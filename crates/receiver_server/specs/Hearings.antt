@@ -1,5 +1,5 @@
 -- What a Receiver Server knows of its secondary.
-use Rattle.std.specs.Prelude.{◌≡◌, ℕ, ◌+◌, ◌<◌, ◌≤◌, ◌^◌, Option, Some, None}
+use Rattle.std.specs.Prelude.{◌≡◌, ◌+◌, ◌<◌, ◌≤◌, ◌^◌, Option, Some, None}
 use Rattle.global_defs.specs.Entry as defs
 use Rattle.global_defs.specs.Fields.{IsReign}
 use Rattle.gvn_model.specs.Reigns.{reign_value}

@@ -1,4 +1,4 @@
-use Rattle.std.proofs.Common.{◌≡◌, ◌+◌, ◌<◌, ◌≤◌, [], ◌∷◌, ◌++◌, length, map, take, None, sym, ap, ◌∙◌, arith, length-append}
+use Rattle.std.proofs.Common.{◌≡◌, ◌+◌, ◌<◌, [], ◌∷◌, ◌++◌, length, map, take, None, sym, ap, ◌∙◌, arith, length-append}
 use Rattle.std.specs.Prelude.{option_map}
 use Rattle.std.specs.List.{last_or}
 use Rattle.std.proofs.lemmas.List.{take_more, map-append}

@@ -1,5 +1,5 @@
 use Rattle.std.proofs.Common.{◌≡◌, false, map, ap, subst, ◌∙◌}
-use Rattle.wire_defs.specs.Frames.{Reading, BeginsFrame}
+use Rattle.wire_defs.specs.Frames.{BeginsFrame}
 use Rattle.repl_wire.specs.Values.{frame_value}
 use Rattle.receiver_server.specs.Incomings.{Incoming}
 use Rattle.receiver_server.proofs.Kept.{begins_left}

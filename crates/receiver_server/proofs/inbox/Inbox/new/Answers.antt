@@ -1,4 +1,4 @@
-use Rattle.std.proofs.Common.{◌≡◌, List, length, map, ap, arith}
+use Rattle.std.proofs.Common.{length, map, ap}
 use Rattle.wire_defs.specs.Frames.{Reading}
 use Rattle.repl_wire.specs.Values.{frame_value}
 use Rattle.receiver_server.proofs.Kept.{begins_inbox}

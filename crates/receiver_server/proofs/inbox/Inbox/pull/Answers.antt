@@ -1,6 +1,5 @@
-use Rattle.std.proofs.Common.{◌≡◌, ◌+◌, ◌<◌, ◌≤◌, ℕ, Bool, false, List, [], ◌++◌, length, map, take, sym, ap, subst, ◌∙◌, refl, arith, append-nil}
+use Rattle.std.proofs.Common.{◌≡◌, ◌<◌, ℕ, false, List, [], ◌++◌, length, map, take, sym, ap, subst, ◌∙◌, arith, append-nil}
 use Rattle.std.proofs.lemmas.List.{length-take, with_items_is}
-use Rattle.wire_defs.specs.Frames as defs
 use Rattle.repl_wire.specs.Values.{frame_value}
 use Rattle.receiver_server.specs.Incomings.{Incoming, HasRead, with_piece}
 use Rattle.receiver_server.proofs.Kept.{few_left}
@@ -23,28 +22,34 @@ returns-in-Ok-clause-came g c =
     let a = c.args.self.now in
     let base : List ℕ → Incoming = λ l. record { waiting = map frame_value i.waiting.items; reading = i.frames; bad = i.bad; fresh = l } in
     elim c.if-self-eq0.branch [
-    | then-self-eq0+in-Ok-Bytes w ↦ (
-        let piece = take w.in-Ok-Bytes.count w.receive.new.buffer in
-        let sized : length w.receive.new.buffer ≡ length w.deref_mut.result.now = omega (arith, w.receive.auto.buffer) in
-        let size : length w.deref_mut.result.now ≡ length i.piece.items = ap length w.deref_mut.ensures.value in
-        let whole = with_items_is i.piece w.receive.new.buffer (omega (arith, sized, size, i.piece.ok.0)) in
-        let here : c.if-self-eq0.self ≡ base piece = w.self-is ∙ ap (λ (l : List ℕ). base (take w.in-Ok-Bytes.count l)) whole in
-        let none : take i.fresh i.piece.items ≡ [] = ap (λ (n : ℕ). take n i.piece.items) w.if-self-eq0.true in
-        let same : c.if-self-eq0.self ≡ with_piece a piece = here ∙ (sym (ap (λ (l : List ℕ). base (l ++ piece)) none) ∙ ap (λ (x : Incoming). with_piece x piece) c.self.view_is) in
-        let count = rw w.in-Ok-Bytes.field-0-is at w.in-Ok-Bytes.ensures.count in
-        let taken = length-take w.in-Ok-Bytes.count w.receive.new.buffer in
-        let some : 0 < length piece = omega (arith, count.0, count.1, sized, taken) in
-        (piece, (subst (λ (x : Incoming). HasRead x c.read.new.self) same c.in-Ok.ensures.ok, λ _. some),
-          λ shown. ap (λ x. (g.R.LinkRx.receiving x).received) w.rx-is ∙ (rw w.in-Ok-Bytes.field-0-is at w.in-Ok-Bytes.ensures.received) shown))
-    | else-self-eq0 w ↦ (
-        let same : c.if-self-eq0.self ≡ with_piece a [] = w.self-is ∙ sym (ap (λ (l : List ℕ). record a { fresh = l }) (append-nil a.fresh)) in
-        let fresh_is : take i.fresh i.piece.items ≡ a.fresh = ap (λ (x : Incoming). x.fresh) c.self.view_is in
-        let taken = length-take i.fresh i.piece.items in
-        let sized : length (take i.fresh i.piece.items) ≡ length a.fresh = ap (λ (l : List ℕ). length l) fresh_is in
-        ([], (subst (λ (x : Incoming). HasRead x c.read.new.self) same c.in-Ok.ensures.ok,
-          λ none. let zero : length a.fresh ≡ 0 = ap (λ (l : List ℕ). length l) none in absurd (w.if-self-eq0.false (omega (arith, taken, sized, zero, c.self.invariant.inside)))),
-          λ shown. ap (λ x. (g.R.LinkRx.receiving x).received) w.rx-is ∙ sym (append-nil (g.R.LinkRx.receiving c.args.rx.now).received)))
-  ]
+      | then-self-eq0+in-Ok-Bytes w ↦ (
+          let piece = take w.in-Ok-Bytes.count w.receive.new.buffer in
+          let sized : length w.receive.new.buffer ≡ length w.deref_mut.result.now = omega (arith, w.receive.auto.buffer) in
+          let size : length w.deref_mut.result.now ≡ length i.piece.items = ap length w.deref_mut.ensures.value in
+          let whole = with_items_is i.piece w.receive.new.buffer (omega (arith, sized, size, i.piece.ok.0)) in
+          let here : c.if-self-eq0.self ≡ base piece = w.self-is ∙ ap (λ (l : List ℕ). base (take w.in-Ok-Bytes.count l)) whole in
+          let none : take i.fresh i.piece.items ≡ [] = ap (λ (n : ℕ). take n i.piece.items) w.if-self-eq0.true in
+          let same : c.if-self-eq0.self ≡ with_piece a piece = here ∙ (sym (ap (λ (l : List ℕ). base (l ++ piece)) none) ∙ ap (λ (x : Incoming). with_piece x piece) c.self.view_is) in
+          let count = rw w.in-Ok-Bytes.field-0-is at w.in-Ok-Bytes.ensures.count in
+          let taken = length-take w.in-Ok-Bytes.count w.receive.new.buffer in
+          let some : 0 < length piece = omega (arith, count.0, count.1, sized, taken) in (
+            piece,
+            (subst (λ (x : Incoming). HasRead x c.read.new.self) same c.in-Ok.ensures.ok, λ _. some),
+            λ shown. ap (λ x. (g.R.LinkRx.receiving x).received) w.rx-is ∙ (rw w.in-Ok-Bytes.field-0-is at w.in-Ok-Bytes.ensures.received) shown,
+          ))
+      | else-self-eq0 w ↦ (
+          let same : c.if-self-eq0.self ≡ with_piece a [] = w.self-is ∙ sym (ap (λ (l : List ℕ). record a { fresh = l }) (append-nil a.fresh)) in
+          let fresh_is : take i.fresh i.piece.items ≡ a.fresh = ap (λ (x : Incoming). x.fresh) c.self.view_is in
+          let taken = length-take i.fresh i.piece.items in
+          let sized : length (take i.fresh i.piece.items) ≡ length a.fresh = ap (λ (l : List ℕ). length l) fresh_is in (
+            [],
+            (
+              subst (λ (x : Incoming). HasRead x c.read.new.self) same c.in-Ok.ensures.ok,
+              λ none. let zero : length a.fresh ≡ 0 = ap (λ (l : List ℕ). length l) none in absurd (w.if-self-eq0.false (omega (arith, taken, sized, zero, c.self.invariant.inside))),
+            ),
+            λ shown. ap (λ x. (g.R.LinkRx.receiving x).received) w.rx-is ∙ sym (append-nil (g.R.LinkRx.receiving c.args.rx.now).received),
+          ))
+    ]
 
 pub returns-in-Err-read-clause-came : goal.returns-in-Err-read-clause-came
 returns-in-Err-read-clause-came g c =
@@ -52,16 +57,16 @@ returns-in-Err-read-clause-came g c =
     let a = c.args.self.now in
     let base : List ℕ → Incoming = λ l. record { waiting = map frame_value i.waiting.items; reading = i.frames; bad = i.bad; fresh = l } in
     elim c.if-self-eq0.branch [
-    | then-self-eq0+in-Ok-Bytes w ↦ (
-        let piece = take w.in-Ok-Bytes.count w.receive.new.buffer in
-        let sized : length w.receive.new.buffer ≡ length w.deref_mut.result.now = omega (arith, w.receive.auto.buffer) in
-        let size : length w.deref_mut.result.now ≡ length i.piece.items = ap length w.deref_mut.ensures.value in
-        let whole = with_items_is i.piece w.receive.new.buffer (omega (arith, sized, size, i.piece.ok.0)) in
-        let here : c.if-self-eq0.self ≡ base piece = w.self-is ∙ ap (λ (l : List ℕ). base (take w.in-Ok-Bytes.count l)) whole in
-        let none : take i.fresh i.piece.items ≡ [] = ap (λ (n : ℕ). take n i.piece.items) w.if-self-eq0.true in
-        let same : c.if-self-eq0.self ≡ with_piece a piece = here ∙ (sym (ap (λ (l : List ℕ). base (l ++ piece)) none) ∙ ap (λ (x : Incoming). with_piece x piece) c.self.view_is) in
-        (piece, c.in-Err-read.ensures.err ∙ same, λ shown. ap (λ x. (g.R.LinkRx.receiving x).received) w.rx-is ∙ (rw w.in-Ok-Bytes.field-0-is at w.in-Ok-Bytes.ensures.received) shown))
-    | else-self-eq0 w ↦ (
-        let same : c.if-self-eq0.self ≡ with_piece a [] = w.self-is ∙ sym (ap (λ (l : List ℕ). record a { fresh = l }) (append-nil a.fresh)) in
-        ([], c.in-Err-read.ensures.err ∙ same, λ shown. ap (λ x. (g.R.LinkRx.receiving x).received) w.rx-is ∙ sym (append-nil (g.R.LinkRx.receiving c.args.rx.now).received)))
-  ]
+      | then-self-eq0+in-Ok-Bytes w ↦ (
+          let piece = take w.in-Ok-Bytes.count w.receive.new.buffer in
+          let sized : length w.receive.new.buffer ≡ length w.deref_mut.result.now = omega (arith, w.receive.auto.buffer) in
+          let size : length w.deref_mut.result.now ≡ length i.piece.items = ap length w.deref_mut.ensures.value in
+          let whole = with_items_is i.piece w.receive.new.buffer (omega (arith, sized, size, i.piece.ok.0)) in
+          let here : c.if-self-eq0.self ≡ base piece = w.self-is ∙ ap (λ (l : List ℕ). base (take w.in-Ok-Bytes.count l)) whole in
+          let none : take i.fresh i.piece.items ≡ [] = ap (λ (n : ℕ). take n i.piece.items) w.if-self-eq0.true in
+          let same : c.if-self-eq0.self ≡ with_piece a piece = here ∙ (sym (ap (λ (l : List ℕ). base (l ++ piece)) none) ∙ ap (λ (x : Incoming). with_piece x piece) c.self.view_is) in
+          (piece, c.in-Err-read.ensures.err ∙ same, λ shown. ap (λ x. (g.R.LinkRx.receiving x).received) w.rx-is ∙ (rw w.in-Ok-Bytes.field-0-is at w.in-Ok-Bytes.ensures.received) shown))
+      | else-self-eq0 w ↦ (
+          let same : c.if-self-eq0.self ≡ with_piece a [] = w.self-is ∙ sym (ap (λ (l : List ℕ). record a { fresh = l }) (append-nil a.fresh)) in
+          ([], c.in-Err-read.ensures.err ∙ same, λ shown. ap (λ x. (g.R.LinkRx.receiving x).received) w.rx-is ∙ sym (append-nil (g.R.LinkRx.receiving c.args.rx.now).received)))
+    ]

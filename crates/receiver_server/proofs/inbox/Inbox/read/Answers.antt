@@ -15,7 +15,7 @@ invariant_of-self-2 c =
     let good : i.bad ≡ false = ap (λ (x : Incoming). x.bad) c.self.view_is ∙ c.requires.good in
     let none : map frame_value i.waiting.items ≡ [] = ap (λ (x : Incoming). x.waiting) c.self.view_is ∙ c.requires.empty in
     let here : IsInbox [] i.frames.rest false i.fresh i.piece.items i.left
-      = subst (λ (b : Bool). IsInbox [] i.frames.rest b i.fresh i.piece.items i.left) good (subst (λ (l : List defs.Frame). IsInbox l i.frames.rest i.bad i.fresh i.piece.items i.left) none c.self.invariant) in
+    = subst (λ (b : Bool). IsInbox [] i.frames.rest b i.fresh i.piece.items i.left) good (subst (λ (l : List defs.Frame). IsInbox l i.frames.rest i.bad i.fresh i.piece.items i.left) none c.self.invariant) in
     let items : map frame_value c.from.result.items ≡ c.feed.new.out = ap (map frame_value) c.from.ensures.0 ∙ c.into_vec.ensures in
     let bytes : i.frames.rest ++ take i.fresh c.deref.result.now ≡ i.frames.rest ++ take i.fresh i.piece.items = ap (λ (l : List ℕ). i.frames.rest ++ take i.fresh l) c.deref.ensures.value in
     subst (λ (l : List defs.Frame). IsInbox l c.match-feed.self-inside.frames.rest c.match-feed.self-inside.bad 0 c.match-feed.self-inside.piece.items c.match-feed.self-inside.left) (sym items) (elim c.match-feed.branch [
@@ -54,4 +54,4 @@ returns-clause-ok c =
           subst (λ (x : Inside). Reads before (after x c.feed.new.out)) (sym w.self-inside-is) (begins_none w.in-Err-BadFrame.field-0-0 r w.in-Err-BadFrame.ensures.unchanged refl))
     ] in
     subst (λ (a : Incoming). HasRead a (after c.match-feed.self-inside (map frame_value c.from.result.items))) c.self.view_is
-      (record { reads = subst (λ (l : List defs.Frame). Reads before (after c.match-feed.self-inside l)) (sym items) reads; fresh = refl })
+    (record { reads = subst (λ (l : List defs.Frame). Reads before (after c.match-feed.self-inside l)) (sym items) reads; fresh = refl })

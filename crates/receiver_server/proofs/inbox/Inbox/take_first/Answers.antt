@@ -11,4 +11,4 @@ invariant_of-self-2 c =
     let is : map frame_value i.waiting.items ≡ frame_value c.in_ok-frame.frame ∷ map frame_value c.pop_front.new.self.items = ap (map frame_value) c.in_ok-frame.ensures.items in
     let here = subst (λ (l : List defs.Frame). IsInbox l i.frames.rest i.bad i.fresh i.piece.items i.left) is c.self.invariant in
     taken_first (frame_value c.in_ok-frame.frame) (map frame_value c.pop_front.new.self.items) i.frames.rest i.bad i.fresh i.piece.items i.left c.saturating_sub-self-inside.result here
-      (omega (arith, c.saturating_sub-self-inside.ensures, c.frame_length-length.ensures))
+    (omega (arith, c.saturating_sub-self-inside.ensures, c.frame_length-length.ensures))

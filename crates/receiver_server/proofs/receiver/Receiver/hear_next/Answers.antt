@@ -1,5 +1,4 @@
-use Rattle.std.proofs.Common.{◌≡◌, ℕ, List, [], ◌∷◌, ◌++◌, false, true, sym, ap, subst, ◌∙◌}
-use Rattle.wire_defs.specs.Frames as defs
+use Rattle.std.proofs.Common.{◌≡◌, ℕ, [], ◌∷◌, ◌++◌, false, true, sym, ap, subst, ◌∙◌}
 use Rattle.recv_pool.specs.Pools.{put_in}
 use Rattle.repl_wire.specs.Values.{frame_value}
 use Rattle.receiver_server.specs.Hearings.{MayCome}

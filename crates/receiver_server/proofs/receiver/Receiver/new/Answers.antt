@@ -12,4 +12,4 @@ returns-clause-hears c =
     let p = purpose_value c.args.purpose in
     let begun = unbegun (history_value c.args.mine.now) in
     subst (λ (h : Heard). IsHearing begun (record { purpose = p; heard = h; offset = 0; incoming = c.in_ok-new-2.field-0 }) [] [] []) (sym c.in_ok-new.ensures)
-      (subst (λ (i : Incoming). IsHearing begun (record { purpose = p; heard = begun; offset = 0; incoming = i }) [] [] []) (sym c.in_ok-new-2.ensures) (begins_hearing p begun refl))
+    (subst (λ (i : Incoming). IsHearing begun (record { purpose = p; heard = begun; offset = 0; incoming = i }) [] [] []) (sym c.in_ok-new-2.ensures) (begins_hearing p begun refl))

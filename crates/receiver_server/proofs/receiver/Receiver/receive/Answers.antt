@@ -1,11 +1,10 @@
-use Rattle.std.proofs.Common.{◌≡◌, ◌≢◌, ℕ, ◌<◌, Bool, true, false, IsTrue, List, [], sym, ap, subst, ◌∙◌, arith}
+use Rattle.std.proofs.Common.{◌≡◌, ◌≢◌, ℕ, ◌<◌, true, false, [], sym, ap, subst, ◌∙◌, arith}
 use Rattle.wire_defs.specs.Frames.{BeginsFrame}
 use Rattle.ship_defs.specs.Hearing as ship
 use Rattle.receiver_server.specs.Hearings.{purpose_value}
-use Rattle.receiver_server.specs.Incomings.{Incoming, unheard}
-use Rattle.receiver_server.specs.Listenings.{Listening, IsHearing, IsQuiet, IsIdle, IsUnfitBehind, Does}
+use Rattle.receiver_server.specs.Incomings.{unheard}
+use Rattle.receiver_server.specs.Listenings.{Listening, IsHearing, IsUnfitBehind, Does}
 use Rattle.receiver_server.specs.declared.step.HearError.TheVariants.{BadFrame}
-use Rattle.receiver_server.specs.declared.step.Step.TheVariants.{Ended}
 use Rattle.receiver_server.proofs.Steps.{unfit_bytes, unfit_behind, pulled}
 use Rattle.receiver_server.proofs.Pulled.{unheard_is, quiet_of, pulls_heard, pulls_does, pulls_ended, pulls_good, pulls_on}
 use Rattle.receiver_server.proofs.receiver.Receiver.receive.Goals as goal

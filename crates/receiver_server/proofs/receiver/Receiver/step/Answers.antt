@@ -1,4 +1,4 @@
-use Rattle.std.proofs.Common.{◌≡◌, ◌≢◌, ℕ, false, IsTrue, List, [], sym, subst}
+use Rattle.std.proofs.Common.{ℕ, false, IsTrue, List, sym, subst}
 use Rattle.wire_defs.specs.Frames as defs
 use Rattle.ship_defs.specs.Arrivals.{Arrival}
 use Rattle.ship_defs.specs.Hearing.{Heard}
@@ -15,10 +15,10 @@ returns-then-has_place-clause-bad g c =
     let s = c.args.self.now in
     let received = (g.R.LinkRx.receiving c.args.rx.now).received in
     bad_weaker
-      (λ offset. (begun : Heard) (bytes : List ℕ) (frames : List defs.Frame) → IsHearing begun s bytes (put_in c.has_place.new.self) frames → IsUnfitBehind s.purpose begun frames bytes false offset)
-      (λ offset. IsTrue (g.R.LinkRx.receiving c.args.rx.now).shown → (begun : Heard) (frames : List defs.Frame) → IsHearing begun s received (put_in c.args.pool.now) frames → IsUnfitBehind s.purpose begun frames received false offset)
-      (λ offset x shown begun frames h. x begun received frames (subst (λ (put : List Arrival). IsHearing begun s received put frames) (sym c.has_place.ensures.put) h))
-      c.hear_next.result c.hear_next.ensures.bad
+    (λ offset. (begun : Heard) (bytes : List ℕ) (frames : List defs.Frame) → IsHearing begun s bytes (put_in c.has_place.new.self) frames → IsUnfitBehind s.purpose begun frames bytes false offset)
+    (λ offset. IsTrue (g.R.LinkRx.receiving c.args.rx.now).shown → (begun : Heard) (frames : List defs.Frame) → IsHearing begun s received (put_in c.args.pool.now) frames → IsUnfitBehind s.purpose begun frames received false offset)
+    (λ offset x shown begun frames h. x begun received frames (subst (λ (put : List Arrival). IsHearing begun s received put frames) (sym c.has_place.ensures.put) h))
+    c.hear_next.result c.hear_next.ensures.bad
 
 pub returns-else-has_waiting-clause-hears : goal.returns-else-has_waiting-clause-hears
 returns-else-has_waiting-clause-hears g c = λ shown begun frames h. (frames, c.receive.ensures.heard frames, c.receive.ensures.hears shown begun (put_in c.args.pool.now) frames h)
@@ -29,7 +29,7 @@ returns-else-has_waiting-clause-bad g c =
     let received = (g.R.LinkRx.receiving c.args.rx.now).received in
     let now = (g.R.LinkRx.receiving c.receive.new.rx).received in
     bad_weaker
-      (λ offset. IsTrue (g.R.LinkRx.receiving c.args.rx.now).shown → (begun : Heard) (put : List Arrival) (frames : List defs.Frame) → IsHearing begun s received put frames → IsUnfitBehind s.purpose begun frames now false offset)
-      (λ offset. IsTrue (g.R.LinkRx.receiving c.args.rx.now).shown → (begun : Heard) (frames : List defs.Frame) → IsHearing begun s received (put_in c.args.pool.now) frames → IsUnfitBehind s.purpose begun frames now false offset)
-      (λ offset x shown begun frames h. x shown begun (put_in c.args.pool.now) frames h)
-      c.receive.result c.receive.ensures.bad
+    (λ offset. IsTrue (g.R.LinkRx.receiving c.args.rx.now).shown → (begun : Heard) (put : List Arrival) (frames : List defs.Frame) → IsHearing begun s received put frames → IsUnfitBehind s.purpose begun frames now false offset)
+    (λ offset. IsTrue (g.R.LinkRx.receiving c.args.rx.now).shown → (begun : Heard) (frames : List defs.Frame) → IsHearing begun s received (put_in c.args.pool.now) frames → IsUnfitBehind s.purpose begun frames now false offset)
+    (λ offset x shown begun frames h. x shown begun (put_in c.args.pool.now) frames h)
+    c.receive.result c.receive.ensures.bad
