@@ -1,8 +1,8 @@
 -- The meaning of each command: its row, and where it acts.
 use Rattle.std.specs.Prelude.{ℕ, Option, Some, None, slice_get}
 use Rattle.command_defs.specs.Commands.{Name, Command, Create, Attach, Map, StartPrimary, Run, Stop, Fuse, Crash, Extract, Zwrite, Show, Print}
-use Rattle.world_defs.specs.World.{Place, World, name_on, place_of, next_of}
-use Rattle.world_defs.specs.Answers.{Cause, NoSite, NoDisk, Exists, Refusal}
+use Rattle.world_defs.specs.World.{Place, World, Kept, name_on, place_of, next_of}
+use Rattle.world_defs.specs.Answers.{Cause, NoSite, NoDisk, Exists, Refusal, Answer}
 use Rattle.world_defs.specs.Row.{Row}
 use Rattle.world_defs.specs.rows.Attach.{ATTACHING, attach}
 use Rattle.world_defs.specs.rows.Crash.{crash}
@@ -17,13 +17,21 @@ use Rattle.world_defs.specs.rows.Start.{start}
 use Rattle.world_defs.specs.rows.Stop.{stop}
 use Rattle.world_defs.specs.rows.Zwrite.{zwrite}
 
+-- What becomes of each place that a command doesn't act on, by the answer and the number of the place.
+abbrev pub Others : Type 1
+Others = Answer → ℕ → Place → Place → Type 0
+
+-- nothing
+abbrev pub apart : Others
+apart a j = Kept
+
 pub data Meaning : Type 1 where
   -- it is refused, whatever its place
   No : Refusal → Meaning
-  -- a row at the place of that number
-  Acts : ℕ → Row → Meaning
+  -- a row at the place of that number, and what becomes of the others
+  Acts : ℕ → Row → Others → Meaning
   -- and where that was done, more in the world that it left
-  Then : ℕ → Row → (World → Meaning) → Meaning
+  Then : ℕ → Row → Others → (World → Meaning) → Meaning
 
 -- Whom a command is for.
 pub data Target : Type 1 where
@@ -61,8 +69,8 @@ row_at row p = row (name_on p.site) p
 
 -- a command is one line of this
 abbrev pub target : Command → Target
-target (Create name regions) = Open (λ w. if_new w name (on_next w name (λ i p. Acts i (create regions name p))))
-target Attach = Open (λ w. on_next w ATTACHING (λ i p. Acts i (attach w p)))
+target (Create name regions) = Open (λ w. if_new w name (on_next w name (λ i p. Acts i (create regions name p) apart)))
+target Attach = Open (λ w. on_next w ATTACHING (λ i p. Acts i (attach w p) apart))
 target (Map name region text) = On name (map_pattern region text)
 target (StartPrimary name) = On name start
 target (Run name jobs order) = On name (run jobs order)
@@ -75,7 +83,7 @@ target (Show name) = On name show
 target (Print name g) = On name (print g)
 
 abbrev pub meant : World → Target → Meaning
-meant w (On name row) = on_site w name (λ i p. Acts i (row_at row p))
+meant w (On name row) = on_site w name (λ i p. Acts i (row_at row p) apart)
 meant w (Open f) = f w
 
 abbrev pub meaning : World → Command → Meaning

@@ -30,8 +30,6 @@ pub record Row : Type 1 where
   pub refused : Refusal → Place → Type 0
   -- where files aren't known they may refuse it too
   pub may_refuse : Refusal → Place → Type 0
-  -- each other place, by its number
-  pub others : Answer → ℕ → Place → Place → Type 0
   -- what a fault might have left of an outcome, beside the outcome itself, where the command is cut off for want of memory
   pub left : Contents → Contents → Type 0
 
@@ -50,7 +48,6 @@ quiet word p = record {
   damage = λ file offset q. ⊥;
   refused = λ r q. Kept p q;
   may_refuse = λ r q. ⊥;
-  others = λ a j. Kept;
   left = λ c o. ⊥;
 }
 

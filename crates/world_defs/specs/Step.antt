@@ -7,13 +7,13 @@ use Rattle.world_defs.specs.World.{Place, World, IfKnown, Unchanged}
 use Rattle.world_defs.specs.Answers.{Refusal, Answer, Done, Refused, DiskFault, NotAFile, Ran, Typed, refusal_line}
 use Rattle.world_defs.specs.Changes.{After}
 use Rattle.world_defs.specs.Row.{Row, refusal_in, Here}
-use Rattle.world_defs.specs.Meaning.{Meaning, No, Acts, Then, meaning}
+use Rattle.world_defs.specs.Meaning.{Others, Meaning, No, Acts, Then, meaning}
 
 -- One answer of a row at a place: what the place becomes, what each other one does, and the text.
-pub record One (i : ℕ) (row : Row) (a : Answer) (w m : World) (t : List ℕ) : Type 0 where
+pub record One (i : ℕ) (row : Row) (others : Others) (a : Answer) (w m : World) (t : List ℕ) : Type 0 where
   pub becomes : Place
   pub here : Here row a becomes t
-  pub around : At i (λ old new. new ≡ becomes) (row.others a) w.places m.places
+  pub around : At i (λ old new. new ≡ becomes) (others a) w.places m.places
 
 abbrev pub is_done : Answer → Bool
 is_done Done = true
@@ -30,8 +30,8 @@ Further false more ends = ends
 
 abbrev pub Goes : Meaning → List Answer → World → World → List ℕ → Type 0
 Goes (No r) answers w m t = (answers ≡ Refused r ∷ []) × Unchanged w m × (t ≡ refusal_line r)
-Goes (Acts i row) answers w m t = (a : Answer) × (answers ≡ a ∷ []) × One i row a w m t
-Goes (Then i row next) answers w m t = (a : Answer) × (u : World) × (s : List ℕ) × One i row a w u s
+Goes (Acts i row others) answers w m t = (a : Answer) × (answers ≡ a ∷ []) × One i row others a w m t
+Goes (Then i row others next) answers w m t = (a : Answer) × (u : World) × (s : List ℕ) × One i row others a w u s
     × Further (is_done a) ((rest : List Answer) × (r : List ℕ) × (answers ≡ a ∷ rest) × (t ≡ s ++ r) × Goes (next u) rest u m r)
     ((answers ≡ a ∷ []) × (m ≡ u) × (t ≡ s))
 
@@ -50,9 +50,9 @@ LeavesOld old new = LeftBy (λ c o. ⊥) old new
 
 abbrev pub IsCut : Meaning → World → World → Type 0
 IsCut (No r) w m = Along (λ i. LeavesOld) w.places m.places
-IsCut (Acts i row) w m = At i (LeftBy row.left) (λ j. LeavesOld) w.places m.places
-IsCut (Then i row next) w m = At i (LeftBy row.left) (λ j. LeavesOld) w.places m.places
-    ⊎ ((a : Answer) × (u : World) × (s : List ℕ) × One i row a w u s × IsCut (next u) u m)
+IsCut (Acts i row others) w m = At i (LeftBy row.left) (λ j. LeavesOld) w.places m.places
+IsCut (Then i row others next) w m = At i (LeftBy row.left) (λ j. LeavesOld) w.places m.places
+    ⊎ ((a : Answer) × (u : World) × (s : List ℕ) × One i row others a w u s × IsCut (next u) u m)
 
 -- A command that was cut off for want of memory leaves old outcomes, and at its own place those that a fault there might have left.
 abbrev pub CutOff : World → Command → World → Type 0
@@ -60,8 +60,8 @@ CutOff w c m = IsCut (meaning w c) w m
 
 abbrev pub refusal_of : Meaning → Option Refusal
 refusal_of (No r) = Some r
-refusal_of (Acts i row) = refusal_in row
-refusal_of (Then i row next) = refusal_in row
+refusal_of (Acts i row others) = refusal_in row
+refusal_of (Then i row others next) = refusal_in row
 
 -- why it is refused, where it is
 abbrev pub refusal : World → Command → Option Refusal

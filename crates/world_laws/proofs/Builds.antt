@@ -5,7 +5,7 @@ use Rattle.site_defs.specs.Lists.{Along, At}
 use Rattle.world_defs.specs.World.{Place, World}
 use Rattle.world_defs.specs.Answers.{Answer}
 use Rattle.world_defs.specs.Row.{Row, Here}
-use Rattle.world_defs.specs.Meaning.{Meaning, Acts}
+use Rattle.world_defs.specs.Meaning.{Others, Meaning, Acts}
 use Rattle.world_defs.specs.Step.{One, LeftBy, LeavesOld, IsCut}
 
 module _ {X Y : Type 0} (R : X → Place → Type 0) (S : Y → Place → Type 0) where
@@ -42,11 +42,11 @@ module _ {X Y : Type 0} (R : X → Place → Type 0) (S : Y → Place → Type 0
       (one.0 ∷ more.0, (one.1, more.1), (one.2, more.2))
 
   -- The lifting lemma: a row at place i, and what it has of the other places.
-  pub lifted : (i : ℕ) (row : Row) (a : Answer) (q : Place) (t : List ℕ) (olds : List X) (news : List Y) (w : World) → Along (λ j. R) olds w.places → Here row a q t
-      → At i (λ x y. S y q) (λ j x y. (r : Place) → R x r → (s : Place) × row.others a j r s × S y s) olds news
-      → (m : World) × One i row a w m t × Along (λ j. S) news m.places
-  lifted i row a q t olds news w h here f =
-      let ms = at_build i q (row.others a) olds news w.places h f in
+  pub lifted : (i : ℕ) (row : Row) (others : Others) (a : Answer) (q : Place) (t : List ℕ) (olds : List X) (news : List Y) (w : World) → Along (λ j. R) olds w.places → Here row a q t
+      → At i (λ x y. S y q) (λ j x y. (r : Place) → R x r → (s : Place) × others a j r s × S y s) olds news
+      → (m : World) × One i row others a w m t × Along (λ j. S) news m.places
+  lifted i row others a q t olds news w h here f =
+      let ms = at_build i q (others a) olds news w.places h f in
       (record { places = ms.0 }, record { becomes = q; here = here; around = ms.1 }, ms.2)
 
   -- The slots of a world in which nothing is done.
@@ -68,10 +68,10 @@ at_left step zero p q Q (x ∷ ps) (m ∷ ms) e l h =
 at_left step (suc i) p q Q (x ∷ ps) (m ∷ ms) e l h = (h.0, at_left step i p q (λ j. Q (suc j)) ps ms e l h.1)
 
 -- A command that was cut off: the same lemma, with S for the disks alone.
-pub cut_lifted : {X Y : Type 0} (R : X → Place → Type 0) (S : Y → Place → Type 0) (x : Meaning) (i : ℕ) (row : Row) (p q : Place) (olds : List X) (news : List Y) (w : World)
-    → Along (λ j. R) olds w.places → slice_get w.places i ≡ Some p → x ≡ Acts i row → LeftBy row.left p q
+pub cut_lifted : {X Y : Type 0} (R : X → Place → Type 0) (S : Y → Place → Type 0) (x : Meaning) (i : ℕ) (row : Row) (others : Others) (p q : Place) (olds : List X) (news : List Y) (w : World)
+    → Along (λ j. R) olds w.places → slice_get w.places i ≡ Some p → x ≡ Acts i row others → LeftBy row.left p q
     → At i (λ x y. S y q) (λ j x y. (r : Place) → R x r → (s : Place) × LeavesOld r s × S y s) olds news
     → (m : World) × IsCut x w m × Along (λ j. S) news m.places
-cut_lifted R S x i row p q olds news w h e is l f =
+cut_lifted R S x i row others p q olds news w h e is l f =
     let ms = at_build R S i q (λ j. LeavesOld) olds news w.places h f in
     (record { places = ms.0 }, subst (λ (y : Meaning). IsCut y w (record { places = ms.0 })) (sym is) (at_left row.left i p q (λ j. LeavesOld) w.places ms.0 e l ms.1), ms.2)

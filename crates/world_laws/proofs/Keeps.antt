@@ -7,14 +7,14 @@ use Rattle.site_defs.specs.Lists.{Along, At}
 use Rattle.world_defs.specs.World.{Place, World, Kept, place_of}
 use Rattle.world_defs.specs.Answers.{NoSite, Refusal, Section, Answer, Done, Refused, DiskFault, NotAFile, Ran, Typed}
 use Rattle.world_defs.specs.Row.{Row, quiet, refusal_in, Here}
-use Rattle.world_defs.specs.Meaning.{Meaning, No, Acts, Then, Target, On, Open, refusing, at_found, there, row_at, meant}
+use Rattle.world_defs.specs.Meaning.{Others, apart, Meaning, No, Acts, Then, Target, On, Open, refusing, at_found, there, row_at, meant}
 use Rattle.world_defs.specs.Step.{One, is_done, Further, Goes, LeftBy, LeavesOld, IsCut}
 
 -- what holds of each place of a world
 abbrev pub Everywhere : (Place → Type 0) → World → Type 0
 Everywhere I w = AllByRecursion I w.places
 
--- A row at a place p comes to places with I, keeps I of each other one, and leaves J of p where it was cut off.
+-- A row at a place p comes to places with I, and leaves J of p where it was cut off.
 pub record RowKeeps (I J : Place → Type 0) (p : Place) (row : Row) : Type 0 where
   pub done : (q : Place) → refusal_in row ≡ None → row.done q → I q
   pub ran : (s : Section) (q : Place) → row.ran s q → I q
@@ -23,7 +23,6 @@ pub record RowKeeps (I J : Place → Type 0) (p : Place) (row : Row) : Type 0 wh
   pub damage : (file offset : ℕ) (q : Place) → row.damage file offset q → I q
   pub refused : (r : Refusal) (q : Place) → row.refused r q → I q
   pub may_refuse : (r : Refusal) (q : Place) → row.may_refuse r q → I q
-  pub others : (a : Answer) (j : ℕ) (x y : Place) → row.others a j x y → I x → I y
   pub left : (q : Place) → LeftBy row.left p q → J q
 
 module _ (I J : Place → Type 0) where
@@ -36,10 +35,13 @@ module _ (I J : Place → Type 0) where
   here_keeps p row (Ran s) q t r h = r.ran s q h.1
   here_keeps p row (Typed text) q t r h = r.typed text q h.1
 
+  abbrev pub OthersKeep : Others → Type 0
+  OthersKeep others = (a : Answer) (j : ℕ) (x y : Place) → others a j x y → I x → I y
+
   abbrev pub Keeps : Meaning → World → Type 0
   Keeps (No r) w = Unit {0}
-  Keeps (Acts i row) w = (p : Place) → slice_get w.places i ≡ Some p → RowKeeps I J p row
-  Keeps (Then i row next) w = ((p : Place) → slice_get w.places i ≡ Some p → RowKeeps I J p row) × ((u : World) → Everywhere I u → Keeps (next u) u)
+  Keeps (Acts i row others) w = ((p : Place) → slice_get w.places i ≡ Some p → RowKeeps I J p row) × OthersKeep others
+  Keeps (Then i row others next) w = ((p : Place) → slice_get w.places i ≡ Some p → RowKeeps I J p row) × OthersKeep others × ((u : World) → Everywhere I u → Keeps (next u) u)
 
   abbrev pub TargetKeeps : Target → Type 0
   TargetKeeps (On name row) = (p : Place) → I p → RowKeeps I J p (row_at row p)
@@ -57,7 +59,6 @@ module _ (I J : Place → Type 0) (kept : (x y : Place) → Kept x y → I x →
     damage = λ file offset q d. absurd d;
     refused = λ r q k. kept p q k h;
     may_refuse = λ r q d. absurd d;
-    others = λ a j. kept;
     left = λ q l. old p q l h;
   }
 
@@ -69,24 +70,17 @@ module _ (I J : Place → Type 0) (kept : (x y : Place) → Kept x y → I x →
   along_keeps R f (p ∷ ps) [] h k = absurd h
   along_keeps R f (p ∷ ps) (q ∷ qs) h k = (f zero p q h.0 k.0, along_keeps (λ j. R (suc j)) (λ j. f (suc j)) ps qs h.1 k.1)
 
-  at_keeps : (i : ℕ) (x : Place) (R : ℕ → Place → Place → Type 0) (ps qs : List Place) → ((p : Place) → slice_get ps i ≡ Some p → I x × ((j : ℕ) (y z : Place) → R j y z → I y → I z))
+  at_keeps : (i : ℕ) (x : Place) (R : ℕ → Place → Place → Type 0) (ps qs : List Place) → ((j : ℕ) (y z : Place) → R j y z → I y → I z) → ((p : Place) → slice_get ps i ≡ Some p → I x)
       → At i (λ p q. q ≡ x) R ps qs → AllByRecursion I ps → AllByRecursion I qs
-  at_keeps i x R [] [] f h k = absurd h
-  at_keeps i x R [] (q ∷ qs) f h k = absurd h
-  at_keeps i x R (p ∷ ps) [] f h k = absurd h
-  at_keeps zero x R (p ∷ ps) (q ∷ qs) f h k = let r = f p refl in (subst I (sym h.0) r.0, along_keeps (λ j. R (suc j)) (λ j. r.1 (suc j)) ps qs h.1 k.1)
-  at_keeps (suc i) x R (p ∷ ps) (q ∷ qs) f h k = let r = there_is i x (λ j. R (suc j)) ps qs h.1 in
-      ((f r.0 r.1).1 zero p q h.0 k.0, at_keeps i x (λ j. R (suc j)) ps qs (λ y e. let s = f y e in (s.0, λ j. s.1 (suc j))) h.1 k.1)
-    where
-      there_is : (i : ℕ) (x : Place) (R : ℕ → Place → Place → Type 0) (ps qs : List Place) → At i (λ p q. q ≡ x) R ps qs → (p : Place) × (slice_get ps i ≡ Some p)
-      there_is i x R [] [] h = absurd h
-      there_is i x R [] (q ∷ qs) h = absurd h
-      there_is i x R (p ∷ ps) [] h = absurd h
-      there_is zero x R (p ∷ ps) (q ∷ qs) h = (p, refl)
-      there_is (suc i) x R (p ∷ ps) (q ∷ qs) h = there_is i x (λ j. R (suc j)) ps qs h.1
+  at_keeps i x R [] [] r f h k = absurd h
+  at_keeps i x R [] (q ∷ qs) r f h k = absurd h
+  at_keeps i x R (p ∷ ps) [] r f h k = absurd h
+  at_keeps zero x R (p ∷ ps) (q ∷ qs) r f h k = (subst I (sym h.0) (f p refl), along_keeps (λ j. R (suc j)) (λ j. r (suc j)) ps qs h.1 k.1)
+  at_keeps (suc i) x R (p ∷ ps) (q ∷ qs) r f h k = (r zero p q h.0 k.0, at_keeps i x (λ j. R (suc j)) ps qs (λ j. r (suc j)) f h.1 k.1)
 
-  one_keeps : (i : ℕ) (row : Row) (a : Answer) (w m : World) (t : List ℕ) → ((p : Place) → slice_get w.places i ≡ Some p → RowKeeps I J p row) → One i row a w m t → Everywhere I w → Everywhere I m
-  one_keeps i row a w m t f o k = at_keeps i o.becomes (row.others a) w.places m.places (λ p e. let r = f p e in (here_keeps I J p row a o.becomes t r o.here, r.others a)) o.around k
+  one_keeps : (i : ℕ) (row : Row) (others : Others) (a : Answer) (w m : World) (t : List ℕ) → ((p : Place) → slice_get w.places i ≡ Some p → RowKeeps I J p row) → OthersKeep I J others
+      → One i row others a w m t → Everywhere I w → Everywhere I m
+  one_keeps i row others a w m t f r o k = at_keeps i o.becomes (others a) w.places m.places (r a) (λ p e. here_keeps I J p row a o.becomes t (f p e) o.here) o.around k
 
   further : (b : Bool) (a : Answer) (answers : List Answer) (u m : World) (t s : List ℕ) (next : List Answer → List ℕ → Type 0) → ((rest : List Answer) (r : List ℕ) → next rest r → Everywhere I m)
       → Further b ((rest : List Answer) × (r : List ℕ) × (answers ≡ a ∷ rest) × (t ≡ s ++ r) × next rest r) ((answers ≡ a ∷ []) × (m ≡ u) × (t ≡ s)) → Everywhere I u → Everywhere I m
@@ -95,10 +89,10 @@ module _ (I J : Place → Type 0) (kept : (x y : Place) → Kept x y → I x →
 
   pub goes_keeps : (x : Meaning) (answers : List Answer) (w m : World) (t : List ℕ) → Keeps I J x w → Goes x answers w m t → Everywhere I w → Everywhere I m
   goes_keeps (No r) answers w m t h g k = along_keeps (λ i. Kept) (λ j. kept) w.places m.places g.1 k
-  goes_keeps (Acts i row) answers w m t h g k = one_keeps i row g.0 w m t h g.2 k
-  goes_keeps (Then i row next) answers w m t h g k =
-      let u = one_keeps i row g.0 w g.1 g.2 h.0 g.3 k in
-      further (is_done g.0) g.0 answers g.1 m t g.2 (λ rest r. Goes (next g.1) rest g.1 m r) (λ rest r more. goes_keeps (next g.1) rest g.1 m r (h.1 g.1 u) more u) g.4 u
+  goes_keeps (Acts i row others) answers w m t h g k = one_keeps i row others g.0 w m t h.0 h.1 g.2 k
+  goes_keeps (Then i row others next) answers w m t h g k =
+      let u = one_keeps i row others g.0 w g.1 g.2 h.0 h.1 g.3 k in
+      further (is_done g.0) g.0 answers g.1 m t g.2 (λ rest r. Goes (next g.1) rest g.1 m r) (λ rest r more. goes_keeps (next g.1) rest g.1 m r (h.2 g.1 u) more u) g.4 u
 
   -- a command that was cut off
 
@@ -118,11 +112,11 @@ module _ (I J : Place → Type 0) (kept : (x y : Place) → Kept x y → I x →
 
   pub cut_keeps : (x : Meaning) (w m : World) → Keeps I J x w → IsCut x w m → Everywhere I w → Everywhere J m
   cut_keeps (No r) w m h c k = along_left w.places m.places c k
-  cut_keeps (Acts i row) w m h c k = at_left row.left i w.places m.places (λ p e. (h p e).left) c k
-  cut_keeps (Then i row next) w m h (inl c) k = at_left row.left i w.places m.places (λ p e. (h.0 p e).left) c k
-  cut_keeps (Then i row next) w m h (inr c) k =
-      let u = one_keeps i row c.0 w c.1 c.2 h.0 c.3 k in
-      cut_keeps (next c.1) c.1 m (h.1 c.1 u) c.4 u
+  cut_keeps (Acts i row others) w m h c k = at_left row.left i w.places m.places (λ p e. (h.0 p e).left) c k
+  cut_keeps (Then i row others next) w m h (inl c) k = at_left row.left i w.places m.places (λ p e. (h.0 p e).left) c k
+  cut_keeps (Then i row others next) w m h (inr c) k =
+      let u = one_keeps i row others c.0 w c.1 c.2 h.0 h.1 c.3 k in
+      cut_keeps (next c.1) c.1 m (h.2 c.1 u) c.4 u
 
 -- What holds everywhere holds at a place that is found.
 
@@ -134,9 +128,9 @@ holds_there I [] i p e k = cc
 holds_there I (x ∷ ps) zero p e k = subst I (same_place x p e) k.0
 holds_there I (x ∷ ps) (suc i) p e k = holds_there I ps i p e k.1
 
-module _ (I J : Place → Type 0) where
-  pub acts_keep : (w : World) (i : ℕ) (p : Place) (row : Row) → slice_get w.places i ≡ Some p → RowKeeps I J p row → Keeps I J (Acts i row) w
-  acts_keep w i p row e h q g = subst (λ (x : Place). RowKeeps I J x row) (same_place p q (sym e ∙ g)) h
+module _ (I J : Place → Type 0) (kept : (x y : Place) → Kept x y → I x → I y) where
+  pub acts_keep : (w : World) (i : ℕ) (p : Place) (row : Row) → slice_get w.places i ≡ Some p → RowKeeps I J p row → Keeps I J (Acts i row apart) w
+  acts_keep w i p row e h = (λ q g. subst (λ (x : Place). RowKeeps I J x row) (same_place p q (sym e ∙ g)) h, λ a j. kept)
 
   pub keeps_there : (none : Meaning) (w : World) (o : Option ℕ) (f : ℕ → Place → Meaning) → Keeps I J none w → ((i : ℕ) (p : Place) → slice_get w.places i ≡ Some p → I p → Keeps I J (f i p) w)
       → Everywhere I w → Keeps I J (there none w o f) w
@@ -149,5 +143,5 @@ module _ (I J : Place → Type 0) where
 
   pub target_keeps : (x : Target) (w : World) → TargetKeeps I J x → Everywhere I w → Keeps I J (meant w x) w
   target_keeps (On name row) w h k =
-      keeps_there (refusing name NoSite) w (place_of w name) (λ i p. Acts i (row_at row p)) tt (λ i p e there. acts_keep w i p (row_at row p) e (h p there)) k
+      keeps_there (refusing name NoSite) w (place_of w name) (λ i p. Acts i (row_at row p) apart) tt (λ i p e there. acts_keep w i p (row_at row p) e (h p there)) k
   target_keeps (Open f) w h k = h w k

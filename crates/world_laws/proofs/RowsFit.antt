@@ -9,16 +9,16 @@ use Rattle.site_defs.specs.Contents.{Contents}
 use Rattle.site_defs.specs.Lists.{Among}
 use Rattle.site_defs.specs.Opening.{MayBegin, MayMap}
 use Rattle.world_defs.specs.World.{Place, World, name_on, place_of, next_of}
-use Rattle.world_defs.specs.Answers.{Cause, NoSite, Stopped, Exists, NoDisk, NotEmpty, Empty, Running, NotRunning, NotPrimary, NotSimulated, Started, NoRegion, TwiceMapped, NoFile, GenLimit, ReignLimit, Refusal}
+use Rattle.world_defs.specs.Answers.{Cause, Exists, NoDisk, Refusal}
 use Rattle.world_defs.specs.Row.{Row, quiet, first, refused_with, or_else, in_state, why_not_down, refusal_in}
-use Rattle.world_defs.specs.Meaning.{Acts, refusing, on_next, target, row_at}
+use Rattle.world_defs.specs.Meaning.{apart, Acts, refusing, on_next, target, row_at}
 use Rattle.world_defs.specs.Step.{LeftBy, LeavesOld}
 use Rattle.world_defs.specs.rows.Attach.{ATTACHING, attach}
 use Rattle.world_defs.specs.rows.Create.{MayMake, create}
 use Rattle.world_defs.specs.rows.Map.{map_pattern}
 use Rattle.world_defs.specs.rows.Print.{print}
 use Rattle.world_defs.specs.rows.Run.{run}
-use Rattle.world_defs.specs.rows.Start.{StartRefused, generation_limit, reign_limit, limited, start}
+use Rattle.world_defs.specs.rows.Start.{StartRefused, is_reign_limit, generation_limit, reign_limit, limited, start}
 use Rattle.world_defs.specs.Fit.{IsFitContents, IsFitPlace, IsFit}
 use Rattle.world_laws.specs.Again.{HasFitOutcomes}
 use Rattle.world_laws.proofs.PlacesFit.{fit-kept, fit-unknown, fit-stops, fit-creates, fit-maps, fit-site_fails, fit-none_fails, fit-fails_unchanged, fit-may_make, fit-maps_some, fit-attaches, fit-crashes}
@@ -68,23 +68,9 @@ may_start : (name : Name) (p : Place) → refusal_in (start name p) ≡ None →
 may_start name p none t =
     unlimited p.told (generation_limit p.now) (reign_limit p.now) t (no_cause name (limited p) (no_else (refused_with name (in_state why_not_down p.site)) (refused_with name (limited p)) none))
 
-fit-refused_so : (cause : Cause) (p q : Place) → IsFitPlace p → StartRefused cause p q → IsFitPlace q
-fit-refused_so ReignLimit p q h r = fit-refused p q h r
-fit-refused_so NoSite p q h r = fit-kept p q r h
-fit-refused_so (Stopped k) p q h r = fit-kept p q r h
-fit-refused_so Exists p q h r = fit-kept p q r h
-fit-refused_so NoDisk p q h r = fit-kept p q r h
-fit-refused_so NotEmpty p q h r = fit-kept p q r h
-fit-refused_so Empty p q h r = fit-kept p q r h
-fit-refused_so Running p q h r = fit-kept p q r h
-fit-refused_so NotRunning p q h r = fit-kept p q r h
-fit-refused_so NotPrimary p q h r = fit-kept p q r h
-fit-refused_so NotSimulated p q h r = fit-kept p q r h
-fit-refused_so Started p q h r = fit-kept p q r h
-fit-refused_so (NoRegion region) p q h r = fit-kept p q r h
-fit-refused_so TwiceMapped p q h r = fit-kept p q r h
-fit-refused_so NoFile p q h r = fit-kept p q r h
-fit-refused_so GenLimit p q h r = fit-kept p q r h
+fit-refused_so : (past : Bool) (p q : Place) → IsFitPlace p → StartRefused past p q → IsFitPlace q
+fit-refused_so true p q h r = fit-refused p q h r
+fit-refused_so false p q h r = fit-kept p q r h
 
 -- rows that files and faults have more to say of
 
@@ -95,9 +81,8 @@ fit-start p h = record {
   typed = λ text q d. absurd d;
   fault = λ k q d. fit-site_fails k (MayBegin name p.left.broken) p q (fit-begins_some name p h) d;
   damage = λ file offset q d. fit-unknown p q d h;
-  refused = λ r q d. fit-refused_so r.cause p q h d;
+  refused = λ r q d. fit-refused_so (is_reign_limit r.cause) p q h d;
   may_refuse = λ r q d. fit-unknown p q d.2 h;
-  others = λ a j. fit-kept;
   left = λ q l. fit-left (MayBegin name p.left.broken) p q h (λ t c o a m. (fit-begins_some name p h t c o a m).0) l;
 }
   where
@@ -113,7 +98,6 @@ fit-map region text p h = record {
   damage = λ file offset q d. fit-unknown p q d h;
   refused = λ r q d. fit-kept p q d h;
   may_refuse = λ r q d. fit-unknown p q d.2 h;
-  others = λ a j. fit-kept;
   left = λ q l. fit-left (MayMap region text) p q h (λ t c o a m. (fit-maps_some region text p h t c o a m).0) l;
 }
 
@@ -126,7 +110,6 @@ fit-run jobs order p updaters h = record {
   damage = λ file offset q d. absurd d;
   refused = λ r q d. fit-kept p q d h;
   may_refuse = λ r q d. absurd d;
-  others = λ a j. fit-kept;
   left = λ q l. fit-left _ p q h (λ t c o a m. fit-run_left p.site jobs order p o refl updaters h t m) l;
 }
 
@@ -139,7 +122,6 @@ fit-print g p h = record {
   damage = λ file offset q d. absurd d;
   refused = λ r q d. fit-kept p q d h;
   may_refuse = λ r q d. fit-unknown p q d.1 h;
-  others = λ a j. fit-kept;
   left = λ q l. fit-old p q l h;
 }
 
@@ -152,7 +134,6 @@ fit-create regions name p h = record {
   damage = λ file offset q d. fit-unknown p q d h;
   refused = λ r q d. fit-kept p q d h;
   may_refuse = λ r q d. fit-unknown p q d.1 h;
-  others = λ a j. fit-kept;
   left = λ q l. fit-left (MayMake name regions) p q h made l;
 }
   where
@@ -168,18 +149,17 @@ fit-attach w p h = record {
   damage = λ file offset q d. fit-unknown p q d h;
   refused = λ r q d. fit-kept p q d h;
   may_refuse = λ r q d. fit-unknown p q d.1 h;
-  others = λ a j. fit-kept;
   left = λ q l. fit-old p q l h;
 }
 
 -- commands
 
-fit-next : (word : Name) (w : World) (row : Place → Row) → ((p : Place) → IsFitPlace p → RowFits p (row p)) → IsFit w → Keeps IsFitPlace HasFitOutcomes (on_next w word (λ i p. Acts i (row p))) w
+fit-next : (word : Name) (w : World) (row : Place → Row) → ((p : Place) → IsFitPlace p → RowFits p (row p)) → IsFit w → Keeps IsFitPlace HasFitOutcomes (on_next w word (λ i p. Acts i (row p) apart)) w
 fit-next word w row f fit =
-    keeps_there IsFitPlace HasFitOutcomes (refusing word NoDisk) w (next_of w) (λ i p. Acts i (row p)) tt (λ i p e h. acts_keep IsFitPlace HasFitOutcomes w i p (row p) e (f p h)) fit
+    keeps_there IsFitPlace HasFitOutcomes fit-kept (refusing word NoDisk) w (next_of w) (λ i p. Acts i (row p) apart) tt (λ i p e h. acts_keep IsFitPlace HasFitOutcomes fit-kept w i p (row p) e (f p h)) fit
 
 pub fit-target : (c : Command) → IsFormed c → TargetKeeps IsFitPlace HasFitOutcomes (target c)
-fit-target (Create name regions) formed = λ w fit. keeps_there IsFitPlace HasFitOutcomes (on_next w name (λ i p. Acts i (create regions name p))) w (place_of w name) (λ i p. refusing name Exists)
+fit-target (Create name regions) formed = λ w fit. keeps_there IsFitPlace HasFitOutcomes fit-kept (on_next w name (λ i p. Acts i (create regions name p) apart)) w (place_of w name) (λ i p. refusing name Exists)
     (fit-next name w (create regions name) (λ p h. fit-create regions name p h) fit) (λ i p e h. tt) fit
 fit-target Attach formed = λ w fit. fit-next ATTACHING w (attach w) (λ p h. fit-attach w p h) fit
 fit-target (Map name region text) formed = fit-map region text

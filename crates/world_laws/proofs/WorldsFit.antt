@@ -15,7 +15,7 @@ use Rattle.world_laws.proofs.Keeps.{Keeps, target_keeps, goes_keeps, cut_keeps}
 use Rattle.world_laws.proofs.RowsFit.{fit-old, fit-target}
 
 fit-meaning : (w : World) (c : Command) → IsFormed c → IsFit w → Keeps IsFitPlace HasFitOutcomes (meaning w c) w
-fit-meaning w c formed fit = target_keeps IsFitPlace HasFitOutcomes (target c) w (fit-target c formed) fit
+fit-meaning w c formed fit = target_keeps IsFitPlace HasFitOutcomes fit-kept (target c) w (fit-target c formed) fit
 
 pub fit-step : (w m : World) (c : Command) (answers : List Answer) (text : List ℕ) → IsFormed c → IsFit w → Step w c answers m text → IsFit m
 fit-step w m c answers text formed fit h = goes_keeps IsFitPlace HasFitOutcomes fit-kept fit-old (meaning w c) answers w m text (fit-meaning w c formed fit) h fit

@@ -2,7 +2,7 @@
 --
 -- Opening a site writes down what is broken and draws the next generation: it cuts there, so that nothing past the sequence counts any more,
 -- and begins the generation in one region after another.
-use Rattle.std.specs.Prelude.{◌≡◌, ◌⊎◌, ℕ, ◌+◌, List, [], ◌∷◌, ◌++◌, codes, length, replicate, Option, Some, None}
+use Rattle.std.specs.Prelude.{◌≡◌, ◌⊎◌, ℕ, ◌+◌, Bool, true, false, List, [], ◌∷◌, ◌++◌, codes, length, replicate, Option, Some, None}
 use Rattle.std.specs.Fmt.{decimal}
 use Rattle.command_defs.specs.Commands.{Name}
 use Rattle.site_defs.specs.Contents.{Contents}
@@ -39,10 +39,14 @@ pub record StartsPrimary (name : Name) (old new : Place) : Type 0 where
   pub as_left : IfKnown old (broken ≡ old.left.broken)
   pub becomes : Becomes (Primary (next_stamp name read) FIRST_SERIALS) (with_reign name (opened broken read)) old new
 
+abbrev pub is_reign_limit : Cause → Bool
+is_reign_limit ReignLimit = true
+is_reign_limit cause = false
+
 -- past the limit of reigns the site was opened, which used a generation, and is down again; otherwise all is as it was
-abbrev pub StartRefused : Cause → Place → Place → Type 0
-StartRefused ReignLimit old new = Becomes Down (opened old.left.broken old.now) old new
-StartRefused cause old new = Kept old new
+abbrev pub StartRefused : (past_reigns : Bool) → Place → Place → Type 0
+StartRefused true old new = Becomes Down (opened old.left.broken old.now) old new
+StartRefused false old new = Kept old new
 
 abbrev pub cycle_in : State → ℕ
 cycle_in Down = 0
@@ -58,7 +62,7 @@ abbrev pub start : Name → Place → Row
 start name p = record (writing name (MayBegin name p.left.broken) p) {
   early = refused_with name (in_state why_not_down p.site);
   late = refused_with name (limited p);
-  refused = λ r q. StartRefused r.cause p q;
+  refused = λ r q. StartRefused (is_reign_limit r.cause) p q;
   may_refuse = λ r q. (r.site ≡ name) × IsLimit r.cause × KeptUnknown p q;
   done = λ q. StartsPrimary name p q;
   says = λ q. line name (codes "PRIMARY " ++ decimal (cycle_on q.site) ++ codes " FROM " ++ decimal (length q.now.sequence + 1));
