@@ -4,7 +4,7 @@ use Rattle.std.specs.List.{list_all, flat_map}
 use Rattle.std.specs.Char.{is_ascii_digit}
 use Rattle.std.specs.Str.Parse.{AllDigits, digits_value}
 use Rattle.std.specs.Fmt.{decimal}
-use Rattle.std.proofs.lemmas.Bool.{and_parts, ne_eqb, eqb-true, eqb-false, le-leb, cases_Bool}
+use Rattle.std.proofs.lemmas.Bool.{and_parts, ne_eqb, eqb-true, eqb-false, le-leb, not-true, cases_Bool}
 use Rattle.std.proofs.lemmas.Str.Parse.{digit_from_value}
 use Rattle.global_defs.specs.Key.{Sub, Number, Text}
 use Rattle.global_defs.specs.Encoded.{significant, escaped, encoded_sub}
@@ -81,6 +81,12 @@ unescaped_back (suc b ∷ s) = elim (cases_Bool (b == 0)) [
   | inl e ↦ let one : 1 ≡ suc b = omega (arith, eqb-true b 0 e) in rw e (λ i. one i ∷ unescaped_back s i)
   | inr e ↦ rw (e, ne_eqb (suc b) 1 (λ x. omega (arith, eqb-false b 0 e))) (ap (λ x. suc b ∷ x) (unescaped_back s))
 ]
+
+pub nothing_escaped : (bytes : List ℕ) → list_all (λ b. not (b == 1)) bytes ≡ true → unescaped false bytes ≡ bytes
+nothing_escaped [] h = refl
+nothing_escaped (b ∷ bytes) h =
+    let t = and_parts (not (b == 1)) (list_all (λ b. not (b == 1)) bytes) h in
+    rw (not-true (b == 1) t.0) (ap (λ (x : List ℕ). b ∷ x) (nothing_escaped bytes t.1))
 
 pub sub_back : (s : Sub) → is_sub s ≡ true → sub_read (front s) ≡ Some (sub_bytes s)
 sub_back (Number (pos zero)) h = refl

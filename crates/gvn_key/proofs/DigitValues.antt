@@ -36,7 +36,7 @@ value_next ds i at all =
     let b = digit_at ds i (are_digits ds all) at in
     digits_value_more 10 ds i at ∙ omega (arith, digit_value_digit (get_or ds i 0) b)
 
-zeros_digits : (n : ℕ) → list_all is_ascii_digit (replicate n 48) ≡ true
+pub zeros_digits : (n : ℕ) → list_all is_ascii_digit (replicate n 48) ≡ true
 zeros_digits zero = refl
 zeros_digits (suc n) = zeros_digits n
 

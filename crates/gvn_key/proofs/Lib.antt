@@ -5,6 +5,8 @@ pub mod DigitValues
 pub mod Decoded
 pub mod Subscripts
 pub mod KeyRead
+pub mod WholeNumbers
+pub mod Below
 pub mod Parsing
 pub mod ZwrLaws
 pub mod ZwrWritten

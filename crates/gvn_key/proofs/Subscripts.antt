@@ -22,7 +22,7 @@ pub record IsPartRead (texts : List (List ℕ)) (rest : List ℕ) (subs : List S
 pub none_read : (rest : List ℕ) (subs : List Sub) → list_all is_sub subs ≡ true → flat_map encoded_sub subs ≡ rest → IsPartRead [] rest subs
 none_read rest subs h e = record { others = subs; valid = h; code = e; joined = refl }
 
-code_parts : (s : Sub) (ss : List Sub) → flat_map encoded_sub (s ∷ ss) ≡ front s ++ (last_byte s ∷ flat_map encoded_sub ss)
+pub code_parts : (s : Sub) (ss : List Sub) → flat_map encoded_sub (s ∷ ss) ≡ front s ++ (last_byte s ∷ flat_map encoded_sub ss)
 code_parts s ss = ap (λ x. x ++ flat_map encoded_sub ss) (encoded_parts s) ∙ append_assoc (front s) (last_byte s ∷ []) (flat_map encoded_sub ss)
 
 code_some : (s : Sub) (ss : List Sub) → 0 < length (flat_map encoded_sub (s ∷ ss))

@@ -1,5 +1,5 @@
 -- Encoded keys read back.
-use Rattle.std.specs.Prelude.{◌≡◌, ℕ, ◌-◌, ◌==◌, ◌&&◌, Bool, true, false, List, [], ◌∷◌, ◌++◌, length, map, position, slice_index, replicate, Option, Some, None, nat_le, if◌then◌else◌}
+use Rattle.std.specs.Prelude.{◌≡◌, ℕ, ◌+◌, ◌-◌, ◌==◌, ◌&&◌, Bool, true, false, not, List, [], ◌∷◌, ◌++◌, length, take, drop, map, position, slice_index, replicate, Option, Some, None, nat_le, if◌then◌else◌, IsTrue}
 use Rattle.std.specs.List.{list_all, flat_map}
 use Rattle.std.specs.Char.{is_ascii_digit}
 use Rattle.std.specs.Str.Parse.{digits_value}
@@ -7,11 +7,21 @@ use Rattle.global_defs.specs.Key.{Key, Sub}
 use Rattle.global_defs.specs.Encoded.{encoded, encoded_sub}
 use Rattle.global_defs.specs.NodeText.{magnitude_text, sub_bytes}
 use Rattle.global_defs.specs.Valid.{is_key, is_sub}
+use Rattle.global_defs.specs.Entry.{is_under}
+use Rattle.global_defs.specs.Evaluation.{first_sub}
 
 -- what decoding bytes gives: the key that has these bytes, nothing where no key has them
 abbrev pub Decodes : List ℕ → Option Key → Type 0
 Decodes bytes None = (key : Key) → is_key key ≡ true → encoded key ≡ bytes → ⊥
 Decodes bytes (Some key) = (is_key key ≡ true) × (encoded key ≡ bytes)
+
+-- the bytes of a key that there is
+abbrev pub IsCode : List ℕ → Type 0
+IsCode bytes = (key : Key) × IsTrue (is_key key) × (bytes ≡ encoded key)
+
+-- the subscript at the level below the top one, where the key is one of its descendants
+abbrev pub sub_below : Key → Key → Option Sub
+sub_below top key = if is_under top key then first_sub (drop (length top.subs) key.subs) else None
 
 -- The functions below read what encoding writes. Of other bytes they read something or nothing.
 
@@ -37,6 +47,11 @@ are_digits count digits = nat_le count 36 && nat_le (length digits) count && lis
 abbrev pub padded : ℕ → List ℕ → List ℕ
 padded count digits = digits ++ replicate (count - length digits) 48
 
+-- digits of 10 ^ 18 times a whole number with so many digits
+abbrev pub are_whole : ℕ → List ℕ → Bool
+are_whole count [] = false
+are_whole count (d ∷ digits) = not (d == 48) && nat_le (length (d ∷ digits) + 18) count
+
 abbrev pub signed_text : Bool → List ℕ → List ℕ
 signed_text negative text = if negative then 45 ∷ text else text
 
@@ -56,6 +71,11 @@ negative_read (exponent ∷ digits) = number_read true (209 - exponent) (map (λ
 abbrev pub sub_read : List ℕ → Option (List ℕ)
 sub_read [] = Some (48 ∷ [])
 sub_read (kind ∷ bytes) = if kind == 4 then Some (unescaped false bytes) else (if kind == 3 then positive_read bytes else (if kind == 1 then negative_read bytes else None))
+
+-- the own bytes of the first subscript, by where it ends
+abbrev pub first_read : Option ℕ → List ℕ → Option (List ℕ)
+first_read None bytes = None
+first_read (Some last) bytes = sub_read (take last bytes)
 
 -- what reading subscripts gives: their own bytes, nothing only where no subscripts have this form
 abbrev pub ReadsSubs : List ℕ → Option (List (List ℕ)) → Type 0

@@ -1,11 +1,12 @@
 //! Lists of bytes.
-ghost use Rattle.std.specs.Prelude.{◌≡◌, ℕ, ◌==◌, [], ◌∷◌, ◌++◌, length, IfOk, OnOk, OnErr, Some, refl};
+ghost use Rattle.std.specs.Prelude.{◌≡◌, ℕ, ◌==◌, [], ◌∷◌, ◌++◌, length, take, IfOk, OnOk, OnErr, Some, refl};
 ghost use Rattle.std.specs.Ordering.{nat_cmp, eq_by_cmp};
 ghost use Rattle.std.specs.Cmp.{partial_equiv_from_equiv, partial_order_from_agreeing_total};
 ghost use Rattle.std.specs.Cmp.Lexicographic.{slice_cmp, nat_list_cmp_total};
 ghost use Rattle.std.specs.Fmt.{decimal};
 ghost use Rattle.std.proofs.lemmas.Cmp.{eq_by_cmp_equiv};
 
+use itoa::Buffer;
 use std::alloc::{AllocError, AllocFailed, Global};
 use std::cmp::Ordering;
 use std::marker::Model;
@@ -93,9 +94,25 @@ impl Bytes {
         ensures ok { OnOk result (self.new ≡ self.old ++ decimal number) }
         ensures err { OnErr result (self.new ≡ self.old) }
     {
-        let text = number.to_string(self.allocator())?;
-        self.items.extend_from_slice(text.as_bytes())?;
+        let mut digits = Buffer::new();
+        self.items
+            .extend_from_slice(digits.format(number).as_bytes())?;
         Ok(())
+    }
+
+    /// Makes room for so many bytes more, so that adding them takes no memory.
+    pub fn reserve(&mut self, bytes: usize) -> Result<(), NoMemory>
+        ensures { self.new ≡ self.old }
+    {
+        self.items.reserve(bytes)?;
+        Ok(())
+    }
+
+    /// Leaves the first so many bytes, or all where there are no more. The memory stays with the list.
+    pub fn truncate(&mut self, bytes: usize)
+        ensures { self.new ≡ take bytes self.old }
+    {
+        self.items.truncate(bytes);
     }
 
     /// All the bytes.

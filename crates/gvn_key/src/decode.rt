@@ -1,15 +1,19 @@
 //! Keys from their encoded bytes.
-ghost use Rattle.std.specs.Prelude.{◌≡◌, ◌+◌, ◌-◌, ◌<◌, ◌≤◌, ◌^◌, ◌++◌, ◌∷◌, [], true, false, length, option_map, position, ◌==◌, map, replicate, IfOk, OnOk, IfSome};
+ghost use Rattle.std.specs.Prelude.{◌≡◌, ◌+◌, ◌-◌, ◌<◌, ◌≤◌, ◌^◌, ◌++◌, ◌∷◌, [], true, false, length, option_map, position, ◌==◌, map, replicate, not, IfOk, OnOk, IfSome};
 ghost use Rattle.std.specs.List.{list_all};
 ghost use Rattle.std.specs.Char.{is_ascii_digit};
 ghost use Rattle.std.specs.Str.Parse.{digits_value};
-ghost use Rattle.global_defs.specs.Encoded.{significant};
+ghost use Rattle.global_defs.specs.Encoded.{significant, encoded};
 ghost use Rattle.global_defs.specs.NodeText.{pointed, magnitude_text};
-ghost use Rattle.gvn_key.specs.Decoding.{Decodes, ReadsSubs, end_byte, sub_end, unescaped, padded, number_read, positive_read, negative_read, sub_read};
+ghost use Rattle.global_defs.specs.Key as keys;
+ghost use Rattle.global_defs.specs.Key.{sub_of};
+ghost use Rattle.global_defs.specs.Valid.{is_key};
+ghost use Rattle.gvn_key.specs.Faults.{child_of};
+ghost use Rattle.gvn_key.specs.Decoding.{Decodes, IsCode, ReadsSubs, sub_below, first_read, end_byte, sub_end, unescaped, are_whole, padded, number_read, positive_read, negative_read, sub_read};
 
 use super::bytes::{Bytes, NoMemory};
 use super::encoding::{push_reversed, significant};
-use super::key::{Key, KeyError};
+use super::key::{Key, KeyError, Parts};
 use super::numeral::are_digits;
 use std::alloc::Global;
 
@@ -18,6 +22,12 @@ const SCALE: u64 = 1_000_000_000_000_000_000;
 
 /// How many digits a number can have, 18 before its point and 18 behind it.
 const MOST_DIGITS: usize = 36;
+
+/// How many of them stand behind the point.
+const FRACTION: usize = 18;
+
+/// Room for a minus sign, 18 digits and a point.
+const LONGEST_NUMERAL: usize = 20;
 
 /// The zeros behind a number's digits.
 const ZEROS: [u8; 36] = [b'0'; 36];
@@ -52,11 +62,21 @@ fn sub_end(bytes: &[u8]) -> Option<usize>
     }
 }
 
+/// Whether no byte is a 1, which begins an escape.
+fn has_no_escapes(bytes: &[u8]) -> bool
+    ensures { result ≡ list_all (λ b. not (b == 1)) bytes.now }
+{
+    bytes.iter().all(|b| *b != 1)
+}
+
 /// The bytes of a string from their escaped form: 1 and 1 is 0, 1 and 2 is 1.
 fn unescaped(alloc: Global, bytes: &[u8]) -> Result<Bytes, NoMemory>
     ensures { IfOk result (λ made. made ≡ unescaped false bytes.now) }
 {
-    let mut made = Bytes::new(alloc);
+    if has_no_escapes(bytes) {
+        return Bytes::of(alloc, bytes);
+    }
+    let mut made = Bytes::with_capacity(alloc, bytes.len())?;
     let mut escaping = false;
     for byte in bytes {
         if escaping {
@@ -137,6 +157,33 @@ fn padded(alloc: Global, count: usize, digits: &[u8]) -> Result<Bytes, NoMemory>
     Ok(made)
 }
 
+/// Whether these digits, up to the last that isn't 0, are those of 10 ^ 18 times a whole number with so many digits.
+fn are_whole(count: usize, digits: &[u8]) -> bool
+    ensures { result ≡ are_whole count digits.now }
+{
+    match digits {
+        [] => false,
+        [first, ..] => *first != b'0' && digits.len() + FRACTION <= count,
+    }
+}
+
+/// Adds the numeral of a number without a sign by the count of digits of 10 ^ 18 times it, and these digits up to the last
+/// that isn't 0.
+fn push_digits(count: usize, digits: &[u8], out: &mut Bytes) -> Result<(), NoMemory>
+    requires count { count ≤ 36 }
+    requires fits { length digits.now ≤ count }
+    requires digits { list_all is_ascii_digit digits.now ≡ true }
+    ensures { OnOk result (out.new ≡ out.old ++ magnitude_text (digits_value 10 (padded count digits.now))) }
+{
+    if are_whole(count, digits) {
+        out.push_all(digits)?;
+        out.push_all(zeros(count - FRACTION - digits.len()))
+    } else {
+        let all = padded(out.allocator(), count, digits)?;
+        push_magnitude(value(all.as_slice()), out)
+    }
+}
+
 /// A numeral by the count of digits of 10 ^ 18 times its number, and these digits up to the last that isn't 0.
 fn number(
     alloc: Global,
@@ -149,12 +196,11 @@ fn number(
     if MOST_DIGITS < count || count < digits.len() || !are_digits(digits) {
         return Ok(None);
     }
-    let all = padded(alloc, count, digits)?;
-    let mut text = Bytes::new(alloc);
+    let mut text = Bytes::with_capacity(alloc, LONGEST_NUMERAL)?;
     if negative {
         text.push(b'-')?;
     }
-    push_magnitude(value(all.as_slice()), &mut text)?;
+    push_digits(count, digits, &mut text)?;
     Ok(Some(text))
 }
 
@@ -226,7 +272,49 @@ fn subs(alloc: Global, bytes: &[u8]) -> Result<Option<Vec<Bytes>>, NoMemory>
     Ok(Some(subs))
 }
 
+/// The own bytes of the first subscript, `None` where there is none.
+fn first_sub(alloc: Global, bytes: &[u8]) -> Result<Option<Bytes>, NoMemory>
+    ensures { IfOk result (λ read. read ≡ first_read (sub_end bytes.now) bytes.now) }
+{
+    match sub_end(bytes) {
+        Some(last) => sub(alloc, &bytes[..last]),
+        None => Ok(None),
+    }
+}
+
 impl Key {
+    /// The key of these bytes, which some key has as its encoded form. They are read once, and not tested again.
+    pub fn of_code(alloc: Global, code: &[u8]) -> Result<Self, NoMemory>
+        requires { IsCode code.now }
+        ensures code { IfOk result (λ key. encoded key ≡ code.now) }
+        ensures valid { IfOk result (λ key. is_key key ≡ true) }
+    {
+        let Some(end) = place(0, code) else {
+            unreachable!();
+        };
+        let Some(subs) = subs(alloc, &code[end + 1..])? else {
+            unreachable!();
+        };
+        let name = Bytes::of(alloc, &code[..end])?;
+        let code = Bytes::of(alloc, code)?;
+        Key::made(alloc, Parts { name, subs, code })
+    }
+
+    /// The own bytes of the subscript at the level below this node, of the key that has these bytes as its encoded form: of a number
+    /// its numeral, and `None` where that key isn't one of a descendant. No other subscript is read.
+    pub fn next_sub(&self, code: &[u8]) -> Result<Option<Bytes>, NoMemory>
+        requires { IsCode code.now }
+        ensures next { (key : keys.Key) → is_key key ≡ true → encoded key ≡ code.now → IfOk result (λ sub. option_map sub_of sub ≡ sub_below self.now key) }
+        ensures a_key { IfOk result (λ sub. IfSome sub (λ bytes. is_key (child_of self.now (sub_of bytes)) ≡ true)) }
+    {
+        let own = self.as_encoded();
+        if code.starts_with(own) {
+            first_sub(self.code().allocator(), &code[own.len()..])
+        } else {
+            Ok(None)
+        }
+    }
+
     /// The key that has these bytes as its encoded form, `None` where no key has them.
     pub fn decode(alloc: Global, bytes: &[u8]) -> Result<Option<Self>, NoMemory>
         ensures { IfOk result (λ found. Decodes bytes.now found) }

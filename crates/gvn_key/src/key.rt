@@ -67,10 +67,10 @@ impl From<NoMemory> for KeyError {
 
 /// What the copies of a key share.
 #[derive(Debug, Drop)]
-struct Parts {
-    name: Bytes,
-    subs: Vec<Bytes>,
-    code: Bytes,
+pub(crate) struct Parts {
+    pub(crate) name: Bytes,
+    pub(crate) subs: Vec<Bytes>,
+    pub(crate) code: Bytes,
 }
 
 /// A node's key: a name and up to 31 subscripts, each a number or a string, with at most 255 bytes encoded. Copies of a key share
@@ -183,7 +183,7 @@ impl Key {
     }
 
     /// The key of these parts.
-    fn made(alloc: Global, parts: Parts) -> Result<Self, NoMemory>
+    pub(crate) fn made(alloc: Global, parts: Parts) -> Result<Self, NoMemory>
         requires { IsMade parts.name parts.subs.items parts.code }
         ensures { IfOk result (λ key. key ≡ key_of parts.name parts.subs.items) }
     {

@@ -38,6 +38,15 @@ impl Jobs {
         }
     }
 
+    /// No updaters, with room for so many.
+    pub fn with_capacity(alloc: Global, updaters: usize) -> Result<Self, NoMemory>
+        ensures { IfOk result (λ made. made ≡ []) }
+    {
+        Ok(Jobs {
+            items: Vec::with_capacity(alloc, updaters)?,
+        })
+    }
+
     /// How many updaters there are.
     pub fn len(&self) -> usize
         ensures { result ≡ length self.now }

@@ -9,7 +9,7 @@ use gvn_key::{Bytes, Key};
 use gvn_model::{Entry, Item, Items, NamedModes, Origin, Reign, Reigns, Stamp};
 use instance_file::{InstanceRecord, InstanceRecords};
 use jnl_record::{JnlRecord, PlacedRecord};
-use mupip_recover::{recover, survives, write_broken};
+use mupip_recover::{EpochAt, chosen_epoch, recover, survives, write_broken};
 use std::alloc::Global;
 use std::process::Abort;
 
@@ -237,4 +237,50 @@ fn a_whole_transaction_behind_a_broken_one_is_told(rt: HostRuntime) {
     let want =
         b"GTMRBRK01\\A\\1\nSET\\1\\ACCT\\1.1\\^ACCT(1)=\"5\"\nKILL\\2\\ACCT\\1.1\\^ACCT\nKILL\\2\\HIST\\1.1\\^HIST\n";
     breaks(&rt, alloc, &journals, want);
+}
+
+/// An epoch of a generation.
+fn epoch(generation: u32, number: u64, blocks: u32) -> PlacedRecord {
+    let what = JnlRecord::Epoch {
+        closing: false,
+        number,
+        blocks,
+    };
+    PlacedRecord { generation, what }
+}
+
+/// Whether the epoch that is chosen has this number and these blocks, and so many records before those behind it.
+fn chooses(epoch: EpochAt, number: u64, blocks: u32, after: usize) -> bool {
+    epoch.number == number && epoch.blocks == blocks && epoch.after == after
+}
+
+#[test]
+fn the_last_epoch_that_no_cut_drops_is_chosen(rt: HostRuntime) {
+    let alloc = rt.alloc();
+    let (instance, _) = site(&rt, alloc);
+    let mut journal = Vec::new(alloc);
+    journal.push(epoch(1, 0, 1)).expect(&rt, "memory");
+    journal.push(epoch(1, 1, 2)).expect(&rt, "memory");
+    // The CUT to one entry drops it.
+    journal.push(epoch(1, 3, 7)).expect(&rt, "memory");
+    journal.push(epoch(2, 4, 9)).expect(&rt, "memory");
+    journal
+        .push(part(&rt, alloc, 2, 5, 1, 0, b"X"))
+        .expect(&rt, "memory");
+    let from = |target: u64| chosen_epoch(&instance, target, &journal);
+    assert!(&rt; chooses(from(9), 4, 9, 4));
+    assert!(&rt; chooses(from(4), 4, 9, 4));
+    assert!(&rt; chooses(from(3), 1, 2, 2));
+    assert!(&rt; chooses(from(0), 0, 1, 1));
+}
+
+#[test]
+fn without_an_epoch_it_is_the_empty_database(rt: HostRuntime) {
+    let alloc = rt.alloc();
+    let (instance, _) = site(&rt, alloc);
+    let mut journal = Vec::new(alloc);
+    journal
+        .push(part(&rt, alloc, 2, 1, 1, 0, b"X"))
+        .expect(&rt, "memory");
+    assert!(&rt; chooses(chosen_epoch(&instance, 9, &journal), 0, 0, 0));
 }

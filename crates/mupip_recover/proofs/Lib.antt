@@ -9,4 +9,5 @@ pub mod Completion
 pub mod Forms
 pub mod Counts
 pub mod Runs
+pub mod Epochs
 pub mod BrokenLaws

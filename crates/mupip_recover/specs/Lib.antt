@@ -1,4 +1,5 @@
 pub mod Site
+pub mod Epochs
 pub mod Minima
 pub mod Cuts
 pub mod Stamps

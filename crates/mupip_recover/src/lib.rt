@@ -6,6 +6,7 @@
 mod broken;
 mod completing;
 mod cuts;
+mod epoch;
 mod minima;
 mod part;
 mod recovering;
@@ -15,5 +16,6 @@ mod surviving;
 mod table;
 
 pub use broken::write_broken;
+pub use epoch::{EpochAt, chosen_epoch};
 pub use recovering::recover;
 pub use surviving::survives;

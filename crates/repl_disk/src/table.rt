@@ -1,5 +1,5 @@
 //! The table of a memory disk's files.
-ghost use Rattle.std.specs.Prelude.{◌≡◌, ◌≢◌, ◌≤◌, ◌<◌, ◌+◌, ◌^◌, ℕ, length, IfOk, IfErr, OnOk, OnErr};
+ghost use Rattle.std.specs.Prelude.{◌≡◌, ◌≢◌, ◌≤◌, ◌<◌, ◌+◌, ◌^◌, ℕ, length, IfOk, IfErr, IsTrue, OnOk, OnErr};
 ghost use Rattle.repl_disk.specs.Mem.{Mem};
 ghost use Rattle.repl_disk.specs.Table.{entry_in, syncs_of, put_entry, entry_written, entry_synced, entry_grown, IsCrashed, IsFirst, IsAbsent, IsBound, IsPlaceFor, AreKept, all_calls, all_bytes};
 
@@ -14,8 +14,18 @@ fn place_of(files: &[MemFile], number: u32) -> usize
     files.partition_point(|file| file.number < number)
 }
 
-/// The place of the file of this number, or the one where it would be put.
-pub fn find(files: &[MemFile], number: u32) -> Result<usize, usize>
+/// Whether the first file, which is read most often, has this number.
+fn is_first(files: &[MemFile], number: u32) -> bool
+    ensures { IsTrue result → IsFirst files.now number 0 }
+{
+    match files {
+        [first, ..] => first.number == number,
+        [] => false,
+    }
+}
+
+/// The place of the file of this number, or the one where it would be put, among all files.
+fn search(files: &[MemFile], number: u32) -> Result<usize, usize>
     requires { AreKept files.now }
     ensures found { IfOk result (IsFirst files.now number) }
     ensures absent { IfErr result (λ _. IsAbsent files.now number) }
@@ -26,6 +36,20 @@ pub fn find(files: &[MemFile], number: u32) -> Result<usize, usize>
         Ok(i)
     } else {
         Err(i)
+    }
+}
+
+/// The place of the file of this number, or the one where it would be put. The first file is looked at before it searches.
+pub fn find(files: &[MemFile], number: u32) -> Result<usize, usize>
+    requires { AreKept files.now }
+    ensures found { IfOk result (IsFirst files.now number) }
+    ensures absent { IfErr result (λ _. IsAbsent files.now number) }
+    ensures place { IfErr result (IsPlaceFor files.now number) }
+{
+    if is_first(files, number) {
+        Ok(0)
+    } else {
+        search(files, number)
     }
 }
 

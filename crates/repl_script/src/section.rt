@@ -67,7 +67,7 @@ impl Model for Section {
 fn no_jobs(alloc: Global) -> Result<Jobs, NoMemory>
     ensures { IfOk result (λ jobs. jobs ≡ replicate 64 []) }
 {
-    let mut jobs = Jobs::new(alloc);
+    let mut jobs = Jobs::with_capacity(alloc, UPDATERS as usize)?;
     for _place in 0..UPDATERS {
         jobs.push(JobQueue::new(alloc))?;
     }

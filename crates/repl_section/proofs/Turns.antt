@@ -20,7 +20,7 @@ use Rattle.site_defs.specs.Texts.{reply_line, is_past, printed}
 use Rattle.repl_section.specs.declared.reign.Reign.{Reign}
 use Rattle.repl_section.specs.Reigns.{Reigns, stamp_in, stamp_of}
 use Rattle.repl_section.proofs.Standing.{told_there, all_stand}
-use Rattle.repl_section.specs.Deciding.{outcome, HasCome, Appends, MayHave, HasReached, FailsBy, FailsAt, MayLeave}
+use Rattle.repl_section.specs.Deciding.{outcome, HasCome, Appends, MayHave, HasReached, MayHaveFront, FailsBy, FailsAt, FailsIn, MayLeave}
 
 -- a turn with one more pick
 abbrev pub with_pick : Turn → ℕ → Turn → Turn
@@ -160,6 +160,14 @@ old_front : (seq : Sequence) (p : Turn) (c : Contents) → Appends seq p → IsF
 old_front seq p c a = subst (λ (x : Sequence). IsFrontOf x (length seq) c (with_sequence c seq)) (sym a.sequence)
     (record { count = length seq; least = omega arith; most = omega (arith, longer seq a.entry); is = ap (with_sequence c) (sym (take-append_seam seq (a.entry ∷ []))) })
 
+-- what stands where the entry of a pick may stand or not
+failed_front : (w : View) (told : Bool) (c : Contents) (seq : Sequence) (p : Turn) → Appends seq p → (IsTrue told → MayHave w (with_sequence c seq) p.sequence) → MayHaveFront w told c p.sequence (length seq)
+failed_front w told c seq p a may = record { told = λ k. (may k).told; images = λ k files now. by_image files ((may k).images files now) }
+  where
+    by_image : (files : Files) → IsSite files (with_sequence c seq) ⊎ IsSite files (with_sequence c p.sequence) → (x : Contents) × IsFrontOf p.sequence (length seq) c x × IsSite files x
+    by_image files (inl s) = (with_sequence c seq, old_front seq p c a, s)
+    by_image files (inr s) = (with_sequence c p.sequence, all_front p.sequence c (length seq) (omega (arith, ap (λ (x : Sequence). length x) a.sequence, longer seq a.entry)), s)
+
 failed_by : (v w : View) (stamp : Stamp) (told : Bool) (c : Contents) (t p : Turn) (u : ℕ) (left : List (List Job)) (undecided all : ℕ) (r1 : Reign) (t0 t1 : List ℕ)
     → HasGone v stamp told c t left undecided all r1 t0 t1 → Appends t.sequence p → (IsTrue told → MayHave w (with_sequence c t.sequence) p.sequence)
     → FailsBy w told c (with_pick t u p) all undecided t0 t1
@@ -172,12 +180,8 @@ failed_by v w stamp told c t p u left undecided all r1 t0 t1 h a may =
       at_once = omega (arith, ap (λ (x : Sequence). length x) a.sequence, longer t.sequence a.entry);
       count = ap (λ (x : List Replied). undecided + length x) shown ∙ h.count;
       text = h.reached.text ∙ ap (λ (x : List Replied). t0 ++ flat_map reply_line x) (sym shown);
-      front = record { told = λ k. (may k).told; images = λ k files now. by_image files ((may k).images files now) };
+      front = failed_front w told c t.sequence p a may;
     }
-  where
-    by_image : (files : Files) → IsSite files (with_sequence c t.sequence) ⊎ IsSite files (with_sequence c p.sequence) → (x : Contents) × IsFrontOf p.sequence (length t.sequence) c x × IsSite files x
-    by_image files (inl s) = (with_sequence c t.sequence, old_front t.sequence p c a, s)
-    by_image files (inr s) = (with_sequence c p.sequence, all_front p.sequence c (length t.sequence) (omega (arith, ap (λ (x : Sequence). length x) a.sequence, longer t.sequence a.entry)), s)
 
 front_more : (order : List ℕ) (i u : ℕ) → i < length order → u ≡ get_or order i 0 → take (i + 1) order ≡ take i order ++ u ∷ []
 front_more order i u h e = take_more order i 0 h ∙ ap (λ (x : ℕ). take i order ++ x ∷ []) (sym e)
@@ -227,6 +231,23 @@ pub failed_at : (v w : View) (stamp : Stamp) (told : Bool) (c : Contents) (seria
 failed_at v w stamp told c serials jobs left order i u job undecided r1 t0 t1 h inside is next a may =
     subst (λ (x : Turn). FailsBy w told c x (length order) undecided t0 t1) (sym (next_turn v stamp told c serials jobs left order i u job undecided r1 t0 t1 h inside is next))
     (failed_by v w stamp told c (come_to stamp serials jobs order i c.sequence) (pick_at stamp serials jobs order i c r1 u job) u left undecided (length order) r1 t0 t1 h a may)
+
+-- and the picks before it have their replies
+pub failed_in : (v w : View) (stamp : Stamp) (told : Bool) (c : Contents) (serials : List ℕ) (jobs left : List (List Job)) (order : List ℕ) (i u : ℕ) (job : Job) (undecided : ℕ) (r1 : Reign) (t0 t1 : List ℕ)
+    → HasGone v stamp told c (come_to stamp serials jobs order i c.sequence) left undecided (length order) r1 t0 t1 → i < length order → u ≡ get_or order i 0 → next_job u left ≡ Some job
+    → Appends (come_to stamp serials jobs order i c.sequence).sequence (pick_at stamp serials jobs order i c r1 u job)
+    → (IsTrue told → MayHave w (with_sequence c (come_to stamp serials jobs order i c.sequence).sequence) (pick_at stamp serials jobs order i c r1 u job).sequence)
+    → FailsIn w stamp told c jobs order serials undecided t0 t1
+failed_in v w stamp told c serials jobs left order i u job undecided r1 t0 t1 h inside is next a may =
+    let t = come_to stamp serials jobs order i c.sequence in
+    record {
+      decided = i;
+      inside = inside;
+      count = h.count;
+      text = h.reached.text;
+      front = subst (λ (x : Turn). MayHaveFront w told c x.sequence (length t.sequence)) (sym (next_turn v stamp told c serials jobs left order i u job undecided r1 t0 t1 h inside is next))
+          (failed_front w told c t.sequence (pick_at stamp serials jobs order i c r1 u job) a may);
+    }
 
 -- the pick was cut off
 pub left_at : (v w : View) (stamp : Stamp) (told : Bool) (c : Contents) (serials : List ℕ) (jobs left : List (List Job)) (order : List ℕ) (i u : ℕ) (job : Job) (undecided : ℕ) (r1 : Reign) (t0 t1 : List ℕ)

@@ -1,5 +1,5 @@
 -- Deciding jobs in the order of picks, where each entry is hardened before the next job.
-use Rattle.std.specs.Prelude.{◌≡◌, ◌⊎◌, ◌≤◌, ℕ, ◌+◌, Bool, true, List, [], ◌∷◌, ◌++◌, length, take, IsTrue, IsSome}
+use Rattle.std.specs.Prelude.{◌≡◌, ◌⊎◌, ◌≤◌, ◌<◌, ℕ, ◌+◌, Bool, true, List, [], ◌∷◌, ◌++◌, length, take, IsTrue, IsSome}
 use Rattle.std.specs.List.{flat_map}
 use Rattle.disk_defs.specs.Disk.{View, Files, Image}
 use Rattle.global_defs.specs.Entry.{Stamp, Entry, Sequence, Globals}
@@ -75,6 +75,15 @@ pub record FailsBy (v : View) (told : Bool) (c : Contents) (t : Turn) (picks und
 abbrev pub FailsAt : View → Stamp → Bool → Contents → List (List Job) → (order serials : List ℕ) → (undecided : ℕ) → List ℕ → List ℕ → ℕ → Type 0
 FailsAt v stamp told c jobs order serials undecided before now n = FailsBy v told c (turn_of stamp serials jobs (take n order) c.sequence) (length order) undecided before now
 
+-- A fault in the pick behind the first ones, which were decided: each of them that had a job has its reply, and no other has one. The
+-- entry of the pick that failed may stand or not.
+pub record FailsIn (v : View) (stamp : Stamp) (told : Bool) (c : Contents) (jobs : List (List Job)) (order serials : List ℕ) (undecided : ℕ) (before now : List ℕ) : Type 0 where
+  pub decided : ℕ
+  pub inside : decided < length order
+  pub count : undecided + length (turn_of stamp serials jobs (take decided order) c.sequence).replies ≡ length order
+  pub text : now ≡ before ++ flat_map reply_line (turn_of stamp serials jobs (take decided order) c.sequence).replies
+  pub front : MayHaveFront v told c (turn_of stamp serials jobs (take (decided + 1) order) c.sequence).sequence (length (turn_of stamp serials jobs (take decided order) c.sequence).sequence)
+
 -- where files are known, each image stands for a front of what some first picks come to
 pub record MayLeave (v : View) (stamp : Stamp) (is_told : Bool) (c : Contents) (jobs : List (List Job)) (order serials : List ℕ) : Type 0 where
   pub told : IsTrue is_told → IsSome v.content
@@ -85,6 +94,11 @@ pub record MayLeave (v : View) (stamp : Stamp) (is_told : Bool) (c : Contents) (
 abbrev pub Breaks : RunError → View → Stamp → Bool → Contents → List (List Job) → (order serials : List ℕ) → List ℕ → List ℕ → Type 0
 Breaks (run.Failed undecided) v stamp told c jobs order serials before now = (n : ℕ) × FailsAt v stamp told c jobs order serials undecided before now n
 Breaks run.NoMemory v stamp told c jobs order serials before now = MayLeave v stamp told c jobs order serials
+
+-- no reply is withheld where the disk failed
+abbrev pub WithholdsNone : RunError → View → Stamp → Bool → Contents → List (List Job) → (order serials : List ℕ) → List ℕ → List ℕ → Type 0
+WithholdsNone (run.Failed undecided) v stamp told c jobs order serials before now = FailsIn v stamp told c jobs order serials undecided before now
+WithholdsNone run.NoMemory v stamp told c jobs order serials before now = Unit {0}
 
 abbrev pub IsFault : RunError → Type 0
 IsFault (run.Failed undecided) = Unit {0}

@@ -4,7 +4,7 @@ ghost use Rattle.disk_defs.specs.Disk.{Rose};
 ghost use Rattle.site_defs.specs.Contents.{Contents};
 ghost use Rattle.site_store.specs.Site.{IsReady, HasReign};
 ghost use Rattle.repl_section.specs.Reigns.{Reigns, stamp_of};
-ghost use Rattle.repl_section.specs.Deciding.{HasDecided, Breaks, IsFault};
+ghost use Rattle.repl_section.specs.Deciding.{HasDecided, Breaks, WithholdsNone, IsFault};
 
 use crate::error::DecideError;
 use crate::reign::Reign;
@@ -31,7 +31,8 @@ impl Reign {
     /// and a serial that is past 2^32 - 1 take more memory than there is.
     ///
     /// # Errors
-    /// `Failed` only where the disk's count rose, and then the reign is of no more use. `NoMemory`, and then it isn't either.
+    /// `Failed` only where the disk's count rose: the jobs before the one that failed have their replies, and the others are counted. The
+    /// reign is of no more use then. `NoMemory`, and then it isn't either.
     pub fn run<D: Disk>(
         &mut self,
         alloc: Global,
@@ -47,6 +48,8 @@ impl Reign {
         ensures stamp { self.new.site.stamp ≡ self.old.site.stamp }
         ensures done { OnOk result ((told : Bool) (c : Contents) → Reigns (D.disk disk.old) told c self.old → HasDecided (D.disk disk.new) told c jobs order.now self.old self.new text.old text.new) }
         ensures breaks { IfErr result (λ e. (told : Bool) (c : Contents) → Reigns (D.disk disk.old) told c self.old → Breaks e (D.disk disk.new) (stamp_of self.old) told c jobs order.now self.old.serials text.old text.new) }
+        // where the disk failed all jobs before the one that failed have their replies
+        ensures withholds_none { IfErr result (λ e. (told : Bool) (c : Contents) → Reigns (D.disk disk.old) told c self.old → WithholdsNone e (D.disk disk.new) (stamp_of self.old) told c jobs order.now self.old.serials text.old text.new) }
         ensures simulated { (D.disk disk.new).simulated ≡ (D.disk disk.old).simulated }
         ensures later { (D.disk disk.old).faults ≤ (D.disk disk.new).faults }
         ensures cause { IfErr result (λ e. IsFault e → Rose (D.disk disk.old).faults (D.disk disk.new).faults) }

@@ -9,6 +9,7 @@ use Rattle.disk_defs.specs.Disk.{Files, View, Image, IsLawful, AtEachMoment}
 use Rattle.disk_defs.specs.Frames.{Only, OnlyOn, SameOutside, OthersStay}
 use Rattle.disk_defs.proofs.Moments.{started, weaker, holds_now}
 use Rattle.global_defs.specs.Entry.{Sequence, Reign, Stamp}
+use Rattle.global_defs.specs.Fields.{IsSiteName}
 use Rattle.global_defs.specs.Prefix.{stamp_at}
 use Rattle.gvn_model.specs.declared.reign.Stamp as code
 use Rattle.gvn_model.specs.Reigns.{stamp_value}
@@ -37,7 +38,7 @@ use Rattle.site_defs.specs.Stands.{texts_of, IsSite}
 use Rattle.site_store.specs.declared.layout.Layout.{Layout}
 use Rattle.site_store.specs.declared.site.OpenSite.{OpenSite}
 use Rattle.site_store.specs.Finding.{HasLayout}
-use Rattle.site_store.specs.Site.{Remembers, IsReady, Keeps, IsOpen, HasReign}
+use Rattle.site_store.specs.Site.{Remembers, IsReady, Keeps, IsOpen, WasOpened, HasReign}
 use Rattle.gvn_model.specs.Numbered.{numbered}
 use Rattle.site_store.specs.Reigning.{HasNoReignLeft, HasReignLeft, IsNextReign}
 use Rattle.site_store.proofs.Standing.{images_stand, reads_of, reads_so, told_of, still}
@@ -278,6 +279,66 @@ pub past_in : (c : Contents) (h : ℕ) (s : OpenSite) → Remembers c h s → Al
 past_in c h s is all =
     let count = remembered_length c h s is in
     subst (λ (l : List InstanceRecord). AllByRecursion (λ (q : Reign). q.start < length c.sequence + 1) (reigns l)) is.instance (all_past (length s.entries.items) (length c.sequence + 1) (reigns s.instance.records) all (omega (arith, count)))
+
+-- nothing was written: all stands as before
+pub ready_kept : (v w : View) (old new : OpenSite) → IsReady v old → instances.IsReady w new.instance → new.instance.records ≡ old.instance.records → new.journals ≡ old.journals → new.layout ≡ old.layout → OthersStay (Only INSTANCE) v w → IsReady w new
+ready_kept v w old new ready instance records journals layout stays = record {
+  instance = instance;
+  layout = subst (λ (rs : List InstanceRecord). HasLayout rs new.layout) (sym records) (subst (HasLayout old.instance.records) (sym layout) ready.layout);
+  journals = subst (λ (js : RegionJournals). AreReady w (generation new.instance.records) js.journals.items) (sym journals)
+      (subst (λ (g : ℕ). AreReady w g old.journals.journals.items) (sym (ap generation records))
+      (frames.journals_ready v w (Only INSTANCE) old.journals.journals.items stays (journals_away v old ready) (generation old.instance.records) ready.journals));
+  each_region = ap (λ (js : RegionJournals). length js.journals.items) journals ∙ ready.each_region ∙ sym (ap (λ (rs : List InstanceRecord). length (regions rs)) records);
+}
+
+pub opened_kept : (old new : OpenSite) → WasOpened old → new.instance.records ≡ old.instance.records → new.entries.items ≡ old.entries.items → new.hardened ≡ old.hardened → new.stamp ≡ old.stamp → WasOpened new
+opened_kept old new was records entries hardened stamp = record {
+  created = subst (λ (rs : List InstanceRecord). 0 < length rs) (sym records) was.created;
+  name = subst (λ (rs : List InstanceRecord). IsSiteName (site_name rs)) (sym records) was.name;
+  hardened = hardened ∙ was.hardened ∙ ap length (sym entries);
+  few = let n : length new.entries.items ≡ length old.entries.items = ap length entries in let few = was.few in omega (arith, n, few);
+  no_reign_past = subst (λ (n : ℕ). AllByRecursion (λ (q : Reign). q.start ≤ n) (reigns new.instance.records)) (ap length (sym entries))
+      (subst (λ (rs : List InstanceRecord). AllByRecursion (λ (q : Reign). q.start ≤ length old.entries.items) (reigns rs)) (sym records) was.no_reign_past);
+  no_reign = stamp ∙ was.no_reign;
+}
+
+pub open_kept : (v w : View) (told : Bool) (c : Contents) (h : ℕ) (old new : OpenSite) → IsLawful w → IsReady v old → OthersStay (Only INSTANCE) v w → AtEachMoment v w (Image v)
+    → ((rs : List InstanceRecord) → instances.HasRecords v old.instance rs → instances.HasRecords w new.instance rs) → new.instance.records ≡ old.instance.records → new.entries.items ≡ old.entries.items → new.globals ≡ old.globals → new.hardened ≡ old.hardened → new.journals ≡ old.journals
+    → IsOpen v told c h old → IsOpen w told c h new
+open_kept v w told c h old new lawful ready stays unwritten state records entries changed hardened journals is = record {
+  remembered = record {
+    instance = records ∙ is.remembered.instance;
+    entries = ap (map numbered) entries ∙ is.remembered.entries;
+    globals = changed ∙ is.remembered.globals;
+    hardened = hardened ∙ is.remembered.hardened;
+  };
+  kept = λ t.
+      let k = is.kept t in
+      let was : (f : Files) → Image w f → Image v f = λ f now. holds_now v w (Image v) lawful unwritten f now in
+      record {
+        count = k.count;
+        few_nodes = k.few_nodes;
+        reads = reads_so w (λ files. IsSite files (with_sequence c (take h c.sequence))) lawful (still v w (Only INSTANCE) stays (told_of v c h old k)) (λ f now. k.images f (was f now));
+        images = λ f now. k.images f (was f now);
+        records = k.records;
+        g = k.g;
+        last = k.last;
+        older = k.older;
+        newer = k.newer;
+        newest = record { generation = k.newest.generation; not_last = k.newest.not_last; instance = k.newest.instance; whole = k.newest.whole; begins = k.newest.begins; begun = k.newest.begun };
+        sound = λ f now. k.sound f (was f now);
+        older_files = λ f now. k.older_files f (was f now);
+        none_past = k.none_past;
+        no_epoch_past = k.no_epoch_past;
+        waiting = k.waiting;
+        are_waiting = k.are_waiting;
+        in_regions = k.in_regions;
+        at_home = k.at_home;
+        instance_file = state c.instance k.instance_file;
+        journal_files = subst (λ (js : RegionJournals). KeepsJournals w k.newer (tcoms k.waiting) js.journals.items) (sym journals)
+            (frames.journals_keep v w (Only INSTANCE) old.journals.journals.items stays (journals_away v old ready) k.newer (tcoms k.waiting) k.journal_files);
+      };
+}
 
 -- what beginning the reign r has done
 pub record Begins (v w : View) (old new : OpenSite) (r : Reign) : Type 0 where

@@ -7,6 +7,8 @@ use Rattle.disk_defs.specs.Gates.{Body, records}
 use Rattle.journal_defs.specs.Numbers.{INSTANCE}
 use Rattle.journal_defs.specs.Instance.{InstanceRecord, Create, Reigned, Cut, Map, Mode, BeginsWithCreate, IsInForm, IsInstanceBody, regions}
 use Rattle.journal_defs.specs.Stands.{IsInstance}
+use Rattle.std.specs.Prelude.{IfSome}
+use Rattle.disk_defs.proofs.Told.{weaker_told}
 use Rattle.journal_laws.proofs.Readings.{holds_one, instance_body}
 use Rattle.site_files.specs.Loading.{IsDirectory}
 use Rattle.site_defs.specs.Contents.{Contents, nothing, is_made}
@@ -17,6 +19,12 @@ use Rattle.site_store.specs.Finding.{IsLaidOut, IsFound}
 -- a file has one list of records
 pub instance_one : (file : List ℕ) (rs qs : List InstanceRecord) → IsInstance file rs → IsInstance file qs → rs ≡ qs
 instance_one file rs qs a b = holds_one IsInstanceBody file rs qs instance_body a.bodies b.bodies
+
+-- what was laid out by the records that were read is what any records of the instance file give
+pub exact_by : (o : Option Files) (rs : List InstanceRecord) (found : Option Layout) → IfSome o (λ files. IsInstance (files INSTANCE) rs) → IsLaidOut rs found
+    → IfSome o (λ files. (qs : List InstanceRecord) → IsInstance (files INSTANCE) qs → IsLaidOut qs found)
+exact_by o rs found read own = weaker_told o (λ files. IsInstance (files INSTANCE) rs) (λ files. (qs : List InstanceRecord) → IsInstance (files INSTANCE) qs → IsLaidOut qs found) read
+    (λ files is qs other. subst (λ (l : List InstanceRecord). IsLaidOut l found) (instance_one (files INSTANCE) rs qs is other) own)
 
 none_zip : (bodies : List Body) → AllZip IsInstanceBody bodies [] → bodies ≡ []
 none_zip [] zip = refl

@@ -21,7 +21,7 @@ use Rattle.journal_laws.proofs.Runs as runs
 use Rattle.site_files.specs.Reading.{HoldNoSite}
 use Rattle.site_defs.specs.Contents.{Contents}
 use Rattle.site_defs.specs.Stands.{IsSite}
-use Rattle.site_store.specs.Finding.{IsHistoryOf}
+use Rattle.site_store.specs.Finding.{IsHistory, IsHistoryOf}
 use Rattle.site_store.proofs.Found.{region_count, site_instance, made_some}
 
 -- one reign more that is looked at
@@ -46,16 +46,22 @@ no_records o none = weaker_told o HoldNoSite (λ files. (c : Contents) → IsSit
 abbrev by_length : List Reign → ℕ → List Reign
 by_length rs n = filter (λ (r : Reign). nat_le r.start n) rs
 
--- what was read is the history of the site that stands there
-pub history_read : (o : Option Files) (s : Records) (seq : Sequence) (n : ℕ) (h : History) → IfSome o (λ files. AreRecords files s) → IsSequence s seq → n ≡ length seq → h.length ≡ n → h.reigns ≡ filter (λ r. nat_le r.start n) (reigns s.instance)
-    → IfSome o (λ files. (c : Contents) → IsSite files c → IsHistoryOf c h)
-history_read o s seq n h held sequence count long made = weaker_told o (λ files. AreRecords files s) (λ files. (c : Contents) → IsSite files c → IsHistoryOf c h) held (λ files own c site.
-    let same = records_one files site.records s site.image.held own in
-    let image : IsSequence s c.sequence = subst (λ (u : Records). IsSequence u c.sequence) same site.image.sequence in
-    let seqs : c.sequence ≡ seq = runs.one s c.sequence seq image sequence in
-    let records : c.instance ≡ s.instance = sym site.instance ∙ ap (λ (u : Records). u.instance) same in
-    let many : n ≡ length c.sequence = count ∙ ap length (sym seqs) in
+-- what was read is the history of the records that the files hold
+pub history_told : (o : Option Files) (s : Records) (seq : Sequence) (n : ℕ) (h : History) → IfSome o (λ files. AreRecords files s) → IsSequence s seq → n ≡ length seq → h.length ≡ n → h.reigns ≡ filter (λ r. nat_le r.start n) (reigns s.instance)
+    → IfSome o (λ files. (t : Records) (other : Sequence) → AreRecords files t → IsSequence t other → IsHistory t other h)
+history_told o s seq n h held sequence count long made = weaker_told o (λ files. AreRecords files s) (λ files. (t : Records) (other : Sequence) → AreRecords files t → IsSequence t other → IsHistory t other h) held (λ files own t other holds is.
+    let same = records_one files t s holds own in
+    let seqs : other ≡ seq = runs.one s other seq (subst (λ (u : Records). IsSequence u other) same is) sequence in
+    let records : t.instance ≡ s.instance = ap (λ (u : Records). u.instance) same in
+    let many : n ≡ length other = count ∙ ap length (sym seqs) in
     record {
       count = long ∙ many;
-      made_in = made ∙ ap (by_length (reigns s.instance)) many ∙ ap (λ (l : List InstanceRecord). by_length (reigns l) (length c.sequence)) (sym records);
+      made_in = made ∙ ap (by_length (reigns s.instance)) many ∙ ap (λ (l : List InstanceRecord). by_length (reigns l) (length other)) (sym records);
     })
+
+-- and so of the site that stands there
+pub history_read : (o : Option Files) (s : Records) (seq : Sequence) (n : ℕ) (h : History) → IfSome o (λ files. AreRecords files s) → IsSequence s seq → n ≡ length seq → h.length ≡ n → h.reigns ≡ filter (λ r. nat_le r.start n) (reigns s.instance)
+    → IfSome o (λ files. (c : Contents) → IsSite files c → IsHistoryOf c h)
+history_read o s seq n h held sequence count long made = weaker_told o (λ files. (t : Records) (other : Sequence) → AreRecords files t → IsSequence t other → IsHistory t other h) (λ files. (c : Contents) → IsSite files c → IsHistoryOf c h) (history_told o s seq n h held sequence count long made) (λ files told c site.
+    let own = told site.records c.sequence site.image.held site.image.sequence in
+    record { count = own.count; made_in = own.made_in ∙ ap (λ (l : List InstanceRecord). by_length (reigns l) (length c.sequence)) site.instance })

@@ -19,7 +19,8 @@ use Rattle.journal_defs.specs.Surviving.{reigns}
 use Rattle.journal_defs.specs.Sequence.{Placed, Records, IsSequence}
 use Rattle.journal_defs.specs.Growth.{AreEntries}
 use Rattle.journal_defs.specs.Fit.{IsSoundImage}
-use Rattle.journal_defs.specs.Stands.{IsInstance}
+use Rattle.journal_defs.specs.Stands.{IsInstance, AreRecords}
+use Rattle.journal_laws.proofs.Readings.{records_one}
 use Rattle.journal_defs.specs.Numbers.{INSTANCE}
 use Rattle.journal_laws.proofs.Drawing as drawing
 use Rattle.journal_laws.proofs.Runs as runs
@@ -32,14 +33,14 @@ use Rattle.region_journals.specs.Journals as region_journals
 use Rattle.region_journals.specs.declared.journals.RegionJournal.{RegionJournal}
 use Rattle.site_files.specs.Loading.{MayBeOpened, AreRead, WasRead, MayDraw, HasDrawn, next_cut, next_broken, next_pini, drawn_records}
 use Rattle.site_files.proofs.Keeping as keeping
-use Rattle.site_files.proofs.Kept.{image_read}
+use Rattle.site_files.proofs.Kept.{image_read, held_read}
 use Rattle.site_defs.specs.Contents.{Contents, Leftover}
 use Rattle.site_defs.specs.Fronts.{with_sequence}
 use Rattle.site_defs.specs.Opening.{opened, MayOpen}
 use Rattle.site_defs.specs.Stands.{IsSite, HasLeft, Stands, texts_of}
 use Rattle.site_store.specs.declared.site.OpenSite.{OpenSite}
 use Rattle.site_store.specs.Finding.{HasLayout}
-use Rattle.site_store.specs.Site.{Remembers, IsReady, Keeps, IsOpen, WasOpened}
+use Rattle.site_store.specs.Site.{Remembers, IsReady, Keeps, IsOpen, WasOpened, WasOpenedFrom}
 use Rattle.gvn_model.specs.Numbered.{numbered}
 use Rattle.site_store.specs.Opening.{MayBeOpen, EachStands, AreTextsDurable}
 use Rattle.site_store.proofs.Found.{instance_one, blank_instance}
@@ -48,6 +49,20 @@ use Rattle.site_store.proofs.Drawn.{S, C, text, newest_is, same_regions, site_re
 pub length_values : (es : List Entry) → length (map entry_value es) ≡ length es
 length_values [] = refl
 length_values (e ∷ es) = ap suc (length_values es)
+
+-- what was opened is what any records of the files stand for
+pub opened_from : (o : Option Files) (v : View) (rs : List InstanceRecord) (last : ℕ → ℕ) (journal : ℕ → List Placed) (seq : Sequence) (s : OpenSite) → IfSome o (WasRead v rs last journal) → IsSequence (record { instance = rs; journal = journal }) seq
+    → map numbered s.entries.items ≡ enumerate_from 1 seq → s.instance.records ≡ rs ++ next_cut rs (length seq) ∷ []
+    → IfSome o (λ files. (u : Records) (other : Sequence) → AreRecords files u → IsSequence u other → WasOpenedFrom u other s)
+opened_from o v rs last journal seq s read sequence entries records = weaker_told o (WasRead v rs last journal) (λ files. (u : Records) (other : Sequence) → AreRecords files u → IsSequence u other → WasOpenedFrom u other s) read (λ files was u other held is.
+    let own : Records = record { instance = rs; journal = journal } in
+    let same = records_one files u own held (held_read rs last journal files was.holds) in
+    let seqs : other ≡ seq = runs.one own other seq (subst (λ (x : Records). IsSequence x other) same is) sequence in
+    let first : u.instance ≡ rs = ap (λ (x : Records). x.instance) same in
+    record {
+      entries = entries ∙ ap (enumerate_from 1) (sym seqs);
+      instance = records ∙ ap (λ (l : List InstanceRecord). l ++ next_cut l (length seq) ∷ []) (sym first) ∙ ap (λ (q : Sequence). u.instance ++ next_cut u.instance (length q) ∷ []) (sym seqs);
+    })
 
 -- nothing was written
 abbrev pub Moments : View → View → Files → Type 0

@@ -7,6 +7,8 @@ use Rattle.journal_defs.specs.Stands.{IsInstance}
 use Rattle.journal_defs.specs.Instance.{InstanceRecord, site_name, generation, regions}
 use Rattle.journal_defs.specs.Directory.{patterns}
 use Rattle.journal_defs.specs.Surviving.{reigns}
+use Rattle.journal_defs.specs.Sequence.{Records}
+use Rattle.global_defs.specs.Entry.{Sequence}
 use Rattle.gvn_model.specs.declared.history.History.{History}
 use Rattle.global_dir.specs.Directory.{Mapping}
 use Rattle.site_defs.specs.Contents.{Contents, nothing, is_made}
@@ -45,6 +47,11 @@ pub record IsFoundIn (v : View) (found : FoundSite) : Type 0 where
   pub durable : IfSome v.content (λ files. IsDurable v INSTANCE (files INSTANCE))
   pub layout : HasLayout found.log.records found.layout
   pub few : length (regions found.log.records) ≤ 8
+
+-- the history of records that stand for a sequence: how many entries there are, and the reigns that begin by that number
+pub record IsHistory (s : Records) (seq : Sequence) (h : History) : Type 0 where
+  pub count : h.length ≡ length seq
+  pub made_in : h.reigns ≡ filter (λ r. nat_le r.start (length seq)) (reigns s.instance)
 
 -- the history of a site: how many entries there are, and the reigns in which they were made
 pub record IsHistoryOf (c : Contents) (h : History) : Type 0 where

@@ -1,5 +1,5 @@
 -- An open site beside its disk.
-use Rattle.std.specs.Prelude.{◌≡◌, ◌≢◌, ◌≤◌, ◌<◌, ◌^◌, ◌++◌, ℕ, suc, Bool, List, [], ◌∷◌, length, take, drop, map, fold, Option, Some, None, IsTrue, IsSomeAnd}
+use Rattle.std.specs.Prelude.{◌≡◌, ◌≢◌, ◌≤◌, ◌<◌, ◌+◌, ◌^◌, ◌++◌, ℕ, suc, Bool, List, [], ◌∷◌, length, take, drop, map, fold, Option, Some, None, IsTrue, IsSomeAnd}
 use Rattle.std.specs.List.{AllByRecursion, enumerate_from}
 use Rattle.std.specs.FinMap as globals
 use Rattle.disk_defs.specs.Disk.{Files, View, Image}
@@ -12,7 +12,7 @@ use Rattle.gvn_model.specs.Numbered.{numbered}
 use Rattle.gvn_model.specs.Reigns.{stamp_value}
 use Rattle.global_defs.specs.Evaluation.{MOST_NODES}
 use Rattle.journal_defs.specs.Journal.{JournalRecord, Part, BeginsWithPini}
-use Rattle.journal_defs.specs.Instance.{generation, site_name, regions}
+use Rattle.journal_defs.specs.Instance.{Cut, generation, site_name, regions}
 use Rattle.journal_defs.specs.Surviving.{reigns}
 use Rattle.journal_defs.specs.Sequence.{Placed, Records}
 use Rattle.journal_defs.specs.Stands.{IsJournal, in_generation}
@@ -92,6 +92,12 @@ pub record WasOpened (s : OpenSite) : Type 0 where
   pub few : length s.entries.items < 2 ^ 40
   pub no_reign_past : AllByRecursion (λ (r : defs.Reign). r.start ≤ length s.entries.items) (reigns s.instance.records)
   pub no_reign : s.stamp ≡ None
+
+-- It was opened from these records, which stand for this sequence: its entries are the sequence, and its instance file's records are
+-- theirs and the CUT at its length.
+pub record WasOpenedFrom (u : Records) (seq : Sequence) (s : OpenSite) : Type 0 where
+  pub entries : map numbered s.entries.items ≡ enumerate_from 1 seq
+  pub instance : s.instance.records ≡ u.instance ++ Cut (length seq) (generation u.instance + 1) ∷ []
 
 -- a reign was begun
 pub record HasReign (s : OpenSite) : Type 0 where

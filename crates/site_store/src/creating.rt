@@ -5,11 +5,12 @@ ghost use Rattle.disk_defs.specs.Gates.{records};
 ghost use Rattle.journal_defs.specs.Numbers.{INSTANCE};
 ghost use Rattle.journal_defs.specs.Instance as instances;
 ghost use Rattle.journal_defs.specs.Instance.{IsInForm};
+ghost use Rattle.journal_defs.specs.Stands.{IsInstance};
 ghost use Rattle.site_defs.specs.Contents.{Contents};
 ghost use Rattle.site_defs.specs.Stands.{IsBlank, IsSite, Stands};
 ghost use Rattle.instance_file.specs.Values.{named_mode};
 ghost use Rattle.site_files.specs.Outside.{IsNoInstance, HasNoDirectory};
-ghost use Rattle.site_store.specs.Finding.{IsFound, IsFoundIn, layout_in};
+ghost use Rattle.site_store.specs.Finding.{IsFound, IsFoundIn, IsLaidOut, layout_in};
 ghost use Rattle.site_store.specs.Opening.{region_value, made, MayMake, StandsAsBefore};
 
 use crate::error::SiteError;
@@ -30,6 +31,8 @@ use std::alloc::Global;
 pub fn find<D: Disk>(alloc: Global, disk: &mut D) -> Result<Option<FoundSite>, SiteError>
     ensures found { IfOk result (λ found. IfSome (D.disk disk.old).content (λ files. (c : Contents) → Stands files c → IsFound c (layout_in found))) }
     ensures told { IfOk result (λ found. IfSome found (IsFoundIn (D.disk disk.new))) }
+    // whether the files are a site's or not
+    ensures exact { IfOk result (λ found. IfSome (D.disk disk.old).content (λ files. (rs : List instances.InstanceRecord) → IsInstance (files INSTANCE) rs → IsLaidOut rs (layout_in found))) }
     ensures content { (D.disk disk.new).content ≡ (D.disk disk.old).content }
     ensures alike { OnOk result (IfSome (D.disk disk.old).content (λ files. (c o : Contents) (f : Files) → Stands files c → Image (D.disk disk.new) f → Stands f o → o.instance ≡ c.instance)) }
     ensures empty { result ≡ Ok None → IfSome (D.disk disk.new).content (λ files. records (files INSTANCE) ≡ Some []) }
@@ -57,6 +60,8 @@ pub fn find<D: Disk>(alloc: Global, disk: &mut D) -> Result<Option<FoundSite>, S
 /// offset 0; `Failed` only where the disk's count rose; and `NoMemory`.
 pub fn inspect<D: Disk>(alloc: Global, disk: &mut D) -> Result<Option<Layout>, SiteError>
     ensures found { IfOk result (λ found. IfSome (D.disk disk.old).content (λ files. (c : Contents) → Stands files c → IsFound c found)) }
+    // whether the files are a site's or not
+    ensures exact { IfOk result (λ found. IfSome (D.disk disk.old).content (λ files. (rs : List instances.InstanceRecord) → IsInstance (files INSTANCE) rs → IsLaidOut rs found)) }
     ensures content { (D.disk disk.new).content ≡ (D.disk disk.old).content }
     ensures alike { OnOk result (IfSome (D.disk disk.old).content (λ files. (c o : Contents) (f : Files) → Stands files c → Image (D.disk disk.new) f → Stands f o → o.instance ≡ c.instance)) }
     ensures empty { result ≡ Ok None → IfSome (D.disk disk.new).content (λ files. records (files INSTANCE) ≡ Some []) }

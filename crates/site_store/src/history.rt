@@ -1,11 +1,14 @@
 //! The history of a site that isn't open.
 ghost use Rattle.std.specs.Prelude.{◌≡◌, ◌⊎◌, ◌≤◌, ℕ, nat_le, filter, map, IfOk, IfSome, OnErr, IsErrOf};
 ghost use Rattle.disk_defs.specs.Disk.{Image, AtEachMoment, Rose};
+ghost use Rattle.global_defs.specs.Entry.{Sequence};
 ghost use Rattle.gvn_model.specs.Reigns.{reign_value};
+ghost use Rattle.journal_defs.specs.Sequence.{Records, IsSequence};
+ghost use Rattle.journal_defs.specs.Stands.{AreRecords};
 ghost use Rattle.site_defs.specs.Contents.{Contents};
 ghost use Rattle.site_defs.specs.Stands.{IsSite};
 ghost use Rattle.site_files.specs.Outside.{IsOutsideRecords};
-ghost use Rattle.site_store.specs.Finding.{IsHistoryOf};
+ghost use Rattle.site_store.specs.Finding.{IsHistory, IsHistoryOf};
 
 use crate::error::SiteError;
 use gvn_key::NoMemory;
@@ -35,6 +38,8 @@ fn reigns_by(alloc: Global, reigns: &[Reign], number: u64) -> Result<Reigns, NoM
 /// where no site stands there. `Failed` only where the disk's count rose. `NoMemory`.
 pub fn history_of<D: Disk>(alloc: Global, disk: &mut D) -> Result<History, SiteError>
     ensures history { IfOk result (λ h. IfSome (D.disk disk.old).content (λ files. (c : Contents) → IsSite files c → IsHistoryOf c h)) }
+    // whether the files are a fit site's or not
+    ensures told { IfOk result (λ h. IfSome (D.disk disk.old).content (λ files. (s : Records) (seq : Sequence) → AreRecords files s → IsSequence s seq → IsHistory s seq h)) }
     ensures place { (file offset : ℕ) → IsErrOf result (SiteError.NotAFile file offset) → IfSome (D.disk disk.old).content (λ files. IsOutsideRecords files file offset) }
     ensures outside { (file offset : ℕ) → IsErrOf result (SiteError.NotAFile file offset) → IfSome (D.disk disk.old).content (λ files. (c : Contents) → IsSite files c → ⊥) }
     ensures content { (D.disk disk.new).content ≡ (D.disk disk.old).content }

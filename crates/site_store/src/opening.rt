@@ -4,7 +4,9 @@ ghost use Rattle.disk_defs.specs.Disk.{Files, Image, IsDurable, AtEachMoment, Ro
 ghost use Rattle.journal_defs.specs.Instance as defs;
 ghost use Rattle.journal_defs.specs.Instance.{generation};
 ghost use Rattle.journal_defs.specs.Numbers.{INSTANCE, broken_file};
-ghost use Rattle.journal_defs.specs.Stands.{IsInstance};
+ghost use Rattle.global_defs.specs.Entry.{Sequence};
+ghost use Rattle.journal_defs.specs.Sequence.{Records, IsSequence};
+ghost use Rattle.journal_defs.specs.Stands.{IsInstance, AreRecords};
 ghost use Rattle.instance_file.specs.Values.{record_value};
 ghost use Rattle.site_defs.specs.Contents.{Contents, Leftover};
 ghost use Rattle.site_defs.specs.Opening.{opened, MayOpen};
@@ -13,7 +15,7 @@ ghost use Rattle.site_files.specs.Loading.{next_cut};
 ghost use Rattle.site_files.specs.Outside.{IsOutsideSite};
 ghost use Rattle.site_store.specs.Refusing.{IsUnwritten};
 ghost use Rattle.site_store.specs.Finding.{HasLayout, mapping_of};
-ghost use Rattle.site_store.specs.Site.{Remembers, IsReady, IsOpen, WasOpened};
+ghost use Rattle.site_store.specs.Site.{Remembers, IsReady, IsOpen, WasOpened, WasOpenedFrom};
 ghost use Rattle.site_store.specs.Opening.{MayBeOpen, EachStands, AreTextsDurable};
 
 use crate::error::SiteError;
@@ -114,6 +116,8 @@ pub fn load<D: Disk>(alloc: Global, disk: &mut D) -> Result<OpenSite, SiteError>
     ensures ready { IfOk result (λ s. IsReady (D.disk disk.new) s) }
     ensures read { IfOk result (λ s. (c : Contents) × (broken : List ℕ) × Remembers (opened broken c) (length c.sequence) s) }
     ensures told { IfOk result (λ s. IfSome (D.disk disk.old).content (λ files. (c : Contents) (left : Leftover) → IsSite files c → HasLeft files c left → EachStands (D.disk disk.old) → IsOpen (D.disk disk.new) true (opened left.broken c) (length c.sequence) s)) }
+    // whether the files are a fit site's or not
+    ensures found { IfOk result (λ s. IfSome (D.disk disk.old).content (λ files. (u : Records) (seq : Sequence) → AreRecords files u → IsSequence u seq → WasOpenedFrom u seq s)) }
     ensures opened { IfOk result WasOpened }
     ensures drawn { OnOk result (IfSome (D.disk disk.old).content (λ files. (rs : List defs.InstanceRecord) → IsInstance (files INSTANCE) rs → generation rs < 65534)) }
     ensures limit { IsErrOf result SiteError.GenLimit → IfSome (D.disk disk.old).content (λ files. (rs : List defs.InstanceRecord) → IsInstance (files INSTANCE) rs → 65534 ≤ generation rs) }

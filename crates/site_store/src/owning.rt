@@ -1,5 +1,5 @@
 //! An open site that owns its disk.
-ghost use Rattle.std.specs.Prelude.{◌≡◌, ◌⊎◌, ◌≤◌, ◌<◌, ◌+◌, ◌-◌, ◌^◌, ◌++◌, ℕ, List, Bool, true, false, [], length, map, take, slice_get, option_map, Some, None, IfOk, IfSome, OnOk, OnErr, IsErrOf, IsSome, IsTrue};
+ghost use Rattle.std.specs.Prelude.{◌≡◌, ◌⊎◌, ◌≤◌, ◌<◌, ◌+◌, ◌-◌, ◌^◌, ◌++◌, ◌∷◌, ℕ, List, Bool, true, false, [], length, map, take, slice_get, option_map, Some, None, IfOk, IfSome, OnOk, OnErr, IsErrOf, IsSome, IsTrue};
 ghost use Rattle.std.specs.Result.{IsOk};
 ghost use Rattle.std.specs.Option.{option_copied};
 ghost use Rattle.std.specs.FinMap as globals;
@@ -13,11 +13,13 @@ ghost use Rattle.global_defs.specs.Extract.{entry_text};
 ghost use Rattle.global_defs.specs.Fields.{IsTransaction};
 ghost use Rattle.gvn_key.specs.Faults.{child_of};
 ghost use Rattle.gvn_model.specs.Entries.{entry_value, transaction_value};
-ghost use Rattle.gvn_model.specs.Reigns.{stamp_value};
+ghost use Rattle.gvn_model.specs.Reigns.{stamp_value, reign_value};
 ghost use Rattle.journal_defs.specs.Numbers.{INSTANCE};
 ghost use Rattle.journal_defs.specs.Instance as instances;
 ghost use Rattle.journal_defs.specs.Instance.{IsInForm, generation, site_name};
-ghost use Rattle.journal_defs.specs.Stands.{IsInstance};
+ghost use Rattle.global_defs.specs.Entry.{Sequence};
+ghost use Rattle.journal_defs.specs.Sequence.{Records, IsSequence};
+ghost use Rattle.journal_defs.specs.Stands.{IsInstance, AreRecords};
 ghost use Rattle.journal_defs.specs.Surviving.{reigns};
 ghost use Rattle.site_defs.specs.Contents.{Contents, Leftover, NO_LEFTOVER};
 ghost use Rattle.site_defs.specs.Texts.{zwrite};
@@ -27,9 +29,10 @@ ghost use Rattle.site_defs.specs.Fronts.{with_sequence, IsFrontOf};
 ghost use Rattle.site_defs.specs.Stands.{IsBlank, IsSite, HasLeft};
 ghost use Rattle.site_files.specs.Outside.{IsOutsideSite};
 ghost use Rattle.site_store.specs.Refusing.{IsUnwritten};
-ghost use Rattle.site_store.specs.Site.{Remembers, WasOpened, HasReign, HasRoomFor, with_entry};
+ghost use Rattle.site_store.specs.Site.{Remembers, WasOpened, WasOpenedFrom, HasReign, HasRoomFor, with_entry};
 ghost use Rattle.site_store.specs.Opening.{region_value, made, MayMake, MayBeOpen, EachStands};
 ghost use Rattle.site_store.specs.Committing.{Appends, IsSameMemory};
+ghost use Rattle.site_store.specs.Reigning.{IsNextReign, HasReignLeft, HasNoReignLeft};
 ghost use Rattle.site_store.specs.Owning.{HasStopped, HasHistory, IsGoing, MayBeCalled, IsOpenSite, disk_left, FailsWith};
 
 use crate::creating::create;
@@ -40,15 +43,14 @@ use crate::reading::read_file;
 use crate::site::OpenSite;
 use gvn_globals::Lookup;
 use gvn_key::{Bytes, Key, NoMemory};
-use gvn_model::{History, Stamp, Transaction};
+use gvn_model::{History, Reign, Reigns, Stamp, Transaction};
 use repl_disk::Disk;
 use std::alloc::Global;
 
 /// A site that is open, and its disk.
 ///
 /// After a call that answered `Failed` the site has stopped: each later call that uses the disk answers `Stopped` with the same
-/// number, and changes nothing. After `NoMemory` of [`commit`](Site::commit) or [`read_file`](Site::read_file) the site goes on, and
-/// after that of another call it is of no more use, and only [`abandon`](Site::abandon) is left.
+/// number, and changes nothing. After `NoMemory` the site goes on as it was.
 #[derive(Drop)]
 pub struct Site<D: Disk> {
     pub disk: D,
@@ -57,6 +59,15 @@ pub struct Site<D: Disk> {
     pub history: History,
     /// The number of the failed call, on the disk, after which the site stopped.
     pub fault: Option<u64>,
+}
+
+/// A reign that is to begin, its stamp for the site and for the caller, and the reigns with it.
+#[derive(Drop)]
+struct NextReign {
+    reign: Reign,
+    stamp: Stamp,
+    kept: Stamp,
+    reigns: Reigns,
 }
 
 /// The history of an open site.
@@ -108,6 +119,8 @@ impl<D: Disk> Site<D> {
         ensures ready { IfOk result (IsGoing D.disk) }
         ensures read { IfOk result (λ s. (c : Contents) × (broken : List ℕ) × Remembers (opened broken c) (length c.sequence) s.inner) }
         ensures told { IfOk result (λ s. IfSome (D.disk disk).content (λ files. (c : Contents) (left : Leftover) → IsSite files c → HasLeft files c left → EachStands (D.disk disk) → IsOpenSite D.disk true (opened left.broken c) (length c.sequence) s)) }
+        // whether the files are a fit site's or not
+        ensures found { IfOk result (λ s. IfSome (D.disk disk).content (λ files. (u : Records) (seq : Sequence) → AreRecords files u → IsSequence u seq → WasOpenedFrom u seq s.inner)) }
         ensures opened { IfOk result (λ s. WasOpened s.inner) }
         ensures drawn { OnOk result (IfSome (D.disk disk).content (λ files. (rs : List instances.InstanceRecord) → IsInstance (files INSTANCE) rs → generation rs < 65534)) }
         ensures limit { FailsWith result SiteError.GenLimit → IfSome (D.disk disk).content (λ files. (rs : List instances.InstanceRecord) → IsInstance (files INSTANCE) rs → 65534 ≤ generation rs) }
@@ -156,13 +169,38 @@ impl<D: Disk> Site<D> {
         }
     }
 
+    /// The next reign, with all the memory that beginning it takes.
+    fn next_reign(&self) -> Result<NextReign, SiteError>
+        requires few { length self.now.inner.entries.items < 2 ^ 40 }
+        ensures next { IfOk result (λ n. IsNextReign self.now.inner (reign_value n.reign)) }
+        ensures stamp { IfOk result (λ n. stamp_value n.stamp ≡ (reign_value n.reign).stamp) }
+        ensures kept { IfOk result (λ n. n.kept ≡ n.stamp) }
+        ensures reigns { IfOk result (λ n. n.reigns ≡ self.now.history.reigns ++ reign_value n.reign ∷ []) }
+        ensures room { OnOk result (HasReignLeft self.now.inner) }
+        ensures limit { IsErrOf result SiteError.ReignLimit → HasNoReignLeft self.now.inner }
+        ensures causes { OnErr result (IsErrOf result SiteError.ReignLimit ⊎ IsErrOf result SiteError.NoMemory) }
+    {
+        let reign = self.inner.next_reign(self.inner.instance.gated.alloc)?;
+        let mut reigns = self.history.reigns.copy()?;
+        reigns.push(reign.copy()?)?;
+        let stamp = reign.stamp.copy()?;
+        let kept = reign.stamp.copy()?;
+        Ok(NextReign {
+            reign,
+            stamp,
+            kept,
+            reigns,
+        })
+    }
+
     /// Begins a reign under the site's own name and the next cycle, and answers its stamp. The site has to be one that was just
     /// opened.
     ///
     /// # Errors
     /// `ReignLimit` exactly where 32,768 reigns have begun by the length, or a reign has the last cycle, also one that a CUT
     /// dropped; nothing has changed then. `Failed` only where the disk's count rose; a crash may then find the reign all the same.
-    /// `Stopped` exactly where a call before failed. `NoMemory`.
+    /// `Stopped` exactly where a call before failed. `NoMemory`: nothing was written then, and the site
+    /// goes on.
     pub fn start_reign(&mut self) -> Result<Stamp, SiteError>
         requires ready { MayBeCalled D.disk self.old }
         requires opened { self.old.fault ≡ None → WasOpened self.old.inner }
@@ -175,6 +213,11 @@ impl<D: Disk> Site<D> {
         ensures room { OnOk result ((c : Contents) (h : ℕ) → Remembers c h self.old.inner → no_reign_left c ≡ false) }
         ensures limit { IsErrOf result SiteError.ReignLimit → (c : Contents) (h : ℕ) → Remembers c h self.old.inner → no_reign_left c ≡ true }
         ensures kept { IsErrOf result SiteError.ReignLimit → self.new ≡ self.old }
+        // all memory is taken before anything is written
+        ensures unwritten { IsErrOf result SiteError.NoMemory → AtEachMoment (D.disk self.old.disk) (D.disk self.new.disk) (Image (D.disk self.old.disk)) }
+        ensures again { IsErrOf result SiteError.NoMemory → WasOpened self.new.inner }
+        ensures goes_on { IsErrOf result SiteError.NoMemory → IsGoing D.disk self.new }
+        ensures stays_open { IsErrOf result SiteError.NoMemory → (told : Bool) (c : Contents) (h : ℕ) → IsOpenSite D.disk told c h self.old → IsOpenSite D.disk told c h self.new }
         ensures any_moment { (c : Contents) → IsOpenSite D.disk true c (length c.sequence) self.old → AtEachMoment (D.disk self.old.disk) (D.disk self.new.disk) (λ f. IsSite f c ⊎ IsSite f (with_reign (site_name c.instance) c)) }
         ensures stands { (c : Contents) → IsOpenSite D.disk true c (length c.sequence) self.old → IfSome (D.disk self.new.disk).content (λ f. IsSite f c ⊎ IsSite f (with_reign (site_name c.instance) c)) }
         ensures still_told { IsSome (D.disk self.old.disk).content → IsSome (D.disk self.new.disk).content }
@@ -191,11 +234,14 @@ impl<D: Disk> Site<D> {
         if let Some(fault) = self.fault {
             return Err(SiteError::Stopped { fault });
         }
-        let alloc = self.inner.instance.gated.alloc;
-        match self.inner.start_reign(alloc, &mut self.disk) {
-            Ok(stamp) => {
-                self.history = history_in(&self.inner)?;
-                Ok(stamp)
+        let next = self.next_reign()?;
+        match self
+            .inner
+            .begin_reign(&mut self.disk, &next.reign, next.kept)
+        {
+            Ok(()) => {
+                self.history.reigns = next.reigns;
+                Ok(next.stamp)
             }
             Err(error) => {
                 self.note(error);

@@ -1,8 +1,8 @@
 //! Beginning a reign.
-ghost use Rattle.std.specs.Prelude.{◌≡◌, ◌⊎◌, ◌≤◌, ◌<◌, ◌^◌, ℕ, Bool, true, false, length, Some, None, IfOk, IfSome, OnOk, OnErr, IsErrOf, IsSome};
+ghost use Rattle.std.specs.Prelude.{◌≡◌, ◌⊎◌, ◌≤◌, ◌<◌, ◌^◌, ◌++◌, ◌∷◌, [], ℕ, Bool, true, false, length, Some, IfOk, IfSome, OnOk, OnErr, IsErrOf, IsSome};
 ghost use Rattle.disk_defs.specs.Disk.{Files, Image, AtEachMoment, Rose};
 ghost use Rattle.gvn_model.specs.Reigns.{stamp_value, reign_value};
-ghost use Rattle.journal_defs.specs.Instance.{site_name};
+ghost use Rattle.journal_defs.specs.Instance.{Reigned, site_name};
 ghost use Rattle.site_defs.specs.Contents.{Contents};
 ghost use Rattle.site_defs.specs.Limits.{no_reign_left};
 ghost use Rattle.site_defs.specs.Opening.{with_reign, next_stamp};
@@ -24,7 +24,7 @@ const MOST_REIGNS: usize = 32_768;
 
 impl OpenSite {
     /// The reign that begins behind the last entry, under the site's own name and the next cycle.
-    fn next_reign(&self, alloc: Global) -> Result<Reign, SiteError>
+    pub(crate) fn next_reign(&self, alloc: Global) -> Result<Reign, SiteError>
         requires { length self.now.entries.items < 2 ^ 40 }
         ensures reign { IfOk result (λ r. IsNextReign self.now (reign_value r)) }
         ensures room { OnOk result (HasReignLeft self.now) }
@@ -47,13 +47,62 @@ impl OpenSite {
         })
     }
 
+    /// Begins this reign, which is the next one: puts its REIGN on the disk, and keeps the stamp. All entries have to be hardened,
+    /// and no reign may have begun past them.
+    ///
+    /// # Errors
+    /// `Failed` only where the disk's count rose; a crash may then find the reign all the same. `NoMemory`, and then nothing was
+    /// written, and the site goes on.
+    pub(crate) fn begin_reign<D: Disk>(
+        &mut self,
+        disk: &mut D,
+        reign: &Reign,
+        kept: Stamp,
+    ) -> Result<(), SiteError>
+        requires ready { IsReady (D.disk disk.old) self.old }
+        requires opened { WasOpened self.old }
+        requires next { IsNextReign self.old (reign_value reign.now) }
+        requires stamp { stamp_value kept ≡ (reign_value reign.now).stamp }
+        ensures ready { OnOk result (IsReady (D.disk disk.new) self.new) }
+        ensures begun { OnOk result ((told : Bool) (c : Contents) → IsOpen (D.disk disk.old) told c (length c.sequence) self.old → IsOpen (D.disk disk.new) told (with_reign (site_name c.instance) c) (length c.sequence) self.new) }
+        ensures records { OnOk result (self.new.instance.records ≡ self.old.instance.records ++ Reigned (reign_value reign.now) ∷ []) }
+        ensures remembered { OnOk result (self.new.stamp ≡ Some kept) }
+        ensures reign { OnOk result (HasReign self.new) }
+        ensures entries { self.new.entries.items ≡ self.old.entries.items }
+        ensures hardened { self.new.hardened ≡ self.old.hardened }
+        ensures any_moment { (c : Contents) → IsOpen (D.disk disk.old) true c (length c.sequence) self.old → AtEachMoment (D.disk disk.old) (D.disk disk.new) (λ f. IsSite f c ⊎ IsSite f (with_reign (site_name c.instance) c)) }
+        ensures unwritten { IsErrOf result SiteError.NoMemory → AtEachMoment (D.disk disk.old) (D.disk disk.new) (Image (D.disk disk.old)) }
+        ensures again { IsErrOf result SiteError.NoMemory → WasOpened self.new }
+        ensures goes_on { IsErrOf result SiteError.NoMemory → IsReady (D.disk disk.new) self.new }
+        ensures stays_open { IsErrOf result SiteError.NoMemory → (told : Bool) (c : Contents) (h : ℕ) → IsOpen (D.disk disk.old) told c h self.old → IsOpen (D.disk disk.new) told c h self.new }
+        ensures stands { (c : Contents) → IsOpen (D.disk disk.old) true c (length c.sequence) self.old → IfSome (D.disk disk.new).content (λ f. IsSite f c ⊎ IsSite f (with_reign (site_name c.instance) c)) }
+        ensures still_told { IsSome (D.disk disk.old).content → IsSome (D.disk disk.new).content }
+        ensures simulated { (D.disk disk.new).simulated ≡ (D.disk disk.old).simulated }
+        ensures later { (D.disk disk.old).faults ≤ (D.disk disk.new).faults }
+        ensures count { (fault : ℕ) → IsErrOf result (SiteError.Failed fault) → fault ≡ (D.disk disk.new).faults }
+        ensures cause { (fault : ℕ) → IsErrOf result (SiteError.Failed fault) → Rose (D.disk disk.old).faults (D.disk disk.new).faults }
+        ensures causes { OnErr result (((fault : ℕ) × IsErrOf result (SiteError.Failed fault)) ⊎ IsErrOf result SiteError.NoMemory) }
+    {
+        match self.instance.reign(disk, reign) {
+            Ok(()) => {
+                self.stamp = Some(kept);
+                Ok(())
+            }
+            Err(InstanceError::Failed) => Err(SiteError::Failed {
+                fault: disk.faults(),
+            }),
+            Err(InstanceError::NoMemory) => Err(SiteError::NoMemory),
+            Err(InstanceError::NotARecord { .. }) => unreachable!(),
+        }
+    }
+
     /// Begins a reign under the site's own name and the next cycle, and answers its stamp. All entries have to be hardened, and
     /// no reign may have begun past them.
     ///
     /// # Errors
     /// `ReignLimit` exactly where 32,768 reigns have begun by the length, or a reign has the last cycle, also one that a CUT
     /// dropped; nothing has changed then. `Failed` only where the disk's count rose; a crash may then find the reign all the same.
-    /// `NoMemory`; the site may have more room then than it had.
+    /// `NoMemory`: nothing was written then, and the site goes on, though it may have more room than it had.
     pub fn start_reign<D: Disk>(&mut self, alloc: Global, disk: &mut D) -> Result<Stamp, SiteError>
         requires ready { IsReady (D.disk disk.old) self.old }
         requires opened { WasOpened self.old }
@@ -67,6 +116,11 @@ impl OpenSite {
         ensures room { OnOk result ((c : Contents) (h : ℕ) → Remembers c h self.old → no_reign_left c ≡ false) }
         ensures limit { IsErrOf result SiteError.ReignLimit → (c : Contents) (h : ℕ) → Remembers c h self.old → no_reign_left c ≡ true }
         ensures kept { IsErrOf result SiteError.ReignLimit → (disk.new ≡ disk.old) × (self.new ≡ self.old) }
+        // all memory is taken before anything is written
+        ensures unwritten { IsErrOf result SiteError.NoMemory → AtEachMoment (D.disk disk.old) (D.disk disk.new) (Image (D.disk disk.old)) }
+        ensures again { IsErrOf result SiteError.NoMemory → WasOpened self.new }
+        ensures goes_on { IsErrOf result SiteError.NoMemory → IsReady (D.disk disk.new) self.new }
+        ensures stays_open { IsErrOf result SiteError.NoMemory → (told : Bool) (c : Contents) (h : ℕ) → IsOpen (D.disk disk.old) told c h self.old → IsOpen (D.disk disk.new) told c h self.new }
         ensures any_moment { (c : Contents) → IsOpen (D.disk disk.old) true c (length c.sequence) self.old → AtEachMoment (D.disk disk.old) (D.disk disk.new) (λ f. IsSite f c ⊎ IsSite f (with_reign (site_name c.instance) c)) }
         ensures stands { (c : Contents) → IsOpen (D.disk disk.old) true c (length c.sequence) self.old → IfSome (D.disk disk.new).content (λ f. IsSite f c ⊎ IsSite f (with_reign (site_name c.instance) c)) }
         ensures still_told { IsSome (D.disk disk.old).content → IsSome (D.disk disk.new).content }
@@ -79,18 +133,7 @@ impl OpenSite {
         let reign = self.next_reign(alloc)?;
         let kept = reign.stamp.copy()?;
         let told = reign.stamp.copy()?;
-        match self.instance.reign(disk, &reign) {
-            Ok(()) => {}
-            Err(InstanceError::Failed) => {
-                return Err(SiteError::Failed {
-                    fault: disk.faults(),
-                });
-            }
-            Err(InstanceError::NotARecord { .. } | InstanceError::NoMemory) => {
-                return Err(SiteError::NoMemory);
-            }
-        }
-        self.stamp = Some(kept);
+        self.begin_reign(disk, &reign, kept)?;
         Ok(told)
     }
 }

@@ -17,7 +17,7 @@ use Rattle.site_store.specs.declared.layout.Layout.{Layout}
 use Rattle.site_store.specs.declared.error.SiteError.TheVariants.{NotAFile}
 use Rattle.site_files.specs.Outside.{IsNoInstance, HasNoDirectory}
 use Rattle.site_store.proofs.Errors.{file_was}
-use Rattle.site_store.proofs.Found.{region_bounds, stands_instance, found_by, alike_by, no_bodies, not_laid}
+use Rattle.site_store.proofs.Found.{region_bounds, stands_instance, exact_by, found_by, alike_by, no_bodies, not_laid}
 use Rattle.site_store.proofs.creating.find.Goals as goal
 
 pub returns-in_err-log-clause-outside : goal.returns-in_err-log-clause-outside
@@ -70,6 +70,16 @@ returns-clause-found g c =
     let own : IsLaidOut rs (Some found) = laid_so rs (map record_value c.as_slice.result.now) (Some found) c.as_slice.ensures (subst (λ (f : Option Layout). IsLaidOut (map record_value c.as_slice.result.now) f) c.in-Some.is c.in_ok-layout.ensures.layout) in
     weaker_told o (λ files. IsInstance (files INSTANCE) rs) (λ files. (x : Contents) → Stands files x → IsFound x (Some found)) c.in_ok-log.ensures.reads
     (λ files is x stands. found_by files x rs (Some found) is own stands)
+
+pub returns-in_default-clause-exact : goal.returns-in_default-clause-exact
+returns-in_default-clause-exact g c =
+    exact_by (g.D.Disk.disk c.args.disk.now).content c.in_ok-log.log.records None c.in_ok-log.ensures.reads
+    (laid_so c.in_ok-log.log.records (map record_value c.as_slice.result.now) None c.as_slice.ensures (subst (λ (f : Option Layout). IsLaidOut (map record_value c.as_slice.result.now) f) c.in_default.is c.in_ok-layout.ensures.layout))
+
+pub returns-clause-exact : goal.returns-clause-exact
+returns-clause-exact g c =
+    exact_by (g.D.Disk.disk c.args.disk.now).content c.in_ok-log.log.records (Some c.in-Some.layout) c.in_ok-log.ensures.reads
+    (laid_so c.in_ok-log.log.records (map record_value c.as_slice.result.now) (Some c.in-Some.layout) c.as_slice.ensures (subst (λ (f : Option Layout). IsLaidOut (map record_value c.as_slice.result.now) f) c.in-Some.is c.in_ok-layout.ensures.layout))
 
 pub returns-clause-told : goal.returns-clause-told
 returns-clause-told g c =

@@ -7,7 +7,7 @@ use Rattle.journal_defs.specs.Sequence.{IsSequence}
 use Rattle.journal_defs.specs.Surviving.{reigns}
 use Rattle.mupip_recover.specs.Site.{site_records}
 use Rattle.site_store.proofs.Errors.{file_was}
-use Rattle.site_store.proofs.Histories.{no_records, history_read}
+use Rattle.site_store.proofs.Histories.{no_records, history_told, history_read}
 use Rattle.site_store.proofs.history.history_of.Goals as goal
 
 pub returns-in_err-read-clause-place : goal.returns-in_err-read-clause-place
@@ -32,3 +32,15 @@ returns-clause-history g c =
     let own : c.in_ok-read.read.log.history ≡ reigns rs = search rules in
     let made : c.in_ok-reigns.reigns ≡ filter (λ (r : Reign). nat_le r.start n) (reigns rs) = c.in_ok-reigns.ensures ∙ ap (filter (λ (r : Reign). nat_le r.start n)) (c.as_slice.ensures ∙ own) in
     history_read (g.D.Disk.disk c.args.disk.now).content (site_records rs js) counted.0 n (record { length = n; reigns = c.in_ok-reigns.reigns }) c.in_ok-read.ensures.held counted.1 counted.2 refl made
+
+pub returns-clause-told : goal.returns-clause-told
+returns-clause-told g c =
+    let items = λ (j : Vec PlacedRecord Global). j.items in
+    let rs = c.in_ok-read.read.log.records in
+    let js = map items c.in_ok-read.read.journals.items in
+    let n = c.in_ok-length.length in
+    let counted : (seq : Sequence) × IsSequence (site_records rs js) seq × (n ≡ length seq) =
+    subst (λ (l : List (Vec PlacedRecord Global)). (seq : Sequence) × IsSequence (site_records rs (map items l)) seq × (n ≡ length seq)) c.deref.ensures.value c.in_ok-length.ensures in
+    let own : c.in_ok-read.read.log.history ≡ reigns rs = search rules in
+    let made : c.in_ok-reigns.reigns ≡ filter (λ (r : Reign). nat_le r.start n) (reigns rs) = c.in_ok-reigns.ensures ∙ ap (filter (λ (r : Reign). nat_le r.start n)) (c.as_slice.ensures ∙ own) in
+    history_told (g.D.Disk.disk c.args.disk.now).content (site_records rs js) counted.0 n (record { length = n; reigns = c.in_ok-reigns.reigns }) c.in_ok-read.ensures.held counted.1 counted.2 refl made

@@ -1,0 +1,5 @@
+pub mod Splits
+pub mod Numbers
+pub mod Parts
+pub mod Subscripts
+pub mod Whole

@@ -1,0 +1,7 @@
+use Rattle.std.proofs.Common.{take, length}
+use Rattle.key_prefix.specs.Rests.{IsAt}
+use Rattle.key_code.proofs.code.is_any_code.Given as goal
+
+-- the bytes so far are taken
+abbrev pub invariant-loop-byte : goal.invariant-loop-byte
+invariant-loop-byte l = IsAt l.prefix (take l.byte-index l.bytes) (length l.bytes)

@@ -1,0 +1,40 @@
+-- Bytes that begin with parts of an encoded key.
+use Rattle.std.specs.Prelude.{◌≡◌, ℕ, ◌+◌, ◌-◌, ◌≤◌, ◌==◌, ◌&&◌, ◌||◌, Bool, true, false, not, List, [], ◌∷◌, ◌++◌, length, slice_index, nat_le}
+use Rattle.std.specs.Char.{is_ascii_digit}
+use Rattle.global_defs.specs.Key.{Sub}
+use Rattle.global_defs.specs.Valid.{is_name, is_sub}
+use Rattle.global_defs.specs.Encoded.{encoded_sub}
+
+-- a name of so many characters, the byte that ends it, and others
+pub record BeginWithName (n : ℕ) (bytes : List ℕ) : Type 0 where
+  pub name : List ℕ
+  pub behind : List ℕ
+  pub code : bytes ≡ name ++ 0 ∷ behind
+  pub long : length name ≡ n
+  pub short : n ≤ 31
+  pub valid : is_name name ≡ true
+
+-- a subscript of so many bytes, and others
+pub record BeginWithSub (n : ℕ) (bytes : List ℕ) : Type 0 where
+  pub sub : Sub
+  pub behind : List ℕ
+  pub code : bytes ≡ encoded_sub sub ++ behind
+  pub long : length (encoded_sub sub) ≡ n
+  pub valid : is_sub sub ≡ true
+
+-- a string of so many bytes behind the byte of its kind
+abbrev pub BeginWithText : ℕ → List ℕ → Type 0
+BeginWithText n bytes = BeginWithSub (n + 1) (4 ∷ bytes)
+
+-- a positive number of so many bytes behind the byte of its kind
+abbrev pub BeginWithWhole : ℕ → List ℕ → Type 0
+BeginWithWhole n bytes = BeginWithSub (n + 1) (3 ∷ bytes)
+
+-- numerals begin with a digit, a sign or a point
+abbrev pub begins_numeral : ℕ → Bool
+begins_numeral b = is_ascii_digit b || b == 45 || b == 46
+
+-- the digits of a whole number up to the last that isn't 0, by the byte of its exponent
+abbrev pub is_whole_number : ℕ → List ℕ → Bool
+is_whole_number exponent [] = false
+is_whole_number exponent (d ∷ ds) = not (d == 48) && not (slice_index (d ∷ ds) (length (d ∷ ds) - 1) == 48) && nat_le (64 + length (d ∷ ds)) exponent && nat_le exponent 82
