@@ -12,7 +12,7 @@ use Rattle.world_defs.specs.World as world
 use Rattle.command_defs.specs.Commands.{Name}
 use Rattle.world_defs.specs.World.{Place, Kept}
 use Rattle.site_defs.specs.Contents.{Contents, Leftover, NO_LEFTOVER, is_made}
-use Rattle.world_defs.specs.Answers.{Cause, Stopped, NotRunning, Refusal, Section, Done, Refused, DiskFault, NotAFile, Ran, line, cause_text, refusal_line, fault_line, damage_line}
+use Rattle.world_defs.specs.Answers.{Cause, Stopped, NotRunning, Refusal, Section, Done, Refused, DiskFault, NotAFile, Ran, Typed, line, cause_text, refusal_line, fault_line, damage_line}
 use Rattle.world_defs.specs.Row.{Row, first, in_state, stopped, not_running, or_else, refused_with, refusal_in}
 use Rattle.site_defs.specs.Fronts.{with_sequence}
 use Rattle.site_defs.specs.Opening.{IsBehind}
@@ -31,22 +31,29 @@ kept_same p = record { site = refl; now = refl; left = refl; known = record { to
 -- what a row comes to
 
 pub comes_done : {row : Row} {S : Place → Type 0} {before now : List ℕ} (q : Place) → refusal_in row ≡ None → row.done q → S q → now ≡ before ++ row.says q → Comes row S before now
-comes_done {row} q e d s t = (Done, q, row.says q, (e, d, refl), s, t)
+comes_done {row} q e d s t = record { answer = Done; becomes = q; text = row.says q; here = (e, d, refl); there = s; written = t }
 
 pub comes_refused : {row : Row} {S : Place → Type 0} {before now : List ℕ} (r : Refusal) (q : Place) → refusal_in row ≡ Some r → row.refused r q → S q → now ≡ before ++ refusal_line r → Comes row S before now
-comes_refused r q e d s t = (Refused r, q, refusal_line r, (inl (e, d), refl), s, t)
+comes_refused r q e d s t = record { answer = Refused r; becomes = q; text = refusal_line r; here = (inl (e, d), refl); there = s; written = t }
 
 pub comes_may_refuse : {row : Row} {S : Place → Type 0} {before now : List ℕ} (r : Refusal) (q : Place) → row.early ≡ None → row.may_refuse r q → S q → now ≡ before ++ refusal_line r → Comes row S before now
-comes_may_refuse r q e d s t = (Refused r, q, refusal_line r, (inr (e, d), refl), s, t)
+comes_may_refuse r q e d s t = record { answer = Refused r; becomes = q; text = refusal_line r; here = (inr (e, d), refl); there = s; written = t }
 
 pub comes_fault : {row : Row} {S : Place → Type 0} {before now : List ℕ} (k : ℕ) (q : Place) → row.early ≡ None → row.fault k q → S q → now ≡ before ++ fault_line row.word k → Comes row S before now
-comes_fault {row} k q e d s t = (DiskFault k, q, fault_line row.word k, (e, d, refl), s, t)
+comes_fault {row} k q e d s t = record { answer = DiskFault k; becomes = q; text = fault_line row.word k; here = (e, d, refl); there = s; written = t }
 
 pub comes_damaged : {row : Row} {S : Place → Type 0} {before now : List ℕ} (file offset : ℕ) (q : Place) → row.early ≡ None → row.damage file offset q → S q → now ≡ before ++ damage_line row.word file offset → Comes row S before now
-comes_damaged {row} file offset q e d s t = (NotAFile file offset, q, damage_line row.word file offset, (e, d, refl), s, t)
+comes_damaged {row} file offset q e d s t = record { answer = NotAFile file offset; becomes = q; text = damage_line row.word file offset; here = (e, d, refl); there = s; written = t }
 
 pub comes_ran : {row : Row} {S : Place → Type 0} {before now : List ℕ} (s : Section) (q : Place) → refusal_in row ≡ None → row.ran s q → S q → now ≡ before ++ row.tells s → Comes row S before now
-comes_ran {row} s q e d at t = (Ran s, q, row.tells s, (e, d, refl), at, t)
+comes_ran {row} s q e d at t = record { answer = Ran s; becomes = q; text = row.tells s; here = (e, d, refl); there = at; written = t }
+
+pub comes_typed : {row : Row} {S : Place → Type 0} {before now : List ℕ} (bytes : List ℕ) (q : Place) → refusal_in row ≡ None → row.typed bytes q → S q → now ≡ before ++ bytes → Comes row S before now
+comes_typed bytes q e d s t = record { answer = Typed bytes; becomes = q; text = bytes; here = (e, d, refl); there = s; written = t }
+
+-- the same of places that are tied otherwise
+pub comes_so : {row : Row} {S T : Place → Type 0} {before now : List ℕ} → ((q : Place) → S q → T q) → Comes row S before now → Comes row T before now
+comes_so f r = record { answer = r.answer; becomes = r.becomes; text = r.text; here = r.here; there = f r.becomes r.there; written = r.written }
 
 -- the tests of names and states come first
 pub refused_early : (row : Row) (r : Refusal) → row.early ≡ Some r → refusal_in row ≡ Some r

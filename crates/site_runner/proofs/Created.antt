@@ -292,7 +292,7 @@ here_behind regions name p m Done q t k h = (
   h.2,
 )
 here_behind regions name p m (Refused r) q t k (inl h, e) = (inl (ap (refused_with name) (sym (same_empty p m k)) ∙ h.0, kept_behind p m q k h.1), e)
-here_behind regions name p m (Refused r) q t k (inr h, e) = (inr (refl, h.1.0, unknown_behind p m q k h.1.1), e)
+here_behind regions name p m (Refused r) q t k (inr h, e) = (inr (refl, (h.1.0, unknown_behind p m q k h.1.1)), e)
 here_behind regions name p m (DiskFault fault) q t k h = (
   refl,
   record {
@@ -319,7 +319,7 @@ pub create_made : {D : Type 0} (view : D → View) (old mid new : Slot D) (name 
 create_made view old mid new name regions before now look make p h =
     let l = look p h in
     let r = make l.0 l.2 (found_none p l.0 l.1) in
-    (r.0, r.1, r.2, here_behind regions name p l.0 r.0 r.1 r.2 l.1.kept r.3, r.4, r.5)
+    record { answer = r.answer; becomes = r.becomes; text = r.text; here = here_behind regions name p l.0 r.answer r.becomes r.text l.1.kept r.here; there = r.there; written = r.written }
 
 pub create_made_cut : {D : Type 0} (view : D → View) (old mid new : Slot D) (name : List ℕ) (regions : List Region) → LooksHere view old mid (Ok None) → MakingIsCut view name regions mid new → IsCutHere view (create regions name) old new
 create_made_cut view old mid new name regions look cut p h =

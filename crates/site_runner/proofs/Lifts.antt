@@ -76,15 +76,15 @@ passes_there test (x ∷ xs) (suc i) d e = passes_there test xs i d (found_step 
 module _ {D : Type 0} (view : D → View) (S : Slot D → Place → Type 0) (Q : Place → Place → Type 0) (stays : (x : Slot D) (p : Place) → IsPlace view x p → Q p p × S x p) where
   along_others : (slots : List (Slot D)) → Along (λ j x y. (r : Place) → IsPlace view x r → (s : Place) × Q r s × S y s) slots slots
   along_others [] = tt
-  along_others (x ∷ xs) = (λ r h. (r, stays x r h), along_others xs)
+  along_others (x ∷ xs) = (λ r h. let s = stays x r h in (r, s.0, s.1), along_others xs)
 
   at_others : (i : ℕ) (slots : List (Slot D)) (s : Slot D) (q : Place) → i < length slots → S s q → At i (λ x y. S y q) (λ j x y. (r : Place) → IsPlace view x r → (s : Place) × Q r s × S y s) slots (set slots i s)
   at_others i [] s q k h = absurd (omega arith)
   at_others zero (x ∷ xs) s q k h = (h, along_others xs)
-  at_others (suc i) (x ∷ xs) s q k h = (λ r g. (r, stays x r g), at_others i xs s q (omega arith) h)
+  at_others (suc i) (x ∷ xs) s q k h = (λ r g. let t = stays x r g in (r, t.0, t.1), at_others i xs s q (omega arith) h)
 
 -- a command that acts by that row at that place
-abbrev pub ActsBy : {D : Type 0} → (D → View) → Command → (World → Place → Row) → List (Slot D) → ℕ → Type 0
+abbrev pub ActsBy : {D : Type 0} → (D → View) → Command → (World → Place → Row) → List (Slot D) → ℕ → Type 1
 ActsBy view c row slots i = (w : World) → Tied view slots w → (p : Place) → slice_get w.places i ≡ Some p → meaning w c ≡ Acts i (row w p) apart
 
 pub lifted : {D : Type 0} (view : D → View) (c : Command) (row : World → Place → Row) (slots : List (Slot D)) (i : ℕ) (d s : Slot D) (before now : List ℕ) → i < length slots → ActsBy view c row slots i
@@ -92,8 +92,8 @@ pub lifted : {D : Type 0} (view : D → View) (c : Command) (row : World → Pla
 lifted view c row slots i d s before now k is x w h =
     let p = place_there view i slots w.places d k h in
     let r = x w h p.0 p.2 in
-    let m = builds.lifted (IsPlace view) (IsPlace view) i (row w p.0) apart r.0 r.1 r.2 slots (set slots i s) w h r.3 (at_others view (IsPlace view) Kept (λ y z g. (kept_same z, g)) i slots s r.1 k r.4) in
-    (r.0 ∷ [], m.0, r.2, subst (λ (y : Meaning). Goes y (r.0 ∷ []) w m.0 r.2) (sym (is w h p.0 p.1)) (r.0, refl, m.1), m.2, r.5)
+    let m = builds.lifted (IsPlace view) (IsPlace view) i (row w p.0) apart r.answer r.becomes r.text slots (set slots i s) w h r.here (at_others view (IsPlace view) Kept (λ y z g. (kept_same z, g)) i slots s r.becomes k r.there) in
+    (r.answer ∷ [], m.0, r.text, subst (λ (y : Meaning). Goes y (r.answer ∷ []) w m.0 r.text) (sym (is w h p.0 p.1)) (r.answer, refl, m.1), m.2, r.written)
 
 -- the disk of a slot is that of a place
 abbrev pub IsDisk : {D : Type 0} → (D → View) → Slot D → Place → Type 0

@@ -9,7 +9,7 @@ use Rattle.journal_defs.specs.Numbers.{broken_file}
 use Rattle.world_defs.specs.World as world
 use Rattle.world_defs.specs.World.{Place}
 use Rattle.site_defs.specs.Contents.{Contents, Leftover}
-use Rattle.world_defs.specs.Answers.{Cause, Stopped, NoFile, Refusal, Typed, line}
+use Rattle.world_defs.specs.Answers.{Cause, Stopped, NoFile, Refusal, line}
 use Rattle.world_defs.specs.Row.{refused_with, in_state, stopped}
 use Rattle.world_defs.specs.Changes.{in_new_state}
 use Rattle.world_defs.specs.rows.Print.{typed, no_file, print}
@@ -20,7 +20,7 @@ use Rattle.site_runner.specs.declared.slot.Site.{Site}
 use Rattle.site_runner.specs.Sites.{fault_of, HoldsState}
 use Rattle.site_runner.specs.Steps.{IsAt, ExecutesAt, IsCutAt}
 use Rattle.site_runner.proofs.Fused.{state_read}
-use Rattle.site_runner.proofs.Ats.{comes_refused, comes_may_refuse, comes_fault, refused_late, none_refused, refuses, kept_same, state_at, is_stopped, not_stopped, is_true_or_false, some_both, reads_site}
+use Rattle.site_runner.proofs.Ats.{comes_refused, comes_may_refuse, comes_fault, comes_typed, refused_late, none_refused, refuses, kept_same, state_at, is_stopped, not_stopped, is_true_or_false, some_both, reads_site}
 use Rattle.site_runner.proofs.Seen.{counted, kept_counted}
 
 pub print_stopped : (g : ℕ) (v : View) (s : Site) (k : ℕ) (before now : List ℕ) → fault_of s.state ≡ Some k → now ≡ before ++ line s.name (codes "STOPPED " ++ decimal k) → ExecutesAt (print g s.name) v s v s before now
@@ -96,18 +96,10 @@ print_none typing g v w s old bytes before now r later up some most none text em
 pub printed : (typing : TypingReads) (g : ℕ) (v w : View) (s : Site) (old bytes before now : List ℕ) → disk.Reads v w → v.faults ≤ w.faults → fault_of s.state ≡ None → 1 ≤ g → g ≤ 65535 → old ≡ []
     → IfSome v.content (λ files. bytes ≡ old ++ files (broken_file g)) → bytes ≢ [] → now ≡ before ++ bytes → ExecutesAt (print g s.name) v s w s before now
 printed typing g v w s old bytes before now r later up some most none text full t p h =
-    let typed_so : p.told ≡ true → bytes ≡ typed g p = λ sure. file_typed typing g v s p old bytes h some most none text sure in (
-      Typed bytes,
-      counted p w.faults,
-      bytes,
-      (
-        none_refused s.name (in_state stopped p.site) (no_file g p) (up_at v s p h up) (has_file g p (is_true_or_false p.told) (λ sure e. full (typed_so sure ∙ e))),
-        record { some = full; told = typed_so; kept = kept_counted p w.faults (omega (arith, later, h.disk.faults)) },
-        refl,
-      ),
-      read_at v w s p r h,
-      t,
-    )
+    let typed_so : p.told ≡ true → bytes ≡ typed g p = λ sure. file_typed typing g v s p old bytes h some most none text sure in
+    comes_typed bytes (counted p w.faults)
+    (none_refused s.name (in_state stopped p.site) (no_file g p) (up_at v s p h up) (has_file g p (is_true_or_false p.told) (λ sure e. full (typed_so sure ∙ e))))
+    (record { some = full; told = typed_so; kept = kept_counted p w.faults (omega (arith, later, h.disk.faults)) }) (read_at v w s p r h) t
 
 -- a call failed
 pub print_fault : (g : ℕ) (v w : View) (s : Site) (k : ℕ) (before now : List ℕ) → disk.Reads v w → fault_of s.state ≡ None → k ≡ w.faults → Rose v.faults w.faults

@@ -44,7 +44,7 @@ use Rattle.site_runner.specs.Named.{row_in}
 use Rattle.site_runner.proofs.Results.{on_ok, on_errs}
 use Rattle.site_runner.specs.Steps.{Stops, StopsFrom, Extracts, ExtractsFrom, Zwrites, ZwritesFrom, state_text, IsAt, ExecutesAt, IsCutAt}
 use Rattle.site_runner.proofs.Cuts.{split_and}
-use Rattle.site_runner.proofs.Ats.{comes_done, not_early, refuses, state_at, kept_same, only}
+use Rattle.site_runner.proofs.Ats.{comes_done, comes_so, not_early, refuses, state_at, kept_same, only}
 
 pub names_same : (a b : Name) → same_name a b ≡ true → a ≡ b
 names_same [] [] e = refl
@@ -69,7 +69,7 @@ executes_here {D} view row old disk site new before now e x p h =
     let at_p = slot_at view old site p e h in
     let r = x p at_p in
     let left : Slot D = record { disk = disk; site = Some new } in
-    subst (λ (n : Name). Comes (row n p) (IsPlace view left) before now) (sym (ap name_on at_p.site)) (r.0, r.1, r.2, r.3, record { disk = r.4.disk; site = r.4.site; held = r.4.held }, r.5)
+    subst (λ (n : Name). Comes (row n p) (IsPlace view left) before now) (sym (ap name_on at_p.site)) (comes_so (λ q g. record { disk = g.disk; site = g.site; held = g.held }) r)
 
 pub cut_here : {D : Type 0} (view : D → View) (row : Name → Place → Row) (old new : Slot D) (site : Site) → old.site ≡ Some site → IsCutAt (row site.name) (view old.disk) site (view new.disk) → IsCutHere view (row_at row) old new
 cut_here view row old new site e x p h =

@@ -11,8 +11,13 @@ use Rattle.site_runner.specs.declared.slot.Slot.{Slot}
 use Rattle.site_runner.specs.Tied.{IsPlace, Tied, Matched}
 
 -- The row with some answer leads to a place that has S, and this is its text.
-abbrev pub Comes : Row → (Place → Type 0) → List ℕ → List ℕ → Type 0
-Comes row S before now = (a : Answer) × (q : Place) × (t : List ℕ) × Here row a q t × S q × (now ≡ before ++ t)
+pub record Comes (row : Row) (S : Place → Type 0) (before now : List ℕ) : Type 0 where
+  pub answer : Answer
+  pub becomes : Place
+  pub text : List ℕ
+  pub here : Here row answer becomes text
+  pub there : S becomes
+  pub written : now ≡ before ++ text
 
 -- Whatever place the slot was, the row leads to one that it is.
 abbrev pub ExecutesHere : {D : Type 0} → (D → View) → (Place → Row) → Slot D → Slot D → List ℕ → List ℕ → Type 0
