@@ -2,8 +2,6 @@ use Rattle.std.proofs.Common.{rules, ◌≡◌, ℕ, List, Option, Some, sym, ap
 use Rattle.std.specs.Option.{option_copied}
 use Rattle.global_defs.specs.Key.{Key}
 use Rattle.command_defs.specs.Commands as commands
-use Rattle.world_defs.specs.World.{Place}
-use Rattle.world_defs.specs.Row.{Row}
 use Rattle.world_defs.specs.Meaning.{row_at}
 use Rattle.world_defs.specs.rows.Crash.{crash}
 use Rattle.world_defs.specs.rows.Extract.{extract}
