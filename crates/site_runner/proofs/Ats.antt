@@ -9,30 +9,69 @@ use Rattle.site_store.specs.Site.{IsOpen, Keeps}
 use Rattle.journal_defs.specs.Instance.{generation}
 use Rattle.site_defs.specs.Lists.{Among}
 use Rattle.world_defs.specs.World as world
-use Rattle.command_defs.specs.Commands.{Command}
+use Rattle.command_defs.specs.Commands.{Name}
 use Rattle.world_defs.specs.World.{Place, Kept}
 use Rattle.site_defs.specs.Contents.{Contents, Leftover, NO_LEFTOVER, is_made}
-use Rattle.world_defs.specs.Answers.{Cause, Stopped, NotRunning, Refused}
-use Rattle.world_defs.specs.Refusals.{first, in_state, stopped, not_running}
+use Rattle.world_defs.specs.Answers.{Cause, Stopped, NotRunning, Refusal, Section, Done, Refused, DiskFault, NotAFile, Ran, Typed, line, cause_text, refusal_line, fault_line, damage_line}
+use Rattle.world_defs.specs.Row.{Row, first, in_state, stopped, not_running, or_else, refused_with, refusal_in}
 use Rattle.site_defs.specs.Fronts.{with_sequence}
 use Rattle.site_defs.specs.Opening.{IsBehind}
-use Rattle.world_defs.specs.Output.{line, cause_text, name_in}
 use Rattle.world_defs.specs.Ties.{Matches}
 use Rattle.site_defs.specs.Stands.{IsSite, HasLeft, Stands, Reads}
 use Rattle.site_runner.specs.declared.slot.State.{State}
 use Rattle.site_runner.specs.declared.slot.State.TheVariants.{Down, Primary, Failed}
 use Rattle.site_runner.specs.declared.slot.Site.{Site}
 use Rattle.site_runner.specs.Sites.{state_value, is_down, fault_of}
-use Rattle.site_runner.specs.Here.{cause_here, RefusedHere}
+use Rattle.site_runner.specs.Executes.{Comes}
 use Rattle.site_runner.specs.Steps.{IsAt, ExecutesAt}
 
 pub kept_same : (p : Place) → Kept p p
-kept_same p = record { site = refl; now = refl; left = refl; outcomes = λ o h. h; faults = omega arith; same = record { told = refl; simulated = refl } }
+kept_same p = record { site = refl; now = refl; left = refl; known = record { told = refl; outcomes = λ o h. h }; faults = omega arith; simulated = refl }
 
--- a refusal that changes nothing
-pub refuses : (c : Command) (v : View) (s : Site) (cause : Cause) (before now : List ℕ) → name_in c ≡ s.name → ((p : Place) → IsAt v s p → cause_here c p ≡ Some cause) → ((p : Place) → RefusedHere c cause p p)
-    → now ≡ before ++ line s.name (cause_text cause) → ExecutesAt c v s v s before now
-refuses c v s cause before now n e same t p h = (Refused (record { site = s.name; cause = cause }), p, (sym n, inl (e p h, same p)), h, t)
+-- what a row comes to
+
+pub comes_done : {row : Row} {S : Place → Type 0} {before now : List ℕ} (q : Place) → refusal_in row ≡ None → row.done q → S q → now ≡ before ++ row.says q → Comes row S before now
+comes_done {row} q e d s t = record { answer = Done; becomes = q; text = row.says q; here = (e, d, refl); there = s; written = t }
+
+pub comes_refused : {row : Row} {S : Place → Type 0} {before now : List ℕ} (r : Refusal) (q : Place) → refusal_in row ≡ Some r → row.refused r q → S q → now ≡ before ++ refusal_line r → Comes row S before now
+comes_refused r q e d s t = record { answer = Refused r; becomes = q; text = refusal_line r; here = (inl (e, d), refl); there = s; written = t }
+
+pub comes_may_refuse : {row : Row} {S : Place → Type 0} {before now : List ℕ} (r : Refusal) (q : Place) → row.early ≡ None → row.may_refuse r q → S q → now ≡ before ++ refusal_line r → Comes row S before now
+comes_may_refuse r q e d s t = record { answer = Refused r; becomes = q; text = refusal_line r; here = (inr (e, d), refl); there = s; written = t }
+
+pub comes_fault : {row : Row} {S : Place → Type 0} {before now : List ℕ} (k : ℕ) (q : Place) → row.early ≡ None → row.fault k q → S q → now ≡ before ++ fault_line row.word k → Comes row S before now
+comes_fault {row} k q e d s t = record { answer = DiskFault k; becomes = q; text = fault_line row.word k; here = (e, d, refl); there = s; written = t }
+
+pub comes_damaged : {row : Row} {S : Place → Type 0} {before now : List ℕ} (file offset : ℕ) (q : Place) → row.early ≡ None → row.damage file offset q → S q → now ≡ before ++ damage_line row.word file offset → Comes row S before now
+comes_damaged {row} file offset q e d s t = record { answer = NotAFile file offset; becomes = q; text = damage_line row.word file offset; here = (e, d, refl); there = s; written = t }
+
+pub comes_ran : {row : Row} {S : Place → Type 0} {before now : List ℕ} (s : Section) (q : Place) → refusal_in row ≡ None → row.ran s q → S q → now ≡ before ++ row.tells s → Comes row S before now
+comes_ran {row} s q e d at t = record { answer = Ran s; becomes = q; text = row.tells s; here = (e, d, refl); there = at; written = t }
+
+pub comes_typed : {row : Row} {S : Place → Type 0} {before now : List ℕ} (bytes : List ℕ) (q : Place) → refusal_in row ≡ None → row.typed bytes q → S q → now ≡ before ++ bytes → Comes row S before now
+comes_typed bytes q e d s t = record { answer = Typed bytes; becomes = q; text = bytes; here = (e, d, refl); there = s; written = t }
+
+-- the same of places that are tied otherwise
+pub comes_so : {row : Row} {S T : Place → Type 0} {before now : List ℕ} → ((q : Place) → S q → T q) → Comes row S before now → Comes row T before now
+comes_so f r = record { answer = r.answer; becomes = r.becomes; text = r.text; here = r.here; there = f r.becomes r.there; written = r.written }
+
+-- the tests of names and states come first
+pub refused_early : (row : Row) (r : Refusal) → row.early ≡ Some r → refusal_in row ≡ Some r
+refused_early row r e = ap (λ (x : Option Refusal). or_else x row.late) e
+
+pub refused_late : (name : Name) (a b : Option Cause) (cause : Cause) → a ≡ None → b ≡ Some cause → or_else (refused_with name a) (refused_with name b) ≡ Some (record { site = name; cause = cause })
+refused_late name a b cause e f = rw (e, f) refl
+
+pub none_refused : (name : Name) (a b : Option Cause) → a ≡ None → b ≡ None → or_else (refused_with name a) (refused_with name b) ≡ None
+none_refused name a b e f = rw (e, f) refl
+
+pub not_early : (name : Name) (a : Option Cause) → a ≡ None → or_else (refused_with name a) None ≡ None
+not_early name a e = rw e refl
+
+-- a refusal that names and states decide, and that changes nothing
+pub refuses : (row : Place → Row) (v : View) (s : Site) (cause : Cause) (before now : List ℕ) → ((p : Place) → IsAt v s p → (row p).early ≡ refused_with s.name (Some cause)) → ((p : Place) → (row p).refused (record { site = s.name; cause = cause }) p)
+    → now ≡ before ++ line s.name (cause_text cause) → ExecutesAt row v s v s before now
+refuses row v s cause before now e same t p h = let r : Refusal = record { site = s.name; cause = cause } in comes_refused r p (refused_early (row p) r (e p h)) (same p) h t
 
 -- a test of a site's state is one of its place
 pub state_at : (test : world.State → Option Cause) (v : View) (s : Site) (p : Place) → IsAt v s p → in_state test p.site ≡ test (state_value s.state)
@@ -123,6 +162,13 @@ pub reads_image : (w : View) → IsLawful w → IsSome w.content → (f : Files)
 reads_image w law told =
     let s = files_of w.content told in
     (s.0, s.1, subst (λ (o : Option Files). IfSome o (λ files. w.since w.moment files)) s.1 law.as_read)
+
+-- an image stands for some outcome
+pub some_outcome : (v : View) (p : Place) → IsLawful v → Matches v p → p.told ≡ true → (o : Contents) × Among p.outcomes o
+some_outcome v p law m sure =
+    let r = reads_image v law (told_is v.content _ (m.told sure)) in
+    let o = m.images sure r.0 r.2 in
+    (o.0, o.1)
 
 -- what the law of leftovers says
 abbrev pub Leftovers : Type 0

@@ -14,7 +14,7 @@ use Rattle.command_defs.specs.Commands.{Name}
 use Rattle.site_defs.specs.Lists.{Among}
 use Rattle.site_defs.specs.Contents.{Contents}
 use Rattle.world_defs.specs.Answers.{GenLimit, ReignLimit}
-use Rattle.world_defs.specs.Refusals.{generation_limit, reign_limit}
+use Rattle.world_defs.specs.rows.Start.{generation_limit, reign_limit}
 use Rattle.site_defs.specs.Limits.{LAST_GENERATION, LAST_CYCLE}
 use Rattle.site_defs.specs.Opening.{cut_there, start_of, starts_in, with_starts, opened, with_reign, next_stamp, MayBegin}
 use Rattle.site_runner.specs.Sites.{IsOf}

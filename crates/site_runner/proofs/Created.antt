@@ -1,5 +1,5 @@
 -- CREATE at a place.
-use Rattle.std.proofs.Common.{◌≡◌, ◌⊎◌, ℕ, ◌≤◌, Bool, true, false, not, nat_le, List, [], ◌∷◌, ◌++◌, length, map, None, Some, refl, sym, ◌∙◌, ap, subst, arith, inl, inr, Ok, Err}
+use Rattle.std.proofs.Common.{◌≡◌, ◌⊎◌, ℕ, ◌≤◌, Bool, true, false, not, nat_le, if◌then◌else◌, List, [], ◌∷◌, ◌++◌, length, map, None, Some, refl, sym, ◌∙◌, ap, subst, arith, inl, inr, Ok, Err}
 use Rattle.std.specs.Prelude.{Result, codes, IfSome, IsSome, IsSomeAnd, IsErrOf}
 use Rattle.std.specs.List.{list_all, AllByRecursion}
 use Rattle.std.specs.Char.{is_ascii_alphabetic, is_ascii_alphanumeric}
@@ -24,20 +24,20 @@ use Rattle.world_defs.specs.World as world
 use Rattle.world_defs.specs.World.{Place, Kept}
 use Rattle.site_defs.specs.Contents.{Contents, NO_LEFTOVER, nothing, is_made, same_name}
 use Rattle.world_defs.specs.Answers as answers
-use Rattle.world_defs.specs.Answers.{Answer, NotEmpty, Done, Refused, DiskFault, Ran, Typed}
-use Rattle.world_defs.specs.Refusals.{not_empty}
-use Rattle.world_defs.specs.Rows.{named_mode, created, MayCreate}
-use Rattle.world_defs.specs.Step.{KeptUnknown, LeftAt}
-use Rattle.world_defs.specs.Output.{line}
+use Rattle.world_defs.specs.Answers.{Answer, NotEmpty, Refusal, Done, Refused, DiskFault, Ran, Typed, line}
+use Rattle.world_defs.specs.Row.{refused_with, caused, Here}
+use Rattle.world_defs.specs.Changes.{After, KeptUnknown}
+use Rattle.world_defs.specs.rows.Create as rows
+use Rattle.world_defs.specs.rows.Create.{named_mode, created, not_empty, create}
 use Rattle.world_defs.specs.Ties.{Matches}
 use Rattle.site_defs.specs.Stands.{IsBlank, IsSite, Stands, Reads}
 use Rattle.site_runner.specs.declared.slot.State.TheVariants.{Down}
 use Rattle.site_runner.specs.declared.slot.Slot.{Slot}
 use Rattle.site_runner.specs.Sites.{IsOf}
-use Rattle.site_runner.specs.Here.{IsCutHere}
+use Rattle.site_runner.specs.Executes.{ExecutesHere, IsCutHere}
 use Rattle.site_runner.specs.Looking.{fits, Finds, LooksHere, Tells}
-use Rattle.site_runner.specs.Creating.{spec_of, IsUnmade, MakeHere, CreateHere, MakesHere, MakingIsCut, CreatesHere}
-use Rattle.site_runner.proofs.Ats.{is_true_or_false, some_both, some_of, some_and, told_is, stands_told, at_moment, Leftovers, ReadPlace, place_of_images, place_of_one, only}
+use Rattle.site_runner.specs.Creating.{spec_of, IsUnmade, MakesHere, MakingIsCut}
+use Rattle.site_runner.proofs.Ats.{comes_done, comes_refused, comes_may_refuse, comes_fault, comes_damaged, some_outcome, is_true_or_false, some_both, some_of, some_and, told_is, stands_told, at_moment, Leftovers, ReadPlace, place_of_images, place_of_one, only}
 use Rattle.site_runner.proofs.Looked.{some_and_of, none_held, site_none}
 
 -- the regions of a command
@@ -82,6 +82,10 @@ is_blank files c e (inr s) = absurd (false≢true (sym e ∙ s.made))
 of_name : (name : Name) (regions : List Region) → IsOf name (created name regions)
 of_name name regions = record { made = refl; name = refl }
 
+none_made : (p : Place) → (p.told ≡ true) ⊎ (p.told ≡ false) → (p.told ≡ true → is_made p.now ≡ false) → not_empty p ≡ None
+none_made p (inl known) f = rw (known, f known) refl
+none_made p (inr not) f = rw not refl
+
 pub made_site : {D : Type 0} (leftovers : Leftovers) (view : D → View) (old : Slot D) (disk : D) (name : List ℕ) (specs : List RegionSpec) (rs : List (List ℕ × Bool)) (before now : List ℕ) → specs ≡ map spec_of rs → old.site ≡ None
     → IfSome (view old.disk).content (λ files. IsBlank files → IfSome (view disk).content (λ new. IsSite new (made name specs)))
     → IfSome (view old.disk).content (λ files. IsBlank files → ((f : Files) → Image (view old.disk) f → IsBlank f) → (f : Files) → Image (view disk) f → IsSite f (made name specs))
@@ -102,20 +106,21 @@ made_site leftovers view old disk name specs rs before now are free reads images
     let blank : p.told ≡ true → (f : Files) → Image v f → IsBlank f = λ known f i. let x = h.disk.images known f i in (is_blank f x.0 (u.outcomes known x.0 x.1) x.2).1 in
     let images_so : p.told ≡ true → (c : Files) → Image w c → Stands c o = λ known c i.
     let b = some_both v.content _ _ (stands_told v p h.disk known) images in
-    inr (subst (IsSite c) e (b.2 (is_blank b.0 p.now (u.now known) b.1).1 (blank known) c i)) in (
-      Done,
-      q,
-      record { free = site_none view old p free h; site = refl; now = refl; left = refl; outcomes = refl; faults = omega (arith, later, h.disk.faults); same = record { told = refl; simulated = refl } },
-      record {
-        disk = place_of_one w p (Some site) o (same ∙ h.disk.simulated) reads_so images_so;
-        site = refl;
-        held = record { made = λ known. record { now = of_name name regions; outcomes = λ x j. subst (IsOf name) (sym (only x o j)) (of_name name regions) }; state = tt };
-      },
-      t,
-    )
+    inr (subst (IsSite c) e (b.2 (is_blank b.0 p.now (u.now known) b.1).1 (blank known) c i)) in
+    comes_done
+    q
+    (ap (refused_with name) (none_made p (is_true_or_false p.told) u.now))
+    (record { site = refl; known = record { told = refl; now = refl; left = refl; outcomes = refl }; faults = omega (arith, later, h.disk.faults); simulated = refl })
+    (record {
+      disk = place_of_one w p (Some site) o (same ∙ h.disk.simulated) reads_so images_so;
+      site = refl;
+      held = record { made = λ known. record { now = of_name name regions; outcomes = λ x j. subst (IsOf name) (sym (only x o j)) (of_name name regions) }; state = tt };
+    })
+    t
 
 -- what each call of a making keeps
 pub record IsMaking (v w : View) (name : Name) (specs : List RegionSpec) : Type 1 where
+  pub was_lawful : IsLawful v
   pub lawful : IsLawful w
   pub any_moment : IfSome v.content (λ _. AtEachMoment v w (MayMake v name specs))
   pub still_told : IsSome v.content → IsSome w.content
@@ -131,9 +136,10 @@ making_images v w p name specs o k e m u known c i =
     let n = is_blank from.0 x.0 (u.outcomes known x.0 x.1) x.2 in
     elim (from.2 n.1) [ inl blank ↦ (x.0, inr x.1, inl (n.0, blank)) | inr site ↦ (o, inl refl, inr (subst (IsSite c) e site)) ]
 
-new_or_old : (name : Name) (regions : List Region) (p : Place) (o : Contents) → Among (created name regions ∷ p.outcomes) o → MayCreate name regions p o
-new_or_old name regions p o (inl h) = inr h
-new_or_old name regions p o (inr h) = inl h
+-- an outcome after the making
+new_or_old : (name : Name) (regions : List Region) (p : Place) (o : Contents) → ((x : Contents) × Among p.outcomes x) → Among (created name regions ∷ p.outcomes) o → After (rows.MayMake name regions) p.outcomes o
+new_or_old name regions p o some (inl h) = (some.0, some.1, inr h)
+new_or_old name regions p o some (inr h) = (o, h, inl refl)
 
 making_left : (leftovers : Leftovers) (v w : View) (p : Place) (name : Name) (specs : List RegionSpec) (o : Contents) → IsMaking v w name specs → made name specs ≡ o → Matches v p → IsUnmade p
     → ReadPlace w p p.site (o ∷ p.outcomes)
@@ -169,20 +175,20 @@ make_failed leftovers view old disk name specs rs (Failed fault) before now k ar
     let o : Contents = created name regions in
     let m = making_left leftovers (view old.disk) w p name specs o k (made_is name specs rs are) h.disk u in
     let q : Place = record { site = p.site; told = p.told; now = m.now; left = m.left; outcomes = o ∷ p.outcomes; faults = w.faults; simulated = p.simulated } in
-    let none = site_none view old p free h in (
-      DiskFault fault,
-      q,
-      record {
-        free = none;
-        site = none;
-        now = λ known. new_or_old name regions p m.now (m.among known);
-        left = m.behind;
-        outcomes = λ known x a. new_or_old name regions p x a;
-        faults = record { count = sym f.0; rose = subst (λ (x : ℕ). Rose p.faults x) (sym f.0) (subst (λ (x : ℕ). Rose x w.faults) h.disk.faults f.1); same = record { told = refl; simulated = refl } };
-      },
-      record { disk = m.matches; site = h.site; held = none_held view (record { disk = disk; site = old.site }) q free },
-      t,
-    )
+    let some = some_outcome (view old.disk) p k.was_lawful h.disk in
+    comes_fault
+    fault
+    q
+    refl
+    (record {
+      site = site_none view old p free h;
+      known = record { told = refl; now = λ known. new_or_old name regions p m.now (some known) (m.among known); left = m.behind; outcomes = λ known x a. new_or_old name regions p x (some known) a };
+      count = sym f.0;
+      rose = subst (λ (x : ℕ). Rose p.faults x) (sym f.0) (subst (λ (x : ℕ). Rose x w.faults) h.disk.faults f.1);
+      simulated = refl;
+    })
+    (record { disk = m.matches; site = h.site; held = none_held view (record { disk = disk; site = old.site }) q free })
+    t
 make_failed leftovers view old disk name specs rs (Stopped fault) before now k are free f t p h u = absurd t
 make_failed leftovers view old disk name specs rs (Full nodes) before now k are free f t p h u = absurd t
 make_failed leftovers view old disk name specs rs SeqLimit before now k are free f t p h u = absurd t
@@ -196,7 +202,7 @@ pub make_cut : {D : Type 0} (leftovers : Leftovers) (view : D → View) (old new
 make_cut leftovers view old new name specs rs k are p h u =
     let regions = map script.region_value rs in
     let m = making_left leftovers (view old.disk) (view new.disk) p name specs (created name regions) k (made_is name specs rs are) h.disk u in
-    (record { site = p.site; told = p.told; now = m.now; left = m.left; outcomes = created name regions ∷ p.outcomes; faults = (view new.disk).faults; simulated = p.simulated }, record { told = refl; outcomes = λ known o a. new_or_old name regions p o a }, m.matches)
+    (record { site = p.site; told = p.told; now = m.now; left = m.left; outcomes = created name regions ∷ p.outcomes; faults = (view new.disk).faults; simulated = p.simulated }, record { told = refl; outcomes = λ known o a. inr (new_or_old name regions p o (some_outcome (view old.disk) p k.was_lawful h.disk known) a) }, m.matches)
 
 -- there was no memory for the regions
 pub make_not_begun : {D : Type 0} (view : D → View) (old : Slot D) (name : List ℕ) (regions : List Region) → MakingIsCut view name regions old old
@@ -204,29 +210,39 @@ make_not_begun view old name regions p h u = (p, record { told = refl; outcomes 
 
 -- the command
 
-pub create_failed : {D : Type 0} (view : D → View) (old new : Slot D) (name : List ℕ) (regions : List Region) (e : SiteError) (before now : List ℕ) → LooksHere view old new (Err e) → Tells e name before now → CreatesHere view name regions old new before now
+pub create_failed : {D : Type 0} (view : D → View) (old new : Slot D) (name : List ℕ) (regions : List Region) (e : SiteError) (before now : List ℕ) → LooksHere view old new (Err e) → Tells e name before now → ExecutesHere view (create regions name) old new before now
 create_failed view old new name regions (Failed fault) before now look t p h =
     let r = look p h in
-    (DiskFault fault, r.0, record { free = r.1.free; site = r.1.site; now = λ known. inl (r.1.now known); left = r.1.left; outcomes = λ known o a. inl (r.1.outcomes known o a); faults = r.1.faults }, r.2, t)
+    comes_fault fault r.0 refl (record {
+      site = r.1.site;
+      known = record {
+        told = r.1.known.told;
+        now = λ known. let x = r.1.known.now known in (x.0, x.1, inl x.2);
+        left = r.1.known.left;
+        outcomes = λ known o a. let x = r.1.known.outcomes known o a in (x.0, x.1, inl x.2);
+      };
+      count = r.1.count;
+      rose = r.1.rose;
+      simulated = r.1.simulated;
+    }) r.2 t
 create_failed view old new name regions (Stopped fault) before now look t p h = absurd t
 create_failed view old new name regions (Full nodes) before now look t p h = absurd t
 create_failed view old new name regions SeqLimit before now look t p h = absurd t
 create_failed view old new name regions GenLimit before now look t p h = absurd t
 create_failed view old new name regions ReignLimit before now look t p h = absurd t
-create_failed view old new name regions (NotAFile file offset) before now look t p h = let r = look p h in (answers.NotAFile file offset, r.0, r.1, r.2, t)
+create_failed view old new name regions (NotAFile file offset) before now look t p h = let r = look p h in comes_damaged file offset r.0 refl r.1 r.2 t
 create_failed view old new name regions NoMemory before now look t p h = absurd t
-
-refused_so : (p q : Place) → (p.told ≡ true) ⊎ (p.told ≡ false) → (p.told ≡ true → is_made p.now ≡ true) → Kept p q → ((not_empty (Some p) ≡ Some NotEmpty) × Kept p q) ⊎ KeptUnknown p q
-refused_so p q (inl known) f k = inl (rw (known, f known) refl, k)
-refused_so p q (inr not) f k = inr (record { unknown = not; kept = k })
 
 -- a site was made there
 pub create_refused : {D : Type 0} (view : D → View) (old new : Slot D) (name : List ℕ) (regions : List Region) (found : Layout) (before now : List ℕ) → LooksHere view old new (Ok (Some found)) → now ≡ before ++ line name (codes "NOTEMPTY")
-    → CreatesHere view name regions old new before now
+    → ExecutesHere view (create regions name) old new before now
 create_refused view old new name regions found before now look t p h =
     let r = look p h in
     let made_there : p.told ≡ true → is_made p.now ≡ true = λ known. (and_parts (is_made p.now) (same_name (site_name p.now.instance) found.name) (r.1.now known)).0 in
-    (Refused (record { site = name; cause = NotEmpty }), r.0, (refl, refused_so p r.0 (is_true_or_false p.told) made_there r.1.kept), r.2, t)
+    elim (is_true_or_false p.told) [
+      | inl known ↦ comes_refused (record { site = name; cause = NotEmpty }) r.0 (rw (known, made_there known) refl) r.1.kept r.2 t
+      | inr not ↦ comes_may_refuse (record { site = name; cause = NotEmpty }) r.0 refl (refl, record { unknown = not; kept = r.1.kept }) r.2 t
+    ]
 
 unmade : (c : Contents) → fits None c ≡ true → is_made c ≡ false
 unmade c e = opposite (is_made c) e
@@ -237,65 +253,82 @@ unmade c e = opposite (is_made c) e
 
 found_none : (p q : Place) → Finds None p q → IsUnmade q
 found_none p q f = record {
-  now = λ known. ap is_made f.kept.now ∙ unmade p.now (f.now (sym f.kept.same.told ∙ known));
-  outcomes = λ known o a. unmade o (f.outcomes (sym f.kept.same.told ∙ known) o a);
+  now = λ known. ap is_made f.kept.now ∙ unmade p.now (f.now (sym f.kept.known.told ∙ known));
+  outcomes = λ known o a. unmade o (f.outcomes (sym f.kept.known.told ∙ known) o a);
 }
 
-none_made : (p : Place) → (p.told ≡ true) ⊎ (p.told ≡ false) → (p.told ≡ true → is_made p.now ≡ false) → not_empty (Some p) ≡ None
-none_made p (inl known) f = rw (known, f known) refl
-none_made p (inr not) f = rw not refl
+-- What CREATE means at a place that was looked at, it means at the place before.
 
-create_of_make : (name : Name) (regions : List Region) (p m : Place) (a : Answer) (q : Place) → Finds None p m → MakeHere name regions m a q → CreateHere name regions p a q
-create_of_make name regions p m Done q f h = (
-  none_made p (is_true_or_false p.told) (λ known. unmade p.now (f.now known)),
+same_empty : (p m : Place) → Kept p m → not_empty m ≡ not_empty p
+same_empty p m k =
+    ap (λ (b : Bool). if b then caused (is_made m.now) NotEmpty else None) k.known.told ∙ ap (λ (c : Contents). if p.told then caused (is_made c) NotEmpty else None) k.now
+
+kept_behind : (p m q : Place) → Kept p m → Kept m q → Kept p q
+kept_behind p m q k l = record {
+  site = l.site ∙ k.site;
+  now = l.now ∙ k.now;
+  left = l.left ∙ k.left;
+  known = record { told = l.known.told ∙ k.known.told; outcomes = λ o a. k.known.outcomes o (l.known.outcomes o a) };
+  faults = omega (arith, k.faults, l.faults);
+  simulated = l.simulated ∙ k.simulated;
+}
+
+unknown_behind : (p m q : Place) → Kept p m → KeptUnknown m q → KeptUnknown p q
+unknown_behind p m q k l = record { unknown = sym k.known.told ∙ l.unknown; kept = kept_behind p m q k l.kept }
+
+after_behind : (step : Contents → Contents → Type 0) (p m : Place) (o : Contents) → Kept p m → After step m.outcomes o → After step p.outcomes o
+after_behind step p m o k a = (a.0, k.known.outcomes a.0 a.1, a.2)
+
+here_behind : (regions : List Region) (name : Name) (p m : Place) (a : Answer) (q : Place) (t : List ℕ) → Kept p m → Here (create regions name m) a q t → Here (create regions name p) a q t
+here_behind regions name p m Done q t k h = (
+  ap (refused_with name) (sym (same_empty p m k)) ∙ h.0,
   record {
-    free = sym f.kept.site ∙ h.free;
-    site = h.site;
-    now = h.now;
-    left = h.left;
-    outcomes = h.outcomes;
-    faults = omega (arith, f.kept.faults, h.faults);
-    same = record { told = h.same.told ∙ f.kept.same.told; simulated = h.same.simulated ∙ f.kept.same.simulated };
+    site = h.1.site;
+    known = record { told = h.1.known.told ∙ k.known.told; now = h.1.known.now; left = h.1.known.left; outcomes = h.1.known.outcomes };
+    faults = omega (arith, k.faults, h.1.faults);
+    simulated = h.1.simulated ∙ k.simulated;
   },
+  h.2,
 )
-create_of_make name regions p m (Refused r) q f h = absurd h
-create_of_make name regions p m (DiskFault k) q f h = record {
-  free = sym f.kept.site ∙ h.free;
-  site = h.site;
-  now = λ known. old_or_new q.now (h.now (f.kept.same.told ∙ known));
-  left = λ known. h.left (f.kept.same.told ∙ known);
-  outcomes = λ known o a. old_or_new o (h.outcomes (f.kept.same.told ∙ known) o a);
-  faults = record {
-    count = h.faults.count;
-    rose = omega (arith, f.kept.faults, h.faults.rose);
-    same = record { told = h.faults.same.told ∙ f.kept.same.told; simulated = h.faults.same.simulated ∙ f.kept.same.simulated };
-  };
-}
-  where
-    old_or_new : (o : Contents) → MayCreate name regions m o → MayCreate name regions p o
-    old_or_new o (inl old) = inl (f.kept.outcomes o old)
-    old_or_new o (inr new) = inr new
-create_of_make name regions p m (answers.NotAFile file offset) q f h = absurd h
-create_of_make name regions p m (Ran s) q f h = absurd h
-create_of_make name regions p m (Typed bytes) q f h = absurd h
+here_behind regions name p m (Refused r) q t k (inl h, e) = (inl (ap (refused_with name) (sym (same_empty p m k)) ∙ h.0, kept_behind p m q k h.1), e)
+here_behind regions name p m (Refused r) q t k (inr h, e) = (inr (refl, (h.1.0, unknown_behind p m q k h.1.1)), e)
+here_behind regions name p m (DiskFault fault) q t k h = (
+  refl,
+  record {
+    site = h.1.site;
+    known = record {
+      told = h.1.known.told ∙ k.known.told;
+      now = λ known. after_behind (rows.MayMake name regions) p m q.now k (h.1.known.now (k.known.told ∙ known));
+      left = λ known. h.1.known.left (k.known.told ∙ known);
+      outcomes = λ known o a. after_behind (rows.MayMake name regions) p m o k (h.1.known.outcomes (k.known.told ∙ known) o a);
+    };
+    count = h.1.count;
+    rose = omega (arith, k.faults, h.1.rose);
+    simulated = h.1.simulated ∙ k.simulated;
+  },
+  h.2,
+)
+here_behind regions name p m (answers.NotAFile file offset) q t k h = (refl, unknown_behind p m q k h.1, h.2)
+here_behind regions name p m (Ran s) q t k h = absurd h.1
+here_behind regions name p m (Typed bytes) q t k h = absurd h.1
 
 -- no site was made there
 pub create_made : {D : Type 0} (view : D → View) (old mid new : Slot D) (name : List ℕ) (regions : List Region) (before now : List ℕ) → LooksHere view old mid (Ok None) → MakesHere view name regions mid new before now
-    → CreatesHere view name regions old new before now
+    → ExecutesHere view (create regions name) old new before now
 create_made view old mid new name regions before now look make p h =
     let l = look p h in
     let r = make l.0 l.2 (found_none p l.0 l.1) in
-    (r.0, r.1, create_of_make name regions p l.0 r.0 r.1 l.1 r.2, r.3, r.4)
+    record { answer = r.answer; becomes = r.becomes; text = r.text; here = here_behind regions name p l.0 r.answer r.becomes r.text l.1.kept r.here; there = r.there; written = r.written }
 
-cut_behind : (name : Name) (regions : List Region) (p m q : Place) → Kept p m → LeftAt true (Create name regions) m q → LeftAt true (Create name regions) p q
-cut_behind name regions p m q k l = record { told = l.told ∙ k.same.told; outcomes = λ known o a. old_or_new o (l.outcomes (k.same.told ∙ known) o a) }
-  where
-    old_or_new : (o : Contents) → MayCreate name regions m o → MayCreate name regions p o
-    old_or_new o (inl old) = inl (k.outcomes o old)
-    old_or_new o (inr new) = inr new
-
-pub create_made_cut : {D : Type 0} (view : D → View) (old mid new : Slot D) (name : List ℕ) (regions : List Region) → LooksHere view old mid (Ok None) → MakingIsCut view name regions mid new → IsCutHere view (Create name regions) old new
+pub create_made_cut : {D : Type 0} (view : D → View) (old mid new : Slot D) (name : List ℕ) (regions : List Region) → LooksHere view old mid (Ok None) → MakingIsCut view name regions mid new → IsCutHere view (create regions name) old new
 create_made_cut view old mid new name regions look cut p h =
     let l = look p h in
-    let r = cut l.0 l.2 (found_none p l.0 l.1) in
-    (r.0, cut_behind name regions p l.0 r.0 l.1.kept r.1, r.2)
+    let k = l.1.kept in
+    let r = cut l.0 l.2 (found_none p l.0 l.1) in (
+      r.0,
+      record {
+        told = r.1.told ∙ k.known.told;
+        outcomes = λ known o a. elim (r.1.outcomes (k.known.told ∙ known) o a) [ inl old ↦ inl (k.known.outcomes o old) | inr new ↦ inr (after_behind (rows.MayMake name regions) p l.0 o k new) ];
+      },
+      r.2,
+    )

@@ -17,10 +17,9 @@ use Rattle.site_store.specs.Opening.{region_value}
 use Rattle.site_defs.specs.Lists.{first_where}
 use Rattle.world_defs.specs.World.{Place}
 use Rattle.site_defs.specs.Contents.{Contents, nothing, is_made, same_name}
-use Rattle.world_defs.specs.Answers.{Started, NoRegion, TwiceMapped}
-use Rattle.world_defs.specs.Refusals.{twice_mapped}
+use Rattle.world_defs.specs.Answers.{Started, NoRegion, TwiceMapped, line}
+use Rattle.world_defs.specs.rows.Map.{twice_mapped}
 use Rattle.site_defs.specs.Limits.{is_written, region_number}
-use Rattle.world_defs.specs.Output.{line}
 use Rattle.site_defs.specs.Stands.{IsSite, Stands}
 use Rattle.site_runner.specs.declared.slot.Site.{Site}
 use Rattle.site_runner.specs.Sites.{IsOf}

@@ -16,8 +16,7 @@ use Rattle.repl_script.specs.declared.error.ScriptError.TheVariants as errors
 use Rattle.site_defs.specs.Lists.{Along}
 use Rattle.world_defs.specs.World.{Place, World}
 use Rattle.world_defs.specs.Answers.{Answer}
-use Rattle.world_defs.specs.Step.{Means}
-use Rattle.world_defs.specs.Output.{text, text_of}
+use Rattle.world_defs.specs.Step.{Step}
 use Rattle.world_defs.specs.Runs.{Told, Runs, commands}
 use Rattle.world_defs.specs.Ties.{Matches}
 use Rattle.world_laws.proofs.Lists.{all-push}
@@ -47,17 +46,17 @@ begins view w slots p out e h = record { told = []; mid = w; output = []; runs =
     nothing : (p : Position) → p ≡ Outside → ComeTo [] [] p
     nothing p e = subst (λ (x : Position). ComeTo [] [] x) (sym e) refl
 
-first_run : (w m : World) (c : Command) (a : Answer) → Means w c a m → Runs w (record { command = c; answers = a ∷ [] } ∷ []) m (text_of w c a m)
-first_run w m c a s = (m, [], s, (refl, refl), sym (append-nil (text_of w c a m)))
+first_run : (w m : World) (c : Command) (answers : List Answer) (t : List ℕ) → Step w c answers m t → Runs w (record { command = c; answers = answers } ∷ []) m t
+first_run w m c answers t s = (m, t, [], s, (refl, refl), sym (append-nil t))
 
 -- one more command
-runs_more : (w : World) (told : List Told) (mid m : World) (output : List ℕ) (c : Command) (a : Answer) → Runs w told mid output → Means mid c a m → Runs w (told ++ record { command = c; answers = a ∷ [] } ∷ []) m (output ++ text_of mid c a m)
-runs_more w [] mid m output c a h s =
-    subst (λ (o : List ℕ). Runs w (record { command = c; answers = a ∷ [] } ∷ []) m (o ++ text_of mid c a m)) (sym h.1)
-    (subst (λ (x : World). Runs w (record { command = c; answers = a ∷ [] } ∷ []) m (text_of x c a m)) (sym h.0)
-    (first_run w m c a (subst (λ (x : World). Means x c a m) h.0 s)))
-runs_more w (t ∷ told) mid m output c a h s =
-    (h.0, h.1 ++ text_of mid c a m, h.2, runs_more h.0 told mid m h.1 c a h.3 s, ap (λ x. x ++ text_of mid c a m) h.4 ∙ append_assoc (text w t.command t.answers h.0) h.1 (text_of mid c a m))
+runs_more : (w : World) (told : List Told) (mid m : World) (output : List ℕ) (c : Command) (answers : List Answer) (t : List ℕ) → Runs w told mid output → Step mid c answers m t
+    → Runs w (told ++ record { command = c; answers = answers } ∷ []) m (output ++ t)
+runs_more w [] mid m output c answers t h s =
+    subst (λ (o : List ℕ). Runs w (record { command = c; answers = answers } ∷ []) m (o ++ t)) (sym h.1)
+    (first_run w m c answers t (subst (λ (x : World). Step x c answers m t) h.0 s))
+runs_more w (x ∷ told) mid m output c answers t h s =
+    (h.0, h.1, h.2 ++ t, h.3, runs_more h.0 told mid m h.2 c answers t h.4 s, ap (λ y. y ++ t) h.5 ∙ append_assoc h.1 h.2 t)
 
 commands_more : (told : List Told) (c : Command) (a : List Answer) → commands told ++ c ∷ [] ≡ commands (told ++ record { command = c; answers = a } ∷ [])
 commands_more told c a = sym (map-append (λ (t : Told). t.command) told (record { command = c; answers = a } ∷ []))
@@ -92,14 +91,14 @@ pub carried : {D : Type 0} (view : D → View) (p q : Position) (old new : List 
 carried view p q old new line c mid now e f o d = (
   leads_to_end p q line c e o,
   λ start taken out g. let x = d g.mid g.tied in record {
-    told = g.told ++ record { command = c; answers = x.0 ∷ [] } ∷ [];
+    told = g.told ++ record { command = c; answers = x.0 } ∷ [];
     mid = x.1;
-    output = g.output ++ text_of g.mid c x.0 x.1;
-    runs = runs_more start g.told g.mid x.1 g.output c x.0 g.runs x.2;
-    spelled = told_more taken line g.told p q c (x.0 ∷ []) e o g.spelled;
-    formed = formed_more g.told c (x.0 ∷ []) g.formed f;
-    tied = x.3;
-    written = appends_then out mid now g.output (text_of g.mid c x.0 x.1) g.written x.4;
+    output = g.output ++ x.2;
+    runs = runs_more start g.told g.mid x.1 g.output c x.0 x.2 g.runs x.3;
+    spelled = told_more taken line g.told p q c x.0 e o g.spelled;
+    formed = formed_more g.told c x.0 g.formed f;
+    tied = x.4;
+    written = appends_then out mid now g.output x.2 g.written x.5;
   },
 )
 
@@ -142,15 +141,15 @@ broken view SinkFault number p old new line c before now rose e f b = (
   λ start taken out g.
       let x = b.1 g.mid g.tied in (
         x.1,
-        matched view new x.1 x.3,
+        matched view new x.1 x.4,
         record {
-          told = g.told ++ record { command = c; answers = x.0 ∷ [] } ∷ [];
-          output = g.output ++ text_of g.mid c x.0 x.1;
+          told = g.told ++ record { command = c; answers = x.0 } ∷ [];
+          output = g.output ++ x.2;
           position = Outside;
-          runs = runs_more start g.told g.mid x.1 g.output c x.0 g.runs x.2;
-          spelled = told_more taken line g.told p Outside c (x.0 ∷ []) e refl g.spelled;
-          formed = formed_more g.told c (x.0 ∷ []) g.formed f;
-          writes = front_behind out before now g.output (text_of g.mid c x.0 x.1) g.written x.4;
+          runs = runs_more start g.told g.mid x.1 g.output c x.0 x.2 g.runs x.3;
+          spelled = told_more taken line g.told p Outside c x.0 e refl g.spelled;
+          formed = formed_more g.told c x.0 g.formed f;
+          writes = front_behind out before now g.output x.2 g.written x.5;
           all = λ h. refl;
         },
       ),

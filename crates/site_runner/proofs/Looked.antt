@@ -9,9 +9,10 @@ use Rattle.site_store.specs.declared.error.SiteError.{SiteError}
 use Rattle.site_store.specs.declared.error.SiteError.TheVariants.{Failed, Stopped, Full, SeqLimit, GenLimit, ReignLimit, NotAFile, NoMemory}
 use Rattle.site_store.specs.Finding.{IsFound}
 use Rattle.site_store.specs.Opening.{StandsAsBefore}
-use Rattle.command_defs.specs.Commands.{Name, Command}
+use Rattle.command_defs.specs.Commands.{Name}
 use Rattle.site_defs.specs.Lists.{Among}
 use Rattle.world_defs.specs.World.{Place}
+use Rattle.world_defs.specs.Row.{Row}
 use Rattle.site_defs.specs.Contents.{Contents, Leftover, is_made, same_name}
 use Rattle.site_defs.specs.Opening.{IsBehind}
 use Rattle.world_defs.specs.Ties.{Matches}
@@ -20,7 +21,7 @@ use Rattle.site_runner.specs.declared.slot.Site.{Site}
 use Rattle.site_runner.specs.declared.slot.Slot.{Slot}
 use Rattle.site_runner.specs.Sites.{site_value, HoldsSite}
 use Rattle.site_runner.specs.Tied.{IsPlace}
-use Rattle.site_runner.specs.Here.{IsCutHere}
+use Rattle.site_runner.specs.Executes.{IsCutHere}
 use Rattle.site_runner.specs.Looking.{fits, LeavesOld, Sees, LooksHere}
 use Rattle.site_runner.proofs.Ats.{not_true, told_is, some_both, some_of, stands_told, at_moment, Leftovers, place_of_images}
 
@@ -104,7 +105,7 @@ saw view old disk found k free is same alike p h =
     let now : p.told ≡ true → fits found p.now ≡ true = λ known. let b = some_both v.content _ _ (stands_told v p h.disk known) is in found_fits found p.now (b.2 p.now b.1) in (
       q,
       record {
-        kept = record { site = refl; now = refl; left = refl; outcomes = λ o a. (among_kept (fits found) p.outcomes o a).0; faults = omega (arith, k.later, h.disk.faults); same = record { told = refl; simulated = refl } };
+        kept = record { site = refl; now = refl; left = refl; known = record { told = refl; outcomes = λ o a. (among_kept (fits found) p.outcomes o a).0 }; faults = omega (arith, k.later, h.disk.faults); simulated = refl };
         now = now;
         outcomes = λ known o a. (among_kept (fits found) p.outcomes o a).1;
       },
@@ -154,16 +155,14 @@ saw_nothing : {D : Type 0} (leftovers : Leftovers) (view : D → View) (old : Sl
 saw_nothing leftovers view old disk (Failed fault) k free u p h =
     let w = view disk in
     let m = looked_before leftovers view old disk p k free h in
-    let q : Place = record { site = p.site; told = p.told; now = m.0; left = m.1; outcomes = p.outcomes; faults = w.faults; simulated = p.simulated } in
-    let none = site_none view old p free h in (
+    let q : Place = record { site = p.site; told = p.told; now = m.0; left = m.1; outcomes = p.outcomes; faults = w.faults; simulated = p.simulated } in (
       q,
       record {
-        free = none;
-        site = none;
-        now = m.2;
-        left = m.3;
-        outcomes = λ known o a. a;
-        faults = record { count = sym u.0; rose = subst (λ (x : ℕ). Rose p.faults x) (sym u.0) (subst (λ (x : ℕ). Rose x w.faults) h.disk.faults u.1); same = record { told = refl; simulated = refl } };
+        site = site_none view old p free h;
+        known = record { told = refl; now = λ known. (m.0, m.2 known, refl); left = m.3; outcomes = λ known o a. (o, a, refl) };
+        count = sym u.0;
+        rose = subst (λ (x : ℕ). Rose p.faults x) (sym u.0) (subst (λ (x : ℕ). Rose x w.faults) h.disk.faults u.1);
+        simulated = refl;
       },
       m.4,
     )
@@ -173,7 +172,7 @@ saw_nothing leftovers view old disk (NotAFile file offset) k free u p h =
     let unknown : p.told ≡ false = not_true p.told (λ known. let b = some_both v.content _ _ (stands_told v p h.disk known) u in b.2 p.now b.1) in
     let q : Place = record { site = p.site; told = p.told; now = p.now; left = p.left; outcomes = p.outcomes; faults = w.faults; simulated = p.simulated } in (
       q,
-      record { unknown = unknown; kept = record { site = refl; now = refl; left = refl; outcomes = λ o a. a; faults = omega (arith, k.later, h.disk.faults); same = record { told = refl; simulated = refl } } },
+      record { unknown = unknown; kept = record { site = refl; now = refl; left = refl; known = record { told = refl; outcomes = λ o a. a }; faults = omega (arith, k.later, h.disk.faults); simulated = refl } },
       record {
         disk = record {
           told = λ known. absurd (false≢true (sym unknown ∙ known));
@@ -194,19 +193,19 @@ saw_nothing leftovers view old disk NoMemory k free u p h = left_so leftovers vi
 
 -- what a look leaves is old, whatever it saw
 sees_old : (r : Result (Option Layout) SiteError) (p q : Place) → Sees r p q → LeavesOld p q
-sees_old (Ok found) p q s = record { told = s.kept.same.told; outcomes = λ known. s.kept.outcomes }
-sees_old (Err (Failed fault)) p q s = record { told = s.faults.same.told; outcomes = s.outcomes }
+sees_old (Ok found) p q s = record { told = s.kept.known.told; outcomes = λ known. s.kept.known.outcomes }
+sees_old (Err (Failed fault)) p q s = record { told = s.known.told; outcomes = λ known o a. let x = s.known.outcomes known o a in subst (Among p.outcomes) (sym x.2) x.1 }
 sees_old (Err (Stopped fault)) p q s = s
 sees_old (Err (Full nodes)) p q s = s
 sees_old (Err SeqLimit) p q s = s
 sees_old (Err GenLimit) p q s = s
 sees_old (Err ReignLimit) p q s = s
-sees_old (Err (NotAFile file offset)) p q s = record { told = s.kept.same.told; outcomes = λ known. s.kept.outcomes }
+sees_old (Err (NotAFile file offset)) p q s = record { told = s.kept.known.told; outcomes = λ known. s.kept.known.outcomes }
 sees_old (Err NoMemory) p q s = s
 
 -- a command that was cut off behind a look
-pub looked_cut : {D : Type 0} (view : D → View) (old new : Slot D) (c : Command) (r : Result (Option Layout) SiteError) → LooksHere view old new r → IsCutHere view c old new
-looked_cut view old new c r look p h =
+pub looked_cut : {D : Type 0} (view : D → View) (old new : Slot D) (row : Place → Row) (r : Result (Option Layout) SiteError) → LooksHere view old new r → IsCutHere view row old new
+looked_cut view old new row r look p h =
     let q = look p h in
     let left = sees_old r p q.0 q.1 in
     (q.0, record { told = left.told; outcomes = λ known o a. inl (left.outcomes known o a) }, q.2.disk)

@@ -1,23 +1,23 @@
 -- MAP at a place.
 use Rattle.std.proofs.Common.{◌≡◌, ℕ, ◌≤◌, true, false, List, [], ◌∷◌, ◌++◌, None, Some, refl, sym, ◌∙◌, ap, subst, arith, inl, inr}
-use Rattle.std.specs.Prelude.{◌⊎◌, Option, codes, IfSome, IsSome, IsSomeAnd}
+use Rattle.std.specs.Prelude.{Option, codes, IfSome, IsSome, IsSomeAnd}
 use Rattle.std.specs.Fmt.{decimal}
 use Rattle.std.proofs.lemmas.Bool.{false≢true}
 use Rattle.disk_defs.specs.Disk.{Files, View, Image, IsLawful, AtEachMoment, Rose}
 use Rattle.journal_defs.specs.Instance.{InstanceRecord, generation, regions}
 use Rattle.site_store.specs.Opening.{StandsAsBefore, MayHavePattern, EachStands}
-use Rattle.command_defs.specs.Commands.{Name, Command, Map}
+use Rattle.command_defs.specs.Commands.{Name}
 use Rattle.site_defs.specs.Lists.{Among, first_where}
 use Rattle.world_defs.specs.World as world
 use Rattle.world_defs.specs.World.{Place}
 use Rattle.site_defs.specs.Contents.{Contents, NO_LEFTOVER, same_name}
-use Rattle.world_defs.specs.Answers.{Cause, Stopped, Running, Answer, Refused, Done, DiskFault, NotAFile}
-use Rattle.world_defs.specs.Refusals.{first, in_state, stopped, running, unmapped}
+use Rattle.world_defs.specs.Answers.{Cause, Stopped, Running, Refusal, line, cause_text}
+use Rattle.world_defs.specs.Row.{refused_with, in_state, why_not_down}
 use Rattle.site_defs.specs.Limits.{region_number}
-use Rattle.world_defs.specs.Rows.{in_new_state, MayMapAny}
-use Rattle.site_defs.specs.Opening.{with_pattern}
-use Rattle.world_defs.specs.Step.{LeftAt, IsUnmapped}
-use Rattle.world_defs.specs.Output.{line, cause_text}
+use Rattle.world_defs.specs.Changes.{in_new_state, After}
+use Rattle.site_defs.specs.Opening.{MayMap, with_pattern}
+use Rattle.world_defs.specs.Step.{LeftBy}
+use Rattle.world_defs.specs.rows.Map.{IsUnmapped, unmapped, map_pattern}
 use Rattle.world_defs.specs.Ties.{Matches}
 use Rattle.site_defs.specs.Stands.{IsSite, Stands, Reads}
 use Rattle.repl_section.specs.declared.reign.Reign.{Reign}
@@ -25,40 +25,26 @@ use Rattle.site_runner.specs.declared.slot.State.{State}
 use Rattle.site_runner.specs.declared.slot.State.TheVariants.{Down, Primary, Failed}
 use Rattle.site_runner.specs.declared.slot.Site.{Site}
 use Rattle.site_runner.specs.Sites.{state_value, site_value, HoldsState, IsOf, IsMade}
-use Rattle.site_runner.specs.Here.{tests, cause_here, RefusedHere, MayRefuseHere, Here, text_here}
+use Rattle.site_runner.specs.Executes.{Comes}
 use Rattle.site_runner.specs.Steps.{IsAt, ExecutesAt, IsCutAt}
 use Rattle.site_runner.specs.Mapping.{IsSeenAt, IsUnmappedIn, MapsAt, IsCutSeen}
-use Rattle.site_runner.proofs.Ats.{refuses, kept_same, state_at, first_cause, second_cause, no_cause, not_true, is_true_or_false, some_both, some_of, some_and, told_is, reads_stand, reads_site, at_moment, Leftovers, ReadPlace, place_of_images, only}
+use Rattle.site_runner.proofs.Ats.{comes_done, comes_refused, comes_may_refuse, comes_fault, comes_damaged, refused_late, none_refused, refuses, kept_same, not_true, is_true_or_false, some_both, some_of, some_and, told_is, reads_stand, reads_site, at_moment, Leftovers, ReadPlace, place_of_images, only}
 use Rattle.site_runner.proofs.Seen.{counted, kept_counted}
+use Rattle.site_runner.proofs.Started.{why_at}
 use Rattle.site_runner.proofs.Patterns.{maps, among_maps, maps_among, of_pattern, of_may_map, generation_map, unmapped_unknown, not_refused}
 
-pub map_failed_before : (v : View) (s : Site) (region : Name) (text : List ℕ) (k : ℕ) (before now : List ℕ) → s.state ≡ Failed k → now ≡ before ++ line s.name (codes "STOPPED " ++ decimal k) → ExecutesAt (Map s.name region text) v s v s before now
+pub map_failed_before : (v : View) (s : Site) (region : Name) (text : List ℕ) (k : ℕ) (before now : List ℕ) → s.state ≡ Failed k → now ≡ before ++ line s.name (codes "STOPPED " ++ decimal k) → ExecutesAt (map_pattern region text s.name) v s v s before now
 map_failed_before v s region text k before now e t =
-    refuses (Map s.name region text) v s (Stopped k) before now refl (λ p h. first_cause _ _ (Stopped k) (state_at stopped v s p h ∙ ap (λ (x : State). stopped (state_value x)) e)) kept_same t
+    refuses (map_pattern region text s.name) v s (Stopped k) before now (λ p h. ap (refused_with s.name) (why_at s (Failed k) p e h.site)) kept_same t
 
-pub map_running : (v : View) (s : Site) (region : Name) (text : List ℕ) (r : Reign) (before now : List ℕ) → s.state ≡ Primary r → now ≡ before ++ line s.name (codes "RUNNING") → ExecutesAt (Map s.name region text) v s v s before now
+pub map_running : (v : View) (s : Site) (region : Name) (text : List ℕ) (r : Reign) (before now : List ℕ) → s.state ≡ Primary r → now ≡ before ++ line s.name (codes "RUNNING") → ExecutesAt (map_pattern region text s.name) v s v s before now
 map_running v s region text r before now e t =
-    refuses (Map s.name region text) v s Running before now refl
-    (λ p h. second_cause _ _ (unmapped region text (Some p) ∷ []) Running (state_at stopped v s p h ∙ ap (λ (x : State). stopped (state_value x)) e) (state_at running v s p h ∙ ap (λ (x : State). running (state_value x)) e)) kept_same t
+    refuses (map_pattern region text s.name) v s Running before now (λ p h. ap (refused_with s.name) (why_at s (Primary r) p e h.site)) kept_same t
 
 -- the tests of a site that is down
 
-early_down : (s : Site) (p : Place) (region : Name) (text : List ℕ) → s.state ≡ Down → p.site ≡ Some (site_value s) → first (tests (Map s.name region text) p) ≡ None
-early_down s p region text e h =
-    no_cause _ _ (ap (in_state stopped) h ∙ ap (λ (x : State). stopped (state_value x)) e) (ap (in_state running) h ∙ ap (λ (x : State). running (state_value x)) e)
-
-third : (a b c : Option Cause) → first (a ∷ b ∷ []) ≡ None → first (a ∷ b ∷ c ∷ []) ≡ first (c ∷ [])
-third (Some a) b c e = cc
-third None (Some b) c e = cc
-third None None c e = refl
-
-first_one : (c : Option Cause) → first (c ∷ []) ≡ c
-first_one None = refl
-first_one (Some c) = refl
-
-cause_down : (s : Site) (p : Place) (region : Name) (text : List ℕ) → s.state ≡ Down → p.site ≡ Some (site_value s) → cause_here (Map s.name region text) p ≡ unmapped region text (Some p)
-cause_down s p region text e h =
-    third (in_state stopped p.site) (in_state running p.site) (unmapped region text (Some p)) (early_down s p region text e h) ∙ first_one (unmapped region text (Some p))
+early_down : (s : Site) (p : Place) → s.state ≡ Down → p.site ≡ Some (site_value s) → refused_with s.name (in_state why_not_down p.site) ≡ None
+early_down s p e h = ap (refused_with s.name) (why_at s Down p e h)
 
 -- What a look at the site's disk finds.
 
@@ -115,42 +101,28 @@ seen_counted w s p h = record {
 
 -- what MAP answers from a place
 abbrev pub Answers : Name → List ℕ → View → Site → Place → Site → List ℕ → List ℕ → Type 0
-Answers region text w s p new before now = (a : Answer) × (q : Place) × Here (Map s.name region text) p a q × IsAt w new q × (now ≡ before ++ text_here (Map s.name region text) p a q)
+Answers region text w s p new before now = Comes (map_pattern region text s.name p) (IsAt w new) before now
 
 -- a refusal
 pub map_refused : (region : Name) (text : List ℕ) (w : View) (s : Site) (cause : Cause) (before now : List ℕ) → IsUnmapped region cause → now ≡ before ++ line s.name (cause_text cause)
-    → (p : Place) → IsSeenAt w s p → (p.told ≡ true → unmapped region text (Some p) ≡ Some cause) → Answers region text w s p s before now
-map_refused region text w s cause before now un t p h why = (
-  Refused (record { site = s.name; cause = cause }),
-  counted p w.faults,
-  (refl, here),
-  seen_counted w s p h,
-  t,
-)
+    → (p : Place) → IsSeenAt w s p → (p.told ≡ true → unmapped region text p ≡ Some cause) → Answers region text w s p s before now
+map_refused region text w s cause before now un t p h why = elim (is_true_or_false p.told) [
+  | inl sure ↦ comes_refused no (counted p w.faults) (refused_late s.name (in_state why_not_down p.site) (unmapped region text p) cause (why_at s Down p h.down h.site) (why sure)) (kept_counted p w.faults h.faults) (seen_counted w s p h) t
+  | inr unsure ↦ comes_may_refuse no (counted p w.faults) (early_down s p h.down h.site) (refl, un, record { unknown = unsure; kept = kept_counted p w.faults h.faults }) (seen_counted w s p h) t
+]
   where
-    c : Command
-    c = Map s.name region text
-
-    here : ((cause_here c p ≡ Some cause) × RefusedHere c cause p (counted p w.faults)) ⊎ ((first (tests c p) ≡ None) × MayRefuseHere c cause p (counted p w.faults))
-    here = elim (is_true_or_false p.told) [
-      | inl sure ↦ inl (cause_down s p region text h.down h.site ∙ why sure, kept_counted p w.faults h.faults)
-      | inr unsure ↦ inr (early_down s p region text h.down h.site, (un, record { unknown = unsure; kept = kept_counted p w.faults h.faults }))
-    ]
+    no : Refusal
+    no = record { site = s.name; cause = cause }
 
 -- bytes outside the formats, which no known files have
 damaged : (region : Name) (text : List ℕ) (w : View) (s : Site) (file offset : ℕ) (before now : List ℕ) → now ≡ before ++ line s.name (codes "NOTAFILE " ++ decimal file ++ 32 ∷ decimal offset)
     → (p : Place) → p.told ≡ false → IsSeenAt w s p → Answers region text w s p s before now
-damaged region text w s file offset before now t p unsure h = (
-  NotAFile file offset,
-  counted p w.faults,
-  (early_down s p region text h.down h.site, record { unknown = unsure; kept = kept_counted p w.faults h.faults }),
-  seen_counted w s p h,
-  t,
-)
+damaged region text w s file offset before now t p unsure h =
+    comes_damaged file offset (counted p w.faults) (early_down s p h.down h.site) (record { unknown = unsure; kept = kept_counted p w.faults h.faults }) (seen_counted w s p h) t
 
 -- the look found bytes that stand for nothing, or no site
 pub look_damaged : (region : Name) (text : List ℕ) (v w : View) (s : Site) (file offset : ℕ) (before now : List ℕ) → Looked v w → s.state ≡ Down → now ≡ before ++ line s.name (codes "NOTAFILE " ++ decimal file ++ 32 ∷ decimal offset)
-    → IfSome v.content (λ files. (c : Contents) → IsSite files c → ⊥) → ExecutesAt (Map s.name region text) v s w s before now
+    → IfSome v.content (λ files. (c : Contents) → IsSite files c → ⊥) → ExecutesAt (map_pattern region text s.name) v s w s before now
 look_damaged region text v w s file offset before now k down t outside p h =
     let unsure : p.told ≡ false = not_true p.told (λ sure.
     let here = some_both v.content _ _ (h.disk.told sure) outside in
@@ -170,14 +142,14 @@ seen_other region text w s file offset before now t other p h =
 -- the pattern may have been mapped
 pub record MayHaveMapped (region : Name) (text : List ℕ) (w : View) (p : Place) : Type 0 where
   pub still_told : p.told ≡ true → IsSome w.content
-  pub images : p.told ≡ true → (f : Files) → Image w f → (o : Contents) × MayMapAny region text p o × Stands f o
+  pub images : p.told ≡ true → (f : Files) → Image w f → (o : Contents) × After (MayMap region text) p.outcomes o × Stands f o
   pub simulated : w.simulated ≡ p.simulated
 
 mapped_place : (leftovers : Leftovers) (region : Name) (text : List ℕ) (w : View) (p : Place) (site : Option world.Site) → IsLawful w → MayHaveMapped region text w p → ReadPlace w p site (maps region text p.outcomes)
 mapped_place leftovers region text w p site law b =
     place_of_images leftovers w p site (maps region text p.outcomes) law b.simulated b.still_told (λ sure f i. let k = b.images sure f i in (k.0, maps_among region text p.outcomes k.1.0 k.0 k.1.1 k.1.2, k.2))
 
-pub map_cut : (leftovers : Leftovers) (region : Name) (text : List ℕ) (w : View) (s : Site) (p : Place) → IsLawful w → MayHaveMapped region text w p → (q : Place) × LeftAt true (Map s.name region text) p q × Matches w q
+pub map_cut : (leftovers : Leftovers) (region : Name) (text : List ℕ) (w : View) (s : Site) (p : Place) → IsLawful w → MayHaveMapped region text w p → (q : Place) × LeftBy (map_pattern region text s.name p).left p q × Matches w q
 map_cut leftovers region text w s p law b =
     let m = mapped_place leftovers region text w p p.site law b in
     (record { site = p.site; told = p.told; now = m.now; left = m.left; outcomes = maps region text p.outcomes; faults = w.faults; simulated = p.simulated }, record { told = refl; outcomes = λ sure o a. inr (among_maps region text p.outcomes o a) }, m.matches)
@@ -187,26 +159,24 @@ pub map_fault : (leftovers : Leftovers) (region : Name) (text : List ℕ) (w : V
 map_fault leftovers region text w s p k before now law down site made b count rose t =
     let state = in_new_state (world.Failed k) p.site in
     let m = mapped_place leftovers region text w p state law b in
-    let of = λ (sure : p.told ≡ true) (o : Contents) (a : Among (maps region text p.outcomes) o). (let x = among_maps region text p.outcomes o a in of_may_map s.name region text x.0 o ((made sure).outcomes x.0 x.1) x.2) in (
-      DiskFault k,
-      record { site = state; told = p.told; now = m.now; left = m.left; outcomes = maps region text p.outcomes; faults = w.faults; simulated = p.simulated },
-      (
-        early_down s p region text down site,
-        record {
-          site = refl;
-          now = λ sure. among_maps region text p.outcomes m.now (m.among sure);
-          left = m.behind;
-          outcomes = λ sure o a. among_maps region text p.outcomes o a;
-          faults = record { count = sym count; rose = subst (λ (x : ℕ). Rose p.faults x) (sym count) rose; same = record { told = refl; simulated = refl } };
-        },
-      ),
-      record {
-        disk = m.matches;
-        site = ap (in_new_state (world.Failed k)) site;
-        held = record { made = λ sure. record { now = of sure m.now (m.among sure); outcomes = of sure }; state = tt };
-      },
-      t,
-    )
+    let of = λ (sure : p.told ≡ true) (o : Contents) (a : Among (maps region text p.outcomes) o). (let x = among_maps region text p.outcomes o a in of_may_map s.name region text x.0 o ((made sure).outcomes x.0 x.1) x.2) in
+    comes_fault
+    k
+    (record { site = state; told = p.told; now = m.now; left = m.left; outcomes = maps region text p.outcomes; faults = w.faults; simulated = p.simulated })
+    (early_down s p down site)
+    (record {
+      site = refl;
+      known = record { told = refl; now = λ sure. among_maps region text p.outcomes m.now (m.among sure); left = m.behind; outcomes = λ sure o a. among_maps region text p.outcomes o a };
+      count = sym count;
+      rose = subst (λ (x : ℕ). Rose p.faults x) (sym count) rose;
+      simulated = refl;
+    })
+    (record {
+      disk = m.matches;
+      site = ap (in_new_state (world.Failed k)) site;
+      held = record { made = λ sure. record { now = of sure m.now (m.among sure); outcomes = of sure }; state = tt };
+    })
+    t
 
 -- the look alone maps nothing
 look_mapped : (region : Name) (text : List ℕ) (v w : View) (s : Site) (p : Place) → Looked v w → IsAt v s p → MayHaveMapped region text w p
@@ -217,11 +187,11 @@ look_mapped region text v w s p k h = record {
 }
 
 pub look_faulted : (leftovers : Leftovers) (region : Name) (text : List ℕ) (v w : View) (s : Site) (k : ℕ) (before now : List ℕ) → Looked v w → s.state ≡ Down → k ≡ w.faults → Rose v.faults w.faults
-    → now ≡ before ++ line s.name (codes "DISKFAULT " ++ decimal k) → ExecutesAt (Map s.name region text) v s w (record { name = s.name; state = Failed k }) before now
+    → now ≡ before ++ line s.name (codes "DISKFAULT " ++ decimal k) → ExecutesAt (map_pattern region text s.name) v s w (record { name = s.name; state = Failed k }) before now
 look_faulted leftovers region text v w s k before now l down count rose t p h =
     map_fault leftovers region text w s p k before now l.lawful down h.site h.held.made (look_mapped region text v w s p l h) count (subst (λ (x : ℕ). Rose x w.faults) h.disk.faults rose) t
 
-pub look_cut : (leftovers : Leftovers) (region : Name) (text : List ℕ) (v w : View) (s : Site) → Looked v w → IsCutAt (Map s.name region text) v s w
+pub look_cut : (leftovers : Leftovers) (region : Name) (text : List ℕ) (v w : View) (s : Site) → Looked v w → IsCutAt (map_pattern region text s.name) v s w
 look_cut leftovers region text v w s l p h = map_cut leftovers region text w s p l.lawful (look_mapped region text v w s p l h)
 
 pub seen_cut : (leftovers : Leftovers) (region : Name) (text : List ℕ) (w : View) (s : Site) → IsLawful w → IsCutSeen region text w s w
@@ -233,10 +203,10 @@ seen_cut leftovers region text w s law p h = map_cut leftovers region text w s p
 
 -- Behind a look.
 
-pub maps_so : (region : Name) (text : List ℕ) (v w u : View) (s new : Site) (before now : List ℕ) → Looked v w → s.state ≡ Down → AreAlike v w → MapsAt region text w s u new before now → ExecutesAt (Map s.name region text) v s u new before now
+pub maps_so : (region : Name) (text : List ℕ) (v w u : View) (s new : Site) (before now : List ℕ) → Looked v w → s.state ≡ Down → AreAlike v w → MapsAt region text w s u new before now → ExecutesAt (map_pattern region text s.name) v s u new before now
 maps_so region text v w u s new before now k down alike m p h = m p (seen_at v w s p k down alike h)
 
-pub cut_so : (region : Name) (text : List ℕ) (v w u : View) (s : Site) → Looked v w → s.state ≡ Down → AreAlike v w → IsCutSeen region text w s u → IsCutAt (Map s.name region text) v s u
+pub cut_so : (region : Name) (text : List ℕ) (v w u : View) (s : Site) → Looked v w → s.state ≡ Down → AreAlike v w → IsCutSeen region text w s u → IsCutAt (map_pattern region text s.name) v s u
 cut_so region text v w u s k down alike m p h = m p (seen_at v w s p k down alike h)
 
 -- Writing the pattern.
@@ -292,32 +262,29 @@ there_damaged region number text v w s file offset before now m outside t p h =
 -- The pattern was mapped.
 
 done_at : (region : Name) (number : ℕ) (text : List ℕ) (w : View) (s : Site) (before now : List ℕ) (p : Place) (read : Contents) → s.state ≡ Down → p.site ≡ Some (site_value s) → (p.told ≡ true → read ≡ p.now) → region_number region read ≡ Some number
-    → unmapped region text (Some p) ≡ None → (p.told ≡ true → IsSomeAnd w.content (λ files. Reads files (with_pattern number text read) NO_LEFTOVER))
+    → unmapped region text p ≡ None → (p.told ≡ true → IsSomeAnd w.content (λ files. Reads files (with_pattern number text read) NO_LEFTOVER))
     → (p.told ≡ true → (f : Files) → Image w f → Stands f (with_pattern number text read)) → (p.told ≡ true → IsOf s.name read) → p.faults ≤ w.faults → w.simulated ≡ p.simulated
     → now ≡ before ++ line s.name (codes "MAPPED") → Answers region text w s p s before now
 done_at region number text w s before now p read down site as_before named free reads images of later same t =
     let d : Contents = with_pattern number text read in
     let q : Place = record { site = in_new_state world.Down p.site; told = p.told; now = d; left = NO_LEFTOVER; outcomes = d ∷ []; faults = w.faults; simulated = p.simulated } in
-    let of_d : p.told ≡ true → IsOf s.name d = λ sure. of_pattern s.name number text read (of sure) in (
-      Done,
-      q,
-      (
-        cause_down s p region text down site ∙ free,
-        record {
-          read = read;
-          as_before = as_before;
-          number = number;
-          named = named;
-          becomes = record { site = refl; now = refl; left = refl; outcomes = refl; faults = later; same = record { told = refl; simulated = refl } };
-        },
-      ),
-      record {
-        disk = record { told = reads; images = λ sure f i. (d, inl refl, images sure f i); faults = refl; simulated = same };
-        site = ap (in_new_state world.Down) site ∙ ap (λ (x : world.State). Some (record { name = s.name; state = x })) (ap state_value (sym down));
-        held = record { made = λ sure. record { now = of_d sure; outcomes = λ o a. subst (IsOf s.name) (sym (only o d a)) (of_d sure) }; state = subst (λ (x : State). HoldsState w x q) (sym down) tt };
-      },
-      t,
-    )
+    let of_d : p.told ≡ true → IsOf s.name d = λ sure. of_pattern s.name number text read (of sure) in
+    comes_done
+    q
+    (none_refused s.name (in_state why_not_down p.site) (unmapped region text p) (why_at s Down p down site) free)
+    (record {
+      read = read;
+      as_before = as_before;
+      number = number;
+      named = named;
+      becomes = record { site = refl; known = record { told = refl; now = refl; left = refl; outcomes = refl }; faults = later; simulated = refl };
+    })
+    (record {
+      disk = record { told = reads; images = λ sure f i. (d, inl refl, images sure f i); faults = refl; simulated = same };
+      site = ap (in_new_state world.Down) site ∙ ap (λ (x : world.State). Some (record { name = s.name; state = x })) (ap state_value (sym down));
+      held = record { made = λ sure. record { now = of_d sure; outcomes = λ o a. subst (IsOf s.name) (sym (only o d a)) (of_d sure) }; state = subst (λ (x : State). HoldsState w x q) (sym down) tt };
+    })
+    t
 
 some_and_of : (o : Option Files) (P : Files → Type 0) → IsSome o → IfSome o P → IsSomeAnd o P
 some_and_of None P h k = cc

@@ -8,7 +8,8 @@ use Rattle.site_defs.specs.Lists.{Among}
 use Rattle.world_defs.specs.World.{Place}
 use Rattle.site_defs.specs.Contents.{Contents}
 use Rattle.world_defs.specs.Answers.{Cause, Started, NoRegion, TwiceMapped}
-use Rattle.world_defs.specs.Refusals.{first, started, no_region_at, twice_mapped, unmapped}
+use Rattle.world_defs.specs.Row.{first}
+use Rattle.world_defs.specs.rows.Map.{started, no_region_at, twice_mapped, unmapped}
 use Rattle.site_defs.specs.Limits.{region_number}
 use Rattle.site_defs.specs.Opening.{with_pattern, MayMap}
 use Rattle.world_laws.proofs.ContentsFit.{name-pattern}
@@ -68,14 +69,14 @@ generation_map (Mode other before ∷ rs) region star name = generation_map rs r
 -- The causes of a refusal, where the site's files are known.
 
 unmapped_told : (region : Name) (text : List ℕ) (p : Place) (x y z : Option Cause) → p.told ≡ true → started p.now ≡ x → no_region_at region (region_number region p.now) ≡ y → twice_mapped text p.now ≡ z
-    → unmapped region text (Some p) ≡ first (x ∷ y ∷ z ∷ [])
+    → unmapped region text p ≡ first (x ∷ y ∷ z ∷ [])
 unmapped_told region text p x y z sure ex ey ez =
     ap (λ (b : Bool). if b then first (started p.now ∷ no_region_at region (region_number region p.now) ∷ twice_mapped text p.now ∷ []) else None) sure
     ∙ ap (λ (a : Option Cause). first (a ∷ no_region_at region (region_number region p.now) ∷ twice_mapped text p.now ∷ [])) ex
     ∙ ap (λ (a : Option Cause). first (x ∷ a ∷ twice_mapped text p.now ∷ [])) ey
     ∙ ap (λ (a : Option Cause). first (x ∷ y ∷ a ∷ [])) ez
 
-pub unmapped_unknown : (region : Name) (text : List ℕ) (p : Place) → p.told ≡ false → unmapped region text (Some p) ≡ None
+pub unmapped_unknown : (region : Name) (text : List ℕ) (p : Place) → p.told ≡ false → unmapped region text p ≡ None
 unmapped_unknown region text p unsure = ap (λ (b : Bool). if b then first (started p.now ∷ no_region_at region (region_number region p.now) ∷ twice_mapped text p.now ∷ []) else None) unsure
 
 -- its journals have begun
@@ -85,16 +86,16 @@ is_started c h = let e : nat_lt 0 (generation c.instance) ≡ true = le-leb 1 (g
 not_started : (c : Contents) → generation c.instance ≡ 0 → started c ≡ None
 not_started c h = rw h refl
 
-pub refused_started : (region : Name) (text : List ℕ) (p : Place) → p.told ≡ true → 0 < generation p.now.instance → unmapped region text (Some p) ≡ Some Started
+pub refused_started : (region : Name) (text : List ℕ) (p : Place) → p.told ≡ true → 0 < generation p.now.instance → unmapped region text p ≡ Some Started
 refused_started region text p sure h = unmapped_told region text p (Some Started) _ _ sure (is_started p.now h) refl refl
 
-pub refused_no_region : (region : Name) (text : List ℕ) (p : Place) → p.told ≡ true → generation p.now.instance ≡ 0 → region_number region p.now ≡ None → unmapped region text (Some p) ≡ Some (NoRegion region)
+pub refused_no_region : (region : Name) (text : List ℕ) (p : Place) → p.told ≡ true → generation p.now.instance ≡ 0 → region_number region p.now ≡ None → unmapped region text p ≡ Some (NoRegion region)
 refused_no_region region text p sure h e = unmapped_told region text p None (Some (NoRegion region)) _ sure (not_started p.now h) (ap (no_region_at region) e) refl
 
 pub refused_twice : (region : Name) (text : List ℕ) (p : Place) (number : ℕ) → p.told ≡ true → generation p.now.instance ≡ 0 → region_number region p.now ≡ Some number → twice_mapped text p.now ≡ Some TwiceMapped
-    → unmapped region text (Some p) ≡ Some TwiceMapped
+    → unmapped region text p ≡ Some TwiceMapped
 refused_twice region text p number sure h e twice = unmapped_told region text p None None (Some TwiceMapped) sure (not_started p.now h) (ap (no_region_at region) e) twice
 
 pub not_refused : (region : Name) (text : List ℕ) (p : Place) (number : ℕ) → p.told ≡ true → generation p.now.instance ≡ 0 → region_number region p.now ≡ Some number → twice_mapped text p.now ≡ None
-    → unmapped region text (Some p) ≡ None
+    → unmapped region text p ≡ None
 not_refused region text p number sure h e once = unmapped_told region text p None None None sure (not_started p.now h) (ap (no_region_at region) e) once

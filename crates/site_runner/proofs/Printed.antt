@@ -1,32 +1,30 @@
 -- TYPE at a place.
-use Rattle.std.proofs.Common.{◌≡◌, ◌≢◌, ℕ, ◌-◌, ◌≤◌, ◌==◌, ◌&&◌, Bool, true, false, List, [], ◌∷◌, ◌++◌, length, get_or, None, Some, refl, sym, ◌∙◌, ap, subst, arith, inl, inr, if◌then◌else◌}
+use Rattle.std.proofs.Common.{◌≡◌, ◌≢◌, ℕ, ◌-◌, ◌≤◌, ◌==◌, Bool, true, false, List, [], ◌∷◌, ◌++◌, length, get_or, None, Some, refl, sym, ◌∙◌, ap, subst, arith, inl, inr, if◌then◌else◌}
 use Rattle.std.specs.Prelude.{◌⊎◌, Option, codes, IfSome, IsSomeAnd}
 use Rattle.std.specs.Fmt.{decimal}
 use Rattle.std.proofs.lemmas.Bool.{ne_eqb, eqb-true}
 use Rattle.disk_defs.specs.Disk as disk
 use Rattle.disk_defs.specs.Disk.{Files, View, Image, Rose}
 use Rattle.journal_defs.specs.Numbers.{broken_file}
-use Rattle.command_defs.specs.Commands.{Command, Print}
 use Rattle.world_defs.specs.World as world
-use Rattle.world_defs.specs.World.{Place, typed}
+use Rattle.world_defs.specs.World.{Place}
 use Rattle.site_defs.specs.Contents.{Contents, Leftover}
-use Rattle.world_defs.specs.Answers.{Cause, Stopped, NoFile, Refused, DiskFault, Typed}
-use Rattle.world_defs.specs.Refusals.{first, in_state, stopped, no_file}
-use Rattle.world_defs.specs.Rows.{in_new_state}
-use Rattle.world_defs.specs.Output.{line}
+use Rattle.world_defs.specs.Answers.{Stopped, NoFile, Refusal, line}
+use Rattle.world_defs.specs.Row.{refused_with, in_state, stopped}
+use Rattle.world_defs.specs.Changes.{in_new_state}
+use Rattle.world_defs.specs.rows.Print.{typed, no_file, print}
 use Rattle.site_defs.specs.Stands.{IsSite, HasLeft, Reads}
 use Rattle.site_runner.specs.declared.slot.State.{State}
 use Rattle.site_runner.specs.declared.slot.State.TheVariants.{Down, Primary, Failed}
 use Rattle.site_runner.specs.declared.slot.Site.{Site}
 use Rattle.site_runner.specs.Sites.{fault_of, HoldsState}
-use Rattle.site_runner.specs.Here.{tests, cause_here, RefusedHere, MayRefuseHere}
 use Rattle.site_runner.specs.Steps.{IsAt, ExecutesAt, IsCutAt}
 use Rattle.site_runner.proofs.Fused.{state_read}
-use Rattle.site_runner.proofs.Ats.{refuses, kept_same, state_at, is_stopped, not_stopped, first_cause, is_true_or_false, some_both, reads_site}
+use Rattle.site_runner.proofs.Ats.{comes_refused, comes_may_refuse, comes_fault, comes_typed, refused_late, none_refused, refuses, kept_same, state_at, is_stopped, not_stopped, is_true_or_false, some_both, reads_site}
 use Rattle.site_runner.proofs.Seen.{counted, kept_counted}
 
-pub print_stopped : (g : ℕ) (v : View) (s : Site) (k : ℕ) (before now : List ℕ) → fault_of s.state ≡ Some k → now ≡ before ++ line s.name (codes "STOPPED " ++ decimal k) → ExecutesAt (Print s.name g) v s v s before now
-print_stopped g v s k before now e t = refuses (Print s.name g) v s (Stopped k) before now refl (λ p h. first_cause _ _ (Stopped k) (state_at stopped v s p h ∙ is_stopped s.state k e)) kept_same t
+pub print_stopped : (g : ℕ) (v : View) (s : Site) (k : ℕ) (before now : List ℕ) → fault_of s.state ≡ Some k → now ≡ before ++ line s.name (codes "STOPPED " ++ decimal k) → ExecutesAt (print g s.name) v s v s before now
+print_stopped g v s k before now e t = refuses (print g s.name) v s (Stopped k) before now (λ p h. ap (refused_with s.name) (state_at stopped v s p h ∙ is_stopped s.state k e)) kept_same t
 
 -- A site over a disk that was only read.
 
@@ -49,16 +47,8 @@ read_at v w s p r h = record {
 
 -- The tests of a site that isn't stopped.
 
-first_two : (a b : Option Cause) → a ≡ None → first (a ∷ b ∷ []) ≡ b
-first_two None None e = refl
-first_two None (Some c) e = refl
-first_two (Some c) b e = cc
-
-early_up : (g : ℕ) (v : View) (s : Site) (p : Place) → IsAt v s p → fault_of s.state ≡ None → first (tests (Print s.name g) p) ≡ None
-early_up g v s p h up = ap (λ (a : Option Cause). first (a ∷ [])) (state_at stopped v s p h ∙ not_stopped s.state up)
-
-cause_up : (g : ℕ) (v : View) (s : Site) (p : Place) → IsAt v s p → fault_of s.state ≡ None → cause_here (Print s.name g) p ≡ no_file g (Some p)
-cause_up g v s p h up = first_two (in_state stopped p.site) (no_file g (Some p)) (state_at stopped v s p h ∙ not_stopped s.state up)
+up_at : (v : View) (s : Site) (p : Place) → IsAt v s p → fault_of s.state ≡ None → in_state stopped p.site ≡ None
+up_at v s p h up = state_at stopped v s p h ∙ not_stopped s.state up
 
 -- What the file has, where the site's files are known.
 
@@ -72,85 +62,72 @@ file_typed typing g v s p old bytes h some most none text sure =
     let site = reads_site here.0 p.now p.left (h.held.made sure).now.made here.1 in
     here.2 ∙ ap (λ (x : List ℕ). x ++ here.0 (broken_file g)) none ∙ typing here.0 p.now p.left g site.0 site.1 some most
 
-no_byte : (g : ℕ) (p : Place) → p.told ≡ true → typed g p ≡ [] → no_file g (Some p) ≡ Some NoFile
+no_byte : (g : ℕ) (p : Place) → p.told ≡ true → typed g p ≡ [] → no_file g p ≡ Some NoFile
 no_byte g p sure e =
-    ap (λ (b : Bool). if b && length (typed g p) == 0 then Some NoFile else None) sure
+    ap (λ (b : Bool). if b then (if length (typed g p) == 0 then Some NoFile else None) else None) sure
     ∙ ap (λ (t : List ℕ). if length t == 0 then Some NoFile else None) e
 
 some_byte : (t : List ℕ) → t ≢ [] → (if length t == 0 then Some NoFile else None) ≡ None
 some_byte [] f = absurd (f refl)
 some_byte (b ∷ t) f = let e : (length (b ∷ t) == 0) ≡ false = ne_eqb (length (b ∷ t)) 0 (λ z. absurd (omega (arith, z))) in rw e refl
 
-has_file : (g : ℕ) (p : Place) → (p.told ≡ true) ⊎ (p.told ≡ false) → (p.told ≡ true → typed g p ≢ []) → no_file g (Some p) ≡ None
+has_file : (g : ℕ) (p : Place) → (p.told ≡ true) ⊎ (p.told ≡ false) → (p.told ≡ true → typed g p ≢ []) → no_file g p ≡ None
 has_file g p (inl sure) f =
-    ap (λ (b : Bool). if b && length (typed g p) == 0 then Some NoFile else None) sure ∙ some_byte (typed g p) (f sure)
-has_file g p (inr unsure) f = ap (λ (b : Bool). if b && length (typed g p) == 0 then Some NoFile else None) unsure
+    ap (λ (b : Bool). if b then (if length (typed g p) == 0 then Some NoFile else None) else None) sure ∙ some_byte (typed g p) (f sure)
+has_file g p (inr unsure) f = ap (λ (b : Bool). if b then (if length (typed g p) == 0 then Some NoFile else None) else None) unsure
 
 -- there is no such file
 pub print_none : (typing : TypingReads) (g : ℕ) (v w : View) (s : Site) (old bytes before now : List ℕ) → disk.Reads v w → v.faults ≤ w.faults → fault_of s.state ≡ None → 1 ≤ g → g ≤ 65535 → old ≡ []
-    → IfSome v.content (λ files. bytes ≡ old ++ files (broken_file g)) → bytes ≡ [] → now ≡ before ++ line s.name (codes "NOFILE") → ExecutesAt (Print s.name g) v s w s before now
-print_none typing g v w s old bytes before now r later up some most none text empty t p h = (
-  Refused (record { site = s.name; cause = NoFile }),
-  counted p w.faults,
-  (refl, here),
-  read_at v w s p r h,
-  t,
-)
+    → IfSome v.content (λ files. bytes ≡ old ++ files (broken_file g)) → bytes ≡ [] → now ≡ before ++ line s.name (codes "NOFILE") → ExecutesAt (print g s.name) v s w s before now
+print_none typing g v w s old bytes before now r later up some most none text empty t p h = elim (is_true_or_false p.told) [
+  | inl sure ↦ comes_refused no (counted p w.faults)
+      (refused_late s.name (in_state stopped p.site) (no_file g p) NoFile (up_at v s p h up) (no_byte g p sure (sym (file_typed typing g v s p old bytes h some most none text sure) ∙ empty)))
+      (kept_counted p w.faults faults) (read_at v w s p r h) t
+  | inr unsure ↦ comes_may_refuse no (counted p w.faults) (ap (refused_with s.name) (up_at v s p h up)) (refl, record { unknown = unsure; kept = kept_counted p w.faults faults }) (read_at v w s p r h) t
+]
   where
-    c : Command
-    c = Print s.name g
+    no : Refusal
+    no = record { site = s.name; cause = NoFile }
 
     faults : p.faults ≤ w.faults
     faults = omega (arith, later, h.disk.faults)
 
-    here : ((cause_here c p ≡ Some NoFile) × RefusedHere c NoFile p (counted p w.faults)) ⊎ ((first (tests c p) ≡ None) × MayRefuseHere c NoFile p (counted p w.faults))
-    here = elim (is_true_or_false p.told) [
-      | inl sure ↦ inl (cause_up g v s p h up ∙ no_byte g p sure (sym (file_typed typing g v s p old bytes h some most none text sure) ∙ empty), kept_counted p w.faults faults)
-      | inr unsure ↦ inr (early_up g v s p h up, (refl, record { unknown = unsure; kept = kept_counted p w.faults faults }))
-    ]
-
 -- the bytes of the file
 pub printed : (typing : TypingReads) (g : ℕ) (v w : View) (s : Site) (old bytes before now : List ℕ) → disk.Reads v w → v.faults ≤ w.faults → fault_of s.state ≡ None → 1 ≤ g → g ≤ 65535 → old ≡ []
-    → IfSome v.content (λ files. bytes ≡ old ++ files (broken_file g)) → bytes ≢ [] → now ≡ before ++ bytes → ExecutesAt (Print s.name g) v s w s before now
+    → IfSome v.content (λ files. bytes ≡ old ++ files (broken_file g)) → bytes ≢ [] → now ≡ before ++ bytes → ExecutesAt (print g s.name) v s w s before now
 printed typing g v w s old bytes before now r later up some most none text full t p h =
-    let typed_so : p.told ≡ true → bytes ≡ typed g p = λ sure. file_typed typing g v s p old bytes h some most none text sure in (
-      Typed bytes,
-      counted p w.faults,
-      (
-        cause_up g v s p h up ∙ has_file g p (is_true_or_false p.told) (λ sure e. full (typed_so sure ∙ e)),
-        (record { some = full; told = typed_so }, kept_counted p w.faults (omega (arith, later, h.disk.faults))),
-      ),
-      read_at v w s p r h,
-      t,
-    )
+    let typed_so : p.told ≡ true → bytes ≡ typed g p = λ sure. file_typed typing g v s p old bytes h some most none text sure in
+    comes_typed bytes (counted p w.faults)
+    (none_refused s.name (in_state stopped p.site) (no_file g p) (up_at v s p h up) (has_file g p (is_true_or_false p.told) (λ sure e. full (typed_so sure ∙ e))))
+    (record { some = full; told = typed_so; kept = kept_counted p w.faults (omega (arith, later, h.disk.faults)) }) (read_at v w s p r h) t
 
 -- a call failed
 pub print_fault : (g : ℕ) (v w : View) (s : Site) (k : ℕ) (before now : List ℕ) → disk.Reads v w → fault_of s.state ≡ None → k ≡ w.faults → Rose v.faults w.faults
-    → now ≡ before ++ line s.name (codes "DISKFAULT " ++ decimal k) → ExecutesAt (Print s.name g) v s w (record { name = s.name; state = Failed k }) before now
+    → now ≡ before ++ line s.name (codes "DISKFAULT " ++ decimal k) → ExecutesAt (print g s.name) v s w (record { name = s.name; state = Failed k }) before now
 print_fault g v w s k before now r up count rose t p h =
     let a = read_at v w s p r h in
-    let state = in_new_state (world.Failed k) p.site in (
-      DiskFault k,
-      record { site = state; told = p.told; now = p.now; left = p.left; outcomes = p.outcomes; faults = w.faults; simulated = p.simulated },
-      (
-        early_up g v s p h up,
-        record {
-          site = refl;
-          now = refl;
-          left = refl;
-          outcomes = λ o m. m;
-          faults = record { count = sym count; rose = subst (λ (x : ℕ). Rose p.faults x) (sym count) (subst (λ (x : ℕ). Rose x w.faults) h.disk.faults rose); same = record { told = refl; simulated = refl } };
-        },
-      ),
-      record {
-        disk = record { told = a.disk.told; images = a.disk.images; faults = refl; simulated = a.disk.simulated };
-        site = ap (in_new_state (world.Failed k)) h.site;
-        held = record { made = λ sure. record { now = (h.held.made sure).now; outcomes = (h.held.made sure).outcomes }; state = tt };
-      },
-      t,
-    )
+    let state = in_new_state (world.Failed k) p.site in
+    comes_fault
+    k
+    (record { site = state; told = p.told; now = p.now; left = p.left; outcomes = p.outcomes; faults = w.faults; simulated = p.simulated })
+    (ap (refused_with s.name) (up_at v s p h up))
+    (record {
+      site = refl;
+      now = refl;
+      left = refl;
+      known = record { told = refl; outcomes = λ o m. m };
+      count = sym count;
+      rose = subst (λ (x : ℕ). Rose p.faults x) (sym count) (subst (λ (x : ℕ). Rose x w.faults) h.disk.faults rose);
+      simulated = refl;
+    })
+    (record {
+      disk = record { told = a.disk.told; images = a.disk.images; faults = refl; simulated = a.disk.simulated };
+      site = ap (in_new_state (world.Failed k)) h.site;
+      held = record { made = λ sure. record { now = (h.held.made sure).now; outcomes = (h.held.made sure).outcomes }; state = tt };
+    })
+    t
 
-pub print_cut : (g : ℕ) (v w : View) (s : Site) → disk.Reads v w → IsCutAt (Print s.name g) v s w
+pub print_cut : (g : ℕ) (v w : View) (s : Site) → disk.Reads v w → IsCutAt (print g s.name) v s w
 print_cut g v w s r p h =
     let a = read_at v w s p r h in
     (counted p w.faults, record { told = refl; outcomes = λ sure o m. inl m }, a.disk)

@@ -16,25 +16,23 @@ use Rattle.repl_section.specs.Reigns.{Reigns, stamp_in, stamp_of}
 use Rattle.repl_section.specs.Deciding.{HasDecided, MayHaveFront, MayLeave, FailsAt}
 use Rattle.site_defs.specs.Lists.{Among}
 use Rattle.world_defs.specs.World as world
-use Rattle.command_defs.specs.Commands.{Name, Run}
+use Rattle.command_defs.specs.Commands.{Name}
 use Rattle.world_defs.specs.World.{Place}
 use Rattle.site_defs.specs.Contents.{Contents, Leftover, NO_LEFTOVER}
-use Rattle.world_defs.specs.Answers.{Stopped, NotPrimary, Section, Ran}
-use Rattle.world_defs.specs.Refusals.{stopped, not_primary}
-use Rattle.world_defs.specs.Rows.{in_new_state}
+use Rattle.world_defs.specs.Answers.{Stopped, NotPrimary, Section, line}
+use Rattle.world_defs.specs.Row.{refused_with, in_state, why_not_primary, refusal_in}
+use Rattle.world_defs.specs.Changes.{in_new_state}
 use Rattle.site_defs.specs.Fronts.{with_sequence, IsFrontOf, turn_of}
 use Rattle.site_defs.specs.Opening.{IsBehind}
-use Rattle.world_defs.specs.Step.{RunMayLeaveOn}
-use Rattle.world_defs.specs.Output.{line, fault_line, section_text, turn_on}
+use Rattle.world_defs.specs.rows.Run.{RunMayLeaveOn, undecided_line, section_text, turn_on, run}
 use Rattle.site_defs.specs.Texts.{reply_line, printed}
 use Rattle.world_defs.specs.Ties.{Matches}
 use Rattle.site_runner.specs.declared.slot.State.{State}
 use Rattle.site_runner.specs.declared.slot.State.TheVariants.{Down, Primary, Failed}
 use Rattle.site_runner.specs.declared.slot.Site.{Site}
 use Rattle.site_runner.specs.Sites.{state_value, site_value, IsOf}
-use Rattle.site_runner.specs.Here.{cause_here}
 use Rattle.site_runner.specs.Steps.{IsAt, ExecutesAt, IsCutAt}
-use Rattle.site_runner.proofs.Ats.{refuses, kept_same, state_at, first_cause, second_cause, no_cause, told_is, reads_image, Leftovers, NothingIsLeft, place_of_images, place_of_one, only, open_site, open_reads, open_images}
+use Rattle.site_runner.proofs.Ats.{comes_ran, not_early, some_outcome, refuses, kept_same, state_at, told_is, reads_image, Leftovers, NothingIsLeft, place_of_images, place_of_one, only, open_site, open_reads, open_images}
 use Rattle.site_runner.proofs.Stopped.{reigns_at, length_tagged}
 use Rattle.site_runner.proofs.Begun.{nat_cases, in_first, in_second, in_either}
 
@@ -74,19 +72,22 @@ used_up : (stamp : Stamp) (serials : List ℕ) (jobs : List (List Job)) (order :
 used_up stamp serials jobs order seq h =
     subst (λ (x : List (List Job)). AllByRecursion (λ (own : List Job). own ≡ []) x) (sym (left_used stamp order (begun serials jobs seq))) h
 
+-- why a site isn't a primary
+primary_at : (v : View) (s : Site) (state : State) (p : Place) → s.state ≡ state → IsAt v s p → in_state why_not_primary p.site ≡ why_not_primary (state_value state)
+primary_at v s state p e h = state_at why_not_primary v s p h ∙ ap (λ (x : State). why_not_primary (state_value x)) e
+
 pub run_failed_before : (v : View) (s : Site) (jobs : List (List Job)) (order : List ℕ) (k : ℕ) (before now : List ℕ) → s.state ≡ Failed k → now ≡ before ++ line s.name (codes "STOPPED " ++ decimal k)
-    → ExecutesAt (Run s.name jobs order) v s v (record { name = s.name; state = Failed k }) before now
+    → ExecutesAt (run jobs order s.name) v s v (record { name = s.name; state = Failed k }) before now
 run_failed_before v s jobs order k before now e t =
-    subst (λ (x : State). ExecutesAt (Run s.name jobs order) v s v (record { name = s.name; state = x }) before now) e
-    (refuses (Run s.name jobs order) v s (Stopped k) before now refl (λ p h. first_cause _ _ (Stopped k) (state_at stopped v s p h ∙ ap (λ (x : State). stopped (state_value x)) e)) kept_same t)
+    subst (λ (x : State). ExecutesAt (run jobs order s.name) v s v (record { name = s.name; state = x }) before now) e
+    (refuses (run jobs order s.name) v s (Stopped k) before now (λ p h. ap (refused_with s.name) (primary_at v s (Failed k) p e h)) kept_same t)
 
-pub run_down : (v : View) (s : Site) (jobs : List (List Job)) (order : List ℕ) (before now : List ℕ) → s.state ≡ Down → now ≡ before ++ line s.name (codes "NOTPRIMARY") → ExecutesAt (Run s.name jobs order) v s v s before now
+pub run_down : (v : View) (s : Site) (jobs : List (List Job)) (order : List ℕ) (before now : List ℕ) → s.state ≡ Down → now ≡ before ++ line s.name (codes "NOTPRIMARY") → ExecutesAt (run jobs order s.name) v s v s before now
 run_down v s jobs order before now e t =
-    refuses (Run s.name jobs order) v s NotPrimary before now refl
-    (λ p h. second_cause _ _ [] NotPrimary (state_at stopped v s p h ∙ ap (λ (x : State). stopped (state_value x)) e) (state_at not_primary v s p h ∙ ap (λ (x : State). not_primary (state_value x)) e)) kept_same t
+    refuses (run jobs order s.name) v s NotPrimary before now (λ p h. ap (refused_with s.name) (primary_at v s Down p e h)) kept_same t
 
-none_primary : (v : View) (s : Site) (r : Reign) (jobs : List (List Job)) (order : List ℕ) (p : Place) → s.state ≡ Primary r → IsAt v s p → cause_here (Run s.name jobs order) p ≡ None
-none_primary v s r jobs order p e h = no_cause _ _ (state_at stopped v s p h ∙ ap (λ (x : State). stopped (state_value x)) e) (state_at not_primary v s p h ∙ ap (λ (x : State). not_primary (state_value x)) e)
+none_primary : (v : View) (s : Site) (r : Reign) (jobs : List (List Job)) (order : List ℕ) (p : Place) → s.state ≡ Primary r → IsAt v s p → refusal_in (run jobs order s.name p) ≡ None
+none_primary v s r jobs order p e h = not_early s.name (in_state why_not_primary p.site) (primary_at v s (Primary r) p e h)
 
 site_is : (v : View) (s : Site) (r : Reign) (p : Place) → s.state ≡ Primary r → IsAt v s p → p.site ≡ Some (record { name = s.name; state = world.Primary (stamp_of r) r.serials })
 site_is v s r p e h = h.site ∙ ap (λ (x : State). Some (site_value (record { name = s.name; state = x }))) e
@@ -138,7 +139,7 @@ of_sequence name c seq h = record { made = h.made; name = h.name }
 -- all jobs are decided
 pub ran : (v w : View) (nothing : NothingIsLeft w) (s : Site) (r new : Reign) (jobs : List (List Job)) (order : List ℕ) (before middle now : List ℕ) → IsLawful w → UsesUp jobs order → s.state ≡ Primary r → new.site.stamp ≡ r.site.stamp → w.simulated ≡ v.simulated → v.faults ≤ w.faults
     → ((told : Bool) (c : Contents) → Reigns v told c r → HasDecided w told c jobs order r new before middle)
-    → now ≡ middle ++ line s.name (codes "AT " ++ decimal (length new.site.entries.items)) → ExecutesAt (Run s.name jobs order) v s w (record { name = s.name; state = Primary new }) before now
+    → now ≡ middle ++ line s.name (codes "AT " ++ decimal (length new.site.entries.items)) → ExecutesAt (run jobs order s.name) v s w (record { name = s.name; state = Primary new }) before now
 ran v w nothing s r new jobs order before middle now law whole st stamped same later f t p h =
     let d : HasDecided w p.told p.now jobs order r new before middle = f p.told p.now (reigns_at v s r p st h) in
     let stamp = stamp_of r in
@@ -148,43 +149,41 @@ ran v w nothing s r new jobs order before middle now law whole st stamped same l
     let q : Place = record { site = in_new_state state p.site; told = p.told; now = o; left = NO_LEFTOVER; outcomes = o ∷ []; faults = w.faults; simulated = p.simulated } in
     let ends : Section = record { picks = order; hardened = length turn.sequence; fault = None } in
     let count : length new.site.entries.items ≡ length turn.sequence = length_tagged new.site.entries.items turn.sequence 1 d.reigns.remembered.entries in
-    let text : turn_on p.site jobs ends p ≡ turn = ap (λ (x : Option world.Site). turn_on x jobs ends p) (site_is v s r p st h) in
-    let stamp_new : stamp ≡ stamp_of new = ap stamp_in (sym stamped) in (
-      Ran ends,
-      q,
-      (
-        none_primary v s r jobs order p st h,
-        record {
-          stamp = stamp;
-          serials = r.serials;
-          state = site_is v s r p st h;
-          picks = refl;
-          ran = record {
-            all_decided = used_up stamp r.serials jobs order p.now.sequence whole;
-            becomes = record { site = refl; now = refl; left = refl; outcomes = refl; faults = omega (arith, later, h.disk.faults); same = record { told = refl; simulated = refl } };
-          };
-        },
-      ),
-      record {
-        disk = place_of_one w p q.site o (same ∙ h.disk.simulated) (λ sure. open_reads w nothing p.told o new.site law sure d.reigns) (λ sure. open_images w p.told o new.site sure d.reigns);
-        site = ap (in_new_state state) h.site ∙ ap (λ (x : List ℕ). Some (record { name = s.name; state = world.Primary stamp x })) (sym d.serials)
-            ∙ ap (λ (x : Stamp). Some (record { name = s.name; state = world.Primary x new.serials })) stamp_new;
-        held = record {
-          made = λ sure. let k = of_sequence s.name p.now turn.sequence (h.held.made sure).now in record { now = k; outcomes = λ x j. subst (IsOf s.name) (sym (only x o j)) k };
-          state = record { reigns = d.reigns; settled = λ sure x j. only x o j; left = λ sure. refl };
-        };
-      },
-      t ∙ ap (λ (x : List ℕ). x ++ line s.name (codes "AT " ++ decimal (length new.site.entries.items))) d.text
-          ∙ append_assoc before (flat_map reply_line turn.replies) _
-          ∙ ap (λ (k : ℕ). before ++ (flat_map reply_line turn.replies ++ line s.name (codes "AT " ++ decimal k))) count
-          ∙ ap (λ (x : Turn). before ++ section_text s.name (length order) x (length turn.sequence) None) (sym text),
-    )
+    let text : turn_on p.site jobs ends.picks p ≡ turn = ap (λ (x : Option world.Site). turn_on x jobs ends.picks p) (site_is v s r p st h) in
+    let stamp_new : stamp ≡ stamp_of new = ap stamp_in (sym stamped) in
+    comes_ran
+    ends
+    q
+    (none_primary v s r jobs order p st h)
+    (record {
+      stamp = stamp;
+      serials = r.serials;
+      state = site_is v s r p st h;
+      picks = refl;
+      ran = record {
+        all_decided = used_up stamp r.serials jobs order p.now.sequence whole;
+        becomes = record { site = refl; known = record { told = refl; now = refl; left = refl; outcomes = refl }; faults = omega (arith, later, h.disk.faults); simulated = refl };
+      };
+    })
+    (record {
+      disk = place_of_one w p q.site o (same ∙ h.disk.simulated) (λ sure. open_reads w nothing p.told o new.site law sure d.reigns) (λ sure. open_images w p.told o new.site sure d.reigns);
+      site = ap (in_new_state state) h.site ∙ ap (λ (x : List ℕ). Some (record { name = s.name; state = world.Primary stamp x })) (sym d.serials)
+          ∙ ap (λ (x : Stamp). Some (record { name = s.name; state = world.Primary x new.serials })) stamp_new;
+      held = record {
+        made = λ sure. let k = of_sequence s.name p.now turn.sequence (h.held.made sure).now in record { now = k; outcomes = λ x j. subst (IsOf s.name) (sym (only x o j)) k };
+        state = record { reigns = d.reigns; settled = λ sure x j. only x o j; left = λ sure. refl };
+      };
+    })
+    (t ∙ ap (λ (x : List ℕ). x ++ line s.name (codes "AT " ++ decimal (length new.site.entries.items))) d.text
+    ∙ append_assoc before (flat_map reply_line turn.replies) _
+    ∙ ap (λ (k : ℕ). before ++ (flat_map reply_line turn.replies ++ line s.name (codes "AT " ++ decimal k))) count
+    ∙ ap (λ (x : Turn). before ++ section_text s.name (length order) x (length turn.sequence) None) (sym text))
 
 -- a fault ended it
-pub ran_to_fault : (leftovers : Leftovers) (v w : View) (s : Site) (r : Reign) (jobs : List (List Job)) (order : List ℕ) (k undecided : ℕ) (before middle now : List ℕ) → IsLawful w → s.state ≡ Primary r → w.simulated ≡ v.simulated → k ≡ w.faults → Rose v.faults w.faults
+pub ran_to_fault : (leftovers : Leftovers) (v w : View) (s : Site) (r : Reign) (jobs : List (List Job)) (order : List ℕ) (k undecided : ℕ) (before middle now : List ℕ) → IsLawful v → IsLawful w → s.state ≡ Primary r → w.simulated ≡ v.simulated → k ≡ w.faults → Rose v.faults w.faults
     → ((told : Bool) (c : Contents) → Reigns v told c r → (m : ℕ) × FailsAt w (stamp_of r) told c jobs order r.serials undecided before middle m)
-    → now ≡ middle ++ fault_line s.name k undecided → ExecutesAt (Run s.name jobs order) v s w (record { name = s.name; state = Failed k }) before now
-ran_to_fault leftovers v w s r jobs order k undecided before middle now law st same count rose f t p h =
+    → now ≡ middle ++ undecided_line s.name k undecided → ExecutesAt (run jobs order s.name) v s w (record { name = s.name; state = Failed k }) before now
+ran_to_fault leftovers v w s r jobs order k undecided before middle now was law st same count rose f t p h =
     let d : (m : ℕ) × FailsAt w (stamp_of r) p.told p.now jobs order r.serials undecided before middle m = f p.told p.now (reigns_at v s r p st h) in
     let m : ℕ = d.0 in
     let a = d.1 in
@@ -193,50 +192,53 @@ ran_to_fault leftovers v w s r jobs order k undecided before middle now law st s
     let ends : Section = record { picks = take m order; hardened = a.hardened; fault = Some k } in
     let state = in_new_state (world.Failed k) p.site in
     let front = front_place leftovers w p state turn.sequence a.hardened law (same ∙ h.disk.simulated) a.front in
-    let text : turn_on p.site jobs ends p ≡ turn = ap (λ (x : Option world.Site). turn_on x jobs ends p) (site_is v s r p st h) in
+    let text : turn_on p.site jobs ends.picks p ≡ turn = ap (λ (x : Option world.Site). turn_on x jobs ends.picks p) (site_is v s r p st h) in
     let rest : undecided ≡ length order - length (printed a.hardened turn.replies) = omega (arith, a.count) in
-    let of = λ (sure : p.told ≡ true) (o : Contents) (g : IsFrontOf turn.sequence a.hardened p.now o). subst (IsOf s.name) (sym g.is) (of_sequence s.name p.now (take g.count turn.sequence) (h.held.made sure).now) in (
-      Ran ends,
-      record { site = state; told = p.told; now = front.now; left = front.left; outcomes = fronts p.now turn.sequence a.hardened (length turn.sequence - a.hardened); faults = w.faults; simulated = p.simulated },
-      (
-        none_primary v s r jobs order p st h,
-        record {
-          stamp = stamp;
-          serials = r.serials;
-          state = site_is v s r p st h;
-          picks = (m, refl);
-          ran = record {
-            begun = a.begun;
-            at_once = a.at_once;
-            fails = record {
-              site = refl;
-              now = front.front;
-              left = front.behind;
-              outcomes = front.fronts_all;
-              faults = record { count = sym count; rose = subst (λ (x : ℕ). Rose p.faults x) (sym count) (subst (λ (x : ℕ). Rose x w.faults) h.disk.faults rose); same = record { told = refl; simulated = refl } };
-            };
+    let of = λ (sure : p.told ≡ true) (o : Contents) (g : IsFrontOf turn.sequence a.hardened p.now o). subst (IsOf s.name) (sym g.is) (of_sequence s.name p.now (take g.count turn.sequence) (h.held.made sure).now) in
+    comes_ran
+    ends
+    (record { site = state; told = p.told; now = front.now; left = front.left; outcomes = fronts p.now turn.sequence a.hardened (length turn.sequence - a.hardened); faults = w.faults; simulated = p.simulated })
+    (none_primary v s r jobs order p st h)
+    (record {
+      stamp = stamp;
+      serials = r.serials;
+      state = site_is v s r p st h;
+      picks = (m, refl);
+      ran = record {
+        begun = a.begun;
+        at_once = a.at_once;
+        fails = record {
+          site = refl;
+          known = record {
+            told = refl;
+            now = λ sure. let x = some_outcome v p was h.disk sure in (x.0, x.1, front.front sure);
+            left = front.behind;
+            outcomes = λ sure o j. let x = some_outcome v p was h.disk sure in (x.0, x.1, front.fronts_all sure o j);
           };
-        },
-      ),
-      record {
-        disk = front.matches;
-        site = ap (in_new_state (world.Failed k)) h.site;
-        held = record {
-          made = λ sure. record { now = of sure front.now (front.front sure); outcomes = λ o j. of sure o (front.fronts_all sure o j) };
-          state = tt;
+          count = sym count;
+          rose = subst (λ (x : ℕ). Rose p.faults x) (sym count) (subst (λ (x : ℕ). Rose x w.faults) h.disk.faults rose);
+          simulated = refl;
         };
-      },
-      t ∙ ap (λ (x : List ℕ). x ++ fault_line s.name k undecided) a.text
-          ∙ append_assoc before (flat_map reply_line (printed a.hardened turn.replies)) _
-          ∙ ap (λ (u : ℕ). before ++ (flat_map reply_line (printed a.hardened turn.replies) ++ fault_line s.name k u)) rest
-          ∙ ap (λ (x : Turn). before ++ section_text s.name (length order) x a.hardened (Some k)) (sym text),
-    )
+      };
+    })
+    (record {
+      disk = front.matches;
+      site = ap (in_new_state (world.Failed k)) h.site;
+      held = record {
+        made = λ sure. record { now = of sure front.now (front.front sure); outcomes = λ o j. of sure o (front.fronts_all sure o j) };
+        state = tt;
+      };
+    })
+    (t ∙ ap (λ (x : List ℕ). x ++ undecided_line s.name k undecided) a.text
+    ∙ append_assoc before (flat_map reply_line (printed a.hardened turn.replies)) _
+    ∙ ap (λ (u : ℕ). before ++ (flat_map reply_line (printed a.hardened turn.replies) ++ undecided_line s.name k u)) rest
+    ∙ ap (λ (x : Turn). before ++ section_text s.name (length order) x a.hardened (Some k)) (sym text))
 
 -- it was cut off once some jobs were decided, of which at least these are hardened
-pub run_cut : (leftovers : Leftovers) (v w : View) (s : Site) (r : Reign) (jobs : List (List Job)) (order : List ℕ) → IsLawful w → s.state ≡ Primary r → w.simulated ≡ v.simulated
+pub run_cut : (leftovers : Leftovers) (v w : View) (s : Site) (r : Reign) (jobs : List (List Job)) (order : List ℕ) → IsLawful v → IsLawful w → s.state ≡ Primary r → w.simulated ≡ v.simulated
     → ((told : Bool) (c : Contents) → Reigns v told c r → (m low : ℕ) × (length c.sequence ≤ low) × MayHaveFront w told c (turn_of (stamp_of r) r.serials jobs (take m order) c.sequence).sequence low)
-    → IsCutAt (Run s.name jobs order) v s w
-run_cut leftovers v w s r jobs order law st same f p h =
+    → IsCutAt (run jobs order s.name) v s w
+run_cut leftovers v w s r jobs order was law st same f p h =
     let d : (m low : ℕ) × (length p.now.sequence ≤ low) × MayHaveFront w p.told p.now (turn_of (stamp_of r) r.serials jobs (take m order) p.now.sequence).sequence low = f p.told p.now (reigns_at v s r p st h) in
     let m : ℕ = d.0 in
     let low : ℕ = d.1 in
@@ -246,7 +248,8 @@ run_cut leftovers v w s r jobs order law st same f p h =
       record { site = p.site; told = p.told; now = front.now; left = front.left; outcomes = fronts p.now all low (length all - low); faults = w.faults; simulated = p.simulated },
       record {
         told = refl;
-        outcomes = λ sure o a. inr (subst (λ (x : Option world.Site). RunMayLeaveOn x jobs order p o) (sym (site_is v s r p st h)) (m, lower o (front.fronts_all sure o a)));
+        outcomes = λ sure o a. let x = some_outcome v p was h.disk sure in
+            inr (x.0, x.1, subst (λ (y : Option world.Site). RunMayLeaveOn y jobs order p o) (sym (site_is v s r p st h)) (m, lower o (front.fronts_all sure o a)));
       },
       front.matches,
     )
@@ -326,9 +329,9 @@ among_runs stamp serials jobs order c o n g =
     ]
 
 -- it was cut off once some jobs were decided, and each image may have its own number of them
-pub run_cut_any : (leftovers : Leftovers) (v w : View) (s : Site) (r : Reign) (jobs : List (List Job)) (order : List ℕ) → IsLawful w → s.state ≡ Primary r → w.simulated ≡ v.simulated
-    → ((told : Bool) (c : Contents) → Reigns v told c r → MayLeave w (stamp_of r) told c jobs order r.serials) → IsCutAt (Run s.name jobs order) v s w
-run_cut_any leftovers v w s r jobs order law st same f p h =
+pub run_cut_any : (leftovers : Leftovers) (v w : View) (s : Site) (r : Reign) (jobs : List (List Job)) (order : List ℕ) → IsLawful v → IsLawful w → s.state ≡ Primary r → w.simulated ≡ v.simulated
+    → ((told : Bool) (c : Contents) → Reigns v told c r → MayLeave w (stamp_of r) told c jobs order r.serials) → IsCutAt (run jobs order s.name) v s w
+run_cut_any leftovers v w s r jobs order was law st same f p h =
     let d : MayLeave w (stamp_of r) p.told p.now jobs order r.serials = f p.told p.now (reigns_at v s r p st h) in
     let low : ℕ = length p.now.sequence in
     let runs : ℕ → Sequence = runs_of (stamp_of r) r.serials jobs order p.now.sequence in
@@ -338,7 +341,8 @@ run_cut_any leftovers v w s r jobs order law st same f p h =
       record {
         told = refl;
         outcomes = λ is o a. let k = are_all_fronts runs (length order) p.now low o a in
-            inr (subst (λ (x : Option world.Site). RunMayLeaveOn x jobs order p o) (sym (site_is v s r p st h)) (k.0, k.1));
+            let x = some_outcome v p was h.disk is in
+            inr (x.0, x.1, subst (λ (y : Option world.Site). RunMayLeaveOn y jobs order p o) (sym (site_is v s r p st h)) (k.0, k.1));
       },
       m.matches,
     )

@@ -7,4 +7,4 @@ abbrev pub counted : Place → ℕ → Place
 counted p faults = record { site = p.site; told = p.told; now = p.now; left = p.left; outcomes = p.outcomes; faults = faults; simulated = p.simulated }
 
 pub kept_counted : (p : Place) (faults : ℕ) → p.faults ≤ faults → Kept p (counted p faults)
-kept_counted p faults h = record { site = refl; now = refl; left = refl; outcomes = λ o a. a; faults = h; same = record { told = refl; simulated = refl } }
+kept_counted p faults h = record { site = refl; now = refl; left = refl; known = record { told = refl; outcomes = λ o a. a }; faults = h; simulated = refl }

@@ -13,71 +13,58 @@ use Rattle.site_store.specs.Site.{Remembers, IsOpen}
 use Rattle.site_store.specs.Opening.{MayBeOpen, EachStands}
 use Rattle.repl_section.specs.declared.reign.Reign.{Reign}
 use Rattle.repl_section.specs.Reigns.{stamp_in, stamp_of}
-use Rattle.command_defs.specs.Commands.{Name, StartPrimary}
+use Rattle.command_defs.specs.Commands.{Name}
 use Rattle.site_defs.specs.Lists.{Among}
 use Rattle.world_defs.specs.World as world
 use Rattle.world_defs.specs.World.{Place}
 use Rattle.site_defs.specs.Contents.{Contents, Leftover, NO_LEFTOVER}
-use Rattle.world_defs.specs.Answers.{Cause, Stopped, Running, GenLimit, ReignLimit, Answer, Refused, Done, DiskFault, NotAFile}
-use Rattle.world_defs.specs.Refusals.{first, in_state, stopped, running, limited, generation_limit, reign_limit}
-use Rattle.world_defs.specs.Rows.{in_new_state, MayBeginAny, FIRST_SERIALS}
+use Rattle.world_defs.specs.Answers.{Cause, Stopped, Running, GenLimit, ReignLimit, line}
+use Rattle.world_defs.specs.Row.{first, refused_with, in_state, why_not_down}
+use Rattle.world_defs.specs.Changes.{in_new_state, After}
+use Rattle.world_defs.specs.rows.Start.{limited, generation_limit, reign_limit, FIRST_SERIALS, cycle_on, start}
 use Rattle.site_defs.specs.Limits.{no_reign_left}
-use Rattle.site_defs.specs.Opening.{opened, with_reign, next_stamp}
-use Rattle.world_defs.specs.Step.{LeftAt}
-use Rattle.world_defs.specs.Output.{line, cycle_on}
+use Rattle.site_defs.specs.Opening.{MayBegin, opened, with_reign, next_stamp}
+use Rattle.world_defs.specs.Step.{LeftBy}
 use Rattle.world_defs.specs.Ties.{Matches}
 use Rattle.site_defs.specs.Stands.{IsSite, HasLeft, Stands, Reads}
 use Rattle.site_runner.specs.declared.slot.State.{State}
 use Rattle.site_runner.specs.declared.slot.State.TheVariants.{Down, Primary, Failed}
 use Rattle.site_runner.specs.declared.slot.Site.{Site}
 use Rattle.site_runner.specs.Sites.{state_value, site_value, HoldsState, IsOf, IsMade}
-use Rattle.site_runner.specs.Here.{tests, cause_here, Here, text_here}
+use Rattle.site_runner.specs.Executes.{Comes}
 use Rattle.site_runner.specs.Steps.{IsAt, ExecutesAt, IsCutAt}
 use Rattle.site_runner.specs.Starting.{IsOpenedAt, BeginsAt, IsCutOpened}
-use Rattle.site_runner.proofs.Ats.{refuses, kept_same, state_at, first_cause, second_cause, no_cause, not_true, is_true_or_false, some_both, told_is, is_site, reads_site, stands_told, at_moment, reads_image, Leftovers, NothingIsLeft, ReadPlace, place_of_images, place_of_one, only, open_reads, open_images}
+use Rattle.site_runner.proofs.Ats.{comes_done, comes_refused, comes_may_refuse, comes_fault, comes_damaged, refused_late, none_refused, refuses, kept_same, not_true, is_true_or_false, some_both, told_is, is_site, reads_site, stands_told, at_moment, reads_image, Leftovers, NothingIsLeft, ReadPlace, place_of_images, place_of_one, only, open_reads, open_images}
+use Rattle.site_runner.proofs.Seen.{counted, kept_counted}
 use Rattle.site_runner.proofs.Stopped.{length_tagged}
 use Rattle.site_runner.proofs.Begun.{limit_opened, stamp_opened, of_opened, of_begun, of_may_begin, begins, among_begins, begins_among, generation_past, generation_left}
 
-pub start_failed_before : (v : View) (s : Site) (k : ℕ) (before now : List ℕ) → s.state ≡ Failed k → now ≡ before ++ line s.name (codes "STOPPED " ++ decimal k) → ExecutesAt (StartPrimary s.name) v s v s before now
-start_failed_before v s k before now e t =
-    refuses (StartPrimary s.name) v s (Stopped k) before now refl (λ p h. first_cause _ _ (Stopped k) (state_at stopped v s p h ∙ ap (λ (x : State). stopped (state_value x)) e)) kept_same t
+-- why a site isn't down
+pub why_at : (s : Site) (state : State) (p : Place) → s.state ≡ state → p.site ≡ Some (site_value s) → in_state why_not_down p.site ≡ why_not_down (state_value state)
+why_at s state p e h = ap (in_state why_not_down) h ∙ ap (λ (x : State). why_not_down (state_value x)) e
 
-pub start_running : (v : View) (s : Site) (r : Reign) (before now : List ℕ) → s.state ≡ Primary r → now ≡ before ++ line s.name (codes "RUNNING") → ExecutesAt (StartPrimary s.name) v s v s before now
+pub start_failed_before : (v : View) (s : Site) (k : ℕ) (before now : List ℕ) → s.state ≡ Failed k → now ≡ before ++ line s.name (codes "STOPPED " ++ decimal k) → ExecutesAt (start s.name) v s v s before now
+start_failed_before v s k before now e t =
+    refuses (start s.name) v s (Stopped k) before now (λ p h. ap (refused_with s.name) (why_at s (Failed k) p e h.site)) kept_same t
+
+pub start_running : (v : View) (s : Site) (r : Reign) (before now : List ℕ) → s.state ≡ Primary r → now ≡ before ++ line s.name (codes "RUNNING") → ExecutesAt (start s.name) v s v s before now
 start_running v s r before now e t =
-    refuses (StartPrimary s.name) v s Running before now refl
-    (λ p h. second_cause _ _ (limited (Some p) ∷ []) Running (state_at stopped v s p h ∙ ap (λ (x : State). stopped (state_value x)) e) (state_at running v s p h ∙ ap (λ (x : State). running (state_value x)) e)) kept_same t
+    refuses (start s.name) v s Running before now (λ p h. ap (refused_with s.name) (why_at s (Primary r) p e h.site)) kept_same t
 
 -- the tests of a site that is down
 
-early_down : (s : Site) (p : Place) → s.state ≡ Down → p.site ≡ Some (site_value s) → first (tests (StartPrimary s.name) p) ≡ None
-early_down s p e h =
-    no_cause _ _ (ap (in_state stopped) h ∙ ap (λ (x : State). stopped (state_value x)) e) (ap (in_state running) h ∙ ap (λ (x : State). running (state_value x)) e)
+early_down : (s : Site) (p : Place) → s.state ≡ Down → p.site ≡ Some (site_value s) → refused_with s.name (in_state why_not_down p.site) ≡ None
+early_down s p e h = ap (refused_with s.name) (why_at s Down p e h)
 
-third : (a b c : Option Cause) → first (a ∷ b ∷ []) ≡ None → first (a ∷ b ∷ c ∷ []) ≡ first (c ∷ [])
-third (Some a) b c e = cc
-third None (Some b) c e = cc
-third None None c e = refl
-
-first_one : (c : Option Cause) → first (c ∷ []) ≡ c
-first_one None = refl
-first_one (Some c) = refl
-
-cause_down : (s : Site) (p : Place) → s.state ≡ Down → p.site ≡ Some (site_value s) → cause_here (StartPrimary s.name) p ≡ limited (Some p)
-cause_down s p e h = third (in_state stopped p.site) (in_state running p.site) (limited (Some p)) (early_down s p e h) ∙ first_one (limited (Some p))
-
-limited_told : (p : Place) (x y : Option Cause) → p.told ≡ true → generation_limit p.now ≡ x → reign_limit p.now ≡ y → limited (Some p) ≡ first (x ∷ y ∷ [])
+limited_told : (p : Place) (x y : Option Cause) → p.told ≡ true → generation_limit p.now ≡ x → reign_limit p.now ≡ y → limited p ≡ first (x ∷ y ∷ [])
 limited_told p x y sure g r = ap (λ (b : Bool). if b then first (generation_limit p.now ∷ reign_limit p.now ∷ []) else None) sure ∙ ap (λ (z : Option Cause). first (z ∷ reign_limit p.now ∷ [])) g ∙ ap (λ (z : Option Cause). first (x ∷ z ∷ [])) r
 
-limited_generation : (p : Place) → p.told ≡ true → generation_limit p.now ≡ Some GenLimit → limited (Some p) ≡ Some GenLimit
+limited_generation : (p : Place) → p.told ≡ true → generation_limit p.now ≡ Some GenLimit → limited p ≡ Some GenLimit
 limited_generation p sure g = limited_told p (Some GenLimit) (reign_limit p.now) sure g refl
 
-not_limited : (p : Place) → (p.told ≡ true) ⊎ (p.told ≡ false) → (p.told ≡ true → generation_limit p.now ≡ None) → (p.told ≡ true → reign_limit p.now ≡ None) → limited (Some p) ≡ None
+not_limited : (p : Place) → (p.told ≡ true) ⊎ (p.told ≡ false) → (p.told ≡ true → generation_limit p.now ≡ None) → (p.told ≡ true → reign_limit p.now ≡ None) → limited p ≡ None
 not_limited p (inl sure) g r = limited_told p None None sure (g sure) (r sure)
 not_limited p (inr unsure) g r = ap (λ (b : Bool). if b then first (generation_limit p.now ∷ reign_limit p.now ∷ []) else None) unsure
-
--- a place as it was, but for faults that were counted
-abbrev pub counted : Place → ℕ → Place
-counted p faults = record { site = p.site; told = p.told; now = p.now; left = p.left; outcomes = p.outcomes; faults = faults; simulated = p.simulated }
 
 unknown_matches : (w : View) (p : Place) → p.told ≡ false → w.simulated ≡ p.simulated → Matches w (counted p w.faults)
 unknown_matches w p unsure same = record { told = λ sure. absurd (false≢true (sym unsure ∙ sure)); images = λ sure. absurd (false≢true (sym unsure ∙ sure)); faults = refl; simulated = same }
@@ -170,7 +157,7 @@ opened_at one_only v w s o p law down h name read told drawn same later = elim (
 -- what may have begun of what was there
 pub record MayHaveBegun (w : View) (s : Site) (p : Place) : Type 0 where
   pub still_told : p.told ≡ true → IsSome w.content
-  pub images : p.told ≡ true → (f : Files) → Image w f → (o : Contents) × MayBeginAny s.name p o × Stands f o
+  pub images : p.told ≡ true → (f : Files) → Image w f → (o : Contents) × After (MayBegin s.name p.left.broken) p.outcomes o × Stands f o
   pub simulated : w.simulated ≡ p.simulated
 
 begun_place : (leftovers : Leftovers) (w : View) (s : Site) (p : Place) (site : Option world.Site) → IsLawful w → MayHaveBegun w s p
@@ -178,40 +165,38 @@ begun_place : (leftovers : Leftovers) (w : View) (s : Site) (p : Place) (site : 
 begun_place leftovers w s p site law b =
     place_of_images leftovers w p site (begins s.name p.left.broken p.outcomes) law b.simulated b.still_told (λ sure f i. let k = b.images sure f i in (k.0, begins_among s.name p.left.broken p.outcomes k.1.0 k.0 k.1.1 k.1.2, k.2))
 
-pub begun_cut : (leftovers : Leftovers) (w : View) (s : Site) (p : Place) → IsLawful w → MayHaveBegun w s p → (q : Place) × LeftAt true (StartPrimary s.name) p q × Matches w q
+pub begun_cut : (leftovers : Leftovers) (w : View) (s : Site) (p : Place) → IsLawful w → MayHaveBegun w s p → (q : Place) × LeftBy (start s.name p).left p q × Matches w q
 begun_cut leftovers w s p law b =
     let m = begun_place leftovers w s p p.site law b in
     (record { site = p.site; told = p.told; now = m.now; left = m.left; outcomes = begins s.name p.left.broken p.outcomes; faults = w.faults; simulated = p.simulated }, record { told = refl; outcomes = λ sure o a. inr (among_begins s.name p.left.broken p.outcomes o a) }, m.matches)
 
 -- what START answers from a place
 abbrev pub Answers : View → Site → Place → Site → List ℕ → List ℕ → Type 0
-Answers w s p new before now = (a : Answer) × (q : Place) × Here (StartPrimary s.name) p a q × IsAt w new q × (now ≡ before ++ text_here (StartPrimary s.name) p a q)
+Answers w s p new before now = Comes (start s.name p) (IsAt w new) before now
 
 pub begun_fault : (leftovers : Leftovers) (w : View) (s : Site) (p : Place) (k : ℕ) (before now : List ℕ) → IsLawful w → s.state ≡ Down → p.site ≡ Some (site_value s) → (p.told ≡ true → IsMade s.name p) → MayHaveBegun w s p → k ≡ w.faults → Rose p.faults w.faults
     → now ≡ before ++ line s.name (codes "DISKFAULT " ++ decimal k) → Answers w s p (record { name = s.name; state = Failed k }) before now
 begun_fault leftovers w s p k before now law down site made b count rose t =
     let state = in_new_state (world.Failed k) p.site in
     let m = begun_place leftovers w s p state law b in
-    let of = λ (sure : p.told ≡ true) (o : Contents) (a : Among (begins s.name p.left.broken p.outcomes) o). (let x = among_begins s.name p.left.broken p.outcomes o a in of_may_begin s.name p.left.broken x.0 o ((made sure).outcomes x.0 x.1) x.2) in (
-      DiskFault k,
-      record { site = state; told = p.told; now = m.now; left = m.left; outcomes = begins s.name p.left.broken p.outcomes; faults = w.faults; simulated = p.simulated },
-      (
-        early_down s p down site,
-        record {
-          site = refl;
-          now = λ sure. among_begins s.name p.left.broken p.outcomes m.now (m.among sure);
-          left = m.behind;
-          outcomes = λ sure o a. among_begins s.name p.left.broken p.outcomes o a;
-          faults = record { count = sym count; rose = subst (λ (x : ℕ). Rose p.faults x) (sym count) rose; same = record { told = refl; simulated = refl } };
-        },
-      ),
-      record {
-        disk = m.matches;
-        site = ap (in_new_state (world.Failed k)) site;
-        held = record { made = λ sure. record { now = of sure m.now (m.among sure); outcomes = of sure }; state = tt };
-      },
-      t,
-    )
+    let of = λ (sure : p.told ≡ true) (o : Contents) (a : Among (begins s.name p.left.broken p.outcomes) o). (let x = among_begins s.name p.left.broken p.outcomes o a in of_may_begin s.name p.left.broken x.0 o ((made sure).outcomes x.0 x.1) x.2) in
+    comes_fault
+    k
+    (record { site = state; told = p.told; now = m.now; left = m.left; outcomes = begins s.name p.left.broken p.outcomes; faults = w.faults; simulated = p.simulated })
+    (early_down s p down site)
+    (record {
+      site = refl;
+      known = record { told = refl; now = λ sure. among_begins s.name p.left.broken p.outcomes m.now (m.among sure); left = m.behind; outcomes = λ sure o a. among_begins s.name p.left.broken p.outcomes o a };
+      count = sym count;
+      rose = subst (λ (x : ℕ). Rose p.faults x) (sym count) rose;
+      simulated = refl;
+    })
+    (record {
+      disk = m.matches;
+      site = ap (in_new_state (world.Failed k)) site;
+      held = record { made = λ sure. record { now = of sure m.now (m.among sure); outcomes = of sure }; state = tt };
+    })
+    t
 
 rose_at : (v w : View) (p : Place) → Matches v p → Rose v.faults w.faults → Rose p.faults w.faults
 rose_at v w p m h = subst (λ (x : ℕ). Rose x w.faults) m.faults h
@@ -233,11 +218,11 @@ load_begun v w s p law h moments still same = record {
 }
 
 pub load_faulted : (leftovers : Leftovers) (v w : View) (s : Site) (k : ℕ) (before now : List ℕ) → IsLawful w → s.state ≡ Down → OpensAtMoments v w → (IsSome v.content → IsSome w.content) → w.simulated ≡ v.simulated
-    → k ≡ w.faults → Rose v.faults w.faults → now ≡ before ++ line s.name (codes "DISKFAULT " ++ decimal k) → ExecutesAt (StartPrimary s.name) v s w (record { name = s.name; state = Failed k }) before now
+    → k ≡ w.faults → Rose v.faults w.faults → now ≡ before ++ line s.name (codes "DISKFAULT " ++ decimal k) → ExecutesAt (start s.name) v s w (record { name = s.name; state = Failed k }) before now
 load_faulted leftovers v w s k before now law down moments still same count rose t p h =
     begun_fault leftovers w s p k before now law down h.site h.held.made (load_begun v w s p law h moments still same) count (rose_at v w p h.disk rose) t
 
-pub load_cut : (leftovers : Leftovers) (v w : View) (s : Site) → IsLawful w → OpensAtMoments v w → (IsSome v.content → IsSome w.content) → w.simulated ≡ v.simulated → IsCutAt (StartPrimary s.name) v s w
+pub load_cut : (leftovers : Leftovers) (v w : View) (s : Site) → IsLawful w → OpensAtMoments v w → (IsSome v.content → IsSome w.content) → w.simulated ≡ v.simulated → IsCutAt (start s.name) v s w
 load_cut leftovers v w s law moments still same p h = begun_cut leftovers w s p law (load_begun v w s p law h moments still same)
 
 -- there is no generation left
@@ -246,46 +231,31 @@ load_limit_told : (v w : View) (s : Site) (before now : List ℕ) (p : Place) �
 load_limit_told v w s before now p law down h sure limit unwritten untouched same later t =
     let made : IsMade s.name p = h.held.made sure in
     let here = some_both v.content _ _ (stands_told v p h.disk sure) limit in
-    let q : Place = counted p w.faults in (
-      Refused (record { site = s.name; cause = GenLimit }),
-      q,
-      (
-        refl,
-        inl (
-          cause_down s p down h.site ∙ limited_generation p sure (generation_past p.now (here.2 p.now (is_site here.0 p.now made.now.made here.1))),
-          record { site = refl; now = refl; left = refl; outcomes = λ o a. a; faults = omega (arith, later, h.disk.faults); same = record { told = refl; simulated = refl } },
-        ),
-      ),
-      record {
-        disk = record {
-          told = λ is. subst (λ (x : Option Files). IsSomeAnd x (λ files. Reads files p.now p.left)) (sym unwritten) (h.disk.told is);
-          images = λ is c i. h.disk.images is c (at_moment v w (Image v) c law untouched i);
-          faults = refl;
-          simulated = same ∙ h.disk.simulated;
-        };
-        site = h.site;
-        held = record { made = λ is. record { now = (h.held.made is).now; outcomes = (h.held.made is).outcomes }; state = subst (λ (x : State). HoldsState w x q) (sym down) tt };
-      },
-      t,
-    )
+    let q : Place = counted p w.faults in
+    comes_refused
+    (record { site = s.name; cause = GenLimit })
+    q
+    (refused_late s.name (in_state why_not_down p.site) (limited p) GenLimit (why_at s Down p down h.site) (limited_generation p sure (generation_past p.now (here.2 p.now (is_site here.0 p.now made.now.made here.1)))))
+    (kept_counted p w.faults (omega (arith, later, h.disk.faults)))
+    (record {
+      disk = record {
+        told = λ is. subst (λ (x : Option Files). IsSomeAnd x (λ files. Reads files p.now p.left)) (sym unwritten) (h.disk.told is);
+        images = λ is c i. h.disk.images is c (at_moment v w (Image v) c law untouched i);
+        faults = refl;
+        simulated = same ∙ h.disk.simulated;
+      };
+      site = h.site;
+      held = record { made = λ is. record { now = (h.held.made is).now; outcomes = (h.held.made is).outcomes }; state = subst (λ (x : State). HoldsState w x q) (sym down) tt };
+    })
+    t
 
 load_limit_untold : (v w : View) (s : Site) (before now : List ℕ) (p : Place) → s.state ≡ Down → IsAt v s p → p.told ≡ false → w.simulated ≡ v.simulated → v.faults ≤ w.faults → now ≡ before ++ line s.name (codes "GENLIMIT") → Answers w s p s before now
-load_limit_untold v w s before now p down h unsure same later t = (
-  Refused (record { site = s.name; cause = GenLimit }),
-  counted p w.faults,
-  (
-    refl,
-    inr (
-      early_down s p down h.site,
-      (inl refl, record { unknown = unsure; kept = record { site = refl; now = refl; left = refl; outcomes = λ o a. a; faults = omega (arith, later, h.disk.faults); same = record { told = refl; simulated = refl } } }),
-    ),
-  ),
-  unknown_at w s p down h.site unsure (same ∙ h.disk.simulated),
-  t,
-)
+load_limit_untold v w s before now p down h unsure same later t =
+    comes_may_refuse (record { site = s.name; cause = GenLimit }) (counted p w.faults) (early_down s p down h.site)
+    (refl, inl refl, record { unknown = unsure; kept = kept_counted p w.faults (omega (arith, later, h.disk.faults)) }) (unknown_at w s p down h.site unsure (same ∙ h.disk.simulated)) t
 
 pub load_limit : (v w : View) (s : Site) (before now : List ℕ) → IsLawful w → s.state ≡ Down → IfSome v.content (λ files. (c : Contents) → IsSite files c → 65534 ≤ generation c.instance) → w.content ≡ v.content → AtEachMoment v w (Image v)
-    → w.simulated ≡ v.simulated → v.faults ≤ w.faults → now ≡ before ++ line s.name (codes "GENLIMIT") → ExecutesAt (StartPrimary s.name) v s w s before now
+    → w.simulated ≡ v.simulated → v.faults ≤ w.faults → now ≡ before ++ line s.name (codes "GENLIMIT") → ExecutesAt (start s.name) v s w s before now
 load_limit v w s before now law down limit unwritten untouched same later t p h = elim (is_true_or_false p.told) [
   | inl sure ↦ load_limit_told v w s before now p law down h sure limit unwritten untouched same later t
   | inr unsure ↦ load_limit_untold v w s before now p down h unsure same later t
@@ -294,16 +264,12 @@ load_limit v w s before now law down limit unwritten untouched same later t p h 
 -- bytes outside the formats, which no known files have
 damaged : (v w : View) (s : Site) (file offset : ℕ) (before now : List ℕ) (p : Place) → s.state ≡ Down → IsAt v s p → p.told ≡ false → w.simulated ≡ v.simulated → v.faults ≤ w.faults
     → now ≡ before ++ line s.name (codes "NOTAFILE " ++ decimal file ++ 32 ∷ decimal offset) → Answers w s p s before now
-damaged v w s file offset before now p down h unsure same later t = (
-  NotAFile file offset,
-  counted p w.faults,
-  (early_down s p down h.site, record { unknown = unsure; kept = record { site = refl; now = refl; left = refl; outcomes = λ o a. a; faults = omega (arith, later, h.disk.faults); same = record { told = refl; simulated = refl } } }),
-  unknown_at w s p down h.site unsure (same ∙ h.disk.simulated),
-  t,
-)
+damaged v w s file offset before now p down h unsure same later t =
+    comes_damaged file offset (counted p w.faults) (early_down s p down h.site) (record { unknown = unsure; kept = kept_counted p w.faults (omega (arith, later, h.disk.faults)) })
+    (unknown_at w s p down h.site unsure (same ∙ h.disk.simulated)) t
 
 pub load_damaged : (v w : View) (s : Site) (file offset : ℕ) (before now : List ℕ) → s.state ≡ Down → IfSome v.content (λ files. (c : Contents) → IsSite files c → ⊥) → w.simulated ≡ v.simulated → v.faults ≤ w.faults
-    → now ≡ before ++ line s.name (codes "NOTAFILE " ++ decimal file ++ 32 ∷ decimal offset) → ExecutesAt (StartPrimary s.name) v s w s before now
+    → now ≡ before ++ line s.name (codes "NOTAFILE " ++ decimal file ++ 32 ∷ decimal offset) → ExecutesAt (start s.name) v s w s before now
 load_damaged v w s file offset before now down outside same later t p h =
     damaged v w s file offset before now p down h (not_true p.told (λ sure.
     let here = some_both v.content _ _ (stands_told v p h.disk sure) outside in
@@ -311,7 +277,7 @@ load_damaged v w s file offset before now down outside same later t p h =
 
 -- another site stands there, which no known files tell
 pub load_other : (v w : View) (s : Site) (o : OpenSite) (before now : List ℕ) → s.state ≡ Down → (site_name o.instance.records ≡ s.name → ⊥) → Opens v w o
-    → w.simulated ≡ v.simulated → v.faults ≤ w.faults → now ≡ before ++ line s.name (codes "NOTAFILE " ++ decimal 0 ++ 32 ∷ decimal 0) → ExecutesAt (StartPrimary s.name) v s w s before now
+    → w.simulated ≡ v.simulated → v.faults ≤ w.faults → now ≡ before ++ line s.name (codes "NOTAFILE " ++ decimal 0 ++ 32 ∷ decimal 0) → ExecutesAt (start s.name) v s w s before now
 load_other v w s o before now down other told same later t p h =
     damaged v w s 0 0 before now p down h (not_true p.told (λ sure.
     let made : IsMade s.name p = h.held.made sure in
@@ -369,38 +335,23 @@ reign_limit_told v nothing s o before now p law h sure limit t =
     (subst (λ (b : List ℕ). IsOpen v p.told (opened b h.read) (length h.read.sequence) o) (h.as_left sure) h.is_open) in
     let q : Place = record { site = in_new_state world.Down p.site; told = p.told; now = c; left = NO_LEFTOVER; outcomes = c ∷ []; faults = v.faults; simulated = p.simulated } in
     let full : reign_limit p.now ≡ Some ReignLimit = sym (limit_opened p.left.broken p.now) ∙ limit_is c true (limit c (length c.sequence) is_open.remembered) in
-    let of : IsOf s.name c = of_opened s.name p.left.broken p.now (h.made sure).now in (
-      Refused (record { site = s.name; cause = ReignLimit }),
-      q,
-      (
-        refl,
-        inl (
-          cause_down s p h.down h.site ∙ limited_told p None (Some ReignLimit) sure (h.drawn sure) full,
-          record { site = refl; now = refl; left = refl; outcomes = refl; faults = h.faults; same = record { told = refl; simulated = refl } },
-        ),
-      ),
-      record {
-        disk = place_of_one v p q.site c h.simulated (λ is. open_reads v nothing p.told c o law is is_open) (λ is. open_images v p.told c o is is_open);
-        site = ap (in_new_state world.Down) h.site ∙ ap (λ (x : world.State). Some (record { name = s.name; state = x })) (ap state_value (sym h.down));
-        held = record { made = λ is. record { now = of; outcomes = λ x j. subst (IsOf s.name) (sym (only x c j)) of }; state = subst (λ (x : State). HoldsState v x q) (sym h.down) tt };
-      },
-      t,
-    )
+    let of : IsOf s.name c = of_opened s.name p.left.broken p.now (h.made sure).now in
+    comes_refused
+    (record { site = s.name; cause = ReignLimit })
+    q
+    (refused_late s.name (in_state why_not_down p.site) (limited p) ReignLimit (why_at s Down p h.down h.site) (limited_told p None (Some ReignLimit) sure (h.drawn sure) full))
+    (record { site = refl; known = record { told = refl; now = refl; left = refl; outcomes = refl }; faults = h.faults; simulated = refl })
+    (record {
+      disk = place_of_one v p q.site c h.simulated (λ is. open_reads v nothing p.told c o law is is_open) (λ is. open_images v p.told c o is is_open);
+      site = ap (in_new_state world.Down) h.site ∙ ap (λ (x : world.State). Some (record { name = s.name; state = x })) (ap state_value (sym h.down));
+      held = record { made = λ is. record { now = of; outcomes = λ x j. subst (IsOf s.name) (sym (only x c j)) of }; state = subst (λ (x : State). HoldsState v x q) (sym h.down) tt };
+    })
+    t
 
 reign_limit_untold : (v : View) (s : Site) (o : OpenSite) (before now : List ℕ) (p : Place) → IsOpenedAt v s o p → p.told ≡ false → now ≡ before ++ line s.name (codes "REIGNLIMIT") → Answers v s p s before now
-reign_limit_untold v s o before now p h unsure t = (
-  Refused (record { site = s.name; cause = ReignLimit }),
-  counted p v.faults,
-  (
-    refl,
-    inr (
-      early_down s p h.down h.site,
-      (inr refl, record { unknown = unsure; kept = record { site = refl; now = refl; left = refl; outcomes = λ o a. a; faults = h.faults; same = record { told = refl; simulated = refl } } }),
-    ),
-  ),
-  unknown_at v s p h.down h.site unsure h.simulated,
-  t,
-)
+reign_limit_untold v s o before now p h unsure t =
+    comes_may_refuse (record { site = s.name; cause = ReignLimit }) (counted p v.faults) (early_down s p h.down h.site)
+    (refl, inr refl, record { unknown = unsure; kept = kept_counted p v.faults h.faults }) (unknown_at v s p h.down h.site unsure h.simulated) t
 
 pub reign_limited : (v : View) (nothing : NothingIsLeft v) (s : Site) (o : OpenSite) (before now : List ℕ) → IsLawful v → ((c : Contents) (n : ℕ) → Remembers c n o → no_reign_left c ≡ true) → now ≡ before ++ line s.name (codes "REIGNLIMIT") → BeginsAt v o s v s before now
 reign_limited v nothing s o before now law limit t p h = elim (is_true_or_false p.told) [
@@ -432,30 +383,27 @@ reign_starts v w nothing s o new stamp serials from before now law first_serials
     let reign_room : p.told ≡ true → reign_limit p.now ≡ None = λ sure. ap reign_limit (sym (h.as_before sure)) ∙ sym (limit_opened h.broken read) ∙ limit_is c false (room c (length c.sequence) h.is_open.remembered) in
     let of : p.told ≡ true → IsOf s.name d = λ sure. of_begun s.name s.name c (of_opened s.name h.broken read (subst (IsOf s.name) (sym (h.as_before sure)) (h.made sure).now)) in
     let cycle : stamp.cycle ≡ cycle_on q.site = ap (λ x. x.cycle) stamp_is ∙ sym (ap (λ (x : Option world.Site). cycle_on (in_new_state state x)) h.site) in
-    let count : from ≡ length d.sequence + 1 = is_from ∙ ap (λ (k : ℕ). k + 1) (entries_open v p.told c (length read.sequence) o h.is_open) in (
-      Done,
-      q,
-      (
-        cause_down s p h.down h.site ∙ not_limited p (is_true_or_false p.told) h.drawn reign_room,
-        record {
-          read = read;
-          broken = h.broken;
-          as_before = h.as_before;
-          as_left = h.as_left;
-          becomes = record { site = refl; now = refl; left = refl; outcomes = refl; faults = omega (arith, later, h.faults); same = record { told = refl; simulated = refl } };
-        },
-      ),
-      record {
-        disk = place_of_one w p q.site d (same ∙ h.simulated) (λ sure. open_reads w nothing p.told d new law sure is_open) (λ sure. open_images w p.told d new sure is_open);
-        site = ap (in_new_state state) h.site ∙ ap (λ (x : world.State). Some (record { name = s.name; state = x })) (states_same stamp_new first_serials);
-        held = record {
-          made = λ sure. record { now = of sure; outcomes = λ x j. subst (IsOf s.name) (sym (only x d j)) (of sure) };
-          state = record { reigns = is_open; settled = λ sure x j. only x d j; left = λ sure. refl };
-        };
-      },
-      t ∙ ap (λ (k : ℕ). before ++ line s.name (codes "PRIMARY " ++ decimal k ++ codes " FROM " ++ decimal from)) cycle
-          ∙ ap (λ (k : ℕ). before ++ line s.name (codes "PRIMARY " ++ decimal (cycle_on q.site) ++ codes " FROM " ++ decimal k)) count,
-    )
+    let count : from ≡ length d.sequence + 1 = is_from ∙ ap (λ (k : ℕ). k + 1) (entries_open v p.told c (length read.sequence) o h.is_open) in
+    comes_done
+    q
+    (none_refused s.name (in_state why_not_down p.site) (limited p) (why_at s Down p h.down h.site) (not_limited p (is_true_or_false p.told) h.drawn reign_room))
+    (record {
+      read = read;
+      broken = h.broken;
+      as_before = h.as_before;
+      as_left = h.as_left;
+      becomes = record { site = refl; known = record { told = refl; now = refl; left = refl; outcomes = refl }; faults = omega (arith, later, h.faults); simulated = refl };
+    })
+    (record {
+      disk = place_of_one w p q.site d (same ∙ h.simulated) (λ sure. open_reads w nothing p.told d new law sure is_open) (λ sure. open_images w p.told d new sure is_open);
+      site = ap (in_new_state state) h.site ∙ ap (λ (x : world.State). Some (record { name = s.name; state = x })) (states_same stamp_new first_serials);
+      held = record {
+        made = λ sure. record { now = of sure; outcomes = λ x j. subst (IsOf s.name) (sym (only x d j)) (of sure) };
+        state = record { reigns = is_open; settled = λ sure x j. only x d j; left = λ sure. refl };
+      };
+    })
+    (t ∙ ap (λ (k : ℕ). before ++ line s.name (codes "PRIMARY " ++ decimal k ++ codes " FROM " ++ decimal from)) cycle
+    ∙ ap (λ (k : ℕ). before ++ line s.name (codes "PRIMARY " ++ decimal (cycle_on q.site) ++ codes " FROM " ++ decimal k)) count)
   where
     states_same : {x y : defs.Stamp} {a b : List ℕ} → x ≡ y → a ≡ b → world.Primary y b ≡ world.Primary x a
     states_same {x} {y} {a} {b} e f = ap (λ (z : defs.Stamp). world.Primary z b) (sym e) ∙ ap (λ (z : List ℕ). world.Primary x z) (sym f)
@@ -464,10 +412,10 @@ reign_starts v w nothing s o new stamp serials from before now law first_serials
 
 pub begins_so : (one_only : StandForOne) (v w u : View) (s new : Site) (o : OpenSite) (before now : List ℕ) → IsLawful v → s.state ≡ Down → site_name o.instance.records ≡ s.name → ((c : Contents) × (broken : List ℕ) × Remembers (opened broken c) (length c.sequence) o)
     → Opens v w o → HasGenerations v
-    → w.simulated ≡ v.simulated → v.faults ≤ w.faults → BeginsAt w o s u new before now → ExecutesAt (StartPrimary s.name) v s u new before now
+    → w.simulated ≡ v.simulated → v.faults ≤ w.faults → BeginsAt w o s u new before now → ExecutesAt (start s.name) v s u new before now
 begins_so one_only v w u s new o before now law down name read told drawn same later b p h = b p (opened_at one_only v w s o p law down h name read told drawn same later)
 
 pub begins_cut : (one_only : StandForOne) (v w u : View) (s : Site) (o : OpenSite) → IsLawful v → s.state ≡ Down → site_name o.instance.records ≡ s.name → ((c : Contents) × (broken : List ℕ) × Remembers (opened broken c) (length c.sequence) o)
     → Opens v w o → HasGenerations v
-    → w.simulated ≡ v.simulated → v.faults ≤ w.faults → IsCutOpened w o s u → IsCutAt (StartPrimary s.name) v s u
+    → w.simulated ≡ v.simulated → v.faults ≤ w.faults → IsCutOpened w o s u → IsCutAt (start s.name) v s u
 begins_cut one_only v w u s o law down name read told drawn same later b p h = b p (opened_at one_only v w s o p law down h name read told drawn same later)

@@ -2,7 +2,7 @@
 use Rattle.std.proofs.Common.{◌≡◌, ℕ, zero, suc, min, List, [], ◌∷◌, ◌++◌, length, take, refl, ap, sym, ◌∙◌, arith, append_assoc}
 use Rattle.std.specs.Prelude.{codes}
 use Rattle.std.specs.Fmt.{decimal}
-use Rattle.world_defs.specs.Output.{line}
+use Rattle.world_defs.specs.Answers.{line}
 
 joined : (o n a f b u c : List ℕ) → (((((o ++ n) ++ a) ++ f) ++ b) ++ u) ++ c ≡ o ++ (n ++ (a ++ (f ++ (b ++ (u ++ c)))))
 joined o n a f b u c = simp (append_assoc)

@@ -1,7 +1,7 @@
 -- What ATTACH does to the slots, once a site was found on the next disk.
 use Rattle.std.specs.Prelude.{◌≡◌, ℕ, ◌++◌, List, codes, set, slice_get, Option, Some, None}
 use Rattle.command_defs.specs.Commands.{Name}
-use Rattle.world_defs.specs.Output.{line}
+use Rattle.world_defs.specs.Answers.{line}
 use Rattle.site_runner.specs.declared.slot.State.TheVariants.{Down}
 use Rattle.site_runner.specs.declared.slot.Slot.{Slot}
 

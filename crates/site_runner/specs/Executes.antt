@@ -1,18 +1,36 @@
--- What executing a command is.
-use Rattle.std.specs.Prelude.{◌≡◌, List, ◌++◌, ℕ}
+-- What executing a row at its place is, and executing a command.
+use Rattle.std.specs.Prelude.{◌≡◌, ℕ, List, ◌++◌}
 use Rattle.disk_defs.specs.Disk.{View}
-use Rattle.world_defs.specs.World.{World}
 use Rattle.command_defs.specs.Commands.{Command}
+use Rattle.world_defs.specs.World.{Place, World}
 use Rattle.world_defs.specs.Answers.{Answer}
-use Rattle.world_defs.specs.Step.{Means, CutOff}
-use Rattle.world_defs.specs.Output.{text_of}
+use Rattle.world_defs.specs.Row.{Row, Here}
+use Rattle.world_defs.specs.Step.{Step, LeftBy, CutOff}
+use Rattle.world_defs.specs.Ties.{Matches}
 use Rattle.site_runner.specs.declared.slot.Slot.{Slot}
-use Rattle.site_runner.specs.Tied.{Tied, Matched}
+use Rattle.site_runner.specs.Tied.{IsPlace, Tied, Matched}
 
--- Whatever world the slots were, the command with some answer leads to one that they are, and this is its text.
+-- The row with some answer leads to a place that has S, and this is its text.
+pub record Comes (row : Row) (S : Place → Type 0) (before now : List ℕ) : Type 0 where
+  pub answer : Answer
+  pub becomes : Place
+  pub text : List ℕ
+  pub here : Here row answer becomes text
+  pub there : S becomes
+  pub written : now ≡ before ++ text
+
+-- Whatever place the slot was, the row leads to one that it is.
+abbrev pub ExecutesHere : {D : Type 0} → (D → View) → (Place → Row) → Slot D → Slot D → List ℕ → List ℕ → Type 0
+ExecutesHere view row old new before now = (p : Place) → IsPlace view old p → Comes (row p) (IsPlace view new) before now
+
+-- It was cut off for want of memory.
+abbrev pub IsCutHere : {D : Type 0} → (D → View) → (Place → Row) → Slot D → Slot D → Type 0
+IsCutHere view row old new = (p : Place) → IsPlace view old p → (q : Place) × LeftBy (row p).left p q × Matches (view new.disk) q
+
+-- Whatever world the slots were, the command with some answers leads to one that they are, and this is its text.
 abbrev pub Executes : {D : Type 0} → (D → View) → Command → List (Slot D) → List (Slot D) → List ℕ → List ℕ → Type 0
 Executes view c old new before now = (w : World) → Tied view old w
-    → (a : Answer) × (m : World) × Means w c a m × Tied view new m × (now ≡ before ++ text_of w c a m)
+    → (answers : List Answer) × (m : World) × (t : List ℕ) × Step w c answers m t × Tied view new m × (now ≡ before ++ t)
 
 -- It was cut off for want of memory.
 abbrev pub IsCutOff : {D : Type 0} → (D → View) → Command → List (Slot D) → List (Slot D) → Type 0

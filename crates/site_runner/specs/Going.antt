@@ -8,8 +8,7 @@ use Rattle.command_defs.specs.Sections.{IsFormed}
 use Rattle.command_defs.specs.Script.{Position, Outside, Within, Wrong, Ends, line_reading}
 use Rattle.world_defs.specs.World.{World}
 use Rattle.world_defs.specs.Answers.{Answer}
-use Rattle.world_defs.specs.Step.{Means, CutOff}
-use Rattle.world_defs.specs.Output.{text_of}
+use Rattle.world_defs.specs.Step.{Step, CutOff}
 use Rattle.world_defs.specs.Runs.{Told, Runs, commands}
 use Rattle.site_runner.specs.Told.{AppendsFront}
 use Rattle.repl_script.specs.declared.error.ScriptError.{ScriptError}
@@ -36,12 +35,12 @@ pub record Going {D : Type 0} (view : D → View) (start : World) (slots : List 
 -- a command was executed, and its text was written
 abbrev pub CarriesOut : {D : Type 0} → (D → View) → Command → List (Slot D) → List (Slot D) → Option (List ℕ) → Option (List ℕ) → Type 0
 CarriesOut view c old new before now = (w : World) → Tied view old w
-    → (a : Answer) × (m : World) × Means w c a m × Tied view new m × Appends before now (text_of w c a m)
+    → (answers : List Answer) × (m : World) × (t : List ℕ) × Step w c answers m t × Tied view new m × Appends before now t
 
 -- a command was executed, and a front of its text was written
 abbrev pub WritesShort : {D : Type 0} → (D → View) → Command → List (Slot D) → List (Slot D) → Option (List ℕ) → Option (List ℕ) → Type 0
 WritesShort view c old new before now = (w : World) → Tied view old w
-    → (a : Answer) × (m : World) × Means w c a m × Tied view new m × AppendsFront before now (text_of w c a m)
+    → (answers : List Answer) × (m : World) × (t : List ℕ) × Step w c answers m t × Tied view new m × AppendsFront before now t
 
 -- a command ended the run: before its text, or within it
 abbrev pub Breaks : {D : Type 0} → Status → (D → View) → Command → List (Slot D) → List (Slot D) → Option (List ℕ) → Option (List ℕ) → Type 0 → Type 0

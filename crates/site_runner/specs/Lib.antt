@@ -3,7 +3,7 @@ pub mod Sites
 pub mod Tied
 pub mod Moved
 pub mod Executes
-pub mod Here
+pub mod Named
 pub mod Steps
 pub mod Looking
 pub mod Creating

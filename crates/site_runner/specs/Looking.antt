@@ -10,9 +10,8 @@ use Rattle.command_defs.specs.Commands.{Name}
 use Rattle.site_defs.specs.Lists.{Among}
 use Rattle.world_defs.specs.World.{Place, NoNew, Kept}
 use Rattle.site_defs.specs.Contents.{Contents, is_made, same_name}
-use Rattle.world_defs.specs.Rows.{FailsBefore, OldOnes}
-use Rattle.world_defs.specs.Step.{KeptUnknown}
-use Rattle.world_defs.specs.Output.{line}
+use Rattle.world_defs.specs.Answers.{line}
+use Rattle.world_defs.specs.Changes.{Fails, KeptUnknown}
 use Rattle.site_runner.specs.declared.slot.Slot.{Slot}
 use Rattle.site_runner.specs.Tied.{IsPlace}
 
@@ -34,7 +33,7 @@ pub record LeavesOld (old new : Place) : Type 0 where
 
 abbrev pub Sees : Result (Option Layout) SiteError → Place → Place → Type 0
 Sees (Ok found) p q = Finds found p q
-Sees (Err (Failed fault)) p q = FailsBefore fault (OldOnes p) p q
+Sees (Err (Failed fault)) p q = Fails fault None (λ c o. o ≡ c) p q
 Sees (Err (Stopped fault)) p q = LeavesOld p q
 Sees (Err (Full nodes)) p q = LeavesOld p q
 Sees (Err SeqLimit) p q = LeavesOld p q

@@ -1,21 +1,20 @@
 -- What mapping a pattern means at the place of a site that was looked at for it.
-use Rattle.std.specs.Prelude.{◌≡◌, ◌≤◌, ◌<◌, ℕ, ◌++◌, true, List, length, Some, None, IsTrue, IsSomeAnd}
+use Rattle.std.specs.Prelude.{◌≡◌, ◌≤◌, ◌<◌, ℕ, List, length, Some, None, IsTrue, IsSomeAnd}
 use Rattle.disk_defs.specs.Disk.{Files, View, Image}
 use Rattle.journal_defs.specs.Instance.{generation, regions}
-use Rattle.command_defs.specs.Commands.{Name, Map}
+use Rattle.command_defs.specs.Commands.{Name}
 use Rattle.site_defs.specs.Lists.{Among}
 use Rattle.world_defs.specs.World.{Place}
 use Rattle.site_defs.specs.Contents.{Contents}
-use Rattle.world_defs.specs.Answers.{Answer}
-use Rattle.world_defs.specs.Refusals.{twice_mapped}
+use Rattle.world_defs.specs.rows.Map.{map_pattern, twice_mapped}
 use Rattle.site_defs.specs.Limits.{region_number}
-use Rattle.world_defs.specs.Step.{LeftAt}
+use Rattle.world_defs.specs.Step.{LeftBy}
 use Rattle.world_defs.specs.Ties.{Matches}
 use Rattle.site_defs.specs.Stands.{Stands, Reads}
 use Rattle.site_runner.specs.declared.slot.Site.{Site}
 use Rattle.site_runner.specs.declared.slot.State.TheVariants.{Down}
 use Rattle.site_runner.specs.Sites.{site_value, IsMade}
-use Rattle.site_runner.specs.Here.{Here, text_here}
+use Rattle.site_runner.specs.Executes.{Comes}
 use Rattle.site_runner.specs.Steps.{IsAt}
 
 -- A site that is down was looked at: its place as it was before. Each outcome that there still is has the same instance file.
@@ -39,8 +38,8 @@ pub record IsUnmappedIn (region : Name) (number : ℕ) (text : List ℕ) (c : Co
 -- Whatever place the site was looked at, MAP with some answer leads from there to one at which it stands, and this is its text.
 abbrev pub MapsAt : Name → List ℕ → View → Site → View → Site → List ℕ → List ℕ → Type 0
 MapsAt region text v old w new before now = (p : Place) → IsSeenAt v old p
-    → (a : Answer) × (q : Place) × Here (Map old.name region text) p a q × IsAt w new q × (now ≡ before ++ text_here (Map old.name region text) p a q)
+    → Comes (map_pattern region text old.name p) (IsAt w new) before now
 
 -- It was cut off for want of memory.
 abbrev pub IsCutSeen : Name → List ℕ → View → Site → View → Type 0
-IsCutSeen region text v old w = (p : Place) → IsSeenAt v old p → (q : Place) × LeftAt true (Map old.name region text) p q × Matches w q
+IsCutSeen region text v old w = (p : Place) → IsSeenAt v old p → (q : Place) × LeftBy (map_pattern region text old.name p).left p q × Matches w q

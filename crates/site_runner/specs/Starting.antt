@@ -1,22 +1,20 @@
 -- What beginning a reign means at the place of a site that was opened for it.
-use Rattle.std.specs.Prelude.{◌≡◌, ◌≤◌, ℕ, ◌++◌, true, List, length, Some, None, IsTrue}
+use Rattle.std.specs.Prelude.{◌≡◌, ◌≤◌, ℕ, true, List, length, Some, None, IsTrue}
 use Rattle.disk_defs.specs.Disk.{View}
 use Rattle.journal_defs.specs.Instance.{site_name}
 use Rattle.site_store.specs.declared.site.OpenSite.{OpenSite}
 use Rattle.site_store.specs.Site.{IsOpen}
-use Rattle.command_defs.specs.Commands.{StartPrimary}
 use Rattle.site_defs.specs.Lists.{Among}
 use Rattle.world_defs.specs.World.{Place}
 use Rattle.site_defs.specs.Contents.{Contents}
-use Rattle.world_defs.specs.Answers.{Answer}
-use Rattle.world_defs.specs.Refusals.{generation_limit}
+use Rattle.world_defs.specs.rows.Start.{generation_limit, start}
 use Rattle.site_defs.specs.Opening.{opened}
-use Rattle.world_defs.specs.Step.{LeftAt}
+use Rattle.world_defs.specs.Step.{LeftBy}
 use Rattle.world_defs.specs.Ties.{Matches}
 use Rattle.site_runner.specs.declared.slot.Site.{Site}
 use Rattle.site_runner.specs.declared.slot.State.TheVariants.{Down}
 use Rattle.site_runner.specs.Sites.{site_value, IsMade}
-use Rattle.site_runner.specs.Here.{Here, text_here}
+use Rattle.site_runner.specs.Executes.{Comes}
 use Rattle.site_runner.specs.Steps.{IsAt}
 
 -- A site that is down was opened: its place as it was before, and what was read there.
@@ -39,8 +37,8 @@ pub record IsOpenedAt (v : View) (s : Site) (o : OpenSite) (p : Place) : Type 0 
 -- Whatever place the site was opened at, START with some answer leads from there to one at which it stands, and this is its text.
 abbrev pub BeginsAt : View → OpenSite → Site → View → Site → List ℕ → List ℕ → Type 0
 BeginsAt v o old w new before now = (p : Place) → IsOpenedAt v old o p
-    → (a : Answer) × (q : Place) × Here (StartPrimary old.name) p a q × IsAt w new q × (now ≡ before ++ text_here (StartPrimary old.name) p a q)
+    → Comes (start old.name p) (IsAt w new) before now
 
 -- It was cut off for want of memory.
 abbrev pub IsCutOpened : View → OpenSite → Site → View → Type 0
-IsCutOpened v o old w = (p : Place) → IsOpenedAt v old o p → (q : Place) × LeftAt true (StartPrimary old.name) p q × Matches w q
+IsCutOpened v o old w = (p : Place) → IsOpenedAt v old o p → (q : Place) × LeftBy (start old.name p).left p q × Matches w q

@@ -9,18 +9,18 @@ use Rattle.journal_defs.specs.Surviving.{reigns}
 use Rattle.gvn_model.specs.Numbered.{numbered}
 use Rattle.repl_section.specs.Reigns.{stamp_of}
 use Rattle.world_defs.specs.World.{Place}
-use Rattle.world_defs.specs.Answers.{Answer}
-use Rattle.command_defs.specs.Commands.{Command}
-use Rattle.world_defs.specs.Step.{LeftAt}
-use Rattle.world_defs.specs.Output.{line, reign_text}
+use Rattle.world_defs.specs.Answers.{line}
+use Rattle.world_defs.specs.Row.{Row}
+use Rattle.world_defs.specs.Step.{LeftBy}
+use Rattle.world_defs.specs.rows.Show.{reign_text}
 use Rattle.site_defs.specs.Texts.{extract_from, zwrite}
 use Rattle.world_defs.specs.Ties.{Matches}
-use Rattle.std.specs.Prelude.{Option, Some, true}
+use Rattle.std.specs.Prelude.{Option, Some}
 use Rattle.site_runner.specs.declared.slot.State.{State}
 use Rattle.site_runner.specs.declared.slot.State.TheVariants.{Down, Primary, Failed}
 use Rattle.site_runner.specs.declared.slot.Site.{Site}
 use Rattle.site_runner.specs.Sites.{site_value, IsHeld}
-use Rattle.site_runner.specs.Here.{Here, text_here}
+use Rattle.site_runner.specs.Executes.{Comes}
 
 -- a line of the site, and nothing has changed
 abbrev pub Says : Site → Site → List ℕ → List ℕ → List ℕ → Type 0
@@ -66,10 +66,10 @@ pub record IsAt (v : View) (s : Site) (p : Place) : Type 0 where
   pub site : p.site ≡ Some (site_value s)
   pub held : IsHeld v s p
 
--- Whatever place the site stood at, the command with some answer leads to one at which it stands, and this is its text.
-abbrev pub ExecutesAt : Command → View → Site → View → Site → List ℕ → List ℕ → Type 0
-ExecutesAt c v old w new before now = (p : Place) → IsAt v old p → (a : Answer) × (q : Place) × Here c p a q × IsAt w new q × (now ≡ before ++ text_here c p a q)
+-- Whatever place the site stood at, the row leads to one at which it stands.
+abbrev pub ExecutesAt : (Place → Row) → View → Site → View → Site → List ℕ → List ℕ → Type 0
+ExecutesAt row v old w new before now = (p : Place) → IsAt v old p → Comes (row p) (IsAt w new) before now
 
 -- It was cut off for want of memory.
-abbrev pub IsCutAt : Command → View → Site → View → Type 0
-IsCutAt c v old w = (p : Place) → IsAt v old p → (q : Place) × LeftAt true c p q × Matches w q
+abbrev pub IsCutAt : (Place → Row) → View → Site → View → Type 0
+IsCutAt row v old w = (p : Place) → IsAt v old p → (q : Place) × LeftBy (row p).left p q × Matches w q

@@ -6,9 +6,9 @@ ghost use Rattle.site_defs.specs.Lists.{first_where};
 ghost use Rattle.command_defs.specs.Commands as commands;
 ghost use Rattle.command_defs.specs.Sections.{IsFormed};
 ghost use Rattle.repl_script.specs.Commands.{region_value};
-ghost use Rattle.site_runner.specs.Executes.{Executes, IsCutOff};
-ghost use Rattle.site_runner.specs.Here.{IsCutHere};
-ghost use Rattle.site_runner.specs.Creating.{spec_of, MakesHere, MakingIsCut, CreatesHere};
+ghost use Rattle.world_defs.specs.rows.Create as rows;
+ghost use Rattle.site_runner.specs.Executes.{ExecutesHere, IsCutHere, Executes, IsCutOff};
+ghost use Rattle.site_runner.specs.Creating.{spec_of, MakesHere, MakingIsCut};
 ghost use Rattle.site_runner.specs.Sites.{is_slot_named, IsReadyOn, AreReady};
 
 use super::finding::{find, find_free};
@@ -76,8 +76,8 @@ fn create_at<D: Disk>(
 ) -> Result<(), NoMemory>
     requires formed { IsFormed (commands.Create name (map region_value regions.now)) }
     requires free { slot.old.site ≡ None }
-    ensures done { OnOk result (CreatesHere D.disk name (map region_value regions.now) slot.old slot.new text.old text.new) }
-    ensures cut_off { OnErr result (IsCutHere D.disk (commands.Create name (map region_value regions.now)) slot.old slot.new) }
+    ensures done { OnOk result (ExecutesHere D.disk (rows.create (map region_value regions.now) name) slot.old slot.new text.old text.new) }
+    ensures cut_off { OnErr result (IsCutHere D.disk (rows.create (map region_value regions.now) name) slot.old slot.new) }
     ensures ready { IsReadyOn (D.disk slot.new.disk) slot.new.site }
 {
     match look(alloc, slot) {

@@ -1,11 +1,10 @@
 // One command.
 ghost use Rattle.std.specs.Prelude.{◌≡◌, ◌≢◌, length, OnOk, OnErr, Some, None, true};
 ghost use Rattle.site_defs.specs.Lists.{first_where};
-ghost use Rattle.world_defs.specs.Output.{name_in};
 ghost use Rattle.command_defs.specs.Sections.{IsFormed, IsWhole};
 ghost use Rattle.repl_script.specs.Commands.{command_value};
-ghost use Rattle.site_runner.specs.Executes.{Executes, IsCutOff};
-ghost use Rattle.site_runner.specs.Here.{IsNamed, ExecutesHere, IsCutHere};
+ghost use Rattle.site_runner.specs.Executes.{ExecutesHere, IsCutHere, Executes, IsCutOff};
+ghost use Rattle.site_runner.specs.Named.{IsNamed, name_in, row_in};
 ghost use Rattle.site_runner.specs.Sites.{is_slot_named, IsReadyOn, AreReady};
 
 use super::attach::attach;
@@ -61,8 +60,8 @@ fn execute_at<D: Disk>(
     requires site { is_slot_named (name_in (command_value command)) slot.old ≡ true }
     requires ready { IsReadyOn (D.disk slot.old.disk) slot.old.site }
     ensures ready { OnOk result (IsReadyOn (D.disk slot.new.disk) slot.new.site) }
-    ensures done { OnOk result (ExecutesHere D.disk (command_value command) slot.old slot.new text.old text.new) }
-    ensures cut_off { OnErr result (IsCutHere D.disk (command_value command) slot.old slot.new) }
+    ensures done { OnOk result (ExecutesHere D.disk (row_in (command_value command)) slot.old slot.new text.old text.new) }
+    ensures cut_off { OnErr result (IsCutHere D.disk (row_in (command_value command)) slot.old slot.new) }
 {
     let Some(site) = &mut slot.site else {
         unreachable!();

@@ -1,6 +1,7 @@
 // FUSE and CRASH.
 ghost use Rattle.std.specs.Prelude.{◌≡◌, OnOk, OnErr};
-ghost use Rattle.command_defs.specs.Commands.{Fuse, Crash};
+ghost use Rattle.world_defs.specs.rows.Crash as crashing;
+ghost use Rattle.world_defs.specs.rows.Fuse as rows;
 ghost use Rattle.site_runner.specs.Sites.{IsReadyState};
 ghost use Rattle.site_runner.specs.Steps.{ExecutesAt};
 
@@ -19,7 +20,7 @@ pub fn fuse<D: Disk>(
 ) -> Result<(), NoMemory>
     requires { IsReadyState (D.disk disk.old) site.now.state }
     ensures ready { IsReadyState (D.disk disk.new) site.now.state }
-    ensures done { OnOk result (ExecutesAt (Fuse site.now.name calls) (D.disk disk.old) site.now (D.disk disk.new) site.now text.old text.new) }
+    ensures done { OnOk result (ExecutesAt (rows.fuse calls site.now.name) (D.disk disk.old) site.now (D.disk disk.new) site.now text.old text.new) }
     ensures kept { OnErr result (disk.new ≡ disk.old) }
 {
     if let Some(fault) = site.fault() {
@@ -42,7 +43,7 @@ pub fn crash<D: Disk>(
 ) -> Result<(), NoMemory>
     requires { IsReadyState (D.disk disk.old) site.old.state }
     ensures ready { OnOk result (IsReadyState (D.disk disk.new) site.new.state) }
-    ensures done { OnOk result (ExecutesAt (Crash site.old.name pick) (D.disk disk.old) site.old (D.disk disk.new) site.new text.old text.new) }
+    ensures done { OnOk result (ExecutesAt (crashing.crash site.old.name) (D.disk disk.old) site.old (D.disk disk.new) site.new text.old text.new) }
     ensures disk { OnErr result (disk.new ≡ disk.old) }
     ensures site { OnErr result (site.new ≡ site.old) }
 {

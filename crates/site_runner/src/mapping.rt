@@ -1,6 +1,5 @@
 // MAP.
 ghost use Rattle.std.specs.Prelude.{◌≡◌, ◌<◌, ◌≤◌, take, map, length, IfSome, OnOk, OnErr, true, Some};
-ghost use Rattle.command_defs.specs.Commands as commands;
 ghost use Rattle.disk_defs.specs.Disk.{IsDurable};
 ghost use Rattle.global_defs.specs.Pattern.{is_pattern};
 ghost use Rattle.journal_defs.specs.Numbers.{INSTANCE};
@@ -12,6 +11,7 @@ ghost use Rattle.site_defs.specs.Limits.{region_number};
 ghost use Rattle.site_defs.specs.Stands.{IsSite, Stands};
 ghost use Rattle.site_store.specs.Finding.{IsFound, IsFoundIn};
 ghost use Rattle.site_store.specs.Opening.{region_value};
+ghost use Rattle.world_defs.specs.rows.Map.{map_pattern};
 ghost use Rattle.site_runner.specs.declared.slot.State.TheVariants.{Down};
 ghost use Rattle.site_runner.specs.Sites.{IsReadyState};
 ghost use Rattle.site_runner.specs.Steps.{ExecutesAt, IsCutAt};
@@ -135,8 +135,8 @@ fn map_down<D: Disk>(
     requires form { is_pattern pattern.now ≡ true }
     requires down { site.old.state ≡ Down }
     ensures ready { OnOk result (IsReadyState (D.disk disk.new) site.new.state) }
-    ensures done { OnOk result (ExecutesAt (commands.Map site.old.name region.now pattern.now) (D.disk disk.old) site.old (D.disk disk.new) site.new text.old text.new) }
-    ensures cut_off { OnErr result (IsCutAt (commands.Map site.old.name region.now pattern.now) (D.disk disk.old) site.old (D.disk disk.new)) }
+    ensures done { OnOk result (ExecutesAt (map_pattern region.now pattern.now site.old.name) (D.disk disk.old) site.old (D.disk disk.new) site.new text.old text.new) }
+    ensures cut_off { OnErr result (IsCutAt (map_pattern region.now pattern.now site.old.name) (D.disk disk.old) site.old (D.disk disk.new)) }
 {
     leftovers_hold();
     match find(alloc, disk) {
@@ -166,8 +166,8 @@ pub fn map<D: Disk>(
     requires ready { IsReadyState (D.disk disk.old) site.old.state }
     requires form { is_pattern pattern.now ≡ true }
     ensures ready { OnOk result (IsReadyState (D.disk disk.new) site.new.state) }
-    ensures done { OnOk result (ExecutesAt (commands.Map site.old.name region.now pattern.now) (D.disk disk.old) site.old (D.disk disk.new) site.new text.old text.new) }
-    ensures cut_off { OnErr result (IsCutAt (commands.Map site.old.name region.now pattern.now) (D.disk disk.old) site.old (D.disk disk.new)) }
+    ensures done { OnOk result (ExecutesAt (map_pattern region.now pattern.now site.old.name) (D.disk disk.old) site.old (D.disk disk.new) site.new text.old text.new) }
+    ensures cut_off { OnErr result (IsCutAt (map_pattern region.now pattern.now site.old.name) (D.disk disk.old) site.old (D.disk disk.new)) }
 {
     match &site.state {
         State::Failed { fault } => {

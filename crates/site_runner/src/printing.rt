@@ -1,6 +1,6 @@
 // TYPE.
 ghost use Rattle.std.specs.Prelude.{◌≡◌, ◌≤◌, OnOk, OnErr};
-ghost use Rattle.command_defs.specs.Commands.{Print};
+ghost use Rattle.world_defs.specs.rows.Print as rows;
 ghost use Rattle.site_runner.specs.Sites.{IsReadyState};
 ghost use Rattle.site_runner.specs.Steps.{ExecutesAt, IsCutAt};
 
@@ -25,8 +25,8 @@ pub fn print<D: Disk>(
     requires some { 1 ≤ generation }
     requires most { generation ≤ 65535 }
     ensures ready { OnOk result (IsReadyState (D.disk disk.new) site.new.state) }
-    ensures done { OnOk result (ExecutesAt (Print site.old.name generation) (D.disk disk.old) site.old (D.disk disk.new) site.new text.old text.new) }
-    ensures cut_off { OnErr result (IsCutAt (Print site.old.name generation) (D.disk disk.old) site.old (D.disk disk.new)) }
+    ensures done { OnOk result (ExecutesAt (rows.print generation site.old.name) (D.disk disk.old) site.old (D.disk disk.new) site.new text.old text.new) }
+    ensures cut_off { OnErr result (IsCutAt (rows.print generation site.old.name) (D.disk disk.old) site.old (D.disk disk.new)) }
 {
     typing_reads_files();
     if let Some(fault) = site.fault() {

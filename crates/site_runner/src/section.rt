@@ -1,7 +1,7 @@
 // RUN.
 ghost use Rattle.std.specs.Prelude.{◌≡◌, OnOk, OnErr};
-ghost use Rattle.command_defs.specs.Commands as commands;
 ghost use Rattle.command_defs.specs.Sections.{UsesUp};
+ghost use Rattle.world_defs.specs.rows.Run.{run};
 ghost use Rattle.site_runner.specs.Sites.{IsReadyState};
 ghost use Rattle.site_runner.specs.Steps.{ExecutesAt, IsCutAt};
 
@@ -27,8 +27,8 @@ pub fn run_section<D: Disk>(
     requires whole { UsesUp jobs order.now }
     requires ready { IsReadyState (D.disk disk.old) site.old.state }
     ensures ready { OnOk result (IsReadyState (D.disk disk.new) site.new.state) }
-    ensures done { OnOk result (ExecutesAt (commands.Run site.old.name jobs order.now) (D.disk disk.old) site.old (D.disk disk.new) site.new text.old text.new) }
-    ensures cut_off { OnErr result (IsCutAt (commands.Run site.old.name jobs order.now) (D.disk disk.old) site.old (D.disk disk.new)) }
+    ensures done { OnOk result (ExecutesAt (run jobs order.now site.old.name) (D.disk disk.old) site.old (D.disk disk.new) site.new text.old text.new) }
+    ensures cut_off { OnErr result (IsCutAt (run jobs order.now site.old.name) (D.disk disk.old) site.old (D.disk disk.new)) }
 {
     leftovers_hold();
     let reign = match &mut site.state {

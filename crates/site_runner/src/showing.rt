@@ -2,7 +2,8 @@
 ghost use Rattle.std.specs.Prelude.{◌≡◌, ◌++◌, map, OnOk};
 ghost use Rattle.std.specs.List.{flat_map};
 ghost use Rattle.gvn_model.specs.Reigns.{reign_value};
-ghost use Rattle.world_defs.specs.Output.{line, reign_text};
+ghost use Rattle.world_defs.specs.Answers.{line};
+ghost use Rattle.world_defs.specs.rows.Show.{reign_text};
 ghost use Rattle.repl_section.specs.Reigns.{stamp_in};
 ghost use Rattle.site_runner.specs.Steps.{state_text};
 

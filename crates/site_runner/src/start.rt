@@ -1,7 +1,7 @@
 // START PRIMARY.
 ghost use Rattle.std.specs.Prelude.{◌≡◌, ◌≢◌, OnOk, OnErr, MatchBool};
 ghost use Rattle.journal_defs.specs.Instance.{site_name};
-ghost use Rattle.command_defs.specs.Commands.{StartPrimary};
+ghost use Rattle.world_defs.specs.rows.Start as rows;
 ghost use Rattle.site_store.specs.Site.{IsReady, WasOpened};
 ghost use Rattle.site_runner.specs.declared.slot.State.TheVariants.{Down};
 ghost use Rattle.site_runner.specs.Sites.{IsReadyState};
@@ -72,8 +72,8 @@ fn open<D: Disk>(
 ) -> Result<(), NoMemory>
     requires { site.old.state ≡ Down }
     ensures ready { OnOk result (IsReadyState (D.disk disk.new) site.new.state) }
-    ensures done { OnOk result (ExecutesAt (StartPrimary site.old.name) (D.disk disk.old) site.old (D.disk disk.new) site.new text.old text.new) }
-    ensures cut_off { OnErr result (IsCutAt (StartPrimary site.old.name) (D.disk disk.old) site.old (D.disk disk.new)) }
+    ensures done { OnOk result (ExecutesAt (rows.start site.old.name) (D.disk disk.old) site.old (D.disk disk.new) site.new text.old text.new) }
+    ensures cut_off { OnErr result (IsCutAt (rows.start site.old.name) (D.disk disk.old) site.old (D.disk disk.new)) }
 {
     leftovers_hold();
     files_stand_for_one();
@@ -107,8 +107,8 @@ pub fn start<D: Disk>(
 ) -> Result<(), NoMemory>
     requires { IsReadyState (D.disk disk.old) site.old.state }
     ensures ready { OnOk result (IsReadyState (D.disk disk.new) site.new.state) }
-    ensures done { OnOk result (ExecutesAt (StartPrimary site.old.name) (D.disk disk.old) site.old (D.disk disk.new) site.new text.old text.new) }
-    ensures cut_off { OnErr result (IsCutAt (StartPrimary site.old.name) (D.disk disk.old) site.old (D.disk disk.new)) }
+    ensures done { OnOk result (ExecutesAt (rows.start site.old.name) (D.disk disk.old) site.old (D.disk disk.new) site.new text.old text.new) }
+    ensures cut_off { OnErr result (IsCutAt (rows.start site.old.name) (D.disk disk.old) site.old (D.disk disk.new)) }
 {
     match &site.state {
         State::Failed { fault } => {

@@ -2,7 +2,9 @@
 ghost use Rattle.std.specs.Prelude.{◌≡◌, ◌++◌, ◌∷◌, OnOk, codes};
 ghost use Rattle.std.specs.Fmt.{decimal};
 ghost use Rattle.gvn_model.specs.Reigns.{reign_value};
-ghost use Rattle.world_defs.specs.Output.{line, fault_line, reign_text};
+ghost use Rattle.world_defs.specs.Answers.{line};
+ghost use Rattle.world_defs.specs.rows.Run.{undecided_line};
+ghost use Rattle.world_defs.specs.rows.Show.{reign_text};
 
 use gvn_key::{Bytes, NoMemory};
 use gvn_model::Reign;
@@ -89,7 +91,7 @@ pub fn write_undecided(
     fault: u64,
     undecided: u64,
 ) -> Result<(), NoMemory>
-    ensures { OnOk result (text.new ≡ text.old ++ fault_line name.now fault undecided) }
+    ensures { OnOk result (text.new ≡ text.old ++ undecided_line name.now fault undecided) }
 {
     text.push_all(name)?;
     text.push_all(b" DISKFAULT ")?;

@@ -1,5 +1,6 @@
--- What a command answers.
-use Rattle.std.specs.Prelude.{ℕ, List, Option}
+-- What a command answers, and the lines of refusals and faults.
+use Rattle.std.specs.Prelude.{ℕ, List, [], ◌∷◌, ◌++◌, codes, Option}
+use Rattle.std.specs.Fmt.{decimal}
 use Rattle.command_defs.specs.Commands.{Name}
 
 -- why a command is refused
@@ -53,3 +54,34 @@ pub data Answer : Type 0 where
   Ran : Section → Answer
   -- a file has these bytes
   Typed : (text : List ℕ) → Answer
+
+-- a line that begins with a site's name
+abbrev pub line : Name → List ℕ → List ℕ
+line name text = name ++ 32 ∷ text ++ 10 ∷ []
+
+abbrev pub cause_text : Cause → List ℕ
+cause_text NoSite = codes "NOSITE"
+cause_text (Stopped k) = codes "STOPPED " ++ decimal k
+cause_text Exists = codes "EXISTS"
+cause_text NoDisk = codes "NODISK"
+cause_text NotEmpty = codes "NOTEMPTY"
+cause_text Empty = codes "EMPTY"
+cause_text Running = codes "RUNNING"
+cause_text NotRunning = codes "NOTRUNNING"
+cause_text NotPrimary = codes "NOTPRIMARY"
+cause_text NotSimulated = codes "NOTSIMULATED"
+cause_text Started = codes "STARTED"
+cause_text (NoRegion region) = codes "NOREGION " ++ region
+cause_text TwiceMapped = codes "TWICEMAPPED"
+cause_text NoFile = codes "NOFILE"
+cause_text GenLimit = codes "GENLIMIT"
+cause_text ReignLimit = codes "REIGNLIMIT"
+
+abbrev pub refusal_line : Refusal → List ℕ
+refusal_line r = line r.site (cause_text r.cause)
+
+abbrev pub fault_line : Name → (fault : ℕ) → List ℕ
+fault_line name k = line name (codes "DISKFAULT " ++ decimal k)
+
+abbrev pub damage_line : Name → (file offset : ℕ) → List ℕ
+damage_line name file offset = line name (codes "NOTAFILE " ++ decimal file ++ 32 ∷ decimal offset)

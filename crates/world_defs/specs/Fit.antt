@@ -1,6 +1,6 @@
 -- What holds of the worlds of fit disks beside what their files show: limits, cycles and serials (GT.M: journal sequence numbers and
 -- the history of an instance never go back but by a rollback).
-use Rattle.std.specs.Prelude.{◌≡◌, ◌<◌, ◌≤◌, ℕ, List, length, Option, Some, None, IsTrue}
+use Rattle.std.specs.Prelude.{◌≡◌, ◌<◌, ◌≤◌, ℕ, List, length, Option, Some, None}
 use Rattle.std.specs.List.{AllByRecursion}
 use Rattle.global_defs.specs.Entry.{Stamp, Entry}
 use Rattle.global_defs.specs.Serial.{serial_at}
@@ -8,8 +8,7 @@ use Rattle.journal_defs.specs.Instance.{greatest_cycle, site_name}
 use Rattle.journal_defs.specs.Surviving.{reigns}
 use Rattle.journal_defs.specs.Fit.{SerialsRise, HasFewReigns, MOST_REIGNS}
 use Rattle.command_defs.specs.Commands.{Name}
-use Rattle.site_defs.specs.Lists.{Among}
-use Rattle.world_defs.specs.World.{State, Down, Primary, Failed, Site, Place, World}
+use Rattle.world_defs.specs.World.{State, Down, Primary, Failed, Site, Place, World, IfKnown, EachOutcome}
 use Rattle.site_defs.specs.Contents.{Contents}
 
 -- an entry of the site's own has no cycle past those of the site's reigns, dropped ones among them
@@ -49,11 +48,11 @@ IsNamedSo (Some site) c = site.name ≡ site_name c.instance
 
 -- where its files are known
 pub record IsFitPlace (p : Place) : Type 0 where
-  pub now : IsTrue p.told → IsFitContents p.now
-  pub outcomes : IsTrue p.told → (o : Contents) → Among p.outcomes o → IsFitContents o
-  pub named : IsTrue p.told → (o : Contents) → Among p.outcomes o → IsNamedSo p.site o
-  pub named_now : IsTrue p.told → IsNamedSo p.site p.now
-  pub site : IsTrue p.told → IsFitSite p.site p.now
+  pub now : IfKnown p (IsFitContents p.now)
+  pub outcomes : EachOutcome IsFitContents p
+  pub named : EachOutcome (IsNamedSo p.site) p
+  pub named_now : IfKnown p (IsNamedSo p.site p.now)
+  pub site : IfKnown p (IsFitSite p.site p.now)
 
 -- each disk whose files are known is fit
 abbrev pub IsFit : World → Type 0

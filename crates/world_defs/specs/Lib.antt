@@ -1,9 +1,10 @@
 pub mod World
 pub mod Answers
-pub mod Refusals
-pub mod Rows
+pub mod Changes
+pub mod Row
+pub mod rows
+pub mod Meaning
 pub mod Step
-pub mod Output
 pub mod Runs
 pub mod Ties
 pub mod Fit

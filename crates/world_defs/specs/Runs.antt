@@ -1,10 +1,9 @@
 -- Whole runs.
 use Rattle.std.specs.Prelude.{◌≡◌, ℕ, List, [], ◌∷◌, ◌++◌, map}
-use Rattle.world_defs.specs.World.{World}
 use Rattle.command_defs.specs.Commands.{Command}
+use Rattle.world_defs.specs.World.{World}
 use Rattle.world_defs.specs.Answers.{Answer}
 use Rattle.world_defs.specs.Step.{Step}
-use Rattle.world_defs.specs.Output.{text}
 
 -- a command and what it answered
 pub record Told : Type 0 where
@@ -14,7 +13,7 @@ pub record Told : Type 0 where
 -- these commands, with these answers, lead from one world to another and write this
 abbrev pub Runs : World → List Told → World → List ℕ → Type 0
 Runs w [] after t = (after ≡ w) × (t ≡ [])
-Runs w (c ∷ cs) after t = (m : World) × (rest : List ℕ) × Step w c.command c.answers m × Runs m cs after rest × (t ≡ text w c.command c.answers m ++ rest)
+Runs w (c ∷ cs) after t = (m : World) × (text rest : List ℕ) × Step w c.command c.answers m text × Runs m cs after rest × (t ≡ text ++ rest)
 
 abbrev pub commands : List Told → List Command
 commands told = map (λ c. c.command) told

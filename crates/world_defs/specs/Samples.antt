@@ -1,6 +1,10 @@
--- Small worlds for the laws.
+-- Small worlds for the laws, and a command made of others.
 use Rattle.std.specs.Prelude.{Bool, true, [], ◌∷◌, codes, Some, None}
-use Rattle.world_defs.specs.World.{Place, Failed}
+use Rattle.command_defs.specs.Commands.{Name}
+use Rattle.world_defs.specs.World.{Place, World, Failed}
+use Rattle.world_defs.specs.Meaning.{Meaning, Acts, Then, apart, on_site, row_at}
+use Rattle.world_defs.specs.rows.Start.{start}
+use Rattle.world_defs.specs.rows.Stop.{stop}
 use Rattle.site_defs.specs.Contents.{nothing, NO_LEFTOVER}
 use Rattle.site_defs.specs.Samples.{made}
 
@@ -15,3 +19,7 @@ made_place = record { site = None; told = true; now = made; left = NO_LEFTOVER; 
 -- an empty disk
 abbrev pub blank_place : Place
 blank_place = record { site = None; told = true; now = nothing; left = NO_LEFTOVER; outcomes = nothing ∷ []; faults = 0; simulated = true }
+
+-- one site is closed, and where that was done, another one begins a reign
+abbrev pub switching : (from to : Name) → World → Meaning
+switching from to w = on_site w from (λ i p. on_site w to (λ j q. Then i (row_at stop p) apart (λ u. on_site u to (λ k x. Acts k (row_at start x) apart))))

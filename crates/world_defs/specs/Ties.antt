@@ -1,15 +1,15 @@
 -- What ties disks to a world.
-use Rattle.site_defs.specs.Stands.{Reads, Stands}
-use Rattle.std.specs.Prelude.{◌≡◌, List, IsTrue, IsSomeAnd}
+use Rattle.std.specs.Prelude.{◌≡◌, List, IsSomeAnd}
 use Rattle.disk_defs.specs.Disk.{Files, View, Image}
 use Rattle.site_defs.specs.Lists.{Among, Along}
-use Rattle.world_defs.specs.World.{Place, World}
 use Rattle.site_defs.specs.Contents.{Contents}
+use Rattle.site_defs.specs.Stands.{Reads, Stands}
+use Rattle.world_defs.specs.World.{Place, World, IfKnown}
 
 -- Where the files are known, the disk tells them, they stand for what the place has, and each image stands for one of its outcomes.
 pub record Matches (v : View) (p : Place) : Type 0 where
-  pub told : IsTrue p.told → IsSomeAnd v.content (λ files. Reads files p.now p.left)
-  pub images : IsTrue p.told → (c : Files) → Image v c → (o : Contents) × Among p.outcomes o × Stands c o
+  pub told : IfKnown p (IsSomeAnd v.content (λ files. Reads files p.now p.left))
+  pub images : IfKnown p ((c : Files) → Image v c → (o : Contents) × Among p.outcomes o × Stands c o)
   pub faults : v.faults ≡ p.faults
   pub simulated : v.simulated ≡ p.simulated
 

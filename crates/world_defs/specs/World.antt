@@ -1,10 +1,10 @@
 -- The world of a run between two commands: plain data (GT.M: instances, and what the replication of each one does).
 use Rattle.site_defs.specs.Contents.{Contents, Leftover, same_name}
-use Rattle.std.specs.Prelude.{◌≡◌, ℕ, ◌≤◌, ◌-◌, Bool, true, false, List, [], ◌∷◌, ◌++◌, Option, Some, None, get_or, slice_get, take}
+use Rattle.std.specs.Prelude.{◌≡◌, ℕ, ◌≤◌, Bool, true, false, List, [], Option, Some, None, IsTrue, take}
 use Rattle.std.specs.List.{AllByRecursion}
 use Rattle.global_defs.specs.Entry.{Stamp}
 use Rattle.command_defs.specs.Commands.{Name}
-use Rattle.site_defs.specs.Lists.{Among, first_where}
+use Rattle.site_defs.specs.Lists.{Among, Along, first_where}
 
 pub data State : Type 0 where
   Down : State
@@ -45,6 +45,10 @@ abbrev pub is_site_named : Name → Option Site → Bool
 is_site_named name None = false
 is_site_named name (Some site) = same_name site.name name
 
+abbrev pub name_on : Option Site → Name
+name_on None = []
+name_on (Some site) = site.name
+
 abbrev pub is_free : Option Site → Bool
 is_free None = true
 is_free (Some site) = false
@@ -57,21 +61,9 @@ place_of w name = first_where (λ p. is_site_named name p.site) w.places
 abbrev pub next_of : World → Option ℕ
 next_of w = first_where (λ p. is_free p.site) (take MOST_SITES w.places)
 
-abbrev pub at_place : World → Option ℕ → Option Place
-at_place w None = None
-at_place w (Some i) = slice_get w.places i
-
--- the place of the site with that name
-abbrev pub site_of : World → Name → Option Place
-site_of w name = at_place w (place_of w name)
-
 -- the world at the start of a run: no site stands
 abbrev pub IsFresh : World → Type 0
 IsFresh w = AllByRecursion (λ (p : Place). p.site ≡ None) w.places
-
--- the broken-transaction file of a generation, as it reads
-abbrev pub typed : ℕ → Place → List ℕ
-typed g p = get_or (p.now.texts ++ p.left.torn ∷ []) (g - 1) []
 
 -- There is no outcome but what is read.
 abbrev pub Settled : Place → Type 0
@@ -81,16 +73,28 @@ Settled p = (o : Contents) → Among p.outcomes o → o ≡ p.now
 abbrev pub NoNew : List Contents → List Contents → Type 0
 NoNew old new = (o : Contents) → Among new o → Among old o
 
--- what no command changes of a disk
-pub record Same (old new : Place) : Type 0 where
+-- P, where the place's files are known
+abbrev pub IfKnown : Place → Type 0 → Type 0
+IfKnown p P = IsTrue p.told → P
+
+-- each of its outcomes has P, where its files are known
+abbrev pub EachOutcome : (Contents → Type 0) → Place → Type 0
+EachOutcome P p = IfKnown p ((o : Contents) → Among p.outcomes o → P o)
+
+-- As much is known as before, and no more is left open.
+pub record StaysKnown (old new : Place) : Type 0 where
   pub told : new.told ≡ old.told
-  pub simulated : new.simulated ≡ old.simulated
+  pub outcomes : NoNew old.outcomes new.outcomes
 
 -- A command leaves a site that it doesn't act on so.
 pub record Kept (old new : Place) : Type 0 where
   pub site : new.site ≡ old.site
   pub now : new.now ≡ old.now
   pub left : new.left ≡ old.left
-  pub outcomes : NoNew old.outcomes new.outcomes
+  pub known : StaysKnown old new
   pub faults : old.faults ≤ new.faults
-  pub same : Same old new
+  pub simulated : new.simulated ≡ old.simulated
+
+-- all places are as before
+abbrev pub Unchanged : World → World → Type 0
+Unchanged w m = Along (λ i. Kept) w.places m.places

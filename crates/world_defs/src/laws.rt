@@ -3,18 +3,24 @@ ghost use Rattle.std.specs.Prelude.{◌≡◌, ◌∷◌, ◌++◌, [], ℕ, Lis
 ghost use Rattle.journal_defs.specs.Instance as records;
 ghost use Rattle.journal_defs.specs.Instance.{InstanceRecord};
 ghost use Rattle.global_defs.specs.Entry.{Sequence};
-ghost use Rattle.world_defs.specs.World.{Place, Down, Primary, Failed, typed};
 ghost use Rattle.site_defs.specs.Contents.{nothing};
-ghost use Rattle.command_defs.specs.Commands.{Attach, Create, StartPrimary, Run, Stop, Crash, Show, with_images};
-ghost use Rattle.world_defs.specs.Answers.{NoSite, NoDisk, Empty, Exists, Stopped, NotSimulated, Started, NoRegion, TwiceMapped, NoFile, GenLimit, ReignLimit, Refused, DiskFault, Done, Ran};
-ghost use Rattle.world_defs.specs.Refusals.{refusal, generation_limit, reign_limit, unmapped, twice_mapped, started, first, no_file};
-ghost use Rattle.site_defs.specs.Limits.{region_number};
-ghost use Rattle.world_defs.specs.Output.{text_of, section_text, show_state};
-ghost use Rattle.world_defs.specs.Rows.{created, FIRST_SERIALS};
-ghost use Rattle.site_defs.specs.Opening.{opened, with_starts, with_pattern, with_reign, next_stamp};
 ghost use Rattle.site_defs.specs.Fronts.{turn_of};
-ghost use Rattle.world_defs.specs.Samples.{failed_place, blank_place, made_place};
+ghost use Rattle.site_defs.specs.Limits.{region_number};
+ghost use Rattle.site_defs.specs.Opening.{opened, with_pattern};
 ghost use Rattle.site_defs.specs.Samples.{made, reigned_once, two_regions};
+ghost use Rattle.command_defs.specs.Commands.{Attach, Create, StartPrimary, Stop, Crash, Show, with_images};
+ghost use Rattle.world_defs.specs.World.{Primary, Failed};
+ghost use Rattle.world_defs.specs.Answers.{NoSite, NoDisk, Empty, Exists, Stopped, NotSimulated, Started, NoRegion, TwiceMapped, NoFile, GenLimit, ReignLimit, refusal_line, fault_line};
+ghost use Rattle.world_defs.specs.Row.{first};
+ghost use Rattle.world_defs.specs.rows.Attach.{attach};
+ghost use Rattle.world_defs.specs.rows.Create.{created};
+ghost use Rattle.world_defs.specs.rows.Map.{started, twice_mapped, unmapped};
+ghost use Rattle.world_defs.specs.rows.Print.{no_file, typed};
+ghost use Rattle.world_defs.specs.rows.Run.{section_text};
+ghost use Rattle.world_defs.specs.rows.Show.{show_state};
+ghost use Rattle.world_defs.specs.rows.Start.{FIRST_SERIALS, generation_limit, reign_limit, start};
+ghost use Rattle.world_defs.specs.Step.{refusal, refusal_of};
+ghost use Rattle.world_defs.specs.Samples.{failed_place, blank_place, made_place, switching};
 
 /// A world without disks refuses what needs one; one whose only disk failed refuses what needs it until a crash.
 pub fn refusals_hold()
@@ -24,6 +30,7 @@ pub fn refusals_hold()
     ensures failed { refusal (record { places = failed_place true ∷ [] }) (Stop (codes "A")) ≡ Some (record { site = codes "A"; cause = Stopped 3 }) }
     ensures crashed { refusal (record { places = failed_place true ∷ [] }) (Crash (codes "A") 0) ≡ None }
     ensures real { refusal (record { places = failed_place false ∷ [] }) (Crash (codes "A") 0) ≡ Some (record { site = codes "A"; cause = NotSimulated }) }
+    ensures both { refusal_of (switching (codes "A") (codes "B") (record { places = failed_place true ∷ [] })) ≡ Some (record { site = codes "B"; cause = NoSite }) }
     ensures shown { refusal (record { places = failed_place true ∷ [] }) (Show (codes "A")) ≡ None }
 {}
 
@@ -43,8 +50,8 @@ pub fn causes_hold()
 
 /// A pattern is mapped to a region that is there, once, and before the first generation is drawn.
 pub fn mapping_holds()
-    ensures mapped { unmapped (codes "R") (codes "X*") (Some made_place) ≡ None }
-    ensures region { unmapped (codes "Q") (codes "X*") (Some made_place) ≡ Some (NoRegion (codes "Q")) }
+    ensures mapped { unmapped (codes "R") (codes "X*") made_place ≡ None }
+    ensures region { unmapped (codes "Q") (codes "X*") made_place ≡ Some (NoRegion (codes "Q")) }
     ensures twice { twice_mapped (codes "X*") (with_pattern 0 (codes "X*") made) ≡ Some TwiceMapped }
     ensures name { twice_mapped (codes "X") (with_pattern 0 (codes "X*") made) ≡ None }
     ensures begun { first (started reigned_once ∷ []) ≡ Some Started }
@@ -55,15 +62,15 @@ pub fn mapping_holds()
 pub fn typing_holds()
     ensures newest { typed 1 (record { site = None; told = true; now = opened (codes "x") made; left = record { broken = []; torn = codes "y" }; outcomes = []; faults = 0; simulated = true }) ≡ codes "x" }
     ensures torn { typed 2 (record { site = None; told = true; now = opened (codes "x") made; left = record { broken = []; torn = codes "y" }; outcomes = []; faults = 0; simulated = true }) ≡ codes "y" }
-    ensures nothing { no_file 3 (Some made_place) ≡ Some NoFile }
+    ensures nothing { no_file 3 made_place ≡ Some NoFile }
 {}
 
 /// The lines of a refusal, of a fault, of a site that is shown, and of a section that a fault ended.
 pub fn output_holds()
-    ensures told { text_of (record { places = [] }) (Stop (codes "A")) (Refused (record { site = codes "A"; cause = Stopped 1 })) (record { places = [] }) ≡ codes "A STOPPED 1\n" }
-    ensures fault { text_of (record { places = [] }) (StartPrimary (codes "A")) (DiskFault 7) (record { places = [] }) ≡ codes "A DISKFAULT 7\n" }
-    ensures attach { text_of (record { places = [] }) Attach (Refused (record { site = codes "ATTACH"; cause = Empty })) (record { places = [] }) ≡ codes "ATTACH EMPTY\n" }
-    ensures attached { text_of (record { places = blank_place ∷ [] }) Attach Done (record { places = failed_place true ∷ [] }) ≡ codes "A ATTACHED\n" }
+    ensures told { refusal_line (record { site = codes "A"; cause = Stopped 1 }) ≡ codes "A STOPPED 1\n" }
+    ensures fault { fault_line (start (codes "A") made_place).word 7 ≡ codes "A DISKFAULT 7\n" }
+    ensures attach { refusal_line (record { site = codes "ATTACH"; cause = Empty }) ≡ codes "ATTACH EMPTY\n" }
+    ensures attached { (attach (record { places = blank_place ∷ [] }) blank_place).says (failed_place true) ≡ codes "A ATTACHED\n" }
     ensures section { section_text (codes "A") 2 (turn_of (record { root = codes "A"; cycle = 1 }) FIRST_SERIALS [] [] []) 0 (Some 1) ≡ codes "A DISKFAULT 1 UNDECIDED 2\n" }
     ensures failed { show_state (codes "A") (Failed 3) nothing ≡ codes "A STATE FAILED 3\n" }
     ensures primary { show_state (codes "A") (Primary (record { root = codes "A"; cycle = 1 }) FIRST_SERIALS) reigned_once ≡ codes "A STATE PRIMARY 1 LENGTH 0\nA REIGN A 1 FROM 1\n" }

@@ -7,7 +7,7 @@ use Rattle.journal_defs.specs.Fit.{SerialsRise, HasFewReigns}
 use Rattle.command_defs.specs.Commands.{Name, Region}
 use Rattle.global_defs.specs.Pattern.{ends_in_star, stem}
 use Rattle.site_defs.specs.Contents.{Contents, nothing}
-use Rattle.world_defs.specs.Rows.{created}
+use Rattle.world_defs.specs.rows.Create.{created}
 use Rattle.site_defs.specs.Opening.{MayOpen, MayBegin, MayMap, cut_there, with_starts, opened, with_reign, next_reign, with_pattern}
 use Rattle.world_defs.specs.Fit.{IsWithinCycles, IsFitContents}
 use Rattle.world_laws.proofs.Lists.{all-weaker}

@@ -5,6 +5,9 @@ pub mod ContentsFit
 pub mod PlacesFit
 pub mod ReignsFit
 pub mod SectionsFit
+pub mod Keeps
+pub mod Builds
+pub mod RowsFit
 pub mod WorldsFit
 pub mod FreshFit
 pub mod StandsForOne

@@ -1,8 +1,6 @@
--- Lists: what holds of each element, elements by their places, and the first that passes a test.
-use Rattle.std.proofs.Common.{◌≡◌, ◌⊎◌, inl, inr, ℕ, zero, suc, ◌<◌, Bool, true, false, cond, List, [], ◌∷◌, ◌++◌, length, take, Option, Some, None, slice_get, refl, sym, ◌∙◌, ap, arith}
-use Rattle.std.specs.Prelude.{option_map}
+-- Lists: what holds of each element, and elements by their places.
+use Rattle.std.proofs.Common.{◌≡◌, ◌⊎◌, inl, inr, ℕ, zero, suc, ◌<◌, List, [], ◌∷◌, ◌++◌, length, take, Some, None, slice_get, refl, ap, arith}
 use Rattle.std.specs.List.{AllByRecursion}
-use Rattle.site_defs.specs.Lists.{first_where}
 
 pub all-weaker : {X : Type 0} (P Q : X → Type 0) → ((x : X) → P x → Q x) → (xs : List X) → AllByRecursion P xs → AllByRecursion Q xs
 all-weaker P Q f [] h = tt
@@ -35,19 +33,3 @@ pub get-within : {X : Type 0} (xs : List X) (i : ℕ) (x : X) → slice_get xs i
 get-within [] i x is = let none : None ≡ Some x = is in cc
 get-within (y ∷ xs) zero x is = omega arith
 get-within (y ∷ xs) (suc i) x is = let rest = get-within xs i x is in omega arith
-
-found_step : (b : Bool) (o : Option ℕ) (i : ℕ) → cond b (Some zero) (option_map suc o) ≡ Some (suc i) → o ≡ Some i
-found_step true o i e = cc
-found_step false None i e = cc
-found_step false (Some k) i e = cc
-
-found_first : (b : Bool) (o : Option ℕ) → cond b (Some zero) (option_map suc o) ≡ Some zero → b ≡ true
-found_first true o e = refl
-found_first false None e = cc
-found_first false (Some k) e = cc
-
--- the test passes where the first element stands that passes it
-pub passes : {X : Type 0} (test : X → Bool) (xs : List X) (i : ℕ) (x : X) → first_where test xs ≡ Some i → slice_get xs i ≡ Some x → test x ≡ true
-passes test [] i x e is = let none : None ≡ Some x = is in cc
-passes test (y ∷ xs) zero x e is = let same : Some y ≡ Some x = is in let there : y ≡ x = cc in ap test (sym there) ∙ found_first (test y) (first_where test xs) e
-passes test (y ∷ xs) (suc i) x e is = passes test xs i x (found_step (test y) (first_where test xs) i e) is

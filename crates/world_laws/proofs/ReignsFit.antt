@@ -1,6 +1,6 @@
 -- What START keeps at its place: the cycle that it draws is past that of each entry of the site's own.
-use Rattle.std.proofs.Common.{◌≡◌, ℕ, ◌+◌, ◌≤◌, ◌<◌, ◌==◌, ◌||◌, nat_le, Bool, true, false, List, [], ◌∷◌, length, Option, Some, None, IsTrue, refl, sym, ◌∙◌, ap, subst, arith, nat_eq, if◌then◌else◌}
-use Rattle.std.proofs.lemmas.Bool.{and_parts, or_parts, eqb-true, leb-false, false≢true}
+use Rattle.std.proofs.Common.{◌≡◌, ℕ, ◌+◌, ◌≤◌, ◌<◌, ◌==◌, ◌||◌, nat_le, Bool, true, false, List, [], length, Option, Some, None, IsTrue, refl, sym, ◌∙◌, ap, subst, arith, if◌then◌else◌}
+use Rattle.std.proofs.lemmas.Bool.{or_parts, leb-false}
 use Rattle.std.specs.List.{AllByRecursion}
 use Rattle.std.specs.Prelude.{filter}
 use Rattle.global_defs.specs.Entry.{Stamp}
@@ -8,27 +8,20 @@ use Rattle.journal_defs.specs.Instance.{generation, greatest_cycle, site_name}
 use Rattle.journal_defs.specs.Surviving.{reigns}
 use Rattle.journal_defs.specs.Fit.{MOST_REIGNS}
 use Rattle.command_defs.specs.Commands.{Name}
-use Rattle.world_defs.specs.World.{Down, Primary, Site, Place, is_site_named}
-use Rattle.site_defs.specs.Contents.{Contents, same_name}
+use Rattle.world_defs.specs.World.{Down, Primary, Site, Place, name_on}
+use Rattle.site_defs.specs.Contents.{Contents}
 use Rattle.world_defs.specs.Answers.{ReignLimit}
-use Rattle.world_defs.specs.Refusals.{reign_limit}
+use Rattle.world_defs.specs.rows.Start.{reign_limit, StartsPrimary, FIRST_SERIALS}
 use Rattle.site_defs.specs.Limits.{LAST_CYCLE}
-use Rattle.world_defs.specs.Rows.{in_new_state, Becomes, Fails, MayBeginAny, StartsPrimary, FIRST_SERIALS}
-use Rattle.site_defs.specs.Opening.{opened, with_reign, next_stamp, next_reign}
+use Rattle.world_defs.specs.Changes.{in_new_state, Becomes}
+use Rattle.site_defs.specs.Lists.{Among}
+use Rattle.site_defs.specs.Opening.{MayBegin, opened, with_reign, next_stamp, next_reign}
 use Rattle.world_defs.specs.Fit.{IsBeforeNext, IsFitContents, IsFitReign, IsFitSite, IsNamedSo, IsFitPlace}
 use Rattle.world_laws.proofs.Lists.{all-weaker}
 use Rattle.world_laws.proofs.Instances.{cycle-cut, cycle-reign, room-less, room-reign}
 use Rattle.world_laws.proofs.SerialRuns.{IsOf}
 use Rattle.world_laws.proofs.ContentsFit.{name-cut, fit-opened, name-reign, fit-reign, fit-may_begin, name-may_begin}
-use Rattle.world_laws.proofs.PlacesFit.{fit-becomes, fit-fails, fit-stops, named-same}
-
-pub names_same : (a b : Name) → same_name a b ≡ true → a ≡ b
-names_same [] [] e = refl
-names_same [] (y ∷ b) e = cc
-names_same (x ∷ a) [] e = cc
-names_same (x ∷ a) (y ∷ b) e =
-    let s = and_parts (nat_eq x y) (same_name a b) e in
-    ap (λ (k : ℕ). k ∷ a) (eqb-true x y s.0) ∙ ap (λ (l : Name). y ∷ l) (names_same a b s.1)
+use Rattle.world_laws.proofs.PlacesFit.{fit-becomes, fit-stops, named-same}
 
 may_reign : (full : Bool) → (if full then Some ReignLimit else None) ≡ None → full ≡ false
 may_reign true e = cc
@@ -66,31 +59,27 @@ fit-new_reign name broken c named none h =
     }
 
 -- the contents that a START leaves
-fit-begun : (name : Name) (broken : List ℕ) (o : Option Site) (c : Contents) → is_site_named name o ≡ true → reign_limit c ≡ None → IsFitContents c → IsNamedSo o c
-    → IsFitContents (with_reign name (opened broken c)) × IsNamedSo o (with_reign name (opened broken c)) × IsFitSite (in_new_state (Primary (next_stamp name c) FIRST_SERIALS) o) (with_reign name (opened broken c))
-fit-begun name broken None c is none h named = absurd (false≢true is)
-fit-begun name broken (Some site) c is none h named =
-    let same : site.name ≡ name = names_same site.name name is in (
-      fit-reign name (opened broken c) (fit-opened broken c h),
-      named ∙ sym (name-reign name (opened broken c) ∙ name-cut broken c),
-      subst (λ (n : Name). IsFitReign n (next_stamp name c) FIRST_SERIALS (with_reign name (opened broken c))) (sym same) (fit-new_reign name broken c (sym same ∙ named) none h),
-    )
+fit-begun : (broken : List ℕ) (o : Option Site) (c : Contents) → reign_limit c ≡ None → IsFitContents c → IsNamedSo o c → let name = name_on o in
+    IsFitContents (with_reign name (opened broken c)) × IsNamedSo o (with_reign name (opened broken c)) × IsFitSite (in_new_state (Primary (next_stamp name c) FIRST_SERIALS) o) (with_reign name (opened broken c))
+fit-begun broken None c none h named = (fit-reign [] (opened broken c) (fit-opened broken c h), tt, tt)
+fit-begun broken (Some site) c none h named = (
+  fit-reign site.name (opened broken c) (fit-opened broken c h),
+  named ∙ sym (name-reign site.name (opened broken c) ∙ name-cut broken c),
+  fit-new_reign site.name broken c named none h,
+)
 
-pub fit-starts : (name : Name) (old new : Place) → is_site_named name old.site ≡ true → (IsTrue old.told → reign_limit old.now ≡ None) → IsFitPlace old
-    → StartsPrimary name old new → IsFitPlace new
-fit-starts name old new is none h r =
+pub fit-starts : (old new : Place) → (IsTrue old.told → reign_limit old.now ≡ None) → IsFitPlace old → StartsPrimary (name_on old.site) old new → IsFitPlace new
+fit-starts old new none h r =
+    let name = name_on old.site in
     fit-becomes (Primary (next_stamp name r.read) FIRST_SERIALS) (with_reign name (opened r.broken r.read)) old new
     (λ t. subst (λ (c : Contents). IsFitContents (with_reign name (opened r.broken c)) × IsNamedSo old.site (with_reign name (opened r.broken c)) × IsFitSite (in_new_state (Primary (next_stamp name c) FIRST_SERIALS) old.site) (with_reign name (opened r.broken c)))
-    (sym (r.as_before t)) (fit-begun name r.broken old.site old.now is (none t) (h.now t) (h.named_now t)))
+    (sym (r.as_before t)) (fit-begun r.broken old.site old.now (none t) (h.now t) (h.named_now t)))
     r.becomes
 
-pub fit-may_begin_any : (name : Name) (old : Place) (o : Contents) → IsFitPlace old → IsTrue old.told → MayBeginAny name old o → IsFitContents o × IsNamedSo old.site o
-fit-may_begin_any name old o h t m =
+pub fit-begins_some : (name : Name) (old : Place) → IsFitPlace old → IsTrue old.told → (c o : Contents) → Among old.outcomes c → MayBegin name old.left.broken c o → IsFitContents o × IsNamedSo old.site o
+fit-begins_some name old h t c o a m =
     let broken : List ℕ = old.left.broken in
-    (fit-may_begin name broken m.0 o (h.outcomes t m.0 m.1) m.2, named-same old.site m.0 o (name-may_begin name broken m.0 o m.2) (h.named t m.0 m.1))
-
-pub fit-start_fails : (name : Name) (k : ℕ) (old new : Place) → IsFitPlace old → Fails k (MayBeginAny name old) old new → IsFitPlace new
-fit-start_fails name k old new h r = fit-fails k (MayBeginAny name old) old new (λ t o m. fit-may_begin_any name old o h t m) r
+    (fit-may_begin name broken c o (h.outcomes t c a) m, named-same old.site c o (name-may_begin name broken c o m) (h.named t c a))
 
 -- a START that is refused past the limit of reigns
 pub fit-refused : (old new : Place) → IsFitPlace old → Becomes Down (opened old.left.broken old.now) old new → IsFitPlace new

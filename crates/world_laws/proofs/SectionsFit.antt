@@ -9,17 +9,17 @@ use Rattle.journal_defs.specs.Surviving.{reigns}
 use Rattle.journal_defs.specs.Fit.{MOST_REIGNS}
 use Rattle.command_defs.specs.Commands.{Name}
 use Rattle.command_defs.specs.Sections.{is_updater}
-use Rattle.world_defs.specs.World.{Primary, Site, Place}
+use Rattle.world_defs.specs.World.{State, Down, Primary, Failed, Site, Place}
 use Rattle.site_defs.specs.Contents.{Contents}
 use Rattle.world_defs.specs.Answers.{Section}
-use Rattle.world_defs.specs.Rows.{in_new_state}
+use Rattle.world_defs.specs.Changes.{in_new_state}
 use Rattle.site_defs.specs.Fronts.{IsFrontOf, with_sequence, turn_of}
-use Rattle.world_defs.specs.Step.{Runs, RunsTo, IsPicked}
+use Rattle.world_defs.specs.rows.Run.{Runs, RunsTo, IsPicked, RunMayLeave, RunMayLeaveOn}
 use Rattle.world_defs.specs.Fit.{IsFitContents, IsFitReign, IsFitSite, IsNamedSo, IsFitPlace}
 use Rattle.world_laws.proofs.Lists.{all-front}
 use Rattle.world_laws.proofs.Instances.{few_at}
 use Rattle.world_laws.proofs.SerialRuns.{IsGoing, IsOf, going-serial, updaters-front, rise-front}
-use Rattle.world_laws.proofs.PlacesFit.{fit-becomes, fit-fails, named-same}
+use Rattle.world_laws.proofs.PlacesFit.{fit-becomes, fit-site_fails, named-same}
 
 -- the entries of a section, with a site's cycles
 abbrev Goes : Contents → Stamp → List ℕ → Sequence → Type 0
@@ -29,7 +29,7 @@ begins : (name : Name) (c : Contents) (stamp : Stamp) (next : List ℕ) → IsFi
 begins name c stamp next h r = record { rise = h.serials; within = h.cycles; updaters = r.updaters; before = r.next }
 
 -- all entries that a section's picks lead to
-pub goes : (name : Name) (c : Contents) (stamp : Stamp) (next : List ℕ) (jobs : List (List Job)) (picks : List ℕ) → list_all is_updater picks ≡ true → IsFitContents c → IsFitReign name stamp next c
+goes : (name : Name) (c : Contents) (stamp : Stamp) (next : List ℕ) (jobs : List (List Job)) (picks : List ℕ) → list_all is_updater picks ≡ true → IsFitContents c → IsFitReign name stamp next c
     → Goes c stamp (turn_of stamp next jobs picks c.sequence).serials (turn_of stamp next jobs picks c.sequence).sequence
 goes name c stamp next jobs picks updaters h r =
     going-serial (site_name c.instance) (greatest_cycle c.instance) stamp picks (begun next jobs c.sequence) r.cycle updaters (begins name c stamp next h r)
@@ -37,7 +37,7 @@ goes name c stamp next jobs picks updaters h r =
 fit-whole : (c : Contents) (stamp : Stamp) (next : List ℕ) (seq : Sequence) → length (reigns c.instance) ≤ MOST_REIGNS → Goes c stamp next seq → IsFitContents (with_sequence c seq)
 fit-whole c stamp next seq room g = record { serials = g.rise; few_reigns = few_at c.instance (length seq) room; cycles = g.within }
 
-pub fit-front : (c : Contents) (stamp : Stamp) (next : List ℕ) (all : Sequence) (low : ℕ) (o : Contents) → length (reigns c.instance) ≤ MOST_REIGNS → Goes c stamp next all
+fit-front : (c : Contents) (stamp : Stamp) (next : List ℕ) (all : Sequence) (low : ℕ) (o : Contents) → length (reigns c.instance) ≤ MOST_REIGNS → Goes c stamp next all
     → IsFrontOf all low c o → IsFitContents o
 fit-front c stamp next all low o room g f = subst IsFitContents (sym f.is) (record {
   serials = rise-front f.count all g.rise;
@@ -61,8 +61,8 @@ fit-ran stamp name next t hardened None old new is h fit r =
       subst (λ (o : Option Site). IsFitSite (in_new_state (Primary stamp t.serials) o) (with_sequence old.now t.sequence)) (sym is) (fit-same_reign name old.now stamp next t.serials t.sequence f.0 f.1),
     )) r.becomes
 fit-ran stamp name next t hardened (Some k) old new is h fit r =
-    fit-fails k (IsFrontOf t.sequence hardened old.now) old new
-    (λ told o front. let f = fit told in (
+    fit-site_fails k (λ c o. IsFrontOf t.sequence hardened old.now o) old new
+    (λ told c o among front. let f = fit told in (
       fit-front old.now stamp t.serials t.sequence hardened o f.0.room f.1 front,
       front-named old.site t.sequence hardened old.now o (h.named_now told) front,
     )) r.fails
@@ -72,7 +72,7 @@ updaters-picked None order picks h p = ap (list_all is_updater) p ∙ h
 updaters-picked (Some k) order picks h p = ap (list_all is_updater) p.1 ∙ updaters-front p.0 order h
 
 -- the reign of a primary
-pub reign-at : (name : Name) (stamp : Stamp) (next : List ℕ) (p : Place) → p.site ≡ Some (record { name = name; state = Primary stamp next }) → IsFitPlace p → IsTrue p.told → IsFitReign name stamp next p.now
+reign-at : (name : Name) (stamp : Stamp) (next : List ℕ) (p : Place) → p.site ≡ Some (record { name = name; state = Primary stamp next }) → IsFitPlace p → IsTrue p.told → IsFitReign name stamp next p.now
 reign-at name stamp next p is h t = subst (λ (o : Option Site). IsFitSite o p.now) is (h.site t)
 
 pub fit-runs : (name : Name) (jobs : List (List Job)) (order : List ℕ) (s : Section) (old new : Place) → list_all is_updater order ≡ true → IsFitPlace old
@@ -82,3 +82,20 @@ fit-runs name jobs order s old new updaters h r =
     (λ t. let reign = reign-at name r.stamp r.serials old r.state h t in
     (reign, goes name old.now r.stamp r.serials jobs s.picks (updaters-picked s.fault order s.picks updaters r.picks) (h.now t) reign))
     r.ran
+
+-- a section that was cut off
+
+run_may_leave : (name : Name) (state : State) (jobs : List (List Job)) (order : List ℕ) (p : Place) (o : Contents) → p.site ≡ Some (record { name = name; state = state })
+    → list_all is_updater order ≡ true → IsFitPlace p → IsTrue p.told → RunMayLeave state jobs order p o → IsFitContents o
+run_may_leave name Down jobs order p o is updaters f t h = absurd h
+run_may_leave name (Failed k) jobs order p o is updaters f t h = absurd h
+run_may_leave name (Primary stamp next) jobs order p o is updaters f t h =
+    let reign = reign-at name stamp next p is f t in
+    let turn = turn_of stamp next jobs (take h.0 order) p.now.sequence in
+    fit-front p.now stamp turn.serials turn.sequence (length p.now.sequence) o reign.room
+    (goes name p.now stamp next jobs (take h.0 order) (updaters-front h.0 order updaters) (f.now t) reign) h.1
+
+pub fit-run_left : (site : Option Site) (jobs : List (List Job)) (order : List ℕ) (p : Place) (o : Contents) → p.site ≡ site
+    → list_all is_updater order ≡ true → IsFitPlace p → IsTrue p.told → RunMayLeaveOn site jobs order p o → IsFitContents o
+fit-run_left None jobs order p o is updaters f t h = absurd h
+fit-run_left (Some site) jobs order p o is updaters f t h = run_may_leave site.name site.state jobs order p o is updaters f t h

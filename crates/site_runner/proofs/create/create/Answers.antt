@@ -1,14 +1,12 @@
 use Rattle.std.proofs.Common.{◌≡◌, ℕ, List, Some, ◌++◌, ◌<◌, length, map, sym, ◌∙◌, ap, subst}
 use Rattle.std.specs.Prelude.{codes}
 use Rattle.site_defs.specs.Lists.{first_where}
-use Rattle.world_defs.specs.Output.{line}
-use Rattle.command_defs.specs.Commands as commands
+use Rattle.world_defs.specs.Answers.{line}
 use Rattle.repl_script.specs.Commands.{region_value}
 use Rattle.site_runner.specs.declared.slot.Slot.{Slot}
 use Rattle.site_runner.specs.Sites.{is_slot_named}
 use Rattle.site_runner.proofs.Results.{on_ok, err_so}
-use Rattle.site_runner.proofs.Lifts.{cut_nothing}
-use Rattle.site_runner.proofs.CreateLifts.{exists_there}
+use Rattle.site_runner.proofs.CreateLifts.{exists_there, create_not_begun}
 use Rattle.site_runner.proofs.create.create.Goals as goal
 
 pub returns-in-Some-clause-done : goal.returns-in-Some-clause-done
@@ -23,4 +21,4 @@ returns-in-Some-clause-done g c =
     (t ∙ ap (λ (x : List ℕ). c.args.text.now ++ line x (codes "EXISTS")) c.as_slice-in-Some.ensures))
 
 pub returns-in-Some-clause-cut_off : goal.returns-in-Some-clause-cut_off
-returns-in-Some-clause-cut_off g c = err_so c.write_line.result _ (cut_nothing g.D.Disk.disk c.args.slots.now.items (commands.Create c.args.name (map region_value c.args.regions)))
+returns-in-Some-clause-cut_off g c = err_so c.write_line.result _ (create_not_begun g.D.Disk.disk c.args.name (map region_value c.args.regions) c.args.slots.now.items)

@@ -1,8 +1,8 @@
 use Rattle.std.proofs.Common.{◌++◌, ℕ, List, map, ◌∙◌, ap}
 use Rattle.std.specs.Prelude.{codes}
-use Rattle.command_defs.specs.Commands as commands
+use Rattle.world_defs.specs.rows.Create as rows
 use Rattle.repl_script.specs.Commands.{region_value}
-use Rattle.world_defs.specs.Output.{line}
+use Rattle.world_defs.specs.Answers.{line}
 use Rattle.site_runner.proofs.Results.{on_ok, err_holds, on_err_of}
 use Rattle.site_runner.proofs.Created.{create_failed, create_refused, create_made, create_made_cut}
 use Rattle.site_runner.proofs.Looked.{looked_cut}
@@ -15,7 +15,7 @@ returns-in-Err-clause-done g c =
 
 pub returns-in-Err-clause-cut_off : goal.returns-in-Err-clause-cut_off
 returns-in-Err-clause-cut_off g c =
-    err_holds c.write_failure.result _ (looked_cut g.D.Disk.disk c.args.slot.now c.look.new.slot (commands.Create c.args.name (map region_value c.args.regions.now)) c.look.result c.look.ensures.seen)
+    err_holds c.write_failure.result _ (looked_cut g.D.Disk.disk c.args.slot.now c.look.new.slot (rows.create (map region_value c.args.regions.now) c.args.name) c.look.result c.look.ensures.seen)
 
 pub returns-in-Ok-Some-clause-done : goal.returns-in-Ok-Some-clause-done
 returns-in-Ok-Some-clause-done g c =
@@ -25,7 +25,7 @@ returns-in-Ok-Some-clause-done g c =
 
 pub returns-in-Ok-Some-clause-cut_off : goal.returns-in-Ok-Some-clause-cut_off
 returns-in-Ok-Some-clause-cut_off g c =
-    err_holds c.write_line.result _ (looked_cut g.D.Disk.disk c.args.slot.now c.look.new.slot (commands.Create c.args.name (map region_value c.args.regions.now)) c.look.result c.look.ensures.seen)
+    err_holds c.write_line.result _ (looked_cut g.D.Disk.disk c.args.slot.now c.look.new.slot (rows.create (map region_value c.args.regions.now) c.args.name) c.look.result c.look.ensures.seen)
 
 pub returns-in-Ok-None-clause-done : goal.returns-in-Ok-None-clause-done
 returns-in-Ok-None-clause-done g c =

@@ -1,6 +1,6 @@
 use Rattle.std.proofs.Common.{◌++◌, ℕ, List, ◌∙◌, ap, sym}
 use Rattle.std.specs.Prelude.{codes}
-use Rattle.world_defs.specs.Output.{line}
+use Rattle.world_defs.specs.Answers.{line}
 use Rattle.site_runner.proofs.Results.{on_ok}
 use Rattle.site_runner.proofs.Crashed.{crash_down, crash_real, crashes}
 use Rattle.site_runner.proofs.fusing.crash.Goals as goal

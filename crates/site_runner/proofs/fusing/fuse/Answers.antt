@@ -1,7 +1,7 @@
 use Rattle.std.proofs.Common.{◌++◌, ℕ, List, ◌∙◌, ap, sym}
 use Rattle.std.specs.Prelude.{codes}
 use Rattle.std.specs.Fmt.{decimal}
-use Rattle.world_defs.specs.Output.{line}
+use Rattle.world_defs.specs.Answers.{line}
 use Rattle.site_runner.proofs.Results.{on_ok}
 use Rattle.site_runner.proofs.Crashed.{fuse_stopped, fuse_real, fused}
 use Rattle.site_runner.proofs.Fused.{ready_read_on}

@@ -2,7 +2,8 @@ use Rattle.std.proofs.Common.{◌++◌, List, ℕ, take, map, ap, sym, ◌∙◌
 use Rattle.std.specs.List.{flat_map}
 use Rattle.global_defs.specs.Entry.{Reign}
 use Rattle.gvn_model.specs.Reigns.{reign_value}
-use Rattle.world_defs.specs.Output.{line, reign_text}
+use Rattle.world_defs.specs.Answers.{line}
+use Rattle.world_defs.specs.rows.Show.{reign_text}
 use Rattle.site_store.proofs.Pieces.{written_more}
 use Rattle.site_runner.proofs.showing.write_reigns.Goals as goal
 

@@ -1,7 +1,7 @@
 use Rattle.std.proofs.Common.{◌≡◌, ◌++◌, ◌+◌, ℕ, List, length, refl, ◌∙◌, ap, subst, sym, Err}
 use Rattle.std.specs.Prelude.{codes}
 use Rattle.std.specs.Fmt.{decimal}
-use Rattle.world_defs.specs.Output.{line}
+use Rattle.world_defs.specs.Answers.{line}
 use Rattle.site_runner.specs.Starting.{BeginsAt}
 use Rattle.site_runner.proofs.Results.{on_ok, err_holds}
 use Rattle.site_runner.proofs.Written.{named}

@@ -1,7 +1,7 @@
 use Rattle.std.proofs.Common.{◌++◌, ℕ, List, ◌∙◌, ap}
 use Rattle.std.specs.Prelude.{codes}
 use Rattle.std.specs.Fmt.{decimal}
-use Rattle.world_defs.specs.Output.{line}
+use Rattle.world_defs.specs.Answers.{line}
 use Rattle.site_runner.proofs.Results.{on_ok}
 use Rattle.site_runner.proofs.Started.{start_failed_before, start_running}
 use Rattle.site_runner.proofs.start.start.Goals as goal

@@ -1,0 +1,63 @@
+-- What becomes of a place.
+use Rattle.std.specs.Prelude.{◌≡◌, ℕ, ◌≤◌, false, List, [], ◌∷◌, Option, Some, None}
+use Rattle.disk_defs.specs.Disk.{Rose}
+use Rattle.site_defs.specs.Lists.{Among}
+use Rattle.site_defs.specs.Contents.{Contents, NO_LEFTOVER}
+use Rattle.site_defs.specs.Opening.{IsBehind}
+use Rattle.world_defs.specs.World.{State, Site, Place, IfKnown, StaysKnown, Kept}
+
+abbrev pub in_new_state : State → Option Site → Option Site
+in_new_state state None = None
+in_new_state state (Some site) = Some (record { name = site.name; state = state })
+
+-- As much is known as before: the files stand for this and nothing else, with nothing behind it.
+pub record Settles (c : Contents) (old new : Place) : Type 0 where
+  pub told : new.told ≡ old.told
+  pub now : new.now ≡ c
+  pub left : new.left ≡ NO_LEFTOVER
+  pub outcomes : new.outcomes ≡ c ∷ []
+
+-- a site is on the disk, whose files stand for this and nothing else
+pub record Stays (site_then : Option Site) (c : Contents) (old new : Place) : Type 0 where
+  pub site : new.site ≡ site_then
+  pub known : Settles c old new
+  pub faults : old.faults ≤ new.faults
+  pub simulated : new.simulated ≡ old.simulated
+
+-- the site that was there is in this state
+abbrev pub Becomes : State → Contents → Place → Place → Type 0
+Becomes state c old new = Stays (in_new_state state old.site) c old new
+
+-- one of the outcomes, after a step
+abbrev pub After : (Contents → Contents → Type 0) → List Contents → Contents → Type 0
+After step outcomes o = (c : Contents) × Among outcomes c × step c o
+
+-- As much is known as before: what the files read as is an outcome after a step, and so is what each image stands for.
+pub record MayBe (step : Contents → Contents → Type 0) (old new : Place) : Type 0 where
+  pub told : new.told ≡ old.told
+  pub now : IfKnown old (After step old.outcomes new.now)
+  pub left : IfKnown old (IsBehind new.now new.left)
+  pub outcomes : IfKnown old ((o : Contents) → Among new.outcomes o → After step old.outcomes o)
+
+-- A call of the disk failed, and its count rose to k. Each outcome is an old one after a step.
+pub record Fails (k : ℕ) (site_then : Option Site) (step : Contents → Contents → Type 0) (old new : Place) : Type 0 where
+  pub site : new.site ≡ site_then
+  pub known : MayBe step old new
+  pub count : new.faults ≡ k
+  pub rose : Rose old.faults k
+  pub simulated : new.simulated ≡ old.simulated
+
+-- and its files are as they were
+pub record FailsUnchanged (k : ℕ) (site_then : Option Site) (old new : Place) : Type 0 where
+  pub site : new.site ≡ site_then
+  pub now : new.now ≡ old.now
+  pub left : new.left ≡ old.left
+  pub known : StaysKnown old new
+  pub count : new.faults ≡ k
+  pub rose : Rose old.faults k
+  pub simulated : new.simulated ≡ old.simulated
+
+-- A place whose files aren't known, which stays as it is. (Bytes outside the formats are found on no disk whose files are known: they stand for something.)
+pub record KeptUnknown (old new : Place) : Type 0 where
+  pub unknown : old.told ≡ false
+  pub kept : Kept old new

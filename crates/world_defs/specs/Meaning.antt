@@ -1,0 +1,90 @@
+-- The meaning of each command: its row, and where it acts.
+use Rattle.std.specs.Prelude.{ℕ, Option, Some, None, slice_get}
+use Rattle.command_defs.specs.Commands.{Name, Command, Create, Attach, Map, StartPrimary, Run, Stop, Fuse, Crash, Extract, Zwrite, Show, Print}
+use Rattle.world_defs.specs.World.{Place, World, Kept, name_on, place_of, next_of}
+use Rattle.world_defs.specs.Answers.{Cause, NoSite, NoDisk, Exists, Refusal, Answer}
+use Rattle.world_defs.specs.Row.{Row}
+use Rattle.world_defs.specs.rows.Attach.{ATTACHING, attach}
+use Rattle.world_defs.specs.rows.Crash.{crash}
+use Rattle.world_defs.specs.rows.Create.{create}
+use Rattle.world_defs.specs.rows.Extract.{extract}
+use Rattle.world_defs.specs.rows.Fuse.{fuse}
+use Rattle.world_defs.specs.rows.Map.{map_pattern}
+use Rattle.world_defs.specs.rows.Print.{print}
+use Rattle.world_defs.specs.rows.Run.{run}
+use Rattle.world_defs.specs.rows.Show.{show}
+use Rattle.world_defs.specs.rows.Start.{start}
+use Rattle.world_defs.specs.rows.Stop.{stop}
+use Rattle.world_defs.specs.rows.Zwrite.{zwrite}
+
+-- What becomes of each place that a command doesn't act on, by the answer and the number of the place.
+abbrev pub Others : Type 1
+Others = Answer → ℕ → Place → Place → Type 0
+
+-- nothing
+abbrev pub apart : Others
+apart a j = Kept
+
+pub data Meaning : Type 1 where
+  -- it is refused, whatever its place
+  No : Refusal → Meaning
+  -- a row at the place of that number, and what becomes of the others
+  Acts : ℕ → Row → Others → Meaning
+  -- and where that was done, more in the world that it left
+  Then : ℕ → Row → Others → (World → Meaning) → Meaning
+
+-- Whom a command is for.
+pub data Target : Type 1 where
+  -- the site of that name, with a row for the name and the place of the site
+  On : Name → (Name → Place → Row) → Target
+  -- whom the world gives it
+  Open : (World → Meaning) → Target
+
+abbrev pub refusing : Name → Cause → Meaning
+refusing name cause = No (record { site = name; cause = cause })
+
+abbrev pub at_found : Meaning → ℕ → Option Place → (ℕ → Place → Meaning) → Meaning
+at_found none i None f = none
+at_found none i (Some p) f = f i p
+
+-- at that place, else the other meaning
+abbrev pub there : Meaning → World → Option ℕ → (ℕ → Place → Meaning) → Meaning
+there none w None f = none
+there none w (Some i) f = at_found none i (slice_get w.places i) f
+
+abbrev pub on_site : World → Name → (ℕ → Place → Meaning) → Meaning
+on_site w name f = there (refusing name NoSite) w (place_of w name) f
+
+-- at the next disk
+abbrev pub on_next : World → Name → (ℕ → Place → Meaning) → Meaning
+on_next w word f = there (refusing word NoDisk) w (next_of w) f
+
+-- unless a site of that name stands
+abbrev pub if_new : World → Name → Meaning → Meaning
+if_new w name f = there f w (place_of w name) (λ i p. refusing name Exists)
+
+-- the row of the site that stands there
+abbrev pub row_at : (Name → Place → Row) → Place → Row
+row_at row p = row (name_on p.site) p
+
+-- a command is one line of this
+abbrev pub target : Command → Target
+target (Create name regions) = Open (λ w. if_new w name (on_next w name (λ i p. Acts i (create regions name p) apart)))
+target Attach = Open (λ w. on_next w ATTACHING (λ i p. Acts i (attach w p) apart))
+target (Map name region text) = On name (map_pattern region text)
+target (StartPrimary name) = On name start
+target (Run name jobs order) = On name (run jobs order)
+target (Stop name) = On name stop
+target (Fuse name calls) = On name (fuse calls)
+target (Crash name pick) = On name crash
+target (Extract name from) = On name (extract from)
+target (Zwrite name top) = On name (zwrite top)
+target (Show name) = On name show
+target (Print name g) = On name (print g)
+
+abbrev pub meant : World → Target → Meaning
+meant w (On name row) = on_site w name (λ i p. Acts i (row_at row p) apart)
+meant w (Open f) = f w
+
+abbrev pub meaning : World → Command → Meaning
+meaning w c = meant w (target c)

@@ -1,0 +1,35 @@
+-- CREATE: an empty site that is down.
+use Rattle.std.specs.Prelude.{◌≡◌, ◌⊎◌, List, [], ◌∷◌, map, codes, Option, Some, None}
+use Rattle.journal_defs.specs.Instance as records
+use Rattle.journal_defs.specs.Instance.{NamedMode}
+use Rattle.command_defs.specs.Commands.{Name, Region}
+use Rattle.site_defs.specs.Contents.{Contents, is_made}
+use Rattle.world_defs.specs.World.{Down, Place}
+use Rattle.world_defs.specs.Answers.{Cause, NotEmpty, line}
+use Rattle.world_defs.specs.Changes.{Stays, Fails, KeptUnknown}
+use Rattle.world_defs.specs.Row.{Row, writing, refused_with, caused, where_known}
+
+abbrev pub named_mode : Region → NamedMode
+named_mode r = record { name = r.name; before = r.before }
+
+-- a site that was made, without entries
+abbrev pub created : Name → List Region → Contents
+created name regions = record { instance = records.Create name (map named_mode regions) ∷ []; starts = λ r. []; texts = []; sequence = [] }
+
+-- what making it may leave: what was there, or the empty site
+abbrev pub MayMake : Name → List Region → Contents → Contents → Type 0
+MayMake name regions c o = (o ≡ c) ⊎ (o ≡ created name regions)
+
+-- a site was made there
+abbrev pub not_empty : Place → Option Cause
+not_empty p = where_known p (caused (is_made p.now) NotEmpty)
+
+abbrev pub create : List Region → Name → Place → Row
+create regions name p = record (writing name (MayMake name regions) p) {
+  late = refused_with name (not_empty p);
+  may_refuse = λ r q. (r ≡ record { site = name; cause = NotEmpty }) × KeptUnknown p q;
+  done = λ q. Stays (Some (record { name = name; state = Down })) (created name regions) p q;
+  says = λ q. line name (codes "CREATED");
+  -- no site comes of a fault
+  fault = λ k q. Fails k None (MayMake name regions) p q;
+}

@@ -1,0 +1,49 @@
+-- MAP: the pattern that is written so is one more of the instance file, for its region of that name.
+use Rattle.std.specs.Prelude.{◌≡◌, ◌⊎◌, ℕ, nat_lt, List, [], ◌∷◌, codes, Option, Some, None}
+use Rattle.std.specs.List.{list_any}
+use Rattle.journal_defs.specs.Directory.{patterns}
+use Rattle.journal_defs.specs.Instance.{generation}
+use Rattle.command_defs.specs.Commands.{Name}
+use Rattle.site_defs.specs.Contents.{Contents}
+use Rattle.site_defs.specs.Limits.{is_written, region_number}
+use Rattle.site_defs.specs.Opening.{MayMap, with_pattern}
+use Rattle.world_defs.specs.World.{Down, Place, IfKnown}
+use Rattle.world_defs.specs.Answers.{Cause, Started, NoRegion, TwiceMapped, line}
+use Rattle.world_defs.specs.Changes.{Becomes, KeptUnknown}
+use Rattle.world_defs.specs.Row.{Row, writing, first, refused_with, caused, in_state, why_not_down, where_known}
+
+-- its instance file has a CUT
+abbrev pub started : Contents → Option Cause
+started c = caused (nat_lt 0 (generation c.instance)) Started
+
+abbrev pub no_region_at : Name → Option ℕ → Option Cause
+no_region_at region None = Some (NoRegion region)
+no_region_at region (Some number) = None
+
+abbrev pub twice_mapped : List ℕ → Contents → Option Cause
+twice_mapped text c = caused (list_any (is_written text) (patterns c.instance)) TwiceMapped
+
+-- why a pattern isn't mapped to a region
+abbrev pub unmapped : Name → List ℕ → Place → Option Cause
+unmapped region text p = where_known p (first (started p.now ∷ no_region_at region (region_number region p.now) ∷ twice_mapped text p.now ∷ []))
+
+-- a pattern isn't mapped to that region
+abbrev pub IsUnmapped : Name → Cause → Type 0
+IsUnmapped region cause = (cause ≡ Started) ⊎ (cause ≡ NoRegion region) ⊎ (cause ≡ TwiceMapped)
+
+-- what was read, which is what the files stand for where they are known, has the pattern
+pub record Maps (region : Name) (text : List ℕ) (old new : Place) : Type 0 where
+  pub read : Contents
+  pub as_before : IfKnown old (read ≡ old.now)
+  pub number : ℕ
+  pub named : region_number region read ≡ Some number
+  pub becomes : Becomes Down (with_pattern number text read) old new
+
+abbrev pub map_pattern : (region : Name) → (text : List ℕ) → Name → Place → Row
+map_pattern region text name p = record (writing name (MayMap region text) p) {
+  early = refused_with name (in_state why_not_down p.site);
+  late = refused_with name (unmapped region text p);
+  may_refuse = λ r q. (r.site ≡ name) × IsUnmapped region r.cause × KeptUnknown p q;
+  done = λ q. Maps region text p q;
+  says = λ q. line name (codes "MAPPED");
+}

@@ -1,0 +1,78 @@
+-- RUN: a section of jobs at a primary.
+use Rattle.std.specs.Prelude.{◌≡◌, ℕ, ◌+◌, ◌-◌, ◌≤◌, List, [], ◌++◌, length, take, codes, Option, Some, None}
+use Rattle.std.specs.Fmt.{decimal}
+use Rattle.std.specs.List.{AllByRecursion, flat_map}
+use Rattle.global_defs.specs.Entry.{Stamp}
+use Rattle.global_defs.specs.Jobs.{Job}
+use Rattle.global_defs.specs.Serial.{Turn, begun}
+use Rattle.command_defs.specs.Commands.{Name}
+use Rattle.site_defs.specs.Contents.{Contents}
+use Rattle.site_defs.specs.Fronts.{IsFrontOf, turn_of, with_sequence}
+use Rattle.site_defs.specs.Texts.{printed, reply_line}
+use Rattle.world_defs.specs.World.{State, Down, Primary, Failed, Site, Place}
+use Rattle.world_defs.specs.Answers.{Section, line}
+use Rattle.world_defs.specs.Changes.{in_new_state, Becomes, Fails}
+use Rattle.world_defs.specs.Row.{Row, quiet, refused_with, in_state, why_not_primary}
+
+-- without a fault the jobs are decided one after another, all of them
+pub record RunsWhole (stamp : Stamp) (t : Turn) (old new : Place) : Type 0 where
+  pub all_decided : AllByRecursion (λ (jobs : List Job). jobs ≡ []) t.left
+  pub becomes : Becomes (Primary stamp t.serials) (with_sequence old.now t.sequence) old new
+
+-- With a fault each outcome is a front of what was appended that has all that was hardened. Each decision is hardened at once.
+pub record RunFails (t : Turn) (hardened k : ℕ) (old new : Place) : Type 0 where
+  pub begun : length old.now.sequence ≤ hardened
+  pub at_once : length t.sequence ≤ hardened + 1
+  pub fails : Fails k (in_new_state (Failed k) old.site) (λ c o. IsFrontOf t.sequence hardened old.now o) old new
+
+abbrev pub RunsTo : Stamp → Turn → ℕ → Option ℕ → Place → Place → Type 0
+RunsTo stamp t hardened None old new = RunsWhole stamp t old new
+RunsTo stamp t hardened (Some k) old new = RunFails t hardened k old new
+
+-- Without a fault all jobs are picked, in the order of their lines; a fault ends the picks.
+abbrev pub IsPicked : Option ℕ → List ℕ → List ℕ → Type 0
+IsPicked None order picks = picks ≡ order
+IsPicked (Some k) order picks = (n : ℕ) × (picks ≡ take n order)
+
+pub record Runs (name : Name) (jobs : List (List Job)) (order : List ℕ) (s : Section) (old new : Place) : Type 0 where
+  pub stamp : Stamp
+  pub serials : List ℕ
+  pub state : old.site ≡ Some (record { name = name; state = Primary stamp serials })
+  pub picks : IsPicked s.fault order s.picks
+  pub ran : RunsTo stamp (turn_of stamp serials jobs s.picks old.now.sequence) s.hardened s.fault old new
+
+abbrev pub turn_in : State → List (List Job) → (picks : List ℕ) → Place → Turn
+turn_in Down jobs picks p = begun [] jobs p.now.sequence
+turn_in (Primary stamp serials) jobs picks p = turn_of stamp serials jobs picks p.now.sequence
+turn_in (Failed k) jobs picks p = begun [] jobs p.now.sequence
+
+-- the jobs as the picks decided them, by the primary's place before the section
+abbrev pub turn_on : Option Site → List (List Job) → (picks : List ℕ) → Place → Turn
+turn_on None jobs picks p = begun [] jobs []
+turn_on (Some site) jobs picks p = turn_in site.state jobs picks p
+
+abbrev pub undecided_line : Name → (fault undecided : ℕ) → List ℕ
+undecided_line name k undecided = line name (codes "DISKFAULT " ++ decimal k ++ codes " UNDECIDED " ++ decimal undecided)
+
+-- A line a pick in the order of picks, and the primary's line. After a fault the replies are those of what is hardened, and all other jobs are undecided.
+abbrev pub section_text : Name → (jobs : ℕ) → Turn → (hardened : ℕ) → (fault : Option ℕ) → List ℕ
+section_text name jobs t hardened None = flat_map reply_line t.replies ++ line name (codes "AT " ++ decimal (length t.sequence))
+section_text name jobs t hardened (Some k) = flat_map reply_line (printed hardened t.replies) ++ undecided_line name k (jobs - length (printed hardened t.replies))
+
+-- what a fault in a section of a site in that state might have left, once some of its jobs were decided
+abbrev pub RunMayLeave : State → List (List Job) → List ℕ → Place → Contents → Type 0
+RunMayLeave Down jobs order old o = ⊥
+RunMayLeave (Failed k) jobs order old o = ⊥
+RunMayLeave (Primary stamp serials) jobs order old o = (n : ℕ) × IsFrontOf (turn_of stamp serials jobs (take n order) old.now.sequence).sequence (length old.now.sequence) old.now o
+
+abbrev pub RunMayLeaveOn : Option Site → List (List Job) → List ℕ → Place → Contents → Type 0
+RunMayLeaveOn None jobs order old o = ⊥
+RunMayLeaveOn (Some site) jobs order old o = RunMayLeave site.state jobs order old o
+
+abbrev pub run : List (List Job) → (order : List ℕ) → Name → Place → Row
+run jobs order name p = record (quiet name p) {
+  early = refused_with name (in_state why_not_primary p.site);
+  ran = λ s q. Runs name jobs order s p q;
+  tells = λ s. section_text name (length order) (turn_on p.site jobs s.picks p) s.hardened s.fault;
+  left = λ c o. RunMayLeaveOn p.site jobs order p o;
+}

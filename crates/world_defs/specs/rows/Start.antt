@@ -1,0 +1,69 @@
+-- START PRIMARY: what was read is opened, and the reign begins.
+--
+-- Opening a site writes down what is broken and draws the next generation: it cuts there, so that nothing past the sequence counts any more,
+-- and begins the generation in one region after another.
+use Rattle.std.specs.Prelude.{◌≡◌, ◌⊎◌, ℕ, ◌+◌, Bool, true, false, List, [], ◌∷◌, ◌++◌, codes, length, replicate, Option, Some, None}
+use Rattle.std.specs.Fmt.{decimal}
+use Rattle.command_defs.specs.Commands.{Name}
+use Rattle.site_defs.specs.Contents.{Contents}
+use Rattle.site_defs.specs.Limits.{no_generation_left, no_reign_left}
+use Rattle.site_defs.specs.Opening.{MayBegin, next_stamp, opened, with_reign}
+use Rattle.world_defs.specs.World.{State, Down, Primary, Failed, Site, Place, IfKnown, Kept}
+use Rattle.world_defs.specs.Answers.{Cause, GenLimit, ReignLimit, line}
+use Rattle.world_defs.specs.Changes.{Becomes, KeptUnknown}
+use Rattle.world_defs.specs.Row.{Row, writing, first, refused_with, caused, in_state, why_not_down, where_known}
+
+abbrev pub generation_limit : Contents → Option Cause
+generation_limit c = caused (no_generation_left c) GenLimit
+
+abbrev pub reign_limit : Contents → Option Cause
+reign_limit c = caused (no_reign_left c) ReignLimit
+
+-- the limits of an opening and a reign
+abbrev pub limited : Place → Option Cause
+limited p = where_known p (first (generation_limit p.now ∷ reign_limit p.now ∷ []))
+
+-- an opening or a reign is past a limit
+abbrev pub IsLimit : Cause → Type 0
+IsLimit cause = (cause ≡ GenLimit) ⊎ (cause ≡ ReignLimit)
+
+-- each updater's serial begins at 1
+abbrev pub FIRST_SERIALS : List ℕ
+FIRST_SERIALS = replicate 64 1
+
+-- what was read, and what was broken behind it, which is so where the files are known, is opened, and the reign begins
+pub record StartsPrimary (name : Name) (old new : Place) : Type 0 where
+  pub read : Contents
+  pub broken : List ℕ
+  pub as_before : IfKnown old (read ≡ old.now)
+  pub as_left : IfKnown old (broken ≡ old.left.broken)
+  pub becomes : Becomes (Primary (next_stamp name read) FIRST_SERIALS) (with_reign name (opened broken read)) old new
+
+abbrev pub is_reign_limit : Cause → Bool
+is_reign_limit ReignLimit = true
+is_reign_limit cause = false
+
+-- past the limit of reigns the site was opened, which used a generation, and is down again; otherwise all is as it was
+abbrev pub StartRefused : (past_reigns : Bool) → Place → Place → Type 0
+StartRefused true old new = Becomes Down (opened old.left.broken old.now) old new
+StartRefused false old new = Kept old new
+
+abbrev pub cycle_in : State → ℕ
+cycle_in Down = 0
+cycle_in (Primary stamp serials) = stamp.cycle
+cycle_in (Failed k) = 0
+
+-- the cycle of the reign of that site
+abbrev pub cycle_on : Option Site → ℕ
+cycle_on None = 0
+cycle_on (Some site) = cycle_in site.state
+
+abbrev pub start : Name → Place → Row
+start name p = record (writing name (MayBegin name p.left.broken) p) {
+  early = refused_with name (in_state why_not_down p.site);
+  late = refused_with name (limited p);
+  refused = λ r q. StartRefused (is_reign_limit r.cause) p q;
+  may_refuse = λ r q. (r.site ≡ name) × IsLimit r.cause × KeptUnknown p q;
+  done = λ q. StartsPrimary name p q;
+  says = λ q. line name (codes "PRIMARY " ++ decimal (cycle_on q.site) ++ codes " FROM " ++ decimal (length q.now.sequence + 1));
+}
