@@ -108,3 +108,13 @@ cell_written x a b c d at k key size value two inside e1 e2 e3 e4 =
     let m : at + 1 + length key + 2 ≡ at + length ((k ∷ key) ++ size) = omega (arith, two, length-append (k ∷ key) size) in
     e4 ∙ ap (λ (n : ℕ). written c n value) m ∙ written_more x c ((k ∷ key) ++ size) value at (omega (arith, inside, two, length-append (k ∷ key) size)) second
     ∙ ap (written x at) (append_assoc (k ∷ key) size value)
+
+-- what stood behind a place, put back in two parts
+pub put_back : (bs front y z near far : List ℕ) (to middle end : ℕ) → to ≤ middle → middle ≤ end → end ≡ length bs
+    → near ≡ take (middle - to) (drop to bs) → far ≡ take (end - middle) (drop middle bs) → y ≡ front ++ near → z ≡ y ++ far → z ≡ front ++ drop to bs
+put_back bs front y z near far to middle end low high all near_is far_is y_is z_is =
+    let place : to + (middle - to) ≡ middle = omega (arith, low) in
+    let back : take (end - middle) (drop middle bs) ≡ drop (middle - to) (drop to bs) =
+    ap (λ (n : ℕ). take (n - middle) (drop middle bs)) all ∙ rest_from bs middle ∙ sym (drop-drop (middle - to) to bs ∙ ap (λ (n : ℕ). drop n bs) place) in
+    z_is ∙ ap (λ (l : List ℕ). l ++ far) y_is ∙ append_assoc front near far
+    ∙ ap (λ (l : List ℕ). front ++ l) ((λ i. near_is i ++ (far_is ∙ back) i) ∙ take-append-drop (middle - to) (drop to bs))

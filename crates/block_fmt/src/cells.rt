@@ -5,6 +5,9 @@ ghost use Rattle.block_fmt.specs.Read.{first_cell, written, BeginWithCell};
 
 use crate::bytes::{number_at, push_all, write_at};
 
+/// Half of the bytes that a block has for cells. Two small buffers are made faster than a large one.
+const HALF: usize = 2044;
+
 /// The key of the cell that stands at a place.
 pub fn key_at(bytes: &[u8], at: usize) -> &[u8]
     requires { BeginWithCell (drop at bytes.now) }
@@ -55,6 +58,16 @@ fn put_over(bytes: &mut Vec<u8>, at: usize, key: &[u8], value: &[u8])
     write_at(bytes, at + 1 + key.len() + 2, value);
 }
 
+/// Writes the bytes between two places to the front of a buffer.
+fn keep_part(out: &mut [u8], bytes: &[u8], from: usize, to: usize)
+    requires order { from ≤ to }
+    requires inside { to ≤ length bytes.now }
+    requires room { to - from ≤ length out.old }
+    ensures { take (to - from) out.new ≡ take (to - from) (drop from bytes.now) }
+{
+    out[..to - from].copy_from_slice(&bytes[from..to]);
+}
+
 /// Puts a cell in place of the bytes between two places, and moves those behind.
 fn put_moving(bytes: &mut Vec<u8>, from: usize, to: usize, key: &[u8], value: &[u8])
     requires order { from ≤ to }
@@ -66,12 +79,16 @@ fn put_moving(bytes: &mut Vec<u8>, from: usize, to: usize, key: &[u8], value: &[
     ensures items { bytes.new.items ≡ take from bytes.old.items ++ (spelled_cell (key.now, value.now) ++ drop to bytes.old.items) }
     ensures capacity { vec_capacity bytes.old ≤ vec_capacity bytes.new }
 {
-    let mut tail = [0; 4088];
-    let rest = bytes.len() - to;
-    tail[..rest].copy_from_slice(&bytes[to..]);
+    let mut near = [0; HALF];
+    let mut far = [0; HALF];
+    let end = bytes.len();
+    let middle = end.min(to + HALF);
+    keep_part(&mut near, bytes, to, middle);
+    keep_part(&mut far, bytes, middle, end);
     bytes.truncate(from);
     push_cell(bytes, key, value);
-    push_all(bytes, &tail[..rest]);
+    push_all(bytes, &near[..middle - to]);
+    push_all(bytes, &far[..end - middle]);
 }
 
 /// Puts a cell in place of the bytes between two places.
@@ -100,9 +117,13 @@ pub fn cut_between(bytes: &mut Vec<u8>, from: usize, to: usize)
     ensures items { bytes.new.items ≡ take from bytes.old.items ++ drop to bytes.old.items }
     ensures capacity { vec_capacity bytes.old ≤ vec_capacity bytes.new }
 {
-    let mut tail = [0; 4088];
-    let rest = bytes.len() - to;
-    tail[..rest].copy_from_slice(&bytes[to..]);
+    let mut near = [0; HALF];
+    let mut far = [0; HALF];
+    let end = bytes.len();
+    let middle = end.min(to + HALF);
+    keep_part(&mut near, bytes, to, middle);
+    keep_part(&mut far, bytes, middle, end);
     bytes.truncate(from);
-    push_all(bytes, &tail[..rest]);
+    push_all(bytes, &near[..middle - to]);
+    push_all(bytes, &far[..end - middle]);
 }
