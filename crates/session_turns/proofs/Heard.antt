@@ -1,5 +1,5 @@
 -- What a step of a Receiver Server leaves to the Update Process.
-use Rattle.std.proofs.Common.{◌≡◌, ◌⊎◌, inl, inr, ℕ, suc, ◌+◌, ◌≤◌, List, [], ◌∷◌, ◌++◌, length, Option, Some, None, Result, Ok, Err, OnOk, IfOk, IfErr, IsErrOf, refl, sym, ap, subst, ◌∙◌, arith, append_assoc, append-nil}
+use Rattle.std.proofs.Common.{◌≡◌, ◌⊎◌, inl, inr, ℕ, ◌≤◌, List, [], ◌∷◌, ◌++◌, length, Option, None, Result, Ok, Err, OnOk, IfOk, IfErr, IsErrOf, refl, sym, ap, subst, ◌∙◌, arith, append_assoc, append-nil}
 use Rattle.global_defs.specs.Entry.{Reign}
 use Rattle.wire_defs.specs.Frames.{Frame, Hello, Resume, RollbackFirst, History, Entry, Bye, offset_after}
 use Rattle.ship_defs.specs.Hearing.{unbegun}
@@ -15,7 +15,7 @@ use Rattle.update_process.specs.declared.update.UpdateError.{UpdateError}
 use Rattle.update_process.specs.declared.update.UpdateError.TheVariants as update
 use Rattle.update_process.specs.Updates.{IsSites}
 use Rattle.session_turns.specs.declared.machines.Turned.TheVariants as turned
-use Rattle.session_turns.specs.Following.{Followed, HasFit, Awaits, Halts}
+use Rattle.session_turns.specs.Following.{Followed, Awaits, Halts}
 use Rattle.session_turns.specs.Turns.{HasFollowed, HasHalted, Comes, turned_of}
 
 arrived_few : (at : ℕ) (reign : Option Reign) (f : Frame) → length (arrived at reign f) ≤ 1
