@@ -1,0 +1,6 @@
+//! Sessions over links in memory.
+#![tactic(auto)]
+
+#[cfg(test)]
+mod sessions;
+mod stands;
