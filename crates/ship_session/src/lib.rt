@@ -1,7 +1,0 @@
-//! A session of a section, run to its end by turns in one thread: a primary ships its entries to a secondary over connections, until
-//! the secondary has them all, or can't go on.
-#![tactic(auto)]
-
-mod session;
-
-pub use session::{SessionEnd, finish};

@@ -1,6 +1,0 @@
-//! Sessions over links in memory.
-#![tactic(auto)]
-
-#[cfg(test)]
-mod sessions;
-mod stands;
