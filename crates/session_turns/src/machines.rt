@@ -279,6 +279,8 @@ impl<P: Drop> Machines<P> {
             → HasGiven (E.is_entry entries.new) from length self.new.source (T.sending tx.new).sent }
         ensures comes { IsTrue (R.receiving rx.old).shown → (begun : Copy) → HasFollowed begun self.old.receiver (R.receiving rx.old).received (put_in self.old.into) (taken self.old.out) (S.copy site.old)
             → Comes result begun self.new.receiver (R.receiving rx.new).received (put_in self.new.into) (taken self.new.out) (S.copy site.new) }
+        ensures cut { IfOk result (λ t. t ≡ Turned.Cut → IsTrue self.new.cut ⊎ ((R.receiving rx.new).cuts ≡ counted (R.receiving rx.old).cuts 1)) }
+        ensures cut_tx { self.old.cut ≡ false → IsTrue self.new.cut → (T.sending tx.new).cuts ≡ counted (T.sending tx.old).cuts 1 }
         ensures over { IfOk result (λ t. t ≡ Turned.Over → IsQuiet self.new.receiver × (self.new.receiver.heard.last ≡ Over)) }
         ensures short { IfOk result (λ t. (offset : ℕ) → t ≡ Turned.Short offset → IsShort self.new.receiver offset × IsTrue (R.receiving rx.new).closed) }
     {
@@ -320,6 +322,9 @@ impl<P: Drop> Machines<P> {
         ensures comes { IsTrue (L.Rx.receiving ends.old.down_rx).shown → (begun : Copy)
             → HasFollowed begun self.old.receiver (L.Rx.receiving ends.old.down_rx).received (put_in self.old.into) (taken self.old.out) (S.copy site.old)
             → Comes result begun self.new.receiver (L.Rx.receiving ends.new.down_rx).received (put_in self.new.into) (taken self.new.out) (S.copy site.new) }
+        // one of the two ends was found cut
+        ensures cut { IfOk result (λ t. t ≡ Turned.Cut → IsTrue self.new.cut ⊎ ((L.Rx.receiving ends.new.down_rx).cuts ≡ counted (L.Rx.receiving ends.old.down_rx).cuts 1)) }
+        ensures cut_tx { self.old.cut ≡ false → IsTrue self.new.cut → (L.Tx.sending ends.new.up_tx).cuts ≡ counted (L.Tx.sending ends.old.up_tx).cuts 1 }
         ensures over { IfOk result (λ t. t ≡ Turned.Over → IsQuiet self.new.receiver × (self.new.receiver.heard.last ≡ Over)) }
         ensures short { IfOk result (λ t. (offset : ℕ) → t ≡ Turned.Short offset → IsShort self.new.receiver offset × IsTrue (L.Rx.receiving ends.new.down_rx).closed) }
     {
