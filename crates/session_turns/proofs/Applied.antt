@@ -1,13 +1,13 @@
 -- What a step of an Update Process did with the one entry that was put.
-use Rattle.std.proofs.Common.{◌≡◌, ◌⊎◌, inl, inr, ℕ, ◌+◌, ◌<◌, ◌≤◌, List, [], ◌∷◌, ◌++◌, length, Option, Some, None, Result, Ok, Err, refl, sym, ap, subst, ◌∙◌, arith}
+use Rattle.std.proofs.Common.{◌≡◌, inl, inr, ◌≤◌, List, [], ◌∷◌, ◌++◌, length, sym, ap, subst, ◌∙◌, arith}
 use Rattle.ship_defs.specs.Arrivals.{Arrival}
-use Rattle.update_process.specs.Copies.{Copy, next_of, told, Takes}
-use Rattle.update_process.specs.Updates.{IsTaken, IsAstray, IsTooLarge, Did, After, FailedAt, Failed}
+use Rattle.update_process.specs.Copies.{Copy}
+use Rattle.update_process.specs.Updates.{IsAstray, After, FailedAt, Failed}
 use Rattle.update_process.specs.declared.update.Applied.{Applied}
 use Rattle.update_process.specs.declared.update.Applied.TheVariants.{One, Skipped, Nothing}
 use Rattle.update_process.specs.declared.update.UpdateError.{UpdateError}
 use Rattle.update_process.specs.declared.update.UpdateError.TheVariants.{BadFrame, Site}
-use Rattle.session_turns.specs.Following.{Followed, InTurn, HasFit, Awaits, Halts}
+use Rattle.session_turns.specs.Following.{Followed, InTurn, Awaits, Halts}
 use Rattle.session_turns.proofs.Walk.{followed_told}
 use Rattle.session_turns.proofs.Taken.{took_one, took_none, followed_push}
 

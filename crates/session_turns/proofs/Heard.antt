@@ -1,11 +1,12 @@
 -- What a step of a Receiver Server leaves to the Update Process.
-use Rattle.std.proofs.Common.{◌≡◌, ◌⊎◌, inl, inr, ℕ, suc, ◌+◌, ◌≤◌, List, [], ◌∷◌, ◌++◌, length, Option, Some, None, Result, Ok, Err, OnOk, IfOk, IfErr, IsErrOf, refl, sym, ap, subst, ◌∙◌, arith, append_assoc, append-nil}
+use Rattle.std.proofs.Common.{◌≡◌, ◌⊎◌, inl, inr, ℕ, ◌≤◌, false, List, [], ◌∷◌, ◌++◌, length, Option, None, Result, Ok, Err, OnOk, IfOk, IfErr, IsErrOf, refl, sym, ap, subst, ◌∙◌, arith, append_assoc, append-nil}
 use Rattle.global_defs.specs.Entry.{Reign}
 use Rattle.wire_defs.specs.Frames.{Frame, Hello, Resume, RollbackFirst, History, Entry, Bye, offset_after}
-use Rattle.ship_defs.specs.Hearing.{unbegun}
+use Rattle.ship_defs.specs.Hearing.{unbegun, HasUnfit}
+use Rattle.ship_defs.specs.Hearing.{Heard as Heards}
 use Rattle.ship_defs.specs.Arrivals.{Arrival, arrived, arrivals, told_reign}
 use Rattle.receiver_server.specs.Answers.{answer_frame}
-use Rattle.receiver_server.specs.Listenings.{Listening, IsHearing, Hears}
+use Rattle.receiver_server.specs.Listenings.{Listening, IsHearing, Hears, Does, IsUnfitBehind}
 use Rattle.receiver_server.specs.declared.step.HearError.{HearError}
 use Rattle.receiver_server.specs.declared.step.HearError.TheVariants as hear
 use Rattle.receiver_server.specs.declared.step.Step.{Step}
@@ -15,7 +16,7 @@ use Rattle.update_process.specs.declared.update.UpdateError.{UpdateError}
 use Rattle.update_process.specs.declared.update.UpdateError.TheVariants as update
 use Rattle.update_process.specs.Updates.{IsSites}
 use Rattle.session_turns.specs.declared.machines.Turned.TheVariants as turned
-use Rattle.session_turns.specs.Following.{Followed, HasFit, Awaits, Halts}
+use Rattle.session_turns.specs.Following.{Followed, Awaits, Halts}
 use Rattle.session_turns.specs.Turns.{HasFollowed, HasHalted, Comes, turned_of}
 
 arrived_few : (at : ℕ) (reign : Option Reign) (f : Frame) → length (arrived at reign f) ≤ 1
@@ -84,12 +85,37 @@ module _ (begun : Copy) (r now : Listening) (received later : List ℕ) (put tak
       }
 
       pub comes_of : {F : Type 0} (heard : Result Step HearError) (applied : Result (Unit {0}) (UpdateError F)) (offset : ℕ)
+          → IfErr heard (λ e. (o : ℕ) → e ≡ hear.BadFrame o → HasUnfit now.purpose (unbegun (history_of begun)) later false o)
           → OnOk applied ((b : Copy) → Awaits b more taken c → (out ≡ after) × Followed b after d)
           → IfErr applied (λ e. (b : Copy) → Awaits b more taken c → (x : Arrival) × (more ≡ taken ++ x ∷ []) × Halts e x c d)
           → Comes (turned_of heard applied offset) begun now later after out d
-      comes_of heard (Ok u) offset done fails = inl (followed_on (done begun awaits))
-      comes_of heard (Err (update.BadFrame at)) offset done fails = let x = fails begun awaits in inr (x.0, c, halted_on x.0 x.1, x.2)
-      comes_of heard (Err (update.Site e)) offset done fails = let x = fails begun awaits in inr (x.0, c, halted_on x.0 x.1, x.2)
+      comes_of (Ok Received) (Ok u) offset bad done fails = inl (followed_on (done begun awaits), tt)
+      comes_of (Ok (Answered answer)) (Ok u) offset bad done fails = inl (followed_on (done begun awaits), tt)
+      comes_of (Ok Heard) (Ok u) offset bad done fails = inl (followed_on (done begun awaits), tt)
+      comes_of (Ok Waits) (Ok u) offset bad done fails = inl (followed_on (done begun awaits), tt)
+      comes_of (Ok Over) (Ok u) offset bad done fails = inl (followed_on (done begun awaits), tt)
+      comes_of (Ok Ended) (Ok u) offset bad done fails = inl (followed_on (done begun awaits), tt)
+      comes_of (Err hear.Cut) (Ok u) offset bad done fails = inl (followed_on (done begun awaits), tt)
+      comes_of (Err (hear.BadFrame at)) (Ok u) offset bad done fails = inl (followed_on (done begun awaits), bad at refl)
+      comes_of (Err hear.NoMemory) (Ok u) offset bad done fails = inl (followed_on (done begun awaits), tt)
+      comes_of heard (Err (update.BadFrame at)) offset bad done fails = let x = fails begun awaits in inr (x.0, c, halted_on x.0 x.1, x.2)
+      comes_of heard (Err (update.Site e)) offset bad done fails = let x = fails begun awaits in inr (x.0, c, halted_on x.0 x.1, x.2)
+
+-- nothing has come, and nothing was applied
+pub unmoved : (begun : Copy) (a b : Listening) (received : List ℕ) (put later taken out : List Arrival) (c : Copy) → b ≡ a → later ≡ put → out ≡ taken → HasFollowed begun a received put taken c → HasFollowed begun b received later out c
+unmoved begun a b received put later taken out c r p t h =
+    subst (λ (l : Listening). HasFollowed begun l received later out c) (sym r)
+    (subst (λ (l : List Arrival). HasFollowed begun a received l out c) (sym p) (subst (λ (l : List Arrival). HasFollowed begun a received put l c) (sym t) h))
+
+-- where a step has told a bad frame, it stands there still
+pub unfit_of : (heard : Result Step HearError) (a b : Listening) (S : Type 0) (begun : Heards) (first received : List ℕ) (put : List Arrival) (frames : List Frame) → S → IsHearing begun a first put frames → Does heard a b
+    → IfErr heard (λ e. (o : ℕ) → e ≡ hear.BadFrame o → S → (bg : Heards) (fs : List Frame) → IsHearing bg a first put fs → IsUnfitBehind a.purpose bg fs received false o)
+    → IfErr heard (λ e. (o : ℕ) → e ≡ hear.BadFrame o → HasUnfit b.purpose begun received false o)
+unfit_of (Ok s) a b S begun first received put frames shown h does bad = tt
+unfit_of (Err hear.Cut) a b S begun first received put frames shown h does bad = λ o e. absurd (cc)
+unfit_of (Err (hear.BadFrame at)) a b S begun first received put frames shown h does bad =
+    λ o e. subst (λ (l : Listening). HasUnfit l.purpose begun received false o) (sym does) (bad o e shown begun frames h).0
+unfit_of (Err hear.NoMemory) a b S begun first received put frames shown h does bad = λ o e. absurd (cc)
 
 module _ {F : Type 0} (offset : ℕ) where
   pub going_of : (heard : Result Step HearError) (applied : Result (Unit {0}) (UpdateError F)) (P : Type 0) → OnOk applied P → IfErr applied (λ e. IsSites e ⊎ P) → OnOk (turned_of heard applied offset) P

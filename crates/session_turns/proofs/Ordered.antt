@@ -1,12 +1,11 @@
 -- What was followed is the first of what was received, and that of what was sent, which is the primary's.
-use Rattle.std.proofs.Common.{◌≡◌, ◌≢◌, ◌⊎◌, inl, inr, ℕ, suc, ◌+◌, ◌-◌, ◌<◌, ◌≤◌, Bool, true, false, List, [], ◌∷◌, ◌++◌, length, map, Option, Some, None, refl, sym, ap, subst, ◌∙◌, arith, append_assoc, append-nil, length-append, ◌==◌, ◌||◌, if◌then◌else◌}
+use Rattle.std.proofs.Common.{◌≡◌, ◌≢◌, ◌⊎◌, inl, inr, ℕ, ◌+◌, ◌-◌, ◌≤◌, Bool, true, false, List, [], ◌∷◌, ◌++◌, length, map, Option, Some, None, refl, sym, ap, subst, ◌∙◌, arith, append_assoc, append-nil, length-append, ◌==◌, ◌||◌, if◌then◌else◌}
 use Rattle.std.specs.List.{AllByRecursion}
 use Rattle.std.proofs.lemmas.List.{length-map}
 use Rattle.global_defs.specs.Entry.{Transaction, Sequence, Reign}
 use Rattle.global_defs.specs.Prefix.{IsPrefix}
 use Rattle.lineage_defs.specs.Histories.{HasStamps}
-use Rattle.lineage_defs.specs.Lineage.{FourPrefixes}
-use Rattle.wire_defs.specs.Frames.{Frame, Hello, Resume, RollbackFirst, History, Entry, Bye, IsFrame, frame_type, AreFrames, BeginsFrame, spelled_frame, stream}
+use Rattle.wire_defs.specs.Frames.{Frame, Hello, Resume, RollbackFirst, History, Entry, Bye, IsFrame, frame_type, AreFrames, spelled_frame, stream}
 use Rattle.repl_wire.proofs.Feeding.{stream_more}
 use Rattle.ship_defs.specs.Shipping.{reign_at, announced, entry_frame, shipped, shipped_bytes, bytes_from, resumed, resumed_bytes, connection}
 use Rattle.ship_defs.specs.Directions.{Admitted}
@@ -15,7 +14,7 @@ use Rattle.ship_defs.specs.Hearing.{Heard, Fits, unbegun, entered, with_entry, w
 use Rattle.ship_defs.specs.Arrivals.{Arrival, arrivals, entries_of, HasEntries, BringsTo, IsInOrder}
 use Rattle.ship_laws.proofs.Streams.{resumed_is, frames_front, carried_front, based, brought, once}
 use Rattle.ship_laws.proofs.Stamped.{sent_front, connection_entries}
-use Rattle.source_server.specs.Sources.{Shipping, HasShipped, bye_if}
+use Rattle.source_server.specs.Sources.{Shipping, bye_if}
 use Rattle.update_process.specs.Copies.{Copy, next_of}
 use Rattle.session_turns.specs.Following.{Followed, HasFit}
 use Rattle.session_turns.specs.Sessions.{HasMade, AreFirst}
@@ -28,9 +27,11 @@ first_bytes reigns first n (e ∷ es) [] are = absurd are
 first_bytes reigns first n (e ∷ es) (t ∷ ts) are =
     let later = first_bytes reigns false (n + 1) es ts are.1 in
     let head = stream (announced first n (reign_at n reigns)) in
-    let tail = shipped_bytes reigns false (n + 1) es in
-    (later.0, ap (λ (x : List ℕ). head ++ entry_frame x ++ shipped_bytes reigns false (n + 1) (bytes_from (n + 1) ts)) (sym are.0)
-      ∙ (ap (λ (l : List ℕ). head ++ entry_frame e ++ l) later.1 ∙ sym (append_assoc (head ++ entry_frame e) tail later.0)))
+    let tail = shipped_bytes reigns false (n + 1) es in (
+      later.0,
+      ap (λ (x : List ℕ). head ++ entry_frame x ++ shipped_bytes reigns false (n + 1) (bytes_from (n + 1) ts)) (sym are.0)
+          ∙ (ap (λ (l : List ℕ). head ++ entry_frame e ++ l) later.1 ∙ sym (append_assoc (head ++ entry_frame e) tail later.0)),
+    )
 
 all_bytes : (n : ℕ) (es : List (List ℕ)) (ts : List Transaction) → AreFirst n es ts → length ts ≤ length es → es ≡ bytes_from n ts
 all_bytes n [] [] are all = refl
@@ -49,21 +50,25 @@ module _ (from size : ℕ) (s : Shipping) (sent : List ℕ) (given : List (List 
       let front = first_bytes s.reigns true from given ts are in
       let all = resumed s.reigns from ts in
       let bye = Bye (from + length ts - 1) ∷ [] in
-      let head = spelled_frame (Resume from) in
-      (front.0 ++ stream bye, stream_more all bye
-        ∙ (ap (λ (l : List ℕ). l ++ stream bye) (sym (resumed_is s.reigns from ts) ∙ (ap (λ (l : List ℕ). head ++ l) front.1 ∙ sym (append_assoc head (shipped_bytes s.reigns true from given) front.0)))
-        ∙ (append_assoc (resumed_bytes s.reigns from given) front.0 (stream bye) ∙ ap (λ (l : List ℕ). l ++ (front.0 ++ stream bye)) (sym (append-nil (resumed_bytes s.reigns from given))))))
+      let head = spelled_frame (Resume from) in (
+        front.0 ++ stream bye,
+        stream_more all bye
+            ∙ (ap (λ (l : List ℕ). l ++ stream bye) (sym (resumed_is s.reigns from ts) ∙ (ap (λ (l : List ℕ). head ++ l) front.1 ∙ sym (append_assoc head (shipped_bytes s.reigns true from given) front.0)))
+            ∙ (append_assoc (resumed_bytes s.reigns from given) front.0 (stream bye) ∙ ap (λ (l : List ℕ). l ++ (front.0 ++ stream bye)) (sym (append-nil (resumed_bytes s.reigns from given))))),
+      )
   made_bytes_of true is whole =
       let next = made.last is in
       let enough : length ts ≤ length given = omega (arith, next, whole, made.shipped.next) in
       let same : given ≡ bytes_from from ts = all_bytes from given ts are enough in
       let number : s.next - 1 ≡ from + length ts - 1 = omega (arith, next, whole) in
       let all = resumed s.reigns from ts in
-      let bye = Bye (from + length ts - 1) in
-      ([], stream_more all (bye ∷ [])
-        ∙ (ap (λ (l : List ℕ). l ++ stream (bye ∷ [])) (sym (resumed_is s.reigns from ts) ∙ ap (resumed_bytes s.reigns from) (sym same))
-        ∙ (ap (λ (l : List ℕ). resumed_bytes s.reigns from given ++ l) (append-nil (spelled_frame bye) ∙ ap (λ (n : ℕ). spelled_frame (Bye n)) (sym number))
-        ∙ sym (append-nil (resumed_bytes s.reigns from given ++ spelled_frame (Bye (s.next - 1)))))))
+      let bye = Bye (from + length ts - 1) in (
+        [],
+        stream_more all (bye ∷ [])
+            ∙ (ap (λ (l : List ℕ). l ++ stream (bye ∷ [])) (sym (resumed_is s.reigns from ts) ∙ ap (resumed_bytes s.reigns from) (sym same))
+            ∙ (ap (λ (l : List ℕ). resumed_bytes s.reigns from given ++ l) (append-nil (spelled_frame bye) ∙ ap (λ (n : ℕ). spelled_frame (Bye n)) (sym number))
+            ∙ sym (append-nil (resumed_bytes s.reigns from given ++ spelled_frame (Bye (s.next - 1)))))),
+      )
 
   -- what was sent is a front of the whole connection
   pub made_bytes : size + 1 ≡ from + length ts → IsPrefix sent (stream (connection s.reigns from ts))
@@ -177,7 +182,7 @@ all_followed begun c put f s part size sent received rest given made first whole
     let all : AreFrames (received ++ more) fs [] = record { whole = sym is ∙ sym (append-nil (stream fs)); each = each } in
     let frames = frames_front received more f.frames fs rest [] are all (inl (Resume 1, frame_type (Resume 1), _, resume_form, refl)) in
     let has_own : HasEntries (stream fs) (entries_of None (arrivals 0 None fs))
-          = record { frames = fs; rest = []; are = record { whole = sym (append-nil (stream fs)); each = each }; ends = inl (Resume 1, frame_type (Resume 1), _, resume_form, refl); is = refl } in
+    = record { frames = fs; rest = []; are = record { whole = sym (append-nil (stream fs)); each = each }; ends = inl (Resume 1, frame_type (Resume 1), _, resume_form, refl); is = refl } in
     let own : c.sequence ≡ begun.sequence ++ entries_of None put = (followed_told f.purpose begun c f.frames f.now put [] f.fit f.admitted (sym f.arrive ∙ sym (append-nil put)) follows).1 in
     let admitted : Admitted (Fits ship.Ships) (unbegun (record { length = length begun.sequence; reigns = begun.reigns })) f.frames f.now = subst (λ (p : ship.Purpose). Admitted (Fits p) (unbegun (record { length = length begun.sequence; reigns = begun.reigns })) f.frames f.now) ships f.admitted in
     elim (split_last f.frames (resumed s.reigns next ts) (Bye (next + length ts - 1)) frames) [

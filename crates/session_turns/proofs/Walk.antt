@@ -1,22 +1,19 @@
 -- A secondary's site takes the entries that came, each in its turn and under its reign.
-use Rattle.std.proofs.Common.{◌≡◌, ◌≢◌, ◌⊎◌, inl, inr, ℕ, suc, ◌+◌, ◌<◌, ◌≤◌, ◌==◌, nat_le, Bool, true, false, List, [], ◌∷◌, ◌++◌, length, filter, Option, Some, None, refl, sym, ap, subst, ◌∙◌, arith, append_assoc, append-nil, length-append, if◌then◌else◌}
+use Rattle.std.proofs.Common.{◌≡◌, ◌≢◌, ◌⊎◌, inl, inr, ℕ, ◌+◌, ◌≤◌, ◌==◌, nat_le, Bool, true, false, List, [], ◌∷◌, ◌++◌, length, Option, Some, None, refl, sym, ap, subst, ◌∙◌, arith, append_assoc, append-nil, length-append, if◌then◌else◌}
 use Rattle.std.specs.Prelude.{option_map, option_to_list}
 use Rattle.std.specs.Option.{option_or}
 use Rattle.std.specs.List.{AllByRecursion, last_or}
 use Rattle.std.proofs.lemmas.Bool.Decides.{nat_tests}
-use Rattle.global_defs.specs.Entry.{Transaction, Stamp, Sequence, Reign}
-use Rattle.global_defs.specs.Entry as entries
+use Rattle.global_defs.specs.Entry.{Stamp, Sequence, Reign}
 use Rattle.global_defs.specs.Prefix.{stamp_at}
 use Rattle.lineage_defs.specs.Histories.{begun_by}
-use Rattle.lineage_defs.specs.Histories as histories
 use Rattle.wire_defs.specs.Frames.{Frame, Hello, Resume, RollbackFirst, History, Entry, Bye, offset_after}
 use Rattle.ship_defs.specs.Directions.{Admitted}
 use Rattle.ship_defs.specs.Hearing as ship
 use Rattle.ship_defs.specs.Hearing.{Purpose, Heard, Fits, IsUnder, entered, with_entry, with_reign, behind_resume, unbegun}
-use Rattle.ship_defs.specs.Arrivals.{Arrival, arrivals, arrived, told_reign, entry_under, entries_of}
-use Rattle.update_process.specs.Copies.{Copy, history_of, next_of, MayAdopt, adopted, told, reigns_next, took, Takes, hardened}
+use Rattle.ship_defs.specs.Arrivals.{Arrival, arrivals, told_reign, entry_under, entries_of}
+use Rattle.update_process.specs.Copies.{Copy, history_of, next_of, MayAdopt, told, reigns_next, took, hardened}
 use Rattle.update_process.specs.Updates.{Follows}
-
 use Rattle.receiver_server.specs.Hearings.{reign_behind}
 use Rattle.session_turns.specs.Following.{Followed, IsFitCopy, InTurn}
 
@@ -79,14 +76,16 @@ module _ (c : Copy) (h : Heard) (x : Arrival) where
         → Agrees now next under × (now.sequence ≡ c.sequence ++ entry_under under x)
     grown count starts last stamp is sequence reigns_are remembered count_is reign_is last_is =
         let stamped_is : stamped under ≡ Some stamp = ap stamped (sym last) ∙ (sym (stamp_of_last (next_of c) reigns starts) ∙ is) in
-        let size : length now.sequence ≡ next_of c = ap length sequence ∙ length-append c.sequence (record { stamp = stamp; transaction = x.transaction } ∷ []) in
-        (record {
-          count = count_is ∙ (ap (λ (n : ℕ). n + 1) count ∙ sym size);
-          reign = reign_is ∙ (sym last ∙ ap (last_or None) (sym reigns_are));
-          starts = subst (λ (n : ℕ). AllByRecursion (λ (r : Reign). r.start ≤ n) now.reigns) (sym size) (subst (λ (l : List Reign). AllByRecursion (λ (r : Reign). r.start ≤ next_of c) l) (sym reigns_are) starts);
-          told = λ r e. absurd (let two : ship.Shipped ≡ ship.Reigning r = sym last_is ∙ e in cc);
-          behind = λ _. (remembered, reign_is);
-        }, sequence ∙ ap (λ (l : Sequence). c.sequence ++ l) (same_entry under x stamp stamped_is))
+        let size : length now.sequence ≡ next_of c = ap length sequence ∙ length-append c.sequence (record { stamp = stamp; transaction = x.transaction } ∷ []) in (
+          record {
+            count = count_is ∙ (ap (λ (n : ℕ). n + 1) count ∙ sym size);
+            reign = reign_is ∙ (sym last ∙ ap (last_or None) (sym reigns_are));
+            starts = subst (λ (n : ℕ). AllByRecursion (λ (r : Reign). r.start ≤ n) now.reigns) (sym size) (subst (λ (l : List Reign). AllByRecursion (λ (r : Reign). r.start ≤ next_of c) l) (sym reigns_are) starts);
+            told = λ r e. absurd (let two : ship.Shipped ≡ ship.Reigning r = sym last_is ∙ e in cc);
+            behind = λ _. (remembered, reign_is);
+          },
+          sequence ∙ ap (λ (l : Sequence). c.sequence ++ l) (same_entry under x stamp stamped_is),
+        )
 
 test_same : (a b c : ℕ) (v : Bool) → b ≡ c → (a == c) ≡ v → (a == b) ≡ v
 test_same a b c v same is = ap (λ (n : ℕ). a == n) same ∙ is
@@ -104,9 +103,9 @@ module _ (c now : Copy) (h : Heard) (under : Option Reign) (x : Arrival) (agrees
       let is : stamp_at (next_of c) c.reigns ≡ Some stamp = ap (stamp_at (next_of c)) (sym reigns_are) ∙ (ap (λ (n : ℕ). stamp_at n (reigns_next (told c x.reign))) (sym (ap next_of own)) ∙ takes.1) in
       let now_is : now ≡ hardened (took (told c x.reign) stamp x.transaction) = follows.1.2 ∙ ap hardened takes.2 in
       grown c h x under c.reigns (with_entry h) now agrees.count (all_later (length c.sequence) (next_of c) c.reigns (omega arith) agrees.starts)
-        (sym agrees.reign ∙ (agrees.behind last).1) stamp is
-        (ap (λ (d : Copy). d.sequence) now_is ∙ ap (λ (d : Copy). d.sequence ++ record { stamp = stamp; transaction = x.transaction } ∷ []) own)
-        (ap (λ (d : Copy). d.reigns) now_is ∙ reigns_are) (ap (λ (d : Copy). d.remembered) now_is) refl (agrees.behind last).1 refl
+      (sym agrees.reign ∙ (agrees.behind last).1) stamp is
+      (ap (λ (d : Copy). d.sequence) now_is ∙ ap (λ (d : Copy). d.sequence ++ record { stamp = stamp; transaction = x.transaction } ∷ []) own)
+      (ap (λ (d : Copy). d.reigns) now_is ∙ reigns_are) (ap (λ (d : Copy). d.remembered) now_is) refl (agrees.behind last).1 refl
 
   module _ (r : Reign) (some : x.reign ≡ Some r) (last : h.last ≡ ship.Reigning r) (follows : Follows x c now) where
     behind_history_of : (b : Bool) → (r.start == next_of c) ≡ b → Agrees now (entered h (ship.Reigning r)) (Some r) × (now.sequence ≡ c.sequence ++ entry_under (Some r) x)
@@ -120,9 +119,9 @@ module _ (c now : Copy) (h : Heard) (under : Option Reign) (x : Arrival) (agrees
         let now_is : now ≡ hardened (took (told c x.reign) stamp x.transaction) = follows.1.2 ∙ ap hardened takes.2 in
         let becomes : entered h (ship.Reigning r) ≡ with_reign h r = ap (λ (b : Bool). if b then with_reign h r else with_entry h) begins_heard in
         let is_now = grown c h x (Some r) (c.reigns ++ r ∷ []) (with_reign h r) now agrees.count
-          (all_push (next_of c) c.reigns r (all_later (length c.sequence) (next_of c) c.reigns (omega arith) agrees.starts) (omega (arith, at))) (last_push None c.reigns r) stamp is
-          (ap (λ (d : Copy). d.sequence) now_is ∙ ap (λ (d : Copy). d.sequence ++ record { stamp = stamp; transaction = x.transaction } ∷ []) own)
-          (ap (λ (d : Copy). d.reigns) now_is ∙ ap reigns_next own) (ap (λ (d : Copy). d.remembered) now_is) refl refl refl in
+        (all_push (next_of c) c.reigns r (all_later (length c.sequence) (next_of c) c.reigns (omega arith) agrees.starts) (omega (arith, at))) (last_push None c.reigns r) stamp is
+        (ap (λ (d : Copy). d.sequence) now_is ∙ ap (λ (d : Copy). d.sequence ++ record { stamp = stamp; transaction = x.transaction } ∷ []) own)
+        (ap (λ (d : Copy). d.reigns) now_is ∙ ap reigns_next own) (ap (λ (d : Copy). d.remembered) now_is) refl refl refl in
         (subst (λ (y : Heard). Agrees now y (Some r)) (sym becomes) is_now.0, is_now.1)
     behind_history_of false begins =
         let begins_heard : (r.start == h.count + 1) ≡ false = test_same r.start (h.count + 1) (next_of c) false (ap (λ (n : ℕ). n + 1) agrees.count) begins in
@@ -137,8 +136,8 @@ module _ (c now : Copy) (h : Heard) (under : Option Reign) (x : Arrival) (agrees
         let now_is : now ≡ hardened (took (told c x.reign) stamp x.transaction) = follows.1.2 ∙ ap hardened takes.2 in
         let becomes : entered h (ship.Reigning r) ≡ with_entry h = ap (λ (b : Bool). if b then with_reign h r else with_entry h) begins_heard in
         let is_now = grown c h x (Some r) c.reigns (with_entry h) now agrees.count (all_later (length c.sequence) (next_of c) c.reigns (omega arith) agrees.starts) (sym agrees.reign ∙ same) stamp is
-          (ap (λ (d : Copy). d.sequence) now_is ∙ ap (λ (d : Copy). d.sequence ++ record { stamp = stamp; transaction = x.transaction } ∷ []) own)
-          (ap (λ (d : Copy). d.reigns) now_is ∙ (ap reigns_next own ∙ append-nil c.reigns)) (ap (λ (d : Copy). d.remembered) now_is) refl same refl in
+        (ap (λ (d : Copy). d.sequence) now_is ∙ ap (λ (d : Copy). d.sequence ++ record { stamp = stamp; transaction = x.transaction } ∷ []) own)
+        (ap (λ (d : Copy). d.reigns) now_is ∙ (ap reigns_next own ∙ append-nil c.reigns)) (ap (λ (d : Copy). d.remembered) now_is) refl same refl in
         (subst (λ (y : Heard). Agrees now y (Some r)) (sym becomes) is_now.0, is_now.1)
 
   applied_of : (l : ship.Last) → h.last ≡ l → IsUnder l → x.reign ≡ reign_behind l → Follows x c now
@@ -236,10 +235,13 @@ entry_walk fs at h next c d under (y ∷ xs) ys x agrees un number reign becomes
     let applied = applied_of c m h under x agrees h.last refl un reign own in
     let knows : Agrees m next (option_or x.reign under) = subst (λ (z : Heard). Agrees m z (option_or x.reign under)) (sym becomes) applied.0 in
     let none : reign_behind next.last ≡ None = ap (λ (z : Heard). reign_behind z.last) becomes ∙ ap reign_behind (entered_shipped h h.last) in
-    let later = go m (option_or x.reign under) xs knows (ap (λ (o : Option Reign). arrivals at o fs) none ∙ rest) followed.2 in
-    (later.0, later.1 ∙ (ap (λ (l : Sequence). l ++ entries_of (option_or x.reign under) xs) applied.1
-      ∙ (append_assoc c.sequence (entry_under (option_or x.reign under) x) (entries_of (option_or x.reign under) xs)
-      ∙ ap (λ (z : Arrival). c.sequence ++ (entry_under (option_or z.reign under) z ++ entries_of (option_or z.reign under) xs)) same)))
+    let later = go m (option_or x.reign under) xs knows (ap (λ (o : Option Reign). arrivals at o fs) none ∙ rest) followed.2 in (
+      later.0,
+      later.1 ∙ (ap (λ (l : Sequence). l ++ entries_of (option_or x.reign under) xs) applied.1
+          ∙ (append_assoc c.sequence (entry_under (option_or x.reign under) x) (entries_of (option_or x.reign under) xs)
+          ∙ ap (λ (z : Arrival). c.sequence ++ (entry_under (option_or z.reign under) z ++ entries_of (option_or z.reign under) xs)) same)),
+    )
+
 pub walk : (p : Purpose) (fs : List Frame) (at : ℕ) (h now : Heard) (c d : Copy) (under : Option Reign) (xs ys : List Arrival) → Agrees c h under → Admitted (Fits p) h fs now
     → arrivals at (reign_behind h.last) fs ≡ xs ++ ys → Followed c xs d → Told c d under xs ys
 walk p [] at h now c d under xs ys agrees admitted is followed = none_left c d under xs ys is followed
@@ -247,28 +249,28 @@ walk p (Hello version name history ∷ fs) at h now c d under xs ys agrees admit
 walk p (Resume n ∷ fs) at h now c d under xs ys agrees admitted is followed =
     let next = admitted.0 in
     walk p fs (offset_after at (Resume n ∷ [])) next now c d under xs ys
-      (other_last c h next under (behind_resume p) agrees admitted.1.2 (λ r e. absurd (not_reigning p r e)) (not_shipped p)) admitted.2
-      (ap (λ (o : Option Reign). arrivals (offset_after at (Resume n ∷ [])) o fs) (sym (told_fits p h next (Resume n) admitted.1)) ∙ is) followed
+    (other_last c h next under (behind_resume p) agrees admitted.1.2 (λ r e. absurd (not_reigning p r e)) (not_shipped p)) admitted.2
+    (ap (λ (o : Option Reign). arrivals (offset_after at (Resume n ∷ [])) o fs) (sym (told_fits p h next (Resume n) admitted.1)) ∙ is) followed
 walk p (RollbackFirst n ∷ fs) at h now c d under xs ys agrees admitted is followed =
     let next = admitted.0 in
     walk p fs (offset_after at (RollbackFirst n ∷ [])) next now c d under xs ys
-      (other_last c h next under ship.Over agrees admitted.1.3 (λ r e. absurd (cc (e))) (λ e. cc)) admitted.2
-      (ap (λ (o : Option Reign). arrivals (offset_after at (RollbackFirst n ∷ [])) o fs) (sym (told_fits p h next (RollbackFirst n) admitted.1)) ∙ is) followed
+    (other_last c h next under ship.Over agrees admitted.1.3 (λ r e. absurd (cc (e))) (λ e. cc)) admitted.2
+    (ap (λ (o : Option Reign). arrivals (offset_after at (RollbackFirst n ∷ [])) o fs) (sym (told_fits p h next (RollbackFirst n) admitted.1)) ∙ is) followed
 walk p (History r ∷ fs) at h now c d under xs ys agrees admitted is followed =
     let next = admitted.0 in
     let may : (q : Reign) → ship.Reigning r ≡ ship.Reigning q → (q.start ≡ h.count + 1) ⊎ (h.reign ≡ Some q)
-        = λ q e. (let same : r ≡ q = cc in elim admitted.1.1 [ | inl begins ↦ inl (ap (λ (z : Reign). z.start) (sym same) ∙ begins.0) | inr old ↦ inr (old ∙ ap (λ (z : Reign). Some z) same) ]) in
+    = λ q e. (let same : r ≡ q = cc in elim admitted.1.1 [ inl begins ↦ inl (ap (λ (z : Reign). z.start) (sym same) ∙ begins.0) | inr old ↦ inr (old ∙ ap (λ (z : Reign). Some z) same) ]) in
     walk p fs (offset_after at (History r ∷ [])) next now c d under xs ys
-      (other_last c h next under (ship.Reigning r) agrees admitted.1.2 may (λ e. cc)) admitted.2
-      (ap (λ (o : Option Reign). arrivals (offset_after at (History r ∷ [])) o fs) (sym (told_fits p h next (History r) admitted.1)) ∙ is) followed
+    (other_last c h next under (ship.Reigning r) agrees admitted.1.2 may (λ e. cc)) admitted.2
+    (ap (λ (o : Option Reign). arrivals (offset_after at (History r ∷ [])) o fs) (sym (told_fits p h next (History r) admitted.1)) ∙ is) followed
 walk p (Entry n t ∷ fs) at h now c d under xs ys agrees admitted is followed =
     entry_walk fs (offset_after at (Entry n t ∷ [])) h admitted.0 c d under xs ys (record { at = at; number = n; transaction = t; reign = reign_behind h.last }) agrees admitted.1.0 admitted.1.1 refl admitted.1.2
-      (λ m later zs knows e f. walk p fs (offset_after at (Entry n t ∷ [])) admitted.0 now m d later zs ys knows admitted.2 e f) is followed
+    (λ m later zs knows e f. walk p fs (offset_after at (Entry n t ∷ [])) admitted.0 now m d later zs ys knows admitted.2 e f) is followed
 walk p (Bye n ∷ fs) at h now c d under xs ys agrees admitted is followed =
     let next = admitted.0 in
     walk p fs (offset_after at (Bye n ∷ [])) next now c d under xs ys
-      (other_last c h next under ship.Over agrees admitted.1.2 (λ r e. absurd (cc (e))) (λ e. cc)) admitted.2
-      (ap (λ (o : Option Reign). arrivals (offset_after at (Bye n ∷ [])) o fs) (sym (told_fits p h next (Bye n) admitted.1)) ∙ is) followed
+    (other_last c h next under ship.Over agrees admitted.1.2 (λ r e. absurd (cc (e))) (λ e. cc)) admitted.2
+    (ap (λ (o : Option Reign). arrivals (offset_after at (Bye n ∷ [])) o fs) (sym (told_fits p h next (Bye n) admitted.1)) ∙ is) followed
 
 pub agrees_first : (c : Copy) → IsFitCopy c → Agrees c (unbegun (history_of c)) None
 agrees_first c fit = record {

@@ -1,7 +1,7 @@
 -- What a turn of a connection's machines comes to.
-use Rattle.std.specs.Prelude.{◌≡◌, ◌≢◌, ◌⊎◌, ℕ, List, [], ◌∷◌, ◌++◌, Result, Ok, Err}
+use Rattle.std.specs.Prelude.{◌≡◌, ◌≢◌, ◌⊎◌, ℕ, false, List, [], ◌∷◌, ◌++◌, Result, Ok, Err}
 use Rattle.wire_defs.specs.Frames.{Frame}
-use Rattle.ship_defs.specs.Hearing.{unbegun}
+use Rattle.ship_defs.specs.Hearing.{unbegun, HasUnfit}
 use Rattle.ship_defs.specs.Hearing as ship
 use Rattle.ship_defs.specs.Arrivals.{Arrival}
 use Rattle.receiver_server.specs.Listenings.{Listening, IsHearing, IsIdle}
@@ -67,6 +67,16 @@ module _ {F : Type 0} where
   HaltsWith (Ok (Short offset)) x c now = ⊥
   HaltsWith (Err NoMemory) x c now = ⊥
 
+  -- Where all that has arrived was applied and the bytes are bad, no frame that fits stands there.
+  abbrev pub FollowsWith : Result Turned (TurnError F) → (begun : Copy) → Listening → (received : List ℕ) → Type 0
+  FollowsWith (Ok (Bad offset)) begun r received = HasUnfit r.purpose (unbegun (history_of begun)) received false offset
+  FollowsWith (Ok On) begun r received = Unit {0}
+  FollowsWith (Ok Cut) begun r received = Unit {0}
+  FollowsWith (Ok Over) begun r received = Unit {0}
+  FollowsWith (Ok (Short offset)) begun r received = Unit {0}
+  FollowsWith (Err e) begun r received = Unit {0}
+
   -- What a turn came to: all that has arrived was applied, or the last one wasn't.
   abbrev pub Comes : Result Turned (TurnError F) → (begun : Copy) → Listening → (received : List ℕ) → (put taken : List Arrival) → (now : Copy) → Type 0
-  Comes result begun r received put taken now = HasFollowed begun r received put taken now ⊎ ((x : Arrival) × (c : Copy) × HasHalted begun r received put x c × HaltsWith result x c now)
+  Comes result begun r received put taken now = (HasFollowed begun r received put taken now × FollowsWith result begun r received)
+      ⊎ ((x : Arrival) × (c : Copy) × HasHalted begun r received put x c × HaltsWith result x c now)

@@ -1,5 +1,5 @@
 // The machines of one connection, and a turn of them.
-ghost use Rattle.std.specs.Prelude.{◌≡◌, ◌≢◌, ◌⊎◌, ◌+◌, ◌<◌, ◌≤◌, ◌^◌, ℕ, List, [], ◌∷◌, ◌++◌, length, false, true, IsTrue, IfOk, IfErr, OnOk, OnErr, IsErrOf};
+ghost use Rattle.std.specs.Prelude.{◌≡◌, ◌≢◌, ◌⊎◌, ◌+◌, ◌≤◌, ◌^◌, ℕ, List, [], ◌∷◌, ◌++◌, false, true, IsTrue, IfOk, IfErr, OnOk, OnErr, IsErrOf};
 ghost use Rattle.std.specs.List.{AllByRecursion};
 ghost use Rattle.global_defs.specs.Fields.{IsReign};
 ghost use Rattle.gvn_model.specs.Entries.{history_value};
@@ -13,7 +13,7 @@ ghost use Rattle.receiver_server.specs.Listenings.{IsQuiet, IsIdle};
 ghost use Rattle.update_process.specs.Copies.{Copy};
 ghost use Rattle.update_process.specs.Updates.{IsSites};
 ghost use Rattle.session_turns.specs.Following.{Followed, Awaits, Halts};
-ghost use Rattle.session_turns.specs.Sessions.{HasMade, HasGiven, CanGive};
+ghost use Rattle.session_turns.specs.Sessions.{HasMade, HasGiven};
 ghost use Rattle.session_turns.specs.Turns.{HasFollowed, Comes, IsShort, turned_of};
 
 use gvn_key::NoMemory;
@@ -30,7 +30,7 @@ use update_process::{EntrySink, UpdateError, apply_next};
 pub enum Turned {
     /// The connection goes on.
     On,
-    /// It is cut. What had come by then and fits was applied.
+    /// It is cut.
     Cut,
     /// BYE has come, and all before it was applied.
     Over,
@@ -69,11 +69,10 @@ pub struct Machines<P> {
     pub(crate) cut: bool,
 }
 
-// Makes BYE behind the last of so many entries, where it isn't made yet.
+// Makes BYE, where so many entries were taken and it isn't made yet.
 fn close(source: &mut Source, length: u64) -> Result<(), NoMemory>
     ensures made { (from : ℕ) (sent : List ℕ) (given : List (List ℕ)) → HasMade from length source.old sent given → HasMade from length source.new sent given }
     ensures closed { source.old.next ≡ length + 1 → OnOk result (IsTrue source.new.ended) }
-    ensures next { (source.new.next ≡ source.old.next) × (IsTrue source.old.ended → source.new ≡ source.old) }
 {
     if source.has_ended() {
         return Ok(());
@@ -100,9 +99,6 @@ fn ship<T: LinkTx, E: EntrySource>(
     ensures cut { IsErrOf result ShipError.Cut → (T.sending tx.new).cuts ≡ counted (T.sending tx.old).cuts 1 }
     ensures uncut { (IsErrOf result ShipError.Cut → ⊥) → (T.sending tx.new).cuts ≡ (T.sending tx.old).cuts }
     ensures cut_only { IsTrue (T.sending tx.old).told → IsErrOf result ShipError.Cut → IsReached (T.sending tx.old).order (T.sending tx.old).sent }
-    // where it knows a free place, and the source is ready to give all entries, it sends bytes or ends the sending
-    ensures moves { IsTrue (T.sending tx.old).told → 0 < (T.sending tx.old).free → CanGive (E.ready entries.old) length source.old
-        → OnOk result ((length (T.sending tx.old).sent < length (T.sending tx.new).sent) ⊎ IsTrue (T.sending tx.new).finished) }
 {
     if close(source, length).is_err() {
         return Err(ShipError::NoMemory);
@@ -283,6 +279,8 @@ impl<P: Drop> Machines<P> {
             → HasGiven (E.is_entry entries.new) from length self.new.source (T.sending tx.new).sent }
         ensures comes { IsTrue (R.receiving rx.old).shown → (begun : Copy) → HasFollowed begun self.old.receiver (R.receiving rx.old).received (put_in self.old.into) (taken self.old.out) (S.copy site.old)
             → Comes result begun self.new.receiver (R.receiving rx.new).received (put_in self.new.into) (taken self.new.out) (S.copy site.new) }
+        ensures cut { IfOk result (λ t. t ≡ Turned.Cut → IsTrue self.new.cut ⊎ ((R.receiving rx.new).cuts ≡ counted (R.receiving rx.old).cuts 1)) }
+        ensures cut_tx { self.old.cut ≡ false → IsTrue self.new.cut → (T.sending tx.new).cuts ≡ counted (T.sending tx.old).cuts 1 }
         ensures over { IfOk result (λ t. t ≡ Turned.Over → IsQuiet self.new.receiver × (self.new.receiver.heard.last ≡ Over)) }
         ensures short { IfOk result (λ t. (offset : ℕ) → t ≡ Turned.Short offset → IsShort self.new.receiver offset × IsTrue (R.receiving rx.new).closed) }
     {
@@ -324,6 +322,9 @@ impl<P: Drop> Machines<P> {
         ensures comes { IsTrue (L.Rx.receiving ends.old.down_rx).shown → (begun : Copy)
             → HasFollowed begun self.old.receiver (L.Rx.receiving ends.old.down_rx).received (put_in self.old.into) (taken self.old.out) (S.copy site.old)
             → Comes result begun self.new.receiver (L.Rx.receiving ends.new.down_rx).received (put_in self.new.into) (taken self.new.out) (S.copy site.new) }
+        // one of the two ends was found cut
+        ensures cut { IfOk result (λ t. t ≡ Turned.Cut → IsTrue self.new.cut ⊎ ((L.Rx.receiving ends.new.down_rx).cuts ≡ counted (L.Rx.receiving ends.old.down_rx).cuts 1)) }
+        ensures cut_tx { self.old.cut ≡ false → IsTrue self.new.cut → (L.Tx.sending ends.new.up_tx).cuts ≡ counted (L.Tx.sending ends.old.up_tx).cuts 1 }
         ensures over { IfOk result (λ t. t ≡ Turned.Over → IsQuiet self.new.receiver × (self.new.receiver.heard.last ≡ Over)) }
         ensures short { IfOk result (λ t. (offset : ℕ) → t ≡ Turned.Short offset → IsShort self.new.receiver offset × IsTrue (L.Rx.receiving ends.new.down_rx).closed) }
     {
