@@ -1,7 +1,10 @@
 -- What a primary makes of the bytes that come to it.
-use Rattle.std.proofs.Common.{◌≡◌, ◌≢◌, ◌⊎◌, inl, inr, ℕ, ◌+◌, ◌-◌, ◌^◌, ◌<◌, min, Bool, true, false, IsTrue, List, [], ◌∷◌, ◌++◌, length, Result, Ok, Err, refl, sym, ap, subst, ◌∙◌, arith, append_assoc, append-nil, length-append}
+use Rattle.std.proofs.Common.{◌≡◌, ◌≢◌, ◌⊎◌, inl, inr, ℕ, ◌+◌, ◌-◌, ◌^◌, ◌<◌, ◌≤◌, min, map, get_or, Bool, true, false, IsTrue, List, [], ◌∷◌, ◌++◌, length, Result, Ok, Err, refl, sym, ap, subst, ◌∙◌, arith, append_assoc, append-nil, length-append}
 use Rattle.global_defs.specs.Prefix as prefix
 use Rattle.wire_defs.specs.Frames.{Frame, IsFrame, BeginsNone, BeginsFrame, AreFrames, spelled_frame, frame_body, stream, offset_after}
+use Rattle.repl_wire.specs.declared.frame.Frame.{Frame as Given}
+use Rattle.repl_wire.specs.Values.{frame_value}
+use Rattle.repl_wire.specs.Feeds.{Takes}
 use Rattle.ship_defs.specs.Directions.{refused, begins_none, behind_last, too_short}
 use Rattle.ship_defs.specs.Greeting.{IsHello, Greets, IsBadToPrimary}
 use Rattle.receiver_server.specs.declared.step.Handshake.{Handshake}
@@ -68,3 +71,17 @@ bad_early bytes begun = record {
   lacks = too_short refl (λ e. let no : ⊥ = cc in no) begun;
   at = refl;
 }
+
+-- the first of frames that came
+pub first_of : (xs : List Given) (x : Given) → 1 ≤ length xs → x ≡ get_or xs 0 x → (fs : List Frame) × (map frame_value xs ≡ frame_value x ∷ fs)
+first_of [] x some is = absurd (omega (arith, some))
+first_of (y ∷ ys) x some is = (map frame_value ys, ap (λ (z : Given). frame_value z ∷ map frame_value ys) (sym is))
+
+-- the frames that a piece brought, and what is behind them
+abbrev pub Came : List ℕ → List Frame → Type 0
+Came bytes out = (rest : List ℕ) × AreFrames bytes out rest
+
+pub came : (offset at : ℕ) (bytes rest : List ℕ) (before after : List Frame) → before ≡ [] → Takes offset bytes before after at rest → Came bytes after
+came offset at bytes rest before after none t =
+    let same : t.frames ≡ after = sym (t.added ∙ ap (λ (l : List Frame). l ++ t.frames) none) in
+    (rest, subst (λ (l : List Frame). AreFrames bytes l rest) same t.are)

@@ -1,5 +1,5 @@
 -- What a HELLO tells of a history.
-use Rattle.std.proofs.Common.{◌≡◌, ℕ, zero, suc, ◌+◌, ◌*◌, ◌^◌, ◌<◌, ◌≤◌, nat_le, Bool, true, false, List, [], ◌∷◌, ◌++◌, length, take, refl, sym, ap, ◌∙◌, arith, length-append, if◌then◌else◌}
+use Rattle.std.proofs.Common.{◌≡◌, ℕ, zero, suc, ◌+◌, ◌*◌, ◌^◌, ◌<◌, ◌≤◌, nat_le, Bool, true, false, List, [], ◌∷◌, ◌++◌, length, take, refl, sym, ap, subst, ◌∙◌, arith, length-append, if◌then◌else◌}
 use Rattle.std.specs.Int.{to_be_bytes, w32, w64}
 use Rattle.std.specs.List.{AllByRecursion, flat_map}
 use Rattle.std.proofs.lemmas.List.{take-append-le, take_all, length-take}
@@ -7,7 +7,7 @@ use Rattle.global_defs.specs.Entry.{Reign}
 use Rattle.global_defs.specs.Fields.{IsReign, IsSiteName, short}
 use Rattle.global_defs.specs.Prefix.{History}
 use Rattle.lineage_defs.specs.Histories.{begun_by}
-use Rattle.wire_defs.specs.Frames.{Hello, IsFrame, spelled_reign}
+use Rattle.wire_defs.specs.Frames.{Hello, IsFrame, frame_body, spelled_reign}
 
 -- one more of a list that is cut off at a length
 pub take_push : (n : ℕ) (xs : List Reign) (x : Reign) → length (take n xs) < n → take n (xs ++ x ∷ []) ≡ take n xs ++ x ∷ []
@@ -43,9 +43,14 @@ name_few (b ∷ bs) named = omega (arith, named.2)
 
 reign_few : (r : Reign) → IsReign r → length (spelled_reign r) ≤ 28
 reign_few r form =
-    let size = length-append (short r.stamp.root) (to_be_bytes w32 r.stamp.cycle ++ to_be_bytes w64 r.start) in
+    let size : length (short r.stamp.root ++ to_be_bytes w32 r.stamp.cycle ++ to_be_bytes w64 r.start) ≡ length (short r.stamp.root) + length (to_be_bytes w32 r.stamp.cycle ++ to_be_bytes w64 r.start)
+    = length-append (short r.stamp.root) (to_be_bytes w32 r.stamp.cycle ++ to_be_bytes w64 r.start) in
+    let root : length (short r.stamp.root) ≡ length r.stamp.root + 1 = omega arith in
+    let numbers : length (to_be_bytes w32 r.stamp.cycle ++ to_be_bytes w64 r.start) ≡ 12 = omega arith in
     let few = name_few r.stamp.root form.stamp.root in
-    omega (arith, size, few)
+    let all : length (spelled_reign r) ≡ length (short r.stamp.root) + length (to_be_bytes w32 r.stamp.cycle ++ to_be_bytes w64 r.start) = size in
+    let total : length (spelled_reign r) ≡ (length r.stamp.root + 1) + 12 = all ∙ (ap (λ (n : ℕ). n + length (to_be_bytes w32 r.stamp.cycle ++ to_be_bytes w64 r.start)) root ∙ ap (λ (n : ℕ). (length r.stamp.root + 1) + n) numbers) in
+    subst (λ (n : ℕ). n ≤ 28) (sym total) (omega (arith, few))
 
 reigns_few : (rs : List Reign) → AllByRecursion IsReign rs → length (flat_map spelled_reign rs) ≤ 28 * length rs
 reigns_few [] a = omega arith
@@ -57,9 +62,14 @@ reigns_few (r ∷ rs) a =
 
 pub hello_form : (name : List ℕ) (h : History) → IsSiteName name → h.length < 2 ^ 40 → AllByRecursion IsReign h.reigns → length h.reigns ≤ 32769 → IsFrame (Hello 1 name h)
 hello_form name h named few form count =
-    let size = length-append (to_be_bytes w32 (length h.reigns)) (flat_map spelled_reign h.reigns) in
-    let size2 = length-append (to_be_bytes w64 h.length) (to_be_bytes w32 (length h.reigns) ++ flat_map spelled_reign h.reigns) in
-    let size3 = length-append (short name) (to_be_bytes w64 h.length ++ to_be_bytes w32 (length h.reigns) ++ flat_map spelled_reign h.reigns) in
-    let reigns = reigns_few h.reigns form in
-    let called = name_few name named in
-    record { fields = (refl, named, few, omega (arith, count), form); short = omega (arith, size, size2, size3, reigns, called, count) }
+    let reigns = flat_map spelled_reign h.reigns in
+    let numbers = to_be_bytes w64 h.length ++ to_be_bytes w32 (length h.reigns) ++ reigns in
+    let size : length (short name ++ numbers) ≡ length (short name) + length numbers = length-append (short name) numbers in
+    let called : length (short name) ≡ length name + 1 = omega arith in
+    let counted : length numbers ≡ 12 + length reigns = omega arith in
+    let all : length (frame_body (Hello 1 name h)) ≡ length (short name ++ numbers) + 1 = omega arith in
+    let total : length (frame_body (Hello 1 name h)) ≡ (length name + 1) + (12 + length reigns) + 1
+    = all ∙ ap (λ (n : ℕ). n + 1) (size ∙ (ap (λ (n : ℕ). n + length numbers) called ∙ ap (λ (n : ℕ). (length name + 1) + n) counted)) in
+    let some = reigns_few h.reigns form in
+    let short_name = name_few name named in
+    record { fields = (refl, named, few, omega (arith, count), form); short = subst (λ (n : ℕ). n ≤ 1048576) (sym total) (omega (arith, some, short_name, count)) }
