@@ -43,14 +43,10 @@ name_few (b ∷ bs) named = omega (arith, named.2)
 
 reign_few : (r : Reign) → IsReign r → length (spelled_reign r) ≤ 28
 reign_few r form =
-    let size : length (short r.stamp.root ++ to_be_bytes w32 r.stamp.cycle ++ to_be_bytes w64 r.start) ≡ length (short r.stamp.root) + length (to_be_bytes w32 r.stamp.cycle ++ to_be_bytes w64 r.start)
-    = length-append (short r.stamp.root) (to_be_bytes w32 r.stamp.cycle ++ to_be_bytes w64 r.start) in
-    let root : length (short r.stamp.root) ≡ length r.stamp.root + 1 = omega arith in
-    let numbers : length (to_be_bytes w32 r.stamp.cycle ++ to_be_bytes w64 r.start) ≡ 12 = omega arith in
+    let behind = length-append (short r.stamp.root ++ to_be_bytes w32 r.stamp.cycle) (to_be_bytes w64 r.start) in
+    let front = length-append (short r.stamp.root) (to_be_bytes w32 r.stamp.cycle) in
     let few = name_few r.stamp.root form.stamp.root in
-    let all : length (spelled_reign r) ≡ length (short r.stamp.root) + length (to_be_bytes w32 r.stamp.cycle ++ to_be_bytes w64 r.start) = size in
-    let total : length (spelled_reign r) ≡ (length r.stamp.root + 1) + 12 = all ∙ (ap (λ (n : ℕ). n + length (to_be_bytes w32 r.stamp.cycle ++ to_be_bytes w64 r.start)) root ∙ ap (λ (n : ℕ). (length r.stamp.root + 1) + n) numbers) in
-    subst (λ (n : ℕ). n ≤ 28) (sym total) (omega (arith, few))
+    omega (arith, behind, front, few)
 
 reigns_few : (rs : List Reign) → AllByRecursion IsReign rs → length (flat_map spelled_reign rs) ≤ 28 * length rs
 reigns_few [] a = omega arith
@@ -62,14 +58,9 @@ reigns_few (r ∷ rs) a =
 
 pub hello_form : (name : List ℕ) (h : History) → IsSiteName name → h.length < 2 ^ 40 → AllByRecursion IsReign h.reigns → length h.reigns ≤ 32769 → IsFrame (Hello 1 name h)
 hello_form name h named few form count =
-    let reigns = flat_map spelled_reign h.reigns in
-    let numbers = to_be_bytes w64 h.length ++ to_be_bytes w32 (length h.reigns) ++ reigns in
-    let size : length (short name ++ numbers) ≡ length (short name) + length numbers = length-append (short name) numbers in
-    let called : length (short name) ≡ length name + 1 = omega arith in
-    let counted : length numbers ≡ 12 + length reigns = omega arith in
-    let all : length (frame_body (Hello 1 name h)) ≡ length (short name ++ numbers) + 1 = omega arith in
-    let total : length (frame_body (Hello 1 name h)) ≡ (length name + 1) + (12 + length reigns) + 1
-    = all ∙ ap (λ (n : ℕ). n + 1) (size ∙ (ap (λ (n : ℕ). n + length numbers) called ∙ ap (λ (n : ℕ). (length name + 1) + n) counted)) in
+    let last = length-append (short name ++ to_be_bytes w64 h.length ++ to_be_bytes w32 (length h.reigns)) (flat_map spelled_reign h.reigns) in
+    let behind = length-append (short name ++ to_be_bytes w64 h.length) (to_be_bytes w32 (length h.reigns)) in
+    let front = length-append (short name) (to_be_bytes w64 h.length) in
     let some = reigns_few h.reigns form in
     let short_name = name_few name named in
-    record { fields = (refl, named, few, omega (arith, count), form); short = subst (λ (n : ℕ). n ≤ 1048576) (sym total) (omega (arith, some, short_name, count)) }
+    record { fields = (refl, named, few, omega (arith, count), form); short = omega (arith, last, behind, front, some, short_name, count) }
