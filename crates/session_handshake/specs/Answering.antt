@@ -11,8 +11,8 @@ use Rattle.receiver_server.specs.declared.step.HearError.TheVariants.{Cut, BadFr
 use Rattle.receiver_server.specs.declared.step.Step.{Step}
 use Rattle.receiver_server.specs.declared.step.Step.TheVariants.{Received, Answered, Heard, Waits, Over, Ended}
 use Rattle.receiver_server.specs.Incomings.{Incoming}
-use Rattle.session_handshake.specs.declared.greet.GreetError.{GreetError}
-use Rattle.session_handshake.specs.declared.greet.GreetError.TheVariants as greets
+use Rattle.session_handshake.specs.declared.connection.GreetError.{GreetError}
+use Rattle.session_handshake.specs.declared.connection.GreetError.TheVariants as greets
 use Rattle.receiver_server.specs.Answers.{answer_frame}
 
 -- a primary admits a HELLO of that history
@@ -32,7 +32,7 @@ Answers theirs (Bye n) answer = ⊥
 pub record Awaits (reading : Reading) (count : ℕ) : Type 0 where
   pub at : reading.offset ≡ 0
   pub begins : BeginsFrame reading.rest
-  pub count : count ≡ length reading.rest
+  pub counted : count ≡ length reading.rest
 
 -- all that came is a HELLO that is admitted, and this is the answer to it
 pub record IsGreetedBy (theirs : prefix.History) (bytes : List ℕ) (answer : Frame) : Type 0 where

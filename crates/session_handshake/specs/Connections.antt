@@ -9,8 +9,8 @@ use Rattle.ship_defs.specs.Hearing.{Purpose, Asks, Hearing, unbegun, IsBadFromPr
 use Rattle.ship_defs.specs.Greeting.{IsBadToPrimary, GreetsWith}
 use Rattle.receiver_server.specs.declared.step.Handshake.{Handshake}
 use Rattle.receiver_server.specs.Answers.{answer_frame}
-use Rattle.session_handshake.specs.declared.handshake.SessionError.{SessionError}
-use Rattle.session_handshake.specs.declared.handshake.SessionError.TheVariants.{LinkCut, BadFrame, NoMemory}
+use Rattle.session_handshake.specs.declared.session.SessionError.{SessionError}
+use Rattle.session_handshake.specs.declared.session.SessionError.TheVariants.{LinkCut, BadFrame, NoMemory}
 
 -- Connections of one session were made and given back, and this is what remains of them, in order. The session's count of cuts rose by one
 -- for each that was cut.

@@ -14,7 +14,7 @@ ghost use Rattle.session_handshake.specs.Answering.{Awaits, IsGreetedBy, StepMea
 ghost use Rattle.session_handshake.specs.Exchanges.{views, HaveLines, SameEnds, cuts_of, Carries, Gets};
 
 use super::answer::answer_bytes;
-use super::greet::GreetError;
+use super::connection::GreetError;
 use super::greeter::Greeter;
 use super::outgoing::Outgoing;
 use gvn_key::Bytes;

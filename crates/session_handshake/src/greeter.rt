@@ -9,7 +9,7 @@ ghost use Rattle.receiver_server.specs.Answers.{answer_frame};
 ghost use Rattle.session_handshake.specs.Answering.{Awaits, IsGreetedBy, Judges};
 
 use super::answer::answer;
-use super::greet::GreetError;
+use super::connection::GreetError;
 use super::hello::is_admitted;
 use gvn_model::History;
 use receiver_server::Handshake;

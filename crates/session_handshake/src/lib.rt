@@ -6,11 +6,11 @@
 
 mod answer;
 mod asking;
-mod greet;
+mod connection;
 mod greeter;
-mod handshake;
 mod hello;
 mod outgoing;
+mod session;
 
-pub use greet::{GreetError, Greeted, greet};
-pub use handshake::{SessionError, handshake};
+pub use connection::{GreetError, Greeted, greet};
+pub use session::{SessionError, handshake};

@@ -38,7 +38,7 @@ pub enum GreetError {
 
 impl From<NoMemory> for GreetError {
     ghost use Rattle.std.specs.Prelude.{◌≡◌};
-    ghost use Rattle.session_handshake.specs.declared.greet.GreetError.TheVariants as errors;
+    ghost use Rattle.session_handshake.specs.declared.connection.GreetError.TheVariants as errors;
 
     ghost from_gives = { λ _ e. e ≡ errors.NoMemory };
 

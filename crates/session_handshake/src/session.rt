@@ -8,7 +8,7 @@ ghost use Rattle.ship_defs.specs.Greeting.{IsHello, IsAnswer, carried, greeting}
 ghost use Rattle.receiver_server.specs.Answers.{answer_frame};
 ghost use Rattle.session_handshake.specs.Connections.{WereMade, Met};
 
-use super::greet::{GreetError, Greeted, greet};
+use super::connection::{GreetError, Greeted, greet};
 use gvn_key::{Bytes, NoMemory};
 use gvn_model::History;
 use receiver_server::{Handshake, Purpose};
@@ -32,7 +32,7 @@ pub enum SessionError {
 
 impl From<NoMemory> for SessionError {
     ghost use Rattle.std.specs.Prelude.{◌≡◌};
-    ghost use Rattle.session_handshake.specs.declared.handshake.SessionError.TheVariants as errors;
+    ghost use Rattle.session_handshake.specs.declared.session.SessionError.TheVariants as errors;
 
     ghost from_gives = { λ _ e. e ≡ errors.NoMemory };
 
