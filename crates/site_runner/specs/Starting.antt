@@ -1,5 +1,5 @@
 -- What beginning a reign means at the place of a site that was opened for it.
-use Rattle.std.specs.Prelude.{◌≡◌, ◌≤◌, ℕ, ◌++◌, true, List, length, Some, None, IsTrue}
+use Rattle.std.specs.Prelude.{◌≡◌, ◌≤◌, ℕ, true, List, length, Some, None, IsTrue}
 use Rattle.disk_defs.specs.Disk.{View}
 use Rattle.journal_defs.specs.Instance.{site_name}
 use Rattle.site_store.specs.declared.site.OpenSite.{OpenSite}

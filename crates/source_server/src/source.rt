@@ -102,6 +102,13 @@ impl Source {
         self.next
     }
 
+    /// Whether it has made its BYE.
+    pub fn has_ended(&self) -> bool
+        ensures { result ≡ self.now.ended }
+    {
+        self.ended
+    }
+
     // What was made and isn't sent yet.
     fn pending(&self) -> &[u8]
         ensures { result.now ≡ self.now.pending }
@@ -216,6 +223,7 @@ impl Source {
         ensures moved { IsTrue (T.sending tx.old).told → IfOk result (λ s. s ≡ Shipped.Moved → length (T.sending tx.old).sent < length (T.sending tx.new).sent) }
         ensures waits { IsTrue (T.sending tx.old).told → IfOk result (λ s. s ≡ Shipped.Waits → (T.sending tx.new).sent ≡ (T.sending tx.old).sent) }
         ensures over { IfOk result (λ s. s ≡ Shipped.Over → (self.new ≡ self.old) × IsTrue self.new.ended × (self.new.pending ≡ [])) }
+        ensures ends { IsTrue self.old.ended → self.old.pending ≡ [] → IfOk result (λ s. s ≡ Shipped.Over) }
         ensures cut { IsErrOf result ShipError.Cut → (T.sending tx.new).cuts ≡ counted (T.sending tx.old).cuts 1 }
         ensures uncut { (IsErrOf result ShipError.Cut → ⊥) → (T.sending tx.new).cuts ≡ (T.sending tx.old).cuts }
         ensures cut_only { IsTrue (T.sending tx.old).told → IsErrOf result ShipError.Cut → IsReached (T.sending tx.old).order (T.sending tx.old).sent }

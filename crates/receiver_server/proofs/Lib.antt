@@ -1,0 +1,5 @@
+pub mod Steps
+pub mod Told
+pub mod Knows
+pub mod Kept
+pub mod Pulled

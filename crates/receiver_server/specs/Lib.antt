@@ -1,0 +1,4 @@
+pub mod Hearings
+pub mod Incomings
+pub mod Answers
+pub mod Listenings

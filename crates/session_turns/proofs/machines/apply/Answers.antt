@@ -1,0 +1,34 @@
+use Rattle.std.proofs.Common.{◌≡◌, List, [], ◌∷◌, ◌++◌, sym, ap, subst, ◌∙◌}
+use Rattle.recv_pool.specs.Pools.{put_in, taken, known}
+use Rattle.ship_defs.specs.Arrivals.{Arrival}
+use Rattle.session_turns.specs.Following.{Followed, Awaits}
+use Rattle.session_turns.proofs.Applied.{applied_all, halted_one}
+use Rattle.session_turns.proofs.machines.apply.Goals as goal
+
+pub returns-in-Ok-clause-applied : goal.returns-in-Ok-clause-applied
+returns-in-Ok-clause-applied g c = λ begun w.
+    let put = put_in c.args.into.now in
+    let before = taken c.beside.new.out in
+    let after = taken c.apply_next-applied.new.pool in
+    let old = g.S.EntrySink.copy c.args.site.now in
+    let now = g.S.EntrySink.copy c.apply_next-applied.new.site in
+    let waits : Awaits begun put before old = subst (λ (l : List Arrival). Awaits begun put l old) (sym c.beside.ensures.taken) w in
+    let same : put_in c.beside-2.new.into ≡ put = c.beside-2.ensures.put ∙ c.beside.ensures.put in
+    let all_before : before ++ known c.beside.new.out ≡ put = c.beside.ensures.all ∙ c.beside.ensures.put in
+    let all_after : after ++ known c.beside-2.new.out ≡ put = ap (λ (l : List Arrival). l ++ known c.beside-2.new.out) (sym c.beside-2.ensures.taken) ∙ (c.beside-2.ensures.all ∙ same) in
+    let done = applied_all begun put before old now waits (known c.beside.new.out) (known c.beside-2.new.out) after all_before all_after c.in-Ok.field-0 c.in-Ok.ensures.after in
+    (c.beside-2.ensures.taken ∙ (done.0 ∙ sym same), subst (λ (l : List Arrival). Followed begun l now) (sym same) done.1)
+
+pub returns-in-Err-clause-halted : goal.returns-in-Err-clause-halted
+returns-in-Err-clause-halted g c = λ begun w.
+    let put = put_in c.args.into.now in
+    let before = taken c.beside.new.out in
+    let after = taken c.apply_next-applied.new.pool in
+    let old = g.S.EntrySink.copy c.args.site.now in
+    let now = g.S.EntrySink.copy c.apply_next-applied.new.site in
+    let waits : Awaits begun put before old = subst (λ (l : List Arrival). Awaits begun put l old) (sym c.beside.ensures.taken) w in
+    let same : put_in c.beside-2.new.into ≡ put = c.beside-2.ensures.put ∙ c.beside.ensures.put in
+    let all_before : before ++ known c.beside.new.out ≡ put = c.beside.ensures.all ∙ c.beside.ensures.put in
+    let all_after : after ++ known c.beside-2.new.out ≡ put = ap (λ (l : List Arrival). l ++ known c.beside-2.new.out) (sym c.beside-2.ensures.taken) ∙ (c.beside-2.ensures.all ∙ same) in
+    let done = halted_one begun put before old now waits (known c.beside.new.out) (known c.beside-2.new.out) after all_before all_after c.in-Err.error c.in-Err.ensures.failed in
+    (done.0, done.1 ∙ ap (λ (l : List Arrival). l ++ done.0 ∷ []) c.beside.ensures.taken, done.2)

@@ -1,0 +1,76 @@
+// What entries are applied to.
+use gvn_model::{History, Reign, Transaction};
+
+/// Why an entry wasn't applied.
+#[derive(Clone, Copy, Debug, PartialEq, Eq)]
+pub enum ApplyError<E> {
+    /// More nodes would stand than there may be.
+    Full,
+    /// The site's own reason.
+    Other(E),
+}
+
+/// A site that entries of a primary are applied to.
+pub trait EntrySink {
+    /// Why the site can't go on.
+    type Error;
+
+    ghost use Rattle.std.specs.Prelude.{◌≡◌, ◌⊎◌, ◌<◌, ◌≤◌, ◌^◌, false, Bool, Some, length, IsTrue, OnOk, OnErr, IsErrOf};
+    ghost use Rattle.global_defs.specs.Entry.{Stamp};
+    ghost use Rattle.global_defs.specs.Fields.{IsReign, IsTransaction};
+    ghost use Rattle.global_defs.specs.Prefix.{stamp_at};
+    ghost use Rattle.gvn_model.specs.Reigns.{reign_value};
+    ghost use Rattle.gvn_model.specs.Entries.{history_value, transaction_value};
+    ghost use Rattle.ship_defs.specs.Hearing.{HasRoom};
+    ghost use Rattle.update_process.specs.Copies.{Copy, history_of, next_of, MayAdopt, adopted, reigns_next, Takes, hardened};
+    ghost use Rattle.update_process.specs.Updates.{OnOther};
+
+    ghost copy: { Self → Copy };
+
+    /// Whether the site goes on: no call of its disk has failed.
+    ghost going: { Self → Bool };
+
+    /// Its length and its reigns.
+    fn history(&self) -> &History
+        ensures is { history_value result.now ≡ history_of (copy self.now) }
+        ensures few { result.now.length < 2 ^ 40 };
+
+    /// Remembers a reign that begins with the next entry, and forgets an earlier one. It appends nothing.
+    fn adopt_reign(&mut self, reign: &Reign) -> Result<(), Self::Error>
+        requires going { IsTrue (going self.old) }
+        requires form { IsReign (reign_value reign.now) }
+        requires place { MayAdopt (history_of (copy self.old)) (reign_value reign.now) }
+        ensures ok { OnOk result (copy self.new ≡ adopted (copy self.old) (reign_value reign.now)) }
+        ensures going { OnOk result (IsTrue (going self.new)) }
+        ensures err { OnErr result (copy self.new ≡ copy self.old) };
+
+    /// Applies the next entry, and appends the remembered reign right before it. The entry isn't hardened.
+    fn apply(
+        &mut self,
+        number: u64,
+        transaction: &Transaction,
+    ) -> Result<(), ApplyError<Self::Error>>
+        requires going { IsTrue (going self.old) }
+        requires next { number ≡ next_of (copy self.old) }
+        requires limit { number < 2 ^ 40 }
+        requires form { IsTransaction (transaction_value transaction.now) }
+        requires under { (stamp : Stamp) × (stamp_at (next_of (copy self.old)) (reigns_next (copy self.old)) ≡ Some stamp) }
+        ensures ok { OnOk result (Takes (transaction_value transaction.now) (copy self.old) (copy self.new)) }
+        ensures fits { OnOk result (HasRoom (copy self.old).globals (transaction_value transaction.now).updates) }
+        ensures going { OnOk result (IsTrue (going self.new)) }
+        ensures full { IsErrOf result ApplyError.Full → HasRoom (copy self.old).globals (transaction_value transaction.now).updates → ⊥ }
+        ensures unchanged { IsErrOf result ApplyError.Full → (copy self.new ≡ copy self.old) × IsTrue (going self.new) }
+        // where it goes on nothing has changed
+        ensures other { OnOther result ((copy self.new ≡ copy self.old) ⊎ Takes (transaction_value transaction.now) (copy self.old) (copy self.new)) }
+        ensures stopped { OnOther result (((going self.new) ≡ false) ⊎ (copy self.new ≡ copy self.old)) };
+
+    /// Hardens all entries.
+    fn harden(&mut self) -> Result<(), Self::Error>
+        requires { IsTrue (going self.old) }
+        ensures ok { OnOk result (copy self.new ≡ hardened (copy self.old)) }
+        ensures going { OnOk result (IsTrue (going self.new)) }
+        ensures err { OnErr result (copy self.new ≡ copy self.old) };
+
+    // A site with entries has a reign for the next one.
+    ghost covered: { (s : Self) → 1 ≤ length (copy s).sequence → (stamp : Stamp) × (stamp_at (next_of (copy s)) (reigns_next (copy s)) ≡ Some stamp) };
+}
