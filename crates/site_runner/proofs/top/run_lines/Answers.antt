@@ -172,17 +172,17 @@ returns-in-Ok-true-clause-sink g c h = absurd ((finished_plain _ _ _ c.finish-in
 
 pub returns-clause-meaning : goal.returns-clause-meaning
 returns-clause-meaning g c =
-    let some : 0 < length c.is_at_end.new.ahead.bytes = rw c.in-Ok-false.field-0-test at c.in-Ok-false.ensures.end in
+    let some : 0 < length c.is_at_end.new.self.bytes = rw c.in-Ok-false.field-0-test at c.in-Ok-false.ensures.end in
     let n = g.S.Source.left c.is_at_end.new.script in
-    let byte = byte_left c.is_at_end.new.ahead n some in
-    meant_behind_all g.D.Disk.disk _ _ _ (c.is_at_end.new.ahead.bytes) byte.1.0 n _ _
-    (too_long_there g.D.Disk.disk _ _ _ _ _ _ _ _ _ _ c.loop-lines.invariant.run (consumes_then _ _ _ [] (byte.0 ∷ []) c.is_at_end.ensures.takes.taken byte.1.1) (omega (arith, c.loop-lines.invariant.fed, c.loop-lines.invariant.bound, c.loop-lines-test.false)))
+    let byte = byte_left c.is_at_end.new.self n some in
+    meant_behind_all g.D.Disk.disk _ _ _ (c.is_at_end.new.self.bytes) byte.1 n _ _
+    (too_long_there g.D.Disk.disk _ _ _ _ _ _ _ _ _ _ c.loop-lines.invariant.run (consumes_then _ _ _ [] (byte.0 ∷ []) c.is_at_end.ensures.takes.taken byte.2) (omega (arith, c.loop-lines.invariant.fed, c.loop-lines.invariant.bound, c.loop-lines-test.false)))
 
 pub returns-clause-too_long : goal.returns-clause-too_long
 returns-clause-too_long g c h =
-    let some : 0 < length c.is_at_end.new.ahead.bytes = rw c.in-Ok-false.field-0-test at c.in-Ok-false.ensures.end in
-    let byte = byte_left c.is_at_end.new.ahead (g.S.Source.left c.is_at_end.new.script) some in
-    too_long g.D.Disk.disk _ _ _ _ _ _ _ _ _ _ c.loop-lines.invariant.run (consumes_then _ _ _ [] (byte.0 ∷ []) c.is_at_end.ensures.takes.taken byte.1.1) (omega (arith, c.loop-lines.invariant.fed, c.loop-lines.invariant.bound, c.loop-lines-test.false))
+    let some : 0 < length c.is_at_end.new.self.bytes = rw c.in-Ok-false.field-0-test at c.in-Ok-false.ensures.end in
+    let byte = byte_left c.is_at_end.new.self (g.S.Source.left c.is_at_end.new.script) some in
+    too_long g.D.Disk.disk _ _ _ _ _ _ _ _ _ _ c.loop-lines.invariant.run (consumes_then _ _ _ [] (byte.0 ∷ []) c.is_at_end.ensures.takes.taken byte.2) (omega (arith, c.loop-lines.invariant.fed, c.loop-lines.invariant.bound, c.loop-lines-test.false))
 
 pub returns-clause-bound : goal.returns-clause-bound
 returns-clause-bound g c = bounded _ _ _ _ (spends_more _ _ _ _ _ _ _ c.loop-lines.invariant.spent c.is_at_end.ensures.takes)

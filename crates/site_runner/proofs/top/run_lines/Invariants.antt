@@ -11,8 +11,8 @@ invariant-loop-lines g l = record {
   run : InLoop g.D.Disk.disk l.fn.slots.items l.slots.items l.reader.position l.reader.lines (left_behind l.fn.ahead (g.S.Source.left l.fn.script)) (left_behind l.ahead (g.S.Source.left l.script)) (g.K.Sink.written l.fn.out) (g.K.Sink.written l.out);
   source : g.S.Source.faults l.fn.script ≤ g.S.Source.faults l.script;
   sink : g.K.Sink.faults l.fn.out ≤ g.K.Sink.faults l.out;
-  length : length l.slots.items ≡ length l.fn.slots.items;
   room : 409700001 ≤ l.ahead.room + length l.ahead.bytes + 4097 * l.lines;
+  length : length l.slots.items ≡ length l.fn.slots.items;
   spent : Spends (g.S.Source.left l.fn.script) (g.S.Source.left l.script) l.fn.ahead.room l.ahead.room;
   ready : AreReady g.D.Disk.disk l.slots.items;
 }
