@@ -10,7 +10,7 @@ use Rattle.command_defs.specs.Commands.{Command}
 use Rattle.command_defs.specs.Lines.{onto, lines_of, ended}
 use Rattle.command_defs.specs.Script.{Position, IsBadAt}
 use Rattle.site_runner.specs.Ends.{ComeTo}
-use Rattle.site_runner.specs.Told.{IsPiece}
+use Rattle.line_reader.specs.Lines.{IsPiece}
 use Rattle.site_runner.proofs.Told.{consumes_then}
 use Rattle.site_runner.proofs.Cuts.{split_and, split_or}
 use Rattle.site_runner.proofs.LineLaws.{is_clean, last_line, first_line, lines_ended}

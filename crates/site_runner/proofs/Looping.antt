@@ -2,7 +2,8 @@
 use Rattle.std.proofs.Common.{◌≡◌, ℕ, ◌+◌, ◌*◌, ◌<◌, ◌≤◌, true, List, [], ◌∷◌, ◌++◌, length, take, None, Some, refl, ap, sym, ◌∙◌, append_assoc, subst, inl, inr, arith, length-append}
 use Rattle.std.specs.Prelude.{Option, IfSome, ◌⊎◌, slice_get}
 use Rattle.std.specs.List.{list_all}
-use Rattle.std.specs.Io.KnownBytes.{Appends, Consumes, IsAtEnd, Keeps}
+use Rattle.std.specs.Io.KnownBytes.{Appends, Consumes, IsAtEnd, Keeps, prepend_known}
+use Rattle.std.proofs.KnownBytes.{prepend_known-nil}
 use Rattle.std.proofs.lemmas.List.{take_at, append-nil}
 use Rattle.disk_defs.specs.Disk.{View}
 use Rattle.command_defs.specs.Commands.{Command}
@@ -16,8 +17,11 @@ use Rattle.world_defs.specs.Runs.{commands}
 use Rattle.site_runner.specs.declared.slot.Slot.{Slot}
 use Rattle.site_runner.specs.declared.status.Status.{Status}
 use Rattle.site_runner.specs.declared.status.Status.TheVariants.{Ok, BadWords, BadLine, ScriptTooLong, SourceFault, SinkFault, NoMemory}
-use Rattle.site_runner.specs.Told.{IsPiece, AppendsFront}
+use Rattle.line_reader.specs.Ahead.{Ahead}
+use Rattle.line_reader.specs.Lines.{IsPiece, Takes, left_behind}
+use Rattle.site_runner.specs.Told.{AppendsFront}
 use Rattle.site_runner.specs.Tied.{Tied, Matched}
+use Rattle.site_runner.specs.Meant.{Meaning}
 use Rattle.site_runner.specs.Ends.{ComeTo, Went, Reached, IsCutShort, EndsSo, RanTo, IsTooLong}
 use Rattle.site_runner.specs.Going.{Going, StopsAt, Halts, GoesOn, Finishes}
 use Rattle.site_runner.proofs.Told.{consumes_then}
@@ -36,10 +40,6 @@ pub record InLoop {D : Type 0} (view : D → View) (first slots : List (Slot D))
   pub clean : list_all is_clean taken ≡ true
   pub count : length taken ≡ lines
   pub short : length (ended taken) ≤ 4097 * lines
-
--- what a run leaves, from any world that the slots were
-abbrev pub Meaning : {D : Type 0} → (D → View) → List (Slot D) → List (Slot D) → Status → Option (List ℕ) → Option (List ℕ) → Option (List ℕ) → Option (List ℕ) → Type 0
-Meaning view first slots status o n old new = (w : World) → Tied view first w → IfSome o (λ input. (after : World) × Matched view slots after × RanTo status input n w after old new)
 
 -- one more line
 pub next_line : {D : Type 0} (view : D → View) (first slots next : List (Slot D)) (p q : Position) (lines more : ℕ) (o m n old mid new : Option (List ℕ)) (line : List ℕ)
@@ -94,13 +94,6 @@ source_failed view first slots p lines o m n old new piece i b c w t =
   where
     not_ok : SourceFault ≡ Ok → ⊥
     not_ok h = cc
-
-no_piece : IsPiece []
-no_piece = refl
-
--- a read failed behind whole lines
-pub source_failed_there : {D : Type 0} (view : D → View) (first slots : List (Slot D)) (p : Position) (lines : ℕ) (o m n old new : Option (List ℕ)) → InLoop view first slots p lines o m old new → Keeps m n → Meaning view first slots SourceFault o n old new
-source_failed_there view first slots p lines o m n old new i k = source_failed view first slots p lines o m n old new [] i (kept_nothing m n k) no_piece
 
 memory_not_ok : NoMemory ≡ Ok → ⊥
 memory_not_ok h = cc
@@ -290,12 +283,39 @@ long_bad view first slots p lines k c o m n old new line i q l b h e few =
     subst (λ (x : ℕ). IfSome o (λ input. IsBadAt (lines_of input) k x)) (sym e)
     (bad_long o m n i.taken line i.commands p k i.clean q l i.consumed b i.read (omega (arith, h, i.count)) (omega (arith, h, few)))
 
--- at most so many bytes were read
-abbrev pub Takes : ℕ → Option (List ℕ) → Option (List ℕ) → Type 0
-Takes most o n = (bytes : List ℕ) × Consumes o n bytes × (length bytes ≤ most)
+-- so many bytes were read, and as many fewer may be
+pub record Spends (o n : Option (List ℕ)) (first room : ℕ) : Type 0 where
+  pub bytes : List ℕ
+  pub read : Consumes o n bytes
+  pub left : length bytes + room ≡ first
 
-pub bounded : {D : Type 0} (view : D → View) (first slots : List (Slot D)) (p : Position) (lines most : ℕ) (o m n old new : Option (List ℕ)) → InLoop view first slots p lines o m old new → Takes most m n → 4097 * lines + most ≤ 409700001 → Takes 409700001 o n
-bounded view first slots p lines most o m n old new i t h = (ended i.taken ++ t.0, consumes_then o m n (ended i.taken) t.0 i.consumed t.1, omega (arith, i.short, t.2, h, length-append (ended i.taken) t.0))
+pub spends_more : (a b : Ahead) (o m n : Option (List ℕ)) (first : ℕ) (bytes : List ℕ) → Spends o m first a.room → Takes a b m n bytes → Spends o n first b.room
+spends_more a b o m n first bytes s t =
+    let was = s.left in
+    let now = t.room in
+    record { bytes = s.bytes ++ t.read; read = consumes_then o m n s.bytes t.read s.read t.source; left = omega (arith, was, now, length-append s.bytes t.read) }
+
+pub bounded : (o n : Option (List ℕ)) (first room : ℕ) → Spends o n first room → (bytes : List ℕ) × Consumes o n bytes × (length bytes ≤ first)
+bounded o n first room s = let left = s.left in (s.bytes, s.read, omega (arith, left))
+
+-- as many fewer bytes are left of what may be taken
+pub room_less : (a b : Ahead) (m n : Option (List ℕ)) (bytes : List ℕ) (lines first : ℕ) → Takes a b m n bytes → length bytes ≤ 4097 → first ≤ a.room + length a.bytes + 4097 * lines → first ≤ b.room + length b.bytes + 4097 * (lines + 1)
+room_less a b m n bytes lines first t few enough =
+    let room = t.room in
+    let count = t.count in
+    omega (arith, room, count, few, enough)
+
+-- a byte that is left
+pub byte_left : (a : Ahead) (n : Option (List ℕ)) → 0 < length a.bytes → (byte : ℕ) × (rest : List ℕ) × Consumes (left_behind a n) (prepend_known rest n) (byte ∷ [])
+byte_left a n some = among a.bytes some
+  where
+    front : (b : ℕ) (bs : List ℕ) (o : Option (List ℕ)) → Consumes (prepend_known (b ∷ bs) o) (prepend_known bs o) (b ∷ [])
+    front b bs None = tt
+    front b bs (Some u) = refl
+
+    among : (bytes : List ℕ) → 0 < length bytes → (byte : ℕ) × (rest : List ℕ) × Consumes (prepend_known bytes n) (prepend_known rest n) (byte ∷ [])
+    among [] some = absurd (omega (arith, some))
+    among (b ∷ bs) some = (b, bs, front b bs n)
 
 consumes_nothing : (o : Option (List ℕ)) → Consumes o o []
 consumes_nothing None = tt
@@ -339,3 +359,38 @@ next_fed view first slots p lines o m n old new line i c b = begin_fed o m n i.t
 pub next_last : {D : Type 0} (view : D → View) (first slots : List (Slot D)) (p : Position) (lines : ℕ) (o m n old new : Option (List ℕ)) (line : List ℕ)
     → (i : InLoop view first slots p lines o m old new) → IsPiece line → 0 < length line → Consumes m n line → IsAtEnd n → Begin o i.taken line
 next_last view first slots p lines o m n old new line i c l b e = begin_last o i.taken line (lines_at_last o m n i.taken line i.clean c l i.consumed b e)
+
+-- ---- what was read ahead
+
+at_end_behind : (a : List ℕ) (n : Option (List ℕ)) → IsAtEnd (prepend_known a n) → IsAtEnd n
+at_end_behind a None e = tt
+at_end_behind [] (Some u) e = e
+at_end_behind (x ∷ a) (Some u) e = absurd (cc e)
+
+reached_behind : (status : Status) (input a : List ℕ) (n : Option (List ℕ)) (k : ℕ) → (status ≡ SourceFault → a ≡ []) → (status ≡ BadWords → ⊥) → Reached status input (prepend_known a n) k → Reached status input n k
+reached_behind Ok input a n k none words r = (r.0, r.1, at_end_behind a n r.2)
+reached_behind BadWords input a n k none words r = absurd (words refl)
+reached_behind (BadLine line column) input a n k none words r = r
+reached_behind ScriptTooLong input a n k none words r = r
+reached_behind SourceFault input a n k none words r =
+    (r.0, r.1, subst (λ (x : Option (List ℕ)). Consumes (Some input) x (ended (take k (lines_of input)) ++ r.0)) (ap (λ (x : List ℕ). prepend_known x n) (none refl) ∙ prepend_known-nil n) r.2)
+reached_behind SinkFault input a n k none words r = tt
+reached_behind NoMemory input a n k none words r = tt
+
+ran_behind : (status : Status) (input a : List ℕ) (n old new : Option (List ℕ)) (w after : World) → (status ≡ SourceFault → a ≡ []) → (status ≡ BadWords → ⊥) → RanTo status input (prepend_known a n) w after old new → RanTo status input n w after old new
+ran_behind status input a n old new w after none words r =
+    record { count = r.count; within = r.within; reached = reached_behind status input a n r.count none words r.reached; mid = r.mid; went = r.went; ends = r.ends }
+
+-- What was read ahead and not taken changes no meaning.
+pub meant_behind : {D : Type 0} (view : D → View) (first slots : List (Slot D)) (status : Status) (o : Option (List ℕ)) (a : List ℕ) (n old new : Option (List ℕ)) → (status ≡ SourceFault → a ≡ []) → (status ≡ BadWords → ⊥)
+    → Meaning view first slots status o (prepend_known a n) old new → Meaning view first slots status o n old new
+meant_behind view first slots status o a n old new none words m w t =
+    if_some o (λ input. (after : World) × Matched view slots after × RanTo status input (prepend_known a n) w after old new) (λ input. (after : World) × Matched view slots after × RanTo status input n w after old new)
+    (λ input (after, matched_then, r). (after, matched_then, ran_behind status input a n old new w after none words r)) (m w t)
+
+-- for a status that tells nothing of what is left
+pub meant_behind_all : {D : Type 0} (view : D → View) (first slots : List (Slot D)) (o : Option (List ℕ)) (a b : List ℕ) (n old new : Option (List ℕ))
+    → Meaning view first slots ScriptTooLong o (prepend_known b n) old new → Meaning view first slots ScriptTooLong o (prepend_known a n) old new
+meant_behind_all view first slots o a b n old new m w t =
+    if_some o (λ input. (after : World) × Matched view slots after × RanTo ScriptTooLong input (prepend_known b n) w after old new) (λ input. (after : World) × Matched view slots after × RanTo ScriptTooLong input (prepend_known a n) w after old new)
+    (λ input (after, matched_then, r). (after, matched_then, record { count = r.count; within = r.within; reached = r.reached; mid = r.mid; went = r.went; ends = r.ends })) (m w t)

@@ -11,7 +11,8 @@ use Rattle.world_defs.specs.Step.{CutOff}
 use Rattle.world_defs.specs.Runs.{Told, Runs, commands}
 use Rattle.world_defs.specs.Fit.{IsFit}
 use Rattle.world_laws.specs.Again.{HasFitOutcomes}
-use Rattle.site_runner.specs.Told.{IsPiece, AppendsFront}
+use Rattle.line_reader.specs.Lines.{IsPiece}
+use Rattle.site_runner.specs.Told.{AppendsFront}
 use Rattle.site_runner.specs.declared.status.Status.{Status}
 use Rattle.site_runner.specs.declared.status.Status.TheVariants.{Ok, BadWords, BadLine, ScriptTooLong, SourceFault, SinkFault, NoMemory}
 

@@ -11,4 +11,5 @@ pub mod Attaching
 pub mod Starting
 pub mod Mapping
 pub mod Ends
+pub mod Meant
 pub mod Going

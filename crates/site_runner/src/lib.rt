@@ -7,7 +7,6 @@ mod execute;
 mod extracting;
 mod finding;
 mod fusing;
-mod lines;
 mod looking;
 mod mapping;
 mod moving;

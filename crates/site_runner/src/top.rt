@@ -11,15 +11,17 @@ ghost use Rattle.repl_script.specs.Commands.{command_value};
 ghost use Rattle.site_runner.specs.Sites.{AreReady};
 ghost use Rattle.site_runner.specs.Tied.{Tied, Matched};
 ghost use Rattle.site_runner.specs.Ends.{RanTo, StaysFit, IsTooLong, IsDue};
+ghost use Rattle.line_reader.specs.Lines.{left_behind};
+ghost use Rattle.site_runner.specs.Meant.{Meaning};
 ghost use Rattle.site_runner.specs.Going.{CarriesOut, Breaks, Halts, GoesOn, Finishes, status_value};
 
 use super::execute::execute;
-use super::lines::{LineEnd, LineError, read_byte, read_line};
 use super::moving::{give_back, take_disks};
 use super::slot::Slot;
 use super::status::Status;
 use super::write::write_all;
 use gvn_key::Bytes;
+use line_reader::{LineEnd, LineError, ReadAhead};
 use repl_disk::Disk;
 use repl_io::{Sink, Source};
 use repl_script::{Command, Script, ScriptError};
@@ -31,6 +33,9 @@ const MOST_LINES: u32 = 100_000;
 
 /// How many bytes a line may have.
 const LONGEST_LINE: u32 = 4096;
+
+/// How many bytes of a script are read at most: as many lines as there may be, each with a byte too many, and one byte more.
+const MOST_BYTES: u32 = 409_700_001;
 
 fn is_word(word: &str) -> bool
     ensures { MatchBool result (word.now ≡ codes "run") (word.now ≢ codes "run") }
@@ -118,30 +123,32 @@ fn finish(reader: &Script) -> Status
     }
 }
 
-/// Runs a script over disks in slots.
-fn run_script<S: Source, K: Sink, D: Disk>(
+/// Runs a script of which nothing was read yet over disks in slots. What it reads ahead and doesn't take stays in the buffer.
+fn run_lines<S: Source, K: Sink, D: Disk>(
     alloc: Global,
     slots: &mut Vec<Slot<D>>,
+    ahead: &mut ReadAhead,
     script: &mut S,
     out: &mut K,
 ) -> Status
-    requires { AreReady D.disk slots.old.items }
-    ensures meaning { (w : World) → Tied D.disk slots.old.items w → IfSome (S.left script.old) (λ input.
-        (after : World) × Matched D.disk slots.new.items after × RanTo result input (S.left script.new) w after (K.written out.old) (K.written out.new)) }
+    requires ready { AreReady D.disk slots.old.items }
+    requires room { ahead.old.room + length ahead.old.bytes ≡ 409700001 }
+    ensures meaning { Meaning D.disk slots.old.items slots.new.items result (left_behind ahead.old (S.left script.old)) (left_behind ahead.new (S.left script.new)) (K.written out.old) (K.written out.new) }
     ensures length { length slots.new.items ≡ length slots.old.items }
-    ensures script { result ≡ Status.Ok → IfSome (S.left script.old) (λ input. IsScript (lines_of input)) }
-    ensures bad_line { (n c : ℕ) → result ≡ Status.BadLine n c → IfSome (S.left script.old) (λ input. IsBadAt (lines_of input) n c) }
-    ensures too_long { result ≡ Status.ScriptTooLong → IfSome (S.left script.old) (λ input. IsTooLong (lines_of input)) }
+    ensures script { result ≡ Status.Ok → IfSome (left_behind ahead.old (S.left script.old)) (λ input. IsScript (lines_of input)) }
+    ensures bad_line { (n c : ℕ) → result ≡ Status.BadLine n c → IfSome (left_behind ahead.old (S.left script.old)) (λ input. IsBadAt (lines_of input) n c) }
+    ensures too_long { result ≡ Status.ScriptTooLong → IfSome (left_behind ahead.old (S.left script.old)) (λ input. IsTooLong (lines_of input)) }
     ensures words { result ≢ Status.BadWords }
-    ensures bound { (bytes : List ℕ) × Consumes (S.left script.old) (S.left script.new) bytes × (length bytes ≤ 409700001) }
+    ensures bound { (bytes : List ℕ) × Consumes (S.left script.old) (S.left script.new) bytes × (length bytes ≤ ahead.old.room) }
     ensures source { result ≡ Status.SourceFault → Rose (S.faults script.old) (S.faults script.new) }
+    ensures emptied { result ≡ Status.SourceFault → ahead.new.bytes ≡ [] }
     ensures sink { result ≡ Status.SinkFault → Rose (K.faults out.old) (K.faults out.new) }
 {
     let mut reader = Script::new(alloc);
     let mut line = Vec::new(alloc);
     let mut lines = 0u32;
     while lines < MOST_LINES {
-        match read_line(script, &mut line) {
+        match ahead.read_line(script, &mut line) {
             Err(LineError::Failed) => return Status::SourceFault,
             Err(LineError::NoMemory) => return Status::NoMemory,
             Ok(LineEnd::Nothing) => return finish(&reader),
@@ -165,16 +172,39 @@ fn run_script<S: Source, K: Sink, D: Disk>(
             }
         }
     }
-    match read_byte(script) {
+    match ahead.is_at_end(script) {
         Err(_) => Status::SourceFault,
-        Ok(None) => finish(&reader),
-        Ok(Some(_)) => Status::ScriptTooLong,
+        Ok(true) => finish(&reader),
+        Ok(false) => Status::ScriptTooLong,
     }
+}
+
+/// Runs a script over disks in slots.
+fn run_script<S: Source, K: Sink, D: Disk>(
+    alloc: Global,
+    slots: &mut Vec<Slot<D>>,
+    script: &mut S,
+    out: &mut K,
+) -> Status
+    requires { AreReady D.disk slots.old.items }
+    ensures meaning { (w : World) → Tied D.disk slots.old.items w → IfSome (S.left script.old) (λ input.
+        (after : World) × Matched D.disk slots.new.items after × RanTo result input (S.left script.new) w after (K.written out.old) (K.written out.new)) }
+    ensures length { length slots.new.items ≡ length slots.old.items }
+    ensures script { result ≡ Status.Ok → IfSome (S.left script.old) (λ input. IsScript (lines_of input)) }
+    ensures bad_line { (n c : ℕ) → result ≡ Status.BadLine n c → IfSome (S.left script.old) (λ input. IsBadAt (lines_of input) n c) }
+    ensures too_long { result ≡ Status.ScriptTooLong → IfSome (S.left script.old) (λ input. IsTooLong (lines_of input)) }
+    ensures words { result ≢ Status.BadWords }
+    ensures bound { (bytes : List ℕ) × Consumes (S.left script.old) (S.left script.new) bytes × (length bytes ≤ 409700001) }
+    ensures source { result ≡ Status.SourceFault → Rose (S.faults script.old) (S.faults script.new) }
+    ensures sink { result ≡ Status.SinkFault → Rose (K.faults out.old) (K.faults out.new) }
+{
+    let mut ahead = ReadAhead::new(MOST_BYTES);
+    run_lines(alloc, slots, &mut ahead, script, out)
 }
 
 /// Does all that the program does, for the words behind the program's name: reads a script, runs its commands in order on sites
 /// over the disks, and writes what they answer. Sites stand on the first disks, in the order of their making. It reads the script
-/// byte by byte, so hand it a buffered source. The disks are given back in their order, whatever the status.
+/// ahead in pieces of at most 4,096 bytes. The disks are given back in their order, whatever the status.
 ///
 /// A later run may take up disks that an earlier one gave back: they are those of the world that it left, without its sites, and
 /// ATTACH finds what stands on each of them. Where they were fit before a run they are fit behind it, so a site's serials and

@@ -1,210 +1,36 @@
-use Rattle.std.proofs.Common.{◌+◌, [], ◌∷◌, refl, ◌∙◌, sym, ap, arith}
-use Rattle.repl_script.specs.Feeds.{Progress}
-use Rattle.site_runner.proofs.Inputs.{kept_nothing}
-use Rattle.site_runner.proofs.Looping.{next_line, source_failed, source_failed_there, no_memory, bad_there, too_long_there, too_long, finished, finished_bad, finished_well, finished_not_long, finished_plain, halted, halted_bad, halted_not_ok, halted_not_long, parts, long_bad, bounded, loop_started_at, ends_clean, ends_within, next_fed, next_last}
+use Rattle.std.proofs.Common.{◌≡◌, ℕ, List, [], Option, sym, ◌∙◌, ap, subst}
+use Rattle.std.specs.Prelude.{IfSome}
+use Rattle.std.specs.Io.KnownBytes.{prepend_known}
+use Rattle.std.proofs.KnownBytes.{prepend_known-nil}
+use Rattle.line_reader.specs.Lines.{left_behind}
+use Rattle.command_defs.specs.Lines.{lines_of}
+use Rattle.command_defs.specs.Script.{IsScript, IsBadAt}
+use Rattle.site_runner.specs.Ends.{IsTooLong}
+use Rattle.site_runner.specs.Meant.{Meaning}
+use Rattle.site_runner.proofs.Looping.{meant_behind}
 use Rattle.site_runner.proofs.top.run_script.Goals as goal
 
-pub returns-in-Err-Failed-clause-meaning : goal.returns-in-Err-Failed-clause-meaning
-returns-in-Err-Failed-clause-meaning g c =
-    let f = c.in-Err-Failed.ensures.failed c.in-Err-Failed.field-0-is in
-    source_failed g.D.Disk.disk _ _ _ _ _ _ _ _ _ _ c.loop-lines.invariant.run f.0 f.1
-
-pub returns-in-Err-Failed-clause-bound : goal.returns-in-Err-Failed-clause-bound
-returns-in-Err-Failed-clause-bound g c = bounded g.D.Disk.disk _ _ _ _ 4097 _ _ _ _ _ c.loop-lines.invariant.run c.read_line.ensures.taken (omega (arith, c.loop-lines-test.true, c.loop-lines.invariant.fed))
-
-pub returns-in-Err-NoMemory-clause-bound : goal.returns-in-Err-NoMemory-clause-bound
-returns-in-Err-NoMemory-clause-bound g c = bounded g.D.Disk.disk _ _ _ _ 4097 _ _ _ _ _ c.loop-lines.invariant.run c.read_line.ensures.taken (omega (arith, c.loop-lines-test.true, c.loop-lines.invariant.fed))
-
-pub returns-in-Err-NoMemory-clause-meaning : goal.returns-in-Err-NoMemory-clause-meaning
-returns-in-Err-NoMemory-clause-meaning g c = no_memory g.D.Disk.disk _ _ _ _ _ _ _ _ _ c.loop-lines.invariant.run
-
-pub returns-in-Ok-Nothing-clause-meaning : goal.returns-in-Ok-Nothing-clause-meaning
-returns-in-Ok-Nothing-clause-meaning g c =
-    let e = rw c.in-Ok-Nothing.field-0-is at c.in-Ok-Nothing.ensures.end in
-    finished g.D.Disk.disk _ _ c.finish.result c.loop-lines.reader.position _ _ _ _ _ c.finish.ensures (ends_clean g.D.Disk.disk _ _ _ _ _ _ _ _ _ c.loop-lines.invariant.run e.0 e.1 (omega (arith, c.loop-lines.invariant.bound, c.loop-lines.invariant.fed)))
-
-pub returns-in-Ok-Nothing-clause-bad_line : goal.returns-in-Ok-Nothing-clause-bad_line
-returns-in-Ok-Nothing-clause-bad_line g c n k h =
-    let e = rw c.in-Ok-Nothing.field-0-is at c.in-Ok-Nothing.ensures.end in
-    finished_bad g.D.Disk.disk _ _ c.finish.result c.loop-lines.reader.position _ n k _ _ _ _ c.finish.ensures (ends_clean g.D.Disk.disk _ _ _ _ _ _ _ _ _ c.loop-lines.invariant.run e.0 e.1 (omega (arith, c.loop-lines.invariant.bound, c.loop-lines.invariant.fed))) h
-
-pub returns-in-Ok-Nothing-clause-script : goal.returns-in-Ok-Nothing-clause-script
-returns-in-Ok-Nothing-clause-script g c h =
-    let e = rw c.in-Ok-Nothing.field-0-is at c.in-Ok-Nothing.ensures.end in
-    finished_well g.D.Disk.disk _ _ c.finish.result c.loop-lines.reader.position _ _ _ _ _ c.finish.ensures (ends_clean g.D.Disk.disk _ _ _ _ _ _ _ _ _ c.loop-lines.invariant.run e.0 e.1 (omega (arith, c.loop-lines.invariant.bound, c.loop-lines.invariant.fed))) h
-
-pub returns-in-Ok-TooLong-clause-meaning : goal.returns-in-Ok-TooLong-clause-meaning
-returns-in-Ok-TooLong-clause-meaning g c = bad_there g.D.Disk.disk _ _ _ c.loop-lines.reader.lines (c.loop-lines.lines + 1) 4097 _ _ _ _ _ c.loop-lines.invariant.run (ap (λ x. x + 1) (sym c.loop-lines.invariant.fed))
-
-pub returns-in-Ok-TooLong-clause-bad_line : goal.returns-in-Ok-TooLong-clause-bad_line
-returns-in-Ok-TooLong-clause-bad_line g c n k h =
-    let e = rw c.in-Ok-TooLong.field-0-is at c.in-Ok-TooLong.ensures.end in
-    let q = parts (c.loop-lines.lines + 1) 4097 n k _ refl h in
-    long_bad g.D.Disk.disk _ _ _ c.loop-lines.reader.lines n k _ _ _ _ _ c.read_line.new.line.items c.loop-lines.invariant.run c.in-Ok-TooLong.ensures.piece e.1 e.0 (q.0 ∙ ap (λ x. x + 1) (sym c.loop-lines.invariant.fed)) q.1 (omega (arith, c.loop-lines-test.true, c.loop-lines.invariant.fed))
-
-pub returns-in-Ok-TooLong-clause-bound : goal.returns-in-Ok-TooLong-clause-bound
-returns-in-Ok-TooLong-clause-bound g c = bounded g.D.Disk.disk _ _ _ _ 4097 _ _ _ _ _ c.loop-lines.invariant.run c.read_line.ensures.taken (omega (arith, c.loop-lines-test.true, c.loop-lines.invariant.fed))
-
-pub returns-in-Ok-clause-meaning : goal.returns-in-Ok-clause-meaning
-returns-in-Ok-clause-meaning g c =
-    let s = rw c.in-Ok-Input.field-0-is at c.in-Ok-Input.ensures.end in
-    let on = rw c.deref.ensures.value at c.in-Ok.ensures.goes_on in
-    finished g.D.Disk.disk _ _ c.finish-in-Ok.result c.take_line.new.reader.position _ _ _ _ _ c.finish-in-Ok.ensures
-    (ends_within g.D.Disk.disk _ _ _ _ _ _ _ _ _ _ _ _ _ c.read_line.new.line.items c.loop-lines.invariant.run on c.in-Ok.ensures.count c.in-Ok-Input.ensures.piece s.2 s.0 s.1 (omega (arith, c.loop-lines-test.true, c.loop-lines.invariant.fed)))
-
-pub returns-in-Ok-clause-bad_line : goal.returns-in-Ok-clause-bad_line
-returns-in-Ok-clause-bad_line g c n k h =
-    let s = rw c.in-Ok-Input.field-0-is at c.in-Ok-Input.ensures.end in
-    let on = rw c.deref.ensures.value at c.in-Ok.ensures.goes_on in
-    finished_bad g.D.Disk.disk _ _ c.finish-in-Ok.result c.take_line.new.reader.position _ n k _ _ _ _ c.finish-in-Ok.ensures
-    (ends_within g.D.Disk.disk _ _ _ _ _ _ _ _ _ _ _ _ _ c.read_line.new.line.items c.loop-lines.invariant.run on c.in-Ok.ensures.count c.in-Ok-Input.ensures.piece s.2 s.0 s.1 (omega (arith, c.loop-lines-test.true, c.loop-lines.invariant.fed))) h
-
-pub returns-in-Ok-clause-script : goal.returns-in-Ok-clause-script
-returns-in-Ok-clause-script g c h =
-    let s = rw c.in-Ok-Input.field-0-is at c.in-Ok-Input.ensures.end in
-    let on = rw c.deref.ensures.value at c.in-Ok.ensures.goes_on in
-    finished_well g.D.Disk.disk _ _ c.finish-in-Ok.result c.take_line.new.reader.position _ _ _ _ _ c.finish-in-Ok.ensures
-    (ends_within g.D.Disk.disk _ _ _ _ _ _ _ _ _ _ _ _ _ c.read_line.new.line.items c.loop-lines.invariant.run on c.in-Ok.ensures.count c.in-Ok-Input.ensures.piece s.2 s.0 s.1 (omega (arith, c.loop-lines-test.true, c.loop-lines.invariant.fed))) h
-
-pub returns-in-Ok-clause-bound : goal.returns-in-Ok-clause-bound
-returns-in-Ok-clause-bound g c = bounded g.D.Disk.disk _ _ _ _ 4097 _ _ _ _ _ c.loop-lines.invariant.run c.read_line.ensures.taken (omega (arith, c.loop-lines-test.true, c.loop-lines.invariant.fed))
-
-pub returns-in-Err-clause-meaning : goal.returns-in-Err-clause-meaning
-returns-in-Err-clause-meaning g c =
-    let s = rw c.in-Ok-Input.field-0-is at c.in-Ok-Input.ensures.end in
-    let r = c.loop-lines.invariant.run in
-    let line = c.read_line.new.line.items in
-    halted g.D.Disk.disk _ _ _ _ c.loop-lines.reader.position c.loop-lines.reader.lines _ _ _ _ _ _ line _ (rw c.deref.ensures.value at c.in-Err.ensures.halts) r (next_last g.D.Disk.disk _ _ _ _ _ _ _ _ _ line r c.in-Ok-Input.ensures.piece s.2 s.0 s.1)
-
-pub returns-in-Err-clause-bad_line : goal.returns-in-Err-clause-bad_line
-returns-in-Err-clause-bad_line g c n k h =
-    let s = rw c.in-Ok-Input.field-0-is at c.in-Ok-Input.ensures.end in
-    let r = c.loop-lines.invariant.run in
-    let line = c.read_line.new.line.items in
-    halted_bad g.D.Disk.disk _ _ _ _ c.loop-lines.reader.position c.loop-lines.reader.lines n k _ _ _ _ _ line _ (rw c.deref.ensures.value at c.in-Err.ensures.halts) r (next_last g.D.Disk.disk _ _ _ _ _ _ _ _ _ line r c.in-Ok-Input.ensures.piece s.2 s.0 s.1) (omega (arith, c.loop-lines-test.true, c.loop-lines.invariant.fed)) h
-
-pub returns-in-Err-clause-script : goal.returns-in-Err-clause-script
-returns-in-Err-clause-script g c h = absurd (halted_not_ok g.D.Disk.disk _ _ _ _ _ _ _ _ _ c.in-Err.ensures.halts h)
-
-pub returns-in-Err-clause-too_long : goal.returns-in-Err-clause-too_long
-returns-in-Err-clause-too_long g c h = absurd (halted_not_long g.D.Disk.disk _ _ _ _ _ _ _ _ _ c.in-Err.ensures.halts h)
-
-pub returns-in-Err-clause-bound : goal.returns-in-Err-clause-bound
-returns-in-Err-clause-bound g c = bounded g.D.Disk.disk _ _ _ _ 4097 _ _ _ _ _ c.loop-lines.invariant.run c.read_line.ensures.taken (omega (arith, c.loop-lines-test.true, c.loop-lines.invariant.fed))
-
-pub returns-in-Err-take_line-clause-meaning : goal.returns-in-Err-take_line-clause-meaning
-returns-in-Err-take_line-clause-meaning g c =
-    let s = rw c.in-Ok-Feed.field-0-is at c.in-Ok-Feed.ensures.end in
-    let r = c.loop-lines.invariant.run in
-    let line = c.read_line.new.line.items in
-    halted g.D.Disk.disk _ _ _ _ c.loop-lines.reader.position c.loop-lines.reader.lines _ _ _ _ _ _ line _ (rw c.deref-in-Ok-Feed.ensures.value at c.in-Err-take_line.ensures.halts) r (next_fed g.D.Disk.disk _ _ _ _ _ _ _ _ _ line r c.in-Ok-Feed.ensures.piece s.0)
-
-pub returns-in-Err-take_line-clause-bad_line : goal.returns-in-Err-take_line-clause-bad_line
-returns-in-Err-take_line-clause-bad_line g c n k h =
-    let s = rw c.in-Ok-Feed.field-0-is at c.in-Ok-Feed.ensures.end in
-    let r = c.loop-lines.invariant.run in
-    let line = c.read_line.new.line.items in
-    halted_bad g.D.Disk.disk _ _ _ _ c.loop-lines.reader.position c.loop-lines.reader.lines n k _ _ _ _ _ line _ (rw c.deref-in-Ok-Feed.ensures.value at c.in-Err-take_line.ensures.halts) r (next_fed g.D.Disk.disk _ _ _ _ _ _ _ _ _ line r c.in-Ok-Feed.ensures.piece s.0) (omega (arith, c.loop-lines-test.true, c.loop-lines.invariant.fed)) h
-
-pub returns-in-Err-take_line-clause-script : goal.returns-in-Err-take_line-clause-script
-returns-in-Err-take_line-clause-script g c h = absurd (halted_not_ok g.D.Disk.disk _ _ _ _ _ _ _ _ _ c.in-Err-take_line.ensures.halts h)
-
-pub returns-in-Err-take_line-clause-too_long : goal.returns-in-Err-take_line-clause-too_long
-returns-in-Err-take_line-clause-too_long g c h = absurd (halted_not_long g.D.Disk.disk _ _ _ _ _ _ _ _ _ c.in-Err-take_line.ensures.halts h)
-
-pub returns-in-Err-take_line-clause-bound : goal.returns-in-Err-take_line-clause-bound
-returns-in-Err-take_line-clause-bound g c = bounded g.D.Disk.disk _ _ _ _ 4097 _ _ _ _ _ c.loop-lines.invariant.run c.read_line.ensures.taken (omega (arith, c.loop-lines-test.true, c.loop-lines.invariant.fed))
-
-pub returns-in-Err-read_byte-clause-meaning : goal.returns-in-Err-read_byte-clause-meaning
-returns-in-Err-read_byte-clause-meaning g c = source_failed_there g.D.Disk.disk _ _ _ _ _ _ _ _ _ c.loop-lines.invariant.run c.in-Err-read_byte.ensures.byte
-
-pub returns-in-Ok-None-clause-meaning : goal.returns-in-Ok-None-clause-meaning
-returns-in-Ok-None-clause-meaning g c =
-    let e = rw c.in-Ok-None.field-0-is at c.in-Ok-None.ensures.byte in
-    finished g.D.Disk.disk _ _ c.finish-in-Ok-None.result c.loop-lines.reader.position _ _ _ _ _ c.finish-in-Ok-None.ensures (ends_clean g.D.Disk.disk _ _ _ _ _ _ _ _ _ c.loop-lines.invariant.run (kept_nothing _ _ e.0) e.1 (omega (arith, c.loop-lines.invariant.bound, c.loop-lines.invariant.fed)))
-
-pub returns-in-Ok-None-clause-bad_line : goal.returns-in-Ok-None-clause-bad_line
-returns-in-Ok-None-clause-bad_line g c n k h =
-    let e = rw c.in-Ok-None.field-0-is at c.in-Ok-None.ensures.byte in
-    finished_bad g.D.Disk.disk _ _ c.finish-in-Ok-None.result c.loop-lines.reader.position _ n k _ _ _ _ c.finish-in-Ok-None.ensures (ends_clean g.D.Disk.disk _ _ _ _ _ _ _ _ _ c.loop-lines.invariant.run (kept_nothing _ _ e.0) e.1 (omega (arith, c.loop-lines.invariant.bound, c.loop-lines.invariant.fed))) h
-
-pub returns-in-Ok-None-clause-script : goal.returns-in-Ok-None-clause-script
-returns-in-Ok-None-clause-script g c h =
-    let e = rw c.in-Ok-None.field-0-is at c.in-Ok-None.ensures.byte in
-    finished_well g.D.Disk.disk _ _ c.finish-in-Ok-None.result c.loop-lines.reader.position _ _ _ _ _ c.finish-in-Ok-None.ensures (ends_clean g.D.Disk.disk _ _ _ _ _ _ _ _ _ c.loop-lines.invariant.run (kept_nothing _ _ e.0) e.1 (omega (arith, c.loop-lines.invariant.bound, c.loop-lines.invariant.fed))) h
-
-pub returns-in-Ok-Nothing-clause-too_long : goal.returns-in-Ok-Nothing-clause-too_long
-returns-in-Ok-Nothing-clause-too_long g c h = absurd (finished_not_long _ _ _ c.finish.ensures h)
-
-pub returns-in-Ok-Nothing-clause-words : goal.returns-in-Ok-Nothing-clause-words
-returns-in-Ok-Nothing-clause-words g c = (finished_plain _ _ _ c.finish.ensures).0
-
-pub returns-in-Ok-Nothing-clause-source : goal.returns-in-Ok-Nothing-clause-source
-returns-in-Ok-Nothing-clause-source g c h = absurd ((finished_plain _ _ _ c.finish.ensures).1 h)
-
-pub returns-in-Ok-Nothing-clause-sink : goal.returns-in-Ok-Nothing-clause-sink
-returns-in-Ok-Nothing-clause-sink g c h = absurd ((finished_plain _ _ _ c.finish.ensures).2 h)
-
-pub returns-in-Ok-clause-too_long : goal.returns-in-Ok-clause-too_long
-returns-in-Ok-clause-too_long g c h = absurd (finished_not_long _ _ _ c.finish-in-Ok.ensures h)
-
-pub returns-in-Ok-clause-words : goal.returns-in-Ok-clause-words
-returns-in-Ok-clause-words g c = (finished_plain _ _ _ c.finish-in-Ok.ensures).0
-
-pub returns-in-Ok-clause-source : goal.returns-in-Ok-clause-source
-returns-in-Ok-clause-source g c h = absurd ((finished_plain _ _ _ c.finish-in-Ok.ensures).1 h)
-
-pub returns-in-Ok-clause-sink : goal.returns-in-Ok-clause-sink
-returns-in-Ok-clause-sink g c h = absurd ((finished_plain _ _ _ c.finish-in-Ok.ensures).2 h)
-
-pub returns-in-Ok-None-clause-too_long : goal.returns-in-Ok-None-clause-too_long
-returns-in-Ok-None-clause-too_long g c h = absurd (finished_not_long _ _ _ c.finish-in-Ok-None.ensures h)
-
-pub returns-in-Ok-None-clause-words : goal.returns-in-Ok-None-clause-words
-returns-in-Ok-None-clause-words g c = (finished_plain _ _ _ c.finish-in-Ok-None.ensures).0
-
-pub returns-in-Ok-None-clause-source : goal.returns-in-Ok-None-clause-source
-returns-in-Ok-None-clause-source g c h = absurd ((finished_plain _ _ _ c.finish-in-Ok-None.ensures).1 h)
-
-pub returns-in-Ok-None-clause-sink : goal.returns-in-Ok-None-clause-sink
-returns-in-Ok-None-clause-sink g c h = absurd ((finished_plain _ _ _ c.finish-in-Ok-None.ensures).2 h)
+-- nothing was read ahead before
+unread : (bytes : List ℕ) (o : Option (List ℕ)) → bytes ≡ [] → prepend_known bytes o ≡ o
+unread bytes o none = ap (λ (b : List ℕ). prepend_known b o) none ∙ prepend_known-nil o
 
 pub returns-clause-meaning : goal.returns-clause-meaning
 returns-clause-meaning g c =
-    let s = rw c.in-Ok-Some.field-0-is at c.in-Ok-Some.ensures.byte in
-    too_long_there g.D.Disk.disk _ _ _ _ _ _ _ _ _ _ c.loop-lines.invariant.run s (omega (arith, c.loop-lines.invariant.fed, c.loop-lines.invariant.bound, c.loop-lines-test.false))
+    let ran = c.run_lines.ensures in
+    let o = g.S.Source.left c.args.script.now in
+    let n = g.S.Source.left c.run_lines.new.script in
+    subst (λ (x : Option (List ℕ)). Meaning g.D.Disk.disk c.args.slots.now.items c.run_lines.new.slots.items c.run_lines.result x n (g.K.Sink.written c.args.out.now) (g.K.Sink.written c.run_lines.new.out))
+    (unread c.new-ahead.result.bytes o c.new-ahead.ensures.bytes)
+    (meant_behind g.D.Disk.disk _ _ c.run_lines.result _ c.run_lines.new.ahead.bytes n _ _ ran.emptied ran.words ran.meaning)
+
+pub returns-clause-script : goal.returns-clause-script
+returns-clause-script g c h =
+    subst (λ (x : Option (List ℕ)). IfSome x (λ input. IsScript (lines_of input))) (unread c.new-ahead.result.bytes (g.S.Source.left c.args.script.now) c.new-ahead.ensures.bytes) (c.run_lines.ensures.script h)
+
+pub returns-clause-bad_line : goal.returns-clause-bad_line
+returns-clause-bad_line g c n k h =
+    subst (λ (x : Option (List ℕ)). IfSome x (λ input. IsBadAt (lines_of input) n k)) (unread c.new-ahead.result.bytes (g.S.Source.left c.args.script.now) c.new-ahead.ensures.bytes) (c.run_lines.ensures.bad_line n k h)
 
 pub returns-clause-too_long : goal.returns-clause-too_long
 returns-clause-too_long g c h =
-    let s = rw c.in-Ok-Some.field-0-is at c.in-Ok-Some.ensures.byte in
-    too_long g.D.Disk.disk _ _ _ _ _ _ _ _ _ _ c.loop-lines.invariant.run s (omega (arith, c.loop-lines.invariant.fed, c.loop-lines.invariant.bound, c.loop-lines-test.false))
-
-pub returns-clause-bound : goal.returns-clause-bound
-returns-clause-bound g c =
-    let s = rw c.in-Ok-Some.field-0-is at c.in-Ok-Some.ensures.byte in
-    bounded g.D.Disk.disk _ _ _ _ 1 _ _ _ _ _ c.loop-lines.invariant.run (_ ∷ [], s, omega arith) (omega (arith, c.loop-lines.invariant.bound, c.loop-lines.invariant.fed))
-
-pub loop-lines-preserved : goal.loop-lines-preserved
-loop-lines-preserved g c =
-    let s = rw c.in-Ok-Feed.field-0-is at c.in-Ok-Feed.ensures.end in
-    let line = c.read_line.new.line.items in
-    record {
-      bound = omega (arith, c.loop-lines-test.true);
-      fed = c.in-Ok-take_line.ensures.count ∙ ap (λ x. x + 1) c.loop-lines.invariant.fed;
-      run = next_line g.D.Disk.disk _ _ _ _ _ c.loop-lines.reader.lines _ _ _ _ _ _ _ line c.loop-lines.invariant.run (rw c.deref-in-Ok-Feed.ensures.value at c.in-Ok-take_line.ensures.goes_on) c.in-Ok-take_line.ensures.count c.in-Ok-Feed.ensures.piece s.1 s.0;
-      source = omega (arith, c.loop-lines.invariant.source, c.read_line.ensures.cause.later);
-      sink = omega (arith, c.loop-lines.invariant.sink, c.take_line-in-Ok-Feed.ensures.later);
-      length = c.take_line-in-Ok-Feed.ensures.length ∙ c.loop-lines.invariant.length;
-      ready = c.in-Ok-take_line.ensures.ready;
-    }
-
-pub loop-lines-init : goal.loop-lines-init
-loop-lines-init g c = record {
-  bound = omega arith;
-  fed = ap (λ (x : Progress). x.lines) c.new-reader.ensures;
-  run = loop_started_at g.D.Disk.disk c.args.slots.now.items c.new-reader.result _ _ c.new-reader.ensures;
-  source = omega arith;
-  sink = omega arith;
-  length = refl;
-  ready = c.requires;
-}
+    subst (λ (x : Option (List ℕ)). IfSome x (λ input. IsTooLong (lines_of input))) (unread c.new-ahead.result.bytes (g.S.Source.left c.args.script.now) c.new-ahead.ensures.bytes) (c.run_lines.ensures.too_long h)
