@@ -1,5 +1,5 @@
 // Disks, sources and sinks that fail.
-use super::ran::{FIRST_SET, ended, prints, ran, ran_well, same};
+use super::ran::{FIRST_SET, ended, ends, prints, ran, ran_well, same};
 use site_runner::Status;
 use std::alloc::Global;
 use std::fmt::Write;
@@ -155,9 +155,15 @@ fn a_sink_that_fails_at_its_second_write(rt: HostRuntime) {
     same(&rt, out.as_slice(), b"A");
 }
 
+/// The first piece that is read ends within line 2. Where the second can't be read line 1 has run, and no other.
 #[test]
 fn a_source_that_fails_after_line_1(rt: HostRuntime) {
-    let (status, out) = ran(&rt, rt.alloc(), "run", FIRST_SET, &[11], &[], 4096);
+    let blanks = " ".repeat(rt.alloc(), 4095).expect(&rt, "memory");
+    let script = format!(in rt.alloc(); "CREATE A R\n;{blanks}\nSTART A PRIMARY\n");
+    let script = script.expect(&rt, "memory");
+    let (status, out) = ran(&rt, rt.alloc(), "run", script.as_bytes(), &[1], &[], 4096);
     ended(&rt, status, Status::SourceFault);
     same(&rt, out.as_slice(), b"A CREATED\n");
+    let prints = b"A CREATED\nA PRIMARY 1 FROM 1\n";
+    ends(&rt, rt.alloc(), script.as_bytes(), Status::Ok, prints);
 }
