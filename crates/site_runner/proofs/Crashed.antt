@@ -77,22 +77,22 @@ crashes leftovers v w s pick before now law sim up image durable same count t p 
     (not_early s.name _ (no_cause _ _ (state_at not_running v s p h ∙ is_running s.state up) (simulated_at v s p true h sim)))
     (record { site = refl; told = refl; chosen = m.among; left = m.behind; outcomes = refl; faults = omega arith; simulated = refl })
     (
-      record {
-        disk = record {
-          told = λ yes. subst (λ (x : Option Files). IsSomeAnd x (λ files. stands.Reads files o m.left)) (sym d.1) (m.reads yes);
-          images = λ yes c j. (o, inl refl, subst (λ (x : Files). Stands x o) (sym (u c j)) (reads_stand f o m.left (m.reads yes)));
-          faults = count ∙ h.disk.faults;
-          simulated = same ∙ h.disk.simulated;
+    record {
+      disk = record {
+        told = λ yes. subst (λ (x : Option Files). IsSomeAnd x (λ files. stands.Reads files o m.left)) (sym d.1) (m.reads yes);
+        images = λ yes c j. (o, inl refl, subst (λ (x : Files). Stands x o) (sym (u c j)) (reads_stand f o m.left (m.reads yes)));
+        faults = count ∙ h.disk.faults;
+        simulated = same ∙ h.disk.simulated;
+      };
+      site = ap (in_new_state world.Down) h.site;
+      held = record {
+        made = λ yes. record {
+          now = (h.held.made yes).outcomes o (m.among yes);
+          outcomes = λ x j. subst (IsOf s.name) (sym (only x o j)) ((h.held.made yes).outcomes o (m.among yes));
         };
-        site = ap (in_new_state world.Down) h.site;
-        held = record {
-          made = λ yes. record {
-            now = (h.held.made yes).outcomes o (m.among yes);
-            outcomes = λ x j. subst (IsOf s.name) (sym (only x o j)) ((h.held.made yes).outcomes o (m.among yes));
-          };
-          state = tt;
-        };
-      }
+        state = tt;
+      };
+    }
     )
     t
 
@@ -105,17 +105,17 @@ fused v w s calls before now r count sim up t p h =
     (not_early s.name _ (no_cause _ _ (state_at stopped v s p h ∙ not_stopped s.state up) (simulated_at v s p true h sim)))
     (kept_same p)
     (
-  record {
-    disk = record {
-      told = λ yes. subst (λ (x : Option Files). IsSomeAnd x (λ files. stands.Reads files p.now p.left)) (sym r.content) (h.disk.told yes);
-      images = λ yes c j.
-          let k = r.passes.images c j in
-          h.disk.images yes c (subst (Image v) (sym k.2) k.1);
-      faults = count ∙ h.disk.faults;
-      simulated = r.passes.simulated ∙ h.disk.simulated;
-    };
-    site = h.site;
-    held = record { made = h.held.made; state = state_read v w s.state p r h.held.state };
-  }
+    record {
+      disk = record {
+        told = λ yes. subst (λ (x : Option Files). IsSomeAnd x (λ files. stands.Reads files p.now p.left)) (sym r.content) (h.disk.told yes);
+        images = λ yes c j.
+            let k = r.passes.images c j in
+            h.disk.images yes c (subst (Image v) (sym k.2) k.1);
+        faults = count ∙ h.disk.faults;
+        simulated = r.passes.simulated ∙ h.disk.simulated;
+      };
+      site = h.site;
+      held = record { made = h.held.made; state = state_read v w s.state p r h.held.state };
+    }
     )
     t

@@ -175,9 +175,9 @@ ran v w nothing s r new jobs order before middle now law whole st stamped same l
       };
     })
     (t ∙ ap (λ (x : List ℕ). x ++ line s.name (codes "AT " ++ decimal (length new.site.entries.items))) d.text
-        ∙ append_assoc before (flat_map reply_line turn.replies) _
-        ∙ ap (λ (k : ℕ). before ++ (flat_map reply_line turn.replies ++ line s.name (codes "AT " ++ decimal k))) count
-        ∙ ap (λ (x : Turn). before ++ section_text s.name (length order) x (length turn.sequence) None) (sym text))
+    ∙ append_assoc before (flat_map reply_line turn.replies) _
+    ∙ ap (λ (k : ℕ). before ++ (flat_map reply_line turn.replies ++ line s.name (codes "AT " ++ decimal k))) count
+    ∙ ap (λ (x : Turn). before ++ section_text s.name (length order) x (length turn.sequence) None) (sym text))
 
 -- a fault ended it
 pub ran_to_fault : (leftovers : Leftovers) (v w : View) (s : Site) (r : Reign) (jobs : List (List Job)) (order : List ℕ) (k undecided : ℕ) (before middle now : List ℕ) → IsLawful v → IsLawful w → s.state ≡ Primary r → w.simulated ≡ v.simulated → k ≡ w.faults → Rose v.faults w.faults
@@ -230,9 +230,9 @@ ran_to_fault leftovers v w s r jobs order k undecided before middle now was law 
       };
     })
     (t ∙ ap (λ (x : List ℕ). x ++ undecided_line s.name k undecided) a.text
-        ∙ append_assoc before (flat_map reply_line (printed a.hardened turn.replies)) _
-        ∙ ap (λ (u : ℕ). before ++ (flat_map reply_line (printed a.hardened turn.replies) ++ undecided_line s.name k u)) rest
-        ∙ ap (λ (x : Turn). before ++ section_text s.name (length order) x a.hardened (Some k)) (sym text))
+    ∙ append_assoc before (flat_map reply_line (printed a.hardened turn.replies)) _
+    ∙ ap (λ (u : ℕ). before ++ (flat_map reply_line (printed a.hardened turn.replies) ++ undecided_line s.name k u)) rest
+    ∙ ap (λ (x : Turn). before ++ section_text s.name (length order) x a.hardened (Some k)) (sym text))
 
 -- it was cut off once some jobs were decided, of which at least these are hardened
 pub run_cut : (leftovers : Leftovers) (v w : View) (s : Site) (r : Reign) (jobs : List (List Job)) (order : List ℕ) → IsLawful v → IsLawful w → s.state ≡ Primary r → w.simulated ≡ v.simulated

@@ -403,7 +403,7 @@ reign_starts v w nothing s o new stamp serials from before now law first_serials
       };
     })
     (t ∙ ap (λ (k : ℕ). before ++ line s.name (codes "PRIMARY " ++ decimal k ++ codes " FROM " ++ decimal from)) cycle
-        ∙ ap (λ (k : ℕ). before ++ line s.name (codes "PRIMARY " ++ decimal (cycle_on q.site) ++ codes " FROM " ++ decimal k)) count)
+    ∙ ap (λ (k : ℕ). before ++ line s.name (codes "PRIMARY " ++ decimal (cycle_on q.site) ++ codes " FROM " ++ decimal k)) count)
   where
     states_same : {x y : defs.Stamp} {a b : List ℕ} → x ≡ y → a ≡ b → world.Primary y b ≡ world.Primary x a
     states_same {x} {y} {a} {b} e f = ap (λ (z : defs.Stamp). world.Primary z b) (sym e) ∙ ap (λ (z : List ℕ). world.Primary x z) (sym f)
