@@ -1,9 +1,9 @@
 -- Lists of which each element has a form, and lists of places that move.
-use Rattle.std.proofs.Common.{◌≡◌, ℕ, zero, suc, ◌+◌, ◌-◌, ◌≤◌, ◌<◌, ◌^◌, List, [], ◌∷◌, ◌++◌, length, take, drop, map, set, get_or, refl, sym, ◌∙◌, ap, arith, append_assoc, length-append, length-drop}
-use Rattle.std.proofs.lemmas.List.{take_all, length-take-le, length-map, map-append, take_more, get_or-append_right, drop-drop}
+use Rattle.std.proofs.Common.{◌≡◌, ℕ, zero, suc, ◌+◌, ◌-◌, ◌≤◌, ◌<◌, ◌^◌, List, [], ◌∷◌, ◌++◌, length, take, drop, map, set, get_or, refl, sym, ◌∙◌, ap, subst, arith, append_assoc, length-append, length-drop}
+use Rattle.std.proofs.lemmas.List.{take_all, length-take-le, length-map, map-append, take_more, get_or-append_right, drop-drop, take-append-drop}
 use Rattle.std.proofs.Math.Seq.{set-append_seam, drop-cons, take-append_seam, drop-append-add}
 use Rattle.std.specs.List.{AllByRecursion}
-use Rattle.block_fmt.specs.Read.{moved, CanMove}
+use Rattle.block_fmt.specs.Read.{moved, written, CanMove}
 
 pub all_at : {X : Type 0} (P : X → Type 0) (xs : List X) (i : ℕ) (d : X) → AllByRecursion P xs → i < length xs → P (get_or xs i d)
 all_at P [] i d all inside = absurd (omega arith)
@@ -72,3 +72,39 @@ take_fewer (suc i) (suc j) (x ∷ xs) order = ap (λ l. x ∷ l) (take_fewer i j
 -- all that is behind a place
 pub rest_from : (xs : List ℕ) (at : ℕ) → take (length xs - at) (drop at xs) ≡ drop at xs
 rest_from xs at = take_all (length xs - at) (drop at xs) (omega (arith, length-drop at xs))
+
+-- places that move by nothing
+unmoved : (n : ℕ) (ps : List ℕ) → CanMove n n ps → map (moved n n) ps ≡ ps
+unmoved n [] can = refl
+unmoved n (p ∷ ps) can =
+    let same : p - n + n ≡ p = omega (arith, can.0.0) in
+    λ i. same i ∷ unmoved n ps can.1 i
+
+pub none_moved : (old new j : ℕ) (ps : List ℕ) → old ≡ new → CanMove old new (drop j ps) → ps ≡ take j ps ++ map (moved old new) (drop j ps)
+none_moved old new j ps e can =
+    sym (ap (λ (n : ℕ). take j ps ++ map (moved old n) (drop j ps)) (sym e) ∙ ap (λ (l : List ℕ). take j ps ++ l) (unmoved old (drop j ps) (subst (λ n. CanMove old n (drop j ps)) (sym e) can)) ∙ take-append-drop j ps)
+
+-- a part written behind another one
+pub written_more : (x y p q : List ℕ) (at : ℕ) → at + length p ≤ length x → y ≡ written x at p → written y (at + length p) q ≡ written x at (p ++ q)
+written_more x y p q at inside is =
+    let front : List ℕ = take at x ++ p in
+    let rest : List ℕ = drop (at + length p) x in
+    let size : at + length p ≡ length front = omega (arith, length-append (take at x) p, length-take-le at x (omega (arith, inside))) in
+    let whole : y ≡ front ++ rest = is ∙ sym (append_assoc (take at x) p rest) in
+    let begin : take (at + length p) y ≡ front = (λ i. take (size i) (whole i)) ∙ take-append_seam front rest in
+    let behind : drop (at + length p + length q) y ≡ drop (length q) rest = (λ i. drop (size i + length q) (whole i)) ∙ drop-append-add front rest (length q) in
+    let end : drop (length q) rest ≡ drop (at + length (p ++ q)) x = drop-drop (length q) (at + length p) x ∙ ap (λ (n : ℕ). drop n x) (omega (arith, length-append p q)) in
+    (λ i. begin i ++ (q ++ (behind ∙ end) i)) ∙ append_assoc (take at x) p (q ++ drop (at + length (p ++ q)) x)
+    ∙ ap (λ (l : List ℕ). take at x ++ l) (sym (append_assoc p q (drop (at + length (p ++ q)) x)))
+
+-- a cell's parts written one behind another
+pub cell_written : (x a b c d : List ℕ) (at k : ℕ) (key size value : List ℕ) → length size ≡ 2 → at + 3 + length key + length value ≤ length x
+    → a ≡ written x at (k ∷ []) → b ≡ written a (at + 1) key → c ≡ written b (at + 1 + length key) size → d ≡ written c (at + 1 + length key + 2) value
+    → d ≡ written x at (k ∷ (key ++ (size ++ value)))
+cell_written x a b c d at k key size value two inside e1 e2 e3 e4 =
+    let first : b ≡ written x at (k ∷ key) = e2 ∙ written_more x a (k ∷ []) key at (omega (arith, inside)) e1 in
+    let n : at + 1 + length key ≡ at + length (k ∷ key) = omega arith in
+    let second : c ≡ written x at ((k ∷ key) ++ size) = e3 ∙ ap (λ (n : ℕ). written b n size) n ∙ written_more x b (k ∷ key) size at (omega (arith, inside)) first in
+    let m : at + 1 + length key + 2 ≡ at + length ((k ∷ key) ++ size) = omega (arith, two, length-append (k ∷ key) size) in
+    e4 ∙ ap (λ (n : ℕ). written c n value) m ∙ written_more x c ((k ∷ key) ++ size) value at (omega (arith, inside, two, length-append (k ∷ key) size)) second
+    ∙ ap (written x at) (append_assoc (k ∷ key) size value)

@@ -35,6 +35,10 @@ pub record IsNextCell (bytes : List ℕ) (last at : ℕ) : Type 0 where
   pub key : IsEncoded (first_cell (drop at bytes)).0
   pub past : 0 < at → slice_cmp nat_cmp (first_cell (drop last bytes)).0 (first_cell (drop at bytes)).0 ≡ Less
 
+-- bytes with a part of them at a place written over
+abbrev pub written : List ℕ → ℕ → List ℕ → List ℕ
+written bytes at part = take at bytes ++ (part ++ drop (at + length part) bytes)
+
 -- all places moved by as much as the first one
 abbrev pub moved : ℕ → ℕ → ℕ → ℕ
 moved old new p = p - old + new

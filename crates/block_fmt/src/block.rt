@@ -146,10 +146,14 @@ impl Block {
     }
 
     /// Where the cells stand that a key's cell takes the place of: none, or the one of this key.
-    fn taken(&self, key: &[u8]) -> (u32, u32)
+    fn taken(&self, place: Result<u32, u32>, key: &[u8]) -> (u32, u32)
+        requires found { IfOk place (StandsIn self.now.cells key.now) }
+        requires place { IfErr place (BelongsAt self.now.cells key.now) }
         ensures taken { TakesPlace self.now.cells key.now result.0 result.1 }
     {
-        match self.find(key) {
+        // A block has few cells.
+        let _ = self.len();
+        match place {
             Ok(i) => (i, i + 1),
             Err(i) => (i, i),
         }
@@ -159,7 +163,16 @@ impl Block {
     pub fn fits(&self, key: &[u8], value: &[u8]) -> bool
         ensures { IsTrue result ↔ (length (cell_bytes (with_cell self.now key.now value.now)) ≤ ROOM) }
     {
-        let (i, j) = self.taken(key);
+        self.fits_at(self.find(key), key, value)
+    }
+
+    /// The same, where it is known what [`find`](Block::find) answers of the key.
+    pub fn fits_at(&self, place: Result<u32, u32>, key: &[u8], value: &[u8]) -> bool
+        requires found { IfOk place (StandsIn self.now.cells key.now) }
+        requires place { IfErr place (BelongsAt self.now.cells key.now) }
+        ensures { IsTrue result ↔ (length (cell_bytes (with_cell self.now key.now value.now)) ≤ ROOM) }
+    {
+        let (i, j) = self.taken(place, key);
         let kept = self.used() - (self.used_before(j) - self.used_before(i));
         if key.len() > ROOM || value.len() > ROOM {
             return false;
@@ -175,7 +188,21 @@ impl Block {
         ensures done { IsOk result }
         ensures cells { self.new ≡ with_cell self.old key.now value.now }
     {
-        let (i, j) = self.taken(key);
+        let place = self.find(key);
+        self.put_at(place, key, value);
+        Ok(())
+    }
+
+    /// The same, where it is known what [`find`](Block::find) answers of the key.
+    pub fn put_at(&mut self, place: Result<u32, u32>, key: &[u8], value: &[u8])
+        requires found { IfOk place (StandsIn self.old.cells key.now) }
+        requires place { IfErr place (BelongsAt self.old.cells key.now) }
+        requires fits { length (cell_bytes (with_cell self.old key.now value.now)) ≤ ROOM }
+        requires key { IsEncoded key.now }
+        requires value { length value.now ≤ 1500 }
+        ensures { self.new ≡ with_cell self.old key.now value.now }
+    {
+        let (i, j) = self.taken(place, key);
         let from = self.used_before(i);
         let to = self.used_before(j);
         put_between(&mut self.bytes, from, to, key, value);
@@ -187,7 +214,6 @@ impl Block {
             to,
             key.len() + value.len() + 3,
         );
-        Ok(())
     }
 
     /// Takes a cell away.

@@ -1,6 +1,7 @@
 //! Bytes of a block read and written.
 ghost use Rattle.std.specs.Prelude.{◌≡◌, ◌≤◌, ◌+◌, ◌-◌, ◌++◌, ◌↔◌, length, take, drop, replicate, vec_len, vec_capacity, IsTrue};
 ghost use Rattle.std.specs.Int.{from_be_bytes, w16, w32};
+ghost use Rattle.block_fmt.specs.Read.{written};
 
 /// The number that two bytes spell.
 pub fn number_at(bytes: &[u8], at: usize) -> usize
@@ -27,6 +28,15 @@ pub fn put_bytes(out: &mut [u8], at: usize, bytes: &[u8])
     ensures { take (at + length bytes.now) out.new ≡ take at out.old ++ bytes.now }
 {
     out[at..at + bytes.len()].copy_from_slice(bytes);
+}
+
+/// Writes bytes over those of a list at a place.
+pub fn write_at(bytes: &mut Vec<u8>, at: usize, part: &[u8])
+    requires { at + length part.now ≤ vec_len bytes.old }
+    ensures items { bytes.new.items ≡ written bytes.old.items at part.now }
+    ensures capacity { vec_capacity bytes.old ≤ vec_capacity bytes.new }
+{
+    bytes[at..at + part.len()].copy_from_slice(part);
 }
 
 /// Writes zeros from a place on.

@@ -1,9 +1,9 @@
 //! Cells as bytes, one behind another.
 ghost use Rattle.std.specs.Prelude.{◌≡◌, ◌≤◌, ◌+◌, ◌-◌, ◌++◌, length, take, drop, vec_len, vec_capacity};
 ghost use Rattle.journal_defs.specs.Leaves.{spelled_cell};
-ghost use Rattle.block_fmt.specs.Read.{first_cell, BeginWithCell};
+ghost use Rattle.block_fmt.specs.Read.{first_cell, written, BeginWithCell};
 
-use crate::bytes::{number_at, push_all};
+use crate::bytes::{number_at, push_all, write_at};
 
 /// The key of the cell that stands at a place.
 pub fn key_at(bytes: &[u8], at: usize) -> &[u8]
@@ -37,8 +37,26 @@ fn push_cell(bytes: &mut Vec<u8>, key: &[u8], value: &[u8])
     push_all(bytes, value);
 }
 
-/// Puts a cell in place of the bytes between two places.
-pub fn put_between(bytes: &mut Vec<u8>, from: usize, to: usize, key: &[u8], value: &[u8])
+/// Writes a cell over as many bytes at a place.
+fn put_over(bytes: &mut Vec<u8>, at: usize, key: &[u8], value: &[u8])
+    requires key { length key.now ≤ 255 }
+    requires value { length value.now ≤ 1500 }
+    requires inside { at + length (spelled_cell (key.now, value.now)) ≤ vec_len bytes.old }
+    ensures items { bytes.new.items ≡ written bytes.old.items at (spelled_cell (key.now, value.now)) }
+    ensures capacity { vec_capacity bytes.old ≤ vec_capacity bytes.new }
+{
+    write_at(bytes, at, &[key.len() as u8]);
+    write_at(bytes, at + 1, key);
+    write_at(
+        bytes,
+        at + 1 + key.len(),
+        &(value.len() as u16).to_be_bytes(),
+    );
+    write_at(bytes, at + 1 + key.len() + 2, value);
+}
+
+/// Puts a cell in place of the bytes between two places, and moves those behind.
+fn put_moving(bytes: &mut Vec<u8>, from: usize, to: usize, key: &[u8], value: &[u8])
     requires order { from ≤ to }
     requires inside { to ≤ vec_len bytes.old }
     requires small { vec_len bytes.old ≤ 4088 }
@@ -54,6 +72,24 @@ pub fn put_between(bytes: &mut Vec<u8>, from: usize, to: usize, key: &[u8], valu
     bytes.truncate(from);
     push_cell(bytes, key, value);
     push_all(bytes, &tail[..rest]);
+}
+
+/// Puts a cell in place of the bytes between two places.
+pub fn put_between(bytes: &mut Vec<u8>, from: usize, to: usize, key: &[u8], value: &[u8])
+    requires order { from ≤ to }
+    requires inside { to ≤ vec_len bytes.old }
+    requires small { vec_len bytes.old ≤ 4088 }
+    requires key { length key.now ≤ 255 }
+    requires value { length value.now ≤ 1500 }
+    requires room { vec_len bytes.old + length (spelled_cell (key.now, value.now)) ≤ vec_capacity bytes.old + (to - from) }
+    ensures items { bytes.new.items ≡ take from bytes.old.items ++ (spelled_cell (key.now, value.now) ++ drop to bytes.old.items) }
+    ensures capacity { vec_capacity bytes.old ≤ vec_capacity bytes.new }
+{
+    if to - from == key.len() + value.len() + 3 {
+        put_over(bytes, from, key, value);
+    } else {
+        put_moving(bytes, from, to, key, value);
+    }
 }
 
 /// Takes the bytes between two places away.

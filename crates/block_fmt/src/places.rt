@@ -22,7 +22,9 @@ fn shift_from(places: &mut Vec<u16>, j: usize, old: usize, new: usize)
     ensures items { places.new.items ≡ take j places.old.items ++ map (moved old new) (drop j places.old.items) }
     ensures capacity { vec_capacity places.old ≤ vec_capacity places.new }
 {
-    shift(&mut places[j..], old, new);
+    if old != new {
+        shift(&mut places[j..], old, new);
+    }
 }
 
 /// Takes the places from i up to j away.

@@ -1,15 +1,16 @@
 //! Cells read from bytes that may be others.
-ghost use Rattle.std.specs.Prelude.{◌≡◌, ◌≤◌, ◌<◌, ◌+◌, ◌↔◌, length, drop, vec_capacity, IfSome, IfNone, IfOk, IsTrue, MatchBool};
+ghost use Rattle.std.specs.Prelude.{◌≡◌, ◌≤◌, ◌<◌, ◌+◌, ◌↔◌, length, drop, vec_capacity, IfSome, IfNone, IfOk, IsTrue};
 ghost use Rattle.std.specs.declared.cmp.Ordering.TheVariants.{Less};
 ghost use Rattle.std.specs.Ordering.{nat_cmp};
 ghost use Rattle.std.specs.Cmp.Lexicographic.{slice_cmp};
-ghost use Rattle.journal_defs.specs.Leaves.{spelled_cell, IsEncoded};
+ghost use Rattle.journal_defs.specs.Leaves.{spelled_cell};
 ghost use Rattle.block_fmt.specs.Read.{first_cell, cells_in, places, BeginWithCell, AreCells, IsNextCell};
 
 use crate::bytes::number_at;
 use crate::cells::key_at;
 use crate::sizes::{LONGEST_VALUE, MOST_CELLS};
-use gvn_key::{Key, NoMemory};
+use gvn_key::NoMemory;
+use key_code::is_code;
 use std::alloc::Global;
 use std::cmp::Ordering;
 
@@ -34,13 +35,6 @@ fn cell_size(bytes: &[u8]) -> Option<usize>
     Some(key_end + 2 + value_size)
 }
 
-/// Whether a key's bytes are those of a key.
-fn is_key(alloc: Global, bytes: &[u8]) -> Result<bool, NoMemory>
-    ensures { IfOk result (λ is. MatchBool is (IsEncoded bytes.now) (IsEncoded bytes.now → ⊥)) }
-{
-    Ok(Key::decode(alloc, bytes)?.is_some())
-}
-
 /// Whether the first of two cells has the smaller key.
 fn rises(bytes: &[u8], last: usize, next: usize) -> bool
     requires last { BeginWithCell (drop last bytes.now) }
@@ -52,38 +46,40 @@ fn rises(bytes: &[u8], last: usize, next: usize) -> bool
 
 /// How many bytes the cell has that stands at a place, behind the one that stands at `last` unless it is the first. `None` where
 /// no cell of a block can stand there.
-fn next_cell(alloc: Global, bytes: &[u8], last: usize, at: usize) -> Result<Option<usize>, NoMemory>
+fn next_cell(bytes: &[u8], last: usize, at: usize) -> Option<usize>
     requires inside { at ≤ length bytes.now }
     requires last { 0 < at → BeginWithCell (drop last bytes.now) }
-    ensures next { IfOk result (λ found. IfSome found (λ size. IsNextCell bytes.now last at)) }
-    ensures size { IfOk result (λ found. IfSome found (λ size. size ≡ length (spelled_cell (first_cell (drop at bytes.now))))) }
-    ensures within { IfOk result (λ found. IfSome found (λ size. at + size ≤ length bytes.now)) }
-    ensures none { IfOk result (λ found. IfNone found (IsNextCell bytes.now last at → ⊥)) }
+    ensures next { IfSome result (λ size. IsNextCell bytes.now last at) }
+    ensures size { IfSome result (λ size. size ≡ length (spelled_cell (first_cell (drop at bytes.now)))) }
+    ensures within { IfSome result (λ size. at + size ≤ length bytes.now) }
+    ensures none { IfNone result (IsNextCell bytes.now last at → ⊥) }
 {
     let Some(size) = cell_size(&bytes[at..]) else {
-        return Ok(None);
+        return None;
     };
-    if !is_key(alloc, key_at(bytes, at))? {
-        return Ok(None);
+    if !is_code(key_at(bytes, at)) {
+        return None;
     }
     if at > 0 && !rises(bytes, last, at) {
-        return Ok(None);
+        return None;
     }
-    Ok(Some(size))
+    Some(size)
 }
 
-/// The places of so many cells of which these are all the bytes, `None` where they aren't the cells of a block.
+/// The places of so many cells of which these are all the bytes, `None` where they aren't the cells of a block. There is room for
+/// those of any block.
 pub fn read_places(alloc: Global, bytes: &[u8], count: usize) -> Result<Option<Vec<u16>>, NoMemory>
     requires { length bytes.now ≤ 4088 }
     ensures cells { IfOk result (λ read. IfSome read (λ made. AreCells count bytes.now)) }
     ensures items { IfOk result (λ read. IfSome read (λ made. made.items ≡ places 0 (cells_in count bytes.now))) }
+    ensures room { IfOk result (λ read. IfSome read (λ made. 817 ≤ vec_capacity made)) }
     ensures none { IfOk result (λ read. IfNone read (AreCells count bytes.now → ⊥)) }
 {
     let mut places: Vec<u16> = Vec::with_capacity(alloc, MOST_CELLS)?;
     let mut at = 0;
     let mut last = 0;
     for _ in 0..count {
-        let Some(size) = next_cell(alloc, bytes, last, at)? else {
+        let Some(size) = next_cell(bytes, last, at) else {
             return Ok(None);
         };
         places.push(at as u16)?;

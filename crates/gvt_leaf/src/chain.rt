@@ -1,5 +1,5 @@
 //! The leaves of a pool in the order of their chain.
-ghost use Rattle.std.specs.Prelude.{◌≡◌, ◌≢◌, ◌≤◌, ◌<◌, ◌+◌, ℕ, true, [], ◌∷◌, length, take, drop, IfOk, IfSome, OnOk, OnErr, IsErrOf};
+ghost use Rattle.std.specs.Prelude.{◌≡◌, ◌≢◌, ◌≤◌, ◌<◌, ◌+◌, ℕ, true, [], ◌∷◌, length, take, drop, IfOk, IfErr, IfSome, OnOk, OnErr, IsErrOf};
 ghost use Rattle.std.specs.List.{AllByRecursion};
 ghost use Rattle.std.specs.Ordering.{nat_cmp};
 ghost use Rattle.std.specs.Cmp.Lexicographic.{slice_cmp};
@@ -8,7 +8,7 @@ ghost use Rattle.disk_defs.specs.Disk.{Image, From, OnFile, AtEachMoment, ReadsA
 ghost use Rattle.disk_defs.specs.Frames.{Only, OthersStay};
 ghost use Rattle.global_defs.specs.Entry.{Globals};
 ghost use Rattle.journal_defs.specs.Leaves.{ROOM, IsEncoded, IsCell, Decodes, cells_of};
-ghost use Rattle.block_fmt.specs.Cells.{blank, size_of, without_between};
+ghost use Rattle.block_fmt.specs.Cells.{blank, size_of, without_between, StandsIn, BelongsAt};
 ghost use Rattle.block_pool.specs.Pool.{cleaned, CleanStand, AllStand, ChangesDirty};
 ghost use Rattle.gvt_leaf.specs.Chained.{leaf_cells, all_cells, replaced};
 ghost use Rattle.gvt_leaf.specs.Clean.{KeepsClean};
@@ -80,7 +80,23 @@ impl Chain {
         ensures room { self.new.pool.room ≡ self.old.pool.room }
         ensures clean { KeepsClean self.old.pool self.new.pool }
     {
-        put_in(&mut self.pool, self.order[i], key, value);
+        let place = self.leaf(i).find(key);
+        self.put_at(i, place, key, value);
+    }
+
+    /// Puts a cell into the leaf at a place, where it is known what [`find`](Block::find) answers of its key there.
+    pub(crate) fn put_at(&mut self, i: usize, place: Result<u32, u32>, key: &[u8], value: &[u8])
+        requires inside { i < length self.old.leaves }
+        requires found { IfOk place (StandsIn (leaf_cells self.old.leaves i) key.now) }
+        requires place { IfErr place (BelongsAt (leaf_cells self.old.leaves i) key.now) }
+        requires fits { size_of (globals.put (slice_cmp nat_cmp) key.now value.now (leaf_cells self.old.leaves i)) ≤ ROOM }
+        requires key { IsEncoded key.now }
+        requires value { length value.now ≤ 1500 }
+        ensures leaves { self.new.leaves ≡ replaced self.old.leaves i (globals.put (slice_cmp nat_cmp) key.now value.now (leaf_cells self.old.leaves i) ∷ []) }
+        ensures room { self.new.pool.room ≡ self.old.pool.room }
+        ensures clean { KeepsClean self.old.pool self.new.pool }
+    {
+        put_in(&mut self.pool, self.order[i], place, key, value);
     }
 
     /// Takes cells of the leaf at a place away.

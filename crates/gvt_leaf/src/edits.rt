@@ -1,11 +1,11 @@
 //! Changes of the cells of a chain of leaves.
-ghost use Rattle.std.specs.Prelude.{◌≡◌, ◌≢◌, ◌<◌, ◌≤◌, ◌+◌, ◌-◌, ◌*◌, ◌^◌, ◌∷◌, [], length, take, drop, not, filter, true, false, nat_eq};
+ghost use Rattle.std.specs.Prelude.{◌≡◌, ◌≢◌, ◌<◌, ◌≤◌, ◌+◌, ◌-◌, ◌*◌, ◌^◌, ◌∷◌, [], length, take, drop, not, filter, true, false, nat_eq, IfOk, IfErr};
 ghost use Rattle.std.specs.Ordering.{nat_cmp, eq_by_cmp};
 ghost use Rattle.std.specs.Cmp.Lexicographic.{slice_cmp};
 ghost use Rattle.std.specs.List.{AllByRecursion, starts_with};
 ghost use Rattle.std.specs.FinMap as globals;
 ghost use Rattle.journal_defs.specs.Leaves.{ROOM, IsEncoded, IsLeaf};
-ghost use Rattle.block_fmt.specs.Cells.{size_of, cell_at, without_between, BelongsAt};
+ghost use Rattle.block_fmt.specs.Cells.{size_of, cell_at, without_between, StandsIn, BelongsAt};
 ghost use Rattle.gvt_leaf.specs.Links.{one_if};
 ghost use Rattle.gvt_leaf.specs.Chained.{leaf_cells, all_cells, replaced};
 ghost use Rattle.gvt_leaf.specs.Order.{AreRising};
@@ -96,13 +96,16 @@ fn put_apart(chain: &mut Chain, i: usize, place: u32, key: &[u8], value: &[u8])
 }
 
 /// Takes a key's cell out of the leaf in which it would stand, and answers where it belongs.
-fn open_place(chain: &mut Chain, i: usize, key: &[u8]) -> u32
-    requires { i < length chain.old.leaves }
+fn open_place(chain: &mut Chain, i: usize, place: Result<u32, u32>, key: &[u8]) -> u32
+    requires inside { i < length chain.old.leaves }
+    requires found { IfOk place (StandsIn (leaf_cells chain.old.leaves i) key.now) }
+    requires place { IfErr place (BelongsAt (leaf_cells chain.old.leaves i) key.now) }
     ensures opened { IsOpened chain.old.leaves chain.new.leaves i key.now result }
     ensures room { chain.new.pool.room ≡ chain.old.pool.room }
     ensures clean { KeepsClean chain.old.pool chain.new.pool }
 {
-    match chain.leaf(i).find(key) {
+    let _ = chain.leaf(i).len();
+    match place {
         Ok(place) => {
             chain.cut(i, place, place + 1);
             place
@@ -111,9 +114,11 @@ fn open_place(chain: &mut Chain, i: usize, key: &[u8]) -> u32
     }
 }
 
-/// Puts a cell into a leaf, which is cut in two where it has no room for that.
-fn put_in_leaf(chain: &mut Chain, i: usize, key: &[u8], value: &[u8])
+/// Puts a cell into a leaf at its place, which is cut in two where it has no room for that.
+fn put_in_leaf(chain: &mut Chain, i: usize, place: Result<u32, u32>, key: &[u8], value: &[u8])
     requires inside { i < length chain.old.leaves }
+    requires found { IfOk place (StandsIn (leaf_cells chain.old.leaves i) key.now) }
+    requires place { IfErr place (BelongsAt (leaf_cells chain.old.leaves i) key.now) }
     requires key { IsEncoded key.now }
     requires value { length value.now ≤ 1500 }
     requires room { 1 ≤ chain.old.pool.room }
@@ -121,10 +126,10 @@ fn put_in_leaf(chain: &mut Chain, i: usize, key: &[u8], value: &[u8])
     ensures room { chain.old.pool.room ≤ chain.new.pool.room + 1 }
     ensures clean { KeepsClean chain.old.pool chain.new.pool }
 {
-    if chain.leaf(i).fits(key, value) {
-        chain.put(i, key, value);
+    if chain.leaf(i).fits_at(place, key, value) {
+        chain.put_at(i, place, key, value);
     } else {
-        let place = open_place(chain, i, key);
+        let place = open_place(chain, i, place, key);
         put_apart(chain, i, place, key, value);
     }
 }
@@ -142,9 +147,9 @@ pub(crate) fn set(chain: &mut Chain, key: &[u8], value: &[u8]) -> bool
     ensures clean { KeepsClean chain.old.pool chain.new.pool }
 {
     let i = seat(chain, key);
-    let is_new = chain.leaf(i).find(key).is_err();
-    put_in_leaf(chain, i, key, value);
-    is_new
+    let place = chain.leaf(i).find(key);
+    put_in_leaf(chain, i, place, key, value);
+    place.is_err()
 }
 
 /// Takes a leaf without cells out of the chain, unless it is the first.

@@ -12,7 +12,6 @@ ghost use Rattle.global_defs.specs.Valid.{is_key};
 ghost use Rattle.global_defs.specs.Entry.{Globals, is_under, apply};
 ghost use Rattle.global_defs.specs.Fields.{IsUpdate};
 ghost use Rattle.global_defs.specs.Encoded.{encoded};
-ghost use Rattle.global_defs.specs.Evaluation.{first_sub};
 ghost use Rattle.global_defs.specs.Evaluation as evaluation;
 ghost use Rattle.gvn_key.specs.Terms.{update_value};
 ghost use Rattle.gvn_key.specs.Faults.{child_of};
@@ -298,20 +297,6 @@ fn if_named(found: Key, name: &[u8]) -> Option<Key>
     }
 }
 
-/// The bytes of a key's subscript at the level below the top one.
-fn sub_at(key: &Key, top: &Key) -> Result<Option<Bytes>, NoMemory>
-    requires { is_under top.now key.now ≡ true }
-    ensures next { IfOk result (λ sub. option_map sub_of sub ≡ first_sub (drop (length top.now.subs) key.now.subs)) }
-    ensures a_key { IfOk result (λ sub. IfSome sub (λ bytes. is_key (child_of top.now (sub_of bytes)) ≡ true)) }
-{
-    let _ = top.code();
-    let _ = key.code();
-    match key.subs().get(top.subs().len()) {
-        Some(sub) => Ok(Some(sub.copy()?)),
-        None => Ok(None),
-    }
-}
-
 /// The bytes of the subscript at the level below the top node, where the encoded key is that of a descendant.
 fn sub_below(found: Option<&[u8]>, top: &Key) -> Result<Option<Bytes>, NoMemory>
     requires { IfSome (option_copied found) IsEncoded }
@@ -319,11 +304,8 @@ fn sub_below(found: Option<&[u8]>, top: &Key) -> Result<Option<Bytes>, NoMemory>
     ensures a_key { IfOk result (λ sub. IfSome sub (λ bytes. is_key (child_of top.now (sub_of bytes)) ≡ true)) }
 {
     match found {
-        Some(code) if code.starts_with(top.as_encoded()) => {
-            let key = key_of(top.code().allocator(), code)?;
-            sub_at(&key, top)
-        }
-        _ => Ok(None),
+        Some(code) => top.next_sub(code),
+        None => Ok(None),
     }
 }
 

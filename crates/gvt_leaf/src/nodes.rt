@@ -28,10 +28,7 @@ pub(crate) fn key_of(alloc: Global, code: &[u8]) -> Result<Key, NoMemory>
     ensures code { IfOk result (λ key. encoded key ≡ code.now) }
     ensures valid { IfOk result (λ key. is_key key ≡ true) }
 {
-    match Key::decode(alloc, code)? {
-        Some(key) => Ok(key),
-        None => unreachable!(),
-    }
+    Key::of_code(alloc, code)
 }
 
 /// Adds the nodes of a leaf's cells from one place up to another.

@@ -1,7 +1,7 @@
 //! Changes of one block of a pool.
-ghost use Rattle.std.specs.Prelude.{◌≡◌, ◌≢◌, ◌≤◌, ◌<◌, ◌+◌, ◌==◌, ℕ, [], length, take, drop, vec_len, vec_capacity};
+ghost use Rattle.std.specs.Prelude.{◌≡◌, ◌≢◌, ◌≤◌, ◌<◌, ◌+◌, ◌==◌, ℕ, [], length, take, drop, vec_len, vec_capacity, IfOk, IfErr};
 ghost use Rattle.journal_defs.specs.Leaves.{cell_bytes, ROOM, IsEncoded, IsLeaf};
-ghost use Rattle.block_fmt.specs.Cells.{with_cells, with_cell, without_between};
+ghost use Rattle.block_fmt.specs.Cells.{with_cells, with_cell, without_between, StandsIn, BelongsAt};
 ghost use Rattle.block_pool.specs.Pool.{leaf_at, changed};
 ghost use Rattle.gvt_leaf.specs.Links.{times, inside, one_if};
 ghost use Rattle.gvt_leaf.specs.Clean.{KeepsClean};
@@ -9,9 +9,17 @@ ghost use Rattle.gvt_leaf.specs.Clean.{KeepsClean};
 use block_fmt::Block;
 use block_pool::BlockPool;
 
-/// Puts a cell into a block.
-pub(crate) fn put_in(pool: &mut BlockPool, number: u32, key: &[u8], value: &[u8])
+/// Puts a cell into a block at its place.
+pub(crate) fn put_in(
+    pool: &mut BlockPool,
+    number: u32,
+    place: Result<u32, u32>,
+    key: &[u8],
+    value: &[u8],
+)
     requires inside { number < length pool.old.leaves }
+    requires found { IfOk place (StandsIn (leaf_at pool.old number).cells key.now) }
+    requires place { IfErr place (BelongsAt (leaf_at pool.old number).cells key.now) }
     requires fits { length (cell_bytes (with_cell (leaf_at pool.old number) key.now value.now)) ≤ ROOM }
     requires key { IsEncoded key.now }
     requires value { length value.now ≤ 1500 }
@@ -21,9 +29,7 @@ pub(crate) fn put_in(pool: &mut BlockPool, number: u32, key: &[u8], value: &[u8]
 {
     let _ = pool.count();
     let block = pool.block_mut(number);
-    if block.put(key, value).is_err() {
-        unreachable!();
-    }
+    block.put_at(place, key, value);
     let _ = block.len();
 }
 

@@ -1,7 +1,7 @@
 -- ATTACH in the world.
-use Rattle.std.proofs.Common.{◌≡◌, ◌≢◌, ◌⊎◌, ℕ, zero, suc, ◌<◌, Bool, true, false, cond, not, nat_lt, List, [], ◌∷◌, ◌++◌, length, get_or, set, take, None, Some, refl, sym, ◌∙◌, ap, subst, arith, inl, inr, Ok, Err, nat_eq}
+use Rattle.std.proofs.Common.{◌≡◌, ◌≢◌, ◌⊎◌, ℕ, zero, suc, ◌<◌, Bool, true, false, cond, not, nat_lt, List, [], ◌∷◌, ◌++◌, length, get_or, set, take, None, Some, refl, sym, ◌∙◌, ap, subst, arith, inl, inr, Ok, Err}
 use Rattle.std.specs.Prelude.{Option, Result, option_map, slice_get, codes, is_some}
-use Rattle.std.proofs.lemmas.Bool.{false≢true, and_parts, lt-ltb, eqb-true}
+use Rattle.std.proofs.lemmas.Bool.{false≢true, and_parts, lt-ltb}
 use Rattle.std.proofs.lemmas.List.{set-set}
 use Rattle.disk_defs.specs.Disk.{View}
 use Rattle.journal_defs.specs.Instance.{InstanceRecord, site_name}
@@ -13,11 +13,10 @@ use Rattle.site_defs.specs.Lists.{first_where}
 use Rattle.world_defs.specs.World as world
 use Rattle.world_defs.specs.World.{Place, World, is_site_named, place_of, next_of}
 use Rattle.site_defs.specs.Contents.{Contents, is_made, same_name}
-use Rattle.world_defs.specs.Answers.{Exists, NoDisk, Empty, Refusal, line}
+use Rattle.world_defs.specs.Answers.{Exists, NoDisk, Empty, line}
 use Rattle.world_defs.specs.Row.{caused, refused_with, refusal_in}
-use Rattle.world_defs.specs.Changes.{KeptUnknown}
 use Rattle.world_defs.specs.Meaning.{apart, Acts, refusing}
-use Rattle.world_defs.specs.rows.Attach.{ATTACHING, IsNotAttached, not_attached, attach}
+use Rattle.world_defs.specs.rows.Attach.{ATTACHING, not_attached, attach}
 use Rattle.site_runner.specs.declared.slot.Slot.{Slot}
 use Rattle.site_runner.specs.Sites.{site_value, is_slot_named, IsOf}
 use Rattle.site_runner.specs.Tied.{IsPlace, Tied}
@@ -28,7 +27,7 @@ use Rattle.site_runner.proofs.Ats.{is_true_or_false, comes_done, comes_refused, 
 use Rattle.site_runner.proofs.Stopped.{names_same}
 use Rattle.site_runner.proofs.Lifts.{means_there, means_none, place_of_slot, ActsBy, lifted, lifted_cut, refused_anywhere, cut_there, cut_no, cut_acts, cut_nothing}
 use Rattle.site_runner.proofs.Looked.{looked_cut}
-use Rattle.site_runner.proofs.Next.{is_slot_free, next_of_slot, place_some}
+use Rattle.site_runner.proofs.Next.{is_slot_free, next_of_slot}
 
 -- at the next disk's place, in the world before it
 attach_acts : {D : Type 0} (view : D → View) (slots : List (Slot D)) (i : ℕ) → first_where is_slot_free (take 8 slots) ≡ Some i → ActsBy view Attach attach slots i

@@ -4,7 +4,7 @@ use Rattle.std.specs.Prelude.{codes}
 use Rattle.disk_defs.specs.Disk.{View}
 use Rattle.site_defs.specs.Lists.{first_where}
 use Rattle.command_defs.specs.Commands.{Name, Region, Create}
-use Rattle.world_defs.specs.World.{World, place_of, next_of}
+use Rattle.world_defs.specs.World.{place_of, next_of}
 use Rattle.world_defs.specs.Answers.{Exists, NoDisk, line}
 use Rattle.world_defs.specs.Meaning.{apart, Acts, refusing, on_next}
 use Rattle.world_defs.specs.rows.Create.{create}

@@ -26,8 +26,7 @@ use Rattle.site_defs.specs.Contents.{Contents, NO_LEFTOVER, nothing, is_made, sa
 use Rattle.world_defs.specs.Answers as answers
 use Rattle.world_defs.specs.Answers.{Answer, NotEmpty, Refusal, Done, Refused, DiskFault, Ran, Typed, line}
 use Rattle.world_defs.specs.Row.{refused_with, caused, Here}
-use Rattle.world_defs.specs.Changes.{After, MayBe, Stays, Fails, KeptUnknown}
-use Rattle.world_defs.specs.Step.{LeftBy}
+use Rattle.world_defs.specs.Changes.{After, KeptUnknown}
 use Rattle.world_defs.specs.rows.Create as rows
 use Rattle.world_defs.specs.rows.Create.{named_mode, created, not_empty, create}
 use Rattle.world_defs.specs.Ties.{Matches}
@@ -35,7 +34,7 @@ use Rattle.site_defs.specs.Stands.{IsBlank, IsSite, Stands, Reads}
 use Rattle.site_runner.specs.declared.slot.State.TheVariants.{Down}
 use Rattle.site_runner.specs.declared.slot.Slot.{Slot}
 use Rattle.site_runner.specs.Sites.{IsOf}
-use Rattle.site_runner.specs.Executes.{Comes, ExecutesHere, IsCutHere}
+use Rattle.site_runner.specs.Executes.{ExecutesHere, IsCutHere}
 use Rattle.site_runner.specs.Looking.{fits, Finds, LooksHere, Tells}
 use Rattle.site_runner.specs.Creating.{spec_of, IsUnmade, MakesHere, MakingIsCut}
 use Rattle.site_runner.proofs.Ats.{comes_done, comes_refused, comes_may_refuse, comes_fault, comes_damaged, some_outcome, is_true_or_false, some_both, some_of, some_and, told_is, stands_told, at_moment, Leftovers, ReadPlace, place_of_images, place_of_one, only}

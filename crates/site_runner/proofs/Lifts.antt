@@ -6,7 +6,7 @@ use Rattle.site_defs.specs.Contents.{Contents}
 use Rattle.site_defs.specs.Lists.{Along, At, first_where}
 use Rattle.command_defs.specs.Commands.{Name, Command}
 use Rattle.world_defs.specs.World.{Place, World, Kept, is_site_named, place_of}
-use Rattle.world_defs.specs.Answers.{NoSite, Refusal, Answer, Refused, refusal_line}
+use Rattle.world_defs.specs.Answers.{NoSite, Refusal, Refused, refusal_line}
 use Rattle.world_defs.specs.Row.{Row}
 use Rattle.world_defs.specs.Meaning.{apart, Meaning, No, Acts, Target, On, Open, refusing, at_found, there, row_at, target, meant, meaning}
 use Rattle.world_defs.specs.Step.{Goes, LeftBy, LeavesOld, IsCut}

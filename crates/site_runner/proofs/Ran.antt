@@ -19,7 +19,7 @@ use Rattle.world_defs.specs.World as world
 use Rattle.command_defs.specs.Commands.{Name}
 use Rattle.world_defs.specs.World.{Place}
 use Rattle.site_defs.specs.Contents.{Contents, Leftover, NO_LEFTOVER}
-use Rattle.world_defs.specs.Answers.{Cause, Stopped, NotPrimary, Section, line}
+use Rattle.world_defs.specs.Answers.{Stopped, NotPrimary, Section, line}
 use Rattle.world_defs.specs.Row.{refused_with, in_state, why_not_primary, refusal_in}
 use Rattle.world_defs.specs.Changes.{in_new_state}
 use Rattle.site_defs.specs.Fronts.{with_sequence, IsFrontOf, turn_of}

@@ -1,5 +1,5 @@
 -- Commands on a site, as commands on its slot; STOP, EXTRACT, ZWRITE and SHOW at a place.
-use Rattle.std.proofs.Common.{◌≡◌, ℕ, suc, ◌+◌, true, List, [], ◌∷◌, ◌++◌, length, map, None, Some, refl, sym, ◌∙◌, ap, subst, arith, inl, nat_eq, append_assoc}
+use Rattle.std.proofs.Common.{◌≡◌, ℕ, suc, ◌+◌, true, List, [], ◌∷◌, ◌++◌, length, map, Some, refl, sym, ◌∙◌, ap, subst, arith, inl, nat_eq, append_assoc}
 use Rattle.std.specs.Prelude.{Option, codes, option_map, IsSomeAnd, Result, OnOk, OnErr}
 use Rattle.std.specs.Fmt.{decimal}
 use Rattle.std.specs.List.{enumerate_from, flat_map}
@@ -19,7 +19,7 @@ use Rattle.world_defs.specs.World as world
 use Rattle.command_defs.specs.Commands.{Name, Command}
 use Rattle.world_defs.specs.World.{Place, name_on}
 use Rattle.site_defs.specs.Contents.{Leftover, NO_LEFTOVER, same_name}
-use Rattle.world_defs.specs.Answers.{Cause, Stopped, NotRunning, line}
+use Rattle.world_defs.specs.Answers.{Stopped, NotRunning, line}
 use Rattle.world_defs.specs.Row.{Row, refused_with, in_state, why_not_open}
 use Rattle.world_defs.specs.Changes.{in_new_state}
 use Rattle.world_defs.specs.Step.{LeftBy}

@@ -1,5 +1,5 @@
 -- What CREATE means at the next disk's place.
-use Rattle.std.specs.Prelude.{◌≡◌, ℕ, Bool, true, false, List, IsTrue}
+use Rattle.std.specs.Prelude.{◌≡◌, ℕ, Bool, false, List, IsTrue}
 use Rattle.disk_defs.specs.Disk.{View}
 use Rattle.site_store.specs.declared.layout.RegionSpec.{RegionSpec}
 use Rattle.command_defs.specs.Commands.{Name, Region}

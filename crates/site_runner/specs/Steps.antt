@@ -15,7 +15,7 @@ use Rattle.world_defs.specs.Step.{LeftBy}
 use Rattle.world_defs.specs.rows.Show.{reign_text}
 use Rattle.site_defs.specs.Texts.{extract_from, zwrite}
 use Rattle.world_defs.specs.Ties.{Matches}
-use Rattle.std.specs.Prelude.{Option, Some, true}
+use Rattle.std.specs.Prelude.{Option, Some}
 use Rattle.site_runner.specs.declared.slot.State.{State}
 use Rattle.site_runner.specs.declared.slot.State.TheVariants.{Down, Primary, Failed}
 use Rattle.site_runner.specs.declared.slot.Site.{Site}

@@ -234,14 +234,16 @@ impl<D: Disk> Site<D> {
         if let Some(fault) = self.fault {
             return Err(SiteError::Stopped { fault });
         }
-        let next = self.next_reign()?;
-        match self
-            .inner
-            .begin_reign(&mut self.disk, &next.reign, next.kept)
-        {
+        let NextReign {
+            reign,
+            stamp,
+            kept,
+            reigns,
+        } = self.next_reign()?;
+        match self.inner.begin_reign(&mut self.disk, &reign, kept) {
             Ok(()) => {
-                self.history.reigns = next.reigns;
-                Ok(next.stamp)
+                self.history.reigns = reigns;
+                Ok(stamp)
             }
             Err(error) => {
                 self.note(error);

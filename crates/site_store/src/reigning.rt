@@ -66,6 +66,7 @@ impl OpenSite {
         ensures ready { OnOk result (IsReady (D.disk disk.new) self.new) }
         ensures begun { OnOk result ((told : Bool) (c : Contents) → IsOpen (D.disk disk.old) told c (length c.sequence) self.old → IsOpen (D.disk disk.new) told (with_reign (site_name c.instance) c) (length c.sequence) self.new) }
         ensures records { OnOk result (self.new.instance.records ≡ self.old.instance.records ++ Reigned (reign_value reign.now) ∷ []) }
+        ensures kept { OnErr result (self.new.instance.records ≡ self.old.instance.records) }
         ensures remembered { OnOk result (self.new.stamp ≡ Some kept) }
         ensures reign { OnOk result (HasReign self.new) }
         ensures entries { self.new.entries.items ≡ self.old.entries.items }

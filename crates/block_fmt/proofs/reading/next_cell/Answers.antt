@@ -1,4 +1,4 @@
-use Rattle.std.proofs.Common.{◌≡◌, ◌-◌, ℕ, Bool, true, false, List, length, take, drop, MatchBool, sym, ◌∙◌, ap, subst, arith, length-drop}
+use Rattle.std.proofs.Common.{◌≡◌, ◌-◌, ℕ, true, List, length, take, drop, sym, ◌∙◌, ap, subst, arith, length-drop}
 use Rattle.std.proofs.lemmas.List.{take_all}
 use Rattle.journal_defs.specs.Leaves.{spelled_cell, IsEncoded}
 use Rattle.block_fmt.specs.Read.{BeginWithCell, first_cell}
@@ -8,22 +8,14 @@ use Rattle.block_fmt.proofs.reading.next_cell.Goals.{else-at-gt0-via-then-at-gt0
 tail : (bytes : List ℕ) (at : ℕ) → take (length bytes - at) (drop at bytes) ≡ drop at bytes
 tail bytes at = take_all (length bytes - at) (drop at bytes) (omega (arith, length-drop at bytes))
 
-at_false : (P Q : Type 0) (b : Bool) → MatchBool b P Q → b ≡ false → Q
-at_false P Q true h is = cc
-at_false P Q false h is = h
-
-at_true : (P Q : Type 0) (b : Bool) → MatchBool b P Q → b ≡ true → P
-at_true P Q true h is = h
-at_true P Q false h is = cc
-
 pub key_at-requires : goal.key_at-requires
 key_at-requires c = subst BeginWithCell (tail c.args.bytes.now c.args.at) c.in-Some.ensures.cell
 
 pub returns-in_default-clause-none : goal.returns-in_default-clause-none
 returns-in_default-clause-none c next = c.in_default.ensures.none (subst BeginWithCell (sym (tail c.args.bytes.now c.args.at)) next.begin)
 
-pub returns-then-not-branch-clause-none : goal.returns-then-not-branch-clause-none
-returns-then-not-branch-clause-none c next = at_false _ _ c.in_ok-is_key.field-0 c.in_ok-is_key.ensures c.if-not-branch.true (subst IsEncoded (sym c.key_at.ensures) next.key)
+pub returns-then-not-is_code-clause-none : goal.returns-then-not-is_code-clause-none
+returns-then-not-is_code-clause-none c next = let yes : c.is_code.result ≡ true = c.is_code.ensures.1 (subst IsEncoded (sym c.key_at.ensures) next.key) in let no = c.if-not-is_code.true in cc
 
 pub rises-requires-clause-last : goal.rises-requires-clause-last
 rises-requires-clause-last c = c.requires.last c.if-at-gt0.true
@@ -37,7 +29,7 @@ returns-then-not-rises-clause-none c next = let yes : c.rises.result ≡ true = 
 pub returns-clause-next : goal.returns-clause-next
 returns-clause-next c = record {
   begin = subst BeginWithCell (tail c.args.bytes.now c.args.at) c.in-Some.ensures.cell;
-  key = subst IsEncoded c.key_at.ensures (at_true _ _ c.in_ok-is_key.field-0 c.in_ok-is_key.ensures c.if-not-branch.false);
+  key = subst IsEncoded c.key_at.ensures (c.is_code.ensures.0 c.if-not-is_code.false);
   past = λ some. elim c.else-at-gt0.branch [
     | else-at-gt0-via-then-at-gt0+else-not-rises w ↦ w.rises.ensures.0 w.if-not-rises.false
     | else-at-gt0-via-else-at-gt0 w ↦ absurd (omega (arith, some, w.if-at-gt0.false))

@@ -1,4 +1,4 @@
-use Rattle.std.proofs.Common.{◌≡◌, ◌<◌, ◌-◌, drop}
+use Rattle.std.proofs.Common.{◌≡◌, ◌<◌, ◌-◌, ◌≤◌, drop, vec_capacity}
 use Rattle.block_fmt.specs.Cells.{cell_at}
 use Rattle.block_fmt.specs.Read.{first_cell, cells_in, places, BeginWithCell}
 use Rattle.block_fmt.proofs.Walk.{IsWalked}
@@ -8,6 +8,7 @@ abbrev pub invariant-loop : goal.invariant-loop
 invariant-loop l = record {
   walked : IsWalked l.bytes l.counter l.at;
   items : l.places.items ≡ places 0 (cells_in l.counter l.bytes);
+  room : 817 ≤ vec_capacity l.places;
   last : 0 < l.at → BeginWithCell (drop l.last l.bytes);
   last_is : 0 < l.at → first_cell (drop l.last l.bytes) ≡ cell_at (cells_in l.counter l.bytes) (l.counter - 1);
 }

@@ -7,6 +7,12 @@ use Rattle.gvt_leaf.specs.Links.{one_if}
 use Rattle.gvt_leaf.proofs.Edited.{set_cells, set_rising, set_count}
 use Rattle.gvt_leaf.proofs.edits.set.Goals as goal
 
+pub put_in_leaf-requires-clause-found : goal.put_in_leaf-requires-clause-found
+put_in_leaf-requires-clause-found c = subst (λ (l : List Cell). IfOk c.find-place.result (StandsIn l c.args.key.now)) c.leaf.ensures c.find-place.ensures.found
+
+pub put_in_leaf-requires-clause-place : goal.put_in_leaf-requires-clause-place
+put_in_leaf-requires-clause-place c = subst (λ (l : List Cell). IfErr c.find-place.result (BelongsAt l c.args.key.now)) c.leaf.ensures c.find-place.ensures.place
+
 pub returns-clause-cells : goal.returns-clause-cells
 returns-clause-cells c = set_cells c.args.chain.now.leaves c.put_in_leaf.new.chain.leaves c.seat-i.result c.args.key.now c.args.value.now c.requires.rising c.seat-i.ensures c.put_in_leaf.ensures.put
 
@@ -15,7 +21,7 @@ returns-clause-rising c = set_rising c.args.chain.now.leaves c.put_in_leaf.new.c
 
 pub returns-clause-count : goal.returns-clause-count
 returns-clause-count c =
-    set_count c.args.chain.now.leaves c.put_in_leaf.new.chain.leaves c.seat-i.result c.args.key.now c.args.value.now c.requires.rising c.seat-i.ensures c.put_in_leaf.ensures.put c.find.result
-    (subst (λ (l : List Cell). IfOk c.find.result (StandsIn l c.args.key.now)) c.leaf.ensures c.find.ensures.found)
-    (subst (λ (l : List Cell). IfErr c.find.result (BelongsAt l c.args.key.now)) c.leaf.ensures c.find.ensures.place)
-    ∙ ap (λ b. length (all_cells c.args.chain.now.leaves) + one_if b) (sym c.is_err-is_new.ensures.value)
+    set_count c.args.chain.now.leaves c.put_in_leaf.new.chain.leaves c.seat-i.result c.args.key.now c.args.value.now c.requires.rising c.seat-i.ensures c.put_in_leaf.ensures.put c.find-place.result
+    (subst (λ (l : List Cell). IfOk c.find-place.result (StandsIn l c.args.key.now)) c.leaf.ensures c.find-place.ensures.found)
+    (subst (λ (l : List Cell). IfErr c.find-place.result (BelongsAt l c.args.key.now)) c.leaf.ensures c.find-place.ensures.place)
+    ∙ ap (λ b. length (all_cells c.args.chain.now.leaves) + one_if b) (sym c.is_err.ensures.value)

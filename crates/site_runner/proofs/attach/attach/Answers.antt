@@ -1,5 +1,4 @@
 use Rattle.std.proofs.Common.{None}
-use Rattle.command_defs.specs.Commands.{Attach}
 use Rattle.site_runner.proofs.Results.{on_ok, err_so}
 use Rattle.site_runner.proofs.Next.{free_so}
 use Rattle.site_runner.proofs.AttachLifts.{no_disk_to_attach, attach_not_begun}

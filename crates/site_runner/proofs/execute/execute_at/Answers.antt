@@ -1,9 +1,7 @@
-use Rattle.std.proofs.Common.{rules, ◌≡◌, ℕ, List, Option, sym, ap, refl, subst}
+use Rattle.std.proofs.Common.{rules, ◌≡◌, ℕ, List, Option, Some, sym, ap, refl, subst}
 use Rattle.std.specs.Option.{option_copied}
 use Rattle.global_defs.specs.Key.{Key}
 use Rattle.command_defs.specs.Commands as commands
-use Rattle.world_defs.specs.World.{Place}
-use Rattle.world_defs.specs.Row.{Row}
 use Rattle.world_defs.specs.Meaning.{row_at}
 use Rattle.world_defs.specs.rows.Crash.{crash}
 use Rattle.world_defs.specs.rows.Extract.{extract}
@@ -16,6 +14,7 @@ use Rattle.world_defs.specs.rows.Start.{start}
 use Rattle.world_defs.specs.rows.Stop.{stop}
 use Rattle.world_defs.specs.rows.Zwrite.{zwrite}
 use Rattle.repl_script.specs.Commands.{command_value}
+use Rattle.site_runner.specs.Named.{row_in}
 use Rattle.site_runner.specs.Steps.{Zwrites}
 use Rattle.site_runner.proofs.Results.{on_ok, on_errs, err_holds}
 use Rattle.site_runner.proofs.Stopped.{arm_done, arm_cut, cut_kept, stops, extracts_at, zwrites_at, shows_at}
@@ -51,7 +50,7 @@ returns-in-Stop-clause-done g c =
     (on_ok c.stop.result _ _ c.stop.ensures.done (λ h. stops (g.D.Disk.disk c.args.slot.now.disk) c.in-Some.site c.stop.new.site c.args.text.now c.stop.new.text h))
 
 pub returns-in-Stop-clause-cut_off : goal.returns-in-Stop-clause-cut_off
-returns-in-Stop-clause-cut_off g c = err_holds c.stop.result _ (cut_kept g.D.Disk.disk _ c.args.slot.now _ refl)
+returns-in-Stop-clause-cut_off g c = err_holds c.stop.result _ (cut_kept g.D.Disk.disk (row_in (command_value c.args.command)) c.args.slot.now (record { disk = c.args.slot.now.disk; site = Some c.stop.new.site }) refl)
 
 pub returns-in-Fuse-clause-done : goal.returns-in-Fuse-clause-done
 returns-in-Fuse-clause-done g c =
@@ -59,7 +58,7 @@ returns-in-Fuse-clause-done g c =
     c.fuse.ensures.done
 
 pub returns-in-Fuse-clause-cut_off : goal.returns-in-Fuse-clause-cut_off
-returns-in-Fuse-clause-cut_off g c = on_errs c.fuse.result _ _ c.fuse.ensures.kept (λ e. cut_kept g.D.Disk.disk _ c.args.slot.now _ e)
+returns-in-Fuse-clause-cut_off g c = on_errs c.fuse.result _ _ c.fuse.ensures.kept (λ e. cut_kept g.D.Disk.disk (row_in (command_value c.args.command)) c.args.slot.now (record { disk = c.fuse.new.disk; site = Some c.in-Some.site }) e)
 
 pub returns-in-Crash-clause-done : goal.returns-in-Crash-clause-done
 returns-in-Crash-clause-done g c =
@@ -67,7 +66,7 @@ returns-in-Crash-clause-done g c =
     c.crash.ensures.done
 
 pub returns-in-Crash-clause-cut_off : goal.returns-in-Crash-clause-cut_off
-returns-in-Crash-clause-cut_off g c = on_errs c.crash.result _ _ c.crash.ensures.disk (λ e. cut_kept g.D.Disk.disk _ c.args.slot.now _ e)
+returns-in-Crash-clause-cut_off g c = on_errs c.crash.result _ _ c.crash.ensures.disk (λ e. cut_kept g.D.Disk.disk (row_in (command_value c.args.command)) c.args.slot.now (record { disk = c.crash.new.disk; site = Some c.crash.new.site }) e)
 
 pub returns-in-Extract-clause-done : goal.returns-in-Extract-clause-done
 returns-in-Extract-clause-done g c =
@@ -75,7 +74,7 @@ returns-in-Extract-clause-done g c =
     (on_ok c.extract.result _ _ c.extract.ensures (λ h. extracts_at (g.D.Disk.disk c.args.slot.now.disk) c.in-Some.site c.in-Extract.number c.args.text.now c.extract.new.text h))
 
 pub returns-in-Extract-clause-cut_off : goal.returns-in-Extract-clause-cut_off
-returns-in-Extract-clause-cut_off g c = err_holds c.extract.result _ (cut_kept g.D.Disk.disk _ c.args.slot.now _ refl)
+returns-in-Extract-clause-cut_off g c = err_holds c.extract.result _ (cut_kept g.D.Disk.disk (row_in (command_value c.args.command)) c.args.slot.now (record { disk = c.args.slot.now.disk; site = Some c.in-Some.site }) refl)
 
 pub returns-in-Zwrite-clause-done : goal.returns-in-Zwrite-clause-done
 returns-in-Zwrite-clause-done g c =
@@ -84,7 +83,7 @@ returns-in-Zwrite-clause-done g c =
     (on_ok c.zwrite.result _ _ c.zwrite.ensures (λ h. zwrites_at (g.D.Disk.disk c.args.slot.now.disk) c.in-Some.site c.in-Zwrite.top c.args.text.now c.zwrite.new.text (subst (λ (t : Option Key). Zwrites c.in-Some.site t c.args.text.now c.zwrite.new.text) top h)))
 
 pub returns-in-Zwrite-clause-cut_off : goal.returns-in-Zwrite-clause-cut_off
-returns-in-Zwrite-clause-cut_off g c = err_holds c.zwrite.result _ (cut_kept g.D.Disk.disk _ c.args.slot.now _ refl)
+returns-in-Zwrite-clause-cut_off g c = err_holds c.zwrite.result _ (cut_kept g.D.Disk.disk (row_in (command_value c.args.command)) c.args.slot.now (record { disk = c.args.slot.now.disk; site = Some c.in-Some.site }) refl)
 
 pub returns-in-Show-clause-done : goal.returns-in-Show-clause-done
 returns-in-Show-clause-done g c =
@@ -92,12 +91,12 @@ returns-in-Show-clause-done g c =
     (on_ok c.show.result _ _ c.show.ensures (λ h. shows_at (g.D.Disk.disk c.args.slot.now.disk) c.in-Some.site c.args.text.now c.show.new.text h))
 
 pub returns-in-Show-clause-cut_off : goal.returns-in-Show-clause-cut_off
-returns-in-Show-clause-cut_off g c = err_holds c.show.result _ (cut_kept g.D.Disk.disk _ c.args.slot.now _ refl)
+returns-in-Show-clause-cut_off g c = err_holds c.show.result _ (cut_kept g.D.Disk.disk (row_in (command_value c.args.command)) c.args.slot.now (record { disk = c.args.slot.now.disk; site = Some c.in-Some.site }) refl)
 
-pub returns-in-Print-clause-done : goal.returns-in-Print-clause-done
-returns-in-Print-clause-done g c =
+pub returns-clause-done : goal.returns-clause-done
+returns-clause-done g c =
     arm_done g.D.Disk.disk (command_value c.args.command) (commands.Print c.in-Print.site c.in-Print.generation) (print c.in-Print.generation) c.args.slot.now c.print.new.disk c.in-Some.site c.print.new.site c.print.result (ap command_value c.in-Print.is) refl c.in-Some.is c.args.text.now c.print.new.text
     c.print.ensures.done
 
-pub returns-in-Print-clause-cut_off : goal.returns-in-Print-clause-cut_off
-returns-in-Print-clause-cut_off g c = arm_cut g.D.Disk.disk (command_value c.args.command) (commands.Print c.in-Print.site c.in-Print.generation) (print c.in-Print.generation) c.args.slot.now c.print.new.disk c.in-Some.site c.print.new.site c.print.result (ap command_value c.in-Print.is) refl c.in-Some.is c.print.ensures.cut_off
+pub returns-clause-cut_off : goal.returns-clause-cut_off
+returns-clause-cut_off g c = arm_cut g.D.Disk.disk (command_value c.args.command) (commands.Print c.in-Print.site c.in-Print.generation) (print c.in-Print.generation) c.args.slot.now c.print.new.disk c.in-Some.site c.print.new.site c.print.result (ap command_value c.in-Print.is) refl c.in-Some.is c.print.ensures.cut_off

@@ -1,4 +1,4 @@
-use Rattle.std.proofs.Common.{rules, ◌≡◌, ◌∙◌, ℕ, List, Vec, Global, length, map, refl, ap, sym, subst}
+use Rattle.std.proofs.Common.{rules, ◌≡◌, ◌∙◌, List, Vec, Global, length, map, refl, ap, subst}
 use Rattle.std.specs.Prelude.{filter, nat_le}
 use Rattle.std.proofs.lemmas.Result.{err_from_is_err_and}
 use Rattle.global_defs.specs.Entry.{Sequence, Reign}

@@ -1,10 +1,7 @@
-use Rattle.std.proofs.Common.{List, sym, subst}
-use Rattle.disk_defs.specs.Disk.{AtEachMoment}
-use Rattle.disk_defs.specs.Frames.{Only, OnlyOn}
+use Rattle.disk_defs.specs.Frames.{Only}
 use Rattle.disk_defs.proofs.Frames.{others_then}
-use Rattle.instance_file.specs.Instance.{HasRecords, StandsWith}
 use Rattle.journal_defs.specs.Numbers.{INSTANCE}
-use Rattle.journal_defs.specs.Instance.{InstanceRecord, IsInForm, pattern_record}
+use Rattle.journal_defs.specs.Instance.{pattern_record}
 use Rattle.site_files.proofs.Cutting.{keep_stands, cut_stands}
 use Rattle.site_store.proofs.Mapped.{has_reads, has_images}
 use Rattle.site_store.proofs.mapping.append_pattern.Goals as goal

@@ -1,9 +1,9 @@
-use Rattle.std.proofs.Common.{◌≡◌, ◌<◌, ◌≤◌, ◌++◌, ◌∷◌, [], length, IfSome, refl, arith}
+use Rattle.std.proofs.Common.{◌++◌, ◌∷◌, [], IfSome, refl, arith}
 use Rattle.std.proofs.lemmas.Result.{IfOk-weaker}
 use Rattle.disk_defs.specs.Disk.{Files, View, Image, AtEachMoment}
 use Rattle.disk_defs.proofs.Moments.{started}
 use Rattle.journal_defs.specs.Numbers.{INSTANCE}
-use Rattle.journal_defs.specs.Instance.{regions, pattern_record}
+use Rattle.journal_defs.specs.Instance.{pattern_record}
 use Rattle.journal_defs.specs.Stands.{IsInstance}
 use Rattle.site_defs.specs.Contents.{Contents}
 use Rattle.site_defs.specs.Opening.{with_pattern}

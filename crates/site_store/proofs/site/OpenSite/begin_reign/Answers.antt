@@ -1,4 +1,4 @@
-use Rattle.std.proofs.Common.{refl, sym}
+use Rattle.std.proofs.Common.{Err, refl, sym, ◌∙◌, ap}
 use Rattle.gvn_model.specs.Reigns.{reign_value}
 use Rattle.site_store.proofs.Begun as reigning
 use Rattle.site_store.proofs.site.OpenSite.begin_reign.Goals as goal
@@ -48,11 +48,11 @@ returns-in-Ok-clause-reign g c =
 
 pub returns-in-Err-NoMemory-clause-goes_on : goal.returns-in-Err-NoMemory-clause-goes_on
 returns-in-Err-NoMemory-clause-goes_on g c is =
-    reigning.ready_kept (g.D.Disk.disk c.args.disk.now) (g.D.Disk.disk c.reign.new.disk) c.args.self.now _ c.requires.ready (c.reign.ensures.no_memory_ready ?) ? refl refl c.reign.ensures.frame
+    reigning.ready_kept (g.D.Disk.disk c.args.disk.now) (g.D.Disk.disk c.reign.new.disk) c.args.self.now _ c.requires.ready (c.reign.ensures.no_memory_ready (c.in-Err-NoMemory.is ∙ ap Err c.in-Err-NoMemory.field-0-is)) c.in-Err-NoMemory.ensures.kept refl refl c.reign.ensures.frame
 
 pub returns-in-Err-NoMemory-clause-again : goal.returns-in-Err-NoMemory-clause-again
-returns-in-Err-NoMemory-clause-again g c is = reigning.opened_kept c.args.self.now _ c.requires.opened ? refl refl refl
+returns-in-Err-NoMemory-clause-again g c is = reigning.opened_kept c.args.self.now _ c.requires.opened c.in-Err-NoMemory.ensures.kept refl refl refl
 
 pub returns-in-Err-NoMemory-clause-stays_open : goal.returns-in-Err-NoMemory-clause-stays_open
 returns-in-Err-NoMemory-clause-stays_open g c is told x h o =
-    reigning.open_kept (g.D.Disk.disk c.args.disk.now) (g.D.Disk.disk c.reign.new.disk) told x h c.args.self.now _ (g.met.D.Disk.lawful c.reign.new.disk) c.requires.ready c.reign.ensures.frame ? ? ? refl refl refl refl o
+    reigning.open_kept (g.D.Disk.disk c.args.disk.now) (g.D.Disk.disk c.reign.new.disk) told x h c.args.self.now _ (g.met.D.Disk.lawful c.reign.new.disk) c.requires.ready c.reign.ensures.frame (c.reign.ensures.no_memory_moment (c.in-Err-NoMemory.is ∙ ap Err c.in-Err-NoMemory.field-0-is)) (c.reign.ensures.no_memory_state (c.in-Err-NoMemory.is ∙ ap Err c.in-Err-NoMemory.field-0-is)) c.in-Err-NoMemory.ensures.kept refl refl refl refl o

@@ -20,3 +20,8 @@ returns-in_err-told-clause-any_moment g c x o = reigning.quiet _ x _ o
 
 pub returns-clause-room : goal.returns-clause-room
 returns-clause-room g c x h m = reigning.limit_open x h c.args.self.now m c.requires.opened.no_reign_past c.in_ok-reign.ensures.room
+
+pub returns-in_err-begin_reign-clause-stays_open : goal.returns-in_err-begin_reign-clause-stays_open
+returns-in_err-begin_reign-clause-stays_open g c =
+    let p = err_from_is_err_and c.from_residual-in_err-begin_reign.result c.from_residual-in_err-begin_reign.ensures.1 in
+    rw (p.1, p.2) (λ is told x h o. c.in_err-begin_reign.ensures.stays_open (let same : c.in_err-begin_reign.field-0.0 ≡ error.NoMemory = cc is in ap Err same) told x h o)

@@ -4,8 +4,8 @@ use Rattle.std.proofs.Math.Dec.{leb}
 use Rattle.block_fmt.specs.Cells.{size_of, with_cell}
 use Rattle.block_fmt.proofs.CellPlaces.{size_grows, size_split}
 use Rattle.block_fmt.proofs.Changed.{put_size}
-use Rattle.block_fmt.proofs.block.Block.fits.Goals as goal
-use Rattle.block_fmt.proofs.block.Block.fits.Goals.{then-key-gt-ROOM-via-then-key-gt-ROOM, then-key-gt-ROOM-via-else-key-gt-ROOM+then-value-gt-ROOM}
+use Rattle.block_fmt.proofs.block.Block.fits_at.Goals as goal
+use Rattle.block_fmt.proofs.block.Block.fits_at.Goals.{then-key-gt-ROOM-via-then-key-gt-ROOM, then-key-gt-ROOM-via-else-key-gt-ROOM+then-value-gt-ROOM}
 
 tested : (x y : ℕ) → x ≡ y → (IsTrue (leb x 4088) → y ≤ 4088) × (y ≤ 4088 → IsTrue (leb x 4088))
 tested x y same = (λ yes. omega (arith, same, leb-true x 4088 yes), λ few. le-leb x 4088 (omega (arith, same, few)))

@@ -5,7 +5,7 @@ use Rattle.block_fmt.proofs.ReadBack.{length-spelled_cell}
 use Rattle.block_fmt.proofs.CellPlaces.{size_grows, size_split, key_length}
 use Rattle.block_fmt.proofs.Held.{holds_view, holds_own, held, held_place, place_count, byte_count}
 use Rattle.block_fmt.proofs.Changed.{put_holds, put_size, put_form, put_few, tail_can_move}
-use Rattle.block_fmt.proofs.block.Block.put.Goals as goal
+use Rattle.block_fmt.proofs.block.Block.put_at.Goals as goal
 
 pub put_between-requires-clause-order : goal.put_between-requires-clause-order
 put_between-requires-clause-order c =
@@ -106,8 +106,8 @@ invariant_of-self c =
     holds_own made (with_cell c.args.self.now c.args.key.now c.args.value.now) (put_holds c.self.inside made c.args.self.now h refl c.put_between.ensures.capacity c.put_place.ensures.capacity c.args.key.now c.args.value.now c.taken-i.result.0 c.taken-i.result.1 c.used_before-from.result c.used_before-to.result
     (length c.args.key.now + length c.args.value.now + 3) c.taken-i.ensures.taken c.used_before-from.ensures c.used_before-to.ensures refl c.requires.key c.requires.value c.requires.fits c.put_between.ensures.items c.put_place.ensures.items)
 
-pub returns-clause-cells : goal.returns-clause-cells
-returns-clause-cells c =
+pub returns : goal.returns
+returns c =
     let h = holds_view c.self.inside c.args.self.now c.self.view_is c.self.invariant in
     let made : Inside = record { next = c.self.inside.next; bytes = c.put_between.new.bytes; places = c.put_place.new.places } in
     held made (with_cell c.args.self.now c.args.key.now c.args.value.now) (put_holds c.self.inside made c.args.self.now h refl c.put_between.ensures.capacity c.put_place.ensures.capacity c.args.key.now c.args.value.now c.taken-i.result.0 c.taken-i.result.1 c.used_before-from.result c.used_before-to.result
