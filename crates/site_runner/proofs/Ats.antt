@@ -12,8 +12,8 @@ use Rattle.world_defs.specs.World as world
 use Rattle.command_defs.specs.Commands.{Name}
 use Rattle.world_defs.specs.World.{Place, Kept}
 use Rattle.site_defs.specs.Contents.{Contents, Leftover, NO_LEFTOVER, is_made}
-use Rattle.world_defs.specs.Answers.{Cause, Stopped, NotRunning, Refusal, Section, Done, Refused, DiskFault, NotAFile, Ran, Typed, line, cause_text, refusal_line, fault_line, damage_line}
-use Rattle.world_defs.specs.Row.{Row, first, in_state, stopped, not_running, or_else, refused_with, refusal_in}
+use Rattle.world_defs.specs.Answers.{Cause, Stopped, NotRunning, Refusal, Section, Done, Refused, DiskFault, NotAFile, Ran, Typed, line, cause_text, refusal_line, fault_line, damage_line, Running}
+use Rattle.world_defs.specs.Row.{Row, first, in_state, stopped, not_running, or_else, refused_with, refusal_in, why_not_down}
 use Rattle.site_defs.specs.Fronts.{with_sequence}
 use Rattle.site_defs.specs.Opening.{IsBehind}
 use Rattle.world_defs.specs.Ties.{Matches}
@@ -81,21 +81,33 @@ pub on_not_done : {E : Type 0} (r : Result Bool E) (T : Type 0) (P : Bool → Ty
 on_not_done (Ok done) T P h f = subst P (sym h.0) (f h.1)
 on_not_done (Err e) T P h f = h
 
+pub on_failed : {E : Type 0} (r : Result Bool E) (new at : Site) (T : Type 0) (P : Site → Bool → Type 0) → IfOk r (λ done. (done ≡ false) × (new ≡ at) × T) → (T → P at false) → IfOk r (P new)
+on_failed (Ok done) new at T P h f = subst (λ (x : Site). P x done) (sym h.1) (subst (P at) (sym h.0) (f h.2))
+on_failed (Err e) new at T P h f = h
+
 pub on_done : {T E : Type 0} (r : Result T E) (P Q : T → Type 0) → IfOk r P → ((x : T) → P x → Q x) → IfOk r Q
 on_done (Ok x) P Q h f = f x h
 on_done (Err e) P Q h f = h
 
--- the code's test of a site's state refuses as the row's does
-pub refuses_why : {E : Type 0} (row : Place → Row) (v : View) (s : Site) (why : Option code.Cause) (cause : code.Cause) (before now name : List ℕ) (r : Result Bool E)
-    → ((p : Place) → IsAt v s p → (row p).early ≡ refused_with s.name (option_map cause_value why)) → ((p : Place) → (row p).refused (record { site = s.name; cause = cause_value cause }) p)
-    → why ≡ Some cause → name ≡ s.name → IfOk r (λ done. (done ≡ false) × (now ≡ before ++ line name (cause_text (cause_value cause)))) → IfOk r (λ done. ExecutesAt row v s v s before now done)
-refuses_why row v s why cause before now name r e same is n h =
-    on_not_done r _ _ h (λ t. refuses row v s (cause_value cause) before now (λ p at_p. e p at_p ∙ ap (λ (x : Option code.Cause). refused_with s.name (option_map cause_value x)) is) same
-    (t ∙ ap (λ (x : List ℕ). before ++ line x (cause_text (cause_value cause))) n))
+-- a refusal that names and states decide, by the code's cause
+pub refuses_by : {E : Type 0} (row : Place → Row) (v : View) (s : Site) (cause : code.Cause) (before now name : List ℕ) (r : Result Bool E)
+    → ((p : Place) → IsAt v s p → (row p).early ≡ refused_with s.name (Some (cause_value cause))) → ((p : Place) → (row p).refused (record { site = s.name; cause = cause_value cause }) p)
+    → name ≡ s.name → IfOk r (λ done. (done ≡ false) × (now ≡ before ++ line name (cause_text (cause_value cause)))) → IfOk r (λ done. ExecutesAt row v s v s before now done)
+refuses_by row v s cause before now name r e same n h =
+    on_not_done r _ _ h (λ t. refuses row v s (cause_value cause) before now e same (t ∙ ap (λ (x : List ℕ). before ++ line x (cause_text (cause_value cause))) n))
 
--- where the code's test finds nothing, nor does the row's
+-- what the code's test finds the definitions' test finds
+pub why_is : (why : Option code.Cause) (cause : code.Cause) (test : Option Cause) → option_map cause_value why ≡ test → why ≡ Some cause → test ≡ Some (cause_value cause)
+why_is why cause test e is = sym e ∙ ap (option_map cause_value) is
+
 pub none_why : (why : Option code.Cause) (test : Option Cause) → option_map cause_value why ≡ test → why ≡ None → test ≡ None
 none_why why test e is = sym e ∙ ap (option_map cause_value) is
+
+-- a site that isn't anything else is down
+pub is_down : (s : State) (why : Option code.Cause) → option_map cause_value why ≡ why_not_down (state_value s) → why ≡ None → s ≡ Down
+is_down Down why e is = refl
+is_down (Failed k) why e is = let none = none_why why (Some (Stopped k)) e is in cc
+is_down (Primary r) why e is = let none = none_why why (Some Running) e is in cc
 
 -- a test of a site's state is one of its place
 pub state_at : (test : world.State → Option Cause) (v : View) (s : Site) (p : Place) → IsAt v s p → in_state test p.site ≡ test (state_value s.state)

@@ -1,6 +1,6 @@
 -- Commands on a site, as commands on its slot; STOP, EXTRACT, ZWRITE and SHOW at a place.
-use Rattle.std.proofs.Common.{◌≡◌, ℕ, suc, ◌+◌, true, List, [], ◌∷◌, ◌++◌, length, map, Some, refl, sym, ◌∙◌, ap, subst, arith, inl, nat_eq, append_assoc}
-use Rattle.std.specs.Prelude.{Option, codes, option_map, IsSomeAnd, Result, OnOk, OnErr}
+use Rattle.std.proofs.Common.{◌≡◌, ℕ, suc, ◌+◌, true, List, [], ◌∷◌, ◌++◌, length, map, Some, refl, sym, ◌∙◌, ap, subst, arith, inl, nat_eq, append_assoc, Bool, None}
+use Rattle.std.specs.Prelude.{Option, codes, option_map, IsSomeAnd, Result, IfOk, OnErr}
 use Rattle.std.specs.Fmt.{decimal}
 use Rattle.std.specs.List.{enumerate_from, flat_map}
 use Rattle.std.proofs.lemmas.Bool.{eqb-true}
@@ -19,8 +19,8 @@ use Rattle.world_defs.specs.World as world
 use Rattle.command_defs.specs.Commands.{Name, Command}
 use Rattle.world_defs.specs.World.{Place, name_on}
 use Rattle.site_defs.specs.Contents.{Leftover, NO_LEFTOVER, same_name}
-use Rattle.world_defs.specs.Answers.{Stopped, NotRunning, line}
-use Rattle.world_defs.specs.Row.{Row, refused_with, in_state, why_not_open}
+use Rattle.world_defs.specs.Answers.{Refusal, line}
+use Rattle.world_defs.specs.Row.{Row, or_else, refused_with, in_state, why_not_open}
 use Rattle.world_defs.specs.Changes.{in_new_state}
 use Rattle.world_defs.specs.Step.{LeftBy}
 use Rattle.world_defs.specs.Ties.{Matches}
@@ -29,7 +29,7 @@ use Rattle.world_defs.specs.rows.Extract.{extract}
 use Rattle.world_defs.specs.rows.Show.{reign_text, show_state, show_on, show}
 use Rattle.world_defs.specs.rows.Stop.{stop}
 use Rattle.world_defs.specs.rows.Zwrite as rows
-use Rattle.site_defs.specs.Texts.{zwrite}
+use Rattle.site_defs.specs.Texts.{extract_from, zwrite}
 use Rattle.site_defs.specs.Stands.{Stands, Reads}
 use Rattle.repl_section.specs.declared.reign.Reign.{Reign}
 use Rattle.repl_section.specs.Reigns.{Reigns, stamp_of}
@@ -41,10 +41,10 @@ use Rattle.site_runner.specs.Sites.{site_value, state_value, is_slot_named, IsOf
 use Rattle.site_runner.specs.Executes.{Comes, ExecutesHere, IsCutHere}
 use Rattle.site_runner.specs.Tied.{IsPlace}
 use Rattle.site_runner.specs.Named.{row_in}
-use Rattle.site_runner.proofs.Results.{on_ok, on_errs}
-use Rattle.site_runner.specs.Steps.{Stops, StopsFrom, Extracts, ExtractsFrom, Zwrites, ZwritesFrom, state_text, IsAt, ExecutesAt, IsCutAt}
+use Rattle.site_runner.proofs.Results.{on_errs}
+use Rattle.site_runner.specs.Steps.{state_text, IsAt, ExecutesAt, IsCutAt}
 use Rattle.site_runner.proofs.Cuts.{split_and}
-use Rattle.site_runner.proofs.Ats.{comes_done, comes_so, not_early, refuses, state_at, kept_same, only}
+use Rattle.site_runner.proofs.Ats.{comes_done, comes_so, on_done, state_at, kept_same, only}
 
 pub names_same : (a b : Name) → same_name a b ≡ true → a ≡ b
 names_same [] [] e = refl
@@ -142,16 +142,6 @@ extracts_at v s r from before now e h p at_p =
 pub zwrites_at : (v : View) (s : Site) (r : Reign) (top : Option Key) (before now : List ℕ) → s.state ≡ Primary r → now ≡ before ++ zwrite top r.site.globals → ExecutesAt (rows.zwrite top s.name) v s v s before now true
 zwrites_at v s r top before now e t p at_p =
     comes_done p (ap (λ (x : Option Refusal). or_else x None) (open_at_place v s r p e at_p)) (kept_same p) at_p (t ∙ ap (λ (g : Globals). before ++ zwrite top g) (reigns_at v s r p e at_p).remembered.globals)
-
--- the code's test of an open site
-pub open_why : (v : View) (s : Site) (why : Option code_cause.Cause) (p : Place) → option_map cause_value why ≡ why_not_open (state_value s.state) → IsAt v s p → refused_with s.name (in_state why_not_open p.site) ≡ refused_with s.name (option_map cause_value why)
-open_why v s why p e h = ap (refused_with s.name) (state_at why_not_open v s p h ∙ sym e)
-
--- it's open where the test finds nothing
-pub is_open : (s : State) (why : Option code_cause.Cause) → option_map cause_value why ≡ why_not_open (state_value s) → why ≡ None → (r : Reign) × (s ≡ Primary r)
-is_open Down why e is = let none = none_why why (Some NotRunning) e is in cc
-is_open (Failed k) why e is = let none = none_why why (Some (Stopped k)) e is in cc
-is_open (Primary r) why e is = (r, refl)
 
 -- what is shown of a site is what is shown of its place
 shown_state : (v : View) (s : Site) (p : Place) (state : State) → s.state ≡ state → IsAt v s p → state_text s.name state ≡ show_state s.name (state_value state) p.now

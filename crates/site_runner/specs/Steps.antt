@@ -1,5 +1,5 @@
 -- What steps at one site are, apart from its disk.
-use Rattle.std.specs.Prelude.{◌≡◌, ℕ, ◌++◌, List, length, codes, map}
+use Rattle.std.specs.Prelude.{◌≡◌, ℕ, Bool, ◌++◌, List, length, codes, Some}
 use Rattle.std.specs.Fmt.{decimal}
 use Rattle.std.specs.List.{enumerate_from, flat_map}
 use Rattle.disk_defs.specs.Disk.{View}
@@ -15,7 +15,6 @@ use Rattle.world_defs.specs.Step.{LeftBy}
 use Rattle.world_defs.specs.rows.Show.{reign_text}
 use Rattle.site_defs.specs.Texts.{extract_from, zwrite}
 use Rattle.world_defs.specs.Ties.{Matches}
-use Rattle.std.specs.Prelude.{Option, Some}
 use Rattle.site_runner.specs.declared.slot.State.{State}
 use Rattle.site_runner.specs.declared.slot.State.TheVariants.{Down, Primary, Failed}
 use Rattle.site_runner.specs.declared.slot.Site.{Site}
