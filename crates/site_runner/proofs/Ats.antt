@@ -1,6 +1,6 @@
 -- Sites at their places.
 use Rattle.std.proofs.Common.{◌≡◌, ℕ, Bool, true, false, List, [], ◌∷◌, ◌++◌, length, take, None, Some, refl, sym, ◌∙◌, ap, subst, arith, inl, inr}
-use Rattle.std.specs.Prelude.{◌⊎◌, Option, IfSome, IsSome, IsSomeAnd}
+use Rattle.std.specs.Prelude.{◌⊎◌, Option, option_map, IfSome, IsSome, IsSomeAnd, Result, Ok, Err, IfOk}
 use Rattle.std.proofs.lemmas.Bool.{false≢true}
 use Rattle.std.proofs.Math.Seq.{take-length}
 use Rattle.disk_defs.specs.Disk.{Files, View, Image, IsLawful, AtEachMoment}
@@ -12,8 +12,8 @@ use Rattle.world_defs.specs.World as world
 use Rattle.command_defs.specs.Commands.{Name}
 use Rattle.world_defs.specs.World.{Place, Kept}
 use Rattle.site_defs.specs.Contents.{Contents, Leftover, NO_LEFTOVER, is_made}
-use Rattle.world_defs.specs.Answers.{Cause, Stopped, NotRunning, Refusal, Section, Done, Refused, DiskFault, NotAFile, Ran, Typed, line, cause_text, refusal_line, fault_line, damage_line}
-use Rattle.world_defs.specs.Row.{Row, first, in_state, stopped, not_running, or_else, refused_with, refusal_in}
+use Rattle.world_defs.specs.Answers.{Cause, Stopped, NotRunning, Refusal, Section, Done, Refused, DiskFault, NotAFile, Ran, Typed, line, cause_text, refusal_line, fault_line, damage_line, Running}
+use Rattle.world_defs.specs.Row.{Row, first, in_state, stopped, not_running, or_else, refused_with, refusal_in, why_not_down}
 use Rattle.site_defs.specs.Fronts.{with_sequence}
 use Rattle.site_defs.specs.Opening.{IsBehind}
 use Rattle.world_defs.specs.Ties.{Matches}
@@ -21,7 +21,9 @@ use Rattle.site_defs.specs.Stands.{IsSite, HasLeft, Stands, Reads}
 use Rattle.site_runner.specs.declared.slot.State.{State}
 use Rattle.site_runner.specs.declared.slot.State.TheVariants.{Down, Primary, Failed}
 use Rattle.site_runner.specs.declared.slot.Site.{Site}
-use Rattle.site_runner.specs.Sites.{state_value, is_down, fault_of}
+use Rattle.site_runner.specs.declared.cause.Cause as code
+use Rattle.site_runner.specs.Causes.{cause_value}
+use Rattle.site_runner.specs.Sites.{state_value}
 use Rattle.site_runner.specs.Executes.{Comes}
 use Rattle.site_runner.specs.Steps.{IsAt, ExecutesAt}
 
@@ -30,30 +32,30 @@ kept_same p = record { site = refl; now = refl; left = refl; known = record { to
 
 -- what a row comes to
 
-pub comes_done : {row : Row} {S : Place → Type 0} {before now : List ℕ} (q : Place) → refusal_in row ≡ None → row.done q → S q → now ≡ before ++ row.says q → Comes row S before now
-comes_done {row} q e d s t = record { answer = Done; becomes = q; text = row.says q; here = (e, d, refl); there = s; written = t }
+pub comes_done : {row : Row} {S : Place → Type 0} {before now : List ℕ} (q : Place) → refusal_in row ≡ None → row.done q → S q → now ≡ before ++ row.says q → Comes row S before now true
+comes_done {row} q e d s t = record { answer = Done; becomes = q; text = row.says q; here = (e, d, refl); there = s; written = t; done = refl }
 
-pub comes_refused : {row : Row} {S : Place → Type 0} {before now : List ℕ} (r : Refusal) (q : Place) → refusal_in row ≡ Some r → row.refused r q → S q → now ≡ before ++ refusal_line r → Comes row S before now
-comes_refused r q e d s t = record { answer = Refused r; becomes = q; text = refusal_line r; here = (inl (e, d), refl); there = s; written = t }
+pub comes_refused : {row : Row} {S : Place → Type 0} {before now : List ℕ} (r : Refusal) (q : Place) → refusal_in row ≡ Some r → row.refused r q → S q → now ≡ before ++ refusal_line r → Comes row S before now false
+comes_refused r q e d s t = record { answer = Refused r; becomes = q; text = refusal_line r; here = (inl (e, d), refl); there = s; written = t; done = refl }
 
-pub comes_may_refuse : {row : Row} {S : Place → Type 0} {before now : List ℕ} (r : Refusal) (q : Place) → row.early ≡ None → row.may_refuse r q → S q → now ≡ before ++ refusal_line r → Comes row S before now
-comes_may_refuse r q e d s t = record { answer = Refused r; becomes = q; text = refusal_line r; here = (inr (e, d), refl); there = s; written = t }
+pub comes_may_refuse : {row : Row} {S : Place → Type 0} {before now : List ℕ} (r : Refusal) (q : Place) → row.early ≡ None → row.may_refuse r q → S q → now ≡ before ++ refusal_line r → Comes row S before now false
+comes_may_refuse r q e d s t = record { answer = Refused r; becomes = q; text = refusal_line r; here = (inr (e, d), refl); there = s; written = t; done = refl }
 
-pub comes_fault : {row : Row} {S : Place → Type 0} {before now : List ℕ} (k : ℕ) (q : Place) → row.early ≡ None → row.fault k q → S q → now ≡ before ++ fault_line row.word k → Comes row S before now
-comes_fault {row} k q e d s t = record { answer = DiskFault k; becomes = q; text = fault_line row.word k; here = (e, d, refl); there = s; written = t }
+pub comes_fault : {row : Row} {S : Place → Type 0} {before now : List ℕ} (k : ℕ) (q : Place) → row.early ≡ None → row.fault k q → S q → now ≡ before ++ fault_line row.word k → Comes row S before now false
+comes_fault {row} k q e d s t = record { answer = DiskFault k; becomes = q; text = fault_line row.word k; here = (e, d, refl); there = s; written = t; done = refl }
 
-pub comes_damaged : {row : Row} {S : Place → Type 0} {before now : List ℕ} (file offset : ℕ) (q : Place) → row.early ≡ None → row.damage file offset q → S q → now ≡ before ++ damage_line row.word file offset → Comes row S before now
-comes_damaged {row} file offset q e d s t = record { answer = NotAFile file offset; becomes = q; text = damage_line row.word file offset; here = (e, d, refl); there = s; written = t }
+pub comes_damaged : {row : Row} {S : Place → Type 0} {before now : List ℕ} (file offset : ℕ) (q : Place) → row.early ≡ None → row.damage file offset q → S q → now ≡ before ++ damage_line row.word file offset → Comes row S before now false
+comes_damaged {row} file offset q e d s t = record { answer = NotAFile file offset; becomes = q; text = damage_line row.word file offset; here = (e, d, refl); there = s; written = t; done = refl }
 
-pub comes_ran : {row : Row} {S : Place → Type 0} {before now : List ℕ} (s : Section) (q : Place) → refusal_in row ≡ None → row.ran s q → S q → now ≡ before ++ row.tells s → Comes row S before now
-comes_ran {row} s q e d at t = record { answer = Ran s; becomes = q; text = row.tells s; here = (e, d, refl); there = at; written = t }
+pub comes_ran : {row : Row} {S : Place → Type 0} {before now : List ℕ} (s : Section) (q : Place) → refusal_in row ≡ None → row.ran s q → S q → now ≡ before ++ row.tells s → Comes row S before now false
+comes_ran {row} s q e d at t = record { answer = Ran s; becomes = q; text = row.tells s; here = (e, d, refl); there = at; written = t; done = refl }
 
-pub comes_typed : {row : Row} {S : Place → Type 0} {before now : List ℕ} (bytes : List ℕ) (q : Place) → refusal_in row ≡ None → row.typed bytes q → S q → now ≡ before ++ bytes → Comes row S before now
-comes_typed bytes q e d s t = record { answer = Typed bytes; becomes = q; text = bytes; here = (e, d, refl); there = s; written = t }
+pub comes_typed : {row : Row} {S : Place → Type 0} {before now : List ℕ} (bytes : List ℕ) (q : Place) → refusal_in row ≡ None → row.typed bytes q → S q → now ≡ before ++ bytes → Comes row S before now false
+comes_typed bytes q e d s t = record { answer = Typed bytes; becomes = q; text = bytes; here = (e, d, refl); there = s; written = t; done = refl }
 
 -- the same of places that are tied otherwise
-pub comes_so : {row : Row} {S T : Place → Type 0} {before now : List ℕ} → ((q : Place) → S q → T q) → Comes row S before now → Comes row T before now
-comes_so f r = record { answer = r.answer; becomes = r.becomes; text = r.text; here = r.here; there = f r.becomes r.there; written = r.written }
+pub comes_so : {row : Row} {S T : Place → Type 0} {before now : List ℕ} {ended : Bool} → ((q : Place) → S q → T q) → Comes row S before now ended → Comes row T before now ended
+comes_so f r = record { answer = r.answer; becomes = r.becomes; text = r.text; here = r.here; there = f r.becomes r.there; written = r.written; done = r.done }
 
 -- the tests of names and states come first
 pub refused_early : (row : Row) (r : Refusal) → row.early ≡ Some r → refusal_in row ≡ Some r
@@ -70,32 +72,46 @@ not_early name a e = rw e refl
 
 -- a refusal that names and states decide, and that changes nothing
 pub refuses : (row : Place → Row) (v : View) (s : Site) (cause : Cause) (before now : List ℕ) → ((p : Place) → IsAt v s p → (row p).early ≡ refused_with s.name (Some cause)) → ((p : Place) → (row p).refused (record { site = s.name; cause = cause }) p)
-    → now ≡ before ++ line s.name (cause_text cause) → ExecutesAt row v s v s before now
+    → now ≡ before ++ line s.name (cause_text cause) → ExecutesAt row v s v s before now false
 refuses row v s cause before now e same t p h = let r : Refusal = record { site = s.name; cause = cause } in comes_refused r p (refused_early (row p) r (e p h)) (same p) h t
+
+-- What a call answered that refuses, or ends a command otherwise.
+
+pub on_not_done : {E : Type 0} (r : Result Bool E) (T : Type 0) (P : Bool → Type 0) → IfOk r (λ done. (done ≡ false) × T) → (T → P false) → IfOk r P
+on_not_done (Ok done) T P h f = subst P (sym h.0) (f h.1)
+on_not_done (Err e) T P h f = h
+
+pub on_failed : {E : Type 0} (r : Result Bool E) (new at : Site) (T : Type 0) (P : Site → Bool → Type 0) → IfOk r (λ done. (done ≡ false) × (new ≡ at) × T) → (T → P at false) → IfOk r (P new)
+on_failed (Ok done) new at T P h f = subst (λ (x : Site). P x done) (sym h.1) (subst (P at) (sym h.0) (f h.2))
+on_failed (Err e) new at T P h f = h
+
+pub on_done : {T E : Type 0} (r : Result T E) (P Q : T → Type 0) → IfOk r P → ((x : T) → P x → Q x) → IfOk r Q
+on_done (Ok x) P Q h f = f x h
+on_done (Err e) P Q h f = h
+
+-- a refusal that names and states decide, by the code's cause
+pub refuses_by : {E : Type 0} (row : Place → Row) (v : View) (s : Site) (cause : code.Cause) (before now name : List ℕ) (r : Result Bool E)
+    → ((p : Place) → IsAt v s p → (row p).early ≡ refused_with s.name (Some (cause_value cause))) → ((p : Place) → (row p).refused (record { site = s.name; cause = cause_value cause }) p)
+    → name ≡ s.name → IfOk r (λ done. (done ≡ false) × (now ≡ before ++ line name (cause_text (cause_value cause)))) → IfOk r (λ done. ExecutesAt row v s v s before now done)
+refuses_by row v s cause before now name r e same n h =
+    on_not_done r _ _ h (λ t. refuses row v s (cause_value cause) before now e same (t ∙ ap (λ (x : List ℕ). before ++ line x (cause_text (cause_value cause))) n))
+
+-- what the code's test finds the definitions' test finds
+pub why_is : (why : Option code.Cause) (cause : code.Cause) (test : Option Cause) → option_map cause_value why ≡ test → why ≡ Some cause → test ≡ Some (cause_value cause)
+why_is why cause test e is = sym e ∙ ap (option_map cause_value) is
+
+pub none_why : (why : Option code.Cause) (test : Option Cause) → option_map cause_value why ≡ test → why ≡ None → test ≡ None
+none_why why test e is = sym e ∙ ap (option_map cause_value) is
+
+-- a site that isn't anything else is down
+pub is_down : (s : State) (why : Option code.Cause) → option_map cause_value why ≡ why_not_down (state_value s) → why ≡ None → s ≡ Down
+is_down Down why e is = refl
+is_down (Failed k) why e is = let none = none_why why (Some (Stopped k)) e is in cc
+is_down (Primary r) why e is = let none = none_why why (Some Running) e is in cc
 
 -- a test of a site's state is one of its place
 pub state_at : (test : world.State → Option Cause) (v : View) (s : Site) (p : Place) → IsAt v s p → in_state test p.site ≡ test (state_value s.state)
 state_at test v s p h = ap (in_state test) h.site
-
-pub is_stopped : (s : State) (k : ℕ) → fault_of s ≡ Some k → stopped (state_value s) ≡ Some (Stopped k)
-is_stopped Down k e = cc
-is_stopped (Primary r) k e = cc
-is_stopped (Failed j) k e = cc
-
-pub not_stopped : (s : State) → fault_of s ≡ None → stopped (state_value s) ≡ None
-not_stopped Down e = refl
-not_stopped (Primary r) e = refl
-not_stopped (Failed j) e = cc
-
-pub is_not_running : (s : State) → is_down s ≡ true → not_running (state_value s) ≡ Some NotRunning
-is_not_running Down e = refl
-is_not_running (Primary r) e = cc
-is_not_running (Failed j) e = cc
-
-pub is_running : (s : State) → is_down s ≡ false → not_running (state_value s) ≡ None
-is_running Down e = cc
-is_running (Primary r) e = refl
-is_running (Failed j) e = refl
 
 pub first_cause : (a : Option Cause) (more : List (Option Cause)) (c : Cause) → a ≡ Some c → first (a ∷ more) ≡ Some c
 first_cause a more c e = rw e refl

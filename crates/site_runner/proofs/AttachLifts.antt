@@ -33,9 +33,9 @@ use Rattle.site_runner.proofs.Next.{is_slot_free, next_of_slot}
 attach_acts : {D : Type 0} (view : D → View) (slots : List (Slot D)) (i : ℕ) → first_where is_slot_free (take 8 slots) ≡ Some i → ActsBy view Attach attach slots i
 attach_acts view slots i f w h p g = means_there (refusing ATTACHING NoDisk) w (next_of w) i p (λ i p. Acts i (attach w p) apart) (next_of_slot view slots w h ∙ f) g
 
-attach_lifted : {D : Type 0} (view : D → View) (slots : List (Slot D)) (i : ℕ) (d s : Slot D) (before now : List ℕ) → i < length slots → first_where is_slot_free (take 8 slots) ≡ Some i
-    → ((w : World) → Tied view slots w → ExecutesHere view (attach w) (get_or slots i d) s before now) → Executes view Attach slots (set slots i s) before now
-attach_lifted view slots i d s before now k f x = lifted view Attach attach slots i d s before now k (attach_acts view slots i f) x
+attach_lifted : {D : Type 0} (view : D → View) (slots : List (Slot D)) (i : ℕ) (d s : Slot D) (before now : List ℕ) (done : Bool) → i < length slots → first_where is_slot_free (take 8 slots) ≡ Some i
+    → ((w : World) → Tied view slots w → ExecutesHere view (attach w) (get_or slots i d) s before now done) → Executes view Attach slots (set slots i s) before now
+attach_lifted view slots i d s before now done k f x = lifted view Attach attach slots i d s before now done k (attach_acts view slots i f) x
 
 pub attach_cut : {D : Type 0} (view : D → View) (slots : List (Slot D)) (i : ℕ) (d s : Slot D) (found : Result (Option Layout) SiteError) → i < length slots → first_where is_slot_free (take 8 slots) ≡ Some i
     → LooksHere view (get_or slots i d) s found → IsCutOff view Attach slots (set slots i s)
@@ -52,13 +52,13 @@ attach_not_begun view slots = cut_nothing view slots Attach (λ w. cut_there (re
 -- the look failed
 pub attach_failed : {D : Type 0} (view : D → View) (slots : List (Slot D)) (i : ℕ) (d s : Slot D) (e : SiteError) (before now : List ℕ) → i < length slots → first_where is_slot_free (take 8 slots) ≡ Some i
     → LooksHere view (get_or slots i d) s (Err e) → Tells e ATTACHING before now → Executes view Attach slots (set slots i s) before now
-attach_failed view slots i d s (Failed fault) before now k f look t = attach_lifted view slots i d s before now k f (λ w h p at_p. let r = look p at_p in comes_fault fault r.0 refl r.1 r.2 t)
+attach_failed view slots i d s (Failed fault) before now k f look t = attach_lifted view slots i d s before now false k f (λ w h p at_p. let r = look p at_p in comes_fault fault r.0 refl r.1 r.2 t)
 attach_failed view slots i d s (Stopped fault) before now k f look t = absurd t
 attach_failed view slots i d s (Full nodes) before now k f look t = absurd t
 attach_failed view slots i d s SeqLimit before now k f look t = absurd t
 attach_failed view slots i d s GenLimit before now k f look t = absurd t
 attach_failed view slots i d s ReignLimit before now k f look t = absurd t
-attach_failed view slots i d s (NotAFile file offset) before now k f look t = attach_lifted view slots i d s before now k f (λ w h p at_p. let r = look p at_p in comes_damaged file offset r.0 refl r.1 r.2 t)
+attach_failed view slots i d s (NotAFile file offset) before now k f look t = attach_lifted view slots i d s before now false k f (λ w h p at_p. let r = look p at_p in comes_damaged file offset r.0 refl r.1 r.2 t)
 attach_failed view slots i d s NoMemory before now k f look t = absurd t
 
 no_records : (rs : List InstanceRecord) → not (nat_lt 0 (length rs)) ≡ true → rs ≡ []
@@ -69,7 +69,7 @@ no_records (r ∷ rs) e = let some : nat_lt 0 (length (r ∷ rs)) ≡ true = lt-
 pub attach_empty : {D : Type 0} (view : D → View) (slots : List (Slot D)) (i : ℕ) (d s : Slot D) (before now : List ℕ) → i < length slots → first_where is_slot_free (take 8 slots) ≡ Some i
     → LooksHere view (get_or slots i d) s (Ok None) → now ≡ before ++ line ATTACHING (codes "EMPTY") → Executes view Attach slots (set slots i s) before now
 attach_empty view slots i d s before now k f look t =
-    attach_lifted view slots i d s before now k f (λ w h p at_p. let r = look p at_p in elim (is_true_or_false p.told) [
+    attach_lifted view slots i d s before now false k f (λ w h p at_p. let r = look p at_p in elim (is_true_or_false p.told) [
       | inl known ↦ comes_refused (record { site = ATTACHING; cause = Empty }) r.0 (rw (known, no_records p.now.instance (r.1.now known)) refl) r.1.kept r.2 t
       | inr not ↦ comes_may_refuse (record { site = ATTACHING; cause = Empty }) r.0 refl (inl refl, record { unknown = not; kept = r.1.kept }) r.2 t
     ])
@@ -91,7 +91,7 @@ there_is None k e n = cc
 there_is (Some j) k e n = cc
 
 refused_exists : {D : Type 0} (view : D → View) (w : World) (p q : Place) (k : ℕ) (found : Layout) (new : Slot D) (before now : List ℕ) → Finds (Some found) p q → place_of w found.name ≡ Some k → IsPlace view new q
-    → now ≡ before ++ line found.name (codes "EXISTS") → Comes (attach w p) (IsPlace view new) before now
+    → now ≡ before ++ line found.name (codes "EXISTS") → Comes (attach w p) (IsPlace view new) before now false
 refused_exists view w p q k found new before now f e at_q t = elim (is_true_or_false p.told) [
   | inl known ↦ comes_refused (record { site = found.name; cause = Exists }) q (attached_at w p q found known f ∙ ap (λ (o : Option ℕ). refused_with found.name (caused (is_some o) Exists)) e) f.kept at_q t
   | inr not ↦ comes_may_refuse (record { site = found.name; cause = Exists }) q refl (inr (refl, there_is (place_of w found.name) k e), record { unknown = not; kept = f.kept }) at_q t
@@ -119,7 +119,7 @@ item_set (x ∷ xs) zero s k = refl
 item_set (x ∷ xs) (suc i) s k = item_set xs i s (omega arith)
 
 attached : {D : Type 0} (view : D → View) (w : World) (p q : Place) (found : Layout) (s : Slot D) (before now : List ℕ) → Finds (Some found) p q → place_of w found.name ≡ None → IsPlace view s q
-    → now ≡ before ++ line found.name (codes "ATTACHED") → Comes (attach w p) (IsPlace view (with_site found.name s)) before now
+    → now ≡ before ++ line found.name (codes "ATTACHED") → Comes (attach w p) (IsPlace view (with_site found.name s)) before now true
 attached view w p q found s before now f e at_q t =
     let name = found.name in
     let site : world.Site = record { name = name; state = world.Down } in
@@ -154,12 +154,12 @@ attach_found {D} view slots new i d s found None before now k f free free_still 
     let new_is : new ≡ set slots i (with_site found.name s) = t.0 s (item_set slots i s k) ∙ set-set slots i s (with_site found.name s) in
     let search = sym (names_stay found.name slots i d s free free_still) ∙ e in
     subst (λ (x : List (Slot D)). Executes view Attach slots x before now) (sym new_is)
-    (attach_lifted view slots i d (with_site found.name s) before now k f (λ w h p at_p.
+    (attach_lifted view slots i d (with_site found.name s) before now true k f (λ w h p at_p.
     let r = look p at_p in
     attached view w p r.0 found s before now r.1 (place_of_slot view slots w found.name h ∙ search) r.2 t.1))
 attach_found {D} view slots new i d s found (Some j) before now k f free free_still look e t =
     let search = sym (names_stay found.name slots i d s free free_still) ∙ e in
     subst (λ (x : List (Slot D)). Executes view Attach slots x before now) (sym t.0)
-    (attach_lifted view slots i d s before now k f (λ w h p at_p.
+    (attach_lifted view slots i d s before now false k f (λ w h p at_p.
     let r = look p at_p in
     refused_exists view w p r.0 j found s before now r.1 (place_of_slot view slots w found.name h ∙ search) r.2 t.1))

@@ -8,7 +8,7 @@ use Rattle.site_defs.specs.Lists.{Among}
 use Rattle.world_defs.specs.World as world
 use Rattle.world_defs.specs.World.{Place}
 use Rattle.site_defs.specs.Contents.{Contents, Leftover}
-use Rattle.world_defs.specs.Answers.{Stopped, NotRunning, NotSimulated, line}
+use Rattle.world_defs.specs.Answers.{Cause, NotSimulated, line}
 use Rattle.world_defs.specs.Row.{refused_with, stopped, not_running, not_simulated}
 use Rattle.world_defs.specs.Changes.{in_new_state}
 use Rattle.world_defs.specs.rows.Crash.{crash}
@@ -18,25 +18,25 @@ use Rattle.site_defs.specs.Stands as stands
 use Rattle.site_defs.specs.Stands.{Stands}
 use Rattle.site_runner.specs.declared.slot.State.TheVariants.{Down}
 use Rattle.site_runner.specs.declared.slot.Site.{Site}
-use Rattle.site_runner.specs.Sites.{is_down, fault_of, IsOf}
+use Rattle.site_runner.specs.Sites.{state_value, IsOf}
 use Rattle.site_runner.specs.Steps.{IsAt, ExecutesAt}
 use Rattle.site_runner.proofs.Fused.{state_read}
-use Rattle.site_runner.proofs.Ats.{comes_done, not_early, refuses, state_at, is_stopped, not_stopped, is_not_running, is_running, first_cause, second_cause, no_cause, is_true_or_false, Leftovers, reads_stand, only, files_of, kept_same}
+use Rattle.site_runner.proofs.Ats.{comes_done, not_early, state_at, first_cause, second_cause, no_cause, is_true_or_false, Leftovers, reads_stand, only, files_of, kept_same}
 
-pub fuse_stopped : (v : View) (s : Site) (calls k : ℕ) (before now : List ℕ) → fault_of s.state ≡ Some k → now ≡ before ++ line s.name (codes "STOPPED " ++ decimal k) → ExecutesAt (fuse calls s.name) v s v s before now
-fuse_stopped v s calls k before now e t = refuses (fuse calls s.name) v s (Stopped k) before now (λ p h. ap (refused_with s.name) (first_cause _ _ (Stopped k) (state_at stopped v s p h ∙ is_stopped s.state k e))) kept_same t
+pub fuse_stopped : (v : View) (s : Site) (calls : ℕ) (cause : Cause) (p : Place) → stopped (state_value s.state) ≡ Some cause → IsAt v s p → (fuse calls s.name p).early ≡ refused_with s.name (Some cause)
+fuse_stopped v s calls cause p e h = ap (refused_with s.name) (first_cause _ _ cause (state_at stopped v s p h ∙ e))
 
 simulated_at : (v : View) (s : Site) (p : Place) (b : Bool) → IsAt v s p → b ≡ v.simulated → not_simulated p.simulated ≡ not_simulated b
 simulated_at v s p b h e = ap not_simulated (sym h.disk.simulated ∙ sym e)
 
-pub fuse_real : (v : View) (s : Site) (calls : ℕ) (before now : List ℕ) → fault_of s.state ≡ None → false ≡ v.simulated → now ≡ before ++ line s.name (codes "NOTSIMULATED") → ExecutesAt (fuse calls s.name) v s v s before now
-fuse_real v s calls before now e f t = refuses (fuse calls s.name) v s NotSimulated before now (λ p h. ap (refused_with s.name) (second_cause _ _ [] NotSimulated (state_at stopped v s p h ∙ not_stopped s.state e) (simulated_at v s p false h f))) kept_same t
+pub fuse_real : (v : View) (s : Site) (calls : ℕ) (p : Place) → stopped (state_value s.state) ≡ None → false ≡ v.simulated → IsAt v s p → (fuse calls s.name p).early ≡ refused_with s.name (Some NotSimulated)
+fuse_real v s calls p e f h = ap (refused_with s.name) (second_cause _ _ [] NotSimulated (state_at stopped v s p h ∙ e) (simulated_at v s p false h f))
 
-pub crash_down : (v : View) (s : Site) (pick : ℕ) (before now : List ℕ) → is_down s.state ≡ true → now ≡ before ++ line s.name (codes "NOTRUNNING") → ExecutesAt (crash s.name) v s v s before now
-crash_down v s pick before now e t = refuses (crash s.name) v s NotRunning before now (λ p h. ap (refused_with s.name) (first_cause _ _ NotRunning (state_at not_running v s p h ∙ is_not_running s.state e))) kept_same t
+pub crash_down : (v : View) (s : Site) (cause : Cause) (p : Place) → not_running (state_value s.state) ≡ Some cause → IsAt v s p → (crash s.name p).early ≡ refused_with s.name (Some cause)
+crash_down v s cause p e h = ap (refused_with s.name) (first_cause _ _ cause (state_at not_running v s p h ∙ e))
 
-pub crash_real : (v : View) (s : Site) (pick : ℕ) (before now : List ℕ) → is_down s.state ≡ false → false ≡ v.simulated → now ≡ before ++ line s.name (codes "NOTSIMULATED") → ExecutesAt (crash s.name) v s v s before now
-crash_real v s pick before now e f t = refuses (crash s.name) v s NotSimulated before now (λ p h. ap (refused_with s.name) (second_cause _ _ [] NotSimulated (state_at not_running v s p h ∙ is_running s.state e) (simulated_at v s p false h f))) kept_same t
+pub crash_real : (v : View) (s : Site) (p : Place) → not_running (state_value s.state) ≡ None → false ≡ v.simulated → IsAt v s p → (crash s.name p).early ≡ refused_with s.name (Some NotSimulated)
+crash_real v s p e f h = ap (refused_with s.name) (second_cause _ _ [] NotSimulated (state_at not_running v s p h ∙ e) (simulated_at v s p false h f))
 
 -- what a disk that crashed reads as
 record CrashPlace (f : Files) (p : Place) : Type 0 where
@@ -61,10 +61,10 @@ crash_place leftovers f p images = elim (is_true_or_false p.told) [
   }
 ]
 
-pub crashes : (leftovers : Leftovers) (v w : View) (s : Site) (pick : ℕ) (before now : List ℕ) → IsLawful w → true ≡ v.simulated → is_down s.state ≡ false → IfSome w.content (Image v)
+pub crashes : (leftovers : Leftovers) (v w : View) (s : Site) (before now : List ℕ) → IsLawful w → true ≡ v.simulated → not_running (state_value s.state) ≡ None → IfSome w.content (Image v)
     → IfSome w.content (λ files. (c : Files) → Image w c → c ≡ files) → w.simulated ≡ v.simulated → w.faults ≡ v.faults → now ≡ before ++ line s.name (codes "CRASHED")
-    → ExecutesAt (crash s.name) v s w (record { name = s.name; state = Down }) before now
-crashes leftovers v w s pick before now law sim up image durable same count t p h =
+    → ExecutesAt (crash s.name) v s w (record { name = s.name; state = Down }) before now true
+crashes leftovers v w s before now law sim up image durable same count t p h =
     let d = files_of w.content (law.told (same ∙ sym sim)) in
     let f : Files = d.0 in
     let i : Image v f = subst (λ (o : Option Files). IfSome o (Image v)) d.1 image in
@@ -74,7 +74,7 @@ crashes leftovers v w s pick before now law sim up image durable same count t p 
     let q : Place = record { site = in_new_state world.Down p.site; told = p.told; now = o; left = m.left; outcomes = o ∷ []; faults = p.faults; simulated = p.simulated } in
     comes_done
     q
-    (not_early s.name _ (no_cause _ _ (state_at not_running v s p h ∙ is_running s.state up) (simulated_at v s p true h sim)))
+    (not_early s.name _ (no_cause _ _ (state_at not_running v s p h ∙ up) (simulated_at v s p true h sim)))
     (record { site = refl; told = refl; chosen = m.among; left = m.behind; outcomes = refl; faults = omega arith; simulated = refl })
     (
     record {
@@ -97,12 +97,12 @@ crashes leftovers v w s pick before now law sim up image durable same count t p 
     t
 
 -- a call that reads leaves a site as it is
-pub fused : (v w : View) (s : Site) (calls : ℕ) (before now : List ℕ) → Reads v w → w.faults ≡ v.faults → true ≡ v.simulated → fault_of s.state ≡ None
-    → now ≡ before ++ line s.name (codes "FUSED " ++ decimal calls) → ExecutesAt (fuse calls s.name) v s w s before now
+pub fused : (v w : View) (s : Site) (calls : ℕ) (before now : List ℕ) → Reads v w → w.faults ≡ v.faults → true ≡ v.simulated → stopped (state_value s.state) ≡ None
+    → now ≡ before ++ line s.name (codes "FUSED " ++ decimal calls) → ExecutesAt (fuse calls s.name) v s w s before now true
 fused v w s calls before now r count sim up t p h =
     comes_done
     p
-    (not_early s.name _ (no_cause _ _ (state_at stopped v s p h ∙ not_stopped s.state up) (simulated_at v s p true h sim)))
+    (not_early s.name _ (no_cause _ _ (state_at stopped v s p h ∙ up) (simulated_at v s p true h sim)))
     (kept_same p)
     (
     record {

@@ -1,5 +1,5 @@
 -- CREATE in the world.
-use Rattle.std.proofs.Common.{◌≡◌, ℕ, ◌<◌, List, ◌++◌, length, get_or, set, take, None, Some, ◌∙◌}
+use Rattle.std.proofs.Common.{◌≡◌, ℕ, ◌<◌, Bool, List, ◌++◌, length, get_or, set, take, None, Some, ◌∙◌}
 use Rattle.std.specs.Prelude.{codes}
 use Rattle.disk_defs.specs.Disk.{View}
 use Rattle.site_defs.specs.Lists.{first_where}
@@ -21,9 +21,9 @@ module _ {D : Type 0} (view : D → View) (name : Name) (regions : List Region) 
       ∙ means_there (refusing name NoDisk) w (next_of w) i p (λ i p. Acts i (create regions name p) apart) (next_of_slot view slots w h ∙ f) g
 
   -- a making on the next slot is one on the slots
-  pub create_lifted : (i : ℕ) (d s : Slot D) (before now : List ℕ) → i < length slots → first_where (is_slot_named name) slots ≡ None → first_where is_slot_free (take 8 slots) ≡ Some i
-      → ExecutesHere view (create regions name) (get_or slots i d) s before now → Executes view (Create name regions) slots (set slots i s) before now
-  create_lifted i d s before now k n f x = lifted view (Create name regions) (λ w. create regions name) slots i d s before now k (create_acts i n f) (λ w h. x)
+  pub create_lifted : (i : ℕ) (d s : Slot D) (before now : List ℕ) (done : Bool) → i < length slots → first_where (is_slot_named name) slots ≡ None → first_where is_slot_free (take 8 slots) ≡ Some i
+      → ExecutesHere view (create regions name) (get_or slots i d) s before now done → Executes view (Create name regions) slots (set slots i s) before now
+  create_lifted i d s before now done k n f x = lifted view (Create name regions) (λ w. create regions name) slots i d s before now done k (create_acts i n f) (λ w h. x)
 
   pub create_cut : (i : ℕ) (d s : Slot D) → i < length slots → first_where (is_slot_named name) slots ≡ None → first_where is_slot_free (take 8 slots) ≡ Some i
       → IsCutHere view (create regions name) (get_or slots i d) s → IsCutOff view (Create name regions) slots (set slots i s)

@@ -90,7 +90,7 @@ pub made_site : {D : Type 0} (leftovers : Leftovers) (view : D → View) (old : 
     → IfSome (view old.disk).content (λ files. IsBlank files → IfSome (view disk).content (λ new. IsSite new (made name specs)))
     → IfSome (view old.disk).content (λ files. IsBlank files → ((f : Files) → Image (view old.disk) f → IsBlank f) → (f : Files) → Image (view disk) f → IsSite f (made name specs))
     → (IsSome (view old.disk).content → IsSome (view disk).content) → (view disk).simulated ≡ (view old.disk).simulated → (view old.disk).faults ≤ (view disk).faults → now ≡ before ++ line name (codes "CREATED")
-    → MakesHere view name (map script.region_value rs) old (record { disk = disk; site = Some (record { name = name; state = Down }) }) before now
+    → MakesHere view name (map script.region_value rs) old (record { disk = disk; site = Some (record { name = name; state = Down }) }) before now true
 made_site leftovers view old disk name specs rs before now are free reads images still same later t p h u =
     let v = view old.disk in
     let w = view disk in
@@ -168,7 +168,7 @@ unwritten v w r (NotAFile file offset) is count cause other = other file offset 
 unwritten v w r NoMemory is count cause other = tt
 
 pub make_failed : {D : Type 0} (leftovers : Leftovers) (view : D → View) (old : Slot D) (disk : D) (name : List ℕ) (specs : List RegionSpec) (rs : List (List ℕ × Bool)) (e : SiteError) (before now : List ℕ) → IsMaking (view old.disk) (view disk) name specs
-    → specs ≡ map spec_of rs → old.site ≡ None → Unwritten e (view old.disk) (view disk) → Tells e name before now → MakesHere view name (map script.region_value rs) old (record { disk = disk; site = old.site }) before now
+    → specs ≡ map spec_of rs → old.site ≡ None → Unwritten e (view old.disk) (view disk) → Tells e name before now → MakesHere view name (map script.region_value rs) old (record { disk = disk; site = old.site }) before now false
 make_failed leftovers view old disk name specs rs (Failed fault) before now k are free f t p h u =
     let w = view disk in
     let regions = map script.region_value rs in
@@ -210,7 +210,7 @@ make_not_begun view old name regions p h u = (p, record { told = refl; outcomes 
 
 -- the command
 
-pub create_failed : {D : Type 0} (view : D → View) (old new : Slot D) (name : List ℕ) (regions : List Region) (e : SiteError) (before now : List ℕ) → LooksHere view old new (Err e) → Tells e name before now → ExecutesHere view (create regions name) old new before now
+pub create_failed : {D : Type 0} (view : D → View) (old new : Slot D) (name : List ℕ) (regions : List Region) (e : SiteError) (before now : List ℕ) → LooksHere view old new (Err e) → Tells e name before now → ExecutesHere view (create regions name) old new before now false
 create_failed view old new name regions (Failed fault) before now look t p h =
     let r = look p h in
     comes_fault fault r.0 refl (record {
@@ -235,7 +235,7 @@ create_failed view old new name regions NoMemory before now look t p h = absurd 
 
 -- a site was made there
 pub create_refused : {D : Type 0} (view : D → View) (old new : Slot D) (name : List ℕ) (regions : List Region) (found : Layout) (before now : List ℕ) → LooksHere view old new (Ok (Some found)) → now ≡ before ++ line name (codes "NOTEMPTY")
-    → ExecutesHere view (create regions name) old new before now
+    → ExecutesHere view (create regions name) old new before now false
 create_refused view old new name regions found before now look t p h =
     let r = look p h in
     let made_there : p.told ≡ true → is_made p.now ≡ true = λ known. (and_parts (is_made p.now) (same_name (site_name p.now.instance) found.name) (r.1.now known)).0 in
@@ -313,12 +313,12 @@ here_behind regions name p m (Ran s) q t k h = absurd h.1
 here_behind regions name p m (Typed bytes) q t k h = absurd h.1
 
 -- no site was made there
-pub create_made : {D : Type 0} (view : D → View) (old mid new : Slot D) (name : List ℕ) (regions : List Region) (before now : List ℕ) → LooksHere view old mid (Ok None) → MakesHere view name regions mid new before now
-    → ExecutesHere view (create regions name) old new before now
-create_made view old mid new name regions before now look make p h =
+pub create_made : {D : Type 0} (view : D → View) (old mid new : Slot D) (name : List ℕ) (regions : List Region) (before now : List ℕ) (done : Bool) → LooksHere view old mid (Ok None) → MakesHere view name regions mid new before now done
+    → ExecutesHere view (create regions name) old new before now done
+create_made view old mid new name regions before now done look make p h =
     let l = look p h in
     let r = make l.0 l.2 (found_none p l.0 l.1) in
-    record { answer = r.answer; becomes = r.becomes; text = r.text; here = here_behind regions name p l.0 r.answer r.becomes r.text l.1.kept r.here; there = r.there; written = r.written }
+    record { answer = r.answer; becomes = r.becomes; text = r.text; here = here_behind regions name p l.0 r.answer r.becomes r.text l.1.kept r.here; there = r.there; written = r.written; done = r.done }
 
 pub create_made_cut : {D : Type 0} (view : D → View) (old mid new : Slot D) (name : List ℕ) (regions : List Region) → LooksHere view old mid (Ok None) → MakingIsCut view name regions mid new → IsCutHere view (create regions name) old new
 create_made_cut view old mid new name regions look cut p h =

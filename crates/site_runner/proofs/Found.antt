@@ -101,12 +101,12 @@ free_in (Some f) region number text found h none inside e once = λ c site. free
 
 -- The refusals.
 
-pub found_started : (region : Name) (text : List ℕ) (w : View) (s : Site) (found : Layout) (before now : List ℕ) → FoundIn w.content (Some found) → 0 < found.generation → now ≡ before ++ line s.name (codes "STARTED") → MapsAt region text w s w s before now
+pub found_started : (region : Name) (text : List ℕ) (w : View) (s : Site) (found : Layout) (before now : List ℕ) → FoundIn w.content (Some found) → 0 < found.generation → now ≡ before ++ line s.name (codes "STARTED") → MapsAt region text w s w s before now false
 found_started region text w s found before now f some t p h =
     map_refused region text w s Started before now (inl refl) t p h (λ sure. refused_started region text p sure (subst (λ (n : ℕ). 0 < n) (layout_at w s p found f h sure).generation some))
 
 pub found_no_region : (region : Name) (text : List ℕ) (w : View) (s : Site) (found : Layout) (before now : List ℕ) → FoundIn w.content (Some found) → found.generation ≡ 0
-    → None ≡ first_where (λ r. same_name r.name region) (map region_value (take found.directory.regions found.regions.items)) → now ≡ before ++ line s.name (codes "NOREGION " ++ region) → MapsAt region text w s w s before now
+    → None ≡ first_where (λ r. same_name r.name region) (map region_value (take found.directory.regions found.regions.items)) → now ≡ before ++ line s.name (codes "NOREGION " ++ region) → MapsAt region text w s w s before now false
 found_no_region region text w s found before now f none e t p h =
     map_refused region text w s (NoRegion region) before now (inr (inl refl)) t p h (λ sure.
     let l = layout_at w s p found f h sure in
@@ -114,12 +114,8 @@ found_no_region region text w s found before now f none e t p h =
 
 pub found_twice : (region : Name) (text : List ℕ) (w : View) (s : Site) (found : Layout) (number : ℕ) (before now : List ℕ) → FoundIn w.content (Some found) → found.generation ≡ 0
     → Some number ≡ first_where (λ r. same_name r.name region) (map region_value (take found.directory.regions found.regions.items)) → is_mapped found.directory.patterns (ends_in_star text) (stem text) ≡ true
-    → now ≡ before ++ line s.name (codes "TWICEMAPPED") → MapsAt region text w s w s before now
+    → now ≡ before ++ line s.name (codes "TWICEMAPPED") → MapsAt region text w s w s before now false
 found_twice region text w s found number before now f none e twice t p h =
     map_refused region text w s TwiceMapped before now (inr (inr refl)) t p h (λ sure.
     let l = layout_at w s p found f h sure in
     refused_twice region text p number sure (sym l.generation ∙ none) (number_found region p.now found (Some number) l e) (twice_found text p.now found l twice))
-
--- the line of a region that the site doesn't have, under the names that were asked for
-pub region_word : {name n region r now : List ℕ} (before : List ℕ) → n ≡ name → r ≡ region → now ≡ before ++ line n (codes "NOREGION " ++ r) → now ≡ before ++ line name (codes "NOREGION " ++ region)
-region_word {name} {n} {region} {r} {now} before e f t = t ∙ ap (λ (x : List ℕ). before ++ line x (codes "NOREGION " ++ r)) e ∙ ap (λ (x : List ℕ). before ++ line name (codes "NOREGION " ++ x)) f

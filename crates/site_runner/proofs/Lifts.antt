@@ -87,9 +87,9 @@ module _ {D : Type 0} (view : D → View) (S : Slot D → Place → Type 0) (Q :
 abbrev pub ActsBy : {D : Type 0} → (D → View) → Command → (World → Place → Row) → List (Slot D) → ℕ → Type 1
 ActsBy view c row slots i = (w : World) → Tied view slots w → (p : Place) → slice_get w.places i ≡ Some p → meaning w c ≡ Acts i (row w p) apart
 
-pub lifted : {D : Type 0} (view : D → View) (c : Command) (row : World → Place → Row) (slots : List (Slot D)) (i : ℕ) (d s : Slot D) (before now : List ℕ) → i < length slots → ActsBy view c row slots i
-    → ((w : World) → Tied view slots w → ExecutesHere view (row w) (get_or slots i d) s before now) → Executes view c slots (set slots i s) before now
-lifted view c row slots i d s before now k is x w h =
+pub lifted : {D : Type 0} (view : D → View) (c : Command) (row : World → Place → Row) (slots : List (Slot D)) (i : ℕ) (d s : Slot D) (before now : List ℕ) (done : Bool) → i < length slots → ActsBy view c row slots i
+    → ((w : World) → Tied view slots w → ExecutesHere view (row w) (get_or slots i d) s before now done) → Executes view c slots (set slots i s) before now
+lifted view c row slots i d s before now done k is x w h =
     let p = place_there view i slots w.places d k h in
     let r = x w h p.0 p.2 in
     let m = builds.lifted (IsPlace view) (IsPlace view) i (row w p.0) apart r.answer r.becomes r.text slots (set slots i s) w h r.here (at_others view (IsPlace view) Kept (λ y z g. (kept_same z, g)) i slots s r.becomes k r.there) in
@@ -153,9 +153,9 @@ module _ {D : Type 0} (view : D → View) (c : Command) (slots : List (Slot D)) 
   named_acts : (i : ℕ) → first_where (is_slot_named (name_in c)) slots ≡ Some i → ActsBy view c (λ w. row_in c) slots i
   named_acts i f w h p g = on_means (target c) w i p n (place_of_slot view slots w (name_in c) h ∙ f) g
 
-  pub named_lifted : (i : ℕ) (d s : Slot D) (before now : List ℕ) → i < length slots → first_where (is_slot_named (name_in c)) slots ≡ Some i → ExecutesHere view (row_in c) (get_or slots i d) s before now
+  pub named_lifted : (i : ℕ) (d s : Slot D) (before now : List ℕ) (done : Bool) → i < length slots → first_where (is_slot_named (name_in c)) slots ≡ Some i → ExecutesHere view (row_in c) (get_or slots i d) s before now done
       → Executes view c slots (set slots i s) before now
-  named_lifted i d s before now k f x = lifted view c (λ w. row_in c) slots i d s before now k (named_acts i f) (λ w h. x)
+  named_lifted i d s before now done k f x = lifted view c (λ w. row_in c) slots i d s before now done k (named_acts i f) (λ w h. x)
 
   pub named_cut : (i : ℕ) (d s : Slot D) → i < length slots → first_where (is_slot_named (name_in c)) slots ≡ Some i → IsCutHere view (row_in c) (get_or slots i d) s → IsCutOff view c slots (set slots i s)
   named_cut i d s k f x = lifted_cut view c (λ w. row_in c) slots i d s k (named_acts i f) (λ w. x)

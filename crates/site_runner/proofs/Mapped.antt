@@ -1,5 +1,5 @@
 -- MAP at a place.
-use Rattle.std.proofs.Common.{◌≡◌, ℕ, ◌≤◌, true, false, List, [], ◌∷◌, ◌++◌, None, Some, refl, sym, ◌∙◌, ap, subst, arith, inl, inr}
+use Rattle.std.proofs.Common.{◌≡◌, ℕ, ◌≤◌, true, false, List, [], ◌∷◌, ◌++◌, None, Some, refl, sym, ◌∙◌, ap, subst, arith, inl, inr, Bool}
 use Rattle.std.specs.Prelude.{Option, codes, IfSome, IsSome, IsSomeAnd}
 use Rattle.std.specs.Fmt.{decimal}
 use Rattle.std.proofs.lemmas.Bool.{false≢true}
@@ -28,18 +28,13 @@ use Rattle.site_runner.specs.Sites.{state_value, site_value, HoldsState, IsOf, I
 use Rattle.site_runner.specs.Executes.{Comes}
 use Rattle.site_runner.specs.Steps.{IsAt, ExecutesAt, IsCutAt}
 use Rattle.site_runner.specs.Mapping.{IsSeenAt, IsUnmappedIn, MapsAt, IsCutSeen}
-use Rattle.site_runner.proofs.Ats.{comes_done, comes_refused, comes_may_refuse, comes_fault, comes_damaged, refused_late, none_refused, refuses, kept_same, not_true, is_true_or_false, some_both, some_of, some_and, told_is, reads_stand, reads_site, at_moment, Leftovers, ReadPlace, place_of_images, only}
+use Rattle.site_runner.proofs.Ats.{comes_done, comes_refused, comes_may_refuse, comes_fault, comes_damaged, refused_late, none_refused, state_at, not_true, is_true_or_false, some_both, some_of, some_and, told_is, reads_stand, reads_site, at_moment, Leftovers, ReadPlace, place_of_images, only}
 use Rattle.site_runner.proofs.Seen.{counted, kept_counted}
 use Rattle.site_runner.proofs.Started.{why_at}
 use Rattle.site_runner.proofs.Patterns.{maps, among_maps, maps_among, of_pattern, of_may_map, generation_map, unmapped_unknown, not_refused}
 
-pub map_failed_before : (v : View) (s : Site) (region : Name) (text : List ℕ) (k : ℕ) (before now : List ℕ) → s.state ≡ Failed k → now ≡ before ++ line s.name (codes "STOPPED " ++ decimal k) → ExecutesAt (map_pattern region text s.name) v s v s before now
-map_failed_before v s region text k before now e t =
-    refuses (map_pattern region text s.name) v s (Stopped k) before now (λ p h. ap (refused_with s.name) (why_at s (Failed k) p e h.site)) kept_same t
-
-pub map_running : (v : View) (s : Site) (region : Name) (text : List ℕ) (r : Reign) (before now : List ℕ) → s.state ≡ Primary r → now ≡ before ++ line s.name (codes "RUNNING") → ExecutesAt (map_pattern region text s.name) v s v s before now
-map_running v s region text r before now e t =
-    refuses (map_pattern region text s.name) v s Running before now (λ p h. ap (refused_with s.name) (why_at s (Primary r) p e h.site)) kept_same t
+pub map_not_down : (v : View) (s : Site) (region : Name) (text : List ℕ) (cause : Cause) (p : Place) → why_not_down (state_value s.state) ≡ Some cause → IsAt v s p → (map_pattern region text s.name p).early ≡ refused_with s.name (Some cause)
+map_not_down v s region text cause p e h = ap (refused_with s.name) (state_at why_not_down v s p h ∙ e)
 
 -- the tests of a site that is down
 
@@ -100,12 +95,12 @@ seen_counted w s p h = record {
 }
 
 -- what MAP answers from a place
-abbrev pub Answers : Name → List ℕ → View → Site → Place → Site → List ℕ → List ℕ → Type 0
-Answers region text w s p new before now = Comes (map_pattern region text s.name p) (IsAt w new) before now
+abbrev pub Answers : Name → List ℕ → View → Site → Place → Site → List ℕ → List ℕ → Bool → Type 0
+Answers region text w s p new before now done = Comes (map_pattern region text s.name p) (IsAt w new) before now done
 
 -- a refusal
 pub map_refused : (region : Name) (text : List ℕ) (w : View) (s : Site) (cause : Cause) (before now : List ℕ) → IsUnmapped region cause → now ≡ before ++ line s.name (cause_text cause)
-    → (p : Place) → IsSeenAt w s p → (p.told ≡ true → unmapped region text p ≡ Some cause) → Answers region text w s p s before now
+    → (p : Place) → IsSeenAt w s p → (p.told ≡ true → unmapped region text p ≡ Some cause) → Answers region text w s p s before now false
 map_refused region text w s cause before now un t p h why = elim (is_true_or_false p.told) [
   | inl sure ↦ comes_refused no (counted p w.faults) (refused_late s.name (in_state why_not_down p.site) (unmapped region text p) cause (why_at s Down p h.down h.site) (why sure)) (kept_counted p w.faults h.faults) (seen_counted w s p h) t
   | inr unsure ↦ comes_may_refuse no (counted p w.faults) (early_down s p h.down h.site) (refl, un, record { unknown = unsure; kept = kept_counted p w.faults h.faults }) (seen_counted w s p h) t
@@ -116,13 +111,13 @@ map_refused region text w s cause before now un t p h why = elim (is_true_or_fal
 
 -- bytes outside the formats, which no known files have
 damaged : (region : Name) (text : List ℕ) (w : View) (s : Site) (file offset : ℕ) (before now : List ℕ) → now ≡ before ++ line s.name (codes "NOTAFILE " ++ decimal file ++ 32 ∷ decimal offset)
-    → (p : Place) → p.told ≡ false → IsSeenAt w s p → Answers region text w s p s before now
+    → (p : Place) → p.told ≡ false → IsSeenAt w s p → Answers region text w s p s before now false
 damaged region text w s file offset before now t p unsure h =
     comes_damaged file offset (counted p w.faults) (early_down s p h.down h.site) (record { unknown = unsure; kept = kept_counted p w.faults h.faults }) (seen_counted w s p h) t
 
 -- the look found bytes that stand for nothing, or no site
 pub look_damaged : (region : Name) (text : List ℕ) (v w : View) (s : Site) (file offset : ℕ) (before now : List ℕ) → Looked v w → s.state ≡ Down → now ≡ before ++ line s.name (codes "NOTAFILE " ++ decimal file ++ 32 ∷ decimal offset)
-    → IfSome v.content (λ files. (c : Contents) → IsSite files c → ⊥) → ExecutesAt (map_pattern region text s.name) v s w s before now
+    → IfSome v.content (λ files. (c : Contents) → IsSite files c → ⊥) → ExecutesAt (map_pattern region text s.name) v s w s before now false
 look_damaged region text v w s file offset before now k down t outside p h =
     let unsure : p.told ≡ false = not_true p.told (λ sure.
     let here = some_both v.content _ _ (h.disk.told sure) outside in
@@ -131,7 +126,7 @@ look_damaged region text v w s file offset before now k down t outside p h =
 
 -- another site was found, which no known files tell
 pub seen_other : (region : Name) (text : List ℕ) (w : View) (s : Site) (file offset : ℕ) (before now : List ℕ) → now ≡ before ++ line s.name (codes "NOTAFILE " ++ decimal file ++ 32 ∷ decimal offset)
-    → IfSome w.content (λ files. (c : Contents) → IsSite files c → IsOf s.name c → ⊥) → MapsAt region text w s w s before now
+    → IfSome w.content (λ files. (c : Contents) → IsSite files c → IsOf s.name c → ⊥) → MapsAt region text w s w s before now false
 seen_other region text w s file offset before now t other p h =
     damaged region text w s file offset before now t p (not_true p.told (λ sure.
     let here = some_both w.content _ _ (h.reads sure) other in
@@ -155,7 +150,7 @@ map_cut leftovers region text w s p law b =
     (record { site = p.site; told = p.told; now = m.now; left = m.left; outcomes = maps region text p.outcomes; faults = w.faults; simulated = p.simulated }, record { told = refl; outcomes = λ sure o a. inr (among_maps region text p.outcomes o a) }, m.matches)
 
 pub map_fault : (leftovers : Leftovers) (region : Name) (text : List ℕ) (w : View) (s : Site) (p : Place) (k : ℕ) (before now : List ℕ) → IsLawful w → s.state ≡ Down → p.site ≡ Some (site_value s) → (p.told ≡ true → IsMade s.name p) → MayHaveMapped region text w p
-    → k ≡ w.faults → Rose p.faults w.faults → now ≡ before ++ line s.name (codes "DISKFAULT " ++ decimal k) → Answers region text w s p (record { name = s.name; state = Failed k }) before now
+    → k ≡ w.faults → Rose p.faults w.faults → now ≡ before ++ line s.name (codes "DISKFAULT " ++ decimal k) → Answers region text w s p (record { name = s.name; state = Failed k }) before now false
 map_fault leftovers region text w s p k before now law down site made b count rose t =
     let state = in_new_state (world.Failed k) p.site in
     let m = mapped_place leftovers region text w p state law b in
@@ -187,7 +182,7 @@ look_mapped region text v w s p k h = record {
 }
 
 pub look_faulted : (leftovers : Leftovers) (region : Name) (text : List ℕ) (v w : View) (s : Site) (k : ℕ) (before now : List ℕ) → Looked v w → s.state ≡ Down → k ≡ w.faults → Rose v.faults w.faults
-    → now ≡ before ++ line s.name (codes "DISKFAULT " ++ decimal k) → ExecutesAt (map_pattern region text s.name) v s w (record { name = s.name; state = Failed k }) before now
+    → now ≡ before ++ line s.name (codes "DISKFAULT " ++ decimal k) → ExecutesAt (map_pattern region text s.name) v s w (record { name = s.name; state = Failed k }) before now false
 look_faulted leftovers region text v w s k before now l down count rose t p h =
     map_fault leftovers region text w s p k before now l.lawful down h.site h.held.made (look_mapped region text v w s p l h) count (subst (λ (x : ℕ). Rose x w.faults) h.disk.faults rose) t
 
@@ -203,8 +198,8 @@ seen_cut leftovers region text w s law p h = map_cut leftovers region text w s p
 
 -- Behind a look.
 
-pub maps_so : (region : Name) (text : List ℕ) (v w u : View) (s new : Site) (before now : List ℕ) → Looked v w → s.state ≡ Down → AreAlike v w → MapsAt region text w s u new before now → ExecutesAt (map_pattern region text s.name) v s u new before now
-maps_so region text v w u s new before now k down alike m p h = m p (seen_at v w s p k down alike h)
+pub maps_so : (region : Name) (text : List ℕ) (v w u : View) (s new : Site) (before now : List ℕ) (done : Bool) → Looked v w → s.state ≡ Down → AreAlike v w → MapsAt region text w s u new before now done → ExecutesAt (map_pattern region text s.name) v s u new before now done
+maps_so region text v w u s new before now done k down alike m p h = m p (seen_at v w s p k down alike h)
 
 pub cut_so : (region : Name) (text : List ℕ) (v w u : View) (s : Site) → Looked v w → s.state ≡ Down → AreAlike v w → IsCutSeen region text w s u → IsCutAt (map_pattern region text s.name) v s u
 cut_so region text v w u s k down alike m p h = m p (seen_at v w s p k down alike h)
@@ -244,7 +239,7 @@ there_mapped region number text v w s p m h = record {
 }
 
 pub there_faulted : (leftovers : Leftovers) (region : Name) (number : ℕ) (text : List ℕ) (v w : View) (s : Site) (k : ℕ) (before now : List ℕ) → Moments region number text v w → k ≡ w.faults → Rose v.faults w.faults
-    → now ≡ before ++ line s.name (codes "DISKFAULT " ++ decimal k) → MapsAt region text v s w (record { name = s.name; state = Failed k }) before now
+    → now ≡ before ++ line s.name (codes "DISKFAULT " ++ decimal k) → MapsAt region text v s w (record { name = s.name; state = Failed k }) before now false
 there_faulted leftovers region number text v w s k before now m count rose t p h =
     map_fault leftovers region text w s p k before now m.lawful h.down h.site h.made (there_mapped region number text v w s p m h) count (omega (arith, rose, h.faults)) t
 
@@ -252,7 +247,7 @@ pub there_cut : (leftovers : Leftovers) (region : Name) (number : ℕ) (text : L
 there_cut leftovers region number text v w s m p h = map_cut leftovers region text w s p m.lawful (there_mapped region number text v w s p m h)
 
 pub there_damaged : (region : Name) (number : ℕ) (text : List ℕ) (v w : View) (s : Site) (file offset : ℕ) (before now : List ℕ) → Moments region number text v w
-    → IfSome v.content (λ files. (c : Contents) → IsSite files c → ⊥) → now ≡ before ++ line s.name (codes "NOTAFILE " ++ decimal file ++ 32 ∷ decimal offset) → MapsAt region text v s w s before now
+    → IfSome v.content (λ files. (c : Contents) → IsSite files c → ⊥) → now ≡ before ++ line s.name (codes "NOTAFILE " ++ decimal file ++ 32 ∷ decimal offset) → MapsAt region text v s w s before now false
 there_damaged region number text v w s file offset before now m outside t p h =
     let unsure : p.told ≡ false = not_true p.told (λ sure.
     let here = some_both v.content _ _ (h.reads sure) outside in
@@ -264,7 +259,7 @@ there_damaged region number text v w s file offset before now m outside t p h =
 done_at : (region : Name) (number : ℕ) (text : List ℕ) (w : View) (s : Site) (before now : List ℕ) (p : Place) (read : Contents) → s.state ≡ Down → p.site ≡ Some (site_value s) → (p.told ≡ true → read ≡ p.now) → region_number region read ≡ Some number
     → unmapped region text p ≡ None → (p.told ≡ true → IsSomeAnd w.content (λ files. Reads files (with_pattern number text read) NO_LEFTOVER))
     → (p.told ≡ true → (f : Files) → Image w f → Stands f (with_pattern number text read)) → (p.told ≡ true → IsOf s.name read) → p.faults ≤ w.faults → w.simulated ≡ p.simulated
-    → now ≡ before ++ line s.name (codes "MAPPED") → Answers region text w s p s before now
+    → now ≡ before ++ line s.name (codes "MAPPED") → Answers region text w s p s before now true
 done_at region number text w s before now p read down site as_before named free reads images of later same t =
     let d : Contents = with_pattern number text read in
     let q : Place = record { site = in_new_state world.Down p.site; told = p.told; now = d; left = NO_LEFTOVER; outcomes = d ∷ []; faults = w.faults; simulated = p.simulated } in
@@ -297,7 +292,7 @@ unbegun_reads leftovers number text c f e site = inr (site, leftovers.unbegun f 
 done_told : (leftovers : Leftovers) (region : Name) (number : ℕ) (text : List ℕ) (v w : View) (s : Site) (before now : List ℕ) (p : Place) → Moments region number text v w → IsSeenAt v s p → p.told ≡ true
     → IfSome v.content (λ files. (c : Contents) → IsSite files c → IfSome w.content (λ now. IsSite now (with_pattern number text c)))
     → IfSome v.content (λ files. (c : Contents) → IsSite files c → EachStands v → (f : Files) → Image w f → IsSite f (with_pattern number text c))
-    → now ≡ before ++ line s.name (codes "MAPPED") → Answers region text w s p s before now
+    → now ≡ before ++ line s.name (codes "MAPPED") → Answers region text w s p s before now true
 done_told leftovers region number text v w s before now p m h sure reads images t =
     let d : Contents = with_pattern number text p.now in
     let free : IsUnmappedIn region number text p.now = free_at region number text v w s p m h sure in
@@ -312,7 +307,7 @@ done_told leftovers region number text v w s before now p m h sure reads images 
     (λ _ f i. inr (image.2 p.now (reads_site image.0 p.now p.left made image.1).0 stands f i)) (λ _. (h.made sure).now) (omega (arith, m.later, h.faults)) (m.simulated ∙ h.simulated) t
 
 done_untold : (region : Name) (number : ℕ) (text : List ℕ) (v w : View) (s : Site) (before now : List ℕ) (p : Place) (read : Contents) → Moments region number text v w → IsSeenAt v s p → p.told ≡ false
-    → region_number region read ≡ Some number → now ≡ before ++ line s.name (codes "MAPPED") → Answers region text w s p s before now
+    → region_number region read ≡ Some number → now ≡ before ++ line s.name (codes "MAPPED") → Answers region text w s p s before now true
 done_untold region number text v w s before now p read m h unsure named t =
     done_at region number text w s before now p read h.down h.site (λ sure. absurd (false≢true (sym unsure ∙ sure))) named (unmapped_unknown region text p unsure) (λ sure. absurd (false≢true (sym unsure ∙ sure)))
     (λ sure. absurd (false≢true (sym unsure ∙ sure))) (λ sure. absurd (false≢true (sym unsure ∙ sure))) (omega (arith, m.later, h.faults)) (m.simulated ∙ h.simulated) t
@@ -320,7 +315,7 @@ done_untold region number text v w s before now p read m h unsure named t =
 pub there_done : (leftovers : Leftovers) (region : Name) (number : ℕ) (text : List ℕ) (v w : View) (s : Site) (before now : List ℕ) → Moments region number text v w → ((c : Contents) × (region_number region c ≡ Some number))
     → IfSome v.content (λ files. (c : Contents) → IsSite files c → IfSome w.content (λ now. IsSite now (with_pattern number text c)))
     → IfSome v.content (λ files. (c : Contents) → IsSite files c → EachStands v → (f : Files) → Image w f → IsSite f (with_pattern number text c))
-    → now ≡ before ++ line s.name (codes "MAPPED") → MapsAt region text v s w s before now
+    → now ≡ before ++ line s.name (codes "MAPPED") → MapsAt region text v s w s before now true
 there_done leftovers region number text v w s before now m named reads images t p h = elim (is_true_or_false p.told) [
   | inl sure ↦ done_told leftovers region number text v w s before now p m h sure reads images t
   | inr unsure ↦ done_untold region number text v w s before now p named.0 m h unsure named.1 t

@@ -9,7 +9,7 @@ use Rattle.journal_defs.specs.Numbers.{broken_file}
 use Rattle.world_defs.specs.World as world
 use Rattle.world_defs.specs.World.{Place}
 use Rattle.site_defs.specs.Contents.{Contents, Leftover}
-use Rattle.world_defs.specs.Answers.{Stopped, NoFile, Refusal, line}
+use Rattle.world_defs.specs.Answers.{Stopped, NoFile, Refusal, line, Cause}
 use Rattle.world_defs.specs.Row.{refused_with, in_state, stopped}
 use Rattle.world_defs.specs.Changes.{in_new_state}
 use Rattle.world_defs.specs.rows.Print.{typed, no_file, print}
@@ -17,14 +17,14 @@ use Rattle.site_defs.specs.Stands.{IsSite, HasLeft, Reads}
 use Rattle.site_runner.specs.declared.slot.State.{State}
 use Rattle.site_runner.specs.declared.slot.State.TheVariants.{Down, Primary, Failed}
 use Rattle.site_runner.specs.declared.slot.Site.{Site}
-use Rattle.site_runner.specs.Sites.{fault_of, HoldsState}
+use Rattle.site_runner.specs.Sites.{state_value, HoldsState}
 use Rattle.site_runner.specs.Steps.{IsAt, ExecutesAt, IsCutAt}
 use Rattle.site_runner.proofs.Fused.{state_read}
-use Rattle.site_runner.proofs.Ats.{comes_refused, comes_may_refuse, comes_fault, comes_typed, refused_late, none_refused, refuses, kept_same, state_at, is_stopped, not_stopped, is_true_or_false, some_both, reads_site}
+use Rattle.site_runner.proofs.Ats.{comes_refused, comes_may_refuse, comes_fault, comes_typed, refused_late, none_refused, state_at, is_true_or_false, some_both, reads_site}
 use Rattle.site_runner.proofs.Seen.{counted, kept_counted}
 
-pub print_stopped : (g : ℕ) (v : View) (s : Site) (k : ℕ) (before now : List ℕ) → fault_of s.state ≡ Some k → now ≡ before ++ line s.name (codes "STOPPED " ++ decimal k) → ExecutesAt (print g s.name) v s v s before now
-print_stopped g v s k before now e t = refuses (print g s.name) v s (Stopped k) before now (λ p h. ap (refused_with s.name) (state_at stopped v s p h ∙ is_stopped s.state k e)) kept_same t
+pub print_stopped : (g : ℕ) (v : View) (s : Site) (cause : Cause) (p : Place) → stopped (state_value s.state) ≡ Some cause → IsAt v s p → (print g s.name p).early ≡ refused_with s.name (Some cause)
+print_stopped g v s cause p e h = ap (refused_with s.name) (state_at stopped v s p h ∙ e)
 
 -- A site over a disk that was only read.
 
@@ -47,8 +47,8 @@ read_at v w s p r h = record {
 
 -- The tests of a site that isn't stopped.
 
-up_at : (v : View) (s : Site) (p : Place) → IsAt v s p → fault_of s.state ≡ None → in_state stopped p.site ≡ None
-up_at v s p h up = state_at stopped v s p h ∙ not_stopped s.state up
+up_at : (v : View) (s : Site) (p : Place) → IsAt v s p → stopped (state_value s.state) ≡ None → in_state stopped p.site ≡ None
+up_at v s p h up = state_at stopped v s p h ∙ up
 
 -- What the file has, where the site's files are known.
 
@@ -77,8 +77,8 @@ has_file g p (inl sure) f =
 has_file g p (inr unsure) f = ap (λ (b : Bool). if b then (if length (typed g p) == 0 then Some NoFile else None) else None) unsure
 
 -- there is no such file
-pub print_none : (typing : TypingReads) (g : ℕ) (v w : View) (s : Site) (old bytes before now : List ℕ) → disk.Reads v w → v.faults ≤ w.faults → fault_of s.state ≡ None → 1 ≤ g → g ≤ 65535 → old ≡ []
-    → IfSome v.content (λ files. bytes ≡ old ++ files (broken_file g)) → bytes ≡ [] → now ≡ before ++ line s.name (codes "NOFILE") → ExecutesAt (print g s.name) v s w s before now
+pub print_none : (typing : TypingReads) (g : ℕ) (v w : View) (s : Site) (old bytes before now : List ℕ) → disk.Reads v w → v.faults ≤ w.faults → stopped (state_value s.state) ≡ None → 1 ≤ g → g ≤ 65535 → old ≡ []
+    → IfSome v.content (λ files. bytes ≡ old ++ files (broken_file g)) → bytes ≡ [] → now ≡ before ++ line s.name (codes "NOFILE") → ExecutesAt (print g s.name) v s w s before now false
 print_none typing g v w s old bytes before now r later up some most none text empty t p h = elim (is_true_or_false p.told) [
   | inl sure ↦ comes_refused no (counted p w.faults)
       (refused_late s.name (in_state stopped p.site) (no_file g p) NoFile (up_at v s p h up) (no_byte g p sure (sym (file_typed typing g v s p old bytes h some most none text sure) ∙ empty)))
@@ -93,8 +93,8 @@ print_none typing g v w s old bytes before now r later up some most none text em
     faults = omega (arith, later, h.disk.faults)
 
 -- the bytes of the file
-pub printed : (typing : TypingReads) (g : ℕ) (v w : View) (s : Site) (old bytes before now : List ℕ) → disk.Reads v w → v.faults ≤ w.faults → fault_of s.state ≡ None → 1 ≤ g → g ≤ 65535 → old ≡ []
-    → IfSome v.content (λ files. bytes ≡ old ++ files (broken_file g)) → bytes ≢ [] → now ≡ before ++ bytes → ExecutesAt (print g s.name) v s w s before now
+pub printed : (typing : TypingReads) (g : ℕ) (v w : View) (s : Site) (old bytes before now : List ℕ) → disk.Reads v w → v.faults ≤ w.faults → stopped (state_value s.state) ≡ None → 1 ≤ g → g ≤ 65535 → old ≡ []
+    → IfSome v.content (λ files. bytes ≡ old ++ files (broken_file g)) → bytes ≢ [] → now ≡ before ++ bytes → ExecutesAt (print g s.name) v s w s before now false
 printed typing g v w s old bytes before now r later up some most none text full t p h =
     let typed_so : p.told ≡ true → bytes ≡ typed g p = λ sure. file_typed typing g v s p old bytes h some most none text sure in
     comes_typed bytes (counted p w.faults)
@@ -102,8 +102,8 @@ printed typing g v w s old bytes before now r later up some most none text full 
     (record { some = full; told = typed_so; kept = kept_counted p w.faults (omega (arith, later, h.disk.faults)) }) (read_at v w s p r h) t
 
 -- a call failed
-pub print_fault : (g : ℕ) (v w : View) (s : Site) (k : ℕ) (before now : List ℕ) → disk.Reads v w → fault_of s.state ≡ None → k ≡ w.faults → Rose v.faults w.faults
-    → now ≡ before ++ line s.name (codes "DISKFAULT " ++ decimal k) → ExecutesAt (print g s.name) v s w (record { name = s.name; state = Failed k }) before now
+pub print_fault : (g : ℕ) (v w : View) (s : Site) (k : ℕ) (before now : List ℕ) → disk.Reads v w → stopped (state_value s.state) ≡ None → k ≡ w.faults → Rose v.faults w.faults
+    → now ≡ before ++ line s.name (codes "DISKFAULT " ++ decimal k) → ExecutesAt (print g s.name) v s w (record { name = s.name; state = Failed k }) before now false
 print_fault g v w s k before now r up count rose t p h =
     let a = read_at v w s p r h in
     let state = in_new_state (world.Failed k) p.site in

@@ -19,7 +19,7 @@ use Rattle.world_defs.specs.World as world
 use Rattle.command_defs.specs.Commands.{Name}
 use Rattle.world_defs.specs.World.{Place}
 use Rattle.site_defs.specs.Contents.{Contents, Leftover, NO_LEFTOVER}
-use Rattle.world_defs.specs.Answers.{Stopped, NotPrimary, Section, line}
+use Rattle.world_defs.specs.Answers.{Stopped, NotPrimary, Section, line, Cause}
 use Rattle.world_defs.specs.Row.{refused_with, in_state, why_not_primary, refusal_in}
 use Rattle.world_defs.specs.Changes.{in_new_state}
 use Rattle.site_defs.specs.Fronts.{with_sequence, IsFrontOf, turn_of}
@@ -76,15 +76,8 @@ used_up stamp serials jobs order seq h =
 primary_at : (v : View) (s : Site) (state : State) (p : Place) → s.state ≡ state → IsAt v s p → in_state why_not_primary p.site ≡ why_not_primary (state_value state)
 primary_at v s state p e h = state_at why_not_primary v s p h ∙ ap (λ (x : State). why_not_primary (state_value x)) e
 
-pub run_failed_before : (v : View) (s : Site) (jobs : List (List Job)) (order : List ℕ) (k : ℕ) (before now : List ℕ) → s.state ≡ Failed k → now ≡ before ++ line s.name (codes "STOPPED " ++ decimal k)
-    → ExecutesAt (run jobs order s.name) v s v (record { name = s.name; state = Failed k }) before now
-run_failed_before v s jobs order k before now e t =
-    subst (λ (x : State). ExecutesAt (run jobs order s.name) v s v (record { name = s.name; state = x }) before now) e
-    (refuses (run jobs order s.name) v s (Stopped k) before now (λ p h. ap (refused_with s.name) (primary_at v s (Failed k) p e h)) kept_same t)
-
-pub run_down : (v : View) (s : Site) (jobs : List (List Job)) (order : List ℕ) (before now : List ℕ) → s.state ≡ Down → now ≡ before ++ line s.name (codes "NOTPRIMARY") → ExecutesAt (run jobs order s.name) v s v s before now
-run_down v s jobs order before now e t =
-    refuses (run jobs order s.name) v s NotPrimary before now (λ p h. ap (refused_with s.name) (primary_at v s Down p e h)) kept_same t
+pub run_not_primary : (v : View) (s : Site) (jobs : List (List Job)) (order : List ℕ) (cause : Cause) (p : Place) → why_not_primary (state_value s.state) ≡ Some cause → IsAt v s p → (run jobs order s.name p).early ≡ refused_with s.name (Some cause)
+run_not_primary v s jobs order cause p e h = ap (refused_with s.name) (state_at why_not_primary v s p h ∙ e)
 
 none_primary : (v : View) (s : Site) (r : Reign) (jobs : List (List Job)) (order : List ℕ) (p : Place) → s.state ≡ Primary r → IsAt v s p → refusal_in (run jobs order s.name p) ≡ None
 none_primary v s r jobs order p e h = not_early s.name (in_state why_not_primary p.site) (primary_at v s (Primary r) p e h)
@@ -139,7 +132,7 @@ of_sequence name c seq h = record { made = h.made; name = h.name }
 -- all jobs are decided
 pub ran : (v w : View) (nothing : NothingIsLeft w) (s : Site) (r new : Reign) (jobs : List (List Job)) (order : List ℕ) (before middle now : List ℕ) → IsLawful w → UsesUp jobs order → s.state ≡ Primary r → new.site.stamp ≡ r.site.stamp → w.simulated ≡ v.simulated → v.faults ≤ w.faults
     → ((told : Bool) (c : Contents) → Reigns v told c r → HasDecided w told c jobs order r new before middle)
-    → now ≡ middle ++ line s.name (codes "AT " ++ decimal (length new.site.entries.items)) → ExecutesAt (run jobs order s.name) v s w (record { name = s.name; state = Primary new }) before now
+    → now ≡ middle ++ line s.name (codes "AT " ++ decimal (length new.site.entries.items)) → ExecutesAt (run jobs order s.name) v s w (record { name = s.name; state = Primary new }) before now false
 ran v w nothing s r new jobs order before middle now law whole st stamped same later f t p h =
     let d : HasDecided w p.told p.now jobs order r new before middle = f p.told p.now (reigns_at v s r p st h) in
     let stamp = stamp_of r in
@@ -182,7 +175,7 @@ ran v w nothing s r new jobs order before middle now law whole st stamped same l
 -- a fault ended it
 pub ran_to_fault : (leftovers : Leftovers) (v w : View) (s : Site) (r : Reign) (jobs : List (List Job)) (order : List ℕ) (k undecided : ℕ) (before middle now : List ℕ) → IsLawful v → IsLawful w → s.state ≡ Primary r → w.simulated ≡ v.simulated → k ≡ w.faults → Rose v.faults w.faults
     → ((told : Bool) (c : Contents) → Reigns v told c r → (m : ℕ) × FailsAt w (stamp_of r) told c jobs order r.serials undecided before middle m)
-    → now ≡ middle ++ undecided_line s.name k undecided → ExecutesAt (run jobs order s.name) v s w (record { name = s.name; state = Failed k }) before now
+    → now ≡ middle ++ undecided_line s.name k undecided → ExecutesAt (run jobs order s.name) v s w (record { name = s.name; state = Failed k }) before now false
 ran_to_fault leftovers v w s r jobs order k undecided before middle now was law st same count rose f t p h =
     let d : (m : ℕ) × FailsAt w (stamp_of r) p.told p.now jobs order r.serials undecided before middle m = f p.told p.now (reigns_at v s r p st h) in
     let m : ℕ = d.0 in

@@ -1,5 +1,5 @@
 -- Clauses of calls that may fail.
-use Rattle.std.specs.Prelude.{Result, Ok, Err, OnOk, OnErr, IfErr}
+use Rattle.std.specs.Prelude.{◌≡◌, Bool, false, Result, Ok, Err, OnOk, OnErr, IfOk, IfErr}
 
 pub on_ok : {T E : Type 0} (r : Result T E) (P Q : Type 0) → OnOk r P → (P → Q) → OnOk r Q
 on_ok (Ok x) P Q h f = f h
@@ -24,3 +24,12 @@ on_errs (Err e) P Q h f = f h
 pub err_so : {T E : Type 0} (r : Result T E) (P : Type 0) → P → OnErr r P
 err_so (Ok x) P h = tt
 err_so (Err e) P h = h
+
+pub on_any : {T E : Type 0} (r : Result T E) (P : T → Type 0) (Q : Type 0) → IfOk r P → ((x : T) → P x → Q) → OnOk r Q
+on_any (Ok x) P Q h f = f x h
+on_any (Err e) P Q h f = h
+
+-- a call that answered that a command wasn't done
+pub on_refused : {E : Type 0} (r : Result Bool E) (T Q : Type 0) → IfOk r (λ done. (done ≡ false) × T) → (T → Q) → OnOk r Q
+on_refused (Ok done) T Q h f = f h.1
+on_refused (Err e) T Q h f = h

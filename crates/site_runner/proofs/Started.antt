@@ -21,7 +21,7 @@ use Rattle.site_defs.specs.Contents.{Contents, Leftover, NO_LEFTOVER}
 use Rattle.world_defs.specs.Answers.{Cause, Stopped, Running, GenLimit, ReignLimit, line}
 use Rattle.world_defs.specs.Row.{first, refused_with, in_state, why_not_down}
 use Rattle.world_defs.specs.Changes.{in_new_state, After}
-use Rattle.world_defs.specs.rows.Start.{limited, generation_limit, reign_limit, FIRST_SERIALS, cycle_on, start}
+use Rattle.world_defs.specs.rows.Start.{StartRefused, is_reign_limit, limited, generation_limit, reign_limit, FIRST_SERIALS, cycle_on, start}
 use Rattle.site_defs.specs.Limits.{no_reign_left}
 use Rattle.site_defs.specs.Opening.{MayBegin, opened, with_reign, next_stamp}
 use Rattle.world_defs.specs.Step.{LeftBy}
@@ -34,7 +34,7 @@ use Rattle.site_runner.specs.Sites.{state_value, site_value, HoldsState, IsOf, I
 use Rattle.site_runner.specs.Executes.{Comes}
 use Rattle.site_runner.specs.Steps.{IsAt, ExecutesAt, IsCutAt}
 use Rattle.site_runner.specs.Starting.{IsOpenedAt, BeginsAt, IsCutOpened}
-use Rattle.site_runner.proofs.Ats.{comes_done, comes_refused, comes_may_refuse, comes_fault, comes_damaged, refused_late, none_refused, refuses, kept_same, not_true, is_true_or_false, some_both, told_is, is_site, reads_site, stands_told, at_moment, reads_image, Leftovers, NothingIsLeft, ReadPlace, place_of_images, place_of_one, only, open_reads, open_images}
+use Rattle.site_runner.proofs.Ats.{comes_done, comes_refused, comes_may_refuse, comes_fault, comes_damaged, refused_late, none_refused, refuses, kept_same, not_true, is_true_or_false, some_both, told_is, is_site, reads_site, stands_told, at_moment, reads_image, Leftovers, NothingIsLeft, ReadPlace, place_of_images, place_of_one, only, open_reads, open_images, state_at}
 use Rattle.site_runner.proofs.Seen.{counted, kept_counted}
 use Rattle.site_runner.proofs.Stopped.{length_tagged}
 use Rattle.site_runner.proofs.Begun.{limit_opened, stamp_opened, of_opened, of_begun, of_may_begin, begins, among_begins, begins_among, generation_past, generation_left}
@@ -43,13 +43,15 @@ use Rattle.site_runner.proofs.Begun.{limit_opened, stamp_opened, of_opened, of_b
 pub why_at : (s : Site) (state : State) (p : Place) → s.state ≡ state → p.site ≡ Some (site_value s) → in_state why_not_down p.site ≡ why_not_down (state_value state)
 why_at s state p e h = ap (in_state why_not_down) h ∙ ap (λ (x : State). why_not_down (state_value x)) e
 
-pub start_failed_before : (v : View) (s : Site) (k : ℕ) (before now : List ℕ) → s.state ≡ Failed k → now ≡ before ++ line s.name (codes "STOPPED " ++ decimal k) → ExecutesAt (start s.name) v s v s before now
-start_failed_before v s k before now e t =
-    refuses (start s.name) v s (Stopped k) before now (λ p h. ap (refused_with s.name) (why_at s (Failed k) p e h.site)) kept_same t
+-- a START of a site that isn't down
 
-pub start_running : (v : View) (s : Site) (r : Reign) (before now : List ℕ) → s.state ≡ Primary r → now ≡ before ++ line s.name (codes "RUNNING") → ExecutesAt (start s.name) v s v s before now
-start_running v s r before now e t =
-    refuses (start s.name) v s Running before now (λ p h. ap (refused_with s.name) (why_at s (Primary r) p e h.site)) kept_same t
+pub start_not_down : (v : View) (s : Site) (cause : Cause) (p : Place) → why_not_down (state_value s.state) ≡ Some cause → IsAt v s p → (start s.name p).early ≡ refused_with s.name (Some cause)
+start_not_down v s cause p e h = ap (refused_with s.name) (state_at why_not_down v s p h ∙ e)
+
+pub start_kept : (state : world.State) (cause : Cause) (p : Place) → why_not_down state ≡ Some cause → StartRefused (is_reign_limit cause) p p
+start_kept world.Down cause p e = cc
+start_kept (world.Primary stamp serials) cause p e = let same : Running ≡ cause = cc in subst (λ (c : Cause). StartRefused (is_reign_limit c) p p) same (kept_same p)
+start_kept (world.Failed k) cause p e = let same : Stopped k ≡ cause = cc in subst (λ (c : Cause). StartRefused (is_reign_limit c) p p) same (kept_same p)
 
 -- the tests of a site that is down
 
@@ -171,11 +173,11 @@ begun_cut leftovers w s p law b =
     (record { site = p.site; told = p.told; now = m.now; left = m.left; outcomes = begins s.name p.left.broken p.outcomes; faults = w.faults; simulated = p.simulated }, record { told = refl; outcomes = λ sure o a. inr (among_begins s.name p.left.broken p.outcomes o a) }, m.matches)
 
 -- what START answers from a place
-abbrev pub Answers : View → Site → Place → Site → List ℕ → List ℕ → Type 0
-Answers w s p new before now = Comes (start s.name p) (IsAt w new) before now
+abbrev pub Answers : View → Site → Place → Site → List ℕ → List ℕ → Bool → Type 0
+Answers w s p new before now done = Comes (start s.name p) (IsAt w new) before now done
 
 pub begun_fault : (leftovers : Leftovers) (w : View) (s : Site) (p : Place) (k : ℕ) (before now : List ℕ) → IsLawful w → s.state ≡ Down → p.site ≡ Some (site_value s) → (p.told ≡ true → IsMade s.name p) → MayHaveBegun w s p → k ≡ w.faults → Rose p.faults w.faults
-    → now ≡ before ++ line s.name (codes "DISKFAULT " ++ decimal k) → Answers w s p (record { name = s.name; state = Failed k }) before now
+    → now ≡ before ++ line s.name (codes "DISKFAULT " ++ decimal k) → Answers w s p (record { name = s.name; state = Failed k }) before now false
 begun_fault leftovers w s p k before now law down site made b count rose t =
     let state = in_new_state (world.Failed k) p.site in
     let m = begun_place leftovers w s p state law b in
@@ -218,7 +220,7 @@ load_begun v w s p law h moments still same = record {
 }
 
 pub load_faulted : (leftovers : Leftovers) (v w : View) (s : Site) (k : ℕ) (before now : List ℕ) → IsLawful w → s.state ≡ Down → OpensAtMoments v w → (IsSome v.content → IsSome w.content) → w.simulated ≡ v.simulated
-    → k ≡ w.faults → Rose v.faults w.faults → now ≡ before ++ line s.name (codes "DISKFAULT " ++ decimal k) → ExecutesAt (start s.name) v s w (record { name = s.name; state = Failed k }) before now
+    → k ≡ w.faults → Rose v.faults w.faults → now ≡ before ++ line s.name (codes "DISKFAULT " ++ decimal k) → ExecutesAt (start s.name) v s w (record { name = s.name; state = Failed k }) before now false
 load_faulted leftovers v w s k before now law down moments still same count rose t p h =
     begun_fault leftovers w s p k before now law down h.site h.held.made (load_begun v w s p law h moments still same) count (rose_at v w p h.disk rose) t
 
@@ -227,7 +229,7 @@ load_cut leftovers v w s law moments still same p h = begun_cut leftovers w s p 
 
 -- there is no generation left
 load_limit_told : (v w : View) (s : Site) (before now : List ℕ) (p : Place) → IsLawful w → s.state ≡ Down → IsAt v s p → p.told ≡ true → IfSome v.content (λ files. (c : Contents) → IsSite files c → 65534 ≤ generation c.instance)
-    → w.content ≡ v.content → AtEachMoment v w (Image v) → w.simulated ≡ v.simulated → v.faults ≤ w.faults → now ≡ before ++ line s.name (codes "GENLIMIT") → Answers w s p s before now
+    → w.content ≡ v.content → AtEachMoment v w (Image v) → w.simulated ≡ v.simulated → v.faults ≤ w.faults → now ≡ before ++ line s.name (codes "GENLIMIT") → Answers w s p s before now false
 load_limit_told v w s before now p law down h sure limit unwritten untouched same later t =
     let made : IsMade s.name p = h.held.made sure in
     let here = some_both v.content _ _ (stands_told v p h.disk sure) limit in
@@ -249,13 +251,13 @@ load_limit_told v w s before now p law down h sure limit unwritten untouched sam
     })
     t
 
-load_limit_untold : (v w : View) (s : Site) (before now : List ℕ) (p : Place) → s.state ≡ Down → IsAt v s p → p.told ≡ false → w.simulated ≡ v.simulated → v.faults ≤ w.faults → now ≡ before ++ line s.name (codes "GENLIMIT") → Answers w s p s before now
+load_limit_untold : (v w : View) (s : Site) (before now : List ℕ) (p : Place) → s.state ≡ Down → IsAt v s p → p.told ≡ false → w.simulated ≡ v.simulated → v.faults ≤ w.faults → now ≡ before ++ line s.name (codes "GENLIMIT") → Answers w s p s before now false
 load_limit_untold v w s before now p down h unsure same later t =
     comes_may_refuse (record { site = s.name; cause = GenLimit }) (counted p w.faults) (early_down s p down h.site)
     (refl, inl refl, record { unknown = unsure; kept = kept_counted p w.faults (omega (arith, later, h.disk.faults)) }) (unknown_at w s p down h.site unsure (same ∙ h.disk.simulated)) t
 
 pub load_limit : (v w : View) (s : Site) (before now : List ℕ) → IsLawful w → s.state ≡ Down → IfSome v.content (λ files. (c : Contents) → IsSite files c → 65534 ≤ generation c.instance) → w.content ≡ v.content → AtEachMoment v w (Image v)
-    → w.simulated ≡ v.simulated → v.faults ≤ w.faults → now ≡ before ++ line s.name (codes "GENLIMIT") → ExecutesAt (start s.name) v s w s before now
+    → w.simulated ≡ v.simulated → v.faults ≤ w.faults → now ≡ before ++ line s.name (codes "GENLIMIT") → ExecutesAt (start s.name) v s w s before now false
 load_limit v w s before now law down limit unwritten untouched same later t p h = elim (is_true_or_false p.told) [
   | inl sure ↦ load_limit_told v w s before now p law down h sure limit unwritten untouched same later t
   | inr unsure ↦ load_limit_untold v w s before now p down h unsure same later t
@@ -263,13 +265,13 @@ load_limit v w s before now law down limit unwritten untouched same later t p h 
 
 -- bytes outside the formats, which no known files have
 damaged : (v w : View) (s : Site) (file offset : ℕ) (before now : List ℕ) (p : Place) → s.state ≡ Down → IsAt v s p → p.told ≡ false → w.simulated ≡ v.simulated → v.faults ≤ w.faults
-    → now ≡ before ++ line s.name (codes "NOTAFILE " ++ decimal file ++ 32 ∷ decimal offset) → Answers w s p s before now
+    → now ≡ before ++ line s.name (codes "NOTAFILE " ++ decimal file ++ 32 ∷ decimal offset) → Answers w s p s before now false
 damaged v w s file offset before now p down h unsure same later t =
     comes_damaged file offset (counted p w.faults) (early_down s p down h.site) (record { unknown = unsure; kept = kept_counted p w.faults (omega (arith, later, h.disk.faults)) })
     (unknown_at w s p down h.site unsure (same ∙ h.disk.simulated)) t
 
 pub load_damaged : (v w : View) (s : Site) (file offset : ℕ) (before now : List ℕ) → s.state ≡ Down → IfSome v.content (λ files. (c : Contents) → IsSite files c → ⊥) → w.simulated ≡ v.simulated → v.faults ≤ w.faults
-    → now ≡ before ++ line s.name (codes "NOTAFILE " ++ decimal file ++ 32 ∷ decimal offset) → ExecutesAt (start s.name) v s w s before now
+    → now ≡ before ++ line s.name (codes "NOTAFILE " ++ decimal file ++ 32 ∷ decimal offset) → ExecutesAt (start s.name) v s w s before now false
 load_damaged v w s file offset before now down outside same later t p h =
     damaged v w s file offset before now p down h (not_true p.told (λ sure.
     let here = some_both v.content _ _ (stands_told v p h.disk sure) outside in
@@ -277,7 +279,7 @@ load_damaged v w s file offset before now down outside same later t p h =
 
 -- another site stands there, which no known files tell
 pub load_other : (v w : View) (s : Site) (o : OpenSite) (before now : List ℕ) → s.state ≡ Down → (site_name o.instance.records ≡ s.name → ⊥) → Opens v w o
-    → w.simulated ≡ v.simulated → v.faults ≤ w.faults → now ≡ before ++ line s.name (codes "NOTAFILE " ++ decimal 0 ++ 32 ∷ decimal 0) → ExecutesAt (start s.name) v s w s before now
+    → w.simulated ≡ v.simulated → v.faults ≤ w.faults → now ≡ before ++ line s.name (codes "NOTAFILE " ++ decimal 0 ++ 32 ∷ decimal 0) → ExecutesAt (start s.name) v s w s before now false
 load_other v w s o before now down other told same later t p h =
     damaged v w s 0 0 before now p down h (not_true p.told (λ sure.
     let made : IsMade s.name p = h.held.made sure in
@@ -316,7 +318,7 @@ reign_begun v w s o p m h = record {
 }
 
 pub reign_faulted : (leftovers : Leftovers) (v w : View) (s : Site) (o : OpenSite) (k : ℕ) (before now : List ℕ) → Moments v w o → k ≡ w.faults → Rose v.faults w.faults → now ≡ before ++ line s.name (codes "DISKFAULT " ++ decimal k)
-    → BeginsAt v o s w (record { name = s.name; state = Failed k }) before now
+    → BeginsAt v o s w (record { name = s.name; state = Failed k }) before now false
 reign_faulted leftovers v w s o k before now m count rose t p h =
     begun_fault leftovers w s p k before now m.lawful h.down h.site h.made (reign_begun v w s o p m h) count (omega (arith, rose, h.faults)) t
 
@@ -328,7 +330,7 @@ limit_is c none_left is = ap (λ (b : Bool). if b then Some ReignLimit else None
 
 -- there is no reign left
 reign_limit_told : (v : View) (nothing : NothingIsLeft v) (s : Site) (o : OpenSite) (before now : List ℕ) (p : Place) → IsLawful v → IsOpenedAt v s o p → p.told ≡ true → ((c : Contents) (n : ℕ) → Remembers c n o → no_reign_left c ≡ true)
-    → now ≡ before ++ line s.name (codes "REIGNLIMIT") → Answers v s p s before now
+    → now ≡ before ++ line s.name (codes "REIGNLIMIT") → Answers v s p s before now false
 reign_limit_told v nothing s o before now p law h sure limit t =
     let c : Contents = opened p.left.broken p.now in
     let is_open : IsOpen v p.told c (length c.sequence) o = subst (λ (x : Contents). IsOpen v p.told (opened p.left.broken x) (length x.sequence) o) (h.as_before sure)
@@ -348,12 +350,12 @@ reign_limit_told v nothing s o before now p law h sure limit t =
     })
     t
 
-reign_limit_untold : (v : View) (s : Site) (o : OpenSite) (before now : List ℕ) (p : Place) → IsOpenedAt v s o p → p.told ≡ false → now ≡ before ++ line s.name (codes "REIGNLIMIT") → Answers v s p s before now
+reign_limit_untold : (v : View) (s : Site) (o : OpenSite) (before now : List ℕ) (p : Place) → IsOpenedAt v s o p → p.told ≡ false → now ≡ before ++ line s.name (codes "REIGNLIMIT") → Answers v s p s before now false
 reign_limit_untold v s o before now p h unsure t =
     comes_may_refuse (record { site = s.name; cause = ReignLimit }) (counted p v.faults) (early_down s p h.down h.site)
     (refl, inr refl, record { unknown = unsure; kept = kept_counted p v.faults h.faults }) (unknown_at v s p h.down h.site unsure h.simulated) t
 
-pub reign_limited : (v : View) (nothing : NothingIsLeft v) (s : Site) (o : OpenSite) (before now : List ℕ) → IsLawful v → ((c : Contents) (n : ℕ) → Remembers c n o → no_reign_left c ≡ true) → now ≡ before ++ line s.name (codes "REIGNLIMIT") → BeginsAt v o s v s before now
+pub reign_limited : (v : View) (nothing : NothingIsLeft v) (s : Site) (o : OpenSite) (before now : List ℕ) → IsLawful v → ((c : Contents) (n : ℕ) → Remembers c n o → no_reign_left c ≡ true) → now ≡ before ++ line s.name (codes "REIGNLIMIT") → BeginsAt v o s v s before now false
 reign_limited v nothing s o before now law limit t p h = elim (is_true_or_false p.told) [
   | inl sure ↦ reign_limit_told v nothing s o before now p law h sure limit t
   | inr unsure ↦ reign_limit_untold v s o before now p h unsure t
@@ -368,7 +370,7 @@ pub reign_starts : (v w : View) (nothing : NothingIsLeft w) (s : Site) (o new : 
     → ((c : Contents) → c.instance ≡ o.instance.records → stamp_value stamp ≡ next_stamp (site_name c.instance) c) → new.stamp ≡ Some stamp
     → ((c : Contents) (n : ℕ) → Remembers c n o → no_reign_left c ≡ false) → w.simulated ≡ v.simulated → v.faults ≤ w.faults
     → from ≡ length o.entries.items + 1 → now ≡ before ++ line s.name (codes "PRIMARY " ++ decimal stamp.cycle ++ codes " FROM " ++ decimal from)
-    → BeginsAt v o s w (record { name = s.name; state = Primary (record { site = new; serials = serials }) }) before now
+    → BeginsAt v o s w (record { name = s.name; state = Primary (record { site = new; serials = serials }) }) before now true
 reign_starts v w nothing s o new stamp serials from before now law first_serials begun drawn stamped room same later is_from t p h =
     let read : Contents = h.read in
     let c : Contents = opened h.broken read in
@@ -410,10 +412,10 @@ reign_starts v w nothing s o new stamp serials from before now law first_serials
 
 -- Beginning and opening together.
 
-pub begins_so : (one_only : StandForOne) (v w u : View) (s new : Site) (o : OpenSite) (before now : List ℕ) → IsLawful v → s.state ≡ Down → site_name o.instance.records ≡ s.name → ((c : Contents) × (broken : List ℕ) × Remembers (opened broken c) (length c.sequence) o)
+pub begins_so : (one_only : StandForOne) (v w u : View) (s new : Site) (o : OpenSite) (before now : List ℕ) (done : Bool) → IsLawful v → s.state ≡ Down → site_name o.instance.records ≡ s.name → ((c : Contents) × (broken : List ℕ) × Remembers (opened broken c) (length c.sequence) o)
     → Opens v w o → HasGenerations v
-    → w.simulated ≡ v.simulated → v.faults ≤ w.faults → BeginsAt w o s u new before now → ExecutesAt (start s.name) v s u new before now
-begins_so one_only v w u s new o before now law down name read told drawn same later b p h = b p (opened_at one_only v w s o p law down h name read told drawn same later)
+    → w.simulated ≡ v.simulated → v.faults ≤ w.faults → BeginsAt w o s u new before now done → ExecutesAt (start s.name) v s u new before now done
+begins_so one_only v w u s new o before now done law down name read told drawn same later b p h = b p (opened_at one_only v w s o p law down h name read told drawn same later)
 
 pub begins_cut : (one_only : StandForOne) (v w u : View) (s : Site) (o : OpenSite) → IsLawful v → s.state ≡ Down → site_name o.instance.records ≡ s.name → ((c : Contents) × (broken : List ℕ) × Remembers (opened broken c) (length c.sequence) o)
     → Opens v w o → HasGenerations v

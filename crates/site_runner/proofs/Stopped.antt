@@ -1,6 +1,6 @@
 -- Commands on a site, as commands on its slot; STOP, EXTRACT, ZWRITE and SHOW at a place.
-use Rattle.std.proofs.Common.{◌≡◌, ℕ, suc, ◌+◌, true, List, [], ◌∷◌, ◌++◌, length, map, Some, refl, sym, ◌∙◌, ap, subst, arith, inl, nat_eq, append_assoc}
-use Rattle.std.specs.Prelude.{Option, codes, option_map, IsSomeAnd, Result, OnOk, OnErr}
+use Rattle.std.proofs.Common.{◌≡◌, ℕ, suc, ◌+◌, true, List, [], ◌∷◌, ◌++◌, length, map, Some, refl, sym, ◌∙◌, ap, subst, arith, inl, nat_eq, append_assoc, Bool, None}
+use Rattle.std.specs.Prelude.{Option, codes, option_map, IsSomeAnd, Result, IfOk, OnErr}
 use Rattle.std.specs.Fmt.{decimal}
 use Rattle.std.specs.List.{enumerate_from, flat_map}
 use Rattle.std.proofs.lemmas.Bool.{eqb-true}
@@ -19,8 +19,8 @@ use Rattle.world_defs.specs.World as world
 use Rattle.command_defs.specs.Commands.{Name, Command}
 use Rattle.world_defs.specs.World.{Place, name_on}
 use Rattle.site_defs.specs.Contents.{Leftover, NO_LEFTOVER, same_name}
-use Rattle.world_defs.specs.Answers.{Stopped, NotRunning, line}
-use Rattle.world_defs.specs.Row.{Row, refused_with, in_state, why_not_open}
+use Rattle.world_defs.specs.Answers.{Refusal, line}
+use Rattle.world_defs.specs.Row.{Row, or_else, refused_with, in_state, why_not_open}
 use Rattle.world_defs.specs.Changes.{in_new_state}
 use Rattle.world_defs.specs.Step.{LeftBy}
 use Rattle.world_defs.specs.Ties.{Matches}
@@ -29,7 +29,7 @@ use Rattle.world_defs.specs.rows.Extract.{extract}
 use Rattle.world_defs.specs.rows.Show.{reign_text, show_state, show_on, show}
 use Rattle.world_defs.specs.rows.Stop.{stop}
 use Rattle.world_defs.specs.rows.Zwrite as rows
-use Rattle.site_defs.specs.Texts.{zwrite}
+use Rattle.site_defs.specs.Texts.{extract_from, zwrite}
 use Rattle.site_defs.specs.Stands.{Stands, Reads}
 use Rattle.repl_section.specs.declared.reign.Reign.{Reign}
 use Rattle.repl_section.specs.Reigns.{Reigns, stamp_of}
@@ -41,10 +41,10 @@ use Rattle.site_runner.specs.Sites.{site_value, state_value, is_slot_named, IsOf
 use Rattle.site_runner.specs.Executes.{Comes, ExecutesHere, IsCutHere}
 use Rattle.site_runner.specs.Tied.{IsPlace}
 use Rattle.site_runner.specs.Named.{row_in}
-use Rattle.site_runner.proofs.Results.{on_ok, on_errs}
-use Rattle.site_runner.specs.Steps.{Stops, StopsFrom, Extracts, ExtractsFrom, Zwrites, ZwritesFrom, state_text, IsAt, ExecutesAt, IsCutAt}
+use Rattle.site_runner.proofs.Results.{on_errs}
+use Rattle.site_runner.specs.Steps.{state_text, IsAt, ExecutesAt, IsCutAt}
 use Rattle.site_runner.proofs.Cuts.{split_and}
-use Rattle.site_runner.proofs.Ats.{comes_done, comes_so, not_early, refuses, state_at, kept_same, only}
+use Rattle.site_runner.proofs.Ats.{comes_done, comes_so, on_done, state_at, kept_same, only}
 
 pub names_same : (a b : Name) → same_name a b ≡ true → a ≡ b
 names_same [] [] e = refl
@@ -63,13 +63,13 @@ pub slot_at : {D : Type 0} (view : D → View) (old : Slot D) (site : Site) (p :
 slot_at view old site p e h = record { disk = h.disk; site = h.site ∙ ap (option_map site_value) e; held = subst (λ (o : Option Site). HoldsSite (view old.disk) o p) e h.held }
 
 -- a row at the site is one at its slot
-pub executes_here : {D : Type 0} (view : D → View) (row : Name → Place → Row) (old : Slot D) (disk : D) (site new : Site) (before now : List ℕ) → old.site ≡ Some site
-    → ExecutesAt (row site.name) (view old.disk) site (view disk) new before now → ExecutesHere view (row_at row) old (record { disk = disk; site = Some new }) before now
-executes_here {D} view row old disk site new before now e x p h =
+pub executes_here : {D : Type 0} (view : D → View) (row : Name → Place → Row) (old : Slot D) (disk : D) (site new : Site) (before now : List ℕ) (done : Bool) → old.site ≡ Some site
+    → ExecutesAt (row site.name) (view old.disk) site (view disk) new before now done → ExecutesHere view (row_at row) old (record { disk = disk; site = Some new }) before now done
+executes_here {D} view row old disk site new before now done e x p h =
     let at_p = slot_at view old site p e h in
     let r = x p at_p in
     let left : Slot D = record { disk = disk; site = Some new } in
-    subst (λ (n : Name). Comes (row n p) (IsPlace view left) before now) (sym (ap name_on at_p.site)) (comes_so (λ q g. record { disk = g.disk; site = g.site; held = g.held }) r)
+    subst (λ (n : Name). Comes (row n p) (IsPlace view left) before now done) (sym (ap name_on at_p.site)) (comes_so (λ q g. record { disk = g.disk; site = g.site; held = g.held }) r)
 
 pub cut_here : {D : Type 0} (view : D → View) (row : Name → Place → Row) (old new : Slot D) (site : Site) → old.site ≡ Some site → IsCutAt (row site.name) (view old.disk) site (view new.disk) → IsCutHere view (row_at row) old new
 cut_here view row old new site e x p h =
@@ -82,12 +82,13 @@ cut_kept {D} view row old new e p h = (p, record { told = refl; outcomes = λ t 
 
 -- An arm of the commands that takes the site.
 
-module _ {D T E : Type 0} (view : D → View) (o v : Command) (row : Name → Place → Row) (old : Slot D) (disk : D) (site new : Site) (result : Result T E) (is : o ≡ v) (acts : row_in v ≡ row_at row) (e : old.site ≡ Some site) where
-  pub arm_done : (before now : List ℕ) → OnOk result (ExecutesAt (row site.name) (view old.disk) site (view disk) new before now) → OnOk result (ExecutesHere view (row_in o) old (record { disk = disk; site = Some new }) before now)
-  arm_done before now h = on_ok result _ _ h (λ x.
+module _ {D E : Type 0} (view : D → View) (o v : Command) (row : Name → Place → Row) (old : Slot D) (disk : D) (site new : Site) (result : Result Bool E) (is : o ≡ v) (acts : row_in v ≡ row_at row) (e : old.site ≡ Some site) where
+  pub arm_done : (before now : List ℕ) → IfOk result (λ done. ExecutesAt (row site.name) (view old.disk) site (view disk) new before now done)
+      → IfOk result (λ done. ExecutesHere view (row_in o) old (record { disk = disk; site = Some new }) before now done)
+  arm_done before now h = on_done result _ _ h (λ done x.
       let left : Slot D = record { disk = disk; site = Some new } in
-      subst (λ (c : Command). ExecutesHere view (row_in c) old left before now) (sym is)
-      (subst (λ (r : Place → Row). ExecutesHere view r old left before now) (sym acts) (executes_here view row old disk site new before now e x)))
+      subst (λ (c : Command). ExecutesHere view (row_in c) old left before now done) (sym is)
+      (subst (λ (r : Place → Row). ExecutesHere view r old left before now done) (sym acts) (executes_here view row old disk site new before now done e x)))
 
   pub arm_cut : OnErr result (IsCutAt (row site.name) (view old.disk) site (view disk)) → OnErr result (IsCutHere view (row_in o) old (record { disk = disk; site = Some new }))
   arm_cut h = on_errs result _ _ h (λ x.
@@ -110,25 +111,16 @@ pub reigns_at : (v : View) (s : Site) (r : Reign) (p : Place) → s.state ≡ Pr
 reigns_at v s r p e h = let o = open_at v s r p e h in o.reigns
 
 -- why a site isn't open
+open_at_place : (v : View) (s : Site) (r : Reign) (p : Place) → s.state ≡ Primary r → IsAt v s p → refused_with s.name (in_state why_not_open p.site) ≡ None
+open_at_place v s r p e h = ap (refused_with s.name) (state_at why_not_open v s p h ∙ ap (λ (x : State). why_not_open (state_value x)) e)
 
-why_at : (v : View) (s : Site) (state : State) (p : Place) → s.state ≡ state → IsAt v s p → in_state why_not_open p.site ≡ why_not_open (state_value state)
-why_at v s state p e h = state_at why_not_open v s p h ∙ ap (λ (x : State). why_not_open (state_value x)) e
-
-refused_at : (v : View) (s : Site) (state : State) (p : Place) → s.state ≡ state → IsAt v s p → refused_with s.name (in_state why_not_open p.site) ≡ refused_with s.name (why_not_open (state_value state))
-refused_at v s state p e h = ap (refused_with s.name) (why_at v s state p e h)
-
-stops_from : (v : View) (old new : Site) (before now : List ℕ) (state : State) → old.state ≡ state → StopsFrom state old new before now → ExecutesAt (stop old.name) v old v new before now
-stops_from v old new before now Down e h =
-    subst (λ (x : Site). ExecutesAt (stop old.name) v old v x before now) (sym h.0) (refuses (stop old.name) v old NotRunning before now (λ p at_p. refused_at v old Down p e at_p) kept_same h.1)
-stops_from v old new before now (Failed k) e h =
-    subst (λ (x : Site). ExecutesAt (stop old.name) v old v x before now) (sym h.0) (refuses (stop old.name) v old (Stopped k) before now (λ p at_p. refused_at v old (Failed k) p e at_p) kept_same h.1)
-stops_from v old new before now (Primary r) e h =
-    subst (λ (x : Site). ExecutesAt (stop old.name) v old v x before now) (sym h.0) (λ p at_p.
-    let o : IsOpen v r p = open_at v old r p e at_p in
-    let q : Place = record { site = in_new_state world.Down p.site; told = p.told; now = p.now; left = NO_LEFTOVER; outcomes = p.now ∷ []; faults = p.faults; simulated = p.simulated } in
+pub stops : (v : View) (s : Site) (r : Reign) (before now : List ℕ) → s.state ≡ Primary r → now ≡ before ++ line s.name (codes "DOWN " ++ decimal (length r.site.entries.items))
+    → ExecutesAt (stop s.name) v s v (record { name = s.name; state = Down }) before now true
+stops v s r before now e t p at_p =
+    let o : IsOpen v r p = open_at v s r p e at_p in
     comes_done
-    q
-    (not_early old.name (in_state why_not_open p.site) (why_at v old (Primary r) p e at_p))
+    (record { site = in_new_state world.Down p.site; told = p.told; now = p.now; left = NO_LEFTOVER; outcomes = p.now ∷ []; faults = p.faults; simulated = p.simulated })
+    (ap (λ (x : Option Refusal). or_else x None) (open_at_place v s r p e at_p))
     (record { site = refl; known = record { told = refl; now = refl; left = refl; outcomes = refl }; faults = omega arith; simulated = refl })
     (record {
       disk = record {
@@ -138,29 +130,18 @@ stops_from v old new before now (Primary r) e h =
         simulated = at_p.disk.simulated;
       };
       site = ap (in_new_state world.Down) at_p.site;
-      held = record { made = λ is. record { now = (at_p.held.made is).now; outcomes = λ x j. subst (IsOf old.name) (sym (only x p.now j)) (at_p.held.made is).now }; state = tt };
+      held = record { made = λ is. record { now = (at_p.held.made is).now; outcomes = λ x j. subst (IsOf s.name) (sym (only x p.now j)) (at_p.held.made is).now }; state = tt };
     })
-    (h.1 ∙ ap (λ (k : ℕ). before ++ line old.name (codes "DOWN " ++ decimal k)) (length_tagged r.site.entries.items p.now.sequence 1 o.reigns.remembered.entries)))
+    (t ∙ ap (λ (k : ℕ). before ++ line s.name (codes "DOWN " ++ decimal k)) (length_tagged r.site.entries.items p.now.sequence 1 o.reigns.remembered.entries))
 
-pub stops : (v : View) (old new : Site) (before now : List ℕ) → Stops old new before now → ExecutesAt (stop old.name) v old v new before now
-stops v old new before now h = stops_from v old new before now old.state refl h
+pub extracts_at : (v : View) (s : Site) (r : Reign) (from : Option ℕ) (before now : List ℕ) → s.state ≡ Primary r → ((seq : Sequence) → map numbered r.site.entries.items ≡ enumerate_from 1 seq → now ≡ before ++ extract_from s.name from seq)
+    → ExecutesAt (extract from s.name) v s v s before now true
+extracts_at v s r from before now e h p at_p =
+    comes_done p (ap (λ (x : Option Refusal). or_else x None) (open_at_place v s r p e at_p)) (kept_same p) at_p (h p.now.sequence (reigns_at v s r p e at_p).remembered.entries)
 
-extracts_from : (v : View) (s : Site) (from : Option ℕ) (before now : List ℕ) (state : State) → s.state ≡ state → ExtractsFrom state s from before now → ExecutesAt (extract from s.name) v s v s before now
-extracts_from v s from before now Down e h = refuses (extract from s.name) v s NotRunning before now (λ p at_p. refused_at v s Down p e at_p) kept_same h.1
-extracts_from v s from before now (Failed k) e h = refuses (extract from s.name) v s (Stopped k) before now (λ p at_p. refused_at v s (Failed k) p e at_p) kept_same h.1
-extracts_from v s from before now (Primary r) e h = λ p at_p. comes_done p (not_early s.name (in_state why_not_open p.site) (why_at v s (Primary r) p e at_p)) (kept_same p) at_p (h p.now.sequence (reigns_at v s r p e at_p).remembered.entries)
-
-pub extracts_at : (v : View) (s : Site) (from : Option ℕ) (before now : List ℕ) → Extracts s from before now → ExecutesAt (extract from s.name) v s v s before now
-extracts_at v s from before now h = extracts_from v s from before now s.state refl h
-
-zwrites_from : (v : View) (s : Site) (top : Option Key) (before now : List ℕ) (state : State) → s.state ≡ state → ZwritesFrom state s top before now → ExecutesAt (rows.zwrite top s.name) v s v s before now
-zwrites_from v s top before now Down e h = refuses (rows.zwrite top s.name) v s NotRunning before now (λ p at_p. refused_at v s Down p e at_p) kept_same h.1
-zwrites_from v s top before now (Failed k) e h = refuses (rows.zwrite top s.name) v s (Stopped k) before now (λ p at_p. refused_at v s (Failed k) p e at_p) kept_same h.1
-zwrites_from v s top before now (Primary r) e h = λ p at_p.
-    comes_done p (not_early s.name (in_state why_not_open p.site) (why_at v s (Primary r) p e at_p)) (kept_same p) at_p (h ∙ ap (λ (g : Globals). before ++ zwrite top g) (reigns_at v s r p e at_p).remembered.globals)
-
-pub zwrites_at : (v : View) (s : Site) (top : Option Key) (before now : List ℕ) → Zwrites s top before now → ExecutesAt (rows.zwrite top s.name) v s v s before now
-zwrites_at v s top before now h = zwrites_from v s top before now s.state refl h
+pub zwrites_at : (v : View) (s : Site) (r : Reign) (top : Option Key) (before now : List ℕ) → s.state ≡ Primary r → now ≡ before ++ zwrite top r.site.globals → ExecutesAt (rows.zwrite top s.name) v s v s before now true
+zwrites_at v s r top before now e t p at_p =
+    comes_done p (ap (λ (x : Option Refusal). or_else x None) (open_at_place v s r p e at_p)) (kept_same p) at_p (t ∙ ap (λ (g : Globals). before ++ zwrite top g) (reigns_at v s r p e at_p).remembered.globals)
 
 -- what is shown of a site is what is shown of its place
 shown_state : (v : View) (s : Site) (p : Place) (state : State) → s.state ≡ state → IsAt v s p → state_text s.name state ≡ show_state s.name (state_value state) p.now
@@ -173,7 +154,7 @@ shown_state v s p (Primary r) e h =
     ap (λ (n : ℕ). first n ++ lines (reigns r.site.instance.records)) (length_tagged r.site.entries.items p.now.sequence 1 m.entries)
     ∙ ap (λ (rs : List InstanceRecord). first (length p.now.sequence) ++ lines (reigns rs)) m.instance
 
-pub shows_at : (v : View) (s : Site) (before now : List ℕ) → now ≡ before ++ state_text s.name s.state → ExecutesAt (show s.name) v s v s before now
+pub shows_at : (v : View) (s : Site) (before now : List ℕ) → now ≡ before ++ state_text s.name s.state → ExecutesAt (show s.name) v s v s before now true
 shows_at v s before now t p h =
     comes_done p refl (kept_same p) h (t ∙ ap (λ (x : List ℕ). before ++ x) (shown_state v s p s.state refl h) ∙ ap (λ (o : Option world.Site). before ++ show_on s.name o p.now) (sym h.site))
 

@@ -23,8 +23,8 @@ pub record IsUnmade (p : Place) : Type 0 where
   pub outcomes : IsTrue p.told → (o : Contents) → Among p.outcomes o → is_made o ≡ false
 
 -- Whatever place without a site the slot was, the making leads to one that it is.
-abbrev pub MakesHere : {D : Type 0} → (D → View) → Name → List Region → Slot D → Slot D → List ℕ → List ℕ → Type 0
-MakesHere view name regions old new before now = (p : Place) → IsPlace view old p → IsUnmade p → Comes (create regions name p) (IsPlace view new) before now
+abbrev pub MakesHere : {D : Type 0} → (D → View) → Name → List Region → Slot D → Slot D → List ℕ → List ℕ → Bool → Type 0
+MakesHere view name regions old new before now done = (p : Place) → IsPlace view old p → IsUnmade p → Comes (create regions name p) (IsPlace view new) before now done
 
 -- It was cut off for want of memory.
 abbrev pub MakingIsCut : {D : Type 0} → (D → View) → Name → List Region → Slot D → Slot D → Type 0

@@ -1,27 +1,28 @@
 -- What executing a row at its place is, and executing a command.
-use Rattle.std.specs.Prelude.{◌≡◌, ℕ, List, ◌++◌}
+use Rattle.std.specs.Prelude.{◌≡◌, ℕ, Bool, List, ◌++◌}
 use Rattle.disk_defs.specs.Disk.{View}
 use Rattle.command_defs.specs.Commands.{Command}
 use Rattle.world_defs.specs.World.{Place, World}
 use Rattle.world_defs.specs.Answers.{Answer}
 use Rattle.world_defs.specs.Row.{Row, Here}
-use Rattle.world_defs.specs.Step.{Step, LeftBy, CutOff}
+use Rattle.world_defs.specs.Step.{is_done, Step, LeftBy, CutOff}
 use Rattle.world_defs.specs.Ties.{Matches}
 use Rattle.site_runner.specs.declared.slot.Slot.{Slot}
 use Rattle.site_runner.specs.Tied.{IsPlace, Tied, Matched}
 
--- The row with some answer leads to a place that has S, and this is its text.
-pub record Comes (row : Row) (S : Place → Type 0) (before now : List ℕ) : Type 0 where
+-- The row with some answer leads to a place that has S; this is its text, and so whether it was done.
+pub record Comes (row : Row) (S : Place → Type 0) (before now : List ℕ) (ended : Bool) : Type 0 where
   pub answer : Answer
   pub becomes : Place
   pub text : List ℕ
   pub here : Here row answer becomes text
   pub there : S becomes
   pub written : now ≡ before ++ text
+  pub done : is_done answer ≡ ended
 
 -- Whatever place the slot was, the row leads to one that it is.
-abbrev pub ExecutesHere : {D : Type 0} → (D → View) → (Place → Row) → Slot D → Slot D → List ℕ → List ℕ → Type 0
-ExecutesHere view row old new before now = (p : Place) → IsPlace view old p → Comes (row p) (IsPlace view new) before now
+abbrev pub ExecutesHere : {D : Type 0} → (D → View) → (Place → Row) → Slot D → Slot D → List ℕ → List ℕ → Bool → Type 0
+ExecutesHere view row old new before now done = (p : Place) → IsPlace view old p → Comes (row p) (IsPlace view new) before now done
 
 -- It was cut off for want of memory.
 abbrev pub IsCutHere : {D : Type 0} → (D → View) → (Place → Row) → Slot D → Slot D → Type 0

@@ -1,4 +1,5 @@
 pub mod Told
+pub mod Causes
 pub mod Sites
 pub mod Tied
 pub mod Moved

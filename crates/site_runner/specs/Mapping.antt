@@ -1,5 +1,5 @@
 -- What mapping a pattern means at the place of a site that was looked at for it.
-use Rattle.std.specs.Prelude.{◌≡◌, ◌≤◌, ◌<◌, ℕ, List, length, Some, None, IsTrue, IsSomeAnd}
+use Rattle.std.specs.Prelude.{◌≡◌, ◌≤◌, ◌<◌, ℕ, Bool, true, List, length, Some, None, IsTrue, IsSomeAnd}
 use Rattle.disk_defs.specs.Disk.{Files, View, Image}
 use Rattle.journal_defs.specs.Instance.{generation, regions}
 use Rattle.command_defs.specs.Commands.{Name}
@@ -36,9 +36,9 @@ pub record IsUnmappedIn (region : Name) (number : ℕ) (text : List ℕ) (c : Co
   pub once : twice_mapped text c ≡ None
 
 -- Whatever place the site was looked at, MAP with some answer leads from there to one at which it stands, and this is its text.
-abbrev pub MapsAt : Name → List ℕ → View → Site → View → Site → List ℕ → List ℕ → Type 0
-MapsAt region text v old w new before now = (p : Place) → IsSeenAt v old p
-    → Comes (map_pattern region text old.name p) (IsAt w new) before now
+abbrev pub MapsAt : Name → List ℕ → View → Site → View → Site → List ℕ → List ℕ → Bool → Type 0
+MapsAt region text v old w new before now done = (p : Place) → IsSeenAt v old p
+    → Comes (map_pattern region text old.name p) (IsAt w new) before now done
 
 -- It was cut off for want of memory.
 abbrev pub IsCutSeen : Name → List ℕ → View → Site → View → Type 0

@@ -1,5 +1,5 @@
 -- What beginning a reign means at the place of a site that was opened for it.
-use Rattle.std.specs.Prelude.{◌≡◌, ◌≤◌, ℕ, true, List, length, Some, None, IsTrue}
+use Rattle.std.specs.Prelude.{◌≡◌, ◌≤◌, ℕ, Bool, true, List, length, Some, None, IsTrue}
 use Rattle.disk_defs.specs.Disk.{View}
 use Rattle.journal_defs.specs.Instance.{site_name}
 use Rattle.site_store.specs.declared.site.OpenSite.{OpenSite}
@@ -35,9 +35,9 @@ pub record IsOpenedAt (v : View) (s : Site) (o : OpenSite) (p : Place) : Type 0 
   pub simulated : v.simulated ≡ p.simulated
 
 -- Whatever place the site was opened at, START with some answer leads from there to one at which it stands, and this is its text.
-abbrev pub BeginsAt : View → OpenSite → Site → View → Site → List ℕ → List ℕ → Type 0
-BeginsAt v o old w new before now = (p : Place) → IsOpenedAt v old o p
-    → Comes (start old.name p) (IsAt w new) before now
+abbrev pub BeginsAt : View → OpenSite → Site → View → Site → List ℕ → List ℕ → Bool → Type 0
+BeginsAt v o old w new before now done = (p : Place) → IsOpenedAt v old o p
+    → Comes (start old.name p) (IsAt w new) before now done
 
 -- It was cut off for want of memory.
 abbrev pub IsCutOpened : View → OpenSite → Site → View → Type 0

@@ -1,5 +1,5 @@
 -- What steps at one site are, apart from its disk.
-use Rattle.std.specs.Prelude.{◌≡◌, ℕ, ◌++◌, List, length, codes, map}
+use Rattle.std.specs.Prelude.{◌≡◌, ℕ, Bool, ◌++◌, List, length, codes, Some}
 use Rattle.std.specs.Fmt.{decimal}
 use Rattle.std.specs.List.{enumerate_from, flat_map}
 use Rattle.disk_defs.specs.Disk.{View}
@@ -15,43 +15,14 @@ use Rattle.world_defs.specs.Step.{LeftBy}
 use Rattle.world_defs.specs.rows.Show.{reign_text}
 use Rattle.site_defs.specs.Texts.{extract_from, zwrite}
 use Rattle.world_defs.specs.Ties.{Matches}
-use Rattle.std.specs.Prelude.{Option, Some}
 use Rattle.site_runner.specs.declared.slot.State.{State}
 use Rattle.site_runner.specs.declared.slot.State.TheVariants.{Down, Primary, Failed}
 use Rattle.site_runner.specs.declared.slot.Site.{Site}
 use Rattle.site_runner.specs.Sites.{site_value, IsHeld}
 use Rattle.site_runner.specs.Executes.{Comes}
 
--- a line of the site, and nothing has changed
-abbrev pub Says : Site → Site → List ℕ → List ℕ → List ℕ → Type 0
-Says old new words before now = (new ≡ old) × (now ≡ before ++ line old.name words)
-
 abbrev pub in_state : Site → State → Site
 in_state s state = record { name = s.name; state = state }
-
-abbrev pub StopsFrom : State → Site → Site → List ℕ → List ℕ → Type 0
-StopsFrom Down old new before now = Says old new (codes "NOTRUNNING") before now
-StopsFrom (Primary r) old new before now = (new ≡ in_state old Down) × (now ≡ before ++ line old.name (codes "DOWN " ++ decimal (length r.site.entries.items)))
-StopsFrom (Failed fault) old new before now = Says old new (codes "STOPPED " ++ decimal fault) before now
-
-abbrev pub Stops : Site → Site → List ℕ → List ℕ → Type 0
-Stops old new before now = StopsFrom old.state old new before now
-
-abbrev pub ExtractsFrom : State → Site → Option ℕ → List ℕ → List ℕ → Type 0
-ExtractsFrom Down s from before now = Says s s (codes "NOTRUNNING") before now
-ExtractsFrom (Primary r) s from before now = (seq : Sequence) → map numbered r.site.entries.items ≡ enumerate_from 1 seq → now ≡ before ++ extract_from s.name from seq
-ExtractsFrom (Failed fault) s from before now = Says s s (codes "STOPPED " ++ decimal fault) before now
-
-abbrev pub Extracts : Site → Option ℕ → List ℕ → List ℕ → Type 0
-Extracts s from before now = ExtractsFrom s.state s from before now
-
-abbrev pub ZwritesFrom : State → Site → Option Key → List ℕ → List ℕ → Type 0
-ZwritesFrom Down s top before now = Says s s (codes "NOTRUNNING") before now
-ZwritesFrom (Primary r) s top before now = now ≡ before ++ zwrite top r.site.globals
-ZwritesFrom (Failed fault) s top before now = Says s s (codes "STOPPED " ++ decimal fault) before now
-
-abbrev pub Zwrites : Site → Option Key → List ℕ → List ℕ → Type 0
-Zwrites s top before now = ZwritesFrom s.state s top before now
 
 -- the state of a site, and where it's open its length and a line for each reign that survives
 abbrev pub state_text : List ℕ → State → List ℕ
@@ -67,8 +38,8 @@ pub record IsAt (v : View) (s : Site) (p : Place) : Type 0 where
   pub held : IsHeld v s p
 
 -- Whatever place the site stood at, the row leads to one at which it stands.
-abbrev pub ExecutesAt : (Place → Row) → View → Site → View → Site → List ℕ → List ℕ → Type 0
-ExecutesAt row v old w new before now = (p : Place) → IsAt v old p → Comes (row p) (IsAt w new) before now
+abbrev pub ExecutesAt : (Place → Row) → View → Site → View → Site → List ℕ → List ℕ → Bool → Type 0
+ExecutesAt row v old w new before now done = (p : Place) → IsAt v old p → Comes (row p) (IsAt w new) before now done
 
 -- It was cut off for want of memory.
 abbrev pub IsCutAt : (Place → Row) → View → Site → View → Type 0

@@ -7,6 +7,8 @@ ghost use Rattle.site_runner.specs.Executes.{Executes, IsCutOff};
 ghost use Rattle.site_runner.specs.Attaching.{Takes};
 ghost use Rattle.site_runner.specs.Sites.{site_value, is_slot_named, AreReady};
 
+use super::answering::refuse;
+use super::cause::Cause;
 use super::finding::{find, find_free};
 use super::looking::{look, write_failure};
 use super::slot::{Site, Slot, State};
@@ -15,13 +17,13 @@ use gvn_key::{Bytes, NoMemory};
 use repl_disk::Disk;
 use std::alloc::Global;
 
-/// Gives the slot at place `i` a site of that name, unless one stands already.
+/// Gives the slot at place `i` a site of that name, unless one stands already. Answers whether that was done.
 fn take_site<D: Disk>(
     slots: &mut Vec<Slot<D>>,
     i: usize,
     name: Bytes,
     text: &mut Bytes,
-) -> Result<(), NoMemory>
+) -> Result<bool, NoMemory>
     requires inside { i < length slots.old.items }
     requires ready { AreReady D.disk slots.old.items }
     ensures ready { AreReady D.disk slots.new.items }
@@ -30,23 +32,23 @@ fn take_site<D: Disk>(
     ensures length { length slots.new.items ≡ length slots.old.items }
 {
     if find(slots, name.as_slice()).is_some() {
-        return write_line(text, name.as_slice(), b"EXISTS");
+        return refuse(text, name.as_slice(), &Cause::Exists);
     }
     write_line(text, name.as_slice(), b"ATTACHED")?;
     slots[i].site = Some(Site {
         name,
         state: State::Down,
     });
-    Ok(())
+    Ok(true)
 }
 
-/// Takes the site that stands on the disk at place `i`, the next one.
+/// Takes the site that stands on the disk at place `i`, the next one. Answers whether that was done.
 fn attach_at<D: Disk>(
     alloc: Global,
     slots: &mut Vec<Slot<D>>,
     i: usize,
     text: &mut Bytes,
-) -> Result<(), NoMemory>
+) -> Result<bool, NoMemory>
     requires inside { i < length slots.old.items }
     requires next { first_where (λ slot. is_free (option_map site_value slot.site)) (take 8 slots.old.items) ≡ Some i }
     requires ready { AreReady D.disk slots.old.items }
@@ -57,17 +59,17 @@ fn attach_at<D: Disk>(
 {
     match look(alloc, &mut slots[i]) {
         Err(error) => write_failure(text, b"ATTACH", error),
-        Ok(None) => write_line(text, b"ATTACH", b"EMPTY"),
+        Ok(None) => refuse(text, b"ATTACH", &Cause::Empty),
         Ok(Some(found)) => take_site(slots, i, found.name, text),
     }
 }
 
-/// Takes the site that stands on the next disk.
+/// Takes the site that stands on the next disk. Answers whether that was done.
 pub fn attach<D: Disk>(
     alloc: Global,
     slots: &mut Vec<Slot<D>>,
     text: &mut Bytes,
-) -> Result<(), NoMemory>
+) -> Result<bool, NoMemory>
     requires { AreReady D.disk slots.old.items }
     ensures ready { AreReady D.disk slots.new.items }
     ensures done { OnOk result (Executes D.disk Attach slots.old.items slots.new.items text.old text.new) }
@@ -75,7 +77,7 @@ pub fn attach<D: Disk>(
     ensures length { length slots.new.items ≡ length slots.old.items }
 {
     match find_free(slots) {
-        None => write_line(text, b"ATTACH", b"NODISK"),
+        None => refuse(text, b"ATTACH", &Cause::NoDisk),
         Some(i) => attach_at(alloc, slots, i, text),
     }
 }

@@ -11,6 +11,8 @@ ghost use Rattle.site_runner.specs.Executes.{ExecutesHere, IsCutHere, Executes, 
 ghost use Rattle.site_runner.specs.Creating.{spec_of, MakesHere, MakingIsCut};
 ghost use Rattle.site_runner.specs.Sites.{is_slot_named, IsReadyOn, AreReady};
 
+use super::answering::refuse;
+use super::cause::Cause;
 use super::finding::{find, find_free};
 use super::looking::{look, write_failure};
 use super::slot::{Site, Slot, State};
@@ -36,18 +38,18 @@ fn region_specs(alloc: Global, regions: &NamedModes) -> Result<Vec<RegionSpec>, 
     Ok(specs)
 }
 
-/// Makes a site on a disk on which none was made.
+/// Makes a site on a disk on which none was made. Answers whether that was done.
 fn make<D: Disk>(
     alloc: Global,
     slot: &mut Slot<D>,
     name: Bytes,
     regions: &NamedModes,
     text: &mut Bytes,
-) -> Result<(), NoMemory>
+) -> Result<bool, NoMemory>
     requires formed { IsFormed (commands.Create name (map region_value regions.now)) }
     requires free { slot.old.site ≡ None }
     requires empty { IfSome (D.disk slot.old.disk).content (λ files. records (files INSTANCE) ≡ Some []) }
-    ensures done { OnOk result (MakesHere D.disk name (map region_value regions.now) slot.old slot.new text.old text.new) }
+    ensures done { IfOk result (λ done. MakesHere D.disk name (map region_value regions.now) slot.old slot.new text.old text.new done) }
     ensures cut_off { OnErr result (MakingIsCut D.disk name (map region_value regions.now) slot.old slot.new) }
     ensures ready { IsReadyOn (D.disk slot.new.disk) slot.new.site }
 {
@@ -61,40 +63,40 @@ fn make<D: Disk>(
                 name,
                 state: State::Down,
             });
-            Ok(())
+            Ok(true)
         }
     }
 }
 
-/// Makes a site on a disk that no site of the run has, unless one was made there.
+/// Makes a site on a disk that no site of the run has, unless one was made there. Answers whether that was done.
 fn create_at<D: Disk>(
     alloc: Global,
     slot: &mut Slot<D>,
     name: Bytes,
     regions: &NamedModes,
     text: &mut Bytes,
-) -> Result<(), NoMemory>
+) -> Result<bool, NoMemory>
     requires formed { IsFormed (commands.Create name (map region_value regions.now)) }
     requires free { slot.old.site ≡ None }
-    ensures done { OnOk result (ExecutesHere D.disk (rows.create (map region_value regions.now) name) slot.old slot.new text.old text.new) }
+    ensures done { IfOk result (λ done. ExecutesHere D.disk (rows.create (map region_value regions.now) name) slot.old slot.new text.old text.new done) }
     ensures cut_off { OnErr result (IsCutHere D.disk (rows.create (map region_value regions.now) name) slot.old slot.new) }
     ensures ready { IsReadyOn (D.disk slot.new.disk) slot.new.site }
 {
     match look(alloc, slot) {
         Err(error) => write_failure(text, name.as_slice(), error),
-        Ok(Some(_)) => write_line(text, name.as_slice(), b"NOTEMPTY"),
+        Ok(Some(_)) => refuse(text, name.as_slice(), &Cause::NotEmpty),
         Ok(None) => make(alloc, slot, name, regions, text),
     }
 }
 
-/// Makes a site of a name that none has.
+/// Makes a site of a name that none has. Answers whether that was done.
 fn create_new<D: Disk>(
     alloc: Global,
     slots: &mut Vec<Slot<D>>,
     name: Bytes,
     regions: &NamedModes,
     text: &mut Bytes,
-) -> Result<(), NoMemory>
+) -> Result<bool, NoMemory>
     requires formed { IsFormed (commands.Create name (map region_value regions.now)) }
     requires none { first_where (is_slot_named name) slots.old.items ≡ None }
     requires ready { AreReady D.disk slots.old.items }
@@ -104,19 +106,19 @@ fn create_new<D: Disk>(
     ensures length { length slots.new.items ≡ length slots.old.items }
 {
     match find_free(slots) {
-        None => write_line(text, name.as_slice(), b"NODISK"),
+        None => refuse(text, name.as_slice(), &Cause::NoDisk),
         Some(i) => create_at(alloc, &mut slots[i], name, regions, text),
     }
 }
 
-/// Makes a site on the next disk.
+/// Makes a site on the next disk. Answers whether that was done.
 pub fn create<D: Disk>(
     alloc: Global,
     slots: &mut Vec<Slot<D>>,
     name: Bytes,
     regions: NamedModes,
     text: &mut Bytes,
-) -> Result<(), NoMemory>
+) -> Result<bool, NoMemory>
     requires formed { IsFormed (commands.Create name (map region_value regions)) }
     requires ready { AreReady D.disk slots.old.items }
     ensures ready { AreReady D.disk slots.new.items }
@@ -125,7 +127,7 @@ pub fn create<D: Disk>(
     ensures length { length slots.new.items ≡ length slots.old.items }
 {
     match find(slots, name.as_slice()) {
-        Some(_) => write_line(text, name.as_slice(), b"EXISTS"),
+        Some(_) => refuse(text, name.as_slice(), &Cause::Exists),
         None => create_new(alloc, slots, name, &regions, text),
     }
 }

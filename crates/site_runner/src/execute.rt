@@ -1,5 +1,5 @@
 // One command.
-ghost use Rattle.std.specs.Prelude.{◌≡◌, ◌≢◌, length, OnOk, OnErr, Some, None, true};
+ghost use Rattle.std.specs.Prelude.{◌≡◌, ◌≢◌, length, IfOk, OnOk, OnErr, Some, None, true};
 ghost use Rattle.site_defs.specs.Lists.{first_where};
 ghost use Rattle.command_defs.specs.Sections.{IsFormed, IsWhole};
 ghost use Rattle.repl_script.specs.Commands.{command_value};
@@ -7,7 +7,9 @@ ghost use Rattle.site_runner.specs.Executes.{ExecutesHere, IsCutHere, Executes, 
 ghost use Rattle.site_runner.specs.Named.{IsNamed, name_in, row_in};
 ghost use Rattle.site_runner.specs.Sites.{is_slot_named, IsReadyOn, AreReady};
 
+use super::answering::refuse;
 use super::attach::attach;
+use super::cause::Cause;
 use super::create::create;
 use super::extracting::extract;
 use super::finding::find;
@@ -19,7 +21,6 @@ use super::showing::show;
 use super::slot::Slot;
 use super::start::start;
 use super::stop::stop;
-use super::text::write_line;
 use super::zwriting::zwrite;
 use gvn_key::{Bytes, NoMemory};
 use repl_disk::Disk;
@@ -47,20 +48,20 @@ fn name_of(command: &Command) -> &Bytes
     }
 }
 
-/// Executes a command on the site that it names, which stands there.
+/// Executes a command on the site that it names, which stands there. Answers whether it was done.
 fn execute_at<D: Disk>(
     alloc: Global,
     slot: &mut Slot<D>,
     command: Command,
     text: &mut Bytes,
-) -> Result<(), NoMemory>
+) -> Result<bool, NoMemory>
     requires formed { IsFormed (command_value command) }
     requires whole { IsWhole (command_value command) }
     requires command { IsNamed (command_value command) }
     requires site { is_slot_named (name_in (command_value command)) slot.old ≡ true }
     requires ready { IsReadyOn (D.disk slot.old.disk) slot.old.site }
     ensures ready { OnOk result (IsReadyOn (D.disk slot.new.disk) slot.new.site) }
-    ensures done { OnOk result (ExecutesHere D.disk (row_in (command_value command)) slot.old slot.new text.old text.new) }
+    ensures done { IfOk result (λ done. ExecutesHere D.disk (row_in (command_value command)) slot.old slot.new text.old text.new done) }
     ensures cut_off { OnErr result (IsCutHere D.disk (row_in (command_value command)) slot.old slot.new) }
 {
     let Some(site) = &mut slot.site else {
@@ -76,7 +77,7 @@ fn execute_at<D: Disk>(
             alloc,
             &mut slot.disk,
             site,
-            &region,
+            region,
             pattern.as_slice(),
             text,
         ),
@@ -84,23 +85,23 @@ fn execute_at<D: Disk>(
         Command::Run { jobs, order, .. } => {
             run_section(alloc, &mut slot.disk, site, jobs, order.as_slice(), text)
         }
-        Command::Stop { .. } => stop(site, text),
+        Command::Stop { .. } => stop(&slot.disk, site, text),
         Command::Fuse { calls, .. } => fuse(&mut slot.disk, site, calls, text),
         Command::Crash { pick, .. } => crash(&mut slot.disk, site, pick, text),
-        Command::Extract { number, .. } => extract(site, number, text),
-        Command::Zwrite { top, .. } => zwrite(site, top.as_ref(), text),
-        Command::Show { .. } => show(site, text),
+        Command::Extract { number, .. } => extract(&slot.disk, site, number, text),
+        Command::Zwrite { top, .. } => zwrite(&slot.disk, site, top.as_ref(), text),
+        Command::Show { .. } => show(&slot.disk, site, text),
         Command::Print { generation, .. } => print(&mut slot.disk, site, generation, text),
     }
 }
 
-/// Executes a command on the site that it names.
+/// Executes a command on the site that it names. Answers whether it was done.
 fn execute_named<D: Disk>(
     alloc: Global,
     slots: &mut Vec<Slot<D>>,
     command: Command,
     text: &mut Bytes,
-) -> Result<(), NoMemory>
+) -> Result<bool, NoMemory>
     requires formed { IsFormed (command_value command) }
     requires whole { IsWhole (command_value command) }
     requires command { IsNamed (command_value command) }
@@ -112,18 +113,18 @@ fn execute_named<D: Disk>(
 {
     let name = name_of(&command).as_slice();
     match find(slots, name) {
-        None => write_line(text, name, b"NOSITE"),
+        None => refuse(text, name, &Cause::NoSite),
         Some(i) => execute_at(alloc, &mut slots[i], command, text),
     }
 }
 
-/// Executes a command, and adds what it answers.
+/// Executes a command, and adds what it answers. Answers whether it was done.
 pub fn execute<D: Disk>(
     alloc: Global,
     slots: &mut Vec<Slot<D>>,
     command: Command,
     text: &mut Bytes,
-) -> Result<(), NoMemory>
+) -> Result<bool, NoMemory>
     requires formed { IsFormed (command_value command) }
     requires whole { IsWhole (command_value command) }
     requires ready { AreReady D.disk slots.old.items }

@@ -1,14 +1,16 @@
 // EXTRACT.
-ghost use Rattle.std.specs.Prelude.{◌≡◌, ◌<◌, ◌-◌, ◌++◌, map, drop, IfSome, OnOk};
+ghost use Rattle.std.specs.Prelude.{◌≡◌, ◌<◌, ◌-◌, ◌++◌, map, drop, IfSome, IfOk, OnOk};
 ghost use Rattle.std.specs.List.{flat_map};
 ghost use Rattle.global_defs.specs.Extract.{entry_text};
 ghost use Rattle.gvn_model.specs.Numbered.{numbered};
-ghost use Rattle.site_runner.specs.Steps.{Extracts};
+ghost use Rattle.world_defs.specs.rows.Extract as rows;
+ghost use Rattle.site_runner.specs.Steps.{ExecutesAt};
 
+use super::answering::refuse;
 use super::slot::{Site, State};
-use super::text::{write_line, write_numbered};
 use gvn_key::{Bytes, NoMemory};
 use jnl_extract::write_header;
+use repl_disk::Disk;
 use site_store::OpenSite;
 
 /// Adds the lines of the entries behind the first so many.
@@ -21,20 +23,24 @@ fn write_entries(site: &OpenSite, before: u64, text: &mut Bytes) -> Result<(), N
     Ok(())
 }
 
-/// Shows a site's entries from a number on, or all.
-pub fn extract(site: &Site, number: Option<u64>, text: &mut Bytes) -> Result<(), NoMemory>
+/// Shows a site's entries from a number on, or all. Answers whether that was done.
+pub fn extract<D: Disk>(
+    disk: &D,
+    site: &Site,
+    number: Option<u64>,
+    text: &mut Bytes,
+) -> Result<bool, NoMemory>
     requires { IfSome number (λ from. 0 < from) }
-    ensures { OnOk result (Extracts site.now number text.old text.new) }
+    ensures { IfOk result (λ done. ExecutesAt (rows.extract number site.now.name) (D.disk disk.now) site.now (D.disk disk.now) site.now text.old text.new done) }
 {
-    let from = number.unwrap_or(1);
-    match &site.state {
-        State::Down => write_line(text, site.name.as_slice(), b"NOTRUNNING"),
-        State::Failed { fault } => {
-            write_numbered(text, site.name.as_slice(), b"STOPPED ", *fault)
-        }
-        State::Primary(reign) => {
-            write_header(site.name.as_slice(), from, text)?;
-            write_entries(&reign.site, from.saturating_sub(1), text)
-        }
+    if let Some(cause) = site.state.why_not_open() {
+        return refuse(text, site.name.as_slice(), &cause);
     }
+    let State::Primary(reign) = &site.state else {
+        unreachable!();
+    };
+    let from = number.unwrap_or(1);
+    write_header(site.name.as_slice(), from, text)?;
+    write_entries(&reign.site, from.saturating_sub(1), text)?;
+    Ok(true)
 }

@@ -1,7 +1,9 @@
 //! Does all that the program does: reads a script, runs its commands on sites over disks, and writes their answers.
 #![tactic(auto)]
 
+mod answering;
 mod attach;
+mod cause;
 mod create;
 mod execute;
 mod extracting;

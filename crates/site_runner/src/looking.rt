@@ -1,12 +1,13 @@
 // What stands on the next disk.
-ghost use Rattle.std.specs.Prelude.{◌≡◌, [], None, Some, Ok, IfSome, OnOk};
+ghost use Rattle.std.specs.Prelude.{◌≡◌, [], false, None, Some, Ok, IfSome, IfOk};
 ghost use Rattle.disk_defs.specs.Gates.{records};
 ghost use Rattle.journal_defs.specs.Numbers.{INSTANCE};
 ghost use Rattle.site_runner.specs.Sites.{IsReadyOn};
 ghost use Rattle.site_runner.specs.Looking.{LooksHere, Tells};
 
+use super::answering::damaged;
 use super::slot::Slot;
-use super::text::{write_not_a_file, write_numbered};
+use super::text::write_numbered;
 use gvn_key::{Bytes, NoMemory};
 use repl_disk::Disk;
 use site_store::{Layout, SiteError, inspect};
@@ -25,13 +26,16 @@ pub fn look<D: Disk>(alloc: Global, slot: &mut Slot<D>) -> Result<Option<Layout>
     inspect(alloc, &mut slot.disk)
 }
 
-/// Adds the line of a call that failed, which begins with that word.
-pub fn write_failure(text: &mut Bytes, word: &[u8], error: SiteError) -> Result<(), NoMemory>
-    ensures { OnOk result (Tells error word.now text.old text.new) }
+/// Adds the line of a call that failed, which begins with that word. Answers that the command wasn't done.
+pub fn write_failure(text: &mut Bytes, word: &[u8], error: SiteError) -> Result<bool, NoMemory>
+    ensures { IfOk result (λ done. (done ≡ false) × Tells error word.now text.old text.new) }
 {
     match error {
-        SiteError::Failed { fault } => write_numbered(text, word, b"DISKFAULT ", fault),
-        SiteError::NotAFile { file, offset } => write_not_a_file(text, word, file, offset),
+        SiteError::Failed { fault } => {
+            write_numbered(text, word, b"DISKFAULT ", fault)?;
+            Ok(false)
+        }
+        SiteError::NotAFile { file, offset } => damaged(text, word, file, offset),
         _ => Err(NoMemory),
     }
 }

@@ -1,5 +1,5 @@
 // MAP.
-ghost use Rattle.std.specs.Prelude.{◌≡◌, ◌<◌, ◌≤◌, take, map, length, IfSome, OnOk, OnErr, true, Some};
+ghost use Rattle.std.specs.Prelude.{◌≡◌, ◌<◌, ◌≤◌, take, map, length, IfSome, IfOk, OnOk, OnErr, true, Some};
 ghost use Rattle.disk_defs.specs.Disk.{IsDurable};
 ghost use Rattle.global_defs.specs.Pattern.{is_pattern};
 ghost use Rattle.journal_defs.specs.Numbers.{INSTANCE};
@@ -17,8 +17,10 @@ ghost use Rattle.site_runner.specs.Sites.{IsReadyState};
 ghost use Rattle.site_runner.specs.Steps.{ExecutesAt, IsCutAt};
 ghost use Rattle.site_runner.specs.Mapping.{IsUnmappedIn, MapsAt, IsCutSeen};
 
-use super::slot::{Site, State};
-use super::text::{write_line, write_named, write_not_a_file, write_numbered};
+use super::answering::{damaged, fail, refuse};
+use super::cause::Cause;
+use super::slot::Site;
+use super::text::write_line;
 use global_dir::DirError;
 use gvn_key::{Bytes, NoMemory};
 use instance_file::InstanceLog;
@@ -58,7 +60,7 @@ fn map_there<D: Disk>(
     region: &Bytes,
     pattern: &[u8],
     text: &mut Bytes,
-) -> Result<(), NoMemory>
+) -> Result<bool, NoMemory>
     requires form { is_pattern pattern.now ≡ true }
     requires free { IfSome (D.disk disk.old).content (λ files. (c : Contents) → IsSite files c → IsUnmappedIn region.now number pattern.now c) }
     requires named { (c : Contents) × (region_number region.now c ≡ Some number) }
@@ -69,19 +71,18 @@ fn map_there<D: Disk>(
     requires durable { IfSome (D.disk disk.old).content (λ files. IsDurable (D.disk disk.old) INSTANCE (files INSTANCE)) }
     requires down { site.old.state ≡ Down }
     ensures ready { OnOk result (IsReadyState (D.disk disk.new) site.new.state) }
-    ensures done { OnOk result (MapsAt region.now pattern.now (D.disk disk.old) site.old (D.disk disk.new) site.new text.old text.new) }
+    ensures done { IfOk result (λ done. MapsAt region.now pattern.now (D.disk disk.old) site.old (D.disk disk.new) site.new text.old text.new done) }
     ensures cut_off { OnErr result (IsCutSeen region.now pattern.now (D.disk disk.old) site.old (D.disk disk.new)) }
 {
     leftovers_hold();
     match site_store::map_logged(alloc, disk, log, number, pattern) {
-        Ok(()) => write_line(text, site.name.as_slice(), b"MAPPED"),
-        Err(SiteError::Failed { fault }) => {
-            write_numbered(text, site.name.as_slice(), b"DISKFAULT ", fault)?;
-            site.state = State::Failed { fault };
-            Ok(())
+        Ok(()) => {
+            write_line(text, site.name.as_slice(), b"MAPPED")?;
+            Ok(true)
         }
+        Err(SiteError::Failed { fault }) => fail(site, fault, text),
         Err(SiteError::NotAFile { file, offset }) => {
-            write_not_a_file(text, site.name.as_slice(), file, offset)
+            damaged(text, site.name.as_slice(), file, offset)
         }
         Err(_) => Err(NoMemory),
     }
@@ -93,32 +94,32 @@ fn map_found<D: Disk>(
     disk: &mut D,
     site: &mut Site,
     found: FoundSite,
-    region: &Bytes,
+    region: Bytes,
     pattern: &[u8],
     text: &mut Bytes,
-) -> Result<(), NoMemory>
+) -> Result<bool, NoMemory>
     requires form { is_pattern pattern.now ≡ true }
     requires found { IfSome (D.disk disk.old).content (λ files. (c : Contents) → Stands files c → IsFound c (Some found.layout)) }
     requires told { IsFoundIn (D.disk disk.old) found }
     requires down { site.old.state ≡ Down }
     ensures ready { OnOk result (IsReadyState (D.disk disk.new) site.new.state) }
-    ensures done { OnOk result (MapsAt region.now pattern.now (D.disk disk.old) site.old (D.disk disk.new) site.new text.old text.new) }
-    ensures cut_off { OnErr result (IsCutSeen region.now pattern.now (D.disk disk.old) site.old (D.disk disk.new)) }
+    ensures done { IfOk result (λ done. MapsAt region pattern.now (D.disk disk.old) site.old (D.disk disk.new) site.new text.old text.new done) }
+    ensures cut_off { OnErr result (IsCutSeen region pattern.now (D.disk disk.old) site.old (D.disk disk.new)) }
 {
     leftovers_hold();
     let FoundSite { mut layout, log } = found;
     if !is_named(&layout, site.name.as_slice()) {
-        return write_not_a_file(text, site.name.as_slice(), 0, 0);
+        return damaged(text, site.name.as_slice(), 0, 0);
     }
     if layout.generation > 0 {
-        return write_line(text, site.name.as_slice(), b"STARTED");
+        return refuse(text, site.name.as_slice(), &Cause::Started);
     }
     let Some(number) = region_named(&layout, region.as_slice()) else {
-        return write_named(text, site.name.as_slice(), b"NOREGION ", region.as_slice());
+        return refuse(text, site.name.as_slice(), &Cause::NoRegion { region });
     };
     match layout.directory.map(number, pattern) {
-        Ok(()) => map_there(alloc, disk, site, log, number, region, pattern, text),
-        Err(DirError::TwiceMapped) => write_line(text, site.name.as_slice(), b"TWICEMAPPED"),
+        Ok(()) => map_there(alloc, disk, site, log, number, &region, pattern, text),
+        Err(DirError::TwiceMapped) => refuse(text, site.name.as_slice(), &Cause::TwiceMapped),
         Err(_) => Err(NoMemory),
     }
 }
@@ -128,52 +129,45 @@ fn map_down<D: Disk>(
     alloc: Global,
     disk: &mut D,
     site: &mut Site,
-    region: &Bytes,
+    region: Bytes,
     pattern: &[u8],
     text: &mut Bytes,
-) -> Result<(), NoMemory>
+) -> Result<bool, NoMemory>
     requires form { is_pattern pattern.now ≡ true }
     requires down { site.old.state ≡ Down }
     ensures ready { OnOk result (IsReadyState (D.disk disk.new) site.new.state) }
-    ensures done { OnOk result (ExecutesAt (map_pattern region.now pattern.now site.old.name) (D.disk disk.old) site.old (D.disk disk.new) site.new text.old text.new) }
-    ensures cut_off { OnErr result (IsCutAt (map_pattern region.now pattern.now site.old.name) (D.disk disk.old) site.old (D.disk disk.new)) }
+    ensures done { IfOk result (λ done. ExecutesAt (map_pattern region pattern.now site.old.name) (D.disk disk.old) site.old (D.disk disk.new) site.new text.old text.new done) }
+    ensures cut_off { OnErr result (IsCutAt (map_pattern region pattern.now site.old.name) (D.disk disk.old) site.old (D.disk disk.new)) }
 {
     leftovers_hold();
     match find(alloc, disk) {
         Ok(Some(found)) => map_found(alloc, disk, site, found, region, pattern, text),
-        Ok(None) => write_not_a_file(text, site.name.as_slice(), 0, 0),
-        Err(SiteError::Failed { fault }) => {
-            write_numbered(text, site.name.as_slice(), b"DISKFAULT ", fault)?;
-            site.state = State::Failed { fault };
-            Ok(())
-        }
+        Ok(None) => damaged(text, site.name.as_slice(), 0, 0),
+        Err(SiteError::Failed { fault }) => fail(site, fault, text),
         Err(SiteError::NotAFile { file, offset }) => {
-            write_not_a_file(text, site.name.as_slice(), file, offset)
+            damaged(text, site.name.as_slice(), file, offset)
         }
         Err(_) => Err(NoMemory),
     }
 }
 
-/// Maps a pattern to a region of a site.
+/// Maps a pattern to a region of a site. Answers whether that was done.
 pub fn map<D: Disk>(
     alloc: Global,
     disk: &mut D,
     site: &mut Site,
-    region: &Bytes,
+    region: Bytes,
     pattern: &[u8],
     text: &mut Bytes,
-) -> Result<(), NoMemory>
+) -> Result<bool, NoMemory>
     requires ready { IsReadyState (D.disk disk.old) site.old.state }
     requires form { is_pattern pattern.now ≡ true }
     ensures ready { OnOk result (IsReadyState (D.disk disk.new) site.new.state) }
-    ensures done { OnOk result (ExecutesAt (map_pattern region.now pattern.now site.old.name) (D.disk disk.old) site.old (D.disk disk.new) site.new text.old text.new) }
-    ensures cut_off { OnErr result (IsCutAt (map_pattern region.now pattern.now site.old.name) (D.disk disk.old) site.old (D.disk disk.new)) }
+    ensures done { IfOk result (λ done. ExecutesAt (map_pattern region pattern.now site.old.name) (D.disk disk.old) site.old (D.disk disk.new) site.new text.old text.new done) }
+    ensures cut_off { OnErr result (IsCutAt (map_pattern region pattern.now site.old.name) (D.disk disk.old) site.old (D.disk disk.new)) }
 {
-    match &site.state {
-        State::Failed { fault } => {
-            write_numbered(text, site.name.as_slice(), b"STOPPED ", *fault)
-        }
-        State::Primary(_) => write_line(text, site.name.as_slice(), b"RUNNING"),
-        State::Down => map_down(alloc, disk, site, region, pattern, text),
+    if let Some(cause) = site.state.why_not_down() {
+        return refuse(text, site.name.as_slice(), &cause);
     }
+    map_down(alloc, disk, site, region, pattern, text)
 }

@@ -1,11 +1,12 @@
 // TYPE.
-ghost use Rattle.std.specs.Prelude.{◌≡◌, ◌≤◌, OnOk, OnErr};
+ghost use Rattle.std.specs.Prelude.{◌≡◌, ◌≤◌, IfOk, OnOk, OnErr};
 ghost use Rattle.world_defs.specs.rows.Print as rows;
 ghost use Rattle.site_runner.specs.Sites.{IsReadyState};
 ghost use Rattle.site_runner.specs.Steps.{ExecutesAt, IsCutAt};
 
-use super::slot::{Site, State};
-use super::text::{write_line, write_numbered};
+use super::answering::{fail, refuse};
+use super::cause::Cause;
+use super::slot::Site;
 use gvn_key::{Bytes, NoMemory};
 use repl_disk::Disk;
 use site_store::{SiteError, read_file};
@@ -14,38 +15,34 @@ use world_laws::leftovers::typing_reads_files;
 /// The broken-transaction file of a generation has the number that is so much greater.
 const BROKEN_FILES: u32 = 2_000_000;
 
-/// Shows the broken-transaction file of a generation, as it reads.
+/// Shows the broken-transaction file of a generation, as it reads. It counts as not done: no command goes on behind it.
 pub fn print<D: Disk>(
     disk: &mut D,
     site: &mut Site,
     generation: u32,
     text: &mut Bytes,
-) -> Result<(), NoMemory>
+) -> Result<bool, NoMemory>
     requires ready { IsReadyState (D.disk disk.old) site.old.state }
     requires some { 1 ≤ generation }
     requires most { generation ≤ 65535 }
     ensures ready { OnOk result (IsReadyState (D.disk disk.new) site.new.state) }
-    ensures done { OnOk result (ExecutesAt (rows.print generation site.old.name) (D.disk disk.old) site.old (D.disk disk.new) site.new text.old text.new) }
+    ensures done { IfOk result (λ done. ExecutesAt (rows.print generation site.old.name) (D.disk disk.old) site.old (D.disk disk.new) site.new text.old text.new done) }
     ensures cut_off { OnErr result (IsCutAt (rows.print generation site.old.name) (D.disk disk.old) site.old (D.disk disk.new)) }
 {
     typing_reads_files();
-    if let Some(fault) = site.fault() {
-        return write_numbered(text, site.name.as_slice(), b"STOPPED ", fault);
+    if let Some(cause) = site.state.why_stopped() {
+        return refuse(text, site.name.as_slice(), &cause);
     }
     let mut bytes = Bytes::new(text.allocator());
     match read_file(disk, BROKEN_FILES + generation, &mut bytes) {
         Ok(()) => {
             if bytes.is_empty() {
-                write_line(text, site.name.as_slice(), b"NOFILE")
-            } else {
-                text.push_all(bytes.as_slice())
+                return refuse(text, site.name.as_slice(), &Cause::NoFile);
             }
+            text.push_all(bytes.as_slice())?;
+            Ok(false)
         }
-        Err(SiteError::Failed { fault }) => {
-            write_numbered(text, site.name.as_slice(), b"DISKFAULT ", fault)?;
-            site.state = State::Failed { fault };
-            Ok(())
-        }
+        Err(SiteError::Failed { fault }) => fail(site, fault, text),
         Err(_) => Err(NoMemory),
     }
 }

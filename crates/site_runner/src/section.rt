@@ -1,12 +1,13 @@
 // RUN.
-ghost use Rattle.std.specs.Prelude.{◌≡◌, OnOk, OnErr};
+ghost use Rattle.std.specs.Prelude.{◌≡◌, IfOk, OnOk, OnErr};
 ghost use Rattle.command_defs.specs.Sections.{UsesUp};
 ghost use Rattle.world_defs.specs.rows.Run.{run};
 ghost use Rattle.site_runner.specs.Sites.{IsReadyState};
 ghost use Rattle.site_runner.specs.Steps.{ExecutesAt, IsCutAt};
 
+use super::answering::refuse;
 use super::slot::{Site, State};
-use super::text::{write_line, write_numbered, write_undecided};
+use super::text::{write_numbered, write_undecided};
 use gvn_key::{Bytes, NoMemory};
 use gvn_model::Jobs;
 use repl_disk::Disk;
@@ -15,7 +16,8 @@ use site_store::nothing_is_left;
 use std::alloc::Global;
 use world_laws::leftovers::leftovers_hold;
 
-/// Decides updaters' jobs at a site, one after another in the order of their first lines.
+/// Decides updaters' jobs at a site, one after another in the order of their first lines. A section counts as not done: no command
+/// goes on behind it.
 pub fn run_section<D: Disk>(
     alloc: Global,
     disk: &mut D,
@@ -23,32 +25,32 @@ pub fn run_section<D: Disk>(
     jobs: Jobs,
     order: &[u8],
     text: &mut Bytes,
-) -> Result<(), NoMemory>
+) -> Result<bool, NoMemory>
     requires whole { UsesUp jobs order.now }
     requires ready { IsReadyState (D.disk disk.old) site.old.state }
     ensures ready { OnOk result (IsReadyState (D.disk disk.new) site.new.state) }
-    ensures done { OnOk result (ExecutesAt (run jobs order.now site.old.name) (D.disk disk.old) site.old (D.disk disk.new) site.new text.old text.new) }
+    ensures done { IfOk result (λ done. ExecutesAt (run jobs order.now site.old.name) (D.disk disk.old) site.old (D.disk disk.new) site.new text.old text.new done) }
     ensures cut_off { OnErr result (IsCutAt (run jobs order.now site.old.name) (D.disk disk.old) site.old (D.disk disk.new)) }
 {
     leftovers_hold();
-    let reign = match &mut site.state {
-        State::Down => return write_line(text, site.name.as_slice(), b"NOTPRIMARY"),
-        State::Failed { fault } => {
-            return write_numbered(text, site.name.as_slice(), b"STOPPED ", *fault);
-        }
-        State::Primary(reign) => reign,
+    if let Some(cause) = site.state.why_not_primary() {
+        return refuse(text, site.name.as_slice(), &cause);
+    }
+    let State::Primary(reign) = &mut site.state else {
+        unreachable!();
     };
     match reign.run(alloc, disk, jobs, order, text) {
         Ok(()) => {
             nothing_is_left(disk);
             let length = reign.site.sequence_length();
-            write_numbered(text, site.name.as_slice(), b"AT ", length)
+            write_numbered(text, site.name.as_slice(), b"AT ", length)?;
+            Ok(false)
         }
         Err(RunError::Failed { undecided }) => {
             let fault = disk.faults();
             write_undecided(text, site.name.as_slice(), fault, undecided)?;
             site.state = State::Failed { fault };
-            Ok(())
+            Ok(false)
         }
         Err(RunError::NoMemory) => Err(NoMemory),
     }

@@ -1,16 +1,18 @@
 // SHOW.
-ghost use Rattle.std.specs.Prelude.{◌≡◌, ◌++◌, map, OnOk};
+ghost use Rattle.std.specs.Prelude.{◌≡◌, ◌++◌, map, IfOk, OnOk};
 ghost use Rattle.std.specs.List.{flat_map};
 ghost use Rattle.gvn_model.specs.Reigns.{reign_value};
 ghost use Rattle.world_defs.specs.Answers.{line};
+ghost use Rattle.world_defs.specs.rows.Show as rows;
 ghost use Rattle.world_defs.specs.rows.Show.{reign_text};
 ghost use Rattle.repl_section.specs.Reigns.{stamp_in};
-ghost use Rattle.site_runner.specs.Steps.{state_text};
+ghost use Rattle.site_runner.specs.Steps.{ExecutesAt, state_text};
 
 use super::slot::{Site, State};
 use super::text::{write_line, write_numbered, write_open, write_reign};
 use gvn_key::{Bytes, NoMemory};
 use gvn_model::{Reign, Stamp};
+use repl_disk::Disk;
 
 /// Adds a line for each reign.
 fn write_reigns(name: &[u8], reigns: &[Reign], text: &mut Bytes) -> Result<(), NoMemory>
@@ -32,8 +34,8 @@ fn begun_cycle(stamp: &Option<Stamp>) -> u32
     }
 }
 
-/// Shows a site's state, and where it's open its length and the reigns of its entries.
-pub fn show(site: &Site, text: &mut Bytes) -> Result<(), NoMemory>
+/// Adds a site's state, and where it's open its length and the reigns of its entries.
+fn write_state(site: &Site, text: &mut Bytes) -> Result<(), NoMemory>
     ensures { OnOk result (text.new ≡ text.old ++ state_text site.now.name site.now.state) }
 {
     let name = site.name.as_slice();
@@ -46,4 +48,12 @@ pub fn show(site: &Site, text: &mut Bytes) -> Result<(), NoMemory>
             write_reigns(name, reign.site.history().as_slice(), text)
         }
     }
+}
+
+/// Shows a site. Answers that it was done.
+pub fn show<D: Disk>(disk: &D, site: &Site, text: &mut Bytes) -> Result<bool, NoMemory>
+    ensures { IfOk result (λ done. ExecutesAt (rows.show site.now.name) (D.disk disk.now) site.now (D.disk disk.now) site.now text.old text.new done) }
+{
+    write_state(site, text)?;
+    Ok(true)
 }

@@ -1,5 +1,5 @@
 // START PRIMARY.
-ghost use Rattle.std.specs.Prelude.{◌≡◌, ◌≢◌, OnOk, OnErr, MatchBool};
+ghost use Rattle.std.specs.Prelude.{◌≡◌, ◌≢◌, IfOk, OnOk, OnErr, MatchBool};
 ghost use Rattle.journal_defs.specs.Instance.{site_name};
 ghost use Rattle.world_defs.specs.rows.Start as rows;
 ghost use Rattle.site_store.specs.Site.{IsReady, WasOpened};
@@ -8,8 +8,10 @@ ghost use Rattle.site_runner.specs.Sites.{IsReadyState};
 ghost use Rattle.site_runner.specs.Steps.{ExecutesAt, IsCutAt};
 ghost use Rattle.site_runner.specs.Starting.{BeginsAt, IsCutOpened};
 
+use super::answering::{damaged, fail, refuse};
+use super::cause::Cause;
 use super::slot::{Site, State};
-use super::text::{write_line, write_not_a_file, write_numbered, write_primary};
+use super::text::write_primary;
 use gvn_key::{Bytes, NoMemory};
 use repl_disk::Disk;
 use repl_section::Reign;
@@ -31,12 +33,12 @@ fn begin<D: Disk>(
     site: &mut Site,
     mut opened: OpenSite,
     text: &mut Bytes,
-) -> Result<(), NoMemory>
+) -> Result<bool, NoMemory>
     requires down { site.old.state ≡ Down }
     requires ready { IsReady (D.disk disk.old) opened }
     requires opened { WasOpened opened }
     ensures ready { OnOk result (IsReadyState (D.disk disk.new) site.new.state) }
-    ensures done { OnOk result (BeginsAt (D.disk disk.old) opened site.old (D.disk disk.new) site.new text.old text.new) }
+    ensures done { IfOk result (λ done. BeginsAt (D.disk disk.old) opened site.old (D.disk disk.new) site.new text.old text.new done) }
     ensures cut_off { OnErr result (IsCutOpened (D.disk disk.old) opened site.old (D.disk disk.new)) }
 {
     leftovers_hold();
@@ -51,14 +53,10 @@ fn begin<D: Disk>(
                 site: opened,
                 serials,
             });
-            Ok(())
+            Ok(true)
         }
-        Err(SiteError::ReignLimit) => write_line(text, site.name.as_slice(), b"REIGNLIMIT"),
-        Err(SiteError::Failed { fault }) => {
-            write_numbered(text, site.name.as_slice(), b"DISKFAULT ", fault)?;
-            site.state = State::Failed { fault };
-            Ok(())
-        }
+        Err(SiteError::ReignLimit) => refuse(text, site.name.as_slice(), &Cause::ReignLimit),
+        Err(SiteError::Failed { fault }) => fail(site, fault, text),
         Err(_) => Err(NoMemory),
     }
 }
@@ -69,10 +67,10 @@ fn open<D: Disk>(
     disk: &mut D,
     site: &mut Site,
     text: &mut Bytes,
-) -> Result<(), NoMemory>
+) -> Result<bool, NoMemory>
     requires { site.old.state ≡ Down }
     ensures ready { OnOk result (IsReadyState (D.disk disk.new) site.new.state) }
-    ensures done { OnOk result (ExecutesAt (rows.start site.old.name) (D.disk disk.old) site.old (D.disk disk.new) site.new text.old text.new) }
+    ensures done { IfOk result (λ done. ExecutesAt (rows.start site.old.name) (D.disk disk.old) site.old (D.disk disk.new) site.new text.old text.new done) }
     ensures cut_off { OnErr result (IsCutAt (rows.start site.old.name) (D.disk disk.old) site.old (D.disk disk.new)) }
 {
     leftovers_hold();
@@ -82,39 +80,32 @@ fn open<D: Disk>(
             if is_named(&opened, site.name.as_slice()) {
                 begin(alloc, disk, site, opened, text)
             } else {
-                write_not_a_file(text, site.name.as_slice(), 0, 0)
+                damaged(text, site.name.as_slice(), 0, 0)
             }
         }
-        Err(SiteError::GenLimit) => write_line(text, site.name.as_slice(), b"GENLIMIT"),
-        Err(SiteError::Failed { fault }) => {
-            write_numbered(text, site.name.as_slice(), b"DISKFAULT ", fault)?;
-            site.state = State::Failed { fault };
-            Ok(())
-        }
+        Err(SiteError::GenLimit) => refuse(text, site.name.as_slice(), &Cause::GenLimit),
+        Err(SiteError::Failed { fault }) => fail(site, fault, text),
         Err(SiteError::NotAFile { file, offset }) => {
-            write_not_a_file(text, site.name.as_slice(), file, offset)
+            damaged(text, site.name.as_slice(), file, offset)
         }
         Err(_) => Err(NoMemory),
     }
 }
 
-/// Opens a site, and begins its reign.
+/// Opens a site, and begins its reign. Answers whether that was done.
 pub fn start<D: Disk>(
     alloc: Global,
     disk: &mut D,
     site: &mut Site,
     text: &mut Bytes,
-) -> Result<(), NoMemory>
+) -> Result<bool, NoMemory>
     requires { IsReadyState (D.disk disk.old) site.old.state }
     ensures ready { OnOk result (IsReadyState (D.disk disk.new) site.new.state) }
-    ensures done { OnOk result (ExecutesAt (rows.start site.old.name) (D.disk disk.old) site.old (D.disk disk.new) site.new text.old text.new) }
+    ensures done { IfOk result (λ done. ExecutesAt (rows.start site.old.name) (D.disk disk.old) site.old (D.disk disk.new) site.new text.old text.new done) }
     ensures cut_off { OnErr result (IsCutAt (rows.start site.old.name) (D.disk disk.old) site.old (D.disk disk.new)) }
 {
-    match &site.state {
-        State::Failed { fault } => {
-            write_numbered(text, site.name.as_slice(), b"STOPPED ", *fault)
-        }
-        State::Primary(_) => write_line(text, site.name.as_slice(), b"RUNNING"),
-        State::Down => open(alloc, disk, site, text),
+    if let Some(cause) = site.state.why_not_down() {
+        return refuse(text, site.name.as_slice(), &cause);
     }
+    open(alloc, disk, site, text)
 }

@@ -35,17 +35,6 @@ pub fn write_numbered(
     text.push_all(b"\n")
 }
 
-/// Adds a line of the site's name, a word and another name.
-pub fn write_named(text: &mut Bytes, name: &[u8], word: &[u8], other: &[u8]) -> Result<(), NoMemory>
-    ensures { OnOk result (text.new ≡ text.old ++ line name.now (word.now ++ other.now)) }
-{
-    text.push_all(name)?;
-    text.push_all(b" ")?;
-    text.push_all(word)?;
-    text.push_all(other)?;
-    text.push_all(b"\n")
-}
-
 /// Adds the line of a reign of that cycle whose first entry has that number.
 pub fn write_primary(text: &mut Bytes, name: &[u8], cycle: u32, from: u64) -> Result<(), NoMemory>
     ensures { OnOk result (text.new ≡ text.old ++ line name.now (codes "PRIMARY " ++ decimal cycle ++ codes " FROM " ++ decimal from)) }

@@ -71,7 +71,7 @@ fn carry_out<K: Sink, D: Disk>(
     let mut text = Bytes::new(alloc);
     match execute(alloc, slots, command, &mut text) {
         Err(_) => Err(Status::NoMemory),
-        Ok(()) => match write_all(out, text.as_slice()) {
+        Ok(_) => match write_all(out, text.as_slice()) {
             Ok(()) => Ok(()),
             Err(_) => Err(Status::SinkFault),
         },

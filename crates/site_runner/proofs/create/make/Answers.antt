@@ -1,7 +1,8 @@
 use Rattle.std.proofs.Common.{◌++◌, ℕ, List, ◌∙◌, ap}
 use Rattle.std.specs.Prelude.{codes}
 use Rattle.world_defs.specs.Answers.{line}
-use Rattle.site_runner.proofs.Results.{on_ok, err_holds}
+use Rattle.site_runner.proofs.Ats.{on_not_done}
+use Rattle.site_runner.proofs.Results.{err_holds}
 use Rattle.site_runner.proofs.Created.{specs_in_form, made_site, make_failed, unwritten, make_cut}
 use Rattle.site_runner.proofs.create.make.Goals as goal
 
@@ -18,7 +19,7 @@ returns-in_err-write_line-in-Ok-clause-cut_off g c =
 pub returns-in-Err-clause-done : goal.returns-in-Err-clause-done
 returns-in-Err-clause-done g c =
     let e = c.create.ensures in
-    on_ok c.write_failure.result _ _ c.write_failure.ensures (λ t.
+    on_not_done c.write_failure.result _ _ c.write_failure.ensures (λ t.
     make_failed c.leftovers_hold.ensures g.D.Disk.disk c.args.slot.now c.create.new.disk c.args.name c.deref.result.now c.args.regions.now c.in-Err.error c.args.text.now c.write_failure.new.text
     (record { was_lawful = g.met.D.Disk.lawful c.args.slot.now.disk; lawful = g.met.D.Disk.lawful c.create.new.disk; any_moment = e.any_moment; still_told = e.still_told; simulated = e.simulated }) (c.deref.ensures.value ∙ c.in_ok-specs.ensures) c.requires.free
     (unwritten _ _ c.create.result c.in-Err.error c.in-Err.is e.count e.cause e.other_errors)

@@ -1,5 +1,6 @@
 use Rattle.std.proofs.Common.{rules, ◌≡◌, ℕ, List, Option, Some, sym, ap, refl, subst}
 use Rattle.std.specs.Option.{option_copied}
+use Rattle.std.specs.Prelude.{IfOk}
 use Rattle.global_defs.specs.Key.{Key}
 use Rattle.command_defs.specs.Commands as commands
 use Rattle.world_defs.specs.Meaning.{row_at}
@@ -15,9 +16,9 @@ use Rattle.world_defs.specs.rows.Stop.{stop}
 use Rattle.world_defs.specs.rows.Zwrite.{zwrite}
 use Rattle.repl_script.specs.Commands.{command_value}
 use Rattle.site_runner.specs.Named.{row_in}
-use Rattle.site_runner.specs.Steps.{Zwrites}
-use Rattle.site_runner.proofs.Results.{on_ok, on_errs, err_holds}
-use Rattle.site_runner.proofs.Stopped.{arm_done, arm_cut, cut_kept, stops, extracts_at, zwrites_at, shows_at}
+use Rattle.site_runner.specs.Steps.{ExecutesAt}
+use Rattle.site_runner.proofs.Results.{on_errs, err_holds}
+use Rattle.site_runner.proofs.Stopped.{arm_done, arm_cut, cut_kept}
 use Rattle.site_runner.proofs.execute.execute_at.Goals as goal
 
 pub returns-in-Map-clause-done : goal.returns-in-Map-clause-done
@@ -47,7 +48,7 @@ returns-in-Run-clause-cut_off g c = arm_cut g.D.Disk.disk (command_value c.args.
 pub returns-in-Stop-clause-done : goal.returns-in-Stop-clause-done
 returns-in-Stop-clause-done g c =
     arm_done g.D.Disk.disk (command_value c.args.command) (commands.Stop c.in-Stop.site) (stop) c.args.slot.now c.args.slot.now.disk c.in-Some.site c.stop.new.site c.stop.result (ap command_value c.in-Stop.is) refl c.in-Some.is c.args.text.now c.stop.new.text
-    (on_ok c.stop.result _ _ c.stop.ensures.done (λ h. stops (g.D.Disk.disk c.args.slot.now.disk) c.in-Some.site c.stop.new.site c.args.text.now c.stop.new.text h))
+    c.stop.ensures.done
 
 pub returns-in-Stop-clause-cut_off : goal.returns-in-Stop-clause-cut_off
 returns-in-Stop-clause-cut_off g c = err_holds c.stop.result _ (cut_kept g.D.Disk.disk (row_in (command_value c.args.command)) c.args.slot.now (record { disk = c.args.slot.now.disk; site = Some c.stop.new.site }) refl)
@@ -71,7 +72,7 @@ returns-in-Crash-clause-cut_off g c = on_errs c.crash.result _ _ c.crash.ensures
 pub returns-in-Extract-clause-done : goal.returns-in-Extract-clause-done
 returns-in-Extract-clause-done g c =
     arm_done g.D.Disk.disk (command_value c.args.command) (commands.Extract c.in-Extract.site c.in-Extract.number) (extract c.in-Extract.number) c.args.slot.now c.args.slot.now.disk c.in-Some.site c.in-Some.site c.extract.result (ap command_value c.in-Extract.is) refl c.in-Some.is c.args.text.now c.extract.new.text
-    (on_ok c.extract.result _ _ c.extract.ensures (λ h. extracts_at (g.D.Disk.disk c.args.slot.now.disk) c.in-Some.site c.in-Extract.number c.args.text.now c.extract.new.text h))
+    c.extract.ensures
 
 pub returns-in-Extract-clause-cut_off : goal.returns-in-Extract-clause-cut_off
 returns-in-Extract-clause-cut_off g c = err_holds c.extract.result _ (cut_kept g.D.Disk.disk (row_in (command_value c.args.command)) c.args.slot.now (record { disk = c.args.slot.now.disk; site = Some c.in-Some.site }) refl)
@@ -80,7 +81,7 @@ pub returns-in-Zwrite-clause-done : goal.returns-in-Zwrite-clause-done
 returns-in-Zwrite-clause-done g c =
     let top : option_copied c.as_ref.result ≡ c.in-Zwrite.top = search rules in
     arm_done g.D.Disk.disk (command_value c.args.command) (commands.Zwrite c.in-Zwrite.site c.in-Zwrite.top) (zwrite c.in-Zwrite.top) c.args.slot.now c.args.slot.now.disk c.in-Some.site c.in-Some.site c.zwrite.result (ap command_value c.in-Zwrite.is) refl c.in-Some.is c.args.text.now c.zwrite.new.text
-    (on_ok c.zwrite.result _ _ c.zwrite.ensures (λ h. zwrites_at (g.D.Disk.disk c.args.slot.now.disk) c.in-Some.site c.in-Zwrite.top c.args.text.now c.zwrite.new.text (subst (λ (t : Option Key). Zwrites c.in-Some.site t c.args.text.now c.zwrite.new.text) top h)))
+    (subst (λ (t : Option Key). IfOk c.zwrite.result (λ done. ExecutesAt (zwrite t c.in-Some.site.name) (g.D.Disk.disk c.args.slot.now.disk) c.in-Some.site (g.D.Disk.disk c.args.slot.now.disk) c.in-Some.site c.args.text.now c.zwrite.new.text done)) top c.zwrite.ensures)
 
 pub returns-in-Zwrite-clause-cut_off : goal.returns-in-Zwrite-clause-cut_off
 returns-in-Zwrite-clause-cut_off g c = err_holds c.zwrite.result _ (cut_kept g.D.Disk.disk (row_in (command_value c.args.command)) c.args.slot.now (record { disk = c.args.slot.now.disk; site = Some c.in-Some.site }) refl)
@@ -88,7 +89,7 @@ returns-in-Zwrite-clause-cut_off g c = err_holds c.zwrite.result _ (cut_kept g.D
 pub returns-in-Show-clause-done : goal.returns-in-Show-clause-done
 returns-in-Show-clause-done g c =
     arm_done g.D.Disk.disk (command_value c.args.command) (commands.Show c.in-Show.site) (show) c.args.slot.now c.args.slot.now.disk c.in-Some.site c.in-Some.site c.show.result (ap command_value c.in-Show.is) refl c.in-Some.is c.args.text.now c.show.new.text
-    (on_ok c.show.result _ _ c.show.ensures (λ h. shows_at (g.D.Disk.disk c.args.slot.now.disk) c.in-Some.site c.args.text.now c.show.new.text h))
+    c.show.ensures
 
 pub returns-in-Show-clause-cut_off : goal.returns-in-Show-clause-cut_off
 returns-in-Show-clause-cut_off g c = err_holds c.show.result _ (cut_kept g.D.Disk.disk (row_in (command_value c.args.command)) c.args.slot.now (record { disk = c.args.slot.now.disk; site = Some c.in-Some.site }) refl)

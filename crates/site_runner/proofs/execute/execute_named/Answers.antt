@@ -7,7 +7,7 @@ use Rattle.site_runner.specs.Sites.{is_slot_named}
 use Rattle.repl_script.specs.Commands.{command_value}
 use Rattle.site_runner.specs.Executes.{ExecutesHere, IsCutHere}
 use Rattle.site_runner.specs.Named.{name_in, row_in}
-use Rattle.site_runner.proofs.Results.{on_ok, on_errs, err_so}
+use Rattle.site_runner.proofs.Results.{on_any, on_refused, on_errs, err_so}
 use Rattle.site_runner.proofs.Lifts.{named_lifted, named_cut, no_site, no_site_cut, passes_there}
 use Rattle.site_runner.proofs.execute.execute_named.Goals as goal
 
@@ -27,11 +27,11 @@ returns-in-None-clause-done g c =
     let name = name_in (command_value c.args.command) in
     let n = c.as_slice-name.ensures ∙ c.name_of.ensures in
     let f = found_so name c.as_slice-name.result.now c.args.slots.now.items c.deref.result.now None n c.deref.ensures.value c.in-None.ensures.place in
-    on_ok c.write_line.result _ _ c.write_line.ensures (λ t. no_site g.D.Disk.disk (command_value c.args.command) c.args.slots.now.items c.requires.command c.args.text.now c.write_line.new.text f
+    on_refused c.refuse.result _ _ c.refuse.ensures (λ t. no_site g.D.Disk.disk (command_value c.args.command) c.args.slots.now.items c.requires.command c.args.text.now c.refuse.new.text f
     (t ∙ ap (λ (x : List ℕ). c.args.text.now ++ line x (codes "NOSITE")) n))
 
 pub returns-in-None-clause-cut_off : goal.returns-in-None-clause-cut_off
-returns-in-None-clause-cut_off g c = err_so c.write_line.result _ (no_site_cut g.D.Disk.disk (command_value c.args.command) c.args.slots.now.items c.requires.command)
+returns-in-None-clause-cut_off g c = err_so c.refuse.result _ (no_site_cut g.D.Disk.disk (command_value c.args.command) c.args.slots.now.items c.requires.command)
 
 pub returns-in-Some-clause-done : goal.returns-in-Some-clause-done
 returns-in-Some-clause-done g c =
@@ -42,8 +42,8 @@ returns-in-Some-clause-done g c =
     let s = c.execute_at.new.slot in
     let f = found_so (name_in cmd) c.as_slice-name.result.now xs c.deref.result.now (Some i) (c.as_slice-name.ensures ∙ c.name_of.ensures) c.deref.ensures.value c.in-Some.ensures.place in
     let k : i < length xs = subst (λ (x : List (Slot g.row.D.Denot)). i < length x) c.deref.ensures.value c.in-Some.ensures.inside in
-    on_ok c.execute_at.result _ _ c.execute_at.ensures.done (λ h. named_lifted g.D.Disk.disk cmd xs c.requires.command i d s c.args.text.now c.execute_at.new.text k f
-    (subst (λ (x : Slot g.row.D.Denot). ExecutesHere g.D.Disk.disk (row_in cmd) x s c.args.text.now c.execute_at.new.text) c.index_mut.ensures.value h))
+    on_any c.execute_at.result _ _ c.execute_at.ensures.done (λ done h. named_lifted g.D.Disk.disk cmd xs c.requires.command i d s c.args.text.now c.execute_at.new.text done k f
+    (subst (λ (x : Slot g.row.D.Denot). ExecutesHere g.D.Disk.disk (row_in cmd) x s c.args.text.now c.execute_at.new.text done) c.index_mut.ensures.value h))
 
 pub returns-in-Some-clause-cut_off : goal.returns-in-Some-clause-cut_off
 returns-in-Some-clause-cut_off g c =

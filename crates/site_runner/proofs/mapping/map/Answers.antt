@@ -1,14 +1,18 @@
-use Rattle.site_runner.proofs.Results.{on_ok}
-use Rattle.site_runner.proofs.Written.{named}
-use Rattle.site_runner.proofs.Mapped.{map_failed_before, map_running}
+use Rattle.world_defs.specs.Row.{why_not_down}
+use Rattle.world_defs.specs.rows.Map.{map_pattern}
+use Rattle.site_runner.specs.Causes.{cause_value}
+use Rattle.site_runner.specs.Sites.{state_value}
+use Rattle.site_runner.proofs.Ats.{kept_same, refuses_by, why_is, is_down}
+use Rattle.site_runner.proofs.Mapped.{map_not_down}
 use Rattle.site_runner.proofs.mapping.map.Goals as goal
 
-pub returns-in-Failed-clause-done : goal.returns-in-Failed-clause-done
-returns-in-Failed-clause-done g c =
-    on_ok c.write_numbered.result _ _ c.write_numbered.ensures (λ t. map_failed_before (g.D.Disk.disk c.args.disk.now) c.args.site.now c.args.region.now c.args.pattern.now c.in-Failed.fault c.args.text.now _ c.in-Failed.is
-    (named _ _ c.as_slice.ensures t))
+pub returns-in-Some-clause-done : goal.returns-in-Some-clause-done
+returns-in-Some-clause-done g c =
+    let v = g.D.Disk.disk c.args.disk.now in
+    let s = c.args.site.now in
+    let why = why_is c.why_not_down.result c.in-Some.cause (why_not_down (state_value s.state)) c.why_not_down.ensures c.in-Some.is in
+    refuses_by (map_pattern c.args.region c.args.pattern.now s.name) v s c.in-Some.cause c.args.text.now _ c.as_slice.result.now c.refuse.result
+    (λ p h. map_not_down v s c.args.region c.args.pattern.now (cause_value c.in-Some.cause) p why h) kept_same c.as_slice.ensures c.refuse.ensures
 
-pub returns-in-Primary-clause-done : goal.returns-in-Primary-clause-done
-returns-in-Primary-clause-done g c =
-    on_ok c.write_line.result _ _ c.write_line.ensures (λ t. map_running (g.D.Disk.disk c.args.disk.now) c.args.site.now c.args.region.now c.args.pattern.now c.in-Primary.field-0 c.args.text.now _ c.in-Primary.is
-    (named _ _ c.as_slice-in-Primary.ensures t))
+pub map_down-requires-clause-down : goal.map_down-requires-clause-down
+map_down-requires-clause-down g c = is_down c.args.site.now.state c.why_not_down.result c.why_not_down.ensures c.in_default.is

@@ -4,10 +4,11 @@ use Rattle.site_defs.specs.Lists.{first_where}
 use Rattle.site_defs.specs.Contents.{same_name}
 use Rattle.site_store.specs.declared.layout.Layout.{Layout}
 use Rattle.site_store.specs.Opening.{region_value}
-use Rattle.site_runner.proofs.Results.{on_ok, err_holds}
+use Rattle.site_runner.proofs.Ats.{on_not_done}
+use Rattle.site_runner.proofs.Results.{err_holds}
 use Rattle.site_runner.proofs.Written.{named}
 use Rattle.site_runner.proofs.Mapped.{seen_other, seen_cut}
-use Rattle.site_runner.proofs.Found.{other_found, some_contents, free_in, found_started, found_no_region, found_twice, region_word}
+use Rattle.site_runner.proofs.Found.{other_found, some_contents, free_in, found_started, found_no_region, found_twice}
 use Rattle.site_runner.proofs.mapping.map_found.Goals as goal
 
 -- the search of a region, by the name that was asked for
@@ -18,40 +19,40 @@ by_name found o name n e h = h ∙ ap (λ (x : List ℕ). first_where (λ r. sam
 pub returns-then-not-is_named-clause-done : goal.returns-then-not-is_named-clause-done
 returns-then-not-is_named-clause-done g c =
     let other : same_name c.args.found.layout.name c.args.site.now.name ≡ _ = ap (same_name c.args.found.layout.name) (sym c.as_slice.ensures) ∙ sym c.is_named.ensures ∙ c.if-not-is_named.true in
-    on_ok c.write_not_a_file.result _ _ c.write_not_a_file.ensures (λ t.
-    seen_other c.args.region.now c.args.pattern.now (g.D.Disk.disk c.args.disk.now) c.args.site.now 0 0 c.args.text.now _ (named _ _ c.as_slice-then-not-is_named.ensures t)
+    on_not_done c.damaged.result _ _ c.damaged.ensures (λ t.
+    seen_other c.args.region c.args.pattern.now (g.D.Disk.disk c.args.disk.now) c.args.site.now 0 0 c.args.text.now _ (named _ _ c.as_slice-then-not-is_named.ensures t)
     (other_found (g.D.Disk.disk c.args.disk.now).content c.args.found.layout c.args.site.now.name other c.requires.found))
 
 pub returns-then-not-is_named-clause-cut_off : goal.returns-then-not-is_named-clause-cut_off
 returns-then-not-is_named-clause-cut_off g c =
-    err_holds c.write_not_a_file.result _ (seen_cut c.leftovers_hold.ensures c.args.region.now c.args.pattern.now (g.D.Disk.disk c.args.disk.now) c.args.site.now (g.met.D.Disk.lawful c.args.disk.now))
+    err_holds c.damaged.result _ (seen_cut c.leftovers_hold.ensures c.args.region c.args.pattern.now (g.D.Disk.disk c.args.disk.now) c.args.site.now (g.met.D.Disk.lawful c.args.disk.now))
 
 pub returns-then-layout-gt0-clause-done : goal.returns-then-layout-gt0-clause-done
 returns-then-layout-gt0-clause-done g c =
-    on_ok c.write_line.result _ _ c.write_line.ensures (λ t.
-    found_started c.args.region.now c.args.pattern.now (g.D.Disk.disk c.args.disk.now) c.args.site.now c.args.found.layout c.args.text.now _ c.requires.found c.if-layout-gt0.true (named _ _ c.as_slice-then-layout-gt0.ensures t))
+    on_not_done c.refuse.result _ _ c.refuse.ensures (λ t.
+    found_started c.args.region c.args.pattern.now (g.D.Disk.disk c.args.disk.now) c.args.site.now c.args.found.layout c.args.text.now _ c.requires.found c.if-layout-gt0.true (named _ _ c.as_slice-then-layout-gt0.ensures t))
 
 pub returns-then-layout-gt0-clause-cut_off : goal.returns-then-layout-gt0-clause-cut_off
 returns-then-layout-gt0-clause-cut_off g c =
-    err_holds c.write_line.result _ (seen_cut c.leftovers_hold.ensures c.args.region.now c.args.pattern.now (g.D.Disk.disk c.args.disk.now) c.args.site.now (g.met.D.Disk.lawful c.args.disk.now))
+    err_holds c.refuse.result _ (seen_cut c.leftovers_hold.ensures c.args.region c.args.pattern.now (g.D.Disk.disk c.args.disk.now) c.args.site.now (g.met.D.Disk.lawful c.args.disk.now))
 
 pub returns-in_default-clause-done : goal.returns-in_default-clause-done
 returns-in_default-clause-done g c =
     let none : c.args.found.layout.generation ≡ 0 = omega (arith, c.if-layout-gt0.false) in
-    on_ok c.write_named.result _ _ c.write_named.ensures (λ t.
-    found_no_region c.args.region.now c.args.pattern.now (g.D.Disk.disk c.args.disk.now) c.args.site.now c.args.found.layout c.args.text.now _ c.requires.found none
-    (by_name c.args.found.layout None c.args.region.now c.as_slice-2.result.now c.as_slice-2.ensures (sym c.in_default.is ∙ c.region_named.ensures.number))
-    (region_word _ c.as_slice-in_default.ensures c.as_slice-in_default-2.ensures t))
+    on_not_done c.refuse-in_default.result _ _ c.refuse-in_default.ensures (λ t.
+    found_no_region c.args.region c.args.pattern.now (g.D.Disk.disk c.args.disk.now) c.args.site.now c.args.found.layout c.args.text.now _ c.requires.found none
+    (by_name c.args.found.layout None c.args.region c.as_slice-2.result.now c.as_slice-2.ensures (sym c.in_default.is ∙ c.region_named.ensures.number))
+    (named _ _ c.as_slice-in_default.ensures t))
 
 pub returns-in_default-clause-cut_off : goal.returns-in_default-clause-cut_off
 returns-in_default-clause-cut_off g c =
-    err_holds c.write_named.result _ (seen_cut c.leftovers_hold.ensures c.args.region.now c.args.pattern.now (g.D.Disk.disk c.args.disk.now) c.args.site.now (g.met.D.Disk.lawful c.args.disk.now))
+    err_holds c.refuse-in_default.result _ (seen_cut c.leftovers_hold.ensures c.args.region c.args.pattern.now (g.D.Disk.disk c.args.disk.now) c.args.site.now (g.met.D.Disk.lawful c.args.disk.now))
 
 pub map_there-requires-clause-free : goal.map_there-requires-clause-free
 map_there-requires-clause-free g c =
     let none : c.args.found.layout.generation ≡ 0 = omega (arith, c.if-layout-gt0.false) in
-    free_in (g.D.Disk.disk c.args.disk.now).content c.args.region.now c.in-Some.number c.args.pattern.now c.args.found.layout c.requires.found none c.in-Some.ensures.inside
-    (by_name c.args.found.layout (Some c.in-Some.number) c.args.region.now c.as_slice-2.result.now c.as_slice-2.ensures c.in-Some.ensures.number)
+    free_in (g.D.Disk.disk c.args.disk.now).content c.args.region c.in-Some.number c.args.pattern.now c.args.found.layout c.requires.found none c.in-Some.ensures.inside
+    (by_name c.args.found.layout (Some c.in-Some.number) c.args.region c.as_slice-2.result.now c.as_slice-2.ensures c.in-Some.ensures.number)
     (λ twice. (cc (c.in-Ok.ensures.twice.1 (c.requires.form, c.in-Some.ensures.inside, twice))))
 
 pub map_there-requires-clause-inside : goal.map_there-requires-clause-inside
@@ -64,19 +65,19 @@ map_there-requires-clause-undrawn g c =
 
 pub map_there-requires-clause-named : goal.map_there-requires-clause-named
 map_there-requires-clause-named g c =
-    some_contents c.args.region.now c.args.found.layout c.in-Some.number (by_name c.args.found.layout (Some c.in-Some.number) c.args.region.now c.as_slice-2.result.now c.as_slice-2.ensures c.in-Some.ensures.number)
+    some_contents c.args.region c.args.found.layout c.in-Some.number (by_name c.args.found.layout (Some c.in-Some.number) c.args.region c.as_slice-2.result.now c.as_slice-2.ensures c.in-Some.ensures.number)
 
 pub returns-in-Err-TwiceMapped-clause-done : goal.returns-in-Err-TwiceMapped-clause-done
 returns-in-Err-TwiceMapped-clause-done g c =
     let none : c.args.found.layout.generation ≡ 0 = omega (arith, c.if-layout-gt0.false) in
-    on_ok c.write_line-in-Err-TwiceMapped.result _ _ c.write_line-in-Err-TwiceMapped.ensures (λ t.
-    found_twice c.args.region.now c.args.pattern.now (g.D.Disk.disk c.args.disk.now) c.args.site.now c.args.found.layout c.in-Some.number c.args.text.now _ c.requires.found none
-    (by_name c.args.found.layout (Some c.in-Some.number) c.args.region.now c.as_slice-2.result.now c.as_slice-2.ensures c.in-Some.ensures.number)
+    on_not_done c.refuse-in-Err-TwiceMapped.result _ _ c.refuse-in-Err-TwiceMapped.ensures (λ t.
+    found_twice c.args.region c.args.pattern.now (g.D.Disk.disk c.args.disk.now) c.args.site.now c.args.found.layout c.in-Some.number c.args.text.now _ c.requires.found none
+    (by_name c.args.found.layout (Some c.in-Some.number) c.args.region c.as_slice-2.result.now c.as_slice-2.ensures c.in-Some.ensures.number)
     (c.in-Err-TwiceMapped.ensures.twice.0 (ap Err c.in-Err-TwiceMapped.field-0-is)).2 (named _ _ c.as_slice-in-Err-TwiceMapped.ensures t))
 
 pub returns-in-Err-TwiceMapped-clause-cut_off : goal.returns-in-Err-TwiceMapped-clause-cut_off
 returns-in-Err-TwiceMapped-clause-cut_off g c =
-    err_holds c.write_line-in-Err-TwiceMapped.result _ (seen_cut c.leftovers_hold.ensures c.args.region.now c.args.pattern.now (g.D.Disk.disk c.args.disk.now) c.args.site.now (g.met.D.Disk.lawful c.args.disk.now))
+    err_holds c.refuse-in-Err-TwiceMapped.result _ (seen_cut c.leftovers_hold.ensures c.args.region c.args.pattern.now (g.D.Disk.disk c.args.disk.now) c.args.site.now (g.met.D.Disk.lawful c.args.disk.now))
 
 pub returns : goal.returns
-returns g c = record { ready = tt; done = tt; cut_off = seen_cut c.leftovers_hold.ensures c.args.region.now c.args.pattern.now (g.D.Disk.disk c.args.disk.now) c.args.site.now (g.met.D.Disk.lawful c.args.disk.now) }
+returns g c = record { ready = tt; done = tt; cut_off = seen_cut c.leftovers_hold.ensures c.args.region c.args.pattern.now (g.D.Disk.disk c.args.disk.now) c.args.site.now (g.met.D.Disk.lawful c.args.disk.now) }

@@ -1,8 +1,11 @@
-use Rattle.std.proofs.Common.{ap, ◌∙◌, Err, Option, None, Some, IfSome}
+use Rattle.std.proofs.Common.{Bool, ap, ◌∙◌, Err, Option, None, Some, IfSome}
 use Rattle.disk_defs.specs.Disk.{Files}
 use Rattle.site_defs.specs.Contents.{Contents}
 use Rattle.site_defs.specs.Stands.{IsSite}
-use Rattle.site_runner.proofs.Results.{on_ok, err_holds}
+use Rattle.site_runner.specs.declared.slot.Site.{Site}
+use Rattle.site_runner.specs.Mapping.{MapsAt}
+use Rattle.site_runner.proofs.Ats.{on_not_done, on_failed}
+use Rattle.site_runner.proofs.Results.{err_holds}
 use Rattle.site_runner.proofs.Written.{named, not_a_file}
 use Rattle.site_runner.proofs.Mapped.{there_done, there_faulted, there_damaged, there_cut}
 use Rattle.site_runner.proofs.mapping.map_there.Goals as goal
@@ -12,40 +15,42 @@ none_stands : (o : Option Files) → IfSome o (λ _. ⊥) → IfSome o (λ files
 none_stands None none = tt
 none_stands (Some files) none = absurd none
 
-pub returns-in-Ok-clause-done : goal.returns-in-Ok-clause-done
-returns-in-Ok-clause-done g c =
+pub returns-in_ok-write_line-in-Ok-clause-done : goal.returns-in_ok-write_line-in-Ok-clause-done
+returns-in_ok-write_line-in-Ok-clause-done g c =
     let e = c.in-Ok.ensures in
-    on_ok c.write_line.result _ _ c.write_line.ensures (λ t.
     there_done c.leftovers_hold.ensures c.args.region.now c.args.number c.args.pattern.now (g.D.Disk.disk c.args.disk.now) (g.D.Disk.disk c.map_logged.new.disk) c.args.site.now c.args.text.now _
     (record { lawful = g.met.D.Disk.lawful c.map_logged.new.disk; free = c.requires.free; any_moment = e.any_moment; still_told = e.still_told; simulated = e.simulated; later = e.later })
-    c.requires.named e.reads e.images (named _ _ c.as_slice.ensures t))
+    c.requires.named e.reads e.images (named _ _ c.as_slice.ensures c.in_ok-write_line-in-Ok.ensures)
 
-pub returns-in-Ok-clause-cut_off : goal.returns-in-Ok-clause-cut_off
-returns-in-Ok-clause-cut_off g c =
+pub returns-in_err-write_line-in-Ok-clause-cut_off : goal.returns-in_err-write_line-in-Ok-clause-cut_off
+returns-in_err-write_line-in-Ok-clause-cut_off g c =
     let e = c.in-Ok.ensures in
-    err_holds c.write_line.result _ (there_cut c.leftovers_hold.ensures c.args.region.now c.args.number c.args.pattern.now (g.D.Disk.disk c.args.disk.now) (g.D.Disk.disk c.map_logged.new.disk) c.args.site.now
-    (record { lawful = g.met.D.Disk.lawful c.map_logged.new.disk; free = c.requires.free; any_moment = e.any_moment; still_told = e.still_told; simulated = e.simulated; later = e.later }))
-
-pub returns-in_err-write_numbered-in-Err-Failed-clause-cut_off : goal.returns-in_err-write_numbered-in-Err-Failed-clause-cut_off
-returns-in_err-write_numbered-in-Err-Failed-clause-cut_off g c =
-    let e = c.in-Err-Failed.ensures in
     err_holds c.from_residual.result _ (there_cut c.leftovers_hold.ensures c.args.region.now c.args.number c.args.pattern.now (g.D.Disk.disk c.args.disk.now) (g.D.Disk.disk c.map_logged.new.disk) c.args.site.now
     (record { lawful = g.met.D.Disk.lawful c.map_logged.new.disk; free = c.requires.free; any_moment = e.any_moment; still_told = e.still_told; simulated = e.simulated; later = e.later }))
 
-pub returns-in_ok-write_numbered-in-Err-Failed-clause-done : goal.returns-in_ok-write_numbered-in-Err-Failed-clause-done
-returns-in_ok-write_numbered-in-Err-Failed-clause-done g c =
+pub returns-in-Err-Failed-clause-done : goal.returns-in-Err-Failed-clause-done
+returns-in-Err-Failed-clause-done g c =
     let e = c.in-Err-Failed.ensures in
     let is = ap Err c.in-Err-Failed.field-0-is in
-    there_faulted c.leftovers_hold.ensures c.args.region.now c.args.number c.args.pattern.now (g.D.Disk.disk c.args.disk.now) (g.D.Disk.disk c.map_logged.new.disk) c.args.site.now _ c.args.text.now _
+    let s = c.args.site.now in
+    let w = g.D.Disk.disk c.map_logged.new.disk in
+    on_failed c.fail.result c.fail.new.site _ _ (λ (x : Site) (done : Bool). MapsAt c.args.region.now c.args.pattern.now (g.D.Disk.disk c.args.disk.now) s w x c.args.text.now c.fail.new.text done) c.fail.ensures.failed (λ t.
+    there_faulted c.leftovers_hold.ensures c.args.region.now c.args.number c.args.pattern.now (g.D.Disk.disk c.args.disk.now) w s _ c.args.text.now _
     (record { lawful = g.met.D.Disk.lawful c.map_logged.new.disk; free = c.requires.free; any_moment = e.any_moment; still_told = e.still_told; simulated = e.simulated; later = e.later })
-    (c.in-Err-Failed.fault-is ∙ e.count c.in-Err-Failed.fault is) (e.cause c.in-Err-Failed.fault is) (named _ _ c.as_slice-in-Err-Failed.ensures c.in_ok-write_numbered-in-Err-Failed.ensures)
+    (c.in-Err-Failed.fault-is ∙ e.count c.in-Err-Failed.fault is) (e.cause c.in-Err-Failed.fault is) t)
+
+pub returns-in-Err-Failed-clause-cut_off : goal.returns-in-Err-Failed-clause-cut_off
+returns-in-Err-Failed-clause-cut_off g c =
+    let e = c.in-Err-Failed.ensures in
+    err_holds c.fail.result _ (there_cut c.leftovers_hold.ensures c.args.region.now c.args.number c.args.pattern.now (g.D.Disk.disk c.args.disk.now) (g.D.Disk.disk c.map_logged.new.disk) c.args.site.now
+    (record { lawful = g.met.D.Disk.lawful c.map_logged.new.disk; free = c.requires.free; any_moment = e.any_moment; still_told = e.still_told; simulated = e.simulated; later = e.later }))
 
 pub returns-in-Err-NotAFile-clause-done : goal.returns-in-Err-NotAFile-clause-done
 returns-in-Err-NotAFile-clause-done g c =
     let e = c.in-Err-NotAFile.ensures in
     let file = c.in-Err-NotAFile.file in
     let offset = c.in-Err-NotAFile.offset in
-    on_ok c.write_not_a_file.result _ _ c.write_not_a_file.ensures (λ t.
+    on_not_done c.damaged.result _ _ c.damaged.ensures (λ t.
     there_damaged c.args.region.now c.args.number c.args.pattern.now (g.D.Disk.disk c.args.disk.now) (g.D.Disk.disk c.map_logged.new.disk) c.args.site.now file offset c.args.text.now _
     (record { lawful = g.met.D.Disk.lawful c.map_logged.new.disk; free = c.requires.free; any_moment = e.any_moment; still_told = e.still_told; simulated = e.simulated; later = e.later })
     (none_stands (g.D.Disk.disk c.args.disk.now).content (e.outside file offset (ap Err c.in-Err-NotAFile.field-0-is))) (not_a_file _ c.in-Err-NotAFile.file-is c.in-Err-NotAFile.offset-is c.as_slice-in-Err-NotAFile.ensures t))
@@ -53,7 +58,7 @@ returns-in-Err-NotAFile-clause-done g c =
 pub returns-in-Err-NotAFile-clause-cut_off : goal.returns-in-Err-NotAFile-clause-cut_off
 returns-in-Err-NotAFile-clause-cut_off g c =
     let e = c.in-Err-NotAFile.ensures in
-    err_holds c.write_not_a_file.result _ (there_cut c.leftovers_hold.ensures c.args.region.now c.args.number c.args.pattern.now (g.D.Disk.disk c.args.disk.now) (g.D.Disk.disk c.map_logged.new.disk) c.args.site.now
+    err_holds c.damaged.result _ (there_cut c.leftovers_hold.ensures c.args.region.now c.args.number c.args.pattern.now (g.D.Disk.disk c.args.disk.now) (g.D.Disk.disk c.map_logged.new.disk) c.args.site.now
     (record { lawful = g.met.D.Disk.lawful c.map_logged.new.disk; free = c.requires.free; any_moment = e.any_moment; still_told = e.still_told; simulated = e.simulated; later = e.later }))
 
 pub returns-in-Err : goal.returns-in-Err

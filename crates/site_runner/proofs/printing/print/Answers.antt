@@ -1,53 +1,63 @@
-use Rattle.std.proofs.Common.{◌++◌, ℕ, List, sym, ◌∙◌, ap, Err}
-use Rattle.site_runner.proofs.Results.{on_ok, err_holds}
+use Rattle.std.proofs.Common.{Bool, ◌++◌, ℕ, List, sym, ◌∙◌, ap, Err}
+use Rattle.world_defs.specs.Row.{stopped}
+use Rattle.world_defs.specs.rows.Print as rows
+use Rattle.site_runner.specs.declared.slot.Site.{Site}
+use Rattle.site_runner.specs.Causes.{cause_value}
+use Rattle.site_runner.specs.Sites.{state_value}
+use Rattle.site_runner.specs.Steps.{ExecutesAt}
+use Rattle.site_runner.proofs.Ats.{kept_same, refuses_by, why_is, none_why, on_not_done, on_failed}
+use Rattle.site_runner.proofs.Fused.{ready_read_on}
+use Rattle.site_runner.proofs.Results.{on_refused, err_holds}
 use Rattle.site_runner.proofs.Written.{named}
 use Rattle.site_runner.proofs.Printed.{print_stopped, print_none, printed, print_fault, print_cut, empty_is, full_is}
-use Rattle.site_runner.proofs.Fused.{ready_read_on}
 use Rattle.site_runner.proofs.printing.print.Goals as goal
 
 pub returns-in-Some-clause-done : goal.returns-in-Some-clause-done
 returns-in-Some-clause-done g c =
-    on_ok c.write_numbered.result _ _ c.write_numbered.ensures (λ t. print_stopped c.args.generation (g.D.Disk.disk c.args.disk.now) c.args.site.now c.in-Some.fault c.args.text.now _ (sym c.fault.ensures ∙ c.in-Some.is)
-    (named _ _ c.as_slice.ensures t))
+    let v = g.D.Disk.disk c.args.disk.now in
+    let s = c.args.site.now in
+    refuses_by (rows.print c.args.generation s.name) v s c.in-Some.cause c.args.text.now _ c.as_slice.result.now c.refuse.result
+    (λ p h. print_stopped c.args.generation v s (cause_value c.in-Some.cause) p (why_is c.why_stopped.result c.in-Some.cause (stopped (state_value s.state)) c.why_stopped.ensures c.in-Some.is) h) kept_same c.as_slice.ensures c.refuse.ensures
 
 pub returns-then-is_empty-clause-done : goal.returns-then-is_empty-clause-done
 returns-then-is_empty-clause-done g c =
     let e = c.in-Ok.ensures in
-    on_ok c.write_line.result _ _ c.write_line.ensures (λ t.
-    print_none c.typing_reads_files.ensures c.args.generation (g.D.Disk.disk c.args.disk.now) (g.D.Disk.disk c.read_file.new.disk) c.args.site.now c.new-bytes.result c.read_file.new.out c.args.text.now _ e.reads e.later (sym c.fault.ensures ∙ c.in_default.is)
+    on_not_done c.refuse-then-is_empty.result _ _ c.refuse-then-is_empty.ensures (λ t.
+    print_none c.typing_reads_files.ensures c.args.generation (g.D.Disk.disk c.args.disk.now) (g.D.Disk.disk c.read_file.new.disk) c.args.site.now c.new-bytes.result c.read_file.new.out c.args.text.now _ e.reads e.later (none_why c.why_stopped.result (stopped (state_value c.args.site.now.state)) c.why_stopped.ensures c.in_default.is)
     c.requires.some c.requires.most c.new-bytes.ensures e.text (empty_is c.read_file.new.out (sym c.is_empty.ensures ∙ c.if-is_empty.true)) (named _ _ c.as_slice-then-is_empty.ensures t))
 
 pub returns-then-is_empty-clause-cut_off : goal.returns-then-is_empty-clause-cut_off
-returns-then-is_empty-clause-cut_off g c = err_holds c.write_line.result _ (print_cut c.args.generation (g.D.Disk.disk c.args.disk.now) (g.D.Disk.disk c.read_file.new.disk) c.args.site.now c.in-Ok.ensures.reads)
+returns-then-is_empty-clause-cut_off g c = err_holds c.refuse-then-is_empty.result _ (print_cut c.args.generation (g.D.Disk.disk c.args.disk.now) (g.D.Disk.disk c.read_file.new.disk) c.args.site.now c.in-Ok.ensures.reads)
 
 pub returns-in-Ok-clause-done : goal.returns-in-Ok-clause-done
 returns-in-Ok-clause-done g c =
     let e = c.in-Ok.ensures in
-    on_ok c.push_all.result _ _ c.push_all.ensures.ok (λ t.
-    printed c.typing_reads_files.ensures c.args.generation (g.D.Disk.disk c.args.disk.now) (g.D.Disk.disk c.read_file.new.disk) c.args.site.now c.new-bytes.result c.read_file.new.out c.args.text.now _ e.reads e.later (sym c.fault.ensures ∙ c.in_default.is)
-    c.requires.some c.requires.most c.new-bytes.ensures e.text (full_is c.read_file.new.out (sym c.is_empty.ensures ∙ c.if-is_empty.false)) (t ∙ ap (λ (x : List ℕ). c.args.text.now ++ x) c.as_slice-else-is_empty.ensures))
+    printed c.typing_reads_files.ensures c.args.generation (g.D.Disk.disk c.args.disk.now) (g.D.Disk.disk c.read_file.new.disk) c.args.site.now c.new-bytes.result c.read_file.new.out c.args.text.now _ e.reads e.later (none_why c.why_stopped.result (stopped (state_value c.args.site.now.state)) c.why_stopped.ensures c.in_default.is)
+    c.requires.some c.requires.most c.new-bytes.ensures e.text (full_is c.read_file.new.out (sym c.is_empty.ensures ∙ c.if-is_empty.false)) (c.in_ok-push_all-in-Ok.ensures.ok ∙ ap (λ (x : List ℕ). c.args.text.now ++ x) c.as_slice-in-Ok.ensures)
 
-pub returns-in-Ok-clause-cut_off : goal.returns-in-Ok-clause-cut_off
-returns-in-Ok-clause-cut_off g c = err_holds c.push_all.result _ (print_cut c.args.generation (g.D.Disk.disk c.args.disk.now) (g.D.Disk.disk c.read_file.new.disk) c.args.site.now c.in-Ok.ensures.reads)
-
-pub returns-in_err-write_numbered-in-Err-Failed-clause-cut_off : goal.returns-in_err-write_numbered-in-Err-Failed-clause-cut_off
-returns-in_err-write_numbered-in-Err-Failed-clause-cut_off g c =
-    err_holds c.from_residual.result _ (print_cut c.args.generation (g.D.Disk.disk c.args.disk.now) (g.D.Disk.disk c.read_file.new.disk) c.args.site.now c.in-Err-Failed.ensures.reads)
+pub returns-in_err-push_all-in-Ok-clause-cut_off : goal.returns-in_err-push_all-in-Ok-clause-cut_off
+returns-in_err-push_all-in-Ok-clause-cut_off g c = err_holds c.from_residual.result _ (print_cut c.args.generation (g.D.Disk.disk c.args.disk.now) (g.D.Disk.disk c.read_file.new.disk) c.args.site.now c.in-Ok.ensures.reads)
 
 pub returns-in-Err-Failed-clause-done : goal.returns-in-Err-Failed-clause-done
 returns-in-Err-Failed-clause-done g c =
     let e = c.in-Err-Failed.ensures in
     let is = ap Err c.in-Err-Failed.field-0-is in
-    print_fault c.args.generation (g.D.Disk.disk c.args.disk.now) (g.D.Disk.disk c.read_file.new.disk) c.args.site.now c.in-Err-Failed.fault c.args.text.now _ e.reads (sym c.fault.ensures ∙ c.in_default.is)
-    (e.count c.in-Err-Failed.fault is) (e.cause c.in-Err-Failed.fault is) (named _ _ c.as_slice-in-Err-Failed.ensures c.in_ok-write_numbered-in-Err-Failed.ensures)
+    let s = c.args.site.now in
+    let w = g.D.Disk.disk c.read_file.new.disk in
+    on_failed c.fail.result c.fail.new.site _ _ (λ (x : Site) (done : Bool). ExecutesAt (rows.print c.args.generation s.name) (g.D.Disk.disk c.args.disk.now) s w x c.args.text.now c.fail.new.text done) c.fail.ensures.failed (λ t.
+    print_fault c.args.generation (g.D.Disk.disk c.args.disk.now) w s c.in-Err-Failed.fault c.args.text.now _ e.reads (none_why c.why_stopped.result (stopped (state_value c.args.site.now.state)) c.why_stopped.ensures c.in_default.is)
+    (e.count c.in-Err-Failed.fault is) (e.cause c.in-Err-Failed.fault is) t)
+
+pub returns-in-Err-Failed-clause-cut_off : goal.returns-in-Err-Failed-clause-cut_off
+returns-in-Err-Failed-clause-cut_off g c =
+    err_holds c.fail.result _ (print_cut c.args.generation (g.D.Disk.disk c.args.disk.now) (g.D.Disk.disk c.read_file.new.disk) c.args.site.now c.in-Err-Failed.ensures.reads)
 
 pub returns : goal.returns
 returns g c = record { ready = tt; done = tt; cut_off = print_cut c.args.generation (g.D.Disk.disk c.args.disk.now) (g.D.Disk.disk c.read_file.new.disk) c.args.site.now c.in-Err.ensures.reads }
 
 pub returns-then-is_empty-clause-ready : goal.returns-then-is_empty-clause-ready
 returns-then-is_empty-clause-ready g c =
-    on_ok c.write_line.result _ _ c.write_line.ensures (λ t. ready_read_on (g.D.Disk.disk c.args.disk.now) (g.D.Disk.disk c.read_file.new.disk) c.args.site.now.state c.in-Ok.ensures.reads c.requires.ready)
+    on_refused c.refuse-then-is_empty.result _ _ c.refuse-then-is_empty.ensures (λ t. ready_read_on (g.D.Disk.disk c.args.disk.now) (g.D.Disk.disk c.read_file.new.disk) c.args.site.now.state c.in-Ok.ensures.reads c.requires.ready)
 
 pub returns-in-Ok-clause-ready : goal.returns-in-Ok-clause-ready
-returns-in-Ok-clause-ready g c =
-    on_ok c.push_all.result _ _ c.push_all.ensures.ok (λ t. ready_read_on (g.D.Disk.disk c.args.disk.now) (g.D.Disk.disk c.read_file.new.disk) c.args.site.now.state c.in-Ok.ensures.reads c.requires.ready)
+returns-in-Ok-clause-ready g c = ready_read_on (g.D.Disk.disk c.args.disk.now) (g.D.Disk.disk c.read_file.new.disk) c.args.site.now.state c.in-Ok.ensures.reads c.requires.ready

@@ -7,20 +7,22 @@ use Rattle.site_defs.specs.Contents.{Contents}
 use Rattle.repl_section.specs.Reigns.{Reigns, stamp_of}
 use Rattle.repl_section.specs.Deciding.{Breaks, IsFault}
 use Rattle.repl_section.specs.declared.running.RunError.{RunError}
-use Rattle.site_runner.specs.Sites.{IsReadyState}
-use Rattle.site_runner.proofs.Results.{on_ok, err_holds}
-use Rattle.site_runner.proofs.Ran.{run_failed_before, run_down, ran, ran_to_fault, run_cut, run_cut_any, decided_front}
+use Rattle.world_defs.specs.Row.{why_not_primary}
+use Rattle.world_defs.specs.rows.Run.{run}
+use Rattle.site_runner.specs.Causes.{cause_value}
+use Rattle.site_runner.specs.Sites.{state_value, IsReadyState}
+use Rattle.site_runner.proofs.Ats.{kept_same, refuses_by, why_is}
+use Rattle.site_runner.proofs.Results.{err_holds}
+use Rattle.site_runner.proofs.Ran.{run_not_primary, ran, ran_to_fault, run_cut, run_cut_any, decided_front}
 use Rattle.site_runner.proofs.section.run_section.Goals as goal
 
-pub returns-in-Down-clause-done : goal.returns-in-Down-clause-done
-returns-in-Down-clause-done g c =
-    on_ok c.write_line.result _ _ c.write_line.ensures (λ t. run_down (g.D.Disk.disk c.args.disk.now) c.args.site.now c.args.jobs c.args.order.now c.args.text.now _ c.in-Down.is
-    (t ∙ ap (λ (n : List ℕ). c.args.text.now ++ line n (codes "NOTPRIMARY")) c.as_slice.ensures))
-
-pub returns-in-Failed-clause-done : goal.returns-in-Failed-clause-done
-returns-in-Failed-clause-done g c =
-    on_ok c.write_numbered.result _ _ c.write_numbered.ensures (λ t. run_failed_before (g.D.Disk.disk c.args.disk.now) c.args.site.now c.args.jobs c.args.order.now c.in-Failed.fault c.args.text.now _ c.in-Failed.is
-    (t ∙ ap (λ (n : List ℕ). c.args.text.now ++ line n (codes "STOPPED " ++ decimal c.in-Failed.fault)) c.as_slice-in-Failed.ensures))
+pub returns-in-Some-clause-done : goal.returns-in-Some-clause-done
+returns-in-Some-clause-done g c =
+    let v = g.D.Disk.disk c.args.disk.now in
+    let s = c.args.site.now in
+    refuses_by (run c.args.jobs c.args.order.now s.name) v s c.in-Some.cause c.args.text.now _ c.as_slice.result.now c.refuse.result
+    (λ p h. run_not_primary v s c.args.jobs c.args.order.now (cause_value c.in-Some.cause) p (why_is c.why_not_primary.result c.in-Some.cause (why_not_primary (state_value s.state)) c.why_not_primary.ensures c.in-Some.is) h) kept_same
+    c.as_slice.ensures c.refuse.ensures
 
 pub run-requires-clause-ready : goal.run-requires-clause-ready
 run-requires-clause-ready g c = (subst (IsReadyState (g.D.Disk.disk c.args.disk.now)) c.in-Primary.is c.requires.ready).files
@@ -37,26 +39,25 @@ returns-in_err-write_undecided-in-Err-Failed-clause-cut_off g c =
     let jobs = c.args.jobs in
     let order = c.args.order.now in
     let breaks = subst (λ (x : RunError). (told : Bool) (d : Contents) → Reigns v told d r → Breaks x w (stamp_of r) told d jobs order r.serials c.args.text.now c.run.new.text) c.in-Err-Failed.field-0-is e.breaks in
-    err_holds c.from_residual.result _ (run_cut c.leftovers_hold.ensures v w c.args.site.now r jobs order (g.met.D.Disk.lawful c.args.disk.now) (g.met.D.Disk.lawful c.run.new.disk) c.in-Primary.is e.simulated
+    err_holds c.from_residual-in_err-write_undecided-in-Err-Failed.result _ (run_cut c.leftovers_hold.ensures v w c.args.site.now r jobs order (g.met.D.Disk.lawful c.args.disk.now) (g.met.D.Disk.lawful c.run.new.disk) c.in-Primary.is e.simulated
     (λ told d reigns. let b = breaks told d reigns in (b.0, b.1.hardened, b.1.begun, b.1.front)))
 
-pub returns-in-Ok-clause-done : goal.returns-in-Ok-clause-done
-returns-in-Ok-clause-done g c =
+pub returns-in_ok-write_numbered-in-Ok-clause-done : goal.returns-in_ok-write_numbered-in-Ok-clause-done
+returns-in_ok-write_numbered-in-Ok-clause-done g c =
     let v = g.D.Disk.disk c.args.disk.now in
     let w = g.D.Disk.disk c.run.new.disk in
     let e = c.in-Ok.ensures in
-    on_ok c.write_numbered-in-Ok.result _ _ c.write_numbered-in-Ok.ensures (λ t.
     ran v w c.nothing_is_left.ensures c.args.site.now c.in-Primary.reign c.run.new.self c.args.jobs c.args.order.now c.args.text.now c.run.new.text _ (g.met.D.Disk.lawful c.run.new.disk) c.requires.whole c.in-Primary.is e.stamp e.simulated e.later e.done
-    (t ∙ ap (λ (n : List ℕ). c.run.new.text ++ line n (codes "AT " ++ decimal c.sequence_length-length.result)) c.as_slice-in-Ok.ensures
-    ∙ ap (λ (k : ℕ). c.run.new.text ++ line c.args.site.now.name (codes "AT " ++ decimal k)) c.sequence_length-length.ensures))
+    (c.in_ok-write_numbered-in-Ok.ensures ∙ ap (λ (n : List ℕ). c.run.new.text ++ line n (codes "AT " ++ decimal c.sequence_length-length.result)) c.as_slice-in-Ok.ensures
+    ∙ ap (λ (k : ℕ). c.run.new.text ++ line c.args.site.now.name (codes "AT " ++ decimal k)) c.sequence_length-length.ensures)
 
-pub returns-in-Ok-clause-cut_off : goal.returns-in-Ok-clause-cut_off
-returns-in-Ok-clause-cut_off g c =
+pub returns-in_err-write_numbered-in-Ok-clause-cut_off : goal.returns-in_err-write_numbered-in-Ok-clause-cut_off
+returns-in_err-write_numbered-in-Ok-clause-cut_off g c =
     let v = g.D.Disk.disk c.args.disk.now in
     let w = g.D.Disk.disk c.run.new.disk in
     let e = c.in-Ok.ensures in
     let law = g.met.D.Disk.lawful c.run.new.disk in
-    err_holds c.write_numbered-in-Ok.result _ (run_cut c.leftovers_hold.ensures v w c.args.site.now c.in-Primary.reign c.args.jobs c.args.order.now (g.met.D.Disk.lawful c.args.disk.now) law c.in-Primary.is e.simulated
+    err_holds c.from_residual.result _ (run_cut c.leftovers_hold.ensures v w c.args.site.now c.in-Primary.reign c.args.jobs c.args.order.now (g.met.D.Disk.lawful c.args.disk.now) law c.in-Primary.is e.simulated
     (λ told d reigns. decided_front w told d c.args.jobs c.args.order.now c.in-Primary.reign c.run.new.self c.args.text.now c.run.new.text (e.done told d reigns)))
 
 pub returns-in_ok-write_undecided-in-Err-Failed-clause-done : goal.returns-in_ok-write_undecided-in-Err-Failed-clause-done

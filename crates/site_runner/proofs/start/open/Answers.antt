@@ -1,21 +1,20 @@
-use Rattle.std.proofs.Common.{◌∙◌, ap, sym, Err}
-use Rattle.site_runner.proofs.Results.{on_ok, on_err_of, err_holds}
+use Rattle.std.proofs.Common.{Bool, ◌∙◌, ap, sym, Err}
+use Rattle.world_defs.specs.rows.Start as rows
+use Rattle.site_runner.specs.declared.slot.Site.{Site}
+use Rattle.site_runner.specs.Steps.{ExecutesAt}
+use Rattle.site_runner.proofs.Ats.{on_not_done, on_failed, on_done}
+use Rattle.site_runner.proofs.Results.{on_err_of, err_holds}
 use Rattle.site_runner.proofs.Written.{named, not_a_file}
 use Rattle.site_store.proofs.Refused.{limit_site, drawn_site}
 use Rattle.site_runner.proofs.Started.{load_faulted, load_cut, load_limit, load_damaged, load_other, begins_so, begins_cut}
 use Rattle.site_runner.proofs.start.open.Goals as goal
 
-pub returns-in_err-write_numbered-in-Err-Failed-clause-cut_off : goal.returns-in_err-write_numbered-in-Err-Failed-clause-cut_off
-returns-in_err-write_numbered-in-Err-Failed-clause-cut_off g c =
-    let e = c.in-Err-Failed.ensures in
-    err_holds c.from_residual.result _ (load_cut c.leftovers_hold.ensures (g.D.Disk.disk c.args.disk.now) (g.D.Disk.disk c.load.new.disk) c.args.site.now (g.met.D.Disk.lawful c.load.new.disk) e.any_moment e.still_told e.simulated)
-
 pub returns-then-is_named-clause-done : goal.returns-then-is_named-clause-done
 returns-then-is_named-clause-done g c =
     let e = c.in-Ok.ensures in
     let name = c.if-is_named.ensures ∙ c.as_slice.ensures in
-    on_ok c.begin.result _ _ c.begin.ensures.done (λ b.
-    begins_so c.files_stand_for_one.ensures (g.D.Disk.disk c.args.disk.now) (g.D.Disk.disk c.load.new.disk) (g.D.Disk.disk c.begin.new.disk) c.args.site.now c.begin.new.site c.in-Ok.opened c.args.text.now c.begin.new.text (g.met.D.Disk.lawful c.args.disk.now) c.requires name e.read e.told (drawn_site (g.D.Disk.disk c.args.disk.now).content e.drawn) e.simulated e.later b)
+    on_done c.begin.result _ _ c.begin.ensures.done (λ done b.
+    begins_so c.files_stand_for_one.ensures (g.D.Disk.disk c.args.disk.now) (g.D.Disk.disk c.load.new.disk) (g.D.Disk.disk c.begin.new.disk) c.args.site.now c.begin.new.site c.in-Ok.opened c.args.text.now c.begin.new.text done (g.met.D.Disk.lawful c.args.disk.now) c.requires name e.read e.told (drawn_site (g.D.Disk.disk c.args.disk.now).content e.drawn) e.simulated e.later b)
 
 pub returns-then-is_named-clause-cut_off : goal.returns-then-is_named-clause-cut_off
 returns-then-is_named-clause-cut_off g c =
@@ -27,49 +26,56 @@ returns-then-is_named-clause-cut_off g c =
 pub returns-else-is_named-clause-done : goal.returns-else-is_named-clause-done
 returns-else-is_named-clause-done g c =
     let e = c.in-Ok.ensures in
-    on_ok c.write_not_a_file.result _ _ c.write_not_a_file.ensures (λ t.
+    on_not_done c.damaged.result _ _ c.damaged.ensures (λ t.
     load_other (g.D.Disk.disk c.args.disk.now) (g.D.Disk.disk c.load.new.disk) c.args.site.now c.in-Ok.opened c.args.text.now _ c.requires (λ same. c.if-is_named.ensures (same ∙ sym c.as_slice.ensures)) e.told e.simulated e.later
     (named _ _ c.as_slice-else-is_named.ensures t))
 
 pub returns-else-is_named-clause-cut_off : goal.returns-else-is_named-clause-cut_off
 returns-else-is_named-clause-cut_off g c =
     let e = c.in-Ok.ensures in
-    err_holds c.write_not_a_file.result _ (load_cut c.leftovers_hold.ensures (g.D.Disk.disk c.args.disk.now) (g.D.Disk.disk c.load.new.disk) c.args.site.now (g.met.D.Disk.lawful c.load.new.disk) e.any_moment e.still_told e.simulated)
+    err_holds c.damaged.result _ (load_cut c.leftovers_hold.ensures (g.D.Disk.disk c.args.disk.now) (g.D.Disk.disk c.load.new.disk) c.args.site.now (g.met.D.Disk.lawful c.load.new.disk) e.any_moment e.still_told e.simulated)
 
 pub returns-in-Err-GenLimit-clause-done : goal.returns-in-Err-GenLimit-clause-done
 returns-in-Err-GenLimit-clause-done g c =
     let e = c.in-Err-GenLimit.ensures in
     let is = ap Err c.in-Err-GenLimit.field-0-is in
-    on_ok c.write_line.result _ _ c.write_line.ensures (λ t.
+    on_not_done c.refuse.result _ _ c.refuse.ensures (λ t.
     load_limit (g.D.Disk.disk c.args.disk.now) (g.D.Disk.disk c.load.new.disk) c.args.site.now c.args.text.now _ (g.met.D.Disk.lawful c.load.new.disk) c.requires (limit_site (g.D.Disk.disk c.args.disk.now).content (e.limit is)) (e.unwritten is) (e.untouched is) e.simulated e.later
     (named _ _ c.as_slice-in-Err-GenLimit.ensures t))
 
 pub returns-in-Err-GenLimit-clause-cut_off : goal.returns-in-Err-GenLimit-clause-cut_off
 returns-in-Err-GenLimit-clause-cut_off g c =
     let e = c.in-Err-GenLimit.ensures in
-    err_holds c.write_line.result _ (load_cut c.leftovers_hold.ensures (g.D.Disk.disk c.args.disk.now) (g.D.Disk.disk c.load.new.disk) c.args.site.now (g.met.D.Disk.lawful c.load.new.disk) e.any_moment e.still_told e.simulated)
+    err_holds c.refuse.result _ (load_cut c.leftovers_hold.ensures (g.D.Disk.disk c.args.disk.now) (g.D.Disk.disk c.load.new.disk) c.args.site.now (g.met.D.Disk.lawful c.load.new.disk) e.any_moment e.still_told e.simulated)
 
-pub returns-in_ok-write_numbered-in-Err-Failed-clause-done : goal.returns-in_ok-write_numbered-in-Err-Failed-clause-done
-returns-in_ok-write_numbered-in-Err-Failed-clause-done g c =
+pub returns-in-Err-Failed-clause-done : goal.returns-in-Err-Failed-clause-done
+returns-in-Err-Failed-clause-done g c =
     let e = c.in-Err-Failed.ensures in
     let is = ap Err c.in-Err-Failed.field-0-is in
-    load_faulted c.leftovers_hold.ensures (g.D.Disk.disk c.args.disk.now) (g.D.Disk.disk c.load.new.disk) c.args.site.now _ c.args.text.now _ (g.met.D.Disk.lawful c.load.new.disk) c.requires e.any_moment e.still_told e.simulated
-    (c.in-Err-Failed.fault-is ∙ e.count c.in-Err-Failed.fault is) (e.cause c.in-Err-Failed.fault is)
-    (named _ _ c.as_slice-in-Err-Failed.ensures c.in_ok-write_numbered-in-Err-Failed.ensures)
+    let s = c.args.site.now in
+    let w = g.D.Disk.disk c.load.new.disk in
+    on_failed c.fail.result c.fail.new.site _ _ (λ (x : Site) (done : Bool). ExecutesAt (rows.start s.name) (g.D.Disk.disk c.args.disk.now) s w x c.args.text.now c.fail.new.text done) c.fail.ensures.failed (λ t.
+    load_faulted c.leftovers_hold.ensures (g.D.Disk.disk c.args.disk.now) w s _ c.args.text.now _ (g.met.D.Disk.lawful c.load.new.disk) c.requires e.any_moment e.still_told e.simulated
+    (c.in-Err-Failed.fault-is ∙ e.count c.in-Err-Failed.fault is) (e.cause c.in-Err-Failed.fault is) t)
+
+pub returns-in-Err-Failed-clause-cut_off : goal.returns-in-Err-Failed-clause-cut_off
+returns-in-Err-Failed-clause-cut_off g c =
+    let e = c.in-Err-Failed.ensures in
+    err_holds c.fail.result _ (load_cut c.leftovers_hold.ensures (g.D.Disk.disk c.args.disk.now) (g.D.Disk.disk c.load.new.disk) c.args.site.now (g.met.D.Disk.lawful c.load.new.disk) e.any_moment e.still_told e.simulated)
 
 pub returns-in-Err-NotAFile-clause-done : goal.returns-in-Err-NotAFile-clause-done
 returns-in-Err-NotAFile-clause-done g c =
     let e = c.in-Err-NotAFile.ensures in
     let file = c.in-Err-NotAFile.file in
     let offset = c.in-Err-NotAFile.offset in
-    on_ok c.write_not_a_file-in-Err-NotAFile.result _ _ c.write_not_a_file-in-Err-NotAFile.ensures (λ t.
+    on_not_done c.damaged-in-Err-NotAFile.result _ _ c.damaged-in-Err-NotAFile.ensures (λ t.
     load_damaged (g.D.Disk.disk c.args.disk.now) (g.D.Disk.disk c.load.new.disk) c.args.site.now file offset c.args.text.now _ c.requires (e.outside file offset (ap Err c.in-Err-NotAFile.field-0-is)) e.simulated e.later
     (not_a_file _ c.in-Err-NotAFile.file-is c.in-Err-NotAFile.offset-is c.as_slice-in-Err-NotAFile.ensures t))
 
 pub returns-in-Err-NotAFile-clause-cut_off : goal.returns-in-Err-NotAFile-clause-cut_off
 returns-in-Err-NotAFile-clause-cut_off g c =
     let e = c.in-Err-NotAFile.ensures in
-    err_holds c.write_not_a_file-in-Err-NotAFile.result _ (load_cut c.leftovers_hold.ensures (g.D.Disk.disk c.args.disk.now) (g.D.Disk.disk c.load.new.disk) c.args.site.now (g.met.D.Disk.lawful c.load.new.disk) e.any_moment e.still_told e.simulated)
+    err_holds c.damaged-in-Err-NotAFile.result _ (load_cut c.leftovers_hold.ensures (g.D.Disk.disk c.args.disk.now) (g.D.Disk.disk c.load.new.disk) c.args.site.now (g.met.D.Disk.lawful c.load.new.disk) e.any_moment e.still_told e.simulated)
 
 pub returns-in-Err : goal.returns-in-Err
 returns-in-Err g c =

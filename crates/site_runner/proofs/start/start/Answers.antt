@@ -1,17 +1,18 @@
-use Rattle.std.proofs.Common.{◌++◌, ℕ, List, ◌∙◌, ap}
-use Rattle.std.specs.Prelude.{codes}
-use Rattle.std.specs.Fmt.{decimal}
-use Rattle.world_defs.specs.Answers.{line}
-use Rattle.site_runner.proofs.Results.{on_ok}
-use Rattle.site_runner.proofs.Started.{start_failed_before, start_running}
+use Rattle.world_defs.specs.Row.{why_not_down}
+use Rattle.world_defs.specs.rows.Start as rows
+use Rattle.site_runner.specs.Causes.{cause_value}
+use Rattle.site_runner.specs.Sites.{state_value}
+use Rattle.site_runner.proofs.Ats.{refuses_by, why_is, is_down}
+use Rattle.site_runner.proofs.Started.{start_not_down, start_kept}
 use Rattle.site_runner.proofs.start.start.Goals as goal
 
-pub returns-in-Failed-clause-done : goal.returns-in-Failed-clause-done
-returns-in-Failed-clause-done g c =
-    on_ok c.write_numbered.result _ _ c.write_numbered.ensures (λ t. start_failed_before (g.D.Disk.disk c.args.disk.now) c.args.site.now c.in-Failed.fault c.args.text.now _ c.in-Failed.is
-    (t ∙ ap (λ (n : List ℕ). c.args.text.now ++ line n (codes "STOPPED " ++ decimal c.in-Failed.fault)) c.as_slice.ensures))
+pub returns-in-Some-clause-done : goal.returns-in-Some-clause-done
+returns-in-Some-clause-done g c =
+    let v = g.D.Disk.disk c.args.disk.now in
+    let s = c.args.site.now in
+    let why = why_is c.why_not_down.result c.in-Some.cause (why_not_down (state_value s.state)) c.why_not_down.ensures c.in-Some.is in
+    refuses_by (rows.start s.name) v s c.in-Some.cause c.args.text.now _ c.as_slice.result.now c.refuse.result
+    (λ p h. start_not_down v s (cause_value c.in-Some.cause) p why h) (λ p. start_kept (state_value s.state) (cause_value c.in-Some.cause) p why) c.as_slice.ensures c.refuse.ensures
 
-pub returns-in-Primary-clause-done : goal.returns-in-Primary-clause-done
-returns-in-Primary-clause-done g c =
-    on_ok c.write_line.result _ _ c.write_line.ensures (λ t. start_running (g.D.Disk.disk c.args.disk.now) c.args.site.now c.in-Primary.field-0 c.args.text.now _ c.in-Primary.is
-    (t ∙ ap (λ (n : List ℕ). c.args.text.now ++ line n (codes "RUNNING")) c.as_slice-in-Primary.ensures))
+pub open-requires : goal.open-requires
+open-requires g c = is_down c.args.site.now.state c.why_not_down.result c.why_not_down.ensures c.in_default.is
