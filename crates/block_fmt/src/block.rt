@@ -298,12 +298,17 @@ impl Block {
         if used > ROOM || !is_zero(bytes_from(bytes, HEAD + used)) {
             return Ok(None);
         }
-        let Some(places) = read_places(alloc, &bytes[HEAD..HEAD + used], count)? else {
+        let cells = &bytes[HEAD..HEAD + used];
+        let Some(places) = read_places(alloc, cells, count)? else {
             return Ok(None);
         };
-        let mut made = Block::new(alloc, long_number_at(bytes, 4))?;
-        made.fill(&bytes[HEAD..HEAD + used], &places, 0);
-        Ok(Some(made))
+        let mut copy = Vec::with_capacity(alloc, ROOM)?;
+        push_all(&mut copy, cells);
+        Ok(Some(Block {
+            next: long_number_at(bytes, 4),
+            bytes: copy,
+            places,
+        }))
     }
 
     /// The block of 4,096 bytes that stand at an offset of a file.

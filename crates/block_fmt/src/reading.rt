@@ -1,8 +1,6 @@
 //! Cells read from bytes that may be others.
-ghost use Rattle.std.specs.Prelude.{◌≡◌, ◌≤◌, ◌<◌, ◌+◌, ◌↔◌, length, drop, vec_capacity, IfSome, IfNone, IfOk, IsTrue};
-ghost use Rattle.std.specs.declared.cmp.Ordering.TheVariants.{Less};
-ghost use Rattle.std.specs.Ordering.{nat_cmp};
-ghost use Rattle.std.specs.Cmp.Lexicographic.{slice_cmp};
+ghost use Rattle.std.specs.Prelude.{◌≡◌, ◌≤◌, ◌<◌, ◌+◌, length, drop, vec_capacity, IfSome, IfNone, IfOk};
+ghost use Rattle.key_code.specs.Next.{Tells};
 ghost use Rattle.journal_defs.specs.Leaves.{spelled_cell};
 ghost use Rattle.block_fmt.specs.Read.{first_cell, cells_in, places, BeginWithCell, AreCells, IsNextCell};
 
@@ -10,9 +8,8 @@ use crate::bytes::number_at;
 use crate::cells::key_at;
 use crate::sizes::{LONGEST_VALUE, MOST_CELLS};
 use gvn_key::NoMemory;
-use key_code::is_code;
+use key_code::{Seen, first_key, next_key};
 use std::alloc::Global;
-use std::cmp::Ordering;
 
 /// How many bytes the cell has that these bytes begin with, `None` where they begin with no cell.
 fn cell_size(bytes: &[u8]) -> Option<usize>
@@ -35,35 +32,50 @@ fn cell_size(bytes: &[u8]) -> Option<usize>
     Some(key_end + 2 + value_size)
 }
 
-/// Whether the first of two cells has the smaller key.
-fn rises(bytes: &[u8], last: usize, next: usize) -> bool
-    requires last { BeginWithCell (drop last bytes.now) }
-    requires next { BeginWithCell (drop next bytes.now) }
-    ensures { IsTrue result ↔ (slice_cmp nat_cmp (first_cell (drop last bytes.now)).0 (first_cell (drop next bytes.now)).0 ≡ Less) }
+/// What the key of the cell tells that stands at a place, behind the one that stands at `last` unless it is the first. `None` where
+/// it can't stand there.
+fn next_seen(bytes: &[u8], last: usize, at: usize, seen: Seen) -> Option<Seen>
+    requires here { BeginWithCell (drop at bytes.now) }
+    requires last { 0 < at → BeginWithCell (drop last bytes.now) }
+    requires told { 0 < at → Tells seen (first_cell (drop last bytes.now)).0 }
+    ensures next { IfSome result (λ told. IsNextCell bytes.now last at) }
+    ensures told { IfSome result (λ told. Tells told (first_cell (drop at bytes.now)).0) }
+    ensures none { IfNone result (IsNextCell bytes.now last at → ⊥) }
 {
-    key_at(bytes, last).cmp(key_at(bytes, next)) == Ordering::Less
+    let key = key_at(bytes, at);
+    if at > 0 {
+        next_key(key_at(bytes, last), seen, key)
+    } else {
+        first_key(key)
+    }
 }
 
-/// How many bytes the cell has that stands at a place, behind the one that stands at `last` unless it is the first. `None` where
-/// no cell of a block can stand there.
-fn next_cell(bytes: &[u8], last: usize, at: usize) -> Option<usize>
+/// A cell that was read: how many bytes it has, and what its key tells.
+#[derive(Clone, Copy, Debug)]
+struct Cell {
+    size: usize,
+    seen: Seen,
+}
+
+/// The cell that stands at a place, behind the one that stands at `last` unless it is the first. `None` where no cell of a block can
+/// stand there.
+fn next_cell(bytes: &[u8], last: usize, at: usize, seen: Seen) -> Option<Cell>
     requires inside { at ≤ length bytes.now }
     requires last { 0 < at → BeginWithCell (drop last bytes.now) }
-    ensures next { IfSome result (λ size. IsNextCell bytes.now last at) }
-    ensures size { IfSome result (λ size. size ≡ length (spelled_cell (first_cell (drop at bytes.now)))) }
-    ensures within { IfSome result (λ size. at + size ≤ length bytes.now) }
+    requires told { 0 < at → Tells seen (first_cell (drop last bytes.now)).0 }
+    ensures next { IfSome result (λ cell. IsNextCell bytes.now last at) }
+    ensures told { IfSome result (λ cell. Tells cell.seen (first_cell (drop at bytes.now)).0) }
+    ensures size { IfSome result (λ cell. cell.size ≡ length (spelled_cell (first_cell (drop at bytes.now)))) }
+    ensures within { IfSome result (λ cell. at + cell.size ≤ length bytes.now) }
     ensures none { IfNone result (IsNextCell bytes.now last at → ⊥) }
 {
     let Some(size) = cell_size(&bytes[at..]) else {
         return None;
     };
-    if !is_code(key_at(bytes, at)) {
+    let Some(seen) = next_seen(bytes, last, at, seen) else {
         return None;
-    }
-    if at > 0 && !rises(bytes, last, at) {
-        return None;
-    }
-    Some(size)
+    };
+    Some(Cell { size, seen })
 }
 
 /// The places of so many cells of which these are all the bytes, `None` where they aren't the cells of a block. There is room for
@@ -78,13 +90,15 @@ pub fn read_places(alloc: Global, bytes: &[u8], count: usize) -> Result<Option<V
     let mut places: Vec<u16> = Vec::with_capacity(alloc, MOST_CELLS)?;
     let mut at = 0;
     let mut last = 0;
+    let mut seen = Seen::nothing();
     for _ in 0..count {
-        let Some(size) = next_cell(bytes, last, at) else {
+        let Some(cell) = next_cell(bytes, last, at, seen) else {
             return Ok(None);
         };
         places.push(at as u16)?;
         last = at;
-        at += size;
+        seen = cell.seen;
+        at += cell.size;
     }
     if at != bytes.len() {
         return Ok(None);

@@ -86,6 +86,25 @@ positive_text (suc n) some = refl
 ends_well : (ds : List ℕ) → 0 < length ds → (slice_index ds (length ds - 1) == 48) ≡ false → significant ds ≡ ds
 ends_well ds some last = sym (sym (take-length ds) ∙ significant_done ds (length ds) some (omega arith) (eqb-false (get_or ds (length ds - 1) 0) 48 last) ∙ ap significant (take-length ds))
 
+-- what makes digits those of a whole number
+pub record WholeParts (exponent d : ℕ) (ds : List ℕ) : Type 0 where
+  pub lead : (d == 48) ≡ false
+  pub last : (slice_index (d ∷ ds) (length (d ∷ ds) - 1) == 48) ≡ false
+  pub least : 64 + length (d ∷ ds) ≤ exponent
+  pub most : exponent ≤ 82
+
+pub whole_parts : (exponent d : ℕ) (ds : List ℕ) → is_whole_number exponent (d ∷ ds) ≡ true → WholeParts exponent d ds
+whole_parts exponent d ds h =
+    let last = slice_index (d ∷ ds) (length (d ∷ ds) - 1) == 48 in
+    let long = nat_le (64 + length (d ∷ ds)) exponent in
+    let a = and_parts (not (d == 48) && not last && long) (nat_le exponent 82) h in
+    let b = and_parts (not (d == 48) && not last) long a.0 in
+    let e = and_parts (not (d == 48)) (not last) b.0 in
+    record { lead = not-true (d == 48) e.0; last = not-true last e.1; least = leb-true (64 + length (d ∷ ds)) exponent b.1; most = leb-true exponent 82 a.1 }
+
+pub whole_made : (exponent d : ℕ) (ds : List ℕ) → WholeParts exponent d ds → is_whole_number exponent (d ∷ ds) ≡ true
+whole_made exponent d ds w = rw (w.lead, w.last, le-leb (64 + length (d ∷ ds)) exponent w.least, le-leb exponent 82 w.most) refl
+
 pub record IsWhole (exponent : ℕ) (ds : List ℕ) : Type 0 where
   pub n : ℕ
   pub valid : is_sub (Number (pos n)) ≡ true
@@ -95,12 +114,10 @@ pub whole : (exponent : ℕ) (ds : List ℕ) → list_all is_ascii_digit ds ≡ 
 whole exponent [] all h = cc
 whole exponent (d ∷ dr) all h =
     let ds : List ℕ = d ∷ dr in
-    let a = and_parts (not (d == 48) && not (slice_index ds (length ds - 1) == 48) && nat_le (64 + length ds) exponent) (nat_le exponent 82) h in
-    let b = and_parts (not (d == 48) && not (slice_index ds (length ds - 1) == 48)) (nat_le (64 + length ds) exponent) a.0 in
-    let e = and_parts (not (d == 48)) (not (slice_index ds (length ds - 1) == 48)) b.0 in
-    let lead : (d == 48) ≡ false = not-true (d == 48) e.0 in
-    let least : 64 + length ds ≤ exponent = leb-true (64 + length ds) exponent b.1 in
-    let most : exponent ≤ 82 = leb-true exponent 82 a.1 in
+    let w = whole_parts exponent d dr h in
+    let lead = w.lead in
+    let least = w.least in
+    let most = w.most in
     let count : ℕ = exponent - 46 in
     let zeros : List ℕ = replicate (count - length ds) 48 in
     let long : length (padded count ds) ≡ count = padded_length count ds (omega (arith, least)) in
@@ -108,7 +125,7 @@ whole exponent (d ∷ dr) all h =
     let n : ℕ = digits_value 10 (padded count ds) in
     let some : 0 < n = value_positive d (dr ++ zeros) (eqb-false d 48 lead) digits in
     let is : decimal n ≡ padded count ds = decimal_value d (dr ++ zeros) (eqb-false d 48 lead) digits (omega (arith, long, most)) in
-    let same : significant (padded count ds) ≡ ds = significant_padded ds (count - length ds) ∙ ends_well ds (omega arith) (not-true (slice_index ds (length ds - 1) == 48) e.1) in
+    let same : significant (padded count ds) ≡ ds = significant_padded ds (count - length ds) ∙ ends_well ds (omega arith) w.last in
     let byte : 46 + length (padded count ds) ≡ exponent = omega (arith, long, least) in
     let fits : are_whole count ds ≡ true = rw (lead, le-leb (length ds + 18) count (omega (arith, least))) refl in
     let text : number_text (pos n) ≡ ds ++ replicate (count - 18 - length ds) 48 = positive_text n some ∙ sym (whole_text count ds all (omega (arith, most)) fits) in

@@ -17,7 +17,7 @@ use Rattle.key_code.proofs.Numbers.{no_number, whole}
 abbrev pub rest_of : List ℕ → List ℕ
 rest_of bytes = take (length bytes - 1) (drop 1 bytes)
 
-rest_is : (b : ℕ) (rest : List ℕ) → rest_of (b ∷ rest) ≡ rest
+pub rest_is : (b : ℕ) (rest : List ℕ) → rest_of (b ∷ rest) ≡ rest
 rest_is b rest = ap (λ n. take n rest) (omega arith) ∙ take-length rest
 
 name_begins : (b : ℕ) (rest : List ℕ) (i : ℕ) → position (λ c. not (is_ascii_alphanumeric c)) rest ≡ Some i → (b == 37 || is_ascii_alphabetic b) ≡ true → i ≤ 30 → get_or rest i 0 ≡ 0 → BeginWithName (i + 1) (b ∷ rest)
@@ -51,6 +51,10 @@ is_text : (s : List ℕ) → 0 < length s → begins_numeral (get_or s 0 0) ≡ 
 is_text [] some h = absurd (omega arith)
 is_text (b ∷ s) some h = rw (no_number b s h, lt-ltb 0 (length (b ∷ s)) some) refl
 
+-- a plain string's code
+pub text_code : (s : List ℕ) → none_pass (λ b. nat_lt b 2) s ≡ true → 0 < length s → begins_numeral (get_or s 0 0) ≡ false → (encoded_sub (Text s) ≡ 4 ∷ s ++ 0 ∷ []) × (is_sub (Text s) ≡ true)
+text_code s none some first = (ap (λ (x : List ℕ). 4 ∷ x ++ 0 ∷ []) (nothing_escaped s none), is_text s some first)
+
 first_of : (xs : List ℕ) (i : ℕ) → 0 < i → get_or (take i xs) 0 0 ≡ get_or xs 0 0
 first_of xs zero some = absurd (omega arith)
 first_of [] (suc i) some = refl
@@ -61,14 +65,14 @@ text_begins bytes i e end some first =
     let s = split (λ b. nat_lt b 2) bytes i e in
     let text : List ℕ = take i bytes in
     let long : length text ≡ i = omega (arith, length-take i bytes, s.inside) in
-    let same : flat_map escaped text ≡ text = nothing_escaped text s.front in
-    let code : encoded_sub (Text text) ≡ 4 ∷ text ++ 0 ∷ [] = ap (λ (x : List ℕ). 4 ∷ x ++ 0 ∷ []) same in
+    let t = text_code text s.front (omega (arith, long, some)) (ap begins_numeral (first_of bytes i some) ∙ first) in
+    let code = t.0 in
     record {
       sub = Text text;
       behind = drop (i + 1) bytes;
       code = ap (λ (x : List ℕ). 4 ∷ x) (s.code ∙ ap (λ y. text ++ y ∷ drop (i + 1) bytes) end ∙ sym (append_assoc text (0 ∷ []) (drop (i + 1) bytes))) ∙ sym (ap (λ (x : List ℕ). x ++ drop (i + 1) bytes) code);
       long = omega (arith, ap length code, length-append text (0 ∷ []), long);
-      valid = is_text text (omega (arith, long, some)) (ap begins_numeral (first_of bytes i some) ∙ first);
+      valid = t.1;
     }
 
 whole_begins : (exponent : ℕ) (rest : List ℕ) (i : ℕ) → position (λ b. not (is_ascii_digit b)) rest ≡ Some i → get_or rest i 0 ≡ 0 → is_whole_number exponent (take i rest) ≡ true → BeginWithSub (i + 2 + 1) (3 ∷ exponent ∷ rest)

@@ -44,3 +44,7 @@ behind_front (x ∷ xs) ys = behind_front xs ys
 pub on_true : (b : Bool) (P Q : Type 0) → (P → Q) → OnTrue b P → OnTrue b Q
 on_true true P Q f p = f p
 on_true false P Q f p = tt
+
+pub of_test : (b : Bool) (P : Type 0) → (b ≡ true → P) → OnTrue b P
+of_test true P f = f refl
+of_test false P f = tt

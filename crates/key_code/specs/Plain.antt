@@ -1,5 +1,5 @@
 -- Bytes that begin with parts of an encoded key.
-use Rattle.std.specs.Prelude.{◌≡◌, ℕ, ◌+◌, ◌-◌, ◌≤◌, ◌==◌, ◌&&◌, ◌||◌, Bool, true, false, not, List, [], ◌∷◌, ◌++◌, length, slice_index, nat_le}
+use Rattle.std.specs.Prelude.{◌≡◌, ℕ, ◌+◌, ◌-◌, ◌≤◌, ◌==◌, ◌&&◌, ◌||◌, Bool, true, false, not, List, [], ◌∷◌, ◌++◌, length, take, slice_index, nat_le}
 use Rattle.std.specs.Char.{is_ascii_digit}
 use Rattle.global_defs.specs.Key.{Sub}
 use Rattle.global_defs.specs.Valid.{is_name, is_sub}
@@ -21,6 +21,16 @@ pub record BeginWithSub (n : ℕ) (bytes : List ℕ) : Type 0 where
   pub code : bytes ≡ encoded_sub sub ++ behind
   pub long : length (encoded_sub sub) ≡ n
   pub valid : is_sub sub ≡ true
+
+-- the bytes of a subscript
+abbrev pub IsSubCode : List ℕ → Type 0
+IsSubCode bytes = (s : Sub) × (is_sub s ≡ true) × (bytes ≡ encoded_sub s)
+
+-- The first so many bytes stay a subscript with any greater last character up to this one. A 0 ends them.
+pub record RisesTo (most n : ℕ) (bytes : List ℕ) : Type 0 where
+  pub some : 2 ≤ n
+  pub end : slice_index bytes (n - 1) ≡ 0
+  pub can : (c : ℕ) → slice_index bytes (n - 2) ≤ c → c ≤ most → IsSubCode (take (n - 2) bytes ++ c ∷ 0 ∷ [])
 
 -- a string of so many bytes behind the byte of its kind
 abbrev pub BeginWithText : ℕ → List ℕ → Type 0

@@ -1,18 +1,13 @@
 //! Keys of the commonest forms. Other keys are told byte by byte.
 ghost use Rattle.std.specs.Prelude.{◌≡◌, ◌+◌, ◌∷◌, ◌<◌, ◌≤◌, length, not, nat_lt, position, IfSome};
 ghost use Rattle.std.specs.Char.{is_ascii_digit};
-ghost use Rattle.std.specs.Bool.{OnTrue};
-ghost use Rattle.gvn_key.specs.Decoding.{IsCode};
-ghost use Rattle.key_prefix.specs.Rests.{AreSubs};
-ghost use Rattle.key_code.specs.Plain.{BeginWithText, BeginWithWhole, BeginWithSub, is_whole_number, begins_numeral};
-
-use crate::name::name_len;
+ghost use Rattle.key_code.specs.Plain.{BeginWithText, BeginWithWhole, BeginWithSub, RisesTo, is_whole_number, begins_numeral};
 
 /// How many bytes an encoded key may have.
 pub const LONGEST_KEY: usize = 255;
 
 /// How many subscripts a key may have.
-const MOST_SUBS: usize = 31;
+pub const MOST_SUBS: usize = 31;
 
 /// The byte of the exponent of a whole number with no digit.
 const EXPONENT: usize = 64;
@@ -46,6 +41,7 @@ fn digits_end(bytes: &[u8]) -> Option<usize>
 /// How many bytes a positive whole number has that begins here, behind the byte of its kind.
 fn whole_size(bytes: &[u8]) -> Option<usize>
     ensures whole { IfSome result (λ n. BeginWithWhole n bytes.now) }
+    ensures rises { IfSome result (λ n. RisesTo 57 (n + 1) (3 ∷ bytes.now)) }
     ensures inside { IfSome result (λ n. n ≤ length bytes.now) }
 {
     match bytes {
@@ -79,6 +75,7 @@ fn text_end(bytes: &[u8]) -> Option<usize>
 /// How many bytes a string has that begins here, behind the byte of its kind, where it has no escapes and begins as no numeral.
 fn text_size(bytes: &[u8]) -> Option<usize>
     ensures text { IfSome result (λ n. BeginWithText n bytes.now) }
+    ensures rises { IfSome result (λ n. 2 < n → RisesTo 255 (n + 1) (4 ∷ bytes.now)) }
     ensures inside { IfSome result (λ n. n ≤ length bytes.now) }
 {
     let end = text_end(bytes)?;
@@ -89,50 +86,64 @@ fn text_size(bytes: &[u8]) -> Option<usize>
     }
 }
 
-/// How many bytes a subscript has whose first byte is of this kind, behind which these stand.
-fn size_behind(kind: u8, bytes: &[u8]) -> Option<usize>
-    ensures sub { IfSome result (λ n. BeginWithSub n (kind ∷ bytes.now)) }
-    ensures inside { IfSome result (λ n. n ≤ length bytes.now + 1) }
+/// A subscript that bytes begin with: how many bytes it has, and the greatest byte that may stand in place of its last character, 0
+/// where that isn't told.
+#[derive(Clone, Copy, Debug)]
+pub struct Plain {
+    size: usize,
+    most: u8,
+}
+
+impl Plain {
+    /// How many bytes it has.
+    pub fn size(self) -> usize
+        ensures { result ≡ self.size }
+    {
+        self.size
+    }
+
+    /// The greatest byte that may stand in place of its last character, 0 where that isn't told.
+    pub fn most(self) -> u8
+        ensures { result ≡ self.most }
+    {
+        self.most
+    }
+}
+
+/// The subscript whose first byte is of this kind, behind which these stand.
+fn sub_behind(kind: u8, bytes: &[u8]) -> Option<Plain>
+    ensures sub { IfSome result (λ p. BeginWithSub p.size (kind ∷ bytes.now)) }
+    ensures rises { IfSome result (λ p. 0 < p.most → RisesTo p.most p.size (kind ∷ bytes.now)) }
+    ensures inside { IfSome result (λ p. p.size ≤ length bytes.now + 1) }
 {
     match kind {
-        2 => Some(1),
-        3 => Some(whole_size(bytes)? + 1),
-        4 => Some(text_size(bytes)? + 1),
+        2 => Some(Plain { size: 1, most: 0 }),
+        3 => {
+            let size = whole_size(bytes)?;
+            Some(Plain {
+                size: size + 1,
+                most: b'9',
+            })
+        }
+        4 => {
+            let size = text_size(bytes)?;
+            Some(Plain {
+                size: size + 1,
+                most: if size > 2 { u8::MAX } else { 0 },
+            })
+        }
         _ => None,
     }
 }
 
-/// How many bytes the subscript has that these bytes begin with, where it is 0, a positive whole number or a plain string.
-fn sub_size(bytes: &[u8]) -> Option<usize>
-    ensures sub { IfSome result (λ n. BeginWithSub n bytes.now) }
-    ensures inside { IfSome result (λ n. n ≤ length bytes.now) }
+/// The subscript that these bytes begin with, where it is 0, a positive whole number or a plain string.
+pub fn sub_size(bytes: &[u8]) -> Option<Plain>
+    ensures sub { IfSome result (λ p. BeginWithSub p.size bytes.now) }
+    ensures rises { IfSome result (λ p. 0 < p.most → RisesTo p.most p.size bytes.now) }
+    ensures inside { IfSome result (λ p. p.size ≤ length bytes.now) }
 {
     match bytes {
         [] => None,
-        [kind, rest @ ..] => size_behind(*kind, rest),
-    }
-}
-
-/// Whether these are the bytes of such subscripts.
-fn are_subs(bytes: &[u8]) -> bool
-    ensures { OnTrue result (AreSubs 31 bytes.now) }
-{
-    let mut rest = bytes;
-    for _ in 0..MOST_SUBS {
-        match sub_size(rest) {
-            Some(size) => rest = &rest[size..],
-            None => return rest.is_empty(),
-        }
-    }
-    rest.is_empty()
-}
-
-/// Whether these are the bytes of a key whose subscripts are such ones.
-pub fn is_plain_code(bytes: &[u8]) -> bool
-    ensures { OnTrue result (IsCode bytes.now) }
-{
-    match name_len(bytes) {
-        Some(end) => bytes.len() <= LONGEST_KEY && are_subs(&bytes[end + 1..]),
-        None => false,
+        [kind, rest @ ..] => sub_behind(*kind, rest),
     }
 }
