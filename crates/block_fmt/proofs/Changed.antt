@@ -1,5 +1,5 @@
 -- What a block in memory holds once it was changed.
-use Rattle.std.proofs.Common.{◌≡◌, ℕ, ◌+◌, ◌-◌, ◌≤◌, ◌<◌, ◌^◌, List, [], ◌∷◌, ◌++◌, length, take, drop, map, flat_map, vec_capacity, sym, ◌∙◌, ap, subst, arith, suc, length-append, length-drop}
+use Rattle.std.proofs.Common.{◌≡◌, ℕ, ◌+◌, ◌-◌, ◌≤◌, ◌<◌, ◌^◌, List, [], ◌∷◌, ◌++◌, length, take, drop, map, flat_map, vec_capacity, refl, sym, ◌∙◌, ap, subst, arith, suc, length-append, length-drop}
 use Rattle.std.proofs.lemmas.List.{length-take-le}
 use Rattle.std.proofs.lemmas.Grind.{flat_map-append}
 use Rattle.std.specs.List.{AllByRecursion}
@@ -262,3 +262,15 @@ module _ (b made : Inside) (l : Leaf) (h : Holds b l) (next : made.next ≡ b.ne
     byte_room = room_kept.0;
     place_room = room_kept.1;
   }
+
+-- a block made of cells and their places
+pub filled_made : (b : Inside) (n : ℕ) (bytes : List ℕ) → b.next < 2 ^ 32 → AreCells n bytes → length bytes ≤ 4088 → b.bytes.items ≡ bytes → b.places.items ≡ places 0 (cells_in n bytes) → 4088 ≤ vec_capacity b.bytes → 817 ≤ vec_capacity b.places
+    → Holds b (record { next = b.next; cells = cells_in n bytes })
+filled_made b n bytes near are fit items of byte_room place_room = record {
+  next = refl;
+  bytes = items ∙ filled_bytes n bytes are;
+  places = of;
+  form = filled_form b.next n bytes near fit are;
+  byte_room = byte_room;
+  place_room = place_room;
+}

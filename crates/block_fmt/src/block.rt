@@ -1,5 +1,5 @@
 //! A block in memory.
-ghost use Rattle.std.specs.Prelude.{◌≡◌, ◌≤◌, ◌<◌, ◌↔◌, ◌+◌, ℕ, [], length, take, drop, IsTrue, IsOk, IfOk, IfErr, IfSome, IfNone, IsErrOf, Some, None};
+ghost use Rattle.std.specs.Prelude.{◌≡◌, ◌≤◌, ◌<◌, ◌↔◌, ◌+◌, ℕ, [], length, take, drop, IsTrue, IsOk, IfOk, IfErr, IfSome, IfNone, IsErrOf, Some, None, vec_len, vec_capacity};
 ghost use Rattle.std.specs.Ordering.{nat_cmp};
 ghost use Rattle.std.specs.Cmp.Lexicographic.{slice_cmp};
 ghost use Rattle.std.specs.FinMap as globals;
@@ -285,6 +285,23 @@ impl Block {
         Ok(made)
     }
 
+    /// The block of the cells that these bytes are, whose places are told.
+    fn of_cells(alloc: Global, next: u32, cells: &[u8], of: Vec<u16>) -> Result<Self, NoMemory>
+        requires cells { AreCells (vec_len of) cells.now }
+        requires of { of.items ≡ places 0 (cells_in (vec_len of) cells.now) }
+        requires fit { length cells.now ≤ 4088 }
+        requires room { 817 ≤ vec_capacity of }
+        ensures { IfOk result (λ made. made ≡ record { next = next; cells = cells_in (vec_len of) cells.now }) }
+    {
+        let mut bytes = Vec::with_capacity(alloc, ROOM)?;
+        push_all(&mut bytes, cells);
+        Ok(Block {
+            next,
+            bytes,
+            places: of,
+        })
+    }
+
     /// The block of these bytes, `None` where they are those of no block.
     fn read(alloc: Global, bytes: &[u8]) -> Result<Option<Self>, NoMemory>
         ensures block { IfOk result (λ read. IfSome read (λ made. IsBlock bytes.now made)) }
@@ -302,13 +319,8 @@ impl Block {
         let Some(places) = read_places(alloc, cells, count)? else {
             return Ok(None);
         };
-        let mut copy = Vec::with_capacity(alloc, ROOM)?;
-        push_all(&mut copy, cells);
-        Ok(Some(Block {
-            next: long_number_at(bytes, 4),
-            bytes: copy,
-            places,
-        }))
+        let made = Block::of_cells(alloc, long_number_at(bytes, 4), cells, places)?;
+        Ok(Some(made))
     }
 
     /// The block of 4,096 bytes that stand at an offset of a file.

@@ -108,8 +108,7 @@ pub record AreReadTo (bytes : List ℕ) (end n at : ℕ) (seen : Seen) : Type 0 
 
 pub no_more : (bytes : List ℕ) (end n at : ℕ) (seen : Seen) → AreReadTo bytes end n at seen → BeginWithName end bytes → at ≡ length bytes → n ≤ 31 → length bytes ≤ 255 → IsCode bytes × Tells seen bytes
 no_more bytes end n at seen r name all few short =
-    let last = r.last in
-    (
+    let last = r.last in (
       code_of end bytes (drop (end + 1) bytes) name refl (all_read n (drop at bytes) (drop (end + 1) bytes) r.read few (omega (arith, length-drop at bytes, all))) short,
       tells seen bytes r.takes r.both (λ some. subst (λ k. RisesTo seen.most (k - seen.last) (drop seen.last bytes)) all (r.rises some)) short (omega (arith, last, all)),
     )
@@ -152,8 +151,7 @@ shared last next seen size most t some same sub rises all short =
     let none : sub.behind ≡ [] = empty sub.behind (omega (arith, ap length sub.code, length-append (encoded_sub sub.sub) sub.behind, long, size_left)) in
     let is : next ≡ take at next ++ encoded_sub sub.sub =
     sym (take-append-drop at next) ∙ ap (λ (x : List ℕ). take at next ++ x) (sub.code ∙ ap (λ (x : List ℕ). encoded_sub sub.sub ++ x) none ∙ append-nil (encoded_sub sub.sub)) in
-    let same_size : size ≡ length next - at = omega (arith, all) in
-    (
+    let same_size : size ≡ length next - at = omega (arith, all) in (
       subst IsCode (sym is) (takes sub.sub sub.valid (omega (arith, ap length is, short))),
       tells (record { last = at; most = most }) next (λ _. takes) (λ _. some) (λ rising. subst (λ k. RisesTo most k (drop at next)) same_size (rises rising)) short (omega (arith, all)),
     )

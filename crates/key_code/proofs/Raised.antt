@@ -37,8 +37,7 @@ raised exponent (d ∷ ds) b c (all, is) least most =
     let old_last : slice_index (d ∷ ds ++ b ∷ []) (length (d ∷ ds ++ b ∷ []) - 1) ≡ b = last_is (d ∷ ds) b in
     let new_last : slice_index (d ∷ ds ++ c ∷ []) (length (d ∷ ds ++ c ∷ []) - 1) ≡ c = last_is (d ∷ ds) c in
     let not_zero = eqb-false b 48 (ap (λ k. k == 48) (sym old_last) ∙ w.last) in
-    let other : (c == 48) ≡ false = ne_eqb c 48 (λ e. not_zero (omega (arith, e, low, least))) in
-    (
+    let other : (c == 48) ≡ false = ne_eqb c 48 (λ e. not_zero (omega (arith, e, low, least))) in (
       list_all-append is_ascii_digit (d ∷ ds) (c ∷ []) ∙ rw (parts.0, is_digit c (omega (arith, low, least)) most) refl,
       whole_made exponent d (ds ++ c ∷ []) (record {
         lead = w.lead;
@@ -68,9 +67,11 @@ raised_whole exponent rest (suc i) e end is =
       can = λ c low high.
           let least : get_or rest i 0 ≤ c = subst (λ k. get_or (3 ∷ exponent ∷ rest) k 0 ≤ c) at_last low in
           let r = raised exponent (take i rest) (get_or rest i 0) c (ap (list_all is_ascii_digit) (sym digits) ∙ all, ap (is_whole_number exponent) (sym digits) ∙ is) least high in
-          let w = whole exponent (take i rest ++ c ∷ []) r.0 r.1 in
-          (Number (pos w.n), w.valid,
-            ap (λ k. take k (3 ∷ exponent ∷ rest) ++ c ∷ 0 ∷ []) at_last ∙ ap (λ (x : List ℕ). 3 ∷ exponent ∷ x) (sym (append_assoc (take i rest) (c ∷ []) (0 ∷ []))) ∙ sym w.code);
+          let w = whole exponent (take i rest ++ c ∷ []) r.0 r.1 in (
+            Number (pos w.n),
+            w.valid,
+            ap (λ k. take k (3 ∷ exponent ∷ rest) ++ c ∷ 0 ∷ []) at_last ∙ ap (λ (x : List ℕ). 3 ∷ exponent ∷ x) (sym (append_assoc (take i rest) (c ∷ []) (0 ∷ []))) ∙ sym w.code,
+          );
     }
 
 pub whole_rises : (bytes : List ℕ) (i : ℕ) → 1 ≤ length bytes → position (λ b. not (is_ascii_digit b)) (rest_of bytes) ≡ Some i → get_or (rest_of bytes) i 0 ≡ 0 → is_whole_number (get_or bytes 0 0) (take i (rest_of bytes)) ≡ true → RisesTo 57 (i + 2 + 1) (3 ∷ bytes)
@@ -102,9 +103,11 @@ text_rises bytes (suc i) e end some first =
       can = λ c low high.
           let least : get_or bytes i 0 ≤ c = subst (λ k. get_or (4 ∷ bytes) k 0 ≤ c) at_last low in
           let none : none_pass (λ b. nat_lt b 2) (take i bytes ++ c ∷ []) ≡ true = list_all-append p (take i bytes) (c ∷ []) ∙ rw (parts.0, passes c (omega (arith, two, least))) refl in
-          let t = text_code (take i bytes ++ c ∷ []) none (omega (arith, length-append (take i bytes) (c ∷ []))) (ap begins_numeral (first_stays bytes i c (omega (arith, some)) (omega (arith, inside))) ∙ first) in
-          (Text (take i bytes ++ c ∷ []), t.1,
-            ap (λ k. take k (4 ∷ bytes) ++ c ∷ 0 ∷ []) at_last ∙ ap (λ (x : List ℕ). 4 ∷ x) (sym (append_assoc (take i bytes) (c ∷ []) (0 ∷ []))) ∙ sym t.0);
+          let t = text_code (take i bytes ++ c ∷ []) none (omega (arith, length-append (take i bytes) (c ∷ []))) (ap begins_numeral (first_stays bytes i c (omega (arith, some)) (omega (arith, inside))) ∙ first) in (
+            Text (take i bytes ++ c ∷ []),
+            t.1,
+            ap (λ k. take k (4 ∷ bytes) ++ c ∷ 0 ∷ []) at_last ∙ ap (λ (x : List ℕ). 4 ∷ x) (sym (append_assoc (take i bytes) (c ∷ []) (0 ∷ []))) ∙ sym t.0,
+          );
     }
   where
     passes : (c : ℕ) → 2 ≤ c → not (nat_lt c 2) ≡ true

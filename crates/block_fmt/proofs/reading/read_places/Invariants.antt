@@ -1,4 +1,5 @@
 use Rattle.std.proofs.Common.{◌≡◌, ◌<◌, ◌-◌, ◌≤◌, drop, vec_capacity}
+use Rattle.key_code.specs.Next.{Tells}
 use Rattle.block_fmt.specs.Cells.{cell_at}
 use Rattle.block_fmt.specs.Read.{first_cell, cells_in, places, BeginWithCell}
 use Rattle.block_fmt.proofs.Walk.{IsWalked}
@@ -10,5 +11,6 @@ invariant-loop l = record {
   items : l.places.items ≡ places 0 (cells_in l.counter l.bytes);
   room : 817 ≤ vec_capacity l.places;
   last : 0 < l.at → BeginWithCell (drop l.last l.bytes);
+  told : 0 < l.at → Tells l.seen (first_cell (drop l.last l.bytes)).0;
   last_is : 0 < l.at → first_cell (drop l.last l.bytes) ≡ cell_at (cells_in l.counter l.bytes) (l.counter - 1);
 }

@@ -29,6 +29,6 @@ returns c =
     let all : at + 8 ≡ n = omega (arith, long) in
     let low : at ≤ c.loop-i.i * 8 = omega (arith, c.loop-i-test.false, long) in
     of_test _ _ (λ same.
-      subst (λ k. take k c.args.one.now ≡ take k c.args.other.now) all
-      (same_more c.args.one.now c.args.other.now at c.word_at-2.result c.word_at-3.result (λ i. omega (arith, c.type_inv.one i)) (λ i. omega (arith, c.type_inv.other i)) (omega (arith, all, one)) (omega (arith, all, other))
-      c.word_at-2.ensures c.word_at-3.ensures (eqb-true c.word_at-2.result c.word_at-3.result same) (same_less c.args.one.now c.args.other.now at (c.loop-i.i * 8) low c.loop-i.invariant)))
+    subst (λ k. take k c.args.one.now ≡ take k c.args.other.now) all
+    (same_more c.args.one.now c.args.other.now at c.word_at-2.result c.word_at-3.result (λ i. omega (arith, c.type_inv.one i)) (λ i. omega (arith, c.type_inv.other i)) (omega (arith, all, one)) (omega (arith, all, other))
+    c.word_at-2.ensures c.word_at-3.ensures (eqb-true c.word_at-2.result c.word_at-3.result same) (same_less c.args.one.now c.args.other.now at (c.loop-i.i * 8) low c.loop-i.invariant)))
