@@ -357,7 +357,7 @@ type_found len left c tight fronted e =
     let w = word_taken (codes "BROKEN") len a.0.1 b.0 s.1.tight s.1.fronted b.1 in
     let d = followed_found (taken (number_form 1 MOST_GENERATION) len b.0.1) _ c b.2 in
     let n = number_taken 1 MOST_GENERATION len b.0.1 d.0 (omega arith) w.tight w.fronted d.1 in
-    let z = ended_found len d.0.1 (Print a.0.0 d.0.0) c d.2 in
+    let z = ended_found len d.0.1 (Print a.0.0 false d.0.0) c d.2 in
     record {
       parts = a.0.0 ∷ codes "BROKEN" ∷ decimal d.0.0 ∷ [];
       order = subst (λ x. IsOrder (codes "TYPE" ∷ a.0.0 ∷ codes "BROKEN" ∷ decimal d.0.0 ∷ []) x) z.1 (print a.0.0 d.0.0 s.0 n.0 n.1);
@@ -531,7 +531,7 @@ zwrite_from_read len left site node key g h j = followed_read (taken name_form l
 show_read : (len : ℕ) (left : List ℕ) (site : Name) → is_name site ≡ true → Joins (site ∷ []) left → show_reading len left ≡ Ok (Show site)
 show_read len left site g j = followed_read (taken name_form len left) _ (site, behind left) _ (site_read len site g j) (ended_read len (behind left) _ (next j))
 
-type_read : (len : ℕ) (left : List ℕ) (site : Name) (n : ℕ) → is_name site ≡ true → 1 ≤ n → n ≤ MOST_GENERATION → Joins (site ∷ codes "BROKEN" ∷ decimal n ∷ []) left → type_reading len left ≡ Ok (Print site n)
+type_read : (len : ℕ) (left : List ℕ) (site : Name) (n : ℕ) → is_name site ≡ true → 1 ≤ n → n ≤ MOST_GENERATION → Joins (site ∷ codes "BROKEN" ∷ decimal n ∷ []) left → type_reading len left ≡ Ok (Print site false n)
 type_read len left site n g low high j =
     let rest = behind (behind left) in
     followed_read (taken name_form len left) _ (site, behind left) _ (site_read len site g j)

@@ -71,7 +71,7 @@ order_complete (extract_from site n g low high) = ((g, low, high), tt)
 order_complete (zwrite site g) = (g, tt)
 order_complete (zwrite_from site node key g h) = (g, tt)
 order_complete (show site g) = (g, tt)
-order_complete (print site n g low high) = ((g, low, high), tt)
+order_complete (print site n g low high) = ((g, refl, low, high), tt)
 
 pub command_complete : (line : List ℕ) (c : Command) → line_reading Outside line ≡ Ends c → IsFormed c × IsWhole c
 command_complete line c e = order_complete (command_spelled line c e).order

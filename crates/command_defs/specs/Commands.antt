@@ -32,8 +32,8 @@ pub data Command : Type 0 where
   Zwrite : Name → (top : Option Key) → Command
   -- the site's state, and its reigns where it is open
   Show : Name → Command
-  -- the broken-transaction file of that generation (GT.M: MUPIP JOURNAL -ROLLBACK writes broken transactions to a file)
-  Print : Name → (generation : ℕ) → Command
+  -- the lost-transaction or broken-transaction file of that generation (GT.M: MUPIP JOURNAL -ROLLBACK writes these files)
+  Print : Name → (lost : Bool) → (generation : ℕ) → Command
 
 abbrev pub with_images : Name → Region
 with_images name = record { name = name; before = true }

@@ -1,5 +1,5 @@
 -- The forms of the commands that are one line, and of a section's first line.
-use Rattle.std.specs.Prelude.{ℕ, zero, suc, ◌-◌, ◌^◌, ◌==◌, List, [], ◌∷◌, ◌++◌, length, codes, if◌then◌else◌}
+use Rattle.std.specs.Prelude.{ℕ, zero, suc, ◌-◌, ◌^◌, ◌==◌, false, List, [], ◌∷◌, ◌++◌, length, codes, if◌then◌else◌}
 use Rattle.std.specs.Str.{bytes_eq}
 use Rattle.std.specs.declared.result.Result.{Result}
 use Rattle.std.specs.declared.result.Result.TheVariants.{Ok, Err}
@@ -76,7 +76,7 @@ show_reading len left = followed (taken name_form len left) (λ site. ended len 
 
 -- TYPE site BROKEN generation
 abbrev pub type_reading : ℕ → List ℕ → Result Command ℕ
-type_reading len left = followed (taken name_form len left) (λ site. followed (taken (word_form (codes "BROKEN")) len site.1) (λ file. followed (taken (number_form 1 MOST_GENERATION) len file.1) (λ generation. ended len generation.1 (Print site.0 generation.0))))
+type_reading len left = followed (taken name_form len left) (λ site. followed (taken (word_form (codes "BROKEN")) len site.1) (λ file. followed (taken (number_form 1 MOST_GENERATION) len file.1) (λ generation. ended len generation.1 (Print site.0 false generation.0))))
 
 -- by a line's first word; behind is what stands behind it and the spaces
 abbrev pub command_by : (word : List ℕ) (len : ℕ) (left behind : List ℕ) → Result Command ℕ

@@ -119,7 +119,7 @@ IsFormed (Extract name None) = is_name name ≡ true
 IsFormed (Extract name (Some n)) = (is_name name ≡ true) × (1 ≤ n) × (n ≤ MOST_NUMBER)
 IsFormed (Zwrite name top) = is_name name ≡ true
 IsFormed (Show name) = is_name name ≡ true
-IsFormed (Print name generation) = (is_name name ≡ true) × (1 ≤ generation) × (generation ≤ MOST_GENERATION)
+IsFormed (Print name lost generation) = (is_name name ≡ true) × (lost ≡ false) × (1 ≤ generation) × (generation ≤ MOST_GENERATION)
 
 -- taking each updater's next job in this order leaves no updater a job
 abbrev pub UsesUp : List (List Job) → List ℕ → Type 0
@@ -137,4 +137,4 @@ IsWhole (Crash name pick) = Unit {0}
 IsWhole (Extract name from) = Unit {0}
 IsWhole (Zwrite name top) = Unit {0}
 IsWhole (Show name) = Unit {0}
-IsWhole (Print name generation) = Unit {0}
+IsWhole (Print name lost generation) = Unit {0}

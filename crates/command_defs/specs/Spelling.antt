@@ -64,7 +64,7 @@ pub data IsOrder : (parts : List (List ℕ)) (command : Command) → Type 0 wher
   zwrite : (site : Name) → is_name site ≡ true → IsOrder (codes "ZWRITE" ∷ site ∷ []) (Zwrite site None)
   zwrite_from : (site : Name) (node : List ℕ) (key : Key) → is_name site ≡ true → key_reading node ≡ Ok key → IsOrder (codes "ZWRITE" ∷ site ∷ node ∷ []) (Zwrite site (Some key))
   show : (site : Name) → is_name site ≡ true → IsOrder (codes "SHOW" ∷ site ∷ []) (Show site)
-  print : (site : Name) (generation : ℕ) → is_name site ≡ true → 1 ≤ generation → generation ≤ MOST_GENERATION → IsOrder (codes "TYPE" ∷ site ∷ codes "BROKEN" ∷ decimal generation ∷ []) (Print site generation)
+  print : (site : Name) (generation : ℕ) → is_name site ≡ true → 1 ≤ generation → generation ≤ MOST_GENERATION → IsOrder (codes "TYPE" ∷ site ∷ codes "BROKEN" ∷ decimal generation ∷ []) (Print site false generation)
 
 -- A line of these parts, with any spaces before them and what is ignored behind them.
 pub record IsLineOf (parts : List (List ℕ)) (line : List ℕ) : Type 0 where

@@ -50,8 +50,8 @@ pub fn commands_hold()
     ensures word { line_reading Outside (codes "RUNN A") ≡ Wrong 1 }
     ensures missing { line_reading Outside (codes "STOP  ") ≡ Wrong 5 }
     ensures more { line_reading Outside (codes "STOP A\r\r") ≡ Wrong 6 }
-    ensures broken { line_reading Outside (codes "TYPE A BROKEN 2") ≡ Ends (Print (codes "A") 2) }
-    ensures generation { line_reading Outside (codes "TYPE A BROKEN 65535") ≡ Ends (Print (codes "A") 65535) }
+    ensures broken { line_reading Outside (codes "TYPE A BROKEN 2") ≡ Ends (Print (codes "A") false 2) }
+    ensures generation { line_reading Outside (codes "TYPE A BROKEN 65535") ≡ Ends (Print (codes "A") false 65535) }
     ensures no_generation { line_reading Outside (codes "TYPE A BROKEN 0") ≡ Wrong 15 }
     ensures above_generation { line_reading Outside (codes "TYPE A BROKEN 65536") ≡ Wrong 15 }
     ensures file { line_reading Outside (codes "TYPE A LOST 1") ≡ Wrong 8 }

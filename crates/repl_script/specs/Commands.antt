@@ -19,4 +19,4 @@ command_value (commands.Crash site pick) = defs.Crash site pick
 command_value (commands.Extract site number) = defs.Extract site number
 command_value (commands.Zwrite site top) = defs.Zwrite site top
 command_value (commands.Show site) = defs.Show site
-command_value (commands.Print site generation) = defs.Print site generation
+command_value (commands.Print site lost generation) = defs.Print site lost generation

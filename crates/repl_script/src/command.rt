@@ -60,9 +60,11 @@ pub enum Command {
     Show {
         site: Bytes,
     },
-    /// Shows the file of broken transactions of that generation, from 1 to 65,535.
+    /// Shows the file of lost or of broken transactions of that generation, from 1 to 65,535. There are no files of lost ones yet, so no
+    /// script asks for one.
     Print {
         site: Bytes,
+        lost: bool,
         generation: u32,
     },
 }

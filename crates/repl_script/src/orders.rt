@@ -160,7 +160,11 @@ fn read_type(alloc: Global, len: u16, left: &[u8]) -> Result<Command, Fault>
     ended(len, behind)?;
     let site = Bytes::of(alloc, site.part)?;
     let generation = generation as u32;
-    Ok(Command::Print { site, generation })
+    Ok(Command::Print {
+        site,
+        lost: false,
+        generation,
+    })
 }
 
 /// The command of a line between commands, by its first word. `behind` is what stands behind the word and the spaces.

@@ -80,7 +80,7 @@ target (Crash name pick) = On name crash
 target (Extract name from) = On name (extract from)
 target (Zwrite name top) = On name (zwrite top)
 target (Show name) = On name show
-target (Print name g) = On name (print g)
+target (Print name lost g) = On name (print g)
 
 abbrev pub meant : World → Target → Meaning
 meant w (On name row) = on_site w name (λ i p. Acts i (row_at row p) apart)

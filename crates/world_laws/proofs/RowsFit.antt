@@ -171,4 +171,4 @@ fit-target (Crash name pick) formed = λ p h. fit-quiet _ _ _ _ p (λ q d. fit-c
 fit-target (Extract name from) formed = λ p h. fit-quiet _ _ _ _ p (λ q d. fit-kept p q d h) h
 fit-target (Zwrite name top) formed = λ p h. fit-quiet _ _ _ _ p (λ q d. fit-kept p q d h) h
 fit-target (Show name) formed = λ p h. fit-quiet _ _ _ _ p (λ q d. fit-kept p q d h) h
-fit-target (Print name g) formed = fit-print g
+fit-target (Print name lost g) formed = fit-print g

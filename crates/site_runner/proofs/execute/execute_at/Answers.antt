@@ -96,8 +96,8 @@ returns-in-Show-clause-cut_off g c = err_holds c.show.result _ (cut_kept g.D.Dis
 
 pub returns-clause-done : goal.returns-clause-done
 returns-clause-done g c =
-    arm_done g.D.Disk.disk (command_value c.args.command) (commands.Print c.in-Print.site c.in-Print.generation) (print c.in-Print.generation) c.args.slot.now c.print.new.disk c.in-Some.site c.print.new.site c.print.result (ap command_value c.in-Print.is) refl c.in-Some.is c.args.text.now c.print.new.text
+    arm_done g.D.Disk.disk (command_value c.args.command) (commands.Print c.in-Print.site c.in-Print.lost c.in-Print.generation) (print c.in-Print.generation) c.args.slot.now c.print.new.disk c.in-Some.site c.print.new.site c.print.result (ap command_value c.in-Print.is) refl c.in-Some.is c.args.text.now c.print.new.text
     c.print.ensures.done
 
 pub returns-clause-cut_off : goal.returns-clause-cut_off
-returns-clause-cut_off g c = arm_cut g.D.Disk.disk (command_value c.args.command) (commands.Print c.in-Print.site c.in-Print.generation) (print c.in-Print.generation) c.args.slot.now c.print.new.disk c.in-Some.site c.print.new.site c.print.result (ap command_value c.in-Print.is) refl c.in-Some.is c.print.ensures.cut_off
+returns-clause-cut_off g c = arm_cut g.D.Disk.disk (command_value c.args.command) (commands.Print c.in-Print.site c.in-Print.lost c.in-Print.generation) (print c.in-Print.generation) c.args.slot.now c.print.new.disk c.in-Some.site c.print.new.site c.print.result (ap command_value c.in-Print.is) refl c.in-Some.is c.print.ensures.cut_off
