@@ -1,5 +1,6 @@
 //! Cells read from bytes that may be others.
-ghost use Rattle.std.specs.Prelude.{◌≡◌, ◌≤◌, ◌<◌, ◌+◌, length, drop, vec_capacity, IfSome, IfNone, IfOk};
+ghost use Rattle.std.specs.Prelude.{◌≡◌, ◌≤◌, ◌<◌, ◌+◌, ◌↔◌, length, drop, vec_capacity, IfSome, IfNone, IfOk, IsTrue};
+ghost use Rattle.std.specs.Bool.{OnTrue};
 ghost use Rattle.key_code.specs.Next.{Tells};
 ghost use Rattle.journal_defs.specs.Leaves.{spelled_cell};
 ghost use Rattle.block_fmt.specs.Read.{first_cell, cells_in, places, BeginWithCell, AreCells, IsNextCell};
@@ -32,50 +33,48 @@ fn cell_size(bytes: &[u8]) -> Option<usize>
     Some(key_end + 2 + value_size)
 }
 
-/// What the key of the cell tells that stands at a place, behind the one that stands at `last` unless it is the first. `None` where
-/// it can't stand there.
-fn next_seen(bytes: &[u8], last: usize, at: usize, seen: Seen) -> Option<Seen>
+/// Whether the key of the cell that stands at a place may stand there, behind the one at `last` unless it is the first. What its bytes
+/// tell is then known in place of what was.
+fn is_next(bytes: &[u8], last: usize, at: usize, seen: &mut Seen) -> bool
     requires here { BeginWithCell (drop at bytes.now) }
     requires last { 0 < at → BeginWithCell (drop last bytes.now) }
-    requires told { 0 < at → Tells seen (first_cell (drop last bytes.now)).0 }
-    ensures next { IfSome result (λ told. IsNextCell bytes.now last at) }
-    ensures told { IfSome result (λ told. Tells told (first_cell (drop at bytes.now)).0) }
-    ensures none { IfNone result (IsNextCell bytes.now last at → ⊥) }
+    requires told { 0 < at → Tells seen.old (first_cell (drop last bytes.now)).0 }
+    ensures next { IsTrue result ↔ IsNextCell bytes.now last at }
+    ensures told { OnTrue result (Tells seen.new (first_cell (drop at bytes.now)).0) }
 {
     let key = key_at(bytes, at);
     if at > 0 {
-        next_key(key_at(bytes, last), seen, key)
-    } else {
-        first_key(key)
+        return next_key(key_at(bytes, last), seen, key);
+    }
+    match first_key(key) {
+        Some(told) => {
+            *seen = told;
+            true
+        }
+        None => false,
     }
 }
 
-/// A cell that was read: how many bytes it has, and what its key tells.
-#[derive(Clone, Copy, Debug)]
-struct Cell {
-    size: usize,
-    seen: Seen,
-}
-
-/// The cell that stands at a place, behind the one that stands at `last` unless it is the first. `None` where no cell of a block can
-/// stand there.
-fn next_cell(bytes: &[u8], last: usize, at: usize, seen: Seen) -> Option<Cell>
+/// How many bytes the cell has that stands at a place, behind the one that stands at `last` unless it is the first. `None` where no
+/// cell of a block can stand there.
+fn next_cell(bytes: &[u8], last: usize, at: usize, seen: &mut Seen) -> Option<usize>
     requires inside { at ≤ length bytes.now }
     requires last { 0 < at → BeginWithCell (drop last bytes.now) }
-    requires told { 0 < at → Tells seen (first_cell (drop last bytes.now)).0 }
-    ensures next { IfSome result (λ cell. IsNextCell bytes.now last at) }
-    ensures told { IfSome result (λ cell. Tells cell.seen (first_cell (drop at bytes.now)).0) }
-    ensures size { IfSome result (λ cell. cell.size ≡ length (spelled_cell (first_cell (drop at bytes.now)))) }
-    ensures within { IfSome result (λ cell. at + cell.size ≤ length bytes.now) }
+    requires told { 0 < at → Tells seen.old (first_cell (drop last bytes.now)).0 }
+    ensures next { IfSome result (λ size. IsNextCell bytes.now last at) }
+    ensures told { IfSome result (λ size. Tells seen.new (first_cell (drop at bytes.now)).0) }
+    ensures size { IfSome result (λ size. size ≡ length (spelled_cell (first_cell (drop at bytes.now)))) }
+    ensures within { IfSome result (λ size. at + size ≤ length bytes.now) }
     ensures none { IfNone result (IsNextCell bytes.now last at → ⊥) }
 {
     let Some(size) = cell_size(&bytes[at..]) else {
         return None;
     };
-    let Some(seen) = next_seen(bytes, last, at, seen) else {
-        return None;
-    };
-    Some(Cell { size, seen })
+    if is_next(bytes, last, at, seen) {
+        Some(size)
+    } else {
+        None
+    }
 }
 
 /// The places of so many cells of which these are all the bytes, `None` where they aren't the cells of a block. There is room for
@@ -92,13 +91,12 @@ pub fn read_places(alloc: Global, bytes: &[u8], count: usize) -> Result<Option<V
     let mut last = 0;
     let mut seen = Seen::nothing();
     for _ in 0..count {
-        let Some(cell) = next_cell(bytes, last, at, seen) else {
+        let Some(size) = next_cell(bytes, last, at, &mut seen) else {
             return Ok(None);
         };
         places.push(at as u16)?;
         last = at;
-        seen = cell.seen;
-        at += cell.size;
+        at += size;
     }
     if at != bytes.len() {
         return Ok(None);

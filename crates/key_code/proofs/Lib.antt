@@ -1,8 +1,8 @@
 pub mod Splits
+pub mod SameFronts
 pub mod Numbers
 pub mod Parts
-pub mod Raised
+pub mod Texts
 pub mod Subscripts
 pub mod Behind
-pub mod SameFronts
 pub mod Whole

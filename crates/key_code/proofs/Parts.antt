@@ -55,7 +55,7 @@ is_text (b ∷ s) some h = rw (no_number b s h, lt-ltb 0 (length (b ∷ s)) some
 pub text_code : (s : List ℕ) → none_pass (λ b. nat_lt b 2) s ≡ true → 0 < length s → begins_numeral (get_or s 0 0) ≡ false → (encoded_sub (Text s) ≡ 4 ∷ s ++ 0 ∷ []) × (is_sub (Text s) ≡ true)
 text_code s none some first = (ap (λ (x : List ℕ). 4 ∷ x ++ 0 ∷ []) (nothing_escaped s none), is_text s some first)
 
-first_of : (xs : List ℕ) (i : ℕ) → 0 < i → get_or (take i xs) 0 0 ≡ get_or xs 0 0
+pub first_of : (xs : List ℕ) (i : ℕ) → 0 < i → get_or (take i xs) 0 0 ≡ get_or xs 0 0
 first_of xs zero some = absurd (omega arith)
 first_of [] (suc i) some = refl
 first_of (x ∷ xs) (suc i) some = refl

@@ -9,7 +9,7 @@ use Rattle.std.specs.Int.{from_be_bytes, w64}
 abbrev pub AreBytes : List ℕ → Type 0
 AreBytes xs = (i : ℕ) → get_or xs i 0 < 256
 
-taken_bytes : (n : ℕ) (xs : List ℕ) → AreBytes xs → AreBytes (take n xs)
+pub taken_bytes : (n : ℕ) (xs : List ℕ) → AreBytes xs → AreBytes (take n xs)
 taken_bytes zero xs small i = omega arith
 taken_bytes (suc n) [] small i = omega arith
 taken_bytes (suc n) (x ∷ xs) small zero = small 0

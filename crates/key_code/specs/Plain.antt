@@ -1,5 +1,6 @@
 -- Bytes that begin with parts of an encoded key.
-use Rattle.std.specs.Prelude.{◌≡◌, ℕ, ◌+◌, ◌-◌, ◌≤◌, ◌==◌, ◌&&◌, ◌||◌, Bool, true, false, not, List, [], ◌∷◌, ◌++◌, length, take, slice_index, nat_le}
+use Rattle.std.specs.Prelude.{◌≡◌, ℕ, ◌+◌, ◌-◌, ◌≤◌, ◌<◌, ◌==◌, ◌&&◌, ◌||◌, Bool, true, false, not, List, [], ◌∷◌, ◌++◌, length, take, slice_index, nat_le}
+use Rattle.std.specs.List.{AllByRecursion}
 use Rattle.std.specs.Char.{is_ascii_digit}
 use Rattle.global_defs.specs.Key.{Sub}
 use Rattle.global_defs.specs.Valid.{is_name, is_sub}
@@ -26,11 +27,23 @@ pub record BeginWithSub (n : ℕ) (bytes : List ℕ) : Type 0 where
 abbrev pub IsSubCode : List ℕ → Type 0
 IsSubCode bytes = (s : Sub) × (is_sub s ≡ true) × (bytes ≡ encoded_sub s)
 
--- The first so many bytes stay a subscript with any greater last character up to this one. A 0 ends them.
-pub record RisesTo (most n : ℕ) (bytes : List ℕ) : Type 0 where
-  pub some : 2 ≤ n
-  pub end : slice_index bytes (n - 1) ≡ 0
-  pub can : (c : ℕ) → slice_index bytes (n - 2) ≤ c → c ≤ most → IsSubCode (take (n - 2) bytes ++ c ∷ 0 ∷ [])
+-- A text that may stand for a subscript's: at most so long, with this first byte, of bytes from the one below `low` up to `most`, and
+-- the last none below `low`.
+pub record MayStand (low most longest head : ℕ) (text : List ℕ) : Type 0 where
+  pub some : 0 < length text
+  pub few : length text ≤ longest
+  pub first : slice_index text 0 ≡ head
+  pub inner : AllByRecursion (λ b. (low ≤ b + 1) × (b ≤ most)) text
+  pub last : low ≤ slice_index text (length text - 1)
+
+-- The subscript of so many bytes is some, a text, and a 0, and any text that may stand for this one makes it a subscript, too.
+pub record HasText (from low most longest n : ℕ) (bytes : List ℕ) : Type 0 where
+  pub text : List ℕ
+  pub is : take n bytes ≡ take from bytes ++ (text ++ 0 ∷ [])
+  pub long : from + length text + 1 ≡ n
+  pub some : 0 < length text
+  pub inner : AllByRecursion (λ b. (low ≤ b + 1) × (b ≤ most)) text
+  pub can : (other : List ℕ) → MayStand low most longest (slice_index text 0) other → IsSubCode (take from bytes ++ (other ++ 0 ∷ []))
 
 -- a string of so many bytes behind the byte of its kind
 abbrev pub BeginWithText : ℕ → List ℕ → Type 0

@@ -5,6 +5,8 @@ mod code;
 mod name;
 mod next;
 mod plain;
+mod told;
 mod words;
 
-pub use next::{Seen, first_key, next_key};
+pub use next::{first_key, next_key};
+pub use told::Seen;

@@ -1,7 +1,9 @@
 //! Keys of the commonest forms. Other keys are told byte by byte.
-ghost use Rattle.std.specs.Prelude.{◌≡◌, ◌+◌, ◌∷◌, ◌<◌, ◌≤◌, length, not, nat_lt, position, IfSome};
+ghost use Rattle.std.specs.Prelude.{◌≡◌, ◌+◌, ◌-◌, ◌∷◌, ◌<◌, ◌≤◌, length, not, nat_lt, position, slice_index, IfSome};
 ghost use Rattle.std.specs.Char.{is_ascii_digit};
-ghost use Rattle.key_code.specs.Plain.{BeginWithText, BeginWithWhole, BeginWithSub, RisesTo, is_whole_number, begins_numeral};
+ghost use Rattle.key_code.specs.Plain.{BeginWithText, BeginWithWhole, BeginWithSub, HasText, is_whole_number, begins_numeral};
+
+use crate::told::Seen;
 
 /// How many bytes an encoded key may have.
 pub const LONGEST_KEY: usize = 255;
@@ -41,7 +43,8 @@ fn digits_end(bytes: &[u8]) -> Option<usize>
 /// How many bytes a positive whole number has that begins here, behind the byte of its kind.
 fn whole_size(bytes: &[u8]) -> Option<usize>
     ensures whole { IfSome result (λ n. BeginWithWhole n bytes.now) }
-    ensures rises { IfSome result (λ n. RisesTo 57 (n + 1) (3 ∷ bytes.now)) }
+    ensures some { IfSome result (λ n. 0 < length bytes.now) }
+    ensures text { IfSome result (λ n. HasText 2 49 57 (slice_index bytes.now 0 - 64) (n + 1) (3 ∷ bytes.now)) }
     ensures inside { IfSome result (λ n. n ≤ length bytes.now) }
 {
     match bytes {
@@ -75,7 +78,7 @@ fn text_end(bytes: &[u8]) -> Option<usize>
 /// How many bytes a string has that begins here, behind the byte of its kind, where it has no escapes and begins as no numeral.
 fn text_size(bytes: &[u8]) -> Option<usize>
     ensures text { IfSome result (λ n. BeginWithText n bytes.now) }
-    ensures rises { IfSome result (λ n. 2 < n → RisesTo 255 (n + 1) (4 ∷ bytes.now)) }
+    ensures any { IfSome result (λ n. HasText 1 3 255 255 (n + 1) (4 ∷ bytes.now)) }
     ensures inside { IfSome result (λ n. n ≤ length bytes.now) }
 {
     let end = text_end(bytes)?;
@@ -86,12 +89,11 @@ fn text_size(bytes: &[u8]) -> Option<usize>
     }
 }
 
-/// A subscript that bytes begin with: how many bytes it has, and the greatest byte that may stand in place of its last character, 0
-/// where that isn't told.
+/// A subscript that bytes begin with: how many bytes it has, and what is told of its text.
 #[derive(Clone, Copy, Debug)]
 pub struct Plain {
     size: usize,
-    most: u8,
+    seen: Seen,
 }
 
 impl Plain {
@@ -102,44 +104,66 @@ impl Plain {
         self.size
     }
 
-    /// The greatest byte that may stand in place of its last character, 0 where that isn't told.
-    pub fn most(self) -> u8
-        ensures { result ≡ self.most }
+    /// What is told of its text.
+    pub fn seen(self) -> Seen
+        ensures { result ≡ self.seen }
     {
-        self.most
+        self.seen
     }
+}
+
+/// The positive whole number that these bytes are behind the byte of its kind.
+fn whole_behind(bytes: &[u8]) -> Option<Plain>
+    ensures sub { IfSome result (λ p. BeginWithSub p.size (3 ∷ bytes.now)) }
+    ensures text { IfSome result (λ p. HasText p.seen.from p.seen.low p.seen.most p.seen.longest p.size (3 ∷ bytes.now)) }
+    ensures from { IfSome result (λ p. p.seen.from ≤ 2) }
+    ensures inside { IfSome result (λ p. p.size ≤ length bytes.now + 1) }
+{
+    let size = whole_size(bytes)?;
+    let longest = usize::from(bytes[0]).saturating_sub(EXPONENT);
+    Some(Plain {
+        size: size + 1,
+        seen: Seen::text(2, longest, b'1', b'9'),
+    })
+}
+
+/// The string that these bytes are behind the byte of its kind. Its last character may be any past 2.
+fn text_behind(bytes: &[u8]) -> Option<Plain>
+    ensures sub { IfSome result (λ p. BeginWithSub p.size (4 ∷ bytes.now)) }
+    ensures text { IfSome result (λ p. HasText p.seen.from p.seen.low p.seen.most p.seen.longest p.size (4 ∷ bytes.now)) }
+    ensures from { IfSome result (λ p. p.seen.from ≤ 2) }
+    ensures inside { IfSome result (λ p. p.size ≤ length bytes.now + 1) }
+{
+    let size = text_size(bytes)?;
+    Some(Plain {
+        size: size + 1,
+        seen: Seen::text(1, LONGEST_KEY, 3, u8::MAX),
+    })
 }
 
 /// The subscript whose first byte is of this kind, behind which these stand.
 fn sub_behind(kind: u8, bytes: &[u8]) -> Option<Plain>
     ensures sub { IfSome result (λ p. BeginWithSub p.size (kind ∷ bytes.now)) }
-    ensures rises { IfSome result (λ p. 0 < p.most → RisesTo p.most p.size (kind ∷ bytes.now)) }
+    ensures text { IfSome result (λ p. 0 < p.seen.longest → HasText p.seen.from p.seen.low p.seen.most p.seen.longest p.size (kind ∷ bytes.now)) }
+    ensures from { IfSome result (λ p. p.seen.from ≤ 2) }
     ensures inside { IfSome result (λ p. p.size ≤ length bytes.now + 1) }
 {
     match kind {
-        2 => Some(Plain { size: 1, most: 0 }),
-        3 => {
-            let size = whole_size(bytes)?;
-            Some(Plain {
-                size: size + 1,
-                most: b'9',
-            })
-        }
-        4 => {
-            let size = text_size(bytes)?;
-            Some(Plain {
-                size: size + 1,
-                most: if size > 2 { u8::MAX } else { 0 },
-            })
-        }
+        2 => Some(Plain {
+            size: 1,
+            seen: Seen::nothing(),
+        }),
+        3 => whole_behind(bytes),
+        4 => text_behind(bytes),
         _ => None,
     }
 }
 
 /// The subscript that these bytes begin with, where it is 0, a positive whole number or a plain string.
-pub fn sub_size(bytes: &[u8]) -> Option<Plain>
+pub fn read_sub(bytes: &[u8]) -> Option<Plain>
     ensures sub { IfSome result (λ p. BeginWithSub p.size bytes.now) }
-    ensures rises { IfSome result (λ p. 0 < p.most → RisesTo p.most p.size bytes.now) }
+    ensures text { IfSome result (λ p. 0 < p.seen.longest → HasText p.seen.from p.seen.low p.seen.most p.seen.longest p.size bytes.now) }
+    ensures from { IfSome result (λ p. p.seen.from ≤ 2) }
     ensures inside { IfSome result (λ p. p.size ≤ length bytes.now) }
 {
     match bytes {

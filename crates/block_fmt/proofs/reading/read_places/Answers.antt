@@ -24,9 +24,9 @@ loop-preserved c =
     let at = c.loop.at in
     let inv = c.loop.invariant in
     let next : IsNextCell bytes c.loop.last at = c.in-Some.ensures.next in
-    let size : c.in-Some.cell.size ≡ length (spelled_cell (first_cell (drop at bytes))) = c.in-Some.ensures.size in
+    let size : c.in-Some.size ≡ length (spelled_cell (first_cell (drop at bytes))) = c.in-Some.ensures.size in
     record {
-      walked = walked_more bytes n at c.in-Some.cell.size inv.walked next.begin size next.key
+      walked = walked_more bytes n at c.in-Some.size inv.walked next.begin size next.key
           (λ some. let there : 0 < at = walked_some bytes n at inv.walked some in
           subst (λ (d : Cell). slice_cmp nat_cmp d.0 (first_cell (drop at bytes)).0 ≡ Less) (inv.last_is there) (next.past there));
       items = c.in_ok-push.ensures.items ∙ ap (λ (ps : List ℕ). ps ++ at ∷ []) inv.items ∙ sym (places_more bytes n at inv.walked);
