@@ -6,6 +6,8 @@ mod cells;
 #[cfg(test)]
 mod formats;
 #[cfg(test)]
+mod keys;
+#[cfg(test)]
 mod leaves;
 #[cfg(test)]
 mod pools;
