@@ -44,14 +44,9 @@ fn is_next(bytes: &[u8], last: usize, at: usize, seen: &mut Seen) -> bool
 {
     let key = key_at(bytes, at);
     if at > 0 {
-        return next_key(key_at(bytes, last), seen, key);
-    }
-    match first_key(key) {
-        Some(told) => {
-            *seen = told;
-            true
-        }
-        None => false,
+        next_key(key_at(bytes, last), seen, key)
+    } else {
+        first_key(seen, key)
     }
 }
 

@@ -1,6 +1,6 @@
 //! Keys read one behind another.
 use crate::cells::code;
-use key_code::{first_key, next_key};
+use key_code::{Seen, first_key, next_key};
 use std::alloc::Global;
 use std::process::Abort;
 use std::test::Fail;
@@ -35,7 +35,8 @@ const NODES: [&[u8]; 24] = [
 
 /// Whether a key's bytes follow those of another.
 fn follows(rt: &impl Abort, last: &[u8], next: &[u8]) -> bool {
-    let mut seen = first_key(last).expect(rt, "a key");
+    let mut seen = Seen::nothing();
+    assert!(rt; first_key(&mut seen, last));
     let is_next = next_key(last, &mut seen, next);
     // What was told of the second serves as well.
     assert!(rt; !is_next || !next_key(next, &mut seen, last));
@@ -69,6 +70,6 @@ fn bytes_of_no_key_follow_none(rt: HostRuntime) -> Result<(), Fail> {
     assert!(&rt; !follows_twelve(&rt, alloc, b"T\x00\x03\x421:\x00")?);
     assert!(&rt; !follows_twelve(&rt, alloc, b"T\x00\x03\x4220\x00")?);
     assert!(&rt; !follows_twelve(&rt, alloc, b"T\x00\x03\x4213")?);
-    assert!(&rt; first_key(b"").is_none());
+    assert!(&rt; !first_key(&mut Seen::nothing(), b""));
     Ok(())
 }

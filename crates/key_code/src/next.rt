@@ -46,20 +46,20 @@ fn plain_key(bytes: &[u8]) -> Option<Seen>
     plain_subs(bytes, end)
 }
 
-/// What a key's bytes tell. `None` exactly where these are the encoded form of no key.
-pub fn first_key(bytes: &[u8]) -> Option<Seen>
-    ensures code { IfSome result (λ seen. IsCode bytes.now) }
-    ensures tells { IfSome result (λ seen. Tells seen bytes.now) }
-    ensures none { IfNone result (IsCode bytes.now → ⊥) }
+/// Whether these bytes are the encoded form of a key. What they tell of the key behind it is then known in place of what was.
+pub fn first_key(seen: &mut Seen, bytes: &[u8]) -> bool
+    ensures code { IsTrue result ↔ IsCode bytes.now }
+    ensures tells { OnTrue result (Tells seen.new bytes.now) }
 {
-    let plain = plain_key(bytes);
-    if plain.is_some() {
-        return plain;
-    }
-    if is_any_code(bytes) {
-        Some(Seen::nothing())
-    } else {
-        None
+    match plain_key(bytes) {
+        Some(told) => {
+            *seen = told;
+            true
+        }
+        None => {
+            *seen = Seen::nothing();
+            is_any_code(bytes)
+        }
     }
 }
 
@@ -76,11 +76,5 @@ pub fn next_key(last: &[u8], seen: &mut Seen, next: &[u8]) -> bool
     if last.cmp(next) != Ordering::Less {
         return false;
     }
-    match first_key(next) {
-        Some(told) => {
-            *seen = told;
-            true
-        }
-        None => false,
-    }
+    first_key(seen, next)
 }

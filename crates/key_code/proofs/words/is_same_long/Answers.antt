@@ -1,6 +1,6 @@
 use Rattle.std.proofs.Common.{◌≡◌, ◌+◌, ◌*◌, ◌-◌, ◌≤◌, take, subst, arith, refl}
 use Rattle.std.proofs.lemmas.Bool.{eqb-true}
-use Rattle.key_code.proofs.SameFronts.{same_more, same_less}
+use Rattle.key_code.proofs.SameFronts.{same_word, same_less}
 use Rattle.key_code.proofs.Splits.{of_test}
 use Rattle.key_code.proofs.words.is_same_long.Goals as goal
 
@@ -16,7 +16,7 @@ loop-i-preserved c =
     let other = c.requires.other in
     let few : at + 8 ≤ c.args.n = omega (arith, c.loop-i-test.true, long) in
     subst (λ k. take k c.args.one.now ≡ take k c.args.other.now) next
-    (same_more c.args.one.now c.args.other.now at c.word_at.result c.word_at-in-loop-i.result (λ i. omega (arith, c.type_inv.one i)) (λ i. omega (arith, c.type_inv.other i)) (omega (arith, few, one)) (omega (arith, few, other))
+    (same_word c.args.one.now c.args.other.now at c.word_at.result c.word_at-in-loop-i.result (λ i. omega (arith, c.type_inv.one i)) (λ i. omega (arith, c.type_inv.other i)) (omega (arith, few, one)) (omega (arith, few, other))
     c.word_at.ensures c.word_at-in-loop-i.ensures c.if-word_at.false c.loop-i.invariant)
 
 pub returns : goal.returns
@@ -30,5 +30,5 @@ returns c =
     let low : at ≤ c.loop-i.i * 8 = omega (arith, c.loop-i-test.false, long) in
     of_test _ _ (λ same.
     subst (λ k. take k c.args.one.now ≡ take k c.args.other.now) all
-    (same_more c.args.one.now c.args.other.now at c.word_at-2.result c.word_at-3.result (λ i. omega (arith, c.type_inv.one i)) (λ i. omega (arith, c.type_inv.other i)) (omega (arith, all, one)) (omega (arith, all, other))
+    (same_word c.args.one.now c.args.other.now at c.word_at-2.result c.word_at-3.result (λ i. omega (arith, c.type_inv.one i)) (λ i. omega (arith, c.type_inv.other i)) (omega (arith, all, one)) (omega (arith, all, other))
     c.word_at-2.ensures c.word_at-3.ensures (eqb-true c.word_at-2.result c.word_at-3.result same) (same_less c.args.one.now c.args.other.now at (c.loop-i.i * 8) low c.loop-i.invariant)))
