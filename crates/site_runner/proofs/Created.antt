@@ -24,7 +24,7 @@ use Rattle.world_defs.specs.World as world
 use Rattle.world_defs.specs.World.{Place, Kept}
 use Rattle.site_defs.specs.Contents.{Contents, NO_LEFTOVER, nothing, is_made, same_name}
 use Rattle.world_defs.specs.Answers as answers
-use Rattle.world_defs.specs.Answers.{Answer, NotEmpty, Refusal, Done, Refused, DiskFault, Ran, Typed, line}
+use Rattle.world_defs.specs.Answers.{Answer, NotEmpty, Done, Refused, DiskFault, Ran, Typed, line}
 use Rattle.world_defs.specs.Row.{refused_with, caused, Here}
 use Rattle.world_defs.specs.Changes.{After, KeptUnknown}
 use Rattle.world_defs.specs.rows.Create as rows

@@ -2,7 +2,7 @@
 use Rattle.std.proofs.Common.{◌≡◌, ℕ, ◌+◌, ◌<◌, ◌≤◌, ◌==◌, true, false, List, [], ◌∷◌, ◌++◌, length, None, Some, refl, ap, sym, ◌∙◌, append_assoc, subst, inl, inr, arith, length-append}
 use Rattle.std.specs.Prelude.{Option, IfSome}
 use Rattle.std.specs.List.{list_all, list_any}
-use Rattle.std.specs.Io.KnownBytes.{Consumes, IsAtEnd, Keeps}
+use Rattle.std.specs.Io.KnownBytes.{Consumes, IsAtEnd}
 use Rattle.std.proofs.lemmas.List.{append-nil}
 use Rattle.std.proofs.lemmas.List.Concat.{flat_map-append}
 use Rattle.std.proofs.lemmas.Bool.{cases_Bool}
@@ -44,11 +44,6 @@ lines_at_end o n lines h c e =
 
 pub then_nothing : (o m n : Option (List ℕ)) (bytes : List ℕ) → Consumes o m bytes → Consumes m n [] → Consumes o n bytes
 then_nothing o m n bytes a b = subst (λ (x : List ℕ). Consumes o n x) (append-nil bytes) (consumes_then o m n bytes [] a b)
-
-pub kept_nothing : (m n : Option (List ℕ)) → Keeps m n → Consumes m n []
-kept_nothing None n k = tt
-kept_nothing (Some u) None k = absurd k
-kept_nothing (Some u) (Some v) k = sym k
 
 -- at the end, behind a last line without its line feed
 pub lines_at_last : (o m n : Option (List ℕ)) (lines : List (List ℕ)) (line : List ℕ) → list_all is_clean lines ≡ true → IsPiece line → 0 < length line → Consumes o m (ended lines) → Consumes m n line → IsAtEnd n → LinesAre o (lines ++ line ∷ [])

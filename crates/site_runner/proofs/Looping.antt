@@ -2,7 +2,7 @@
 use Rattle.std.proofs.Common.{◌≡◌, ℕ, ◌+◌, ◌*◌, ◌<◌, ◌≤◌, true, List, [], ◌∷◌, ◌++◌, length, take, None, Some, refl, ap, sym, ◌∙◌, append_assoc, subst, inl, inr, arith, length-append}
 use Rattle.std.specs.Prelude.{Option, IfSome, ◌⊎◌, slice_get}
 use Rattle.std.specs.List.{list_all}
-use Rattle.std.specs.Io.KnownBytes.{Appends, Consumes, IsAtEnd, Keeps, prepend_known}
+use Rattle.std.specs.Io.KnownBytes.{Appends, Consumes, IsAtEnd, prepend_known}
 use Rattle.std.proofs.KnownBytes.{prepend_known-nil}
 use Rattle.std.proofs.lemmas.List.{take_at, append-nil}
 use Rattle.disk_defs.specs.Disk.{View}
@@ -28,7 +28,7 @@ use Rattle.site_runner.proofs.Told.{consumes_then}
 use Rattle.site_runner.proofs.LineLaws.{is_clean}
 use Rattle.site_runner.proofs.Readings.{bad_here, line_there}
 use Rattle.site_runner.proofs.Goings.{matched, begins, stops, stops_there, all_of}
-use Rattle.site_runner.proofs.Inputs.{if_some, in_told, LinesAre, lines_at_end, lines_at_last, then_nothing, kept_nothing, one_more_line, more_clean, one_longer, longer_bytes, Begin, begin_fed, begin_last, bad_long, long_more}
+use Rattle.site_runner.proofs.Inputs.{if_some, in_told, LinesAre, lines_at_end, lines_at_last, then_nothing, one_more_line, more_clean, one_longer, longer_bytes, Begin, begin_fed, begin_last, bad_long, long_more}
 
 -- So many lines were taken, and the slots were these before the first.
 pub record InLoop {D : Type 0} (view : D → View) (first slots : List (Slot D)) (p : Position) (lines : ℕ) (o m old new : Option (List ℕ)) : Type 0 where

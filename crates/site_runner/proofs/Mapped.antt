@@ -11,7 +11,7 @@ use Rattle.site_defs.specs.Lists.{Among, first_where}
 use Rattle.world_defs.specs.World as world
 use Rattle.world_defs.specs.World.{Place}
 use Rattle.site_defs.specs.Contents.{Contents, NO_LEFTOVER, same_name}
-use Rattle.world_defs.specs.Answers.{Cause, Stopped, Running, Refusal, line, cause_text}
+use Rattle.world_defs.specs.Answers.{Cause, Refusal, line, cause_text}
 use Rattle.world_defs.specs.Row.{refused_with, in_state, why_not_down}
 use Rattle.site_defs.specs.Limits.{region_number}
 use Rattle.world_defs.specs.Changes.{in_new_state, After}
@@ -20,9 +20,8 @@ use Rattle.world_defs.specs.Step.{LeftBy}
 use Rattle.world_defs.specs.rows.Map.{IsUnmapped, unmapped, map_pattern}
 use Rattle.world_defs.specs.Ties.{Matches}
 use Rattle.site_defs.specs.Stands.{IsSite, Stands, Reads}
-use Rattle.repl_section.specs.declared.reign.Reign.{Reign}
 use Rattle.site_runner.specs.declared.slot.State.{State}
-use Rattle.site_runner.specs.declared.slot.State.TheVariants.{Down, Primary, Failed}
+use Rattle.site_runner.specs.declared.slot.State.TheVariants.{Down, Failed}
 use Rattle.site_runner.specs.declared.slot.Site.{Site}
 use Rattle.site_runner.specs.Sites.{state_value, site_value, HoldsState, IsOf, IsMade}
 use Rattle.site_runner.specs.Executes.{Comes}

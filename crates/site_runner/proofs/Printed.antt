@@ -9,7 +9,7 @@ use Rattle.journal_defs.specs.Numbers.{broken_file}
 use Rattle.world_defs.specs.World as world
 use Rattle.world_defs.specs.World.{Place}
 use Rattle.site_defs.specs.Contents.{Contents, Leftover}
-use Rattle.world_defs.specs.Answers.{Stopped, NoFile, Refusal, line, Cause}
+use Rattle.world_defs.specs.Answers.{NoFile, Refusal, line, Cause}
 use Rattle.world_defs.specs.Row.{refused_with, in_state, stopped}
 use Rattle.world_defs.specs.Changes.{in_new_state}
 use Rattle.world_defs.specs.rows.Print.{typed, no_file, print}

@@ -19,7 +19,7 @@ use Rattle.world_defs.specs.World as world
 use Rattle.command_defs.specs.Commands.{Name}
 use Rattle.world_defs.specs.World.{Place}
 use Rattle.site_defs.specs.Contents.{Contents, Leftover, NO_LEFTOVER}
-use Rattle.world_defs.specs.Answers.{Stopped, NotPrimary, Section, line, Cause}
+use Rattle.world_defs.specs.Answers.{Section, line, Cause}
 use Rattle.world_defs.specs.Row.{refused_with, in_state, why_not_primary, refusal_in}
 use Rattle.world_defs.specs.Changes.{in_new_state}
 use Rattle.site_defs.specs.Fronts.{with_sequence, IsFrontOf, turn_of}
@@ -28,11 +28,11 @@ use Rattle.world_defs.specs.rows.Run.{RunMayLeaveOn, undecided_line, section_tex
 use Rattle.site_defs.specs.Texts.{reply_line, printed}
 use Rattle.world_defs.specs.Ties.{Matches}
 use Rattle.site_runner.specs.declared.slot.State.{State}
-use Rattle.site_runner.specs.declared.slot.State.TheVariants.{Down, Primary, Failed}
+use Rattle.site_runner.specs.declared.slot.State.TheVariants.{Primary, Failed}
 use Rattle.site_runner.specs.declared.slot.Site.{Site}
 use Rattle.site_runner.specs.Sites.{state_value, site_value, IsOf}
 use Rattle.site_runner.specs.Steps.{IsAt, ExecutesAt, IsCutAt}
-use Rattle.site_runner.proofs.Ats.{comes_ran, not_early, some_outcome, refuses, kept_same, state_at, told_is, reads_image, Leftovers, NothingIsLeft, place_of_images, place_of_one, only, open_site, open_reads, open_images}
+use Rattle.site_runner.proofs.Ats.{comes_ran, not_early, some_outcome, state_at, told_is, reads_image, Leftovers, NothingIsLeft, place_of_images, place_of_one, only, open_site, open_reads, open_images}
 use Rattle.site_runner.proofs.Stopped.{reigns_at, length_tagged}
 use Rattle.site_runner.proofs.Begun.{nat_cases, in_first, in_second, in_either}
 

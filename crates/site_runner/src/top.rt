@@ -1,5 +1,5 @@
 // The top call.
-ghost use Rattle.std.specs.Prelude.{◌≡◌, ◌≢◌, ◌≤◌, ◌<◌, ◌+◌, ◌⊎◌, ◌↔◌, ◌^◌, ℕ, List, [], ◌∷◌, map, length, codes, string_bytes, IfSome, OnOk, IfErr, MatchBool, true, false};
+ghost use Rattle.std.specs.Prelude.{◌≡◌, ◌≢◌, ◌≤◌, ◌<◌, ◌+◌, ◌⊎◌, ◌↔◌, ℕ, List, [], ◌∷◌, map, length, codes, string_bytes, IfSome, OnOk, IfErr, MatchBool, true, false};
 ghost use Rattle.std.specs.Io.KnownBytes.{Consumes};
 ghost use Rattle.repl_io.specs.Fault.{Rose};
 ghost use Rattle.world_defs.specs.World.{World, IsFresh};

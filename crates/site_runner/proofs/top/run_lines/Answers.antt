@@ -2,7 +2,7 @@ use Rattle.std.proofs.Common.{◌+◌, ◌<◌, [], ◌∷◌, length, refl, ◌
 use Rattle.repl_script.specs.Feeds.{Progress}
 use Rattle.std.proofs.KnownBytes.{Consumes-nil}
 use Rattle.site_runner.proofs.Told.{consumes_then}
-use Rattle.site_runner.proofs.Looping.{next_line, source_failed, no_memory, bad_there, too_long_there, too_long, finished, finished_bad, finished_well, finished_not_long, finished_plain, halted, halted_bad, halted_not_ok, halted_not_long, parts, long_bad, Spends, bounded, spends_more, room_less, byte_left, meant_behind_all, loop_started_at, ends_clean, ends_within, next_fed, next_last}
+use Rattle.site_runner.proofs.Looping.{next_line, source_failed, no_memory, bad_there, too_long_there, too_long, finished, finished_bad, finished_well, finished_not_long, finished_plain, halted, halted_bad, halted_not_ok, halted_not_long, parts, long_bad, bounded, spends_more, room_less, byte_left, meant_behind_all, loop_started_at, ends_clean, ends_within, next_fed, next_last}
 use Rattle.site_runner.proofs.top.run_lines.Goals as goal
 
 pub returns-in-Err-Failed-clause-meaning : goal.returns-in-Err-Failed-clause-meaning
