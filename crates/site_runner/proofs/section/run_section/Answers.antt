@@ -5,7 +5,7 @@ use Rattle.world_defs.specs.Answers.{line}
 use Rattle.world_defs.specs.rows.Run.{undecided_line}
 use Rattle.site_defs.specs.Contents.{Contents}
 use Rattle.repl_section.specs.Reigns.{Reigns, stamp_of}
-use Rattle.repl_section.specs.Deciding.{Breaks, IsFault}
+use Rattle.repl_section.specs.Deciding.{Breaks, WithholdsNone, IsFault}
 use Rattle.repl_section.specs.declared.running.RunError.{RunError}
 use Rattle.world_defs.specs.Row.{why_not_primary}
 use Rattle.world_defs.specs.rows.Run.{run}
@@ -68,9 +68,9 @@ returns-in_ok-write_undecided-in-Err-Failed-clause-done g c =
     let r = c.in-Primary.reign in
     let jobs = c.args.jobs in
     let order = c.args.order.now in
-    let breaks = subst (λ (x : RunError). (told : Bool) (d : Contents) → Reigns v told d r → Breaks x w (stamp_of r) told d jobs order r.serials c.args.text.now c.run.new.text) c.in-Err-Failed.field-0-is e.breaks in
+    let fails = subst (λ (x : RunError). (told : Bool) (d : Contents) → Reigns v told d r → WithholdsNone x w (stamp_of r) told d jobs order r.serials c.args.text.now c.run.new.text) c.in-Err-Failed.field-0-is e.withholds_none in
     ran_to_fault c.leftovers_hold.ensures v w c.args.site.now r jobs order c.faults-fault.result c.in-Err-Failed.undecided c.args.text.now c.run.new.text _ (g.met.D.Disk.lawful c.args.disk.now) (g.met.D.Disk.lawful c.run.new.disk) c.in-Primary.is e.simulated c.faults-fault.ensures
-    (e.cause (subst IsFault (sym c.in-Err-Failed.field-0-is) tt)) breaks
+    (e.cause (subst IsFault (sym c.in-Err-Failed.field-0-is) tt)) fails
     (c.in_ok-write_undecided-in-Err-Failed.ensures ∙ ap (λ (u : ℕ). c.run.new.text ++ undecided_line c.as_slice-in-Err-Failed.result.now c.faults-fault.result u) c.in-Err-Failed.undecided-is
     ∙ ap (λ (x : List ℕ). c.run.new.text ++ undecided_line x c.faults-fault.result c.in-Err-Failed.undecided) c.as_slice-in-Err-Failed.ensures)
 
