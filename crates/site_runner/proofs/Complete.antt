@@ -91,7 +91,7 @@ not_begun w (Some u) out P h = (
     within = omega arith;
     reached = tt;
     mid = w;
-    went = record { told = []; output = []; position = Outside; runs = (refl, refl); spelled = refl; formed = tt; writes = (0, Appends-nil out); all = λ h. refl };
+    went = record { told = []; output = []; position = Outside; runs = (refl, refl); spelled = refl; formed = tt; writes = Appends-nil out; all = λ h. refl };
     ends = inl refl;
   },
   stays NoMemory w,

@@ -13,21 +13,20 @@ use Rattle.command_defs.specs.Script.{Position, Outside, Within, Ends, line_read
 use Rattle.repl_script.specs.Feeds.{Progress}
 use Rattle.world_defs.specs.World.{World}
 use Rattle.world_defs.specs.Step.{CutOff}
-use Rattle.world_defs.specs.Runs.{commands}
+use Rattle.world_defs.specs.Runs.{Told, commands}
 use Rattle.site_runner.specs.declared.slot.Slot.{Slot}
 use Rattle.site_runner.specs.declared.status.Status.{Status}
 use Rattle.site_runner.specs.declared.status.Status.TheVariants.{Ok, BadWords, BadLine, ScriptTooLong, SourceFault, SinkFault, NoMemory}
 use Rattle.line_reader.specs.Ahead.{Ahead}
 use Rattle.line_reader.specs.Lines.{IsPiece, Takes, left_behind}
-use Rattle.site_runner.specs.Told.{AppendsFront}
 use Rattle.site_runner.specs.Tied.{Tied, Matched}
 use Rattle.site_runner.specs.Meant.{Meaning}
-use Rattle.site_runner.specs.Ends.{ComeTo, Went, Reached, IsCutShort, EndsSo, RanTo, IsTooLong}
+use Rattle.site_runner.specs.Ends.{ComeTo, Writes, Went, Reached, IsCutShort, EndsSo, RanTo, IsTooLong}
 use Rattle.site_runner.specs.Going.{Going, StopsAt, Halts, GoesOn, Finishes}
 use Rattle.site_runner.proofs.Told.{consumes_then}
 use Rattle.site_runner.proofs.LineLaws.{is_clean}
 use Rattle.site_runner.proofs.Readings.{bad_here, line_there}
-use Rattle.site_runner.proofs.Goings.{matched, begins, stops, stops_there, all_of}
+use Rattle.site_runner.proofs.Goings.{matched, begins, stops, stops_there}
 use Rattle.site_runner.proofs.Inputs.{if_some, in_told, LinesAre, lines_at_end, lines_at_last, then_nothing, one_more_line, more_clean, one_longer, longer_bytes, Begin, begin_fed, begin_last, bad_long, long_more}
 
 -- So many lines were taken, and the slots were these before the first.
@@ -73,7 +72,7 @@ ran_to status input n old new taken more start mid after l r w e =
         runs = w.runs;
         spelled = subst (λ (x : List (List ℕ)). ComeTo x (commands w.told) w.position) front w.spelled;
         formed = w.formed;
-        writes = w.writes;
+        writes = subst (λ (x : List (List ℕ)). Writes status x start mid w.told w.output old new) front w.writes;
         all = w.all;
       };
       ends = e;
@@ -90,7 +89,7 @@ source_failed view first slots p lines o m n old new piece i b c w t =
     let reached : Consumes (Some input) n (ended (take (length i.taken) (lines_of input)) ++ piece) =
     subst (λ (x : Option (List ℕ)). Consumes x n (ended (take (length i.taken) (lines_of input)) ++ piece)) e
     (subst (λ (x : List (List ℕ)). Consumes o n (ended x ++ piece)) front (consumes_then o m n (ended i.taken) piece i.consumed b)) in
-    (g.mid, matched view slots g.mid g.tied, ran_to SourceFault input n old new i.taken more w g.mid g.mid l (piece, c, reached) (stops view SourceFault p w slots i.taken old new new (λ output a. a) (λ h. absurd (not_ok h)) g) refl))
+    (g.mid, matched view slots g.mid g.tied, ran_to SourceFault input n old new i.taken more w g.mid g.mid l (piece, c, reached) (stops view SourceFault p w slots i.taken old new new (λ after told output a. a) (λ h. absurd (not_ok h)) g) refl))
   where
     not_ok : SourceFault ≡ Ok → ⊥
     not_ok h = cc
@@ -103,7 +102,7 @@ no_memory view first slots p lines o m n old new i w t =
     in_told o m i.taken (λ input. (after : World) × Matched view slots after × RanTo NoMemory input n w after old new) i.clean i.consumed
     (λ input more e l.
     let g = i.going w t in
-    (g.mid, matched view slots g.mid g.tied, ran_to NoMemory input n old new i.taken more w g.mid g.mid l tt (stops view NoMemory p w slots i.taken old new new (all_of old new) (λ h. absurd (memory_not_ok h)) g) (inl refl)))
+    (g.mid, matched view slots g.mid g.tied, ran_to NoMemory input n old new i.taken more w g.mid g.mid l tt (stops view NoMemory p w slots i.taken old new new (λ after told output a. a) (λ h. absurd (memory_not_ok h)) g) (inl refl)))
 
 bad_not_ok : (k c : ℕ) → BadLine k c ≡ Ok → ⊥
 bad_not_ok k c h = cc
@@ -114,7 +113,7 @@ bad_there view first slots p lines k c o m n old new i h w t =
     in_told o m i.taken (λ input. (after : World) × Matched view slots after × RanTo (BadLine k c) input n w after old new) i.clean i.consumed
     (λ input more e l.
     let g = i.going w t in
-    (g.mid, matched view slots g.mid g.tied, ran_to (BadLine k c) input n old new i.taken more w g.mid g.mid l (omega (arith, h, i.count)) (stops view (BadLine k c) p w slots i.taken old new new (λ output a. a) (λ z. absurd (bad_not_ok k c z)) g) refl))
+    (g.mid, matched view slots g.mid g.tied, ran_to (BadLine k c) input n old new i.taken more w g.mid g.mid l (omega (arith, h, i.count)) (stops view (BadLine k c) p w slots i.taken old new new (λ after told output a. a) (λ z. absurd (bad_not_ok k c z)) g) refl))
 
 long_not_ok : ScriptTooLong ≡ Ok → ⊥
 long_not_ok h = cc
@@ -127,7 +126,7 @@ too_long_there view first slots p lines byte o m n old new i b e w t =
     (λ input (more, s, some).
     let g = i.going w t in
     let many : 100000 < length (lines_of input) = omega (arith, ap length s, length-append i.taken more, some, e, i.count) in
-    (g.mid, matched view slots g.mid g.tied, ran_to ScriptTooLong input n old new i.taken more w g.mid g.mid s (i.count ∙ e, many) (stops view ScriptTooLong p w slots i.taken old new new (λ output a. a) (λ z. absurd (long_not_ok z)) g) refl))
+    (g.mid, matched view slots g.mid g.tied, ran_to ScriptTooLong input n old new i.taken more w g.mid g.mid s (i.count ∙ e, many) (stops view ScriptTooLong p w slots i.taken old new new (λ after told output a. a) (λ z. absurd (long_not_ok z)) g) refl))
     (long_more o m n i.taken byte i.clean i.consumed b)
 
 pub too_long : {D : Type 0} (view : D → View) (first slots : List (Slot D)) (p : Position) (lines byte : ℕ) (o m n old new : Option (List ℕ))
@@ -160,12 +159,12 @@ finished {D} view first slots status Outside lines o n old new e a w t =
     let g = a.going w t in
     subst (λ (s : Status). IfSome o (λ input. (after : World) × Matched view slots after × RanTo s input n w after old new)) (sym e)
     (if_some o (λ input. lines_of input ≡ a.taken) (λ input. (after : World) × Matched view slots after × RanTo Ok input n w after old new)
-    (λ input s. (g.mid, matched view slots g.mid g.tied, ran_to Ok input n old new a.taken [] w g.mid g.mid (s ∙ sym (append-nil a.taken)) (ap length (sym s), omega (arith, a.count, a.few), a.at_end) (stops view Ok Outside w slots a.taken old new new (λ output x. x) (λ h. refl) g) refl)) a.lines_are)
+    (λ input s. (g.mid, matched view slots g.mid g.tied, ran_to Ok input n old new a.taken [] w g.mid g.mid (s ∙ sym (append-nil a.taken)) (ap length (sym s), omega (arith, a.count, a.few), a.at_end) (stops view Ok Outside w slots a.taken old new new (λ after told output x. x) (λ h. refl) g) refl)) a.lines_are)
 finished {D} view first slots status (Within section) lines o n old new e a w t =
     let g = a.going w t in
     subst (λ (s : Status). IfSome o (λ input. (after : World) × Matched view slots after × RanTo s input n w after old new)) (sym e)
     (if_some o (λ input. lines_of input ≡ a.taken) (λ input. (after : World) × Matched view slots after × RanTo (BadLine (lines + 1) 1) input n w after old new)
-    (λ input s. (g.mid, matched view slots g.mid g.tied, ran_to (BadLine (lines + 1) 1) input n old new a.taken [] w g.mid g.mid (s ∙ sym (append-nil a.taken)) (omega (arith, a.count)) (stops view (BadLine (lines + 1) 1) (Within section) w slots a.taken old new new (λ output x. x) (λ h. absurd (bad_not_ok (lines + 1) 1 h)) g) refl)) a.lines_are)
+    (λ input s. (g.mid, matched view slots g.mid g.tied, ran_to (BadLine (lines + 1) 1) input n old new a.taken [] w g.mid g.mid (s ∙ sym (append-nil a.taken)) (omega (arith, a.count)) (stops view (BadLine (lines + 1) 1) (Within section) w slots a.taken old new new (λ after told output x. x) (λ h. absurd (bad_not_ok (lines + 1) 1 h)) g) refl)) a.lines_are)
 
 -- what a bad line's status says
 pub parts : (a b n c : ℕ) (s : Status) → s ≡ BadLine a b → s ≡ BadLine n c → (n ≡ a) × (c ≡ b)
@@ -236,7 +235,7 @@ halted view first slots next (BadLine a c) p lines o m n old mid new line rose h
       g.mid,
       subst (λ (x : List (Slot _)). Matched view x g.mid) (sym h.2) (matched view slots g.mid g.tied),
       ran_to (BadLine a c) input n old new i.taken (line ∷ more) w g.mid g.mid s (omega (arith, h.0, i.count))
-          (stops view (BadLine a c) p w slots i.taken old mid new (λ output x. subst (λ (y : Option (List ℕ)). Appends old y output) (sym h.1) x) (λ z. absurd (bad_not_ok a c z)) g) refl,
+          (stops view (BadLine a c) p w slots i.taken old mid new (λ after told output x. subst (λ (y : Option (List ℕ)). Appends old y output) (sym h.1) x) (λ z. absurd (bad_not_ok a c z)) g) refl,
     )) b
 halted view first slots next ScriptTooLong p lines o m n old mid new line rose h i b w t = absurd h
 halted view first slots next SourceFault p lines o m n old mid new line rose h i b w t = absurd h
@@ -247,7 +246,7 @@ halted view first slots next SinkFault p lines o m n old mid new line rose h i b
 halted view first slots next NoMemory p lines o m n old mid new line rose h i b w t =
     let g = i.going w t in
     let x : StopsAt view next p line g.mid = h.1 g.mid g.tied in
-    let f : (output : List ℕ) → Appends old mid output → AppendsFront old new output = λ output y. all_of old new output (subst (λ (z : Option (List ℕ)). Appends old z output) (sym h.0) y) in
+    let f : (after : World) (told : List Told) (output : List ℕ) → Appends old mid output → Appends old new output = λ after told output y. subst (λ (z : Option (List ℕ)). Appends old z output) (sym h.0) y in
     let not_ok : NoMemory ≡ Ok → p ≡ Outside = λ z. absurd (memory_not_ok z) in
     let there = stops_there view NoMemory p w slots i.taken old mid new f not_ok g in
     if_some o (λ input. (more : List (List ℕ)) × (lines_of input ≡ i.taken ++ line ∷ more)) (λ input. (after : World) × Matched view next after × RanTo NoMemory input n w after old new)

@@ -1,5 +1,5 @@
 -- What a run leaves, by its status.
-use Rattle.std.specs.Prelude.{◌≡◌, ◌≢◌, ◌⊎◌, ℕ, ◌+◌, ◌<◌, ◌≤◌, List, ◌++◌, length, take, Option, Some, slice_get}
+use Rattle.std.specs.Prelude.{◌≡◌, ◌≢◌, ◌⊎◌, ℕ, ◌+◌, ◌<◌, ◌≤◌, List, [], ◌∷◌, ◌++◌, length, take, Option, Some, slice_get}
 use Rattle.std.specs.List.{AllByRecursion}
 use Rattle.std.specs.Io.KnownBytes.{Appends, Consumes, IsAtEnd}
 use Rattle.command_defs.specs.Commands.{Command}
@@ -7,30 +7,51 @@ use Rattle.command_defs.specs.Lines.{lines_of, ended}
 use Rattle.command_defs.specs.Sections.{IsFormed}
 use Rattle.command_defs.specs.Script.{Position, Outside, Ends, line_reading, lines_reading, MOST_LINES, IsScript, IsBadAt}
 use Rattle.world_defs.specs.World.{World}
-use Rattle.world_defs.specs.Step.{CutOff}
+use Rattle.world_defs.specs.Step.{Step, CutOff}
 use Rattle.world_defs.specs.Runs.{Told, Runs, commands}
 use Rattle.world_defs.specs.Fit.{IsFit}
 use Rattle.world_laws.specs.Again.{HasFitOutcomes}
 use Rattle.line_reader.specs.Lines.{IsPiece}
-use Rattle.site_runner.specs.Told.{AppendsFront}
 use Rattle.site_runner.specs.declared.status.Status.{Status}
 use Rattle.site_runner.specs.declared.status.Status.TheVariants.{Ok, BadWords, BadLine, ScriptTooLong, SourceFault, SinkFault, NoMemory}
-
--- the whole output, but with these two a front of it
-abbrev pub Writes : Status → Option (List ℕ) → Option (List ℕ) → List ℕ → Type 0
-Writes Ok old new output = Appends old new output
-Writes BadWords old new output = Appends old new output
-Writes (BadLine line column) old new output = Appends old new output
-Writes ScriptTooLong old new output = Appends old new output
-Writes SourceFault old new output = Appends old new output
-Writes SinkFault old new output = AppendsFront old new output
-Writes NoMemory old new output = AppendsFront old new output
 
 -- These lines come to commands, and the next one stands there.
 abbrev pub ComeTo : List (List ℕ) → List Command → Position → Type 0
 ComeTo lines commands position = lines_reading lines ≡ Some (record { commands = commands; position = position })
 
--- Lines came to commands; the commands ran from one world to another, and this was written of their output.
+-- The sink failed within the last command's text: the commands before it wrote all of theirs, and of its own a front was written that lacks something.
+-- The last line that was taken ends it.
+pub record BreaksOff (taken : List (List ℕ)) (start mid : World) (told : List Told) (old new : Option (List ℕ)) : Type 0 where
+  pub before : List Told
+  pub last : Told
+  pub all : told ≡ before ++ last ∷ []
+  -- the world that the commands before it led to
+  pub between : World
+  pub output : List ℕ
+  pub runs : Runs start before between output
+  pub text : List ℕ
+  pub step : Step between last.command last.answers mid text
+  pub count : ℕ
+  pub lacks : count < length text
+  pub writes : Appends old new (output ++ take count text)
+  pub lines : List (List ℕ)
+  pub line : List ℕ
+  pub taken_are : taken ≡ lines ++ line ∷ []
+  pub position : Position
+  pub spelled : ComeTo lines (commands before) position
+  pub ends : line_reading position line ≡ Ends last.command
+
+-- What was written: the whole output, unless the sink failed.
+abbrev pub Writes : Status → List (List ℕ) → (start mid : World) → List Told → (output : List ℕ) → (old new : Option (List ℕ)) → Type 0
+Writes Ok taken start mid told output old new = Appends old new output
+Writes BadWords taken start mid told output old new = Appends old new output
+Writes (BadLine line column) taken start mid told output old new = Appends old new output
+Writes ScriptTooLong taken start mid told output old new = Appends old new output
+Writes SourceFault taken start mid told output old new = Appends old new output
+Writes SinkFault taken start mid told output old new = BreaksOff taken start mid told old new
+Writes NoMemory taken start mid told output old new = Appends old new output
+
+-- Lines came to commands; the commands ran from one world to another, and their output was written.
 pub record Went (status : Status) (taken : List (List ℕ)) (start mid : World) (old new : Option (List ℕ)) : Type 0 where
   pub told : List Told
   pub output : List ℕ
@@ -40,7 +61,7 @@ pub record Went (status : Status) (taken : List (List ℕ)) (start mid : World) 
   pub spelled : ComeTo taken (commands told) position
   -- names, numbers and jobs are within their limits
   pub formed : AllByRecursion IsFormed (commands told)
-  pub writes : Writes status old new output
+  pub writes : Writes status taken start mid told output old new
   -- no section is open where all went well
   pub all : status ≡ Ok → position ≡ Outside
 
