@@ -1,5 +1,5 @@
 -- What a run leaves, by its status.
-use Rattle.std.specs.Prelude.{◌≡◌, ◌≢◌, ◌⊎◌, ℕ, ◌+◌, ◌<◌, ◌≤◌, List, [], ◌∷◌, ◌++◌, length, take, Option, Some, slice_get}
+use Rattle.std.specs.Prelude.{◌≡◌, ◌≢◌, ◌⊎◌, ℕ, ◌+◌, ◌<◌, ◌≤◌, List, [], ◌∷◌, ◌++◌, length, take, Option, Some, None, slice_get}
 use Rattle.std.specs.List.{AllByRecursion}
 use Rattle.std.specs.Io.KnownBytes.{Appends, Consumes, IsAtEnd}
 use Rattle.command_defs.specs.Commands.{Command}
@@ -65,16 +65,21 @@ pub record Went (status : Status) (taken : List (List ℕ)) (start mid : World) 
   -- no section is open where all went well
   pub all : status ≡ Ok → position ≡ Outside
 
--- How many lines were taken when the run ended.
-abbrev pub Reached : Status → List ℕ → Option (List ℕ) → ℕ → Type 0
-Reached Ok input left k = (k ≡ length (lines_of input)) × (k ≤ MOST_LINES) × IsAtEnd left
-Reached BadWords input left k = (k ≡ 0) × (left ≡ Some input)
-Reached (BadLine line column) input left k = line ≡ k + 1
-Reached ScriptTooLong input left k = (k ≡ MOST_LINES) × (MOST_LINES < length (lines_of input))
+-- the bytes of a source that tells them; where it doesn't, any
+abbrev pub IsInput : Option (List ℕ) → List ℕ → Type 0
+IsInput None input = Unit {0}
+IsInput (Some bytes) input = input ≡ bytes
+
+-- How many lines of the input were taken when the run ended, by what the source told and what is left of it.
+abbrev pub Reached : Status → (input : List ℕ) → (source left : Option (List ℕ)) → ℕ → Type 0
+Reached Ok input source left k = (k ≡ length (lines_of input)) × (k ≤ MOST_LINES) × IsAtEnd left
+Reached BadWords input source left k = (k ≡ 0) × (left ≡ source)
+Reached (BadLine line column) input source left k = line ≡ k + 1
+Reached ScriptTooLong input source left k = (k ≡ MOST_LINES) × (MOST_LINES < length (lines_of input))
 -- all whole lines that were read
-Reached SourceFault input left k = (piece : List ℕ) × IsPiece piece × Consumes (Some input) left (ended (take k (lines_of input)) ++ piece)
-Reached SinkFault input left k = Unit {0}
-Reached NoMemory input left k = Unit {0}
+Reached SourceFault input source left k = (piece : List ℕ) × IsPiece piece × Consumes source left (ended (take k (lines_of input)) ++ piece)
+Reached SinkFault input source left k = Unit {0}
+Reached NoMemory input source left k = Unit {0}
 
 -- the next line ends a command, and that command was cut off
 pub record IsCutShort (lines : List (List ℕ)) (count : ℕ) (position : Position) (mid after : World) : Type 0 where
@@ -95,11 +100,13 @@ EndsSo SourceFault lines count position mid after = after ≡ mid
 EndsSo SinkFault lines count position mid after = after ≡ mid
 EndsSo NoMemory lines count position mid after = (after ≡ mid) ⊎ IsCutShort lines count position mid after
 
--- from one world to another
-pub record RanTo (status : Status) (input : List ℕ) (left : Option (List ℕ)) (start after : World) (old new : Option (List ℕ)) : Type 0 where
+-- From one world to another, for the input that the source tells; for a source that doesn't, there is one.
+pub record RanTo (status : Status) (source left : Option (List ℕ)) (start after : World) (old new : Option (List ℕ)) : Type 0 where
+  pub input : List ℕ
+  pub is : IsInput source input
   pub count : ℕ
   pub within : count ≤ length (lines_of input)
-  pub reached : Reached status input left count
+  pub reached : Reached status input source left count
   pub mid : World
   pub went : Went status (take count (lines_of input)) start mid old new
   pub ends : EndsSo status (lines_of input) count went.position mid after
