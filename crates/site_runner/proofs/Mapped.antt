@@ -143,10 +143,10 @@ mapped_place : (leftovers : Leftovers) (region : Name) (text : List ℕ) (w : Vi
 mapped_place leftovers region text w p site law b =
     place_of_images leftovers w p site (maps region text p.outcomes) law b.simulated b.still_told (λ sure f i. let k = b.images sure f i in (k.0, maps_among region text p.outcomes k.1.0 k.0 k.1.1 k.1.2, k.2))
 
-pub map_cut : (leftovers : Leftovers) (region : Name) (text : List ℕ) (w : View) (s : Site) (p : Place) → IsLawful w → MayHaveMapped region text w p → (q : Place) × LeftBy (map_pattern region text s.name p).left p q × Matches w q
-map_cut leftovers region text w s p law b =
+pub map_cut : (leftovers : Leftovers) (region : Name) (text : List ℕ) (w : View) (s : Site) (p : Place) → IsLawful w → MayHaveMapped region text w p → p.faults ≤ w.faults → (q : Place) × LeftBy (map_pattern region text s.name p).left p q × Matches w q
+map_cut leftovers region text w s p law b later =
     let m = mapped_place leftovers region text w p p.site law b in
-    (record { site = p.site; told = p.told; now = m.now; left = m.left; outcomes = maps region text p.outcomes; faults = w.faults; simulated = p.simulated }, record { told = refl; outcomes = λ sure o a. inr (among_maps region text p.outcomes o a) }, m.matches)
+    (record { site = p.site; told = p.told; now = m.now; left = m.left; outcomes = maps region text p.outcomes; faults = w.faults; simulated = p.simulated }, record { told = refl; outcomes = λ sure o a. inr (among_maps region text p.outcomes o a); faults = later; simulated = refl }, m.matches)
 
 pub map_fault : (leftovers : Leftovers) (region : Name) (text : List ℕ) (w : View) (s : Site) (p : Place) (k : ℕ) (before now : List ℕ) → IsLawful w → s.state ≡ Down → p.site ≡ Some (site_value s) → (p.told ≡ true → IsMade s.name p) → MayHaveMapped region text w p
     → k ≡ w.faults → Rose p.faults w.faults → now ≡ before ++ line s.name (codes "DISKFAULT " ++ decimal k) → Answers region text w s p (record { name = s.name; state = Failed k }) before now false
@@ -186,14 +186,14 @@ look_faulted leftovers region text v w s k before now l down count rose t p h =
     map_fault leftovers region text w s p k before now l.lawful down h.site h.held.made (look_mapped region text v w s p l h) count (subst (λ (x : ℕ). Rose x w.faults) h.disk.faults rose) t
 
 pub look_cut : (leftovers : Leftovers) (region : Name) (text : List ℕ) (v w : View) (s : Site) → Looked v w → IsCutAt (map_pattern region text s.name) v s w
-look_cut leftovers region text v w s l p h = map_cut leftovers region text w s p l.lawful (look_mapped region text v w s p l h)
+look_cut leftovers region text v w s l p h = map_cut leftovers region text w s p l.lawful (look_mapped region text v w s p l h) (omega (arith, l.later, h.disk.faults))
 
 pub seen_cut : (leftovers : Leftovers) (region : Name) (text : List ℕ) (w : View) (s : Site) → IsLawful w → IsCutSeen region text w s w
 seen_cut leftovers region text w s law p h = map_cut leftovers region text w s p law (record {
   still_told = λ sure. told_is w.content _ (h.reads sure);
   images = λ sure f i. let o = h.images sure f i in (o.0, (o.0, o.1, inl refl), o.2);
   simulated = h.simulated;
-})
+}) h.faults
 
 -- Behind a look.
 
@@ -243,7 +243,7 @@ there_faulted leftovers region number text v w s k before now m count rose t p h
     map_fault leftovers region text w s p k before now m.lawful h.down h.site h.made (there_mapped region number text v w s p m h) count (omega (arith, rose, h.faults)) t
 
 pub there_cut : (leftovers : Leftovers) (region : Name) (number : ℕ) (text : List ℕ) (v w : View) (s : Site) → Moments region number text v w → IsCutSeen region text v s w
-there_cut leftovers region number text v w s m p h = map_cut leftovers region text w s p m.lawful (there_mapped region number text v w s p m h)
+there_cut leftovers region number text v w s m p h = map_cut leftovers region text w s p m.lawful (there_mapped region number text v w s p m h) (omega (arith, m.later, h.faults))
 
 pub there_damaged : (region : Name) (number : ℕ) (text : List ℕ) (v w : View) (s : Site) (file offset : ℕ) (before now : List ℕ) → Moments region number text v w
     → IfSome v.content (λ files. (c : Contents) → IsSite files c → ⊥) → now ≡ before ++ line s.name (codes "NOTAFILE " ++ decimal file ++ 32 ∷ decimal offset) → MapsAt region text v s w s before now false

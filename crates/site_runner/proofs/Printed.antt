@@ -127,10 +127,10 @@ print_fault g v w s k before now r up count rose t p h =
     })
     t
 
-pub print_cut : (g : ℕ) (v w : View) (s : Site) → disk.Reads v w → IsCutAt (print g s.name) v s w
-print_cut g v w s r p h =
+pub print_cut : (g : ℕ) (v w : View) (s : Site) → disk.Reads v w → v.faults ≤ w.faults → IsCutAt (print g s.name) v s w
+print_cut g v w s r later p h =
     let a = read_at v w s p r h in
-    (counted p w.faults, record { told = refl; outcomes = λ sure o m. inl m }, a.disk)
+    (counted p w.faults, record { told = refl; outcomes = λ sure o m. inl m; faults = omega (arith, later, h.disk.faults); simulated = refl }, a.disk)
 
 pub empty_is : (bytes : List ℕ) → (length bytes == 0) ≡ true → bytes ≡ []
 empty_is [] e = refl

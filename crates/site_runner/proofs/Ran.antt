@@ -228,10 +228,10 @@ ran_to_fault leftovers v w s r jobs order k undecided before middle now was law 
     ∙ ap (λ (x : Turn). before ++ section_text s.name (length order) x (Some k)) (sym text))
 
 -- it was cut off once some jobs were decided, of which at least these are hardened
-pub run_cut : (leftovers : Leftovers) (v w : View) (s : Site) (r : Reign) (jobs : List (List Job)) (order : List ℕ) → IsLawful v → IsLawful w → s.state ≡ Primary r → w.simulated ≡ v.simulated
+pub run_cut : (leftovers : Leftovers) (v w : View) (s : Site) (r : Reign) (jobs : List (List Job)) (order : List ℕ) → IsLawful v → IsLawful w → s.state ≡ Primary r → w.simulated ≡ v.simulated → v.faults ≤ w.faults
     → ((told : Bool) (c : Contents) → Reigns v told c r → (m low : ℕ) × (length c.sequence ≤ low) × MayHaveFront w told c (turn_of (stamp_of r) r.serials jobs (take m order) c.sequence).sequence low)
     → IsCutAt (run jobs order s.name) v s w
-run_cut leftovers v w s r jobs order was law st same f p h =
+run_cut leftovers v w s r jobs order was law st same later f p h =
     let d : (m low : ℕ) × (length p.now.sequence ≤ low) × MayHaveFront w p.told p.now (turn_of (stamp_of r) r.serials jobs (take m order) p.now.sequence).sequence low = f p.told p.now (reigns_at v s r p st h) in
     let m : ℕ = d.0 in
     let low : ℕ = d.1 in
@@ -243,6 +243,8 @@ run_cut leftovers v w s r jobs order was law st same f p h =
         told = refl;
         outcomes = λ sure o a. let x = some_outcome v p was h.disk sure in
             inr (x.0, x.1, subst (λ (y : Option world.Site). RunMayLeaveOn y jobs order p o) (sym (site_is v s r p st h)) (m, lower o (front.fronts_all sure o a)));
+        faults = omega (arith, later, h.disk.faults);
+        simulated = refl;
       },
       front.matches,
     )
@@ -322,9 +324,9 @@ among_runs stamp serials jobs order c o n g =
     ]
 
 -- it was cut off once some jobs were decided, and each image may have its own number of them
-pub run_cut_any : (leftovers : Leftovers) (v w : View) (s : Site) (r : Reign) (jobs : List (List Job)) (order : List ℕ) → IsLawful v → IsLawful w → s.state ≡ Primary r → w.simulated ≡ v.simulated
+pub run_cut_any : (leftovers : Leftovers) (v w : View) (s : Site) (r : Reign) (jobs : List (List Job)) (order : List ℕ) → IsLawful v → IsLawful w → s.state ≡ Primary r → w.simulated ≡ v.simulated → v.faults ≤ w.faults
     → ((told : Bool) (c : Contents) → Reigns v told c r → MayLeave w (stamp_of r) told c jobs order r.serials) → IsCutAt (run jobs order s.name) v s w
-run_cut_any leftovers v w s r jobs order was law st same f p h =
+run_cut_any leftovers v w s r jobs order was law st same later f p h =
     let d : MayLeave w (stamp_of r) p.told p.now jobs order r.serials = f p.told p.now (reigns_at v s r p st h) in
     let low : ℕ = length p.now.sequence in
     let runs : ℕ → Sequence = runs_of (stamp_of r) r.serials jobs order p.now.sequence in
@@ -336,6 +338,8 @@ run_cut_any leftovers v w s r jobs order was law st same f p h =
         outcomes = λ is o a. let k = are_all_fronts runs (length order) p.now low o a in
             let x = some_outcome v p was h.disk is in
             inr (x.0, x.1, subst (λ (y : Option world.Site). RunMayLeaveOn y jobs order p o) (sym (site_is v s r p st h)) (k.0, k.1));
+        faults = omega (arith, later, h.disk.faults);
+        simulated = refl;
       },
       m.matches,
     )

@@ -39,7 +39,7 @@ returns-in_err-write_undecided-in-Err-Failed-clause-cut_off g c =
     let jobs = c.args.jobs in
     let order = c.args.order.now in
     let breaks = subst (λ (x : RunError). (told : Bool) (d : Contents) → Reigns v told d r → Breaks x w (stamp_of r) told d jobs order r.serials c.args.text.now c.run.new.text) c.in-Err-Failed.field-0-is e.breaks in
-    err_holds c.from_residual-in_err-write_undecided-in-Err-Failed.result _ (run_cut c.leftovers_hold.ensures v w c.args.site.now r jobs order (g.met.D.Disk.lawful c.args.disk.now) (g.met.D.Disk.lawful c.run.new.disk) c.in-Primary.is e.simulated
+    err_holds c.from_residual-in_err-write_undecided-in-Err-Failed.result _ (run_cut c.leftovers_hold.ensures v w c.args.site.now r jobs order (g.met.D.Disk.lawful c.args.disk.now) (g.met.D.Disk.lawful c.run.new.disk) c.in-Primary.is e.simulated e.later
     (λ told d reigns. let b = breaks told d reigns in (b.0, b.1.hardened, b.1.begun, b.1.front)))
 
 pub returns-in_ok-write_numbered-in-Ok-clause-done : goal.returns-in_ok-write_numbered-in-Ok-clause-done
@@ -57,7 +57,7 @@ returns-in_err-write_numbered-in-Ok-clause-cut_off g c =
     let w = g.D.Disk.disk c.run.new.disk in
     let e = c.in-Ok.ensures in
     let law = g.met.D.Disk.lawful c.run.new.disk in
-    err_holds c.from_residual.result _ (run_cut c.leftovers_hold.ensures v w c.args.site.now c.in-Primary.reign c.args.jobs c.args.order.now (g.met.D.Disk.lawful c.args.disk.now) law c.in-Primary.is e.simulated
+    err_holds c.from_residual.result _ (run_cut c.leftovers_hold.ensures v w c.args.site.now c.in-Primary.reign c.args.jobs c.args.order.now (g.met.D.Disk.lawful c.args.disk.now) law c.in-Primary.is e.simulated e.later
     (λ told d reigns. decided_front w told d c.args.jobs c.args.order.now c.in-Primary.reign c.run.new.self c.args.text.now c.run.new.text (e.done told d reigns)))
 
 pub returns-in_ok-write_undecided-in-Err-Failed-clause-done : goal.returns-in_ok-write_undecided-in-Err-Failed-clause-done
@@ -83,4 +83,4 @@ returns-in-Err-NoMemory-clause-cut_off g c =
     let jobs = c.args.jobs in
     let order = c.args.order.now in
     let breaks = subst (λ (x : RunError). (told : Bool) (d : Contents) → Reigns v told d r → Breaks x w (stamp_of r) told d jobs order r.serials c.args.text.now c.run.new.text) c.in-Err-NoMemory.field-0-is e.breaks in
-    run_cut_any c.leftovers_hold.ensures v w c.args.site.now r jobs order (g.met.D.Disk.lawful c.args.disk.now) (g.met.D.Disk.lawful c.run.new.disk) c.in-Primary.is e.simulated breaks
+    run_cut_any c.leftovers_hold.ensures v w c.args.site.now r jobs order (g.met.D.Disk.lawful c.args.disk.now) (g.met.D.Disk.lawful c.run.new.disk) c.in-Primary.is e.simulated e.later breaks
