@@ -52,7 +52,7 @@ attach_not_begun view slots = cut_nothing view slots Attach (λ w. cut_there (re
 -- the look failed
 pub attach_failed : {D : Type 0} (view : D → View) (slots : List (Slot D)) (i : ℕ) (d s : Slot D) (e : SiteError) (before now : List ℕ) → i < length slots → first_where is_slot_free (take 8 slots) ≡ Some i
     → LooksHere view (get_or slots i d) s (Err e) → Tells e ATTACHING before now → Executes view Attach slots (set slots i s) before now
-attach_failed view slots i d s (Failed fault) before now k f look t = attach_lifted view slots i d s before now false k f (λ w h p at_p. let r = look p at_p in comes_fault fault r.0 refl r.1 r.2 t)
+attach_failed view slots i d s (Failed fault) before now k f look t = attach_lifted view slots i d s before now false k f (λ w h p at_p. let r = look p at_p in comes_fault fault r.0 refl r.1.0 r.2 t)
 attach_failed view slots i d s (Stopped fault) before now k f look t = absurd t
 attach_failed view slots i d s (Full nodes) before now k f look t = absurd t
 attach_failed view slots i d s SeqLimit before now k f look t = absurd t

@@ -8,7 +8,7 @@ use Rattle.command_defs.specs.Script.{Outside, IsScript, IsBadAt}
 use Rattle.world_defs.specs.World.{World}
 use Rattle.site_runner.specs.declared.status.Status.{Status}
 use Rattle.site_runner.specs.declared.status.Status.TheVariants.{Ok, BadWords, BadLine, ScriptTooLong, SourceFault, SinkFault, NoMemory}
-use Rattle.site_runner.specs.Ends.{RanTo, StaysFit, IsTooLong, IsDue}
+use Rattle.site_runner.specs.Ends.{IsInput, RanTo, StaysFit, IsTooLong, IsDue}
 use Rattle.site_runner.proofs.Stays.{fit_outcomes}
 use Rattle.site_runner.proofs.Readings.{not_bad, not_long, long_not_bad, one_bad}
 
@@ -63,39 +63,47 @@ complete NoMemory due o input source sink e d w s l b f g nf ng = inr refl
 stays : (status : Status) (w : World) → StaysFit status w w
 stays status w = record { outcomes = λ fit. fit_outcomes w fit; world = λ not fit. fit }
 
+some_input : (o : Option (List ℕ)) → (input : List ℕ) × IsInput o input
+some_input None = ([], tt)
+some_input (Some u) = (u, refl)
+
 -- nothing was read or written
-pub not_run : (w : World) (o out : Option (List ℕ)) (P : World → Type 0) → P w → IfSome o (λ input. (after : World) × P after × RanTo BadWords input o w after out out × StaysFit BadWords w after)
-not_run w None out P h = tt
-not_run w (Some u) out P h = (
-  w,
-  h,
-  record {
-    count = 0;
-    within = omega arith;
-    reached = (refl, refl);
-    mid = w;
-    went = record { told = []; output = []; position = Outside; runs = (refl, refl); spelled = refl; formed = tt; writes = Appends-nil out; all = λ h. refl };
-    ends = refl;
-  },
-  stays BadWords w,
-)
+pub not_run : (w : World) (o out : Option (List ℕ)) (P : World → Type 0) → P w → (after : World) × P after × RanTo BadWords o o w after out out × StaysFit BadWords w after
+not_run w o out P h =
+    let x = some_input o in (
+      w,
+      h,
+      record {
+        input = x.0;
+        is = x.1;
+        count = 0;
+        within = omega arith;
+        reached = (refl, refl);
+        mid = w;
+        went = record { told = []; output = []; position = Outside; runs = (refl, refl); spelled = refl; formed = tt; writes = Appends-nil out; all = λ h. refl };
+        ends = refl;
+      },
+      stays BadWords w,
+    )
 
 -- no memory to begin with
-pub not_begun : (w : World) (o out : Option (List ℕ)) (P : World → Type 0) → P w → IfSome o (λ input. (after : World) × P after × RanTo NoMemory input o w after out out × StaysFit NoMemory w after)
-not_begun w None out P h = tt
-not_begun w (Some u) out P h = (
-  w,
-  h,
-  record {
-    count = 0;
-    within = omega arith;
-    reached = tt;
-    mid = w;
-    went = record { told = []; output = []; position = Outside; runs = (refl, refl); spelled = refl; formed = tt; writes = (0, Appends-nil out); all = λ h. refl };
-    ends = inl refl;
-  },
-  stays NoMemory w,
-)
+pub not_begun : (w : World) (o out : Option (List ℕ)) (P : World → Type 0) → P w → (after : World) × P after × RanTo NoMemory o o w after out out × StaysFit NoMemory w after
+not_begun w o out P h =
+    let x = some_input o in (
+      w,
+      h,
+      record {
+        input = x.0;
+        is = x.1;
+        count = 0;
+        within = omega arith;
+        reached = tt;
+        mid = w;
+        went = record { told = []; output = []; position = Outside; runs = (refl, refl); spelled = refl; formed = tt; writes = Appends-nil out; all = λ h. refl };
+        ends = inl refl;
+      },
+      stays NoMemory w,
+    )
 
 pub nothing_read : (o : Option (List ℕ)) → (bytes : List ℕ) × Consumes o o bytes × (length bytes ≤ 409700001)
 nothing_read None = ([], tt, omega arith)

@@ -24,7 +24,7 @@ use Rattle.world_defs.specs.World as world
 use Rattle.world_defs.specs.World.{Place, Kept}
 use Rattle.site_defs.specs.Contents.{Contents, NO_LEFTOVER, nothing, is_made, same_name}
 use Rattle.world_defs.specs.Answers as answers
-use Rattle.world_defs.specs.Answers.{Answer, NotEmpty, Refusal, Done, Refused, DiskFault, Ran, Typed, line}
+use Rattle.world_defs.specs.Answers.{Answer, NotEmpty, Done, Refused, DiskFault, Ran, Typed, line}
 use Rattle.world_defs.specs.Row.{refused_with, caused, Here}
 use Rattle.world_defs.specs.Changes.{After, KeptUnknown}
 use Rattle.world_defs.specs.rows.Create as rows
@@ -125,6 +125,7 @@ pub record IsMaking (v w : View) (name : Name) (specs : List RegionSpec) : Type 
   pub any_moment : IfSome v.content (λ _. AtEachMoment v w (MayMake v name specs))
   pub still_told : IsSome v.content → IsSome w.content
   pub simulated : w.simulated ≡ v.simulated
+  pub later : v.faults ≤ w.faults
 
 -- each image is of a blank disk or of the new site
 making_images : (v w : View) (p : Place) (name : Name) (specs : List RegionSpec) (o : Contents) → IsMaking v w name specs → made name specs ≡ o → Matches v p → IsUnmade p → p.told ≡ true
@@ -202,11 +203,11 @@ pub make_cut : {D : Type 0} (leftovers : Leftovers) (view : D → View) (old new
 make_cut leftovers view old new name specs rs k are p h u =
     let regions = map script.region_value rs in
     let m = making_left leftovers (view old.disk) (view new.disk) p name specs (created name regions) k (made_is name specs rs are) h.disk u in
-    (record { site = p.site; told = p.told; now = m.now; left = m.left; outcomes = created name regions ∷ p.outcomes; faults = (view new.disk).faults; simulated = p.simulated }, record { told = refl; outcomes = λ known o a. inr (new_or_old name regions p o (some_outcome (view old.disk) p k.was_lawful h.disk known) a) }, m.matches)
+    (record { site = p.site; told = p.told; now = m.now; left = m.left; outcomes = created name regions ∷ p.outcomes; faults = (view new.disk).faults; simulated = p.simulated }, record { told = refl; outcomes = λ known o a. inr (new_or_old name regions p o (some_outcome (view old.disk) p k.was_lawful h.disk known) a); faults = omega (arith, k.later, h.disk.faults); simulated = refl }, m.matches)
 
 -- there was no memory for the regions
 pub make_not_begun : {D : Type 0} (view : D → View) (old : Slot D) (name : List ℕ) (regions : List Region) → MakingIsCut view name regions old old
-make_not_begun view old name regions p h u = (p, record { told = refl; outcomes = λ known o a. inl a }, h.disk)
+make_not_begun view old name regions p h u = (p, record { told = refl; outcomes = λ known o a. inl a; faults = omega arith; simulated = refl }, h.disk)
 
 -- the command
 
@@ -214,16 +215,16 @@ pub create_failed : {D : Type 0} (view : D → View) (old new : Slot D) (name : 
 create_failed view old new name regions (Failed fault) before now look t p h =
     let r = look p h in
     comes_fault fault r.0 refl (record {
-      site = r.1.site;
+      site = r.1.0.site;
       known = record {
-        told = r.1.known.told;
-        now = λ known. let x = r.1.known.now known in (x.0, x.1, inl x.2);
-        left = r.1.known.left;
-        outcomes = λ known o a. let x = r.1.known.outcomes known o a in (x.0, x.1, inl x.2);
+        told = r.1.0.known.told;
+        now = λ known. let x = r.1.0.known.now known in (x.0, x.1, inl x.2);
+        left = r.1.0.known.left;
+        outcomes = λ known o a. let x = r.1.0.known.outcomes known o a in (x.0, x.1, inl x.2);
       };
-      count = r.1.count;
-      rose = r.1.rose;
-      simulated = r.1.simulated;
+      count = r.1.0.count;
+      rose = r.1.0.rose;
+      simulated = r.1.0.simulated;
     }) r.2 t
 create_failed view old new name regions (Stopped fault) before now look t p h = absurd t
 create_failed view old new name regions (Full nodes) before now look t p h = absurd t
@@ -329,6 +330,8 @@ create_made_cut view old mid new name regions look cut p h =
       record {
         told = r.1.told ∙ k.known.told;
         outcomes = λ known o a. elim (r.1.outcomes (k.known.told ∙ known) o a) [ inl old ↦ inl (k.known.outcomes o old) | inr new ↦ inr (after_behind (rows.MayMake name regions) p l.0 o k new) ];
+        faults = omega (arith, k.faults, r.1.faults);
+        simulated = r.1.simulated ∙ k.simulated;
       },
       r.2,
     )

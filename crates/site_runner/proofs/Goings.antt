@@ -1,11 +1,10 @@
 -- Runs that go on, and how they end.
-use Rattle.std.proofs.Common.{◌≡◌, ℕ, ◌+◌, List, [], ◌∷◌, ◌++◌, length, take, refl, sym, ◌∙◌, ap, subst, append_assoc, inl, inr}
+use Rattle.std.proofs.Common.{◌≡◌, ℕ, ◌+◌, List, [], ◌∷◌, ◌++◌, take, refl, sym, ◌∙◌, ap, subst, append_assoc, inl, inr}
 use Rattle.std.specs.Prelude.{Option}
 use Rattle.std.specs.List.{AllByRecursion}
 use Rattle.std.specs.Io.KnownBytes.{Appends}
 use Rattle.std.proofs.KnownBytes.{Appends-nil}
 use Rattle.std.proofs.lemmas.List.{map-append, append-nil}
-use Rattle.std.proofs.Math.Seq.{take-append-add, take-length}
 use Rattle.disk_defs.specs.Disk.{View}
 use Rattle.command_defs.specs.Commands.{Command}
 use Rattle.command_defs.specs.Sections.{IsFormed}
@@ -23,7 +22,6 @@ use Rattle.world_laws.proofs.Lists.{all-push}
 use Rattle.site_runner.specs.declared.slot.Slot.{Slot}
 use Rattle.site_runner.specs.declared.status.Status.{Status}
 use Rattle.site_runner.specs.declared.status.Status.TheVariants.{Ok, BadWords, BadLine, ScriptTooLong, SourceFault, SinkFault, NoMemory}
-use Rattle.site_runner.specs.Told.{AppendsFront}
 use Rattle.site_runner.specs.Tied.{IsPlace, Tied, Matched}
 use Rattle.site_runner.specs.Ends.{Went, Writes, ComeTo}
 use Rattle.site_runner.specs.Going.{Going, CarriesOut, Breaks, StopsAt, Halts, GoesOn, status_value}
@@ -102,15 +100,8 @@ carried view p q old new line c mid now e f o d = (
   },
 )
 
--- a front of a later piece behind what was written
-front_behind : (o p q : Option (List ℕ)) (xs ys : List ℕ) → Appends o p xs → AppendsFront p q ys → AppendsFront o q (xs ++ ys)
-front_behind o p q xs ys a f = (length xs + f.0, rw take-append-add (appends_then o p q xs (take f.0 ys) a f.1))
-
-pub all_of : (o p : Option (List ℕ)) (xs : List ℕ) → Appends o p xs → AppendsFront o p xs
-all_of o p xs a = (length xs, rw take-length a)
-
 -- all that was to be written was
-pub stops : {D : Type 0} (view : D → View) (status : Status) (p : Position) (start : World) (slots : List (Slot D)) (taken : List (List ℕ)) (old now new : Option (List ℕ)) → ((output : List ℕ) → Appends old now output → Writes status old new output)
+pub stops : {D : Type 0} (view : D → View) (status : Status) (p : Position) (start : World) (slots : List (Slot D)) (taken : List (List ℕ)) (old now new : Option (List ℕ)) → ((mid : World) (told : List Told) (output : List ℕ) → Appends old now output → Writes status taken start mid told output old new)
     → (status ≡ Ok → p ≡ Outside) → (g : Going view start slots taken p old now) → Went status taken start g.mid old new
 stops view status p start slots taken old now new f o g = record {
   told = g.told;
@@ -119,11 +110,11 @@ stops view status p start slots taken old now new f o g = record {
   runs = g.runs;
   spelled = g.spelled;
   formed = g.formed;
-  writes = f g.output g.written;
+  writes = f g.mid g.told g.output g.written;
   all = o;
 }
 
-pub stops_there : {D : Type 0} (view : D → View) (status : Status) (p : Position) (start : World) (slots : List (Slot D)) (taken : List (List ℕ)) (old now new : Option (List ℕ)) → (f : (output : List ℕ) → Appends old now output → Writes status old new output)
+pub stops_there : {D : Type 0} (view : D → View) (status : Status) (p : Position) (start : World) (slots : List (Slot D)) (taken : List (List ℕ)) (old now new : Option (List ℕ)) → (f : (mid : World) (told : List Told) (output : List ℕ) → Appends old now output → Writes status taken start mid told output old new)
     → (o : status ≡ Ok → p ≡ Outside) → (g : Going view start slots taken p old now) → (stops view status p start slots taken old now new f o g).position ≡ p
 unfolding stops
 stops_there view status p start slots taken old now new f o g = refl
@@ -149,7 +140,25 @@ broken view SinkFault number p old new line c before now rose e f b = (
           runs = runs_more start g.told g.mid x.1 g.output c x.0 x.2 g.runs x.3;
           spelled = told_more taken line g.told p Outside c x.0 e refl g.spelled;
           formed = formed_more g.told c x.0 g.formed f;
-          writes = front_behind out before now g.output x.2 g.written x.5;
+          writes = record {
+            before = g.told;
+            last = record { command = c; answers = x.0 };
+            all = refl;
+            between = g.mid;
+            output = g.output;
+            runs = g.runs;
+            text = x.2;
+            step = x.3;
+            count = x.5.0;
+            lacks = x.5.1;
+            writes = appends_then out before now g.output (take x.5.0 x.2) g.written x.5.2;
+            lines = taken;
+            line = line;
+            taken_are = refl;
+            position = p;
+            spelled = g.spelled;
+            ends = e;
+          };
           all = λ h. refl;
         },
       ),

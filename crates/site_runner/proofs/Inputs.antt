@@ -2,14 +2,14 @@
 use Rattle.std.proofs.Common.{◌≡◌, ℕ, ◌+◌, ◌<◌, ◌≤◌, ◌==◌, true, false, List, [], ◌∷◌, ◌++◌, length, None, Some, refl, ap, sym, ◌∙◌, append_assoc, subst, inl, inr, arith, length-append}
 use Rattle.std.specs.Prelude.{Option, IfSome}
 use Rattle.std.specs.List.{list_all, list_any}
-use Rattle.std.specs.Io.KnownBytes.{Consumes, IsAtEnd, Keeps}
+use Rattle.std.specs.Io.KnownBytes.{Consumes, IsAtEnd}
 use Rattle.std.proofs.lemmas.List.{append-nil}
 use Rattle.std.proofs.lemmas.List.Concat.{flat_map-append}
 use Rattle.std.proofs.lemmas.Bool.{cases_Bool}
 use Rattle.command_defs.specs.Commands.{Command}
 use Rattle.command_defs.specs.Lines.{onto, lines_of, ended}
 use Rattle.command_defs.specs.Script.{Position, IsBadAt}
-use Rattle.site_runner.specs.Ends.{ComeTo}
+use Rattle.site_runner.specs.Ends.{ComeTo, IsInput}
 use Rattle.line_reader.specs.Lines.{IsPiece}
 use Rattle.site_runner.proofs.Told.{consumes_then}
 use Rattle.site_runner.proofs.Cuts.{split_and, split_or}
@@ -20,12 +20,21 @@ pub if_some : {A : Type 0} (o : Option A) (P Q : A → Type 0) → ((x : A) → 
 if_some None P Q f h = tt
 if_some (Some x) P Q f h = f x h
 
--- what holds of every input that begins with these lines holds of this one
-pub in_told : (o m : Option (List ℕ)) (taken : List (List ℕ)) (P : List ℕ → Type 0) → list_all is_clean taken ≡ true → Consumes o m (ended taken)
-    → ((input : List ℕ) (more : List (List ℕ)) → o ≡ Some input → lines_of input ≡ taken ++ more → P input) → IfSome o P
-in_told None m taken P h c f = tt
-in_told (Some u) None taken P h c f = absurd c
-in_told (Some u) (Some v) taken P h c f = f u (lines_of v) refl (ap lines_of c ∙ lines_ended taken v h)
+-- lines that are all of an input
+pub just_these : (lines : List (List ℕ)) → list_all is_clean lines ≡ true → lines_of (ended lines ++ []) ≡ lines
+just_these lines h = lines_ended lines [] h ∙ append-nil lines
+
+-- There is an input that begins with these lines: the one that the source tells, or these alone.
+pub with_input : (o m : Option (List ℕ)) (taken : List (List ℕ)) (X : Type 0) → list_all is_clean taken ≡ true → Consumes o m (ended taken)
+    → ((input : List ℕ) (more : List (List ℕ)) → IsInput o input → lines_of input ≡ taken ++ more → X) → X
+with_input None m taken X h c f = f (ended taken ++ []) [] tt (lines_ended taken [] h)
+with_input (Some u) None taken X h c f = absurd c
+with_input (Some u) (Some v) taken X h c f = f u (lines_of v) refl (ap lines_of c ∙ lines_ended taken v h)
+
+-- There is an input of which that holds: the one that the source tells, or another.
+pub for_input : (o : Option (List ℕ)) (P : List ℕ → Type 0) (X : Type 0) (other : List ℕ) → P other → IfSome o P → ((input : List ℕ) → IsInput o input → P input → X) → X
+for_input None P X other h p f = f other tt h
+for_input (Some u) P X other h p f = f u refl p
 
 -- all bytes were taken
 all_taken : (o n : Option (List ℕ)) (bytes : List ℕ) → Consumes o n bytes → IsAtEnd n → IfSome o (λ input. input ≡ bytes)
@@ -44,11 +53,6 @@ lines_at_end o n lines h c e =
 
 pub then_nothing : (o m n : Option (List ℕ)) (bytes : List ℕ) → Consumes o m bytes → Consumes m n [] → Consumes o n bytes
 then_nothing o m n bytes a b = subst (λ (x : List ℕ). Consumes o n x) (append-nil bytes) (consumes_then o m n bytes [] a b)
-
-pub kept_nothing : (m n : Option (List ℕ)) → Keeps m n → Consumes m n []
-kept_nothing None n k = tt
-kept_nothing (Some u) None k = absurd k
-kept_nothing (Some u) (Some v) k = sym k
 
 -- at the end, behind a last line without its line feed
 pub lines_at_last : (o m n : Option (List ℕ)) (lines : List (List ℕ)) (line : List ℕ) → list_all is_clean lines ≡ true → IsPiece line → 0 < length line → Consumes o m (ended lines) → Consumes m n line → IsAtEnd n → LinesAre o (lines ++ line ∷ [])

@@ -100,7 +100,7 @@ abbrev pub IsDisk : {D : Type 0} → (D → View) → Slot D → Place → Type 
 IsDisk view slot p = Matches (view slot.disk) p
 
 left_same : (step : Contents → Contents → Type 0) (p : Place) → LeftBy step p p
-left_same step p = record { told = refl; outcomes = λ t o h. inl h }
+left_same step p = record { told = refl; outcomes = λ t o h. inl h; faults = omega arith; simulated = refl }
 
 pub lifted_cut : {D : Type 0} (view : D → View) (c : Command) (row : World → Place → Row) (slots : List (Slot D)) (i : ℕ) (d s : Slot D) → i < length slots → ActsBy view c row slots i
     → ((w : World) → IsCutHere view (row w) (get_or slots i d) s) → IsCutOff view c slots (set slots i s)

@@ -2,7 +2,7 @@
 use Rattle.std.proofs.Common.{◌≡◌, ℕ, ◌+◌, ◌*◌, ◌<◌, ◌≤◌, true, List, [], ◌∷◌, ◌++◌, length, take, None, Some, refl, ap, sym, ◌∙◌, append_assoc, subst, inl, inr, arith, length-append}
 use Rattle.std.specs.Prelude.{Option, IfSome, ◌⊎◌, slice_get}
 use Rattle.std.specs.List.{list_all}
-use Rattle.std.specs.Io.KnownBytes.{Appends, Consumes, IsAtEnd, Keeps, prepend_known}
+use Rattle.std.specs.Io.KnownBytes.{Appends, Consumes, IsAtEnd, prepend_known}
 use Rattle.std.proofs.KnownBytes.{prepend_known-nil}
 use Rattle.std.proofs.lemmas.List.{take_at, append-nil}
 use Rattle.disk_defs.specs.Disk.{View}
@@ -13,22 +13,21 @@ use Rattle.command_defs.specs.Script.{Position, Outside, Within, Ends, line_read
 use Rattle.repl_script.specs.Feeds.{Progress}
 use Rattle.world_defs.specs.World.{World}
 use Rattle.world_defs.specs.Step.{CutOff}
-use Rattle.world_defs.specs.Runs.{commands}
+use Rattle.world_defs.specs.Runs.{Told, commands}
 use Rattle.site_runner.specs.declared.slot.Slot.{Slot}
 use Rattle.site_runner.specs.declared.status.Status.{Status}
 use Rattle.site_runner.specs.declared.status.Status.TheVariants.{Ok, BadWords, BadLine, ScriptTooLong, SourceFault, SinkFault, NoMemory}
 use Rattle.line_reader.specs.Ahead.{Ahead}
 use Rattle.line_reader.specs.Lines.{IsPiece, Takes, left_behind}
-use Rattle.site_runner.specs.Told.{AppendsFront}
 use Rattle.site_runner.specs.Tied.{Tied, Matched}
 use Rattle.site_runner.specs.Meant.{Meaning}
-use Rattle.site_runner.specs.Ends.{ComeTo, Went, Reached, IsCutShort, EndsSo, RanTo, IsTooLong}
+use Rattle.site_runner.specs.Ends.{ComeTo, IsInput, Writes, Went, Reached, IsCutShort, EndsSo, RanTo, IsTooLong}
 use Rattle.site_runner.specs.Going.{Going, StopsAt, Halts, GoesOn, Finishes}
 use Rattle.site_runner.proofs.Told.{consumes_then}
-use Rattle.site_runner.proofs.LineLaws.{is_clean}
+use Rattle.site_runner.proofs.LineLaws.{is_clean, lines_ended}
 use Rattle.site_runner.proofs.Readings.{bad_here, line_there}
-use Rattle.site_runner.proofs.Goings.{matched, begins, stops, stops_there, all_of}
-use Rattle.site_runner.proofs.Inputs.{if_some, in_told, LinesAre, lines_at_end, lines_at_last, then_nothing, kept_nothing, one_more_line, more_clean, one_longer, longer_bytes, Begin, begin_fed, begin_last, bad_long, long_more}
+use Rattle.site_runner.proofs.Goings.{matched, begins, stops, stops_there}
+use Rattle.site_runner.proofs.Inputs.{if_some, just_these, with_input, for_input, LinesAre, lines_at_end, lines_at_last, then_nothing, one_more_line, more_clean, one_longer, longer_bytes, Begin, begin_fed, begin_last, bad_long, long_more}
 
 -- So many lines were taken, and the slots were these before the first.
 pub record InLoop {D : Type 0} (view : D → View) (first slots : List (Slot D)) (p : Position) (lines : ℕ) (o m old new : Option (List ℕ)) : Type 0 where
@@ -57,11 +56,13 @@ next_line view first slots next p q lines more o m n old mid new line i g e c l 
       short = omega (arith, i.short, l, e, longer_bytes i.taken line);
     }
 
-ran_to : (status : Status) (input : List ℕ) (n old new : Option (List ℕ)) (taken more : List (List ℕ)) (start mid after : World) → lines_of input ≡ taken ++ more → Reached status input n (length taken)
-    → (w : Went status taken start mid old new) → EndsSo status (lines_of input) (length taken) w.position mid after → RanTo status input n start after old new
-ran_to status input n old new taken more start mid after l r w e =
+ran_to : (status : Status) (input : List ℕ) (o n old new : Option (List ℕ)) (taken more : List (List ℕ)) (start mid after : World) → IsInput o input → lines_of input ≡ taken ++ more → Reached status input o n (length taken)
+    → (w : Went status taken start mid old new) → EndsSo status (lines_of input) (length taken) w.position mid after → RanTo status o n start after old new
+ran_to status input o n old new taken more start mid after is l r w e =
     let front : taken ≡ take (length taken) (lines_of input) = sym (ap (take (length taken)) l ∙ take_at taken more (length taken) refl) in
     record {
+      input = input;
+      is = is;
       count = length taken;
       within = omega (arith, ap length l, length-append taken more);
       reached = r;
@@ -73,7 +74,7 @@ ran_to status input n old new taken more start mid after l r w e =
         runs = w.runs;
         spelled = subst (λ (x : List (List ℕ)). ComeTo x (commands w.told) w.position) front w.spelled;
         formed = w.formed;
-        writes = w.writes;
+        writes = subst (λ (x : List (List ℕ)). Writes status x start mid w.told w.output old new) front w.writes;
         all = w.all;
       };
       ends = e;
@@ -83,14 +84,13 @@ ran_to status input n old new taken more start mid after l r w e =
 pub source_failed : {D : Type 0} (view : D → View) (first slots : List (Slot D)) (p : Position) (lines : ℕ) (o m n old new : Option (List ℕ)) (piece : List ℕ)
     → InLoop view first slots p lines o m old new → Consumes m n piece → IsPiece piece → Meaning view first slots SourceFault o n old new
 source_failed view first slots p lines o m n old new piece i b c w t =
-    in_told o m i.taken (λ input. (after : World) × Matched view slots after × RanTo SourceFault input n w after old new) i.clean i.consumed
-    (λ input more e l.
+    with_input o m i.taken ((after : World) × Matched view slots after × RanTo SourceFault o n w after old new) i.clean i.consumed
+    (λ input more is l.
     let g = i.going w t in
     let front : i.taken ≡ take (length i.taken) (lines_of input) = sym (ap (take (length i.taken)) l ∙ take_at i.taken more (length i.taken) refl) in
-    let reached : Consumes (Some input) n (ended (take (length i.taken) (lines_of input)) ++ piece) =
-    subst (λ (x : Option (List ℕ)). Consumes x n (ended (take (length i.taken) (lines_of input)) ++ piece)) e
-    (subst (λ (x : List (List ℕ)). Consumes o n (ended x ++ piece)) front (consumes_then o m n (ended i.taken) piece i.consumed b)) in
-    (g.mid, matched view slots g.mid g.tied, ran_to SourceFault input n old new i.taken more w g.mid g.mid l (piece, c, reached) (stops view SourceFault p w slots i.taken old new new (λ output a. a) (λ h. absurd (not_ok h)) g) refl))
+    let reached : Consumes o n (ended (take (length i.taken) (lines_of input)) ++ piece) =
+    subst (λ (x : List (List ℕ)). Consumes o n (ended x ++ piece)) front (consumes_then o m n (ended i.taken) piece i.consumed b) in
+    (g.mid, matched view slots g.mid g.tied, ran_to SourceFault input o n old new i.taken more w g.mid g.mid is l (piece, c, reached) (stops view SourceFault p w slots i.taken old new new (λ after told output a. a) (λ h. absurd (not_ok h)) g) refl))
   where
     not_ok : SourceFault ≡ Ok → ⊥
     not_ok h = cc
@@ -100,10 +100,10 @@ memory_not_ok h = cc
 
 pub no_memory : {D : Type 0} (view : D → View) (first slots : List (Slot D)) (p : Position) (lines : ℕ) (o m n old new : Option (List ℕ)) → InLoop view first slots p lines o m old new → Meaning view first slots NoMemory o n old new
 no_memory view first slots p lines o m n old new i w t =
-    in_told o m i.taken (λ input. (after : World) × Matched view slots after × RanTo NoMemory input n w after old new) i.clean i.consumed
-    (λ input more e l.
+    with_input o m i.taken ((after : World) × Matched view slots after × RanTo NoMemory o n w after old new) i.clean i.consumed
+    (λ input more is l.
     let g = i.going w t in
-    (g.mid, matched view slots g.mid g.tied, ran_to NoMemory input n old new i.taken more w g.mid g.mid l tt (stops view NoMemory p w slots i.taken old new new (all_of old new) (λ h. absurd (memory_not_ok h)) g) (inl refl)))
+    (g.mid, matched view slots g.mid g.tied, ran_to NoMemory input o n old new i.taken more w g.mid g.mid is l tt (stops view NoMemory p w slots i.taken old new new (λ after told output a. a) (λ h. absurd (memory_not_ok h)) g) (inl refl)))
 
 bad_not_ok : (k c : ℕ) → BadLine k c ≡ Ok → ⊥
 bad_not_ok k c h = cc
@@ -111,10 +111,10 @@ bad_not_ok k c h = cc
 -- a line that wasn't taken
 pub bad_there : {D : Type 0} (view : D → View) (first slots : List (Slot D)) (p : Position) (lines k c : ℕ) (o m n old new : Option (List ℕ)) → InLoop view first slots p lines o m old new → k ≡ lines + 1 → Meaning view first slots (BadLine k c) o n old new
 bad_there view first slots p lines k c o m n old new i h w t =
-    in_told o m i.taken (λ input. (after : World) × Matched view slots after × RanTo (BadLine k c) input n w after old new) i.clean i.consumed
-    (λ input more e l.
+    with_input o m i.taken ((after : World) × Matched view slots after × RanTo (BadLine k c) o n w after old new) i.clean i.consumed
+    (λ input more is l.
     let g = i.going w t in
-    (g.mid, matched view slots g.mid g.tied, ran_to (BadLine k c) input n old new i.taken more w g.mid g.mid l (omega (arith, h, i.count)) (stops view (BadLine k c) p w slots i.taken old new new (λ output a. a) (λ z. absurd (bad_not_ok k c z)) g) refl))
+    (g.mid, matched view slots g.mid g.tied, ran_to (BadLine k c) input o n old new i.taken more w g.mid g.mid is l (omega (arith, h, i.count)) (stops view (BadLine k c) p w slots i.taken old new new (λ after told output a. a) (λ z. absurd (bad_not_ok k c z)) g) refl))
 
 long_not_ok : ScriptTooLong ≡ Ok → ⊥
 long_not_ok h = cc
@@ -123,12 +123,13 @@ long_not_ok h = cc
 pub too_long_there : {D : Type 0} (view : D → View) (first slots : List (Slot D)) (p : Position) (lines byte : ℕ) (o m n old new : Option (List ℕ))
     → InLoop view first slots p lines o m old new → Consumes m n (byte ∷ []) → lines ≡ 100000 → Meaning view first slots ScriptTooLong o n old new
 too_long_there view first slots p lines byte o m n old new i b e w t =
-    if_some o (λ input. (more : List (List ℕ)) × (lines_of input ≡ i.taken ++ more) × (0 < length more)) (λ input. (after : World) × Matched view slots after × RanTo ScriptTooLong input n w after old new)
-    (λ input (more, s, some).
+    for_input o (λ input. (more : List (List ℕ)) × (lines_of input ≡ i.taken ++ more) × (0 < length more)) ((after : World) × Matched view slots after × RanTo ScriptTooLong o n w after old new)
+    (ended i.taken ++ 65 ∷ []) ((65 ∷ []) ∷ [], lines_ended i.taken (65 ∷ []) i.clean, omega arith)
+    (long_more o m n i.taken byte i.clean i.consumed b)
+    (λ input is (more, s, some).
     let g = i.going w t in
     let many : 100000 < length (lines_of input) = omega (arith, ap length s, length-append i.taken more, some, e, i.count) in
-    (g.mid, matched view slots g.mid g.tied, ran_to ScriptTooLong input n old new i.taken more w g.mid g.mid s (i.count ∙ e, many) (stops view ScriptTooLong p w slots i.taken old new new (λ output a. a) (λ z. absurd (long_not_ok z)) g) refl))
-    (long_more o m n i.taken byte i.clean i.consumed b)
+    (g.mid, matched view slots g.mid g.tied, ran_to ScriptTooLong input o n old new i.taken more w g.mid g.mid is s (i.count ∙ e, many) (stops view ScriptTooLong p w slots i.taken old new new (λ after told output a. a) (λ z. absurd (long_not_ok z)) g) refl))
 
 pub too_long : {D : Type 0} (view : D → View) (first slots : List (Slot D)) (p : Position) (lines byte : ℕ) (o m n old new : Option (List ℕ))
     → InLoop view first slots p lines o m old new → Consumes m n (byte ∷ []) → lines ≡ 100000 → IfSome o (λ input. IsTooLong (lines_of input))
@@ -151,6 +152,7 @@ pub record AtEnd {D : Type 0} (view : D → View) (first slots : List (Slot D)) 
   pub read : ComeTo taken commands p
   pub going : (w : World) → Tied view first w → Going view w slots taken p old new
   pub lines_are : LinesAre o taken
+  pub clean : list_all is_clean taken ≡ true
   pub at_end : IsAtEnd n
   pub count : length taken ≡ lines
   pub few : lines ≤ 100000
@@ -158,14 +160,14 @@ pub record AtEnd {D : Type 0} (view : D → View) (first slots : List (Slot D)) 
 pub finished : {D : Type 0} (view : D → View) (first slots : List (Slot D)) (status : Status) (p : Position) (lines : ℕ) (o n old new : Option (List ℕ)) → Finishes status lines p → AtEnd view first slots p lines o n old new → Meaning view first slots status o n old new
 finished {D} view first slots status Outside lines o n old new e a w t =
     let g = a.going w t in
-    subst (λ (s : Status). IfSome o (λ input. (after : World) × Matched view slots after × RanTo s input n w after old new)) (sym e)
-    (if_some o (λ input. lines_of input ≡ a.taken) (λ input. (after : World) × Matched view slots after × RanTo Ok input n w after old new)
-    (λ input s. (g.mid, matched view slots g.mid g.tied, ran_to Ok input n old new a.taken [] w g.mid g.mid (s ∙ sym (append-nil a.taken)) (ap length (sym s), omega (arith, a.count, a.few), a.at_end) (stops view Ok Outside w slots a.taken old new new (λ output x. x) (λ h. refl) g) refl)) a.lines_are)
+    subst (λ (s : Status). (after : World) × Matched view slots after × RanTo s o n w after old new) (sym e)
+    (for_input o (λ input. lines_of input ≡ a.taken) ((after : World) × Matched view slots after × RanTo Ok o n w after old new) (ended a.taken ++ []) (just_these a.taken a.clean) a.lines_are
+    (λ input is s. (g.mid, matched view slots g.mid g.tied, ran_to Ok input o n old new a.taken [] w g.mid g.mid is (s ∙ sym (append-nil a.taken)) (ap length (sym s), omega (arith, a.count, a.few), a.at_end) (stops view Ok Outside w slots a.taken old new new (λ after told output x. x) (λ h. refl) g) refl)))
 finished {D} view first slots status (Within section) lines o n old new e a w t =
     let g = a.going w t in
-    subst (λ (s : Status). IfSome o (λ input. (after : World) × Matched view slots after × RanTo s input n w after old new)) (sym e)
-    (if_some o (λ input. lines_of input ≡ a.taken) (λ input. (after : World) × Matched view slots after × RanTo (BadLine (lines + 1) 1) input n w after old new)
-    (λ input s. (g.mid, matched view slots g.mid g.tied, ran_to (BadLine (lines + 1) 1) input n old new a.taken [] w g.mid g.mid (s ∙ sym (append-nil a.taken)) (omega (arith, a.count)) (stops view (BadLine (lines + 1) 1) (Within section) w slots a.taken old new new (λ output x. x) (λ h. absurd (bad_not_ok (lines + 1) 1 h)) g) refl)) a.lines_are)
+    subst (λ (s : Status). (after : World) × Matched view slots after × RanTo s o n w after old new) (sym e)
+    (for_input o (λ input. lines_of input ≡ a.taken) ((after : World) × Matched view slots after × RanTo (BadLine (lines + 1) 1) o n w after old new) (ended a.taken ++ []) (just_these a.taken a.clean) a.lines_are
+    (λ input is s. (g.mid, matched view slots g.mid g.tied, ran_to (BadLine (lines + 1) 1) input o n old new a.taken [] w g.mid g.mid is (s ∙ sym (append-nil a.taken)) (omega (arith, a.count)) (stops view (BadLine (lines + 1) 1) (Within section) w slots a.taken old new new (λ after told output x. x) (λ h. absurd (bad_not_ok (lines + 1) 1 h)) g) refl)))
 
 -- what a bad line's status says
 pub parts : (a b n c : ℕ) (s : Status) → s ≡ BadLine a b → s ≡ BadLine n c → (n ≡ a) × (c ≡ b)
@@ -224,39 +226,46 @@ finished_plain status lines (Within section) e = (λ h. absurd (a (lines + 1) (s
     c : (n : ℕ) → BadLine n 1 ≡ SinkFault → ⊥
     c n h = cc
 
+-- what is said of an input that begins with these lines and then this one, and there is one
+begun_with : (o : Option (List ℕ)) (taken : List (List ℕ)) (line : List ℕ) (X : Type 0) → list_all is_clean taken ≡ true → IsPiece line → Begin o taken line
+    → ((input : List ℕ) (more : List (List ℕ)) → IsInput o input → lines_of input ≡ taken ++ line ∷ more → X) → X
+begun_with o taken line X h p b f =
+    for_input o (λ input. (more : List (List ℕ)) × (lines_of input ≡ taken ++ line ∷ more)) X (ended (taken ++ line ∷ []) ++ []) ([], just_these (taken ++ line ∷ []) (more_clean taken line h p)) b
+    (λ input is (more, s). f input more is s)
+
 -- a line halted the run
 pub halted : {D : Type 0} (view : D → View) (first slots next : List (Slot D)) (status : Status) (p : Position) (lines : ℕ) (o m n old mid new : Option (List ℕ)) (line : List ℕ) (rose : Type 0)
-    → Halts status view (lines + 1) p slots next line mid new rose → (i : InLoop view first slots p lines o m old mid) → Begin o i.taken line → Meaning view first next status o n old new
-halted view first slots next Ok p lines o m n old mid new line rose h i b w t = absurd h
-halted view first slots next BadWords p lines o m n old mid new line rose h i b w t = absurd h
-halted view first slots next (BadLine a c) p lines o m n old mid new line rose h i b w t =
+    → Halts status view (lines + 1) p slots next line mid new rose → (i : InLoop view first slots p lines o m old mid) → IsPiece line → Begin o i.taken line → Meaning view first next status o n old new
+halted view first slots next Ok p lines o m n old mid new line rose h i c b w t = absurd h
+halted view first slots next BadWords p lines o m n old mid new line rose h i c b w t = absurd h
+halted view first slots next (BadLine a at) p lines o m n old mid new line rose h i c b w t =
     let g = i.going w t in
-    if_some o (λ input. (more : List (List ℕ)) × (lines_of input ≡ i.taken ++ line ∷ more)) (λ input. (after : World) × Matched view next after × RanTo (BadLine a c) input n w after old new)
-    (λ input (more, s). (
+    begun_with o i.taken line ((after : World) × Matched view next after × RanTo (BadLine a at) o n w after old new) i.clean c b
+    (λ input more is s. (
       g.mid,
       subst (λ (x : List (Slot _)). Matched view x g.mid) (sym h.2) (matched view slots g.mid g.tied),
-      ran_to (BadLine a c) input n old new i.taken (line ∷ more) w g.mid g.mid s (omega (arith, h.0, i.count))
-          (stops view (BadLine a c) p w slots i.taken old mid new (λ output x. subst (λ (y : Option (List ℕ)). Appends old y output) (sym h.1) x) (λ z. absurd (bad_not_ok a c z)) g) refl,
-    )) b
-halted view first slots next ScriptTooLong p lines o m n old mid new line rose h i b w t = absurd h
-halted view first slots next SourceFault p lines o m n old mid new line rose h i b w t = absurd h
-halted view first slots next SinkFault p lines o m n old mid new line rose h i b w t =
+      ran_to (BadLine a at) input o n old new i.taken (line ∷ more) w g.mid g.mid is s (omega (arith, h.0, i.count))
+          (stops view (BadLine a at) p w slots i.taken old mid new (λ after told output x. subst (λ (y : Option (List ℕ)). Appends old y output) (sym h.1) x) (λ z. absurd (bad_not_ok a at z)) g) refl,
+    ))
+halted view first slots next ScriptTooLong p lines o m n old mid new line rose h i c b w t = absurd h
+halted view first slots next SourceFault p lines o m n old mid new line rose h i c b w t = absurd h
+halted view first slots next SinkFault p lines o m n old mid new line rose h i c b w t =
     let x = h.1 w i.taken old (i.going w t) in
-    if_some o (λ input. (more : List (List ℕ)) × (lines_of input ≡ i.taken ++ line ∷ more)) (λ input. (after : World) × Matched view next after × RanTo SinkFault input n w after old new)
-    (λ input (more, s). (x.0, x.1, ran_to SinkFault input n old new (i.taken ++ line ∷ []) more w x.0 x.0 (s ∙ sym (append_assoc i.taken (line ∷ []) more)) tt x.2 refl)) b
-halted view first slots next NoMemory p lines o m n old mid new line rose h i b w t =
+    begun_with o i.taken line ((after : World) × Matched view next after × RanTo SinkFault o n w after old new) i.clean c b
+    (λ input more is s. (x.0, x.1, ran_to SinkFault input o n old new (i.taken ++ line ∷ []) more w x.0 x.0 is (s ∙ sym (append_assoc i.taken (line ∷ []) more)) tt x.2 refl))
+halted view first slots next NoMemory p lines o m n old mid new line rose h i c b w t =
     let g = i.going w t in
     let x : StopsAt view next p line g.mid = h.1 g.mid g.tied in
-    let f : (output : List ℕ) → Appends old mid output → AppendsFront old new output = λ output y. all_of old new output (subst (λ (z : Option (List ℕ)). Appends old z output) (sym h.0) y) in
+    let f : (after : World) (told : List Told) (output : List ℕ) → Appends old mid output → Appends old new output = λ after told output y. subst (λ (z : Option (List ℕ)). Appends old z output) (sym h.0) y in
     let not_ok : NoMemory ≡ Ok → p ≡ Outside = λ z. absurd (memory_not_ok z) in
     let there = stops_there view NoMemory p w slots i.taken old mid new f not_ok g in
-    if_some o (λ input. (more : List (List ℕ)) × (lines_of input ≡ i.taken ++ line ∷ more)) (λ input. (after : World) × Matched view next after × RanTo NoMemory input n w after old new)
-    (λ input (more, s). (
+    begun_with o i.taken line ((after : World) × Matched view next after × RanTo NoMemory o n w after old new) i.clean c b
+    (λ input more is s. (
       x.0,
       x.1,
-      ran_to NoMemory input n old new i.taken (line ∷ more) w g.mid x.0 s tt (stops view NoMemory p w slots i.taken old mid new f not_ok g)
+      ran_to NoMemory input o n old new i.taken (line ∷ more) w g.mid x.0 is s tt (stops view NoMemory p w slots i.taken old mid new f not_ok g)
           (subst (λ (q : Position). (x.0 ≡ g.mid) ⊎ IsCutShort (lines_of input) (length i.taken) q g.mid x.0) (sym there) (cut_short i.taken line more (lines_of input) p g.mid x.0 s x.2)),
-    )) b
+    ))
   where
     cut_short : (taken : List (List ℕ)) (line : List ℕ) (more lines : List (List ℕ)) (p : Position) (mid after : World) → lines ≡ taken ++ line ∷ more
         → (after ≡ mid) ⊎ ((c : Command) × (line_reading p line ≡ Ends c) × IsFormed c × CutOff mid c after) → (after ≡ mid) ⊎ IsCutShort lines (length taken) p mid after
@@ -333,7 +342,7 @@ loop_started_at view slots r o out e = subst (λ (n : ℕ). InLoop view slots sl
 pub ends_clean : {D : Type 0} (view : D → View) (first slots : List (Slot D)) (p : Position) (lines : ℕ) (o m n old new : Option (List ℕ))
     → InLoop view first slots p lines o m old new → Consumes m n [] → IsAtEnd n → lines ≤ 100000 → AtEnd view first slots p lines o n old new
 ends_clean view first slots p lines o m n old new i c e few =
-    record { taken = i.taken; commands = i.commands; read = i.read; going = i.going; lines_are = lines_at_end o n i.taken i.clean (then_nothing o m n (ended i.taken) i.consumed c) e; at_end = e; count = i.count; few = few }
+    record { taken = i.taken; commands = i.commands; read = i.read; going = i.going; lines_are = lines_at_end o n i.taken i.clean (then_nothing o m n (ended i.taken) i.consumed c) e; clean = i.clean; at_end = e; count = i.count; few = few }
 
 -- at the end, behind a last line without its line feed
 pub ends_within : {D : Type 0} (view : D → View) (first slots next : List (Slot D)) (p q : Position) (lines more : ℕ) (o m n old mid new : Option (List ℕ)) (line : List ℕ)
@@ -346,6 +355,7 @@ ends_within view first slots next p q lines more o m n old mid new line i g k c 
       read = x.1;
       going = λ w t. g.1 w i.taken old (i.going w t);
       lines_are = lines_at_last o m n i.taken line i.clean c l i.consumed b e;
+      clean = more_clean i.taken line i.clean c;
       at_end = e;
       count = one_longer i.taken line lines i.count ∙ sym k;
       few = omega (arith, few, k);
@@ -367,30 +377,28 @@ at_end_behind a None e = tt
 at_end_behind [] (Some u) e = e
 at_end_behind (x ∷ a) (Some u) e = absurd (cc e)
 
-reached_behind : (status : Status) (input a : List ℕ) (n : Option (List ℕ)) (k : ℕ) → (status ≡ SourceFault → a ≡ []) → (status ≡ BadWords → ⊥) → Reached status input (prepend_known a n) k → Reached status input n k
-reached_behind Ok input a n k none words r = (r.0, r.1, at_end_behind a n r.2)
-reached_behind BadWords input a n k none words r = absurd (words refl)
-reached_behind (BadLine line column) input a n k none words r = r
-reached_behind ScriptTooLong input a n k none words r = r
-reached_behind SourceFault input a n k none words r =
-    (r.0, r.1, subst (λ (x : Option (List ℕ)). Consumes (Some input) x (ended (take k (lines_of input)) ++ r.0)) (ap (λ (x : List ℕ). prepend_known x n) (none refl) ∙ prepend_known-nil n) r.2)
-reached_behind SinkFault input a n k none words r = tt
-reached_behind NoMemory input a n k none words r = tt
-
-ran_behind : (status : Status) (input a : List ℕ) (n old new : Option (List ℕ)) (w after : World) → (status ≡ SourceFault → a ≡ []) → (status ≡ BadWords → ⊥) → RanTo status input (prepend_known a n) w after old new → RanTo status input n w after old new
-ran_behind status input a n old new w after none words r =
-    record { count = r.count; within = r.within; reached = reached_behind status input a n r.count none words r.reached; mid = r.mid; went = r.went; ends = r.ends }
+reached_behind : (status : Status) (input a : List ℕ) (o n : Option (List ℕ)) (k : ℕ) → (status ≡ SourceFault → a ≡ []) → (status ≡ BadWords → ⊥) → Reached status input o (prepend_known a n) k → Reached status input o n k
+reached_behind Ok input a o n k none words r = (r.0, r.1, at_end_behind a n r.2)
+reached_behind BadWords input a o n k none words r = absurd (words refl)
+reached_behind (BadLine line column) input a o n k none words r = r
+reached_behind ScriptTooLong input a o n k none words r = r
+reached_behind SourceFault input a o n k none words r =
+    (r.0, r.1, subst (λ (x : Option (List ℕ)). Consumes o x (ended (take k (lines_of input)) ++ r.0)) (ap (λ (x : List ℕ). prepend_known x n) (none refl) ∙ prepend_known-nil n) r.2)
+reached_behind SinkFault input a o n k none words r = tt
+reached_behind NoMemory input a o n k none words r = tt
 
 -- What was read ahead and not taken changes no meaning.
 pub meant_behind : {D : Type 0} (view : D → View) (first slots : List (Slot D)) (status : Status) (o : Option (List ℕ)) (a : List ℕ) (n old new : Option (List ℕ)) → (status ≡ SourceFault → a ≡ []) → (status ≡ BadWords → ⊥)
     → Meaning view first slots status o (prepend_known a n) old new → Meaning view first slots status o n old new
 meant_behind view first slots status o a n old new none words m w t =
-    if_some o (λ input. (after : World) × Matched view slots after × RanTo status input (prepend_known a n) w after old new) (λ input. (after : World) × Matched view slots after × RanTo status input n w after old new)
-    (λ input (after, matched_then, r). (after, matched_then, ran_behind status input a n old new w after none words r)) (m w t)
+    let x = m w t in
+    let r : RanTo status o (prepend_known a n) w x.0 old new = x.2 in
+    (x.0, x.1, record { input = r.input; is = r.is; count = r.count; within = r.within; reached = reached_behind status r.input a o n r.count none words r.reached; mid = r.mid; went = r.went; ends = r.ends })
 
 -- for a status that tells nothing of what is left
 pub meant_behind_all : {D : Type 0} (view : D → View) (first slots : List (Slot D)) (o : Option (List ℕ)) (a b : List ℕ) (n old new : Option (List ℕ))
     → Meaning view first slots ScriptTooLong o (prepend_known b n) old new → Meaning view first slots ScriptTooLong o (prepend_known a n) old new
 meant_behind_all view first slots o a b n old new m w t =
-    if_some o (λ input. (after : World) × Matched view slots after × RanTo ScriptTooLong input (prepend_known b n) w after old new) (λ input. (after : World) × Matched view slots after × RanTo ScriptTooLong input (prepend_known a n) w after old new)
-    (λ input (after, matched_then, r). (after, matched_then, record { count = r.count; within = r.within; reached = r.reached; mid = r.mid; went = r.went; ends = r.ends })) (m w t)
+    let x = m w t in
+    let r : RanTo ScriptTooLong o (prepend_known b n) w x.0 old new = x.2 in
+    (x.0, x.1, record { input = r.input; is = r.is; count = r.count; within = r.within; reached = r.reached; mid = r.mid; went = r.went; ends = r.ends })

@@ -11,7 +11,7 @@ use Rattle.site_defs.specs.Lists.{Among, first_where}
 use Rattle.world_defs.specs.World as world
 use Rattle.world_defs.specs.World.{Place}
 use Rattle.site_defs.specs.Contents.{Contents, NO_LEFTOVER, same_name}
-use Rattle.world_defs.specs.Answers.{Cause, Stopped, Running, Refusal, line, cause_text}
+use Rattle.world_defs.specs.Answers.{Cause, Refusal, line, cause_text}
 use Rattle.world_defs.specs.Row.{refused_with, in_state, why_not_down}
 use Rattle.site_defs.specs.Limits.{region_number}
 use Rattle.world_defs.specs.Changes.{in_new_state, After}
@@ -20,9 +20,8 @@ use Rattle.world_defs.specs.Step.{LeftBy}
 use Rattle.world_defs.specs.rows.Map.{IsUnmapped, unmapped, map_pattern}
 use Rattle.world_defs.specs.Ties.{Matches}
 use Rattle.site_defs.specs.Stands.{IsSite, Stands, Reads}
-use Rattle.repl_section.specs.declared.reign.Reign.{Reign}
 use Rattle.site_runner.specs.declared.slot.State.{State}
-use Rattle.site_runner.specs.declared.slot.State.TheVariants.{Down, Primary, Failed}
+use Rattle.site_runner.specs.declared.slot.State.TheVariants.{Down, Failed}
 use Rattle.site_runner.specs.declared.slot.Site.{Site}
 use Rattle.site_runner.specs.Sites.{state_value, site_value, HoldsState, IsOf, IsMade}
 use Rattle.site_runner.specs.Executes.{Comes}
@@ -144,10 +143,10 @@ mapped_place : (leftovers : Leftovers) (region : Name) (text : List ℕ) (w : Vi
 mapped_place leftovers region text w p site law b =
     place_of_images leftovers w p site (maps region text p.outcomes) law b.simulated b.still_told (λ sure f i. let k = b.images sure f i in (k.0, maps_among region text p.outcomes k.1.0 k.0 k.1.1 k.1.2, k.2))
 
-pub map_cut : (leftovers : Leftovers) (region : Name) (text : List ℕ) (w : View) (s : Site) (p : Place) → IsLawful w → MayHaveMapped region text w p → (q : Place) × LeftBy (map_pattern region text s.name p).left p q × Matches w q
-map_cut leftovers region text w s p law b =
+pub map_cut : (leftovers : Leftovers) (region : Name) (text : List ℕ) (w : View) (s : Site) (p : Place) → IsLawful w → MayHaveMapped region text w p → p.faults ≤ w.faults → (q : Place) × LeftBy (map_pattern region text s.name p).left p q × Matches w q
+map_cut leftovers region text w s p law b later =
     let m = mapped_place leftovers region text w p p.site law b in
-    (record { site = p.site; told = p.told; now = m.now; left = m.left; outcomes = maps region text p.outcomes; faults = w.faults; simulated = p.simulated }, record { told = refl; outcomes = λ sure o a. inr (among_maps region text p.outcomes o a) }, m.matches)
+    (record { site = p.site; told = p.told; now = m.now; left = m.left; outcomes = maps region text p.outcomes; faults = w.faults; simulated = p.simulated }, record { told = refl; outcomes = λ sure o a. inr (among_maps region text p.outcomes o a); faults = later; simulated = refl }, m.matches)
 
 pub map_fault : (leftovers : Leftovers) (region : Name) (text : List ℕ) (w : View) (s : Site) (p : Place) (k : ℕ) (before now : List ℕ) → IsLawful w → s.state ≡ Down → p.site ≡ Some (site_value s) → (p.told ≡ true → IsMade s.name p) → MayHaveMapped region text w p
     → k ≡ w.faults → Rose p.faults w.faults → now ≡ before ++ line s.name (codes "DISKFAULT " ++ decimal k) → Answers region text w s p (record { name = s.name; state = Failed k }) before now false
@@ -187,14 +186,14 @@ look_faulted leftovers region text v w s k before now l down count rose t p h =
     map_fault leftovers region text w s p k before now l.lawful down h.site h.held.made (look_mapped region text v w s p l h) count (subst (λ (x : ℕ). Rose x w.faults) h.disk.faults rose) t
 
 pub look_cut : (leftovers : Leftovers) (region : Name) (text : List ℕ) (v w : View) (s : Site) → Looked v w → IsCutAt (map_pattern region text s.name) v s w
-look_cut leftovers region text v w s l p h = map_cut leftovers region text w s p l.lawful (look_mapped region text v w s p l h)
+look_cut leftovers region text v w s l p h = map_cut leftovers region text w s p l.lawful (look_mapped region text v w s p l h) (omega (arith, l.later, h.disk.faults))
 
 pub seen_cut : (leftovers : Leftovers) (region : Name) (text : List ℕ) (w : View) (s : Site) → IsLawful w → IsCutSeen region text w s w
 seen_cut leftovers region text w s law p h = map_cut leftovers region text w s p law (record {
   still_told = λ sure. told_is w.content _ (h.reads sure);
   images = λ sure f i. let o = h.images sure f i in (o.0, (o.0, o.1, inl refl), o.2);
   simulated = h.simulated;
-})
+}) h.faults
 
 -- Behind a look.
 
@@ -244,7 +243,7 @@ there_faulted leftovers region number text v w s k before now m count rose t p h
     map_fault leftovers region text w s p k before now m.lawful h.down h.site h.made (there_mapped region number text v w s p m h) count (omega (arith, rose, h.faults)) t
 
 pub there_cut : (leftovers : Leftovers) (region : Name) (number : ℕ) (text : List ℕ) (v w : View) (s : Site) → Moments region number text v w → IsCutSeen region text v s w
-there_cut leftovers region number text v w s m p h = map_cut leftovers region text w s p m.lawful (there_mapped region number text v w s p m h)
+there_cut leftovers region number text v w s m p h = map_cut leftovers region text w s p m.lawful (there_mapped region number text v w s p m h) (omega (arith, m.later, h.faults))
 
 pub there_damaged : (region : Name) (number : ℕ) (text : List ℕ) (v w : View) (s : Site) (file offset : ℕ) (before now : List ℕ) → Moments region number text v w
     → IfSome v.content (λ files. (c : Contents) → IsSite files c → ⊥) → now ≡ before ++ line s.name (codes "NOTAFILE " ++ decimal file ++ 32 ∷ decimal offset) → MapsAt region text v s w s before now false

@@ -9,7 +9,7 @@ use Rattle.journal_defs.specs.Numbers.{broken_file}
 use Rattle.world_defs.specs.World as world
 use Rattle.world_defs.specs.World.{Place}
 use Rattle.site_defs.specs.Contents.{Contents, Leftover}
-use Rattle.world_defs.specs.Answers.{Stopped, NoFile, Refusal, line, Cause}
+use Rattle.world_defs.specs.Answers.{NoFile, Refusal, line, Cause}
 use Rattle.world_defs.specs.Row.{refused_with, in_state, stopped}
 use Rattle.world_defs.specs.Changes.{in_new_state}
 use Rattle.world_defs.specs.rows.Print.{typed, no_file, print}
@@ -127,10 +127,10 @@ print_fault g v w s k before now r up count rose t p h =
     })
     t
 
-pub print_cut : (g : ℕ) (v w : View) (s : Site) → disk.Reads v w → IsCutAt (print g s.name) v s w
-print_cut g v w s r p h =
+pub print_cut : (g : ℕ) (v w : View) (s : Site) → disk.Reads v w → v.faults ≤ w.faults → IsCutAt (print g s.name) v s w
+print_cut g v w s r later p h =
     let a = read_at v w s p r h in
-    (counted p w.faults, record { told = refl; outcomes = λ sure o m. inl m }, a.disk)
+    (counted p w.faults, record { told = refl; outcomes = λ sure o m. inl m; faults = omega (arith, later, h.disk.faults); simulated = refl }, a.disk)
 
 pub empty_is : (bytes : List ℕ) → (length bytes == 0) ≡ true → bytes ≡ []
 empty_is [] e = refl

@@ -4,6 +4,7 @@ use Rattle.std.specs.Prelude.{◌⊎◌, Option, codes, nat_lt, slice_get, if◌
 use Rattle.std.specs.Fmt.{decimal}
 use Rattle.std.specs.List.{flat_map, AllByRecursion}
 use Rattle.std.proofs.Math.Seq.{take-length}
+use Rattle.std.proofs.lemmas.List.{length-take-le}
 use Rattle.disk_defs.specs.Disk.{View, IsLawful, Rose}
 use Rattle.global_defs.specs.Entry.{Stamp, Sequence, state}
 use Rattle.global_defs.specs.Jobs.{Job, SeqLimit}
@@ -13,26 +14,26 @@ use Rattle.global_defs.specs.Serial.{MOST_ENTRIES, Turn, Seq, RolledBack, first_
 use Rattle.repl_section.specs.declared.reign.Reign.{Reign}
 use Rattle.command_defs.specs.Sections.{UsesUp}
 use Rattle.repl_section.specs.Reigns.{Reigns, stamp_in, stamp_of}
-use Rattle.repl_section.specs.Deciding.{HasDecided, MayHaveFront, MayLeave, FailsAt}
+use Rattle.repl_section.specs.Deciding.{HasDecided, MayHaveFront, MayLeave, FailsIn}
 use Rattle.site_defs.specs.Lists.{Among}
 use Rattle.world_defs.specs.World as world
 use Rattle.command_defs.specs.Commands.{Name}
 use Rattle.world_defs.specs.World.{Place}
 use Rattle.site_defs.specs.Contents.{Contents, Leftover, NO_LEFTOVER}
-use Rattle.world_defs.specs.Answers.{Stopped, NotPrimary, Section, line, Cause}
+use Rattle.world_defs.specs.Answers.{Section, line, Cause}
 use Rattle.world_defs.specs.Row.{refused_with, in_state, why_not_primary, refusal_in}
 use Rattle.world_defs.specs.Changes.{in_new_state}
 use Rattle.site_defs.specs.Fronts.{with_sequence, IsFrontOf, turn_of}
 use Rattle.site_defs.specs.Opening.{IsBehind}
-use Rattle.world_defs.specs.rows.Run.{RunMayLeaveOn, undecided_line, section_text, turn_on, run}
-use Rattle.site_defs.specs.Texts.{reply_line, printed}
+use Rattle.world_defs.specs.rows.Run.{RunMayLeaveOn, one_further, undecided_line, section_text, turn_on, run}
+use Rattle.site_defs.specs.Texts.{reply_line}
 use Rattle.world_defs.specs.Ties.{Matches}
 use Rattle.site_runner.specs.declared.slot.State.{State}
-use Rattle.site_runner.specs.declared.slot.State.TheVariants.{Down, Primary, Failed}
+use Rattle.site_runner.specs.declared.slot.State.TheVariants.{Primary, Failed}
 use Rattle.site_runner.specs.declared.slot.Site.{Site}
 use Rattle.site_runner.specs.Sites.{state_value, site_value, IsOf}
 use Rattle.site_runner.specs.Steps.{IsAt, ExecutesAt, IsCutAt}
-use Rattle.site_runner.proofs.Ats.{comes_ran, not_early, some_outcome, refuses, kept_same, state_at, told_is, reads_image, Leftovers, NothingIsLeft, place_of_images, place_of_one, only, open_site, open_reads, open_images}
+use Rattle.site_runner.proofs.Ats.{comes_ran, not_early, some_outcome, state_at, told_is, reads_image, Leftovers, NothingIsLeft, place_of_images, place_of_one, only, open_site, open_reads, open_images}
 use Rattle.site_runner.proofs.Stopped.{reigns_at, length_tagged}
 use Rattle.site_runner.proofs.Begun.{nat_cases, in_first, in_second, in_either}
 
@@ -140,7 +141,7 @@ ran v w nothing s r new jobs order before middle now law whole st stamped same l
     let state : world.State = world.Primary stamp turn.serials in
     let o : Contents = with_sequence p.now turn.sequence in
     let q : Place = record { site = in_new_state state p.site; told = p.told; now = o; left = NO_LEFTOVER; outcomes = o ∷ []; faults = w.faults; simulated = p.simulated } in
-    let ends : Section = record { picks = order; hardened = length turn.sequence; fault = None } in
+    let ends : Section = record { picks = order; fault = None } in
     let count : length new.site.entries.items ≡ length turn.sequence = length_tagged new.site.entries.items turn.sequence 1 d.reigns.remembered.entries in
     let text : turn_on p.site jobs ends.picks p ≡ turn = ap (λ (x : Option world.Site). turn_on x jobs ends.picks p) (site_is v s r p st h) in
     let stamp_new : stamp ≡ stamp_of new = ap stamp_in (sym stamped) in
@@ -170,48 +171,47 @@ ran v w nothing s r new jobs order before middle now law whole st stamped same l
     (t ∙ ap (λ (x : List ℕ). x ++ line s.name (codes "AT " ++ decimal (length new.site.entries.items))) d.text
     ∙ append_assoc before (flat_map reply_line turn.replies) _
     ∙ ap (λ (k : ℕ). before ++ (flat_map reply_line turn.replies ++ line s.name (codes "AT " ++ decimal k))) count
-    ∙ ap (λ (x : Turn). before ++ section_text s.name (length order) x (length turn.sequence) None) (sym text))
+    ∙ ap (λ (x : Turn). before ++ section_text s.name (length order) x None) (sym text))
 
 -- a fault ended it
 pub ran_to_fault : (leftovers : Leftovers) (v w : View) (s : Site) (r : Reign) (jobs : List (List Job)) (order : List ℕ) (k undecided : ℕ) (before middle now : List ℕ) → IsLawful v → IsLawful w → s.state ≡ Primary r → w.simulated ≡ v.simulated → k ≡ w.faults → Rose v.faults w.faults
-    → ((told : Bool) (c : Contents) → Reigns v told c r → (m : ℕ) × FailsAt w (stamp_of r) told c jobs order r.serials undecided before middle m)
+    → ((told : Bool) (c : Contents) → Reigns v told c r → FailsIn w (stamp_of r) told c jobs order r.serials undecided before middle)
     → now ≡ middle ++ undecided_line s.name k undecided → ExecutesAt (run jobs order s.name) v s w (record { name = s.name; state = Failed k }) before now false
 ran_to_fault leftovers v w s r jobs order k undecided before middle now was law st same count rose f t p h =
-    let d : (m : ℕ) × FailsAt w (stamp_of r) p.told p.now jobs order r.serials undecided before middle m = f p.told p.now (reigns_at v s r p st h) in
-    let m : ℕ = d.0 in
-    let a = d.1 in
+    let a : FailsIn w (stamp_of r) p.told p.now jobs order r.serials undecided before middle = f p.told p.now (reigns_at v s r p st h) in
     let stamp = stamp_of r in
-    let turn : Turn = turn_of stamp r.serials jobs (take m order) p.now.sequence in
-    let ends : Section = record { picks = take m order; hardened = a.hardened; fault = Some k } in
+    let picks : List ℕ = take a.decided order in
+    let many : length picks ≡ a.decided = length-take-le a.decided order (omega (arith, a.inside)) in
+    let turn : Turn = turn_of stamp r.serials jobs picks p.now.sequence in
+    let low : ℕ = length turn.sequence in
+    let all : Sequence = (turn_of stamp r.serials jobs (one_further order picks) p.now.sequence).sequence in
+    let may : MayHaveFront w p.told p.now all low = subst (λ (n : ℕ). MayHaveFront w p.told p.now (turn_of stamp r.serials jobs (take (n + 1) order) p.now.sequence).sequence low) (sym many) a.front in
+    let ends : Section = record { picks = picks; fault = Some k } in
     let state = in_new_state (world.Failed k) p.site in
-    let front = front_place leftovers w p state turn.sequence a.hardened law (same ∙ h.disk.simulated) a.front in
+    let front = front_place leftovers w p state all low law (same ∙ h.disk.simulated) may in
     let text : turn_on p.site jobs ends.picks p ≡ turn = ap (λ (x : Option world.Site). turn_on x jobs ends.picks p) (site_is v s r p st h) in
-    let rest : undecided ≡ length order - length (printed a.hardened turn.replies) = omega (arith, a.count) in
-    let of = λ (sure : p.told ≡ true) (o : Contents) (g : IsFrontOf turn.sequence a.hardened p.now o). subst (IsOf s.name) (sym g.is) (of_sequence s.name p.now (take g.count turn.sequence) (h.held.made sure).now) in
+    let rest : undecided ≡ length order - length turn.replies = omega (arith, a.count) in
+    let of = λ (sure : p.told ≡ true) (o : Contents) (g : IsFrontOf all low p.now o). subst (IsOf s.name) (sym g.is) (of_sequence s.name p.now (take g.count all) (h.held.made sure).now) in
     comes_ran
     ends
-    (record { site = state; told = p.told; now = front.now; left = front.left; outcomes = fronts p.now turn.sequence a.hardened (length turn.sequence - a.hardened); faults = w.faults; simulated = p.simulated })
+    (record { site = state; told = p.told; now = front.now; left = front.left; outcomes = fronts p.now all low (length all - low); faults = w.faults; simulated = p.simulated })
     (none_primary v s r jobs order p st h)
     (record {
       stamp = stamp;
       serials = r.serials;
       state = site_is v s r p st h;
-      picks = (m, refl);
+      picks = (omega (arith, many, a.inside), ap (λ (n : ℕ). take n order) (sym many));
       ran = record {
-        begun = a.begun;
-        at_once = a.at_once;
-        fails = record {
-          site = refl;
-          known = record {
-            told = refl;
-            now = λ sure. let x = some_outcome v p was h.disk sure in (x.0, x.1, front.front sure);
-            left = front.behind;
-            outcomes = λ sure o j. let x = some_outcome v p was h.disk sure in (x.0, x.1, front.fronts_all sure o j);
-          };
-          count = sym count;
-          rose = subst (λ (x : ℕ). Rose p.faults x) (sym count) (subst (λ (x : ℕ). Rose x w.faults) h.disk.faults rose);
-          simulated = refl;
+        site = refl;
+        known = record {
+          told = refl;
+          now = λ sure. let x = some_outcome v p was h.disk sure in (x.0, x.1, front.front sure);
+          left = front.behind;
+          outcomes = λ sure o j. let x = some_outcome v p was h.disk sure in (x.0, x.1, front.fronts_all sure o j);
         };
+        count = sym count;
+        rose = subst (λ (x : ℕ). Rose p.faults x) (sym count) (subst (λ (x : ℕ). Rose x w.faults) h.disk.faults rose);
+        simulated = refl;
       };
     })
     (record {
@@ -223,15 +223,15 @@ ran_to_fault leftovers v w s r jobs order k undecided before middle now was law 
       };
     })
     (t ∙ ap (λ (x : List ℕ). x ++ undecided_line s.name k undecided) a.text
-    ∙ append_assoc before (flat_map reply_line (printed a.hardened turn.replies)) _
-    ∙ ap (λ (u : ℕ). before ++ (flat_map reply_line (printed a.hardened turn.replies) ++ undecided_line s.name k u)) rest
-    ∙ ap (λ (x : Turn). before ++ section_text s.name (length order) x a.hardened (Some k)) (sym text))
+    ∙ append_assoc before (flat_map reply_line turn.replies) _
+    ∙ ap (λ (u : ℕ). before ++ (flat_map reply_line turn.replies ++ undecided_line s.name k u)) rest
+    ∙ ap (λ (x : Turn). before ++ section_text s.name (length order) x (Some k)) (sym text))
 
 -- it was cut off once some jobs were decided, of which at least these are hardened
-pub run_cut : (leftovers : Leftovers) (v w : View) (s : Site) (r : Reign) (jobs : List (List Job)) (order : List ℕ) → IsLawful v → IsLawful w → s.state ≡ Primary r → w.simulated ≡ v.simulated
+pub run_cut : (leftovers : Leftovers) (v w : View) (s : Site) (r : Reign) (jobs : List (List Job)) (order : List ℕ) → IsLawful v → IsLawful w → s.state ≡ Primary r → w.simulated ≡ v.simulated → v.faults ≤ w.faults
     → ((told : Bool) (c : Contents) → Reigns v told c r → (m low : ℕ) × (length c.sequence ≤ low) × MayHaveFront w told c (turn_of (stamp_of r) r.serials jobs (take m order) c.sequence).sequence low)
     → IsCutAt (run jobs order s.name) v s w
-run_cut leftovers v w s r jobs order was law st same f p h =
+run_cut leftovers v w s r jobs order was law st same later f p h =
     let d : (m low : ℕ) × (length p.now.sequence ≤ low) × MayHaveFront w p.told p.now (turn_of (stamp_of r) r.serials jobs (take m order) p.now.sequence).sequence low = f p.told p.now (reigns_at v s r p st h) in
     let m : ℕ = d.0 in
     let low : ℕ = d.1 in
@@ -243,6 +243,8 @@ run_cut leftovers v w s r jobs order was law st same f p h =
         told = refl;
         outcomes = λ sure o a. let x = some_outcome v p was h.disk sure in
             inr (x.0, x.1, subst (λ (y : Option world.Site). RunMayLeaveOn y jobs order p o) (sym (site_is v s r p st h)) (m, lower o (front.fronts_all sure o a)));
+        faults = omega (arith, later, h.disk.faults);
+        simulated = refl;
       },
       front.matches,
     )
@@ -322,9 +324,9 @@ among_runs stamp serials jobs order c o n g =
     ]
 
 -- it was cut off once some jobs were decided, and each image may have its own number of them
-pub run_cut_any : (leftovers : Leftovers) (v w : View) (s : Site) (r : Reign) (jobs : List (List Job)) (order : List ℕ) → IsLawful v → IsLawful w → s.state ≡ Primary r → w.simulated ≡ v.simulated
+pub run_cut_any : (leftovers : Leftovers) (v w : View) (s : Site) (r : Reign) (jobs : List (List Job)) (order : List ℕ) → IsLawful v → IsLawful w → s.state ≡ Primary r → w.simulated ≡ v.simulated → v.faults ≤ w.faults
     → ((told : Bool) (c : Contents) → Reigns v told c r → MayLeave w (stamp_of r) told c jobs order r.serials) → IsCutAt (run jobs order s.name) v s w
-run_cut_any leftovers v w s r jobs order was law st same f p h =
+run_cut_any leftovers v w s r jobs order was law st same later f p h =
     let d : MayLeave w (stamp_of r) p.told p.now jobs order r.serials = f p.told p.now (reigns_at v s r p st h) in
     let low : ℕ = length p.now.sequence in
     let runs : ℕ → Sequence = runs_of (stamp_of r) r.serials jobs order p.now.sequence in
@@ -336,6 +338,8 @@ run_cut_any leftovers v w s r jobs order was law st same f p h =
         outcomes = λ is o a. let k = are_all_fronts runs (length order) p.now low o a in
             let x = some_outcome v p was h.disk is in
             inr (x.0, x.1, subst (λ (y : Option world.Site). RunMayLeaveOn y jobs order p o) (sym (site_is v s r p st h)) (k.0, k.1));
+        faults = omega (arith, later, h.disk.faults);
+        simulated = refl;
       },
       m.matches,
     )

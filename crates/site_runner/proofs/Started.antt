@@ -34,7 +34,7 @@ use Rattle.site_runner.specs.Sites.{state_value, site_value, HoldsState, IsOf, I
 use Rattle.site_runner.specs.Executes.{Comes}
 use Rattle.site_runner.specs.Steps.{IsAt, ExecutesAt, IsCutAt}
 use Rattle.site_runner.specs.Starting.{IsOpenedAt, BeginsAt, IsCutOpened}
-use Rattle.site_runner.proofs.Ats.{comes_done, comes_refused, comes_may_refuse, comes_fault, comes_damaged, refused_late, none_refused, refuses, kept_same, not_true, is_true_or_false, some_both, told_is, is_site, reads_site, stands_told, at_moment, reads_image, Leftovers, NothingIsLeft, ReadPlace, place_of_images, place_of_one, only, open_reads, open_images, state_at}
+use Rattle.site_runner.proofs.Ats.{comes_done, comes_refused, comes_may_refuse, comes_fault, comes_damaged, refused_late, none_refused, kept_same, not_true, is_true_or_false, some_both, told_is, is_site, reads_site, stands_told, at_moment, reads_image, Leftovers, NothingIsLeft, ReadPlace, place_of_images, place_of_one, only, open_reads, open_images, state_at}
 use Rattle.site_runner.proofs.Seen.{counted, kept_counted}
 use Rattle.site_runner.proofs.Stopped.{length_tagged}
 use Rattle.site_runner.proofs.Begun.{limit_opened, stamp_opened, of_opened, of_begun, of_may_begin, begins, among_begins, begins_among, generation_past, generation_left}
@@ -167,10 +167,10 @@ begun_place : (leftovers : Leftovers) (w : View) (s : Site) (p : Place) (site : 
 begun_place leftovers w s p site law b =
     place_of_images leftovers w p site (begins s.name p.left.broken p.outcomes) law b.simulated b.still_told (λ sure f i. let k = b.images sure f i in (k.0, begins_among s.name p.left.broken p.outcomes k.1.0 k.0 k.1.1 k.1.2, k.2))
 
-pub begun_cut : (leftovers : Leftovers) (w : View) (s : Site) (p : Place) → IsLawful w → MayHaveBegun w s p → (q : Place) × LeftBy (start s.name p).left p q × Matches w q
-begun_cut leftovers w s p law b =
+pub begun_cut : (leftovers : Leftovers) (w : View) (s : Site) (p : Place) → IsLawful w → MayHaveBegun w s p → p.faults ≤ w.faults → (q : Place) × LeftBy (start s.name p).left p q × Matches w q
+begun_cut leftovers w s p law b later =
     let m = begun_place leftovers w s p p.site law b in
-    (record { site = p.site; told = p.told; now = m.now; left = m.left; outcomes = begins s.name p.left.broken p.outcomes; faults = w.faults; simulated = p.simulated }, record { told = refl; outcomes = λ sure o a. inr (among_begins s.name p.left.broken p.outcomes o a) }, m.matches)
+    (record { site = p.site; told = p.told; now = m.now; left = m.left; outcomes = begins s.name p.left.broken p.outcomes; faults = w.faults; simulated = p.simulated }, record { told = refl; outcomes = λ sure o a. inr (among_begins s.name p.left.broken p.outcomes o a); faults = later; simulated = refl }, m.matches)
 
 -- what START answers from a place
 abbrev pub Answers : View → Site → Place → Site → List ℕ → List ℕ → Bool → Type 0
@@ -224,8 +224,8 @@ pub load_faulted : (leftovers : Leftovers) (v w : View) (s : Site) (k : ℕ) (be
 load_faulted leftovers v w s k before now law down moments still same count rose t p h =
     begun_fault leftovers w s p k before now law down h.site h.held.made (load_begun v w s p law h moments still same) count (rose_at v w p h.disk rose) t
 
-pub load_cut : (leftovers : Leftovers) (v w : View) (s : Site) → IsLawful w → OpensAtMoments v w → (IsSome v.content → IsSome w.content) → w.simulated ≡ v.simulated → IsCutAt (start s.name) v s w
-load_cut leftovers v w s law moments still same p h = begun_cut leftovers w s p law (load_begun v w s p law h moments still same)
+pub load_cut : (leftovers : Leftovers) (v w : View) (s : Site) → IsLawful w → OpensAtMoments v w → (IsSome v.content → IsSome w.content) → w.simulated ≡ v.simulated → v.faults ≤ w.faults → IsCutAt (start s.name) v s w
+load_cut leftovers v w s law moments still same later p h = begun_cut leftovers w s p law (load_begun v w s p law h moments still same) (omega (arith, later, h.disk.faults))
 
 -- there is no generation left
 load_limit_told : (v w : View) (s : Site) (before now : List ℕ) (p : Place) → IsLawful w → s.state ≡ Down → IsAt v s p → p.told ≡ true → IfSome v.content (λ files. (c : Contents) → IsSite files c → 65534 ≤ generation c.instance)
@@ -323,7 +323,7 @@ reign_faulted leftovers v w s o k before now m count rose t p h =
     begun_fault leftovers w s p k before now m.lawful h.down h.site h.made (reign_begun v w s o p m h) count (omega (arith, rose, h.faults)) t
 
 pub reign_cut : (leftovers : Leftovers) (v w : View) (s : Site) (o : OpenSite) → Moments v w o → IsCutOpened v o s w
-reign_cut leftovers v w s o m p h = begun_cut leftovers w s p m.lawful (reign_begun v w s o p m h)
+reign_cut leftovers v w s o m p h = begun_cut leftovers w s p m.lawful (reign_begun v w s o p m h) (omega (arith, m.later, h.faults))
 
 limit_is : (c : Contents) (none_left : Bool) → no_reign_left c ≡ none_left → reign_limit c ≡ (if none_left then Some ReignLimit else None)
 limit_is c none_left is = ap (λ (b : Bool). if b then Some ReignLimit else None) is

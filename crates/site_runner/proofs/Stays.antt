@@ -38,16 +38,16 @@ not_cut SinkFault lines count p mid after not e = e
 not_cut NoMemory lines count p mid after not e = absurd (not refl)
 
 -- what commands keep, a run keeps
-pub stays_fit : (status : Status) (input : List ℕ) (left : Option (List ℕ)) (start after : World) (old new : Option (List ℕ))
+pub stays_fit : (status : Status) (source left : Option (List ℕ)) (start after : World) (old new : Option (List ℕ))
     → ((w m : World) (told : List Told) (text : List ℕ) → AllByRecursion IsFormed (commands told) → IsFit w → Runs w told m text → IsFit m)
     → ((w m : World) (c : Command) → IsFormed c → IsFit w → CutOff w c m → AllByRecursion HasFitOutcomes m.places)
-    → RanTo status input left start after old new → StaysFit status start after
-stays_fit status input left start after old new runs cut r = record {
-  outcomes = λ fit. elim (ends_or_cut status (lines_of input) r.count r.went.position r.mid after r.ends) [
+    → RanTo status source left start after old new → StaysFit status start after
+stays_fit status source left start after old new runs cut r = record {
+  outcomes = λ fit. elim (ends_or_cut status (lines_of r.input) r.count r.went.position r.mid after r.ends) [
     | inl e ↦ subst (λ (w : World). AllByRecursion HasFitOutcomes w.places) (sym e) (fit_outcomes r.mid (mid_fit fit))
     | inr s ↦ cut r.mid after s.command s.formed (mid_fit fit) s.left
   ];
-  world = λ not fit. subst IsFit (sym (not_cut status (lines_of input) r.count r.went.position r.mid after not r.ends)) (mid_fit fit);
+  world = λ not fit. subst IsFit (sym (not_cut status (lines_of r.input) r.count r.went.position r.mid after not r.ends)) (mid_fit fit);
 }
   where
     mid_fit : IsFit start → IsFit r.mid

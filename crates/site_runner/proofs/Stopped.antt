@@ -78,7 +78,7 @@ cut_here view row old new site e x p h =
 
 -- nothing was done to the disk
 pub cut_kept : {D : Type 0} (view : D → View) (row : Place → Row) (old new : Slot D) → new.disk ≡ old.disk → IsCutHere view row old new
-cut_kept {D} view row old new e p h = (p, record { told = refl; outcomes = λ t o a. inl a }, subst (λ (d : D). Matches (view d) p) (sym e) h.disk)
+cut_kept {D} view row old new e p h = (p, record { told = refl; outcomes = λ t o a. inl a; faults = omega arith; simulated = refl }, subst (λ (d : D). Matches (view d) p) (sym e) h.disk)
 
 -- An arm of the commands that takes the site.
 

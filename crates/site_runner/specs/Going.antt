@@ -37,7 +37,7 @@ abbrev pub CarriesOut : {D : Type 0} → (D → View) → Command → List (Slot
 CarriesOut view c old new before now = (w : World) → Tied view old w
     → (answers : List Answer) × (m : World) × (t : List ℕ) × Step w c answers m t × Tied view new m × Appends before now t
 
--- a command was executed, and a front of its text was written
+-- a command was executed, and a front of its text was written that lacks something
 abbrev pub WritesShort : {D : Type 0} → (D → View) → Command → List (Slot D) → List (Slot D) → Option (List ℕ) → Option (List ℕ) → Type 0
 WritesShort view c old new before now = (w : World) → Tied view old w
     → (answers : List Answer) × (m : World) × (t : List ℕ) × Step w c answers m t × Tied view new m × AppendsFront before now t

@@ -1,5 +1,5 @@
 -- What a look at the next disk finds at its place.
-use Rattle.std.specs.Prelude.{◌≡◌, ℕ, Bool, true, not, ◌&&◌, List, ◌∷◌, ◌++◌, codes, Option, Some, None, IsTrue, Result, Ok, Err}
+use Rattle.std.specs.Prelude.{◌≡◌, ℕ, ◌≤◌, Bool, true, not, ◌&&◌, List, ◌∷◌, ◌++◌, codes, Option, Some, None, IsTrue, Result, Ok, Err}
 use Rattle.std.specs.Fmt.{decimal}
 use Rattle.disk_defs.specs.Disk.{View}
 use Rattle.journal_defs.specs.Instance.{site_name}
@@ -30,10 +30,12 @@ pub record Finds (found : Option Layout) (old new : Place) : Type 0 where
 pub record LeavesOld (old new : Place) : Type 0 where
   pub told : new.told ≡ old.told
   pub outcomes : old.told ≡ true → NoNew old.outcomes new.outcomes
+  pub faults : old.faults ≤ new.faults
+  pub simulated : new.simulated ≡ old.simulated
 
 abbrev pub Sees : Result (Option Layout) SiteError → Place → Place → Type 0
 Sees (Ok found) p q = Finds found p q
-Sees (Err (Failed fault)) p q = Fails fault None (λ c o. o ≡ c) p q
+Sees (Err (Failed fault)) p q = Fails fault None (λ c o. o ≡ c) p q × (p.faults ≤ q.faults)
 Sees (Err (Stopped fault)) p q = LeavesOld p q
 Sees (Err (Full nodes)) p q = LeavesOld p q
 Sees (Err SeqLimit) p q = LeavesOld p q

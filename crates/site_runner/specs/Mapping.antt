@@ -1,5 +1,5 @@
 -- What mapping a pattern means at the place of a site that was looked at for it.
-use Rattle.std.specs.Prelude.{◌≡◌, ◌≤◌, ◌<◌, ℕ, Bool, true, List, length, Some, None, IsTrue, IsSomeAnd}
+use Rattle.std.specs.Prelude.{◌≡◌, ◌≤◌, ◌<◌, ℕ, Bool, List, length, Some, None, IsTrue, IsSomeAnd}
 use Rattle.disk_defs.specs.Disk.{Files, View, Image}
 use Rattle.journal_defs.specs.Instance.{generation, regions}
 use Rattle.command_defs.specs.Commands.{Name}

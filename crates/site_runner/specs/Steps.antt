@@ -1,19 +1,15 @@
 -- What steps at one site are, apart from its disk.
 use Rattle.std.specs.Prelude.{◌≡◌, ℕ, Bool, ◌++◌, List, length, codes, Some}
 use Rattle.std.specs.Fmt.{decimal}
-use Rattle.std.specs.List.{enumerate_from, flat_map}
+use Rattle.std.specs.List.{flat_map}
 use Rattle.disk_defs.specs.Disk.{View}
-use Rattle.global_defs.specs.Entry.{Sequence}
-use Rattle.global_defs.specs.Key.{Key}
 use Rattle.journal_defs.specs.Surviving.{reigns}
-use Rattle.gvn_model.specs.Numbered.{numbered}
 use Rattle.repl_section.specs.Reigns.{stamp_of}
 use Rattle.world_defs.specs.World.{Place}
 use Rattle.world_defs.specs.Answers.{line}
 use Rattle.world_defs.specs.Row.{Row}
 use Rattle.world_defs.specs.Step.{LeftBy}
 use Rattle.world_defs.specs.rows.Show.{reign_text}
-use Rattle.site_defs.specs.Texts.{extract_from, zwrite}
 use Rattle.world_defs.specs.Ties.{Matches}
 use Rattle.site_runner.specs.declared.slot.State.{State}
 use Rattle.site_runner.specs.declared.slot.State.TheVariants.{Down, Primary, Failed}

@@ -1,6 +1,5 @@
 // One command.
-ghost use Rattle.std.specs.Prelude.{◌≡◌, ◌≢◌, length, IfOk, OnOk, OnErr, Some, None, true};
-ghost use Rattle.site_defs.specs.Lists.{first_where};
+ghost use Rattle.std.specs.Prelude.{◌≡◌, length, IfOk, OnOk, OnErr, Some, None, true};
 ghost use Rattle.command_defs.specs.Sections.{IsFormed, IsWhole};
 ghost use Rattle.repl_script.specs.Commands.{command_value};
 ghost use Rattle.site_runner.specs.Executes.{ExecutesHere, IsCutHere, Executes, IsCutOff};

@@ -1,5 +1,5 @@
 // TYPE.
-ghost use Rattle.std.specs.Prelude.{◌≡◌, ◌≤◌, IfOk, OnOk, OnErr};
+ghost use Rattle.std.specs.Prelude.{◌≤◌, IfOk, OnOk, OnErr};
 ghost use Rattle.world_defs.specs.rows.Print as rows;
 ghost use Rattle.site_runner.specs.Sites.{IsReadyState};
 ghost use Rattle.site_runner.specs.Steps.{ExecutesAt, IsCutAt};

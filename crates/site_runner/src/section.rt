@@ -1,5 +1,5 @@
 // RUN.
-ghost use Rattle.std.specs.Prelude.{◌≡◌, IfOk, OnOk, OnErr};
+ghost use Rattle.std.specs.Prelude.{IfOk, OnOk, OnErr};
 ghost use Rattle.command_defs.specs.Sections.{UsesUp};
 ghost use Rattle.world_defs.specs.rows.Run.{run};
 ghost use Rattle.site_runner.specs.Sites.{IsReadyState};

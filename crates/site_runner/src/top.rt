@@ -1,5 +1,5 @@
 // The top call.
-ghost use Rattle.std.specs.Prelude.{◌≡◌, ◌≢◌, ◌≤◌, ◌<◌, ◌+◌, ◌⊎◌, ◌↔◌, ◌^◌, ℕ, List, [], ◌∷◌, map, length, codes, string_bytes, IfSome, OnOk, IfErr, MatchBool, true, false};
+ghost use Rattle.std.specs.Prelude.{◌≡◌, ◌≢◌, ◌≤◌, ◌<◌, ◌+◌, ◌⊎◌, ◌↔◌, ℕ, List, [], ◌∷◌, map, length, codes, string_bytes, IfSome, OnOk, IfErr, MatchBool, true, false};
 ghost use Rattle.std.specs.Io.KnownBytes.{Consumes};
 ghost use Rattle.repl_io.specs.Fault.{Rose};
 ghost use Rattle.world_defs.specs.World.{World, IsFresh};
@@ -187,8 +187,8 @@ fn run_script<S: Source, K: Sink, D: Disk>(
     out: &mut K,
 ) -> Status
     requires { AreReady D.disk slots.old.items }
-    ensures meaning { (w : World) → Tied D.disk slots.old.items w → IfSome (S.left script.old) (λ input.
-        (after : World) × Matched D.disk slots.new.items after × RanTo result input (S.left script.new) w after (K.written out.old) (K.written out.new)) }
+    ensures meaning { (w : World) → Tied D.disk slots.old.items w
+        → (after : World) × Matched D.disk slots.new.items after × RanTo result (S.left script.old) (S.left script.new) w after (K.written out.old) (K.written out.new) }
     ensures length { length slots.new.items ≡ length slots.old.items }
     ensures script { result ≡ Status.Ok → IfSome (S.left script.old) (λ input. IsScript (lines_of input)) }
     ensures bad_line { (n c : ℕ) → result ≡ Status.BadLine n c → IfSome (S.left script.old) (λ input. IsBadAt (lines_of input) n c) }
@@ -219,8 +219,8 @@ pub fn run<S: Source, K: Sink, D: Disk>(
 ) -> Status
     ensures bad_words { (result ≡ Status.BadWords) ↔ (map string_bytes words.now ≢ codes "run" ∷ []) }
     ensures nothing { result ≡ Status.BadWords → (script.new ≡ script.old) × (out.new ≡ out.old) × (disks.new ≡ disks.old) }
-    ensures meaning { (w : World) → AreDisks D.disk disks.old.items w → IsFresh w → IfSome (S.left script.old) (λ input.
-        (after : World) × AreDisks D.disk disks.new.items after × RanTo result input (S.left script.new) w after (K.written out.old) (K.written out.new) × StaysFit result w after) }
+    ensures meaning { (w : World) → AreDisks D.disk disks.old.items w → IsFresh w
+        → (after : World) × AreDisks D.disk disks.new.items after × RanTo result (S.left script.old) (S.left script.new) w after (K.written out.old) (K.written out.new) × StaysFit result w after }
     ensures disks { length disks.new.items ≡ length disks.old.items }
     ensures script { result ≡ Status.Ok → IfSome (S.left script.old) (λ input. IsScript (lines_of input)) }
     ensures bad_line { (n c : ℕ) → result ≡ Status.BadLine n c → IfSome (S.left script.old) (λ input. IsBadAt (lines_of input) n c) }

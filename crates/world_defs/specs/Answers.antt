@@ -37,10 +37,8 @@ pub record Refusal : Type 0 where
 
 -- How a section ended.
 pub record Section : Type 0 where
-  -- the updaters in the order in which their jobs were decided
+  -- the updaters in the order in which their jobs were decided, hardened and answered
   pub picks : List ℕ
-  -- the length that its last hardening answered, or the length at its opening
-  pub hardened : ℕ
   -- the number of the fault of the primary's disk, where there was one
   pub fault : Option ℕ
 

@@ -1,5 +1,5 @@
 -- What a command with its answers does, and the text that it writes.
-use Rattle.std.specs.Prelude.{◌≡◌, ◌⊎◌, ℕ, Bool, true, false, List, [], ◌∷◌, ◌++◌, Option, Some}
+use Rattle.std.specs.Prelude.{◌≡◌, ◌⊎◌, ℕ, ◌≤◌, Bool, true, false, List, [], ◌∷◌, ◌++◌, Option, Some}
 use Rattle.command_defs.specs.Commands.{Command}
 use Rattle.site_defs.specs.Lists.{Among, Along, At}
 use Rattle.site_defs.specs.Contents.{Contents}
@@ -43,6 +43,8 @@ Step w c answers m t = Goes (meaning w c) answers w m t
 pub record LeftBy (step : Contents → Contents → Type 0) (old new : Place) : Type 0 where
   pub told : new.told ≡ old.told
   pub outcomes : IfKnown old ((o : Contents) → Among new.outcomes o → Among old.outcomes o ⊎ After step old.outcomes o)
+  pub faults : old.faults ≤ new.faults
+  pub simulated : new.simulated ≡ old.simulated
 
 -- each outcome is an old one
 abbrev pub LeavesOld : Place → Place → Type 0

@@ -9,8 +9,8 @@ ghost use Rattle.site_defs.specs.Limits.{region_number};
 ghost use Rattle.site_defs.specs.Opening.{opened, with_pattern};
 ghost use Rattle.site_defs.specs.Samples.{made, reigned_once, two_regions};
 ghost use Rattle.command_defs.specs.Commands.{Attach, Create, StartPrimary, Stop, Crash, Show, with_images};
-ghost use Rattle.world_defs.specs.World.{Primary, Failed};
-ghost use Rattle.world_defs.specs.Answers.{NoSite, NoDisk, Empty, Exists, Stopped, NotSimulated, Started, NoRegion, TwiceMapped, NoFile, GenLimit, ReignLimit, refusal_line, fault_line};
+ghost use Rattle.world_defs.specs.World.{World, Primary, Failed};
+ghost use Rattle.world_defs.specs.Answers.{NoSite, NoDisk, Empty, Exists, Stopped, NotSimulated, Started, NoRegion, TwiceMapped, NoFile, GenLimit, ReignLimit, Answer, Refused, refusal_line, fault_line};
 ghost use Rattle.world_defs.specs.Row.{first};
 ghost use Rattle.world_defs.specs.rows.Attach.{attach};
 ghost use Rattle.world_defs.specs.rows.Create.{created};
@@ -19,7 +19,7 @@ ghost use Rattle.world_defs.specs.rows.Print.{no_file, typed};
 ghost use Rattle.world_defs.specs.rows.Run.{section_text};
 ghost use Rattle.world_defs.specs.rows.Show.{show_state};
 ghost use Rattle.world_defs.specs.rows.Start.{FIRST_SERIALS, generation_limit, reign_limit, start};
-ghost use Rattle.world_defs.specs.Step.{refusal, refusal_of};
+ghost use Rattle.world_defs.specs.Step.{Step, refusal, refusal_of};
 ghost use Rattle.world_defs.specs.Samples.{failed_place, blank_place, made_place, switching};
 
 /// A world without disks refuses what needs one; one whose only disk failed refuses what needs it until a crash.
@@ -69,9 +69,13 @@ pub fn typing_holds()
 pub fn output_holds()
     ensures told { refusal_line (record { site = codes "A"; cause = Stopped 1 }) ≡ codes "A STOPPED 1\n" }
     ensures fault { fault_line (start (codes "A") made_place).word 7 ≡ codes "A DISKFAULT 7\n" }
+    // a whole command: STOP of a site that failed is refused with its line, and changes nothing
+    ensures refused { Step (record { places = failed_place true ∷ [] }) (Stop (codes "A")) (Refused (record { site = codes "A"; cause = Stopped 3 }) ∷ []) (record { places = failed_place true ∷ [] }) (codes "A STOPPED 3\n") }
+    // and it writes no other one
+    ensures only { (answers : List Answer) (m : World) (text : List ℕ) → Step (record { places = failed_place true ∷ [] }) (Stop (codes "A")) answers m text → text ≡ codes "A STOPPED 3\n" }
     ensures attach { refusal_line (record { site = codes "ATTACH"; cause = Empty }) ≡ codes "ATTACH EMPTY\n" }
     ensures attached { (attach (record { places = blank_place ∷ [] }) blank_place).says (failed_place true) ≡ codes "A ATTACHED\n" }
-    ensures section { section_text (codes "A") 2 (turn_of (record { root = codes "A"; cycle = 1 }) FIRST_SERIALS [] [] []) 0 (Some 1) ≡ codes "A DISKFAULT 1 UNDECIDED 2\n" }
+    ensures section { section_text (codes "A") 2 (turn_of (record { root = codes "A"; cycle = 1 }) FIRST_SERIALS [] [] []) (Some 1) ≡ codes "A DISKFAULT 1 UNDECIDED 2\n" }
     ensures failed { show_state (codes "A") (Failed 3) nothing ≡ codes "A STATE FAILED 3\n" }
     ensures primary { show_state (codes "A") (Primary (record { root = codes "A"; cycle = 1 }) FIRST_SERIALS) reigned_once ≡ codes "A STATE PRIMARY 1 LENGTH 0\nA REIGN A 1 FROM 1\n" }
 {}

@@ -11,3 +11,4 @@ pub mod RowsFit
 pub mod WorldsFit
 pub mod FreshFit
 pub mod StandsForOne
+pub mod Settles

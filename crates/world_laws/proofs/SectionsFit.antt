@@ -1,5 +1,5 @@
 -- What RUN keeps at its place.
-use Rattle.std.proofs.Common.{◌≡◌, ℕ, ◌≤◌, true, List, length, take, Option, Some, None, IsTrue, refl, sym, ◌∙◌, ap, subst}
+use Rattle.std.proofs.Common.{◌≡◌, ℕ, ◌+◌, ◌≤◌, true, List, length, take, Option, Some, None, IsTrue, refl, sym, ◌∙◌, ap, subst}
 use Rattle.std.specs.List.{list_all}
 use Rattle.global_defs.specs.Entry.{Stamp, Sequence}
 use Rattle.global_defs.specs.Jobs.{Job}
@@ -14,7 +14,7 @@ use Rattle.site_defs.specs.Contents.{Contents}
 use Rattle.world_defs.specs.Answers.{Section}
 use Rattle.world_defs.specs.Changes.{in_new_state}
 use Rattle.site_defs.specs.Fronts.{IsFrontOf, with_sequence, turn_of}
-use Rattle.world_defs.specs.rows.Run.{Runs, RunsTo, IsPicked, RunMayLeave, RunMayLeaveOn}
+use Rattle.world_defs.specs.rows.Run.{Runs, RunsTo, IsPicked, one_further, RunMayLeave, RunMayLeaveOn}
 use Rattle.world_defs.specs.Fit.{IsFitContents, IsFitReign, IsFitSite, IsNamedSo, IsFitPlace}
 use Rattle.world_laws.proofs.Lists.{all-front}
 use Rattle.world_laws.proofs.Instances.{few_at}
@@ -51,25 +51,25 @@ fit-same_reign name c stamp old next seq r g = record { root = r.root; cycle = r
 front-named : (o : Option Site) (all : Sequence) (low : ℕ) (c d : Contents) → IsNamedSo o c → IsFrontOf all low c d → IsNamedSo o d
 front-named o all low c d named f = named-same o c d (ap (λ (x : Contents). site_name x.instance) f.is) named
 
-fit-ran : (stamp : Stamp) (name : Name) (next : List ℕ) (t : Turn) (hardened : ℕ) (fault : Option ℕ) (old new : Place) → old.site ≡ Some (record { name = name; state = Primary stamp next }) → IsFitPlace old
-    → (IsTrue old.told → IsFitReign name stamp next old.now × Goes old.now stamp t.serials t.sequence) → RunsTo stamp t hardened fault old new → IsFitPlace new
-fit-ran stamp name next t hardened None old new is h fit r =
+fit-ran : (stamp : Stamp) (name : Name) (next : List ℕ) (t further : Turn) (fault : Option ℕ) (old new : Place) → old.site ≡ Some (record { name = name; state = Primary stamp next }) → IsFitPlace old
+    → (IsTrue old.told → IsFitReign name stamp next old.now × Goes old.now stamp t.serials t.sequence × Goes old.now stamp further.serials further.sequence) → RunsTo stamp t further fault old new → IsFitPlace new
+fit-ran stamp name next t further None old new is h fit r =
     fit-becomes (Primary stamp t.serials) (with_sequence old.now t.sequence) old new
     (λ told. let f = fit told in (
       fit-whole old.now stamp t.serials t.sequence f.0.room f.1,
       named-same old.site old.now (with_sequence old.now t.sequence) refl (h.named_now told),
       subst (λ (o : Option Site). IsFitSite (in_new_state (Primary stamp t.serials) o) (with_sequence old.now t.sequence)) (sym is) (fit-same_reign name old.now stamp next t.serials t.sequence f.0 f.1),
     )) r.becomes
-fit-ran stamp name next t hardened (Some k) old new is h fit r =
-    fit-site_fails k (λ c o. IsFrontOf t.sequence hardened old.now o) old new
+fit-ran stamp name next t further (Some k) old new is h fit r =
+    fit-site_fails k (λ c o. IsFrontOf further.sequence (length t.sequence) old.now o) old new
     (λ told c o among front. let f = fit told in (
-      fit-front old.now stamp t.serials t.sequence hardened o f.0.room f.1 front,
-      front-named old.site t.sequence hardened old.now o (h.named_now told) front,
-    )) r.fails
+      fit-front old.now stamp further.serials further.sequence (length t.sequence) o f.0.room f.2 front,
+      front-named old.site further.sequence (length t.sequence) old.now o (h.named_now told) front,
+    )) r
 
 updaters-picked : (fault : Option ℕ) (order picks : List ℕ) → list_all is_updater order ≡ true → IsPicked fault order picks → list_all is_updater picks ≡ true
 updaters-picked None order picks h p = ap (list_all is_updater) p ∙ h
-updaters-picked (Some k) order picks h p = ap (list_all is_updater) p.1 ∙ updaters-front p.0 order h
+updaters-picked (Some k) order picks h p = ap (list_all is_updater) p.1 ∙ updaters-front (length picks) order h
 
 -- the reign of a primary
 reign-at : (name : Name) (stamp : Stamp) (next : List ℕ) (p : Place) → p.site ≡ Some (record { name = name; state = Primary stamp next }) → IsFitPlace p → IsTrue p.told → IsFitReign name stamp next p.now
@@ -78,9 +78,12 @@ reign-at name stamp next p is h t = subst (λ (o : Option Site). IsFitSite o p.n
 pub fit-runs : (name : Name) (jobs : List (List Job)) (order : List ℕ) (s : Section) (old new : Place) → list_all is_updater order ≡ true → IsFitPlace old
     → Runs name jobs order s old new → IsFitPlace new
 fit-runs name jobs order s old new updaters h r =
-    fit-ran r.stamp name r.serials (turn_of r.stamp r.serials jobs s.picks old.now.sequence) s.hardened s.fault old new r.state h
-    (λ t. let reign = reign-at name r.stamp r.serials old r.state h t in
-    (reign, goes name old.now r.stamp r.serials jobs s.picks (updaters-picked s.fault order s.picks updaters r.picks) (h.now t) reign))
+    fit-ran r.stamp name r.serials (turn_of r.stamp r.serials jobs s.picks old.now.sequence) (turn_of r.stamp r.serials jobs (one_further order s.picks) old.now.sequence) s.fault old new r.state h
+    (λ t. let reign = reign-at name r.stamp r.serials old r.state h t in (
+      reign,
+      goes name old.now r.stamp r.serials jobs s.picks (updaters-picked s.fault order s.picks updaters r.picks) (h.now t) reign,
+      goes name old.now r.stamp r.serials jobs (one_further order s.picks) (updaters-front (length s.picks + 1) order updaters) (h.now t) reign,
+    ))
     r.ran
 
 -- a section that was cut off

@@ -7,3 +7,4 @@
 pub mod beginnings;
 pub mod fitness;
 pub mod leftovers;
+pub mod settling;

@@ -1,5 +1,5 @@
 -- RUN: a section of jobs at a primary.
-use Rattle.std.specs.Prelude.{◌≡◌, ℕ, ◌+◌, ◌-◌, ◌≤◌, List, [], ◌++◌, length, take, codes, Option, Some, None}
+use Rattle.std.specs.Prelude.{◌≡◌, ℕ, ◌+◌, ◌-◌, ◌<◌, List, [], ◌++◌, length, take, codes, Option, Some, None}
 use Rattle.std.specs.Fmt.{decimal}
 use Rattle.std.specs.List.{AllByRecursion, flat_map}
 use Rattle.global_defs.specs.Entry.{Stamp}
@@ -8,7 +8,7 @@ use Rattle.global_defs.specs.Serial.{Turn, begun}
 use Rattle.command_defs.specs.Commands.{Name}
 use Rattle.site_defs.specs.Contents.{Contents}
 use Rattle.site_defs.specs.Fronts.{IsFrontOf, turn_of, with_sequence}
-use Rattle.site_defs.specs.Texts.{printed, reply_line}
+use Rattle.site_defs.specs.Texts.{reply_line}
 use Rattle.world_defs.specs.World.{State, Down, Primary, Failed, Site, Place}
 use Rattle.world_defs.specs.Answers.{Section, line}
 use Rattle.world_defs.specs.Changes.{in_new_state, Becomes, Fails}
@@ -19,27 +19,27 @@ pub record RunsWhole (stamp : Stamp) (t : Turn) (old new : Place) : Type 0 where
   pub all_decided : AllByRecursion (λ (jobs : List Job). jobs ≡ []) t.left
   pub becomes : Becomes (Primary stamp t.serials) (with_sequence old.now t.sequence) old new
 
--- With a fault each outcome is a front of what was appended that has all that was hardened. Each decision is hardened at once.
-pub record RunFails (t : Turn) (hardened k : ℕ) (old new : Place) : Type 0 where
-  pub begun : length old.now.sequence ≤ hardened
-  pub at_once : length t.sequence ≤ hardened + 1
-  pub fails : Fails k (in_new_state (Failed k) old.site) (λ c o. IsFrontOf t.sequence hardened old.now o) old new
+-- With a fault each outcome is a front of what one pick more would have appended that has all that the picks before it appended, which is hardened: the
+-- entry of the job that failed may stand or not.
+abbrev pub RunsTo : Stamp → (t further : Turn) → Option ℕ → Place → Place → Type 0
+RunsTo stamp t further None old new = RunsWhole stamp t old new
+RunsTo stamp t further (Some k) old new = Fails k (in_new_state (Failed k) old.site) (λ c o. IsFrontOf further.sequence (length t.sequence) old.now o) old new
 
-abbrev pub RunsTo : Stamp → Turn → ℕ → Option ℕ → Place → Place → Type 0
-RunsTo stamp t hardened None old new = RunsWhole stamp t old new
-RunsTo stamp t hardened (Some k) old new = RunFails t hardened k old new
-
--- Without a fault all jobs are picked, in the order of their lines; a fault ends the picks.
+-- Without a fault all jobs are picked, in the order of their lines. With one the picks are those before the pick that failed.
 abbrev pub IsPicked : Option ℕ → List ℕ → List ℕ → Type 0
 IsPicked None order picks = picks ≡ order
-IsPicked (Some k) order picks = (n : ℕ) × (picks ≡ take n order)
+IsPicked (Some k) order picks = (length picks < length order) × (picks ≡ take (length picks) order)
+
+-- the picks, and one more
+abbrev pub one_further : List ℕ → List ℕ → List ℕ
+one_further order picks = take (length picks + 1) order
 
 pub record Runs (name : Name) (jobs : List (List Job)) (order : List ℕ) (s : Section) (old new : Place) : Type 0 where
   pub stamp : Stamp
   pub serials : List ℕ
   pub state : old.site ≡ Some (record { name = name; state = Primary stamp serials })
   pub picks : IsPicked s.fault order s.picks
-  pub ran : RunsTo stamp (turn_of stamp serials jobs s.picks old.now.sequence) s.hardened s.fault old new
+  pub ran : RunsTo stamp (turn_of stamp serials jobs s.picks old.now.sequence) (turn_of stamp serials jobs (one_further order s.picks) old.now.sequence) s.fault old new
 
 abbrev pub turn_in : State → List (List Job) → (picks : List ℕ) → Place → Turn
 turn_in Down jobs picks p = begun [] jobs p.now.sequence
@@ -54,10 +54,10 @@ turn_on (Some site) jobs picks p = turn_in site.state jobs picks p
 abbrev pub undecided_line : Name → (fault undecided : ℕ) → List ℕ
 undecided_line name k undecided = line name (codes "DISKFAULT " ++ decimal k ++ codes " UNDECIDED " ++ decimal undecided)
 
--- A line a pick in the order of picks, and the primary's line. After a fault the replies are those of what is hardened, and all other jobs are undecided.
-abbrev pub section_text : Name → (jobs : ℕ) → Turn → (hardened : ℕ) → (fault : Option ℕ) → List ℕ
-section_text name jobs t hardened None = flat_map reply_line t.replies ++ line name (codes "AT " ++ decimal (length t.sequence))
-section_text name jobs t hardened (Some k) = flat_map reply_line (printed hardened t.replies) ++ undecided_line name k (jobs - length (printed hardened t.replies))
+-- A line a pick in the order of picks, and the primary's line. After a fault each pick before it has its line, and all other jobs are undecided.
+abbrev pub section_text : Name → (jobs : ℕ) → Turn → (fault : Option ℕ) → List ℕ
+section_text name jobs t None = flat_map reply_line t.replies ++ line name (codes "AT " ++ decimal (length t.sequence))
+section_text name jobs t (Some k) = flat_map reply_line t.replies ++ undecided_line name k (jobs - length t.replies)
 
 -- what a fault in a section of a site in that state might have left, once some of its jobs were decided
 abbrev pub RunMayLeave : State → List (List Job) → List ℕ → Place → Contents → Type 0
@@ -73,6 +73,6 @@ abbrev pub run : List (List Job) → (order : List ℕ) → Name → Place → R
 run jobs order name p = record (quiet name p) {
   early = refused_with name (in_state why_not_primary p.site);
   ran = λ s q. Runs name jobs order s p q;
-  tells = λ s. section_text name (length order) (turn_on p.site jobs s.picks p) s.hardened s.fault;
+  tells = λ s. section_text name (length order) (turn_on p.site jobs s.picks p) s.fault;
   left = λ c o. RunMayLeaveOn p.site jobs order p o;
 }

@@ -1,4 +1,4 @@
-use Rattle.std.proofs.Common.{◌++◌, drop, sym, ◌∙◌, ap, List, ℕ}
+use Rattle.std.proofs.Common.{◌++◌, drop, ◌∙◌, ap, List, ℕ}
 use Rattle.world_defs.specs.Row.{refused_with, why_not_open}
 use Rattle.world_defs.specs.rows.Extract as rows
 use Rattle.site_runner.specs.Sites.{state_value}

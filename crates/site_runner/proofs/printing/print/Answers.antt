@@ -27,7 +27,7 @@ returns-then-is_empty-clause-done g c =
     c.requires.some c.requires.most c.new-bytes.ensures e.text (empty_is c.read_file.new.out (sym c.is_empty.ensures ∙ c.if-is_empty.true)) (named _ _ c.as_slice-then-is_empty.ensures t))
 
 pub returns-then-is_empty-clause-cut_off : goal.returns-then-is_empty-clause-cut_off
-returns-then-is_empty-clause-cut_off g c = err_holds c.refuse-then-is_empty.result _ (print_cut c.args.generation (g.D.Disk.disk c.args.disk.now) (g.D.Disk.disk c.read_file.new.disk) c.args.site.now c.in-Ok.ensures.reads)
+returns-then-is_empty-clause-cut_off g c = err_holds c.refuse-then-is_empty.result _ (print_cut c.args.generation (g.D.Disk.disk c.args.disk.now) (g.D.Disk.disk c.read_file.new.disk) c.args.site.now c.in-Ok.ensures.reads c.in-Ok.ensures.later)
 
 pub returns-in-Ok-clause-done : goal.returns-in-Ok-clause-done
 returns-in-Ok-clause-done g c =
@@ -36,7 +36,7 @@ returns-in-Ok-clause-done g c =
     c.requires.some c.requires.most c.new-bytes.ensures e.text (full_is c.read_file.new.out (sym c.is_empty.ensures ∙ c.if-is_empty.false)) (c.in_ok-push_all-in-Ok.ensures.ok ∙ ap (λ (x : List ℕ). c.args.text.now ++ x) c.as_slice-in-Ok.ensures)
 
 pub returns-in_err-push_all-in-Ok-clause-cut_off : goal.returns-in_err-push_all-in-Ok-clause-cut_off
-returns-in_err-push_all-in-Ok-clause-cut_off g c = err_holds c.from_residual.result _ (print_cut c.args.generation (g.D.Disk.disk c.args.disk.now) (g.D.Disk.disk c.read_file.new.disk) c.args.site.now c.in-Ok.ensures.reads)
+returns-in_err-push_all-in-Ok-clause-cut_off g c = err_holds c.from_residual.result _ (print_cut c.args.generation (g.D.Disk.disk c.args.disk.now) (g.D.Disk.disk c.read_file.new.disk) c.args.site.now c.in-Ok.ensures.reads c.in-Ok.ensures.later)
 
 pub returns-in-Err-Failed-clause-done : goal.returns-in-Err-Failed-clause-done
 returns-in-Err-Failed-clause-done g c =
@@ -50,10 +50,10 @@ returns-in-Err-Failed-clause-done g c =
 
 pub returns-in-Err-Failed-clause-cut_off : goal.returns-in-Err-Failed-clause-cut_off
 returns-in-Err-Failed-clause-cut_off g c =
-    err_holds c.fail.result _ (print_cut c.args.generation (g.D.Disk.disk c.args.disk.now) (g.D.Disk.disk c.read_file.new.disk) c.args.site.now c.in-Err-Failed.ensures.reads)
+    err_holds c.fail.result _ (print_cut c.args.generation (g.D.Disk.disk c.args.disk.now) (g.D.Disk.disk c.read_file.new.disk) c.args.site.now c.in-Err-Failed.ensures.reads c.in-Err-Failed.ensures.later)
 
 pub returns : goal.returns
-returns g c = record { ready = tt; done = tt; cut_off = print_cut c.args.generation (g.D.Disk.disk c.args.disk.now) (g.D.Disk.disk c.read_file.new.disk) c.args.site.now c.in-Err.ensures.reads }
+returns g c = record { ready = tt; done = tt; cut_off = print_cut c.args.generation (g.D.Disk.disk c.args.disk.now) (g.D.Disk.disk c.read_file.new.disk) c.args.site.now c.in-Err.ensures.reads c.in-Err.ensures.later }
 
 pub returns-then-is_empty-clause-ready : goal.returns-then-is_empty-clause-ready
 returns-then-is_empty-clause-ready g c =

@@ -5,7 +5,7 @@ use Rattle.world_defs.specs.Answers.{line}
 use Rattle.world_defs.specs.rows.Run.{undecided_line}
 use Rattle.site_defs.specs.Contents.{Contents}
 use Rattle.repl_section.specs.Reigns.{Reigns, stamp_of}
-use Rattle.repl_section.specs.Deciding.{Breaks, IsFault}
+use Rattle.repl_section.specs.Deciding.{Breaks, WithholdsNone, IsFault}
 use Rattle.repl_section.specs.declared.running.RunError.{RunError}
 use Rattle.world_defs.specs.Row.{why_not_primary}
 use Rattle.world_defs.specs.rows.Run.{run}
@@ -39,7 +39,7 @@ returns-in_err-write_undecided-in-Err-Failed-clause-cut_off g c =
     let jobs = c.args.jobs in
     let order = c.args.order.now in
     let breaks = subst (λ (x : RunError). (told : Bool) (d : Contents) → Reigns v told d r → Breaks x w (stamp_of r) told d jobs order r.serials c.args.text.now c.run.new.text) c.in-Err-Failed.field-0-is e.breaks in
-    err_holds c.from_residual-in_err-write_undecided-in-Err-Failed.result _ (run_cut c.leftovers_hold.ensures v w c.args.site.now r jobs order (g.met.D.Disk.lawful c.args.disk.now) (g.met.D.Disk.lawful c.run.new.disk) c.in-Primary.is e.simulated
+    err_holds c.from_residual-in_err-write_undecided-in-Err-Failed.result _ (run_cut c.leftovers_hold.ensures v w c.args.site.now r jobs order (g.met.D.Disk.lawful c.args.disk.now) (g.met.D.Disk.lawful c.run.new.disk) c.in-Primary.is e.simulated e.later
     (λ told d reigns. let b = breaks told d reigns in (b.0, b.1.hardened, b.1.begun, b.1.front)))
 
 pub returns-in_ok-write_numbered-in-Ok-clause-done : goal.returns-in_ok-write_numbered-in-Ok-clause-done
@@ -57,7 +57,7 @@ returns-in_err-write_numbered-in-Ok-clause-cut_off g c =
     let w = g.D.Disk.disk c.run.new.disk in
     let e = c.in-Ok.ensures in
     let law = g.met.D.Disk.lawful c.run.new.disk in
-    err_holds c.from_residual.result _ (run_cut c.leftovers_hold.ensures v w c.args.site.now c.in-Primary.reign c.args.jobs c.args.order.now (g.met.D.Disk.lawful c.args.disk.now) law c.in-Primary.is e.simulated
+    err_holds c.from_residual.result _ (run_cut c.leftovers_hold.ensures v w c.args.site.now c.in-Primary.reign c.args.jobs c.args.order.now (g.met.D.Disk.lawful c.args.disk.now) law c.in-Primary.is e.simulated e.later
     (λ told d reigns. decided_front w told d c.args.jobs c.args.order.now c.in-Primary.reign c.run.new.self c.args.text.now c.run.new.text (e.done told d reigns)))
 
 pub returns-in_ok-write_undecided-in-Err-Failed-clause-done : goal.returns-in_ok-write_undecided-in-Err-Failed-clause-done
@@ -68,9 +68,9 @@ returns-in_ok-write_undecided-in-Err-Failed-clause-done g c =
     let r = c.in-Primary.reign in
     let jobs = c.args.jobs in
     let order = c.args.order.now in
-    let breaks = subst (λ (x : RunError). (told : Bool) (d : Contents) → Reigns v told d r → Breaks x w (stamp_of r) told d jobs order r.serials c.args.text.now c.run.new.text) c.in-Err-Failed.field-0-is e.breaks in
+    let fails = subst (λ (x : RunError). (told : Bool) (d : Contents) → Reigns v told d r → WithholdsNone x w (stamp_of r) told d jobs order r.serials c.args.text.now c.run.new.text) c.in-Err-Failed.field-0-is e.withholds_none in
     ran_to_fault c.leftovers_hold.ensures v w c.args.site.now r jobs order c.faults-fault.result c.in-Err-Failed.undecided c.args.text.now c.run.new.text _ (g.met.D.Disk.lawful c.args.disk.now) (g.met.D.Disk.lawful c.run.new.disk) c.in-Primary.is e.simulated c.faults-fault.ensures
-    (e.cause (subst IsFault (sym c.in-Err-Failed.field-0-is) tt)) breaks
+    (e.cause (subst IsFault (sym c.in-Err-Failed.field-0-is) tt)) fails
     (c.in_ok-write_undecided-in-Err-Failed.ensures ∙ ap (λ (u : ℕ). c.run.new.text ++ undecided_line c.as_slice-in-Err-Failed.result.now c.faults-fault.result u) c.in-Err-Failed.undecided-is
     ∙ ap (λ (x : List ℕ). c.run.new.text ++ undecided_line x c.faults-fault.result c.in-Err-Failed.undecided) c.as_slice-in-Err-Failed.ensures)
 
@@ -83,4 +83,4 @@ returns-in-Err-NoMemory-clause-cut_off g c =
     let jobs = c.args.jobs in
     let order = c.args.order.now in
     let breaks = subst (λ (x : RunError). (told : Bool) (d : Contents) → Reigns v told d r → Breaks x w (stamp_of r) told d jobs order r.serials c.args.text.now c.run.new.text) c.in-Err-NoMemory.field-0-is e.breaks in
-    run_cut_any c.leftovers_hold.ensures v w c.args.site.now r jobs order (g.met.D.Disk.lawful c.args.disk.now) (g.met.D.Disk.lawful c.run.new.disk) c.in-Primary.is e.simulated breaks
+    run_cut_any c.leftovers_hold.ensures v w c.args.site.now r jobs order (g.met.D.Disk.lawful c.args.disk.now) (g.met.D.Disk.lawful c.run.new.disk) c.in-Primary.is e.simulated e.later breaks

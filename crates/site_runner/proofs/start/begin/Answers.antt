@@ -1,6 +1,5 @@
 use Rattle.std.proofs.Common.{Bool, false, ◌≡◌, ◌++◌, ◌+◌, ℕ, List, length, refl, ◌∙◌, ap, subst, sym, Err}
 use Rattle.std.specs.Prelude.{codes}
-use Rattle.std.specs.Fmt.{decimal}
 use Rattle.world_defs.specs.Answers.{line}
 use Rattle.site_runner.specs.Starting.{BeginsAt}
 use Rattle.site_runner.specs.declared.slot.Site.{Site}

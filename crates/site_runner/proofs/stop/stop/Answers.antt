@@ -4,7 +4,6 @@ use Rattle.std.specs.Fmt.{decimal}
 use Rattle.world_defs.specs.Answers.{line}
 use Rattle.world_defs.specs.Row.{refused_with, why_not_open}
 use Rattle.world_defs.specs.rows.Stop.{stop}
-use Rattle.site_runner.specs.Causes.{cause_value}
 use Rattle.site_runner.specs.Sites.{state_value}
 use Rattle.site_runner.proofs.Ats.{kept_same, state_at, refuses_by, why_is}
 use Rattle.site_runner.proofs.Stopped.{stops}

@@ -1,9 +1,5 @@
 use Rattle.std.proofs.Common.{List, sym, subst}
-use Rattle.world_defs.specs.World.{World}
 use Rattle.world_defs.specs.Ties.{AreDisks}
-use Rattle.site_runner.specs.Tied.{Matched}
-use Rattle.site_runner.specs.Ends.{RanTo}
-use Rattle.site_runner.proofs.Inputs.{if_some}
 use Rattle.site_runner.proofs.Complete.{complete, not_run, not_begun}
 use Rattle.site_runner.proofs.Stays.{stays_fit}
 use Rattle.site_runner.proofs.Moved.{tied_fresh, are_disks, free_ready}
@@ -21,12 +17,12 @@ returns-in-Ok-clause-meaning g c w h f =
     let view = g.D.Disk.disk in
     let slots = c.run_script-status.new.slots.items in
     let status = c.run_script-status.result in
+    let source = g.S.Source.left c.args.script.now in
     let left = g.S.Source.left c.run_script-status.new.script in
     let old = g.K.Sink.written c.args.out.now in
     let new = g.K.Sink.written c.run_script-status.new.out in
-    if_some (g.S.Source.left c.args.script.now) (λ input. (after : World) × Matched view slots after × RanTo status input left w after old new) _
-    (λ input (after, m, r). (after, are_disks view slots c.give_back.new.disks.items after c.give_back.ensures m, r, stays_fit status input left w after old new c.steps_keep_fit.ensures.runs c.steps_keep_fit.ensures.cut_off r))
-    (c.run_script-status.ensures.meaning w (tied_fresh view c.args.disks.now.items c.in-Ok.slots.items w c.in-Ok.ensures.taken h f))
+    let x = c.run_script-status.ensures.meaning w (tied_fresh view c.args.disks.now.items c.in-Ok.slots.items w c.in-Ok.ensures.taken h f) in
+    (x.0, are_disks view slots c.give_back.new.disks.items x.0 c.give_back.ensures x.1, x.2, stays_fit status source left w x.0 old new c.steps_keep_fit.ensures.runs c.steps_keep_fit.ensures.cut_off x.2)
 
 pub returns-in-Ok-clause-complete : goal.returns-in-Ok-clause-complete
 returns-in-Ok-clause-complete g c input due w e d f k =

@@ -2,7 +2,7 @@ use Rattle.std.proofs.Common.{◌+◌, ◌<◌, [], ◌∷◌, length, refl, ◌
 use Rattle.repl_script.specs.Feeds.{Progress}
 use Rattle.std.proofs.KnownBytes.{Consumes-nil}
 use Rattle.site_runner.proofs.Told.{consumes_then}
-use Rattle.site_runner.proofs.Looping.{next_line, source_failed, no_memory, bad_there, too_long_there, too_long, finished, finished_bad, finished_well, finished_not_long, finished_plain, halted, halted_bad, halted_not_ok, halted_not_long, parts, long_bad, Spends, bounded, spends_more, room_less, byte_left, meant_behind_all, loop_started_at, ends_clean, ends_within, next_fed, next_last}
+use Rattle.site_runner.proofs.Looping.{next_line, source_failed, no_memory, bad_there, too_long_there, too_long, finished, finished_bad, finished_well, finished_not_long, finished_plain, halted, halted_bad, halted_not_ok, halted_not_long, parts, long_bad, bounded, spends_more, room_less, byte_left, meant_behind_all, loop_started_at, ends_clean, ends_within, next_fed, next_last}
 use Rattle.site_runner.proofs.top.run_lines.Goals as goal
 
 pub returns-in-Err-Failed-clause-meaning : goal.returns-in-Err-Failed-clause-meaning
@@ -75,7 +75,7 @@ returns-in-Err-clause-meaning g c =
     let s = rw c.in-Ok-Input.field-0-is at c.in-Ok-Input.ensures.end in
     let r = c.loop-lines.invariant.run in
     let line = c.read_line.new.line.items in
-    halted g.D.Disk.disk _ _ _ _ c.loop-lines.reader.position c.loop-lines.reader.lines _ _ _ _ _ _ line _ (rw c.deref.ensures.value at c.in-Err.ensures.halts) r (next_last g.D.Disk.disk _ _ _ _ _ _ _ _ _ line r c.in-Ok-Input.ensures.piece s.2 s.0 s.1)
+    halted g.D.Disk.disk _ _ _ _ c.loop-lines.reader.position c.loop-lines.reader.lines _ _ _ _ _ _ line _ (rw c.deref.ensures.value at c.in-Err.ensures.halts) r c.in-Ok-Input.ensures.piece (next_last g.D.Disk.disk _ _ _ _ _ _ _ _ _ line r c.in-Ok-Input.ensures.piece s.2 s.0 s.1)
 
 pub returns-in-Err-clause-bad_line : goal.returns-in-Err-clause-bad_line
 returns-in-Err-clause-bad_line g c n k h =
@@ -98,7 +98,7 @@ returns-in-Err-take_line-clause-meaning g c =
     let s = rw c.in-Ok-Feed.field-0-is at c.in-Ok-Feed.ensures.end in
     let r = c.loop-lines.invariant.run in
     let line = c.read_line.new.line.items in
-    halted g.D.Disk.disk _ _ _ _ c.loop-lines.reader.position c.loop-lines.reader.lines _ _ _ _ _ _ line _ (rw c.deref-in-Ok-Feed.ensures.value at c.in-Err-take_line.ensures.halts) r (next_fed g.D.Disk.disk _ _ _ _ _ _ _ _ _ line r c.in-Ok-Feed.ensures.piece s.0)
+    halted g.D.Disk.disk _ _ _ _ c.loop-lines.reader.position c.loop-lines.reader.lines _ _ _ _ _ _ line _ (rw c.deref-in-Ok-Feed.ensures.value at c.in-Err-take_line.ensures.halts) r c.in-Ok-Feed.ensures.piece (next_fed g.D.Disk.disk _ _ _ _ _ _ _ _ _ line r c.in-Ok-Feed.ensures.piece s.0)
 
 pub returns-in-Err-take_line-clause-bad_line : goal.returns-in-Err-take_line-clause-bad_line
 returns-in-Err-take_line-clause-bad_line g c n k h =

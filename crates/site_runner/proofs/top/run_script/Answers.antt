@@ -1,8 +1,7 @@
-use Rattle.std.proofs.Common.{◌≡◌, ℕ, List, [], Option, sym, ◌∙◌, ap, subst}
+use Rattle.std.proofs.Common.{◌≡◌, ℕ, List, [], Option, ◌∙◌, ap, subst}
 use Rattle.std.specs.Prelude.{IfSome}
 use Rattle.std.specs.Io.KnownBytes.{prepend_known}
 use Rattle.std.proofs.KnownBytes.{prepend_known-nil}
-use Rattle.line_reader.specs.Lines.{left_behind}
 use Rattle.command_defs.specs.Lines.{lines_of}
 use Rattle.command_defs.specs.Script.{IsScript, IsBadAt}
 use Rattle.site_runner.specs.Ends.{IsTooLong}

@@ -1,0 +1,19 @@
+-- Open sites.
+use Rattle.std.specs.Prelude.{◌≡◌, Option, Some, None}
+use Rattle.site_defs.specs.Contents.{NO_LEFTOVER}
+use Rattle.world_defs.specs.World.{State, Down, Primary, Failed, Site, Place, IfKnown, Settled}
+
+abbrev pub IsOpenState : State → Type 0
+IsOpenState Down = ⊥
+IsOpenState (Primary stamp serials) = Unit {0}
+IsOpenState (Failed k) = ⊥
+
+-- a site stands there and is open
+abbrev pub IsOpenSite : Option Site → Type 0
+IsOpenSite None = ⊥
+IsOpenSite (Some site) = IsOpenState site.state
+
+-- Where a site is open and its files are known, there is no outcome but what is read, and nothing lies behind that.
+pub record IsSettledPlace (p : Place) : Type 0 where
+  pub outcomes : IfKnown p (IsOpenSite p.site → Settled p)
+  pub left : IfKnown p (IsOpenSite p.site → p.left ≡ NO_LEFTOVER)
