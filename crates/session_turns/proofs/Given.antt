@@ -1,10 +1,10 @@
 -- What a primary has sent and made, over the steps of its Source Server.
-use Rattle.std.proofs.Common.{◌≡◌, inl, inr, ℕ, ◌+◌, ◌-◌, ◌==◌, Bool, true, false, IsTrue, refl, List, [], ◌∷◌, ◌++◌, sym, ap, subst, ◌∙◌, arith}
+use Rattle.std.proofs.Common.{◌≡◌, ◌⊎◌, inl, inr, ℕ, ◌+◌, ◌-◌, ◌==◌, ◌<◌, ◌≤◌, Bool, true, false, IsTrue, refl, List, [], ◌∷◌, ◌++◌, length, sym, ap, subst, ◌∙◌, arith}
 use Rattle.std.proofs.lemmas.Bool.Decides.{nat_tests}
 use Rattle.wire_defs.specs.Frames.{Bye, spelled_frame}
-use Rattle.source_server.specs.Sources.{Shipping, HasSent, HasTaken, Goes, HasShipped}
+use Rattle.source_server.specs.Sources.{Shipping, HasSent, HasTaken, Goes, HasShipped, CanShip}
 use Rattle.source_server.proofs.Made.{stays, takes, ends, from_push, from_all}
-use Rattle.session_turns.specs.Sessions.{HasMade, HasGiven}
+use Rattle.session_turns.specs.Sessions.{HasMade, HasGiven, CanGive}
 
 module _ (from size : ℕ) where
   pub given_kept : (Is All : ℕ → List ℕ → Type 0) (s : Shipping) (sent : List ℕ) → ((k : ℕ) (entry : List ℕ) → Is k entry → All k entry) → HasGiven Is from size s sent → HasGiven All from size s sent
@@ -54,3 +54,47 @@ module _ (from size : ℕ) where
       let next : a.next ≡ size + 1 = grind (arith, nat_tests, test) in
       made_ended a b sent given going next (some refl) g
   made_closed a b sent given false going test some none g = subst (λ (s : Shipping). HasMade from size s sent given) (sym (none refl)) g
+
+some_or_none : (xs : List ℕ) → (xs ≡ []) ⊎ (0 < length xs)
+some_or_none [] = inl refl
+some_or_none (x ∷ xs) = inr (omega arith)
+
+past_or_within : (n size : ℕ) → n ≤ size + 1 → (n ≡ size + 1) ⊎ (n ≤ size)
+past_or_within n size most = grind arith
+
+can_ship_of : (Ready : ℕ → Type 0) (size : ℕ) (a b : Shipping) → CanGive Ready size a → b.next ≡ a.next → b.pending ≡ [] → a.next ≤ size → (ended : Bool) → b.ended ≡ ended → CanShip Ready b ⊎ (IsTrue b.ended × (b.pending ≡ []))
+can_ship_of Ready size a b can same none within true is = inr (is, none)
+can_ship_of Ready size a b can same none within false is =
+    let few = can.few in
+    inl (inr (is, omega (arith, few, within, same), subst (λ (n : ℕ). Ready n) (sym same) (can.ready a.next (omega arith) within)))
+
+-- a Source Server that has closed behind its last entry can ship, or has ended
+pub can_ship : (Ready : ℕ → Type 0) (size : ℕ) (a b : Shipping) → CanGive Ready size a → b.next ≡ a.next → (a.next ≡ size + 1 → IsTrue b.ended) → CanShip Ready b ⊎ (IsTrue b.ended × (b.pending ≡ []))
+can_ship Ready size a b can same closed = elim (some_or_none b.pending) [
+  | inr some ↦ inl (inl some)
+  | inl none ↦ elim (past_or_within a.next size can.within) [
+    | inl past ↦ inr (closed past, none)
+    | inr within ↦ can_ship_of Ready size a b can same none within b.ended refl
+  ]
+]
+
+-- what is to come can be given later too
+pub gives_later : (Ready Later : ℕ → Type 0) (size : ℕ) (a b : Shipping) → ((n : ℕ) → Ready n → Later n) → CanGive Ready size a → a.next ≤ b.next → b.next ≤ size + 1 → CanGive Later size b
+gives_later Ready Later size a b still can later within = record {
+  few = can.few;
+  within = within;
+  ready = λ n from to. still n (can.ready n (omega (arith, from, later)) to);
+}
+
+pub gives_on : (Ready Later : ℕ → Type 0) (All : ℕ → List ℕ → Type 0) (size : ℕ) (a b c : Shipping) (sent now : List ℕ) → ((n : ℕ) → Ready n → Later n) → b.next ≡ a.next → (a.next ≡ size + 1 → IsTrue b.ended)
+    → Goes All b c sent now → CanGive Ready size a → CanGive Later size c
+gives_on Ready Later All size a b c sent now still same closed (inl more) can =
+    let next : c.next ≡ b.next = ap (λ (s : Shipping). s.next) more.after in
+    let within = can.within in
+    gives_later Ready Later size a c still can (omega (arith, next, same)) (omega (arith, next, same, within))
+gives_on Ready Later All size a b c sent now still same closed (inr more) can =
+    let next : c.next ≡ b.next + 1 = ap (λ (s : Shipping). s.next) more.2.after in
+    elim (past_or_within a.next size can.within) [
+      | inl past ↦ absurd (let ended : b.ended ≡ true = closed past in let going : b.ended ≡ false = more.2.goes_on in let no : false ≡ true = sym going ∙ ended in let never : ⊥ = cc in never)
+      | inr within ↦ gives_later Ready Later size a c still can (omega (arith, next, same)) (omega (arith, next, same, within))
+    ]

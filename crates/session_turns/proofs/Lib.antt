@@ -4,3 +4,4 @@ pub mod Given
 pub mod Applied
 pub mod Ordered
 pub mod Heard
+pub mod Progress

@@ -1,3 +1,4 @@
 pub mod Following
 pub mod Sessions
 pub mod Turns
+pub mod Progress

@@ -1,5 +1,5 @@
 -- What contracts see of a session's connection, from a primary's entries to a secondary's site.
-use Rattle.std.specs.Prelude.{◌≡◌, ℕ, ◌+◌, true, List, [], ◌∷◌}
+use Rattle.std.specs.Prelude.{◌≡◌, ℕ, ◌+◌, ◌<◌, ◌≤◌, ◌^◌, true, List, [], ◌∷◌}
 use Rattle.global_defs.specs.Entry.{Transaction}
 use Rattle.wire_defs.specs.Frames.{entry_bytes}
 use Rattle.source_server.specs.Sources.{Shipping, AllFrom, HasShipped}
@@ -21,3 +21,9 @@ abbrev pub AreFirst : ℕ → List (List ℕ) → List Transaction → Type 0
 AreFirst n [] ts = Unit {0}
 AreFirst n (e ∷ es) [] = ⊥
 AreFirst n (e ∷ es) (t ∷ ts) = (e ≡ entry_bytes n t) × AreFirst (n + 1) es ts
+
+-- so many entries may be taken, of which a source is ready to give each that is still to come
+pub record CanGive (Ready : ℕ → Type 0) (most : ℕ) (s : Shipping) : Type 0 where
+  pub few : most < 2 ^ 40
+  pub within : s.next ≤ most + 1
+  pub ready : (n : ℕ) → s.next ≤ n → n ≤ most → Ready n

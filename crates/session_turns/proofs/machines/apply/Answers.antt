@@ -1,8 +1,9 @@
-use Rattle.std.proofs.Common.{◌≡◌, List, [], ◌∷◌, ◌++◌, sym, ap, subst, ◌∙◌}
+use Rattle.std.proofs.Common.{◌≡◌, ◌+◌, ◌≤◌, List, [], ◌∷◌, ◌++◌, length, sym, ap, subst, ◌∙◌, arith}
 use Rattle.recv_pool.specs.Pools.{put_in, taken, known}
 use Rattle.ship_defs.specs.Arrivals.{Arrival}
 use Rattle.session_turns.specs.Following.{Followed, Awaits}
 use Rattle.session_turns.proofs.Applied.{applied_all, halted_one}
+use Rattle.session_turns.proofs.Progress.{none_left}
 use Rattle.session_turns.proofs.machines.apply.Goals as goal
 
 pub returns-in-Ok-clause-applied : goal.returns-in-Ok-clause-applied
@@ -32,3 +33,19 @@ returns-in-Err-clause-halted g c = λ begun w.
     let all_after : after ++ known c.beside-2.new.out ≡ put = ap (λ (l : List Arrival). l ++ known c.beside-2.new.out) (sym c.beside-2.ensures.taken) ∙ (c.beside-2.ensures.all ∙ same) in
     let done = halted_one begun put before old now waits (known c.beside.new.out) (known c.beside-2.new.out) after all_before all_after c.in-Err.error c.in-Err.ensures.failed in
     (done.0, done.1 ∙ ap (λ (l : List Arrival). l ++ done.0 ∷ []) c.beside.ensures.taken, done.2)
+
+pub returns-in-Ok-clause-open : goal.returns-in-Ok-clause-open
+returns-in-Ok-clause-open g c = λ places few.
+    let put = put_in c.args.into.now in
+    let before = taken c.beside.new.out in
+    let after = taken c.apply_next-applied.new.pool in
+    let left = known c.beside-2.new.out in
+    let all_before : before ++ known c.beside.new.out ≡ put = c.beside.ensures.all ∙ c.beside.ensures.put in
+    let all_after : after ++ left ≡ put = ap (λ (l : List Arrival). l ++ left) (sym c.beside-2.ensures.taken) ∙ (c.beside-2.ensures.all ∙ (c.beside-2.ensures.put ∙ c.beside.ensures.put)) in
+    let same : length before ≡ length (taken c.args.out.now) = ap length c.beside.ensures.taken in
+    let most : length put ≤ length before + 1 = omega (arith, same, few) in
+    let none = none_left c.in-Ok.field-0 (known c.beside.new.out) before after left put (g.S.EntrySink.copy c.args.site.now) (g.S.EntrySink.copy c.apply_next-applied.new.site) c.in-Ok.ensures.after all_before all_after most in
+    let zero : length left ≡ 0 = ap (λ (l : List Arrival). length l) none in
+    let places_now = c.beside-2.ensures.same.0.1 ∙ c.beside.ensures.same.0.1 in
+    let free = c.beside-2.ensures.free in
+    record { places = omega (arith, places_now, places); known = omega (arith, places_now, places, free, zero) }
