@@ -177,7 +177,7 @@ settled-target (Crash name pick) = λ p h. settled-quiet _ _ _ _ p (λ q d. sett
 settled-target (Extract name from) = λ p h. settled-quiet _ _ _ _ p (λ q d. settled-kept p q d h) h
 settled-target (Zwrite name top) = λ p h. settled-quiet _ _ _ _ p (λ q d. settled-kept p q d h) h
 settled-target (Show name) = λ p h. settled-quiet _ _ _ _ p (λ q d. settled-kept p q d h) h
-settled-target (Print name g) = settled-print g
+settled-target (Print name lost g) = settled-print g
 
 pub settled-step : (w m : World) (c : Command) (answers : List Answer) (text : List ℕ) → AllByRecursion IsSettledPlace w.places → Step w c answers m text → AllByRecursion IsSettledPlace m.places
 settled-step w m c answers text k h =
