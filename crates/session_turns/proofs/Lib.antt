@@ -5,3 +5,5 @@ pub mod Applied
 pub mod Ordered
 pub mod Heard
 pub mod Progress
+pub mod Weights
+pub mod Along

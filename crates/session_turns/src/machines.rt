@@ -14,7 +14,7 @@ ghost use Rattle.receiver_server.specs.Listenings.{IsQuiet, IsIdle};
 ghost use Rattle.update_process.specs.Copies.{Copy};
 ghost use Rattle.update_process.specs.Updates.{IsSites};
 ghost use Rattle.session_turns.specs.Following.{Followed, Awaits, Halts};
-ghost use Rattle.session_turns.specs.Progress.{IsOpenPool, IsCaughtUp, HasMoved, IsStill, HasSentOn, CanMove};
+ghost use Rattle.session_turns.specs.Progress.{IsEmptyPool, HasMoved, IsStill, HasSentOn, CanMove};
 ghost use Rattle.session_turns.specs.Sessions.{HasMade, HasGiven, CanGive};
 ghost use Rattle.session_turns.specs.Turns.{HasFollowed, Comes, IsShort, turned_of};
 
@@ -132,8 +132,8 @@ fn apply<S: EntrySink>(
     requires going { IsTrue (S.going site.old) }
     ensures pool { IsPool into.new out.new }
     ensures put { put_in into.new ≡ put_in into.old }
-    // an entry that was put at most is taken, so that there is a place
-    ensures open { 0 < ring.producer_capacity into.old.ring → length (put_in into.old) ≤ length (taken out.old) + 1 → OnOk result (IsOpenPool into.new) }
+    // an entry that was put at most is taken, so that nothing is left
+    ensures empty { 0 < ring.producer_capacity into.old.ring → length (put_in into.old) ≤ length (taken out.old) + 1 → OnOk result (IsEmptyPool into.new out.new) }
     ensures going { OnOk result (IsTrue (S.going site.new)) }
     ensures on { IfErr result (λ e. IsSites e ⊎ IsTrue (S.going site.new)) }
     ensures applied { OnOk result ((begun : Copy) → Awaits begun (put_in into.old) (taken out.old) (S.copy site.old)
@@ -185,10 +185,9 @@ fn follow<R: LinkRx, S: EntrySink>(
     ensures line { R.line rx.new ≡ R.line rx.old }
     ensures same { SameReceiving (R.receiving rx.old) (R.receiving rx.new) }
     ensures pool { IsPool into.new out.new }
-    ensures caught_up { IsTrue (R.receiving rx.old).shown → IsCaughtUp receiver.old (R.receiving rx.old).received into.old out.old (S.copy site.old)
-        → IfOk result (λ t. t ≡ Turned.On → IsCaughtUp receiver.new (R.receiving rx.new).received into.new out.new (S.copy site.new)) }
+    ensures empty { IsEmptyPool into.old out.old → IfOk result (λ t. t ≡ Turned.On → IsEmptyPool into.new out.new) }
     ensures going { OnOk result (IsTrue (S.going site.new)) }
-    ensures hears { IsTrue (R.receiving rx.old).shown → IsCaughtUp receiver.old (R.receiving rx.old).received into.old out.old (S.copy site.old) → IfOk result (λ t. t ≡ Turned.On
+    ensures hears { IsEmptyPool into.old out.old → IfOk result (λ t. t ≡ Turned.On
         → HasMoved receiver.old receiver.new (R.receiving rx.old) (R.receiving rx.new) ⊎ IsStill receiver.old receiver.new (R.receiving rx.old) (R.receiving rx.new)) }
     ensures comes { IsTrue (R.receiving rx.old).shown → (begun : Copy) → HasFollowed begun receiver.old (R.receiving rx.old).received (put_in into.old) (taken out.old) (S.copy site.old)
         → Comes result begun receiver.new (R.receiving rx.new).received (put_in into.new) (taken out.new) (S.copy site.new) }
@@ -303,14 +302,13 @@ impl<P: Drop> Machines<P> {
         ensures cut_tx { self.old.cut ≡ false → IsTrue self.new.cut → (T.sending tx.new).cuts ≡ counted (T.sending tx.old).cuts 1 }
         ensures over { IfOk result (λ t. t ≡ Turned.Over → IsQuiet self.new.receiver × (self.new.receiver.heard.last ≡ Over)) }
         ensures short { IfOk result (λ t. (offset : ℕ) → t ≡ Turned.Short offset → IsShort self.new.receiver offset × IsTrue (R.receiving rx.new).closed) }
-        ensures caught_up { IsTrue (R.receiving rx.old).shown → IsCaughtUp self.old.receiver (R.receiving rx.old).received self.old.into self.old.out (S.copy site.old)
-            → IfOk result (λ t. t ≡ Turned.On → IsCaughtUp self.new.receiver (R.receiving rx.new).received self.new.into self.new.out (S.copy site.new)) }
+        ensures empty { IsEmptyPool self.old.into self.old.out → IfOk result (λ t. t ≡ Turned.On → IsEmptyPool self.new.into self.new.out) }
         ensures failed { IsTrue (T.sending tx.old).told → (IsSome self.old.failure → IsTrue (T.sending tx.old).finished) → IsSome self.new.failure → IsTrue (T.sending tx.new).finished }
         ensures gives { IsTrue (T.sending tx.old).told → CanGive (E.ready entries.old) length self.old.source → CanGive (E.ready entries.new) length self.new.source }
-        ensures hears { IsTrue (R.receiving rx.old).shown → IsCaughtUp self.old.receiver (R.receiving rx.old).received self.old.into self.old.out (S.copy site.old) → IfOk result (λ t. t ≡ Turned.On
+        ensures hears { IsEmptyPool self.old.into self.old.out → IfOk result (λ t. t ≡ Turned.On
             → HasMoved self.old.receiver self.new.receiver (R.receiving rx.old) (R.receiving rx.new) ⊎ IsStill self.old.receiver self.new.receiver (R.receiving rx.old) (R.receiving rx.new)) }
-        ensures moves { CanMove (E.ready entries.old) length self.old.source (IsSome self.old.failure) (T.sending tx.old) (R.receiving rx.old)
-            → IsCaughtUp self.old.receiver (R.receiving rx.old).received self.old.into self.old.out (S.copy site.old) → IfOk result (λ t. t ≡ Turned.On → HasMoved self.old.receiver self.new.receiver (R.receiving rx.old) (R.receiving rx.new) ⊎ HasSentOn (T.sending tx.old) (T.sending tx.new)) }
+        ensures moves { CanMove (E.ready entries.old) length self.old.source (IsSome self.old.failure) (T.sending tx.old) (R.receiving rx.old) → IsEmptyPool self.old.into self.old.out
+            → IfOk result (λ t. t ≡ Turned.On → HasMoved self.old.receiver self.new.receiver (R.receiving rx.old) (R.receiving rx.new) ⊎ HasSentOn (T.sending tx.old) (T.sending tx.new)) }
     {
         if self.send(length, entries, tx).is_err() {
             return Err(TurnError::NoMemory);
@@ -355,19 +353,18 @@ impl<P: Drop> Machines<P> {
         ensures cut_tx { self.old.cut ≡ false → IsTrue self.new.cut → (L.Tx.sending ends.new.up_tx).cuts ≡ counted (L.Tx.sending ends.old.up_tx).cuts 1 }
         ensures over { IfOk result (λ t. t ≡ Turned.Over → IsQuiet self.new.receiver × (self.new.receiver.heard.last ≡ Over)) }
         ensures short { IfOk result (λ t. (offset : ℕ) → t ≡ Turned.Short offset → IsShort self.new.receiver offset × IsTrue (L.Rx.receiving ends.new.down_rx).closed) }
-        // what holds between turns where the connection goes on, and between turns over links that tell their bytes, holds again
-        ensures caught_up { IsTrue (L.Rx.receiving ends.old.down_rx).shown → IsCaughtUp self.old.receiver (L.Rx.receiving ends.old.down_rx).received self.old.into self.old.out (S.copy site.old)
-            → IfOk result (λ t. t ≡ Turned.On → IsCaughtUp self.new.receiver (L.Rx.receiving ends.new.down_rx).received self.new.into self.new.out (S.copy site.new)) }
+        // the receive pool is empty again, and what holds between turns over links that tell their bytes holds again
+        ensures empty { IsEmptyPool self.old.into self.old.out → IfOk result (λ t. t ≡ Turned.On → IsEmptyPool self.new.into self.new.out) }
         ensures stays { IsTrue (L.links links.now).told → CanMove (E.ready entries.old) length self.old.source (IsSome self.old.failure) (L.Tx.sending ends.old.up_tx) (L.Rx.receiving ends.old.down_rx)
             → CanMove (E.ready entries.new) length self.new.source (IsSome self.new.failure) (L.Tx.sending ends.new.up_tx) (L.Rx.receiving ends.new.down_rx) }
         // where the connection goes on, the secondary has received or heard something, or nothing has come to it, which costs patience
         // where bytes aren't told
-        ensures hears { IsTrue (L.Rx.receiving ends.old.down_rx).shown → IsCaughtUp self.old.receiver (L.Rx.receiving ends.old.down_rx).received self.old.into self.old.out (S.copy site.old) → IfOk result (λ t. t ≡ Turned.On
+        ensures hears { IsEmptyPool self.old.into self.old.out → IfOk result (λ t. t ≡ Turned.On
             → HasMoved self.old.receiver self.new.receiver (L.Rx.receiving ends.old.down_rx) (L.Rx.receiving ends.new.down_rx)
             ⊎ IsStill self.old.receiver self.new.receiver (L.Rx.receiving ends.old.down_rx) (L.Rx.receiving ends.new.down_rx)) }
         // over links that tell their bytes something has moved
         ensures moves { CanMove (E.ready entries.old) length self.old.source (IsSome self.old.failure) (L.Tx.sending ends.old.up_tx) (L.Rx.receiving ends.old.down_rx)
-            → IsCaughtUp self.old.receiver (L.Rx.receiving ends.old.down_rx).received self.old.into self.old.out (S.copy site.old) → IfOk result (λ t. t ≡ Turned.On
+            → IsEmptyPool self.old.into self.old.out → IfOk result (λ t. t ≡ Turned.On
             → HasMoved self.old.receiver self.new.receiver (L.Rx.receiving ends.old.down_rx) (L.Rx.receiving ends.new.down_rx) ⊎ HasSentOn (L.Tx.sending ends.old.up_tx) (L.Tx.sending ends.new.up_tx)) }
     {
         let turned = self.step(length, entries, site, &mut ends.up_tx, &mut ends.down_rx);

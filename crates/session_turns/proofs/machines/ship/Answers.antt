@@ -1,4 +1,4 @@
-use Rattle.std.proofs.Common.{◌≡◌, inl, inr, List, ℕ, sym, subst, ◌∙◌, ◌+◌, arith}
+use Rattle.std.proofs.Common.{◌≡◌, ◌⊎◌, inl, inr, List, ℕ, false, sym, subst, ◌∙◌, ◌+◌, arith}
 use Rattle.session_turns.specs.Sessions.{HasGiven}
 use Rattle.session_turns.proofs.Given.{given_kept, given_goes, given_made, can_ship, gives_on, gives_later}
 use Rattle.session_turns.proofs.Progress.{ok_of}
