@@ -1,14 +1,15 @@
 -- A session's connections, and what came over them.
-use Rattle.std.specs.Prelude.{◌≡◌, ◌⊎◌, ℕ, ◌<◌, ◌≤◌, Bool, false, IsTrue, List, ◌∷◌, [], ◌++◌, count_by, Result, Ok, Err}
+use Rattle.std.specs.Prelude.{◌≡◌, ◌⊎◌, ℕ, ◌<◌, ◌≤◌, Bool, false, IsTrue, None, List, ◌∷◌, [], ◌++◌, count_by, Result, Ok, Err}
 use Rattle.std.specs.List.{AllByRecursion}
 use Rattle.global_defs.specs.Entry.{Globals}
 use Rattle.global_defs.specs.Prefix as prefix
 use Rattle.wire_defs.specs.Frames.{Frame}
-use Rattle.wire_defs.specs.Links.{Linking, Past, Sending, Receiving, ConnectionMade, was_cut, counted, first_order}
+use Rattle.wire_defs.specs.Links.{Linking, Past, ConnectionMade, IsNewDirection, was_cut, counted, first_order}
 use Rattle.ship_defs.specs.Hearing.{Purpose, Asks, Hearing, unbegun, IsBadFromPrimary, EndsFromPrimary}
 use Rattle.ship_defs.specs.Greeting.{IsBadToPrimary, GreetsWith}
 use Rattle.receiver_server.specs.declared.step.Handshake.{Handshake}
 use Rattle.receiver_server.specs.Answers.{answer_frame}
+use Rattle.session_handshake.specs.Exchanges.{Views, cuts_of}
 use Rattle.session_handshake.specs.declared.session.SessionError.{SessionError}
 use Rattle.session_handshake.specs.declared.session.SessionError.TheVariants.{LinkCut, BadFrame, NoMemory}
 
@@ -36,20 +37,25 @@ IsBadOver purpose mine p offset = IsBadToPrimary p.to_primary p.secondary_ended 
 abbrev pub IsAnsweredOver : Purpose → prefix.History → Past → Frame → Type 0
 IsAnsweredOver purpose mine p answer = ((hello : Frame) × GreetsWith p.to_primary hello) × ((g : Globals) → EndsFromPrimary purpose (asking mine g) p.from_primary answer)
 
--- An open connection, the only one that was made meanwhile. None of its ends was found cut or answered an end.
-pub record IsOpen (a b : Linking) (session : ℕ) (up_tx : Sending) (up_rx : Receiving) (down_tx : Sending) (down_rx : Receiving) : Type 0 where
+-- A connection that was made last, over which nothing was sent yet.
+pub record IsBegun (a b : Linking) (session : ℕ) (v : Views) : Type 0 where
   pub made : ConnectionMade a b session
-  pub one : up_tx.connection ≡ down_tx.connection
-  pub own_tx : (up_tx.session ≡ session) × (down_tx.session ≡ session)
-  pub own_rx : (up_rx.session ≡ session) × (down_rx.session ≡ session)
-  pub told_tx : (up_tx.told ≡ a.told) × (down_tx.told ≡ a.told)
-  pub told_rx : (up_rx.told ≡ a.told) × (down_rx.told ≡ a.told)
-  pub shown : (up_rx.shown ≡ a.shown) × (down_rx.shown ≡ a.shown)
-  pub order : (up_tx.order ≡ first_order (a.orders session)) × (down_rx.order ≡ first_order (a.orders session))
-  pub cuts_tx : (up_tx.cuts ≡ 0) × (down_tx.cuts ≡ 0)
-  pub cuts_rx : (up_rx.cuts ≡ 0) × (down_rx.cuts ≡ 0)
-  pub closed : (up_rx.closed ≡ false) × (down_rx.closed ≡ false)
-  pub going : IsTrue a.told → (up_tx.finished ≡ false) × (0 < up_tx.places) × (down_tx.finished ≡ false)
+  pub from_primary : IsNewDirection a session (first_order (a.orders session)) v.up_tx v.down_rx
+  pub to_primary : IsNewDirection a session None v.down_tx v.up_rx
+
+-- An open connection, the only one that was made meanwhile. None of its ends was found cut or answered an end.
+pub record IsOpen (a b : Linking) (session : ℕ) (v : Views) : Type 0 where
+  pub made : ConnectionMade a b session
+  pub one : v.up_tx.connection ≡ v.down_tx.connection
+  pub own_tx : (v.up_tx.session ≡ session) × (v.down_tx.session ≡ session)
+  pub own_rx : (v.up_rx.session ≡ session) × (v.down_rx.session ≡ session)
+  pub told_tx : (v.up_tx.told ≡ a.told) × (v.down_tx.told ≡ a.told)
+  pub told_rx : (v.up_rx.told ≡ a.told) × (v.down_rx.told ≡ a.told)
+  pub shown : (v.up_rx.shown ≡ a.shown) × (v.down_rx.shown ≡ a.shown)
+  pub order : (v.up_tx.order ≡ first_order (a.orders session)) × (v.down_rx.order ≡ first_order (a.orders session))
+  pub uncut : cuts_of v ≡ 0
+  pub closed : (v.up_rx.closed ≡ false) × (v.down_rx.closed ≡ false)
+  pub going : IsTrue a.told → (v.up_tx.finished ≡ false) × (0 < v.up_tx.places) × (v.down_tx.finished ≡ false)
 
 -- What a session that only asks met, by the connections that remain of it.
 abbrev pub Met : (shown : Bool) → prefix.History → Result Handshake SessionError → List Past → Type 0

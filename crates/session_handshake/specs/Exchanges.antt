@@ -1,7 +1,14 @@
 -- The four ends of a connection while HELLO and its answer are exchanged.
-use Rattle.std.specs.Prelude.{◌≡◌, ℕ, ◌+◌, ◌<◌, Bool, false, IsTrue, List, ◌++◌}
+use Rattle.std.specs.Prelude.{◌≡◌, ℕ, ◌+◌, ◌<◌, Bool, false, IsTrue, List, ◌++◌, map}
+use Rattle.global_defs.specs.Prefix as prefix
+use Rattle.wire_defs.specs.Frames.{Frame, IsFrame, spelled_frame}
 use Rattle.wire_defs.specs.Links.{Sending, Receiving, SameSending, SameReceiving, all_cuts}
+use Rattle.ship_defs.specs.Hearing.{Purpose, Heard}
 use Rattle.repl_link.specs.declared.traits.Ends.{Ends}
+use Rattle.receiver_server.specs.declared.step.Handshake.{Handshake}
+use Rattle.receiver_server.specs.Answers.{answer_frame}
+use Rattle.receiver_server.specs.Listenings.{IsUnfitBehind}
+use Rattle.session_handshake.specs.Answering.{IsGreetedBy}
 
 -- what contracts see of the ends
 pub record Views : Type 0 where
@@ -41,3 +48,23 @@ pub record Gets (told shown : Bool) (r : Receiving) (received : List ℕ) : Type
   pub shown_is : r.shown ≡ shown
   pub closed : r.closed ≡ false
   pub received_is : IsTrue shown → r.received ≡ received
+
+-- The secondary goes on sending this HELLO.
+pub record HasAsked (hello : Frame) (told : Bool) (v : Views) : Type 0 where
+  pub left : List ℕ
+  pub form : IsFrame hello
+  pub carries : Carries told (spelled_frame hello) v.down_tx left
+
+-- The primary has answered so what it received, and goes on sending the answer.
+pub record HasAnswered (theirs : prefix.History) (told shown : Bool) (v : Views) (answer : Handshake) : Type 0 where
+  pub left : List ℕ
+  pub greeted : IsTrue shown → IsGreetedBy theirs v.up_rx.received (answer_frame answer)
+  pub carries : Carries told (spelled_frame (answer_frame answer)) v.up_tx left
+  pub closed : v.up_rx.closed ≡ false
+
+-- What the secondary received of the answer is bad, which nothing came before.
+pub record HasBadAnswer (theirs : prefix.History) (told shown : Bool) (p : Purpose) (begun : Heard) (v : Views) (offset : ℕ) : Type 0 where
+  pub answer : Handshake
+  pub answered : HasAnswered theirs told shown v answer
+  pub frames : List Handshake
+  pub unfit : IsUnfitBehind p begun (map answer_frame frames) v.down_rx.received v.down_rx.closed offset

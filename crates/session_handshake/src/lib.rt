@@ -7,7 +7,9 @@
 mod answer;
 mod asking;
 mod connection;
+mod exchange;
 mod greeter;
+mod hearing;
 mod hello;
 mod outgoing;
 mod session;

@@ -12,7 +12,6 @@ use super::connection::{GreetError, Greeted, greet};
 use gvn_key::{Bytes, NoMemory};
 use gvn_model::History;
 use receiver_server::{Handshake, Purpose};
-use recv_pool::make;
 use repl_link::{LinkTx, Linker};
 use std::alloc::Global;
 
@@ -79,7 +78,6 @@ pub fn handshake<L: Linker>(
     ensures answer { IsTrue (L.links links.old).told → IfOk result (λ h. IsAnswer (history_value theirs.now) (carried (history_value mine.now)) (answer_frame h)) }
     ensures bad_told { IsTrue (L.links links.old).told → IfErr result (λ e. (offset : ℕ) → e ≡ SessionError.BadFrame offset → (offset ≡ 0) × (IsHello (greeting name.now (history_value mine.now)) → ⊥)) }
 {
-    let (mut pool, _) = make(alloc, 1)?;
     for _ in 0..MOST_CUTS {
         match greet(
             alloc,
@@ -89,7 +87,6 @@ pub fn handshake<L: Linker>(
             Purpose::Asks,
             links,
             session,
-            &mut pool,
         ) {
             Ok(greeted) => return Ok(settled(greeted, links, session)),
             Err(GreetError::Cut) => {}
