@@ -1,2 +1,5 @@
 pub mod Tellings
 pub mod Greetings
+pub mod Ends
+pub mod Hears
+pub mod Told

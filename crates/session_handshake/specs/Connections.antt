@@ -1,5 +1,5 @@
 -- A session's connections, and what came over them.
-use Rattle.std.specs.Prelude.{◌≡◌, ◌⊎◌, ℕ, ◌<◌, ◌≤◌, Bool, false, IsTrue, None, List, ◌∷◌, [], ◌++◌, count_by, Result, Ok, Err}
+use Rattle.std.specs.Prelude.{◌≡◌, ◌⊎◌, ℕ, ◌<◌, ◌≤◌, Bool, false, IsTrue, None, List, ◌∷◌, [], ◌++◌, count_by, fold, Result, Ok, Err}
 use Rattle.std.specs.List.{AllByRecursion}
 use Rattle.global_defs.specs.Entry.{Globals}
 use Rattle.global_defs.specs.Prefix as prefix
@@ -14,14 +14,15 @@ use Rattle.session_handshake.specs.declared.session.SessionError.{SessionError}
 use Rattle.session_handshake.specs.declared.session.SessionError.TheVariants.{LinkCut, BadFrame, NoMemory}
 
 -- Connections of one session were made and given back, and this is what remains of them, in order. The session's count of cuts rose by one
--- for each that was cut.
+-- for each that was cut, since one end of it at most was found so.
 pub record WereMade (a b : Linking) (session : ℕ) (over : List Past) : Type 0 where
   pub told : b.told ≡ a.told
   pub shown : b.shown ≡ a.shown
   pub simulated : b.simulated ≡ a.simulated
   pub past : b.past ≡ a.past ++ over
   pub own : AllByRecursion (λ p. p.session ≡ session) over
-  pub cuts : b.cuts session ≡ counted (a.cuts session) (count_by was_cut over)
+  pub once : AllByRecursion (λ p. p.cuts ≤ 1) over
+  pub cuts : b.cuts session ≡ fold (λ n p. counted n p.cuts) (a.cuts session) over
   pub other_cuts : (s : ℕ) → (s ≡ session → ⊥) → b.cuts s ≡ a.cuts s
   pub other_orders : (s : ℕ) → (s ≡ session → ⊥) → b.orders s ≡ a.orders s
 

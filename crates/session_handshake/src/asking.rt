@@ -1,5 +1,5 @@
 // The HELLO goes to the primary.
-ghost use Rattle.std.specs.Prelude.{◌≡◌, ◌≢◌, ◌⊎◌, ◌+◌, ◌<◌, ◌++◌, ⊥, [], ℕ, List, Bool, None, Some, false, IsTrue, IfOk, IfErr, OnOk, IsErrOf};
+ghost use Rattle.std.specs.Prelude.{◌≡◌, ◌≢◌, ◌⊎◌, ◌+◌, ◌<◌, ◌++◌, [], ℕ, List, Bool, None, Some, false, IsTrue, IfOk, IfErr, OnOk, IsErrOf};
 ghost use Rattle.gvn_model.specs.Entries.{history_value};
 ghost use Rattle.wire_defs.specs.Frames as defs;
 ghost use Rattle.wire_defs.specs.Frames.{IsFrame, spelled_frame};

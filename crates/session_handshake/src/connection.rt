@@ -1,5 +1,5 @@
 // A connection is begun.
-ghost use Rattle.std.specs.Prelude.{◌≡◌, ◌⊎◌, ◌<◌, ◌^◌, ⊥, [], ◌∷◌, false, true, List, ℕ, IsTrue, IfOk, IfErr, OnOk, IsErrOf};
+ghost use Rattle.std.specs.Prelude.{◌≡◌, ◌⊎◌, ◌<◌, ◌^◌, [], ◌∷◌, false, true, List, ℕ, IsTrue, IfOk, IfErr, OnOk, IsErrOf};
 ghost use Rattle.std.specs.List.{AllByRecursion};
 ghost use Rattle.global_defs.specs.Fields.{IsReign, IsSiteName};
 ghost use Rattle.gvn_model.specs.Entries.{history_value};

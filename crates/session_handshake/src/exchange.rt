@@ -1,5 +1,5 @@
 // HELLO and its answer, over the ends of one connection.
-ghost use Rattle.std.specs.Prelude.{◌≡◌, ◌⊎◌, ◌<◌, ◌^◌, ⊥, [], ℕ, List, false, IsTrue, IfOk, IfErr, OnOk, IsErrOf};
+ghost use Rattle.std.specs.Prelude.{◌≡◌, ◌⊎◌, ◌<◌, ◌^◌, [], ℕ, List, false, IsTrue, IfOk, IfErr, OnOk, IsErrOf};
 ghost use Rattle.gvn_model.specs.Entries.{history_value};
 ghost use Rattle.wire_defs.specs.Frames as defs;
 ghost use Rattle.wire_defs.specs.Frames.{IsFrame, spelled_frame};

@@ -1,5 +1,5 @@
 // The answer goes to the secondary.
-ghost use Rattle.std.specs.Prelude.{◌≡◌, ◌≢◌, ◌⊎◌, ◌+◌, ◌<◌, ◌≤◌, ◌++◌, ⊥, [], ◌∷◌, ℕ, List, Bool, None, Some, false, IsTrue, IfOk, IfErr, OnOk, IsErrOf};
+ghost use Rattle.std.specs.Prelude.{◌≡◌, ◌≢◌, ◌⊎◌, ◌+◌, ◌<◌, ◌≤◌, ◌++◌, [], ◌∷◌, ℕ, List, Bool, None, Some, false, IsTrue, IfOk, IfErr, OnOk, IsErrOf};
 ghost use Rattle.wire_defs.specs.Frames as defs;
 ghost use Rattle.wire_defs.specs.Frames.{IsFrame, spelled_frame};
 ghost use Rattle.wire_defs.specs.Links.{SameSending, SameReceiving, SendingLooked, ReceivingLooked, counted};
