@@ -3,3 +3,7 @@ pub mod Greetings
 pub mod Ends
 pub mod Hears
 pub mod Told
+pub mod Made
+pub mod Steps
+pub mod Turns
+pub mod Greets

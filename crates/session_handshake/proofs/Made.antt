@@ -94,3 +94,11 @@ count_none (p ∷ over) none = let here : one_if p ≡ 0 = rw none.0 in let late
 
 pub count_one : (p : Past) → IsTrue (was_cut p) → count_by was_cut (p ∷ []) ≡ 1
 count_one p cut = let here : one_if p ≡ 1 = rw cut in sum_by-cons one_if p [] ∙ omega (arith, here)
+
+-- where four are reached
+
+pub count_push : (xs : List Past) (p : Past) (n : ℕ) → count_by was_cut xs ≡ n → IsTrue (was_cut p) → count_by was_cut (xs ++ p ∷ []) ≡ n + 1
+count_push xs p n e cut = let more = count_append xs (p ∷ []) in let one = count_one p cut in omega (arith, e, more, one)
+
+pub count_still : (xs ys : List Past) (n : ℕ) → count_by was_cut xs ≡ n → AllByRecursion (λ p. was_cut p ≡ false) ys → count_by was_cut (xs ++ ys) ≡ n
+count_still xs ys n e none = let more = count_append xs ys in let zero = count_none ys none in omega (arith, e, more, zero)

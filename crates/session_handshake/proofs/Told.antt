@@ -61,7 +61,7 @@ answer_told f g begun s received more left sent form e k h =
 
 -- where a HELLO that is bad would begin
 
-greets_it : (f : Frame) → IsFrame f → IsHello f → GreetsWith (spelled_frame f) f
+pub greets_it : (f : Frame) → IsFrame f → IsHello f → GreetsWith (spelled_frame f) f
 greets_it f form is = record {
   frames = [];
   now = true;

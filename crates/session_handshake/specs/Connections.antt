@@ -4,7 +4,7 @@ use Rattle.std.specs.List.{AllByRecursion}
 use Rattle.global_defs.specs.Entry.{Globals}
 use Rattle.global_defs.specs.Prefix as prefix
 use Rattle.wire_defs.specs.Frames.{Frame}
-use Rattle.wire_defs.specs.Links.{Linking, Past, ConnectionMade, IsNewDirection, was_cut, counted, first_order}
+use Rattle.wire_defs.specs.Links.{Linking, Past, ConnectionMade, IsNewDirection, was_cut, counted, first_order, past_of}
 use Rattle.ship_defs.specs.Hearing.{Purpose, Asks, Hearing, unbegun, IsBadFromPrimary, EndsFromPrimary}
 use Rattle.ship_defs.specs.Greeting.{IsBadToPrimary, GreetsWith}
 use Rattle.receiver_server.specs.declared.step.Handshake.{Handshake}
@@ -43,6 +43,10 @@ pub record IsBegun (a b : Linking) (session : ℕ) (v : Views) : Type 0 where
   pub made : ConnectionMade a b session
   pub from_primary : IsNewDirection a session (first_order (a.orders session)) v.up_tx v.down_rx
   pub to_primary : IsNewDirection a session None v.down_tx v.up_rx
+
+-- what remains of a connection whose ends are such
+abbrev pub past_of_views : ℕ → Views → Past
+past_of_views session v = past_of session v.up_tx v.up_rx v.down_tx v.down_rx
 
 -- An open connection, the only one that was made meanwhile. None of its ends was found cut or answered an end.
 pub record IsOpen (a b : Linking) (session : ℕ) (v : Views) : Type 0 where

@@ -27,6 +27,7 @@ fn ask_step<T: LinkTx, R: LinkRx>(
     rx: &mut R,
 ) -> Result<Option<Handshake>, GreetError>
     requires awaits { Awaits greeter.old.frames greeter.old.count }
+    requires open { (R.receiving rx.old).closed ≡ false }
     ensures lines { (T.line tx.new ≡ T.line tx.old) × (R.line rx.new ≡ R.line rx.old) }
     ensures same_tx { SameSending (T.sending tx.old) (T.sending tx.new) }
     ensures same_rx { SameReceiving (R.receiving rx.old) (R.receiving rx.new) }
@@ -38,7 +39,7 @@ fn ask_step<T: LinkTx, R: LinkRx>(
         → IfOk result (λ o. (h : Handshake) → o ≡ Some h → IsGreetedBy (history_value theirs.now) (R.receiving rx.new).received (answer_frame h)) }
     ensures bad { IsTrue (R.receiving rx.old).shown → (R.receiving rx.old).received ≡ greeter.old.frames.rest
         → IfErr result (λ e. (offset : ℕ) → e ≡ GreetError.BadFrame offset → IsBadToPrimary (R.receiving rx.new).received (R.receiving rx.new).closed offset) }
-    ensures closed { (R.receiving rx.old).closed ≡ false → OnOk result ((R.receiving rx.new).closed ≡ false) }
+    ensures closed { OnOk result ((R.receiving rx.new).closed ≡ false) }
     ensures cut { (T.sending tx.old).cuts + (R.receiving rx.old).cuts ≡ 0 → IsErrOf result GreetError.Cut → (T.sending tx.new).cuts + (R.receiving rx.new).cuts ≡ 1 }
     ensures uncut { (IsErrOf result GreetError.Cut → ⊥) → ((T.sending tx.new).cuts ≡ (T.sending tx.old).cuts) × ((R.receiving rx.new).cuts ≡ (R.receiving rx.old).cuts) }
     ensures fewer { (told : Bool) → (T.sending tx.old).told ≡ told → (R.receiving rx.old).told ≡ told

@@ -93,6 +93,7 @@ impl Greeter {
         rx: &mut R,
     ) -> Result<Option<Handshake>, GreetError>
         requires awaits { Awaits self.old.frames self.old.count }
+        requires open { (R.receiving rx.old).closed ≡ false }
         ensures line { R.line rx.new ≡ R.line rx.old }
         ensures same { SameReceiving (R.receiving rx.old) (R.receiving rx.new) }
         ensures awaits { IfOk result (λ o. o ≡ None → Awaits self.new.frames self.new.count) }
@@ -101,7 +102,7 @@ impl Greeter {
             → IfOk result (λ o. (h : Handshake) → o ≡ Some h → IsGreetedBy (history_value theirs.now) (R.receiving rx.new).received (answer_frame h)) }
         ensures bad { IsTrue (R.receiving rx.old).shown → (R.receiving rx.old).received ≡ self.old.frames.rest
             → IfErr result (λ e. (offset : ℕ) → e ≡ GreetError.BadFrame offset → IsBadToPrimary (R.receiving rx.new).received (R.receiving rx.new).closed offset) }
-        ensures closed { (R.receiving rx.old).closed ≡ false → OnOk result ((R.receiving rx.new).closed ≡ false) }
+        ensures closed { OnOk result ((R.receiving rx.new).closed ≡ false) }
         ensures moves { IsTrue (R.receiving rx.old).told → (R.receiving rx.old).unread ≢ [] → IfOk result (λ o. o ≡ None → length self.old.frames.rest < length self.new.frames.rest) }
         ensures grows { IfOk result (λ o. o ≡ None → length self.old.frames.rest ≤ length self.new.frames.rest) }
         ensures tires { (R.receiving rx.old).told ≡ false → IfOk result (λ o. o ≡ None → length self.old.frames.rest + (R.receiving rx.new).patience < length self.new.frames.rest + (R.receiving rx.old).patience) }

@@ -43,6 +43,7 @@ fn hear_step<R: LinkRx>(
     rx: &mut R,
 ) -> Result<Option<Handshake>, GreetError>
     requires awaits { AwaitsAnswer receiver.old (R.receiving rx.old).shown (R.receiving rx.old).received (put_in pool.old) (free pool.old) }
+    requires open { (R.receiving rx.old).closed ≡ false }
     ensures line { R.line rx.new ≡ R.line rx.old }
     ensures same { SameReceiving (R.receiving rx.old) (R.receiving rx.new) }
     ensures pool { SameIn pool.old pool.new }
@@ -53,7 +54,7 @@ fn hear_step<R: LinkRx>(
         → HasAnswer receiver.old.heard receiver.new (R.receiving rx.new).shown (R.receiving rx.new).received (put_in pool.new) (free pool.new) h) }
     ensures bad { IsTrue (R.receiving rx.old).shown → IfErr result (λ e. (offset : ℕ) → e ≡ GreetError.BadFrame offset
         → IsUnfitBehind receiver.old.purpose receiver.old.heard [] (R.receiving rx.new).received (R.receiving rx.new).closed offset) }
-    ensures closed { (R.receiving rx.old).closed ≡ false → OnOk result ((R.receiving rx.new).closed ≡ false) }
+    ensures closed { OnOk result ((R.receiving rx.new).closed ≡ false) }
     ensures cut { IsErrOf result GreetError.Cut → (R.receiving rx.new).cuts ≡ counted (R.receiving rx.old).cuts 1 }
     ensures uncut { (IsErrOf result GreetError.Cut → ⊥) → (R.receiving rx.new).cuts ≡ (R.receiving rx.old).cuts }
     ensures moves { IsTrue (R.receiving rx.old).told → (R.receiving rx.old).unread ≢ [] → IfOk result (λ o. o ≡ None → left_of receiver.new.incoming < left_of receiver.old.incoming) }
@@ -73,6 +74,7 @@ fn answer_step<T: LinkTx, R: LinkRx>(
     rx: &mut R,
 ) -> Result<Option<Handshake>, GreetError>
     requires awaits { AwaitsAnswer receiver.old (R.receiving rx.old).shown (R.receiving rx.old).received (put_in pool.old) (free pool.old) }
+    requires open { (R.receiving rx.old).closed ≡ false }
     ensures lines { (T.line tx.new ≡ T.line tx.old) × (R.line rx.new ≡ R.line rx.old) }
     ensures same_tx { SameSending (T.sending tx.old) (T.sending tx.new) }
     ensures same_rx { SameReceiving (R.receiving rx.old) (R.receiving rx.new) }
@@ -86,7 +88,7 @@ fn answer_step<T: LinkTx, R: LinkRx>(
         → HasAnswer receiver.old.heard receiver.new (R.receiving rx.new).shown (R.receiving rx.new).received (put_in pool.new) (free pool.new) h) }
     ensures bad { IsTrue (R.receiving rx.old).shown → IfErr result (λ e. (offset : ℕ) → e ≡ GreetError.BadFrame offset
         → IsUnfitBehind receiver.old.purpose receiver.old.heard [] (R.receiving rx.new).received (R.receiving rx.new).closed offset) }
-    ensures closed { (R.receiving rx.old).closed ≡ false → OnOk result ((R.receiving rx.new).closed ≡ false) }
+    ensures closed { OnOk result ((R.receiving rx.new).closed ≡ false) }
     ensures cut { (T.sending tx.old).cuts + (R.receiving rx.old).cuts ≡ 0 → IsErrOf result GreetError.Cut → (T.sending tx.new).cuts + (R.receiving rx.new).cuts ≡ 1 }
     ensures uncut { (IsErrOf result GreetError.Cut → ⊥) → ((T.sending tx.new).cuts ≡ (T.sending tx.old).cuts) × ((R.receiving rx.new).cuts ≡ (R.receiving rx.old).cuts) }
     ensures fewer { (told : Bool) → (T.sending tx.old).told ≡ told → (R.receiving rx.old).told ≡ told

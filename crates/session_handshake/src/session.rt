@@ -1,12 +1,13 @@
 // A primary is asked.
-ghost use Rattle.std.specs.Prelude.{◌≡◌, ◌↔◌, ◌<◌, ◌^◌, ℕ, IsTrue, IfOk, IfErr, OnOk, IsErrOf, count_by};
+ghost use Rattle.std.specs.Prelude.{◌≡◌, ◌↔◌, ◌<◌, ◌^◌, [], ◌∷◌, ℕ, IsTrue, IfOk, IfErr, OnOk, IsErrOf, count_by};
 ghost use Rattle.std.specs.List.{AllByRecursion};
 ghost use Rattle.global_defs.specs.Fields.{IsReign, IsSiteName};
 ghost use Rattle.gvn_model.specs.Entries.{history_value};
-ghost use Rattle.wire_defs.specs.Links.{was_cut, past_since};
+ghost use Rattle.wire_defs.specs.Links.{Linking, was_cut, past_since};
 ghost use Rattle.ship_defs.specs.Greeting.{IsHello, IsAnswer, carried, greeting};
 ghost use Rattle.receiver_server.specs.Answers.{answer_frame};
-ghost use Rattle.session_handshake.specs.Connections.{WereMade, Met};
+ghost use Rattle.session_handshake.specs.Exchanges.{views, HaveLines};
+ghost use Rattle.session_handshake.specs.Connections.{WereMade, IsOpen, Met, past_of_views};
 
 use super::connection::{GreetError, Greeted, greet};
 use gvn_key::{Bytes, NoMemory};
@@ -41,10 +42,15 @@ impl From<NoMemory> for SessionError {
 }
 
 // How many connections of a session may be cut in one command.
-const MOST_CUTS: usize = 4;
+const MOST_CUTS: u64 = 4;
 
 // The ends of an answered connection are given back.
-fn settled<L: Linker>(greeted: Greeted<L::Tx, L::Rx>, links: &mut L, session: u32) -> Handshake {
+fn settled<L: Linker>(greeted: Greeted<L::Tx, L::Rx>, links: &mut L, session: u32) -> Handshake
+    requires lines { HaveLines L.Tx.line L.Rx.line greeted.ends }
+    requires open { (from : Linking) × IsOpen from (L.links links.old) session (views L.Tx.sending L.Rx.receiving greeted.ends) }
+    ensures answer { result ≡ greeted.answer }
+    ensures made { (from : Linking) → IsOpen from (L.links links.old) session (views L.Tx.sending L.Rx.receiving greeted.ends) → WereMade from (L.links links.new) session (past_of_views session (views L.Tx.sending L.Rx.receiving greeted.ends) ∷ []) }
+{
     let Greeted {
         answer,
         mut ends,
@@ -78,7 +84,8 @@ pub fn handshake<L: Linker>(
     ensures answer { IsTrue (L.links links.old).told → IfOk result (λ h. IsAnswer (history_value theirs.now) (carried (history_value mine.now)) (answer_frame h)) }
     ensures bad_told { IsTrue (L.links links.old).told → IfErr result (λ e. (offset : ℕ) → e ≡ SessionError.BadFrame offset → (offset ≡ 0) × (IsHello (greeting name.now (history_value mine.now)) → ⊥)) }
 {
-    for _ in 0..MOST_CUTS {
+    let mut cuts = 0;
+    while cuts < MOST_CUTS {
         match greet(
             alloc,
             theirs,
@@ -89,7 +96,7 @@ pub fn handshake<L: Linker>(
             session,
         ) {
             Ok(greeted) => return Ok(settled(greeted, links, session)),
-            Err(GreetError::Cut) => {}
+            Err(GreetError::Cut) => cuts += 1,
             Err(GreetError::BadFrame { offset }) => return Err(SessionError::BadFrame { offset }),
             Err(GreetError::NoMemory) => return Err(SessionError::NoMemory),
         }
