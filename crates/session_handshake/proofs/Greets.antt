@@ -1,5 +1,5 @@
 -- A connection from its making to its answer, or to its giving back.
-use Rattle.std.proofs.Common.{◌≡◌, ◌≢◌, ◌⊎◌, inl, inr, ℕ, ◌+◌, ◌^◌, ◌<◌, ◌≤◌, Bool, true, false, IsTrue, Option, List, [], ◌∷◌, ◌++◌, length, map, refl, sym, ap, subst, ◌∙◌, arith, append_assoc, append-nil}
+use Rattle.std.proofs.Common.{◌≡◌, ◌≢◌, ◌⊎◌, inl, inr, ℕ, ◌+◌, ◌^◌, ◌<◌, ◌≤◌, Bool, true, false, IsTrue, Option, Result, Ok, Err, IfErr, OnOk, List, [], ◌∷◌, ◌++◌, length, map, refl, sym, ap, subst, ◌∙◌, arith, append_assoc, append-nil}
 use Rattle.global_defs.specs.Entry.{Globals}
 use Rattle.global_defs.specs.Prefix as prefix
 use Rattle.global_defs.specs.Prefix.{IsPrefix}
@@ -16,7 +16,9 @@ use Rattle.receiver_server.specs.Answers.{answer_frame}
 use Rattle.receiver_server.specs.Hearings.{behind}
 use Rattle.receiver_server.specs.Listenings.{Listening, IsHearing, IsQuiet, IsUnfitBehind, HavePlaces}
 use Rattle.receiver_server.proofs.Told.{bad_all, whole_all, all_heard}
-use Rattle.session_handshake.specs.Answering.{IsGreetedBy, HasAnswer}
+use Rattle.session_handshake.specs.Answering.{IsGreetedBy, HasAnswer, AwaitsAnswer}
+use Rattle.session_handshake.specs.declared.connection.GreetError.{GreetError}
+use Rattle.session_handshake.specs.declared.connection.GreetError.TheVariants.{BadFrame}
 use Rattle.session_handshake.specs.Exchanges.{Views, SameEnds, Carries, Gets, HasAsked, HasAnswered, HasBadAnswer, cuts_of}
 use Rattle.session_handshake.specs.Connections.{IsBegun, IsOpen, IsBadOver, IsAnsweredOver, asking}
 use Rattle.session_handshake.proofs.Told.{hello_told, answer_told, answer_form, bad_hello, never_unfit, not_closed, greets_it}
@@ -136,3 +138,16 @@ ends_asked mine s received a asks over quiet h g =
     let all = all_heard (unbegun mine) s received [] (answer_frame a ∷ []) h quiet in
     subst (λ p. EndsFromPrimary p (asking mine g) received (answer_frame a)) asks
     (whole_all s.purpose (unbegun mine) s.heard g [] (answer_frame a) received all h.admitted (is_over s.heard.last over) (one_fits g a))
+
+-- facts of a call whatever it answers
+
+pub on_ok : {T E : Type 0} (r : Result T E) (A : Type 0) → A → OnOk r A
+on_ok (Ok x) A a = a
+on_ok (Err e) A a = tt
+
+pub with_asked : {T : Type 0} (r : Result T GreetError) (A S : Type 0) (X : ℕ → Type 0) → A → (S → IfErr r (λ e. (offset : ℕ) → e ≡ BadFrame offset → X offset)) → IfErr r (λ e. (offset : ℕ) → e ≡ BadFrame offset → A × (S → X offset))
+with_asked (Ok x) A S X a f = tt
+with_asked (Err e) A S X a f = λ offset is. (a, λ s. f s offset is)
+
+pub awaits_any : (s : Listening) (put : List Arrival) (free : ℕ) (shown : Bool) → AwaitsAnswer s true [] put free → AwaitsAnswer s shown [] put free
+awaits_any s put free shown w = record { begun = w.begun; fresh = w.fresh; rest = w.rest; hears = λ _. w.hears refl; place = λ _. w.place refl }

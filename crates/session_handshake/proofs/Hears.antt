@@ -1,5 +1,5 @@
 -- What a secondary's steps mean for the answer that it waits for.
-use Rattle.std.proofs.Common.{◌≡◌, ◌≢◌, ◌⊎◌, inl, inr, ℕ, ◌+◌, ◌-◌, ◌^◌, ◌<◌, ◌≤◌, Bool, true, false, IsTrue, List, [], ◌∷◌, ◌++◌, length, Option, Some, None, Result, Ok, Err, IfOk, IfErr, refl, sym, ap, subst, ◌∙◌, arith, append_assoc, append-nil, length-append}
+use Rattle.std.proofs.Common.{◌≡◌, ◌≢◌, ◌⊎◌, inl, inr, ℕ, ◌+◌, ◌-◌, ◌^◌, ◌<◌, ◌≤◌, Bool, true, false, IsTrue, List, [], ◌∷◌, ◌++◌, length, Option, Some, None, Result, Ok, Err, IfOk, IfErr, refl, sym, ap, subst, ◌∙◌, arith, append_assoc, append-nil, length-append, if◌then◌else◌}
 use Rattle.wire_defs.specs.Frames.{Frame, Hello, Resume, RollbackFirst, History, Entry, Bye, IsFrame, AreFrames, BeginsFrame, BeginsNone, Reading, spelled_frame, stream, offset_after}
 use Rattle.ship_defs.specs.Arrivals.{Arrival, arrivals}
 use Rattle.ship_defs.specs.Hearing as ship
@@ -27,12 +27,12 @@ never_begun ship.Shipped e x = let no : ⊥ = cc in no
 never_begun ship.Over e x = let no : ⊥ = cc in no
 
 pub none_else : (p : Purpose) (h now : Heard) (f : Frame) → h.last ≡ Unbegun → IsNoAnswer f → Fits p h f now → ⊥
-none_else p h now (Hello version name history) begun no x = x
-none_else p h now (Resume n) begun no x = no
-none_else p h now (RollbackFirst n) begun no x = no
-none_else p h now (History r) begun no x = never_begun h.last begun (inl x.0)
-none_else p h now (Entry n t) begun no x = never_begun h.last begun (inr x.0)
-none_else p h now (Bye n) begun no x = never_begun h.last begun (inl x.0)
+none_else p h now (Hello version name history) begun other x = x
+none_else p h now (Resume n) begun other x = other
+none_else p h now (RollbackFirst n) begun other x = other
+none_else p h now (History r) begun other x = never_begun h.last begun (inl x.0)
+none_else p h now (Entry n t) begun other x = never_begun h.last begun (inr x.0)
+none_else p h now (Bye n) begun other x = never_begun h.last begun (inl x.0)
 
 -- what a secondary has behind an answer that fits
 pub heard_answer : (p : Purpose) (h now : Heard) (a : Handshake) → Fits p h (answer_frame a) now → now ≡ behind p h (answer_frame a)

@@ -6,8 +6,9 @@ use Rattle.std.proofs.lemmas.List.{take-append-le, take_all, length-take}
 use Rattle.global_defs.specs.Entry.{Reign}
 use Rattle.global_defs.specs.Fields.{IsReign, IsSiteName, short}
 use Rattle.global_defs.specs.Prefix.{History}
-use Rattle.lineage_defs.specs.Histories.{begun_by}
+use Rattle.lineage_defs.specs.Histories.{MOST_REIGNS, begun_by}
 use Rattle.wire_defs.specs.Frames.{Hello, IsFrame, frame_body, spelled_reign}
+use Rattle.ship_defs.specs.Greeting.{carried, greeting}
 
 -- one more of a list that is cut off at a length
 pub take_push : (n : ℕ) (xs : List Reign) (x : Reign) → length (take n xs) < n → take n (xs ++ x ∷ []) ≡ take n xs ++ x ∷ []
@@ -64,3 +65,8 @@ hello_form name h named few form count =
     let some = reigns_few h.reigns form in
     let short_name = name_few name named in
     record { fields = (refl, named, few, omega (arith, count), form); short = omega (arith, last, behind, front, some, short_name, count) }
+
+pub greeting_form : (name : List ℕ) (mine : History) → IsSiteName name → mine.length < 2 ^ 40 → AllByRecursion IsReign mine.reigns → IsFrame (greeting name mine)
+greeting_form name mine named few form =
+    let size = length-take (MOST_REIGNS + 1) (begun_by mine.length mine.reigns) in
+    hello_form name (carried mine) named few (all_told (MOST_REIGNS + 1) mine.length mine.reigns form) (omega (arith, size))

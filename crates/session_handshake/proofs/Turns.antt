@@ -64,14 +64,14 @@ hears_fewer : (told : Bool) (old now : List ℕ) (i j : Incoming) (p q s t : ℕ
 hears_fewer true old now i j p q s t le ge moves tires tired = hears_told (length old) (length now) (left_of i) (left_of j) p q le ge (moves refl)
 hears_fewer false old now i j p q s t le ge moves tires tired = let x = tires refl in let y = tired refl in omega (arith, x, y)
 
-pub hear_less : (told : Bool) (m : Answer) (old now : List ℕ) (i j : Incoming) (p q s t : ℕ) → (free : ℕ) (unread : List ℕ) → length now ≤ length old
+pub hear_less : (told : Bool) (m : Answer) (old now : List ℕ) (i j : Incoming) (p q s t : ℕ) → (free : ℕ) (M : Type 0) → length now ≤ length old
     → (IsTrue told → 0 < free → old ≢ [] → length now < length old) → (told ≡ false → length now + q ≤ length old + p)
-    → (IsTrue told → unread ≢ [] → IfOk m (λ o. o ≡ None → left_of j < left_of i)) → IfOk m (λ o. o ≡ None → left_of j ≤ left_of i)
+    → (IsTrue told → M → IfOk m (λ o. o ≡ None → left_of j < left_of i)) → IfOk m (λ o. o ≡ None → left_of j ≤ left_of i)
     → (told ≡ false → IfOk m (λ o. o ≡ None → left_of j + t < left_of i + s))
-    → (IsTrue told → ((0 < free) × (old ≢ [])) ⊎ (unread ≢ []))
+    → (IsTrue told → ((0 < free) × (old ≢ [])) ⊎ M)
     → IfOk m (λ o. o ≡ None → left_to_hear told now j (q + t) < left_to_hear told old i (p + s))
-hear_less told (Err e) old now i j p q s t free unread le sends tires moves grows tired may = tt
-hear_less told (Ok o) old now i j p q s t free unread le sends tires moves grows tired may = λ none.
+hear_less told (Err e) old now i j p q s t free M le sends tires moves grows tired may = tt
+hear_less told (Ok o) old now i j p q s t free M le sends tires moves grows tired may = λ none.
     hears_fewer told old now i j p q s t le (grows none)
     (λ y. elim (may y) [ | inl x ↦ inl (sends y x.0 x.1) | inr x ↦ inr (moves y x none) ])
     tires

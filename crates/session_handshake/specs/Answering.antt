@@ -74,7 +74,7 @@ abbrev pub Judges : (theirs : prefix.History) → Frame → (count : ℕ) → Re
 Judges theirs f count (Ok answer) = IsHello f × (count ≡ length (spelled_frame f)) × Answers theirs f (answer_frame answer)
 Judges theirs f count (Err offset) = ((offset ≡ 0) × (IsHello f → ⊥)) ⊎ (IsHello f × (offset ≡ length (spelled_frame f)) × (count ≢ length (spelled_frame f)))
 
-abbrev left_behind : List Frame → (bad : Bool) → (rest : ℕ) → ℕ
+abbrev pub left_behind : List Frame → (bad : Bool) → (rest : ℕ) → ℕ
 left_behind [] true rest = 0
 left_behind [] false rest = LIMIT + 1 - rest
 left_behind (f ∷ fs) bad rest = 0
@@ -97,3 +97,15 @@ StepMeans (Ok Over) waiting offset result = result ≡ Ok None
 StepMeans (Err Cut) waiting offset result = result ≡ Err greets.Cut
 StepMeans (Err (BadFrame at)) waiting offset result = result ≡ Err (greets.BadFrame at)
 StepMeans (Err NoMemory) waiting offset result = result ≡ Err greets.NoMemory
+
+-- what its step tells behind an answer that is the last frame: that nothing came, or that something bad did
+abbrev pub EndMeans : Result Step HearError → (offset : ℕ) → Result (Unit {0}) GreetError → Type 0
+EndMeans (Ok Over) offset result = result ≡ Ok tt
+EndMeans (Ok (Answered answer)) offset result = result ≡ Err (greets.BadFrame offset)
+EndMeans (Ok Ended) offset result = result ≡ Err (greets.BadFrame offset)
+EndMeans (Ok Waits) offset result = result ≡ Err (greets.BadFrame offset)
+EndMeans (Ok Received) offset result = result ≡ Err (greets.BadFrame offset)
+EndMeans (Ok Heard) offset result = result ≡ Err (greets.BadFrame offset)
+EndMeans (Err Cut) offset result = result ≡ Err greets.Cut
+EndMeans (Err (BadFrame at)) offset result = result ≡ Err (greets.BadFrame at)
+EndMeans (Err NoMemory) offset result = result ≡ Err greets.NoMemory

@@ -112,10 +112,10 @@ pub(crate) fn ask<L: Linker>(
     ensures cut { IsErrOf result GreetError.Cut → cuts_of (views L.Tx.sending L.Rx.receiving ends.new) ≡ 1 }
     ensures uncut { (IsErrOf result GreetError.Cut → ⊥) → cuts_of (views L.Tx.sending L.Rx.receiving ends.new) ≡ 0 }
 {
-    let mut hello = Outgoing::new(hello);
+    let mut outgoing = Outgoing::new(hello);
     let mut greeter = Greeter::new(alloc);
     loop {
-        match hello_turn(links, ends, theirs, &mut hello, &mut greeter) {
+        match hello_turn(links, ends, theirs, &mut outgoing, &mut greeter) {
             Ok(Some(answer)) => return Ok(answer),
             Ok(None) => {}
             Err(error) => return Err(error),

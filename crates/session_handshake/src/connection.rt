@@ -140,7 +140,10 @@ fn talk<L: Linker>(
     ensures cut { IsErrOf result GreetError.Cut → cuts_of (views L.Tx.sending L.Rx.receiving ends.new) ≡ 1 }
     ensures uncut { (IsErrOf result GreetError.Cut → ⊥) → cuts_of (views L.Tx.sending L.Rx.receiving ends.new) ≡ 0 }
 {
-    let hello = hello(alloc, name, mine)?;
+    let hello = match hello(alloc, name, mine) {
+        Ok(hello) => hello,
+        Err(NoMemory) => return Err(GreetError::NoMemory),
+    };
     exchange(
         alloc,
         links,
@@ -187,8 +190,14 @@ pub fn greet<L: Linker>(
     ensures bad_told { IsTrue (L.links links.old).told → IfErr result (λ e. (offset : ℕ) → e ≡ GreetError.BadFrame offset → (offset ≡ 0) × (IsHello (greeting name.now (history_value mine.now)) → ⊥)) }
     ensures memory { IsErrOf result GreetError.NoMemory → (over : List Past) × WereMade (L.links links.old) (L.links links.new) session over × AllByRecursion (λ p. was_cut p ≡ false) over }
 {
-    let mut hearing = begin_hearing(alloc, mine, purpose)?;
-    let mut ends = connect(links, session)?;
+    let mut hearing = match begin_hearing(alloc, mine, purpose) {
+        Ok(hearing) => hearing,
+        Err(NoMemory) => return Err(GreetError::NoMemory),
+    };
+    let mut ends = match connect(links, session) {
+        Ok(ends) => ends,
+        Err(error) => return Err(error),
+    };
     match talk(alloc, theirs, mine, name, links, &mut ends, &mut hearing) {
         Ok(answer) => {
             links.beside(&mut ends);

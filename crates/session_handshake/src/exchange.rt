@@ -14,7 +14,7 @@ use super::answer::answer_bytes;
 use super::asking::ask;
 use super::connection::GreetError;
 use super::hearing::{close, hear};
-use gvn_key::Bytes;
+use gvn_key::{Bytes, NoMemory};
 use gvn_model::History;
 use receiver_server::{Handshake, Receiver};
 use recv_pool::PoolIn;
@@ -55,9 +55,20 @@ pub(crate) fn exchange<L: Linker>(
     ensures cut { IsErrOf result GreetError.Cut → cuts_of (views L.Tx.sending L.Rx.receiving ends.new) ≡ 1 }
     ensures uncut { (IsErrOf result GreetError.Cut → ⊥) → cuts_of (views L.Tx.sending L.Rx.receiving ends.new) ≡ 0 }
 {
-    let answer = ask(alloc, links, ends, theirs, hello)?;
-    let bytes = Bytes::of(alloc, &answer_bytes(answer))?;
-    let heard = hear(links, ends, bytes, receiver, pool)?;
-    close(receiver, pool, &mut ends.down_rx)?;
-    Ok(heard)
+    let answer = match ask(alloc, links, ends, theirs, hello) {
+        Ok(answer) => answer,
+        Err(error) => return Err(error),
+    };
+    let bytes = match Bytes::of(alloc, &answer_bytes(answer)) {
+        Ok(bytes) => bytes,
+        Err(NoMemory) => return Err(GreetError::NoMemory),
+    };
+    let heard = match hear(links, ends, bytes, receiver, pool) {
+        Ok(heard) => heard,
+        Err(error) => return Err(error),
+    };
+    match close(receiver, pool, &mut ends.down_rx) {
+        Ok(()) => Ok(heard),
+        Err(error) => Err(error),
+    }
 }

@@ -7,7 +7,7 @@ ghost use Rattle.ship_defs.specs.Hearing.{Heard, Over};
 ghost use Rattle.recv_pool.specs.Pools.{put_in, free, SameIn};
 ghost use Rattle.receiver_server.specs.Listenings.{IsUnfitBehind, IsQuiet};
 ghost use Rattle.receiver_server.specs.Answers.{answer_frame};
-ghost use Rattle.session_handshake.specs.Answering.{AwaitsAnswer, HasAnswer, StepMeans, left_of, left_to_hear};
+ghost use Rattle.session_handshake.specs.Answering.{AwaitsAnswer, HasAnswer, StepMeans, EndMeans, left_of, left_to_hear};
 ghost use Rattle.session_handshake.specs.Exchanges.{views, HaveLines, SameEnds, cuts_of, Carries, Gets};
 
 use super::connection::GreetError;
@@ -57,7 +57,7 @@ fn hear_step<R: LinkRx>(
     ensures closed { OnOk result ((R.receiving rx.new).closed ≡ false) }
     ensures cut { IsErrOf result GreetError.Cut → (R.receiving rx.new).cuts ≡ counted (R.receiving rx.old).cuts 1 }
     ensures uncut { (IsErrOf result GreetError.Cut → ⊥) → (R.receiving rx.new).cuts ≡ (R.receiving rx.old).cuts }
-    ensures moves { IsTrue (R.receiving rx.old).told → (R.receiving rx.old).unread ≢ [] → IfOk result (λ o. o ≡ None → left_of receiver.new.incoming < left_of receiver.old.incoming) }
+    ensures moves { IsTrue (R.receiving rx.old).told → (receiver.old.incoming.waiting ≡ [] → (R.receiving rx.old).unread ≢ []) → IfOk result (λ o. o ≡ None → left_of receiver.new.incoming < left_of receiver.old.incoming) }
     ensures fewer { IfOk result (λ o. o ≡ None → left_of receiver.new.incoming ≤ left_of receiver.old.incoming) }
     ensures tires { (R.receiving rx.old).told ≡ false → IfOk result (λ o. o ≡ None → left_of receiver.new.incoming + (R.receiving rx.new).patience < left_of receiver.old.incoming + (R.receiving rx.old).patience) }
 {
@@ -92,7 +92,7 @@ fn answer_step<T: LinkTx, R: LinkRx>(
     ensures cut { (T.sending tx.old).cuts + (R.receiving rx.old).cuts ≡ 0 → IsErrOf result GreetError.Cut → (T.sending tx.new).cuts + (R.receiving rx.new).cuts ≡ 1 }
     ensures uncut { (IsErrOf result GreetError.Cut → ⊥) → ((T.sending tx.new).cuts ≡ (T.sending tx.old).cuts) × ((R.receiving rx.new).cuts ≡ (R.receiving rx.old).cuts) }
     ensures fewer { (told : Bool) → (T.sending tx.old).told ≡ told → (R.receiving rx.old).told ≡ told
-        → (IsTrue told → ((0 < (T.sending tx.old).free) × (answer.old ≢ [])) ⊎ ((R.receiving rx.old).unread ≢ []))
+        → (IsTrue told → ((0 < (T.sending tx.old).free) × (answer.old ≢ [])) ⊎ (receiver.old.incoming.waiting ≡ [] → (R.receiving rx.old).unread ≢ []))
         → IfOk result (λ o. o ≡ None →
             left_to_hear told answer.new receiver.new.incoming ((T.sending tx.new).patience + (R.receiving rx.new).patience)
             < left_to_hear told answer.old receiver.old.incoming ((T.sending tx.old).patience + (R.receiving rx.old).patience)) }
@@ -170,13 +170,26 @@ pub(crate) fn hear<L: Linker>(
     ensures cut { IsErrOf result GreetError.Cut → cuts_of (views L.Tx.sending L.Rx.receiving ends.new) ≡ 1 }
     ensures uncut { (IsErrOf result GreetError.Cut → ⊥) → cuts_of (views L.Tx.sending L.Rx.receiving ends.new) ≡ 0 }
 {
-    let mut answer = Outgoing::new(answer);
+    let mut outgoing = Outgoing::new(answer);
     loop {
-        match answer_turn(links, ends, &mut answer, receiver, pool) {
+        match answer_turn(links, ends, &mut outgoing, receiver, pool) {
             Ok(Some(answer)) => return Ok(answer),
             Ok(None) => {}
             Err(error) => return Err(error),
         }
+    }
+}
+
+// What a step of the secondary means behind an answer that is the connection's last frame.
+fn ended(step: Result<Step, HearError>, offset: u64) -> Result<(), GreetError>
+    ensures { EndMeans step offset result }
+{
+    match step {
+        Ok(Step::Over) => Ok(()),
+        Ok(_) => Err(GreetError::BadFrame { offset }),
+        Err(HearError::Cut) => Err(GreetError::Cut),
+        Err(HearError::BadFrame { offset }) => Err(GreetError::BadFrame { offset }),
+        Err(HearError::NoMemory) => Err(GreetError::NoMemory),
     }
 }
 
@@ -186,6 +199,7 @@ pub(crate) fn close<R: LinkRx>(
     pool: &mut PoolIn,
     rx: &mut R,
 ) -> Result<(), GreetError>
+    requires open { (R.receiving rx.old).closed ≡ false }
     ensures line { R.line rx.new ≡ R.line rx.old }
     ensures same { SameReceiving (R.receiving rx.old) (R.receiving rx.new) }
     ensures pool { SameIn pool.old pool.new }
@@ -195,21 +209,14 @@ pub(crate) fn close<R: LinkRx>(
     ensures over { OnOk result (receiver.new.heard.last ≡ Over → IsQuiet receiver.new) }
     ensures bad { IfErr result (λ e. (offset : ℕ) → e ≡ GreetError.BadFrame offset → IsTrue (R.receiving rx.old).shown
         → (begun : Heard) (h : Handshake) → HasAnswer begun receiver.old (R.receiving rx.old).shown (R.receiving rx.old).received (put_in pool.old) (free pool.old) h
-        → IsUnfitBehind receiver.old.purpose begun (answer_frame h ∷ []) (R.receiving rx.new).received false offset) }
-    ensures closed { (R.receiving rx.old).closed ≡ false → OnOk result ((R.receiving rx.new).closed ≡ false) }
+        → IsUnfitBehind receiver.old.purpose begun (answer_frame h ∷ []) (R.receiving rx.new).received (R.receiving rx.new).closed offset) }
+    ensures closed { OnOk result ((R.receiving rx.new).closed ≡ false) }
     ensures cut { IsErrOf result GreetError.Cut → (R.receiving rx.new).cuts ≡ counted (R.receiving rx.old).cuts 1 }
     ensures uncut { (IsErrOf result GreetError.Cut → ⊥) → (R.receiving rx.new).cuts ≡ (R.receiving rx.old).cuts }
 {
     if !receiver.is_over() {
         return Ok(());
     }
-    match receiver.step(rx, pool) {
-        Ok(Step::Over) => Ok(()),
-        Ok(_) => Err(GreetError::BadFrame {
-            offset: receiver.offset(),
-        }),
-        Err(HearError::BadFrame { offset }) => Err(GreetError::BadFrame { offset }),
-        Err(HearError::Cut) => Err(GreetError::Cut),
-        Err(HearError::NoMemory) => Err(GreetError::NoMemory),
-    }
+    let step = receiver.step(rx, pool);
+    ended(step, receiver.offset())
 }

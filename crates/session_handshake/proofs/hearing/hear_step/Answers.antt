@@ -1,9 +1,9 @@
-use Rattle.std.proofs.Common.{◌≡◌, ◌×◌, ℕ, ◌<◌, None, Option, IsErrOf, sym, subst}
+use Rattle.std.proofs.Common.{◌≡◌, ℕ, ◌<◌, None, Option, IsErrOf, sym, subst}
 use Rattle.std.proofs.lemmas.Result.{IfOk-weaker}
 use Rattle.recv_pool.specs.Pools.{put_in, free}
 use Rattle.receiver_server.specs.declared.step.Handshake.{Handshake}
 use Rattle.session_handshake.specs.Answering.{AwaitsAnswer, StepMeans}
-use Rattle.session_handshake.proofs.Steps.{goes_on, answers_it, bad_there, never_more, moves_on, tires_on, cut_of, cut_told, closed_on}
+use Rattle.session_handshake.proofs.Steps.{goes_on, answers_it, bad_there, never_more, moves_on, tires_on, cut_of, cut_told, closed_on, same_purpose}
 use Rattle.session_handshake.proofs.hearing.hear_step.Goals as goal
 
 pub returns-clause-awaits : goal.returns-clause-awaits
@@ -83,3 +83,6 @@ returns-clause-tires g c = λ told.
     tires_on a b ra rb (put_in c.args.pool.now) (put_in c.step-step.new.pool) (free c.args.pool.now) (free c.step-step.new.pool) c.requires.awaits c.step-step.ensures.same.shown c.step-step.ensures.places
     c.step-step.result c.has_waiting.result c.offset.result c.meant.result c.meant.ensures c.step-step.ensures.does c.step-step.ensures.rest c.step-step.ensures.over c.has_waiting.ensures.is
     (λ none fresh going. c.step-step.ensures.patience none fresh going told)
+
+pub returns-clause-purpose : goal.returns-clause-purpose
+returns-clause-purpose g c = same_purpose c.step-step.result c.args.receiver.now c.step-step.new.self c.step-step.ensures.does
