@@ -1,11 +1,11 @@
 -- A connection from its making to its answer, or to its giving back.
-use Rattle.std.proofs.Common.{◌≡◌, ◌≢◌, ◌⊎◌, inl, inr, ℕ, ◌+◌, ◌^◌, ◌<◌, ◌≤◌, Bool, true, false, IsTrue, Option, Result, Ok, Err, IfErr, OnOk, List, [], ◌∷◌, ◌++◌, length, map, refl, sym, ap, subst, ◌∙◌, arith, append_assoc, append-nil}
+use Rattle.std.proofs.Common.{◌≡◌, ◌≢◌, ◌⊎◌, inl, inr, ℕ, ◌+◌, ◌^◌, ◌<◌, ◌≤◌, Bool, true, false, IsTrue, nat_lt, Option, Result, Ok, Err, IfErr, OnOk, List, [], ◌∷◌, ◌++◌, length, map, refl, sym, ap, subst, ◌∙◌, arith, append_assoc, append-nil}
 use Rattle.global_defs.specs.Entry.{Globals}
 use Rattle.global_defs.specs.Prefix as prefix
 use Rattle.global_defs.specs.Prefix.{IsPrefix}
 use Rattle.wire_defs.specs.Frames.{Frame, Resume, RollbackFirst, IsFrame, spelled_frame}
 use Rattle.wire_defs.specs.Links as links
-use Rattle.wire_defs.specs.Links.{Linking, Sending, Receiving, Past, KnowAll, SendingLooked, ReceivingLooked, IsNewDirection, ConnectionMade, was_cut}
+use Rattle.wire_defs.specs.Links.{Linking, Sending, Receiving, Past, KnowAll, SendingLooked, ReceivingLooked, IsNewDirection, ConnectionMade, CutsAdded, was_cut, past_of, all_cuts}
 use Rattle.ship_defs.specs.Arrivals.{Arrival}
 use Rattle.ship_defs.specs.Hearing as ship
 use Rattle.ship_defs.specs.Hearing.{Purpose, Asks, Heard, IsOver, unbegun, IsBadFromPrimary, EndsFromPrimary}
@@ -20,7 +20,8 @@ use Rattle.session_handshake.specs.Answering.{IsGreetedBy, HasAnswer, AwaitsAnsw
 use Rattle.session_handshake.specs.declared.connection.GreetError.{GreetError}
 use Rattle.session_handshake.specs.declared.connection.GreetError.TheVariants.{BadFrame}
 use Rattle.session_handshake.specs.Exchanges.{Views, SameEnds, Carries, Gets, HasAsked, HasAnswered, HasBadAnswer, cuts_of}
-use Rattle.session_handshake.specs.Connections.{IsBegun, IsOpen, IsBadOver, IsAnsweredOver, asking}
+use Rattle.session_handshake.specs.Connections.{WereMade, IsBegun, IsOpen, IsBadOver, IsAnsweredOver, asking, past_of_views}
+use Rattle.session_handshake.proofs.Made.{made_settled}
 use Rattle.session_handshake.proofs.Told.{hello_told, answer_told, answer_form, bad_hello, never_unfit, not_closed, greets_it}
 
 -- over a new connection nothing was sent yet
@@ -151,3 +152,31 @@ with_asked (Err e) A S X a f = λ offset is. (a, λ s. f s offset is)
 
 pub awaits_any : (s : Listening) (put : List Arrival) (free : ℕ) (shown : Bool) → AwaitsAnswer s true [] put free → AwaitsAnswer s shown [] put free
 awaits_any s put free shown w = record { begun = w.begun; fresh = w.fresh; rest = w.rest; hears = λ _. w.hears refl; place = λ _. w.place refl }
+
+-- the ends are given back
+
+pub given_back : (from a b : Linking) (s : ℕ) (v : Views) → ConnectionMade from a s → CutsAdded a b s (cuts_of v) → b.past ≡ a.past ++ past_of_views s v ∷ [] → cuts_of v ≤ 1 → WereMade from b s (past_of_views s v ∷ [])
+given_back from a b s v made added past few = made_settled from a b s (past_of_views s v) made added past refl few
+
+abbrev with_cuts : ℕ → Views → ℕ → Past
+with_cuts s v n = record {
+  session = s;
+  cuts = n + v.up_rx.cuts + v.down_tx.cuts + v.down_rx.cuts;
+  from_primary = v.down_rx.received;
+  primary_ended = v.down_rx.closed;
+  to_primary = v.up_rx.received;
+  secondary_ended = v.up_rx.closed;
+}
+
+pub given_finished : (from a b : Linking) (s : ℕ) (v : Views) (up : Sending) → IsOpen from a s v → up.cuts ≡ v.up_tx.cuts → CutsAdded a b s (all_cuts up v.up_rx v.down_tx v.down_rx) → b.past ≡ a.past ++ past_of s up v.up_rx v.down_tx v.down_rx ∷ []
+    → WereMade from b s (past_of_views s v ∷ [])
+given_finished from a b s v up is_open e added past =
+    let same : past_of s up v.up_rx v.down_tx v.down_rx ≡ past_of_views s v = ap (with_cuts s v) e in
+    let zero = is_open.uncut in
+    given_back from a b s v is_open.made (subst (λ (n : ℕ). CutsAdded a b s (n + v.up_rx.cuts + v.down_tx.cuts + v.down_rx.cuts)) e added) (past ∙ ap (λ (p : Past). a.past ++ p ∷ []) same) (omega (arith, zero))
+
+pub not_cut : (s : ℕ) (v : Views) → cuts_of v ≡ 0 → was_cut (past_of_views s v) ≡ false
+not_cut s v zero = ap (λ (n : ℕ). nat_lt 0 n) zero
+
+pub was_one : (s : ℕ) (v : Views) → cuts_of v ≡ 1 → IsTrue (was_cut (past_of_views s v))
+was_one s v one = ap (λ (n : ℕ). nat_lt 0 n) one

@@ -7,3 +7,4 @@ pub mod Made
 pub mod Steps
 pub mod Turns
 pub mod Greets
+pub mod Sessions

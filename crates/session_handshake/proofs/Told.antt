@@ -149,3 +149,15 @@ not_closed told whole left s r t c l = elim r.closed as (λ b. b ≡ r.closed �
   | true ↦ (λ e. let over = l.closed (sym e) in let going = (c.going t).0 in let no : true ≡ false = sym over.0 ∙ going in let wrong : ⊥ = cc in absurd wrong)
   | false ↦ (λ e. refl)
 ] refl
+
+-- a primary's answer is a well-formed frame
+well_formed : (theirs : prefix.History) (hello answer : Frame) → IsFrame hello → Answers theirs hello answer → IsFrame answer
+well_formed theirs (Hello version name history) answer form a = answer_form theirs history answer form.fields.2 a
+well_formed theirs (Resume n) answer form a = absurd a
+well_formed theirs (RollbackFirst n) answer form a = absurd a
+well_formed theirs (History r) answer form a = absurd a
+well_formed theirs (Entry n t) answer form a = absurd a
+well_formed theirs (Bye n) answer form a = absurd a
+
+pub greeted_form : (theirs : prefix.History) (bytes : List ℕ) (answer : Frame) → IsGreetedBy theirs bytes answer → IsFrame answer
+greeted_form theirs bytes answer g = well_formed theirs g.hello answer g.form g.answers

@@ -2,6 +2,8 @@
 use Rattle.std.proofs.Common.{◌≡◌, ◌≢◌, ◌⊎◌, inl, inr, ℕ, ◌+◌, ◌-◌, ◌<◌, ◌≤◌, Bool, true, false, IsTrue, List, [], ◌∷◌, ◌++◌, length, Option, Some, None, Result, Ok, Err, IfOk, IfErr, OnOk, IsErrOf, refl, sym, ap, subst, ◌∙◌, arith}
 use Rattle.wire_defs.specs.Frames.{Frame, IsFrame, BeginsFrame, spelled_frame}
 use Rattle.wire_defs.specs.Links.{Sending, Receiving, SameSending, SameReceiving, SendingLooked, ReceivingLooked, KnowAll, counted}
+use Rattle.recv_pool.specs.declared.pool.PoolIn.{PoolIn}
+use Rattle.recv_pool.specs.Pools.{SameIn}
 use Rattle.receiver_server.specs.declared.step.Handshake.{Handshake}
 use Rattle.receiver_server.specs.Incomings.{Incoming}
 use Rattle.session_handshake.specs.declared.connection.GreetError.{GreetError}
@@ -120,3 +122,6 @@ answering_on told whole v w u left now x same tx rx carries cuts = record {
 
 pub answering_first : (told : Bool) (whole : List ℕ) (v : Views) → Carries told whole v.up_tx whole → cuts_of v ≡ 0 → IsAnswering told whole v v whole
 answering_first told whole v carries zero = record { same = ends_same v; down_tx = not_looked v.down_tx; up_rx = not_seen v.up_rx; carries = carries; uncut = zero }
+
+pub same_in : (a b c : PoolIn) → SameIn a b → SameIn b c → SameIn a c
+same_in a b c x y = ((y.0.0 ∙ x.0.0, y.0.1 ∙ x.0.1, y.0.2 ∙ x.0.2, y.0.3 ∙ x.0.3), y.1 ∙ x.1)

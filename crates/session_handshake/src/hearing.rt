@@ -214,9 +214,9 @@ pub(crate) fn close<R: LinkRx>(
     ensures cut { IsErrOf result GreetError.Cut → (R.receiving rx.new).cuts ≡ counted (R.receiving rx.old).cuts 1 }
     ensures uncut { (IsErrOf result GreetError.Cut → ⊥) → (R.receiving rx.new).cuts ≡ (R.receiving rx.old).cuts }
 {
-    if !receiver.is_over() {
-        return Ok(());
+    if receiver.is_over() {
+        let step = receiver.step(rx, pool);
+        return ended(step, receiver.offset());
     }
-    let step = receiver.step(rx, pool);
-    ended(step, receiver.offset())
+    Ok(())
 }
