@@ -61,11 +61,14 @@ answer_told f g begun s received more left sent form e k h =
 
 -- where a HELLO that is bad would begin
 
+one_frame : (f : Frame) → spelled_frame f ≡ stream (f ∷ []) ++ []
+one_frame f = sym (append-nil (spelled_frame f ++ []) ∙ append-nil (spelled_frame f))
+
 pub greets_it : (f : Frame) → IsFrame f → IsHello f → GreetsWith (spelled_frame f) f
 greets_it f form is = record {
   frames = [];
   now = true;
-  come = record { are = record { whole = sym (append-nil (spelled_frame f ++ [])) ∙ refl; each = (form, tt) }; admitted = (true, (refl, is, refl), refl) };
+  come = record { are = record { whole = one_frame f; each = (form, tt) }; admitted = (true, (refl, is, refl), refl) };
   over = refl;
 }
 
@@ -93,9 +96,6 @@ has_come p h bytes last = EndsWith (Fits p) (λ x. IsOver x.last) h bytes last
 bye : (n : ℕ) → n < 2 ^ 40 → IsFrame (Bye n)
 bye n few = record { fields = few; short = omega arith }
 
-one_frame : (f : Frame) → spelled_frame f ≡ stream (f ∷ []) ++ []
-one_frame f = sym (append-nil (spelled_frame f ++ []) ∙ append-nil (spelled_frame f))
-
 two_frames : (f g : Frame) → spelled_frame f ++ spelled_frame g ≡ stream (f ∷ g ∷ []) ++ []
 two_frames f g = sym (append-nil (spelled_frame f ++ (spelled_frame g ++ [])) ∙ ap (λ (l : List ℕ). spelled_frame f ++ l) (append-nil (spelled_frame g)))
 
@@ -111,8 +111,8 @@ resumed_whole Ships mine n few form is = (spelled_frame (Bye mine.length), Bye m
   frames = Resume n ∷ [];
   now = record (unbegun mine) { last = ship.Over };
   come = record {
-    are = record { whole = two_frames (Resume n) (Bye mine.length); each = (form, bye mine.length few, tt) };
-    admitted = (record (unbegun mine) { last = ship.Resumed }, (tt, is, refl), record (unbegun mine) { last = ship.Over }, (tt, refl, refl), refl);
+    are = record { whole = two_frames (Resume n) (Bye mine.length); each = (form, (bye mine.length few, tt)) };
+    admitted = (record (unbegun mine) { last = ship.Resumed }, (tt, is, refl), (record (unbegun mine) { last = ship.Over }, (tt, refl, refl), refl));
   };
   over = tt;
 })

@@ -12,28 +12,28 @@ use Rattle.session_handshake.proofs.Greets.{carries_new, gets_new, cuts_new, on_
 use Rattle.session_handshake.proofs.connection.talk.Goals as goal
 
 pub exchange-requires-clause-one : goal.exchange-requires-clause-one
-exchange-requires-clause-one g c = let x = c.requires.begun.2 in x.from_primary.connections.0 ∙ sym x.to_primary.connections.0
+exchange-requires-clause-one g c κs within = let x = c.requires.begun.2 in x.from_primary.connections.0 ∙ sym x.to_primary.connections.0
 
 pub exchange-requires-clause-frame : goal.exchange-requires-clause-frame
-exchange-requires-clause-frame g c = (greeting c.args.name.now (history_value c.args.mine.now), greeting_form c.args.name.now (history_value c.args.mine.now) c.requires.name c.requires.few c.requires.form, c.in-Ok.ensures)
+exchange-requires-clause-frame g c κs within = (greeting c.args.name.now (history_value c.args.mine.now), greeting_form c.args.name.now (history_value c.args.mine.now) c.requires.name c.requires.few c.requires.form, c.in-Ok.ensures)
 
 pub exchange-requires-clause-carries : goal.exchange-requires-clause-carries
-exchange-requires-clause-carries g c = let x = c.requires.begun.2 in carries_new c.requires.begun.0 (g.L.Linker.links c.args.links.now) c.requires.begun.1 _ _ _ _ x.made.told x.to_primary
+exchange-requires-clause-carries g c κs within = let x = c.requires.begun.2 in carries_new c.requires.begun.0 (g.L.Linker.links c.args.links.now) c.requires.begun.1 _ _ _ _ x.made.told x.to_primary
 
 pub exchange-requires-clause-idle : goal.exchange-requires-clause-idle
-exchange-requires-clause-idle g c = let x = c.requires.begun.2 in carries_new c.requires.begun.0 (g.L.Linker.links c.args.links.now) c.requires.begun.1 _ _ _ _ x.made.told x.from_primary
+exchange-requires-clause-idle g c κs within = let x = c.requires.begun.2 in carries_new c.requires.begun.0 (g.L.Linker.links c.args.links.now) c.requires.begun.1 _ _ _ _ x.made.told x.from_primary
 
 pub exchange-requires-clause-to_primary : goal.exchange-requires-clause-to_primary
-exchange-requires-clause-to_primary g c = let x = c.requires.begun.2 in gets_new c.requires.begun.0 (g.L.Linker.links c.args.links.now) c.requires.begun.1 _ _ _ x.made.told x.made.shown x.to_primary
+exchange-requires-clause-to_primary g c κs within = let x = c.requires.begun.2 in gets_new c.requires.begun.0 (g.L.Linker.links c.args.links.now) c.requires.begun.1 _ _ _ x.made.told x.made.shown x.to_primary
 
 pub exchange-requires-clause-to_secondary : goal.exchange-requires-clause-to_secondary
-exchange-requires-clause-to_secondary g c = let x = c.requires.begun.2 in gets_new c.requires.begun.0 (g.L.Linker.links c.args.links.now) c.requires.begun.1 _ _ _ x.made.told x.made.shown x.from_primary
+exchange-requires-clause-to_secondary g c κs within = let x = c.requires.begun.2 in gets_new c.requires.begun.0 (g.L.Linker.links c.args.links.now) c.requires.begun.1 _ _ _ x.made.told x.made.shown x.from_primary
 
 pub exchange-requires-clause-awaits : goal.exchange-requires-clause-awaits
-exchange-requires-clause-awaits g c = awaits_any c.args.hearing.now.receiver (put_in c.args.hearing.now.into) (free c.args.hearing.now.into) (g.L.Linker.links c.args.links.now).shown c.requires.awaits
+exchange-requires-clause-awaits g c κs within = awaits_any c.args.hearing.now.receiver (put_in c.args.hearing.now.into) (free c.args.hearing.now.into) (g.L.Linker.links c.args.links.now).shown c.requires.awaits
 
 pub exchange-requires-clause-uncut : goal.exchange-requires-clause-uncut
-exchange-requires-clause-uncut g c = cuts_new c.requires.begun.0 (g.L.Linker.links c.args.links.now) c.requires.begun.1 (views g.L.Tx.LinkTx.sending g.L.Rx.LinkRx.receiving c.args.ends.now) c.requires.begun.2
+exchange-requires-clause-uncut g c κs within = cuts_new c.requires.begun.0 (g.L.Linker.links c.args.links.now) c.requires.begun.1 (views g.L.Tx.LinkTx.sending g.L.Rx.LinkRx.receiving c.args.ends.now) c.requires.begun.2
 
 pub returns-clause-heard : goal.returns-clause-heard
 returns-clause-heard g c =
