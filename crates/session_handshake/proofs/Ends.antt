@@ -77,9 +77,9 @@ pub may_move : (told : Bool) (f : Frame) (left : List ℕ) (s : Sending) (r : Re
     → ((0 < s.free) × (left ≢ [])) ⊎ (r.unread ≢ [])
 may_move told f left s r form t c k not_whole = elim r.unread as (λ u. u ≡ r.unread → ((0 < s.free) × (left ≢ [])) ⊎ (r.unread ≢ [])) [
   | [] ↦ (λ e. inl (
-      (let fin = k.free (c.going t).0 in let size : length r.unread ≡ 0 = ap (λ (l : List ℕ). length l) (sym e) in omega (arith, fin, size, (c.going t).1)),
-      λ none. not_whole (sym (append-nil r.received) ∙ (ap (λ (l : List ℕ). r.received ++ l) e ∙ (k.unread ∙ (sym (append-nil s.sent) ∙ (ap (λ (l : List ℕ). s.sent ++ l) (sym none) ∙ c.sent t)))))
-    ))
+    (let fin = k.free (c.going t).0 in let size : length r.unread ≡ 0 = ap (λ (l : List ℕ). length l) (sym e) in omega (arith, fin, size, (c.going t).1)),
+    λ none. not_whole (sym (append-nil r.received) ∙ (ap (λ (l : List ℕ). r.received ++ l) e ∙ (k.unread ∙ (sym (append-nil s.sent) ∙ (ap (λ (l : List ℕ). s.sent ++ l) (sym none) ∙ c.sent t))))),
+  ))
   | b ∷ more ↦ (λ e. inr (λ none. let no : b ∷ more ≡ [] = e ∙ none in let wrong : ⊥ = cc in wrong))
 ] refl
 

@@ -68,8 +68,8 @@ got_fewer a b none good fresh read begins after more =
     = ap (λ (w : List Frame). length (stream w) + (if a.bad then 0 else length a.reading.rest) + length a.fresh) none
     ∙ (ap (λ (x : Bool). 0 + (if x then 0 else length a.reading.rest) + length a.fresh) good ∙ ap (λ (l : List ℕ). 0 + length a.reading.rest + length l) fresh) in
     let now : b.bad ≡ false → unheard b ≡ length (stream b.waiting) + length b.reading.rest + 0 = λ fine.
-        ap (λ (x : Bool). length (stream b.waiting) + (if x then 0 else length b.reading.rest) + length b.fresh) fine
-        ∙ ap (λ (l : List ℕ). length (stream b.waiting) + length b.reading.rest + length l) read in
+    ap (λ (x : Bool). length (stream b.waiting) + (if x then 0 else length b.reading.rest) + length b.fresh) fine
+    ∙ ap (λ (l : List ℕ). length (stream b.waiting) + length b.reading.rest + length l) read in
     let less = left_after b.waiting b.bad b.reading.rest (length a.reading.rest) few after (λ fine. let m = more fine in let n = now fine in omega (arith, m, n, before)) in
     omega (arith, less, here)
 

@@ -101,33 +101,45 @@ two_frames f g = sym (append-nil (spelled_frame f ++ (spelled_frame g ++ [])) �
 
 -- behind the answer the direction may be whole
 resumed_whole : (p : Purpose) (mine : prefix.History) (n : ℕ) → mine.length < 2 ^ 40 → IsFrame (Resume n) → n ≡ mine.length + 1 → (more : List ℕ) × (last : Frame) × has_come p (unbegun mine) (spelled_frame (Resume n) ++ more) last
-resumed_whole Asks mine n few form is = ([], Resume n, record {
-  frames = [];
-  now = record (unbegun mine) { last = ship.Over };
-  come = record { are = record { whole = append-nil (spelled_frame (Resume n)) ∙ one_frame (Resume n); each = (form, tt) }; admitted = (record (unbegun mine) { last = ship.Over }, (tt, is, refl), refl) };
-  over = tt;
-})
-resumed_whole Ships mine n few form is = (spelled_frame (Bye mine.length), Bye mine.length, record {
-  frames = Resume n ∷ [];
-  now = record (unbegun mine) { last = ship.Over };
-  come = record {
-    are = record { whole = two_frames (Resume n) (Bye mine.length); each = (form, (bye mine.length few, tt)) };
-    admitted = (record (unbegun mine) { last = ship.Resumed }, (tt, is, refl), (record (unbegun mine) { last = ship.Over }, (tt, refl, refl), refl));
-  };
-  over = tt;
-})
+resumed_whole Asks mine n few form is = (
+  [],
+  Resume n,
+  record {
+    frames = [];
+    now = record (unbegun mine) { last = ship.Over };
+    come = record { are = record { whole = append-nil (spelled_frame (Resume n)) ∙ one_frame (Resume n); each = (form, tt) }; admitted = (record (unbegun mine) { last = ship.Over }, (tt, is, refl), refl) };
+    over = tt;
+  },
+)
+resumed_whole Ships mine n few form is = (
+  spelled_frame (Bye mine.length),
+  Bye mine.length,
+  record {
+    frames = Resume n ∷ [];
+    now = record (unbegun mine) { last = ship.Over };
+    come = record {
+      are = record { whole = two_frames (Resume n) (Bye mine.length); each = (form, (bye mine.length few, tt)) };
+      admitted = (record (unbegun mine) { last = ship.Resumed }, (tt, is, refl), (record (unbegun mine) { last = ship.Over }, (tt, refl, refl), refl));
+    };
+    over = tt;
+  },
+)
 
 answer_whole : (p : Purpose) (theirs mine : prefix.History) (answer : Frame) → mine.length < 2 ^ 40 → IsAnswer theirs (carried mine) answer → (more : List ℕ) × (last : Frame) × has_come p (unbegun mine) (spelled_frame answer ++ more) last
 answer_whole p theirs mine (Resume n) few a = resumed_whole p mine n few (answer_form theirs (carried mine) (Resume n) few a) a.1
-answer_whole p theirs mine (RollbackFirst n) few a = ([], RollbackFirst n, record {
-  frames = [];
-  now = record (unbegun mine) { last = ship.Over };
-  come = record {
-    are = record { whole = append-nil (spelled_frame (RollbackFirst n)) ∙ one_frame (RollbackFirst n); each = (answer_form theirs (carried mine) (RollbackFirst n) few a, tt) };
-    admitted = (record (unbegun mine) { last = ship.Over }, (tt, omega (arith, a.3), omega (arith, a.2, a.3), refl), refl);
-  };
-  over = tt;
-})
+answer_whole p theirs mine (RollbackFirst n) few a = (
+  [],
+  RollbackFirst n,
+  record {
+    frames = [];
+    now = record (unbegun mine) { last = ship.Over };
+    come = record {
+      are = record { whole = append-nil (spelled_frame (RollbackFirst n)) ∙ one_frame (RollbackFirst n); each = (answer_form theirs (carried mine) (RollbackFirst n) few a, tt) };
+      admitted = (record (unbegun mine) { last = ship.Over }, (tt, omega (arith, a.3), omega (arith, a.2, a.3), refl), refl);
+    };
+    over = tt;
+  },
+)
 answer_whole p theirs mine (Hello version name history) few a = absurd a
 answer_whole p theirs mine (History r) few a = absurd a
 answer_whole p theirs mine (Entry n t) few a = absurd a
@@ -140,7 +152,7 @@ never_unfit p theirs mine answer frames received more offset few a e unfit =
     let w = answer_whole p theirs mine answer few a in
     let all : received ++ (more ++ w.0) ≡ spelled_frame answer ++ w.0 = sym (append_assoc received more w.0) ∙ ap (λ (l : List ℕ). l ++ w.0) e in
     let bad : HasUnfit p (unbegun mine) (spelled_frame answer ++ w.0) false offset = subst (λ (l : List ℕ). HasUnfit p (unbegun mine) l false offset) all
-        (stays_bad (Fits p) (fits_one p) (λ x. IsOver x.last) (fits_out p) (unbegun mine) received (more ++ w.0) false offset unfit.0) in
+    (stays_bad (Fits p) (fits_one p) (λ x. IsOver x.last) (fits_out p) (unbegun mine) received (more ++ w.0) false offset unfit.0) in
     bad_or_ended (Fits p) (fits_one p) (λ x. IsOver x.last) (fits_out p) (unbegun mine) (spelled_frame answer ++ w.0) false offset w.1 bad w.2
 
 -- over such a link no end was told

@@ -52,7 +52,7 @@ pub ask_less : (told : Bool) (m : Answer) (old now rest more : List ℕ) (p q s 
 ask_less told (Err e) old now rest more p q s t free unread few le sends tires moves grows tired may = tt
 ask_less told (Ok o) old now rest more p q s t free unread few le sends tires moves grows tired may = λ none.
     asks_fewer told old now rest more p q s t le (grows none) (few none)
-    (λ y. elim (may y) [ | inl x ↦ inl (sends y x.0 x.1) | inr x ↦ inr (moves y x none) ])
+    (λ y. elim (may y) [ inl x ↦ inl (sends y x.0 x.1) | inr x ↦ inr (moves y x none) ])
     tires
     (λ n. tired n none)
 
@@ -75,7 +75,7 @@ pub hear_less : (told : Bool) (m : Answer) (old now : List ℕ) (i j : Incoming)
 hear_less told (Err e) old now i j p q s t free M le sends tires moves grows tired may = tt
 hear_less told (Ok o) old now i j p q s t free M le sends tires moves grows tired may = λ none.
     hears_fewer told old now i j p q s t le (grows none)
-    (λ y. elim (may y) [ | inl x ↦ inl (sends y x.0 x.1) | inr x ↦ inr (moves y x none) ])
+    (λ y. elim (may y) [ inl x ↦ inl (sends y x.0 x.1) | inr x ↦ inr (moves y x none) ])
     tires
     (λ n. tired n none)
 

@@ -45,8 +45,8 @@ fn ask_step<T: LinkTx, R: LinkRx>(
     ensures fewer { (told : Bool) → (T.sending tx.old).told ≡ told → (R.receiving rx.old).told ≡ told
         → (IsTrue told → ((0 < (T.sending tx.old).free) × (hello.old ≢ [])) ⊎ ((R.receiving rx.old).unread ≢ []))
         → IfOk result (λ o. o ≡ None →
-            left_to_ask told hello.new greeter.new.frames.rest ((T.sending tx.new).patience + (R.receiving rx.new).patience)
-            < left_to_ask told hello.old greeter.old.frames.rest ((T.sending tx.old).patience + (R.receiving rx.old).patience)) }
+        left_to_ask told hello.new greeter.new.frames.rest ((T.sending tx.new).patience + (R.receiving rx.new).patience)
+        < left_to_ask told hello.old greeter.old.frames.rest ((T.sending tx.old).patience + (R.receiving rx.old).patience)) }
 {
     match hello.send(tx) {
         Ok(()) => greeter.step(theirs, rx),

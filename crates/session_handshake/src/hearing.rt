@@ -94,8 +94,8 @@ fn answer_step<T: LinkTx, R: LinkRx>(
     ensures fewer { (told : Bool) → (T.sending tx.old).told ≡ told → (R.receiving rx.old).told ≡ told
         → (IsTrue told → ((0 < (T.sending tx.old).free) × (answer.old ≢ [])) ⊎ (receiver.old.incoming.waiting ≡ [] → (R.receiving rx.old).unread ≢ []))
         → IfOk result (λ o. o ≡ None →
-            left_to_hear told answer.new receiver.new.incoming ((T.sending tx.new).patience + (R.receiving rx.new).patience)
-            < left_to_hear told answer.old receiver.old.incoming ((T.sending tx.old).patience + (R.receiving rx.old).patience)) }
+        left_to_hear told answer.new receiver.new.incoming ((T.sending tx.new).patience + (R.receiving rx.new).patience)
+        < left_to_hear told answer.old receiver.old.incoming ((T.sending tx.old).patience + (R.receiving rx.old).patience)) }
 {
     match answer.send(tx) {
         Ok(()) => hear_step(receiver, pool, rx),

@@ -86,15 +86,7 @@ pub fn handshake<L: Linker>(
 {
     let mut cuts = 0;
     while cuts < MOST_CUTS {
-        match greet(
-            alloc,
-            theirs,
-            mine,
-            name,
-            Purpose::Asks,
-            links,
-            session,
-        ) {
+        match greet(alloc, theirs, mine, name, Purpose::Asks, links, session) {
             Ok(greeted) => return Ok(settled(greeted, links, session)),
             Err(GreetError::Cut) => cuts += 1,
             Err(GreetError::BadFrame { offset }) => return Err(SessionError::BadFrame { offset }),

@@ -18,6 +18,6 @@ loop-answer-preserved g c =
     let before = c.loop-answer.invariant.1 in (
       c.hello_turn.ensures.lines,
       asking_on told shown c.args.hello v w u c.loop-answer.outgoing c.loop-answer.greeter.frames.rest c.hello_turn.new.hello c.hello_turn.new.greeter.frames.rest before c.hello_turn.ensures.same c.hello_turn.ensures.up_tx
-      c.hello_turn.ensures.down_rx (c.hello_turn.ensures.carries c.args.hello before.carries) (c.in-Ok-None.ensures.gets c.in-Ok-None.field-0-is) (c.in-Ok-None.ensures.uncut (λ e. let no : ⊥ = cc in no)),
+          c.hello_turn.ensures.down_rx (c.hello_turn.ensures.carries c.args.hello before.carries) (c.in-Ok-None.ensures.gets c.in-Ok-None.field-0-is) (c.in-Ok-None.ensures.uncut (λ e. let no : ⊥ = cc in no)),
       c.in-Ok-None.ensures.awaits c.in-Ok-None.field-0-is,
     )

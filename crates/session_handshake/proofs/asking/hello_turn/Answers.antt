@@ -15,8 +15,8 @@ returns-clause-fewer g c =
     let form = c.requires.frame.1 in
     let carries = c.requires.frame.2 in
     let may : IsTrue told → ((0 < mt.free) × (c.args.hello.now ≢ [])) ⊎ (mr.unread ≢ []) = λ t.
-        may_move told f c.args.hello.now mt mr form t (carries_looked told (spelled_frame f) c.args.hello.now tx mt c.beside.ensures.down_tx carries) (c.beside.ensures.to_primary t)
-        (λ all. not_all f c.args.greeter.now.frames.rest form c.requires.awaits.begins (sym (c.requires.gets.received_is (g.met.L.Linker.lawful c.args.links.now t)) ∙ (sym c.beside.ensures.up_rx.received ∙ all))) in
+    may_move told f c.args.hello.now mt mr form t (carries_looked told (spelled_frame f) c.args.hello.now tx mt c.beside.ensures.down_tx carries) (c.beside.ensures.to_primary t)
+    (λ all. not_all f c.args.greeter.now.frames.rest form c.requires.awaits.begins (sym (c.requires.gets.received_is (g.met.L.Linker.lawful c.args.links.now t)) ∙ (sym c.beside.ensures.up_rx.received ∙ all))) in
     let less = c.ask_step.ensures.fewer told (c.beside.ensures.down_tx.same.told ∙ carries.told_is) (c.beside.ensures.up_rx.same.told ∙ c.requires.gets.told_is) may in
     let same : mt.patience + mr.patience ≡ tx.patience + rx.patience = omega (arith, c.beside.ensures.down_tx.patience, c.beside.ensures.up_rx.patience) in
     subst (λ (n : ℕ). IfOk c.ask_step.result (λ o. o ≡ None → left_to_ask told c.ask_step.new.hello c.ask_step.new.greeter.frames.rest ((g.L.Tx.LinkTx.sending c.ask_step.new.tx).patience + (g.L.Rx.LinkRx.receiving c.ask_step.new.rx).patience)

@@ -1,4 +1,4 @@
-use Rattle.std.proofs.Common.{◌≡◌, ◌⊎◌, ℕ, ◌<◌, ◌≤◌, [], ◌∷◌, false, IsTrue, IsErrOf, Err, List, refl, sym, subst, ◌∙◌, arith}
+use Rattle.std.proofs.Common.{◌≡◌, ◌⊎◌, ℕ, ◌<◌, ◌≤◌, [], ◌∷◌, false, IsTrue, IsErrOf, Err, List, refl, sym, ap, subst, ◌∙◌, arith}
 use Rattle.gvn_model.specs.Entries.{history_value}
 use Rattle.wire_defs.specs.Links.{Past, was_cut}
 use Rattle.ship_defs.specs.Hearing.{Purpose, unbegun}
@@ -73,7 +73,8 @@ returns-in-Ok-talk-clause-sent g c = λ told.
 pub returns-in-Err-talk-clause-cut : goal.returns-in-Err-talk-clause-cut
 returns-in-Err-talk-clause-cut g c = λ e.
     let w = views g.L.Tx.LinkTx.sending g.L.Rx.LinkRx.receiving c.talk.new.ends in
-    let one : cuts_of w ≡ 1 = c.in-Err-talk.ensures.cut e in
+    let same : c.in-Err-talk.error ≡ Cut = cc in
+    let one : cuts_of w ≡ 1 = c.in-Err-talk.ensures.cut (ap Err same) in
     (past_of_views c.args.session w, given_back (g.L.Linker.links c.args.links.now) (g.L.Linker.links c.connect.new.links) (g.L.Linker.links c.settle.new.self) c.args.session w c.in-Ok-connect.ensures.begun.made c.settle.ensures.cuts c.settle.ensures.past (omega (arith, one)), was_one c.args.session w one)
 
 pub returns-in-Err-talk-clause-bad : goal.returns-in-Err-talk-clause-bad

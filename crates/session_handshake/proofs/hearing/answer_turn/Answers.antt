@@ -14,7 +14,7 @@ use Rattle.session_handshake.proofs.hearing.answer_turn.Goals as goal
 may_hear : (told : Bool) (f : Frame) (left : List ℕ) (s : Sending) (r : Receiving) (l : Listening) → IsFrame f → IsTrue told → Carries told (spelled_frame f) s left → KnowAll s r → l.incoming.fresh ≡ [] → IsHearing l.heard l r.received [] []
     → ((0 < s.free) × (left ≢ [])) ⊎ (l.incoming.waiting ≡ [] → r.unread ≢ [])
 may_hear told f left s r l form t carries all fresh hears = elim l.incoming.waiting as (λ w. w ≡ l.incoming.waiting → ((0 < s.free) × (left ≢ [])) ⊎ (l.incoming.waiting ≡ [] → r.unread ≢ [])) [
-  | [] ↦ (λ e. elim (may_move told f left s r form t carries all (λ whole. not_answered f l.heard l r.received form (sym e) fresh hears whole)) [ | inl x ↦ inl x | inr x ↦ inr (λ _. x) ])
+  | [] ↦ (λ e. elim (may_move told f left s r form t carries all (λ whole. not_answered f l.heard l r.received form (sym e) fresh hears whole)) [ inl x ↦ inl x | inr x ↦ inr (λ _. x) ])
   | w ∷ ws ↦ (λ e. inr (λ none. let no : w ∷ ws ≡ [] = e ∙ none in let wrong : ⊥ = cc in absurd wrong))
 ] refl
 
@@ -27,9 +27,9 @@ returns-clause-fewer g c =
     let mr = g.L.Rx.LinkRx.receiving c.beside.new.ends.down_rx in
     let s = c.args.receiver.now in
     let may : IsTrue told → ((0 < mt.free) × (c.args.answer.now ≢ [])) ⊎ (s.incoming.waiting ≡ [] → mr.unread ≢ []) = λ t.
-        let fr = c.requires.frame t in
-        may_hear told fr.0 c.args.answer.now mt mr s fr.1 t (carries_looked told (spelled_frame fr.0) c.args.answer.now tx mt c.beside.ensures.up_tx fr.2) (c.beside.ensures.from_primary t) c.requires.awaits.fresh
-        (subst (λ (l : List ℕ). IsHearing s.heard s l [] []) (sym c.beside.ensures.down_rx.received) (c.requires.awaits.hears (g.met.L.Linker.lawful c.args.links.now t))) in
+    let fr = c.requires.frame t in
+    may_hear told fr.0 c.args.answer.now mt mr s fr.1 t (carries_looked told (spelled_frame fr.0) c.args.answer.now tx mt c.beside.ensures.up_tx fr.2) (c.beside.ensures.from_primary t) c.requires.awaits.fresh
+    (subst (λ (l : List ℕ). IsHearing s.heard s l [] []) (sym c.beside.ensures.down_rx.received) (c.requires.awaits.hears (g.met.L.Linker.lawful c.args.links.now t))) in
     let less = c.answer_step.ensures.fewer told (c.beside.ensures.up_tx.same.told ∙ c.requires.told) (c.beside.ensures.down_rx.same.told ∙ c.requires.gets.told_is) may in
     let same : mt.patience + mr.patience ≡ tx.patience + rx.patience = omega (arith, c.beside.ensures.up_tx.patience, c.beside.ensures.down_rx.patience) in
     subst (λ (n : ℕ). IfOk c.answer_step.result (λ o. o ≡ None → left_to_hear told c.answer_step.new.answer c.answer_step.new.receiver.incoming ((g.L.Tx.LinkTx.sending c.answer_step.new.tx).patience + (g.L.Rx.LinkRx.receiving c.answer_step.new.rx).patience)

@@ -33,7 +33,7 @@ loop-answer-preserved g c =
     let before = c.loop-answer.invariant.1 in (
       c.answer_turn.ensures.lines,
       answering_on told c.args.answer v w u c.loop-answer.outgoing c.answer_turn.new.answer before c.answer_turn.ensures.same c.answer_turn.ensures.down_tx c.answer_turn.ensures.up_rx
-      (c.answer_turn.ensures.carries c.args.answer before.carries) (c.in-Ok-None.ensures.uncut (λ e. let no : ⊥ = cc in no)),
+          (c.answer_turn.ensures.carries c.args.answer before.carries) (c.in-Ok-None.ensures.uncut (λ e. let no : ⊥ = cc in no)),
       c.in-Ok-None.ensures.closed,
       c.in-Ok-None.ensures.awaits c.in-Ok-None.field-0-is,
       same_in c.args.pool.now c.loop-answer.pool c.answer_turn.new.pool c.loop-answer.invariant.4 c.answer_turn.ensures.pool,

@@ -21,7 +21,7 @@ loop-cuts-preserved g c =
     (inv.0 ++ cut.0 ∷ [], made_on (g.L.Linker.links c.args.links.now) (g.L.Linker.links c.loop-cuts.links) (g.L.Linker.links c.greet.new.links) c.args.session inv.0 (cut.0 ∷ []) inv.1 cut.1, count_push inv.0 cut.0 c.loop-cuts.cuts inv.2 cut.2, omega arith)
 
 pub settled-requires-clause-open : goal.settled-requires-clause-open
-settled-requires-clause-open g c = (g.L.Linker.links c.loop-cuts.links, c.in-Ok.ensures.open)
+settled-requires-clause-open g c κs within = (g.L.Linker.links c.loop-cuts.links, c.in-Ok.ensures.open)
 
 pub returns-in-Ok-clause-made : goal.returns-in-Ok-clause-made
 returns-in-Ok-clause-made g c =
@@ -54,9 +54,9 @@ returns-in-Ok-clause-met g c =
     met_answer (g.L.Linker.links c.args.links.now) m (g.L.Linker.links c.settled.new.links) c.args.session inv.0 p c.loop-cuts.cuts inv.1 (c.settled.ensures.made m c.in-Ok.ensures.open) inv.2 few
     (not_cut c.args.session v c.in-Ok.ensures.open.uncut) (g.L.Linker.links c.args.links.now).shown mine c.settled.result
     (λ shown.
-      let t = inv.1.shown ∙ shown in
-      subst (λ (h : Handshake). IsAnsweredOver Asks mine p (answer_frame h)) (sym c.settled.ensures.answer)
-      (c.in-Ok.ensures.greeted t, ends_asked mine s v.down_rx.received c.in-Ok.greeted.answer c.in-Ok.ensures.purpose over (c.in-Ok.ensures.over over) (c.in-Ok.ensures.hears t)))
+    let t = inv.1.shown ∙ shown in
+    subst (λ (h : Handshake). IsAnsweredOver Asks mine p (answer_frame h)) (sym c.settled.ensures.answer)
+    (c.in-Ok.ensures.greeted t, ends_asked mine s v.down_rx.received c.in-Ok.greeted.answer c.in-Ok.ensures.purpose over (c.in-Ok.ensures.over over) (c.in-Ok.ensures.hears t)))
 
 pub returns-in-Ok-clause-answer : goal.returns-in-Ok-clause-answer
 returns-in-Ok-clause-answer g c = λ told.
