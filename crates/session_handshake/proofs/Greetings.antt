@@ -1,12 +1,12 @@
 -- What a primary makes of the bytes that come to it.
-use Rattle.std.proofs.Common.{◌≡◌, ◌≢◌, ◌⊎◌, inl, inr, ℕ, ◌+◌, ◌-◌, ◌^◌, ◌<◌, ◌≤◌, min, map, get_or, Bool, true, false, IsTrue, List, [], ◌∷◌, ◌++◌, length, Result, Ok, Err, refl, sym, ap, subst, ◌∙◌, arith, append_assoc, append-nil, length-append}
+use Rattle.std.proofs.Common.{◌≡◌, ◌≢◌, inl, inr, ℕ, ◌≤◌, map, get_or, true, false, List, [], ◌∷◌, ◌++◌, length, Ok, Err, refl, sym, ap, subst, ◌∙◌, arith, append_assoc, append-nil, length-append}
 use Rattle.global_defs.specs.Prefix as prefix
-use Rattle.wire_defs.specs.Frames.{Frame, IsFrame, BeginsNone, BeginsFrame, AreFrames, spelled_frame, frame_body, stream, offset_after}
+use Rattle.wire_defs.specs.Frames.{Frame, BeginsNone, BeginsFrame, AreFrames, spelled_frame, stream}
 use Rattle.repl_wire.specs.declared.frame.Frame.{Frame as Given}
 use Rattle.repl_wire.specs.Values.{frame_value}
 use Rattle.repl_wire.specs.Feeds.{Takes}
 use Rattle.ship_defs.specs.Directions.{refused, begins_none, behind_last, too_short}
-use Rattle.ship_defs.specs.Greeting.{IsHello, Greets, IsBadToPrimary}
+use Rattle.ship_defs.specs.Greeting.{IsBadToPrimary}
 use Rattle.receiver_server.specs.declared.step.Handshake.{Handshake}
 use Rattle.receiver_server.specs.Answers.{answer_frame}
 use Rattle.session_handshake.specs.Answering.{Judges, IsGreetedBy}

@@ -1,9 +1,9 @@
 -- A connection from its making to its answer, or to its giving back.
-use Rattle.std.proofs.Common.{◌≡◌, ◌≢◌, ◌⊎◌, inl, inr, ℕ, ◌+◌, ◌^◌, ◌<◌, ◌≤◌, Bool, true, false, IsTrue, nat_lt, Option, Result, Ok, Err, IfErr, OnOk, List, [], ◌∷◌, ◌++◌, length, map, refl, sym, ap, subst, ◌∙◌, arith, append_assoc, append-nil}
+use Rattle.std.proofs.Common.{◌≡◌, ◌⊎◌, inl, inr, ℕ, ◌+◌, ◌^◌, ◌<◌, ◌≤◌, Bool, true, false, IsTrue, nat_lt, Option, Result, Ok, Err, IfErr, OnOk, List, [], ◌∷◌, ◌++◌, map, refl, sym, ap, subst, ◌∙◌, arith, append_assoc}
 use Rattle.global_defs.specs.Entry.{Globals}
 use Rattle.global_defs.specs.Prefix as prefix
 use Rattle.global_defs.specs.Prefix.{IsPrefix}
-use Rattle.wire_defs.specs.Frames.{Frame, Resume, RollbackFirst, IsFrame, spelled_frame}
+use Rattle.wire_defs.specs.Frames.{Frame, spelled_frame}
 use Rattle.wire_defs.specs.Links as links
 use Rattle.wire_defs.specs.Links.{Linking, Sending, Receiving, Past, KnowAll, SendingLooked, ReceivingLooked, IsNewDirection, ConnectionMade, CutsAdded, was_cut, past_of, all_cuts}
 use Rattle.ship_defs.specs.Arrivals.{Arrival}
@@ -20,7 +20,7 @@ use Rattle.session_handshake.specs.Answering.{IsGreetedBy, HasAnswer, AwaitsAnsw
 use Rattle.session_handshake.specs.declared.connection.GreetError.{GreetError}
 use Rattle.session_handshake.specs.declared.connection.GreetError.TheVariants.{BadFrame}
 use Rattle.session_handshake.specs.Exchanges.{Views, SameEnds, Carries, Gets, HasAsked, HasAnswered, HasBadAnswer, cuts_of}
-use Rattle.session_handshake.specs.Connections.{WereMade, IsBegun, IsOpen, IsBadOver, IsAnsweredOver, asking, past_of_views}
+use Rattle.session_handshake.specs.Connections.{WereMade, IsBegun, IsOpen, IsBadOver, asking, past_of_views}
 use Rattle.session_handshake.proofs.Made.{made_settled}
 use Rattle.session_handshake.proofs.Told.{hello_told, answer_told, answer_form, bad_hello, never_unfit, not_closed, greets_it}
 

@@ -1,20 +1,17 @@
 -- What a secondary's steps mean for the answer that it waits for.
-use Rattle.std.proofs.Common.{◌≡◌, ◌≢◌, ◌⊎◌, inl, inr, ℕ, ◌+◌, ◌-◌, ◌^◌, ◌<◌, ◌≤◌, Bool, true, false, IsTrue, List, [], ◌∷◌, ◌++◌, length, Option, Some, None, Result, Ok, Err, IfOk, IfErr, refl, sym, ap, subst, ◌∙◌, arith, append_assoc, append-nil, length-append, if◌then◌else◌}
-use Rattle.wire_defs.specs.Frames.{Frame, Hello, Resume, RollbackFirst, History, Entry, Bye, IsFrame, AreFrames, BeginsFrame, BeginsNone, Reading, spelled_frame, stream, offset_after}
-use Rattle.ship_defs.specs.Arrivals.{Arrival, arrivals}
+use Rattle.std.proofs.Common.{◌≡◌, ◌⊎◌, inl, inr, ℕ, ◌+◌, ◌-◌, ◌<◌, ◌≤◌, Bool, true, false, List, [], ◌∷◌, ◌++◌, length, None, refl, sym, ap, ◌∙◌, arith, append-nil, if◌then◌else◌}
+use Rattle.wire_defs.specs.Frames.{Frame, Hello, Resume, RollbackFirst, History, Entry, Bye, IsFrame, BeginsFrame, spelled_frame, stream, offset_after}
+use Rattle.ship_defs.specs.Arrivals.{arrivals}
 use Rattle.ship_defs.specs.Hearing as ship
 use Rattle.ship_defs.specs.Hearing.{Purpose, Heard, Last, Fits, IsUnbegun, Unbegun}
 use Rattle.receiver_server.specs.Hearings.{behind}
 use Rattle.receiver_server.specs.Incomings.{Incoming, unheard}
 use Rattle.receiver_server.specs.Answers.{answer_frame}
-use Rattle.receiver_server.specs.Listenings.{Listening, HasTail, IsHearing, HasHeard, HasGot, IsNoAnswer, Hears, Does}
+use Rattle.receiver_server.specs.Listenings.{Listening, HasTail, IsHearing, IsNoAnswer}
 use Rattle.receiver_server.proofs.Kept.{begins_few}
 use Rattle.receiver_server.specs.declared.step.Handshake.{Handshake}
 use Rattle.receiver_server.specs.declared.step.Handshake.TheVariants as handshake
-use Rattle.receiver_server.specs.declared.step.HearError.{HearError}
-use Rattle.receiver_server.specs.declared.step.Step.{Step}
-use Rattle.receiver_server.specs.declared.step.Step.TheVariants.{Received, Answered, Heard as HeardOne, Waits, Over, Ended}
-use Rattle.session_handshake.specs.Answering.{LIMIT, left_behind, left_of, left_to_hear}
+use Rattle.session_handshake.specs.Answering.{LIMIT, left_behind, left_of}
 use Rattle.session_handshake.proofs.Ends.{not_all}
 
 -- a frame that an unbegun secondary hears is an answer

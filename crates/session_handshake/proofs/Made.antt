@@ -1,11 +1,11 @@
 -- Connections that were made and given back, one after another.
-use Rattle.std.proofs.Common.{◌≡◌, ◌⊎◌, inl, inr, ℕ, ◌+◌, ◌-◌, ◌^◌, ◌<◌, ◌≤◌, ◌==◌, min, Bool, true, false, IsTrue, List, [], ◌∷◌, ◌++◌, length, drop, refl, sym, ap, subst, ◌∙◌, arith, append_assoc, append-nil, if◌then◌else◌}
+use Rattle.std.proofs.Common.{◌≡◌, ℕ, ◌+◌, ◌≤◌, ◌==◌, true, false, IsTrue, List, [], ◌∷◌, ◌++◌, length, drop, refl, sym, ap, ◌∙◌, arith, append_assoc, append-nil, if◌then◌else◌}
 use Rattle.std.specs.Prelude.{fold, filter, count_by}
 use Rattle.std.specs.List.{AllByRecursion}
 use Rattle.std.proofs.Math.Seq.{drop-append_seam}
 use Rattle.std.proofs.lemmas.List.Sums.{fold-append, sum_by-append, sum_by-cons}
 use Rattle.std.proofs.lemmas.Bool.Decides.{nat_tests}
-use Rattle.wire_defs.specs.Links.{Linking, Past, SameLinks, ConnectionMade, CutsAdded, counted, was_cut, cut_at_once, past_since, later_orders}
+use Rattle.wire_defs.specs.Links.{Linking, Past, SameLinks, ConnectionMade, CutsAdded, counted, was_cut, cut_at_once, past_since}
 use Rattle.session_handshake.specs.Connections.{WereMade}
 
 abbrev cuts_after : ℕ → List Past → ℕ

@@ -1,5 +1,5 @@
 -- A session's connections, each but the last of which was cut.
-use Rattle.std.proofs.Common.{◌≡◌, ◌↔◌, ℕ, ◌+◌, ◌<◌, ◌≤◌, Bool, true, false, IsTrue, List, [], ◌∷◌, ◌++◌, count_by, Result, Ok, Err, refl, sym, ap, subst, ◌∙◌, arith}
+use Rattle.std.proofs.Common.{◌≡◌, ◌↔◌, ℕ, ◌<◌, ◌≤◌, Bool, false, IsTrue, List, [], ◌∷◌, ◌++◌, count_by, Result, Ok, Err, sym, ap, subst, ◌∙◌, arith}
 use Rattle.std.specs.List.{AllByRecursion}
 use Rattle.global_defs.specs.Prefix as prefix
 use Rattle.wire_defs.specs.Links.{Linking, Past, was_cut, past_since}
@@ -7,7 +7,7 @@ use Rattle.ship_defs.specs.Hearing.{Asks}
 use Rattle.receiver_server.specs.declared.step.Handshake.{Handshake}
 use Rattle.receiver_server.specs.Answers.{answer_frame}
 use Rattle.session_handshake.specs.declared.session.SessionError.{SessionError}
-use Rattle.session_handshake.specs.declared.session.SessionError.TheVariants.{LinkCut, BadFrame, NoMemory}
+use Rattle.session_handshake.specs.declared.session.SessionError.TheVariants.{LinkCut, BadFrame}
 use Rattle.session_handshake.specs.Connections.{WereMade, Met, IsAnsweredOver, IsBadOver}
 use Rattle.session_handshake.proofs.Made.{made_on, since_is, count_still}
 

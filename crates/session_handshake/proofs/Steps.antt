@@ -1,5 +1,5 @@
 -- A secondary's step, where it waits for the answer.
-use Rattle.std.proofs.Common.{◌≡◌, ◌≢◌, ◌↔◌, ℕ, ◌+◌, ◌-◌, ◌^◌, ◌<◌, ◌≤◌, ◌||◌, Bool, true, false, IsTrue, List, [], ◌∷◌, ◌++◌, length, Option, Some, None, Result, Ok, Err, IfOk, IfErr, OnOk, IsErrOf, refl, sym, ap, subst, ◌∙◌, arith}
+use Rattle.std.proofs.Common.{◌≡◌, ◌≢◌, ◌↔◌, ℕ, ◌+◌, ◌<◌, ◌≤◌, ◌||◌, Bool, true, false, IsTrue, List, [], ◌∷◌, length, Option, Some, None, Result, Ok, Err, IfOk, IfErr, OnOk, IsErrOf, refl, sym, ap, subst, ◌∙◌, arith}
 use Rattle.wire_defs.specs.Frames.{Frame, BeginsFrame}
 use Rattle.wire_defs.specs.Links.{Receiving}
 use Rattle.ship_defs.specs.Arrivals.{Arrival, arrivals}
@@ -7,7 +7,6 @@ use Rattle.ship_defs.specs.Hearing as ship
 use Rattle.ship_defs.specs.Hearing.{Heard, Last, Unbegun}
 use Rattle.receiver_server.specs.Hearings.{behind}
 use Rattle.receiver_server.specs.Answers.{answer_frame, is_ended, patience_cost, IsOverAnswer}
-use Rattle.receiver_server.specs.Incomings.{Incoming}
 use Rattle.receiver_server.specs.Listenings.{Listening, IsHearing, IsIdle, IsQuiet, IsUnfitBehind, Hears, Does}
 use Rattle.receiver_server.proofs.Pulled.{no_frames}
 use Rattle.receiver_server.proofs.Told.{ends_early}

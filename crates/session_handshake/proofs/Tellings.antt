@@ -1,5 +1,5 @@
 -- What a HELLO tells of a history.
-use Rattle.std.proofs.Common.{◌≡◌, ℕ, zero, suc, ◌+◌, ◌*◌, ◌^◌, ◌<◌, ◌≤◌, nat_le, Bool, true, false, List, [], ◌∷◌, ◌++◌, length, take, refl, sym, ap, subst, ◌∙◌, arith, length-append, if◌then◌else◌}
+use Rattle.std.proofs.Common.{◌≡◌, ℕ, zero, suc, ◌+◌, ◌*◌, ◌^◌, ◌<◌, ◌≤◌, nat_le, true, false, List, [], ◌∷◌, ◌++◌, length, take, refl, sym, ap, ◌∙◌, arith, length-append, if◌then◌else◌}
 use Rattle.std.specs.Int.{to_be_bytes, w32, w64}
 use Rattle.std.specs.List.{AllByRecursion, flat_map}
 use Rattle.std.proofs.lemmas.List.{take-append-le, take_all, length-take}
@@ -7,7 +7,7 @@ use Rattle.global_defs.specs.Entry.{Reign}
 use Rattle.global_defs.specs.Fields.{IsReign, IsSiteName, short}
 use Rattle.global_defs.specs.Prefix.{History}
 use Rattle.lineage_defs.specs.Histories.{MOST_REIGNS, begun_by}
-use Rattle.wire_defs.specs.Frames.{Hello, IsFrame, frame_body, spelled_reign}
+use Rattle.wire_defs.specs.Frames.{Hello, IsFrame, spelled_reign}
 use Rattle.ship_defs.specs.Greeting.{carried, greeting}
 
 -- one more of a list that is cut off at a length

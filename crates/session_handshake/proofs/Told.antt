@@ -1,21 +1,17 @@
 -- Over links that tell their bytes: what came is what was sent, so the answer is the primary's, and the HELLO alone can be bad.
-use Rattle.std.proofs.Common.{◌≡◌, ◌≢◌, ◌⊎◌, inl, inr, ℕ, ◌+◌, ◌^◌, ◌<◌, ◌≤◌, min, Bool, true, false, IsTrue, List, [], ◌∷◌, ◌++◌, length, map, refl, sym, ap, subst, ◌∙◌, arith, append_assoc, append-nil, length-append}
-use Rattle.std.specs.List.{AllByRecursion}
+use Rattle.std.proofs.Common.{◌≡◌, ℕ, ◌+◌, ◌^◌, ◌<◌, Bool, true, false, IsTrue, List, [], ◌∷◌, ◌++◌, refl, sym, ap, subst, ◌∙◌, arith, append_assoc, append-nil}
 use Rattle.global_defs.specs.Prefix as prefix
 use Rattle.global_defs.specs.Prefix.{IsPrefix}
-use Rattle.wire_defs.specs.Frames.{Frame, Hello, Resume, RollbackFirst, History, Entry, Bye, IsFrame, AreFrames, spelled_frame, stream, offset_after}
+use Rattle.wire_defs.specs.Frames.{Frame, Hello, Resume, RollbackFirst, History, Entry, Bye, IsFrame, spelled_frame, stream}
 use Rattle.wire_defs.specs.Links as links
 use Rattle.wire_defs.specs.Links.{Sending, Receiving}
-use Rattle.ship_defs.specs.Arrivals.{Arrival}
-use Rattle.ship_defs.specs.Directions.{Admitted, IsBadAt, EndsWith, refused}
+use Rattle.ship_defs.specs.Directions.{EndsWith, refused}
 use Rattle.ship_defs.specs.Hearing as ship
 use Rattle.ship_defs.specs.Hearing.{Purpose, Asks, Ships, Heard, Fits, IsOver, HasUnfit, behind_resume, unbegun}
 use Rattle.ship_defs.specs.Greeting.{IsHello, IsAnswer, Greets, IsBadToPrimary, GreetsWith, carried, greeting}
 use Rattle.ship_laws.proofs.Walks.{at_one, bad_or_ended, stays_bad}
 use Rattle.ship_laws.proofs.Rules.{fits_one, greets_one, fits_out, greets_out}
 use Rattle.repl_wire.proofs.Apart.{frame_one}
-use Rattle.receiver_server.specs.declared.step.Handshake.{Handshake}
-use Rattle.receiver_server.specs.Answers.{answer_frame}
 use Rattle.receiver_server.specs.Listenings.{Listening, IsHearing, IsUnfitBehind}
 use Rattle.session_handshake.specs.Answering.{IsGreetedBy, Answers}
 use Rattle.session_handshake.specs.Exchanges.{Carries}

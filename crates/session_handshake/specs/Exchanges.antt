@@ -1,5 +1,5 @@
 -- The four ends of a connection while HELLO and its answer are exchanged.
-use Rattle.std.specs.Prelude.{◌≡◌, ℕ, ◌+◌, ◌<◌, Bool, false, IsTrue, List, ◌++◌, map}
+use Rattle.std.specs.Prelude.{◌≡◌, ℕ, ◌<◌, Bool, false, IsTrue, List, ◌++◌, map}
 use Rattle.global_defs.specs.Prefix as prefix
 use Rattle.wire_defs.specs.Frames.{Frame, IsFrame, spelled_frame}
 use Rattle.wire_defs.specs.Links.{Sending, Receiving, SameSending, SameReceiving, all_cuts}

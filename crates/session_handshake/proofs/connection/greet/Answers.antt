@@ -1,15 +1,13 @@
-use Rattle.std.proofs.Common.{◌≡◌, ◌⊎◌, ℕ, ◌<◌, ◌≤◌, [], ◌∷◌, false, IsTrue, IsErrOf, Err, List, refl, sym, ap, subst, ◌∙◌, arith}
+use Rattle.std.proofs.Common.{◌≡◌, ◌⊎◌, ℕ, [], ◌∷◌, Err, List, refl, sym, ap, subst, ◌∙◌, arith}
 use Rattle.gvn_model.specs.Entries.{history_value}
-use Rattle.wire_defs.specs.Links.{Past, was_cut}
 use Rattle.ship_defs.specs.Hearing.{Purpose, unbegun}
 use Rattle.ship_defs.specs.Greeting.{GreetsWith, IsBadToPrimary}
-use Rattle.receiver_server.specs.Hearings.{purpose_value, behind}
+use Rattle.receiver_server.specs.Hearings.{purpose_value}
 use Rattle.receiver_server.specs.Answers.{answer_frame}
 use Rattle.receiver_server.specs.Listenings.{IsHearing}
 use Rattle.session_handshake.specs.Exchanges.{views, cuts_of, HasBadAnswer}
 use Rattle.session_handshake.specs.Connections.{past_of_views}
-use Rattle.session_handshake.specs.declared.connection.GreetError.TheVariants.{Cut, BadFrame, NoMemory}
-use Rattle.session_handshake.proofs.Made.{made_none}
+use Rattle.session_handshake.specs.declared.connection.GreetError.TheVariants.{Cut}
 use Rattle.session_handshake.proofs.Greets.{is_open, answer_is, bad_over, bad_is, greeted_with, given_back, not_cut, was_one}
 use Rattle.session_handshake.proofs.connection.greet.Goals as goal
 

@@ -1,6 +1,5 @@
 use Rattle.std.proofs.Common.{◌≡◌, ◌⊎◌, ℕ, List, IsTrue, IfOk, IfErr, sym, subst, ◌∙◌}
 use Rattle.gvn_model.specs.Entries.{history_value}
-use Rattle.wire_defs.specs.Frames.{spelled_frame}
 use Rattle.ship_defs.specs.Hearing.{Heard}
 use Rattle.ship_defs.specs.Greeting.{greeting, IsBadToPrimary}
 use Rattle.recv_pool.specs.Pools.{put_in, free}

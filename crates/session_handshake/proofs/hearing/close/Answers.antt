@@ -1,7 +1,5 @@
-use Rattle.std.proofs.Common.{List, sym, ap, subst}
 use Rattle.std.proofs.lemmas.Result.{IfOk-weaker}
 use Rattle.recv_pool.specs.Pools.{put_in, free}
-use Rattle.receiver_server.specs.Listenings.{IsQuiet}
 use Rattle.session_handshake.proofs.Steps.{end_answered, end_bad, end_over, end_open, end_cut, end_told, same_purpose}
 use Rattle.session_handshake.proofs.hearing.close.Goals as goal
 

@@ -1,4 +1,4 @@
-use Rattle.std.proofs.Common.{[], sym, subst, ◌∙◌}
+use Rattle.std.proofs.Common.{[], subst, ◌∙◌}
 use Rattle.ship_defs.specs.Hearing.{Purpose, Heard}
 use Rattle.recv_pool.specs.Pools.{put_in, free}
 use Rattle.receiver_server.specs.Listenings.{IsUnfitBehind}

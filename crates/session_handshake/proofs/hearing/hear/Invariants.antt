@@ -1,7 +1,7 @@
 use Rattle.std.proofs.Common.{◌≡◌, ◌+◌, false}
 use Rattle.recv_pool.specs.Pools.{put_in, free, SameIn}
 use Rattle.session_handshake.specs.Answering.{AwaitsAnswer, left_to_hear}
-use Rattle.session_handshake.specs.Exchanges.{views, HaveLines, Gets}
+use Rattle.session_handshake.specs.Exchanges.{views, HaveLines}
 use Rattle.session_handshake.proofs.Turns.{IsAnswering}
 use Rattle.session_handshake.proofs.hearing.hear.Given as goal
 

@@ -1,8 +1,8 @@
-use Rattle.std.proofs.Common.{◌≡◌, ℕ, ◌<◌, None, Option, IsErrOf, sym, subst}
+use Rattle.std.proofs.Common.{ℕ, Option, subst}
 use Rattle.std.proofs.lemmas.Result.{IfOk-weaker}
 use Rattle.recv_pool.specs.Pools.{put_in, free}
 use Rattle.receiver_server.specs.declared.step.Handshake.{Handshake}
-use Rattle.session_handshake.specs.Answering.{AwaitsAnswer, StepMeans}
+use Rattle.session_handshake.specs.Answering.{StepMeans}
 use Rattle.session_handshake.proofs.Steps.{goes_on, answers_it, bad_there, never_more, moves_on, tires_on, cut_of, cut_told, closed_on, same_purpose}
 use Rattle.session_handshake.proofs.hearing.hear_step.Goals as goal
 

@@ -1,4 +1,4 @@
-use Rattle.std.proofs.Common.{ℕ, ◌+◌, List, length, take, sym, subst, arith}
+use Rattle.std.proofs.Common.{ℕ, ◌+◌, List, sym, subst, arith}
 use Rattle.std.proofs.lemmas.List.{length-take}
 use Rattle.global_defs.specs.Prefix.{History}
 use Rattle.gvn_model.specs.Entries.{history_value}

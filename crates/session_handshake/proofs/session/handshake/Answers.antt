@@ -1,4 +1,4 @@
-use Rattle.std.proofs.Common.{◌≡◌, ◌+◌, ◌<◌, ◌≤◌, [], ◌∷◌, ◌++◌, Ok, Err, refl, sym, ap, subst, ◌∙◌, arith}
+use Rattle.std.proofs.Common.{◌≡◌, ◌<◌, [], ◌∷◌, ◌++◌, Err, refl, sym, ap, subst, ◌∙◌, arith}
 use Rattle.gvn_model.specs.Entries.{history_value}
 use Rattle.ship_defs.specs.Hearing.{Asks, unbegun}
 use Rattle.ship_defs.specs.Greeting.{IsAnswer, carried}

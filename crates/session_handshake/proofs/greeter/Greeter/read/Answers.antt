@@ -1,4 +1,4 @@
-use Rattle.std.proofs.Common.{◌≡◌, ◌+◌, ◌∷◌, ◌++◌, ℕ, false, List, length, map, Ok, Err, sym, ap, subst, ◌∙◌, arith, length-append}
+use Rattle.std.proofs.Common.{◌≡◌, ◌+◌, ◌∷◌, ◌++◌, ℕ, false, List, length, Ok, Err, sym, subst, ◌∙◌, arith, length-append}
 use Rattle.wire_defs.specs.Frames as defs
 use Rattle.wire_defs.specs.Frames.{AreFrames}
 use Rattle.gvn_model.specs.Entries.{history_value}
@@ -8,7 +8,6 @@ use Rattle.receiver_server.specs.Answers.{answer_frame}
 use Rattle.receiver_server.proofs.Kept.{begins_few}
 use Rattle.ship_defs.specs.Greeting.{IsBadToPrimary}
 use Rattle.session_handshake.specs.Answering.{Judges, IsGreetedBy}
-use Rattle.session_handshake.specs.declared.connection.GreetError.TheVariants.{BadFrame}
 use Rattle.session_handshake.proofs.Greetings.{Came, came, first_of, judged_good, judged_bad}
 use Rattle.session_handshake.proofs.greeter.Greeter.read.Goals as goal
 use Rattle.session_handshake.proofs.greeter.Greeter.read.Goals.{in-Ok, in-Err-BadFrame}
