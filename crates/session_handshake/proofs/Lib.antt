@@ -1,0 +1,10 @@
+pub mod Tellings
+pub mod Greetings
+pub mod Ends
+pub mod Hears
+pub mod Told
+pub mod Made
+pub mod Steps
+pub mod Turns
+pub mod Greets
+pub mod Sessions
