@@ -1,0 +1,46 @@
+-- Counts of faults, and the answers that tell of one.
+use Rattle.std.specs.Prelude.{ℕ, ◌≤◌, ◌-◌, ◌^◌, min, List, Option, Some, None}
+use Rattle.std.specs.List.{AllByRecursion}
+use Rattle.disk_defs.specs.Disk.{Rose}
+use Rattle.site_defs.specs.Lists.{Along}
+use Rattle.world_defs.specs.World.{Place, World}
+use Rattle.world_defs.specs.Answers.{Answer, Done, Refused, DiskFault, NotAFile, Ran, Typed}
+use Rattle.world_defs.specs.Runs.{Told}
+
+-- the last value of a count
+abbrev pub LAST_COUNT : ℕ
+LAST_COUNT = 2 ^ 64 - 1
+
+-- A count that is at most the last value doesn't fall, and one past it falls no further than to that.
+abbrev pub HasNotFallen : Place → Place → Type 0
+HasNotFallen old new = min old.faults LAST_COUNT ≤ new.faults
+
+-- it has not risen, where one that stands at its last value is taken as risen
+abbrev pub HasNotRisen : Place → Place → Type 0
+HasNotRisen old new = Rose old.faults new.faults → ⊥
+
+abbrev pub NoCountFell : World → World → Type 0
+NoCountFell w m = Along (λ i. HasNotFallen) w.places m.places
+
+abbrev pub NoCountRose : World → World → Type 0
+NoCountRose w m = Along (λ i. HasNotRisen) w.places m.places
+
+abbrev pub IsFault : Option ℕ → Type 0
+IsFault None = ⊥
+IsFault (Some k) = Unit {0}
+
+-- a call of a disk failed (bytes outside the formats are no fault)
+abbrev pub TellsFault : Answer → Type 0
+TellsFault Done = ⊥
+TellsFault (Refused r) = ⊥
+TellsFault (DiskFault k) = Unit {0}
+TellsFault (NotAFile file offset) = ⊥
+TellsFault (Ran s) = IsFault s.fault
+TellsFault (Typed text) = ⊥
+
+abbrev pub TellsNoFault : Answer → Type 0
+TellsNoFault a = TellsFault a → ⊥
+
+-- in no answer of any of these
+abbrev pub NoFaultIsTold : List Told → Type 0
+NoFaultIsTold told = AllByRecursion (λ (c : Told). AllByRecursion TellsNoFault c.answers) told

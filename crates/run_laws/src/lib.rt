@@ -1,0 +1,7 @@
+//! Laws of whole runs.
+//!
+//! Each function does nothing: its contract states laws over the definitions of `world_defs` alone, for all worlds, commands and
+//! answers. A crate that needs one of them calls its function.
+#![tactic(auto)]
+
+pub mod faults;
