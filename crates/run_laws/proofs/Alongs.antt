@@ -1,5 +1,5 @@
 -- Lists of places beside one another.
-use Rattle.std.proofs.Common.{◌≡◌, ℕ, zero, suc, List, [], ◌∷◌, Some, None, slice_get, refl, sym, subst}
+use Rattle.std.proofs.Common.{◌≡◌, ℕ, zero, suc, List, [], ◌∷◌, Some, slice_get, refl, subst}
 use Rattle.site_defs.specs.Lists.{Along, At}
 use Rattle.world_defs.specs.World.{Place}
 

@@ -1,15 +1,15 @@
 -- Entries stay: a line a command.
-use Rattle.std.proofs.Common.{◌≡◌, inl, inr, ℕ, zero, suc, ◌+◌, ◌-◌, ◌<◌, ◌≤◌, Bool, true, false, cond, List, [], ◌∷◌, length, take, Option, Some, None, slice_get, IsTrue, refl, sym, ◌∙◌, ap, subst, arith}
+use Rattle.std.proofs.Common.{◌≡◌, inl, inr, ℕ, zero, suc, ◌+◌, ◌-◌, Bool, true, false, cond, List, [], ◌∷◌, length, take, Option, Some, None, slice_get, IsTrue, refl, sym, ◌∙◌, ap, subst, arith}
 use Rattle.std.specs.Prelude.{option_map}
 use Rattle.std.proofs.lemmas.Bool.{false≢true}
 use Rattle.std.proofs.lemmas.Option.{slice_get_within}
 use Rattle.global_defs.specs.Entry.{Stamp, Entry, Sequence}
 use Rattle.global_defs.specs.Jobs.{Job}
 use Rattle.global_defs.specs.Serial.{Turn, begun}
-use Rattle.command_defs.specs.Commands.{Name, Region, Command, Create, Attach, Map, StartPrimary, Run, Stop, Fuse, Crash, Extract, Zwrite, Show, Print}
+use Rattle.command_defs.specs.Commands.{Name, Command, Create, Attach, Map, StartPrimary, Run, Stop, Fuse, Crash, Extract, Zwrite, Show, Print}
 use Rattle.site_defs.specs.Contents.{Contents}
 use Rattle.site_defs.specs.Fronts.{IsFrontOf, turn_of}
-use Rattle.site_defs.specs.Lists.{Among, Along, At, first_where}
+use Rattle.site_defs.specs.Lists.{Among, first_where}
 use Rattle.site_defs.specs.Opening.{MayMap, MayBegin}
 use Rattle.world_defs.specs.World.{State, Down, Failed, Site, Place, World, Kept, MOST_SITES, is_free, name_on, place_of, next_of}
 use Rattle.world_defs.specs.Answers.{Answer, Section, Ran, Exists, NoSite, NoDisk, Refusal}

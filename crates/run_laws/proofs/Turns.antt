@@ -1,5 +1,5 @@
 -- What picks make of a turn: no entry moves, and each number that a reply tells has its entry.
-use Rattle.std.proofs.Common.{◌≡◌, ◌⊎◌, inl, inr, ℕ, zero, suc, ◌+◌, ◌-◌, ◌<◌, ◌≤◌, nat_lt, Bool, true, false, List, [], ◌∷◌, ◌++◌, length, take, Option, Some, None, slice_get, refl, sym, ◌∙◌, ap, subst, arith, if◌then◌else◌}
+use Rattle.std.proofs.Common.{◌≡◌, ◌⊎◌, inl, inr, ℕ, zero, suc, ◌+◌, ◌-◌, ◌<◌, nat_lt, Bool, true, false, List, [], ◌∷◌, ◌++◌, length, take, Option, Some, None, slice_get, refl, sym, ◌∙◌, ap, subst, arith, if◌then◌else◌}
 use Rattle.global_defs.specs.Entry.{Update, Stamp, Entry, Sequence, state}
 use Rattle.global_defs.specs.Evaluation.{Evaluated, Done, RolledBack, eval}
 use Rattle.global_defs.specs.Jobs.{Job, Answers, Cause, SeqLimit}
