@@ -76,9 +76,9 @@ number-of (serials.RolledBack cause) = 0
 
 goes-seq : (t : Turn) (u : ℕ) (e : Entry) (answers : Answers) → GoesOn t (replied t u (Seq (length t.sequence + 1) answers) (t.sequence ++ e ∷ []))
 goes-seq t u e answers = goes-replied t u (Seq (length t.sequence + 1) answers) (e ∷ []) (λ n others is.
-  let same : length t.sequence + 1 ≡ n = ap number-of is in
-  let place : length t.sequence ≡ n - 1 = omega arith in
-  (e, record { number = omega arith; there = subst (λ (i : ℕ). slice_get (t.sequence ++ e ∷ []) i ≡ Some e) place (get-last t.sequence e) }))
+    let same : length t.sequence + 1 ≡ n = ap number-of is in
+    let place : length t.sequence ≡ n - 1 = omega arith in
+    (e, record { number = omega arith; there = subst (λ (i : ℕ). slice_get (t.sequence ++ e ∷ []) i ≡ Some e) place (get-last t.sequence e) }))
 
 not_read : (a answers : Answers) (n : ℕ) → Read a ≡ Seq n answers → ⊥
 not_read a answers n e = cc
