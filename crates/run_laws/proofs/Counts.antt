@@ -22,6 +22,7 @@ use Rattle.world_defs.specs.rows.Print.{print}
 use Rattle.world_defs.specs.rows.Run.{RunsTo, one_further, run}
 use Rattle.world_defs.specs.rows.Start.{StartRefused, is_reign_limit, start}
 use Rattle.run_laws.specs.Faults.{HasNotFallen, HasNotRisen, NoCountFell, NoCountRose, IsFault, TellsFault, TellsNoFault, NoFaultIsTold}
+use Rattle.run_laws.proofs.Alongs.{along_same, along_through, along_each, along_at}
 use Rattle.run_laws.proofs.Makes.{RowMakes, Makes, TargetMakes, Comes, one_makes, goes_makes, acts_make, makes_there, target_makes, quiet_makes}
 
 -- the count doesn't fall, and a fault is told only where it rose
@@ -52,12 +53,7 @@ kept_later x y k = later x y k.faults
 -- worlds, place by place
 
 fell_through : (ps qs rs : List Place) → Along (λ j. HasNotFallen) ps qs → Along (λ j. HasNotFallen) qs rs → Along (λ j. HasNotFallen) ps rs
-fell_through [] [] [] h k = tt
-fell_through [] [] (r ∷ rs) h k = absurd k
-fell_through [] (q ∷ qs) rs h k = absurd h
-fell_through (p ∷ ps) [] rs h k = absurd h
-fell_through (p ∷ ps) (q ∷ qs) [] h k = absurd k
-fell_through (p ∷ ps) (q ∷ qs) (r ∷ rs) h k = (later_through p q r h.0 k.0, fell_through ps qs rs h.1 k.1)
+fell_through ps qs rs h k = along_through HasNotFallen later_through ps qs rs h k
 
 -- where no count rose, none rose on the way
 calm_before : (ps qs rs : List Place) → Along (λ j. HasNotFallen) ps qs → Along (λ j. HasNotFallen) qs rs → Along (λ j. HasNotRisen) ps rs → Along (λ j. HasNotRisen) ps qs
@@ -75,24 +71,6 @@ calm_behind (p ∷ ps) [] rs h k c = absurd h
 calm_behind (p ∷ ps) (q ∷ qs) [] h k c = absurd k
 calm_behind (p ∷ ps) (q ∷ qs) (r ∷ rs) h k c = (λ rose. c.0 (rose_behind p q r h.0 rose), calm_behind ps qs rs h.1 k.1 c.1)
 
-fell_same : (ps : List Place) → Along (λ j. HasNotFallen) ps ps
-fell_same [] = tt
-fell_same (p ∷ ps) = (omega arith, fell_same ps)
-
-fell_along : (R : Place → Place → Type 0) → ((x y : Place) → R x y → HasNotFallen x y) → (ps qs : List Place) → Along (λ j. R) ps qs → Along (λ j. HasNotFallen) ps qs
-fell_along R f [] [] h = tt
-fell_along R f [] (q ∷ qs) h = absurd h
-fell_along R f (p ∷ ps) [] h = absurd h
-fell_along R f (p ∷ ps) (q ∷ qs) h = (f p q h.0, fell_along R f ps qs h.1)
-
-fell_at : (P R : Place → Place → Type 0) → ((x y : Place) → P x y → HasNotFallen x y) → ((x y : Place) → R x y → HasNotFallen x y) → (i : ℕ) (ps qs : List Place) → At i P (λ j. R) ps qs
-    → Along (λ j. HasNotFallen) ps qs
-fell_at P R f r i [] [] h = absurd h
-fell_at P R f r i [] (q ∷ qs) h = absurd h
-fell_at P R f r i (p ∷ ps) [] h = absurd h
-fell_at P R f r zero (p ∷ ps) (q ∷ qs) h = (f p q h.0, fell_along R r ps qs h.1)
-fell_at P R f r (suc i) (p ∷ ps) (q ∷ qs) h = (r p q h.0, fell_at P R f r i ps qs h.1)
-
 told_at : (a : Answer) (i : ℕ) (ps qs : List Place) → At i (Counts a) (λ j. HasNotFallen) ps qs → Along (λ j. HasNotRisen) ps qs → TellsNoFault a
 told_at a i [] [] h c = absurd h
 told_at a i [] (q ∷ qs) h c = absurd h
@@ -106,11 +84,11 @@ record Tells (answers : List Answer) (w m : World) : Type 0 where
   pub told : NoCountRose w m → AllByRecursion TellsNoFault answers
 
 fell_one : (i : ℕ) (a : Answer) (w m : World) → At i (Counts a) (λ j. HasNotFallen) w.places m.places → NoCountFell w m
-fell_one i a w m h = fell_at (Counts a) HasNotFallen (λ x y c. c.later) (λ x y c. c) i w.places m.places h
+fell_one i a w m h = along_at (Counts a) HasNotFallen HasNotFallen (λ x y c. c.later) (λ x y c. c) i w.places m.places h
 
 tells : Comes Counts HasNotFallen Tells
 tells = record {
-  refused = λ r w m h. record { fell = fell_along Kept kept_later w.places m.places h; told = λ c. (λ t. t, tt) };
+  refused = λ r w m h. record { fell = along_each Kept HasNotFallen kept_later w.places m.places h; told = λ c. (λ t. t, tt) };
   one = λ i a w m h. record { fell = fell_one i a w m h; told = λ c. (told_at a i w.places m.places h c, tt) };
   more = λ i a rest w u m h t. let fell = fell_one i a w u h in record {
     fell = fell_through w.places u.places m.places fell t.fell;
@@ -248,7 +226,7 @@ told-step w m c answers text h calm = (tells-step w m c answers text h).told cal
 -- runs
 
 pub fell-runs : (w m : World) (told : List Told) (text : List ℕ) → Runs w told m text → NoCountFell w m
-fell-runs w m [] text h = subst (NoCountFell w) (sym h.0) (fell_same w.places)
+fell-runs w m [] text h = subst (NoCountFell w) (sym h.0) (along_same HasNotFallen (λ x. later x x (omega arith)) w.places)
 fell-runs w m (c ∷ cs) text h = fell_through w.places h.0.places m.places (fell-step w h.0 c.command c.answers h.1 h.3) (fell-runs h.0 m cs h.2 h.4)
 
 pub told-runs : (w m : World) (told : List Told) (text : List ℕ) → Runs w told m text → NoCountRose w m → NoFaultIsTold told
@@ -266,10 +244,10 @@ left_later : (step : Contents → Contents → Type 0) (x y : Place) → LeftBy 
 left_later step x y l = later x y l.faults
 
 cut_at : (step : Contents → Contents → Type 0) (i : ℕ) (w m : World) → At i (LeftBy step) (λ j. LeavesOld) w.places m.places → NoCountFell w m
-cut_at step i w m h = fell_at (LeftBy step) LeavesOld (left_later step) (left_later (λ c o. ⊥)) i w.places m.places h
+cut_at step i w m h = along_at (LeftBy step) LeavesOld HasNotFallen (left_later step) (left_later (λ c o. ⊥)) i w.places m.places h
 
 fell-is_cut : (x : Meaning) (w m : World) → Makes Counts HasNotFallen x w → IsCut x w m → NoCountFell w m
-fell-is_cut (No r) w m h c = fell_along LeavesOld (left_later (λ c o. ⊥)) w.places m.places c
+fell-is_cut (No r) w m h c = along_each LeavesOld HasNotFallen (left_later (λ c o. ⊥)) w.places m.places c
 fell-is_cut (Acts i row others) w m h c = cut_at row.left i w m c
 fell-is_cut (Then i row others next) w m h (inl c) = cut_at row.left i w m c
 fell-is_cut (Then i row others next) w m h (inr c) =

@@ -1,2 +1,5 @@
+pub mod Alongs
 pub mod Makes
 pub mod Counts
+pub mod Turns
+pub mod Stays

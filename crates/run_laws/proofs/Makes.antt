@@ -7,6 +7,7 @@ use Rattle.world_defs.specs.Answers.{NoSite, Refusal, Section, Answer, Done, Ref
 use Rattle.world_defs.specs.Row.{Row, quiet, refusal_in, Here}
 use Rattle.world_defs.specs.Meaning.{Others, apart, Meaning, No, Acts, Then, Target, On, Open, refusing, at_found, there, row_at, meant}
 use Rattle.world_defs.specs.Step.{One, is_done, Further, Goes}
+use Rattle.run_laws.proofs.Alongs.{same_place}
 
 -- With each answer a row at a place p leaves R of it.
 pub record RowMakes (R : Answer → Place → Place → Type 0) (p : Place) (row : Row) : Type 0 where
@@ -17,9 +18,6 @@ pub record RowMakes (R : Answer → Place → Place → Type 0) (p : Place) (row
   pub damage : (file offset : ℕ) (q : Place) → row.damage file offset q → R (NotAFile file offset) p q
   pub refused : (r : Refusal) (q : Place) → row.refused r q → R (Refused r) p q
   pub may_refuse : (r : Refusal) (q : Place) → row.may_refuse r q → R (Refused r) p q
-
-same_place : (x p : Place) → Some x ≡ Some p → x ≡ p
-same_place x p e = cc
 
 module _ (R : Answer → Place → Place → Type 0) (Q : Place → Place → Type 0) where
   here_makes : (p : Place) (row : Row) (a : Answer) (q : Place) (t : List ℕ) → RowMakes R p row → Here row a q t → R a p q

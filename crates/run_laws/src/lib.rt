@@ -4,4 +4,5 @@
 //! answers. A crate that needs one of them calls its function.
 #![tactic(auto)]
 
+pub mod entries;
 pub mod faults;
