@@ -291,7 +291,7 @@ entries-target (Crash name pick) = λ p. entries-quiet _ _ _ _ p (λ q d. entrie
 entries-target (Extract name from) = λ p. entries-quiet _ _ _ _ p (λ q d. entries-kept p q d)
 entries-target (Zwrite name top) = λ p. entries-quiet _ _ _ _ p (λ q d. entries-kept p q d)
 entries-target (Show name) = λ p. entries-quiet _ _ _ _ p (λ q d. entries-kept p q d)
-entries-target (Print name g) = entries-print g
+entries-target (Print name lost g) = entries-print g
 
 entries-through : (x y z : Place) → KeepsEntries x y → KeepsEntries y z → KeepsEntries x z
 entries-through x y z h k name n e has = k name n e (h name n e has)
