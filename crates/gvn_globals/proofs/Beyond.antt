@@ -18,6 +18,7 @@ use Rattle.global_defs.specs.Encoded.{encoded, encoded_sub}
 use Rattle.global_defs.specs.Entry.{Globals, is_under}
 use Rattle.global_defs.specs.Valid.{is_key, is_sub}
 use Rattle.global_defs.specs.Evaluation.{is_below, first_sub, sub_at, is_past, order}
+use Rattle.global_defs.proofs.Fronts.{same_front}
 use Rattle.global_defs.proofs.Order.{key_total, key_same, sub_same}
 use Rattle.global_defs.proofs.KeyOrder.{key_ordered}
 use Rattle.global_defs.proofs.SubOrder.{sub_code}
@@ -51,14 +52,6 @@ pub code_split : (top k : Key) → is_under top k ≡ true → encoded k ≡ enc
 code_split top k u =
     let code : flat_map encoded_sub k.subs ≡ flat_map encoded_sub top.subs ++ flat_map encoded_sub (below_subs top k) = ap (flat_map encoded_sub) (subs_split top k u) ∙ flat_map-append encoded_sub top.subs (below_subs top k) in
     (λ i. sym (names_same top k u) i ++ (0 ∷ code i)) ∙ sym (append_assoc top.name (0 ∷ flat_map encoded_sub top.subs) (flat_map encoded_sub (below_subs top k)))
-
--- bytes before others are told apart by what follows
-same_front : (xs ys zs : List ℕ) → slice_cmp nat_cmp (xs ++ ys) (xs ++ zs) ≡ slice_cmp nat_cmp ys zs
-same_front [] ys zs = refl
-same_front (x ∷ xs) ys zs = rw (map_tied x) (same_front xs ys zs)
-  where
-    map_tied : (n : ℕ) → nat_cmp n n ≡ Equal
-    map_tied n = tied_itself nat_cmp_total n
 
 front_before : (xs zs ys : List ℕ) → 0 < length zs → slice_cmp nat_cmp (xs ++ zs) ys ≡ Less → slice_cmp nat_cmp xs ys ≡ Less
 front_before [] [] ys some c = absurd (omega arith)

@@ -11,7 +11,7 @@ use Rattle.std.proofs.Math.Seq.{take-add, drop-length, take-append_seam, drop-ap
 use Rattle.global_defs.specs.Key.{Sub}
 use Rattle.global_defs.specs.Encoded.{encoded_sub}
 use Rattle.global_defs.specs.Valid.{is_sub}
-use Rattle.global_defs.proofs.Ranks.{less, equal}
+use Rattle.global_defs.proofs.Fronts.{less_behind}
 use Rattle.gvn_key.specs.Decoding.{IsCode}
 use Rattle.key_prefix.specs.Rests.{AreSubs}
 use Rattle.key_code.specs.declared.told.Seen.{Seen}
@@ -111,10 +111,6 @@ none_yet bytes end seen inside none = record {
 }
 
 -- ---- the key behind another
-
-less_behind : (front : List ℕ) (a b : ℕ) (xs ys : List ℕ) → a < b → slice_cmp nat_cmp (front ++ a ∷ xs) (front ++ b ∷ ys) ≡ Less
-less_behind [] a b xs ys below = rw (less a b below) refl
-less_behind (x ∷ front) a b xs ys below = rw (equal x x refl) (less_behind front a b xs ys below)
 
 -- a front that is inside the first of two lists
 take_in : (k : ℕ) (xs ys : List ℕ) → k ≤ length xs → take k (xs ++ ys) ≡ take k xs

@@ -38,7 +38,7 @@ impl Seen {
     }
 
     /// What is told of a text from a place on, which may have so many bytes, these ones, and as its last none but the lowest of them.
-    pub fn text(from: usize, longest: usize, low: u8, most: u8) -> Self
+    pub(crate) fn text(from: usize, longest: usize, low: u8, most: u8) -> Self
         ensures from { result.from ≡ from }
         ensures longest { result.longest ≡ longest }
         ensures low { result.low ≡ low }
@@ -53,7 +53,7 @@ impl Seen {
     }
 
     /// The same of a subscript that begins at a place of a key, whose bytes are at most 255.
-    pub fn behind(self, at: usize) -> Self
+    pub(crate) fn behind(self, at: usize) -> Self
         requires place { at ≤ 255 }
         requires from { self.from ≤ 2 }
         ensures from { result.from ≡ at + self.from }
@@ -73,7 +73,7 @@ impl Seen {
 
     /// Whether these bytes are those of a key that differ from others only in the text, from a place on where one byte stands, and
     /// then the last one.
-    pub fn ends_alike(&self, last: &[u8], next: &[u8]) -> bool
+    pub(crate) fn ends_alike(&self, last: &[u8], next: &[u8]) -> bool
         requires { Tells self.now last.now }
         ensures code { OnTrue result (IsCode next.now) }
         ensures order { OnTrue result (slice_cmp nat_cmp last.now next.now ≡ Less) }

@@ -6,49 +6,6 @@ use Rattle.repl_wire.proofs.Apart.{frame_one}
 use Rattle.session_handshake.specs.Answering.{LIMIT, left_to_ask}
 use Rattle.session_handshake.specs.Exchanges.{Carries, Gets}
 
-pub sending_on : (a b c : Sending) → SameSending a b → SameSending b c → SameSending a c
-sending_on a b c x y = record { session = y.session ∙ x.session; connection = y.connection ∙ x.connection; told = y.told ∙ x.told; order = y.order ∙ x.order; places = y.places ∙ x.places }
-
-pub receiving_on : (a b c : Receiving) → SameReceiving a b → SameReceiving b c → SameReceiving a c
-receiving_on a b c x y = record { session = y.session ∙ x.session; connection = y.connection ∙ x.connection; told = y.told ∙ x.told; shown = y.shown ∙ x.shown; order = y.order ∙ x.order }
-
-pub looked_on : (a b c : Sending) → SendingLooked a b → SendingLooked b c → SendingLooked a c
-looked_on a b c x y = record {
-  same = sending_on a b c x.same y.same;
-  cuts = y.cuts ∙ x.cuts;
-  patience = y.patience ∙ x.patience;
-  sent = y.sent ∙ x.sent;
-  free = omega (arith, x.free, y.free);
-  finished = y.finished ∙ x.finished;
-}
-
-pub saw_on : (a b c : Receiving) → ReceivingLooked a b → ReceivingLooked b c → ReceivingLooked a c
-saw_on a b c x y = record {
-  same = receiving_on a b c x.same y.same;
-  cuts = y.cuts ∙ x.cuts;
-  patience = y.patience ∙ x.patience;
-  received = y.received ∙ x.received;
-  unread = (x.unread.0 ++ y.unread.0, y.unread.1 ∙ (ap (λ (l : List ℕ). l ++ y.unread.0) x.unread.1 ∙ append_assoc a.unread x.unread.0 y.unread.0));
-  ended = λ e. y.ended (x.ended e);
-  whole = λ e. y.whole (x.ended e) ∙ x.whole e;
-  closed = y.closed ∙ x.closed;
-}
-
-pub not_looked : (a : Sending) → SendingLooked a a
-not_looked a = record { same = record { session = refl; connection = refl; told = refl; order = refl; places = refl }; cuts = refl; patience = refl; sent = refl; free = omega arith; finished = refl }
-
-pub not_seen : (a : Receiving) → ReceivingLooked a a
-not_seen a = record {
-  same = record { session = refl; connection = refl; told = refl; shown = refl; order = refl };
-  cuts = refl;
-  patience = refl;
-  received = refl;
-  unread = ([], sym (append-nil a.unread));
-  ended = λ e. e;
-  whole = λ _. refl;
-  closed = refl;
-}
-
 pub carries_looked : (told : Bool) (whole left : List ℕ) (a b : Sending) → SendingLooked a b → Carries told whole a left → Carries told whole b left
 carries_looked told whole left a b x y = record {
   told_is = x.same.told ∙ y.told_is;

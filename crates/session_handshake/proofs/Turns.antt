@@ -1,6 +1,7 @@
 -- A turn over a connection: its ends look, and then one of each direction is used.
 use Rattle.std.proofs.Common.{◌≡◌, ◌≢◌, ◌⊎◌, inl, inr, ℕ, ◌+◌, ◌<◌, ◌≤◌, Bool, true, false, IsTrue, List, [], length, Option, None, Result, Ok, Err, IfOk, OnOk, refl, ◌∙◌, arith}
 use Rattle.wire_defs.specs.Links.{Receiving, SameReceiving, SendingLooked, ReceivingLooked}
+use Rattle.wire_defs.proofs.Ends.{sending_on, receiving_on, looked_on, saw_on, not_looked, not_seen}
 use Rattle.recv_pool.specs.declared.pool.PoolIn.{PoolIn}
 use Rattle.recv_pool.specs.Pools.{SameIn}
 use Rattle.receiver_server.specs.declared.step.Handshake.{Handshake}
@@ -8,7 +9,7 @@ use Rattle.receiver_server.specs.Incomings.{Incoming}
 use Rattle.session_handshake.specs.declared.connection.GreetError.{GreetError}
 use Rattle.session_handshake.specs.Answering.{left_to_ask, left_of, left_to_hear}
 use Rattle.session_handshake.specs.Exchanges.{Views, SameEnds, Carries, Gets, cuts_of}
-use Rattle.session_handshake.proofs.Ends.{sending_on, receiving_on, looked_on, saw_on, not_looked, not_seen, asks_fewer}
+use Rattle.session_handshake.proofs.Ends.{asks_fewer}
 
 abbrev Answer : Type 0
 Answer = Result (Option Handshake) GreetError

@@ -1,1 +1,2 @@
 pub mod PoolWords
+pub mod Ends
