@@ -27,6 +27,7 @@ pub fn make(alloc: Global, places: usize) -> Result<(PoolIn, PoolOut), NoMemory>
     ensures pool { IfOk result (λ r. IsPool r.0 r.1) }
     ensures empty { IfOk result (λ r. (put_in r.0 ≡ []) × (taken r.1 ≡ []) × (known r.1 ≡ [])) }
     ensures free { IfOk result (λ r. free r.0 ≡ places) }
+    ensures places { IfOk result (λ r. ring.producer_capacity r.0.ring ≡ places) }
 {
     let (into, out) = RingBuffer::with_protocol::<Global, OfForm>(alloc, places)?;
     Ok((PoolIn { ring: into }, PoolOut { ring: out }))
