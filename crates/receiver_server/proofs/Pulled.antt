@@ -1,5 +1,5 @@
 -- What a step tells that received bytes.
-use Rattle.std.proofs.Common.{◌≡◌, ◌≢◌, ℕ, ◌+◌, ◌<◌, ◌||◌, Bool, true, false, IsTrue, List, [], ◌∷◌, ◌++◌, length, Result, Ok, Err, IfOk, IfErr, refl, sym, ap, subst, ◌∙◌, arith, length-append, if◌then◌else◌}
+use Rattle.std.proofs.Common.{◌≡◌, ◌≢◌, ℕ, ◌+◌, ◌<◌, ◌||◌, Bool, true, false, IsTrue, List, [], ◌∷◌, ◌++◌, length, Result, Ok, Err, IfOk, IfErr, refl, sym, ap, subst, ◌∙◌, arith, append-nil, length-append, if◌then◌else◌}
 use Rattle.wire_defs.specs.Frames.{Frame, stream}
 use Rattle.ship_defs.specs.Hearing as ship
 use Rattle.receiver_server.specs.Incomings.{Incoming, unheard, Reads, begins, begins_none, with_piece, Pulls}
@@ -96,6 +96,16 @@ module _ (X : Type 0) where
   pulls_on (Ok Over) piece i j p = absurd p
   pulls_on (Ok Ended) piece i j p = λ e. let no : ⊥ = cc in absurd no
   pulls_on (Err e) piece i j p = tt
+
+-- where nothing has come no byte was received
+pub pulls_nothing : (answer : Result Step HearError) (piece : List ℕ) (a b : Incoming) (before after : List ℕ) → Pulls answer piece a b → after ≡ before ++ piece → IfOk answer (λ x. x ≡ Waits → after ≡ before)
+pulls_nothing (Ok Received) piece i j before after p e = λ x. let no : ⊥ = cc in absurd no
+pulls_nothing (Ok (Answered answer)) piece i j before after p e = absurd p
+pulls_nothing (Ok Heard) piece i j before after p e = absurd p
+pulls_nothing (Ok Waits) piece i j before after p e = λ x. e ∙ (ap (λ (l : List ℕ). before ++ l) p.0 ∙ append-nil before)
+pulls_nothing (Ok Over) piece i j before after p e = absurd p
+pulls_nothing (Ok Ended) piece i j before after p e = λ x. let no : ⊥ = cc in absurd no
+pulls_nothing (Err e) piece i j before after p is = tt
 
 pub no_frames : (l : List Frame) → (l ≢ [] → ⊥) → l ≡ []
 no_frames [] not = refl

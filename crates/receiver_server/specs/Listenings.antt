@@ -1,7 +1,7 @@
 -- What contracts see of a Receiver Server on its connection.
 use Rattle.std.specs.Prelude.{◌≡◌, ◌≢◌, ℕ, ◌+◌, ◌-◌, ◌^◌, ◌<◌, min, Bool, true, false, List, [], ◌∷◌, ◌++◌, length, Option, None, Result, Ok, Err}
 use Rattle.global_defs.specs.Entry.{Reign, Globals}
-use Rattle.wire_defs.specs.Frames.{Frame, Hello, Resume, RollbackFirst, History, Entry, Bye, Reading, AreFrames, BeginsFrame, BeginsNone, spelled_frame, offset_after}
+use Rattle.wire_defs.specs.Frames.{Frame, Hello, Resume, RollbackFirst, History, Entry, Bye, Reading, IsFrame, AreFrames, BeginsFrame, BeginsNone, spelled_frame, offset_after}
 use Rattle.ship_defs.specs.Directions.{Admitted}
 use Rattle.ship_defs.specs.Hearing as ship
 use Rattle.ship_defs.specs.Hearing.{Purpose, Heard, Fits, HasUnfit, HasPlace, with_updates}
@@ -89,6 +89,7 @@ Hears (Err e) before after = after ≡ before
 
 -- the first frame that waited was heard
 pub record HasHeard (f : Frame) (a b : Listening) : Type 0 where
+  pub form : IsFrame f
   pub fits : Fits a.purpose a.heard f b.heard
   pub waiting : a.incoming.waiting ≡ f ∷ b.incoming.waiting
   pub after : b ≡ record a { heard = b.heard; offset = b.offset; incoming = record a.incoming { waiting = b.incoming.waiting } }

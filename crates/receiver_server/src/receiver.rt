@@ -111,6 +111,7 @@ impl Receiver {
         ensures pool { SameIn pool.old pool.new }
         ensures hears { (f : defs.Frame) × StepTells result f × HasHeard f self.old self.new × HasPut f self.old self.new (put_in pool.old) (put_in pool.new) }
         ensures places { free pool.old + length (put_in pool.old) ≡ free pool.new + length (put_in pool.new) }
+        ensures one { length (put_in pool.new) ≤ length (put_in pool.old) + 1 }
     {
         let (frame, length) = match self.inbox.take_first() {
             Some(first) => first,
@@ -131,6 +132,7 @@ impl Receiver {
         requires place { 0 < free pool.old }
         ensures pool { SameIn pool.old pool.new }
         ensures places { free pool.old + length (put_in pool.old) ≡ free pool.new + length (put_in pool.new) }
+        ensures one { length (put_in pool.new) ≤ length (put_in pool.old) + 1 }
         ensures hears { (begun : Heard) (received : List ℕ) (frames : List defs.Frame) → IsHearing begun self.old received (put_in pool.old) frames
             → (now : List defs.Frame) × Hears result frames now × IsHearing begun self.new received (put_in pool.new) now }
         ensures does { Does result self.old self.new }
@@ -173,6 +175,7 @@ impl Receiver {
         ensures at_end { IsTrue (R.receiving rx.old).told → IfOk result (λ a. a ≡ Step.Ended → ((R.receiving rx.new).unread ≡ []) × IsTrue (R.receiving rx.new).ended) }
         ensures closed { (R.receiving rx.new).closed ≡ ((R.receiving rx.old).closed || is_ended result) }
         ensures waits { IsTrue (R.receiving rx.old).told → IfOk result (λ a. a ≡ Step.Waits → ((R.receiving rx.old).unread ≡ []) × ((R.receiving rx.old).ended ≡ false)) }
+        ensures nothing { IsTrue (R.receiving rx.old).shown → IfOk result (λ a. a ≡ Step.Waits → (R.receiving rx.new).received ≡ (R.receiving rx.old).received) }
         ensures patience { self.old.incoming.fresh ≡ [] → self.old.heard.last ≢ Over → (R.receiving rx.old).told ≡ false
             → OnOk result ((R.receiving rx.new).patience + patience_cost result ≡ (R.receiving rx.old).patience) }
         ensures grows { IsTrue (R.receiving rx.old).shown → IsPrefix (R.receiving rx.old).received (R.receiving rx.new).received }
@@ -199,6 +202,7 @@ impl Receiver {
         ensures same { SameReceiving (R.receiving rx.old) (R.receiving rx.new) }
         ensures pool { SameIn pool.old pool.new }
         ensures places { free pool.old + length (put_in pool.old) ≤ free pool.new + length (put_in pool.new) }
+        ensures one { length (put_in pool.new) ≤ length (put_in pool.old) + 1 }
         // what was received stays told as frames heard, frames that wait and bytes behind them, whatever the answer is
         ensures hears { IsTrue (R.receiving rx.old).shown → (begun : Heard) (frames : List defs.Frame)
             → IsHearing begun self.old (R.receiving rx.old).received (put_in pool.old) frames
@@ -217,7 +221,9 @@ impl Receiver {
         ensures closed { (R.receiving rx.new).closed ≡ ((R.receiving rx.old).closed || is_ended result) }
         // it waits for a place in the pool, or for bytes
         ensures full { self.old.incoming.waiting ≢ [] → IfOk result (λ a. a ≡ Step.Waits → free pool.new ≡ 0) }
+        ensures room { self.old.incoming.waiting ≢ [] → 0 < free pool.old → IfOk result (λ a. a ≡ Step.Waits → ⊥) }
         ensures waits { self.old.incoming.waiting ≡ [] → IsTrue (R.receiving rx.old).told → IfOk result (λ a. a ≡ Step.Waits → ((R.receiving rx.old).unread ≡ []) × ((R.receiving rx.old).ended ≡ false)) }
+        ensures nothing { IsTrue (R.receiving rx.old).shown → IfOk result (λ a. a ≡ Step.Waits → (R.receiving rx.new).received ≡ (R.receiving rx.old).received) }
         ensures patience { self.old.incoming.waiting ≡ [] → self.old.incoming.fresh ≡ [] → self.old.heard.last ≢ Over → (R.receiving rx.old).told ≡ false
             → OnOk result ((R.receiving rx.new).patience + patience_cost result ≡ (R.receiving rx.old).patience) }
         ensures still { self.old.incoming.waiting ≢ [] → R.receiving rx.new ≡ R.receiving rx.old }

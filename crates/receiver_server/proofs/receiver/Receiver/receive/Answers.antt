@@ -6,7 +6,7 @@ use Rattle.receiver_server.specs.Incomings.{unheard}
 use Rattle.receiver_server.specs.Listenings.{Listening, IsHearing, IsUnfitBehind, Does}
 use Rattle.receiver_server.specs.declared.step.HearError.TheVariants.{BadFrame}
 use Rattle.receiver_server.proofs.Steps.{unfit_bytes, unfit_behind, pulled}
-use Rattle.receiver_server.proofs.Pulled.{unheard_is, quiet_of, pulls_heard, pulls_does, pulls_ended, pulls_good, pulls_on}
+use Rattle.receiver_server.proofs.Pulled.{unheard_is, quiet_of, pulls_heard, pulls_does, pulls_ended, pulls_good, pulls_on, pulls_nothing}
 use Rattle.receiver_server.proofs.receiver.Receiver.receive.Goals as goal
 
 pub returns-then-is_bad-clause-bad : goal.returns-then-is_bad-clause-bad
@@ -82,3 +82,7 @@ returns-then-has_left-clause-rest g c = λ good. subst (λ (x : Listening). Begi
 
 pub returns-then-is_over-clause-rest : goal.returns-then-is_over-clause-rest
 returns-then-is_over-clause-rest g c = λ good. subst (λ (x : Listening). BeginsFrame x.incoming.reading.rest) c.self.view_is (c.is_bad.ensures.rest (sym c.is_bad.ensures.is ∙ c.if-is_bad.false))
+
+pub returns-clause-nothing : goal.returns-clause-nothing
+returns-clause-nothing g c = λ shown.
+    pulls_nothing c.pull.result c.pull.ensures.came.0 c.self.inside.inbox c.pull.new.self (g.R.LinkRx.receiving c.args.rx.now).received (g.R.LinkRx.receiving c.pull.new.rx).received c.pull.ensures.came.1 (c.pull.ensures.came.2 shown)
