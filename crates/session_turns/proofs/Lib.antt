@@ -5,3 +5,6 @@ pub mod Applied
 pub mod Ordered
 pub mod Heard
 pub mod Progress
+pub mod Weights
+pub mod Along
+pub mod Cuts

@@ -1,13 +1,13 @@
 -- What a turn has moved.
-use Rattle.std.proofs.Common.{◌≡◌, ◌≢◌, ◌⊎◌, inl, inr, ℕ, ◌+◌, ◌<◌, ◌≤◌, Bool, true, false, IsTrue, List, [], ◌∷◌, ◌++◌, length, None, Result, Ok, Err, IfOk, OnOk, is_err, refl, sym, ap, subst, ◌∙◌, arith, length-append}
+use Rattle.std.proofs.Common.{◌≡◌, ◌≢◌, ◌⊎◌, inl, inr, ℕ, ◌+◌, ◌<◌, ◌≤◌, Bool, true, false, IsTrue, List, [], ◌∷◌, ◌++◌, length, Result, Ok, Err, IfOk, OnOk, is_err, refl, sym, ap, subst, ◌∙◌, arith, length-append}
 use Rattle.wire_defs.specs.Frames.{Frame, BeginsFrame}
 use Rattle.wire_defs.specs.Links.{Sending, Receiving, KnowAll}
 use Rattle.recv_pool.specs.declared.pool.PoolIn.{PoolIn}
 use Rattle.recv_pool.specs.declared.pool.PoolOut.{PoolOut}
-use Rattle.ship_defs.specs.Arrivals.{Arrival, arrivals}
+use Rattle.ship_defs.specs.Arrivals.{Arrival}
 use Rattle.ship_defs.specs.Hearing as ship
 use Rattle.receiver_server.specs.Answers.{answer_frame, patience_cost, IsOverAnswer}
-use Rattle.receiver_server.specs.Listenings.{Listening, HasHeard, Hears, Does}
+use Rattle.receiver_server.specs.Listenings.{Listening, HasHeard, Does}
 use Rattle.receiver_server.specs.declared.step.HearError.{HearError}
 use Rattle.receiver_server.specs.declared.step.HearError.TheVariants as hear
 use Rattle.receiver_server.specs.declared.step.Step.{Step}
@@ -21,8 +21,8 @@ use Rattle.update_process.specs.declared.update.UpdateError.TheVariants as updat
 use Rattle.session_turns.specs.declared.machines.TurnError.{TurnError}
 use Rattle.session_turns.specs.declared.machines.Turned.{Turned}
 use Rattle.session_turns.specs.declared.machines.Turned.TheVariants as turned
-use Rattle.session_turns.specs.Progress.{HasMoved, IsStill, HasSentOn, IsCaughtUp}
-use Rattle.session_turns.specs.Turns.{HasFollowed, HaltsWith, Comes, turned_of}
+use Rattle.session_turns.specs.Progress.{HasMoved, IsStill, HasSentOn, IsEmptyPool}
+use Rattle.session_turns.specs.Turns.{turned_of}
 
 -- a step behind which a connection goes on
 abbrev pub IsOn : Result Step HearError → Type 0
@@ -38,20 +38,6 @@ none_or_some : (l : List Frame) → (l ≡ []) ⊎ (l ≢ [])
 none_or_some [] = inl refl
 none_or_some (f ∷ fs) = inr (λ e. let wrong : ⊥ = cc in wrong)
 
--- it doesn't wait for a place where one is known to be free: it has put nothing then
-pub room_of : (heard : Result Step HearError) (frames now : List Frame) (put more : List Arrival) (before after : ℕ) → Hears heard frames now → put ≡ arrivals 0 None frames → more ≡ arrivals 0 None now → 0 < before → before + length put ≤ after + length more
-    → IfOk heard (λ x. x ≡ Waits → after ≡ 0) → IfOk heard (λ x. x ≡ Waits → ⊥)
-room_of (Ok Received) frames now put more before after h was is some places full = λ e. absurd (cc)
-room_of (Ok (Answered answer)) frames now put more before after h was is some places full = λ e. absurd (cc)
-room_of (Ok Heard) frames now put more before after h was is some places full = λ e. absurd (cc)
-room_of (Ok Waits) frames now put more before after h was is some places full = λ e.
-    let same : length more ≡ length put = ap length (is ∙ (ap (arrivals 0 None) h ∙ sym was)) in
-    let none : after ≡ 0 = full e in
-    omega (arith, same, none, some, places)
-room_of (Ok Over) frames now put more before after h was is some places full = λ e. absurd (cc)
-room_of (Ok Ended) frames now put more before after h was is some places full = λ e. absurd (cc)
-room_of (Err e) frames now put more before after h was is some places full = tt
-
 module _ (a b : Listening) (r s : Receiving) where
   heard_moved : (f : Frame) → HasHeard f a b → (a.incoming.waiting ≢ [] → s ≡ r) → HasMoved a b r s
   heard_moved f h still =
@@ -62,26 +48,28 @@ module _ (a b : Listening) (r s : Receiving) where
   pub moved_or_still : (heard : Result Step HearError) → IsOn heard → Does heard a b → (b.incoming.bad ≡ false → BeginsFrame b.incoming.reading.rest)
       → (a.incoming.waiting ≢ [] → IfOk heard (λ x. x ≡ Waits → ⊥))
       → (a.incoming.waiting ≡ [] → IsTrue r.told → IfOk heard (λ x. x ≡ Waits → (r.unread ≡ []) × (r.ended ≡ false)))
+      → (IsTrue r.shown → IfOk heard (λ x. x ≡ Waits → s.received ≡ r.received))
       → (a.incoming.waiting ≡ [] → a.incoming.fresh ≡ [] → a.heard.last ≢ ship.Over → r.told ≡ false → OnOk heard (s.patience + patience_cost heard ≡ r.patience))
       → (a.incoming.waiting ≢ [] → s ≡ r) → (a.heard.last ≡ ship.Over → IsOverAnswer heard) → HasMoved a b r s ⊎ IsStill a b r s
-  moved_or_still (Ok Received) on does begins room told patience still behind = inl (record {
+  moved_or_still (Ok Received) on does begins room told received patience still behind = inl (record {
     moved = inl (record { got = does.0; read = does.1; more = does.2; begins = begins });
     patience = λ untold empty. let cost : s.patience + 0 ≡ r.patience = patience does.0.frames empty does.0.going untold in omega (arith, cost);
   })
-  moved_or_still (Ok (Answered answer)) on does begins room told patience still behind = inl (heard_moved (answer_frame answer) does still)
-  moved_or_still (Ok Heard) on does begins room told patience still behind = inl (heard_moved does.0 does.2 still)
-  moved_or_still (Ok Waits) on does begins room told patience still behind = elim (none_or_some a.incoming.waiting) [
+  moved_or_still (Ok (Answered answer)) on does begins room told received patience still behind = inl (heard_moved (answer_frame answer) does still)
+  moved_or_still (Ok Heard) on does begins room told received patience still behind = inl (heard_moved does.0 does.2 still)
+  moved_or_still (Ok Waits) on does begins room told received patience still behind = elim (none_or_some a.incoming.waiting) [
     | inr some ↦ absurd (room some refl)
     | inl none ↦ inr (record {
       same = does;
       none = none;
+      received = λ shown. received shown refl;
       nothing = λ t. told none t refl;
       patience = λ untold empty. patience none empty (λ over. behind over) untold;
     })
   ]
-  moved_or_still (Ok Over) on does begins room told patience still behind = absurd on
-  moved_or_still (Ok Ended) on does begins room told patience still behind = absurd on
-  moved_or_still (Err e) on does begins room told patience still behind = absurd on
+  moved_or_still (Ok Over) on does begins room told received patience still behind = absurd on
+  moved_or_still (Ok Ended) on does begins room told received patience still behind = absurd on
+  moved_or_still (Err e) on does begins room told received patience still behind = absurd on
 
 module _ {F : Type 0} (offset : ℕ) where
   -- a turn behind which the connection goes on
@@ -103,22 +91,10 @@ module _ {F : Type 0} where
   on_weaker (Ok t) P Q weaker h = λ e. weaker (h e)
   on_weaker (Err x) P Q weaker h = tt
 
-  pub both_on : (r : Result Turned (TurnError F)) (P Q R : Type 0) → (P → Q → R) → IfOk r (λ t. t ≡ turned.On → P) → IfOk r (λ t. t ≡ turned.On → Q) → IfOk r (λ t. t ≡ turned.On → R)
-  both_on (Ok t) P Q R both p q = λ e. both (p e) (q e)
-  both_on (Err x) P Q R both p q = tt
-
-  -- behind it all that has arrived was applied
-  pub comes_on : (r : Result Turned (TurnError F)) (begun : Copy) (l : Listening) (received : List ℕ) (put taken : List Arrival) (now : Copy) → Comes r begun l received put taken now → IfOk r (λ t. t ≡ turned.On → HasFollowed begun l received put taken now)
-  comes_on (Ok t) begun l received put taken now h = λ e. elim h [
-    | inl followed ↦ followed.0
-    | inr halted ↦ absurd (subst (λ (x : Turned). HaltsWith {F = F} (Ok x) halted.0 halted.1 now) e halted.3)
-  ]
-  comes_on (Err x) begun l received put taken now h = tt
-
 -- what a turn has moved, once each end has learned of the other
-pub moved_looked : (a b : Listening) (r s t : Receiving) → t.patience ≡ s.patience → HasMoved a b r s ⊎ IsStill a b r s → HasMoved a b r t ⊎ IsStill a b r t
-moved_looked a b r s t same (inl h) = inl (record { moved = h.moved; patience = λ untold empty. same ∙ h.patience untold empty })
-moved_looked a b r s t same (inr h) = inr (record { same = h.same; none = h.none; nothing = h.nothing; patience = λ untold empty. ap (λ (n : ℕ). n + 1) same ∙ h.patience untold empty })
+pub moved_looked : (a b : Listening) (r s t : Receiving) → t.patience ≡ s.patience → t.received ≡ s.received → HasMoved a b r s ⊎ IsStill a b r s → HasMoved a b r t ⊎ IsStill a b r t
+moved_looked a b r s t same received (inl h) = inl (record { moved = h.moved; patience = λ untold empty. same ∙ h.patience untold empty })
+moved_looked a b r s t same received (inr h) = inr (record { same = h.same; none = h.none; received = λ shown. received ∙ h.received shown; nothing = h.nothing; patience = λ untold empty. ap (λ (n : ℕ). n + 1) same ∙ h.patience untold empty })
 
 pub sent_looked : (a b : Listening) (r s t : Receiving) (x y z : Sending) → t.patience ≡ s.patience → z.sent ≡ y.sent → z.finished ≡ y.finished → HasMoved a b r s ⊎ HasSentOn x y → HasMoved a b r t ⊎ HasSentOn x z
 sent_looked a b r s t x y z patience sent finished (inl h) = inl (record { moved = h.moved; patience = λ untold empty. patience ∙ h.patience untold empty })
@@ -126,10 +102,8 @@ sent_looked a b r s t x y z patience sent finished (inr (inl more)) = inr (inl (
 sent_looked a b r s t x y z patience sent finished (inr (inr over)) = inr (inr (over.0, finished ∙ over.1))
 
 -- the same of machines that the sending left as they were
-pub caught_same : (a b : Listening) (received : List ℕ) (i j : PoolIn) (o p : PoolOut) (c : Copy) → b ≡ a → j ≡ i → p ≡ o → IsCaughtUp a received i o c → IsCaughtUp b received j p c
-caught_same a b received i j o p c receiver into out h =
-    subst (λ (x : Listening). IsCaughtUp x received j p c) (sym receiver)
-    (subst (λ (x : PoolIn). IsCaughtUp a received x p c) (sym into) (subst (λ (x : PoolOut). IsCaughtUp a received i x c) (sym out) h))
+pub empty_same : (i j : PoolIn) (o p : PoolOut) → j ≡ i → p ≡ o → IsEmptyPool i o → IsEmptyPool j p
+empty_same i j o p into out h = subst (λ (x : PoolIn). IsEmptyPool x p) (sym into) (subst (λ (x : PoolOut). IsEmptyPool i x) (sym out) h)
 
 pub hears_same : (a b now : Listening) (r s : Receiving) → b ≡ a → HasMoved b now r s ⊎ IsStill b now r s → HasMoved a now r s ⊎ IsStill a now r s
 hears_same a b now r s same h = subst (λ (x : Listening). HasMoved x now r s ⊎ IsStill x now r s) same h

@@ -1,5 +1,5 @@
 -- That a turn of a connection's machines moves something.
-use Rattle.std.specs.Prelude.{◌≡◌, ◌⊎◌, ℕ, ◌+◌, ◌<◌, false, IsTrue, List, [], length}
+use Rattle.std.specs.Prelude.{◌≡◌, ◌⊎◌, ℕ, ◌+◌, ◌<◌, false, IsTrue, [], length}
 use Rattle.rtrb.specs.Ring as ring
 use Rattle.wire_defs.specs.Frames.{Frame, BeginsFrame}
 use Rattle.wire_defs.specs.Links.{Sending, Receiving, KnowAll}
@@ -9,20 +9,13 @@ use Rattle.recv_pool.specs.declared.pool.PoolOut.{PoolOut}
 use Rattle.source_server.specs.Sources.{Shipping}
 use Rattle.receiver_server.specs.Incomings.{unheard}
 use Rattle.receiver_server.specs.Listenings.{Listening, HasGot, HasHeard}
-use Rattle.update_process.specs.Copies.{Copy}
 use Rattle.session_turns.specs.Sessions.{CanGive}
-use Rattle.session_turns.specs.Turns.{HasFollowed}
 
--- the receive pool has places, one of which the end that puts knows to be free
-pub record IsOpenPool (i : PoolIn) : Type 0 where
+-- the receive pool has places, one of which the end that puts knows to be free, and nothing in it
+pub record IsEmptyPool (i : PoolIn) (o : PoolOut) : Type 0 where
   pub places : 0 < ring.producer_capacity i.ring
   pub known : 0 < free i
-
--- All that has come to a secondary was applied, and its receive pool is empty.
-pub record IsCaughtUp (r : Listening) (received : List ℕ) (i : PoolIn) (o : PoolOut) (c : Copy) : Type 0 where
-  pub begun : Copy
-  pub followed : HasFollowed begun r received (put_in i) (taken o) c
-  pub pool : IsOpenPool i
+  pub empty : taken o ≡ put_in i
 
 -- Bytes have come to a Receiver Server, which has read them. What stands behind whole frames begins one, where it isn't bad.
 pub record HasReceived (a b : Listening) : Type 0 where
@@ -40,6 +33,7 @@ pub record HasMoved (a b : Listening) (r s : Receiving) : Type 0 where
 pub record IsStill (a b : Listening) (r s : Receiving) : Type 0 where
   pub same : b ≡ a
   pub none : a.incoming.waiting ≡ []
+  pub received : IsTrue r.shown → s.received ≡ r.received
   pub nothing : IsTrue r.told → (r.unread ≡ []) × (r.ended ≡ false)
   pub patience : r.told ≡ false → a.incoming.fresh ≡ [] → s.patience + 1 ≡ r.patience
 

@@ -1,5 +1,5 @@
 -- What a turn of a connection's machines comes to.
-use Rattle.std.specs.Prelude.{◌≡◌, ◌≢◌, ◌⊎◌, ℕ, false, List, [], ◌∷◌, ◌++◌, Result, Ok, Err}
+use Rattle.std.specs.Prelude.{◌≡◌, ◌≢◌, ◌⊎◌, ℕ, Bool, true, false, List, [], ◌∷◌, ◌++◌, Result, Ok, Err}
 use Rattle.wire_defs.specs.Frames.{Frame}
 use Rattle.ship_defs.specs.Hearing.{unbegun, HasUnfit}
 use Rattle.ship_defs.specs.Hearing as ship
@@ -57,10 +57,21 @@ module _ {F : Type 0} where
   turned_of (Err (hear.BadFrame at)) (Ok u) offset = Ok (Bad at)
   turned_of (Err hear.NoMemory) (Ok u) offset = Err NoMemory
 
-  -- Why the last entry that came wasn't applied to the site, and what the site is now.
+  -- What a turn comes to where one without a look at the sending end comes to that. Where the end was found cut, the connection is cut once
+  -- it can't go on with what has come.
+  abbrev pub settled_of : (cut : Bool) → Result Turned (TurnError F) → Result Turned (TurnError F)
+  settled_of false turned = turned
+  settled_of true (Ok On) = Ok On
+  settled_of true (Ok Cut) = Ok Cut
+  settled_of true (Ok Over) = Ok Cut
+  settled_of true (Ok (Short offset)) = Ok Cut
+  settled_of true (Ok (Bad offset)) = Ok Cut
+  settled_of true (Err e) = Err e
+
+  -- Why the last entry that came wasn't applied to the site, and what the site is now. A connection that is cut may have brought one without room.
   abbrev pub HaltsWith : Result Turned (TurnError F) → Arrival → (c now : Copy) → Type 0
   HaltsWith (Ok (Bad offset)) x c now = (x.at ≡ offset) × IsTooLarge x c × (now ≡ told c x.reign)
-  HaltsWith (Ok Cut) x c now = ⊥
+  HaltsWith (Ok Cut) x c now = IsTooLarge x c × (now ≡ told c x.reign)
   HaltsWith (Err (Site e)) x c now = (now ≡ c) ⊎ ((now ≡ told c x.reign) ⊎ Takes x.transaction (told c x.reign) now)
   HaltsWith (Ok On) x c now = ⊥
   HaltsWith (Ok Over) x c now = ⊥

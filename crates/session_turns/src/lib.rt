@@ -7,6 +7,7 @@
 
 mod laws;
 mod machines;
+mod running;
 
 pub use laws::{a_bye_tells_all, sessions_are_in_order};
 pub use machines::{Machines, TurnError, Turned};

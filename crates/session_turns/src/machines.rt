@@ -14,9 +14,10 @@ ghost use Rattle.receiver_server.specs.Listenings.{IsQuiet, IsIdle};
 ghost use Rattle.update_process.specs.Copies.{Copy};
 ghost use Rattle.update_process.specs.Updates.{IsSites};
 ghost use Rattle.session_turns.specs.Following.{Followed, Awaits, Halts};
-ghost use Rattle.session_turns.specs.Progress.{IsOpenPool, IsCaughtUp, HasMoved, IsStill, HasSentOn, CanMove};
+ghost use Rattle.session_turns.specs.Progress.{IsEmptyPool, HasMoved, IsStill, HasSentOn, CanMove};
 ghost use Rattle.session_turns.specs.Sessions.{HasMade, HasGiven, CanGive};
-ghost use Rattle.session_turns.specs.Turns.{HasFollowed, Comes, IsShort, turned_of};
+ghost use Rattle.session_turns.specs.Turns.{HasFollowed, Comes, IsShort, turned_of, settled_of};
+ghost use Rattle.session_turns.specs.Cuts.{HasCuts, TellsCuts};
 
 use gvn_key::NoMemory;
 use gvn_model::History;
@@ -132,8 +133,10 @@ fn apply<S: EntrySink>(
     requires going { IsTrue (S.going site.old) }
     ensures pool { IsPool into.new out.new }
     ensures put { put_in into.new ≡ put_in into.old }
-    // an entry that was put at most is taken, so that there is a place
-    ensures open { 0 < ring.producer_capacity into.old.ring → length (put_in into.old) ≤ length (taken out.old) + 1 → OnOk result (IsOpenPool into.new) }
+    // an entry that was put at most is taken, so that nothing is left
+    ensures empty { 0 < ring.producer_capacity into.old.ring → length (put_in into.old) ≤ length (taken out.old) + 1 → OnOk result (IsEmptyPool into.new out.new) }
+    // where none was put it doesn't fail
+    ensures nothing { taken out.old ≡ put_in into.old → OnErr result ⊥ }
     ensures going { OnOk result (IsTrue (S.going site.new)) }
     ensures on { IfErr result (λ e. IsSites e ⊎ IsTrue (S.going site.new)) }
     ensures applied { OnOk result ((begun : Copy) → Awaits begun (put_in into.old) (taken out.old) (S.copy site.old)
@@ -172,6 +175,20 @@ fn outcome<F>(
     }
 }
 
+// What a turn comes to. Where the primary's end was found cut, the connection is cut once it can't go on with the frames that wait.
+fn settle<F>(cut: bool, turned: Result<Turned, TurnError<F>>) -> Result<Turned, TurnError<F>>
+    ensures { result ≡ settled_of cut turned }
+{
+    if !cut {
+        return turned;
+    }
+    match turned {
+        Ok(Turned::On) => Ok(Turned::On),
+        Ok(_) => Ok(Turned::Cut),
+        Err(error) => Err(error),
+    }
+}
+
 // A step of a Receiver Server, and one of the Update Process with the entry that it put.
 fn follow<R: LinkRx, S: EntrySink>(
     receiver: &mut Receiver,
@@ -185,16 +202,18 @@ fn follow<R: LinkRx, S: EntrySink>(
     ensures line { R.line rx.new ≡ R.line rx.old }
     ensures same { SameReceiving (R.receiving rx.old) (R.receiving rx.new) }
     ensures pool { IsPool into.new out.new }
-    ensures caught_up { IsTrue (R.receiving rx.old).shown → IsCaughtUp receiver.old (R.receiving rx.old).received into.old out.old (S.copy site.old)
-        → IfOk result (λ t. t ≡ Turned.On → IsCaughtUp receiver.new (R.receiving rx.new).received into.new out.new (S.copy site.new)) }
+    ensures empty { IsEmptyPool into.old out.old → IfOk result (λ t. t ≡ Turned.On → IsEmptyPool into.new out.new) }
     ensures going { OnOk result (IsTrue (S.going site.new)) }
-    ensures hears { IsTrue (R.receiving rx.old).shown → IsCaughtUp receiver.old (R.receiving rx.old).received into.old out.old (S.copy site.old) → IfOk result (λ t. t ≡ Turned.On
+    ensures hears { IsEmptyPool into.old out.old → IfOk result (λ t. t ≡ Turned.On
         → HasMoved receiver.old receiver.new (R.receiving rx.old) (R.receiving rx.new) ⊎ IsStill receiver.old receiver.new (R.receiving rx.old) (R.receiving rx.new)) }
     ensures comes { IsTrue (R.receiving rx.old).shown → (begun : Copy) → HasFollowed begun receiver.old (R.receiving rx.old).received (put_in into.old) (taken out.old) (S.copy site.old)
         → Comes result begun receiver.new (R.receiving rx.new).received (put_in into.new) (taken out.new) (S.copy site.new) }
     ensures over { IfOk result (λ t. t ≡ Turned.Over → IsQuiet receiver.new × (receiver.new.heard.last ≡ Over)) }
     ensures short { IfOk result (λ t. (offset : ℕ) → t ≡ Turned.Short offset → IsShort receiver.new offset × IsTrue (R.receiving rx.new).closed) }
     ensures cut { IfOk result (λ t. t ≡ Turned.Cut → (R.receiving rx.new).cuts ≡ counted (R.receiving rx.old).cuts 1) }
+    ensures uncut { IsEmptyPool into.old out.old → IfOk result (λ t. (t ≡ Turned.Cut → ⊥) → (R.receiving rx.new).cuts ≡ (R.receiving rx.old).cuts) }
+    ensures uncut_err { IsEmptyPool into.old out.old → OnErr result ((R.receiving rx.new).cuts ≡ (R.receiving rx.old).cuts) }
+    ensures still { receiver.old.incoming.waiting ≢ [] → R.receiving rx.new ≡ R.receiving rx.old }
 {
     let heard = receiver.step(rx, into);
     let applied = apply(into, out, site);
@@ -301,16 +320,17 @@ impl<P: Drop> Machines<P> {
             → Comes result begun self.new.receiver (R.receiving rx.new).received (put_in self.new.into) (taken self.new.out) (S.copy site.new) }
         ensures cut { IfOk result (λ t. t ≡ Turned.Cut → IsTrue self.new.cut ⊎ ((R.receiving rx.new).cuts ≡ counted (R.receiving rx.old).cuts 1)) }
         ensures cut_tx { self.old.cut ≡ false → IsTrue self.new.cut → (T.sending tx.new).cuts ≡ counted (T.sending tx.old).cuts 1 }
+        ensures cuts { IsEmptyPool self.old.into self.old.out → HasCuts self.old.cut (T.sending tx.old) (R.receiving rx.old) → IfOk result (λ t. TellsCuts t self.new.cut (T.sending tx.new) (R.receiving rx.new)) }
+        ensures once { IsEmptyPool self.old.into self.old.out → HasCuts self.old.cut (T.sending tx.old) (R.receiving rx.old) → (T.sending tx.new).cuts + (R.receiving rx.new).cuts ≤ 1 }
         ensures over { IfOk result (λ t. t ≡ Turned.Over → IsQuiet self.new.receiver × (self.new.receiver.heard.last ≡ Over)) }
         ensures short { IfOk result (λ t. (offset : ℕ) → t ≡ Turned.Short offset → IsShort self.new.receiver offset × IsTrue (R.receiving rx.new).closed) }
-        ensures caught_up { IsTrue (R.receiving rx.old).shown → IsCaughtUp self.old.receiver (R.receiving rx.old).received self.old.into self.old.out (S.copy site.old)
-            → IfOk result (λ t. t ≡ Turned.On → IsCaughtUp self.new.receiver (R.receiving rx.new).received self.new.into self.new.out (S.copy site.new)) }
+        ensures empty { IsEmptyPool self.old.into self.old.out → IfOk result (λ t. t ≡ Turned.On → IsEmptyPool self.new.into self.new.out) }
         ensures failed { IsTrue (T.sending tx.old).told → (IsSome self.old.failure → IsTrue (T.sending tx.old).finished) → IsSome self.new.failure → IsTrue (T.sending tx.new).finished }
         ensures gives { IsTrue (T.sending tx.old).told → CanGive (E.ready entries.old) length self.old.source → CanGive (E.ready entries.new) length self.new.source }
-        ensures hears { IsTrue (R.receiving rx.old).shown → IsCaughtUp self.old.receiver (R.receiving rx.old).received self.old.into self.old.out (S.copy site.old) → IfOk result (λ t. t ≡ Turned.On
+        ensures hears { IsEmptyPool self.old.into self.old.out → IfOk result (λ t. t ≡ Turned.On
             → HasMoved self.old.receiver self.new.receiver (R.receiving rx.old) (R.receiving rx.new) ⊎ IsStill self.old.receiver self.new.receiver (R.receiving rx.old) (R.receiving rx.new)) }
-        ensures moves { CanMove (E.ready entries.old) length self.old.source (IsSome self.old.failure) (T.sending tx.old) (R.receiving rx.old)
-            → IsCaughtUp self.old.receiver (R.receiving rx.old).received self.old.into self.old.out (S.copy site.old) → IfOk result (λ t. t ≡ Turned.On → HasMoved self.old.receiver self.new.receiver (R.receiving rx.old) (R.receiving rx.new) ⊎ HasSentOn (T.sending tx.old) (T.sending tx.new)) }
+        ensures moves { CanMove (E.ready entries.old) length self.old.source (IsSome self.old.failure) (T.sending tx.old) (R.receiving rx.old) → IsEmptyPool self.old.into self.old.out
+            → IfOk result (λ t. t ≡ Turned.On → HasMoved self.old.receiver self.new.receiver (R.receiving rx.old) (R.receiving rx.new) ⊎ HasSentOn (T.sending tx.old) (T.sending tx.new)) }
     {
         if self.send(length, entries, tx).is_err() {
             return Err(TurnError::NoMemory);
@@ -318,7 +338,8 @@ impl<P: Drop> Machines<P> {
         if self.cut && !self.receiver.has_waiting() {
             return Ok(Turned::Cut);
         }
-        follow(&mut self.receiver, &mut self.into, &mut self.out, site, rx)
+        let turned = follow(&mut self.receiver, &mut self.into, &mut self.out, site, rx);
+        settle(self.cut, turned)
     }
 
     /// One step of each machine in turn, over both ends of a connection. The primary has so many entries. Afterwards each end knows all.
@@ -353,21 +374,25 @@ impl<P: Drop> Machines<P> {
         // one of the two ends was found cut
         ensures cut { IfOk result (λ t. t ≡ Turned.Cut → IsTrue self.new.cut ⊎ ((L.Rx.receiving ends.new.down_rx).cuts ≡ counted (L.Rx.receiving ends.old.down_rx).cuts 1)) }
         ensures cut_tx { self.old.cut ≡ false → IsTrue self.new.cut → (L.Tx.sending ends.new.up_tx).cuts ≡ counted (L.Tx.sending ends.old.up_tx).cuts 1 }
+        // over ends that were found cut once at most, it says that the connection is cut only where one cut was counted, and another end only where none was
+        ensures cuts { IsEmptyPool self.old.into self.old.out → HasCuts self.old.cut (L.Tx.sending ends.old.up_tx) (L.Rx.receiving ends.old.down_rx)
+            → IfOk result (λ t. TellsCuts t self.new.cut (L.Tx.sending ends.new.up_tx) (L.Rx.receiving ends.new.down_rx)) }
+        ensures once { IsEmptyPool self.old.into self.old.out → HasCuts self.old.cut (L.Tx.sending ends.old.up_tx) (L.Rx.receiving ends.old.down_rx)
+            → (L.Tx.sending ends.new.up_tx).cuts + (L.Rx.receiving ends.new.down_rx).cuts ≤ 1 }
         ensures over { IfOk result (λ t. t ≡ Turned.Over → IsQuiet self.new.receiver × (self.new.receiver.heard.last ≡ Over)) }
         ensures short { IfOk result (λ t. (offset : ℕ) → t ≡ Turned.Short offset → IsShort self.new.receiver offset × IsTrue (L.Rx.receiving ends.new.down_rx).closed) }
-        // what holds between turns where the connection goes on, and between turns over links that tell their bytes, holds again
-        ensures caught_up { IsTrue (L.Rx.receiving ends.old.down_rx).shown → IsCaughtUp self.old.receiver (L.Rx.receiving ends.old.down_rx).received self.old.into self.old.out (S.copy site.old)
-            → IfOk result (λ t. t ≡ Turned.On → IsCaughtUp self.new.receiver (L.Rx.receiving ends.new.down_rx).received self.new.into self.new.out (S.copy site.new)) }
+        // the receive pool is empty again, and what holds between turns over links that tell their bytes holds again
+        ensures empty { IsEmptyPool self.old.into self.old.out → IfOk result (λ t. t ≡ Turned.On → IsEmptyPool self.new.into self.new.out) }
         ensures stays { IsTrue (L.links links.now).told → CanMove (E.ready entries.old) length self.old.source (IsSome self.old.failure) (L.Tx.sending ends.old.up_tx) (L.Rx.receiving ends.old.down_rx)
             → CanMove (E.ready entries.new) length self.new.source (IsSome self.new.failure) (L.Tx.sending ends.new.up_tx) (L.Rx.receiving ends.new.down_rx) }
         // where the connection goes on, the secondary has received or heard something, or nothing has come to it, which costs patience
         // where bytes aren't told
-        ensures hears { IsTrue (L.Rx.receiving ends.old.down_rx).shown → IsCaughtUp self.old.receiver (L.Rx.receiving ends.old.down_rx).received self.old.into self.old.out (S.copy site.old) → IfOk result (λ t. t ≡ Turned.On
+        ensures hears { IsEmptyPool self.old.into self.old.out → IfOk result (λ t. t ≡ Turned.On
             → HasMoved self.old.receiver self.new.receiver (L.Rx.receiving ends.old.down_rx) (L.Rx.receiving ends.new.down_rx)
             ⊎ IsStill self.old.receiver self.new.receiver (L.Rx.receiving ends.old.down_rx) (L.Rx.receiving ends.new.down_rx)) }
         // over links that tell their bytes something has moved
         ensures moves { CanMove (E.ready entries.old) length self.old.source (IsSome self.old.failure) (L.Tx.sending ends.old.up_tx) (L.Rx.receiving ends.old.down_rx)
-            → IsCaughtUp self.old.receiver (L.Rx.receiving ends.old.down_rx).received self.old.into self.old.out (S.copy site.old) → IfOk result (λ t. t ≡ Turned.On
+            → IsEmptyPool self.old.into self.old.out → IfOk result (λ t. t ≡ Turned.On
             → HasMoved self.old.receiver self.new.receiver (L.Rx.receiving ends.old.down_rx) (L.Rx.receiving ends.new.down_rx) ⊎ HasSentOn (L.Tx.sending ends.old.up_tx) (L.Tx.sending ends.new.up_tx)) }
     {
         let turned = self.step(length, entries, site, &mut ends.up_tx, &mut ends.down_rx);

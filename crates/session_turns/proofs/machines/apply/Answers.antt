@@ -1,4 +1,4 @@
-use Rattle.std.proofs.Common.{◌≡◌, ◌+◌, ◌≤◌, List, [], ◌∷◌, ◌++◌, length, sym, ap, subst, ◌∙◌, arith}
+use Rattle.std.proofs.Common.{◌≡◌, ◌+◌, ◌≤◌, List, [], ◌∷◌, ◌++◌, length, sym, ap, subst, ◌∙◌, arith, append-nil, length-append}
 use Rattle.recv_pool.specs.Pools.{put_in, taken, known}
 use Rattle.ship_defs.specs.Arrivals.{Arrival}
 use Rattle.session_turns.specs.Following.{Followed, Awaits}
@@ -34,8 +34,8 @@ returns-in-Err-clause-halted g c = λ begun w.
     let done = halted_one begun put before old now waits (known c.beside.new.out) (known c.beside-2.new.out) after all_before all_after c.in-Err.error c.in-Err.ensures.failed in
     (done.0, done.1 ∙ ap (λ (l : List Arrival). l ++ done.0 ∷ []) c.beside.ensures.taken, done.2)
 
-pub returns-in-Ok-clause-open : goal.returns-in-Ok-clause-open
-returns-in-Ok-clause-open g c = λ places few.
+pub returns-in-Ok-clause-empty : goal.returns-in-Ok-clause-empty
+returns-in-Ok-clause-empty g c = λ places few.
     let put = put_in c.args.into.now in
     let before = taken c.beside.new.out in
     let after = taken c.apply_next-applied.new.pool in
@@ -48,4 +48,20 @@ returns-in-Ok-clause-open g c = λ places few.
     let zero : length left ≡ 0 = ap (λ (l : List Arrival). length l) none in
     let places_now = c.beside-2.ensures.same.0.1 ∙ c.beside.ensures.same.0.1 in
     let free = c.beside-2.ensures.free in
-    record { places = omega (arith, places_now, places); known = omega (arith, places_now, places, free, zero) }
+    let is : taken c.beside-2.new.out ≡ put_in c.beside-2.new.into = sym (append-nil (taken c.beside-2.new.out)) ∙ (ap (λ (l : List Arrival). taken c.beside-2.new.out ++ l) (sym none) ∙ c.beside-2.ensures.all) in
+    record { places = omega (arith, places_now, places); known = omega (arith, places_now, places, free, zero); empty = is }
+
+pub returns-in-Err-clause-nothing : goal.returns-in-Err-clause-nothing
+returns-in-Err-clause-nothing g c = λ all.
+    let put = put_in c.args.into.now in
+    let before = taken c.beside.new.out in
+    let after = taken c.apply_next-applied.new.pool in
+    let left = known c.beside-2.new.out in
+    let all_after : after ++ left ≡ put = ap (λ (l : List Arrival). l ++ left) (sym c.beside-2.ensures.taken) ∙ (c.beside-2.ensures.all ∙ (c.beside-2.ensures.put ∙ c.beside.ensures.put)) in
+    let failed = c.in-Err.ensures.failed in
+    let was : length before ≡ length put = ap length (c.beside.ensures.taken ∙ all) in
+    let more : length after ≡ length (before ++ failed.0 ∷ []) = ap length failed.1.is in
+    let sum : length (after ++ left) ≡ length put = ap length all_after in
+    let one = length-append before (failed.0 ∷ []) in
+    let parts = length-append after left in
+    omega (arith, was, more, sum, one, parts)

@@ -1,8 +1,8 @@
 use Rattle.std.proofs.Common.{List, ℕ, ◌<◌, sym, subst, ◌∙◌}
 use Rattle.recv_pool.specs.Pools.{put_in, taken}
 use Rattle.session_turns.specs.Turns.{Comes}
-use Rattle.session_turns.specs.Progress.{IsCaughtUp}
 use Rattle.session_turns.proofs.Progress.{on_weaker, moved_looked, sent_looked}
+use Rattle.session_turns.proofs.Cuts.{looked_cuts}
 use Rattle.session_turns.proofs.machines.Machines.turn.Goals as goal
 
 pub returns-clause-comes : goal.returns-clause-comes
@@ -11,20 +11,14 @@ returns-clause-comes g c = λ shown begun h.
     subst (λ (l : List ℕ). Comes c.step-turned.result begun m.receiver l (put_in m.into) (taken m.out) (g.S.EntrySink.copy c.step-turned.new.site))
     (sym c.beside.ensures.down_rx.received) (c.step-turned.ensures.comes shown begun h)
 
-pub returns-clause-caught_up : goal.returns-clause-caught_up
-returns-clause-caught_up g c = λ shown caught.
-    let m = c.step-turned.new.self in
-    on_weaker c.step-turned.result _ _ (λ h. subst (λ (l : List ℕ). IsCaughtUp m.receiver l m.into m.out (g.S.EntrySink.copy c.step-turned.new.site)) (sym c.beside.ensures.down_rx.received) h)
-    (c.step-turned.ensures.caught_up shown caught)
-
 pub returns-clause-hears : goal.returns-clause-hears
-returns-clause-hears g c = λ shown caught.
-    on_weaker c.step-turned.result _ _ (moved_looked c.args.self.now.receiver c.step-turned.new.self.receiver _ _ _ c.beside.ensures.down_rx.patience) (c.step-turned.ensures.hears shown caught)
+returns-clause-hears g c = λ pool.
+    on_weaker c.step-turned.result _ _ (moved_looked c.args.self.now.receiver c.step-turned.new.self.receiver _ _ _ c.beside.ensures.down_rx.patience c.beside.ensures.down_rx.received) (c.step-turned.ensures.hears pool)
 
 pub returns-clause-moves : goal.returns-clause-moves
-returns-clause-moves g c = λ can caught.
+returns-clause-moves g c = λ can pool.
     let sending = g.L.Tx.LinkTx.sending in
-    on_weaker c.step-turned.result _ _ (sent_looked c.args.self.now.receiver c.step-turned.new.self.receiver _ _ _ (sending c.args.ends.now.up_tx) (sending c.step-turned.new.tx) (sending c.beside.new.ends.up_tx) c.beside.ensures.down_rx.patience c.beside.ensures.up_tx.sent c.beside.ensures.up_tx.finished) (c.step-turned.ensures.moves can caught)
+    on_weaker c.step-turned.result _ _ (sent_looked c.args.self.now.receiver c.step-turned.new.self.receiver _ _ _ (sending c.args.ends.now.up_tx) (sending c.step-turned.new.tx) (sending c.beside.new.ends.up_tx) c.beside.ensures.down_rx.patience c.beside.ensures.up_tx.sent c.beside.ensures.up_tx.finished) (c.step-turned.ensures.moves can pool)
 
 pub returns-clause-stays : goal.returns-clause-stays
 returns-clause-stays g c = λ told can. record {
@@ -34,3 +28,10 @@ returns-clause-stays g c = λ told can. record {
   gives = c.step-turned.ensures.gives can.told.0 can.gives;
   failed = λ f. c.beside.ensures.up_tx.finished ∙ c.step-turned.ensures.failed can.told.0 can.failed f;
 }
+
+pub returns-clause-cuts : goal.returns-clause-cuts
+returns-clause-cuts g c = λ pool has.
+    let sending = g.L.Tx.LinkTx.sending in
+    let receiving = g.L.Rx.LinkRx.receiving in
+    looked_cuts c.step-turned.result c.step-turned.new.self.cut (sending c.step-turned.new.tx) (sending c.beside.new.ends.up_tx) (receiving c.step-turned.new.rx) (receiving c.beside.new.ends.down_rx)
+    c.beside.ensures.up_tx.cuts c.beside.ensures.down_rx.cuts (c.step-turned.ensures.cuts pool has)
