@@ -83,6 +83,10 @@ module _ {F : Type 0} where
   pub settled_cut : (cut : Bool) (r : Result Turned (TurnError F)) (P : Type 0) → IfOk r (λ t. t ≡ turned.Cut → P) → IfOk (settled_of cut r) (λ t. t ≡ turned.Cut → IsTrue cut ⊎ P)
   settled_cut cut r P h = settled cut r (λ t. t ≡ turned.Cut → IsTrue cut ⊎ P) (λ is e. inl is) (found cut r P h)
 
+  pub settled_whole : (cut : Bool) (r : Result Turned (TurnError F)) (P : Type 0) → cut ≡ false → IfOk r (λ t. t ≡ turned.Cut → P) → IfOk (settled_of cut r) (λ t. t ≡ turned.Cut → P)
+  settled_whole false r P uncut h = h
+  settled_whole true r P uncut h = let no : ⊥ = cc in absurd no
+
   pub settled_ok : (cut : Bool) (r : Result Turned (TurnError F)) (P : Type 0) → OnOk r P → OnOk (settled_of cut r) P
   settled_ok false r P h = h
   settled_ok true (Ok turned.On) P h = h

@@ -101,6 +101,22 @@ module _ (begun : Copy) (r now : Listening) (received later : List ℕ) (put tak
       comes_of heard (Err (update.BadFrame at)) offset bad done fails = let x = fails begun awaits in inr (x.0, c, halted_on x.0 x.1, x.2)
       comes_of heard (Err (update.Site e)) offset bad done fails = let x = fails begun awaits in inr (x.0, c, halted_on x.0 x.1, x.2)
 
+      -- where the receiving end was found cut nothing was put that wasn't applied
+      pub whole_of : {F : Type 0} (heard : Result Step HearError) (applied : Result (Unit {0}) (UpdateError F)) (offset : ℕ)
+          → OnOk applied ((b : Copy) → Awaits b more taken c → (out ≡ after) × Followed b after d)
+          → IfOk (turned_of heard applied offset) (λ t. t ≡ turned.Cut → HasFollowed begun now later after out d)
+      whole_of (Ok Received) (Ok u) offset done = λ e. absurd (cc)
+      whole_of (Ok (Answered answer)) (Ok u) offset done = λ e. absurd (cc)
+      whole_of (Ok Heard) (Ok u) offset done = λ e. absurd (cc)
+      whole_of (Ok Waits) (Ok u) offset done = λ e. absurd (cc)
+      whole_of (Ok Over) (Ok u) offset done = λ e. absurd (cc)
+      whole_of (Ok Ended) (Ok u) offset done = λ e. absurd (cc)
+      whole_of (Err hear.Cut) (Ok u) offset done = λ _. followed_on (done begun awaits)
+      whole_of (Err (hear.BadFrame at)) (Ok u) offset done = λ e. absurd (cc)
+      whole_of (Err hear.NoMemory) (Ok u) offset done = tt
+      whole_of heard (Err (update.BadFrame at)) offset done = λ e. absurd (cc)
+      whole_of heard (Err (update.Site e)) offset done = tt
+
 -- nothing has come, and nothing was applied
 pub unmoved : (begun : Copy) (a b : Listening) (received : List ℕ) (put later taken out : List Arrival) (c : Copy) → b ≡ a → later ≡ put → out ≡ taken → HasFollowed begun a received put taken c → HasFollowed begun b received later out c
 unmoved begun a b received put later taken out c r p t h =

@@ -208,6 +208,8 @@ fn follow<R: LinkRx, S: EntrySink>(
         → HasMoved receiver.old receiver.new (R.receiving rx.old) (R.receiving rx.new) ⊎ IsStill receiver.old receiver.new (R.receiving rx.old) (R.receiving rx.new)) }
     ensures comes { IsTrue (R.receiving rx.old).shown → (begun : Copy) → HasFollowed begun receiver.old (R.receiving rx.old).received (put_in into.old) (taken out.old) (S.copy site.old)
         → Comes result begun receiver.new (R.receiving rx.new).received (put_in into.new) (taken out.new) (S.copy site.new) }
+    ensures whole { IsTrue (R.receiving rx.old).shown → (begun : Copy) → HasFollowed begun receiver.old (R.receiving rx.old).received (put_in into.old) (taken out.old) (S.copy site.old)
+        → IfOk result (λ t. t ≡ Turned.Cut → HasFollowed begun receiver.new (R.receiving rx.new).received (put_in into.new) (taken out.new) (S.copy site.new)) }
     ensures over { IfOk result (λ t. t ≡ Turned.Over → IsQuiet receiver.new × (receiver.new.heard.last ≡ Over)) }
     ensures short { IfOk result (λ t. (offset : ℕ) → t ≡ Turned.Short offset → IsShort receiver.new offset × IsTrue (R.receiving rx.new).closed) }
     ensures cut { IfOk result (λ t. t ≡ Turned.Cut → (R.receiving rx.new).cuts ≡ counted (R.receiving rx.old).cuts 1) }
@@ -318,6 +320,8 @@ impl<P: Drop> Machines<P> {
             → HasGiven (E.is_entry entries.new) from length self.new.source (T.sending tx.new).sent }
         ensures comes { IsTrue (R.receiving rx.old).shown → (begun : Copy) → HasFollowed begun self.old.receiver (R.receiving rx.old).received (put_in self.old.into) (taken self.old.out) (S.copy site.old)
             → Comes result begun self.new.receiver (R.receiving rx.new).received (put_in self.new.into) (taken self.new.out) (S.copy site.new) }
+        ensures whole { IsTrue (R.receiving rx.old).shown → self.new.cut ≡ false → (begun : Copy) → HasFollowed begun self.old.receiver (R.receiving rx.old).received (put_in self.old.into) (taken self.old.out) (S.copy site.old)
+            → IfOk result (λ t. t ≡ Turned.Cut → HasFollowed begun self.new.receiver (R.receiving rx.new).received (put_in self.new.into) (taken self.new.out) (S.copy site.new)) }
         ensures cut { IfOk result (λ t. t ≡ Turned.Cut → IsTrue self.new.cut ⊎ ((R.receiving rx.new).cuts ≡ counted (R.receiving rx.old).cuts 1)) }
         ensures cut_tx { self.old.cut ≡ false → IsTrue self.new.cut → (T.sending tx.new).cuts ≡ counted (T.sending tx.old).cuts 1 }
         ensures cuts { IsEmptyPool self.old.into self.old.out → HasCuts self.old.cut (T.sending tx.old) (R.receiving rx.old) → IfOk result (λ t. TellsCuts t self.new.cut (T.sending tx.new) (R.receiving rx.new)) }
@@ -371,6 +375,10 @@ impl<P: Drop> Machines<P> {
         ensures comes { IsTrue (L.Rx.receiving ends.old.down_rx).shown → (begun : Copy)
             → HasFollowed begun self.old.receiver (L.Rx.receiving ends.old.down_rx).received (put_in self.old.into) (taken self.old.out) (S.copy site.old)
             → Comes result begun self.new.receiver (L.Rx.receiving ends.new.down_rx).received (put_in self.new.into) (taken self.new.out) (S.copy site.new) }
+        // where the receiving end was found cut all that arrived was applied
+        ensures whole { IsTrue (L.Rx.receiving ends.old.down_rx).shown → self.new.cut ≡ false → (begun : Copy)
+            → HasFollowed begun self.old.receiver (L.Rx.receiving ends.old.down_rx).received (put_in self.old.into) (taken self.old.out) (S.copy site.old)
+            → IfOk result (λ t. t ≡ Turned.Cut → HasFollowed begun self.new.receiver (L.Rx.receiving ends.new.down_rx).received (put_in self.new.into) (taken self.new.out) (S.copy site.new)) }
         // one of the two ends was found cut
         ensures cut { IfOk result (λ t. t ≡ Turned.Cut → IsTrue self.new.cut ⊎ ((L.Rx.receiving ends.new.down_rx).cuts ≡ counted (L.Rx.receiving ends.old.down_rx).cuts 1)) }
         ensures cut_tx { self.old.cut ≡ false → IsTrue self.new.cut → (L.Tx.sending ends.new.up_tx).cuts ≡ counted (L.Tx.sending ends.old.up_tx).cuts 1 }

@@ -49,6 +49,10 @@ impl<P: Drop> Machines<P> {
         ensures comes { IsTrue (L.Rx.receiving ends.old.down_rx).shown → (begun : Copy)
             → HasFollowed begun self.old.receiver (L.Rx.receiving ends.old.down_rx).received (put_in self.old.into) (taken self.old.out) (S.copy site.old)
             → Comes result begun self.new.receiver (L.Rx.receiving ends.new.down_rx).received (put_in self.new.into) (taken self.new.out) (S.copy site.new) }
+        // where the receiving end was found cut all that arrived was applied
+        ensures whole { IsTrue (L.Rx.receiving ends.old.down_rx).shown → self.new.cut ≡ false → (begun : Copy)
+            → HasFollowed begun self.old.receiver (L.Rx.receiving ends.old.down_rx).received (put_in self.old.into) (taken self.old.out) (S.copy site.old)
+            → IfOk result (λ t. t ≡ Turned.Cut → HasFollowed begun self.new.receiver (L.Rx.receiving ends.new.down_rx).received (put_in self.new.into) (taken self.new.out) (S.copy site.new)) }
         // it says that the connection is cut where one cut was counted, at one of the two ends, and another end of it where none was
         ensures cut { self.old.cut ≡ false → (L.Tx.sending ends.old.up_tx).cuts ≡ 0 → (L.Rx.receiving ends.old.down_rx).cuts ≡ 0
             → IfOk result (λ t. (t ≡ Turned.Cut → (L.Tx.sending ends.new.up_tx).cuts + (L.Rx.receiving ends.new.down_rx).cuts ≡ 1) × ((t ≡ Turned.Cut → ⊥) → (L.Tx.sending ends.new.up_tx).cuts + (L.Rx.receiving ends.new.down_rx).cuts ≡ 0)) }

@@ -2,7 +2,7 @@ use Rattle.std.proofs.Common.{◌≡◌, ◌⊎◌, ◌+◌, ◌≤◌, length, 
 use Rattle.recv_pool.specs.Pools.{put_in, taken}
 use Rattle.ship_defs.specs.Hearing.{unbegun}
 use Rattle.update_process.specs.Copies.{history_of}
-use Rattle.session_turns.proofs.Heard.{comes_of, unfit_of, going_of, over_of, cut_of}
+use Rattle.session_turns.proofs.Heard.{comes_of, whole_of, unfit_of, going_of, over_of, cut_of}
 use Rattle.session_turns.specs.Progress.{HasMoved, IsStill, IsEmptyPool}
 use Rattle.session_turns.proofs.Progress.{moved_or_still, on_of}
 use Rattle.session_turns.proofs.Cuts.{err_weaker, uncut_of, uncut_err_of}
@@ -19,6 +19,13 @@ returns-clause-comes g c = λ shown begun h.
     rw c.outcome.ensures (comes_of begun c.args.receiver.now c.step-heard.new.self (g.R.LinkRx.receiving c.args.rx.now).received (g.R.LinkRx.receiving c.step-heard.new.rx).received (put_in c.args.into.now) (taken c.args.out.now)
     (put_in c.step-heard.new.pool) (g.S.EntrySink.copy c.args.site.now) h c.step-heard.result heard.0 heard.1 heard.2 (put_in c.apply-applied.new.into) (taken c.apply-applied.new.out) (g.S.EntrySink.copy c.apply-applied.new.site)
     c.apply-applied.ensures.put c.step-heard.result c.apply-applied.result c.offset.result bad c.apply-applied.ensures.applied c.apply-applied.ensures.halted)
+
+pub returns-clause-whole : goal.returns-clause-whole
+returns-clause-whole g c = λ shown begun h.
+    let heard = c.step-heard.ensures.hears shown _ h.frames h.hears in
+    rw c.outcome.ensures (whole_of begun c.args.receiver.now c.step-heard.new.self (g.R.LinkRx.receiving c.args.rx.now).received (g.R.LinkRx.receiving c.step-heard.new.rx).received (put_in c.args.into.now) (taken c.args.out.now)
+    (put_in c.step-heard.new.pool) (g.S.EntrySink.copy c.args.site.now) h c.step-heard.result heard.0 heard.1 heard.2 (put_in c.apply-applied.new.into) (taken c.apply-applied.new.out) (g.S.EntrySink.copy c.apply-applied.new.site)
+    c.apply-applied.ensures.put c.step-heard.result c.apply-applied.result c.offset.result c.apply-applied.ensures.applied)
 
 pub returns-clause-over : goal.returns-clause-over
 returns-clause-over g c = rw c.outcome.ensures (over_of c.offset.result c.step-heard.result c.apply-applied.result _ c.step-heard.ensures.over)

@@ -88,3 +88,6 @@ returns-in_default-clause-comes g c = λ shown begun h. let v = c.loop-ended.inv
 
 pub returns-in_default-clause-once : goal.returns-in_default-clause-once
 returns-in_default-clause-once g c = λ uncut sending receiving. let v = c.loop-ended.invariant in c.turn.ensures.once v.empty (v.cuts uncut sending receiving)
+
+pub returns-in_default-clause-whole : goal.returns-in_default-clause-whole
+returns-in_default-clause-whole g c = λ shown uncut begun h. let v = c.loop-ended.invariant in c.in_default.ensures.whole (v.up.1.shown ∙ shown) uncut begun (v.comes shown begun h)

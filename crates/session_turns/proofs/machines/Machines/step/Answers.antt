@@ -4,9 +4,9 @@ use Rattle.session_turns.proofs.Heard.{unmoved}
 use Rattle.receiver_server.specs.Listenings.{Listening}
 use Rattle.wire_defs.specs.Links.{Receiving}
 use Rattle.session_turns.specs.Progress.{IsStill, HasSentOn}
-use Rattle.session_turns.specs.Turns.{IsShort, settled_of}
+use Rattle.session_turns.specs.Turns.{HasFollowed, IsShort, settled_of}
 use Rattle.session_turns.proofs.Progress.{empty_same, hears_same, moved_or_sent, never_cut, ok_of, sent_of, on_weaker, still_sends}
-use Rattle.session_turns.proofs.Cuts.{err_weaker, settled_on, settled_over, settled_short, settled_cut, settled_ok, settled_err, settled_comes, sent_cuts, step_cuts, most_one, has_most}
+use Rattle.session_turns.proofs.Cuts.{err_weaker, settled_on, settled_over, settled_short, settled_cut, settled_whole, settled_ok, settled_err, settled_comes, sent_cuts, step_cuts, most_one, has_most}
 use Rattle.session_turns.proofs.machines.Machines.step.Goals as goal
 use Rattle.session_turns.proofs.machines.Machines.step.Goals.{else-self-via-then-self+else-not-has_waiting, else-self-via-else-self}
 
@@ -149,3 +149,19 @@ returns-clause-once g c = λ pool has.
     ] in
     most_one (settled_of n.cut f.result) n.cut y s (step_cuts y r s has.receiving n.cut f.result sent still f.ensures.cut (f.ensures.uncut empty))
     (settled_err n.cut f.result _ (err_weaker f.result (s.cuts ≡ r.cuts) _ (λ same. record { sending = sent; receiving = same ∙ has.receiving }) (f.ensures.uncut_err empty)))
+
+pub returns-then-not-has_waiting-clause-whole : goal.returns-then-not-has_waiting-clause-whole
+returns-then-not-has_waiting-clause-whole g c = λ shown uncut begun h is.
+    let m = c.args.self.now in
+    let now = c.send.new.self in
+    let same = c.send.ensures.others in
+    unmoved begun m.receiver now.receiver (g.R.LinkRx.receiving c.args.rx.now).received (put_in m.into) (put_in now.into) (taken m.out) (taken now.out) (g.S.EntrySink.copy c.args.site.now) same.0 (ap put_in same.1) (ap taken same.2) h
+
+pub returns-clause-whole : goal.returns-clause-whole
+returns-clause-whole g c = λ shown uncut begun h.
+    let m = c.args.self.now in
+    let n = c.send.new.self in
+    let same = c.send.ensures.others in
+    let before = unmoved begun m.receiver n.receiver (g.R.LinkRx.receiving c.args.rx.now).received (put_in m.into) (put_in n.into) (taken m.out) (taken n.out) (g.S.EntrySink.copy c.args.site.now) same.0 (ap put_in same.1) (ap taken same.2) h in
+    let f = c.follow-turned.new in
+    rw c.settle.ensures (settled_whole n.cut c.follow-turned.result (HasFollowed begun f.receiver (g.R.LinkRx.receiving f.rx).received (put_in f.into) (taken f.out) (g.S.EntrySink.copy f.site)) uncut (c.follow-turned.ensures.whole shown begun before))

@@ -1,6 +1,7 @@
-use Rattle.std.proofs.Common.{List, ℕ, ◌<◌, sym, subst, ◌∙◌}
+use Rattle.std.proofs.Common.{◌≡◌, IfOk, List, ℕ, ◌<◌, sym, subst, ◌∙◌}
 use Rattle.recv_pool.specs.Pools.{put_in, taken}
-use Rattle.session_turns.specs.Turns.{Comes}
+use Rattle.session_turns.specs.Turns.{HasFollowed, Comes}
+use Rattle.session_turns.specs.declared.machines.Turned.TheVariants.{Cut}
 use Rattle.session_turns.proofs.Progress.{on_weaker, moved_looked, sent_looked}
 use Rattle.session_turns.proofs.Cuts.{looked_cuts}
 use Rattle.session_turns.proofs.machines.Machines.turn.Goals as goal
@@ -10,6 +11,12 @@ returns-clause-comes g c = λ shown begun h.
     let m = c.step-turned.new.self in
     subst (λ (l : List ℕ). Comes c.step-turned.result begun m.receiver l (put_in m.into) (taken m.out) (g.S.EntrySink.copy c.step-turned.new.site))
     (sym c.beside.ensures.down_rx.received) (c.step-turned.ensures.comes shown begun h)
+
+pub returns-clause-whole : goal.returns-clause-whole
+returns-clause-whole g c = λ shown uncut begun h.
+    let m = c.step-turned.new.self in
+    subst (λ (l : List ℕ). IfOk c.step-turned.result (λ t. t ≡ Cut → HasFollowed begun m.receiver l (put_in m.into) (taken m.out) (g.S.EntrySink.copy c.step-turned.new.site)))
+    (sym c.beside.ensures.down_rx.received) (c.step-turned.ensures.whole shown uncut begun h)
 
 pub returns-clause-hears : goal.returns-clause-hears
 returns-clause-hears g c = λ pool.
