@@ -60,6 +60,7 @@ loop-ended-smaller g c =
     let b = c.turn.new.self.receiver in
     turn_less (g.L.Linker.links c.args.links.now).told a b (tx c.loop-ended.ends.up_tx) (tx c.turn.new.ends.up_tx) (rx c.loop-ended.ends.down_rx) (rx c.turn.new.ends.down_rx) v.read v.told
     (e.hears v.empty c.in-Ok-On.field-0-is)
+    -- (the laws of an associated type's bound are told of each place where it may run, so of this one)
     (λ told. let can = v.moves told in ((g.met.L.Rx.LinkRx g.world.𝓛 g.world.𝓜 g.world.𝓡 ((λ s x. x), (λ x. x), (λ x. x), λ x. x)).shows c.loop-ended.ends.down_rx can.told.1, can.know, e.carries told, e.moves can v.empty c.in-Ok-On.field-0-is))
 
 pub returns-in_default-clause-up : goal.returns-in_default-clause-up
