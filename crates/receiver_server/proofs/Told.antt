@@ -1,12 +1,16 @@
 -- What frames that fit are to a secondary that has room for their nodes.
-use Rattle.std.proofs.Common.{◌≡◌, ◌≢◌, ℕ, Bool, true, false, List, [], ◌∷◌, ◌++◌, refl, sym, ap, subst, ◌∙◌, append-nil}
+use Rattle.std.proofs.Common.{◌≡◌, ◌≢◌, ℕ, Bool, true, false, List, [], ◌∷◌, ◌++◌, refl, sym, ap, subst, ◌∙◌, append-nil, Result, Ok, Err}
 use Rattle.global_defs.specs.Entry.{Globals}
 use Rattle.wire_defs.specs.Frames.{Frame, Reading, AreFrames, BeginsFrame, offset_after}
 use Rattle.ship_defs.specs.Directions.{Admitted, Lacks, refused, begins_none, behind_last, too_short}
 use Rattle.ship_defs.specs.Arrivals.{Arrival}
 use Rattle.ship_defs.specs.Hearing as ship
 use Rattle.ship_defs.specs.Hearing.{Purpose, Heard, Hearing, Last, Fits, Admits, IsOver, IsHeardOut, with_updates, IsBadFromPrimary, EndsFromPrimary}
-use Rattle.receiver_server.specs.Listenings.{Listening, HasTail, IsHearing, IsQuiet, IsIdle, IsUnfitBehind, HavePlaces}
+use Rattle.receiver_server.specs.Listenings.{Listening, HasTail, IsHearing, IsQuiet, IsIdle, IsUnfitBehind, HavePlaces, Does}
+use Rattle.receiver_server.specs.declared.step.HearError.{HearError}
+use Rattle.receiver_server.specs.declared.step.HearError.TheVariants as hear
+use Rattle.receiver_server.specs.declared.step.Step.{Step}
+use Rattle.receiver_server.specs.declared.step.Step.TheVariants as steps
 
 -- the globals with the updates of frames
 abbrev globals_behind : Globals → List Frame → Globals
@@ -93,3 +97,15 @@ ends_early begun s received put frames h idle ne =
       },
       refl,
     )
+
+-- no step changes what the connection is for
+pub same_purpose : (r : Result Step HearError) (a b : Listening) → Does r a b → b.purpose ≡ a.purpose
+same_purpose (Ok steps.Received) a b does = ap (λ (x : Listening). x.purpose) does.0.after
+same_purpose (Ok (steps.Answered y)) a b does = ap (λ (x : Listening). x.purpose) does.after
+same_purpose (Ok steps.Heard) a b does = ap (λ (x : Listening). x.purpose) does.2.after
+same_purpose (Ok steps.Waits) a b does = ap (λ (x : Listening). x.purpose) does
+same_purpose (Ok steps.Over) a b does = ap (λ (x : Listening). x.purpose) does
+same_purpose (Ok steps.Ended) a b does = ap (λ (x : Listening). x.purpose) does
+same_purpose (Err hear.Cut) a b does = ap (λ (x : Listening). x.purpose) does
+same_purpose (Err (hear.BadFrame at)) a b does = ap (λ (x : Listening). x.purpose) does
+same_purpose (Err hear.NoMemory) a b does = ap (λ (x : Listening). x.purpose) does

@@ -133,11 +133,12 @@ one_fits : (g : Globals) (a : Handshake) → HavePlaces g (answer_frame a ∷ []
 one_fits g (handshake.Resume n) = (tt, tt)
 one_fits g (handshake.RollbackFirst n) = (tt, tt)
 
-pub ends_asked : (mine : prefix.History) (s : Listening) (received : List ℕ) (a : Handshake) → s.purpose ≡ Asks → s.heard.last ≡ ship.Over → IsQuiet s → IsHearing (unbegun mine) s received [] (answer_frame a ∷ [])
-    → (g : Globals) → EndsFromPrimary Asks (asking mine g) received (answer_frame a)
-ends_asked mine s received a asks over quiet h g =
+-- an answer that is the last frame
+pub ends_answered : (p : Purpose) (mine : prefix.History) (s : Listening) (received : List ℕ) (a : Handshake) → s.purpose ≡ p → s.heard.last ≡ ship.Over → IsQuiet s → IsHearing (unbegun mine) s received [] (answer_frame a ∷ [])
+    → (g : Globals) → EndsFromPrimary p (asking mine g) received (answer_frame a)
+ends_answered p mine s received a is over quiet h g =
     let all = all_heard (unbegun mine) s received [] (answer_frame a ∷ []) h quiet in
-    subst (λ p. EndsFromPrimary p (asking mine g) received (answer_frame a)) asks
+    subst (λ (q : Purpose). EndsFromPrimary q (asking mine g) received (answer_frame a)) is
     (whole_all s.purpose (unbegun mine) s.heard g [] (answer_frame a) received all h.admitted (is_over s.heard.last over) (one_fits g a))
 
 -- facts of a call whatever it answers

@@ -313,15 +313,3 @@ end_cut (Err hear.NoMemory) offset m means e = let no : ⊥ = cc in absurd no
 
 pub end_told : (r : Result Step HearError) (offset : ℕ) (m : EndAnswer) → EndMeans r offset m → IsErrOf r hear.Cut → IsErrOf m greets.Cut
 end_told r offset m means e = subst (λ x. EndMeans x offset m) e means
-
--- no step changes what the connection is for
-pub same_purpose : (r : Result Step HearError) (a b : Listening) → Does r a b → b.purpose ≡ a.purpose
-same_purpose (Ok steps.Received) a b does = ap (λ (x : Listening). x.purpose) does.0.after
-same_purpose (Ok (steps.Answered y)) a b does = ap (λ (x : Listening). x.purpose) does.after
-same_purpose (Ok steps.Heard) a b does = ap (λ (x : Listening). x.purpose) does.2.after
-same_purpose (Ok steps.Waits) a b does = ap (λ (x : Listening). x.purpose) does
-same_purpose (Ok steps.Over) a b does = ap (λ (x : Listening). x.purpose) does
-same_purpose (Ok steps.Ended) a b does = ap (λ (x : Listening). x.purpose) does
-same_purpose (Err hear.Cut) a b does = ap (λ (x : Listening). x.purpose) does
-same_purpose (Err (hear.BadFrame at)) a b does = ap (λ (x : Listening). x.purpose) does
-same_purpose (Err hear.NoMemory) a b does = ap (λ (x : Listening). x.purpose) does

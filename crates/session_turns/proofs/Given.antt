@@ -98,3 +98,13 @@ gives_on Ready Later All size a b c sent now still same closed (inr more) can =
       | inl past ↦ absurd (let ended : b.ended ≡ true = closed past in let going : b.ended ≡ false = more.2.goes_on in let no : false ≡ true = sym going ∙ ended in let never : ⊥ = cc in never)
       | inr within ↦ gives_later Ready Later size a c still can (omega (arith, next, same)) (omega (arith, next, same, within))
     ]
+
+-- no step changes the primary's reigns
+
+pub goes_reigns : (Is : ℕ → List ℕ → Type 0) (a b : Shipping) (sent now : List ℕ) → Goes Is a b sent now → b.reigns ≡ a.reigns
+goes_reigns Is a b sent now (inl more) = ap (λ (s : Shipping). s.reigns) more.after
+goes_reigns Is a b sent now (inr more) = ap (λ (s : Shipping). s.reigns) more.2.after
+
+pub end_reigns : (a b : Shipping) (size : ℕ) (made : Bool) → (IsTrue made → b ≡ record a { ended = true; pending = a.pending ++ spelled_frame (Bye size) }) → (made ≡ false → b ≡ a) → b.reigns ≡ a.reigns
+end_reigns a b size true some none = ap (λ (s : Shipping). s.reigns) (some refl)
+end_reigns a b size false some none = ap (λ (s : Shipping). s.reigns) (none refl)

@@ -210,23 +210,26 @@ told_fits p h now (Entry n t) x = sym (ap (λ (y : Heard). reign_behind y.last) 
 told_fits p h now (Bye n) x = sym (ap (λ (y : Heard). reign_behind y.last) x.2)
 
 abbrev Told : Copy → Copy → Option Reign → List Arrival → List Arrival → Type 0
-Told c d under xs ys = InTurn d ys × (d.sequence ≡ c.sequence ++ entries_of under xs)
+Told c d under xs ys = InTurn d ys × (d.sequence ≡ c.sequence ++ entries_of under xs) × IsFitCopy d
 
-none_left : (c d : Copy) (under : Option Reign) (xs ys : List Arrival) → [] ≡ xs ++ ys → Followed c xs d → Told c d under xs ys
-none_left c d under [] [] is followed = (tt, ap (λ (y : Copy). y.sequence) followed ∙ sym (append-nil c.sequence))
-none_left c d under [] (y ∷ ys) is followed = absurd (cc)
-none_left c d under (x ∷ xs) ys is followed = absurd (cc)
+none_left : (c d : Copy) (under : Option Reign) (xs ys : List Arrival) → IsFitCopy c → [] ≡ xs ++ ys → Followed c xs d → Told c d under xs ys
+none_left c d under [] [] fit is followed = (tt, ap (λ (y : Copy). y.sequence) followed ∙ sym (append-nil c.sequence), subst IsFitCopy (sym followed) fit)
+none_left c d under [] (y ∷ ys) fit is followed = absurd (cc)
+none_left c d under (x ∷ xs) ys fit is followed = absurd (cc)
 
-first_left : (c d : Copy) (under : Option Reign) (x : Arrival) (rest ys : List Arrival) → x ∷ rest ≡ ys → (x.number ≡ next_of c) × ((r : Reign) → x.reign ≡ Some r → MayAdopt (history_of c) r) → d ≡ c → Told c d under [] ys
-first_left c d under x rest ys is turn same =
-    (subst (λ (l : List Arrival). InTurn d l) is (subst (λ (y : Copy). InTurn y (x ∷ rest)) (sym same) turn), ap (λ (y : Copy). y.sequence) same ∙ sym (append-nil c.sequence))
+first_left : (c d : Copy) (under : Option Reign) (x : Arrival) (rest ys : List Arrival) → IsFitCopy c → x ∷ rest ≡ ys → (x.number ≡ next_of c) × ((r : Reign) → x.reign ≡ Some r → MayAdopt (history_of c) r) → d ≡ c → Told c d under [] ys
+first_left c d under x rest ys fit is turn same = (
+  subst (λ (l : List Arrival). InTurn d l) is (subst (λ (y : Copy). InTurn y (x ∷ rest)) (sym same) turn),
+  ap (λ (y : Copy). y.sequence) same ∙ sym (append-nil c.sequence),
+  subst IsFitCopy (sym same) fit,
+)
 
 entry_walk : (fs : List Frame) (at : ℕ) (h next : Heard) (c d : Copy) (under : Option Reign) (xs ys : List Arrival) (x : Arrival) → Agrees c h under → IsUnder h.last → x.number ≡ h.count + 1 → x.reign ≡ reign_behind h.last
     → next ≡ entered h h.last
     → ((m : Copy) (later : Option Reign) (zs : List Arrival) → Agrees m next later → arrivals at (reign_behind next.last) fs ≡ zs ++ ys → Followed m zs d → Told m d later zs ys)
     → x ∷ arrivals at None fs ≡ xs ++ ys → Followed c xs d → Told c d under xs ys
 entry_walk fs at h next c d under [] ys x agrees un number reign becomes go is followed =
-    first_left c d under x (arrivals at None fs) ys is (number ∙ ap (λ (n : ℕ). n + 1) agrees.count, λ r e. may_adopt c h under h.last r agrees refl (sym reign ∙ e)) followed
+    first_left c d under x (arrivals at None fs) ys agrees.starts is (number ∙ ap (λ (n : ℕ). n + 1) agrees.count, λ r e. may_adopt c h under h.last r agrees refl (sym reign ∙ e)) followed
 entry_walk fs at h next c d under (y ∷ xs) ys x agrees un number reign becomes go is followed =
     let same : x ≡ y = cc in
     let rest : arrivals at None fs ≡ xs ++ ys = cc in
@@ -240,11 +243,12 @@ entry_walk fs at h next c d under (y ∷ xs) ys x agrees un number reign becomes
       later.1 ∙ (ap (λ (l : Sequence). l ++ entries_of (option_or x.reign under) xs) applied.1
           ∙ (append_assoc c.sequence (entry_under (option_or x.reign under) x) (entries_of (option_or x.reign under) xs)
           ∙ ap (λ (z : Arrival). c.sequence ++ (entry_under (option_or z.reign under) z ++ entries_of (option_or z.reign under) xs)) same)),
+      later.2,
     )
 
 pub walk : (p : Purpose) (fs : List Frame) (at : ℕ) (h now : Heard) (c d : Copy) (under : Option Reign) (xs ys : List Arrival) → Agrees c h under → Admitted (Fits p) h fs now
     → arrivals at (reign_behind h.last) fs ≡ xs ++ ys → Followed c xs d → Told c d under xs ys
-walk p [] at h now c d under xs ys agrees admitted is followed = none_left c d under xs ys is followed
+walk p [] at h now c d under xs ys agrees admitted is followed = none_left c d under xs ys agrees.starts is followed
 walk p (Hello version name history ∷ fs) at h now c d under xs ys agrees admitted is followed = absurd admitted.1
 walk p (Resume n ∷ fs) at h now c d under xs ys agrees admitted is followed =
     let next = admitted.0 in
@@ -282,5 +286,5 @@ agrees_first c fit = record {
 }
 
 pub followed_told : (p : Purpose) (c d : Copy) (frames : List Frame) (now : Heard) (xs ys : List Arrival) → IsFitCopy c → Admitted (Fits p) (unbegun (history_of c)) frames now
-    → arrivals 0 None frames ≡ xs ++ ys → Followed c xs d → InTurn d ys × (d.sequence ≡ c.sequence ++ entries_of None xs)
+    → arrivals 0 None frames ≡ xs ++ ys → Followed c xs d → InTurn d ys × (d.sequence ≡ c.sequence ++ entries_of None xs) × IsFitCopy d
 followed_told p c d frames now xs ys fit admitted is followed = walk p frames 0 (unbegun (history_of c)) now c d None xs ys (agrees_first c fit) admitted is followed

@@ -1,5 +1,5 @@
 // The machines of one connection, and a turn of them.
-ghost use Rattle.std.specs.Prelude.{◌≡◌, ◌≢◌, ◌⊎◌, ◌+◌, ◌<◌, ◌≤◌, ◌^◌, ℕ, List, [], ◌∷◌, ◌++◌, length, false, true, IsTrue, IsSome, IfOk, IfErr, OnOk, OnErr, IsErrOf};
+ghost use Rattle.std.specs.Prelude.{◌≡◌, ◌≢◌, ◌⊎◌, ◌+◌, ◌<◌, ◌≤◌, ◌^◌, ℕ, List, [], ◌∷◌, ◌++◌, length, false, true, IsTrue, IsSome, IfOk, IfErr, OnOk, OnErr, IsErrOf, None};
 ghost use Rattle.std.specs.List.{AllByRecursion};
 ghost use Rattle.global_defs.specs.Fields.{IsReign};
 ghost use Rattle.gvn_model.specs.Entries.{history_value};
@@ -77,6 +77,7 @@ fn close(source: &mut Source, length: u64) -> Result<(), NoMemory>
     ensures made { (from : ℕ) (sent : List ℕ) (given : List (List ℕ)) → HasMade from length source.old sent given → HasMade from length source.new sent given }
     ensures closed { source.old.next ≡ length + 1 → OnOk result (IsTrue source.new.ended) }
     ensures next { source.new.next ≡ source.old.next }
+    ensures reigns { source.new.reigns ≡ source.old.reigns }
 {
     if source.has_ended() {
         return Ok(());
@@ -100,6 +101,7 @@ fn ship<T: LinkTx, E: EntrySource>(
     ensures still { (n : ℕ) → E.ready entries.old n → E.ready entries.new n }
     ensures sends { IsTrue (T.sending tx.old).told → (from : ℕ) → HasGiven (E.is_entry entries.old) from length source.old (T.sending tx.old).sent
         → HasGiven (E.is_entry entries.new) from length source.new (T.sending tx.new).sent }
+    ensures reigns { IsTrue (T.sending tx.old).told → source.new.reigns ≡ source.old.reigns }
     ensures cut { IsErrOf result ShipError.Cut → (T.sending tx.new).cuts ≡ counted (T.sending tx.old).cuts 1 }
     ensures uncut { (IsErrOf result ShipError.Cut → ⊥) → (T.sending tx.new).cuts ≡ (T.sending tx.old).cuts }
     ensures cut_only { IsTrue (T.sending tx.old).told → IsErrOf result ShipError.Cut → IsReached (T.sending tx.old).order (T.sending tx.old).sent }
@@ -201,6 +203,7 @@ fn follow<R: LinkRx, S: EntrySink>(
     requires going { IsTrue (S.going site.old) }
     ensures line { R.line rx.new ≡ R.line rx.old }
     ensures same { SameReceiving (R.receiving rx.old) (R.receiving rx.new) }
+    ensures purpose { receiver.new.purpose ≡ receiver.old.purpose }
     ensures pool { IsPool into.new out.new }
     ensures empty { IsEmptyPool into.old out.old → IfOk result (λ t. t ≡ Turned.On → IsEmptyPool into.new out.new) }
     ensures going { OnOk result (IsTrue (S.going site.new)) }
@@ -238,7 +241,7 @@ impl<P: Drop> Machines<P> {
         ensures source { IfOk result (λ m. m.source ≡ resumed_at (history_value theirs.now).reigns from) }
         ensures receiver { IfOk result (λ m. m.receiver ≡ receiver) }
         ensures pool { IfOk result (λ m. (m.into ≡ into) × (m.out ≡ out)) }
-        ensures going { IfOk result (λ m. m.cut ≡ false) }
+        ensures going { IfOk result (λ m. (m.cut ≡ false) × (m.failure ≡ None)) }
     {
         Ok(Machines {
             source: Source::new(alloc, theirs, from)?,
@@ -272,6 +275,7 @@ impl<P: Drop> Machines<P> {
         ensures still { (n : ℕ) → E.ready entries.old n → E.ready entries.new n }
         ensures sends { IsTrue (T.sending tx.old).told → (from : ℕ) → HasGiven (E.is_entry entries.old) from length self.old.source (T.sending tx.old).sent
             → HasGiven (E.is_entry entries.new) from length self.new.source (T.sending tx.new).sent }
+        ensures reigns { IsTrue (T.sending tx.old).told → self.new.source.reigns ≡ self.old.source.reigns }
         ensures cut { self.old.cut ≡ false → IsTrue self.new.cut → (T.sending tx.new).cuts ≡ counted (T.sending tx.old).cuts 1 }
         ensures uncut { self.new.cut ≡ self.old.cut → (T.sending tx.new).cuts ≡ (T.sending tx.old).cuts }
         ensures stays_cut { IsTrue self.old.cut → IsTrue self.new.cut }
@@ -318,6 +322,8 @@ impl<P: Drop> Machines<P> {
         ensures still { (n : ℕ) → E.ready entries.old n → E.ready entries.new n }
         ensures sends { IsTrue (T.sending tx.old).told → (from : ℕ) → HasGiven (E.is_entry entries.old) from length self.old.source (T.sending tx.old).sent
             → HasGiven (E.is_entry entries.new) from length self.new.source (T.sending tx.new).sent }
+        ensures reigns { IsTrue (T.sending tx.old).told → self.new.source.reigns ≡ self.old.source.reigns }
+        ensures purpose { self.new.receiver.purpose ≡ self.old.receiver.purpose }
         ensures comes { IsTrue (R.receiving rx.old).shown → (begun : Copy) → HasFollowed begun self.old.receiver (R.receiving rx.old).received (put_in self.old.into) (taken self.old.out) (S.copy site.old)
             → Comes result begun self.new.receiver (R.receiving rx.new).received (put_in self.new.into) (taken self.new.out) (S.copy site.new) }
         ensures whole { IsTrue (R.receiving rx.old).shown → self.new.cut ≡ false → (begun : Copy) → HasFollowed begun self.old.receiver (R.receiving rx.old).received (put_in self.old.into) (taken self.old.out) (S.copy site.old)
@@ -369,6 +375,8 @@ impl<P: Drop> Machines<P> {
         // what was sent and made are frames of the primary's entries, from behind the RESUME on
         ensures sends { IsTrue (L.Tx.sending ends.old.up_tx).told → (from : ℕ) → HasGiven (E.is_entry entries.old) from length self.old.source (L.Tx.sending ends.old.up_tx).sent
             → HasGiven (E.is_entry entries.new) from length self.new.source (L.Tx.sending ends.new.up_tx).sent }
+        ensures reigns { IsTrue (L.Tx.sending ends.old.up_tx).told → self.new.source.reigns ≡ self.old.source.reigns }
+        ensures purpose { self.new.receiver.purpose ≡ self.old.receiver.purpose }
         // what was received was sent
         ensures carries { IsTrue (L.links links.now).told → KnowAll (L.Tx.sending ends.new.up_tx) (L.Rx.receiving ends.new.down_rx) }
         // what arrived was applied, each entry once and in order, but for one that there is no room for, or with which the site failed

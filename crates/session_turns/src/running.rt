@@ -43,6 +43,8 @@ impl<P: Drop> Machines<P> {
         // what was sent and made are frames of the primary's entries, from behind the RESUME on
         ensures sends { IsTrue (L.Tx.sending ends.old.up_tx).told → (from : ℕ) → HasGiven (E.is_entry entries.old) from length self.old.source (L.Tx.sending ends.old.up_tx).sent
             → HasGiven (E.is_entry entries.new) from length self.new.source (L.Tx.sending ends.new.up_tx).sent }
+        ensures reigns { IsTrue (L.Tx.sending ends.old.up_tx).told → self.new.source.reigns ≡ self.old.source.reigns }
+        ensures purpose { self.new.receiver.purpose ≡ self.old.receiver.purpose }
         // what was received was sent
         ensures carries { IsTrue (L.links links.now).told → KnowAll (L.Tx.sending ends.new.up_tx) (L.Rx.receiving ends.new.down_rx) }
         // what arrived was applied, each entry once and in order, but for one that there is no room for, or with which the site failed

@@ -16,6 +16,7 @@ pub trait EntrySink {
     type Error;
 
     ghost use Rattle.std.specs.Prelude.{◌≡◌, ◌⊎◌, ◌<◌, ◌≤◌, ◌^◌, false, Bool, Some, length, IsTrue, OnOk, OnErr, IsErrOf};
+    ghost use Rattle.std.specs.List.{AllByRecursion};
     ghost use Rattle.global_defs.specs.Entry.{Stamp};
     ghost use Rattle.global_defs.specs.Fields.{IsReign, IsTransaction};
     ghost use Rattle.global_defs.specs.Prefix.{stamp_at};
@@ -70,6 +71,9 @@ pub trait EntrySink {
         ensures ok { OnOk result (copy self.new ≡ hardened (copy self.old)) }
         ensures going { OnOk result (IsTrue (going self.new)) }
         ensures err { OnErr result (copy self.new ≡ copy self.old) };
+
+    // Its surviving reigns are of their form.
+    ghost formed: { (s : Self) → AllByRecursion IsReign (copy s).reigns };
 
     // A site with entries has a reign for the next one.
     ghost covered: { (s : Self) → 1 ≤ length (copy s).sequence → (stamp : Stamp) × (stamp_at (next_of (copy s)) (reigns_next (copy s)) ≡ Some stamp) };

@@ -1,6 +1,7 @@
 use Rattle.std.proofs.lemmas.Result.{IfOk-weaker}
 use Rattle.recv_pool.specs.Pools.{put_in, free}
-use Rattle.session_handshake.proofs.Steps.{end_answered, end_bad, end_over, end_open, end_cut, end_told, same_purpose}
+use Rattle.receiver_server.proofs.Told.{same_purpose}
+use Rattle.session_handshake.proofs.Steps.{end_answered, end_bad, end_over, end_open, end_cut, end_told}
 use Rattle.session_handshake.proofs.hearing.close.Goals as goal
 
 pub returns-then-is_over-clause-answered : goal.returns-then-is_over-clause-answered

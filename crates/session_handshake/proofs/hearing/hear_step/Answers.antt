@@ -3,7 +3,8 @@ use Rattle.std.proofs.lemmas.Result.{IfOk-weaker}
 use Rattle.recv_pool.specs.Pools.{put_in, free}
 use Rattle.receiver_server.specs.declared.step.Handshake.{Handshake}
 use Rattle.session_handshake.specs.Answering.{StepMeans}
-use Rattle.session_handshake.proofs.Steps.{goes_on, answers_it, bad_there, never_more, moves_on, tires_on, cut_of, cut_told, closed_on, same_purpose}
+use Rattle.receiver_server.proofs.Told.{same_purpose}
+use Rattle.session_handshake.proofs.Steps.{goes_on, answers_it, bad_there, never_more, moves_on, tires_on, cut_of, cut_told, closed_on}
 use Rattle.session_handshake.proofs.hearing.hear_step.Goals as goal
 
 pub returns-clause-awaits : goal.returns-clause-awaits

@@ -7,7 +7,7 @@ use Rattle.receiver_server.specs.Answers.{answer_frame}
 use Rattle.session_handshake.specs.Exchanges.{views}
 use Rattle.session_handshake.specs.Connections.{past_of_views, IsAnsweredOver}
 use Rattle.session_handshake.proofs.Made.{made_none, made_on, count_push}
-use Rattle.session_handshake.proofs.Greets.{not_cut, over_of, ends_asked}
+use Rattle.session_handshake.proofs.Greets.{not_cut, over_of, ends_answered}
 use Rattle.session_handshake.proofs.Sessions.{made_since, made_all, three_at_most, no_link_cut, met_answer, met_bad, four_cut}
 use Rattle.session_handshake.proofs.session.handshake.Goals as goal
 
@@ -56,7 +56,7 @@ returns-in-Ok-clause-met g c =
     (λ shown.
     let t = inv.1.shown ∙ shown in
     subst (λ (h : Handshake). IsAnsweredOver Asks mine p (answer_frame h)) (sym c.settled.ensures.answer)
-    (c.in-Ok.ensures.greeted t, ends_asked mine s v.down_rx.received c.in-Ok.greeted.answer c.in-Ok.ensures.purpose over (c.in-Ok.ensures.over over) (c.in-Ok.ensures.hears t)))
+    (c.in-Ok.ensures.greeted t, ends_answered Asks mine s v.down_rx.received c.in-Ok.greeted.answer c.in-Ok.ensures.purpose over (c.in-Ok.ensures.over over) (c.in-Ok.ensures.hears t)))
 
 pub returns-in-Ok-clause-answer : goal.returns-in-Ok-clause-answer
 returns-in-Ok-clause-answer g c = λ told.

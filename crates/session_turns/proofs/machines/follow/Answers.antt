@@ -6,6 +6,7 @@ use Rattle.session_turns.proofs.Heard.{comes_of, whole_of, unfit_of, going_of, o
 use Rattle.session_turns.specs.Progress.{HasMoved, IsStill, IsEmptyPool}
 use Rattle.session_turns.proofs.Progress.{moved_or_still, on_of}
 use Rattle.session_turns.proofs.Cuts.{err_weaker, uncut_of, uncut_err_of}
+use Rattle.receiver_server.proofs.Told.{same_purpose}
 use Rattle.session_turns.proofs.machines.follow.Goals as goal
 
 pub returns-clause-going : goal.returns-clause-going
@@ -62,3 +63,6 @@ pub returns-clause-uncut_err : goal.returns-clause-uncut_err
 returns-clause-uncut_err g c = λ pool.
     let never = err_weaker c.step-heard.result (put_in c.step-heard.new.pool ≡ put_in c.args.into.now) (OnErr c.apply-applied.result ⊥) (λ same. c.apply-applied.ensures.nothing (pool.empty ∙ sym same)) c.step-heard.ensures.err in
     rw c.outcome.ensures (uncut_err_of c.offset.result c.step-heard.result c.apply-applied.result _ never c.step-heard.ensures.uncut)
+
+pub returns-clause-purpose : goal.returns-clause-purpose
+returns-clause-purpose g c = same_purpose c.step-heard.result c.args.receiver.now c.step-heard.new.self c.step-heard.ensures.does

@@ -1,6 +1,6 @@
 use Rattle.std.proofs.Common.{◌≡◌, inl, inr, List, ℕ, sym, subst, ◌∙◌, ◌+◌, arith}
 use Rattle.session_turns.specs.Sessions.{HasGiven}
-use Rattle.session_turns.proofs.Given.{given_kept, given_goes, given_made, can_ship, gives_on, gives_later}
+use Rattle.session_turns.proofs.Given.{goes_reigns, given_kept, given_goes, given_made, can_ship, gives_on, gives_later}
 use Rattle.session_turns.proofs.Progress.{ok_of}
 use Rattle.session_turns.proofs.machines.ship.Goals as goal
 
@@ -84,3 +84,19 @@ returns-then-is_err-clause-gives g c = λ told can.
     let same = c.close.ensures.next in
     let within = can.within in
     gives_later (g.E.EntrySource.ready c.args.entries.now) (g.E.EntrySource.ready c.args.entries.now) c.args.length c.args.source.now c.close.new.source (λ n r. r) can (omega (arith, same)) (omega (arith, same, within))
+
+pub returns-in-Ok-Over-clause-reigns : goal.returns-in-Ok-Over-clause-reigns
+returns-in-Ok-Over-clause-reigns g c = λ told.
+    goes_reigns (g.E.EntrySource.is_entry c.step.new.entries) c.close.new.source c.step.new.self (g.T.LinkTx.sending c.args.tx.now).sent (g.T.LinkTx.sending c.step.new.tx).sent (c.step.ensures.ships told) ∙ c.close.ensures.reigns
+
+pub returns-in-Ok-Moved-clause-reigns : goal.returns-in-Ok-Moved-clause-reigns
+returns-in-Ok-Moved-clause-reigns g c = λ told.
+    goes_reigns (g.E.EntrySource.is_entry c.step.new.entries) c.close.new.source c.step.new.self (g.T.LinkTx.sending c.args.tx.now).sent (g.T.LinkTx.sending c.step.new.tx).sent (c.step.ensures.ships told) ∙ c.close.ensures.reigns
+
+pub returns-in-Ok-Waits-clause-reigns : goal.returns-in-Ok-Waits-clause-reigns
+returns-in-Ok-Waits-clause-reigns g c = λ told.
+    goes_reigns (g.E.EntrySource.is_entry c.step.new.entries) c.close.new.source c.step.new.self (g.T.LinkTx.sending c.args.tx.now).sent (g.T.LinkTx.sending c.step.new.tx).sent (c.step.ensures.ships told) ∙ c.close.ensures.reigns
+
+pub returns-in-Err-clause-reigns : goal.returns-in-Err-clause-reigns
+returns-in-Err-clause-reigns g c = λ told.
+    goes_reigns (g.E.EntrySource.is_entry c.step.new.entries) c.close.new.source c.step.new.self (g.T.LinkTx.sending c.args.tx.now).sent (g.T.LinkTx.sending c.step.new.tx).sent (c.step.ensures.ships told) ∙ c.close.ensures.reigns

@@ -1,4 +1,4 @@
-use Rattle.std.proofs.Common.{Bool, sym, ap, ◌∙◌, if◌then◌else◌}
+use Rattle.std.proofs.Common.{Bool, refl, sym, ap, ◌∙◌, if◌then◌else◌}
 use Rattle.recv_pool.specs.Pools.{put_in, taken}
 use Rattle.wire_defs.proofs.Ends.{sending_on, receiving_on, looked_on, saw_on, not_sent, not_received, not_looked, not_seen}
 use Rattle.session_turns.proofs.Along.{comes_on, tells_on}
@@ -21,6 +21,8 @@ loop-ended-init g c = record {
   still = λ n h. h;
   sends = λ told from h. h;
   cuts = λ uncut sending receiving. record { sending = sending ∙ sym (ap (λ (b : Bool). if b then 1 else 0) uncut); receiving = receiving };
+  reigns = λ told. refl;
+  purpose = refl;
   comes = λ shown begun h. h;
 }
 
@@ -46,6 +48,8 @@ loop-ended-preserved g c =
       still = λ n h. e.still n (v.still n h);
       sends = λ told from h. e.sends (v.up.0.told ∙ told) from (v.sends told from h);
       cuts = λ uncut sending receiving. tells_on c.in-Ok-On.field-0 m.cut (tx c.turn.new.ends.up_tx) (rx c.turn.new.ends.down_rx) c.in-Ok-On.field-0-is (e.cuts v.empty (v.cuts uncut sending receiving));
+      reigns = λ told. e.reigns (v.up.0.told ∙ told) ∙ v.reigns told;
+      purpose = e.purpose ∙ v.purpose;
       comes = λ shown begun h. comes_on g.row.S-Error.Denot c.in-Ok-On.field-0 begun m.receiver (rx c.turn.new.ends.down_rx).received (put_in m.into) (taken m.out) (g.S.EntrySink.copy c.turn.new.site)
           c.in-Ok-On.field-0-is (e.comes (v.up.1.shown ∙ shown) begun (v.comes shown begun h));
     }
@@ -92,3 +96,9 @@ returns-in_default-clause-once g c = λ uncut sending receiving. let v = c.loop-
 
 pub returns-in_default-clause-whole : goal.returns-in_default-clause-whole
 returns-in_default-clause-whole g c = λ shown uncut begun h. let v = c.loop-ended.invariant in c.in_default.ensures.whole (v.up.1.shown ∙ shown) uncut begun (v.comes shown begun h)
+
+pub returns-in_default-clause-reigns : goal.returns-in_default-clause-reigns
+returns-in_default-clause-reigns g c = λ told. let v = c.loop-ended.invariant in c.turn.ensures.reigns (v.up.0.told ∙ told) ∙ v.reigns told
+
+pub returns-in_default-clause-purpose : goal.returns-in_default-clause-purpose
+returns-in_default-clause-purpose g c = c.turn.ensures.purpose ∙ c.loop-ended.invariant.purpose

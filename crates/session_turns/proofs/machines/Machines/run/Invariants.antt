@@ -31,6 +31,8 @@ invariant-loop-ended g l =
       sends : IsTrue (tx was.ends.up_tx).told → (from : ℕ) → HasGiven (g.E.EntrySource.is_entry was.entries) from l.length was.self.source (tx was.ends.up_tx).sent
           → HasGiven (g.E.EntrySource.is_entry l.entries) from l.length l.self.source (tx l.ends.up_tx).sent;
       cuts : was.self.cut ≡ false → (tx was.ends.up_tx).cuts ≡ 0 → (rx was.ends.down_rx).cuts ≡ 0 → HasCuts l.self.cut (tx l.ends.up_tx) (rx l.ends.down_rx);
+      reigns : IsTrue (tx was.ends.up_tx).told → l.self.source.reigns ≡ was.self.source.reigns;
+      purpose : l.self.receiver.purpose ≡ was.self.receiver.purpose;
       comes : IsTrue (rx was.ends.down_rx).shown → (begun : Copy) → HasFollowed begun was.self.receiver (rx was.ends.down_rx).received (put_in was.self.into) (taken was.self.out) (g.S.EntrySink.copy was.site)
           → HasFollowed begun l.self.receiver (rx l.ends.down_rx).received (put_in l.self.into) (taken l.self.out) (g.S.EntrySink.copy l.site);
     }

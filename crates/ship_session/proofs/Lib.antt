@@ -1,0 +1,5 @@
+pub mod Behind
+pub mod Grown
+pub mod Last
+pub mod Single
+pub mod Order
