@@ -3,5 +3,6 @@
 
 mod evaluation;
 mod progress;
+mod sets;
 
 pub use evaluation::eval;

@@ -1,5 +1,5 @@
 -- Nodes that are gone, with the ends up to which all are gone.
-use Rattle.std.proofs.Common.{◌≡◌, ℕ, zero, suc, ◌+◌, ◌<◌, ◌≤◌, Bool, true, false, not, List, [], ◌∷◌, ◌++◌, length, get_or, is_some, Option, Some, None, if◌then◌else◌, refl, sym, ap, subst, ◌∙◌, true≢false, arith}
+use Rattle.std.proofs.Common.{◌≡◌, ℕ, zero, suc, ◌<◌, ◌≤◌, Bool, true, false, not, List, [], ◌∷◌, length, get_or, is_some, Option, Some, None, if◌then◌else◌, refl, sym, ap, subst, ◌∙◌, true≢false, arith}
 use Rattle.std.specs.Prelude.{Result, Ok, Err, OnOk, OnErr}
 use Rattle.std.specs.declared.cmp.Ordering.{Ordering}
 use Rattle.std.specs.declared.cmp.Ordering.TheVariants.{Less, Equal, Greater}
@@ -16,7 +16,7 @@ use Rattle.global_defs.specs.Entry.{Globals, is_under}
 use Rattle.global_defs.specs.Valid.{is_key}
 use Rattle.global_defs.proofs.Order.{key_total, key_same}
 use Rattle.global_defs.proofs.KeyOrder.{key_ordered}
-use Rattle.gvn_globals.specs.Walks.{is_later, after, IsSubtree}
+use Rattle.gvn_globals.specs.Walks.{is_later, after}
 use Rattle.gvn_globals.specs.Overlaid.{kept, overlaid, AreGone, IsEnd, itself, later, IsCleared}
 use Rattle.gvn_globals.proofs.Basics.{before, same, behind, stands, equal_of, both}
 use Rattle.gvn_globals.proofs.Firsts.{Finds, find_finds}

@@ -10,3 +10,4 @@ pub mod Gone
 pub mod Sought
 pub mod AllOrNone
 pub mod Noted
+pub mod Undone

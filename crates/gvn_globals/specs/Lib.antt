@@ -4,3 +4,4 @@ pub mod Nodes
 pub mod Overlaid
 pub mod Lists
 pub mod Together
+pub mod Undoing

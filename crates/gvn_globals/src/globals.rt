@@ -19,6 +19,7 @@ ghost use Rattle.gvn_globals.specs.Nodes.{node_key, entries_of, is_between};
 ghost use Rattle.gvn_globals.specs.Overlaid.{with_all};
 ghost use Rattle.gvn_globals.specs.Together.{AreNew, IsMore, IsLess, AreHeld};
 ghost use Rattle.gvn_globals.specs.Lists.{listed_value};
+ghost use Rattle.gvn_globals.specs.Undoing.{undo_of};
 
 use super::lookup::{Lookup, Walk, subtree};
 use gvn_key::terms::Update;
@@ -184,6 +185,15 @@ impl Ready {
     }
 }
 
+/// What takes back that a node was set.
+#[derive(Drop)]
+pub(crate) enum Undo {
+    /// It had this value.
+    Put(Ready),
+    /// It had none.
+    Remove(Key),
+}
+
 impl Globals {
     /// No nodes. It takes no memory yet.
     pub fn new(alloc: Global) -> Self
@@ -215,6 +225,28 @@ impl Globals {
         }
         self.nodes.insert(code, Node { key, value })?;
         Ok(())
+    }
+
+    /// Gives the node that value, and hands out what takes that back.
+    pub(crate) fn replace(&mut self, key: &Key, value: Bytes) -> Result<Undo, NoMemory>
+        ensures ok { OnOk result (self.new ≡ globals.insert self.old key.now value) }
+        ensures undo { IfOk result (λ undo. undo ≡ undo_of key.now (globals.get self.old key.now)) }
+        ensures err { OnErr result (self.new ≡ self.old) }
+    {
+        let code = key.code().copy()?;
+        let again = key.code().copy()?;
+        let kept = key.copy()?;
+        let key = key.copy()?;
+        if MOST_NODES <= self.nodes.len() {
+            return Err(NoMemory);
+        }
+        match self.nodes.insert(code, Node { key, value })? {
+            Some(Node { key: _, value }) => Ok(Undo::Put(Ready {
+                code: again,
+                node: Node { key: kept, value },
+            })),
+            None => Ok(Undo::Remove(kept)),
+        }
     }
 
     /// Takes the node's own value away.
@@ -327,7 +359,7 @@ impl Globals {
     }
 
     /// Gives a node that has a value another one. It takes no memory.
-    fn put(&mut self, ready: Ready)
+    pub(crate) fn put(&mut self, ready: Ready)
         requires { globals.contains_key self.old ready.0 ≡ true }
         ensures { self.new ≡ globals.insert self.old ready.0 ready.1 }
     {

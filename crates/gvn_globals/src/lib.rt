@@ -5,6 +5,7 @@ mod globals;
 mod lookup;
 mod overlay;
 mod together;
+mod undoing;
 
 pub use globals::{Globals, Listed};
 pub use lookup::Lookup;

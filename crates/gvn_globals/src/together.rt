@@ -169,6 +169,21 @@ impl Changes {
 }
 
 impl Globals {
+    /// Makes these changes in order, of any kind, all of them or, without memory, none.
+    fn change_all(&mut self, alloc: Global, updates: &[Update]) -> Result<(), NoMemory>
+        ensures ok { OnOk result (self.new ≡ fold defs.apply self.old (map update_value updates.now)) }
+        ensures err { OnErr result (self.new ≡ self.old) }
+    {
+        let Changes { sets, gone } = Changes::of(alloc, self, updates)?;
+        let added = sets.beyond(alloc, self)?;
+        let removed = gone.beyond(alloc, &sets)?;
+        let all = sets.ready(alloc)?;
+        self.add_all(alloc, &added)?;
+        self.remove_all(&removed);
+        self.put_all(all);
+        Ok(())
+    }
+
     /// Makes these changes in order, all of them or, without memory, none. It takes memory for a copy of each node that they
     /// set, and the time grows with how many nodes they reach, times the logarithm of how many there are.
     pub fn apply_all(&mut self, alloc: Global, updates: &[Update]) -> Result<(), NoMemory>
@@ -178,13 +193,9 @@ impl Globals {
         if let [update] = updates {
             return self.apply(update);
         }
-        let Changes { sets, gone } = Changes::of(alloc, self, updates)?;
-        let added = sets.beyond(alloc, self)?;
-        let removed = gone.beyond(alloc, &sets)?;
-        let all = sets.ready(alloc)?;
-        self.add_all(alloc, &added)?;
-        self.remove_all(&removed);
-        self.put_all(all);
-        Ok(())
+        if self.set_all(alloc, updates)? {
+            return Ok(());
+        }
+        self.change_all(alloc, updates)
     }
 }

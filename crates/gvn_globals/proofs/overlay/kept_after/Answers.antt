@@ -1,4 +1,4 @@
-use Rattle.std.proofs.Common.{◌≡◌, is_some, sym, ap, subst, ◌∙◌, arith}
+use Rattle.std.proofs.Common.{is_some, sym, ap, subst, arith}
 use Rattle.gvn_globals.proofs.Subtree.{left}
 use Rattle.gvn_globals.proofs.Overlays.{IsPassed, passes_first, passed_kept, passed_all}
 use Rattle.gvn_globals.proofs.Gone.{passes_end, end_smaller}

@@ -1,4 +1,4 @@
-use Rattle.std.proofs.Common.{◌≡◌, ◌∙◌, sym, ap, arith, to_z, of_z, w64}
+use Rattle.std.proofs.Common.{◌∙◌, sym, ap, arith, to_z, of_z, w64}
 use Rattle.std.proofs.lemmas.Int.{ints}
 use Rattle.std.specs.FinMap as globals
 use Rattle.global_defs.specs.Evaluation as evaluation

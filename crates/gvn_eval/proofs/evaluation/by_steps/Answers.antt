@@ -1,11 +1,11 @@
-use Rattle.std.proofs.Common.{◌≡◌, ℕ, ◌<◌, List, map, length, Err, sym, ap, subst, ◌∙◌, arith}
+use Rattle.std.proofs.Common.{◌≡◌, ◌<◌, map, length, Err, sym, ap, subst, ◌∙◌, arith}
 use Rattle.std.proofs.lemmas.List.{length-map, get_or-map}
 use Rattle.global_defs.specs.Evaluation as evaluation
 use Rattle.gvn_key.specs.Terms.{statement_value}
 use Rattle.gvn_model.specs.Jobs.{cause_value}
 use Rattle.gvn_eval.specs.Steps.{Leads}
 use Rattle.gvn_eval.proofs.StepLaws.{goes_on, stops_at}
-use Rattle.gvn_eval.proofs.evaluation.eval.Goals as goal
+use Rattle.gvn_eval.proofs.evaluation.by_steps.Goals as goal
 
 pub returns-in-Err-RolledBack-clause-value : goal.returns-in-Err-RolledBack-clause-value
 returns-in-Err-RolledBack-clause-value g c =

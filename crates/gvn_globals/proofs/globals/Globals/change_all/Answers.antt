@@ -2,7 +2,7 @@ use Rattle.std.proofs.Common.{ap, sym, subst, ◌∙◌}
 use Rattle.gvn_globals.specs.Overlaid.{with_all}
 use Rattle.gvn_globals.specs.Together.{AreHeld}
 use Rattle.gvn_globals.proofs.AllOrNone.{are_new, are_held, made}
-use Rattle.gvn_globals.proofs.globals.Globals.apply_all.Goals as goal
+use Rattle.gvn_globals.proofs.globals.Globals.change_all.Goals as goal
 
 pub add_all-requires : goal.add_all-requires
 add_all-requires c = are_new c.args.self.now c.in_ok-sets.field-0.sets c.deref.result.now (c.deref.ensures.value ∙ c.in_ok-added.ensures)

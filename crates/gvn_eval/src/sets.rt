@@ -1,0 +1,53 @@
+// Jobs that only set nodes.
+ghost use Rattle.std.specs.Prelude.{◌≡◌, ◌+◌, ◌≤◌, [], Some, map, IsTrue, IfOk, IfSome};
+ghost use Rattle.std.specs.FinMap as globals;
+ghost use Rattle.global_defs.specs.Evaluation as evaluation;
+ghost use Rattle.gvn_key.specs.Terms.{statement_value};
+ghost use Rattle.gvn_eval.specs.Sets.{setting};
+
+use gvn_globals::Lookup;
+use gvn_key::NoMemory;
+use gvn_key::terms::{Statement, Update};
+use gvn_model::Updates;
+use std::alloc::Global;
+
+/// How many nodes may stand.
+const MOST_NODES: usize = 100_000;
+
+/// Whether few enough nodes stand for so many more.
+fn has_room<G: Lookup>(on: &G, more: usize) -> bool
+    ensures { IsTrue result → globals.len (G.seen on.now) + more ≤ 100000 }
+{
+    let nodes = on.nodes() as usize;
+    more <= MOST_NODES && nodes <= MOST_NODES - more
+}
+
+/// The updates of these statements, where each of them sets a node.
+fn updates_of(alloc: Global, statements: &[Statement]) -> Result<Option<Updates>, NoMemory>
+    ensures { IfOk result (λ found. IfSome found (λ updates. map setting (map statement_value statements.now) ≡ map Some updates)) }
+{
+    let mut updates = Updates::new(alloc);
+    for statement in statements {
+        let Statement::Set(key, value) = statement else {
+            return Ok(None);
+        };
+        updates.push(Update::Set(key.copy()?, value.copy()?))?;
+    }
+    Ok(Some(updates))
+}
+
+/// The updates of statements that only set nodes, where so few stand that each of them may be set. No other statement asks what
+/// they have set, so that no globals are made of it.
+pub fn only_sets<G: Lookup>(
+    alloc: Global,
+    statements: &[Statement],
+    on: &G,
+) -> Result<Option<Updates>, NoMemory>
+    ensures { IfOk result (λ found. IfSome found (λ updates. evaluation.Done updates [] ≡ evaluation.eval (map statement_value statements.now) (G.seen on.now))) }
+{
+    if has_room(on, statements.len()) {
+        updates_of(alloc, statements)
+    } else {
+        Ok(None)
+    }
+}
