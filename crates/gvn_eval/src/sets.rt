@@ -27,6 +27,7 @@ fn updates_of(alloc: Global, statements: &[Statement]) -> Result<Option<Updates>
     ensures { IfOk result (λ found. IfSome found (λ updates. map setting (map statement_value statements.now) ≡ map Some updates)) }
 {
     let mut updates = Updates::new(alloc);
+    updates.reserve(statements.len())?;
     for statement in statements {
         let Statement::Set(key, value) = statement else {
             return Ok(None);
@@ -45,7 +46,8 @@ pub fn only_sets<G: Lookup>(
 ) -> Result<Option<Updates>, NoMemory>
     ensures { IfOk result (λ found. IfSome found (λ updates. evaluation.Done updates [] ≡ evaluation.eval (map statement_value statements.now) (G.seen on.now))) }
 {
-    if has_room(on, statements.len()) {
+    let only = statements.iter().all(|s| matches!(s, Statement::Set(..)));
+    if only && has_room(on, statements.len()) {
         updates_of(alloc, statements)
     } else {
         Ok(None)

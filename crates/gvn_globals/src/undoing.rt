@@ -54,6 +54,7 @@ impl Globals {
             return Ok(false);
         }
         let mut done = Vec::new(alloc);
+        done.reserve(updates.len())?;
         match self.set_each(updates, &mut done) {
             Ok(true) => Ok(true),
             Ok(false) => {
