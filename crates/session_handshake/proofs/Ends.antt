@@ -1,7 +1,7 @@
 -- The ends of a connection, and what they have still to move.
-use Rattle.std.proofs.Common.{◌≡◌, ◌≢◌, ◌⊎◌, inl, inr, ℕ, ◌+◌, ◌-◌, ◌<◌, ◌≤◌, Bool, true, false, IsTrue, List, [], ◌∷◌, ◌++◌, length, refl, sym, ap, ◌∙◌, arith, append_assoc, append-nil}
+use Rattle.std.proofs.Common.{◌≡◌, ◌≢◌, ◌⊎◌, inl, inr, ℕ, ◌+◌, ◌-◌, ◌<◌, ◌≤◌, Bool, true, false, IsTrue, List, [], ◌∷◌, ◌++◌, length, refl, sym, ap, ◌∙◌, arith, append-nil}
 use Rattle.wire_defs.specs.Frames.{Frame, IsFrame, BeginsFrame, spelled_frame}
-use Rattle.wire_defs.specs.Links.{Sending, Receiving, SameSending, SameReceiving, SendingLooked, ReceivingLooked, KnowAll}
+use Rattle.wire_defs.specs.Links.{Sending, Receiving, SameSending, SendingLooked, ReceivingLooked, KnowAll}
 use Rattle.repl_wire.proofs.Apart.{frame_one}
 use Rattle.session_handshake.specs.Answering.{LIMIT, left_to_ask}
 use Rattle.session_handshake.specs.Exchanges.{Carries, Gets}

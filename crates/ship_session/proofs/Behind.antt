@@ -1,8 +1,8 @@
 -- A connection's ends while its primary ships behind the RESUME.
-use Rattle.std.proofs.Common.{◌≡◌, ℕ, ◌+◌, ◌<◌, ◌≤◌, ◌^◌, false, IsTrue, List, [], ◌++◌, Result, refl, sym, ap, subst, ◌∙◌, arith, append-nil}
+use Rattle.std.proofs.Common.{◌≡◌, ℕ, ◌+◌, IsTrue, List, [], Result, refl, sym, ap, subst, ◌∙◌, arith, append-nil}
 use Rattle.global_defs.specs.Entry.{Reign}
 use Rattle.wire_defs.specs.Frames.{Frame, Resume, spelled_frame}
-use Rattle.wire_defs.specs.Links.{Linking, Sending, Receiving, SameSending, SameReceiving, SendingLooked, ReceivingLooked, KnowAll}
+use Rattle.wire_defs.specs.Links.{Linking, SameSending, SameReceiving, SendingLooked, ReceivingLooked, KnowAll}
 use Rattle.wire_defs.proofs.Ends.{saw_on}
 use Rattle.ship_defs.specs.Hearing.{Ships, unbegun}
 use Rattle.ship_defs.specs.Arrivals.{Arrival}

@@ -1,5 +1,5 @@
 -- What a secondary's site has of what came over a connection.
-use Rattle.std.proofs.Common.{◌≡◌, ◌≢◌, ◌⊎◌, inl, inr, ℕ, ◌≤◌, Bool, true, false, IsTrue, List, [], ◌∷◌, ◌++◌, length, Option, Some, None, Result, Ok, Err, refl, sym, ap, subst, ◌∙◌, append_assoc, append-nil}
+use Rattle.std.proofs.Common.{◌≡◌, inl, inr, ℕ, ◌≤◌, Bool, true, false, IsTrue, List, [], ◌∷◌, ◌++◌, length, Option, Some, None, Result, Ok, Err, refl, sym, ap, subst, ◌∙◌, append_assoc, append-nil}
 use Rattle.std.specs.List.{AllByRecursion}
 use Rattle.global_defs.specs.Entry.{Reign, Sequence}
 use Rattle.wire_defs.specs.Frames.{Frame, IsFrame, AreFrames, stream}
@@ -19,9 +19,7 @@ use Rattle.session_turns.specs.declared.machines.Turned.{Turned}
 use Rattle.session_turns.specs.declared.machines.Turned.TheVariants.{On, Cut, Over, Short, Bad}
 use Rattle.session_turns.proofs.Walk.{followed_told}
 use Rattle.session_turns.proofs.Taken.{followed_push}
-use Rattle.ship_session.specs.declared.end.SessionEnd.{SessionEnd}
-use Rattle.ship_session.specs.declared.end.SessionEnd.TheVariants.{At, BadFrame, Failed}
-use Rattle.ship_session.specs.Ends.{HasGot, HasGrown, HasApplied, HasAppliedAll, IsFullAt, IsBadShipped, ShipsTo, IsShipEnd, end_of, short_end}
+use Rattle.ship_session.specs.Ends.{HasGot, HasGrown, HasApplied, HasAppliedAll, IsFullAt, ShipsTo, end_of, short_end}
 
 all_front : (xs ys : List Frame) → AllByRecursion IsFrame (xs ++ ys) → AllByRecursion IsFrame xs
 all_front [] ys all = tt
@@ -98,10 +96,10 @@ module _ {F : Type 0} (begun now : Copy) (r : Listening) (received : List ℕ) (
         | Ok (Bad o) ↦ (λ w. grown_told begun now received h.applied x c got h.follows w.2)
         | Err NoMemory ↦ (λ w. absurd w)
         | Err (Site e) ↦ (λ w. elim w [
-            | inl same ↦ grown_but begun now received h.applied x c got h.follows (ap (λ (d : Copy). d.sequence) same) (ap (λ (d : Copy). d.reigns) same)
-            | inr (inl is) ↦ grown_told begun now received h.applied x c got h.follows is
-            | inr (inr takes) ↦ grown_before begun now received (grown_all begun (hardened now) received (h.applied ++ x ∷ []) got (next_is begun now received h.applied x c got h.follows takes))
-          ])
+          | inl same ↦ grown_but begun now received h.applied x c got h.follows (ap (λ (d : Copy). d.sequence) same) (ap (λ (d : Copy). d.reigns) same)
+          | inr (inl is) ↦ grown_told begun now received h.applied x c got h.follows is
+          | inr (inr takes) ↦ grown_before begun now received (grown_all begun (hardened now) received (h.applied ++ x ∷ []) got (next_is begun now received h.applied x c got h.follows takes))
+        ])
       ] with_t
 
   -- whatever a turn came to

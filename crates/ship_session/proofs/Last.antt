@@ -1,5 +1,5 @@
 -- A session by its last connection.
-use Rattle.std.proofs.Common.{◌≡◌, ◌≢◌, ◌↔◌, ℕ, ◌+◌, ◌<◌, ◌≤◌, Bool, false, true, IsTrue, List, [], ◌∷◌, ◌++◌, length, length-append, Option, Some, None, Result, Ok, Err, IfOk, refl, sym, ap, subst, ◌∙◌, arith}
+use Rattle.std.proofs.Common.{◌≡◌, ◌≢◌, ◌↔◌, ℕ, ◌<◌, ◌≤◌, Bool, false, IsTrue, List, [], ◌∷◌, ◌++◌, length, length-append, Option, Some, None, Ok, ap, subst, arith}
 use Rattle.std.specs.Prelude.{count_by}
 use Rattle.global_defs.specs.Prefix.{IsPrefix}
 use Rattle.wire_defs.specs.Links.{Linking, Past, was_cut, past_since}
@@ -7,7 +7,6 @@ use Rattle.update_process.specs.Copies.{Copy}
 use Rattle.session_handshake.specs.Connections.{WereMade}
 use Rattle.session_handshake.proofs.Made.{made_on, since_is, count_append, count_still}
 use Rattle.session_handshake.proofs.Sessions.{made_since}
-use Rattle.session_turns.specs.declared.machines.TurnError.{TurnError}
 use Rattle.ship_session.specs.declared.end.SessionEnd.{SessionEnd}
 use Rattle.ship_session.specs.declared.end.SessionEnd.TheVariants.{At, LinkCut, RollbackFirst, BadFrame, Failed}
 use Rattle.ship_session.specs.Ends.{EndsAs, HasEnded, MetOne, Parts, ShipsNothing}

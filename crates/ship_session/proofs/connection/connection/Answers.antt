@@ -1,7 +1,6 @@
-use Rattle.std.proofs.Common.{◌≡◌, ℕ, ◌≤◌, List, [], ◌∷◌, None, Err, inl, refl, sym, ap, subst, ◌∙◌, arith}
+use Rattle.std.proofs.Common.{◌≡◌, ℕ, [], ◌∷◌, None, Err, inl, refl, sym, ap, subst, ◌∙◌, arith}
 use Rattle.global_defs.specs.Prefix as prefix
 use Rattle.wire_defs.specs.Frames.{RollbackFirst}
-use Rattle.wire_defs.specs.Links.{Past}
 use Rattle.ship_defs.specs.Hearing.{Ships}
 use Rattle.session_handshake.specs.Connections.{IsBadOver}
 use Rattle.session_handshake.proofs.Made.{count_none}
@@ -23,8 +22,14 @@ returns-in-Err-BadFrame-clause-met g c =
     let mine = history_of (g.S.EntrySink.copy c.args.site.now) in (
       bad.0 ∷ [],
       bad.1,
-      (bad.0, refl, bad.2, λ e. let no : ⊥ = cc in no, λ shown. inl (subst (λ (n : ℕ). IsBadOver Ships mine bad.0 n) (sym c.in-Err-BadFrame.offset-is)
-          (subst (λ (h : prefix.History). IsBadOver Ships h bad.0 c.in-Err-BadFrame.offset) c.history.ensures.is (bad.3 shown)))),
+      (
+        bad.0,
+        refl,
+        bad.2,
+        λ e. let no : ⊥ = cc in no,
+        λ shown. inl (subst (λ (n : ℕ). IsBadOver Ships mine bad.0 n) (sym c.in-Err-BadFrame.offset-is)
+            (subst (λ (h : prefix.History). IsBadOver Ships h bad.0 c.in-Err-BadFrame.offset) c.history.ensures.is (bad.3 shown))),
+      ),
     )
 
 pub returns-in-Err-NoMemory-clause-met : goal.returns-in-Err-NoMemory-clause-met
@@ -76,8 +81,17 @@ returns-in-RollbackFirst-clause-met g c =
     let is : c.in-Ok.greeted.answer ≡ handshake.RollbackFirst c.in-RollbackFirst.number = cc in (
       past_of_views s v ∷ [],
       given_finished a m b s v (g.L.Tx.LinkTx.sending c.finish.new.self) e.open c.finish.ensures.cuts c.settle-in-RollbackFirst.ensures.cuts c.settle-in-RollbackFirst.ensures.past,
-      (past_of_views s v, refl, not_cut s v e.open.uncut, λ x. let no : ⊥ = cc in no, λ shown. (refl, rolls (history_of (g.S.EntrySink.copy c.args.site.now)) (history_value c.history.result.now) c.in-Ok.greeted.hearing.receiver (past_of_views s v)
-          c.in-Ok.greeted.answer c.in-RollbackFirst.number is c.history.ensures.is e.purpose e.heard e.over (e.hears shown) (e.greeted shown))),
+      (
+        past_of_views s v,
+        refl,
+        not_cut s v e.open.uncut,
+        λ x. let no : ⊥ = cc in no,
+        λ shown. (
+          refl,
+          rolls (history_of (g.S.EntrySink.copy c.args.site.now)) (history_value c.history.result.now) c.in-Ok.greeted.hearing.receiver (past_of_views s v)
+              c.in-Ok.greeted.answer c.in-RollbackFirst.number is c.history.ensures.is e.purpose e.heard e.over (e.hears shown) (e.greeted shown),
+        ),
+      ),
     )
 
 pub returns-in-RollbackFirst-clause-answer : goal.returns-in-RollbackFirst-clause-answer

@@ -1,5 +1,4 @@
-use Rattle.std.proofs.Common.{◌≡◌, ◌<◌, ◌≤◌, Some, List, [], ◌∷◌, ◌++◌, length, count_by, refl, sym, ap, subst, ◌∙◌, arith}
-use Rattle.global_defs.specs.Prefix.{IsPrefix}
+use Rattle.std.proofs.Common.{◌<◌, ◌≤◌, Some, List, [], ◌++◌, length, count_by, refl, sym, ap, subst, ◌∙◌, arith}
 use Rattle.gvn_model.specs.Entries.{history_value}
 use Rattle.lineage_defs.specs.Histories.{IsCommonOf}
 use Rattle.wire_defs.specs.Links.{Past, was_cut}
@@ -51,9 +50,9 @@ loop-cuts-preserved g c =
       grown = λ shown. onward old.sequence begun.sequence now.sequence (inv.grown shown) (e.grown (inv.made.shown ∙ shown));
       in_order = λ told all gives p. e.in_order (inv.made.told ∙ told) all gives (inv.in_order told all (gives_before _ _ _ all e.kept gives) p);
       parts = λ told t common less.
-      let same = inv.parts told t common less in
-      parts_none g.row.S-Error.Denot begun now c.in-Ok-None.field-0 c.in-Ok-None.field-0-is (e.parts (inv.made.told ∙ told) t
-      (subst (λ (x : Copy). IsCommonOf t (history_value c.args.theirs.now) (carried (history_of x))) (sym same) common) (subst (λ (x : Copy). t < length x.sequence) (sym same) less)) ∙ same;
+          let same = inv.parts told t common less in
+          parts_none g.row.S-Error.Denot begun now c.in-Ok-None.field-0 c.in-Ok-None.field-0-is (e.parts (inv.made.told ∙ told) t
+          (subst (λ (x : Copy). IsCommonOf t (history_value c.args.theirs.now) (carried (history_of x))) (sym same) common) (subst (λ (x : Copy). t < length x.sequence) (sym same) less)) ∙ same;
     }
 
 pub connection-requires-clause-fit : goal.connection-requires-clause-fit
@@ -169,9 +168,11 @@ returns-in-Err-clause-in_order g c = λ told all gives p.
 pub returns-in-Err-clause-parts : goal.returns-in-Err-clause-parts
 returns-in-Err-clause-parts g c = λ told t common less.
     let inv = c.loop-cuts.invariant in
-    let same = inv.parts told t common less in
-    (c.in-Err.ensures.parts (inv.made.told ∙ told) t
-        (subst (λ (x : Copy). IsCommonOf t (history_value c.args.theirs.now) (carried (history_of x))) (sym same) common) (subst (λ (x : Copy). t < length x.sequence) (sym same) less) ∙ same, tt)
+    let same = inv.parts told t common less in (
+      c.in-Err.ensures.parts (inv.made.told ∙ told) t
+          (subst (λ (x : Copy). IsCommonOf t (history_value c.args.theirs.now) (carried (history_of x))) (sym same) common) (subst (λ (x : Copy). t < length x.sequence) (sym same) less) ∙ same,
+      tt,
+    )
 
 pub returns-in-Err-clause-grown : goal.returns-in-Err-clause-grown
 returns-in-Err-clause-grown g c = λ shown. onward _ _ _ (c.loop-cuts.invariant.grown shown) (c.in-Err.ensures.grown (c.loop-cuts.invariant.made.shown ∙ shown))

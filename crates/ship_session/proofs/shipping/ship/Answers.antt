@@ -1,4 +1,4 @@
-use Rattle.std.proofs.Common.{◌≡◌, ◌+◌, List, ℕ, [], Ok, Option, refl, sym, ap, subst, ◌∙◌}
+use Rattle.std.proofs.Common.{◌≡◌, ◌+◌, List, ℕ, [], Ok, Option, sym, ap, subst, ◌∙◌}
 use Rattle.global_defs.specs.Prefix as prefix
 use Rattle.gvn_model.specs.Entries.{history_value}
 use Rattle.recv_pool.specs.Pools.{put_in, taken}
