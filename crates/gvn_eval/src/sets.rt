@@ -27,7 +27,6 @@ fn updates_of(alloc: Global, statements: &[Statement]) -> Result<Option<Updates>
     ensures { IfOk result (λ found. IfSome found (λ updates. map setting (map statement_value statements.now) ≡ map Some updates)) }
 {
     let mut updates = Updates::new(alloc);
-    updates.reserve(statements.len())?;
     for statement in statements {
         let Statement::Set(key, value) = statement else {
             return Ok(None);
