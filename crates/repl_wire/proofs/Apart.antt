@@ -1,6 +1,6 @@
 -- No frame's bytes begin another's, and a frame is told by its bytes.
-use Rattle.std.proofs.Common.{◌≡◌, ℕ, zero, suc, ◌+◌, ◌-◌, ◌*◌, ◌/◌, ◌^◌, ◌<◌, ◌≤◌, List, [], ◌∷◌, ◌++◌, length, true, refl, sym, ap, ◌∙◌, subst, arith, append_assoc, append-nil, length-append, inl, inr}
-use Rattle.std.specs.Prelude.{◌⊎◌, IsTrue}
+use Rattle.std.proofs.Common.{◌≡◌, ℕ, zero, suc, ◌+◌, ◌*◌, ◌^◌, ◌<◌, ◌≤◌, List, [], ◌∷◌, ◌++◌, length, true, refl, sym, ap, ◌∙◌, subst, arith, append_assoc, inl, inr}
+use Rattle.std.specs.Prelude.{◌⊎◌}
 use Rattle.std.specs.Int.{to_be_bytes, w16, w32, w64, bytes_high_first, byte_at}
 use Rattle.std.specs.List.{flat_map, AllByRecursion}
 use Rattle.std.proofs.lemmas.Nat.{div-add-mod', mod_below}
@@ -9,8 +9,7 @@ use Rattle.global_defs.specs.Valid.{is_key}
 use Rattle.global_defs.specs.Encoded.{encoded}
 use Rattle.global_defs.proofs.KeyOrder.{key_injective}
 use Rattle.global_defs.specs.Entry.{Update, Set, Kill, ZKill, Transaction, Reign}
-use Rattle.global_defs.specs.Prefix as prefix
-use Rattle.global_defs.specs.Fields.{short, long, spelled_update, IsUpdate, IsReign, IsTransaction}
+use Rattle.global_defs.specs.Fields.{short, long, spelled_update, IsUpdate, IsReign}
 use Rattle.wire_defs.specs.Frames.{Frame, Hello, Resume, RollbackFirst, History, Entry, Bye, spelled_reign, spelled_frame, frame_body, frame_type, entry_bytes, IsFrame, HasFields}
 use Rattle.repl_wire.specs.Fronts.{unit}
 use Rattle.repl_wire.specs.Layout.{Rest, Numbered}

@@ -1,26 +1,25 @@
 -- What scans before a part of a frame await.
-use Rattle.std.proofs.Common.{◌≡◌, ℕ, zero, suc, ◌+◌, ◌-◌, ◌*◌, ◌^◌, ◌<◌, ◌≤◌, List, [], ◌∷◌, ◌++◌, length, Bool, true, false, nat_eq, refl, sym, ap, ◌∙◌, subst, arith, length-append, inl, inr, append_assoc}
+use Rattle.std.proofs.Common.{◌≡◌, ℕ, zero, suc, ◌+◌, ◌-◌, ◌*◌, ◌^◌, ◌<◌, ◌≤◌, List, [], ◌∷◌, length, Bool, true, false, nat_eq, refl, sym, ap, ◌∙◌, subst, arith, length-append, inl, inr}
 use Rattle.std.specs.Prelude.{◌⊎◌, ◌==◌, if◌then◌else◌}
 use Rattle.std.proofs.lemmas.Bool.{cases_eq, ne_eqb, eq-eqb}
 use Rattle.key_prefix.proofs.Taking.{code_length}
 use Rattle.key_prefix.specs.Codes.{IsCode}
-use Rattle.key_prefix.specs.Rests.{IsAt, Completes}
+use Rattle.key_prefix.specs.Rests.{IsAt}
 use Rattle.key_prefix.specs.declared.prefix.KeyPrefix.{KeyPrefix}
 use Rattle.repl_wire.specs.declared.field.Kind.{Kind}
 use Rattle.repl_wire.specs.declared.field.Kind.TheVariants.{Hello, Resume, RollbackFirst, History, Entry, Bye}
 use Rattle.repl_wire.specs.declared.field.ByteField.TheVariants as byte
-use Rattle.repl_wire.specs.declared.field.NumberField.{NumberField}
 use Rattle.repl_wire.specs.declared.field.NumberField.TheVariants as number
 use Rattle.repl_wire.specs.declared.field.Part.{Part}
-use Rattle.repl_wire.specs.declared.field.Part.TheVariants.{Byte, Number, Name, Key, Value, Whole}
+use Rattle.repl_wire.specs.declared.field.Part.TheVariants.{Byte, Number, Name, Key, Value}
 use Rattle.repl_wire.specs.declared.field.Scan.{Scan}
 use Rattle.repl_wire.specs.declared.front.Front.{Front}
-use Rattle.repl_wire.specs.Fronts.{unit, IsMet, IsOpen}
+use Rattle.repl_wire.specs.Fronts.{unit, IsOpen}
 use Rattle.repl_wire.specs.Kinds.{type_of, least_body, most_body}
 use Rattle.repl_wire.specs.Layout.{Rest, Ended, Sized, One, Numbered, Within, Named, Skipped, Then, Starting, Cycling, Rooted, Reigned, Valued, BehindKey, Keyed, Tagged, Updated, UpdateCount, Serial, Updater, ReignCount, Lengthed, Sited, Versioned, Alone, Body, Bodied, Typed}
-use Rattle.repl_wire.specs.Scans.{Awaits, Accepts, Fits, BehindByte, BehindNumber, BehindName, KeyRest, ByteFits, NumberFits, NameFits, KeyFits, IsInKey, HoldsReigns, HoldsUpdates, HoldsSome, SiteFits, RootFits, TagFits, KeyLengthFits}
+use Rattle.repl_wire.specs.Scans.{Awaits, Accepts, Fits, BehindByte, KeyRest, ByteFits, KeyFits, HoldsReigns, HoldsUpdates, HoldsSome, SiteFits, RootFits, TagFits, KeyLengthFits}
 use Rattle.repl_wire.proofs.Sizes.{Same, before, numbered_map, one_same, number_same, within_same, named_same, skipped_same, sized_same}
-use Rattle.repl_wire.proofs.Lengths.{Bounds, Behind, behind_number, skipped_length, reigned_length, updated_length, cycling_length, rooted_length, reign_count_length, lengthed_length, named_length, valued_length, tagged_length, behind_key_length, keyed_length}
+use Rattle.repl_wire.proofs.Lengths.{behind_number, skipped_length, reigned_length, updated_length, rooted_length, lengthed_length, keyed_length}
 
 abbrev scan : Part → ℕ → ℕ → Scan
 scan part left items = record { part = part; left = left; items = items }

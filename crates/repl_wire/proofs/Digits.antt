@@ -1,5 +1,5 @@
 -- Numbers of which the first bytes have come.
-use Rattle.std.proofs.Common.{◌≡◌, ℕ, zero, suc, ◌+◌, ◌-◌, ◌*◌, ◌/◌, ◌%◌, ◌^◌, ◌<◌, ◌≤◌, List, [], ◌∷◌, length, Bool, true, refl, sym, ap, ◌∙◌, subst, arith}
+use Rattle.std.proofs.Common.{◌≡◌, ℕ, zero, suc, ◌+◌, ◌-◌, ◌*◌, ◌/◌, ◌<◌, ◌≤◌, List, [], ◌∷◌, refl, arith}
 use Rattle.std.proofs.lemmas.Nat.{mul-le, div-add-mod', mod_below, le-div, div_below}
 use Rattle.repl_wire.specs.declared.front.Front.{Front}
 use Rattle.repl_wire.specs.Fronts.{unit, IsMet, IsOpen, taken}

@@ -1,14 +1,13 @@
 -- Frames one after another, and how bytes end.
-use Rattle.std.proofs.Common.{◌≡◌, ℕ, zero, suc, ◌+◌, ◌-◌, ◌^◌, ◌<◌, ◌≤◌, min, List, [], ◌∷◌, ◌++◌, length, take, drop, refl, sym, ap, ◌∙◌, subst, arith, append_assoc, append-nil, length-append, inl, inr}
+use Rattle.std.proofs.Common.{◌≡◌, ℕ, ◌+◌, ◌-◌, ◌^◌, ◌<◌, min, List, [], ◌∷◌, ◌++◌, length, take, refl, sym, ap, ◌∙◌, subst, arith, append_assoc, append-nil, length-append, inl, inr}
 use Rattle.std.specs.Prelude.{◌⊎◌}
-use Rattle.std.specs.List.{AllByRecursion, flat_map}
+use Rattle.std.specs.List.{AllByRecursion}
 use Rattle.std.proofs.Math.Seq.{take-append_seam}
-use Rattle.std.proofs.lemmas.List.{take-append-drop, append_cancel_left, length-take}
 use Rattle.global_defs.specs.Prefix.{IsPrefix}
-use Rattle.wire_defs.specs.Frames.{Frame, IsFrame, BeginsFrame, BeginsNone, AreFrames, spelled_frame, frame_body, stream, offset_after}
+use Rattle.wire_defs.specs.Frames.{Frame, IsFrame, BeginsFrame, BeginsNone, spelled_frame, stream}
 use Rattle.repl_wire.specs.declared.field.Part.TheVariants.{Whole}
 use Rattle.repl_wire.specs.declared.field.Scan.{Scan}
-use Rattle.repl_wire.specs.Layout.{Rest, Framed}
+use Rattle.repl_wire.specs.Layout.{Framed}
 use Rattle.repl_wire.specs.Scans.{Awaits, Completing}
 use Rattle.repl_wire.specs.declared.frame.FrameError.{FrameError}
 use Rattle.repl_wire.specs.declared.frame.FrameError.TheVariants.{BadFrame, NoMemory}

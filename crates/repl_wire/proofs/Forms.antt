@@ -1,16 +1,15 @@
 -- Well-formed frames have the layout, and what has the layout is one.
-use Rattle.std.proofs.Common.{◌≡◌, ℕ, zero, suc, ◌+◌, ◌-◌, ◌*◌, ◌^◌, ◌<◌, ◌≤◌, List, [], ◌∷◌, ◌++◌, length, Bool, true, false, nat_eq, refl, sym, ap, ◌∙◌, subst, arith, rules, length-append, append_assoc, append-nil, inl, inr}
-use Rattle.std.specs.Prelude.{IsTrue, ◌⊎◌, ◌&&◌}
+use Rattle.std.proofs.Common.{◌≡◌, ℕ, zero, suc, ◌-◌, ◌^◌, ◌<◌, ◌≤◌, List, [], ◌∷◌, ◌++◌, length, Bool, true, false, nat_eq, refl, sym, ap, ◌∙◌, subst, arith, append_assoc, append-nil, inl, inr}
+use Rattle.std.specs.Prelude.{IsTrue}
 use Rattle.std.specs.Int.{to_be_bytes, w16, w32, w64, bytes_high_first}
 use Rattle.std.specs.List.{flat_map, list_all, AllByRecursion}
-use Rattle.std.specs.Char.{is_ascii_alphabetic, is_ascii_alphanumeric}
-use Rattle.std.proofs.lemmas.Bool.{and_parts, and_from, cases_eq, ne_eqb, eq-eqb}
+use Rattle.std.specs.Char.{is_ascii_alphanumeric}
+use Rattle.std.proofs.lemmas.Bool.{and_parts, and_from, cases_eq, ne_eqb}
 use Rattle.global_defs.specs.Key.{Key}
-use Rattle.global_defs.specs.Entry.{Update, Set, Kill, ZKill, Origin, Transaction, Stamp, Reign}
-use Rattle.global_defs.specs.Prefix as prefix
+use Rattle.global_defs.specs.Entry.{Update, Set, Kill, ZKill, Reign}
 use Rattle.global_defs.specs.Encoded.{encoded}
 use Rattle.global_defs.specs.Valid.{is_key}
-use Rattle.global_defs.specs.Fields.{short, long, spelled_update, IsUpdate, IsSiteName, IsNumber, IsOrigin, IsStamp, IsReign, IsTransaction}
+use Rattle.global_defs.specs.Fields.{short, long, spelled_update, IsUpdate, IsSiteName, IsReign}
 use Rattle.wire_defs.specs.Frames as defs
 use Rattle.wire_defs.specs.Frames.{Frame, spelled_reign, entry_bytes, frame_body, frame_type, spelled_frame, IsFrame, HasFields}
 use Rattle.key_prefix.specs.Codes.{IsCode}
@@ -18,10 +17,8 @@ use Rattle.repl_wire.specs.declared.field.Kind.{Kind}
 use Rattle.repl_wire.specs.declared.field.Kind.TheVariants.{Hello, Resume, RollbackFirst, History, Entry, Bye}
 use Rattle.repl_wire.specs.Kinds.{type_of}
 use Rattle.repl_wire.specs.Feeds.{IsSpelled}
-use Rattle.repl_wire.specs.Fronts.{unit}
-use Rattle.repl_wire.specs.Layout.{Rest, Ended, Sized, One, Numbered, Within, names, Named, Skipped, Then, Starting, Cycling, Rooted, Reigned, Valued, BehindKey, Keyed, Tagged, Updated, UpdateCount, Serial, Updater, ReignCount, Lengthed, Sited, Versioned, Alone, Body, Bodied, Typed, Framed}
-use Rattle.key_prefix.proofs.Taking.{code_length}
-use Rattle.repl_wire.proofs.Numbers.{Spelt, spelt_from, spelt_to}
+use Rattle.repl_wire.specs.Layout.{Rest, Ended, Sized, One, Within, Named, Skipped, Starting, Cycling, Rooted, Reigned, Valued, Keyed, Tagged, Updated, UpdateCount, Updater, ReignCount, Lengthed, Versioned, Alone, Body, Framed}
+use Rattle.repl_wire.proofs.Numbers.{spelt_from, spelt_to}
 
 -- a value's bytes and what follows them
 pub record Spelled {X : Type 0} (Form : X → Type 0) (spelled : X → List ℕ) (K : Rest) (w : List ℕ) : Type 0 where

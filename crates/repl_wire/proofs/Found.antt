@@ -1,13 +1,13 @@
 -- What readers find in a frame's bytes.
-use Rattle.std.proofs.Common.{◌≡◌, ℕ, zero, suc, ◌+◌, ◌-◌, ◌<◌, ◌≤◌, ◌^◌, List, [], ◌∷◌, ◌++◌, length, true, Option, Some, None, refl, sym, ap, ◌∙◌, subst, arith, append_assoc, append-nil, length-append}
-use Rattle.std.specs.Prelude.{IsTrue, unwrap_or, is_some}
+use Rattle.std.proofs.Common.{◌≡◌, ℕ, ◌+◌, ◌<◌, ◌^◌, List, [], ◌∷◌, ◌++◌, length, Option, Some, None, refl, sym, ap, ◌∙◌, subst, arith, append_assoc, append-nil, length-append}
+use Rattle.std.specs.Prelude.{unwrap_or, is_some}
 use Rattle.std.proofs.lemmas.Bool.{false≢true}
 use Rattle.std.specs.Int.{to_be_bytes, w16, w32, w64}
 use Rattle.std.specs.List.{flat_map, AllByRecursion}
 use Rattle.global_defs.specs.Entry.{Update, Transaction, Reign}
-use Rattle.global_defs.specs.Fields.{short, spelled_update, IsUpdate, IsSiteName, IsReign, IsTransaction}
+use Rattle.global_defs.specs.Fields.{short, spelled_update, IsUpdate, IsSiteName, IsReign}
 use Rattle.global_defs.specs.Prefix as prefix
-use Rattle.wire_defs.specs.Frames.{Frame, Hello, Entry, Bye, HasFields, spelled_reign, entry_bytes, frame_body, frame_type, IsFrame}
+use Rattle.wire_defs.specs.Frames.{Frame, Hello, Entry, Bye, HasFields, spelled_reign, entry_bytes, frame_body, frame_type}
 use Rattle.repl_fields.specs.Reading.{ReadsField}
 use Rattle.repl_wire.specs.Finds.{Finds}
 

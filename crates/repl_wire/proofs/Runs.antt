@@ -1,6 +1,5 @@
 -- A scan over many bytes.
-use Rattle.std.proofs.Common.{◌≡◌, ℕ, zero, suc, ◌+◌, ◌-◌, ◌<◌, ◌≤◌, List, [], ◌∷◌, ◌++◌, length, take, drop, get_or, Bool, true, false, refl, sym, ap, ◌∙◌, subst, arith, append_assoc, append-nil, length-append, inl, inr}
-use Rattle.std.specs.Prelude.{◌⊎◌}
+use Rattle.std.proofs.Common.{◌≡◌, ℕ, zero, suc, ◌+◌, ◌-◌, ◌<◌, ◌≤◌, List, [], ◌∷◌, ◌++◌, length, take, drop, get_or, Bool, refl, sym, ap, ◌∙◌, subst, arith, append_assoc, append-nil, length-append, inl, inr}
 use Rattle.std.proofs.Math.Seq.{drop-cons, take-append-add}
 use Rattle.std.proofs.lemmas.Bool.{cases_lt}
 use Rattle.std.proofs.lemmas.List.{take_more, take_all, take-append-drop, length-take}
@@ -9,7 +8,7 @@ use Rattle.repl_wire.specs.declared.field.Part.TheVariants.{Byte, Number, Name, 
 use Rattle.repl_wire.specs.declared.field.Scan.{Scan}
 use Rattle.repl_wire.specs.Layout.{Rest, Numbered, Named, Skipped}
 use Rattle.repl_wire.specs.Scans.{Awaits, Accepts, Completing, Fits, IsSound}
-use Rattle.repl_wire.specs.Feeds.{Running, Runs}
+use Rattle.repl_wire.specs.Feeds.{Running, Runs, Passes}
 use Rattle.repl_wire.specs.declared.run.Ran.TheVariants.{Open, Bad}
 
 number_none : (missing n : ℕ) (K : ℕ → Rest) → 1 ≤ missing → Numbered missing n K [] → ⊥
@@ -115,3 +114,42 @@ running_ended s K bytes i running ended =
       },
       running.open_,
     )
+
+-- a scan in a value
+abbrev value_scan : (missing left items : ℕ) → Scan
+value_scan missing left items = record { part = Value missing; left = left; items = items }
+
+-- a byte of a value, and not its last one, leads on
+value_step : (more left items : ℕ) (K : Rest) (bytes : List ℕ) (i : ℕ) → Running (value_scan (suc (suc more)) left items) K bytes i → i < length bytes → Running (value_scan (suc more) left items) K bytes (i + 1)
+value_step more left items K bytes i running within =
+    running_on (value_scan (suc (suc more)) left items) (value_scan (suc more) left items) K bytes i running within
+    (record { sound = (omega arith, running.awaits.sound.1); only = λ w h. h; each = λ w h. h })
+    (λ e. absurd (value_open (suc more) e))
+  where
+    value_open : (n : ℕ) → Value n ≡ Whole → ⊥
+    value_open n e = cc
+
+value_on : (count missing left items : ℕ) (K : Rest) (bytes : List ℕ) (i : ℕ) → count < missing → i + count ≤ length bytes → Running (value_scan missing left items) K bytes i
+    → Running (value_scan (missing - count) left items) K bytes (i + count)
+value_on zero missing left items K bytes i less inside running =
+    let same : missing ≡ missing - 0 = omega arith in
+    let here : i ≡ i + 0 = omega arith in
+    subst (λ (n : ℕ). Running (value_scan (missing - 0) left items) K bytes n) here (subst (λ (n : ℕ). Running (value_scan n left items) K bytes i) same running)
+value_on (suc count) zero left items K bytes i less inside running = absurd (omega arith)
+value_on (suc count) (suc zero) left items K bytes i less inside running = absurd (omega arith)
+value_on (suc count) (suc (suc more)) left items K bytes i less inside running =
+    let next = value_step more left items K bytes i running (omega arith) in
+    let behind = value_on count (suc more) left items K bytes (i + 1) (omega arith) (omega arith) next in
+    let same : suc more - count ≡ suc (suc more) - suc count = omega arith in
+    let here : i + 1 + count ≡ i + suc count = omega arith in
+    subst (λ (n : ℕ). Running (value_scan (suc (suc more) - suc count) left items) K bytes n) here (subst (λ (n : ℕ). Running (value_scan n left items) K bytes (i + 1 + count)) same behind)
+
+pub passes_on : (s t : Scan) (K : Rest) (bytes : List ℕ) (i count : ℕ) → Running s K bytes i → i + count ≤ length bytes → Passes s count t → Running t K bytes (i + count)
+passes_on s t K bytes i count running inside passes = elim passes [
+  | inl none ↦
+      let here : i ≡ i + count = omega (arith, none.0) in
+      subst (λ (n : ℕ). Running t K bytes n) here (subst (λ (x : Scan). Running x K bytes i) (sym none.1) running)
+  | inr some ↦
+      let is : s ≡ value_scan some.0 s.left s.items = ap (λ (p : Part). record { part = p; left = s.left; items = s.items }) some.1 in
+      subst (λ (x : Scan). Running x K bytes (i + count)) (sym some.3) (value_on count some.0 s.left s.items K bytes i some.2 inside (subst (λ (x : Scan). Running x K bytes i) is running))
+]

@@ -1,19 +1,18 @@
 -- What scans behind one more byte await.
-use Rattle.std.proofs.Common.{◌≡◌, ℕ, zero, suc, ◌+◌, ◌-◌, ◌*◌, ◌^◌, ◌<◌, ◌≤◌, List, [], ◌∷◌, ◌++◌, length, Bool, true, false, refl, sym, ap, ◌∙◌, subst, arith, length-append, append_assoc, append-nil}
+use Rattle.std.proofs.Common.{◌≡◌, ℕ, suc, ◌+◌, ◌*◌, ◌<◌, ◌≤◌, List, [], ◌∷◌, ◌++◌, length, Bool, refl, sym, ap, ◌∙◌, subst, arith, length-append, append_assoc, append-nil}
 use Rattle.key_prefix.specs.Codes.{IsCode, Begins}
-use Rattle.key_prefix.specs.Rests.{IsAt, Completes}
+use Rattle.key_prefix.specs.Rests.{IsAt}
 use Rattle.key_prefix.specs.declared.prefix.KeyPrefix.{KeyPrefix}
 use Rattle.repl_wire.specs.declared.field.NumberField.{NumberField}
 use Rattle.repl_wire.specs.declared.field.NumberField.TheVariants as number
-use Rattle.repl_wire.specs.declared.field.Part.{Part}
-use Rattle.repl_wire.specs.declared.field.Part.TheVariants.{Byte, Number, Name, Key, Value, Whole}
+use Rattle.repl_wire.specs.declared.field.Part.TheVariants.{Number, Key}
 use Rattle.repl_wire.specs.declared.field.Scan.{Scan}
 use Rattle.repl_wire.specs.declared.front.Front.{Front}
 use Rattle.repl_wire.specs.Fronts.{unit, IsMet, IsOpen, taken}
 use Rattle.repl_wire.specs.Layout.{Rest, Sized, Numbered, Within, Then, Updated, BehindKey}
-use Rattle.repl_wire.specs.Scans.{Awaits, Accepts, Fits, BehindNumber, KeyRest, NumberFits, KeyFits, IsInKey}
-use Rattle.repl_wire.proofs.Sizes.{Same, awaits_same, before}
-use Rattle.repl_wire.proofs.Digits.{stepped, unit_pos}
+use Rattle.repl_wire.specs.Scans.{Awaits, Accepts, BehindNumber, KeyRest, NumberFits, KeyFits, IsInKey}
+use Rattle.repl_wire.proofs.Sizes.{Same, awaits_same}
+use Rattle.repl_wire.proofs.Digits.{stepped}
 use Rattle.repl_wire.proofs.Begun.{awaits}
 
 -- bounds that come closer

@@ -1,6 +1,6 @@
 -- How many bytes things have that stand one after another, and how many the bodies of frames have.
 use Rattle.std.proofs.Common.{◌≡◌, ℕ, ◌+◌, List, [], ◌∷◌, ◌++◌, length, refl, ap, ◌∙◌, arith, length-append}
-use Rattle.std.specs.Int.{to_be_bytes, w16, w32, w64}
+use Rattle.std.specs.Int.{to_be_bytes, w32, w64}
 use Rattle.std.specs.List.{flat_map}
 use Rattle.global_defs.specs.Entry.{Transaction}
 use Rattle.global_defs.specs.Fields.{short, spelled_update}

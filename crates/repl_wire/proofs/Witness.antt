@@ -1,11 +1,8 @@
 -- Bytes that complete a part of a frame.
-use Rattle.std.proofs.Common.{◌≡◌, ℕ, zero, suc, ◌+◌, ◌-◌, ◌*◌, ◌/◌, ◌%◌, ◌^◌, ◌<◌, ◌≤◌, min, max, List, [], ◌∷◌, ◌++◌, length, Bool, true, false, nat_eq, refl, sym, ap, ◌∙◌, subst, arith, length-append, inl, inr}
+use Rattle.std.proofs.Common.{◌≡◌, ℕ, zero, suc, ◌+◌, ◌-◌, ◌*◌, ◌/◌, ◌^◌, ◌<◌, ◌≤◌, min, max, List, [], ◌∷◌, ◌++◌, length, Bool, true, false, nat_eq, refl, sym, subst, arith, length-append, inl, inr}
 use Rattle.std.specs.Prelude.{◌⊎◌}
 use Rattle.std.proofs.lemmas.Bool.{cases_lt}
-use Rattle.std.proofs.lemmas.Nat.{mul-le, div-add-mod', mod_below, le-div, div_below}
-use Rattle.key_prefix.specs.Codes.{IsCode}
-use Rattle.key_prefix.specs.Rests.{IsAt, Completes}
-use Rattle.key_prefix.specs.declared.prefix.KeyPrefix.{KeyPrefix}
+use Rattle.std.proofs.lemmas.Nat.{div-add-mod', mod_below, le-div, div_below}
 use Rattle.repl_wire.specs.declared.field.Kind.{Kind}
 use Rattle.repl_wire.specs.declared.field.Kind.TheVariants.{Hello, Resume, RollbackFirst, History, Entry, Bye}
 use Rattle.repl_wire.specs.declared.field.ByteField.{ByteField}
@@ -14,12 +11,11 @@ use Rattle.repl_wire.specs.declared.field.NumberField.{NumberField}
 use Rattle.repl_wire.specs.declared.field.NumberField.TheVariants as number
 use Rattle.repl_wire.specs.declared.field.Part.{Part}
 use Rattle.repl_wire.specs.declared.field.Part.TheVariants.{Byte, Number, Name, Key, Value, Whole}
-use Rattle.repl_wire.specs.declared.field.Scan.{Scan}
 use Rattle.repl_wire.specs.declared.front.Front.{Front}
-use Rattle.repl_wire.specs.Fronts.{unit, IsMet, IsOpen}
+use Rattle.repl_wire.specs.Fronts.{unit, IsOpen}
 use Rattle.repl_wire.specs.Kinds.{least_body, most_body}
-use Rattle.repl_wire.specs.Layout.{Rest, Ended, Sized, One, Numbered, Within, Named, Skipped, Then, Starting, Cycling, Rooted, Reigned, Valued, BehindKey, Keyed, Tagged, Updated, UpdateCount, Serial, Updater, ReignCount, Lengthed, Sited, Versioned, Alone, Body, Bodied, Typed}
-use Rattle.repl_wire.specs.Scans.{Accepts, Completing, Fits, IsSound, BehindByte, BehindNumber, BehindName, KeyRest, ByteFits, NumberFits, NameFits, KeyFits, IsInKey, HoldsReigns, HoldsUpdates, HoldsSome}
+use Rattle.repl_wire.specs.Layout.{Rest, Ended, Sized, One, Numbered, Within, Named, Skipped, Starting, Cycling, Rooted, Reigned, Valued, BehindKey, Keyed, Tagged, Updated, UpdateCount, Updater, ReignCount, Lengthed, Sited, Versioned, Alone, Body, Typed}
+use Rattle.repl_wire.specs.Scans.{Accepts, Fits, BehindByte, BehindNumber, ByteFits, NumberFits, KeyFits, HoldsReigns, HoldsUpdates, HoldsSome}
 use Rattle.repl_wire.proofs.Digits.{unit_pos}
 use Rattle.key_prefix.proofs.Taking.{each_length}
 

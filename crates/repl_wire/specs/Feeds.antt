@@ -1,10 +1,10 @@
 -- What a piece of a stream gives.
-use Rattle.std.specs.Prelude.{◌≡◌, ℕ, ◌<◌, ◌≤◌, List, ◌++◌, length, take, Option, Some, None}
+use Rattle.std.specs.Prelude.{◌≡◌, ◌⊎◌, ℕ, ◌-◌, ◌<◌, ◌≤◌, List, ◌++◌, length, take}
 use Rattle.global_defs.specs.Prefix.{IsPrefix}
-use Rattle.wire_defs.specs.Frames.{Frame, Reading, IsFrame, BeginsFrame, BeginsNone, AreFrames, spelled_frame, offset_after}
+use Rattle.wire_defs.specs.Frames.{Frame, IsFrame, BeginsNone, AreFrames, spelled_frame, offset_after}
 use Rattle.repl_wire.specs.declared.frame.FrameError.{FrameError}
 use Rattle.repl_wire.specs.declared.frame.FrameError.TheVariants.{BadFrame, NoMemory}
-use Rattle.repl_wire.specs.declared.field.Part.TheVariants.{Whole}
+use Rattle.repl_wire.specs.declared.field.Part.TheVariants.{Value, Whole}
 use Rattle.repl_wire.specs.declared.field.Scan.{Scan}
 use Rattle.repl_wire.specs.declared.run.Ran.{Ran}
 use Rattle.repl_wire.specs.declared.run.Ran.TheVariants as ran
@@ -53,3 +53,7 @@ pub record Running (s : Scan) (K : Rest) (bytes : List ℕ) (count : ℕ) : Type
   pub awaits : Awaits s (λ w. K (take count bytes ++ w))
   pub open_ : s.part ≡ Whole → ⊥
   pub none : (m : ℕ) → m ≤ count → K (take m bytes) → ⊥
+
+-- So many bytes of a value, and not its last one, lead a scan on, whatever they are; or there are none.
+abbrev pub Passes : Scan → (count : ℕ) → Scan → Type 0
+Passes s count t = ((count ≡ 0) × (t ≡ s)) ⊎ ((missing : ℕ) × (s.part ≡ Value missing) × (count < missing) × (t ≡ record { part = Value (missing - count); left = s.left; items = s.items }))

@@ -1,8 +1,7 @@
 -- What completes a frame of which a front has come.
-use Rattle.std.specs.Prelude.{◌≡◌, ℕ, ◌+◌, ◌*◌, ◌-◌, ◌^◌, ◌<◌, ◌≤◌, Bool, true, false, List, [], ◌∷◌, length, nat_eq, Option, Some, None, ◌⊎◌}
+use Rattle.std.specs.Prelude.{◌≡◌, ℕ, ◌+◌, ◌*◌, ◌-◌, ◌≤◌, Bool, true, false, List, length, Option, Some, None, ◌⊎◌}
 use Rattle.key_prefix.specs.Rests.{IsAt, Completes}
 use Rattle.key_prefix.specs.declared.prefix.KeyPrefix.{KeyPrefix}
-use Rattle.repl_wire.specs.declared.field.Kind.{Kind}
 use Rattle.repl_wire.specs.declared.field.ByteField.{ByteField}
 use Rattle.repl_wire.specs.declared.field.ByteField.TheVariants as byte
 use Rattle.repl_wire.specs.declared.field.NumberField.{NumberField}
@@ -10,10 +9,9 @@ use Rattle.repl_wire.specs.declared.field.NumberField.TheVariants as number
 use Rattle.repl_wire.specs.declared.field.Part.{Part}
 use Rattle.repl_wire.specs.declared.field.Part.TheVariants.{Byte, Number, Name, Key, Value, Whole}
 use Rattle.repl_wire.specs.declared.field.Scan.{Scan}
-use Rattle.repl_wire.specs.declared.front.Front.{Front}
-use Rattle.repl_wire.specs.Fronts.{IsMet, IsOpen}
+use Rattle.repl_wire.specs.Fronts.{IsOpen}
 use Rattle.repl_wire.specs.Kinds.{least_body, most_body}
-use Rattle.repl_wire.specs.Layout.{Rest, Ended, Sized, One, Numbered, Within, Named, Skipped, Then, Starting, Cycling, Rooted, Reigned, Valued, BehindKey, Keyed, Tagged, Updated, UpdateCount, Serial, Updater, ReignCount, Lengthed, Sited, Versioned, Body, Typed}
+use Rattle.repl_wire.specs.Layout.{Rest, Ended, Sized, One, Numbered, Within, Named, Skipped, Then, Starting, Cycling, Rooted, Reigned, BehindKey, Keyed, Tagged, Updated, UpdateCount, Updater, ReignCount, Lengthed, Sited, Versioned, Body, Typed}
 
 -- the bytes behind a name
 abbrev pub BehindName : Bool → ℕ → Rest

@@ -1,6 +1,4 @@
 -- What frames of the code stand for.
-use Rattle.std.specs.Prelude.{◌≡◌, ℕ, List, ◌++◌, map}
-use Rattle.global_defs.specs.Prefix.{IsPrefix}
 use Rattle.wire_defs.specs.Frames as defs
 use Rattle.gvn_model.specs.Entries.{history_value, transaction_value}
 use Rattle.gvn_model.specs.Reigns.{reign_value}

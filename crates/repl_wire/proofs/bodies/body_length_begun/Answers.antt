@@ -1,4 +1,4 @@
-use Rattle.std.proofs.Common.{arith, ◌∙◌}
+use Rattle.std.proofs.Common.{◌∙◌}
 use Rattle.repl_wire.proofs.Begun.{bodied_awaited}
 use Rattle.repl_wire.proofs.bodies.body_length_begun.Goals as goal
 

@@ -1,7 +1,6 @@
-use Rattle.std.proofs.Common.{arith, ◌≡◌, ◌++◌, length, ap, sym, take, drop, length-append}
+use Rattle.std.proofs.Common.{arith, ◌++◌, length, ap, sym, length-append}
 use Rattle.std.proofs.lemmas.List.{take-append-drop}
 use Rattle.std.proofs.lemmas.Result.{IfOk-weaker, MatchResult-weaker}
-use Rattle.repl_wire.specs.Feeds.{Takes}
 use Rattle.repl_wire.specs.Values.{frame_value}
 use Rattle.repl_wire.proofs.Feeding.{takes_first, takes_more, fails_more}
 use Rattle.repl_wire.proofs.frames.advanced.Goals as goal

@@ -1,7 +1,6 @@
-use Rattle.std.proofs.Common.{◌≡◌, subst, sym}
+use Rattle.std.proofs.Common.{subst, sym}
 use Rattle.std.proofs.lemmas.Result.{IfOk-weaker, MatchResult-weaker}
 use Rattle.repl_wire.specs.declared.frame.FrameError.{FrameError}
-use Rattle.repl_wire.specs.declared.frame.FrameError.TheVariants.{NoMemory}
 use Rattle.repl_wire.specs.Feeds.{Fails}
 use Rattle.repl_wire.proofs.Feeding.{takes_kept, takes_prefix}
 use Rattle.repl_wire.proofs.frames.behind.Goals as goal

@@ -1,6 +1,5 @@
-use Rattle.std.proofs.Common.{arith, rules}
+use Rattle.std.proofs.Common.{arith}
 use Rattle.std.proofs.lemmas.Bool.{leb-true, le-leb}
-use Rattle.std.proofs.lemmas.Bool.Decides.{nat_tests}
 use Rattle.repl_wire.proofs.Digits.{below_quotient, above_quotient, is_below_quotient, is_above_quotient}
 use Rattle.repl_wire.proofs.front.meets.Goals as goal
 

@@ -1,4 +1,4 @@
-use Rattle.std.proofs.Common.{arith, ◌-◌, ◌≡◌, ◌*◌, ◌≤◌, min, ◌/◌}
+use Rattle.std.proofs.Common.{arith, ◌-◌}
 use Rattle.std.proofs.lemmas.Grind.{div_ceil_times}
 use Rattle.repl_wire.proofs.Begun.{update_count_awaited}
 use Rattle.repl_wire.proofs.items.update_count_begun.Goals as goal

@@ -1,4 +1,4 @@
-use Rattle.std.proofs.Common.{arith, ◌-◌, ◌≡◌, ◌*◌, ◌+◌, ◌≤◌, ℕ, inl, inr}
+use Rattle.std.proofs.Common.{arith, ◌-◌, ◌≡◌, ◌*◌, ◌+◌, ℕ, inl, inr}
 use Rattle.std.specs.Prelude.{◌⊎◌}
 use Rattle.std.proofs.lemmas.Bool.{cases_lt}
 use Rattle.repl_wire.proofs.Begun.{value_awaited}

@@ -1,4 +1,4 @@
-use Rattle.std.proofs.Common.{◌≡◌, List, ℕ, [], ◌∷◌, ◌++◌, length, sym, ap, ◌∙◌, append_assoc, append-nil, arith}
+use Rattle.std.proofs.Common.{List, ℕ, [], ◌∷◌, ◌++◌, length, sym, ap, ◌∙◌, append_assoc, append-nil, arith}
 use Rattle.wire_defs.specs.Frames.{spelled_frame, stream}
 use Rattle.repl_wire.proofs.Apart.{frame_one}
 use Rattle.repl_wire.proofs.Feeding.{front_one}

@@ -1,7 +1,5 @@
-use Rattle.std.proofs.Common.{◌≡◌, ◌≤◌, ℕ, ◌+◌, length, map, ap, ◌∙◌, arith}
+use Rattle.std.proofs.Common.{length, ap, ◌∙◌, arith}
 use Rattle.global_defs.specs.Fields.{spelled_update}
-use Rattle.gvn_key.specs.Terms.{update_value}
-use Rattle.gvn_model.specs.Reigns.{reign_value}
 use Rattle.gvn_model.specs.Entries.{history_value, transaction_value}
 use Rattle.wire_defs.specs.Frames.{frame_body, spelled_reign}
 use Rattle.repl_wire.specs.declared.frame.Frame.{Frame}

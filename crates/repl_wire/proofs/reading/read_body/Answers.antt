@@ -1,7 +1,5 @@
-use Rattle.std.proofs.Common.{◌≡◌, Some, Option}
 use Rattle.std.specs.Option.{option_map}
 use Rattle.std.proofs.lemmas.Result.{IfOk-weaker}
-use Rattle.wire_defs.specs.Frames as defs
 use Rattle.repl_wire.specs.Values.{frame_value}
 use Rattle.repl_wire.proofs.Found.{of_hello, of_bye}
 use Rattle.repl_wire.proofs.reading.read_body.Goals as goal

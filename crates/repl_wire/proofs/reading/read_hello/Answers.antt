@@ -1,4 +1,4 @@
-use Rattle.std.proofs.Common.{arith, ◌≡◌, ◌++◌, ◌<◌, ◌^◌, length, sym, refl, None, Some, ℕ, List}
+use Rattle.std.proofs.Common.{arith, ◌++◌, length, sym, refl, None}
 use Rattle.std.specs.Int.{to_be_bytes, w32}
 use Rattle.std.specs.List.{flat_map}
 use Rattle.wire_defs.specs.Frames.{spelled_reign}

@@ -1,4 +1,4 @@
-use Rattle.std.proofs.Common.{arith, Some, None}
+use Rattle.std.proofs.Common.{arith}
 use Rattle.global_defs.specs.Fields.{IsReign}
 use Rattle.wire_defs.specs.Frames.{spelled_reign}
 use Rattle.gvn_model.specs.Reigns.{reign_value}

@@ -1,4 +1,4 @@
-use Rattle.std.proofs.Common.{arith, rules, ◌≡◌, ◌++◌, ◌<◌, ◌^◌, subst, sym}
+use Rattle.std.proofs.Common.{arith, rules, ◌++◌, ◌<◌, ◌^◌, subst, sym}
 use Rattle.wire_defs.specs.Frames.{Reading, BeginsFrame}
 use Rattle.repl_wire.specs.Feeds.{Refuses}
 use Rattle.repl_wire.proofs.Feeding.{takes_none, none_begins, begins, open_within}

@@ -1,4 +1,3 @@
-use Rattle.std.proofs.Common.{[]}
 use Rattle.repl_wire.proofs.Feeding.{framed_within, fresh_open}
 use Rattle.repl_wire.proofs.frames.Frames.new.Goals as goal
 

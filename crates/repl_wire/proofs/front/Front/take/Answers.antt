@@ -1,6 +1,4 @@
-use Rattle.std.proofs.Common.{arith, ◌≡◌, ◌+◌, ◌*◌, ◌-◌, ap}
 use Rattle.std.proofs.lemmas.Bool.{iff_false}
-use Rattle.repl_wire.specs.Fronts.{unit, IsMet, taken}
 use Rattle.repl_wire.proofs.Digits.{met_parts, met_from}
 use Rattle.repl_wire.proofs.front.Front.take.Goals as goal
 

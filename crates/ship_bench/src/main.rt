@@ -1,0 +1,56 @@
+//! Ships entries over links in memory to a stand-in of a secondary, so that instructions can be counted.
+//!
+//! The first argument is how many entries there are, the second how many bytes the value of each has. Standard output has one line, the
+//! same at each run.
+#![tactic(auto)]
+
+use anyhow::{Context, Result};
+use gvn_key::Bytes;
+use repl_link::MemLinker;
+use ship_session::{SessionEnd, finish};
+use ship_stands::{Primary, Site, StandError, history};
+use std::alloc::Global;
+use std::env;
+use std::env::Env;
+
+// The number behind the last one that an entry may have.
+const NUMBERS_END: u64 = 1 << 40;
+
+// Ships so many entries in one session: how many came, where BYE came behind them.
+fn ship(alloc: Global, length: u64, value: u16) -> Result<u64, StandError> {
+    let length = length.min(NUMBERS_END - 1);
+    let theirs = history(alloc, length, &[(b'A', 1, 1)])?;
+    let mut primary = Primary::new(alloc, length, 1, value)?;
+    let mut site = Site::new(history(alloc, 0, &[])?)?;
+    let name = Bytes::of(alloc, b"B")?;
+    let mut links = MemLinker::new(alloc);
+    let ended = finish(
+        alloc,
+        &theirs,
+        &name,
+        &mut primary,
+        &mut site,
+        &mut links,
+        0,
+    );
+    Ok(match ended {
+        Ok(SessionEnd::At(came)) => came,
+        _ => 0,
+    })
+}
+
+fn main(rt: HostRuntime) -> Result<()> {
+    let words = env::args(&rt)?;
+    let mut words = words.skip(1);
+    let length = match words.next() {
+        Some(word) => word.parse::<u64>().context("reading the count")?,
+        None => 100,
+    };
+    let value = match words.next() {
+        Some(word) => word.parse::<u16>().context("reading the size")?,
+        None => 10,
+    };
+    let came = ship(rt.alloc(), length, value).context("shipping")?;
+    println!(&rt; "{length} entries with values of {value} bytes: {came}")?;
+    Ok(())
+}

@@ -1,0 +1,4 @@
+mod Applied
+mod Rising
+mod Rooms
+mod Stamped
