@@ -1,0 +1,6 @@
+pub mod Stood
+pub mod Lays
+pub mod Breaks
+pub mod Undone
+pub mod Held
+pub mod States

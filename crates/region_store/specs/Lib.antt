@@ -1,0 +1,4 @@
+pub mod Errors
+pub mod Laid
+pub mod Outside
+pub mod Region
