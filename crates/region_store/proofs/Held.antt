@@ -58,7 +58,7 @@ taken_inside (m ∷ ms) (suc b) taken = let rest = taken_inside ms b taken in om
 free_stays : (marks : List Bool) (b c : ℕ) → is_free marks c ≡ true → is_free (with_image marks b) c ≡ true
 free_stays marks b c free = elim (cases_eq c b) [
   | inl here ↦ ap (is_free (with_image marks b)) here ∙ set_free marks b
-  | inr other ↦ sym (get_or-set_other marks b c true true other) ∙ free
+  | inr other ↦ get_or-set_other marks b c true true other ∙ free
 ]
 
 marked_if : (t : Bool) (marks : List Bool) (n : ℕ) → (c : ℕ) → is_free marks c ≡ true → is_free (if t then with_image marks n else marks) c ≡ true
@@ -92,7 +92,7 @@ all_logged s many b is = marks_free s (length s.pool.leaves) b (let low = dirty_
 
 -- marks below a block leave its own
 if_other : (t : Bool) (marks : List Bool) (n c : ℕ) → n < c → is_free (if t then with_image marks n else marks) c ≡ is_free marks c
-if_other true marks n c less = let ne : c ≢ n = omega (arith, less) in sym (get_or-set_other marks n c true true ne)
+if_other true marks n c less = let ne : c ≢ n = omega (arith, less) in get_or-set_other marks n c true true ne
 if_other false marks n c less = refl
 
 pub mark_stays : (s : Standing) (n c : ℕ) → n ≤ c → is_free (marks_below s n) c ≡ is_free s.imaged c
@@ -126,7 +126,7 @@ holds_logged e bytes g s h = record {
   clean = h.clean;
   blocks = h.blocks;
   knows = knows_below s e bytes g (length s.pool.leaves) h.knows;
-  whole = λ b low free. h.whole b low (not_free (is_free s.imaged b) refl b free);
+  whole = λ b low free. h.whole b low (not_free (is_free s.imaged b) b refl free);
 }
   where
     not_free : (t : Bool) → (b : ℕ) → is_free s.imaged b ≡ t → is_free (logged_marks s) b ≡ false → is_free s.imaged b ≡ false

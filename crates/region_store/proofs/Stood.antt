@@ -42,7 +42,7 @@ some_there p g d = elim (cases_lt 0 (length p.leaves)) [
   | inl low ↦ omega (arith, low)
   | inr none ↦
       let w = walk (blocks_in p.leaves) 0 d.0 d.1 in
-      let s : StandsAt (blocks_in p.leaves) 0 w.0 = w.2.2.0 in
+      let s : StandsAt (blocks_in p.leaves) 0 w.0 = w.3 in
       absurd (not_both (blocks_in p.leaves 0) s.0 (none_there p 0 none) s.1)
 ]
 

@@ -1,7 +1,7 @@
 //! What a region's blocks keep, and what they say of its globals.
 ghost use Rattle.std.specs.Prelude.{◌≡◌, ◌≤◌, ◌⊎◌, ℕ, List, Option, fold, drop, take};
 ghost use Rattle.std.specs.List.{AllByRecursion};
-ghost use Rattle.global_defs.specs.Entry.{Globals, Sequence, Update};
+ghost use Rattle.global_defs.specs.Entry.{Globals, Sequence, Update, apply};
 ghost use Rattle.global_defs.specs.Fields.{IsTransaction};
 ghost use Rattle.journal_defs.specs.Directory.{Pattern};
 ghost use Rattle.journal_defs.specs.Epochs.{Chosen, Blocks, block_of, image_state};
