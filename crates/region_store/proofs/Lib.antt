@@ -4,3 +4,4 @@ pub mod Breaks
 pub mod Undone
 pub mod Held
 pub mod States
+pub mod Handed

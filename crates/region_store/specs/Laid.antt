@@ -1,16 +1,25 @@
 -- Blocks of an image state as leaves in a pool.
 use Rattle.std.specs.Prelude.{◌≡◌, ◌⊎◌, ℕ, ◌+◌, ◌*◌, ◌<◌, ◌≤◌, false, List, length, map, Option, Some, None}
+use Rattle.journal_defs.specs.Journal.{JournalRecord, Pini, Epoch, Pblk, Tcom}
 use Rattle.journal_defs.specs.Epochs.{Chosen, BLOCK, image_of, image_state, block_of}
 use Rattle.journal_defs.specs.Leaves.{Leaf, IsBlock}
 use Rattle.block_fmt.specs.Cells.{blank}
 use Rattle.block_pool.specs.Code.{Pool}
 use Rattle.block_pool.specs.Pool.{leaf_at, is_dirty}
+use Rattle.before_image.specs.Undoing.{Oldest, with_oldest}
 use Rattle.jnl_record.specs.Values.{placed_value}
 use Rattle.jnl_record.specs.declared.placed.PlacedRecord.{PlacedRecord}
 
 -- an epoch by its number, its `blocks` and the records behind it
 abbrev pub epoch_at : ℕ → ℕ → List PlacedRecord → Chosen
 epoch_at number blocks behind = record { number = number; blocks = blocks; after = map placed_value behind }
+
+-- the oldest images with a record more: an image counts where its block has none yet
+abbrev pub taken : Oldest → JournalRecord → Oldest
+taken us (Pblk i) = with_oldest us i.block i.bytes
+taken us (Pini s) = us
+taken us (Epoch m) = us
+taken us (Tcom p) = us
 
 -- bytes behind block 0 that are those of no block, with an empty leaf in their place
 pub record IsBlank (bytes : List ℕ) (b : ℕ) (l : Leaf) : Type 0 where

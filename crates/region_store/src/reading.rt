@@ -1,18 +1,15 @@
 //! Blocks as they stood at an epoch.
-ghost use Rattle.std.specs.Prelude.{◌≡◌, ◌≤◌, ◌<◌, ◌+◌, ◌*◌, ℕ, [], true, false, length, map, max, None, IfOk, IfSome, IfNone, OnOk, OnErr, IsErrOf};
+ghost use Rattle.std.specs.Prelude.{◌≡◌, ◌⊎◌, ◌≤◌, ◌<◌, ◌+◌, ◌*◌, ℕ, [], true, false, length, map, max, None, IfOk, IfSome, IfNone, OnOk, OnErr, IsErrOf};
 ghost use Rattle.disk_defs.specs.Disk.{Reads, Rose};
 ghost use Rattle.journal_defs.specs.Journal.{IsInForm};
 ghost use Rattle.journal_defs.specs.Epochs.{Chosen, image_state, block_of};
 ghost use Rattle.journal_defs.specs.Leaves.{Leaf, IsBlock};
-ghost use Rattle.journal_defs.specs.Undo.{logged};
 ghost use Rattle.block_laws.specs.Nodes.{AreFormed, HaveKeys};
 ghost use Rattle.block_fmt.specs.Cells.{blank};
 ghost use Rattle.block_pool.specs.Pool.{IsAdded};
 ghost use Rattle.before_image.specs.Undoing.{oldest_of, Undoes};
-ghost use Rattle.gvt_leaf.specs.Stored.{blocks_in};
-ghost use Rattle.gvt_leaf.specs.Walked as walked;
 ghost use Rattle.jnl_record.specs.Values.{record_value, placed_value};
-ghost use Rattle.region_store.specs.Laid.{epoch_at, IsBlank, AreLaid};
+ghost use Rattle.region_store.specs.Laid.{epoch_at, taken, IsBlank, AreLaid};
 ghost use Rattle.region_store.specs.Outside.{IsOutsideAt};
 
 use super::error::RegionError;
@@ -30,7 +27,7 @@ const BLOCK: u64 = 4096;
 /// Takes the image that a record is, if it's one.
 fn take_record(undo: &mut Undo, what: &JnlRecord) -> Result<(), NoMemory>
     requires { IsInForm (record_value what.now) }
-    ensures { OnOk result ((e : Chosen) (g : ℕ) → Undoes undo.old e → Undoes undo.new (logged e (record { generation = g; what = record_value what.now }))) }
+    ensures { OnOk result (undo.new ≡ taken undo.old (record_value what.now)) }
 {
     match what {
         JnlRecord::Pblk { block, image } => undo.take_image(*block, image.as_slice()),
@@ -87,6 +84,7 @@ fn read_bytes<D: Disk>(
     requires inside { number < max 1 source.blocks }
     requires file { IfSome (D.disk disk.old).content (λ files. source.length ≡ length (files source.file)) }
     ensures block { OnOk result (IfSome (D.disk disk.old).content (λ files. (e : Chosen) → Undoes undo.now e → image_state e (block_of (files source.file)) number ≡ Some out.new)) }
+    ensures size { length out.new ≡ 4096 }
     ensures whole { OnOk result (number < source.blocks → oldest_of undo.now number ≡ None → 4096 * number + 4096 ≤ source.length) }
     ensures place { (file offset : ℕ) → IsErrOf result (RegionError.NotAFile file offset) → (file ≡ source.file) × (offset ≡ 4096 * number) }
     ensures short { (file offset : ℕ) → IsErrOf result (RegionError.NotAFile file offset) → IfSome (D.disk disk.old).content (λ files. (e : Chosen) → Undoes undo.now e → IsOutsideAt (image_state e (block_of (files source.file))) number) }
@@ -210,6 +208,13 @@ fn length_of<D: Disk>(disk: &mut D, file: u32) -> Result<u64, RegionError>
     }
 }
 
+/// How many blocks there are below an epoch of so many: with none it is one of zeros.
+fn count_of(blocks: u32) -> u32
+    ensures { result ≡ max 1 blocks }
+{
+    if blocks == 0 { 1 } else { blocks }
+}
+
 /// Reads the blocks below an epoch as they stood there: the file's, with the oldest images laid over. It writes nothing. With no
 /// blocks below the epoch it is one of zeros.
 ///
@@ -238,8 +243,7 @@ pub(crate) fn read_blocks<D: Disk>(
         blocks,
     };
     let mut pool = BlockPool::new(alloc);
-    let count = if blocks == 0 { 1 } else { blocks };
-    for number in 0..count {
+    for number in 0..count_of(blocks) {
         read_one(alloc, undo, disk, source, &mut pool, number)?;
     }
     Ok(pool)
