@@ -1,5 +1,5 @@
 -- Where a chain of blocks breaks.
-use Rattle.std.proofs.Common.{◌≡◌, ◌≢◌, ◌⊎◌, inl, inr, ℕ, ◌<◌, ◌≤◌, List, [], ◌∷◌, ◌++◌, length, drop, map, Option, Some, None, refl, sym, ap, subst, ◌∙◌, arith, append_assoc, flat_map, fold}
+use Rattle.std.proofs.Common.{◌≡◌, ◌≢◌, ◌⊎◌, inl, inr, ℕ, ◌<◌, ◌≤◌, List, [], ◌∷◌, ◌++◌, length, drop, map, Option, Some, None, refl, sym, ap, subst, ◌∙◌, arith, append_assoc, flat_map, max}
 use Rattle.std.proofs.lemmas.Bool.{cases_lt}
 use Rattle.std.proofs.lemmas.List.{map-append}
 use Rattle.std.specs.List.{AllByRecursion}
@@ -19,9 +19,11 @@ use Rattle.gvt_leaf.specs.Walked as walked
 use Rattle.gvt_leaf.specs.Walked.{leaves_of}
 use Rattle.gvt_leaf.proofs.Bytes.{rise_first}
 use Rattle.gvt_leaf.proofs.Walks.{all_rise}
-use Rattle.region_store.specs.Laid.{IsBlank, IsLaid}
+use Rattle.region_store.specs.Laid.{IsBlank, IsLaid, AreLaid}
 use Rattle.region_store.specs.Outside.{Lead, GoOn, BreaksAt, IsOutsideAt, Short, Broken}
 use Rattle.region_store.proofs.Stood.{not_both, same_bytes}
+use Rattle.region_store.proofs.Lays.{laid_all, past_laid}
+use Rattle.journal_defs.specs.Epochs.{Chosen, image_state, block_of}
 
 cells_map : (p : Pool) (xs : List ℕ) → map (λ (l : Leaf). l.cells) (map (leaf_at p) xs) ≡ leaves_of p xs
 cells_map p [] = refl
@@ -149,3 +151,7 @@ nothing_outside blocks b g (Broken k) keys r =
     let on = goes_along blocks k.before 0 b d.0 k.led d.1 in
     let are : d.0 ≡ (k.before ++ on.leaf ∷ []) ++ on.rest = on.are ∙ sym (append_assoc k.before (on.leaf ∷ []) on.rest) in
     k.broken on.leaf on.stands (front_goes_on g d.0 (k.before ++ on.leaf ∷ []) on.rest keys are d.2 d.3)
+
+-- where the chain of blocks that were read breaks, the block is outside the format
+pub opened_breaks : (e : Chosen) (bytes : List ℕ) (p : Pool) (b : ℕ) → AreLaid e bytes p (max 1 e.blocks) → walked.BreaksAt p b → IsOutsideAt (image_state e (block_of bytes)) b
+opened_breaks e bytes p b were k = Broken (breaks_so (image_state e (block_of bytes)) p (laid_all e bytes p (max 1 e.blocks) were) (past_laid e bytes p (max 1 e.blocks) were refl) b k)

@@ -130,3 +130,7 @@ past_laid e file p n were is b far = state_past e (block_of file) b (omega (arit
 
 pub laid_all : (e : Chosen) (file : List ℕ) (p : Pool) (n : ℕ) → AreLaid e file p n → (b : ℕ) → b < length p.leaves → IsLaid (image_state e (block_of file)) p b
 laid_all e file p n were b low = were.laid b (omega (arith, low, were.count))
+
+-- the blocks that were read restore what they decode to in the pool
+pub opened_restores : (e : Chosen) (bytes : List ℕ) (p : Pool) (g : Globals) → AreLaid e bytes p (max 1 e.blocks) → Decodes (blocks_in p.leaves) g → Restores (image_state e (block_of bytes)) g
+opened_restores e bytes p g were d = restores_over (image_state e (block_of bytes)) p (laid_all e bytes p (max 1 e.blocks) were) (past_laid e bytes p (max 1 e.blocks) were refl) g d

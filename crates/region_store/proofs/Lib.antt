@@ -5,3 +5,5 @@ pub mod Undone
 pub mod Held
 pub mod States
 pub mod Handed
+pub mod Openings
+pub mod Logs

@@ -1,5 +1,5 @@
 //! A region on blocks.
-ghost use Rattle.std.specs.Prelude.{◌≡◌, ◌⊎◌, ◌≤◌, ◌<◌, ◌+◌, ◌*◌, ◌++◌, ℕ, true, false, length, map, filter, fold, drop, take, replicate, option_map, IfOk, IfSome, OnOk, OnErr, IsErrOf};
+ghost use Rattle.std.specs.Prelude.{◌≡◌, ◌⊎◌, ◌≤◌, ◌<◌, ◌+◌, ◌*◌, ◌++◌, ℕ, true, false, length, map, filter, fold, drop, take, replicate, option_map, max, List, IfOk, IfSome, OnOk, OnErr, IsErrOf};
 ghost use Rattle.std.specs.Option.{option_copied};
 ghost use Rattle.std.specs.List.{AllByRecursion};
 ghost use Rattle.std.specs.FinMap as globals;
@@ -74,10 +74,10 @@ impl Model for Region {
 fn leaves_of(alloc: Global, file: u32, pool: BlockPool) -> Result<Leaves, RegionError>
     ensures blocks { IfOk result (λ made. made.pool.leaves ≡ pool.leaves) }
     ensures dirty { IfOk result (λ made. made.pool.dirty ≡ pool.dirty) }
-    ensures restores { IfOk result (λ made. (e : Chosen) (bytes : List ℕ) → 1 ≤ length pool.leaves → AreLaid e bytes pool (length pool.leaves) → Restores (image_state e (block_of bytes)) made.globals) }
+    ensures restores { IfOk result (λ made. (e : Chosen) (bytes : List ℕ) → AreLaid e bytes pool (max 1 e.blocks) → Restores (image_state e (block_of bytes)) made.globals) }
     ensures keys { IfOk result (λ made. HaveKeys made.globals) }
     ensures place { (f offset : ℕ) → IsErrOf result (RegionError.NotAFile f offset) → f ≡ file }
-    ensures outside { (f offset : ℕ) → IsErrOf result (RegionError.NotAFile f offset) → (e : Chosen) (bytes : List ℕ) → AreLaid e bytes pool (length pool.leaves) → (b : ℕ) × (offset ≡ 4096 * b) × IsOutsideAt (image_state e (block_of bytes)) b }
+    ensures outside { (f offset : ℕ) → IsErrOf result (RegionError.NotAFile f offset) → (e : Chosen) (bytes : List ℕ) → AreLaid e bytes pool (max 1 e.blocks) → (b : ℕ) × (offset ≡ 4096 * b) × IsOutsideAt (image_state e (block_of bytes)) b }
     ensures no_fault { (fault : ℕ) → IsErrOf result (RegionError.Failed fault) → ⊥ }
 {
     match Leaves::open(alloc, pool) {
