@@ -1,46 +1,35 @@
 //! A region on blocks.
-ghost use Rattle.std.specs.Prelude.{◌≡◌, ◌⊎◌, ◌≤◌, ◌<◌, ◌+◌, ◌*◌, ◌++◌, ℕ, true, false, length, map, filter, fold, drop, take, replicate, option_map, max, List, IfOk, IfSome, OnOk, OnErr, IsErrOf};
+ghost use Rattle.std.specs.Prelude.{◌≡◌, ◌≤◌, ◌*◌, ℕ, List, true, length, map, max, filter, fold, option_map, IfOk, IfSome, OnOk, OnErr, IsErrOf};
 ghost use Rattle.std.specs.Option.{option_copied};
 ghost use Rattle.std.specs.List.{AllByRecursion};
 ghost use Rattle.std.specs.FinMap as globals;
-ghost use Rattle.disk_defs.specs.Disk.{Reads, Image, From, OnFile, AtEachMoment, IsDurable, Rose};
-ghost use Rattle.disk_defs.specs.Frames.{Only, OthersStay};
+ghost use Rattle.disk_defs.specs.Disk.{Reads, Rose};
 ghost use Rattle.global_defs.specs.Key.{sub_of};
 ghost use Rattle.global_defs.specs.Valid.{is_key};
-ghost use Rattle.global_defs.specs.Entry.{Globals, Sequence, Update as UpdateValue, is_under, apply};
-ghost use Rattle.global_defs.specs.Fields.{IsUpdate, IsTransaction};
+ghost use Rattle.global_defs.specs.Entry.{is_under, apply};
+ghost use Rattle.global_defs.specs.Fields.{IsUpdate};
 ghost use Rattle.global_defs.specs.Evaluation as evaluation;
 ghost use Rattle.gvn_key.specs.Terms.{update_value};
 ghost use Rattle.gvn_key.specs.Faults.{child_of};
 ghost use Rattle.gvn_globals.specs.Walks.{after};
-ghost use Rattle.journal_defs.specs.Directory.{Pattern};
-ghost use Rattle.journal_defs.specs.Journal as journal;
-ghost use Rattle.journal_defs.specs.Journal.{Mark, Before};
 ghost use Rattle.journal_defs.specs.Epochs.{Chosen, image_state, block_of};
-ghost use Rattle.journal_defs.specs.Undo.{fresh};
-ghost use Rattle.journal_defs.specs.Sound.{Restores, region_state};
-ghost use Rattle.block_laws.specs.Several.{MayChange, logged_all};
-ghost use Rattle.block_laws.specs.Nodes.{AreFormed, HaveKeys, HaveShortValues, updates_of, updates_in};
-ghost use Rattle.block_pool.specs.Pool.{is_dirty};
-ghost use Rattle.before_image.specs.Images.{Knows, placed_images};
-ghost use Rattle.before_image.specs.Undoing.{Undoes};
+ghost use Rattle.journal_defs.specs.Sound.{Restores};
+ghost use Rattle.block_laws.specs.Nodes.{AreFormed, HaveKeys};
 ghost use Rattle.gvt_leaf.specs.Listed.{node_value};
-ghost use Rattle.gvt_leaf.specs.Stored.{blocks_in};
-ghost use Rattle.jnl_record.specs.Values.{record_value, placed_value};
-ghost use Rattle.region_store.specs.Errors.{images_error, blocks_error};
+ghost use Rattle.jnl_record.specs.Values.{placed_value};
 ghost use Rattle.region_store.specs.Laid.{epoch_at, AreLaid};
-ghost use Rattle.region_store.specs.Outside.{BreaksAt, IsOutsideAt};
-ghost use Rattle.region_store.specs.Region.{Standing, HoldsRegion, IsHeld, AreLogged, IsFlushed, flushed, with_marks, image_at, images_below, changed_images, logged_marks, IsReplayed};
+ghost use Rattle.region_store.specs.Outside.{IsOutsideAt};
+ghost use Rattle.region_store.specs.Region.{HoldsRegion, IsReplayed};
 
 use super::error::RegionError;
 use super::reading::{read_blocks, undo_of};
-use before_image::{ImageError, Imaged, Log};
-use block_pool::{BlockPool, PoolError};
+use before_image::Imaged;
+use block_pool::BlockPool;
 use gvn_globals::Lookup;
 use gvn_key::terms::Update;
 use gvn_key::{Bytes, Key, NoMemory};
 use gvt_leaf::{ChainError, Leaves, Node};
-use jnl_record::{JnlRecord, PlacedRecord};
+use jnl_record::PlacedRecord;
 use repl_disk::Disk;
 use std::alloc::Global;
 use std::marker::Model;
@@ -87,26 +76,6 @@ fn leaves_of(alloc: Global, file: u32, pool: BlockPool) -> Result<Leaves, Region
             offset: BLOCK * block as u64,
         }),
         Err(ChainError::NoMemory) => Err(RegionError::NoMemory),
-    }
-}
-
-/// What a failed call of a region's disk answers, on a disk with this count of faults.
-fn in_images(error: ImageError, fault: u64) -> RegionError
-    ensures { result ≡ images_error fault error }
-{
-    match error {
-        ImageError::Failed => RegionError::Failed { fault },
-        ImageError::NoMemory => RegionError::NoMemory,
-    }
-}
-
-/// The same of writing blocks out.
-fn in_blocks(error: PoolError, fault: u64) -> RegionError
-    ensures { result ≡ blocks_error fault error }
-{
-    match error {
-        PoolError::Failed => RegionError::Failed { fault },
-        PoolError::NoMemory => RegionError::NoMemory,
     }
 }
 
@@ -214,142 +183,6 @@ impl Region {
         ensures holds { (e : Chosen) (bytes : List ℕ) → HoldsRegion e bytes self.old → HoldsRegion e bytes self.new }
     {
         self.leaves.apply_all(updates)
-    }
-
-    /// Logs a block's bytes as they stand on the file, where it has changed and may not be written yet.
-    fn log_block<D: Disk, L: Log>(
-        &self,
-        disk: &mut D,
-        block: u32,
-        log: &mut L,
-    ) -> Result<(), RegionError>
-        requires held { IfSome (D.disk disk.old).content (IsHeld self.now) }
-        requires inside { block < length self.now.pool.leaves }
-        ensures logged { OnOk result (IfSome (D.disk disk.old).content (λ files. L.images log.new ≡ L.images log.old ++ image_at self.now (files self.now.file) block)) }
-        ensures none { OnErr result (L.images log.new ≡ L.images log.old) }
-        ensures place { (f offset : ℕ) → IsErrOf result (RegionError.NotAFile f offset) → ⊥ }
-        ensures reads { Reads (D.disk disk.old) (D.disk disk.new) }
-        ensures later { (D.disk disk.old).faults ≤ (D.disk disk.new).faults }
-        ensures count { (fault : ℕ) → IsErrOf result (RegionError.Failed fault) → fault ≡ (D.disk disk.new).faults }
-        ensures cause { (fault : ℕ) → IsErrOf result (RegionError.Failed fault) → Rose (D.disk disk.old).faults (D.disk disk.new).faults }
-    {
-        if !self.leaves.pool().is_dirty(block) {
-            return Ok(());
-        }
-        match self.imaged.log_image(disk, self.file, block, log) {
-            Ok(()) => Ok(()),
-            Err(error) => Err(in_images(error, disk.faults())),
-        }
-    }
-
-    /// Logs what the file has of each block that has changed and may not be written yet, in the blocks' order. It sets no mark, so that
-    /// what was logged can be given up.
-    ///
-    /// # Errors
-    /// `Failed` only where the disk's count of faults rose, and `NoMemory`: the first of the images may be logged then.
-    pub fn log_changed<D: Disk, L: Log>(
-        &self,
-        disk: &mut D,
-        log: &mut L,
-    ) -> Result<(), RegionError>
-        requires held { IfSome (D.disk disk.old).content (IsHeld self.now) }
-        ensures logged { OnOk result (IfSome (D.disk disk.old).content (λ files. L.images log.new ≡ L.images log.old ++ changed_images self.now (files self.now.file))) }
-        ensures front { OnErr result (IfSome (D.disk disk.old).content (λ files. (n : ℕ) × (L.images log.new ≡ L.images log.old ++ images_below self.now (files self.now.file) n))) }
-        ensures place { (f offset : ℕ) → IsErrOf result (RegionError.NotAFile f offset) → ⊥ }
-        ensures reads { Reads (D.disk disk.old) (D.disk disk.new) }
-        ensures later { (D.disk disk.old).faults ≤ (D.disk disk.new).faults }
-        ensures count { (fault : ℕ) → IsErrOf result (RegionError.Failed fault) → fault ≡ (D.disk disk.new).faults }
-        ensures cause { (fault : ℕ) → IsErrOf result (RegionError.Failed fault) → Rose (D.disk disk.old).faults (D.disk disk.new).faults }
-    {
-        for block in 0..self.leaves.pool().count() {
-            self.log_block(disk, block, log)?;
-        }
-        Ok(())
-    }
-
-    /// Keeps that each block that has changed has an image: what [`log_changed`](Region::log_changed) logged is in the journal.
-    pub fn mark_logged(&mut self)
-        ensures marks { self.new ≡ with_marks self.old (logged_marks self.old) }
-        ensures logged { AreLogged self.new }
-        ensures holds { (e : Chosen) (bytes : List ℕ) (g : ℕ) → HoldsRegion e bytes self.old → HoldsRegion (logged_all e (placed_images g (changed_images self.old bytes))) bytes self.new }
-    {
-        for block in 0..self.leaves.pool().count() {
-            if self.leaves.pool().is_dirty(block) {
-                self.imaged.mark(block);
-            }
-        }
-    }
-
-    /// Syncs the database file.
-    fn sync<D: Disk>(&self, disk: &mut D) -> Result<(), RegionError>
-        ensures durable { OnOk result (IfSome (D.disk disk.old).content (λ files. IsDurable (D.disk disk.new) self.now.file (files self.now.file))) }
-        ensures content { (D.disk disk.new).content ≡ (D.disk disk.old).content }
-        ensures any_moment { AtEachMoment (D.disk disk.old) (D.disk disk.new) (Image (D.disk disk.old)) }
-        ensures frame { OthersStay (Only self.now.file) (D.disk disk.old) (D.disk disk.new) }
-        ensures place { (f offset : ℕ) → IsErrOf result (RegionError.NotAFile f offset) → ⊥ }
-        ensures later { (D.disk disk.old).faults ≤ (D.disk disk.new).faults }
-        ensures count { (fault : ℕ) → IsErrOf result (RegionError.Failed fault) → fault ≡ (D.disk disk.new).faults }
-        ensures cause { (fault : ℕ) → IsErrOf result (RegionError.Failed fault) → Rose (D.disk disk.old).faults (D.disk disk.new).faults }
-    {
-        if disk.room(self.file, 1, 0).is_err() {
-            return Err(RegionError::NoMemory);
-        }
-        match disk.sync(self.file) {
-            Ok(()) => Ok(()),
-            Err(_) => Err(RegionError::Failed {
-                fault: disk.faults(),
-            }),
-        }
-    }
-
-    /// Writes the blocks that have changed, and syncs the file. Each of them stands past the epoch or has an image.
-    ///
-    /// # Errors
-    /// `Failed` only where the disk's count of faults rose, and `NoMemory`. The region's blocks are those of the file as before, and
-    /// another flush may follow.
-    pub fn flush<D: Disk>(&mut self, disk: &mut D) -> Result<(), RegionError>
-        requires held { IfSome (D.disk disk.old).content (IsHeld self.old) }
-        requires logged { AreLogged self.old }
-        ensures ok { OnOk result (self.new ≡ flushed self.old) }
-        ensures err { OnErr result ((self.new ≡ self.old) ⊎ (self.new ≡ flushed self.old)) }
-        ensures holds { (e : Chosen) → IfSome (D.disk disk.old).content (λ files. HoldsRegion e (files self.old.file) self.old) → IfSome (D.disk disk.new).content (λ files. HoldsRegion e (files self.old.file) self.new) }
-        ensures durable { OnOk result (IfSome (D.disk disk.new).content (λ files. IsDurable (D.disk disk.new) self.old.file (files self.old.file))) }
-        // an EPOCH of so many blocks may follow
-        ensures restores { OnOk result (IfSome (D.disk disk.new).content (λ files. (m : Mark) → m.blocks ≡ length self.old.pool.leaves → Restores (image_state (fresh m) (block_of (files self.old.file))) self.old.globals)) }
-        // at each moment at most blocks have changed that may be written
-        ensures any_moment { AtEachMoment (D.disk disk.old) (D.disk disk.new) (From (Image (D.disk disk.old)) (OnFile self.old.file (λ old new. (e : Chosen) → Knows self.old.imaged e → MayChange e (block_of old) (block_of new)))) }
-        ensures frame { OthersStay (Only self.old.file) (D.disk disk.old) (D.disk disk.new) }
-        ensures place { (f offset : ℕ) → IsErrOf result (RegionError.NotAFile f offset) → ⊥ }
-        ensures later { (D.disk disk.old).faults ≤ (D.disk disk.new).faults }
-        ensures count { (fault : ℕ) → IsErrOf result (RegionError.Failed fault) → fault ≡ (D.disk disk.new).faults }
-        ensures cause { (fault : ℕ) → IsErrOf result (RegionError.Failed fault) → Rose (D.disk disk.old).faults (D.disk disk.new).faults }
-    {
-        if let Err(error) = self.leaves.write_out(disk, self.file) {
-            return Err(in_blocks(error, disk.faults()));
-        }
-        self.sync(disk)
-    }
-
-    /// The record of an EPOCH of so many entries, all of whose blocks stand on the file once they are flushed.
-    pub fn mark(&self, closing: bool, number: u64) -> JnlRecord
-        ensures { record_value result ≡ journal.Epoch (record { closing = closing; number = number; blocks = length self.now.pool.leaves }) }
-    {
-        JnlRecord::Epoch {
-            closing,
-            number,
-            blocks: self.leaves.pool().count(),
-        }
-    }
-
-    /// Begins to count images anew, behind an EPOCH. No block is marked.
-    pub fn begin_epoch(&mut self, alloc: Global) -> Result<(), NoMemory>
-        requires { IsFlushed self.old }
-        ensures ok { OnOk result (self.new ≡ with_marks self.old (replicate (length self.old.pool.leaves) false)) }
-        ensures err { OnErr result (self.new ≡ self.old) }
-        ensures holds { OnOk result ((e : Chosen) (bytes : List ℕ) (m : Mark) → m.blocks ≡ length self.old.pool.leaves → HoldsRegion e bytes self.old → HoldsRegion (fresh m) bytes self.new) }
-    {
-        self.imaged = Imaged::new(alloc, self.leaves.pool().count())?;
-        Ok(())
     }
 }
 
