@@ -36,11 +36,7 @@ fn take_record(undo: &mut Undo, what: &JnlRecord) -> Result<(), NoMemory>
 }
 
 /// The oldest images behind an epoch of so many blocks, by the records behind it.
-pub(crate) fn undo_of(
-    alloc: Global,
-    blocks: u32,
-    behind: &[PlacedRecord],
-) -> Result<Undo, NoMemory>
+pub(crate) fn undo_of(alloc: Global, blocks: u32, behind: &[PlacedRecord]) -> Result<Undo, NoMemory>
     requires { AreFormed (map placed_value behind.now) }
     ensures { IfOk result (λ made. (number : ℕ) → Undoes made (epoch_at number blocks behind.now)) }
 {

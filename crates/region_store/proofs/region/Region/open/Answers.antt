@@ -30,3 +30,6 @@ returns-in_err-leaves-clause-outside g c =
     rw (p.1, p.2) (λ f offset is.
     chain_outside (g.D.Disk.disk c.args.disk.now).content c.in_ok-undo.undo c.args.file c.args.blocks c.args.behind.now c.in_ok-undo.ensures offset c.in_ok-pool.pool c.in_ok-pool.ensures.laid
     (c.in_err-leaves.ensures.outside f offset (handed_on c.in_err-leaves.field-0.0 (NotAFile f offset) is)))
+
+pub read_blocks-requires : goal.read_blocks-requires
+read_blocks-requires g c = let undone = c.in_ok-undo.ensures 0 in undone.blocks
