@@ -1,5 +1,5 @@
 -- An error that is handed on.
-use Rattle.std.proofs.Common.{◌≡◌, Result, Ok, Err, ap}
+use Rattle.std.proofs.Common.{◌≡◌, Err, ap}
 use Rattle.std.specs.Prelude.{IsErrOf}
 use Rattle.region_store.specs.declared.error.RegionError.{RegionError}
 

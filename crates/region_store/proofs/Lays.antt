@@ -1,13 +1,12 @@
 -- Blocks that are laid into a pool, and what they decode to.
-use Rattle.std.proofs.Common.{◌≡◌, ◌≢◌, ◌⊎◌, inl, inr, ⊎_elim, ℕ, ◌+◌, ◌*◌, ◌<◌, ◌≤◌, Bool, true, false, List, [], ◌∷◌, ◌++◌, length, max, Option, Some, None, unwrap_or, refl, sym, ap, subst, ◌∙◌, arith, length-append, get_or}
-use Rattle.std.proofs.lemmas.Bool.{cases_lt, cases_eq}
+use Rattle.std.proofs.Common.{◌≡◌, ◌≢◌, ◌⊎◌, inl, inr, ⊎_elim, ℕ, ◌+◌, ◌*◌, ◌<◌, ◌≤◌, Bool, false, List, [], ◌∷◌, ◌++◌, length, max, Option, Some, None, refl, sym, ap, subst, ◌∙◌, arith, length-append, get_or}
+use Rattle.std.proofs.lemmas.Bool.{cases_lt}
 use Rattle.std.proofs.lemmas.List.{get_or_append_left}
 use Rattle.std.proofs.Math.Seq.{get_or-append_seam}
 use Rattle.std.specs.List.{AllByRecursion}
-use Rattle.std.specs.Prelude.{slice_index_or}
 use Rattle.global_defs.specs.Entry.{Globals}
-use Rattle.journal_defs.specs.Epochs.{Chosen, BLOCK, image_of, image_state, block_of}
-use Rattle.journal_defs.specs.Leaves.{Leaf, Cell, IsLeaf, IsBlock, StandsAt, IsChain, HaveCells, Decodes, spelled_leaf}
+use Rattle.journal_defs.specs.Epochs.{Chosen, image_of, image_state, block_of}
+use Rattle.journal_defs.specs.Leaves.{Leaf, IsLeaf, IsBlock, StandsAt, IsChain, HaveCells, Decodes, spelled_leaf}
 use Rattle.journal_defs.specs.Sound.{AreWhole, Restores}
 use Rattle.journal_laws.proofs.BlockReading as reading
 use Rattle.block_fmt.specs.Cells.{blank}

@@ -6,4 +6,3 @@ pub mod Held
 pub mod States
 pub mod Handed
 pub mod Openings
-pub mod Logs

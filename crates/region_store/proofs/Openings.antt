@@ -1,5 +1,5 @@
 -- A region that is opened.
-use Rattle.std.proofs.Common.{◌≡◌, ℕ, ◌+◌, ◌*◌, ◌≤◌, List, Bool, length, map, max, fold, Option, Some, None, is_some, false, sym, ap, subst, ◌∙◌, arith}
+use Rattle.std.proofs.Common.{◌≡◌, ℕ, ◌*◌, List, map, max, fold, Option, is_some}
 use Rattle.std.specs.Prelude.{IfSome}
 use Rattle.disk_defs.specs.Disk.{Files}
 use Rattle.disk_defs.proofs.Told.{weaker_told}
@@ -8,14 +8,13 @@ use Rattle.journal_defs.specs.Epochs.{Chosen, image_state, block_of}
 use Rattle.journal_defs.specs.Sound.{Restores}
 use Rattle.block_laws.specs.Nodes.{HaveKeys}
 use Rattle.block_pool.specs.Code.{Pool}
-use Rattle.before_image.specs.Images.{is_free}
 use Rattle.before_image.specs.Undoing.{Oldest, Undoes}
 use Rattle.gvt_leaf.specs.Clean.{KeepsClean}
 use Rattle.jnl_record.specs.declared.placed.PlacedRecord.{PlacedRecord}
 use Rattle.region_store.specs.Laid.{epoch_at, AreLaid}
 use Rattle.region_store.specs.Outside.{IsOutsideAt}
-use Rattle.region_store.specs.Region.{Standing, HoldsRegion, IsHeld, IsReplayed}
-use Rattle.region_store.proofs.Held.{opened, applied, taken_inside}
+use Rattle.region_store.specs.Region.{Standing, HoldsRegion, IsReplayed}
+use Rattle.region_store.proofs.Held.{opened, applied}
 
 module _ (o : Option Files) (us : Oldest) (f blocks : ℕ) (behind : List PlacedRecord) (undone : (number : ℕ) → Undoes us (epoch_at number blocks behind)) where
   -- its blocks are the epoch's and the file's
@@ -48,10 +47,3 @@ module _ (o : Option Files) (us : Oldest) (f blocks : ℕ) (behind : List Placed
       weaker_told o (λ files. (e : Chosen) → Undoes us e → AreLaid e (files f) p (max 1 blocks))
       (λ files. (number : ℕ) → (b : ℕ) × (offset ≡ 4096 * b) × IsOutsideAt (image_state (epoch_at number blocks behind) (block_of (files f))) b) told
       (λ files is number. breaks (epoch_at number blocks behind) (files f) (is (epoch_at number blocks behind) (undone number)))
-
--- the file has a block whole that is to be logged
-pub image_asked : (o : Option Files) (s : Standing) (b : ℕ) → IfSome o (IsHeld s) → IfSome o (λ files. is_free s.imaged b ≡ false → 4096 * b + 4096 ≤ length (files s.file))
-image_asked o s b told = weaker_told o (IsHeld s) (λ files. is_free s.imaged b ≡ false → 4096 * b + 4096 ≤ length (files s.file)) told (λ files held free.
-    let h = held.1 in
-    let low = taken_inside s.imaged b free in
-    h.whole b (omega (arith, low, h.knows.blocks)) free)

@@ -1,7 +1,7 @@
 -- The globals of a region that was opened, and the region's part of the state.
 use Rattle.std.proofs.Common.{◌≡◌, ℕ, zero, suc, List, [], ◌∷◌, fold, take, drop, Option, sym, ap, ◌∙◌}
 use Rattle.std.specs.List.{AllByRecursion}
-use Rattle.global_defs.specs.Entry.{Globals, Sequence, Entry, Update, apply}
+use Rattle.global_defs.specs.Entry.{Globals, Sequence, Update, apply}
 use Rattle.global_defs.specs.Fields.{IsTransaction}
 use Rattle.journal_defs.specs.Directory.{Pattern}
 use Rattle.journal_defs.specs.Sound.{Restores, region_state}

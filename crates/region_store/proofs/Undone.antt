@@ -1,18 +1,18 @@
 -- The oldest images among the records behind an epoch, and a block that is read back.
-use Rattle.std.proofs.Common.{◌≡◌, ◌⊎◌, inl, inr, ⊎_elim, ℕ, zero, suc, ◌+◌, ◌*◌, ◌<◌, ◌≤◌, Bool, true, false, List, [], ◌∷◌, ◌++◌, length, take, map, max, Option, Some, None, unwrap_or, refl, sym, ap, subst, ◌∙◌, arith, get_or}
-use Rattle.std.specs.Prelude.{Result, Ok, Err, OnOk, IfSome, IfNone}
+use Rattle.std.proofs.Common.{◌≡◌, ◌⊎◌, inl, inr, ⊎_elim, ℕ, zero, suc, ◌+◌, ◌*◌, ◌<◌, ◌≤◌, Bool, true, false, List, [], ◌∷◌, ◌++◌, length, take, map, Option, Some, None, unwrap_or, refl, sym, ap, subst, ◌∙◌, arith, get_or}
+use Rattle.std.specs.Prelude.{IfSome, IfNone}
 use Rattle.disk_defs.proofs.Told.{weaker_told, both_weak, told_at}
 use Rattle.std.proofs.lemmas.List.{take_more, take_all, map-append}
 use Rattle.disk_defs.specs.Disk.{Files}
 use Rattle.journal_defs.specs.Journal.{JournalRecord, Pini, Epoch, Pblk, Tcom, IsInForm}
 use Rattle.journal_defs.specs.Sequence.{Placed}
-use Rattle.journal_defs.specs.Epochs.{Chosen, image_in, image_of, image_state, block_of}
+use Rattle.journal_defs.specs.Epochs.{Chosen, image_state, block_of}
 use Rattle.journal_defs.specs.Undo.{logged}
 use Rattle.journal_defs.specs.Leaves.{Leaf, IsBlock}
 use Rattle.block_pool.specs.Code.{Pool}
 use Rattle.block_pool.specs.Pool.{IsAdded}
-use Rattle.before_image.specs.Undoing.{Oldest, oldest_of, with_oldest, Undoes}
-use Rattle.before_image.proofs.OldestImages.{undoes_none, undoes_image, undoes_other}
+use Rattle.before_image.specs.Undoing.{Oldest, oldest_of, Undoes}
+use Rattle.before_image.proofs.OldestImages.{undoes_image, undoes_other}
 use Rattle.jnl_record.specs.Values.{record_value, placed_value}
 use Rattle.block_laws.specs.Nodes.{AreFormed}
 use Rattle.block_pool.proofs.Written.{block_inside}

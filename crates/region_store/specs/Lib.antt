@@ -1,4 +1,3 @@
-pub mod Errors
 pub mod Laid
 pub mod Outside
 pub mod Region

@@ -1,21 +1,13 @@
-//! What a region's blocks keep, and what they say of its globals.
-ghost use Rattle.std.specs.Prelude.{◌≡◌, ◌≤◌, ◌⊎◌, ℕ, List, Option, fold, drop, take};
+//! What blocks say of a region's globals.
+ghost use Rattle.std.specs.Prelude.{◌≡◌, ℕ, List, Option, fold, drop, take};
 ghost use Rattle.std.specs.List.{AllByRecursion};
 ghost use Rattle.global_defs.specs.Entry.{Globals, Sequence, Update, apply};
 ghost use Rattle.global_defs.specs.Fields.{IsTransaction};
 ghost use Rattle.journal_defs.specs.Directory.{Pattern};
-ghost use Rattle.journal_defs.specs.Epochs.{Chosen, Blocks, block_of, image_state};
 ghost use Rattle.journal_defs.specs.Sound.{Restores, region_state};
 ghost use Rattle.block_laws.specs.Nodes.{HaveKeys, updates_of, updates_in};
-ghost use Rattle.block_laws.specs.Several.{MayAppendAll};
-ghost use Rattle.before_image.specs.Images.{placed_images};
 ghost use Rattle.region_store.specs.Outside.{IsOutsideAt};
-ghost use Rattle.region_store.specs.Region.{Standing, images_below, IsReplayed};
-
-/// What is logged of a region's blocks may be appended to its journal, also the first few of it.
-pub fn images_hold()
-    ensures may_append { (s : Standing) (e : Chosen) (bytes : List ℕ) (g n : ℕ) → MayAppendAll e (block_of bytes) (placed_images g (images_below s bytes n)) }
-{}
+ghost use Rattle.region_store.specs.Region.{IsReplayed};
 
 /// Blocks of which one is outside the format hold no globals, and sound ones hold the region's part of the state.
 pub fn outside_holds()

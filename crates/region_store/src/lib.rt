@@ -9,7 +9,7 @@
 //!
 //! # Modules
 //!
-//! `reading` reads blocks as they stood at an epoch. `region` is a region, and `laws` says what its blocks keep.
+//! `reading` reads blocks as they stood at an epoch. `region` is a region, and `laws` says what blocks say of its globals.
 #![tactic(auto)]
 
 mod error;
@@ -18,5 +18,5 @@ mod reading;
 mod region;
 
 pub use error::RegionError;
-pub use laws::{images_hold, outside_holds};
+pub use laws::outside_holds;
 pub use region::Region;

@@ -7,7 +7,7 @@ use Rattle.before_image.specs.Undoing.{Undoes}
 use Rattle.region_store.specs.Laid.{AreLaid}
 use Rattle.region_store.specs.declared.error.RegionError.TheVariants.{NotAFile}
 use Rattle.region_store.proofs.Handed.{handed_on}
-use Rattle.region_store.proofs.Undone.{outside_told, none_told, more_told}
+use Rattle.region_store.proofs.Undone.{outside_told, more_told}
 use Rattle.region_store.proofs.reading.read_blocks.Goals as goal
 
 pub returns-in_err-read_one-clause-outside : goal.returns-in_err-read_one-clause-outside

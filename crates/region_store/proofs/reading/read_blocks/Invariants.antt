@@ -1,4 +1,4 @@
-use Rattle.std.proofs.Common.{◌≡◌, ℕ, ◌≤◌, length, max, IfSome}
+use Rattle.std.proofs.Common.{◌≡◌, ◌≤◌, length, max, IfSome}
 use Rattle.disk_defs.specs.Disk.{Reads}
 use Rattle.journal_defs.specs.Epochs.{Chosen}
 use Rattle.before_image.specs.Undoing.{Undoes}

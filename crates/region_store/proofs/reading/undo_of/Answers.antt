@@ -1,6 +1,6 @@
 use Rattle.std.proofs.Common.{sym, subst, take, arith}
 use Rattle.journal_defs.specs.Undo.{logged}
-use Rattle.before_image.specs.Undoing.{Oldest, Undoes, oldest_of}
+use Rattle.before_image.specs.Undoing.{Oldest, Undoes}
 use Rattle.jnl_record.specs.Values.{record_value, placed_value}
 use Rattle.region_store.specs.Laid.{epoch_at}
 use Rattle.region_store.proofs.Undone.{formed_at, undoes_taken, undone_more, undone_all}
