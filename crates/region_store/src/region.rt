@@ -1,0 +1,211 @@
+//! A region on blocks.
+ghost use Rattle.std.specs.Prelude.{◌≡◌, ◌≤◌, ◌*◌, ℕ, List, true, length, map, max, filter, fold, option_map, IfOk, IfSome, OnOk, OnErr, IsErrOf};
+ghost use Rattle.std.specs.Option.{option_copied};
+ghost use Rattle.std.specs.List.{AllByRecursion};
+ghost use Rattle.std.specs.FinMap as globals;
+ghost use Rattle.disk_defs.specs.Disk.{Reads, Rose};
+ghost use Rattle.global_defs.specs.Key.{sub_of};
+ghost use Rattle.global_defs.specs.Valid.{is_key};
+ghost use Rattle.global_defs.specs.Entry.{is_under, apply};
+ghost use Rattle.global_defs.specs.Fields.{IsUpdate};
+ghost use Rattle.global_defs.specs.Evaluation as evaluation;
+ghost use Rattle.gvn_key.specs.Terms.{update_value};
+ghost use Rattle.gvn_key.specs.Faults.{child_of};
+ghost use Rattle.gvn_globals.specs.Walks.{after};
+ghost use Rattle.journal_defs.specs.Epochs.{Chosen, image_state, block_of};
+ghost use Rattle.journal_defs.specs.Sound.{Restores};
+ghost use Rattle.block_laws.specs.Nodes.{AreFormed, HaveKeys};
+ghost use Rattle.gvt_leaf.specs.Listed.{node_value};
+ghost use Rattle.jnl_record.specs.Values.{placed_value};
+ghost use Rattle.region_store.specs.Laid.{epoch_at, AreLaid};
+ghost use Rattle.region_store.specs.Outside.{IsOutsideAt};
+ghost use Rattle.region_store.specs.Region.{HoldsRegion, IsReplayed};
+
+use super::error::RegionError;
+use super::reading::{read_blocks, undo_of};
+use before_image::Imaged;
+use block_pool::BlockPool;
+use gvn_globals::Lookup;
+use gvn_key::terms::Update;
+use gvn_key::{Bytes, Key, NoMemory};
+use gvt_leaf::{ChainError, Leaves, Node};
+use jnl_record::PlacedRecord;
+use repl_disk::Disk;
+use std::alloc::Global;
+use std::marker::Model;
+
+/// How many bytes a block has on the file.
+const BLOCK: u64 = 4096;
+
+/// A region's globals on the blocks of its database file, of which some may have changed since they were written.
+#[derive(Debug, Drop)]
+pub struct Region {
+    /// The number of the database file.
+    file: u32,
+    leaves: Leaves,
+    imaged: Imaged,
+}
+
+impl Model for Region {
+    ghost use Rattle.region_store.specs.Region as defs;
+
+    ghost Value = { defs.Standing };
+
+    ghost coded = { defs.standing_code };
+
+    ghost view = { λ r. record { file = r.file; globals = r.leaves.globals; pool = r.leaves.pool; imaged = r.imaged } };
+}
+
+/// The globals of the blocks that were read of a database file.
+///
+/// # Errors
+/// `NotAFile` with the block at which the chain of leaves breaks.
+fn leaves_of(alloc: Global, file: u32, pool: BlockPool) -> Result<Leaves, RegionError>
+    ensures blocks { IfOk result (λ made. made.pool.leaves ≡ pool.leaves) }
+    ensures dirty { IfOk result (λ made. made.pool.dirty ≡ pool.dirty) }
+    ensures restores { IfOk result (λ made. (e : Chosen) (bytes : List ℕ) → AreLaid e bytes pool (max 1 e.blocks) → Restores (image_state e (block_of bytes)) made.globals) }
+    ensures keys { IfOk result (λ made. HaveKeys made.globals) }
+    ensures place { (f offset : ℕ) → IsErrOf result (RegionError.NotAFile f offset) → f ≡ file }
+    ensures outside { (f offset : ℕ) → IsErrOf result (RegionError.NotAFile f offset) → (e : Chosen) (bytes : List ℕ) → AreLaid e bytes pool (max 1 e.blocks) → (b : ℕ) × (offset ≡ 4096 * b) × IsOutsideAt (image_state e (block_of bytes)) b }
+    ensures no_fault { (fault : ℕ) → IsErrOf result (RegionError.Failed fault) → ⊥ }
+{
+    match Leaves::open(alloc, pool) {
+        Ok(leaves) => Ok(leaves),
+        Err(ChainError::Broken { block }) => Err(RegionError::NotAFile {
+            file,
+            offset: BLOCK * block as u64,
+        }),
+        Err(ChainError::NoMemory) => Err(RegionError::NoMemory),
+    }
+}
+
+impl Region {
+    /// Goes back to an epoch of a database file, with so many blocks and these records behind it in the region's journals, and makes
+    /// the updates of the entries behind it. It writes nothing: the blocks go back in memory alone.
+    ///
+    /// # Errors
+    /// `NotAFile` with the file and the place of a block that is outside the format, exactly where the blocks of the epoch hold no
+    /// globals; `Failed` only where the disk's count of faults rose; `NoMemory`.
+    pub fn open<D: Disk>(
+        alloc: Global,
+        disk: &mut D,
+        file: u32,
+        blocks: u32,
+        behind: &[PlacedRecord],
+        updates: &[Update],
+    ) -> Result<Self, RegionError>
+        requires behind { AreFormed (map placed_value behind.now) }
+        requires updates { AllByRecursion IsUpdate (map update_value updates.now) }
+        ensures file { IfOk result (λ made. made.file ≡ file) }
+        // the region's blocks are those of the epoch and the file
+        ensures holds { IfOk result (λ made. IfSome (D.disk disk.old).content (λ files. (number : ℕ) → HoldsRegion (epoch_at number blocks behind.now) (files file) made)) }
+        // the globals are those of the blocks below the epoch, with the updates made
+        ensures globals { IfOk result (λ made. IfSome (D.disk disk.old).content (λ files. (number : ℕ) → IsReplayed (image_state (epoch_at number blocks behind.now) (block_of (files file))) (map update_value updates.now) made.globals)) }
+        ensures place { (f offset : ℕ) → IsErrOf result (RegionError.NotAFile f offset) → f ≡ file }
+        ensures outside { (f offset : ℕ) → IsErrOf result (RegionError.NotAFile f offset) → IfSome (D.disk disk.old).content (λ files. (number : ℕ) → (b : ℕ) × (offset ≡ 4096 * b) × IsOutsideAt (image_state (epoch_at number blocks behind.now) (block_of (files file))) b) }
+        ensures reads { Reads (D.disk disk.old) (D.disk disk.new) }
+        ensures later { (D.disk disk.old).faults ≤ (D.disk disk.new).faults }
+        ensures count { (fault : ℕ) → IsErrOf result (RegionError.Failed fault) → fault ≡ (D.disk disk.new).faults }
+        ensures cause { (fault : ℕ) → IsErrOf result (RegionError.Failed fault) → Rose (D.disk disk.old).faults (D.disk disk.new).faults }
+    {
+        let undo = undo_of(alloc, blocks, behind)?;
+        let pool = read_blocks(alloc, &undo, disk, file, blocks)?;
+        let imaged = undo.imaged()?;
+        let mut leaves = leaves_of(alloc, file, pool)?;
+        leaves.apply_all(updates)?;
+        Ok(Region {
+            file,
+            leaves,
+            imaged,
+        })
+    }
+
+    /// How many nodes have values.
+    pub fn nodes(&self) -> u32
+        ensures { result ≡ globals.len self.now.globals }
+    {
+        self.leaves.nodes()
+    }
+
+    /// The node's value, if it has one.
+    pub fn get(&self, key: &Key) -> Option<&[u8]>
+        ensures { option_copied result ≡ globals.get self.now.globals key.now }
+    {
+        self.leaves.get(key)
+    }
+
+    /// Whether the node has a value, and whether it has descendants: 0, 1, 10 or 11.
+    pub fn defined(&self, key: &Key) -> u8
+        ensures { result ≡ evaluation.defined self.now.globals key.now }
+    {
+        self.leaves.defined(key)
+    }
+
+    /// The first node of the same name past the key, if there is one.
+    pub fn after(&self, key: &Key) -> Result<Option<Key>, NoMemory>
+        ensures { IfOk result (λ found. found ≡ after self.now.globals key.now) }
+    {
+        self.leaves.after(key)
+    }
+
+    /// The next subscript at the level below the node, past the last one, by its own bytes: of a number its numeral. An
+    /// empty last one comes before all.
+    pub fn order(&self, key: &Key, last: &[u8]) -> Result<Option<Bytes>, NoMemory>
+        ensures next { IfOk result (λ found. option_map sub_of found ≡ evaluation.order self.now.globals key.now last.now) }
+        ensures a_key { IfOk result (λ found. IfSome found (λ sub. is_key (child_of key.now (sub_of sub)) ≡ true)) }
+    {
+        self.leaves.order(key, last)
+    }
+
+    /// All nodes with their values, in M collation.
+    pub fn list(&self, alloc: Global) -> Result<Vec<Node<'_>>, NoMemory>
+        ensures { IfOk result (λ made. map node_value made.items ≡ globals.entries self.now.globals) }
+    {
+        self.leaves.list(alloc)
+    }
+
+    /// The node and those below it with their values, in M collation.
+    pub fn list_under(&self, alloc: Global, top: &Key) -> Result<Vec<Node<'_>>, NoMemory>
+        ensures { IfOk result (λ made. map node_value made.items ≡ filter (λ e. is_under top.now e.0) (globals.entries self.now.globals)) }
+    {
+        self.leaves.list_under(alloc, top)
+    }
+
+    /// Makes these changes in order, all of them or, without memory, none. The blocks that they change are marked.
+    pub fn apply(&mut self, updates: &[Update]) -> Result<(), NoMemory>
+        requires { AllByRecursion IsUpdate (map update_value updates.now) }
+        ensures ok { OnOk result (self.new.globals ≡ fold apply self.old.globals (map update_value updates.now)) }
+        ensures err { OnErr result (self.new.globals ≡ self.old.globals) }
+        ensures blocks { OnErr result (self.new.pool.leaves ≡ self.old.pool.leaves) }
+        ensures dirty { OnErr result (self.new.pool.dirty ≡ self.old.pool.dirty) }
+        ensures file { self.new.file ≡ self.old.file }
+        ensures imaged { self.new.imaged ≡ self.old.imaged }
+        ensures holds { (e : Chosen) (bytes : List ℕ) → HoldsRegion e bytes self.old → HoldsRegion e bytes self.new }
+    {
+        self.leaves.apply_all(updates)
+    }
+}
+
+impl Lookup for Region {
+    ghost seen = { λ r. r.globals };
+
+    fn get(&self, key: &Key) -> Option<&[u8]> {
+        Region::get(self, key)
+    }
+
+    fn defined(&self, key: &Key) -> u8 {
+        Region::defined(self, key)
+    }
+
+    fn order(&self, key: &Key, last: &[u8]) -> Result<Option<Bytes>, NoMemory> {
+        Region::order(self, key, last)
+    }
+
+    fn nodes(&self) -> u32 {
+        Region::nodes(self)
+    }
+
+    fn after(&self, key: &Key) -> Result<Option<Key>, NoMemory> {
+        Region::after(self, key)
+    }
+}
