@@ -31,6 +31,12 @@ bin/leaf_bench: $(wildcard crates/leaf_bench/src/*.rt crates/gvt_leaf/src/*.rt c
 	mkdir -p bin
 	cp crates/leaf_bench/out/leaf_bench bin/leaf_bench
 
+# the proved program that measures shipping
+bin/ship_bench: $(wildcard crates/ship_*/src/*.rt crates/session_*/src/*.rt crates/repl_*/src/*.rt crates.txt)
+	cd crates/ship_bench && $(RT) run > /dev/null
+	mkdir -p bin
+	cp crates/ship_bench/out/ship_bench bin/ship_bench
+
 # a build of the program in seconds, of which nothing is proved
 demo:
 	@echo "; an unproved build; 'make' builds the proved program, 'make test' is the gate"
@@ -45,7 +51,7 @@ test:
 examples:
 	tools/check
 
-bench: bin/gtmr bin/pool_bench bin/wire_bench bin/leaf_bench
+bench: bin/gtmr bin/pool_bench bin/wire_bench bin/leaf_bench bin/ship_bench
 	tools/bench bin/gtmr
 
 install: bin/gtmr
