@@ -1,3 +1,4 @@
+pub mod Spelled
 pub mod PieceLaws
 pub mod Numbers
 pub mod NoFault

@@ -6,6 +6,7 @@ ghost use Rattle.std.specs.Cmp.Lexicographic.{slice_cmp, nat_list_cmp_total};
 ghost use Rattle.std.specs.Fmt.{decimal};
 ghost use Rattle.std.proofs.lemmas.Cmp.{eq_by_cmp_equiv};
 
+use super::words::compare_bytes;
 use itoa::Buffer;
 use std::alloc::{AllocError, AllocFailed, Global};
 use std::cmp::Ordering;
@@ -162,7 +163,7 @@ impl PartialEq for Bytes {
     ghost laws = { partial_equiv_from_equiv (eq_by_cmp_equiv nat_list_cmp_total) };
 
     fn eq(&self, other: &Self) -> bool {
-        self.as_slice().cmp(other.as_slice()) == Ordering::Equal
+        compare_bytes(self.as_slice(), other.as_slice()) == Ordering::Equal
     }
 }
 
@@ -176,7 +177,7 @@ impl PartialOrd for Bytes {
     ghost laws = { partial_order_from_agreeing_total (slice_cmp nat_cmp) nat_list_cmp_total (λ x y. refl) (λ x y. refl) };
 
     fn partial_cmp(&self, other: &Self) -> Option<Ordering> {
-        Some(self.as_slice().cmp(other.as_slice()))
+        Some(compare_bytes(self.as_slice(), other.as_slice()))
     }
 }
 
@@ -191,6 +192,6 @@ impl Ord for Bytes {
     ghost matches_eq = { λ x y. refl };
 
     fn cmp(&self, other: &Self) -> Ordering {
-        self.as_slice().cmp(other.as_slice())
+        compare_bytes(self.as_slice(), other.as_slice())
     }
 }

@@ -11,6 +11,7 @@ mod order;
 mod parse;
 mod reader;
 pub mod terms;
+mod words;
 mod zwr;
 
 pub use bytes::{Bytes, NoMemory};
@@ -19,4 +20,5 @@ pub use integer::{integer_of, write_integer};
 pub use key::{Key, KeyError, write_sub};
 pub use numeral::is_number;
 pub use reader::{ZwrError, zwr_read};
+pub use words::{compare_bytes, half_at, word_at};
 pub use zwr::zwr_write;

@@ -10,6 +10,7 @@ ghost use Rattle.global_defs.specs.Entry.{is_under};
 ghost use Rattle.global_defs.proofs.Order.{key_total};
 
 use super::key::Key;
+use super::words::compare_bytes;
 use std::cmp::Ordering;
 
 impl Key {
@@ -18,7 +19,7 @@ impl Key {
     pub fn compare(&self, other: &Self) -> Ordering
         ensures { result ≡ key_cmp self.now other.now }
     {
-        self.as_encoded().cmp(other.as_encoded())
+        compare_bytes(self.as_encoded(), other.as_encoded())
     }
 
     /// Whether the key is the top one or one of its descendants.

@@ -5,6 +5,6 @@ use Rattle.gvn_key.proofs.key.Key.compare.Goals as goal
 
 pub returns : goal.returns
 returns c =
-    c.cmp.ensures
+    c.compare_bytes.ensures
     ∙ (λ i. slice_cmp nat_cmp (c.as_encoded.ensures.value i) (c.as_encoded-2.ensures.value i))
     ∙ key_ordered c.args.self.now c.args.other.now c.as_encoded.ensures.valid c.as_encoded-2.ensures.valid
