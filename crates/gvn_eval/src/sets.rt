@@ -26,7 +26,7 @@ fn has_room<G: Lookup>(on: &G, more: usize) -> bool
 fn updates_of(alloc: Global, statements: &[Statement]) -> Result<Option<Updates>, NoMemory>
     ensures { IfOk result (λ found. IfSome found (λ updates. map setting (map statement_value statements.now) ≡ map Some updates)) }
 {
-    let mut updates = Updates::new(alloc);
+    let mut updates = Updates::with_capacity(alloc, statements.len())?;
     for statement in statements {
         let Statement::Set(key, value) = statement else {
             return Ok(None);

@@ -33,6 +33,15 @@ impl Statements {
         }
     }
 
+    /// An empty list with room for so many statements.
+    pub fn with_capacity(alloc: Global, statements: usize) -> Result<Self, NoMemory>
+        ensures { IfOk result (λ made. made ≡ []) }
+    {
+        Ok(Statements {
+            items: Vec::with_capacity(alloc, statements)?,
+        })
+    }
+
     /// How many statements there are.
     pub fn len(&self) -> usize
         ensures { result ≡ length self.now }
@@ -84,7 +93,7 @@ impl Statements {
 fn copy_statements(alloc: Global, statements: &[Statement]) -> Result<Vec<Statement>, NoMemory>
     ensures { IfOk result (λ made. made.items ≡ statements.now) }
 {
-    let mut made = Vec::new(alloc);
+    let mut made = Vec::with_capacity(alloc, statements.len())?;
     for statement in statements {
         made.push(copy_of(statement)?)?;
     }
@@ -130,6 +139,15 @@ impl Answers {
         Answers {
             items: Vec::new(alloc),
         }
+    }
+
+    /// An empty list with room for so many answers.
+    pub fn with_capacity(alloc: Global, answers: usize) -> Result<Self, NoMemory>
+        ensures { IfOk result (λ made. made ≡ []) }
+    {
+        Ok(Answers {
+            items: Vec::with_capacity(alloc, answers)?,
+        })
     }
 
     /// How many answers there are.
@@ -183,7 +201,7 @@ impl Answers {
 fn copy_answers(alloc: Global, answers: &[Bytes]) -> Result<Vec<Bytes>, NoMemory>
     ensures { IfOk result (λ made. made.items ≡ answers.now) }
 {
-    let mut made = Vec::new(alloc);
+    let mut made = Vec::with_capacity(alloc, answers.len())?;
     for answer in answers {
         made.push(answer.copy()?)?;
     }

@@ -33,6 +33,15 @@ impl Updates {
         }
     }
 
+    /// An empty list with room for so many updates.
+    pub fn with_capacity(alloc: Global, updates: usize) -> Result<Self, NoMemory>
+        ensures { IfOk result (λ made. made ≡ []) }
+    {
+        Ok(Updates {
+            items: Vec::with_capacity(alloc, updates)?,
+        })
+    }
+
     /// How many updates there are.
     pub fn len(&self) -> usize
         ensures { result ≡ length self.now }
@@ -84,7 +93,7 @@ impl Updates {
 fn copy_all(alloc: Global, updates: &[Update]) -> Result<Vec<Update>, NoMemory>
     ensures { IfOk result (λ made. made.items ≡ updates.now) }
 {
-    let mut made = Vec::new(alloc);
+    let mut made = Vec::with_capacity(alloc, updates.len())?;
     for update in updates {
         made.push(copy_of(update)?)?;
     }
