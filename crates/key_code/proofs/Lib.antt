@@ -1,5 +1,4 @@
 pub mod Splits
-pub mod SameFronts
 pub mod Numbers
 pub mod Parts
 pub mod Texts

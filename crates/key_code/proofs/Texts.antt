@@ -11,7 +11,7 @@ use Rattle.global_defs.proofs.Places.{none_pass}
 use Rattle.key_prefix.proofs.Numerals.{is_digit}
 use Rattle.key_code.specs.Plain.{HasText, MayStand, IsSubCode, begins_numeral, is_whole_number}
 use Rattle.key_code.proofs.Splits.{split, all_pass}
-use Rattle.key_code.proofs.SameFronts.{AreBytes, taken_bytes}
+use Rattle.gvn_key.proofs.Spelled.{AreBytes, taken_bytes}
 use Rattle.key_code.proofs.Numbers.{whole, whole_parts, whole_made}
 use Rattle.key_code.proofs.Parts.{rest_of, rest_is, text_code, first_of}
 

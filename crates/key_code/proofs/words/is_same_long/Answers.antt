@@ -1,6 +1,6 @@
 use Rattle.std.proofs.Common.{◌≡◌, ◌+◌, ◌*◌, ◌-◌, ◌≤◌, take, subst, arith, refl}
 use Rattle.std.proofs.lemmas.Bool.{eqb-true}
-use Rattle.key_code.proofs.SameFronts.{same_word, same_less}
+use Rattle.gvn_key.proofs.Spelled.{same_word, same_less}
 use Rattle.key_code.proofs.Splits.{of_test}
 use Rattle.key_code.proofs.words.is_same_long.Goals as goal
 
