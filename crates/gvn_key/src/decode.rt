@@ -325,7 +325,7 @@ impl Key {
         let Some(subs) = subs(alloc, &bytes[end + 1..])? else {
             return Ok(None);
         };
-        match Key::new(alloc, &bytes[..end], &subs) {
+        match Key::from_parts(alloc, &bytes[..end], subs) {
             Ok(key) => Ok(if key.as_encoded() == bytes {
                 Some(key)
             } else {

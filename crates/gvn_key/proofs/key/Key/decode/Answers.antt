@@ -25,8 +25,8 @@ returns-in-Ok c = elim c.if-eq.branch [
       subst (Decodes c.args.bytes.now) (sym w.result-is) (λ key h e.
       let at = sym c.place.ensures.place ∙ c.in-Some.is in
       let subs = subs_known c.args.bytes.now c.in-Some.end key at h e in
-      let texts : c.deref.result.now ≡ map sub_bytes key.subs = c.deref.ensures.value ∙ these_fit _ c.in_ok-subs.field-0 (λ t. t.items) c.in-Some-2.subs c.in-Some-2.is c.in_ok-subs.ensures key.subs (valid_parts key h).subs subs in
-      let again = made_again (take c.in-Some.end c.args.bytes.now) c.deref.result.now key h (cut c.args.bytes.now c.in-Some.end key at h e).name texts in
+      let texts : c.in-Some-2.subs.items ≡ map sub_bytes key.subs = these_fit _ c.in_ok-subs.field-0 (λ t. t.items) c.in-Some-2.subs c.in-Some-2.is c.in_ok-subs.ensures key.subs (valid_parts key h).subs subs in
+      let again = made_again (take c.in-Some.end c.args.bytes.now) c.in-Some-2.subs.items key h (cut c.args.bytes.now c.in-Some.end key at h e).name texts in
       let code : c.as_encoded.result.now ≡ c.args.bytes.now = c.as_encoded.ensures.value ∙ ap encoded (c.in-Ok.ensures.1 ∙ again.same) ∙ e in
       other_text c.as_encoded.result.now c.args.bytes.now (sym w.if-eq.false ∙ c.eq.ensures) code)
 ]
@@ -35,8 +35,8 @@ pub returns : goal.returns
 returns c = λ key h e.
     let at = sym c.place.ensures.place ∙ c.in-Some.is in
     let subs = subs_known c.args.bytes.now c.in-Some.end key at h e in
-    let texts : c.deref.result.now ≡ map sub_bytes key.subs = c.deref.ensures.value ∙ these_fit _ c.in_ok-subs.field-0 (λ t. t.items) c.in-Some-2.subs c.in-Some-2.is c.in_ok-subs.ensures key.subs (valid_parts key h).subs subs in
-    let again = made_again (take c.in-Some.end c.args.bytes.now) c.deref.result.now key h (cut c.args.bytes.now c.in-Some.end key at h e).name texts in
-    let first = fault_known (take c.in-Some.end c.args.bytes.now) c.deref.result.now c.in-Err.fault c.in_default-fault.not-NoMemory c.in-Err.ensures in
+    let texts : c.in-Some-2.subs.items ≡ map sub_bytes key.subs = these_fit _ c.in_ok-subs.field-0 (λ t. t.items) c.in-Some-2.subs c.in-Some-2.is c.in_ok-subs.ensures key.subs (valid_parts key h).subs subs in
+    let again = made_again (take c.in-Some.end c.args.bytes.now) c.in-Some-2.subs.items key h (cut c.args.bytes.now c.in-Some.end key at h e).name texts in
+    let first = fault_known (take c.in-Some.end c.args.bytes.now) c.in-Some-2.subs.items c.in-Err.fault c.in_default-fault.not-NoMemory c.in-Err.ensures in
     let none = again.no_fault in
     cc
