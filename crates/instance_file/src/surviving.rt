@@ -27,7 +27,7 @@ fn bound_before(first: &InstanceRecord, later: u64) -> u64
 pub fn bounds_of(alloc: Global, records: &[InstanceRecord]) -> Result<Vec<u64>, NoMemory>
     ensures { IfOk result (λ made. made.items ≡ bounds_behind (map record_value records.now)) }
 {
-    let mut made = Vec::new(alloc);
+    let mut made = Vec::with_capacity(alloc, records.len())?;
     let mut bound = u64::MAX;
     for record in records.iter().rev() {
         made.push(bound)?;
