@@ -1,5 +1,5 @@
 //! Lists of records.
-ghost use Rattle.std.specs.Prelude.{◌≡◌, ◌==◌, ◌<◌, [], ◌∷◌, ◌++◌, length, map, Some, slice_get, List, IfOk, OnOk, OnErr};
+ghost use Rattle.std.specs.Prelude.{◌≡◌, ◌==◌, ◌<◌, [], ◌∷◌, ◌++◌, length, map, Some, slice_get, List, OnOk, OnErr};
 ghost use Rattle.journal_defs.specs.Instance as defs;
 ghost use Rattle.instance_file.specs.Values.{record_value};
 
@@ -32,15 +32,6 @@ impl InstanceRecords {
         InstanceRecords {
             items: Vec::new(alloc),
         }
-    }
-
-    /// An empty list with room for so many records.
-    pub(crate) fn with_capacity(alloc: Global, records: usize) -> Result<Self, NoMemory>
-        ensures { IfOk result (λ made. made ≡ []) }
-    {
-        Ok(InstanceRecords {
-            items: Vec::with_capacity(alloc, records)?,
-        })
     }
 
     /// How many records there are.

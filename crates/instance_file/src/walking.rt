@@ -20,16 +20,9 @@ use super::record::InstanceRecord;
 use super::records::InstanceRecords;
 use super::surviving::{bounds_of, surviving_reigns, wrong_reign};
 use gated_file::Gated;
-use gvn_key::{Bytes, NoMemory};
+use gvn_key::Bytes;
 use gvn_model::Reigns;
 use repl_disk::Disk;
-use std::alloc::Global;
-
-/// How many bytes the shortest record takes with its gate and its length.
-const SHORTEST: u64 = 8;
-
-/// For how many records there is room before they are read, at most.
-const MOST_ROOM: u64 = 1024;
 
 /// What was read of a file.
 #[derive(Drop)]
@@ -66,26 +59,6 @@ fn read_record<D: Disk>(
     }
 }
 
-/// For how many records room is made before a file is read: so many as its bytes may hold, but not without bound.
-fn room_for<D: Disk>(disk: &mut D, file: u32) -> Result<usize, InstanceError>
-    ensures outside { (offset : ℕ) → IsErrOf result (InstanceError.NotARecord offset) → ⊥ }
-    ensures reads { Reads (D.disk disk.old) (D.disk disk.new) }
-    ensures later { (D.disk disk.old).faults ≤ (D.disk disk.new).faults }
-    ensures cause { IsErrOf result InstanceError.Failed → Rose (D.disk disk.old).faults (D.disk disk.new).faults }
-{
-    match disk.len(file) {
-        Ok(size) => Ok((size / SHORTEST).min(MOST_ROOM) as usize),
-        Err(_) => Err(InstanceError::Failed),
-    }
-}
-
-/// No places, with room for so many.
-fn places_with_room(alloc: Global, places: usize) -> Result<Vec<u64>, NoMemory>
-    ensures { IfOk result (λ made. made.items ≡ []) }
-{
-    Ok(Vec::with_capacity(alloc, places)?)
-}
-
 /// Reads all records up to the first that can't stand where it stands.
 fn read_log<D: Disk>(gated: &mut Gated, disk: &mut D) -> Result<Log, InstanceError>
     requires listed { IfSome (D.disk disk.old).content (λ files. (bodies : List Body) × (records (files gated.old.file) ≡ Some bodies)) }
@@ -99,9 +72,8 @@ fn read_log<D: Disk>(gated: &mut Gated, disk: &mut D) -> Result<Log, InstanceErr
     ensures later { (D.disk disk.old).faults ≤ (D.disk disk.new).faults }
     ensures cause { IsErrOf result InstanceError.Failed → Rose (D.disk disk.old).faults (D.disk disk.new).faults }
 {
-    let room = room_for(disk, gated.file)?;
-    let mut records = InstanceRecords::with_capacity(gated.alloc, room)?;
-    let mut places = places_with_room(gated.alloc, room)?;
+    let mut records = InstanceRecords::new(gated.alloc);
+    let mut places = Vec::new(gated.alloc);
     let mut generation = 0;
     let mut at = 0;
     while let Some((added, next)) = read_record(gated, disk, at)? {

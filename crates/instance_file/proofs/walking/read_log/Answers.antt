@@ -28,16 +28,16 @@ loop-places-init g c =
     let view = g.D.Disk.disk in
     let file = c.args.gated.now.file in
     record {
-      passed = rw (c.in_ok-records.ensures, c.in_ok-places.ensures)
+      passed = rw (c.new-records.ensures, c.new-places.ensures.items)
           (weaker_told (view c.args.disk.now).content (λ files. (bodies : List Body) × (records (files file) ≡ Some bodies)) (λ files. Passed (files file) 0 [] [] 0) c.requires.listed
           (λ files listed. passed_none (files file) listed.0 listed.1));
-      ordered = rw c.in_ok-records.ensures (record { create = tt; cuts = tt });
-      form = rw c.in_ok-records.ensures tt;
-      last = rw c.in_ok-records.ensures refl;
-      many = rw (c.in_ok-records.ensures, c.in_ok-places.ensures) refl;
+      ordered = rw c.new-records.ensures (record { create = tt; cuts = tt });
+      form = rw c.new-records.ensures tt;
+      last = rw c.new-records.ensures refl;
+      many = search rules;
       same = refl;
-      reads = c.room_for.ensures.reads;
-      faults = c.room_for.ensures.later;
+      reads = search rules;
+      faults = omega arith;
     }
 
 pub returns-in_err-added-clause-wrong : goal.returns-in_err-added-clause-wrong
