@@ -3,35 +3,34 @@ use Rattle.std.proofs.Common.{◌≡◌, ℕ, suc, ◌<◌, ◌≤◌, ◌+◌, 
 use Rattle.global_defs.specs.Prefix.{IsPrefix}
 use Rattle.std.proofs.lemmas.List.{take-append-drop, take-map, take_all, length-take-le}
 use Rattle.std.proofs.Math.Seq.{drop-cons, take-append_seam}
-use Rattle.repl_link.specs.declared.items.Item.{Item}
-use Rattle.repl_link.specs.declared.items.Item.TheVariants.{Byte, End}
-use Rattle.repl_link.specs.Items.{bytes_of, has_end}
+use Rattle.std.proofs.Common.{zero, ◌||◌}
+use Rattle.repl_link.specs.Items.{is_end, Symbol, Byte, End, bytes_of, has_end}
 
-pub bytes_of-bytes : (bytes : List ℕ) (rest : List Item) → bytes_of (map Byte bytes ++ rest) ≡ bytes ++ bytes_of rest
+pub bytes_of-bytes : (bytes : List ℕ) (rest : List Symbol) → bytes_of (map Byte bytes ++ rest) ≡ bytes ++ bytes_of rest
 bytes_of-bytes [] rest = refl
 bytes_of-bytes (b ∷ bytes) rest = ap (λ l. b ∷ l) (bytes_of-bytes bytes rest)
 
-pub has_end-bytes : (bytes : List ℕ) (rest : List Item) → has_end (map Byte bytes ++ rest) ≡ has_end rest
+pub has_end-bytes : (bytes : List ℕ) (rest : List Symbol) → has_end (map Byte bytes ++ rest) ≡ has_end rest
 has_end-bytes [] rest = refl
 has_end-bytes (b ∷ bytes) rest = has_end-bytes bytes rest
 
-pub bytes_of-append : (xs ys : List Item) → has_end xs ≡ false → bytes_of (xs ++ ys) ≡ bytes_of xs ++ bytes_of ys
+pub bytes_of-append : (xs ys : List Symbol) → has_end xs ≡ false → bytes_of (xs ++ ys) ≡ bytes_of xs ++ bytes_of ys
 bytes_of-append [] ys open_end = refl
 bytes_of-append (Byte b ∷ xs) ys open_end = ap (λ l. b ∷ l) (bytes_of-append xs ys open_end)
 bytes_of-append (End ∷ xs) ys open_end = cc
 
-pub bytes_of-ended : (xs ys : List Item) → has_end xs ≡ true → bytes_of (xs ++ ys) ≡ bytes_of xs
+pub bytes_of-ended : (xs ys : List Symbol) → has_end xs ≡ true → bytes_of (xs ++ ys) ≡ bytes_of xs
 bytes_of-ended [] ys open_end = cc
 bytes_of-ended (Byte b ∷ xs) ys open_end = ap (λ l. b ∷ l) (bytes_of-ended xs ys open_end)
 bytes_of-ended (End ∷ xs) ys open_end = refl
 
-pub has_end-append : (xs ys : List Item) → has_end xs ≡ false → has_end (xs ++ ys) ≡ has_end ys
+pub has_end-append : (xs ys : List Symbol) → has_end xs ≡ false → has_end (xs ++ ys) ≡ has_end ys
 has_end-append [] ys open_end = refl
 has_end-append (Byte b ∷ xs) ys open_end = has_end-append xs ys open_end
 has_end-append (End ∷ xs) ys open_end = cc
 
 -- items that begin with bytes, and then an end
-pub ends_at : (items : List Item) (bytes : List ℕ) (i : ℕ) (d : Item) → i < length items → take i items ≡ map Byte bytes → get_or items i d ≡ End
+pub ends_at : (items : List Symbol) (bytes : List ℕ) (i : ℕ) (d : Symbol) → i < length items → take i items ≡ map Byte bytes → get_or items i d ≡ End
     → (bytes_of items ≡ bytes) × (has_end items ≡ true)
 ends_at items bytes i d below front end =
     let parts : items ≡ map Byte bytes ++ (End ∷ drop (i + 1) items) =
@@ -40,11 +39,11 @@ ends_at items bytes i d below front end =
     (ap bytes_of parts ∙ bytes_of-bytes bytes (End ∷ drop (i + 1) items) ∙ append-nil bytes, ap has_end parts ∙ has_end-bytes bytes (End ∷ drop (i + 1) items))
 
 -- the mark of the end adds no byte
-pub bytes_of-end : (items : List Item) → has_end items ≡ false → bytes_of (items ++ End ∷ []) ≡ bytes_of items
+pub bytes_of-end : (items : List Symbol) → has_end items ≡ false → bytes_of (items ++ End ∷ []) ≡ bytes_of items
 bytes_of-end items open_end = bytes_of-append items (End ∷ []) open_end ∙ append-nil (bytes_of items)
 
 -- a beginning of items that are bytes, behind items without an end
-pub sent_front : (sent front back : List Item) (bytes : List ℕ) → has_end sent ≡ false → front ++ back ≡ map Byte bytes
+pub sent_front : (sent front back : List Symbol) (bytes : List ℕ) → has_end sent ≡ false → front ++ back ≡ map Byte bytes
     → (bytes_of (sent ++ front) ≡ bytes_of sent ++ take (length front) bytes) × (has_end (sent ++ front) ≡ false)
 sent_front sent front back bytes open_end is =
     let part : front ≡ map Byte (take (length front) bytes) =
@@ -55,21 +54,41 @@ sent_front sent front back bytes open_end is =
     )
 
 -- what was taken, and then what is still known
-pub bytes_of-taken : (taken known : List Item) (b : Bool) → has_end taken ≡ b → bytes_of taken ++ (if b then [] else bytes_of known) ≡ bytes_of (taken ++ known)
+pub bytes_of-taken : (taken known : List Symbol) (b : Bool) → has_end taken ≡ b → bytes_of taken ++ (if b then [] else bytes_of known) ≡ bytes_of (taken ++ known)
 bytes_of-taken taken known true is = append-nil (bytes_of taken) ∙ sym (bytes_of-ended taken known is)
 bytes_of-taken taken known false is = sym (bytes_of-append taken known is)
 
 -- bytes in front of an end stay so when items are added
-pub bytes_of-more : (xs ys : List Item) → IsPrefix (bytes_of xs) (bytes_of (xs ++ ys))
+pub bytes_of-more : (xs ys : List Symbol) → IsPrefix (bytes_of xs) (bytes_of (xs ++ ys))
 bytes_of-more [] ys = (bytes_of ys, refl)
 bytes_of-more (Byte b ∷ xs) ys = let rest = bytes_of-more xs ys in (rest.0, ap (λ l. b ∷ l) rest.1)
 bytes_of-more (End ∷ xs) ys = ([], refl)
 
 -- items that are all bytes
-pub all_bytes : (items : List Item) (buffer : List ℕ) (i : ℕ) → length items ≡ i → i ≤ length buffer → take i items ≡ map Byte (take i buffer)
+pub all_bytes : (items : List Symbol) (buffer : List ℕ) (i : ℕ) → length items ≡ i → i ≤ length buffer → take i items ≡ map Byte (take i buffer)
     → (bytes_of items ≡ take (length items) buffer) × (length (bytes_of items) ≡ length items) × (has_end items ≡ false)
 all_bytes items buffer i all fits is =
     let same : take (length items) buffer ≡ take i buffer = ap (λ n. take n buffer) all in
     let plain : items ≡ map Byte (take i buffer) ++ [] = sym (take_all i items (omega arith)) ∙ is ∙ sym (append-nil (map Byte (take i buffer))) in
     let bytes : bytes_of items ≡ take i buffer = ap bytes_of plain ∙ bytes_of-bytes (take i buffer) [] ∙ append-nil (take i buffer) in
     (bytes ∙ sym same, ap length bytes ∙ length-take-le i buffer fits ∙ sym all, ap has_end plain ∙ has_end-bytes (take i buffer) [])
+
+-- a longer front has the mark where the shorter one has it or the next symbol is it
+pub has_end-front : (items : List Symbol) (i : ℕ) (d : Symbol) → i < length items → has_end (take (suc i) items) ≡ (has_end (take i items) || is_end (get_or items i d))
+has_end-front [] i d below = absurd (omega (arith, below))
+has_end-front (Byte b ∷ items) zero d below = refl
+has_end-front (End ∷ items) zero d below = refl
+has_end-front (Byte b ∷ items) (suc i) d below = has_end-front items i d (omega (arith, below))
+has_end-front (End ∷ items) (suc i) d below = refl
+
+-- where the mark isn't among them, no symbol is it
+pub plain_at : (items : List Symbol) (i : ℕ) (d : Symbol) → i < length items → has_end items ≡ false → is_end (get_or items i d) ≡ false
+plain_at [] i d below plain = absurd (omega (arith, below))
+plain_at (End ∷ items) i d below plain = cc
+plain_at (Byte b ∷ items) zero d below plain = refl
+plain_at (Byte b ∷ items) (suc i) d below plain = plain_at items i d (omega (arith, below)) plain
+
+-- what is the mark
+pub is_mark : (s : Symbol) → is_end s ≡ true → s ≡ End
+is_mark (Byte b) is = cc
+is_mark End is = refl

@@ -4,40 +4,38 @@ use Rattle.std.proofs.lemmas.List.{length-append}
 use mathlib.Core.List.{IsPrefix as Begins}
 use Rattle.global_defs.specs.Prefix.{IsPrefix}
 use Rattle.wire_defs.specs.Links.{Sending, Receiving, SendingLooked, ReceivingLooked, KnowAll, Carries}
-use Rattle.repl_link.specs.declared.items.Item.{Item}
-use Rattle.repl_link.specs.declared.items.Item.TheVariants.{Byte, End}
-use Rattle.repl_link.specs.Items.{bytes_of, has_end}
+use Rattle.repl_link.specs.Items.{Symbol, Byte, End, bytes_of, has_end}
 use Rattle.repl_link.specs.EndLaws.{has_end-ended}
 use Rattle.repl_link.proofs.ItemLists.{has_end-append, bytes_of-taken, bytes_of-ended, bytes_of-more}
 
 -- items without an end are all bytes
-pub length-bytes_of : (items : List Item) → has_end items ≡ false → length (bytes_of items) ≡ length items
+pub length-bytes_of : (items : List Symbol) → has_end items ≡ false → length (bytes_of items) ≡ length items
 length-bytes_of [] open_end = refl
 length-bytes_of (Byte b ∷ items) open_end = ap (λ n. suc n) (length-bytes_of items open_end)
 length-bytes_of (End ∷ items) open_end = cc
 
 -- an end that learned of more items knows its unread bytes as before, and perhaps more
-pub unread_more : (ended : Bool) (known known' : List Item) → Begins known known' → IsPrefix (if ended then [] else bytes_of known) (if ended then [] else bytes_of known')
+pub unread_more : (ended : Bool) (known known' : List Symbol) → Begins known known' → IsPrefix (if ended then [] else bytes_of known) (if ended then [] else bytes_of known')
 unread_more true known known' front = ([], refl)
 unread_more false known known' front = let more = bytes_of-more known front.0 in (more.0, ap bytes_of (sym front.1) ∙ more.1)
 
 -- an end that knows the end has no more bytes to learn of
-pub unread_whole : (received known known' : List Item) (ended : Bool) → Begins known known' → has_end received ≡ ended → has_end (received ++ known) ≡ true
+pub unread_whole : (received known known' : List Symbol) (ended : Bool) → Begins known known' → has_end received ≡ ended → has_end (received ++ known) ≡ true
     → (if ended then [] else bytes_of known') ≡ (if ended then [] else bytes_of known)
 unread_whole received known known' true front is e = refl
 unread_whole received known known' false front is e = ap bytes_of (sym front.1) ∙ bytes_of-ended known front.0 (sym (has_end-append received known is) ∙ e)
 
-pub ended_more : (received known known' : List Item) → Begins known known' → has_end (received ++ known) ≡ true → has_end (received ++ known') ≡ true
+pub ended_more : (received known known' : List Symbol) → Begins known known' → has_end (received ++ known) ≡ true → has_end (received ++ known') ≡ true
 ended_more received known known' front e =
     ap (λ l. has_end (received ++ l)) (sym front.1) ∙ ap has_end (sym (append_assoc received known front.0)) ∙ has_end-ended (received ++ known) front.0 e
 
 -- once all items are known, so are all bytes
-pub all_unread : (received known sent : List Item) (ended : Bool) → has_end received ≡ ended → received ++ known ≡ sent
+pub all_unread : (received known sent : List Symbol) (ended : Bool) → has_end received ≡ ended → received ++ known ≡ sent
     → bytes_of received ++ (if ended then [] else bytes_of known) ≡ bytes_of sent
 all_unread received known sent ended is all = bytes_of-taken received known ended is ∙ ap bytes_of all
 
 -- and each place that holds no byte is free, beside that of the end
-pub all_places : (received known sent : List Item) (ended finished : Bool) (free : ℕ) → has_end received ≡ ended → has_end sent ≡ finished → received ++ known ≡ sent
+pub all_places : (received known sent : List Symbol) (ended finished : Bool) (free : ℕ) → has_end received ≡ ended → has_end sent ≡ finished → received ++ known ≡ sent
     → 4097 + length received ≤ free + length sent → finished ≡ false
     → 4096 ≤ (if finished then 0 else free - 1) + length (if ended then [] else bytes_of known)
 all_places received known sent true finished free is end all room open_end =
@@ -49,7 +47,7 @@ all_places received known sent false false free is end all room open_end =
     let parts : length received + length known ≡ length sent = sym (length-append received known) ∙ ap length all in
     omega arith
 
-pub begins_twice : (a b c : List Item) → Begins a b → Begins b c → Begins a c
+pub begins_twice : (a b c : List Symbol) → Begins a b → Begins b c → Begins a c
 begins_twice a b c first second = (first.0 ++ second.0, sym (append_assoc a first.0 second.0) ∙ ap (λ l. l ++ second.0) first.1 ∙ second.1)
 
 -- what was known before the ends looked

@@ -1,10 +1,8 @@
 -- What one call of a link in memory moves.
 use Rattle.std.proofs.Common.{◌≡◌, ℕ, ◌+◌, ◌-◌, ◌≤◌, Bool, true, false, Option, Some, None, option_map, IfSome, List, [], ◌++◌, ap, sym, refl, ◌∙◌, subst, arith, append_assoc, length, map, take, drop, if◌then◌else◌}
 use Rattle.std.proofs.lemmas.List.{length-append, length-take-le, length-map, take-append-le, take-append-drop}
-use Rattle.repl_link.specs.declared.items.Item.TheVariants.{Byte}
 use Rattle.global_defs.specs.Prefix.{IsPrefix}
-use Rattle.repl_link.specs.declared.items.Item.{Item}
-use Rattle.repl_link.specs.Items.{bytes_of, has_end, Drained}
+use Rattle.repl_link.specs.Items.{Symbol, Byte, bytes_of, has_end, Drained}
 use Rattle.repl_link.specs.EndLaws.{has_end-ended}
 use Rattle.repl_link.proofs.ItemLists.{bytes_of-append, has_end-append, bytes_of-taken, bytes_of-ended, bytes_of-more, sent_front}
 
@@ -22,7 +20,7 @@ fits_left left n most fits le x is =
     omega arith
 
 -- what a receiving end holds after it took items that hold these bytes
-pub record Pulled (before after known known' : List Item) (bytes : List ℕ) (b : Bool) : Type 0 where
+pub record Pulled (before after known known' : List Symbol) (bytes : List ℕ) (b : Bool) : Type 0 where
   pub received : bytes_of after ≡ bytes_of before ++ bytes
   pub ends : has_end after ≡ b
   pub unread : IsPrefix (bytes_of known) (bytes ++ (if b then [] else bytes_of known'))
@@ -30,7 +28,7 @@ pub record Pulled (before after known known' : List Item) (bytes : List ℕ) (b 
   pub whole : has_end (before ++ known) ≡ true → bytes ++ (if b then [] else bytes_of known') ≡ bytes_of known
   pub at_end : b ≡ true → ((if b then [] else bytes_of known') ≡ []) × (has_end (after ++ known') ≡ true)
 
-pub pulled : (before after known known' : List Item) (bytes : List ℕ) (b : Bool) → has_end before ≡ false → Drained before after known known' bytes b
+pub pulled : (before after known known' : List Symbol) (bytes : List ℕ) (b : Bool) → has_end before ≡ false → Drained before after known known' bytes b
     → Pulled before after known known' bytes b
 pulled before after known known' bytes b open_end d =
     let all : has_end after ≡ b = ap has_end d.after_is ∙ has_end-append before d.taken open_end ∙ d.ended_is in
@@ -48,19 +46,19 @@ pulled before after known known' bytes b open_end d =
     }
 
 -- what a sending end holds after it put a beginning of so many of the bytes
-pub record Pushed (before after : List Item) (bytes : List ℕ) (count n : ℕ) : Type 0 where
+pub record Pushed (before after : List Symbol) (bytes : List ℕ) (count n : ℕ) : Type 0 where
   pub fits : n ≤ count
   pub sent : bytes_of after ≡ bytes_of before ++ take n bytes
   pub ends : has_end after ≡ false
   pub length_is : length (bytes_of after) ≡ length (bytes_of before) + n
 
-pub pushed : (before after front back items : List Item) (bytes : List ℕ) (count : ℕ) → has_end before ≡ false → after ≡ before ++ front
+pub pushed : (before after front back items : List Symbol) (bytes : List ℕ) (count : ℕ) → has_end before ≡ false → after ≡ before ++ front
     → count ≤ length bytes → front ++ back ≡ take count items → take (length (take count bytes)) items ≡ map Byte (take count bytes) → Pushed before after bytes count (length front)
 pushed before after front back items bytes count open_end is fits parts filled =
     let len : length (take count bytes) ≡ count = length-take-le count bytes fits in
     let whole : front ++ back ≡ map Byte (take count bytes) = parts ∙ ap (λ n. take n items) (sym len) ∙ filled in
     let moved = sent_front before front back (take count bytes) open_end whole in
-    let mapped : length (map {A = ℕ} {B = Item} Byte (take count bytes)) ≡ length (take count bytes) = simp length-map in
+    let mapped : length (map {A = ℕ} {B = Symbol} Byte (take count bytes)) ≡ length (take count bytes) = simp length-map in
     let short : length front + length back ≡ count = sym (length-append front back) ∙ ap length whole ∙ mapped ∙ len in
     let same : take (length front) (take count bytes) ≡ take (length front) bytes =
     sym (take-append-le (length front) (take count bytes) (drop count bytes) (omega arith)) ∙ ap (λ l. take (length front) l) (take-append-drop count bytes) in

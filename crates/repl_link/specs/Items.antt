@@ -1,23 +1,40 @@
 -- The items of a ring that carries bytes and one mark of their end.
-use Rattle.std.specs.Prelude.{◌≡◌, ℕ, Bool, true, false, List, [], ◌∷◌, ◌++◌}
+use Rattle.std.specs.Prelude.{◌≡◌, ℕ, Bool, true, false, List, [], ◌∷◌, ◌++◌, nat_lt, if◌then◌else◌}
 use mathlib.Core.List.{IsPrefix}
-use Rattle.repl_link.specs.declared.items.Item.{Item}
-use Rattle.repl_link.specs.declared.items.Item.TheVariants.{Byte, End}
+
+-- what one place of a ring carries: a byte, or the mark behind the last byte
+pub data Symbol : Type 0 where
+  Byte : ℕ → Symbol
+  End : Symbol
+
+-- the number that stands for a symbol, and back
+abbrev pub symbol_of : ℕ → Symbol
+symbol_of n = if nat_lt n 256 then Byte n else End
+
+abbrev pub code_of : Symbol → ℕ
+code_of (Byte b) = b
+code_of End = 256
+
+
+-- whether a symbol is the mark
+abbrev pub is_end : Symbol → Bool
+is_end (Byte b) = false
+is_end End = true
 
 -- the bytes in front of the end
-abbrev pub bytes_of : List Item → List ℕ
+abbrev pub bytes_of : List Symbol → List ℕ
 bytes_of [] = []
 bytes_of (Byte b ∷ items) = b ∷ bytes_of items
 bytes_of (End ∷ items) = []
 
-abbrev pub has_end : List Item → Bool
+abbrev pub has_end : List Symbol → Bool
 has_end [] = false
 has_end (Byte b ∷ items) = has_end items
 has_end (End ∷ items) = true
 
 -- Items were taken out of a ring, of which some were known before: their bytes, and whether the end follows these.
-pub record Drained (before after known known' : List Item) (bytes : List ℕ) (ended : Bool) : Type 0 where
-  pub taken : List Item
+pub record Drained (before after known known' : List Symbol) (bytes : List ℕ) (ended : Bool) : Type 0 where
+  pub taken : List Symbol
   pub after_is : after ≡ before ++ taken
   pub known_first : IsPrefix known (taken ++ known')
   pub bytes_are : bytes ≡ bytes_of taken

@@ -1,15 +1,63 @@
 // What a ring carries.
-ghost use Rattle.std.specs.Prelude.{◌≡◌, ◌≤◌, length, take, map, nat_lt};
-ghost use Rattle.repl_link.specs.declared.items.Item.TheVariants.{Byte};
-ghost use Rattle.repl_link.specs.Items.{bytes_of, has_end};
+ghost use Rattle.std.specs.Prelude.{◌≡◌, ◌≤◌, ℕ, length, take, map, nat_lt, false};
+ghost use Rattle.repl_link.specs.Items.{Byte, End, bytes_of, has_end, is_end};
 
 use std::alloc::Global;
+use std::marker::Model;
 
-/// One place of a ring: a byte, or the mark behind the last byte.
-#[derive(Clone, Copy, Debug, PartialEq, Eq)]
-pub enum Item {
-    Byte(u8),
-    End,
+// The number of the mark behind the last byte.
+const END: u16 = 256;
+
+/// One place of a ring: a byte, or the mark behind the last byte. It is one number, so that many are copied at once.
+#[derive(Clone, Copy)]
+pub struct Item {
+    code: u16,
+}
+
+impl Model for Item {
+    ghost use Rattle.std.specs.Prelude.{◌≤◌};
+    ghost use Rattle.std.proofs.Common.{ap};
+    ghost use Rattle.repl_link.specs.Items.{Symbol, symbol_of, code_of};
+    ghost use Rattle.repl_link.specs.EndLaws.{code_of_symbol};
+
+    ghost Value = { Symbol };
+
+    ghost view = { λ i. symbol_of i.code };
+
+    ghost invariant = { λ i. i.code ≤ 256 };
+
+    ghost inverse = { λ s. record { code = code_of s } };
+
+    ghost inverse_ok = { λ a h. ap (λ n. record { code = n }) (code_of_symbol a.code h) };
+}
+
+impl Item {
+    // The mark behind the last byte.
+    pub(crate) fn end() -> Self
+        ensures { result ≡ End }
+    {
+        Item { code: END }
+    }
+
+    fn of(byte: u8) -> Self
+        ensures { result ≡ Byte byte }
+    {
+        Item { code: byte as u16 }
+    }
+
+    fn is_end(self) -> bool
+        ensures { result ≡ is_end self }
+    {
+        END <= self.code
+    }
+
+    // The byte, where it is one.
+    fn byte(self) -> u8
+        requires { is_end self ≡ false }
+        ensures { self ≡ Byte result }
+    {
+        (self.code & 0xff) as u8
+    }
 }
 
 /// What tells the ring of one direction from all others, as contracts see it. No value of it is made.
@@ -26,8 +74,47 @@ pub(crate) fn fill(items: &mut [Item], bytes: &[u8])
     ensures { take (length bytes.now) items.new ≡ map Byte bytes.now }
 {
     for i in 0..bytes.len() {
-        items[i] = Item::Byte(bytes[i]);
+        items[i] = Item::of(bytes[i]);
     }
+}
+
+// Whether the mark of the end is among the items. It looks at all of them, several at once.
+fn has_mark(items: &[Item]) -> bool
+    ensures { result ≡ has_end items.now }
+{
+    let mut found = false;
+    for i in 0..items.len() {
+        found |= items[i].is_end();
+    }
+    found
+}
+
+// Copies the bytes of items of which none is the mark.
+fn copy_all(items: &[Item], buffer: &mut [u8])
+    requires fits { length items.now ≤ length buffer.old }
+    requires plain { has_end items.now ≡ false }
+    ensures { take (length items.now) items.now ≡ map Byte (take (length items.now) buffer.new) }
+{
+    for i in 0..items.len() {
+        buffer[i] = items[i].byte();
+    }
+}
+
+// Copies the bytes in front of the mark, and answers how many there are.
+fn copy_front(items: &[Item], buffer: &mut [u8]) -> usize
+    requires { length items.now ≤ length buffer.old }
+    ensures bytes { take result buffer.new ≡ bytes_of items.now }
+    ensures count { result ≡ length (bytes_of items.now) }
+    ensures most { result ≤ length items.now }
+    ensures end { has_end items.now ≡ nat_lt result (length items.now) }
+{
+    for i in 0..items.len() {
+        if items[i].is_end() {
+            return i;
+        }
+        buffer[i] = items[i].byte();
+    }
+    items.len()
 }
 
 // Copies the bytes in front of the end, and answers how many there are.
@@ -38,11 +125,9 @@ pub(crate) fn copy_bytes(items: &[Item], buffer: &mut [u8]) -> usize
     ensures most { result ≤ length items.now }
     ensures end { has_end items.now ≡ nat_lt result (length items.now) }
 {
-    for i in 0..items.len() {
-        match items[i] {
-            Item::Byte(byte) => buffer[i] = byte,
-            Item::End => return i,
-        }
+    if has_mark(items) {
+        return copy_front(items, buffer);
     }
+    copy_all(items, buffer);
     items.len()
 }

@@ -65,7 +65,7 @@ impl MemRx {
         ensures nothing { result ≡ 0 → self.new.ended ≡ false → ((mem_receiving self.old).unread ≡ []) × ((mem_receiving self.old).ended ≡ false) }
     {
         let most = at_most(self.left, buffer.len().min(PIECE));
-        let mut items = [Item::End; PIECE];
+        let mut items = [Item::end(); PIECE];
         let (count, ended) = drain(&mut self.ring, &mut items[..most], buffer);
         self.ended = ended;
         self.left = less(self.left, count);

@@ -67,7 +67,7 @@ impl LinkTx for MemTx {
         }
         let wanted = at_most(self.left, bytes.len().min(PIECE));
         let count = self.room_for(wanted);
-        let mut items = [Item::End; PIECE];
+        let mut items = [Item::end(); PIECE];
         fill(&mut items, &bytes[..count]);
         let (sent, _) = self.ring.push_partial_slice(&items[..count]);
         let sent = sent.len();
@@ -77,7 +77,7 @@ impl LinkTx for MemTx {
 
     fn finish(&mut self) {
         if !self.finished {
-            self.ring.push_reserved(Item::End);
+            self.ring.push_reserved(Item::end());
             self.finished = true;
         }
     }

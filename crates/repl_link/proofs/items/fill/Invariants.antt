@@ -1,5 +1,5 @@
 use Rattle.std.proofs.Common.{◌≡◌, take, map}
-use Rattle.repl_link.specs.declared.items.Item.TheVariants.{Byte}
+use Rattle.repl_link.specs.Items.{Byte}
 use Rattle.repl_link.proofs.items.fill.Given as goal
 
 abbrev pub invariant-loop-i : goal.invariant-loop-i

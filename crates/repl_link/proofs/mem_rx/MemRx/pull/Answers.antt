@@ -1,6 +1,6 @@
 use Rattle.std.proofs.Common.{◌+◌, ◌++◌, ◌≤◌, refl, ap, sym, ◌∙◌, length, option_map, [], arith, if◌then◌else◌}
 use Rattle.std.proofs.lemmas.List.{length-append, length-take}
-use Rattle.repl_link.specs.declared.items.Item.{Item}
+use Rattle.repl_link.specs.Items.{Symbol}
 use Rattle.rtrb.specs.Ring.{received, known_items}
 use Rattle.repl_link.specs.Items.{bytes_of}
 use Rattle.repl_link.proofs.Moves.{order_stays, pulled, fits_left}
@@ -8,7 +8,7 @@ use Rattle.repl_link.proofs.mem_rx.MemRx.pull.Goals as goal
 
 pub less-self-requires : goal.less-self-requires
 less-self-requires c =
-    let count : c.drain-count.result.0 ≤ c.at_most-most.result = omega (arith, length-take {A = Item}, c.drain-count.ensures.count) in
+    let count : c.drain-count.result.0 ≤ c.at_most-most.result = omega (arith, length-take {A = Symbol}, c.drain-count.ensures.count) in
     fits_left c.args.self.now.left c.drain-count.result.0 c.at_most-most.result c.at_most-most.ensures.left count
 
 pub invariant_of-self-clause-ends : goal.invariant_of-self-clause-ends
@@ -16,7 +16,7 @@ invariant_of-self-clause-ends c = (pulled _ _ _ _ _ _ (c.args.self.now.ends ∙ 
 
 pub returns-clause-same : goal.returns-clause-same
 returns-clause-same c =
-    let count : c.drain-count.result.0 ≤ c.at_most-most.result = omega (arith, length-take {A = Item}, c.drain-count.ensures.count) in
+    let count : c.drain-count.result.0 ≤ c.at_most-most.result = omega (arith, length-take {A = Symbol}, c.drain-count.ensures.count) in
     let p = pulled _ _ _ _ _ _ (c.args.self.now.ends ∙ c.requires.open) c.drain-count.ensures.drained in
     record {
       session = refl;
