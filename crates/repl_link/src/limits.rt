@@ -3,7 +3,7 @@ ghost use Rattle.std.specs.Prelude.{◌≡◌, ◌≢◌, ◌-◌, ◌<◌, ◌�
 ghost use Rattle.std.specs.Option.{ForSome};
 
 // How many bytes one call moves at most.
-pub(crate) const PIECE: usize = 256;
+pub(crate) const PIECE: usize = 4096;
 
 // The bytes wanted, or fewer where fewer are left before a cut.
 pub(crate) fn at_most(left: Option<u64>, wanted: usize) -> usize

@@ -1,10 +1,11 @@
 // What makes links in memory.
-ghost use Rattle.std.specs.Prelude.{◌≡◌, [], ◌<◌, None, IfOk, IfErr, false};
+ghost use Rattle.std.specs.Prelude.{◌≡◌, [], ◌<◌, None, length, IfOk, IfErr, IfSome, false};
 ghost use Rattle.rtrb.specs.Ring.{sent, received, known_free, known_items};
 ghost use Rattle.wire_defs.specs.Links.{SendingLooked, ReceivingLooked, KnowAll};
 ghost use Rattle.repl_link.specs.MemEnds.{tx_line, rx_line, mem_sending, mem_receiving};
 
 use crate::items::{Item, Line};
+use crate::limits::PIECE;
 use crate::log::Log;
 use crate::mem_rx::MemRx;
 use crate::mem_tx::MemTx;
@@ -31,6 +32,13 @@ pub struct MemLinker {
     pub(crate) log: Log,
 }
 
+// Room for the items that one call moves.
+fn piece(alloc: Global) -> Option<Vec<Item>>
+    ensures { IfSome result (λ made. length made.items ≡ 4096) }
+{
+    Vec::from_slice(alloc, &[Item::end(); PIECE]).ok()
+}
+
 // A direction of a new connection.
 fn direction(alloc: Global, session: u32, connection: u64) -> Result<(MemTx, MemRx), ConnectError>
     requires { session < 8 }
@@ -47,6 +55,9 @@ fn direction(alloc: Global, session: u32, connection: u64) -> Result<(MemTx, Mem
     let Ok((producer, consumer)) = RingBuffer::new(alloc, PLACES) else {
         return Err(ConnectError::NoMemory);
     };
+    let (Some(made), Some(taken)) = (piece(alloc), piece(alloc)) else {
+        return Err(ConnectError::NoMemory);
+    };
     Ok((
         MemTx {
             session,
@@ -55,6 +66,7 @@ fn direction(alloc: Global, session: u32, connection: u64) -> Result<(MemTx, Mem
             cuts: 0,
             finished: false,
             ring: producer,
+            items: made,
         },
         MemRx {
             session,
@@ -64,6 +76,7 @@ fn direction(alloc: Global, session: u32, connection: u64) -> Result<(MemTx, Mem
             ended: false,
             closed: false,
             ring: consumer,
+            items: taken,
         },
     ))
 }

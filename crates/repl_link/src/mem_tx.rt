@@ -1,5 +1,5 @@
 // The end of a link in memory that sends.
-ghost use Rattle.std.specs.Prelude.{◌≡◌, ◌<◌, ◌≤◌, false};
+ghost use Rattle.std.specs.Prelude.{◌≡◌, ◌<◌, ◌≤◌, length, false};
 ghost use Rattle.rtrb.specs.Ring.{sent as items_sent, known_free, producer_capacity, SameProducer};
 ghost use Rattle.repl_link.specs.Items.{has_end};
 
@@ -18,7 +18,10 @@ pub struct MemTx {
     pub(crate) cuts: u64,
     pub(crate) finished: bool,
     pub(crate) ring: Producer<Item>,
+    // Where items are made that are put into the ring.
+    pub(crate) items: Vec<Item>,
     ghost places: { producer_capacity ring ≡ 4097 },
+    ghost piece: { length items.items ≡ 4096 },
     ghost session_in_range: { session < 8 },
     ghost ends: { has_end (items_sent ring) ≡ finished },
     ghost room: { finished ≡ false → 0 < known_free ring },
@@ -30,6 +33,7 @@ impl MemTx {
         requires { self.old.finished ≡ false }
         ensures same { (self.new.session ≡ self.old.session) × (self.new.connection ≡ self.old.connection) }
         ensures ring { SameProducer self.old.ring self.new.ring }
+        ensures items { self.new.items ≡ self.old.items }
         ensures counts { (self.new.left ≡ self.old.left) × (self.new.cuts ≡ self.old.cuts) × (self.new.finished ≡ self.old.finished) }
         ensures sent { items_sent self.new.ring ≡ items_sent self.old.ring }
         ensures free { known_free self.old.ring ≤ known_free self.new.ring }
@@ -67,9 +71,8 @@ impl LinkTx for MemTx {
         }
         let wanted = at_most(self.left, bytes.len().min(PIECE));
         let count = self.room_for(wanted);
-        let mut items = [Item::end(); PIECE];
-        fill(&mut items, &bytes[..count]);
-        let (sent, _) = self.ring.push_partial_slice(&items[..count]);
+        fill(&mut self.items, &bytes[..count]);
+        let (sent, _) = self.ring.push_partial_slice(&self.items[..count]);
         let sent = sent.len();
         self.left = less(self.left, sent);
         Ok(sent)
