@@ -16,6 +16,7 @@ use gvn_model::{History, Reigns};
 use repl_link::{Cut, LinkTx};
 use std::alloc::Global;
 use std::marker::Model;
+use std::mem;
 
 /// What a step did.
 #[derive(Clone, Copy, Debug, PartialEq, Eq)]
@@ -62,6 +63,8 @@ pub struct Source {
     // The frames that were made last, and how much of them was sent.
     made: Bytes,
     at: usize,
+    // Where entries are read to, so that its room is used again.
+    entry: Bytes,
 }
 
 impl Model for Source {
@@ -92,6 +95,7 @@ impl Source {
             ended: false,
             made: Bytes::new(alloc),
             at: 0,
+            entry: Bytes::new(alloc),
         })
     }
 
@@ -145,6 +149,37 @@ impl Source {
         }
     }
 
+    // Takes the next entry by way of `entry`, where it is hardened.
+    fn take_by<E: EntrySource>(
+        &mut self,
+        entries: &mut E,
+        entry: &mut Bytes,
+    ) -> Result<bool, ShipError<E::Error>>
+        requires nothing { self.old.pending ≡ [] }
+        requires few { self.old.next < 2 ^ 40 }
+        requires going { self.old.ended ≡ false }
+        ensures kept { (n : ℕ) (entry : List ℕ) → E.is_entry entries.old n entry → E.is_entry entries.new n entry }
+        ensures still { (n : ℕ) → E.ready entries.old n → E.ready entries.new n }
+        ensures taken { IfOk result (λ b. IsTrue b → (entry : List ℕ) × E.is_entry entries.new self.old.next entry
+            × (self.new ≡ record self.old { next = self.old.next + 1; first = false; pending = made_of self.old entry })) }
+        ensures not_yet { IfOk result (λ b. b ≡ false → self.new ≡ self.old) }
+        ensures ready { self.old.next < 2 ^ 40 → E.ready entries.old self.old.next → IfOk result (λ b. IsTrue b) }
+        ensures err { OnErr result (self.new ≡ self.old) }
+        ensures uncut { IsErrOf result ShipError.Cut → ⊥ }
+    {
+        match entries.read(self.next, entry) {
+            Ok(true) => match self.make(entry.as_slice()) {
+                Ok(()) => {
+                    self.pass();
+                    Ok(true)
+                }
+                Err(_) => Err(ShipError::NoMemory),
+            },
+            Ok(false) => Ok(false),
+            Err(error) => Err(ShipError::Entry(error)),
+        }
+    }
+
     // Takes the next entry, where it is hardened.
     fn take<E: EntrySource>(&mut self, entries: &mut E) -> Result<bool, ShipError<E::Error>>
         requires nothing { self.old.pending ≡ [] }
@@ -161,18 +196,10 @@ impl Source {
         if self.next == NUMBERS_END {
             return Ok(false);
         }
-        let mut entry = Bytes::new(self.made.allocator());
-        match entries.read(self.next, &mut entry) {
-            Ok(true) => match self.make(entry.as_slice()) {
-                Ok(()) => {
-                    self.pass();
-                    Ok(true)
-                }
-                Err(_) => Err(ShipError::NoMemory),
-            },
-            Ok(false) => Ok(false),
-            Err(error) => Err(ShipError::Entry(error)),
-        }
+        let mut entry = mem::replace(&mut self.entry, Bytes::new(self.made.allocator()));
+        let taken = self.take_by(entries, &mut entry);
+        self.entry = entry;
+        taken
     }
 
     // Sends what was made.
