@@ -11,3 +11,4 @@ pub mod Feeding
 pub mod Apart
 pub mod Found
 pub mod Totals
+pub mod Wholes

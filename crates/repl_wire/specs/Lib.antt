@@ -6,3 +6,4 @@ pub mod Feeds
 pub mod Layout
 pub mod Scans
 pub mod Totals
+pub mod Wholes

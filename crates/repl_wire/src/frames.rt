@@ -4,11 +4,13 @@ ghost use Rattle.wire_defs.specs.Frames as defs;
 ghost use Rattle.wire_defs.specs.Frames.{BeginsFrame, IsFrame, spelled_frame};
 ghost use Rattle.repl_wire.specs.Values.{frame_value};
 ghost use Rattle.repl_wire.specs.Feeds.{Takes, Fails, IsSpelled, IsWithin};
+ghost use Rattle.repl_wire.specs.Wholes.{IsAhead};
 
 use super::field::Scan;
 use super::frame::{Frame, FrameError, FrameList};
 use super::reading::read_frame;
 use super::run::{Ran, run};
+use super::whole::whole_entry;
 use gvn_key::NoMemory;
 use std::alloc::Global;
 use std::marker::Model;
@@ -52,6 +54,41 @@ fn frame_of(alloc: Global, bytes: &[u8]) -> Result<Frame, NoMemory>
     }
 }
 
+/// What stands at the front of bytes.
+#[derive(Debug, Drop)]
+pub enum Ahead {
+    /// A frame of so many bytes.
+    Whole(Frame, usize),
+    /// The beginning of a frame.
+    Open(Scan),
+    /// No frame begins so.
+    Bad,
+}
+
+/// What a scan from the first of these bytes finds.
+fn scanned(alloc: Global, bytes: &[u8]) -> Result<Ahead, NoMemory>
+    ensures { IfOk result (λ found. IsAhead found bytes.now) }
+{
+    match run(Scan::new(), bytes) {
+        Ran::Bad => Ok(Ahead::Bad),
+        Ran::Open(scan) => Ok(Ahead::Open(scan)),
+        Ran::Whole(count) => {
+            let (front, _) = bytes.split_at(count);
+            Ok(Ahead::Whole(frame_of(alloc, front)?, count))
+        }
+    }
+}
+
+/// What stands at the front of these bytes. They are scanned byte by byte only where no whole ENTRY stands there.
+fn look(alloc: Global, bytes: &[u8]) -> Result<Ahead, NoMemory>
+    ensures { IfOk result (λ found. IsAhead found bytes.now) }
+{
+    match whole_entry(alloc, bytes)? {
+        Some((frame, count)) => Ok(Ahead::Whole(frame, count)),
+        None => scanned(alloc, bytes),
+    }
+}
+
 /// Adds the whole frames at the front of these bytes, the first of which begins at that offset.
 fn take_frames<'a>(
     alloc: Global,
@@ -66,12 +103,11 @@ fn take_frames<'a>(
     let mut rest = bytes;
     let mut offset = offset;
     loop {
-        match run(Scan::new(), rest) {
-            Ran::Bad => return Err(FrameError::BadFrame { offset }),
-            Ran::Open(scan) => return Ok(Tail { offset, scan, rest }),
-            Ran::Whole(count) => {
-                let (front, back) = rest.split_at(count);
-                let frame = frame_of(alloc, front)?;
+        match look(alloc, rest)? {
+            Ahead::Bad => return Err(FrameError::BadFrame { offset }),
+            Ahead::Open(scan) => return Ok(Tail { offset, scan, rest }),
+            Ahead::Whole(frame, count) => {
+                let (_, back) = rest.split_at(count);
                 out.push(frame)?;
                 offset = offset.saturating_add(count as u64);
                 rest = back;
@@ -161,6 +197,22 @@ impl Frames {
         self.offset
     }
 
+    /// Takes a piece that begins where a frame does.
+    fn feed_first(&mut self, piece: &[u8], out: &mut FrameList) -> Result<(), FrameError>
+        requires none { self.old.rest ≡ [] }
+        ensures ok { OnOk result (Takes self.old.offset (self.old.rest ++ piece.now) out.old out.new self.new.offset self.new.rest) }
+        ensures partial { OnOk result (BeginsFrame self.new.rest) }
+        ensures err { IfErr result (λ e. Fails e self.old.offset (self.old.rest ++ piece.now) out.old out.new) }
+        ensures unchanged { IfErr result (λ _. self.new ≡ self.old) }
+    {
+        let alloc = *self.rest.allocator();
+        let tail = take_frames(alloc, self.offset, piece, out)?;
+        self.rest.extend_from_slice(tail.rest)?;
+        self.scan = tail.scan;
+        self.offset = tail.offset;
+        Ok(())
+    }
+
     /// Takes a piece of the stream, and adds the frames that are whole now to `out`. The bytes of a frame that isn't whole yet
     /// are kept. A bad frame is told as soon as no well-formed frame begins so, and nothing is to be fed after it.
     pub fn feed(&mut self, piece: &[u8], out: &mut FrameList) -> Result<(), FrameError>
@@ -171,6 +223,9 @@ impl Frames {
         ensures err { IfErr result (λ e. Fails e self.old.offset (self.old.rest ++ piece.now) out.old out.new) }
         ensures unchanged { IfErr result (λ _. self.new ≡ self.old) }
     {
+        if self.rest.is_empty() {
+            return self.feed_first(piece, out);
+        }
         match run(self.scan, piece) {
             Ran::Bad => Err(FrameError::BadFrame {
                 offset: self.offset,

@@ -12,6 +12,7 @@ mod measuring;
 mod reading;
 mod run;
 mod scan;
+mod whole;
 mod writing;
 
 pub use frame::{Frame, FrameError, FrameList};

@@ -64,7 +64,7 @@ fn read_reigns(alloc: Global, count: u32, bytes: &[u8]) -> Result<Option<Reigns>
 fn read_updates(alloc: Global, count: u16, bytes: &[u8]) -> Result<Option<Updates>, NoMemory>
     ensures { IfOk result (λ found. (us : List entries.Update) → AllByRecursion IsUpdate us → length us ≡ count → bytes.now ≡ flat_map spelled_update us → found ≡ Some us) }
 {
-    let mut updates = Updates::new(alloc);
+    let mut updates = Updates::with_capacity(alloc, usize::from(count))?;
     let mut rest = bytes;
     for _ in 0..count {
         let Some((update, behind)) = read_update(alloc, rest)? else {

@@ -1,0 +1,105 @@
+//! An ENTRY that is whole in the bytes at hand, read at once: its head tells its length, so no byte is looked at before.
+ghost use Rattle.std.specs.Prelude.{◌≡◌, ◌<◌, ◌≤◌, ◌^◌, length, IfOk, IfSome, IsTrue};
+ghost use Rattle.repl_wire.specs.Values.{frame_value};
+ghost use Rattle.repl_wire.specs.Wholes.{StandBefore, IsEntryOf, StandsFirst};
+
+use super::frame::Frame;
+use gvn_key::NoMemory;
+use gvn_model::{Origin, Transaction, Updates};
+use repl_fields::{read_u8, read_u16, read_u32, read_u64, read_update};
+use std::alloc::Global;
+
+/// The last number of 40 bits.
+const LAST: u64 = 0xff_ffff_ffff;
+
+/// How many bytes a frame's body may have.
+const LONGEST_BODY: u32 = 1_048_576;
+
+/// How many bytes stand before a frame's body.
+const HEAD: usize = 5;
+
+/// So many updates at the front, and what follows them.
+fn updates_first(
+    alloc: Global,
+    count: u16,
+    bytes: &[u8],
+) -> Result<Option<(Updates, &[u8])>, NoMemory>
+    ensures count { IfOk result (λ found. IfSome found (λ p. length p.0 ≡ count)) }
+    ensures stand { IfOk result (λ found. IfSome found (λ p. StandBefore p.0 bytes.now p.1.now)) }
+{
+    let mut updates = Updates::with_capacity(alloc, usize::from(count))?;
+    let mut rest = bytes;
+    for _ in 0..count {
+        let Some((update, behind)) = read_update(alloc, rest)? else {
+            return Ok(None);
+        };
+        updates.push(update)?;
+        rest = behind;
+    }
+    Ok(Some((updates, rest)))
+}
+
+/// Whether an entry may have this number, this origin and so many updates.
+fn may_head(number: u64, updater: u8, serial: u32, count: u16) -> bool
+    ensures number { IsTrue result → (1 ≤ number) × (number < 2 ^ 40) }
+    ensures updater { IsTrue result → (1 ≤ updater) × (updater ≤ 64) }
+    ensures serial { IsTrue result → (1 ≤ serial) × (serial < 2 ^ 32) }
+    ensures count { IsTrue result → (1 ≤ count) × (count ≤ 256) }
+{
+    1 <= number
+        && number <= LAST
+        && 1 <= updater
+        && updater <= 64
+        && 1 <= serial
+        && 1 <= count
+        && count <= 256
+}
+
+/// The ENTRY whose body these bytes are, if they are one's.
+fn entry_of(alloc: Global, bytes: &[u8]) -> Result<Option<Frame>, NoMemory>
+    ensures { IfOk result (λ found. IfSome found (λ frame. IsEntryOf (frame_value frame) bytes.now)) }
+{
+    let Some((number, rest)) = read_u64(bytes) else {
+        return Ok(None);
+    };
+    let Some((updater, rest)) = read_u8(rest) else {
+        return Ok(None);
+    };
+    let Some((serial, rest)) = read_u32(rest) else {
+        return Ok(None);
+    };
+    let Some((count, rest)) = read_u16(rest) else {
+        return Ok(None);
+    };
+    if !may_head(number, updater, serial, count) {
+        return Ok(None);
+    }
+    let Some((updates, rest)) = updates_first(alloc, count, rest)? else {
+        return Ok(None);
+    };
+    if rest.len() > 0 {
+        return Ok(None);
+    }
+    let origin = Origin { updater, serial };
+    Ok(Some(Frame::Entry(number, Transaction { origin, updates })))
+}
+
+/// The ENTRY at the front and how many bytes it has, where all of them are there and are one's. It tells nothing of other bytes.
+pub fn whole_entry(alloc: Global, bytes: &[u8]) -> Result<Option<(Frame, usize)>, NoMemory>
+    ensures { IfOk result (λ found. IfSome found (λ p. StandsFirst (frame_value p.0) p.1 bytes.now)) }
+{
+    let Some((kind, rest)) = read_u8(bytes) else {
+        return Ok(None);
+    };
+    let Some((length, rest)) = read_u32(rest) else {
+        return Ok(None);
+    };
+    if kind != 5 || LONGEST_BODY < length || rest.len() < length as usize {
+        return Ok(None);
+    }
+    let (body, _) = rest.split_at(length as usize);
+    match entry_of(alloc, body)? {
+        None => Ok(None),
+        Some(frame) => Ok(Some((frame, HEAD + body.len()))),
+    }
+}
