@@ -15,7 +15,6 @@ abbrev pub code_of : Symbol → ℕ
 code_of (Byte b) = b
 code_of End = 256
 
-
 -- whether a symbol is the mark
 abbrev pub is_end : Symbol → Bool
 is_end (Byte b) = false
