@@ -13,14 +13,16 @@ use Rattle.global_defs.specs.Jobs.{Job, Answers}
 use Rattle.global_defs.specs.Evaluation.{Evaluated, Done, eval}
 use Rattle.global_defs.specs.Evaluation as evaluation
 use Rattle.global_defs.specs.Serial.{Turn, Replied, Reply, Seq, Read, RolledBack, first_of, next_job, without_next, picked, decided, replied, begun, MOST_ENTRIES}
-use Rattle.site_defs.specs.Contents.{Contents}
+use Rattle.site_defs.specs.Contents.{Contents, Standing}
+use Rattle.site_defs.specs.Behind.{IsFrontLeft, IsSiteWith}
 use Rattle.site_defs.specs.Fronts.{with_sequence, IsFrontOf, turn_of}
 use Rattle.site_defs.specs.Stands.{IsSite}
 use Rattle.site_defs.specs.Texts.{reply_line, is_past, printed}
 use Rattle.repl_section.specs.declared.reign.Reign.{Reign}
 use Rattle.repl_section.specs.Reigns.{Reigns, stamp_in, stamp_of}
-use Rattle.repl_section.proofs.Standing.{told_there, all_stand}
-use Rattle.repl_section.specs.Deciding.{outcome, HasCome, Appends, MayHave, HasReached, MayHaveFront, FailsBy, FailsAt, FailsIn, MayLeave}
+use Rattle.site_store.proofs.Parts.{bare_front}
+use Rattle.repl_section.proofs.Standing.{told_there, all_stand, all_bare}
+use Rattle.repl_section.specs.Deciding.{outcome, HasCome, Appends, MayHave, HasReached, MayHaveFront, FailsBy, FailsAt, FailsIn, LeftAfter, MayLeave, StandsLeft, LeavesPick, LeavesFront}
 
 -- a turn with one more pick
 abbrev pub with_pick : Turn → ℕ → Turn → Turn
@@ -160,6 +162,12 @@ old_front : (seq : Sequence) (p : Turn) (c : Contents) → Appends seq p → IsF
 old_front seq p c a = subst (λ (x : Sequence). IsFrontOf x (length seq) c (with_sequence c seq)) (sym a.sequence)
     (record { count = length seq; least = omega arith; most = omega (arith, longer seq a.entry); is = ap (with_sequence c) (sym (take-append_seam seq (a.entry ∷ []))) })
 
+-- a front of other contents with the same instance file
+over_other : (all seq : Sequence) (c : Contents) (o : Standing) → IsFrontLeft all (length seq) (with_sequence c seq) o → IsFrontLeft all (length seq) c o
+over_other all seq c o left =
+    let front = left.front in
+    record { front = record { count = front.count; least = front.least; most = front.most; is = front.is }; kept = left.kept; broken = left.broken }
+
 -- what stands where the entry of a pick may stand or not
 failed_front : (w : View) (told : Bool) (c : Contents) (seq : Sequence) (p : Turn) → Appends seq p → (IsTrue told → MayHave w (with_sequence c seq) p.sequence) → MayHaveFront w told c p.sequence (length seq)
 failed_front w told c seq p a may = record { told = λ k. (may k).told; images = λ k files now. by_image files ((may k).images files now) }
@@ -167,6 +175,13 @@ failed_front w told c seq p a may = record { told = λ k. (may k).told; images =
     by_image : (files : Files) → IsSite files (with_sequence c seq) ⊎ IsSite files (with_sequence c p.sequence) → (x : Contents) × IsFrontOf p.sequence (length seq) c x × IsSite files x
     by_image files (inl s) = (with_sequence c seq, old_front seq p c a, s)
     by_image files (inr s) = (with_sequence c p.sequence, all_front p.sequence c (length seq) (omega (arith, ap (λ (x : Sequence). length x) a.sequence, longer seq a.entry)), s)
+
+failed_left : (w : View) (c : Contents) (seq : Sequence) (p : Turn) → Appends seq p → LeavesPick w (with_sequence c seq) p.sequence → LeavesFront w c p.sequence (length seq)
+failed_left w c seq p a may files now = by_image files (may files now)
+  where
+    by_image : (files : Files) → StandsLeft (with_sequence c seq) p.sequence files → (o : Standing) × IsFrontLeft p.sequence (length seq) c o × IsSiteWith files o
+    by_image files (inl s) = (record { contents = with_sequence c seq; broken = [] }, bare_front p.sequence (length seq) c (with_sequence c seq) (old_front seq p c a), record { site = s.0; left = s.1 })
+    by_image files (inr q) = (q.0, over_other p.sequence seq c q.0 q.1, q.2)
 
 failed_by : (v w : View) (stamp : Stamp) (told : Bool) (c : Contents) (t p : Turn) (u : ℕ) (left : List (List Job)) (undecided all : ℕ) (r1 : Reign) (t0 t1 : List ℕ)
     → HasGone v stamp told c t left undecided all r1 t0 t1 → Appends t.sequence p → (IsTrue told → MayHave w (with_sequence c t.sequence) p.sequence)
@@ -237,8 +252,9 @@ pub failed_in : (v w : View) (stamp : Stamp) (told : Bool) (c : Contents) (seria
     → HasGone v stamp told c (come_to stamp serials jobs order i c.sequence) left undecided (length order) r1 t0 t1 → i < length order → u ≡ get_or order i 0 → next_job u left ≡ Some job
     → Appends (come_to stamp serials jobs order i c.sequence).sequence (pick_at stamp serials jobs order i c r1 u job)
     → (IsTrue told → MayHave w (with_sequence c (come_to stamp serials jobs order i c.sequence).sequence) (pick_at stamp serials jobs order i c r1 u job).sequence)
+    → (IsTrue told → LeavesPick w (with_sequence c (come_to stamp serials jobs order i c.sequence).sequence) (pick_at stamp serials jobs order i c r1 u job).sequence)
     → FailsIn w stamp told c jobs order serials undecided t0 t1
-failed_in v w stamp told c serials jobs left order i u job undecided r1 t0 t1 h inside is next a may =
+failed_in v w stamp told c serials jobs left order i u job undecided r1 t0 t1 h inside is next a may leaves =
     let t = come_to stamp serials jobs order i c.sequence in
     record {
       decided = i;
@@ -247,18 +263,47 @@ failed_in v w stamp told c serials jobs left order i u job undecided r1 t0 t1 h 
       text = h.reached.text;
       front = subst (λ (x : Turn). MayHaveFront w told c x.sequence (length t.sequence)) (sym (next_turn v stamp told c serials jobs left order i u job undecided r1 t0 t1 h inside is next))
           (failed_front w told c t.sequence (pick_at stamp serials jobs order i c r1 u job) a may);
+      left = λ k. subst (λ (x : Turn). LeavesFront w c x.sequence (length t.sequence)) (sym (next_turn v stamp told c serials jobs left order i u job undecided r1 t0 t1 h inside is next))
+          (failed_left w c t.sequence (pick_at stamp serials jobs order i c r1 u job) a (leaves k));
     }
 
 -- the pick was cut off
 pub left_at : (v w : View) (stamp : Stamp) (told : Bool) (c : Contents) (serials : List ℕ) (jobs left : List (List Job)) (order : List ℕ) (i u : ℕ) (job : Job) (undecided : ℕ) (r1 : Reign) (t0 t1 : List ℕ)
     → HasGone v stamp told c (come_to stamp serials jobs order i c.sequence) left undecided (length order) r1 t0 t1 → i < length order → u ≡ get_or order i 0 → next_job u left ≡ Some job
     → (IsTrue told → MayHave w (with_sequence c (come_to stamp serials jobs order i c.sequence).sequence) (pick_at stamp serials jobs order i c r1 u job).sequence)
+    → (IsTrue told → LeavesPick w (with_sequence c (come_to stamp serials jobs order i c.sequence).sequence) (pick_at stamp serials jobs order i c r1 u job).sequence)
     → MayLeave w stamp told c jobs order serials
-left_at v w stamp told c serials jobs left order i u job undecided r1 t0 t1 h inside is next may = record {
+left_at v w stamp told c serials jobs left order i u job undecided r1 t0 t1 h inside is next may leaves = record {
   told = λ k. (may k).told;
   images = λ k files now. by_image files ((may k).images files now);
+  left = λ k files now. by_left files (leaves k files now);
 }
   where
+    by_left : (files : Files) → StandsLeft (with_sequence c (come_to stamp serials jobs order i c.sequence).sequence) (pick_at stamp serials jobs order i c r1 u job).sequence files → LeftAfter stamp c jobs order serials files
+    by_left files (inl s) =
+        let t = come_to stamp serials jobs order i c.sequence in
+        record {
+          decided = i;
+          begun = i;
+          no_fewer = omega arith;
+          at_most_one = omega arith;
+          standing = record { contents = with_sequence c t.sequence; broken = [] };
+          front = bare_front t.sequence (length t.sequence) c (with_sequence c t.sequence) (all_front t.sequence c (length t.sequence) (omega arith));
+          stands = record { site = s.0; left = s.1 };
+        }
+    by_left files (inr q) =
+        let t = come_to stamp serials jobs order i c.sequence in
+        let p = pick_at stamp serials jobs order i c r1 u job in
+        record {
+          decided = i;
+          begun = i + 1;
+          no_fewer = omega arith;
+          at_most_one = omega arith;
+          standing = q.0;
+          front = subst (λ (x : Turn). IsFrontLeft x.sequence (length t.sequence) c q.0) (sym (next_turn v stamp told c serials jobs left order i u job undecided r1 t0 t1 h inside is next)) (over_other p.sequence t.sequence c q.0 q.1);
+          stands = q.2;
+        }
+
     by_image : (files : Files) → IsSite files (with_sequence c (come_to stamp serials jobs order i c.sequence).sequence) ⊎ IsSite files (with_sequence c (pick_at stamp serials jobs order i c r1 u job).sequence)
         → (x : Contents) × ((n : ℕ) × IsFrontOf (come_to stamp serials jobs order n c.sequence).sequence (length c.sequence) c x) × IsSite files x
     by_image files (inl s) =
@@ -282,4 +327,13 @@ pub none_left : (v : View) (told : Bool) (c : Contents) (jobs : List (List Job))
 none_left v told c jobs order r h = record {
   told = told_there v told c r h;
   images = λ k files now. (with_sequence c c.sequence, (0, all_front c.sequence c (length c.sequence) (omega arith)), all_stand v told c r h k files now);
+  left = λ k files now. record {
+    decided = 0;
+    begun = 0;
+    no_fewer = omega arith;
+    at_most_one = omega arith;
+    standing = record { contents = with_sequence c c.sequence; broken = [] };
+    front = bare_front c.sequence (length c.sequence) c (with_sequence c c.sequence) (all_front c.sequence c (length c.sequence) (omega arith));
+    stands = record { site = all_stand v told c r h k files now; left = all_bare v told c r h k files now };
+  };
 }

@@ -45,6 +45,7 @@ use Rattle.site_store.proofs.Standing.{images_stand, reads_of, reads_so, told_of
 use Rattle.site_store.proofs.Images.{same_image, reign_image, generation_kept, patterns_kept, name_kept, regions_kept, AreOf, are_of, site_of, is_created, texts_same}
 use Rattle.site_store.proofs.Frames as frames
 use Rattle.site_store.proofs.Remembered.{remembered_length}
+use Rattle.site_store.proofs.Parts.{no_entry_no_part}
 
 -- limits
 filter_all : (n : ℕ) (rs : List Reign) → AllByRecursion (λ (r : Reign). r.start ≤ n) rs → length (filter (λ (r : Reign). nat_le r.start n) rs) ≡ length rs
@@ -268,6 +269,7 @@ module _ (v w : View) (c : Contents) (old new : OpenSite) (k : Keeps v c (length
     waiting = k.waiting;
     are_waiting = subst (λ (ps : List (ℕ → Option Part)). AreEntries (c.instance ++ Reigned (reign_of c) ∷ []) (suc k.g) (length c.sequence) ps (drop (length c.sequence) c.sequence)) (sym nothing_waits)
         (subst (AreEntries (c.instance ++ Reigned (reign_of c) ∷ []) (suc k.g) (length c.sequence) []) (sym (drop-length c.sequence)) tt);
+    are_parts = nothing_waits ∙ no_entry_no_part (patterns (c.instance ++ Reigned (reign_of c) ∷ [])) c.sequence;
     in_regions = subst (λ (n : ℕ). AreInside n k.waiting) (sym count) k.in_regions;
     at_home = λ r low. subst (λ (ps : List (ℕ → Option Part)). AllByRecursion (λ (p : Placed). IsAtHome (c.instance ++ Reigned (reign_of c) ∷ []) r p.generation p.what) (appended (suc k.g) ps r)) (sym nothing_waits) tt;
     instance_file = has;
@@ -332,6 +334,7 @@ open_kept v w told c h old new lawful ready stays unwritten state records entrie
         no_epoch_past = k.no_epoch_past;
         waiting = k.waiting;
         are_waiting = k.are_waiting;
+        are_parts = k.are_parts;
         in_regions = k.in_regions;
         at_home = k.at_home;
         instance_file = state c.instance k.instance_file;

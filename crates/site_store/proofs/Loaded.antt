@@ -15,6 +15,7 @@ use Rattle.global_defs.specs.Fields.{IsSiteName}
 use Rattle.gvn_model.specs.Entries.{entry_value}
 use Rattle.gvn_model.specs.declared.entry.Entry.{Entry}
 use Rattle.journal_defs.specs.Instance.{InstanceRecord, Create, Reigned, Cut, Map, Mode, IsInForm, BeginsWithCreate, generation, regions, site_name}
+use Rattle.journal_defs.specs.Directory.{patterns}
 use Rattle.journal_defs.specs.Surviving.{reigns}
 use Rattle.journal_defs.specs.Sequence.{Placed, Records, IsSequence}
 use Rattle.journal_defs.specs.Growth.{AreEntries}
@@ -45,6 +46,7 @@ use Rattle.gvn_model.specs.Numbered.{numbered}
 use Rattle.site_store.specs.Opening.{MayBeOpen, EachStands, AreTextsDurable}
 use Rattle.site_store.proofs.Found.{instance_one, blank_instance}
 use Rattle.site_store.proofs.Drawn.{S, C, text, newest_is, same_regions, site_read, left_read, site_either, site_begun, newest_whole, texts_kept}
+use Rattle.site_store.proofs.Parts.{no_entry_no_part}
 
 pub length_values : (es : List Entry) → length (map entry_value es) ≡ length es
 length_values [] = refl
@@ -293,6 +295,7 @@ module _ (u v w : View) (rs : List InstanceRecord) (last : ℕ → ℕ) (journal
             no_epoch_past = λ q below. keeping.no_epoch_past S0 (length seq) last (drawing.before files S0 (generation rs + 1) here.held (omega arith)) (length (regions rs)) q;
             waiting = [];
             are_waiting = subst (λ (es : Sequence). AreEntries (rs ++ next_cut rs (length seq) ∷ []) (suc (generation rs)) (length seq) [] es) (sym (drop-length seq)) tt;
+            are_parts = no_entry_no_part (patterns (rs ++ next_cut rs (length seq) ∷ [])) seq;
             in_regions = tt;
             at_home = λ q below. tt;
             instance_file = instance;
