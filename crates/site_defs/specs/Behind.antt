@@ -41,7 +41,13 @@ pub record IsFrontLeft (all : Sequence) (low : ℕ) (c : Contents) (o : Standing
   pub kept : ℕ → ℕ
   pub broken : o.broken ≡ text_left c all low kept (length o.contents.sequence)
 
--- The files of a site stand for this, with that text behind it, and nothing of the next one is written down.
+-- The files of a site stand for this, with that text behind it; the next broken-transaction file may have bytes.
+pub record IsStanding (files : Files) (o : Standing) : Type 0 where
+  pub site : IsSite files o.contents
+  pub torn : List ℕ
+  pub left : HasLeft files o.contents (record { broken = o.broken; torn = torn })
+
+-- so it is, and the next broken-transaction file has no byte
 pub record IsSiteWith (files : Files) (o : Standing) : Type 0 where
   pub site : IsSite files o.contents
   pub left : HasLeft files o.contents (record { broken = o.broken; torn = [] })

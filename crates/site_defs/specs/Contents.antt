@@ -44,3 +44,7 @@ NO_LEFTOVER = record { broken = []; torn = [] }
 pub record Standing : Type 0 where
   pub contents : Contents
   pub broken : List ℕ
+
+-- nothing lies behind these
+abbrev pub bare : Contents → Standing
+bare c = record { contents = c; broken = [] }
