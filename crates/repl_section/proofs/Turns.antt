@@ -13,8 +13,8 @@ use Rattle.global_defs.specs.Jobs.{Job, Answers}
 use Rattle.global_defs.specs.Evaluation.{Evaluated, Done, eval}
 use Rattle.global_defs.specs.Evaluation as evaluation
 use Rattle.global_defs.specs.Serial.{Turn, Replied, Reply, Seq, Read, RolledBack, first_of, next_job, without_next, picked, decided, replied, begun, MOST_ENTRIES}
-use Rattle.site_defs.specs.Contents.{Contents, Standing}
-use Rattle.site_defs.specs.Behind.{IsFrontLeft, IsSiteWith}
+use Rattle.site_defs.specs.Contents.{Contents, Standing, bare}
+use Rattle.site_defs.specs.Behind.{IsFrontLeft}
 use Rattle.site_defs.specs.Fronts.{with_sequence, IsFrontOf, turn_of}
 use Rattle.site_defs.specs.Stands.{IsSite}
 use Rattle.site_defs.specs.Texts.{reply_line, is_past, printed}
@@ -22,7 +22,7 @@ use Rattle.repl_section.specs.declared.reign.Reign.{Reign}
 use Rattle.repl_section.specs.Reigns.{Reigns, stamp_in, stamp_of}
 use Rattle.site_store.proofs.Parts.{bare_front}
 use Rattle.repl_section.proofs.Standing.{told_there, all_stand, all_bare}
-use Rattle.repl_section.specs.Deciding.{outcome, HasCome, Appends, MayHave, HasReached, MayHaveFront, FailsBy, FailsAt, FailsIn, LeftAfter, MayLeave, StandsLeft, LeavesPick, LeavesFront}
+use Rattle.repl_section.specs.Deciding.{outcome, HasCome, Appends, MayHave, HasReached, MayHaveFront, FailsBy, FailsAt, FailsIn, LeftAfter, MayLeave, StandsLeft, LeavesPick}
 
 -- a turn with one more pick
 abbrev pub with_pick : Turn → ℕ → Turn → Turn
@@ -166,7 +166,7 @@ old_front seq p c a = subst (λ (x : Sequence). IsFrontOf x (length seq) c (with
 over_other : (all seq : Sequence) (c : Contents) (o : Standing) → IsFrontLeft all (length seq) (with_sequence c seq) o → IsFrontLeft all (length seq) c o
 over_other all seq c o left =
     let front = left.front in
-    record { front = record { count = front.count; least = front.least; most = front.most; is = front.is }; kept = left.kept; broken = left.broken }
+    record { front = record { count = front.count; least = front.least; most = front.most; is = front.is }; kept = left.kept; broken = left.broken; lacks = left.lacks }
 
 -- what stands where the entry of a pick may stand or not
 failed_front : (w : View) (told : Bool) (c : Contents) (seq : Sequence) (p : Turn) → Appends seq p → (IsTrue told → MayHave w (with_sequence c seq) p.sequence) → MayHaveFront w told c p.sequence (length seq)
@@ -175,13 +175,6 @@ failed_front w told c seq p a may = record { told = λ k. (may k).told; images =
     by_image : (files : Files) → IsSite files (with_sequence c seq) ⊎ IsSite files (with_sequence c p.sequence) → (x : Contents) × IsFrontOf p.sequence (length seq) c x × IsSite files x
     by_image files (inl s) = (with_sequence c seq, old_front seq p c a, s)
     by_image files (inr s) = (with_sequence c p.sequence, all_front p.sequence c (length seq) (omega (arith, ap (λ (x : Sequence). length x) a.sequence, longer seq a.entry)), s)
-
-failed_left : (w : View) (c : Contents) (seq : Sequence) (p : Turn) → Appends seq p → LeavesPick w (with_sequence c seq) p.sequence → LeavesFront w c p.sequence (length seq)
-failed_left w c seq p a may files now = by_image files (may files now)
-  where
-    by_image : (files : Files) → StandsLeft (with_sequence c seq) p.sequence files → (o : Standing) × IsFrontLeft p.sequence (length seq) c o × IsSiteWith files o
-    by_image files (inl s) = (record { contents = with_sequence c seq; broken = [] }, bare_front p.sequence (length seq) c (with_sequence c seq) (old_front seq p c a), record { site = s.0; left = s.1 })
-    by_image files (inr q) = (q.0, over_other p.sequence seq c q.0 q.1, q.2)
 
 failed_by : (v w : View) (stamp : Stamp) (told : Bool) (c : Contents) (t p : Turn) (u : ℕ) (left : List (List Job)) (undecided all : ℕ) (r1 : Reign) (t0 t1 : List ℕ)
     → HasGone v stamp told c t left undecided all r1 t0 t1 → Appends t.sequence p → (IsTrue told → MayHave w (with_sequence c t.sequence) p.sequence)
@@ -247,6 +240,25 @@ failed_at v w stamp told c serials jobs left order i u job undecided r1 t0 t1 h 
     subst (λ (x : Turn). FailsBy w told c x (length order) undecided t0 t1) (sym (next_turn v stamp told c serials jobs left order i u job undecided r1 t0 t1 h inside is next))
     (failed_by v w stamp told c (come_to stamp serials jobs order i c.sequence) (pick_at stamp serials jobs order i c r1 u job) u left undecided (length order) r1 t0 t1 h a may)
 
+-- what it left, with what lies behind that
+left_after : (v : View) (stamp : Stamp) (told : Bool) (c : Contents) (serials : List ℕ) (jobs left : List (List Job)) (order : List ℕ) (i u : ℕ) (job : Job) (undecided : ℕ) (r1 : Reign) (t0 t1 : List ℕ)
+    → HasGone v stamp told c (come_to stamp serials jobs order i c.sequence) left undecided (length order) r1 t0 t1 → i < length order → u ≡ get_or order i 0 → next_job u left ≡ Some job
+    → (files : Files) → StandsLeft (with_sequence c (come_to stamp serials jobs order i c.sequence).sequence) (pick_at stamp serials jobs order i c r1 u job).sequence files → LeftAfter stamp c jobs order serials i files
+left_after v stamp told c serials jobs left order i u job undecided r1 t0 t1 h inside is next files (inl stands) =
+    let t = come_to stamp serials jobs order i c.sequence in
+    record { begun = i; no_fewer = omega arith; at_most_one = omega arith; standing = bare (with_sequence c t.sequence); front = bare_front t.sequence (length t.sequence) c (omega arith); stands = stands }
+left_after v stamp told c serials jobs left order i u job undecided r1 t0 t1 h inside is next files (inr q) =
+    let t = come_to stamp serials jobs order i c.sequence in
+    let p = pick_at stamp serials jobs order i c r1 u job in
+    record {
+      begun = i + 1;
+      no_fewer = omega arith;
+      at_most_one = omega arith;
+      standing = q.0;
+      front = subst (λ (x : Turn). IsFrontLeft x.sequence (length t.sequence) c q.0) (sym (next_turn v stamp told c serials jobs left order i u job undecided r1 t0 t1 h inside is next)) (over_other p.sequence t.sequence c q.0 q.1);
+      stands = q.2;
+    }
+
 -- and the picks before it have their replies
 pub failed_in : (v w : View) (stamp : Stamp) (told : Bool) (c : Contents) (serials : List ℕ) (jobs left : List (List Job)) (order : List ℕ) (i u : ℕ) (job : Job) (undecided : ℕ) (r1 : Reign) (t0 t1 : List ℕ)
     → HasGone v stamp told c (come_to stamp serials jobs order i c.sequence) left undecided (length order) r1 t0 t1 → i < length order → u ≡ get_or order i 0 → next_job u left ≡ Some job
@@ -263,8 +275,7 @@ failed_in v w stamp told c serials jobs left order i u job undecided r1 t0 t1 h 
       text = h.reached.text;
       front = subst (λ (x : Turn). MayHaveFront w told c x.sequence (length t.sequence)) (sym (next_turn v stamp told c serials jobs left order i u job undecided r1 t0 t1 h inside is next))
           (failed_front w told c t.sequence (pick_at stamp serials jobs order i c r1 u job) a may);
-      left = λ k. subst (λ (x : Turn). LeavesFront w c x.sequence (length t.sequence)) (sym (next_turn v stamp told c serials jobs left order i u job undecided r1 t0 t1 h inside is next))
-          (failed_left w c t.sequence (pick_at stamp serials jobs order i c r1 u job) a (leaves k));
+      left = λ k files now. left_after v stamp told c serials jobs left order i u job undecided r1 t0 t1 h inside is next files (leaves k files now);
     }
 
 -- the pick was cut off
@@ -276,34 +287,9 @@ pub left_at : (v w : View) (stamp : Stamp) (told : Bool) (c : Contents) (serials
 left_at v w stamp told c serials jobs left order i u job undecided r1 t0 t1 h inside is next may leaves = record {
   told = λ k. (may k).told;
   images = λ k files now. by_image files ((may k).images files now);
-  left = λ k files now. by_left files (leaves k files now);
+  left = λ k files now. (i, left_after v stamp told c serials jobs left order i u job undecided r1 t0 t1 h inside is next files (leaves k files now));
 }
   where
-    by_left : (files : Files) → StandsLeft (with_sequence c (come_to stamp serials jobs order i c.sequence).sequence) (pick_at stamp serials jobs order i c r1 u job).sequence files → LeftAfter stamp c jobs order serials files
-    by_left files (inl s) =
-        let t = come_to stamp serials jobs order i c.sequence in
-        record {
-          decided = i;
-          begun = i;
-          no_fewer = omega arith;
-          at_most_one = omega arith;
-          standing = record { contents = with_sequence c t.sequence; broken = [] };
-          front = bare_front t.sequence (length t.sequence) c (with_sequence c t.sequence) (all_front t.sequence c (length t.sequence) (omega arith));
-          stands = record { site = s.0; left = s.1 };
-        }
-    by_left files (inr q) =
-        let t = come_to stamp serials jobs order i c.sequence in
-        let p = pick_at stamp serials jobs order i c r1 u job in
-        record {
-          decided = i;
-          begun = i + 1;
-          no_fewer = omega arith;
-          at_most_one = omega arith;
-          standing = q.0;
-          front = subst (λ (x : Turn). IsFrontLeft x.sequence (length t.sequence) c q.0) (sym (next_turn v stamp told c serials jobs left order i u job undecided r1 t0 t1 h inside is next)) (over_other p.sequence t.sequence c q.0 q.1);
-          stands = q.2;
-        }
-
     by_image : (files : Files) → IsSite files (with_sequence c (come_to stamp serials jobs order i c.sequence).sequence) ⊎ IsSite files (with_sequence c (pick_at stamp serials jobs order i c r1 u job).sequence)
         → (x : Contents) × ((n : ℕ) × IsFrontOf (come_to stamp serials jobs order n c.sequence).sequence (length c.sequence) c x) × IsSite files x
     by_image files (inl s) =
@@ -327,13 +313,12 @@ pub none_left : (v : View) (told : Bool) (c : Contents) (jobs : List (List Job))
 none_left v told c jobs order r h = record {
   told = told_there v told c r h;
   images = λ k files now. (with_sequence c c.sequence, (0, all_front c.sequence c (length c.sequence) (omega arith)), all_stand v told c r h k files now);
-  left = λ k files now. record {
-    decided = 0;
+  left = λ k files now. (0, record {
     begun = 0;
     no_fewer = omega arith;
     at_most_one = omega arith;
-    standing = record { contents = with_sequence c c.sequence; broken = [] };
-    front = bare_front c.sequence (length c.sequence) c (with_sequence c c.sequence) (all_front c.sequence c (length c.sequence) (omega arith));
+    standing = bare (with_sequence c c.sequence);
+    front = bare_front c.sequence (length c.sequence) c (omega arith);
     stands = record { site = all_stand v told c r h k files now; left = all_bare v told c r h k files now };
-  };
+  });
 }

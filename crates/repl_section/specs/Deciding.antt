@@ -7,9 +7,9 @@ use Rattle.global_defs.specs.Jobs.{Job}
 use Rattle.global_defs.specs.Evaluation.{Evaluated}
 use Rattle.global_defs.specs.Evaluation as evaluation
 use Rattle.global_defs.specs.Serial.{Turn, Replied, decided, begun}
-use Rattle.site_defs.specs.Contents.{Contents, Standing, NO_LEFTOVER}
+use Rattle.site_defs.specs.Contents.{Contents, Standing, bare}
 use Rattle.site_defs.specs.Fronts.{with_sequence, IsFrontOf, turn_of}
-use Rattle.site_defs.specs.Stands.{IsSite, HasLeft}
+use Rattle.site_defs.specs.Stands.{IsSite}
 use Rattle.site_defs.specs.Behind.{IsFrontLeft, IsSiteWith}
 use Rattle.site_defs.specs.Texts.{reply_line, is_past, printed}
 use Rattle.site_store.specs.Site.{HasRoomFor}
@@ -34,7 +34,7 @@ pub record MayHave (v : View) (c : Contents) (after : Sequence) : Type 0 where
 
 -- Files stand for these contents with nothing behind them, or for a front of what this sequence adds, with parts of the rest behind it.
 abbrev pub StandsLeft : Contents → (after : Sequence) → Files → Type 0
-StandsLeft c after files = (IsSite files c × HasLeft files c NO_LEFTOVER) ⊎ ((o : Standing) × IsFrontLeft after (length c.sequence) c o × IsSiteWith files o)
+StandsLeft c after files = IsSiteWith files (bare c) ⊎ ((o : Standing) × IsFrontLeft after (length c.sequence) c o × IsSiteWith files o)
 
 -- so it is of each image
 abbrev pub LeavesPick : View → Contents → (after : Sequence) → Type 0
@@ -71,10 +71,6 @@ pub record MayHaveFront (v : View) (is_told : Bool) (c : Contents) (all : Sequen
   pub told : IsTrue is_told → IsSome v.content
   pub images : IsTrue is_told → (files : Files) → Image v files → (o : Contents) × IsFrontOf all low c o × IsSite files o
 
--- each image stands for a front of this sequence that has at least so many entries, with parts of the rest behind it
-abbrev pub LeavesFront : View → Contents → (all : Sequence) → (low : ℕ) → Type 0
-LeavesFront v c all low = (files : Files) → Image v files → (o : Standing) × IsFrontLeft all low c o × IsSiteWith files o
-
 -- A fault in the last pick of this turn, of so many: its entry may stand or not, and it has no reply.
 pub record FailsBy (v : View) (told : Bool) (c : Contents) (t : Turn) (picks undecided : ℕ) (before now : List ℕ) : Type 0 where
   pub hardened : ℕ
@@ -88,6 +84,15 @@ pub record FailsBy (v : View) (told : Bool) (c : Contents) (t : Turn) (picks und
 abbrev pub FailsAt : View → Stamp → Bool → Contents → List (List Job) → (order serials : List ℕ) → (undecided : ℕ) → List ℕ → List ℕ → ℕ → Type 0
 FailsAt v stamp told c jobs order serials undecided before now n = FailsBy v told c (turn_of stamp serials jobs (take n order) c.sequence) (length order) undecided before now
 
+-- So many first picks were decided, and perhaps one more was under way: what files stand for then, with what lies behind it.
+pub record LeftAfter (stamp : Stamp) (c : Contents) (jobs : List (List Job)) (order serials : List ℕ) (decided : ℕ) (files : Files) : Type 0 where
+  pub begun : ℕ
+  pub no_fewer : decided ≤ begun
+  pub at_most_one : begun ≤ decided + 1
+  pub standing : Standing
+  pub front : IsFrontLeft (turn_of stamp serials jobs (take begun order) c.sequence).sequence (length (turn_of stamp serials jobs (take decided order) c.sequence).sequence) c standing
+  pub stands : IsSiteWith files standing
+
 -- A fault in the pick behind the first ones, which were decided: each of them that had a job has its reply, and no other has one. The
 -- entry of the pick that failed may stand or not; where it doesn't, some of its parts may lie behind the sequence.
 pub record FailsIn (v : View) (stamp : Stamp) (told : Bool) (c : Contents) (jobs : List (List Job)) (order serials : List ℕ) (undecided : ℕ) (before now : List ℕ) : Type 0 where
@@ -96,24 +101,14 @@ pub record FailsIn (v : View) (stamp : Stamp) (told : Bool) (c : Contents) (jobs
   pub count : undecided + length (turn_of stamp serials jobs (take decided order) c.sequence).replies ≡ length order
   pub text : now ≡ before ++ flat_map reply_line (turn_of stamp serials jobs (take decided order) c.sequence).replies
   pub front : MayHaveFront v told c (turn_of stamp serials jobs (take (decided + 1) order) c.sequence).sequence (length (turn_of stamp serials jobs (take decided order) c.sequence).sequence)
-  pub left : IsTrue told → LeavesFront v c (turn_of stamp serials jobs (take (decided + 1) order) c.sequence).sequence (length (turn_of stamp serials jobs (take decided order) c.sequence).sequence)
-
--- Some first picks were decided, and perhaps one more was under way: what files stand for then, with what lies behind it.
-pub record LeftAfter (stamp : Stamp) (c : Contents) (jobs : List (List Job)) (order serials : List ℕ) (files : Files) : Type 0 where
-  pub decided : ℕ
-  pub begun : ℕ
-  pub no_fewer : decided ≤ begun
-  pub at_most_one : begun ≤ decided + 1
-  pub standing : Standing
-  pub front : IsFrontLeft (turn_of stamp serials jobs (take begun order) c.sequence).sequence (length (turn_of stamp serials jobs (take decided order) c.sequence).sequence) c standing
-  pub stands : IsSiteWith files standing
+  pub left : IsTrue told → (files : Files) → Image v files → LeftAfter stamp c jobs order serials decided files
 
 -- where files are known, each image stands for a front of what some first picks come to
 pub record MayLeave (v : View) (stamp : Stamp) (is_told : Bool) (c : Contents) (jobs : List (List Job)) (order serials : List ℕ) : Type 0 where
   pub told : IsTrue is_told → IsSome v.content
   pub images : IsTrue is_told → (files : Files) → Image v files
       → (o : Contents) × ((n : ℕ) × IsFrontOf (turn_of stamp serials jobs (take n order) c.sequence).sequence (length c.sequence) c o) × IsSite files o
-  pub left : IsTrue is_told → (files : Files) → Image v files → LeftAfter stamp c jobs order serials files
+  pub left : IsTrue is_told → (files : Files) → Image v files → (decided : ℕ) × LeftAfter stamp c jobs order serials decided files
 
 -- how a section ends that was not decided to its end
 abbrev pub Breaks : RunError → View → Stamp → Bool → Contents → List (List Job) → (order serials : List ℕ) → List ℕ → List ℕ → Type 0

@@ -1,5 +1,5 @@
 -- What a section that a fault ended leaves behind the sequence: the parts of its last entries in the regions that have them.
-use Rattle.std.specs.Prelude.{◌≡◌, ℕ, ◌+◌, nat_lt, List, [], ◌∷◌, length, take, drop, filter, map, Option}
+use Rattle.std.specs.Prelude.{◌≡◌, ◌≤◌, ◌<◌, ℕ, ◌+◌, ◌-◌, nat_lt, List, [], ◌∷◌, length, take, drop, filter, map, Option}
 use Rattle.std.specs.List.{flat_map, filter_map, enumerate_from}
 use Rattle.disk_defs.specs.Disk.{Files}
 use Rattle.global_defs.specs.Entry.{Entry, Sequence}
@@ -35,11 +35,17 @@ left_of instance parts kept len =
 abbrev pub text_left : Contents → (all : Sequence) → (low : ℕ) → (kept : ℕ → ℕ) → (len : ℕ) → List ℕ
 text_left c all low kept len = broken_text (site_name c.instance) len (left_of c.instance (parts_of_each (patterns c.instance) low (drop low all)) kept len)
 
--- A front of this sequence with at least so many entries. Of the entries behind these each region has the parts of the first few, and what of that lies past the front is broken.
+-- each region has these parts among the first few that it has
+abbrev pub AreKept : List (ℕ → Option Part) → (kept : ℕ → ℕ) → Type 0
+AreKept parts kept = (r : ℕ) → length (parts_in parts r) ≤ kept r
+
+-- A front of this sequence with at least so many entries. Of the parts of the entries behind these each region has the first few. What of that lies past the front is broken, and
+-- the next entry lacks a part.
 pub record IsFrontLeft (all : Sequence) (low : ℕ) (c : Contents) (o : Standing) : Type 0 where
   pub front : IsFrontOf all low c o.contents
   pub kept : ℕ → ℕ
   pub broken : o.broken ≡ text_left c all low kept (length o.contents.sequence)
+  pub lacks : length o.contents.sequence < length all → AreKept (parts_of_each (patterns c.instance) low (take (length o.contents.sequence + 1 - low) (drop low all))) kept → ⊥
 
 -- The files of a site stand for this, with that text behind it; the next broken-transaction file may have bytes.
 pub record IsStanding (files : Files) (o : Standing) : Type 0 where

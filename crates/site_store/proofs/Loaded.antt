@@ -35,7 +35,7 @@ use Rattle.region_journals.specs.declared.journals.RegionJournal.{RegionJournal}
 use Rattle.site_files.specs.Loading.{MayBeOpened, AreRead, WasRead, MayDraw, HasDrawn, next_cut, next_broken, next_pini, drawn_records}
 use Rattle.site_files.proofs.Keeping as keeping
 use Rattle.site_files.proofs.Kept.{image_read, held_read}
-use Rattle.site_defs.specs.Contents.{Contents, Leftover, Standing}
+use Rattle.site_defs.specs.Contents.{Contents, Leftover}
 use Rattle.site_defs.specs.Fronts.{with_sequence}
 use Rattle.site_defs.specs.Opening.{opened, MayOpen}
 use Rattle.site_defs.specs.Stands.{IsSite, HasLeft, Stands, texts_of}

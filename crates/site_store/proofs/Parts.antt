@@ -1,9 +1,11 @@
 -- The parts of entries that wait, and what of them lies behind a sequence.
-use Rattle.std.proofs.Common.{◌≡◌, ◌≤◌, ◌+◌, ℕ, Bool, true, false, List, [], ◌∷◌, ◌++◌, length, map, take, drop, filter, Some, None, refl, sym, ◌∙◌, ap, subst, arith}
+use Rattle.std.proofs.Common.{◌≡◌, ◌≤◌, ◌<◌, ◌+◌, ◌-◌, ◌==◌, ℕ, zero, suc, Bool, true, false, List, [], ◌∷◌, ◌++◌, length, map, take, drop, filter, Some, None, refl, sym, ◌∙◌, ap, subst, arith}
 use Rattle.std.specs.Prelude.{Option, ◌&&◌, if◌then◌else◌, nat_lt}
 use Rattle.std.specs.List.{flat_map, filter_map, enumerate_from, cons_option}
 use Rattle.std.proofs.Math.Path.{fun_ext}
-use Rattle.std.proofs.Math.Seq.{drop-length}
+use Rattle.std.proofs.Math.Seq.{take-length, drop-length}
+use Rattle.std.specs.Option.{option_or}
+use Rattle.std.proofs.lemmas.Bool.Decides.{nat_tests}
 use Rattle.std.proofs.lemmas.List.{take-map}
 use Rattle.std.proofs.lemmas.List.Elements.{filter_map-append}
 use Rattle.global_defs.specs.Entry.{Entry, Sequence}
@@ -11,13 +13,14 @@ use Rattle.journal_defs.specs.Journal.{Tcom, Part}
 use Rattle.journal_defs.specs.Instance.{InstanceRecord, NamedMode, generation, regions, site_name}
 use Rattle.journal_defs.specs.Directory.{Pattern}
 use Rattle.journal_defs.specs.Surviving.{survives}
-use Rattle.journal_defs.specs.Sequence.{Placed, Records}
+use Rattle.journal_defs.specs.Sequence.{Placed, Records, part_in, part_of, parts, entry, EntriesFrom, IsSequence}
 use Rattle.journal_defs.specs.Broken.{BrokenPart, part_past, parts_past, broken, broken_text}
-use Rattle.journal_defs.specs.Growth.{NonePast, placed, appended, with_more}
+use Rattle.journal_defs.specs.Growth.{NonePast, AreEntries, placed, appended, with_more}
+use Rattle.journal_laws.proofs.Runs as runs
 use Rattle.region_journals.proofs.Unbroken.{parts_none, flat_none}
-use Rattle.site_defs.specs.Contents.{Contents}
-use Rattle.site_defs.specs.Fronts.{IsFrontOf}
-use Rattle.site_defs.specs.Behind.{parts_of_entry, parts_of_each, parts_in, left_of, text_left, IsFrontLeft}
+use Rattle.site_defs.specs.Contents.{Contents, bare}
+use Rattle.site_defs.specs.Fronts.{with_sequence}
+use Rattle.site_defs.specs.Behind.{parts_of_entry, parts_of_each, parts_in, left_of, text_left, AreKept, IsFrontLeft}
 use Rattle.site_store.proofs.Entries.{survives_newest}
 
 -- where no entry waits there is none
@@ -73,5 +76,87 @@ broken_first s g h len ps kept none low newest = ap (λ (f : ℕ → List Part).
 pub none_kept : (c : Contents) (all : Sequence) (low len : ℕ) → text_left c all low (λ r. 0) len ≡ []
 none_kept c all low len = ap (broken_text (site_name c.instance) len) (flat_none (named (λ r. [])) (enumerate_from 0 (regions c.instance)) (λ r. refl))
 
-pub bare_front : (all : Sequence) (low : ℕ) (c x : Contents) → IsFrontOf all low c x → IsFrontLeft all low c (record { contents = x; broken = [] })
-bare_front all low c x front = record { front = front; kept = λ r. 0; broken = sym (none_kept c all low (length x.sequence)) }
+pub bare_front : (all : Sequence) (low : ℕ) (c : Contents) → low ≤ length all → IsFrontLeft all low c (bare (with_sequence c all))
+bare_front all low c least = record {
+  front = record { count = length all; least = least; most = omega arith; is = ap (with_sequence c) (sym (take-length all)) };
+  kept = λ r. 0;
+  broken = sym (none_kept c all low (length all));
+  lacks = λ less kept. absurd (omega (arith, less));
+}
+
+-- those of the first few entries
+pub parts_taken : (ps : List Pattern) (n m : ℕ) (es : Sequence) → parts_of_each ps n (take m es) ≡ take m (parts_of_each ps n es)
+parts_taken ps n zero es = refl
+parts_taken ps n (suc m) [] = refl
+parts_taken ps n (suc m) (e ∷ es) = ap (λ (l : List (ℕ → Option Part)). parts_of_entry ps (n + 1) e ∷ l) (parts_taken ps (n + 1) m es)
+
+-- an entry has the same parts in the first few of a region's as in all of them, where these have all that it has there
+
+no_part : (instance : List InstanceRecord) (n k : ℕ) → part_of instance n (take k []) ≡ None
+no_part instance n zero = refl
+no_part instance n (suc k) = refl
+
+later_part : (instance : List InstanceRecord) (g m : ℕ) (x : Part) (rest : List Placed) → m < x.number → part_of instance m rest ≡ None → part_of instance m (placed_at g x ∷ rest) ≡ None
+later_part instance g m x rest past none =
+    let differs : (x.number == m) ≡ false = grind (arith, nat_tests, past) in
+    ap (λ (o : Option Part). option_or o (part_in instance m g (Tcom x))) none ∙ rw differs refl
+
+none_early : (instance : List InstanceRecord) (g n m k r : ℕ) (ps : List (ℕ → Option Part)) (es : Sequence) → AreEntries instance g n ps es → m ≤ n → part_of instance m (take k (appended g ps r)) ≡ None
+none_early instance g n m k r [] es are low = no_part instance m k
+none_early instance g n m k r (p ∷ ps) [] are low = absurd are
+none_early instance g n m k r (p ∷ ps) (e ∷ es) are low =
+    elim (p r) as (λ (o : Option Part). p r ≡ o → part_of instance m (take k (placed g o ++ appended g ps r)) ≡ None) [
+      | None ↦ λ is. none_early instance g (n + 1) m k r ps es are.4 (omega (arith, low))
+      | Some x ↦ λ is. by_count k x is
+    ] refl
+  where
+    by_count : (k : ℕ) (x : Part) → p r ≡ Some x → part_of instance m (take k (placed_at g x ∷ appended g ps r)) ≡ None
+    by_count zero x is = refl
+    by_count (suc k) x is =
+        let numbered : x.number ≡ n + 1 = are.0 r x is in
+        later_part instance g m x (take k (appended g ps r)) (omega (arith, numbered, low)) (none_early instance g (n + 1) m k r ps es are.4 (omega (arith, low)))
+
+covered : (instance : List InstanceRecord) (g n m k r : ℕ) (ps : List (ℕ → Option Part)) (es : Sequence) → AreEntries instance g n ps es → length (parts_in (take m ps) r) ≤ k
+    → part_of instance (n + m) (take k (appended g ps r)) ≡ part_of instance (n + m) (appended g ps r)
+covered instance g n zero k r ps es are enough =
+    none_early instance g n (n + 0) k r ps es are (omega arith)
+    ∙ sym (subst (λ (l : List Placed). part_of instance (n + 0) l ≡ None) (take-length (appended g ps r)) (none_early instance g n (n + 0) (length (appended g ps r)) r ps es are (omega arith)))
+covered instance g n (suc m) k r [] es are enough = no_part instance (n + suc m) k
+covered instance g n (suc m) k r (p ∷ ps) [] are enough = absurd are
+covered instance g n (suc m) k r (p ∷ ps) (e ∷ es) are enough =
+    elim (p r) as (λ (o : Option Part). length (cons_option o (parts_in (take m ps) r)) ≤ k → part_of instance (n + suc m) (take k (placed g o ++ appended g ps r)) ≡ part_of instance (n + suc m) (placed g o ++ appended g ps r)) [
+      | None ↦ λ some. later k some
+      | Some x ↦ λ some. by_count k x some
+    ] enough
+  where
+    later : (k : ℕ) → length (parts_in (take m ps) r) ≤ k → part_of instance (n + suc m) (take k (appended g ps r)) ≡ part_of instance (n + suc m) (appended g ps r)
+    later k some =
+        let same : n + 1 + m ≡ n + suc m = omega arith in
+        subst (λ (q : ℕ). part_of instance q (take k (appended g ps r)) ≡ part_of instance q (appended g ps r)) same (covered instance g (n + 1) m k r ps es are.4 some)
+
+    by_count : (k : ℕ) (x : Part) → length (x ∷ parts_in (take m ps) r) ≤ k → part_of instance (n + suc m) (take k (placed_at g x ∷ appended g ps r)) ≡ part_of instance (n + suc m) (placed_at g x ∷ appended g ps r)
+    by_count zero x some = absurd (omega (arith, some))
+    by_count (suc k) x some = ap (λ (o : Option Part). option_or o (part_in instance (n + suc m) g (Tcom x))) (later k (omega (arith, some)))
+
+-- a run of entries doesn't end before its last one
+no_end : (at : ℕ → Option Entry) (n : ℕ) (seq : Sequence) (i : ℕ) → EntriesFrom at n seq → i < length seq → at (n + i) ≡ None → ⊥
+no_end at n [] i each low none = absurd (omega (arith, low))
+no_end at n (e ∷ es) zero each low none =
+    let here : at n ≡ None = subst (λ (k : ℕ). at k ≡ None) (omega arith) none in
+    absurd (cc (sym each.0 ∙ here))
+no_end at n (e ∷ es) (suc i) each low none = no_end at (suc n) es i each.1 (omega (arith, low)) (subst (λ (k : ℕ). at k ≡ None) (omega arith) none)
+
+-- where all regions have their parts of an entry, it is whole
+pub lacks_one : (s : Records) (g h j : ℕ) (ps : List (ℕ → Option Part)) (es seq : Sequence) (kept : ℕ → ℕ) → AreEntries s.instance g h ps es → IsSequence (with_more s (appended g ps)) seq
+    → entry (with_more s (λ r. take (kept r) (appended g ps r))) (suc j) ≡ None → h ≤ j → j < length seq → AreKept (take (j + 1 - h) ps) kept → ⊥
+lacks_one s g h j ps es seq kept are whole none low more has =
+    let first : Records = with_more s (λ r. take (kept r) (appended g ps r)) in
+    let all : Records = with_more s (appended g ps) in
+    let number : h + (j + 1 - h) ≡ suc j = omega (arith, low) in
+    let each : (r : ℕ) → parts first (suc j) r ≡ parts all (suc j) r = λ r.
+    runs.part_of-append s.instance (suc j) (s.journal r) (take (kept r) (appended g ps r))
+    ∙ ap (λ (o : Option Part). option_or o (part_of s.instance (suc j) (s.journal r)))
+    (subst (λ (n : ℕ). part_of s.instance n (take (kept r) (appended g ps r)) ≡ part_of s.instance n (appended g ps r)) number (covered s.instance g h (j + 1 - h) (kept r) r ps es are (has r)))
+    ∙ sym (runs.part_of-append s.instance (suc j) (s.journal r) (appended g ps r)) in
+    let ended : entry all (suc j) ≡ None = sym (runs.same_entry all first (suc j) each refl) ∙ none in
+    no_end (entry all) 1 seq j whole.each more (subst (λ (n : ℕ). entry all n ≡ None) (omega arith) ended)
