@@ -101,20 +101,23 @@ later_part instance g m x rest past none =
     let differs : (x.number == m) ≡ false = grind (arith, nat_tests, past) in
     ap (λ (o : Option Part). option_or o (part_in instance m g (Tcom x))) none ∙ rw differs refl
 
+early_by : (instance : List InstanceRecord) (g n m : ℕ) (x : Part) (rest : List Placed) → x.number ≡ n + 1 → m ≤ n → ((k : ℕ) → part_of instance m (take k rest) ≡ None) → (k : ℕ) → part_of instance m (take k (placed_at g x ∷ rest)) ≡ None
+early_by instance g n m x rest numbered low none zero = refl
+early_by instance g n m x rest numbered low none (suc k) = later_part instance g m x (take k rest) (omega (arith, numbered, low)) (none k)
+
 none_early : (instance : List InstanceRecord) (g n m k r : ℕ) (ps : List (ℕ → Option Part)) (es : Sequence) → AreEntries instance g n ps es → m ≤ n → part_of instance m (take k (appended g ps r)) ≡ None
 none_early instance g n m k r [] es are low = no_part instance m k
 none_early instance g n m k r (p ∷ ps) [] are low = absurd are
 none_early instance g n m k r (p ∷ ps) (e ∷ es) are low =
     elim (p r) as (λ (o : Option Part). p r ≡ o → part_of instance m (take k (placed g o ++ appended g ps r)) ≡ None) [
       | None ↦ λ is. none_early instance g (n + 1) m k r ps es are.4 (omega (arith, low))
-      | Some x ↦ λ is. by_count k x is
+      | Some x ↦ λ is. early_by instance g n m x (appended g ps r) (are.0 r x is) low (λ l. none_early instance g (n + 1) m l r ps es are.4 (omega (arith, low))) k
     ] refl
-  where
-    by_count : (k : ℕ) (x : Part) → p r ≡ Some x → part_of instance m (take k (placed_at g x ∷ appended g ps r)) ≡ None
-    by_count zero x is = refl
-    by_count (suc k) x is =
-        let numbered : x.number ≡ n + 1 = are.0 r x is in
-        later_part instance g m x (take k (appended g ps r)) (omega (arith, numbered, low)) (none_early instance g (n + 1) m k r ps es are.4 (omega (arith, low)))
+
+covered_by : (instance : List InstanceRecord) (g q : ℕ) (x : Part) (xs : List Part) (rest : List Placed) → ((k : ℕ) → length xs ≤ k → part_of instance q (take k rest) ≡ part_of instance q rest)
+    → (k : ℕ) → length (x ∷ xs) ≤ k → part_of instance q (take k (placed_at g x ∷ rest)) ≡ part_of instance q (placed_at g x ∷ rest)
+covered_by instance g q x xs rest later zero some = absurd (omega (arith, some))
+covered_by instance g q x xs rest later (suc k) some = ap (λ (o : Option Part). option_or o (part_in instance q g (Tcom x))) (later k (omega (arith, some)))
 
 covered : (instance : List InstanceRecord) (g n m k r : ℕ) (ps : List (ℕ → Option Part)) (es : Sequence) → AreEntries instance g n ps es → length (parts_in (take m ps) r) ≤ k
     → part_of instance (n + m) (take k (appended g ps r)) ≡ part_of instance (n + m) (appended g ps r)
@@ -124,19 +127,13 @@ covered instance g n zero k r ps es are enough =
 covered instance g n (suc m) k r [] es are enough = no_part instance (n + suc m) k
 covered instance g n (suc m) k r (p ∷ ps) [] are enough = absurd are
 covered instance g n (suc m) k r (p ∷ ps) (e ∷ es) are enough =
+    let same : n + 1 + m ≡ n + suc m = omega arith in
+    let later : (l : ℕ) → length (parts_in (take m ps) r) ≤ l → part_of instance (n + suc m) (take l (appended g ps r)) ≡ part_of instance (n + suc m) (appended g ps r) =
+    λ l some. subst (λ (q : ℕ). part_of instance q (take l (appended g ps r)) ≡ part_of instance q (appended g ps r)) same (covered instance g (n + 1) m l r ps es are.4 some) in
     elim (p r) as (λ (o : Option Part). length (cons_option o (parts_in (take m ps) r)) ≤ k → part_of instance (n + suc m) (take k (placed g o ++ appended g ps r)) ≡ part_of instance (n + suc m) (placed g o ++ appended g ps r)) [
       | None ↦ λ some. later k some
-      | Some x ↦ λ some. by_count k x some
+      | Some x ↦ λ some. covered_by instance g (n + suc m) x (parts_in (take m ps) r) (appended g ps r) later k some
     ] enough
-  where
-    later : (k : ℕ) → length (parts_in (take m ps) r) ≤ k → part_of instance (n + suc m) (take k (appended g ps r)) ≡ part_of instance (n + suc m) (appended g ps r)
-    later k some =
-        let same : n + 1 + m ≡ n + suc m = omega arith in
-        subst (λ (q : ℕ). part_of instance q (take k (appended g ps r)) ≡ part_of instance q (appended g ps r)) same (covered instance g (n + 1) m k r ps es are.4 some)
-
-    by_count : (k : ℕ) (x : Part) → length (x ∷ parts_in (take m ps) r) ≤ k → part_of instance (n + suc m) (take k (placed_at g x ∷ appended g ps r)) ≡ part_of instance (n + suc m) (placed_at g x ∷ appended g ps r)
-    by_count zero x some = absurd (omega (arith, some))
-    by_count (suc k) x some = ap (λ (o : Option Part). option_or o (part_in instance (n + suc m) g (Tcom x))) (later k (omega (arith, some)))
 
 -- a run of entries doesn't end before its last one
 no_end : (at : ℕ → Option Entry) (n : ℕ) (seq : Sequence) (i : ℕ) → EntriesFrom at n seq → i < length seq → at (n + i) ≡ None → ⊥
