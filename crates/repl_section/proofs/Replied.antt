@@ -10,7 +10,7 @@ use Rattle.global_defs.specs.Entry.{Update, Stamp, Transaction, Entry, Sequence}
 use Rattle.global_defs.specs.Jobs.{Answers, SeqLimit}
 use Rattle.global_defs.specs.Evaluation.{Done}
 use Rattle.global_defs.specs.Serial.{Turn, Reply, Seq, Read, RolledBack, replied, begun, serial_at, entry_of, MOST_ENTRIES}
-use Rattle.site_defs.specs.Contents.{Contents, Standing, NO_LEFTOVER}
+use Rattle.site_defs.specs.Contents.{Contents, Standing, NO_LEFTOVER, bare}
 use Rattle.site_defs.specs.Fronts.{with_sequence, IsFrontOf}
 use Rattle.site_defs.specs.Stands.{IsSite, HasLeft}
 use Rattle.site_defs.specs.Behind.{IsFrontLeft, IsSiteWith}
@@ -70,7 +70,7 @@ pub stays : (v : View) (c : Contents) (after : Sequence) (r : Reign) → Reigns 
 stays v c after r h = nothing_yet v c after (told_there v true c r h refl) (all_stand v true c r h refl)
 
 pub nothing_left : (w : View) (c : Contents) (after : Sequence) → ((f : Files) → Image w f → IsSite f c) → ((f : Files) → Image w f → HasLeft f c NO_LEFTOVER) → LeavesPick w c after
-nothing_left w c after stands none = λ f i. inl (record { site = stands f i; left = none f i })
+nothing_left w c after stands none = λ f i. (bare c, inl refl, record { site = stands f i; left = none f i })
 
 pub stays_bare : (v : View) (c : Contents) (after : Sequence) (r : Reign) → Reigns v true c r → LeavesPick v c after
 stays_bare v c after r h = nothing_left v c after (all_stand v true c r h refl) (all_bare v true c r h refl)
@@ -143,7 +143,7 @@ commit_leaves v mid w r m c u serial us answers reigns reign some room at entere
     subst (λ (x : Sequence). LeavesPick w c x) is (λ f i.
     let p = fronts (with_sequence c all) (length c.sequence) there f i in
     let front = p.1.front in
-    inr (p.0, record { front = record { count = front.count; least = front.least; most = front.most; is = front.is }; kept = p.1.kept; broken = p.1.broken; lacks = p.1.lacks }, p.2))
+    (p.0, inr (record { front = record { count = front.count; least = front.least; most = front.most; is = front.is }; kept = p.1.kept; broken = p.1.broken; lacks = p.1.lacks }), p.2))
 
 pub commit_done : (v mid w : View) (told : Bool) (c : Contents) (r hard s : Reign) (m : OpenSite) (u serial number : ℕ) (us : List Update) (answers : Answers) (before now : List ℕ)
     → Reigns v told c r → HasReign r.site → 1 ≤ length us → length r.site.entries.items + 1 < 2 ^ 40 → serial ≡ serial_at r.serials u → number ≡ length r.site.entries.items + 1

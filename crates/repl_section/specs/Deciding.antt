@@ -7,10 +7,10 @@ use Rattle.global_defs.specs.Jobs.{Job}
 use Rattle.global_defs.specs.Evaluation.{Evaluated}
 use Rattle.global_defs.specs.Evaluation as evaluation
 use Rattle.global_defs.specs.Serial.{Turn, Replied, decided, begun}
-use Rattle.site_defs.specs.Contents.{Contents, Standing, bare}
+use Rattle.site_defs.specs.Contents.{Contents, Standing}
 use Rattle.site_defs.specs.Fronts.{with_sequence, IsFrontOf, turn_of}
 use Rattle.site_defs.specs.Stands.{IsSite}
-use Rattle.site_defs.specs.Behind.{IsFrontLeft, IsSiteWith}
+use Rattle.site_defs.specs.Behind.{MayStand, IsSiteWith}
 use Rattle.site_defs.specs.Texts.{reply_line, is_past, printed}
 use Rattle.site_store.specs.Site.{HasRoomFor}
 use Rattle.repl_section.specs.declared.reign.Reign.{Reign}
@@ -32,9 +32,9 @@ pub record MayHave (v : View) (c : Contents) (after : Sequence) : Type 0 where
   pub told : IsSome v.content
   pub images : (files : Files) → Image v files → IsSite files c ⊎ IsSite files (with_sequence c after)
 
--- Files stand for these contents with nothing behind them, or for a front of what this sequence adds, with parts of the rest behind it.
+-- files stand as they may once one more pick has come to this sequence, or failed
 abbrev pub StandsLeft : Contents → (after : Sequence) → Files → Type 0
-StandsLeft c after files = IsSiteWith files (bare c) ⊎ ((o : Standing) × IsFrontLeft after (length c.sequence) c o × IsSiteWith files o)
+StandsLeft c after files = (o : Standing) × MayStand c c.sequence after o × IsSiteWith files o
 
 -- so it is of each image
 abbrev pub LeavesPick : View → Contents → (after : Sequence) → Type 0
@@ -86,11 +86,8 @@ FailsAt v stamp told c jobs order serials undecided before now n = FailsBy v tol
 
 -- So many first picks were decided, and perhaps one more was under way: what files stand for then, with what lies behind it.
 pub record LeftAfter (stamp : Stamp) (c : Contents) (jobs : List (List Job)) (order serials : List ℕ) (decided : ℕ) (files : Files) : Type 0 where
-  pub begun : ℕ
-  pub no_fewer : decided ≤ begun
-  pub at_most_one : begun ≤ decided + 1
   pub standing : Standing
-  pub front : IsFrontLeft (turn_of stamp serials jobs (take begun order) c.sequence).sequence (length (turn_of stamp serials jobs (take decided order) c.sequence).sequence) c standing
+  pub may : MayStand c (turn_of stamp serials jobs (take decided order) c.sequence).sequence (turn_of stamp serials jobs (take (decided + 1) order) c.sequence).sequence standing
   pub stands : IsSiteWith files standing
 
 -- A fault in the pick behind the first ones, which were decided: each of them that had a job has its reply, and no other has one. The

@@ -1,5 +1,5 @@
 -- What a section that a fault ended leaves behind the sequence: the parts of its last entries in the regions that have them.
-use Rattle.std.specs.Prelude.{◌≡◌, ◌≤◌, ◌<◌, ℕ, ◌+◌, ◌-◌, nat_lt, List, [], ◌∷◌, length, take, drop, filter, map, Option}
+use Rattle.std.specs.Prelude.{◌≡◌, ◌⊎◌, ◌≤◌, ◌<◌, ℕ, ◌+◌, ◌-◌, nat_lt, List, [], ◌∷◌, length, take, drop, filter, map, Option}
 use Rattle.std.specs.List.{flat_map, filter_map, enumerate_from}
 use Rattle.disk_defs.specs.Disk.{Files}
 use Rattle.global_defs.specs.Entry.{Entry, Sequence}
@@ -9,9 +9,9 @@ use Rattle.journal_defs.specs.Directory.{Pattern, patterns}
 use Rattle.journal_defs.specs.Split.{split, mask_of}
 use Rattle.journal_defs.specs.Fit.{region_of_update}
 use Rattle.journal_defs.specs.Broken.{BrokenPart, broken_text}
-use Rattle.site_defs.specs.Contents.{Contents, Standing}
-use Rattle.site_defs.specs.Fronts.{IsFrontOf}
-use Rattle.site_defs.specs.Stands.{IsSite, HasLeft}
+use Rattle.site_defs.specs.Contents.{Contents, Standing, nothing, bare}
+use Rattle.site_defs.specs.Fronts.{IsFrontOf, with_sequence}
+use Rattle.site_defs.specs.Stands.{IsBlank, IsSite, HasLeft}
 
 -- the parts of the entry of that number, by region
 abbrev pub parts_of_entry : List Pattern → ℕ → Entry → ℕ → Option Part
@@ -47,6 +47,10 @@ pub record IsFrontLeft (all : Sequence) (low : ℕ) (c : Contents) (o : Standing
   pub broken : o.broken ≡ text_left c all low kept (length o.contents.sequence)
   pub lacks : length o.contents.sequence < length all → AreKept (parts_of_each (patterns c.instance) low (take (length o.contents.sequence + 1 - low) (drop low all))) kept → ⊥
 
+-- what a fault in a pick may leave: what stood before it with nothing behind, or a front with its entry or without, and then with some of its parts behind
+abbrev pub MayStand : Contents → (before after : Sequence) → Standing → Type 0
+MayStand c before after o = (o ≡ bare (with_sequence c before)) ⊎ IsFrontLeft after (length before) c o
+
 -- The files of a site stand for this, with that text behind it; the next broken-transaction file may have bytes.
 pub record IsStanding (files : Files) (o : Standing) : Type 0 where
   pub site : IsSite files o.contents
@@ -57,3 +61,7 @@ pub record IsStanding (files : Files) (o : Standing) : Type 0 where
 pub record IsSiteWith (files : Files) (o : Standing) : Type 0 where
   pub site : IsSite files o.contents
   pub left : HasLeft files o.contents (record { broken = o.broken; torn = [] })
+
+-- the files stand for this, with that text behind it
+abbrev pub StandsSo : Files → Standing → Type 0
+StandsSo files o = ((o ≡ bare nothing) × IsBlank files) ⊎ IsStanding files o

@@ -10,17 +10,15 @@ use Rattle.std.proofs.lemmas.List.{take-map}
 use Rattle.std.proofs.lemmas.List.Elements.{filter_map-append}
 use Rattle.global_defs.specs.Entry.{Entry, Sequence}
 use Rattle.journal_defs.specs.Journal.{Tcom, Part}
-use Rattle.journal_defs.specs.Instance.{InstanceRecord, NamedMode, generation, regions, site_name}
+use Rattle.journal_defs.specs.Instance.{InstanceRecord, NamedMode, generation, regions}
 use Rattle.journal_defs.specs.Directory.{Pattern}
 use Rattle.journal_defs.specs.Surviving.{survives}
 use Rattle.journal_defs.specs.Sequence.{Placed, Records, part_in, part_of, parts, entry, EntriesFrom, IsSequence}
-use Rattle.journal_defs.specs.Broken.{BrokenPart, part_past, parts_past, broken, broken_text}
+use Rattle.journal_defs.specs.Broken.{BrokenPart, part_past, parts_past, broken}
 use Rattle.journal_defs.specs.Growth.{NonePast, AreEntries, placed, appended, with_more}
 use Rattle.journal_laws.proofs.Runs as runs
-use Rattle.region_journals.proofs.Unbroken.{parts_none, flat_none}
-use Rattle.site_defs.specs.Contents.{Contents, bare}
-use Rattle.site_defs.specs.Fronts.{with_sequence}
-use Rattle.site_defs.specs.Behind.{parts_of_entry, parts_of_each, parts_in, left_of, text_left, AreKept, IsFrontLeft}
+use Rattle.region_journals.proofs.Unbroken.{parts_none}
+use Rattle.site_defs.specs.Behind.{parts_of_entry, parts_of_each, parts_in, left_of, AreKept}
 use Rattle.site_store.proofs.Entries.{survives_newest}
 
 -- where no entry waits there is none
@@ -71,18 +69,6 @@ broken_first s g h len ps kept none low newest = ap (λ (f : ℕ → List Part).
         ∙ ap (λ (l : List Placed). parts_past s.instance len (take (kept r) l)) (appended_parts g ps r)
         ∙ ap (parts_past s.instance len) (take-map (placed_at g) (kept r) (parts_in ps r))
         ∙ past_placed s.instance g len (take (kept r) (parts_in ps r)) newest
-
--- where no region has one of them, nothing lies behind
-pub none_kept : (c : Contents) (all : Sequence) (low len : ℕ) → text_left c all low (λ r. 0) len ≡ []
-none_kept c all low len = ap (broken_text (site_name c.instance) len) (flat_none (named (λ r. [])) (enumerate_from 0 (regions c.instance)) (λ r. refl))
-
-pub bare_front : (all : Sequence) (low : ℕ) (c : Contents) → low ≤ length all → IsFrontLeft all low c (bare (with_sequence c all))
-bare_front all low c least = record {
-  front = record { count = length all; least = least; most = omega arith; is = ap (with_sequence c) (sym (take-length all)) };
-  kept = λ r. 0;
-  broken = sym (none_kept c all low (length all));
-  lacks = λ less kept. absurd (omega (arith, less));
-}
 
 -- those of the first few entries
 pub parts_taken : (ps : List Pattern) (n m : ℕ) (es : Sequence) → parts_of_each ps n (take m es) ≡ take m (parts_of_each ps n es)
