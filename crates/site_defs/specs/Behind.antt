@@ -35,9 +35,9 @@ left_of instance parts kept len =
 abbrev pub text_left : Contents → (all : Sequence) → (low : ℕ) → (kept : ℕ → ℕ) → (len : ℕ) → List ℕ
 text_left c all low kept len = broken_text (site_name c.instance) len (left_of c.instance (parts_of_each (patterns c.instance) low (drop low all)) kept len)
 
--- each region has these parts among the first few that it has
-abbrev pub AreKept : List (ℕ → Option Part) → (kept : ℕ → ℕ) → Type 0
-AreKept parts kept = (r : ℕ) → length (parts_in parts r) ≤ kept r
+-- each of the first n regions has these parts, as the first few that it has
+abbrev pub AreKept : (n : ℕ) → List (ℕ → Option Part) → (kept : ℕ → ℕ) → Type 0
+AreKept n parts kept = (r : ℕ) → r < n → length (parts_in parts r) ≤ kept r
 
 -- A front of this sequence with at least so many entries. Of the parts of the entries behind these each region has the first few. What of that lies past the front is broken, and
 -- the next entry lacks a part.
@@ -45,7 +45,7 @@ pub record IsFrontLeft (all : Sequence) (low : ℕ) (c : Contents) (o : Standing
   pub front : IsFrontOf all low c o.contents
   pub kept : ℕ → ℕ
   pub broken : o.broken ≡ text_left c all low kept (length o.contents.sequence)
-  pub lacks : length o.contents.sequence < length all → AreKept (parts_of_each (patterns c.instance) low (take (length o.contents.sequence + 1 - low) (drop low all))) kept → ⊥
+  pub lacks : length o.contents.sequence < length all → AreKept (length (regions c.instance)) (parts_of_each (patterns c.instance) low (take (length o.contents.sequence + 1 - low) (drop low all))) kept → ⊥
 
 -- what a fault in a pick may leave: what stood before it with nothing behind, or a front with its entry or without, and then with some of its parts behind
 abbrev pub MayStand : Contents → (before after : Sequence) → Standing → Type 0

@@ -203,8 +203,8 @@ module _ (v : View) (c : Contents) (h : ℕ) (s : OpenSite) (k : Keeps v c h s) 
           front = record { count = found.0; least = found.1; most = found.2; is = refl };
           kept = kept;
           broken = refl;
-          lacks = λ less has. lacks_one base (suc k.g) h (length seq) k.waiting (drop h c.sequence) c.sequence kept k.are_waiting (all_run d was) found.3.sequence.ended (omega (arith, long, least)) less
-              (subst (λ (ps : List (ℕ → Option Part)). AreKept ps kept) (parts_taken (patterns c.instance) h (length seq + 1 - h) (drop h c.sequence) ∙ ap (take (length seq + 1 - h)) (sym k.are_parts)) has);
+          lacks = λ less has. lacks_one base (suc k.g) h (length seq) (length (regions c.instance)) k.waiting (drop h c.sequence) c.sequence kept k.are_waiting (all_run d was) found.3.sequence.ended (omega (arith, long, least)) less k.in_regions
+              (subst (λ (ps : List (ℕ → Option Part)). AreKept (length (regions c.instance)) ps kept) (parts_taken (patterns c.instance) h (length seq + 1 - h) (drop h c.sequence) ∙ ap (take (length seq + 1 - h)) (sym k.are_parts)) has);
         },
         record {
           site = site_of f (with_sequence c seq) (with_first kept) (of_first d f kept seq was same) found.3;

@@ -1,10 +1,11 @@
 -- The parts of entries that wait, and what of them lies behind a sequence.
-use Rattle.std.proofs.Common.{◌≡◌, ◌≤◌, ◌<◌, ◌+◌, ◌-◌, ◌==◌, ℕ, zero, suc, Bool, true, false, List, [], ◌∷◌, ◌++◌, length, map, take, drop, filter, Some, None, refl, sym, ◌∙◌, ap, subst, arith}
+use Rattle.std.proofs.Common.{◌≡◌, inl, inr, ◌≤◌, ◌<◌, ◌+◌, ◌-◌, ◌==◌, ℕ, zero, suc, Bool, true, false, List, [], ◌∷◌, ◌++◌, length, map, take, drop, filter, Some, None, refl, sym, ◌∙◌, ap, subst, arith}
 use Rattle.std.specs.Prelude.{Option, ◌&&◌, if◌then◌else◌, nat_lt}
 use Rattle.std.specs.List.{flat_map, filter_map, enumerate_from, cons_option}
 use Rattle.std.proofs.Math.Path.{fun_ext}
 use Rattle.std.proofs.Math.Seq.{take-length, drop-length}
 use Rattle.std.specs.Option.{option_or}
+use Rattle.std.proofs.lemmas.Bool.{cases_lt}
 use Rattle.std.proofs.lemmas.Bool.Decides.{nat_tests}
 use Rattle.std.proofs.lemmas.List.{take-map}
 use Rattle.std.proofs.lemmas.List.Elements.{filter_map-append}
@@ -17,6 +18,7 @@ use Rattle.journal_defs.specs.Sequence.{Placed, Records, part_in, part_of, parts
 use Rattle.journal_defs.specs.Broken.{BrokenPart, part_past, parts_past, broken}
 use Rattle.journal_defs.specs.Growth.{NonePast, AreEntries, placed, appended, with_more}
 use Rattle.journal_laws.proofs.Runs as runs
+use Rattle.region_journals.specs.Fronts.{AreInside}
 use Rattle.region_journals.proofs.Unbroken.{parts_none}
 use Rattle.site_defs.specs.Behind.{parts_of_entry, parts_of_each, parts_in, left_of, AreKept}
 use Rattle.site_store.proofs.Entries.{survives_newest}
@@ -129,17 +131,29 @@ no_end at n (e ∷ es) zero each low none =
     absurd (cc (sym each.0 ∙ here))
 no_end at n (e ∷ es) (suc i) each low none = no_end at (suc n) es i each.1 (omega (arith, low)) (subst (λ (k : ℕ). at k ≡ None) (omega arith) none)
 
+-- no other region has a part
+none_there : (n m r : ℕ) (ps : List (ℕ → Option Part)) → AreInside n ps → n ≤ r → parts_in (take m ps) r ≡ []
+none_there n zero r ps inside past = refl
+none_there n (suc m) r [] inside past = refl
+none_there n (suc m) r (p ∷ ps) inside past = ap (λ (o : Option Part). cons_option o (parts_in (take m ps) r)) (inside.0 r past) ∙ none_there n m r ps inside.1 past
+
+everywhere : (n m : ℕ) (ps : List (ℕ → Option Part)) (kept : ℕ → ℕ) → AreInside n ps → AreKept n (take m ps) kept → (r : ℕ) → length (parts_in (take m ps) r) ≤ kept r
+everywhere n m ps kept inside has r = elim (cases_lt r n) [
+  | inl low ↦ has r low
+  | inr past ↦ let none : length (parts_in (take m ps) r) ≡ 0 = ap length (none_there n m r ps inside past) in omega (arith, none)
+]
+
 -- where all regions have their parts of an entry, it is whole
-pub lacks_one : (s : Records) (g h j : ℕ) (ps : List (ℕ → Option Part)) (es seq : Sequence) (kept : ℕ → ℕ) → AreEntries s.instance g h ps es → IsSequence (with_more s (appended g ps)) seq
-    → entry (with_more s (λ r. take (kept r) (appended g ps r))) (suc j) ≡ None → h ≤ j → j < length seq → AreKept (take (j + 1 - h) ps) kept → ⊥
-lacks_one s g h j ps es seq kept are whole none low more has =
+pub lacks_one : (s : Records) (g h j n : ℕ) (ps : List (ℕ → Option Part)) (es seq : Sequence) (kept : ℕ → ℕ) → AreEntries s.instance g h ps es → IsSequence (with_more s (appended g ps)) seq
+    → entry (with_more s (λ r. take (kept r) (appended g ps r))) (suc j) ≡ None → h ≤ j → j < length seq → AreInside n ps → AreKept n (take (j + 1 - h) ps) kept → ⊥
+lacks_one s g h j n ps es seq kept are whole none low more inside has =
     let first : Records = with_more s (λ r. take (kept r) (appended g ps r)) in
     let all : Records = with_more s (appended g ps) in
     let number : h + (j + 1 - h) ≡ suc j = omega (arith, low) in
     let each : (r : ℕ) → parts first (suc j) r ≡ parts all (suc j) r = λ r.
     runs.part_of-append s.instance (suc j) (s.journal r) (take (kept r) (appended g ps r))
     ∙ ap (λ (o : Option Part). option_or o (part_of s.instance (suc j) (s.journal r)))
-    (subst (λ (n : ℕ). part_of s.instance n (take (kept r) (appended g ps r)) ≡ part_of s.instance n (appended g ps r)) number (covered s.instance g h (j + 1 - h) (kept r) r ps es are (has r)))
+    (subst (λ (k : ℕ). part_of s.instance k (take (kept r) (appended g ps r)) ≡ part_of s.instance k (appended g ps r)) number (covered s.instance g h (j + 1 - h) (kept r) r ps es are (everywhere n (j + 1 - h) ps kept inside has r)))
     ∙ sym (runs.part_of-append s.instance (suc j) (s.journal r) (appended g ps r)) in
     let ended : entry all (suc j) ≡ None = sym (runs.same_entry all first (suc j) each refl) ∙ none in
-    no_end (entry all) 1 seq j whole.each more (subst (λ (n : ℕ). entry all n ≡ None) (omega arith) ended)
+    no_end (entry all) 1 seq j whole.each more (subst (λ (k : ℕ). entry all k ≡ None) (omega arith) ended)
