@@ -10,16 +10,17 @@ use Rattle.global_defs.specs.Entry.{Update, Stamp, Transaction, Entry, Sequence}
 use Rattle.global_defs.specs.Jobs.{Answers, SeqLimit}
 use Rattle.global_defs.specs.Evaluation.{Done}
 use Rattle.global_defs.specs.Serial.{Turn, Reply, Seq, Read, RolledBack, replied, begun, serial_at, entry_of, MOST_ENTRIES}
-use Rattle.site_defs.specs.Contents.{Contents}
+use Rattle.site_defs.specs.Contents.{Contents, Standing, NO_LEFTOVER, bare}
 use Rattle.site_defs.specs.Fronts.{with_sequence, IsFrontOf}
-use Rattle.site_defs.specs.Stands.{IsSite}
+use Rattle.site_defs.specs.Stands.{IsSite, HasLeft}
+use Rattle.site_defs.specs.Behind.{IsFrontLeft, IsSiteWith}
 use Rattle.site_defs.specs.Texts.{reply_line}
 use Rattle.site_store.specs.declared.site.OpenSite.{OpenSite}
 use Rattle.site_store.specs.Site.{IsOpen, HasReign, with_entry}
 use Rattle.repl_section.specs.declared.reign.Reign.{Reign}
 use Rattle.repl_section.specs.Reigns.{Reigns, stamp_in, stamp_of}
-use Rattle.repl_section.proofs.Standing.{entries_counted, told_there, all_stand}
-use Rattle.repl_section.specs.Deciding.{outcome, HasCome, Appends, MayHave}
+use Rattle.repl_section.proofs.Standing.{entries_counted, told_there, all_stand, all_bare}
+use Rattle.repl_section.specs.Deciding.{outcome, HasCome, Appends, MayHave, LeavesPick}
 
 -- next serials are no part of what a reign has
 other_serials : (v : View) (stamp : Stamp) (told : Bool) (c : Contents) (r : Reign) (s : Reign) → s ≡ record r { serials = s.serials } → Reigns v told c r → Reigns v told c s
@@ -67,6 +68,12 @@ nothing_yet w c after told stands = record { told = told; images = λ f i. inl (
 -- nothing was done
 pub stays : (v : View) (c : Contents) (after : Sequence) (r : Reign) → Reigns v true c r → MayHave v c after
 stays v c after r h = nothing_yet v c after (told_there v true c r h refl) (all_stand v true c r h refl)
+
+pub nothing_left : (w : View) (c : Contents) (after : Sequence) → ((f : Files) → Image w f → IsSite f c) → ((f : Files) → Image w f → HasLeft f c NO_LEFTOVER) → LeavesPick w c after
+nothing_left w c after stands none = λ f i. (bare c, inl refl, record { site = stands f i; left = none f i })
+
+pub stays_bare : (v : View) (c : Contents) (after : Sequence) (r : Reign) → Reigns v true c r → LeavesPick v c after
+stays_bare v c after r h = nothing_left v c after (all_stand v true c r h refl) (all_bare v true c r h refl)
 
 with_it_or_not : (f : Files) (c o : Contents) (e : Entry) → IsFrontOf (c.sequence ++ e ∷ []) (length c.sequence) (with_sequence c (c.sequence ++ e ∷ [])) o → IsSite f o → IsSite f c ⊎ IsSite f (with_sequence c (c.sequence ++ e ∷ []))
 with_it_or_not f c o e front is = by_count (cases_lt (length c.sequence) front.count)
@@ -119,6 +126,24 @@ commit_hardened v mid w r m c u serial us answers reigns reign some room at told
     let there : IsOpen mid true (with_sequence c (c.sequence ++ e ∷ [])) (length c.sequence) m =
     subst (λ (x : Contents). IsOpen mid true x (length c.sequence) m) (entry_under r.site.stamp reign.stamp (record { origin = record { updater = u; serial = serial }; updates = us }) c reign.is) entered in
     commit_may_have w (stamp_of r) r c u serial us answers n some room at (with_it_perhaps w c e told (fronts (with_sequence c (c.sequence ++ e ∷ [])) (length c.sequence) there))
+
+pub commit_leaves : (v mid w : View) (r : Reign) (m : OpenSite) (c : Contents) (u serial : ℕ) (us : List Update) (answers : Answers)
+    → Reigns v true c r → HasReign r.site → 1 ≤ length us → length r.site.entries.items + 1 < 2 ^ 40 → serial ≡ serial_at r.serials u
+    → IsOpen mid true (with_entry r.site.stamp (record { origin = record { updater = u; serial = serial }; updates = us }) c) (length c.sequence) m
+    → ((o : Contents) (h : ℕ) → IsOpen mid true o h m → (f : Files) → Image w f → (p : Standing) × IsFrontLeft o.sequence h o p × IsSiteWith f p)
+    → LeavesPick w c (outcome (stamp_of r) r.serials c.sequence u (Done us answers)).sequence
+commit_leaves v mid w r m c u serial us answers reigns reign some room at entered fronts =
+    let e = entry_of (stamp_of r) u serial us in
+    let all : Sequence = c.sequence ++ e ∷ [] in
+    let n : length r.site.entries.items ≡ length c.sequence = entries_counted v true c (length c.sequence) r.site reigns in
+    let there : IsOpen mid true (with_sequence c all) (length c.sequence) m =
+    subst (λ (x : Contents). IsOpen mid true x (length c.sequence) m) (entry_under r.site.stamp reign.stamp (record { origin = record { updater = u; serial = serial }; updates = us }) c reign.is) entered in
+    let is : all ≡ (outcome (stamp_of r) r.serials c.sequence u (Done us answers)).sequence =
+    ap (λ (k : ℕ). c.sequence ++ entry_of (stamp_of r) u k us ∷ []) at ∙ sym (ap (λ (t : Turn). t.sequence) (committed (stamp_of r) r c.sequence u us answers n some room)) in
+    subst (λ (x : Sequence). LeavesPick w c x) is (λ f i.
+    let p = fronts (with_sequence c all) (length c.sequence) there f i in
+    let front = p.1.front in
+    (p.0, inr (record { front = record { count = front.count; least = front.least; most = front.most; is = front.is }; kept = p.1.kept; broken = p.1.broken; lacks = p.1.lacks }), p.2))
 
 pub commit_done : (v mid w : View) (told : Bool) (c : Contents) (r hard s : Reign) (m : OpenSite) (u serial number : ℕ) (us : List Update) (answers : Answers) (before now : List ℕ)
     → Reigns v told c r → HasReign r.site → 1 ≤ length us → length r.site.entries.items + 1 < 2 ^ 40 → serial ≡ serial_at r.serials u → number ≡ length r.site.entries.items + 1

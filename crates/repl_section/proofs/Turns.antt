@@ -13,14 +13,15 @@ use Rattle.global_defs.specs.Jobs.{Job, Answers}
 use Rattle.global_defs.specs.Evaluation.{Evaluated, Done, eval}
 use Rattle.global_defs.specs.Evaluation as evaluation
 use Rattle.global_defs.specs.Serial.{Turn, Replied, Reply, Seq, Read, RolledBack, first_of, next_job, without_next, picked, decided, replied, begun, MOST_ENTRIES}
-use Rattle.site_defs.specs.Contents.{Contents}
+use Rattle.site_defs.specs.Contents.{Contents, Standing, bare}
+use Rattle.site_defs.specs.Behind.{MayStand}
 use Rattle.site_defs.specs.Fronts.{with_sequence, IsFrontOf, turn_of}
 use Rattle.site_defs.specs.Stands.{IsSite}
 use Rattle.site_defs.specs.Texts.{reply_line, is_past, printed}
 use Rattle.repl_section.specs.declared.reign.Reign.{Reign}
 use Rattle.repl_section.specs.Reigns.{Reigns, stamp_in, stamp_of}
-use Rattle.repl_section.proofs.Standing.{told_there, all_stand}
-use Rattle.repl_section.specs.Deciding.{outcome, HasCome, Appends, MayHave, HasReached, MayHaveFront, FailsBy, FailsAt, FailsIn, MayLeave}
+use Rattle.repl_section.proofs.Standing.{told_there, all_stand, all_bare}
+use Rattle.repl_section.specs.Deciding.{outcome, HasCome, Appends, MayHave, HasReached, MayHaveFront, FailsBy, FailsAt, FailsIn, LeftAfter, MayLeave, StandsLeft, LeavesPick}
 
 -- a turn with one more pick
 abbrev pub with_pick : Turn → ℕ → Turn → Turn
@@ -160,6 +161,13 @@ old_front : (seq : Sequence) (p : Turn) (c : Contents) → Appends seq p → IsF
 old_front seq p c a = subst (λ (x : Sequence). IsFrontOf x (length seq) c (with_sequence c seq)) (sym a.sequence)
     (record { count = length seq; least = omega arith; most = omega (arith, longer seq a.entry); is = ap (with_sequence c) (sym (take-append_seam seq (a.entry ∷ []))) })
 
+-- the same of contents with another sequence
+over_other : (before after : Sequence) (c : Contents) (o : Standing) → MayStand (with_sequence c before) before after o → MayStand c before after o
+over_other before after c o (inl is) = inl is
+over_other before after c o (inr left) =
+    let front = left.front in
+    inr (record { front = record { count = front.count; least = front.least; most = front.most; is = front.is }; kept = left.kept; broken = left.broken; lacks = left.lacks })
+
 -- what stands where the entry of a pick may stand or not
 failed_front : (w : View) (told : Bool) (c : Contents) (seq : Sequence) (p : Turn) → Appends seq p → (IsTrue told → MayHave w (with_sequence c seq) p.sequence) → MayHaveFront w told c p.sequence (length seq)
 failed_front w told c seq p a may = record { told = λ k. (may k).told; images = λ k files now. by_image files ((may k).images files now) }
@@ -232,13 +240,27 @@ failed_at v w stamp told c serials jobs left order i u job undecided r1 t0 t1 h 
     subst (λ (x : Turn). FailsBy w told c x (length order) undecided t0 t1) (sym (next_turn v stamp told c serials jobs left order i u job undecided r1 t0 t1 h inside is next))
     (failed_by v w stamp told c (come_to stamp serials jobs order i c.sequence) (pick_at stamp serials jobs order i c r1 u job) u left undecided (length order) r1 t0 t1 h a may)
 
+-- what it left, with what lies behind that
+left_after : (v : View) (stamp : Stamp) (told : Bool) (c : Contents) (serials : List ℕ) (jobs left : List (List Job)) (order : List ℕ) (i u : ℕ) (job : Job) (undecided : ℕ) (r1 : Reign) (t0 t1 : List ℕ)
+    → HasGone v stamp told c (come_to stamp serials jobs order i c.sequence) left undecided (length order) r1 t0 t1 → i < length order → u ≡ get_or order i 0 → next_job u left ≡ Some job
+    → (files : Files) → StandsLeft (with_sequence c (come_to stamp serials jobs order i c.sequence).sequence) (pick_at stamp serials jobs order i c r1 u job).sequence files → LeftAfter stamp c jobs order serials i files
+left_after v stamp told c serials jobs left order i u job undecided r1 t0 t1 h inside is next files q =
+    let t = come_to stamp serials jobs order i c.sequence in
+    let p = pick_at stamp serials jobs order i c r1 u job in
+    record {
+      standing = q.0;
+      may = subst (λ (x : Turn). MayStand c t.sequence x.sequence q.0) (sym (next_turn v stamp told c serials jobs left order i u job undecided r1 t0 t1 h inside is next)) (over_other t.sequence p.sequence c q.0 q.1);
+      stands = q.2;
+    }
+
 -- and the picks before it have their replies
 pub failed_in : (v w : View) (stamp : Stamp) (told : Bool) (c : Contents) (serials : List ℕ) (jobs left : List (List Job)) (order : List ℕ) (i u : ℕ) (job : Job) (undecided : ℕ) (r1 : Reign) (t0 t1 : List ℕ)
     → HasGone v stamp told c (come_to stamp serials jobs order i c.sequence) left undecided (length order) r1 t0 t1 → i < length order → u ≡ get_or order i 0 → next_job u left ≡ Some job
     → Appends (come_to stamp serials jobs order i c.sequence).sequence (pick_at stamp serials jobs order i c r1 u job)
     → (IsTrue told → MayHave w (with_sequence c (come_to stamp serials jobs order i c.sequence).sequence) (pick_at stamp serials jobs order i c r1 u job).sequence)
+    → (IsTrue told → LeavesPick w (with_sequence c (come_to stamp serials jobs order i c.sequence).sequence) (pick_at stamp serials jobs order i c r1 u job).sequence)
     → FailsIn w stamp told c jobs order serials undecided t0 t1
-failed_in v w stamp told c serials jobs left order i u job undecided r1 t0 t1 h inside is next a may =
+failed_in v w stamp told c serials jobs left order i u job undecided r1 t0 t1 h inside is next a may leaves =
     let t = come_to stamp serials jobs order i c.sequence in
     record {
       decided = i;
@@ -247,16 +269,19 @@ failed_in v w stamp told c serials jobs left order i u job undecided r1 t0 t1 h 
       text = h.reached.text;
       front = subst (λ (x : Turn). MayHaveFront w told c x.sequence (length t.sequence)) (sym (next_turn v stamp told c serials jobs left order i u job undecided r1 t0 t1 h inside is next))
           (failed_front w told c t.sequence (pick_at stamp serials jobs order i c r1 u job) a may);
+      left = λ k files now. left_after v stamp told c serials jobs left order i u job undecided r1 t0 t1 h inside is next files (leaves k files now);
     }
 
 -- the pick was cut off
 pub left_at : (v w : View) (stamp : Stamp) (told : Bool) (c : Contents) (serials : List ℕ) (jobs left : List (List Job)) (order : List ℕ) (i u : ℕ) (job : Job) (undecided : ℕ) (r1 : Reign) (t0 t1 : List ℕ)
     → HasGone v stamp told c (come_to stamp serials jobs order i c.sequence) left undecided (length order) r1 t0 t1 → i < length order → u ≡ get_or order i 0 → next_job u left ≡ Some job
     → (IsTrue told → MayHave w (with_sequence c (come_to stamp serials jobs order i c.sequence).sequence) (pick_at stamp serials jobs order i c r1 u job).sequence)
+    → (IsTrue told → LeavesPick w (with_sequence c (come_to stamp serials jobs order i c.sequence).sequence) (pick_at stamp serials jobs order i c r1 u job).sequence)
     → MayLeave w stamp told c jobs order serials
-left_at v w stamp told c serials jobs left order i u job undecided r1 t0 t1 h inside is next may = record {
+left_at v w stamp told c serials jobs left order i u job undecided r1 t0 t1 h inside is next may leaves = record {
   told = λ k. (may k).told;
   images = λ k files now. by_image files ((may k).images files now);
+  left = λ k files now. (i, left_after v stamp told c serials jobs left order i u job undecided r1 t0 t1 h inside is next files (leaves k files now));
 }
   where
     by_image : (files : Files) → IsSite files (with_sequence c (come_to stamp serials jobs order i c.sequence).sequence) ⊎ IsSite files (with_sequence c (pick_at stamp serials jobs order i c r1 u job).sequence)
@@ -282,4 +307,9 @@ pub none_left : (v : View) (told : Bool) (c : Contents) (jobs : List (List Job))
 none_left v told c jobs order r h = record {
   told = told_there v told c r h;
   images = λ k files now. (with_sequence c c.sequence, (0, all_front c.sequence c (length c.sequence) (omega arith)), all_stand v told c r h k files now);
+  left = λ k files now. (0, record {
+    standing = bare (with_sequence c c.sequence);
+    may = inl refl;
+    stands = record { site = all_stand v told c r h k files now; left = all_bare v told c r h k files now };
+  });
 }

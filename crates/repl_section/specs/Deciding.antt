@@ -7,9 +7,10 @@ use Rattle.global_defs.specs.Jobs.{Job}
 use Rattle.global_defs.specs.Evaluation.{Evaluated}
 use Rattle.global_defs.specs.Evaluation as evaluation
 use Rattle.global_defs.specs.Serial.{Turn, Replied, decided, begun}
-use Rattle.site_defs.specs.Contents.{Contents}
+use Rattle.site_defs.specs.Contents.{Contents, Standing}
 use Rattle.site_defs.specs.Fronts.{with_sequence, IsFrontOf, turn_of}
 use Rattle.site_defs.specs.Stands.{IsSite}
+use Rattle.site_defs.specs.Behind.{MayStand, IsSiteWith}
 use Rattle.site_defs.specs.Texts.{reply_line, is_past, printed}
 use Rattle.site_store.specs.Site.{HasRoomFor}
 use Rattle.repl_section.specs.declared.reign.Reign.{Reign}
@@ -30,6 +31,14 @@ FitsIn g (evaluation.RolledBack cause) = Unit {0}
 pub record MayHave (v : View) (c : Contents) (after : Sequence) : Type 0 where
   pub told : IsSome v.content
   pub images : (files : Files) → Image v files → IsSite files c ⊎ IsSite files (with_sequence c after)
+
+-- files stand as they may once one more pick has come to this sequence, or failed
+abbrev pub StandsLeft : Contents → (after : Sequence) → Files → Type 0
+StandsLeft c after files = (o : Standing) × MayStand c c.sequence after o × IsSiteWith files o
+
+-- so it is of each image
+abbrev pub LeavesPick : View → Contents → (after : Sequence) → Type 0
+LeavesPick v c after = (files : Files) → Image v files → StandsLeft c after files
 
 -- A pick has come to this turn: the reign has its entries and its next serials, and its replies were added.
 pub record HasCome (v : View) (told : Bool) (c : Contents) (t : Turn) (r : Reign) (before now : List ℕ) : Type 0 where
@@ -75,20 +84,28 @@ pub record FailsBy (v : View) (told : Bool) (c : Contents) (t : Turn) (picks und
 abbrev pub FailsAt : View → Stamp → Bool → Contents → List (List Job) → (order serials : List ℕ) → (undecided : ℕ) → List ℕ → List ℕ → ℕ → Type 0
 FailsAt v stamp told c jobs order serials undecided before now n = FailsBy v told c (turn_of stamp serials jobs (take n order) c.sequence) (length order) undecided before now
 
+-- So many first picks were decided, and perhaps one more was under way: what files stand for then, with what lies behind it.
+pub record LeftAfter (stamp : Stamp) (c : Contents) (jobs : List (List Job)) (order serials : List ℕ) (decided : ℕ) (files : Files) : Type 0 where
+  pub standing : Standing
+  pub may : MayStand c (turn_of stamp serials jobs (take decided order) c.sequence).sequence (turn_of stamp serials jobs (take (decided + 1) order) c.sequence).sequence standing
+  pub stands : IsSiteWith files standing
+
 -- A fault in the pick behind the first ones, which were decided: each of them that had a job has its reply, and no other has one. The
--- entry of the pick that failed may stand or not.
+-- entry of the pick that failed may stand or not; where it doesn't, some of its parts may lie behind the sequence.
 pub record FailsIn (v : View) (stamp : Stamp) (told : Bool) (c : Contents) (jobs : List (List Job)) (order serials : List ℕ) (undecided : ℕ) (before now : List ℕ) : Type 0 where
   pub decided : ℕ
   pub inside : decided < length order
   pub count : undecided + length (turn_of stamp serials jobs (take decided order) c.sequence).replies ≡ length order
   pub text : now ≡ before ++ flat_map reply_line (turn_of stamp serials jobs (take decided order) c.sequence).replies
   pub front : MayHaveFront v told c (turn_of stamp serials jobs (take (decided + 1) order) c.sequence).sequence (length (turn_of stamp serials jobs (take decided order) c.sequence).sequence)
+  pub left : IsTrue told → (files : Files) → Image v files → LeftAfter stamp c jobs order serials decided files
 
 -- where files are known, each image stands for a front of what some first picks come to
 pub record MayLeave (v : View) (stamp : Stamp) (is_told : Bool) (c : Contents) (jobs : List (List Job)) (order serials : List ℕ) : Type 0 where
   pub told : IsTrue is_told → IsSome v.content
   pub images : IsTrue is_told → (files : Files) → Image v files
       → (o : Contents) × ((n : ℕ) × IsFrontOf (turn_of stamp serials jobs (take n order) c.sequence).sequence (length c.sequence) c o) × IsSite files o
+  pub left : IsTrue is_told → (files : Files) → Image v files → (decided : ℕ) × LeftAfter stamp c jobs order serials decided files
 
 -- how a section ends that was not decided to its end
 abbrev pub Breaks : RunError → View → Stamp → Bool → Contents → List (List Job) → (order serials : List ℕ) → List ℕ → List ℕ → Type 0

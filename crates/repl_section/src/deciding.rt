@@ -12,7 +12,7 @@ ghost use Rattle.site_defs.specs.Texts.{reply_line};
 ghost use Rattle.site_store.specs.Site.{IsReady, HasReign, HasRoomFor};
 ghost use Rattle.repl_section.specs.Replies.{replied_value};
 ghost use Rattle.repl_section.specs.Reigns.{Reigns, stamp_of};
-ghost use Rattle.repl_section.specs.Deciding.{outcome, FitsIn, HasCome, Appends, MayHave};
+ghost use Rattle.repl_section.specs.Deciding.{outcome, FitsIn, HasCome, Appends, MayHave, LeavesPick};
 
 use crate::error::DecideError;
 use crate::fitting::all_fit;
@@ -83,6 +83,7 @@ impl Reign {
         ensures stamp { self.new.site.stamp ≡ self.old.site.stamp }
         ensures done { OnOk result ((told : Bool) (c : Contents) → Reigns (D.disk disk.old) told c self.old → HasCome (D.disk disk.new) told c (outcome (stamp_of self.old) self.old.serials c.sequence origin.updater (evaluation.Done updates answers)) self.new text.old text.new) }
         ensures may_have { (c : Contents) → Reigns (D.disk disk.old) true c self.old → MayHave (D.disk disk.new) c (outcome (stamp_of self.old) self.old.serials c.sequence origin.updater (evaluation.Done updates answers)).sequence }
+        ensures leaves { (c : Contents) → Reigns (D.disk disk.old) true c self.old → LeavesPick (D.disk disk.new) c (outcome (stamp_of self.old) self.old.serials c.sequence origin.updater (evaluation.Done updates answers)).sequence }
         ensures text { IsErrOf result DecideError.Failed → text.new ≡ text.old }
         ensures simulated { (D.disk disk.new).simulated ≡ (D.disk disk.old).simulated }
         ensures later { (D.disk disk.old).faults ≤ (D.disk disk.new).faults }
@@ -117,6 +118,7 @@ impl Reign {
         ensures done { OnOk result ((told : Bool) (c : Contents) → Reigns (D.disk disk.old) told c self.old → HasCome (D.disk disk.new) told c (outcome (stamp_of self.old) self.old.serials c.sequence origin.updater (evaluated_value evaluated)) self.new text.old text.new) }
         ensures appends { IsErrOf result DecideError.Failed → (told : Bool) (c : Contents) → Reigns (D.disk disk.old) told c self.old → Appends c.sequence (outcome (stamp_of self.old) self.old.serials c.sequence origin.updater (evaluated_value evaluated)) }
         ensures may_have { (c : Contents) → Reigns (D.disk disk.old) true c self.old → MayHave (D.disk disk.new) c (outcome (stamp_of self.old) self.old.serials c.sequence origin.updater (evaluated_value evaluated)).sequence }
+        ensures leaves { (c : Contents) → Reigns (D.disk disk.old) true c self.old → LeavesPick (D.disk disk.new) c (outcome (stamp_of self.old) self.old.serials c.sequence origin.updater (evaluated_value evaluated)).sequence }
         ensures text { IsErrOf result DecideError.Failed → text.new ≡ text.old }
         ensures simulated { (D.disk disk.new).simulated ≡ (D.disk disk.old).simulated }
         ensures later { (D.disk disk.old).faults ≤ (D.disk disk.new).faults }
@@ -160,6 +162,7 @@ impl Reign {
         ensures done { OnOk result ((told : Bool) (c : Contents) → Reigns (D.disk disk.old) told c self.old → HasCome (D.disk disk.new) told c (outcome (stamp_of self.old) self.old.serials c.sequence updater (eval (job_value job.now) self.old.site.globals)) self.new text.old text.new) }
         ensures appends { IsErrOf result DecideError.Failed → (told : Bool) (c : Contents) → Reigns (D.disk disk.old) told c self.old → Appends c.sequence (outcome (stamp_of self.old) self.old.serials c.sequence updater (eval (job_value job.now) self.old.site.globals)) }
         ensures may_have { (c : Contents) → Reigns (D.disk disk.old) true c self.old → MayHave (D.disk disk.new) c (outcome (stamp_of self.old) self.old.serials c.sequence updater (eval (job_value job.now) self.old.site.globals)).sequence }
+        ensures leaves { (c : Contents) → Reigns (D.disk disk.old) true c self.old → LeavesPick (D.disk disk.new) c (outcome (stamp_of self.old) self.old.serials c.sequence updater (eval (job_value job.now) self.old.site.globals)).sequence }
         ensures text { IsErrOf result DecideError.Failed → text.new ≡ text.old }
         ensures simulated { (D.disk disk.new).simulated ≡ (D.disk disk.old).simulated }
         ensures later { (D.disk disk.old).faults ≤ (D.disk disk.new).faults }

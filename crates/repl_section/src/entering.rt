@@ -3,9 +3,10 @@ ghost use Rattle.std.specs.Prelude.{◌≡◌, ◌≤◌, ◌<◌, ◌+◌, ◌^
 ghost use Rattle.disk_defs.specs.Disk.{Files, Image, Rose};
 ghost use Rattle.global_defs.specs.Fields.{IsTransaction};
 ghost use Rattle.gvn_model.specs.Entries.{transaction_value};
-ghost use Rattle.site_defs.specs.Contents.{Contents};
+ghost use Rattle.site_defs.specs.Contents.{Contents, Standing, NO_LEFTOVER};
 ghost use Rattle.site_defs.specs.Fronts.{IsFrontOf};
-ghost use Rattle.site_defs.specs.Stands.{IsSite};
+ghost use Rattle.site_defs.specs.Stands.{IsSite, HasLeft};
+ghost use Rattle.site_defs.specs.Behind.{IsFrontLeft, IsSiteWith};
 ghost use Rattle.site_store.specs.Site.{IsReady, IsOpen, HasReign, HasRoomFor, with_entry};
 ghost use Rattle.repl_section.specs.Reigns.{Reigns};
 
@@ -37,6 +38,7 @@ impl Reign {
         ensures serials { self.new.serials ≡ self.old.serials }
         ensures still_told { IsSome (D.disk disk.old).content → IsSome (D.disk disk.new).content }
         ensures images { (c : Contents) → Reigns (D.disk disk.old) true c self.old → (f : Files) → Image (D.disk disk.new) f → IsSite f c }
+        ensures bare { (c : Contents) → Reigns (D.disk disk.old) true c self.old → (f : Files) → Image (D.disk disk.new) f → HasLeft f c NO_LEFTOVER }
         ensures simulated { (D.disk disk.new).simulated ≡ (D.disk disk.old).simulated }
         ensures later { (D.disk disk.old).faults ≤ (D.disk disk.new).faults }
         ensures cause { IsErrOf result DecideError.Failed → Rose (D.disk disk.old).faults (D.disk disk.new).faults }
@@ -60,6 +62,7 @@ impl Reign {
         ensures serials { self.new.serials ≡ self.old.serials }
         ensures still_told { IsSome (D.disk disk.old).content → IsSome (D.disk disk.new).content }
         ensures images { (c : Contents) (h : ℕ) → IsOpen (D.disk disk.old) true c h self.old.site → (f : Files) → Image (D.disk disk.new) f → (o : Contents) × IsFrontOf c.sequence h c o × IsSite f o }
+        ensures left { (c : Contents) (h : ℕ) → IsOpen (D.disk disk.old) true c h self.old.site → (f : Files) → Image (D.disk disk.new) f → (o : Standing) × IsFrontLeft c.sequence h c o × IsSiteWith f o }
         ensures simulated { (D.disk disk.new).simulated ≡ (D.disk disk.old).simulated }
         ensures later { (D.disk disk.old).faults ≤ (D.disk disk.new).faults }
         ensures cause { IsErrOf result DecideError.Failed → Rose (D.disk disk.old).faults (D.disk disk.new).faults }

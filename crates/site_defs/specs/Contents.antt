@@ -39,3 +39,12 @@ pub record Leftover : Type 0 where
 
 abbrev pub NO_LEFTOVER : Leftover
 NO_LEFTOVER = record { broken = []; torn = [] }
+
+-- What the files of one image stand for, and the text of the broken transactions behind that, which the next opening writes down.
+pub record Standing : Type 0 where
+  pub contents : Contents
+  pub broken : List ℕ
+
+-- nothing lies behind these
+abbrev pub bare : Contents → Standing
+bare c = record { contents = c; broken = [] }

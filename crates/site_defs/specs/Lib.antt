@@ -4,5 +4,6 @@ pub mod Limits
 pub mod Opening
 pub mod Fronts
 pub mod Stands
+pub mod Behind
 pub mod Texts
 pub mod Samples

@@ -7,7 +7,7 @@ use Rattle.journal_defs.specs.Journal.{Start}
 use Rattle.journal_defs.specs.Instance as records
 use Rattle.journal_defs.specs.Instance.{NamedMode, InstanceRecord, pattern_record, generation, greatest_cycle, mode_of, site_name, regions}
 use Rattle.journal_defs.specs.Broken.{BrokenPart, broken_text}
-use Rattle.site_defs.specs.Contents.{Contents, Leftover}
+use Rattle.site_defs.specs.Contents.{Contents, Leftover, Standing, bare}
 use Rattle.site_defs.specs.Limits.{region_number}
 
 -- what is broken behind these contents is the text of some parts
@@ -61,6 +61,13 @@ with_reign name c = record { instance = c.instance ++ records.Reigned (next_reig
 abbrev pub MayOpen : List ℕ → Contents → Contents → Type 0
 MayOpen broken c o = (o ≡ c) ⊎ ((k : ℕ) × (o ≡ with_starts k (cut_there broken c)))
 
+-- what it may leave of these with what lies behind them: the same, or with a CUT, that text written down, the next generation begun in the first k regions, and nothing behind
+abbrev pub MayOpenLeft : Standing → Standing → Type 0
+MayOpenLeft s o = (o ≡ s) ⊎ ((k : ℕ) × (o ≡ bare (with_starts k (cut_there s.broken s.contents))))
+
 -- what beginning a reign may leave of them: what opening may, or opened and with the reign
 abbrev pub MayBegin : Name → List ℕ → Contents → Contents → Type 0
 MayBegin name broken c o = MayOpen broken c o ⊎ (o ≡ with_reign name (opened broken c))
+
+abbrev pub MayBeginLeft : Name → Standing → Standing → Type 0
+MayBeginLeft name s o = MayOpenLeft s o ⊎ (o ≡ bare (with_reign name (opened s.broken s.contents)))

@@ -21,6 +21,7 @@ use Rattle.journal_defs.specs.Surviving.{reigns}
 use Rattle.journal_defs.specs.Sequence.{Placed, Records}
 use Rattle.journal_defs.specs.Stands.{IsInstance}
 use Rattle.journal_defs.specs.Growth.{with_record, AreEntries, appended, tcoms}
+use Rattle.journal_defs.specs.Clean.{MOST_GENERATIONS}
 use Rattle.journal_defs.specs.Fit.{IsSoundImage, IsAtHome, MOST_REIGNS}
 use Rattle.journal_laws.proofs.Runs as runs
 use Rattle.journal_laws.proofs.Later as later
@@ -30,11 +31,12 @@ use Rattle.instance_file.specs.declared.instance.Instance.{Instance}
 use Rattle.region_journals.specs.declared.journals.RegionJournals.{RegionJournals}
 use Rattle.region_journals.specs.Fronts.{AreInside}
 use Rattle.region_journals.specs.Journals.{AreReady, KeepsJournals}
-use Rattle.site_defs.specs.Contents.{Contents, is_made}
+use Rattle.site_defs.specs.Contents.{Contents, NO_LEFTOVER, is_made, bare}
 use Rattle.site_defs.specs.Fronts.{with_sequence}
 use Rattle.site_defs.specs.Opening.{with_reign, next_reign}
 use Rattle.site_defs.specs.Limits.{LAST_CYCLE, no_reign_left}
-use Rattle.site_defs.specs.Stands.{texts_of, IsSite}
+use Rattle.site_defs.specs.Stands.{texts_of, IsSite, HasLeft}
+use Rattle.site_defs.specs.Behind.{IsSiteWith}
 use Rattle.site_store.specs.declared.layout.Layout.{Layout}
 use Rattle.site_store.specs.declared.site.OpenSite.{OpenSite}
 use Rattle.site_store.specs.Finding.{HasLayout}
@@ -42,9 +44,11 @@ use Rattle.site_store.specs.Site.{Remembers, IsReady, Keeps, IsOpen, WasOpened, 
 use Rattle.gvn_model.specs.Numbered.{numbered}
 use Rattle.site_store.specs.Reigning.{HasNoReignLeft, HasReignLeft, IsNextReign}
 use Rattle.site_store.proofs.Standing.{images_stand, reads_of, reads_so, told_of, still}
-use Rattle.site_store.proofs.Images.{same_image, reign_image, generation_kept, patterns_kept, name_kept, regions_kept, AreOf, are_of, site_of, is_created, texts_same}
+use Rattle.site_store.proofs.Images.{same_image, reign_image, generation_kept, patterns_kept, name_kept, regions_kept, AreOf, are_of, site_of, is_created, texts_same, left_nothing}
+use Rattle.site_store.proofs.Emptied.{none_left}
 use Rattle.site_store.proofs.Frames as frames
 use Rattle.site_store.proofs.Remembered.{remembered_length}
+use Rattle.site_store.proofs.Parts.{no_entry_no_part}
 
 -- limits
 filter_all : (n : ℕ) (rs : List Reign) → AllByRecursion (λ (r : Reign). r.start ≤ n) rs → length (filter (λ (r : Reign). nat_le r.start n) rs) ≡ length rs
@@ -166,12 +170,32 @@ site_begun : (v : View) (c : Contents) (s : OpenSite) (k : Keeps v c (length c.s
 site_begun v c s k past d f was same now =
     site_of f (begun c) (with_record k.records (Reigned (reign_of c))) (are_begun d f c k.records same (one_of v c s k d was)) (sound_begun v c s k past d f was same now)
 
+-- the newest generation isn't the last
+not_last : (v : View) (c : Contents) (s : OpenSite) → Keeps v c (length c.sequence) s → generation c.instance < MOST_GENERATIONS
+not_last v c s k =
+    let newest = k.newest.generation in
+    let low = k.newest.not_last in
+    omega (arith, newest, low)
+
 -- at each moment
-pub reign_moments : (v w : View) (c : Contents) (s : OpenSite) → Keeps v c (length c.sequence) s → AllByRecursion (λ (q : Reign). q.start < length c.sequence + 1) (reigns c.instance)
-    → AtEachMoment v w (OnlyOn v INSTANCE (instances.StandsWith c.instance (Reigned (reign_of c)))) → AtEachMoment v w (λ f. IsSite f c ⊎ IsSite f (begun c))
-reign_moments v w c s k past run = weaker v w (OnlyOn v INSTANCE (instances.StandsWith c.instance (Reigned (reign_of c)))) (λ f. IsSite f c ⊎ IsSite f (begun c)) (λ f q. elim q.here [
-  | inl same ↦ inl (site_of f c k.records (still_one q.others.0 f q.others.1 q.others.2) (kept q.others.0 f q.others.1 q.others.2 same))
-  | inr more ↦ inr (site_begun v c s k past q.others.0 f q.others.1 q.others.2 more)
+pub reign_left : (v w : View) (c : Contents) (s : OpenSite) → Keeps v c (length c.sequence) s → AllByRecursion (λ (q : Reign). q.start < length c.sequence + 1) (reigns c.instance)
+    → AtEachMoment v w (OnlyOn v INSTANCE (instances.StandsWith c.instance (Reigned (reign_of c)))) → AtEachMoment v w (λ f. IsSiteWith f (bare c) ⊎ IsSiteWith f (bare (begun c)))
+reign_left v w c s k past run = weaker v w (OnlyOn v INSTANCE (instances.StandsWith c.instance (Reigned (reign_of c)))) (λ f. IsSiteWith f (bare c) ⊎ IsSiteWith f (bare (begun c))) (λ f q. elim q.here [
+  | inl same ↦
+      let sound = kept q.others.0 f q.others.1 q.others.2 same in
+      inl (record {
+        site = site_of f c k.records (still_one q.others.0 f q.others.1 q.others.2) sound;
+        left = left_nothing f c k.records sound.held sound.clean k.none_past k.newest.instance (not_last v c s k);
+      })
+  | inr more ↦
+      let sound = sound_begun v c s k past q.others.0 f q.others.1 q.others.2 more in
+      inr (record {
+        site = site_begun v c s k past q.others.0 f q.others.1 q.others.2 more;
+        left = left_nothing f (begun c) (with_record k.records (Reigned (reign_of c))) sound.held sound.clean
+            (λ n r late. runs.part_of-sparing k.records.instance (Reigned (reign_of c)) n (k.records.journal r) (λ h m. refl) ∙ k.none_past n r late)
+            (ap (λ (l : List InstanceRecord). l ++ Reigned (reign_of c) ∷ []) k.newest.instance)
+            (subst (λ (n : ℕ). n < MOST_GENERATIONS) (sym (generation_kept c.instance (reign_of c))) (not_last v c s k));
+      })
 ]) run
   where
     still_one : (d f : Files) → Image v d → SameOutside (Only INSTANCE) d f → AreOf f c k.records
@@ -268,6 +292,7 @@ module _ (v w : View) (c : Contents) (old new : OpenSite) (k : Keeps v c (length
     waiting = k.waiting;
     are_waiting = subst (λ (ps : List (ℕ → Option Part)). AreEntries (c.instance ++ Reigned (reign_of c) ∷ []) (suc k.g) (length c.sequence) ps (drop (length c.sequence) c.sequence)) (sym nothing_waits)
         (subst (AreEntries (c.instance ++ Reigned (reign_of c) ∷ []) (suc k.g) (length c.sequence) []) (sym (drop-length c.sequence)) tt);
+    are_parts = nothing_waits ∙ no_entry_no_part (patterns (c.instance ++ Reigned (reign_of c) ∷ [])) c.sequence;
     in_regions = subst (λ (n : ℕ). AreInside n k.waiting) (sym count) k.in_regions;
     at_home = λ r low. subst (λ (ps : List (ℕ → Option Part)). AllByRecursion (λ (p : Placed). IsAtHome (c.instance ++ Reigned (reign_of c) ∷ []) r p.generation p.what) (appended (suc k.g) ps r)) (sym nothing_waits) tt;
     instance_file = has;
@@ -332,6 +357,7 @@ open_kept v w told c h old new lawful ready stays unwritten state records entrie
         no_epoch_past = k.no_epoch_past;
         waiting = k.waiting;
         are_waiting = k.are_waiting;
+        are_parts = k.are_parts;
         in_regions = k.in_regions;
         at_home = k.at_home;
         instance_file = state c.instance k.instance_file;
@@ -368,18 +394,32 @@ open_begun v w told c old new r lawful b entries changed hardened journals is =
     }
 
 -- at each moment of it
+pub left_begun : (v w : View) (c : Contents) (old : OpenSite) (r : Reign) → AllByRecursion (λ (q : Reign). q.start ≤ length old.entries.items) (reigns old.instance.records) → IsNextReign old r
+    → ((rs : List InstanceRecord) → instances.HasRecords v old.instance rs → AtEachMoment v w (OnlyOn v INSTANCE (instances.StandsWith rs (Reigned r))))
+    → IsOpen v true c (length c.sequence) old → AtEachMoment v w (λ f. IsSiteWith f (bare c) ⊎ IsSiteWith f (bare (begun c)))
+left_begun v w c old r past next run is =
+    let same = next_is c (length c.sequence) old r is.remembered next in
+    let k = is.kept refl in
+    reign_left v w c old k (past_in c (length c.sequence) old is.remembered past)
+    (subst (λ (x : Reign). AtEachMoment v w (OnlyOn v INSTANCE (instances.StandsWith c.instance (Reigned x)))) same (run c.instance k.instance_file))
+
 pub moments_begun : (v w : View) (c : Contents) (old : OpenSite) (r : Reign) → AllByRecursion (λ (q : Reign). q.start ≤ length old.entries.items) (reigns old.instance.records) → IsNextReign old r
     → ((rs : List InstanceRecord) → instances.HasRecords v old.instance rs → AtEachMoment v w (OnlyOn v INSTANCE (instances.StandsWith rs (Reigned r))))
     → IsOpen v true c (length c.sequence) old → AtEachMoment v w (λ f. IsSite f c ⊎ IsSite f (begun c))
-moments_begun v w c old r past next run is =
-    let same = next_is c (length c.sequence) old r is.remembered next in
-    let k = is.kept refl in
-    reign_moments v w c old k (past_in c (length c.sequence) old is.remembered past)
-    (subst (λ (x : Reign). AtEachMoment v w (OnlyOn v INSTANCE (instances.StandsWith c.instance (Reigned x)))) same (run c.instance k.instance_file))
+moments_begun v w c old r past next run is = weaker v w (λ f. IsSiteWith f (bare c) ⊎ IsSiteWith f (bare (begun c))) (λ f. IsSite f c ⊎ IsSite f (begun c)) (λ f q. elim q [
+  | inl stays ↦ inl stays.site
+  | inr more ↦ inr more.site
+]) (left_begun v w c old r past next run is)
 
 pub stands_begun : (v w : View) (c : Contents) → IsLawful w → AtEachMoment v w (λ f. IsSite f c ⊎ IsSite f (begun c)) → IfSome w.content (λ f. IsSite f c ⊎ IsSite f (begun c))
 stands_begun v w c lawful run = reads_of w (λ f. IsSite f c ⊎ IsSite f (begun c)) lawful (holds_now v w (λ f. IsSite f c ⊎ IsSite f (begun c)) lawful run)
 
 -- before it
+pub quiet_left : (v : View) (c : Contents) (old : OpenSite) → IsOpen v true c (length c.sequence) old → AtEachMoment v v (λ f. IsSiteWith f (bare c) ⊎ IsSiteWith f (bare (begun c)))
+quiet_left v c old is = started v (λ f. IsSiteWith f (bare c) ⊎ IsSiteWith f (bare (begun c))) (λ f now. inl (record {
+  site = images_stand v c old is f now;
+  left = subst (λ (seq : Sequence). HasLeft f (with_sequence c seq) NO_LEFTOVER) (take-length c.sequence) (none_left v c (length c.sequence) old f (is.kept refl) now);
+}))
+
 pub quiet : (v : View) (c : Contents) (old : OpenSite) → IsOpen v true c (length c.sequence) old → AtEachMoment v v (λ f. IsSite f c ⊎ IsSite f (begun c))
 quiet v c old is = started v (λ f. IsSite f c ⊎ IsSite f (begun c)) (λ f now. inl (images_stand v c old is f now))

@@ -11,7 +11,7 @@ use Rattle.std.proofs.lemmas.List.Sums.{fold-append}
 use Rattle.std.proofs.Math.Seq.{take-append-add}
 use Rattle.disk_defs.specs.Disk.{Files, View, Image, IsLawful, AtEachMoment}
 use Rattle.disk_defs.specs.Frames.{OnlyIn, OthersStay}
-use Rattle.disk_defs.proofs.Moments.{weaker, then_more, holds_now}
+use Rattle.disk_defs.proofs.Moments.{weaker, then_more, holds_now, started}
 use Rattle.global_defs.specs.Entry.{Update, Entry, Sequence, Transaction, apply, state}
 use Rattle.global_defs.specs.Evaluation.{MOST_NODES}
 use Rattle.global_defs.specs.Prefix.{stamp_at}
@@ -40,9 +40,10 @@ use Rattle.region_journals.specs.Fronts.{IsNewestFile, HasFirst}
 use Rattle.region_journals.specs.declared.journals.RegionJournals.{RegionJournals}
 use Rattle.region_journals.specs.Journals.{AreReady, KeepsJournals, ArePrepared, part_in, listed}
 use Rattle.region_journals.proofs.Waiting.{tcoms_more}
-use Rattle.site_defs.specs.Contents.{Contents}
+use Rattle.site_defs.specs.Contents.{Contents, NO_LEFTOVER}
+use Rattle.site_defs.specs.Behind.{parts_of_each}
 use Rattle.site_defs.specs.Fronts.{with_sequence}
-use Rattle.site_defs.specs.Stands.{IsSite}
+use Rattle.site_defs.specs.Stands.{IsSite, HasLeft}
 use Rattle.site_store.specs.declared.site.OpenSite.{OpenSite}
 use Rattle.site_store.specs.Finding.{HasLayout}
 use Rattle.site_store.specs.Site.{Remembers, IsReady, Keeps, IsOpen, HasReign, HasRoomFor, with_entry}
@@ -52,7 +53,9 @@ use Rattle.site_store.proofs.Frames as frames
 use Rattle.site_store.proofs.Remembered.{remembered_length, entries_more, globals_more}
 use Rattle.site_store.proofs.Standing.{reads_of, reads_so, told_of, still, keeps_images}
 use Rattle.site_store.proofs.Entries as entries
+use Rattle.site_store.proofs.Emptied.{none_left}
 use Rattle.site_store.proofs.Newest as newest
+use Rattle.site_store.proofs.Parts.{parts_more}
 
 -- the parts that were appended are those of the transaction
 pub parts_appended : (v : View) (s : OpenSite) (t : Transaction) (parts : PartRecords) (before js : List RegionJournal) (hard waiting : ℕ → List JournalRecord) → length js ≡ length before → length before ≤ 8
@@ -122,6 +125,26 @@ pub commit_moments : (v w x : View) (c : Contents) (h : ℕ) (old mid : OpenSite
 commit_moments v w x c h old mid lawful p run is =
     then_more v w x (λ f. IsSite f (with_sequence c (take h c.sequence))) (λ f. IsSite f (with_sequence c (take h c.sequence))) (prepare_moments v w c h old p.moments is)
     (append_moments w x c h mid (keeps_prepared v w c h old mid p lawful (is.kept refl)) p.ready_after (own_records v w c h old mid p is.remembered) run) (λ f q. q)
+
+-- and nothing lies behind the hardened entries
+abbrev IsBare : Contents → ℕ → Files → Type 0
+IsBare c h f = HasLeft f (with_sequence c (take h c.sequence)) NO_LEFTOVER
+
+pub prepare_bare : (v w : View) (c : Contents) (h : ℕ) (old : OpenSite) → AtEachMoment v w (Image v) → IsOpen v true c h old → AtEachMoment v w (IsBare c h)
+prepare_bare v w c h old run is = weaker v w (Image v) (IsBare c h) (λ f was. none_left v c h old f (is.kept refl) was) run
+
+append_bare : (w x : View) (c : Contents) (h : ℕ) (mid : OpenSite) → Keeps w c h mid → IsReady w mid → mid.instance.records ≡ c.instance → AppendMoments w x mid.journals.journals.items → AtEachMoment w x (IsBare c h)
+append_bare w x c h mid k ready own run =
+    weaker w x (OnlyIn w (IsNewestFile (suc k.g) (length (regions c.instance))) (HasFirst (suc k.g) (length (regions c.instance)) k.newer (tcoms k.waiting) (λ r. 0))) (IsBare c h)
+    (λ f q. newest.none_behind w c h mid k ready own q.others.0 f q.others.1 q.others.2 q.here) (append_run w x c h mid k ready own run)
+
+pub commit_bare : (v w x : View) (c : Contents) (h : ℕ) (old mid : OpenSite) → IsLawful w → Prepares v w old mid → AppendMoments w x mid.journals.journals.items → IsOpen v true c h old → AtEachMoment v x (IsBare c h)
+commit_bare v w x c h old mid lawful p run is =
+    then_more v w x (IsBare c h) (IsBare c h) (prepare_bare v w c h old p.moments is)
+    (append_bare w x c h mid (keeps_prepared v w c h old mid p lawful (is.kept refl)) p.ready_after (own_records v w c h old mid p is.remembered) run) (λ f q. q)
+
+pub quiet_bare : (v : View) (c : Contents) (h : ℕ) (old : OpenSite) → IsOpen v true c h old → AtEachMoment v v (IsBare c h)
+quiet_bare v c h old is = started v (IsBare c h) (λ f now. none_left v c h old f (is.kept refl) now)
 
 pub site_moments : (v w : View) (c : Contents) (h : ℕ) (old : OpenSite) → AtEachMoment v w (Image v) → IsOpen v true c h old → AtEachMoment v w (λ f. IsSite f (with_sequence c (take h c.sequence)))
 site_moments v w c h old run is = prepare_moments v w c h old run is
@@ -272,6 +295,9 @@ keeps_longer v w x c h old mid new t parts p before m lawful lawful_after =
       are_waiting = subst (AreEntries c.instance (suc k.g) h (k.waiting ++ part ∷ [])) (sym (drop-append-le h c.sequence (e ∷ []) k.count))
           (entries.entries_more c.instance (suc k.g) h (length old.entries.items + 1) k.waiting (drop h c.sequence) (region_in c) (mask_of (region_in c) t.updates) (transaction_value t) (stamp_value p.enters.entry.stamp) k.are_waiting
           (number_of c h old m k.count) (let same = k.newest.generation in omega (arith, same)) are.is_split (stamp_of c h old p.enters.entry.stamp m p.reign p.enters.next.stamp));
+      are_parts = ap (λ (l : List (ℕ → Option Part)). l ++ part ∷ []) k.are_parts
+          ∙ sym (parts_more (patterns c.instance) h (length old.entries.items + 1) (drop h c.sequence) e (number_of c h old m k.count))
+          ∙ ap (parts_of_each (patterns c.instance) h) (sym (drop-append-le h c.sequence (e ∷ []) k.count));
       in_regions = all_both (λ (part : ℕ → Option Part). (r : ℕ) → length (regions c.instance) ≤ r → part r ≡ None) k.waiting (part ∷ []) k.in_regions (are.no_other, tt);
       at_home = λ r here. entries.all_home c.instance (suc k.g) r (length old.entries.items + 1) (mask_of (region_in c) t.updates) (transaction_value t) k.waiting (k.at_home r here);
       instance_file = instance_kept w x mid new (suc k.g) (length mid.journals.journals.items) c.instance stays p.instance k.instance_file;

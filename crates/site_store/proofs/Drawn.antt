@@ -14,6 +14,7 @@ use Rattle.journal_defs.specs.Instance.{InstanceRecord, NamedMode, generation, r
 use Rattle.journal_defs.specs.Directory.{Pattern, patterns}
 use Rattle.journal_defs.specs.Broken.{broken, broken_text}
 use Rattle.journal_defs.specs.Sequence.{Placed, Records, IsSequence}
+use Rattle.journal_defs.specs.Clean.{MOST_GENERATIONS}
 use Rattle.journal_defs.specs.Fit.{IsSoundImage}
 use Rattle.journal_defs.specs.Stands.{in_generation}
 use Rattle.journal_laws.proofs.Drawing as drawing
@@ -24,9 +25,11 @@ use Rattle.site_files.specs.Loading.{MayBeOpened, AreRead, IsUncut, HasDrawn, Ma
 use Rattle.site_files.specs.Loading as files
 use Rattle.site_files.proofs.Keeping as keeping
 use Rattle.site_files.proofs.Kept.{held_read}
-use Rattle.site_defs.specs.Contents.{Contents, Leftover}
-use Rattle.site_defs.specs.Opening.{cut_there, opened, with_starts, starts_in, start_of, MayOpen}
+use Rattle.site_defs.specs.Contents.{Contents, Leftover, Standing, bare}
+use Rattle.site_defs.specs.Opening.{cut_there, opened, with_starts, starts_in, start_of, MayOpen, MayOpenLeft}
 use Rattle.site_defs.specs.Stands.{start_in, texts_of, IsSite, HasLeft}
+use Rattle.site_defs.specs.Behind.{IsStanding}
+use Rattle.site_store.proofs.Images.{left_nothing}
 use Rattle.site_store.proofs.Starts.{starts_of, last_is, mode_cut}
 
 -- generations of the files that stay
@@ -168,3 +171,42 @@ module _ (rs : List InstanceRecord) (last : ℕ → ℕ) (journal : ℕ → List
 
     pub site_begun : (b : Files) → IsSoundImage a S seq → broken_there ≡ text → HasDrawn rs (length seq) broken_there last many a b → IsSite b (opened broken_there (C a))
     site_begun b sound is has = site_drawn b many sound is has
+
+    -- and what lies behind that
+    standing_drawn : (b : Files) (k : ℕ) → IsSoundImage a S seq → broken_there ≡ text → HasDrawn rs (length seq) broken_there last k a b → IsStanding b (bare (with_starts k D))
+    standing_drawn b k sound is has =
+        let image = keeping.drawn_image a S last form seq sound broken_there read k b has in
+        let low : generation (rs ++ next_cut rs (length seq) ∷ []) < MOST_GENERATIONS = (let e = newest_is in let room = form.room in omega (arith, e, room)) in
+        record {
+          site = site_drawn b k sound is has;
+          torn = [];
+          left = left_nothing b (with_starts k D) (drawn_records S (length seq) last k) image.held image.clean (keeping.none_past S (length seq) last (drawing.before a S (generation rs + 1) sound.held past) k) refl low;
+        }
+
+    pub standing_either : (b : Files) (s : Standing) → IsStanding a s → broken_there ≡ text → MayDraw rs (length seq) broken_there last a b → (o : Standing) × MayOpenLeft s o × IsStanding b o
+    standing_either b s was is may =
+        let found = site_read a s.contents read was.site in
+        let same : was.left.records ≡ S = records_one a was.left.records S was.left.held (held_read rs last journal a read) in
+        let there : s.broken ≡ broken_there = left_read a s.contents (record { broken = s.broken; torn = was.torn }) read was.site was.left ∙ sym is in
+        elim may [
+          | inl cut ↦ (
+            s,
+            inl refl,
+            record {
+              site = subst (IsSite b) (sym found.1) (site_uncut a b broken_there read found.0 is cut);
+              torn = b (broken_file (suc (generation s.contents.instance)));
+              left = record {
+                records = S;
+                held = (keeping.uncut_image a S last form seq found.0 broken_there b is cut).held;
+                broken = was.left.broken ∙ ap (λ (u : Records). broken_text (site_name s.contents.instance) (length s.contents.sequence) (broken u (length s.contents.sequence))) same;
+                torn = refl;
+              };
+            },
+          )
+          | inr drawn ↦ (
+            bare (with_starts drawn.0 (cut_there s.broken s.contents)),
+            inr (drawn.0, refl),
+            subst (λ (x : Contents). IsStanding b (bare (with_starts drawn.0 (cut_there s.broken x)))) (sym found.1)
+                (subst (λ (t : List ℕ). IsStanding b (bare (with_starts drawn.0 (cut_there t (C a))))) (sym there) (standing_drawn b drawn.0 found.0 is drawn.1)),
+          )
+        ]

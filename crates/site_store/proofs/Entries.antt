@@ -18,7 +18,7 @@ use Rattle.journal_laws.proofs.Merging as merging
 use Rattle.journal_laws.proofs.PartForms as forms
 
 -- in the newest generation everything survives
-survives_newest : (instance : List InstanceRecord) (g n : ℕ) → generation instance ≤ g → survives instance g n ≡ true
+pub survives_newest : (instance : List InstanceRecord) (g n : ℕ) → generation instance ≤ g → survives instance g n ≡ true
 survives_newest [] g n low = refl
 survives_newest (Cut m h ∷ rs) g n low = let yes : nat_le h g ≡ true = grind (arith, nat_tests, low) in rw yes (survives_newest rs g n (omega (arith, low)))
 survives_newest (Create name regions ∷ rs) g n low = survives_newest rs g n low

@@ -9,6 +9,7 @@ use Rattle.disk_defs.proofs.Moments.{weaker, holds_now}
 use Rattle.journal_defs.specs.Numbers.{journal_file}
 use Rattle.journal_defs.specs.Journal.{JournalRecord, IsJournalBody}
 use Rattle.journal_defs.specs.Instance.{regions}
+use Rattle.journal_defs.specs.Directory.{patterns}
 use Rattle.journal_defs.specs.Sequence.{Records}
 use Rattle.journal_defs.specs.Stands.{Holds}
 use Rattle.journal_defs.specs.Growth.{NonePast, AreEntries, tcoms}
@@ -20,7 +21,8 @@ use Rattle.region_journals.specs.Fronts.{IsNewestFile, HasFirst}
 use Rattle.region_journals.specs.Journals.{AreReady, KeepsJournals}
 use Rattle.region_journals.proofs.Fronts.{no_pini}
 use Rattle.region_journals.proofs.Turns.{found}
-use Rattle.site_defs.specs.Contents.{Contents}
+use Rattle.site_defs.specs.Contents.{Contents, Standing}
+use Rattle.site_defs.specs.Behind.{IsFrontLeft, IsSiteWith}
 use Rattle.site_defs.specs.Fronts.{with_sequence, IsFrontOf}
 use Rattle.site_defs.specs.Stands.{IsSite}
 use Rattle.site_store.specs.declared.site.OpenSite.{OpenSite}
@@ -31,6 +33,7 @@ use Rattle.site_store.proofs.Standing.{reads_of, reads_so, told_of, still}
 use Rattle.site_store.proofs.Committed.{instance_kept, ready_after}
 use Rattle.site_store.proofs.Waiting as waiting
 use Rattle.site_store.proofs.Newest as newest
+use Rattle.site_store.proofs.Parts.{no_entry_no_part}
 
 -- each moment of a hardening of these journals
 abbrev pub HardenMoments : View → View → List RegionJournal → Type 0
@@ -47,6 +50,14 @@ harden_moments v w c h s ready run is =
     let k = is.kept refl in
     weaker v w (OnlyIn v (IsNewestFile (suc k.g) (length (regions c.instance))) (λ f. (kept : ℕ → ℕ) × HasFirst (suc k.g) (length (regions c.instance)) k.newer (tcoms k.waiting) kept f)) (λ f. (o : Contents) × IsFrontOf c.sequence h c o × IsSite f o)
     (λ f q. newest.front_site v c h s k ready is.remembered.instance q.others.0 f q.here.0 q.others.1 q.others.2 q.here.1)
+    (harden_run v w c h s k ready is.remembered.instance run)
+
+-- with the parts that came past it
+pub harden_left : (v w : View) (c : Contents) (h : ℕ) (s : OpenSite) → IsReady v s → HardenMoments v w s.journals.journals.items → IsOpen v true c h s → AtEachMoment v w (λ f. (o : Standing) × IsFrontLeft c.sequence h c o × IsSiteWith f o)
+harden_left v w c h s ready run is =
+    let k = is.kept refl in
+    weaker v w (OnlyIn v (IsNewestFile (suc k.g) (length (regions c.instance))) (λ f. (kept : ℕ → ℕ) × HasFirst (suc k.g) (length (regions c.instance)) k.newer (tcoms k.waiting) kept f)) (λ f. (o : Standing) × IsFrontLeft c.sequence h c o × IsSiteWith f o)
+    (λ f q. newest.front_left v c h s k ready is.remembered.instance q.others.0 f q.here.0 q.others.1 q.others.2 q.here.1)
     (harden_run v w c h s k ready is.remembered.instance run)
 
 pub harden_stands : (v w : View) (c : Contents) (h : ℕ) → IsLawful w → AtEachMoment v w (λ f. (o : Contents) × IsFrontOf c.sequence h c o × IsSite f o) → IfSome w.content (λ f. (o : Contents) × IsFrontOf c.sequence h c o × IsSite f o)
@@ -144,6 +155,7 @@ module _ (v w : View) (c : Contents) (h : ℕ) (old new : OpenSite) (p : Hardens
     no_epoch_past = λ r here. waiting.no_epoch_past_all c.instance h (length c.sequence) (suc k.g) (k.records.journal r) k.waiting r k.count (k.no_epoch_past r here);
     waiting = [];
     are_waiting = subst (AreEntries c.instance (suc k.g) (length c.sequence) []) (sym (drop-length c.sequence)) tt;
+    are_parts = no_entry_no_part (patterns c.instance) c.sequence;
     in_regions = tt;
     at_home = λ r here. tt;
     instance_file = instance_kept v w old new (suc k.g) (length old.journals.journals.items) c.instance stays p.instance k.instance_file;

@@ -6,8 +6,9 @@ pub mod Remembered
 pub mod Begun
 pub mod Items
 pub mod Nodes
-pub mod Newest
 pub mod Entries
+pub mod Parts
+pub mod Newest
 pub mod Waiting
 pub mod Committed
 pub mod Hardened

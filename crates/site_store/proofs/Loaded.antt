@@ -15,6 +15,7 @@ use Rattle.global_defs.specs.Fields.{IsSiteName}
 use Rattle.gvn_model.specs.Entries.{entry_value}
 use Rattle.gvn_model.specs.declared.entry.Entry.{Entry}
 use Rattle.journal_defs.specs.Instance.{InstanceRecord, Create, Reigned, Cut, Map, Mode, IsInForm, BeginsWithCreate, generation, regions, site_name}
+use Rattle.journal_defs.specs.Directory.{patterns}
 use Rattle.journal_defs.specs.Surviving.{reigns}
 use Rattle.journal_defs.specs.Sequence.{Placed, Records, IsSequence}
 use Rattle.journal_defs.specs.Growth.{AreEntries}
@@ -42,9 +43,10 @@ use Rattle.site_store.specs.declared.site.OpenSite.{OpenSite}
 use Rattle.site_store.specs.Finding.{HasLayout}
 use Rattle.site_store.specs.Site.{Remembers, IsReady, Keeps, IsOpen, WasOpened, WasOpenedFrom}
 use Rattle.gvn_model.specs.Numbered.{numbered}
-use Rattle.site_store.specs.Opening.{MayBeOpen, EachStands, AreTextsDurable}
+use Rattle.site_store.specs.Opening.{MayBeOpen, MayBeOpenWith, EachStands, AreTextsDurable}
 use Rattle.site_store.proofs.Found.{instance_one, blank_instance}
-use Rattle.site_store.proofs.Drawn.{S, C, text, newest_is, same_regions, site_read, left_read, site_either, site_begun, newest_whole, texts_kept}
+use Rattle.site_store.proofs.Drawn.{S, C, text, newest_is, same_regions, site_read, left_read, site_either, standing_either, site_begun, newest_whole, texts_kept}
+use Rattle.site_store.proofs.Parts.{no_entry_no_part}
 
 pub length_values : (es : List Entry) → length (map entry_value es) ≡ length es
 length_values [] = refl
@@ -80,6 +82,20 @@ quiet_told u v run = always u.content
     always : (o : Option Files) → IfSome o (Moments u v)
     always None = tt
     always (Some f) = λ c left site has. quiet u v left.broken run
+
+-- with what lies behind
+abbrev pub Lefts : View → View → Files → Type 0
+Lefts u v files = (c : Contents) → IsSite files c → AtEachMoment u v (MayBeOpenWith u)
+
+quiet_with : (u v : View) → AtEachMoment u v (Image u) → AtEachMoment u v (MayBeOpenWith u)
+quiet_with u v run = weaker u v (Image u) (MayBeOpenWith u) (λ f image. (f, image, λ s was. (s, inl refl, was))) run
+
+pub quiet_left : (u v : View) → AtEachMoment u v (Image u) → IfSome u.content (Lefts u v)
+quiet_left u v run = always u.content
+  where
+    always : (o : Option Files) → IfSome o (Lefts u v)
+    always None = tt
+    always (Some f) = λ c site. quiet_with u v run
 
 pub quiet_stands : (o n : Option Files) → n ≡ o → IfSome o (StandsOpen n)
 quiet_stands o n same = subst (λ (z : Option Files). IfSome o (StandsOpen z)) (sym same) (itself o)
@@ -213,6 +229,19 @@ module _ (u v w : View) (rs : List InstanceRecord) (last : ℕ → ℕ) (journal
       subst (λ (t : List ℕ). AtEachMoment u w (MayBeOpen u t)) (left_is files c left r.holds site has)
       (then_more u v w (MayBeOpen u broken) Drawing (quiet u v broken synced) (m (short files is.0)) (λ f q. may_open files r f q)))
 
+  may_open_with : (files : Files) → WasRead v rs last journal files → (f : Files) → Drawing f → MayBeOpenWith u f
+  may_open_with files r f q = (
+    q.0,
+    earlier q.0 q.1,
+    λ s was. standing_either rs last journal seq form sequence q.0 (image_read v rs last journal files r q.0 q.1) broken f s was broken_is q.2,
+  )
+
+  pub drawn_left : IfSome v.content (λ files. IsShort files → AtEachMoment v w Drawing) → IfSome u.content (Lefts u w)
+  drawn_left run = both_weak u.content (WasRead v rs last journal) (λ files. IsShort files → AtEachMoment v w Drawing) (Lefts u w) read
+      (told_at u.content v.content (λ files. IsShort files → AtEachMoment v w Drawing) same run)
+      (λ files r m c site.
+      then_more u v w (MayBeOpenWith u) Drawing (quiet_with u v synced) (m (short files (site_read rs last journal seq form sequence files c r.holds site).0)) (λ f q. may_open_with files r f q))
+
   pub drawn_stands : IfSome v.content (λ files. IsShort files → IfSome w.content (MayDraw rs (length seq) broken last files)) → IfSome u.content (StandsOpen w.content)
   drawn_stands drawn = both_weak u.content (WasRead v rs last journal) (λ files. IsShort files → IfSome w.content (MayDraw rs (length seq) broken last files)) (StandsOpen w.content) read
       (told_at u.content v.content (λ files. IsShort files → IfSome w.content (MayDraw rs (length seq) broken last files)) same drawn)
@@ -293,6 +322,7 @@ module _ (u v w : View) (rs : List InstanceRecord) (last : ℕ → ℕ) (journal
             no_epoch_past = λ q below. keeping.no_epoch_past S0 (length seq) last (drawing.before files S0 (generation rs + 1) here.held (omega arith)) (length (regions rs)) q;
             waiting = [];
             are_waiting = subst (λ (es : Sequence). AreEntries (rs ++ next_cut rs (length seq) ∷ []) (suc (generation rs)) (length seq) [] es) (sym (drop-length seq)) tt;
+            are_parts = no_entry_no_part (patterns (rs ++ next_cut rs (length seq) ∷ [])) seq;
             in_regions = tt;
             at_home = λ q below. tt;
             instance_file = instance;

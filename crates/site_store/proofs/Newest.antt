@@ -1,5 +1,5 @@
 -- Images of an open site whose newest journals have the first few of the records that wait.
-use Rattle.std.proofs.Common.{◌≡◌, ◌≤◌, ◌<◌, ℕ, zero, suc, List, [], ◌∷◌, ◌++◌, length, take, drop, Some, None, refl, sym, ◌∙◌, ap, subst, arith, append-nil, take_all}
+use Rattle.std.proofs.Common.{◌≡◌, ◌≤◌, ◌<◌, ◌+◌, ◌-◌, ℕ, zero, suc, List, [], ◌∷◌, ◌++◌, length, take, drop, Some, None, refl, sym, ◌∙◌, ap, subst, arith, append-nil, take_all}
 use Rattle.std.specs.Prelude.{Option, IsSomeAnd}
 use Rattle.std.specs.List.{AllByRecursion, filter_map}
 use Rattle.std.proofs.Math.Path.{fun_ext}
@@ -11,7 +11,9 @@ use Rattle.disk_defs.specs.Frames.{SameOutside}
 use Rattle.global_defs.specs.Entry.{Sequence}
 use Rattle.journal_defs.specs.Numbers.{journal_file, broken_file}
 use Rattle.journal_defs.specs.Journal.{JournalRecord, Tcom, Part, IsJournalBody}
-use Rattle.journal_defs.specs.Instance.{InstanceRecord, generation, regions}
+use Rattle.journal_defs.specs.Instance.{InstanceRecord, generation, regions, site_name}
+use Rattle.journal_defs.specs.Directory.{patterns}
+use Rattle.journal_defs.specs.Broken.{broken, broken_text}
 use Rattle.journal_defs.specs.Sequence.{Placed, Records, IsSequence}
 use Rattle.journal_defs.specs.Stands.{Holds, in_generation}
 use Rattle.journal_defs.specs.Growth.{NonePast, AreEntries, placed, appended, tcoms, with_more}
@@ -29,13 +31,16 @@ use Rattle.region_journals.specs.Fronts as newest_files
 use Rattle.region_journals.specs.Journals.{AreReady}
 use Rattle.region_journals.proofs.Fronts as fronts
 use Rattle.region_journals.proofs.Turns.{found}
-use Rattle.site_defs.specs.Contents.{Contents}
+use Rattle.site_defs.specs.Contents.{Contents, Standing, NO_LEFTOVER}
+use Rattle.site_defs.specs.Behind.{left_of, text_left, AreKept, IsFrontLeft, IsSiteWith}
 use Rattle.site_defs.specs.Fronts.{with_sequence, IsFrontOf}
-use Rattle.site_defs.specs.Stands.{start_in, IsSite}
+use Rattle.site_defs.specs.Stands.{start_in, IsSite, HasLeft}
 use Rattle.site_store.specs.declared.site.OpenSite.{OpenSite}
 use Rattle.site_store.specs.Site.{IsReady, Keeps}
-use Rattle.site_store.proofs.Images.{AreOf, are_of, site_of, texts_same}
+use Rattle.site_store.proofs.Emptied.{none_left}
+use Rattle.site_store.proofs.Images.{AreOf, are_of, site_of, texts_same, left_nothing}
 use Rattle.site_store.proofs.Items.{length-map-of}
+use Rattle.site_store.proofs.Parts.{broken_first, parts_taken, lacks_one}
 
 -- an image has the hardened records
 none_taken : {X : Type 0} (m : ℕ) → take {A = X} m [] ≡ []
@@ -133,11 +138,18 @@ module _ (v : View) (c : Contents) (h : ℕ) (s : OpenSite) (k : Keeps v c h s) 
   abbrev with_first : (ℕ → ℕ) → Records
   with_first kept = with_more base (λ r. take (kept r) (appended (suc k.g) k.waiting r))
 
+  -- with all of them
+  abbrev pub all_of : Records
+  all_of = with_more base (appended (suc k.g) k.waiting)
+
   abbrev InNewest : Files → Files → Type 0
   InNewest d f = SameOutside (IsNewestFile (suc k.g) (length (regions c.instance))) d f
 
   abbrev HasKept : (ℕ → ℕ) → Files → Type 0
   HasKept kept f = HasFirst (suc k.g) (length (regions c.instance)) k.newer (tcoms k.waiting) kept f
+
+  all_run : (d : Files) → Image v d → IsSequence all_of c.sequence
+  all_run d was = subst (IsSequence all_of) whole (laws.all base (take h c.sequence) (suc k.g) k.waiting (drop h c.sequence) (sound_base d was).sequence none_past entries)
 
   front_image : (d f : Files) (kept : ℕ → ℕ) → Image v d → InNewest d f → HasKept kept f → (j : ℕ) × (h ≤ j) × (j ≤ length c.sequence) × IsSoundImage f (with_first kept) (take j c.sequence)
   front_image d f kept was same first =
@@ -172,6 +184,39 @@ module _ (v : View) (c : Contents) (h : ℕ) (s : OpenSite) (k : Keeps v c h s) 
         site_of f (with_sequence c (take found.0 c.sequence)) (with_first kept) (of_first d f kept (take found.0 c.sequence) was same) found.3,
       )
 
+  -- and what lies behind it are the parts that came past it
+  pub front_left : (d f : Files) (kept : ℕ → ℕ) → Image v d → InNewest d f → HasKept kept f → (o : Standing) × IsFrontLeft c.sequence h c o × IsSiteWith f o
+  front_left d f kept was same first =
+      let found = front_image d f kept was same first in
+      let seq : Sequence = take found.0 c.sequence in
+      let long : length seq ≡ found.0 = length-take-le found.0 c.sequence found.2 in
+      let least = found.1 in
+      let newest = k.newest.generation in
+      let low = k.newest.not_last in
+      let some = few in
+      let here : text_left c c.sequence h kept (length seq) ≡ broken_text (site_name c.instance) (length seq) (broken (with_first kept) (length seq)) =
+      ap (broken_text (site_name c.instance) (length seq))
+      (ap (λ (ps : List (ℕ → Option Part)). left_of c.instance ps kept (length seq)) (sym k.are_parts)
+      ∙ sym (broken_first base (suc k.g) h (length seq) k.waiting kept (subst (λ (n : ℕ). NonePast n base) size none_past) (omega (arith, long, least)) (omega (arith, newest)))) in (
+        record { contents = with_sequence c seq; broken = text_left c c.sequence h kept (length seq) },
+        record {
+          front = record { count = found.0; least = found.1; most = found.2; is = refl };
+          kept = kept;
+          broken = refl;
+          lacks = λ less has. lacks_one base (suc k.g) h (length seq) (length (regions c.instance)) k.waiting (drop h c.sequence) c.sequence kept k.are_waiting (all_run d was) found.3.sequence.ended (omega (arith, long, least)) less k.in_regions
+              (subst (λ (ps : List (ℕ → Option Part)). AreKept (length (regions c.instance)) ps kept) (parts_taken (patterns c.instance) h (length seq + 1 - h) (drop h c.sequence) ∙ ap (take (length seq + 1 - h)) (sym k.are_parts)) has);
+        },
+        record {
+          site = site_of f (with_sequence c seq) (with_first kept) (of_first d f kept seq was same) found.3;
+          left = record {
+            records = with_first kept;
+            held = found.3.held;
+            broken = here;
+            torn = (none_left v c h s d k was).torn ∙ sym (same (broken_file (suc (generation c.instance))) (λ i. omega (arith, i.is, i.inside, newest, low, some)));
+          };
+        },
+      )
+
   -- with none of those that wait
   pub none_image : (d f : Files) → Image v d → InNewest d f → HasKept (λ r. 0) f → IsSoundImage f base (take h c.sequence)
   none_image d f was same first =
@@ -183,9 +228,13 @@ module _ (v : View) (c : Contents) (h : ℕ) (s : OpenSite) (k : Keeps v c h s) 
   none_site d f was same first =
       site_of f (with_sequence c (take h c.sequence)) base (subst (AreOf f (with_sequence c (take h c.sequence))) (none_first base (suc k.g) k.waiting) (of_first d f (λ r. 0) (take h c.sequence) was same)) (none_image d f was same first)
 
-  -- with all of them
-  abbrev pub all_of : Records
-  all_of = with_more base (appended (suc k.g) k.waiting)
+  -- and nothing lies behind it
+  pub none_behind : (d f : Files) → Image v d → InNewest d f → HasKept (λ r. 0) f → HasLeft f (with_sequence c (take h c.sequence)) NO_LEFTOVER
+  none_behind d f was same first =
+      let sound = none_image d f was same first in
+      let newest = k.newest.generation in
+      let low = k.newest.not_last in
+      left_nothing f (with_sequence c (take h c.sequence)) base sound.held sound.clean none_past refl (omega (arith, newest, low))
 
   abbrev pub every : ℕ → ℕ
   every r = length (tcoms k.waiting r)
@@ -194,7 +243,7 @@ module _ (v : View) (c : Contents) (h : ℕ) (s : OpenSite) (k : Keeps v c h s) 
   all_image d f was same first =
       let found = front_image d f every was same first in
       let sound : IsSoundImage f all_of (take found.0 c.sequence) = subst (λ (u : Records). IsSoundImage f u (take found.0 c.sequence)) (all_first base (suc k.g) k.waiting) found.3 in
-      let longest : IsSequence all_of c.sequence = subst (IsSequence all_of) whole (laws.all base (take h c.sequence) (suc k.g) k.waiting (drop h c.sequence) (sound_base d was).sequence none_past entries) in
+      let longest = all_run d was in
       subst (IsSoundImage f all_of) (runs.one all_of (take found.0 c.sequence) c.sequence sound.sequence longest) sound
 
   pub all_site : (d f : Files) → Image v d → InNewest d f → HasKept every f → IsSite f (with_sequence c (take (length c.sequence) c.sequence))

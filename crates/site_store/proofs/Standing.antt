@@ -64,6 +64,7 @@ keeps_images v w c h old new k lawful told from instance journals = record {
   no_epoch_past = k.no_epoch_past;
   waiting = k.waiting;
   are_waiting = k.are_waiting;
+  are_parts = k.are_parts;
   in_regions = k.in_regions;
   at_home = k.at_home;
   instance_file = instance;

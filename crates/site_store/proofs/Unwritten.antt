@@ -112,6 +112,7 @@ keeps_read v w c n s r h = record {
   no_epoch_past = h.no_epoch_past;
   waiting = h.waiting;
   are_waiting = h.are_waiting;
+  are_parts = h.are_parts;
   in_regions = h.in_regions;
   at_home = h.at_home;
   instance_file = instance_has v w s.instance c.instance r h.instance_file;

@@ -4,9 +4,10 @@ use Rattle.disk_defs.specs.Disk.{Files, View, Image, From, IsDurable}
 use Rattle.journal_defs.specs.Numbers.{broken_file}
 use Rattle.journal_defs.specs.Instance as records
 use Rattle.journal_defs.specs.Instance.{NamedMode}
-use Rattle.site_defs.specs.Contents.{Contents}
-use Rattle.site_defs.specs.Opening.{MayOpen, with_pattern}
+use Rattle.site_defs.specs.Contents.{Contents, Standing}
+use Rattle.site_defs.specs.Opening.{MayOpen, MayOpenLeft, with_pattern}
 use Rattle.site_defs.specs.Stands.{IsBlank, IsSite, Stands}
+use Rattle.site_defs.specs.Behind.{IsStanding}
 use Rattle.site_store.specs.declared.layout.RegionSpec.{RegionSpec}
 
 abbrev pub region_value : RegionSpec → NamedMode
@@ -31,6 +32,10 @@ MayHavePattern old region text = From (Image old) (λ was now. (c : Contents) �
 -- an image from before the call, whose site may have been opened, with this text of what is broken
 abbrev pub MayBeOpen : View → List ℕ → Files → Type 0
 MayBeOpen old broken = From (Image old) (λ was now. (c : Contents) → IsSite was c → (o : Contents) × MayOpen broken c o × IsSite now o)
+
+-- an image from before the call, whose site may have been opened, with the text of what was broken in that image; and what lies behind that
+abbrev pub MayBeOpenWith : View → Files → Type 0
+MayBeOpenWith old = From (Image old) (λ was now. (s : Standing) → IsStanding was s → (o : Standing) × MayOpenLeft s o × IsStanding now o)
 
 -- each image stands for something
 abbrev pub EachStands : View → Type 0

@@ -13,6 +13,7 @@ use Rattle.gvn_model.specs.Reigns.{stamp_value}
 use Rattle.global_defs.specs.Evaluation.{MOST_NODES}
 use Rattle.journal_defs.specs.Journal.{JournalRecord, Part, BeginsWithPini}
 use Rattle.journal_defs.specs.Instance.{Cut, generation, site_name, regions}
+use Rattle.journal_defs.specs.Directory.{patterns}
 use Rattle.journal_defs.specs.Surviving.{reigns}
 use Rattle.journal_defs.specs.Sequence.{Placed, Records}
 use Rattle.journal_defs.specs.Stands.{IsJournal, in_generation}
@@ -26,6 +27,7 @@ use Rattle.region_journals.specs.Fronts.{AreInside}
 use Rattle.site_defs.specs.Contents.{Contents}
 use Rattle.site_defs.specs.Fronts.{with_sequence}
 use Rattle.site_defs.specs.Stands.{IsSite}
+use Rattle.site_defs.specs.Behind.{parts_of_each}
 use Rattle.site_store.specs.Finding.{HasLayout}
 use Rattle.site_store.specs.declared.site.OpenSite.{OpenSite}
 
@@ -74,6 +76,7 @@ pub record Keeps (v : View) (c : Contents) (hardened : ℕ) (s : OpenSite) : Typ
   -- the parts of the entries that aren't hardened
   pub waiting : List (ℕ → Option Part)
   pub are_waiting : AreEntries c.instance (suc g) hardened waiting (drop hardened c.sequence)
+  pub are_parts : waiting ≡ parts_of_each (patterns c.instance) hardened (drop hardened c.sequence)
   pub in_regions : AreInside (length (regions c.instance)) waiting
   pub at_home : (r : ℕ) → r < length (regions c.instance) → AllByRecursion (λ p. IsAtHome c.instance r p.generation p.what) (appended (suc g) waiting r)
   pub instance_file : instances.HasRecords v s.instance c.instance

@@ -4,9 +4,10 @@ ghost use Rattle.disk_defs.specs.Disk.{Files, Image, AtEachMoment, Rose};
 ghost use Rattle.global_defs.specs.Fields.{IsTransaction};
 ghost use Rattle.gvn_model.specs.Entries.{transaction_value};
 ghost use Rattle.gvn_model.specs.Reigns.{stamp_value};
-ghost use Rattle.site_defs.specs.Contents.{Contents};
+ghost use Rattle.site_defs.specs.Contents.{Contents, Standing, NO_LEFTOVER};
+ghost use Rattle.site_defs.specs.Behind.{IsFrontLeft, IsSiteWith};
 ghost use Rattle.site_defs.specs.Fronts.{with_sequence, IsFrontOf};
-ghost use Rattle.site_defs.specs.Stands.{IsSite};
+ghost use Rattle.site_defs.specs.Stands.{IsSite, HasLeft};
 ghost use Rattle.disk_defs.specs.Frames.{OthersStay};
 ghost use Rattle.journal_defs.specs.Journal.{JournalRecord};
 ghost use Rattle.region_journals.specs.Journals.{ArePrepared, KeepsJournals};
@@ -93,6 +94,7 @@ impl OpenSite {
         ensures goes_on { IsErrOf result SiteError.NoMemory → IsReady (D.disk disk.new) self.new }
         ensures stays_open { IsErrOf result SiteError.NoMemory → (told : Bool) (c : Contents) (h : ℕ) → IsOpen (D.disk disk.old) told c h self.old → IsOpen (D.disk disk.new) told c h self.new }
         ensures any_moment { (c : Contents) (h : ℕ) → IsOpen (D.disk disk.old) true c h self.old → AtEachMoment (D.disk disk.old) (D.disk disk.new) (λ f. IsSite f (with_sequence c (take h c.sequence))) }
+        ensures bare { (c : Contents) (h : ℕ) → IsOpen (D.disk disk.old) true c h self.old → AtEachMoment (D.disk disk.old) (D.disk disk.new) (λ f. HasLeft f (with_sequence c (take h c.sequence)) NO_LEFTOVER) }
         ensures stands { (c : Contents) (h : ℕ) → IsOpen (D.disk disk.old) true c h self.old → IfSome (D.disk disk.new).content (λ f. IsSite f (with_sequence c (take h c.sequence))) }
         ensures still_told { IsSome (D.disk disk.old).content → IsSome (D.disk disk.new).content }
         ensures simulated { (D.disk disk.new).simulated ≡ (D.disk disk.old).simulated }
@@ -130,6 +132,8 @@ impl OpenSite {
         ensures stamp { self.new.stamp ≡ self.old.stamp }
         ensures reign { HasReign self.old → HasReign self.new }
         ensures any_moment { (c : Contents) (h : ℕ) → IsOpen (D.disk disk.old) true c h self.old → AtEachMoment (D.disk disk.old) (D.disk disk.new) (λ f. (o : Contents) × IsFrontOf c.sequence h c o × IsSite f o) }
+        // and what lies behind it are the parts of the next entries that some regions have
+        ensures left { (c : Contents) (h : ℕ) → IsOpen (D.disk disk.old) true c h self.old → AtEachMoment (D.disk disk.old) (D.disk disk.new) (λ f. (o : Standing) × IsFrontLeft c.sequence h c o × IsSiteWith f o) }
         ensures stands { (c : Contents) (h : ℕ) → IsOpen (D.disk disk.old) true c h self.old → IfSome (D.disk disk.new).content (λ f. (o : Contents) × IsFrontOf c.sequence h c o × IsSite f o) }
         ensures still_told { IsSome (D.disk disk.old).content → IsSome (D.disk disk.new).content }
         ensures simulated { (D.disk disk.new).simulated ≡ (D.disk disk.old).simulated }

@@ -39,6 +39,8 @@ pub fn find<D: Disk>(alloc: Global, disk: &mut D) -> Result<Option<FoundSite>, S
     ensures place { (file offset : ℕ) → IsErrOf result (SiteError.NotAFile file offset) → IfSome (D.disk disk.old).content (λ files. IsNoInstance files file offset ⊎ HasNoDirectory files file offset) }
     ensures outside { (file : ℕ) (offset : ℕ) → IsErrOf result (SiteError.NotAFile file offset) → IfSome (D.disk disk.old).content (λ files. (c : Contents) → Stands files c → ⊥) }
     ensures any_moment { IfSome (D.disk disk.old).content (λ _. AtEachMoment (D.disk disk.old) (D.disk disk.new) (StandsAsBefore (D.disk disk.old))) }
+    // no image is new, so what lies behind is what lay behind
+    ensures untouched { AtEachMoment (D.disk disk.old) (D.disk disk.new) (Image (D.disk disk.old)) }
     ensures still_told { IsSome (D.disk disk.old).content → IsSome (D.disk disk.new).content }
     ensures simulated { (D.disk disk.new).simulated ≡ (D.disk disk.old).simulated }
     ensures later { (D.disk disk.old).faults ≤ (D.disk disk.new).faults }
@@ -68,6 +70,8 @@ pub fn inspect<D: Disk>(alloc: Global, disk: &mut D) -> Result<Option<Layout>, S
     ensures place { (file offset : ℕ) → IsErrOf result (SiteError.NotAFile file offset) → IfSome (D.disk disk.old).content (λ files. IsNoInstance files file offset ⊎ HasNoDirectory files file offset) }
     ensures outside { (file : ℕ) (offset : ℕ) → IsErrOf result (SiteError.NotAFile file offset) → IfSome (D.disk disk.old).content (λ files. (c : Contents) → Stands files c → ⊥) }
     ensures any_moment { IfSome (D.disk disk.old).content (λ _. AtEachMoment (D.disk disk.old) (D.disk disk.new) (StandsAsBefore (D.disk disk.old))) }
+    // no image is new, so what lies behind is what lay behind
+    ensures untouched { AtEachMoment (D.disk disk.old) (D.disk disk.new) (Image (D.disk disk.old)) }
     ensures still_told { IsSome (D.disk disk.old).content → IsSome (D.disk disk.new).content }
     ensures simulated { (D.disk disk.new).simulated ≡ (D.disk disk.old).simulated }
     ensures later { (D.disk disk.old).faults ≤ (D.disk disk.new).faults }

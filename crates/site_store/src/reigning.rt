@@ -3,10 +3,11 @@ ghost use Rattle.std.specs.Prelude.{◌≡◌, ◌⊎◌, ◌≤◌, ◌<◌, �
 ghost use Rattle.disk_defs.specs.Disk.{Files, Image, AtEachMoment, Rose};
 ghost use Rattle.gvn_model.specs.Reigns.{stamp_value, reign_value};
 ghost use Rattle.journal_defs.specs.Instance.{Reigned, site_name};
-ghost use Rattle.site_defs.specs.Contents.{Contents};
+ghost use Rattle.site_defs.specs.Contents.{Contents, bare};
 ghost use Rattle.site_defs.specs.Limits.{no_reign_left};
 ghost use Rattle.site_defs.specs.Opening.{with_reign, next_stamp};
 ghost use Rattle.site_defs.specs.Stands.{IsSite};
+ghost use Rattle.site_defs.specs.Behind.{IsSiteWith};
 ghost use Rattle.site_store.specs.Site.{Remembers, IsReady, IsOpen, WasOpened, HasReign};
 ghost use Rattle.site_store.specs.Reigning.{IsNextReign, HasReignLeft, HasNoReignLeft};
 
@@ -72,6 +73,7 @@ impl OpenSite {
         ensures entries { self.new.entries.items ≡ self.old.entries.items }
         ensures hardened { self.new.hardened ≡ self.old.hardened }
         ensures any_moment { (c : Contents) → IsOpen (D.disk disk.old) true c (length c.sequence) self.old → AtEachMoment (D.disk disk.old) (D.disk disk.new) (λ f. IsSite f c ⊎ IsSite f (with_reign (site_name c.instance) c)) }
+        ensures left { (c : Contents) → IsOpen (D.disk disk.old) true c (length c.sequence) self.old → AtEachMoment (D.disk disk.old) (D.disk disk.new) (λ f. IsSiteWith f (bare c) ⊎ IsSiteWith f (bare (with_reign (site_name c.instance) c))) }
         ensures unwritten { IsErrOf result SiteError.NoMemory → AtEachMoment (D.disk disk.old) (D.disk disk.new) (Image (D.disk disk.old)) }
         ensures again { IsErrOf result SiteError.NoMemory → WasOpened self.new }
         ensures goes_on { IsErrOf result SiteError.NoMemory → IsReady (D.disk disk.new) self.new }
@@ -123,6 +125,7 @@ impl OpenSite {
         ensures goes_on { IsErrOf result SiteError.NoMemory → IsReady (D.disk disk.new) self.new }
         ensures stays_open { IsErrOf result SiteError.NoMemory → (told : Bool) (c : Contents) (h : ℕ) → IsOpen (D.disk disk.old) told c h self.old → IsOpen (D.disk disk.new) told c h self.new }
         ensures any_moment { (c : Contents) → IsOpen (D.disk disk.old) true c (length c.sequence) self.old → AtEachMoment (D.disk disk.old) (D.disk disk.new) (λ f. IsSite f c ⊎ IsSite f (with_reign (site_name c.instance) c)) }
+        ensures left { (c : Contents) → IsOpen (D.disk disk.old) true c (length c.sequence) self.old → AtEachMoment (D.disk disk.old) (D.disk disk.new) (λ f. IsSiteWith f (bare c) ⊎ IsSiteWith f (bare (with_reign (site_name c.instance) c))) }
         ensures stands { (c : Contents) → IsOpen (D.disk disk.old) true c (length c.sequence) self.old → IfSome (D.disk disk.new).content (λ f. IsSite f c ⊎ IsSite f (with_reign (site_name c.instance) c)) }
         ensures still_told { IsSome (D.disk disk.old).content → IsSome (D.disk disk.new).content }
         ensures simulated { (D.disk disk.new).simulated ≡ (D.disk disk.old).simulated }

@@ -19,7 +19,7 @@ use Rattle.site_store.proofs.Drawn.{C, text}
 use Rattle.site_store.specs.Refusing.{IsUnwritten}
 use Rattle.site_store.proofs.Refused.{told_anyway}
 use Rattle.site_store.proofs.Errors.{file_was, limit_was}
-use Rattle.site_store.proofs.Loaded.{length_values, opened_from, quiet_told, quiet_stands, drawn_moments, drawn_stands, room_left, remembers, is_open, was_opened, is_ready}
+use Rattle.site_store.proofs.Loaded.{length_values, opened_from, quiet_told, quiet_left, quiet_stands, drawn_moments, drawn_left, drawn_stands, room_left, remembers, is_open, was_opened, is_ready}
 use Rattle.site_store.proofs.Refused.{no_site, untold, read_kept}
 use Rattle.site_store.proofs.opening.load.Goals as goal
 
@@ -561,3 +561,134 @@ draw-requires-clause-read g c =
     (subst (λ (l : List ℕ). IfSome u.content (WasRead v0 rs (last_of l) journal)) (sym c.deref.ensures.value) got.read) in
     told_at v.content u.content (λ files. (records : ℕ → List Placed) × WasRead v rs last records files) (sym same)
     (weaker_told u.content (WasRead v rs last journal) (λ files. (records : ℕ → List Placed) × WasRead v rs last records files) read (λ files r. (journal, r)))
+
+pub returns-in_err-read-clause-left : goal.returns-in_err-read-clause-left
+returns-in_err-read-clause-left g c =
+    let view = g.D.Disk.disk in
+    quiet_left (view c.args.disk.now) (view c.read_site.new.disk) c.in_err-read.ensures.any_moment
+
+pub returns-in_err-sync_texts-clause-left : goal.returns-in_err-sync_texts-clause-left
+returns-in_err-sync_texts-clause-left g c =
+    let view = g.D.Disk.disk in
+    let u = view c.args.disk.now in
+    let v0 = view c.read_site.new.disk in
+    let got = c.in_ok-read.ensures in
+    let rs = c.in_ok-read.read.log.records in
+    let v = view c.sync_texts.new.disk in
+    let synced = nothing_new u v0 v (Image u) (g.met.D.Disk.lawful c.read_site.new.disk) got.any_moment c.sync_texts.ensures.any_moment in
+    let same : v.content ≡ u.content = c.sync_texts.ensures.content ∙ got.content in
+    quiet_left u v synced
+
+pub returns-in_err-remembered-clause-left : goal.returns-in_err-remembered-clause-left
+returns-in_err-remembered-clause-left g c =
+    let view = g.D.Disk.disk in
+    let u = view c.args.disk.now in
+    let v0 = view c.read_site.new.disk in
+    let got = c.in_ok-read.ensures in
+    let rs = c.in_ok-read.read.log.records in
+    let v = view c.sync_texts.new.disk in
+    let synced = nothing_new u v0 v (Image u) (g.met.D.Disk.lawful c.read_site.new.disk) got.any_moment c.sync_texts.ensures.any_moment in
+    let same : v.content ≡ u.content = c.sync_texts.ensures.content ∙ got.content in
+    quiet_left u v synced
+
+pub returns-in_err-layout-clause-left : goal.returns-in_err-layout-clause-left
+returns-in_err-layout-clause-left g c =
+    let view = g.D.Disk.disk in
+    let u = view c.args.disk.now in
+    let v0 = view c.read_site.new.disk in
+    let got = c.in_ok-read.ensures in
+    let rs = c.in_ok-read.read.log.records in
+    let v = view c.sync_texts.new.disk in
+    let synced = nothing_new u v0 v (Image u) (g.met.D.Disk.lawful c.read_site.new.disk) got.any_moment c.sync_texts.ensures.any_moment in
+    let same : v.content ≡ u.content = c.sync_texts.ensures.content ∙ got.content in
+    quiet_left u v synced
+
+pub returns-in_err-drawn-clause-left : goal.returns-in_err-drawn-clause-left
+returns-in_err-drawn-clause-left g c =
+    let view = g.D.Disk.disk in
+    let u = view c.args.disk.now in
+    let v0 = view c.read_site.new.disk in
+    let got = c.in_ok-read.ensures in
+    let rs = c.in_ok-read.read.log.records in
+    let v = view c.sync_texts.new.disk in
+    let synced = nothing_new u v0 v (Image u) (g.met.D.Disk.lawful c.read_site.new.disk) got.any_moment c.sync_texts.ensures.any_moment in
+    let same : v.content ≡ u.content = c.sync_texts.ensures.content ∙ got.content in
+    let w = view c.draw.new.disk in
+    let lawful_v = g.met.D.Disk.lawful c.sync_texts.new.disk in
+    let lawful_w = g.met.D.Disk.lawful c.draw.new.disk in
+    let lasts = c.deref.result.now in
+    let js = map (λ (j : Vec PlacedRecord Global). j.items) c.in_ok-read.read.journals.items in
+    let last = last_of lasts in
+    let journal = journal_of js in
+    let items = c.in_ok-remembered.remembered.entries.items in
+    let seq = map entry_value items in
+    let read = read_kept u.content v0 v rs last journal lawful_v c.sync_texts.ensures.any_moment
+    (subst (λ (l : List ℕ). IfSome u.content (WasRead v0 rs (last_of l) journal)) (sym c.deref.ensures.value) got.read) in
+    let form : MayBeOpened rs last = subst (λ (l : List ℕ). MayBeOpened rs (last_of l)) (sym c.deref.ensures.value) got.form in
+    let len : c.len-length.result ≡ length items = (let e = c.len-length.ensures in omega (arith, e)) in
+    let n : c.len-length.result ≡ length seq = len ∙ sym (length_values items) in
+    let broken = c.as_slice-text.result.now in
+    let broken_is : broken ≡ text rs last journal seq form c.in_ok-remembered.ensures.sequence =
+    c.as_slice-text.ensures ∙ c.in_ok-remembered.ensures.broken ∙ ap (λ (k : ℕ). broken_text (site_name rs) k (parts.broken (site_records rs js) k)) (sym (length_values items)) in
+    drawn_left u v w rs last journal seq form c.in_ok-remembered.ensures.sequence lawful_v lawful_w synced same read broken broken_is
+    (subst (λ (k : ℕ). IfSome v.content (λ files. length (files (next_broken rs)) ≤ length broken → AtEachMoment v w (From (Image v) (MayDraw rs k broken last)))) n c.draw.ensures.any_moment)
+
+pub returns-in_err-newest_journals-clause-left : goal.returns-in_err-newest_journals-clause-left
+returns-in_err-newest_journals-clause-left g c =
+    let view = g.D.Disk.disk in
+    let u = view c.args.disk.now in
+    let v0 = view c.read_site.new.disk in
+    let got = c.in_ok-read.ensures in
+    let rs = c.in_ok-read.read.log.records in
+    let v = view c.sync_texts.new.disk in
+    let synced = nothing_new u v0 v (Image u) (g.met.D.Disk.lawful c.read_site.new.disk) got.any_moment c.sync_texts.ensures.any_moment in
+    let same : v.content ≡ u.content = c.sync_texts.ensures.content ∙ got.content in
+    let w = view c.draw.new.disk in
+    let lawful_v = g.met.D.Disk.lawful c.sync_texts.new.disk in
+    let lawful_w = g.met.D.Disk.lawful c.draw.new.disk in
+    let lasts = c.deref.result.now in
+    let js = map (λ (j : Vec PlacedRecord Global). j.items) c.in_ok-read.read.journals.items in
+    let last = last_of lasts in
+    let journal = journal_of js in
+    let items = c.in_ok-remembered.remembered.entries.items in
+    let seq = map entry_value items in
+    let read = read_kept u.content v0 v rs last journal lawful_v c.sync_texts.ensures.any_moment
+    (subst (λ (l : List ℕ). IfSome u.content (WasRead v0 rs (last_of l) journal)) (sym c.deref.ensures.value) got.read) in
+    let form : MayBeOpened rs last = subst (λ (l : List ℕ). MayBeOpened rs (last_of l)) (sym c.deref.ensures.value) got.form in
+    let len : c.len-length.result ≡ length items = (let e = c.len-length.ensures in omega (arith, e)) in
+    let n : c.len-length.result ≡ length seq = len ∙ sym (length_values items) in
+    let broken = c.as_slice-text.result.now in
+    let broken_is : broken ≡ text rs last journal seq form c.in_ok-remembered.ensures.sequence =
+    c.as_slice-text.ensures ∙ c.in_ok-remembered.ensures.broken ∙ ap (λ (k : ℕ). broken_text (site_name rs) k (parts.broken (site_records rs js) k)) (sym (length_values items)) in
+    drawn_left u v w rs last journal seq form c.in_ok-remembered.ensures.sequence lawful_v lawful_w synced same read broken broken_is
+    (subst (λ (k : ℕ). IfSome v.content (λ files. length (files (next_broken rs)) ≤ length broken → AtEachMoment v w (From (Image v) (MayDraw rs k broken last)))) n c.draw.ensures.any_moment)
+
+pub returns-clause-left : goal.returns-clause-left
+returns-clause-left g c =
+    let view = g.D.Disk.disk in
+    let u = view c.args.disk.now in
+    let v0 = view c.read_site.new.disk in
+    let got = c.in_ok-read.ensures in
+    let rs = c.in_ok-read.read.log.records in
+    let v = view c.sync_texts.new.disk in
+    let synced = nothing_new u v0 v (Image u) (g.met.D.Disk.lawful c.read_site.new.disk) got.any_moment c.sync_texts.ensures.any_moment in
+    let same : v.content ≡ u.content = c.sync_texts.ensures.content ∙ got.content in
+    let w = view c.draw.new.disk in
+    let lawful_v = g.met.D.Disk.lawful c.sync_texts.new.disk in
+    let lawful_w = g.met.D.Disk.lawful c.draw.new.disk in
+    let lasts = c.deref.result.now in
+    let js = map (λ (j : Vec PlacedRecord Global). j.items) c.in_ok-read.read.journals.items in
+    let last = last_of lasts in
+    let journal = journal_of js in
+    let items = c.in_ok-remembered.remembered.entries.items in
+    let seq = map entry_value items in
+    let read = read_kept u.content v0 v rs last journal lawful_v c.sync_texts.ensures.any_moment
+    (subst (λ (l : List ℕ). IfSome u.content (WasRead v0 rs (last_of l) journal)) (sym c.deref.ensures.value) got.read) in
+    let form : MayBeOpened rs last = subst (λ (l : List ℕ). MayBeOpened rs (last_of l)) (sym c.deref.ensures.value) got.form in
+    let len : c.len-length.result ≡ length items = (let e = c.len-length.ensures in omega (arith, e)) in
+    let n : c.len-length.result ≡ length seq = len ∙ sym (length_values items) in
+    let broken = c.as_slice-text.result.now in
+    let broken_is : broken ≡ text rs last journal seq form c.in_ok-remembered.ensures.sequence =
+    c.as_slice-text.ensures ∙ c.in_ok-remembered.ensures.broken ∙ ap (λ (k : ℕ). broken_text (site_name rs) k (parts.broken (site_records rs js) k)) (sym (length_values items)) in
+    drawn_left u v w rs last journal seq form c.in_ok-remembered.ensures.sequence lawful_v lawful_w synced same read broken broken_is
+    (subst (λ (k : ℕ). IfSome v.content (λ files. length (files (next_broken rs)) ≤ length broken → AtEachMoment v w (From (Image v) (MayDraw rs k broken last)))) n c.draw.ensures.any_moment)

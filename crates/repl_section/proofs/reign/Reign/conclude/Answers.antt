@@ -8,7 +8,7 @@ use Rattle.repl_section.specs.Reigns.{stamp_of}
 use Rattle.repl_section.specs.Deciding.{outcome, HasCome, Appends}
 use Rattle.repl_section.proofs.Results.{on_ok}
 use Rattle.repl_section.proofs.Standing.{entries_counted}
-use Rattle.repl_section.proofs.Replied.{stays, commit_appends, has_replied, read_is, limited_is, some_updates}
+use Rattle.repl_section.proofs.Replied.{stays, stays_bare, commit_appends, has_replied, read_is, limited_is, some_updates}
 use Rattle.repl_section.proofs.reign.Reign.conclude.Goals.{in-RolledBack, in-Done, then-is_empty, else-is_empty+then-len-ge-LAST_NUMBER}
 use Rattle.repl_section.proofs.reign.Reign.conclude.Goals as goal
 
@@ -47,3 +47,9 @@ returns-clause-done g c told x r =
     ] in
     subst (λ (t : Turn). HasCome (g.D.Disk.disk c.args.disk.now) told x t c.reply.new.self c.args.text.now c.reply.new.text) (sym is)
     (has_replied (g.D.Disk.disk c.args.disk.now) stamp told x x.sequence old.serials u c.args.origin.serial (reply_value c.match-evaluated.reply) old c.reply.new.self c.args.text.now c.reply.new.text r c.reply.ensures.same refl c.requires.serial c.reply.ensures.serials c.in_ok-reply.ensures.text)
+
+pub returns-in_err-reply-clause-leaves : goal.returns-in_err-reply-clause-leaves
+returns-in_err-reply-clause-leaves g c x r = stays_bare (g.D.Disk.disk c.args.disk.now) x _ c.args.self.now r
+
+pub returns-clause-leaves : goal.returns-clause-leaves
+returns-clause-leaves g c x r = stays_bare (g.D.Disk.disk c.args.disk.now) x _ c.args.self.now r

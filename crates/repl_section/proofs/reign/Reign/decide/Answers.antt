@@ -3,7 +3,7 @@ use Rattle.global_defs.specs.Evaluation.{Evaluated, eval}
 use Rattle.gvn_model.specs.Jobs.{job_value}
 use Rattle.repl_section.specs.Reigns.{stamp_of}
 use Rattle.repl_section.specs.Deciding.{outcome, FitsIn, HasCome, Appends}
-use Rattle.repl_section.proofs.Replied.{stays}
+use Rattle.repl_section.proofs.Replied.{stays, stays_bare}
 use Rattle.repl_section.proofs.Room.{eval_fits}
 use Rattle.repl_section.proofs.Results.{on_ok}
 use Rattle.repl_section.proofs.reign.Reign.decide.Goals as goal
@@ -28,3 +28,9 @@ returns-in_err-evaluated-clause-may_have g c x r = stays (g.D.Disk.disk c.args.d
 pub conclude-requires-clause-nodes : goal.conclude-requires-clause-nodes
 conclude-requires-clause-nodes g c =
     subst (λ (e : Evaluated). FitsIn c.args.self.now.site.globals e) (sym c.in_ok-evaluated.ensures.value) (eval_fits (job_value c.args.job.now) c.args.self.now.site.globals)
+
+pub returns-in_default-clause-leaves : goal.returns-in_default-clause-leaves
+returns-in_default-clause-leaves g c x r = stays_bare (g.D.Disk.disk c.args.disk.now) x _ c.args.self.now r
+
+pub returns-in_err-evaluated-clause-leaves : goal.returns-in_err-evaluated-clause-leaves
+returns-in_err-evaluated-clause-leaves g c x r = stays_bare (g.D.Disk.disk c.args.disk.now) x _ c.args.self.now r

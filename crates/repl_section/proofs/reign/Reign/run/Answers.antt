@@ -7,7 +7,7 @@ use Rattle.gvn_model.specs.Jobs.{job_value}
 use Rattle.site_defs.specs.Fronts.{with_sequence, turn_of}
 use Rattle.repl_section.specs.declared.error.DecideError.TheVariants.{Failed}
 use Rattle.repl_section.specs.Reigns.{Reigns, stamp_of}
-use Rattle.repl_section.specs.Deciding.{MayHave, HasReached, FailsAt, FailsIn}
+use Rattle.repl_section.specs.Deciding.{MayHave, LeavesPick, HasReached, FailsAt, FailsIn}
 use Rattle.repl_section.proofs.Turns.{HasGone, come_to, pick_at, none_decided, one_decided, failed_at, failed_in, left_at}
 use Rattle.repl_section.proofs.reign.Reign.run.Goals as goal
 
@@ -70,10 +70,12 @@ returns-in-Err-Failed-clause-withholds_none g c told x r =
     let h : HasGone v stamp told x t at.jobs at.undecided (length order) at.self c.args.text.now at.text = at.invariant.gone told x r in
     let may : IsTrue told → MayHave w (with_sequence x t.sequence) p.sequence =
     λ k. c.decide.ensures.may_have (with_sequence x t.sequence) (subst (λ (b : Bool). Reigns v b (with_sequence x t.sequence) at.self) k h.reached.reigns) in
+    let leaves : IsTrue told → LeavesPick w (with_sequence x t.sequence) p.sequence =
+    λ k. c.decide.ensures.leaves (with_sequence x t.sequence) (subst (λ (b : Bool). Reigns v b (with_sequence x t.sequence) at.self) k h.reached.reigns) in
     let failed : c.decide.result ≡ Err Failed = c.in-Err-Failed.is ∙ ap Err c.in-Err-Failed.field-0-is in
     subst (λ (y : List ℕ). FailsIn w stamp told x c.args.jobs order serials at.undecided c.args.text.now y) (sym (c.decide.ensures.text failed))
     (failed_in v w stamp told x serials c.args.jobs at.jobs order at.updater-index u job at.undecided at.self c.args.text.now at.text h c.loop-updater-test.true refl next
-    (c.decide.ensures.appends failed told (with_sequence x t.sequence) h.reached.reigns) may)
+    (c.decide.ensures.appends failed told (with_sequence x t.sequence) h.reached.reigns) may leaves)
 
 pub returns-in-Err-NoMemory-clause-breaks : goal.returns-in-Err-NoMemory-clause-breaks
 returns-in-Err-NoMemory-clause-breaks g c told x r =
@@ -91,7 +93,9 @@ returns-in-Err-NoMemory-clause-breaks g c told x r =
     let h : HasGone v stamp told x t at.jobs at.undecided (length order) at.self c.args.text.now at.text = at.invariant.gone told x r in
     let may : IsTrue told → MayHave w (with_sequence x t.sequence) p.sequence =
     λ k. c.decide.ensures.may_have (with_sequence x t.sequence) (subst (λ (b : Bool). Reigns v b (with_sequence x t.sequence) at.self) k h.reached.reigns) in
-    left_at v w stamp told x serials c.args.jobs at.jobs order at.updater-index u job at.undecided at.self c.args.text.now at.text h c.loop-updater-test.true refl next may
+    let leaves : IsTrue told → LeavesPick w (with_sequence x t.sequence) p.sequence =
+    λ k. c.decide.ensures.leaves (with_sequence x t.sequence) (subst (λ (b : Bool). Reigns v b (with_sequence x t.sequence) at.self) k h.reached.reigns) in
+    left_at v w stamp told x serials c.args.jobs at.jobs order at.updater-index u job at.undecided at.self c.args.text.now at.text h c.loop-updater-test.true refl next may leaves
 
 pub loop-updater-preserved : goal.loop-updater-preserved
 loop-updater-preserved g c =

@@ -56,3 +56,15 @@ returns-in-Err-NoMemory-clause-again g c is = reigning.opened_kept c.args.self.n
 pub returns-in-Err-NoMemory-clause-stays_open : goal.returns-in-Err-NoMemory-clause-stays_open
 returns-in-Err-NoMemory-clause-stays_open g c is told x h o =
     reigning.open_kept (g.D.Disk.disk c.args.disk.now) (g.D.Disk.disk c.reign.new.disk) told x h c.args.self.now _ (g.met.D.Disk.lawful c.reign.new.disk) c.requires.ready c.reign.ensures.frame (c.reign.ensures.no_memory_moment (c.in-Err-NoMemory.is ∙ ap Err c.in-Err-NoMemory.field-0-is)) (c.reign.ensures.no_memory_state (c.in-Err-NoMemory.is ∙ ap Err c.in-Err-NoMemory.field-0-is)) c.in-Err-NoMemory.ensures.kept refl refl refl refl o
+
+pub returns-in-Err-Failed-clause-left : goal.returns-in-Err-Failed-clause-left
+returns-in-Err-Failed-clause-left g c x o =
+    reigning.left_begun (g.D.Disk.disk c.args.disk.now) (g.D.Disk.disk c.reign.new.disk) x c.args.self.now (reign_value c.args.reign.now) c.requires.opened.no_reign_past c.requires.next c.reign.ensures.any_moment o
+
+pub returns-in-Err-NoMemory-clause-left : goal.returns-in-Err-NoMemory-clause-left
+returns-in-Err-NoMemory-clause-left g c x o =
+    reigning.left_begun (g.D.Disk.disk c.args.disk.now) (g.D.Disk.disk c.reign.new.disk) x c.args.self.now (reign_value c.args.reign.now) c.requires.opened.no_reign_past c.requires.next c.reign.ensures.any_moment o
+
+pub returns-in-Ok-clause-left : goal.returns-in-Ok-clause-left
+returns-in-Ok-clause-left g c x o =
+    reigning.left_begun (g.D.Disk.disk c.args.disk.now) (g.D.Disk.disk c.reign.new.disk) x c.args.self.now (reign_value c.args.reign.now) c.requires.opened.no_reign_past c.requires.next c.reign.ensures.any_moment o

@@ -77,3 +77,22 @@ returns-clause-still_told g c told =
 
 pub returns-clause-simulated : goal.returns-clause-simulated
 returns-clause-simulated g c = (c.append.ensures.frame (generation c.prepare.new.self.instance.records) c.prepare.ensures.ready.journals).simulated ∙ c.prepare.ensures.frame.simulated
+
+pub returns-clause-bare : goal.returns-clause-bare
+returns-clause-bare g c y h o =
+    committed.commit_bare (g.D.Disk.disk c.args.disk.now) (g.D.Disk.disk c.prepare.new.disk) (g.D.Disk.disk c.append.new.disk) y h c.args.self.now c.prepare.new.self (g.met.D.Disk.lawful c.prepare.new.disk)
+    (record { ready = c.requires.ready; ready_after = c.prepare.ensures.ready; state = c.prepare.ensures.state; same = c.prepare.ensures.same; moments = c.prepare.ensures.any_moment; stays = c.prepare.ensures.frame }) c.append.ensures.any_moment o
+
+pub returns-in-Ok-clause-bare : goal.returns-in-Ok-clause-bare
+returns-in-Ok-clause-bare g c y h o =
+    committed.commit_bare (g.D.Disk.disk c.args.disk.now) (g.D.Disk.disk c.prepare.new.disk) (g.D.Disk.disk c.append.new.disk) y h c.args.self.now c.prepare.new.self (g.met.D.Disk.lawful c.prepare.new.disk)
+    (record { ready = c.requires.ready; ready_after = c.prepare.ensures.ready; state = c.prepare.ensures.state; same = c.prepare.ensures.same; moments = c.prepare.ensures.any_moment; stays = c.prepare.ensures.frame }) c.append.ensures.any_moment o
+
+pub returns-then-len-ge-LAST_NUMBER-clause-bare : goal.returns-then-len-ge-LAST_NUMBER-clause-bare
+returns-then-len-ge-LAST_NUMBER-clause-bare g c y h o = committed.quiet_bare (g.D.Disk.disk c.args.disk.now) y h c.args.self.now o
+
+pub returns-in_err-check_room-clause-bare : goal.returns-in_err-check_room-clause-bare
+returns-in_err-check_room-clause-bare g c y h o = committed.quiet_bare (g.D.Disk.disk c.args.disk.now) y h c.args.self.now o
+
+pub returns-in_err-parts-clause-bare : goal.returns-in_err-parts-clause-bare
+returns-in_err-parts-clause-bare g c y h o = committed.prepare_bare (g.D.Disk.disk c.args.disk.now) (g.D.Disk.disk c.prepare.new.disk) y h c.args.self.now c.prepare.ensures.any_moment o

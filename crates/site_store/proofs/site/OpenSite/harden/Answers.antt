@@ -33,3 +33,9 @@ returns-in-Err-clause-still_told g c = still (g.D.Disk.disk c.args.disk.now) (g.
 
 pub returns-in-Err-clause-simulated : goal.returns-in-Err-clause-simulated
 returns-in-Err-clause-simulated g c = (c.harden.ensures.frame (generation c.args.self.now.instance.records) c.requires.ready.journals).simulated
+
+pub returns-in-Err-clause-left : goal.returns-in-Err-clause-left
+returns-in-Err-clause-left g c y h o = hardened.harden_left (g.D.Disk.disk c.args.disk.now) (g.D.Disk.disk c.harden.new.disk) y h c.args.self.now c.requires.ready c.harden.ensures.any_moment o
+
+pub returns-in-Ok-clause-left : goal.returns-in-Ok-clause-left
+returns-in-Ok-clause-left g c y h o = hardened.harden_left (g.D.Disk.disk c.args.disk.now) (g.D.Disk.disk c.harden.new.disk) y h c.args.self.now c.requires.ready c.harden.ensures.any_moment o

@@ -25,3 +25,12 @@ pub returns-in_err-begin_reign-clause-stays_open : goal.returns-in_err-begin_rei
 returns-in_err-begin_reign-clause-stays_open g c =
     let p = err_from_is_err_and c.from_residual-in_err-begin_reign.result c.from_residual-in_err-begin_reign.ensures.1 in
     rw (p.1, p.2) (λ is told x h o. c.in_err-begin_reign.ensures.stays_open (let same : c.in_err-begin_reign.field-0.0 ≡ error.NoMemory = cc is in ap Err same) told x h o)
+
+pub returns-in_err-reign-clause-left : goal.returns-in_err-reign-clause-left
+returns-in_err-reign-clause-left g c x o = reigning.quiet_left _ x _ o
+
+pub returns-in_err-kept-clause-left : goal.returns-in_err-kept-clause-left
+returns-in_err-kept-clause-left g c x o = reigning.quiet_left _ x _ o
+
+pub returns-in_err-told-clause-left : goal.returns-in_err-told-clause-left
+returns-in_err-told-clause-left g c x o = reigning.quiet_left _ x _ o
