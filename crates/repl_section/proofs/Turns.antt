@@ -307,9 +307,12 @@ pub none_left : (v : View) (told : Bool) (c : Contents) (jobs : List (List Job))
 none_left v told c jobs order r h = record {
   told = told_there v told c r h;
   images = λ k files now. (with_sequence c c.sequence, (0, all_front c.sequence c (length c.sequence) (omega arith)), all_stand v told c r h k files now);
-  left = λ k files now. (0, record {
-    standing = bare (with_sequence c c.sequence);
-    may = inl refl;
-    stands = record { site = all_stand v told c r h k files now; left = all_bare v told c r h k files now };
-  });
+  left = λ k files now. (
+    0,
+    record {
+      standing = bare (with_sequence c c.sequence);
+      may = inl refl;
+      stands = record { site = all_stand v told c r h k files now; left = all_bare v told c r h k files now };
+    },
+  );
 }
