@@ -4,7 +4,7 @@ use Rattle.std.specs.Prelude.{IfSome}
 use Rattle.std.proofs.lemmas.Bool.{cases_lt}
 use Rattle.std.proofs.lemmas.List.{length-take, length-drop}
 use Rattle.disk_defs.specs.Disk.{Files, View, Image, IsLawful, From, OnFile, AtEachMoment, ReadsAfter}
-use Rattle.disk_defs.proofs.Told.{weaker_told, both_weak, reads_after}
+use Rattle.disk_defs.proofs.Told.{weaker_told, both_weak, told_at, reads_after}
 use Rattle.disk_defs.proofs.Moments.{weaker}
 use Rattle.disk_defs.proofs.Frames.{reads_weaker}
 use Rattle.global_defs.specs.Entry.{Globals}
@@ -146,3 +146,17 @@ begun e bytes m s clean count h = record {
       let is : IsBlock (block_of bytes b) (leaf_at s.pool b) = h.clean b (omega (arith, low, count)) (clean b) in
       block_inside bytes b (block_is_whole (block_of bytes b) (leaf_at s.pool b) is);
 }
+
+-- ---- the region behind a call
+
+-- it is as it was, and the file's
+pub still_holds : (o n : Option Files) (s t : Standing) (e : Chosen) → t ≡ s → AreLogged s → ReadsAfter (OnFile s.file (ChangesDirty s.pool)) o n → IfSome o (λ files. HoldsRegion e (files s.file) s)
+    → IfSome n (λ files. HoldsRegion e (files s.file) t)
+still_holds o n s t e same log after held = subst (λ (x : Standing). IfSome n (λ files. HoldsRegion e (files s.file) x)) (sym same) (holds_cut o n s e log after held)
+
+-- all its blocks stand on the file
+pub flushed_holds : (o m n : Option Files) (s t : Standing) (e : Chosen) → t ≡ flushed s → n ≡ m → AreLogged s → ReadsAfter (OnFile s.file (ChangesDirty s.pool)) o m → IfSome m (λ files. AllStand s.pool (files s.file))
+    → IfSome o (λ files. HoldsRegion e (files s.file) s) → IfSome n (λ files. HoldsRegion e (files s.file) t)
+flushed_holds o m n s t e same content log after stand held =
+    told_at n m (λ files. HoldsRegion e (files s.file) t) (sym content)
+    (subst (λ (x : Standing). IfSome m (λ files. HoldsRegion e (files s.file) x)) (sym same) (holds_all o m s e log after stand held))

@@ -1,7 +1,7 @@
 -- Images that are logged one after another.
-use Rattle.std.proofs.Common.{◌≡◌, ℕ, ◌+◌, ◌*◌, ◌≤◌, Bool, true, false, List, [], ◌++◌, length, Option, Some, None, refl, sym, ap, ◌∙◌, arith, add-one, append_assoc, append-nil}
-use Rattle.std.specs.Prelude.{IfSome, if◌then◌else◌}
-use Rattle.disk_defs.specs.Disk.{Files}
+use Rattle.std.proofs.Common.{◌≡◌, inl, ℕ, ◌+◌, ◌*◌, ◌≤◌, Bool, true, false, List, [], ◌++◌, length, Option, Some, None, refl, sym, ap, ◌∙◌, arith, add-one, append_assoc, append-nil}
+use Rattle.std.specs.Prelude.{Result, Ok, Err, IfSome, OnErr, if◌then◌else◌}
+use Rattle.disk_defs.specs.Disk.{Files, View, Reads}
 use Rattle.disk_defs.proofs.Told.{weaker_told, both_weak, told_at}
 use Rattle.journal_defs.specs.Journal.{Before}
 use Rattle.journal_defs.specs.Epochs.{block_of}
@@ -61,3 +61,15 @@ logged_more o n s k first old new same step were =
 pub logged_front : (o : Option Files) (s : Standing) (k : ℕ) (first old new : List Before) → new ≡ old → IfSome o (λ files. old ≡ first ++ images_below s (files s.file) k)
     → IfSome o (λ files. (n : ℕ) × (new ≡ first ++ images_below s (files s.file) n))
 logged_front o s k first old new same were = weaker_told o (λ files. old ≡ first ++ images_below s (files s.file) k) (λ files. (n : ℕ) × (new ≡ first ++ images_below s (files s.file) n)) were (λ files was. (k, same ∙ was))
+
+-- no call of the disk yet
+pub reads_none : (v : View) → Reads v v
+reads_none v = record {
+  content = refl;
+  passes = record { later = omega arith; images = λ c now. (c, now, refl); nothing_else = λ t c le since. inl since; keeps = λ t c le since. since; simulated = refl };
+  room = λ f calls bytes room. room;
+}
+
+pub on_err : {T E P : Type 0} → (r : Result T E) → P → OnErr r P
+on_err (Ok x) p = tt
+on_err (Err e) p = p
