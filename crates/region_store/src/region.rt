@@ -236,13 +236,9 @@ impl Region {
     /// what was logged can be given up: [`mark_logged`](Region::mark_logged) is for when the journal has it.
     ///
     /// # Errors
-    /// `Failed` only where the disk's count of faults rose, and `NoMemory`: the first few of the images may be logged then, and may
-    /// be kept or given up.
-    pub fn log_changed<D: Disk, L: Log>(
-        &self,
-        disk: &mut D,
-        log: &mut L,
-    ) -> Result<(), RegionError>
+    /// `Failed` only where the disk's count of faults rose, and `NoMemory`: the first few of the images may be logged then, and are to
+    /// be given up.
+    pub fn log_changed<D: Disk, L: Log>(&self, disk: &mut D, log: &mut L) -> Result<(), RegionError>
         requires held { IfSome (D.disk disk.old).content (IsHeld self.now) }
         ensures logged { OnOk result (IfSome (D.disk disk.old).content (λ files. L.images log.new ≡ L.images log.old ++ changed_images self.now (files self.now.file))) }
         ensures front { OnErr result (IfSome (D.disk disk.old).content (λ files. (n : ℕ) × (L.images log.new ≡ L.images log.old ++ images_below self.now (files self.now.file) n))) }

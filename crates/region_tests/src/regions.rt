@@ -66,14 +66,24 @@ fn has(rt: &impl Abort, alloc: Global, region: &Region, number: u64, byte: u8) -
 }
 
 /// Logs what has changed, writes it, and begins to count images anew.
-fn to_epoch(rt: &impl Abort, alloc: Global, region: &mut Region, disk: &mut MemDisk, log: &mut Images) -> u32 {
+fn to_epoch(
+    rt: &impl Abort,
+    alloc: Global,
+    region: &mut Region,
+    disk: &mut MemDisk,
+    log: &mut Images,
+) -> u32 {
     region.log_changed(disk, log).expect(rt, "images");
     region.mark_logged();
     let none = region.no_images(alloc).expect(rt, "memory");
     let epoch = region.flush(disk, false, 7).expect(rt, "a flush");
     region.begin_epoch(none);
     match epoch {
-        JnlRecord::Epoch { closing, number, blocks } => {
+        JnlRecord::Epoch {
+            closing,
+            number,
+            blocks,
+        } => {
             assert!(rt; !closing && number == 7);
             blocks
         }
@@ -193,7 +203,9 @@ fn a_flush_that_fails_and_is_done_again(rt: HostRuntime) {
             whole += 1;
         }
         made.disk.fuse(1000);
-        made.region.flush(&mut made.disk, true, 8).expect(&rt, "a flush");
+        made.region
+            .flush(&mut made.disk, true, 8)
+            .expect(&rt, "a flush");
         made.disk.crash(1);
         assert!(&rt; is_flushed(&rt, alloc, &mut made));
         goes_back(&rt, alloc, &mut made.disk, made.blocks, &made.log);
