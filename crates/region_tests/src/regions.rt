@@ -1,4 +1,12 @@
 //! A region that is written out, while each call of its disk fails in turn, and goes back to its last epoch.
+ghost use Rattle.std.specs.Prelude.{◌≡◌, ℕ, List, Option, map, true, IfSome, IfOk, OnOk};
+ghost use Rattle.disk_defs.specs.Disk.{Files};
+ghost use Rattle.global_defs.specs.Fields.{IsUpdate};
+ghost use Rattle.gvn_key.specs.Terms.{update_value};
+ghost use Rattle.journal_defs.specs.Journal.{IsInForm};
+ghost use Rattle.block_laws.specs.Nodes.{AreFormed};
+ghost use Rattle.jnl_record.specs.Values.{record_value, placed_value};
+ghost use Rattle.region_store.specs.Region.{IsHeld, AreLogged};
 
 use before_image::Log;
 use gvn_key::terms::Update;
@@ -34,6 +42,28 @@ impl Log for Images {
     }
 }
 
+/// Whether a record is a block's image.
+fn is_image(what: &JnlRecord) -> bool
+    ensures { result ≡ true → IsInForm (record_value what.now) }
+{
+    match what {
+        JnlRecord::Pblk { image, .. } => image.len() == 4096,
+        _ => false,
+    }
+}
+
+/// Whether these records are images of blocks.
+fn are_images(records: &[PlacedRecord]) -> bool
+    ensures { result ≡ true → AreFormed (map placed_value records.now) }
+{
+    for placed in records {
+        if !is_image(&placed.what) {
+            return false;
+        }
+    }
+    true
+}
+
 /// The node of this number.
 fn node(rt: &impl Abort, alloc: Global, number: u64) -> Key {
     let mut sub = Bytes::new(alloc);
@@ -50,11 +80,41 @@ fn value(rt: &impl Abort, alloc: Global, byte: u8) -> Bytes {
     value
 }
 
-/// Gives a node a value of this byte.
-fn set(rt: &impl Abort, alloc: Global, region: &mut Region, number: u64, byte: u8) {
-    let key = node(rt, alloc, number);
-    let update = Update::Set(key, value(rt, alloc, byte));
+/// Makes a change.
+fn make(rt: &impl Abort, region: &mut Region, update: Update)
+    requires form { IsUpdate (update_value update) }
+    ensures held { (o : Option Files) → IfSome o (IsHeld region.old) → IfSome o (IsHeld region.new) }
+{
     region.apply(&[update]).expect(rt, "memory");
+}
+
+/// Gives a node a value of this byte.
+fn set(rt: &impl Abort, alloc: Global, region: &mut Region, number: u64, byte: u8)
+    ensures held { (o : Option Files) → IfSome o (IsHeld region.old) → IfSome o (IsHeld region.new) }
+{
+    let key = node(rt, alloc, number);
+    let _ = key.code();
+    let value = value(rt, alloc, byte);
+    assert!(rt; value.len() <= 1500);
+    make(rt, region, Update::Set(key, value));
+}
+
+/// Gives the first nodes values of this byte.
+fn set_all(rt: &impl Abort, alloc: Global, region: &mut Region, nodes: u64, byte: u8)
+    ensures held { (o : Option Files) → IfSome o (IsHeld region.old) → IfSome o (IsHeld region.new) }
+{
+    for number in 0..nodes {
+        set(rt, alloc, region, number, byte);
+    }
+}
+
+/// Takes a node away.
+fn kill(rt: &impl Abort, alloc: Global, region: &mut Region, number: u64)
+    ensures held { (o : Option Files) → IfSome o (IsHeld region.old) → IfSome o (IsHeld region.new) }
+{
+    let key = node(rt, alloc, number);
+    let _ = key.code();
+    make(rt, region, Update::Kill(key));
 }
 
 /// Whether a node has a value of this byte.
@@ -65,150 +125,159 @@ fn has(rt: &impl Abort, alloc: Global, region: &Region, number: u64, byte: u8) -
     }
 }
 
-/// Logs what has changed, writes it, and begins to count images anew.
-fn to_epoch(
-    rt: &impl Abort,
+/// Opens the region from an epoch of so many blocks with these images behind it.
+fn open<D: Disk>(
+    alloc: Global,
+    disk: &mut D,
+    blocks: u32,
+    behind: &[PlacedRecord],
+) -> Result<Region, RegionError>
+    ensures held { IfOk result (λ made. IfSome (D.disk disk.new).content (IsHeld made)) }
+{
+    if !are_images(behind) {
+        return Err(RegionError::NoMemory);
+    }
+    Region::open(alloc, disk, FILE, blocks, behind, &[])
+}
+
+/// Logs what has changed, writes it, and begins to count images anew. It answers how many blocks the EPOCH has.
+fn to_epoch<D: Disk>(
     alloc: Global,
     region: &mut Region,
-    disk: &mut MemDisk,
+    disk: &mut D,
     log: &mut Images,
-) -> u32 {
-    region.log_changed(disk, log).expect(rt, "images");
+) -> Result<u32, RegionError>
+    requires held { IfSome (D.disk disk.old).content (IsHeld region.old) }
+    ensures held { OnOk result (IfSome (D.disk disk.new).content (IsHeld region.new)) }
+{
+    region.log_changed(disk, log)?;
     region.mark_logged();
-    let none = region.no_images(alloc).expect(rt, "memory");
-    let epoch = region.flush(disk, false, 7).expect(rt, "a flush");
+    let none = region.no_images(alloc)?;
+    region.flush(disk, false, 7)?;
     region.begin_epoch(none);
-    match epoch {
-        JnlRecord::Epoch {
-            closing,
-            number,
-            blocks,
-        } => {
-            assert!(rt; !closing && number == 7);
-            blocks
-        }
-        _ => 0,
+    Ok(region.blocks())
+}
+
+/// Logs what has changed, and flushes it on a disk that fails after so many calls.
+fn flush_within<D: Disk>(
+    region: &mut Region,
+    disk: &mut D,
+    log: &mut Images,
+    calls: u64,
+) -> Result<JnlRecord, RegionError>
+    requires held { IfSome (D.disk disk.old).content (IsHeld region.old) }
+{
+    region.log_changed(disk, log)?;
+    region.mark_logged();
+    disk.fuse(calls);
+    region.flush(disk, true, 8)
+}
+
+/// Flushes on a disk that fails after so many calls, and again once it doesn't.
+fn flush_again<D: Disk>(
+    region: &mut Region,
+    disk: &mut D,
+    log: &mut Images,
+    calls: u64,
+) -> Result<bool, RegionError>
+    requires held { IfSome (D.disk disk.old).content (IsHeld region.old) }
+{
+    region.log_changed(disk, log)?;
+    region.mark_logged();
+    disk.fuse(calls);
+    let first = region.flush(disk, true, 8).is_ok();
+    disk.fuse(1000);
+    region.flush(disk, true, 8)?;
+    Ok(first)
+}
+
+/// No images.
+fn no_log(alloc: Global) -> Images {
+    Images {
+        alloc,
+        records: Vec::new(alloc),
     }
 }
 
-/// A region of 30 nodes on several blocks at an epoch, and the blocks' count.
-fn at_epoch(rt: &impl Abort, alloc: Global, disk: &mut MemDisk) -> (Region, u32) {
-    let mut log = Images {
-        alloc,
-        records: Vec::new(alloc),
-    };
-    let mut region = Region::open(alloc, disk, FILE, 0, &[], &[]).expect(rt, "a region");
-    for number in 0..30 {
-        set(rt, alloc, &mut region, number, b'a');
-    }
-    let blocks = to_epoch(rt, alloc, &mut region, disk, &mut log);
+/// A region of 30 nodes on several blocks at an epoch, and how many blocks that has.
+fn at_epoch<D: Disk>(rt: &impl Abort, alloc: Global, disk: &mut D) -> (Region, u32)
+    ensures held { IfSome (D.disk disk.new).content (IsHeld result.0) }
+{
+    let mut log = no_log(alloc);
+    let mut region = open(alloc, disk, 0, &[]).expect(rt, "a region");
+    set_all(rt, alloc, &mut region, 30, b'a');
+    let blocks = to_epoch(alloc, &mut region, disk, &mut log).expect(rt, "an epoch");
     assert!(rt; log.records.is_empty());
     assert!(rt; 3 <= blocks);
     (region, blocks)
 }
 
-/// Opens the region from the epoch with these records behind it: it has the nodes of the epoch, and no others.
-fn goes_back(rt: &impl Abort, alloc: Global, disk: &mut MemDisk, blocks: u32, log: &Images) {
-    let region = Region::open(alloc, disk, FILE, blocks, &log.records, &[]).expect(rt, "a region");
-    assert!(rt; region.nodes() == 30);
-    for number in 0..30 {
-        assert!(rt; has(rt, alloc, &region, number, b'a'));
-    }
-}
-
 /// Changes nodes of all blocks, one of which goes, and adds some.
-fn change(rt: &impl Abort, alloc: Global, region: &mut Region) {
-    for number in 0..45 {
-        set(rt, alloc, region, number, b'b');
-    }
-    let gone = Update::Kill(node(rt, alloc, 7));
-    region.apply(&[gone]).expect(rt, "memory");
+fn change(rt: &impl Abort, alloc: Global, region: &mut Region)
+    ensures held { (o : Option Files) → IfSome o (IsHeld region.old) → IfSome o (IsHeld region.new) }
+{
+    set_all(rt, alloc, region, 45, b'b');
+    kill(rt, alloc, region, 7);
 }
 
-/// A changed region, its disk, the blocks of its last epoch and the images behind it.
-#[derive(Drop)]
-struct Changed {
-    region: Region,
-    disk: MemDisk,
-    blocks: u32,
-    log: Images,
-}
-
-/// A region that has changed since its epoch, with an image of each block of the epoch logged.
-fn changed(rt: &impl Abort, alloc: Global) -> Changed {
-    let mut disk = MemDisk::new(alloc).expect(rt, "memory");
-    let (mut region, blocks) = at_epoch(rt, alloc, &mut disk);
-    change(rt, alloc, &mut region);
-    let mut log = Images {
-        alloc,
-        records: Vec::new(alloc),
-    };
-    region.log_changed(&mut disk, &mut log).expect(rt, "images");
-    region.mark_logged();
-    let logged = log.records.len();
-    assert!(rt; logged == blocks as usize);
-    region.log_changed(&mut disk, &mut log).expect(rt, "images");
-    assert!(rt; log.records.len() == logged);
-    Changed {
-        region,
-        disk,
-        blocks,
-        log,
-    }
-}
-
-/// Flushes, where the disk fails after so many calls. It answers whether the flush succeeded.
-fn flush(rt: &impl Abort, made: &mut Changed, calls: u64) -> bool {
-    made.disk.fuse(calls);
-    match made.region.flush(&mut made.disk, false, 8) {
-        Ok(_) => true,
-        Err(error) => {
-            assert!(rt; error == RegionError::Failed { fault: 1 });
-            false
-        }
-    }
-}
-
-/// Whether a region that is opened from an epoch of all its blocks has the changed nodes, and no others.
-fn is_flushed(rt: &impl Abort, alloc: Global, made: &mut Changed) -> bool {
-    let blocks = made.region.blocks();
-    let again = Region::open(alloc, &mut made.disk, FILE, blocks, &[], &[]).expect(rt, "a region");
-    let mut same = again.nodes() == 44;
-    for number in 0..45 {
-        same = same && has(rt, alloc, &again, number, b'b') == (number != 7);
+/// Whether the region has the nodes of the epoch, and no others.
+fn is_as_before(rt: &impl Abort, alloc: Global, region: &Region) -> bool {
+    let mut same = region.nodes() == 30;
+    for number in 0..30 {
+        same = same && has(rt, alloc, region, number, b'a');
     }
     same
 }
 
+/// Whether the region has the changed nodes, and no others.
+fn is_changed(rt: &impl Abort, alloc: Global, region: &Region) -> bool {
+    let mut same = region.nodes() == 44;
+    for number in 0..45 {
+        same = same && has(rt, alloc, region, number, b'b') == (number != 7);
+    }
+    same
+}
+
+/// A flush is cut short by a crash, and the region goes back by the images.
+fn cut_short(rt: &impl Abort, alloc: Global, calls: u64, pick: u64) {
+    let mut disk = MemDisk::new(alloc).expect(rt, "memory");
+    let (mut region, blocks) = at_epoch(rt, alloc, &mut disk);
+    change(rt, alloc, &mut region);
+    let mut log = no_log(alloc);
+    let _ = flush_within(&mut region, &mut disk, &mut log, calls);
+    assert!(rt; log.records.len() == blocks as usize);
+    disk.crash(pick);
+    let back = open(alloc, &mut disk, blocks, &log.records).expect(rt, "a region");
+    assert!(rt; is_as_before(rt, alloc, &back));
+}
+
 #[test]
 fn a_flush_that_a_crash_cuts_short(rt: HostRuntime) {
-    let alloc = rt.alloc();
     for calls in 0..8 {
         for pick in 0..3 {
-            let mut made = changed(&rt, alloc);
-            flush(&rt, &mut made, calls);
-            made.disk.crash(pick);
-            goes_back(&rt, alloc, &mut made.disk, made.blocks, &made.log);
+            cut_short(&rt, rt.alloc(), calls, pick);
         }
     }
 }
 
+/// A flush that fails is done again, and stands whatever a crash leaves. It answers whether the first one succeeded.
+fn done_again(rt: &impl Abort, alloc: Global, calls: u64) -> bool {
+    let mut disk = MemDisk::new(alloc).expect(rt, "memory");
+    let (mut region, blocks) = at_epoch(rt, alloc, &mut disk);
+    change(rt, alloc, &mut region);
+    let mut log = no_log(alloc);
+    let first = flush_again(&mut region, &mut disk, &mut log, calls).expect(rt, "a flush");
+    disk.crash(1);
+    let again = open(alloc, &mut disk, region.blocks(), &[]).expect(rt, "a region");
+    assert!(rt; is_changed(rt, alloc, &again));
+    let back = open(alloc, &mut disk, blocks, &log.records).expect(rt, "a region");
+    assert!(rt; is_as_before(rt, alloc, &back));
+    first
+}
+
 #[test]
 fn a_flush_that_fails_and_is_done_again(rt: HostRuntime) {
-    let alloc = rt.alloc();
-    let mut whole = 0;
     for calls in 0..8 {
-        let mut made = changed(&rt, alloc);
-        if flush(&rt, &mut made, calls) {
-            whole += 1;
-        }
-        made.disk.fuse(1000);
-        made.region
-            .flush(&mut made.disk, true, 8)
-            .expect(&rt, "a flush");
-        made.disk.crash(1);
-        assert!(&rt; is_flushed(&rt, alloc, &mut made));
-        goes_back(&rt, alloc, &mut made.disk, made.blocks, &made.log);
+        assert!(&rt; done_again(&rt, rt.alloc(), calls) == (5 <= calls));
     }
-    assert!(&rt; 1 <= whole && whole < 8);
 }
