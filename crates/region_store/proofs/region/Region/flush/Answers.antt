@@ -197,7 +197,7 @@ returns-clause-epoch g c =
     let s = c.args.self.now in
     let i = c.self.inside in
     let is : standing i.file c.write_changed.new.leaves i.imaged ≡ flushed s = ap (λ (x : Stored). standing i.file x i.imaged) c.in_ok-write_changed.ensures.ok ∙ ap flushed c.self.view_is in
-    ap (λ (n : ℕ). journal.Epoch (record { closing = c.args.closing; number = c.args.number; blocks = n })) (c.blocks.ensures.count ∙ ap (λ (x : Standing). length x.pool.leaves) is)
+    ap (λ (n : ℕ). journal.Epoch (record { closing = c.args.closing; number = c.args.number; blocks = n })) (c.blocks-2.ensures.count ∙ ap (λ (x : Standing). length x.pool.leaves) is)
 
 pub returns-clause-restores : goal.returns-clause-restores
 returns-clause-restores g c =
@@ -207,7 +207,7 @@ returns-clause-restores g c =
     let w = g.D.Disk.disk c.sync_file.new.disk in
     let is : standing i.file c.write_changed.new.leaves i.imaged ≡ flushed s = ap (λ (x : Stored). standing i.file x i.imaged) c.in_ok-write_changed.ensures.ok ∙ ap flushed c.self.view_is in
     let stand : IfSome v.content (λ files. AllStand s.pool (files s.file)) = subst (λ (x : Standing). IfSome v.content (λ files. AllStand x.pool (files x.file))) c.self.view_is c.in_ok-write_changed.ensures.written in
-    let decodes : Decodes (blocks_in s.pool.leaves) s.globals = subst (λ (x : Standing). Decodes (blocks_in x.pool.leaves) x.globals) is c.blocks.ensures.decodes in
+    let decodes : Decodes (blocks_in s.pool.leaves) s.globals = subst (λ (x : Standing). Decodes (blocks_in x.pool.leaves) x.globals) is c.blocks-2.ensures.decodes in
     restored w.content s (told_at w.content v.content (λ files. AllStand s.pool (files s.file)) (sym c.sync_file.ensures.content) stand) decodes
 
 pub returns-clause-durable : goal.returns-clause-durable
