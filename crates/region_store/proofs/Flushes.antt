@@ -1,9 +1,9 @@
 -- Blocks that are written out, and what the file has of the region then.
-use Rattle.std.proofs.Common.{◌≡◌, ◌⊎◌, inl, inr, ⊎_elim, ℕ, zero, suc, ◌+◌, ◌*◌, ◌<◌, ◌≤◌, Bool, true, false, List, length, take, drop, replicate, Option, Some, None, unwrap_or, refl, sym, ap, subst, ◌∙◌, arith, get_or}
+use Rattle.std.proofs.Common.{◌≡◌, ◌⊎◌, inl, inr, ⊎_elim, ℕ, zero, suc, ◌+◌, ◌*◌, ◌≤◌, true, false, List, length, take, drop, replicate, Option, Some, refl, sym, ap, subst, ◌∙◌, arith, get_or}
 use Rattle.std.specs.Prelude.{IfSome}
 use Rattle.std.proofs.lemmas.Bool.{cases_lt}
 use Rattle.std.proofs.lemmas.List.{length-take, length-drop}
-use Rattle.disk_defs.specs.Disk.{Files, View, Image, IsLawful, From, OnFile, AtEachMoment, ReadsAfter}
+use Rattle.disk_defs.specs.Disk.{Files, View, Image, From, OnFile, AtEachMoment, ReadsAfter}
 use Rattle.disk_defs.proofs.Told.{weaker_told, both_weak, told_at, reads_after}
 use Rattle.disk_defs.proofs.Moments.{weaker}
 use Rattle.disk_defs.proofs.Frames.{reads_weaker}
@@ -13,7 +13,6 @@ use Rattle.journal_defs.specs.Epochs.{Chosen, image_state, block_of}
 use Rattle.journal_defs.specs.Leaves.{IsBlock, StandsAt, Decodes, spelled_leaf}
 use Rattle.journal_defs.specs.Undo.{fresh}
 use Rattle.journal_defs.specs.Sound.{AreWhole, Restores}
-use Rattle.block_laws.specs.Several.{MayChange}
 use Rattle.block_laws.proofs.Chains.{block_is_whole}
 use Rattle.block_laws.proofs.Found.{walk}
 use Rattle.block_pool.specs.Code.{Pool}

@@ -1,4 +1,4 @@
-use Rattle.std.proofs.Common.{◌≡◌, ◌∙◌, length, ap, subst}
+use Rattle.std.proofs.Common.{subst}
 use Rattle.journal_defs.specs.Leaves.{Decodes}
 use Rattle.gvt_leaf.specs.Stored.{blocks_in}
 use Rattle.region_store.specs.Region.{Standing}

@@ -1,6 +1,6 @@
-use Rattle.std.proofs.Common.{◌≡◌, ◌∙◌, inl, inr, ℕ, List, Bool, length, sym, ap, subst}
+use Rattle.std.proofs.Common.{◌≡◌, ◌∙◌, inl, inr, ℕ, length, sym, ap, subst}
 use Rattle.std.specs.Prelude.{Option, IfSome}
-use Rattle.disk_defs.specs.Disk.{Files, View, Image, From, OnFile, AtEachMoment, ReadsAfter, IsDurable}
+use Rattle.disk_defs.specs.Disk.{Files, Image, From, OnFile, AtEachMoment, ReadsAfter, IsDurable}
 use Rattle.disk_defs.specs.Frames.{Only, OthersStay}
 use Rattle.disk_defs.proofs.Told.{told_at}
 use Rattle.disk_defs.proofs.Moments.{nothing_new}

@@ -1,4 +1,4 @@
-use Rattle.std.proofs.Common.{◌≡◌, ◌≤◌, ℕ, length, sym, subst, arith}
+use Rattle.std.proofs.Common.{◌≡◌, ℕ, length, sym, subst, arith}
 use Rattle.std.specs.Prelude.{◌++◌, IfSome}
 use Rattle.disk_defs.proofs.Told.{told_at}
 use Rattle.disk_defs.proofs.Frames.{reads_more}

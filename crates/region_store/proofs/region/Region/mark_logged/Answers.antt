@@ -1,8 +1,8 @@
 use Rattle.std.proofs.Common.{◌≡◌, ◌∙◌, length, sym, ap, subst}
 use Rattle.block_laws.specs.Several.{logged_all}
 use Rattle.before_image.specs.Images.{placed_images}
-use Rattle.region_store.specs.Region.{Standing, HoldsRegion, AreLogged, with_marks, logged_marks, changed_images}
-use Rattle.region_store.proofs.Marking.{standing, marked_is, all_logged, holds_logged}
+use Rattle.region_store.specs.Region.{Standing, HoldsRegion, AreLogged, changed_images}
+use Rattle.region_store.proofs.Marking.{marked_is, all_logged, holds_logged}
 use Rattle.region_store.proofs.region.Region.mark_logged.Goals as goal
 
 pub returns-clause-marks : goal.returns-clause-marks

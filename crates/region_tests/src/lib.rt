@@ -1,5 +1,0 @@
-//! Regions on blocks through epochs, while their disk fails.
-#![tactic(auto)]
-
-#[cfg(test)]
-mod regions;
