@@ -6,3 +6,6 @@ pub mod Held
 pub mod States
 pub mod Handed
 pub mod Openings
+pub mod Marking
+pub mod Logs
+pub mod Flushes

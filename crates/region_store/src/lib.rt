@@ -9,14 +9,16 @@
 //!
 //! # Modules
 //!
-//! `reading` reads blocks as they stood at an epoch. `region` is a region, and `laws` says what blocks say of its globals.
+//! `reading` reads blocks as they stood at an epoch. `region` is a region and `flushing` its steps of writing out. `laws` says what
+//! blocks say of its globals, and what comes back of a file that was written in part.
 #![tactic(auto)]
 
 mod error;
+mod flushing;
 mod laws;
 mod reading;
 mod region;
 
 pub use error::RegionError;
-pub use laws::outside_holds;
+pub use laws::{flushing_holds, outside_holds};
 pub use region::Region;

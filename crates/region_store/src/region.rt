@@ -1,9 +1,10 @@
 //! A region on blocks.
-ghost use Rattle.std.specs.Prelude.{◌≡◌, ◌≤◌, ◌*◌, ℕ, List, true, length, map, max, filter, fold, option_map, IfOk, IfSome, OnOk, OnErr, IsErrOf};
+ghost use Rattle.std.specs.Prelude.{◌≡◌, ◌≤◌, ◌<◌, ◌*◌, ◌++◌, ◌⊎◌, ℕ, List, true, false, length, map, max, filter, fold, replicate, option_map, IfOk, IfSome, OnOk, OnErr, IsErrOf};
 ghost use Rattle.std.specs.Option.{option_copied};
 ghost use Rattle.std.specs.List.{AllByRecursion};
 ghost use Rattle.std.specs.FinMap as globals;
-ghost use Rattle.disk_defs.specs.Disk.{Reads, Rose};
+ghost use Rattle.disk_defs.specs.Disk.{Reads, Image, From, OnFile, AtEachMoment, ReadsAfter, IsDurable, Rose};
+ghost use Rattle.disk_defs.specs.Frames.{Only, OthersStay};
 ghost use Rattle.global_defs.specs.Key.{sub_of};
 ghost use Rattle.global_defs.specs.Valid.{is_key};
 ghost use Rattle.global_defs.specs.Entry.{is_under, apply};
@@ -12,24 +13,32 @@ ghost use Rattle.global_defs.specs.Evaluation as evaluation;
 ghost use Rattle.gvn_key.specs.Terms.{update_value};
 ghost use Rattle.gvn_key.specs.Faults.{child_of};
 ghost use Rattle.gvn_globals.specs.Walks.{after};
+ghost use Rattle.journal_defs.specs.Journal as journal;
+ghost use Rattle.journal_defs.specs.Journal.{Mark};
 ghost use Rattle.journal_defs.specs.Epochs.{Chosen, image_state, block_of};
+ghost use Rattle.journal_defs.specs.Leaves.{Decodes};
+ghost use Rattle.journal_defs.specs.Undo.{fresh};
 ghost use Rattle.journal_defs.specs.Sound.{Restores};
 ghost use Rattle.block_laws.specs.Nodes.{AreFormed, HaveKeys};
+ghost use Rattle.block_laws.specs.Several.{logged_all};
+ghost use Rattle.before_image.specs.Images.{placed_images};
 ghost use Rattle.gvt_leaf.specs.Listed.{node_value};
-ghost use Rattle.jnl_record.specs.Values.{placed_value};
+ghost use Rattle.gvt_leaf.specs.Stored.{blocks_in};
+ghost use Rattle.jnl_record.specs.Values.{record_value, placed_value};
 ghost use Rattle.region_store.specs.Laid.{epoch_at, AreLaid};
 ghost use Rattle.region_store.specs.Outside.{IsOutsideAt};
-ghost use Rattle.region_store.specs.Region.{HoldsRegion, IsReplayed};
+ghost use Rattle.region_store.specs.Region.{HoldsRegion, IsHeld, AreLogged, IsFlushed, IsCutShort, IsReplayed, flushed, with_marks, image_at, images_below, changed_images, logged_marks};
 
 use super::error::RegionError;
+use super::flushing::{mark_dirty, sync_file, write_changed};
 use super::reading::{read_blocks, undo_of};
-use before_image::Imaged;
+use before_image::{ImageError, Imaged, Log};
 use block_pool::BlockPool;
 use gvn_globals::Lookup;
 use gvn_key::terms::Update;
 use gvn_key::{Bytes, Key, NoMemory};
 use gvt_leaf::{ChainError, Leaves, Node};
-use jnl_record::PlacedRecord;
+use jnl_record::{JnlRecord, PlacedRecord};
 use repl_disk::Disk;
 use std::alloc::Global;
 use std::marker::Model;
@@ -183,6 +192,137 @@ impl Region {
         ensures holds { (e : Chosen) (bytes : List ℕ) → HoldsRegion e bytes self.old → HoldsRegion e bytes self.new }
     {
         self.leaves.apply_all(updates)
+    }
+
+    /// How many blocks there are. They spell the globals.
+    pub fn blocks(&self) -> u32
+        ensures count { result ≡ length self.now.pool.leaves }
+        ensures decodes { Decodes (blocks_in self.now.pool.leaves) self.now.globals }
+    {
+        self.leaves.pool().count()
+    }
+
+    /// Logs a block's bytes as they stand on the file, where it has changed and may not be written yet.
+    fn log_block<D: Disk, L: Log>(
+        &self,
+        disk: &mut D,
+        block: u32,
+        log: &mut L,
+    ) -> Result<(), RegionError>
+        requires held { IfSome (D.disk disk.old).content (IsHeld self.now) }
+        requires inside { block < length self.now.pool.leaves }
+        ensures logged { OnOk result (IfSome (D.disk disk.old).content (λ files. L.images log.new ≡ L.images log.old ++ image_at self.now (files self.now.file) block)) }
+        ensures none { OnErr result (L.images log.new ≡ L.images log.old) }
+        ensures place { (f offset : ℕ) → IsErrOf result (RegionError.NotAFile f offset) → ⊥ }
+        ensures reads { Reads (D.disk disk.old) (D.disk disk.new) }
+        ensures later { (D.disk disk.old).faults ≤ (D.disk disk.new).faults }
+        ensures count { (fault : ℕ) → IsErrOf result (RegionError.Failed fault) → fault ≡ (D.disk disk.new).faults }
+        ensures cause { (fault : ℕ) → IsErrOf result (RegionError.Failed fault) → Rose (D.disk disk.old).faults (D.disk disk.new).faults }
+    {
+        let dirty = self.leaves.pool().is_dirty(block);
+        if !dirty {
+            return Ok(());
+        }
+        match self.imaged.log_image(disk, self.file, block, log) {
+            Ok(()) => Ok(()),
+            Err(ImageError::Failed) => Err(RegionError::Failed {
+                fault: disk.faults(),
+            }),
+            Err(ImageError::NoMemory) => Err(RegionError::NoMemory),
+        }
+    }
+
+    /// Logs what the file has of each block that has changed and may not be written yet, in the blocks' order. It sets no mark, so that
+    /// what was logged can be given up: [`mark_logged`](Region::mark_logged) is for when the journal has it.
+    ///
+    /// # Errors
+    /// `Failed` only where the disk's count of faults rose, and `NoMemory`: the first few of the images may be logged then, and are to
+    /// be given up.
+    pub fn log_changed<D: Disk, L: Log>(&self, disk: &mut D, log: &mut L) -> Result<(), RegionError>
+        requires held { IfSome (D.disk disk.old).content (IsHeld self.now) }
+        ensures logged { OnOk result (IfSome (D.disk disk.old).content (λ files. L.images log.new ≡ L.images log.old ++ changed_images self.now (files self.now.file))) }
+        ensures front { OnErr result (IfSome (D.disk disk.old).content (λ files. (n : ℕ) × (L.images log.new ≡ L.images log.old ++ images_below self.now (files self.now.file) n))) }
+        ensures place { (f offset : ℕ) → IsErrOf result (RegionError.NotAFile f offset) → ⊥ }
+        ensures reads { Reads (D.disk disk.old) (D.disk disk.new) }
+        ensures later { (D.disk disk.old).faults ≤ (D.disk disk.new).faults }
+        ensures count { (fault : ℕ) → IsErrOf result (RegionError.Failed fault) → fault ≡ (D.disk disk.new).faults }
+        ensures cause { (fault : ℕ) → IsErrOf result (RegionError.Failed fault) → Rose (D.disk disk.old).faults (D.disk disk.new).faults }
+    {
+        for block in 0..self.blocks() {
+            self.log_block(disk, block, log)?;
+        }
+        Ok(())
+    }
+
+    /// Keeps that each block that has changed has an image: what [`log_changed`](Region::log_changed) logged is in the journal.
+    pub fn mark_logged(&mut self)
+        ensures marks { self.new ≡ with_marks self.old (logged_marks self.old) }
+        ensures logged { AreLogged self.new }
+        // behind the images, in whichever generation, the region's blocks are those of the same epoch
+        ensures holds { (e : Chosen) (bytes : List ℕ) (g : ℕ) → HoldsRegion e bytes self.old → HoldsRegion (logged_all e (placed_images g (changed_images self.old bytes))) bytes self.new }
+    {
+        mark_dirty(&mut self.imaged, self.leaves.pool());
+    }
+
+    /// Writes the blocks that have changed, each of which stands past the epoch or has an image, and syncs the file. It answers the
+    /// record of an EPOCH of so many entries, which may be appended then: the file's blocks below it hold exactly the globals.
+    ///
+    /// The images have to be in the journal for good before. A crash in the midst leaves of the file what goes back by them.
+    ///
+    /// # Errors
+    /// `Failed` only where the disk's count of faults rose, and `NoMemory`. The region has the same globals in the same blocks, which
+    /// are still those of the epoch and the file, and another flush may follow.
+    pub fn flush<D: Disk>(
+        &mut self,
+        disk: &mut D,
+        closing: bool,
+        number: u64,
+    ) -> Result<JnlRecord, RegionError>
+        requires held { IfSome (D.disk disk.old).content (IsHeld self.old) }
+        requires logged { AreLogged self.old }
+        ensures ok { OnOk result (self.new ≡ flushed self.old) }
+        ensures err { OnErr result ((self.new ≡ self.old) ⊎ (self.new ≡ flushed self.old)) }
+        ensures logged { AreLogged self.new }
+        ensures holds { (e : Chosen) → IfSome (D.disk disk.old).content (λ files. HoldsRegion e (files self.old.file) self.old) → IfSome (D.disk disk.new).content (λ files. HoldsRegion e (files self.old.file) self.new) }
+        ensures epoch { IfOk result (λ made. record_value made ≡ journal.Epoch (record { closing = closing; number = number; blocks = length self.old.pool.leaves })) }
+        ensures restores { OnOk result (IfSome (D.disk disk.new).content (λ files. (m : Mark) → m.blocks ≡ length self.old.pool.leaves → Restores (image_state (fresh m) (block_of (files self.old.file))) self.old.globals)) }
+        ensures durable { OnOk result (IfSome (D.disk disk.new).content (λ files. IsDurable (D.disk disk.new) self.old.file (files self.old.file))) }
+        // as the file reads, and in each image at each moment of the call, at most blocks have changed that may be written
+        ensures content { ReadsAfter (OnFile self.old.file (IsCutShort self.old)) (D.disk disk.old).content (D.disk disk.new).content }
+        ensures any_moment { AtEachMoment (D.disk disk.old) (D.disk disk.new) (From (Image (D.disk disk.old)) (OnFile self.old.file (IsCutShort self.old))) }
+        ensures frame { OthersStay (Only self.old.file) (D.disk disk.old) (D.disk disk.new) }
+        ensures place { (f offset : ℕ) → IsErrOf result (RegionError.NotAFile f offset) → ⊥ }
+        ensures later { (D.disk disk.old).faults ≤ (D.disk disk.new).faults }
+        ensures count { (fault : ℕ) → IsErrOf result (RegionError.Failed fault) → fault ≡ (D.disk disk.new).faults }
+        ensures cause { (fault : ℕ) → IsErrOf result (RegionError.Failed fault) → Rose (D.disk disk.old).faults (D.disk disk.new).faults }
+    {
+        write_changed(&mut self.leaves, disk, self.file)?;
+        sync_file(disk, self.file)?;
+        Ok(JnlRecord::Epoch {
+            closing,
+            number,
+            blocks: self.blocks(),
+        })
+    }
+
+    /// No image of any block, as behind an EPOCH of all of them. They are made before it is appended, so that
+    /// [`begin_epoch`](Region::begin_epoch) takes no memory.
+    pub fn no_images(&self, alloc: Global) -> Result<Imaged, NoMemory>
+        ensures { IfOk result (λ made. made ≡ replicate (length self.now.pool.leaves) false) }
+    {
+        Imaged::new(alloc, self.blocks())
+    }
+
+    /// Counts images anew: the EPOCH of a flush is in the journal for good. No block has changed since.
+    pub fn begin_epoch(&mut self, images: Imaged)
+        requires flushed { IsFlushed self.old }
+        requires none { images ≡ replicate (length self.old.pool.leaves) false }
+        ensures begun { self.new ≡ with_marks self.old (replicate (length self.old.pool.leaves) false) }
+        ensures logged { AreLogged self.new }
+        // the region's blocks are those of that EPOCH
+        ensures holds { (e : Chosen) (bytes : List ℕ) (m : Mark) → m.blocks ≡ length self.old.pool.leaves → HoldsRegion e bytes self.old → HoldsRegion (fresh m) bytes self.new }
+    {
+        self.imaged = images;
     }
 }
 
