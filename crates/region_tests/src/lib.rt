@@ -1,0 +1,5 @@
+//! Regions on blocks through epochs, while their disk fails.
+#![tactic(auto)]
+
+#[cfg(test)]
+mod regions;
