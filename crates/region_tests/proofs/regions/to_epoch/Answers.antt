@@ -1,4 +1,4 @@
-use Rattle.std.proofs.Common.{◌≡◌, ◌∙◌, Option, false, length, replicate, sym, ap, subst}
+use Rattle.std.proofs.Common.{◌∙◌, Option, false, length, replicate, sym, ap, subst}
 use Rattle.std.specs.Prelude.{IfSome}
 use Rattle.disk_defs.specs.Disk.{Files, OnFile}
 use Rattle.region_store.specs.Region.{Standing, IsHeld, IsFlushed, IsCutShort}
