@@ -147,6 +147,17 @@ fn open<D: Disk>(
     Region::open(alloc, disk, FILE, blocks, behind, &[])
 }
 
+/// Logs what has changed, and marks it.
+fn logged<D: Disk>(region: &mut Region, disk: &mut D, log: &mut Images) -> Result<(), RegionError>
+    requires held { IfSome (D.disk disk.old).content (IsHeld region.old) }
+    ensures held { OnOk result (IfSome (D.disk disk.new).content (IsHeld region.new)) }
+    ensures logged { OnOk result (AreLogged region.new) }
+{
+    region.log_changed(disk, log)?;
+    region.mark_logged();
+    Ok(())
+}
+
 /// Logs what has changed, writes it, and begins to count images anew. It answers how many blocks the EPOCH has.
 fn to_epoch<D: Disk>(
     alloc: Global,
@@ -157,8 +168,7 @@ fn to_epoch<D: Disk>(
     requires held { IfSome (D.disk disk.old).content (IsHeld region.old) }
     ensures held { OnOk result (IfSome (D.disk disk.new).content (IsHeld region.new)) }
 {
-    region.log_changed(disk, log)?;
-    region.mark_logged();
+    logged(region, disk, log)?;
     let none = region.no_images(alloc)?;
     region.flush(disk, false, 7)?;
     region.begin_epoch(none);
@@ -174,8 +184,7 @@ fn flush_within<D: Disk>(
 ) -> Result<JnlRecord, RegionError>
     requires held { IfSome (D.disk disk.old).content (IsHeld region.old) }
 {
-    region.log_changed(disk, log)?;
-    region.mark_logged();
+    logged(region, disk, log)?;
     disk.fuse(calls);
     region.flush(disk, true, 8)
 }
@@ -189,8 +198,7 @@ fn flush_again<D: Disk>(
 ) -> Result<bool, RegionError>
     requires held { IfSome (D.disk disk.old).content (IsHeld region.old) }
 {
-    region.log_changed(disk, log)?;
-    region.mark_logged();
+    logged(region, disk, log)?;
     disk.fuse(calls);
     let first = region.flush(disk, true, 8).is_ok();
     disk.fuse(1000);
