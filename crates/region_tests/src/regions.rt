@@ -1,4 +1,4 @@
-//! A region that is written out, while each call of its disk fails in turn, and goes back to its last epoch.
+//! A region that is opened behind an epoch, and written out while each call of its disk fails in turn.
 ghost use Rattle.std.specs.Prelude.{◌≡◌, ◌<◌, Option, map, length, true, IfSome, IfOk, OnOk};
 ghost use Rattle.disk_defs.specs.Disk.{Files};
 ghost use Rattle.global_defs.specs.Fields.{IsUpdate};
@@ -258,7 +258,7 @@ fn is_node(rt: &impl Abort, alloc: Global, key: &Key, number: u64) -> bool {
     key.as_encoded() == node(rt, alloc, number).as_encoded()
 }
 
-/// What a region of the nodes from 0 to 29 but one answers, past that one and before it.
+/// Asserts what a region of the nodes from 0 to 29 without 7 answers around that one.
 fn is_read(rt: &impl Abort, alloc: Global, region: &Region) {
     let top = Key::new(alloc, b"X", &[]).expect(rt, "a key");
     assert!(rt; region.defined(&top) == 10);
@@ -271,7 +271,7 @@ fn is_read(rt: &impl Abort, alloc: Global, region: &Region) {
     assert!(rt; is_node(rt, alloc, &after.expect(rt, "a node"), 8));
 }
 
-/// How many nodes are listed in all, and below one.
+/// Asserts how many nodes that region lists, in all and under one.
 fn are_listed(rt: &impl Abort, alloc: Global, region: &Region) {
     assert!(rt; region.list(alloc).expect(rt, "memory").len() == 29);
     let under = region.list_under(alloc, &node(rt, alloc, 8));
@@ -320,13 +320,14 @@ fn a_flush_that_a_crash_cuts_short(rt: HostRuntime) {
     }
 }
 
-/// A flush that fails is done again, and stands whatever a crash leaves. It answers whether the first one succeeded.
+/// A flush that fails is done again, and stands where a crash leaves only what was synced. It answers whether the first one
+/// succeeded.
 fn done_again<D: Disk>(rt: &impl Abort, alloc: Global, disk: &mut D, calls: u64) -> bool {
     let (mut region, blocks) = at_epoch(rt, alloc, disk);
     change(rt, alloc, &mut region);
     let mut log = no_log(alloc);
     let first = flush_again(&mut region, disk, &mut log, calls).expect(rt, "a flush");
-    disk.crash(1);
+    disk.crash(0);
     let again = open(alloc, disk, region.blocks(), &[]).expect(rt, "a region");
     assert!(rt; is_changed(rt, alloc, &again));
     let back = open(alloc, disk, blocks, &log.records).expect(rt, "a region");
