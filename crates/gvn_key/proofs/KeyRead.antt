@@ -67,7 +67,7 @@ pub record IsAgain (name : List ℕ) (texts : List (List ℕ)) (key : Key) : Typ
   pub no_fault : key_fault name texts ≡ None
   pub same : key_of name texts ≡ key
 
-abbrev key_with : List ℕ → List Sub → Key
+abbrev pub key_with : List ℕ → List Sub → Key
 key_with name subs = record { name = name; subs = subs }
 
 key_again : (key : Key) → is_key key ≡ true → IsAgain key.name (map sub_bytes key.subs) key

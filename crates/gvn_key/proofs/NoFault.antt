@@ -6,7 +6,8 @@ use Rattle.global_defs.specs.Key.{sub_of}
 use Rattle.global_defs.specs.Valid.{is_key, is_sub, is_name}
 use Rattle.global_defs.specs.Encoded.{encoded}
 use Rattle.global_defs.proofs.Numerals.{sub_made}
-use Rattle.gvn_key.specs.Faults.{IsMade, key_of, subs_fault, parts_fault}
+use Rattle.gvn_key.specs.Decoding.{IsCode}
+use Rattle.gvn_key.specs.Faults.{key_of, subs_fault, parts_fault}
 use Rattle.gvn_key.specs.declared.key.KeyError.{KeyError}
 use Rattle.gvn_key.specs.declared.key.KeyError.TheVariants.{BadName, NameTooLong, NullSub, TooManySubs}
 
@@ -41,11 +42,6 @@ no_fault name subs e short =
     let u : nat_le (length (encoded (key_of name subs))) 255 ≡ true = le-leb (length (encoded (key_of name subs))) 255 short in
     rw (p, q, r, t) u
 
--- copies of such a name and such subscripts, and the encoded key, are made
-pub made : (name copy : List ℕ) (subs copies : List (List ℕ)) (code : List ℕ) → copy ≡ name → copies ≡ subs → code ≡ encoded (key_of name subs)
-    → parts_fault name subs ≡ None → length code ≤ 255 → IsMade copy copies code
-made name copy subs copies code same each is none short =
-    record {
-      valid = (λ i. is_key (key_of (same i) (each i))) ∙ no_fault name subs none (omega (arith, ap length is));
-      encodes = is ∙ sym (λ i. encoded (key_of (same i) (each i)));
-    }
+-- and the encoded form of one
+pub made : (name : List ℕ) (subs : List (List ℕ)) (code : List ℕ) → code ≡ encoded (key_of name subs) → parts_fault name subs ≡ None → length code ≤ 255 → IsCode code
+made name subs code is none short = (key_of name subs, no_fault name subs none (omega (arith, ap length is)), is)
