@@ -9,7 +9,7 @@ use Rattle.global_defs.specs.NodeText.{sub_bytes}
 use Rattle.global_defs.specs.Valid.{is_sub, is_key}
 use Rattle.global_defs.proofs.NumberValue as numbers
 use Rattle.global_defs.proofs.ValidKeys.{valid_parts}
-use Rattle.gvn_key.specs.Decoding.{IsCode, sub_end, sub_read, first_read, behind_first, before_others, subs_read, key_cut, key_read}
+use Rattle.gvn_key.specs.Decoding.{IsCode, sub_end, sub_read, first_read, behind_first, before_others, subs_read, key_cut, key_read, IsKept}
 use Rattle.gvn_key.proofs.Decoded.{front, last_byte, sub_back, end_found}
 use Rattle.gvn_key.proofs.Subscripts.{code_parts}
 use Rattle.gvn_key.proofs.KeyRead.{key_with, end_known}
@@ -41,10 +41,6 @@ read_back key h =
 -- bytes that are a key's are read to it
 pub read_known : (code : List ℕ) (key : Key) → is_key key ≡ true → code ≡ encoded key → key_read code ≡ key
 read_known code key v e = ap key_read e ∙ read_back key v
-
-pub record IsKept (code : List ℕ) : Type 0 where
-  pub valid : is_key (key_read code) ≡ true
-  pub encodes : code ≡ encoded (key_read code)
 
 pub kept : (code : List ℕ) → IsCode code → IsKept code
 kept code c =

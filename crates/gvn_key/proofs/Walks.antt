@@ -1,8 +1,8 @@
 -- Going along the encoded subscripts of a key.
-use Rattle.std.proofs.Common.{◌≡◌, ℕ, zero, suc, ◌+◌, ◌<◌, ◌≤◌, true, List, [], ◌∷◌, ◌++◌, length, take, drop, refl, ap, sym, ◌∙◌, arith, append_assoc, Some, None}
+use Rattle.std.proofs.Common.{◌≡◌, ℕ, zero, suc, ◌+◌, ◌-◌, ◌<◌, ◌≤◌, true, List, [], ◌∷◌, ◌++◌, length, take, drop, refl, ap, sym, ◌∙◌, arith, add-one, append_assoc, Some, None}
 use Rattle.std.specs.List.{list_all, flat_map}
 use Rattle.std.proofs.Math.ListN.{length-append}
-use Rattle.std.proofs.Math.Seq.{drop-append-add}
+use Rattle.std.proofs.Math.Seq.{take-append_seam, drop-append-add}
 use Rattle.std.proofs.lemmas.List.{take-append-drop}
 use Rattle.std.proofs.lemmas.Grind.{flat_map-append}
 use Rattle.std.proofs.lemmas.Bool.{and_parts, le-leb}
@@ -29,15 +29,26 @@ step (s ∷ ss) zero last rest h r e =
     (λ i. drop (is i + 1) (code i)) ∙ drop-append-add (front s) (last_byte s ∷ more) 1
 step (s ∷ ss) (suc i) last rest h r e = step ss i last rest (and_parts (is_sub s) (list_all is_sub ss) h).1 r e
 
-pub inside : (subs : List Sub) (i last : ℕ) (rest : List ℕ) → rest ≡ flat_map encoded_sub (drop i subs) → sub_end rest ≡ Some last → i < length subs
+inside : (subs : List Sub) (i last : ℕ) (rest : List ℕ) → rest ≡ flat_map encoded_sub (drop i subs) → sub_end rest ≡ Some last → i < length subs
 inside [] zero last rest r e = let none : sub_end rest ≡ None = ap sub_end r in cc
 inside [] (suc i) last rest r e = let none : sub_end rest ≡ None = ap sub_end r in cc
 inside (s ∷ ss) zero last rest r e = omega arith
 inside (s ∷ ss) (suc i) last rest r e = omega (arith, inside ss i last rest r e)
 
+-- so many of the subscripts are passed, and the rest is the code of the others
+pub record IsBehind (count : ℕ) (subs : List Sub) (rest : List ℕ) : Type 0 where
+  pub few : count ≤ length subs
+  pub code : rest ≡ flat_map encoded_sub (drop count subs)
+
+pub passed : (subs : List Sub) (count last : ℕ) (rest : List ℕ) → list_all is_sub subs ≡ true → IsBehind count subs rest → sub_end rest ≡ Some last → IsBehind (count + 1) subs (drop (last + 1) rest)
+passed subs count last rest h b e = record {
+  few = omega (arith, inside subs count last rest b.code e);
+  code = rw add-one (step subs count last rest h b.code e);
+}
+
 -- where none ends there is none
 
-pub ended : (subs : List Sub) (i : ℕ) (rest : List ℕ) → list_all is_sub subs ≡ true → rest ≡ flat_map encoded_sub (drop i subs) → sub_end rest ≡ None → length subs ≤ i
+ended : (subs : List Sub) (i : ℕ) (rest : List ℕ) → list_all is_sub subs ≡ true → rest ≡ flat_map encoded_sub (drop i subs) → sub_end rest ≡ None → length subs ≤ i
 ended [] i rest h r e = omega arith
 ended (s ∷ ss) zero rest h r e =
     let t = and_parts (is_sub s) (list_all is_sub ss) h in
@@ -45,7 +56,10 @@ ended (s ∷ ss) zero rest h r e =
     cc
 ended (s ∷ ss) (suc i) rest h r e = omega (arith, ended ss i rest (and_parts (is_sub s) (list_all is_sub ss) h).1 r e)
 
-pub none_behind : (subs : List Sub) (n : ℕ) → length subs ≤ n → drop n subs ≡ []
+pub counted : (subs : List Sub) (count : ℕ) (rest : List ℕ) → list_all is_sub subs ≡ true → IsBehind count subs rest → sub_end rest ≡ None → count ≡ length subs
+counted subs count rest h b e = omega (arith, b.few, ended subs count rest h b.code e)
+
+none_behind : (subs : List Sub) (n : ℕ) → length subs ≤ n → drop n subs ≡ []
 none_behind [] zero h = refl
 none_behind [] (suc n) h = refl
 none_behind (s ∷ ss) zero h = absurd (omega arith)
@@ -74,6 +88,18 @@ pub front_code : (count : ℕ) (key : Key) → encoded (front_of count key) ++ f
 front_code count key =
     append_assoc key.name (0 ∷ flat_map encoded_sub (take count key.subs)) (flat_map encoded_sub (drop count key.subs))
     ∙ ap (λ (l : List ℕ). key.name ++ 0 ∷ l) (sym (flat_map-append encoded_sub (take count key.subs) (drop count key.subs)) ∙ ap (flat_map encoded_sub) (take-append-drop count key.subs))
+
+-- a key's bytes without those of the subscripts behind its front
+pub front_cut : (count left : ℕ) (key : Key) (code : List ℕ) → code ≡ encoded key → left ≡ length (flat_map encoded_sub (drop count key.subs)) → take (length code - left) code ≡ encoded (front_of count key)
+front_cut count left key code e is =
+    let more : List ℕ = flat_map encoded_sub (drop count key.subs) in
+    let whole : code ≡ encoded (front_of count key) ++ more = e ∙ sym (front_code count key) in
+    let few : length code - left ≡ length (encoded (front_of count key)) = omega (arith, ap length whole, length-append (encoded (front_of count key)) more, is) in
+    (λ i. take (few i) (whole i)) ∙ take-append_seam (encoded (front_of count key)) more
+
+pub left_fits : (count left : ℕ) (key : Key) (code : List ℕ) → code ≡ encoded key → left ≡ length (flat_map encoded_sub (drop count key.subs)) → left ≤ length code
+left_fits count left key code e is =
+    omega (arith, ap length (e ∙ sym (front_code count key)), length-append (encoded (front_of count key)) (flat_map encoded_sub (drop count key.subs)), is)
 
 pub front_valid : (count : ℕ) (key : Key) → is_key key ≡ true → is_key (front_of count key) ≡ true
 front_valid count key v =

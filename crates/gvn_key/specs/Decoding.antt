@@ -105,3 +105,8 @@ key_cut (Some end) bytes = record { name = take end bytes; subs = subs_read 31 (
 -- the key that has these bytes as its encoded form, where some key has
 unfoldable pub key_read : List ℕ → Key
 key_read bytes = key_cut (position (λ b. b == 0) bytes) bytes
+
+-- the bytes of the key that they are read to
+pub record IsKept (code : List ℕ) : Type 0 where
+  pub valid : is_key (key_read code) ≡ true
+  pub encodes : code ≡ encoded (key_read code)

@@ -6,7 +6,7 @@ ghost use Rattle.global_defs.specs.Key.{sub_of};
 ghost use Rattle.global_defs.specs.Valid.{is_name, is_key};
 ghost use Rattle.global_defs.specs.Encoded.{encoded, encoded_sub};
 ghost use Rattle.global_defs.specs.NodeText.{sub_text, subs_text, node_text};
-ghost use Rattle.gvn_key.specs.Decoding.{IsCode, key_read};
+ghost use Rattle.gvn_key.specs.Decoding.{IsKept, key_read};
 ghost use Rattle.gvn_key.specs.Faults.{subs_fault, parts_fault, key_of, child_of, MakesKey};
 
 use super::bytes::{Bytes, NoMemory};
@@ -82,7 +82,7 @@ impl Model for Key {
 
     ghost view = { λ k. decoding.key_read (arc_value k.code) };
 
-    ghost invariant = { λ k. decoding.IsCode (arc_value k.code) };
+    ghost invariant = { λ k. decoding.IsKept (arc_value k.code) };
 }
 
 fn all_alphanumeric(bytes: &[u8]) -> bool
@@ -159,7 +159,7 @@ impl Key {
 
     /// The key that has these bytes as its encoded form.
     pub(crate) fn made(alloc: Global, code: Bytes) -> Result<Self, NoMemory>
-        requires { IsCode code }
+        requires { IsKept code }
         ensures { IfOk result (λ key. key ≡ key_read code) }
     {
         Ok(Key {
@@ -231,7 +231,8 @@ impl Key {
         let mut text = Bytes::new(out.allocator());
         text.push_all(b"^")?;
         text.push_all(self.name())?;
-        write_subs(&self.subs()?, &mut text)?;
+        let subs = self.subs()?;
+        write_subs(&subs, &mut text)?;
         out.push_all(text.as_slice())
     }
 }

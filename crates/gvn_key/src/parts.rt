@@ -49,7 +49,8 @@ impl Key {
     pub fn name(&self) -> &[u8]
         ensures { result.now ≡ self.now.name }
     {
-        &self.as_encoded()[..self.name_end()]
+        let end = self.name_end();
+        &self.as_encoded()[..end]
     }
 
     /// The encoded subscripts, one after another.
@@ -57,7 +58,8 @@ impl Key {
         ensures value { result.now ≡ flat_map encoded_sub self.now.subs }
         ensures valid { list_all is_sub self.now.subs ≡ true }
     {
-        &self.as_encoded()[self.name_end() + 1..]
+        let end = self.name_end();
+        &self.as_encoded()[end + 1..]
     }
 
     /// How many subscripts there are.

@@ -26,11 +26,12 @@ pub fn last_node(alloc: Global, len: usize, left: &[u8]) -> Result<Key, Fault>
 fn level_of(key: &Key) -> Result<Option<(Key, Bytes)>, NoMemory>
     ensures { ReadsPart (λ p. (p.0, p.1)) (level_of key.now) result }
 {
-    let Some(above) = key.depth().checked_sub(1) else {
+    let depth = key.depth();
+    if depth == 0 {
         return Ok(None);
-    };
-    match key.sub_at(above)? {
-        Some(last) => Ok(Some((key.front(above)?, last))),
+    }
+    match key.sub_at(depth - 1)? {
+        Some(last) => Ok(Some((key.front(depth - 1)?, last))),
         None => unreachable!(),
     }
 }
