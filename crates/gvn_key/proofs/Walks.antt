@@ -35,6 +35,9 @@ inside [] (suc i) last rest r e = let none : sub_end rest ≡ None = ap sub_end 
 inside (s ∷ ss) zero last rest r e = omega arith
 inside (s ∷ ss) (suc i) last rest r e = omega (arith, inside ss i last rest r e)
 
+pub one_more : (subs : List Sub) (i : ℕ) {rest : List ℕ} → rest ≡ flat_map encoded_sub (drop (suc i) subs) → rest ≡ flat_map encoded_sub (drop (i + 1) subs)
+one_more subs i e = e ∙ ap (λ (n : ℕ). flat_map encoded_sub (drop n subs)) (sym (add-one i))
+
 -- so many of the subscripts are passed, and the rest is the code of the others
 pub record IsBehind (count : ℕ) (subs : List Sub) (rest : List ℕ) : Type 0 where
   pub few : count ≤ length subs
@@ -43,7 +46,7 @@ pub record IsBehind (count : ℕ) (subs : List Sub) (rest : List ℕ) : Type 0 w
 pub passed : (subs : List Sub) (count last : ℕ) (rest : List ℕ) → list_all is_sub subs ≡ true → IsBehind count subs rest → sub_end rest ≡ Some last → IsBehind (count + 1) subs (drop (last + 1) rest)
 passed subs count last rest h b e = record {
   few = omega (arith, inside subs count last rest b.code e);
-  code = rw add-one (step subs count last rest h b.code e);
+  code = one_more subs count (step subs count last rest h b.code e);
 }
 
 -- where none ends there is none

@@ -95,8 +95,9 @@ impl Key {
     {
         let alloc = self.code().allocator();
         let code = self.as_encoded();
-        let left = behind(self.subs_code(), count).len();
-        Key::made(alloc, Bytes::of(alloc, &code[..code.len() - left])?)
+        let left = behind(self.subs_code(), count);
+        let end = code.len() - left.len();
+        Key::made(alloc, Bytes::of(alloc, &code[..end])?)
     }
 
     /// The key of these bytes, which some key has as its encoded form. They aren't tested again.

@@ -1,7 +1,7 @@
 use Rattle.std.proofs.Common.{◌≡◌, None, sym, ◌∙◌, arith}
 use Rattle.gvn_key.specs.Decoding.{IsCode}
 use Rattle.gvn_key.specs.Faults.{parts_fault, key_of}
-use Rattle.gvn_key.proofs.NoFault.{made, no_fault}
+use Rattle.gvn_key.proofs.NoFault.{made, makes}
 use Rattle.gvn_key.proofs.Kept.{kept}
 use Rattle.gvn_key.proofs.key.Key.new.Goals as goal
 
@@ -11,4 +11,5 @@ made-requires c =
     (made c.args.name.now c.args.subs.now c.in_ok-code.code c.in_ok-code.ensures (sym c.parts_fault.ensures ∙ c.in_default.is) (omega (arith, c.len.ensures)))
 
 pub returns : goal.returns
-returns c = ?
+returns c =
+    makes c.args.name.now c.args.subs.now c.in_ok-code.code c.in_ok-made.field-0 c.in_ok-code.ensures (sym c.parts_fault.ensures ∙ c.in_default.is) (omega (arith, c.len.ensures)) c.in_ok-made.ensures
