@@ -26,12 +26,12 @@ pub fn last_node(alloc: Global, len: usize, left: &[u8]) -> Result<Key, Fault>
 fn level_of(key: &Key) -> Result<Option<(Key, Bytes)>, NoMemory>
     ensures { ReadsPart (λ p. (p.0, p.1)) (level_of key.now) result }
 {
-    let depth = key.depth();
-    if depth == 0 {
+    let count = key.depth();
+    if count == 0 {
         return Ok(None);
     }
-    match key.sub_at(depth - 1)? {
-        Some(last) => Ok(Some((key.front(depth - 1)?, last))),
+    match key.sub_at(count - 1)? {
+        Some(last) => Ok(Some((key.front(count - 1)?, last))),
         None => unreachable!(),
     }
 }

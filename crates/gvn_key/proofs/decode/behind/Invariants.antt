@@ -9,5 +9,5 @@ use Rattle.gvn_key.proofs.decode.behind.Given as goal
 abbrev pub invariant-loop-i : goal.invariant-loop-i
 invariant-loop-i l = record {
   shorter : length l.rest ≤ length l.bytes;
-  read : (subs : List Sub) → list_all is_sub subs ≡ true → flat_map encoded_sub subs ≡ l.bytes → l.rest ≡ flat_map encoded_sub (drop l.i subs);
+  read : (subs : List Sub) → list_all is_sub subs ≡ true → flat_map encoded_sub subs ≡ l.bytes → l.rest ≡ flat_map encoded_sub (drop l._i subs);
 }

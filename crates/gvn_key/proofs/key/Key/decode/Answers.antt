@@ -1,4 +1,4 @@
-use Rattle.std.proofs.Common.{sym, absurd}
+use Rattle.std.proofs.Common.{sym}
 use Rattle.gvn_key.proofs.key.Key.decode.Goals as goal
 
 pub of_code-requires : goal.of_code-requires

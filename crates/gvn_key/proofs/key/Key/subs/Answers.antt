@@ -4,8 +4,8 @@ use Rattle.global_defs.proofs.NumberValue.{subs_back}
 use Rattle.gvn_key.proofs.KeyRead.{none_fit, these_fit}
 use Rattle.gvn_key.proofs.key.Key.subs.Goals as goal
 
-pub returns-in-Some : goal.returns-in-Some
-returns-in-Some c =
+pub returns : goal.returns
+returns c =
     ap (map sub_of) (these_fit _ c.in_ok-subs.field-0 (λ t. t.items) c.in-Some.subs c.in-Some.is c.in_ok-subs.ensures c.args.self.now.subs c.subs_code.ensures.valid (sym c.subs_code.ensures.value))
     ∙ subs_back c.args.self.now.subs c.subs_code.ensures.valid
 
