@@ -27,8 +27,8 @@ const MOST_SUBS: usize = 31;
 /// How many bytes an encoded key may have.
 pub(crate) const LONGEST_KEY: usize = 255;
 
-/// Room for the subscripts of most keys.
-const SHORT_KEY: usize = 48;
+/// How many bytes an encoded subscript has beside its own, where nothing is escaped.
+const BESIDE_SUB: usize = 3;
 
 /// Why a name and subscripts, or a text, are no key: the first fault from the left.
 #[derive(Clone, Copy, Debug, PartialEq, Eq, Error)]
@@ -131,11 +131,20 @@ fn parts_fault(name: &[u8], subs: &[Bytes]) -> Option<KeyError>
     subs_fault(subs)
 }
 
+/// How many bytes the encoded key has at most, where nothing is escaped.
+fn room_of(name: &[u8], subs: &[Bytes]) -> usize {
+    let mut room = name.len().saturating_add(1);
+    for sub in subs {
+        room = room.saturating_add(sub.len()).saturating_add(BESIDE_SUB);
+    }
+    room
+}
+
 /// The encoded key of a name and subscripts.
 fn encode(alloc: Global, name: &[u8], subs: &[Bytes]) -> Result<Bytes, NoMemory>
     ensures { IfOk result (λ code. code ≡ encoded (key_of name.now subs.now)) }
 {
-    let mut code = Bytes::with_capacity(alloc, name.len() + SHORT_KEY)?;
+    let mut code = Bytes::with_capacity(alloc, room_of(name, subs))?;
     code.push_all(name)?;
     code.push(0)?;
     push_subs(alloc, subs, &mut code)?;
