@@ -1,11 +1,10 @@
 -- The encoded form of a key is read to that key.
-use Rattle.std.proofs.Common.{◌≡◌, ℕ, zero, suc, ◌+◌, ◌≤◌, true, List, [], ◌∷◌, ◌++◌, length, take, drop, refl, ap, sym, ◌∙◌, arith, Option}
+use Rattle.std.proofs.Common.{◌≡◌, ℕ, zero, suc, ◌≤◌, true, List, [], ◌∷◌, ◌++◌, length, refl, ap, sym, ◌∙◌, arith, Option}
 use Rattle.std.specs.List.{list_all, flat_map}
 use Rattle.std.proofs.Math.Seq.{take-append_seam, drop-append-add}
 use Rattle.std.proofs.lemmas.Bool.{and_parts}
-use Rattle.global_defs.specs.Key.{Key, Sub, sub_of}
+use Rattle.global_defs.specs.Key.{Key, Sub}
 use Rattle.global_defs.specs.Encoded.{encoded, encoded_sub}
-use Rattle.global_defs.specs.NodeText.{sub_bytes}
 use Rattle.global_defs.specs.Valid.{is_sub, is_key}
 use Rattle.global_defs.proofs.NumberValue as numbers
 use Rattle.global_defs.proofs.ValidKeys.{valid_parts}

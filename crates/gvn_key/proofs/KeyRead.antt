@@ -1,23 +1,17 @@
 -- Reading an encoded key gives its name and its subscripts' own bytes.
-use Rattle.std.proofs.Common.{◌≡◌, ℕ, ◌+◌, ◌-◌, ◌≤◌, ◌≢◌, true, not, nat_lt, List, [], ◌∷◌, length, take, drop, map, position, refl, ap, sym, ◌∙◌, arith, Option, Some, None, ◌==◌}
+use Rattle.std.proofs.Common.{◌≡◌, ℕ, ◌+◌, ◌-◌, true, List, [], ◌∷◌, length, take, drop, map, position, refl, ap, sym, ◌∙◌, arith, Option, Some, None, ◌==◌}
 use Rattle.std.specs.List.{list_all, flat_map}
 use Rattle.std.specs.Option.{option_map}
 use Rattle.std.proofs.Math.Seq.{take-append_seam, drop-append-add}
-use Rattle.std.proofs.lemmas.Bool.{and_parts, ne_eqb, ltb-true, le-ltb}
-use Rattle.global_defs.specs.Key.{Key, Sub, Number, Text}
-use Rattle.global_defs.specs.Numeral.{is_number}
+use Rattle.std.proofs.lemmas.Bool.{and_parts, ne_eqb, ltb-true}
+use Rattle.global_defs.specs.Key.{Key, Sub}
 use Rattle.global_defs.specs.Encoded.{encoded, encoded_sub}
-use Rattle.global_defs.specs.NodeText.{number_text, sub_bytes}
+use Rattle.global_defs.specs.NodeText.{sub_bytes}
 use Rattle.global_defs.specs.Valid.{is_sub, is_key}
-use Rattle.global_defs.proofs.NumberValue.{subs_back}
 use Rattle.global_defs.proofs.Codes.{is_some_byte}
 use Rattle.global_defs.proofs.ValidKeys.{valid_parts, name_some}
 use Rattle.global_defs.proofs.Places.{none_pass, position_behind}
-use Rattle.gvn_key.specs.Faults.{key_of, subs_fault, parts_fault, length_fault, or_else, key_fault, MakesKey}
 use Rattle.gvn_key.specs.Decoding.{ReadsSubs}
-use Rattle.gvn_key.specs.declared.key.KeyError.{KeyError}
-use Rattle.gvn_key.specs.declared.key.KeyError.TheVariants.{BadName, NameTooLong, BadSub, NullSub, TooManySubs, KeyTooLong, NoMemory}
-use Rattle.std.specs.declared.result.Result.TheVariants.{Err}
 use Rattle.gvn_key.proofs.Subscripts.{same_place, rest_is}
 
 -- where the name ends

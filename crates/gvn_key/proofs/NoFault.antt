@@ -1,5 +1,5 @@
 -- A name and subscripts with no fault make a key.
-use Rattle.std.proofs.Common.{◌≡◌, ℕ, ◌+◌, ◌≤◌, Bool, true, false, cond, not, List, [], ◌∷◌, length, map, None, Some, Option, arith, nat_lt, nat_le, nat_eq, refl, ap, sym, ◌∙◌}
+use Rattle.std.proofs.Common.{◌≡◌, ℕ, ◌+◌, ◌≤◌, Bool, true, false, cond, not, List, [], ◌∷◌, length, map, None, Some, Option, arith, nat_lt, nat_le, nat_eq, refl, ap, ◌∙◌}
 use Rattle.std.specs.List.{list_all}
 use Rattle.std.proofs.lemmas.Bool.{ltb-false, eqb-false, le-leb, le-ltb, not-false}
 use Rattle.global_defs.specs.Key.{Key, sub_of}

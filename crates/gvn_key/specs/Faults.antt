@@ -1,7 +1,7 @@
 -- Which fault a name and subscripts have.
-use Rattle.std.specs.Prelude.{◌≡◌, ℕ, ◌+◌, ◌==◌, true, not, List, [], ◌∷◌, ◌++◌, length, take, map, Option, Some, None, nat_lt, if◌then◌else◌}
+use Rattle.std.specs.Prelude.{◌≡◌, ℕ, ◌+◌, ◌==◌, not, List, [], ◌∷◌, ◌++◌, length, take, map, Option, Some, None, nat_lt, if◌then◌else◌}
 use Rattle.global_defs.specs.Key.{Key, Sub, sub_of}
-use Rattle.global_defs.specs.Valid.{is_name, is_key}
+use Rattle.global_defs.specs.Valid.{is_name}
 use Rattle.global_defs.specs.Encoded.{encoded}
 use Rattle.gvn_key.specs.declared.key.KeyError.{KeyError}
 use Rattle.gvn_key.specs.declared.key.KeyError.TheVariants.{BadName, NameTooLong, NullSub, TooManySubs, KeyTooLong, NoMemory}

@@ -1,4 +1,4 @@
-use Rattle.std.proofs.Common.{◌≡◌, ◌+◌, ◌≤◌, true, List, length, drop}
+use Rattle.std.proofs.Common.{◌≡◌, ◌+◌, ◌≤◌, true, List, length}
 use Rattle.std.specs.List.{list_all, flat_map}
 use Rattle.global_defs.specs.Key.{Sub}
 use Rattle.global_defs.specs.Encoded.{encoded_sub}

@@ -1,6 +1,4 @@
-use Rattle.std.proofs.Common.{◌≡◌, None, sym, ◌∙◌, arith}
-use Rattle.gvn_key.specs.Decoding.{IsCode}
-use Rattle.gvn_key.specs.Faults.{parts_fault, key_of}
+use Rattle.std.proofs.Common.{sym, ◌∙◌, arith}
 use Rattle.gvn_key.proofs.NoFault.{made, makes}
 use Rattle.gvn_key.proofs.Kept.{kept}
 use Rattle.gvn_key.proofs.key.Key.new.Goals as goal
