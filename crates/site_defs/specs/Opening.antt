@@ -22,6 +22,10 @@ with_pattern region text c = record { instance = c.instance ++ pattern_record re
 abbrev pub MayMap : Name → List ℕ → Contents → Contents → Type 0
 MayMap region text c o = (o ≡ c) ⊎ ((number : ℕ) × (region_number region c ≡ Some number) × (o ≡ with_pattern number text c))
 
+-- with what lies behind them
+abbrev pub MayMapLeft : Name → List ℕ → Standing → Standing → Type 0
+MayMapLeft region text s o = (o ≡ s) ⊎ ((number : ℕ) × (region_number region s.contents ≡ Some number) × (o ≡ bare (with_pattern number text s.contents)))
+
 -- with a CUT of its length, and the text of what is broken
 abbrev pub cut_there : List ℕ → Contents → Contents
 cut_there broken c = record { instance = c.instance ++ records.Cut (length c.sequence) (generation c.instance + 1) ∷ []; starts = c.starts; texts = c.texts ++ broken ∷ []; sequence = c.sequence }

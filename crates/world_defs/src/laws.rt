@@ -60,8 +60,8 @@ pub fn mapping_holds()
 
 /// A broken-transaction file is typed by its generation; the one past the newest is as far as an opening wrote it.
 pub fn typing_holds()
-    ensures newest { typed 1 (record { site = None; told = true; now = opened (codes "x") made; left = record { broken = []; torn = codes "y" }; outcomes = []; faults = 0; simulated = true }) ≡ codes "x" }
-    ensures torn { typed 2 (record { site = None; told = true; now = opened (codes "x") made; left = record { broken = []; torn = codes "y" }; outcomes = []; faults = 0; simulated = true }) ≡ codes "y" }
+    ensures newest { typed 1 (record { site = None; told = true; now = opened (codes "x") made; left = record { broken = []; torn = codes "y" }; outcomes = []; standings = None; faults = 0; simulated = true }) ≡ codes "x" }
+    ensures torn { typed 2 (record { site = None; told = true; now = opened (codes "x") made; left = record { broken = []; torn = codes "y" }; outcomes = []; standings = None; faults = 0; simulated = true }) ≡ codes "y" }
     ensures nothing { no_file 3 made_place ≡ Some NoFile }
 {}
 

@@ -6,7 +6,7 @@ use Rattle.journal_defs.specs.Instance.{generation}
 use Rattle.command_defs.specs.Commands.{Name}
 use Rattle.site_defs.specs.Contents.{Contents}
 use Rattle.site_defs.specs.Limits.{is_written, region_number}
-use Rattle.site_defs.specs.Opening.{MayMap, with_pattern}
+use Rattle.site_defs.specs.Opening.{MayMap, MayMapLeft, with_pattern}
 use Rattle.world_defs.specs.World.{Down, Place, IfKnown}
 use Rattle.world_defs.specs.Answers.{Cause, Started, NoRegion, TwiceMapped, line}
 use Rattle.world_defs.specs.Changes.{Becomes, KeptUnknown}
@@ -40,7 +40,7 @@ pub record Maps (region : Name) (text : List ℕ) (old new : Place) : Type 0 whe
   pub becomes : Becomes Down (with_pattern number text read) old new
 
 abbrev pub map_pattern : (region : Name) → (text : List ℕ) → Name → Place → Row
-map_pattern region text name p = record (writing name (MayMap region text) p) {
+map_pattern region text name p = record (writing name (MayMap region text) (MayMapLeft region text) p) {
   early = refused_with name (in_state why_not_down p.site);
   late = refused_with name (unmapped region text p);
   may_refuse = λ r q. (r.site ≡ name) × IsUnmapped region r.cause × KeptUnknown p q;
