@@ -10,14 +10,15 @@ use Rattle.journal_defs.specs.Instance.{generation}
 use Rattle.site_defs.specs.Lists.{Among}
 use Rattle.world_defs.specs.World as world
 use Rattle.command_defs.specs.Commands.{Name}
-use Rattle.world_defs.specs.World.{Place, Kept}
-use Rattle.site_defs.specs.Contents.{Contents, Leftover, NO_LEFTOVER, is_made}
+use Rattle.world_defs.specs.World.{Place, Kept, StandAsBefore}
+use Rattle.site_defs.specs.Contents.{Contents, Leftover, Standing, NO_LEFTOVER, is_made, bare}
 use Rattle.world_defs.specs.Answers.{Cause, Stopped, Refusal, Section, Done, Refused, DiskFault, NotAFile, Ran, Typed, line, cause_text, refusal_line, fault_line, damage_line, Running}
 use Rattle.world_defs.specs.Row.{Row, first, in_state, or_else, refused_with, refusal_in, why_not_down}
 use Rattle.site_defs.specs.Fronts.{with_sequence}
 use Rattle.site_defs.specs.Opening.{IsBehind}
 use Rattle.world_defs.specs.Ties.{Matches}
 use Rattle.site_defs.specs.Stands.{IsSite, HasLeft, Stands, Reads}
+use Rattle.site_defs.specs.Behind.{StandsSo}
 use Rattle.site_runner.specs.declared.slot.State.{State}
 use Rattle.site_runner.specs.declared.slot.State.TheVariants.{Down, Primary, Failed}
 use Rattle.site_runner.specs.declared.slot.Site.{Site}
@@ -27,8 +28,13 @@ use Rattle.site_runner.specs.Sites.{state_value}
 use Rattle.site_runner.specs.Executes.{Comes}
 use Rattle.site_runner.specs.Steps.{IsAt, ExecutesAt}
 
+-- what is known of what lies behind stays
+pub stand_same : (x : Option (List Standing)) → StandAsBefore x x
+stand_same None = tt
+stand_same (Some os) = λ o a. (o, a, refl)
+
 pub kept_same : (p : Place) → Kept p p
-kept_same p = record { site = refl; now = refl; left = refl; known = record { told = refl; outcomes = λ o h. h }; faults = omega arith; simulated = refl }
+kept_same p = record { site = refl; now = refl; left = refl; known = record { told = refl; outcomes = λ o h. h; standings = λ t. stand_same p.standings }; faults = omega arith; simulated = refl }
 
 -- what a row comes to
 
@@ -196,17 +202,35 @@ Leftovers = record {
   reads : (f : Files) (c : Contents) → Stands f c → (left : Leftover) × Reads f c left;
 }
 
+-- files stand for one thing at most
+abbrev pub StandForOne : Type 0
+StandForOne = (f : Files) (c o : Contents) → Stands f c → Stands f o → c ≡ o
+
+-- files that stand so stand for the contents
+pub so_stands : (f : Files) (o : Standing) → StandsSo f o → Stands f o.contents
+so_stands f o (inl blank) = inl (ap (λ (x : Standing). x.contents) blank.0, blank.1)
+so_stands f o (inr stands) = inr stands.site
+
+-- each image stands as one of these, where they are known
+abbrev pub ImagesStand : View → Option (List Standing) → Type 0
+ImagesStand w x = IfSome x (λ os. (c : Files) → Image w c → (o : Standing) × Among os o × StandsSo c o)
+
+-- so do those that there still are
+pub images_still : (v w : View) (x : Option (List Standing)) → ((c : Files) → Image w c → Image v c) → ImagesStand v x → ImagesStand w x
+images_still v w None from h = tt
+images_still v w (Some os) from h = λ c i. h c (from c i)
+
 -- A place with these outcomes, for one of which each image stands: what its files read as, and what lies behind that.
-pub record ReadPlace (w : View) (p : Place) (site : Option world.Site) (outcomes : List Contents) : Type 0 where
+pub record ReadPlace (w : View) (p : Place) (site : Option world.Site) (outcomes : List Contents) (standings : Option (List Standing)) : Type 0 where
   pub now : Contents
   pub left : Leftover
   pub among : p.told ≡ true → Among outcomes now
   pub behind : p.told ≡ true → IsBehind now left
-  pub matches : Matches w (record { site = site; told = p.told; now = now; left = left; outcomes = outcomes; faults = w.faults; simulated = p.simulated })
+  pub matches : Matches w (record { site = site; told = p.told; now = now; left = left; outcomes = outcomes; standings = standings; faults = w.faults; simulated = p.simulated })
 
-pub place_of_images : (leftovers : Leftovers) (w : View) (p : Place) (site : Option world.Site) (outcomes : List Contents) → IsLawful w → w.simulated ≡ p.simulated → (p.told ≡ true → IsSome w.content)
-    → (p.told ≡ true → (c : Files) → Image w c → (o : Contents) × Among outcomes o × Stands c o) → ReadPlace w p site outcomes
-place_of_images leftovers w p site outcomes law same told images = elim (is_true_or_false p.told) [
+pub place_of_images : (leftovers : Leftovers) (w : View) (p : Place) (site : Option world.Site) (outcomes : List Contents) (standings : Option (List Standing)) → IsLawful w → w.simulated ≡ p.simulated → (p.told ≡ true → IsSome w.content)
+    → (p.told ≡ true → (c : Files) → Image w c → (o : Contents) × Among outcomes o × Stands c o) → (p.told ≡ true → ImagesStand w standings) → ReadPlace w p site outcomes standings
+place_of_images leftovers w p site outcomes standings law same told images stand = elim (is_true_or_false p.told) [
   | inl sure ↦
       let r = reads_image w law (told sure) in
       let o = images sure r.0 r.2 in
@@ -216,21 +240,27 @@ place_of_images leftovers w p site outcomes law same told images = elim (is_true
         left = left.0;
         among = λ _. o.1;
         behind = λ _. leftovers.behind r.0 o.0 left.0 left.1;
-        matches = record { told = λ _. subst (λ (x : Option Files). IsSomeAnd x (λ files. Reads files o.0 left.0)) (sym r.1) left.1; images = images; faults = refl; simulated = same };
+        matches = record { told = λ _. subst (λ (x : Option Files). IsSomeAnd x (λ files. Reads files o.0 left.0)) (sym r.1) left.1; images = images; standings = stand; faults = refl; simulated = same };
       }
   | inr not ↦ record {
     now = p.now;
     left = p.left;
     among = λ sure. absurd (false≢true (sym not ∙ sure));
     behind = λ sure. absurd (false≢true (sym not ∙ sure));
-    matches = record { told = λ sure. absurd (false≢true (sym not ∙ sure)); images = images; faults = refl; simulated = same };
+    matches = record { told = λ sure. absurd (false≢true (sym not ∙ sure)); images = images; standings = stand; faults = refl; simulated = same };
   }
 ]
 
 -- a place with one outcome, for which the disk and each image stand, with nothing behind it
 pub place_of_one : (w : View) (p : Place) (site : Option world.Site) (o : Contents) → w.simulated ≡ p.simulated → (p.told ≡ true → IsSomeAnd w.content (λ files. Reads files o NO_LEFTOVER))
-    → (p.told ≡ true → (c : Files) → Image w c → Stands c o) → Matches w (record { site = site; told = p.told; now = o; left = NO_LEFTOVER; outcomes = o ∷ []; faults = w.faults; simulated = p.simulated })
-place_of_one w p site o same reads images = record { told = reads; images = λ sure c i. (o, inl refl, images sure c i); faults = refl; simulated = same }
+    → (p.told ≡ true → (c : Files) → Image w c → StandsSo c (bare o)) → Matches w (record { site = site; told = p.told; now = o; left = NO_LEFTOVER; outcomes = o ∷ []; standings = Some (bare o ∷ []); faults = w.faults; simulated = p.simulated })
+place_of_one w p site o same reads images = record {
+  told = reads;
+  images = λ sure c i. (o, inl refl, so_stands c (bare o) (images sure c i));
+  standings = λ sure c i. (bare o, inl refl, images sure c i);
+  faults = refl;
+  simulated = same;
+}
 
 pub only : (o d : Contents) → Among (d ∷ []) o → o ≡ d
 only o d (inl h) = h
@@ -253,5 +283,9 @@ open_reads w nothing told c s law sure h =
     let left : HasLeft r.0 c NO_LEFTOVER = subst (λ seq. HasLeft r.0 (with_sequence c seq) NO_LEFTOVER) (take-length c.sequence) (nothing c (length c.sequence) s r.0 kept r.2) in
     subst (λ (x : Option Files). IsSomeAnd x (λ files. Reads files c NO_LEFTOVER)) (sym r.1) (inr (site, left))
 
-pub open_images : (w : View) (told : Bool) (c : Contents) (s : OpenSite) → told ≡ true → IsOpen w told c (length c.sequence) s → (f : Files) → Image w f → Stands f c
-open_images w told c s sure h f i = inr (open_site w c s (subst (λ (b : Bool). IsOpen w b c (length c.sequence) s) sure h) f i)
+pub open_images : (w : View) (nothing : NothingIsLeft w) (told : Bool) (c : Contents) (s : OpenSite) → told ≡ true → IsOpen w told c (length c.sequence) s → (f : Files) → Image w f → StandsSo f (bare c)
+open_images w nothing told c s sure h f i = inr (record {
+  site = open_site w c s (subst (λ (b : Bool). IsOpen w b c (length c.sequence) s) sure h) f i;
+  torn = [];
+  left = subst (λ seq. HasLeft f (with_sequence c seq) NO_LEFTOVER) (take-length c.sequence) (nothing c (length c.sequence) s f (h.kept sure) i);
+})

@@ -95,10 +95,6 @@ OpensAtMoments v w = IfSome v.content (λ files. (c : Contents) (left : Leftover
 each_stands : (v : View) (p : Place) → Matches v p → p.told ≡ true → EachStands v
 each_stands v p m sure f i = let o = m.images sure f i in (o.0, o.2)
 
--- files stand for one thing at most
-abbrev pub StandForOne : Type 0
-StandForOne = (f : Files) (c o : Contents) → Stands f c → Stands f o → c ≡ o
-
 opened_told : (one_only : StandForOne) (v w : View) (s : Site) (o : OpenSite) (p : Place) → IsLawful v → s.state ≡ Down → IsAt v s p → site_name o.instance.records ≡ s.name → p.told ≡ true
     → Opens v w o → HasGenerations v
     → w.simulated ≡ v.simulated → v.faults ≤ w.faults → IsOpenedAt w s o p

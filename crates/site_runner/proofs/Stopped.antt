@@ -119,13 +119,14 @@ pub stops : (v : View) (s : Site) (r : Reign) (before now : List ℕ) → s.stat
 stops v s r before now e t p at_p =
     let o : IsOpen v r p = open_at v s r p e at_p in
     comes_done
-    (record { site = in_new_state world.Down p.site; told = p.told; now = p.now; left = NO_LEFTOVER; outcomes = p.now ∷ []; faults = p.faults; simulated = p.simulated })
+    (record { site = in_new_state world.Down p.site; told = p.told; now = p.now; left = NO_LEFTOVER; outcomes = p.now ∷ []; standings = Some (bare p.now ∷ []); faults = p.faults; simulated = p.simulated })
     (ap (λ (x : Option Refusal). or_else x None) (open_at_place v s r p e at_p))
-    (record { site = refl; known = record { told = refl; now = refl; left = refl; outcomes = refl }; faults = omega arith; simulated = refl })
+    (record { site = refl; known = record { told = refl; now = refl; left = refl; outcomes = refl; standings = refl }; faults = omega arith; simulated = refl })
     (record {
       disk = record {
         told = λ is. subst (λ (l : Leftover). IsSomeAnd v.content (λ (files : Files). Reads files p.now l)) (o.left is) (at_p.disk.told is);
         images = λ is c i. let x = at_p.disk.images is c i in (p.now, inl refl, subst (Stands c) (o.settled is x.0 x.1) x.2);
+        standings = λ is. subst (ImagesStand v) (o.standings is) (at_p.disk.standings is);
         faults = at_p.disk.faults;
         simulated = at_p.disk.simulated;
       };
