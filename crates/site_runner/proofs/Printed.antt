@@ -20,7 +20,7 @@ use Rattle.site_runner.specs.declared.slot.Site.{Site}
 use Rattle.site_runner.specs.Sites.{state_value, HoldsState}
 use Rattle.site_runner.specs.Steps.{IsAt, ExecutesAt, IsCutAt}
 use Rattle.site_runner.proofs.Fused.{state_read}
-use Rattle.site_runner.proofs.Ats.{comes_refused, comes_may_refuse, comes_fault, comes_typed, refused_late, none_refused, state_at, is_true_or_false, some_both, reads_site}
+use Rattle.site_runner.proofs.Ats.{comes_refused, comes_may_refuse, comes_fault, comes_typed, refused_late, none_refused, state_at, is_true_or_false, some_both, reads_site, stand_same, images_still}
 use Rattle.site_runner.proofs.Seen.{counted, kept_counted}
 
 pub print_stopped : (g : ℕ) (v : View) (s : Site) (cause : Cause) (p : Place) → stopped (state_value s.state) ≡ Some cause → IsAt v s p → (print g s.name p).early ≡ refused_with s.name (Some cause)

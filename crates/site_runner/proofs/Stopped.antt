@@ -18,7 +18,7 @@ use Rattle.gvn_model.specs.Numbered.{numbered}
 use Rattle.world_defs.specs.World as world
 use Rattle.command_defs.specs.Commands.{Name, Command}
 use Rattle.world_defs.specs.World.{Place, name_on}
-use Rattle.site_defs.specs.Contents.{Leftover, NO_LEFTOVER, same_name}
+use Rattle.site_defs.specs.Contents.{Leftover, NO_LEFTOVER, same_name, bare}
 use Rattle.world_defs.specs.Answers.{Refusal, line}
 use Rattle.world_defs.specs.Row.{Row, or_else, refused_with, in_state, why_not_open}
 use Rattle.world_defs.specs.Changes.{in_new_state}
@@ -44,7 +44,7 @@ use Rattle.site_runner.specs.Named.{row_in}
 use Rattle.site_runner.proofs.Results.{on_errs}
 use Rattle.site_runner.specs.Steps.{state_text, IsAt, ExecutesAt, IsCutAt}
 use Rattle.site_runner.proofs.Cuts.{split_and}
-use Rattle.site_runner.proofs.Ats.{comes_done, comes_so, on_done, state_at, kept_same, only}
+use Rattle.site_runner.proofs.Ats.{comes_done, comes_so, on_done, state_at, kept_same, only, ImagesStand}
 
 pub names_same : (a b : Name) → same_name a b ≡ true → a ≡ b
 names_same [] [] e = refl
