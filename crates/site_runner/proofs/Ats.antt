@@ -10,7 +10,7 @@ use Rattle.journal_defs.specs.Instance.{generation}
 use Rattle.site_defs.specs.Lists.{Among}
 use Rattle.world_defs.specs.World as world
 use Rattle.command_defs.specs.Commands.{Name}
-use Rattle.world_defs.specs.World.{Place, Kept, StandAsBefore}
+use Rattle.world_defs.specs.World.{Place, Kept, StandAfter, StandAsBefore}
 use Rattle.site_defs.specs.Contents.{Contents, Leftover, Standing, NO_LEFTOVER, is_made, bare}
 use Rattle.world_defs.specs.Answers.{Cause, Stopped, Refusal, Section, Done, Refused, DiskFault, NotAFile, Ran, Typed, line, cause_text, refusal_line, fault_line, damage_line, Running}
 use Rattle.world_defs.specs.Row.{Row, first, in_state, or_else, refused_with, refusal_in, why_not_down}
@@ -32,6 +32,18 @@ use Rattle.site_runner.specs.Steps.{IsAt, ExecutesAt}
 pub stand_same : (x : Option (List Standing)) → StandAsBefore x x
 stand_same None = tt
 stand_same (Some os) = λ o a. (o, a, refl)
+
+pub stand_more : (x y : Option (List Standing)) (A B : Standing → Standing → Type 0) → ((s o : Standing) → A s o → B s o) → StandAfter A x y → StandAfter B x y
+stand_more None y A B f h = tt
+stand_more (Some os) None A B f h = h
+stand_more (Some os) (Some ns) A B f h = λ o a. let s = h o a in (s.0, s.1, f s.0 o s.2)
+
+-- what is known of an earlier place
+pub stand_earlier : (x y z : Option (List Standing)) (A : Standing → Standing → Type 0) → StandAsBefore x y → StandAfter A y z → StandAfter A x z
+stand_earlier None y z A h k = tt
+stand_earlier (Some os) None z A h k = absurd h
+stand_earlier (Some os) (Some ms) None A h k = k
+stand_earlier (Some os) (Some ms) (Some ns) A h k = λ o a. let m = k o a in let s = h m.0 m.1 in (s.0, s.1, subst (λ (x : Standing). A x o) s.2 m.2)
 
 pub kept_same : (p : Place) → Kept p p
 kept_same p = record { site = refl; now = refl; left = refl; known = record { told = refl; outcomes = λ o h. h; standings = λ t. stand_same p.standings }; faults = omega arith; simulated = refl }
@@ -191,6 +203,14 @@ some_outcome v p law m sure =
     let r = reads_image v law (told_is v.content _ (m.told sure)) in
     let o = m.images sure r.0 r.2 in
     (o.0, o.1)
+
+-- so one of the standings
+pub some_standing : (v : View) (p : Place) → IsLawful v → Matches v p → p.told ≡ true → IfSome p.standings (λ os. (s : Standing) × Among os s)
+some_standing v p law m sure = among p.standings (m.standings sure)
+  where
+    among : (x : Option (List Standing)) → IfSome x (λ os. (c : Files) → Image v c → (o : Standing) × Among os o × StandsSo c o) → IfSome x (λ os. (s : Standing) × Among os s)
+    among None h = tt
+    among (Some os) h = let r = reads_image v law (told_is v.content _ (m.told sure)) in let o = h r.0 r.2 in (o.0, o.1)
 
 -- what the law of leftovers says
 abbrev pub Leftovers : Type 0
