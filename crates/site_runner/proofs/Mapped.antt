@@ -1,6 +1,6 @@
 -- MAP at a place.
 use Rattle.std.proofs.Common.{◌≡◌, ℕ, ◌≤◌, true, false, List, [], ◌∷◌, ◌++◌, None, Some, refl, sym, ◌∙◌, ap, subst, arith, inl, inr, Bool}
-use Rattle.std.specs.Prelude.{Option, codes, IfSome, IsSome, IsSomeAnd}
+use Rattle.std.specs.Prelude.{◌⊎◌, Option, codes, IfSome, IsSome, IsSomeAnd}
 use Rattle.std.specs.Fmt.{decimal}
 use Rattle.std.proofs.lemmas.Bool.{false≢true}
 use Rattle.disk_defs.specs.Disk.{Files, View, Image, IsLawful, AtEachMoment, Rose}
@@ -9,17 +9,18 @@ use Rattle.site_store.specs.Opening.{StandsAsBefore, MayHavePattern, EachStands}
 use Rattle.command_defs.specs.Commands.{Name}
 use Rattle.site_defs.specs.Lists.{Among, first_where}
 use Rattle.world_defs.specs.World as world
-use Rattle.world_defs.specs.World.{Place}
-use Rattle.site_defs.specs.Contents.{Contents, NO_LEFTOVER, same_name}
+use Rattle.world_defs.specs.World.{Place, StandAfter}
+use Rattle.site_defs.specs.Contents.{Contents, Leftover, Standing, NO_LEFTOVER, is_made, same_name, bare}
 use Rattle.world_defs.specs.Answers.{Cause, Refusal, line, cause_text}
 use Rattle.world_defs.specs.Row.{refused_with, in_state, why_not_down}
 use Rattle.site_defs.specs.Limits.{region_number}
 use Rattle.world_defs.specs.Changes.{in_new_state, After}
-use Rattle.site_defs.specs.Opening.{MayMap, with_pattern}
+use Rattle.site_defs.specs.Opening.{MayMap, MayMapLeft, with_pattern}
 use Rattle.world_defs.specs.Step.{LeftBy}
 use Rattle.world_defs.specs.rows.Map.{IsUnmapped, unmapped, map_pattern}
 use Rattle.world_defs.specs.Ties.{Matches}
-use Rattle.site_defs.specs.Stands.{IsSite, Stands, Reads}
+use Rattle.site_defs.specs.Stands.{IsSite, HasLeft, Stands, Reads}
+use Rattle.site_defs.specs.Behind.{StandsSo}
 use Rattle.site_runner.specs.declared.slot.State.{State}
 use Rattle.site_runner.specs.declared.slot.State.TheVariants.{Down, Failed}
 use Rattle.site_runner.specs.declared.slot.Site.{Site}
@@ -28,6 +29,7 @@ use Rattle.site_runner.specs.Executes.{Comes}
 use Rattle.site_runner.specs.Steps.{IsAt, ExecutesAt, IsCutAt}
 use Rattle.site_runner.specs.Mapping.{IsSeenAt, IsUnmappedIn, MapsAt, IsCutSeen}
 use Rattle.site_runner.proofs.Ats.{comes_done, comes_refused, comes_may_refuse, comes_fault, comes_damaged, refused_late, none_refused, state_at, not_true, is_true_or_false, some_both, some_of, some_and, told_is, reads_stand, reads_site, at_moment, Leftovers, ReadPlace, place_of_images, only}
+use Rattle.site_runner.proofs.Ats.{so_stands, ImagesStand, images_still}
 use Rattle.site_runner.proofs.Seen.{counted, kept_counted}
 use Rattle.site_runner.proofs.Started.{why_at}
 use Rattle.site_runner.proofs.Patterns.{maps, among_maps, maps_among, of_pattern, of_may_map, generation_map, unmapped_unknown, not_refused}
