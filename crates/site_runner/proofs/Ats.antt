@@ -6,19 +6,21 @@ use Rattle.std.proofs.Math.Seq.{take-length}
 use Rattle.disk_defs.specs.Disk.{Files, View, Image, IsLawful, AtEachMoment}
 use Rattle.site_store.specs.declared.site.OpenSite.{OpenSite}
 use Rattle.site_store.specs.Site.{IsOpen, Keeps}
+use Rattle.journal_defs.specs.Numbers.{INSTANCE}
 use Rattle.journal_defs.specs.Instance.{generation}
+use Rattle.site_store.proofs.Found.{instance_one, site_instance, blank_instance, site_made}
 use Rattle.site_defs.specs.Lists.{Among}
 use Rattle.world_defs.specs.World as world
 use Rattle.command_defs.specs.Commands.{Name}
 use Rattle.world_defs.specs.World.{Place, Kept, StandAfter, StandAsBefore}
-use Rattle.site_defs.specs.Contents.{Contents, Leftover, Standing, NO_LEFTOVER, is_made, bare}
+use Rattle.site_defs.specs.Contents.{Contents, Leftover, Standing, NO_LEFTOVER, nothing, is_made, bare}
 use Rattle.world_defs.specs.Answers.{Cause, Stopped, Refusal, Section, Done, Refused, DiskFault, NotAFile, Ran, Typed, line, cause_text, refusal_line, fault_line, damage_line, Running}
 use Rattle.world_defs.specs.Row.{Row, first, in_state, or_else, refused_with, refusal_in, why_not_down}
 use Rattle.site_defs.specs.Fronts.{with_sequence}
 use Rattle.site_defs.specs.Opening.{IsBehind}
 use Rattle.world_defs.specs.Ties.{Matches}
 use Rattle.site_defs.specs.Stands.{IsSite, HasLeft, Stands, Reads}
-use Rattle.site_defs.specs.Behind.{StandsSo}
+use Rattle.site_defs.specs.Behind.{IsStanding, StandsSo}
 use Rattle.site_runner.specs.declared.slot.State.{State}
 use Rattle.site_runner.specs.declared.slot.State.TheVariants.{Down, Primary, Failed}
 use Rattle.site_runner.specs.declared.slot.Site.{Site}
@@ -239,6 +241,40 @@ ImagesStand w x = IfSome x (λ os. (c : Files) → Image w c → (o : Standing) 
 pub images_still : (v w : View) (x : Option (List Standing)) → ((c : Files) → Image w c → Image v c) → ImagesStand v x → ImagesStand w x
 images_still v w None from h = tt
 images_still v w (Some os) from h = λ c i. h c (from c i)
+
+-- what an image stands so is what it reads as
+standing_read : (leftovers : Leftovers) (one_only : StandForOne) (f : Files) (c : Contents) (left : Leftover) (o : Standing) → Reads f c left → StandsSo f o → o ≡ record { contents = c; broken = left.broken }
+standing_read leftovers one_only f c left o reads so =
+    let same : o.contents ≡ c = one_only f o.contents c (so_stands f o so) (reads_stand f c left reads) in
+    ap (λ (x : Contents). record { contents = x; broken = o.broken }) same ∙ ap (λ (t : List ℕ). record { contents = c; broken = t }) (by_case so reads same)
+  where
+    by_case : StandsSo f o → Reads f c left → o.contents ≡ c → o.broken ≡ left.broken
+    by_case (inl blank) (inl other) same = ap (λ (x : Standing). x.broken) blank.0 ∙ sym (ap (λ (l : Leftover). l.broken) other.1)
+    by_case (inl blank) (inr other) same = absurd (false≢true (sym (ap (λ (x : Standing). is_made x.contents) blank.0) ∙ ap is_made same ∙ other.0.made))
+    by_case (inr here) (inl other) same = absurd (false≢true (sym (ap is_made (same ∙ other.0)) ∙ here.site.made))
+    by_case (inr here) (inr other) same =
+        ap (λ (l : Leftover). l.broken)
+        (leftovers.one f c (record { broken = o.broken; torn = here.torn }) left (subst (λ (x : Contents). HasLeft f x (record { broken = o.broken; torn = here.torn })) same here.left) other.1)
+
+pub standing_there : (leftovers : Leftovers) (one_only : StandForOne) (f : Files) (c : Contents) (left : Leftover) (x : Option (List Standing)) → Reads f c left → IfSome x (λ os. (o : Standing) × Among os o × StandsSo f o)
+    → IfSome x (λ os. Among os (record { contents = c; broken = left.broken }))
+standing_there leftovers one_only f c left None reads h = tt
+standing_there leftovers one_only f c left (Some os) reads h = subst (Among os) (standing_read leftovers one_only f c left h.0 reads h.2) h.1
+
+-- a standing of the disk's own image
+pub at_image : (v : View) (f : Files) (x : Option (List Standing)) → Image v f → ImagesStand v x → IfSome x (λ os. (o : Standing) × Among os o × StandsSo f o)
+at_image v f None i h = tt
+at_image v f (Some os) i h = h f i
+
+-- what a disk that reads so stands so
+pub so_of : (f : Files) (c : Contents) (left : Leftover) → Reads f c left → StandsSo f (record { contents = c; broken = left.broken })
+so_of f c left (inl blank) = inl (ap (λ (x : Contents). record { contents = x; broken = left.broken }) blank.0 ∙ ap (λ (l : Leftover). record { contents = nothing; broken = l.broken }) blank.1, blank.2)
+so_of f c left (inr site) = inr (record { site = site.0; torn = left.torn; left = site.1 })
+
+-- a site's files that stand so are a site's
+pub standing_of : (f : Files) (c : Contents) (s : Standing) → IsSite f c → StandsSo f s → IsStanding f s
+standing_of f c s site (inl blank) = absurd (site_made f c site (instance_one (f INSTANCE) c.instance [] (site_instance f c site) (blank_instance (f INSTANCE) blank.1.instance)))
+standing_of f c s site (inr is) = is
 
 -- A place with these outcomes, for one of which each image stands: what its files read as, and what lies behind that.
 pub record ReadPlace (w : View) (p : Place) (site : Option world.Site) (outcomes : List Contents) (standings : Option (List Standing)) : Type 0 where

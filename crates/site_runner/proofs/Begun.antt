@@ -1,6 +1,6 @@
 -- What opening a site and beginning a reign make of its contents.
 use Rattle.std.proofs.Common.{◌≡◌, ℕ, zero, suc, ◌+◌, ◌≤◌, ◌<◌, ◌==◌, ◌||◌, ◌&&◌, max, nat_le, nat_lt, Bool, true, false, List, [], ◌∷◌, ◌++◌, length, filter, None, Some, refl, sym, ◌∙◌, ap, subst, arith, inl, inr, if◌then◌else◌}
-use Rattle.std.specs.Prelude.{◌⊎◌}
+use Rattle.std.specs.Prelude.{◌⊎◌, Option, map}
 use Rattle.std.proofs.Math.Path.{fun_ext}
 use Rattle.std.proofs.lemmas.Bool.{false≢true, le-leb, lt-ltb, ltb-true}
 use Rattle.std.proofs.lemmas.Bool.Decides.{leb_tells}
@@ -12,11 +12,12 @@ use Rattle.journal_defs.specs.Fit.{MOST_REIGNS}
 use Rattle.journal_laws.proofs.Runs.{reigns-cut, starts_by}
 use Rattle.command_defs.specs.Commands.{Name}
 use Rattle.site_defs.specs.Lists.{Among}
-use Rattle.site_defs.specs.Contents.{Contents}
+use Rattle.site_defs.specs.Contents.{Contents, Standing, bare}
+use Rattle.world_defs.specs.World.{StandAfter}
 use Rattle.world_defs.specs.Answers.{GenLimit, ReignLimit}
 use Rattle.world_defs.specs.rows.Start.{generation_limit, reign_limit}
 use Rattle.site_defs.specs.Limits.{LAST_GENERATION, LAST_CYCLE}
-use Rattle.site_defs.specs.Opening.{cut_there, start_of, starts_in, with_starts, opened, with_reign, next_stamp, MayBegin}
+use Rattle.site_defs.specs.Opening.{cut_there, start_of, starts_in, with_starts, opened, with_reign, next_stamp, MayBegin, MayBeginLeft}
 use Rattle.site_runner.specs.Sites.{IsOf}
 
 -- A CUT leaves cycles, and the reigns that have begun by its length.
@@ -85,16 +86,16 @@ of_may_begin name broken c o h (inr e) = subst (IsOf name) (sym e) (of_begun nam
 
 -- one list behind another
 
-pub in_first : (xs ys : List Contents) (o : Contents) → Among xs o → Among (xs ++ ys) o
+pub in_first : {X : Type 0} (xs ys : List X) (o : X) → Among xs o → Among (xs ++ ys) o
 in_first [] ys o h = absurd h
 in_first (x ∷ xs) ys o (inl h) = inl h
 in_first (x ∷ xs) ys o (inr h) = inr (in_first xs ys o h)
 
-pub in_second : (xs ys : List Contents) (o : Contents) → Among ys o → Among (xs ++ ys) o
+pub in_second : {X : Type 0} (xs ys : List X) (o : X) → Among ys o → Among (xs ++ ys) o
 in_second [] ys o h = h
 in_second (x ∷ xs) ys o h = inr (in_second xs ys o h)
 
-pub in_either : (xs ys : List Contents) (o : Contents) → Among (xs ++ ys) o → Among xs o ⊎ Among ys o
+pub in_either : {X : Type 0} (xs ys : List X) (o : X) → Among (xs ++ ys) o → Among xs o ⊎ Among ys o
 in_either [] ys o h = inr h
 in_either (x ∷ xs) ys o (inl h) = inl (inl h)
 in_either (x ∷ xs) ys o (inr h) = elim (in_either xs ys o h) [ inl a ↦ inl (inr a) | inr b ↦ inr b ]
@@ -175,6 +176,60 @@ pub begins_among : (name : Name) (broken : List ℕ) (cs : List Contents) (c o :
 begins_among name broken [] c o a m = absurd a
 begins_among name broken (d ∷ cs) c o (inl e) m = begins_of name broken d cs o (subst (λ (x : Contents). MayBegin name broken x o) e m)
 begins_among name broken (d ∷ cs) c o (inr a) m = inr (inr (in_second (starts_up_to (length (regions (cut_there broken d).instance)) (cut_there broken d)) _ o (begins_among name broken cs c o a m)))
+
+-- the same of standings, each with its own text
+
+bare_among : (cs : List Contents) (c : Contents) → Among cs c → Among (map bare cs) (bare c)
+bare_among [] c a = absurd a
+bare_among (d ∷ cs) c (inl e) = inl (ap bare e)
+bare_among (d ∷ cs) c (inr a) = inr (bare_among cs c a)
+
+among_bare : (cs : List Contents) (o : Standing) → Among (map bare cs) o → (c : Contents) × Among cs c × (o ≡ bare c)
+among_bare [] o a = absurd a
+among_bare (d ∷ cs) o (inl e) = (d, inl refl, e)
+among_bare (d ∷ cs) o (inr a) = let k = among_bare cs o a in (k.0, inr k.1, k.2)
+
+-- with a CUT and its text, and the newest generation begun in the first regions
+abbrev cut_so : Standing → List Standing
+cut_so s = map bare (starts_up_to (length (regions (cut_there s.broken s.contents).instance)) (cut_there s.broken s.contents))
+
+abbrev begins_each : Name → List Standing → List Standing
+begins_each name [] = []
+begins_each name (s ∷ ss) = s ∷ bare (with_reign name (opened s.broken s.contents)) ∷ (cut_so s ++ begins_each name ss)
+
+abbrev pub begins_so : Name → Option (List Standing) → Option (List Standing)
+begins_so name None = None
+begins_so name (Some os) = Some (begins_each name os)
+
+begins_here : (name : Name) (s : Standing) (ss : List Standing) (o : Standing) → MayBeginLeft name s o → Among (begins_each name (s ∷ ss)) o
+begins_here name s ss o (inl (inl e)) = inl e
+begins_here name s ss o (inl (inr k)) =
+    let d : Contents = cut_there s.broken s.contents in
+    inr (inr (in_first (cut_so s) (begins_each name ss) o (subst (Among (cut_so s)) (sym k.1) (bare_among (starts_up_to (length (regions d.instance)) d) (with_starts k.0 d) (any_among k.0 d (with_starts k.0 d) refl)))))
+begins_here name s ss o (inr e) = inr (inl e)
+
+pub begins_so_among : (name : Name) (os : List Standing) (s o : Standing) → Among os s → MayBeginLeft name s o → Among (begins_each name os) o
+begins_so_among name [] s o a m = absurd a
+begins_so_among name (x ∷ xs) s o (inl e) m = begins_here name x xs o (subst (λ (y : Standing). MayBeginLeft name y o) e m)
+begins_so_among name (x ∷ xs) s o (inr a) m = inr (inr (in_second (cut_so x) (begins_each name xs) o (begins_so_among name xs s o a m)))
+
+begun_each : (name : Name) (os : List Standing) (o : Standing) → Among (begins_each name os) o → (s : Standing) × Among os s × MayBeginLeft name s o
+begun_each name [] o h = absurd h
+begun_each name (s ∷ ss) o (inl e) = (s, inl refl, inl (inl e))
+begun_each name (s ∷ ss) o (inr (inl e)) = (s, inl refl, inr e)
+begun_each name (s ∷ ss) o (inr (inr h)) =
+    let d : Contents = cut_there s.broken s.contents in
+    elim (in_either (cut_so s) (begins_each name ss) o h) [
+      | inl a ↦
+          let k = among_bare (starts_up_to (length (regions d.instance)) d) o a in
+          let starts = among_starts (length (regions d.instance)) d k.0 k.1 in
+          (s, inl refl, inl (inr (starts.0, k.2 ∙ ap bare starts.1)))
+      | inr b ↦ let k = begun_each name ss o b in (k.0, inr k.1, k.2)
+    ]
+
+pub begun_so : (name : Name) (x : Option (List Standing)) → StandAfter (MayBeginLeft name) x (begins_so name x)
+begun_so name None = tt
+begun_so name (Some os) = begun_each name os
 
 -- the tests of limits
 pub generation_past : (c : Contents) → 65534 ≤ generation c.instance → generation_limit c ≡ Some GenLimit

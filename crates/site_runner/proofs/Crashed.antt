@@ -7,7 +7,7 @@ use Rattle.disk_defs.specs.Disk.{Files, View, Image, IsLawful, Reads}
 use Rattle.site_defs.specs.Lists.{Among}
 use Rattle.world_defs.specs.World as world
 use Rattle.world_defs.specs.World.{Place}
-use Rattle.site_defs.specs.Contents.{Contents, Leftover, Standing, nothing, is_made}
+use Rattle.site_defs.specs.Contents.{Contents, Leftover, Standing}
 use Rattle.world_defs.specs.Answers.{Cause, NotSimulated, line}
 use Rattle.world_defs.specs.Row.{refused_with, stopped, not_running, not_simulated}
 use Rattle.world_defs.specs.Changes.{in_new_state}
@@ -15,14 +15,14 @@ use Rattle.world_defs.specs.rows.Crash.{crash}
 use Rattle.world_defs.specs.rows.Fuse.{fuse}
 use Rattle.site_defs.specs.Opening.{IsBehind}
 use Rattle.site_defs.specs.Stands as stands
-use Rattle.site_defs.specs.Stands.{HasLeft, Stands}
+use Rattle.site_defs.specs.Stands.{Stands}
 use Rattle.site_defs.specs.Behind.{StandsSo}
 use Rattle.site_runner.specs.declared.slot.State.TheVariants.{Down}
 use Rattle.site_runner.specs.declared.slot.Site.{Site}
 use Rattle.site_runner.specs.Sites.{state_value, IsOf}
 use Rattle.site_runner.specs.Steps.{IsAt, ExecutesAt}
 use Rattle.site_runner.proofs.Fused.{state_read}
-use Rattle.site_runner.proofs.Ats.{comes_done, not_early, state_at, first_cause, second_cause, no_cause, is_true_or_false, Leftovers, reads_stand, only, files_of, kept_same, so_stands, ImagesStand, images_still, StandForOne}
+use Rattle.site_runner.proofs.Ats.{comes_done, not_early, state_at, first_cause, second_cause, no_cause, is_true_or_false, Leftovers, reads_stand, only, files_of, kept_same, ImagesStand, images_still, StandForOne, standing_there, at_image, so_of}
 
 pub fuse_stopped : (v : View) (s : Site) (calls : ℕ) (cause : Cause) (p : Place) → stopped (state_value s.state) ≡ Some cause → IsAt v s p → (fuse calls s.name p).early ≡ refused_with s.name (Some cause)
 fuse_stopped v s calls cause p e h = ap (refused_with s.name) (first_cause _ _ cause (state_at stopped v s p h ∙ e))
@@ -47,35 +47,6 @@ record CrashPlace (f : Files) (p : Place) : Type 0 where
   behind : p.told ≡ true → IsBehind now left
   reads : p.told ≡ true → stands.Reads f now left
   so : p.told ≡ true → IfSome p.standings (λ os. Among os (record { contents = now; broken = left.broken }))
-
--- what an image stands so is what it reads as
-standing_read : (leftovers : Leftovers) (one_only : StandForOne) (f : Files) (c : Contents) (left : Leftover) (o : Standing) → stands.Reads f c left → StandsSo f o → o ≡ record { contents = c; broken = left.broken }
-standing_read leftovers one_only f c left o reads so =
-    let same : o.contents ≡ c = one_only f o.contents c (so_stands f o so) (reads_stand f c left reads) in
-    ap (λ (x : Contents). record { contents = x; broken = o.broken }) same ∙ ap (λ (t : List ℕ). record { contents = c; broken = t }) (by_case so reads same)
-  where
-    by_case : StandsSo f o → stands.Reads f c left → o.contents ≡ c → o.broken ≡ left.broken
-    by_case (inl blank) (inl other) same = ap (λ (x : Standing). x.broken) blank.0 ∙ sym (ap (λ (l : Leftover). l.broken) other.1)
-    by_case (inl blank) (inr other) same = absurd (false≢true (sym (ap (λ (x : Standing). is_made x.contents) blank.0) ∙ ap is_made same ∙ other.0.made))
-    by_case (inr here) (inl other) same = absurd (false≢true (sym (ap is_made (same ∙ other.0)) ∙ here.site.made))
-    by_case (inr here) (inr other) same =
-        ap (λ (l : Leftover). l.broken)
-        (leftovers.one f c (record { broken = o.broken; torn = here.torn }) left (subst (λ (x : Contents). HasLeft f x (record { broken = o.broken; torn = here.torn })) same here.left) other.1)
-
-standing_there : (leftovers : Leftovers) (one_only : StandForOne) (f : Files) (c : Contents) (left : Leftover) (x : Option (List Standing)) → stands.Reads f c left → IfSome x (λ os. (o : Standing) × Among os o × StandsSo f o)
-    → IfSome x (λ os. Among os (record { contents = c; broken = left.broken }))
-standing_there leftovers one_only f c left None reads h = tt
-standing_there leftovers one_only f c left (Some os) reads h = subst (Among os) (standing_read leftovers one_only f c left h.0 reads h.2) h.1
-
--- a standing of the disk's own image
-at_image : (v : View) (f : Files) (x : Option (List Standing)) → Image v f → ImagesStand v x → IfSome x (λ os. (o : Standing) × Among os o × StandsSo f o)
-at_image v f None i h = tt
-at_image v f (Some os) i h = h f i
-
--- what a disk that reads so stands so
-so_of : (f : Files) (c : Contents) (left : Leftover) → stands.Reads f c left → StandsSo f (record { contents = c; broken = left.broken })
-so_of f c left (inl blank) = inl (ap (λ (x : Contents). record { contents = x; broken = left.broken }) blank.0 ∙ ap (λ (l : Leftover). record { contents = nothing; broken = l.broken }) blank.1, blank.2)
-so_of f c left (inr site) = inr (record { site = site.0; torn = left.torn; left = site.1 })
 
 crash_place : (leftovers : Leftovers) (one_only : StandForOne) (f : Files) (p : Place) → (p.told ≡ true → (o : Contents) × Among p.outcomes o × Stands f o) → (p.told ≡ true → IfSome p.standings (λ os. (o : Standing) × Among os o × StandsSo f o)) → CrashPlace f p
 crash_place leftovers one_only f p images standing = elim (is_true_or_false p.told) [

@@ -1,6 +1,6 @@
 -- MAP at a place.
 use Rattle.std.proofs.Common.{◌≡◌, ℕ, ◌≤◌, true, false, List, [], ◌∷◌, ◌++◌, None, Some, refl, sym, ◌∙◌, ap, subst, arith, inl, inr, Bool}
-use Rattle.std.specs.Prelude.{◌⊎◌, Option, codes, IfSome, IsSome, IsSomeAnd}
+use Rattle.std.specs.Prelude.{Option, codes, IfSome, IsSome, IsSomeAnd}
 use Rattle.std.specs.Fmt.{decimal}
 use Rattle.std.proofs.lemmas.Bool.{false≢true}
 use Rattle.disk_defs.specs.Disk.{Files, View, Image, IsLawful, AtEachMoment, Rose}
@@ -31,6 +31,7 @@ use Rattle.site_runner.specs.Mapping.{IsSeenAt, IsUnmappedIn, MapsAt, IsCutSeen}
 use Rattle.site_runner.proofs.Ats.{comes_done, comes_refused, comes_may_refuse, comes_fault, comes_damaged, refused_late, none_refused, state_at, not_true, is_true_or_false, some_both, some_of, some_and, told_is, reads_stand, reads_site, at_moment, Leftovers, ReadPlace, place_of_images, only}
 use Rattle.site_runner.proofs.Ats.{so_stands, ImagesStand, images_still}
 use Rattle.site_runner.proofs.Seen.{counted, kept_counted}
+use Rattle.site_runner.proofs.Begun.{in_first, in_second, in_either}
 use Rattle.site_runner.proofs.Started.{why_at}
 use Rattle.site_runner.proofs.Patterns.{maps, among_maps, maps_among, of_pattern, of_may_map, generation_map, unmapped_unknown, not_refused}
 
@@ -154,20 +155,6 @@ abbrev pub maps_so : Name → List ℕ → Option (List Standing) → Option (Li
 maps_so region text None = None
 maps_so region text (Some os) = Some (maps_each region text os)
 
-among_first : (xs ys : List Standing) (o : Standing) → Among xs o → Among (xs ++ ys) o
-among_first [] ys o h = absurd h
-among_first (x ∷ xs) ys o (inl h) = inl h
-among_first (x ∷ xs) ys o (inr h) = inr (among_first xs ys o h)
-
-among_second : (xs ys : List Standing) (o : Standing) → Among ys o → Among (xs ++ ys) o
-among_second [] ys o h = h
-among_second (x ∷ xs) ys o h = inr (among_second xs ys o h)
-
-among_either : (xs ys : List Standing) (o : Standing) → Among (xs ++ ys) o → Among xs o ⊎ Among ys o
-among_either [] ys o h = inr h
-among_either (x ∷ xs) ys o (inl h) = inl (inl h)
-among_either (x ∷ xs) ys o (inr h) = elim (among_either xs ys o h) [ inl a ↦ inl (inr a) | inr b ↦ inr b ]
-
 named_among : (o : Option ℕ) (number : ℕ) (text : List ℕ) (c : Contents) → o ≡ Some number → Among (named_so o text c) (bare (with_pattern number text c))
 named_among None number text c e = absurd (cc e)
 named_among (Some n) number text c e = let same : n ≡ number = cc e in inl (ap (λ (k : ℕ). bare (with_pattern k text c)) (sym same))
@@ -176,9 +163,9 @@ maps_so_among : (region : Name) (text : List ℕ) (os : List Standing) (s o : St
 maps_so_among region text [] s o a m = absurd a
 maps_so_among region text (x ∷ xs) s o (inl e) (inl same) = inl (same ∙ e)
 maps_so_among region text (x ∷ xs) s o (inl e) (inr k) =
-    inr (among_first _ _ o (subst (Among (named_so (region_number region x.contents) text x.contents)) (sym (k.2 ∙ ap (λ (y : Standing). bare (with_pattern k.0 text y.contents)) e))
+    inr (in_first _ _ o (subst (Among (named_so (region_number region x.contents) text x.contents)) (sym (k.2 ∙ ap (λ (y : Standing). bare (with_pattern k.0 text y.contents)) e))
     (named_among (region_number region x.contents) k.0 text x.contents (ap (λ (y : Standing). region_number region y.contents) (sym e) ∙ k.1))))
-maps_so_among region text (x ∷ xs) s o (inr a) m = inr (among_second (named_so (region_number region x.contents) text x.contents) _ o (maps_so_among region text xs s o a m))
+maps_so_among region text (x ∷ xs) s o (inr a) m = inr (in_second (named_so (region_number region x.contents) text x.contents) _ o (maps_so_among region text xs s o a m))
 
 named_is : (o : Option ℕ) (text : List ℕ) (c : Contents) (s : Standing) → Among (named_so o text c) s → (number : ℕ) × (o ≡ Some number) × (s ≡ bare (with_pattern number text c))
 named_is None text c s a = absurd a
@@ -188,7 +175,7 @@ named_is (Some n) text c s (inr a) = absurd a
 after_each : (region : Name) (text : List ℕ) (os : List Standing) (o : Standing) → Among (maps_each region text os) o → (s : Standing) × Among os s × MayMapLeft region text s o
 after_each region text [] o a = absurd a
 after_each region text (s ∷ ss) o (inl e) = (s, inl refl, inl e)
-after_each region text (s ∷ ss) o (inr a) = elim (among_either (named_so (region_number region s.contents) text s.contents) (maps_each region text ss) o a) [
+after_each region text (s ∷ ss) o (inr a) = elim (in_either (named_so (region_number region s.contents) text s.contents) (maps_each region text ss) o a) [
   | inl here ↦ (s, inl refl, inr (named_is (region_number region s.contents) text s.contents o here))
   | inr there ↦ let k = after_each region text ss o there in (k.0, inr k.1, k.2)
 ]
