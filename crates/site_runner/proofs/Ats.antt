@@ -20,7 +20,7 @@ use Rattle.site_defs.specs.Fronts.{with_sequence}
 use Rattle.site_defs.specs.Opening.{IsBehind}
 use Rattle.world_defs.specs.Ties.{Matches}
 use Rattle.site_defs.specs.Stands.{IsSite, HasLeft, Stands, Reads}
-use Rattle.site_defs.specs.Behind.{IsStanding, StandsSo}
+use Rattle.site_defs.specs.Behind.{IsStanding, IsSiteWith, StandsSo}
 use Rattle.site_runner.specs.declared.slot.State.{State}
 use Rattle.site_runner.specs.declared.slot.State.TheVariants.{Down, Primary, Failed}
 use Rattle.site_runner.specs.declared.slot.Site.{Site}
@@ -270,6 +270,10 @@ at_image v f (Some os) i h = h f i
 pub so_of : (f : Files) (c : Contents) (left : Leftover) → Reads f c left → StandsSo f (record { contents = c; broken = left.broken })
 so_of f c left (inl blank) = inl (ap (λ (x : Contents). record { contents = x; broken = left.broken }) blank.0 ∙ ap (λ (l : Leftover). record { contents = nothing; broken = l.broken }) blank.1, blank.2)
 so_of f c left (inr site) = inr (record { site = site.0; torn = left.torn; left = site.1 })
+
+-- nothing is written down of the next one
+pub stands_with : (f : Files) (o : Standing) → IsSiteWith f o → StandsSo f o
+stands_with f o is = inr (record { site = is.site; torn = []; left = is.left })
 
 -- a site's files that stand so are a site's
 pub standing_of : (f : Files) (c : Contents) (s : Standing) → IsSite f c → StandsSo f s → IsStanding f s

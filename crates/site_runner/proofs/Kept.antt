@@ -121,8 +121,10 @@ same_text : (c : Contents) (all : Sequence) (low : ℕ) (kept : ℕ → ℕ) (le
     → text_left c all low kept len ≡ text_left c all low (by_list (firsts kept (length (drop low all)) (length (regions c.instance)))) len
 same_text c all low kept len = ap (broken_text (site_name c.instance) len) (flat_same (left kept) (left other) 0 (regions c.instance) each)
   where
-    n m : ℕ
+    n : ℕ
     n = length (regions c.instance)
+
+    m : ℕ
     m = length (drop low all)
 
     other : ℕ → ℕ

@@ -36,7 +36,7 @@ use Rattle.site_runner.specs.Executes.{Comes}
 use Rattle.site_runner.specs.Steps.{IsAt, ExecutesAt, IsCutAt}
 use Rattle.site_runner.specs.Starting.{IsOpenedAt, BeginsAt, IsCutOpened}
 use Rattle.site_runner.proofs.Ats.{comes_done, comes_refused, comes_may_refuse, comes_fault, comes_damaged, refused_late, none_refused, kept_same, not_true, is_true_or_false, some_both, told_is, is_site, reads_site, stands_told, at_moment, reads_image, Leftovers, NothingIsLeft, ReadPlace, place_of_images, place_of_one, only, open_reads, open_images, state_at}
-use Rattle.site_runner.proofs.Ats.{StandForOne, ImagesStand, images_still, standing_there, at_image, standing_of}
+use Rattle.site_runner.proofs.Ats.{StandForOne, ImagesStand, images_still, standing_there, at_image, standing_of, stands_with}
 use Rattle.site_runner.proofs.Seen.{counted, kept_counted}
 use Rattle.site_runner.proofs.Stopped.{length_tagged}
 use Rattle.site_runner.proofs.Begun.{limit_opened, stamp_opened, of_opened, of_begun, of_may_begin, begins, among_begins, begins_among, begins_so, begins_so_among, begun_so, generation_past, generation_left}
@@ -326,9 +326,6 @@ told_open : (v : View) (c : Contents) (n : ℕ) (o : OpenSite) → IsOpen v true
 told_open v c n o h = told_is v.content _ (h.kept refl).reads
 
 -- the standings while the reign began
-stands_with : (f : Files) (o : Standing) → IsSiteWith f o → StandsSo f o
-stands_with f o is = inr (record { site = is.site; torn = []; left = is.left })
-
 reigned_so : (v w : View) (s : Site) (o : OpenSite) (p : Place) → Moments v w o → IsOpenedAt v s o p → p.told ≡ true → ImagesStand w (begins_so s.name p.standings)
 reigned_so v w s o p m h sure = among p.standings (h.standing sure)
   where
