@@ -214,36 +214,6 @@ module _ (top : Key) (last : List ℕ) (g : Globals) (some : 0 < length last) (v
       (λ k s p. beyond_behind top (sub_of last) k (sub_made last some) valid (each_valid k s) p)
       (λ k s h. continues_next top last k some (each_valid k s) h)
 
--- a key cut off behind such a subscript is one
-first_behind : (xs ys : List Sub) → list_all is_sub xs ≡ true → list_all is_sub ys ≡ true → list_all is_sub (xs ++ ys) ≡ true
-first_behind [] ys h g = g
-first_behind (x ∷ xs) ys h g = both (is_sub x) (list_all is_sub (xs ++ ys)) (first_so (is_sub x) (list_all is_sub xs) h) (first_behind xs ys (second_so (is_sub x) (list_all is_sub xs) h) g)
-
-pub child_valid : (top k : Key) (s : Sub) → is_key top ≡ true → is_key k ≡ true → is_under top k ≡ true → first_sub (below_subs top k) ≡ Some s → is_key (child_of top s) ≡ true
-child_valid top k s vt v u e = by (below_subs top k) refl e
-  where
-    by : (ss : List Sub) → below_subs top k ≡ ss → first_sub ss ≡ Some s → is_key (child_of top s) ≡ true
-    by [] split e = absurd (true≢false (ap is_some (sym e)))
-    by (t ∷ ts) split e =
-        let is : t ≡ s = cc in
-        let parts = valid_parts top vt in
-        let whole = valid_parts k v in
-        let sub : is_sub t ≡ true = first_so (is_sub t) (list_all is_sub ts) (ap (list_all is_sub) (sym split) ∙ below_valid top k u v) in
-        let subs : list_all is_sub (top.subs ++ t ∷ []) ≡ true = first_behind top.subs (t ∷ []) parts.subs (both (is_sub t) true sub refl) in
-        let many : length k.subs ≡ length top.subs + length (t ∷ ts) = ap length (subs_split top k u ∙ ap (λ ss. top.subs ++ ss) split) ∙ length-append top.subs (t ∷ ts) in
-        let few : length (top.subs ++ t ∷ []) ≤ 31 = omega (arith, length-append top.subs (t ∷ []), whole.few, many) in
-        let code : encoded (child_of top t) ≡ encoded top ++ encoded_sub t = ap (λ l. top.name ++ 0 ∷ l) (flat_map-append encoded_sub top.subs (t ∷ []) ∙ ap (λ l. flat_map encoded_sub top.subs ++ l) (append-nil (encoded_sub t))) ∙ sym (append_assoc top.name (0 ∷ flat_map encoded_sub top.subs) (encoded_sub t)) in
-        let all : encoded k ≡ encoded top ++ (encoded_sub t ++ flat_map encoded_sub ts) = code_split top k u ∙ ap (λ ss. encoded top ++ flat_map encoded_sub ss) split in
-        let fits : length (encoded (child_of top t)) ≤ 255 = omega (arith, ap length code, length-append (encoded top) (encoded_sub t), ap length all, length-append (encoded top) (encoded_sub t ++ flat_map encoded_sub ts), length-append (encoded_sub t) (flat_map encoded_sub ts), whole.fits) in
-        ap (λ x. is_key (child_of top x)) (sym is)
-        ∙ rw (parts.name, le-leb (length top.name) 31 parts.short, subs, le-leb (length (top.subs ++ t ∷ [])) 31 few) (le-leb (length (encoded (child_of top t))) 255 fits)
-
--- a place among a key's subscripts
-pub first_at : (xs : List (List ℕ)) (n : ℕ) (x : List ℕ) → n < length xs → x ≡ get_or xs n x → first_sub (drop n (map sub_of xs)) ≡ Some (sub_of x)
-first_at [] n x h e = absurd (omega arith)
-first_at (y ∷ ys) zero x h e = ap (λ z. Some (sub_of z)) (sym e)
-first_at (y ∷ ys) (suc n) x h e = first_at ys n x (omega arith) e
-
 -- ---- the codes of the keys under a node stand between its own and the same with a great byte behind
 
 end_past : (ss : List Sub) → is_le (slice_cmp nat_cmp (255 ∷ []) (flat_map encoded_sub ss)) ≡ false

@@ -470,12 +470,7 @@ pub(crate) fn sub_at(key: &Key, top: &Key) -> Result<Option<Bytes>, NoMemory>
     ensures next { IfOk result (λ sub. option_map sub_of sub ≡ first_sub (drop (length top.now.subs) key.now.subs)) }
     ensures a_key { IfOk result (λ sub. IfSome sub (λ bytes. is_key (child_of top.now (sub_of bytes)) ≡ true)) }
 {
-    let _ = top.code();
-    let _ = key.code();
-    match key.subs().get(top.subs().len()) {
-        Some(sub) => Ok(Some(sub.copy()?)),
-        None => Ok(None),
-    }
+    top.next_sub(key.as_encoded())
 }
 
 impl Lookup for Globals {

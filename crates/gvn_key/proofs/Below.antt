@@ -1,5 +1,5 @@
 -- The subscripts of a key below those of a node above it.
-use Rattle.std.proofs.Common.{◌≡◌, ℕ, ◌+◌, ◌≤◌, Bool, true, false, List, [], ◌∷◌, ◌++◌, length, take, drop, nat_eq, Option, Some, None, option_map, if◌then◌else◌, refl, sym, ap, ◌∙◌, arith, append_assoc, append-nil}
+use Rattle.std.proofs.Common.{◌≡◌, ℕ, ◌+◌, ◌≤◌, true, false, List, [], ◌∷◌, ◌++◌, length, drop, nat_eq, Option, Some, None, option_map, if◌then◌else◌, refl, sym, ap, ◌∙◌, arith, append_assoc, append-nil}
 use Rattle.std.specs.Prelude.{IfSome}
 use Rattle.std.specs.declared.cmp.Ordering.{Ordering}
 use Rattle.std.specs.declared.cmp.Ordering.TheVariants.{Less, Equal, Greater}
@@ -17,13 +17,13 @@ use Rattle.global_defs.specs.Entry.{is_under}
 use Rattle.global_defs.specs.Evaluation.{first_sub}
 use Rattle.global_defs.specs.Valid.{is_key, is_sub}
 use Rattle.global_defs.proofs.Order.{sub_same}
-use Rattle.global_defs.proofs.KeyOrder.{key_begins, key_injective}
+use Rattle.global_defs.proofs.KeyOrder.{key_begins}
 use Rattle.global_defs.proofs.NumberValue as numbers
 use Rattle.global_defs.proofs.ValidKeys.{valid_parts}
-use Rattle.gvn_key.specs.Decoding.{IsCode, sub_below, sub_end, sub_read, first_read}
+use Rattle.gvn_key.specs.Decoding.{sub_below, sub_end, sub_read, first_read}
 use Rattle.gvn_key.specs.Faults.{child_of}
 use Rattle.gvn_key.proofs.Decoded.{front, last_byte, sub_back, end_found}
-use Rattle.gvn_key.proofs.Subscripts.{code_parts, rest_is}
+use Rattle.gvn_key.proofs.Subscripts.{code_parts}
 
 -- ---- the first subscript is read
 

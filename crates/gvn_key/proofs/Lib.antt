@@ -6,6 +6,9 @@ pub mod DigitValues
 pub mod Decoded
 pub mod Subscripts
 pub mod KeyRead
+pub mod Kept
+pub mod Walks
+pub mod Whole
 pub mod WholeNumbers
 pub mod Below
 pub mod Parsing

@@ -1,12 +1,14 @@
 -- A name and subscripts with no fault make a key.
-use Rattle.std.proofs.Common.{◌≡◌, ℕ, ◌+◌, ◌≤◌, Bool, true, false, cond, not, List, [], ◌∷◌, length, map, None, Some, Option, arith, nat_lt, nat_le, nat_eq, refl, ap, sym, ◌∙◌}
+use Rattle.std.proofs.Common.{◌≡◌, ℕ, ◌+◌, ◌≤◌, Bool, true, false, cond, not, List, [], ◌∷◌, length, map, None, Some, Option, arith, nat_lt, nat_le, nat_eq, refl, ap, ◌∙◌}
 use Rattle.std.specs.List.{list_all}
-use Rattle.std.proofs.lemmas.Bool.{ltb-false, eqb-false, le-leb, not-false}
-use Rattle.global_defs.specs.Key.{sub_of}
+use Rattle.std.proofs.lemmas.Bool.{ltb-false, eqb-false, le-leb, le-ltb, not-false}
+use Rattle.global_defs.specs.Key.{Key, sub_of}
 use Rattle.global_defs.specs.Valid.{is_key, is_sub, is_name}
 use Rattle.global_defs.specs.Encoded.{encoded}
 use Rattle.global_defs.proofs.Numerals.{sub_made}
-use Rattle.gvn_key.specs.Faults.{IsMade, key_of, subs_fault, parts_fault}
+use Rattle.gvn_key.specs.Decoding.{IsCode, key_read}
+use Rattle.gvn_key.specs.Faults.{key_of, subs_fault, parts_fault, length_fault, or_else, key_fault}
+use Rattle.gvn_key.proofs.Kept.{read_known}
 use Rattle.gvn_key.specs.declared.key.KeyError.{KeyError}
 use Rattle.gvn_key.specs.declared.key.KeyError.TheVariants.{BadName, NameTooLong, NullSub, TooManySubs}
 
@@ -41,11 +43,14 @@ no_fault name subs e short =
     let u : nat_le (length (encoded (key_of name subs))) 255 ≡ true = le-leb (length (encoded (key_of name subs))) 255 short in
     rw (p, q, r, t) u
 
--- copies of such a name and such subscripts, and the encoded key, are made
-pub made : (name copy : List ℕ) (subs copies : List (List ℕ)) (code : List ℕ) → copy ≡ name → copies ≡ subs → code ≡ encoded (key_of name subs)
-    → parts_fault name subs ≡ None → length code ≤ 255 → IsMade copy copies code
-made name copy subs copies code same each is none short =
-    record {
-      valid = (λ i. is_key (key_of (same i) (each i))) ∙ no_fault name subs none (omega (arith, ap length is));
-      encodes = is ∙ sym (λ i. encoded (key_of (same i) (each i)));
-    }
+-- and the encoded form of one
+pub made : (name : List ℕ) (subs : List (List ℕ)) (code : List ℕ) → code ≡ encoded (key_of name subs) → parts_fault name subs ≡ None → length code ≤ 255 → IsCode code
+made name subs code is none short = (key_of name subs, no_fault name subs none (omega (arith, ap length is)), is)
+
+-- so the key of that form is what is made
+pub makes : (name : List ℕ) (subs : List (List ℕ)) (code : List ℕ) (key : Key) → code ≡ encoded (key_of name subs) → parts_fault name subs ≡ None → length code ≤ 255 → key ≡ key_read code
+    → (key_fault name subs ≡ None) × (key ≡ key_of name subs)
+makes name subs code key is none short e =
+    let fits : length (encoded (key_of name subs)) ≤ 255 = omega (arith, ap length is) in
+    let whole : length_fault (key_of name subs) ≡ None = rw (le-ltb 255 (length (encoded (key_of name subs))) fits) refl in
+    ((λ i. or_else (none i) (length_fault (key_of name subs))) ∙ whole, e ∙ read_known code (key_of name subs) (no_fault name subs none fits) is)

@@ -1,9 +1,9 @@
 -- Encoded keys read back.
-use Rattle.std.specs.Prelude.{◌≡◌, ℕ, ◌+◌, ◌-◌, ◌==◌, ◌&&◌, Bool, true, false, not, List, [], ◌∷◌, ◌++◌, length, take, drop, map, position, slice_index, replicate, Option, Some, None, nat_le, if◌then◌else◌, IsTrue}
+use Rattle.std.specs.Prelude.{◌≡◌, ℕ, zero, suc, ◌+◌, ◌-◌, ◌==◌, ◌&&◌, Bool, true, false, not, List, [], ◌∷◌, ◌++◌, length, take, drop, map, position, slice_index, replicate, Option, Some, None, nat_le, if◌then◌else◌, IsTrue}
 use Rattle.std.specs.List.{list_all, flat_map}
 use Rattle.std.specs.Char.{is_ascii_digit}
 use Rattle.std.specs.Str.Parse.{digits_value}
-use Rattle.global_defs.specs.Key.{Key, Sub}
+use Rattle.global_defs.specs.Key.{Key, Sub, sub_of}
 use Rattle.global_defs.specs.Encoded.{encoded, encoded_sub}
 use Rattle.global_defs.specs.NodeText.{magnitude_text, sub_bytes}
 use Rattle.global_defs.specs.Valid.{is_key, is_sub}
@@ -81,3 +81,32 @@ first_read (Some last) bytes = sub_read (take last bytes)
 abbrev pub ReadsSubs : List ℕ → Option (List (List ℕ)) → Type 0
 ReadsSubs bytes None = (subs : List Sub) → list_all is_sub subs ≡ true → flat_map encoded_sub subs ≡ bytes → ⊥
 ReadsSubs bytes (Some texts) = (subs : List Sub) → list_all is_sub subs ≡ true → flat_map encoded_sub subs ≡ bytes → texts ≡ map sub_bytes subs
+
+-- what stands behind the first subscript, by where that ends
+abbrev pub behind_first : Option ℕ → List ℕ → List ℕ
+behind_first None bytes = []
+behind_first (Some last) bytes = drop (last + 1) bytes
+
+-- a subscript by its own bytes before others, none where it can't be read
+abbrev pub before_others : Option (List ℕ) → List Sub → List Sub
+before_others None subs = []
+before_others (Some text) subs = sub_of text ∷ subs
+
+-- at most so many subscripts, one after another
+unfoldable pub subs_read : ℕ → List ℕ → List Sub
+subs_read zero bytes = []
+subs_read (suc most) bytes = before_others (first_read (sub_end bytes) bytes) (subs_read most (behind_first (sub_end bytes) bytes))
+
+-- a key by where its name ends
+abbrev pub key_cut : Option ℕ → List ℕ → Key
+key_cut None bytes = record { name = bytes; subs = [] }
+key_cut (Some end) bytes = record { name = take end bytes; subs = subs_read 31 (drop (end + 1) bytes) }
+
+-- the key that has these bytes as its encoded form, where some key has
+unfoldable pub key_read : List ℕ → Key
+key_read bytes = key_cut (position (λ b. b == 0) bytes) bytes
+
+-- the bytes of the key that they are read to
+pub record IsKept (code : List ℕ) : Type 0 where
+  pub valid : is_key (key_read code) ≡ true
+  pub encodes : code ≡ encoded (key_read code)

@@ -1,7 +1,7 @@
 -- Which fault a name and subscripts have.
-use Rattle.std.specs.Prelude.{◌≡◌, ℕ, ◌+◌, ◌==◌, true, not, List, [], ◌∷◌, ◌++◌, length, map, Option, Some, None, nat_lt, if◌then◌else◌}
+use Rattle.std.specs.Prelude.{◌≡◌, ℕ, ◌+◌, ◌==◌, not, List, [], ◌∷◌, ◌++◌, length, take, map, Option, Some, None, nat_lt, if◌then◌else◌}
 use Rattle.global_defs.specs.Key.{Key, Sub, sub_of}
-use Rattle.global_defs.specs.Valid.{is_name, is_key}
+use Rattle.global_defs.specs.Valid.{is_name}
 use Rattle.global_defs.specs.Encoded.{encoded}
 use Rattle.gvn_key.specs.declared.key.KeyError.{KeyError}
 use Rattle.gvn_key.specs.declared.key.KeyError.TheVariants.{BadName, NameTooLong, NullSub, TooManySubs, KeyTooLong, NoMemory}
@@ -16,10 +16,9 @@ key_of name subs = record { name = name; subs = map sub_of subs }
 abbrev pub child_of : Key → Sub → Key
 child_of top s = record { name = top.name; subs = top.subs ++ s ∷ [] }
 
--- a name and subscripts that make a key, and that key encoded
-pub record IsMade (name : List ℕ) (subs : List (List ℕ)) (code : List ℕ) : Type 0 where
-  pub valid : is_key (key_of name subs) ≡ true
-  pub encodes : code ≡ encoded (key_of name subs)
+-- the key of a key's name and first so many subscripts
+abbrev pub front_of : ℕ → Key → Key
+front_of count key = record { name = key.name; subs = take count key.subs }
 
 -- the first fault of subscripts of which so many stand before them
 abbrev pub subs_fault : ℕ → List (List ℕ) → Option KeyError

@@ -1,11 +1,16 @@
 -- A number by its sign and the digits of its magnitude.
-use Rattle.std.specs.Prelude.{ℕ, ℤ, pos, ◌-ℤ◌, ◌==◌, Bool, List, [], ◌∷◌, if◌then◌else◌}
+use Rattle.std.specs.Prelude.{ℕ, ℤ, pos, ◌-ℤ◌, ◌==◌, Bool, List, [], ◌∷◌, ◌++◌, replicate, if◌then◌else◌}
 use Rattle.global_defs.specs.Encoded.{positive_sub, negative_sub}
 
 -- digits without the zeros at the front
 abbrev pub stripped : List ℕ → List ℕ
 stripped [] = []
 stripped (d ∷ digits) = if d == 48 then stripped digits else d ∷ digits
+
+-- digits and so many zeros behind them, nothing where there is no digit
+abbrev pub with_zeros : ℕ → List ℕ → List ℕ
+with_zeros count [] = []
+with_zeros count (d ∷ digits) = (d ∷ digits) ++ replicate count 48
 
 -- a number by its sign and its magnitude
 abbrev pub signed : Bool → ℕ → ℤ

@@ -1,19 +1,16 @@
-//! Keys from their encoded bytes.
-ghost use Rattle.std.specs.Prelude.{◌≡◌, ◌+◌, ◌-◌, ◌<◌, ◌≤◌, ◌^◌, ◌++◌, ◌∷◌, [], true, false, length, option_map, position, ◌==◌, map, replicate, not, IfOk, OnOk, IfSome};
-ghost use Rattle.std.specs.List.{list_all};
+//! Subscripts from their encoded bytes.
+ghost use Rattle.std.specs.Prelude.{◌≡◌, ◌+◌, ◌-◌, ◌<◌, ◌≤◌, ◌^◌, ◌++◌, ◌∷◌, [], ℕ, List, true, false, drop, length, option_map, position, ◌==◌, map, replicate, not, IfOk, OnOk, IfSome};
+ghost use Rattle.std.specs.List.{list_all, flat_map};
 ghost use Rattle.std.specs.Char.{is_ascii_digit};
 ghost use Rattle.std.specs.Str.Parse.{digits_value};
-ghost use Rattle.global_defs.specs.Encoded.{significant, encoded};
+ghost use Rattle.global_defs.specs.Encoded.{significant, encoded_sub};
 ghost use Rattle.global_defs.specs.NodeText.{pointed, magnitude_text};
-ghost use Rattle.global_defs.specs.Key as keys;
-ghost use Rattle.global_defs.specs.Key.{sub_of};
-ghost use Rattle.global_defs.specs.Valid.{is_key};
-ghost use Rattle.gvn_key.specs.Faults.{child_of};
-ghost use Rattle.gvn_key.specs.Decoding.{Decodes, IsCode, ReadsSubs, sub_below, first_read, end_byte, sub_end, unescaped, are_whole, padded, number_read, positive_read, negative_read, sub_read};
+ghost use Rattle.global_defs.specs.Key.{Sub};
+ghost use Rattle.global_defs.specs.Valid.{is_sub};
+ghost use Rattle.gvn_key.specs.Decoding.{ReadsSubs, first_read, end_byte, sub_end, unescaped, are_whole, padded, number_read, positive_read, negative_read, sub_read};
 
 use super::bytes::{Bytes, NoMemory};
 use super::encoding::{push_reversed, significant};
-use super::key::{Key, KeyError, Parts};
 use super::numeral::are_digits;
 use std::alloc::Global;
 
@@ -44,7 +41,7 @@ fn end_byte(kind: u8) -> u8
 }
 
 /// Where a byte first stands.
-fn place(byte: u8, bytes: &[u8]) -> Option<usize>
+pub fn place(byte: u8, bytes: &[u8]) -> Option<usize>
     ensures place { result ≡ position (λ b. b == byte) bytes.now }
     ensures within { IfSome result (λ i. i < length bytes.now) }
 {
@@ -254,7 +251,7 @@ fn sub(alloc: Global, bytes: &[u8]) -> Result<Option<Bytes>, NoMemory>
 }
 
 /// The own bytes of each subscript.
-fn subs(alloc: Global, bytes: &[u8]) -> Result<Option<Vec<Bytes>>, NoMemory>
+pub fn subs(alloc: Global, bytes: &[u8]) -> Result<Option<Vec<Bytes>>, NoMemory>
     ensures { IfOk result (λ read. ReadsSubs bytes.now (option_map (λ texts. texts.items) read)) }
 {
     let mut subs = Vec::new(alloc);
@@ -273,7 +270,7 @@ fn subs(alloc: Global, bytes: &[u8]) -> Result<Option<Vec<Bytes>>, NoMemory>
 }
 
 /// The own bytes of the first subscript, `None` where there is none.
-fn first_sub(alloc: Global, bytes: &[u8]) -> Result<Option<Bytes>, NoMemory>
+pub fn first_sub(alloc: Global, bytes: &[u8]) -> Result<Option<Bytes>, NoMemory>
     ensures { IfOk result (λ read. read ≡ first_read (sub_end bytes.now) bytes.now) }
 {
     match sub_end(bytes) {
@@ -282,59 +279,29 @@ fn first_sub(alloc: Global, bytes: &[u8]) -> Result<Option<Bytes>, NoMemory>
     }
 }
 
-impl Key {
-    /// The key of these bytes, which some key has as its encoded form. They are read once, and not tested again.
-    pub fn of_code(alloc: Global, code: &[u8]) -> Result<Self, NoMemory>
-        requires { IsCode code.now }
-        ensures code { IfOk result (λ key. encoded key ≡ code.now) }
-        ensures valid { IfOk result (λ key. is_key key ≡ true) }
-    {
-        let Some(end) = place(0, code) else {
-            unreachable!();
-        };
-        let Some(subs) = subs(alloc, &code[end + 1..])? else {
-            unreachable!();
-        };
-        let name = Bytes::of(alloc, &code[..end])?;
-        let code = Bytes::of(alloc, code)?;
-        Key::made(alloc, Parts { name, subs, code })
+/// How many subscripts these bytes have.
+pub fn depth(bytes: &[u8]) -> usize
+    ensures { (subs : List Sub) → list_all is_sub subs ≡ true → flat_map encoded_sub subs ≡ bytes.now → result ≡ length subs }
+{
+    let mut count = 0;
+    let mut rest = bytes;
+    while let Some(last) = sub_end(rest) {
+        rest = &rest[last + 1..];
+        count += 1;
     }
+    count
+}
 
-    /// The own bytes of the subscript at the level below this node, of the key that has these bytes as its encoded form: of a number
-    /// its numeral, and `None` where that key isn't one of a descendant. No other subscript is read.
-    pub fn next_sub(&self, code: &[u8]) -> Result<Option<Bytes>, NoMemory>
-        requires { IsCode code.now }
-        ensures next { (key : keys.Key) → is_key key ≡ true → encoded key ≡ code.now → IfOk result (λ sub. option_map sub_of sub ≡ sub_below self.now key) }
-        ensures a_key { IfOk result (λ sub. IfSome sub (λ bytes. is_key (child_of self.now (sub_of bytes)) ≡ true)) }
-    {
-        let own = self.as_encoded();
-        if code.starts_with(own) {
-            first_sub(self.code().allocator(), &code[own.len()..])
-        } else {
-            Ok(None)
-        }
-    }
-
-    /// The key that has these bytes as its encoded form, `None` where no key has them.
-    pub fn decode(alloc: Global, bytes: &[u8]) -> Result<Option<Self>, NoMemory>
-        ensures { IfOk result (λ found. Decodes bytes.now found) }
-    {
-        let Some(end) = place(0, bytes) else {
-            return Ok(None);
+/// The bytes of the subscripts behind the first so many.
+pub fn behind(bytes: &[u8], count: usize) -> &[u8]
+    ensures { (subs : List Sub) → list_all is_sub subs ≡ true → flat_map encoded_sub subs ≡ bytes.now → result.now ≡ flat_map encoded_sub (drop count subs) }
+{
+    let mut rest = bytes;
+    for _i in 0..count {
+        let Some(last) = sub_end(rest) else {
+            return rest;
         };
-        let Some(subs) = subs(alloc, &bytes[end + 1..])? else {
-            return Ok(None);
-        };
-        match Key::from_parts(alloc, &bytes[..end], subs) {
-            Ok(key) => Ok(if key.as_encoded() == bytes {
-                Some(key)
-            } else {
-                None
-            }),
-            Err(fault) => match fault {
-                KeyError::NoMemory => Err(NoMemory),
-                _ => Ok(None),
-            },
-        }
+        rest = &rest[last + 1..];
     }
+    rest
 }

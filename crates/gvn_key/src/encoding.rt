@@ -1,11 +1,11 @@
 //! Subscripts as bytes that collate as the subscripts do.
-ghost use Rattle.std.specs.Prelude.{◌≡◌, ◌≤◌, ◌-◌, ◌++◌, true, length, map, position, replicate, IfOk, OnOk};
+ghost use Rattle.std.specs.Prelude.{◌≡◌, ◌≤◌, ◌+◌, ◌-◌, ◌++◌, true, length, map, position, replicate, IfOk, OnOk};
 ghost use Rattle.std.specs.List.{flat_map};
 ghost use Rattle.std.specs.Str.Parse.{AllDigits};
 ghost use Rattle.global_defs.specs.Key.{sub_of, Number, Text};
 ghost use Rattle.global_defs.specs.Numeral.{is_point, is_number, all_digits, digits_at, magnitude, value_of};
 ghost use Rattle.global_defs.specs.Encoded.{significant, positive_sub, negative_sub, escaped, encoded_sub};
-ghost use Rattle.gvn_key.specs.Stripped.{stripped, signed, number_code};
+ghost use Rattle.gvn_key.specs.Stripped.{stripped, signed, number_code, with_zeros};
 
 use super::bytes::{Bytes, NoMemory};
 use super::numeral::{is_number, point};
@@ -36,16 +36,6 @@ fn all_digits(alloc: Global, whole: &[u8], fraction: &[u8]) -> Result<Bytes, NoM
     Ok(digits)
 }
 
-/// The digits of 10 ^ 18 times a number without a sign.
-fn digits_of(alloc: Global, bytes: &[u8]) -> Result<Bytes, NoMemory>
-    ensures { IfOk result (λ made. made ≡ digits_at bytes.now (position is_point bytes.now)) }
-{
-    match point(bytes) {
-        None => all_digits(alloc, bytes, &[]),
-        Some(i) => all_digits(alloc, &bytes[..i], &bytes[i + 1..]),
-    }
-}
-
 /// Digits without the zeros at the front.
 fn stripped(digits: &[u8]) -> &[u8]
     ensures value { result.now ≡ stripped digits.now }
@@ -69,13 +59,13 @@ pub fn significant(digits: &[u8]) -> &[u8]
     &digits[..end]
 }
 
-/// A positive number by its digits: the exponent, the digits, the end.
-fn push_positive(digits: &[u8], out: &mut Bytes) -> Result<(), NoMemory>
-    requires { length digits.now ≤ 36 }
-    ensures { OnOk result (out.new ≡ out.old ++ positive_sub digits.now) }
+/// A positive number by its digits and the count of zeros behind them: the exponent, the digits, the end.
+fn push_positive(digits: &[u8], zeros: usize, out: &mut Bytes) -> Result<(), NoMemory>
+    requires { length digits.now + zeros ≤ 36 }
+    ensures { OnOk result (out.new ≡ out.old ++ positive_sub (digits.now ++ replicate zeros 48)) }
 {
     out.push(3)?;
-    out.push(46 + digits.len() as u8)?;
+    out.push(46 + (digits.len() + zeros) as u8)?;
     out.push_all(significant(digits))?;
     out.push(0)
 }
@@ -90,32 +80,32 @@ pub fn push_reversed(digits: &[u8], out: &mut Bytes) -> Result<(), NoMemory>
     Ok(())
 }
 
-/// A negative number by the digits of its magnitude.
-fn push_negative(digits: &[u8], out: &mut Bytes) -> Result<(), NoMemory>
-    requires { length digits.now ≤ 36 }
-    ensures { OnOk result (out.new ≡ out.old ++ negative_sub digits.now) }
+/// A negative number by the digits of its magnitude and the count of zeros behind them.
+fn push_negative(digits: &[u8], zeros: usize, out: &mut Bytes) -> Result<(), NoMemory>
+    requires { length digits.now + zeros ≤ 36 }
+    ensures { OnOk result (out.new ≡ out.old ++ negative_sub (digits.now ++ replicate zeros 48)) }
 {
     out.push(1)?;
-    out.push(209 - digits.len() as u8)?;
+    out.push(209 - (digits.len() + zeros) as u8)?;
     push_reversed(significant(digits), out)?;
     out.push(255)
 }
 
-/// A number by its sign and the digits of its magnitude.
-fn push_signed(negative: bool, digits: &[u8], out: &mut Bytes) -> Result<(), NoMemory>
-    requires { length digits.now ≤ 36 }
-    ensures { OnOk result (out.new ≡ out.old ++ number_code negative digits.now) }
+/// A number by its sign, the digits of its magnitude and the count of zeros behind them. No digit is 0, whatever the count.
+fn push_signed(negative: bool, digits: &[u8], zeros: usize, out: &mut Bytes) -> Result<(), NoMemory>
+    requires { length digits.now + zeros ≤ 36 }
+    ensures { OnOk result (out.new ≡ out.old ++ number_code negative (with_zeros zeros digits.now)) }
 {
     if digits.is_empty() {
         out.push(2)
     } else if negative {
-        push_negative(digits, out)
+        push_negative(digits, zeros, out)
     } else {
-        push_positive(digits, out)
+        push_positive(digits, zeros, out)
     }
 }
 
-/// A number by its sign and what stands behind it.
+/// A number by its sign and what stands behind it. The zeros behind a whole number are counted, and not written first.
 fn push_magnitude(
     alloc: Global,
     negative: bool,
@@ -126,8 +116,13 @@ fn push_magnitude(
     requires few { length (digits_at bytes.now (position is_point bytes.now)) ≤ 36 }
     ensures { OnOk result (out.new ≡ out.old ++ encoded_sub (Number (signed negative (magnitude bytes.now)))) }
 {
-    let digits = digits_of(alloc, bytes)?;
-    push_signed(negative, stripped(digits.as_slice()), out)
+    match point(bytes) {
+        None => push_signed(negative, stripped(bytes), ZEROS.len(), out),
+        Some(i) => {
+            let digits = all_digits(alloc, &bytes[..i], &bytes[i + 1..])?;
+            push_signed(negative, stripped(digits.as_slice()), 0, out)
+        }
+    }
 }
 
 /// A number by its numeral.

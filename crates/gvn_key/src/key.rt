@@ -6,7 +6,8 @@ ghost use Rattle.global_defs.specs.Key.{sub_of};
 ghost use Rattle.global_defs.specs.Valid.{is_name, is_key};
 ghost use Rattle.global_defs.specs.Encoded.{encoded, encoded_sub};
 ghost use Rattle.global_defs.specs.NodeText.{sub_text, subs_text, node_text};
-ghost use Rattle.gvn_key.specs.Faults.{subs_fault, parts_fault, key_of, child_of, IsMade, MakesKey};
+ghost use Rattle.gvn_key.specs.Decoding.{IsKept, key_read};
+ghost use Rattle.gvn_key.specs.Faults.{subs_fault, parts_fault, key_of, child_of, MakesKey};
 
 use super::bytes::{Bytes, NoMemory};
 use super::encoding::{push_sub, push_subs};
@@ -24,10 +25,10 @@ const LONGEST_NAME: usize = 31;
 const MOST_SUBS: usize = 31;
 
 /// How many bytes an encoded key may have.
-const LONGEST_KEY: usize = 255;
+pub(crate) const LONGEST_KEY: usize = 255;
 
-/// Room for the subscripts of most keys.
-const SHORT_KEY: usize = 48;
+/// How many bytes an encoded subscript has beside its own, where nothing is escaped.
+const BESIDE_SUB: usize = 3;
 
 /// Why a name and subscripts, or a text, are no key: the first fault from the left.
 #[derive(Clone, Copy, Debug, PartialEq, Eq, Error)]
@@ -65,31 +66,23 @@ impl From<NoMemory> for KeyError {
     }
 }
 
-/// What the copies of a key share.
-#[derive(Debug, Drop)]
-pub(crate) struct Parts {
-    pub(crate) name: Bytes,
-    pub(crate) subs: Vec<Bytes>,
-    pub(crate) code: Bytes,
-}
-
-/// A node's key: a name and up to 31 subscripts, each a number or a string, with at most 255 bytes encoded. Copies of a key share
-/// its bytes, so that a copy takes no memory.
+/// A node's key: a name and up to 31 subscripts, each a number or a string, with at most 255 bytes encoded. It keeps its encoded form
+/// alone, and copies share that, so that a copy takes no memory.
 #[derive(Debug, Drop)]
 pub struct Key {
-    parts: Arc<Parts, Global>,
+    code: Arc<Bytes, Global>,
 }
 
 impl Model for Key {
     ghost use Rattle.global_defs.specs.Key as defs;
     ghost use Rattle.std.specs.Arc.{arc_value};
-    ghost use Rattle.gvn_key.specs.Faults as made;
+    ghost use Rattle.gvn_key.specs.Decoding as decoding;
 
     ghost Value = { defs.Key };
 
-    ghost view = { λ k. made.key_of (arc_value k.parts).name (arc_value k.parts).subs.items };
+    ghost view = { λ k. decoding.key_read (arc_value k.code) };
 
-    ghost invariant = { λ k. made.IsMade (arc_value k.parts).name (arc_value k.parts).subs.items (arc_value k.parts).code };
+    ghost invariant = { λ k. decoding.IsKept (arc_value k.code) };
 }
 
 fn all_alphanumeric(bytes: &[u8]) -> bool
@@ -138,25 +131,24 @@ fn parts_fault(name: &[u8], subs: &[Bytes]) -> Option<KeyError>
     subs_fault(subs)
 }
 
+/// How many bytes the encoded key has at most, where nothing is escaped.
+fn room_of(name: &[u8], subs: &[Bytes]) -> usize {
+    let mut room = name.len().saturating_add(1);
+    for sub in subs {
+        room = room.saturating_add(sub.len()).saturating_add(BESIDE_SUB);
+    }
+    room
+}
+
 /// The encoded key of a name and subscripts.
 fn encode(alloc: Global, name: &[u8], subs: &[Bytes]) -> Result<Bytes, NoMemory>
     ensures { IfOk result (λ code. code ≡ encoded (key_of name.now subs.now)) }
 {
-    let mut code = Bytes::with_capacity(alloc, name.len() + SHORT_KEY)?;
+    let mut code = Bytes::with_capacity(alloc, room_of(name, subs))?;
     code.push_all(name)?;
     code.push(0)?;
     push_subs(alloc, subs, &mut code)?;
     Ok(code)
-}
-
-fn copy_all(alloc: Global, subs: &[Bytes]) -> Result<Vec<Bytes>, NoMemory>
-    ensures { IfOk result (λ made. made.items ≡ subs.now) }
-{
-    let mut made = Vec::new(alloc);
-    for sub in subs {
-        made.push(sub.copy()?)?;
-    }
-    Ok(made)
 }
 
 impl Key {
@@ -164,46 +156,24 @@ impl Key {
     pub fn new(alloc: Global, name: &[u8], subs: &[Bytes]) -> Result<Self, KeyError>
         ensures { MakesKey name.now subs.now result }
     {
-        Key::from_parts(alloc, name, copy_all(alloc, subs)?)
-    }
-
-    /// The key of a name and subscripts that it keeps, or the first fault from the left.
-    pub(crate) fn from_parts(alloc: Global, name: &[u8], subs: Vec<Bytes>) -> Result<Self, KeyError>
-        ensures { MakesKey name.now subs.items result }
-    {
-        if let Some(fault) = parts_fault(name, &subs) {
+        if let Some(fault) = parts_fault(name, subs) {
             return Err(fault);
         }
-        let code = encode(alloc, name, &subs)?;
+        let code = encode(alloc, name, subs)?;
         if LONGEST_KEY < code.len() {
             return Err(KeyError::KeyTooLong);
         }
-        let name = Bytes::of(alloc, name)?;
-        Ok(Key::made(alloc, Parts { name, subs, code })?)
+        Ok(Key::made(alloc, code)?)
     }
 
-    /// The key of these parts.
-    pub(crate) fn made(alloc: Global, parts: Parts) -> Result<Self, NoMemory>
-        requires { IsMade parts.name parts.subs.items parts.code }
-        ensures { IfOk result (λ key. key ≡ key_of parts.name parts.subs.items) }
+    /// The key that has these bytes as its encoded form.
+    pub(crate) fn made(alloc: Global, code: Bytes) -> Result<Self, NoMemory>
+        requires { IsKept code }
+        ensures { IfOk result (λ key. key ≡ key_read code) }
     {
         Ok(Key {
-            parts: Arc::new(alloc, parts)?,
+            code: Arc::new(alloc, code)?,
         })
-    }
-
-    /// The name.
-    pub fn name(&self) -> &[u8]
-        ensures { result.now ≡ self.now.name }
-    {
-        self.parts.name.as_slice()
-    }
-
-    /// The subscripts by their own bytes: of a number its canonical numeral.
-    pub fn subs(&self) -> &[Bytes]
-        ensures { map sub_of result.now ≡ self.now.subs }
-    {
-        &self.parts.subs
     }
 
     /// The encoded key.
@@ -211,7 +181,7 @@ impl Key {
         ensures value { result.now ≡ encoded self.now }
         ensures valid { is_key self.now ≡ true }
     {
-        self.parts.code.as_slice()
+        self.code.as_slice()
     }
 
     /// The encoded key, as a list that a map's keys compare with.
@@ -219,7 +189,7 @@ impl Key {
         ensures value { result.now ≡ encoded self.now }
         ensures valid { is_key self.now ≡ true }
     {
-        &self.parts.code
+        &self.code
     }
 
     /// Bytes behind those of all keys that have such a subscript next, and before those of all later keys.
@@ -227,8 +197,8 @@ impl Key {
         ensures value { IfOk result (λ made. made ≡ encoded self.now ++ encoded_sub (sub_of sub.now) ++ 255 ∷ []) }
         ensures valid { is_key self.now ≡ true }
     {
-        let alloc = self.parts.code.allocator();
-        let mut made = self.parts.code.copy()?;
+        let alloc = self.code.allocator();
+        let mut made = self.code.copy()?;
         push_sub(alloc, sub, &mut made)?;
         made.push(255)?;
         Ok(made)
@@ -239,13 +209,10 @@ impl Key {
         requires { is_key (child_of self.now (sub_of sub.now)) ≡ true }
         ensures { IfOk result (λ made. made ≡ child_of self.now (sub_of sub.now)) }
     {
-        let alloc = self.parts.code.allocator();
-        let name = self.parts.name.copy()?;
-        let mut subs = copy_all(alloc, &self.parts.subs)?;
-        subs.push(Bytes::of(alloc, sub)?)?;
-        let mut code = self.parts.code.copy()?;
+        let alloc = self.code.allocator();
+        let mut code = self.code.copy()?;
         push_sub(alloc, sub, &mut code)?;
-        Key::made(alloc, Parts { name, subs, code })
+        Key::made(alloc, code)
     }
 
     /// Adds the encoded key at the end.
@@ -253,7 +220,7 @@ impl Key {
         ensures ok { OnOk result (out.new ≡ out.old ++ encoded self.now) }
         ensures err { OnErr result (out.new ≡ out.old) }
     {
-        out.push_all(self.parts.code.as_slice())
+        out.push_all(self.code.as_slice())
     }
 
     /// An equal key.
@@ -261,7 +228,7 @@ impl Key {
         ensures { IfOk result (λ made. made ≡ self.now) }
     {
         Ok(Key {
-            parts: Arc::try_clone(&self.parts)?,
+            code: Arc::try_clone(&self.code)?,
         })
     }
 
@@ -272,8 +239,9 @@ impl Key {
     {
         let mut text = Bytes::new(out.allocator());
         text.push_all(b"^")?;
-        text.push_all(self.parts.name.as_slice())?;
-        write_subs(&self.parts.subs, &mut text)?;
+        text.push_all(self.name())?;
+        let subs = self.subs()?;
+        write_subs(&subs, &mut text)?;
         out.push_all(text.as_slice())
     }
 }

@@ -226,7 +226,7 @@ fn named(alloc: Global, name: &[u8], tail: &[u8]) -> Result<Key, KeyError>
         return Err(KeyError::NameTooLong);
     }
     let subs = subs_in(alloc, tail)?;
-    Key::from_parts(alloc, name, subs)
+    Key::new(alloc, name, &subs)
 }
 
 fn key_at(alloc: Global, text: &[u8]) -> Result<Key, KeyError>

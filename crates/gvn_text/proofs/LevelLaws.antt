@@ -1,13 +1,13 @@
 -- Levels, and the text above their last subscripts.
-use Rattle.std.proofs.Common.{◌≡◌, ℕ, ◌-◌, ◌≤◌, false, List, [], ◌∷◌, ◌++◌, length, take, map, get_or, Some, ap, sym, ◌∙◌, arith, append_assoc, length-append, ◌==◌}
+use Rattle.std.proofs.Common.{◌≡◌, ◌≢◌, ℕ, zero, suc, ◌-◌, ◌<◌, false, List, [], ◌∷◌, ◌++◌, length, take, drop, get_or, Option, Some, refl, ap, sym, ◌∙◌, arith, append_assoc, length-append, ◌==◌}
 use Rattle.std.specs.List.{flat_map}
 use Rattle.std.proofs.Math.Seq.{take-append_seam}
-use Rattle.std.proofs.lemmas.List.{length-map, take-map, get_or-map}
 use Rattle.std.proofs.lemmas.Bool.{ne_eqb}
 use Rattle.global_defs.specs.Key.{Key, Sub, Text, sub_of}
+use Rattle.global_defs.specs.Evaluation.{first_sub}
 use Rattle.global_defs.specs.NodeText.{node_text, sub_text, sub_bytes}
 use Rattle.global_defs.proofs.Numerals.{sub_bytes_back}
-use Rattle.gvn_key.specs.Faults.{key_of}
+use Rattle.gvn_key.specs.Faults.{front_of}
 use Rattle.script_defs.specs.Parts.{level_of}
 use Rattle.script_defs.specs.Statements.{behind_subs, text_above}
 
@@ -28,30 +28,25 @@ above_is name (s ∷ ss) h =
     ∙ ap (λ t. t ++ (44 ∷ [])) (all_but_last w 41)
     ∙ append_assoc (94 ∷ name) f (44 ∷ [])
 
-pub above_written : (key : Key) (r : List (List ℕ)) (t : List ℕ) → map sub_of r ≡ key.subs → (length r == 0) ≡ false → t ≡ node_text key
-    → take (length t - 1) t ++ (44 ∷ []) ≡ text_above key
-above_written key r t subs some e =
-    let same : (length key.subs == 0) ≡ false = ap (λ x. length x == 0) (sym subs) ∙ ap (λ n. n == 0) (length-map r sub_of) ∙ some in
-    ap (λ x. take (length x - 1) x ++ (44 ∷ [])) e ∙ above_is key.name key.subs same
+pub above_written : (key : Key) (t : List ℕ) → (length key.subs == 0) ≡ false → t ≡ node_text key → take (length t - 1) t ++ (44 ∷ []) ≡ text_above key
+above_written key t some e = ap (λ x. take (length x - 1) x ++ (44 ∷ [])) e ∙ above_is key.name key.subs some
 
 pub four_pieces : (o w a s e : List ℕ) → (((o ++ w) ++ a) ++ s) ++ e ≡ o ++ (w ++ (a ++ (s ++ e)))
 four_pieces o w a s e = append_assoc ((o ++ w) ++ a) s e ∙ append_assoc (o ++ w) a (s ++ e) ∙ append_assoc o w (a ++ (s ++ e))
 
 -- a level by its parts
 
-level_at : (name : List ℕ) (r : List (List ℕ)) (last : List ℕ) → 1 ≤ length r → last ≡ get_or r (length r - 1) last
-    → level_of (record { name = name; subs = map sub_of r }) ≡ Some (key_of name (take (length r - 1) r), last)
-level_at name r last some e =
-    let subs : List Sub = map sub_of r in
-    let many : (length subs == 0) ≡ false = ap (λ n. n == 0) (length-map r sub_of) ∙ ne_eqb (length r) 0 (λ z. omega arith) in
-    let count : length subs - 1 ≡ length r - 1 = ap (λ n. n - 1) (length-map r sub_of) in
-    let last_is : get_or subs (length r - 1) (Text []) ≡ sub_of last = get_or-map sub_of r (length r - 1) last (Text []) (omega arith) ∙ ap sub_of (sym e) in
-    rw many
-    (ap (λ n. Some (record { name = name; subs = take n subs }, sub_bytes (get_or subs n (Text [])))) count
-    ∙ (λ i. Some (record { name = name; subs = take-map sub_of (length r - 1) r i }, sub_bytes (last_is i)))
-    ∙ ap (λ b. Some (key_of name (take (length r - 1) r), b)) (sub_bytes_back last))
+subs_at : (ss : List Sub) (n : ℕ) (d : Sub) → n < length ss → first_sub (drop n ss) ≡ Some (get_or ss n d)
+subs_at [] n d h = absurd (omega arith)
+subs_at (s ∷ ss) zero d h = refl
+subs_at (s ∷ ss) (suc n) d h = subs_at ss n d (omega arith)
 
-pub level_made : (key above : Key) (r : List (List ℕ)) (name last : List ℕ) → map sub_of r ≡ key.subs → 1 ≤ length r → name ≡ key.name
-    → above ≡ key_of name (take (length r - 1) r) → last ≡ get_or r (length r - 1) last → level_of key ≡ Some (above, last)
-level_made key above r name last subs some is made e =
-    (λ i. level_of (record { name = sym is i; subs = sym subs i })) ∙ level_at name r last some e ∙ ap (λ k. Some (k, last)) (sym made)
+pub last_there : (subs : List Sub) (o : Option Sub) → length subs ≢ 0 → o ≡ first_sub (drop (length subs - 1) subs) → o ≡ Some (get_or subs (length subs - 1) (Text []))
+last_there subs o some e = e ∙ subs_at subs (length subs - 1) (Text []) (omega arith)
+
+pub level_made : (key above : Key) (last : List ℕ) → length key.subs ≢ 0 → above ≡ front_of (length key.subs - 1) key → Some (sub_of last) ≡ first_sub (drop (length key.subs - 1) key.subs)
+    → level_of key ≡ Some (above, last)
+level_made key above last some made e =
+    let whole : sub_of last ≡ get_or key.subs (length key.subs - 1) (Text []) = let there = last_there key.subs (Some (sub_of last)) some e in cc in
+    let bytes : sub_bytes (get_or key.subs (length key.subs - 1) (Text [])) ≡ last = ap sub_bytes (sym whole) ∙ sub_bytes_back last in
+    rw (ne_eqb (length key.subs) 0 some) (λ i. Some (sym made i, bytes i))

@@ -23,16 +23,16 @@ pub fn last_node(alloc: Global, len: usize, left: &[u8]) -> Result<Key, Fault>
 }
 
 /// A node without its last subscript, and that subscript.
-fn level_of(alloc: Global, key: &Key) -> Result<Option<(Key, Bytes)>, NoMemory>
+fn level_of(key: &Key) -> Result<Option<(Key, Bytes)>, NoMemory>
     ensures { ReadsPart (λ p. (p.0, p.1)) (level_of key.now) result }
 {
-    match key.subs() {
-        [] => Ok(None),
-        [front @ .., last] => match Key::new(alloc, key.name(), front) {
-            // a node without its last subscript is one too, so that only memory can be wanting
-            Err(_) => Err(NoMemory),
-            Ok(above) => Ok(Some((above, last.copy()?))),
-        },
+    let count = key.depth();
+    if count == 0 {
+        return Ok(None);
+    }
+    match key.sub_at(count - 1)? {
+        Some(last) => Ok(Some((key.front(count - 1)?, last))),
+        None => unreachable!(),
     }
 }
 
@@ -42,7 +42,7 @@ fn top_level(alloc: Global, text: &[u8]) -> Result<Option<(Key, Bytes)>, NoMemor
 {
     match Key::parse(alloc, text) {
         Ok(key) => {
-            if key.subs().is_empty() {
+            if key.depth() == 0 {
                 Ok(Some((key, Bytes::new(alloc))))
             } else {
                 Ok(None)
@@ -61,7 +61,7 @@ fn below_level(alloc: Global, text: &[u8]) -> Result<Option<(Key, Bytes)>, NoMem
     whole.push(b')')?;
     match Key::parse(alloc, whole.as_slice()) {
         Ok(key) => {
-            if MOST_ABOVE < key.subs().len() {
+            if MOST_ABOVE < key.depth() {
                 Ok(None)
             } else {
                 Ok(Some((key, Bytes::new(alloc))))
@@ -91,7 +91,7 @@ fn level_at(alloc: Global, text: &[u8]) -> Result<Option<(Key, Bytes)>, NoMemory
     ensures { ReadsPart (λ p. (p.0, p.1)) (level_reading text.now) result }
 {
     match Key::parse(alloc, text) {
-        Ok(key) => level_of(alloc, &key),
+        Ok(key) => level_of(&key),
         Err(KeyError::NoMemory) => Err(NoMemory),
         Err(_) => empty_level(alloc, text),
     }

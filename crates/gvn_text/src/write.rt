@@ -43,7 +43,7 @@ fn push_above(key: &Key, out: &mut Bytes) -> Result<(), NoMemory>
 {
     let mut node = Bytes::new(out.allocator());
     key.write(&mut node)?;
-    if key.subs().is_empty() {
+    if key.depth() == 0 {
         out.push_all(node.as_slice())?;
         return out.push_all(b"(");
     }

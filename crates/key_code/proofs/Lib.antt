@@ -4,4 +4,3 @@ pub mod Parts
 pub mod Texts
 pub mod Subscripts
 pub mod Behind
-pub mod Whole

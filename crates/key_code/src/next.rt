@@ -8,10 +8,10 @@ ghost use Rattle.gvn_key.specs.Decoding.{IsCode};
 ghost use Rattle.key_code.specs.Next.{Tells, Follows};
 ghost use Rattle.key_code.specs.Plain.{BeginWithName};
 
-use crate::code::is_any_code;
 use crate::name::name_len;
 use crate::plain::{LONGEST_KEY, MOST_SUBS, read_sub};
 use crate::told::Seen;
+use gvn_key::is_code;
 use std::cmp::Ordering;
 
 /// What a key's bytes tell whose subscripts stand from a place on, if these are 0, positive whole numbers and plain strings.
@@ -58,7 +58,7 @@ pub fn first_key(seen: &mut Seen, bytes: &[u8]) -> bool
         }
         None => {
             *seen = Seen::nothing();
-            is_any_code(bytes)
+            is_code(bytes)
         }
     }
 }

@@ -109,7 +109,30 @@ fn encodes(rt: &impl Abort, alloc: Global, row: &[u8]) {
     made.write(&mut out).expect(rt, "memory");
     same(rt, out.as_slice(), text);
     same(rt, made.name(), b"X");
-    holds(rt, made.subs().len() == subs.len(), text);
+    has_subs(rt, &made, &subs, text);
+    has_fronts(rt, alloc, &made, &subs);
+}
+
+/// These are the subscripts, all together and one by one.
+fn has_subs(rt: &impl Abort, made: &Key, subs: &[Bytes], text: &[u8]) {
+    holds(rt, made.depth() == subs.len(), text);
+    let all = made.subs().expect(rt, "memory");
+    holds(rt, all.len() == subs.len(), text);
+    for (i, sub) in subs.iter().enumerate() {
+        holds(rt, all.get(i) == Some(sub), text);
+        let one = made.sub_at(i).expect(rt, "memory").expect(rt, "a subscript");
+        same(rt, one.as_slice(), sub.as_slice());
+    }
+    holds(rt, made.sub_at(subs.len()).expect(rt, "memory").is_none(), text);
+}
+
+/// The key's fronts are those that the first subscripts make.
+fn has_fronts(rt: &impl Abort, alloc: Global, made: &Key, subs: &[Bytes]) {
+    for count in 0..subs.len() + 2 {
+        let front = made.front(count).expect(rt, "memory");
+        let again = Key::new(alloc, b"X", &subs[..count.min(subs.len())]).expect(rt, "a key");
+        same(rt, front.as_encoded(), again.as_encoded());
+    }
 }
 
 #[test]

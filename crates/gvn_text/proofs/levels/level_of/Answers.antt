@@ -1,9 +1,30 @@
-use Rattle.std.proofs.Common.{◌≡◌, sym, subst, get_or, ◌-◌, length}
-use Rattle.gvn_text.proofs.LevelLaws.{level_made}
+use Rattle.std.proofs.Common.{◌≡◌, ◌≢◌, ℕ, ◌-◌, length, drop, Option, None, option_map, sym, ap, ◌∙◌, eq-eqb, refl}
+use Rattle.global_defs.specs.Key.{Sub, sub_of}
+use Rattle.global_defs.specs.Evaluation.{first_sub}
+use Rattle.gvn_key.specs.Faults.{front_of}
+use Rattle.gvn_text.proofs.LevelLaws.{last_there, level_made}
 use Rattle.gvn_text.proofs.levels.level_of.Goals as goal
+use Rattle.gvn_text.proofs.levels.level_of.Goals.{In_ok-sub_at}
 
-pub returns-in_ok-copy-in-Ok : goal.returns-in_ok-copy-in-Ok
-returns-in_ok-copy-in-Ok c =
-    let copied : c.last-item.result ≡ c.in_ok-copy-in-Ok.field-0 = sym c.in_ok-copy-in-Ok.ensures in
-    level_made c.args.key.now c.in-Ok.above c.subs.result.now c.name.result.now c.in_ok-copy-in-Ok.field-0 c.subs.ensures c.in-len1-up.len_at_least c.name.ensures c.in-Ok.ensures.1
-    (subst (λ x. x ≡ get_or c.subs.result.now (length c.subs.result.now - 1) x) copied c.last-item.is)
+-- the subscript that is read, by how many the key has
+read : (c : In_ok-sub_at) → option_map sub_of c.in_ok-sub_at.field-0 ≡ first_sub (drop (length c.args.key.now.subs - 1) c.args.key.now.subs)
+read c = c.in_ok-sub_at.ensures ∙ ap (λ (n : ℕ). first_sub (drop (n - 1) c.args.key.now.subs)) c.depth-count.ensures
+
+some : (c : In_ok-sub_at) → length c.args.key.now.subs ≢ 0
+some c = λ z. c.if-count-eq0.false (c.depth-count.ensures ∙ z)
+
+pub returns-then-count-eq0 : goal.returns-then-count-eq0
+returns-then-count-eq0 c = rw (eq-eqb (length c.args.key.now.subs) 0 (sym c.depth-count.ensures ∙ c.if-count-eq0.true)) refl
+
+pub unreachable-requires : goal.unreachable-requires
+unreachable-requires c =
+    let at = (goal.at.unreachable-requires c).In_ok-sub_at in
+    let there = last_there c.args.key.now.subs None (some at) (ap (option_map sub_of) (sym c.in-None.is) ∙ read at) in
+    cc
+
+pub returns-in_ok-front-in-Some : goal.returns-in_ok-front-in-Some
+returns-in_ok-front-in-Some c =
+    let at = (goal.at.returns-in_ok-front-in-Some c).In_ok-sub_at in
+    level_made c.args.key.now c.in_ok-front-in-Some.field-0 c.in-Some.last (some at)
+    (c.in_ok-front-in-Some.ensures ∙ ap (λ (n : ℕ). front_of (n - 1) c.args.key.now) c.depth-count.ensures)
+    (ap (option_map sub_of) (sym c.in-Some.is) ∙ read at)

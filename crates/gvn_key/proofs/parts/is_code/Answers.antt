@@ -1,6 +1,6 @@
 use Rattle.std.proofs.Common.{take, refl}
-use Rattle.key_code.proofs.Whole.{none, not_begun}
-use Rattle.key_code.proofs.code.is_any_code.Goals as goal
+use Rattle.gvn_key.proofs.Whole.{none, not_begun}
+use Rattle.gvn_key.proofs.parts.is_code.Goals as goal
 
 pub returns-then-not-take : goal.returns-then-not-take
 returns-then-not-take c =

@@ -1,6 +1,6 @@
 use Rattle.std.proofs.Common.{take, length}
 use Rattle.key_prefix.specs.Rests.{IsAt}
-use Rattle.key_code.proofs.code.is_any_code.Given as goal
+use Rattle.gvn_key.proofs.parts.is_code.Given as goal
 
 -- the bytes so far are taken
 abbrev pub invariant-loop-byte : goal.invariant-loop-byte
