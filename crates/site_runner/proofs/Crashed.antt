@@ -22,7 +22,7 @@ use Rattle.site_runner.specs.declared.slot.Site.{Site}
 use Rattle.site_runner.specs.Sites.{state_value, IsOf}
 use Rattle.site_runner.specs.Steps.{IsAt, ExecutesAt}
 use Rattle.site_runner.proofs.Fused.{state_read}
-use Rattle.site_runner.proofs.Ats.{comes_done, not_early, state_at, first_cause, second_cause, no_cause, is_true_or_false, Leftovers, reads_stand, only, files_of, kept_same, ImagesStand, images_still, StandForOne, standing_there, at_image, so_of}
+use Rattle.site_runner.proofs.Ats.{comes_done, not_early, state_at, first_cause, second_cause, no_cause, is_true_or_false, Leftovers, reads_stand, only, files_of, kept_same, images_still, StandForOne, standing_there, at_image, so_of}
 
 pub fuse_stopped : (v : View) (s : Site) (calls : ℕ) (cause : Cause) (p : Place) → stopped (state_value s.state) ≡ Some cause → IsAt v s p → (fuse calls s.name p).early ≡ refused_with s.name (Some cause)
 fuse_stopped v s calls cause p e h = ap (refused_with s.name) (first_cause _ _ cause (state_at stopped v s p h ∙ e))

@@ -1,19 +1,19 @@
 -- All that a fault in a pick may leave, as a list.
-use Rattle.std.proofs.Common.{◌≡◌, ◌≤◌, ◌<◌, ◌+◌, ◌-◌, ◌==◌, ℕ, zero, suc, Bool, true, false, List, [], ◌∷◌, ◌++◌, length, map, take, drop, filter, get_or, Some, None, refl, sym, ◌∙◌, ap, subst, arith, inl, inr}
-use Rattle.std.specs.Prelude.{◌⊎◌, Option, ◌&&◌, ◌||◌, not, if◌then◌else◌, nat_le, nat_lt, min}
+use Rattle.std.proofs.Common.{◌≡◌, ◌≤◌, ◌<◌, ◌+◌, ◌-◌, ℕ, zero, suc, Bool, true, false, List, [], ◌∷◌, ◌++◌, length, map, take, drop, filter, get_or, Some, None, refl, sym, ◌∙◌, ap, subst, arith, inl, inr}
+use Rattle.std.specs.Prelude.{Option, ◌&&◌, ◌||◌, not, nat_le, nat_lt, min}
 use Rattle.std.specs.List.{flat_map, enumerate_from, cons_option}
 use Rattle.std.proofs.lemmas.Bool.{cases_lt, false≢true}
 use Rattle.std.proofs.lemmas.Bool.Decides.{nat_tests}
-use Rattle.std.proofs.lemmas.List.{take_all, length-drop, length-take-le}
+use Rattle.std.proofs.lemmas.List.{take_all, length-take-le}
 use Rattle.global_defs.specs.Entry.{Sequence}
 use Rattle.journal_defs.specs.Journal.{Part}
-use Rattle.journal_defs.specs.Instance.{InstanceRecord, NamedMode, regions, site_name}
+use Rattle.journal_defs.specs.Instance.{NamedMode, regions, site_name}
 use Rattle.journal_defs.specs.Directory.{Pattern, patterns}
 use Rattle.journal_defs.specs.Broken.{BrokenPart, broken_text}
 use Rattle.site_defs.specs.Lists.{Among}
 use Rattle.site_defs.specs.Contents.{Contents, Standing, bare}
-use Rattle.site_defs.specs.Fronts.{with_sequence, IsFrontOf}
-use Rattle.site_defs.specs.Behind.{parts_of_each, parts_in, left_of, text_left, AreKept, IsFrontLeft, MayStand}
+use Rattle.site_defs.specs.Fronts.{with_sequence}
+use Rattle.site_defs.specs.Behind.{parts_of_each, parts_in, text_left, AreKept, IsFrontLeft, MayStand}
 use Rattle.site_runner.proofs.Amongs.{among_first, among_second, among_either, among_map, among_flat, flat_among}
 
 -- all numbers up to one, and all lists of so many of them

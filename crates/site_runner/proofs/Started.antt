@@ -27,7 +27,7 @@ use Rattle.site_defs.specs.Opening.{MayBegin, opened, with_reign, next_stamp}
 use Rattle.world_defs.specs.Step.{LeftBy}
 use Rattle.world_defs.specs.Ties.{Matches}
 use Rattle.site_defs.specs.Stands.{IsSite, HasLeft, Stands, Reads}
-use Rattle.site_defs.specs.Behind.{IsSiteWith, StandsSo}
+use Rattle.site_defs.specs.Behind.{IsSiteWith}
 use Rattle.site_runner.specs.declared.slot.State.{State}
 use Rattle.site_runner.specs.declared.slot.State.TheVariants.{Down, Primary, Failed}
 use Rattle.site_runner.specs.declared.slot.Site.{Site}
