@@ -72,6 +72,9 @@ pub struct Machines<P> {
     pub(crate) cut: bool,
 }
 
+// How many frames may wait to be heard while more are shipped. It is few, so that what was heard gives its memory to what comes.
+const MOST_WAITING: usize = 3;
+
 // Makes BYE, where so many entries were taken and it isn't made yet.
 fn close(source: &mut Source, length: u64) -> Result<(), NoMemory>
     ensures made { (from : ℕ) (sent : List ℕ) (given : List (List ℕ)) → HasMade from length source.old sent given → HasMade from length source.new sent given }
@@ -284,7 +287,7 @@ impl<P: Drop> Machines<P> {
         ensures moves { IsTrue (T.sending tx.old).told → (T.sending tx.old).finished ≡ false → 0 < (T.sending tx.old).free → (IsSome self.old.failure → ⊥) → self.old.cut ≡ false
             → CanGive (E.ready entries.old) length self.old.source → OnOk result (HasSentOn (T.sending tx.old) (T.sending tx.new) ⊎ IsTrue self.new.cut) }
     {
-        if self.failure.is_some() || self.cut {
+        if self.failure.is_some() || self.cut || self.receiver.waiting() >= MOST_WAITING {
             return Ok(());
         }
         match ship(&mut self.source, length, entries, tx) {
