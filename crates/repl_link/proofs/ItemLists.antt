@@ -1,7 +1,7 @@
 -- The bytes in front of the end, of items put side by side.
 use Rattle.std.proofs.Common.{◌≡◌, ℕ, suc, ◌<◌, ◌≤◌, ◌+◌, Bool, true, false, List, [], ◌∷◌, ◌++◌, length, map, take, drop, get_or, ap, sym, refl, ◌∙◌, arith, append-nil, add-one, if◌then◌else◌}
 use Rattle.global_defs.specs.Prefix.{IsPrefix}
-use Rattle.std.proofs.lemmas.List.{take-append-drop, take-append-le, take-map, take-take, take_all, length-take-le}
+use Rattle.std.proofs.lemmas.List.{take-append-drop, take-map, take_all, length-take-le}
 use Rattle.std.proofs.Math.Seq.{drop-cons, take-append_seam}
 use Rattle.std.proofs.Common.{zero, ◌||◌}
 use Rattle.repl_link.specs.Items.{is_end, Symbol, Byte, End, bytes_of, has_end}
@@ -92,7 +92,3 @@ plain_at (Byte b ∷ items) (suc i) d below plain = plain_at items i d (omega (a
 pub is_mark : (s : Symbol) → is_end s ≡ true → s ≡ End
 is_mark (Byte b) is = cc
 is_mark End is = refl
-
--- the first items of a list that begins with some
-pub front_taken : {A : Type 0} → (n most : ℕ) (front rest : List A) → n ≤ length front → n ≤ most → take n (take most (front ++ rest)) ≡ take n front
-front_taken n most front rest fits few = take-take n most (front ++ rest) few ∙ take-append-le n front rest fits

@@ -1,6 +1,6 @@
 // The end of a link in memory that receives.
 ghost use Rattle.std.specs.Prelude.{◌≡◌, ◌<◌, ◌≤◌, ◌++◌, [], length, take, false, IsTrue};
-ghost use mathlib.Core.List.{IsPrefix};
+ghost use mathlib.Core.List.{IsPrefix as BeginsWith};
 ghost use Rattle.rtrb.specs.Ring.{received as items_received, known_items, SameConsumer};
 ghost use Rattle.repl_link.specs.Items.{has_end, Drained};
 
@@ -31,7 +31,19 @@ pub struct MemRx {
     ghost over: { IsTrue closed → IsTrue ended },
 }
 
-// Pops as many items as there are, and so many at most. It takes the ring by value, so that the loop over its places keeps their address.
+// Pops as many items as there are, and so many at most.
+fn pop_front(ring: &mut Consumer<Item>, items: &mut [Item], most: usize) -> usize
+    requires { most ≤ length items.old }
+    ensures ring { SameConsumer ring.old ring.new }
+    ensures count { result ≤ most }
+    ensures received { items_received ring.new ≡ items_received ring.old ++ take result items.new }
+    ensures known { BeginsWith (known_items ring.old) (take result items.new ++ known_items ring.new) }
+    ensures most { result < most → length (known_items ring.new) ≡ 0 }
+{
+    ring.pop_partial_slice(&mut items[..most])
+}
+
+// The same, which takes the ring by value, so that the loop over its places keeps their address.
 fn pop_most(
     mut ring: Consumer<Item>,
     places: (Vec<Item>, usize),
@@ -41,11 +53,11 @@ fn pop_most(
     ensures items { length result.1.0.items ≡ length places.0.items }
     ensures count { result.1.1 ≤ places.1 }
     ensures received { items_received result.0 ≡ items_received ring ++ take result.1.1 result.1.0.items }
-    ensures known { IsPrefix (known_items ring) (take result.1.1 result.1.0.items ++ known_items result.0) }
+    ensures known { BeginsWith (known_items ring) (take result.1.1 result.1.0.items ++ known_items result.0) }
     ensures most { result.1.1 < places.1 → length (known_items result.0) ≡ 0 }
 {
     let (mut items, most) = places;
-    let count = ring.pop_partial_slice(&mut items[..most]);
+    let count = pop_front(&mut ring, &mut items, most);
     (ring, (items, count))
 }
 
