@@ -39,6 +39,7 @@ fn key_of(alloc: Global, code: &[u8]) -> Result<Option<Key>, NoMemory>
 }
 
 /// The SET behind whose kind these bytes stand, and what follows it.
+#[tactic(auto, using(crate::proofs::Wholes::set_stands))]
 fn set_behind(alloc: Global, bytes: &[u8]) -> Result<Option<(Update, &[u8])>, NoMemory>
     ensures form { IfOk result (λ found. IfSome found (λ p. IsUpdate (update_value p.0))) }
     ensures cut { IfOk result (λ found. IfSome found (λ p. 1 ∷ bytes.now ≡ spelled_update (update_value p.0) ++ p.1.now)) }
@@ -59,15 +60,21 @@ fn set_behind(alloc: Global, bytes: &[u8]) -> Result<Option<(Update, &[u8])>, No
     Ok(Some((Update::Set(key, value), behind)))
 }
 
-/// The update at the front, and what follows it.
+/// The update at the front, and what follows it. A SET, as nearly all are, is read in one go.
 fn update_first(alloc: Global, bytes: &[u8]) -> Result<Option<(Update, &[u8])>, NoMemory>
     ensures form { IfOk result (λ found. IfSome found (λ p. IsUpdate (update_value p.0))) }
     ensures cut { IfOk result (λ found. IfSome found (λ p. bytes.now ≡ spelled_update (update_value p.0) ++ p.1.now)) }
 {
-    match bytes {
-        [1, rest @ ..] => set_behind(alloc, rest),
-        _ => read_update(alloc, bytes),
+    let Some((kind, rest)) = read_u8(bytes) else {
+        return Ok(None);
+    };
+    if kind == 1 {
+        return set_behind(alloc, rest);
     }
+    let Some((update, behind)) = read_update(alloc, bytes)? else {
+        return Ok(None);
+    };
+    Ok(Some((update, behind)))
 }
 
 /// So many updates at the front, and what follows them.
