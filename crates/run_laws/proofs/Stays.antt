@@ -1,5 +1,5 @@
 -- Entries stay: a line a command.
-use Rattle.std.proofs.Common.{◌≡◌, inl, inr, ℕ, zero, suc, ◌+◌, ◌-◌, Bool, true, false, cond, List, [], ◌∷◌, length, take, Option, Some, None, slice_get, IsTrue, refl, sym, ◌∙◌, ap, subst, arith}
+use Rattle.std.proofs.Common.{◌≡◌, inl, inr, ℕ, zero, suc, ◌+◌, ◌-◌, Bool, true, false, cond, List, [], ◌∷◌, length, take, Option, Some, None, slice_get, IsTrue, refl, sym, ap, subst, arith}
 use Rattle.std.specs.Prelude.{option_map}
 use Rattle.std.proofs.lemmas.Bool.{false≢true}
 use Rattle.std.proofs.lemmas.Option.{slice_get_within}
@@ -7,16 +7,16 @@ use Rattle.global_defs.specs.Entry.{Stamp, Entry, Sequence}
 use Rattle.global_defs.specs.Jobs.{Job}
 use Rattle.global_defs.specs.Serial.{Turn, begun}
 use Rattle.command_defs.specs.Commands.{Name, Command, Create, Attach, Map, StartPrimary, Run, Stop, Fuse, Crash, Extract, Zwrite, Show, Print}
-use Rattle.site_defs.specs.Contents.{Contents}
+use Rattle.site_defs.specs.Contents.{Contents, Standing}
 use Rattle.site_defs.specs.Fronts.{IsFrontOf, turn_of}
 use Rattle.site_defs.specs.Lists.{Among, first_where}
 use Rattle.site_defs.specs.Opening.{MayMap, MayBegin}
 use Rattle.world_defs.specs.World.{State, Down, Failed, Site, Place, World, Kept, MOST_SITES, is_free, name_on, place_of, next_of}
-use Rattle.world_defs.specs.Answers.{Answer, Section, Ran, Exists, NoSite, NoDisk, Refusal}
+use Rattle.world_defs.specs.Answers.{Answer, Section, Ran, Exists, NoDisk, Refusal}
 use Rattle.world_defs.specs.Changes.{in_new_state, Becomes, Fails, FailsUnchanged}
 use Rattle.world_defs.specs.Row.{Row, quiet}
-use Rattle.world_defs.specs.Meaning.{Meaning, apart, Acts, refusing, at_found, there, on_next, target, meaning, row_at}
-use Rattle.world_defs.specs.Step.{One, Goes, Step}
+use Rattle.world_defs.specs.Meaning.{apart, Acts, refusing, on_next, target, meaning, row_at}
+use Rattle.world_defs.specs.Step.{One, Step}
 use Rattle.world_defs.specs.Runs.{Told, Runs}
 use Rattle.world_defs.specs.rows.Attach.{ATTACHING, attach}
 use Rattle.world_defs.specs.rows.Crash.{Crashes}
@@ -29,6 +29,7 @@ use Rattle.world_defs.specs.rows.Start.{StartRefused, is_reign_limit, start}
 use Rattle.run_laws.specs.Entries.{IsEntryAt, IsSiteOf, HasEntry, KeepsEntries, NoEntryIsLost, IsReplied, HasReplied, turn_there, printed_by, IsPlaceOf}
 use Rattle.run_laws.proofs.Alongs.{along_same, along_through, along_each, along_at, along_there, along_finds, at_there, same_place}
 use Rattle.run_laws.proofs.Makes.{RowMakes, Makes, TargetMakes, Comes, goes_makes, acts_make, makes_there, target_makes, quiet_makes}
+use Rattle.run_laws.proofs.Owns.{owns}
 use Rattle.run_laws.proofs.Turns.{GoesOn, goes-serial, goes-further, begun_replies, get-front}
 
 -- what becomes of a place
@@ -69,8 +70,9 @@ entries-becomes state c p q f b name n e h = record {
 abbrev LeavesSequence : (Contents → Contents → Type 0) → Type 0
 LeavesSequence step = (c o : Contents) → step c o → o.sequence ≡ c.sequence
 
-entries-fails : (k : ℕ) (step : Contents → Contents → Type 0) (p q : Place) → LeavesSequence step → Fails k (in_new_state (Failed k) p.site) step p q → KeepsEntries p q
-entries-fails k step p q same f name n e h = record {
+entries-fails : (k : ℕ) (step : Contents → Contents → Type 0) (so : Option (List Standing) → Option (List Standing) → Type 0) (p q : Place) → LeavesSequence step
+    → Fails k (in_new_state (Failed k) p.site) step so p q → KeepsEntries p q
+entries-fails k step so p q same f name n e h = record {
   site = subst (IsSiteOf name) (sym f.site) (site-new name (Failed k) p.site h.site);
   now = λ t. let a = f.known.now (told t) in subst (IsEntryAt n e) (sym (same a.0 q.now a.2)) (h.outcomes (told t) a.0 a.1);
   outcomes = λ t o among. let a = f.known.outcomes (told t) o among in subst (IsEntryAt n e) (sym (same a.0 o a.2)) (h.outcomes (told t) a.0 a.1);
@@ -185,7 +187,7 @@ entries-start p = record {
   done = λ q none d. entries-becomes _ _ p q (λ name n e h t. subst (HasAt n e) (sym (d.as_before t)) (h.now t)) d.becomes;
   ran = λ s q d. absurd d;
   typed = λ text q d. absurd d;
-  fault = λ k q d. entries-fails k _ p q (same-begin (name_on p.site) p.left.broken) d;
+  fault = λ k q d. entries-fails k _ _ p q (same-begin (name_on p.site) p.left.broken) d;
   damage = λ file offset q d. entries-kept p q d.kept;
   refused = λ r q d. entries-start_refused (is_reign_limit r.cause) p q d;
   may_refuse = λ r q d. entries-kept p q d.2.kept;
@@ -196,7 +198,7 @@ entries-map region text p = record {
   done = λ q none d. entries-becomes _ _ p q (λ name n e h t. subst (HasAt n e) (sym (d.as_before t)) (h.now t)) d.becomes;
   ran = λ s q d. absurd d;
   typed = λ bytes q d. absurd d;
-  fault = λ k q d. entries-fails k _ p q (same-map region text) d;
+  fault = λ k q d. entries-fails k _ _ p q (same-map region text) d;
   damage = λ file offset q d. entries-kept p q d.kept;
   refused = λ r q d. entries-kept p q d;
   may_refuse = λ r q d. entries-kept p q d.2.kept;
@@ -316,21 +318,10 @@ keeps-runs w m (c ∷ cs) text h = along_through KeepsEntries entries-through w.
 
 -- what a section printed
 
-same_answer : (a b : Answer) → a ∷ [] ≡ b ∷ [] → a ≡ b
-same_answer a b e = cc
-
 -- the row at the site's place
 own : (w m : World) (name : Name) (jobs : List (List Job)) (order : List ℕ) (s : Section) (text : List ℕ) (p q : Place) → Step w (Run name jobs order) (Ran s ∷ []) m text → (at : IsPlaceOf name w m p q)
     → One at.number (row_at (run jobs order) p) apart (Ran s) w m text
-own w m name jobs order s text p q h at =
-    let acts = subst (λ (x : Meaning). Goes x (Ran s ∷ []) w m text) is h in
-    subst (λ (a : Answer). One at.number (row_at (run jobs order) p) apart a w m text) (sym (same_answer (Ran s) acts.0 acts.1)) acts.2
-  where
-    f : ℕ → Place → Meaning
-    f i x = Acts i (row_at (run jobs order) x) apart
-
-    is : there (refusing name NoSite) w (place_of w name) f ≡ f at.number p
-    is = ap (λ (o : Option ℕ). there (refusing name NoSite) w o f) at.named ∙ ap (λ (x : Option Place). at_found (refusing name NoSite) at.number x f) at.before
+own w m name jobs order s text p q h at = owns (run jobs order) w m name (Ran s) text at.number p at.named at.before h
 
 pub printed-text : (w m : World) (name : Name) (jobs : List (List Job)) (order : List ℕ) (s : Section) (text : List ℕ) (p q : Place) → Step w (Run name jobs order) (Ran s ∷ []) m text → IsPlaceOf name w m p q
     → text ≡ printed_by s jobs order p

@@ -6,18 +6,21 @@ use Rattle.std.proofs.Math.Seq.{take-length}
 use Rattle.disk_defs.specs.Disk.{Files, View, Image, IsLawful, AtEachMoment}
 use Rattle.site_store.specs.declared.site.OpenSite.{OpenSite}
 use Rattle.site_store.specs.Site.{IsOpen, Keeps}
+use Rattle.journal_defs.specs.Numbers.{INSTANCE}
 use Rattle.journal_defs.specs.Instance.{generation}
+use Rattle.site_store.proofs.Found.{instance_one, site_instance, blank_instance, site_made}
 use Rattle.site_defs.specs.Lists.{Among}
 use Rattle.world_defs.specs.World as world
 use Rattle.command_defs.specs.Commands.{Name}
-use Rattle.world_defs.specs.World.{Place, Kept}
-use Rattle.site_defs.specs.Contents.{Contents, Leftover, NO_LEFTOVER, is_made}
+use Rattle.world_defs.specs.World.{Place, Kept, StandAfter, StandAsBefore}
+use Rattle.site_defs.specs.Contents.{Contents, Leftover, Standing, NO_LEFTOVER, nothing, is_made, bare}
 use Rattle.world_defs.specs.Answers.{Cause, Stopped, Refusal, Section, Done, Refused, DiskFault, NotAFile, Ran, Typed, line, cause_text, refusal_line, fault_line, damage_line, Running}
 use Rattle.world_defs.specs.Row.{Row, first, in_state, or_else, refused_with, refusal_in, why_not_down}
 use Rattle.site_defs.specs.Fronts.{with_sequence}
 use Rattle.site_defs.specs.Opening.{IsBehind}
 use Rattle.world_defs.specs.Ties.{Matches}
 use Rattle.site_defs.specs.Stands.{IsSite, HasLeft, Stands, Reads}
+use Rattle.site_defs.specs.Behind.{IsStanding, IsSiteWith, StandsSo}
 use Rattle.site_runner.specs.declared.slot.State.{State}
 use Rattle.site_runner.specs.declared.slot.State.TheVariants.{Down, Primary, Failed}
 use Rattle.site_runner.specs.declared.slot.Site.{Site}
@@ -27,8 +30,25 @@ use Rattle.site_runner.specs.Sites.{state_value}
 use Rattle.site_runner.specs.Executes.{Comes}
 use Rattle.site_runner.specs.Steps.{IsAt, ExecutesAt}
 
+-- what is known of what lies behind stays
+pub stand_same : (x : Option (List Standing)) → StandAsBefore x x
+stand_same None = tt
+stand_same (Some os) = λ o a. (o, a, refl)
+
+pub stand_more : (x y : Option (List Standing)) (A B : Standing → Standing → Type 0) → ((s o : Standing) → A s o → B s o) → StandAfter A x y → StandAfter B x y
+stand_more None y A B f h = tt
+stand_more (Some os) None A B f h = h
+stand_more (Some os) (Some ns) A B f h = λ o a. let s = h o a in (s.0, s.1, f s.0 o s.2)
+
+-- what is known of an earlier place
+pub stand_earlier : (x y z : Option (List Standing)) (A : Standing → Standing → Type 0) → StandAsBefore x y → StandAfter A y z → StandAfter A x z
+stand_earlier None y z A h k = tt
+stand_earlier (Some os) None z A h k = absurd h
+stand_earlier (Some os) (Some ms) None A h k = k
+stand_earlier (Some os) (Some ms) (Some ns) A h k = λ o a. let m = k o a in let s = h m.0 m.1 in (s.0, s.1, subst (λ (x : Standing). A x o) s.2 m.2)
+
 pub kept_same : (p : Place) → Kept p p
-kept_same p = record { site = refl; now = refl; left = refl; known = record { told = refl; outcomes = λ o h. h }; faults = omega arith; simulated = refl }
+kept_same p = record { site = refl; now = refl; left = refl; known = record { told = refl; outcomes = λ o h. h; standings = λ t. stand_same p.standings }; faults = omega arith; simulated = refl }
 
 -- what a row comes to
 
@@ -186,6 +206,14 @@ some_outcome v p law m sure =
     let o = m.images sure r.0 r.2 in
     (o.0, o.1)
 
+-- so one of the standings
+pub some_standing : (v : View) (p : Place) → IsLawful v → Matches v p → p.told ≡ true → IfSome p.standings (λ os. (s : Standing) × Among os s)
+some_standing v p law m sure = among p.standings (m.standings sure)
+  where
+    among : (x : Option (List Standing)) → IfSome x (λ os. (c : Files) → Image v c → (o : Standing) × Among os o × StandsSo c o) → IfSome x (λ os. (s : Standing) × Among os s)
+    among None h = tt
+    among (Some os) h = let r = reads_image v law (told_is v.content _ (m.told sure)) in let o = h r.0 r.2 in (o.0, o.1)
+
 -- what the law of leftovers says
 abbrev pub Leftovers : Type 0
 Leftovers = record {
@@ -196,17 +224,73 @@ Leftovers = record {
   reads : (f : Files) (c : Contents) → Stands f c → (left : Leftover) × Reads f c left;
 }
 
+-- files stand for one thing at most
+abbrev pub StandForOne : Type 0
+StandForOne = (f : Files) (c o : Contents) → Stands f c → Stands f o → c ≡ o
+
+-- files that stand so stand for the contents
+pub so_stands : (f : Files) (o : Standing) → StandsSo f o → Stands f o.contents
+so_stands f o (inl blank) = inl (ap (λ (x : Standing). x.contents) blank.0, blank.1)
+so_stands f o (inr stands) = inr stands.site
+
+-- each image stands as one of these, where they are known
+abbrev pub ImagesStand : View → Option (List Standing) → Type 0
+ImagesStand w x = IfSome x (λ os. (c : Files) → Image w c → (o : Standing) × Among os o × StandsSo c o)
+
+-- so do those that there still are
+pub images_still : (v w : View) (x : Option (List Standing)) → ((c : Files) → Image w c → Image v c) → ImagesStand v x → ImagesStand w x
+images_still v w None from h = tt
+images_still v w (Some os) from h = λ c i. h c (from c i)
+
+-- what an image stands so is what it reads as
+standing_read : (leftovers : Leftovers) (one_only : StandForOne) (f : Files) (c : Contents) (left : Leftover) (o : Standing) → Reads f c left → StandsSo f o → o ≡ record { contents = c; broken = left.broken }
+standing_read leftovers one_only f c left o reads so =
+    let same : o.contents ≡ c = one_only f o.contents c (so_stands f o so) (reads_stand f c left reads) in
+    ap (λ (x : Contents). record { contents = x; broken = o.broken }) same ∙ ap (λ (t : List ℕ). record { contents = c; broken = t }) (by_case so reads same)
+  where
+    by_case : StandsSo f o → Reads f c left → o.contents ≡ c → o.broken ≡ left.broken
+    by_case (inl blank) (inl other) same = ap (λ (x : Standing). x.broken) blank.0 ∙ sym (ap (λ (l : Leftover). l.broken) other.1)
+    by_case (inl blank) (inr other) same = absurd (false≢true (sym (ap (λ (x : Standing). is_made x.contents) blank.0) ∙ ap is_made same ∙ other.0.made))
+    by_case (inr here) (inl other) same = absurd (false≢true (sym (ap is_made (same ∙ other.0)) ∙ here.site.made))
+    by_case (inr here) (inr other) same =
+        ap (λ (l : Leftover). l.broken)
+        (leftovers.one f c (record { broken = o.broken; torn = here.torn }) left (subst (λ (x : Contents). HasLeft f x (record { broken = o.broken; torn = here.torn })) same here.left) other.1)
+
+pub standing_there : (leftovers : Leftovers) (one_only : StandForOne) (f : Files) (c : Contents) (left : Leftover) (x : Option (List Standing)) → Reads f c left → IfSome x (λ os. (o : Standing) × Among os o × StandsSo f o)
+    → IfSome x (λ os. Among os (record { contents = c; broken = left.broken }))
+standing_there leftovers one_only f c left None reads h = tt
+standing_there leftovers one_only f c left (Some os) reads h = subst (Among os) (standing_read leftovers one_only f c left h.0 reads h.2) h.1
+
+-- a standing of the disk's own image
+pub at_image : (v : View) (f : Files) (x : Option (List Standing)) → Image v f → ImagesStand v x → IfSome x (λ os. (o : Standing) × Among os o × StandsSo f o)
+at_image v f None i h = tt
+at_image v f (Some os) i h = h f i
+
+-- what a disk that reads so stands so
+pub so_of : (f : Files) (c : Contents) (left : Leftover) → Reads f c left → StandsSo f (record { contents = c; broken = left.broken })
+so_of f c left (inl blank) = inl (ap (λ (x : Contents). record { contents = x; broken = left.broken }) blank.0 ∙ ap (λ (l : Leftover). record { contents = nothing; broken = l.broken }) blank.1, blank.2)
+so_of f c left (inr site) = inr (record { site = site.0; torn = left.torn; left = site.1 })
+
+-- nothing is written down of the next one
+pub stands_with : (f : Files) (o : Standing) → IsSiteWith f o → StandsSo f o
+stands_with f o is = inr (record { site = is.site; torn = []; left = is.left })
+
+-- a site's files that stand so are a site's
+pub standing_of : (f : Files) (c : Contents) (s : Standing) → IsSite f c → StandsSo f s → IsStanding f s
+standing_of f c s site (inl blank) = absurd (site_made f c site (instance_one (f INSTANCE) c.instance [] (site_instance f c site) (blank_instance (f INSTANCE) blank.1.instance)))
+standing_of f c s site (inr is) = is
+
 -- A place with these outcomes, for one of which each image stands: what its files read as, and what lies behind that.
-pub record ReadPlace (w : View) (p : Place) (site : Option world.Site) (outcomes : List Contents) : Type 0 where
+pub record ReadPlace (w : View) (p : Place) (site : Option world.Site) (outcomes : List Contents) (standings : Option (List Standing)) : Type 0 where
   pub now : Contents
   pub left : Leftover
   pub among : p.told ≡ true → Among outcomes now
   pub behind : p.told ≡ true → IsBehind now left
-  pub matches : Matches w (record { site = site; told = p.told; now = now; left = left; outcomes = outcomes; faults = w.faults; simulated = p.simulated })
+  pub matches : Matches w (record { site = site; told = p.told; now = now; left = left; outcomes = outcomes; standings = standings; faults = w.faults; simulated = p.simulated })
 
-pub place_of_images : (leftovers : Leftovers) (w : View) (p : Place) (site : Option world.Site) (outcomes : List Contents) → IsLawful w → w.simulated ≡ p.simulated → (p.told ≡ true → IsSome w.content)
-    → (p.told ≡ true → (c : Files) → Image w c → (o : Contents) × Among outcomes o × Stands c o) → ReadPlace w p site outcomes
-place_of_images leftovers w p site outcomes law same told images = elim (is_true_or_false p.told) [
+pub place_of_images : (leftovers : Leftovers) (w : View) (p : Place) (site : Option world.Site) (outcomes : List Contents) (standings : Option (List Standing)) → IsLawful w → w.simulated ≡ p.simulated → (p.told ≡ true → IsSome w.content)
+    → (p.told ≡ true → (c : Files) → Image w c → (o : Contents) × Among outcomes o × Stands c o) → (p.told ≡ true → ImagesStand w standings) → ReadPlace w p site outcomes standings
+place_of_images leftovers w p site outcomes standings law same told images stand = elim (is_true_or_false p.told) [
   | inl sure ↦
       let r = reads_image w law (told sure) in
       let o = images sure r.0 r.2 in
@@ -216,21 +300,27 @@ place_of_images leftovers w p site outcomes law same told images = elim (is_true
         left = left.0;
         among = λ _. o.1;
         behind = λ _. leftovers.behind r.0 o.0 left.0 left.1;
-        matches = record { told = λ _. subst (λ (x : Option Files). IsSomeAnd x (λ files. Reads files o.0 left.0)) (sym r.1) left.1; images = images; faults = refl; simulated = same };
+        matches = record { told = λ _. subst (λ (x : Option Files). IsSomeAnd x (λ files. Reads files o.0 left.0)) (sym r.1) left.1; images = images; standings = stand; faults = refl; simulated = same };
       }
   | inr not ↦ record {
     now = p.now;
     left = p.left;
     among = λ sure. absurd (false≢true (sym not ∙ sure));
     behind = λ sure. absurd (false≢true (sym not ∙ sure));
-    matches = record { told = λ sure. absurd (false≢true (sym not ∙ sure)); images = images; faults = refl; simulated = same };
+    matches = record { told = λ sure. absurd (false≢true (sym not ∙ sure)); images = images; standings = stand; faults = refl; simulated = same };
   }
 ]
 
 -- a place with one outcome, for which the disk and each image stand, with nothing behind it
 pub place_of_one : (w : View) (p : Place) (site : Option world.Site) (o : Contents) → w.simulated ≡ p.simulated → (p.told ≡ true → IsSomeAnd w.content (λ files. Reads files o NO_LEFTOVER))
-    → (p.told ≡ true → (c : Files) → Image w c → Stands c o) → Matches w (record { site = site; told = p.told; now = o; left = NO_LEFTOVER; outcomes = o ∷ []; faults = w.faults; simulated = p.simulated })
-place_of_one w p site o same reads images = record { told = reads; images = λ sure c i. (o, inl refl, images sure c i); faults = refl; simulated = same }
+    → (p.told ≡ true → (c : Files) → Image w c → StandsSo c (bare o)) → Matches w (record { site = site; told = p.told; now = o; left = NO_LEFTOVER; outcomes = o ∷ []; standings = Some (bare o ∷ []); faults = w.faults; simulated = p.simulated })
+place_of_one w p site o same reads images = record {
+  told = reads;
+  images = λ sure c i. (o, inl refl, so_stands c (bare o) (images sure c i));
+  standings = λ sure c i. (bare o, inl refl, images sure c i);
+  faults = refl;
+  simulated = same;
+}
 
 pub only : (o d : Contents) → Among (d ∷ []) o → o ≡ d
 only o d (inl h) = h
@@ -253,5 +343,9 @@ open_reads w nothing told c s law sure h =
     let left : HasLeft r.0 c NO_LEFTOVER = subst (λ seq. HasLeft r.0 (with_sequence c seq) NO_LEFTOVER) (take-length c.sequence) (nothing c (length c.sequence) s r.0 kept r.2) in
     subst (λ (x : Option Files). IsSomeAnd x (λ files. Reads files c NO_LEFTOVER)) (sym r.1) (inr (site, left))
 
-pub open_images : (w : View) (told : Bool) (c : Contents) (s : OpenSite) → told ≡ true → IsOpen w told c (length c.sequence) s → (f : Files) → Image w f → Stands f c
-open_images w told c s sure h f i = inr (open_site w c s (subst (λ (b : Bool). IsOpen w b c (length c.sequence) s) sure h) f i)
+pub open_images : (w : View) (nothing : NothingIsLeft w) (told : Bool) (c : Contents) (s : OpenSite) → told ≡ true → IsOpen w told c (length c.sequence) s → (f : Files) → Image w f → StandsSo f (bare c)
+open_images w nothing told c s sure h f i = inr (record {
+  site = open_site w c s (subst (λ (b : Bool). IsOpen w b c (length c.sequence) s) sure h) f i;
+  torn = [];
+  left = subst (λ seq. HasLeft f (with_sequence c seq) NO_LEFTOVER) (take-length c.sequence) (nothing c (length c.sequence) s f (h.kept sure) i);
+})

@@ -125,7 +125,7 @@ attached view w p q found s before now f e at_q t =
     let site : world.Site = record { name = name; state = world.Down } in
     let told : q.told ≡ true → p.told ≡ true = λ known. sym f.kept.known.told ∙ known in
     comes_done
-    (record { site = Some site; told = q.told; now = q.now; left = q.left; outcomes = q.outcomes; faults = q.faults; simulated = q.simulated })
+    (record { site = Some site; told = q.told; now = q.now; left = q.left; outcomes = q.outcomes; standings = q.standings; faults = q.faults; simulated = q.simulated })
     (not_refused w p q found (is_true_or_false p.told) f e)
     (record {
       name = name;
@@ -134,13 +134,13 @@ attached view w p q found s before now f e at_q t =
       site = refl;
       now = f.kept.now;
       left = f.kept.left;
-      known = record { told = f.kept.known.told; outcomes = f.kept.known.outcomes };
+      known = record { told = f.kept.known.told; outcomes = f.kept.known.outcomes; standings = f.kept.known.standings };
       named = λ known o a. let x = found_of found o (f.outcomes (told known) o a) in x.name;
       faults = f.kept.faults;
       simulated = f.kept.simulated;
     })
     (record {
-      disk = record { told = at_q.disk.told; images = at_q.disk.images; faults = at_q.disk.faults; simulated = at_q.disk.simulated };
+      disk = record { told = at_q.disk.told; images = at_q.disk.images; standings = at_q.disk.standings; faults = at_q.disk.faults; simulated = at_q.disk.simulated };
       site = refl;
       held = record { made = λ known. record { now = subst (IsOf name) (sym f.kept.now) (found_of found p.now (f.now (told known))); outcomes = λ o a. found_of found o (f.outcomes (told known) o a) }; state = tt };
     })

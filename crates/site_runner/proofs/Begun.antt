@@ -1,6 +1,6 @@
 -- What opening a site and beginning a reign make of its contents.
 use Rattle.std.proofs.Common.{◌≡◌, ℕ, zero, suc, ◌+◌, ◌≤◌, ◌<◌, ◌==◌, ◌||◌, ◌&&◌, max, nat_le, nat_lt, Bool, true, false, List, [], ◌∷◌, ◌++◌, length, filter, None, Some, refl, sym, ◌∙◌, ap, subst, arith, inl, inr, if◌then◌else◌}
-use Rattle.std.specs.Prelude.{◌⊎◌}
+use Rattle.std.specs.Prelude.{◌⊎◌, Option, map}
 use Rattle.std.proofs.Math.Path.{fun_ext}
 use Rattle.std.proofs.lemmas.Bool.{false≢true, le-leb, lt-ltb, ltb-true}
 use Rattle.std.proofs.lemmas.Bool.Decides.{leb_tells}
@@ -12,12 +12,14 @@ use Rattle.journal_defs.specs.Fit.{MOST_REIGNS}
 use Rattle.journal_laws.proofs.Runs.{reigns-cut, starts_by}
 use Rattle.command_defs.specs.Commands.{Name}
 use Rattle.site_defs.specs.Lists.{Among}
-use Rattle.site_defs.specs.Contents.{Contents}
+use Rattle.site_defs.specs.Contents.{Contents, Standing, bare}
+use Rattle.world_defs.specs.World.{StandAfter}
 use Rattle.world_defs.specs.Answers.{GenLimit, ReignLimit}
 use Rattle.world_defs.specs.rows.Start.{generation_limit, reign_limit}
 use Rattle.site_defs.specs.Limits.{LAST_GENERATION, LAST_CYCLE}
-use Rattle.site_defs.specs.Opening.{cut_there, start_of, starts_in, with_starts, opened, with_reign, next_stamp, MayBegin}
+use Rattle.site_defs.specs.Opening.{cut_there, start_of, starts_in, with_starts, opened, with_reign, next_stamp, MayBegin, MayBeginLeft}
 use Rattle.site_runner.specs.Sites.{IsOf}
+use Rattle.site_runner.proofs.Amongs.{among_first, among_second, among_either, among_map, map_among}
 
 -- A CUT leaves cycles, and the reigns that have begun by its length.
 
@@ -83,22 +85,6 @@ of_may_begin name broken c o h (inl (inl e)) = subst (IsOf name) (sym e) h
 of_may_begin name broken c o h (inl (inr k)) = subst (IsOf name) (sym k.1) (of_starts name broken k.0 c h)
 of_may_begin name broken c o h (inr e) = subst (IsOf name) (sym e) (of_begun name name (opened broken c) (of_opened name broken c h))
 
--- one list behind another
-
-pub in_first : (xs ys : List Contents) (o : Contents) → Among xs o → Among (xs ++ ys) o
-in_first [] ys o h = absurd h
-in_first (x ∷ xs) ys o (inl h) = inl h
-in_first (x ∷ xs) ys o (inr h) = inr (in_first xs ys o h)
-
-pub in_second : (xs ys : List Contents) (o : Contents) → Among ys o → Among (xs ++ ys) o
-in_second [] ys o h = h
-in_second (x ∷ xs) ys o h = inr (in_second xs ys o h)
-
-pub in_either : (xs ys : List Contents) (o : Contents) → Among (xs ++ ys) o → Among xs o ⊎ Among ys o
-in_either [] ys o h = inr h
-in_either (x ∷ xs) ys o (inl h) = inl (inl h)
-in_either (x ∷ xs) ys o (inr h) = elim (in_either xs ys o h) [ inl a ↦ inl (inr a) | inr b ↦ inr b ]
-
 pub nat_cases : (i d : ℕ) → i ≤ suc d → (i ≡ suc d) ⊎ (i ≤ d)
 nat_cases zero d le = inr (omega arith)
 nat_cases (suc i) zero le = inl (omega (arith, le))
@@ -161,20 +147,64 @@ among_begins name broken (c ∷ cs) o (inl e) = (c, inl refl, inl (inl e))
 among_begins name broken (c ∷ cs) o (inr (inl e)) = (c, inl refl, inr e)
 among_begins name broken (c ∷ cs) o (inr (inr h)) =
     let d : Contents = cut_there broken c in
-    elim (in_either (starts_up_to (length (regions d.instance)) d) (begins name broken cs) o h) [
+    elim (among_either (starts_up_to (length (regions d.instance)) d) (begins name broken cs) o h) [
       | inl a ↦ (c, inl refl, inl (inr (among_starts (length (regions d.instance)) d o a)))
       | inr b ↦ let k = among_begins name broken cs o b in (k.0, inr k.1, k.2)
     ]
 
 begins_of : (name : Name) (broken : List ℕ) (c : Contents) (cs : List Contents) (o : Contents) → MayBegin name broken c o → Among (begins name broken (c ∷ cs)) o
 begins_of name broken c cs o (inl (inl e)) = inl e
-begins_of name broken c cs o (inl (inr k)) = inr (inr (in_first _ (begins name broken cs) o (any_among k.0 (cut_there broken c) o k.1)))
+begins_of name broken c cs o (inl (inr k)) = inr (inr (among_first _ (begins name broken cs) o (any_among k.0 (cut_there broken c) o k.1)))
 begins_of name broken c cs o (inr e) = inr (inl e)
 
 pub begins_among : (name : Name) (broken : List ℕ) (cs : List Contents) (c o : Contents) → Among cs c → MayBegin name broken c o → Among (begins name broken cs) o
 begins_among name broken [] c o a m = absurd a
 begins_among name broken (d ∷ cs) c o (inl e) m = begins_of name broken d cs o (subst (λ (x : Contents). MayBegin name broken x o) e m)
-begins_among name broken (d ∷ cs) c o (inr a) m = inr (inr (in_second (starts_up_to (length (regions (cut_there broken d).instance)) (cut_there broken d)) _ o (begins_among name broken cs c o a m)))
+begins_among name broken (d ∷ cs) c o (inr a) m = inr (inr (among_second (starts_up_to (length (regions (cut_there broken d).instance)) (cut_there broken d)) _ o (begins_among name broken cs c o a m)))
+
+-- the same of standings, each with its own text
+
+-- with a CUT and its text, and the newest generation begun in the first regions
+abbrev cut_so : Standing → List Standing
+cut_so s = map bare (starts_up_to (length (regions (cut_there s.broken s.contents).instance)) (cut_there s.broken s.contents))
+
+abbrev begins_each : Name → List Standing → List Standing
+begins_each name [] = []
+begins_each name (s ∷ ss) = s ∷ bare (with_reign name (opened s.broken s.contents)) ∷ (cut_so s ++ begins_each name ss)
+
+abbrev pub begins_so : Name → Option (List Standing) → Option (List Standing)
+begins_so name None = None
+begins_so name (Some os) = Some (begins_each name os)
+
+begins_here : (name : Name) (s : Standing) (ss : List Standing) (o : Standing) → MayBeginLeft name s o → Among (begins_each name (s ∷ ss)) o
+begins_here name s ss o (inl (inl e)) = inl e
+begins_here name s ss o (inl (inr k)) =
+    let d : Contents = cut_there s.broken s.contents in
+    inr (inr (among_first (cut_so s) (begins_each name ss) o (subst (Among (cut_so s)) (sym k.1) (among_map bare (starts_up_to (length (regions d.instance)) d) (with_starts k.0 d) (any_among k.0 d (with_starts k.0 d) refl)))))
+begins_here name s ss o (inr e) = inr (inl e)
+
+pub begins_so_among : (name : Name) (os : List Standing) (s o : Standing) → Among os s → MayBeginLeft name s o → Among (begins_each name os) o
+begins_so_among name [] s o a m = absurd a
+begins_so_among name (x ∷ xs) s o (inl e) m = begins_here name x xs o (subst (λ (y : Standing). MayBeginLeft name y o) e m)
+begins_so_among name (x ∷ xs) s o (inr a) m = inr (inr (among_second (cut_so x) (begins_each name xs) o (begins_so_among name xs s o a m)))
+
+begun_each : (name : Name) (os : List Standing) (o : Standing) → Among (begins_each name os) o → (s : Standing) × Among os s × MayBeginLeft name s o
+begun_each name [] o h = absurd h
+begun_each name (s ∷ ss) o (inl e) = (s, inl refl, inl (inl e))
+begun_each name (s ∷ ss) o (inr (inl e)) = (s, inl refl, inr e)
+begun_each name (s ∷ ss) o (inr (inr h)) =
+    let d : Contents = cut_there s.broken s.contents in
+    elim (among_either (cut_so s) (begins_each name ss) o h) [
+      | inl a ↦
+          let k = map_among bare (starts_up_to (length (regions d.instance)) d) o a in
+          let starts = among_starts (length (regions d.instance)) d k.0 k.1 in
+          (s, inl refl, inl (inr (starts.0, k.2 ∙ ap bare starts.1)))
+      | inr b ↦ let k = begun_each name ss o b in (k.0, inr k.1, k.2)
+    ]
+
+pub begun_so : (name : Name) (x : Option (List Standing)) → StandAfter (MayBeginLeft name) x (begins_so name x)
+begun_so name None = tt
+begun_so name (Some os) = begun_each name os
 
 -- the tests of limits
 pub generation_past : (c : Contents) → 65534 ≤ generation c.instance → generation_limit c ≡ Some GenLimit

@@ -7,7 +7,7 @@ use Rattle.disk_defs.specs.Disk.{Files, View, Image, IsLawful, Reads}
 use Rattle.site_defs.specs.Lists.{Among}
 use Rattle.world_defs.specs.World as world
 use Rattle.world_defs.specs.World.{Place}
-use Rattle.site_defs.specs.Contents.{Contents, Leftover}
+use Rattle.site_defs.specs.Contents.{Contents, Leftover, Standing}
 use Rattle.world_defs.specs.Answers.{Cause, NotSimulated, line}
 use Rattle.world_defs.specs.Row.{refused_with, stopped, not_running, not_simulated}
 use Rattle.world_defs.specs.Changes.{in_new_state}
@@ -16,12 +16,13 @@ use Rattle.world_defs.specs.rows.Fuse.{fuse}
 use Rattle.site_defs.specs.Opening.{IsBehind}
 use Rattle.site_defs.specs.Stands as stands
 use Rattle.site_defs.specs.Stands.{Stands}
+use Rattle.site_defs.specs.Behind.{StandsSo}
 use Rattle.site_runner.specs.declared.slot.State.TheVariants.{Down}
 use Rattle.site_runner.specs.declared.slot.Site.{Site}
 use Rattle.site_runner.specs.Sites.{state_value, IsOf}
 use Rattle.site_runner.specs.Steps.{IsAt, ExecutesAt}
 use Rattle.site_runner.proofs.Fused.{state_read}
-use Rattle.site_runner.proofs.Ats.{comes_done, not_early, state_at, first_cause, second_cause, no_cause, is_true_or_false, Leftovers, reads_stand, only, files_of, kept_same}
+use Rattle.site_runner.proofs.Ats.{comes_done, not_early, state_at, first_cause, second_cause, no_cause, is_true_or_false, Leftovers, reads_stand, only, files_of, kept_same, images_still, StandForOne, standing_there, at_image, so_of}
 
 pub fuse_stopped : (v : View) (s : Site) (calls : ℕ) (cause : Cause) (p : Place) → stopped (state_value s.state) ≡ Some cause → IsAt v s p → (fuse calls s.name p).early ≡ refused_with s.name (Some cause)
 fuse_stopped v s calls cause p e h = ap (refused_with s.name) (first_cause _ _ cause (state_at stopped v s p h ∙ e))
@@ -45,42 +46,46 @@ record CrashPlace (f : Files) (p : Place) : Type 0 where
   among : p.told ≡ true → Among p.outcomes now
   behind : p.told ≡ true → IsBehind now left
   reads : p.told ≡ true → stands.Reads f now left
+  so : p.told ≡ true → IfSome p.standings (λ os. Among os (record { contents = now; broken = left.broken }))
 
-crash_place : (leftovers : Leftovers) (f : Files) (p : Place) → (p.told ≡ true → (o : Contents) × Among p.outcomes o × Stands f o) → CrashPlace f p
-crash_place leftovers f p images = elim (is_true_or_false p.told) [
+crash_place : (leftovers : Leftovers) (one_only : StandForOne) (f : Files) (p : Place) → (p.told ≡ true → (o : Contents) × Among p.outcomes o × Stands f o) → (p.told ≡ true → IfSome p.standings (λ os. (o : Standing) × Among os o × StandsSo f o)) → CrashPlace f p
+crash_place leftovers one_only f p images standing = elim (is_true_or_false p.told) [
   | inl sure ↦
       let o = images sure in
       let left = leftovers.reads f o.0 o.2 in
-      record { now = o.0; left = left.0; among = λ _. o.1; behind = λ _. leftovers.behind f o.0 left.0 left.1; reads = λ _. left.1 }
+      record { now = o.0; left = left.0; among = λ _. o.1; behind = λ _. leftovers.behind f o.0 left.0 left.1; reads = λ _. left.1; so = λ yes. standing_there leftovers one_only f o.0 left.0 p.standings left.1 (standing yes) }
   | inr not ↦ record {
     now = p.now;
     left = p.left;
     among = λ sure. absurd (false≢true (sym not ∙ sure));
     behind = λ sure. absurd (false≢true (sym not ∙ sure));
     reads = λ sure. absurd (false≢true (sym not ∙ sure));
+    so = λ sure. absurd (false≢true (sym not ∙ sure));
   }
 ]
 
-pub crashes : (leftovers : Leftovers) (v w : View) (s : Site) (before now : List ℕ) → IsLawful w → true ≡ v.simulated → not_running (state_value s.state) ≡ None → IfSome w.content (Image v)
+pub crashes : (leftovers : Leftovers) (one_only : StandForOne) (v w : View) (s : Site) (before now : List ℕ) → IsLawful w → true ≡ v.simulated → not_running (state_value s.state) ≡ None → IfSome w.content (Image v)
     → IfSome w.content (λ files. (c : Files) → Image w c → c ≡ files) → w.simulated ≡ v.simulated → w.faults ≡ v.faults → now ≡ before ++ line s.name (codes "CRASHED")
     → ExecutesAt (crash s.name) v s w (record { name = s.name; state = Down }) before now true
-crashes leftovers v w s before now law sim up image durable same count t p h =
+crashes leftovers one_only v w s before now law sim up image durable same count t p h =
     let d = files_of w.content (law.told (same ∙ sym sim)) in
     let f : Files = d.0 in
     let i : Image v f = subst (λ (o : Option Files). IfSome o (Image v)) d.1 image in
     let u : (c : Files) → Image w c → c ≡ f = subst (λ (o : Option Files). IfSome o (λ files. (c : Files) → Image w c → c ≡ files)) d.1 durable in
-    let m = crash_place leftovers f p (λ yes. h.disk.images yes f i) in
+    let m = crash_place leftovers one_only f p (λ yes. h.disk.images yes f i) (λ yes. at_image v f p.standings i (h.disk.standings yes)) in
     let o : Contents = m.now in
-    let q : Place = record { site = in_new_state world.Down p.site; told = p.told; now = o; left = m.left; outcomes = o ∷ []; faults = p.faults; simulated = p.simulated } in
+    let stands_so : Standing = record { contents = o; broken = m.left.broken } in
+    let q : Place = record { site = in_new_state world.Down p.site; told = p.told; now = o; left = m.left; outcomes = o ∷ []; standings = Some (stands_so ∷ []); faults = p.faults; simulated = p.simulated } in
     comes_done
     q
     (not_early s.name _ (no_cause _ _ (state_at not_running v s p h ∙ up) (simulated_at v s p true h sim)))
-    (record { site = refl; told = refl; chosen = m.among; left = m.behind; outcomes = refl; faults = omega arith; simulated = refl })
+    (record { site = refl; told = refl; chosen = m.among; left = m.behind; behind = m.so; outcomes = refl; standings = refl; faults = omega arith; simulated = refl })
     (
     record {
       disk = record {
         told = λ yes. subst (λ (x : Option Files). IsSomeAnd x (λ files. stands.Reads files o m.left)) (sym d.1) (m.reads yes);
         images = λ yes c j. (o, inl refl, subst (λ (x : Files). Stands x o) (sym (u c j)) (reads_stand f o m.left (m.reads yes)));
+        standings = λ yes c j. (stands_so, inl refl, subst (λ (x : Files). StandsSo x stands_so) (sym (u c j)) (so_of f o m.left (m.reads yes)));
         faults = count ∙ h.disk.faults;
         simulated = same ∙ h.disk.simulated;
       };
@@ -111,6 +116,7 @@ fused v w s calls before now r count sim up t p h =
         images = λ yes c j.
             let k = r.passes.images c j in
             h.disk.images yes c (subst (Image v) (sym k.2) k.1);
+        standings = λ yes. images_still v w p.standings (λ c j. let k = r.passes.images c j in subst (Image v) (sym k.2) k.1) (h.disk.standings yes);
         faults = count ∙ h.disk.faults;
         simulated = r.passes.simulated ∙ h.disk.simulated;
       };

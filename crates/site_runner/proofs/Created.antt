@@ -1,5 +1,5 @@
 -- CREATE at a place.
-use Rattle.std.proofs.Common.{◌≡◌, ◌⊎◌, ℕ, ◌≤◌, Bool, true, false, not, nat_le, if◌then◌else◌, List, [], ◌∷◌, ◌++◌, length, map, None, Some, refl, sym, ◌∙◌, ap, subst, arith, inl, inr, Ok, Err}
+use Rattle.std.proofs.Common.{◌≡◌, ◌⊎◌, ℕ, ◌≤◌, Bool, true, false, not, nat_le, if◌then◌else◌, List, [], ◌∷◌, ◌++◌, length, map, Option, None, Some, refl, sym, ◌∙◌, ap, subst, arith, inl, inr, Ok, Err}
 use Rattle.std.specs.Prelude.{Result, codes, IfSome, IsSome, IsSomeAnd, IsErrOf}
 use Rattle.std.specs.List.{list_all, AllByRecursion}
 use Rattle.std.specs.Char.{is_ascii_alphabetic, is_ascii_alphanumeric}
@@ -21,8 +21,8 @@ use Rattle.site_store.specs.Opening as store
 use Rattle.site_store.specs.Opening.{made, MayMake}
 use Rattle.site_defs.specs.Lists.{Among}
 use Rattle.world_defs.specs.World as world
-use Rattle.world_defs.specs.World.{Place, Kept}
-use Rattle.site_defs.specs.Contents.{Contents, NO_LEFTOVER, nothing, is_made, same_name}
+use Rattle.world_defs.specs.World.{Place, Kept, StandAfter}
+use Rattle.site_defs.specs.Contents.{Contents, Standing, NO_LEFTOVER, nothing, is_made, same_name, bare}
 use Rattle.world_defs.specs.Answers as answers
 use Rattle.world_defs.specs.Answers.{Answer, NotEmpty, Done, Refused, DiskFault, Ran, Typed, line}
 use Rattle.world_defs.specs.Row.{refused_with, caused, Here}
@@ -31,6 +31,9 @@ use Rattle.world_defs.specs.rows.Create as rows
 use Rattle.world_defs.specs.rows.Create.{named_mode, created, not_empty, create}
 use Rattle.world_defs.specs.Ties.{Matches}
 use Rattle.site_defs.specs.Stands.{IsBlank, IsSite, Stands, Reads}
+use Rattle.site_defs.specs.Behind.{StandsSo}
+use Rattle.journal_defs.specs.Numbers.{INSTANCE}
+use Rattle.site_store.proofs.Found.{instance_one, site_instance, blank_instance, site_made}
 use Rattle.site_runner.specs.declared.slot.State.TheVariants.{Down}
 use Rattle.site_runner.specs.declared.slot.Slot.{Slot}
 use Rattle.site_runner.specs.Sites.{IsOf}
@@ -38,6 +41,7 @@ use Rattle.site_runner.specs.Executes.{ExecutesHere, IsCutHere}
 use Rattle.site_runner.specs.Looking.{fits, Finds, LooksHere, Tells}
 use Rattle.site_runner.specs.Creating.{spec_of, IsUnmade, MakesHere, MakingIsCut}
 use Rattle.site_runner.proofs.Ats.{comes_done, comes_refused, comes_may_refuse, comes_fault, comes_damaged, some_outcome, is_true_or_false, some_both, some_of, some_and, told_is, stands_told, at_moment, Leftovers, ReadPlace, place_of_images, place_of_one, only}
+use Rattle.site_runner.proofs.Ats.{some_standing, stand_more, stand_earlier, ImagesStand}
 use Rattle.site_runner.proofs.Looked.{some_and_of, none_held, site_none}
 
 -- the regions of a command
@@ -86,6 +90,16 @@ none_made : (p : Place) → (p.told ≡ true) ⊎ (p.told ≡ false) → (p.told
 none_made p (inl known) f = rw (known, f known) refl
 none_made p (inr not) f = rw not refl
 
+-- nothing lies behind a site that was just made
+made_so : (leftovers : Leftovers) (f : Files) (name : Name) (regions : List Region) → IsSite f (created name regions) → StandsSo f (bare (created name regions))
+made_so leftovers f name regions site = inr (record { site = site; torn = []; left = leftovers.unbegun f (created name regions) site refl })
+
+-- nor behind a blank disk
+blank_so : (f : Files) (s : Standing) → IsBlank f → StandsSo f s → s ≡ bare nothing
+blank_so f s blank (inl none) = none.0
+blank_so f s blank (inr site) =
+    absurd (site_made f s.contents site.site (instance_one (f INSTANCE) s.contents.instance [] (site_instance f s.contents site.site) (blank_instance (f INSTANCE) blank.instance)))
+
 pub made_site : {D : Type 0} (leftovers : Leftovers) (view : D → View) (old : Slot D) (disk : D) (name : List ℕ) (specs : List RegionSpec) (rs : List (List ℕ × Bool)) (before now : List ℕ) → specs ≡ map spec_of rs → old.site ≡ None
     → IfSome (view old.disk).content (λ files. IsBlank files → IfSome (view disk).content (λ new. IsSite new (made name specs)))
     → IfSome (view old.disk).content (λ files. IsBlank files → ((f : Files) → Image (view old.disk) f → IsBlank f) → (f : Files) → Image (view disk) f → IsSite f (made name specs))
@@ -98,19 +112,19 @@ made_site leftovers view old disk name specs rs before now are free reads images
     let o : Contents = created name regions in
     let e : made name specs ≡ o = made_is name specs rs are in
     let site : world.Site = record { name = name; state = world.Down } in
-    let q : Place = record { site = Some site; told = p.told; now = o; left = NO_LEFTOVER; outcomes = o ∷ []; faults = w.faults; simulated = p.simulated } in
+    let q : Place = record { site = Some site; told = p.told; now = o; left = NO_LEFTOVER; outcomes = o ∷ []; standings = Some (bare o ∷ []); faults = w.faults; simulated = p.simulated } in
     let reads_so : p.told ≡ true → IsSomeAnd w.content (λ files. Reads files o NO_LEFTOVER) = λ known.
     let b = some_both v.content _ _ (stands_told v p h.disk known) reads in
     some_and w.content (λ files. IsSite files (made name specs)) (λ files. Reads files o NO_LEFTOVER) (λ f s. let x : IsSite f o = subst (IsSite f) e s in inr (x, leftovers.unbegun f o x refl))
     (some_and_of w.content (λ files. IsSite files (made name specs)) (still (told_is v.content _ (h.disk.told known))) (b.2 (is_blank b.0 p.now (u.now known) b.1).1)) in
     let blank : p.told ≡ true → (f : Files) → Image v f → IsBlank f = λ known f i. let x = h.disk.images known f i in (is_blank f x.0 (u.outcomes known x.0 x.1) x.2).1 in
-    let images_so : p.told ≡ true → (c : Files) → Image w c → Stands c o = λ known c i.
+    let images_so : p.told ≡ true → (c : Files) → Image w c → StandsSo c (bare o) = λ known c i.
     let b = some_both v.content _ _ (stands_told v p h.disk known) images in
-    inr (subst (IsSite c) e (b.2 (is_blank b.0 p.now (u.now known) b.1).1 (blank known) c i)) in
+    made_so leftovers c name regions (subst (IsSite c) e (b.2 (is_blank b.0 p.now (u.now known) b.1).1 (blank known) c i)) in
     comes_done
     q
     (ap (refused_with name) (none_made p (is_true_or_false p.told) u.now))
-    (record { site = refl; known = record { told = refl; now = refl; left = refl; outcomes = refl }; faults = omega (arith, later, h.disk.faults); simulated = refl })
+    (record { site = refl; known = record { told = refl; now = refl; left = refl; outcomes = refl; standings = refl }; faults = omega (arith, later, h.disk.faults); simulated = refl })
     (record {
       disk = place_of_one w p (Some site) o (same ∙ h.disk.simulated) reads_so images_so;
       site = refl;
@@ -137,15 +151,48 @@ making_images v w p name specs o k e m u known c i =
     let n = is_blank from.0 x.0 (u.outcomes known x.0 x.1) x.2 in
     elim (from.2 n.1) [ inl blank ↦ (x.0, inr x.1, inl (n.0, blank)) | inr site ↦ (o, inl refl, inr (subst (IsSite c) e site)) ]
 
+-- what images stand so then
+abbrev making_standings : Contents → Option (List Standing) → Option (List Standing)
+making_standings o None = None
+making_standings o (Some os) = Some (bare o ∷ os)
+
+making_so : (leftovers : Leftovers) (v w : View) (p : Place) (name : Name) (specs : List RegionSpec) (regions : List Region) → IsMaking v w name specs → made name specs ≡ created name regions → Matches v p → IsUnmade p → p.told ≡ true
+    → ImagesStand w (making_standings (created name regions) p.standings)
+making_so leftovers v w p name specs regions k e m u known = among p.standings (m.standings known)
+  where
+    o : Contents
+    o = created name regions
+
+    among : (x : Option (List Standing)) → ImagesStand v x → ImagesStand w (making_standings o x)
+    among None h = tt
+    among (Some os) h = λ c i.
+        let each = some_of v.content (AtEachMoment v w (MayMake v name specs)) (told_is v.content _ (m.told known)) k.any_moment in
+        let from = at_moment v w (MayMake v name specs) c k.lawful each i in
+        let x = m.images known from.0 from.1 in
+        let n = is_blank from.0 x.0 (u.outcomes known x.0 x.1) x.2 in
+        let s = h from.0 from.1 in
+        elim (from.2 n.1) [
+          | inl blank ↦ (s.0, inr s.1, inl (blank_so from.0 s.0 n.1 s.2, blank))
+          | inr site ↦ (bare o, inl refl, made_so leftovers c name regions (subst (IsSite c) e site))
+        ]
+
+new_or_old_so : (name : Name) (regions : List Region) (x : Option (List Standing)) → IfSome x (λ os. (s : Standing) × Among os s) → StandAfter (rows.MayMakeLeft name regions) x (making_standings (created name regions) x)
+new_or_old_so name regions None some = tt
+new_or_old_so name regions (Some os) some = λ o a. elim a [
+  | inl h ↦ (some.0, some.1, inr h)
+  | inr h ↦ (o, h, inl refl)
+]
+
 -- an outcome after the making
 new_or_old : (name : Name) (regions : List Region) (p : Place) (o : Contents) → ((x : Contents) × Among p.outcomes x) → Among (created name regions ∷ p.outcomes) o → After (rows.MayMake name regions) p.outcomes o
 new_or_old name regions p o some (inl h) = (some.0, some.1, inr h)
 new_or_old name regions p o some (inr h) = (o, h, inl refl)
 
-making_left : (leftovers : Leftovers) (v w : View) (p : Place) (name : Name) (specs : List RegionSpec) (o : Contents) → IsMaking v w name specs → made name specs ≡ o → Matches v p → IsUnmade p
-    → ReadPlace w p p.site (o ∷ p.outcomes)
-making_left leftovers v w p name specs o k e m u =
-    place_of_images leftovers w p p.site (o ∷ p.outcomes) k.lawful (k.simulated ∙ m.simulated) (λ known. k.still_told (told_is v.content _ (m.told known))) (making_images v w p name specs o k e m u)
+making_left : (leftovers : Leftovers) (v w : View) (p : Place) (name : Name) (specs : List RegionSpec) (regions : List Region) → IsMaking v w name specs → made name specs ≡ created name regions → Matches v p → IsUnmade p
+    → ReadPlace w p p.site (created name regions ∷ p.outcomes) (making_standings (created name regions) p.standings)
+making_left leftovers v w p name specs regions k e m u =
+    let o : Contents = created name regions in
+    place_of_images leftovers w p p.site (o ∷ p.outcomes) (making_standings o p.standings) k.lawful (k.simulated ∙ m.simulated) (λ known. k.still_told (told_is v.content _ (m.told known))) (making_images v w p name specs o k e m u) (making_so leftovers v w p name specs regions k e m u)
 
 abbrev pub Unwritten : SiteError → View → View → Type 0
 Unwritten (Failed fault) v w = (fault ≡ w.faults) × Rose v.faults w.faults
@@ -174,8 +221,8 @@ make_failed leftovers view old disk name specs rs (Failed fault) before now k ar
     let w = view disk in
     let regions = map script.region_value rs in
     let o : Contents = created name regions in
-    let m = making_left leftovers (view old.disk) w p name specs o k (made_is name specs rs are) h.disk u in
-    let q : Place = record { site = p.site; told = p.told; now = m.now; left = m.left; outcomes = o ∷ p.outcomes; faults = w.faults; simulated = p.simulated } in
+    let m = making_left leftovers (view old.disk) w p name specs regions k (made_is name specs rs are) h.disk u in
+    let q : Place = record { site = p.site; told = p.told; now = m.now; left = m.left; outcomes = o ∷ p.outcomes; standings = making_standings o p.standings; faults = w.faults; simulated = p.simulated } in
     let some = some_outcome (view old.disk) p k.was_lawful h.disk in
     comes_fault
     fault
@@ -183,7 +230,7 @@ make_failed leftovers view old disk name specs rs (Failed fault) before now k ar
     refl
     (record {
       site = site_none view old p free h;
-      known = record { told = refl; now = λ known. new_or_old name regions p m.now (some known) (m.among known); left = m.behind; outcomes = λ known x a. new_or_old name regions p x (some known) a };
+      known = record { told = refl; now = λ known. new_or_old name regions p m.now (some known) (m.among known); left = m.behind; outcomes = λ known x a. new_or_old name regions p x (some known) a; standings = λ known. new_or_old_so name regions p.standings (some_standing (view old.disk) p k.was_lawful h.disk known) };
       count = sym f.0;
       rose = subst (λ (x : ℕ). Rose p.faults x) (sym f.0) (subst (λ (x : ℕ). Rose x w.faults) h.disk.faults f.1);
       simulated = refl;
@@ -202,8 +249,8 @@ pub make_cut : {D : Type 0} (leftovers : Leftovers) (view : D → View) (old new
     → MakingIsCut view name (map script.region_value rs) old new
 make_cut leftovers view old new name specs rs k are p h u =
     let regions = map script.region_value rs in
-    let m = making_left leftovers (view old.disk) (view new.disk) p name specs (created name regions) k (made_is name specs rs are) h.disk u in
-    (record { site = p.site; told = p.told; now = m.now; left = m.left; outcomes = created name regions ∷ p.outcomes; faults = (view new.disk).faults; simulated = p.simulated }, record { told = refl; outcomes = λ known o a. inr (new_or_old name regions p o (some_outcome (view old.disk) p k.was_lawful h.disk known) a); faults = omega (arith, k.later, h.disk.faults); simulated = refl }, m.matches)
+    let m = making_left leftovers (view old.disk) (view new.disk) p name specs regions k (made_is name specs rs are) h.disk u in
+    (record { site = p.site; told = p.told; now = m.now; left = m.left; outcomes = created name regions ∷ p.outcomes; standings = making_standings (created name regions) p.standings; faults = (view new.disk).faults; simulated = p.simulated }, record { told = refl; outcomes = λ known o a. inr (new_or_old name regions p o (some_outcome (view old.disk) p k.was_lawful h.disk known) a); faults = omega (arith, k.later, h.disk.faults); simulated = refl }, m.matches)
 
 -- there was no memory for the regions
 pub make_not_begun : {D : Type 0} (view : D → View) (old : Slot D) (name : List ℕ) (regions : List Region) → MakingIsCut view name regions old old
@@ -221,6 +268,7 @@ create_failed view old new name regions (Failed fault) before now look t p h =
         now = λ known. let x = r.1.0.known.now known in (x.0, x.1, inl x.2);
         left = r.1.0.known.left;
         outcomes = λ known o a. let x = r.1.0.known.outcomes known o a in (x.0, x.1, inl x.2);
+        standings = λ known. stand_more p.standings r.0.standings (λ s o. o ≡ s) (rows.MayMakeLeft name regions) (λ s o e. inl e) (r.1.0.known.standings known);
       };
       count = r.1.0.count;
       rose = r.1.0.rose;
@@ -269,7 +317,7 @@ kept_behind p m q k l = record {
   site = l.site ∙ k.site;
   now = l.now ∙ k.now;
   left = l.left ∙ k.left;
-  known = record { told = l.known.told ∙ k.known.told; outcomes = λ o a. k.known.outcomes o (l.known.outcomes o a) };
+  known = record { told = l.known.told ∙ k.known.told; outcomes = λ o a. k.known.outcomes o (l.known.outcomes o a); standings = λ t. stand_earlier p.standings m.standings q.standings (λ s o. o ≡ s) (k.known.standings t) (l.known.standings (k.known.told ∙ t)) };
   faults = omega (arith, k.faults, l.faults);
   simulated = l.simulated ∙ k.simulated;
 }
@@ -285,7 +333,7 @@ here_behind regions name p m Done q t k h = (
   ap (refused_with name) (sym (same_empty p m k)) ∙ h.0,
   record {
     site = h.1.site;
-    known = record { told = h.1.known.told ∙ k.known.told; now = h.1.known.now; left = h.1.known.left; outcomes = h.1.known.outcomes };
+    known = record { told = h.1.known.told ∙ k.known.told; now = h.1.known.now; left = h.1.known.left; outcomes = h.1.known.outcomes; standings = h.1.known.standings };
     faults = omega (arith, k.faults, h.1.faults);
     simulated = h.1.simulated ∙ k.simulated;
   },
@@ -302,6 +350,7 @@ here_behind regions name p m (DiskFault fault) q t k h = (
       now = λ known. after_behind (rows.MayMake name regions) p m q.now k (h.1.known.now (k.known.told ∙ known));
       left = λ known. h.1.known.left (k.known.told ∙ known);
       outcomes = λ known o a. after_behind (rows.MayMake name regions) p m o k (h.1.known.outcomes (k.known.told ∙ known) o a);
+      standings = λ known. stand_earlier p.standings m.standings q.standings (rows.MayMakeLeft name regions) (k.known.standings known) (h.1.known.standings (k.known.told ∙ known));
     };
     count = h.1.count;
     rose = omega (arith, k.faults, h.1.rose);

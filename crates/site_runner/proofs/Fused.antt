@@ -14,5 +14,5 @@ ready_read_on v w (Failed fault) r h = tt
 
 pub state_read : (v w : View) (s : State) (p : Place) → Reads v w → HoldsState v s p → HoldsState w s p
 state_read v w Down p r h = tt
-state_read v w (Primary reign) p r h = record { reigns = open_read v w p.told p.now (length p.now.sequence) reign.site r h.reigns; settled = h.settled; left = h.left }
+state_read v w (Primary reign) p r h = record { reigns = open_read v w p.told p.now (length p.now.sequence) reign.site r h.reigns; settled = h.settled; left = h.left; standings = h.standings }
 state_read v w (Failed fault) p r h = tt

@@ -18,8 +18,10 @@ pub mod Lifts
 pub mod Stopped
 pub mod Fused
 pub mod Crashed
+pub mod Amongs
 pub mod Begun
 pub mod Started
+pub mod Kept
 pub mod Ran
 pub mod Next
 pub mod Looked

@@ -23,7 +23,7 @@ use Rattle.site_runner.specs.Sites.{site_value, HoldsSite}
 use Rattle.site_runner.specs.Tied.{IsPlace}
 use Rattle.site_runner.specs.Executes.{IsCutHere}
 use Rattle.site_runner.specs.Looking.{fits, LeavesOld, Sees, LooksHere}
-use Rattle.site_runner.proofs.Ats.{not_true, told_is, some_both, some_of, stands_told, at_moment, Leftovers, place_of_images}
+use Rattle.site_runner.proofs.Ats.{not_true, told_is, some_both, some_of, stands_told, at_moment, Leftovers, place_of_images, stand_same, ImagesStand, images_still}
 
 pub same_self : (a : Name) → same_name a a ≡ true
 same_self [] = refl
@@ -70,6 +70,7 @@ kept_among test (x ∷ os) o (inr h) t = put_behind (test x) x o (filter test os
 pub record IsLook (v w : View) : Type 1 where
   pub lawful : IsLawful w
   pub any_moment : IfSome v.content (λ _. AtEachMoment v w (StandsAsBefore v))
+  pub untouched : AtEachMoment v w (Image v)
   pub still_told : IsSome v.content → IsSome w.content
   pub simulated : w.simulated ≡ v.simulated
   pub later : v.faults ≤ w.faults
@@ -81,6 +82,10 @@ look_images v w p k m known c i =
     let from = at_moment v w (StandsAsBefore v) c k.lawful each i in
     let o = m.images known from.0 from.1 in
     (o.0, o.1, from.2 o.0 o.2)
+
+-- and as it stood before
+look_standings : (v w : View) (p : Place) → IsLook v w → Matches v p → p.told ≡ true → ImagesStand w p.standings
+look_standings v w p k m known = images_still v w p.standings (λ c i. at_moment v w (Image v) c k.lawful k.untouched i) (m.standings known)
 
 pub none_held : {D : Type 0} (view : D → View) (slot : Slot D) (q : Place) → slot.site ≡ None → HoldsSite (view slot.disk) slot.site q
 none_held view slot q free = subst (λ (o : Option Site). HoldsSite (view slot.disk) o q) (sym free) tt
@@ -101,11 +106,11 @@ saw : {D : Type 0} (view : D → View) (old : Slot D) (disk : D) (found : Option
 saw view old disk found k free is same alike p h =
     let v = view old.disk in
     let w = view disk in
-    let q : Place = record { site = p.site; told = p.told; now = p.now; left = p.left; outcomes = filter (fits found) p.outcomes; faults = w.faults; simulated = p.simulated } in
+    let q : Place = record { site = p.site; told = p.told; now = p.now; left = p.left; outcomes = filter (fits found) p.outcomes; standings = p.standings; faults = w.faults; simulated = p.simulated } in
     let now : p.told ≡ true → fits found p.now ≡ true = λ known. let b = some_both v.content _ _ (stands_told v p h.disk known) is in found_fits found p.now (b.2 p.now b.1) in (
       q,
       record {
-        kept = record { site = refl; now = refl; left = refl; known = record { told = refl; outcomes = λ o a. (among_kept (fits found) p.outcomes o a).0 }; faults = omega (arith, k.later, h.disk.faults); simulated = refl };
+        kept = record { site = refl; now = refl; left = refl; known = record { told = refl; outcomes = λ o a. (among_kept (fits found) p.outcomes o a).0; standings = λ t. stand_same p.standings }; faults = omega (arith, k.later, h.disk.faults); simulated = refl };
         now = now;
         outcomes = λ known o a. (among_kept (fits found) p.outcomes o a).1;
       },
@@ -116,6 +121,7 @@ saw view old disk found k free is same alike p h =
               let o = look_images v w p k h.disk known c i in
               let b = some_both v.content _ _ (stands_told v p h.disk known) alike in
               (o.0, kept_among (fits found) p.outcomes o.0 o.1 (fits_alike found p.now o.0 (b.2 p.now o.0 c b.1 i o.2) ∙ now known), o.2);
+          standings = λ known. look_standings v w p k h.disk known;
           faults = refl;
           simulated = k.simulated ∙ h.disk.simulated;
         };
@@ -127,12 +133,12 @@ saw view old disk found k free is same alike p h =
 -- a call failed, or there was no memory
 looked_before : {D : Type 0} (leftovers : Leftovers) (view : D → View) (old : Slot D) (disk : D) (p : Place) → IsLook (view old.disk) (view disk) → old.site ≡ None → IsPlace view old p
     → (now : Contents) × (left : Leftover) × (p.told ≡ true → Among p.outcomes now) × (p.told ≡ true → IsBehind now left)
-    × IsPlace view (record { disk = disk; site = old.site }) (record { site = p.site; told = p.told; now = now; left = left; outcomes = p.outcomes; faults = (view disk).faults; simulated = p.simulated })
+    × IsPlace view (record { disk = disk; site = old.site }) (record { site = p.site; told = p.told; now = now; left = left; outcomes = p.outcomes; standings = p.standings; faults = (view disk).faults; simulated = p.simulated })
 looked_before leftovers view old disk p k free h =
     let v = view old.disk in
     let w = view disk in
-    let m = place_of_images leftovers w p p.site p.outcomes k.lawful (k.simulated ∙ h.disk.simulated) (λ known. k.still_told (told_is v.content _ (h.disk.told known))) (λ known c i. look_images v w p k h.disk known c i) in
-    let q : Place = record { site = p.site; told = p.told; now = m.now; left = m.left; outcomes = p.outcomes; faults = w.faults; simulated = p.simulated } in
+    let m = place_of_images leftovers w p p.site p.outcomes p.standings k.lawful (k.simulated ∙ h.disk.simulated) (λ known. k.still_told (told_is v.content _ (h.disk.told known))) (λ known c i. look_images v w p k h.disk known c i) (λ known. look_standings v w p k h.disk known) in
+    let q : Place = record { site = p.site; told = p.told; now = m.now; left = m.left; outcomes = p.outcomes; standings = p.standings; faults = w.faults; simulated = p.simulated } in
     (m.now, m.left, m.among, m.behind, record { disk = m.matches; site = h.site; held = none_held view (record { disk = disk; site = old.site }) q free })
 
 abbrev pub Unread : SiteError → View → View → Type 0
@@ -149,18 +155,18 @@ left_so : {D : Type 0} (leftovers : Leftovers) (view : D → View) (old : Slot D
     → (q : Place) × LeavesOld p q × IsPlace view (record { disk = disk; site = old.site }) q
 left_so leftovers view old disk k free p h =
     let m = looked_before leftovers view old disk p k free h in
-    (record { site = p.site; told = p.told; now = m.0; left = m.1; outcomes = p.outcomes; faults = (view disk).faults; simulated = p.simulated }, record { told = refl; outcomes = λ known o a. a; faults = omega (arith, k.later, h.disk.faults); simulated = refl }, m.4)
+    (record { site = p.site; told = p.told; now = m.0; left = m.1; outcomes = p.outcomes; standings = p.standings; faults = (view disk).faults; simulated = p.simulated }, record { told = refl; outcomes = λ known o a. a; faults = omega (arith, k.later, h.disk.faults); simulated = refl }, m.4)
 
 saw_nothing : {D : Type 0} (leftovers : Leftovers) (view : D → View) (old : Slot D) (disk : D) (e : SiteError) → IsLook (view old.disk) (view disk) → old.site ≡ None → Unread e (view old.disk) (view disk) → LooksHere view old (record { disk = disk; site = old.site }) (Err e)
 saw_nothing leftovers view old disk (Failed fault) k free u p h =
     let w = view disk in
     let m = looked_before leftovers view old disk p k free h in
-    let q : Place = record { site = p.site; told = p.told; now = m.0; left = m.1; outcomes = p.outcomes; faults = w.faults; simulated = p.simulated } in (
+    let q : Place = record { site = p.site; told = p.told; now = m.0; left = m.1; outcomes = p.outcomes; standings = p.standings; faults = w.faults; simulated = p.simulated } in (
       q,
       (
         record {
           site = site_none view old p free h;
-          known = record { told = refl; now = λ known. (m.0, m.2 known, refl); left = m.3; outcomes = λ known o a. (o, a, refl) };
+          known = record { told = refl; now = λ known. (m.0, m.2 known, refl); left = m.3; outcomes = λ known o a. (o, a, refl); standings = λ known. stand_same p.standings };
           count = sym u.0;
           rose = subst (λ (x : ℕ). Rose p.faults x) (sym u.0) (subst (λ (x : ℕ). Rose x w.faults) h.disk.faults u.1);
           simulated = refl;
@@ -173,13 +179,14 @@ saw_nothing leftovers view old disk (NotAFile file offset) k free u p h =
     let v = view old.disk in
     let w = view disk in
     let unknown : p.told ≡ false = not_true p.told (λ known. let b = some_both v.content _ _ (stands_told v p h.disk known) u in b.2 p.now b.1) in
-    let q : Place = record { site = p.site; told = p.told; now = p.now; left = p.left; outcomes = p.outcomes; faults = w.faults; simulated = p.simulated } in (
+    let q : Place = record { site = p.site; told = p.told; now = p.now; left = p.left; outcomes = p.outcomes; standings = p.standings; faults = w.faults; simulated = p.simulated } in (
       q,
-      record { unknown = unknown; kept = record { site = refl; now = refl; left = refl; known = record { told = refl; outcomes = λ o a. a }; faults = omega (arith, k.later, h.disk.faults); simulated = refl } },
+      record { unknown = unknown; kept = record { site = refl; now = refl; left = refl; known = record { told = refl; outcomes = λ o a. a; standings = λ t. stand_same p.standings }; faults = omega (arith, k.later, h.disk.faults); simulated = refl } },
       record {
         disk = record {
           told = λ known. absurd (false≢true (sym unknown ∙ known));
           images = λ known. absurd (false≢true (sym unknown ∙ known));
+          standings = λ known. absurd (false≢true (sym unknown ∙ known));
           faults = refl;
           simulated = k.simulated ∙ h.disk.simulated;
         };

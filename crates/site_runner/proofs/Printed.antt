@@ -20,7 +20,7 @@ use Rattle.site_runner.specs.declared.slot.Site.{Site}
 use Rattle.site_runner.specs.Sites.{state_value, HoldsState}
 use Rattle.site_runner.specs.Steps.{IsAt, ExecutesAt, IsCutAt}
 use Rattle.site_runner.proofs.Fused.{state_read}
-use Rattle.site_runner.proofs.Ats.{comes_refused, comes_may_refuse, comes_fault, comes_typed, refused_late, none_refused, state_at, is_true_or_false, some_both, reads_site}
+use Rattle.site_runner.proofs.Ats.{comes_refused, comes_may_refuse, comes_fault, comes_typed, refused_late, none_refused, state_at, is_true_or_false, some_both, reads_site, stand_same, images_still}
 use Rattle.site_runner.proofs.Seen.{counted, kept_counted}
 
 pub print_stopped : (g : ℕ) (v : View) (s : Site) (cause : Cause) (p : Place) → stopped (state_value s.state) ≡ Some cause → IsAt v s p → (print g s.name p).early ≡ refused_with s.name (Some cause)
@@ -30,7 +30,7 @@ print_stopped g v s cause p e h = ap (refused_with s.name) (state_at stopped v s
 
 state_counted : (w : View) (s : State) (p : Place) (n : ℕ) → HoldsState w s p → HoldsState w s (counted p n)
 state_counted w Down p n h = tt
-state_counted w (Primary r) p n h = record { reigns = h.reigns; settled = h.settled; left = h.left }
+state_counted w (Primary r) p n h = record { reigns = h.reigns; settled = h.settled; left = h.left; standings = h.standings }
 state_counted w (Failed k) p n h = tt
 
 read_at : (v w : View) (s : Site) (p : Place) → disk.Reads v w → IsAt v s p → IsAt w s (counted p w.faults)
@@ -38,6 +38,7 @@ read_at v w s p r h = record {
   disk = record {
     told = λ sure. subst (λ (x : Option Files). IsSomeAnd x (λ files. Reads files p.now p.left)) (sym r.content) (h.disk.told sure);
     images = λ sure f i. let k = r.passes.images f i in h.disk.images sure f (subst (Image v) (sym k.2) k.1);
+    standings = λ sure. images_still v w p.standings (λ f i. let k = r.passes.images f i in subst (Image v) (sym k.2) k.1) (h.disk.standings sure);
     faults = refl;
     simulated = r.passes.simulated ∙ h.disk.simulated;
   };
@@ -109,19 +110,19 @@ print_fault g v w s k before now r up count rose t p h =
     let state = in_new_state (world.Failed k) p.site in
     comes_fault
     k
-    (record { site = state; told = p.told; now = p.now; left = p.left; outcomes = p.outcomes; faults = w.faults; simulated = p.simulated })
+    (record { site = state; told = p.told; now = p.now; left = p.left; outcomes = p.outcomes; standings = p.standings; faults = w.faults; simulated = p.simulated })
     (ap (refused_with s.name) (up_at v s p h up))
     (record {
       site = refl;
       now = refl;
       left = refl;
-      known = record { told = refl; outcomes = λ o m. m };
+      known = record { told = refl; outcomes = λ o m. m; standings = λ t. stand_same p.standings };
       count = sym count;
       rose = subst (λ (x : ℕ). Rose p.faults x) (sym count) (subst (λ (x : ℕ). Rose x w.faults) h.disk.faults rose);
       simulated = refl;
     })
     (record {
-      disk = record { told = a.disk.told; images = a.disk.images; faults = refl; simulated = a.disk.simulated };
+      disk = record { told = a.disk.told; images = a.disk.images; standings = a.disk.standings; faults = refl; simulated = a.disk.simulated };
       site = ap (in_new_state (world.Failed k)) h.site;
       held = record { made = λ sure. record { now = (h.held.made sure).now; outcomes = (h.held.made sure).outcomes }; state = tt };
     })

@@ -19,12 +19,13 @@ use Rattle.site_defs.specs.Lists.{Among}
 use Rattle.world_defs.specs.World as world
 use Rattle.command_defs.specs.Commands.{Name}
 use Rattle.world_defs.specs.World.{Place}
-use Rattle.site_defs.specs.Contents.{Contents, Leftover, NO_LEFTOVER}
+use Rattle.site_defs.specs.Contents.{Contents, Leftover, Standing, NO_LEFTOVER, bare}
 use Rattle.world_defs.specs.Answers.{Section, line, Cause}
 use Rattle.world_defs.specs.Row.{refused_with, in_state, why_not_primary, refusal_in}
 use Rattle.world_defs.specs.Changes.{in_new_state}
 use Rattle.site_defs.specs.Fronts.{with_sequence, IsFrontOf, turn_of}
 use Rattle.site_defs.specs.Opening.{IsBehind}
+use Rattle.site_defs.specs.Behind.{MayStand}
 use Rattle.world_defs.specs.rows.Run.{RunMayLeaveOn, one_further, undecided_line, section_text, turn_on, run}
 use Rattle.site_defs.specs.Texts.{reply_line}
 use Rattle.world_defs.specs.Ties.{Matches}
@@ -34,8 +35,11 @@ use Rattle.site_runner.specs.declared.slot.Site.{Site}
 use Rattle.site_runner.specs.Sites.{state_value, site_value, IsOf}
 use Rattle.site_runner.specs.Steps.{IsAt, ExecutesAt, IsCutAt}
 use Rattle.site_runner.proofs.Ats.{comes_ran, not_early, some_outcome, state_at, told_is, reads_image, Leftovers, NothingIsLeft, place_of_images, place_of_one, only, open_site, open_reads, open_images}
+use Rattle.site_runner.proofs.Ats.{ImagesStand, stands_with}
+use Rattle.site_runner.proofs.Kept.{stands_within, may_stand_among, may_stand_is}
 use Rattle.site_runner.proofs.Stopped.{reigns_at, length_tagged}
-use Rattle.site_runner.proofs.Begun.{nat_cases, in_first, in_second, in_either}
+use Rattle.site_runner.proofs.Amongs.{among_first, among_second, among_either}
+use Rattle.site_runner.proofs.Begun.{nat_cases}
 
 -- What jobs are left doesn't depend on what they come to.
 
@@ -108,24 +112,26 @@ front_among : (c : Contents) (all : Sequence) (low : ℕ) (o : Contents) → IsF
 front_among c all low o f = among_fronts c all low (length all - low) (f.count - low) o (omega (arith, f.least, f.most)) (f.is ∙ ap (λ (n : ℕ). with_sequence c (take n all)) (omega (arith, f.least)))
 
 -- a place at which each image stands for a front
-pub record FrontPlace (w : View) (p : Place) (state : Option world.Site) (all : Sequence) (low : ℕ) : Type 1 where
+pub record FrontPlace (w : View) (p : Place) (state : Option world.Site) (all : Sequence) (low : ℕ) (standings : Option (List Standing)) : Type 1 where
+  pub inside : p.told ≡ true → low ≤ length all
   pub now : Contents
   pub left : Leftover
   pub front : p.told ≡ true → IsFrontOf all low p.now now
   pub behind : p.told ≡ true → IsBehind now left
   pub fronts_all : p.told ≡ true → (o : Contents) → Among (fronts p.now all low (length all - low)) o → IsFrontOf all low p.now o
-  pub matches : Matches w (record { site = state; told = p.told; now = now; left = left; outcomes = fronts p.now all low (length all - low); faults = w.faults; simulated = p.simulated })
+  pub matches : Matches w (record { site = state; told = p.told; now = now; left = left; outcomes = fronts p.now all low (length all - low); standings = standings; faults = w.faults; simulated = p.simulated })
 
-pub front_place : (leftovers : Leftovers) (w : View) (p : Place) (state : Option world.Site) (all : Sequence) (low : ℕ) → IsLawful w → w.simulated ≡ p.simulated → MayHaveFront w p.told p.now all low → FrontPlace w p state all low
-front_place leftovers w p state all low law same may =
+pub front_place : (leftovers : Leftovers) (w : View) (p : Place) (state : Option world.Site) (all : Sequence) (low : ℕ) (standings : Option (List Standing)) → IsLawful w → w.simulated ≡ p.simulated → MayHaveFront w p.told p.now all low → (p.told ≡ true → ImagesStand w standings)
+    → FrontPlace w p state all low standings
+front_place leftovers w p state all low standings law same may stand =
     let list = fronts p.now all low (length all - low) in
     let low_is : p.told ≡ true → low ≤ length all = λ sure.
     let k = reads_image w law (may.told sure) in
     let o = may.images sure k.0 k.2 in
     omega (arith, o.1.least, o.1.most) in
     let all_fronts : p.told ≡ true → (o : Contents) → Among list o → IsFrontOf all low p.now o = λ sure o a. are_fronts p.now all low (length all - low) (omega (arith, low_is sure)) o a in
-    let m = place_of_images leftovers w p state list law same may.told (λ sure c i. let o = may.images sure c i in (o.0, front_among p.now all low o.0 o.1, inr o.2)) in
-    record { now = m.now; left = m.left; front = λ sure. all_fronts sure m.now (m.among sure); behind = m.behind; fronts_all = all_fronts; matches = m.matches }
+    let m = place_of_images leftovers w p state list standings law same may.told (λ sure c i. let o = may.images sure c i in (o.0, front_among p.now all low o.0 o.1, inr o.2)) stand in
+    record { inside = low_is; now = m.now; left = m.left; front = λ sure. all_fronts sure m.now (m.among sure); behind = m.behind; fronts_all = all_fronts; matches = m.matches }
 
 of_sequence : (name : Name) (c : Contents) (seq : Sequence) → IsOf name c → IsOf name (with_sequence c seq)
 of_sequence name c seq h = record { made = h.made; name = h.name }
@@ -140,7 +146,7 @@ ran v w nothing s r new jobs order before middle now law whole st stamped same l
     let turn : Turn = turn_of stamp r.serials jobs order p.now.sequence in
     let state : world.State = world.Primary stamp turn.serials in
     let o : Contents = with_sequence p.now turn.sequence in
-    let q : Place = record { site = in_new_state state p.site; told = p.told; now = o; left = NO_LEFTOVER; outcomes = o ∷ []; faults = w.faults; simulated = p.simulated } in
+    let q : Place = record { site = in_new_state state p.site; told = p.told; now = o; left = NO_LEFTOVER; outcomes = o ∷ []; standings = Some (bare o ∷ []); faults = w.faults; simulated = p.simulated } in
     let ends : Section = record { picks = order; fault = None } in
     let count : length new.site.entries.items ≡ length turn.sequence = length_tagged new.site.entries.items turn.sequence 1 d.reigns.remembered.entries in
     let text : turn_on p.site jobs ends.picks p ≡ turn = ap (λ (x : Option world.Site). turn_on x jobs ends.picks p) (site_is v s r p st h) in
@@ -156,16 +162,16 @@ ran v w nothing s r new jobs order before middle now law whole st stamped same l
       picks = refl;
       ran = record {
         all_decided = used_up stamp r.serials jobs order p.now.sequence whole;
-        becomes = record { site = refl; known = record { told = refl; now = refl; left = refl; outcomes = refl }; faults = omega (arith, later, h.disk.faults); simulated = refl };
+        becomes = record { site = refl; known = record { told = refl; now = refl; left = refl; outcomes = refl; standings = refl }; faults = omega (arith, later, h.disk.faults); simulated = refl };
       };
     })
     (record {
-      disk = place_of_one w p q.site o (same ∙ h.disk.simulated) (λ sure. open_reads w nothing p.told o new.site law sure d.reigns) (λ sure. open_images w p.told o new.site sure d.reigns);
+      disk = place_of_one w p q.site o (same ∙ h.disk.simulated) (λ sure. open_reads w nothing p.told o new.site law sure d.reigns) (λ sure. open_images w nothing p.told o new.site sure d.reigns);
       site = ap (in_new_state state) h.site ∙ ap (λ (x : List ℕ). Some (record { name = s.name; state = world.Primary stamp x })) (sym d.serials)
           ∙ ap (λ (x : Stamp). Some (record { name = s.name; state = world.Primary x new.serials })) stamp_new;
       held = record {
         made = λ sure. let k = of_sequence s.name p.now turn.sequence (h.held.made sure).now in record { now = k; outcomes = λ x j. subst (IsOf s.name) (sym (only x o j)) k };
-        state = record { reigns = d.reigns; settled = λ sure x j. only x o j; left = λ sure. refl };
+        state = record { reigns = d.reigns; settled = λ sure x j. only x o j; left = λ sure. refl; standings = λ sure. refl };
       };
     })
     (t ∙ ap (λ (x : List ℕ). x ++ line s.name (codes "AT " ++ decimal (length new.site.entries.items))) d.text
@@ -188,13 +194,20 @@ ran_to_fault leftovers v w s r jobs order k undecided before middle now was law 
     let may : MayHaveFront w p.told p.now all low = subst (λ (n : ℕ). MayHaveFront w p.told p.now (turn_of stamp r.serials jobs (take (n + 1) order) p.now.sequence).sequence low) (sym many) a.front in
     let ends : Section = record { picks = picks; fault = Some k } in
     let state = in_new_state (world.Failed k) p.site in
-    let front = front_place leftovers w p state all low law (same ∙ h.disk.simulated) may in
+    let list : List Standing = stands_within p.now turn.sequence all in
+    let stand : p.told ≡ true → ImagesStand w (Some list) = λ sure files i.
+    let x = a.left sure files i in (
+      x.standing,
+      may_stand_among p.now turn.sequence all x.standing (subst (λ (n : ℕ). MayStand p.now turn.sequence (turn_of stamp r.serials jobs (take (n + 1) order) p.now.sequence).sequence x.standing) (sym many) x.may),
+      stands_with files x.standing x.stands,
+    ) in
+    let front = front_place leftovers w p state all low (Some list) law (same ∙ h.disk.simulated) may stand in
     let text : turn_on p.site jobs ends.picks p ≡ turn = ap (λ (x : Option world.Site). turn_on x jobs ends.picks p) (site_is v s r p st h) in
     let rest : undecided ≡ length order - length turn.replies = omega (arith, a.count) in
     let of = λ (sure : p.told ≡ true) (o : Contents) (g : IsFrontOf all low p.now o). subst (IsOf s.name) (sym g.is) (of_sequence s.name p.now (take g.count all) (h.held.made sure).now) in
     comes_ran
     ends
-    (record { site = state; told = p.told; now = front.now; left = front.left; outcomes = fronts p.now all low (length all - low); faults = w.faults; simulated = p.simulated })
+    (record { site = state; told = p.told; now = front.now; left = front.left; outcomes = fronts p.now all low (length all - low); standings = Some list; faults = w.faults; simulated = p.simulated })
     (none_primary v s r jobs order p st h)
     (record {
       stamp = stamp;
@@ -208,6 +221,7 @@ ran_to_fault leftovers v w s r jobs order k undecided before middle now was law 
           now = λ sure. let x = some_outcome v p was h.disk sure in (x.0, x.1, front.front sure);
           left = front.behind;
           outcomes = λ sure o j. let x = some_outcome v p was h.disk sure in (x.0, x.1, front.fronts_all sure o j);
+          standings = λ sure o j. may_stand_is p.now turn.sequence all o (front.inside sure) j;
         };
         count = sym count;
         rose = subst (λ (x : ℕ). Rose p.faults x) (sym count) (subst (λ (x : ℕ). Rose x w.faults) h.disk.faults rose);
@@ -236,9 +250,9 @@ run_cut leftovers v w s r jobs order was law st same later f p h =
     let m : ℕ = d.0 in
     let low : ℕ = d.1 in
     let all = (turn_of (stamp_of r) r.serials jobs (take m order) p.now.sequence).sequence in
-    let front = front_place leftovers w p p.site all low law (same ∙ h.disk.simulated) d.3 in
+    let front = front_place leftovers w p p.site all low None law (same ∙ h.disk.simulated) d.3 (λ sure. tt) in
     let lower : (o : Contents) → IsFrontOf all low p.now o → IsFrontOf all (length p.now.sequence) p.now o = λ o g. record { count = g.count; least = omega (arith, d.2, g.least); most = g.most; is = g.is } in (
-      record { site = p.site; told = p.told; now = front.now; left = front.left; outcomes = fronts p.now all low (length all - low); faults = w.faults; simulated = p.simulated },
+      record { site = p.site; told = p.told; now = front.now; left = front.left; outcomes = fronts p.now all low (length all - low); standings = None; faults = w.faults; simulated = p.simulated },
       record {
         told = refl;
         outcomes = λ sure o a. let x = some_outcome v p was h.disk sure in
@@ -287,7 +301,7 @@ all_fronts f (suc k) c low = fronts_if (low - length (f (suc k))) c (f (suc k)) 
 
 are_all_fronts : (f : ℕ → Sequence) (k : ℕ) (c : Contents) (low : ℕ) (o : Contents) → Among (all_fronts f k c low) o → (n : ℕ) × IsFrontOf (f n) low c o
 are_all_fronts f zero c low o a = (0, are_fronts_if (low - length (f 0)) c (f 0) low o refl a)
-are_all_fronts f (suc k) c low o a = elim (in_either (fronts_if (low - length (f (suc k))) c (f (suc k)) low) (all_fronts f k c low) o a) [
+are_all_fronts f (suc k) c low o a = elim (among_either (fronts_if (low - length (f (suc k))) c (f (suc k)) low) (all_fronts f k c low) o a) [
   | inl h ↦ (suc k, are_fronts_if (low - length (f (suc k))) c (f (suc k)) low o refl h)
   | inr h ↦ are_all_fronts f k c low o h
 ]
@@ -295,8 +309,8 @@ are_all_fronts f (suc k) c low o a = elim (in_either (fronts_if (low - length (f
 front_among_all : (f : ℕ → Sequence) (k n : ℕ) (c : Contents) (low : ℕ) (o : Contents) → n ≤ k → IsFrontOf (f n) low c o → Among (all_fronts f k c low) o
 front_among_all f zero n c low o le h = front_if_among (low - length (f 0)) c (f 0) low o refl (subst (λ (m : ℕ). IsFrontOf (f m) low c o) (omega (arith, le)) h)
 front_among_all f (suc k) n c low o le h = elim (nat_cases n k le) [
-  | inl same ↦ in_first _ _ o (front_if_among (low - length (f (suc k))) c (f (suc k)) low o refl (subst (λ (m : ℕ). IsFrontOf (f m) low c o) same h))
-  | inr less ↦ in_second _ _ o (front_among_all f k n c low o less h)
+  | inl same ↦ among_first _ _ o (front_if_among (low - length (f (suc k))) c (f (suc k)) low o refl (subst (λ (m : ℕ). IsFrontOf (f m) low c o) same h))
+  | inr less ↦ among_second _ _ o (front_among_all f k n c low o less h)
 ]
 
 take_past : (n : ℕ) (order : List ℕ) → length order ≤ n → take n order ≡ take (length order) order
@@ -331,8 +345,8 @@ run_cut_any leftovers v w s r jobs order was law st same later f p h =
     let low : ℕ = length p.now.sequence in
     let runs : ℕ → Sequence = runs_of (stamp_of r) r.serials jobs order p.now.sequence in
     let list = all_fronts runs (length order) p.now low in
-    let m = place_of_images leftovers w p p.site list law (same ∙ h.disk.simulated) d.told (λ is c i. let o = d.images is c i in (o.0, among_runs (stamp_of r) r.serials jobs order p.now o.0 o.1.0 o.1.1, inr o.2)) in (
-      record { site = p.site; told = p.told; now = m.now; left = m.left; outcomes = list; faults = w.faults; simulated = p.simulated },
+    let m = place_of_images leftovers w p p.site list None law (same ∙ h.disk.simulated) d.told (λ is c i. let o = d.images is c i in (o.0, among_runs (stamp_of r) r.serials jobs order p.now o.0 o.1.0 o.1.1, inr o.2)) (λ sure. tt) in (
+      record { site = p.site; told = p.told; now = m.now; left = m.left; outcomes = list; standings = None; faults = w.faults; simulated = p.simulated },
       record {
         told = refl;
         outcomes = λ is o a. let k = are_all_fronts runs (length order) p.now low o a in

@@ -10,14 +10,14 @@ use Rattle.gvn_model.specs.Reigns.{stamp_value}
 use Rattle.journal_defs.specs.Instance.{generation, regions, site_name}
 use Rattle.site_store.specs.declared.site.OpenSite.{OpenSite}
 use Rattle.site_store.specs.Site.{Remembers, IsOpen}
-use Rattle.site_store.specs.Opening.{MayBeOpen, EachStands}
+use Rattle.site_store.specs.Opening.{MayBeOpen, MayBeOpenWith, EachStands}
 use Rattle.repl_section.specs.declared.reign.Reign.{Reign}
 use Rattle.repl_section.specs.Reigns.{stamp_in, stamp_of}
 use Rattle.command_defs.specs.Commands.{Name}
 use Rattle.site_defs.specs.Lists.{Among}
 use Rattle.world_defs.specs.World as world
 use Rattle.world_defs.specs.World.{Place}
-use Rattle.site_defs.specs.Contents.{Contents, Leftover, NO_LEFTOVER}
+use Rattle.site_defs.specs.Contents.{Contents, Leftover, Standing, NO_LEFTOVER, bare}
 use Rattle.world_defs.specs.Answers.{Cause, Stopped, Running, GenLimit, ReignLimit, line}
 use Rattle.world_defs.specs.Row.{first, refused_with, in_state, why_not_down}
 use Rattle.world_defs.specs.Changes.{in_new_state, After}
@@ -27,6 +27,7 @@ use Rattle.site_defs.specs.Opening.{MayBegin, opened, with_reign, next_stamp}
 use Rattle.world_defs.specs.Step.{LeftBy}
 use Rattle.world_defs.specs.Ties.{Matches}
 use Rattle.site_defs.specs.Stands.{IsSite, HasLeft, Stands, Reads}
+use Rattle.site_defs.specs.Behind.{IsSiteWith}
 use Rattle.site_runner.specs.declared.slot.State.{State}
 use Rattle.site_runner.specs.declared.slot.State.TheVariants.{Down, Primary, Failed}
 use Rattle.site_runner.specs.declared.slot.Site.{Site}
@@ -35,9 +36,10 @@ use Rattle.site_runner.specs.Executes.{Comes}
 use Rattle.site_runner.specs.Steps.{IsAt, ExecutesAt, IsCutAt}
 use Rattle.site_runner.specs.Starting.{IsOpenedAt, BeginsAt, IsCutOpened}
 use Rattle.site_runner.proofs.Ats.{comes_done, comes_refused, comes_may_refuse, comes_fault, comes_damaged, refused_late, none_refused, kept_same, not_true, is_true_or_false, some_both, told_is, is_site, reads_site, stands_told, at_moment, reads_image, Leftovers, NothingIsLeft, ReadPlace, place_of_images, place_of_one, only, open_reads, open_images, state_at}
+use Rattle.site_runner.proofs.Ats.{StandForOne, ImagesStand, images_still, standing_there, at_image, standing_of, stands_with}
 use Rattle.site_runner.proofs.Seen.{counted, kept_counted}
 use Rattle.site_runner.proofs.Stopped.{length_tagged}
-use Rattle.site_runner.proofs.Begun.{limit_opened, stamp_opened, of_opened, of_begun, of_may_begin, begins, among_begins, begins_among, generation_past, generation_left}
+use Rattle.site_runner.proofs.Begun.{limit_opened, stamp_opened, of_opened, of_begun, of_may_begin, begins, among_begins, begins_among, begins_so, begins_so_among, begun_so, generation_past, generation_left}
 
 -- why a site isn't down
 pub why_at : (s : Site) (state : State) (p : Place) → s.state ≡ state → p.site ≡ Some (site_value s) → in_state why_not_down p.site ≡ why_not_down (state_value state)
@@ -69,7 +71,7 @@ not_limited p (inl sure) g r = limited_told p None None sure (g sure) (r sure)
 not_limited p (inr unsure) g r = ap (λ (b : Bool). if b then first (generation_limit p.now ∷ reign_limit p.now ∷ []) else None) unsure
 
 unknown_matches : (w : View) (p : Place) → p.told ≡ false → w.simulated ≡ p.simulated → Matches w (counted p w.faults)
-unknown_matches w p unsure same = record { told = λ sure. absurd (false≢true (sym unsure ∙ sure)); images = λ sure. absurd (false≢true (sym unsure ∙ sure)); faults = refl; simulated = same }
+unknown_matches w p unsure same = record { told = λ sure. absurd (false≢true (sym unsure ∙ sure)); images = λ sure. absurd (false≢true (sym unsure ∙ sure)); standings = λ sure. absurd (false≢true (sym unsure ∙ sure)); faults = refl; simulated = same }
 
 -- a site that is down at a place whose files aren't known
 pub unknown_at : (w : View) (s : Site) (p : Place) → s.state ≡ Down → p.site ≡ Some (site_value s) → p.told ≡ false → w.simulated ≡ p.simulated → IsAt w s (counted p w.faults)
@@ -92,17 +94,16 @@ HasGenerations v = IfSome v.content (λ files. (c : Contents) → IsSite files c
 abbrev pub OpensAtMoments : View → View → Type 0
 OpensAtMoments v w = IfSome v.content (λ files. (c : Contents) (left : Leftover) → IsSite files c → HasLeft files c left → AtEachMoment v w (MayBeOpen v left.broken))
 
+abbrev pub OpensSo : View → View → Type 0
+OpensSo v w = IfSome v.content (λ files. (c : Contents) → IsSite files c → AtEachMoment v w (MayBeOpenWith v))
+
 each_stands : (v : View) (p : Place) → Matches v p → p.told ≡ true → EachStands v
 each_stands v p m sure f i = let o = m.images sure f i in (o.0, o.2)
 
--- files stand for one thing at most
-abbrev pub StandForOne : Type 0
-StandForOne = (f : Files) (c o : Contents) → Stands f c → Stands f o → c ≡ o
-
-opened_told : (one_only : StandForOne) (v w : View) (s : Site) (o : OpenSite) (p : Place) → IsLawful v → s.state ≡ Down → IsAt v s p → site_name o.instance.records ≡ s.name → p.told ≡ true
+opened_told : (leftovers : Leftovers) (one_only : StandForOne) (v w : View) (s : Site) (o : OpenSite) (p : Place) → IsLawful v → s.state ≡ Down → IsAt v s p → site_name o.instance.records ≡ s.name → p.told ≡ true
     → Opens v w o → HasGenerations v
     → w.simulated ≡ v.simulated → v.faults ≤ w.faults → IsOpenedAt w s o p
-opened_told one_only v w s o p law down h name sure told drawn same later =
+opened_told leftovers one_only v w s o p law down h name sure told drawn same later =
     let made : IsMade s.name p = h.held.made sure in
     let read = reads_image v law (told_is v.content _ (h.disk.told sure)) in
     let reads = subst (λ (x : Option Files). IsSomeAnd x (λ files. Reads files p.now p.left)) read.1 (h.disk.told sure) in
@@ -123,6 +124,7 @@ opened_told one_only v w s o p law down h name sure told drawn same later =
       as_left = λ _. refl;
       is_open = record { remembered = one.remembered; kept = λ _. one.kept refl };
       outcome = λ _. (p.now, subst (λ (x : Contents). Among p.outcomes x) same_out out.1, one);
+      standing = λ _. standing_there leftovers one_only read.0 p.now p.left p.standings reads (at_image v read.0 p.standings read.2 (h.disk.standings sure));
       drawn = λ _. generation_left p.now (drawn_here p.now site.0);
       faults = omega (arith, later, h.disk.faults);
       simulated = same ∙ h.disk.simulated;
@@ -141,16 +143,17 @@ opened_untold v w s o p down h name unsure read same later = record {
   as_left = λ sure. absurd (false≢true (sym unsure ∙ sure));
   is_open = record { remembered = read.2; kept = λ sure. absurd (false≢true (sym unsure ∙ sure)) };
   outcome = λ sure. absurd (false≢true (sym unsure ∙ sure));
+  standing = λ sure. absurd (false≢true (sym unsure ∙ sure));
   drawn = λ sure. absurd (false≢true (sym unsure ∙ sure));
   faults = omega (arith, later, h.disk.faults);
   simulated = same ∙ h.disk.simulated;
 }
 
-pub opened_at : (one_only : StandForOne) (v w : View) (s : Site) (o : OpenSite) (p : Place) → IsLawful v → s.state ≡ Down → IsAt v s p → site_name o.instance.records ≡ s.name → ((c : Contents) × (broken : List ℕ) × Remembers (opened broken c) (length c.sequence) o)
+pub opened_at : (leftovers : Leftovers) (one_only : StandForOne) (v w : View) (s : Site) (o : OpenSite) (p : Place) → IsLawful v → s.state ≡ Down → IsAt v s p → site_name o.instance.records ≡ s.name → ((c : Contents) × (broken : List ℕ) × Remembers (opened broken c) (length c.sequence) o)
     → Opens v w o → HasGenerations v
     → w.simulated ≡ v.simulated → v.faults ≤ w.faults → IsOpenedAt w s o p
-opened_at one_only v w s o p law down h name read told drawn same later = elim (is_true_or_false p.told) [
-  | inl sure ↦ opened_told one_only v w s o p law down h name sure told drawn same later
+opened_at leftovers one_only v w s o p law down h name read told drawn same later = elim (is_true_or_false p.told) [
+  | inl sure ↦ opened_told leftovers one_only v w s o p law down h name sure told drawn same later
   | inr unsure ↦ opened_untold v w s o p down h name unsure read same later
 ]
 
@@ -160,17 +163,18 @@ opened_at one_only v w s o p law down h name read told drawn same later = elim (
 pub record MayHaveBegun (w : View) (s : Site) (p : Place) : Type 0 where
   pub still_told : p.told ≡ true → IsSome w.content
   pub images : p.told ≡ true → (f : Files) → Image w f → (o : Contents) × After (MayBegin s.name p.left.broken) p.outcomes o × Stands f o
+  pub standings : p.told ≡ true → ImagesStand w (begins_so s.name p.standings)
   pub simulated : w.simulated ≡ p.simulated
 
 begun_place : (leftovers : Leftovers) (w : View) (s : Site) (p : Place) (site : Option world.Site) → IsLawful w → MayHaveBegun w s p
-    → ReadPlace w p site (begins s.name p.left.broken p.outcomes)
+    → ReadPlace w p site (begins s.name p.left.broken p.outcomes) (begins_so s.name p.standings)
 begun_place leftovers w s p site law b =
-    place_of_images leftovers w p site (begins s.name p.left.broken p.outcomes) law b.simulated b.still_told (λ sure f i. let k = b.images sure f i in (k.0, begins_among s.name p.left.broken p.outcomes k.1.0 k.0 k.1.1 k.1.2, k.2))
+    place_of_images leftovers w p site (begins s.name p.left.broken p.outcomes) (begins_so s.name p.standings) law b.simulated b.still_told (λ sure f i. let k = b.images sure f i in (k.0, begins_among s.name p.left.broken p.outcomes k.1.0 k.0 k.1.1 k.1.2, k.2)) b.standings
 
 pub begun_cut : (leftovers : Leftovers) (w : View) (s : Site) (p : Place) → IsLawful w → MayHaveBegun w s p → p.faults ≤ w.faults → (q : Place) × LeftBy (start s.name p).left p q × Matches w q
 begun_cut leftovers w s p law b later =
     let m = begun_place leftovers w s p p.site law b in
-    (record { site = p.site; told = p.told; now = m.now; left = m.left; outcomes = begins s.name p.left.broken p.outcomes; faults = w.faults; simulated = p.simulated }, record { told = refl; outcomes = λ sure o a. inr (among_begins s.name p.left.broken p.outcomes o a); faults = later; simulated = refl }, m.matches)
+    (record { site = p.site; told = p.told; now = m.now; left = m.left; outcomes = begins s.name p.left.broken p.outcomes; standings = begins_so s.name p.standings; faults = w.faults; simulated = p.simulated }, record { told = refl; outcomes = λ sure o a. inr (among_begins s.name p.left.broken p.outcomes o a); faults = later; simulated = refl }, m.matches)
 
 -- what START answers from a place
 abbrev pub Answers : View → Site → Place → Site → List ℕ → List ℕ → Bool → Type 0
@@ -184,11 +188,11 @@ begun_fault leftovers w s p k before now law down site made b count rose t =
     let of = λ (sure : p.told ≡ true) (o : Contents) (a : Among (begins s.name p.left.broken p.outcomes) o). (let x = among_begins s.name p.left.broken p.outcomes o a in of_may_begin s.name p.left.broken x.0 o ((made sure).outcomes x.0 x.1) x.2) in
     comes_fault
     k
-    (record { site = state; told = p.told; now = m.now; left = m.left; outcomes = begins s.name p.left.broken p.outcomes; faults = w.faults; simulated = p.simulated })
+    (record { site = state; told = p.told; now = m.now; left = m.left; outcomes = begins s.name p.left.broken p.outcomes; standings = begins_so s.name p.standings; faults = w.faults; simulated = p.simulated })
     (early_down s p down site)
     (record {
       site = refl;
-      known = record { told = refl; now = λ sure. among_begins s.name p.left.broken p.outcomes m.now (m.among sure); left = m.behind; outcomes = λ sure o a. among_begins s.name p.left.broken p.outcomes o a };
+      known = record { told = refl; now = λ sure. among_begins s.name p.left.broken p.outcomes m.now (m.among sure); left = m.behind; outcomes = λ sure o a. among_begins s.name p.left.broken p.outcomes o a; standings = λ sure. begun_so s.name p.standings };
       count = sym count;
       rose = subst (λ (x : ℕ). Rose p.faults x) (sym count) rose;
       simulated = refl;
@@ -203,9 +207,25 @@ begun_fault leftovers w s p k before now law down site made b count rose t =
 rose_at : (v w : View) (p : Place) → Matches v p → Rose v.faults w.faults → Rose p.faults w.faults
 rose_at v w p m h = subst (λ (x : ℕ). Rose x w.faults) m.faults h
 
+-- the standings once a site was being opened
+loaded_so : (v w : View) (s : Site) (p : Place) → IsLawful w → IsAt v s p → OpensSo v w → p.told ≡ true → ImagesStand w (begins_so s.name p.standings)
+loaded_so v w s p law h lefts sure = among p.standings (h.disk.standings sure)
+  where
+    among : (x : Option (List Standing)) → ImagesStand v x → ImagesStand w (begins_so s.name x)
+    among None k = tt
+    among (Some os) k = λ f i.
+        let made : IsMade s.name p = h.held.made sure in
+        let here = some_both v.content _ _ (h.disk.told sure) lefts in
+        let each = here.2 p.now (reads_site here.0 p.now p.left made.now.made here.1).0 in
+        let from = at_moment v w (MayBeOpenWith v) f law each i in
+        let out = h.disk.images sure from.0 from.1 in
+        let was = k from.0 from.1 in
+        let now = from.2 was.0 (standing_of from.0 out.0 was.0 (is_site from.0 out.0 (made.outcomes out.0 out.1).made out.2) was.2) in
+        (now.0, begins_so_among s.name os was.0 now.0 was.1 (inl now.1), inr now.2)
+
 -- the opening of a site was begun
-pub load_begun : (v w : View) (s : Site) (p : Place) → IsLawful w → IsAt v s p → OpensAtMoments v w → (IsSome v.content → IsSome w.content) → w.simulated ≡ v.simulated → MayHaveBegun w s p
-load_begun v w s p law h moments still same = record {
+pub load_begun : (v w : View) (s : Site) (p : Place) → IsLawful w → IsAt v s p → OpensAtMoments v w → OpensSo v w → (IsSome v.content → IsSome w.content) → w.simulated ≡ v.simulated → MayHaveBegun w s p
+load_begun v w s p law h moments lefts still same = record {
   still_told = λ sure. still (told_is v.content _ (h.disk.told sure));
   images = λ sure f i.
       let made : IsMade s.name p = h.held.made sure in
@@ -216,16 +236,17 @@ load_begun v w s p law h moments still same = record {
       let was = h.disk.images sure from.0 from.1 in
       let now = from.2 was.0 (is_site from.0 was.0 (made.outcomes was.0 was.1).made was.2) in
       (now.0, (was.0, was.1, inl now.1), inr now.2);
+  standings = λ sure. loaded_so v w s p law h lefts sure;
   simulated = same ∙ h.disk.simulated;
 }
 
-pub load_faulted : (leftovers : Leftovers) (v w : View) (s : Site) (k : ℕ) (before now : List ℕ) → IsLawful w → s.state ≡ Down → OpensAtMoments v w → (IsSome v.content → IsSome w.content) → w.simulated ≡ v.simulated
+pub load_faulted : (leftovers : Leftovers) (v w : View) (s : Site) (k : ℕ) (before now : List ℕ) → IsLawful w → s.state ≡ Down → OpensAtMoments v w → OpensSo v w → (IsSome v.content → IsSome w.content) → w.simulated ≡ v.simulated
     → k ≡ w.faults → Rose v.faults w.faults → now ≡ before ++ line s.name (codes "DISKFAULT " ++ decimal k) → ExecutesAt (start s.name) v s w (record { name = s.name; state = Failed k }) before now false
-load_faulted leftovers v w s k before now law down moments still same count rose t p h =
-    begun_fault leftovers w s p k before now law down h.site h.held.made (load_begun v w s p law h moments still same) count (rose_at v w p h.disk rose) t
+load_faulted leftovers v w s k before now law down moments lefts still same count rose t p h =
+    begun_fault leftovers w s p k before now law down h.site h.held.made (load_begun v w s p law h moments lefts still same) count (rose_at v w p h.disk rose) t
 
-pub load_cut : (leftovers : Leftovers) (v w : View) (s : Site) → IsLawful w → OpensAtMoments v w → (IsSome v.content → IsSome w.content) → w.simulated ≡ v.simulated → v.faults ≤ w.faults → IsCutAt (start s.name) v s w
-load_cut leftovers v w s law moments still same later p h = begun_cut leftovers w s p law (load_begun v w s p law h moments still same) (omega (arith, later, h.disk.faults))
+pub load_cut : (leftovers : Leftovers) (v w : View) (s : Site) → IsLawful w → OpensAtMoments v w → OpensSo v w → (IsSome v.content → IsSome w.content) → w.simulated ≡ v.simulated → v.faults ≤ w.faults → IsCutAt (start s.name) v s w
+load_cut leftovers v w s law moments lefts still same later p h = begun_cut leftovers w s p law (load_begun v w s p law h moments lefts still same) (omega (arith, later, h.disk.faults))
 
 -- there is no generation left
 load_limit_told : (v w : View) (s : Site) (before now : List ℕ) (p : Place) → IsLawful w → s.state ≡ Down → IsAt v s p → p.told ≡ true → IfSome v.content (λ files. (c : Contents) → IsSite files c → 65534 ≤ generation c.instance)
@@ -243,6 +264,7 @@ load_limit_told v w s before now p law down h sure limit unwritten untouched sam
       disk = record {
         told = λ is. subst (λ (x : Option Files). IsSomeAnd x (λ files. Reads files p.now p.left)) (sym unwritten) (h.disk.told is);
         images = λ is c i. h.disk.images is c (at_moment v w (Image v) c law untouched i);
+        standings = λ is. images_still v w p.standings (λ c i. at_moment v w (Image v) c law untouched i) (h.disk.standings is);
         faults = refl;
         simulated = same ∙ h.disk.simulated;
       };
@@ -295,12 +317,40 @@ load_other v w s o before now down other told same later t p h =
 pub record Moments (v w : View) (o : OpenSite) : Type 1 where
   pub lawful : IsLawful w
   pub any_moment : (c : Contents) → IsOpen v true c (length c.sequence) o → AtEachMoment v w (λ f. IsSite f c ⊎ IsSite f (with_reign (site_name c.instance) c))
+  pub left : (c : Contents) → IsOpen v true c (length c.sequence) o → AtEachMoment v w (λ f. IsSiteWith f (bare c) ⊎ IsSiteWith f (bare (with_reign (site_name c.instance) c)))
   pub still_told : IsSome v.content → IsSome w.content
   pub simulated : w.simulated ≡ v.simulated
   pub later : v.faults ≤ w.faults
 
 told_open : (v : View) (c : Contents) (n : ℕ) (o : OpenSite) → IsOpen v true c n o → IsSome v.content
 told_open v c n o h = told_is v.content _ (h.kept refl).reads
+
+-- the standings while the reign began
+reigned_so : (v w : View) (s : Site) (o : OpenSite) (p : Place) → Moments v w o → IsOpenedAt v s o p → p.told ≡ true → ImagesStand w (begins_so s.name p.standings)
+reigned_so v w s o p m h sure = among p.standings (h.standing sure)
+  where
+    d : Contents
+    d = opened p.left.broken p.now
+
+    is_open : IsOpen v true d (length d.sequence) o
+    is_open = subst (λ (b : Bool). IsOpen v b d (length d.sequence) o) sure (subst (λ (x : Contents). IsOpen v p.told (opened p.left.broken x) (length x.sequence) o) (h.as_before sure)
+        (subst (λ (b : List ℕ). IsOpen v p.told (opened b h.read) (length h.read.sequence) o) (h.as_left sure) h.is_open))
+
+    name : site_name d.instance ≡ s.name
+    name = sym (ap site_name is_open.remembered.instance) ∙ h.name
+
+    among : (x : Option (List Standing)) → IfSome x (λ os. Among os (record { contents = p.now; broken = p.left.broken })) → ImagesStand w (begins_so s.name x)
+    among None a = tt
+    among (Some os) a = λ f i.
+        let st : Standing = record { contents = p.now; broken = p.left.broken } in
+        elim (at_moment v w _ f m.lawful (m.left d is_open) i) [
+          | inl before ↦ (bare d, begins_so_among s.name os st (bare d) a (inl (inr (length (regions p.now.instance), refl))), stands_with f (bare d) before)
+          | inr begun ↦ (
+            bare (with_reign s.name d),
+            begins_so_among s.name os st (bare (with_reign s.name d)) a (inr refl),
+            stands_with f (bare (with_reign s.name d)) (subst (λ (n : Name). IsSiteWith f (bare (with_reign n d))) name begun),
+          )
+        ]
 
 reign_begun : (v w : View) (s : Site) (o : OpenSite) (p : Place) → Moments v w o → IsOpenedAt v s o p → MayHaveBegun w s p
 reign_begun v w s o p m h = record {
@@ -314,6 +364,7 @@ reign_begun v w s o p m h = record {
         | inl before ↦ (d, (c, k.1, inl (inr (length (regions c.instance), refl))), inr before)
         | inr begun ↦ (with_reign s.name d, (c, k.1, inr refl), inr (subst (λ (n : Name). IsSite f (with_reign n d)) name begun))
       ];
+  standings = λ sure. reigned_so v w s o p m h sure;
   simulated = m.simulated ∙ h.simulated;
 }
 
@@ -335,16 +386,16 @@ reign_limit_told v nothing s o before now p law h sure limit t =
     let c : Contents = opened p.left.broken p.now in
     let is_open : IsOpen v p.told c (length c.sequence) o = subst (λ (x : Contents). IsOpen v p.told (opened p.left.broken x) (length x.sequence) o) (h.as_before sure)
     (subst (λ (b : List ℕ). IsOpen v p.told (opened b h.read) (length h.read.sequence) o) (h.as_left sure) h.is_open) in
-    let q : Place = record { site = in_new_state world.Down p.site; told = p.told; now = c; left = NO_LEFTOVER; outcomes = c ∷ []; faults = v.faults; simulated = p.simulated } in
+    let q : Place = record { site = in_new_state world.Down p.site; told = p.told; now = c; left = NO_LEFTOVER; outcomes = c ∷ []; standings = Some (bare c ∷ []); faults = v.faults; simulated = p.simulated } in
     let full : reign_limit p.now ≡ Some ReignLimit = sym (limit_opened p.left.broken p.now) ∙ limit_is c true (limit c (length c.sequence) is_open.remembered) in
     let of : IsOf s.name c = of_opened s.name p.left.broken p.now (h.made sure).now in
     comes_refused
     (record { site = s.name; cause = ReignLimit })
     q
     (refused_late s.name (in_state why_not_down p.site) (limited p) ReignLimit (why_at s Down p h.down h.site) (limited_told p None (Some ReignLimit) sure (h.drawn sure) full))
-    (record { site = refl; known = record { told = refl; now = refl; left = refl; outcomes = refl }; faults = h.faults; simulated = refl })
+    (record { site = refl; known = record { told = refl; now = refl; left = refl; outcomes = refl; standings = refl }; faults = h.faults; simulated = refl })
     (record {
-      disk = place_of_one v p q.site c h.simulated (λ is. open_reads v nothing p.told c o law is is_open) (λ is. open_images v p.told c o is is_open);
+      disk = place_of_one v p q.site c h.simulated (λ is. open_reads v nothing p.told c o law is is_open) (λ is. open_images v nothing p.told c o is is_open);
       site = ap (in_new_state world.Down) h.site ∙ ap (λ (x : world.State). Some (record { name = s.name; state = x })) (ap state_value (sym h.down));
       held = record { made = λ is. record { now = of; outcomes = λ x j. subst (IsOf s.name) (sym (only x c j)) of }; state = subst (λ (x : State). HoldsState v x q) (sym h.down) tt };
     })
@@ -381,7 +432,7 @@ reign_starts v w nothing s o new stamp serials from before now law first_serials
     let stamp_is : stamp_value stamp ≡ next_stamp s.name read = drawn c (sym h.is_open.remembered.instance) ∙ ap (λ (n : Name). next_stamp n c) name ∙ stamp_opened s.name h.broken read in
     let stamp_new : stamp_of r ≡ next_stamp s.name read = ap stamp_in stamped ∙ stamp_is in
     let state : world.State = world.Primary (next_stamp s.name read) FIRST_SERIALS in
-    let q : Place = record { site = in_new_state state p.site; told = p.told; now = d; left = NO_LEFTOVER; outcomes = d ∷ []; faults = w.faults; simulated = p.simulated } in
+    let q : Place = record { site = in_new_state state p.site; told = p.told; now = d; left = NO_LEFTOVER; outcomes = d ∷ []; standings = Some (bare d ∷ []); faults = w.faults; simulated = p.simulated } in
     let reign_room : p.told ≡ true → reign_limit p.now ≡ None = λ sure. ap reign_limit (sym (h.as_before sure)) ∙ sym (limit_opened h.broken read) ∙ limit_is c false (room c (length c.sequence) h.is_open.remembered) in
     let of : p.told ≡ true → IsOf s.name d = λ sure. of_begun s.name s.name c (of_opened s.name h.broken read (subst (IsOf s.name) (sym (h.as_before sure)) (h.made sure).now)) in
     let cycle : stamp.cycle ≡ cycle_on q.site = ap (λ x. x.cycle) stamp_is ∙ sym (ap (λ (x : Option world.Site). cycle_on (in_new_state state x)) h.site) in
@@ -394,14 +445,14 @@ reign_starts v w nothing s o new stamp serials from before now law first_serials
       broken = h.broken;
       as_before = h.as_before;
       as_left = h.as_left;
-      becomes = record { site = refl; known = record { told = refl; now = refl; left = refl; outcomes = refl }; faults = omega (arith, later, h.faults); simulated = refl };
+      becomes = record { site = refl; known = record { told = refl; now = refl; left = refl; outcomes = refl; standings = refl }; faults = omega (arith, later, h.faults); simulated = refl };
     })
     (record {
-      disk = place_of_one w p q.site d (same ∙ h.simulated) (λ sure. open_reads w nothing p.told d new law sure is_open) (λ sure. open_images w p.told d new sure is_open);
+      disk = place_of_one w p q.site d (same ∙ h.simulated) (λ sure. open_reads w nothing p.told d new law sure is_open) (λ sure. open_images w nothing p.told d new sure is_open);
       site = ap (in_new_state state) h.site ∙ ap (λ (x : world.State). Some (record { name = s.name; state = x })) (states_same stamp_new first_serials);
       held = record {
         made = λ sure. record { now = of sure; outcomes = λ x j. subst (IsOf s.name) (sym (only x d j)) (of sure) };
-        state = record { reigns = is_open; settled = λ sure x j. only x d j; left = λ sure. refl };
+        state = record { reigns = is_open; settled = λ sure x j. only x d j; left = λ sure. refl; standings = λ sure. refl };
       };
     })
     (t ∙ ap (λ (k : ℕ). before ++ line s.name (codes "PRIMARY " ++ decimal k ++ codes " FROM " ++ decimal from)) cycle
@@ -412,12 +463,12 @@ reign_starts v w nothing s o new stamp serials from before now law first_serials
 
 -- Beginning and opening together.
 
-pub begins_so : (one_only : StandForOne) (v w u : View) (s new : Site) (o : OpenSite) (before now : List ℕ) (done : Bool) → IsLawful v → s.state ≡ Down → site_name o.instance.records ≡ s.name → ((c : Contents) × (broken : List ℕ) × Remembers (opened broken c) (length c.sequence) o)
+pub starts_so : (leftovers : Leftovers) (one_only : StandForOne) (v w u : View) (s new : Site) (o : OpenSite) (before now : List ℕ) (done : Bool) → IsLawful v → s.state ≡ Down → site_name o.instance.records ≡ s.name → ((c : Contents) × (broken : List ℕ) × Remembers (opened broken c) (length c.sequence) o)
     → Opens v w o → HasGenerations v
     → w.simulated ≡ v.simulated → v.faults ≤ w.faults → BeginsAt w o s u new before now done → ExecutesAt (start s.name) v s u new before now done
-begins_so one_only v w u s new o before now done law down name read told drawn same later b p h = b p (opened_at one_only v w s o p law down h name read told drawn same later)
+starts_so leftovers one_only v w u s new o before now done law down name read told drawn same later b p h = b p (opened_at leftovers one_only v w s o p law down h name read told drawn same later)
 
-pub begins_cut : (one_only : StandForOne) (v w u : View) (s : Site) (o : OpenSite) → IsLawful v → s.state ≡ Down → site_name o.instance.records ≡ s.name → ((c : Contents) × (broken : List ℕ) × Remembers (opened broken c) (length c.sequence) o)
+pub starts_cut : (leftovers : Leftovers) (one_only : StandForOne) (v w u : View) (s : Site) (o : OpenSite) → IsLawful v → s.state ≡ Down → site_name o.instance.records ≡ s.name → ((c : Contents) × (broken : List ℕ) × Remembers (opened broken c) (length c.sequence) o)
     → Opens v w o → HasGenerations v
     → w.simulated ≡ v.simulated → v.faults ≤ w.faults → IsCutOpened w o s u → IsCutAt (start s.name) v s u
-begins_cut one_only v w u s o law down name read told drawn same later b p h = b p (opened_at one_only v w s o p law down h name read told drawn same later)
+starts_cut leftovers one_only v w u s o law down name read told drawn same later b p h = b p (opened_at leftovers one_only v w s o p law down h name read told drawn same later)

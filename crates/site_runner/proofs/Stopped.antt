@@ -18,7 +18,7 @@ use Rattle.gvn_model.specs.Numbered.{numbered}
 use Rattle.world_defs.specs.World as world
 use Rattle.command_defs.specs.Commands.{Name, Command}
 use Rattle.world_defs.specs.World.{Place, name_on}
-use Rattle.site_defs.specs.Contents.{Leftover, NO_LEFTOVER, same_name}
+use Rattle.site_defs.specs.Contents.{Leftover, NO_LEFTOVER, same_name, bare}
 use Rattle.world_defs.specs.Answers.{Refusal, line}
 use Rattle.world_defs.specs.Row.{Row, or_else, refused_with, in_state, why_not_open}
 use Rattle.world_defs.specs.Changes.{in_new_state}
@@ -44,7 +44,7 @@ use Rattle.site_runner.specs.Named.{row_in}
 use Rattle.site_runner.proofs.Results.{on_errs}
 use Rattle.site_runner.specs.Steps.{state_text, IsAt, ExecutesAt, IsCutAt}
 use Rattle.site_runner.proofs.Cuts.{split_and}
-use Rattle.site_runner.proofs.Ats.{comes_done, comes_so, on_done, state_at, kept_same, only}
+use Rattle.site_runner.proofs.Ats.{comes_done, comes_so, on_done, state_at, kept_same, only, ImagesStand}
 
 pub names_same : (a b : Name) → same_name a b ≡ true → a ≡ b
 names_same [] [] e = refl
@@ -119,13 +119,14 @@ pub stops : (v : View) (s : Site) (r : Reign) (before now : List ℕ) → s.stat
 stops v s r before now e t p at_p =
     let o : IsOpen v r p = open_at v s r p e at_p in
     comes_done
-    (record { site = in_new_state world.Down p.site; told = p.told; now = p.now; left = NO_LEFTOVER; outcomes = p.now ∷ []; faults = p.faults; simulated = p.simulated })
+    (record { site = in_new_state world.Down p.site; told = p.told; now = p.now; left = NO_LEFTOVER; outcomes = p.now ∷ []; standings = Some (bare p.now ∷ []); faults = p.faults; simulated = p.simulated })
     (ap (λ (x : Option Refusal). or_else x None) (open_at_place v s r p e at_p))
-    (record { site = refl; known = record { told = refl; now = refl; left = refl; outcomes = refl }; faults = omega arith; simulated = refl })
+    (record { site = refl; known = record { told = refl; now = refl; left = refl; outcomes = refl; standings = refl }; faults = omega arith; simulated = refl })
     (record {
       disk = record {
         told = λ is. subst (λ (l : Leftover). IsSomeAnd v.content (λ (files : Files). Reads files p.now l)) (o.left is) (at_p.disk.told is);
         images = λ is c i. let x = at_p.disk.images is c i in (p.now, inl refl, subst (Stands c) (o.settled is x.0 x.1) x.2);
+        standings = λ is. subst (ImagesStand v) (o.standings is) (at_p.disk.standings is);
         faults = at_p.disk.faults;
         simulated = at_p.disk.simulated;
       };

@@ -8,7 +8,7 @@ use Rattle.site_store.specs.declared.error.SiteError.{SiteError}
 use Rattle.site_store.specs.declared.error.SiteError.TheVariants.{Failed, Stopped, Full, SeqLimit, GenLimit, ReignLimit, NotAFile, NoMemory}
 use Rattle.command_defs.specs.Commands.{Name}
 use Rattle.site_defs.specs.Lists.{Among}
-use Rattle.world_defs.specs.World.{Place, NoNew, Kept}
+use Rattle.world_defs.specs.World.{Place, NoNew, Kept, StandAsBefore}
 use Rattle.site_defs.specs.Contents.{Contents, is_made, same_name}
 use Rattle.world_defs.specs.Answers.{line}
 use Rattle.world_defs.specs.Changes.{Fails, KeptUnknown}
@@ -35,7 +35,7 @@ pub record LeavesOld (old new : Place) : Type 0 where
 
 abbrev pub Sees : Result (Option Layout) SiteError → Place → Place → Type 0
 Sees (Ok found) p q = Finds found p q
-Sees (Err (Failed fault)) p q = Fails fault None (λ c o. o ≡ c) p q × (p.faults ≤ q.faults)
+Sees (Err (Failed fault)) p q = Fails fault None (λ c o. o ≡ c) StandAsBefore p q × (p.faults ≤ q.faults)
 Sees (Err (Stopped fault)) p q = LeavesOld p q
 Sees (Err (Full nodes)) p q = LeavesOld p q
 Sees (Err SeqLimit) p q = LeavesOld p q

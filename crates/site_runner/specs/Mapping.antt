@@ -1,16 +1,17 @@
 -- What mapping a pattern means at the place of a site that was looked at for it.
-use Rattle.std.specs.Prelude.{◌≡◌, ◌≤◌, ◌<◌, ℕ, Bool, List, length, Some, None, IsTrue, IsSomeAnd}
+use Rattle.std.specs.Prelude.{◌≡◌, ◌≤◌, ◌<◌, ℕ, Bool, List, length, Some, None, IsTrue, IfSome, IsSomeAnd}
 use Rattle.disk_defs.specs.Disk.{Files, View, Image}
 use Rattle.journal_defs.specs.Instance.{generation, regions}
 use Rattle.command_defs.specs.Commands.{Name}
 use Rattle.site_defs.specs.Lists.{Among}
 use Rattle.world_defs.specs.World.{Place}
-use Rattle.site_defs.specs.Contents.{Contents}
+use Rattle.site_defs.specs.Contents.{Contents, Standing}
 use Rattle.world_defs.specs.rows.Map.{map_pattern, twice_mapped}
 use Rattle.site_defs.specs.Limits.{region_number}
 use Rattle.world_defs.specs.Step.{LeftBy}
 use Rattle.world_defs.specs.Ties.{Matches}
 use Rattle.site_defs.specs.Stands.{Stands, Reads}
+use Rattle.site_defs.specs.Behind.{StandsSo}
 use Rattle.site_runner.specs.declared.slot.Site.{Site}
 use Rattle.site_runner.specs.declared.slot.State.TheVariants.{Down}
 use Rattle.site_runner.specs.Sites.{site_value, IsMade}
@@ -24,6 +25,7 @@ pub record IsSeenAt (v : View) (s : Site) (p : Place) : Type 0 where
   pub made : IsTrue p.told → IsMade s.name p
   pub reads : IsTrue p.told → IsSomeAnd v.content (λ files. Reads files p.now p.left)
   pub images : IsTrue p.told → (f : Files) → Image v f → (o : Contents) × Among p.outcomes o × Stands f o
+  pub standings : IsTrue p.told → IfSome p.standings (λ os. (f : Files) → Image v f → (o : Standing) × Among os o × StandsSo f o)
   pub alike : IsTrue p.told → (f : Files) (o : Contents) → Image v f → Stands f o → o.instance ≡ p.now.instance
   pub faults : p.faults ≤ v.faults
   pub simulated : v.simulated ≡ p.simulated

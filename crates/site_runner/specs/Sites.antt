@@ -1,5 +1,5 @@
 -- What sites stand for.
-use Rattle.std.specs.Prelude.{◌≡◌, ℕ, Bool, true, false, List, Option, None, Some, IsTrue, option_map}
+use Rattle.std.specs.Prelude.{◌≡◌, ℕ, Bool, true, false, List, [], ◌∷◌, Option, None, Some, IsTrue, option_map}
 use Rattle.std.specs.List.{AllByRecursion}
 use Rattle.disk_defs.specs.Disk.{View}
 use Rattle.journal_defs.specs.Instance.{site_name}
@@ -10,7 +10,7 @@ use Rattle.site_defs.specs.Lists.{Among}
 use Rattle.world_defs.specs.World as world
 use Rattle.command_defs.specs.Commands.{Name}
 use Rattle.world_defs.specs.World.{Place, Settled, is_site_named}
-use Rattle.site_defs.specs.Contents.{Contents, NO_LEFTOVER, is_made}
+use Rattle.site_defs.specs.Contents.{Contents, NO_LEFTOVER, is_made, bare}
 use Rattle.site_runner.specs.declared.slot.State.{State}
 use Rattle.site_runner.specs.declared.slot.State.TheVariants.{Down, Primary, Failed}
 use Rattle.site_runner.specs.declared.slot.Site.{Site}
@@ -70,6 +70,7 @@ pub record IsOpen (v : View) (r : Reign) (p : Place) : Type 0 where
   pub settled : IsTrue p.told → Settled p
   -- nothing lies behind its entries
   pub left : IsTrue p.told → p.left ≡ NO_LEFTOVER
+  pub standings : IsTrue p.told → p.standings ≡ Some (bare p.now ∷ [])
 
 abbrev pub HoldsState : View → State → Place → Type 0
 HoldsState v Down p = Unit {0}

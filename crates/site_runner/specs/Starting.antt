@@ -1,5 +1,5 @@
 -- What beginning a reign means at the place of a site that was opened for it.
-use Rattle.std.specs.Prelude.{◌≡◌, ◌≤◌, ℕ, Bool, true, List, length, Some, None, IsTrue}
+use Rattle.std.specs.Prelude.{◌≡◌, ◌≤◌, ℕ, Bool, true, List, length, Some, None, IsTrue, IfSome}
 use Rattle.disk_defs.specs.Disk.{View}
 use Rattle.journal_defs.specs.Instance.{site_name}
 use Rattle.site_store.specs.declared.site.OpenSite.{OpenSite}
@@ -30,6 +30,8 @@ pub record IsOpenedAt (v : View) (s : Site) (o : OpenSite) (p : Place) : Type 0 
   pub is_open : IsOpen v p.told (opened broken read) (length read.sequence) o
   -- one of the outcomes was read
   pub outcome : IsTrue p.told → (c : Contents) × Among p.outcomes c × IsOpen v true (opened p.left.broken c) (length c.sequence) o
+  -- and one of the standings
+  pub standing : IsTrue p.told → IfSome p.standings (λ os. Among os (record { contents = p.now; broken = p.left.broken }))
   pub drawn : IsTrue p.told → generation_limit p.now ≡ None
   pub faults : p.faults ≤ v.faults
   pub simulated : v.simulated ≡ p.simulated

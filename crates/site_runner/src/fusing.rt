@@ -11,7 +11,7 @@ use super::slot::{Site, State};
 use super::text::{write_line, write_numbered};
 use gvn_key::{Bytes, NoMemory};
 use repl_disk::Disk;
-use world_laws::leftovers::leftovers_hold;
+use world_laws::leftovers::{files_stand_for_one, leftovers_hold};
 
 /// Lets so many more calls of a site's disk succeed. Answers whether that was done.
 pub fn fuse<D: Disk>(
@@ -50,6 +50,7 @@ pub fn crash<D: Disk>(
     ensures site { OnErr result (site.new ≡ site.old) }
 {
     leftovers_hold();
+    files_stand_for_one();
     if let Some(cause) = site.state.why_not_running() {
         return refuse(text, site.name.as_slice(), &cause);
     }

@@ -2,7 +2,7 @@
 use Rattle.std.specs.Prelude.{◌≡◌, ℕ, ◌≤◌, false, List, [], ◌∷◌, Option, Some, None}
 use Rattle.disk_defs.specs.Disk.{Rose}
 use Rattle.site_defs.specs.Lists.{Among}
-use Rattle.site_defs.specs.Contents.{Contents, NO_LEFTOVER}
+use Rattle.site_defs.specs.Contents.{Contents, Standing, NO_LEFTOVER, bare}
 use Rattle.site_defs.specs.Opening.{IsBehind}
 use Rattle.world_defs.specs.World.{State, Site, Place, IfKnown, StaysKnown, Kept}
 
@@ -16,6 +16,7 @@ pub record Settles (c : Contents) (old new : Place) : Type 0 where
   pub now : new.now ≡ c
   pub left : new.left ≡ NO_LEFTOVER
   pub outcomes : new.outcomes ≡ c ∷ []
+  pub standings : new.standings ≡ Some (bare c ∷ [])
 
 -- a site is on the disk, whose files stand for this and nothing else
 pub record Stays (site_then : Option Site) (c : Contents) (old new : Place) : Type 0 where
@@ -32,17 +33,18 @@ Becomes state c old new = Stays (in_new_state state old.site) c old new
 abbrev pub After : (Contents → Contents → Type 0) → List Contents → Contents → Type 0
 After step outcomes o = (c : Contents) × Among outcomes c × step c o
 
--- As much is known as before: what the files read as is an outcome after a step, and so is what each image stands for.
-pub record MayBe (step : Contents → Contents → Type 0) (old new : Place) : Type 0 where
+-- As much is known as before: what the files read as is an outcome after a step, and so is what each image stands for. What lies behind is told of standings, by what is known of them after.
+pub record MayBe (step : Contents → Contents → Type 0) (so : Option (List Standing) → Option (List Standing) → Type 0) (old new : Place) : Type 0 where
   pub told : new.told ≡ old.told
   pub now : IfKnown old (After step old.outcomes new.now)
   pub left : IfKnown old (IsBehind new.now new.left)
   pub outcomes : IfKnown old ((o : Contents) → Among new.outcomes o → After step old.outcomes o)
+  pub standings : IfKnown old (so old.standings new.standings)
 
 -- A call of the disk failed, and its count rose to k. Each outcome is an old one after a step.
-pub record Fails (k : ℕ) (site_then : Option Site) (step : Contents → Contents → Type 0) (old new : Place) : Type 0 where
+pub record Fails (k : ℕ) (site_then : Option Site) (step : Contents → Contents → Type 0) (so : Option (List Standing) → Option (List Standing) → Type 0) (old new : Place) : Type 0 where
   pub site : new.site ≡ site_then
-  pub known : MayBe step old new
+  pub known : MayBe step so old new
   pub count : new.faults ≡ k
   pub rose : Rose old.faults k
   pub simulated : new.simulated ≡ old.simulated

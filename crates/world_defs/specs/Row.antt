@@ -1,8 +1,8 @@
 -- A row: all that a command means at the place that it acts on.
 use Rattle.std.specs.Prelude.{◌≡◌, ◌⊎◌, ℕ, ◌∷◌, Bool, List, [], Option, Some, None, if◌then◌else◌}
 use Rattle.command_defs.specs.Commands.{Name}
-use Rattle.site_defs.specs.Contents.{Contents}
-use Rattle.world_defs.specs.World.{State, Down, Primary, Failed, Site, Place, Kept}
+use Rattle.site_defs.specs.Contents.{Contents, Standing}
+use Rattle.world_defs.specs.World.{State, Down, Primary, Failed, Site, Place, Kept, StandAfter}
 use Rattle.world_defs.specs.Answers.{Cause, Stopped, Running, NotRunning, NotPrimary, NotSimulated, Refusal, Section, Answer, Done, Refused, DiskFault, NotAFile, Ran, Typed, refusal_line, fault_line, damage_line}
 use Rattle.world_defs.specs.Changes.{in_new_state, Fails, KeptUnknown}
 
@@ -55,9 +55,9 @@ quiet word p = record {
 abbrev pub reading : Name → Place → Row
 reading word p = record (quiet word p) { damage = λ file offset q. KeptUnknown p q }
 
--- and a fault may leave an outcome after a step
-abbrev pub writing : Name → (Contents → Contents → Type 0) → Place → Row
-writing word step p = record (reading word p) { fault = λ k q. Fails k (in_new_state (Failed k) p.site) step p q; left = step }
+-- and a fault may leave an outcome after a step, and a standing after the same step with what lies behind
+abbrev pub writing : Name → (Contents → Contents → Type 0) → (Standing → Standing → Type 0) → Place → Row
+writing word step so p = record (reading word p) { fault = λ k q. Fails k (in_new_state (Failed k) p.site) step (StandAfter so) p q; left = step }
 
 -- the first cause of these
 abbrev pub first : List (Option Cause) → Option Cause

@@ -5,20 +5,24 @@ use Rattle.world_defs.specs.World.{Place, World, Failed}
 use Rattle.world_defs.specs.Meaning.{Meaning, Acts, Then, apart, on_site, row_at}
 use Rattle.world_defs.specs.rows.Start.{start}
 use Rattle.world_defs.specs.rows.Stop.{stop}
-use Rattle.site_defs.specs.Contents.{nothing, NO_LEFTOVER}
+use Rattle.site_defs.specs.Contents.{nothing, NO_LEFTOVER, bare}
 use Rattle.site_defs.specs.Samples.{made}
 
 -- where a call of A's disk failed, the third one on it
 abbrev pub failed_place : (simulated : Bool) → Place
-failed_place simulated = record { site = Some (record { name = codes "A"; state = Failed 3 }); told = true; now = made; left = NO_LEFTOVER; outcomes = made ∷ []; faults = 3; simulated = simulated }
+failed_place simulated = record { site = Some (record { name = codes "A"; state = Failed 3 }); told = true; now = made; left = NO_LEFTOVER; outcomes = made ∷ []; standings = Some (bare made ∷ []); faults = 3; simulated = simulated }
+
+-- where a fault ended a section of A's: the one image has a text behind the contents that it stands for
+abbrev pub torn_place : Place
+torn_place = record { site = Some (record { name = codes "A"; state = Failed 3 }); told = true; now = made; left = NO_LEFTOVER; outcomes = made ∷ []; standings = Some (record { contents = made; broken = codes "x" } ∷ []); faults = 3; simulated = true }
 
 -- a disk that A stands on, which no site of the run has
 abbrev pub made_place : Place
-made_place = record { site = None; told = true; now = made; left = NO_LEFTOVER; outcomes = made ∷ []; faults = 0; simulated = true }
+made_place = record { site = None; told = true; now = made; left = NO_LEFTOVER; outcomes = made ∷ []; standings = Some (bare made ∷ []); faults = 0; simulated = true }
 
 -- an empty disk
 abbrev pub blank_place : Place
-blank_place = record { site = None; told = true; now = nothing; left = NO_LEFTOVER; outcomes = nothing ∷ []; faults = 0; simulated = true }
+blank_place = record { site = None; told = true; now = nothing; left = NO_LEFTOVER; outcomes = nothing ∷ []; standings = Some (bare nothing ∷ []); faults = 0; simulated = true }
 
 -- one site is closed, and where that was done, another one begins a reign
 abbrev pub switching : (from to : Name) → World → Meaning

@@ -1,5 +1,5 @@
 -- The world of a run between two commands: plain data (GT.M: instances, and what the replication of each one does).
-use Rattle.site_defs.specs.Contents.{Contents, Leftover, same_name}
+use Rattle.site_defs.specs.Contents.{Contents, Leftover, Standing, same_name}
 use Rattle.std.specs.Prelude.{◌≡◌, ℕ, ◌≤◌, Bool, true, false, List, [], Option, Some, None, IsTrue, take}
 use Rattle.std.specs.List.{AllByRecursion}
 use Rattle.global_defs.specs.Entry.{Stamp}
@@ -28,6 +28,8 @@ pub record Place : Type 0 where
   pub left : Leftover
   -- each image stands for one of these
   pub outcomes : List Contents
+  -- and where it's known what lies behind that in each image: each stands so, one of these
+  pub standings : Option (List Standing)
   -- how many calls of the disk have failed
   pub faults : ℕ
   -- whether the disk can be made to fail and to crash
@@ -73,6 +75,16 @@ Settled p = (o : Contents) → Among p.outcomes o → o ≡ p.now
 abbrev pub NoNew : List Contents → List Contents → Type 0
 NoNew old new = (o : Contents) → Among new o → Among old o
 
+-- As much is known of what lies behind as before, and each standing is an old one after a step.
+abbrev pub StandAfter : (Standing → Standing → Type 0) → (old new : Option (List Standing)) → Type 0
+StandAfter step None new = Unit {0}
+StandAfter step (Some os) None = ⊥
+StandAfter step (Some os) (Some ns) = (o : Standing) → Among ns o → (s : Standing) × Among os s × step s o
+
+-- no standing is new
+abbrev pub StandAsBefore : (old new : Option (List Standing)) → Type 0
+StandAsBefore old new = StandAfter (λ s o. o ≡ s) old new
+
 -- P, where the place's files are known
 abbrev pub IfKnown : Place → Type 0 → Type 0
 IfKnown p P = IsTrue p.told → P
@@ -85,6 +97,7 @@ EachOutcome P p = IfKnown p ((o : Contents) → Among p.outcomes o → P o)
 pub record StaysKnown (old new : Place) : Type 0 where
   pub told : new.told ≡ old.told
   pub outcomes : NoNew old.outcomes new.outcomes
+  pub standings : IfKnown old (StandAsBefore old.standings new.standings)
 
 -- A command leaves a site that it doesn't act on so.
 pub record Kept (old new : Place) : Type 0 where

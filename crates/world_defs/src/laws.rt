@@ -3,24 +3,25 @@ ghost use Rattle.std.specs.Prelude.{◌≡◌, ◌∷◌, ◌++◌, [], ℕ, Lis
 ghost use Rattle.journal_defs.specs.Instance as records;
 ghost use Rattle.journal_defs.specs.Instance.{InstanceRecord};
 ghost use Rattle.global_defs.specs.Entry.{Sequence};
-ghost use Rattle.site_defs.specs.Contents.{nothing};
+ghost use Rattle.site_defs.specs.Contents.{nothing, bare};
 ghost use Rattle.site_defs.specs.Fronts.{turn_of};
 ghost use Rattle.site_defs.specs.Limits.{region_number};
 ghost use Rattle.site_defs.specs.Opening.{opened, with_pattern};
 ghost use Rattle.site_defs.specs.Samples.{made, reigned_once, two_regions};
 ghost use Rattle.command_defs.specs.Commands.{Attach, Create, StartPrimary, Stop, Crash, Show, with_images};
-ghost use Rattle.world_defs.specs.World.{World, Primary, Failed};
+ghost use Rattle.world_defs.specs.World.{Place, World, Primary, Failed};
 ghost use Rattle.world_defs.specs.Answers.{NoSite, NoDisk, Empty, Exists, Stopped, NotSimulated, Started, NoRegion, TwiceMapped, NoFile, GenLimit, ReignLimit, Answer, Refused, refusal_line, fault_line};
 ghost use Rattle.world_defs.specs.Row.{first};
 ghost use Rattle.world_defs.specs.rows.Attach.{attach};
+ghost use Rattle.world_defs.specs.rows.Crash.{Crashes};
 ghost use Rattle.world_defs.specs.rows.Create.{created};
 ghost use Rattle.world_defs.specs.rows.Map.{started, twice_mapped, unmapped};
 ghost use Rattle.world_defs.specs.rows.Print.{no_file, typed};
 ghost use Rattle.world_defs.specs.rows.Run.{section_text};
 ghost use Rattle.world_defs.specs.rows.Show.{show_state};
-ghost use Rattle.world_defs.specs.rows.Start.{FIRST_SERIALS, generation_limit, reign_limit, start};
+ghost use Rattle.world_defs.specs.rows.Start.{FIRST_SERIALS, StartsPrimary, generation_limit, reign_limit, start};
 ghost use Rattle.world_defs.specs.Step.{Step, refusal, refusal_of};
-ghost use Rattle.world_defs.specs.Samples.{failed_place, blank_place, made_place, switching};
+ghost use Rattle.world_defs.specs.Samples.{failed_place, torn_place, blank_place, made_place, switching};
 
 /// A world without disks refuses what needs one; one whose only disk failed refuses what needs it until a crash.
 pub fn refusals_hold()
@@ -60,9 +61,16 @@ pub fn mapping_holds()
 
 /// A broken-transaction file is typed by its generation; the one past the newest is as far as an opening wrote it.
 pub fn typing_holds()
-    ensures newest { typed 1 (record { site = None; told = true; now = opened (codes "x") made; left = record { broken = []; torn = codes "y" }; outcomes = []; faults = 0; simulated = true }) ≡ codes "x" }
-    ensures torn { typed 2 (record { site = None; told = true; now = opened (codes "x") made; left = record { broken = []; torn = codes "y" }; outcomes = []; faults = 0; simulated = true }) ≡ codes "y" }
+    ensures newest { typed 1 (record { site = None; told = true; now = opened (codes "x") made; left = record { broken = []; torn = codes "y" }; outcomes = []; standings = None; faults = 0; simulated = true }) ≡ codes "x" }
+    ensures torn { typed 2 (record { site = None; told = true; now = opened (codes "x") made; left = record { broken = []; torn = codes "y" }; outcomes = []; standings = None; faults = 0; simulated = true }) ≡ codes "y" }
     ensures nothing { no_file 3 made_place ≡ Some NoFile }
+{}
+
+/// A crash leaves what lay behind its contents, the next START writes exactly that down, and nothing lies behind any more.
+pub fn leftovers_are_written()
+    ensures crashed { (q : Place) → Crashes torn_place q → q.left.broken ≡ codes "x" }
+    ensures started { (p q : Place) → Crashes torn_place p → StartsPrimary (codes "A") p q → q.now.texts ≡ codes "x" ∷ [] }
+    ensures bare { (p q : Place) → StartsPrimary (codes "A") p q → q.standings ≡ Some (bare q.now ∷ []) }
 {}
 
 /// The lines of a refusal, of a fault, of a site that is shown, and of a section that a fault ended.

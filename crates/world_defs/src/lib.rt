@@ -5,5 +5,6 @@
 mod laws;
 
 pub use laws::{
-    attaching_holds, causes_hold, mapping_holds, output_holds, refusals_hold, typing_holds,
+    attaching_holds, causes_hold, leftovers_are_written, mapping_holds, output_holds,
+    refusals_hold, typing_holds,
 };

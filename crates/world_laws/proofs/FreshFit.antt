@@ -46,10 +46,10 @@ pub fit-again : (w : World) → IsFit w → IsFit (record { places = map without
 fit-again w fit = fit-without_sites w.places fit
 
 fit-given_back : (p q : Place) → HasFitOutcomes p → IsGivenBack p q → IsFitPlace q
-fit-given_back p q fit h = fit-free q h.site (λ t. fit (told t) q.now (h.now (told t))) (λ t o a. fit (told t) o (h.known.outcomes o a))
+fit-given_back p q fit h = fit-free q h.site (λ t. fit (told t) q.now (h.now (told t))) (λ t o a. fit (told t) o (h.outcomes o a))
   where
     told : IsTrue q.told → IsTrue p.told
-    told t = subst IsTrue h.known.told t
+    told t = subst IsTrue h.told t
 
 fit-all_given_back : (ps qs : List Place) → AllByRecursion HasFitOutcomes ps → Along (λ i. IsGivenBack) ps qs → AllByRecursion IsFitPlace qs
 fit-all_given_back [] [] fit h = tt

@@ -4,7 +4,7 @@ use Rattle.journal_defs.specs.Instance.{site_name}
 use Rattle.command_defs.specs.Commands.{Name, Region}
 use Rattle.site_defs.specs.Lists.{Among}
 use Rattle.world_defs.specs.World.{State, Down, Failed, Site, Place, World, Kept}
-use Rattle.site_defs.specs.Contents.{Contents}
+use Rattle.site_defs.specs.Contents.{Contents, Standing}
 use Rattle.site_defs.specs.Opening.{MayMap, with_pattern}
 use Rattle.world_defs.specs.Changes.{in_new_state, Stays, Becomes, Fails, FailsUnchanged, KeptUnknown}
 use Rattle.world_defs.specs.rows.Attach.{Attaches}
@@ -85,23 +85,23 @@ fit-maps region text old new h r =
 
 -- a fault
 
-fit-fails : (k : ℕ) (site : Option Site) (step : Contents → Contents → Type 0) (old new : Place) → ((c : Contents) → IsFitSite site c)
-    → (IsTrue old.told → (c o : Contents) → Among old.outcomes c → step c o → IsFitContents o × IsNamedSo site o) → Fails k site step old new → IsFitPlace new
-fit-fails k site step old new failed fit h =
+fit-fails : (k : ℕ) (site : Option Site) (step : Contents → Contents → Type 0) (so : Option (List Standing) → Option (List Standing) → Type 0) (old new : Place) → ((c : Contents) → IsFitSite site c)
+    → (IsTrue old.told → (c o : Contents) → Among old.outcomes c → step c o → IsFitContents o × IsNamedSo site o) → Fails k site step so old new → IsFitPlace new
+fit-fails k site step so old new failed fit h =
     fit-place old new site new.now h.known.told h.site refl
     (λ t. let x = h.known.now t in let f = fit t x.0 new.now x.1 x.2 in (f.0, f.1, failed new.now))
     (λ t o a. let x = h.known.outcomes t o a in fit t x.0 o x.1 x.2)
 
 -- of a site, which fails
-pub fit-site_fails : (k : ℕ) (step : Contents → Contents → Type 0) (old new : Place) → (IsTrue old.told → (c o : Contents) → Among old.outcomes c → step c o → IsFitContents o × IsNamedSo old.site o)
-    → Fails k (in_new_state (Failed k) old.site) step old new → IsFitPlace new
-fit-site_fails k step old new fit h =
-    fit-fails k (in_new_state (Failed k) old.site) step old new (fit-failed k old.site) (λ t c o a s. let f = fit t c o a s in (f.0, named-in (Failed k) old.site o f.1)) h
+pub fit-site_fails : (k : ℕ) (step : Contents → Contents → Type 0) (so : Option (List Standing) → Option (List Standing) → Type 0) (old new : Place) → (IsTrue old.told → (c o : Contents) → Among old.outcomes c → step c o → IsFitContents o × IsNamedSo old.site o)
+    → Fails k (in_new_state (Failed k) old.site) step so old new → IsFitPlace new
+fit-site_fails k step so old new fit h =
+    fit-fails k (in_new_state (Failed k) old.site) step so old new (fit-failed k old.site) (λ t c o a s. let f = fit t c o a s in (f.0, named-in (Failed k) old.site o f.1)) h
 
 -- before there is a site
-pub fit-none_fails : (k : ℕ) (step : Contents → Contents → Type 0) (old new : Place) → (IsTrue old.told → (c o : Contents) → Among old.outcomes c → step c o → IsFitContents o)
-    → Fails k None step old new → IsFitPlace new
-fit-none_fails k step old new fit h = fit-fails k None step old new (λ c. tt) (λ t c o a s. (fit t c o a s, tt)) h
+pub fit-none_fails : (k : ℕ) (step : Contents → Contents → Type 0) (so : Option (List Standing) → Option (List Standing) → Type 0) (old new : Place) → (IsTrue old.told → (c o : Contents) → Among old.outcomes c → step c o → IsFitContents o)
+    → Fails k None step so old new → IsFitPlace new
+fit-none_fails k step so old new fit h = fit-fails k None step so old new (λ c. tt) (λ t c o a s. (fit t c o a s, tt)) h
 
 -- that leaves the files as they were
 pub fit-fails_unchanged : (k : ℕ) (old new : Place) → IsFitPlace old → FailsUnchanged k (in_new_state (Failed k) old.site) old new → IsFitPlace new

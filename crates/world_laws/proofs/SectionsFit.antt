@@ -61,7 +61,7 @@ fit-ran stamp name next t further None old new is h fit r =
       subst (λ (o : Option Site). IsFitSite (in_new_state (Primary stamp t.serials) o) (with_sequence old.now t.sequence)) (sym is) (fit-same_reign name old.now stamp next t.serials t.sequence f.0 f.1),
     )) r.becomes
 fit-ran stamp name next t further (Some k) old new is h fit r =
-    fit-site_fails k (λ c o. IsFrontOf further.sequence (length t.sequence) old.now o) old new
+    fit-site_fails k (λ c o. IsFrontOf further.sequence (length t.sequence) old.now o) _ old new
     (λ told c o among front. let f = fit told in (
       fit-front old.now stamp further.serials further.sequence (length t.sequence) o f.0.room f.2 front,
       front-named old.site further.sequence (length t.sequence) old.now o (h.named_now told) front,

@@ -5,7 +5,7 @@ use Rattle.global_defs.specs.Entry.{Stamp}
 use Rattle.global_defs.specs.Jobs.{Job}
 use Rattle.global_defs.specs.Serial.{Turn}
 use Rattle.command_defs.specs.Commands.{Name, Region, Command, Create, Attach, Map, StartPrimary, Run, Stop, Fuse, Crash, Extract, Zwrite, Show, Print}
-use Rattle.site_defs.specs.Contents.{Contents}
+use Rattle.site_defs.specs.Contents.{Contents, Standing}
 use Rattle.site_defs.specs.Fronts.{turn_of}
 use Rattle.site_defs.specs.Lists.{Among}
 use Rattle.world_defs.specs.World.{Down, Failed, Site, Place, World, Kept, IsFresh, place_of, next_of}
@@ -65,15 +65,15 @@ not_down : (o : Option Site) → IsOpenSite (in_new_state Down o) → ⊥
 not_down None up = up
 not_down (Some site) up = up
 
-settled-fails : (k : ℕ) (step : Contents → Contents → Type 0) (p q : Place) → Fails k (in_new_state (Failed k) p.site) step p q → IsSettledPlace q
-settled-fails k step p q f = settled-closed q (λ up. not_failed k p.site (subst IsOpenSite f.site up))
+settled-fails : (k : ℕ) (step : Contents → Contents → Type 0) (so : Option (List Standing) → Option (List Standing) → Type 0) (p q : Place) → Fails k (in_new_state (Failed k) p.site) step so p q → IsSettledPlace q
+settled-fails k step so p q f = settled-closed q (λ up. not_failed k p.site (subst IsOpenSite f.site up))
 
-settled-none_fails : (k : ℕ) (step : Contents → Contents → Type 0) (p q : Place) → Fails k None step p q → IsSettledPlace q
-settled-none_fails k step p q f = settled-closed q (λ up. subst IsOpenSite f.site up)
+settled-none_fails : (k : ℕ) (step : Contents → Contents → Type 0) (so : Option (List Standing) → Option (List Standing) → Type 0) (p q : Place) → Fails k None step so p q → IsSettledPlace q
+settled-none_fails k step so p q f = settled-closed q (λ up. subst IsOpenSite f.site up)
 
 settled-ran : (stamp : Stamp) (t further : Turn) (fault : Option ℕ) (p q : Place) → RunsTo stamp t further fault p q → IsSettledPlace q
 settled-ran stamp t further None p q r = settled-stays _ _ p q r.becomes
-settled-ran stamp t further (Some k) p q r = settled-fails k _ p q r
+settled-ran stamp t further (Some k) p q r = settled-fails k _ _ p q r
 
 settled-start_refused : (past : Bool) (p q : Place) → IsSettledPlace p → StartRefused past p q → IsSettledPlace q
 settled-start_refused true p q h r = settled-stays _ _ p q r
@@ -91,7 +91,7 @@ settled-start p h = record {
   done = λ q none d. settled-stays _ _ p q d.becomes;
   ran = λ s q d. absurd d;
   typed = λ text q d. absurd d;
-  fault = λ k q d. settled-fails k _ p q d;
+  fault = λ k q d. settled-fails k _ _ p q d;
   damage = λ file offset q d. settled-kept p q d.kept h;
   refused = λ r q d. settled-start_refused (is_reign_limit r.cause) p q h d;
   may_refuse = λ r q d. settled-kept p q d.2.kept h;
@@ -103,7 +103,7 @@ settled-map region text p h = record {
   done = λ q none d. settled-stays _ _ p q d.becomes;
   ran = λ s q d. absurd d;
   typed = λ bytes q d. absurd d;
-  fault = λ k q d. settled-fails k _ p q d;
+  fault = λ k q d. settled-fails k _ _ p q d;
   damage = λ file offset q d. settled-kept p q d.kept h;
   refused = λ r q d. settled-kept p q d h;
   may_refuse = λ r q d. settled-kept p q d.2.kept h;
@@ -139,7 +139,7 @@ settled-create regions name p h = record {
   done = λ q none d. settled-stays _ _ p q d;
   ran = λ s q d. absurd d;
   typed = λ text q d. absurd d;
-  fault = λ k q d. settled-none_fails k _ p q d;
+  fault = λ k q d. settled-none_fails k _ _ p q d;
   damage = λ file offset q d. settled-kept p q d.kept h;
   refused = λ r q d. settled-kept p q d h;
   may_refuse = λ r q d. settled-kept p q d.1.kept h;
@@ -151,7 +151,7 @@ settled-attach w p h = record {
   done = λ q none d. settled-closed q (λ up. subst IsOpenSite d.site up);
   ran = λ s q d. absurd d;
   typed = λ text q d. absurd d;
-  fault = λ k q d. settled-none_fails k _ p q d;
+  fault = λ k q d. settled-none_fails k _ _ p q d;
   damage = λ file offset q d. settled-kept p q d.kept h;
   refused = λ r q d. settled-kept p q d h;
   may_refuse = λ r q d. settled-kept p q d.1.kept h;

@@ -1,7 +1,7 @@
 -- Disks from one run to the next.
 use Rattle.std.specs.Prelude.{◌≡◌, None}
 use Rattle.site_defs.specs.Lists.{Among}
-use Rattle.world_defs.specs.World.{Place, IfKnown, EachOutcome, StaysKnown}
+use Rattle.world_defs.specs.World.{Place, IfKnown, EachOutcome, NoNew}
 use Rattle.world_defs.specs.Fit.{IsFitContents}
 
 -- where its files are known, each outcome is fit
@@ -12,5 +12,6 @@ HasFitOutcomes p = EachOutcome IsFitContents p
 pub record IsGivenBack (old new : Place) : Type 0 where
   pub site : new.site ≡ None
   pub now : IfKnown old (Among old.outcomes new.now)
-  pub known : StaysKnown old new
+  pub told : new.told ≡ old.told
+  pub outcomes : NoNew old.outcomes new.outcomes
   pub simulated : new.simulated ≡ old.simulated

@@ -2,7 +2,7 @@
 use Rattle.std.specs.Prelude.{◌≡◌, ◌≢◌, ◌⊎◌, ◌≤◌, List, [], ◌∷◌, codes, Option, Some, None, is_some}
 use Rattle.journal_defs.specs.Instance.{InstanceRecord, site_name}
 use Rattle.command_defs.specs.Commands.{Name}
-use Rattle.world_defs.specs.World.{Down, Place, World, IfKnown, EachOutcome, StaysKnown, name_on, place_of}
+use Rattle.world_defs.specs.World.{Down, Place, World, IfKnown, EachOutcome, StaysKnown, StandAsBefore, name_on, place_of}
 use Rattle.world_defs.specs.Answers.{Refusal, Exists, Empty, line}
 use Rattle.world_defs.specs.Changes.{Fails, KeptUnknown}
 use Rattle.world_defs.specs.Row.{Row, reading, refused_with, caused, where_known}
@@ -39,5 +39,5 @@ attach w p = record (reading ATTACHING p) {
   done = λ q. Attaches w p q;
   says = λ q. line (name_on q.site) (codes "ATTACHED");
   -- no site comes of a fault
-  fault = λ k q. Fails k None (λ c o. o ≡ c) p q;
+  fault = λ k q. Fails k None (λ c o. o ≡ c) StandAsBefore p q;
 }

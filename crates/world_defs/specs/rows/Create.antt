@@ -3,8 +3,8 @@ use Rattle.std.specs.Prelude.{◌≡◌, ◌⊎◌, List, [], ◌∷◌, map, co
 use Rattle.journal_defs.specs.Instance as records
 use Rattle.journal_defs.specs.Instance.{NamedMode}
 use Rattle.command_defs.specs.Commands.{Name, Region}
-use Rattle.site_defs.specs.Contents.{Contents, is_made}
-use Rattle.world_defs.specs.World.{Down, Place}
+use Rattle.site_defs.specs.Contents.{Contents, Standing, is_made, bare}
+use Rattle.world_defs.specs.World.{Down, Place, StandAfter}
 use Rattle.world_defs.specs.Answers.{Cause, NotEmpty, line}
 use Rattle.world_defs.specs.Changes.{Stays, Fails, KeptUnknown}
 use Rattle.world_defs.specs.Row.{Row, writing, refused_with, caused, where_known}
@@ -20,16 +20,20 @@ created name regions = record { instance = records.Create name (map named_mode r
 abbrev pub MayMake : Name → List Region → Contents → Contents → Type 0
 MayMake name regions c o = (o ≡ c) ⊎ (o ≡ created name regions)
 
+-- with what lies behind it
+abbrev pub MayMakeLeft : Name → List Region → Standing → Standing → Type 0
+MayMakeLeft name regions s o = (o ≡ s) ⊎ (o ≡ bare (created name regions))
+
 -- a site was made there
 abbrev pub not_empty : Place → Option Cause
 not_empty p = where_known p (caused (is_made p.now) NotEmpty)
 
 abbrev pub create : List Region → Name → Place → Row
-create regions name p = record (writing name (MayMake name regions) p) {
+create regions name p = record (writing name (MayMake name regions) (MayMakeLeft name regions) p) {
   late = refused_with name (not_empty p);
   may_refuse = λ r q. (r ≡ record { site = name; cause = NotEmpty }) × KeptUnknown p q;
   done = λ q. Stays (Some (record { name = name; state = Down })) (created name regions) p q;
   says = λ q. line name (codes "CREATED");
   -- no site comes of a fault
-  fault = λ k q. Fails k None (MayMake name regions) p q;
+  fault = λ k q. Fails k None (MayMake name regions) (StandAfter (MayMakeLeft name regions)) p q;
 }

@@ -4,7 +4,7 @@ use Rattle.std.specs.List.{list_any}
 use Rattle.journal_defs.specs.Directory.{patterns}
 use Rattle.journal_defs.specs.Instance.{generation}
 use Rattle.command_defs.specs.Commands.{Name}
-use Rattle.site_defs.specs.Contents.{Contents}
+use Rattle.site_defs.specs.Contents.{Contents, Standing, bare}
 use Rattle.site_defs.specs.Limits.{is_written, region_number}
 use Rattle.site_defs.specs.Opening.{MayMap, with_pattern}
 use Rattle.world_defs.specs.World.{Down, Place, IfKnown}
@@ -31,6 +31,10 @@ unmapped region text p = where_known p (first (started p.now ∷ no_region_at re
 abbrev pub IsUnmapped : Name → Cause → Type 0
 IsUnmapped region cause = (cause ≡ Started) ⊎ (cause ≡ NoRegion region) ⊎ (cause ≡ TwiceMapped)
 
+-- what mapping may leave of these contents with what lies behind them: the same, or with the pattern and nothing behind
+abbrev pub MayMapLeft : Name → List ℕ → Standing → Standing → Type 0
+MayMapLeft region text s o = (o ≡ s) ⊎ ((number : ℕ) × (region_number region s.contents ≡ Some number) × (o ≡ bare (with_pattern number text s.contents)))
+
 -- what was read, which is what the files stand for where they are known, has the pattern
 pub record Maps (region : Name) (text : List ℕ) (old new : Place) : Type 0 where
   pub read : Contents
@@ -40,7 +44,7 @@ pub record Maps (region : Name) (text : List ℕ) (old new : Place) : Type 0 whe
   pub becomes : Becomes Down (with_pattern number text read) old new
 
 abbrev pub map_pattern : (region : Name) → (text : List ℕ) → Name → Place → Row
-map_pattern region text name p = record (writing name (MayMap region text) p) {
+map_pattern region text name p = record (writing name (MayMap region text) (MayMapLeft region text) p) {
   early = refused_with name (in_state why_not_down p.site);
   late = refused_with name (unmapped region text p);
   may_refuse = λ r q. (r.site ≡ name) × IsUnmapped region r.cause × KeptUnknown p q;

@@ -2,11 +2,13 @@
 use Rattle.std.specs.Prelude.{◌≡◌, ℕ, ◌+◌, ◌-◌, ◌<◌, List, [], ◌++◌, length, take, codes, Option, Some, None}
 use Rattle.std.specs.Fmt.{decimal}
 use Rattle.std.specs.List.{AllByRecursion, flat_map}
-use Rattle.global_defs.specs.Entry.{Stamp}
+use Rattle.global_defs.specs.Entry.{Stamp, Sequence}
 use Rattle.global_defs.specs.Jobs.{Job}
 use Rattle.global_defs.specs.Serial.{Turn, begun}
 use Rattle.command_defs.specs.Commands.{Name}
-use Rattle.site_defs.specs.Contents.{Contents}
+use Rattle.site_defs.specs.Contents.{Contents, Standing}
+use Rattle.site_defs.specs.Behind.{MayStand}
+use Rattle.site_defs.specs.Lists.{Among}
 use Rattle.site_defs.specs.Fronts.{IsFrontOf, turn_of, with_sequence}
 use Rattle.site_defs.specs.Texts.{reply_line}
 use Rattle.world_defs.specs.World.{State, Down, Primary, Failed, Site, Place}
@@ -19,11 +21,17 @@ pub record RunsWhole (stamp : Stamp) (t : Turn) (old new : Place) : Type 0 where
   pub all_decided : AllByRecursion (λ (jobs : List Job). jobs ≡ []) t.left
   pub becomes : Becomes (Primary stamp t.serials) (with_sequence old.now t.sequence) old new
 
+-- what stands after a fault in a pick, by what was decided before it and what one more pick would have come to
+abbrev pub StandWithin : Contents → (before after : Sequence) → Option (List Standing) → Type 0
+StandWithin c before after None = ⊥
+StandWithin c before after (Some os) = (o : Standing) → Among os o → MayStand c before after o
+
 -- With a fault each outcome is a front of what one pick more would have appended that has all that the picks before it appended, which is hardened: the
--- entry of the job that failed may stand or not.
+-- entry of the job that failed may stand or not, and where it doesn't, some of its parts may lie behind.
 abbrev pub RunsTo : Stamp → (t further : Turn) → Option ℕ → Place → Place → Type 0
 RunsTo stamp t further None old new = RunsWhole stamp t old new
-RunsTo stamp t further (Some k) old new = Fails k (in_new_state (Failed k) old.site) (λ c o. IsFrontOf further.sequence (length t.sequence) old.now o) old new
+RunsTo stamp t further (Some k) old new = Fails k (in_new_state (Failed k) old.site) (λ c o. IsFrontOf further.sequence (length t.sequence) old.now o)
+    (λ was now. StandWithin old.now t.sequence further.sequence now) old new
 
 -- Without a fault all jobs are picked, in the order of their lines. With one the picks are those before the pick that failed.
 abbrev pub IsPicked : Option ℕ → List ℕ → List ℕ → Type 0

@@ -7,7 +7,7 @@ use Rattle.std.specs.Fmt.{decimal}
 use Rattle.command_defs.specs.Commands.{Name}
 use Rattle.site_defs.specs.Contents.{Contents}
 use Rattle.site_defs.specs.Limits.{no_generation_left, no_reign_left}
-use Rattle.site_defs.specs.Opening.{MayBegin, next_stamp, opened, with_reign}
+use Rattle.site_defs.specs.Opening.{MayBegin, MayBeginLeft, next_stamp, opened, with_reign}
 use Rattle.world_defs.specs.World.{State, Down, Primary, Failed, Site, Place, IfKnown, Kept}
 use Rattle.world_defs.specs.Answers.{Cause, GenLimit, ReignLimit, line}
 use Rattle.world_defs.specs.Changes.{Becomes, KeptUnknown}
@@ -59,7 +59,7 @@ cycle_on None = 0
 cycle_on (Some site) = cycle_in site.state
 
 abbrev pub start : Name → Place → Row
-start name p = record (writing name (MayBegin name p.left.broken) p) {
+start name p = record (writing name (MayBegin name p.left.broken) (MayBeginLeft name) p) {
   early = refused_with name (in_state why_not_down p.site);
   late = refused_with name (limited p);
   refused = λ r q. StartRefused (is_reign_limit r.cause) p q;

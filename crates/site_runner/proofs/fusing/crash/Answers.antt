@@ -29,6 +29,6 @@ pub returns-clause-done : goal.returns-clause-done
 returns-clause-done g c =
     let e = c.crash.ensures in
     let sim = sym c.if-not-simulated.false ∙ c.simulated.ensures in
-    crashes c.leftovers_hold.ensures (g.D.Disk.disk c.args.disk.now) (g.D.Disk.disk c.crash.new.self) c.args.site.now c.args.text.now _ (g.met.D.Disk.lawful c.crash.new.self) sim (none_why c.why_not_running.result (not_running (state_value c.args.site.now.state)) c.why_not_running.ensures c.in_default.is)
+    crashes c.leftovers_hold.ensures c.files_stand_for_one.ensures (g.D.Disk.disk c.args.disk.now) (g.D.Disk.disk c.crash.new.self) c.args.site.now c.args.text.now _ (g.met.D.Disk.lawful c.crash.new.self) sim (none_why c.why_not_running.result (not_running (state_value c.args.site.now.state)) c.why_not_running.ensures c.in_default.is)
     (e.image (sym sim)) (e.durable (sym sim)) e.simulated e.faults
     (c.in_ok-write_line.ensures ∙ ap (λ (n : List ℕ). c.args.text.now ++ line n (codes "CRASHED")) c.as_slice-2.ensures)

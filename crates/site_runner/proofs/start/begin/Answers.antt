@@ -13,7 +13,7 @@ pub returns-in_err-write_primary-in-Ok-clause-cut_off : goal.returns-in_err-writ
 returns-in_err-write_primary-in-Ok-clause-cut_off g c =
     let e = c.in-Ok.ensures in
     err_holds c.from_residual.result _ (reign_cut c.leftovers_hold.ensures (g.D.Disk.disk c.args.disk.now) (g.D.Disk.disk c.start_reign.new.disk) c.args.site.now c.args.opened
-    (record { lawful = g.met.D.Disk.lawful c.start_reign.new.disk; any_moment = e.any_moment; still_told = e.still_told; simulated = e.simulated; later = e.later }))
+    (record { lawful = g.met.D.Disk.lawful c.start_reign.new.disk; any_moment = e.any_moment; left = e.left; still_told = e.still_told; simulated = e.simulated; later = e.later }))
 
 pub returns-in-Ok-clause-done : goal.returns-in-Ok-clause-done
 returns-in-Ok-clause-done g c =
@@ -37,7 +37,7 @@ pub returns-in-Err-ReignLimit-clause-cut_off : goal.returns-in-Err-ReignLimit-cl
 returns-in-Err-ReignLimit-clause-cut_off g c =
     let e = c.in-Err-ReignLimit.ensures in
     err_holds c.refuse.result _ (reign_cut c.leftovers_hold.ensures (g.D.Disk.disk c.args.disk.now) (g.D.Disk.disk c.start_reign.new.disk) c.args.site.now c.args.opened
-    (record { lawful = g.met.D.Disk.lawful c.start_reign.new.disk; any_moment = e.any_moment; still_told = e.still_told; simulated = e.simulated; later = e.later }))
+    (record { lawful = g.met.D.Disk.lawful c.start_reign.new.disk; any_moment = e.any_moment; left = e.left; still_told = e.still_told; simulated = e.simulated; later = e.later }))
 
 pub returns-in-Err-Failed-clause-done : goal.returns-in-Err-Failed-clause-done
 returns-in-Err-Failed-clause-done g c =
@@ -47,14 +47,14 @@ returns-in-Err-Failed-clause-done g c =
     let w = g.D.Disk.disk c.start_reign.new.disk in
     on_failed c.fail.result c.fail.new.site _ _ (λ (x : Site) (done : Bool). BeginsAt (g.D.Disk.disk c.args.disk.now) c.args.opened s w x c.args.text.now c.fail.new.text done) c.fail.ensures.failed (λ t.
     reign_faulted c.leftovers_hold.ensures (g.D.Disk.disk c.args.disk.now) w s c.args.opened c.in-Err-Failed.fault c.args.text.now _
-    (record { lawful = g.met.D.Disk.lawful c.start_reign.new.disk; any_moment = e.any_moment; still_told = e.still_told; simulated = e.simulated; later = e.later })
+    (record { lawful = g.met.D.Disk.lawful c.start_reign.new.disk; any_moment = e.any_moment; left = e.left; still_told = e.still_told; simulated = e.simulated; later = e.later })
     (e.count c.in-Err-Failed.fault is) (e.cause c.in-Err-Failed.fault is) t)
 
 pub returns-in-Err-Failed-clause-cut_off : goal.returns-in-Err-Failed-clause-cut_off
 returns-in-Err-Failed-clause-cut_off g c =
     let e = c.in-Err-Failed.ensures in
     err_holds c.fail.result _ (reign_cut c.leftovers_hold.ensures (g.D.Disk.disk c.args.disk.now) (g.D.Disk.disk c.start_reign.new.disk) c.args.site.now c.args.opened
-    (record { lawful = g.met.D.Disk.lawful c.start_reign.new.disk; any_moment = e.any_moment; still_told = e.still_told; simulated = e.simulated; later = e.later }))
+    (record { lawful = g.met.D.Disk.lawful c.start_reign.new.disk; any_moment = e.any_moment; left = e.left; still_told = e.still_told; simulated = e.simulated; later = e.later }))
 
 pub returns : goal.returns
 returns g c =
@@ -63,5 +63,5 @@ returns g c =
       ready = tt;
       done = tt;
       cut_off = reign_cut c.leftovers_hold.ensures (g.D.Disk.disk c.args.disk.now) (g.D.Disk.disk c.start_reign.new.disk) c.args.site.now c.args.opened
-          (record { lawful = g.met.D.Disk.lawful c.start_reign.new.disk; any_moment = e.any_moment; still_told = e.still_told; simulated = e.simulated; later = e.later });
+          (record { lawful = g.met.D.Disk.lawful c.start_reign.new.disk; any_moment = e.any_moment; left = e.left; still_told = e.still_told; simulated = e.simulated; later = e.later });
     }

@@ -6,7 +6,7 @@ use Rattle.site_runner.proofs.Ats.{on_not_done, on_failed, on_done}
 use Rattle.site_runner.proofs.Results.{on_err_of, err_holds}
 use Rattle.site_runner.proofs.Written.{named, not_a_file}
 use Rattle.site_store.proofs.Refused.{limit_site, drawn_site}
-use Rattle.site_runner.proofs.Started.{load_faulted, load_cut, load_limit, load_damaged, load_other, begins_so, begins_cut}
+use Rattle.site_runner.proofs.Started.{load_faulted, load_cut, load_limit, load_damaged, load_other, starts_so, starts_cut}
 use Rattle.site_runner.proofs.start.open.Goals as goal
 
 pub returns-then-is_named-clause-done : goal.returns-then-is_named-clause-done
@@ -14,14 +14,14 @@ returns-then-is_named-clause-done g c =
     let e = c.in-Ok.ensures in
     let name = c.if-is_named.ensures ∙ c.as_slice.ensures in
     on_done c.begin.result _ _ c.begin.ensures.done (λ done b.
-    begins_so c.files_stand_for_one.ensures (g.D.Disk.disk c.args.disk.now) (g.D.Disk.disk c.load.new.disk) (g.D.Disk.disk c.begin.new.disk) c.args.site.now c.begin.new.site c.in-Ok.opened c.args.text.now c.begin.new.text done (g.met.D.Disk.lawful c.args.disk.now) c.requires name e.read e.told (drawn_site (g.D.Disk.disk c.args.disk.now).content e.drawn) e.simulated e.later b)
+    starts_so c.leftovers_hold.ensures c.files_stand_for_one.ensures (g.D.Disk.disk c.args.disk.now) (g.D.Disk.disk c.load.new.disk) (g.D.Disk.disk c.begin.new.disk) c.args.site.now c.begin.new.site c.in-Ok.opened c.args.text.now c.begin.new.text done (g.met.D.Disk.lawful c.args.disk.now) c.requires name e.read e.told (drawn_site (g.D.Disk.disk c.args.disk.now).content e.drawn) e.simulated e.later b)
 
 pub returns-then-is_named-clause-cut_off : goal.returns-then-is_named-clause-cut_off
 returns-then-is_named-clause-cut_off g c =
     let e = c.in-Ok.ensures in
     let name = c.if-is_named.ensures ∙ c.as_slice.ensures in
     on_err_of c.begin.result _ _ c.begin.ensures.cut_off (λ b.
-    begins_cut c.files_stand_for_one.ensures (g.D.Disk.disk c.args.disk.now) (g.D.Disk.disk c.load.new.disk) (g.D.Disk.disk c.begin.new.disk) c.args.site.now c.in-Ok.opened (g.met.D.Disk.lawful c.args.disk.now) c.requires name e.read e.told (drawn_site (g.D.Disk.disk c.args.disk.now).content e.drawn) e.simulated e.later b)
+    starts_cut c.leftovers_hold.ensures c.files_stand_for_one.ensures (g.D.Disk.disk c.args.disk.now) (g.D.Disk.disk c.load.new.disk) (g.D.Disk.disk c.begin.new.disk) c.args.site.now c.in-Ok.opened (g.met.D.Disk.lawful c.args.disk.now) c.requires name e.read e.told (drawn_site (g.D.Disk.disk c.args.disk.now).content e.drawn) e.simulated e.later b)
 
 pub returns-else-is_named-clause-done : goal.returns-else-is_named-clause-done
 returns-else-is_named-clause-done g c =
@@ -33,7 +33,7 @@ returns-else-is_named-clause-done g c =
 pub returns-else-is_named-clause-cut_off : goal.returns-else-is_named-clause-cut_off
 returns-else-is_named-clause-cut_off g c =
     let e = c.in-Ok.ensures in
-    err_holds c.damaged.result _ (load_cut c.leftovers_hold.ensures (g.D.Disk.disk c.args.disk.now) (g.D.Disk.disk c.load.new.disk) c.args.site.now (g.met.D.Disk.lawful c.load.new.disk) e.any_moment e.still_told e.simulated e.later)
+    err_holds c.damaged.result _ (load_cut c.leftovers_hold.ensures (g.D.Disk.disk c.args.disk.now) (g.D.Disk.disk c.load.new.disk) c.args.site.now (g.met.D.Disk.lawful c.load.new.disk) e.any_moment e.left e.still_told e.simulated e.later)
 
 pub returns-in-Err-GenLimit-clause-done : goal.returns-in-Err-GenLimit-clause-done
 returns-in-Err-GenLimit-clause-done g c =
@@ -46,7 +46,7 @@ returns-in-Err-GenLimit-clause-done g c =
 pub returns-in-Err-GenLimit-clause-cut_off : goal.returns-in-Err-GenLimit-clause-cut_off
 returns-in-Err-GenLimit-clause-cut_off g c =
     let e = c.in-Err-GenLimit.ensures in
-    err_holds c.refuse.result _ (load_cut c.leftovers_hold.ensures (g.D.Disk.disk c.args.disk.now) (g.D.Disk.disk c.load.new.disk) c.args.site.now (g.met.D.Disk.lawful c.load.new.disk) e.any_moment e.still_told e.simulated e.later)
+    err_holds c.refuse.result _ (load_cut c.leftovers_hold.ensures (g.D.Disk.disk c.args.disk.now) (g.D.Disk.disk c.load.new.disk) c.args.site.now (g.met.D.Disk.lawful c.load.new.disk) e.any_moment e.left e.still_told e.simulated e.later)
 
 pub returns-in-Err-Failed-clause-done : goal.returns-in-Err-Failed-clause-done
 returns-in-Err-Failed-clause-done g c =
@@ -55,13 +55,13 @@ returns-in-Err-Failed-clause-done g c =
     let s = c.args.site.now in
     let w = g.D.Disk.disk c.load.new.disk in
     on_failed c.fail.result c.fail.new.site _ _ (λ (x : Site) (done : Bool). ExecutesAt (rows.start s.name) (g.D.Disk.disk c.args.disk.now) s w x c.args.text.now c.fail.new.text done) c.fail.ensures.failed (λ t.
-    load_faulted c.leftovers_hold.ensures (g.D.Disk.disk c.args.disk.now) w s _ c.args.text.now _ (g.met.D.Disk.lawful c.load.new.disk) c.requires e.any_moment e.still_told e.simulated
+    load_faulted c.leftovers_hold.ensures (g.D.Disk.disk c.args.disk.now) w s _ c.args.text.now _ (g.met.D.Disk.lawful c.load.new.disk) c.requires e.any_moment e.left e.still_told e.simulated
     (c.in-Err-Failed.fault-is ∙ e.count c.in-Err-Failed.fault is) (e.cause c.in-Err-Failed.fault is) t)
 
 pub returns-in-Err-Failed-clause-cut_off : goal.returns-in-Err-Failed-clause-cut_off
 returns-in-Err-Failed-clause-cut_off g c =
     let e = c.in-Err-Failed.ensures in
-    err_holds c.fail.result _ (load_cut c.leftovers_hold.ensures (g.D.Disk.disk c.args.disk.now) (g.D.Disk.disk c.load.new.disk) c.args.site.now (g.met.D.Disk.lawful c.load.new.disk) e.any_moment e.still_told e.simulated e.later)
+    err_holds c.fail.result _ (load_cut c.leftovers_hold.ensures (g.D.Disk.disk c.args.disk.now) (g.D.Disk.disk c.load.new.disk) c.args.site.now (g.met.D.Disk.lawful c.load.new.disk) e.any_moment e.left e.still_told e.simulated e.later)
 
 pub returns-in-Err-NotAFile-clause-done : goal.returns-in-Err-NotAFile-clause-done
 returns-in-Err-NotAFile-clause-done g c =
@@ -75,9 +75,9 @@ returns-in-Err-NotAFile-clause-done g c =
 pub returns-in-Err-NotAFile-clause-cut_off : goal.returns-in-Err-NotAFile-clause-cut_off
 returns-in-Err-NotAFile-clause-cut_off g c =
     let e = c.in-Err-NotAFile.ensures in
-    err_holds c.damaged-in-Err-NotAFile.result _ (load_cut c.leftovers_hold.ensures (g.D.Disk.disk c.args.disk.now) (g.D.Disk.disk c.load.new.disk) c.args.site.now (g.met.D.Disk.lawful c.load.new.disk) e.any_moment e.still_told e.simulated e.later)
+    err_holds c.damaged-in-Err-NotAFile.result _ (load_cut c.leftovers_hold.ensures (g.D.Disk.disk c.args.disk.now) (g.D.Disk.disk c.load.new.disk) c.args.site.now (g.met.D.Disk.lawful c.load.new.disk) e.any_moment e.left e.still_told e.simulated e.later)
 
 pub returns-in-Err : goal.returns-in-Err
 returns-in-Err g c =
     let e = c.in-Err.ensures in
-    record { ready = tt; done = tt; cut_off = load_cut c.leftovers_hold.ensures (g.D.Disk.disk c.args.disk.now) (g.D.Disk.disk c.load.new.disk) c.args.site.now (g.met.D.Disk.lawful c.load.new.disk) e.any_moment e.still_told e.simulated e.later }
+    record { ready = tt; done = tt; cut_off = load_cut c.leftovers_hold.ensures (g.D.Disk.disk c.args.disk.now) (g.D.Disk.disk c.load.new.disk) c.args.site.now (g.met.D.Disk.lawful c.load.new.disk) e.any_moment e.left e.still_told e.simulated e.later }

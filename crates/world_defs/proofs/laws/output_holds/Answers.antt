@@ -38,7 +38,7 @@ returns-clause-refused c = (
   refl,
   record {
     becomes = failed_place true;
-    here = (inl (refl, record { site = refl; now = refl; left = refl; known = record { told = refl; outcomes = λ o h. h }; faults = omega arith; simulated = refl }), sym stopped_line);
+    here = (inl (refl, record { site = refl; now = refl; left = refl; known = record { told = refl; outcomes = λ o h. h; standings = λ t o h. (o, h, refl) }; faults = omega arith; simulated = refl }), sym stopped_line);
     around = (refl, tt);
   },
 )

@@ -1,0 +1,34 @@
+-- What a START writes down of what lay behind a sequence.
+use Rattle.std.specs.Prelude.{◌≡◌, ℕ, List, [], ◌∷◌, ◌++◌, IfSome}
+use Rattle.global_defs.specs.Jobs.{Job}
+use Rattle.global_defs.specs.Serial.{Turn}
+use Rattle.command_defs.specs.Commands.{Name}
+use Rattle.site_defs.specs.Behind.{MayStand}
+use Rattle.site_defs.specs.Contents.{Standing}
+use Rattle.site_defs.specs.Lists.{Among}
+use Rattle.site_defs.specs.Opening.{opened, with_reign}
+use Rattle.world_defs.specs.World.{Place, IfKnown, Settled, name_on}
+use Rattle.world_defs.specs.Answers.{Section}
+use Rattle.world_defs.specs.rows.Run.{one_further, turn_on}
+use Rattle.run_laws.specs.Entries.{turn_there}
+
+-- The site was opened from these contents with that text behind them, and its reign began.
+pub record WritesDown (name : Name) (s : Standing) (q : Place) : Type 0 where
+  pub now : q.now ≡ with_reign name (opened s.broken s.contents)
+  -- so its newest broken-transaction file is exactly that text
+  pub text : q.now.texts ≡ s.contents.texts ++ s.broken ∷ []
+  -- and no image stands for anything else
+  pub only : Settled q
+
+-- Where the files are known, and what lies behind in each image, it's one of these.
+abbrev pub WritesOneOf : Place → Place → Type 0
+WritesOneOf p q = IfKnown p (IfSome p.standings (λ os. (s : Standing) × Among os s × WritesDown (name_on p.site) s q))
+
+-- the jobs as the section's picks and one more would have decided them
+abbrev pub turn_further : Section → List (List Job) → List ℕ → Place → Turn
+turn_further s jobs order p = turn_on p.site jobs (one_further order s.picks) p
+
+-- Where the files are known: what a fault in the pick behind the section's may have left.
+abbrev pub WritesWhatWasLeft : Section → List (List Job) → List ℕ → Place → Place → Type 0
+WritesWhatWasLeft s jobs order p q =
+    IfKnown p ((o : Standing) × MayStand p.now (turn_there s jobs p).sequence (turn_further s jobs order p).sequence o × WritesDown (name_on p.site) o q)

@@ -1,0 +1,18 @@
+//! What lies behind a sequence is written down.
+
+ghost use Rattle.std.specs.Prelude.{◌≡◌, ◌∷◌, List, [], ℕ, Some};
+ghost use Rattle.global_defs.specs.Jobs.{Job};
+ghost use Rattle.command_defs.specs.Commands.{Name, Crash, Run, StartPrimary};
+ghost use Rattle.world_defs.specs.World.{Place, World};
+ghost use Rattle.world_defs.specs.Answers.{Section, Done, Ran};
+ghost use Rattle.world_defs.specs.Step.{Step};
+ghost use Rattle.run_laws.specs.Entries.{IsPlaceOf};
+ghost use Rattle.run_laws.specs.Leftovers.{WritesOneOf, WritesWhatWasLeft};
+
+/// A START behind a crash writes down exactly what lay behind the sequence in the image that the crash took.
+pub fn starts_write_what_lies_behind()
+    // which is one that the site's disk could have
+    ensures crashed { (w u m : World) (name : Name) (pick : ℕ) (text rest : List ℕ) (p q : Place) → Step w (Crash name pick) (Done ∷ []) u text → Step u (StartPrimary name) (Done ∷ []) m rest → IsPlaceOf name w m p q → WritesOneOf p q }
+    // and behind a section that a fault ended, one that a fault in its last pick may leave
+    ensures faulted { (w v u m : World) (name : Name) (jobs : List (List Job)) (order : List ℕ) (s : Section) (fault pick : ℕ) (told text rest : List ℕ) (p q : Place) → Step w (Run name jobs order) (Ran s ∷ []) v told → s.fault ≡ Some fault → Step v (Crash name pick) (Done ∷ []) u text → Step u (StartPrimary name) (Done ∷ []) m rest → IsPlaceOf name w m p q → WritesWhatWasLeft s jobs order p q }
+{}
