@@ -63,6 +63,13 @@ impl Inbox {
         })
     }
 
+    // How many frames wait.
+    pub(crate) fn count(&self) -> usize
+        ensures { result ≡ length self.now.waiting }
+    {
+        self.waiting.len()
+    }
+
     // The first frame that waits.
     pub(crate) fn first(&self) -> Option<&Frame>
         ensures is { MatchOption result (self.now.waiting ≡ []) (λ f. (fs : List defs.Frame) × (self.now.waiting ≡ frame_value f.now ∷ fs)) }

@@ -94,6 +94,13 @@ impl Receiver {
         self.inbox.first().is_some()
     }
 
+    /// How many frames have come that weren't heard yet.
+    pub fn waiting(&self) -> usize
+        ensures { result ≡ length self.now.incoming.waiting }
+    {
+        self.inbox.count()
+    }
+
     // No frame that fits stands where the next one is to begin.
     fn bad_frame(&self) -> HearError
         ensures { result ≡ HearError.BadFrame self.now.offset }

@@ -39,8 +39,7 @@ impl Item {
         Item { code: END }
     }
 
-    // A byte.
-    pub(crate) fn of(byte: u8) -> Self
+    fn of(byte: u8) -> Self
         ensures { result ≡ Byte byte }
     {
         Item { code: byte as u16 }

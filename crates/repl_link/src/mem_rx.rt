@@ -1,12 +1,15 @@
 // The end of a link in memory that receives.
-ghost use Rattle.std.specs.Prelude.{◌≡◌, ◌<◌, ◌≤◌, [], length, take, false, IsTrue};
+ghost use Rattle.std.specs.Prelude.{◌≡◌, ◌<◌, ◌≤◌, ◌++◌, [], length, take, false, IsTrue};
+ghost use mathlib.Core.List.{IsPrefix as BeginsWith};
 ghost use Rattle.rtrb.specs.Ring.{received as items_received, known_items, SameConsumer};
 ghost use Rattle.repl_link.specs.Items.{has_end, Drained};
 
 use crate::items::{Item, Line, copy_bytes};
 use crate::limits::{PIECE, at_most, less};
 use crate::traits::{Cut, LinkRx, Received};
+use core::mem::replace_with;
 use rtrb::Consumer;
+use std::mem;
 
 /// Receives over a ring in memory. It tells its bytes.
 #[derive(Drop)]
@@ -20,24 +23,65 @@ pub struct MemRx {
     pub(crate) ended: bool,
     pub(crate) closed: bool,
     pub(crate) ring: Consumer<Item>,
+    // Where items are put that were taken out of the ring.
+    pub(crate) items: Vec<Item>,
     ghost session_in_range: { session < 8 },
     ghost ends: { has_end (items_received ring) ≡ ended },
+    ghost places: { length items.items ≡ 4096 },
     ghost over: { IsTrue closed → IsTrue ended },
 }
 
-// Pops as many items as there are places for, and copies their bytes: how many there are, and whether the end follows them.
-fn drain(ring: &mut Consumer<Item>, items: &mut [Item], buffer: &mut [u8]) -> (usize, bool)
-    requires items { 0 < length items.old }
-    requires buffer { length items.old ≤ length buffer.old }
+// Pops as many items as there are, and so many at most.
+fn pop_front(ring: &mut Consumer<Item>, items: &mut [Item], most: usize) -> usize
+    requires { most ≤ length items.old }
     ensures ring { SameConsumer ring.old ring.new }
-    ensures count { result.0 ≤ length items.old }
-    ensures drained { Drained (items_received ring.old) (items_received ring.new) (known_items ring.old) (known_items ring.new) (take result.0 buffer.new) result.1 }
-    ensures bytes { result.0 ≡ length (take result.0 buffer.new) }
-    ensures nothing { result.0 ≡ 0 → result.1 ≡ false → known_items ring.old ≡ [] }
+    ensures count { result ≤ most }
+    ensures received { items_received ring.new ≡ items_received ring.old ++ take result items.new }
+    ensures known { BeginsWith (known_items ring.old) (take result items.new ++ known_items ring.new) }
+    ensures most { result < most → length (known_items ring.new) ≡ 0 }
 {
-    let popped = ring.pop_partial_slice(items);
+    ring.pop_partial_slice(&mut items[..most])
+}
+
+// The same, which takes the ring by value, so that the loop over its places keeps their address.
+fn pop_most(
+    mut ring: Consumer<Item>,
+    places: (Vec<Item>, usize),
+) -> (Consumer<Item>, (Vec<Item>, usize))
+    requires { places.1 ≤ length places.0.items }
+    ensures ring { SameConsumer ring result.0 }
+    ensures items { length result.1.0.items ≡ length places.0.items }
+    ensures count { result.1.1 ≤ places.1 }
+    ensures received { items_received result.0 ≡ items_received ring ++ take result.1.1 result.1.0.items }
+    ensures known { BeginsWith (known_items ring) (take result.1.1 result.1.0.items ++ known_items result.0) }
+    ensures most { result.1.1 < places.1 → length (known_items result.0) ≡ 0 }
+{
+    let (mut items, most) = places;
+    let count = pop_front(&mut ring, &mut items, most);
+    (ring, (items, count))
+}
+
+// Pops as many items as there are, and so many at most, and copies their bytes: the list of items, how many bytes there are, and whether the
+// end follows them.
+fn drain(
+    ring: &mut Consumer<Item>,
+    items: Vec<Item>,
+    most: usize,
+    buffer: &mut [u8],
+) -> (Vec<Item>, usize, bool)
+    requires some { 0 < most }
+    requires items { most ≤ length items.items }
+    requires buffer { most ≤ length buffer.old }
+    ensures ring { SameConsumer ring.old ring.new }
+    ensures items { length result.0.items ≡ length items.items }
+    ensures count { result.1 ≤ most }
+    ensures drained { Drained (items_received ring.old) (items_received ring.new) (known_items ring.old) (known_items ring.new) (take result.1 buffer.new) result.2 }
+    ensures bytes { result.1 ≡ length (take result.1 buffer.new) }
+    ensures nothing { result.1 ≡ 0 → result.2 ≡ false → known_items ring.old ≡ [] }
+{
+    let (items, popped) = replace_with(ring, (items, most), pop_most);
     let count = copy_bytes(&items[..popped], buffer);
-    (count, count < popped)
+    (items, count, count < popped)
 }
 
 impl MemRx {
@@ -65,9 +109,10 @@ impl MemRx {
         ensures nothing { result ≡ 0 → self.new.ended ≡ false → ((mem_receiving self.old).unread ≡ []) × ((mem_receiving self.old).ended ≡ false) }
     {
         let most = at_most(self.left, buffer.len().min(PIECE));
-        // a list of its own, of zeros, so that the loop that takes items out of the ring is sure to change nothing of the ring
-        let mut items = [Item::of(0); PIECE];
-        let (count, ended) = drain(&mut self.ring, &mut items[..most], buffer);
+        let none = Vec::new(*self.items.allocator());
+        let items = mem::replace(&mut self.items, none);
+        let (items, count, ended) = drain(&mut self.ring, items, most, buffer);
+        self.items = items;
         self.ended = ended;
         self.left = less(self.left, count);
         count

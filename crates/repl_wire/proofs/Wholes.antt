@@ -5,8 +5,10 @@ use Rattle.std.specs.List.{flat_map, AllByRecursion}
 use Rattle.std.proofs.Math.Seq.{take-append_seam}
 use Rattle.std.proofs.lemmas.Grind.{flat_map-append}
 use Rattle.std.proofs.lemmas.List.{nil_from_length, take-append-drop}
-use Rattle.global_defs.specs.Entry.{Update, Transaction}
-use Rattle.global_defs.specs.Fields.{IsUpdate, spelled_update}
+use Rattle.global_defs.specs.Encoded.{encoded}
+use Rattle.global_defs.specs.Entry.{Update, Set, Transaction}
+use Rattle.global_defs.specs.Fields.{IsUpdate, short, long, spelled_update}
+use Rattle.global_defs.specs.Key.{Key}
 use Rattle.wire_defs.specs.Frames.{Frame, Entry, BeginsFrame, BeginsNone, entry_bytes, frame_body, frame_type}
 use Rattle.repl_wire.specs.declared.field.Scan.{Scan}
 use Rattle.repl_wire.specs.declared.frame.FrameError.{FrameError}
@@ -30,6 +32,9 @@ stand_more made later bytes rest behind u s push form cut = subst (λ (l : List 
   cut = s.cut ∙ ap (λ (l : List ℕ). flat_map spelled_update made ++ l) (cut ∙ ap (λ (l : List ℕ). l ++ behind) (sym (append-nil (spelled_update u))))
       ∙ sym (append_assoc (flat_map spelled_update made) (spelled_update u ++ []) behind) ∙ ap (λ (l : List ℕ). l ++ behind) (sym (flat_map-append spelled_update made (u ∷ [])));
 })
+
+pub set_stands : (bytes code rest value behind : List ℕ) (k : Key) → bytes ≡ short code ++ rest → rest ≡ long value ++ behind → encoded k ≡ code → 1 ∷ bytes ≡ spelled_update (Set k value) ++ behind
+set_stands bytes code rest value behind k e1 e2 is = ap (λ (l : List ℕ). 1 ∷ l) (e1 ∙ ap (λ (l : List ℕ). short l ++ rest) (sym is) ∙ ap (λ (l : List ℕ). short (encoded k) ++ l) e2 ∙ sym (append_assoc (short (encoded k)) (long value) behind))
 
 -- the fields of an entry and its updates, one after another
 

@@ -83,6 +83,9 @@ fn scanned(alloc: Global, bytes: &[u8]) -> Result<Ahead, NoMemory>
 fn look(alloc: Global, bytes: &[u8]) -> Result<Ahead, NoMemory>
     ensures { IfOk result (λ found. IsAhead found bytes.now) }
 {
+    if bytes.is_empty() {
+        return Ok(Ahead::Open(Scan::new()));
+    }
     match whole_entry(alloc, bytes)? {
         Some((frame, count)) => Ok(Ahead::Whole(frame, count)),
         None => scanned(alloc, bytes),

@@ -72,6 +72,9 @@ pub struct Machines<P> {
     pub(crate) cut: bool,
 }
 
+// How many frames may wait to be heard while more are shipped. It is few, so that what was heard gives its memory to what comes.
+const MOST_WAITING: usize = 3;
+
 // Makes BYE, where so many entries were taken and it isn't made yet.
 fn close(source: &mut Source, length: u64) -> Result<(), NoMemory>
     ensures made { (from : ℕ) (sent : List ℕ) (given : List (List ℕ)) → HasMade from length source.old sent given → HasMade from length source.new sent given }
@@ -261,7 +264,7 @@ impl<P: Drop> Machines<P> {
         failure
     }
 
-    // A step of the Source Server, where it goes on.
+    // A step of the Source Server, where it goes on and few frames wait to be heard.
     fn send<T: LinkTx, E: EntrySource<Error = P>>(
         &mut self,
         length: u64,
@@ -281,10 +284,11 @@ impl<P: Drop> Machines<P> {
         ensures stays_cut { IsTrue self.old.cut → IsTrue self.new.cut }
         ensures failed { IsTrue (T.sending tx.old).told → (IsSome self.old.failure → IsTrue (T.sending tx.old).finished) → IsSome self.new.failure → IsTrue (T.sending tx.new).finished }
         ensures gives { IsTrue (T.sending tx.old).told → CanGive (E.ready entries.old) length self.old.source → CanGive (E.ready entries.new) length self.new.source }
+        // where no frame waits
         ensures moves { IsTrue (T.sending tx.old).told → (T.sending tx.old).finished ≡ false → 0 < (T.sending tx.old).free → (IsSome self.old.failure → ⊥) → self.old.cut ≡ false
-            → CanGive (E.ready entries.old) length self.old.source → OnOk result (HasSentOn (T.sending tx.old) (T.sending tx.new) ⊎ IsTrue self.new.cut) }
+            → self.old.receiver.incoming.waiting ≡ [] → CanGive (E.ready entries.old) length self.old.source → OnOk result (HasSentOn (T.sending tx.old) (T.sending tx.new) ⊎ IsTrue self.new.cut) }
     {
-        if self.failure.is_some() || self.cut {
+        if self.failure.is_some() || self.cut || self.receiver.waiting() >= MOST_WAITING {
             return Ok(());
         }
         match ship(&mut self.source, length, entries, tx) {
@@ -352,7 +356,8 @@ impl<P: Drop> Machines<P> {
         settle(self.cut, turned)
     }
 
-    /// One step of each machine in turn, over both ends of a connection. The primary has so many entries. Afterwards each end knows all.
+    /// One step of each machine in turn, over both ends of a connection, but none of the Source Server while three frames wait to be heard. The
+    /// primary has so many entries. Afterwards each end knows all.
     pub fn turn<L: Linker, E: EntrySource<Error = P>, S: EntrySink>(
         &mut self,
         length: u64,

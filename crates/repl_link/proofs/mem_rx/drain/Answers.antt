@@ -1,12 +1,16 @@
-use Rattle.std.proofs.Common.{ap, ◌∙◌, arith, nat_lt}
+use Rattle.std.proofs.Common.{ap, ◌∙◌, sym, arith, nat_lt, length, take}
 use Rattle.std.proofs.lemmas.List.{length-take-le}
+use Rattle.repl_link.specs.Items.{bytes_of, has_end}
 use Rattle.repl_link.proofs.mem_rx.drain.Goals as goal
 
 pub returns-clause-drained : goal.returns-clause-drained
-returns-clause-drained c = record {
-  taken = _;
-  after_is = c.pop_partial_slice-popped.ensures.received.1;
-  known_first = c.pop_partial_slice-popped.ensures.known;
-  bytes_are = c.copy_bytes-count.ensures.bytes;
-  ended_is = c.copy_bytes-count.ensures.end ∙ ap (λ n. nat_lt c.copy_bytes-count.result n) (length-take-le c.pop_partial_slice-popped.result c.pop_partial_slice-popped.new.slice (omega arith));
-}
+returns-clause-drained c =
+    let p = c.replace_with-items in
+    let copied = c.copy_bytes-count in
+    record {
+      taken = take p.result.1 p.result.0.items;
+      after_is = p.ensures.1.1.1.0;
+      known_first = p.ensures.1.1.1.1.0;
+      bytes_are = copied.ensures.bytes ∙ ap (λ l. bytes_of (take p.result.1 l)) c.deref.ensures.value;
+      ended_is = ap (λ l. has_end (take p.result.1 l)) (sym c.deref.ensures.value) ∙ (copied.ensures.end ∙ ap (λ n. nat_lt copied.result n) (length-take-le p.result.1 c.deref.result.now (omega (arith, p.ensures.1.1.0, p.ensures.1.0, c.requires, c.deref.ensures.len))));
+    }

@@ -57,7 +57,7 @@ returns-clause-moves g c = λ can pool.
     rw c.settle.ensures (settled_on n.cut c.follow-turned.result _ (on_weaker c.follow-turned.result _ _ (moved_or_sent m.receiver n.receiver c.follow-turned.new.receiver r s (HasSentOn x y) same.0 (λ still.
     still_sends (IsSome m.failure) (HasSentOn x y) x r can.know can.places can.failed (still.nothing can.told.1) (λ open_ free unfailed.
     sent_of (HasSentOn x y) n.cut (uncut still) (ok_of c.send.result _ (sym c.if-is_err.ensures.value)
-    (c.send.ensures.moves can.told.0 open_ free unfailed (never_cut m.cut n.cut c.send.ensures.stays_cut (uncut still)) can.gives)))))
+    (c.send.ensures.moves can.told.0 open_ free unfailed (never_cut m.cut n.cut c.send.ensures.stays_cut (uncut still)) still.none can.gives)))))
     (c.follow-turned.ensures.hears (empty_same m.into n.into m.out n.out same.1 same.2 pool))))
 
 pub returns-clause-going : goal.returns-clause-going
