@@ -67,10 +67,10 @@ logged_first o s ns first are = record { reached = 0; few = omega arith; left = 
     none (Some files) = sym (append-nil first)
 
 -- the block that is next
-pub next_dirty : (o : Option Files) (s : Standing) (ns : List ℕ) (i x : ℕ) (first old : List Before) → i < length ns → x ≡ get_or ns i x → AreLoggedTo o s ns i first old → is_dirty s.pool x ≡ true
+pub next_dirty : (o : Option Files) (s : Standing) (ns : List ℕ) (i x : ℕ) (first old : List Before) → i < length ns → x ≡ get_or ns i 0 → AreLoggedTo o s ns i first old → is_dirty s.pool x ≡ true
 next_dirty o s ns i x first old low read w = let next = next_of s.pool.dirty ns w.reached i x w.left low read in next.is_set
 
-pub logged_more : (o n : Option Files) (s : Standing) (ns : List ℕ) (i x : ℕ) (first old new : List Before) → i < length ns → x ≡ get_or ns i x → n ≡ o → IfSome n (λ files. new ≡ old ++ image_at s (files s.file) x)
+pub logged_more : (o n : Option Files) (s : Standing) (ns : List ℕ) (i x : ℕ) (first old new : List Before) → i < length ns → x ≡ get_or ns i 0 → n ≡ o → IfSome n (λ files. new ≡ old ++ image_at s (files s.file) x)
     → AreLoggedTo o s ns i first old → AreLoggedTo o s ns (i + 1) first new
 logged_more o n s ns i x first old new low read same step w =
     let next = next_of s.pool.dirty ns w.reached i x w.left low read in

@@ -99,7 +99,7 @@ pub none_marked : (dirty marks : List Bool) (ns : List ℕ) → ns ≡ numbers_f
 none_marked dirty marks ns are = record { reached = 0; few = omega arith; left = sym are; made = refl }
 
 -- one changed block more is marked
-pub marked_next : (dirty marks : List Bool) (ns : List ℕ) (i x : ℕ) (old new : List Bool) → i < length ns → x ≡ get_or ns i x → new ≡ with_image old x → AreMarkedTo dirty marks ns i old → AreMarkedTo dirty marks ns (i + 1) new
+pub marked_next : (dirty marks : List Bool) (ns : List ℕ) (i x : ℕ) (old new : List Bool) → i < length ns → x ≡ get_or ns i 0 → new ≡ with_image old x → AreMarkedTo dirty marks ns i old → AreMarkedTo dirty marks ns (i + 1) new
 marked_next dirty marks ns i x old new low read is w =
     let next = next_of dirty ns w.reached i x w.left low read in
     record {

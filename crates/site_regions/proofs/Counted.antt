@@ -1,10 +1,10 @@
 -- How many nodes updates set.
-use Rattle.std.proofs.Common.{◌≡◌, ℕ, ◌+◌, ◌<◌, ◌≤◌, ◌==◌, Bool, true, false, List, [], ◌∷◌, ◌++◌, length, map, filter, take, refl, sym, ◌∙◌, ap, arith, get_or}
+use Rattle.std.proofs.Common.{◌≡◌, ℕ, ◌+◌, ◌<◌, ◌≤◌, ◌==◌, Bool, true, false, List, [], ◌∷◌, ◌++◌, length, map, filter, fold, take, drop, refl, sym, ◌∙◌, ap, arith, get_or}
 use Rattle.std.specs.Prelude.{◌-◌, if◌then◌else◌, not}
 use Rattle.std.specs.FinMap as globals
-use Rattle.std.specs.Ordering.{eq_by_cmp}
-use Rattle.std.proofs.lemmas.List.{map-append, map_more}
+use Rattle.std.proofs.lemmas.List.{map_more, drop_more}
 use Rattle.std.proofs.lemmas.List.Elements.{filter-append}
+use Rattle.std.proofs.lemmas.List.Sums.{fold-append}
 use Rattle.global_defs.specs.Key.{Key, key_cmp}
 use Rattle.global_defs.specs.Entry.{Globals, Update, Set, Kill, ZKill, apply, is_under}
 use Rattle.global_defs.proofs.Order.{key_total}
@@ -59,3 +59,11 @@ len-apply g (ZKill key) = by (globals.contains_key g key) (globals.len-remove ke
     by : (b : Bool) → globals.len (globals.remove g key) ≡ (if b then globals.len g - 1 else globals.len g) → globals.len (globals.remove g key) ≤ globals.len g + 0
     by true is = omega (arith, is)
     by false is = omega (arith, is)
+
+-- the first of those that are left
+pub first_left : {X : Type 0} (f : X → Update) (xs : List X) (i : ℕ) (x : X) → i < length xs → x ≡ get_or xs i x → map f (drop i xs) ≡ f x ∷ map f (drop (i + 1) xs)
+first_left f xs i x low is = ap (map f) (drop_more xs i x low) ∙ ap (λ y. f y ∷ map f (drop (i + 1) xs)) (sym is)
+
+-- one update more is made
+pub made_more : {X : Type 0} (f : X → Update) (g : Globals) (xs : List X) (i : ℕ) (x : X) → i < length xs → x ≡ get_or xs i x → fold apply g (map f (take (i + 1) xs)) ≡ apply (fold apply g (map f (take i xs))) (f x)
+made_more f g xs i x low is = ap (fold apply g) (map_more f xs i x low ∙ ap (λ y. map f (take i xs) ++ f y ∷ []) (sym is)) ∙ fold-append apply g (map f (take i xs)) (f x ∷ [])

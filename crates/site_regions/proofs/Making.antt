@@ -13,7 +13,7 @@ use Rattle.global_defs.specs.Entry.{Entry, Globals, Sequence, Update, apply, sta
 use Rattle.journal_defs.specs.Directory.{Pattern}
 use Rattle.journal_defs.specs.Fit.{region_of_update}
 use Rattle.journal_defs.specs.Sound.{region_state}
-use Rattle.block_laws.specs.Nodes.{updates_in}
+use Rattle.block_laws.specs.Nodes.{updates_in, union}
 use Rattle.block_laws.proofs.Parts as parts
 use Rattle.gvt_leaf.specs.Stored.{Stored, HasRoom, sets_of, sets_in}
 use Rattle.gvt_leaf.proofs.Made.{room_rest}
@@ -135,9 +135,9 @@ module _ (j : Joined) (h : AreJoined j) (r : ℕ) (s t : Standing) (u : Update) 
         ∙ ap (λ (n : ℕ). option_map (λ (x : Standing). x.globals) (slice_get (slice_set j.regions r t) n)) e
         ∙ ap (option_map (λ (x : Standing). x.globals)) (get-set_same j.regions r t (slice_get_within j.regions r s here))
         ∙ ap (λ (g : Globals). Some g)
-          (made ∙ ap (λ (g : Globals). apply g u) (part_at j h r s here)
-          ∙ ap (fold apply (region_state j.patterns r h.entries)) (sym (here_first j.patterns r u [] at_home))
-          ∙ sym (parts.step j.patterns r h.entries (entry_of u)))
+        (made ∙ ap (λ (g : Globals). apply g u) (part_at j h r s here)
+        ∙ ap (fold apply (region_state j.patterns r h.entries)) (sym (here_first j.patterns r u [] at_home))
+        ∙ sym (parts.step j.patterns r h.entries (entry_of u)))
         ∙ ap (λ (n : ℕ). Some (region_state j.patterns n seq)) (sym e)
     | inr other ↦
         slice_get-map (λ (x : Standing). x.globals) (slice_set j.regions r t) q
@@ -145,8 +145,8 @@ module _ (j : Joined) (h : AreJoined j) (r : ℕ) (s t : Standing) (u : Update) 
         ∙ sym (slice_get-map (λ (x : Standing). x.globals) j.regions q)
         ∙ h.parts q low
         ∙ ap (λ (g : Globals). Some g)
-          (ap (fold apply (region_state j.patterns q h.entries)) (sym (elsewhere_first j.patterns q u [] (not_there q other)))
-          ∙ sym (parts.step j.patterns q h.entries (entry_of u)))
+        (ap (fold apply (region_state j.patterns q h.entries)) (sym (elsewhere_first j.patterns q u [] (not_there q other)))
+        ∙ sym (parts.step j.patterns q h.entries (entry_of u)))
   ]
 
   more_nodes : globals.len (state seq) ≤ globals.len (joined j) + sets_of u
@@ -200,3 +200,29 @@ room_one j u more had = record {
     first_of r s room false is =
         let one = ap sets_in (elsewhere_first j.patterns r u [] is) in
         record { leaves = omega (arith, one); numbers = let numbers = room.numbers in omega (arith, numbers, one) }
+
+-- ---- room in one region after another
+
+pub room_more : (old j k : Joined) (n : ℕ) (us : List Update) → j.patterns ≡ old.patterns
+    → ((r : ℕ) (s : Standing) → r < n → slice_get j.regions r ≡ Some s → HasRoom (stored_in s) (sets_in (updates_in old.patterns r us)))
+    → ((r : ℕ) → r ≢ n → slice_get k.regions r ≡ slice_get j.regions r)
+    → ((s : Standing) → slice_get k.regions n ≡ Some s → HasRoom (stored_in s) (sets_in (updates_in j.patterns n us)))
+    → (r : ℕ) (s : Standing) → r < n + 1 → slice_get k.regions r ≡ Some s → HasRoom (stored_in s) (sets_in (updates_in old.patterns r us))
+room_more old j k n us patterns below others here r s low is = elim (cases_eq r n) [
+  | inl e ↦
+      let now : slice_get k.regions n ≡ Some s = ap (slice_get k.regions) (sym e) ∙ is in
+      subst (λ (q : ℕ). HasRoom (stored_in s) (sets_in (updates_in old.patterns q us))) (sym e) (subst (λ (ps : List Pattern). HasRoom (stored_in s) (sets_in (updates_in ps n us))) patterns (here s now))
+  | inr other ↦ below r s (omega (arith, low, other)) (sym (others r other) ∙ is)
+]
+
+-- in all of them
+pub room_all : (old j : Joined) (n : ℕ) (us : List Update) → length old.regions ≤ n → IsSameJoined old j
+    → ((r : ℕ) (s : Standing) → r < n → slice_get j.regions r ≡ Some s → HasRoom (stored_in s) (sets_in (updates_in old.patterns r us)))
+    → globals.len (joined old) + sets_in us < 4294967296 → HasRoomFor j us
+room_all old j n us all same below fits = record {
+  each = λ r s is.
+      let low = slice_get_within j.regions r s is in
+      let count = same.count in
+      subst (λ (ps : List Pattern). HasRoom (stored_in s) (sets_in (updates_in ps r us))) (sym same.patterns) (below r s (omega (arith, low, count, all)) is);
+  numbers = let parts = ap (λ (gs : List Globals). globals.len (union gs)) same.parts in omega (arith, fits, parts);
+}

@@ -17,7 +17,7 @@ ghost use Rattle.gvt_leaf.specs.Listed.{node_value};
 ghost use Rattle.gvt_leaf.specs.Stored.{HasRoom, sets_in};
 ghost use Rattle.block_laws.specs.Nodes.{updates_in};
 ghost use Rattle.region_store.specs.Region.{Standing, stored_in};
-ghost use Rattle.site_regions.specs.Joined.{joined, ArePartsOf, HasRoomFor, IsSameJoined, AreChanged};
+ghost use Rattle.site_regions.specs.Joined.{joined, AreJoined, ArePartsOf, HasRoomFor, IsSameJoined, AreChanged};
 
 use super::counting::{count_nodes, count_sets_in, name_of};
 use global_dir::Directory;
@@ -82,9 +82,10 @@ impl Regions {
         &self.regions[number]
     }
 
-    /// The region of a name.
+    /// The region of a name. The regions have the parts of one state.
     pub fn region_of(&self, name: &[u8]) -> &Region
-        ensures { slice_get self.now.regions (region_of self.now.patterns name.now) ≡ Some result.now }
+        ensures region { slice_get self.now.regions (region_of self.now.patterns name.now) ≡ Some result.now }
+        ensures joined { AreJoined self.now }
     {
         &self.regions[self.directory.region_of(name) as usize]
     }

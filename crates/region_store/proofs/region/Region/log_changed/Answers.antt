@@ -1,4 +1,4 @@
-use Rattle.std.proofs.Common.{◌≡◌, ◌∙◌, ℕ, List, length, sym, ap, subst, arith}
+use Rattle.std.proofs.Common.{◌≡◌, ◌∙◌, length, get_or, refl, sym, ap, arith}
 use Rattle.disk_defs.proofs.Told.{told_at}
 use Rattle.disk_defs.proofs.Frames.{reads_more}
 use Rattle.block_pool.specs.Pool.{numbers_from}
@@ -9,7 +9,7 @@ use Rattle.region_store.proofs.region.Region.log_changed.Goals as goal
 pub loop-number-init : goal.loop-number-init
 loop-number-init g c = record {
   logged = logged_first (g.D.Disk.disk c.args.disk.now).content c.args.self.now c.dirty_numbers-numbers.result.now (g.L.Log.images c.args.log.now)
-      (c.dirty_numbers-numbers.ensures.numbers ∙ ap (numbers_from 0) (c.pool-numbers.ensures.dirty ∙ ap (λ (x : Standing). x.pool.dirty) c.self.view_is));
+      (c.dirty_numbers-numbers.ensures.numbers ∙ ap (numbers_from 0) (c.pool.ensures.dirty ∙ ap (λ (x : Standing). x.pool.dirty) c.self.view_is));
   reads = reads_none (g.D.Disk.disk c.args.disk.now);
   faults = omega arith;
 }
@@ -22,12 +22,12 @@ log_block-requires-clause-held g c =
 pub log_block-requires-clause-changed : goal.log_block-requires-clause-changed
 log_block-requires-clause-changed g c =
     let l = c.loop-number in
-    next_dirty (g.D.Disk.disk c.args.disk.now).content c.args.self.now l.numbers l.number-index c.number-item.result (g.L.Log.images c.args.log.now) (g.L.Log.images l.log) c.loop-number-test.true c.number-item.is l.invariant.logged
+    next_dirty (g.D.Disk.disk c.args.disk.now).content c.args.self.now c.dirty_numbers-numbers.result.now l.number-index (get_or c.dirty_numbers-numbers.result.now l.number-index 0) (g.L.Log.images c.args.log.now) (g.L.Log.images l.log) c.loop-number-test.true refl l.invariant.logged
 
 pub returns-in_err-log_block-clause-front : goal.returns-in_err-log_block-clause-front
 returns-in_err-log_block-clause-front g c =
     let l = c.loop-number in
-    on_err _ (logged_front (g.D.Disk.disk c.args.disk.now).content c.args.self.now l.numbers l.number-index (g.L.Log.images c.args.log.now) (g.L.Log.images l.log) (g.L.Log.images c.log_block.new.log)
+    on_err _ (logged_front (g.D.Disk.disk c.args.disk.now).content c.args.self.now c.dirty_numbers-numbers.result.now l.number-index (g.L.Log.images c.args.log.now) (g.L.Log.images l.log) (g.L.Log.images c.log_block.new.log)
     c.in_err-log_block.ensures.none l.invariant.logged)
 
 pub loop-number-preserved : goal.loop-number-preserved
@@ -35,8 +35,8 @@ loop-number-preserved g c =
     let view = g.D.Disk.disk in
     let l = c.loop-number in
     record {
-      logged = logged_more (view c.args.disk.now).content (view l.disk).content c.args.self.now l.numbers l.number-index c.number-item.result (g.L.Log.images c.args.log.now) (g.L.Log.images l.log) (g.L.Log.images c.log_block.new.log)
-          c.loop-number-test.true c.number-item.is l.invariant.reads.content c.in_ok-log_block.ensures.logged l.invariant.logged;
+      logged = logged_more (view c.args.disk.now).content (view l.disk).content c.args.self.now c.dirty_numbers-numbers.result.now l.number-index (get_or c.dirty_numbers-numbers.result.now l.number-index 0) (g.L.Log.images c.args.log.now) (g.L.Log.images l.log) (g.L.Log.images c.log_block.new.log)
+          c.loop-number-test.true refl l.invariant.reads.content c.in_ok-log_block.ensures.logged l.invariant.logged;
       reads = reads_more (view c.args.disk.now) (view l.disk) (view c.log_block.new.disk) (g.met.D.Disk.lawful c.args.disk.now) l.invariant.reads c.log_block.ensures.reads;
       faults = omega (arith, l.invariant.faults, c.log_block.ensures.later);
     }
@@ -46,7 +46,7 @@ returns-clause-logged g c =
     let s = c.args.self.now in
     let l = c.loop-number in
     let many : length s.pool.dirty ≡ length s.pool.leaves =
-    sym (ap length c.pool-numbers.ensures.dirty ∙ ap (λ (x : Standing). length x.pool.dirty) c.self.view_is) ∙ c.dirty_numbers-numbers.ensures.marks
-    ∙ (ap length c.pool-numbers.ensures.blocks ∙ ap (λ (x : Standing). length x.pool.leaves) c.self.view_is) in
+    sym (ap length c.pool.ensures.dirty ∙ ap (λ (x : Standing). length x.pool.dirty) c.self.view_is) ∙ c.dirty_numbers-numbers.ensures.marks
+    ∙ (ap length c.pool.ensures.blocks ∙ ap (λ (x : Standing). length x.pool.leaves) c.self.view_is) in
     let end = c.loop-number-test.false in
-    logged_all_of (g.D.Disk.disk c.args.disk.now).content s l.numbers l.number-index (g.L.Log.images c.args.log.now) (g.L.Log.images l.log) (omega (arith, end)) many l.invariant.logged
+    logged_all_of (g.D.Disk.disk c.args.disk.now).content s c.dirty_numbers-numbers.result.now l.number-index (g.L.Log.images c.args.log.now) (g.L.Log.images l.log) (omega (arith, end)) many l.invariant.logged
