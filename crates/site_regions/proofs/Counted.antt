@@ -1,6 +1,6 @@
 -- How many nodes updates set.
-use Rattle.std.proofs.Common.{◌≡◌, ℕ, ◌+◌, ◌<◌, ◌≤◌, ◌==◌, Bool, true, false, List, [], ◌∷◌, ◌++◌, length, map, filter, fold, take, drop, refl, sym, ◌∙◌, ap, arith, get_or}
-use Rattle.std.specs.Prelude.{◌-◌, if◌then◌else◌, not}
+use Rattle.std.proofs.Common.{◌≡◌, ℕ, ◌+◌, ◌<◌, ◌≤◌, ◌==◌, Bool, true, false, cond, List, [], ◌∷◌, ◌++◌, length, map, filter, fold, take, drop, refl, sym, ◌∙◌, ap, arith, get_or}
+use Rattle.std.specs.Prelude.{◌-◌, not}
 use Rattle.std.specs.FinMap as globals
 use Rattle.std.proofs.lemmas.List.{map_more, drop_more}
 use Rattle.std.proofs.lemmas.List.Elements.{filter-append}
@@ -16,13 +16,13 @@ use Rattle.gvt_leaf.specs.Stored.{sets_of, sets_in}
 
 -- the updates of a region when one more is made, here or elsewhere
 pub here_first : (ps : List Pattern) (r : ℕ) (u : Update) (us : List Update) → (region_of_update ps u == r) ≡ true → updates_in ps r (u ∷ us) ≡ u ∷ updates_in ps r us
-here_first ps r u us is = ap (λ (b : Bool). if b then u ∷ updates_in ps r us else updates_in ps r us) is
+here_first ps r u us is = ap (λ (b : Bool). cond b (u ∷ updates_in ps r us) (updates_in ps r us)) is
 
 pub elsewhere_first : (ps : List Pattern) (r : ℕ) (u : Update) (us : List Update) → (region_of_update ps u == r) ≡ false → updates_in ps r (u ∷ us) ≡ updates_in ps r us
-elsewhere_first ps r u us is = ap (λ (b : Bool). if b then u ∷ updates_in ps r us else updates_in ps r us) is
+elsewhere_first ps r u us is = ap (λ (b : Bool). cond b (u ∷ updates_in ps r us) (updates_in ps r us)) is
 
 sets-append : (us vs : List Update) → sets_in (us ++ vs) ≡ sets_in us + sets_in vs
-sets-append [] vs = refl
+sets-append [] vs = omega arith
 sets-append (u ∷ us) vs = let rest = sets-append us vs in omega (arith, rest)
 
 pub sets_more : {X : Type 0} (f : X → Update) (ps : List Pattern) (r : ℕ) (xs : List X) (i : ℕ) (x : X) → i < length xs → x ≡ get_or xs i x
@@ -34,11 +34,11 @@ sets_more f ps r xs i x low is =
 
 shorter : {X : Type 0} (p : X → Bool) (xs : List X) → length (filter p xs) ≤ length xs
 shorter p [] = omega arith
-shorter {X} p (x ∷ xs) = by (p x)
+shorter {X} p (x ∷ xs) = by (p x) (shorter p xs)
   where
-    by : (b : Bool) → length (if b then x ∷ filter p xs else filter p xs) ≤ length (x ∷ xs)
-    by true = let rest = shorter p xs in omega (arith, rest)
-    by false = let rest = shorter p xs in omega (arith, rest)
+    by : (b : Bool) → length (filter p xs) ≤ length xs → length (cond b (x ∷ filter p xs) (filter p xs)) ≤ length (x ∷ xs)
+    by true rest = omega (arith, rest)
+    by false rest = omega (arith, rest)
 
 fewer_kept : (g : Globals) (p : Key → Bool) → globals.len (globals.retain_keys g p) ≤ globals.len g
 fewer_kept g p =
@@ -50,13 +50,13 @@ fewer_kept g p =
 pub len-apply : (g : Globals) (u : Update) → globals.len (apply g u) ≤ globals.len g + sets_of u
 len-apply g (Set key value) = by (globals.contains_key g key) (globals.len-insert key_total g key value)
   where
-    by : (b : Bool) → globals.len (globals.insert g key value) ≡ (if b then globals.len g else globals.len g + 1) → globals.len (globals.insert g key value) ≤ globals.len g + 1
+    by : (b : Bool) → globals.len (globals.insert g key value) ≡ cond b (globals.len g) (globals.len g + 1) → globals.len (globals.insert g key value) ≤ globals.len g + 1
     by true is = omega (arith, is)
     by false is = omega (arith, is)
 len-apply g (Kill key) = let less = fewer_kept g (λ k. not (is_under key k)) in omega (arith, less)
 len-apply g (ZKill key) = by (globals.contains_key g key) (globals.len-remove key_total g key)
   where
-    by : (b : Bool) → globals.len (globals.remove g key) ≡ (if b then globals.len g - 1 else globals.len g) → globals.len (globals.remove g key) ≤ globals.len g + 0
+    by : (b : Bool) → globals.len (globals.remove g key) ≡ cond b (globals.len g - 1) (globals.len g) → globals.len (globals.remove g key) ≤ globals.len g + 0
     by true is = omega (arith, is)
     by false is = omega (arith, is)
 

@@ -19,6 +19,9 @@ use Rattle.gvt_leaf.specs.Stored.{Stored, HasRoom, sets_of, sets_in}
 use Rattle.gvt_leaf.proofs.Made.{room_rest}
 use Rattle.region_store.specs.Region.{Standing, IsSameRegion, IsChanged, stored_in}
 use Rattle.site_regions.specs.Joined.{Joined, AreJoined, HasRoomFor, IsSameJoined, AreChanged, joined, parts_in}
+use Rattle.std.specs.Vec.{with_item}
+use Rattle.site_regions.specs.Inside.{regions_of, IsKept}
+use Rattle.site_regions.specs.declared.regions.Regions.TheInside.{Inside}
 use Rattle.site_regions.proofs.Lists.{get-set_same, get-set_other, map-set_alike, there}
 use Rattle.site_regions.proofs.Parts.{joined_is, part_at}
 use Rattle.site_regions.proofs.Counted.{here_first, elsewhere_first, len-apply}
@@ -28,7 +31,7 @@ abbrev pub with_region : Joined → ℕ → Standing → Joined
 with_region j r t = record { patterns = j.patterns; regions = slice_set j.regions r t }
 
 some_is : {X : Type 0} (x y : X) → Some x ≡ Some y → x ≡ y
-some_is x y is = ap (λ (o : Option X). unwrap_or o x) is
+some_is {X} x y is = ap (λ (o : Option X). unwrap_or o x) is
 
 pub unchanged : (s : Standing) → IsChanged s s
 unchanged s = record { file = refl; imaged = refl; holds = λ e bytes h. h }
@@ -106,7 +109,7 @@ same_then i j k first second = record {
 -- ---- an update is made in its region
 
 -- an entry of one update
-entry_of : Update → Entry
+abbrev entry_of : Update → Entry
 entry_of u = record { stamp = record { root = []; cycle = 0 }; transaction = record { origin = record { updater = 0; serial = 0 }; updates = u ∷ [] } }
 
 state_one : (seq : Sequence) (u : Update) → state (seq ++ entry_of u ∷ []) ≡ apply (state seq) u
@@ -119,7 +122,7 @@ module _ (j : Joined) (h : AreJoined j) (r : ℕ) (s t : Standing) (u : Update) 
   abbrev pub new : Joined
   new = with_region j r t
 
-  seq : Sequence
+  abbrev seq : Sequence
   seq = h.entries ++ entry_of u ∷ []
 
   at_home : (region_of_update j.patterns u == r) ≡ true
@@ -165,6 +168,7 @@ module _ (j : Joined) (h : AreJoined j) (r : ℕ) (s t : Standing) (u : Update) 
   }
 
   pub all_now : joined new ≡ apply (joined j) u
+  unfolding joined_now
   all_now = joined_is new joined_now ∙ state_one h.entries u ∙ ap (λ (g : Globals). apply g u) (sym (joined_is j h))
 
   pub room_now : s.pool.room ≤ t.pool.room + sets_of u → globals.len t.globals ≤ globals.len s.globals + sets_of u → (more : List Update) → HasRoomFor j (u ∷ more) → HasRoomFor new more
@@ -181,9 +185,17 @@ module _ (j : Joined) (h : AreJoined j) (r : ℕ) (s t : Standing) (u : Update) 
     ];
     numbers =
         let numbers = had.numbers in
-        let is = ap globals.len (joined_is new joined_now) in
-        omega (arith, numbers, is, more_nodes);
+        let is = ap globals.len all_now in
+        let less = len-apply (joined j) u in
+        omega (arith, numbers, is, less);
   }
+
+-- the room of the region that an update is made in
+pub room_here : (j : Joined) (r : ℕ) (s : Standing) (u : Update) → region_of_update j.patterns u ≡ r → HasRoom (stored_in s) (sets_in (updates_in j.patterns r (u ∷ []))) → HasRoom (stored_in s) (sets_of u)
+room_here j r s u home room =
+    let here : (region_of_update j.patterns u == r) ≡ true = grind (arith, nat_tests, home) in
+    let one = ap sets_in (here_first j.patterns r u [] here) in
+    record { leaves = let leaves = room.leaves in omega (arith, leaves, one); numbers = let numbers = room.numbers in omega (arith, numbers, one) }
 
 -- room for the first of some updates
 pub room_one : (j : Joined) (u : Update) (more : List Update) → HasRoomFor j (u ∷ more) → HasRoomFor j (u ∷ [])
@@ -225,4 +237,26 @@ room_all old j n us all same below fits = record {
       let count = same.count in
       subst (λ (ps : List Pattern). HasRoom (stored_in s) (sets_in (updates_in ps r us))) (sym same.patterns) (below r s (omega (arith, low, count, all)) is);
   numbers = let parts = ap (λ (gs : List Globals). globals.len (union gs)) same.parts in omega (arith, fits, parts);
+}
+
+-- ---- on the fields
+
+abbrev pub with_item_of : Inside → ℕ → Standing → Inside
+with_item_of i n t = record { directory = i.directory; regions = with_item i.regions n t }
+
+pub kept_same : (i : Inside) (n : ℕ) (s t : Standing) → slice_get i.regions.items n ≡ Some s → IsSameRegion s t → IsKept i → IsKept (with_item_of i n t)
+kept_same i n s t here same inv =
+    let now = same_at (regions_of i) n s t here same in
+    record {
+      joined = joined_still (regions_of i) (regions_of (with_item_of i n t)) inv.joined refl now.parts now.count;
+      count = now.count ∙ inv.count;
+      few = let few = inv.few in let count = now.count in omega (arith, few, count);
+    }
+
+pub kept_made : (i : Inside) (n : ℕ) (s t : Standing) (u : Update) → slice_get i.regions.items n ≡ Some s → region_of_update i.directory.patterns u ≡ n → t.globals ≡ apply s.globals u → HasRoomFor (regions_of i) (u ∷ [])
+    → IsKept i → IsKept (with_item_of i n t)
+kept_made i n s t u here home made room inv = record {
+  joined = joined_now (regions_of i) inv.joined n s t u here home made room;
+  count = length-set i.regions.items n t ∙ inv.count;
+  few = let few = inv.few in omega (arith, few, length-set i.regions.items n t);
 }

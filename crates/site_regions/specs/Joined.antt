@@ -1,5 +1,6 @@
 -- A site's globals in its regions, each node in that of its name.
-use Rattle.std.specs.Prelude.{◌≡◌, ◌<◌, ◌+◌, ◌^◌, ℕ, List, length, map, Some, slice_get}
+use Rattle.std.specs.Prelude.{◌≡◌, ◌<◌, ◌+◌, ◌^◌, ℕ, Bool, refl, List, length, map, Some, slice_get}
+use Rattle.std.specs.Coded.{Coded, code_by, coded×, coded_list, coded_bool, coded_ℕ}
 use Rattle.std.specs.List.{AllByRecursion}
 use Rattle.std.specs.FinMap as globals
 use Rattle.global_defs.specs.Entry.{Globals, Sequence, Update, state}
@@ -7,12 +8,18 @@ use Rattle.journal_defs.specs.Directory.{Pattern}
 use Rattle.journal_defs.specs.Sound.{region_state}
 use Rattle.block_laws.specs.Nodes.{updates_in, union}
 use Rattle.gvt_leaf.specs.Stored.{HasRoom, sets_in}
-use Rattle.region_store.specs.Region.{Standing, IsSameRegion, IsChanged, stored_in}
+use Rattle.region_store.specs.Region.{Standing, standing_code, IsSameRegion, IsChanged, stored_in}
 
 pub record Joined : Type 0 where
   -- the patterns of the global directory
   pub patterns : List Pattern
   pub regions : List Standing
+
+abbrev pub pattern_code : Coded Pattern
+pattern_code = code_by (ℕ × (Bool × List ℕ)) (coded× coded_ℕ (coded× coded_bool (coded_list coded_ℕ))) (λ p. (p.region, (p.star, p.name))) (λ v. record { region = v.0; star = v.1.0; name = v.1.1 }) (λ _. refl)
+
+abbrev pub joined_code : Coded Joined
+joined_code = code_by (List Pattern × List Standing) (coded× (coded_list pattern_code) (coded_list standing_code)) (λ j. (j.patterns, j.regions)) (λ v. record { patterns = v.0; regions = v.1 }) (λ _. refl)
 
 -- the globals of each region
 abbrev pub parts_in : List Standing → List Globals

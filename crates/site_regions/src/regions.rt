@@ -1,5 +1,5 @@
 //! A site's regions.
-ghost use Rattle.std.specs.Prelude.{◌≡◌, ◌<◌, ◌∷◌, [], ℕ, List, length, map, filter, fold, option_map, slice_get, Some, IfOk, IfSome, OnOk, OnErr};
+ghost use Rattle.std.specs.Prelude.{◌≡◌, ◌<◌, ◌∷◌, [], ℕ, List, true, length, map, filter, fold, option_map, slice_get, Some, IfOk, IfSome, OnOk, OnErr};
 ghost use Rattle.std.specs.Option.{option_copied};
 ghost use Rattle.std.specs.List.{AllByRecursion};
 ghost use Rattle.std.specs.FinMap as globals;
@@ -37,10 +37,12 @@ pub struct Regions {
 }
 
 impl Model for Regions {
-    ghost use Rattle.site_regions.specs.Joined.{Joined};
+    ghost use Rattle.site_regions.specs.Joined as defs;
     ghost use Rattle.site_regions.specs.Inside.{regions_of, IsKept};
 
-    ghost Value = { Joined };
+    ghost Value = { defs.Joined };
+
+    ghost coded = { defs.joined_code };
 
     ghost view = { regions_of };
 
