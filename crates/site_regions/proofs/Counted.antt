@@ -1,11 +1,11 @@
 -- How many nodes updates set.
-use Rattle.std.proofs.Common.{◌≡◌, ℕ, ◌+◌, ◌<◌, ◌≤◌, ◌==◌, Bool, true, false, cond, List, [], ◌∷◌, ◌++◌, length, map, filter, fold, take, drop, refl, sym, ◌∙◌, ap, arith, get_or}
+use Rattle.std.proofs.Common.{◌≡◌, ℕ, ◌+◌, ◌<◌, ◌≤◌, ◌==◌, Bool, true, false, cond, List, [], ◌∷◌, ◌++◌, length, map, filter, fold, take, drop, sym, ◌∙◌, ap, arith, get_or}
 use Rattle.std.specs.Prelude.{◌-◌, not}
 use Rattle.std.specs.FinMap as globals
 use Rattle.std.proofs.lemmas.List.{map_more, drop_more}
 use Rattle.std.proofs.lemmas.List.Elements.{filter-append}
 use Rattle.std.proofs.lemmas.List.Sums.{fold-append}
-use Rattle.global_defs.specs.Key.{Key, key_cmp}
+use Rattle.global_defs.specs.Key.{Key}
 use Rattle.global_defs.specs.Entry.{Globals, Update, Set, Kill, ZKill, apply, is_under}
 use Rattle.global_defs.proofs.Order.{key_total}
 use Rattle.journal_defs.specs.Directory.{Pattern}

@@ -1,5 +1,5 @@
 -- One region changes, and the others stay.
-use Rattle.std.proofs.Common.{◌≡◌, ◌≢◌, inl, inr, ℕ, ◌+◌, ◌^◌, ◌<◌, ◌≤◌, ◌==◌, Bool, true, false, List, [], ◌∷◌, ◌++◌, length, map, fold, flat_map, slice_get, slice_set, Option, Some, None, refl, sym, ◌∙◌, ap, subst, arith, append-nil}
+use Rattle.std.proofs.Common.{◌≡◌, ◌≢◌, inl, inr, ℕ, ◌+◌, ◌<◌, ◌≤◌, ◌==◌, Bool, true, false, List, [], ◌∷◌, ◌++◌, length, fold, flat_map, slice_get, slice_set, Option, Some, refl, sym, ◌∙◌, ap, subst, arith}
 use Rattle.std.specs.Prelude.{unwrap_or, option_map}
 use Rattle.std.specs.List.{AllByRecursion}
 use Rattle.std.specs.FinMap as globals
@@ -15,7 +15,7 @@ use Rattle.journal_defs.specs.Fit.{region_of_update}
 use Rattle.journal_defs.specs.Sound.{region_state}
 use Rattle.block_laws.specs.Nodes.{updates_in, union}
 use Rattle.block_laws.proofs.Parts as parts
-use Rattle.gvt_leaf.specs.Stored.{Stored, HasRoom, sets_of, sets_in}
+use Rattle.gvt_leaf.specs.Stored.{HasRoom, sets_of, sets_in}
 use Rattle.gvt_leaf.proofs.Made.{room_rest}
 use Rattle.region_store.specs.Region.{Standing, IsSameRegion, IsChanged, stored_in}
 use Rattle.site_regions.specs.Joined.{Joined, AreJoined, HasRoomFor, IsSameJoined, AreChanged, joined, parts_in}

@@ -1,6 +1,6 @@
 -- What the regions' parts say of all nodes.
-use Rattle.std.proofs.Common.{◌≡◌, ℕ, zero, suc, ◌+◌, ◌<◌, Bool, true, false, List, [], ◌∷◌, length, map, filter, is_some, slice_get, Option, Some, None, refl, sym, ◌∙◌, ap, subst, arith}
-use Rattle.std.specs.Prelude.{◌&&◌, Result, Ok, Err, IfOk, if◌then◌else◌, filter_map, unwrap_or, option_map, drop}
+use Rattle.std.proofs.Common.{◌≡◌, ℕ, zero, suc, ◌+◌, ◌<◌, Bool, true, false, List, length, map, filter, is_some, slice_get, Option, Some, None, refl, sym, ◌∙◌, ap, subst, arith}
+use Rattle.std.specs.Prelude.{Result, Ok, Err, IfOk, if◌then◌else◌, filter_map, unwrap_or, option_map, drop}
 use Rattle.std.specs.List.{AllByRecursion, find, list_any, starts_with}
 use Rattle.std.specs.declared.cmp.Ordering.{Ordering}
 use Rattle.std.specs.declared.cmp.Ordering.TheVariants.{Less, Equal, Greater}
@@ -10,7 +10,7 @@ use Rattle.std.specs.FinMap as globals
 use Rattle.std.proofs.lemmas.Bool.{and_parts}
 use Rattle.std.proofs.lemmas.List.{length-map}
 use Rattle.std.proofs.lemmas.Option.{slice_get-map, slice_get_within, get_or_from_slice_get}
-use Rattle.global_defs.specs.Key.{Key, Sub, key_cmp, sub_cmp}
+use Rattle.global_defs.specs.Key.{Key, sub_cmp}
 use Rattle.global_defs.specs.Entry.{Globals, Sequence, state, is_under}
 use Rattle.global_defs.specs.Evaluation.{is_below, is_past, sub_at, first_sub, defined, order}
 use Rattle.gvn_globals.specs.Walks.{is_later, after}

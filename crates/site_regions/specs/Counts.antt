@@ -1,5 +1,5 @@
 -- How many nodes regions have.
-use Rattle.std.specs.Prelude.{ℕ, List, [], map, length, slice_index_or}
+use Rattle.std.specs.Prelude.{ℕ, List, map, slice_index_or}
 use Rattle.std.specs.FinMap as globals
 use Rattle.region_store.specs.Region.{Standing}
 

@@ -1,4 +1,4 @@
-use Rattle.std.proofs.Common.{◌≡◌, ◌∙◌, List, ap, map, fold}
+use Rattle.std.proofs.Common.{◌∙◌, List, ap, map, fold}
 use Rattle.global_defs.specs.Entry.{Globals, apply}
 use Rattle.gvn_key.specs.Terms.{update_value}
 use Rattle.block_laws.specs.Nodes.{union}

@@ -1,4 +1,4 @@
-use Rattle.std.proofs.Common.{◌≡◌, ◌<◌, subst, length, arith, ap}
+use Rattle.std.proofs.Common.{◌<◌, subst, length, arith, ap}
 use Rattle.journal_defs.specs.Directory.{region_of}
 use Rattle.site_regions.specs.Joined.{Joined}
 use Rattle.site_regions.proofs.Parts.{region_inside}

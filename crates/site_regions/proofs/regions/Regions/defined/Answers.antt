@@ -1,4 +1,4 @@
-use Rattle.std.proofs.Common.{◌≡◌, ◌∙◌, ℕ, List, ap, sym, slice_get, Some}
+use Rattle.std.proofs.Common.{◌∙◌, ℕ, List, ap, sym, slice_get}
 use Rattle.journal_defs.specs.Directory.{region_of}
 use Rattle.site_regions.proofs.Parts.{defined_here}
 use Rattle.site_regions.proofs.regions.Regions.defined.Goals as goal

@@ -1,6 +1,6 @@
-use Rattle.std.proofs.Common.{◌≡◌, ◌∙◌, ◌+◌, List, refl, sym, ap, subst, map, drop, fold, arith}
+use Rattle.std.proofs.Common.{◌∙◌, ◌+◌, refl, sym, ap, subst, map, drop, fold, arith}
 use Rattle.std.proofs.lemmas.List.{take_all}
-use Rattle.global_defs.specs.Entry.{Globals, Update, apply}
+use Rattle.global_defs.specs.Entry.{Globals, apply}
 use Rattle.gvn_key.specs.Terms.{update_value}
 use Rattle.gvt_leaf.proofs.Made.{form_at}
 use Rattle.site_regions.specs.Joined.{joined, HasRoomFor}

@@ -1,7 +1,5 @@
-use Rattle.std.proofs.Common.{◌≡◌, ◌∙◌, ◌<◌, List, ap, sym, subst, length, arith}
+use Rattle.std.proofs.Common.{◌∙◌, ◌<◌, List, ap, sym, subst, length, arith}
 use Rattle.std.specs.List.{AllByRecursion}
-use Rattle.std.specs.FinMap as globals
-use Rattle.global_defs.specs.Entry.{Sequence, state}
 use Rattle.journal_defs.specs.Directory.{Pattern}
 use Rattle.block_laws.specs.Nodes.{sum_below}
 use Rattle.region_store.specs.Region.{Standing}

@@ -1,4 +1,4 @@
-use Rattle.std.proofs.Common.{◌≡◌, ◌∙◌, List, ap, length, arith}
+use Rattle.std.proofs.Common.{◌∙◌, List, ap, length, arith}
 use Rattle.std.specs.FinMap as globals
 use Rattle.block_laws.specs.Nodes.{sum_below}
 use Rattle.region_store.specs.Region.{Standing}

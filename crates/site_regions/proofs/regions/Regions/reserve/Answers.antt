@@ -1,13 +1,7 @@
-use Rattle.std.proofs.Common.{◌≡◌, ◌∙◌, ◌+◌, ◌<◌, inl, inr, ℕ, List, length, map, slice_get, Some, refl, sym, ap, subst, arith}
-use Rattle.std.specs.FinMap as globals
-use Rattle.std.proofs.lemmas.Bool.{cases_lt}
-use Rattle.std.proofs.lemmas.Option.{slice_get_within}
-use Rattle.global_defs.specs.Entry.{Globals}
+use Rattle.std.proofs.Common.{map, subst, arith}
 use Rattle.gvn_key.specs.Terms.{update_value}
-use Rattle.journal_defs.specs.Directory.{Pattern}
-use Rattle.block_laws.specs.Nodes.{updates_in, union}
-use Rattle.gvt_leaf.specs.Stored.{HasRoom, sets_in}
-use Rattle.region_store.specs.Region.{Standing, stored_in}
+use Rattle.gvt_leaf.specs.Stored.{HasRoom}
+use Rattle.region_store.specs.Region.{stored_in}
 use Rattle.site_regions.proofs.Making.{same_none, same_then, changed_none, changed_then, room_more, room_all}
 use Rattle.site_regions.proofs.regions.Regions.reserve.Goals as goal
 

@@ -1,5 +1,4 @@
-use Rattle.std.proofs.Common.{◌≡◌, ◌∙◌, ◌<◌, subst, refl, length, ap, sym, arith, slice_get, Some}
-use Rattle.region_store.specs.Region.{Standing}
+use Rattle.std.proofs.Common.{◌≡◌, ◌<◌, subst, length, sym, slice_get, Some}
 use Rattle.site_regions.specs.Inside.{regions_of}
 use Rattle.site_regions.specs.Joined.{Joined, IsSameJoined, AreChanged}
 use Rattle.site_regions.proofs.Lists.{read_at}
