@@ -1,4 +1,4 @@
-use Rattle.std.proofs.Common.{refl, sym, ap, subst}
+use Rattle.std.proofs.Common.{refl, subst}
 use Rattle.region_store.specs.Region.{Standing, IsChanged}
 use Rattle.region_store.proofs.Held.{changed_is}
 use Rattle.region_store.proofs.region.Region.make_one.Goals as goal

@@ -1,5 +1,4 @@
-use Rattle.std.proofs.Common.{refl, sym, ap, subst}
-use Rattle.gvt_leaf.specs.Stored.{IsSame}
+use Rattle.std.proofs.Common.{refl, subst}
 use Rattle.gvt_leaf.proofs.Made.{keeps_same}
 use Rattle.region_store.specs.Region.{Standing, IsSameRegion, IsChanged}
 use Rattle.region_store.proofs.Held.{changed_is}
