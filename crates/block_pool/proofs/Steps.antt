@@ -1,11 +1,12 @@
 -- Dirty blocks written one after another.
-use Rattle.std.proofs.Common.{◌≡◌, ◌≢◌, ℕ, zero, suc, ◌+◌, ◌*◌, ◌≤◌, ◌<◌, inl, inr, ⊎_elim, Bool, true, false, List, length, drop, IfSome, OnOk, refl, sym, ◌∙◌, ap, subst, arith}
+use Rattle.std.proofs.Common.{◌≡◌, ◌≢◌, ℕ, zero, suc, ◌+◌, ◌*◌, ◌≤◌, ◌<◌, inl, inr, ⊎_elim, Bool, true, false, List, length, drop, get_or, IfSome, OnOk, refl, sym, ◌∙◌, ap, subst, arith}
 use Rattle.std.specs.Prelude.{Result, Option, Some, None, Ok, Err, ◌⊎◌, if◌then◌else◌, slice_index_or}
 use Rattle.std.proofs.Math.Seq.{drop-cons}
 use Rattle.std.proofs.lemmas.Bool.{cases_lt}
+use Rattle.std.proofs.lemmas.List.{drop_more, drop_all}
 use Rattle.disk_defs.specs.Disk.{Files, View, Image, IsLawful, From, OnFile, written, Torn, Passes, ReadsAfter, RoomUsed}
 use Rattle.disk_defs.specs.Frames.{Only}
-use Rattle.disk_defs.proofs.Told.{weaker_told, reads_after}
+use Rattle.disk_defs.proofs.Told.{weaker_told, both_weak, reads_after}
 use Rattle.disk_defs.proofs.Moments.{started, goes_on, then_more, holds_now}
 use Rattle.disk_defs.proofs.Frames.{reads_weaker, reads_same, reads_then, others_written, others_same, others_then}
 use Rattle.journal_defs.specs.Leaves.{IsLeaf, IsBlock, spelled_leaf}
@@ -13,7 +14,8 @@ use Rattle.journal_defs.specs.Epochs.{block_of}
 use Rattle.journal_laws.proofs.Images.{one_block}
 use Rattle.block_fmt.proofs.Spelled.{length-spelled_leaf, length-block}
 use Rattle.block_pool.specs.Code.{Pool}
-use Rattle.block_pool.specs.Pool.{leaf_at, is_dirty, CleanStand, AllStand, StandBelow, ChangesDirty, count_set, dirty_from, WritesDirty}
+use Rattle.block_pool.specs.Pool.{leaf_at, is_dirty, CleanStand, AllStand, StandBelow, ChangesDirty, numbers_from, count_set, dirty_from, WritesDirty}
+use Rattle.block_pool.proofs.Numbers.{IsNext, count-numbers, next_of, none_behind}
 use Rattle.block_pool.proofs.Written.{block_of-written, block_inside}
 
 -- two facts of one step
@@ -49,6 +51,50 @@ left_clean p n in_pool is = count_next p.dirty n in_pool ∙ ap (λ (d : Bool). 
 
 pub left_dirty : (p : Pool) (n : ℕ) → n < length p.dirty → is_dirty p n ≡ true → dirty_from p n ≡ 1 + dirty_from p (n + 1)
 left_dirty p n in_pool is = count_next p.dirty n in_pool ∙ ap (λ (d : Bool). if d then 1 + dirty_from p (n + 1) else dirty_from p (n + 1)) is
+
+-- the blocks up to the next dirty one stand, since those between are clean
+pub stand_up_to : (p : Pool) (n b : ℕ) (file : List ℕ) → ((c : ℕ) → n ≤ c → c < b → is_dirty p c ≡ false) → CleanStand p file → StandBelow p n file → StandBelow p b file
+stand_up_to p n b file between clean below c low inside = elim (cases_lt c n) [
+  | inl less ↦ below c less inside
+  | inr more ↦ clean c inside (between c (omega (arith, more)) low)
+]
+
+-- The blocks below the dirty ones that are left stand on the file, and there is room for these.
+pub record IsWrittenTo (p : Pool) (file i : ℕ) (ns : List ℕ) (v : View) : Type 0 where
+  pub reached : ℕ
+  pub left : numbers_from reached (drop reached p.dirty) ≡ drop i ns
+  pub below : IfSome v.content (λ files. StandBelow p reached (files file))
+  pub room : v.has_room file (dirty_from p reached) (4096 * dirty_from p reached)
+
+-- as many are left from the next one on
+left_same : (p : Pool) (n b i : ℕ) (ns : List ℕ) → numbers_from n (drop n p.dirty) ≡ drop i ns → i < length ns → IsNext p.dirty n b (drop (i + 1) ns) → dirty_from p n ≡ dirty_from p b
+left_same p n b i ns left low next =
+    let here = sym (count-numbers n (drop n p.dirty)) ∙ ap length left ∙ ap length (drop_more ns i 0 low) in
+    let behind = sym (count-numbers (b + 1) (drop (b + 1) p.dirty)) ∙ ap length next.rest_is in
+    let one = left_dirty p b next.inside next.is_set in
+    omega (arith, here, behind, one)
+
+pub below_next : (p : Pool) (file i x : ℕ) (ns : List ℕ) (v : View) (w : IsWrittenTo p file i ns v) → i < length ns → x ≡ get_or ns i 0 → IfSome v.content (λ files. CleanStand p (files file))
+    → IfSome v.content (λ files. StandBelow p x (files file))
+below_next p file i x ns v w low read clean =
+    let next = next_of p.dirty ns w.reached i x w.left low read in
+    both_weak v.content (λ files. CleanStand p (files file)) (λ files. StandBelow p w.reached (files file)) (λ files. StandBelow p x (files file)) clean w.below
+    (λ files all below. stand_up_to p w.reached x (files file) next.between all below)
+
+pub room_next : (p : Pool) (file i x : ℕ) (ns : List ℕ) (v : View) (w : IsWrittenTo p file i ns v) → i < length ns → x ≡ get_or ns i 0 → v.has_room file (dirty_from p x) (4096 * dirty_from p x)
+room_next p file i x ns v w low read =
+    subst (λ (k : ℕ). v.has_room file k (4096 * k)) (left_same p w.reached x i ns w.left low (next_of p.dirty ns w.reached i x w.left low read)) w.room
+
+pub written_on : (p : Pool) (file i x : ℕ) (ns : List ℕ) (u v : View) (w : IsWrittenTo p file i ns u) → i < length ns → x ≡ get_or ns i 0 → IfSome v.content (λ files. StandBelow p (x + 1) (files file))
+    → v.has_room file (dirty_from p (x + 1)) (4096 * dirty_from p (x + 1)) → IsWrittenTo p file (i + 1) ns v
+written_on p file i x ns u v w low read below room = record { reached = x + 1; left = let next = next_of p.dirty ns w.reached i x w.left low read in next.rest_is; below = below; room = room }
+
+-- and where none is left all stand
+pub all_written : (p : Pool) (file i : ℕ) (ns : List ℕ) (v : View) → IsWrittenTo p file i ns v → length ns ≤ i → IfSome v.content (λ files. CleanStand p (files file)) → IfSome v.content (λ files. AllStand p (files file))
+all_written p file i ns v w all clean =
+    let none = none_behind p.dirty w.reached (w.left ∙ drop_all i ns all) in
+    both_weak v.content (λ files. CleanStand p (files file)) (λ files. StandBelow p w.reached (files file)) (λ files. AllStand p (files file)) clean w.below
+    (λ files stand below b inside. stand_up_to p w.reached (b + 1) (files file) (λ c from to. none c from) stand below b (omega arith) inside)
 
 pub on_ok : {T E P Q : Type 0} → (r : Result T E) → OnOk r P → (P → Q) → OnOk r Q
 on_ok (Ok x) p k = k p
@@ -156,6 +202,3 @@ room_one p v file n lawful is inside room =
 pub none_below : (p : Pool) (o : Option Files) (file : ℕ) → IfSome o (λ files. StandBelow p 0 (files file))
 none_below p None file = tt
 none_below p (Some files) file = λ b lt inside. absurd (omega arith)
-
-pub all_below : (p : Pool) (n : ℕ) (o : Option Files) (file : ℕ) → length p.leaves ≤ n → IfSome o (λ files. StandBelow p n (files file)) → IfSome o (λ files. AllStand p (files file))
-all_below p n o file all below = weaker_told o (λ files. StandBelow p n (files file)) (λ files. AllStand p (files file)) below (λ files is b inside. is b (omega arith) inside)

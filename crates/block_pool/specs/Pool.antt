@@ -1,5 +1,5 @@
 -- Blocks by their numbers, and what of them stands on the file.
-use Rattle.std.specs.Prelude.{◌≡◌, ◌≤◌, ◌<◌, ◌⊎◌, ℕ, ◌+◌, Bool, true, false, List, [], ◌∷◌, ◌++◌, length, drop, replicate, if◌then◌else◌, slice_index_or, slice_set}
+use Rattle.std.specs.Prelude.{◌≡◌, ◌≤◌, ◌<◌, ◌⊎◌, ℕ, suc, ◌+◌, Bool, true, false, List, [], ◌∷◌, ◌++◌, length, drop, replicate, if◌then◌else◌, slice_index_or, slice_set}
 use Rattle.journal_defs.specs.Leaves.{Leaf, IsBlock}
 use Rattle.journal_defs.specs.Epochs.{block_of}
 use Rattle.disk_defs.specs.Disk.{View, Image, From, OnFile, AtEachMoment, ReadsAfter}
@@ -48,6 +48,15 @@ ChangesDirty p old new = (b : ℕ) → (is_dirty p b ≡ true) ⊎ (block_of new
 -- each block below this one stands on the file
 abbrev pub StandBelow : Pool → ℕ → List ℕ → Type 0
 StandBelow p n file = (b : ℕ) → b < n → b < length p.leaves → IsBlock (block_of file b) (leaf_at p b)
+
+-- the numbers of the marks that are set, counted from this one on
+abbrev pub numbers_from : ℕ → List Bool → List ℕ
+numbers_from n [] = []
+numbers_from n (d ∷ ds) = if d then n ∷ numbers_from (suc n) ds else numbers_from (suc n) ds
+
+-- the numbers of the dirty blocks, in rising order
+abbrev pub dirty_numbers : Pool → List ℕ
+dirty_numbers p = numbers_from 0 p.dirty
 
 -- how many marks are set
 abbrev pub count_set : List Bool → ℕ

@@ -1,10 +1,10 @@
 //! The blocks of a file.
-ghost use Rattle.std.specs.Prelude.{◌≡◌, ◌≤◌, ◌<◌, ◌+◌, ◌*◌, [], true, false, length, map, replicate, count_by, IsOk, OnOk, OnErr, IsErrOf, IfSome};
+ghost use Rattle.std.specs.Prelude.{◌≡◌, ◌≤◌, ◌<◌, ◌+◌, ◌*◌, ◌∷◌, ◌++◌, [], List, Bool, true, false, length, map, replicate, slice_index_or, slice_set, vec_len, vec_capacity, if◌then◌else◌, IsOk, OnOk, OnErr, IsErrOf, IfSome};
 ghost use Rattle.std.specs.Borrow.{sem};
 ghost use Rattle.disk_defs.specs.Disk.{Image, From, OnFile, AtEachMoment, ReadsAfter, HasCause, Rose, written, Torn, Passes, RoomUsed};
 ghost use Rattle.disk_defs.specs.Frames.{Only, OthersStay};
 ghost use Rattle.journal_defs.specs.Leaves.{IsLeaf, spelled_leaf};
-ghost use Rattle.block_pool.specs.Pool.{leaf_at, is_dirty, marked, changed, IsAdded, cleaned, CleanStand, AllStand, StandBelow, ChangesDirty, dirty_from, WritesDirty};
+ghost use Rattle.block_pool.specs.Pool.{leaf_at, is_dirty, marked, changed, IsAdded, cleaned, CleanStand, AllStand, StandBelow, ChangesDirty, numbers_from, dirty_numbers, dirty_from, WritesDirty};
 
 use crate::error::PoolError;
 use block_fmt::Block;
@@ -49,39 +49,60 @@ struct Page {
 #[derive(Debug, Drop)]
 pub struct BlockPool {
     pages: Vec<Page>,
+    /// The numbers of the marked blocks, in rising order.
+    changed: Vec<u32>,
 }
 
-/// How many pages are marked.
-fn count_marks(pages: &[Page]) -> usize
-    ensures count { result ≡ count_by (λ q. q.dirty) pages.now }
-    ensures few { result ≤ length pages.now }
+/// Puts the number of a block that is to be marked to its place among the changed ones, unless it's marked already.
+fn list_number(changed: &mut Vec<u32>, dirty: bool, number: u32)
+    requires room { dirty ≡ false → vec_len changed.old < vec_capacity changed.old }
+    ensures listed { (marks : List Bool) → changed.old.items ≡ numbers_from 0 marks → number < length marks → slice_index_or marks number false ≡ dirty → changed.new.items ≡ numbers_from 0 (slice_set marks number true) }
+    ensures capacity { vec_capacity changed.new ≡ vec_capacity changed.old }
 {
-    pages.iter().filter(|page| page.dirty).count()
+    if dirty {
+        return;
+    }
+    if let Err(place) = changed.binary_search(&number) {
+        if changed.insert(place, number).is_err() {
+            unreachable!();
+        }
+    }
 }
 
-/// Takes all marks away.
-fn take_marks(pages: &mut [Page])
+/// Puts the number of a block behind those of the changed ones, where it's to be marked.
+fn list_last(changed: &mut Vec<u32>, dirty: bool, number: u32)
+    requires room { vec_len changed.old < vec_capacity changed.old }
+    ensures items { changed.new.items ≡ (if dirty then changed.old.items ++ number ∷ [] else changed.old.items) }
+    ensures capacity { vec_capacity changed.new ≡ vec_capacity changed.old }
+{
+    if dirty {
+        changed.push_reserved(number);
+    }
+}
+
+/// Takes the marks of the changed pages away.
+fn take_marks(pages: &mut [Page], changed: &[u32])
+    requires { changed.now ≡ numbers_from 0 (map (λ q. q.dirty) pages.old) }
     ensures blocks { map (λ q. q.block) pages.new ≡ map (λ q. q.block) pages.old }
     ensures marks { map (λ q. q.dirty) pages.new ≡ replicate (length pages.old) false }
 {
-    for page in pages.iter_mut() {
-        page.dirty = false;
+    for number in changed {
+        pages[*number as usize].dirty = false;
     }
 }
 
 impl Model for BlockPool {
-    ghost use Rattle.std.specs.Prelude.{◌<◌, ◌^◌, length};
     ghost use Rattle.block_pool.specs.Code as defs;
 
     ghost Value = { defs.Pool };
 
     ghost coded = { defs.pool_code };
 
-    ghost use Rattle.block_pool.specs.Inside.{pool_of};
+    ghost use Rattle.block_pool.specs.Inside.{pool_of, IsPool};
 
     ghost view = { pool_of };
 
-    ghost invariant = { λ p. length p.pages.items < 2 ^ 32 };
+    ghost invariant = { IsPool };
 }
 
 impl BlockPool {
@@ -94,6 +115,7 @@ impl BlockPool {
     {
         BlockPool {
             pages: Vec::new(alloc),
+            changed: Vec::new(alloc),
         }
     }
 
@@ -121,11 +143,21 @@ impl BlockPool {
         self.pages[number as usize].dirty
     }
 
+    /// The numbers of the blocks that may differ from the file, in rising order.
+    pub fn dirty_numbers(&self) -> &[u32]
+        ensures numbers { result.now ≡ dirty_numbers self.now }
+        ensures marks { length self.now.dirty ≡ length self.now.leaves }
+    {
+        &self.changed
+    }
+
     /// Marks the block of this number.
     pub fn mark(&mut self, number: u32)
         requires { number < length self.old.leaves }
         ensures { self.new ≡ marked self.old number }
     {
+        let dirty = self.pages[number as usize].dirty;
+        list_number(&mut self.changed, dirty, number);
         self.pages[number as usize].dirty = true;
     }
 
@@ -135,6 +167,8 @@ impl BlockPool {
         ensures done { IsOk result }
         ensures changed { self.new ≡ changed self.old number to }
     {
+        let dirty = self.pages[number as usize].dirty;
+        list_number(&mut self.changed, dirty, number);
         self.pages[number as usize] = Page {
             block: to,
             dirty: true,
@@ -149,6 +183,7 @@ impl BlockPool {
         ensures block { result.now ≡ leaf_at self.old number }
     {
         let page = &mut self.pages[number as usize];
+        list_number(&mut self.changed, page.dirty, number);
         page.dirty = true;
         &mut page.block
     }
@@ -165,6 +200,8 @@ impl BlockPool {
             return Err(NoMemory);
         }
         self.pages.reserve(more as usize)?;
+        self.changed
+            .reserve(self.pages.len() + more as usize - self.changed.len())?;
         Ok(())
     }
 
@@ -179,6 +216,9 @@ impl BlockPool {
             return Err(NoMemory);
         }
         self.pages.reserve(1)?;
+        let number = self.pages.len();
+        self.changed.reserve(number + 1 - self.changed.len())?;
+        list_last(&mut self.changed, dirty, number as u32);
         if self.pages.push(Page { block, dirty }).is_err() {
             unreachable!();
         }
@@ -189,7 +229,7 @@ impl BlockPool {
     fn count_dirty(&self) -> u32
         ensures { result ≡ dirty_from self.now 0 }
     {
-        count_marks(&self.pages) as u32
+        self.changed.len() as u32
     }
 
     /// Writes a block where it is marked, and the blocks below it stand on the file.
@@ -227,10 +267,19 @@ impl BlockPool {
         ensures cause { HasCause (D.disk disk.old).faults (D.disk disk.new).faults result }
     {
         let mut buffer = [0; 4096];
-        for number in 0..self.count() {
-            self.write_one(disk, file, number, &mut buffer)?;
+        let numbers = self.dirty_numbers();
+        for number in numbers {
+            self.write_one(disk, file, *number, &mut buffer)?;
         }
         Ok(())
+    }
+
+    /// Takes all marks away.
+    fn clean(&mut self)
+        ensures { self.new ≡ cleaned self.old }
+    {
+        take_marks(&mut self.pages, &self.changed);
+        self.changed.clear();
     }
 
     /// Writes the dirty blocks to a file, in rising order, and takes their marks away. It syncs nothing.
@@ -256,7 +305,7 @@ impl BlockPool {
             return Err(PoolError::NoMemory);
         }
         self.write_dirty(disk, file)?;
-        take_marks(&mut self.pages);
+        self.clean();
         Ok(())
     }
 }

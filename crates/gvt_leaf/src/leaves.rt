@@ -178,8 +178,8 @@ impl Leaves {
         self.chain.reserve(sets)
     }
 
-    /// Makes one change. It takes no memory.
-    fn make_one(&mut self, update: &Update)
+    /// Makes one change for which there is room. It takes no memory.
+    pub fn make_one(&mut self, update: &Update)
         requires form { IsUpdate (update_value update.now) }
         requires room { HasRoom self.old (sets_of (update_value update.now)) }
         ensures made { self.new.globals ≡ apply self.old.globals (update_value update.now) }

@@ -8,7 +8,7 @@ use Rattle.before_image.specs.Undoing.{Oldest, Undoes}
 use Rattle.before_image.proofs.OldestImages.{knows_undone}
 use Rattle.gvt_leaf.specs.Clean.{KeepsClean}
 use Rattle.region_store.specs.Laid.{AreLaid}
-use Rattle.region_store.specs.Region.{Standing, HoldsRegion}
+use Rattle.region_store.specs.Region.{Standing, HoldsRegion, IsChanged}
 
 pub opened : (e : Chosen) (file : List ℕ) (p : Pool) (us : Oldest) (s : Standing) → AreLaid e file p (max 1 e.blocks) → Undoes us e → s.pool.leaves ≡ p.leaves → s.pool.dirty ≡ p.dirty → s.imaged ≡ map is_some us → HoldsRegion e file s
 opened e file p us s were u leaves dirty imaged = record {
@@ -31,3 +31,7 @@ applied e bytes s t keeps imaged h = record {
   knows = subst (λ (ms : List Bool). Knows ms e) (sym imaged) h.knows;
   whole = λ b low free. h.whole b low (ap (λ (ms : List Bool). is_free ms b) (sym imaged) ∙ free);
 }
+
+-- a change of the blocks that marks what it changes
+pub changed_is : (s t : Standing) → KeepsClean s.pool t.pool → t.file ≡ s.file → t.imaged ≡ s.imaged → IsChanged s t
+changed_is s t keeps file imaged = record { file = file; imaged = imaged; holds = λ e bytes h. applied e bytes s t keeps imaged h }

@@ -1,8 +1,8 @@
 -- Marks of images, once those of all changed blocks are logged.
-use Rattle.std.proofs.Common.{◌≡◌, ◌≢◌, inl, inr, ℕ, zero, suc, ◌+◌, add-one, ◌<◌, ◌≤◌, Bool, true, false, List, [], ◌∷◌, ◌++◌, length, refl, sym, ap, subst, ◌∙◌, arith, append_assoc, append-nil, get_or}
+use Rattle.std.proofs.Common.{◌≡◌, ◌≢◌, inl, inr, ℕ, zero, suc, ◌+◌, add-one, ◌<◌, ◌≤◌, Bool, true, false, List, [], ◌∷◌, ◌++◌, length, drop, refl, sym, ap, subst, ◌∙◌, arith, append_assoc, append-nil, get_or}
 use Rattle.std.specs.Prelude.{if◌then◌else◌}
 use Rattle.std.proofs.lemmas.Bool.{cases_lt, cases_eq}
-use Rattle.std.proofs.lemmas.List.{map-append, get_or-set_other}
+use Rattle.std.proofs.lemmas.List.{map-append, get_or-set_other, drop_all}
 use Rattle.journal_defs.specs.Journal.{Before, Pblk}
 use Rattle.journal_defs.specs.Sequence.{Placed}
 use Rattle.journal_defs.specs.Epochs.{Chosen, image_state, block_of}
@@ -10,7 +10,8 @@ use Rattle.journal_defs.specs.Leaves.{Leaf}
 use Rattle.journal_laws.proofs.Images.{image_keeps}
 use Rattle.block_laws.specs.Several.{MayAppendAll, logged_all}
 use Rattle.block_laws.proofs.Writing.{image_state_kept}
-use Rattle.block_pool.specs.Pool.{is_dirty}
+use Rattle.block_pool.specs.Pool.{is_dirty, numbers_from}
+use Rattle.block_pool.proofs.Numbers.{next_of, none_behind}
 use Rattle.before_image.specs.Images.{is_free, with_image, first_image, placed_images, Knows}
 use Rattle.before_image.proofs.Marks.{no_both, set_free, knows_first}
 use Rattle.gvt_leaf.specs.Stored.{Stored}
@@ -73,9 +74,45 @@ mark_stays : (dirty marks : List Bool) (n c : ℕ) → n ≤ c → is_free (mark
 mark_stays dirty marks zero c less = refl
 mark_stays dirty marks (suc n) c less = if_other (get_or dirty n false) (marks_in dirty marks n) n c (omega (arith, less)) ∙ mark_stays dirty marks n c (omega (arith, less))
 
--- one block more is seen
-pub marks_next : (dirty marks : List Bool) (n : ℕ) → marks_in dirty marks (n + 1) ≡ (if get_or dirty n false then with_image (marks_in dirty marks n) n else marks_in dirty marks n)
-marks_next dirty marks n = ap (marks_in dirty marks) (add-one n)
+-- blocks that haven't changed leave the marks
+marks_gap : (dirty marks : List Bool) (n b : ℕ) → n ≤ b → ((c : ℕ) → n ≤ c → c < b → get_or dirty c false ≡ false) → marks_in dirty marks n ≡ marks_in dirty marks b
+marks_gap dirty marks n zero le clean = let none : n ≡ 0 = omega (arith, le) in ap (marks_in dirty marks) none
+marks_gap dirty marks n (suc b) le clean = elim (cases_lt b n) [
+  | inl less ↦ let all : n ≡ suc b = omega (arith, less, le) in ap (marks_in dirty marks) all
+  | inr more ↦
+      marks_gap dirty marks n b more (λ c from to. clean c from (omega (arith, to)))
+      ∙ ap (λ (t : Bool). if t then with_image (marks_in dirty marks b) b else marks_in dirty marks b) (sym (clean b more (omega arith)))
+]
+
+marks_at : (t : Bool) (marks : List Bool) (n : ℕ) → t ≡ true → with_image marks n ≡ (if t then with_image marks n else marks)
+marks_at true marks n is = refl
+marks_at false marks n is = cc
+
+-- The marks below the changed blocks that are left are set.
+pub record AreMarkedTo (dirty marks : List Bool) (ns : List ℕ) (i : ℕ) (new : List Bool) : Type 0 where
+  pub reached : ℕ
+  pub few : reached ≤ length dirty
+  pub left : numbers_from reached (drop reached dirty) ≡ drop i ns
+  pub made : new ≡ marks_in dirty marks reached
+
+pub none_marked : (dirty marks : List Bool) (ns : List ℕ) → ns ≡ numbers_from 0 dirty → AreMarkedTo dirty marks ns 0 marks
+none_marked dirty marks ns are = record { reached = 0; few = omega arith; left = sym are; made = refl }
+
+-- one changed block more is marked
+pub marked_next : (dirty marks : List Bool) (ns : List ℕ) (i x : ℕ) (old new : List Bool) → i < length ns → x ≡ get_or ns i 0 → new ≡ with_image old x → AreMarkedTo dirty marks ns i old → AreMarkedTo dirty marks ns (i + 1) new
+marked_next dirty marks ns i x old new low read is w =
+    let next = next_of dirty ns w.reached i x w.left low read in
+    record {
+      reached = x + 1;
+      few = let inside = next.inside in omega (arith, inside);
+      left = next.rest_is;
+      made = is ∙ ap (λ (ms : List Bool). with_image ms x) (w.made ∙ marks_gap dirty marks w.reached x next.low next.between) ∙ marks_at (get_or dirty x false) (marks_in dirty marks x) x next.is_set ∙ ap (marks_in dirty marks) (sym (add-one x));
+    }
+
+-- all are
+pub all_marked : (dirty marks : List Bool) (ns : List ℕ) (i n : ℕ) (new : List Bool) → length ns ≤ i → length dirty ≡ n → AreMarkedTo dirty marks ns i new → new ≡ marks_in dirty marks n
+all_marked dirty marks ns i n new end many w =
+    w.made ∙ marks_gap dirty marks w.reached n (let few = w.few in omega (arith, few, many)) (λ c from to. none_behind dirty w.reached (w.left ∙ drop_all i ns end) c from)
 
 -- the marks were set over the region's own
 pub marked_is : (f : ℕ) (l : Stored) (marks new dirty : List Bool) (leaves : List Leaf) (s : Standing) → standing f l marks ≡ s → leaves ≡ l.pool.leaves → dirty ≡ l.pool.dirty → new ≡ marks_in dirty marks (length leaves)

@@ -11,6 +11,7 @@ use Rattle.block_laws.specs.Nodes.{HaveKeys}
 use Rattle.block_laws.specs.Several.{MayChange}
 use Rattle.block_pool.specs.Code.{Pool, pool_code}
 use Rattle.block_pool.specs.Pool.{is_dirty, cleaned, CleanStand, ChangesDirty}
+use Rattle.gvt_leaf.specs.Stored.{Stored, IsSame}
 use Rattle.before_image.specs.Images.{is_free, with_image, first_image, Knows}
 
 pub record Standing : Type 0 where
@@ -40,6 +41,22 @@ pub record HoldsRegion (e : Chosen) (bytes : List ℕ) (s : Standing) : Type 0 w
 -- the region's blocks are those of some epoch and the files
 abbrev pub IsHeld : Standing → Files → Type 0
 IsHeld s files = (e : Chosen) × HoldsRegion e (files s.file) s
+
+-- the region's globals in their blocks
+abbrev pub stored_in : Standing → Stored
+stored_in s = record { globals = s.globals; pool = s.pool }
+
+-- nothing but perhaps the room is another
+pub record IsSameRegion (old new : Standing) : Type 0 where
+  pub file : new.file ≡ old.file
+  pub stored : IsSame (stored_in old) (stored_in new)
+  pub imaged : new.imaged ≡ old.imaged
+
+-- What a change makes of a region: its blocks stay those of the epoch and the file.
+pub record IsChanged (old new : Standing) : Type 0 where
+  pub file : new.file ≡ old.file
+  pub imaged : new.imaged ≡ old.imaged
+  pub holds : (e : Chosen) (bytes : List ℕ) → HoldsRegion e bytes old → HoldsRegion e bytes new
 
 -- each changed block may be written: it stands past the epoch or has an image
 abbrev pub AreLogged : Standing → Type 0

@@ -1,9 +1,8 @@
 //! Marks of blocks whose images are logged, and blocks written to the database file.
-ghost use Rattle.std.specs.Prelude.{◌≡◌, ◌≤◌, ◌<◌, ℕ, false, length, slice_index_or, if◌then◌else◌, IfSome, OnOk, OnErr, IsErrOf};
+ghost use Rattle.std.specs.Prelude.{◌≡◌, ◌≤◌, ℕ, length, IfSome, OnOk, OnErr, IsErrOf};
 ghost use Rattle.disk_defs.specs.Disk.{Image, From, OnFile, AtEachMoment, ReadsAfter, IsDurable, Rose};
 ghost use Rattle.disk_defs.specs.Frames.{Only, OthersStay};
 ghost use Rattle.block_pool.specs.Pool.{cleaned, CleanStand, AllStand, ChangesDirty};
-ghost use Rattle.before_image.specs.Images.{with_image};
 ghost use Rattle.region_store.specs.Region.{marks_in};
 
 use super::error::RegionError;
@@ -12,23 +11,14 @@ use block_pool::{BlockPool, PoolError};
 use gvt_leaf::Leaves;
 use repl_disk::Disk;
 
-/// Sets a block's mark where it has changed.
-fn mark_one(imaged: &mut Imaged, pool: &BlockPool, block: u32)
-    requires { block < length pool.now.leaves }
-    ensures { imaged.new ≡ (if slice_index_or pool.now.dirty block false then with_image imaged.old block else imaged.old) }
-{
-    if pool.is_dirty(block) {
-        imaged.mark(block);
-    }
-}
-
 /// Sets the marks of all blocks that have changed.
 pub(crate) fn mark_dirty(imaged: &mut Imaged, pool: &BlockPool)
     ensures marks { imaged.new ≡ marks_in pool.now.dirty imaged.old (length pool.now.leaves) }
     ensures many { length pool.now.dirty ≡ length pool.now.leaves }
 {
-    for block in 0..pool.count() {
-        mark_one(imaged, pool, block);
+    let numbers = pool.dirty_numbers();
+    for number in numbers {
+        imaged.mark(*number);
     }
 }
 

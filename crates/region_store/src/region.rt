@@ -1,5 +1,5 @@
 //! A region on blocks.
-ghost use Rattle.std.specs.Prelude.{◌≡◌, ◌≤◌, ◌<◌, ◌*◌, ◌++◌, ◌⊎◌, ℕ, List, true, false, length, map, max, filter, fold, replicate, option_map, IfOk, IfSome, OnOk, OnErr, IsErrOf};
+ghost use Rattle.std.specs.Prelude.{◌≡◌, ◌≤◌, ◌+◌, ◌*◌, ◌++◌, ◌⊎◌, ℕ, List, true, false, length, map, max, filter, fold, replicate, option_map, IfOk, IfSome, OnOk, OnErr, IsErrOf};
 ghost use Rattle.std.specs.Option.{option_copied};
 ghost use Rattle.std.specs.List.{AllByRecursion};
 ghost use Rattle.std.specs.FinMap as globals;
@@ -21,13 +21,14 @@ ghost use Rattle.journal_defs.specs.Undo.{fresh};
 ghost use Rattle.journal_defs.specs.Sound.{Restores};
 ghost use Rattle.block_laws.specs.Nodes.{AreFormed, HaveKeys};
 ghost use Rattle.block_laws.specs.Several.{logged_all};
+ghost use Rattle.block_pool.specs.Pool.{is_dirty};
 ghost use Rattle.before_image.specs.Images.{placed_images};
 ghost use Rattle.gvt_leaf.specs.Listed.{node_value};
-ghost use Rattle.gvt_leaf.specs.Stored.{blocks_in};
+ghost use Rattle.gvt_leaf.specs.Stored.{HasRoom, sets_of, blocks_in};
 ghost use Rattle.jnl_record.specs.Values.{record_value, placed_value};
 ghost use Rattle.region_store.specs.Laid.{epoch_at, AreLaid};
 ghost use Rattle.region_store.specs.Outside.{IsOutsideAt};
-ghost use Rattle.region_store.specs.Region.{HoldsRegion, IsHeld, AreLogged, IsFlushed, IsCutShort, IsReplayed, flushed, with_marks, image_at, images_below, changed_images, logged_marks};
+ghost use Rattle.region_store.specs.Region.{HoldsRegion, IsHeld, IsSameRegion, IsChanged, stored_in, AreLogged, IsFlushed, IsCutShort, IsReplayed, flushed, with_marks, image_at, images_below, changed_images, logged_marks};
 
 use super::error::RegionError;
 use super::flushing::{mark_dirty, sync_file, write_changed};
@@ -180,6 +181,27 @@ impl Region {
         self.leaves.list_under(alloc, top)
     }
 
+    /// Makes room for changes that set so many nodes. More than `u32::MAX` nodes take more memory than there is.
+    pub fn reserve(&mut self, sets: usize) -> Result<(), NoMemory>
+        ensures ok { OnOk result (HasRoom (stored_in self.new) sets) }
+        ensures same { IsSameRegion self.old self.new }
+        ensures changed { IsChanged self.old self.new }
+    {
+        self.leaves.reserve(sets)
+    }
+
+    /// Makes one change, for which there is room. It takes no memory, and the blocks that it changes are marked.
+    pub fn make_one(&mut self, update: &Update)
+        requires form { IsUpdate (update_value update.now) }
+        requires room { HasRoom (stored_in self.old) (sets_of (update_value update.now)) }
+        ensures made { self.new.globals ≡ apply self.old.globals (update_value update.now) }
+        ensures room { self.old.pool.room ≤ self.new.pool.room + sets_of (update_value update.now) }
+        ensures numbers { globals.len self.new.globals ≤ globals.len self.old.globals + sets_of (update_value update.now) }
+        ensures changed { IsChanged self.old self.new }
+    {
+        self.leaves.make_one(update);
+    }
+
     /// Makes these changes in order, all of them or, without memory, none. The blocks that they change are marked.
     pub fn apply(&mut self, updates: &[Update]) -> Result<(), NoMemory>
         requires { AllByRecursion IsUpdate (map update_value updates.now) }
@@ -202,7 +224,7 @@ impl Region {
         self.leaves.pool().count()
     }
 
-    /// Logs a block's bytes as they stand on the file, where it has changed and may not be written yet.
+    /// Logs the bytes of a block that has changed as they stand on the file, where it may not be written yet.
     fn log_block<D: Disk, L: Log>(
         &self,
         disk: &mut D,
@@ -210,7 +232,7 @@ impl Region {
         log: &mut L,
     ) -> Result<(), RegionError>
         requires held { IfSome (D.disk disk.old).content (IsHeld self.now) }
-        requires inside { block < length self.now.pool.leaves }
+        requires changed { is_dirty self.now.pool block ≡ true }
         ensures logged { OnOk result (IfSome (D.disk disk.old).content (λ files. L.images log.new ≡ L.images log.old ++ image_at self.now (files self.now.file) block)) }
         ensures none { OnErr result (L.images log.new ≡ L.images log.old) }
         ensures place { (f offset : ℕ) → IsErrOf result (RegionError.NotAFile f offset) → ⊥ }
@@ -219,10 +241,6 @@ impl Region {
         ensures count { (fault : ℕ) → IsErrOf result (RegionError.Failed fault) → fault ≡ (D.disk disk.new).faults }
         ensures cause { (fault : ℕ) → IsErrOf result (RegionError.Failed fault) → Rose (D.disk disk.old).faults (D.disk disk.new).faults }
     {
-        let dirty = self.leaves.pool().is_dirty(block);
-        if !dirty {
-            return Ok(());
-        }
         match self.imaged.log_image(disk, self.file, block, log) {
             Ok(()) => Ok(()),
             Err(ImageError::Failed) => Err(RegionError::Failed {
@@ -248,8 +266,9 @@ impl Region {
         ensures count { (fault : ℕ) → IsErrOf result (RegionError.Failed fault) → fault ≡ (D.disk disk.new).faults }
         ensures cause { (fault : ℕ) → IsErrOf result (RegionError.Failed fault) → Rose (D.disk disk.old).faults (D.disk disk.new).faults }
     {
-        for block in 0..self.blocks() {
-            self.log_block(disk, block, log)?;
+        let numbers = self.leaves.pool().dirty_numbers();
+        for number in numbers {
+            self.log_block(disk, *number, log)?;
         }
         Ok(())
     }

@@ -1,8 +1,9 @@
-use Rattle.std.proofs.Common.{◌≡◌, false, map, take, replicate}
+use Rattle.std.proofs.Common.{◌≡◌, map, drop}
+use Rattle.block_pool.specs.Pool.{numbers_from}
 use Rattle.block_pool.proofs.pool.take_marks.Given as goal
 
-abbrev pub invariant-loop-page : goal.invariant-loop-page
-invariant-loop-page l = record {
+abbrev pub invariant-loop-number : goal.invariant-loop-number
+invariant-loop-number l = record {
   blocks : map (λ q. q.block) l.pages ≡ map (λ q. q.block) l.fn.pages;
-  marks : take l.page-index (map (λ q. q.dirty) l.pages) ≡ replicate l.page-index false;
+  left : numbers_from 0 (map (λ q. q.dirty) l.pages) ≡ drop l.number-index l.changed;
 }

@@ -1,9 +1,5 @@
-use Rattle.std.proofs.Common.{◌≡◌, ◌≤◌, length}
-use Rattle.region_store.specs.Region.{marks_in}
+use Rattle.region_store.proofs.Marking.{AreMarkedTo}
 use Rattle.region_store.proofs.flushing.mark_dirty.Given as goal
 
-abbrev pub invariant-loop-block : goal.invariant-loop-block
-invariant-loop-block l = record {
-  few : l.block ≤ length l.pool.leaves;
-  marks : l.imaged ≡ marks_in l.pool.dirty l.fn.imaged l.block;
-}
+abbrev pub invariant-loop-number : goal.invariant-loop-number
+invariant-loop-number l = AreMarkedTo l.pool.dirty l.fn.imaged l.numbers l.number-index l.imaged

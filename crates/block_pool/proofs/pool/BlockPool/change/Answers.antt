@@ -1,7 +1,26 @@
 use Rattle.std.proofs.Common.{true, refl, ◌∙◌, ap}
+use Rattle.block_pool.specs.declared.pool.BlockPool.TheInside.{Inside}
 use Rattle.block_pool.specs.Pool.{changed}
-use Rattle.block_pool.proofs.Pages.{pool_of-with_page}
+use Rattle.block_pool.proofs.Pages.{pool_of-with_page, page_inside, seat_left, listing, still_listed}
 use Rattle.block_pool.proofs.pool.BlockPool.change.Goals as goal
 
+pub list_number-requires : goal.list_number-requires
+list_number-requires c =
+    let p = c.self.inside in
+    let b = c.args.number in
+    record { room = λ is. seat_left p b c.index.result.now c.self.invariant (page_inside p c.args.self.now b c.self.view_is c.requires) c.index.ensures is }
+
+pub invariant_of-self : goal.invariant_of-self
+invariant_of-self c =
+    let p = c.self.inside in
+    let b = c.args.number in
+    let m : Inside = record { pages = p.pages; changed = c.list_number.new.changed } in
+    still_listed p m b (record { block = c.args.to; dirty = true }) c.self.invariant c.list_number.ensures.capacity refl
+    (listing p m b c.index.result.now c.self.invariant (page_inside p c.args.self.now b c.self.view_is c.requires) c.index.ensures c.list_number.ensures.listed)
+
 pub returns-clause-changed : goal.returns-clause-changed
-returns-clause-changed c = pool_of-with_page c.self.inside c.args.number (record { block = c.args.to; dirty = true }) refl ∙ ap (λ p. changed p c.args.number c.args.to) c.self.view_is
+returns-clause-changed c =
+    let p = c.self.inside in
+    let b = c.args.number in
+    let m : Inside = record { pages = p.pages; changed = c.list_number.new.changed } in
+    pool_of-with_page p m b (record { block = c.args.to; dirty = true }) c.list_number.ensures.capacity refl ∙ ap (λ v. changed v b c.args.to) c.self.view_is

@@ -1,19 +1,11 @@
-use Rattle.std.proofs.Common.{◌≡◌, ◌∙◌, true, false, Bool, List, get_or, sym, ap, subst}
+use Rattle.std.proofs.Common.{◌≡◌, subst, sym}
 use Rattle.std.specs.Prelude.{◌++◌, IfSome}
 use Rattle.journal_defs.specs.Epochs.{block_of}
-use Rattle.block_pool.specs.Pool.{is_dirty}
 use Rattle.before_image.specs.Images.{first_image}
 use Rattle.region_store.specs.Region.{Standing, IsHeld}
 use Rattle.region_store.proofs.Marking.{standing}
-use Rattle.region_store.proofs.Logs.{image_asked, logged_none, logged_one}
+use Rattle.region_store.proofs.Logs.{image_asked, logged_one}
 use Rattle.region_store.proofs.region.Region.log_block.Goals as goal
-
-pub returns-then-not-dirty-clause-logged : goal.returns-then-not-dirty-clause-logged
-returns-then-not-dirty-clause-logged g c =
-    let b = c.args.block in
-    let is : is_dirty c.args.self.now.pool b ≡ false =
-    ap (λ (x : Standing). is_dirty x.pool b) (sym c.self.view_is) ∙ ap (λ (ds : List Bool). get_or ds b false) (sym c.pool.ensures.dirty) ∙ sym c.is_dirty-dirty.ensures ∙ c.if-not-dirty.true in
-    logged_none (g.D.Disk.disk c.args.disk.now).content c.args.self.now b (g.L.Log.images c.args.log.now) is
 
 pub log_image-requires : goal.log_image-requires
 log_image-requires g c =
@@ -25,7 +17,5 @@ pub returns-in-Ok-clause-logged : goal.returns-in-Ok-clause-logged
 returns-in-Ok-clause-logged g c =
     let b = c.args.block in
     let o = (g.D.Disk.disk c.args.disk.now).content in
-    let is : is_dirty c.args.self.now.pool b ≡ true =
-    ap (λ (x : Standing). is_dirty x.pool b) (sym c.self.view_is) ∙ ap (λ (ds : List Bool). get_or ds b false) (sym c.pool.ensures.dirty) ∙ sym c.is_dirty-dirty.ensures ∙ c.if-not-dirty.false in
-    logged_one o c.args.self.now b (g.L.Log.images c.args.log.now) (g.L.Log.images c.log_image.new.log) is
+    logged_one o c.args.self.now b (g.L.Log.images c.args.log.now) (g.L.Log.images c.log_image.new.log) c.requires.changed
     (subst (λ (x : Standing). IfSome o (λ files. g.L.Log.images c.log_image.new.log ≡ g.L.Log.images c.args.log.now ++ first_image x.imaged b (block_of (files x.file) b))) c.self.view_is c.in-Ok.ensures.logged)

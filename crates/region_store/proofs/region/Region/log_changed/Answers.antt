@@ -1,15 +1,15 @@
-use Rattle.std.proofs.Common.{◌≡◌, ℕ, length, sym, subst, arith}
-use Rattle.std.specs.Prelude.{◌++◌, IfSome}
+use Rattle.std.proofs.Common.{◌≡◌, ◌∙◌, length, get_or, refl, sym, ap, arith}
 use Rattle.disk_defs.proofs.Told.{told_at}
 use Rattle.disk_defs.proofs.Frames.{reads_more}
-use Rattle.region_store.specs.Region.{IsHeld, images_below}
-use Rattle.region_store.proofs.Logs.{logged_first, logged_more, logged_front, reads_none, on_err}
+use Rattle.block_pool.specs.Pool.{numbers_from}
+use Rattle.region_store.specs.Region.{Standing, IsHeld}
+use Rattle.region_store.proofs.Logs.{logged_first, next_dirty, logged_more, logged_all_of, logged_front, reads_none, on_err}
 use Rattle.region_store.proofs.region.Region.log_changed.Goals as goal
 
-pub loop-block-init : goal.loop-block-init
-loop-block-init g c = record {
-  few = omega arith;
-  logged = logged_first (g.D.Disk.disk c.args.disk.now).content c.args.self.now (g.L.Log.images c.args.log.now);
+pub loop-number-init : goal.loop-number-init
+loop-number-init g c = record {
+  logged = logged_first (g.D.Disk.disk c.args.disk.now).content c.args.self.now c.dirty_numbers-numbers.result.now (g.L.Log.images c.args.log.now)
+      (c.dirty_numbers-numbers.ensures.numbers ∙ ap (numbers_from 0) (c.pool.ensures.dirty ∙ ap (λ (x : Standing). x.pool.dirty) c.self.view_is));
   reads = reads_none (g.D.Disk.disk c.args.disk.now);
   faults = omega arith;
 }
@@ -17,21 +17,26 @@ loop-block-init g c = record {
 pub log_block-requires-clause-held : goal.log_block-requires-clause-held
 log_block-requires-clause-held g c =
     let view = g.D.Disk.disk in
-    told_at (view c.loop-block.disk).content (view c.args.disk.now).content (IsHeld c.args.self.now) (sym c.loop-block.invariant.reads.content) c.requires.held
+    told_at (view c.loop-number.disk).content (view c.args.disk.now).content (IsHeld c.args.self.now) (sym c.loop-number.invariant.reads.content) c.requires.held
+
+pub log_block-requires-clause-changed : goal.log_block-requires-clause-changed
+log_block-requires-clause-changed g c =
+    let l = c.loop-number in
+    next_dirty (g.D.Disk.disk c.args.disk.now).content c.args.self.now c.dirty_numbers-numbers.result.now l.number-index (get_or c.dirty_numbers-numbers.result.now l.number-index 0) (g.L.Log.images c.args.log.now) (g.L.Log.images l.log) c.loop-number-test.true refl l.invariant.logged
 
 pub returns-in_err-log_block-clause-front : goal.returns-in_err-log_block-clause-front
 returns-in_err-log_block-clause-front g c =
-    on_err _ (logged_front (g.D.Disk.disk c.args.disk.now).content c.args.self.now c.loop-block.block (g.L.Log.images c.args.log.now) (g.L.Log.images c.loop-block.log) (g.L.Log.images c.log_block.new.log)
-    c.in_err-log_block.ensures.none c.loop-block.invariant.logged)
+    let l = c.loop-number in
+    on_err _ (logged_front (g.D.Disk.disk c.args.disk.now).content c.args.self.now c.dirty_numbers-numbers.result.now l.number-index (g.L.Log.images c.args.log.now) (g.L.Log.images l.log) (g.L.Log.images c.log_block.new.log)
+    c.in_err-log_block.ensures.none l.invariant.logged)
 
-pub loop-block-preserved : goal.loop-block-preserved
-loop-block-preserved g c =
+pub loop-number-preserved : goal.loop-number-preserved
+loop-number-preserved g c =
     let view = g.D.Disk.disk in
-    let l = c.loop-block in
+    let l = c.loop-number in
     record {
-      few = omega (arith, c.loop-block-test.true, c.blocks-block-end.ensures.count);
-      logged = logged_more (view c.args.disk.now).content (view l.disk).content c.args.self.now l.block (g.L.Log.images c.args.log.now) (g.L.Log.images l.log) (g.L.Log.images c.log_block.new.log)
-          l.invariant.reads.content c.in_ok-log_block.ensures.logged l.invariant.logged;
+      logged = logged_more (view c.args.disk.now).content (view l.disk).content c.args.self.now c.dirty_numbers-numbers.result.now l.number-index (get_or c.dirty_numbers-numbers.result.now l.number-index 0) (g.L.Log.images c.args.log.now) (g.L.Log.images l.log) (g.L.Log.images c.log_block.new.log)
+          c.loop-number-test.true refl l.invariant.reads.content c.in_ok-log_block.ensures.logged l.invariant.logged;
       reads = reads_more (view c.args.disk.now) (view l.disk) (view c.log_block.new.disk) (g.met.D.Disk.lawful c.args.disk.now) l.invariant.reads c.log_block.ensures.reads;
       faults = omega (arith, l.invariant.faults, c.log_block.ensures.later);
     }
@@ -39,6 +44,9 @@ loop-block-preserved g c =
 pub returns-clause-logged : goal.returns-clause-logged
 returns-clause-logged g c =
     let s = c.args.self.now in
-    let l = c.loop-block in
-    let all : l.block ≡ length s.pool.leaves = omega (arith, l.invariant.few, c.loop-block-test.false, c.blocks-block-end.ensures.count) in
-    subst (λ (n : ℕ). IfSome (g.D.Disk.disk c.args.disk.now).content (λ files. g.L.Log.images l.log ≡ g.L.Log.images c.args.log.now ++ images_below s (files s.file) n)) all l.invariant.logged
+    let l = c.loop-number in
+    let many : length s.pool.dirty ≡ length s.pool.leaves =
+    sym (ap length c.pool.ensures.dirty ∙ ap (λ (x : Standing). length x.pool.dirty) c.self.view_is) ∙ c.dirty_numbers-numbers.ensures.marks
+    ∙ (ap length c.pool.ensures.blocks ∙ ap (λ (x : Standing). length x.pool.leaves) c.self.view_is) in
+    let end = c.loop-number-test.false in
+    logged_all_of (g.D.Disk.disk c.args.disk.now).content s c.dirty_numbers-numbers.result.now l.number-index (g.L.Log.images c.args.log.now) (g.L.Log.images l.log) (omega (arith, end)) many l.invariant.logged

@@ -1,0 +1,14 @@
+//! The regions of a site on blocks, seen as one map of globals: each node stands in the region that the global directory gives its
+//! name.
+//!
+//! # What it keeps
+//!
+//! - [`Regions`] answers as the map of all nodes does, by asking the region of a name alone.
+//! - A list of updates is made whole or not at all: [`Regions::reserve`] takes the memory in each region, and [`Regions::make`] makes
+//!   each update in the region of its name without memory.
+#![tactic(auto)]
+
+mod counting;
+mod regions;
+
+pub use regions::Regions;
