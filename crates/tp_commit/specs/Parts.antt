@@ -7,7 +7,7 @@ use Rattle.journal_defs.specs.Split.{mask_with}
 use Rattle.jnl_record.specs.declared.record.JnlRecord.{JnlRecord}
 use Rattle.jnl_record.specs.Values.{record_value, IsFirstVersion}
 
--- which regions have a part, and the record of each of the eight, where it has one
+-- which regions have a part, and the records by region, where it has one: behind the list there is none
 pub record PartRecords : Type 0 where
   pub mask : ℕ
   pub records : List (Option JournalRecord)

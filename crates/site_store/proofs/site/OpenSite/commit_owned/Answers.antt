@@ -3,7 +3,7 @@ use Rattle.gvn_model.specs.Entries.{transaction_value}
 use Rattle.journal_defs.specs.Instance.{generation}
 use Rattle.site_store.proofs.Committed as committed
 use Rattle.site_store.proofs.Standing.{still}
-use Rattle.site_store.proofs.site.OpenSite.commit.Goals as goal
+use Rattle.site_store.proofs.site.OpenSite.commit_owned.Goals as goal
 
 pub returns-clause-any_moment : goal.returns-clause-any_moment
 returns-clause-any_moment g c y h o =
@@ -29,7 +29,7 @@ returns-in-Ok-clause-stands g c y h o =
 
 pub returns-in-Ok-clause-appended : goal.returns-in-Ok-clause-appended
 returns-in-Ok-clause-appended g c hard waiting keeps =
-    committed.parts_appended (g.D.Disk.disk c.append.new.disk) c.args.self.now (transaction_value c.args.t.now) c.in_ok-parts.parts c.prepare.new.self.journals.journals.items c.append.new.self.journals.items hard waiting
+    committed.parts_appended (g.D.Disk.disk c.append.new.disk) c.args.self.now (transaction_value c.args.t) c.in_ok-parts.parts c.prepare.new.self.journals.journals.items c.append.new.self.journals.items hard waiting
     c.append.ensures.count c.prepare.ensures.ready.journals.few c.in_ok-parts.ensures.parts (c.in-Ok.ensures.state hard waiting (c.prepare.ensures.state hard waiting keeps))
 
 pub returns-in-Ok-clause-ready : goal.returns-in-Ok-clause-ready
@@ -38,7 +38,7 @@ returns-in-Ok-clause-ready g c =
 
 pub returns-in-Ok-clause-done : goal.returns-in-Ok-clause-done
 returns-in-Ok-clause-done g c told y h o =
-    committed.open_longer (g.D.Disk.disk c.args.disk.now) (g.D.Disk.disk c.prepare.new.disk) (g.D.Disk.disk c.append.new.disk) told y h c.args.self.now c.prepare.new.self _ c.args.t.now c.in_ok-parts.parts
+    committed.open_longer (g.D.Disk.disk c.args.disk.now) (g.D.Disk.disk c.prepare.new.disk) (g.D.Disk.disk c.append.new.disk) told y h c.args.self.now c.prepare.new.self _ c.args.t c.in_ok-parts.parts
     (record {
       prepares = record { ready = c.requires.ready; ready_after = c.prepare.ensures.ready; state = c.prepare.ensures.state; same = c.prepare.ensures.same; moments = c.prepare.ensures.any_moment; stays = c.prepare.ensures.frame };
       enters = c.in_ok-parts.ensures.enters;
