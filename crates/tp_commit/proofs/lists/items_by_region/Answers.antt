@@ -13,8 +13,8 @@ use Rattle.tp_commit.proofs.lists.items_by_region.Goals as goal
 abbrev put : ℕ → List (List Item) → ℕ → Update → List (List Item)
 put i lists k u = set lists k (get_or lists k [] ++ record { position = i; update = u } ∷ [])
 
-pub loop-i-entered : goal.loop-i-entered
-loop-i-entered c = c.in_ok-lists.ensures ∙ sym (take-replicate c.args.count 8 [] c.requires.few)
+pub loop-i-init : goal.loop-i-init
+loop-i-init c = c.in_ok-lists.ensures ∙ sym (take-replicate c.args.count 8 [] c.requires.few)
 
 pub push_item-requires : goal.push_item-requires
 push_item-requires c =
