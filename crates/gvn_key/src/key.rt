@@ -30,6 +30,9 @@ pub(crate) const LONGEST_KEY: usize = 255;
 /// How many bytes an encoded subscript has beside its own, where nothing is escaped.
 const BESIDE_SUB: usize = 3;
 
+/// How many bytes a key's text mostly has beside those of the encoded key.
+const BESIDE_TEXT: usize = 2;
+
 /// Why a name and subscripts, or a text, are no key: the first fault from the left.
 #[derive(Clone, Copy, Debug, PartialEq, Eq, Error)]
 pub enum KeyError {
@@ -237,7 +240,8 @@ impl Key {
         ensures ok { OnOk result (out.new ≡ out.old ++ node_text self.now) }
         ensures err { OnErr result (out.new ≡ out.old) }
     {
-        let mut text = Bytes::new(out.allocator());
+        let room = self.as_encoded().len().saturating_add(BESIDE_TEXT);
+        let mut text = Bytes::with_capacity(out.allocator(), room)?;
         text.push_all(b"^")?;
         text.push_all(self.name())?;
         let subs = self.subs()?;

@@ -83,10 +83,7 @@ impl Key {
     pub fn sub_at(&self, place: usize) -> Result<Option<Bytes>, NoMemory>
         ensures { IfOk result (λ sub. option_map sub_of sub ≡ first_sub (drop place self.now.subs)) }
     {
-        first_sub(
-            self.code().allocator(),
-            behind(self.subs_code(), place),
-        )
+        first_sub(self.code().allocator(), behind(self.subs_code(), place))
     }
 
     /// The key of the first so many subscripts: the node itself where it has no more, else one above it.

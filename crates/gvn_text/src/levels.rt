@@ -30,10 +30,11 @@ fn level_of(key: &Key) -> Result<Option<(Key, Bytes)>, NoMemory>
     if count == 0 {
         return Ok(None);
     }
-    match key.sub_at(count - 1)? {
-        Some(last) => Ok(Some((key.front(count - 1)?, last))),
-        None => unreachable!(),
-    }
+    let Some(last) = key.sub_at(count - 1)? else {
+        unreachable!();
+    };
+    let above = key.front(count - 1)?;
+    Ok(Some((above, last)))
 }
 
 /// The node of a text without subscripts, above an empty first one.

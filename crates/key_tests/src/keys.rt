@@ -120,10 +120,17 @@ fn has_subs(rt: &impl Abort, made: &Key, subs: &[Bytes], text: &[u8]) {
     holds(rt, all.len() == subs.len(), text);
     for (i, sub) in subs.iter().enumerate() {
         holds(rt, all.get(i) == Some(sub), text);
-        let one = made.sub_at(i).expect(rt, "memory").expect(rt, "a subscript");
+        let one = made
+            .sub_at(i)
+            .expect(rt, "memory")
+            .expect(rt, "a subscript");
         same(rt, one.as_slice(), sub.as_slice());
     }
-    holds(rt, made.sub_at(subs.len()).expect(rt, "memory").is_none(), text);
+    holds(
+        rt,
+        made.sub_at(subs.len()).expect(rt, "memory").is_none(),
+        text,
+    );
 }
 
 /// The key's fronts are those that the first subscripts make.

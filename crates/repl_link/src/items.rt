@@ -39,7 +39,8 @@ impl Item {
         Item { code: END }
     }
 
-    fn of(byte: u8) -> Self
+    // A byte.
+    pub(crate) fn of(byte: u8) -> Self
         ensures { result ≡ Byte byte }
     {
         Item { code: byte as u16 }

@@ -55,7 +55,7 @@ fn direction(alloc: Global, session: u32, connection: u64) -> Result<(MemTx, Mem
     let Ok((producer, consumer)) = RingBuffer::new(alloc, PLACES) else {
         return Err(ConnectError::NoMemory);
     };
-    let (Some(made), Some(taken)) = (piece(alloc), piece(alloc)) else {
+    let Some(items) = piece(alloc) else {
         return Err(ConnectError::NoMemory);
     };
     Ok((
@@ -66,7 +66,7 @@ fn direction(alloc: Global, session: u32, connection: u64) -> Result<(MemTx, Mem
             cuts: 0,
             finished: false,
             ring: producer,
-            items: made,
+            items,
         },
         MemRx {
             session,
@@ -76,7 +76,6 @@ fn direction(alloc: Global, session: u32, connection: u64) -> Result<(MemTx, Mem
             ended: false,
             closed: false,
             ring: consumer,
-            items: taken,
         },
     ))
 }

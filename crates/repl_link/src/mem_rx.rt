@@ -20,11 +20,8 @@ pub struct MemRx {
     pub(crate) ended: bool,
     pub(crate) closed: bool,
     pub(crate) ring: Consumer<Item>,
-    // Where items are put that were taken out of the ring.
-    pub(crate) items: Vec<Item>,
     ghost session_in_range: { session < 8 },
     ghost ends: { has_end (items_received ring) ≡ ended },
-    ghost places: { length items.items ≡ 4096 },
     ghost over: { IsTrue closed → IsTrue ended },
 }
 
@@ -41,25 +38,6 @@ fn drain(ring: &mut Consumer<Item>, items: &mut [Item], buffer: &mut [u8]) -> (u
     let popped = ring.pop_partial_slice(items);
     let count = copy_bytes(&items[..popped], buffer);
     (count, count < popped)
-}
-
-// The same with so many places at most.
-fn drain_most(
-    ring: &mut Consumer<Item>,
-    items: &mut [Item],
-    most: usize,
-    buffer: &mut [u8],
-) -> (usize, bool)
-    requires some { 0 < most }
-    requires items { most ≤ length items.old }
-    requires buffer { most ≤ length buffer.old }
-    ensures ring { SameConsumer ring.old ring.new }
-    ensures count { result.0 ≤ most }
-    ensures drained { Drained (items_received ring.old) (items_received ring.new) (known_items ring.old) (known_items ring.new) (take result.0 buffer.new) result.1 }
-    ensures bytes { result.0 ≡ length (take result.0 buffer.new) }
-    ensures nothing { result.0 ≡ 0 → result.1 ≡ false → known_items ring.old ≡ [] }
-{
-    drain(ring, &mut items[..most], buffer)
 }
 
 impl MemRx {
@@ -87,7 +65,9 @@ impl MemRx {
         ensures nothing { result ≡ 0 → self.new.ended ≡ false → ((mem_receiving self.old).unread ≡ []) × ((mem_receiving self.old).ended ≡ false) }
     {
         let most = at_most(self.left, buffer.len().min(PIECE));
-        let (count, ended) = drain_most(&mut self.ring, &mut self.items, most, buffer);
+        // a list of its own, of zeros, so that the loop that takes items out of the ring is sure to change nothing of the ring
+        let mut items = [Item::of(0); PIECE];
+        let (count, ended) = drain(&mut self.ring, &mut items[..most], buffer);
         self.ended = ended;
         self.left = less(self.left, count);
         count
