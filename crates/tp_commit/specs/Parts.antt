@@ -1,6 +1,6 @@
 -- The records of a transaction as an entry, one a region that has a part of it.
 use Rattle.std.specs.Prelude.{ℕ, ◌≤◌, nat_lt, List, length, get_or, Option, Some, None, [], option_map}
-use Rattle.global_defs.specs.Entry.{Item, Transaction}
+use Rattle.global_defs.specs.Entry.{Item}
 use Rattle.journal_defs.specs.Journal.{JournalRecord, Tcom, Part, IsInForm, spelled_record}
 use Rattle.journal_defs.specs.Sequence.{REGIONS}
 use Rattle.journal_defs.specs.Split.{mask_with}

@@ -1,6 +1,5 @@
-use Rattle.std.proofs.Common.{◌≡◌, ◌<◌, ◌≤◌, ◌+◌, ◌*◌, ◌^◌, ◌%◌, ℕ, Bool, true, false, List, [], length, drop, get_or, if◌then◌else◌, sym, ◌∙◌, ap, arith}
+use Rattle.std.proofs.Common.{◌≡◌, ◌<◌, ◌+◌, ℕ, true, false, [], length, drop, get_or, ◌∙◌, ap, arith}
 use Rattle.std.specs.Prelude.{nat_lt, not}
-use Rattle.global_defs.specs.Entry.{Item}
 use Rattle.journal_defs.specs.Sequence.{REGIONS}
 use Rattle.journal_defs.specs.Split.{mask_with}
 use Rattle.tp_commit.specs.Parts.{mask_by}

@@ -1,4 +1,4 @@
-use Rattle.std.proofs.Common.{◌≡◌, ◌<◌, ◌≤◌, ◌^◌, ℕ, List, [], map, take, length, get_or, Option, None, option_map, sym, ◌∙◌, ap, subst, arith}
+use Rattle.std.proofs.Common.{◌≡◌, ◌<◌, ◌≤◌, ◌^◌, ℕ, List, [], map, take, length, get_or, Option, None, sym, ◌∙◌, ap, subst, arith}
 use Rattle.std.proofs.lemmas.List.{take-map, length-take-le}
 use Rattle.std.specs.Prelude.{nat_lt}
 use Rattle.global_defs.specs.Entry.{Update, Item, Transaction}
@@ -8,7 +8,6 @@ use Rattle.journal_defs.specs.Fit.{key_of, region_of_update}
 use Rattle.journal_defs.specs.Sequence.{REGIONS}
 use Rattle.journal_defs.specs.Split.{split, mask_of, items_for, with_items}
 use Rattle.journal_laws.proofs.Masks.{below}
-use Rattle.jnl_record.specs.Values.{record_value}
 use Rattle.tp_commit.specs.Parts.{recorded, mask_by}
 use Rattle.tp_commit.proofs.Placing.{items_taken, none_past, at_taken, mask_same}
 use Rattle.tp_commit.proofs.Ready.{ready}
@@ -25,8 +24,8 @@ records_are : (region : Update → ℕ) (n mask bound : ℕ) (t : Transaction)
     → map (λ (xs : List Item). recorded (with_items n mask t xs)) (take bound (map (λ r. items_for region r t.updates) REGIONS)) ≡ take bound (map (λ r. recorded (split region n mask t r)) REGIONS)
 records_are region n mask bound t = sym (take-map (λ (xs : List Item). recorded (with_items n mask t xs)) bound (map (λ r. items_for region r t.updates) REGIONS))
 
-pub mask_by-requires : goal.mask_by-requires
-mask_by-requires c =
+pub mask_by-mask-requires : goal.mask_by-mask-requires
+mask_by-mask-requires c =
     let lists = map (λ r. items_for (region_of_update c.args.directory.now.patterns) r (transaction_value c.args.t.now).updates) REGIONS in
     let few = c.regions.ensures.few in
     let long = ap length (c.deref.ensures.value ∙ c.in_ok-lists.ensures) ∙ length-take-le c.regions.result lists few in
@@ -55,7 +54,7 @@ returns-clause-each c r inside =
     let t = transaction_value c.args.t.now in
     let bound = c.regions.result in
     let mask = c.mask_by-mask.result in
-    let low = λ u. c.regions.ensures.there (key_of u).name in
+    let low : (u : Update) → region u < bound = λ u. c.regions.ensures.there (key_of u).name in
     let is_mask : mask ≡ mask_of region t.updates = c.mask_by-mask.ensures ∙ ap mask_by (c.deref.ensures.value ∙ c.in_ok-lists.ensures) ∙ mask_is region bound t.updates c.regions.ensures.few low in
     let part = λ (r : ℕ). recorded (split region c.args.number mask t r) in
     ap (λ (l : List (Option JournalRecord)). get_or l r None) (c.in_ok-records.ensures ∙ ap (map (λ (xs : List Item). recorded (with_items c.args.number mask t xs))) c.in_ok-lists.ensures ∙ records_are region c.args.number mask bound t)
