@@ -92,7 +92,7 @@ impl Reign {
         if !all_fit(&updates) {
             return Err(DecideError::NoMemory);
         }
-        let number = self.enter(alloc, disk, &Transaction { origin, updates })?;
+        let number = self.enter(alloc, disk, Transaction { origin, updates })?;
         self.harden(disk)?;
         self.reply(origin, &Reply::Seq(number, answers), text)?;
         Ok(())

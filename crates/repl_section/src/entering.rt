@@ -23,16 +23,16 @@ impl Reign {
         &mut self,
         alloc: Global,
         disk: &mut D,
-        t: &Transaction,
+        t: Transaction,
     ) -> Result<u64, DecideError>
         requires ready { IsReady (D.disk disk.old) self.old.site }
         requires reign { HasReign self.old.site }
-        requires form { IsTransaction (transaction_value t.now) }
+        requires form { IsTransaction (transaction_value t) }
         requires room { length self.old.site.entries.items + 1 < 2 ^ 40 }
-        requires nodes { HasRoomFor self.old.site.globals t.now.updates }
+        requires nodes { HasRoomFor self.old.site.globals t.updates }
         ensures ready { OnOk result (IsReady (D.disk disk.new) self.new.site) }
         ensures reign { OnOk result (HasReign self.new.site) }
-        ensures done { OnOk result ((told : Bool) (c : Contents) → Reigns (D.disk disk.old) told c self.old → IsOpen (D.disk disk.new) told (with_entry self.old.site.stamp (transaction_value t.now) c) (length c.sequence) self.new.site) }
+        ensures done { OnOk result ((told : Bool) (c : Contents) → Reigns (D.disk disk.old) told c self.old → IsOpen (D.disk disk.new) told (with_entry self.old.site.stamp (transaction_value t) c) (length c.sequence) self.new.site) }
         ensures number { IfOk result (λ n. n ≡ length self.old.site.entries.items + 1) }
         ensures stamp { self.new.site.stamp ≡ self.old.site.stamp }
         ensures serials { self.new.serials ≡ self.old.serials }
@@ -43,7 +43,7 @@ impl Reign {
         ensures later { (D.disk disk.old).faults ≤ (D.disk disk.new).faults }
         ensures cause { IsErrOf result DecideError.Failed → Rose (D.disk disk.old).faults (D.disk disk.new).faults }
     {
-        match self.site.commit(alloc, disk, t) {
+        match self.site.commit_owned(alloc, disk, t) {
             Ok(number) => Ok(number),
             Err(SiteError::Failed { .. }) => Err(DecideError::Failed),
             Err(SiteError::NoMemory) => Err(DecideError::NoMemory),

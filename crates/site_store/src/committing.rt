@@ -33,14 +33,14 @@ impl OpenSite {
         &mut self,
         alloc: Global,
         disk: &mut D,
-        t: &Transaction,
+        t: Transaction,
     ) -> Result<PartRecords, NoMemory>
         requires ready { IsReady (D.disk disk.old) self.old }
-        requires form { IsTransaction (transaction_value t.now) }
+        requires form { IsTransaction (transaction_value t) }
         requires room { length self.old.entries.items + 1 < 2 ^ 40 }
         ensures ready { IsReady (D.disk disk.new) self.new }
-        ensures enters { OnOk result (Enters self.old self.new t.now) }
-        ensures parts { IfOk result (ArePartsOf self.old (transaction_value t.now)) }
+        ensures enters { OnOk result (Enters self.old self.new t) }
+        ensures parts { IfOk result (ArePartsOf self.old (transaction_value t)) }
         ensures prepared { IfOk result (λ made. ArePrepared made self.new.journals.journals.items) }
         ensures state { (hard waiting : ℕ → List JournalRecord) → KeepsJournals (D.disk disk.old) hard waiting self.old.journals.journals.items → KeepsJournals (D.disk disk.new) hard waiting self.new.journals.journals.items }
         ensures same { IsSameSite self.old self.new }
@@ -57,8 +57,61 @@ impl OpenSite {
             &self.layout.directory,
         )?;
         self.journals.prepare(disk, &parts)?;
-        self.remember(alloc, entry, t)?;
+        self.remember(alloc, entry)?;
         Ok(parts)
+    }
+
+    /// Does what [`commit`](OpenSite::commit) does, of a transaction that becomes the entry itself: no copy of it is made.
+    ///
+    /// # Errors
+    /// As [`commit`](OpenSite::commit)'s.
+    pub fn commit_owned<D: Disk>(
+        &mut self,
+        alloc: Global,
+        disk: &mut D,
+        t: Transaction,
+    ) -> Result<u64, SiteError>
+        requires ready { IsReady (D.disk disk.old) self.old }
+        requires form { IsTransaction (transaction_value t) }
+        requires reign { HasReign self.old }
+        ensures ready { OnOk result (IsReady (D.disk disk.new) self.new) }
+        ensures done { OnOk result ((told : Bool) (c : Contents) (h : ℕ) → IsOpen (D.disk disk.old) told c h self.old → IsOpen (D.disk disk.new) told (with_entry self.old.stamp (transaction_value t) c) h self.new) }
+        ensures appended { OnOk result (Appends (D.disk disk.old) (D.disk disk.new) self.old self.new (transaction_value t)) }
+        ensures number { IfOk result (λ n. n ≡ length self.old.entries.items + 1) }
+        ensures grown { OnOk result (length self.new.entries.items ≡ length self.old.entries.items + 1) }
+        ensures instance { self.new.instance ≡ self.old.instance }
+        ensures stamp { self.new.stamp ≡ self.old.stamp }
+        ensures reign { OnOk result (HasReign self.new) }
+        ensures room { OnOk result (length self.old.entries.items + 1 < 2 ^ 40) }
+        ensures fits { OnOk result (HasRoomFor self.old.globals t.updates) }
+        ensures full { (nodes : ℕ) → IsErrOf result (SiteError.Full nodes) → HasRoomFor self.old.globals t.updates → ⊥ }
+        ensures last { IsErrOf result SiteError.SeqLimit → 2 ^ 40 ≤ length self.old.entries.items + 1 }
+        ensures kept { ((nodes : ℕ) × IsErrOf result (SiteError.Full nodes)) ⊎ IsErrOf result SiteError.SeqLimit → (disk.new ≡ disk.old) × (self.new ≡ self.old) }
+        ensures unmade { IsErrOf result SiteError.NoMemory → IsSameMemory self.old self.new }
+        ensures goes_on { IsErrOf result SiteError.NoMemory → IsReady (D.disk disk.new) self.new }
+        ensures stays_open { IsErrOf result SiteError.NoMemory → (told : Bool) (c : Contents) (h : ℕ) → IsOpen (D.disk disk.old) told c h self.old → IsOpen (D.disk disk.new) told c h self.new }
+        ensures any_moment { (c : Contents) (h : ℕ) → IsOpen (D.disk disk.old) true c h self.old → AtEachMoment (D.disk disk.old) (D.disk disk.new) (λ f. IsSite f (with_sequence c (take h c.sequence))) }
+        ensures bare { (c : Contents) (h : ℕ) → IsOpen (D.disk disk.old) true c h self.old → AtEachMoment (D.disk disk.old) (D.disk disk.new) (λ f. HasLeft f (with_sequence c (take h c.sequence)) NO_LEFTOVER) }
+        ensures stands { (c : Contents) (h : ℕ) → IsOpen (D.disk disk.old) true c h self.old → IfSome (D.disk disk.new).content (λ f. IsSite f (with_sequence c (take h c.sequence))) }
+        ensures still_told { IsSome (D.disk disk.old).content → IsSome (D.disk disk.new).content }
+        ensures simulated { (D.disk disk.new).simulated ≡ (D.disk disk.old).simulated }
+        ensures later { (D.disk disk.old).faults ≤ (D.disk disk.new).faults }
+        ensures count { (fault : ℕ) → IsErrOf result (SiteError.Failed fault) → fault ≡ (D.disk disk.new).faults }
+        ensures cause { (fault : ℕ) → IsErrOf result (SiteError.Failed fault) → Rose (D.disk disk.old).faults (D.disk disk.new).faults }
+        ensures no_stop { (fault : ℕ) → IsErrOf result (SiteError.Stopped fault) → ⊥ }
+        ensures no_other { IsErrOf result SiteError.GenLimit ⊎ IsErrOf result SiteError.ReignLimit ⊎ ((file : ℕ) × (offset : ℕ) × IsErrOf result (SiteError.NotAFile file offset)) → ⊥ }
+    {
+        if LAST_NUMBER <= self.entries.len() as u64 {
+            return Err(SiteError::SeqLimit);
+        }
+        check_room(alloc, &self.globals, &t.updates)?;
+        let parts = self.prepare(alloc, disk, t)?;
+        match self.journals.append(disk, &parts) {
+            Ok(()) => Ok(self.entries.len() as u64),
+            Err(_) => Err(SiteError::Failed {
+                fault: disk.faults(),
+            }),
+        }
     }
 
     /// Makes a transaction the next entry, under the reign that was begun: takes all memory, and then appends to the journal of each
@@ -104,17 +157,8 @@ impl OpenSite {
         ensures no_stop { (fault : ℕ) → IsErrOf result (SiteError.Stopped fault) → ⊥ }
         ensures no_other { IsErrOf result SiteError.GenLimit ⊎ IsErrOf result SiteError.ReignLimit ⊎ ((file : ℕ) × (offset : ℕ) × IsErrOf result (SiteError.NotAFile file offset)) → ⊥ }
     {
-        if LAST_NUMBER <= self.entries.len() as u64 {
-            return Err(SiteError::SeqLimit);
-        }
-        check_room(alloc, &self.globals, &t.updates)?;
-        let parts = self.prepare(alloc, disk, t)?;
-        match self.journals.append(disk, &parts) {
-            Ok(()) => Ok(self.entries.len() as u64),
-            Err(_) => Err(SiteError::Failed {
-                fault: disk.faults(),
-            }),
-        }
+        let own = t.copy()?;
+        self.commit_owned(alloc, disk, own)
     }
 
     /// Puts all entries on the disk for good, and answers how many there are. It takes no memory.

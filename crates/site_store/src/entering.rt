@@ -11,8 +11,8 @@ use std::alloc::Global;
 
 impl OpenSite {
     /// This transaction as the next entry, under the reign that was begun.
-    pub(crate) fn next_entry(&self, t: &Transaction) -> Result<Entry, NoMemory>
-        ensures { IfOk result (IsNextEntry self.now t.now) }
+    pub(crate) fn next_entry(&self, t: Transaction) -> Result<Entry, NoMemory>
+        ensures { IfOk result (IsNextEntry self.now t) }
     {
         let Some(stamp) = &self.stamp else {
             return Err(NoMemory);
@@ -20,27 +20,23 @@ impl OpenSite {
         Ok(Entry {
             number: self.entries.len() as u64 + 1,
             stamp: stamp.copy()?,
-            transaction: t.copy()?,
+            transaction: t,
         })
     }
 
-    /// Adds an entry of this transaction to those in memory, and makes its updates. Without memory nothing has changed.
-    pub(crate) fn remember(
-        &mut self,
-        alloc: Global,
-        entry: Entry,
-        t: &Transaction,
-    ) -> Result<(), NoMemory>
+    /// Adds an entry to those in memory, and makes its updates. Without memory nothing has changed.
+    pub(crate) fn remember(&mut self, alloc: Global, entry: Entry) -> Result<(), NoMemory>
         ensures entries { OnOk result (self.new.entries.items ≡ self.old.entries.items ++ entry ∷ []) }
-        ensures globals { OnOk result (self.new.globals ≡ fold apply self.old.globals t.now.updates) }
+        ensures globals { OnOk result (self.new.globals ≡ fold apply self.old.globals entry.transaction.updates) }
         ensures kept { OnErr result (IsSameMemory self.old self.new) }
         ensures same { IsSameSite self.old self.new }
         ensures journals { self.new.journals ≡ self.old.journals }
     {
-        self.entries.push(entry)?;
-        if self.globals.apply_all(alloc, t.updates.as_slice()).is_err() {
-            self.entries.pop();
-            return Err(NoMemory);
+        self.entries.reserve(1)?;
+        self.globals
+            .apply_all(alloc, entry.transaction.updates.as_slice())?;
+        if self.entries.push(entry).is_err() {
+            unreachable!();
         }
         Ok(())
     }

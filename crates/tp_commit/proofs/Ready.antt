@@ -1,5 +1,5 @@
 -- Records of parts are such as a journal can take.
-use Rattle.std.proofs.Common.{inl, inr, ◌≡◌, ◌<◌, ◌≤◌, ◌+◌, ◌*◌, ◌^◌, ◌==◌, ◌&&◌, ℕ, zero, suc, Bool, true, false, List, [], ◌∷◌, ◌++◌, length, map, filter, flat_map, get_or, Option, Some, None, option_map, if◌then◌else◌, refl, sym, ◌∙◌, ap, subst, arith, length-append}
+use Rattle.std.proofs.Common.{inl, inr, ◌≡◌, ◌<◌, ◌≤◌, ◌*◌, ◌^◌, ◌==◌, ℕ, suc, Bool, List, [], ◌∷◌, ◌++◌, length, map, filter, flat_map, Option, Some, None, option_map, refl, sym, ap, subst, arith, length-append}
 use Rattle.std.specs.Prelude.{IsTrue}
 use Rattle.std.specs.Int.{to_be_bytes, w16}
 use Rattle.std.specs.List.{AllByRecursion}
@@ -10,7 +10,6 @@ use Rattle.global_defs.specs.Encoded.{encoded}
 use Rattle.global_defs.specs.Entry.{Update, Set, Kill, ZKill, Item, Transaction}
 use Rattle.global_defs.specs.Fields.{spelled_update, IsUpdate, IsNumber, IsTransaction}
 use Rattle.journal_defs.specs.Journal.{JournalRecord, Tcom, Part, IsPart, IsInForm, spelled_item, spelled_record}
-use Rattle.journal_defs.specs.Sequence.{REGIONS}
 use Rattle.journal_defs.specs.Split.{numbered, items_for, with_items, split}
 use Rattle.journal_laws.proofs.PartForms.{in_form}
 use Rattle.jnl_record.specs.declared.record.JnlRecord.{JnlRecord}
@@ -83,18 +82,6 @@ ready_each part h (r ∷ rs) (x ∷ xs) is =
     (ready_one x (part r) head (h r), ready_each part h rs xs tail)
 
 -- the records of a transaction's parts
-pub ready : (region : Update → ℕ) (n mask : ℕ) (t : Transaction) (xs : List (Option JnlRecord)) → IsNumber n → mask < 2 ^ 8 → IsTransaction t
-    → map (λ x. option_map record_value x) xs ≡ map (λ r. recorded (split region n mask t r)) REGIONS → AllByRecursion IsReady xs
-ready region n mask t xs number low form is = ready_each (split region n mask t) (λ r. ready_split region n mask t r number low form) REGIONS xs is
-
--- what stands for a region, below eight
-pub at_region : (h : ℕ → Option JournalRecord) (r : ℕ) → r < 8 → get_or (map h REGIONS) r None ≡ h r
-at_region h zero low = refl
-at_region h (suc zero) low = refl
-at_region h (suc (suc zero)) low = refl
-at_region h (suc (suc (suc zero))) low = refl
-at_region h (suc (suc (suc (suc zero)))) low = refl
-at_region h (suc (suc (suc (suc (suc zero))))) low = refl
-at_region h (suc (suc (suc (suc (suc (suc zero)))))) low = refl
-at_region h (suc (suc (suc (suc (suc (suc (suc zero))))))) low = refl
-at_region h (suc (suc (suc (suc (suc (suc (suc (suc r)))))))) low = absurd (omega arith)
+pub ready : (region : Update → ℕ) (n mask : ℕ) (t : Transaction) (rs : List ℕ) (xs : List (Option JnlRecord)) → IsNumber n → mask < 2 ^ 8 → IsTransaction t
+    → map (λ x. option_map record_value x) xs ≡ map (λ r. recorded (split region n mask t r)) rs → AllByRecursion IsReady xs
+ready region n mask t rs xs number low form is = ready_each (split region n mask t) (λ r. ready_split region n mask t r number low form) rs xs is

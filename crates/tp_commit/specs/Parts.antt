@@ -1,13 +1,13 @@
 -- The records of a transaction as an entry, one a region that has a part of it.
 use Rattle.std.specs.Prelude.{ℕ, ◌≤◌, nat_lt, List, length, get_or, Option, Some, None, [], option_map}
-use Rattle.global_defs.specs.Entry.{Item, Transaction}
+use Rattle.global_defs.specs.Entry.{Item}
 use Rattle.journal_defs.specs.Journal.{JournalRecord, Tcom, Part, IsInForm, spelled_record}
 use Rattle.journal_defs.specs.Sequence.{REGIONS}
 use Rattle.journal_defs.specs.Split.{mask_with}
 use Rattle.jnl_record.specs.declared.record.JnlRecord.{JnlRecord}
 use Rattle.jnl_record.specs.Values.{record_value, IsFirstVersion}
 
--- which regions have a part, and the record of each of the eight, where it has one
+-- which regions have a part, and the records by region, where it has one: behind the list there is none
 pub record PartRecords : Type 0 where
   pub mask : ℕ
   pub records : List (Option JournalRecord)

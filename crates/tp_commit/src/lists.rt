@@ -1,5 +1,5 @@
 //! The updates of a transaction as lists of items, one a region.
-ghost use Rattle.std.specs.Prelude.{◌≡◌, ◌≤◌, ◌<◌, ◌^◌, ◌++◌, ◌∷◌, [], ℕ, List, length, map, set, get_or, IfOk, OnOk};
+ghost use Rattle.std.specs.Prelude.{◌≡◌, ◌≤◌, ◌<◌, ◌^◌, ◌++◌, ◌∷◌, [], ℕ, List, length, map, take, replicate, set, get_or, IfOk, OnOk};
 ghost use Rattle.gvn_model.specs.Items.{item_value};
 ghost use Rattle.journal_defs.specs.Fit.{region_of_update};
 ghost use Rattle.journal_defs.specs.Sequence.{REGIONS};
@@ -12,15 +12,12 @@ use gvn_key::NoMemory;
 use gvn_model::{Item, Items, Updates};
 use std::alloc::Global;
 
-/// How many regions a site may have.
-const MOST_REGIONS: usize = 8;
-
-/// An empty list for each of the eight regions.
-fn empty_lists(alloc: Global) -> Result<Vec<Items>, NoMemory>
-    ensures { IfOk result (λ made. made.items ≡ map (λ (r : ℕ). []) REGIONS) }
+/// So many empty lists.
+fn empty_lists(alloc: Global, count: u8) -> Result<Vec<Items>, NoMemory>
+    ensures { IfOk result (λ made. made.items ≡ replicate count []) }
 {
-    let mut lists = Vec::with_capacity(alloc, MOST_REGIONS)?;
-    for _ in 0..MOST_REGIONS {
+    let mut lists = Vec::with_capacity(alloc, usize::from(count))?;
+    for _ in 0..count {
         lists.push(Items::new(alloc))?;
     }
     Ok(lists)
@@ -34,17 +31,21 @@ fn push_item(lists: &mut Vec<Items>, region: usize, item: Item) -> Result<(), No
     lists[region].push(item)
 }
 
-/// The items of each of the eight regions: each update goes to the region of its name, at its position in the transaction.
+/// The items of each of the first so many regions, among which are those that there are: each update goes to the region of its name, at
+/// its position in the transaction.
 pub fn items_by_region(
     alloc: Global,
     updates: &Updates,
     directory: &Directory,
+    count: u8,
 ) -> Result<Vec<Items>, NoMemory>
-    requires { length updates.now < 2 ^ 16 }
-    ensures { IfOk result (λ made. made.items ≡ map (λ r. items_for (region_of_update directory.now.patterns) r updates.now) REGIONS) }
+    requires short { length updates.now < 2 ^ 16 }
+    requires all { directory.now.regions ≤ count }
+    requires few { count ≤ 8 }
+    ensures { IfOk result (λ made. made.items ≡ take count (map (λ r. items_for (region_of_update directory.now.patterns) r updates.now) REGIONS)) }
 {
     let _regions = directory.regions();
-    let mut lists = empty_lists(alloc)?;
+    let mut lists = empty_lists(alloc, count)?;
     let list = updates.as_slice();
     for (i, update) in list.iter().enumerate() {
         let region = directory.region_of(name_of(update));
@@ -59,7 +60,7 @@ pub fn items_by_region(
 
 /// The regions that have an item, as a mask: bit r stands for region r.
 pub fn mask_by(lists: &[Items]) -> u8
-    requires { length lists.now ≡ 8 }
+    requires { length lists.now ≤ 8 }
     ensures { result ≡ mask_by lists.now }
 {
     let mut mask = 0;

@@ -109,6 +109,7 @@ pub fn split_regions(
     requires { length t.now.updates < 2 ^ 16 }
     ensures { IfOk result (λ made. made ≡ parts_of (region_of_update directory.now.patterns) t.now.updates) }
 {
-    let lists = items_by_region(alloc, &t.updates, directory)?;
+    let _regions = directory.regions();
+    let lists = items_by_region(alloc, &t.updates, directory, 8)?;
     parts_by(alloc, lists)
 }

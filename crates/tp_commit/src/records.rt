@@ -99,7 +99,7 @@ pub fn entry_records(
     ensures no_other { (n mask r : ℕ) → directory.now.regions ≤ r → split (region_of_update directory.now.patterns) n mask (transaction_value t.now) r ≡ None }
 {
     split_holds(t, directory);
-    let lists = items_by_region(alloc, &t.updates, directory)?;
+    let lists = items_by_region(alloc, &t.updates, directory, directory.regions())?;
     let mask = mask_by(&lists);
     let records = records_by(alloc, number, mask, t, lists)?;
     Ok(PartRecords { mask, records })

@@ -1,10 +1,9 @@
-use Rattle.std.proofs.Common.{◌≡◌, ◌<◌, ◌≤◌, ◌+◌, ◌*◌, ◌^◌, ◌%◌, ℕ, Bool, true, false, List, [], length, drop, get_or, if◌then◌else◌, sym, ◌∙◌, ap, arith}
+use Rattle.std.proofs.Common.{◌≡◌, ◌<◌, ◌+◌, ℕ, true, false, [], length, drop, get_or, ◌∙◌, ap, arith}
 use Rattle.std.specs.Prelude.{nat_lt, not}
-use Rattle.global_defs.specs.Entry.{Item}
 use Rattle.journal_defs.specs.Sequence.{REGIONS}
 use Rattle.journal_defs.specs.Split.{mask_with}
 use Rattle.tp_commit.specs.Parts.{mask_by}
-use Rattle.tp_commit.proofs.Placing.{has_item, mask_small, mask_on, shifted}
+use Rattle.tp_commit.proofs.Placing.{has_item, mask_small, mask_on, mask_end, shifted}
 use Rattle.tp_commit.proofs.lists.mask_by.Goals.{then-not-is_empty, else-not-is_empty}
 use Rattle.tp_commit.proofs.lists.mask_by.Goals as goal
 
@@ -38,3 +37,8 @@ loop-region-preserved c =
           omega (arith, next, w.mask-is)
     ] in
     done
+
+pub returns : goal.returns
+returns c =
+    let end = mask_end c.args.lists.now c.loop-region.region (omega (arith, c.loop-region-test.false)) (omega (arith, c.loop-region.auto.region-end, c.requires)) in
+    omega (arith, c.loop-region.invariant, end)

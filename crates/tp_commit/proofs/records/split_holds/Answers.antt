@@ -1,11 +1,11 @@
-use Rattle.std.proofs.Common.{◌≡◌, ◌≢◌, ◌<◌, ◌≤◌, ◌==◌, ℕ, suc, false, List, [], ◌∷◌, length, filter, refl, ap, arith}
-use Rattle.std.proofs.lemmas.Bool.Decides.{nat_tests}
+use Rattle.std.proofs.Common.{◌≡◌, ◌≢◌, ◌<◌, ◌≤◌, List, [], ◌∷◌, length, ap, arith}
 use Rattle.std.specs.List.{AllByRecursion}
 use Rattle.global_defs.specs.Entry.{Update}
 use Rattle.gvn_model.specs.Entries.{transaction_value}
 use Rattle.journal_defs.specs.Fit.{key_of, region_of_update}
-use Rattle.journal_defs.specs.Split.{numbered, with_items}
+use Rattle.journal_defs.specs.Split.{with_items}
 use Rattle.journal_laws.proofs.Masks.{made}
+use Rattle.tp_commit.proofs.Placing.{none_past}
 use Rattle.tp_commit.proofs.records.split_holds.Goals as goal
 
 each : (P : Update → Type 0) → ((u : Update) → P u) → (us : List Update) → AllByRecursion P us
@@ -14,14 +14,6 @@ each P h (u ∷ us) = (h u, each P h us)
 
 not_empty : (us : List Update) → 1 ≤ length us → us ≢ []
 not_empty us some is = let none : length us ≡ 0 = ap length is in omega (arith, none, some)
-
--- a region that there isn't has no item
-none_past : (region : Update → ℕ) (bound i r : ℕ) (us : List Update) → ((u : Update) → region u < bound) → bound ≤ r → filter (λ x. region x.update == r) (numbered i us) ≡ []
-none_past region bound i r [] low past = refl
-none_past region bound i r (u ∷ us) low past =
-    let here = low u in
-    let other : (region u == r) ≡ false = grind (arith, nat_tests, here, past) in
-    rw other (none_past region bound (suc i) r us low past)
 
 pub returns-clause-split : goal.returns-clause-split
 returns-clause-split c =

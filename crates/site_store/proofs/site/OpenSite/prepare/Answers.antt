@@ -1,4 +1,7 @@
-use Rattle.std.proofs.Common.{refl}
+use Rattle.std.proofs.Common.{refl, ◌∙◌, ap}
+use Rattle.std.specs.Prelude.{fold}
+use Rattle.global_defs.specs.Entry.{apply}
+use Rattle.gvn_model.specs.declared.entry.Transaction as code
 use Rattle.site_store.proofs.Committed as committed
 use Rattle.site_store.proofs.site.OpenSite.prepare.Goals as goal
 
@@ -27,3 +30,11 @@ returns-clause-prepared g c = committed.still_prepared c.in_ok-parts.parts c.rem
 
 pub returns-clause-frame : goal.returns-clause-frame
 returns-clause-frame g c = committed.own_stays (g.D.Disk.disk c.args.disk.now) (g.D.Disk.disk c.prepare.new.disk) c.args.self.now c.requires.ready c.prepare.ensures.frame
+
+pub returns-clause-enters : goal.returns-clause-enters
+returns-clause-enters g c = record {
+  entry = c.in_ok-entry.entry;
+  next = c.in_ok-entry.ensures;
+  entries = c.in_ok-remember.ensures.entries;
+  globals = c.in_ok-remember.ensures.globals ∙ ap (λ (t : code.Transaction). fold apply c.args.self.now.globals t.updates) c.in_ok-entry.ensures.transaction;
+}
