@@ -1,8 +1,7 @@
 //! Scripts line by line.
 ghost use Rattle.std.specs.Prelude.{◌≡◌, ◌+◌, ◌≤◌, ◌<◌, ◌↔◌, length, IfOk, IfErr, OnOk, OnErr, IfSome, IfNone};
-ghost use Rattle.command_defs.specs.Commands.{Run};
-ghost use Rattle.command_defs.specs.Sections.{Section, IsFormed, IsWhole};
-ghost use Rattle.command_defs.specs.Script.{Outside, Within, Ends, outside_reading, reading_at, line_reading, MOST_LINES};
+ghost use Rattle.command_defs.specs.Sections.{IsFormed, IsWhole};
+ghost use Rattle.command_defs.specs.Script.{Outside, Within, Ends, outside_reading, section_reading, reading_at, line_reading, MOST_LINES};
 ghost use Rattle.repl_script.specs.Commands.{command_value};
 ghost use Rattle.repl_script.specs.Feeds.{Moves, TellsBad, EndsAs, Feeds};
 
@@ -118,13 +117,9 @@ impl Script {
         ensures kept { OnErr result (self.new ≡ self.old) }
         ensures formed { IfOk result (λ found. IfSome found (λ command. IsFormed (command_value command) × IsWhole (command_value command))) }
     {
-        let Some(section) = &mut self.section else {
-            return self.outside(len, left);
-        };
-        match section.feed(self.alloc, len, left) {
-            Ok(None) => Ok(None),
-            Ok(Some(order)) => Ok(Some(self.finish(order))),
-            Err(fault) => Err(fault),
+        match self.section.take() {
+            None => self.outside(len, left),
+            Some(section) => self.inside(section, len, left),
         }
     }
 
@@ -146,19 +141,33 @@ impl Script {
         Ok(Some(command))
     }
 
-    /// The command of the section that isn't ended, which goes.
-    fn finish(&mut self, order: Bytes) -> Command
-        requires { (s : Section) × (self.old.position ≡ Within s) × (order ≡ s.order) }
-        ensures command { (s : Section) → self.old.position ≡ Within s → command_value result ≡ Run s.name s.jobs order }
-        ensures position { self.new.position ≡ Outside }
+    /// A line of a section.
+    fn inside(
+        &mut self,
+        mut section: Section,
+        len: u16,
+        left: &[u8],
+    ) -> Result<Option<Command>, Fault>
+        requires { self.old.position ≡ Outside }
+        ensures fed { Feeds (Within section) self.new.position (section_reading section len left.now) result }
         ensures lines { self.new.lines ≡ self.old.lines }
-        ensures formed { IsFormed (command_value result) × IsWhole (command_value result) }
+        ensures kept { OnErr result (self.new.position ≡ Within section) }
+        ensures formed { IfOk result (λ found. IfSome found (λ command. IsFormed (command_value command) × IsWhole (command_value command))) }
     {
-        let Some(section) = self.section.take() else {
-            unreachable!();
-        };
-        let (site, jobs) = section.finish();
-        Command::Run { site, jobs, order }
+        match section.feed(self.alloc, len, left) {
+            Ok(None) => {
+                self.section = Some(section);
+                Ok(None)
+            }
+            Ok(Some(order)) => {
+                let (site, jobs) = section.finish();
+                Ok(Some(Command::Run { site, jobs, order }))
+            }
+            Err(fault) => {
+                self.section = Some(section);
+                Err(fault)
+            }
+        }
     }
 
     /// Whether the lines may end here: a section that lacks its END makes the line after the last bad.

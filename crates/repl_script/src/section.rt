@@ -101,7 +101,7 @@ fn add_job(jobs: &mut Jobs, order: &mut Vec<u8>, updater: u8, job: Job) -> Resul
 fn job_of(alloc: Global, statement: Statement) -> Result<Job, NoMemory>
     ensures { IfOk result (λ job. job_value job ≡ statement_value statement ∷ []) }
 {
-    let mut statements = Statements::with_capacity(alloc, 1)?;
+    let mut statements = Statements::new(alloc);
     statements.push(statement)?;
     Ok(Job { statements })
 }
