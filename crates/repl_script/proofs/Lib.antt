@@ -1,3 +1,4 @@
 pub mod LineEnds
 pub mod Sectioned
 pub mod Regioned
+pub mod Places

@@ -9,6 +9,7 @@ ghost use Rattle.command_defs.specs.Parts.{column, is_name};
 ghost use Rattle.command_defs.specs.Sections.{begun, is_open, jobs_of, last_job, is_update, is_update_word, is_full_job, is_full, is_of_size, is_updater, transaction_begun, transaction_ended, with_statement, IsSound};
 ghost use Rattle.command_defs.specs.Script.{section_reading, job_by, stated, end_reading};
 ghost use Rattle.repl_script.specs.Entries.{ReadsEntry, IsAllowed, FeedsSection, located};
+ghost use Rattle.repl_script.specs.Places.{at_all};
 ghost use Rattle.repl_script.specs.Reads.{fault_value};
 
 use super::fault::{Fault, bad, column};
@@ -46,7 +47,7 @@ pub enum Entry {
 #[derive(Drop)]
 pub struct Section {
     site: Bytes,
-    /// The last job of an updater whose transaction is open isn't whole.
+    /// The last job of an updater whose transaction is open isn't whole. The updaters behind the last one that has a job may be left out.
     jobs: Jobs,
     /// The updaters in the order of their jobs' first lines.
     order: Vec<u8>,
@@ -55,23 +56,13 @@ pub struct Section {
 
 impl Model for Section {
     ghost use Rattle.command_defs.specs.Sections as defs;
+    ghost use Rattle.repl_script.specs.Places.{at_all};
 
     ghost Value = { defs.Section };
 
-    ghost view = { λ s. record { name = s.site; jobs = s.jobs; order = s.order.items; opened = s.opened } };
+    ghost view = { λ s. record { name = s.site; jobs = at_all s.jobs; order = s.order.items; opened = s.opened } };
 
-    ghost invariant = { λ s. defs.IsSound (record { name = s.site; jobs = s.jobs; order = s.order.items; opened = s.opened }) };
-}
-
-/// No jobs of 64 updaters.
-fn no_jobs(alloc: Global) -> Result<Jobs, NoMemory>
-    ensures { IfOk result (λ jobs. jobs ≡ replicate 64 []) }
-{
-    let mut jobs = Jobs::with_capacity(alloc, UPDATERS as usize)?;
-    for _place in 0..UPDATERS {
-        jobs.push(JobQueue::new(alloc))?;
-    }
-    Ok(jobs)
+    ghost invariant = { λ s. defs.IsSound (record { name = s.site; jobs = at_all s.jobs; order = s.order.items; opened = s.opened }) };
 }
 
 /// No updater has an open transaction.
@@ -81,16 +72,41 @@ fn nobody() -> [bool; 64]
     [false; 64]
 }
 
+/// Makes places for the updaters up to this one, where they are left out.
+fn make_places(alloc: Global, jobs: &mut Jobs, updater: u8) -> Result<(), NoMemory>
+    requires few { length jobs.old ≤ 64 }
+    requires updater { updater ≤ 64 }
+    ensures same { at_all jobs.new ≡ at_all jobs.old }
+    ensures there { OnOk result (updater ≤ length jobs.new) }
+{
+    for _place in jobs.len()..usize::from(updater) {
+        jobs.push(JobQueue::new(alloc))?;
+    }
+    Ok(())
+}
+
+/// Adds a job behind the others of an updater.
+fn put_job(alloc: Global, jobs: &mut Jobs, updater: u8, job: Job) -> Result<(), NoMemory>
+    requires few { length jobs.old ≤ 64 }
+    requires updater { (0 < updater) × (updater ≤ 64) }
+    ensures jobs { OnOk result (at_all jobs.new ≡ set (at_all jobs.old) (updater - 1) (get_or (at_all jobs.old) (updater - 1) [] ++ job_value job ∷ [])) }
+    ensures kept { OnErr result (at_all jobs.new ≡ at_all jobs.old) }
+{
+    make_places(alloc, jobs, updater)?;
+    jobs.add(updater, job)
+}
+
 /// Adds a job behind the others of an updater, and the updater to the order.
 fn add_job(jobs: &mut Jobs, order: &mut Vec<u8>, updater: u8, job: Job) -> Result<(), NoMemory>
-    requires { (0 < updater) × (updater ≤ length jobs.old) }
-    ensures jobs { OnOk result (jobs.new ≡ set jobs.old (updater - 1) (get_or jobs.old (updater - 1) [] ++ job_value job ∷ [])) }
+    requires few { length jobs.old ≤ 64 }
+    requires updater { (0 < updater) × (updater ≤ 64) }
+    ensures jobs { OnOk result (at_all jobs.new ≡ set (at_all jobs.old) (updater - 1) (get_or (at_all jobs.old) (updater - 1) [] ++ job_value job ∷ [])) }
     ensures order { OnOk result (order.new.items ≡ order.old.items ++ updater ∷ []) }
-    ensures jobs_kept { OnErr result (jobs.new ≡ jobs.old) }
+    ensures jobs_kept { OnErr result (at_all jobs.new ≡ at_all jobs.old) }
     ensures order_kept { OnErr result (order.new.items ≡ order.old.items) }
 {
     order.push(updater)?;
-    if jobs.add(updater, job).is_err() {
+    if put_job(*order.allocator(), jobs, updater, job).is_err() {
         let _ = order.pop();
         return Err(NoMemory);
     }
@@ -160,17 +176,17 @@ fn located(len: u16, left: &[u8], fault: gvn_text::Fault) -> Fault
 }
 
 impl Section {
-    /// A section of a site without lines.
-    pub fn begin(alloc: Global, site: Bytes) -> Result<Self, NoMemory>
+    /// A section of a site without lines. It takes no memory yet.
+    pub fn begin(alloc: Global, site: Bytes) -> Self
         requires { is_name site ≡ true }
-        ensures { IfOk result (λ s. s ≡ begun site) }
+        ensures { result ≡ begun site }
     {
-        Ok(Section {
+        Section {
             site,
-            jobs: no_jobs(alloc)?,
+            jobs: Jobs::new(alloc),
             order: Vec::new(alloc),
             opened: nobody(),
-        })
+        }
     }
 
     /// Whether an updater has an open transaction.
@@ -303,7 +319,7 @@ impl Section {
     /// The site and the jobs.
     pub fn finish(self) -> (Bytes, Jobs)
         ensures site { result.0 ≡ self.name }
-        ensures jobs { result.1 ≡ self.jobs }
+        ensures jobs { at_all result.1 ≡ self.jobs }
         ensures sound { IsSound self }
     {
         let Section {

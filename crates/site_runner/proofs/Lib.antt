@@ -20,6 +20,7 @@ pub mod Fused
 pub mod Crashed
 pub mod Begun
 pub mod Started
+pub mod LeftOut
 pub mod Ran
 pub mod Next
 pub mod Looked
