@@ -71,6 +71,13 @@ impl Statements {
         &self.items
     }
 
+    /// The statements alone.
+    pub fn into_items(self) -> Vec<Statement>
+        ensures { map statement_value result.items ≡ self }
+    {
+        self.items
+    }
+
     /// Adds a statement at the end.
     pub fn push(&mut self, statement: Statement) -> Result<(), NoMemory>
         ensures ok { OnOk result (self.new ≡ self.old ++ statement_value statement ∷ []) }
