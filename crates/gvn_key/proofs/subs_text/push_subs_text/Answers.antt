@@ -15,7 +15,7 @@ loop-last-preserved c =
     let at = sym c.sub_end.ensures.place ∙ c.in-Some.is in
     let slice = rest_is c.loop-last.rest.now (c.in-Some.last + 1) in
     let text : AddsText (text_read (take c.in-Some.last c.loop-last.rest.now)) (c.loop-last.out ++ c.loop-last.lead ∷ []) c.push_sub.new.out =
-        subst (λ (x : List ℕ). AddsText (text_read (take c.in-Some.last c.loop-last.rest.now)) x c.push_sub.new.out) c.in_ok-push.ensures.ok c.in_ok-push_sub.ensures in
+    subst (λ (x : List ℕ). AddsText (text_read (take c.in-Some.last c.loop-last.rest.now)) x c.push_sub.new.out) c.in_ok-push.ensures.ok c.in_ok-push_sub.ensures in
     record {
       shorter = subst (λ (x : List ℕ). length x ≤ length c.args.bytes.now) (sym slice) (omega (arith, length-drop (c.in-Some.last + 1) c.loop-last.rest.now, c.loop-last.invariant.shorter));
       written = λ subs h e.
