@@ -55,11 +55,8 @@ after_statement s u statement (Ok x) jobs h is small a b = sound_parts s.name jo
 after_statement s u statement (Err e) jobs h is small a b = sound_parts s.name jobs s.jobs s.order s.order s.opened s.opened b refl refl h
 
 -- a section's command
-pub complete_run : (s : Section) (site : List ℕ) (jobs : List (List Job)) (order : List ℕ) → IsSound s → site ≡ s.name → jobs ≡ s.jobs → order ≡ s.order → IsFormed (Run site jobs order) × IsWhole (Run site jobs order)
-complete_run s site jobs order h a b c =
-    subst (λ x. IsFormed (Run x jobs order) × IsWhole (Run x jobs order)) (sym a)
-    (subst (λ x. IsFormed (Run s.name x order) × IsWhole (Run s.name x order)) (sym b)
-    (subst (λ x. IsFormed (Run s.name s.jobs x) × IsWhole (Run s.name s.jobs x)) (sym c) (formed_run s h, uses_up s h)))
+pub complete_run : (s : Section) → IsSound s → IsFormed (Run s.name s.jobs s.order) × IsWhole (Run s.name s.jobs s.order)
+complete_run s h = (formed_run s h, uses_up s h)
 
 -- a statement's fault is told by its column
 pub located_told : (s : Section) (u at : ℕ) (o : Option texts.Fault) (reading : Result Statement texts.Fault) → tells.Tells o reading → TellsWrong (located at o) (stated s u at reading)

@@ -1,5 +1,5 @@
 -- What a good line of a section is to the code.
-use Rattle.std.specs.Prelude.{◌≡◌, ℕ, ◌+◌, true, List, [], ◌∷◌, ◌++◌, Option, Some, None}
+use Rattle.std.specs.Prelude.{◌≡◌, ℕ, ◌+◌, Bool, true, false, [], ◌∷◌, ◌++◌, Option, Some, None}
 use Rattle.std.specs.declared.result.Result.{Result}
 use Rattle.std.specs.declared.result.Result.TheVariants.{Ok, Err}
 use Rattle.gvn_key.specs.Terms.{statement_value}
@@ -40,12 +40,8 @@ IsAllowed s (entries.Commit u) = is_updater u ≡ true
 IsAllowed s (entries.Statement u statement) = (is_updater u ≡ true) × (is_open s u ≡ true → is_of_size (last_job (jobs_of s u) ++ statement_value statement ∷ []) ≡ true)
 IsAllowed s entries.End = Unit {0}
 
--- The line of a section was taken: the section goes on so, or it ends, with this order.
-abbrev pub Continues : Section → Section → Reading → Option (List ℕ) → Type 0
-Continues old new reading None = reading ≡ Goes (Within new)
-Continues old new reading (Some order) = (reading ≡ Ends (Run old.name old.jobs old.order)) × (order ≡ old.order) × (new ≡ old)
-
-abbrev pub FeedsSection : {X : Type 0} → (X → List ℕ) → Section → Section → Reading → Result (Option X) Fault → Type 0
-FeedsSection view old new reading (Ok None) = Continues old new reading None
-FeedsSection view old new reading (Ok (Some x)) = Continues old new reading (Some (view x))
-FeedsSection view old new reading (Err fault) = TellsWrong (fault_value fault) reading × (new ≡ old)
+-- The line of a section was taken, so that the section goes on so or ends with it, or it wasn't.
+abbrev pub FeedsSection : Section → Section → Reading → Result Bool Fault → Type 0
+FeedsSection old new reading (Ok false) = reading ≡ Goes (Within new)
+FeedsSection old new reading (Ok true) = (reading ≡ Ends (Run old.name old.jobs old.order)) × (new ≡ old)
+FeedsSection old new reading (Err fault) = TellsWrong (fault_value fault) reading × (new ≡ old)

@@ -1,7 +1,8 @@
 //! Scripts line by line.
 ghost use Rattle.std.specs.Prelude.{◌≡◌, ◌+◌, ◌≤◌, ◌<◌, ◌↔◌, length, IfOk, IfErr, OnOk, OnErr, IfSome, IfNone};
-ghost use Rattle.command_defs.specs.Sections.{IsFormed, IsWhole};
-ghost use Rattle.command_defs.specs.Script.{Outside, Within, Ends, outside_reading, section_reading, reading_at, line_reading, MOST_LINES};
+ghost use Rattle.command_defs.specs.Commands.{Run};
+ghost use Rattle.command_defs.specs.Sections.{Section, IsFormed, IsWhole};
+ghost use Rattle.command_defs.specs.Script.{Outside, Within, Ends, outside_reading, reading_at, line_reading, MOST_LINES};
 ghost use Rattle.repl_script.specs.Commands.{command_value};
 ghost use Rattle.repl_script.specs.Feeds.{Moves, TellsBad, EndsAs, Feeds};
 
@@ -117,9 +118,13 @@ impl Script {
         ensures kept { OnErr result (self.new ≡ self.old) }
         ensures formed { IfOk result (λ found. IfSome found (λ command. IsFormed (command_value command) × IsWhole (command_value command))) }
     {
-        match self.section.take() {
-            None => self.outside(len, left),
-            Some(section) => self.inside(section, len, left),
+        let Some(section) = &mut self.section else {
+            return self.outside(len, left);
+        };
+        match section.feed(self.alloc, len, left) {
+            Ok(false) => Ok(None),
+            Ok(true) => Ok(Some(self.finish())),
+            Err(fault) => Err(fault),
         }
     }
 
@@ -141,33 +146,18 @@ impl Script {
         Ok(Some(command))
     }
 
-    /// A line of a section.
-    fn inside(
-        &mut self,
-        mut section: Section,
-        len: u16,
-        left: &[u8],
-    ) -> Result<Option<Command>, Fault>
-        requires { self.old.position ≡ Outside }
-        ensures fed { Feeds (Within section) self.new.position (section_reading section len left.now) result }
+    /// The command of the section that isn't ended, which goes.
+    fn finish(&mut self) -> Command
+        requires { (s : Section) × (self.old.position ≡ Within s) }
+        ensures command { (s : Section) → self.old.position ≡ Within s → command_value result ≡ Run s.name s.jobs s.order }
+        ensures position { self.new.position ≡ Outside }
         ensures lines { self.new.lines ≡ self.old.lines }
-        ensures kept { OnErr result (self.new.position ≡ Within section) }
-        ensures formed { IfOk result (λ found. IfSome found (λ command. IsFormed (command_value command) × IsWhole (command_value command))) }
+        ensures formed { IsFormed (command_value result) × IsWhole (command_value result) }
     {
-        match section.feed(self.alloc, len, left) {
-            Ok(None) => {
-                self.section = Some(section);
-                Ok(None)
-            }
-            Ok(Some(order)) => {
-                let (site, jobs) = section.finish();
-                Ok(Some(Command::Run { site, jobs, order }))
-            }
-            Err(fault) => {
-                self.section = Some(section);
-                Err(fault)
-            }
-        }
+        let Some(section) = self.section.take() else {
+            unreachable!();
+        };
+        section.finish()
     }
 
     /// Whether the lines may end here: a section that lacks its END makes the line after the last bad.

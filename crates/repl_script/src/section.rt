@@ -6,11 +6,14 @@ ghost use Rattle.gvn_model.specs.Jobs.{job_value};
 ghost use Rattle.gvn_text.specs.Reads as texts;
 ghost use Rattle.script_defs.specs.Parts.{word_end, without_spaces};
 ghost use Rattle.command_defs.specs.Parts.{column, is_name};
-ghost use Rattle.command_defs.specs.Sections.{begun, is_open, jobs_of, last_job, is_update, is_update_word, is_full_job, is_full, is_of_size, is_updater, transaction_begun, transaction_ended, with_statement, IsSound};
+ghost use Rattle.command_defs.specs.Commands.{Run};
+ghost use Rattle.command_defs.specs.Sections.{begun, is_open, jobs_of, last_job, is_update, is_update_word, is_full_job, is_full, is_of_size, is_updater, transaction_begun, transaction_ended, with_statement, IsFormed, IsWhole};
 ghost use Rattle.command_defs.specs.Script.{section_reading, job_by, stated, end_reading};
+ghost use Rattle.repl_script.specs.Commands.{command_value};
 ghost use Rattle.repl_script.specs.Entries.{ReadsEntry, IsAllowed, FeedsSection, located};
 ghost use Rattle.repl_script.specs.Reads.{fault_value};
 
+use super::command::Command;
 use super::fault::{Fault, bad, column};
 use super::parts::{cut_part, ended, number};
 use gvn_key::terms::Statement;
@@ -49,7 +52,7 @@ pub struct Section {
     /// The last job of an updater whose transaction is open isn't whole.
     jobs: Jobs,
     /// The updaters in the order of their jobs' first lines.
-    order: Vec<u8>,
+    order: Bytes,
     opened: [bool; 64],
 }
 
@@ -58,9 +61,9 @@ impl Model for Section {
 
     ghost Value = { defs.Section };
 
-    ghost view = { λ s. record { name = s.site; jobs = s.jobs; order = s.order.items; opened = s.opened } };
+    ghost view = { λ s. record { name = s.site; jobs = s.jobs; order = s.order; opened = s.opened } };
 
-    ghost invariant = { λ s. defs.IsSound (record { name = s.site; jobs = s.jobs; order = s.order.items; opened = s.opened }) };
+    ghost invariant = { λ s. defs.IsSound (record { name = s.site; jobs = s.jobs; order = s.order; opened = s.opened }) };
 }
 
 /// No jobs of 64 updaters.
@@ -82,16 +85,17 @@ fn nobody() -> [bool; 64]
 }
 
 /// Adds a job behind the others of an updater, and the updater to the order.
-fn add_job(jobs: &mut Jobs, order: &mut Vec<u8>, updater: u8, job: Job) -> Result<(), NoMemory>
+fn add_job(jobs: &mut Jobs, order: &mut Bytes, updater: u8, job: Job) -> Result<(), NoMemory>
     requires { (0 < updater) × (updater ≤ length jobs.old) }
     ensures jobs { OnOk result (jobs.new ≡ set jobs.old (updater - 1) (get_or jobs.old (updater - 1) [] ++ job_value job ∷ [])) }
-    ensures order { OnOk result (order.new.items ≡ order.old.items ++ updater ∷ []) }
+    ensures order { OnOk result (order.new ≡ order.old ++ updater ∷ []) }
     ensures jobs_kept { OnErr result (jobs.new ≡ jobs.old) }
-    ensures order_kept { OnErr result (order.new.items ≡ order.old.items) }
+    ensures order_kept { OnErr result (order.new ≡ order.old) }
 {
+    let before = order.len();
     order.push(updater)?;
     if jobs.add(updater, job).is_err() {
-        let _ = order.pop();
+        order.truncate(before);
         return Err(NoMemory);
     }
     Ok(())
@@ -101,7 +105,7 @@ fn add_job(jobs: &mut Jobs, order: &mut Vec<u8>, updater: u8, job: Job) -> Resul
 fn job_of(alloc: Global, statement: Statement) -> Result<Job, NoMemory>
     ensures { IfOk result (λ job. job_value job ≡ statement_value statement ∷ []) }
 {
-    let mut statements = Statements::new(alloc);
+    let mut statements = Statements::with_capacity(alloc, 1)?;
     statements.push(statement)?;
     Ok(Job { statements })
 }
@@ -168,7 +172,7 @@ impl Section {
         Ok(Section {
             site,
             jobs: no_jobs(alloc)?,
-            order: Vec::new(alloc),
+            order: Bytes::new(alloc),
             opened: nobody(),
         })
     }
@@ -285,9 +289,9 @@ impl Section {
         add_job(&mut self.jobs, &mut self.order, updater, job)
     }
 
-    /// Takes a line of the section, and gives the section's order where the line ends it.
-    pub fn feed(&mut self, alloc: Global, len: u16, left: &[u8]) -> Result<Option<Bytes>, Fault>
-        ensures { FeedsSection (λ order. order) self.old self.new (section_reading self.old len left.now) result }
+    /// Takes a line of the section. Answers whether the line ends it.
+    pub fn feed(&mut self, alloc: Global, len: u16, left: &[u8]) -> Result<bool, Fault>
+        ensures { FeedsSection self.old self.new (section_reading self.old len left.now) result }
     {
         match self.read(alloc, len, left)? {
             Entry::Begin(updater) => self.begin_transaction(alloc, updater)?,
@@ -295,23 +299,22 @@ impl Section {
             Entry::Statement(updater, statement) => {
                 self.add_statement(alloc, updater, statement)?;
             }
-            Entry::End => return Ok(Some(Bytes::of(alloc, &self.order)?)),
+            Entry::End => return Ok(true),
         }
-        Ok(None)
+        Ok(false)
     }
 
-    /// The site and the jobs.
-    pub fn finish(self) -> (Bytes, Jobs)
-        ensures site { result.0 ≡ self.name }
-        ensures jobs { result.1 ≡ self.jobs }
-        ensures sound { IsSound self }
+    /// The command of the section.
+    pub fn finish(self) -> Command
+        ensures command { command_value result ≡ Run self.name self.jobs self.order }
+        ensures formed { IsFormed (command_value result) × IsWhole (command_value result) }
     {
         let Section {
             site,
             jobs,
-            order: _,
+            order,
             opened: _,
         } = self;
-        (site, jobs)
+        Command::Run { site, jobs, order }
     }
 }
