@@ -269,9 +269,9 @@ decided_front w told c jobs order r new before now d =
     )
 
 -- with nothing behind it
-pub decided_left : (w : View) (nothing : NothingIsLeft w) (told : Bool) (c : Contents) (jobs : List (List Job)) (order : List ℕ) (r new : Reign) (before now : List ℕ) → HasDecided w told c jobs order r new before now
+pub decided_behind : (w : View) (nothing : NothingIsLeft w) (told : Bool) (c : Contents) (jobs : List (List Job)) (order : List ℕ) (r new : Reign) (before now : List ℕ) → HasDecided w told c jobs order r new before now
     → told ≡ true → LeftBehind w (stamp_of r) c jobs order r.serials
-decided_left w nothing told c jobs order r new before now d sure files i =
+decided_behind w nothing told c jobs order r new before now d sure files i =
     let all = (turn_of (stamp_of r) r.serials jobs order c.sequence).sequence in (
       bare (with_sequence c all),
       length order,

@@ -13,7 +13,7 @@ use Rattle.site_runner.specs.Causes.{cause_value}
 use Rattle.site_runner.specs.Sites.{state_value, IsReadyState}
 use Rattle.site_runner.proofs.Ats.{kept_same, refuses_by, why_is}
 use Rattle.site_runner.proofs.Results.{err_holds}
-use Rattle.site_runner.proofs.Ran.{run_not_primary, ran, ran_to_fault, left_after, run_cut, run_cut_any, decided_front, decided_left}
+use Rattle.site_runner.proofs.Ran.{run_not_primary, ran, ran_to_fault, left_after, run_cut, run_cut_any, decided_front, decided_behind}
 use Rattle.site_runner.proofs.section.run_section.Goals as goal
 
 pub returns-in-Some-clause-done : goal.returns-in-Some-clause-done
@@ -61,7 +61,7 @@ returns-in_err-write_numbered-in-Ok-clause-cut_off g c =
     let law = g.met.D.Disk.lawful c.run.new.disk in
     err_holds c.from_residual.result _ (run_cut c.leftovers_hold.ensures v w c.args.site.now c.in-Primary.reign c.args.jobs c.args.order.now (g.met.D.Disk.lawful c.args.disk.now) law c.in-Primary.is e.simulated e.later
     (λ told d reigns. decided_front w told d c.args.jobs c.args.order.now c.in-Primary.reign c.run.new.self c.args.text.now c.run.new.text (e.done told d reigns))
-    (λ told d reigns sure. decided_left w c.nothing_is_left.ensures told d c.args.jobs c.args.order.now c.in-Primary.reign c.run.new.self c.args.text.now c.run.new.text (e.done told d reigns) sure))
+    (λ told d reigns sure. decided_behind w c.nothing_is_left.ensures told d c.args.jobs c.args.order.now c.in-Primary.reign c.run.new.self c.args.text.now c.run.new.text (e.done told d reigns) sure))
 
 pub returns-in_ok-write_undecided-in-Err-Failed-clause-done : goal.returns-in_ok-write_undecided-in-Err-Failed-clause-done
 returns-in_ok-write_undecided-in-Err-Failed-clause-done g c =
