@@ -18,7 +18,7 @@ use crate::error::DecideError;
 use crate::fitting::all_fit;
 use crate::reign::Reign;
 use crate::replying::write_reply;
-use gvn_eval::eval;
+use gvn_eval::eval_owned;
 use gvn_key::{Bytes, NoMemory};
 use gvn_model::{Answers, Cause, Evaluated, Job, Origin, Reply, Transaction, Updates};
 use repl_disk::Disk;
@@ -151,7 +151,7 @@ impl Reign {
         alloc: Global,
         disk: &mut D,
         updater: u8,
-        job: &Job,
+        job: Job,
         text: &mut Bytes,
     ) -> Result<(), DecideError>
         requires ready { IsReady (D.disk disk.old) self.old.site }
@@ -159,10 +159,10 @@ impl Reign {
         ensures ready { OnOk result (IsReady (D.disk disk.new) self.new.site) }
         ensures reign { OnOk result (HasReign self.new.site) }
         ensures stamp { self.new.site.stamp ≡ self.old.site.stamp }
-        ensures done { OnOk result ((told : Bool) (c : Contents) → Reigns (D.disk disk.old) told c self.old → HasCome (D.disk disk.new) told c (outcome (stamp_of self.old) self.old.serials c.sequence updater (eval (job_value job.now) self.old.site.globals)) self.new text.old text.new) }
-        ensures appends { IsErrOf result DecideError.Failed → (told : Bool) (c : Contents) → Reigns (D.disk disk.old) told c self.old → Appends c.sequence (outcome (stamp_of self.old) self.old.serials c.sequence updater (eval (job_value job.now) self.old.site.globals)) }
-        ensures may_have { (c : Contents) → Reigns (D.disk disk.old) true c self.old → MayHave (D.disk disk.new) c (outcome (stamp_of self.old) self.old.serials c.sequence updater (eval (job_value job.now) self.old.site.globals)).sequence }
-        ensures leaves { (c : Contents) → Reigns (D.disk disk.old) true c self.old → LeavesPick (D.disk disk.new) c (outcome (stamp_of self.old) self.old.serials c.sequence updater (eval (job_value job.now) self.old.site.globals)).sequence }
+        ensures done { OnOk result ((told : Bool) (c : Contents) → Reigns (D.disk disk.old) told c self.old → HasCome (D.disk disk.new) told c (outcome (stamp_of self.old) self.old.serials c.sequence updater (eval (job_value job) self.old.site.globals)) self.new text.old text.new) }
+        ensures appends { IsErrOf result DecideError.Failed → (told : Bool) (c : Contents) → Reigns (D.disk disk.old) told c self.old → Appends c.sequence (outcome (stamp_of self.old) self.old.serials c.sequence updater (eval (job_value job) self.old.site.globals)) }
+        ensures may_have { (c : Contents) → Reigns (D.disk disk.old) true c self.old → MayHave (D.disk disk.new) c (outcome (stamp_of self.old) self.old.serials c.sequence updater (eval (job_value job) self.old.site.globals)).sequence }
+        ensures leaves { (c : Contents) → Reigns (D.disk disk.old) true c self.old → LeavesPick (D.disk disk.new) c (outcome (stamp_of self.old) self.old.serials c.sequence updater (eval (job_value job) self.old.site.globals)).sequence }
         ensures text { IsErrOf result DecideError.Failed → text.new ≡ text.old }
         ensures simulated { (D.disk disk.new).simulated ≡ (D.disk disk.old).simulated }
         ensures later { (D.disk disk.old).faults ≤ (D.disk disk.new).faults }
@@ -171,7 +171,7 @@ impl Reign {
         let Some(origin) = self.next_origin(updater) else {
             return Err(DecideError::NoMemory);
         };
-        let evaluated = eval(alloc, job, origin, &self.site.globals)?;
+        let evaluated = eval_owned(alloc, job, origin, &self.site.globals)?;
         self.conclude(alloc, disk, origin, evaluated, text)
     }
 }

@@ -59,7 +59,7 @@ impl Reign {
             let Some(job) = jobs.take_next(*updater) else {
                 continue;
             };
-            match self.decide(alloc, disk, *updater, &job, text) {
+            match self.decide(alloc, disk, *updater, job, text) {
                 Ok(()) => undecided -= 1,
                 Err(DecideError::Failed) => return Err(RunError::Failed { undecided }),
                 Err(DecideError::NoMemory) => return Err(RunError::NoMemory),
