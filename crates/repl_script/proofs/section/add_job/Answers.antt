@@ -1,4 +1,4 @@
-use Rattle.std.proofs.Common.{◌≡◌, ◌∙◌, ℕ, ◌∷◌, [], length, take, ap}
+use Rattle.std.proofs.Common.{◌∙◌, ℕ, ◌∷◌, [], length, take, ap}
 use Rattle.std.proofs.Math.Seq.{take-append_seam}
 use Rattle.repl_script.proofs.section.add_job.Goals as goal
 
