@@ -6,14 +6,14 @@ use Rattle.global_defs.specs.Jobs.{Job}
 use Rattle.global_defs.specs.Serial.{Turn}
 use Rattle.command_defs.specs.Commands.{Name, Region, Command, Create, Attach, Map, StartPrimary, Run, Stop, Fuse, Crash, Extract, Zwrite, Show, Print}
 use Rattle.disk_defs.specs.Disk.{Rose}
-use Rattle.site_defs.specs.Contents.{Contents}
+use Rattle.site_defs.specs.Contents.{Contents, Standing}
 use Rattle.site_defs.specs.Fronts.{turn_of}
 use Rattle.site_defs.specs.Lists.{Along, At}
 use Rattle.world_defs.specs.World.{Place, World, Kept, place_of, next_of}
 use Rattle.world_defs.specs.Answers.{Answer, Section, Done, Refused, DiskFault, NotAFile, Ran, Typed, Exists, NoDisk, Refusal}
 use Rattle.world_defs.specs.Row.{Row, quiet}
 use Rattle.world_defs.specs.Meaning.{Meaning, No, Then, apart, Acts, refusing, on_next, target, meaning, row_at}
-use Rattle.world_defs.specs.Step.{LeftBy, LeavesOld, IsCut, Step, CutOff}
+use Rattle.world_defs.specs.Step.{LeftBy, LeftByRow, LeavesOld, IsCut, Step, CutOff}
 use Rattle.world_defs.specs.Runs.{Told, Runs}
 use Rattle.world_defs.specs.rows.Attach.{ATTACHING, attach}
 use Rattle.world_defs.specs.rows.Create.{create}
@@ -240,16 +240,19 @@ told-runs w m (c ∷ cs) text h calm =
 
 -- a command that was cut off
 
-left_later : (step : Contents → Contents → Type 0) (x y : Place) → LeftBy step x y → HasNotFallen x y
-left_later step x y l = later x y l.faults
+left_later : (step : Contents → Contents → Type 0) (so : Standing → Standing → Type 0) (x y : Place) → LeftBy step so x y → HasNotFallen x y
+left_later step so x y l = later x y l.faults
 
-cut_at : (step : Contents → Contents → Type 0) (i : ℕ) (w m : World) → At i (LeftBy step) (λ j. LeavesOld) w.places m.places → NoCountFell w m
-cut_at step i w m h = along_at (LeftBy step) LeavesOld HasNotFallen (left_later step) (left_later (λ c o. ⊥)) i w.places m.places h
+old_later : (x y : Place) → LeavesOld x y → HasNotFallen x y
+old_later x y l = left_later (λ c o. ⊥) (λ s o. ⊥) x y l
+
+cut_at : (row : Row) (i : ℕ) (w m : World) → At i (LeftByRow row) (λ j. LeavesOld) w.places m.places → NoCountFell w m
+cut_at row i w m h = along_at (LeftByRow row) LeavesOld HasNotFallen (left_later row.left row.left_so) old_later i w.places m.places h
 
 fell-is_cut : (x : Meaning) (w m : World) → Makes Counts HasNotFallen x w → IsCut x w m → NoCountFell w m
-fell-is_cut (No r) w m h c = along_each LeavesOld HasNotFallen (left_later (λ c o. ⊥)) w.places m.places c
-fell-is_cut (Acts i row others) w m h c = cut_at row.left i w m c
-fell-is_cut (Then i row others next) w m h (inl c) = cut_at row.left i w m c
+fell-is_cut (No r) w m h c = along_each LeavesOld HasNotFallen old_later w.places m.places c
+fell-is_cut (Acts i row others) w m h c = cut_at row i w m c
+fell-is_cut (Then i row others next) w m h (inl c) = cut_at row i w m c
 fell-is_cut (Then i row others next) w m h (inr c) =
     fell_through w.places c.1.places m.places
     (fell_one i c.0 w c.1 (one_makes Counts HasNotFallen i row others c.0 w c.1 c.2 h.0 h.1 c.3))

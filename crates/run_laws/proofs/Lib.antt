@@ -5,3 +5,4 @@ pub mod Turns
 pub mod Owns
 pub mod Stays
 pub mod Written
+pub mod Cut

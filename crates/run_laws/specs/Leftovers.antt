@@ -1,5 +1,5 @@
 -- What a START writes down of what lay behind a sequence.
-use Rattle.std.specs.Prelude.{◌≡◌, ℕ, List, [], ◌∷◌, ◌++◌, IfSome}
+use Rattle.std.specs.Prelude.{◌≡◌, ◌⊎◌, ◌+◌, ℕ, List, [], ◌∷◌, ◌++◌, take, IfSome}
 use Rattle.global_defs.specs.Jobs.{Job}
 use Rattle.global_defs.specs.Serial.{Turn}
 use Rattle.command_defs.specs.Commands.{Name}
@@ -7,7 +7,7 @@ use Rattle.site_defs.specs.Behind.{MayStand}
 use Rattle.site_defs.specs.Contents.{Standing}
 use Rattle.site_defs.specs.Lists.{Among}
 use Rattle.site_defs.specs.Opening.{opened, with_reign}
-use Rattle.world_defs.specs.World.{Place, IfKnown, Settled, name_on}
+use Rattle.world_defs.specs.World.{Place, IfKnown, StandAfter, Settled, name_on}
 use Rattle.world_defs.specs.Answers.{Section}
 use Rattle.world_defs.specs.rows.Run.{one_further, turn_on}
 use Rattle.run_laws.specs.Entries.{turn_there}
@@ -32,3 +32,16 @@ turn_further s jobs order p = turn_on p.site jobs (one_further order s.picks) p
 abbrev pub WritesWhatWasLeft : Section → List (List Job) → List ℕ → Place → Place → Type 0
 WritesWhatWasLeft s jobs order p q =
     IfKnown p ((o : Standing) × MayStand p.now (turn_there s jobs p).sequence (turn_further s jobs order p).sequence o × WritesDown (name_on p.site) o q)
+
+-- What was broken behind the one is the newest broken-transaction file of the other, behind which nothing lies.
+pub record IsWrittenDown (s o : Standing) : Type 0 where
+  pub text : o.contents.texts ≡ s.contents.texts ++ s.broken ∷ []
+  pub nothing : o.broken ≡ []
+
+-- what a fault in a pick may have left, once the picks before it were decided
+abbrev pub IsLeftWithin : List (List Job) → List ℕ → Place → Standing → Type 0
+IsLeftWithin jobs order p o = (decided : ℕ) × MayStand p.now (turn_on p.site jobs (take decided order) p).sequence (turn_on p.site jobs (take (decided + 1) order) p).sequence o
+
+-- Where the files are known, and what lies behind in each image: it still is, and each is as one was, or one after a step.
+abbrev pub LeavesBehind : (Standing → Standing → Type 0) → Place → Place → Type 0
+LeavesBehind step p q = IfKnown p (StandAfter (λ s o. (o ≡ s) ⊎ step s o) p.standings q.standings)

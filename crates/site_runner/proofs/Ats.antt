@@ -47,6 +47,14 @@ stand_earlier (Some os) None z A h k = absurd h
 stand_earlier (Some os) (Some ms) None A h k = k
 stand_earlier (Some os) (Some ms) (Some ns) A h k = λ o a. let m = k o a in let s = h m.0 m.1 in (s.0, s.1, subst (λ (x : Standing). A x o) s.2 m.2)
 
+-- as a command that was cut off leaves it
+
+pub left_old : (so : Standing → Standing → Type 0) (x y : Option (List Standing)) → StandAsBefore x y → StandAfter (λ s o. (o ≡ s) ⊎ so s o) x y
+left_old so x y h = stand_more x y (λ s o. o ≡ s) (λ s o. (o ≡ s) ⊎ so s o) (λ s o e. inl e) h
+
+pub left_new : (so : Standing → Standing → Type 0) (x y : Option (List Standing)) → StandAfter so x y → StandAfter (λ s o. (o ≡ s) ⊎ so s o) x y
+left_new so x y h = stand_more x y so (λ s o. (o ≡ s) ⊎ so s o) (λ s o k. inr k) h
+
 pub kept_same : (p : Place) → Kept p p
 kept_same p = record { site = refl; now = refl; left = refl; known = record { told = refl; outcomes = λ o h. h; standings = λ t. stand_same p.standings }; faults = omega arith; simulated = refl }
 

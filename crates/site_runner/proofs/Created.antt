@@ -41,7 +41,7 @@ use Rattle.site_runner.specs.Executes.{ExecutesHere, IsCutHere}
 use Rattle.site_runner.specs.Looking.{fits, Finds, LooksHere, Tells}
 use Rattle.site_runner.specs.Creating.{spec_of, IsUnmade, MakesHere, MakingIsCut}
 use Rattle.site_runner.proofs.Ats.{comes_done, comes_refused, comes_may_refuse, comes_fault, comes_damaged, some_outcome, is_true_or_false, some_both, some_of, some_and, told_is, stands_told, at_moment, Leftovers, ReadPlace, place_of_images, place_of_one, only}
-use Rattle.site_runner.proofs.Ats.{some_standing, stand_more, stand_earlier, ImagesStand}
+use Rattle.site_runner.proofs.Ats.{some_standing, stand_same, stand_more, stand_earlier, left_old, left_new, ImagesStand}
 use Rattle.site_runner.proofs.Looked.{some_and_of, none_held, site_none}
 
 -- the regions of a command
@@ -249,12 +249,21 @@ pub make_cut : {D : Type 0} (leftovers : Leftovers) (view : D → View) (old new
     → MakingIsCut view name (map script.region_value rs) old new
 make_cut leftovers view old new name specs rs k are p h u =
     let regions = map script.region_value rs in
-    let m = making_left leftovers (view old.disk) (view new.disk) p name specs regions k (made_is name specs rs are) h.disk u in
-    (record { site = p.site; told = p.told; now = m.now; left = m.left; outcomes = created name regions ∷ p.outcomes; standings = making_standings (created name regions) p.standings; faults = (view new.disk).faults; simulated = p.simulated }, record { told = refl; outcomes = λ known o a. inr (new_or_old name regions p o (some_outcome (view old.disk) p k.was_lawful h.disk known) a); faults = omega (arith, k.later, h.disk.faults); simulated = refl }, m.matches)
+    let m = making_left leftovers (view old.disk) (view new.disk) p name specs regions k (made_is name specs rs are) h.disk u in (
+      record { site = p.site; told = p.told; now = m.now; left = m.left; outcomes = created name regions ∷ p.outcomes; standings = making_standings (created name regions) p.standings; faults = (view new.disk).faults; simulated = p.simulated },
+      record {
+        told = refl;
+        outcomes = λ known o a. inr (new_or_old name regions p o (some_outcome (view old.disk) p k.was_lawful h.disk known) a);
+        standings = λ known. left_new (rows.MayMakeLeft name regions) p.standings (making_standings (created name regions) p.standings) (new_or_old_so name regions p.standings (some_standing (view old.disk) p k.was_lawful h.disk known));
+        faults = omega (arith, k.later, h.disk.faults);
+        simulated = refl;
+      },
+      m.matches,
+    )
 
 -- there was no memory for the regions
 pub make_not_begun : {D : Type 0} (view : D → View) (old : Slot D) (name : List ℕ) (regions : List Region) → MakingIsCut view name regions old old
-make_not_begun view old name regions p h u = (p, record { told = refl; outcomes = λ known o a. inl a; faults = omega arith; simulated = refl }, h.disk)
+make_not_begun view old name regions p h u = (p, record { told = refl; outcomes = λ known o a. inl a; standings = λ known. left_old (rows.MayMakeLeft name regions) p.standings p.standings (stand_same p.standings); faults = omega arith; simulated = refl }, h.disk)
 
 -- the command
 
@@ -379,6 +388,7 @@ create_made_cut view old mid new name regions look cut p h =
       record {
         told = r.1.told ∙ k.known.told;
         outcomes = λ known o a. elim (r.1.outcomes (k.known.told ∙ known) o a) [ inl old ↦ inl (k.known.outcomes o old) | inr new ↦ inr (after_behind (rows.MayMake name regions) p l.0 o k new) ];
+        standings = λ known. stand_earlier p.standings l.0.standings r.0.standings (λ s o. (o ≡ s) ⊎ rows.MayMakeLeft name regions s o) (k.known.standings known) (r.1.standings (k.known.told ∙ known));
         faults = omega (arith, k.faults, r.1.faults);
         simulated = r.1.simulated ∙ k.simulated;
       },

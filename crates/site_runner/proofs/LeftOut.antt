@@ -33,7 +33,7 @@ all_fail_at v stamp told c jobs order serials undecided before now n f =
     subst (λ (t : Turn). FailsBy v told c t (length order) undecided before now) (sym (same stamp serials jobs (take n order) c.sequence))
     (record { hardened = f.hardened; begun = f.begun; at_once = f.at_once; count = f.count; text = f.text; front = f.front })
 
-left_same : (stamp : Stamp) (c : Contents) (jobs : List (List Job)) (order serials : List ℕ) (decided : ℕ) (files : Files) → LeftAfter stamp c jobs order serials decided files → LeftAfter stamp c (at_all jobs) order serials decided files
+pub left_same : (stamp : Stamp) (c : Contents) (jobs : List (List Job)) (order serials : List ℕ) (decided : ℕ) (files : Files) → LeftAfter stamp c jobs order serials decided files → LeftAfter stamp c (at_all jobs) order serials decided files
 left_same stamp c jobs order serials decided files l = record {
   standing = l.standing;
   may = subst (λ (s : Sequence). MayStand c s (turn_of stamp serials (at_all jobs) (take (decided + 1) order) c.sequence).sequence l.standing) (sequence_same stamp serials jobs (take decided order) c.sequence)

@@ -2,14 +2,14 @@
 use Rattle.std.proofs.Common.{◌≡◌, ℕ, zero, suc, ◌<◌, Bool, true, false, cond, List, [], ◌∷◌, ◌++◌, length, get_or, set, None, Some, refl, sym, ◌∙◌, ap, subst, arith, inl}
 use Rattle.std.specs.Prelude.{Option, option_map, slice_get}
 use Rattle.disk_defs.specs.Disk.{View}
-use Rattle.site_defs.specs.Contents.{Contents}
+use Rattle.site_defs.specs.Contents.{Contents, Standing}
 use Rattle.site_defs.specs.Lists.{Along, At, first_where}
 use Rattle.command_defs.specs.Commands.{Name, Command}
 use Rattle.world_defs.specs.World.{Place, World, Kept, is_site_named, place_of}
 use Rattle.world_defs.specs.Answers.{NoSite, Refusal, Refused, refusal_line}
 use Rattle.world_defs.specs.Row.{Row}
 use Rattle.world_defs.specs.Meaning.{apart, Meaning, No, Acts, Target, On, Open, refusing, at_found, there, row_at, target, meant, meaning}
-use Rattle.world_defs.specs.Step.{Goes, LeftBy, LeavesOld, IsCut}
+use Rattle.world_defs.specs.Step.{Goes, LeftBy, LeftByRow, LeavesOld, IsCut}
 use Rattle.world_defs.specs.Ties.{Matches}
 use Rattle.world_laws.proofs.Builds as builds
 use Rattle.site_runner.specs.declared.slot.Slot.{Slot}
@@ -18,7 +18,7 @@ use Rattle.site_runner.specs.Tied.{IsPlace, Tied}
 use Rattle.site_runner.specs.Executes.{ExecutesHere, IsCutHere, Executes, IsCutOff}
 use Rattle.site_runner.specs.Named.{IsOn, target_name, target_row, IsNamed, name_in, row_in}
 use Rattle.site_runner.proofs.FirstWhere.{first_along}
-use Rattle.site_runner.proofs.Ats.{kept_same}
+use Rattle.site_runner.proofs.Ats.{stand_same, left_old, kept_same}
 use Rattle.site_runner.proofs.Goings.{matched}
 
 pub all_kept : (ps : List Place) → Along (λ i. Kept) ps ps
@@ -99,8 +99,11 @@ lifted view c row slots i d s before now done k is x w h =
 abbrev pub IsDisk : {D : Type 0} → (D → View) → Slot D → Place → Type 0
 IsDisk view slot p = Matches (view slot.disk) p
 
-left_same : (step : Contents → Contents → Type 0) (p : Place) → LeftBy step p p
-left_same step p = record { told = refl; outcomes = λ t o h. inl h; faults = omega arith; simulated = refl }
+left_same : (step : Contents → Contents → Type 0) (so : Standing → Standing → Type 0) (p : Place) → LeftBy step so p p
+left_same step so p = record { told = refl; outcomes = λ t o h. inl h; standings = λ t. left_old so p.standings p.standings (stand_same p.standings); faults = omega arith; simulated = refl }
+
+old_same : (p : Place) → LeavesOld p p
+old_same p = left_same (λ c o. ⊥) (λ s o. ⊥) p
 
 pub lifted_cut : {D : Type 0} (view : D → View) (c : Command) (row : World → Place → Row) (slots : List (Slot D)) (i : ℕ) (d s : Slot D) → i < length slots → ActsBy view c row slots i
     → ((w : World) → IsCutHere view (row w) (get_or slots i d) s) → IsCutOff view c slots (set slots i s)
@@ -108,7 +111,7 @@ lifted_cut view c row slots i d s k is x w h =
     let p = place_there view i slots w.places d k h in
     let r = x w p.0 p.2 in
     builds.cut_lifted (IsPlace view) (IsDisk view) (meaning w c) i (row w p.0) apart p.0 r.0 slots (set slots i s) w h p.1 (is w h p.0 p.1) r.1
-    (at_others view (IsDisk view) LeavesOld (λ y z g. (left_same (λ c o. ⊥) z, g.disk)) i slots s r.0 k r.2)
+    (at_others view (IsDisk view) LeavesOld (λ y z g. (old_same z, g.disk)) i slots s r.0 k r.2)
 
 -- a refusal whatever the place
 pub refused_anywhere : {D : Type 0} (view : D → View) (c : Command) (r : Refusal) (slots : List (Slot D)) (before now : List ℕ) → ((w : World) → Tied view slots w → meaning w c ≡ No r) → now ≡ before ++ refusal_line r → Executes view c slots slots before now
@@ -119,12 +122,12 @@ refused_anywhere view c r slots before now is t w h =
 
 along_left : (ps : List Place) → Along (λ i. LeavesOld) ps ps
 along_left [] = tt
-along_left (p ∷ ps) = (left_same (λ c o. ⊥) p, along_left ps)
+along_left (p ∷ ps) = (old_same p, along_left ps)
 
-at_left : (step : Contents → Contents → Type 0) (i : ℕ) (ps : List Place) (p : Place) → slice_get ps i ≡ Some p → At i (LeftBy step) (λ j. LeavesOld) ps ps
-at_left step i [] p e = cc
-at_left step zero (x ∷ ps) p e = (left_same step x, along_left ps)
-at_left step (suc i) (x ∷ ps) p e = (left_same (λ c o. ⊥) x, at_left step i ps p e)
+at_left : (row : Row) (i : ℕ) (ps : List Place) (p : Place) → slice_get ps i ≡ Some p → At i (LeftByRow row) (λ j. LeavesOld) ps ps
+at_left row i [] p e = cc
+at_left row zero (x ∷ ps) p e = (left_same row.left row.left_so x, along_left ps)
+at_left row (suc i) (x ∷ ps) p e = (old_same x, at_left row i ps p e)
 
 pub cut_there : (none : Meaning) (w : World) (o : Option ℕ) (f : ℕ → Place → Meaning) → IsCut none w w → ((i : ℕ) (p : Place) → slice_get w.places i ≡ Some p → IsCut (f i p) w w) → IsCut (there none w o f) w w
 cut_there none w None f n h = n
@@ -138,7 +141,7 @@ pub cut_no : (w : World) (r : Refusal) → IsCut (No r) w w
 cut_no w r = along_left w.places
 
 pub cut_acts : (w : World) (i : ℕ) (p : Place) (row : Row) → slice_get w.places i ≡ Some p → IsCut (Acts i row apart) w w
-cut_acts w i p row e = at_left row.left i w.places p e
+cut_acts w i p row e = at_left row i w.places p e
 
 cut_on : (x : Target) (w : World) → IsOn x → IsCut (meant w x) w w
 cut_on (On name row) w n = cut_there (refusing name NoSite) w (place_of w name) (λ i p. Acts i (row_at row p) apart) (cut_no w (record { site = name; cause = NoSite })) (λ i p e. cut_acts w i p (row_at row p) e)

@@ -23,7 +23,7 @@ use Rattle.site_runner.specs.Sites.{site_value, HoldsSite}
 use Rattle.site_runner.specs.Tied.{IsPlace}
 use Rattle.site_runner.specs.Executes.{IsCutHere}
 use Rattle.site_runner.specs.Looking.{fits, LeavesOld, Sees, LooksHere}
-use Rattle.site_runner.proofs.Ats.{not_true, told_is, some_both, some_of, stands_told, at_moment, Leftovers, place_of_images, stand_same, ImagesStand, images_still}
+use Rattle.site_runner.proofs.Ats.{not_true, told_is, some_both, some_of, stands_told, at_moment, Leftovers, place_of_images, stand_same, left_old, ImagesStand, images_still}
 
 pub same_self : (a : Name) → same_name a a ≡ true
 same_self [] = refl
@@ -155,7 +155,7 @@ left_so : {D : Type 0} (leftovers : Leftovers) (view : D → View) (old : Slot D
     → (q : Place) × LeavesOld p q × IsPlace view (record { disk = disk; site = old.site }) q
 left_so leftovers view old disk k free p h =
     let m = looked_before leftovers view old disk p k free h in
-    (record { site = p.site; told = p.told; now = m.0; left = m.1; outcomes = p.outcomes; standings = p.standings; faults = (view disk).faults; simulated = p.simulated }, record { told = refl; outcomes = λ known o a. a; faults = omega (arith, k.later, h.disk.faults); simulated = refl }, m.4)
+    (record { site = p.site; told = p.told; now = m.0; left = m.1; outcomes = p.outcomes; standings = p.standings; faults = (view disk).faults; simulated = p.simulated }, record { told = refl; outcomes = λ known o a. a; standings = λ known. stand_same p.standings; faults = omega (arith, k.later, h.disk.faults); simulated = refl }, m.4)
 
 saw_nothing : {D : Type 0} (leftovers : Leftovers) (view : D → View) (old : Slot D) (disk : D) (e : SiteError) → IsLook (view old.disk) (view disk) → old.site ≡ None → Unread e (view old.disk) (view disk) → LooksHere view old (record { disk = disk; site = old.site }) (Err e)
 saw_nothing leftovers view old disk (Failed fault) k free u p h =
@@ -203,14 +203,14 @@ saw_nothing leftovers view old disk NoMemory k free u p h = left_so leftovers vi
 
 -- what a look leaves is old, whatever it saw
 sees_old : (r : Result (Option Layout) SiteError) (p q : Place) → Sees r p q → LeavesOld p q
-sees_old (Ok found) p q s = record { told = s.kept.known.told; outcomes = λ known. s.kept.known.outcomes; faults = s.kept.faults; simulated = s.kept.simulated }
-sees_old (Err (Failed fault)) p q s = record { told = s.0.known.told; outcomes = λ known o a. let x = s.0.known.outcomes known o a in subst (Among p.outcomes) (sym x.2) x.1; faults = s.1; simulated = s.0.simulated }
+sees_old (Ok found) p q s = record { told = s.kept.known.told; outcomes = λ known. s.kept.known.outcomes; standings = s.kept.known.standings; faults = s.kept.faults; simulated = s.kept.simulated }
+sees_old (Err (Failed fault)) p q s = record { told = s.0.known.told; outcomes = λ known o a. let x = s.0.known.outcomes known o a in subst (Among p.outcomes) (sym x.2) x.1; standings = s.0.known.standings; faults = s.1; simulated = s.0.simulated }
 sees_old (Err (Stopped fault)) p q s = s
 sees_old (Err (Full nodes)) p q s = s
 sees_old (Err SeqLimit) p q s = s
 sees_old (Err GenLimit) p q s = s
 sees_old (Err ReignLimit) p q s = s
-sees_old (Err (NotAFile file offset)) p q s = record { told = s.kept.known.told; outcomes = λ known. s.kept.known.outcomes; faults = s.kept.faults; simulated = s.kept.simulated }
+sees_old (Err (NotAFile file offset)) p q s = record { told = s.kept.known.told; outcomes = λ known. s.kept.known.outcomes; standings = s.kept.known.standings; faults = s.kept.faults; simulated = s.kept.simulated }
 sees_old (Err NoMemory) p q s = s
 
 -- a command that was cut off behind a look
@@ -218,7 +218,7 @@ pub looked_cut : {D : Type 0} (view : D → View) (old new : Slot D) (row : Plac
 looked_cut view old new row r look p h =
     let q = look p h in
     let left = sees_old r p q.0 q.1 in
-    (q.0, record { told = left.told; outcomes = λ known o a. inl (left.outcomes known o a); faults = left.faults; simulated = left.simulated }, q.2.disk)
+    (q.0, record { told = left.told; outcomes = λ known o a. inl (left.outcomes known o a); standings = λ known. left_old (row p).left_so p.standings q.0.standings (left.standings known); faults = left.faults; simulated = left.simulated }, q.2.disk)
 
 pub looks : {D : Type 0} (leftovers : Leftovers) (view : D → View) (old : Slot D) (disk : D) (r : Result (Option Layout) SiteError) → IsLook (view old.disk) (view disk) → old.site ≡ None
     → IfOk r (λ found. IfSome (view old.disk).content (λ files. (c : Contents) → Stands files c → IsFound c found))

@@ -16,7 +16,7 @@ use Rattle.world_defs.specs.Row.{refused_with, in_state, why_not_down}
 use Rattle.site_defs.specs.Limits.{region_number}
 use Rattle.world_defs.specs.Changes.{in_new_state, After}
 use Rattle.site_defs.specs.Opening.{MayMap, with_pattern}
-use Rattle.world_defs.specs.Step.{LeftBy}
+use Rattle.world_defs.specs.Step.{LeftByRow}
 use Rattle.world_defs.specs.rows.Map.{MayMapLeft, IsUnmapped, unmapped, map_pattern}
 use Rattle.world_defs.specs.Ties.{Matches}
 use Rattle.site_defs.specs.Stands.{IsSite, HasLeft, Stands, Reads}
@@ -29,7 +29,7 @@ use Rattle.site_runner.specs.Executes.{Comes}
 use Rattle.site_runner.specs.Steps.{IsAt, ExecutesAt, IsCutAt}
 use Rattle.site_runner.specs.Mapping.{IsSeenAt, IsUnmappedIn, MapsAt, IsCutSeen}
 use Rattle.site_runner.proofs.Ats.{comes_done, comes_refused, comes_may_refuse, comes_fault, comes_damaged, refused_late, none_refused, state_at, not_true, is_true_or_false, some_both, some_of, some_and, told_is, reads_stand, reads_site, at_moment, Leftovers, ReadPlace, place_of_images, only}
-use Rattle.site_runner.proofs.Ats.{so_stands, ImagesStand, images_still}
+use Rattle.site_runner.proofs.Ats.{left_new, so_stands, ImagesStand, images_still}
 use Rattle.site_runner.proofs.Seen.{counted, kept_counted}
 use Rattle.site_runner.proofs.Amongs.{among_first, among_second, among_either}
 use Rattle.site_runner.proofs.Started.{why_at}
@@ -210,10 +210,19 @@ mapped_place : (leftovers : Leftovers) (region : Name) (text : List ℕ) (w : Vi
 mapped_place leftovers region text w p site law b =
     place_of_images leftovers w p site (maps region text p.outcomes) (maps_standing region text p.standings) law b.simulated b.still_told (λ sure f i. let k = b.images sure f i in (k.0, maps_among region text p.outcomes k.1.0 k.0 k.1.1 k.1.2, k.2)) b.standings
 
-pub map_cut : (leftovers : Leftovers) (region : Name) (text : List ℕ) (w : View) (s : Site) (p : Place) → IsLawful w → MayHaveMapped region text w p → p.faults ≤ w.faults → (q : Place) × LeftBy (map_pattern region text s.name p).left p q × Matches w q
+pub map_cut : (leftovers : Leftovers) (region : Name) (text : List ℕ) (w : View) (s : Site) (p : Place) → IsLawful w → MayHaveMapped region text w p → p.faults ≤ w.faults → (q : Place) × LeftByRow (map_pattern region text s.name p) p q × Matches w q
 map_cut leftovers region text w s p law b later =
-    let m = mapped_place leftovers region text w p p.site law b in
-    (record { site = p.site; told = p.told; now = m.now; left = m.left; outcomes = maps region text p.outcomes; standings = maps_standing region text p.standings; faults = w.faults; simulated = p.simulated }, record { told = refl; outcomes = λ sure o a. inr (among_maps region text p.outcomes o a); faults = later; simulated = refl }, m.matches)
+    let m = mapped_place leftovers region text w p p.site law b in (
+      record { site = p.site; told = p.told; now = m.now; left = m.left; outcomes = maps region text p.outcomes; standings = maps_standing region text p.standings; faults = w.faults; simulated = p.simulated },
+      record {
+        told = refl;
+        outcomes = λ sure o a. inr (among_maps region text p.outcomes o a);
+        standings = λ sure. left_new (MayMapLeft region text) p.standings (maps_standing region text p.standings) (after_maps region text p.standings);
+        faults = later;
+        simulated = refl;
+      },
+      m.matches,
+    )
 
 pub map_fault : (leftovers : Leftovers) (region : Name) (text : List ℕ) (w : View) (s : Site) (p : Place) (k : ℕ) (before now : List ℕ) → IsLawful w → s.state ≡ Down → p.site ≡ Some (site_value s) → (p.told ≡ true → IsMade s.name p) → MayHaveMapped region text w p
     → k ≡ w.faults → Rose p.faults w.faults → now ≡ before ++ line s.name (codes "DISKFAULT " ++ decimal k) → Answers region text w s p (record { name = s.name; state = Failed k }) before now false

@@ -20,7 +20,7 @@ use Rattle.site_runner.specs.declared.slot.Site.{Site}
 use Rattle.site_runner.specs.Sites.{state_value, HoldsState}
 use Rattle.site_runner.specs.Steps.{IsAt, ExecutesAt, IsCutAt}
 use Rattle.site_runner.proofs.Fused.{state_read}
-use Rattle.site_runner.proofs.Ats.{comes_refused, comes_may_refuse, comes_fault, comes_typed, refused_late, none_refused, state_at, is_true_or_false, some_both, reads_site, stand_same, images_still}
+use Rattle.site_runner.proofs.Ats.{comes_refused, comes_may_refuse, comes_fault, comes_typed, refused_late, none_refused, state_at, is_true_or_false, some_both, reads_site, stand_same, left_old, images_still}
 use Rattle.site_runner.proofs.Seen.{counted, kept_counted}
 
 pub print_stopped : (g : ℕ) (v : View) (s : Site) (cause : Cause) (p : Place) → stopped (state_value s.state) ≡ Some cause → IsAt v s p → (print g s.name p).early ≡ refused_with s.name (Some cause)
@@ -131,7 +131,7 @@ print_fault g v w s k before now r up count rose t p h =
 pub print_cut : (g : ℕ) (v w : View) (s : Site) → disk.Reads v w → v.faults ≤ w.faults → IsCutAt (print g s.name) v s w
 print_cut g v w s r later p h =
     let a = read_at v w s p r h in
-    (counted p w.faults, record { told = refl; outcomes = λ sure o m. inl m; faults = omega (arith, later, h.disk.faults); simulated = refl }, a.disk)
+    (counted p w.faults, record { told = refl; outcomes = λ sure o m. inl m; standings = λ sure. left_old (print g s.name p).left_so p.standings p.standings (stand_same p.standings); faults = omega (arith, later, h.disk.faults); simulated = refl }, a.disk)
 
 pub empty_is : (bytes : List ℕ) → (length bytes == 0) ≡ true → bytes ≡ []
 empty_is [] e = refl

@@ -5,7 +5,7 @@ use Rattle.std.specs.Fmt.{decimal}
 use Rattle.std.specs.List.{flat_map, AllByRecursion}
 use Rattle.std.proofs.Math.Seq.{take-length}
 use Rattle.std.proofs.lemmas.List.{length-take-le}
-use Rattle.disk_defs.specs.Disk.{View, IsLawful, Rose}
+use Rattle.disk_defs.specs.Disk.{Files, View, Image, IsLawful, Rose}
 use Rattle.global_defs.specs.Entry.{Stamp, Sequence, state}
 use Rattle.global_defs.specs.Jobs.{Job, SeqLimit}
 use Rattle.global_defs.specs.Evaluation.{Evaluated, eval}
@@ -14,30 +14,30 @@ use Rattle.global_defs.specs.Serial.{MOST_ENTRIES, Turn, Seq, RolledBack, first_
 use Rattle.repl_section.specs.declared.reign.Reign.{Reign}
 use Rattle.command_defs.specs.Sections.{UsesUp}
 use Rattle.repl_section.specs.Reigns.{Reigns, stamp_in, stamp_of}
-use Rattle.repl_section.specs.Deciding.{HasDecided, MayHaveFront, MayLeave, FailsIn}
+use Rattle.repl_section.specs.Deciding.{HasDecided, MayHaveFront, LeftAfter, MayLeave, FailsIn}
 use Rattle.site_defs.specs.Lists.{Among}
 use Rattle.world_defs.specs.World as world
 use Rattle.command_defs.specs.Commands.{Name}
-use Rattle.world_defs.specs.World.{Place}
+use Rattle.world_defs.specs.World.{Place, StandAfter}
 use Rattle.site_defs.specs.Contents.{Contents, Leftover, Standing, NO_LEFTOVER, bare}
 use Rattle.world_defs.specs.Answers.{Section, line, Cause}
 use Rattle.world_defs.specs.Row.{refused_with, in_state, why_not_primary, refusal_in}
 use Rattle.world_defs.specs.Changes.{in_new_state}
 use Rattle.site_defs.specs.Fronts.{with_sequence, IsFrontOf, turn_of}
 use Rattle.site_defs.specs.Opening.{IsBehind}
-use Rattle.site_defs.specs.Behind.{MayStand}
-use Rattle.world_defs.specs.rows.Run.{RunMayLeaveOn, one_further, undecided_line, section_text, turn_on, run}
+use Rattle.site_defs.specs.Behind.{MayStand, StandsSo}
+use Rattle.world_defs.specs.rows.Run.{RunMayLeaveOn, RunMayStandOn, one_further, undecided_line, section_text, turn_on, run}
 use Rattle.site_defs.specs.Texts.{reply_line}
 use Rattle.world_defs.specs.Ties.{Matches}
 use Rattle.site_runner.specs.declared.slot.State.{State}
 use Rattle.site_runner.specs.declared.slot.State.TheVariants.{Primary, Failed}
 use Rattle.site_runner.specs.declared.slot.Site.{Site}
-use Rattle.site_runner.specs.Sites.{state_value, site_value, IsOf}
+use Rattle.site_runner.specs.Sites.{state_value, site_value, IsOf, IsOpen}
 use Rattle.site_runner.specs.Steps.{IsAt, ExecutesAt, IsCutAt}
 use Rattle.site_runner.proofs.Ats.{comes_ran, not_early, some_outcome, state_at, told_is, reads_image, Leftovers, NothingIsLeft, place_of_images, place_of_one, only, open_site, open_reads, open_images}
 use Rattle.site_runner.proofs.Ats.{ImagesStand, stands_with}
 use Rattle.site_runner.proofs.Kept.{stands_within, may_stand_among, may_stand_is}
-use Rattle.site_runner.proofs.Stopped.{reigns_at, length_tagged}
+use Rattle.site_runner.proofs.Stopped.{open_at, reigns_at, length_tagged}
 use Rattle.site_runner.proofs.Amongs.{among_first, among_second, among_either}
 use Rattle.site_runner.proofs.Begun.{nat_cases}
 
@@ -241,27 +241,14 @@ ran_to_fault leftovers v w s r jobs order k undecided before middle now was law 
     ∙ ap (λ (u : ℕ). before ++ (flat_map reply_line turn.replies ++ undecided_line s.name k u)) rest
     ∙ ap (λ (x : Turn). before ++ section_text s.name (length order) x (Some k)) (sym text))
 
--- it was cut off once some jobs were decided, of which at least these are hardened
-pub run_cut : (leftovers : Leftovers) (v w : View) (s : Site) (r : Reign) (jobs : List (List Job)) (order : List ℕ) → IsLawful v → IsLawful w → s.state ≡ Primary r → w.simulated ≡ v.simulated → v.faults ≤ w.faults
-    → ((told : Bool) (c : Contents) → Reigns v told c r → (m low : ℕ) × (length c.sequence ≤ low) × MayHaveFront w told c (turn_of (stamp_of r) r.serials jobs (take m order) c.sequence).sequence low)
-    → IsCutAt (run jobs order s.name) v s w
-run_cut leftovers v w s r jobs order was law st same later f p h =
-    let d : (m low : ℕ) × (length p.now.sequence ≤ low) × MayHaveFront w p.told p.now (turn_of (stamp_of r) r.serials jobs (take m order) p.now.sequence).sequence low = f p.told p.now (reigns_at v s r p st h) in
-    let m : ℕ = d.0 in
-    let low : ℕ = d.1 in
-    let all = (turn_of (stamp_of r) r.serials jobs (take m order) p.now.sequence).sequence in
-    let front = front_place leftovers w p p.site all low None law (same ∙ h.disk.simulated) d.3 (λ sure. tt) in
-    let lower : (o : Contents) → IsFrontOf all low p.now o → IsFrontOf all (length p.now.sequence) p.now o = λ o g. record { count = g.count; least = omega (arith, d.2, g.least); most = g.most; is = g.is } in (
-      record { site = p.site; told = p.told; now = front.now; left = front.left; outcomes = fronts p.now all low (length all - low); standings = None; faults = w.faults; simulated = p.simulated },
-      record {
-        told = refl;
-        outcomes = λ sure o a. let x = some_outcome v p was h.disk sure in
-            inr (x.0, x.1, subst (λ (y : Option world.Site). RunMayLeaveOn y jobs order p o) (sym (site_is v s r p st h)) (m, lower o (front.fronts_all sure o a)));
-        faults = omega (arith, later, h.disk.faults);
-        simulated = refl;
-      },
-      front.matches,
-    )
+-- What lies behind in each image once a section was cut off: what a fault in the pick behind some first ones may leave.
+abbrev pub LeftBehind : View → Stamp → Contents → List (List Job) → (order serials : List ℕ) → Type 0
+LeftBehind w stamp c jobs order serials = (files : Files) → Image w files
+    → (o : Standing) × (decided : ℕ) × MayStand c (turn_of stamp serials jobs (take decided order) c.sequence).sequence (turn_of stamp serials jobs (take (decided + 1) order) c.sequence).sequence o × StandsSo files o
+
+pub left_after : (stamp : Stamp) (c : Contents) (jobs : List (List Job)) (order serials : List ℕ) (files : Files) → (decided : ℕ) × LeftAfter stamp c jobs order serials decided files
+    → (o : Standing) × (decided : ℕ) × MayStand c (turn_of stamp serials jobs (take decided order) c.sequence).sequence (turn_of stamp serials jobs (take (decided + 1) order) c.sequence).sequence o × StandsSo files o
+left_after stamp c jobs order serials files x = (x.1.standing, x.0, x.1.may, stands_with files x.1.standing x.1.stands)
 
 -- what is hardened is a front that has all
 pub decided_front : (w : View) (told : Bool) (c : Contents) (jobs : List (List Job)) (order : List ℕ) (r new : Reign) (before now : List ℕ) → HasDecided w told c jobs order r new before now
@@ -279,6 +266,17 @@ decided_front w told c jobs order r new before now d =
           open_site w (with_sequence c all) new.site (subst (λ (b : Bool). Reigns w b (with_sequence c all) new) sure d.reigns) files i,
         );
       }),
+    )
+
+-- with nothing behind it
+pub decided_left : (w : View) (nothing : NothingIsLeft w) (told : Bool) (c : Contents) (jobs : List (List Job)) (order : List ℕ) (r new : Reign) (before now : List ℕ) → HasDecided w told c jobs order r new before now
+    → told ≡ true → LeftBehind w (stamp_of r) c jobs order r.serials
+decided_left w nothing told c jobs order r new before now d sure files i =
+    let all = (turn_of (stamp_of r) r.serials jobs order c.sequence).sequence in (
+      bare (with_sequence c all),
+      length order,
+      inl (ap (λ (x : List ℕ). bare (with_sequence c (turn_of (stamp_of r) r.serials jobs x c.sequence).sequence)) (sym (take-length order))),
+      open_images w nothing told (with_sequence c all) new.site sure d.reigns files i,
     )
 
 -- the fronts of one sequence, if it has any
@@ -337,6 +335,91 @@ among_runs stamp serials jobs order c o n g =
       | inr all ↦ front_among_all runs (length order) (length order) c (length c.sequence) o (omega arith) (subst (λ (x : List ℕ). IsFrontOf (turn_of stamp serials jobs x c.sequence).sequence (length c.sequence) c o) (take_past n order all) g)
     ]
 
+-- what a fault in the pick between two sequences may leave, as a list, whether the second one is longer or not
+abbrev pub stands_if : ℕ → Contents → (before after : Sequence) → List Standing
+stands_if zero c before after = stands_within c before after
+stands_if (suc x) c before after = bare (with_sequence c before) ∷ []
+
+are_stands_if : (x : ℕ) (c : Contents) (before after : Sequence) (o : Standing) → length before - length after ≡ x → Among (stands_if x c before after) o → MayStand c before after o
+are_stands_if zero c before after o e a = may_stand_is c before after o (omega (arith, e)) a
+are_stands_if (suc x) c before after o e (inl is) = inl is
+are_stands_if (suc x) c before after o e (inr none) = absurd none
+
+stands_if_among : (x : ℕ) (c : Contents) (before after : Sequence) (o : Standing) → length before - length after ≡ x → MayStand c before after o → Among (stands_if x c before after) o
+stands_if_among zero c before after o e h = may_stand_among c before after o h
+stands_if_among (suc x) c before after o e (inl is) = inl is
+stands_if_among (suc x) c before after o e (inr f) = let least = f.front.least in let most = f.front.most in absurd (omega (arith, e, least, most))
+
+-- in one of the first picks
+abbrev pub all_stand : (ℕ → Sequence) → ℕ → Contents → List Standing
+all_stand f zero c = stands_if (length (f 0) - length (f (0 + 1))) c (f 0) (f (0 + 1))
+all_stand f (suc k) c = stands_if (length (f (suc k)) - length (f (suc k + 1))) c (f (suc k)) (f (suc k + 1)) ++ all_stand f k c
+
+are_all_stand : (f : ℕ → Sequence) (k : ℕ) (c : Contents) (o : Standing) → Among (all_stand f k c) o → (n : ℕ) × MayStand c (f n) (f (n + 1)) o
+are_all_stand f zero c o a = (0, are_stands_if (length (f 0) - length (f (0 + 1))) c (f 0) (f (0 + 1)) o refl a)
+are_all_stand f (suc k) c o a = elim (among_either (stands_if (length (f (suc k)) - length (f (suc k + 1))) c (f (suc k)) (f (suc k + 1))) (all_stand f k c) o a) [
+  | inl h ↦ (suc k, are_stands_if (length (f (suc k)) - length (f (suc k + 1))) c (f (suc k)) (f (suc k + 1)) o refl h)
+  | inr h ↦ are_all_stand f k c o h
+]
+
+stand_among_all : (f : ℕ → Sequence) (k n : ℕ) (c : Contents) (o : Standing) → n ≤ k → MayStand c (f n) (f (n + 1)) o → Among (all_stand f k c) o
+stand_among_all f zero n c o le h = stands_if_among (length (f 0) - length (f (0 + 1))) c (f 0) (f (0 + 1)) o refl (subst (λ (m : ℕ). MayStand c (f m) (f (m + 1)) o) (omega (arith, le)) h)
+stand_among_all f (suc k) n c o le h = elim (nat_cases n k le) [
+  | inl same ↦ among_first _ _ o (stands_if_among (length (f (suc k)) - length (f (suc k + 1))) c (f (suc k)) (f (suc k + 1)) o refl (subst (λ (m : ℕ). MayStand c (f m) (f (m + 1)) o) same h))
+  | inr less ↦ among_second _ _ o (stand_among_all f k n c o less h)
+]
+
+stand_among_runs : (stamp : Stamp) (serials : List ℕ) (jobs : List (List Job)) (order : List ℕ) (c : Contents) (o : Standing) (n : ℕ)
+    → MayStand c (runs_of stamp serials jobs order c.sequence n) (runs_of stamp serials jobs order c.sequence (n + 1)) o → Among (all_stand (runs_of stamp serials jobs order c.sequence) (length order) c) o
+stand_among_runs stamp serials jobs order c o n h =
+    let runs : ℕ → Sequence = runs_of stamp serials jobs order c.sequence in
+    let last : ℕ = length order in
+    elim (few_or_all n last) [
+      | inl few ↦ stand_among_all runs last n c o few h
+      | inr all ↦
+          let of = λ (x : List ℕ). (turn_of stamp serials jobs x c.sequence).sequence in
+          let here : runs n ≡ runs last = ap of (take_past n order all) in
+          let next : runs (n + 1) ≡ runs (last + 1) = ap of (take_past (n + 1) order (omega (arith, all)) ∙ sym (take_past (last + 1) order (omega arith))) in
+          stand_among_all runs last last c o (omega arith) (subst (λ (x : Sequence). MayStand c x (runs (last + 1)) o) here (subst (λ (x : Sequence). MayStand c (runs n) x o) next h))
+    ]
+
+-- what lies behind where a section was cut off
+stands_cut : (v w : View) (s : Site) (r : Reign) (jobs : List (List Job)) (order : List ℕ) (p : Place) → s.state ≡ Primary r → IsAt v s p → p.told ≡ true
+    → StandAfter (λ x o. (o ≡ x) ⊎ RunMayStandOn p.site jobs order p o) p.standings (Some (all_stand (runs_of (stamp_of r) r.serials jobs order p.now.sequence) (length order) p.now))
+stands_cut v w s r jobs order p st h sure =
+    let runs : ℕ → Sequence = runs_of (stamp_of r) r.serials jobs order p.now.sequence in
+    let is_open : IsOpen v r p = open_at v s r p st h in
+    subst (λ (x : Option (List Standing)). StandAfter (λ y o. (o ≡ y) ⊎ RunMayStandOn p.site jobs order p o) x (Some (all_stand runs (length order) p.now))) (sym (is_open.standings sure))
+    (λ o a. let k = are_all_stand runs (length order) p.now o a in (bare p.now, inl refl, inr (subst (λ (y : Option world.Site). RunMayStandOn y jobs order p o) (sym (site_is v s r p st h)) (k.0, k.1))))
+
+images_cut : (w : View) (stamp : Stamp) (serials : List ℕ) (jobs : List (List Job)) (order : List ℕ) (c : Contents) → LeftBehind w stamp c jobs order serials → ImagesStand w (Some (all_stand (runs_of stamp serials jobs order c.sequence) (length order) c))
+images_cut w stamp serials jobs order c f files i = let x = f files i in (x.0, stand_among_runs stamp serials jobs order c x.0 x.1 x.2, x.3)
+
+-- it was cut off once some jobs were decided, of which at least these are hardened
+pub run_cut : (leftovers : Leftovers) (v w : View) (s : Site) (r : Reign) (jobs : List (List Job)) (order : List ℕ) → IsLawful v → IsLawful w → s.state ≡ Primary r → w.simulated ≡ v.simulated → v.faults ≤ w.faults
+    → ((told : Bool) (c : Contents) → Reigns v told c r → (m low : ℕ) × (length c.sequence ≤ low) × MayHaveFront w told c (turn_of (stamp_of r) r.serials jobs (take m order) c.sequence).sequence low)
+    → ((told : Bool) (c : Contents) → Reigns v told c r → told ≡ true → LeftBehind w (stamp_of r) c jobs order r.serials) → IsCutAt (run jobs order s.name) v s w
+run_cut leftovers v w s r jobs order was law st same later f lefts p h =
+    let reigns = reigns_at v s r p st h in
+    let d : (m low : ℕ) × (length p.now.sequence ≤ low) × MayHaveFront w p.told p.now (turn_of (stamp_of r) r.serials jobs (take m order) p.now.sequence).sequence low = f p.told p.now reigns in
+    let m : ℕ = d.0 in
+    let low : ℕ = d.1 in
+    let all = (turn_of (stamp_of r) r.serials jobs (take m order) p.now.sequence).sequence in
+    let list : List Standing = all_stand (runs_of (stamp_of r) r.serials jobs order p.now.sequence) (length order) p.now in
+    let front = front_place leftovers w p p.site all low (Some list) law (same ∙ h.disk.simulated) d.3 (λ sure. images_cut w (stamp_of r) r.serials jobs order p.now (lefts p.told p.now reigns sure)) in
+    let lower : (o : Contents) → IsFrontOf all low p.now o → IsFrontOf all (length p.now.sequence) p.now o = λ o g. record { count = g.count; least = omega (arith, d.2, g.least); most = g.most; is = g.is } in (
+      record { site = p.site; told = p.told; now = front.now; left = front.left; outcomes = fronts p.now all low (length all - low); standings = Some list; faults = w.faults; simulated = p.simulated },
+      record {
+        told = refl;
+        outcomes = λ sure o a. let x = some_outcome v p was h.disk sure in
+            inr (x.0, x.1, subst (λ (y : Option world.Site). RunMayLeaveOn y jobs order p o) (sym (site_is v s r p st h)) (m, lower o (front.fronts_all sure o a)));
+        standings = λ sure. stands_cut v w s r jobs order p st h sure;
+        faults = omega (arith, later, h.disk.faults);
+        simulated = refl;
+      },
+      front.matches,
+    )
+
 -- it was cut off once some jobs were decided, and each image may have its own number of them
 pub run_cut_any : (leftovers : Leftovers) (v w : View) (s : Site) (r : Reign) (jobs : List (List Job)) (order : List ℕ) → IsLawful v → IsLawful w → s.state ≡ Primary r → w.simulated ≡ v.simulated → v.faults ≤ w.faults
     → ((told : Bool) (c : Contents) → Reigns v told c r → MayLeave w (stamp_of r) told c jobs order r.serials) → IsCutAt (run jobs order s.name) v s w
@@ -345,13 +428,16 @@ run_cut_any leftovers v w s r jobs order was law st same later f p h =
     let low : ℕ = length p.now.sequence in
     let runs : ℕ → Sequence = runs_of (stamp_of r) r.serials jobs order p.now.sequence in
     let list = all_fronts runs (length order) p.now low in
-    let m = place_of_images leftovers w p p.site list None law (same ∙ h.disk.simulated) d.told (λ is c i. let o = d.images is c i in (o.0, among_runs (stamp_of r) r.serials jobs order p.now o.0 o.1.0 o.1.1, inr o.2)) (λ sure. tt) in (
-      record { site = p.site; told = p.told; now = m.now; left = m.left; outcomes = list; standings = None; faults = w.faults; simulated = p.simulated },
+    let stand : List Standing = all_stand runs (length order) p.now in
+    let behind : p.told ≡ true → LeftBehind w (stamp_of r) p.now jobs order r.serials = λ sure files i. left_after (stamp_of r) p.now jobs order r.serials files (d.left sure files i) in
+    let m = place_of_images leftovers w p p.site list (Some stand) law (same ∙ h.disk.simulated) d.told (λ is c i. let o = d.images is c i in (o.0, among_runs (stamp_of r) r.serials jobs order p.now o.0 o.1.0 o.1.1, inr o.2)) (λ sure. images_cut w (stamp_of r) r.serials jobs order p.now (behind sure)) in (
+      record { site = p.site; told = p.told; now = m.now; left = m.left; outcomes = list; standings = Some stand; faults = w.faults; simulated = p.simulated },
       record {
         told = refl;
         outcomes = λ is o a. let k = are_all_fronts runs (length order) p.now low o a in
             let x = some_outcome v p was h.disk is in
             inr (x.0, x.1, subst (λ (y : Option world.Site). RunMayLeaveOn y jobs order p o) (sym (site_is v s r p st h)) (k.0, k.1));
+        standings = λ sure. stands_cut v w s r jobs order p st h sure;
         faults = omega (arith, later, h.disk.faults);
         simulated = refl;
       },

@@ -23,8 +23,8 @@ use Rattle.world_defs.specs.Row.{first, refused_with, in_state, why_not_down}
 use Rattle.world_defs.specs.Changes.{in_new_state, After}
 use Rattle.world_defs.specs.rows.Start.{StartRefused, is_reign_limit, limited, generation_limit, reign_limit, FIRST_SERIALS, cycle_on, start}
 use Rattle.site_defs.specs.Limits.{no_reign_left}
-use Rattle.site_defs.specs.Opening.{MayBegin, opened, with_reign, next_stamp}
-use Rattle.world_defs.specs.Step.{LeftBy}
+use Rattle.site_defs.specs.Opening.{MayBegin, MayBeginLeft, opened, with_reign, next_stamp}
+use Rattle.world_defs.specs.Step.{LeftByRow}
 use Rattle.world_defs.specs.Ties.{Matches}
 use Rattle.site_defs.specs.Stands.{IsSite, HasLeft, Stands, Reads}
 use Rattle.site_defs.specs.Behind.{IsSiteWith}
@@ -36,7 +36,7 @@ use Rattle.site_runner.specs.Executes.{Comes}
 use Rattle.site_runner.specs.Steps.{IsAt, ExecutesAt, IsCutAt}
 use Rattle.site_runner.specs.Starting.{IsOpenedAt, BeginsAt, IsCutOpened}
 use Rattle.site_runner.proofs.Ats.{comes_done, comes_refused, comes_may_refuse, comes_fault, comes_damaged, refused_late, none_refused, kept_same, not_true, is_true_or_false, some_both, told_is, is_site, reads_site, stands_told, at_moment, reads_image, Leftovers, NothingIsLeft, ReadPlace, place_of_images, place_of_one, only, open_reads, open_images, state_at}
-use Rattle.site_runner.proofs.Ats.{StandForOne, ImagesStand, images_still, standing_there, at_image, standing_of, stands_with}
+use Rattle.site_runner.proofs.Ats.{left_new, StandForOne, ImagesStand, images_still, standing_there, at_image, standing_of, stands_with}
 use Rattle.site_runner.proofs.Seen.{counted, kept_counted}
 use Rattle.site_runner.proofs.Stopped.{length_tagged}
 use Rattle.site_runner.proofs.Begun.{limit_opened, stamp_opened, of_opened, of_begun, of_may_begin, begins, among_begins, begins_among, begins_so, begins_so_among, begun_so, generation_past, generation_left}
@@ -171,10 +171,19 @@ begun_place : (leftovers : Leftovers) (w : View) (s : Site) (p : Place) (site : 
 begun_place leftovers w s p site law b =
     place_of_images leftovers w p site (begins s.name p.left.broken p.outcomes) (begins_so s.name p.standings) law b.simulated b.still_told (λ sure f i. let k = b.images sure f i in (k.0, begins_among s.name p.left.broken p.outcomes k.1.0 k.0 k.1.1 k.1.2, k.2)) b.standings
 
-pub begun_cut : (leftovers : Leftovers) (w : View) (s : Site) (p : Place) → IsLawful w → MayHaveBegun w s p → p.faults ≤ w.faults → (q : Place) × LeftBy (start s.name p).left p q × Matches w q
+pub begun_cut : (leftovers : Leftovers) (w : View) (s : Site) (p : Place) → IsLawful w → MayHaveBegun w s p → p.faults ≤ w.faults → (q : Place) × LeftByRow (start s.name p) p q × Matches w q
 begun_cut leftovers w s p law b later =
-    let m = begun_place leftovers w s p p.site law b in
-    (record { site = p.site; told = p.told; now = m.now; left = m.left; outcomes = begins s.name p.left.broken p.outcomes; standings = begins_so s.name p.standings; faults = w.faults; simulated = p.simulated }, record { told = refl; outcomes = λ sure o a. inr (among_begins s.name p.left.broken p.outcomes o a); faults = later; simulated = refl }, m.matches)
+    let m = begun_place leftovers w s p p.site law b in (
+      record { site = p.site; told = p.told; now = m.now; left = m.left; outcomes = begins s.name p.left.broken p.outcomes; standings = begins_so s.name p.standings; faults = w.faults; simulated = p.simulated },
+      record {
+        told = refl;
+        outcomes = λ sure o a. inr (among_begins s.name p.left.broken p.outcomes o a);
+        standings = λ sure. left_new (MayBeginLeft s.name) p.standings (begins_so s.name p.standings) (begun_so s.name p.standings);
+        faults = later;
+        simulated = refl;
+      },
+      m.matches,
+    )
 
 -- what START answers from a place
 abbrev pub Answers : View → Site → Place → Site → List ℕ → List ℕ → Bool → Type 0

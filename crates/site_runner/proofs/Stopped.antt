@@ -22,7 +22,7 @@ use Rattle.site_defs.specs.Contents.{Leftover, NO_LEFTOVER, same_name, bare}
 use Rattle.world_defs.specs.Answers.{Refusal, line}
 use Rattle.world_defs.specs.Row.{Row, or_else, refused_with, in_state, why_not_open}
 use Rattle.world_defs.specs.Changes.{in_new_state}
-use Rattle.world_defs.specs.Step.{LeftBy}
+use Rattle.world_defs.specs.Step.{LeftByRow}
 use Rattle.world_defs.specs.Ties.{Matches}
 use Rattle.world_defs.specs.Meaning.{row_at}
 use Rattle.world_defs.specs.rows.Extract.{extract}
@@ -44,7 +44,7 @@ use Rattle.site_runner.specs.Named.{row_in}
 use Rattle.site_runner.proofs.Results.{on_errs}
 use Rattle.site_runner.specs.Steps.{state_text, IsAt, ExecutesAt, IsCutAt}
 use Rattle.site_runner.proofs.Cuts.{split_and}
-use Rattle.site_runner.proofs.Ats.{comes_done, comes_so, on_done, state_at, kept_same, only, ImagesStand}
+use Rattle.site_runner.proofs.Ats.{stand_same, left_old, comes_done, comes_so, on_done, state_at, kept_same, only, ImagesStand}
 
 pub names_same : (a b : Name) → same_name a b ≡ true → a ≡ b
 names_same [] [] e = refl
@@ -74,11 +74,11 @@ executes_here {D} view row old disk site new before now done e x p h =
 pub cut_here : {D : Type 0} (view : D → View) (row : Name → Place → Row) (old new : Slot D) (site : Site) → old.site ≡ Some site → IsCutAt (row site.name) (view old.disk) site (view new.disk) → IsCutHere view (row_at row) old new
 cut_here view row old new site e x p h =
     let at_p = slot_at view old site p e h in
-    subst (λ (n : Name). (q : Place) × LeftBy (row n p).left p q × Matches (view new.disk) q) (sym (ap name_on at_p.site)) (x p at_p)
+    subst (λ (n : Name). (q : Place) × LeftByRow (row n p) p q × Matches (view new.disk) q) (sym (ap name_on at_p.site)) (x p at_p)
 
 -- nothing was done to the disk
 pub cut_kept : {D : Type 0} (view : D → View) (row : Place → Row) (old new : Slot D) → new.disk ≡ old.disk → IsCutHere view row old new
-cut_kept {D} view row old new e p h = (p, record { told = refl; outcomes = λ t o a. inl a; faults = omega arith; simulated = refl }, subst (λ (d : D). Matches (view d) p) (sym e) h.disk)
+cut_kept {D} view row old new e p h = (p, record { told = refl; outcomes = λ t o a. inl a; standings = λ t. left_old (row p).left_so p.standings p.standings (stand_same p.standings); faults = omega arith; simulated = refl }, subst (λ (d : D). Matches (view d) p) (sym e) h.disk)
 
 -- An arm of the commands that takes the site.
 

@@ -6,7 +6,7 @@ use Rattle.command_defs.specs.Commands.{Name, Region}
 use Rattle.site_defs.specs.Lists.{Among}
 use Rattle.site_defs.specs.Contents.{Contents, is_made}
 use Rattle.world_defs.specs.World.{Place}
-use Rattle.world_defs.specs.Step.{LeftBy}
+use Rattle.world_defs.specs.Step.{LeftByRow}
 use Rattle.world_defs.specs.Ties.{Matches}
 use Rattle.world_defs.specs.rows.Create.{create}
 use Rattle.site_runner.specs.declared.slot.Slot.{Slot}
@@ -28,4 +28,4 @@ MakesHere view name regions old new before now done = (p : Place) → IsPlace vi
 
 -- It was cut off for want of memory.
 abbrev pub MakingIsCut : {D : Type 0} → (D → View) → Name → List Region → Slot D → Slot D → Type 0
-MakingIsCut view name regions old new = (p : Place) → IsPlace view old p → IsUnmade p → (q : Place) × LeftBy (create regions name p).left p q × Matches (view new.disk) q
+MakingIsCut view name regions old new = (p : Place) → IsPlace view old p → IsUnmade p → (q : Place) × LeftByRow (create regions name p) p q × Matches (view new.disk) q

@@ -5,7 +5,7 @@ use Rattle.command_defs.specs.Commands.{Command}
 use Rattle.world_defs.specs.World.{Place, World}
 use Rattle.world_defs.specs.Answers.{Answer}
 use Rattle.world_defs.specs.Row.{Row, Here}
-use Rattle.world_defs.specs.Step.{is_done, Step, LeftBy, CutOff}
+use Rattle.world_defs.specs.Step.{is_done, Step, LeftByRow, CutOff}
 use Rattle.world_defs.specs.Ties.{Matches}
 use Rattle.site_runner.specs.declared.slot.Slot.{Slot}
 use Rattle.site_runner.specs.Tied.{IsPlace, Tied, Matched}
@@ -26,7 +26,7 @@ ExecutesHere view row old new before now done = (p : Place) → IsPlace view old
 
 -- It was cut off for want of memory.
 abbrev pub IsCutHere : {D : Type 0} → (D → View) → (Place → Row) → Slot D → Slot D → Type 0
-IsCutHere view row old new = (p : Place) → IsPlace view old p → (q : Place) × LeftBy (row p).left p q × Matches (view new.disk) q
+IsCutHere view row old new = (p : Place) → IsPlace view old p → (q : Place) × LeftByRow (row p) p q × Matches (view new.disk) q
 
 -- Whatever world the slots were, the command with some answers leads to one that they are, and this is its text.
 abbrev pub Executes : {D : Type 0} → (D → View) → Command → List (Slot D) → List (Slot D) → List ℕ → List ℕ → Type 0

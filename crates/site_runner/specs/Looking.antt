@@ -26,10 +26,11 @@ pub record Finds (found : Option Layout) (old new : Place) : Type 0 where
   pub now : IsTrue old.told → fits found old.now ≡ true
   pub outcomes : IsTrue old.told → (o : Contents) → Among new.outcomes o → fits found o ≡ true
 
--- no outcome is new
+-- no outcome is new, and no standing
 pub record LeavesOld (old new : Place) : Type 0 where
   pub told : new.told ≡ old.told
   pub outcomes : old.told ≡ true → NoNew old.outcomes new.outcomes
+  pub standings : old.told ≡ true → StandAsBefore old.standings new.standings
   pub faults : old.faults ≤ new.faults
   pub simulated : new.simulated ≡ old.simulated
 

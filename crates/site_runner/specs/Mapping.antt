@@ -8,7 +8,7 @@ use Rattle.world_defs.specs.World.{Place}
 use Rattle.site_defs.specs.Contents.{Contents, Standing}
 use Rattle.world_defs.specs.rows.Map.{map_pattern, twice_mapped}
 use Rattle.site_defs.specs.Limits.{region_number}
-use Rattle.world_defs.specs.Step.{LeftBy}
+use Rattle.world_defs.specs.Step.{LeftByRow}
 use Rattle.world_defs.specs.Ties.{Matches}
 use Rattle.site_defs.specs.Stands.{Stands, Reads}
 use Rattle.site_defs.specs.Behind.{StandsSo}
@@ -44,4 +44,4 @@ MapsAt region text v old w new before now done = (p : Place) → IsSeenAt v old 
 
 -- It was cut off for want of memory.
 abbrev pub IsCutSeen : Name → List ℕ → View → Site → View → Type 0
-IsCutSeen region text v old w = (p : Place) → IsSeenAt v old p → (q : Place) × LeftBy (map_pattern region text old.name p).left p q × Matches w q
+IsCutSeen region text v old w = (p : Place) → IsSeenAt v old p → (q : Place) × LeftByRow (map_pattern region text old.name p) p q × Matches w q

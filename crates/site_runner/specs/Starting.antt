@@ -9,7 +9,7 @@ use Rattle.world_defs.specs.World.{Place}
 use Rattle.site_defs.specs.Contents.{Contents}
 use Rattle.world_defs.specs.rows.Start.{generation_limit, start}
 use Rattle.site_defs.specs.Opening.{opened}
-use Rattle.world_defs.specs.Step.{LeftBy}
+use Rattle.world_defs.specs.Step.{LeftByRow}
 use Rattle.world_defs.specs.Ties.{Matches}
 use Rattle.site_runner.specs.declared.slot.Site.{Site}
 use Rattle.site_runner.specs.declared.slot.State.TheVariants.{Down}
@@ -43,4 +43,4 @@ BeginsAt v o old w new before now done = (p : Place) → IsOpenedAt v old o p
 
 -- It was cut off for want of memory.
 abbrev pub IsCutOpened : View → OpenSite → Site → View → Type 0
-IsCutOpened v o old w = (p : Place) → IsOpenedAt v old o p → (q : Place) × LeftBy (start old.name p).left p q × Matches w q
+IsCutOpened v o old w = (p : Place) → IsOpenedAt v old o p → (q : Place) × LeftByRow (start old.name p) p q × Matches w q

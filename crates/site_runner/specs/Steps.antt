@@ -8,7 +8,7 @@ use Rattle.repl_section.specs.Reigns.{stamp_of}
 use Rattle.world_defs.specs.World.{Place}
 use Rattle.world_defs.specs.Answers.{line}
 use Rattle.world_defs.specs.Row.{Row}
-use Rattle.world_defs.specs.Step.{LeftBy}
+use Rattle.world_defs.specs.Step.{LeftByRow}
 use Rattle.world_defs.specs.rows.Show.{reign_text}
 use Rattle.world_defs.specs.Ties.{Matches}
 use Rattle.site_runner.specs.declared.slot.State.{State}
@@ -39,4 +39,4 @@ ExecutesAt row v old w new before now done = (p : Place) → IsAt v old p → Co
 
 -- It was cut off for want of memory.
 abbrev pub IsCutAt : (Place → Row) → View → Site → View → Type 0
-IsCutAt row v old w = (p : Place) → IsAt v old p → (q : Place) × LeftBy (row p).left p q × Matches w q
+IsCutAt row v old w = (p : Place) → IsAt v old p → (q : Place) × LeftByRow (row p) p q × Matches w q

@@ -32,6 +32,8 @@ pub record Row : Type 1 where
   pub may_refuse : Refusal → Place → Type 0
   -- what a fault might have left of an outcome, beside the outcome itself, where the command is cut off for want of memory
   pub left : Contents → Contents → Type 0
+  -- and of a standing
+  pub left_so : Standing → Standing → Type 0
 
 -- A command that is neither refused nor done, and can't fail. Each row says what is different.
 abbrev pub quiet : Name → Place → Row
@@ -49,6 +51,7 @@ quiet word p = record {
   refused = λ r q. Kept p q;
   may_refuse = λ r q. ⊥;
   left = λ c o. ⊥;
+  left_so = λ s o. ⊥;
 }
 
 -- and it may find bytes outside the formats
@@ -57,7 +60,7 @@ reading word p = record (quiet word p) { damage = λ file offset q. KeptUnknown 
 
 -- and a fault may leave an outcome after a step, and a standing after the same step with what lies behind
 abbrev pub writing : Name → (Contents → Contents → Type 0) → (Standing → Standing → Type 0) → Place → Row
-writing word step so p = record (reading word p) { fault = λ k q. Fails k (in_new_state (Failed k) p.site) step (StandAfter so) p q; left = step }
+writing word step so p = record (reading word p) { fault = λ k q. Fails k (in_new_state (Failed k) p.site) step (StandAfter so) p q; left = step; left_so = so }
 
 -- the first cause of these
 abbrev pub first : List (Option Cause) → Option Cause

@@ -2,8 +2,8 @@
 use Rattle.std.specs.Prelude.{◌≡◌, ◌⊎◌, ℕ, ◌≤◌, Bool, true, false, List, [], ◌∷◌, ◌++◌, Option, Some}
 use Rattle.command_defs.specs.Commands.{Command}
 use Rattle.site_defs.specs.Lists.{Among, Along, At}
-use Rattle.site_defs.specs.Contents.{Contents}
-use Rattle.world_defs.specs.World.{Place, World, IfKnown, Unchanged}
+use Rattle.site_defs.specs.Contents.{Contents, Standing}
+use Rattle.world_defs.specs.World.{Place, World, IfKnown, StandAfter, Unchanged}
 use Rattle.world_defs.specs.Answers.{Refusal, Answer, Done, Refused, DiskFault, NotAFile, Ran, Typed, refusal_line}
 use Rattle.world_defs.specs.Changes.{After}
 use Rattle.world_defs.specs.Row.{Row, refusal_in, Here}
@@ -39,24 +39,30 @@ Goes (Then i row others next) answers w m t = (a : Answer) × (u : World) × (s 
 abbrev pub Step : World → Command → List Answer → World → List ℕ → Type 0
 Step w c answers m t = Goes (meaning w c) answers w m t
 
--- At a place, once a command was cut off: each outcome is an old one, or one after a step.
-pub record LeftBy (step : Contents → Contents → Type 0) (old new : Place) : Type 0 where
+-- At a place, once a command was cut off: each outcome is an old one, or one after a step. As much is known of what lies behind as before: each standing is an old one, or one after a step of
+-- its own.
+pub record LeftBy (step : Contents → Contents → Type 0) (so : Standing → Standing → Type 0) (old new : Place) : Type 0 where
   pub told : new.told ≡ old.told
   pub outcomes : IfKnown old ((o : Contents) → Among new.outcomes o → Among old.outcomes o ⊎ After step old.outcomes o)
+  pub standings : IfKnown old (StandAfter (λ s o. (o ≡ s) ⊎ so s o) old.standings new.standings)
   pub faults : old.faults ≤ new.faults
   pub simulated : new.simulated ≡ old.simulated
 
--- each outcome is an old one
+-- by that row
+abbrev pub LeftByRow : Row → Place → Place → Type 0
+LeftByRow row old new = LeftBy row.left row.left_so old new
+
+-- each outcome is an old one, and so is each standing
 abbrev pub LeavesOld : Place → Place → Type 0
-LeavesOld old new = LeftBy (λ c o. ⊥) old new
+LeavesOld old new = LeftBy (λ c o. ⊥) (λ s o. ⊥) old new
 
 abbrev pub IsCut : Meaning → World → World → Type 0
 IsCut (No r) w m = Along (λ i. LeavesOld) w.places m.places
-IsCut (Acts i row others) w m = At i (LeftBy row.left) (λ j. LeavesOld) w.places m.places
-IsCut (Then i row others next) w m = At i (LeftBy row.left) (λ j. LeavesOld) w.places m.places
+IsCut (Acts i row others) w m = At i (LeftByRow row) (λ j. LeavesOld) w.places m.places
+IsCut (Then i row others next) w m = At i (LeftByRow row) (λ j. LeavesOld) w.places m.places
     ⊎ ((a : Answer) × (u : World) × (s : List ℕ) × One i row others a w u s × IsCut (next u) u m)
 
--- A command that was cut off for want of memory leaves old outcomes, and at its own place those that a fault there might have left.
+-- A command that was cut off for want of memory leaves old outcomes and standings, and at its own place those that a fault there might have left.
 abbrev pub CutOff : World → Command → World → Type 0
 CutOff w c m = IsCut (meaning w c) w m
 

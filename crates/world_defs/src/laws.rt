@@ -1,11 +1,12 @@
 // What the definitions come to on small values.
-ghost use Rattle.std.specs.Prelude.{◌≡◌, ◌∷◌, ◌++◌, [], ℕ, List, codes, Some, None, true, false};
+ghost use Rattle.std.specs.Prelude.{◌≡◌, ◌⊎◌, ◌∷◌, ◌++◌, [], ℕ, List, codes, Some, None, IsSomeAnd, true, false};
 ghost use Rattle.journal_defs.specs.Instance as records;
 ghost use Rattle.journal_defs.specs.Instance.{InstanceRecord};
 ghost use Rattle.global_defs.specs.Entry.{Sequence};
-ghost use Rattle.site_defs.specs.Contents.{nothing, bare};
+ghost use Rattle.site_defs.specs.Contents.{Standing, nothing, bare};
 ghost use Rattle.site_defs.specs.Fronts.{turn_of};
 ghost use Rattle.site_defs.specs.Limits.{region_number};
+ghost use Rattle.site_defs.specs.Lists.{Among};
 ghost use Rattle.site_defs.specs.Opening.{opened, with_pattern};
 ghost use Rattle.site_defs.specs.Samples.{made, reigned_once, two_regions};
 ghost use Rattle.command_defs.specs.Commands.{Attach, Create, StartPrimary, Stop, Crash, Show, with_images};
@@ -20,7 +21,7 @@ ghost use Rattle.world_defs.specs.rows.Print.{no_file, typed};
 ghost use Rattle.world_defs.specs.rows.Run.{section_text};
 ghost use Rattle.world_defs.specs.rows.Show.{show_state};
 ghost use Rattle.world_defs.specs.rows.Start.{FIRST_SERIALS, StartsPrimary, generation_limit, reign_limit, start};
-ghost use Rattle.world_defs.specs.Step.{Step, refusal, refusal_of};
+ghost use Rattle.world_defs.specs.Step.{LeavesOld, LeftByRow, Step, refusal, refusal_of};
 ghost use Rattle.world_defs.specs.Samples.{failed_place, torn_place, blank_place, made_place, switching};
 
 /// A world without disks refuses what needs one; one whose only disk failed refuses what needs it until a crash.
@@ -66,11 +67,14 @@ pub fn typing_holds()
     ensures nothing { no_file 3 made_place ≡ Some NoFile }
 {}
 
-/// A crash leaves what lay behind its contents, the next START writes exactly that down, and nothing lies behind any more.
+/// A crash leaves what lay behind its contents, the next START writes exactly that down, and nothing lies behind any more. A command
+/// that was cut off leaves it where it lay, unless it was a START that wrote it down.
 pub fn leftovers_are_written()
     ensures crashed { (q : Place) → Crashes torn_place q → q.left.broken ≡ codes "x" }
     ensures started { (p q : Place) → Crashes torn_place p → StartsPrimary (codes "A") p q → q.now.texts ≡ codes "x" ∷ [] }
     ensures bare { (p q : Place) → StartsPrimary (codes "A") p q → q.standings ≡ Some (bare q.now ∷ []) }
+    ensures cut_off { (q : Place) → LeavesOld torn_place q → IsSomeAnd q.standings (λ os. (o : Standing) → Among os o → o.broken ≡ codes "x") }
+    ensures cut_start { (q : Place) → LeftByRow (start (codes "A") torn_place) torn_place q → IsSomeAnd q.standings (λ os. (o : Standing) → Among os o → (o.broken ≡ codes "x") ⊎ (o.contents.texts ≡ codes "x" ∷ [])) }
 {}
 
 /// The lines of a refusal, of a fault, of a site that is shown, and of a section that a fault ended.

@@ -1,12 +1,11 @@
 -- The world that slots come to, for slots of any kind: R ties a slot to its place before, S after.
 use Rattle.std.proofs.Common.{◌≡◌, ℕ, zero, suc, List, [], ◌∷◌, Some, slice_get, refl, sym, subst}
-use Rattle.site_defs.specs.Contents.{Contents}
 use Rattle.site_defs.specs.Lists.{Along, At}
 use Rattle.world_defs.specs.World.{Place, World}
 use Rattle.world_defs.specs.Answers.{Answer}
 use Rattle.world_defs.specs.Row.{Row, Here}
 use Rattle.world_defs.specs.Meaning.{Others, Meaning, Acts}
-use Rattle.world_defs.specs.Step.{One, LeftBy, LeavesOld, IsCut}
+use Rattle.world_defs.specs.Step.{One, LeftByRow, LeavesOld, IsCut}
 
 module _ {X Y : Type 0} (R : X → Place → Type 0) (S : Y → Place → Type 0) where
   along_build : (Q : ℕ → Place → Place → Type 0) (olds : List X) (news : List Y) (ps : List Place) → Along (λ j. R) olds ps
@@ -57,21 +56,20 @@ module _ {X Y : Type 0} (R : X → Place → Type 0) (S : Y → Place → Type 0
 same_place : (x p : Place) → Some x ≡ Some p → x ≡ p
 same_place x p e = cc
 
-at_left : (step : Contents → Contents → Type 0) (i : ℕ) (p q : Place) (Q : ℕ → Place → Place → Type 0) (ps ms : List Place) → slice_get ps i ≡ Some p → LeftBy step p q
-    → At i (λ old new. new ≡ q) Q ps ms → At i (LeftBy step) Q ps ms
-at_left step zero p q Q [] ms e l h = cc
-at_left step (suc i) p q Q [] ms e l h = cc
-at_left step zero p q Q (x ∷ ps) [] e l h = absurd h
-at_left step (suc i) p q Q (x ∷ ps) [] e l h = absurd h
-at_left step zero p q Q (x ∷ ps) (m ∷ ms) e l h =
-    (subst (λ (y : Place). LeftBy step y m) (sym (same_place x p e)) (subst (λ (y : Place). LeftBy step p y) (sym h.0) l), h.1)
-at_left step (suc i) p q Q (x ∷ ps) (m ∷ ms) e l h = (h.0, at_left step i p q (λ j. Q (suc j)) ps ms e l h.1)
+at_left : (L : Place → Place → Type 0) (i : ℕ) (p q : Place) (Q : ℕ → Place → Place → Type 0) (ps ms : List Place) → slice_get ps i ≡ Some p → L p q
+    → At i (λ old new. new ≡ q) Q ps ms → At i L Q ps ms
+at_left L zero p q Q [] ms e l h = cc
+at_left L (suc i) p q Q [] ms e l h = cc
+at_left L zero p q Q (x ∷ ps) [] e l h = absurd h
+at_left L (suc i) p q Q (x ∷ ps) [] e l h = absurd h
+at_left L zero p q Q (x ∷ ps) (m ∷ ms) e l h = (subst (λ (y : Place). L y m) (sym (same_place x p e)) (subst (λ (y : Place). L p y) (sym h.0) l), h.1)
+at_left L (suc i) p q Q (x ∷ ps) (m ∷ ms) e l h = (h.0, at_left L i p q (λ j. Q (suc j)) ps ms e l h.1)
 
 -- A command that was cut off: the same lemma, with S for the disks alone.
 pub cut_lifted : {X Y : Type 0} (R : X → Place → Type 0) (S : Y → Place → Type 0) (x : Meaning) (i : ℕ) (row : Row) (others : Others) (p q : Place) (olds : List X) (news : List Y) (w : World)
-    → Along (λ j. R) olds w.places → slice_get w.places i ≡ Some p → x ≡ Acts i row others → LeftBy row.left p q
+    → Along (λ j. R) olds w.places → slice_get w.places i ≡ Some p → x ≡ Acts i row others → LeftByRow row p q
     → At i (λ x y. S y q) (λ j x y. (r : Place) → R x r → (s : Place) × LeavesOld r s × S y s) olds news
     → (m : World) × IsCut x w m × Along (λ j. S) news m.places
 cut_lifted R S x i row others p q olds news w h e is l f =
     let ms = at_build R S i q (λ j. LeavesOld) olds news w.places h f in
-    (record { places = ms.0 }, subst (λ (y : Meaning). IsCut y w (record { places = ms.0 })) (sym is) (at_left row.left i p q (λ j. LeavesOld) w.places ms.0 e l ms.1), ms.2)
+    (record { places = ms.0 }, subst (λ (y : Meaning). IsCut y w (record { places = ms.0 })) (sym is) (at_left (LeftByRow row) i p q (λ j. LeavesOld) w.places ms.0 e l ms.1), ms.2)

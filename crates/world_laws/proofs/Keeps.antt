@@ -2,13 +2,12 @@
 use Rattle.std.proofs.Common.{◌≡◌, inl, inr, ℕ, zero, suc, Bool, true, false, List, [], ◌∷◌, ◌++◌, Option, Some, None, slice_get, refl, sym, ◌∙◌, subst}
 use Rattle.std.specs.List.{AllByRecursion}
 use Rattle.command_defs.specs.Commands.{Name}
-use Rattle.site_defs.specs.Contents.{Contents}
 use Rattle.site_defs.specs.Lists.{Along, At}
 use Rattle.world_defs.specs.World.{Place, World, Kept, place_of}
 use Rattle.world_defs.specs.Answers.{NoSite, Refusal, Section, Answer, Done, Refused, DiskFault, NotAFile, Ran, Typed}
 use Rattle.world_defs.specs.Row.{Row, quiet, refusal_in, Here}
 use Rattle.world_defs.specs.Meaning.{Others, apart, Meaning, No, Acts, Then, Target, On, Open, refusing, at_found, there, row_at, meant}
-use Rattle.world_defs.specs.Step.{One, is_done, Further, Goes, LeftBy, LeavesOld, IsCut}
+use Rattle.world_defs.specs.Step.{One, is_done, Further, Goes, LeftByRow, LeavesOld, IsCut}
 
 -- what holds of each place of a world
 abbrev pub Everywhere : (Place → Type 0) → World → Type 0
@@ -23,7 +22,7 @@ pub record RowKeeps (I J : Place → Type 0) (p : Place) (row : Row) : Type 0 wh
   pub damage : (file offset : ℕ) (q : Place) → row.damage file offset q → I q
   pub refused : (r : Refusal) (q : Place) → row.refused r q → I q
   pub may_refuse : (r : Refusal) (q : Place) → row.may_refuse r q → I q
-  pub left : (q : Place) → LeftBy row.left p q → J q
+  pub left : (q : Place) → LeftByRow row p q → J q
 
 module _ (I J : Place → Type 0) where
   here_keeps : (p : Place) (row : Row) (a : Answer) (q : Place) (t : List ℕ) → RowKeeps I J p row → Here row a q t → I q
@@ -102,18 +101,18 @@ module _ (I J : Place → Type 0) (kept : (x y : Place) → Kept x y → I x →
   along_left (p ∷ ps) [] h k = absurd h
   along_left (p ∷ ps) (q ∷ qs) h k = (old p q h.0 k.0, along_left ps qs h.1 k.1)
 
-  at_left : (step : Contents → Contents → Type 0) (i : ℕ) (ps qs : List Place) → ((p : Place) → slice_get ps i ≡ Some p → (q : Place) → LeftBy step p q → J q)
-      → At i (LeftBy step) (λ j. LeavesOld) ps qs → AllByRecursion I ps → AllByRecursion J qs
-  at_left step i [] [] f h k = absurd h
-  at_left step i [] (q ∷ qs) f h k = absurd h
-  at_left step i (p ∷ ps) [] f h k = absurd h
-  at_left step zero (p ∷ ps) (q ∷ qs) f h k = (f p refl q h.0, along_left ps qs h.1 k.1)
-  at_left step (suc i) (p ∷ ps) (q ∷ qs) f h k = (old p q h.0 k.0, at_left step i ps qs f h.1 k.1)
+  at_left : (L : Place → Place → Type 0) (i : ℕ) (ps qs : List Place) → ((p : Place) → slice_get ps i ≡ Some p → (q : Place) → L p q → J q)
+      → At i L (λ j. LeavesOld) ps qs → AllByRecursion I ps → AllByRecursion J qs
+  at_left L i [] [] f h k = absurd h
+  at_left L i [] (q ∷ qs) f h k = absurd h
+  at_left L i (p ∷ ps) [] f h k = absurd h
+  at_left L zero (p ∷ ps) (q ∷ qs) f h k = (f p refl q h.0, along_left ps qs h.1 k.1)
+  at_left L (suc i) (p ∷ ps) (q ∷ qs) f h k = (old p q h.0 k.0, at_left L i ps qs f h.1 k.1)
 
   pub cut_keeps : (x : Meaning) (w m : World) → Keeps I J x w → IsCut x w m → Everywhere I w → Everywhere J m
   cut_keeps (No r) w m h c k = along_left w.places m.places c k
-  cut_keeps (Acts i row others) w m h c k = at_left row.left i w.places m.places (λ p e. (h.0 p e).left) c k
-  cut_keeps (Then i row others next) w m h (inl c) k = at_left row.left i w.places m.places (λ p e. (h.0 p e).left) c k
+  cut_keeps (Acts i row others) w m h c k = at_left (LeftByRow row) i w.places m.places (λ p e. (h.0 p e).left) c k
+  cut_keeps (Then i row others next) w m h (inl c) k = at_left (LeftByRow row) i w.places m.places (λ p e. (h.0 p e).left) c k
   cut_keeps (Then i row others next) w m h (inr c) k =
       let u = one_keeps i row others c.0 w c.1 c.2 h.0 h.1 c.3 k in
       cut_keeps (next c.1) c.1 m (h.2 c.1 u) c.4 u

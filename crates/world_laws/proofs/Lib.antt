@@ -11,4 +11,5 @@ pub mod RowsFit
 pub mod WorldsFit
 pub mod FreshFit
 pub mod StandsForOne
+pub mod Opens
 pub mod Settles

@@ -5,7 +5,7 @@ use Rattle.std.specs.List.{list_all}
 use Rattle.global_defs.specs.Jobs.{Job}
 use Rattle.command_defs.specs.Commands.{Name, Region, Command, Create, Attach, Map, StartPrimary, Run, Stop, Fuse, Crash, Extract, Zwrite, Show, Print}
 use Rattle.command_defs.specs.Sections.{IsFormed, is_updater}
-use Rattle.site_defs.specs.Contents.{Contents}
+use Rattle.site_defs.specs.Contents.{Contents, Standing}
 use Rattle.site_defs.specs.Lists.{Among}
 use Rattle.site_defs.specs.Opening.{MayBegin, MayMap}
 use Rattle.world_defs.specs.World.{Place, World, name_on, place_of, next_of}
@@ -31,14 +31,14 @@ abbrev pub RowFits : Place → Row → Type 0
 RowFits p row = RowKeeps IsFitPlace HasFitOutcomes p row
 
 -- each outcome is an old one, or one after a step
-fit-left : (step : Contents → Contents → Type 0) (p q : Place) → IsFitPlace p → (IsTrue p.told → (c o : Contents) → Among p.outcomes c → step c o → IsFitContents o) → LeftBy step p q → HasFitOutcomes q
-fit-left step p q h f l t o a = elim (l.outcomes told o a) [ inl old ↦ h.outcomes told o old | inr new ↦ f told new.0 o new.1 new.2 ]
+fit-left : (step : Contents → Contents → Type 0) (so : Standing → Standing → Type 0) (p q : Place) → IsFitPlace p → (IsTrue p.told → (c o : Contents) → Among p.outcomes c → step c o → IsFitContents o) → LeftBy step so p q → HasFitOutcomes q
+fit-left step so p q h f l t o a = elim (l.outcomes told o a) [ inl old ↦ h.outcomes told o old | inr new ↦ f told new.0 o new.1 new.2 ]
   where
     told : IsTrue p.told
     told = subst IsTrue l.told t
 
 pub fit-old : (p q : Place) → LeavesOld p q → IsFitPlace p → HasFitOutcomes q
-fit-old p q l h = fit-left (λ c o. ⊥) p q h (λ t c o a none. absurd none) l
+fit-old p q l h = fit-left (λ c o. ⊥) (λ s o. ⊥) p q h (λ t c o a none. absurd none) l
 
 -- a row that is done or refused
 fit-quiet : (name : Name) (early : Option Refusal) (done : Place → Type 0) (says : Place → List ℕ) (p : Place) → ((q : Place) → done q → IsFitPlace q) → IsFitPlace p
@@ -83,7 +83,7 @@ fit-start p h = record {
   damage = λ file offset q d. fit-unknown p q d h;
   refused = λ r q d. fit-refused_so (is_reign_limit r.cause) p q h d;
   may_refuse = λ r q d. fit-unknown p q d.2 h;
-  left = λ q l. fit-left (MayBegin name p.left.broken) p q h (λ t c o a m. (fit-begins_some name p h t c o a m).0) l;
+  left = λ q l. fit-left (MayBegin name p.left.broken) _ p q h (λ t c o a m. (fit-begins_some name p h t c o a m).0) l;
 }
   where
     name : Name
@@ -98,7 +98,7 @@ fit-map region text p h = record {
   damage = λ file offset q d. fit-unknown p q d h;
   refused = λ r q d. fit-kept p q d h;
   may_refuse = λ r q d. fit-unknown p q d.2 h;
-  left = λ q l. fit-left (MayMap region text) p q h (λ t c o a m. (fit-maps_some region text p h t c o a m).0) l;
+  left = λ q l. fit-left (MayMap region text) _ p q h (λ t c o a m. (fit-maps_some region text p h t c o a m).0) l;
 }
 
 fit-run : (jobs : List (List Job)) (order : List ℕ) (p : Place) → list_all is_updater order ≡ true → IsFitPlace p → RowFits p (row_at (run jobs order) p)
@@ -110,7 +110,7 @@ fit-run jobs order p updaters h = record {
   damage = λ file offset q d. absurd d;
   refused = λ r q d. fit-kept p q d h;
   may_refuse = λ r q d. absurd d;
-  left = λ q l. fit-left _ p q h (λ t c o a m. fit-run_left p.site jobs order p o refl updaters h t m) l;
+  left = λ q l. fit-left _ _ p q h (λ t c o a m. fit-run_left p.site jobs order p o refl updaters h t m) l;
 }
 
 fit-print : (g : ℕ) (p : Place) → IsFitPlace p → RowFits p (row_at (print g) p)
@@ -134,7 +134,7 @@ fit-create regions name p h = record {
   damage = λ file offset q d. fit-unknown p q d h;
   refused = λ r q d. fit-kept p q d h;
   may_refuse = λ r q d. fit-unknown p q d.1 h;
-  left = λ q l. fit-left (MayMake name regions) p q h made l;
+  left = λ q l. fit-left (MayMake name regions) _ p q h made l;
 }
   where
     made : IsTrue p.told → (c o : Contents) → Among p.outcomes c → MayMake name regions c o → IsFitContents o

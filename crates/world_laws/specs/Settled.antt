@@ -1,6 +1,7 @@
 -- Open sites.
-use Rattle.std.specs.Prelude.{◌≡◌, Option, Some, None}
-use Rattle.site_defs.specs.Contents.{NO_LEFTOVER}
+use Rattle.std.specs.Prelude.{◌≡◌, Option, Some, None, IsSomeAnd}
+use Rattle.site_defs.specs.Contents.{Standing, NO_LEFTOVER, bare}
+use Rattle.site_defs.specs.Lists.{Among}
 use Rattle.world_defs.specs.World.{State, Down, Primary, Failed, Site, Place, IfKnown, Settled}
 
 abbrev pub IsOpenState : State → Type 0
@@ -17,3 +18,7 @@ IsOpenSite (Some site) = IsOpenState site.state
 pub record IsSettledPlace (p : Place) : Type 0 where
   pub outcomes : IfKnown p (IsOpenSite p.site → Settled p)
   pub left : IfKnown p (IsOpenSite p.site → p.left ≡ NO_LEFTOVER)
+
+-- Where a site is open and its files are known, it's known what lies behind in each image: what is read, with nothing behind it.
+abbrev pub IsBarePlace : Place → Type 0
+IsBarePlace p = IfKnown p (IsOpenSite p.site → IsSomeAnd p.standings (λ os. (s : Standing) → Among os s → s ≡ bare p.now))

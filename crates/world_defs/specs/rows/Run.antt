@@ -77,10 +77,22 @@ abbrev pub RunMayLeaveOn : Option Site → List (List Job) → List ℕ → Plac
 RunMayLeaveOn None jobs order old o = ⊥
 RunMayLeaveOn (Some site) jobs order old o = RunMayLeave site.state jobs order old o
 
+-- and what lies behind it: what a fault may leave in the pick behind the first ones, which were decided
+abbrev pub RunMayStand : State → List (List Job) → List ℕ → Place → Standing → Type 0
+RunMayStand Down jobs order old o = ⊥
+RunMayStand (Failed k) jobs order old o = ⊥
+RunMayStand (Primary stamp serials) jobs order old o =
+    (decided : ℕ) × MayStand old.now (turn_of stamp serials jobs (take decided order) old.now.sequence).sequence (turn_of stamp serials jobs (take (decided + 1) order) old.now.sequence).sequence o
+
+abbrev pub RunMayStandOn : Option Site → List (List Job) → List ℕ → Place → Standing → Type 0
+RunMayStandOn None jobs order old o = ⊥
+RunMayStandOn (Some site) jobs order old o = RunMayStand site.state jobs order old o
+
 abbrev pub run : List (List Job) → (order : List ℕ) → Name → Place → Row
 run jobs order name p = record (quiet name p) {
   early = refused_with name (in_state why_not_primary p.site);
   ran = λ s q. Runs name jobs order s p q;
   tells = λ s. section_text name (length order) (turn_on p.site jobs s.picks p) s.fault;
   left = λ c o. RunMayLeaveOn p.site jobs order p o;
+  left_so = λ s o. RunMayStandOn p.site jobs order p o;
 }

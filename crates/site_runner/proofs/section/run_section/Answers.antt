@@ -14,8 +14,8 @@ use Rattle.site_runner.specs.Causes.{cause_value}
 use Rattle.site_runner.specs.Sites.{state_value, IsReadyState}
 use Rattle.site_runner.proofs.Ats.{kept_same, refuses_by, why_is}
 use Rattle.site_runner.proofs.Results.{err_holds}
-use Rattle.site_runner.proofs.LeftOut.{all_decided, all_fail_at, all_fail_in, all_may_leave}
-use Rattle.site_runner.proofs.Ran.{run_not_primary, ran, ran_to_fault, run_cut, run_cut_any, decided_front}
+use Rattle.site_runner.proofs.LeftOut.{all_decided, all_fail_at, all_fail_in, all_may_leave, left_same}
+use Rattle.site_runner.proofs.Ran.{run_not_primary, ran, ran_to_fault, left_after, run_cut, run_cut_any, decided_front, decided_left}
 use Rattle.site_runner.proofs.section.run_section.Goals as goal
 
 pub returns-in-Some-clause-done : goal.returns-in-Some-clause-done
@@ -41,8 +41,10 @@ returns-in_err-write_undecided-in-Err-Failed-clause-cut_off g c =
     let jobs = c.args.jobs in
     let order = c.args.order.now in
     let breaks = subst (λ (x : RunError). (told : Bool) (d : Contents) → Reigns v told d r → Breaks x w (stamp_of r) told d jobs order r.serials c.args.text.now c.run.new.text) c.in-Err-Failed.field-0-is e.breaks in
+    let fails = subst (λ (x : RunError). (told : Bool) (d : Contents) → Reigns v told d r → WithholdsNone x w (stamp_of r) told d jobs order r.serials c.args.text.now c.run.new.text) c.in-Err-Failed.field-0-is e.withholds_none in
     err_holds c.from_residual-in_err-write_undecided-in-Err-Failed.result _ (run_cut c.leftovers_hold.ensures v w c.args.site.now r (at_all jobs) order (g.met.D.Disk.lawful c.args.disk.now) (g.met.D.Disk.lawful c.run.new.disk) c.in-Primary.is e.simulated e.later
-    (λ told d reigns. let b = breaks told d reigns in let a = all_fail_at w (stamp_of r) told d jobs order r.serials c.in-Err-Failed.undecided c.args.text.now c.run.new.text b.0 b.1 in (b.0, a.hardened, a.begun, a.front)))
+    (λ told d reigns. let b = breaks told d reigns in let a = all_fail_at w (stamp_of r) told d jobs order r.serials c.in-Err-Failed.undecided c.args.text.now c.run.new.text b.0 b.1 in (b.0, a.hardened, a.begun, a.front))
+    (λ told d reigns sure files i. let x = fails told d reigns in left_after (stamp_of r) d (at_all jobs) order r.serials files (x.decided, left_same (stamp_of r) d jobs order r.serials x.decided files (x.left sure files i))))
 
 pub returns-in_ok-write_numbered-in-Ok-clause-done : goal.returns-in_ok-write_numbered-in-Ok-clause-done
 returns-in_ok-write_numbered-in-Ok-clause-done g c =
@@ -62,7 +64,9 @@ returns-in_err-write_numbered-in-Ok-clause-cut_off g c =
     let law = g.met.D.Disk.lawful c.run.new.disk in
     err_holds c.from_residual.result _ (run_cut c.leftovers_hold.ensures v w c.args.site.now c.in-Primary.reign (at_all c.args.jobs) c.args.order.now (g.met.D.Disk.lawful c.args.disk.now) law c.in-Primary.is e.simulated e.later
     (λ told d reigns. decided_front w told d (at_all c.args.jobs) c.args.order.now c.in-Primary.reign c.run.new.self c.args.text.now c.run.new.text
-    (all_decided w told d c.args.jobs c.args.order.now c.in-Primary.reign c.run.new.self c.args.text.now c.run.new.text (e.done told d reigns))))
+    (all_decided w told d c.args.jobs c.args.order.now c.in-Primary.reign c.run.new.self c.args.text.now c.run.new.text (e.done told d reigns)))
+    (λ told d reigns sure. decided_left w c.nothing_is_left.ensures told d (at_all c.args.jobs) c.args.order.now c.in-Primary.reign c.run.new.self c.args.text.now c.run.new.text
+    (all_decided w told d c.args.jobs c.args.order.now c.in-Primary.reign c.run.new.self c.args.text.now c.run.new.text (e.done told d reigns)) sure))
 
 pub returns-in_ok-write_undecided-in-Err-Failed-clause-done : goal.returns-in_ok-write_undecided-in-Err-Failed-clause-done
 returns-in_ok-write_undecided-in-Err-Failed-clause-done g c =

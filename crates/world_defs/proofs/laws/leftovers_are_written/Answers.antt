@@ -1,8 +1,10 @@
-use Rattle.std.proofs.Common.{◌≡◌, List, [], ◌∷◌, ◌++◌, ℕ, Some, refl, sym, ◌∙◌, ap, inl, inr}
-use Rattle.std.specs.Prelude.{codes}
+use Rattle.std.proofs.Common.{◌≡◌, List, [], ◌∷◌, ◌++◌, ℕ, Some, refl, sym, ◌∙◌, ap, subst, inl, inr}
+use Rattle.std.specs.Prelude.{◌⊎◌, codes, Option, None, IsSomeAnd}
 use Rattle.site_defs.specs.Contents.{Contents, Standing, bare}
+use Rattle.site_defs.specs.Lists.{Among}
+use Rattle.site_defs.specs.Opening.{MayBeginLeft}
 use Rattle.site_defs.specs.Samples.{made}
-use Rattle.world_defs.specs.World.{Place}
+use Rattle.world_defs.specs.World.{Place, StandAfter}
 use Rattle.world_defs.specs.rows.Crash.{Crashes, standing_now}
 use Rattle.world_defs.specs.Samples.{torn_place}
 use Rattle.world_defs.proofs.laws.leftovers_are_written.Goals as goal
@@ -23,3 +25,30 @@ returns-clause-started c p q d s =
 
 pub returns-clause-bare : goal.returns-clause-bare
 returns-clause-bare c p q s = s.becomes.known.standings ∙ ap (λ (o : Contents). Some (bare o ∷ [])) (sym s.becomes.known.now)
+
+-- What a command that was cut off leaves of that standing.
+
+abbrev torn : Standing
+torn = record { contents = made; broken = codes "x" }
+
+left : (so : Standing → Standing → Type 0) (P : Standing → Type 0) → P torn → ((o : Standing) → so torn o → P o) → (x : Option (List Standing)) → StandAfter (λ s o. (o ≡ s) ⊎ so s o) (Some (torn ∷ [])) x
+    → IsSomeAnd x (λ os. (o : Standing) → Among os o → P o)
+left so P old new None h = absurd h
+left so P old new (Some os) h = λ o a.
+    let s = h o a in
+    let is : s.0 ≡ torn = elim s.1 [ inl e ↦ e | inr none ↦ absurd none ] in
+    elim s.2 [
+      | inl e ↦ subst P (sym (e ∙ is)) old
+      | inr e ↦ new o (subst (λ (y : Standing). so y o) is e)
+    ]
+
+pub returns-clause-cut_off : goal.returns-clause-cut_off
+returns-clause-cut_off c q l = left (λ s o. ⊥) (λ o. o.broken ≡ codes "x") refl (λ o none. absurd none) q.standings (l.standings refl)
+
+written : (o : Standing) → MayBeginLeft (codes "A") torn o → (o.broken ≡ codes "x") ⊎ (o.contents.texts ≡ codes "x" ∷ [])
+written o (inl (inl e)) = inl (ap (λ (s : Standing). s.broken) e)
+written o (inl (inr k)) = inr (ap (λ (s : Standing). s.contents.texts) k.1)
+written o (inr e) = inr (ap (λ (s : Standing). s.contents.texts) e)
+
+pub returns-clause-cut_start : goal.returns-clause-cut_start
+returns-clause-cut_start c q l = left (MayBeginLeft (codes "A")) (λ o. (o.broken ≡ codes "x") ⊎ (o.contents.texts ≡ codes "x" ∷ [])) (inl refl) written q.standings (l.standings refl)

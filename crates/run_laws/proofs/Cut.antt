@@ -1,0 +1,66 @@
+-- What a command that was cut off leaves behind a sequence.
+use Rattle.std.proofs.Common.{◌≡◌, ℕ, List, [], ◌∷◌, ◌++◌, Option, Some, None, slice_get, refl, sym, ◌∙◌, ap, subst, inl, inr}
+use Rattle.std.specs.Prelude.{◌⊎◌}
+use Rattle.global_defs.specs.Jobs.{Job}
+use Rattle.command_defs.specs.Commands.{Name, Run, StartPrimary}
+use Rattle.site_defs.specs.Contents.{Standing}
+use Rattle.site_defs.specs.Opening.{MayBeginLeft}
+use Rattle.world_defs.specs.World.{State, Down, Primary, Failed, Site, Place, World, StandAfter, name_on, place_of}
+use Rattle.world_defs.specs.Answers.{NoSite}
+use Rattle.world_defs.specs.Row.{Row}
+use Rattle.world_defs.specs.Meaning.{Meaning, Acts, apart, refusing, at_found, there, on_site, row_at}
+use Rattle.world_defs.specs.Step.{LeftByRow, LeavesOld, IsCut, CutOff}
+use Rattle.world_defs.specs.rows.Run.{RunMayStand, RunMayStandOn, run}
+use Rattle.world_defs.specs.rows.Start.{start}
+use Rattle.run_laws.specs.Entries.{IsPlaceOf}
+use Rattle.run_laws.specs.Leftovers.{IsWrittenDown, IsLeftWithin, LeavesBehind}
+use Rattle.run_laws.proofs.Alongs.{at_there}
+
+-- a command on a site that was cut off leaves its place by its row
+left_there : (row : Name → Place → Row) (w m : World) (name : Name) (p q : Place) → IsPlaceOf name w m p q → IsCut (on_site w name (λ i x. Acts i (row_at row x) apart)) w m → LeftByRow (row_at row p) p q
+left_there row w m name p q at h = at_there (LeftByRow (row_at row p)) (λ j. LeavesOld) at.number p q w.places m.places (subst (λ (x : Meaning). IsCut x w m) is h) at.before at.behind
+  where
+    f : ℕ → Place → Meaning
+    f i x = Acts i (row_at row x) apart
+
+    is : there (refusing name NoSite) w (place_of w name) f ≡ f at.number p
+    is = ap (λ (o : Option ℕ). there (refusing name NoSite) w o f) at.named ∙ ap (λ (x : Option Place). at_found (refusing name NoSite) at.number x f) at.before
+
+stand_so : (A B : Standing → Standing → Type 0) → ((s o : Standing) → A s o → B s o) → (x y : Option (List Standing)) → StandAfter (λ s o. (o ≡ s) ⊎ A s o) x y → StandAfter (λ s o. (o ≡ s) ⊎ B s o) x y
+stand_so A B f None y h = tt
+stand_so A B f (Some os) None h = h
+stand_so A B f (Some os) (Some ns) h = λ o a. let s = h o a in (s.0, s.1, elim s.2 [ inl e ↦ inl e | inr k ↦ inr (f s.0 o k) ])
+
+-- a section
+
+within : (jobs : List (List Job)) (order : List ℕ) (p : Place) (o : Standing) → RunMayStandOn p.site jobs order p o → IsLeftWithin jobs order p o
+within jobs order p o h = on p.site refl h
+  where
+    by_state : (name : Name) (state : State) → p.site ≡ Some (record { name = name; state = state }) → RunMayStand state jobs order p o → IsLeftWithin jobs order p o
+    by_state name Down e k = absurd k
+    by_state name (Failed fault) e k = absurd k
+    by_state name (Primary stamp serials) e k = rw e (k.0, k.1)
+
+    on : (x : Option Site) → p.site ≡ x → RunMayStandOn x jobs order p o → IsLeftWithin jobs order p o
+    on None e k = absurd k
+    on (Some site) e k = by_state site.name site.state e k
+
+pub section-cut : (w m : World) (name : Name) (jobs : List (List Job)) (order : List ℕ) (p q : Place) → CutOff w (Run name jobs order) m → IsPlaceOf name w m p q → LeavesBehind (λ s o. IsLeftWithin jobs order p o) p q
+section-cut w m name jobs order p q h at t =
+    let l = left_there (run jobs order) w m name p q at h in
+    stand_so (λ s o. RunMayStandOn p.site jobs order p o) (λ s o. IsLeftWithin jobs order p o) (λ s o k. within jobs order p o k) p.standings q.standings (l.standings t)
+
+-- a START
+
+begun : (name : Name) (s o : Standing) → MayBeginLeft name s o → (o ≡ s) ⊎ IsWrittenDown s o
+begun name s o (inl (inl e)) = inl e
+begun name s o (inl (inr k)) = inr (record { text = ap (λ (x : Standing). x.contents.texts) k.1; nothing = ap (λ (x : Standing). x.broken) k.1 })
+begun name s o (inr e) = inr (record { text = ap (λ (x : Standing). x.contents.texts) e; nothing = ap (λ (x : Standing). x.broken) e })
+
+begun_so : (name : Name) (x y : Option (List Standing)) → StandAfter (λ s o. (o ≡ s) ⊎ MayBeginLeft name s o) x y → StandAfter (λ s o. (o ≡ s) ⊎ IsWrittenDown s o) x y
+begun_so name None y h = tt
+begun_so name (Some os) None h = h
+begun_so name (Some os) (Some ns) h = λ o a. let s = h o a in (s.0, s.1, elim s.2 [ inl e ↦ inl e | inr k ↦ begun name s.0 o k ])
+
+pub start-cut : (w m : World) (name : Name) (p q : Place) → CutOff w (StartPrimary name) m → IsPlaceOf name w m p q → LeavesBehind IsWrittenDown p q
+start-cut w m name p q h at t = let l = left_there start w m name p q at h in begun_so (name_on p.site) p.standings q.standings (l.standings t)
