@@ -40,11 +40,11 @@ returns-in-StartPrimary-clause-cut_off g c = arm_cut g.D.Disk.disk (command_valu
 
 pub returns-in-Run-clause-done : goal.returns-in-Run-clause-done
 returns-in-Run-clause-done g c =
-    arm_done g.D.Disk.disk (command_value c.args.command) (commands.Run c.in-Run.site c.in-Run.jobs c.in-Run.order) (run (at_all c.in-Run.jobs) c.as_slice-in-Run.result.now) c.args.slot.now c.run_section.new.disk c.in-Some.site c.run_section.new.site c.run_section.result (ap command_value c.in-Run.is) (ap (λ (x : List ℕ). row_at (run (at_all c.in-Run.jobs) x)) (sym c.as_slice-in-Run.ensures)) c.in-Some.is c.args.text.now c.run_section.new.text
+    arm_done g.D.Disk.disk (command_value c.args.command) (commands.Run c.in-Run.site (at_all c.in-Run.jobs) c.in-Run.order) (run (at_all c.in-Run.jobs) c.as_slice-in-Run.result.now) c.args.slot.now c.run_section.new.disk c.in-Some.site c.run_section.new.site c.run_section.result (ap command_value c.in-Run.is) (ap (λ (x : List ℕ). row_at (run (at_all c.in-Run.jobs) x)) (sym c.as_slice-in-Run.ensures)) c.in-Some.is c.args.text.now c.run_section.new.text
     c.run_section.ensures.done
 
 pub returns-in-Run-clause-cut_off : goal.returns-in-Run-clause-cut_off
-returns-in-Run-clause-cut_off g c = arm_cut g.D.Disk.disk (command_value c.args.command) (commands.Run c.in-Run.site c.in-Run.jobs c.in-Run.order) (run (at_all c.in-Run.jobs) c.as_slice-in-Run.result.now) c.args.slot.now c.run_section.new.disk c.in-Some.site c.run_section.new.site c.run_section.result (ap command_value c.in-Run.is) (ap (λ (x : List ℕ). row_at (run (at_all c.in-Run.jobs) x)) (sym c.as_slice-in-Run.ensures)) c.in-Some.is c.run_section.ensures.cut_off
+returns-in-Run-clause-cut_off g c = arm_cut g.D.Disk.disk (command_value c.args.command) (commands.Run c.in-Run.site (at_all c.in-Run.jobs) c.in-Run.order) (run (at_all c.in-Run.jobs) c.as_slice-in-Run.result.now) c.args.slot.now c.run_section.new.disk c.in-Some.site c.run_section.new.site c.run_section.result (ap command_value c.in-Run.is) (ap (λ (x : List ℕ). row_at (run (at_all c.in-Run.jobs) x)) (sym c.as_slice-in-Run.ensures)) c.in-Some.is c.run_section.ensures.cut_off
 
 pub returns-in-Stop-clause-done : goal.returns-in-Stop-clause-done
 returns-in-Stop-clause-done g c =
