@@ -1,6 +1,6 @@
 // Jobs on globals.
 use crate::rows::{cut, holds, lines, same};
-use gvn_eval::eval;
+use gvn_eval::{eval, eval_owned};
 use gvn_globals::Globals;
 use gvn_key::terms::Update;
 use gvn_key::{Bytes, Key};
@@ -121,26 +121,43 @@ fn apply(rt: &impl Abort, globals: &mut Globals, updates: &Updates) {
     }
 }
 
-/// What a job of updater 1 comes to.
+const ORIGIN: Origin = Origin {
+    updater: 1,
+    serial: 1,
+};
+
+/// What is said of what a job comes to.
+fn said(rt: &impl Abort, alloc: Global, evaluated: &Evaluated) -> Bytes {
+    let mut text = Bytes::new(alloc);
+    match evaluated {
+        Evaluated::RolledBack(cause) => text.push_all(cause_name(*cause)).expect(rt, "memory"),
+        Evaluated::Done { updates, answers } => write_done(rt, updates, answers, &mut text),
+    }
+    text
+}
+
+/// What is said of a job of updater 1 that is taken.
+fn said_of_taken(rt: &impl Abort, alloc: Global, globals: &Globals, job: &Job) -> Bytes {
+    let taken = job.copy().expect(rt, "memory");
+    let made = eval_owned(alloc, taken, ORIGIN, globals).expect(rt, "memory");
+    said(rt, alloc, &made)
+}
+
+/// What a job of updater 1 comes to. The same is said of one that is taken.
 fn evaluated(rt: &impl Abort, alloc: Global, globals: &Globals, job: &Job) -> Evaluated {
-    let origin = Origin {
-        updater: 1,
-        serial: 1,
-    };
-    eval(alloc, job, origin, globals).expect(rt, "memory")
+    let made = eval(alloc, job, ORIGIN, globals).expect(rt, "memory");
+    let taken = said_of_taken(rt, alloc, globals, job);
+    same(rt, said(rt, alloc, &made).as_slice(), taken.as_slice());
+    made
 }
 
 /// What is said of a job, whose updates are then made.
 fn run(rt: &impl Abort, alloc: Global, globals: &mut Globals, job: &Job) -> Bytes {
-    let mut text = Bytes::new(alloc);
-    match evaluated(rt, alloc, globals, job) {
-        Evaluated::RolledBack(cause) => text.push_all(cause_name(cause)).expect(rt, "memory"),
-        Evaluated::Done { updates, answers } => {
-            apply(rt, globals, &updates);
-            write_done(rt, &updates, &answers, &mut text);
-        }
+    let made = evaluated(rt, alloc, globals, job);
+    if let Evaluated::Done { updates, .. } = &made {
+        apply(rt, globals, updates);
     }
-    text
+    said(rt, alloc, &made)
 }
 
 /// Adds a statement so many times.
