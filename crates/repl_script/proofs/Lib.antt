@@ -1,3 +1,5 @@
 pub mod LineEnds
 pub mod Sectioned
 pub mod Regioned
+pub mod Filled
+pub mod LeftOut

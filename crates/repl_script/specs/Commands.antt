@@ -1,6 +1,7 @@
 -- What a command of the code stands for.
 use Rattle.std.specs.Prelude.{ℕ, Bool, List, map}
 use Rattle.command_defs.specs.Commands as defs
+use Rattle.repl_script.specs.Places.{at_all}
 use Rattle.repl_script.specs.declared.command.Command.{Command}
 use Rattle.repl_script.specs.declared.command.Command.TheVariants as commands
 
@@ -12,7 +13,7 @@ command_value (commands.Create site regions) = defs.Create site (map region_valu
 command_value commands.Attach = defs.Attach
 command_value (commands.Map site region pattern) = defs.Map site region pattern
 command_value (commands.StartPrimary site) = defs.StartPrimary site
-command_value (commands.Run site jobs order) = defs.Run site jobs order
+command_value (commands.Run site jobs order) = defs.Run site (at_all jobs) order
 command_value (commands.Stop site) = defs.Stop site
 command_value (commands.Fuse site calls) = defs.Fuse site calls
 command_value (commands.Crash site pick) = defs.Crash site pick

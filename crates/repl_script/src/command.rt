@@ -25,8 +25,8 @@ pub enum Command {
     StartPrimary {
         site: Bytes,
     },
-    /// Decides jobs at a primary: those of 64 updaters, and the updaters in the order of their jobs' first lines, one byte a
-    /// job.
+    /// Decides jobs at a primary: those of 64 updaters, of which the last ones that have none may be left out, and the updaters in the
+    /// order of their jobs' first lines, one byte a job.
     Run {
         site: Bytes,
         jobs: Jobs,

@@ -7,6 +7,7 @@ mod fault;
 mod forms;
 mod orders;
 mod parts;
+mod places;
 mod regions;
 mod script;
 mod section;

@@ -139,7 +139,7 @@ impl Script {
         let first = cut_part(left);
         if first.part == b"RUN".as_slice() {
             let site = Bytes::of(self.alloc, read_run(len, first.behind)?)?;
-            self.section = Some(Section::begin(self.alloc, site)?);
+            self.section = Some(Section::begin(self.alloc, site));
             return Ok(None);
         }
         let command = read_command(self.alloc, first.part, len, left, first.behind)?;

@@ -11,14 +11,16 @@ ghost use Rattle.command_defs.specs.Sections.{begun, is_open, jobs_of, last_job,
 ghost use Rattle.command_defs.specs.Script.{section_reading, job_by, stated, end_reading};
 ghost use Rattle.repl_script.specs.Commands.{command_value};
 ghost use Rattle.repl_script.specs.Entries.{ReadsEntry, IsAllowed, FeedsSection, located};
+ghost use Rattle.repl_script.specs.Places.{at_all};
 ghost use Rattle.repl_script.specs.Reads.{fault_value};
 
 use super::command::Command;
 use super::fault::{Fault, bad, column};
 use super::parts::{cut_part, ended, number};
+use super::places::{last_of, no_jobs, put_job, put_statement};
 use gvn_key::terms::Statement;
 use gvn_key::{Bytes, NoMemory};
-use gvn_model::{Job, JobQueue, Jobs, Statements};
+use gvn_model::{Job, Jobs, Statements};
 use gvn_text::{TextError, read_located};
 use std::alloc::Global;
 use std::marker::Model;
@@ -49,7 +51,7 @@ pub enum Entry {
 #[derive(Drop)]
 pub struct Section {
     site: Bytes,
-    /// The last job of an updater whose transaction is open isn't whole.
+    /// The last job of an updater whose transaction is open isn't whole. The last updaters that have no job are left out.
     jobs: Jobs,
     /// The updaters in the order of their jobs' first lines.
     order: Bytes,
@@ -58,23 +60,13 @@ pub struct Section {
 
 impl Model for Section {
     ghost use Rattle.command_defs.specs.Sections as defs;
+    ghost use Rattle.repl_script.specs.Places.{at_all};
 
     ghost Value = { defs.Section };
 
-    ghost view = { λ s. record { name = s.site; jobs = s.jobs; order = s.order; opened = s.opened } };
+    ghost view = { λ s. record { name = s.site; jobs = at_all s.jobs; order = s.order; opened = s.opened } };
 
-    ghost invariant = { λ s. defs.IsSound (record { name = s.site; jobs = s.jobs; order = s.order; opened = s.opened }) };
-}
-
-/// No jobs of 64 updaters.
-fn no_jobs(alloc: Global) -> Result<Jobs, NoMemory>
-    ensures { IfOk result (λ jobs. jobs ≡ replicate 64 []) }
-{
-    let mut jobs = Jobs::with_capacity(alloc, UPDATERS as usize)?;
-    for _place in 0..UPDATERS {
-        jobs.push(JobQueue::new(alloc))?;
-    }
-    Ok(jobs)
+    ghost invariant = { λ s. defs.IsSound (record { name = s.site; jobs = at_all s.jobs; order = s.order; opened = s.opened }) };
 }
 
 /// No updater has an open transaction.
@@ -98,15 +90,15 @@ fn is_any_open(opened: &[bool; 64]) -> bool
 
 /// Adds a job behind the others of an updater, and the updater to the order.
 fn add_job(jobs: &mut Jobs, order: &mut Bytes, updater: u8, job: Job) -> Result<(), NoMemory>
-    requires { (0 < updater) × (updater ≤ length jobs.old) }
-    ensures jobs { OnOk result (jobs.new ≡ set jobs.old (updater - 1) (get_or jobs.old (updater - 1) [] ++ job_value job ∷ [])) }
+    requires { (0 < updater) × (updater ≤ 64) }
+    ensures jobs { OnOk result (at_all jobs.new ≡ set (at_all jobs.old) (updater - 1) (get_or (at_all jobs.old) (updater - 1) [] ++ job_value job ∷ [])) }
     ensures order { OnOk result (order.new ≡ order.old ++ updater ∷ []) }
-    ensures jobs_kept { OnErr result (jobs.new ≡ jobs.old) }
+    ensures jobs_kept { OnErr result (at_all jobs.new ≡ at_all jobs.old) }
     ensures order_kept { OnErr result (order.new ≡ order.old) }
 {
     let before = order.len();
     order.push(updater)?;
-    if jobs.add(updater, job).is_err() {
+    if put_job(order.allocator(), jobs, updater, job).is_err() {
         order.truncate(before);
         return Err(NoMemory);
     }
@@ -176,17 +168,17 @@ fn located(len: u16, left: &[u8], fault: gvn_text::Fault) -> Fault
 }
 
 impl Section {
-    /// A section of a site without lines.
-    pub fn begin(alloc: Global, site: Bytes) -> Result<Self, NoMemory>
+    /// A section of a site without lines. It takes no memory yet.
+    pub fn begin(alloc: Global, site: Bytes) -> Self
         requires { is_name site ≡ true }
-        ensures { IfOk result (λ s. s ≡ begun site) }
+        ensures { result ≡ begun site }
     {
-        Ok(Section {
+        Section {
             site,
-            jobs: no_jobs(alloc)?,
+            jobs: no_jobs(alloc),
             order: Bytes::new(alloc),
             opened: nobody(),
-        })
+        }
     }
 
     /// Whether an updater has an open transaction.
@@ -206,9 +198,7 @@ impl Section {
         if !self.is_open(updater) {
             return false;
         }
-        let jobs = self.jobs.item(usize::from(updater - 1));
-        let last = jobs.item(jobs.len() - 1);
-        is_full_job(&last.statements, word)
+        is_full_job(&last_of(&self.jobs, updater).statements, word)
     }
 
     /// What a line of the section is. `left` is the line without spaces at its front.
@@ -295,7 +285,7 @@ impl Section {
         ensures err { OnErr result (self.new ≡ self.old) }
     {
         if self.is_open(updater) {
-            return self.jobs.add_statement(updater, statement);
+            return put_statement(&mut self.jobs, updater, statement);
         }
         let job = job_of(alloc, statement)?;
         add_job(&mut self.jobs, &mut self.order, updater, job)

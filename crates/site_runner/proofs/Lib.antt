@@ -22,6 +22,7 @@ pub mod Amongs
 pub mod Begun
 pub mod Started
 pub mod Kept
+pub mod LeftOut
 pub mod Ran
 pub mod Next
 pub mod Looked

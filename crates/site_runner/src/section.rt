@@ -1,6 +1,7 @@
 // RUN.
 ghost use Rattle.std.specs.Prelude.{IfOk, OnOk, OnErr};
 ghost use Rattle.command_defs.specs.Sections.{UsesUp};
+ghost use Rattle.repl_script.specs.Places.{at_all};
 ghost use Rattle.world_defs.specs.rows.Run.{run};
 ghost use Rattle.site_runner.specs.Sites.{IsReadyState};
 ghost use Rattle.site_runner.specs.Steps.{ExecutesAt, IsCutAt};
@@ -26,11 +27,11 @@ pub fn run_section<D: Disk>(
     order: &[u8],
     text: &mut Bytes,
 ) -> Result<bool, NoMemory>
-    requires whole { UsesUp jobs order.now }
+    requires whole { UsesUp (at_all jobs) order.now }
     requires ready { IsReadyState (D.disk disk.old) site.old.state }
     ensures ready { OnOk result (IsReadyState (D.disk disk.new) site.new.state) }
-    ensures done { IfOk result (λ done. ExecutesAt (run jobs order.now site.old.name) (D.disk disk.old) site.old (D.disk disk.new) site.new text.old text.new done) }
-    ensures cut_off { OnErr result (IsCutAt (run jobs order.now site.old.name) (D.disk disk.old) site.old (D.disk disk.new)) }
+    ensures done { IfOk result (λ done. ExecutesAt (run (at_all jobs) order.now site.old.name) (D.disk disk.old) site.old (D.disk disk.new) site.new text.old text.new done) }
+    ensures cut_off { OnErr result (IsCutAt (run (at_all jobs) order.now site.old.name) (D.disk disk.old) site.old (D.disk disk.new)) }
 {
     leftovers_hold();
     if let Some(cause) = site.state.why_not_primary() {

@@ -37,6 +37,9 @@ const LONGEST_LINE: u32 = 4096;
 /// How many bytes of a script are read at most: as many lines as there may be, each with a byte too many, and one byte more.
 const MOST_BYTES: u32 = 409_700_001;
 
+/// How many bytes a short answer has at most.
+const SHORT_ANSWER: usize = 96;
+
 fn is_word(word: &str) -> bool
     ensures { MatchBool result (word.now ≡ codes "run") (word.now ≢ codes "run") }
 {
@@ -49,6 +52,16 @@ fn is_run(words: &[String]) -> bool
     match words {
         [word] => is_word(word.as_str()),
         _ => false,
+    }
+}
+
+/// No text yet, with room for a short answer where there is memory.
+fn no_text(alloc: Global) -> Bytes
+    ensures { result ≡ [] }
+{
+    match Bytes::with_capacity(alloc, SHORT_ANSWER) {
+        Ok(text) => text,
+        Err(_) => Bytes::new(alloc),
     }
 }
 
@@ -68,7 +81,7 @@ fn carry_out<K: Sink, D: Disk>(
     ensures later { K.faults out.old ≤ K.faults out.new }
     ensures length { length slots.new.items ≡ length slots.old.items }
 {
-    let mut text = Bytes::new(alloc);
+    let mut text = no_text(alloc);
     match execute(alloc, slots, command, &mut text) {
         Err(_) => Err(Status::NoMemory),
         Ok(_) => match write_all(out, text.as_slice()) {

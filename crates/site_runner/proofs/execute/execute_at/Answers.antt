@@ -15,6 +15,7 @@ use Rattle.world_defs.specs.rows.Start.{start}
 use Rattle.world_defs.specs.rows.Stop.{stop}
 use Rattle.world_defs.specs.rows.Zwrite.{zwrite}
 use Rattle.repl_script.specs.Commands.{command_value}
+use Rattle.repl_script.specs.Places.{at_all}
 use Rattle.site_runner.specs.Named.{row_in}
 use Rattle.site_runner.specs.Steps.{ExecutesAt}
 use Rattle.site_runner.proofs.Results.{on_errs, err_holds}
@@ -39,11 +40,11 @@ returns-in-StartPrimary-clause-cut_off g c = arm_cut g.D.Disk.disk (command_valu
 
 pub returns-in-Run-clause-done : goal.returns-in-Run-clause-done
 returns-in-Run-clause-done g c =
-    arm_done g.D.Disk.disk (command_value c.args.command) (commands.Run c.in-Run.site c.in-Run.jobs c.in-Run.order) (run c.in-Run.jobs c.as_slice-in-Run.result.now) c.args.slot.now c.run_section.new.disk c.in-Some.site c.run_section.new.site c.run_section.result (ap command_value c.in-Run.is) (ap (λ (x : List ℕ). row_at (run c.in-Run.jobs x)) (sym c.as_slice-in-Run.ensures)) c.in-Some.is c.args.text.now c.run_section.new.text
+    arm_done g.D.Disk.disk (command_value c.args.command) (commands.Run c.in-Run.site (at_all c.in-Run.jobs) c.in-Run.order) (run (at_all c.in-Run.jobs) c.as_slice-in-Run.result.now) c.args.slot.now c.run_section.new.disk c.in-Some.site c.run_section.new.site c.run_section.result (ap command_value c.in-Run.is) (ap (λ (x : List ℕ). row_at (run (at_all c.in-Run.jobs) x)) (sym c.as_slice-in-Run.ensures)) c.in-Some.is c.args.text.now c.run_section.new.text
     c.run_section.ensures.done
 
 pub returns-in-Run-clause-cut_off : goal.returns-in-Run-clause-cut_off
-returns-in-Run-clause-cut_off g c = arm_cut g.D.Disk.disk (command_value c.args.command) (commands.Run c.in-Run.site c.in-Run.jobs c.in-Run.order) (run c.in-Run.jobs c.as_slice-in-Run.result.now) c.args.slot.now c.run_section.new.disk c.in-Some.site c.run_section.new.site c.run_section.result (ap command_value c.in-Run.is) (ap (λ (x : List ℕ). row_at (run c.in-Run.jobs x)) (sym c.as_slice-in-Run.ensures)) c.in-Some.is c.run_section.ensures.cut_off
+returns-in-Run-clause-cut_off g c = arm_cut g.D.Disk.disk (command_value c.args.command) (commands.Run c.in-Run.site (at_all c.in-Run.jobs) c.in-Run.order) (run (at_all c.in-Run.jobs) c.as_slice-in-Run.result.now) c.args.slot.now c.run_section.new.disk c.in-Some.site c.run_section.new.site c.run_section.result (ap command_value c.in-Run.is) (ap (λ (x : List ℕ). row_at (run (at_all c.in-Run.jobs) x)) (sym c.as_slice-in-Run.ensures)) c.in-Some.is c.run_section.ensures.cut_off
 
 pub returns-in-Stop-clause-done : goal.returns-in-Stop-clause-done
 returns-in-Stop-clause-done g c =
