@@ -180,6 +180,10 @@ impl Linker for MemLinker {
         look(&mut ends.down_tx, &mut ends.up_rx);
     }
 
+    fn look(&self, tx: &mut MemTx, rx: &mut MemRx) {
+        look(tx, rx);
+    }
+
     fn settle(&mut self, session: u32, ends: Ends<MemTx, MemRx>)
         requires lines { (tx_line ends.up_tx ≡ rx_line ends.down_rx) × (tx_line ends.down_tx ≡ rx_line ends.up_rx) }
         requires one { ends.up_tx.connection ≡ ends.down_tx.connection }
