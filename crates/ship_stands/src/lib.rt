@@ -7,9 +7,9 @@ mod histories;
 mod primary;
 mod site;
 mod story;
-mod transaction;
+mod transactions;
 
 pub use histories::{Record, StandError, history};
 pub use primary::{Primary, Unread};
 pub use site::{Site, Stopped};
-pub use transaction::transaction;
+pub use transactions::transaction;

@@ -10,11 +10,15 @@ use gvn_model::{Origin, Transaction, Updates};
 use repl_fields::read_update;
 use std::alloc::Global;
 
+// How many bytes an update has beside those of its value.
+const HEAD: usize = 10;
+
 /// A transaction like that of a primary's entry of one update whose value has so many bytes.
 pub fn transaction(alloc: Global, value: u16) -> Result<Transaction, StandError>
     ensures { IfOk result (λ t. IsTransaction (transaction_value t)) }
 {
     let mut bytes = Bytes::new(alloc);
+    bytes.reserve(HEAD + usize::from(value))?;
     push_update(&mut bytes, value)?;
     let Some((update, _)) = read_update(alloc, bytes.as_slice())? else {
         return Err(StandError::TooLarge);
