@@ -5,20 +5,14 @@
 //! the first so many, so that what it takes by itself can be told.
 #![tactic(auto)]
 
-ghost use Rattle.std.specs.Prelude.{IsTrue};
-ghost use Rattle.global_defs.specs.Fields.{IsTransaction};
-ghost use Rattle.gvn_model.specs.Entries.{transaction_value};
-
 use anyhow::{Context, Result};
 use gvn_key::Bytes;
-use gvn_model::Transaction;
 use repl_link::MemLinker;
 use ship_session::{SessionEnd, finish};
-use ship_stands::{Primary, Site, StandError, history, transaction};
+use ship_stands::{Primary, Site, StandError, apply_some, history};
 use std::alloc::Global;
+use std::env;
 use std::env::Env;
-use std::{env, mem};
-use update_process::EntrySink;
 
 // The number behind the last one that an entry may have.
 const NUMBERS_END: u64 = 1 << 40;
@@ -44,33 +38,6 @@ fn ship(alloc: Global, length: u64, value: u16) -> Result<u64, StandError> {
         Ok(SessionEnd::At(came)) => came,
         _ => 0,
     })
-}
-
-// Applies the next entry to a site that has one, or else leaves the transaction's memory as it is. Whether it was applied.
-fn apply<S: EntrySink>(site: &mut S, transaction: Transaction, applies: bool) -> bool
-where
-    S::Error: Drop,
-    requires going { IsTrue (S.going site.old) }
-    requires form { IsTransaction (transaction_value transaction) }
-{
-    let length = site.history().length;
-    if !applies || length == 0 || length == NUMBERS_END - 1 {
-        mem::forget(transaction);
-        return false;
-    }
-    site.apply(length + 1, transaction).is_ok()
-}
-
-// Applies the first so many of three transactions that were made beforehand: how many were applied.
-fn apply_some(alloc: Global, count: u64, value: u16) -> Result<u64, StandError> {
-    let first = transaction(alloc, value)?;
-    let second = transaction(alloc, value)?;
-    let third = transaction(alloc, value)?;
-    let mut site = Site::new(history(alloc, 1, &[(b'A', 1, 1)])?)?;
-    apply(&mut site, first, count > 0);
-    apply(&mut site, second, count > 1);
-    apply(&mut site, third, count > 2);
-    Ok(site.applied())
 }
 
 fn main(rt: HostRuntime) -> Result<()> {

@@ -12,4 +12,4 @@ mod transactions;
 pub use histories::{Record, StandError, history};
 pub use primary::{Primary, Unread};
 pub use site::{Site, Stopped};
-pub use transactions::transaction;
+pub use transactions::apply_some;
