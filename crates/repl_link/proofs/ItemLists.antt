@@ -136,16 +136,16 @@ last_mark (End ∷ y ∷ ys) (suc n) d ends size is = let no : y ∷ ys ≡ [] =
 -- how many stand in front of the mark
 
 pub before_none : (xs : List Symbol) → length xs ≡ 0 → AreBefore xs 0
-before_none [] size = record { most = omega arith; plain = refl; bytes = refl; end = refl }
+before_none [] size = record { plain = refl; bytes = refl; end = refl }
 before_none (x ∷ xs) size = absurd (omega (arith, size))
 
 pub before_last : (xs : List Symbol) (n : ℕ) (d : Symbol) → EndsLast xs → suc n ≡ length xs → is_end (get_or xs n d) ≡ true → AreBefore xs n
 before_last xs n d ends size is =
     let m = last_mark xs n d ends size is in
-    record { most = omega (arith, size); plain = m.0; bytes = m.1; end = m.2 ∙ sym (lt-ltb n (length xs) (omega (arith, size))) }
+    record { plain = m.0; bytes = m.1; end = m.2 ∙ sym (lt-ltb n (length xs) (omega (arith, size))) }
 
 pub before_all : (xs : List Symbol) (n : ℕ) (d : Symbol) → EndsLast xs → suc n ≡ length xs → is_end (get_or xs n d) ≡ false → AreBefore xs (length xs)
 before_all xs n d ends size is =
     let plain = last_plain xs n d ends size is in
     let whole : take (length xs) xs ≡ xs = take_all (length xs) xs (omega arith) in
-    record { most = omega arith; plain = ap has_end whole ∙ plain; bytes = ap bytes_of whole; end = plain ∙ sym (le-ltb (length xs) (length xs) (omega arith)) }
+    record { plain = ap has_end whole ∙ plain; bytes = ap bytes_of whole; end = plain ∙ sym (le-ltb (length xs) (length xs) (omega arith)) }

@@ -38,7 +38,6 @@ EndsLast (x ∷ xs) = (is_end x ≡ true → xs ≡ []) × EndsLast xs
 
 -- So many stand in front of the mark, and are all where it isn't among them.
 pub record AreBefore (items : List Symbol) (n : ℕ) : Type 0 where
-  pub most : n ≤ length items
   pub plain : has_end (take n items) ≡ false
   pub bytes : bytes_of (take n items) ≡ bytes_of items
   pub end : has_end items ≡ nat_lt n (length items)

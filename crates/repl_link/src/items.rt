@@ -92,7 +92,8 @@ pub(crate) fn fill(items: &mut [Item], bytes: &[u8])
 // How many items stand in front of the mark of the end, which is the last of them where it is among them.
 fn before_mark(items: &[Item]) -> usize
     requires { EndsLast items.now }
-    ensures { AreBefore items.now result }
+    ensures most { result ≤ length items.now }
+    ensures before { AreBefore items.now result }
 {
     let count = items.len();
     if count == 0 {
