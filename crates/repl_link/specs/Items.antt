@@ -1,5 +1,5 @@
 -- The items of a ring that carries bytes and one mark of their end.
-use Rattle.std.specs.Prelude.{◌≡◌, ◌≤◌, ℕ, Bool, true, false, List, [], ◌∷◌, ◌++◌, length, take, nat_lt, if◌then◌else◌}
+use Rattle.std.specs.Prelude.{◌≡◌, ℕ, Bool, true, false, List, [], ◌∷◌, ◌++◌, length, take, nat_lt, if◌then◌else◌}
 use mathlib.Core.List.{IsPrefix}
 
 -- what one place of a ring carries: a byte, or the mark behind the last byte
