@@ -52,7 +52,8 @@ fn direction(alloc: Global, session: u32, connection: u64) -> Result<(MemTx, Mem
     ensures rx { IfOk result (λ e. (received e.1.ring ≡ []) × (known_items e.1.ring ≡ [])) }
     ensures no_cut { IfErr result (λ e. e ≡ ConnectError.NoMemory) }
 {
-    let Ok((producer, consumer)) = RingBuffer::with_protocol::<Global, MarkLast>(alloc, PLACES) else {
+    let Ok((producer, consumer)) = RingBuffer::with_protocol::<Global, MarkLast>(alloc, PLACES)
+    else {
         return Err(ConnectError::NoMemory);
     };
     let (Some(made), Some(taken)) = (piece(alloc), piece(alloc)) else {

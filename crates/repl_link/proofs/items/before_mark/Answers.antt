@@ -1,4 +1,4 @@
-use Rattle.std.proofs.Common.{◌≡◌, true, false, get_or, length, sym, ap, ◌∙◌, arith}
+use Rattle.std.proofs.Common.{◌≡◌, ◌-◌, true, false, get_or, length, sym, ap, ◌∙◌, arith}
 use Rattle.repl_link.specs.Items.{is_end}
 use Rattle.repl_link.proofs.ItemLists.{before_none, before_last, before_all}
 use Rattle.repl_link.proofs.items.before_mark.Goals as goal
