@@ -7,4 +7,4 @@ mod arrived;
 mod pool;
 
 pub use arrived::{Arrived, OfForm};
-pub use pool::{PoolIn, PoolOut, beside, make};
+pub use pool::{PoolIn, PoolOut, beside, make, show};

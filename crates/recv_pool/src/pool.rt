@@ -43,6 +43,18 @@ pub fn beside(into: &mut PoolIn, out: &mut PoolOut)
     ensures free { ring.producer_capacity into.new.ring ≤ free into.new + length (known out.new) }
 {
     into.ring.slots_beside(&mut out.ring);
+    show(into, out);
+}
+
+/// Lets the end that takes know all that was put, and the other end what it knew.
+pub fn show(into: &mut PoolIn, out: &mut PoolOut)
+    requires pool { IsPool into.old out.old }
+    ensures same { SameIn into.old into.new × SameOut out.old out.new }
+    ensures put { put_in into.new ≡ put_in into.old }
+    ensures taken { taken out.new ≡ taken out.old }
+    ensures all { taken out.new ++ known out.new ≡ put_in into.new }
+    ensures free { free into.old ≤ free into.new }
+{
     out.ring.slots_beside(&mut into.ring);
 }
 

@@ -1,10 +1,12 @@
 -- The bytes in front of the end, of items put side by side.
-use Rattle.std.proofs.Common.{◌≡◌, ℕ, suc, ◌<◌, ◌≤◌, ◌+◌, Bool, true, false, List, [], ◌∷◌, ◌++◌, length, map, take, drop, get_or, ap, sym, refl, ◌∙◌, arith, append-nil, add-one, if◌then◌else◌}
+use Rattle.std.proofs.Common.{◌≡◌, ℕ, suc, ◌<◌, ◌≤◌, ◌+◌, Bool, true, false, List, [], ◌∷◌, ◌++◌, length, map, take, drop, get_or, ap, sym, refl, ◌∙◌, arith, append-nil, add-one, lt-ltb, if◌then◌else◌}
+use Rattle.std.proofs.lemmas.Bool.{le-ltb}
 use Rattle.global_defs.specs.Prefix.{IsPrefix}
 use Rattle.std.proofs.lemmas.List.{take-append-drop, take-map, take_all, length-take-le}
 use Rattle.std.proofs.Math.Seq.{drop-cons, take-append_seam}
 use Rattle.std.proofs.Common.{zero, ◌||◌}
-use Rattle.repl_link.specs.Items.{is_end, Symbol, Byte, End, bytes_of, has_end}
+use Rattle.rtrb.specs.Fifo.{Allowed}
+use Rattle.repl_link.specs.Items.{is_end, Symbol, Byte, End, bytes_of, has_end, EndsLast, AreBefore}
 
 pub bytes_of-bytes : (bytes : List ℕ) (rest : List Symbol) → bytes_of (map Byte bytes ++ rest) ≡ bytes ++ bytes_of rest
 bytes_of-bytes [] rest = refl
@@ -92,3 +94,58 @@ plain_at (Byte b ∷ items) (suc i) d below plain = plain_at items i d (omega (a
 pub is_mark : (s : Symbol) → is_end s ≡ true → s ≡ End
 is_mark (Byte b) is = cc
 is_mark End is = refl
+
+-- what a ring was allowed to carry behind some items has the mark as its last at most
+pub allowed_last : (before xs : List Symbol) → Allowed (λ (l : List Symbol) (x : Symbol). has_end l ≡ false) before xs → EndsLast xs
+allowed_last before [] a = tt
+allowed_last before (Byte b ∷ xs) a = (λ e. let no : false ≡ true = e in cc, allowed_last (before ++ Byte b ∷ []) xs a.1)
+allowed_last before (End ∷ []) a = (λ e. refl, tt)
+allowed_last before (End ∷ y ∷ ys) a =
+    let plain : has_end (before ++ End ∷ []) ≡ false = a.1.0 in
+    let ended : has_end (before ++ End ∷ []) ≡ true = has_end-append before (End ∷ []) a.0 in
+    let no : true ≡ false = sym ended ∙ plain in cc
+
+-- bytes may be put behind items without an end
+pub each_plain : (sent xs : List Symbol) (bytes : List ℕ) → has_end sent ≡ false → xs ≡ map Byte bytes → (i : ℕ) → has_end (sent ++ take i xs) ≡ false
+each_plain sent xs bytes open_end is i =
+    let part : take i xs ≡ map Byte (take i bytes) ++ [] = ap (λ l. take i l) is ∙ take-map Byte i bytes ∙ sym (append-nil (map Byte (take i bytes))) in
+    has_end-append sent (take i xs) open_end ∙ ap has_end part ∙ has_end-bytes (take i bytes) []
+
+-- where the last isn't the mark none is
+last_plain : (xs : List Symbol) (n : ℕ) (d : Symbol) → EndsLast xs → suc n ≡ length xs → is_end (get_or xs n d) ≡ false → has_end xs ≡ false
+last_plain [] n d ends size is = absurd (omega (arith, size))
+last_plain (Byte b ∷ []) n d ends size is = refl
+last_plain (End ∷ []) zero d ends size is = is
+last_plain (End ∷ []) (suc n) d ends size is = absurd (omega (arith, size))
+last_plain (x ∷ y ∷ ys) zero d ends size is = absurd (omega (arith, size))
+last_plain (Byte b ∷ y ∷ ys) (suc n) d ends size is = last_plain (y ∷ ys) n d ends.1 (omega (arith, size)) is
+last_plain (End ∷ y ∷ ys) (suc n) d ends size is = let no : y ∷ ys ≡ [] = ends.0 refl in cc
+
+-- where it is, the others have all bytes
+last_mark : (xs : List Symbol) (n : ℕ) (d : Symbol) → EndsLast xs → suc n ≡ length xs → is_end (get_or xs n d) ≡ true
+    → (has_end (take n xs) ≡ false) × (bytes_of (take n xs) ≡ bytes_of xs) × (has_end xs ≡ true)
+last_mark [] n d ends size is = absurd (omega (arith, size))
+last_mark (Byte b ∷ []) zero d ends size is = let no : false ≡ true = is in cc
+last_mark (Byte b ∷ []) (suc n) d ends size is = absurd (omega (arith, size))
+last_mark (End ∷ []) zero d ends size is = (refl, refl, refl)
+last_mark (End ∷ []) (suc n) d ends size is = absurd (omega (arith, size))
+last_mark (x ∷ y ∷ ys) zero d ends size is = absurd (omega (arith, size))
+last_mark (Byte b ∷ y ∷ ys) (suc n) d ends size is = let rest = last_mark (y ∷ ys) n d ends.1 (omega (arith, size)) is in (rest.0, ap (λ l. b ∷ l) rest.1, rest.2)
+last_mark (End ∷ y ∷ ys) (suc n) d ends size is = let no : y ∷ ys ≡ [] = ends.0 refl in cc
+
+-- how many stand in front of the mark
+
+pub before_none : (xs : List Symbol) → length xs ≡ 0 → AreBefore xs 0
+before_none [] size = record { plain = refl; bytes = refl; end = refl }
+before_none (x ∷ xs) size = absurd (omega (arith, size))
+
+pub before_last : (xs : List Symbol) (n : ℕ) (d : Symbol) → EndsLast xs → suc n ≡ length xs → is_end (get_or xs n d) ≡ true → AreBefore xs n
+before_last xs n d ends size is =
+    let m = last_mark xs n d ends size is in
+    record { plain = m.0; bytes = m.1; end = m.2 ∙ sym (lt-ltb n (length xs) (omega (arith, size))) }
+
+pub before_all : (xs : List Symbol) (n : ℕ) (d : Symbol) → EndsLast xs → suc n ≡ length xs → is_end (get_or xs n d) ≡ false → AreBefore xs (length xs)
+before_all xs n d ends size is =
+    let plain = last_plain xs n d ends size is in
+    let whole : take (length xs) xs ≡ xs = take_all (length xs) xs (omega arith) in
+    record { plain = ap has_end whole ∙ plain; bytes = ap bytes_of whole; end = plain ∙ sym (le-ltb (length xs) (length xs) (omega arith)) }

@@ -1,5 +1,5 @@
 -- The items of a ring that carries bytes and one mark of their end.
-use Rattle.std.specs.Prelude.{◌≡◌, ℕ, Bool, true, false, List, [], ◌∷◌, ◌++◌, nat_lt, if◌then◌else◌}
+use Rattle.std.specs.Prelude.{◌≡◌, ℕ, Bool, true, false, List, [], ◌∷◌, ◌++◌, length, take, nat_lt, if◌then◌else◌}
 use mathlib.Core.List.{IsPrefix}
 
 -- what one place of a ring carries: a byte, or the mark behind the last byte
@@ -30,6 +30,17 @@ abbrev pub has_end : List Symbol → Bool
 has_end [] = false
 has_end (Byte b ∷ items) = has_end items
 has_end (End ∷ items) = true
+
+-- the mark of the end is the last of them, where it is among them
+abbrev pub EndsLast : List Symbol → Type 0
+EndsLast [] = Unit {0}
+EndsLast (x ∷ xs) = (is_end x ≡ true → xs ≡ []) × EndsLast xs
+
+-- So many stand in front of the mark, and are all where it isn't among them.
+pub record AreBefore (items : List Symbol) (n : ℕ) : Type 0 where
+  pub plain : has_end (take n items) ≡ false
+  pub bytes : bytes_of (take n items) ≡ bytes_of items
+  pub end : has_end items ≡ nat_lt n (length items)
 
 -- Items were taken out of a ring, of which some were known before: their bytes, and whether the end follows these.
 pub record Drained (before after known known' : List Symbol) (bytes : List ℕ) (ended : Bool) : Type 0 where

@@ -1,7 +1,8 @@
 // What a ring carries.
 ghost use Rattle.std.specs.Prelude.{◌≡◌, ◌≤◌, ℕ, length, take, map, nat_lt, false};
-ghost use Rattle.repl_link.specs.Items.{Byte, End, bytes_of, has_end, is_end};
+ghost use Rattle.repl_link.specs.Items.{Byte, End, bytes_of, has_end, is_end, EndsLast, AreBefore};
 
+use rtrb::Protocol;
 use std::alloc::Global;
 use std::marker::Model;
 
@@ -60,6 +61,16 @@ impl Item {
     }
 }
 
+/// Behind the mark of the end nothing is put into a ring.
+pub struct MarkLast;
+
+impl Protocol<Item> for MarkLast {
+    ghost use Rattle.std.specs.Prelude.{◌≡◌, false};
+    ghost use Rattle.repl_link.specs.Items.{has_end};
+
+    ghost allows = { λ before _. has_end before ≡ false };
+}
+
 /// What tells the ring of one direction from all others, as contracts see it. No value of it is made.
 pub struct Line {
     pub(crate) words: *mut u64,
@@ -78,15 +89,21 @@ pub(crate) fn fill(items: &mut [Item], bytes: &[u8])
     }
 }
 
-// Whether the mark of the end is among the items. It looks at all of them, several at once.
-fn has_mark(items: &[Item]) -> bool
-    ensures { result ≡ has_end items.now }
+// How many items stand in front of the mark of the end, which is the last of them where it is among them.
+fn before_mark(items: &[Item]) -> usize
+    requires { EndsLast items.now }
+    ensures most { result ≤ length items.now }
+    ensures before { AreBefore items.now result }
 {
-    let mut found = false;
-    for i in 0..items.len() {
-        found |= items[i].is_end();
+    let count = items.len();
+    if count == 0 {
+        return 0;
     }
-    found
+    let last = count - 1;
+    if items[last].is_end() {
+        return last;
+    }
+    count
 }
 
 // Copies the bytes of items of which none is the mark.
@@ -100,34 +117,16 @@ fn copy_all(items: &[Item], buffer: &mut [u8])
     }
 }
 
-// Copies the bytes in front of the mark, and answers how many there are.
-fn copy_front(items: &[Item], buffer: &mut [u8]) -> usize
-    requires { length items.now ≤ length buffer.old }
-    ensures bytes { take result buffer.new ≡ bytes_of items.now }
-    ensures count { result ≡ length (bytes_of items.now) }
-    ensures most { result ≤ length items.now }
-    ensures end { has_end items.now ≡ nat_lt result (length items.now) }
-{
-    for i in 0..items.len() {
-        if items[i].is_end() {
-            return i;
-        }
-        buffer[i] = items[i].byte();
-    }
-    items.len()
-}
-
 // Copies the bytes in front of the end, and answers how many there are.
 pub(crate) fn copy_bytes(items: &[Item], buffer: &mut [u8]) -> usize
-    requires { length items.now ≤ length buffer.old }
+    requires fits { length items.now ≤ length buffer.old }
+    requires last { EndsLast items.now }
     ensures bytes { take result buffer.new ≡ bytes_of items.now }
     ensures count { result ≡ length (bytes_of items.now) }
     ensures most { result ≤ length items.now }
     ensures end { has_end items.now ≡ nat_lt result (length items.now) }
 {
-    if has_mark(items) {
-        return copy_front(items, buffer);
-    }
-    copy_all(items, buffer);
-    items.len()
+    let count = before_mark(items);
+    copy_all(&items[..count], buffer);
+    count
 }

@@ -4,7 +4,7 @@ ghost use Rattle.rtrb.specs.Ring.{sent, received, known_free, known_items};
 ghost use Rattle.wire_defs.specs.Links.{SendingLooked, ReceivingLooked, KnowAll};
 ghost use Rattle.repl_link.specs.MemEnds.{tx_line, rx_line, mem_sending, mem_receiving};
 
-use crate::items::{Item, Line};
+use crate::items::{Item, Line, MarkLast};
 use crate::limits::PIECE;
 use crate::log::Log;
 use crate::mem_rx::MemRx;
@@ -52,7 +52,8 @@ fn direction(alloc: Global, session: u32, connection: u64) -> Result<(MemTx, Mem
     ensures rx { IfOk result (λ e. (received e.1.ring ≡ []) × (known_items e.1.ring ≡ [])) }
     ensures no_cut { IfErr result (λ e. e ≡ ConnectError.NoMemory) }
 {
-    let Ok((producer, consumer)) = RingBuffer::new(alloc, PLACES) else {
+    let Ok((producer, consumer)) = RingBuffer::with_protocol::<Global, MarkLast>(alloc, PLACES)
+    else {
         return Err(ConnectError::NoMemory);
     };
     let (Some(made), Some(taken)) = (piece(alloc), piece(alloc)) else {
@@ -178,6 +179,10 @@ impl Linker for MemLinker {
     fn beside(&self, ends: &mut Ends<MemTx, MemRx>) {
         look(&mut ends.up_tx, &mut ends.down_rx);
         look(&mut ends.down_tx, &mut ends.up_rx);
+    }
+
+    fn look(&self, tx: &mut MemTx, rx: &mut MemRx) {
+        look(tx, rx);
     }
 
     fn settle(&mut self, session: u32, ends: Ends<MemTx, MemRx>)

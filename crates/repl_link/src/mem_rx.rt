@@ -2,13 +2,14 @@
 ghost use Rattle.std.specs.Prelude.{◌≡◌, ◌<◌, ◌≤◌, ◌++◌, [], length, take, false, IsTrue};
 ghost use mathlib.Core.List.{IsPrefix as BeginsWith};
 ghost use Rattle.rtrb.specs.Ring.{received as items_received, known_items, SameConsumer};
-ghost use Rattle.repl_link.specs.Items.{has_end, Drained};
+ghost use Rattle.repl_link.specs.Items.{has_end, EndsLast, Drained};
 
-use crate::items::{Item, Line, copy_bytes};
+use crate::items::{Item, Line, MarkLast, copy_bytes};
 use crate::limits::{PIECE, at_most, less};
 use crate::traits::{Cut, LinkRx, Received};
 use core::mem::replace_with;
 use rtrb::Consumer;
+use std::alloc::Global;
 use std::mem;
 
 /// Receives over a ring in memory. It tells its bytes.
@@ -22,7 +23,7 @@ pub struct MemRx {
     // Whether the mark behind the last byte was taken out of the ring, and whether `receive` has answered so.
     pub(crate) ended: bool,
     pub(crate) closed: bool,
-    pub(crate) ring: Consumer<Item>,
+    pub(crate) ring: Consumer<Item, Global, MarkLast>,
     // Where items are put that were taken out of the ring.
     pub(crate) items: Vec<Item>,
     ghost session_in_range: { session < 8 },
@@ -32,22 +33,23 @@ pub struct MemRx {
 }
 
 // Pops as many items as there are, and so many at most.
-fn pop_front(ring: &mut Consumer<Item>, items: &mut [Item], most: usize) -> usize
+fn pop_front(ring: &mut Consumer<Item, Global, MarkLast>, items: &mut [Item], most: usize) -> usize
     requires { most ≤ length items.old }
     ensures ring { SameConsumer ring.old ring.new }
     ensures count { result ≤ most }
     ensures received { items_received ring.new ≡ items_received ring.old ++ take result items.new }
     ensures known { BeginsWith (known_items ring.old) (take result items.new ++ known_items ring.new) }
     ensures most { result < most → length (known_items ring.new) ≡ 0 }
+    ensures last { EndsLast (take result items.new) }
 {
     ring.pop_partial_slice(&mut items[..most])
 }
 
 // The same, which takes the ring by value, so that the loop over its places keeps their address.
 fn pop_most(
-    mut ring: Consumer<Item>,
+    mut ring: Consumer<Item, Global, MarkLast>,
     places: (Vec<Item>, usize),
-) -> (Consumer<Item>, (Vec<Item>, usize))
+) -> (Consumer<Item, Global, MarkLast>, (Vec<Item>, usize))
     requires { places.1 ≤ length places.0.items }
     ensures ring { SameConsumer ring result.0 }
     ensures items { length result.1.0.items ≡ length places.0.items }
@@ -55,6 +57,7 @@ fn pop_most(
     ensures received { items_received result.0 ≡ items_received ring ++ take result.1.1 result.1.0.items }
     ensures known { BeginsWith (known_items ring) (take result.1.1 result.1.0.items ++ known_items result.0) }
     ensures most { result.1.1 < places.1 → length (known_items result.0) ≡ 0 }
+    ensures last { EndsLast (take result.1.1 result.1.0.items) }
 {
     let (mut items, most) = places;
     let count = pop_front(&mut ring, &mut items, most);
@@ -64,7 +67,7 @@ fn pop_most(
 // Pops as many items as there are, and so many at most, and copies their bytes: the list of items, how many bytes there are, and whether the
 // end follows them.
 fn drain(
-    ring: &mut Consumer<Item>,
+    ring: &mut Consumer<Item, Global, MarkLast>,
     items: Vec<Item>,
     most: usize,
     buffer: &mut [u8],

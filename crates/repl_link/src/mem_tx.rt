@@ -3,10 +3,11 @@ ghost use Rattle.std.specs.Prelude.{◌≡◌, ◌<◌, ◌≤◌, length, false
 ghost use Rattle.rtrb.specs.Ring.{sent as items_sent, known_free, producer_capacity, SameProducer};
 ghost use Rattle.repl_link.specs.Items.{has_end};
 
-use crate::items::{Item, Line, fill};
+use crate::items::{Item, Line, MarkLast, fill};
 use crate::limits::{PIECE, at_most, less};
 use crate::traits::{Cut, LinkTx};
 use rtrb::Producer;
+use std::alloc::Global;
 
 /// Sends over a ring in memory. It tells its bytes.
 #[derive(Drop)]
@@ -17,7 +18,7 @@ pub struct MemTx {
     pub(crate) left: Option<u64>,
     pub(crate) cuts: u64,
     pub(crate) finished: bool,
-    pub(crate) ring: Producer<Item>,
+    pub(crate) ring: Producer<Item, Global, MarkLast>,
     // Where items are made that are put into the ring.
     pub(crate) items: Vec<Item>,
     ghost places: { producer_capacity ring ≡ 4097 },

@@ -212,6 +212,14 @@ pub trait Linker {
         ensures from_primary { IsTrue (links self.now).told → KnowAll (Self.Tx.sending ends.new.up_tx) (Self.Rx.receiving ends.new.down_rx) }
         ensures to_primary { IsTrue (links self.now).told → KnowAll (Self.Tx.sending ends.new.down_tx) (Self.Rx.receiving ends.new.up_rx) };
 
+    /// Lets the two ends of one direction know all that is free or unread in its ring.
+    fn look(&self, tx: &mut Self::Tx, rx: &mut Self::Rx)
+        requires line { Self.Tx.line tx.old ≡ Self.Rx.line rx.old }
+        ensures lines { (Self.Tx.line tx.new ≡ Self.Tx.line tx.old) × (Self.Rx.line rx.new ≡ Self.Rx.line rx.old) }
+        ensures tx { SendingLooked (Self.Tx.sending tx.old) (Self.Tx.sending tx.new) }
+        ensures rx { ReceivingLooked (Self.Rx.receiving rx.old) (Self.Rx.receiving rx.new) }
+        ensures all { IsTrue (links self.now).told → KnowAll (Self.Tx.sending tx.new) (Self.Rx.receiving rx.new) };
+
     /// Takes the four ends of one connection back, and adds their cuts to those of their session. What they received, and what
     /// ends they answered, is kept for contracts, and takes no memory.
     fn settle(&mut self, session: u32, ends: Ends<Self::Tx, Self::Rx>)

@@ -1,7 +1,7 @@
 -- What a turn has moved.
-use Rattle.std.proofs.Common.{◌≡◌, ◌≢◌, ◌⊎◌, inl, inr, ℕ, ◌+◌, ◌<◌, ◌≤◌, Bool, true, false, IsTrue, List, [], ◌∷◌, ◌++◌, length, Result, Ok, Err, IfOk, OnOk, is_err, refl, sym, ap, subst, ◌∙◌, arith, length-append}
+use Rattle.std.proofs.Common.{◌≡◌, ◌≢◌, ◌⊎◌, inl, inr, ℕ, ◌+◌, ◌<◌, ◌≤◌, Bool, true, false, IsTrue, List, [], ◌∷◌, ◌++◌, length, Result, Ok, Err, IfOk, OnOk, is_err, refl, sym, ap, subst, ◌∙◌, arith, append-nil, length-append}
 use Rattle.wire_defs.specs.Frames.{Frame, BeginsFrame}
-use Rattle.wire_defs.specs.Links.{Sending, Receiving, KnowAll}
+use Rattle.wire_defs.specs.Links.{Sending, Receiving, SendingLooked, ReceivingLooked, KnowAll}
 use Rattle.recv_pool.specs.declared.pool.PoolIn.{PoolIn}
 use Rattle.recv_pool.specs.declared.pool.PoolOut.{PoolOut}
 use Rattle.ship_defs.specs.Arrivals.{Arrival}
@@ -90,6 +90,29 @@ module _ {F : Type 0} where
   pub on_weaker : (r : Result Turned (TurnError F)) (P Q : Type 0) → (P → Q) → IfOk r (λ t. t ≡ turned.On → P) → IfOk r (λ t. t ≡ turned.On → Q)
   on_weaker (Ok t) P Q weaker h = λ e. weaker (h e)
   on_weaker (Err x) P Q weaker h = tt
+
+-- an end that didn't look has learned nothing
+pub not_looked : (s : Sending) → SendingLooked s s
+not_looked s = record {
+  same = record { session = refl; connection = refl; told = refl; order = refl; places = refl };
+  cuts = refl;
+  patience = refl;
+  sent = refl;
+  free = omega arith;
+  finished = refl;
+}
+
+pub nor_looked : (r : Receiving) → ReceivingLooked r r
+nor_looked r = record {
+  same = record { session = refl; connection = refl; told = refl; shown = refl; order = refl };
+  cuts = refl;
+  patience = refl;
+  received = refl;
+  unread = ([], sym (append-nil r.unread));
+  ended = λ e. e;
+  whole = λ _. refl;
+  closed = refl;
+}
 
 -- what a turn has moved, once each end has learned of the other
 pub moved_looked : (a b : Listening) (r s t : Receiving) → t.patience ≡ s.patience → t.received ≡ s.received → HasMoved a b r s ⊎ IsStill a b r s → HasMoved a b r t ⊎ IsStill a b r t

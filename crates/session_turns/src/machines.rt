@@ -22,7 +22,7 @@ ghost use Rattle.session_turns.specs.Cuts.{HasCuts, TellsCuts};
 use gvn_key::NoMemory;
 use gvn_model::History;
 use receiver_server::{HearError, Receiver, Step};
-use recv_pool::{PoolIn, PoolOut, beside};
+use recv_pool::{PoolIn, PoolOut, beside, show};
 use repl_link::{Ends, LinkRx, LinkTx, Linker};
 use source_server::{EntrySource, ShipError, Shipped, Source};
 use std::alloc::Global;
@@ -149,7 +149,7 @@ fn apply<S: EntrySink>(
     ensures halted { IfErr result (λ e. (begun : Copy) → Awaits begun (put_in into.old) (taken out.old) (S.copy site.old)
         → (x : Arrival) × (put_in into.old ≡ taken out.old ++ x ∷ []) × Halts e x (S.copy site.old) (S.copy site.new)) }
 {
-    beside(into, out);
+    show(into, out);
     let applied = apply_next(site, out);
     beside(into, out);
     match applied {
@@ -357,7 +357,7 @@ impl<P: Drop> Machines<P> {
     }
 
     /// One step of each machine in turn, over both ends of a connection, but none of the Source Server while three frames wait to be heard. The
-    /// primary has so many entries. Afterwards each end knows all.
+    /// primary has so many entries. Afterwards the ends that entries go over know all.
     pub fn turn<L: Linker, E: EntrySource<Error = P>, S: EntrySink>(
         &mut self,
         length: u64,
@@ -417,7 +417,7 @@ impl<P: Drop> Machines<P> {
             → HasMoved self.old.receiver self.new.receiver (L.Rx.receiving ends.old.down_rx) (L.Rx.receiving ends.new.down_rx) ⊎ HasSentOn (L.Tx.sending ends.old.up_tx) (L.Tx.sending ends.new.up_tx)) }
     {
         let turned = self.step(length, entries, site, &mut ends.up_tx, &mut ends.down_rx);
-        links.beside(ends);
+        links.look(&mut ends.up_tx, &mut ends.down_rx);
         turned
     }
 }

@@ -1,14 +1,15 @@
 //! Ships entries over links in memory to a stand-in of a secondary, so that instructions can be counted.
 //!
 //! The first argument is how many entries there are, the second how many bytes the value of each has. Standard output has one line, the
-//! same at each run.
+//! same at each run. A third argument, `apply`, ships nothing: of three transactions with such values, made beforehand, the stand-in applies
+//! the first so many, so that what it takes by itself can be told.
 #![tactic(auto)]
 
 use anyhow::{Context, Result};
 use gvn_key::Bytes;
 use repl_link::MemLinker;
 use ship_session::{SessionEnd, finish};
-use ship_stands::{Primary, Site, StandError, history};
+use ship_stands::{Primary, Site, StandError, apply_some, history};
 use std::alloc::Global;
 use std::env;
 use std::env::Env;
@@ -50,6 +51,11 @@ fn main(rt: HostRuntime) -> Result<()> {
         Some(word) => word.parse::<u16>().context("reading the size")?,
         None => 10,
     };
+    if words.next().is_some() {
+        let applied = apply_some(rt.alloc(), length, value).context("applying")?;
+        println!(&rt; "{applied} entries applied")?;
+        return Ok(());
+    }
     let came = ship(rt.alloc(), length, value).context("shipping")?;
     println!(&rt; "{length} entries with values of {value} bytes: {came}")?;
     Ok(())

@@ -7,7 +7,9 @@ mod histories;
 mod primary;
 mod site;
 mod story;
+mod transactions;
 
 pub use histories::{Record, StandError, history};
 pub use primary::{Primary, Unread};
 pub use site::{Site, Stopped};
+pub use transactions::apply_some;

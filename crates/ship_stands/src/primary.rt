@@ -32,7 +32,7 @@ pub struct Primary {
 }
 
 // Adds a SET of a value of so many bytes.
-fn push_update(out: &mut Bytes, value: u16) -> Result<(), NoMemory> {
+pub(crate) fn push_update(out: &mut Bytes, value: u16) -> Result<(), NoMemory> {
     out.push_all(b"\x01\x06X\x00\x03A1\x00")?;
     out.push_all(&value.to_be_bytes())?;
     for _ in 0..value {

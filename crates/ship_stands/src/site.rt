@@ -196,7 +196,7 @@ impl EntrySink for Site {
         }
     }
 
-    fn apply(&mut self, number: u64, transaction: &Transaction) -> Result<(), ApplyError<Stopped>> {
+    fn apply(&mut self, number: u64, transaction: Transaction) -> Result<(), ApplyError<Stopped>> {
         let updates = self.updates + transaction.updates.len();
         if number == self.stop {
             return Err(ApplyError::Other(Stopped::There));
@@ -210,7 +210,7 @@ impl EntrySink for Site {
                 self.sum = self.sum.wrapping_add(number.wrapping_mul(serial));
                 self.applied = self.applied.wrapping_add(1);
                 self.remembered = None;
-                self.story = self.story.with(&self.history.reigns, transaction);
+                self.story = self.story.with(&self.history.reigns, &transaction);
                 self.history.length = number;
                 self.updates = updates;
                 Ok(())

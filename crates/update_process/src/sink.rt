@@ -45,24 +45,25 @@ pub trait EntrySink {
         ensures going { OnOk result (IsTrue (going self.new)) }
         ensures err { OnErr result (copy self.new ≡ copy self.old) };
 
-    /// Applies the next entry, and appends the remembered reign right before it. The entry isn't hardened.
+    /// Applies the next entry, which is the site's own from then on, and appends the remembered reign right before it. The entry isn't
+    /// hardened.
     fn apply(
         &mut self,
         number: u64,
-        transaction: &Transaction,
+        transaction: Transaction,
     ) -> Result<(), ApplyError<Self::Error>>
         requires going { IsTrue (going self.old) }
         requires next { number ≡ next_of (copy self.old) }
         requires limit { number < 2 ^ 40 }
-        requires form { IsTransaction (transaction_value transaction.now) }
+        requires form { IsTransaction (transaction_value transaction) }
         requires under { (stamp : Stamp) × (stamp_at (next_of (copy self.old)) (reigns_next (copy self.old)) ≡ Some stamp) }
-        ensures ok { OnOk result (Takes (transaction_value transaction.now) (copy self.old) (copy self.new)) }
-        ensures fits { OnOk result (HasRoom (copy self.old).globals (transaction_value transaction.now).updates) }
+        ensures ok { OnOk result (Takes (transaction_value transaction) (copy self.old) (copy self.new)) }
+        ensures fits { OnOk result (HasRoom (copy self.old).globals (transaction_value transaction).updates) }
         ensures going { OnOk result (IsTrue (going self.new)) }
-        ensures full { IsErrOf result ApplyError.Full → HasRoom (copy self.old).globals (transaction_value transaction.now).updates → ⊥ }
+        ensures full { IsErrOf result ApplyError.Full → HasRoom (copy self.old).globals (transaction_value transaction).updates → ⊥ }
         ensures unchanged { IsErrOf result ApplyError.Full → (copy self.new ≡ copy self.old) × IsTrue (going self.new) }
         // where it goes on nothing has changed
-        ensures other { OnOther result ((copy self.new ≡ copy self.old) ⊎ Takes (transaction_value transaction.now) (copy self.old) (copy self.new)) }
+        ensures other { OnOther result ((copy self.new ≡ copy self.old) ⊎ Takes (transaction_value transaction) (copy self.old) (copy self.new)) }
         ensures stopped { OnOther result (((going self.new) ≡ false) ⊎ (copy self.new ≡ copy self.old)) };
 
     /// Hardens all entries.

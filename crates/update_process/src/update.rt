@@ -64,35 +64,41 @@ fn adopt<S: EntrySink>(site: &mut S, reign: &Option<Reign>) -> Result<bool, Upda
 }
 
 // Applies the next entry and hardens it.
-fn enter<S: EntrySink>(site: &mut S, arrived: &Arrived) -> Result<Applied, UpdateError<S::Error>>
+fn enter<S: EntrySink>(site: &mut S, arrived: Arrived) -> Result<Applied, UpdateError<S::Error>>
     requires going { IsTrue (S.going site.old) }
-    requires form { IsArrival (arrival_value arrived.now) }
-    requires next { arrived.now.number ≡ next_of (S.copy site.old) }
+    requires form { IsArrival (arrival_value arrived) }
+    requires next { arrived.number ≡ next_of (S.copy site.old) }
     requires under { (stamp : defs.Stamp) × (stamp_at (next_of (S.copy site.old)) (reigns_next (S.copy site.old)) ≡ Some stamp) }
-    ensures one { IfOk result (λ a. (a ≡ Applied.One arrived.now.number) × ((m : Copy) × Takes (transaction_value arrived.now.transaction) (S.copy site.old) m × (S.copy site.new ≡ hardened m))) }
+    ensures one { IfOk result (λ a. (a ≡ Applied.One arrived.number) × ((m : Copy) × Takes (transaction_value arrived.transaction) (S.copy site.old) m × (S.copy site.new ≡ hardened m))) }
     ensures going { OnOk result (IsTrue (S.going site.new)) }
     ensures on { IfErr result (λ e. IsSites e ⊎ IsTrue (S.going site.new)) }
-    ensures err { IfErr result (λ e. Refuses e (arrival_value arrived.now) (S.copy site.old) (S.copy site.new)) }
+    ensures err { IfErr result (λ e. Refuses e (arrival_value arrived) (S.copy site.old) (S.copy site.new)) }
 {
-    match site.apply(arrived.number, &arrived.transaction) {
+    let Arrived {
+        at,
+        number,
+        transaction,
+        reign: _,
+    } = arrived;
+    match site.apply(number, transaction) {
         Ok(()) => match site.harden() {
-            Ok(()) => Ok(Applied::One(arrived.number)),
+            Ok(()) => Ok(Applied::One(number)),
             Err(error) => Err(UpdateError::Site(error)),
         },
-        Err(ApplyError::Full) => Err(UpdateError::BadFrame { offset: arrived.at }),
+        Err(ApplyError::Full) => Err(UpdateError::BadFrame { offset: at }),
         Err(ApplyError::Other(error)) => Err(UpdateError::Site(error)),
     }
 }
 
 // Follows an entry that came.
 #[tactic(auto, using(crate::proofs::Covered::told_globals))]
-fn follow<S: EntrySink>(site: &mut S, arrived: &Arrived) -> Result<Applied, UpdateError<S::Error>>
+fn follow<S: EntrySink>(site: &mut S, arrived: Arrived) -> Result<Applied, UpdateError<S::Error>>
     requires going { IsTrue (S.going site.old) }
-    requires form { IsArrival (arrival_value arrived.now) }
-    ensures after { IfOk result (λ a. Did a (arrival_value arrived.now) (S.copy site.old) (S.copy site.new)) }
+    requires form { IsArrival (arrival_value arrived) }
+    ensures after { IfOk result (λ a. Did a (arrival_value arrived) (S.copy site.old) (S.copy site.new)) }
     ensures going { OnOk result (IsTrue (S.going site.new)) }
     ensures on { IfErr result (λ e. IsSites e ⊎ IsTrue (S.going site.new)) }
-    ensures failed { IfErr result (λ e. FailedAt e (arrival_value arrived.now) (S.copy site.old) (S.copy site.new)) }
+    ensures failed { IfErr result (λ e. FailedAt e (arrival_value arrived) (S.copy site.old) (S.copy site.new)) }
 {
     let length = site.history().length;
     if arrived.number <= length {
@@ -124,7 +130,7 @@ pub fn apply_next<S: EntrySink>(
     ensures failed { IfErr result (λ e. Failed e (known pool.old) (taken pool.old) (taken pool.new) (S.copy site.old) (S.copy site.new)) }
 {
     match pool.take() {
-        Some(arrived) => follow(site, &arrived),
+        Some(arrived) => follow(site, arrived),
         None => Ok(Applied::Nothing),
     }
 }

@@ -1,7 +1,12 @@
-use Rattle.std.proofs.Common.{ap, ◌∙◌, sym, arith, nat_lt, length, take}
+use Rattle.std.proofs.Common.{List, ap, subst, ◌∙◌, sym, arith, nat_lt, length, take}
 use Rattle.std.proofs.lemmas.List.{length-take-le}
-use Rattle.repl_link.specs.Items.{bytes_of, has_end}
+use Rattle.repl_link.specs.Items.{Symbol, bytes_of, has_end, EndsLast}
 use Rattle.repl_link.proofs.mem_rx.drain.Goals as goal
+
+pub copy_bytes-count-requires-clause-last : goal.copy_bytes-count-requires-clause-last
+copy_bytes-count-requires-clause-last c =
+    let p = c.replace_with-items in
+    subst (λ (l : List Symbol). EndsLast (take p.result.1 l)) (sym c.deref.ensures.value) p.ensures.1.1.1.1.1.1
 
 pub returns-clause-drained : goal.returns-clause-drained
 returns-clause-drained c =

@@ -3,6 +3,9 @@ use Rattle.repl_link.specs.Items.{End, bytes_of, has_end}
 use Rattle.repl_link.proofs.ItemLists.{bytes_of-end, has_end-append}
 use Rattle.repl_link.proofs.mem_tx.MemTxLinkTx.finish.Goals as goal
 
+pub push_reserved-requires : goal.push_reserved-requires
+push_reserved-requires c = (c.args.self.now.room c.if-not-self.true, c.args.self.now.ends ∙ c.if-not-self.true)
+
 pub invariant_of-self-clause-ends : goal.invariant_of-self-clause-ends
 invariant_of-self-clause-ends c = ap has_end c.push_reserved.ensures.sent.0 ∙ ap (λ s. has_end (c.args.self.now.ring.end.past ++ s ∷ [])) c.end.ensures ∙ has_end-append c.args.self.now.ring.end.past (End ∷ []) (c.args.self.now.ends ∙ c.if-not-self.true)
 

@@ -1,9 +1,20 @@
 use Rattle.std.proofs.Common.{◌≡◌, ◌+◌, refl, ap, sym, ◌∙◌, length, option_map, ◌++◌, take, arith, le_trans}
-use Rattle.std.proofs.lemmas.List.{with_items_is}
+use Rattle.std.proofs.lemmas.List.{with_items_is, length-take-le}
 use Rattle.rtrb.specs.Ring.{sent}
 use Rattle.repl_link.specs.Items.{bytes_of}
+use Rattle.repl_link.proofs.ItemLists.{each_plain}
 use Rattle.repl_link.proofs.Moves.{order_stays, pushed, fits_left}
 use Rattle.repl_link.proofs.mem_tx.MemTxLinkTx.send.Goals as goal
+
+pub push_partial_slice-requires : goal.push_partial_slice-requires
+push_partial_slice-requires c = λ i d below.
+    let open_end = c.room_for-count.new.self.ends ∙ c.room_for-count.ensures.counts.2 ∙ c.if-self.false in
+    let sized : length c.fill.new.items ≡ length c.deref_mut.result.now = omega (arith, c.fill.auto.items) in
+    let size : length c.deref_mut.result.now ≡ length c.room_for-count.new.self.items.items = ap length c.deref_mut.ensures.value in
+    let same : c.deref.result.now ≡ c.fill.new.items = c.deref.ensures.value ∙ with_items_is c.room_for-count.new.self.items c.fill.new.items (omega (arith, sized, size, c.room_for-count.new.self.items.ok.0)) in
+    let filled = ap (take (length (take c.room_for-count.result c.args.bytes.now))) same ∙ c.fill.ensures in
+    let len : length (take c.room_for-count.result c.args.bytes.now) ≡ c.room_for-count.result = length-take-le c.room_for-count.result c.args.bytes.now (omega arith) in
+    each_plain (sent c.room_for-count.new.self.ring) (take c.room_for-count.result c.deref.result.now) (take c.room_for-count.result c.args.bytes.now) open_end (ap (λ n. take n c.deref.result.now) (sym len) ∙ filled) i
 
 pub invariant_of-self-2-clause-ends : goal.invariant_of-self-2-clause-ends
 invariant_of-self-2-clause-ends c =
