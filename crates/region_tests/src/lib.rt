@@ -2,4 +2,6 @@
 #![tactic(auto)]
 
 #[cfg(test)]
+mod joined;
+#[cfg(test)]
 mod regions;
