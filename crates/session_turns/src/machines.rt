@@ -73,7 +73,7 @@ pub struct Machines<P> {
 }
 
 // How many frames may wait to be heard while more are shipped. It is few, so that what was heard gives its memory to what comes.
-const MOST_WAITING: usize = 3;
+const MOST_WAITING: usize = 4;
 
 // Makes BYE, where so many entries were taken and it isn't made yet.
 fn close(source: &mut Source, length: u64) -> Result<(), NoMemory>

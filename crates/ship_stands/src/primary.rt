@@ -1,6 +1,5 @@
 // A primary.
-ghost use Rattle.std.specs.Prelude.{◌≡◌, ◌<◌, ◌%◌, ◌^◌, ◌∷◌, ◌++◌, length, IfOk, OnOk};
-ghost use Rattle.std.specs.Int.{to_be_bytes, w32, w64};
+ghost use Rattle.std.specs.Prelude.{◌≡◌, ◌<◌, ◌^◌, ◌++◌, length, IfOk, OnOk};
 ghost use Rattle.ship_stands.specs.Alike.{entry_of};
 
 use super::histories::StandError;
@@ -42,15 +41,6 @@ pub(crate) fn push_update(out: &mut Bytes, value: u16) -> Result<(), NoMemory> {
     Ok(())
 }
 
-// The bytes of an entry before its updates: its number, the first updater and a serial.
-fn head(number: u64) -> [u8; 13]
-    ensures { result ≡ to_be_bytes w64 number ++ 1 ∷ to_be_bytes w32 (number % 2 ^ 32) }
-{
-    let [a, b, c, d, e, f, g, h] = number.to_be_bytes();
-    let [i, j, k, l] = ((number % SERIALS) as u32).to_be_bytes();
-    [a, b, c, d, e, f, g, h, 1, i, j, k, l]
-}
-
 impl Primary {
     /// So many entries, of so many updates each, whose values have so many bytes.
     pub fn new(alloc: Global, length: u64, count: u16, value: u16) -> Result<Primary, StandError>
@@ -82,8 +72,11 @@ impl Primary {
         requires { number < 2 ^ 40 }
         ensures { OnOk result (out.new ≡ out.old ++ entry_of self.now.updates number) }
     {
-        out.push_all(&head(number))?;
-        out.push_all(self.updates.as_slice())
+        out.push_all(&number.to_be_bytes())?;
+        out.push(1)?;
+        out.push_all(&((number % SERIALS) as u32).to_be_bytes())?;
+        out.push_all(self.updates.as_slice())?;
+        Ok(())
     }
 }
 
