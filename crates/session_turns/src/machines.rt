@@ -356,7 +356,7 @@ impl<P: Drop> Machines<P> {
         settle(self.cut, turned)
     }
 
-    /// One step of each machine in turn, over both ends of a connection, but none of the Source Server while three frames wait to be heard. The
+    /// One step of each machine in turn, over both ends of a connection, but none of the Source Server while four frames wait to be heard. The
     /// primary has so many entries. Afterwards the ends that entries go over know all.
     pub fn turn<L: Linker, E: EntrySource<Error = P>, S: EntrySink>(
         &mut self,
