@@ -12,6 +12,7 @@ pub record Matches (v : View) (p : Place) : Type 0 where
   pub told : IfKnown p (IsSomeAnd v.content (λ files. Reads files p.now p.left))
   pub images : IfKnown p ((c : Files) → Image v c → (o : Contents) × Among p.outcomes o × Stands c o)
   pub standings : IfKnown p (IfSome p.standings (λ os. (c : Files) → Image v c → (o : Standing) × Among os o × StandsSo c o))
+  pub shown : v.content ≡ p.shown
   pub faults : v.faults ≡ p.faults
   pub simulated : v.simulated ≡ p.simulated
 
