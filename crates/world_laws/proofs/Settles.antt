@@ -1,5 +1,6 @@
 -- Open sites are settled: a line a command.
 use Rattle.std.proofs.Common.{◌≡◌, inl, inr, ℕ, Bool, true, false, List, [], ◌∷◌, Option, Some, None, IsTrue, sym, ◌∙◌, subst}
+use Rattle.std.proofs.lemmas.Bool.{false≢true}
 use Rattle.std.specs.List.{AllByRecursion}
 use Rattle.global_defs.specs.Entry.{Stamp}
 use Rattle.global_defs.specs.Jobs.{Job}
@@ -10,7 +11,7 @@ use Rattle.site_defs.specs.Fronts.{turn_of}
 use Rattle.site_defs.specs.Lists.{Among}
 use Rattle.world_defs.specs.World.{Down, Failed, Site, Place, World, Kept, IsFresh, place_of, next_of}
 use Rattle.world_defs.specs.Answers.{Answer, Exists, NoDisk, Refusal}
-use Rattle.world_defs.specs.Changes.{in_new_state, Stays, Fails}
+use Rattle.world_defs.specs.Changes.{in_new_state, Stays, Fails, ChangesUnknown}
 use Rattle.world_defs.specs.Row.{Row, quiet}
 use Rattle.world_defs.specs.Meaning.{apart, Acts, refusing, on_next, target, meaning, row_at}
 use Rattle.world_defs.specs.Step.{LeavesOld, Step}
@@ -42,6 +43,12 @@ settled-kept x y k h = record {
 
     there : IsOpenSite y.site → IsOpenSite x.site
     there up = subst IsOpenSite k.site up
+
+settled-changed : (x y : Place) → ChangesUnknown x y → IsSettledPlace y
+settled-changed x y c = record { outcomes = λ t. absurd (none t); left = λ t. absurd (none t) }
+  where
+    none : IsTrue y.told → ⊥
+    none t = false≢true (sym (c.known.told ∙ c.unknown) ∙ t)
 
 -- no open site
 settled-closed : (q : Place) → (IsOpenSite q.site → ⊥) → IsSettledPlace q
@@ -92,9 +99,9 @@ settled-start p h = record {
   ran = λ s q d. absurd d;
   typed = λ text q d. absurd d;
   fault = λ k q d. settled-fails k _ _ p q d;
-  damage = λ file offset q d. settled-kept p q d.kept h;
+  damage = λ file offset q d. elim d [ inl k ↦ settled-kept p q k.kept h | inr c ↦ settled-changed p q c.2 ];
   refused = λ r q d. settled-start_refused (is_reign_limit r.cause) p q h d;
-  may_refuse = λ r q d. settled-kept p q d.2.kept h;
+  may_refuse = λ r q d. elim d.1 [ inl k ↦ settled-kept p q k.1.kept h | inr c ↦ settled-changed p q c.1 ];
   left = λ q l. tt;
 }
 

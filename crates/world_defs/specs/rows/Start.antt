@@ -65,9 +65,7 @@ LimitedBy cause files = Unit {0}
 
 -- what an opening that is refused leaves where nothing is known: past the limit of reigns a generation was drawn
 abbrev pub StartMayRefuse : Cause → Place → Place → Type 0
-StartMayRefuse GenLimit old new = KeptUnknown old new
-StartMayRefuse ReignLimit old new = ChangesUnknown old new
-StartMayRefuse cause old new = ⊥
+StartMayRefuse cause old new = ((cause ≡ GenLimit) × KeptUnknown old new) ⊎ ((cause ≡ ReignLimit) × ChangesUnknown old new)
 
 abbrev pub start : Name → Place → Row
 start name p = record (writing name (MayBegin name p.left.broken) (MayBeginLeft name) p) {
