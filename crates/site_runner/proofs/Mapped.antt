@@ -213,7 +213,7 @@ mapped_place leftovers region text w p site law b =
 pub map_cut : (leftovers : Leftovers) (region : Name) (text : List ℕ) (w : View) (s : Site) (p : Place) → IsLawful w → MayHaveMapped region text w p → p.faults ≤ w.faults → (q : Place) × LeftByRow (map_pattern region text s.name p) p q × Matches w q
 map_cut leftovers region text w s p law b later =
     let m = mapped_place leftovers region text w p p.site law b in (
-      record { site = p.site; told = p.told; now = m.now; left = m.left; outcomes = maps region text p.outcomes; standings = maps_standing region text p.standings; faults = w.faults; simulated = p.simulated },
+      record { site = p.site; told = p.told; now = m.now; left = m.left; outcomes = maps region text p.outcomes; standings = maps_standing region text p.standings; shown = w.content; faults = w.faults; simulated = p.simulated },
       record {
         told = refl;
         outcomes = λ sure o a. inr (among_maps region text p.outcomes o a);
@@ -232,7 +232,7 @@ map_fault leftovers region text w s p k before now law down site made b count ro
     let of = λ (sure : p.told ≡ true) (o : Contents) (a : Among (maps region text p.outcomes) o). (let x = among_maps region text p.outcomes o a in of_may_map s.name region text x.0 o ((made sure).outcomes x.0 x.1) x.2) in
     comes_fault
     k
-    (record { site = state; told = p.told; now = m.now; left = m.left; outcomes = maps region text p.outcomes; standings = maps_standing region text p.standings; faults = w.faults; simulated = p.simulated })
+    (record { site = state; told = p.told; now = m.now; left = m.left; outcomes = maps region text p.outcomes; standings = maps_standing region text p.standings; shown = w.content; faults = w.faults; simulated = p.simulated })
     (early_down s p down site)
     (record {
       site = refl;
@@ -365,7 +365,7 @@ done_at : (region : Name) (number : ℕ) (text : List ℕ) (w : View) (s : Site)
     → now ≡ before ++ line s.name (codes "MAPPED") → Answers region text w s p s before now true
 done_at region number text w s before now p read down site as_before named free reads images of later same t =
     let d : Contents = with_pattern number text read in
-    let q : Place = record { site = in_new_state world.Down p.site; told = p.told; now = d; left = NO_LEFTOVER; outcomes = d ∷ []; standings = Some (bare d ∷ []); faults = w.faults; simulated = p.simulated } in
+    let q : Place = record { site = in_new_state world.Down p.site; told = p.told; now = d; left = NO_LEFTOVER; outcomes = d ∷ []; standings = Some (bare d ∷ []); shown = w.content; faults = w.faults; simulated = p.simulated } in
     let of_d : p.told ≡ true → IsOf s.name d = λ sure. of_pattern s.name number text read (of sure) in
     comes_done
     q

@@ -174,7 +174,7 @@ begun_place leftovers w s p site law b =
 pub begun_cut : (leftovers : Leftovers) (w : View) (s : Site) (p : Place) → IsLawful w → MayHaveBegun w s p → p.faults ≤ w.faults → (q : Place) × LeftByRow (start s.name p) p q × Matches w q
 begun_cut leftovers w s p law b later =
     let m = begun_place leftovers w s p p.site law b in (
-      record { site = p.site; told = p.told; now = m.now; left = m.left; outcomes = begins s.name p.left.broken p.outcomes; standings = begins_so s.name p.standings; faults = w.faults; simulated = p.simulated },
+      record { site = p.site; told = p.told; now = m.now; left = m.left; outcomes = begins s.name p.left.broken p.outcomes; standings = begins_so s.name p.standings; shown = w.content; faults = w.faults; simulated = p.simulated },
       record {
         told = refl;
         outcomes = λ sure o a. inr (among_begins s.name p.left.broken p.outcomes o a);
@@ -197,7 +197,7 @@ begun_fault leftovers w s p k before now law down site made b count rose t =
     let of = λ (sure : p.told ≡ true) (o : Contents) (a : Among (begins s.name p.left.broken p.outcomes) o). (let x = among_begins s.name p.left.broken p.outcomes o a in of_may_begin s.name p.left.broken x.0 o ((made sure).outcomes x.0 x.1) x.2) in
     comes_fault
     k
-    (record { site = state; told = p.told; now = m.now; left = m.left; outcomes = begins s.name p.left.broken p.outcomes; standings = begins_so s.name p.standings; faults = w.faults; simulated = p.simulated })
+    (record { site = state; told = p.told; now = m.now; left = m.left; outcomes = begins s.name p.left.broken p.outcomes; standings = begins_so s.name p.standings; shown = w.content; faults = w.faults; simulated = p.simulated })
     (early_down s p down site)
     (record {
       site = refl;
@@ -395,7 +395,7 @@ reign_limit_told v nothing s o before now p law h sure limit t =
     let c : Contents = opened p.left.broken p.now in
     let is_open : IsOpen v p.told c (length c.sequence) o = subst (λ (x : Contents). IsOpen v p.told (opened p.left.broken x) (length x.sequence) o) (h.as_before sure)
     (subst (λ (b : List ℕ). IsOpen v p.told (opened b h.read) (length h.read.sequence) o) (h.as_left sure) h.is_open) in
-    let q : Place = record { site = in_new_state world.Down p.site; told = p.told; now = c; left = NO_LEFTOVER; outcomes = c ∷ []; standings = Some (bare c ∷ []); faults = v.faults; simulated = p.simulated } in
+    let q : Place = record { site = in_new_state world.Down p.site; told = p.told; now = c; left = NO_LEFTOVER; outcomes = c ∷ []; standings = Some (bare c ∷ []); shown = v.content; faults = v.faults; simulated = p.simulated } in
     let full : reign_limit p.now ≡ Some ReignLimit = sym (limit_opened p.left.broken p.now) ∙ limit_is c true (limit c (length c.sequence) is_open.remembered) in
     let of : IsOf s.name c = of_opened s.name p.left.broken p.now (h.made sure).now in
     comes_refused
@@ -441,7 +441,7 @@ reign_starts v w nothing s o new stamp serials from before now law first_serials
     let stamp_is : stamp_value stamp ≡ next_stamp s.name read = drawn c (sym h.is_open.remembered.instance) ∙ ap (λ (n : Name). next_stamp n c) name ∙ stamp_opened s.name h.broken read in
     let stamp_new : stamp_of r ≡ next_stamp s.name read = ap stamp_in stamped ∙ stamp_is in
     let state : world.State = world.Primary (next_stamp s.name read) FIRST_SERIALS in
-    let q : Place = record { site = in_new_state state p.site; told = p.told; now = d; left = NO_LEFTOVER; outcomes = d ∷ []; standings = Some (bare d ∷ []); faults = w.faults; simulated = p.simulated } in
+    let q : Place = record { site = in_new_state state p.site; told = p.told; now = d; left = NO_LEFTOVER; outcomes = d ∷ []; standings = Some (bare d ∷ []); shown = w.content; faults = w.faults; simulated = p.simulated } in
     let reign_room : p.told ≡ true → reign_limit p.now ≡ None = λ sure. ap reign_limit (sym (h.as_before sure)) ∙ sym (limit_opened h.broken read) ∙ limit_is c false (room c (length c.sequence) h.is_open.remembered) in
     let of : p.told ≡ true → IsOf s.name d = λ sure. of_begun s.name s.name c (of_opened s.name h.broken read (subst (IsOf s.name) (sym (h.as_before sure)) (h.made sure).now)) in
     let cycle : stamp.cycle ≡ cycle_on q.site = ap (λ x. x.cycle) stamp_is ∙ sym (ap (λ (x : Option world.Site). cycle_on (in_new_state state x)) h.site) in
