@@ -8,25 +8,28 @@ use Rattle.std.proofs.Math.Seq.{take-length}
 use Rattle.disk_defs.specs.Disk.{Files, View}
 use Rattle.journal_defs.specs.Instance.{InstanceRecord, NamedMode, Create, regions}
 use Rattle.journal_defs.specs.Directory.{patterns}
+use Rattle.journal_defs.specs.Numbers.{INSTANCE}
+use Rattle.journal_defs.specs.Stands.{IsInstance}
 use Rattle.global_dir.specs.Directory.{is_mapped}
 use Rattle.global_defs.specs.Pattern.{ends_in_star, stem}
 use Rattle.command_defs.specs.Commands.{Name}
 use Rattle.site_store.specs.declared.layout.Layout.{Layout}
-use Rattle.site_store.specs.Finding.{HasLayout, IsFound}
+use Rattle.site_store.specs.declared.layout.FoundSite.{FoundSite}
+use Rattle.site_store.specs.Finding.{HasLayout, IsFound, IsFoundIn}
 use Rattle.site_store.specs.Opening.{region_value}
 use Rattle.site_defs.specs.Lists.{first_where}
 use Rattle.world_defs.specs.World.{Place}
 use Rattle.site_defs.specs.Contents.{Contents, nothing, is_made, same_name}
-use Rattle.world_defs.specs.Answers.{Started, NoRegion, TwiceMapped, line}
-use Rattle.world_defs.specs.rows.Map.{twice_mapped}
+use Rattle.world_defs.specs.Answers.{Cause, Started, NoRegion, TwiceMapped, line}
+use Rattle.world_defs.specs.rows.Map.{twice_mapped, unmapped_by, UnmappedBy}
 use Rattle.site_defs.specs.Limits.{is_written, region_number}
 use Rattle.site_defs.specs.Stands.{IsSite, Stands}
 use Rattle.site_runner.specs.declared.slot.Site.{Site}
 use Rattle.site_runner.specs.Sites.{IsOf}
 use Rattle.site_runner.specs.Mapping.{IsSeenAt, IsUnmappedIn, MapsAt}
 use Rattle.site_runner.proofs.Looked.{same_self}
-use Rattle.site_runner.proofs.Ats.{some_both, reads_stand}
-use Rattle.site_runner.proofs.Patterns.{refused_started, refused_no_region, refused_twice}
+use Rattle.site_runner.proofs.Ats.{some_both, reads_stand, if_some}
+use Rattle.site_runner.proofs.Patterns.{by_started, by_no_region, by_twice, by_nothing, refused_started, refused_no_region, refused_twice}
 use Rattle.site_runner.proofs.Mapped.{map_refused}
 
 -- what was found on a disk that has these files
@@ -76,10 +79,10 @@ once_by true f = absurd (f refl)
 once_by false f = refl
 
 -- the directory's test is that of the site's patterns
-pub twice_found : (text : List ℕ) (c : Contents) (found : Layout) → HasLayout c.instance found → is_mapped found.directory.patterns (ends_in_star text) (stem text) ≡ true → twice_mapped text c ≡ Some TwiceMapped
+pub twice_found : (text : List ℕ) (c : Contents) (found : Layout) → HasLayout c.instance found → is_mapped found.directory.patterns (ends_in_star text) (stem text) ≡ true → twice_mapped text c.instance ≡ Some TwiceMapped
 twice_found text c found h e = twice_by (list_any (is_written text) (patterns c.instance)) (ap (λ m. is_mapped m.patterns (ends_in_star text) (stem text)) (sym h.directory) ∙ e)
 
-pub once_found : (text : List ℕ) (c : Contents) (found : Layout) → HasLayout c.instance found → (is_mapped found.directory.patterns (ends_in_star text) (stem text) ≡ true → ⊥) → twice_mapped text c ≡ None
+pub once_found : (text : List ℕ) (c : Contents) (found : Layout) → HasLayout c.instance found → (is_mapped found.directory.patterns (ends_in_star text) (stem text) ≡ true → ⊥) → twice_mapped text c.instance ≡ None
 once_found text c found h f = once_by (list_any (is_written text) (patterns c.instance)) (λ e. f (ap (λ m. is_mapped m.patterns (ends_in_star text) (stem text)) h.directory ∙ e))
 
 pub free_found : (region : Name) (number : ℕ) (text : List ℕ) (found : Layout) → found.generation ≡ 0 → number < found.directory.regions
@@ -99,23 +102,44 @@ pub free_in : (o : Option Files) (region : Name) (number : ℕ) (text : List ℕ
 free_in None region number text found h none inside e once = h
 free_in (Some f) region number text found h none inside e once = λ c site. free_found region number text found none inside e once c (h c (inr site)).1
 
--- The refusals.
+-- The refusals. The records of the instance file are what was found, on a disk that tells its bytes.
 
-pub found_started : (region : Name) (text : List ℕ) (w : View) (s : Site) (found : Layout) (before now : List ℕ) → FoundIn w.content (Some found) → 0 < found.generation → now ≡ before ++ line s.name (codes "STARTED") → MapsAt region text w s w s before now false
-found_started region text w s found before now f some t p h =
-    map_refused region text w s Started before now (inl refl) t p h (λ sure. refused_started region text p sure (subst (λ (n : ℕ). 0 < n) (layout_at w s p found f h sure).generation some))
+-- contents with these records
+abbrev of_records : List InstanceRecord → Contents
+of_records rs = record { instance = rs; starts = λ r. []; texts = []; sequence = [] }
 
-pub found_no_region : (region : Name) (text : List ℕ) (w : View) (s : Site) (found : Layout) (before now : List ℕ) → FoundIn w.content (Some found) → found.generation ≡ 0
-    → None ≡ first_where (λ r. same_name r.name region) (map region_value (take found.directory.regions found.regions.items)) → now ≡ before ++ line s.name (codes "NOREGION " ++ region) → MapsAt region text w s w s before now false
-found_no_region region text w s found before now f none e t p h =
-    map_refused region text w s (NoRegion region) before now (inr (inl refl)) t p h (λ sure.
-    let l = layout_at w s p found f h sure in
-    refused_no_region region text p sure (sym l.generation ∙ none) (number_found region p.now found None l e))
+refused_by : (w : View) (region : Name) (text : List ℕ) (rs : List InstanceRecord) (cause : Cause) → IfSome w.content (λ files. IsInstance (files INSTANCE) rs) → unmapped_by region text rs ≡ Some cause → IfSome w.content (UnmappedBy region text cause)
+refused_by w region text rs cause told e = if_some w.content _ (UnmappedBy region text cause) (λ f i. (rs, i, e)) told
 
-pub found_twice : (region : Name) (text : List ℕ) (w : View) (s : Site) (found : Layout) (number : ℕ) (before now : List ℕ) → FoundIn w.content (Some found) → found.generation ≡ 0
-    → Some number ≡ first_where (λ r. same_name r.name region) (map region_value (take found.directory.regions found.regions.items)) → is_mapped found.directory.patterns (ends_in_star text) (stem text) ≡ true
+pub found_started : (region : Name) (text : List ℕ) (w : View) (s : Site) (found : FoundSite) (before now : List ℕ) → IsFoundIn w found → FoundIn w.content (Some found.layout) → 0 < found.layout.generation → now ≡ before ++ line s.name (codes "STARTED") → MapsAt region text w s w s before now false
+found_started region text w s found before now told f some t p h =
+    let rs = found.log.records in
+    map_refused region text w s Started before now (inl refl) (refused_by w region text rs Started told.told (by_started region text rs (subst (λ (n : ℕ). 0 < n) told.layout.generation some))) t p h
+    (λ sure. refused_started region text p sure (subst (λ (n : ℕ). 0 < n) (layout_at w s p found.layout f h sure).generation some))
+
+pub found_no_region : (region : Name) (text : List ℕ) (w : View) (s : Site) (found : FoundSite) (before now : List ℕ) → IsFoundIn w found → FoundIn w.content (Some found.layout) → found.layout.generation ≡ 0
+    → None ≡ first_where (λ r. same_name r.name region) (map region_value (take found.layout.directory.regions found.layout.regions.items)) → now ≡ before ++ line s.name (codes "NOREGION " ++ region) → MapsAt region text w s w s before now false
+found_no_region region text w s found before now told f none e t p h =
+    let rs = found.log.records in
+    map_refused region text w s (NoRegion region) before now (inr (inl refl))
+    (refused_by w region text rs (NoRegion region) told.told (by_no_region region text rs (sym told.layout.generation ∙ none) (number_found region (of_records rs) found.layout None told.layout e))) t p h (λ sure.
+    let l = layout_at w s p found.layout f h sure in
+    refused_no_region region text p sure (sym l.generation ∙ none) (number_found region p.now found.layout None l e))
+
+pub found_twice : (region : Name) (text : List ℕ) (w : View) (s : Site) (found : FoundSite) (number : ℕ) (before now : List ℕ) → IsFoundIn w found → FoundIn w.content (Some found.layout) → found.layout.generation ≡ 0
+    → Some number ≡ first_where (λ r. same_name r.name region) (map region_value (take found.layout.directory.regions found.layout.regions.items)) → is_mapped found.layout.directory.patterns (ends_in_star text) (stem text) ≡ true
     → now ≡ before ++ line s.name (codes "TWICEMAPPED") → MapsAt region text w s w s before now false
-found_twice region text w s found number before now f none e twice t p h =
-    map_refused region text w s TwiceMapped before now (inr (inr refl)) t p h (λ sure.
-    let l = layout_at w s p found f h sure in
-    refused_twice region text p number sure (sym l.generation ∙ none) (number_found region p.now found (Some number) l e) (twice_found text p.now found l twice))
+found_twice region text w s found number before now told f none e twice t p h =
+    let rs = found.log.records in
+    map_refused region text w s TwiceMapped before now (inr (inr refl))
+    (refused_by w region text rs TwiceMapped told.told (by_twice region text rs number (sym told.layout.generation ∙ none) (number_found region (of_records rs) found.layout (Some number) told.layout e) (twice_found text (of_records rs) found.layout told.layout twice))) t p h (λ sure.
+    let l = layout_at w s p found.layout f h sure in
+    refused_twice region text p number sure (sym l.generation ∙ none) (number_found region p.now found.layout (Some number) l e) (twice_found text p.now found.layout l twice))
+
+-- and nothing is against it
+pub free_by : (region : Name) (text : List ℕ) (w : View) (found : FoundSite) (number : ℕ) → IsFoundIn w found → found.layout.generation ≡ 0
+    → Some number ≡ first_where (λ r. same_name r.name region) (map region_value (take found.layout.directory.regions found.layout.regions.items))
+    → (is_mapped found.layout.directory.patterns (ends_in_star text) (stem text) ≡ true → ⊥) → unmapped_by region text found.log.records ≡ None
+free_by region text w found number told none e once =
+    let rs = found.log.records in
+    by_nothing region text rs number (sym told.layout.generation ∙ none) (number_found region (of_records rs) found.layout (Some number) told.layout e) (once_found text (of_records rs) found.layout told.layout once)

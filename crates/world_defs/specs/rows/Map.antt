@@ -1,5 +1,5 @@
 -- MAP: the pattern that is written so is one more of the instance file, for its region of that name.
-use Rattle.std.specs.Prelude.{◌≡◌, ◌⊎◌, ◌<◌, length, ℕ, nat_lt, List, [], ◌∷◌, codes, Option, Some, None}
+use Rattle.std.specs.Prelude.{◌≡◌, ◌⊎◌, ℕ, nat_lt, List, [], ◌∷◌, codes, Option, Some, None}
 use Rattle.std.specs.List.{list_any}
 use Rattle.disk_defs.specs.Disk.{Files}
 use Rattle.journal_defs.specs.Directory.{patterns}
@@ -46,7 +46,7 @@ RefusedBy region text cause files = Unit {0}
 
 -- the instance file is of that site, and nothing is against it
 abbrev pub MappedBy : Name → List ℕ → Name → Files → Type 0
-MappedBy region text name files = ByRecords (λ rs. (0 < length rs) × (site_name rs ≡ name) × (unmapped_by region text rs ≡ None)) files
+MappedBy region text name files = ByRecords (λ rs. (site_name rs ≡ name) × (unmapped_by region text rs ≡ None)) files
 
 -- a pattern isn't mapped to that region
 abbrev pub IsUnmapped : Name → Cause → Type 0
