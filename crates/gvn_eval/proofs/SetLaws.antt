@@ -51,8 +51,12 @@ sets_done (Order key last ∷ job) (u ∷ us) p each few = absurd (cc)
 sets_done (CheckIs key value ∷ job) (u ∷ us) p each few = absurd (cc)
 sets_done (CheckAtLeast key n ∷ job) (u ∷ us) p each few = absurd (cc)
 
--- what the updates say of the whole job
+-- what they say of the whole job
+pub all_set : (job : Job) (g : Globals) (us : List Update) (answers : List (List ℕ)) → len g + length job ≤ MOST_NODES → map setting job ≡ map Some us → answers ≡ [] → Done us answers ≡ eval job g
+all_set job g us answers few each none = ap (λ (texts : List (List ℕ)). Done us texts) none ∙ sets_done job us (record { globals = g; updates = []; answers = [] }) each few
+
+-- the same of updates that were perhaps made
 pub told : {E : Type 0} (job : Job) (g : Globals) (found : Result (Option (List Update)) E) → len g + length job ≤ MOST_NODES → IfOk found (λ o. IfSome o (λ us. map setting job ≡ map Some us)) → IfOk found (λ o. IfSome o (λ us. Done us [] ≡ eval job g))
-told job g (Ok (Some us)) few each = sets_done job us (record { globals = g; updates = []; answers = [] }) each few
+told job g (Ok (Some us)) few each = all_set job g us [] few each refl
 told job g (Ok None) few each = each
 told job g (Err e) few each = each

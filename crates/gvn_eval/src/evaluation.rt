@@ -5,7 +5,7 @@ ghost use Rattle.global_defs.specs.Jobs.{SeqLimit};
 ghost use Rattle.gvn_model.specs.Jobs.{job_value, evaluated_value};
 
 use super::progress::{Progress, Stop};
-use super::sets::only_sets;
+use super::sets::{may_set_all, moved_updates, only_sets};
 use gvn_globals::Lookup;
 use gvn_key::NoMemory;
 use gvn_model::{Answers, Evaluated, Job, Origin};
@@ -45,4 +45,23 @@ pub fn eval<G: Lookup>(
         Some(updates) => Ok(Evaluated::Done { updates, answers }),
         None => by_steps(alloc, job, on),
     }
+}
+
+/// What [`eval`] answers, of a job that is no more of use: where it only sets nodes its keys and values go into the updates, and none is
+/// copied.
+pub fn eval_owned<G: Lookup>(
+    alloc: Global,
+    job: Job,
+    _origin: Origin,
+    on: &G,
+) -> Result<Evaluated, NoMemory>
+    ensures value { IfOk result (λ made. evaluated_value made ≡ evaluation.eval (job_value job) (G.seen on.now)) }
+    ensures never { IfOk result (λ made. evaluated_value made ≢ evaluation.RolledBack SeqLimit) }
+{
+    if !may_set_all(job.statements.as_slice(), on) {
+        return by_steps(alloc, &job, on);
+    }
+    let updates = moved_updates(alloc, job.statements.into_items())?;
+    let answers = Answers::new(alloc);
+    Ok(Evaluated::Done { updates, answers })
 }

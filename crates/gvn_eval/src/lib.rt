@@ -5,4 +5,4 @@ mod evaluation;
 mod progress;
 mod sets;
 
-pub use evaluation::eval;
+pub use evaluation::{eval, eval_owned};

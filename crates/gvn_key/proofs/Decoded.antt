@@ -74,7 +74,7 @@ turned_twice (c ∷ cs) h =
     let twice : 105 - (105 - c) ≡ c = omega (arith, digit_bounds c t.0) in
     λ i. twice i ∷ turned_twice cs t.1 i
 
-unescaped_back : (s : List ℕ) → unescaped false (flat_map escaped s) ≡ s
+pub unescaped_back : (s : List ℕ) → unescaped false (flat_map escaped s) ≡ s
 unescaped_back [] = refl
 unescaped_back (zero ∷ s) = ap (λ x. 0 ∷ x) (unescaped_back s)
 unescaped_back (suc b ∷ s) = elim (cases_Bool (b == 0)) [

@@ -5,6 +5,7 @@ pub mod NoFault
 pub mod DigitValues
 pub mod Decoded
 pub mod Subscripts
+pub mod SubTexts
 pub mod KeyRead
 pub mod Kept
 pub mod Walks

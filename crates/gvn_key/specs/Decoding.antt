@@ -7,6 +7,7 @@ use Rattle.global_defs.specs.Key.{Key, Sub, sub_of}
 use Rattle.global_defs.specs.Encoded.{encoded, encoded_sub}
 use Rattle.global_defs.specs.NodeText.{magnitude_text, sub_bytes}
 use Rattle.global_defs.specs.Valid.{is_key, is_sub}
+use Rattle.global_defs.specs.Zwr.{zwr}
 use Rattle.global_defs.specs.Entry.{is_under}
 use Rattle.global_defs.specs.Evaluation.{first_sub}
 
@@ -66,6 +67,21 @@ positive_read (exponent ∷ digits) = number_read false (exponent - 46) digits
 abbrev pub negative_read : List ℕ → Option (List ℕ)
 negative_read [] = None
 negative_read (exponent ∷ digits) = number_read true (209 - exponent) (map (λ d. 105 - d) digits)
+
+-- what adding a text that was read does: it stands behind what was there, and it is told whether there is one
+abbrev pub AddsRead : Option (List ℕ) → List ℕ → List ℕ → Bool → Type 0
+AddsRead None old new found = found ≡ false
+AddsRead (Some text) old new found = (found ≡ true) × (new ≡ old ++ text)
+
+-- a subscript's text from its encoded form without the last byte
+abbrev pub text_read : List ℕ → Option (List ℕ)
+text_read [] = Some (48 ∷ [])
+text_read (kind ∷ bytes) = if kind == 4 then Some (zwr (unescaped false bytes)) else (if kind == 3 then positive_read bytes else (if kind == 1 then negative_read bytes else None))
+
+-- what adding a subscript's text does, where there is one
+abbrev pub AddsText : Option (List ℕ) → List ℕ → List ℕ → Type 0
+AddsText None old new = Unit {0}
+AddsText (Some text) old new = new ≡ old ++ text
 
 -- a subscript's own bytes from its encoded form without the last byte
 abbrev pub sub_read : List ℕ → Option (List ℕ)

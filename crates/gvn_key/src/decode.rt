@@ -7,7 +7,7 @@ ghost use Rattle.global_defs.specs.Encoded.{significant, encoded_sub};
 ghost use Rattle.global_defs.specs.NodeText.{pointed, magnitude_text};
 ghost use Rattle.global_defs.specs.Key.{Sub};
 ghost use Rattle.global_defs.specs.Valid.{is_sub};
-ghost use Rattle.gvn_key.specs.Decoding.{ReadsSubs, first_read, end_byte, sub_end, unescaped, are_whole, padded, number_read, positive_read, negative_read, sub_read};
+ghost use Rattle.gvn_key.specs.Decoding.{AddsRead, ReadsSubs, first_read, end_byte, sub_end, unescaped, are_whole, padded, number_read, positive_read, negative_read, sub_read};
 
 use super::bytes::{Bytes, NoMemory};
 use super::encoding::{push_reversed, significant};
@@ -49,7 +49,7 @@ pub fn place(byte: u8, bytes: &[u8]) -> Option<usize>
 }
 
 /// Where the first subscript ends.
-fn sub_end(bytes: &[u8]) -> Option<usize>
+pub(crate) fn sub_end(bytes: &[u8]) -> Option<usize>
     ensures place { result ≡ sub_end bytes.now }
     ensures within { IfSome result (λ last. last < length bytes.now) }
 {
@@ -60,14 +60,14 @@ fn sub_end(bytes: &[u8]) -> Option<usize>
 }
 
 /// Whether no byte is a 1, which begins an escape.
-fn has_no_escapes(bytes: &[u8]) -> bool
+pub(crate) fn has_no_escapes(bytes: &[u8]) -> bool
     ensures { result ≡ list_all (λ b. not (b == 1)) bytes.now }
 {
     bytes.iter().all(|b| *b != 1)
 }
 
 /// The bytes of a string from their escaped form: 1 and 1 is 0, 1 and 2 is 1.
-fn unescaped(alloc: Global, bytes: &[u8]) -> Result<Bytes, NoMemory>
+pub(crate) fn unescaped(alloc: Global, bytes: &[u8]) -> Result<Bytes, NoMemory>
     ensures { IfOk result (λ made. made ≡ unescaped false bytes.now) }
 {
     if has_no_escapes(bytes) {
@@ -181,60 +181,70 @@ fn push_digits(count: usize, digits: &[u8], out: &mut Bytes) -> Result<(), NoMem
     }
 }
 
-/// A numeral by the count of digits of 10 ^ 18 times its number, and these digits up to the last that isn't 0.
-fn number(
-    alloc: Global,
+/// Adds a numeral by the count of digits of 10 ^ 18 times its number, and these digits up to the last that isn't 0. Answers whether they
+/// are such digits: else nothing is added.
+fn push_number(
     negative: bool,
     count: usize,
     digits: &[u8],
-) -> Result<Option<Bytes>, NoMemory>
-    ensures { IfOk result (λ read. read ≡ number_read negative count digits.now) }
+    out: &mut Bytes,
+) -> Result<bool, NoMemory>
+    ensures { IfOk result (λ found. AddsRead (number_read negative count digits.now) out.old out.new found) }
 {
     if MOST_DIGITS < count || count < digits.len() || !are_digits(digits) {
-        return Ok(None);
+        return Ok(false);
     }
-    let mut text = Bytes::with_capacity(alloc, LONGEST_NUMERAL)?;
     if negative {
-        text.push(b'-')?;
+        out.push(b'-')?;
     }
-    push_digits(count, digits, &mut text)?;
-    Ok(Some(text))
+    push_digits(count, digits, out)?;
+    Ok(true)
 }
 
-/// A positive number: the exponent and the digits.
+/// Adds the numeral of a positive number: the exponent and the digits. Answers whether there is one.
+pub(crate) fn push_positive(bytes: &[u8], out: &mut Bytes) -> Result<bool, NoMemory>
+    ensures { IfOk result (λ found. AddsRead (positive_read bytes.now) out.old out.new found) }
+{
+    match bytes {
+        [] => Ok(false),
+        [exponent, digits @ ..] => {
+            let count = usize::from(exponent.saturating_sub(46));
+            push_number(false, count, digits, out)
+        }
+    }
+}
+
+/// Adds the numeral of a negative number: the exponent and the digits, both turned round. Answers whether there is one.
+pub(crate) fn push_negative(bytes: &[u8], out: &mut Bytes) -> Result<bool, NoMemory>
+    ensures { IfOk result (λ found. AddsRead (negative_read bytes.now) out.old out.new found) }
+{
+    match bytes {
+        [] => Ok(false),
+        [exponent, turned @ ..] => {
+            let mut digits = Bytes::new(out.allocator());
+            push_reversed(turned, &mut digits)?;
+            let count = usize::from(209u8.saturating_sub(*exponent));
+            push_number(true, count, digits.as_slice(), out)
+        }
+    }
+}
+
+/// The numeral of a positive number.
 fn positive(alloc: Global, bytes: &[u8]) -> Result<Option<Bytes>, NoMemory>
     ensures { IfOk result (λ read. read ≡ positive_read bytes.now) }
 {
-    match bytes {
-        [] => Ok(None),
-        [exponent, digits @ ..] => {
-            number(
-                alloc,
-                false,
-                usize::from(exponent.saturating_sub(46)),
-                digits,
-            )
-        }
-    }
+    let mut text = Bytes::with_capacity(alloc, LONGEST_NUMERAL)?;
+    let found = push_positive(bytes, &mut text)?;
+    Ok(if found { Some(text) } else { None })
 }
 
-/// A negative number: the exponent and the digits, both turned round.
+/// The numeral of a negative number.
 fn negative(alloc: Global, bytes: &[u8]) -> Result<Option<Bytes>, NoMemory>
     ensures { IfOk result (λ read. read ≡ negative_read bytes.now) }
 {
-    match bytes {
-        [] => Ok(None),
-        [exponent, turned @ ..] => {
-            let mut digits = Bytes::new(alloc);
-            push_reversed(turned, &mut digits)?;
-            number(
-                alloc,
-                true,
-                usize::from(209u8.saturating_sub(*exponent)),
-                digits.as_slice(),
-            )
-        }
-    }
+    let mut text = Bytes::with_capacity(alloc, LONGEST_NUMERAL)?;
+    let found = push_negative(bytes, &mut text)?;
+    Ok(if found { Some(text) } else { None })
 }
 
 /// The own bytes of a subscript from its encoded form without the last byte: of a number its numeral.

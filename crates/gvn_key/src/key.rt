@@ -12,6 +12,7 @@ ghost use Rattle.gvn_key.specs.Faults.{subs_fault, parts_fault, key_of, child_of
 use super::bytes::{Bytes, NoMemory};
 use super::encoding::{push_sub, push_subs};
 use super::numeral::is_number;
+use super::subs_text::push_subs_text;
 use super::zwr::push_zwr;
 use std::alloc::Global;
 use std::marker::Model;
@@ -242,10 +243,9 @@ impl Key {
     {
         let room = self.as_encoded().len().saturating_add(BESIDE_TEXT);
         let mut text = Bytes::with_capacity(out.allocator(), room)?;
-        text.push_all(b"^")?;
+        text.push(b'^')?;
         text.push_all(self.name())?;
-        let subs = self.subs()?;
-        write_subs(&subs, &mut text)?;
+        push_subs_text(self.subs_code(), &mut text)?;
         out.push_all(text.as_slice())
     }
 }
@@ -269,30 +269,4 @@ pub fn write_sub(sub: &[u8], out: &mut Bytes) -> Result<(), NoMemory>
     let mut text = Bytes::new(out.allocator());
     push_sub_text(sub, &mut text)?;
     out.push_all(text.as_slice())
-}
-
-/// Subscripts, each behind a comma.
-fn write_others(subs: &[Bytes], out: &mut Bytes) -> Result<(), NoMemory>
-    ensures { OnOk result (out.new ≡ out.old ++ flat_map (λ s. 44 ∷ sub_text s) (map sub_of subs.now)) }
-{
-    for sub in subs {
-        out.push_all(b",")?;
-        push_sub_text(sub.as_slice(), out)?;
-    }
-    Ok(())
-}
-
-/// Subscripts in brackets, nothing where there are none.
-fn write_subs(subs: &[Bytes], out: &mut Bytes) -> Result<(), NoMemory>
-    ensures { OnOk result (out.new ≡ out.old ++ subs_text (map sub_of subs.now)) }
-{
-    match subs {
-        [] => Ok(()),
-        [first, rest @ ..] => {
-            out.push_all(b"(")?;
-            push_sub_text(first.as_slice(), out)?;
-            write_others(rest, out)?;
-            out.push_all(b")")
-        }
-    }
 }

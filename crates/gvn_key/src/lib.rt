@@ -11,6 +11,7 @@ mod order;
 mod parse;
 mod parts;
 mod reader;
+mod subs_text;
 pub mod terms;
 mod words;
 mod zwr;

@@ -54,7 +54,7 @@ impl Key {
     }
 
     /// The encoded subscripts, one after another.
-    fn subs_code(&self) -> &[u8]
+    pub(crate) fn subs_code(&self) -> &[u8]
         ensures value { result.now ≡ flat_map encoded_sub self.now.subs }
         ensures valid { list_all is_sub self.now.subs ≡ true }
     {

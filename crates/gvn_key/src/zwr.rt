@@ -5,6 +5,9 @@ ghost use Rattle.gvn_key.specs.Pieces.{opened, plain_text, code_text, byte_text,
 
 use super::bytes::{Bytes, NoMemory};
 
+/// How many bytes a text of printable bytes alone has beside them, where none is a quote.
+const QUOTES: usize = 2;
+
 /// The piece that is open while bytes are written.
 #[derive(Clone, Copy)]
 enum Open {
@@ -96,7 +99,8 @@ pub fn zwr_write(bytes: &[u8], out: &mut Bytes) -> Result<(), NoMemory>
     ensures ok { OnOk result (out.new ≡ out.old ++ zwr bytes.now) }
     ensures err { OnErr result (out.new ≡ out.old) }
 {
-    let mut text = Bytes::new(out.allocator());
+    let room = bytes.len().saturating_add(QUOTES);
+    let mut text = Bytes::with_capacity(out.allocator(), room)?;
     push_zwr(bytes, &mut text)?;
     out.push_all(text.as_slice())
 }

@@ -15,6 +15,7 @@ ghost use Rattle.std.specs.Prelude.{◌≡◌, ◌++◌, OnOk, OnErr};
 ghost use Rattle.global_defs.specs.Extract.{entry_text, header};
 ghost use Rattle.gvn_model.specs.Entries.{entry_value};
 
+use gvn_key::terms::Update;
 use gvn_key::{Bytes, NoMemory};
 use gvn_model::Entry;
 pub use laws::{
@@ -26,15 +27,28 @@ pub use node::write_node;
 pub use reading::{Extract, ExtractError, read_extract};
 pub use update::read_update;
 
+/// How many bytes a line mostly has at most beside those of the encoded key and the value.
+const BESIDE_TEXTS: usize = 64;
+
 /// Adds the lines of an entry at the end: one line for its update, or a line for each between a TSTART
 /// and a TCOM line. Without memory nothing is added.
 pub fn extract_entry(e: &Entry, out: &mut Bytes) -> Result<(), NoMemory>
     ensures ok { OnOk result (out.new ≡ out.old ++ entry_text e.now.number (entry_value e.now)) }
     ensures err { OnErr result (out.new ≡ out.old) }
 {
-    let mut text = Bytes::new(out.allocator());
+    let mut text = Bytes::with_capacity(out.allocator(), room_of(e))?;
     write_entry(e, &mut text)?;
     out.push_all(text.as_slice())
+}
+
+/// How many bytes the line of one update mostly has at most. Other entries' lines grow.
+fn room_of(e: &Entry) -> usize {
+    match e.transaction.updates.as_slice() {
+        [Update::Set(key, value)] => BESIDE_TEXTS
+            .saturating_add(key.as_encoded().len())
+            .saturating_add(value.len()),
+        _ => BESIDE_TEXTS,
+    }
 }
 
 fn write_entry(e: &Entry, out: &mut Bytes) -> Result<(), NoMemory>

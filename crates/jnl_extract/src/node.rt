@@ -5,12 +5,18 @@ ghost use Rattle.global_defs.specs.Zwr.{zwr};
 
 use gvn_key::{Bytes, Key, NoMemory, zwr_write};
 
+/// How many bytes a line mostly has beside those of the encoded key and the value, where nothing in them has a code.
+const BESIDE_TEXTS: usize = 8;
+
 /// Adds a ZWRITE line at the end: the node, an equals sign, its value in ZWR form and LF. Without memory nothing is added.
 pub fn write_node(key: &Key, value: &[u8], out: &mut Bytes) -> Result<(), NoMemory>
     ensures ok { OnOk result (out.new ≡ out.old ++ (node_text key.now ++ 61 ∷ zwr value.now ++ 10 ∷ [])) }
     ensures err { OnErr result (out.new ≡ out.old) }
 {
-    let mut text = Bytes::new(out.allocator());
+    let room = BESIDE_TEXTS
+        .saturating_add(key.as_encoded().len())
+        .saturating_add(value.len());
+    let mut text = Bytes::with_capacity(out.allocator(), room)?;
     key.write(&mut text)?;
     text.push_all(b"=")?;
     zwr_write(value, &mut text)?;

@@ -13,7 +13,6 @@ pub record Writes (m w : MemFile) (at : ℕ) (bytes : List ℕ) : Type 0 where
   pub read : w.read.items ≡ written m.read.items at bytes
   pub synced : w.synced ≡ m.synced
   pub marks : w.marks.items ≡ marked m.marks.items at (length bytes)
-  pub left : w.left ≡ m.left
   pub low : w.low ≡ min m.low at
   pub bytes_left : w.bytes_left + length bytes ≡ m.bytes_left
   pub for_read : vec_capacity m.read ≤ vec_capacity w.read
@@ -39,7 +38,6 @@ kept_written m w at bytes call kept =
         for_read = omega (arith, read_is, call.inside, call.bytes_left, call.for_read, kept.memory.for_read);
         for_synced = omega (arith, read_is, call.inside, call.bytes_left, kept.memory.for_synced, ap vec_capacity call.synced);
         for_marks = omega (arith, read_is, call.inside, call.bytes_left, call.for_marks, kept.memory.for_marks);
-        for_left = omega (arith, read_is, call.inside, call.bytes_left, kept.memory.for_left, ap vec_capacity call.left);
       };
     }
 
@@ -49,7 +47,6 @@ pub record Syncs (m w : MemFile) : Type 0 where
   pub synced : w.synced.items ≡ m.read.items
   pub marks : w.marks.items ≡ replicate (length m.read.items) false
   pub low : w.low ≡ length m.read.items
-  pub left : w.left ≡ m.left
   pub bytes_left : w.bytes_left ≡ m.bytes_left
   pub for_synced : vec_capacity m.synced ≤ vec_capacity w.synced
   pub for_marks : vec_capacity m.marks ≤ vec_capacity w.marks
@@ -68,7 +65,6 @@ kept_synced m w call kept =
         for_read = omega (arith, read_is, call.bytes_left, ap vec_capacity call.read, kept.memory.for_read);
         for_synced = omega (arith, read_is, call.bytes_left, call.for_synced, kept.memory.for_synced);
         for_marks = omega (arith, read_is, call.bytes_left, call.for_marks, kept.memory.for_marks);
-        for_left = omega (arith, read_is, call.bytes_left, ap vec_capacity call.left, kept.memory.for_left);
       };
     }
 

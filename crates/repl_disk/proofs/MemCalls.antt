@@ -3,10 +3,8 @@ use Rattle.std.proofs.Common.{◌≡◌, ℕ, ◌+◌, ◌-◌, ◌≤◌, ◌==
 use Rattle.std.proofs.lemmas.Bool.{cases_eq}
 use Rattle.std.proofs.lemmas.List.{take_at, drop_at}
 use Rattle.disk_defs.specs.Disk.{Files, View, OnFile, Same, Passes, Torn, Reads, written}
-use Rattle.repl_disk.specs.Mem.{Mem, Room, States, put, settled, wrote, last, front, replay, RoomGiven, mem_view}
+use Rattle.repl_disk.specs.Mem.{Call, Wrote, Synced, Mem, Room, States, put, settled, wrote, last, front, replay, RoomGiven, mem_view}
 use Rattle.repl_disk.specs.Table.{Entry, entry_in, put_entry, entry_written, entry_synced, lefts}
-use Rattle.repl_disk.specs.declared.call.Call.{Call}
-use Rattle.repl_disk.specs.declared.call.Call.TheVariants.{Wrote, Synced}
 use Rattle.repl_disk.specs.declared.file.MemFile.{MemFile}
 use Rattle.repl_disk.proofs.MemSteps.{written_passes, synced_passes}
 use Rattle.repl_disk.proofs.Parts.{length_over, over_front}

@@ -4,11 +4,9 @@ use Rattle.std.proofs.lemmas.Bool.{cases_eq, cases_lt}
 use Rattle.std.proofs.lemmas.Bool.Decides.{nat_tests}
 use Rattle.std.proofs.lemmas.List.{take_at, drop_at, drop_all, get_or_append_left, get_or-append_right, same_lists, get_or_default, length-replicate, get_or-replicate}
 use Rattle.disk_defs.specs.Disk.{Files, Image, From, OnFile, Same, Passes, Torn}
-use Rattle.repl_disk.specs.Mem.{Mem, Room, States, put, settled, wrote, last, front, before, replay, ago, IsImageOf, IsImageAt, Since, mem_view}
+use Rattle.repl_disk.specs.Mem.{Call, Wrote, Synced, Mem, Room, States, put, settled, wrote, last, front, before, replay, ago, IsImageOf, IsImageAt, Since, mem_view}
 use Rattle.repl_disk.specs.MemLaws.{IsWhole, whole_replay, read_image}
 use Rattle.repl_disk.proofs.Parts.{length_over, over_below, over_above}
-use Rattle.repl_disk.specs.declared.call.Call.{Call}
-use Rattle.repl_disk.specs.declared.call.Call.TheVariants.{Wrote, Synced}
 
 -- an image after a write is one from before it that a crash tore
 abbrev TornFrom : Mem → ℕ → ℕ → List ℕ → Type 0

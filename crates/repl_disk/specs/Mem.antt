@@ -1,8 +1,13 @@
 -- What a disk in memory shows: its calls since the last crash, replayed over what that crash left.
 use Rattle.std.specs.Prelude.{◌≡◌, ◌≢◌, ℕ, zero, suc, ◌+◌, ◌-◌, ◌≤◌, ◌<◌, ◌==◌, Bool, true, false, if◌then◌else◌, List, [], ◌∷◌, ◌++◌, length, take, drop, replicate, slice_index_or, Some}
 use Rattle.disk_defs.specs.Disk.{Files, View, written}
-use Rattle.repl_disk.specs.declared.call.Call.{Call}
-use Rattle.repl_disk.specs.declared.call.Call.TheVariants.{Wrote, Synced}
+
+-- a call that changed what files have, or what is on the disk; the bytes of all writes stand together, in order
+pub data Call : Type 0 where
+  -- so many bytes were written to the file from a place on
+  Wrote : ℕ → ℕ → ℕ → Call
+  -- a sync of the file succeeded
+  Synced : ℕ → Call
 
 -- a file as it reads, as it was synced last, and for each place whether it was written since
 pub record Mem : Type 0 where

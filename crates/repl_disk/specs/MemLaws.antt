@@ -2,9 +2,7 @@
 use Rattle.std.proofs.Common.{◌≡◌, ℕ, ◌+◌, ◌≤◌, ◌==◌, true, false, cond, List, [], ◌∷◌, ◌++◌, length, take, drop, replicate, refl, arith, length-append, length-take, length-drop}
 use Rattle.std.proofs.lemmas.List.{length-replicate}
 use Rattle.disk_defs.specs.Disk.{Files, IsLawful}
-use Rattle.repl_disk.specs.Mem.{Mem, Room, States, put, settled, wrote, last, before, after, replay, IsImageOf, mem_view}
-use Rattle.repl_disk.specs.declared.call.Call.{Call}
-use Rattle.repl_disk.specs.declared.call.Call.TheVariants.{Wrote, Synced}
+use Rattle.repl_disk.specs.Mem.{Call, Wrote, Synced, Mem, Room, States, put, settled, wrote, last, before, after, replay, IsImageOf, mem_view}
 
 -- no file is synced past its end, and each place has its mark
 pub record IsWhole (m : Mem) : Type 0 where

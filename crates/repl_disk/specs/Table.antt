@@ -81,7 +81,6 @@ pub record HasMemory (m : MemFile) : Type 0 where
   pub for_read : length m.read.items + m.bytes_left ≤ vec_capacity m.read
   pub for_synced : length m.read.items + m.bytes_left ≤ vec_capacity m.synced
   pub for_marks : length m.read.items + m.bytes_left ≤ vec_capacity m.marks
-  pub for_left : length m.read.items + m.bytes_left ≤ vec_capacity m.left
 
 pub record IsKept (m : MemFile) : Type 0 where
   pub low : m.low ≤ length m.synced.items

@@ -4,6 +4,7 @@ ghost use Rattle.disk_defs.specs.Disk.{written};
 ghost use Rattle.repl_disk.specs.Mem.{marked, wrote, settled, IsImageOf};
 ghost use Rattle.repl_disk.specs.Table.{mem_of, room_of, entry_of, nothing, counted, IsKept, HasMemory};
 
+use crate::log::Bytes;
 use std::alloc::{AllocError, Global};
 
 /// A file as it reads, as it was synced last, and for each place whether it was written since.
@@ -18,7 +19,7 @@ pub struct MemFile {
     /// No place before this one was written since the last sync.
     pub low: usize,
     /// What the last crash left.
-    pub left: Vec<u8>,
+    pub left: Bytes,
     pub calls_left: u64,
     pub bytes_left: u64,
     /// How many syncs there were.
@@ -130,7 +131,7 @@ impl MemFile {
             synced: Vec::new(alloc),
             marks: Vec::new(alloc),
             low: 0,
-            left: Vec::new(alloc),
+            left: Bytes::none(),
             calls_left: 0,
             bytes_left: 0,
             syncs: 0,
@@ -156,8 +157,6 @@ impl MemFile {
         self.marks.reserve(more)?;
         self.synced
             .reserve(self.read.len() - self.synced.len() + more)?;
-        let behind = self.read.len().saturating_sub(self.left.len());
-        self.left.reserve(behind + more)?;
         self.calls_left += calls;
         self.bytes_left += bytes;
         Ok(())
@@ -216,7 +215,7 @@ impl MemFile {
     {
         let n = self.read.len();
         follow(&mut self.synced, &self.read, 0);
-        follow(&mut self.left, &self.read, 0);
+        self.left = Bytes::of(&self.read);
         unmark(&mut self.marks, 0, n);
         self.low = n;
     }

@@ -2,9 +2,9 @@
 #![tactic(auto)]
 
 mod blind;
-mod call;
 mod disk;
 mod file;
+mod log;
 mod memdisk;
 mod table;
 

@@ -1,15 +1,14 @@
 //! A disk in memory, which keeps a record of its calls.
-ghost use Rattle.std.specs.Prelude.{◌≡◌, ◌≢◌, ◌≤◌, ◌<◌, ◌+◌, ◌*◌, ◌++◌, ◌^◌, [], ◌∷◌, ℕ, Some, length, reverse, vec_capacity, IfOk, IfSome, OnOk, OnErr, IsTrue};
+ghost use Rattle.std.specs.Prelude.{◌≡◌, ◌≢◌, ◌≤◌, ◌<◌, ◌+◌, ◌++◌, ◌^◌, [], ◌∷◌, ℕ, Some, length, reverse, IfOk, IfSome, OnOk, OnErr, IsTrue};
 ghost use Rattle.disk_defs.specs.Disk.{Files, Image, HasCause};
-ghost use Rattle.repl_disk.specs.Mem.{replay, mem_view, settled, RoomTaken, RoomGiven};
+ghost use Rattle.repl_disk.specs.Mem.{Wrote, Synced, replay, mem_view, settled, RoomTaken, RoomGiven};
 ghost use Rattle.repl_disk.specs.MemLaws.{mem_lawful};
 ghost use Rattle.repl_disk.specs.Table.{entry_in, lefts, rooms, syncs_of, counted, IsCrashed, AreKept, all_calls, all_bytes};
-ghost use Rattle.repl_disk.specs.declared.call.Call.TheVariants.{Wrote, Synced};
 ghost use Rattle.std.proofs.Props.{props};
 
-use crate::call::Call;
 use crate::disk::{Disk, Failed, NoMemory};
 use crate::file::MemFile;
+use crate::log::{Bytes, Calls};
 use crate::table::{bytes_of, crash_files, find, grow_file, slot, sync_file, syncs_in, write_file};
 use std::alloc::{AllocError, Global};
 
@@ -18,7 +17,7 @@ const MOST: u64 = 1 << 58;
 
 /// A disk in memory. It tells what its files have, and can be made to fail and to crash.
 ///
-/// It keeps a record of its calls since the last crash, and its memory is a small factor of what was written.
+/// Its memory is a small factor of its files' length and of the room on them: clauses alone read its calls since the last crash.
 /// Pick 0 of a crash gives each file its last synced bytes and end, pick 1 keeps all that was written. Each other pick numbers
 /// the bytes written since each file's last sync, over the files in rising number and the places in rising order. By the rest
 /// of that number times the pick by 3 a byte is as it was synced, or 0 past the synced end; or as written; or 01. The written
@@ -29,9 +28,9 @@ pub struct MemDisk {
     /// The files, by rising number.
     files: Vec<MemFile>,
     /// The calls since the last crash that changed a file, the oldest first.
-    calls: Vec<Call>,
+    calls: Calls,
     /// The bytes of all their writes.
-    written: Vec<u8>,
+    written: Bytes,
     /// The room that is left on all files together.
     calls_left: u64,
     bytes_left: u64,
@@ -41,8 +40,6 @@ pub struct MemDisk {
     ghost kept: { AreKept files.items } by { Prim.hlevel props },
     ghost all_calls: { all_calls files.items ≡ calls_left },
     ghost all_bytes: { all_bytes files.items ≡ bytes_left },
-    ghost calls_fit: { length calls.items + calls_left ≤ vec_capacity calls },
-    ghost bytes_fit: { length written.items + bytes_left ≤ vec_capacity written },
 }
 
 impl MemDisk {
@@ -55,8 +52,8 @@ impl MemDisk {
         Ok(MemDisk {
             alloc,
             files: Vec::new(alloc),
-            calls: Vec::new(alloc),
-            written: Vec::new(alloc),
+            calls: Calls::none(),
+            written: Bytes::none(),
             calls_left: 0,
             bytes_left: 0,
             faults: 0,
@@ -107,12 +104,8 @@ impl MemDisk {
         };
         write_file(&mut self.files, file, i, at, bytes);
         let n = bytes.len() as u64;
-        if self.calls.push(Call::Wrote { file, at, n }).is_err() {
-            unreachable!();
-        }
-        if self.written.extend_from_slice(bytes).is_err() {
-            unreachable!();
-        }
+        self.calls = self.calls.with_write(file, at, n);
+        self.written = self.written.with(bytes);
         self.calls_left -= 1;
         self.bytes_left -= n;
     }
@@ -132,9 +125,7 @@ impl MemDisk {
             unreachable!();
         };
         sync_file(&mut self.files, file, i);
-        if self.calls.push(Call::Synced { file }).is_err() {
-            unreachable!();
-        }
+        self.calls = self.calls.with_sync(file);
         self.calls_left -= 1;
     }
 
@@ -149,8 +140,6 @@ impl MemDisk {
         ensures err { OnErr result ((f : ℕ) → rooms self.new.files.items f ≡ rooms self.old.files.items f) }
         ensures faults { self.new.faults ≡ self.old.faults }
     {
-        self.calls.reserve((self.calls_left + calls) as usize)?;
-        self.written.reserve((self.bytes_left + bytes) as usize)?;
         let i = slot(&mut self.files, self.alloc, file)?;
         grow_file(&mut self.files, file, i, calls, bytes)?;
         self.calls_left += calls;
@@ -167,8 +156,8 @@ impl MemDisk {
     {
         self.fuse = None;
         crash_files(&mut self.files, pick);
-        self.calls.clear();
-        self.written.clear();
+        self.calls = Calls::none();
+        self.written = Bytes::none();
     }
 }
 

@@ -25,7 +25,6 @@ returns-clause-kept c =
       synced = extended ∙ same_front m.low m.synced.items m.read.items kept.same;
       marks = resized ∙ filled_up m.low (length m.read.items) m.marks.items false (omega (arith, kept.low, kept.ends)) kept.free;
       low = low;
-      left = refl;
       bytes_left = refl;
       for_synced = for_synced;
       for_marks = for_marks;

@@ -10,7 +10,6 @@ returns-clause-kept c =
       read = c.overwrite.ensures.items;
       synced = refl;
       marks = c.mark.ensures.items;
-      left = refl;
       low = low;
       bytes_left = omega (arith, c.requires.bytes);
       for_read = c.overwrite.ensures.capacity;
