@@ -13,6 +13,7 @@ mod update;
 
 ghost use Rattle.std.specs.Prelude.{◌≡◌, ◌++◌, OnOk, OnErr};
 ghost use Rattle.global_defs.specs.Extract.{entry_text, header};
+ghost use Rattle.global_defs.specs.Prefix.{IsPrefix};
 ghost use Rattle.gvn_model.specs.Entries.{entry_value};
 
 use gvn_key::terms::Update;
@@ -36,9 +37,15 @@ pub fn extract_entry(e: &Entry, out: &mut Bytes) -> Result<(), NoMemory>
     ensures ok { OnOk result (out.new ≡ out.old ++ entry_text e.now.number (entry_value e.now)) }
     ensures err { OnErr result (out.new ≡ out.old) }
 {
-    let mut text = Bytes::with_capacity(out.allocator(), room_of(e))?;
-    write_entry(e, &mut text)?;
-    out.push_all(text.as_slice())
+    let before = out.len();
+    out.reserve(room_of(e))?;
+    match write_entry(e, out) {
+        Ok(()) => Ok(()),
+        Err(error) => {
+            out.truncate(before);
+            Err(error)
+        }
+    }
 }
 
 /// How many bytes the line of one update mostly has at most. Other entries' lines grow.
@@ -52,7 +59,8 @@ fn room_of(e: &Entry) -> usize {
 }
 
 fn write_entry(e: &Entry, out: &mut Bytes) -> Result<(), NoMemory>
-    ensures { OnOk result (out.new ≡ out.old ++ entry_text e.now.number (entry_value e.now)) }
+    ensures ok { OnOk result (out.new ≡ out.old ++ entry_text e.now.number (entry_value e.now)) }
+    ensures front { OnErr result (IsPrefix out.old out.new) }
 {
     match e.transaction.updates.as_slice() {
         [] => Ok(()),
@@ -65,17 +73,29 @@ fn write_entry(e: &Entry, out: &mut Bytes) -> Result<(), NoMemory>
     }
 }
 
+fn push_header(site: &[u8], from: u64, out: &mut Bytes) -> Result<(), NoMemory>
+    ensures ok { OnOk result (out.new ≡ out.old ++ header site.now from) }
+    ensures front { OnErr result (IsPrefix out.old out.new) }
+{
+    out.push_all(b"GTMRJEX01\\")?;
+    out.push_all(site)?;
+    out.push_all(b"\\")?;
+    out.push_decimal(from)?;
+    out.push_all(b"\n")
+}
+
 /// Adds the first line of an extract at the end: the site's name, and the number that the extract
 /// begins with. Without memory nothing is added.
 pub fn write_header(site: &[u8], from: u64, out: &mut Bytes) -> Result<(), NoMemory>
     ensures ok { OnOk result (out.new ≡ out.old ++ header site.now from) }
     ensures err { OnErr result (out.new ≡ out.old) }
 {
-    let mut text = Bytes::new(out.allocator());
-    text.push_all(b"GTMRJEX01\\")?;
-    text.push_all(site)?;
-    text.push_all(b"\\")?;
-    text.push_decimal(from)?;
-    text.push_all(b"\n")?;
-    out.push_all(text.as_slice())
+    let before = out.len();
+    match push_header(site, from, out) {
+        Ok(()) => Ok(()),
+        Err(error) => {
+            out.truncate(before);
+            Err(error)
+        }
+    }
 }

@@ -3,6 +3,7 @@ ghost use Rattle.std.specs.Prelude.{◌≡◌, ◌++◌, map, All, OnOk, OnErr};
 ghost use Rattle.std.specs.List.{flat_map};
 ghost use Rattle.global_defs.specs.Fields as fields;
 ghost use Rattle.global_defs.specs.Fields.{IsUpdate};
+ghost use Rattle.global_defs.specs.Prefix.{IsPrefix};
 ghost use Rattle.gvn_model.specs.Items.{item_value};
 ghost use Rattle.journal_defs.specs.Journal.{spelled_item, spelled_record, IsInForm};
 ghost use Rattle.jnl_record.specs.Heads.{spelled_head};
@@ -20,7 +21,8 @@ const SHORT_RECORD: usize = 128;
 /// Adds an item at the end: 04, its position, and its update.
 fn write_item(item: &Item, out: &mut Bytes) -> Result<(), NoMemory>
     requires { IsUpdate (item_value item.now).update }
-    ensures { OnOk result (out.new ≡ out.old ++ spelled_item (item_value item.now)) }
+    ensures ok { OnOk result (out.new ≡ out.old ++ spelled_item (item_value item.now)) }
+    ensures front { OnErr result (IsPrefix out.old out.new) }
 {
     out.push(4)?;
     out.push_all(&item.position.to_be_bytes())?;
@@ -30,7 +32,8 @@ fn write_item(item: &Item, out: &mut Bytes) -> Result<(), NoMemory>
 /// Adds items at the end, one behind the other.
 fn write_items(items: &[Item], out: &mut Bytes) -> Result<(), NoMemory>
     requires { All (λ i. IsUpdate (item_value i).update) items.now }
-    ensures { OnOk result (out.new ≡ out.old ++ flat_map spelled_item (map item_value items.now)) }
+    ensures ok { OnOk result (out.new ≡ out.old ++ flat_map spelled_item (map item_value items.now)) }
+    ensures front { OnErr result (IsPrefix out.old out.new) }
 {
     for item in items {
         write_item(item, out)?;
@@ -40,7 +43,8 @@ fn write_items(items: &[Item], out: &mut Bytes) -> Result<(), NoMemory>
 
 /// Adds how a TCOM begins at the end, behind its kind.
 fn write_head(head: Head, out: &mut Bytes) -> Result<(), NoMemory>
-    ensures { OnOk result (out.new ≡ out.old ++ spelled_head head) }
+    ensures ok { OnOk result (out.new ≡ out.old ++ spelled_head head) }
+    ensures front { OnErr result (IsPrefix out.old out.new) }
 {
     out.push_all(&head.number.to_be_bytes())?;
     out.push_all(&[head.mask, head.origin.updater])?;
@@ -60,7 +64,8 @@ fn flag_byte(flag: bool) -> u8
 fn write_record(r: &JnlRecord, out: &mut Bytes) -> Result<(), NoMemory>
     requires form { IsInForm (record_value r.now) }
     requires version { IsFirstVersion r.now }
-    ensures { OnOk result (out.new ≡ out.old ++ spelled_record (record_value r.now)) }
+    ensures ok { OnOk result (out.new ≡ out.old ++ spelled_record (record_value r.now)) }
+    ensures front { OnErr result (IsPrefix out.old out.new) }
 {
     match r {
         JnlRecord::Pini {
@@ -109,14 +114,20 @@ fn write_record(r: &JnlRecord, out: &mut Bytes) -> Result<(), NoMemory>
     }
 }
 
-/// Adds a record's body at the end.
+/// Adds a record's body at the end. Without memory nothing is added.
 pub fn encode(r: &JnlRecord, out: &mut Bytes) -> Result<(), NoMemory>
     requires form { IsInForm (record_value r.now) }
     requires version { IsFirstVersion r.now }
     ensures ok { OnOk result (out.new ≡ out.old ++ spelled_record (record_value r.now)) }
     ensures err { OnErr result (out.new ≡ out.old) }
 {
-    let mut body = Bytes::with_capacity(out.allocator(), SHORT_RECORD)?;
-    write_record(r, &mut body)?;
-    out.push_all(body.as_slice())
+    let before = out.len();
+    out.reserve(SHORT_RECORD)?;
+    match write_record(r, out) {
+        Ok(()) => Ok(()),
+        Err(error) => {
+            out.truncate(before);
+            Err(error)
+        }
+    }
 }

@@ -1,6 +1,7 @@
 -- Parts of lists that are written over.
-use Rattle.std.proofs.Common.{◌≡◌, ℕ, zero, suc, ◌+◌, ◌-◌, ◌≤◌, ◌<◌, max, List, ◌∷◌, ◌++◌, length, take, drop, replicate, get_or, sym, ◌∙◌, ap, arith, append_assoc, length-append, length-take, length-drop, get_or-drop, get_or-take, take-append-drop}
-use Rattle.std.proofs.lemmas.List.{take-append-le, take-take, get_or_append_left, get_or-append_right, take-replicate}
+use Rattle.std.proofs.Common.{◌≡◌, ℕ, zero, suc, ◌+◌, ◌-◌, ◌≤◌, ◌<◌, max, List, ◌∷◌, ◌++◌, length, take, drop, replicate, get_or, sym, ◌∙◌, ap, arith, append_assoc, length-append, length-take, length-drop, get_or-drop, get_or-take}
+use Rattle.std.proofs.Math.Seq.{take-append-add, drop-append-add}
+use Rattle.std.proofs.lemmas.List.{take_at, take-append-le, take-take, get_or_append_left, get_or-append_right}
 
 -- these items in place of so many from a place on
 abbrev pub over : {A : Type 0} → List A → ℕ → ℕ → List A → List A
@@ -31,15 +32,24 @@ pub replicate_sum : {A : Type 0} (a b : ℕ) (x : A) → replicate a x ++ replic
 replicate_sum zero b x = ap (λ (k : ℕ). replicate k x) (omega arith)
 replicate_sum (suc a) b x = let same : suc (a + b) ≡ suc a + b = omega arith in ap (λ l. x ∷ l) (replicate_sum a b x) ∙ ap (λ (k : ℕ). replicate k x) same
 
--- the front of one list and the rest of another
-pub same_front : {A : Type 0} (n : ℕ) (xs ys : List A) → take n xs ≡ take n ys → take n xs ++ drop n ys ≡ ys
-same_front n xs ys same = ap (λ l. l ++ drop n ys) same ∙ take-append-drop n ys
+-- behind a front that stays
+pub over_behind : {A : Type 0} (front old items : List A) (k at n : ℕ) → length front ≡ k → over (front ++ old) (k + at) n items ≡ front ++ over old at n items
+over_behind front old items k at n long =
+    let place : k + at ≡ length front + at = ap (λ (m : ℕ). m + at) (sym long) in
+    let end : k + at + n ≡ length front + (at + n) = omega (arith, long) in
+    let first : take (k + at) (front ++ old) ≡ front ++ take at old = ap (λ (m : ℕ). take m (front ++ old)) place ∙ take-append-add front old at in
+    let rest : drop (k + at + n) (front ++ old) ≡ drop (at + n) old = ap (λ (m : ℕ). drop m (front ++ old)) end ∙ drop-append-add front old (at + n) in
+    (λ i. first i ++ items ++ rest i)
+    ∙ ap (λ l. l ++ drop (at + n) old) (append_assoc front (take at old) items)
+    ∙ append_assoc front (take at old ++ items) (drop (at + n) old)
 
-pub filled_up : {A : Type 0} (n m : ℕ) (xs : List A) (x : A) → n ≤ m → take n xs ≡ replicate n x → take n xs ++ replicate (m - n) x ≡ replicate m x
-filled_up n m xs x le free = ap (λ l. l ++ replicate (m - n) x) free ∙ replicate_sum n (m - n) x ∙ ap (λ (k : ℕ). replicate k x) (omega (arith, le))
-
-pub shorter_front : {A : Type 0} (k n : ℕ) (xs ys : List A) → k ≤ n → take n xs ≡ take n ys → take k xs ≡ take k ys
-shorter_front k n xs ys le same = sym (take-take k n xs le) ∙ ap (take k) same ∙ take-take k n ys le
-
-pub shorter_free : {A : Type 0} (k n : ℕ) (xs : List A) (x : A) → k ≤ n → take n xs ≡ replicate n x → take k xs ≡ replicate k x
-shorter_free k n xs x le free = sym (take-take k n xs le) ∙ ap (take k) free ∙ take-replicate k n x le
+-- a list whose places from `low` on got other items, behind which nothing is taken
+pub put_back : {A : Type 0} (r l back post more : List A) (low n : ℕ) → l ≡ r → length back + low ≡ length r → n ≡ length r
+    → take n (take low l ++ (back ++ post) ++ more) ≡ take low r ++ back
+put_back r l back post more low n same long all =
+    let front = take low l ++ back in
+    let end : length front ≡ n = omega (arith, long, all, ap length same, length-append (take low l) back, length-take low l) in
+    ap (λ x. take n (x ++ more)) (sym (append_assoc (take low l) back post))
+    ∙ ap (take n) (append_assoc front post more)
+    ∙ take_at front (post ++ more) n end
+    ∙ ap (λ x. take low x ++ back) same

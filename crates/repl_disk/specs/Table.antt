@@ -1,12 +1,13 @@
 -- The table of files in memory.
-use Rattle.std.specs.Prelude.{◌≡◌, ◌≢◌, ℕ, ◌+◌, ◌-◌, ◌≤◌, ◌<◌, ◌^◌, ◌==◌, min, false, if◌then◌else◌, List, [], ◌∷◌, length, take, replicate, slice_index_or, vec_capacity}
+use Rattle.std.specs.Prelude.{◌≡◌, ◌≢◌, ℕ, ◌+◌, ◌-◌, ◌≤◌, ◌<◌, ◌^◌, ◌==◌, min, false, if◌then◌else◌, List, [], ◌∷◌, ◌++◌, length, take, replicate, slice_index_or, vec_capacity}
 use Rattle.std.specs.List.Sorted.{IsNonDecreasingBy}
 use Rattle.disk_defs.specs.Disk.{Files}
 use Rattle.repl_disk.specs.Mem.{Mem, Room, settled, wrote, IsImageOf}
 use Rattle.repl_disk.specs.declared.file.MemFile.{MemFile}
 
+-- what a file shows; before `low` it was synced as it reads, and no place there was written since
 abbrev pub mem_of : MemFile → Mem
-mem_of m = record { read = m.read.items; synced = m.synced.items; marks = m.marks.items }
+mem_of m = record { read = m.read.items; synced = take m.low m.read.items ++ m.synced.items; marks = replicate m.low false ++ m.marks.items }
 
 abbrev pub room_of : MemFile → Room
 room_of m = record { calls = m.calls_left; bytes = m.bytes_left }
@@ -75,19 +76,16 @@ pub record IsPlaceFor (files : List MemFile) (number i : ℕ) : Type 0 where
   pub below : (k : ℕ) (d : MemFile) → k < i → (slice_index_or files k d).number < number
   pub above : (k : ℕ) (d : MemFile) → i ≤ k → k < length files → number < (slice_index_or files k d).number
 
--- What holds of each file: no place before `low` was written since the last sync, and each list has memory for the
--- bytes that the room lets be written.
+-- What holds of each file: it was synced up to its end at most, each place from `low` on has a mark or none, and each list
+-- has memory for the whole file and the bytes that the room lets be written.
 pub record HasMemory (m : MemFile) : Type 0 where
   pub for_read : length m.read.items + m.bytes_left ≤ vec_capacity m.read
   pub for_synced : length m.read.items + m.bytes_left ≤ vec_capacity m.synced
   pub for_marks : length m.read.items + m.bytes_left ≤ vec_capacity m.marks
 
 pub record IsKept (m : MemFile) : Type 0 where
-  pub low : m.low ≤ length m.synced.items
-  pub ends : length m.synced.items ≤ length m.read.items
-  pub marks : length m.marks.items ≡ length m.read.items
-  pub same : take m.low m.synced.items ≡ take m.low m.read.items
-  pub free : take m.low m.marks.items ≡ replicate m.low false
+  pub ends : m.low + length m.synced.items ≤ length m.read.items
+  pub marks : m.low + length m.marks.items ≡ length m.read.items
   pub memory : HasMemory m
 
 -- that of all of them, which stand by rising number

@@ -1,5 +1,5 @@
 //! One file of a memory disk.
-ghost use Rattle.std.specs.Prelude.{◌≡◌, ◌≤◌, ◌<◌, ◌+◌, ◌-◌, ◌++◌, ◌^◌, ℕ, true, false, length, take, drop, replicate, slice_index_or, vec_capacity, OnOk, OnErr};
+ghost use Rattle.std.specs.Prelude.{◌≡◌, ◌≤◌, ◌<◌, ◌+◌, ◌++◌, ◌^◌, ℕ, true, false, length, replicate, slice_index_or, vec_capacity, OnOk, OnErr};
 ghost use Rattle.disk_defs.specs.Disk.{written};
 ghost use Rattle.repl_disk.specs.Mem.{marked, wrote, settled, IsImageOf};
 ghost use Rattle.repl_disk.specs.Table.{mem_of, room_of, entry_of, nothing, counted, IsKept, HasMemory};
@@ -7,17 +7,19 @@ ghost use Rattle.repl_disk.specs.Table.{mem_of, room_of, entry_of, nothing, coun
 use crate::log::Bytes;
 use std::alloc::{AllocError, Global};
 
-/// A file as it reads, as it was synced last, and for each place whether it was written since.
+/// A file as it reads, and from a place on as it was synced last, and for each place whether it was written since.
 ///
-/// Each list has memory for the bytes that the room lets be written.
+/// Before that place it was synced as it reads. Each list has memory for the whole file and the bytes that the room lets be written.
 #[derive(Drop)]
 pub struct MemFile {
     pub number: u32,
     pub read: Vec<u8>,
-    pub synced: Vec<u8>,
-    pub marks: Vec<bool>,
     /// No place before this one was written since the last sync.
     pub low: usize,
+    /// What was synced last from `low` on.
+    pub synced: Vec<u8>,
+    /// Whether each place from `low` on was written since the last sync.
+    pub marks: Vec<bool>,
     /// What the last crash left.
     pub left: Bytes,
     pub calls_left: u64,
@@ -60,32 +62,34 @@ fn mark(marks: &mut Vec<bool>, at: usize, n: usize)
     }
 }
 
-/// Puts the bytes from a place on in place of those that were there.
-fn follow(synced: &mut Vec<u8>, read: &[u8], low: usize)
-    requires low { low ≤ length read.now }
-    requires inside { low ≤ length synced.old.items }
-    requires room { length read.now ≤ vec_capacity synced.old }
-    ensures items { synced.new.items ≡ take low synced.old.items ++ drop low read.now }
-    ensures capacity { vec_capacity synced.old ≤ vec_capacity synced.new }
+/// Puts bytes in front of those that are there.
+fn put_before(list: &mut Vec<u8>, bytes: &[u8])
+    requires { length list.old.items + length bytes.now ≤ vec_capacity list.old }
+    ensures items { list.new.items ≡ bytes.now ++ list.old.items }
+    ensures capacity { vec_capacity list.old ≤ vec_capacity list.new }
 {
-    synced.truncate(low);
-    if synced.extend_from_slice(&read[low..]).is_err() {
+    if bytes.is_empty() {
+        return;
+    }
+    if list.extend_from_slice(bytes).is_err() {
         unreachable!();
     }
+    list.rotate_right(bytes.len());
 }
 
-/// Takes the marks away from a place on, and has so many of them.
-fn unmark(marks: &mut Vec<bool>, low: usize, n: usize)
-    requires low { low ≤ n }
-    requires inside { low ≤ length marks.old.items }
-    requires room { n ≤ vec_capacity marks.old }
-    ensures items { marks.new.items ≡ take low marks.old.items ++ replicate (n - low) false }
+/// Puts so many places without a mark in front of those that are there.
+fn unmarked_before(marks: &mut Vec<bool>, n: usize)
+    requires { length marks.old.items + n ≤ vec_capacity marks.old }
+    ensures items { marks.new.items ≡ replicate n false ++ marks.old.items }
     ensures capacity { vec_capacity marks.old ≤ vec_capacity marks.new }
 {
-    marks.truncate(low);
-    if marks.resize(n, false).is_err() {
+    if n == 0 {
+        return;
+    }
+    if marks.resize(marks.len() + n, false).is_err() {
         unreachable!();
     }
+    marks.rotate_right(n);
 }
 
 /// What a crash makes of a written byte, by the rest of its number times the pick by 3.
@@ -128,9 +132,9 @@ impl MemFile {
         MemFile {
             number,
             read: Vec::new(alloc),
+            low: 0,
             synced: Vec::new(alloc),
             marks: Vec::new(alloc),
-            low: 0,
             left: Bytes::none(),
             calls_left: 0,
             bytes_left: 0,
@@ -154,15 +158,17 @@ impl MemFile {
     {
         let more = (self.bytes_left + bytes) as usize;
         self.read.reserve(more)?;
-        self.marks.reserve(more)?;
         self.synced
             .reserve(self.read.len() - self.synced.len() + more)?;
+        self.marks
+            .reserve(self.read.len() - self.marks.len() + more)?;
         self.calls_left += calls;
         self.bytes_left += bytes;
         Ok(())
     }
 
-    /// Writes over what is there, and past the end.
+    /// Writes over what is there, and past the end. Before the first place that was written since the last sync it copies what
+    /// stands between.
     pub fn write(&mut self, at: usize, bytes: &[u8])
         requires kept { IsKept self.old }
         requires place { at ≤ length self.old.read.items }
@@ -176,14 +182,17 @@ impl MemFile {
         ensures bytes { self.new.bytes_left + length bytes.now ≡ self.old.bytes_left }
         ensures syncs { self.new.syncs ≡ self.old.syncs }
     {
+        let first = self.low.min(at);
+        put_before(&mut self.synced, &self.read[first..self.low]);
+        unmarked_before(&mut self.marks, self.low - first);
+        self.low = first;
         overwrite(&mut self.read, at, bytes);
-        mark(&mut self.marks, at, bytes.len());
-        self.low = self.low.min(at);
+        mark(&mut self.marks, at - first, bytes.len());
         self.calls_left -= 1;
         self.bytes_left -= bytes.len() as u64;
     }
 
-    /// Puts what it reads on the disk. It copies from the first place on that was written since the last sync.
+    /// Puts what it reads on the disk.
     pub fn sync(&mut self)
         requires kept { IsKept self.old }
         requires calls { 1 ≤ self.old.calls_left }
@@ -195,10 +204,9 @@ impl MemFile {
         ensures bytes { self.new.bytes_left ≡ self.old.bytes_left }
         ensures syncs { self.new.syncs ≡ counted self.old.syncs }
     {
-        let n = self.read.len();
-        follow(&mut self.synced, &self.read, self.low);
-        unmark(&mut self.marks, self.low, n);
-        self.low = n;
+        self.low = self.read.len();
+        self.synced.clear();
+        self.marks.clear();
         self.calls_left -= 1;
         self.syncs = self.syncs.saturating_add(1);
     }
@@ -213,11 +221,10 @@ impl MemFile {
         ensures room { room_of self.new ≡ room_of self.old }
         ensures syncs { self.new.syncs ≡ self.old.syncs }
     {
-        let n = self.read.len();
-        follow(&mut self.synced, &self.read, 0);
         self.left = Bytes::of(&self.read);
-        unmark(&mut self.marks, 0, n);
-        self.low = n;
+        self.low = self.read.len();
+        self.synced.clear();
+        self.marks.clear();
     }
 
     /// Makes the image of this pick what it has. The first written place has the number with this rest by 3; it answers the
@@ -238,9 +245,15 @@ impl MemFile {
             self.settle();
             return first;
         }
-        let next = choose(&mut self.read, &self.synced, &self.marks, pick, first);
+        let next = choose(
+            &mut self.read[self.low..],
+            &self.synced,
+            &self.marks,
+            pick,
+            first,
+        );
         if pick == 0 {
-            self.read.truncate(self.synced.len());
+            self.read.truncate(self.low + self.synced.len());
         }
         self.settle();
         next
