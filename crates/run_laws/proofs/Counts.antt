@@ -125,9 +125,9 @@ counts-start p = record {
   ran = λ s q d. absurd d;
   typed = λ text q d. absurd d;
   fault = λ k q d. risen (DiskFault k) k p q d.count d.rose;
-  damage = λ file offset q d. quietly (NotAFile file offset) p q (λ t. t) d.kept.faults;
+  damage = λ file offset q d. quietly (NotAFile file offset) p q (λ t. t) (elim d [ inl k ↦ k.kept.faults | inr c ↦ c.2.faults ]);
   refused = λ r q d. quietly (Refused r) p q (λ t. t) (counts-start_refused (is_reign_limit r.cause) p q d);
-  may_refuse = λ r q d. quietly (Refused r) p q (λ t. t) d.2.kept.faults;
+  may_refuse = λ r q d. quietly (Refused r) p q (λ t. t) (elim d.1 [ inl k ↦ k.1.kept.faults | inr c ↦ c.1.faults ]);
 }
 
 counts-map : (region : Name) (text : List ℕ) (p : Place) → RowCounts p (row_at (map_pattern region text) p)

@@ -22,8 +22,8 @@ pub record RowMakes (R : Answer → Place → Place → Type 0) (p : Place) (row
 module _ (R : Answer → Place → Place → Type 0) (Q : Place → Place → Type 0) where
   here_makes : (p : Place) (row : Row) (a : Answer) (q : Place) (t : List ℕ) → RowMakes R p row → Here row a q t → R a p q
   here_makes p row Done q t r h = r.done q h.0 h.1
-  here_makes p row (Refused x) q t r (inl h, e) = r.refused x q h.1
-  here_makes p row (Refused x) q t r (inr h, e) = r.may_refuse x q h.1
+  here_makes p row (Refused x) q t r (inl h, e, b) = r.refused x q h.1
+  here_makes p row (Refused x) q t r (inr h, e, b) = r.may_refuse x q h.1
   here_makes p row (DiskFault k) q t r h = r.fault k q h.1
   here_makes p row (NotAFile file offset) q t r h = r.damage file offset q h.1
   here_makes p row (Ran s) q t r h = r.ran s q h.1

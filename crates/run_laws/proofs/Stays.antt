@@ -13,7 +13,7 @@ use Rattle.site_defs.specs.Lists.{Among, first_where}
 use Rattle.site_defs.specs.Opening.{MayMap, MayBegin}
 use Rattle.world_defs.specs.World.{State, Down, Failed, Site, Place, World, Kept, MOST_SITES, is_free, name_on, place_of, next_of}
 use Rattle.world_defs.specs.Answers.{Answer, Section, Ran, Exists, NoDisk, Refusal}
-use Rattle.world_defs.specs.Changes.{in_new_state, Becomes, Fails, FailsUnchanged}
+use Rattle.world_defs.specs.Changes.{in_new_state, Becomes, Fails, FailsUnchanged, ChangesUnknown}
 use Rattle.world_defs.specs.Row.{Row, quiet}
 use Rattle.world_defs.specs.Meaning.{apart, Acts, refusing, on_next, target, meaning, row_at}
 use Rattle.world_defs.specs.Step.{One, Step}
@@ -50,6 +50,13 @@ entries-kept x y k name n e h = record {
   site = subst (IsSiteOf name) (sym k.site) h.site;
   now = λ t. subst (HasAt n e) (sym k.now) (h.now (subst IsTrue k.known.told t));
   outcomes = λ t o a. h.outcomes (subst IsTrue k.known.told t) o (k.known.outcomes o a);
+}
+
+entries-changed : (x y : Place) → ChangesUnknown x y → KeepsEntries x y
+entries-changed x y c name n e h = record {
+  site = subst (IsSiteOf name) (sym c.site) h.site;
+  now = λ t. subst (HasAt n e) (sym c.now) (h.now (subst IsTrue c.known.told t));
+  outcomes = λ t o a. h.outcomes (subst IsTrue c.known.told t) o (c.known.outcomes o a);
 }
 
 -- these contents have the entries of the place
@@ -188,9 +195,9 @@ entries-start p = record {
   ran = λ s q d. absurd d;
   typed = λ text q d. absurd d;
   fault = λ k q d. entries-fails k _ _ p q (same-begin (name_on p.site) p.left.broken) d;
-  damage = λ file offset q d. entries-kept p q d.kept;
+  damage = λ file offset q d. elim d [ inl k ↦ entries-kept p q k.kept | inr c ↦ entries-changed p q c.2 ];
   refused = λ r q d. entries-start_refused (is_reign_limit r.cause) p q d;
-  may_refuse = λ r q d. entries-kept p q d.2.kept;
+  may_refuse = λ r q d. elim d.1 [ inl k ↦ entries-kept p q k.1.kept | inr c ↦ entries-changed p q c.1 ];
 }
 
 entries-map : (region : Name) (text : List ℕ) (p : Place) → RowKeepsEntries p (row_at (map_pattern region text) p)

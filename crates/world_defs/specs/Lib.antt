@@ -1,5 +1,6 @@
 pub mod World
 pub mod Answers
+pub mod Shown
 pub mod Changes
 pub mod Row
 pub mod rows

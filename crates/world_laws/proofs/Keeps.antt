@@ -27,8 +27,8 @@ pub record RowKeeps (I J : Place → Type 0) (p : Place) (row : Row) : Type 0 wh
 module _ (I J : Place → Type 0) where
   here_keeps : (p : Place) (row : Row) (a : Answer) (q : Place) (t : List ℕ) → RowKeeps I J p row → Here row a q t → I q
   here_keeps p row Done q t r h = r.done q h.0 h.1
-  here_keeps p row (Refused x) q t r (inl h, e) = r.refused x q h.1
-  here_keeps p row (Refused x) q t r (inr h, e) = r.may_refuse x q h.1
+  here_keeps p row (Refused x) q t r (inl h, e, b) = r.refused x q h.1
+  here_keeps p row (Refused x) q t r (inr h, e, b) = r.may_refuse x q h.1
   here_keeps p row (DiskFault k) q t r h = r.fault k q h.1
   here_keeps p row (NotAFile file offset) q t r h = r.damage file offset q h.1
   here_keeps p row (Ran s) q t r h = r.ran s q h.1

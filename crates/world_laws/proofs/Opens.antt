@@ -10,7 +10,7 @@ use Rattle.site_defs.specs.Fronts.{turn_of}
 use Rattle.site_defs.specs.Lists.{Among}
 use Rattle.world_defs.specs.World.{Down, Failed, Site, Place, World, Kept, IsFresh, place_of, next_of}
 use Rattle.world_defs.specs.Answers.{Answer, Exists, NoDisk, Refusal}
-use Rattle.world_defs.specs.Changes.{in_new_state, Stays, Fails}
+use Rattle.world_defs.specs.Changes.{in_new_state, Stays, Fails, ChangesUnknown}
 use Rattle.world_defs.specs.Row.{Row, quiet}
 use Rattle.world_defs.specs.Meaning.{apart, Acts, refusing, on_next, target, meaning, row_at}
 use Rattle.world_defs.specs.Step.{LeavesOld, Step}
@@ -36,8 +36,8 @@ not_down : (o : Option Site) → IsOpenSite (in_new_state Down o) → ⊥
 not_down None up = up
 not_down (Some site) up = up
 
--- What is kept where nothing is done, holds where no site is open, and where a site is left with one outcome and nothing behind it.
-module _ (I : Place → Type 0) (kept : (x y : Place) → Kept x y → I x → I y) (closed : (q : Place) → (IsOpenSite q.site → ⊥) → I q) (stays : (site : Option Site) (c : Contents) (p q : Place) → Stays site c p q → I q) where
+-- What is kept where nothing is done, holds where files that aren't known changed and where no site is open, and where a site is left with one outcome and nothing behind it.
+module _ (I : Place → Type 0) (kept : (x y : Place) → Kept x y → I x → I y) (changed : (x y : Place) → ChangesUnknown x y → I y) (closed : (q : Place) → (IsOpenSite q.site → ⊥) → I q) (stays : (site : Option Site) (c : Contents) (p q : Place) → Stays site c p q → I q) where
   old : (x y : Place) → LeavesOld x y → I x → Any y
   old x y l h = tt
 
@@ -68,9 +68,9 @@ module _ (I : Place → Type 0) (kept : (x y : Place) → Kept x y → I x → I
     ran = λ s q d. absurd d;
     typed = λ text q d. absurd d;
     fault = λ k q d. stays-fails k _ _ p q d;
-    damage = λ file offset q d. kept p q d.kept h;
+    damage = λ file offset q d. elim d [ inl k ↦ kept p q k.kept h | inr c ↦ changed p q c.2 ];
     refused = λ r q d. stays-start_refused (is_reign_limit r.cause) p q h d;
-    may_refuse = λ r q d. kept p q d.2.kept h;
+    may_refuse = λ r q d. elim d.1 [ inl k ↦ kept p q k.1.kept h | inr c ↦ changed p q c.1 ];
     left = λ q l. tt;
   }
 

@@ -21,7 +21,7 @@ use Rattle.world_defs.specs.rows.Run.{run}
 use Rattle.world_defs.specs.rows.Start.{StartRefused, is_reign_limit, generation_limit, reign_limit, limited, start}
 use Rattle.world_defs.specs.Fit.{IsFitContents, IsFitPlace, IsFit}
 use Rattle.world_laws.specs.Again.{HasFitOutcomes}
-use Rattle.world_laws.proofs.PlacesFit.{fit-kept, fit-unknown, fit-stops, fit-creates, fit-maps, fit-site_fails, fit-none_fails, fit-fails_unchanged, fit-may_make, fit-maps_some, fit-attaches, fit-crashes}
+use Rattle.world_laws.proofs.PlacesFit.{fit-kept, fit-unknown, fit-changed, fit-stops, fit-creates, fit-maps, fit-site_fails, fit-none_fails, fit-fails_unchanged, fit-may_make, fit-maps_some, fit-attaches, fit-crashes}
 use Rattle.world_laws.proofs.ReignsFit.{fit-starts, fit-begins_some, fit-refused}
 use Rattle.world_laws.proofs.SectionsFit.{fit-runs, fit-run_left}
 use Rattle.world_laws.proofs.Keeps.{RowKeeps, TargetKeeps, Keeps, quiet_keeps, acts_keep, keeps_there}
@@ -80,9 +80,9 @@ fit-start p h = record {
   ran = λ s q d. absurd d;
   typed = λ text q d. absurd d;
   fault = λ k q d. fit-site_fails k (MayBegin name p.left.broken) _ p q (fit-begins_some name p h) d;
-  damage = λ file offset q d. fit-unknown p q d h;
+  damage = λ file offset q d. elim d [ inl k ↦ fit-unknown p q k h | inr c ↦ fit-changed p q c.2 ];
   refused = λ r q d. fit-refused_so (is_reign_limit r.cause) p q h d;
-  may_refuse = λ r q d. fit-unknown p q d.2 h;
+  may_refuse = λ r q d. elim d.1 [ inl k ↦ fit-unknown p q k.1 h | inr c ↦ fit-changed p q c.1 ];
   left = λ q l. fit-left (MayBegin name p.left.broken) _ p q h (λ t c o a m. (fit-begins_some name p h t c o a m).0) l;
 }
   where

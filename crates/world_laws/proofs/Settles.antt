@@ -1,13 +1,14 @@
 -- Open sites are settled, and nothing lies behind in any of their images.
 use Rattle.std.proofs.Common.{◌≡◌, inl, inr, ℕ, List, [], ◌∷◌, Option, Some, None, IsTrue, refl, sym, ◌∙◌, ap, subst}
 use Rattle.std.specs.Prelude.{IsSomeAnd}
+use Rattle.std.proofs.lemmas.Bool.{false≢true}
 use Rattle.std.specs.List.{AllByRecursion}
 use Rattle.command_defs.specs.Commands.{Command}
 use Rattle.site_defs.specs.Contents.{Contents, Standing, bare}
 use Rattle.site_defs.specs.Lists.{Among}
 use Rattle.world_defs.specs.World.{Site, Place, World, Kept, StandAsBefore, IsFresh}
 use Rattle.world_defs.specs.Answers.{Answer}
-use Rattle.world_defs.specs.Changes.{Stays}
+use Rattle.world_defs.specs.Changes.{Stays, ChangesUnknown}
 use Rattle.world_defs.specs.Step.{Step}
 use Rattle.world_defs.specs.Runs.{Told, Runs}
 use Rattle.world_laws.specs.Settled.{IsOpenSite, IsSettledPlace, IsBarePlace}
@@ -25,6 +26,13 @@ settled-kept x y k h = record {
     there : IsOpenSite y.site → IsOpenSite x.site
     there up = subst IsOpenSite k.site up
 
+-- what isn't known stays so
+not_told : (x y : Place) → ChangesUnknown x y → IsTrue y.told → ⊥
+not_told x y c t = false≢true (sym (c.known.told ∙ c.unknown) ∙ t)
+
+settled-changed : (x y : Place) → ChangesUnknown x y → IsSettledPlace y
+settled-changed x y c = record { outcomes = λ t. absurd (not_told x y c t); left = λ t. absurd (not_told x y c t) }
+
 -- no open site
 settled-closed : (q : Place) → (IsOpenSite q.site → ⊥) → IsSettledPlace q
 settled-closed q none = record { outcomes = λ t up. absurd (none up); left = λ t up. absurd (none up) }
@@ -40,10 +48,10 @@ settled-stays site c p q s = record {
 }
 
 pub settled-step : (w m : World) (c : Command) (answers : List Answer) (text : List ℕ) → AllByRecursion IsSettledPlace w.places → Step w c answers m text → AllByRecursion IsSettledPlace m.places
-settled-step = stays-step IsSettledPlace settled-kept settled-closed settled-stays
+settled-step = stays-step IsSettledPlace settled-kept settled-changed settled-closed settled-stays
 
 pub settled-runs : (w m : World) (told : List Told) (text : List ℕ) → IsFresh w → Runs w told m text → AllByRecursion IsSettledPlace m.places
-settled-runs = stays-runs IsSettledPlace settled-kept settled-closed settled-stays
+settled-runs = stays-runs IsSettledPlace settled-kept settled-changed settled-closed settled-stays
 
 -- what lies behind
 
@@ -58,6 +66,9 @@ bare-kept x y k h t up = as_bare x.now y.now (sym k.now) x.standings y.standings
     told : IsTrue x.told
     told = subst IsTrue k.known.told t
 
+bare-changed : (x y : Place) → ChangesUnknown x y → IsBarePlace y
+bare-changed x y c t = absurd (not_told x y c t)
+
 bare-closed : (q : Place) → (IsOpenSite q.site → ⊥) → IsBarePlace q
 bare-closed q none t up = absurd (none up)
 
@@ -69,7 +80,7 @@ bare-stays site c p q s t up = subst (λ (x : Option (List Standing)). IsSomeAnd
     one o (inr none) = absurd none
 
 pub bare-step : (w m : World) (c : Command) (answers : List Answer) (text : List ℕ) → AllByRecursion IsBarePlace w.places → Step w c answers m text → AllByRecursion IsBarePlace m.places
-bare-step = stays-step IsBarePlace bare-kept bare-closed bare-stays
+bare-step = stays-step IsBarePlace bare-kept bare-changed bare-closed bare-stays
 
 pub bare-runs : (w m : World) (told : List Told) (text : List ℕ) → IsFresh w → Runs w told m text → AllByRecursion IsBarePlace m.places
-bare-runs = stays-runs IsBarePlace bare-kept bare-closed bare-stays
+bare-runs = stays-runs IsBarePlace bare-kept bare-changed bare-closed bare-stays
