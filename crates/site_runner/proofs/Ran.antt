@@ -119,7 +119,7 @@ pub record FrontPlace (w : View) (p : Place) (state : Option world.Site) (all : 
   pub front : p.told ≡ true → IsFrontOf all low p.now now
   pub behind : p.told ≡ true → IsBehind now left
   pub fronts_all : p.told ≡ true → (o : Contents) → Among (fronts p.now all low (length all - low)) o → IsFrontOf all low p.now o
-  pub matches : Matches w (record { site = state; told = p.told; now = now; left = left; outcomes = fronts p.now all low (length all - low); standings = standings; faults = w.faults; simulated = p.simulated })
+  pub matches : Matches w (record { site = state; told = p.told; now = now; left = left; outcomes = fronts p.now all low (length all - low); standings = standings; shown = w.content; faults = w.faults; simulated = p.simulated })
 
 pub front_place : (leftovers : Leftovers) (w : View) (p : Place) (state : Option world.Site) (all : Sequence) (low : ℕ) (standings : Option (List Standing)) → IsLawful w → w.simulated ≡ p.simulated → MayHaveFront w p.told p.now all low → (p.told ≡ true → ImagesStand w standings)
     → FrontPlace w p state all low standings
@@ -146,7 +146,7 @@ ran v w nothing s r new jobs order before middle now law whole st stamped same l
     let turn : Turn = turn_of stamp r.serials jobs order p.now.sequence in
     let state : world.State = world.Primary stamp turn.serials in
     let o : Contents = with_sequence p.now turn.sequence in
-    let q : Place = record { site = in_new_state state p.site; told = p.told; now = o; left = NO_LEFTOVER; outcomes = o ∷ []; standings = Some (bare o ∷ []); faults = w.faults; simulated = p.simulated } in
+    let q : Place = record { site = in_new_state state p.site; told = p.told; now = o; left = NO_LEFTOVER; outcomes = o ∷ []; standings = Some (bare o ∷ []); shown = w.content; faults = w.faults; simulated = p.simulated } in
     let ends : Section = record { picks = order; fault = None } in
     let count : length new.site.entries.items ≡ length turn.sequence = length_tagged new.site.entries.items turn.sequence 1 d.reigns.remembered.entries in
     let text : turn_on p.site jobs ends.picks p ≡ turn = ap (λ (x : Option world.Site). turn_on x jobs ends.picks p) (site_is v s r p st h) in
@@ -207,7 +207,7 @@ ran_to_fault leftovers v w s r jobs order k undecided before middle now was law 
     let of = λ (sure : p.told ≡ true) (o : Contents) (g : IsFrontOf all low p.now o). subst (IsOf s.name) (sym g.is) (of_sequence s.name p.now (take g.count all) (h.held.made sure).now) in
     comes_ran
     ends
-    (record { site = state; told = p.told; now = front.now; left = front.left; outcomes = fronts p.now all low (length all - low); standings = Some list; faults = w.faults; simulated = p.simulated })
+    (record { site = state; told = p.told; now = front.now; left = front.left; outcomes = fronts p.now all low (length all - low); standings = Some list; shown = w.content; faults = w.faults; simulated = p.simulated })
     (none_primary v s r jobs order p st h)
     (record {
       stamp = stamp;
@@ -408,7 +408,7 @@ run_cut leftovers v w s r jobs order was law st same later f lefts p h =
     let list : List Standing = all_stand (runs_of (stamp_of r) r.serials jobs order p.now.sequence) (length order) p.now in
     let front = front_place leftovers w p p.site all low (Some list) law (same ∙ h.disk.simulated) d.3 (λ sure. images_cut w (stamp_of r) r.serials jobs order p.now (lefts p.told p.now reigns sure)) in
     let lower : (o : Contents) → IsFrontOf all low p.now o → IsFrontOf all (length p.now.sequence) p.now o = λ o g. record { count = g.count; least = omega (arith, d.2, g.least); most = g.most; is = g.is } in (
-      record { site = p.site; told = p.told; now = front.now; left = front.left; outcomes = fronts p.now all low (length all - low); standings = Some list; faults = w.faults; simulated = p.simulated },
+      record { site = p.site; told = p.told; now = front.now; left = front.left; outcomes = fronts p.now all low (length all - low); standings = Some list; shown = w.content; faults = w.faults; simulated = p.simulated },
       record {
         told = refl;
         outcomes = λ sure o a. let x = some_outcome v p was h.disk sure in
@@ -431,7 +431,7 @@ run_cut_any leftovers v w s r jobs order was law st same later f p h =
     let stand : List Standing = all_stand runs (length order) p.now in
     let behind : p.told ≡ true → LeftBehind w (stamp_of r) p.now jobs order r.serials = λ sure files i. left_after (stamp_of r) p.now jobs order r.serials files (d.left sure files i) in
     let m = place_of_images leftovers w p p.site list (Some stand) law (same ∙ h.disk.simulated) d.told (λ is c i. let o = d.images is c i in (o.0, among_runs (stamp_of r) r.serials jobs order p.now o.0 o.1.0 o.1.1, inr o.2)) (λ sure. images_cut w (stamp_of r) r.serials jobs order p.now (behind sure)) in (
-      record { site = p.site; told = p.told; now = m.now; left = m.left; outcomes = list; standings = Some stand; faults = w.faults; simulated = p.simulated },
+      record { site = p.site; told = p.told; now = m.now; left = m.left; outcomes = list; standings = Some stand; shown = w.content; faults = w.faults; simulated = p.simulated },
       record {
         told = refl;
         outcomes = λ is o a. let k = are_all_fronts runs (length order) p.now low o a in

@@ -23,7 +23,7 @@ returns-in-Some-clause-done g c =
     let v = g.D.Disk.disk c.args.disk.now in
     let s = c.args.site.now in
     refuses_by (run (at_all c.args.jobs) c.args.order.now s.name) v s c.in-Some.cause c.args.text.now _ c.as_slice.result.now c.refuse.result
-    (λ p h. run_not_primary v s (at_all c.args.jobs) c.args.order.now (cause_value c.in-Some.cause) p (why_is c.why_not_primary.result c.in-Some.cause (why_not_primary (state_value s.state)) c.why_not_primary.ensures c.in-Some.is) h) kept_same
+    (λ p h. run_not_primary v s (at_all c.args.jobs) c.args.order.now (cause_value c.in-Some.cause) p (why_is c.why_not_primary.result c.in-Some.cause (why_not_primary (state_value s.state)) c.why_not_primary.ensures c.in-Some.is) h) kept_same (λ p. tt)
     c.as_slice.ensures c.refuse.ensures
 
 pub run-requires-clause-ready : goal.run-requires-clause-ready
