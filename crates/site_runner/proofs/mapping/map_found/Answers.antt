@@ -1,4 +1,4 @@
-use Rattle.std.proofs.Common.{◌≡◌, ◌<◌, ℕ, subst, List, take, map, Some, None, sym, ◌∙◌, ap, arith, Err}
+use Rattle.std.proofs.Common.{◌≡◌, ◌<◌, ℕ, Bool, true, subst, List, take, map, Some, None, sym, ◌∙◌, ap, arith, Err}
 use Rattle.std.specs.Prelude.{Option}
 use Rattle.site_defs.specs.Lists.{first_where}
 use Rattle.site_defs.specs.Contents.{same_name}
