@@ -47,7 +47,8 @@ pub struct Journal {
 impl Journal {
     ghost use Rattle.jnl_file.specs.Records.{Recorded, StandsRecords, appended, settled, synced, opened, hardened};
     ghost use Rattle.jnl_file.specs.Journal.{IsReady, HasRecords, IsJournalOf, IsSameJournal, IsPrepared, IsSynced, HasClosed, SamePrepared};
-    ghost use Rattle.jnl_file.specs.Reading.{FindsRecord, IsReadRecord, IsNoRecord, IsJournalFile, IsOutsideJournal};
+    ghost use Rattle.jnl_file.specs.Reading.{FindsRecord, IsReadRecord, IsNoRecord, IsJournalFile};
+    ghost use Rattle.site_defs.specs.OutsideJournal.{IsOutsideJournal};
     ghost use Rattle.jnl_file.specs.Begin.{pini, MayBegin};
 
     /// A journal without records, in a file that has none.

@@ -5,12 +5,13 @@ use Rattle.disk_defs.proofs.Told.{weaker_told}
 use Rattle.disk_defs.proofs.Moments.{nothing_new, read_only}
 use Rattle.disk_defs.proofs.Frames.{others_read, others_then}
 use Rattle.gated_file.specs.Begin.{KeepsRecords}
-use Rattle.gated_file.specs.Reading.{IsOutside}
+use Rattle.site_defs.specs.OutsideGates.{IsOutside}
 use Rattle.gated_file.specs.declared.gated.Gated.{Gated}
 use Rattle.journal_defs.specs.Journal.{JournalRecord}
 use Rattle.jnl_file.specs.Records.{Recorded, settled}
 use Rattle.jnl_file.specs.Journal.{HasRecords}
-use Rattle.jnl_file.specs.Reading.{IsJournalFile, IsOutsideJournal, HasWrongRecord}
+use Rattle.jnl_file.specs.Reading.{IsJournalFile}
+use Rattle.site_defs.specs.OutsideJournal.{IsOutsideJournal, HasWrongRecord}
 use Rattle.jnl_file.specs.declared.journal.Journal.{Journal}
 use Rattle.jnl_file.proofs.Walk.{wrong_as, wrong_is_none}
 use Rattle.jnl_file.proofs.Making.{taken_back, taken_records, some_records, ready_read}
