@@ -58,6 +58,13 @@ impl FrameList {
         }
     }
 
+    /// These frames, in their memory.
+    pub fn of(items: Vec<Frame>) -> Self
+        ensures { result ≡ map frame_value items.items }
+    {
+        FrameList { items }
+    }
+
     /// How many frames there are.
     pub fn len(&self) -> usize
         ensures { result ≡ length self.now }
