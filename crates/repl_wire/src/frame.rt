@@ -110,6 +110,7 @@ impl FrameList {
     }
 
     /// Adds a frame at the end.
+    #[inline(always)]
     pub fn push(&mut self, frame: Frame) -> Result<(), NoMemory>
         ensures ok { OnOk result (self.new ≡ self.old ++ frame_value frame ∷ []) }
         ensures err { OnErr result (self.new ≡ self.old) }

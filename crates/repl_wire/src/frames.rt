@@ -86,10 +86,7 @@ fn look(alloc: Global, bytes: &[u8]) -> Result<Ahead, NoMemory>
     if bytes.is_empty() {
         return Ok(Ahead::Open(Scan::new()));
     }
-    match whole_entry(alloc, bytes)? {
-        Some((frame, count)) => Ok(Ahead::Whole(frame, count)),
-        None => scanned(alloc, bytes),
-    }
+    scanned(alloc, bytes)
 }
 
 /// Adds the whole frames at the front of these bytes, the first of which begins at that offset.
@@ -106,14 +103,21 @@ fn take_frames<'a>(
     let mut rest = bytes;
     let mut offset = offset;
     loop {
-        match look(alloc, rest)? {
-            Ahead::Bad => return Err(FrameError::BadFrame { offset }),
-            Ahead::Open(scan) => return Ok(Tail { offset, scan, rest }),
-            Ahead::Whole(frame, count) => {
-                let (_, back) = rest.split_at(count);
-                out.push(frame)?;
-                offset = offset.saturating_add(count as u64);
-                rest = back;
+        if let Some((frame, count)) = whole_entry(alloc, rest)? {
+            let (_, back) = rest.split_at(count);
+            out.push(frame)?;
+            offset = offset.saturating_add(count as u64);
+            rest = back;
+        } else {
+            match look(alloc, rest)? {
+                Ahead::Bad => return Err(FrameError::BadFrame { offset }),
+                Ahead::Open(scan) => return Ok(Tail { offset, scan, rest }),
+                Ahead::Whole(frame, count) => {
+                    let (_, back) = rest.split_at(count);
+                    out.push(frame)?;
+                    offset = offset.saturating_add(count as u64);
+                    rest = back;
+                }
             }
         }
     }
