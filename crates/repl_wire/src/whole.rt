@@ -77,16 +77,14 @@ fn update_first(alloc: Global, bytes: &[u8]) -> Result<Option<(Update, &[u8])>, 
     Ok(Some((update, behind)))
 }
 
-/// So many updates at the front, and what follows them.
-fn updates_first(
+/// Adds so many updates at the front: what follows them, where so many stand there.
+fn updates_first<'a>(
     alloc: Global,
     count: u16,
-    bytes: &[u8],
-) -> Result<Option<(Updates, &[u8])>, NoMemory>
-    ensures count { IfOk result (λ found. IfSome found (λ p. length p.0 ≡ count)) }
-    ensures stand { IfOk result (λ found. IfSome found (λ p. StandBefore p.0 bytes.now p.1.now)) }
+    bytes: &'a [u8],
+    updates: &mut Updates,
+) -> Result<Option<&'a [u8]>, NoMemory>
 {
-    let mut updates = Updates::with_capacity(alloc, usize::from(count))?;
     let mut rest = bytes;
     for _ in 0..count {
         let Some((update, behind)) = update_first(alloc, rest)? else {
@@ -95,7 +93,7 @@ fn updates_first(
         updates.push(update)?;
         rest = behind;
     }
-    Ok(Some((updates, rest)))
+    Ok(Some(rest))
 }
 
 /// Whether an entry may have this number, this origin and so many updates.
@@ -133,7 +131,8 @@ fn entry_of(alloc: Global, bytes: &[u8]) -> Result<Option<Frame>, NoMemory>
     if !may_head(number, updater, serial, count) {
         return Ok(None);
     }
-    let Some((updates, rest)) = updates_first(alloc, count, rest)? else {
+    let mut updates = Updates::with_capacity(alloc, usize::from(count))?;
+    let Some(rest) = updates_first(alloc, count, rest, &mut updates)? else {
         return Ok(None);
     };
     if rest.len() > 0 {
