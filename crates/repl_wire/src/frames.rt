@@ -79,7 +79,7 @@ fn scanned(alloc: Global, bytes: &[u8]) -> Result<Ahead, NoMemory>
     }
 }
 
-/// What stands at the front of these bytes. They are scanned byte by byte only where no whole ENTRY stands there.
+/// What stands at the front of these bytes, looked at byte by byte.
 fn look(alloc: Global, bytes: &[u8]) -> Result<Ahead, NoMemory>
     ensures { IfOk result (λ found. IsAhead found bytes.now) }
 {
@@ -89,7 +89,8 @@ fn look(alloc: Global, bytes: &[u8]) -> Result<Ahead, NoMemory>
     scanned(alloc, bytes)
 }
 
-/// Adds the whole frames at the front of these bytes, the first of which begins at that offset.
+/// Adds the whole frames at the front of these bytes, the first of which begins at that offset. They are looked at byte by byte only where
+/// no whole ENTRY stands.
 fn take_frames<'a>(
     alloc: Global,
     offset: u64,
@@ -103,23 +104,18 @@ fn take_frames<'a>(
     let mut rest = bytes;
     let mut offset = offset;
     loop {
-        if let Some((frame, count)) = whole_entry(alloc, rest)? {
-            let (_, back) = rest.split_at(count);
-            out.push(frame)?;
-            offset = offset.saturating_add(count as u64);
-            rest = back;
-        } else {
-            match look(alloc, rest)? {
+        let (frame, count) = match whole_entry(alloc, rest)? {
+            Some(entry) => entry,
+            None => match look(alloc, rest)? {
                 Ahead::Bad => return Err(FrameError::BadFrame { offset }),
                 Ahead::Open(scan) => return Ok(Tail { offset, scan, rest }),
-                Ahead::Whole(frame, count) => {
-                    let (_, back) = rest.split_at(count);
-                    out.push(frame)?;
-                    offset = offset.saturating_add(count as u64);
-                    rest = back;
-                }
-            }
-        }
+                Ahead::Whole(frame, count) => (frame, count),
+            },
+        };
+        let (_, back) = rest.split_at(count);
+        out.push(frame)?;
+        offset = offset.saturating_add(count as u64);
+        rest = back;
     }
 }
 

@@ -84,6 +84,9 @@ fn updates_first<'a>(
     bytes: &'a [u8],
     updates: &mut Updates,
 ) -> Result<Option<&'a [u8]>, NoMemory>
+    requires { updates.old ≡ [] }
+    ensures count { IfOk result (λ found. IfSome found (λ _. length updates.new ≡ count)) }
+    ensures stand { IfOk result (λ found. IfSome found (λ rest. StandBefore updates.new bytes.now rest.now)) }
 {
     let mut rest = bytes;
     for _ in 0..count {
