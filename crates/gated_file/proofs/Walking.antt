@@ -7,7 +7,8 @@ use Rattle.std.specs.List.{AllByRecursion}
 use Rattle.disk_defs.specs.Gates.{Body, Shut, NoGate, gate_of, behind, bodies_from, bodies_within, records, framed, spelled, IsBody}
 use Rattle.disk_defs.proofs.Texts.{stands, within_open, length-spelled}
 use Rattle.std.specs.Option.{option_map}
-use Rattle.gated_file.specs.Reading.{HasBody, LeadsTo, EndsAt, IsOutside}
+use Rattle.gated_file.specs.Reading.{HasBody, EndsAt}
+use Rattle.site_defs.specs.OutsideGates.{LeadsTo, IsOutside}
 use Rattle.gated_file.proofs.Pieces.{spelled_push}
 use Rattle.gated_file.proofs.Steps.{all_append, stands_none}
 use Rattle.gated_file.proofs.Gates.{at_long, records_in}

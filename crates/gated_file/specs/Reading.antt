@@ -1,8 +1,8 @@
 -- Reading a gated file from a place on.
 use Rattle.std.specs.Prelude.{◌≡◌, ◌≤◌, ◌<◌, ℕ, ◌+◌, List, ◌++◌, [], ◌∷◌, length, take, drop, Option, Some, None}
 use Rattle.std.specs.Int.{to_be_bytes, w32}
-use Rattle.std.specs.List.{AllByRecursion}
-use Rattle.disk_defs.specs.Gates.{Body, Open, Shut, NoGate, gate_at, spelled, IsBody}
+use Rattle.disk_defs.specs.Gates.{Body, Open, Shut, gate_at}
+use Rattle.site_defs.specs.OutsideGates.{LeadsTo}
 
 -- An open gate with its body, which is added to what was there, and the next gate's place; or a closed gate.
 abbrev pub Finds : List ℕ → ℕ → Option ℕ → List ℕ → List ℕ → Type 0
@@ -22,19 +22,7 @@ abbrev pub BodyAt : List ℕ → ℕ → Option ℕ → Type 0
 BodyAt file at None = (gate_at file at ≡ Shut) × (at < length file)
 BodyAt file at (Some n) = HasBody file at n
 
--- From the start to this place stand open records with these bodies.
-pub record LeadsTo (file : List ℕ) (at : ℕ) (bodies : List Body) : Type 0 where
-  pub front : take at file ≡ spelled 1 bodies
-  pub all : AllByRecursion IsBody bodies
-  pub inside : at < length file
-
 -- Open records with these bodies stand from the start to a closed gate at this place.
 pub record EndsAt (file : List ℕ) (bodies : List Body) (end : ℕ) : Type 0 where
   pub leads : LeadsTo file end bodies
   pub shut : gate_at file end ≡ Shut
-
--- Open records stand from the start to this place, and no gate of the format stands there.
-pub record IsOutside (file : List ℕ) (offset : ℕ) : Type 0 where
-  pub bodies : List Body
-  pub leads : LeadsTo file offset bodies
-  pub here : gate_at file offset ≡ NoGate

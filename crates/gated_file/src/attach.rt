@@ -4,7 +4,8 @@ ghost use Rattle.disk_defs.specs.Disk.{Image, IsDurable, AtEachMoment, Reads, Ro
 ghost use Rattle.disk_defs.specs.Frames.{Only, OthersStay};
 ghost use Rattle.disk_defs.specs.Gates.{Body, records};
 ghost use Rattle.gated_file.specs.Gated.{IsReady, HasState, IsStanding};
-ghost use Rattle.gated_file.specs.Reading.{EndsAt, IsOutside};
+ghost use Rattle.gated_file.specs.Reading.{EndsAt};
+ghost use Rattle.site_defs.specs.OutsideGates.{IsOutside};
 ghost use Rattle.gated_file.specs.Begin.{IsBegun, KeepsRecords};
 ghost use Rattle.gated_file.specs.State.{settled};
 

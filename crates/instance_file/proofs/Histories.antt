@@ -15,7 +15,7 @@ use Rattle.journal_laws.proofs.Later.{reigns-same}
 use Rattle.instance_file.specs.Values.{record_value}
 use Rattle.instance_file.specs.declared.record.InstanceRecord as stored
 use Rattle.instance_file.specs.declared.record.InstanceRecord.TheVariants as variant
-use Rattle.instance_file.specs.Reading.{left_by}
+use Rattle.site_defs.specs.OutsideInstance.{left_by}
 use Rattle.instance_file.specs.Walks.{surviving_in}
 
 abbrev stays : List InstanceRecord → Reign → Bool

@@ -3,7 +3,8 @@ use Rattle.std.proofs.Common.{◌≡◌, ℕ, suc, ◌<◌, ◌==◌, Bool, true
 use Rattle.std.proofs.lemmas.Bool.Decides.{nat_tests}
 use Rattle.std.specs.List.{AllByRecursion}
 use Rattle.journal_defs.specs.Instance.{InstanceRecord, Create, Reigned, Cut, Map, Mode, IsNoCreate, BeginsWithCreate, CutsRise, generation}
-use Rattle.instance_file.specs.Order.{AreOrdered, MayStand, last_after}
+use Rattle.instance_file.specs.Order.{MayStand, last_after}
+use Rattle.site_defs.specs.OutsideInstance.{AreOrdered}
 
 creates_on : (rs : List InstanceRecord) (x : InstanceRecord) → AllByRecursion IsNoCreate rs → IsNoCreate x → AllByRecursion IsNoCreate (rs ++ x ∷ [])
 creates_on [] x all is = (is, tt)

@@ -9,8 +9,7 @@ use Rattle.global_defs.specs.Entry.{Reign}
 use Rattle.journal_defs.specs.Instance.{InstanceRecord, Reigned}
 use Rattle.journal_defs.specs.Surviving.{reigns, spares_start}
 use Rattle.journal_defs.specs.Stands.{IsInstance, StartsRise}
-use Rattle.instance_file.specs.Order.{AreOrdered}
-use Rattle.instance_file.specs.Reading.{HasWrongRecord, HasWrongReign, left_by}
+use Rattle.site_defs.specs.OutsideInstance.{AreOrdered, HasWrongRecord, HasWrongReign, left_by}
 use Rattle.instance_file.specs.Walks.{IsListed, IsWrongReign}
 use Rattle.instance_file.proofs.Histories.{reigns-append, rise_front}
 use Rattle.instance_file.proofs.Orders.{ordered_front}

@@ -13,8 +13,9 @@ use Rattle.journal_defs.specs.Instance.{InstanceRecord, IsInstanceBody, generati
 use Rattle.journal_laws.proofs.Readings.{instance_body}
 use Rattle.journal_laws.proofs.Appending.{zip_append}
 use Rattle.instance_file.specs.Values.{record_value}
-use Rattle.instance_file.specs.Order.{AreOrdered, MayStand, last_after}
-use Rattle.instance_file.specs.Reading.{FindsRecord, IsNoRecord, HasWrongRecord}
+use Rattle.instance_file.specs.Order.{MayStand, last_after}
+use Rattle.site_defs.specs.OutsideInstance.{AreOrdered, HasWrongRecord}
+use Rattle.instance_file.specs.Reading.{FindsRecord, IsNoRecord}
 use Rattle.instance_file.specs.Walks.{IsListed}
 use Rattle.instance_file.specs.declared.record.InstanceRecord as code
 use Rattle.instance_file.proofs.Orders.{stand_follows, follows_stand, generation_next}

@@ -8,7 +8,7 @@ use Rattle.journal_defs.specs.Instance.{InstanceRecord, Create, Reigned, Cut, Ma
 use Rattle.journal_defs.specs.Surviving.{spares_start, reigns}
 use Rattle.journal_defs.specs.Stands.{StartsRise}
 use Rattle.instance_file.specs.Values.{record_value}
-use Rattle.instance_file.specs.Reading.{left_by}
+use Rattle.site_defs.specs.OutsideInstance.{left_by}
 use Rattle.instance_file.specs.Walks.{surviving_in, IsWrongReign}
 use Rattle.instance_file.specs.declared.record.InstanceRecord as code
 use Rattle.instance_file.proofs.Histories.{left_next, left_all, as_list, last_start, last_push, rise_push, rise_past}

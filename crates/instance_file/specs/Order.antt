@@ -1,15 +1,11 @@
 -- Which records may follow one another.
 use Rattle.std.specs.Prelude.{◌≡◌, ℕ, ◌<◌, Bool, false, IsTrue, List}
-use Rattle.journal_defs.specs.Instance.{InstanceRecord, Create, Reigned, Cut, Map, Mode, BeginsWithCreate, CutsRise}
+use Rattle.journal_defs.specs.Instance.{InstanceRecord, Create, Reigned, Cut, Map, Mode}
 use Rattle.journal_defs.specs.Surviving.{reigns}
 use Rattle.journal_defs.specs.Stands.{StartsRise}
+use Rattle.site_defs.specs.OutsideInstance.{AreOrdered}
 
--- CREATE is the first record and no other one is, and the generations of CUT records rise
-pub record AreOrdered (rs : List InstanceRecord) : Type 0 where
-  pub create : BeginsWithCreate rs
-  pub cuts : CutsRise 0 rs
-
--- and the surviving reigns have rising starts
+-- the records are in their order, and the surviving reigns have rising starts
 pub record AreInOrder (rs : List InstanceRecord) : Type 0 where
   pub ordered : AreOrdered rs
   pub reigns : StartsRise 0 (reigns rs)

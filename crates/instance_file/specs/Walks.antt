@@ -7,8 +7,7 @@ use Rattle.global_defs.specs.Entry.{Reign}
 use Rattle.journal_defs.specs.Instance.{InstanceRecord, Create, Reigned, Cut, Map, Mode, IsInstanceBody}
 use Rattle.journal_defs.specs.Surviving.{spares_start, reigns}
 use Rattle.journal_defs.specs.Stands.{StartsRise}
-use Rattle.instance_file.specs.Order.{AreOrdered}
-use Rattle.instance_file.specs.Reading.{left_by}
+use Rattle.site_defs.specs.OutsideInstance.{AreOrdered, left_by}
 
 -- the reign that the record is, where it survives those behind
 abbrev pub surviving_in : List InstanceRecord → InstanceRecord → Option Reign

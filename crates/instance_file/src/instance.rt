@@ -14,7 +14,7 @@ ghost use Rattle.journal_defs.specs.Surviving as surviving;
 ghost use Rattle.journal_defs.specs.Stands.{IsInstance};
 ghost use Rattle.instance_file.specs.Values.{record_value, named_mode};
 ghost use Rattle.instance_file.specs.Order.{AreInOrder};
-ghost use Rattle.instance_file.specs.Reading.{IsOutsideInstance};
+ghost use Rattle.site_defs.specs.OutsideInstance.{IsOutsideInstance};
 
 use super::appending::put;
 use super::error::InstanceError;

@@ -10,7 +10,7 @@ ghost use Rattle.journal_defs.specs.Instance.{IsInForm};
 ghost use Rattle.journal_defs.specs.Surviving as surviving;
 ghost use Rattle.journal_defs.specs.Stands.{IsInstance};
 ghost use Rattle.instance_file.specs.Order.{AreInOrder};
-ghost use Rattle.instance_file.specs.Reading.{IsOutsideInstance};
+ghost use Rattle.site_defs.specs.OutsideInstance.{IsOutsideInstance};
 ghost use Rattle.instance_file.specs.Instance.{HasRecords, IsReady};
 
 use super::error::InstanceError;

@@ -9,8 +9,9 @@ ghost use Rattle.journal_defs.specs.Instance.{IsInForm, IsInstanceBody};
 ghost use Rattle.journal_defs.specs.Surviving as surviving;
 ghost use Rattle.journal_defs.specs.Stands.{IsInstance, StartsRise};
 ghost use Rattle.instance_file.specs.Values.{record_value};
-ghost use Rattle.instance_file.specs.Order.{AreOrdered, AreInOrder};
-ghost use Rattle.instance_file.specs.Reading.{FindsRecord, IsNoRecord, HasWrongRecord, HasWrongReign};
+ghost use Rattle.instance_file.specs.Order.{AreInOrder};
+ghost use Rattle.site_defs.specs.OutsideInstance.{AreOrdered, HasWrongRecord, HasWrongReign};
+ghost use Rattle.instance_file.specs.Reading.{FindsRecord, IsNoRecord};
 ghost use Rattle.instance_file.specs.Walks.{IsListed};
 
 use super::error::InstanceError;

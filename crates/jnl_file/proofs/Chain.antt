@@ -12,7 +12,8 @@ use Rattle.jnl_file.specs.Errors.{error_in}
 use Rattle.jnl_file.specs.declared.error.JournalError.{JournalError}
 use Rattle.jnl_file.specs.declared.error.JournalError.TheVariants.{Failed, NotARecord, NoMemory}
 use Rattle.jnl_file.specs.declared.error.GenerationsError.TheVariants.{NotAFile}
-use Rattle.jnl_file.specs.Generations.{AreJournals, AreDurable, HasNewer, IsOutsideAfter, IsOutsideGenerations}
+use Rattle.jnl_file.specs.Generations.{AreJournals, AreDurable, HasNewer}
+use Rattle.site_defs.specs.OutsideJournal.{IsOutsideAfter, IsOutsideGenerations}
 
 newer_joins : (files : Files) (region g n last began : ℕ) (older whole : List Placed) → n ≡ suc g → IsJournal files region g last older → HasNewer region n last (files (journal_file n region)) older whole began → IsJournal files region n began whole
 newer_joins files region g n last began older whole next is newer =

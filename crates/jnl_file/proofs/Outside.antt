@@ -8,7 +8,7 @@ use Rattle.disk_defs.specs.Disk.{Files}
 use Rattle.disk_defs.specs.Gates.{Body, Shut, Open, NoGate, gate_at, bodies_at, records, spelled}
 use Rattle.disk_defs.proofs.Told.{weaker_told, both_weak}
 use Rattle.disk_defs.proofs.Walks.{at_none, at_open}
-use Rattle.gated_file.specs.Reading.{IsOutside}
+use Rattle.site_defs.specs.OutsideGates.{IsOutside}
 use Rattle.gated_file.proofs.Walking.{outside_none}
 use Rattle.journal_defs.specs.Numbers.{journal_file}
 use Rattle.journal_defs.specs.Journal.{JournalRecord, Start, Pini, Epoch, Pblk, Tcom, IsJournalBody, BeginsWithPini}
@@ -16,8 +16,9 @@ use Rattle.journal_defs.specs.FileGrowth.{MayFollow}
 use Rattle.journal_defs.specs.Sequence.{Placed}
 use Rattle.journal_defs.specs.Stands.{Holds, IsJournal}
 use Rattle.journal_laws.proofs.Readings.{journal_body, journals_one}
-use Rattle.jnl_file.specs.Reading.{IsNoRecord, HasWrongRecord}
-use Rattle.jnl_file.specs.Generations.{IsRefused, StopsAt, NamesAnother, IsOutsideAfter, IsOutsideGenerations}
+use Rattle.jnl_file.specs.Reading.{IsNoRecord}
+use Rattle.site_defs.specs.OutsideJournal.{HasWrongRecord, NamesAnother, IsOutsideAfter, IsOutsideGenerations}
+use Rattle.jnl_file.specs.Generations.{IsRefused, StopsAt}
 use Rattle.jnl_file.proofs.Walk.{wrong_is_none}
 
 no_gate_long : (file : List ℕ) (at : ℕ) → gate_at file at ≡ NoGate → 2 ≤ length file

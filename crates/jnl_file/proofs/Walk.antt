@@ -16,7 +16,8 @@ use Rattle.journal_defs.specs.Stands.{Holds}
 use Rattle.journal_laws.proofs.Readings.{journal_body}
 use Rattle.jnl_record.specs.Values.{record_value}
 use Rattle.jnl_record.specs.declared.record.JnlRecord.{JnlRecord}
-use Rattle.jnl_file.specs.Reading.{FindsRecord, IsNoRecord, HoldsFrom, IsPiniOf, MayStand, IsJournalFile, HasWrongRecord}
+use Rattle.jnl_file.specs.Reading.{FindsRecord, IsNoRecord, HoldsFrom, IsPiniOf, MayStand, IsJournalFile}
+use Rattle.site_defs.specs.OutsideJournal.{HasWrongRecord}
 use Rattle.jnl_file.proofs.Zips.{Split, zip_append, zip_split}
 
 -- Up to this place stand records of a journal of this region and generation.

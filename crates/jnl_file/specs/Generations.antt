@@ -1,15 +1,15 @@
 -- The journals of a region, read from generation to generation.
-use Rattle.std.specs.Prelude.{◌≡◌, ◌≢◌, ◌⊎◌, ℕ, suc, ◌≤◌, Bool, true, false, List, [], ◌∷◌, ◌++◌, length, drop, map, Some}
+use Rattle.std.specs.Prelude.{◌≡◌, ◌⊎◌, ℕ, ◌≤◌, Bool, true, false, List, [], ◌∷◌, ◌++◌, length, drop, map}
 use Rattle.std.specs.Option.{option_map}
 use Rattle.std.specs.List.{AllZip}
 use Rattle.disk_defs.specs.Disk.{Files, View, IsDurable}
 use Rattle.disk_defs.specs.Gates.{Body, Open, gate_at, bodies_at, records, spelled}
 use Rattle.journal_defs.specs.Numbers.{journal_file}
-use Rattle.journal_defs.specs.Journal.{JournalRecord, Start, Pini, IsJournalBody, IsNoPini, BeginsWithPini}
+use Rattle.journal_defs.specs.Journal.{JournalRecord, IsJournalBody, IsNoPini, BeginsWithPini}
 use Rattle.journal_defs.specs.FileGrowth.{MayFollow}
 use Rattle.journal_defs.specs.Sequence.{Placed}
-use Rattle.journal_defs.specs.Stands.{Holds, IsJournal, last_began, in_generation}
-use Rattle.jnl_file.specs.Reading.{IsNoRecord, IsOutsideJournal}
+use Rattle.journal_defs.specs.Stands.{Holds, last_began, in_generation}
+use Rattle.jnl_file.specs.Reading.{IsNoRecord}
 
 -- the files of a region's journals of generations 1 to this one
 abbrev pub AreJournals : ℕ → ℕ → ℕ → Type 0
@@ -49,29 +49,3 @@ pub record StopsAt (region generation previous : ℕ) (file : List ℕ) (offset 
   pub earlier : List JournalRecord
   pub spelled_before : AllZip IsJournalBody before earlier
   pub here : IsNoRecord file offset ⊎ IsRefused region generation previous earlier file offset
-
--- The file begins with the PINI of this region and generation, which names another generation before it than this one.
-pub record NamesAnother (region generation previous : ℕ) (file : List ℕ) : Type 0 where
-  pub body : Body
-  pub after : List Body
-  pub list : records file ≡ Some (body ∷ after)
-  pub start : Start
-  pub spelled_start : IsJournalBody body (Pini start)
-  pub region_is : start.region ≡ region
-  pub generation_is : start.generation ≡ generation
-  pub other : start.previous ≢ previous
-
--- The file is no journal of this region and generation with this one before it, by what stands at this place.
-abbrev pub IsOutsideAfter : ℕ → ℕ → ℕ → List ℕ → ℕ → Type 0
-IsOutsideAfter region generation previous file offset = IsOutsideJournal region generation file offset ⊎ ((offset ≡ 0) × NamesAnother region generation previous file)
-
--- Up to some generation the files are those of a region's journals, and the next one, at most this one, isn't, by what stands at this place.
-pub record IsOutsideGenerations (files : Files) (region last file offset : ℕ) : Type 0 where
-  -- those before it
-  pub inside : ℕ
-  pub began : ℕ
-  pub older : List Placed
-  pub older_is : IsJournal files region inside began older
-  pub no_later : suc inside ≤ last
-  pub file_is : file ≡ journal_file (suc inside) region
-  pub outside : IsOutsideAfter region (suc inside) began (files file) offset

@@ -1,11 +1,9 @@
 -- Reading a journal from a place on.
-use Rattle.std.specs.Prelude.{◌≡◌, ◌⊎◌, ℕ, ◌+◌, Bool, true, false, List, [], ◌∷◌, ◌++◌, length, drop, Option, Some, None}
+use Rattle.std.specs.Prelude.{◌≡◌, ◌⊎◌, ℕ, ◌+◌, Bool, true, false, List, length, drop, Option, Some, None}
 use Rattle.std.specs.List.{AllZip}
-use Rattle.disk_defs.specs.Gates.{Body, Open, Shut, NoGate, gate_at, bodies_at, records, spelled}
+use Rattle.disk_defs.specs.Gates.{Body, Open, Shut, NoGate, gate_at, bodies_at}
 use Rattle.journal_defs.specs.Journal.{JournalRecord, Pini, Epoch, Pblk, Tcom, IsInForm, IsJournalBody, IsNoPini, BeginsWithPini}
-use Rattle.journal_defs.specs.FileGrowth.{MayFollow}
 use Rattle.journal_defs.specs.Stands.{Holds}
-use Rattle.gated_file.specs.Reading.{IsOutside}
 use Rattle.jnl_record.specs.Values.{record_value, IsFirstVersion}
 use Rattle.jnl_record.specs.declared.record.JnlRecord.{JnlRecord}
 
@@ -43,18 +41,3 @@ pub record IsJournalFile (region generation : ℕ) (file : List ℕ) (rs : List 
   pub held : Holds IsJournalBody file rs
   pub previous : ℕ
   pub begins : BeginsWithPini region generation previous rs
-
--- The body at this place belongs to no record, or to one that can't follow those before it in a journal of this region and generation.
-pub record HasWrongRecord (region generation : ℕ) (file : List ℕ) (offset : ℕ) : Type 0 where
-  pub before : List Body
-  pub body : Body
-  pub after : List Body
-  pub list : records file ≡ Some (before ++ body ∷ after)
-  pub place : offset ≡ length (spelled 1 before)
-  pub earlier : List JournalRecord
-  pub spelled_before : AllZip IsJournalBody before earlier
-  pub wrong : (r : JournalRecord) (previous : ℕ) → IsJournalBody body r → MayFollow region generation previous earlier (r ∷ []) → ⊥
-
--- at this place is no gate of the format, or a wrong record
-abbrev pub IsOutsideJournal : ℕ → ℕ → List ℕ → ℕ → Type 0
-IsOutsideJournal region generation file offset = IsOutside file offset ⊎ HasWrongRecord region generation file offset

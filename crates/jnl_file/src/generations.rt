@@ -10,7 +10,8 @@ ghost use Rattle.journal_defs.specs.Stands.{IsJournal};
 ghost use Rattle.jnl_record.specs.Values.{record_value, placed_value};
 ghost use Rattle.jnl_file.specs.Errors.{error_in};
 ghost use Rattle.jnl_file.specs.Reading.{IsReadRecord};
-ghost use Rattle.jnl_file.specs.Generations.{AreJournals, AreDurable, MayJoin, HasNewer, StopsAt, IsOutsideAfter, IsOutsideGenerations};
+ghost use Rattle.jnl_file.specs.Generations.{AreJournals, AreDurable, MayJoin, HasNewer, StopsAt};
+ghost use Rattle.site_defs.specs.OutsideJournal.{IsOutsideAfter, IsOutsideGenerations};
 
 use crate::error::{GenerationsError, JournalError};
 use crate::journal::journal_file;

@@ -4,7 +4,8 @@ ghost use Rattle.disk_defs.specs.Disk.{Reads, Rose};
 ghost use Rattle.disk_defs.specs.Gates.{Body, records};
 ghost use Rattle.journal_defs.specs.Journal.{JournalRecord};
 ghost use Rattle.jnl_record.specs.Values.{record_value};
-ghost use Rattle.jnl_file.specs.Reading.{FindsRecord, IsReadRecord, IsNoRecord, MayStand, IsJournalFile, HasWrongRecord};
+ghost use Rattle.jnl_file.specs.Reading.{FindsRecord, IsReadRecord, IsNoRecord, MayStand, IsJournalFile};
+ghost use Rattle.site_defs.specs.OutsideJournal.{HasWrongRecord};
 
 use crate::error::JournalError;
 use gated_file::Gated;

@@ -6,4 +6,8 @@ pub mod Fronts
 pub mod Stands
 pub mod Behind
 pub mod Texts
+pub mod OutsideGates
+pub mod OutsideInstance
+pub mod OutsideJournal
+pub mod Outside
 pub mod Samples

@@ -1,5 +1,6 @@
-//! Definitions: what the files of a site stand for, and what opening it, a reign and a section make of that. There is no command
-//! here and no answer, and no code but laws, each the contract of a function that does nothing.
+//! Definitions: what the files of a site stand for, what lies outside their formats and where, and what opening it, a reign and a
+//! section make of that. There is no command here and no answer, and no code but laws, each the contract of a function that does
+//! nothing.
 #![tactic(auto)]
 
 mod laws;

@@ -2,7 +2,7 @@
 use Rattle.std.proofs.Common.{◌≡◌, inl, inr, ℕ, suc, List, length, Option, None, IfSome, Err, IsErrOf, refl, sym, subst}
 use Rattle.disk_defs.specs.Disk.{Files}
 use Rattle.disk_defs.proofs.Told.{weaker_told, both_weak}
-use Rattle.instance_file.specs.Reading.{IsOutsideInstance}
+use Rattle.site_defs.specs.OutsideInstance.{IsOutsideInstance}
 use Rattle.instance_file.specs.declared.error.InstanceError.{InstanceError}
 use Rattle.instance_file.specs.declared.error.InstanceError.TheVariants as instances
 use Rattle.journal_defs.specs.Numbers.{INSTANCE}
@@ -12,7 +12,7 @@ use Rattle.site_files.specs.Errors.{instance_error}
 use Rattle.site_files.specs.declared.error.FilesError.{FilesError}
 use Rattle.site_files.specs.declared.error.FilesError.TheVariants as error
 use Rattle.site_files.specs.Loading.{IsDirectory}
-use Rattle.site_files.specs.Outside.{IsNoInstance, AreOutside, HaveBegun, IsOutsideRecords, IsOutsideSite}
+use Rattle.site_defs.specs.Outside.{IsNoInstance, AreOutside, HaveBegun, IsOutsideRecords, IsOutsideSite}
 
 -- the error of the instance file, told as a site's
 pub told_instance : {T : Type 0} (o : Option Files) (file offset fault : ℕ) (e : InstanceError) (x : FilesError) → x ≡ instance_error fault e

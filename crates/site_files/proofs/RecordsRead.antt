@@ -12,7 +12,8 @@ use Rattle.journal_defs.specs.Stands.{IsInstance, IsJournal, AreRecords}
 use Rattle.jnl_record.specs.declared.placed.PlacedRecord.{PlacedRecord}
 use Rattle.mupip_recover.specs.Site.{journal_of, site_records}
 use Rattle.site_files.specs.Loading.{IsDirectory}
-use Rattle.site_files.specs.Reading.{HaveJournals, HoldNoSite}
+use Rattle.site_files.specs.Reading.{HoldNoSite}
+use Rattle.site_defs.specs.Outside.{HaveJournals}
 use Rattle.site_files.proofs.WhatIsRead.{instance_one, none_past}
 
 pub generation_low : (rs : List InstanceRecord) → AllByRecursion IsInForm rs → generation rs ≤ 65535

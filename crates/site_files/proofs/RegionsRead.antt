@@ -11,14 +11,15 @@ use Rattle.journal_defs.specs.Numbers.{journal_file}
 use Rattle.journal_defs.specs.Sequence.{Placed}
 use Rattle.journal_defs.specs.Stands.{IsJournal}
 use Rattle.journal_laws.proofs.ImageSteps.{all_both}
-use Rattle.jnl_file.specs.Generations.{AreDurable, IsOutsideGenerations}
+use Rattle.jnl_file.specs.Generations.{AreDurable}
+use Rattle.site_defs.specs.OutsideJournal.{IsOutsideGenerations}
 use Rattle.jnl_file.specs.Reading.{IsReadRecord}
 use Rattle.jnl_record.specs.declared.placed.PlacedRecord.{PlacedRecord}
 use Rattle.jnl_record.specs.Values.{placed_value}
 use Rattle.mupip_recover.specs.Site.{journal_of}
 use Rattle.site_files.specs.Loading.{last_of}
-use Rattle.site_files.specs.Outside.{AreOutside, HaveBegun}
-use Rattle.site_files.specs.Reading.{AreAllRead, HaveJournals, AreAllDurable, AreUnbegun, AreUnbegunDurable}
+use Rattle.site_defs.specs.Outside.{AreOutside, HaveBegun, HaveJournals, AreUnbegun}
+use Rattle.site_files.specs.Reading.{AreAllRead, AreAllDurable, AreUnbegunDurable}
 
 -- what is on the disk for good stays so where nothing new comes
 pub durable_kept : (u v : View) (file : ℕ) (bytes : List ℕ) → IsLawful v → AtEachMoment u v (Image u) → IsDurable u file bytes → IsDurable v file bytes

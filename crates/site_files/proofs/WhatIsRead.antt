@@ -18,7 +18,8 @@ use Rattle.jnl_record.specs.declared.placed.PlacedRecord.{PlacedRecord}
 use Rattle.jnl_record.specs.Values.{placed_value}
 use Rattle.mupip_recover.specs.Site.{journal_of}
 use Rattle.site_files.specs.Loading.{MayBeOpened, AreRead, WasRead, IsDirectory}
-use Rattle.site_files.specs.Reading.{HaveJournals, AreAllDurable, AreUnbegun, AreUnbegunDurable}
+use Rattle.site_files.specs.Reading.{AreAllDurable, AreUnbegunDurable}
+use Rattle.site_defs.specs.Outside.{HaveJournals, AreUnbegun}
 use Rattle.site_files.proofs.RegionsRead.{durable_kept}
 
 -- a file has one list of records

@@ -1,4 +1,3 @@
 pub mod Errors
 pub mod Loading
-pub mod Outside
 pub mod Reading

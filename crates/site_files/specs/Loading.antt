@@ -12,6 +12,7 @@ use Rattle.journal_defs.specs.Directory.{Pattern, patterns}
 use Rattle.journal_defs.specs.Sequence.{Placed, Records}
 use Rattle.journal_defs.specs.Stands.{IsInstance, IsJournal, Holds, in_generation}
 use Rattle.journal_defs.specs.Growth.{with_record, with_more}
+use Rattle.site_defs.specs.Outside.{HaveDirectory}
 use Rattle.global_dir.specs.Directory.{Mapping}
 use Rattle.instance_file.specs.Order.{AreInOrder}
 use Rattle.jnl_file.specs.Begin.{pini}
@@ -23,7 +24,7 @@ last_of lasts r = get_or lasts r 0
 
 -- the directory of these records, or that there is none
 abbrev pub IsDirectory : List InstanceRecord → Option Mapping → Type 0
-IsDirectory rs None = (1 ≤ length (regions rs)) × (length (regions rs) ≤ 8) × AllByRecursion (λ (p : Pattern). p.region < length (regions rs)) (patterns rs) → ⊥
+IsDirectory rs None = HaveDirectory rs → ⊥
 IsDirectory rs (Some d) = (1 ≤ length (regions rs)) × (length (regions rs) ≤ 8) × (d ≡ record { regions = length (regions rs); patterns = patterns rs })
 
 -- The records of an instance file by which a site may be opened: they are a site's, each MAP names a region of it, and a generation is

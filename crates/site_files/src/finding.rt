@@ -10,7 +10,7 @@ ghost use Rattle.journal_defs.specs.Instance as defs;
 ghost use Rattle.journal_defs.specs.Instance.{IsInForm};
 ghost use Rattle.journal_defs.specs.Stands.{IsInstance};
 ghost use Rattle.site_files.specs.Errors.{instance_error};
-ghost use Rattle.site_files.specs.Outside.{IsNoInstance};
+ghost use Rattle.site_defs.specs.Outside.{IsNoInstance};
 
 use crate::error::FilesError;
 use gated_file::{GateError, sync_file};

@@ -12,12 +12,13 @@ ghost use Rattle.journal_defs.specs.Instance.{generation};
 ghost use Rattle.journal_defs.specs.Sequence.{Placed};
 ghost use Rattle.journal_defs.specs.Stands.{IsInstance, IsJournal, AreRecords};
 ghost use Rattle.jnl_file.specs.Reading.{IsReadRecord};
-ghost use Rattle.jnl_file.specs.Generations.{AreDurable, IsOutsideGenerations};
+ghost use Rattle.jnl_file.specs.Generations.{AreDurable};
+ghost use Rattle.site_defs.specs.OutsideJournal.{IsOutsideGenerations};
 ghost use Rattle.jnl_record.specs.Values.{placed_value};
 ghost use Rattle.site_files.specs.Errors.{generations_error};
 ghost use Rattle.site_files.specs.Loading.{MayBeOpened, AreRead, WasRead, IsDirectory, last_of};
-ghost use Rattle.site_files.specs.Outside.{AreOutside, HaveBegun, IsOutsideRecords, IsOutsideSite};
-ghost use Rattle.site_files.specs.Reading.{AreAllRead, HaveJournals, AreAllDurable, AreUnbegun, AreUnbegunDurable, HoldNoSite};
+ghost use Rattle.site_defs.specs.Outside.{AreOutside, HaveBegun, IsOutsideRecords, IsOutsideSite, HaveJournals, AreUnbegun};
+ghost use Rattle.site_files.specs.Reading.{AreAllRead, AreAllDurable, AreUnbegunDurable, HoldNoSite};
 ghost use Rattle.mupip_recover.specs.Site.{journal_of, site_records};
 
 use crate::error::FilesError;

@@ -9,7 +9,7 @@ ghost use Rattle.journal_defs.specs.Stands.{IsInstance};
 ghost use Rattle.site_defs.specs.Contents.{Contents};
 ghost use Rattle.site_defs.specs.Stands.{IsBlank, IsSite, Stands};
 ghost use Rattle.instance_file.specs.Values.{named_mode};
-ghost use Rattle.site_files.specs.Outside.{IsNoInstance, HasNoDirectory};
+ghost use Rattle.site_defs.specs.Outside.{IsNoInstance, HasNoDirectory};
 ghost use Rattle.site_store.specs.Finding.{IsFound, IsFoundIn, IsLaidOut, layout_in};
 ghost use Rattle.site_store.specs.Opening.{region_value, made, MayMake, StandsAsBefore};
 

@@ -7,7 +7,7 @@ ghost use Rattle.journal_defs.specs.Sequence.{Records, IsSequence};
 ghost use Rattle.journal_defs.specs.Stands.{AreRecords};
 ghost use Rattle.site_defs.specs.Contents.{Contents};
 ghost use Rattle.site_defs.specs.Stands.{IsSite};
-ghost use Rattle.site_files.specs.Outside.{IsOutsideRecords};
+ghost use Rattle.site_defs.specs.Outside.{IsOutsideRecords};
 ghost use Rattle.site_store.specs.Finding.{IsHistory, IsHistoryOf};
 
 use crate::error::SiteError;

@@ -11,7 +11,7 @@ ghost use Rattle.journal_defs.specs.Stands.{IsInstance};
 ghost use Rattle.site_defs.specs.Contents.{Contents};
 ghost use Rattle.site_defs.specs.Opening.{with_pattern};
 ghost use Rattle.site_defs.specs.Stands.{IsSite};
-ghost use Rattle.site_files.specs.Outside.{IsNoInstance};
+ghost use Rattle.site_defs.specs.Outside.{IsNoInstance};
 ghost use Rattle.site_store.specs.Refusing.{TakesNoPattern};
 ghost use Rattle.site_store.specs.Opening.{MayHavePattern, EachStands};
 

@@ -12,7 +12,7 @@ ghost use Rattle.site_defs.specs.Contents.{Contents, Leftover};
 ghost use Rattle.site_defs.specs.Opening.{opened, MayOpen};
 ghost use Rattle.site_defs.specs.Stands.{IsSite, HasLeft};
 ghost use Rattle.site_files.specs.Loading.{next_cut};
-ghost use Rattle.site_files.specs.Outside.{IsOutsideSite};
+ghost use Rattle.site_defs.specs.Outside.{IsOutsideSite};
 ghost use Rattle.site_store.specs.Refusing.{IsUnwritten};
 ghost use Rattle.site_store.specs.Finding.{HasLayout, mapping_of};
 ghost use Rattle.site_store.specs.Site.{Remembers, IsReady, IsOpen, WasOpened, WasOpenedFrom};

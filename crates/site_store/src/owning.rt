@@ -27,7 +27,7 @@ ghost use Rattle.site_defs.specs.Limits.{no_reign_left};
 ghost use Rattle.site_defs.specs.Opening.{opened, MayOpen, with_reign, next_stamp};
 ghost use Rattle.site_defs.specs.Fronts.{with_sequence, IsFrontOf};
 ghost use Rattle.site_defs.specs.Stands.{IsBlank, IsSite, HasLeft};
-ghost use Rattle.site_files.specs.Outside.{IsOutsideSite};
+ghost use Rattle.site_defs.specs.Outside.{IsOutsideSite};
 ghost use Rattle.site_store.specs.Refusing.{IsUnwritten};
 ghost use Rattle.site_store.specs.Site.{Remembers, WasOpened, WasOpenedFrom, HasReign, HasRoomFor, with_entry};
 ghost use Rattle.site_store.specs.Opening.{region_value, made, MayMake, MayBeOpen, EachStands};

@@ -2,7 +2,8 @@ use Rattle.std.proofs.Common.{rules, ◌+◌, ◌<◌, ◌≤◌, ◌++◌, ◌�
 use Rattle.disk_defs.specs.Gates.{Body}
 use Rattle.disk_defs.proofs.Told.{told_at, both_weak}
 use Rattle.disk_defs.proofs.Frames.{reads_more}
-use Rattle.gated_file.specs.Reading.{BodyAt, HasBody, LeadsTo}
+use Rattle.gated_file.specs.Reading.{BodyAt, HasBody}
+use Rattle.site_defs.specs.OutsideGates.{LeadsTo}
 use Rattle.gated_file.proofs.Walking.{leads_next}
 use Rattle.gated_file.proofs.attach.find_end.Goals as goal
 

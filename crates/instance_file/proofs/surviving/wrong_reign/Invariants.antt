@@ -2,7 +2,7 @@ use Rattle.std.proofs.Common.{◌≡◌, take, drop, map}
 use Rattle.journal_defs.specs.Surviving.{reigns}
 use Rattle.journal_defs.specs.Stands.{StartsRise}
 use Rattle.instance_file.specs.Values.{record_value}
-use Rattle.instance_file.specs.Reading.{left_by}
+use Rattle.site_defs.specs.OutsideInstance.{left_by}
 use Rattle.instance_file.proofs.Histories.{last_start}
 use Rattle.instance_file.proofs.surviving.wrong_reign.Given as goal
 

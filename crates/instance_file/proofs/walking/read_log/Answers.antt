@@ -7,7 +7,8 @@ use Rattle.std.specs.List.{AllByRecursion}
 use Rattle.journal_defs.specs.Instance.{IsInForm, generation}
 use Rattle.instance_file.specs.Order.{MayStand, last_after}
 use Rattle.instance_file.proofs.Orders.{stand_follows, generation_next}
-use Rattle.instance_file.specs.Reading.{FindsRecord, IsNoRecord, HasWrongRecord}
+use Rattle.instance_file.specs.Reading.{FindsRecord, IsNoRecord}
+use Rattle.site_defs.specs.OutsideInstance.{HasWrongRecord}
 use Rattle.instance_file.specs.declared.record.InstanceRecord.{InstanceRecord}
 use Rattle.instance_file.specs.declared.error.InstanceError.TheVariants.{NotARecord}
 use Rattle.instance_file.proofs.Passing.{Passed, passed_none, told_same, told_next, told_wrong, told_no_record, told_end}

@@ -2,7 +2,7 @@ use Rattle.std.proofs.Common.{◌≡◌, ◌≤◌, ◌-◌, ◌^◌, length, If
 use Rattle.disk_defs.specs.Disk.{Reads}
 use Rattle.std.specs.List.{AllByRecursion}
 use Rattle.journal_defs.specs.Instance.{IsInForm, generation}
-use Rattle.instance_file.specs.Order.{AreOrdered}
+use Rattle.site_defs.specs.OutsideInstance.{AreOrdered}
 use Rattle.instance_file.proofs.Passing.{Passed}
 use Rattle.instance_file.proofs.walking.read_log.Given as goal
 

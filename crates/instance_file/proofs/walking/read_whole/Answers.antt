@@ -1,7 +1,7 @@
 use Rattle.std.proofs.Common.{rules, ◌≡◌, inl, inr, ℕ, List, IfSome, sym, subst}
 use Rattle.disk_defs.proofs.Told.{weaker_told}
 use Rattle.journal_defs.specs.Instance.{InstanceRecord}
-use Rattle.instance_file.specs.Reading.{HasWrongRecord}
+use Rattle.site_defs.specs.OutsideInstance.{HasWrongRecord}
 use Rattle.instance_file.specs.Walks.{IsListed, IsWrongReign}
 use Rattle.instance_file.proofs.Outside.{IsWrong, wrong_reign_of}
 use Rattle.instance_file.proofs.walking.read_whole.Goals as goal

@@ -7,7 +7,8 @@ use Rattle.journal_defs.specs.Sequence.{Placed}
 use Rattle.journal_defs.specs.Stands.{IsJournal}
 use Rattle.jnl_record.specs.Values.{placed_value}
 use Rattle.jnl_file.specs.Errors.{error_in}
-use Rattle.jnl_file.specs.Generations.{AreJournals, AreDurable, IsOutsideGenerations}
+use Rattle.jnl_file.specs.Generations.{AreJournals, AreDurable}
+use Rattle.site_defs.specs.OutsideJournal.{IsOutsideGenerations}
 use Rattle.jnl_file.specs.declared.error.JournalError.TheVariants.{NotARecord}
 use Rattle.jnl_file.specs.declared.error.GenerationsError.TheVariants.{NotAFile}
 use Rattle.jnl_file.proofs.Newer.{all_told}

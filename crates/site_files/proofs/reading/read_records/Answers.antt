@@ -11,8 +11,7 @@ use Rattle.journal_defs.specs.Sequence.{Placed}
 use Rattle.mupip_recover.specs.Site.{journal_of}
 use Rattle.site_files.specs.declared.error.FilesError.TheVariants.{NotAFile}
 use Rattle.site_files.specs.Loading.{IsDirectory, last_of}
-use Rattle.site_files.specs.Reading.{HaveJournals}
-use Rattle.site_files.specs.Outside.{AreOutside}
+use Rattle.site_defs.specs.Outside.{HaveJournals, AreOutside}
 use Rattle.site_files.proofs.Places.{instance_place, directory_place, journals_place}
 use Rattle.site_files.proofs.Errors.{handed_on, causes_on}
 use Rattle.site_files.proofs.RecordsRead.{generation_low, hold_no_instance, hold_no_directory, hold_no_journals, are_held}

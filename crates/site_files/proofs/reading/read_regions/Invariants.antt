@@ -2,7 +2,8 @@ use Rattle.std.proofs.Common.{◌≡◌, ℕ, ◌≤◌, length, map, IfSome}
 use Rattle.disk_defs.specs.Disk.{Image, AtEachMoment}
 use Rattle.mupip_recover.specs.Site.{journal_of}
 use Rattle.site_files.specs.Loading.{last_of}
-use Rattle.site_files.specs.Reading.{AreAllRead, HaveJournals, AreAllDurable}
+use Rattle.site_files.specs.Reading.{AreAllRead, AreAllDurable}
+use Rattle.site_defs.specs.Outside.{HaveJournals}
 use Rattle.site_files.proofs.reading.read_regions.Given as goal
 
 abbrev pub invariant-loop-region : goal.invariant-loop-region

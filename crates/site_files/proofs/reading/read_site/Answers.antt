@@ -13,8 +13,8 @@ use Rattle.journal_defs.specs.Sequence.{Placed}
 use Rattle.mupip_recover.specs.Site.{journal_of}
 use Rattle.site_files.specs.declared.error.FilesError.TheVariants.{NotAFile, GenLimit}
 use Rattle.site_files.specs.Loading.{IsDirectory, last_of}
-use Rattle.site_files.specs.Reading.{HaveJournals, AreAllDurable, AreUnbegun, AreUnbegunDurable}
-use Rattle.site_files.specs.Outside.{AreOutside, HaveBegun}
+use Rattle.site_files.specs.Reading.{AreAllDurable, AreUnbegunDurable}
+use Rattle.site_defs.specs.Outside.{HaveJournals, AreUnbegun, AreOutside, HaveBegun}
 use Rattle.site_files.proofs.Places.{instance_place, site_place, directory_place, journals_place, begun_place}
 use Rattle.site_files.proofs.Errors.{handed_on, causes_on}
 use Rattle.site_files.proofs.WhatIsRead.{no_instance, no_late_instance, limit_read, no_directory, no_late_directory, not_late, no_journals, no_next, may_be_opened, was_read}

@@ -1,6 +1,7 @@
 use Rattle.std.proofs.Common.{◌≡◌, ◌≤◌, IfSome}
 use Rattle.disk_defs.specs.Disk.{Image, AtEachMoment}
-use Rattle.site_files.specs.Reading.{AreUnbegun, AreUnbegunDurable}
+use Rattle.site_files.specs.Reading.{AreUnbegunDurable}
+use Rattle.site_defs.specs.Outside.{AreUnbegun}
 use Rattle.site_files.proofs.reading.see_regions.Given as goal
 
 abbrev pub invariant-loop-region : goal.invariant-loop-region

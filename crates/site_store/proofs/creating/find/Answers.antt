@@ -15,7 +15,7 @@ use Rattle.site_defs.specs.Stands.{Stands}
 use Rattle.site_store.specs.Finding.{IsLaidOut, IsFound}
 use Rattle.site_store.specs.declared.layout.Layout.{Layout}
 use Rattle.site_store.specs.declared.error.SiteError.TheVariants.{NotAFile}
-use Rattle.site_files.specs.Outside.{IsNoInstance, HasNoDirectory}
+use Rattle.site_defs.specs.Outside.{IsNoInstance, HasNoDirectory}
 use Rattle.site_store.proofs.Errors.{file_was}
 use Rattle.site_store.proofs.Found.{region_bounds, stands_instance, exact_by, found_by, alike_by, no_bodies, not_laid}
 use Rattle.site_store.proofs.creating.find.Goals as goal

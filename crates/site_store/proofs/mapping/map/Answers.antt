@@ -9,7 +9,7 @@ use Rattle.journal_defs.specs.Stands.{IsInstance}
 use Rattle.site_defs.specs.Contents.{Contents}
 use Rattle.site_defs.specs.Opening.{with_pattern}
 use Rattle.site_defs.specs.Stands.{IsSite}
-use Rattle.site_files.specs.Outside.{IsNoInstance}
+use Rattle.site_defs.specs.Outside.{IsNoInstance}
 use Rattle.site_store.specs.Refusing.{TakesNoPattern}
 use Rattle.site_store.specs.Opening.{EachStands}
 use Rattle.site_store.proofs.Errors.{file_was}

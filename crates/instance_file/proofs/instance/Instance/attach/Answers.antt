@@ -5,12 +5,12 @@ use Rattle.disk_defs.proofs.Told.{weaker_told}
 use Rattle.disk_defs.proofs.Moments.{nothing_new, read_only}
 use Rattle.disk_defs.proofs.Frames.{others_read, others_then}
 use Rattle.gated_file.specs.Begin.{KeepsRecords}
-use Rattle.gated_file.specs.Reading.{IsOutside}
+use Rattle.site_defs.specs.OutsideGates.{IsOutside}
 use Rattle.gated_file.specs.declared.gated.Gated.{Gated}
 use Rattle.journal_defs.specs.Numbers.{INSTANCE}
 use Rattle.journal_defs.specs.Instance.{InstanceRecord}
 use Rattle.journal_defs.specs.Stands.{IsInstance}
-use Rattle.instance_file.specs.Reading.{IsOutsideInstance}
+use Rattle.site_defs.specs.OutsideInstance.{IsOutsideInstance}
 use Rattle.instance_file.proofs.Outside.{IsWrong, wrong_as, wrong_none, instance_as}
 use Rattle.instance_file.proofs.Making.{taken_back, taken_records, ready_made, ready_read}
 use Rattle.instance_file.proofs.instance.Instance.attach.Goals as goal

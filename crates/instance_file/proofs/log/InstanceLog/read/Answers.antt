@@ -2,11 +2,11 @@ use Rattle.std.proofs.Common.{rules, inl, inr, ℕ, List, IfSome, subst}
 use Rattle.disk_defs.specs.Disk.{Image}
 use Rattle.disk_defs.proofs.Told.{weaker_told, told_at}
 use Rattle.disk_defs.proofs.Moments.{nothing_new, read_only}
-use Rattle.gated_file.specs.Reading.{IsOutside}
+use Rattle.site_defs.specs.OutsideGates.{IsOutside}
 use Rattle.journal_defs.specs.Numbers.{INSTANCE}
 use Rattle.journal_defs.specs.Instance.{InstanceRecord}
 use Rattle.journal_defs.specs.Stands.{IsInstance}
-use Rattle.instance_file.specs.Reading.{IsOutsideInstance}
+use Rattle.site_defs.specs.OutsideInstance.{IsOutsideInstance}
 use Rattle.instance_file.proofs.Outside.{IsWrong, wrong_none}
 use Rattle.instance_file.proofs.Logs.{outside_no_list}
 use Rattle.instance_file.proofs.log.InstanceLog.read.Goals as goal

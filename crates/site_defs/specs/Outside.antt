@@ -1,15 +1,27 @@
 -- What lies outside the files of a site, and where.
-use Rattle.std.specs.Prelude.{◌≡◌, ◌⊎◌, ℕ, suc, ◌<◌, List, [], length, Some, None}
+use Rattle.std.specs.Prelude.{◌≡◌, ◌⊎◌, ℕ, suc, ◌<◌, ◌≤◌, List, [], length, Some}
+use Rattle.std.specs.List.{AllByRecursion}
 use Rattle.disk_defs.specs.Disk.{Files}
 use Rattle.disk_defs.specs.Gates.{records}
 use Rattle.journal_defs.specs.Numbers.{INSTANCE, journal_file}
 use Rattle.journal_defs.specs.Instance.{InstanceRecord, generation, regions}
+use Rattle.journal_defs.specs.Directory.{Pattern, patterns}
 use Rattle.journal_defs.specs.Sequence.{Placed}
-use Rattle.journal_defs.specs.Stands.{IsInstance}
-use Rattle.instance_file.specs.Reading.{IsOutsideInstance}
-use Rattle.jnl_file.specs.Generations.{IsOutsideGenerations}
-use Rattle.site_files.specs.Loading.{IsDirectory}
-use Rattle.site_files.specs.Reading.{HaveJournals, AreUnbegun}
+use Rattle.journal_defs.specs.Stands.{IsInstance, IsJournal}
+use Rattle.site_defs.specs.OutsideInstance.{IsOutsideInstance}
+use Rattle.site_defs.specs.OutsideJournal.{IsOutsideGenerations}
+
+-- these records have one to eight regions, and each MAP is to one of them
+abbrev pub HaveDirectory : List InstanceRecord → Type 0
+HaveDirectory rs = (1 ≤ length (regions rs)) × (length (regions rs) ≤ 8) × AllByRecursion (λ (p : Pattern). p.region < length (regions rs)) (patterns rs)
+
+-- the first so many regions have these records over the generations up to g
+abbrev pub HaveJournals : ℕ → ℕ → (last : ℕ → ℕ) → (journal : ℕ → List Placed) → Files → Type 0
+HaveJournals regions g last journal files = (r : ℕ) → r < regions → IsJournal files r g (last r) (journal r)
+
+-- generation g has no open record in them
+abbrev pub AreUnbegun : ℕ → ℕ → Files → Type 0
+AreUnbegun regions g files = (r : ℕ) → r < regions → records (files (journal_file g r)) ≡ Some []
 
 -- the instance file isn't one, by what stands at this place
 abbrev pub IsNoInstance : Files → ℕ → ℕ → Type 0
@@ -17,7 +29,7 @@ IsNoInstance files file offset = (file ≡ INSTANCE) × IsOutsideInstance (files
 
 -- it has no records of one to eight regions with each MAP to one of them; the place is its beginning
 abbrev pub HasNoDirectory : Files → ℕ → ℕ → Type 0
-HasNoDirectory files file offset = (rs : List InstanceRecord) × IsInstance (files INSTANCE) rs × IsDirectory rs None × (file ≡ INSTANCE) × (offset ≡ 0)
+HasNoDirectory files file offset = (rs : List InstanceRecord) × IsInstance (files INSTANCE) rs × (HaveDirectory rs → ⊥) × (file ≡ INSTANCE) × (offset ≡ 0)
 
 -- The first of so many regions whose journals up to a generation aren't its journals: the first such journal, by what stands at this place.
 pub record AreOutside (files : Files) (regions last file offset : ℕ) : Type 0 where
