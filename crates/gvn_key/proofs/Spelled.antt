@@ -149,6 +149,10 @@ by_half one other at m n small_one small_other inside_one inside_other is_one is
 pub decided : (m n : ℕ) (o : Ordering) → (m ≡ n → ⊥) → ordering_then (nat_cmp m n) o ≡ nat_cmp m n
 decided m n o apart = elim (ranks m n) [ below h e ↦ rw e refl | same h e ↦ absurd (apart h) | above h e ↦ rw e refl ]
 
+-- and the lists behind words that are the same
+pub tied : (m n : ℕ) (o : Ordering) → m ≡ n → ordering_then (nat_cmp m n) o ≡ o
+tied m n o even = elim (ranks m n) [ below h e ↦ absurd (omega (arith, h, even)) | same h e ↦ rw e refl | above h e ↦ absurd (omega (arith, h, even)) ]
+
 -- lists one of which is at its end compare by their lengths
 at_end : (xs ys : List ℕ) → min (length xs) (length ys) ≡ 0 → slice_cmp nat_cmp xs ys ≡ nat_cmp (length xs) (length ys)
 at_end [] [] none = refl
@@ -165,3 +169,23 @@ ends one other at k all =
     let size_b : length b ≡ length other - (at + k) = omega (arith, length-drop k (drop at other), length-drop at other) in
     at_end a b (omega (arith, size_a, size_b, all))
     ∙ agree (length one) (length other) (length a) (length b) (λ h. omega (arith, size_a, size_b, all, h)) (λ h. omega (arith, size_a, size_b, all, h)) (λ h. omega (arith, size_a, size_b, all, h))
+
+-- how lists compare by the last word of the shorter, which may stand over bytes before it that are the same
+pub last_word : (one other : List ℕ) (size done m n : ℕ) → AreBytes one → AreBytes other → 8 ≤ size → size ≡ min (length one) (length other) → size - 8 ≤ done
+    → m ≡ from_be_bytes w64 (take 8 (drop (size - 8) one)) → n ≡ from_be_bytes w64 (take 8 (drop (size - 8) other)) → take done one ≡ take done other
+    → slice_cmp nat_cmp one other ≡ ordering_then (nat_cmp m n) (nat_cmp (length one) (length other))
+last_word one other size done m n small_one small_other long all low is_one is_other front =
+    let at : ℕ = size - 8 in
+    let whole : at + 8 ≡ size = omega (arith, long) in
+    let end : at + 8 ≡ min (length one) (length other) = whole ∙ all in
+    by_word one other at m n small_one small_other (omega (arith, end)) (omega (arith, end)) is_one is_other (same_less one other at done low front) ∙ ap (ordering_then (nat_cmp m n)) (ends one other at 8 end)
+
+-- and by the last four bytes
+pub last_half : (one other : List ℕ) (size done m n : ℕ) → AreBytes one → AreBytes other → 4 ≤ size → size ≡ min (length one) (length other) → size - 4 ≤ done
+    → m ≡ from_be_bytes w32 (take 4 (drop (size - 4) one)) → n ≡ from_be_bytes w32 (take 4 (drop (size - 4) other)) → take done one ≡ take done other
+    → slice_cmp nat_cmp one other ≡ ordering_then (nat_cmp m n) (nat_cmp (length one) (length other))
+last_half one other size done m n small_one small_other long all low is_one is_other front =
+    let at : ℕ = size - 4 in
+    let whole : at + 4 ≡ size = omega (arith, long) in
+    let end : at + 4 ≡ min (length one) (length other) = whole ∙ all in
+    by_half one other at m n small_one small_other (omega (arith, end)) (omega (arith, end)) is_one is_other (same_less one other at done low front) ∙ ap (ordering_then (nat_cmp m n)) (ends one other at 4 end)

@@ -5,7 +5,7 @@ use Rattle.std.proofs.lemmas.List.{append-nil}
 use Rattle.std.proofs.Math.Seq.{take-append_seam, drop-append-add}
 use Rattle.std.proofs.lemmas.Bool.{and_parts}
 use Rattle.global_defs.specs.Key.{Sub, Number, Text}
-use Rattle.global_defs.specs.Encoded.{encoded_sub, escaped}
+use Rattle.global_defs.specs.Encoded.{encoded_sub}
 use Rattle.global_defs.specs.NodeText.{sub_text, subs_text}
 use Rattle.global_defs.specs.Valid.{is_sub}
 use Rattle.global_defs.specs.Zwr.{zwr}

@@ -52,7 +52,10 @@ fn compare_long(one: &[u8], other: &[u8], n: usize) -> Ordering
     }
     let left = word_at(one, n - WORD);
     let right = word_at(other, n - WORD);
-    left.cmp(&right).then(one.len().cmp(&other.len()))
+    if left != right {
+        return left.cmp(&right);
+    }
+    one.len().cmp(&other.len())
 }
 
 /// How two lists compare, of which the shorter has four to eight bytes.
@@ -69,7 +72,10 @@ fn compare_short(one: &[u8], other: &[u8], n: usize) -> Ordering
     }
     let left = half_at(one, n - HALF);
     let right = half_at(other, n - HALF);
-    left.cmp(&right).then(one.len().cmp(&other.len()))
+    if left != right {
+        return left.cmp(&right);
+    }
+    one.len().cmp(&other.len())
 }
 
 /// How two lists of bytes compare: byte by byte, a prefix first.

@@ -15,6 +15,7 @@ use gvn_key::{Bytes, NoMemory};
 use jnl_record::{JnlRecord, encode};
 use repl_disk::Disk;
 use std::alloc::Global;
+use std::mem::replace;
 
 /// The number of the file that holds a region's journal of a generation.
 pub fn journal_file(region: u8, generation: u32) -> u32
@@ -39,6 +40,8 @@ pub struct Journal {
     pub generation: u32,
     /// The body of the record that was prepared last.
     pub body: Bytes,
+    // The memory of the body before it, in which the next one is written.
+    spare: Bytes,
 }
 
 impl Journal {
@@ -73,6 +76,7 @@ impl Journal {
             region,
             generation,
             body: Bytes::new(alloc),
+            spare: Bytes::new(alloc),
         })
     }
 
@@ -170,6 +174,7 @@ impl Journal {
             region,
             generation,
             body: Bytes::new(alloc),
+            spare: Bytes::new(alloc),
         })
     }
 
@@ -190,10 +195,11 @@ impl Journal {
         ensures frame { OthersStay (Only self.old.gated.file) (D.disk disk.old) (D.disk disk.new) }
         ensures faults { (D.disk disk.new).faults ≡ (D.disk disk.old).faults }
     {
-        let mut body = Bytes::new(self.gated.alloc);
+        let mut body = replace(&mut self.spare, Bytes::new(self.gated.alloc));
+        body.clear();
         encode(what, &mut body)?;
         self.gated.reserve(disk, 1, body.len() as u64)?;
-        self.body = body;
+        self.spare = replace(&mut self.body, body);
         Ok(())
     }
 

@@ -171,6 +171,9 @@ impl Hearer {
         ensures knew { IsHeard self.old }
     {
         self.count += 1;
+        if let Last::Shipped = self.last {
+            return;
+        }
         match mem::replace(&mut self.last, Last::Shipped) {
             Last::Reigning(reign) if reign.start == self.count => {
                 self.reigns += 1;

@@ -14,6 +14,7 @@ use repl_wire::{Frame, FrameError, FrameList, Frames, frame_length};
 use std::alloc::Global;
 use std::collections::VecDeque;
 use std::marker::Model;
+use std::mem;
 
 // How many bytes a step receives at most.
 const PIECE: usize = 4096;
@@ -107,14 +108,16 @@ impl Inbox {
         self.left != 0
     }
 
-    // Reads the bytes that were received.
+    // Reads the bytes that were received. The list of the frames heard before is used again.
     fn read(&mut self) -> Result<(), NoMemory>
         requires good { self.old.bad ≡ false }
         requires empty { self.old.waiting ≡ [] }
         ensures ok { OnOk result (HasRead self.old self.new) }
         ensures err { OnErr result (self.new ≡ self.old) }
     {
-        let mut list = FrameList::new(self.alloc);
+        let heard = mem::replace(&mut self.waiting, VecDeque::new(self.alloc));
+        let items = Vec::from(heard);
+        let mut list = FrameList::of(items);
         match self.frames.feed(&self.piece[..self.fresh], &mut list) {
             Ok(()) => {}
             Err(FrameError::BadFrame { .. }) => self.bad = true,

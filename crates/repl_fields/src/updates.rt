@@ -6,6 +6,7 @@ ghost use Rattle.global_defs.specs.Valid.{is_key};
 ghost use Rattle.global_defs.specs.Encoded.{encoded};
 ghost use Rattle.global_defs.specs.Fields.{short, long, spelled_update, IsUpdate};
 ghost use Rattle.global_defs.specs.Prefix.{IsPrefix};
+ghost use Rattle.gvn_key.specs.Decoding.{Decodes};
 ghost use Rattle.gvn_key.specs.Terms.{update_value};
 ghost use Rattle.repl_fields.specs.Reading.{ReadsField};
 
@@ -13,10 +14,22 @@ use super::numbers::read_u8;
 use super::pieces::{read_long, read_short};
 use gvn_key::terms::Update;
 use gvn_key::{Bytes, Key, NoMemory};
+use key_code::{Seen, first_key};
 use std::alloc::Global;
 
 /// How many bytes a value may have.
 const LONGEST_VALUE: usize = 1500;
+
+/// The key that has these bytes as its encoded form, `None` where no key has them. Keys of the commonest forms are told at once.
+fn decode_key(alloc: Global, code: &[u8]) -> Result<Option<Key>, NoMemory>
+    ensures { IfOk result (λ found. Decodes code.now found) }
+{
+    let mut seen = Seen::nothing();
+    if !first_key(&mut seen, code) {
+        return Ok(None);
+    }
+    Ok(Some(Key::of_code(alloc, code)?))
+}
 
 /// A key behind its length, and what follows it.
 #[tactic(auto, using(crate::proofs::Tagged::no_key_read))]
@@ -25,7 +38,7 @@ pub fn read_key(alloc: Global, bytes: &[u8]) -> Result<Option<(Key, &[u8])>, NoM
 {
     match read_short(bytes) {
         None => Ok(None),
-        Some((code, rest)) => match Key::decode(alloc, code)? {
+        Some((code, rest)) => match decode_key(alloc, code)? {
             None => Ok(None),
             Some(key) => Ok(Some((key, rest))),
         },

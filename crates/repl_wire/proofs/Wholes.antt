@@ -33,8 +33,8 @@ stand_more made later bytes rest behind u s push form cut = subst (λ (l : List 
       ∙ sym (append_assoc (flat_map spelled_update made) (spelled_update u ++ []) behind) ∙ ap (λ (l : List ℕ). l ++ behind) (sym (flat_map-append spelled_update made (u ∷ [])));
 })
 
-pub set_stands : (bytes code rest value behind : List ℕ) (k : Key) → bytes ≡ short code ++ rest → rest ≡ long value ++ behind → encoded k ≡ code → 1 ∷ bytes ≡ spelled_update (Set k value) ++ behind
-set_stands bytes code rest value behind k e1 e2 is = ap (λ (l : List ℕ). 1 ∷ l) (e1 ∙ ap (λ (l : List ℕ). short l ++ rest) (sym is) ∙ ap (λ (l : List ℕ). short (encoded k) ++ l) e2 ∙ sym (append_assoc (short (encoded k)) (long value) behind))
+pub set_stands : (bytes rest value behind : List ℕ) (k : Key) → bytes ≡ short (encoded k) ++ rest → rest ≡ long value ++ behind → 1 ∷ bytes ≡ spelled_update (Set k value) ++ behind
+set_stands bytes rest value behind k e1 e2 = ap (λ (l : List ℕ). 1 ∷ l) (e1 ∙ ap (λ (l : List ℕ). short (encoded k) ++ l) e2 ∙ sym (append_assoc (short (encoded k)) (long value) behind))
 
 -- the fields of an entry and its updates, one after another
 

@@ -58,6 +58,13 @@ impl FrameList {
         }
     }
 
+    /// These frames, in their memory.
+    pub fn of(items: Vec<Frame>) -> Self
+        ensures { result ≡ map frame_value items.items }
+    {
+        FrameList { items }
+    }
+
     /// How many frames there are.
     pub fn len(&self) -> usize
         ensures { result ≡ length self.now }
@@ -103,6 +110,7 @@ impl FrameList {
     }
 
     /// Adds a frame at the end.
+    #[inline(always)]
     pub fn push(&mut self, frame: Frame) -> Result<(), NoMemory>
         ensures ok { OnOk result (self.new ≡ self.old ++ frame_value frame ∷ []) }
         ensures err { OnErr result (self.new ≡ self.old) }

@@ -79,20 +79,18 @@ fn scanned(alloc: Global, bytes: &[u8]) -> Result<Ahead, NoMemory>
     }
 }
 
-/// What stands at the front of these bytes. They are scanned byte by byte only where no whole ENTRY stands there.
+/// What stands at the front of these bytes, looked at byte by byte.
 fn look(alloc: Global, bytes: &[u8]) -> Result<Ahead, NoMemory>
     ensures { IfOk result (λ found. IsAhead found bytes.now) }
 {
     if bytes.is_empty() {
         return Ok(Ahead::Open(Scan::new()));
     }
-    match whole_entry(alloc, bytes)? {
-        Some((frame, count)) => Ok(Ahead::Whole(frame, count)),
-        None => scanned(alloc, bytes),
-    }
+    scanned(alloc, bytes)
 }
 
-/// Adds the whole frames at the front of these bytes, the first of which begins at that offset.
+/// Adds the whole frames at the front of these bytes, the first of which begins at that offset. They are looked at byte by byte only where
+/// no whole ENTRY stands.
 fn take_frames<'a>(
     alloc: Global,
     offset: u64,
@@ -106,16 +104,18 @@ fn take_frames<'a>(
     let mut rest = bytes;
     let mut offset = offset;
     loop {
-        match look(alloc, rest)? {
-            Ahead::Bad => return Err(FrameError::BadFrame { offset }),
-            Ahead::Open(scan) => return Ok(Tail { offset, scan, rest }),
-            Ahead::Whole(frame, count) => {
-                let (_, back) = rest.split_at(count);
-                out.push(frame)?;
-                offset = offset.saturating_add(count as u64);
-                rest = back;
-            }
-        }
+        let (frame, count) = match whole_entry(alloc, rest)? {
+            Some(entry) => entry,
+            None => match look(alloc, rest)? {
+                Ahead::Bad => return Err(FrameError::BadFrame { offset }),
+                Ahead::Open(scan) => return Ok(Tail { offset, scan, rest }),
+                Ahead::Whole(frame, count) => (frame, count),
+            },
+        };
+        let (_, back) = rest.split_at(count);
+        out.push(frame)?;
+        offset = offset.saturating_add(count as u64);
+        rest = back;
     }
 }
 

@@ -1,18 +1,15 @@
 //! An ENTRY that is whole in the bytes at hand, read at once: its head tells its length, so no byte is looked at before.
-ghost use Rattle.std.specs.Prelude.{◌≡◌, ◌<◌, ◌≤◌, ◌^◌, ◌∷◌, ◌++◌, length, IfOk, IfSome, IsTrue};
-ghost use Rattle.global_defs.specs.Encoded.{encoded};
+ghost use Rattle.std.specs.Prelude.{◌≡◌, ◌<◌, ◌≤◌, ◌^◌, [], ◌∷◌, ◌++◌, length, IfOk, IfSome, IsTrue};
 ghost use Rattle.global_defs.specs.Fields.{IsUpdate, spelled_update};
-ghost use Rattle.global_defs.specs.Valid.{is_key};
 ghost use Rattle.gvn_key.specs.Terms.{update_value};
 ghost use Rattle.repl_wire.specs.Values.{frame_value};
 ghost use Rattle.repl_wire.specs.Wholes.{StandBefore, IsEntryOf, StandsFirst};
 
 use super::frame::Frame;
+use gvn_key::NoMemory;
 use gvn_key::terms::Update;
-use gvn_key::{Bytes, Key, NoMemory};
 use gvn_model::{Origin, Transaction, Updates};
-use key_code::{Seen, first_key};
-use repl_fields::{read_long, read_short, read_u8, read_u16, read_u32, read_u64, read_update};
+use repl_fields::{read_key, read_u8, read_u16, read_u32, read_u64, read_update, read_value};
 use std::alloc::Global;
 
 /// The last number of 40 bits.
@@ -21,22 +18,8 @@ const LAST: u64 = 0xff_ffff_ffff;
 /// How many bytes a frame's body may have.
 const LONGEST_BODY: u32 = 1_048_576;
 
-/// How many bytes a value may have.
-const LONGEST_VALUE: usize = 1500;
-
 /// How many bytes stand before a frame's body.
 const HEAD: usize = 5;
-
-/// The key whose encoded form these bytes are, if they are one's.
-fn key_of(alloc: Global, code: &[u8]) -> Result<Option<Key>, NoMemory>
-    ensures { IfOk result (λ found. IfSome found (λ key. IsTrue (is_key key) × (encoded key ≡ code.now))) }
-{
-    let mut seen = Seen::nothing();
-    if !first_key(&mut seen, code) {
-        return Ok(None);
-    }
-    Ok(Some(Key::of_code(alloc, code)?))
-}
 
 /// The SET behind whose kind these bytes stand, and what follows it.
 #[tactic(auto, using(crate::proofs::Wholes::set_stands))]
@@ -44,19 +27,12 @@ fn set_behind(alloc: Global, bytes: &[u8]) -> Result<Option<(Update, &[u8])>, No
     ensures form { IfOk result (λ found. IfSome found (λ p. IsUpdate (update_value p.0))) }
     ensures cut { IfOk result (λ found. IfSome found (λ p. 1 ∷ bytes.now ≡ spelled_update (update_value p.0) ++ p.1.now)) }
 {
-    let Some((code, rest)) = read_short(bytes) else {
+    let Some((key, rest)) = read_key(alloc, bytes)? else {
         return Ok(None);
     };
-    let Some((value, behind)) = read_long(rest) else {
+    let Some((value, behind)) = read_value(alloc, rest)? else {
         return Ok(None);
     };
-    if LONGEST_VALUE < value.len() {
-        return Ok(None);
-    }
-    let Some(key) = key_of(alloc, code)? else {
-        return Ok(None);
-    };
-    let value = Bytes::of(alloc, value)?;
     Ok(Some((Update::Set(key, value), behind)))
 }
 
@@ -77,16 +53,18 @@ fn update_first(alloc: Global, bytes: &[u8]) -> Result<Option<(Update, &[u8])>, 
     Ok(Some((update, behind)))
 }
 
-/// So many updates at the front, and what follows them.
-fn updates_first(
+/// Adds so many updates at the front: what follows them, where so many stand there.
+#[inline(always)]
+fn updates_first<'a>(
     alloc: Global,
     count: u16,
-    bytes: &[u8],
-) -> Result<Option<(Updates, &[u8])>, NoMemory>
-    ensures count { IfOk result (λ found. IfSome found (λ p. length p.0 ≡ count)) }
-    ensures stand { IfOk result (λ found. IfSome found (λ p. StandBefore p.0 bytes.now p.1.now)) }
+    bytes: &'a [u8],
+    updates: &mut Updates,
+) -> Result<Option<&'a [u8]>, NoMemory>
+    requires { updates.old ≡ [] }
+    ensures count { IfOk result (λ found. IfSome found (λ _. length updates.new ≡ count)) }
+    ensures stand { IfOk result (λ found. IfSome found (λ rest. StandBefore updates.new bytes.now rest.now)) }
 {
-    let mut updates = Updates::with_capacity(alloc, usize::from(count))?;
     let mut rest = bytes;
     for _ in 0..count {
         let Some((update, behind)) = update_first(alloc, rest)? else {
@@ -95,7 +73,7 @@ fn updates_first(
         updates.push(update)?;
         rest = behind;
     }
-    Ok(Some((updates, rest)))
+    Ok(Some(rest))
 }
 
 /// Whether an entry may have this number, this origin and so many updates.
@@ -133,7 +111,9 @@ fn entry_of(alloc: Global, bytes: &[u8]) -> Result<Option<Frame>, NoMemory>
     if !may_head(number, updater, serial, count) {
         return Ok(None);
     }
-    let Some((updates, rest)) = updates_first(alloc, count, rest)? else {
+    // room for one more, so that a list of one update isn't as large as a key, of which many are made beside it
+    let mut updates = Updates::with_capacity(alloc, usize::from(count) + 1)?;
+    let Some(rest) = updates_first(alloc, count, rest, &mut updates)? else {
         return Ok(None);
     };
     if rest.len() > 0 {

@@ -224,6 +224,9 @@ fn follow<R: LinkRx, S: EntrySink>(
     ensures still { receiver.old.incoming.waiting ≢ [] → R.receiving rx.new ≡ R.receiving rx.old }
 {
     let heard = receiver.step(rx, into);
+    if let Ok(Step::Received) = heard {
+        return Ok(Turned::On);
+    }
     let applied = apply(into, out, site);
     outcome(heard, applied, receiver.offset())
 }

@@ -9,9 +9,8 @@ use Rattle.global_defs.specs.Fields.{IsSiteName}
 use Rattle.disk_defs.specs.Disk.{Files, View, Image, IsLawful, AtEachMoment, Rose}
 use Rattle.journal_defs.specs.Instance as records
 use Rattle.journal_defs.specs.Instance.{NamedMode, IsInForm, site_name}
-use Rattle.command_defs.specs.Commands.{Name, Region, Create}
+use Rattle.command_defs.specs.Commands.{Name, Region, Create, IsFormed}
 use Rattle.command_defs.specs.Parts.{is_lettered, is_name}
-use Rattle.command_defs.specs.Sections.{IsFormed}
 use Rattle.repl_script.specs.Commands as script
 use Rattle.site_store.specs.declared.layout.RegionSpec.{RegionSpec}
 use Rattle.site_store.specs.declared.layout.Layout.{Layout}

@@ -12,12 +12,11 @@ use Rattle.global_defs.specs.Evaluation.{Evaluated, eval}
 use Rattle.global_defs.specs.Evaluation as evaluation
 use Rattle.global_defs.specs.Serial.{MOST_ENTRIES, Turn, Seq, RolledBack, first_of, next_job, without_next, serial_at, entry_of, replied, decided, picked, serial, begun}
 use Rattle.repl_section.specs.declared.reign.Reign.{Reign}
-use Rattle.command_defs.specs.Sections.{UsesUp}
+use Rattle.command_defs.specs.Commands.{UsesUp, Name}
 use Rattle.repl_section.specs.Reigns.{Reigns, stamp_in, stamp_of}
 use Rattle.repl_section.specs.Deciding.{HasDecided, MayHaveFront, LeftAfter, MayLeave, FailsIn}
 use Rattle.site_defs.specs.Lists.{Among}
 use Rattle.world_defs.specs.World as world
-use Rattle.command_defs.specs.Commands.{Name}
 use Rattle.world_defs.specs.World.{Place, StandAfter}
 use Rattle.site_defs.specs.Contents.{Contents, Leftover, Standing, NO_LEFTOVER, bare}
 use Rattle.world_defs.specs.Answers.{Section, line, Cause}

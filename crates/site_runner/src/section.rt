@@ -1,6 +1,6 @@
 // RUN.
 ghost use Rattle.std.specs.Prelude.{IfOk, OnOk, OnErr};
-ghost use Rattle.command_defs.specs.Sections.{UsesUp};
+ghost use Rattle.command_defs.specs.Commands.{UsesUp};
 ghost use Rattle.repl_script.specs.Places.{at_all};
 ghost use Rattle.world_defs.specs.rows.Run.{run};
 ghost use Rattle.site_runner.specs.Sites.{IsReadyState};

@@ -1,8 +1,7 @@
 -- What each command keeps of a fit world.
 use Rattle.std.proofs.Common.{List, [], ◌∷◌, ℕ, sym, subst}
 use Rattle.std.specs.List.{AllByRecursion}
-use Rattle.command_defs.specs.Commands.{Command}
-use Rattle.command_defs.specs.Sections.{IsFormed}
+use Rattle.command_defs.specs.Commands.{Command, IsFormed}
 use Rattle.world_defs.specs.World.{World}
 use Rattle.world_defs.specs.Answers.{Answer}
 use Rattle.world_defs.specs.Meaning.{target, meaning}

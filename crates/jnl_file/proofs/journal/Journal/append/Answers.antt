@@ -23,7 +23,7 @@ pub returns-clause-state : goal.returns-clause-state
 returns-clause-state g c r s prepared has =
     let view = g.D.Disk.disk in
     let body : IsJournalBody c.as_slice.result.now r = subst (λ (l : List ℕ). IsJournalBody l r) (sym c.as_slice.ensures) prepared.spelled in
-    step (view c.args.disk.now) (view c.append_body.new.disk) c.args.self.now (record { gated = c.append_body.new.self; region = c.args.self.now.region; generation = c.args.self.now.generation; body = c.args.self.now.body }) s (appended s r)
+    step (view c.args.disk.now) (view c.append_body.new.disk) c.args.self.now (record c.args.self.now { gated = c.append_body.new.self }) s (appended s r)
     (λ b. bodies.appended b c.as_slice.result.now) c.in_ok-append_body.ensures.appended (λ b are. bodies_appended b s c.as_slice.result.now r are body) has
 
 pub returns-clause-ready : goal.returns-clause-ready
@@ -32,7 +32,7 @@ returns-clause-ready g c =
     let r = c.requires.prepared.0 in
     let prepared = c.requires.prepared.1 in
     let j = c.args.self.now in
-    let k : Journal = record { gated = c.append_body.new.self; region = j.region; generation = j.generation; body = j.body } in
+    let k : Journal = record j { gated = c.append_body.new.self } in
     let body : IsJournalBody c.as_slice.result.now r = subst (λ (l : List ℕ). IsJournalBody l r) (sym c.as_slice.ensures) prepared.spelled in
     ready_step (view c.args.disk.now) (view c.append_body.new.disk) j k (Only j.gated.file) c.append_body.ensures.frame (c.append_body.ensures.file ∙ c.requires.ready.file) c.in_ok-append_body.ensures.ready
     (λ s has. (

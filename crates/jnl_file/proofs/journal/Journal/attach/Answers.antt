@@ -79,7 +79,7 @@ returns-clause-state g c =
     let file = c.journal_file.result in
     let r = c.args.region in
     let n = c.args.generation in
-    let j : Journal = record { gated = c.read_whole.new.gated; region = r; generation = n; body = c.new.result } in
+    let j : Journal = record { gated = c.read_whole.new.gated; region = r; generation = n; body = c.new.result; spare = c.new-2.result } in
     subst (λ (f : ℕ). IfSome o (λ files. (rs : List JournalRecord) × IsJournalFile r n (files f) rs × HasRecords w j (settled rs))) c.journal_file.ensures
     (taken_records o v w c.in_ok-gated.gated j file r n c.read_whole.ensures.reads c.read_whole.ensures.same c.in_ok-gated.ensures.state c.in_ok-read_whole.ensures.whole)
 
@@ -93,7 +93,7 @@ returns-clause-ready g c =
     let r = c.args.region in
     let n = c.args.generation in
     let made : Gated = c.in_ok-gated.gated in
-    let j : Journal = record { gated = c.read_whole.new.gated; region = r; generation = n; body = c.new.result } in
+    let j : Journal = record { gated = c.read_whole.new.gated; region = r; generation = n; body = c.new.result; spare = c.new-2.result } in
     let has = taken_records u.content v w made j file r n c.read_whole.ensures.reads c.read_whole.ensures.same c.in_ok-gated.ensures.state c.in_ok-read_whole.ensures.whole in
     let frame = others_then (Only file) u v w c.attach.ensures.frame (others_read (Only file) v w c.read_whole.ensures.reads) in
     record {

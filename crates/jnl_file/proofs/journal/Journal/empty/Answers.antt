@@ -12,7 +12,7 @@ pub returns-clause-state : goal.returns-clause-state
 returns-clause-state g c =
     let view = g.D.Disk.disk in
     let made : Gated = c.in_ok-gated.gated in
-    let j : Journal = record { gated = made; region = c.args.region; generation = c.args.generation; body = c.new.result } in
+    let j : Journal = record { gated = made; region = c.args.region; generation = c.args.generation; body = c.new.result; spare = c.new-2.result } in
     none_yet (view c.args.disk.now).content (view c.fresh.new.disk) made j refl c.in_ok-gated.ensures.state
 
 pub returns-clause-ready : goal.returns-clause-ready
@@ -21,7 +21,7 @@ returns-clause-ready g c =
     let u = view c.args.disk.now in
     let w = view c.fresh.new.disk in
     let made : Gated = c.in_ok-gated.gated in
-    let j : Journal = record { gated = made; region = c.args.region; generation = c.args.generation; body = c.new.result } in
+    let j : Journal = record { gated = made; region = c.args.region; generation = c.args.generation; body = c.new.result; spare = c.new-2.result } in
     record {
       file = c.in_ok-gated.ensures.file ∙ c.journal_file.ensures;
       gated = c.in_ok-gated.ensures.ready;

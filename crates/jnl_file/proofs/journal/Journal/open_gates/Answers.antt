@@ -24,7 +24,7 @@ pub returns-clause-state : goal.returns-clause-state
 returns-clause-state g c s has =
     let view = g.D.Disk.disk in
     let j = c.args.self.now in
-    let k : Journal = record { gated = c.open_gates.new.self; region = j.region; generation = j.generation; body = j.body } in
+    let k : Journal = record j { gated = c.open_gates.new.self } in
     step (view c.args.disk.now) (view c.open_gates.new.disk) j k s (opened s) bodies.opened_all c.in_ok-open_gates.ensures.opened (λ b are. bodies_opened b s are) has
 
 pub returns-clause-ready : goal.returns-clause-ready
@@ -33,6 +33,6 @@ returns-clause-ready g c =
     let v = view c.args.disk.now in
     let w = view c.open_gates.new.disk in
     let j = c.args.self.now in
-    let k : Journal = record { gated = c.open_gates.new.self; region = j.region; generation = j.generation; body = j.body } in
+    let k : Journal = record j { gated = c.open_gates.new.self } in
     ready_step v w j k (Only j.gated.file) c.open_gates.ensures.frame (c.open_gates.ensures.file ∙ c.requires.ready.file) c.in_ok-open_gates.ensures.ready
     (λ s has. (opened s, step v w j k s (opened s) bodies.opened_all c.in_ok-open_gates.ensures.opened (λ b are. bodies_opened b s are) has)) c.requires.ready

@@ -24,7 +24,7 @@ pub returns-clause-state : goal.returns-clause-state
 returns-clause-state g c s has =
     let view = g.D.Disk.disk in
     let j = c.args.self.now in
-    let k : Journal = record { gated = c.sync.new.self; region = j.region; generation = j.generation; body = j.body } in
+    let k : Journal = record j { gated = c.sync.new.self } in
     step (view c.args.disk.now) (view c.sync.new.disk) j k s (synced s) bodies.synced c.in_ok-sync.ensures.synced (λ b are. bodies_synced b s are) has
 
 pub returns-clause-ready : goal.returns-clause-ready
@@ -33,6 +33,6 @@ returns-clause-ready g c =
     let v = view c.args.disk.now in
     let w = view c.sync.new.disk in
     let j = c.args.self.now in
-    let k : Journal = record { gated = c.sync.new.self; region = j.region; generation = j.generation; body = j.body } in
+    let k : Journal = record j { gated = c.sync.new.self } in
     ready_step v w j k (Only j.gated.file) c.sync.ensures.frame (c.sync.ensures.file ∙ c.requires.ready.file) c.in_ok-sync.ensures.ready
     (λ s has. (synced s, step v w j k s (synced s) bodies.synced c.in_ok-sync.ensures.synced (λ b are. bodies_synced b s are) has)) c.requires.ready
