@@ -1,5 +1,5 @@
 -- What a command that was cut off leaves behind a sequence.
-use Rattle.std.proofs.Common.{◌≡◌, ℕ, List, [], ◌∷◌, ◌++◌, Option, Some, None, slice_get, refl, sym, ◌∙◌, ap, subst, inl, inr}
+use Rattle.std.proofs.Common.{◌≡◌, ℕ, List, Option, Some, None, refl, ◌∙◌, ap, subst, inl, inr}
 use Rattle.std.specs.Prelude.{◌⊎◌}
 use Rattle.global_defs.specs.Jobs.{Job}
 use Rattle.command_defs.specs.Commands.{Name, Run, StartPrimary}

@@ -1,5 +1,5 @@
 -- What holds of each open site, whatever commands run: a line a command.
-use Rattle.std.proofs.Common.{◌≡◌, inl, inr, ℕ, Bool, true, false, List, [], ◌∷◌, Option, Some, None, IsTrue, sym, ◌∙◌, subst}
+use Rattle.std.proofs.Common.{◌≡◌, inl, inr, ℕ, Bool, true, false, List, [], ◌∷◌, Option, Some, None, sym, subst}
 use Rattle.std.specs.List.{AllByRecursion}
 use Rattle.global_defs.specs.Entry.{Stamp}
 use Rattle.global_defs.specs.Jobs.{Job}
@@ -7,7 +7,6 @@ use Rattle.global_defs.specs.Serial.{Turn}
 use Rattle.command_defs.specs.Commands.{Name, Region, Command, Create, Attach, Map, StartPrimary, Run, Stop, Fuse, Crash, Extract, Zwrite, Show, Print}
 use Rattle.site_defs.specs.Contents.{Contents, Standing}
 use Rattle.site_defs.specs.Fronts.{turn_of}
-use Rattle.site_defs.specs.Lists.{Among}
 use Rattle.world_defs.specs.World.{Down, Failed, Site, Place, World, Kept, IsFresh, place_of, next_of}
 use Rattle.world_defs.specs.Answers.{Answer, Exists, NoDisk, Refusal}
 use Rattle.world_defs.specs.Changes.{in_new_state, Stays, Fails, ChangesUnknown}
