@@ -15,7 +15,8 @@ use Rattle.world_defs.specs.World.{Down, Place, World, is_free, name_on, place_o
 use Rattle.world_defs.specs.Answers.{Cause, Exists, Refusal, Section, Answer, Done, Refused, DiskFault, NotAFile, Ran, Typed}
 use Rattle.world_defs.specs.Changes.{Fails, Becomes}
 use Rattle.world_defs.specs.Row.{first, refused_with, or_else, in_state, why_not_down, refusal_in}
-use Rattle.world_defs.specs.Meaning.{apart, Acts, refusing, on_next, target, meaning, row_at}
+use Rattle.world_defs.specs.Meaning.{apart, Acts, refusing, on_next, row_at}
+use Rattle.world_defs.specs.rows.{target, meaning}
 use Rattle.world_defs.specs.Step.{Step, CutOff}
 use Rattle.world_defs.specs.rows.Attach.{ATTACHING, attach}
 use Rattle.world_defs.specs.rows.Crash.{Crashes}
