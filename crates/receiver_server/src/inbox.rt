@@ -129,6 +129,7 @@ impl Inbox {
     }
 
     // Receives bytes where none is left to be read, and reads them.
+    #[inline(never)]
     pub(crate) fn pull<R: LinkRx>(&mut self, rx: &mut R) -> Result<Step, HearError>
         requires good { self.old.bad ≡ false }
         requires empty { self.old.waiting ≡ [] }

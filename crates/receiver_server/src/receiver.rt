@@ -204,6 +204,7 @@ impl Receiver {
 
     /// Hears the next frame that has come, and puts its entry into the pool, or else receives bytes. Where it fails, all that was
     /// received and isn't heard yet stays.
+    #[inline(always)]
     pub fn step<R: LinkRx>(&mut self, rx: &mut R, pool: &mut PoolIn) -> Result<Step, HearError>
         ensures line { R.line rx.new ≡ R.line rx.old }
         ensures same { SameReceiving (R.receiving rx.old) (R.receiving rx.new) }
@@ -216,6 +217,8 @@ impl Receiver {
             → (now : List defs.Frame) × Hears result frames now × IsHearing begun self.new (R.receiving rx.new).received (put_in pool.new) now }
         ensures does { Does result self.old self.new }
         ensures err { OnErr result (put_in pool.new ≡ put_in pool.old) }
+        // a step that received has put nothing
+        ensures received { IfOk result (λ a. a ≡ Step.Received → pool.new ≡ pool.old) }
         // the place of a bad frame; what arrived before it was put into the pool
         ensures bad { IfErr result (λ e. (offset : ℕ) → e ≡ HearError.BadFrame offset → IsTrue (R.receiving rx.old).shown → (begun : Heard) (frames : List defs.Frame)
             → IsHearing begun self.old (R.receiving rx.old).received (put_in pool.old) frames

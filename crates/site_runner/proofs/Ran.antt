@@ -14,6 +14,7 @@ use Rattle.global_defs.specs.Serial.{MOST_ENTRIES, Turn, Seq, RolledBack, first_
 use Rattle.repl_section.specs.declared.reign.Reign.{Reign}
 use Rattle.command_defs.specs.Commands.{UsesUp, Name}
 use Rattle.repl_section.specs.Reigns.{Reigns, stamp_in, stamp_of}
+use Rattle.repl_section.specs.Lines.{GaveLines}
 use Rattle.repl_section.specs.Deciding.{HasDecided, MayHaveFront, LeftAfter, MayLeave, FailsIn}
 use Rattle.site_defs.specs.Lists.{Among}
 use Rattle.world_defs.specs.World as world
@@ -137,10 +138,10 @@ of_sequence name c seq h = record { made = h.made; name = h.name }
 
 -- all jobs are decided
 pub ran : (v w : View) (nothing : NothingIsLeft w) (s : Site) (r new : Reign) (jobs : List (List Job)) (order : List ℕ) (before middle now : List ℕ) → IsLawful w → UsesUp jobs order → s.state ≡ Primary r → new.site.stamp ≡ r.site.stamp → w.simulated ≡ v.simulated → v.faults ≤ w.faults
-    → ((told : Bool) (c : Contents) → Reigns v told c r → HasDecided w told c jobs order r new before middle)
+    → ((told : Bool) (c : Contents) → Reigns v told c r → HasDecided w told c jobs order r new (GaveLines before middle))
     → now ≡ middle ++ line s.name (codes "AT " ++ decimal (length new.site.entries.items)) → ExecutesAt (run jobs order s.name) v s w (record { name = s.name; state = Primary new }) before now false
 ran v w nothing s r new jobs order before middle now law whole st stamped same later f t p h =
-    let d : HasDecided w p.told p.now jobs order r new before middle = f p.told p.now (reigns_at v s r p st h) in
+    let d : HasDecided w p.told p.now jobs order r new (GaveLines before middle) = f p.told p.now (reigns_at v s r p st h) in
     let stamp = stamp_of r in
     let turn : Turn = turn_of stamp r.serials jobs order p.now.sequence in
     let state : world.State = world.Primary stamp turn.serials in
@@ -173,17 +174,17 @@ ran v w nothing s r new jobs order before middle now law whole st stamped same l
         state = record { reigns = d.reigns; settled = λ sure x j. only x o j; left = λ sure. refl; standings = λ sure. refl };
       };
     })
-    (t ∙ ap (λ (x : List ℕ). x ++ line s.name (codes "AT " ++ decimal (length new.site.entries.items))) d.text
+    (t ∙ ap (λ (x : List ℕ). x ++ line s.name (codes "AT " ++ decimal (length new.site.entries.items))) d.given
     ∙ append_assoc before (flat_map reply_line turn.replies) _
     ∙ ap (λ (k : ℕ). before ++ (flat_map reply_line turn.replies ++ line s.name (codes "AT " ++ decimal k))) count
     ∙ ap (λ (x : Turn). before ++ section_text s.name (length order) x None) (sym text))
 
 -- a fault ended it
 pub ran_to_fault : (leftovers : Leftovers) (v w : View) (s : Site) (r : Reign) (jobs : List (List Job)) (order : List ℕ) (k undecided : ℕ) (before middle now : List ℕ) → IsLawful v → IsLawful w → s.state ≡ Primary r → w.simulated ≡ v.simulated → k ≡ w.faults → Rose v.faults w.faults
-    → ((told : Bool) (c : Contents) → Reigns v told c r → FailsIn w (stamp_of r) told c jobs order r.serials undecided before middle)
+    → ((told : Bool) (c : Contents) → Reigns v told c r → FailsIn w (stamp_of r) told c jobs order r.serials undecided (GaveLines before middle))
     → now ≡ middle ++ undecided_line s.name k undecided → ExecutesAt (run jobs order s.name) v s w (record { name = s.name; state = Failed k }) before now false
 ran_to_fault leftovers v w s r jobs order k undecided before middle now was law st same count rose f t p h =
-    let a : FailsIn w (stamp_of r) p.told p.now jobs order r.serials undecided before middle = f p.told p.now (reigns_at v s r p st h) in
+    let a : FailsIn w (stamp_of r) p.told p.now jobs order r.serials undecided (GaveLines before middle) = f p.told p.now (reigns_at v s r p st h) in
     let stamp = stamp_of r in
     let picks : List ℕ = take a.decided order in
     let many : length picks ≡ a.decided = length-take-le a.decided order (omega (arith, a.inside)) in
@@ -235,7 +236,7 @@ ran_to_fault leftovers v w s r jobs order k undecided before middle now was law 
         state = tt;
       };
     })
-    (t ∙ ap (λ (x : List ℕ). x ++ undecided_line s.name k undecided) a.text
+    (t ∙ ap (λ (x : List ℕ). x ++ undecided_line s.name k undecided) a.given
     ∙ append_assoc before (flat_map reply_line turn.replies) _
     ∙ ap (λ (u : ℕ). before ++ (flat_map reply_line turn.replies ++ undecided_line s.name k u)) rest
     ∙ ap (λ (x : Turn). before ++ section_text s.name (length order) x (Some k)) (sym text))
@@ -250,7 +251,7 @@ pub left_after : (stamp : Stamp) (c : Contents) (jobs : List (List Job)) (order 
 left_after stamp c jobs order serials files x = (x.1.standing, x.0, x.1.may, stands_with files x.1.standing x.1.stands)
 
 -- what is hardened is a front that has all
-pub decided_front : (w : View) (told : Bool) (c : Contents) (jobs : List (List Job)) (order : List ℕ) (r new : Reign) (before now : List ℕ) → HasDecided w told c jobs order r new before now
+pub decided_front : (w : View) (told : Bool) (c : Contents) (jobs : List (List Job)) (order : List ℕ) (r new : Reign) (before now : List ℕ) → HasDecided w told c jobs order r new (GaveLines before now)
     → (m low : ℕ) × (length c.sequence ≤ low) × MayHaveFront w told c (turn_of (stamp_of r) r.serials jobs (take m order) c.sequence).sequence low
 decided_front w told c jobs order r new before now d =
     let all = (turn_of (stamp_of r) r.serials jobs order c.sequence).sequence in (
@@ -268,7 +269,7 @@ decided_front w told c jobs order r new before now d =
     )
 
 -- with nothing behind it
-pub decided_behind : (w : View) (nothing : NothingIsLeft w) (told : Bool) (c : Contents) (jobs : List (List Job)) (order : List ℕ) (r new : Reign) (before now : List ℕ) → HasDecided w told c jobs order r new before now
+pub decided_behind : (w : View) (nothing : NothingIsLeft w) (told : Bool) (c : Contents) (jobs : List (List Job)) (order : List ℕ) (r new : Reign) (before now : List ℕ) → HasDecided w told c jobs order r new (GaveLines before now)
     → told ≡ true → LeftBehind w (stamp_of r) c jobs order r.serials
 decided_behind w nothing told c jobs order r new before now d sure files i =
     let all = (turn_of (stamp_of r) r.serials jobs order c.sequence).sequence in (

@@ -23,7 +23,7 @@ pub fn run_section<D: Disk>(
     alloc: Global,
     disk: &mut D,
     site: &mut Site,
-    jobs: Jobs,
+    mut jobs: Jobs,
     order: &[u8],
     text: &mut Bytes,
 ) -> Result<bool, NoMemory>
@@ -40,7 +40,7 @@ pub fn run_section<D: Disk>(
     let State::Primary(reign) = &mut site.state else {
         unreachable!();
     };
-    match reign.run(alloc, disk, jobs, order, text) {
+    match reign.run(alloc, disk, &mut jobs, order, text) {
         Ok(()) => {
             nothing_is_left(disk);
             let length = reign.site.sequence_length();

@@ -3,8 +3,8 @@ pub mod Answers
 pub mod Shown
 pub mod Changes
 pub mod Row
-pub mod rows
 pub mod Meaning
+pub mod rows
 pub mod Step
 pub mod Runs
 pub mod Ties
