@@ -5,6 +5,8 @@ pub mod Joined
 pub mod NumberForms
 pub mod Patterns
 pub mod Regions
+pub mod Taken
+pub mod RegionOrders
 pub mod Orders
 pub mod RegionForms
 pub mod LineLaws

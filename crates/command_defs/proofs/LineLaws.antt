@@ -7,15 +7,15 @@ use Rattle.std.proofs.lemmas.Slice.Eq.{bytes_eq-Decides}
 use Rattle.std.proofs.lemmas.Bool.{ne_eqb}
 use Rattle.std.proofs.lemmas.Bool.Decides.{nat_tests}
 use Rattle.script_defs.specs.Parts.{word_end, without_spaces}
-use Rattle.command_defs.specs.Commands.{Name, Command}
+use Rattle.command_defs.specs.Commands.{Name, Command, command_by, run_reading}
 use Rattle.command_defs.specs.Parts.{trimmed}
-use Rattle.command_defs.specs.Forms.{command_by, run_reading}
 use Rattle.command_defs.specs.Sections.{begun}
 use Rattle.command_defs.specs.Script.{Position, Outside, Within, Reading, Skips, Wrong, Goes, Ends, ending, beginning, reading_at, text_reading, line_reading, LONGEST_LINE}
-use Rattle.command_defs.specs.Spelling.{IsEnded, Joins, IsOrder, create, attach, map_to, start, stop, fuse, crash, extract, extract_from, zwrite, zwrite_from, show, print, IsLineOf, SpellsCommand, BeginsSection}
+use Rattle.command_defs.specs.Spelling.{IsEnded, Joins, IsLineOf, SpellsCommand, BeginsSection}
 use Rattle.command_defs.proofs.LineEnds.{trimmed_found, trimmed_only, trimmed_tight}
 use Rattle.command_defs.proofs.Joined.{IsTight, IsFronted, tight_drop, tight_without, fronted_without, front_spaces, spaces_gone, joins, joins_fronted, begins}
-use Rattle.command_defs.proofs.Orders.{behind, chosen, command_found, run_found, order_read, run_read}
+use Rattle.command_defs.proofs.Taken.{behind, chosen}
+use Rattle.command_defs.proofs.Orders.{command_found, run_found, run_read, order_told}
 
 -- what is left of a line behind the spaces at its front
 abbrev pub left_of : List ℕ → List ℕ
@@ -127,38 +127,15 @@ line_read p {b} {bs} {parts} {line} l ne =
     let short : nat_lt LONGEST_LINE (length line) ≡ false = (let s = l.short in grind (arith, nat_tests)) in
     rw short (ap (text_reading p (length (trimmed line))) (left_is l) ∙ text_read p (length (trimmed line)) l.text b bs ne (begins l.joined).first)
 
--- the first word of a command begins with no semicolon and isn't RUN
-record Headed (parts : List (List ℕ)) : Type 0 where
-  b : ℕ
-  bs : List ℕ
-  rest : List (List ℕ)
-  is : parts ≡ (b ∷ bs) ∷ rest
-  other : b ≢ 59
-  not_run : bytes_eq (b ∷ bs) (codes "RUN") ≡ false
-
-order_headed : {parts : List (List ℕ)} {c : Command} → IsOrder parts c → Headed parts
-order_headed (create site names g r) = record { b = 67; bs = codes "REATE"; rest = site ∷ names; is = refl; other = λ e. omega arith; not_run = refl }
-order_headed attach = record { b = 65; bs = codes "TTACH"; rest = []; is = refl; other = λ e. omega arith; not_run = refl }
-order_headed (map_to site region pattern g h p) = record { b = 77; bs = codes "AP"; rest = _; is = refl; other = λ e. omega arith; not_run = refl }
-order_headed (start site g) = record { b = 83; bs = codes "TART"; rest = site ∷ codes "PRIMARY" ∷ []; is = refl; other = λ e. omega arith; not_run = refl }
-order_headed (stop site g) = record { b = 83; bs = codes "TOP"; rest = site ∷ []; is = refl; other = λ e. omega arith; not_run = refl }
-order_headed (fuse site n g h) = record { b = 70; bs = codes "USE"; rest = _; is = refl; other = λ e. omega arith; not_run = refl }
-order_headed (crash site n g h) = record { b = 67; bs = codes "RASH"; rest = _; is = refl; other = λ e. omega arith; not_run = refl }
-order_headed (extract site g) = record { b = 69; bs = codes "XTRACT"; rest = _; is = refl; other = λ e. omega arith; not_run = refl }
-order_headed (extract_from site n g low high) = record { b = 69; bs = codes "XTRACT"; rest = _; is = refl; other = λ e. omega arith; not_run = refl }
-order_headed (zwrite site g) = record { b = 90; bs = codes "WRITE"; rest = _; is = refl; other = λ e. omega arith; not_run = refl }
-order_headed (zwrite_from site node key g h) = record { b = 90; bs = codes "WRITE"; rest = _; is = refl; other = λ e. omega arith; not_run = refl }
-order_headed (show site g) = record { b = 83; bs = codes "HOW"; rest = site ∷ []; is = refl; other = λ e. omega arith; not_run = refl }
-order_headed (print site n g low high) = record { b = 84; bs = codes "YPE"; rest = _; is = refl; other = λ e. omega arith; not_run = refl }
-
 pub command_read : (line : List ℕ) (c : Command) → SpellsCommand line c → line_reading Outside line ≡ Ends c
 command_read line c s =
-    let h = order_headed s.order in
+    let t = order_told s.order in
+    let h = t.head in
     let l : IsLineOf ((h.b ∷ h.bs) ∷ h.rest) line = subst (λ x. IsLineOf x line) h.is s.line_is in
-    let o : IsOrder ((h.b ∷ h.bs) ∷ h.rest) c = subst (λ x. IsOrder x c) h.is s.order in
+    let joined : Joins s.parts l.text = subst (λ x. Joins x l.text) (sym h.is) l.joined in
     let len = length (trimmed line) in
     let not_run : bytes_eq (take (word_end l.text) l.text) (codes "RUN") ≡ false = ap (λ (w : List ℕ). bytes_eq w (codes "RUN")) (begins l.joined).first ∙ h.not_run in
-    line_read Outside l h.other ∙ rw not_run (ap ending (order_read o len l.text l.joined))
+    line_read Outside l h.other ∙ rw not_run (ap ending (t.read len l.text joined))
 
 pub section_read : (line : List ℕ) (site : Name) → BeginsSection line site → line_reading Outside line ≡ Goes (Within (begun site))
 section_read line site s =

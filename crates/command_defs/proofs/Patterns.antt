@@ -9,7 +9,7 @@ use Rattle.std.proofs.lemmas.Bool.Decides.{eqb_tells, nat_tests}
 use Rattle.std.proofs.Math.Seq.{take-append_seam, get_or-append_seam}
 use Rattle.global_defs.specs.Valid.{is_name}
 use Rattle.global_defs.specs.Pattern.{is_global_name, ends_in_star, stem, is_pattern}
-use Rattle.command_defs.specs.Spelling.{IsPattern, exact, starred}
+use Rattle.command_defs.specs.Commands.{IsPattern, exact, starred}
 
 split_last : (text : List ℕ) → 1 ≤ length text → text ≡ take (length text - 1) text ++ get_or text (length text - 1) 0 ∷ []
 split_last text h = let n = length text - 1 in

@@ -6,11 +6,11 @@ use Rattle.std.specs.declared.result.Result.TheVariants.{Ok, Err}
 use Rattle.std.proofs.lemmas.List.Folds.{list_all-append}
 use Rattle.std.proofs.lemmas.Bool.{and_from, cond-true, cond-false}
 use Rattle.script_defs.specs.Parts.{word_end}
-use Rattle.command_defs.specs.Commands.{Name, Region, with_images}
-use Rattle.command_defs.specs.Parts.{column, followed, taken, ended, is_name, name_form, region_form}
-use Rattle.command_defs.specs.Forms.{MOST_REGIONS, regions_behind, regions_reading}
+use Rattle.command_defs.specs.Commands.{Name, Region, with_images, region_form, MOST_REGIONS, regions_behind, regions_reading}
+use Rattle.command_defs.specs.Parts.{column, followed, taken, ended, is_name, name_form}
 use Rattle.command_defs.proofs.Regions.{names_of, names_more, any_names, distinct_one, distinct_more}
-use Rattle.command_defs.proofs.Orders.{chosen, followed_found, taken_form, ended_found, name_is, region_is}
+use Rattle.command_defs.proofs.Taken.{chosen, followed_found, taken_form, ended_found, name_is}
+use Rattle.command_defs.proofs.RegionOrders.{region_is}
 
 -- regions of different names, these and so many more at most
 record Kept (before : List Region) (room : ℕ) (regions : List Region) : Type 0 where

@@ -18,7 +18,8 @@ use Rattle.script_defs.proofs.StatementsFound.{statement_found}
 use Rattle.script_defs.proofs.StatementsRead.{statement_read}
 use Rattle.command_defs.specs.Commands.{Command, Run}
 use Rattle.command_defs.specs.Parts.{column, formed, taken, ended, number_form, trimmed}
-use Rattle.command_defs.specs.Sections.{Section, UPDATERS, MOST_STATEMENTS, MOST_UPDATES, is_open, is_full, is_full_job, is_update, is_update_word, jobs_of, last_job, transaction_begun, transaction_ended, with_statement}
+use Rattle.command_defs.specs.Sections.{Section, is_open, is_full, is_full_job, is_update_word, jobs_of, last_job, transaction_begun, transaction_ended, with_statement}
+use Rattle.command_defs.specs.Updaters.{UPDATERS, MOST_STATEMENTS, MOST_UPDATES, is_update}
 use Rattle.command_defs.specs.Script.{Position, Within, Reading, Wrong, Goes, Ends, ending, within, end_reading, stated, job_by, job_reading, section_reading, text_reading, line_reading, LONGEST_LINE}
 use Rattle.command_defs.specs.Spelling.{IsEnded, IsPart, stops_quoted, Joins, IsLineOf, IsStatementLine, HasRoom, Continues, begins, commits, states, EndsSection}
 use Rattle.command_defs.proofs.LineEnds.{trimmed_found, trimmed_only}
@@ -26,8 +27,8 @@ use Rattle.command_defs.proofs.Joined as joined
 use Rattle.command_defs.proofs.Joined.{IsTight, IsFronted, Cuts, cuts, parted, part_fronted, fronted_without, spaces_gone, front_spaces}
 use Rattle.command_defs.proofs.NumberForms.{digits_known, number_read}
 use Rattle.command_defs.proofs.UpdateWords.{update_word}
-use Rattle.command_defs.proofs.Orders.{behind, chosen, ended_found, ended_read, at_end, Takes, number_taken, number_at}
 use Rattle.command_defs.proofs.LineLaws.{left_of, left_tight, left_fronted, line_found, text_found, ending_found, ending_goes, line_of, line_read, text_read}
+use Rattle.command_defs.proofs.Taken.{behind, chosen, Takes, ended_found, number_taken, number_at, at_end, ended_read}
 
 -- From a reading to what is spelled.
 

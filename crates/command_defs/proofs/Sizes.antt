@@ -7,7 +7,8 @@ use Rattle.std.proofs.lemmas.Bool.Decides.{nat_tests}
 use Rattle.global_defs.specs.Jobs.{Statement}
 use Rattle.script_defs.specs.Parts.{word_end}
 use Rattle.script_defs.specs.Statements.{statement_reading}
-use Rattle.command_defs.specs.Sections.{Section, is_open, is_full, is_full_job, jobs_of, last_job, is_updater, is_update, is_update_word, is_of_size, IsSound}
+use Rattle.command_defs.specs.Sections.{Section, is_open, is_full, is_full_job, jobs_of, last_job, is_update_word, IsSound}
+use Rattle.command_defs.specs.Updaters.{is_updater, is_update, is_of_size}
 use Rattle.command_defs.proofs.Sounds.{updater_range}
 use Rattle.command_defs.proofs.UpdateWords.{update_word, not_full}
 

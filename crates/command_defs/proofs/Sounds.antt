@@ -9,9 +9,10 @@ use Rattle.std.proofs.lemmas.List.Folds.{list_all-append}
 use Rattle.std.proofs.lemmas.Bool.Decides.{eqb_tells, nat_tests}
 use Rattle.global_defs.specs.Jobs.{Statement, Job}
 use Rattle.global_defs.specs.Serial.{without_next}
-use Rattle.command_defs.specs.Commands.{Name, Run}
+use Rattle.command_defs.specs.Commands.{Name, Run, IsFormed, UsesUp}
 use Rattle.command_defs.specs.Parts.{is_name}
-use Rattle.command_defs.specs.Sections.{UPDATERS, Section, begun, jobs_of, last_job, longer, with_job, transaction_begun, transaction_ended, is_updater, is_of_size, count_in, IsSound, IsFormed, UsesUp}
+use Rattle.command_defs.specs.Updaters.{UPDATERS, is_updater, is_of_size}
+use Rattle.command_defs.specs.Sections.{Section, begun, jobs_of, last_job, longer, with_job, transaction_begun, transaction_ended, count_in, IsSound}
 
 -- who is an updater
 pub updater_range : (u : ℕ) → is_updater u ≡ true → (1 ≤ u) × (u ≤ 64)

@@ -11,7 +11,8 @@ use Rattle.global_defs.specs.Jobs.{Statement, Set, Kill, ZKill, Incr, Get, Defin
 use Rattle.gvn_key.specs.KeyText.{key_reading}
 use Rattle.script_defs.specs.Parts.{Fault, BadChar, followed, word_end, key_end, without_spaces, node_at, node_reading, last_integer, last_node, assigned, last_level}
 use Rattle.script_defs.specs.Statements.{value_statement, node_statement, incr_reading, order_reading, is_at_least, check_integer, check_reading, operand_reading, statement_reading}
-use Rattle.command_defs.specs.Sections.{is_update, is_update_word, is_full_job, is_of_size}
+use Rattle.command_defs.specs.Updaters.{is_update, is_of_size}
+use Rattle.command_defs.specs.Sections.{is_update_word, is_full_job}
 
 then_is : {X Y : Type 0} (r : Result X Fault) (next : X → Result Y Fault) (P : Y → Type 0) → ((x : X) (y : Y) → next x ≡ Ok y → P y) → (y : Y) → followed r next ≡ Ok y → P y
 then_is (Ok x) next P each y e = each x y e

@@ -1,7 +1,17 @@
--- The commands of a script.
-use Rattle.std.specs.Prelude.{ℕ, Bool, true, List, Option}
-use Rattle.global_defs.specs.Key.{Key}
+-- The commands of a script: what each is, how its line is read, what it has, and which parts spell it.
+use Rattle.std.specs.Prelude.{◌≡◌, ◌≤◌, ℕ, zero, suc, ◌-◌, ◌^◌, ◌&&◌, ◌==◌, not, Bool, true, false, List, [], ◌∷◌, ◌++◌, length, map, fold, Option, Some, None, codes, if◌then◌else◌}
+use Rattle.std.specs.List.{list_all, list_any, AllByRecursion, IsDistinct}
+use Rattle.std.specs.Fmt.{decimal}
+use Rattle.std.specs.Str.{bytes_eq}
+use Rattle.std.specs.declared.result.Result.{Result}
+use Rattle.std.specs.declared.result.Result.TheVariants.{Ok, Err}
 use Rattle.global_defs.specs.Jobs.{Job}
+use Rattle.global_defs.specs.Key.{Key}
+use Rattle.global_defs.specs.Pattern.{is_global_name, is_pattern}
+use Rattle.global_defs.specs.Serial.{without_next}
+use Rattle.gvn_key.specs.KeyText.{key_reading}
+use Rattle.command_defs.specs.Parts.{column, followed, taken, taken_if_any, ended, word_form, is_name, name_form, pattern_form, number_form, node_form}
+use Rattle.command_defs.specs.Updaters.{UPDATERS, is_updater, is_of_size}
 
 -- of a site or a region
 abbrev pub Name : Type 0
@@ -11,6 +21,9 @@ Name = List ℕ
 pub record Region : Type 0 where
   pub name : Name
   pub before : Bool
+
+abbrev pub with_images : Name → Region
+with_images name = record { name = name; before = true }
 
 pub data Command : Type 0 where
   Create : Name → List Region → Command
@@ -35,5 +48,155 @@ pub data Command : Type 0 where
   -- the lost-transaction or broken-transaction file of that generation (GT.M: MUPIP JOURNAL -ROLLBACK writes these files)
   Print : Name → (lost : Bool) → (generation : ℕ) → Command
 
-abbrev pub with_images : Name → Region
-with_images name = record { name = name; before = true }
+-- The forms of the commands that are one line, and of a section's first line.
+
+-- the greatest numbers in FUSE, CRASH and EXTRACT
+abbrev pub MOST_CALLS : ℕ
+MOST_CALLS = 1000000
+
+abbrev pub MOST_PICK : ℕ
+MOST_PICK = 2 ^ 32 - 1
+
+abbrev pub MOST_NUMBER : ℕ
+MOST_NUMBER = 2 ^ 40
+
+-- the greatest generation of a file
+abbrev pub MOST_GENERATION : ℕ
+MOST_GENERATION = 65535
+
+-- how many regions a site may have
+abbrev pub MOST_REGIONS : ℕ
+MOST_REGIONS = 8
+
+-- a region's name that is none of these
+abbrev pub region_form : List Region → List ℕ → Option (List ℕ)
+region_form before text = if is_name text && not (list_any (λ r. bytes_eq r.name text) before) then Some text else None
+
+-- these regions, and behind them each more that the line names, so many at most
+unfoldable pub regions_behind : (room len : ℕ) → List ℕ → List Region → Result (List Region) ℕ
+regions_behind zero len left before = ended len left before
+regions_behind (suc room) len left before = if length left == 0 then Ok before
+    else followed (taken (region_form before) len left) (λ region. regions_behind room len region.1 (before ++ with_images region.0 ∷ []))
+
+-- one region or more
+abbrev pub regions_reading : ℕ → List ℕ → Result (List Region) ℕ
+regions_reading len left = followed (taken name_form len left) (λ first. regions_behind (MOST_REGIONS - 1) len first.1 (with_images first.0 ∷ []))
+
+-- CREATE site regions
+abbrev pub create_reading : ℕ → List ℕ → Result Command ℕ
+create_reading len left = followed (taken name_form len left) (λ site. followed (regions_reading len site.1) (λ regions. Ok (Create site.0 regions)))
+
+-- ATTACH
+abbrev pub attach_reading : ℕ → List ℕ → Result Command ℕ
+attach_reading len left = ended len left Attach
+
+-- MAP site region pattern
+abbrev pub map_reading : ℕ → List ℕ → Result Command ℕ
+map_reading len left = followed (taken name_form len left) (λ site. followed (taken name_form len site.1) (λ region. followed (taken pattern_form len region.1) (λ pattern. ended len pattern.1 (Map site.0 region.0 pattern.0))))
+
+-- START site PRIMARY
+abbrev pub start_reading : ℕ → List ℕ → Result Command ℕ
+start_reading len left = followed (taken name_form len left) (λ site. followed (taken (word_form (codes "PRIMARY")) len site.1) (λ role. ended len role.1 (StartPrimary site.0)))
+
+-- STOP site
+abbrev pub stop_reading : ℕ → List ℕ → Result Command ℕ
+stop_reading len left = followed (taken name_form len left) (λ site. ended len site.1 (Stop site.0))
+
+-- FUSE site calls
+abbrev pub fuse_reading : ℕ → List ℕ → Result Command ℕ
+fuse_reading len left = followed (taken name_form len left) (λ site. followed (taken (number_form 0 MOST_CALLS) len site.1) (λ calls. ended len calls.1 (Fuse site.0 calls.0)))
+
+-- CRASH site pick
+abbrev pub crash_reading : ℕ → List ℕ → Result Command ℕ
+crash_reading len left = followed (taken name_form len left) (λ site. followed (taken (number_form 0 MOST_PICK) len site.1) (λ pick. ended len pick.1 (Crash site.0 pick.0)))
+
+-- EXTRACT site, and perhaps a number
+abbrev pub extract_reading : ℕ → List ℕ → Result Command ℕ
+extract_reading len left = followed (taken name_form len left) (λ site. followed (taken_if_any (number_form 1 MOST_NUMBER) len site.1) (λ number. ended len number.1 (Extract site.0 number.0)))
+
+-- ZWRITE site, and perhaps a node
+abbrev pub zwrite_reading : ℕ → List ℕ → Result Command ℕ
+zwrite_reading len left = followed (taken name_form len left) (λ site. followed (taken_if_any node_form len site.1) (λ top. ended len top.1 (Zwrite site.0 top.0)))
+
+-- SHOW site
+abbrev pub show_reading : ℕ → List ℕ → Result Command ℕ
+show_reading len left = followed (taken name_form len left) (λ site. ended len site.1 (Show site.0))
+
+-- TYPE site BROKEN generation
+abbrev pub type_reading : ℕ → List ℕ → Result Command ℕ
+type_reading len left = followed (taken name_form len left) (λ site. followed (taken (word_form (codes "BROKEN")) len site.1) (λ file. followed (taken (number_form 1 MOST_GENERATION) len file.1) (λ generation. ended len generation.1 (Print site.0 false generation.0))))
+
+-- by a line's first word; behind is what stands behind it and the spaces
+abbrev pub command_by : (word : List ℕ) (len : ℕ) (left behind : List ℕ) → Result Command ℕ
+command_by word len left behind = if bytes_eq word (codes "CREATE") then create_reading len behind
+    else if bytes_eq word (codes "ATTACH") then attach_reading len behind
+    else if bytes_eq word (codes "MAP") then map_reading len behind
+    else if bytes_eq word (codes "START") then start_reading len behind
+    else if bytes_eq word (codes "STOP") then stop_reading len behind
+    else if bytes_eq word (codes "FUSE") then fuse_reading len behind
+    else if bytes_eq word (codes "CRASH") then crash_reading len behind
+    else if bytes_eq word (codes "EXTRACT") then extract_reading len behind
+    else if bytes_eq word (codes "ZWRITE") then zwrite_reading len behind
+    else if bytes_eq word (codes "SHOW") then show_reading len behind
+    else if bytes_eq word (codes "TYPE") then type_reading len behind
+    else Err (column len left)
+
+-- RUN site
+abbrev pub run_reading : ℕ → List ℕ → Result Name ℕ
+run_reading len left = followed (taken name_form len left) (λ site. ended len site.1 site.0)
+
+-- What a command of a script has.
+
+-- names and patterns of their form, one to eight regions of different names, numbers within their limits, and jobs of 64 updaters
+abbrev pub IsFormed : Command → Type 0
+IsFormed (Create name regions) = (is_name name ≡ true) × (list_all (λ r. is_name r.name) regions ≡ true) × (1 ≤ length regions) × (length regions ≤ MOST_REGIONS) × IsDistinct bytes_eq (map (λ r. r.name) regions)
+IsFormed Attach = Unit {0}
+IsFormed (Map name region pattern) = (is_name name ≡ true) × (is_name region ≡ true) × (is_pattern pattern ≡ true)
+IsFormed (StartPrimary name) = is_name name ≡ true
+IsFormed (Run name jobs order) = (is_name name ≡ true) × (length jobs ≡ UPDATERS) × (list_all is_updater order ≡ true) × (list_all (λ own. list_all is_of_size own) jobs ≡ true)
+IsFormed (Stop name) = is_name name ≡ true
+IsFormed (Fuse name calls) = (is_name name ≡ true) × (calls ≤ MOST_CALLS)
+IsFormed (Crash name pick) = (is_name name ≡ true) × (pick ≤ MOST_PICK)
+IsFormed (Extract name None) = is_name name ≡ true
+IsFormed (Extract name (Some n)) = (is_name name ≡ true) × (1 ≤ n) × (n ≤ MOST_NUMBER)
+IsFormed (Zwrite name top) = is_name name ≡ true
+IsFormed (Show name) = is_name name ≡ true
+IsFormed (Print name lost generation) = (is_name name ≡ true) × (lost ≡ false) × (1 ≤ generation) × (generation ≤ MOST_GENERATION)
+
+-- taking each updater's next job in this order leaves no updater a job
+abbrev pub UsesUp : List (List Job) → List ℕ → Type 0
+UsesUp jobs order = AllByRecursion (λ own. own ≡ []) (fold (λ left u. without_next u left) jobs order)
+
+abbrev pub IsWhole : Command → Type 0
+IsWhole (Run name jobs order) = UsesUp jobs order
+IsWhole _ = Unit {0}
+
+-- Which parts spell a command.
+
+-- names of a site's regions
+pub record AreRegions (names : List Name) : Type 0 where
+  pub formed : list_all is_name names ≡ true
+  pub some : 1 ≤ length names
+  pub few : length names ≤ MOST_REGIONS
+  pub different : IsDistinct bytes_eq names
+
+-- a global's name, or one and a star
+pub data IsPattern : List ℕ → Type 0 where
+  exact : (name : List ℕ) → is_global_name name ≡ true → IsPattern name
+  starred : (name : List ℕ) → is_global_name name ≡ true → IsPattern (name ++ codes "*")
+
+-- Parts that are a command of one line. A node's text is as GT.M's ZWRITE writes it, or with any pieces in quotes and by codes.
+pub data IsOrder : (parts : List (List ℕ)) (command : Command) → Type 0 where
+  create : (site : Name) (names : List Name) → is_name site ≡ true → AreRegions names → IsOrder (codes "CREATE" ∷ site ∷ names) (Create site (map with_images names))
+  attach : IsOrder (codes "ATTACH" ∷ []) Attach
+  map_to : (site region : Name) (pattern : List ℕ) → is_name site ≡ true → is_name region ≡ true → IsPattern pattern → IsOrder (codes "MAP" ∷ site ∷ region ∷ pattern ∷ []) (Map site region pattern)
+  start : (site : Name) → is_name site ≡ true → IsOrder (codes "START" ∷ site ∷ codes "PRIMARY" ∷ []) (StartPrimary site)
+  stop : (site : Name) → is_name site ≡ true → IsOrder (codes "STOP" ∷ site ∷ []) (Stop site)
+  fuse : (site : Name) (calls : ℕ) → is_name site ≡ true → calls ≤ MOST_CALLS → IsOrder (codes "FUSE" ∷ site ∷ decimal calls ∷ []) (Fuse site calls)
+  crash : (site : Name) (pick : ℕ) → is_name site ≡ true → pick ≤ MOST_PICK → IsOrder (codes "CRASH" ∷ site ∷ decimal pick ∷ []) (Crash site pick)
+  extract : (site : Name) → is_name site ≡ true → IsOrder (codes "EXTRACT" ∷ site ∷ []) (Extract site None)
+  extract_from : (site : Name) (number : ℕ) → is_name site ≡ true → 1 ≤ number → number ≤ MOST_NUMBER → IsOrder (codes "EXTRACT" ∷ site ∷ decimal number ∷ []) (Extract site (Some number))
+  zwrite : (site : Name) → is_name site ≡ true → IsOrder (codes "ZWRITE" ∷ site ∷ []) (Zwrite site None)
+  zwrite_from : (site : Name) (node : List ℕ) (key : Key) → is_name site ≡ true → key_reading node ≡ Ok key → IsOrder (codes "ZWRITE" ∷ site ∷ node ∷ []) (Zwrite site (Some key))
+  show : (site : Name) → is_name site ≡ true → IsOrder (codes "SHOW" ∷ site ∷ []) (Show site)
+  print : (site : Name) (generation : ℕ) → is_name site ≡ true → 1 ≤ generation → generation ≤ MOST_GENERATION → IsOrder (codes "TYPE" ∷ site ∷ codes "BROKEN" ∷ decimal generation ∷ []) (Print site false generation)

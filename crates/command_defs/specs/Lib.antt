@@ -1,7 +1,7 @@
 pub mod Commands
 pub mod Lines
 pub mod Parts
-pub mod Forms
+pub mod Updaters
 pub mod Sections
 pub mod Script
 pub mod Spelling

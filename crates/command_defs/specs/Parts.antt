@@ -1,6 +1,6 @@
 -- A line cut into parts, and the column of the first one that is bad.
-use Rattle.std.specs.Prelude.{ℕ, ◌+◌, ◌-◌, ◌&&◌, ◌||◌, ◌==◌, not, Bool, false, List, [], ◌∷◌, length, take, drop, nat_le, Option, Some, None, codes, if◌then◌else◌}
-use Rattle.std.specs.List.{list_all, list_any}
+use Rattle.std.specs.Prelude.{ℕ, ◌+◌, ◌-◌, ◌&&◌, ◌||◌, ◌==◌, Bool, false, List, [], ◌∷◌, length, take, drop, nat_le, Option, Some, None, codes, if◌then◌else◌}
+use Rattle.std.specs.List.{list_all}
 use Rattle.std.specs.Char.{is_ascii_alphabetic, is_ascii_alphanumeric}
 use Rattle.std.specs.Str.{bytes_eq}
 use Rattle.std.specs.Str.Parse.{digits_value}
@@ -11,7 +11,6 @@ use Rattle.global_defs.specs.Numeral.{is_whole}
 use Rattle.gvn_key.specs.KeyText.{key_reading}
 use Rattle.gvn_key.specs.declared.key.KeyError.{KeyError}
 use Rattle.script_defs.specs.Parts.{word_end, without_spaces}
-use Rattle.command_defs.specs.Commands.{Region}
 use Rattle.global_defs.specs.Pattern.{is_pattern}
 
 -- What is ignored at a line's end: spaces, at most one carriage return, and again spaces.
@@ -79,10 +78,6 @@ is_name text = is_lettered text && nat_le (length text) LONGEST_NAME
 
 abbrev pub name_form : List ℕ → Option (List ℕ)
 name_form text = if is_name text then Some text else None
-
--- a region's name that is none of these
-abbrev pub region_form : List Region → List ℕ → Option (List ℕ)
-region_form before text = if is_name text && not (list_any (λ r. bytes_eq r.name text) before) then Some text else None
 
 abbrev pub pattern_form : List ℕ → Option (List ℕ)
 pattern_form text = if is_pattern text then Some text else None

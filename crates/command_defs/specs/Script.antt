@@ -8,10 +8,10 @@ use Rattle.global_defs.specs.Jobs.{Statement}
 use Rattle.gvn_key.specs.ZwrText.{told}
 use Rattle.script_defs.specs.Parts.{Fault, word_end, without_spaces}
 use Rattle.script_defs.specs.Statements.{statement_reading}
-use Rattle.command_defs.specs.Commands.{Name, Command, Run}
+use Rattle.command_defs.specs.Commands.{Name, Command, Run, command_by, run_reading}
 use Rattle.command_defs.specs.Parts.{column, taken, ended, number_form, trimmed}
-use Rattle.command_defs.specs.Forms.{command_by, run_reading}
-use Rattle.command_defs.specs.Sections.{Section, UPDATERS, begun, is_open, is_full, transaction_begun, transaction_ended, with_statement}
+use Rattle.command_defs.specs.Sections.{Section, begun, is_open, is_full, transaction_begun, transaction_ended, with_statement}
+use Rattle.command_defs.specs.Updaters.{UPDATERS}
 
 -- between commands, or in a section
 pub data Position : Type 0 where

@@ -1,23 +1,11 @@
 -- A section: updaters' jobs between RUN and END, a statement or a word of a transaction a line.
-use Rattle.std.specs.Prelude.{◌≡◌, ◌≤◌, ◌<◌, ℕ, ◌+◌, ◌-◌, ◌&&◌, ◌||◌, ◌==◌, Bool, true, false, List, [], ◌∷◌, ◌++◌, length, map, replicate, nat_le, get_or, set, count_by, Some, None, codes, fold, if◌then◌else◌}
-use Rattle.std.specs.List.{list_all, AllByRecursion, IsDistinct}
+use Rattle.std.specs.Prelude.{◌≡◌, ◌<◌, ℕ, ◌+◌, ◌-◌, ◌&&◌, ◌||◌, ◌==◌, Bool, true, false, List, [], ◌∷◌, ◌++◌, length, replicate, nat_le, get_or, set, count_by, codes, if◌then◌else◌}
+use Rattle.std.specs.List.{list_all}
 use Rattle.std.specs.Str.{bytes_eq}
-use Rattle.global_defs.specs.Jobs.{Statement, Set, Kill, ZKill, Incr, Job}
-use Rattle.global_defs.specs.Serial.{without_next}
-use Rattle.command_defs.specs.Commands.{Name, Command, Create, Attach, Map, StartPrimary, Run, Stop, Fuse, Crash, Extract, Zwrite, Show, Print}
+use Rattle.global_defs.specs.Jobs.{Statement, Job}
+use Rattle.command_defs.specs.Commands.{Name}
 use Rattle.command_defs.specs.Parts.{is_name}
-use Rattle.global_defs.specs.Pattern.{is_pattern}
-use Rattle.command_defs.specs.Forms.{MOST_REGIONS, MOST_CALLS, MOST_PICK, MOST_NUMBER, MOST_GENERATION}
-
-abbrev pub UPDATERS : ℕ
-UPDATERS = 64
-
--- how many statements a transaction may have, and how many of them may be updates
-abbrev pub MOST_STATEMENTS : ℕ
-MOST_STATEMENTS = 1024
-
-abbrev pub MOST_UPDATES : ℕ
-MOST_UPDATES = 256
+use Rattle.command_defs.specs.Updaters.{UPDATERS, MOST_STATEMENTS, MOST_UPDATES, is_update, is_updater, is_of_size}
 
 -- A section that isn't ended: updater u's part of it is at place u - 1. The last job of an updater whose transaction is open isn't whole.
 pub record Section : Type 0 where
@@ -65,13 +53,6 @@ with_statement s u statement = if is_open s u
 abbrev pub is_update_word : List ℕ → Bool
 is_update_word word = bytes_eq word (codes "SET") || bytes_eq word (codes "KILL") || bytes_eq word (codes "ZKILL") || bytes_eq word (codes "INCR")
 
-abbrev pub is_update : Statement → Bool
-is_update (Set key value) = true
-is_update (Kill key) = true
-is_update (ZKill key) = true
-is_update (Incr key n) = true
-is_update _ = false
-
 -- a job of so many statements, with so many updates, takes no statement of that word
 abbrev pub is_full_job : Job → List ℕ → Bool
 is_full_job job word = nat_le MOST_STATEMENTS (length job) || (is_update_word word && nat_le MOST_UPDATES (count_by is_update job))
@@ -81,12 +62,6 @@ abbrev pub is_full : Section → ℕ → List ℕ → Bool
 is_full s u word = is_open s u && is_full_job (last_job (jobs_of s u)) word
 
 -- What holds of each section that lines come to.
-
-abbrev pub is_updater : ℕ → Bool
-is_updater u = nat_le 1 u && nat_le u UPDATERS
-
-abbrev pub is_of_size : Job → Bool
-is_of_size job = nat_le (length job) MOST_STATEMENTS && nat_le (count_by is_update job) MOST_UPDATES
 
 -- how many jobs of an updater an order has
 abbrev pub count_in : List ℕ → ℕ → ℕ
@@ -102,39 +77,3 @@ pub record IsSound (s : Section) : Type 0 where
   pub sized : (i : ℕ) → i < UPDATERS → list_all is_of_size (get_or s.jobs i []) ≡ true
   -- who has an open transaction has a job
   pub begins : (i : ℕ) → i < UPDATERS → get_or s.opened i false ≡ true → 0 < length (get_or s.jobs i [])
-
--- What a command of a script has.
-
--- names and patterns of their form, one to eight regions of different names, numbers within their limits, and jobs of 64 updaters
-abbrev pub IsFormed : Command → Type 0
-IsFormed (Create name regions) = (is_name name ≡ true) × (list_all (λ r. is_name r.name) regions ≡ true) × (1 ≤ length regions) × (length regions ≤ MOST_REGIONS) × IsDistinct bytes_eq (map (λ r. r.name) regions)
-IsFormed Attach = Unit {0}
-IsFormed (Map name region pattern) = (is_name name ≡ true) × (is_name region ≡ true) × (is_pattern pattern ≡ true)
-IsFormed (StartPrimary name) = is_name name ≡ true
-IsFormed (Run name jobs order) = (is_name name ≡ true) × (length jobs ≡ UPDATERS) × (list_all is_updater order ≡ true) × (list_all (λ own. list_all is_of_size own) jobs ≡ true)
-IsFormed (Stop name) = is_name name ≡ true
-IsFormed (Fuse name calls) = (is_name name ≡ true) × (calls ≤ MOST_CALLS)
-IsFormed (Crash name pick) = (is_name name ≡ true) × (pick ≤ MOST_PICK)
-IsFormed (Extract name None) = is_name name ≡ true
-IsFormed (Extract name (Some n)) = (is_name name ≡ true) × (1 ≤ n) × (n ≤ MOST_NUMBER)
-IsFormed (Zwrite name top) = is_name name ≡ true
-IsFormed (Show name) = is_name name ≡ true
-IsFormed (Print name lost generation) = (is_name name ≡ true) × (lost ≡ false) × (1 ≤ generation) × (generation ≤ MOST_GENERATION)
-
--- taking each updater's next job in this order leaves no updater a job
-abbrev pub UsesUp : List (List Job) → List ℕ → Type 0
-UsesUp jobs order = AllByRecursion (λ own. own ≡ []) (fold (λ left u. without_next u left) jobs order)
-
-abbrev pub IsWhole : Command → Type 0
-IsWhole (Create name regions) = Unit {0}
-IsWhole Attach = Unit {0}
-IsWhole (Map name region pattern) = Unit {0}
-IsWhole (StartPrimary name) = Unit {0}
-IsWhole (Run name jobs order) = UsesUp jobs order
-IsWhole (Stop name) = Unit {0}
-IsWhole (Fuse name calls) = Unit {0}
-IsWhole (Crash name pick) = Unit {0}
-IsWhole (Extract name from) = Unit {0}
-IsWhole (Zwrite name top) = Unit {0}
-IsWhole (Show name) = Unit {0}
-IsWhole (Print name lost generation) = Unit {0}

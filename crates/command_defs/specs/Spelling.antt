@@ -1,19 +1,14 @@
 -- What a line spells: the grammar of lines in its own words, beside their reading.
-use Rattle.std.specs.Prelude.{◌≡◌, ◌≢◌, ◌<◌, ◌≤◌, ℕ, ◌==◌, not, Bool, true, false, List, [], ◌∷◌, ◌++◌, length, map, replicate, count_by, Some, None, codes, if◌then◌else◌}
-use Rattle.std.specs.List.{list_all, list_any, IsDistinct}
+use Rattle.std.specs.Prelude.{◌≡◌, ◌≢◌, ◌<◌, ◌≤◌, ℕ, ◌==◌, not, Bool, true, false, List, [], ◌∷◌, ◌++◌, length, replicate, count_by, codes, if◌then◌else◌}
+use Rattle.std.specs.List.{list_any}
 use Rattle.std.specs.Fmt.{decimal}
-use Rattle.std.specs.Str.{bytes_eq}
-use Rattle.std.specs.declared.result.Result.TheVariants.{Ok}
-use Rattle.global_defs.specs.Key.{Key}
-use Rattle.gvn_key.specs.KeyText.{key_reading}
 use Rattle.global_defs.specs.Jobs.{Statement}
 use Rattle.script_defs.specs.Parts.{word_end}
 use Rattle.script_defs.specs.Statements.{SpellsStatement}
-use Rattle.command_defs.specs.Commands.{Name, Command, Create, Attach, Map, StartPrimary, Stop, Fuse, Crash, Extract, Zwrite, Show, Print, with_images}
+use Rattle.command_defs.specs.Commands.{Name, Command, IsOrder}
 use Rattle.command_defs.specs.Parts.{is_name}
-use Rattle.global_defs.specs.Pattern.{is_global_name}
-use Rattle.command_defs.specs.Forms.{MOST_REGIONS, MOST_CALLS, MOST_PICK, MOST_NUMBER, MOST_GENERATION}
-use Rattle.command_defs.specs.Sections.{Section, UPDATERS, MOST_STATEMENTS, MOST_UPDATES, is_open, is_update, jobs_of, last_job, transaction_begun, transaction_ended, with_statement}
+use Rattle.command_defs.specs.Sections.{Section, is_open, jobs_of, last_job, transaction_begun, transaction_ended, with_statement}
+use Rattle.command_defs.specs.Updaters.{UPDATERS, MOST_STATEMENTS, MOST_UPDATES, is_update}
 use Rattle.command_defs.specs.Script.{LONGEST_LINE}
 
 -- A line, and its text without what is ignored at its end: spaces, at most one carriage return, and again spaces.
@@ -37,34 +32,6 @@ pub data Joins : (parts : List (List ℕ)) (text : List ℕ) → Type 0 where
   nothing : Joins [] []
   last : {part : List ℕ} → IsPart part → Joins (part ∷ []) part
   more : {part next text : List ℕ} {parts : List (List ℕ)} (n : ℕ) → IsPart part → stops_quoted false part ≡ false → Joins (next ∷ parts) text → Joins (part ∷ next ∷ parts) (part ++ 32 ∷ (replicate n 32 ++ text))
-
--- names of a site's regions
-pub record AreRegions (names : List Name) : Type 0 where
-  pub formed : list_all is_name names ≡ true
-  pub some : 1 ≤ length names
-  pub few : length names ≤ MOST_REGIONS
-  pub different : IsDistinct bytes_eq names
-
--- a global's name, or one and a star
-pub data IsPattern : List ℕ → Type 0 where
-  exact : (name : List ℕ) → is_global_name name ≡ true → IsPattern name
-  starred : (name : List ℕ) → is_global_name name ≡ true → IsPattern (name ++ codes "*")
-
--- Parts that are a command of one line. A node's text is as GT.M's ZWRITE writes it, or with any pieces in quotes and by codes.
-pub data IsOrder : (parts : List (List ℕ)) (command : Command) → Type 0 where
-  create : (site : Name) (names : List Name) → is_name site ≡ true → AreRegions names → IsOrder (codes "CREATE" ∷ site ∷ names) (Create site (map with_images names))
-  attach : IsOrder (codes "ATTACH" ∷ []) Attach
-  map_to : (site region : Name) (pattern : List ℕ) → is_name site ≡ true → is_name region ≡ true → IsPattern pattern → IsOrder (codes "MAP" ∷ site ∷ region ∷ pattern ∷ []) (Map site region pattern)
-  start : (site : Name) → is_name site ≡ true → IsOrder (codes "START" ∷ site ∷ codes "PRIMARY" ∷ []) (StartPrimary site)
-  stop : (site : Name) → is_name site ≡ true → IsOrder (codes "STOP" ∷ site ∷ []) (Stop site)
-  fuse : (site : Name) (calls : ℕ) → is_name site ≡ true → calls ≤ MOST_CALLS → IsOrder (codes "FUSE" ∷ site ∷ decimal calls ∷ []) (Fuse site calls)
-  crash : (site : Name) (pick : ℕ) → is_name site ≡ true → pick ≤ MOST_PICK → IsOrder (codes "CRASH" ∷ site ∷ decimal pick ∷ []) (Crash site pick)
-  extract : (site : Name) → is_name site ≡ true → IsOrder (codes "EXTRACT" ∷ site ∷ []) (Extract site None)
-  extract_from : (site : Name) (number : ℕ) → is_name site ≡ true → 1 ≤ number → number ≤ MOST_NUMBER → IsOrder (codes "EXTRACT" ∷ site ∷ decimal number ∷ []) (Extract site (Some number))
-  zwrite : (site : Name) → is_name site ≡ true → IsOrder (codes "ZWRITE" ∷ site ∷ []) (Zwrite site None)
-  zwrite_from : (site : Name) (node : List ℕ) (key : Key) → is_name site ≡ true → key_reading node ≡ Ok key → IsOrder (codes "ZWRITE" ∷ site ∷ node ∷ []) (Zwrite site (Some key))
-  show : (site : Name) → is_name site ≡ true → IsOrder (codes "SHOW" ∷ site ∷ []) (Show site)
-  print : (site : Name) (generation : ℕ) → is_name site ≡ true → 1 ≤ generation → generation ≤ MOST_GENERATION → IsOrder (codes "TYPE" ∷ site ∷ codes "BROKEN" ∷ decimal generation ∷ []) (Print site false generation)
 
 -- A line of these parts, with any spaces before them and what is ignored behind them.
 pub record IsLineOf (parts : List (List ℕ)) (line : List ℕ) : Type 0 where

@@ -1,8 +1,8 @@
 // Laws of lines.
 ghost use Rattle.std.specs.Prelude.{◌≡◌, ℕ, List};
-ghost use Rattle.command_defs.specs.Commands.{Name, Command, Run};
+ghost use Rattle.command_defs.specs.Commands.{Name, Command, Run, IsFormed, IsWhole};
 ghost use Rattle.command_defs.specs.Parts.{trimmed};
-ghost use Rattle.command_defs.specs.Sections.{Section, begun, IsSound, IsFormed, IsWhole};
+ghost use Rattle.command_defs.specs.Sections.{Section, begun, IsSound};
 ghost use Rattle.command_defs.specs.Script.{Position, Outside, Within, Skips, Goes, Ends, line_reading};
 ghost use Rattle.command_defs.specs.Spelling.{IsEnded, IsIgnored, SpellsCommand, BeginsSection, Continues, EndsSection};
 

@@ -22,7 +22,7 @@ pub fn lines_hold()
 {}
 
 /// Commands of one line, and the first bad part of lines that are none.
-#[tactic(auto, unfolding(gvn_key::specs::KeyText::subs_at, crate::specs::Forms::regions_behind))]
+#[tactic(auto, unfolding(gvn_key::specs::KeyText::subs_at, crate::specs::Commands::regions_behind))]
 pub fn commands_hold()
     ensures create { line_reading Outside (codes "CREATE A R") ≡ Ends (Create (codes "A") (with_images (codes "R") ∷ [])) }
     ensures regions { line_reading Outside (codes "CREATE A R Q") ≡ Ends (Create (codes "A") (with_images (codes "R") ∷ with_images (codes "Q") ∷ [])) }

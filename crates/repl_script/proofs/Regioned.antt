@@ -3,11 +3,10 @@ use Rattle.std.proofs.Common.{◌≡◌, ℕ, suc, ◌+◌, ◌-◌, ◌<◌, �
 use Rattle.std.specs.Prelude.{Option, Some, None}
 use Rattle.std.specs.declared.result.Result.{Result}
 use Rattle.std.specs.declared.result.Result.TheVariants.{Ok, Err}
-use Rattle.command_defs.specs.Commands.{Region, with_images}
+use Rattle.command_defs.specs.Commands.{Region, with_images, region_form, regions_behind}
 use Rattle.std.proofs.lemmas.Bool.{cond-false}
-use Rattle.command_defs.specs.Parts.{column, followed, taken, ended, region_form}
-use Rattle.command_defs.specs.Forms.{regions_behind}
-use Rattle.command_defs.proofs.Orders.{chosen}
+use Rattle.command_defs.specs.Parts.{column, followed, taken, ended}
+use Rattle.command_defs.proofs.Taken.{chosen}
 use Rattle.command_defs.proofs.RegionForms.{behind_none, behind_full, behind_one}
 use Rattle.repl_script.specs.Commands.{region_value}
 use Rattle.repl_script.specs.Reads.{Tells}

@@ -8,9 +8,10 @@ use Rattle.global_defs.specs.Jobs.{Statement, Job}
 use Rattle.script_defs.specs.Parts.{word_end}
 use Rattle.script_defs.specs.Parts as texts
 use Rattle.gvn_text.specs.Reads as tells
-use Rattle.command_defs.specs.Commands.{Name, Run}
+use Rattle.command_defs.specs.Commands.{Name, Run, IsFormed, IsWhole}
 use Rattle.command_defs.specs.Parts.{is_name}
-use Rattle.command_defs.specs.Sections.{Section, jobs_of, last_job, longer, is_updater, is_of_size, IsSound, IsFormed, IsWhole}
+use Rattle.command_defs.specs.Sections.{Section, jobs_of, last_job, longer, IsSound}
+use Rattle.command_defs.specs.Updaters.{is_updater, is_of_size}
 use Rattle.command_defs.specs.Script.{stated}
 use Rattle.command_defs.proofs.Sounds.{sound_begun, sound_with_job, sound_transaction_begun, sound_transaction_ended, sound_longer, uses_up, formed_run}
 use Rattle.repl_script.specs.Entries.{TellsWrong, located}

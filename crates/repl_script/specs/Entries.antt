@@ -6,7 +6,8 @@ use Rattle.gvn_key.specs.Terms.{statement_value}
 use Rattle.gvn_key.specs.ZwrText.{told}
 use Rattle.script_defs.specs.Parts as texts
 use Rattle.command_defs.specs.Commands.{Run}
-use Rattle.command_defs.specs.Sections.{Section, is_updater, is_open, is_of_size, jobs_of, last_job, transaction_begun, transaction_ended, with_statement}
+use Rattle.command_defs.specs.Sections.{Section, is_open, jobs_of, last_job, transaction_begun, transaction_ended, with_statement}
+use Rattle.command_defs.specs.Updaters.{is_updater, is_of_size}
 use Rattle.command_defs.specs.Script.{Reading, Wrong, Goes, Ends, Within}
 use Rattle.repl_script.specs.Reads.{fault_value}
 use Rattle.repl_script.specs.declared.fault.Fault.{Fault}

@@ -1,8 +1,7 @@
 // Lines between commands.
 ghost use Rattle.std.specs.Prelude.{◌≡◌, true, IfOk};
 ghost use Rattle.command_defs.specs.Parts.{is_name};
-ghost use Rattle.command_defs.specs.Sections.{IsFormed, IsWhole};
-ghost use Rattle.command_defs.specs.Forms.{create_reading, attach_reading, map_reading, start_reading, stop_reading, fuse_reading, crash_reading, extract_reading, zwrite_reading, show_reading, type_reading, command_by, run_reading};
+ghost use Rattle.command_defs.specs.Commands.{IsFormed, IsWhole, create_reading, attach_reading, map_reading, start_reading, stop_reading, fuse_reading, crash_reading, extract_reading, zwrite_reading, show_reading, type_reading, command_by, run_reading};
 ghost use Rattle.repl_script.specs.Commands.{command_value};
 ghost use Rattle.repl_script.specs.Reads.{Reads};
 

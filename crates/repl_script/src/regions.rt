@@ -2,9 +2,8 @@
 ghost use Rattle.std.specs.Prelude.{◌≡◌, ◌≤◌, ◌++◌, ◌∷◌, [], true, length, map, IfOk, OnOk};
 ghost use Rattle.std.specs.List.{list_all, list_any, IsDistinct};
 ghost use Rattle.std.specs.Str.{bytes_eq};
-ghost use Rattle.command_defs.specs.Commands.{with_images};
-ghost use Rattle.command_defs.specs.Parts.{taken, is_name, region_form};
-ghost use Rattle.command_defs.specs.Forms.{regions_behind, regions_reading};
+ghost use Rattle.command_defs.specs.Commands.{with_images, region_form, regions_behind, regions_reading};
+ghost use Rattle.command_defs.specs.Parts.{taken, is_name};
 ghost use Rattle.repl_script.specs.Commands.{region_value};
 ghost use Rattle.repl_script.specs.Reads.{Reads};
 

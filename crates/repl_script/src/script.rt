@@ -1,7 +1,7 @@
 //! Scripts line by line.
 ghost use Rattle.std.specs.Prelude.{◌≡◌, ◌+◌, ◌≤◌, ◌<◌, ◌↔◌, length, IfOk, IfErr, OnOk, OnErr, IfSome, IfNone};
-ghost use Rattle.command_defs.specs.Commands.{Run};
-ghost use Rattle.command_defs.specs.Sections.{Section, IsFormed, IsWhole};
+ghost use Rattle.command_defs.specs.Commands.{Run, IsFormed, IsWhole};
+ghost use Rattle.command_defs.specs.Sections.{Section};
 ghost use Rattle.command_defs.specs.Script.{Outside, Within, Ends, outside_reading, reading_at, line_reading, MOST_LINES};
 ghost use Rattle.repl_script.specs.Commands.{command_value};
 ghost use Rattle.repl_script.specs.Feeds.{Moves, TellsBad, EndsAs, Feeds};

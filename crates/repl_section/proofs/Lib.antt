@@ -3,3 +3,4 @@ pub mod Standing
 pub mod Turns
 pub mod Room
 pub mod Replied
+pub mod Settled

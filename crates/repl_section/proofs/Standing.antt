@@ -1,45 +1,32 @@
--- A reign's files.
-use Rattle.std.proofs.Common.{◌≡◌, ℕ, Bool, length, take, refl, ap, sym, ◌∙◌, subst, None, Some}
-use Rattle.std.specs.Prelude.{Option, IsTrue, IsSome, IsSomeAnd}
-use Rattle.std.proofs.Math.Seq.{take-length}
+-- A site's files.
+use Rattle.std.proofs.Common.{◌≡◌, ℕ, Bool, true, length, take, refl, ap, sym, ◌∙◌}
+use Rattle.std.specs.Prelude.{IsSome}
 use Rattle.std.proofs.lemmas.List.{length-map}
 use Rattle.std.proofs.lemmas.List.FromFn.{length-enumerate_from}
-use Rattle.disk_defs.specs.Disk.{Files, View, Image, IsLawful, AtEachMoment}
+use Rattle.disk_defs.specs.Disk.{View, IsLawful, AtEachMoment}
 use Rattle.disk_defs.proofs.Moments.{holds_now}
-use Rattle.global_defs.specs.Entry.{Sequence}
 use Rattle.site_defs.specs.Contents.{Contents, NO_LEFTOVER}
 use Rattle.site_defs.specs.Fronts.{with_sequence}
 use Rattle.site_defs.specs.Stands.{IsSite, HasLeft}
 use Rattle.site_store.specs.Site.{IsOpen}
 use Rattle.gvn_model.specs.Numbered.{numbered}
 use Rattle.site_store.specs.declared.site.OpenSite.{OpenSite}
-use Rattle.site_store.proofs.Owned.{settled_left}
-use Rattle.site_store.proofs.Standing.{images_stand}
-use Rattle.repl_section.specs.declared.reign.Reign.{Reign}
-use Rattle.repl_section.specs.Reigns.{Reigns}
+use Rattle.site_store.proofs.Emptied.{none_left}
+use Rattle.site_store.proofs.Standing.{told_of}
+use Rattle.repl_section.specs.Deciding.{StandsAt}
 
-tells : (o : Option Files) (P : Files → Type 0) → IsSomeAnd o P → IsSome o
-tells None P h = absurd h
-tells (Some files) P h = refl
+-- where nothing was done, each image stands for the entries that are hardened
+pub stays_at : (v : View) (c : Contents) (h : ℕ) (s : OpenSite) → IsOpen v true c h s → StandsAt v c h
+stays_at v c h s is = record { told = told_of v c h s (is.kept refl); images = (is.kept refl).images; bare = λ f now. none_left v c h s f (is.kept refl) now }
 
-pub told_there : (v : View) (told : Bool) (c : Contents) (r : Reign) → Reigns v told c r → IsTrue told → IsSome v.content
-told_there v told c r h k = tells v.content _ (h.kept k).reads
-
--- each image stands for all that the reign has
-pub all_stand : (v : View) (told : Bool) (c : Contents) (r : Reign) → Reigns v told c r → IsTrue told → (f : Files) → Image v f → IsSite f c
-all_stand v told c r h k f i = images_stand v c r.site (subst (λ (b : Bool). IsOpen v b c (length c.sequence) r.site) k h) f i
-
--- where each image stands for all entries whatever the moment
-pub all_at_once : (v w : View) (c : Contents) → IsLawful w → AtEachMoment v w (λ f. IsSite f (with_sequence c (take (length c.sequence) c.sequence))) → (f : Files) → Image w f → IsSite f c
-all_at_once v w c lawful run f i = subst (λ (seq : Sequence). IsSite f (with_sequence c seq)) (take-length c.sequence) (holds_now v w (λ x. IsSite x (with_sequence c (take (length c.sequence) c.sequence))) lawful run f i)
-
--- and nothing lies behind that
-pub all_bare : (v : View) (told : Bool) (c : Contents) (r : Reign) → Reigns v told c r → IsTrue told → (f : Files) → Image v f → HasLeft f c NO_LEFTOVER
-all_bare v told c r h k f i = settled_left v c r.site (subst (λ (b : Bool). IsOpen v b c (length c.sequence) r.site) k h) f i
-
-pub bare_at_once : (v w : View) (c : Contents) → IsLawful w → AtEachMoment v w (λ f. HasLeft f (with_sequence c (take (length c.sequence) c.sequence)) NO_LEFTOVER) → (f : Files) → Image w f → HasLeft f c NO_LEFTOVER
-bare_at_once v w c lawful run f i =
-    subst (λ (seq : Sequence). HasLeft f (with_sequence c seq) NO_LEFTOVER) (take-length c.sequence) (holds_now v w (λ x. HasLeft x (with_sequence c (take (length c.sequence) c.sequence)) NO_LEFTOVER) lawful run f i)
+-- and so it does where each image of any moment did
+pub stands_after : (v w : View) (c : Contents) (h : ℕ) (s : OpenSite) → IsLawful w → IsOpen v true c h s → (IsSome v.content → IsSome w.content)
+    → AtEachMoment v w (λ f. IsSite f (with_sequence c (take h c.sequence))) → AtEachMoment v w (λ f. HasLeft f (with_sequence c (take h c.sequence)) NO_LEFTOVER) → StandsAt w c h
+stands_after v w c h s lawful is told run bare = record {
+  told = told (told_of v c h s (is.kept refl));
+  images = holds_now v w (λ f. IsSite f (with_sequence c (take h c.sequence))) lawful run;
+  bare = holds_now v w (λ f. HasLeft f (with_sequence c (take h c.sequence)) NO_LEFTOVER) lawful bare;
+}
 
 -- as many entries in memory
 pub entries_counted : (v : View) (told : Bool) (c : Contents) (h : ℕ) (s : OpenSite) → IsOpen v told c h s → length s.entries.items ≡ length c.sequence

@@ -1,11 +1,9 @@
 -- What picks come to.
-use Rattle.std.proofs.Common.{◌≡◌, ℕ, zero, suc, ◌+◌, ◌-◌, ◌<◌, ◌≤◌, ◌⊎◌, inl, inr, Bool, true, false, List, [], ◌∷◌, ◌++◌, length, take, drop, get_or, set, refl, ap, sym, ◌∙◌, subst, arith, append_assoc, append-nil, nat_lt, if◌then◌else◌, length-append, None, Some}
-use Rattle.std.specs.List.{flat_map}
+use Rattle.std.proofs.Common.{◌≡◌, ℕ, zero, suc, ◌+◌, ◌-◌, ◌<◌, ◌≤◌, ◌⊎◌, inl, inr, Bool, true, false, List, [], ◌∷◌, ◌++◌, length, take, drop, get_or, set, refl, ap, sym, ◌∙◌, subst, arith, nat_lt, if◌then◌else◌, length-append, None, Some}
 use Rattle.std.specs.Prelude.{Option, slice_get, IsTrue}
 use Rattle.std.proofs.Math.Seq.{take-length, take-append_seam}
 use Rattle.std.proofs.lemmas.Bool.{le-ltb, ltb-false}
 use Rattle.std.proofs.lemmas.List.{set-get_or, take_more}
-use Rattle.std.proofs.lemmas.List.Concat.{flat_map-append}
 use Rattle.std.proofs.lemmas.List.Sums.{fold-append}
 use Rattle.disk_defs.specs.Disk.{View, Files}
 use Rattle.global_defs.specs.Entry.{Entry, Stamp, Sequence, Globals, state}
@@ -17,10 +15,9 @@ use Rattle.site_defs.specs.Contents.{Contents, Standing, bare}
 use Rattle.site_defs.specs.Behind.{MayStand}
 use Rattle.site_defs.specs.Fronts.{with_sequence, IsFrontOf, turn_of}
 use Rattle.site_defs.specs.Stands.{IsSite}
-use Rattle.site_defs.specs.Texts.{reply_line, is_past, printed}
+use Rattle.site_defs.specs.Texts.{is_past, printed}
 use Rattle.repl_section.specs.declared.reign.Reign.{Reign}
 use Rattle.repl_section.specs.Reigns.{Reigns, stamp_in, stamp_of}
-use Rattle.repl_section.proofs.Standing.{told_there, all_stand, all_bare}
 use Rattle.repl_section.specs.Deciding.{outcome, HasCome, Appends, MayHave, HasReached, MayHaveFront, FailsBy, FailsAt, FailsIn, LeftAfter, MayLeave, StandsLeft, LeavesPick}
 
 -- a turn with one more pick
@@ -122,32 +119,23 @@ turn_more stamp serials now jobs left picks u job seq g l j s e =
     ∙ ap (λ (x : List ℕ). with_pick t u (outcome stamp x t.sequence u (eval job g))) (sym s)
 
 -- a section on its way: these jobs are left, so many picks of all have no reply, and the reign is still under that stamp
-pub record HasGone (v : View) (stamp : Stamp) (told : Bool) (c : Contents) (t : Turn) (jobs : List (List Job)) (undecided all : ℕ) (r : Reign) (before now : List ℕ) : Type 0 where
+pub record HasGone (v : View) (stamp : Stamp) (told : Bool) (c : Contents) (t : Turn) (jobs : List (List Job)) (undecided all : ℕ) (r : Reign) (gave : List Replied → Type 0) : Type 0 where
   pub left : jobs ≡ t.left
   pub under : stamp_of r ≡ stamp
   pub count : undecided + length t.replies ≡ all
-  pub reached : HasReached v told c t r before now
+  pub reached : HasReached v told c t r gave
 
-pub none_gone : (v : View) (told : Bool) (c : Contents) (jobs : List (List Job)) (all : ℕ) (r : Reign) (text : List ℕ) → Reigns v told c r → HasGone v (stamp_of r) told c (begun r.serials jobs c.sequence) jobs all all r text text
-none_gone v told c jobs all r text h = record {
-  left = refl;
-  under = refl;
-  count = omega arith;
-  reached = record { reigns = h; serials = refl; text = sym (append-nil text); grown = omega arith; printed = refl };
-}
-
-one_gone : (v w : View) (stamp : Stamp) (told : Bool) (c : Contents) (t p : Turn) (u : ℕ) (left : List (List Job)) (undecided all : ℕ) (r1 r2 : Reign) (t0 t1 t2 : List ℕ)
-    → HasGone v stamp told c t left (undecided + 1) all r1 t0 t1 → IsPick t.sequence p → HasCome w told (with_sequence c t.sequence) p r2 t1 t2 → r2.site.stamp ≡ r1.site.stamp
-    → HasGone w stamp told c (with_pick t u p) (without_next u left) undecided all r2 t0 t2
-one_gone v w stamp told c t p u left undecided all r1 r2 t0 t1 t2 h k s same = record {
+one_gone : (v w : View) (stamp : Stamp) (told : Bool) (c : Contents) (t p : Turn) (u : ℕ) (left : List (List Job)) (undecided all : ℕ) (r1 r2 : Reign) (before here after : List Replied → Type 0)
+    → HasGone v stamp told c t left (undecided + 1) all r1 before → IsPick t.sequence p → HasCome w told (with_sequence c t.sequence) p r2 here → r2.site.stamp ≡ r1.site.stamp
+    → ((xs ys : List Replied) → before xs → here ys → after (xs ++ ys)) → HasGone w stamp told c (with_pick t u p) (without_next u left) undecided all r2 after
+one_gone v w stamp told c t p u left undecided all r1 r2 before here after h k s same further = record {
   left = ap (without_next u) h.left;
   under = ap stamp_in same ∙ h.under;
   count = omega (arith, h.count, length-append t.replies p.replies, k.one);
   reached = record {
     reigns = s.reigns;
     serials = s.serials;
-    text = s.text ∙ ap (λ (x : List ℕ). x ++ flat_map reply_line p.replies) h.reached.text ∙ append_assoc t0 (flat_map reply_line t.replies) (flat_map reply_line p.replies)
-        ∙ ap (λ (x : List ℕ). t0 ++ x) (sym (flat_map-append reply_line t.replies p.replies));
+    given = further t.replies p.replies h.reached.given s.given;
     grown = omega (arith, h.reached.grown, k.grown);
     printed = printed_more (length t.sequence) (length p.sequence) t.replies p.replies k.grown h.reached.printed k.printed;
   };
@@ -176,10 +164,10 @@ failed_front w told c seq p a may = record { told = λ k. (may k).told; images =
     by_image files (inl s) = (with_sequence c seq, old_front seq p c a, s)
     by_image files (inr s) = (with_sequence c p.sequence, all_front p.sequence c (length seq) (omega (arith, ap (λ (x : Sequence). length x) a.sequence, longer seq a.entry)), s)
 
-failed_by : (v w : View) (stamp : Stamp) (told : Bool) (c : Contents) (t p : Turn) (u : ℕ) (left : List (List Job)) (undecided all : ℕ) (r1 : Reign) (t0 t1 : List ℕ)
-    → HasGone v stamp told c t left undecided all r1 t0 t1 → Appends t.sequence p → (IsTrue told → MayHave w (with_sequence c t.sequence) p.sequence)
-    → FailsBy w told c (with_pick t u p) all undecided t0 t1
-failed_by v w stamp told c t p u left undecided all r1 t0 t1 h a may =
+failed_by : (v w : View) (stamp : Stamp) (told : Bool) (c : Contents) (t p : Turn) (u : ℕ) (left : List (List Job)) (undecided all : ℕ) (r1 : Reign) (gave : List Replied → Type 0)
+    → HasGone v stamp told c t left undecided all r1 gave → Appends t.sequence p → (IsTrue told → MayHave w (with_sequence c t.sequence) p.sequence)
+    → FailsBy w told c (with_pick t u p) all undecided gave
+failed_by v w stamp told c t p u left undecided all r1 gave h a may =
     let n = length t.sequence in
     let shown : printed n (t.replies ++ p.replies) ≡ t.replies = ap (λ (x : List Replied). printed n (t.replies ++ x)) a.replies ∙ printed_till n t.replies a.reply h.reached.printed a.names in
     record {
@@ -187,7 +175,7 @@ failed_by v w stamp told c t p u left undecided all r1 t0 t1 h a may =
       begun = h.reached.grown;
       at_once = omega (arith, ap (λ (x : Sequence). length x) a.sequence, longer t.sequence a.entry);
       count = ap (λ (x : List Replied). undecided + length x) shown ∙ h.count;
-      text = h.reached.text ∙ ap (λ (x : List Replied). t0 ++ flat_map reply_line x) (sym shown);
+      given = subst gave (sym shown) h.reached.given;
       front = failed_front w told c t.sequence p a may;
     }
 
@@ -200,88 +188,89 @@ come_to stamp serials jobs order i seq = turn_of stamp serials jobs (take i orde
 abbrev pub pick_at : Stamp → List ℕ → List (List Job) → List ℕ → ℕ → Contents → Reign → ℕ → Job → Turn
 pick_at stamp serials jobs order i c r u job = outcome (stamp_of r) r.serials (come_to stamp serials jobs order i c.sequence).sequence u (eval job r.site.globals)
 
-next_turn : (v : View) (stamp : Stamp) (told : Bool) (c : Contents) (serials : List ℕ) (jobs left : List (List Job)) (order : List ℕ) (i u : ℕ) (job : Job) (undecided : ℕ) (r1 : Reign) (t0 t1 : List ℕ)
-    → HasGone v stamp told c (come_to stamp serials jobs order i c.sequence) left undecided (length order) r1 t0 t1 → i < length order → u ≡ get_or order i 0 → next_job u left ≡ Some job
+next_turn : (v : View) (stamp : Stamp) (told : Bool) (c : Contents) (serials : List ℕ) (jobs left : List (List Job)) (order : List ℕ) (i u : ℕ) (job : Job) (undecided : ℕ) (r1 : Reign) (gave : List Replied → Type 0)
+    → HasGone v stamp told c (come_to stamp serials jobs order i c.sequence) left undecided (length order) r1 gave → i < length order → u ≡ get_or order i 0 → next_job u left ≡ Some job
     → come_to stamp serials jobs order (i + 1) c.sequence ≡ with_pick (come_to stamp serials jobs order i c.sequence) u (pick_at stamp serials jobs order i c r1 u job)
-next_turn v stamp told c serials jobs left order i u job undecided r1 t0 t1 h inside is next =
+next_turn v stamp told c serials jobs left order i u job undecided r1 gave h inside is next =
     ap (λ (x : List ℕ). turn_of stamp serials jobs x c.sequence) (front_more order i u inside is)
     ∙ turn_more stamp serials r1.serials jobs left (take i order) u job c.sequence r1.site.globals h.left next h.reached.serials h.reached.reigns.remembered.globals
     ∙ ap (λ (x : Stamp). with_pick (come_to stamp serials jobs order i c.sequence) u (outcome x r1.serials (come_to stamp serials jobs order i c.sequence).sequence u (eval job r1.site.globals))) (sym h.under)
 
 -- the pick was decided
-pub one_decided : (v w : View) (stamp : Stamp) (told : Bool) (c : Contents) (serials : List ℕ) (jobs left : List (List Job)) (order : List ℕ) (i u : ℕ) (job : Job) (undecided : ℕ) (r1 r2 : Reign) (t0 t1 t2 : List ℕ)
-    → HasGone v stamp told c (come_to stamp serials jobs order i c.sequence) left (undecided + 1) (length order) r1 t0 t1 → i < length order → u ≡ get_or order i 0 → next_job u left ≡ Some job
-    → HasCome w told (with_sequence c (come_to stamp serials jobs order i c.sequence).sequence) (pick_at stamp serials jobs order i c r1 u job) r2 t1 t2 → r2.site.stamp ≡ r1.site.stamp
-    → HasGone w stamp told c (come_to stamp serials jobs order (i + 1) c.sequence) (without_next u left) undecided (length order) r2 t0 t2
-one_decided v w stamp told c serials jobs left order i u job undecided r1 r2 t0 t1 t2 h inside is next s same =
+pub one_decided : (v w : View) (stamp : Stamp) (told : Bool) (c : Contents) (serials : List ℕ) (jobs left : List (List Job)) (order : List ℕ) (i u : ℕ) (job : Job) (undecided : ℕ) (r1 r2 : Reign) (before here after : List Replied → Type 0)
+    → HasGone v stamp told c (come_to stamp serials jobs order i c.sequence) left (undecided + 1) (length order) r1 before → i < length order → u ≡ get_or order i 0 → next_job u left ≡ Some job
+    → HasCome w told (with_sequence c (come_to stamp serials jobs order i c.sequence).sequence) (pick_at stamp serials jobs order i c r1 u job) r2 here → r2.site.stamp ≡ r1.site.stamp
+    → ((xs ys : List Replied) → before xs → here ys → after (xs ++ ys))
+    → HasGone w stamp told c (come_to stamp serials jobs order (i + 1) c.sequence) (without_next u left) undecided (length order) r2 after
+one_decided v w stamp told c serials jobs left order i u job undecided r1 r2 before here after h inside is next s same further =
     let t = come_to stamp serials jobs order i c.sequence in
     let p = pick_at stamp serials jobs order i c r1 u job in
-    subst (λ (x : Turn). HasGone w stamp told c x (without_next u left) undecided (length order) r2 t0 t2) (sym (next_turn v stamp told c serials jobs left order i u job (undecided + 1) r1 t0 t1 h inside is next))
-    (one_gone v w stamp told c t p u left undecided (length order) r1 r2 t0 t1 t2 h (is_pick (stamp_of r1) r1.serials t.sequence u (eval job r1.site.globals)) s same)
+    subst (λ (x : Turn). HasGone w stamp told c x (without_next u left) undecided (length order) r2 after) (sym (next_turn v stamp told c serials jobs left order i u job (undecided + 1) r1 before h inside is next))
+    (one_gone v w stamp told c t p u left undecided (length order) r1 r2 before here after h (is_pick (stamp_of r1) r1.serials t.sequence u (eval job r1.site.globals)) s same further)
 
 -- the updater had no job
-pub none_decided : (v : View) (stamp : Stamp) (told : Bool) (c : Contents) (serials : List ℕ) (jobs left : List (List Job)) (order : List ℕ) (i u : ℕ) (undecided : ℕ) (r1 : Reign) (t0 t1 : List ℕ)
-    → HasGone v stamp told c (come_to stamp serials jobs order i c.sequence) left undecided (length order) r1 t0 t1 → i < length order → u ≡ get_or order i 0 → next_job u left ≡ None
-    → HasGone v stamp told c (come_to stamp serials jobs order (i + 1) c.sequence) (without_next u left) undecided (length order) r1 t0 t1
-none_decided v stamp told c serials jobs left order i u undecided r1 t0 t1 h inside is none =
+pub none_decided : (v : View) (stamp : Stamp) (told : Bool) (c : Contents) (serials : List ℕ) (jobs left : List (List Job)) (order : List ℕ) (i u : ℕ) (undecided : ℕ) (r1 : Reign) (gave : List Replied → Type 0)
+    → HasGone v stamp told c (come_to stamp serials jobs order i c.sequence) left undecided (length order) r1 gave → i < length order → u ≡ get_or order i 0 → next_job u left ≡ None
+    → HasGone v stamp told c (come_to stamp serials jobs order (i + 1) c.sequence) (without_next u left) undecided (length order) r1 gave
+none_decided v stamp told c serials jobs left order i u undecided r1 gave h inside is none =
     let t = come_to stamp serials jobs order i c.sequence in
     let same : come_to stamp serials jobs order (i + 1) c.sequence ≡ t =
     ap (λ (x : List ℕ). turn_of stamp serials jobs x c.sequence) (front_more order i u inside is) ∙ serial_more stamp serials jobs (take i order) u c.sequence ∙ ap (picked stamp t u) (ap (next_job u) (sym h.left) ∙ none) in
-    subst (λ (x : Turn). HasGone v stamp told c x (without_next u left) undecided (length order) r1 t0 t1) (sym same)
-    (subst (λ (x : List (List Job)). HasGone v stamp told c t x undecided (length order) r1 t0 t1) (sym (none_taken u left none)) h)
+    subst (λ (x : Turn). HasGone v stamp told c x (without_next u left) undecided (length order) r1 gave) (sym same)
+    (subst (λ (x : List (List Job)). HasGone v stamp told c t x undecided (length order) r1 gave) (sym (none_taken u left none)) h)
 
 -- the pick failed
-pub failed_at : (v w : View) (stamp : Stamp) (told : Bool) (c : Contents) (serials : List ℕ) (jobs left : List (List Job)) (order : List ℕ) (i u : ℕ) (job : Job) (undecided : ℕ) (r1 : Reign) (t0 t1 : List ℕ)
-    → HasGone v stamp told c (come_to stamp serials jobs order i c.sequence) left undecided (length order) r1 t0 t1 → i < length order → u ≡ get_or order i 0 → next_job u left ≡ Some job
+pub failed_at : (v w : View) (stamp : Stamp) (told : Bool) (c : Contents) (serials : List ℕ) (jobs left : List (List Job)) (order : List ℕ) (i u : ℕ) (job : Job) (undecided : ℕ) (r1 : Reign) (gave : List Replied → Type 0)
+    → HasGone v stamp told c (come_to stamp serials jobs order i c.sequence) left undecided (length order) r1 gave → i < length order → u ≡ get_or order i 0 → next_job u left ≡ Some job
     → Appends (come_to stamp serials jobs order i c.sequence).sequence (pick_at stamp serials jobs order i c r1 u job)
     → (IsTrue told → MayHave w (with_sequence c (come_to stamp serials jobs order i c.sequence).sequence) (pick_at stamp serials jobs order i c r1 u job).sequence)
-    → FailsAt w stamp told c jobs order serials undecided t0 t1 (i + 1)
-failed_at v w stamp told c serials jobs left order i u job undecided r1 t0 t1 h inside is next a may =
-    subst (λ (x : Turn). FailsBy w told c x (length order) undecided t0 t1) (sym (next_turn v stamp told c serials jobs left order i u job undecided r1 t0 t1 h inside is next))
-    (failed_by v w stamp told c (come_to stamp serials jobs order i c.sequence) (pick_at stamp serials jobs order i c r1 u job) u left undecided (length order) r1 t0 t1 h a may)
+    → FailsAt w stamp told c jobs order serials undecided gave (i + 1)
+failed_at v w stamp told c serials jobs left order i u job undecided r1 gave h inside is next a may =
+    subst (λ (x : Turn). FailsBy w told c x (length order) undecided gave) (sym (next_turn v stamp told c serials jobs left order i u job undecided r1 gave h inside is next))
+    (failed_by v w stamp told c (come_to stamp serials jobs order i c.sequence) (pick_at stamp serials jobs order i c r1 u job) u left undecided (length order) r1 gave h a may)
 
 -- what it left, with what lies behind that
-left_after : (v : View) (stamp : Stamp) (told : Bool) (c : Contents) (serials : List ℕ) (jobs left : List (List Job)) (order : List ℕ) (i u : ℕ) (job : Job) (undecided : ℕ) (r1 : Reign) (t0 t1 : List ℕ)
-    → HasGone v stamp told c (come_to stamp serials jobs order i c.sequence) left undecided (length order) r1 t0 t1 → i < length order → u ≡ get_or order i 0 → next_job u left ≡ Some job
+left_after : (v : View) (stamp : Stamp) (told : Bool) (c : Contents) (serials : List ℕ) (jobs left : List (List Job)) (order : List ℕ) (i u : ℕ) (job : Job) (undecided : ℕ) (r1 : Reign) (gave : List Replied → Type 0)
+    → HasGone v stamp told c (come_to stamp serials jobs order i c.sequence) left undecided (length order) r1 gave → i < length order → u ≡ get_or order i 0 → next_job u left ≡ Some job
     → (files : Files) → StandsLeft (with_sequence c (come_to stamp serials jobs order i c.sequence).sequence) (pick_at stamp serials jobs order i c r1 u job).sequence files → LeftAfter stamp c jobs order serials i files
-left_after v stamp told c serials jobs left order i u job undecided r1 t0 t1 h inside is next files q =
+left_after v stamp told c serials jobs left order i u job undecided r1 gave h inside is next files q =
     let t = come_to stamp serials jobs order i c.sequence in
     let p = pick_at stamp serials jobs order i c r1 u job in
     record {
       standing = q.0;
-      may = subst (λ (x : Turn). MayStand c t.sequence x.sequence q.0) (sym (next_turn v stamp told c serials jobs left order i u job undecided r1 t0 t1 h inside is next)) (over_other t.sequence p.sequence c q.0 q.1);
+      may = subst (λ (x : Turn). MayStand c t.sequence x.sequence q.0) (sym (next_turn v stamp told c serials jobs left order i u job undecided r1 gave h inside is next)) (over_other t.sequence p.sequence c q.0 q.1);
       stands = q.2;
     }
 
 -- and the picks before it have their replies
-pub failed_in : (v w : View) (stamp : Stamp) (told : Bool) (c : Contents) (serials : List ℕ) (jobs left : List (List Job)) (order : List ℕ) (i u : ℕ) (job : Job) (undecided : ℕ) (r1 : Reign) (t0 t1 : List ℕ)
-    → HasGone v stamp told c (come_to stamp serials jobs order i c.sequence) left undecided (length order) r1 t0 t1 → i < length order → u ≡ get_or order i 0 → next_job u left ≡ Some job
+pub failed_in : (v w : View) (stamp : Stamp) (told : Bool) (c : Contents) (serials : List ℕ) (jobs left : List (List Job)) (order : List ℕ) (i u : ℕ) (job : Job) (undecided : ℕ) (r1 : Reign) (gave : List Replied → Type 0)
+    → HasGone v stamp told c (come_to stamp serials jobs order i c.sequence) left undecided (length order) r1 gave → i < length order → u ≡ get_or order i 0 → next_job u left ≡ Some job
     → Appends (come_to stamp serials jobs order i c.sequence).sequence (pick_at stamp serials jobs order i c r1 u job)
     → (IsTrue told → MayHave w (with_sequence c (come_to stamp serials jobs order i c.sequence).sequence) (pick_at stamp serials jobs order i c r1 u job).sequence)
     → (IsTrue told → LeavesPick w (with_sequence c (come_to stamp serials jobs order i c.sequence).sequence) (pick_at stamp serials jobs order i c r1 u job).sequence)
-    → FailsIn w stamp told c jobs order serials undecided t0 t1
-failed_in v w stamp told c serials jobs left order i u job undecided r1 t0 t1 h inside is next a may leaves =
+    → FailsIn w stamp told c jobs order serials undecided gave
+failed_in v w stamp told c serials jobs left order i u job undecided r1 gave h inside is next a may leaves =
     let t = come_to stamp serials jobs order i c.sequence in
     record {
       decided = i;
       inside = inside;
       count = h.count;
-      text = h.reached.text;
-      front = subst (λ (x : Turn). MayHaveFront w told c x.sequence (length t.sequence)) (sym (next_turn v stamp told c serials jobs left order i u job undecided r1 t0 t1 h inside is next))
+      given = h.reached.given;
+      front = subst (λ (x : Turn). MayHaveFront w told c x.sequence (length t.sequence)) (sym (next_turn v stamp told c serials jobs left order i u job undecided r1 gave h inside is next))
           (failed_front w told c t.sequence (pick_at stamp serials jobs order i c r1 u job) a may);
-      left = λ k files now. left_after v stamp told c serials jobs left order i u job undecided r1 t0 t1 h inside is next files (leaves k files now);
+      left = λ k files now. left_after v stamp told c serials jobs left order i u job undecided r1 gave h inside is next files (leaves k files now);
     }
 
 -- the pick was cut off
-pub left_at : (v w : View) (stamp : Stamp) (told : Bool) (c : Contents) (serials : List ℕ) (jobs left : List (List Job)) (order : List ℕ) (i u : ℕ) (job : Job) (undecided : ℕ) (r1 : Reign) (t0 t1 : List ℕ)
-    → HasGone v stamp told c (come_to stamp serials jobs order i c.sequence) left undecided (length order) r1 t0 t1 → i < length order → u ≡ get_or order i 0 → next_job u left ≡ Some job
+pub left_at : (v w : View) (stamp : Stamp) (told : Bool) (c : Contents) (serials : List ℕ) (jobs left : List (List Job)) (order : List ℕ) (i u : ℕ) (job : Job) (undecided : ℕ) (r1 : Reign) (gave : List Replied → Type 0)
+    → HasGone v stamp told c (come_to stamp serials jobs order i c.sequence) left undecided (length order) r1 gave → i < length order → u ≡ get_or order i 0 → next_job u left ≡ Some job
     → (IsTrue told → MayHave w (with_sequence c (come_to stamp serials jobs order i c.sequence).sequence) (pick_at stamp serials jobs order i c r1 u job).sequence)
     → (IsTrue told → LeavesPick w (with_sequence c (come_to stamp serials jobs order i c.sequence).sequence) (pick_at stamp serials jobs order i c r1 u job).sequence)
     → MayLeave w stamp told c jobs order serials
-left_at v w stamp told c serials jobs left order i u job undecided r1 t0 t1 h inside is next may leaves = record {
+left_at v w stamp told c serials jobs left order i u job undecided r1 gave h inside is next may leaves = record {
   told = λ k. (may k).told;
   images = λ k files now. by_image files ((may k).images files now);
-  left = λ k files now. (i, left_after v stamp told c serials jobs left order i u job undecided r1 t0 t1 h inside is next files (leaves k files now));
+  left = λ k files now. (i, left_after v stamp told c serials jobs left order i u job undecided r1 gave h inside is next files (leaves k files now));
 }
   where
     by_image : (files : Files) → IsSite files (with_sequence c (come_to stamp serials jobs order i c.sequence).sequence) ⊎ IsSite files (with_sequence c (pick_at stamp serials jobs order i c r1 u job).sequence)
@@ -296,23 +285,8 @@ left_at v w stamp told c serials jobs left order i u job undecided r1 t0 t1 h in
           with_sequence c p.sequence,
           (
             i + 1,
-            subst (λ (x : Turn). IsFrontOf x.sequence (length c.sequence) c (with_sequence c p.sequence)) (sym (next_turn v stamp told c serials jobs left order i u job undecided r1 t0 t1 h inside is next))
+            subst (λ (x : Turn). IsFrontOf x.sequence (length c.sequence) c (with_sequence c p.sequence)) (sym (next_turn v stamp told c serials jobs left order i u job undecided r1 gave h inside is next))
                 (all_front p.sequence c (length c.sequence) (omega (arith, h.reached.grown, more))),
           ),
           s,
         )
-
--- before the first pick
-pub none_left : (v : View) (told : Bool) (c : Contents) (jobs : List (List Job)) (order : List ℕ) (r : Reign) → Reigns v told c r → MayLeave v (stamp_of r) told c jobs order r.serials
-none_left v told c jobs order r h = record {
-  told = told_there v told c r h;
-  images = λ k files now. (with_sequence c c.sequence, (0, all_front c.sequence c (length c.sequence) (omega arith)), all_stand v told c r h k files now);
-  left = λ k files now. (
-    0,
-    record {
-      standing = bare (with_sequence c c.sequence);
-      may = inl refl;
-      stands = record { site = all_stand v told c r h k files now; left = all_bare v told c r h k files now };
-    },
-  );
-}

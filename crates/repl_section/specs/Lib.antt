@@ -1,3 +1,4 @@
 pub mod Reigns
 pub mod Replies
+pub mod Lines
 pub mod Deciding

@@ -1,4 +1,5 @@
 -- What replies of the code stand for.
+use Rattle.std.specs.Prelude.{ℕ, Option, Some, None}
 use Rattle.global_defs.specs.Serial as defs
 use Rattle.gvn_model.specs.declared.entry.Origin.{Origin}
 use Rattle.gvn_model.specs.declared.job.Reply.{Reply}
@@ -13,3 +14,9 @@ reply_value (replies.RolledBack cause) = defs.RolledBack (cause_value cause)
 -- the reply to a job of this origin
 abbrev pub replied_value : Origin → Reply → defs.Replied
 replied_value o reply = record { updater = o.updater; serial = o.serial; reply = reply_value reply }
+
+-- the number of the entry that a reply names, if it names one
+abbrev pub named : defs.Reply → Option ℕ
+named (defs.Seq number answers) = Some number
+named (defs.Read answers) = None
+named (defs.RolledBack cause) = None

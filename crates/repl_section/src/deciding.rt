@@ -1,5 +1,5 @@
 //! Deciding one job.
-ghost use Rattle.std.specs.Prelude.{◌≡◌, ◌≤◌, ◌<◌, ◌+◌, ◌-◌, ◌^◌, ◌++◌, ◌∷◌, [], ℕ, Bool, true, List, length, set, IfOk, IfSome, OnOk, IsErrOf};
+ghost use Rattle.std.specs.Prelude.{◌≡◌, ◌≤◌, ◌<◌, ◌+◌, ◌-◌, ◌^◌, ℕ, Bool, true, length, set, IfOk, IfSome, OnOk, IsErrOf};
 ghost use Rattle.disk_defs.specs.Disk.{Rose};
 ghost use Rattle.global_defs.specs.Fields.{IsOrigin};
 ghost use Rattle.global_defs.specs.Evaluation.{eval};
@@ -8,18 +8,16 @@ ghost use Rattle.global_defs.specs.Serial.{serial_at};
 ghost use Rattle.gvn_model.specs.Entries.{origin_value};
 ghost use Rattle.gvn_model.specs.Jobs.{job_value, evaluated_value};
 ghost use Rattle.site_defs.specs.Contents.{Contents};
-ghost use Rattle.site_defs.specs.Texts.{reply_line};
-ghost use Rattle.site_store.specs.Site.{IsReady, HasReign, HasRoomFor};
-ghost use Rattle.repl_section.specs.Replies.{replied_value};
-ghost use Rattle.repl_section.specs.Reigns.{Reigns, stamp_of};
-ghost use Rattle.repl_section.specs.Deciding.{outcome, FitsIn, HasCome, Appends, MayHave, LeavesPick};
+ghost use Rattle.site_store.specs.Site.{IsReady, IsOpen, HasReign, HasRoomFor};
+ghost use Rattle.repl_section.specs.Replies.{named, replied_value};
+ghost use Rattle.repl_section.specs.Reigns.{stamp_of};
+ghost use Rattle.repl_section.specs.Deciding.{outcome, FitsIn, ComesTo, Appends, StandsAt};
 
+use crate::decision::Decision;
 use crate::error::DecideError;
 use crate::fitting::all_fit;
 use crate::reign::Reign;
-use crate::replying::write_reply;
 use gvn_eval::eval_owned;
-use gvn_key::{Bytes, NoMemory};
 use gvn_model::{Answers, Cause, Evaluated, Job, Origin, Reply, Transaction, Updates};
 use repl_disk::Disk;
 use std::alloc::Global;
@@ -50,18 +48,18 @@ impl Reign {
         })
     }
 
-    /// Raises the next serial of a job's updater past the job's, and adds the reply to the job.
-    fn reply(&mut self, origin: Origin, reply: &Reply, text: &mut Bytes) -> Result<(), NoMemory>
+    /// Raises the next serial of a job's updater past the job's, and makes the decision that the job has this reply.
+    fn answer(&mut self, origin: Origin, reply: Reply) -> Decision
         requires { IsOrigin (origin_value origin) }
         ensures serials { self.new.serials ≡ set self.old.serials (origin.updater - 1) (origin.serial + 1) }
         ensures same { self.new ≡ record self.old { serials = self.new.serials } }
-        ensures text { OnOk result (text.new ≡ text.old ++ reply_line (replied_value origin reply.now)) }
+        ensures decision { result ≡ replied_value origin reply }
     {
         self.serials[usize::from(origin.updater - 1)] = u64::from(origin.serial) + 1;
-        write_reply(text, origin, reply)
+        Decision::of(origin, reply)
     }
 
-    /// Decides a job that makes these updates: commits its entry, hardens it, and adds its reply.
+    /// Decides a job that makes these updates: makes them the next entry, which isn't hardened yet.
     fn commit<D: Disk>(
         &mut self,
         alloc: Global,
@@ -69,8 +67,7 @@ impl Reign {
         origin: Origin,
         updates: Updates,
         answers: Answers,
-        text: &mut Bytes,
-    ) -> Result<(), DecideError>
+    ) -> Result<Decision, DecideError>
         requires ready { IsReady (D.disk disk.old) self.old.site }
         requires reign { HasReign self.old.site }
         requires origin { IsOrigin (origin_value origin) }
@@ -81,10 +78,10 @@ impl Reign {
         ensures ready { OnOk result (IsReady (D.disk disk.new) self.new.site) }
         ensures reign { OnOk result (HasReign self.new.site) }
         ensures stamp { self.new.site.stamp ≡ self.old.site.stamp }
-        ensures done { OnOk result ((told : Bool) (c : Contents) → Reigns (D.disk disk.old) told c self.old → HasCome (D.disk disk.new) told c (outcome (stamp_of self.old) self.old.serials c.sequence origin.updater (evaluation.Done updates answers)) self.new text.old text.new) }
-        ensures may_have { (c : Contents) → Reigns (D.disk disk.old) true c self.old → MayHave (D.disk disk.new) c (outcome (stamp_of self.old) self.old.serials c.sequence origin.updater (evaluation.Done updates answers)).sequence }
-        ensures leaves { (c : Contents) → Reigns (D.disk disk.old) true c self.old → LeavesPick (D.disk disk.new) c (outcome (stamp_of self.old) self.old.serials c.sequence origin.updater (evaluation.Done updates answers)).sequence }
-        ensures text { IsErrOf result DecideError.Failed → text.new ≡ text.old }
+        ensures done { IfOk result (λ decision. (told : Bool) (c : Contents) (h : ℕ) → IsOpen (D.disk disk.old) told c h self.old.site → ComesTo (D.disk disk.new) told c h (outcome (stamp_of self.old) self.old.serials c.sequence origin.updater (evaluation.Done updates answers)) self.new decision) }
+        ensures entered { IfOk result (λ decision. IfSome (named decision.reply) (λ number. number ≤ length self.new.site.entries.items)) }
+        ensures grown { OnOk result (length self.old.site.entries.items ≤ length self.new.site.entries.items) }
+        ensures stands { (c : Contents) (h : ℕ) → IsOpen (D.disk disk.old) true c h self.old.site → StandsAt (D.disk disk.new) c h }
         ensures simulated { (D.disk disk.new).simulated ≡ (D.disk disk.old).simulated }
         ensures later { (D.disk disk.old).faults ≤ (D.disk disk.new).faults }
         ensures cause { IsErrOf result DecideError.Failed → Rose (D.disk disk.old).faults (D.disk disk.new).faults }
@@ -93,9 +90,7 @@ impl Reign {
             return Err(DecideError::NoMemory);
         }
         let number = self.enter(alloc, disk, Transaction { origin, updates })?;
-        self.harden(disk)?;
-        self.reply(origin, &Reply::Seq(number, answers), text)?;
-        Ok(())
+        Ok(self.answer(origin, Reply::Seq(number, answers)))
     }
 
     /// Decides a job that was evaluated so on the site's globals.
@@ -105,8 +100,7 @@ impl Reign {
         disk: &mut D,
         origin: Origin,
         evaluated: Evaluated,
-        text: &mut Bytes,
-    ) -> Result<(), DecideError>
+    ) -> Result<Decision, DecideError>
         requires ready { IsReady (D.disk disk.old) self.old.site }
         requires reign { HasReign self.old.site }
         requires origin { IsOrigin (origin_value origin) }
@@ -115,11 +109,11 @@ impl Reign {
         ensures ready { OnOk result (IsReady (D.disk disk.new) self.new.site) }
         ensures reign { OnOk result (HasReign self.new.site) }
         ensures stamp { self.new.site.stamp ≡ self.old.site.stamp }
-        ensures done { OnOk result ((told : Bool) (c : Contents) → Reigns (D.disk disk.old) told c self.old → HasCome (D.disk disk.new) told c (outcome (stamp_of self.old) self.old.serials c.sequence origin.updater (evaluated_value evaluated)) self.new text.old text.new) }
-        ensures appends { IsErrOf result DecideError.Failed → (told : Bool) (c : Contents) → Reigns (D.disk disk.old) told c self.old → Appends c.sequence (outcome (stamp_of self.old) self.old.serials c.sequence origin.updater (evaluated_value evaluated)) }
-        ensures may_have { (c : Contents) → Reigns (D.disk disk.old) true c self.old → MayHave (D.disk disk.new) c (outcome (stamp_of self.old) self.old.serials c.sequence origin.updater (evaluated_value evaluated)).sequence }
-        ensures leaves { (c : Contents) → Reigns (D.disk disk.old) true c self.old → LeavesPick (D.disk disk.new) c (outcome (stamp_of self.old) self.old.serials c.sequence origin.updater (evaluated_value evaluated)).sequence }
-        ensures text { IsErrOf result DecideError.Failed → text.new ≡ text.old }
+        ensures done { IfOk result (λ decision. (told : Bool) (c : Contents) (h : ℕ) → IsOpen (D.disk disk.old) told c h self.old.site → ComesTo (D.disk disk.new) told c h (outcome (stamp_of self.old) self.old.serials c.sequence origin.updater (evaluated_value evaluated)) self.new decision) }
+        ensures entered { IfOk result (λ decision. IfSome (named decision.reply) (λ number. number ≤ length self.new.site.entries.items)) }
+        ensures grown { OnOk result (length self.old.site.entries.items ≤ length self.new.site.entries.items) }
+        ensures appends { IsErrOf result DecideError.Failed → (told : Bool) (c : Contents) (h : ℕ) → IsOpen (D.disk disk.old) told c h self.old.site → Appends c.sequence (outcome (stamp_of self.old) self.old.serials c.sequence origin.updater (evaluated_value evaluated)) }
+        ensures stands { (c : Contents) (h : ℕ) → IsOpen (D.disk disk.old) true c h self.old.site → StandsAt (D.disk disk.new) c h }
         ensures simulated { (D.disk disk.new).simulated ≡ (D.disk disk.old).simulated }
         ensures later { (D.disk disk.old).faults ≤ (D.disk disk.new).faults }
         ensures cause { IsErrOf result DecideError.Failed → Rose (D.disk disk.old).faults (D.disk disk.new).faults }
@@ -132,38 +126,37 @@ impl Reign {
                 } else if LAST_NUMBER <= self.site.entries.len() as u64 {
                     Reply::RolledBack(Cause::SeqLimit)
                 } else {
-                    return self.commit(alloc, disk, origin, updates, answers, text);
+                    return self.commit(alloc, disk, origin, updates, answers);
                 }
             }
         };
-        self.reply(origin, &reply, text)?;
-        Ok(())
+        Ok(self.answer(origin, reply))
     }
 
-    /// Decides an updater's job: evaluates it on the globals, commits its entry and hardens it if it has updates, and adds
-    /// its reply.
+    /// Decides an updater's job: evaluates it on the globals, and makes its updates, if it has some, the site's next entry, which isn't
+    /// hardened yet. A job of more than 256 updates or with a value of more than 1,500 bytes, an updater that isn't from 1 to 64 and a
+    /// serial that is past 2^32 - 1 take more memory than there is.
     ///
     /// # Errors
-    /// `Failed` only where the disk's count rose; an entry may stand or not, and the reign is of no more use. `NoMemory`; the
-    /// reign is of no more use then either.
-    pub(crate) fn decide<D: Disk>(
+    /// `Failed` only where the disk's count rose, and `NoMemory`. The reign is of no more use then; what was hardened stands, and
+    /// nothing else.
+    pub fn decide<D: Disk>(
         &mut self,
         alloc: Global,
         disk: &mut D,
         updater: u8,
         job: Job,
-        text: &mut Bytes,
-    ) -> Result<(), DecideError>
+    ) -> Result<Decision, DecideError>
         requires ready { IsReady (D.disk disk.old) self.old.site }
         requires reign { HasReign self.old.site }
         ensures ready { OnOk result (IsReady (D.disk disk.new) self.new.site) }
         ensures reign { OnOk result (HasReign self.new.site) }
         ensures stamp { self.new.site.stamp ≡ self.old.site.stamp }
-        ensures done { OnOk result ((told : Bool) (c : Contents) → Reigns (D.disk disk.old) told c self.old → HasCome (D.disk disk.new) told c (outcome (stamp_of self.old) self.old.serials c.sequence updater (eval (job_value job) self.old.site.globals)) self.new text.old text.new) }
-        ensures appends { IsErrOf result DecideError.Failed → (told : Bool) (c : Contents) → Reigns (D.disk disk.old) told c self.old → Appends c.sequence (outcome (stamp_of self.old) self.old.serials c.sequence updater (eval (job_value job) self.old.site.globals)) }
-        ensures may_have { (c : Contents) → Reigns (D.disk disk.old) true c self.old → MayHave (D.disk disk.new) c (outcome (stamp_of self.old) self.old.serials c.sequence updater (eval (job_value job) self.old.site.globals)).sequence }
-        ensures leaves { (c : Contents) → Reigns (D.disk disk.old) true c self.old → LeavesPick (D.disk disk.new) c (outcome (stamp_of self.old) self.old.serials c.sequence updater (eval (job_value job) self.old.site.globals)).sequence }
-        ensures text { IsErrOf result DecideError.Failed → text.new ≡ text.old }
+        ensures done { IfOk result (λ decision. (told : Bool) (c : Contents) (h : ℕ) → IsOpen (D.disk disk.old) told c h self.old.site → ComesTo (D.disk disk.new) told c h (outcome (stamp_of self.old) self.old.serials c.sequence updater (eval (job_value job) self.old.site.globals)) self.new decision) }
+        ensures entered { IfOk result (λ decision. IfSome (named decision.reply) (λ number. number ≤ length self.new.site.entries.items)) }
+        ensures grown { OnOk result (length self.old.site.entries.items ≤ length self.new.site.entries.items) }
+        ensures appends { IsErrOf result DecideError.Failed → (told : Bool) (c : Contents) (h : ℕ) → IsOpen (D.disk disk.old) told c h self.old.site → Appends c.sequence (outcome (stamp_of self.old) self.old.serials c.sequence updater (eval (job_value job) self.old.site.globals)) }
+        ensures stands { (c : Contents) (h : ℕ) → IsOpen (D.disk disk.old) true c h self.old.site → StandsAt (D.disk disk.new) c h }
         ensures simulated { (D.disk disk.new).simulated ≡ (D.disk disk.old).simulated }
         ensures later { (D.disk disk.old).faults ≤ (D.disk disk.new).faults }
         ensures cause { IsErrOf result DecideError.Failed → Rose (D.disk disk.old).faults (D.disk disk.new).faults }
@@ -172,6 +165,6 @@ impl Reign {
             return Err(DecideError::NoMemory);
         };
         let evaluated = eval_owned(alloc, job, origin, &self.site.globals)?;
-        self.conclude(alloc, disk, origin, evaluated, text)
+        self.conclude(alloc, disk, origin, evaluated)
     }
 }

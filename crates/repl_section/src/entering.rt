@@ -1,14 +1,15 @@
-//! Giving the site an entry.
+//! Giving the site entries.
 ghost use Rattle.std.specs.Prelude.{◌≡◌, ◌≤◌, ◌<◌, ◌+◌, ◌^◌, ℕ, Bool, true, length, IfOk, OnOk, OnErr, IsErrOf, IsSome};
 ghost use Rattle.disk_defs.specs.Disk.{Files, Image, Rose};
 ghost use Rattle.global_defs.specs.Fields.{IsTransaction};
 ghost use Rattle.gvn_model.specs.Entries.{transaction_value};
-ghost use Rattle.site_defs.specs.Contents.{Contents, Standing, NO_LEFTOVER};
+ghost use Rattle.site_defs.specs.Contents.{Contents, Standing};
 ghost use Rattle.site_defs.specs.Fronts.{IsFrontOf};
-ghost use Rattle.site_defs.specs.Stands.{IsSite, HasLeft};
+ghost use Rattle.site_defs.specs.Stands.{IsSite};
 ghost use Rattle.site_defs.specs.Behind.{IsFrontLeft, IsSiteWith};
 ghost use Rattle.site_store.specs.Site.{IsReady, IsOpen, HasReign, HasRoomFor, with_entry};
 ghost use Rattle.repl_section.specs.Reigns.{Reigns};
+ghost use Rattle.repl_section.specs.Deciding.{StandsAt};
 
 use crate::error::DecideError;
 use crate::reign::Reign;
@@ -32,13 +33,12 @@ impl Reign {
         requires nodes { HasRoomFor self.old.site.globals t.updates }
         ensures ready { OnOk result (IsReady (D.disk disk.new) self.new.site) }
         ensures reign { OnOk result (HasReign self.new.site) }
-        ensures done { OnOk result ((told : Bool) (c : Contents) → Reigns (D.disk disk.old) told c self.old → IsOpen (D.disk disk.new) told (with_entry self.old.site.stamp (transaction_value t) c) (length c.sequence) self.new.site) }
+        ensures done { OnOk result ((told : Bool) (c : Contents) (h : ℕ) → IsOpen (D.disk disk.old) told c h self.old.site → IsOpen (D.disk disk.new) told (with_entry self.old.site.stamp (transaction_value t) c) h self.new.site) }
         ensures number { IfOk result (λ n. n ≡ length self.old.site.entries.items + 1) }
+        ensures grown { OnOk result (length self.new.site.entries.items ≡ length self.old.site.entries.items + 1) }
         ensures stamp { self.new.site.stamp ≡ self.old.site.stamp }
         ensures serials { self.new.serials ≡ self.old.serials }
-        ensures still_told { IsSome (D.disk disk.old).content → IsSome (D.disk disk.new).content }
-        ensures images { (c : Contents) → Reigns (D.disk disk.old) true c self.old → (f : Files) → Image (D.disk disk.new) f → IsSite f c }
-        ensures bare { (c : Contents) → Reigns (D.disk disk.old) true c self.old → (f : Files) → Image (D.disk disk.new) f → HasLeft f c NO_LEFTOVER }
+        ensures stands { (c : Contents) (h : ℕ) → IsOpen (D.disk disk.old) true c h self.old.site → StandsAt (D.disk disk.new) c h }
         ensures simulated { (D.disk disk.new).simulated ≡ (D.disk disk.old).simulated }
         ensures later { (D.disk disk.old).faults ≤ (D.disk disk.new).faults }
         ensures cause { IsErrOf result DecideError.Failed → Rose (D.disk disk.old).faults (D.disk disk.new).faults }
@@ -51,13 +51,19 @@ impl Reign {
         }
     }
 
-    /// Puts the entry that was made on the disk for good.
-    pub(crate) fn harden<D: Disk>(&mut self, disk: &mut D) -> Result<(), DecideError>
+    /// Hardens all that was entered: puts it on the disk for good. It takes no memory.
+    ///
+    /// # Errors
+    /// `Failed` only where the disk's count rose. Of the entries that weren't hardened a crash may then find the first few. The reign is
+    /// of no more use then.
+    pub fn harden<D: Disk>(&mut self, disk: &mut D) -> Result<(), DecideError>
         requires ready { IsReady (D.disk disk.old) self.old.site }
         requires reign { HasReign self.old.site }
         ensures ready { OnOk result (IsReady (D.disk disk.new) self.new.site) }
         ensures reign { HasReign self.new.site }
         ensures done { OnOk result ((told : Bool) (c : Contents) (h : ℕ) → IsOpen (D.disk disk.old) told c h self.old.site → Reigns (D.disk disk.new) told c self.new) }
+        ensures all { OnOk result (self.new.site.hardened ≡ length self.new.site.entries.items) }
+        ensures entries { self.new.site.entries.items ≡ self.old.site.entries.items }
         ensures stamp { self.new.site.stamp ≡ self.old.site.stamp }
         ensures serials { self.new.serials ≡ self.old.serials }
         ensures still_told { IsSome (D.disk disk.old).content → IsSome (D.disk disk.new).content }

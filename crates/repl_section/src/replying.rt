@@ -3,7 +3,9 @@ ghost use Rattle.std.specs.Prelude.{◌≡◌, ◌++◌, OnOk};
 ghost use Rattle.gvn_model.specs.Jobs.{cause_value};
 ghost use Rattle.site_defs.specs.Texts.{rollback_text, answers_text, reply_text, reply_line};
 ghost use Rattle.repl_section.specs.Replies.{reply_value, replied_value};
+ghost use Rattle.repl_section.specs.Lines.{GaveLines, no_line, lines_further};
 
+use crate::sink::ReplySink;
 use gvn_key::{Bytes, NoMemory};
 use gvn_model::{Answers, Cause, Origin, Reply};
 
@@ -52,7 +54,7 @@ fn write_outcome(text: &mut Bytes, reply: &Reply) -> Result<(), NoMemory>
 }
 
 /// Adds the line of the reply to a job of this origin.
-pub fn write_reply(text: &mut Bytes, origin: Origin, reply: &Reply) -> Result<(), NoMemory>
+fn write_reply(text: &mut Bytes, origin: Origin, reply: &Reply) -> Result<(), NoMemory>
     ensures { OnOk result (text.new ≡ text.old ++ reply_line (replied_value origin reply.now)) }
 {
     text.push_decimal(u64::from(origin.updater))?;
@@ -60,4 +62,17 @@ pub fn write_reply(text: &mut Bytes, origin: Origin, reply: &Reply) -> Result<()
     text.push_decimal(u64::from(origin.serial))?;
     write_outcome(text, reply)?;
     text.push(b'\n')
+}
+
+/// A text takes each reply as a line at its end.
+impl ReplySink for Bytes {
+    ghost gave = { GaveLines };
+
+    fn give(&mut self, origin: Origin, reply: Reply) -> Result<(), NoMemory> {
+        write_reply(self, origin, &reply)
+    }
+
+    ghost none = { no_line };
+
+    ghost further = { lines_further };
 }

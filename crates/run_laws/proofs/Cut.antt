@@ -1,5 +1,5 @@
 -- What a command that was cut off leaves behind a sequence.
-use Rattle.std.proofs.Common.{◌≡◌, ℕ, List, [], ◌∷◌, ◌++◌, Option, Some, None, slice_get, refl, sym, ◌∙◌, ap, subst, inl, inr}
+use Rattle.std.proofs.Common.{◌≡◌, ℕ, List, Option, Some, None, refl, ◌∙◌, ap, subst, inl, inr}
 use Rattle.std.specs.Prelude.{◌⊎◌}
 use Rattle.global_defs.specs.Jobs.{Job}
 use Rattle.command_defs.specs.Commands.{Name, Run, StartPrimary}
@@ -12,9 +12,9 @@ use Rattle.world_defs.specs.Meaning.{Meaning, Acts, apart, refusing, at_found, t
 use Rattle.world_defs.specs.Step.{LeftByRow, LeavesOld, IsCut, CutOff}
 use Rattle.world_defs.specs.rows.Run.{RunMayStand, RunMayStandOn, run}
 use Rattle.world_defs.specs.rows.Start.{start}
-use Rattle.run_laws.specs.Entries.{IsPlaceOf}
+use Rattle.world_laws.specs.Entries.{IsPlaceOf}
 use Rattle.run_laws.specs.Leftovers.{IsWrittenDown, IsLeftWithin, LeavesBehind}
-use Rattle.run_laws.proofs.Alongs.{at_there}
+use Rattle.world_laws.proofs.Alongs.{at_there}
 
 -- a command on a site that was cut off leaves its place by its row
 left_there : (row : Name → Place → Row) (w m : World) (name : Name) (p q : Place) → IsPlaceOf name w m p q → IsCut (on_site w name (λ i x. Acts i (row_at row x) apart)) w m → LeftByRow (row_at row p) p q

@@ -8,7 +8,7 @@ use Rattle.world_defs.specs.Answers.{Answer, NoSite}
 use Rattle.world_defs.specs.Row.{Row, Here}
 use Rattle.world_defs.specs.Meaning.{Meaning, Acts, apart, refusing, at_found, there, on_site, row_at}
 use Rattle.world_defs.specs.Step.{One, Goes}
-use Rattle.run_laws.proofs.Alongs.{along_each, at_there, same_place}
+use Rattle.world_laws.proofs.Alongs.{along_each, at_there, same_place}
 
 same_answer : (a b : Answer) → a ∷ [] ≡ b ∷ [] → a ≡ b
 same_answer a b e = cc

@@ -18,9 +18,9 @@ use Rattle.world_defs.specs.rows.Crash.{Crashes, standing_now, crash}
 use Rattle.world_defs.specs.rows.Run as rows
 use Rattle.world_defs.specs.rows.Run.{RunsTo, StandWithin, one_further, turn_on, run}
 use Rattle.world_defs.specs.rows.Start.{StartsPrimary, start}
-use Rattle.run_laws.specs.Entries.{KeepsEntries, turn_there, IsPlaceOf}
+use Rattle.world_laws.specs.Entries.{KeepsEntries, turn_there, IsPlaceOf}
 use Rattle.run_laws.specs.Leftovers.{WritesDown, WritesOneOf, turn_further, WritesWhatWasLeft}
-use Rattle.run_laws.proofs.Alongs.{along_finds}
+use Rattle.world_laws.proofs.Alongs.{along_finds}
 use Rattle.run_laws.proofs.Owns.{NamedAlike, owns, makes_here, found_again}
 use Rattle.run_laws.proofs.Stays.{keeps-step}
 

@@ -10,7 +10,7 @@ use Rattle.site_defs.specs.Opening.{opened, with_reign}
 use Rattle.world_defs.specs.World.{Place, IfKnown, StandAfter, Settled, name_on}
 use Rattle.world_defs.specs.Answers.{Section}
 use Rattle.world_defs.specs.rows.Run.{one_further, turn_on}
-use Rattle.run_laws.specs.Entries.{turn_there}
+use Rattle.world_laws.specs.Entries.{turn_there}
 
 -- The site was opened from these contents with that text behind them, and its reign began.
 pub record WritesDown (name : Name) (s : Standing) (q : Place) : Type 0 where

@@ -7,7 +7,7 @@ ghost use Rattle.world_defs.specs.World.{Place, World, name_on};
 ghost use Rattle.world_defs.specs.Answers.{Answer, Section, Ran};
 ghost use Rattle.world_defs.specs.Step.{Step};
 ghost use Rattle.world_defs.specs.Runs.{Told, Runs};
-ghost use Rattle.run_laws.specs.Entries.{NoEntryIsLost, HasReplied, IsPlaceOf, turn_there, printed_by};
+ghost use Rattle.world_laws.specs.Entries.{NoEntryIsLost, HasReplied, IsPlaceOf, turn_there, printed_by};
 
 /// Whatever commands mean, an entry that a site's disk has in every outcome stays at its number in every outcome; and each entry whose
 /// number a section printed is one.

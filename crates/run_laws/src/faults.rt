@@ -7,7 +7,7 @@ ghost use Rattle.world_defs.specs.World.{World};
 ghost use Rattle.world_defs.specs.Answers.{Answer};
 ghost use Rattle.world_defs.specs.Step.{Step, CutOff};
 ghost use Rattle.world_defs.specs.Runs.{Told, Runs};
-ghost use Rattle.run_laws.specs.Faults.{NoCountFell, NoCountRose, TellsNoFault, NoFaultIsTold};
+ghost use Rattle.world_laws.specs.Faults.{NoCountFell, NoCountRose, TellsNoFault, NoFaultIsTold};
 
 /// Whatever commands mean, no disk's count of faults falls, and where no disk's count rose no answer tells of a fault.
 pub fn faults_are_told_where_counts_rose()

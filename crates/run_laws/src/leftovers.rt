@@ -6,7 +6,7 @@ ghost use Rattle.command_defs.specs.Commands.{Name, Crash, Run, StartPrimary};
 ghost use Rattle.world_defs.specs.World.{Place, World};
 ghost use Rattle.world_defs.specs.Answers.{Section, Done, Ran};
 ghost use Rattle.world_defs.specs.Step.{Step, CutOff};
-ghost use Rattle.run_laws.specs.Entries.{IsPlaceOf};
+ghost use Rattle.world_laws.specs.Entries.{IsPlaceOf};
 ghost use Rattle.run_laws.specs.Leftovers.{WritesOneOf, WritesWhatWasLeft, IsWrittenDown, IsLeftWithin, LeavesBehind};
 
 /// A START behind a crash writes down exactly what lay behind the sequence in the image that the crash took.

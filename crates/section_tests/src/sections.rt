@@ -77,7 +77,7 @@ fn jobs_see_what_stands(rt: HostRuntime) -> Result<(), Fail> {
     jobs.push(queue(alloc, lines)?)?;
     let mut text = Bytes::new(alloc);
     let mut reign = begin(alloc, &mut disk)?;
-    reign.run(alloc, &mut disk, jobs, &[1; 12], &mut text)?;
+    reign.run(alloc, &mut disk, &mut jobs, &[1; 12], &mut text)?;
     let told =
         b"1.1 SEQ 1\n1.2 SEQ 2\n1.3 ROLLEDBACK NOTNUM\n1.4 SEQ 3 -5\n1.5 ROLLEDBACK CHECK\n1.6 SEQ 4\n1.7 READ 0\n1.8 READ 1\n1.9 READ \"-5\"\n1.10 READ \"\"\n";
     assert_eq!(rt; text.as_slice(), told.as_slice());
@@ -109,7 +109,7 @@ fn run_section<D: Disk>(
     ensures ready { OnOk result (IsReady (D.disk disk.new) reign.new.site) }
     ensures begun { OnOk result (HasReign reign.new.site) }
 {
-    reign.run(alloc, disk, section(alloc)?, order, text)?;
+    reign.run(alloc, disk, &mut section(alloc)?, order, text)?;
     Ok(())
 }
 
@@ -135,6 +135,38 @@ fn entries_globals_and_serials_go_on(rt: HostRuntime) -> Result<(), Fail> {
     Ok(())
 }
 
+/// Decides two jobs, hardens both entries at once, and releases both replies. Answers how many entries were hardened before that.
+fn decide_two<D: Disk>(
+    alloc: Global,
+    disk: &mut D,
+    reign: &mut Reign,
+    text: &mut Bytes,
+) -> Result<u64, Fail>
+    requires ready { IsReady (D.disk disk.old) reign.old.site }
+    requires begun { HasReign reign.old.site }
+{
+    let first = reign.decide(alloc, disk, 1, job(alloc, "SET ^X=1")?)?;
+    let second = reign.decide(alloc, disk, 2, job(alloc, "INCR ^X 1")?)?;
+    let before = reign.site.hardened_length();
+    reign.harden(disk)?;
+    reign.release(first, text)?;
+    reign.release(second, text)?;
+    Ok(before)
+}
+
+/// Replies of two jobs may wait for one hardening.
+#[test]
+fn two_entries_are_hardened_at_once(rt: HostRuntime) -> Result<(), Fail> {
+    let alloc = rt.alloc();
+    let mut disk = made(alloc)?;
+    let mut text = Bytes::new(alloc);
+    let mut reign = begin(alloc, &mut disk)?;
+    let before = decide_two(alloc, &mut disk, &mut reign, &mut text)?;
+    assert_eq!(rt; before, 0);
+    assert_eq!(rt; text.as_slice(), b"1.1 SEQ 1\n2.1 SEQ 2 2\n".as_slice());
+    Ok(())
+}
+
 /// How many of a section's jobs are answered before the calls of the disk fail.
 fn run_some(alloc: Global, disk: &mut MemDisk, calls: u64) -> Result<u64, Fail> {
     disk.fuse(calls);
@@ -142,7 +174,7 @@ fn run_some(alloc: Global, disk: &mut MemDisk, calls: u64) -> Result<u64, Fail> 
         return Ok(0);
     };
     let mut text = Bytes::new(alloc);
-    match reign.run(alloc, disk, section(alloc)?, &[1, 2, 1, 1], &mut text) {
+    match reign.run(alloc, disk, &mut section(alloc)?, &[1, 2, 1, 1], &mut text) {
         Ok(()) => Ok(4),
         Err(RunError::Failed { undecided }) => Ok(4 - undecided.min(4)),
         Err(RunError::NoMemory) => Err(Fail::from("no memory")),

@@ -45,6 +45,10 @@ module _ (o : Option Files) (rs : List InstanceRecord) (reads : IfSome o (λ fil
   limit_read high = weaker_told o (λ files. IsInstance (files INSTANCE) rs) (λ files. (qs : List InstanceRecord) → IsInstance (files INSTANCE) qs → 65534 ≤ generation qs) reads
       (λ files is qs own. subst (λ (k : List InstanceRecord). 65534 ≤ generation k) (instance_one (files INSTANCE) rs qs is own) high)
 
+  pub limit_told : 65534 ≤ generation rs → IfSome o (λ files. (qs : List InstanceRecord) × IsInstance (files INSTANCE) qs × (65534 ≤ generation qs))
+  limit_told high = weaker_told o (λ files. IsInstance (files INSTANCE) rs) (λ files. (qs : List InstanceRecord) × IsInstance (files INSTANCE) qs × (65534 ≤ generation qs)) reads
+      (λ files is. (rs, is, high))
+
   pub no_directory : IsDirectory rs None → IfSome o IsNoSite
   no_directory none = weaker_told o (λ files. IsInstance (files INSTANCE) rs) IsNoSite reads
       (λ files is qs last journal may read.

@@ -301,6 +301,7 @@ pub fn read_site<D: Disk>(alloc: Global, disk: &mut D) -> Result<ReadSite, Files
     ensures read { IfOk result (λ read. IfSome (D.disk disk.old).content (WasRead (D.disk disk.new) read.log.records (last_of read.last_began.items) (journal_of (map (λ j. j.items) read.journals.items)))) }
     ensures forms { IfOk result (λ read. AreAllRead (map (λ j. j.items) read.journals.items)) }
     ensures limit { IsErrOf result FilesError.GenLimit → IfSome (D.disk disk.old).content (λ files. (rs : List defs.InstanceRecord) → IsInstance (files INSTANCE) rs → 65534 ≤ generation rs) }
+    ensures limit_told { IsErrOf result FilesError.GenLimit → IfSome (D.disk disk.old).content (λ files. (rs : List defs.InstanceRecord) × IsInstance (files INSTANCE) rs × (65534 ≤ generation rs)) }
     ensures place { (file offset : ℕ) → IsErrOf result (FilesError.NotAFile file offset) → IfSome (D.disk disk.old).content (λ files. IsOutsideSite files file offset) }
     ensures outside { (file offset : ℕ) → IsErrOf result (FilesError.NotAFile file offset) → IfSome (D.disk disk.old).content (λ files. (rs : List defs.InstanceRecord) (last : ℕ → ℕ) (journal : ℕ → List Placed) → MayBeOpened rs last → AreRead rs last journal files → ⊥) }
     // where no generation is left, the records alone may be at fault

@@ -47,6 +47,35 @@ stand_earlier (Some os) None z A h k = absurd h
 stand_earlier (Some os) (Some ms) None A h k = k
 stand_earlier (Some os) (Some ms) (Some ns) A h k = λ o a. let m = k o a in let s = h m.0 m.1 in (s.0, s.1, subst (λ (x : Standing). A x o) s.2 m.2)
 
+-- What is shown of a disk is what it tells.
+
+pub as_told : (o : Option Files) → IfSome o (λ f. o ≡ Some f)
+as_told None = tt
+as_told (Some f) = refl
+
+pub shown_same : (x o n : Option Files) → n ≡ o → IfSome x (λ f. o ≡ Some f) → IfSome x (λ f. n ≡ Some f)
+shown_same None o n e h = tt
+shown_same (Some f) o n e h = e ∙ h
+
+-- so what holds of it holds of what is shown
+pub by_shown : (x o : Option Files) (P : Files → Type 0) → IfSome x (λ f. o ≡ Some f) → IfSome o P → IfSome x P
+by_shown None o P e h = tt
+by_shown (Some f) o P e h = subst (λ (y : Option Files). IfSome y P) e h
+
+pub if_some : (o : Option Files) (P Q : Files → Type 0) → ((f : Files) → P f → Q f) → IfSome o P → IfSome o Q
+if_some None P Q f h = tt
+if_some (Some x) P Q f h = f x h
+
+-- a call that writes nothing where the disk tells its files shows the same
+pub shown_unwritten : (x o n : Option Files) → IfSome o (λ _. n ≡ o) → IfSome x (λ f. o ≡ Some f) → IfSome x (λ f. n ≡ Some f)
+shown_unwritten None o n h e = tt
+shown_unwritten (Some f) None n h e = absurd (cc e)
+shown_unwritten (Some f) (Some g) n h e = h ∙ e
+
+pub any_shown : (x : Option Files) → IfSome x (λ f. Unit {0})
+any_shown None = tt
+any_shown (Some f) = tt
+
 -- as a command that was cut off leaves it
 
 pub left_old : (so : Standing → Standing → Type 0) (x y : Option (List Standing)) → StandAsBefore x y → StandAfter (λ s o. (o ≡ s) ⊎ so s o) x y
@@ -56,30 +85,30 @@ pub left_new : (so : Standing → Standing → Type 0) (x y : Option (List Stand
 left_new so x y h = stand_more x y so (λ s o. (o ≡ s) ⊎ so s o) (λ s o k. inr k) h
 
 pub kept_same : (p : Place) → Kept p p
-kept_same p = record { site = refl; now = refl; left = refl; known = record { told = refl; outcomes = λ o h. h; standings = λ t. stand_same p.standings }; faults = omega arith; simulated = refl }
+kept_same p = record { site = refl; now = refl; left = refl; known = record { told = refl; outcomes = λ o h. h; standings = λ t. stand_same p.standings }; shown = refl; faults = omega arith; simulated = refl }
 
 -- what a row comes to
 
-pub comes_done : {row : Row} {S : Place → Type 0} {before now : List ℕ} (q : Place) → refusal_in row ≡ None → row.done q → S q → now ≡ before ++ row.says q → Comes row S before now true
-comes_done {row} q e d s t = record { answer = Done; becomes = q; text = row.says q; here = (e, d, refl); there = s; written = t; done = refl }
+pub comes_done : {row : Row} {S : Place → Type 0} {before now : List ℕ} (q : Place) → refusal_in row ≡ None → row.done q → row.by_bytes Done → S q → now ≡ before ++ row.says q → Comes row S before now true
+comes_done {row} q e d b s t = record { answer = Done; becomes = q; text = row.says q; here = (e, d, refl, b); there = s; written = t; done = refl }
 
-pub comes_refused : {row : Row} {S : Place → Type 0} {before now : List ℕ} (r : Refusal) (q : Place) → refusal_in row ≡ Some r → row.refused r q → S q → now ≡ before ++ refusal_line r → Comes row S before now false
-comes_refused r q e d s t = record { answer = Refused r; becomes = q; text = refusal_line r; here = (inl (e, d), refl); there = s; written = t; done = refl }
+pub comes_refused : {row : Row} {S : Place → Type 0} {before now : List ℕ} (r : Refusal) (q : Place) → refusal_in row ≡ Some r → row.refused r q → row.by_bytes (Refused r) → S q → now ≡ before ++ refusal_line r → Comes row S before now false
+comes_refused r q e d b s t = record { answer = Refused r; becomes = q; text = refusal_line r; here = (inl (e, d), refl, b); there = s; written = t; done = refl }
 
-pub comes_may_refuse : {row : Row} {S : Place → Type 0} {before now : List ℕ} (r : Refusal) (q : Place) → row.early ≡ None → row.may_refuse r q → S q → now ≡ before ++ refusal_line r → Comes row S before now false
-comes_may_refuse r q e d s t = record { answer = Refused r; becomes = q; text = refusal_line r; here = (inr (e, d), refl); there = s; written = t; done = refl }
+pub comes_may_refuse : {row : Row} {S : Place → Type 0} {before now : List ℕ} (r : Refusal) (q : Place) → row.early ≡ None → row.may_refuse r q → row.by_bytes (Refused r) → S q → now ≡ before ++ refusal_line r → Comes row S before now false
+comes_may_refuse r q e d b s t = record { answer = Refused r; becomes = q; text = refusal_line r; here = (inr (e, d), refl, b); there = s; written = t; done = refl }
 
 pub comes_fault : {row : Row} {S : Place → Type 0} {before now : List ℕ} (k : ℕ) (q : Place) → row.early ≡ None → row.fault k q → S q → now ≡ before ++ fault_line row.word k → Comes row S before now false
 comes_fault {row} k q e d s t = record { answer = DiskFault k; becomes = q; text = fault_line row.word k; here = (e, d, refl); there = s; written = t; done = refl }
 
-pub comes_damaged : {row : Row} {S : Place → Type 0} {before now : List ℕ} (file offset : ℕ) (q : Place) → row.early ≡ None → row.damage file offset q → S q → now ≡ before ++ damage_line row.word file offset → Comes row S before now false
-comes_damaged {row} file offset q e d s t = record { answer = NotAFile file offset; becomes = q; text = damage_line row.word file offset; here = (e, d, refl); there = s; written = t; done = refl }
+pub comes_damaged : {row : Row} {S : Place → Type 0} {before now : List ℕ} (file offset : ℕ) (q : Place) → row.early ≡ None → row.damage file offset q → row.by_bytes (NotAFile file offset) → S q → now ≡ before ++ damage_line row.word file offset → Comes row S before now false
+comes_damaged {row} file offset q e d b s t = record { answer = NotAFile file offset; becomes = q; text = damage_line row.word file offset; here = (e, d, refl, b); there = s; written = t; done = refl }
 
 pub comes_ran : {row : Row} {S : Place → Type 0} {before now : List ℕ} (s : Section) (q : Place) → refusal_in row ≡ None → row.ran s q → S q → now ≡ before ++ row.tells s → Comes row S before now false
 comes_ran {row} s q e d at t = record { answer = Ran s; becomes = q; text = row.tells s; here = (e, d, refl); there = at; written = t; done = refl }
 
-pub comes_typed : {row : Row} {S : Place → Type 0} {before now : List ℕ} (bytes : List ℕ) (q : Place) → refusal_in row ≡ None → row.typed bytes q → S q → now ≡ before ++ bytes → Comes row S before now false
-comes_typed bytes q e d s t = record { answer = Typed bytes; becomes = q; text = bytes; here = (e, d, refl); there = s; written = t; done = refl }
+pub comes_typed : {row : Row} {S : Place → Type 0} {before now : List ℕ} (bytes : List ℕ) (q : Place) → refusal_in row ≡ None → row.typed bytes q → row.by_bytes (Typed bytes) → S q → now ≡ before ++ bytes → Comes row S before now false
+comes_typed bytes q e d b s t = record { answer = Typed bytes; becomes = q; text = bytes; here = (e, d, refl, b); there = s; written = t; done = refl }
 
 -- the same of places that are tied otherwise
 pub comes_so : {row : Row} {S T : Place → Type 0} {before now : List ℕ} {ended : Bool} → ((q : Place) → S q → T q) → Comes row S before now ended → Comes row T before now ended
@@ -100,8 +129,8 @@ not_early name a e = rw e refl
 
 -- a refusal that names and states decide, and that changes nothing
 pub refuses : (row : Place → Row) (v : View) (s : Site) (cause : Cause) (before now : List ℕ) → ((p : Place) → IsAt v s p → (row p).early ≡ refused_with s.name (Some cause)) → ((p : Place) → (row p).refused (record { site = s.name; cause = cause }) p)
-    → now ≡ before ++ line s.name (cause_text cause) → ExecutesAt row v s v s before now false
-refuses row v s cause before now e same t p h = let r : Refusal = record { site = s.name; cause = cause } in comes_refused r p (refused_early (row p) r (e p h)) (same p) h t
+    → ((p : Place) → (row p).by_bytes (Refused (record { site = s.name; cause = cause }))) → now ≡ before ++ line s.name (cause_text cause) → ExecutesAt row v s v s before now false
+refuses row v s cause before now e same by t p h = let r : Refusal = record { site = s.name; cause = cause } in comes_refused r p (refused_early (row p) r (e p h)) (same p) (by p) h t
 
 -- What a call answered that refuses, or ends a command otherwise.
 
@@ -120,9 +149,9 @@ on_done (Err e) P Q h f = h
 -- a refusal that names and states decide, by the code's cause
 pub refuses_by : {E : Type 0} (row : Place → Row) (v : View) (s : Site) (cause : code.Cause) (before now name : List ℕ) (r : Result Bool E)
     → ((p : Place) → IsAt v s p → (row p).early ≡ refused_with s.name (Some (cause_value cause))) → ((p : Place) → (row p).refused (record { site = s.name; cause = cause_value cause }) p)
-    → name ≡ s.name → IfOk r (λ done. (done ≡ false) × (now ≡ before ++ line name (cause_text (cause_value cause)))) → IfOk r (λ done. ExecutesAt row v s v s before now done)
-refuses_by row v s cause before now name r e same n h =
-    on_not_done r _ _ h (λ t. refuses row v s (cause_value cause) before now e same (t ∙ ap (λ (x : List ℕ). before ++ line x (cause_text (cause_value cause))) n))
+    → ((p : Place) → (row p).by_bytes (Refused (record { site = s.name; cause = cause_value cause }))) → name ≡ s.name → IfOk r (λ done. (done ≡ false) × (now ≡ before ++ line name (cause_text (cause_value cause)))) → IfOk r (λ done. ExecutesAt row v s v s before now done)
+refuses_by row v s cause before now name r e same by n h =
+    on_not_done r _ _ h (λ t. refuses row v s (cause_value cause) before now e same by (t ∙ ap (λ (x : List ℕ). before ++ line x (cause_text (cause_value cause))) n))
 
 -- what the code's test finds the definitions' test finds
 pub why_is : (why : Option code.Cause) (cause : code.Cause) (test : Option Cause) → option_map cause_value why ≡ test → why ≡ Some cause → test ≡ Some (cause_value cause)
@@ -294,7 +323,7 @@ pub record ReadPlace (w : View) (p : Place) (site : Option world.Site) (outcomes
   pub left : Leftover
   pub among : p.told ≡ true → Among outcomes now
   pub behind : p.told ≡ true → IsBehind now left
-  pub matches : Matches w (record { site = site; told = p.told; now = now; left = left; outcomes = outcomes; standings = standings; faults = w.faults; simulated = p.simulated })
+  pub matches : Matches w (record { site = site; told = p.told; now = now; left = left; outcomes = outcomes; standings = standings; shown = w.content; faults = w.faults; simulated = p.simulated })
 
 pub place_of_images : (leftovers : Leftovers) (w : View) (p : Place) (site : Option world.Site) (outcomes : List Contents) (standings : Option (List Standing)) → IsLawful w → w.simulated ≡ p.simulated → (p.told ≡ true → IsSome w.content)
     → (p.told ≡ true → (c : Files) → Image w c → (o : Contents) × Among outcomes o × Stands c o) → (p.told ≡ true → ImagesStand w standings) → ReadPlace w p site outcomes standings
@@ -308,24 +337,25 @@ place_of_images leftovers w p site outcomes standings law same told images stand
         left = left.0;
         among = λ _. o.1;
         behind = λ _. leftovers.behind r.0 o.0 left.0 left.1;
-        matches = record { told = λ _. subst (λ (x : Option Files). IsSomeAnd x (λ files. Reads files o.0 left.0)) (sym r.1) left.1; images = images; standings = stand; faults = refl; simulated = same };
+        matches = record { told = λ _. subst (λ (x : Option Files). IsSomeAnd x (λ files. Reads files o.0 left.0)) (sym r.1) left.1; images = images; standings = stand; shown = as_told w.content; faults = refl; simulated = same };
       }
   | inr not ↦ record {
     now = p.now;
     left = p.left;
     among = λ sure. absurd (false≢true (sym not ∙ sure));
     behind = λ sure. absurd (false≢true (sym not ∙ sure));
-    matches = record { told = λ sure. absurd (false≢true (sym not ∙ sure)); images = images; standings = stand; faults = refl; simulated = same };
+    matches = record { told = λ sure. absurd (false≢true (sym not ∙ sure)); images = images; standings = stand; shown = as_told w.content; faults = refl; simulated = same };
   }
 ]
 
 -- a place with one outcome, for which the disk and each image stand, with nothing behind it
 pub place_of_one : (w : View) (p : Place) (site : Option world.Site) (o : Contents) → w.simulated ≡ p.simulated → (p.told ≡ true → IsSomeAnd w.content (λ files. Reads files o NO_LEFTOVER))
-    → (p.told ≡ true → (c : Files) → Image w c → StandsSo c (bare o)) → Matches w (record { site = site; told = p.told; now = o; left = NO_LEFTOVER; outcomes = o ∷ []; standings = Some (bare o ∷ []); faults = w.faults; simulated = p.simulated })
+    → (p.told ≡ true → (c : Files) → Image w c → StandsSo c (bare o)) → Matches w (record { site = site; told = p.told; now = o; left = NO_LEFTOVER; outcomes = o ∷ []; standings = Some (bare o ∷ []); shown = w.content; faults = w.faults; simulated = p.simulated })
 place_of_one w p site o same reads images = record {
   told = reads;
   images = λ sure c i. (o, inl refl, so_stands c (bare o) (images sure c i));
   standings = λ sure c i. (bare o, inl refl, images sure c i);
+  shown = as_told w.content;
   faults = refl;
   simulated = same;
 }

@@ -4,26 +4,29 @@ use Rattle.std.specs.Prelude.{Option, Result, option_map, slice_get, codes, is_s
 use Rattle.std.proofs.lemmas.Bool.{false≢true, and_parts, lt-ltb}
 use Rattle.std.proofs.lemmas.List.{set-set}
 use Rattle.disk_defs.specs.Disk.{View}
-use Rattle.journal_defs.specs.Instance.{InstanceRecord, site_name}
+use Rattle.std.specs.List.{AllZip}
+use Rattle.journal_defs.specs.Numbers.{INSTANCE}
+use Rattle.journal_defs.specs.Instance.{InstanceRecord, IsInstanceBody, site_name}
+use Rattle.journal_defs.specs.Stands.{IsInstance}
 use Rattle.site_store.specs.declared.layout.Layout.{Layout}
 use Rattle.site_store.specs.declared.error.SiteError.{SiteError}
 use Rattle.site_store.specs.declared.error.SiteError.TheVariants.{Failed, Stopped, Full, SeqLimit, GenLimit, ReignLimit, NotAFile, NoMemory}
 use Rattle.command_defs.specs.Commands.{Name, Attach}
 use Rattle.site_defs.specs.Lists.{first_where}
 use Rattle.world_defs.specs.World as world
-use Rattle.world_defs.specs.World.{Place, World, is_site_named, place_of, next_of}
+use Rattle.world_defs.specs.World.{Place, World, IfShown, is_site_named, place_of, next_of}
 use Rattle.site_defs.specs.Contents.{Contents, is_made, same_name}
 use Rattle.world_defs.specs.Answers.{Exists, NoDisk, Empty, line}
 use Rattle.world_defs.specs.Row.{caused, refused_with, refusal_in}
 use Rattle.world_defs.specs.Meaning.{apart, Acts, refusing}
-use Rattle.world_defs.specs.rows.Attach.{ATTACHING, not_attached, attach}
+use Rattle.world_defs.specs.rows.Attach.{ATTACHING, not_attached, IsNamedBy, NotAttachedBy, attach}
 use Rattle.site_runner.specs.declared.slot.Slot.{Slot}
 use Rattle.site_runner.specs.Sites.{site_value, is_slot_named, IsOf}
 use Rattle.site_runner.specs.Tied.{IsPlace, Tied}
 use Rattle.site_runner.specs.Executes.{Comes, ExecutesHere, Executes, IsCutOff}
-use Rattle.site_runner.specs.Looking.{fits, Finds, LooksHere, Tells}
+use Rattle.site_runner.specs.Looking.{fits, IsFoundBy, Finds, LooksHere, Tells}
 use Rattle.site_runner.specs.Attaching.{with_site, Takes}
-use Rattle.site_runner.proofs.Ats.{is_true_or_false, comes_done, comes_refused, comes_may_refuse, comes_fault, comes_damaged}
+use Rattle.site_runner.proofs.Ats.{if_some, any_shown, is_true_or_false, comes_done, comes_refused, comes_may_refuse, comes_fault, comes_damaged}
 use Rattle.site_runner.proofs.Stopped.{names_same}
 use Rattle.site_runner.proofs.Lifts.{means_there, means_none, place_of_slot, ActsBy, lifted, lifted_cut, refused_anywhere, cut_there, cut_no, cut_acts, cut_nothing}
 use Rattle.site_runner.proofs.Looked.{looked_cut}
@@ -58,20 +61,33 @@ attach_failed view slots i d s (Full nodes) before now k f look t = absurd t
 attach_failed view slots i d s SeqLimit before now k f look t = absurd t
 attach_failed view slots i d s GenLimit before now k f look t = absurd t
 attach_failed view slots i d s ReignLimit before now k f look t = absurd t
-attach_failed view slots i d s (NotAFile file offset) before now k f look t = attach_lifted view slots i d s before now false k f (λ w h p at_p. let r = look p at_p in comes_damaged file offset r.0 refl r.1 r.2 t)
+attach_failed view slots i d s (NotAFile file offset) before now k f look t = attach_lifted view slots i d s before now false k f (λ w h p at_p. let r = look p at_p in comes_damaged file offset r.0 refl r.1.0 r.1.1 r.2 t)
 attach_failed view slots i d s NoMemory before now k f look t = absurd t
 
 no_records : (rs : List InstanceRecord) → not (nat_lt 0 (length rs)) ≡ true → rs ≡ []
 no_records [] e = refl
 no_records (r ∷ rs) e = let some : nat_lt 0 (length (r ∷ rs)) ≡ true = lt-ltb 0 (length (r ∷ rs)) (omega arith) in absurd (false≢true (sym (ap not some) ∙ e))
 
+-- a file without records has no open one
+no_bodies : (bodies : List (List ℕ)) → AllZip IsInstanceBody bodies [] → bodies ≡ []
+no_bodies [] h = refl
+no_bodies (b ∷ bs) h = absurd h
+
+none_there : (p : Place) → IfShown p (IsFoundBy None) → IfShown p (NotAttachedBy (record { site = ATTACHING; cause = Empty }))
+none_there p h = if_some p.shown (IsFoundBy None) (NotAttachedBy (record { site = ATTACHING; cause = Empty })) (λ f k.
+    let bodies = (subst (IsInstance (f INSTANCE)) k.2 k.1).bodies in inl (refl, bodies.1 ∙ ap (λ (x : List (List ℕ)). Some x) (no_bodies bodies.0 bodies.2))) h
+
+-- the site that was found has its name
+named_by : (p : Place) (found : Layout) → IfShown p (IsFoundBy (Some found)) → IfShown p (IsNamedBy found.name)
+named_by p found h = if_some p.shown (IsFoundBy (Some found)) (IsNamedBy found.name) (λ f k. (k.0, k.1, (k.2.0, sym k.2.1.name))) h
+
 -- no site stands on the disk
 pub attach_empty : {D : Type 0} (view : D → View) (slots : List (Slot D)) (i : ℕ) (d s : Slot D) (before now : List ℕ) → i < length slots → first_where is_slot_free (take 8 slots) ≡ Some i
     → LooksHere view (get_or slots i d) s (Ok None) → now ≡ before ++ line ATTACHING (codes "EMPTY") → Executes view Attach slots (set slots i s) before now
 attach_empty view slots i d s before now k f look t =
     attach_lifted view slots i d s before now false k f (λ w h p at_p. let r = look p at_p in elim (is_true_or_false p.told) [
-      | inl known ↦ comes_refused (record { site = ATTACHING; cause = Empty }) r.0 (rw (known, no_records p.now.instance (r.1.now known)) refl) r.1.kept r.2 t
-      | inr not ↦ comes_may_refuse (record { site = ATTACHING; cause = Empty }) r.0 refl (inl refl, record { unknown = not; kept = r.1.kept }) r.2 t
+      | inl known ↦ comes_refused (record { site = ATTACHING; cause = Empty }) r.0 (rw (known, no_records p.now.instance (r.1.now known)) refl) r.1.kept (none_there p r.1.bytes) r.2 t
+      | inr not ↦ comes_may_refuse (record { site = ATTACHING; cause = Empty }) r.0 refl (inl refl, record { unknown = not; kept = r.1.kept }) (none_there p r.1.bytes) r.2 t
     ])
 
 -- the site that was found
@@ -93,9 +109,12 @@ there_is (Some j) k e n = cc
 refused_exists : {D : Type 0} (view : D → View) (w : World) (p q : Place) (k : ℕ) (found : Layout) (new : Slot D) (before now : List ℕ) → Finds (Some found) p q → place_of w found.name ≡ Some k → IsPlace view new q
     → now ≡ before ++ line found.name (codes "EXISTS") → Comes (attach w p) (IsPlace view new) before now false
 refused_exists view w p q k found new before now f e at_q t = elim (is_true_or_false p.told) [
-  | inl known ↦ comes_refused (record { site = found.name; cause = Exists }) q (attached_at w p q found known f ∙ ap (λ (o : Option ℕ). refused_with found.name (caused (is_some o) Exists)) e) f.kept at_q t
-  | inr not ↦ comes_may_refuse (record { site = found.name; cause = Exists }) q refl (inr (refl, there_is (place_of w found.name) k e), record { unknown = not; kept = f.kept }) at_q t
+  | inl known ↦ comes_refused (record { site = found.name; cause = Exists }) q (attached_at w p q found known f ∙ ap (λ (o : Option ℕ). refused_with found.name (caused (is_some o) Exists)) e) f.kept by at_q t
+  | inr not ↦ comes_may_refuse (record { site = found.name; cause = Exists }) q refl (inr (refl, there_is (place_of w found.name) k e), record { unknown = not; kept = f.kept }) by at_q t
 ]
+  where
+    by : IfShown p (NotAttachedBy (record { site = found.name; cause = Exists }))
+    by = if_some p.shown (IsNamedBy found.name) (NotAttachedBy (record { site = found.name; cause = Exists })) (λ files h. inr (refl, h)) (named_by p found f.bytes)
 
 not_refused : (w : World) (p q : Place) (found : Layout) → (p.told ≡ true) ⊎ (p.told ≡ false) → Finds (Some found) p q → place_of w found.name ≡ None → refusal_in (attach w p) ≡ None
 not_refused w p q found (inl known) f e = attached_at w p q found known f ∙ ap (λ (o : Option ℕ). refused_with found.name (caused (is_some o) Exists)) e
@@ -125,22 +144,25 @@ attached view w p q found s before now f e at_q t =
     let site : world.Site = record { name = name; state = world.Down } in
     let told : q.told ≡ true → p.told ≡ true = λ known. sym f.kept.known.told ∙ known in
     comes_done
-    (record { site = Some site; told = q.told; now = q.now; left = q.left; outcomes = q.outcomes; standings = q.standings; faults = q.faults; simulated = q.simulated })
+    (record { site = Some site; told = q.told; now = q.now; left = q.left; outcomes = q.outcomes; standings = q.standings; shown = q.shown; faults = q.faults; simulated = q.simulated })
     (not_refused w p q found (is_true_or_false p.told) f e)
     (record {
       name = name;
       found = λ known. let o = found_of found p.now (f.now known) in sym o.name;
+      bytes = named_by p found f.bytes;
       unused = e;
       site = refl;
       now = f.kept.now;
       left = f.kept.left;
       known = record { told = f.kept.known.told; outcomes = f.kept.known.outcomes; standings = f.kept.known.standings };
+      shown = f.kept.shown;
       named = λ known o a. let x = found_of found o (f.outcomes (told known) o a) in x.name;
       faults = f.kept.faults;
       simulated = f.kept.simulated;
     })
+    (any_shown p.shown)
     (record {
-      disk = record { told = at_q.disk.told; images = at_q.disk.images; standings = at_q.disk.standings; faults = at_q.disk.faults; simulated = at_q.disk.simulated };
+      disk = record { told = at_q.disk.told; images = at_q.disk.images; standings = at_q.disk.standings; shown = at_q.disk.shown; faults = at_q.disk.faults; simulated = at_q.disk.simulated };
       site = refl;
       held = record { made = λ known. record { now = subst (IsOf name) (sym f.kept.now) (found_of found p.now (f.now (told known))); outcomes = λ o a. found_of found o (f.outcomes (told known) o a) }; state = tt };
     })

@@ -22,7 +22,7 @@ use Rattle.site_runner.specs.declared.slot.Site.{Site}
 use Rattle.site_runner.specs.Sites.{state_value, IsOf}
 use Rattle.site_runner.specs.Steps.{IsAt, ExecutesAt}
 use Rattle.site_runner.proofs.Fused.{state_read}
-use Rattle.site_runner.proofs.Ats.{comes_done, not_early, state_at, first_cause, second_cause, no_cause, is_true_or_false, Leftovers, reads_stand, only, files_of, kept_same, images_still, StandForOne, standing_there, at_image, so_of}
+use Rattle.site_runner.proofs.Ats.{comes_done, not_early, state_at, first_cause, second_cause, no_cause, is_true_or_false, Leftovers, reads_stand, only, files_of, kept_same, images_still, as_told, shown_same, StandForOne, standing_there, at_image, so_of}
 
 pub fuse_stopped : (v : View) (s : Site) (calls : ℕ) (cause : Cause) (p : Place) → stopped (state_value s.state) ≡ Some cause → IsAt v s p → (fuse calls s.name p).early ≡ refused_with s.name (Some cause)
 fuse_stopped v s calls cause p e h = ap (refused_with s.name) (first_cause _ _ cause (state_at stopped v s p h ∙ e))
@@ -75,17 +75,19 @@ crashes leftovers one_only v w s before now law sim up image durable same count 
     let m = crash_place leftovers one_only f p (λ yes. h.disk.images yes f i) (λ yes. at_image v f p.standings i (h.disk.standings yes)) in
     let o : Contents = m.now in
     let stands_so : Standing = record { contents = o; broken = m.left.broken } in
-    let q : Place = record { site = in_new_state world.Down p.site; told = p.told; now = o; left = m.left; outcomes = o ∷ []; standings = Some (stands_so ∷ []); faults = p.faults; simulated = p.simulated } in
+    let q : Place = record { site = in_new_state world.Down p.site; told = p.told; now = o; left = m.left; outcomes = o ∷ []; standings = Some (stands_so ∷ []); shown = w.content; faults = p.faults; simulated = p.simulated } in
     comes_done
     q
     (not_early s.name _ (no_cause _ _ (state_at not_running v s p h ∙ up) (simulated_at v s p true h sim)))
     (record { site = refl; told = refl; chosen = m.among; left = m.behind; behind = m.so; outcomes = refl; standings = refl; faults = omega arith; simulated = refl })
+    tt
     (
     record {
       disk = record {
         told = λ yes. subst (λ (x : Option Files). IsSomeAnd x (λ files. stands.Reads files o m.left)) (sym d.1) (m.reads yes);
         images = λ yes c j. (o, inl refl, subst (λ (x : Files). Stands x o) (sym (u c j)) (reads_stand f o m.left (m.reads yes)));
         standings = λ yes c j. (stands_so, inl refl, subst (λ (x : Files). StandsSo x stands_so) (sym (u c j)) (so_of f o m.left (m.reads yes)));
+        shown = as_told w.content;
         faults = count ∙ h.disk.faults;
         simulated = same ∙ h.disk.simulated;
       };
@@ -109,6 +111,7 @@ fused v w s calls before now r count sim up t p h =
     p
     (not_early s.name _ (no_cause _ _ (state_at stopped v s p h ∙ up) (simulated_at v s p true h sim)))
     (kept_same p)
+    tt
     (
     record {
       disk = record {
@@ -117,6 +120,7 @@ fused v w s calls before now r count sim up t p h =
             let k = r.passes.images c j in
             h.disk.images yes c (subst (Image v) (sym k.2) k.1);
         standings = λ yes. images_still v w p.standings (λ c j. let k = r.passes.images c j in subst (Image v) (sym k.2) k.1) (h.disk.standings yes);
+        shown = shown_same p.shown v.content w.content r.content h.disk.shown;
         faults = count ∙ h.disk.faults;
         simulated = r.passes.simulated ∙ h.disk.simulated;
       };

@@ -9,9 +9,8 @@ use Rattle.global_defs.specs.Fields.{IsSiteName}
 use Rattle.disk_defs.specs.Disk.{Files, View, Image, IsLawful, AtEachMoment, Rose}
 use Rattle.journal_defs.specs.Instance as records
 use Rattle.journal_defs.specs.Instance.{NamedMode, IsInForm, site_name}
-use Rattle.command_defs.specs.Commands.{Name, Region, Create}
+use Rattle.command_defs.specs.Commands.{Name, Region, Create, IsFormed}
 use Rattle.command_defs.specs.Parts.{is_lettered, is_name}
-use Rattle.command_defs.specs.Sections.{IsFormed}
 use Rattle.repl_script.specs.Commands as script
 use Rattle.site_store.specs.declared.layout.RegionSpec.{RegionSpec}
 use Rattle.site_store.specs.declared.layout.Layout.{Layout}
@@ -21,14 +20,15 @@ use Rattle.site_store.specs.Opening as store
 use Rattle.site_store.specs.Opening.{made, MayMake}
 use Rattle.site_defs.specs.Lists.{Among}
 use Rattle.world_defs.specs.World as world
-use Rattle.world_defs.specs.World.{Place, Kept, StandAfter}
+use Rattle.world_defs.specs.World.{Place, IfShown, Kept, StandAfter}
+use Rattle.world_defs.specs.Shown.{HasNoRecord}
 use Rattle.site_defs.specs.Contents.{Contents, Standing, NO_LEFTOVER, nothing, is_made, same_name, bare}
 use Rattle.world_defs.specs.Answers as answers
 use Rattle.world_defs.specs.Answers.{Answer, NotEmpty, Done, Refused, DiskFault, Ran, Typed, line}
 use Rattle.world_defs.specs.Row.{refused_with, caused, Here}
 use Rattle.world_defs.specs.Changes.{After, KeptUnknown}
 use Rattle.world_defs.specs.rows.Create as rows
-use Rattle.world_defs.specs.rows.Create.{named_mode, created, not_empty, create}
+use Rattle.world_defs.specs.rows.Create.{named_mode, created, not_empty, CreateBy, create}
 use Rattle.world_defs.specs.Ties.{Matches}
 use Rattle.site_defs.specs.Stands.{IsBlank, IsSite, Stands, Reads}
 use Rattle.site_defs.specs.Behind.{StandsSo}
@@ -38,10 +38,10 @@ use Rattle.site_runner.specs.declared.slot.State.TheVariants.{Down}
 use Rattle.site_runner.specs.declared.slot.Slot.{Slot}
 use Rattle.site_runner.specs.Sites.{IsOf}
 use Rattle.site_runner.specs.Executes.{ExecutesHere, IsCutHere}
-use Rattle.site_runner.specs.Looking.{fits, Finds, LooksHere, Tells}
+use Rattle.site_runner.specs.Looking.{fits, IsFoundBy, Finds, LooksHere, Tells}
 use Rattle.site_runner.specs.Creating.{spec_of, IsUnmade, MakesHere, MakingIsCut}
 use Rattle.site_runner.proofs.Ats.{comes_done, comes_refused, comes_may_refuse, comes_fault, comes_damaged, some_outcome, is_true_or_false, some_both, some_of, some_and, told_is, stands_told, at_moment, Leftovers, ReadPlace, place_of_images, place_of_one, only}
-use Rattle.site_runner.proofs.Ats.{some_standing, stand_same, stand_more, stand_earlier, left_old, left_new, ImagesStand}
+use Rattle.site_runner.proofs.Ats.{some_standing, stand_same, stand_more, stand_earlier, left_old, left_new, by_shown, if_some, ImagesStand}
 use Rattle.site_runner.proofs.Looked.{some_and_of, none_held, site_none}
 
 -- the regions of a command
@@ -103,16 +103,16 @@ blank_so f s blank (inr site) =
 pub made_site : {D : Type 0} (leftovers : Leftovers) (view : D → View) (old : Slot D) (disk : D) (name : List ℕ) (specs : List RegionSpec) (rs : List (List ℕ × Bool)) (before now : List ℕ) → specs ≡ map spec_of rs → old.site ≡ None
     → IfSome (view old.disk).content (λ files. IsBlank files → IfSome (view disk).content (λ new. IsSite new (made name specs)))
     → IfSome (view old.disk).content (λ files. IsBlank files → ((f : Files) → Image (view old.disk) f → IsBlank f) → (f : Files) → Image (view disk) f → IsSite f (made name specs))
-    → (IsSome (view old.disk).content → IsSome (view disk).content) → (view disk).simulated ≡ (view old.disk).simulated → (view old.disk).faults ≤ (view disk).faults → now ≡ before ++ line name (codes "CREATED")
+    → (IsSome (view old.disk).content → IsSome (view disk).content) → (view disk).simulated ≡ (view old.disk).simulated → (view old.disk).faults ≤ (view disk).faults → IfSome (view old.disk).content HasNoRecord → now ≡ before ++ line name (codes "CREATED")
     → MakesHere view name (map script.region_value rs) old (record { disk = disk; site = Some (record { name = name; state = Down }) }) before now true
-made_site leftovers view old disk name specs rs before now are free reads images still same later t p h u =
+made_site leftovers view old disk name specs rs before now are free reads images still same later empty t p h u =
     let v = view old.disk in
     let w = view disk in
     let regions = map script.region_value rs in
     let o : Contents = created name regions in
     let e : made name specs ≡ o = made_is name specs rs are in
     let site : world.Site = record { name = name; state = world.Down } in
-    let q : Place = record { site = Some site; told = p.told; now = o; left = NO_LEFTOVER; outcomes = o ∷ []; standings = Some (bare o ∷ []); faults = w.faults; simulated = p.simulated } in
+    let q : Place = record { site = Some site; told = p.told; now = o; left = NO_LEFTOVER; outcomes = o ∷ []; standings = Some (bare o ∷ []); shown = w.content; faults = w.faults; simulated = p.simulated } in
     let reads_so : p.told ≡ true → IsSomeAnd w.content (λ files. Reads files o NO_LEFTOVER) = λ known.
     let b = some_both v.content _ _ (stands_told v p h.disk known) reads in
     some_and w.content (λ files. IsSite files (made name specs)) (λ files. Reads files o NO_LEFTOVER) (λ f s. let x : IsSite f o = subst (IsSite f) e s in inr (x, leftovers.unbegun f o x refl))
@@ -125,6 +125,7 @@ made_site leftovers view old disk name specs rs before now are free reads images
     q
     (ap (refused_with name) (none_made p (is_true_or_false p.told) u.now))
     (record { site = refl; known = record { told = refl; now = refl; left = refl; outcomes = refl; standings = refl }; faults = omega (arith, later, h.disk.faults); simulated = refl })
+    (by_shown p.shown v.content (CreateBy Done) h.disk.shown empty)
     (record {
       disk = place_of_one w p (Some site) o (same ∙ h.disk.simulated) reads_so images_so;
       site = refl;
@@ -222,7 +223,7 @@ make_failed leftovers view old disk name specs rs (Failed fault) before now k ar
     let regions = map script.region_value rs in
     let o : Contents = created name regions in
     let m = making_left leftovers (view old.disk) w p name specs regions k (made_is name specs rs are) h.disk u in
-    let q : Place = record { site = p.site; told = p.told; now = m.now; left = m.left; outcomes = o ∷ p.outcomes; standings = making_standings o p.standings; faults = w.faults; simulated = p.simulated } in
+    let q : Place = record { site = p.site; told = p.told; now = m.now; left = m.left; outcomes = o ∷ p.outcomes; standings = making_standings o p.standings; shown = w.content; faults = w.faults; simulated = p.simulated } in
     let some = some_outcome (view old.disk) p k.was_lawful h.disk in
     comes_fault
     fault
@@ -250,7 +251,7 @@ pub make_cut : {D : Type 0} (leftovers : Leftovers) (view : D → View) (old new
 make_cut leftovers view old new name specs rs k are p h u =
     let regions = map script.region_value rs in
     let m = making_left leftovers (view old.disk) (view new.disk) p name specs regions k (made_is name specs rs are) h.disk u in (
-      record { site = p.site; told = p.told; now = m.now; left = m.left; outcomes = created name regions ∷ p.outcomes; standings = making_standings (created name regions) p.standings; faults = (view new.disk).faults; simulated = p.simulated },
+      record { site = p.site; told = p.told; now = m.now; left = m.left; outcomes = created name regions ∷ p.outcomes; standings = making_standings (created name regions) p.standings; shown = (view new.disk).content; faults = (view new.disk).faults; simulated = p.simulated },
       record {
         told = refl;
         outcomes = λ known o a. inr (new_or_old name regions p o (some_outcome (view old.disk) p k.was_lawful h.disk known) a);
@@ -288,7 +289,7 @@ create_failed view old new name regions (Full nodes) before now look t p h = abs
 create_failed view old new name regions SeqLimit before now look t p h = absurd t
 create_failed view old new name regions GenLimit before now look t p h = absurd t
 create_failed view old new name regions ReignLimit before now look t p h = absurd t
-create_failed view old new name regions (NotAFile file offset) before now look t p h = let r = look p h in comes_damaged file offset r.0 refl r.1 r.2 t
+create_failed view old new name regions (NotAFile file offset) before now look t p h = let r = look p h in comes_damaged file offset r.0 refl r.1.0 r.1.1 r.2 t
 create_failed view old new name regions NoMemory before now look t p h = absurd t
 
 -- a site was made there
@@ -298,9 +299,12 @@ create_refused view old new name regions found before now look t p h =
     let r = look p h in
     let made_there : p.told ≡ true → is_made p.now ≡ true = λ known. (and_parts (is_made p.now) (same_name (site_name p.now.instance) found.name) (r.1.now known)).0 in
     elim (is_true_or_false p.told) [
-      | inl known ↦ comes_refused (record { site = name; cause = NotEmpty }) r.0 (rw (known, made_there known) refl) r.1.kept r.2 t
-      | inr not ↦ comes_may_refuse (record { site = name; cause = NotEmpty }) r.0 refl (refl, record { unknown = not; kept = r.1.kept }) r.2 t
+      | inl known ↦ comes_refused (record { site = name; cause = NotEmpty }) r.0 (rw (known, made_there known) refl) r.1.kept (some_record p r.1.bytes) r.2 t
+      | inr not ↦ comes_may_refuse (record { site = name; cause = NotEmpty }) r.0 refl (refl, record { unknown = not; kept = r.1.kept }) (some_record p r.1.bytes) r.2 t
     ]
+  where
+    some_record : (p : Place) → IfShown p (IsFoundBy (Some found)) → IfShown p (CreateBy (Refused (record { site = name; cause = NotEmpty })))
+    some_record p h = if_some p.shown (IsFoundBy (Some found)) (CreateBy (Refused (record { site = name; cause = NotEmpty }))) (λ f k. (k.0, k.1, k.2.0)) h
 
 unmade : (c : Contents) → fits None c ≡ true → is_made c ≡ false
 unmade c e = opposite (is_made c) e
@@ -327,6 +331,7 @@ kept_behind p m q k l = record {
   now = l.now ∙ k.now;
   left = l.left ∙ k.left;
   known = record { told = l.known.told ∙ k.known.told; outcomes = λ o a. k.known.outcomes o (l.known.outcomes o a); standings = λ t. stand_earlier p.standings m.standings q.standings (λ s o. o ≡ s) (k.known.standings t) (l.known.standings (k.known.told ∙ t)) };
+  shown = l.shown ∙ k.shown;
   faults = omega (arith, k.faults, l.faults);
   simulated = l.simulated ∙ k.simulated;
 }
@@ -336,6 +341,9 @@ unknown_behind p m q k l = record { unknown = sym k.known.told ∙ l.unknown; ke
 
 after_behind : (step : Contents → Contents → Type 0) (p m : Place) (o : Contents) → Kept p m → After step m.outcomes o → After step p.outcomes o
 after_behind step p m o k a = (a.0, k.known.outcomes a.0 a.1, a.2)
+
+bytes_behind : (p m : Place) (P : Files → Type 0) → Kept p m → IfShown m P → IfShown p P
+bytes_behind p m P k h = subst (λ (x : Option Files). IfSome x P) k.shown h
 
 here_behind : (regions : List Region) (name : Name) (p m : Place) (a : Answer) (q : Place) (t : List ℕ) → Kept p m → Here (create regions name m) a q t → Here (create regions name p) a q t
 here_behind regions name p m Done q t k h = (
@@ -347,9 +355,10 @@ here_behind regions name p m Done q t k h = (
     simulated = h.1.simulated ∙ k.simulated;
   },
   h.2,
+  bytes_behind p m (CreateBy Done) k h.3,
 )
-here_behind regions name p m (Refused r) q t k (inl h, e) = (inl (ap (refused_with name) (sym (same_empty p m k)) ∙ h.0, kept_behind p m q k h.1), e)
-here_behind regions name p m (Refused r) q t k (inr h, e) = (inr (refl, (h.1.0, unknown_behind p m q k h.1.1)), e)
+here_behind regions name p m (Refused r) q t k (inl h, e, b) = (inl (ap (refused_with name) (sym (same_empty p m k)) ∙ h.0, kept_behind p m q k h.1), e, bytes_behind p m (CreateBy (Refused r)) k b)
+here_behind regions name p m (Refused r) q t k (inr h, e, b) = (inr (refl, (h.1.0, unknown_behind p m q k h.1.1)), e, bytes_behind p m (CreateBy (Refused r)) k b)
 here_behind regions name p m (DiskFault fault) q t k h = (
   refl,
   record {
@@ -367,7 +376,7 @@ here_behind regions name p m (DiskFault fault) q t k h = (
   },
   h.2,
 )
-here_behind regions name p m (answers.NotAFile file offset) q t k h = (refl, unknown_behind p m q k h.1, h.2)
+here_behind regions name p m (answers.NotAFile file offset) q t k h = (refl, unknown_behind p m q k h.1, h.2, bytes_behind p m (CreateBy (answers.NotAFile file offset)) k h.3)
 here_behind regions name p m (Ran s) q t k h = absurd h.1
 here_behind regions name p m (Typed bytes) q t k h = absurd h.1
 

@@ -6,8 +6,7 @@ use Rattle.std.specs.Io.KnownBytes.{Appends}
 use Rattle.std.proofs.KnownBytes.{Appends-nil}
 use Rattle.std.proofs.lemmas.List.{map-append, append-nil}
 use Rattle.disk_defs.specs.Disk.{View}
-use Rattle.command_defs.specs.Commands.{Command}
-use Rattle.command_defs.specs.Sections.{IsFormed}
+use Rattle.command_defs.specs.Commands.{Command, IsFormed}
 use Rattle.command_defs.specs.Script.{Position, Outside, Ends, line_reading}
 use Rattle.repl_script.specs.Feeds.{Moves, Progress, TellsBad}
 use Rattle.repl_script.specs.declared.error.ScriptError.{ScriptError}

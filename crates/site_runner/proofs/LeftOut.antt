@@ -1,10 +1,9 @@
 -- A section decides the same where updaters without jobs are left out.
-use Rattle.std.proofs.Common.{◌≡◌, ℕ, ◌+◌, ◌-◌, Bool, List, ◌++◌, length, take, sym, ap, subst}
-use Rattle.std.specs.List.{flat_map}
+use Rattle.std.proofs.Common.{◌≡◌, ℕ, ◌+◌, ◌-◌, Bool, List, length, take, sym, ap, subst}
 use Rattle.disk_defs.specs.Disk.{View, Files}
 use Rattle.global_defs.specs.Entry.{Stamp, Sequence}
 use Rattle.global_defs.specs.Jobs.{Job}
-use Rattle.global_defs.specs.Serial.{Turn}
+use Rattle.global_defs.specs.Serial.{Turn, Replied}
 use Rattle.repl_script.proofs.LeftOut.{with_more, turn_same}
 use Rattle.repl_script.specs.Places.{at_all}
 use Rattle.repl_section.specs.declared.reign.Reign.{Reign}
@@ -13,7 +12,6 @@ use Rattle.repl_section.specs.Deciding.{HasReached, HasDecided, MayHaveFront, Fa
 use Rattle.site_defs.specs.Contents.{Contents}
 use Rattle.site_defs.specs.Behind.{MayStand}
 use Rattle.site_defs.specs.Fronts.{IsFrontOf, turn_of}
-use Rattle.site_defs.specs.Texts.{reply_line}
 
 -- what all jobs come to, but for the jobs that are left
 same : (stamp : Stamp) (serials : List ℕ) (jobs : List (List Job)) (picks : List ℕ) (seq : Sequence) → turn_of stamp serials (at_all jobs) picks seq ≡ with_more (64 - length jobs) (turn_of stamp serials jobs picks seq)
@@ -22,16 +20,16 @@ same stamp serials jobs picks seq = turn_same stamp serials jobs picks seq
 sequence_same : (stamp : Stamp) (serials : List ℕ) (jobs : List (List Job)) (picks : List ℕ) (seq : Sequence) → (turn_of stamp serials jobs picks seq).sequence ≡ (turn_of stamp serials (at_all jobs) picks seq).sequence
 sequence_same stamp serials jobs picks seq = sym (ap (λ (t : Turn). t.sequence) (same stamp serials jobs picks seq))
 
-pub all_decided : (v : View) (told : Bool) (c : Contents) (jobs : List (List Job)) (picks : List ℕ) (old new : Reign) (before now : List ℕ) → HasDecided v told c jobs picks old new before now → HasDecided v told c (at_all jobs) picks old new before now
-all_decided v told c jobs picks old new before now d =
-    subst (λ (t : Turn). HasReached v told c t new before now) (sym (same (stamp_of old) old.serials jobs picks c.sequence))
-    (record { reigns = d.reigns; serials = d.serials; text = d.text; grown = d.grown; printed = d.printed })
+pub all_decided : (v : View) (told : Bool) (c : Contents) (jobs : List (List Job)) (picks : List ℕ) (old new : Reign) (gave : List Replied → Type 0) → HasDecided v told c jobs picks old new gave → HasDecided v told c (at_all jobs) picks old new gave
+all_decided v told c jobs picks old new gave d =
+    subst (λ (t : Turn). HasReached v told c t new gave) (sym (same (stamp_of old) old.serials jobs picks c.sequence))
+    (record { reigns = d.reigns; serials = d.serials; given = d.given; grown = d.grown; printed = d.printed })
 
-pub all_fail_at : (v : View) (stamp : Stamp) (told : Bool) (c : Contents) (jobs : List (List Job)) (order serials : List ℕ) (undecided : ℕ) (before now : List ℕ) (n : ℕ)
-    → FailsAt v stamp told c jobs order serials undecided before now n → FailsAt v stamp told c (at_all jobs) order serials undecided before now n
-all_fail_at v stamp told c jobs order serials undecided before now n f =
-    subst (λ (t : Turn). FailsBy v told c t (length order) undecided before now) (sym (same stamp serials jobs (take n order) c.sequence))
-    (record { hardened = f.hardened; begun = f.begun; at_once = f.at_once; count = f.count; text = f.text; front = f.front })
+pub all_fail_at : (v : View) (stamp : Stamp) (told : Bool) (c : Contents) (jobs : List (List Job)) (order serials : List ℕ) (undecided : ℕ) (gave : List Replied → Type 0) (n : ℕ)
+    → FailsAt v stamp told c jobs order serials undecided gave n → FailsAt v stamp told c (at_all jobs) order serials undecided gave n
+all_fail_at v stamp told c jobs order serials undecided gave n f =
+    subst (λ (t : Turn). FailsBy v told c t (length order) undecided gave) (sym (same stamp serials jobs (take n order) c.sequence))
+    (record { hardened = f.hardened; begun = f.begun; at_once = f.at_once; count = f.count; given = f.given; front = f.front })
 
 pub left_same : (stamp : Stamp) (c : Contents) (jobs : List (List Job)) (order serials : List ℕ) (decided : ℕ) (files : Files) → LeftAfter stamp c jobs order serials decided files → LeftAfter stamp c (at_all jobs) order serials decided files
 left_same stamp c jobs order serials decided files l = record {
@@ -41,15 +39,15 @@ left_same stamp c jobs order serials decided files l = record {
   stands = l.stands;
 }
 
-pub all_fail_in : (v : View) (stamp : Stamp) (told : Bool) (c : Contents) (jobs : List (List Job)) (order serials : List ℕ) (undecided : ℕ) (before now : List ℕ)
-    → FailsIn v stamp told c jobs order serials undecided before now → FailsIn v stamp told c (at_all jobs) order serials undecided before now
-all_fail_in v stamp told c jobs order serials undecided before now f =
+pub all_fail_in : (v : View) (stamp : Stamp) (told : Bool) (c : Contents) (jobs : List (List Job)) (order serials : List ℕ) (undecided : ℕ) (gave : List Replied → Type 0)
+    → FailsIn v stamp told c jobs order serials undecided gave → FailsIn v stamp told c (at_all jobs) order serials undecided gave
+all_fail_in v stamp told c jobs order serials undecided gave f =
     let is = sym (same stamp serials jobs (take f.decided order) c.sequence) in
     record {
       decided = f.decided;
       inside = f.inside;
       count = subst (λ (t : Turn). undecided + length t.replies ≡ length order) is f.count;
-      text = subst (λ (t : Turn). now ≡ before ++ flat_map reply_line t.replies) is f.text;
+      given = subst (λ (t : Turn). gave t.replies) is f.given;
       front = subst (λ (s : Sequence). MayHaveFront v told c (turn_of stamp serials (at_all jobs) (take (f.decided + 1) order) c.sequence).sequence (length s)) (sequence_same stamp serials jobs (take f.decided order) c.sequence)
           (subst (λ (s : Sequence). MayHaveFront v told c s (length (turn_of stamp serials jobs (take f.decided order) c.sequence).sequence)) (sequence_same stamp serials jobs (take (f.decided + 1) order) c.sequence) f.front);
       left = λ is files i. left_same stamp c jobs order serials f.decided files (f.left is files i);

@@ -12,6 +12,7 @@ use Rattle.site_store.specs.Opening.{StandsAsBefore}
 use Rattle.command_defs.specs.Commands.{Name}
 use Rattle.site_defs.specs.Lists.{Among}
 use Rattle.world_defs.specs.World.{Place}
+use Rattle.world_defs.specs.Shown.{IsNoSite}
 use Rattle.world_defs.specs.Row.{Row}
 use Rattle.site_defs.specs.Contents.{Contents, Leftover, is_made, same_name}
 use Rattle.site_defs.specs.Opening.{IsBehind}
@@ -22,8 +23,8 @@ use Rattle.site_runner.specs.declared.slot.Slot.{Slot}
 use Rattle.site_runner.specs.Sites.{site_value, HoldsSite}
 use Rattle.site_runner.specs.Tied.{IsPlace}
 use Rattle.site_runner.specs.Executes.{IsCutHere}
-use Rattle.site_runner.specs.Looking.{fits, LeavesOld, Sees, LooksHere}
-use Rattle.site_runner.proofs.Ats.{not_true, told_is, some_both, some_of, stands_told, at_moment, Leftovers, place_of_images, stand_same, left_old, ImagesStand, images_still}
+use Rattle.site_runner.specs.Looking.{fits, IsFoundBy, LeavesOld, Sees, LooksHere}
+use Rattle.site_runner.proofs.Ats.{not_true, told_is, some_both, some_of, stands_told, at_moment, Leftovers, place_of_images, stand_same, left_old, ImagesStand, images_still, shown_same, by_shown}
 
 pub same_self : (a : Name) → same_name a a ≡ true
 same_self [] = refl
@@ -102,17 +103,19 @@ saw : {D : Type 0} (view : D → View) (old : Slot D) (disk : D) (found : Option
     → IfSome (view old.disk).content (λ files. (c : Contents) → Stands files c → IsFound c found)
     → (view disk).content ≡ (view old.disk).content
     → IfSome (view old.disk).content (λ files. (c o : Contents) (f : Files) → Stands files c → Image (view disk) f → Stands f o → o.instance ≡ c.instance)
+    → IfSome (view old.disk).content (IsFoundBy found)
     → LooksHere view old (record { disk = disk; site = old.site }) (Ok found)
-saw view old disk found k free is same alike p h =
+saw view old disk found k free is same alike holds p h =
     let v = view old.disk in
     let w = view disk in
-    let q : Place = record { site = p.site; told = p.told; now = p.now; left = p.left; outcomes = filter (fits found) p.outcomes; standings = p.standings; faults = w.faults; simulated = p.simulated } in
+    let q : Place = record { site = p.site; told = p.told; now = p.now; left = p.left; outcomes = filter (fits found) p.outcomes; standings = p.standings; shown = p.shown; faults = w.faults; simulated = p.simulated } in
     let now : p.told ≡ true → fits found p.now ≡ true = λ known. let b = some_both v.content _ _ (stands_told v p h.disk known) is in found_fits found p.now (b.2 p.now b.1) in (
       q,
       record {
-        kept = record { site = refl; now = refl; left = refl; known = record { told = refl; outcomes = λ o a. (among_kept (fits found) p.outcomes o a).0; standings = λ t. stand_same p.standings }; faults = omega (arith, k.later, h.disk.faults); simulated = refl };
+        kept = record { site = refl; now = refl; left = refl; known = record { told = refl; outcomes = λ o a. (among_kept (fits found) p.outcomes o a).0; standings = λ t. stand_same p.standings }; shown = refl; faults = omega (arith, k.later, h.disk.faults); simulated = refl };
         now = now;
         outcomes = λ known o a. (among_kept (fits found) p.outcomes o a).1;
+        bytes = by_shown p.shown v.content (IsFoundBy found) h.disk.shown holds;
       },
       record {
         disk = record {
@@ -122,6 +125,7 @@ saw view old disk found k free is same alike p h =
               let b = some_both v.content _ _ (stands_told v p h.disk known) alike in
               (o.0, kept_among (fits found) p.outcomes o.0 o.1 (fits_alike found p.now o.0 (b.2 p.now o.0 c b.1 i o.2) ∙ now known), o.2);
           standings = λ known. look_standings v w p k h.disk known;
+          shown = shown_same p.shown v.content w.content same h.disk.shown;
           faults = refl;
           simulated = k.simulated ∙ h.disk.simulated;
         };
@@ -133,12 +137,12 @@ saw view old disk found k free is same alike p h =
 -- a call failed, or there was no memory
 looked_before : {D : Type 0} (leftovers : Leftovers) (view : D → View) (old : Slot D) (disk : D) (p : Place) → IsLook (view old.disk) (view disk) → old.site ≡ None → IsPlace view old p
     → (now : Contents) × (left : Leftover) × (p.told ≡ true → Among p.outcomes now) × (p.told ≡ true → IsBehind now left)
-    × IsPlace view (record { disk = disk; site = old.site }) (record { site = p.site; told = p.told; now = now; left = left; outcomes = p.outcomes; standings = p.standings; faults = (view disk).faults; simulated = p.simulated })
+    × IsPlace view (record { disk = disk; site = old.site }) (record { site = p.site; told = p.told; now = now; left = left; outcomes = p.outcomes; standings = p.standings; shown = (view disk).content; faults = (view disk).faults; simulated = p.simulated })
 looked_before leftovers view old disk p k free h =
     let v = view old.disk in
     let w = view disk in
     let m = place_of_images leftovers w p p.site p.outcomes p.standings k.lawful (k.simulated ∙ h.disk.simulated) (λ known. k.still_told (told_is v.content _ (h.disk.told known))) (λ known c i. look_images v w p k h.disk known c i) (λ known. look_standings v w p k h.disk known) in
-    let q : Place = record { site = p.site; told = p.told; now = m.now; left = m.left; outcomes = p.outcomes; standings = p.standings; faults = w.faults; simulated = p.simulated } in
+    let q : Place = record { site = p.site; told = p.told; now = m.now; left = m.left; outcomes = p.outcomes; standings = p.standings; shown = w.content; faults = w.faults; simulated = p.simulated } in
     (m.now, m.left, m.among, m.behind, record { disk = m.matches; site = h.site; held = none_held view (record { disk = disk; site = old.site }) q free })
 
 abbrev pub Unread : SiteError → View → View → Type 0
@@ -148,20 +152,20 @@ Unread (Full nodes) v w = Unit {0}
 Unread SeqLimit v w = Unit {0}
 Unread GenLimit v w = Unit {0}
 Unread ReignLimit v w = Unit {0}
-Unread (NotAFile file offset) v w = IfSome v.content (λ files. (c : Contents) → Stands files c → ⊥)
+Unread (NotAFile file offset) v w = IfSome v.content (λ files. (c : Contents) → Stands files c → ⊥) × IfSome v.content (IsNoSite file offset)
 Unread NoMemory v w = Unit {0}
 
 left_so : {D : Type 0} (leftovers : Leftovers) (view : D → View) (old : Slot D) (disk : D) → IsLook (view old.disk) (view disk) → old.site ≡ None → (p : Place) → IsPlace view old p
     → (q : Place) × LeavesOld p q × IsPlace view (record { disk = disk; site = old.site }) q
 left_so leftovers view old disk k free p h =
     let m = looked_before leftovers view old disk p k free h in
-    (record { site = p.site; told = p.told; now = m.0; left = m.1; outcomes = p.outcomes; standings = p.standings; faults = (view disk).faults; simulated = p.simulated }, record { told = refl; outcomes = λ known o a. a; standings = λ known. stand_same p.standings; faults = omega (arith, k.later, h.disk.faults); simulated = refl }, m.4)
+    (record { site = p.site; told = p.told; now = m.0; left = m.1; outcomes = p.outcomes; standings = p.standings; shown = (view disk).content; faults = (view disk).faults; simulated = p.simulated }, record { told = refl; outcomes = λ known o a. a; standings = λ known. stand_same p.standings; faults = omega (arith, k.later, h.disk.faults); simulated = refl }, m.4)
 
-saw_nothing : {D : Type 0} (leftovers : Leftovers) (view : D → View) (old : Slot D) (disk : D) (e : SiteError) → IsLook (view old.disk) (view disk) → old.site ≡ None → Unread e (view old.disk) (view disk) → LooksHere view old (record { disk = disk; site = old.site }) (Err e)
-saw_nothing leftovers view old disk (Failed fault) k free u p h =
+saw_nothing : {D : Type 0} (leftovers : Leftovers) (view : D → View) (old : Slot D) (disk : D) (e : SiteError) → IsLook (view old.disk) (view disk) → old.site ≡ None → (view disk).content ≡ (view old.disk).content → Unread e (view old.disk) (view disk) → LooksHere view old (record { disk = disk; site = old.site }) (Err e)
+saw_nothing leftovers view old disk (Failed fault) k free same u p h =
     let w = view disk in
     let m = looked_before leftovers view old disk p k free h in
-    let q : Place = record { site = p.site; told = p.told; now = m.0; left = m.1; outcomes = p.outcomes; standings = p.standings; faults = w.faults; simulated = p.simulated } in (
+    let q : Place = record { site = p.site; told = p.told; now = m.0; left = m.1; outcomes = p.outcomes; standings = p.standings; shown = w.content; faults = w.faults; simulated = p.simulated } in (
       q,
       (
         record {
@@ -175,18 +179,22 @@ saw_nothing leftovers view old disk (Failed fault) k free u p h =
       ),
       m.4,
     )
-saw_nothing leftovers view old disk (NotAFile file offset) k free u p h =
+saw_nothing leftovers view old disk (NotAFile file offset) k free same u p h =
     let v = view old.disk in
     let w = view disk in
-    let unknown : p.told ≡ false = not_true p.told (λ known. let b = some_both v.content _ _ (stands_told v p h.disk known) u in b.2 p.now b.1) in
-    let q : Place = record { site = p.site; told = p.told; now = p.now; left = p.left; outcomes = p.outcomes; standings = p.standings; faults = w.faults; simulated = p.simulated } in (
+    let unknown : p.told ≡ false = not_true p.told (λ known. let b = some_both v.content _ _ (stands_told v p h.disk known) u.0 in b.2 p.now b.1) in
+    let q : Place = record { site = p.site; told = p.told; now = p.now; left = p.left; outcomes = p.outcomes; standings = p.standings; shown = p.shown; faults = w.faults; simulated = p.simulated } in (
       q,
-      record { unknown = unknown; kept = record { site = refl; now = refl; left = refl; known = record { told = refl; outcomes = λ o a. a; standings = λ t. stand_same p.standings }; faults = omega (arith, k.later, h.disk.faults); simulated = refl } },
+      (
+        record { unknown = unknown; kept = record { site = refl; now = refl; left = refl; known = record { told = refl; outcomes = λ o a. a; standings = λ t. stand_same p.standings }; shown = refl; faults = omega (arith, k.later, h.disk.faults); simulated = refl } },
+        by_shown p.shown v.content (IsNoSite file offset) h.disk.shown u.1,
+      ),
       record {
         disk = record {
           told = λ known. absurd (false≢true (sym unknown ∙ known));
           images = λ known. absurd (false≢true (sym unknown ∙ known));
           standings = λ known. absurd (false≢true (sym unknown ∙ known));
+          shown = shown_same p.shown v.content w.content same h.disk.shown;
           faults = refl;
           simulated = k.simulated ∙ h.disk.simulated;
         };
@@ -194,12 +202,12 @@ saw_nothing leftovers view old disk (NotAFile file offset) k free u p h =
         held = none_held view (record { disk = disk; site = old.site }) q free;
       },
     )
-saw_nothing leftovers view old disk (Stopped fault) k free u p h = left_so leftovers view old disk k free p h
-saw_nothing leftovers view old disk (Full nodes) k free u p h = left_so leftovers view old disk k free p h
-saw_nothing leftovers view old disk SeqLimit k free u p h = left_so leftovers view old disk k free p h
-saw_nothing leftovers view old disk GenLimit k free u p h = left_so leftovers view old disk k free p h
-saw_nothing leftovers view old disk ReignLimit k free u p h = left_so leftovers view old disk k free p h
-saw_nothing leftovers view old disk NoMemory k free u p h = left_so leftovers view old disk k free p h
+saw_nothing leftovers view old disk (Stopped fault) k free same u p h = left_so leftovers view old disk k free p h
+saw_nothing leftovers view old disk (Full nodes) k free same u p h = left_so leftovers view old disk k free p h
+saw_nothing leftovers view old disk SeqLimit k free same u p h = left_so leftovers view old disk k free p h
+saw_nothing leftovers view old disk GenLimit k free same u p h = left_so leftovers view old disk k free p h
+saw_nothing leftovers view old disk ReignLimit k free same u p h = left_so leftovers view old disk k free p h
+saw_nothing leftovers view old disk NoMemory k free same u p h = left_so leftovers view old disk k free p h
 
 -- what a look leaves is old, whatever it saw
 sees_old : (r : Result (Option Layout) SiteError) (p q : Place) → Sees r p q → LeavesOld p q
@@ -210,7 +218,7 @@ sees_old (Err (Full nodes)) p q s = s
 sees_old (Err SeqLimit) p q s = s
 sees_old (Err GenLimit) p q s = s
 sees_old (Err ReignLimit) p q s = s
-sees_old (Err (NotAFile file offset)) p q s = record { told = s.kept.known.told; outcomes = λ known. s.kept.known.outcomes; standings = s.kept.known.standings; faults = s.kept.faults; simulated = s.kept.simulated }
+sees_old (Err (NotAFile file offset)) p q s = record { told = s.0.kept.known.told; outcomes = λ known. s.0.kept.known.outcomes; standings = s.0.kept.known.standings; faults = s.0.kept.faults; simulated = s.0.kept.simulated }
 sees_old (Err NoMemory) p q s = s
 
 -- a command that was cut off behind a look
@@ -224,15 +232,17 @@ pub looks : {D : Type 0} (leftovers : Leftovers) (view : D → View) (old : Slot
     → IfOk r (λ found. IfSome (view old.disk).content (λ files. (c : Contents) → Stands files c → IsFound c found))
     → (view disk).content ≡ (view old.disk).content
     → OnOk r (IfSome (view old.disk).content (λ files. (c o : Contents) (f : Files) → Stands files c → Image (view disk) f → Stands f o → o.instance ≡ c.instance))
+    → IfOk r (λ found. IfSome (view old.disk).content (IsFoundBy found))
     → ((file offset : ℕ) → IsErrOf r (NotAFile file offset) → IfSome (view old.disk).content (λ files. (c : Contents) → Stands files c → ⊥))
+    → ((file offset : ℕ) → IsErrOf r (NotAFile file offset) → IfSome (view old.disk).content (IsNoSite file offset))
     → ((fault : ℕ) → IsErrOf r (Failed fault) → fault ≡ (view disk).faults) → ((fault : ℕ) → IsErrOf r (Failed fault) → Rose (view old.disk).faults (view disk).faults)
     → LooksHere view old (record { disk = disk; site = old.site }) r
-looks leftovers view old disk (Ok found) k free is same alike outside count cause = saw view old disk found k free is same alike
-looks leftovers view old disk (Err (Failed fault)) k free is same alike outside count cause = saw_nothing leftovers view old disk (Failed fault) k free (count fault refl, cause fault refl)
-looks leftovers view old disk (Err (Stopped fault)) k free is same alike outside count cause = saw_nothing leftovers view old disk (Stopped fault) k free tt
-looks leftovers view old disk (Err (Full nodes)) k free is same alike outside count cause = saw_nothing leftovers view old disk (Full nodes) k free tt
-looks leftovers view old disk (Err SeqLimit) k free is same alike outside count cause = saw_nothing leftovers view old disk SeqLimit k free tt
-looks leftovers view old disk (Err GenLimit) k free is same alike outside count cause = saw_nothing leftovers view old disk GenLimit k free tt
-looks leftovers view old disk (Err ReignLimit) k free is same alike outside count cause = saw_nothing leftovers view old disk ReignLimit k free tt
-looks leftovers view old disk (Err (NotAFile file offset)) k free is same alike outside count cause = saw_nothing leftovers view old disk (NotAFile file offset) k free (outside file offset refl)
-looks leftovers view old disk (Err NoMemory) k free is same alike outside count cause = saw_nothing leftovers view old disk NoMemory k free tt
+looks leftovers view old disk (Ok found) k free is same alike holds outside bytes count cause = saw view old disk found k free is same alike holds
+looks leftovers view old disk (Err (Failed fault)) k free is same alike holds outside bytes count cause = saw_nothing leftovers view old disk (Failed fault) k free same (count fault refl, cause fault refl)
+looks leftovers view old disk (Err (Stopped fault)) k free is same alike holds outside bytes count cause = saw_nothing leftovers view old disk (Stopped fault) k free same tt
+looks leftovers view old disk (Err (Full nodes)) k free is same alike holds outside bytes count cause = saw_nothing leftovers view old disk (Full nodes) k free same tt
+looks leftovers view old disk (Err SeqLimit) k free is same alike holds outside bytes count cause = saw_nothing leftovers view old disk SeqLimit k free same tt
+looks leftovers view old disk (Err GenLimit) k free is same alike holds outside bytes count cause = saw_nothing leftovers view old disk GenLimit k free same tt
+looks leftovers view old disk (Err ReignLimit) k free is same alike holds outside bytes count cause = saw_nothing leftovers view old disk ReignLimit k free same tt
+looks leftovers view old disk (Err (NotAFile file offset)) k free is same alike holds outside bytes count cause = saw_nothing leftovers view old disk (NotAFile file offset) k free same (outside file offset refl, bytes file offset refl)
+looks leftovers view old disk (Err NoMemory) k free is same alike holds outside bytes count cause = saw_nothing leftovers view old disk NoMemory k free same tt

@@ -6,9 +6,8 @@ use Rattle.std.specs.Io.KnownBytes.{Appends, Consumes, IsAtEnd, prepend_known}
 use Rattle.std.proofs.KnownBytes.{prepend_known-nil}
 use Rattle.std.proofs.lemmas.List.{take_at, append-nil}
 use Rattle.disk_defs.specs.Disk.{View}
-use Rattle.command_defs.specs.Commands.{Command}
+use Rattle.command_defs.specs.Commands.{Command, IsFormed}
 use Rattle.command_defs.specs.Lines.{lines_of, ended}
-use Rattle.command_defs.specs.Sections.{IsFormed}
 use Rattle.command_defs.specs.Script.{Position, Outside, Within, Ends, line_reading, IsScript, IsBadAt, behind_all}
 use Rattle.repl_script.specs.Feeds.{Progress}
 use Rattle.world_defs.specs.World.{World}

@@ -9,15 +9,16 @@ use Rattle.site_store.specs.Opening.{StandsAsBefore, MayHavePattern, EachStands}
 use Rattle.command_defs.specs.Commands.{Name}
 use Rattle.site_defs.specs.Lists.{Among, first_where}
 use Rattle.world_defs.specs.World as world
-use Rattle.world_defs.specs.World.{Place, StandAfter}
+use Rattle.world_defs.specs.World.{Place, IfShown, StandAfter}
 use Rattle.site_defs.specs.Contents.{Contents, Leftover, Standing, NO_LEFTOVER, is_made, same_name, bare}
-use Rattle.world_defs.specs.Answers.{Cause, Refusal, line, cause_text}
+use Rattle.world_defs.specs.Answers.{Cause, Running, Stopped, Refusal, line, cause_text}
+use Rattle.world_defs.specs.Shown.{HasNoLayout, IsOfAnother}
 use Rattle.world_defs.specs.Row.{refused_with, in_state, why_not_down}
 use Rattle.site_defs.specs.Limits.{region_number}
 use Rattle.world_defs.specs.Changes.{in_new_state, After}
 use Rattle.site_defs.specs.Opening.{MayMap, with_pattern}
 use Rattle.world_defs.specs.Step.{LeftByRow}
-use Rattle.world_defs.specs.rows.Map.{MayMapLeft, IsUnmapped, unmapped, map_pattern}
+use Rattle.world_defs.specs.rows.Map.{MayMapLeft, IsUnmapped, unmapped, RefusedBy, MappedBy, IsNotThere, map_pattern}
 use Rattle.world_defs.specs.Ties.{Matches}
 use Rattle.site_defs.specs.Stands.{IsSite, HasLeft, Stands, Reads}
 use Rattle.site_defs.specs.Behind.{StandsSo}
@@ -29,7 +30,7 @@ use Rattle.site_runner.specs.Executes.{Comes}
 use Rattle.site_runner.specs.Steps.{IsAt, ExecutesAt, IsCutAt}
 use Rattle.site_runner.specs.Mapping.{IsSeenAt, IsUnmappedIn, MapsAt, IsCutSeen}
 use Rattle.site_runner.proofs.Ats.{comes_done, comes_refused, comes_may_refuse, comes_fault, comes_damaged, refused_late, none_refused, state_at, not_true, is_true_or_false, some_both, some_of, some_and, told_is, reads_stand, reads_site, at_moment, Leftovers, ReadPlace, place_of_images, only}
-use Rattle.site_runner.proofs.Ats.{left_new, so_stands, ImagesStand, images_still}
+use Rattle.site_runner.proofs.Ats.{left_new, so_stands, ImagesStand, images_still, as_told, shown_same, shown_unwritten, by_shown, if_some, any_shown}
 use Rattle.site_runner.proofs.Seen.{counted, kept_counted}
 use Rattle.site_runner.proofs.Amongs.{among_first, among_second, among_either}
 use Rattle.site_runner.proofs.Started.{why_at}
@@ -37,6 +38,12 @@ use Rattle.site_runner.proofs.Patterns.{maps, among_maps, maps_among, of_pattern
 
 pub map_not_down : (v : View) (s : Site) (region : Name) (text : List ℕ) (cause : Cause) (p : Place) → why_not_down (state_value s.state) ≡ Some cause → IsAt v s p → (map_pattern region text s.name p).early ≡ refused_with s.name (Some cause)
 map_not_down v s region text cause p e h = ap (refused_with s.name) (state_at why_not_down v s p h ∙ e)
+
+-- which no file decides
+pub map_early : (region : Name) (text : List ℕ) (name : Name) (state : world.State) (cause : Cause) (p : Place) → why_not_down state ≡ Some cause → IfShown p (RefusedBy region text name cause)
+map_early region text name world.Down cause p e = cc
+map_early region text name (world.Primary stamp serials) cause p e = let same : Running ≡ cause = cc in subst (λ (c : Cause). IfShown p (RefusedBy region text name c)) same (any_shown p.shown)
+map_early region text name (world.Failed k) cause p e = let same : Stopped k ≡ cause = cc in subst (λ (c : Cause). IfShown p (RefusedBy region text name c)) same (any_shown p.shown)
 
 -- the tests of a site that is down
 
@@ -78,13 +85,14 @@ seen_at v w s p k down alike h = record {
   images = λ sure f i. look_images v w p k h.disk sure f i;
   standings = λ sure. look_standings v w p k h.disk sure;
   alike = λ sure f o i stands. let b = some_both v.content _ _ (h.disk.told sure) alike in b.2 p.now o f (reads_stand b.0 p.now p.left b.1) i stands;
+  shown = shown_same p.shown v.content w.content k.content h.disk.shown;
   faults = omega (arith, k.later, h.disk.faults);
   simulated = k.simulated ∙ h.disk.simulated;
 }
 
 -- a place whose files aren't known
-unknown_seen : (w : View) (s : Site) (p : Place) → s.state ≡ Down → p.site ≡ Some (site_value s) → p.told ≡ false → p.faults ≤ w.faults → w.simulated ≡ p.simulated → IsSeenAt w s p
-unknown_seen w s p down site unsure faults same = record {
+unknown_seen : (w : View) (s : Site) (p : Place) → s.state ≡ Down → p.site ≡ Some (site_value s) → p.told ≡ false → IfShown p (λ files. w.content ≡ Some files) → p.faults ≤ w.faults → w.simulated ≡ p.simulated → IsSeenAt w s p
+unknown_seen w s p down site unsure shown faults same = record {
   site = site;
   down = down;
   made = λ sure. absurd (false≢true (sym unsure ∙ sure));
@@ -92,13 +100,14 @@ unknown_seen w s p down site unsure faults same = record {
   images = λ sure. absurd (false≢true (sym unsure ∙ sure));
   standings = λ sure. absurd (false≢true (sym unsure ∙ sure));
   alike = λ sure. absurd (false≢true (sym unsure ∙ sure));
+  shown = shown;
   faults = faults;
   simulated = same;
 }
 
 seen_counted : (w : View) (s : Site) (p : Place) → IsSeenAt w s p → IsAt w s (counted p w.faults)
 seen_counted w s p h = record {
-  disk = record { told = h.reads; images = h.images; standings = h.standings; faults = refl; simulated = h.simulated };
+  disk = record { told = h.reads; images = h.images; standings = h.standings; shown = h.shown; faults = refl; simulated = h.simulated };
   site = h.site;
   held = record { made = λ sure. record { now = (h.made sure).now; outcomes = (h.made sure).outcomes }; state = subst (λ (x : State). HoldsState w x (counted p w.faults)) (sym h.down) tt };
 }
@@ -108,38 +117,43 @@ abbrev pub Answers : Name → List ℕ → View → Site → Place → Site → 
 Answers region text w s p new before now done = Comes (map_pattern region text s.name p) (IsAt w new) before now done
 
 -- a refusal
-pub map_refused : (region : Name) (text : List ℕ) (w : View) (s : Site) (cause : Cause) (before now : List ℕ) → IsUnmapped region cause → now ≡ before ++ line s.name (cause_text cause)
+pub map_refused : (region : Name) (text : List ℕ) (w : View) (s : Site) (cause : Cause) (before now : List ℕ) → IsUnmapped region cause → IfSome w.content (RefusedBy region text s.name cause) → now ≡ before ++ line s.name (cause_text cause)
     → (p : Place) → IsSeenAt w s p → (p.told ≡ true → unmapped region text p ≡ Some cause) → Answers region text w s p s before now false
-map_refused region text w s cause before now un t p h why = elim (is_true_or_false p.told) [
-  | inl sure ↦ comes_refused no (counted p w.faults) (refused_late s.name (in_state why_not_down p.site) (unmapped region text p) cause (why_at s Down p h.down h.site) (why sure)) (kept_counted p w.faults h.faults) (seen_counted w s p h) t
-  | inr unsure ↦ comes_may_refuse no (counted p w.faults) (early_down s p h.down h.site) (refl, un, record { unknown = unsure; kept = kept_counted p w.faults h.faults }) (seen_counted w s p h) t
+map_refused region text w s cause before now un bytes t p h why = elim (is_true_or_false p.told) [
+  | inl sure ↦ comes_refused no (counted p w.faults) (refused_late s.name (in_state why_not_down p.site) (unmapped region text p) cause (why_at s Down p h.down h.site) (why sure)) (kept_counted p w.faults h.faults) by (seen_counted w s p h) t
+  | inr unsure ↦ comes_may_refuse no (counted p w.faults) (early_down s p h.down h.site) (refl, un, record { unknown = unsure; kept = kept_counted p w.faults h.faults }) by (seen_counted w s p h) t
 ]
   where
     no : Refusal
     no = record { site = s.name; cause = cause }
 
+    by : IfShown p (RefusedBy region text s.name cause)
+    by = by_shown p.shown w.content (RefusedBy region text s.name cause) h.shown bytes
+
 -- bytes outside the formats, which no known files have
 damaged : (region : Name) (text : List ℕ) (w : View) (s : Site) (file offset : ℕ) (before now : List ℕ) → now ≡ before ++ line s.name (codes "NOTAFILE " ++ decimal file ++ 32 ∷ decimal offset)
-    → (p : Place) → p.told ≡ false → IsSeenAt w s p → Answers region text w s p s before now false
-damaged region text w s file offset before now t p unsure h =
-    comes_damaged file offset (counted p w.faults) (early_down s p h.down h.site) (record { unknown = unsure; kept = kept_counted p w.faults h.faults }) (seen_counted w s p h) t
+    → (p : Place) → p.told ≡ false → IfShown p (IsNotThere s.name file offset) → IsSeenAt w s p → Answers region text w s p s before now false
+damaged region text w s file offset before now t p unsure by h =
+    comes_damaged file offset (counted p w.faults) (early_down s p h.down h.site) (record { unknown = unsure; kept = kept_counted p w.faults h.faults }) by (seen_counted w s p h) t
 
 -- the look found bytes that stand for nothing, or no site
 pub look_damaged : (region : Name) (text : List ℕ) (v w : View) (s : Site) (file offset : ℕ) (before now : List ℕ) → Looked v w → s.state ≡ Down → now ≡ before ++ line s.name (codes "NOTAFILE " ++ decimal file ++ 32 ∷ decimal offset)
-    → IfSome v.content (λ files. (c : Contents) → IsSite files c → ⊥) → ExecutesAt (map_pattern region text s.name) v s w s before now false
-look_damaged region text v w s file offset before now k down t outside p h =
+    → IfSome v.content (λ files. (c : Contents) → IsSite files c → ⊥) → IfSome v.content (HasNoLayout file offset) → ExecutesAt (map_pattern region text s.name) v s w s before now false
+look_damaged region text v w s file offset before now k down t outside bytes p h =
     let unsure : p.told ≡ false = not_true p.told (λ sure.
     let here = some_both v.content _ _ (h.disk.told sure) outside in
     here.2 p.now (reads_site here.0 p.now p.left (h.held.made sure).now.made here.1).0) in
-    damaged region text w s file offset before now t p unsure (unknown_seen w s p down h.site unsure (omega (arith, k.later, h.disk.faults)) (k.simulated ∙ h.disk.simulated))
+    damaged region text w s file offset before now t p unsure (by_shown p.shown v.content (IsNotThere s.name file offset) h.disk.shown (if_some v.content (HasNoLayout file offset) (IsNotThere s.name file offset) (λ f out. inl out) bytes))
+    (unknown_seen w s p down h.site unsure (shown_same p.shown v.content w.content k.content h.disk.shown) (omega (arith, k.later, h.disk.faults)) (k.simulated ∙ h.disk.simulated))
 
 -- another site was found, which no known files tell
 pub seen_other : (region : Name) (text : List ℕ) (w : View) (s : Site) (file offset : ℕ) (before now : List ℕ) → now ≡ before ++ line s.name (codes "NOTAFILE " ++ decimal file ++ 32 ∷ decimal offset)
-    → IfSome w.content (λ files. (c : Contents) → IsSite files c → IsOf s.name c → ⊥) → MapsAt region text w s w s before now false
-seen_other region text w s file offset before now t other p h =
+    → IfSome w.content (λ files. (c : Contents) → IsSite files c → IsOf s.name c → ⊥) → IfSome w.content (IsOfAnother s.name file offset) → MapsAt region text w s w s before now false
+seen_other region text w s file offset before now t other bytes p h =
     damaged region text w s file offset before now t p (not_true p.told (λ sure.
     let here = some_both w.content _ _ (h.reads sure) other in
-    here.2 p.now (reads_site here.0 p.now p.left (h.made sure).now.made here.1).0 (h.made sure).now)) h
+    here.2 p.now (reads_site here.0 p.now p.left (h.made sure).now.made here.1).0 (h.made sure).now))
+    (by_shown p.shown w.content (IsNotThere s.name file offset) h.shown (if_some w.content (IsOfAnother s.name file offset) (IsNotThere s.name file offset) (λ f other. inr other) bytes)) h
 
 -- what images stand so once a pattern may have been mapped
 
@@ -213,7 +227,7 @@ mapped_place leftovers region text w p site law b =
 pub map_cut : (leftovers : Leftovers) (region : Name) (text : List ℕ) (w : View) (s : Site) (p : Place) → IsLawful w → MayHaveMapped region text w p → p.faults ≤ w.faults → (q : Place) × LeftByRow (map_pattern region text s.name p) p q × Matches w q
 map_cut leftovers region text w s p law b later =
     let m = mapped_place leftovers region text w p p.site law b in (
-      record { site = p.site; told = p.told; now = m.now; left = m.left; outcomes = maps region text p.outcomes; standings = maps_standing region text p.standings; faults = w.faults; simulated = p.simulated },
+      record { site = p.site; told = p.told; now = m.now; left = m.left; outcomes = maps region text p.outcomes; standings = maps_standing region text p.standings; shown = w.content; faults = w.faults; simulated = p.simulated },
       record {
         told = refl;
         outcomes = λ sure o a. inr (among_maps region text p.outcomes o a);
@@ -232,7 +246,7 @@ map_fault leftovers region text w s p k before now law down site made b count ro
     let of = λ (sure : p.told ≡ true) (o : Contents) (a : Among (maps region text p.outcomes) o). (let x = among_maps region text p.outcomes o a in of_may_map s.name region text x.0 o ((made sure).outcomes x.0 x.1) x.2) in
     comes_fault
     k
-    (record { site = state; told = p.told; now = m.now; left = m.left; outcomes = maps region text p.outcomes; standings = maps_standing region text p.standings; faults = w.faults; simulated = p.simulated })
+    (record { site = state; told = p.told; now = m.now; left = m.left; outcomes = maps region text p.outcomes; standings = maps_standing region text p.standings; shown = w.content; faults = w.faults; simulated = p.simulated })
     (early_down s p down site)
     (record {
       site = refl;
@@ -349,23 +363,30 @@ there_faulted leftovers region number text v w s k before now m count rose t p h
 pub there_cut : (leftovers : Leftovers) (region : Name) (number : ℕ) (text : List ℕ) (v w : View) (s : Site) → Moments region number text v w → IsCutSeen region text v s w
 there_cut leftovers region number text v w s m p h = map_cut leftovers region text w s p m.lawful (there_mapped leftovers region number text v w s p m h) (omega (arith, m.later, h.faults))
 
+-- nothing is shown of a disk that tells nothing
+shown_none : (x o n : Option Files) → IfSome o (λ _. ⊥) → IfSome x (λ f. o ≡ Some f) → IfSome x (λ f. n ≡ Some f)
+shown_none None o n h e = tt
+shown_none (Some f) None n h e = absurd (cc e)
+shown_none (Some f) (Some g) n h e = absurd h
+
 pub there_damaged : (region : Name) (number : ℕ) (text : List ℕ) (v w : View) (s : Site) (file offset : ℕ) (before now : List ℕ) → Moments region number text v w
-    → IfSome v.content (λ files. (c : Contents) → IsSite files c → ⊥) → now ≡ before ++ line s.name (codes "NOTAFILE " ++ decimal file ++ 32 ∷ decimal offset) → MapsAt region text v s w s before now false
-there_damaged region number text v w s file offset before now m outside t p h =
+    → IfSome v.content (λ files. (c : Contents) → IsSite files c → ⊥) → IfSome v.content (λ _. ⊥) → now ≡ before ++ line s.name (codes "NOTAFILE " ++ decimal file ++ 32 ∷ decimal offset) → MapsAt region text v s w s before now false
+there_damaged region number text v w s file offset before now m outside untold t p h =
     let unsure : p.told ≡ false = not_true p.told (λ sure.
     let here = some_both v.content _ _ (h.reads sure) outside in
     here.2 p.now (reads_site here.0 p.now p.left (h.made sure).now.made here.1).0) in
-    damaged region text w s file offset before now t p unsure (unknown_seen w s p h.down h.site unsure (omega (arith, m.later, h.faults)) (m.simulated ∙ h.simulated))
+    damaged region text w s file offset before now t p unsure (by_shown p.shown v.content (IsNotThere s.name file offset) h.shown (if_some v.content (λ _. ⊥) (IsNotThere s.name file offset) (λ f none. absurd none) untold))
+    (unknown_seen w s p h.down h.site unsure (shown_none p.shown v.content w.content untold h.shown) (omega (arith, m.later, h.faults)) (m.simulated ∙ h.simulated))
 
 -- The pattern was mapped.
 
 done_at : (region : Name) (number : ℕ) (text : List ℕ) (w : View) (s : Site) (before now : List ℕ) (p : Place) (read : Contents) → s.state ≡ Down → p.site ≡ Some (site_value s) → (p.told ≡ true → read ≡ p.now) → region_number region read ≡ Some number
     → unmapped region text p ≡ None → (p.told ≡ true → IsSomeAnd w.content (λ files. Reads files (with_pattern number text read) NO_LEFTOVER))
-    → (p.told ≡ true → (f : Files) → Image w f → StandsSo f (bare (with_pattern number text read))) → (p.told ≡ true → IsOf s.name read) → p.faults ≤ w.faults → w.simulated ≡ p.simulated
+    → (p.told ≡ true → (f : Files) → Image w f → StandsSo f (bare (with_pattern number text read))) → (p.told ≡ true → IsOf s.name read) → IfShown p (MappedBy region text s.name) → p.faults ≤ w.faults → w.simulated ≡ p.simulated
     → now ≡ before ++ line s.name (codes "MAPPED") → Answers region text w s p s before now true
-done_at region number text w s before now p read down site as_before named free reads images of later same t =
+done_at region number text w s before now p read down site as_before named free reads images of by later same t =
     let d : Contents = with_pattern number text read in
-    let q : Place = record { site = in_new_state world.Down p.site; told = p.told; now = d; left = NO_LEFTOVER; outcomes = d ∷ []; standings = Some (bare d ∷ []); faults = w.faults; simulated = p.simulated } in
+    let q : Place = record { site = in_new_state world.Down p.site; told = p.told; now = d; left = NO_LEFTOVER; outcomes = d ∷ []; standings = Some (bare d ∷ []); shown = w.content; faults = w.faults; simulated = p.simulated } in
     let of_d : p.told ≡ true → IsOf s.name d = λ sure. of_pattern s.name number text read (of sure) in
     comes_done
     q
@@ -377,8 +398,9 @@ done_at region number text w s before now p read down site as_before named free 
       named = named;
       becomes = record { site = refl; known = record { told = refl; now = refl; left = refl; outcomes = refl; standings = refl }; faults = later; simulated = refl };
     })
+    by
     (record {
-      disk = record { told = reads; images = λ sure f i. (d, inl refl, so_stands f (bare d) (images sure f i)); standings = λ sure f i. (bare d, inl refl, images sure f i); faults = refl; simulated = same };
+      disk = record { told = reads; images = λ sure f i. (d, inl refl, so_stands f (bare d) (images sure f i)); standings = λ sure f i. (bare d, inl refl, images sure f i); shown = as_told w.content; faults = refl; simulated = same };
       site = ap (in_new_state world.Down) site ∙ ap (λ (x : world.State). Some (record { name = s.name; state = x })) (ap state_value (sym down));
       held = record { made = λ sure. record { now = of_d sure; outcomes = λ o a. subst (IsOf s.name) (sym (only o d a)) (of_d sure) }; state = subst (λ (x : State). HoldsState w x q) (sym down) tt };
     })
@@ -398,8 +420,8 @@ unbegun_so leftovers number text c f e site = inr (record { site = site; torn = 
 done_told : (leftovers : Leftovers) (region : Name) (number : ℕ) (text : List ℕ) (v w : View) (s : Site) (before now : List ℕ) (p : Place) → Moments region number text v w → IsSeenAt v s p → p.told ≡ true
     → IfSome v.content (λ files. (c : Contents) → IsSite files c → IfSome w.content (λ now. IsSite now (with_pattern number text c)))
     → IfSome v.content (λ files. (c : Contents) → IsSite files c → EachStands v → (f : Files) → Image w f → IsSite f (with_pattern number text c))
-    → now ≡ before ++ line s.name (codes "MAPPED") → Answers region text w s p s before now true
-done_told leftovers region number text v w s before now p m h sure reads images t =
+    → IfSome v.content (MappedBy region text s.name) → now ≡ before ++ line s.name (codes "MAPPED") → Answers region text w s p s before now true
+done_told leftovers region number text v w s before now p m h sure reads images by t =
     let d : Contents = with_pattern number text p.now in
     let free : IsUnmappedIn region number text p.now = free_at region number text v w s p m h sure in
     let read = some_both v.content _ _ (h.reads sure) reads in
@@ -410,19 +432,19 @@ done_told leftovers region number text v w s before now p m h sure reads images 
     some_and w.content (λ f. IsSite f d) (λ f. Reads f d NO_LEFTOVER) (λ f k. unbegun_reads leftovers number text p.now f free.unbegun k)
     (some_and_of w.content (λ f. IsSite f d) (m.still_told (told_is v.content _ (h.reads sure))) (read.2 p.now (reads_site read.0 p.now p.left made read.1).0)) in
     done_at region number text w s before now p p.now h.down h.site (λ _. refl) free.named (not_refused region text p number sure free.unbegun free.named free.once) (λ _. told)
-    (λ _ f i. unbegun_so leftovers number text p.now f free.unbegun (image.2 p.now (reads_site image.0 p.now p.left made image.1).0 stands f i)) (λ _. (h.made sure).now) (omega (arith, m.later, h.faults)) (m.simulated ∙ h.simulated) t
+    (λ _ f i. unbegun_so leftovers number text p.now f free.unbegun (image.2 p.now (reads_site image.0 p.now p.left made image.1).0 stands f i)) (λ _. (h.made sure).now) (by_shown p.shown v.content (MappedBy region text s.name) h.shown by) (omega (arith, m.later, h.faults)) (m.simulated ∙ h.simulated) t
 
 done_untold : (region : Name) (number : ℕ) (text : List ℕ) (v w : View) (s : Site) (before now : List ℕ) (p : Place) (read : Contents) → Moments region number text v w → IsSeenAt v s p → p.told ≡ false
-    → region_number region read ≡ Some number → now ≡ before ++ line s.name (codes "MAPPED") → Answers region text w s p s before now true
-done_untold region number text v w s before now p read m h unsure named t =
+    → region_number region read ≡ Some number → IfSome v.content (MappedBy region text s.name) → now ≡ before ++ line s.name (codes "MAPPED") → Answers region text w s p s before now true
+done_untold region number text v w s before now p read m h unsure named by t =
     done_at region number text w s before now p read h.down h.site (λ sure. absurd (false≢true (sym unsure ∙ sure))) named (unmapped_unknown region text p unsure) (λ sure. absurd (false≢true (sym unsure ∙ sure)))
-    (λ sure. absurd (false≢true (sym unsure ∙ sure))) (λ sure. absurd (false≢true (sym unsure ∙ sure))) (omega (arith, m.later, h.faults)) (m.simulated ∙ h.simulated) t
+    (λ sure. absurd (false≢true (sym unsure ∙ sure))) (λ sure. absurd (false≢true (sym unsure ∙ sure))) (by_shown p.shown v.content (MappedBy region text s.name) h.shown by) (omega (arith, m.later, h.faults)) (m.simulated ∙ h.simulated) t
 
 pub there_done : (leftovers : Leftovers) (region : Name) (number : ℕ) (text : List ℕ) (v w : View) (s : Site) (before now : List ℕ) → Moments region number text v w → ((c : Contents) × (region_number region c ≡ Some number))
     → IfSome v.content (λ files. (c : Contents) → IsSite files c → IfSome w.content (λ now. IsSite now (with_pattern number text c)))
     → IfSome v.content (λ files. (c : Contents) → IsSite files c → EachStands v → (f : Files) → Image w f → IsSite f (with_pattern number text c))
-    → now ≡ before ++ line s.name (codes "MAPPED") → MapsAt region text v s w s before now true
-there_done leftovers region number text v w s before now m named reads images t p h = elim (is_true_or_false p.told) [
-  | inl sure ↦ done_told leftovers region number text v w s before now p m h sure reads images t
-  | inr unsure ↦ done_untold region number text v w s before now p named.0 m h unsure named.1 t
+    → IfSome v.content (MappedBy region text s.name) → now ≡ before ++ line s.name (codes "MAPPED") → MapsAt region text v s w s before now true
+there_done leftovers region number text v w s before now m named reads images by t p h = elim (is_true_or_false p.told) [
+  | inl sure ↦ done_told leftovers region number text v w s before now p m h sure reads images by t
+  | inr unsure ↦ done_untold region number text v w s before now p named.0 m h unsure named.1 by t
 ]

@@ -2,14 +2,14 @@
 use Rattle.std.proofs.Common.{◌≡◌, ℕ, ◌<◌, max, nat_lt, Bool, true, false, List, [], ◌∷◌, ◌++◌, length, None, Some, refl, sym, ◌∙◌, ap, subst, arith, inl, inr, if◌then◌else◌}
 use Rattle.std.specs.Prelude.{Option}
 use Rattle.std.proofs.lemmas.Bool.{le-leb}
-use Rattle.journal_defs.specs.Instance.{InstanceRecord, Create, Reigned, Cut, Map, Mode, generation, pattern_record}
+use Rattle.journal_defs.specs.Instance.{InstanceRecord, Create, Reigned, Cut, Map, Mode, generation, regions, pattern_record}
 use Rattle.command_defs.specs.Commands.{Name}
-use Rattle.site_defs.specs.Lists.{Among}
+use Rattle.site_defs.specs.Lists.{Among, first_where}
 use Rattle.world_defs.specs.World.{Place}
-use Rattle.site_defs.specs.Contents.{Contents}
+use Rattle.site_defs.specs.Contents.{Contents, same_name}
 use Rattle.world_defs.specs.Answers.{Cause, Started, NoRegion, TwiceMapped}
 use Rattle.world_defs.specs.Row.{first}
-use Rattle.world_defs.specs.rows.Map.{started, no_region_at, twice_mapped, unmapped}
+use Rattle.world_defs.specs.rows.Map.{started, no_region_at, twice_mapped, unmapped_by, unmapped}
 use Rattle.site_defs.specs.Limits.{region_number}
 use Rattle.site_defs.specs.Opening.{with_pattern, MayMap}
 use Rattle.world_laws.proofs.ContentsFit.{name-pattern}
@@ -66,36 +66,56 @@ generation_map (Cut n g ∷ rs) region star name = ap (max g) (generation_map rs
 generation_map (Map other with_star stem ∷ rs) region star name = generation_map rs region star name
 generation_map (Mode other before ∷ rs) region star name = generation_map rs region star name
 
--- The causes of a refusal, where the site's files are known.
+-- The causes of a refusal, by the records of the instance file.
 
-unmapped_told : (region : Name) (text : List ℕ) (p : Place) (x y z : Option Cause) → p.told ≡ true → started p.now ≡ x → no_region_at region (region_number region p.now) ≡ y → twice_mapped text p.now ≡ z
-    → unmapped region text p ≡ first (x ∷ y ∷ z ∷ [])
-unmapped_told region text p x y z sure ex ey ez =
-    ap (λ (b : Bool). if b then first (started p.now ∷ no_region_at region (region_number region p.now) ∷ twice_mapped text p.now ∷ []) else None) sure
-    ∙ ap (λ (a : Option Cause). first (a ∷ no_region_at region (region_number region p.now) ∷ twice_mapped text p.now ∷ [])) ex
-    ∙ ap (λ (a : Option Cause). first (x ∷ a ∷ twice_mapped text p.now ∷ [])) ey
+-- the region of that name, by records
+abbrev number_in : Name → List InstanceRecord → Option ℕ
+number_in region rs = first_where (λ r. same_name r.name region) (regions rs)
+
+unmapped_of : (region : Name) (text : List ℕ) (rs : List InstanceRecord) (x y z : Option Cause) → started rs ≡ x → no_region_at region (number_in region rs) ≡ y → twice_mapped text rs ≡ z
+    → unmapped_by region text rs ≡ first (x ∷ y ∷ z ∷ [])
+unmapped_of region text rs x y z ex ey ez =
+    ap (λ (a : Option Cause). first (a ∷ no_region_at region (number_in region rs) ∷ twice_mapped text rs ∷ [])) ex
+    ∙ ap (λ (a : Option Cause). first (x ∷ a ∷ twice_mapped text rs ∷ [])) ey
     ∙ ap (λ (a : Option Cause). first (x ∷ y ∷ a ∷ [])) ez
 
-pub unmapped_unknown : (region : Name) (text : List ℕ) (p : Place) → p.told ≡ false → unmapped region text p ≡ None
-unmapped_unknown region text p unsure = ap (λ (b : Bool). if b then first (started p.now ∷ no_region_at region (region_number region p.now) ∷ twice_mapped text p.now ∷ []) else None) unsure
-
 -- its journals have begun
-is_started : (c : Contents) → 0 < generation c.instance → started c ≡ Some Started
-is_started c h = let e : nat_lt 0 (generation c.instance) ≡ true = le-leb 1 (generation c.instance) h in rw e refl
+is_started : (rs : List InstanceRecord) → 0 < generation rs → started rs ≡ Some Started
+is_started rs h = let e : nat_lt 0 (generation rs) ≡ true = le-leb 1 (generation rs) h in rw e refl
 
-not_started : (c : Contents) → generation c.instance ≡ 0 → started c ≡ None
-not_started c h = rw h refl
+not_started : (rs : List InstanceRecord) → generation rs ≡ 0 → started rs ≡ None
+not_started rs h = rw h refl
+
+pub by_started : (region : Name) (text : List ℕ) (rs : List InstanceRecord) → 0 < generation rs → unmapped_by region text rs ≡ Some Started
+by_started region text rs h = unmapped_of region text rs (Some Started) _ _ (is_started rs h) refl refl
+
+pub by_no_region : (region : Name) (text : List ℕ) (rs : List InstanceRecord) → generation rs ≡ 0 → number_in region rs ≡ None → unmapped_by region text rs ≡ Some (NoRegion region)
+by_no_region region text rs h e = unmapped_of region text rs None (Some (NoRegion region)) _ (not_started rs h) (ap (no_region_at region) e) refl
+
+pub by_twice : (region : Name) (text : List ℕ) (rs : List InstanceRecord) (number : ℕ) → generation rs ≡ 0 → number_in region rs ≡ Some number → twice_mapped text rs ≡ Some TwiceMapped → unmapped_by region text rs ≡ Some TwiceMapped
+by_twice region text rs number h e twice = unmapped_of region text rs None None (Some TwiceMapped) (not_started rs h) (ap (no_region_at region) e) twice
+
+pub by_nothing : (region : Name) (text : List ℕ) (rs : List InstanceRecord) (number : ℕ) → generation rs ≡ 0 → number_in region rs ≡ Some number → twice_mapped text rs ≡ None → unmapped_by region text rs ≡ None
+by_nothing region text rs number h e once = unmapped_of region text rs None None None (not_started rs h) (ap (no_region_at region) e) once
+
+-- where the site's files are known
+
+unmapped_told : (region : Name) (text : List ℕ) (p : Place) → p.told ≡ true → unmapped region text p ≡ unmapped_by region text p.now.instance
+unmapped_told region text p sure = ap (λ (b : Bool). if b then unmapped_by region text p.now.instance else None) sure
+
+pub unmapped_unknown : (region : Name) (text : List ℕ) (p : Place) → p.told ≡ false → unmapped region text p ≡ None
+unmapped_unknown region text p unsure = ap (λ (b : Bool). if b then unmapped_by region text p.now.instance else None) unsure
 
 pub refused_started : (region : Name) (text : List ℕ) (p : Place) → p.told ≡ true → 0 < generation p.now.instance → unmapped region text p ≡ Some Started
-refused_started region text p sure h = unmapped_told region text p (Some Started) _ _ sure (is_started p.now h) refl refl
+refused_started region text p sure h = unmapped_told region text p sure ∙ by_started region text p.now.instance h
 
 pub refused_no_region : (region : Name) (text : List ℕ) (p : Place) → p.told ≡ true → generation p.now.instance ≡ 0 → region_number region p.now ≡ None → unmapped region text p ≡ Some (NoRegion region)
-refused_no_region region text p sure h e = unmapped_told region text p None (Some (NoRegion region)) _ sure (not_started p.now h) (ap (no_region_at region) e) refl
+refused_no_region region text p sure h e = unmapped_told region text p sure ∙ by_no_region region text p.now.instance h e
 
-pub refused_twice : (region : Name) (text : List ℕ) (p : Place) (number : ℕ) → p.told ≡ true → generation p.now.instance ≡ 0 → region_number region p.now ≡ Some number → twice_mapped text p.now ≡ Some TwiceMapped
+pub refused_twice : (region : Name) (text : List ℕ) (p : Place) (number : ℕ) → p.told ≡ true → generation p.now.instance ≡ 0 → region_number region p.now ≡ Some number → twice_mapped text p.now.instance ≡ Some TwiceMapped
     → unmapped region text p ≡ Some TwiceMapped
-refused_twice region text p number sure h e twice = unmapped_told region text p None None (Some TwiceMapped) sure (not_started p.now h) (ap (no_region_at region) e) twice
+refused_twice region text p number sure h e twice = unmapped_told region text p sure ∙ by_twice region text p.now.instance number h e twice
 
-pub not_refused : (region : Name) (text : List ℕ) (p : Place) (number : ℕ) → p.told ≡ true → generation p.now.instance ≡ 0 → region_number region p.now ≡ Some number → twice_mapped text p.now ≡ None
+pub not_refused : (region : Name) (text : List ℕ) (p : Place) (number : ℕ) → p.told ≡ true → generation p.now.instance ≡ 0 → region_number region p.now ≡ Some number → twice_mapped text p.now.instance ≡ None
     → unmapped region text p ≡ None
-not_refused region text p number sure h e once = unmapped_told region text p None None None sure (not_started p.now h) (ap (no_region_at region) e) once
+not_refused region text p number sure h e once = unmapped_told region text p sure ∙ by_nothing region text p.now.instance number h e once

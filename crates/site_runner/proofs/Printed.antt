@@ -7,12 +7,13 @@ use Rattle.disk_defs.specs.Disk as disk
 use Rattle.disk_defs.specs.Disk.{Files, View, Image, Rose}
 use Rattle.journal_defs.specs.Numbers.{broken_file}
 use Rattle.world_defs.specs.World as world
-use Rattle.world_defs.specs.World.{Place}
+use Rattle.world_defs.specs.World.{Place, IfShown}
+use Rattle.command_defs.specs.Commands.{Name}
 use Rattle.site_defs.specs.Contents.{Contents, Leftover}
-use Rattle.world_defs.specs.Answers.{NoFile, Refusal, line, Cause}
+use Rattle.world_defs.specs.Answers.{NoFile, Stopped, Refusal, Refused, Typed, line, Cause}
 use Rattle.world_defs.specs.Row.{refused_with, in_state, stopped}
 use Rattle.world_defs.specs.Changes.{in_new_state}
-use Rattle.world_defs.specs.rows.Print.{typed, no_file, print}
+use Rattle.world_defs.specs.rows.Print.{TypedBy, typed, no_file, print}
 use Rattle.site_defs.specs.Stands.{IsSite, HasLeft, Reads}
 use Rattle.site_runner.specs.declared.slot.State.{State}
 use Rattle.site_runner.specs.declared.slot.State.TheVariants.{Down, Primary, Failed}
@@ -20,11 +21,21 @@ use Rattle.site_runner.specs.declared.slot.Site.{Site}
 use Rattle.site_runner.specs.Sites.{state_value, HoldsState}
 use Rattle.site_runner.specs.Steps.{IsAt, ExecutesAt, IsCutAt}
 use Rattle.site_runner.proofs.Fused.{state_read}
-use Rattle.site_runner.proofs.Ats.{comes_refused, comes_may_refuse, comes_fault, comes_typed, refused_late, none_refused, state_at, is_true_or_false, some_both, reads_site, stand_same, left_old, images_still}
+use Rattle.site_runner.proofs.Ats.{comes_refused, comes_may_refuse, comes_fault, comes_typed, refused_late, none_refused, state_at, is_true_or_false, some_both, reads_site, stand_same, left_old, images_still, shown_same, by_shown, if_some}
 use Rattle.site_runner.proofs.Seen.{counted, kept_counted}
 
 pub print_stopped : (g : ℕ) (v : View) (s : Site) (cause : Cause) (p : Place) → stopped (state_value s.state) ≡ Some cause → IsAt v s p → (print g s.name p).early ≡ refused_with s.name (Some cause)
 print_stopped g v s cause p e h = ap (refused_with s.name) (state_at stopped v s p h ∙ e)
+
+-- which no file decides
+pub print_early : (name : Name) (g : ℕ) (state : world.State) (cause : Cause) (p : Place) → stopped state ≡ Some cause → IfShown p (TypedBy g (Refused (record { site = name; cause = cause })))
+print_early name g world.Down cause p e = cc
+print_early name g (world.Primary stamp serials) cause p e = cc
+print_early name g (world.Failed k) cause p e = let same : Stopped k ≡ cause = cc in never p.shown (λ is. (let no : Stopped k ≡ NoFile = same ∙ is in cc))
+  where
+    never : (x : Option Files) → (cause ≡ NoFile → ⊥) → IfSome x (λ f. cause ≡ NoFile → f (broken_file g) ≡ [])
+    never None f = tt
+    never (Some files) f = λ is. absurd (f is)
 
 -- A site over a disk that was only read.
 
@@ -39,6 +50,7 @@ read_at v w s p r h = record {
     told = λ sure. subst (λ (x : Option Files). IsSomeAnd x (λ files. Reads files p.now p.left)) (sym r.content) (h.disk.told sure);
     images = λ sure f i. let k = r.passes.images f i in h.disk.images sure f (subst (Image v) (sym k.2) k.1);
     standings = λ sure. images_still v w p.standings (λ f i. let k = r.passes.images f i in subst (Image v) (sym k.2) k.1) (h.disk.standings sure);
+    shown = shown_same p.shown v.content w.content r.content h.disk.shown;
     faults = refl;
     simulated = r.passes.simulated ∙ h.disk.simulated;
   };
@@ -83,12 +95,15 @@ pub print_none : (typing : TypingReads) (g : ℕ) (v w : View) (s : Site) (old b
 print_none typing g v w s old bytes before now r later up some most none text empty t p h = elim (is_true_or_false p.told) [
   | inl sure ↦ comes_refused no (counted p w.faults)
       (refused_late s.name (in_state stopped p.site) (no_file g p) NoFile (up_at v s p h up) (no_byte g p sure (sym (file_typed typing g v s p old bytes h some most none text sure) ∙ empty)))
-      (kept_counted p w.faults faults) (read_at v w s p r h) t
-  | inr unsure ↦ comes_may_refuse no (counted p w.faults) (ap (refused_with s.name) (up_at v s p h up)) (refl, record { unknown = unsure; kept = kept_counted p w.faults faults }) (read_at v w s p r h) t
+      (kept_counted p w.faults faults) by (read_at v w s p r h) t
+  | inr unsure ↦ comes_may_refuse no (counted p w.faults) (ap (refused_with s.name) (up_at v s p h up)) (refl, record { unknown = unsure; kept = kept_counted p w.faults faults }) by (read_at v w s p r h) t
 ]
   where
     no : Refusal
     no = record { site = s.name; cause = NoFile }
+
+    by : IfShown p (TypedBy g (Refused no))
+    by = by_shown p.shown v.content (TypedBy g (Refused no)) h.disk.shown (if_some v.content _ (TypedBy g (Refused no)) (λ f e same. sym (e ∙ ap (λ (x : List ℕ). x ++ f (broken_file g)) none) ∙ empty) text)
 
     faults : p.faults ≤ w.faults
     faults = omega (arith, later, h.disk.faults)
@@ -100,7 +115,9 @@ printed typing g v w s old bytes before now r later up some most none text full 
     let typed_so : p.told ≡ true → bytes ≡ typed g p = λ sure. file_typed typing g v s p old bytes h some most none text sure in
     comes_typed bytes (counted p w.faults)
     (none_refused s.name (in_state stopped p.site) (no_file g p) (up_at v s p h up) (has_file g p (is_true_or_false p.told) (λ sure e. full (typed_so sure ∙ e))))
-    (record { some = full; told = typed_so; kept = kept_counted p w.faults (omega (arith, later, h.disk.faults)) }) (read_at v w s p r h) t
+    (record { some = full; told = typed_so; kept = kept_counted p w.faults (omega (arith, later, h.disk.faults)) })
+    (by_shown p.shown v.content (TypedBy g (Typed bytes)) h.disk.shown (if_some v.content _ (TypedBy g (Typed bytes)) (λ f e. e ∙ ap (λ (x : List ℕ). x ++ f (broken_file g)) none) text))
+    (read_at v w s p r h) t
 
 -- a call failed
 pub print_fault : (g : ℕ) (v w : View) (s : Site) (k : ℕ) (before now : List ℕ) → disk.Reads v w → stopped (state_value s.state) ≡ None → k ≡ w.faults → Rose v.faults w.faults
@@ -110,19 +127,20 @@ print_fault g v w s k before now r up count rose t p h =
     let state = in_new_state (world.Failed k) p.site in
     comes_fault
     k
-    (record { site = state; told = p.told; now = p.now; left = p.left; outcomes = p.outcomes; standings = p.standings; faults = w.faults; simulated = p.simulated })
+    (record { site = state; told = p.told; now = p.now; left = p.left; outcomes = p.outcomes; standings = p.standings; shown = p.shown; faults = w.faults; simulated = p.simulated })
     (ap (refused_with s.name) (up_at v s p h up))
     (record {
       site = refl;
       now = refl;
       left = refl;
       known = record { told = refl; outcomes = λ o m. m; standings = λ t. stand_same p.standings };
+      shown = refl;
       count = sym count;
       rose = subst (λ (x : ℕ). Rose p.faults x) (sym count) (subst (λ (x : ℕ). Rose x w.faults) h.disk.faults rose);
       simulated = refl;
     })
     (record {
-      disk = record { told = a.disk.told; images = a.disk.images; standings = a.disk.standings; faults = refl; simulated = a.disk.simulated };
+      disk = record { told = a.disk.told; images = a.disk.images; standings = a.disk.standings; shown = a.disk.shown; faults = refl; simulated = a.disk.simulated };
       site = ap (in_new_state (world.Failed k)) h.site;
       held = record { made = λ sure. record { now = (h.held.made sure).now; outcomes = (h.held.made sure).outcomes }; state = tt };
     })

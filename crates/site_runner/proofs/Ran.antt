@@ -12,12 +12,12 @@ use Rattle.global_defs.specs.Evaluation.{Evaluated, eval}
 use Rattle.global_defs.specs.Evaluation as evaluation
 use Rattle.global_defs.specs.Serial.{MOST_ENTRIES, Turn, Seq, RolledBack, first_of, next_job, without_next, serial_at, entry_of, replied, decided, picked, serial, begun}
 use Rattle.repl_section.specs.declared.reign.Reign.{Reign}
-use Rattle.command_defs.specs.Sections.{UsesUp}
+use Rattle.command_defs.specs.Commands.{UsesUp, Name}
 use Rattle.repl_section.specs.Reigns.{Reigns, stamp_in, stamp_of}
+use Rattle.repl_section.specs.Lines.{GaveLines}
 use Rattle.repl_section.specs.Deciding.{HasDecided, MayHaveFront, LeftAfter, MayLeave, FailsIn}
 use Rattle.site_defs.specs.Lists.{Among}
 use Rattle.world_defs.specs.World as world
-use Rattle.command_defs.specs.Commands.{Name}
 use Rattle.world_defs.specs.World.{Place, StandAfter}
 use Rattle.site_defs.specs.Contents.{Contents, Leftover, Standing, NO_LEFTOVER, bare}
 use Rattle.world_defs.specs.Answers.{Section, line, Cause}
@@ -119,7 +119,7 @@ pub record FrontPlace (w : View) (p : Place) (state : Option world.Site) (all : 
   pub front : p.told ≡ true → IsFrontOf all low p.now now
   pub behind : p.told ≡ true → IsBehind now left
   pub fronts_all : p.told ≡ true → (o : Contents) → Among (fronts p.now all low (length all - low)) o → IsFrontOf all low p.now o
-  pub matches : Matches w (record { site = state; told = p.told; now = now; left = left; outcomes = fronts p.now all low (length all - low); standings = standings; faults = w.faults; simulated = p.simulated })
+  pub matches : Matches w (record { site = state; told = p.told; now = now; left = left; outcomes = fronts p.now all low (length all - low); standings = standings; shown = w.content; faults = w.faults; simulated = p.simulated })
 
 pub front_place : (leftovers : Leftovers) (w : View) (p : Place) (state : Option world.Site) (all : Sequence) (low : ℕ) (standings : Option (List Standing)) → IsLawful w → w.simulated ≡ p.simulated → MayHaveFront w p.told p.now all low → (p.told ≡ true → ImagesStand w standings)
     → FrontPlace w p state all low standings
@@ -138,15 +138,15 @@ of_sequence name c seq h = record { made = h.made; name = h.name }
 
 -- all jobs are decided
 pub ran : (v w : View) (nothing : NothingIsLeft w) (s : Site) (r new : Reign) (jobs : List (List Job)) (order : List ℕ) (before middle now : List ℕ) → IsLawful w → UsesUp jobs order → s.state ≡ Primary r → new.site.stamp ≡ r.site.stamp → w.simulated ≡ v.simulated → v.faults ≤ w.faults
-    → ((told : Bool) (c : Contents) → Reigns v told c r → HasDecided w told c jobs order r new before middle)
+    → ((told : Bool) (c : Contents) → Reigns v told c r → HasDecided w told c jobs order r new (GaveLines before middle))
     → now ≡ middle ++ line s.name (codes "AT " ++ decimal (length new.site.entries.items)) → ExecutesAt (run jobs order s.name) v s w (record { name = s.name; state = Primary new }) before now false
 ran v w nothing s r new jobs order before middle now law whole st stamped same later f t p h =
-    let d : HasDecided w p.told p.now jobs order r new before middle = f p.told p.now (reigns_at v s r p st h) in
+    let d : HasDecided w p.told p.now jobs order r new (GaveLines before middle) = f p.told p.now (reigns_at v s r p st h) in
     let stamp = stamp_of r in
     let turn : Turn = turn_of stamp r.serials jobs order p.now.sequence in
     let state : world.State = world.Primary stamp turn.serials in
     let o : Contents = with_sequence p.now turn.sequence in
-    let q : Place = record { site = in_new_state state p.site; told = p.told; now = o; left = NO_LEFTOVER; outcomes = o ∷ []; standings = Some (bare o ∷ []); faults = w.faults; simulated = p.simulated } in
+    let q : Place = record { site = in_new_state state p.site; told = p.told; now = o; left = NO_LEFTOVER; outcomes = o ∷ []; standings = Some (bare o ∷ []); shown = w.content; faults = w.faults; simulated = p.simulated } in
     let ends : Section = record { picks = order; fault = None } in
     let count : length new.site.entries.items ≡ length turn.sequence = length_tagged new.site.entries.items turn.sequence 1 d.reigns.remembered.entries in
     let text : turn_on p.site jobs ends.picks p ≡ turn = ap (λ (x : Option world.Site). turn_on x jobs ends.picks p) (site_is v s r p st h) in
@@ -174,17 +174,17 @@ ran v w nothing s r new jobs order before middle now law whole st stamped same l
         state = record { reigns = d.reigns; settled = λ sure x j. only x o j; left = λ sure. refl; standings = λ sure. refl };
       };
     })
-    (t ∙ ap (λ (x : List ℕ). x ++ line s.name (codes "AT " ++ decimal (length new.site.entries.items))) d.text
+    (t ∙ ap (λ (x : List ℕ). x ++ line s.name (codes "AT " ++ decimal (length new.site.entries.items))) d.given
     ∙ append_assoc before (flat_map reply_line turn.replies) _
     ∙ ap (λ (k : ℕ). before ++ (flat_map reply_line turn.replies ++ line s.name (codes "AT " ++ decimal k))) count
     ∙ ap (λ (x : Turn). before ++ section_text s.name (length order) x None) (sym text))
 
 -- a fault ended it
 pub ran_to_fault : (leftovers : Leftovers) (v w : View) (s : Site) (r : Reign) (jobs : List (List Job)) (order : List ℕ) (k undecided : ℕ) (before middle now : List ℕ) → IsLawful v → IsLawful w → s.state ≡ Primary r → w.simulated ≡ v.simulated → k ≡ w.faults → Rose v.faults w.faults
-    → ((told : Bool) (c : Contents) → Reigns v told c r → FailsIn w (stamp_of r) told c jobs order r.serials undecided before middle)
+    → ((told : Bool) (c : Contents) → Reigns v told c r → FailsIn w (stamp_of r) told c jobs order r.serials undecided (GaveLines before middle))
     → now ≡ middle ++ undecided_line s.name k undecided → ExecutesAt (run jobs order s.name) v s w (record { name = s.name; state = Failed k }) before now false
 ran_to_fault leftovers v w s r jobs order k undecided before middle now was law st same count rose f t p h =
-    let a : FailsIn w (stamp_of r) p.told p.now jobs order r.serials undecided before middle = f p.told p.now (reigns_at v s r p st h) in
+    let a : FailsIn w (stamp_of r) p.told p.now jobs order r.serials undecided (GaveLines before middle) = f p.told p.now (reigns_at v s r p st h) in
     let stamp = stamp_of r in
     let picks : List ℕ = take a.decided order in
     let many : length picks ≡ a.decided = length-take-le a.decided order (omega (arith, a.inside)) in
@@ -207,7 +207,7 @@ ran_to_fault leftovers v w s r jobs order k undecided before middle now was law 
     let of = λ (sure : p.told ≡ true) (o : Contents) (g : IsFrontOf all low p.now o). subst (IsOf s.name) (sym g.is) (of_sequence s.name p.now (take g.count all) (h.held.made sure).now) in
     comes_ran
     ends
-    (record { site = state; told = p.told; now = front.now; left = front.left; outcomes = fronts p.now all low (length all - low); standings = Some list; faults = w.faults; simulated = p.simulated })
+    (record { site = state; told = p.told; now = front.now; left = front.left; outcomes = fronts p.now all low (length all - low); standings = Some list; shown = w.content; faults = w.faults; simulated = p.simulated })
     (none_primary v s r jobs order p st h)
     (record {
       stamp = stamp;
@@ -236,7 +236,7 @@ ran_to_fault leftovers v w s r jobs order k undecided before middle now was law 
         state = tt;
       };
     })
-    (t ∙ ap (λ (x : List ℕ). x ++ undecided_line s.name k undecided) a.text
+    (t ∙ ap (λ (x : List ℕ). x ++ undecided_line s.name k undecided) a.given
     ∙ append_assoc before (flat_map reply_line turn.replies) _
     ∙ ap (λ (u : ℕ). before ++ (flat_map reply_line turn.replies ++ undecided_line s.name k u)) rest
     ∙ ap (λ (x : Turn). before ++ section_text s.name (length order) x (Some k)) (sym text))
@@ -251,7 +251,7 @@ pub left_after : (stamp : Stamp) (c : Contents) (jobs : List (List Job)) (order 
 left_after stamp c jobs order serials files x = (x.1.standing, x.0, x.1.may, stands_with files x.1.standing x.1.stands)
 
 -- what is hardened is a front that has all
-pub decided_front : (w : View) (told : Bool) (c : Contents) (jobs : List (List Job)) (order : List ℕ) (r new : Reign) (before now : List ℕ) → HasDecided w told c jobs order r new before now
+pub decided_front : (w : View) (told : Bool) (c : Contents) (jobs : List (List Job)) (order : List ℕ) (r new : Reign) (before now : List ℕ) → HasDecided w told c jobs order r new (GaveLines before now)
     → (m low : ℕ) × (length c.sequence ≤ low) × MayHaveFront w told c (turn_of (stamp_of r) r.serials jobs (take m order) c.sequence).sequence low
 decided_front w told c jobs order r new before now d =
     let all = (turn_of (stamp_of r) r.serials jobs order c.sequence).sequence in (
@@ -269,7 +269,7 @@ decided_front w told c jobs order r new before now d =
     )
 
 -- with nothing behind it
-pub decided_behind : (w : View) (nothing : NothingIsLeft w) (told : Bool) (c : Contents) (jobs : List (List Job)) (order : List ℕ) (r new : Reign) (before now : List ℕ) → HasDecided w told c jobs order r new before now
+pub decided_behind : (w : View) (nothing : NothingIsLeft w) (told : Bool) (c : Contents) (jobs : List (List Job)) (order : List ℕ) (r new : Reign) (before now : List ℕ) → HasDecided w told c jobs order r new (GaveLines before now)
     → told ≡ true → LeftBehind w (stamp_of r) c jobs order r.serials
 decided_behind w nothing told c jobs order r new before now d sure files i =
     let all = (turn_of (stamp_of r) r.serials jobs order c.sequence).sequence in (
@@ -408,7 +408,7 @@ run_cut leftovers v w s r jobs order was law st same later f lefts p h =
     let list : List Standing = all_stand (runs_of (stamp_of r) r.serials jobs order p.now.sequence) (length order) p.now in
     let front = front_place leftovers w p p.site all low (Some list) law (same ∙ h.disk.simulated) d.3 (λ sure. images_cut w (stamp_of r) r.serials jobs order p.now (lefts p.told p.now reigns sure)) in
     let lower : (o : Contents) → IsFrontOf all low p.now o → IsFrontOf all (length p.now.sequence) p.now o = λ o g. record { count = g.count; least = omega (arith, d.2, g.least); most = g.most; is = g.is } in (
-      record { site = p.site; told = p.told; now = front.now; left = front.left; outcomes = fronts p.now all low (length all - low); standings = Some list; faults = w.faults; simulated = p.simulated },
+      record { site = p.site; told = p.told; now = front.now; left = front.left; outcomes = fronts p.now all low (length all - low); standings = Some list; shown = w.content; faults = w.faults; simulated = p.simulated },
       record {
         told = refl;
         outcomes = λ sure o a. let x = some_outcome v p was h.disk sure in
@@ -431,7 +431,7 @@ run_cut_any leftovers v w s r jobs order was law st same later f p h =
     let stand : List Standing = all_stand runs (length order) p.now in
     let behind : p.told ≡ true → LeftBehind w (stamp_of r) p.now jobs order r.serials = λ sure files i. left_after (stamp_of r) p.now jobs order r.serials files (d.left sure files i) in
     let m = place_of_images leftovers w p p.site list (Some stand) law (same ∙ h.disk.simulated) d.told (λ is c i. let o = d.images is c i in (o.0, among_runs (stamp_of r) r.serials jobs order p.now o.0 o.1.0 o.1.1, inr o.2)) (λ sure. images_cut w (stamp_of r) r.serials jobs order p.now (behind sure)) in (
-      record { site = p.site; told = p.told; now = m.now; left = m.left; outcomes = list; standings = Some stand; faults = w.faults; simulated = p.simulated },
+      record { site = p.site; told = p.told; now = m.now; left = m.left; outcomes = list; standings = Some stand; shown = w.content; faults = w.faults; simulated = p.simulated },
       record {
         told = refl;
         outcomes = λ is o a. let k = are_all_fronts runs (length order) p.now low o a in

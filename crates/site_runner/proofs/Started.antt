@@ -1,28 +1,36 @@
 -- START PRIMARY at a place.
 use Rattle.std.proofs.Common.{◌≡◌, ℕ, ◌+◌, ◌≤◌, ◌<◌, Bool, true, false, List, [], ◌∷◌, ◌++◌, length, None, Some, refl, sym, ◌∙◌, ap, subst, arith, inl, inr, if◌then◌else◌}
-use Rattle.std.specs.Prelude.{◌⊎◌, Option, codes, IfSome, IsSome, IsSomeAnd}
+use Rattle.std.specs.Prelude.{◌⊎◌, Option, map, codes, IfSome, IsSome, IsSomeAnd}
 use Rattle.std.specs.Fmt.{decimal}
 use Rattle.std.proofs.lemmas.Bool.{false≢true}
 use Rattle.disk_defs.specs.Disk.{Files, View, Image, IsLawful, AtEachMoment, Rose}
 use Rattle.global_defs.specs.Entry as defs
+use Rattle.global_defs.specs.Entry.{Entry, Sequence, state}
+use Rattle.journal_defs.specs.Numbers.{INSTANCE}
+use Rattle.journal_defs.specs.Sequence.{Records}
+use Rattle.journal_defs.specs.Stands.{IsInstance}
+use Rattle.disk_defs.proofs.Told.{both_weak}
+use Rattle.std.specs.List.{enumerate_from}
 use Rattle.gvn_model.specs.declared.reign.Stamp.{Stamp}
 use Rattle.gvn_model.specs.Reigns.{stamp_value}
-use Rattle.journal_defs.specs.Instance.{generation, regions, site_name}
+use Rattle.journal_defs.specs.Instance.{InstanceRecord, Create, Reigned, Cut, Map, Mode, generation, regions, site_name}
 use Rattle.site_store.specs.declared.site.OpenSite.{OpenSite}
-use Rattle.site_store.specs.Site.{Remembers, IsOpen}
+use Rattle.site_store.specs.Site.{Remembers, IsOpen, WasOpenedFrom}
 use Rattle.site_store.specs.Opening.{MayBeOpen, MayBeOpenWith, EachStands}
 use Rattle.repl_section.specs.declared.reign.Reign.{Reign}
 use Rattle.repl_section.specs.Reigns.{stamp_in, stamp_of}
 use Rattle.command_defs.specs.Commands.{Name}
 use Rattle.site_defs.specs.Lists.{Among}
 use Rattle.world_defs.specs.World as world
-use Rattle.world_defs.specs.World.{Place}
+use Rattle.world_defs.specs.World.{Place, IfShown}
+use Rattle.world_defs.specs.Shown.{BySequence, IsOfAnother}
 use Rattle.site_defs.specs.Contents.{Contents, Leftover, Standing, NO_LEFTOVER, bare}
 use Rattle.world_defs.specs.Answers.{Cause, Stopped, Running, GenLimit, ReignLimit, line}
 use Rattle.world_defs.specs.Row.{first, refused_with, in_state, why_not_down}
-use Rattle.world_defs.specs.Changes.{in_new_state, After}
-use Rattle.world_defs.specs.rows.Start.{StartRefused, is_reign_limit, limited, generation_limit, reign_limit, FIRST_SERIALS, cycle_on, start}
-use Rattle.site_defs.specs.Limits.{no_reign_left}
+use Rattle.world_defs.specs.Changes.{in_new_state, After, ChangesUnknown}
+use Rattle.world_defs.specs.rows.Start.{StartRefused, read_so, StartedBy, LimitedBy, IsUnopened, is_reign_limit, limited, generation_limit, reign_limit, FIRST_SERIALS, cycle_on, start}
+use Rattle.site_defs.specs.Limits.{LAST_GENERATION, no_reign_left}
+use Rattle.site_defs.specs.Outside.{IsOutsideSite}
 use Rattle.site_defs.specs.Opening.{MayBegin, MayBeginLeft, opened, with_reign, next_stamp}
 use Rattle.world_defs.specs.Step.{LeftByRow}
 use Rattle.world_defs.specs.Ties.{Matches}
@@ -36,7 +44,7 @@ use Rattle.site_runner.specs.Executes.{Comes}
 use Rattle.site_runner.specs.Steps.{IsAt, ExecutesAt, IsCutAt}
 use Rattle.site_runner.specs.Starting.{IsOpenedAt, BeginsAt, IsCutOpened}
 use Rattle.site_runner.proofs.Ats.{comes_done, comes_refused, comes_may_refuse, comes_fault, comes_damaged, refused_late, none_refused, kept_same, not_true, is_true_or_false, some_both, told_is, is_site, reads_site, stands_told, at_moment, reads_image, Leftovers, NothingIsLeft, ReadPlace, place_of_images, place_of_one, only, open_reads, open_images, state_at}
-use Rattle.site_runner.proofs.Ats.{left_new, StandForOne, ImagesStand, images_still, standing_there, at_image, standing_of, stands_with}
+use Rattle.site_runner.proofs.Ats.{left_new, as_told, shown_same, shown_unwritten, by_shown, if_some, any_shown, stand_same, StandForOne, ImagesStand, images_still, standing_there, at_image, standing_of, stands_with}
 use Rattle.site_runner.proofs.Seen.{counted, kept_counted}
 use Rattle.site_runner.proofs.Stopped.{length_tagged}
 use Rattle.site_runner.proofs.Begun.{limit_opened, stamp_opened, of_opened, of_begun, of_may_begin, begins, among_begins, begins_among, begins_so, begins_so_among, begun_so, generation_past, generation_left}
@@ -55,6 +63,12 @@ start_kept world.Down cause p e = cc
 start_kept (world.Primary stamp serials) cause p e = let same : Running ≡ cause = cc in subst (λ (c : Cause). StartRefused (is_reign_limit c) p p) same (kept_same p)
 start_kept (world.Failed k) cause p e = let same : Stopped k ≡ cause = cc in subst (λ (c : Cause). StartRefused (is_reign_limit c) p p) same (kept_same p)
 
+-- which no file decides
+pub start_early : (state : world.State) (cause : Cause) (p : Place) → why_not_down state ≡ Some cause → IfShown p (LimitedBy cause)
+start_early world.Down cause p e = cc
+start_early (world.Primary stamp serials) cause p e = let same : Running ≡ cause = cc in subst (λ (c : Cause). IfShown p (LimitedBy c)) same (any_shown p.shown)
+start_early (world.Failed k) cause p e = let same : Stopped k ≡ cause = cc in subst (λ (c : Cause). IfShown p (LimitedBy c)) same (any_shown p.shown)
+
 -- the tests of a site that is down
 
 early_down : (s : Site) (p : Place) → s.state ≡ Down → p.site ≡ Some (site_value s) → refused_with s.name (in_state why_not_down p.site) ≡ None
@@ -70,15 +84,44 @@ not_limited : (p : Place) → (p.told ≡ true) ⊎ (p.told ≡ false) → (p.to
 not_limited p (inl sure) g r = limited_told p None None sure (g sure) (r sure)
 not_limited p (inr unsure) g r = ap (λ (b : Bool). if b then first (generation_limit p.now ∷ reign_limit p.now ∷ []) else None) unsure
 
-unknown_matches : (w : View) (p : Place) → p.told ≡ false → w.simulated ≡ p.simulated → Matches w (counted p w.faults)
-unknown_matches w p unsure same = record { told = λ sure. absurd (false≢true (sym unsure ∙ sure)); images = λ sure. absurd (false≢true (sym unsure ∙ sure)); standings = λ sure. absurd (false≢true (sym unsure ∙ sure)); faults = refl; simulated = same }
+unknown_matches : (w : View) (p : Place) → p.told ≡ false → IfShown p (λ files. w.content ≡ Some files) → w.simulated ≡ p.simulated → Matches w (counted p w.faults)
+unknown_matches w p unsure shown same = record { told = λ sure. absurd (false≢true (sym unsure ∙ sure)); images = λ sure. absurd (false≢true (sym unsure ∙ sure)); standings = λ sure. absurd (false≢true (sym unsure ∙ sure)); shown = shown; faults = refl; simulated = same }
 
 -- a site that is down at a place whose files aren't known
-pub unknown_at : (w : View) (s : Site) (p : Place) → s.state ≡ Down → p.site ≡ Some (site_value s) → p.told ≡ false → w.simulated ≡ p.simulated → IsAt w s (counted p w.faults)
-unknown_at w s p down site unsure same = record {
-  disk = unknown_matches w p unsure same;
+pub unknown_at : (w : View) (s : Site) (p : Place) → s.state ≡ Down → p.site ≡ Some (site_value s) → p.told ≡ false → IfShown p (λ files. w.content ≡ Some files) → w.simulated ≡ p.simulated → IsAt w s (counted p w.faults)
+unknown_at w s p down site unsure shown same = record {
+  disk = unknown_matches w p unsure shown same;
   site = site;
   held = record { made = λ sure. absurd (false≢true (sym unsure ∙ sure)); state = subst (λ (x : State). HoldsState w x (counted p w.faults)) (sym down) tt };
+}
+
+-- and once something was written there
+abbrev changed : Place → View → Place
+changed p w = record { site = p.site; told = p.told; now = p.now; left = p.left; outcomes = p.outcomes; standings = p.standings; shown = w.content; faults = w.faults; simulated = p.simulated }
+
+changed_at : (w : View) (s : Site) (p : Place) → s.state ≡ Down → p.site ≡ Some (site_value s) → p.told ≡ false → w.simulated ≡ p.simulated → IsAt w s (changed p w)
+changed_at w s p down site unsure same = record {
+  disk = record {
+    told = λ sure. absurd (false≢true (sym unsure ∙ sure));
+    images = λ sure. absurd (false≢true (sym unsure ∙ sure));
+    standings = λ sure. absurd (false≢true (sym unsure ∙ sure));
+    shown = as_told w.content;
+    faults = refl;
+    simulated = same;
+  };
+  site = site;
+  held = record { made = λ sure. absurd (false≢true (sym unsure ∙ sure)); state = subst (λ (x : State). HoldsState w x (changed p w)) (sym down) tt };
+}
+
+changes_unknown : (w : View) (p : Place) → p.told ≡ false → p.faults ≤ w.faults → ChangesUnknown p (changed p w)
+changes_unknown w p unsure faults = record {
+  unknown = unsure;
+  site = refl;
+  now = refl;
+  left = refl;
+  known = record { told = refl; outcomes = λ o a. a; standings = λ t. stand_same p.standings };
+  faults = faults;
+  simulated = refl;
 }
 
 -- What the opening of a site found, at its place.
@@ -97,13 +140,24 @@ OpensAtMoments v w = IfSome v.content (λ files. (c : Contents) (left : Leftover
 abbrev pub OpensSo : View → View → Type 0
 OpensSo v w = IfSome v.content (λ files. (c : Contents) → IsSite files c → AtEachMoment v w (MayBeOpenWith v))
 
+-- the records that the disk told are those that were opened, and a generation was left of them
+abbrev pub HeldBy : OpenSite → Files → Type 0
+HeldBy o files = BySequence (λ u seq. WasOpenedFrom u seq o × (generation u.instance < LAST_GENERATION)) files
+
+abbrev pub OpensHeld : View → OpenSite → Type 0
+OpensHeld v o = IfSome v.content (HeldBy o)
+
+pub opens_held : (v : View) (o : OpenSite) → IfSome v.content (BySequence (λ u seq. WasOpenedFrom u seq o)) → IfSome v.content (λ files. (rs : List InstanceRecord) → IsInstance (files INSTANCE) rs → generation rs < 65534) → OpensHeld v o
+opens_held v o held drawn = both_weak v.content (BySequence (λ u seq. WasOpenedFrom u seq o)) (λ files. (rs : List InstanceRecord) → IsInstance (files INSTANCE) rs → generation rs < 65534) (HeldBy o) held drawn
+    (λ f k low. (k.0, k.1, k.2, k.3, (k.4, low k.0.instance k.2.instance)))
+
 each_stands : (v : View) (p : Place) → Matches v p → p.told ≡ true → EachStands v
 each_stands v p m sure f i = let o = m.images sure f i in (o.0, o.2)
 
 opened_told : (leftovers : Leftovers) (one_only : StandForOne) (v w : View) (s : Site) (o : OpenSite) (p : Place) → IsLawful v → s.state ≡ Down → IsAt v s p → site_name o.instance.records ≡ s.name → p.told ≡ true
-    → Opens v w o → HasGenerations v
+    → Opens v w o → HasGenerations v → OpensHeld v o
     → w.simulated ≡ v.simulated → v.faults ≤ w.faults → IsOpenedAt w s o p
-opened_told leftovers one_only v w s o p law down h name sure told drawn same later =
+opened_told leftovers one_only v w s o p law down h name sure told drawn held same later =
     let made : IsMade s.name p = h.held.made sure in
     let read = reads_image v law (told_is v.content _ (h.disk.told sure)) in
     let reads = subst (λ (x : Option Files). IsSomeAnd x (λ files. Reads files p.now p.left)) read.1 (h.disk.told sure) in
@@ -126,13 +180,14 @@ opened_told leftovers one_only v w s o p law down h name sure told drawn same la
       outcome = λ _. (p.now, subst (λ (x : Contents). Among p.outcomes x) same_out out.1, one);
       standing = λ _. standing_there leftovers one_only read.0 p.now p.left p.standings reads (at_image v read.0 p.standings read.2 (h.disk.standings sure));
       drawn = λ _. generation_left p.now (drawn_here p.now site.0);
+      held = by_shown p.shown v.content _ h.disk.shown held;
       faults = omega (arith, later, h.disk.faults);
       simulated = same ∙ h.disk.simulated;
     }
 
 opened_untold : (v w : View) (s : Site) (o : OpenSite) (p : Place) → s.state ≡ Down → IsAt v s p → site_name o.instance.records ≡ s.name → p.told ≡ false → ((c : Contents) × (broken : List ℕ) × Remembers (opened broken c) (length c.sequence) o)
-    → w.simulated ≡ v.simulated → v.faults ≤ w.faults → IsOpenedAt w s o p
-opened_untold v w s o p down h name unsure read same later = record {
+    → OpensHeld v o → w.simulated ≡ v.simulated → v.faults ≤ w.faults → IsOpenedAt w s o p
+opened_untold v w s o p down h name unsure read held same later = record {
   site = h.site;
   down = down;
   made = h.held.made;
@@ -145,16 +200,17 @@ opened_untold v w s o p down h name unsure read same later = record {
   outcome = λ sure. absurd (false≢true (sym unsure ∙ sure));
   standing = λ sure. absurd (false≢true (sym unsure ∙ sure));
   drawn = λ sure. absurd (false≢true (sym unsure ∙ sure));
+  held = by_shown p.shown v.content _ h.disk.shown held;
   faults = omega (arith, later, h.disk.faults);
   simulated = same ∙ h.disk.simulated;
 }
 
 pub opened_at : (leftovers : Leftovers) (one_only : StandForOne) (v w : View) (s : Site) (o : OpenSite) (p : Place) → IsLawful v → s.state ≡ Down → IsAt v s p → site_name o.instance.records ≡ s.name → ((c : Contents) × (broken : List ℕ) × Remembers (opened broken c) (length c.sequence) o)
-    → Opens v w o → HasGenerations v
+    → Opens v w o → HasGenerations v → OpensHeld v o
     → w.simulated ≡ v.simulated → v.faults ≤ w.faults → IsOpenedAt w s o p
-opened_at leftovers one_only v w s o p law down h name read told drawn same later = elim (is_true_or_false p.told) [
-  | inl sure ↦ opened_told leftovers one_only v w s o p law down h name sure told drawn same later
-  | inr unsure ↦ opened_untold v w s o p down h name unsure read same later
+opened_at leftovers one_only v w s o p law down h name read told drawn held same later = elim (is_true_or_false p.told) [
+  | inl sure ↦ opened_told leftovers one_only v w s o p law down h name sure told drawn held same later
+  | inr unsure ↦ opened_untold v w s o p down h name unsure read held same later
 ]
 
 -- A start that ends before the reign: each image stands for what beginning one may leave.
@@ -174,7 +230,7 @@ begun_place leftovers w s p site law b =
 pub begun_cut : (leftovers : Leftovers) (w : View) (s : Site) (p : Place) → IsLawful w → MayHaveBegun w s p → p.faults ≤ w.faults → (q : Place) × LeftByRow (start s.name p) p q × Matches w q
 begun_cut leftovers w s p law b later =
     let m = begun_place leftovers w s p p.site law b in (
-      record { site = p.site; told = p.told; now = m.now; left = m.left; outcomes = begins s.name p.left.broken p.outcomes; standings = begins_so s.name p.standings; faults = w.faults; simulated = p.simulated },
+      record { site = p.site; told = p.told; now = m.now; left = m.left; outcomes = begins s.name p.left.broken p.outcomes; standings = begins_so s.name p.standings; shown = w.content; faults = w.faults; simulated = p.simulated },
       record {
         told = refl;
         outcomes = λ sure o a. inr (among_begins s.name p.left.broken p.outcomes o a);
@@ -197,7 +253,7 @@ begun_fault leftovers w s p k before now law down site made b count rose t =
     let of = λ (sure : p.told ≡ true) (o : Contents) (a : Among (begins s.name p.left.broken p.outcomes) o). (let x = among_begins s.name p.left.broken p.outcomes o a in of_may_begin s.name p.left.broken x.0 o ((made sure).outcomes x.0 x.1) x.2) in
     comes_fault
     k
-    (record { site = state; told = p.told; now = m.now; left = m.left; outcomes = begins s.name p.left.broken p.outcomes; standings = begins_so s.name p.standings; faults = w.faults; simulated = p.simulated })
+    (record { site = state; told = p.told; now = m.now; left = m.left; outcomes = begins s.name p.left.broken p.outcomes; standings = begins_so s.name p.standings; shown = w.content; faults = w.faults; simulated = p.simulated })
     (early_down s p down site)
     (record {
       site = refl;
@@ -259,8 +315,8 @@ load_cut leftovers v w s law moments lefts still same later p h = begun_cut left
 
 -- there is no generation left
 load_limit_told : (v w : View) (s : Site) (before now : List ℕ) (p : Place) → IsLawful w → s.state ≡ Down → IsAt v s p → p.told ≡ true → IfSome v.content (λ files. (c : Contents) → IsSite files c → 65534 ≤ generation c.instance)
-    → w.content ≡ v.content → AtEachMoment v w (Image v) → w.simulated ≡ v.simulated → v.faults ≤ w.faults → now ≡ before ++ line s.name (codes "GENLIMIT") → Answers w s p s before now false
-load_limit_told v w s before now p law down h sure limit unwritten untouched same later t =
+    → IfSome v.content (LimitedBy GenLimit) → w.content ≡ v.content → AtEachMoment v w (Image v) → w.simulated ≡ v.simulated → v.faults ≤ w.faults → now ≡ before ++ line s.name (codes "GENLIMIT") → Answers w s p s before now false
+load_limit_told v w s before now p law down h sure limit by unwritten untouched same later t =
     let made : IsMade s.name p = h.held.made sure in
     let here = some_both v.content _ _ (stands_told v p h.disk sure) limit in
     let q : Place = counted p w.faults in
@@ -269,11 +325,13 @@ load_limit_told v w s before now p law down h sure limit unwritten untouched sam
     q
     (refused_late s.name (in_state why_not_down p.site) (limited p) GenLimit (why_at s Down p down h.site) (limited_generation p sure (generation_past p.now (here.2 p.now (is_site here.0 p.now made.now.made here.1)))))
     (kept_counted p w.faults (omega (arith, later, h.disk.faults)))
+    (by_shown p.shown v.content (LimitedBy GenLimit) h.disk.shown by)
     (record {
       disk = record {
         told = λ is. subst (λ (x : Option Files). IsSomeAnd x (λ files. Reads files p.now p.left)) (sym unwritten) (h.disk.told is);
         images = λ is c i. h.disk.images is c (at_moment v w (Image v) c law untouched i);
         standings = λ is. images_still v w p.standings (λ c i. at_moment v w (Image v) c law untouched i) (h.disk.standings is);
+        shown = shown_same p.shown v.content w.content unwritten h.disk.shown;
         faults = refl;
         simulated = same ∙ h.disk.simulated;
       };
@@ -282,43 +340,62 @@ load_limit_told v w s before now p law down h sure limit unwritten untouched sam
     })
     t
 
-load_limit_untold : (v w : View) (s : Site) (before now : List ℕ) (p : Place) → s.state ≡ Down → IsAt v s p → p.told ≡ false → w.simulated ≡ v.simulated → v.faults ≤ w.faults → now ≡ before ++ line s.name (codes "GENLIMIT") → Answers w s p s before now false
-load_limit_untold v w s before now p down h unsure same later t =
+load_limit_untold : (v w : View) (s : Site) (before now : List ℕ) (p : Place) → s.state ≡ Down → IsAt v s p → p.told ≡ false → IfSome v.content (LimitedBy GenLimit) → w.content ≡ v.content → w.simulated ≡ v.simulated → v.faults ≤ w.faults → now ≡ before ++ line s.name (codes "GENLIMIT") → Answers w s p s before now false
+load_limit_untold v w s before now p down h unsure by unwritten same later t =
     comes_may_refuse (record { site = s.name; cause = GenLimit }) (counted p w.faults) (early_down s p down h.site)
-    (refl, inl refl, record { unknown = unsure; kept = kept_counted p w.faults (omega (arith, later, h.disk.faults)) }) (unknown_at w s p down h.site unsure (same ∙ h.disk.simulated)) t
+    (refl, inl (refl, record { unknown = unsure; kept = kept_counted p w.faults (omega (arith, later, h.disk.faults)) })) (by_shown p.shown v.content (LimitedBy GenLimit) h.disk.shown by)
+    (unknown_at w s p down h.site unsure (shown_same p.shown v.content w.content unwritten h.disk.shown) (same ∙ h.disk.simulated)) t
 
-pub load_limit : (v w : View) (s : Site) (before now : List ℕ) → IsLawful w → s.state ≡ Down → IfSome v.content (λ files. (c : Contents) → IsSite files c → 65534 ≤ generation c.instance) → w.content ≡ v.content → AtEachMoment v w (Image v)
+pub load_limit : (v w : View) (s : Site) (before now : List ℕ) → IsLawful w → s.state ≡ Down → IfSome v.content (λ files. (c : Contents) → IsSite files c → 65534 ≤ generation c.instance) → IfSome v.content (LimitedBy GenLimit) → w.content ≡ v.content → AtEachMoment v w (Image v)
     → w.simulated ≡ v.simulated → v.faults ≤ w.faults → now ≡ before ++ line s.name (codes "GENLIMIT") → ExecutesAt (start s.name) v s w s before now false
-load_limit v w s before now law down limit unwritten untouched same later t p h = elim (is_true_or_false p.told) [
-  | inl sure ↦ load_limit_told v w s before now p law down h sure limit unwritten untouched same later t
-  | inr unsure ↦ load_limit_untold v w s before now p down h unsure same later t
+load_limit v w s before now law down limit by unwritten untouched same later t p h = elim (is_true_or_false p.told) [
+  | inl sure ↦ load_limit_told v w s before now p law down h sure limit by unwritten untouched same later t
+  | inr unsure ↦ load_limit_untold v w s before now p down h unsure by unwritten same later t
 ]
 
 -- bytes outside the formats, which no known files have
-damaged : (v w : View) (s : Site) (file offset : ℕ) (before now : List ℕ) (p : Place) → s.state ≡ Down → IsAt v s p → p.told ≡ false → w.simulated ≡ v.simulated → v.faults ≤ w.faults
+damaged : (v w : View) (s : Site) (file offset : ℕ) (before now : List ℕ) (p : Place) → s.state ≡ Down → IsAt v s p → p.told ≡ false → IfSome v.content (λ files. IsOutsideSite files file offset) → IfSome v.content (λ _. w.content ≡ v.content) → w.simulated ≡ v.simulated → v.faults ≤ w.faults
     → now ≡ before ++ line s.name (codes "NOTAFILE " ++ decimal file ++ 32 ∷ decimal offset) → Answers w s p s before now false
-damaged v w s file offset before now p down h unsure same later t =
-    comes_damaged file offset (counted p w.faults) (early_down s p down h.site) (record { unknown = unsure; kept = kept_counted p w.faults (omega (arith, later, h.disk.faults)) })
-    (unknown_at w s p down h.site unsure (same ∙ h.disk.simulated)) t
+damaged v w s file offset before now p down h unsure bytes unwritten same later t =
+    comes_damaged file offset (counted p w.faults) (early_down s p down h.site) (inl (record { unknown = unsure; kept = kept_counted p w.faults (omega (arith, later, h.disk.faults)) }))
+    (by_shown p.shown v.content (IsUnopened s.name file offset) h.disk.shown (if_some v.content (λ files. IsOutsideSite files file offset) (IsUnopened s.name file offset) (λ f out. inl out) bytes))
+    (unknown_at w s p down h.site unsure (shown_unwritten p.shown v.content w.content unwritten h.disk.shown) (same ∙ h.disk.simulated)) t
 
-pub load_damaged : (v w : View) (s : Site) (file offset : ℕ) (before now : List ℕ) → s.state ≡ Down → IfSome v.content (λ files. (c : Contents) → IsSite files c → ⊥) → w.simulated ≡ v.simulated → v.faults ≤ w.faults
+pub load_damaged : (v w : View) (s : Site) (file offset : ℕ) (before now : List ℕ) → s.state ≡ Down → IfSome v.content (λ files. (c : Contents) → IsSite files c → ⊥) → IfSome v.content (λ files. IsOutsideSite files file offset) → IfSome v.content (λ _. w.content ≡ v.content) → w.simulated ≡ v.simulated → v.faults ≤ w.faults
     → now ≡ before ++ line s.name (codes "NOTAFILE " ++ decimal file ++ 32 ∷ decimal offset) → ExecutesAt (start s.name) v s w s before now false
-load_damaged v w s file offset before now down outside same later t p h =
+load_damaged v w s file offset before now down outside bytes unwritten same later t p h =
     damaged v w s file offset before now p down h (not_true p.told (λ sure.
     let here = some_both v.content _ _ (stands_told v p h.disk sure) outside in
-    here.2 p.now (is_site here.0 p.now (h.held.made sure).now.made here.1))) same later t
+    here.2 p.now (is_site here.0 p.now (h.held.made sure).now.made here.1))) bytes unwritten same later t
+
+-- a CUT gives no other name
+cut_named : (rs : List InstanceRecord) (n g : ℕ) → site_name (rs ++ Cut n g ∷ []) ≡ site_name rs
+cut_named [] n g = refl
+cut_named (Create name regions ∷ rs) n g = refl
+cut_named (Reigned r ∷ rs) n g = refl
+cut_named (Cut m h ∷ rs) n g = refl
+cut_named (Map region star name ∷ rs) n g = refl
+cut_named (Mode region before ∷ rs) n g = refl
 
 -- another site stands there, which no known files tell
-pub load_other : (v w : View) (s : Site) (o : OpenSite) (before now : List ℕ) → s.state ≡ Down → (site_name o.instance.records ≡ s.name → ⊥) → Opens v w o
+pub load_other : (v w : View) (s : Site) (o : OpenSite) (before now : List ℕ) → s.state ≡ Down → (site_name o.instance.records ≡ s.name → ⊥) → Opens v w o → OpensHeld v o
     → w.simulated ≡ v.simulated → v.faults ≤ w.faults → now ≡ before ++ line s.name (codes "NOTAFILE " ++ decimal 0 ++ 32 ∷ decimal 0) → ExecutesAt (start s.name) v s w s before now false
-load_other v w s o before now down other told same later t p h =
-    damaged v w s 0 0 before now p down h (not_true p.told (λ sure.
-    let made : IsMade s.name p = h.held.made sure in
-    let here = some_both v.content _ _ (h.disk.told sure) told in
-    let site = reads_site here.0 p.now p.left made.now.made here.1 in
-    let one : IsOpen w true (opened p.left.broken p.now) (length p.now.sequence) o = here.2 p.now p.left site.0 site.1 (each_stands v p h.disk sure) in
-    let of : IsOf s.name (opened p.left.broken p.now) = of_opened s.name p.left.broken p.now made.now in
-    other (ap site_name one.remembered.instance ∙ of.name))) same later t
+load_other v w s o before now down other told held same later t p h =
+    comes_damaged 0 0 (changed p w) (early_down s p down h.site) (inr (refl, refl, changes_unknown w p unsure (omega (arith, later, h.disk.faults)), of_another))
+    (if_some p.shown (IsOfAnother s.name 0 0) (IsUnopened s.name 0 0) (λ f k. inr k) of_another) (changed_at w s p down h.site unsure (same ∙ h.disk.simulated)) t
+  where
+    of_another : IfShown p (IsOfAnother s.name 0 0)
+    of_another = by_shown p.shown v.content (IsOfAnother s.name 0 0) h.disk.shown (if_some v.content (HeldBy o) (IsOfAnother s.name 0 0)
+        (λ f k. (refl, refl, (k.0.instance, k.2.instance, λ same. other (ap site_name k.4.0.instance ∙ cut_named k.0.instance _ _ ∙ same)))) held)
+
+    unsure : p.told ≡ false
+    unsure = not_true p.told (λ sure.
+        let made : IsMade s.name p = h.held.made sure in
+        let here = some_both v.content _ _ (h.disk.told sure) told in
+        let site = reads_site here.0 p.now p.left made.now.made here.1 in
+        let one : IsOpen w true (opened p.left.broken p.now) (length p.now.sequence) o = here.2 p.now p.left site.0 site.1 (each_stands v p h.disk sure) in
+        let of : IsOf s.name (opened p.left.broken p.now) = of_opened s.name p.left.broken p.now made.now in
+        other (ap site_name one.remembered.instance ∙ of.name))
 
 -- Beginning the reign of a site that was opened.
 
@@ -388,6 +465,74 @@ reign_cut leftovers v w s o m p h = begun_cut leftovers w s p m.lawful (reign_be
 limit_is : (c : Contents) (none_left : Bool) → no_reign_left c ≡ none_left → reign_limit c ≡ (if none_left then Some ReignLimit else None)
 limit_is c none_left is = ap (λ (b : Bool). if b then Some ReignLimit else None) is
 
+-- What the bytes say of an opening.
+
+values : (n : ℕ) (seq : Sequence) → map (λ (x : ℕ × Entry). x.1) (enumerate_from n seq) ≡ seq
+values n [] = refl
+values n (e ∷ es) = ap (λ (l : Sequence). e ∷ l) (values (n + 1) es)
+
+limit_same : (b c : Bool) → (if b then Some ReignLimit else None) ≡ (if c then Some ReignLimit else None) → b ≡ c
+limit_same true true e = refl
+limit_same false false e = refl
+limit_same true false e = cc
+limit_same false true e = cc
+
+-- the sequence that is remembered is the bytes'
+sequence_same : (o : OpenSite) (u : Records) (seq : Sequence) (c : Contents) (n : ℕ) → WasOpenedFrom u seq o → Remembers c n o → c.sequence ≡ seq
+sequence_same o u seq c n from remembered = sym (values 1 c.sequence) ∙ ap (map (λ (x : ℕ × Entry). x.1)) (sym remembered.entries ∙ from.entries) ∙ values 1 seq
+
+limit_by : (o : OpenSite) (u : Records) (seq : Sequence) (c : Contents) (n : ℕ) (none_left : Bool) → WasOpenedFrom u seq o → Remembers c n o → ((d : Contents) (m : ℕ) → Remembers d m o → no_reign_left d ≡ none_left)
+    → no_reign_left (read_so u seq) ≡ none_left
+limit_by o u seq c n none_left from remembered limit =
+    let read : Contents = read_so u seq in
+    let same = sequence_same o u seq c n from remembered in
+    limit_same (no_reign_left read) none_left (sym (limit_opened [] read) ∙ limit_is (opened [] read) none_left (limit (opened [] read) n (record {
+      instance = from.instance;
+      entries = from.entries;
+      globals = remembered.globals ∙ ap state same;
+      hardened = remembered.hardened;
+    })))
+
+limited_by : (v : View) (s : Site) (o : OpenSite) (p : Place) → IsOpenedAt v s o p → ((c : Contents) (n : ℕ) → Remembers c n o → no_reign_left c ≡ true) → IfShown p (LimitedBy ReignLimit)
+limited_by v s o p h limit =
+    if_some p.shown (HeldBy o) (LimitedBy ReignLimit)
+    (λ f k. (k.0, k.1, k.2, k.3, limit_by o k.0 k.1 (opened h.broken h.read) (length h.read.sequence) true k.4.0 h.is_open.remembered limit)) h.held
+
+-- the site was opened by its bytes, past no limit
+started_by : (v : View) (s : Site) (o : OpenSite) (p : Place) → IsOpenedAt v s o p → ((c : Contents) (n : ℕ) → Remembers c n o → no_reign_left c ≡ false) → IfShown p (StartedBy s.name)
+started_by v s o p h room =
+    if_some p.shown (HeldBy o) (StartedBy s.name)
+    (λ f k. (
+      k.0,
+      k.1,
+      k.2,
+      k.3,
+      (sym (ap site_name k.4.0.instance ∙ cut_named k.0.instance _ _) ∙ h.name, k.4.1, limit_by o k.0 k.1 (opened h.broken h.read) (length h.read.sequence) false k.4.0 h.is_open.remembered room),
+    )) h.held
+
+-- what stands before the last record
+before_last : (xs ys : List InstanceRecord) (a b : InstanceRecord) → xs ++ a ∷ [] ≡ ys ++ b ∷ [] → xs ≡ ys
+before_last [] [] a b e = refl
+before_last [] (y ∷ []) a b e = absurd (cc e)
+before_last [] (y ∷ z ∷ ys) a b e = absurd (cc e)
+before_last (x ∷ []) [] a b e = absurd (cc e)
+before_last (x ∷ z ∷ xs) [] a b e = absurd (cc e)
+before_last (x ∷ xs) (y ∷ ys) a b e =
+    let first : x ≡ y = cc e in
+    let rest : xs ++ a ∷ [] ≡ ys ++ b ∷ [] = cc e in
+    ap (λ (r : InstanceRecord). r ∷ xs) first ∙ ap (λ (l : List InstanceRecord). y ∷ l) (before_last xs ys a b rest)
+
+read_by : (v : View) (s : Site) (o : OpenSite) (p : Place) (h : IsOpenedAt v s o p) → IfShown p (BySequence (λ u seq. (h.read.instance ≡ u.instance) × (h.read.sequence ≡ seq)))
+read_by v s o p h =
+    if_some p.shown (HeldBy o) (BySequence (λ u seq. (h.read.instance ≡ u.instance) × (h.read.sequence ≡ seq)))
+    (λ f k. (
+      k.0,
+      k.1,
+      k.2,
+      k.3,
+      (before_last h.read.instance k.0.instance _ _ (sym h.is_open.remembered.instance ∙ k.4.0.instance), sequence_same o k.0 k.1 (opened h.broken h.read) (length h.read.sequence) k.4.0 h.is_open.remembered),
+    )) h.held
+
 -- there is no reign left
 reign_limit_told : (v : View) (nothing : NothingIsLeft v) (s : Site) (o : OpenSite) (before now : List ℕ) (p : Place) → IsLawful v → IsOpenedAt v s o p → p.told ≡ true → ((c : Contents) (n : ℕ) → Remembers c n o → no_reign_left c ≡ true)
     → now ≡ before ++ line s.name (codes "REIGNLIMIT") → Answers v s p s before now false
@@ -395,7 +540,7 @@ reign_limit_told v nothing s o before now p law h sure limit t =
     let c : Contents = opened p.left.broken p.now in
     let is_open : IsOpen v p.told c (length c.sequence) o = subst (λ (x : Contents). IsOpen v p.told (opened p.left.broken x) (length x.sequence) o) (h.as_before sure)
     (subst (λ (b : List ℕ). IsOpen v p.told (opened b h.read) (length h.read.sequence) o) (h.as_left sure) h.is_open) in
-    let q : Place = record { site = in_new_state world.Down p.site; told = p.told; now = c; left = NO_LEFTOVER; outcomes = c ∷ []; standings = Some (bare c ∷ []); faults = v.faults; simulated = p.simulated } in
+    let q : Place = record { site = in_new_state world.Down p.site; told = p.told; now = c; left = NO_LEFTOVER; outcomes = c ∷ []; standings = Some (bare c ∷ []); shown = v.content; faults = v.faults; simulated = p.simulated } in
     let full : reign_limit p.now ≡ Some ReignLimit = sym (limit_opened p.left.broken p.now) ∙ limit_is c true (limit c (length c.sequence) is_open.remembered) in
     let of : IsOf s.name c = of_opened s.name p.left.broken p.now (h.made sure).now in
     comes_refused
@@ -403,6 +548,7 @@ reign_limit_told v nothing s o before now p law h sure limit t =
     q
     (refused_late s.name (in_state why_not_down p.site) (limited p) ReignLimit (why_at s Down p h.down h.site) (limited_told p None (Some ReignLimit) sure (h.drawn sure) full))
     (record { site = refl; known = record { told = refl; now = refl; left = refl; outcomes = refl; standings = refl }; faults = h.faults; simulated = refl })
+    (limited_by v s o p h limit)
     (record {
       disk = place_of_one v p q.site c h.simulated (λ is. open_reads v nothing p.told c o law is is_open) (λ is. open_images v nothing p.told c o is is_open);
       site = ap (in_new_state world.Down) h.site ∙ ap (λ (x : world.State). Some (record { name = s.name; state = x })) (ap state_value (sym h.down));
@@ -410,15 +556,15 @@ reign_limit_told v nothing s o before now p law h sure limit t =
     })
     t
 
-reign_limit_untold : (v : View) (s : Site) (o : OpenSite) (before now : List ℕ) (p : Place) → IsOpenedAt v s o p → p.told ≡ false → now ≡ before ++ line s.name (codes "REIGNLIMIT") → Answers v s p s before now false
-reign_limit_untold v s o before now p h unsure t =
-    comes_may_refuse (record { site = s.name; cause = ReignLimit }) (counted p v.faults) (early_down s p h.down h.site)
-    (refl, inr refl, record { unknown = unsure; kept = kept_counted p v.faults h.faults }) (unknown_at v s p h.down h.site unsure h.simulated) t
+reign_limit_untold : (v : View) (s : Site) (o : OpenSite) (before now : List ℕ) (p : Place) → IsOpenedAt v s o p → p.told ≡ false → ((c : Contents) (n : ℕ) → Remembers c n o → no_reign_left c ≡ true) → now ≡ before ++ line s.name (codes "REIGNLIMIT") → Answers v s p s before now false
+reign_limit_untold v s o before now p h unsure limit t =
+    comes_may_refuse (record { site = s.name; cause = ReignLimit }) (changed p v) (early_down s p h.down h.site)
+    (refl, inr (refl, changes_unknown v p unsure h.faults)) (limited_by v s o p h limit) (changed_at v s p h.down h.site unsure h.simulated) t
 
 pub reign_limited : (v : View) (nothing : NothingIsLeft v) (s : Site) (o : OpenSite) (before now : List ℕ) → IsLawful v → ((c : Contents) (n : ℕ) → Remembers c n o → no_reign_left c ≡ true) → now ≡ before ++ line s.name (codes "REIGNLIMIT") → BeginsAt v o s v s before now false
 reign_limited v nothing s o before now law limit t p h = elim (is_true_or_false p.told) [
   | inl sure ↦ reign_limit_told v nothing s o before now p law h sure limit t
-  | inr unsure ↦ reign_limit_untold v s o before now p h unsure t
+  | inr unsure ↦ reign_limit_untold v s o before now p h unsure limit t
 ]
 
 entries_open : (v : View) (told : Bool) (c : Contents) (n : ℕ) (o : OpenSite) → IsOpen v told c n o → length o.entries.items ≡ length c.sequence
@@ -441,7 +587,7 @@ reign_starts v w nothing s o new stamp serials from before now law first_serials
     let stamp_is : stamp_value stamp ≡ next_stamp s.name read = drawn c (sym h.is_open.remembered.instance) ∙ ap (λ (n : Name). next_stamp n c) name ∙ stamp_opened s.name h.broken read in
     let stamp_new : stamp_of r ≡ next_stamp s.name read = ap stamp_in stamped ∙ stamp_is in
     let state : world.State = world.Primary (next_stamp s.name read) FIRST_SERIALS in
-    let q : Place = record { site = in_new_state state p.site; told = p.told; now = d; left = NO_LEFTOVER; outcomes = d ∷ []; standings = Some (bare d ∷ []); faults = w.faults; simulated = p.simulated } in
+    let q : Place = record { site = in_new_state state p.site; told = p.told; now = d; left = NO_LEFTOVER; outcomes = d ∷ []; standings = Some (bare d ∷ []); shown = w.content; faults = w.faults; simulated = p.simulated } in
     let reign_room : p.told ≡ true → reign_limit p.now ≡ None = λ sure. ap reign_limit (sym (h.as_before sure)) ∙ sym (limit_opened h.broken read) ∙ limit_is c false (room c (length c.sequence) h.is_open.remembered) in
     let of : p.told ≡ true → IsOf s.name d = λ sure. of_begun s.name s.name c (of_opened s.name h.broken read (subst (IsOf s.name) (sym (h.as_before sure)) (h.made sure).now)) in
     let cycle : stamp.cycle ≡ cycle_on q.site = ap (λ x. x.cycle) stamp_is ∙ sym (ap (λ (x : Option world.Site). cycle_on (in_new_state state x)) h.site) in
@@ -454,8 +600,10 @@ reign_starts v w nothing s o new stamp serials from before now law first_serials
       broken = h.broken;
       as_before = h.as_before;
       as_left = h.as_left;
+      bytes = read_by v s o p h;
       becomes = record { site = refl; known = record { told = refl; now = refl; left = refl; outcomes = refl; standings = refl }; faults = omega (arith, later, h.faults); simulated = refl };
     })
+    (started_by v s o p h room)
     (record {
       disk = place_of_one w p q.site d (same ∙ h.simulated) (λ sure. open_reads w nothing p.told d new law sure is_open) (λ sure. open_images w nothing p.told d new sure is_open);
       site = ap (in_new_state state) h.site ∙ ap (λ (x : world.State). Some (record { name = s.name; state = x })) (states_same stamp_new first_serials);
@@ -473,11 +621,11 @@ reign_starts v w nothing s o new stamp serials from before now law first_serials
 -- Beginning and opening together.
 
 pub starts_so : (leftovers : Leftovers) (one_only : StandForOne) (v w u : View) (s new : Site) (o : OpenSite) (before now : List ℕ) (done : Bool) → IsLawful v → s.state ≡ Down → site_name o.instance.records ≡ s.name → ((c : Contents) × (broken : List ℕ) × Remembers (opened broken c) (length c.sequence) o)
-    → Opens v w o → HasGenerations v
+    → Opens v w o → HasGenerations v → OpensHeld v o
     → w.simulated ≡ v.simulated → v.faults ≤ w.faults → BeginsAt w o s u new before now done → ExecutesAt (start s.name) v s u new before now done
-starts_so leftovers one_only v w u s new o before now done law down name read told drawn same later b p h = b p (opened_at leftovers one_only v w s o p law down h name read told drawn same later)
+starts_so leftovers one_only v w u s new o before now done law down name read told drawn held same later b p h = b p (opened_at leftovers one_only v w s o p law down h name read told drawn held same later)
 
 pub starts_cut : (leftovers : Leftovers) (one_only : StandForOne) (v w u : View) (s : Site) (o : OpenSite) → IsLawful v → s.state ≡ Down → site_name o.instance.records ≡ s.name → ((c : Contents) × (broken : List ℕ) × Remembers (opened broken c) (length c.sequence) o)
-    → Opens v w o → HasGenerations v
+    → Opens v w o → HasGenerations v → OpensHeld v o
     → w.simulated ≡ v.simulated → v.faults ≤ w.faults → IsCutOpened w o s u → IsCutAt (start s.name) v s u
-starts_cut leftovers one_only v w u s o law down name read told drawn same later b p h = b p (opened_at leftovers one_only v w s o p law down h name read told drawn same later)
+starts_cut leftovers one_only v w u s o law down name read told drawn held same later b p h = b p (opened_at leftovers one_only v w s o p law down h name read told drawn held same later)

@@ -2,10 +2,9 @@
 use Rattle.std.proofs.Common.{◌≡◌, ◌≢◌, ◌⊎◌, ℕ, List, refl, sym, subst, inl, inr}
 use Rattle.std.specs.Prelude.{Option}
 use Rattle.std.specs.List.{AllByRecursion}
-use Rattle.command_defs.specs.Commands.{Command}
+use Rattle.command_defs.specs.Commands.{Command, IsFormed}
 use Rattle.command_defs.specs.Lines.{lines_of}
 use Rattle.command_defs.specs.Script.{Position}
-use Rattle.command_defs.specs.Sections.{IsFormed}
 use Rattle.world_defs.specs.World.{World}
 use Rattle.world_defs.specs.Step.{CutOff}
 use Rattle.world_defs.specs.Runs.{Told, Runs, commands}

@@ -119,14 +119,16 @@ pub stops : (v : View) (s : Site) (r : Reign) (before now : List ℕ) → s.stat
 stops v s r before now e t p at_p =
     let o : IsOpen v r p = open_at v s r p e at_p in
     comes_done
-    (record { site = in_new_state world.Down p.site; told = p.told; now = p.now; left = NO_LEFTOVER; outcomes = p.now ∷ []; standings = Some (bare p.now ∷ []); faults = p.faults; simulated = p.simulated })
+    (record { site = in_new_state world.Down p.site; told = p.told; now = p.now; left = NO_LEFTOVER; outcomes = p.now ∷ []; standings = Some (bare p.now ∷ []); shown = p.shown; faults = p.faults; simulated = p.simulated })
     (ap (λ (x : Option Refusal). or_else x None) (open_at_place v s r p e at_p))
     (record { site = refl; known = record { told = refl; now = refl; left = refl; outcomes = refl; standings = refl }; faults = omega arith; simulated = refl })
+    tt
     (record {
       disk = record {
         told = λ is. subst (λ (l : Leftover). IsSomeAnd v.content (λ (files : Files). Reads files p.now l)) (o.left is) (at_p.disk.told is);
         images = λ is c i. let x = at_p.disk.images is c i in (p.now, inl refl, subst (Stands c) (o.settled is x.0 x.1) x.2);
         standings = λ is. subst (ImagesStand v) (o.standings is) (at_p.disk.standings is);
+        shown = at_p.disk.shown;
         faults = at_p.disk.faults;
         simulated = at_p.disk.simulated;
       };
@@ -138,11 +140,11 @@ stops v s r before now e t p at_p =
 pub extracts_at : (v : View) (s : Site) (r : Reign) (from : Option ℕ) (before now : List ℕ) → s.state ≡ Primary r → ((seq : Sequence) → map numbered r.site.entries.items ≡ enumerate_from 1 seq → now ≡ before ++ extract_from s.name from seq)
     → ExecutesAt (extract from s.name) v s v s before now true
 extracts_at v s r from before now e h p at_p =
-    comes_done p (ap (λ (x : Option Refusal). or_else x None) (open_at_place v s r p e at_p)) (kept_same p) at_p (h p.now.sequence (reigns_at v s r p e at_p).remembered.entries)
+    comes_done p (ap (λ (x : Option Refusal). or_else x None) (open_at_place v s r p e at_p)) (kept_same p) tt at_p (h p.now.sequence (reigns_at v s r p e at_p).remembered.entries)
 
 pub zwrites_at : (v : View) (s : Site) (r : Reign) (top : Option Key) (before now : List ℕ) → s.state ≡ Primary r → now ≡ before ++ zwrite top r.site.globals → ExecutesAt (rows.zwrite top s.name) v s v s before now true
 zwrites_at v s r top before now e t p at_p =
-    comes_done p (ap (λ (x : Option Refusal). or_else x None) (open_at_place v s r p e at_p)) (kept_same p) at_p (t ∙ ap (λ (g : Globals). before ++ zwrite top g) (reigns_at v s r p e at_p).remembered.globals)
+    comes_done p (ap (λ (x : Option Refusal). or_else x None) (open_at_place v s r p e at_p)) (kept_same p) tt at_p (t ∙ ap (λ (g : Globals). before ++ zwrite top g) (reigns_at v s r p e at_p).remembered.globals)
 
 -- what is shown of a site is what is shown of its place
 shown_state : (v : View) (s : Site) (p : Place) (state : State) → s.state ≡ state → IsAt v s p → state_text s.name state ≡ show_state s.name (state_value state) p.now
@@ -157,7 +159,7 @@ shown_state v s p (Primary r) e h =
 
 pub shows_at : (v : View) (s : Site) (before now : List ℕ) → now ≡ before ++ state_text s.name s.state → ExecutesAt (show s.name) v s v s before now true
 shows_at v s before now t p h =
-    comes_done p refl (kept_same p) h (t ∙ ap (λ (x : List ℕ). before ++ x) (shown_state v s p s.state refl h) ∙ ap (λ (o : Option world.Site). before ++ show_on s.name o p.now) (sym h.site))
+    comes_done p refl (kept_same p) tt h (t ∙ ap (λ (x : List ℕ). before ++ x) (shown_state v s p s.state refl h) ∙ ap (λ (o : Option world.Site). before ++ show_on s.name o p.now) (sym h.site))
 
 -- what is shown of a site that is open, written in two steps
 pub state_written : (s : Site) (r : Reign) (n : Name) (cycle len : ℕ) (rs : List code_reign.Reign) (before mid now : List ℕ) → s.state ≡ Primary r → n ≡ s.name → cycle ≡ (stamp_of r).cycle → len ≡ length r.site.entries.items

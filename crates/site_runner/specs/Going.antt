@@ -3,8 +3,7 @@ use Rattle.std.specs.Prelude.{◌≡◌, ◌⊎◌, ℕ, ◌+◌, List, [], ◌�
 use Rattle.std.specs.List.{AllByRecursion}
 use Rattle.std.specs.Io.KnownBytes.{Appends}
 use Rattle.disk_defs.specs.Disk.{View}
-use Rattle.command_defs.specs.Commands.{Command}
-use Rattle.command_defs.specs.Sections.{IsFormed}
+use Rattle.command_defs.specs.Commands.{Command, IsFormed}
 use Rattle.command_defs.specs.Script.{Position, Outside, Within, Wrong, Ends, line_reading}
 use Rattle.world_defs.specs.World.{World}
 use Rattle.world_defs.specs.Answers.{Answer}

@@ -4,7 +4,7 @@ use Rattle.disk_defs.specs.Disk.{Files, View, Image}
 use Rattle.journal_defs.specs.Instance.{generation, regions}
 use Rattle.command_defs.specs.Commands.{Name}
 use Rattle.site_defs.specs.Lists.{Among}
-use Rattle.world_defs.specs.World.{Place}
+use Rattle.world_defs.specs.World.{Place, IfShown}
 use Rattle.site_defs.specs.Contents.{Contents, Standing}
 use Rattle.world_defs.specs.rows.Map.{map_pattern, twice_mapped}
 use Rattle.site_defs.specs.Limits.{region_number}
@@ -27,6 +27,7 @@ pub record IsSeenAt (v : View) (s : Site) (p : Place) : Type 0 where
   pub images : IsTrue p.told → (f : Files) → Image v f → (o : Contents) × Among p.outcomes o × Stands f o
   pub standings : IsTrue p.told → IfSome p.standings (λ os. (f : Files) → Image v f → (o : Standing) × Among os o × StandsSo f o)
   pub alike : IsTrue p.told → (f : Files) (o : Contents) → Image v f → Stands f o → o.instance ≡ p.now.instance
+  pub shown : IfShown p (λ files. v.content ≡ Some files)
   pub faults : p.faults ≤ v.faults
   pub simulated : v.simulated ≡ p.simulated
 
@@ -35,7 +36,7 @@ pub record IsUnmappedIn (region : Name) (number : ℕ) (text : List ℕ) (c : Co
   pub unbegun : generation c.instance ≡ 0
   pub named : region_number region c ≡ Some number
   pub inside : number < length (regions c.instance)
-  pub once : twice_mapped text c ≡ None
+  pub once : twice_mapped text c.instance ≡ None
 
 -- Whatever place the site was looked at, MAP with some answer leads from there to one at which it stands, and this is its text.
 abbrev pub MapsAt : Name → List ℕ → View → Site → View → Site → List ℕ → List ℕ → Bool → Type 0

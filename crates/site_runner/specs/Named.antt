@@ -3,7 +3,8 @@ use Rattle.std.specs.Prelude.{[]}
 use Rattle.command_defs.specs.Commands.{Name, Command}
 use Rattle.world_defs.specs.World.{Place}
 use Rattle.world_defs.specs.Row.{Row, quiet}
-use Rattle.world_defs.specs.Meaning.{Target, On, Open, row_at, target}
+use Rattle.world_defs.specs.Meaning.{Target, On, Open, row_at}
+use Rattle.world_defs.specs.rows.{target}
 
 abbrev pub IsOn : Target → Type 0
 IsOn (On name row) = Unit {0}

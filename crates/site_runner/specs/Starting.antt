@@ -1,13 +1,15 @@
 -- What beginning a reign means at the place of a site that was opened for it.
-use Rattle.std.specs.Prelude.{◌≡◌, ◌≤◌, ℕ, Bool, true, List, length, Some, None, IsTrue, IfSome}
+use Rattle.std.specs.Prelude.{◌≡◌, ◌≤◌, ◌<◌, ℕ, Bool, true, List, length, Some, None, IsTrue, IfSome}
 use Rattle.disk_defs.specs.Disk.{View}
-use Rattle.journal_defs.specs.Instance.{site_name}
+use Rattle.journal_defs.specs.Instance.{generation, site_name}
 use Rattle.site_store.specs.declared.site.OpenSite.{OpenSite}
-use Rattle.site_store.specs.Site.{IsOpen}
+use Rattle.site_store.specs.Site.{IsOpen, WasOpenedFrom}
 use Rattle.site_defs.specs.Lists.{Among}
-use Rattle.world_defs.specs.World.{Place}
+use Rattle.world_defs.specs.World.{Place, IfShown}
+use Rattle.world_defs.specs.Shown.{BySequence}
 use Rattle.site_defs.specs.Contents.{Contents}
 use Rattle.world_defs.specs.rows.Start.{generation_limit, start}
+use Rattle.site_defs.specs.Limits.{LAST_GENERATION}
 use Rattle.site_defs.specs.Opening.{opened}
 use Rattle.world_defs.specs.Step.{LeftByRow}
 use Rattle.world_defs.specs.Ties.{Matches}
@@ -33,6 +35,8 @@ pub record IsOpenedAt (v : View) (s : Site) (o : OpenSite) (p : Place) : Type 0 
   -- and one of the standings
   pub standing : IsTrue p.told → IfSome p.standings (λ os. Among os (record { contents = p.now; broken = p.left.broken }))
   pub drawn : IsTrue p.told → generation_limit p.now ≡ None
+  -- the records that the disk told, of which a generation was left, and the sequence that they stand for
+  pub held : IfShown p (BySequence (λ u seq. WasOpenedFrom u seq o × (generation u.instance < LAST_GENERATION)))
   pub faults : p.faults ≤ v.faults
   pub simulated : v.simulated ≡ p.simulated
 

@@ -4,7 +4,7 @@ ghost use Rattle.disk_defs.specs.Gates.{records};
 ghost use Rattle.journal_defs.specs.Numbers.{INSTANCE};
 ghost use Rattle.site_defs.specs.Lists.{first_where};
 ghost use Rattle.command_defs.specs.Commands as commands;
-ghost use Rattle.command_defs.specs.Sections.{IsFormed};
+ghost use Rattle.command_defs.specs.Commands.{IsFormed};
 ghost use Rattle.repl_script.specs.Commands.{region_value};
 ghost use Rattle.world_defs.specs.rows.Create as rows;
 ghost use Rattle.site_runner.specs.Executes.{ExecutesHere, IsCutHere, Executes, IsCutOff};

@@ -1,6 +1,6 @@
 // One command.
 ghost use Rattle.std.specs.Prelude.{◌≡◌, length, IfOk, OnOk, OnErr, Some, None, true};
-ghost use Rattle.command_defs.specs.Sections.{IsFormed, IsWhole};
+ghost use Rattle.command_defs.specs.Commands.{IsFormed, IsWhole};
 ghost use Rattle.repl_script.specs.Commands.{command_value};
 ghost use Rattle.site_runner.specs.Executes.{ExecutesHere, IsCutHere, Executes, IsCutOff};
 ghost use Rattle.site_runner.specs.Named.{IsNamed, name_in, row_in};

@@ -1,9 +1,9 @@
 // MAP.
-ghost use Rattle.std.specs.Prelude.{◌≡◌, ◌<◌, ◌≤◌, take, map, length, IfSome, IfOk, OnOk, OnErr, true, Some};
+ghost use Rattle.std.specs.Prelude.{◌≡◌, ◌<◌, ◌≤◌, take, map, length, IfSome, IfOk, OnOk, OnErr, true, Some, None};
 ghost use Rattle.disk_defs.specs.Disk.{IsDurable};
 ghost use Rattle.global_defs.specs.Pattern.{is_pattern};
 ghost use Rattle.journal_defs.specs.Numbers.{INSTANCE};
-ghost use Rattle.journal_defs.specs.Instance.{generation, regions};
+ghost use Rattle.journal_defs.specs.Instance.{generation, regions, site_name};
 ghost use Rattle.journal_defs.specs.Stands.{IsInstance};
 ghost use Rattle.site_defs.specs.Lists.{first_where};
 ghost use Rattle.site_defs.specs.Contents.{Contents, same_name};
@@ -11,7 +11,7 @@ ghost use Rattle.site_defs.specs.Limits.{region_number};
 ghost use Rattle.site_defs.specs.Stands.{IsSite, Stands};
 ghost use Rattle.site_store.specs.Finding.{IsFound, IsFoundIn};
 ghost use Rattle.site_store.specs.Opening.{region_value};
-ghost use Rattle.world_defs.specs.rows.Map.{map_pattern};
+ghost use Rattle.world_defs.specs.rows.Map.{map_pattern, unmapped_by};
 ghost use Rattle.site_runner.specs.declared.slot.State.TheVariants.{Down};
 ghost use Rattle.site_runner.specs.Sites.{IsReadyState};
 ghost use Rattle.site_runner.specs.Steps.{ExecutesAt, IsCutAt};
@@ -67,6 +67,8 @@ fn map_there<D: Disk>(
     requires inside { number < length (regions log.records) }
     requires few { length (regions log.records) ≤ 8 }
     requires undrawn { generation log.records ≡ 0 }
+    requires called { site_name log.records ≡ site.old.name }
+    requires unmapped { unmapped_by region.now pattern.now log.records ≡ None }
     requires told { IfSome (D.disk disk.old).content (λ files. IsInstance (files INSTANCE) log.records) }
     requires durable { IfSome (D.disk disk.old).content (λ files. IsDurable (D.disk disk.old) INSTANCE (files INSTANCE)) }
     requires down { site.old.state ≡ Down }

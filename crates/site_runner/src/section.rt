@@ -1,6 +1,6 @@
 // RUN.
 ghost use Rattle.std.specs.Prelude.{IfOk, OnOk, OnErr};
-ghost use Rattle.command_defs.specs.Sections.{UsesUp};
+ghost use Rattle.command_defs.specs.Commands.{UsesUp};
 ghost use Rattle.repl_script.specs.Places.{at_all};
 ghost use Rattle.world_defs.specs.rows.Run.{run};
 ghost use Rattle.site_runner.specs.Sites.{IsReadyState};
@@ -23,7 +23,7 @@ pub fn run_section<D: Disk>(
     alloc: Global,
     disk: &mut D,
     site: &mut Site,
-    jobs: Jobs,
+    mut jobs: Jobs,
     order: &[u8],
     text: &mut Bytes,
 ) -> Result<bool, NoMemory>
@@ -40,7 +40,7 @@ pub fn run_section<D: Disk>(
     let State::Primary(reign) = &mut site.state else {
         unreachable!();
     };
-    match reign.run(alloc, disk, jobs, order, text) {
+    match reign.run(alloc, disk, &mut jobs, order, text) {
         Ok(()) => {
             nothing_is_left(disk);
             let length = reign.site.sequence_length();

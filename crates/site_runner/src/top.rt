@@ -5,7 +5,7 @@ ghost use Rattle.repl_io.specs.Fault.{Rose};
 ghost use Rattle.world_defs.specs.World.{World, IsFresh};
 ghost use Rattle.world_defs.specs.Ties.{AreDisks};
 ghost use Rattle.command_defs.specs.Lines.{lines_of};
-ghost use Rattle.command_defs.specs.Sections.{IsFormed, IsWhole};
+ghost use Rattle.command_defs.specs.Commands.{IsFormed, IsWhole};
 ghost use Rattle.command_defs.specs.Script.{IsScript, IsBadAt};
 ghost use Rattle.repl_script.specs.Commands.{command_value};
 ghost use Rattle.site_runner.specs.Sites.{AreReady};

@@ -26,6 +26,11 @@ pub exact_by : (o : Option Files) (rs : List InstanceRecord) (found : Option Lay
 exact_by o rs found read own = weaker_told o (λ files. IsInstance (files INSTANCE) rs) (λ files. (qs : List InstanceRecord) → IsInstance (files INSTANCE) qs → IsLaidOut qs found) read
     (λ files is qs other. subst (λ (l : List InstanceRecord). IsLaidOut l found) (instance_one (files INSTANCE) rs qs is other) own)
 
+pub held_by : (o : Option Files) (rs : List InstanceRecord) (found : Option Layout) → IfSome o (λ files. IsInstance (files INSTANCE) rs) → IsLaidOut rs found
+    → IfSome o (λ files. (qs : List InstanceRecord) × IsInstance (files INSTANCE) qs × IsLaidOut qs found)
+held_by o rs found read own = weaker_told o (λ files. IsInstance (files INSTANCE) rs) (λ files. (qs : List InstanceRecord) × IsInstance (files INSTANCE) qs × IsLaidOut qs found) read
+    (λ files is. (rs, is, own))
+
 none_zip : (bodies : List Body) → AllZip IsInstanceBody bodies [] → bodies ≡ []
 none_zip [] zip = refl
 none_zip (b ∷ bodies) zip = absurd zip
@@ -35,6 +40,17 @@ no_bodies file is = is.bodies.1 ∙ ap Some (none_zip is.bodies.0 is.bodies.2)
 
 pub blank_instance : (file : List ℕ) → records file ≡ Some [] → IsInstance file []
 blank_instance file none = record { bodies = ([], none, tt); create = tt; cuts = tt; reigns = tt }
+
+-- a file without an open record is an instance file
+pub none_written : (o : Option Files) → IfSome o (λ files. (rs : List InstanceRecord) → IsInstance (files INSTANCE) rs → ⊥) → IfSome o (λ files. records (files INSTANCE) ≡ Some [] → ⊥)
+none_written o none = weaker_told o (λ files. (rs : List InstanceRecord) → IsInstance (files INSTANCE) rs → ⊥) (λ files. records (files INSTANCE) ≡ Some [] → ⊥) none
+    (λ files no blank. no [] (blank_instance (files INSTANCE) blank))
+
+pub some_written : (o : Option Files) (rs : List InstanceRecord) → 0 < length rs → IfSome o (λ files. IsInstance (files INSTANCE) rs) → IfSome o (λ files. records (files INSTANCE) ≡ Some [] → ⊥)
+some_written o rs some read = weaker_told o (λ files. IsInstance (files INSTANCE) rs) (λ files. records (files INSTANCE) ≡ Some [] → ⊥) read
+    (λ files own blank.
+    let none : rs ≡ [] = instance_one (files INSTANCE) rs [] own (blank_instance (files INSTANCE) blank) in
+    let few : 0 < length rs → ⊥ = λ more. (let e = ap (λ (l : List InstanceRecord). length l) none in omega (arith, e, more)) in few some)
 
 pub site_instance : (files : Files) (c : Contents) → IsSite files c → IsInstance (files INSTANCE) c.instance
 site_instance files c site = subst (λ (rs : List InstanceRecord). IsInstance (files INSTANCE) rs) site.instance site.image.held.instance

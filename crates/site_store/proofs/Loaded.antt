@@ -66,6 +66,13 @@ opened_from o v rs last journal seq s read sequence entries records = weaker_tol
       instance = records ∙ ap (λ (l : List InstanceRecord). l ++ next_cut l (length seq) ∷ []) (sym first) ∙ ap (λ (q : Sequence). u.instance ++ next_cut u.instance (length q) ∷ []) (sym seqs);
     })
 
+-- and what was read is such records
+pub held_from : (o : Option Files) (v : View) (rs : List InstanceRecord) (last : ℕ → ℕ) (journal : ℕ → List Placed) (seq : Sequence) (s : OpenSite) → IfSome o (WasRead v rs last journal) → IsSequence (record { instance = rs; journal = journal }) seq
+    → map numbered s.entries.items ≡ enumerate_from 1 seq → s.instance.records ≡ rs ++ next_cut rs (length seq) ∷ []
+    → IfSome o (λ files. (u : Records) × (other : Sequence) × AreRecords files u × IsSequence u other × WasOpenedFrom u other s)
+held_from o v rs last journal seq s read sequence entries records = weaker_told o (WasRead v rs last journal) (λ files. (u : Records) × (other : Sequence) × AreRecords files u × IsSequence u other × WasOpenedFrom u other s) read (λ files was.
+    (record { instance = rs; journal = journal }, seq, held_read rs last journal files was.holds, sequence, record { entries = entries; instance = records }))
+
 -- nothing was written
 abbrev pub Moments : View → View → Files → Type 0
 Moments u v files = (c : Contents) (left : Leftover) → IsSite files c → HasLeft files c left → AtEachMoment u v (MayBeOpen u left.broken)

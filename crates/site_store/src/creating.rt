@@ -33,10 +33,13 @@ pub fn find<D: Disk>(alloc: Global, disk: &mut D) -> Result<Option<FoundSite>, S
     ensures told { IfOk result (λ found. IfSome found (IsFoundIn (D.disk disk.new))) }
     // whether the files are a site's or not
     ensures exact { IfOk result (λ found. IfSome (D.disk disk.old).content (λ files. (rs : List instances.InstanceRecord) → IsInstance (files INSTANCE) rs → IsLaidOut rs (layout_in found))) }
+    ensures holds { IfOk result (λ found. IfSome (D.disk disk.old).content (λ files. (rs : List instances.InstanceRecord) × IsInstance (files INSTANCE) rs × IsLaidOut rs (layout_in found))) }
     ensures content { (D.disk disk.new).content ≡ (D.disk disk.old).content }
     ensures alike { OnOk result (IfSome (D.disk disk.old).content (λ files. (c o : Contents) (f : Files) → Stands files c → Image (D.disk disk.new) f → Stands f o → o.instance ≡ c.instance)) }
     ensures empty { result ≡ Ok None → IfSome (D.disk disk.new).content (λ files. records (files INSTANCE) ≡ Some []) }
     ensures place { (file offset : ℕ) → IsErrOf result (SiteError.NotAFile file offset) → IfSome (D.disk disk.old).content (λ files. IsNoInstance files file offset ⊎ HasNoDirectory files file offset) }
+    // where the instance file has no open record, none is outside
+    ensures written { (file offset : ℕ) → IsErrOf result (SiteError.NotAFile file offset) → IfSome (D.disk disk.old).content (λ files. records (files INSTANCE) ≡ Some [] → ⊥) }
     ensures outside { (file : ℕ) (offset : ℕ) → IsErrOf result (SiteError.NotAFile file offset) → IfSome (D.disk disk.old).content (λ files. (c : Contents) → Stands files c → ⊥) }
     ensures any_moment { IfSome (D.disk disk.old).content (λ _. AtEachMoment (D.disk disk.old) (D.disk disk.new) (StandsAsBefore (D.disk disk.old))) }
     // no image is new, so what lies behind is what lay behind
@@ -64,10 +67,13 @@ pub fn inspect<D: Disk>(alloc: Global, disk: &mut D) -> Result<Option<Layout>, S
     ensures found { IfOk result (λ found. IfSome (D.disk disk.old).content (λ files. (c : Contents) → Stands files c → IsFound c found)) }
     // whether the files are a site's or not
     ensures exact { IfOk result (λ found. IfSome (D.disk disk.old).content (λ files. (rs : List instances.InstanceRecord) → IsInstance (files INSTANCE) rs → IsLaidOut rs found)) }
+    ensures holds { IfOk result (λ found. IfSome (D.disk disk.old).content (λ files. (rs : List instances.InstanceRecord) × IsInstance (files INSTANCE) rs × IsLaidOut rs found)) }
     ensures content { (D.disk disk.new).content ≡ (D.disk disk.old).content }
     ensures alike { OnOk result (IfSome (D.disk disk.old).content (λ files. (c o : Contents) (f : Files) → Stands files c → Image (D.disk disk.new) f → Stands f o → o.instance ≡ c.instance)) }
     ensures empty { result ≡ Ok None → IfSome (D.disk disk.new).content (λ files. records (files INSTANCE) ≡ Some []) }
     ensures place { (file offset : ℕ) → IsErrOf result (SiteError.NotAFile file offset) → IfSome (D.disk disk.old).content (λ files. IsNoInstance files file offset ⊎ HasNoDirectory files file offset) }
+    // where the instance file has no open record, none is outside
+    ensures written { (file offset : ℕ) → IsErrOf result (SiteError.NotAFile file offset) → IfSome (D.disk disk.old).content (λ files. records (files INSTANCE) ≡ Some [] → ⊥) }
     ensures outside { (file : ℕ) (offset : ℕ) → IsErrOf result (SiteError.NotAFile file offset) → IfSome (D.disk disk.old).content (λ files. (c : Contents) → Stands files c → ⊥) }
     ensures any_moment { IfSome (D.disk disk.old).content (λ _. AtEachMoment (D.disk disk.old) (D.disk disk.new) (StandsAsBefore (D.disk disk.old))) }
     // no image is new, so what lies behind is what lay behind

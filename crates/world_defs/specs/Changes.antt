@@ -55,8 +55,19 @@ pub record FailsUnchanged (k : ℕ) (site_then : Option Site) (old new : Place) 
   pub now : new.now ≡ old.now
   pub left : new.left ≡ old.left
   pub known : StaysKnown old new
+  pub shown : new.shown ≡ old.shown
   pub count : new.faults ≡ k
   pub rose : Rose old.faults k
+  pub simulated : new.simulated ≡ old.simulated
+
+-- A place whose files aren't known, on which something was written.
+pub record ChangesUnknown (old new : Place) : Type 0 where
+  pub unknown : old.told ≡ false
+  pub site : new.site ≡ old.site
+  pub now : new.now ≡ old.now
+  pub left : new.left ≡ old.left
+  pub known : StaysKnown old new
+  pub faults : old.faults ≤ new.faults
   pub simulated : new.simulated ≡ old.simulated
 
 -- A place whose files aren't known, which stays as it is. (Bytes outside the formats are found on no disk whose files are known: they stand for something.)

@@ -1,9 +1,10 @@
 pub mod World
 pub mod Answers
+pub mod Shown
 pub mod Changes
 pub mod Row
-pub mod rows
 pub mod Meaning
+pub mod rows
 pub mod Step
 pub mod Runs
 pub mod Ties

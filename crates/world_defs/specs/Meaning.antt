@@ -1,21 +1,9 @@
--- The meaning of each command: its row, and where it acts.
+-- What a command may mean, and where it acts.
 use Rattle.std.specs.Prelude.{ℕ, Option, Some, None, slice_get}
-use Rattle.command_defs.specs.Commands.{Name, Command, Create, Attach, Map, StartPrimary, Run, Stop, Fuse, Crash, Extract, Zwrite, Show, Print}
+use Rattle.command_defs.specs.Commands.{Name}
 use Rattle.world_defs.specs.World.{Place, World, Kept, name_on, place_of, next_of}
 use Rattle.world_defs.specs.Answers.{Cause, NoSite, NoDisk, Exists, Refusal, Answer}
 use Rattle.world_defs.specs.Row.{Row}
-use Rattle.world_defs.specs.rows.Attach.{ATTACHING, attach}
-use Rattle.world_defs.specs.rows.Crash.{crash}
-use Rattle.world_defs.specs.rows.Create.{create}
-use Rattle.world_defs.specs.rows.Extract.{extract}
-use Rattle.world_defs.specs.rows.Fuse.{fuse}
-use Rattle.world_defs.specs.rows.Map.{map_pattern}
-use Rattle.world_defs.specs.rows.Print.{print}
-use Rattle.world_defs.specs.rows.Run.{run}
-use Rattle.world_defs.specs.rows.Show.{show}
-use Rattle.world_defs.specs.rows.Start.{start}
-use Rattle.world_defs.specs.rows.Stop.{stop}
-use Rattle.world_defs.specs.rows.Zwrite.{zwrite}
 
 -- What becomes of each place that a command doesn't act on, by the answer and the number of the place.
 abbrev pub Others : Type 1
@@ -67,24 +55,6 @@ if_new w name f = there f w (place_of w name) (λ i p. refusing name Exists)
 abbrev pub row_at : (Name → Place → Row) → Place → Row
 row_at row p = row (name_on p.site) p
 
--- a command is one line of this
-abbrev pub target : Command → Target
-target (Create name regions) = Open (λ w. if_new w name (on_next w name (λ i p. Acts i (create regions name p) apart)))
-target Attach = Open (λ w. on_next w ATTACHING (λ i p. Acts i (attach w p) apart))
-target (Map name region text) = On name (map_pattern region text)
-target (StartPrimary name) = On name start
-target (Run name jobs order) = On name (run jobs order)
-target (Stop name) = On name stop
-target (Fuse name calls) = On name (fuse calls)
-target (Crash name pick) = On name crash
-target (Extract name from) = On name (extract from)
-target (Zwrite name top) = On name (zwrite top)
-target (Show name) = On name show
-target (Print name lost g) = On name (print g)
-
 abbrev pub meant : World → Target → Meaning
 meant w (On name row) = on_site w name (λ i p. Acts i (row_at row p) apart)
 meant w (Open f) = f w
-
-abbrev pub meaning : World → Command → Meaning
-meaning w c = meant w (target c)

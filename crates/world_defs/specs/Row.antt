@@ -30,6 +30,8 @@ pub record Row : Type 1 where
   pub refused : Refusal → Place → Type 0
   -- where files aren't known they may refuse it too
   pub may_refuse : Refusal → Place → Type 0
+  -- what the bytes say where it's answered so, if the disk tells them
+  pub by_bytes : Answer → Type 0
   -- what a fault might have left of an outcome, beside the outcome itself, where the command is cut off for want of memory
   pub left : Contents → Contents → Type 0
   -- and of a standing
@@ -50,6 +52,7 @@ quiet word p = record {
   damage = λ file offset q. ⊥;
   refused = λ r q. Kept p q;
   may_refuse = λ r q. ⊥;
+  by_bytes = λ a. Unit {0};
   left = λ c o. ⊥;
   left_so = λ s o. ⊥;
 }
@@ -127,11 +130,11 @@ where_known p o = if p.told then o else None
 abbrev pub refusal_in : Row → Option Refusal
 refusal_in row = or_else row.early row.late
 
--- what it answers, what its place becomes, and what it writes
+-- what it answers, what its place becomes, what it writes, and what the bytes say then
 abbrev pub Here : Row → Answer → Place → List ℕ → Type 0
-Here row Done q t = (refusal_in row ≡ None) × row.done q × (t ≡ row.says q)
-Here row (Refused r) q t = (((refusal_in row ≡ Some r) × row.refused r q) ⊎ ((row.early ≡ None) × row.may_refuse r q)) × (t ≡ refusal_line r)
+Here row Done q t = (refusal_in row ≡ None) × row.done q × (t ≡ row.says q) × row.by_bytes Done
+Here row (Refused r) q t = (((refusal_in row ≡ Some r) × row.refused r q) ⊎ ((row.early ≡ None) × row.may_refuse r q)) × (t ≡ refusal_line r) × row.by_bytes (Refused r)
 Here row (DiskFault k) q t = (row.early ≡ None) × row.fault k q × (t ≡ fault_line row.word k)
-Here row (NotAFile file offset) q t = (row.early ≡ None) × row.damage file offset q × (t ≡ damage_line row.word file offset)
+Here row (NotAFile file offset) q t = (row.early ≡ None) × row.damage file offset q × (t ≡ damage_line row.word file offset) × row.by_bytes (NotAFile file offset)
 Here row (Ran s) q t = (refusal_in row ≡ None) × row.ran s q × (t ≡ row.tells s)
-Here row (Typed text) q t = (refusal_in row ≡ None) × row.typed text q × (t ≡ text)
+Here row (Typed text) q t = (refusal_in row ≡ None) × row.typed text q × (t ≡ text) × row.by_bytes (Typed text)

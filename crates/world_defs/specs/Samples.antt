@@ -1,7 +1,7 @@
 -- Small worlds for the laws, and a command made of others.
-use Rattle.std.specs.Prelude.{Bool, true, [], ◌∷◌, codes, Some, None}
+use Rattle.std.specs.Prelude.{Bool, true, false, [], ◌∷◌, codes, Some, None}
 use Rattle.command_defs.specs.Commands.{Name}
-use Rattle.world_defs.specs.World.{Place, World, Failed}
+use Rattle.world_defs.specs.World.{Place, World, Down, Failed}
 use Rattle.world_defs.specs.Meaning.{Meaning, Acts, Then, apart, on_site, row_at}
 use Rattle.world_defs.specs.rows.Start.{start}
 use Rattle.world_defs.specs.rows.Stop.{stop}
@@ -10,19 +10,51 @@ use Rattle.site_defs.specs.Samples.{made}
 
 -- where a call of A's disk failed, the third one on it
 abbrev pub failed_place : (simulated : Bool) → Place
-failed_place simulated = record { site = Some (record { name = codes "A"; state = Failed 3 }); told = true; now = made; left = NO_LEFTOVER; outcomes = made ∷ []; standings = Some (bare made ∷ []); faults = 3; simulated = simulated }
+failed_place simulated = record { site = Some (record { name = codes "A"; state = Failed 3 }); told = true; now = made; left = NO_LEFTOVER; outcomes = made ∷ []; standings = Some (bare made ∷ []); shown = None; faults = 3; simulated = simulated }
 
 -- where a fault ended a section of A's: the one image has a text behind the contents that it stands for
 abbrev pub torn_place : Place
-torn_place = record { site = Some (record { name = codes "A"; state = Failed 3 }); told = true; now = made; left = NO_LEFTOVER; outcomes = made ∷ []; standings = Some (record { contents = made; broken = codes "x" } ∷ []); faults = 3; simulated = true }
+torn_place = record { site = Some (record { name = codes "A"; state = Failed 3 }); told = true; now = made; left = NO_LEFTOVER; outcomes = made ∷ []; standings = Some (record { contents = made; broken = codes "x" } ∷ []); shown = None; faults = 3; simulated = true }
 
 -- a disk that A stands on, which no site of the run has
 abbrev pub made_place : Place
-made_place = record { site = None; told = true; now = made; left = NO_LEFTOVER; outcomes = made ∷ []; standings = Some (bare made ∷ []); faults = 0; simulated = true }
+made_place = record { site = None; told = true; now = made; left = NO_LEFTOVER; outcomes = made ∷ []; standings = Some (bare made ∷ []); shown = None; faults = 0; simulated = true }
 
 -- an empty disk
 abbrev pub blank_place : Place
-blank_place = record { site = None; told = true; now = nothing; left = NO_LEFTOVER; outcomes = nothing ∷ []; standings = Some (bare nothing ∷ []); faults = 0; simulated = true }
+blank_place = record { site = None; told = true; now = nothing; left = NO_LEFTOVER; outcomes = nothing ∷ []; standings = Some (bare nothing ∷ []); shown = None; faults = 0; simulated = true }
+
+-- a disk whose bytes are no site's: each file has one
+abbrev pub shown_place : Place
+shown_place = record { site = Some (record { name = codes "A"; state = Down }); told = false; now = nothing; left = NO_LEFTOVER; outcomes = []; standings = None; shown = Some (λ f. codes "x"); faults = 0; simulated = true }
+
+-- a disk whose bytes are shown, and that A stands on, with region R
+abbrev pub created_place : Place
+created_place = record {
+  site = Some (record { name = codes "A"; state = Down });
+  told = false;
+  now = nothing;
+  left = NO_LEFTOVER;
+  outcomes = [];
+  standings = None;
+  shown = Some (λ f. 1 ∷ 0 ∷ 0 ∷ 0 ∷ 8 ∷ 1 ∷ 1 ∷ 1 ∷ 65 ∷ 1 ∷ 1 ∷ 82 ∷ 1 ∷ 0 ∷ []);
+  faults = 0;
+  simulated = true;
+}
+
+-- a disk each of whose files breaks off behind its first record: no gate of the format stands there
+abbrev pub broken_off_place : Place
+broken_off_place = record {
+  site = Some (record { name = codes "A"; state = Down });
+  told = false;
+  now = nothing;
+  left = NO_LEFTOVER;
+  outcomes = [];
+  standings = None;
+  shown = Some (λ f. 1 ∷ 0 ∷ 0 ∷ 0 ∷ 1 ∷ 9 ∷ 1 ∷ 0 ∷ []);
+  faults = 0;
+  simulated = true;
+}
 
 -- one site is closed, and where that was done, another one begins a reign
 abbrev pub switching : (from to : Name) → World → Meaning

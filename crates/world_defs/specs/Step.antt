@@ -7,7 +7,8 @@ use Rattle.world_defs.specs.World.{Place, World, IfKnown, StandAfter, Unchanged}
 use Rattle.world_defs.specs.Answers.{Refusal, Answer, Done, Refused, DiskFault, NotAFile, Ran, Typed, refusal_line}
 use Rattle.world_defs.specs.Changes.{After}
 use Rattle.world_defs.specs.Row.{Row, refusal_in, Here}
-use Rattle.world_defs.specs.Meaning.{Others, Meaning, No, Acts, Then, meaning}
+use Rattle.world_defs.specs.Meaning.{Others, Meaning, No, Acts, Then}
+use Rattle.world_defs.specs.rows.{meaning}
 
 -- One answer of a row at a place: what the place becomes, what each other one does, and the text.
 pub record One (i : ℕ) (row : Row) (others : Others) (a : Answer) (w m : World) (t : List ℕ) : Type 0 where

@@ -1,7 +1,8 @@
 -- The world of a run between two commands: plain data (GT.M: instances, and what the replication of each one does).
 use Rattle.site_defs.specs.Contents.{Contents, Leftover, Standing, same_name}
-use Rattle.std.specs.Prelude.{◌≡◌, ℕ, ◌≤◌, Bool, true, false, List, [], Option, Some, None, IsTrue, take}
+use Rattle.std.specs.Prelude.{◌≡◌, ℕ, ◌≤◌, Bool, true, false, List, [], Option, Some, None, IsTrue, take, IfSome}
 use Rattle.std.specs.List.{AllByRecursion}
+use Rattle.disk_defs.specs.Disk.{Files}
 use Rattle.global_defs.specs.Entry.{Stamp}
 use Rattle.command_defs.specs.Commands.{Name}
 use Rattle.site_defs.specs.Lists.{Among, Along, first_where}
@@ -30,6 +31,8 @@ pub record Place : Type 0 where
   pub outcomes : List Contents
   -- and where it's known what lies behind that in each image: each stands so, one of these
   pub standings : Option (List Standing)
+  -- what the files read as, where the disk tells them, a fit site's or not
+  pub shown : Option Files
   -- how many calls of the disk have failed
   pub faults : ℕ
   -- whether the disk can be made to fail and to crash
@@ -85,6 +88,10 @@ StandAfter step (Some os) (Some ns) = (o : Standing) → Among ns o → (s : Sta
 abbrev pub StandAsBefore : (old new : Option (List Standing)) → Type 0
 StandAsBefore old new = StandAfter (λ s o. o ≡ s) old new
 
+-- P of the files, where the disk tells them
+abbrev pub IfShown : Place → (Files → Type 0) → Type 0
+IfShown p P = IfSome p.shown P
+
 -- P, where the place's files are known
 abbrev pub IfKnown : Place → Type 0 → Type 0
 IfKnown p P = IsTrue p.told → P
@@ -105,6 +112,7 @@ pub record Kept (old new : Place) : Type 0 where
   pub now : new.now ≡ old.now
   pub left : new.left ≡ old.left
   pub known : StaysKnown old new
+  pub shown : new.shown ≡ old.shown
   pub faults : old.faults ≤ new.faults
   pub simulated : new.simulated ≡ old.simulated
 

@@ -11,18 +11,18 @@ ghost use Rattle.site_defs.specs.Opening.{opened, with_pattern};
 ghost use Rattle.site_defs.specs.Samples.{made, reigned_once, two_regions};
 ghost use Rattle.command_defs.specs.Commands.{Attach, Create, StartPrimary, Stop, Crash, Show, with_images};
 ghost use Rattle.world_defs.specs.World.{Place, World, Primary, Failed};
-ghost use Rattle.world_defs.specs.Answers.{NoSite, NoDisk, Empty, Exists, Stopped, NotSimulated, Started, NoRegion, TwiceMapped, NoFile, GenLimit, ReignLimit, Answer, Refused, refusal_line, fault_line};
-ghost use Rattle.world_defs.specs.Row.{first};
+ghost use Rattle.world_defs.specs.Answers.{NoSite, NoDisk, Empty, Exists, Stopped, NotSimulated, Started, NoRegion, TwiceMapped, NoFile, GenLimit, ReignLimit, Answer, Refused, NotAFile, Typed, refusal_line, fault_line};
+ghost use Rattle.world_defs.specs.Row.{first, Here};
 ghost use Rattle.world_defs.specs.rows.Attach.{attach};
 ghost use Rattle.world_defs.specs.rows.Crash.{Crashes};
 ghost use Rattle.world_defs.specs.rows.Create.{created};
-ghost use Rattle.world_defs.specs.rows.Map.{started, twice_mapped, unmapped};
-ghost use Rattle.world_defs.specs.rows.Print.{no_file, typed};
+ghost use Rattle.world_defs.specs.rows.Map.{map_pattern, started, twice_mapped, unmapped};
+ghost use Rattle.world_defs.specs.rows.Print.{no_file, print, typed};
 ghost use Rattle.world_defs.specs.rows.Run.{section_text};
 ghost use Rattle.world_defs.specs.rows.Show.{show_state};
 ghost use Rattle.world_defs.specs.rows.Start.{FIRST_SERIALS, StartsPrimary, generation_limit, reign_limit, start};
 ghost use Rattle.world_defs.specs.Step.{LeavesOld, LeftByRow, Step, refusal, refusal_of};
-ghost use Rattle.world_defs.specs.Samples.{failed_place, torn_place, blank_place, made_place, switching};
+ghost use Rattle.world_defs.specs.Samples.{failed_place, torn_place, blank_place, made_place, shown_place, created_place, broken_off_place, switching};
 
 /// A world without disks refuses what needs one; one whose only disk failed refuses what needs it until a crash.
 pub fn refusals_hold()
@@ -54,17 +54,29 @@ pub fn causes_hold()
 pub fn mapping_holds()
     ensures mapped { unmapped (codes "R") (codes "X*") made_place ≡ None }
     ensures region { unmapped (codes "Q") (codes "X*") made_place ≡ Some (NoRegion (codes "Q")) }
-    ensures twice { twice_mapped (codes "X*") (with_pattern 0 (codes "X*") made) ≡ Some TwiceMapped }
-    ensures name { twice_mapped (codes "X") (with_pattern 0 (codes "X*") made) ≡ None }
-    ensures begun { first (started reigned_once ∷ []) ≡ Some Started }
+    ensures twice { twice_mapped (codes "X*") (with_pattern 0 (codes "X*") made).instance ≡ Some TwiceMapped }
+    ensures name { twice_mapped (codes "X") (with_pattern 0 (codes "X*") made).instance ≡ None }
+    ensures begun { first (started reigned_once.instance ∷ []) ≡ Some Started }
     ensures second { region_number (codes "S") two_regions ≡ Some 1 }
 {}
 
 /// A broken-transaction file is typed by its generation; the one past the newest is as far as an opening wrote it.
 pub fn typing_holds()
-    ensures newest { typed 1 (record { site = None; told = true; now = opened (codes "x") made; left = record { broken = []; torn = codes "y" }; outcomes = []; standings = None; faults = 0; simulated = true }) ≡ codes "x" }
-    ensures torn { typed 2 (record { site = None; told = true; now = opened (codes "x") made; left = record { broken = []; torn = codes "y" }; outcomes = []; standings = None; faults = 0; simulated = true }) ≡ codes "y" }
+    ensures newest { typed 1 (record { site = None; told = true; now = opened (codes "x") made; left = record { broken = []; torn = codes "y" }; outcomes = []; standings = None; shown = None; faults = 0; simulated = true }) ≡ codes "x" }
+    ensures torn { typed 2 (record { site = None; told = true; now = opened (codes "x") made; left = record { broken = []; torn = codes "y" }; outcomes = []; standings = None; shown = None; faults = 0; simulated = true }) ≡ codes "y" }
     ensures nothing { no_file 3 made_place ≡ Some NoFile }
+{}
+
+/// On a disk that tells its bytes, a site's or not, these decide what files decide.
+pub fn shown_bytes_decide()
+    ensures typed { (q : Place) (text told : List ℕ) → Here (print 1 (codes "A") shown_place) (Typed text) q told → text ≡ codes "x" }
+    ensures some { (q : Place) (told : List ℕ) → Here (print 1 (codes "A") shown_place) (Refused (record { site = codes "A"; cause = NoFile })) q told → ⊥ }
+    // the site has no region Q, and no generation of it was drawn
+    ensures no_region { (map_pattern (codes "Q") (codes "X*") (codes "A") created_place).by_bytes (Refused (record { site = codes "A"; cause = NoRegion (codes "Q") })) }
+    ensures not_begun { (map_pattern (codes "Q") (codes "X*") (codes "A") created_place).by_bytes (Refused (record { site = codes "A"; cause = Started })) → ⊥ }
+    // no gate of the format stands behind the first record, and one before it
+    ensures place { (start (codes "A") broken_off_place).by_bytes (NotAFile 0 6) }
+    ensures not_before { (start (codes "A") broken_off_place).by_bytes (NotAFile 0 0) → ⊥ }
 {}
 
 /// A crash leaves what lay behind its contents, the next START writes exactly that down, and nothing lies behind any more. A command

@@ -6,5 +6,5 @@ mod laws;
 
 pub use laws::{
     attaching_holds, causes_hold, leftovers_are_written, mapping_holds, output_holds,
-    refusals_hold, typing_holds,
+    refusals_hold, shown_bytes_decide, typing_holds,
 };

@@ -1,12 +1,13 @@
 -- What keeps a place fit.
 use Rattle.std.proofs.Common.{◌≡◌, inl, inr, ℕ, List, Option, Some, None, IsTrue, refl, sym, ◌∙◌, subst}
+use Rattle.std.proofs.lemmas.Bool.{false≢true}
 use Rattle.journal_defs.specs.Instance.{site_name}
 use Rattle.command_defs.specs.Commands.{Name, Region}
 use Rattle.site_defs.specs.Lists.{Among}
 use Rattle.world_defs.specs.World.{State, Down, Failed, Site, Place, World, Kept}
 use Rattle.site_defs.specs.Contents.{Contents, Standing}
 use Rattle.site_defs.specs.Opening.{MayMap, with_pattern}
-use Rattle.world_defs.specs.Changes.{in_new_state, Stays, Becomes, Fails, FailsUnchanged, KeptUnknown}
+use Rattle.world_defs.specs.Changes.{in_new_state, Stays, Becomes, Fails, FailsUnchanged, ChangesUnknown, KeptUnknown}
 use Rattle.world_defs.specs.rows.Attach.{Attaches}
 use Rattle.world_defs.specs.rows.Crash.{Crashes}
 use Rattle.world_defs.specs.rows.Create.{created, MayMake}
@@ -36,6 +37,18 @@ fit-kept old new k h =
 
 pub fit-unknown : (old new : Place) → KeptUnknown old new → IsFitPlace old → IsFitPlace new
 fit-unknown old new k h = fit-kept old new k.kept h
+
+pub fit-changed : (old new : Place) → ChangesUnknown old new → IsFitPlace new
+fit-changed old new c = record {
+  now = λ t. absurd (none t);
+  outcomes = λ t. absurd (none t);
+  named = λ t. absurd (none t);
+  named_now = λ t. absurd (none t);
+  site = λ t. absurd (none t);
+}
+  where
+    none : IsTrue new.told → ⊥
+    none t = false≢true (sym (c.known.told ∙ c.unknown) ∙ t)
 
 -- a site is named as before in each state
 

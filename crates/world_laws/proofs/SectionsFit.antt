@@ -8,7 +8,7 @@ use Rattle.journal_defs.specs.Instance.{greatest_cycle, site_name}
 use Rattle.journal_defs.specs.Surviving.{reigns}
 use Rattle.journal_defs.specs.Fit.{MOST_REIGNS}
 use Rattle.command_defs.specs.Commands.{Name}
-use Rattle.command_defs.specs.Sections.{is_updater}
+use Rattle.command_defs.specs.Updaters.{is_updater}
 use Rattle.world_defs.specs.World.{State, Down, Primary, Failed, Site, Place}
 use Rattle.site_defs.specs.Contents.{Contents}
 use Rattle.world_defs.specs.Answers.{Section}

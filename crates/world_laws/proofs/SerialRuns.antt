@@ -9,7 +9,7 @@ use Rattle.global_defs.specs.Evaluation.{Evaluated, Done, RolledBack, eval}
 use Rattle.global_defs.specs.Jobs.{Job, Answers, SeqLimit}
 use Rattle.global_defs.specs.Serial as serials
 use Rattle.global_defs.specs.Serial.{MOST_ENTRIES, Turn, Reply, Seq, Read, serial_at, entry_of, replied, appended, decided, picked, serial, next_job}
-use Rattle.command_defs.specs.Sections.{is_updater, UPDATERS}
+use Rattle.command_defs.specs.Updaters.{is_updater, UPDATERS}
 use Rattle.journal_defs.specs.Fit.{SerialsRise}
 use Rattle.journal_laws.proofs.FrontFacts as fronts
 use Rattle.world_defs.specs.Fit.{IsBeforeNext}

@@ -1,75 +1,40 @@
 -- Open sites are settled, and nothing lies behind in any of their images.
-use Rattle.std.proofs.Common.{◌≡◌, inl, inr, ℕ, List, [], ◌∷◌, Option, Some, None, IsTrue, refl, sym, ◌∙◌, ap, subst}
-use Rattle.std.specs.Prelude.{IsSomeAnd}
+use Rattle.std.proofs.Common.{◌≡◌, ℕ, List, [], ◌∷◌, None, sym, subst}
 use Rattle.std.specs.List.{AllByRecursion}
-use Rattle.command_defs.specs.Commands.{Command}
-use Rattle.site_defs.specs.Contents.{Contents, Standing, bare}
-use Rattle.site_defs.specs.Lists.{Among}
-use Rattle.world_defs.specs.World.{Site, Place, World, Kept, StandAsBefore, IsFresh}
+use Rattle.command_defs.specs.Commands.{Command, IsFormed}
+use Rattle.world_defs.specs.World.{Place, World, IsFresh}
 use Rattle.world_defs.specs.Answers.{Answer}
-use Rattle.world_defs.specs.Changes.{Stays}
 use Rattle.world_defs.specs.Step.{Step}
 use Rattle.world_defs.specs.Runs.{Told, Runs}
 use Rattle.world_laws.specs.Settled.{IsOpenSite, IsSettledPlace, IsBarePlace}
-use Rattle.world_laws.proofs.Opens.{stays-step, stays-runs}
+use Rattle.world_laws.proofs.Alongs.{along_keeps}
+use Rattle.world_laws.proofs.Opens.{settled-closed, bare-closed}
+use Rattle.world_laws.proofs.Lasts.{Lasts}
+use Rattle.world_laws.proofs.RowLaws.{step_holds}
 
-settled-kept : (x y : Place) → Kept x y → IsSettledPlace x → IsSettledPlace y
-settled-kept x y k h = record {
-  outcomes = λ t up o a. h.outcomes (told t) (there up) o (k.known.outcomes o a) ∙ sym k.now;
-  left = λ t up. k.left ∙ h.left (told t) (there up);
-}
-  where
-    told : IsTrue y.told → IsTrue x.told
-    told t = subst IsTrue k.known.told t
+-- What each command keeps, and what holds where no site is open.
+module _ (I : Place → Type 0) (step : (w m : World) (c : Command) (answers : List Answer) (text : List ℕ) → AllByRecursion I w.places → Step w c answers m text → AllByRecursion I m.places)
+    (closed : (q : Place) → (IsOpenSite q.site → ⊥) → I q) where
+  behind : (w m : World) (told : List Told) (text : List ℕ) → AllByRecursion I w.places → Runs w told m text → AllByRecursion I m.places
+  behind w m [] text k h = subst (λ (x : World). AllByRecursion I x.places) (sym h.0) k
+  behind w m (c ∷ cs) text k h = behind h.0 m cs h.2 (step w h.0 c.command c.answers h.1 k h.3) h.4
 
-    there : IsOpenSite y.site → IsOpenSite x.site
-    there up = subst IsOpenSite k.site up
+  -- no site is open where none stands
+  fresh : (ps : List Place) → AllByRecursion (λ (p : Place). p.site ≡ None) ps → AllByRecursion I ps
+  fresh [] f = tt
+  fresh (p ∷ ps) f = (closed p (λ up. subst IsOpenSite f.0 up), fresh ps f.1)
 
--- no open site
-settled-closed : (q : Place) → (IsOpenSite q.site → ⊥) → IsSettledPlace q
-settled-closed q none = record { outcomes = λ t up. absurd (none up); left = λ t up. absurd (none up) }
-
-only_one : (o c : Contents) → Among (c ∷ []) o → o ≡ c
-only_one o c (inl e) = e
-only_one o c (inr none) = absurd none
-
-settled-stays : (site : Option Site) (c : Contents) (p q : Place) → Stays site c p q → IsSettledPlace q
-settled-stays site c p q s = record {
-  outcomes = λ t up o a. only_one o c (subst (λ (l : List Contents). Among l o) s.known.outcomes a) ∙ sym s.known.now;
-  left = λ t up. s.known.left;
-}
+  holds_behind : (w m : World) (told : List Told) (text : List ℕ) → IsFresh w → Runs w told m text → AllByRecursion I m.places
+  holds_behind w m told text f h = behind w m told text (fresh w.places f) h
 
 pub settled-step : (w m : World) (c : Command) (answers : List Answer) (text : List ℕ) → AllByRecursion IsSettledPlace w.places → Step w c answers m text → AllByRecursion IsSettledPlace m.places
-settled-step = stays-step IsSettledPlace settled-kept settled-closed settled-stays
+settled-step w m c answers text k h = along_keeps (Lasts (IsFormed c)) IsSettledPlace IsSettledPlace (λ x y l i. l.while_open.settled i) w.places m.places (step_holds w m c answers text h).lasts k
 
 pub settled-runs : (w m : World) (told : List Told) (text : List ℕ) → IsFresh w → Runs w told m text → AllByRecursion IsSettledPlace m.places
-settled-runs = stays-runs IsSettledPlace settled-kept settled-closed settled-stays
-
--- what lies behind
-
-as_bare : (c d : Contents) → c ≡ d → (x y : Option (List Standing)) → StandAsBefore x y → IsSomeAnd x (λ os. (s : Standing) → Among os s → s ≡ bare c) → IsSomeAnd y (λ os. (s : Standing) → Among os s → s ≡ bare d)
-as_bare c d e None y b h = absurd h
-as_bare c d e (Some os) None b h = absurd b
-as_bare c d e (Some os) (Some ns) b h = λ s a. let o = b s a in o.2 ∙ h o.0 o.1 ∙ ap bare e
-
-bare-kept : (x y : Place) → Kept x y → IsBarePlace x → IsBarePlace y
-bare-kept x y k h t up = as_bare x.now y.now (sym k.now) x.standings y.standings (k.known.standings told) (h told (subst IsOpenSite k.site up))
-  where
-    told : IsTrue x.told
-    told = subst IsTrue k.known.told t
-
-bare-closed : (q : Place) → (IsOpenSite q.site → ⊥) → IsBarePlace q
-bare-closed q none t up = absurd (none up)
-
-bare-stays : (site : Option Site) (c : Contents) (p q : Place) → Stays site c p q → IsBarePlace q
-bare-stays site c p q s t up = subst (λ (x : Option (List Standing)). IsSomeAnd x (λ os. (s : Standing) → Among os s → s ≡ bare q.now)) (sym s.known.standings) one
-  where
-    one : (o : Standing) → Among (bare c ∷ []) o → o ≡ bare q.now
-    one o (inl e) = e ∙ ap bare (sym s.known.now)
-    one o (inr none) = absurd none
+settled-runs = holds_behind IsSettledPlace settled-step settled-closed
 
 pub bare-step : (w m : World) (c : Command) (answers : List Answer) (text : List ℕ) → AllByRecursion IsBarePlace w.places → Step w c answers m text → AllByRecursion IsBarePlace m.places
-bare-step = stays-step IsBarePlace bare-kept bare-closed bare-stays
+bare-step w m c answers text k h = along_keeps (Lasts (IsFormed c)) IsBarePlace IsBarePlace (λ x y l i. l.while_open.bare i) w.places m.places (step_holds w m c answers text h).lasts k
 
 pub bare-runs : (w m : World) (told : List Told) (text : List ℕ) → IsFresh w → Runs w told m text → AllByRecursion IsBarePlace m.places
-bare-runs = stays-runs IsBarePlace bare-kept bare-closed bare-stays
+bare-runs = holds_behind IsBarePlace bare-step bare-closed

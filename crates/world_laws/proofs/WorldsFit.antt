@@ -1,28 +1,23 @@
 -- What each command keeps of a fit world.
 use Rattle.std.proofs.Common.{List, [], ◌∷◌, ℕ, sym, subst}
 use Rattle.std.specs.List.{AllByRecursion}
-use Rattle.command_defs.specs.Commands.{Command}
-use Rattle.command_defs.specs.Sections.{IsFormed}
+use Rattle.command_defs.specs.Commands.{Command, IsFormed}
 use Rattle.world_defs.specs.World.{World}
 use Rattle.world_defs.specs.Answers.{Answer}
-use Rattle.world_defs.specs.Meaning.{target, meaning}
 use Rattle.world_defs.specs.Step.{Step, CutOff}
 use Rattle.world_defs.specs.Runs.{Told, Runs, commands}
 use Rattle.world_defs.specs.Fit.{IsFitPlace, IsFit}
 use Rattle.world_laws.specs.Again.{HasFitOutcomes}
-use Rattle.world_laws.proofs.PlacesFit.{fit-kept}
-use Rattle.world_laws.proofs.Keeps.{Keeps, target_keeps, goes_keeps, cut_keeps}
-use Rattle.world_laws.proofs.RowsFit.{fit-old, fit-target}
-
-fit-meaning : (w : World) (c : Command) → IsFormed c → IsFit w → Keeps IsFitPlace HasFitOutcomes (meaning w c) w
-fit-meaning w c formed fit = target_keeps IsFitPlace HasFitOutcomes fit-kept (target c) w (fit-target c formed) fit
+use Rattle.world_laws.proofs.Alongs.{along_keeps}
+use Rattle.world_laws.proofs.Lasts.{Lasts, CutsOff}
+use Rattle.world_laws.proofs.RowLaws.{step_holds, cut_off_holds}
 
 pub fit-step : (w m : World) (c : Command) (answers : List Answer) (text : List ℕ) → IsFormed c → IsFit w → Step w c answers m text → IsFit m
-fit-step w m c answers text formed fit h = goes_keeps IsFitPlace HasFitOutcomes fit-kept fit-old (meaning w c) answers w m text (fit-meaning w c formed fit) h fit
+fit-step w m c answers text formed fit h = along_keeps (Lasts (IsFormed c)) IsFitPlace IsFitPlace (λ x y l i. l.fit formed i) w.places m.places (step_holds w m c answers text h).lasts fit
 
 pub fit-whole_run : (w m : World) (told : List Told) (text : List ℕ) → AllByRecursion IsFormed (commands told) → IsFit w → Runs w told m text → IsFit m
 fit-whole_run w m [] text formed fit h = subst IsFit (sym h.0) fit
 fit-whole_run w m (c ∷ cs) text formed fit h = fit-whole_run h.0 m cs h.2 formed.1 (fit-step w h.0 c.command c.answers h.1 formed.0 fit h.3) h.4
 
 pub fit-cut_off : (w m : World) (c : Command) → IsFormed c → IsFit w → CutOff w c m → AllByRecursion HasFitOutcomes m.places
-fit-cut_off w m c formed fit h = cut_keeps IsFitPlace HasFitOutcomes fit-kept fit-old (meaning w c) w m (fit-meaning w c formed fit) h fit
+fit-cut_off w m c formed fit h = along_keeps (CutsOff (IsFormed c)) IsFitPlace HasFitOutcomes (λ x y l i. l.fit formed i) w.places m.places (cut_off_holds w m c h) fit

@@ -1,2 +1,4 @@
 pub mod Again
 pub mod Settled
+pub mod Entries
+pub mod Faults

@@ -2,8 +2,7 @@
 
 ghost use Rattle.std.specs.Prelude.{◌≡◌, ℕ, List, IsTrue};
 ghost use Rattle.std.specs.List.{AllByRecursion};
-ghost use Rattle.command_defs.specs.Commands.{Command};
-ghost use Rattle.command_defs.specs.Sections.{IsFormed};
+ghost use Rattle.command_defs.specs.Commands.{Command, IsFormed};
 ghost use Rattle.world_defs.specs.World.{World};
 ghost use Rattle.world_defs.specs.Answers.{Answer};
 ghost use Rattle.world_defs.specs.Step.{Step, CutOff};

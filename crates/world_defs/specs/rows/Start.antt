@@ -2,15 +2,21 @@
 --
 -- Opening a site writes down what is broken and draws the next generation: it cuts there, so that nothing past the sequence counts any more,
 -- and begins the generation in one region after another.
-use Rattle.std.specs.Prelude.{◌≡◌, ◌⊎◌, ℕ, ◌+◌, Bool, true, false, List, [], ◌∷◌, ◌++◌, codes, length, replicate, Option, Some, None}
+use Rattle.std.specs.Prelude.{◌≡◌, ◌⊎◌, ◌≤◌, ◌<◌, ℕ, ◌+◌, Bool, true, false, List, [], ◌∷◌, ◌++◌, codes, length, replicate, Option, Some, None}
 use Rattle.std.specs.Fmt.{decimal}
+use Rattle.disk_defs.specs.Disk.{Files}
+use Rattle.global_defs.specs.Entry.{Sequence}
+use Rattle.journal_defs.specs.Instance.{generation, site_name}
+use Rattle.journal_defs.specs.Sequence.{Records}
 use Rattle.command_defs.specs.Commands.{Name}
 use Rattle.site_defs.specs.Contents.{Contents}
-use Rattle.site_defs.specs.Limits.{no_generation_left, no_reign_left}
+use Rattle.site_defs.specs.Limits.{LAST_GENERATION, no_generation_left, no_reign_left}
+use Rattle.site_defs.specs.Outside.{IsOutsideSite}
 use Rattle.site_defs.specs.Opening.{MayBegin, MayBeginLeft, next_stamp, opened, with_reign}
-use Rattle.world_defs.specs.World.{State, Down, Primary, Failed, Site, Place, IfKnown, Kept}
+use Rattle.world_defs.specs.World.{State, Down, Primary, Failed, Site, Place, IfKnown, IfShown, Kept}
 use Rattle.world_defs.specs.Answers.{Cause, GenLimit, ReignLimit, line}
-use Rattle.world_defs.specs.Changes.{Becomes, KeptUnknown}
+use Rattle.world_defs.specs.Shown.{ByRecords, BySequence, IsOfAnother, ByAnswer, Anything}
+use Rattle.world_defs.specs.Changes.{Becomes, ChangesUnknown, KeptUnknown}
 use Rattle.world_defs.specs.Row.{Row, writing, first, refused_with, caused, in_state, why_not_down, where_known}
 
 abbrev pub generation_limit : Contents → Option Cause
@@ -23,10 +29,6 @@ reign_limit c = caused (no_reign_left c) ReignLimit
 abbrev pub limited : Place → Option Cause
 limited p = where_known p (first (generation_limit p.now ∷ reign_limit p.now ∷ []))
 
--- an opening or a reign is past a limit
-abbrev pub IsLimit : Cause → Type 0
-IsLimit cause = (cause ≡ GenLimit) ⊎ (cause ≡ ReignLimit)
-
 -- each updater's serial begins at 1
 abbrev pub FIRST_SERIALS : List ℕ
 FIRST_SERIALS = replicate 64 1
@@ -37,6 +39,8 @@ pub record StartsPrimary (name : Name) (old new : Place) : Type 0 where
   pub broken : List ℕ
   pub as_before : IfKnown old (read ≡ old.now)
   pub as_left : IfKnown old (broken ≡ old.left.broken)
+  -- the bytes stand for what was read
+  pub bytes : IfShown old (BySequence (λ u seq. (read.instance ≡ u.instance) × (read.sequence ≡ seq)))
   pub becomes : Becomes (Primary (next_stamp name read) FIRST_SERIALS) (with_reign name (opened broken read)) old new
 
 abbrev pub is_reign_limit : Cause → Bool
@@ -58,12 +62,37 @@ abbrev pub cycle_on : Option Site → ℕ
 cycle_on None = 0
 cycle_on (Some site) = cycle_in site.state
 
+-- what such records and such a sequence have of a site
+abbrev pub read_so : Records → Sequence → Contents
+read_so u seq = record { instance = u.instance; starts = λ r. []; texts = []; sequence = seq }
+
+-- the bytes are of that site, and past no limit
+abbrev pub StartedBy : Name → Files → Type 0
+StartedBy name files = BySequence (λ u seq. (site_name u.instance ≡ name) × (generation u.instance < LAST_GENERATION) × (no_reign_left (read_so u seq) ≡ false)) files
+
+-- the bytes that are past a limit, as they were before the opening
+abbrev pub LimitedBy : Cause → Files → Type 0
+LimitedBy GenLimit files = ByRecords (λ rs. LAST_GENERATION ≤ generation rs) files
+LimitedBy ReignLimit files = BySequence (λ u seq. no_reign_left (read_so u seq) ≡ true) files
+LimitedBy cause files = Unit {0}
+
+-- the site can't be opened, by what stands at this place, or was opened as another one
+abbrev pub IsUnopened : Name → ℕ → ℕ → Files → Type 0
+IsUnopened name file offset files = IsOutsideSite files file offset ⊎ IsOfAnother name file offset files
+
+-- what an opening that is refused leaves where nothing is known: past the limit of reigns a generation was drawn
+abbrev pub StartMayRefuse : Cause → Place → Place → Type 0
+StartMayRefuse cause old new = ((cause ≡ GenLimit) × KeptUnknown old new) ⊎ ((cause ≡ ReignLimit) × ChangesUnknown old new)
+
 abbrev pub start : Name → Place → Row
 start name p = record (writing name (MayBegin name p.left.broken) (MayBeginLeft name) p) {
   early = refused_with name (in_state why_not_down p.site);
   late = refused_with name (limited p);
   refused = λ r q. StartRefused (is_reign_limit r.cause) p q;
-  may_refuse = λ r q. (r.site ≡ name) × IsLimit r.cause × KeptUnknown p q;
+  may_refuse = λ r q. (r.site ≡ name) × StartMayRefuse r.cause p q;
+  -- another site's instance file is found once the site was opened; else nothing is written
+  damage = λ file offset q. KeptUnknown p q ⊎ ((file ≡ 0) × (offset ≡ 0) × ChangesUnknown p q × IfShown p (IsOfAnother name file offset));
+  by_bytes = λ a. IfShown p (λ files. ByAnswer (StartedBy name files) (λ r. LimitedBy r.cause files) (λ file offset. IsUnopened name file offset files) Anything a);
   done = λ q. StartsPrimary name p q;
   says = λ q. line name (codes "PRIMARY " ++ decimal (cycle_on q.site) ++ codes " FROM " ++ decimal (length q.now.sequence + 1));
 }

@@ -1,5 +1,5 @@
 use Rattle.std.proofs.Common.{◌∙◌, map, sym, rules}
-use Rattle.command_defs.specs.Forms.{regions_behind}
+use Rattle.command_defs.specs.Commands.{regions_behind}
 use Rattle.repl_script.specs.Commands.{region_value}
 use Rattle.repl_script.specs.Reads.{Tells, fault_value}
 use Rattle.repl_script.proofs.Regioned.{region_taken, region_bad, region_too_much, regions_done, none_left}

@@ -1,5 +1,5 @@
 use Rattle.std.proofs.Common.{◌≡◌, ◌-◌, map}
-use Rattle.command_defs.specs.Forms.{regions_behind}
+use Rattle.command_defs.specs.Commands.{regions_behind}
 use Rattle.repl_script.specs.Commands.{region_value}
 use Rattle.repl_script.proofs.regions.more_regions.Given as goal
 

@@ -4,9 +4,8 @@ use Rattle.std.specs.List.{list_all, IsDistinct}
 use Rattle.std.specs.Str.{bytes_eq}
 use Rattle.std.specs.declared.result.Result.{Result}
 use Rattle.std.specs.declared.result.Result.TheVariants.{Ok, Err}
-use Rattle.command_defs.specs.Commands.{Region, with_images}
+use Rattle.command_defs.specs.Commands.{Region, with_images, MOST_REGIONS, regions_behind, regions_reading}
 use Rattle.command_defs.specs.Parts.{followed, taken, is_name, name_form}
-use Rattle.command_defs.specs.Forms.{MOST_REGIONS, regions_behind, regions_reading}
 use Rattle.command_defs.proofs.RegionForms.{regions_formed}
 use Rattle.repl_script.specs.Commands.{region_value}
 use Rattle.repl_script.specs.Reads.{Reads}

@@ -1,7 +1,7 @@
 use Rattle.std.proofs.Common.{◌≡◌, ◌∙◌, sym, rules}
 use Rattle.std.specs.Prelude.{count_by}
 use Rattle.gvn_key.specs.Terms.{statement_value}
-use Rattle.command_defs.specs.Sections.{is_update}
+use Rattle.command_defs.specs.Updaters.{is_update}
 use Rattle.repl_script.proofs.Sectioned.{count-map}
 use Rattle.repl_script.proofs.section.count_updates.Goals as goal
 

@@ -17,7 +17,7 @@ use Rattle.site_files.specs.Reading.{AreAllDurable, AreUnbegunDurable}
 use Rattle.site_defs.specs.Outside.{HaveJournals, AreUnbegun, AreOutside, HaveBegun}
 use Rattle.site_files.proofs.Places.{instance_place, site_place, directory_place, journals_place, begun_place}
 use Rattle.site_files.proofs.Errors.{handed_on, causes_on}
-use Rattle.site_files.proofs.WhatIsRead.{no_instance, no_late_instance, limit_read, no_directory, no_late_directory, not_late, no_journals, no_next, may_be_opened, was_read}
+use Rattle.site_files.proofs.WhatIsRead.{no_instance, no_late_instance, limit_read, limit_told, no_directory, no_late_directory, not_late, no_journals, no_next, may_be_opened, was_read}
 use Rattle.site_files.proofs.reading.read_site.Goals as goal
 
 pub returns-in_err-log-clause-place : goal.returns-in_err-log-clause-place
@@ -93,6 +93,13 @@ returns-in_err-plan-clause-limit g c =
     let p = err_from_is_err_and c.from_residual-in_err-plan.result c.from_residual-in_err-plan.ensures.1 in
     rw (p.1, p.2) (λ is.
     limit_read (g.D.Disk.disk c.args.disk.now).content c.in_ok-log.log.records c.in_ok-log.ensures.reads
+    (subst (λ (k : List InstanceRecord). 65534 ≤ generation k) c.as_slice.ensures (c.in_err-plan.ensures.limit (handed_on c.in_err-plan.field-0.0 GenLimit is))))
+
+pub returns-in_err-plan-clause-limit_told : goal.returns-in_err-plan-clause-limit_told
+returns-in_err-plan-clause-limit_told g c =
+    let p = err_from_is_err_and c.from_residual-in_err-plan.result c.from_residual-in_err-plan.ensures.1 in
+    rw (p.1, p.2) (λ is.
+    limit_told (g.D.Disk.disk c.args.disk.now).content c.in_ok-log.log.records c.in_ok-log.ensures.reads
     (subst (λ (k : List InstanceRecord). 65534 ≤ generation k) c.as_slice.ensures (c.in_err-plan.ensures.limit (handed_on c.in_err-plan.field-0.0 GenLimit is))))
 
 pub returns-in_err-read-clause-causes : goal.returns-in_err-read-clause-causes

@@ -36,5 +36,5 @@ pub returns-in_ok-write_line-in-Ok-clause-done : goal.returns-in_ok-write_line-i
 returns-in_ok-write_line-in-Ok-clause-done g c =
     let e = c.in-Ok.ensures in
     made_site c.leftovers_hold.ensures g.D.Disk.disk c.args.slot.now c.create.new.disk c.args.name c.deref.result.now c.args.regions.now c.args.text.now _ (c.deref.ensures.value ∙ c.in_ok-specs.ensures) c.requires.free
-    e.reads e.images e.still_told e.simulated e.later
+    e.reads e.images e.still_told e.simulated e.later c.requires.empty
     (c.in_ok-write_line-in-Ok.ensures ∙ ap (λ (n : List ℕ). c.args.text.now ++ line n (codes "CREATED")) c.as_slice-in-Ok.ensures)

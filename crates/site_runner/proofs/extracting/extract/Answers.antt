@@ -12,7 +12,7 @@ returns-in-Some g c =
     let v = g.D.Disk.disk c.args.disk.now in
     let s = c.args.site.now in
     refuses_by (rows.extract c.args.number s.name) v s c.in-Some.cause c.args.text.now _ c.as_slice.result.now c.refuse.result
-    (λ p h. ap (refused_with s.name) (state_at why_not_open v s p h ∙ why_is c.why_not_open.result c.in-Some.cause (why_not_open (state_value s.state)) c.why_not_open.ensures c.in-Some.is)) kept_same c.as_slice.ensures c.refuse.ensures
+    (λ p h. ap (refused_with s.name) (state_at why_not_open v s p h ∙ why_is c.why_not_open.result c.in-Some.cause (why_not_open (state_value s.state)) c.why_not_open.ensures c.in-Some.is)) kept_same (λ p. tt) c.as_slice.ensures c.refuse.ensures
 
 pub returns : goal.returns
 returns g c =

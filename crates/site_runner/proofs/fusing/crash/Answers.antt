@@ -15,14 +15,14 @@ returns-in-Some-clause-done g c =
     let v = g.D.Disk.disk c.args.disk.now in
     let s = c.args.site.now in
     refuses_by (crash s.name) v s c.in-Some.cause c.args.text.now _ c.as_slice.result.now c.refuse.result
-    (λ p h. crash_down v s (cause_value c.in-Some.cause) p (why_is c.why_not_running.result c.in-Some.cause (not_running (state_value s.state)) c.why_not_running.ensures c.in-Some.is) h) kept_same c.as_slice.ensures c.refuse.ensures
+    (λ p h. crash_down v s (cause_value c.in-Some.cause) p (why_is c.why_not_running.result c.in-Some.cause (not_running (state_value s.state)) c.why_not_running.ensures c.in-Some.is) h) kept_same (λ p. tt) c.as_slice.ensures c.refuse.ensures
 
 pub returns-then-not-simulated-clause-done : goal.returns-then-not-simulated-clause-done
 returns-then-not-simulated-clause-done g c =
     let v = g.D.Disk.disk c.args.disk.now in
     let s = c.args.site.now in
     refuses_by (crash s.name) v s NotSimulated c.args.text.now _ c.as_slice-then-not-simulated.result.now c.refuse-then-not-simulated.result
-    (λ p h. crash_real v s p (none_why c.why_not_running.result (not_running (state_value s.state)) c.why_not_running.ensures c.in_default.is) (sym c.if-not-simulated.true ∙ c.simulated.ensures) h) kept_same
+    (λ p h. crash_real v s p (none_why c.why_not_running.result (not_running (state_value s.state)) c.why_not_running.ensures c.in_default.is) (sym c.if-not-simulated.true ∙ c.simulated.ensures) h) kept_same (λ p. tt)
     c.as_slice-then-not-simulated.ensures c.refuse-then-not-simulated.ensures
 
 pub returns-clause-done : goal.returns-clause-done

@@ -1,4 +1,4 @@
-use Rattle.std.proofs.Common.{Bool, ap, ◌∙◌, Err, Option, IfSome, subst}
+use Rattle.std.proofs.Common.{Bool, ap, ◌∙◌, Ok, Err, Option, IfSome, subst}
 use Rattle.site_store.specs.Finding.{IsFoundIn, layout_in}
 use Rattle.site_store.specs.declared.layout.FoundSite.{FoundSite}
 use Rattle.world_defs.specs.rows.Map.{map_pattern}
@@ -8,7 +8,7 @@ use Rattle.site_runner.proofs.Ats.{on_not_done, on_failed, on_done}
 use Rattle.site_runner.proofs.Results.{on_err_of, err_holds}
 use Rattle.site_runner.proofs.Written.{named, not_a_file}
 use Rattle.site_runner.proofs.Mapped.{look_faulted, look_damaged, look_cut, maps_so, cut_so}
-use Rattle.site_runner.proofs.Found.{found_again, none_found, nothing_there}
+use Rattle.site_runner.proofs.Found.{found_again, none_found, nothing_there, blank_there}
 use Rattle.site_runner.proofs.mapping.map_down.Goals as goal
 
 pub map_found-requires-clause-found : goal.map_found-requires-clause-found
@@ -39,7 +39,8 @@ returns-in-Ok-None-clause-done g c =
     on_not_done c.damaged.result _ _ c.damaged.ensures (λ t.
     look_damaged c.args.region c.args.pattern.now (g.D.Disk.disk c.args.disk.now) (g.D.Disk.disk c.find.new.disk) c.args.site.now 0 0 c.args.text.now _
     (record { lawful = g.met.D.Disk.lawful c.find.new.disk; any_moment = e.any_moment; untouched = e.untouched; content = e.content; simulated = e.simulated; later = e.later }) c.requires.down (named _ _ c.as_slice.ensures t)
-    (none_found (g.D.Disk.disk c.args.disk.now).content (layout_in c.in-Ok-None.field-0) (ap layout_in c.in-Ok-None.field-0-is) e.found))
+    (none_found (g.D.Disk.disk c.args.disk.now).content (layout_in c.in-Ok-None.field-0) (ap layout_in c.in-Ok-None.field-0-is) e.found)
+    (blank_there (g.D.Disk.disk c.args.disk.now).content (g.D.Disk.disk c.find.new.disk).content e.content (e.empty (ap Ok c.in-Ok-None.field-0-is))))
 
 pub returns-in-Ok-None-clause-cut_off : goal.returns-in-Ok-None-clause-cut_off
 returns-in-Ok-None-clause-cut_off g c =
@@ -73,7 +74,7 @@ returns-in-Err-NotAFile-clause-done g c =
     look_damaged c.args.region c.args.pattern.now (g.D.Disk.disk c.args.disk.now) (g.D.Disk.disk c.find.new.disk) c.args.site.now file offset c.args.text.now _
     (record { lawful = g.met.D.Disk.lawful c.find.new.disk; any_moment = e.any_moment; untouched = e.untouched; content = e.content; simulated = e.simulated; later = e.later }) c.requires.down
     (not_a_file _ c.in-Err-NotAFile.file-is c.in-Err-NotAFile.offset-is c.as_slice-in-Err-NotAFile.ensures t)
-    (nothing_there (g.D.Disk.disk c.args.disk.now).content (e.outside file offset (ap Err c.in-Err-NotAFile.field-0-is))))
+    (nothing_there (g.D.Disk.disk c.args.disk.now).content (e.outside file offset (ap Err c.in-Err-NotAFile.field-0-is))) (e.place file offset (ap Err c.in-Err-NotAFile.field-0-is)))
 
 pub returns-in-Err-NotAFile-clause-cut_off : goal.returns-in-Err-NotAFile-clause-cut_off
 returns-in-Err-NotAFile-clause-cut_off g c =

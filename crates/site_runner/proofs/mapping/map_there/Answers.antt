@@ -3,8 +3,9 @@ use Rattle.disk_defs.specs.Disk.{Files}
 use Rattle.site_defs.specs.Contents.{Contents}
 use Rattle.site_defs.specs.Stands.{IsSite}
 use Rattle.site_runner.specs.declared.slot.Site.{Site}
+use Rattle.world_defs.specs.rows.Map.{MappedBy}
 use Rattle.site_runner.specs.Mapping.{MapsAt}
-use Rattle.site_runner.proofs.Ats.{on_not_done, on_failed}
+use Rattle.site_runner.proofs.Ats.{on_not_done, on_failed, if_some}
 use Rattle.site_runner.proofs.Results.{err_holds}
 use Rattle.site_runner.proofs.Written.{named, not_a_file}
 use Rattle.site_runner.proofs.Mapped.{there_done, there_faulted, there_damaged, there_cut}
@@ -20,7 +21,7 @@ returns-in_ok-write_line-in-Ok-clause-done g c =
     let e = c.in-Ok.ensures in
     there_done c.leftovers_hold.ensures c.args.region.now c.args.number c.args.pattern.now (g.D.Disk.disk c.args.disk.now) (g.D.Disk.disk c.map_logged.new.disk) c.args.site.now c.args.text.now _
     (record { lawful = g.met.D.Disk.lawful c.map_logged.new.disk; free = c.requires.free; any_moment = e.any_moment; still_told = e.still_told; simulated = e.simulated; later = e.later })
-    c.requires.named e.reads e.images (named _ _ c.as_slice.ensures c.in_ok-write_line-in-Ok.ensures)
+    c.requires.named e.reads e.images (if_some (g.D.Disk.disk c.args.disk.now).content _ (MappedBy c.args.region.now c.args.pattern.now c.args.site.now.name) (λ f i. (c.args.log.records, i, (c.requires.called, c.requires.unmapped))) c.requires.told) (named _ _ c.as_slice.ensures c.in_ok-write_line-in-Ok.ensures)
 
 pub returns-in_err-write_line-in-Ok-clause-cut_off : goal.returns-in_err-write_line-in-Ok-clause-cut_off
 returns-in_err-write_line-in-Ok-clause-cut_off g c =
@@ -53,7 +54,7 @@ returns-in-Err-NotAFile-clause-done g c =
     on_not_done c.damaged.result _ _ c.damaged.ensures (λ t.
     there_damaged c.args.region.now c.args.number c.args.pattern.now (g.D.Disk.disk c.args.disk.now) (g.D.Disk.disk c.map_logged.new.disk) c.args.site.now file offset c.args.text.now _
     (record { lawful = g.met.D.Disk.lawful c.map_logged.new.disk; free = c.requires.free; any_moment = e.any_moment; still_told = e.still_told; simulated = e.simulated; later = e.later })
-    (none_stands (g.D.Disk.disk c.args.disk.now).content (e.outside file offset (ap Err c.in-Err-NotAFile.field-0-is))) (not_a_file _ c.in-Err-NotAFile.file-is c.in-Err-NotAFile.offset-is c.as_slice-in-Err-NotAFile.ensures t))
+    (none_stands (g.D.Disk.disk c.args.disk.now).content (e.outside file offset (ap Err c.in-Err-NotAFile.field-0-is))) (e.outside file offset (ap Err c.in-Err-NotAFile.field-0-is)) (not_a_file _ c.in-Err-NotAFile.file-is c.in-Err-NotAFile.offset-is c.as_slice-in-Err-NotAFile.ensures t))
 
 pub returns-in-Err-NotAFile-clause-cut_off : goal.returns-in-Err-NotAFile-clause-cut_off
 returns-in-Err-NotAFile-clause-cut_off g c =

@@ -9,7 +9,7 @@ use Rattle.site_runner.proofs.Ats.{kept_same, refuses_by, why_is, none_why, on_n
 use Rattle.site_runner.proofs.Fused.{ready_read_on}
 use Rattle.site_runner.proofs.Results.{on_refused, err_holds}
 use Rattle.site_runner.proofs.Written.{named}
-use Rattle.site_runner.proofs.Printed.{print_stopped, print_none, printed, print_fault, print_cut, empty_is, full_is}
+use Rattle.site_runner.proofs.Printed.{print_stopped, print_early, print_none, printed, print_fault, print_cut, empty_is, full_is}
 use Rattle.site_runner.proofs.printing.print.Goals as goal
 
 pub returns-in-Some-clause-done : goal.returns-in-Some-clause-done
@@ -17,7 +17,8 @@ returns-in-Some-clause-done g c =
     let v = g.D.Disk.disk c.args.disk.now in
     let s = c.args.site.now in
     refuses_by (rows.print c.args.generation s.name) v s c.in-Some.cause c.args.text.now _ c.as_slice.result.now c.refuse.result
-    (λ p h. print_stopped c.args.generation v s (cause_value c.in-Some.cause) p (why_is c.why_stopped.result c.in-Some.cause (stopped (state_value s.state)) c.why_stopped.ensures c.in-Some.is) h) kept_same c.as_slice.ensures c.refuse.ensures
+    (λ p h. print_stopped c.args.generation v s (cause_value c.in-Some.cause) p (why_is c.why_stopped.result c.in-Some.cause (stopped (state_value s.state)) c.why_stopped.ensures c.in-Some.is) h) kept_same
+    (λ p. print_early s.name c.args.generation (state_value s.state) (cause_value c.in-Some.cause) p (why_is c.why_stopped.result c.in-Some.cause (stopped (state_value s.state)) c.why_stopped.ensures c.in-Some.is)) c.as_slice.ensures c.refuse.ensures
 
 pub returns-then-is_empty-clause-done : goal.returns-then-is_empty-clause-done
 returns-then-is_empty-clause-done g c =

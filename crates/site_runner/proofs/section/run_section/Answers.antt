@@ -6,6 +6,7 @@ use Rattle.world_defs.specs.rows.Run.{undecided_line}
 use Rattle.site_defs.specs.Contents.{Contents}
 use Rattle.repl_script.specs.Places.{at_all}
 use Rattle.repl_section.specs.Reigns.{Reigns, stamp_of}
+use Rattle.repl_section.specs.Lines.{GaveLines}
 use Rattle.repl_section.specs.Deciding.{Breaks, WithholdsNone, IsFault}
 use Rattle.repl_section.specs.declared.running.RunError.{RunError}
 use Rattle.world_defs.specs.Row.{why_not_primary}
@@ -23,7 +24,7 @@ returns-in-Some-clause-done g c =
     let v = g.D.Disk.disk c.args.disk.now in
     let s = c.args.site.now in
     refuses_by (run (at_all c.args.jobs) c.args.order.now s.name) v s c.in-Some.cause c.args.text.now _ c.as_slice.result.now c.refuse.result
-    (λ p h. run_not_primary v s (at_all c.args.jobs) c.args.order.now (cause_value c.in-Some.cause) p (why_is c.why_not_primary.result c.in-Some.cause (why_not_primary (state_value s.state)) c.why_not_primary.ensures c.in-Some.is) h) kept_same
+    (λ p h. run_not_primary v s (at_all c.args.jobs) c.args.order.now (cause_value c.in-Some.cause) p (why_is c.why_not_primary.result c.in-Some.cause (why_not_primary (state_value s.state)) c.why_not_primary.ensures c.in-Some.is) h) kept_same (λ p. tt)
     c.as_slice.ensures c.refuse.ensures
 
 pub run-requires-clause-ready : goal.run-requires-clause-ready
@@ -40,10 +41,10 @@ returns-in_err-write_undecided-in-Err-Failed-clause-cut_off g c =
     let r = c.in-Primary.reign in
     let jobs = c.args.jobs in
     let order = c.args.order.now in
-    let breaks = subst (λ (x : RunError). (told : Bool) (d : Contents) → Reigns v told d r → Breaks x w (stamp_of r) told d jobs order r.serials c.args.text.now c.run.new.text) c.in-Err-Failed.field-0-is e.breaks in
-    let fails = subst (λ (x : RunError). (told : Bool) (d : Contents) → Reigns v told d r → WithholdsNone x w (stamp_of r) told d jobs order r.serials c.args.text.now c.run.new.text) c.in-Err-Failed.field-0-is e.withholds_none in
+    let breaks = subst (λ (x : RunError). (told : Bool) (d : Contents) → Reigns v told d r → Breaks x w (stamp_of r) told d jobs order r.serials (GaveLines c.args.text.now c.run.new.sink)) c.in-Err-Failed.field-0-is e.breaks in
+    let fails = subst (λ (x : RunError). (told : Bool) (d : Contents) → Reigns v told d r → WithholdsNone x w (stamp_of r) told d jobs order r.serials (GaveLines c.args.text.now c.run.new.sink)) c.in-Err-Failed.field-0-is e.withholds_none in
     err_holds c.from_residual-in_err-write_undecided-in-Err-Failed.result _ (run_cut c.leftovers_hold.ensures v w c.args.site.now r (at_all jobs) order (g.met.D.Disk.lawful c.args.disk.now) (g.met.D.Disk.lawful c.run.new.disk) c.in-Primary.is e.simulated e.later
-    (λ told d reigns. let b = breaks told d reigns in let a = all_fail_at w (stamp_of r) told d jobs order r.serials c.in-Err-Failed.undecided c.args.text.now c.run.new.text b.0 b.1 in (b.0, a.hardened, a.begun, a.front))
+    (λ told d reigns. let b = breaks told d reigns in let a = all_fail_at w (stamp_of r) told d jobs order r.serials c.in-Err-Failed.undecided (GaveLines c.args.text.now c.run.new.sink) b.0 b.1 in (b.0, a.hardened, a.begun, a.front))
     (λ told d reigns sure files i. let x = fails told d reigns in left_after (stamp_of r) d (at_all jobs) order r.serials files (x.decided, left_same (stamp_of r) d jobs order r.serials x.decided files (x.left sure files i))))
 
 pub returns-in_ok-write_numbered-in-Ok-clause-done : goal.returns-in_ok-write_numbered-in-Ok-clause-done
@@ -51,10 +52,10 @@ returns-in_ok-write_numbered-in-Ok-clause-done g c =
     let v = g.D.Disk.disk c.args.disk.now in
     let w = g.D.Disk.disk c.run.new.disk in
     let e = c.in-Ok.ensures in
-    ran v w c.nothing_is_left.ensures c.args.site.now c.in-Primary.reign c.run.new.self (at_all c.args.jobs) c.args.order.now c.args.text.now c.run.new.text _ (g.met.D.Disk.lawful c.run.new.disk) c.requires.whole c.in-Primary.is e.stamp e.simulated e.later
-    (λ told d reigns. all_decided w told d c.args.jobs c.args.order.now c.in-Primary.reign c.run.new.self c.args.text.now c.run.new.text (e.done told d reigns))
-    (c.in_ok-write_numbered-in-Ok.ensures ∙ ap (λ (n : List ℕ). c.run.new.text ++ line n (codes "AT " ++ decimal c.sequence_length-length.result)) c.as_slice-in-Ok.ensures
-    ∙ ap (λ (k : ℕ). c.run.new.text ++ line c.args.site.now.name (codes "AT " ++ decimal k)) c.sequence_length-length.ensures)
+    ran v w c.nothing_is_left.ensures c.args.site.now c.in-Primary.reign c.run.new.self (at_all c.args.jobs) c.args.order.now c.args.text.now c.run.new.sink _ (g.met.D.Disk.lawful c.run.new.disk) c.requires.whole c.in-Primary.is e.stamp e.simulated e.later
+    (λ told d reigns. all_decided w told d c.args.jobs c.args.order.now c.in-Primary.reign c.run.new.self (GaveLines c.args.text.now c.run.new.sink) (e.done told d reigns))
+    (c.in_ok-write_numbered-in-Ok.ensures ∙ ap (λ (n : List ℕ). c.run.new.sink ++ line n (codes "AT " ++ decimal c.sequence_length-length.result)) c.as_slice-in-Ok.ensures
+    ∙ ap (λ (k : ℕ). c.run.new.sink ++ line c.args.site.now.name (codes "AT " ++ decimal k)) c.sequence_length-length.ensures)
 
 pub returns-in_err-write_numbered-in-Ok-clause-cut_off : goal.returns-in_err-write_numbered-in-Ok-clause-cut_off
 returns-in_err-write_numbered-in-Ok-clause-cut_off g c =
@@ -63,10 +64,10 @@ returns-in_err-write_numbered-in-Ok-clause-cut_off g c =
     let e = c.in-Ok.ensures in
     let law = g.met.D.Disk.lawful c.run.new.disk in
     err_holds c.from_residual.result _ (run_cut c.leftovers_hold.ensures v w c.args.site.now c.in-Primary.reign (at_all c.args.jobs) c.args.order.now (g.met.D.Disk.lawful c.args.disk.now) law c.in-Primary.is e.simulated e.later
-    (λ told d reigns. decided_front w told d (at_all c.args.jobs) c.args.order.now c.in-Primary.reign c.run.new.self c.args.text.now c.run.new.text
-    (all_decided w told d c.args.jobs c.args.order.now c.in-Primary.reign c.run.new.self c.args.text.now c.run.new.text (e.done told d reigns)))
-    (λ told d reigns sure. decided_behind w c.nothing_is_left.ensures told d (at_all c.args.jobs) c.args.order.now c.in-Primary.reign c.run.new.self c.args.text.now c.run.new.text
-    (all_decided w told d c.args.jobs c.args.order.now c.in-Primary.reign c.run.new.self c.args.text.now c.run.new.text (e.done told d reigns)) sure))
+    (λ told d reigns. decided_front w told d (at_all c.args.jobs) c.args.order.now c.in-Primary.reign c.run.new.self c.args.text.now c.run.new.sink
+    (all_decided w told d c.args.jobs c.args.order.now c.in-Primary.reign c.run.new.self (GaveLines c.args.text.now c.run.new.sink) (e.done told d reigns)))
+    (λ told d reigns sure. decided_behind w c.nothing_is_left.ensures told d (at_all c.args.jobs) c.args.order.now c.in-Primary.reign c.run.new.self c.args.text.now c.run.new.sink
+    (all_decided w told d c.args.jobs c.args.order.now c.in-Primary.reign c.run.new.self (GaveLines c.args.text.now c.run.new.sink) (e.done told d reigns)) sure))
 
 pub returns-in_ok-write_undecided-in-Err-Failed-clause-done : goal.returns-in_ok-write_undecided-in-Err-Failed-clause-done
 returns-in_ok-write_undecided-in-Err-Failed-clause-done g c =
@@ -76,12 +77,12 @@ returns-in_ok-write_undecided-in-Err-Failed-clause-done g c =
     let r = c.in-Primary.reign in
     let jobs = c.args.jobs in
     let order = c.args.order.now in
-    let fails = subst (λ (x : RunError). (told : Bool) (d : Contents) → Reigns v told d r → WithholdsNone x w (stamp_of r) told d jobs order r.serials c.args.text.now c.run.new.text) c.in-Err-Failed.field-0-is e.withholds_none in
-    ran_to_fault c.leftovers_hold.ensures v w c.args.site.now r (at_all jobs) order c.faults-fault.result c.in-Err-Failed.undecided c.args.text.now c.run.new.text _ (g.met.D.Disk.lawful c.args.disk.now) (g.met.D.Disk.lawful c.run.new.disk) c.in-Primary.is e.simulated c.faults-fault.ensures
+    let fails = subst (λ (x : RunError). (told : Bool) (d : Contents) → Reigns v told d r → WithholdsNone x w (stamp_of r) told d jobs order r.serials (GaveLines c.args.text.now c.run.new.sink)) c.in-Err-Failed.field-0-is e.withholds_none in
+    ran_to_fault c.leftovers_hold.ensures v w c.args.site.now r (at_all jobs) order c.faults-fault.result c.in-Err-Failed.undecided c.args.text.now c.run.new.sink _ (g.met.D.Disk.lawful c.args.disk.now) (g.met.D.Disk.lawful c.run.new.disk) c.in-Primary.is e.simulated c.faults-fault.ensures
     (e.cause (subst IsFault (sym c.in-Err-Failed.field-0-is) tt))
-    (λ told d reigns. all_fail_in w (stamp_of r) told d jobs order r.serials c.in-Err-Failed.undecided c.args.text.now c.run.new.text (fails told d reigns))
-    (c.in_ok-write_undecided-in-Err-Failed.ensures ∙ ap (λ (u : ℕ). c.run.new.text ++ undecided_line c.as_slice-in-Err-Failed.result.now c.faults-fault.result u) c.in-Err-Failed.undecided-is
-    ∙ ap (λ (x : List ℕ). c.run.new.text ++ undecided_line x c.faults-fault.result c.in-Err-Failed.undecided) c.as_slice-in-Err-Failed.ensures)
+    (λ told d reigns. all_fail_in w (stamp_of r) told d jobs order r.serials c.in-Err-Failed.undecided (GaveLines c.args.text.now c.run.new.sink) (fails told d reigns))
+    (c.in_ok-write_undecided-in-Err-Failed.ensures ∙ ap (λ (u : ℕ). c.run.new.sink ++ undecided_line c.as_slice-in-Err-Failed.result.now c.faults-fault.result u) c.in-Err-Failed.undecided-is
+    ∙ ap (λ (x : List ℕ). c.run.new.sink ++ undecided_line x c.faults-fault.result c.in-Err-Failed.undecided) c.as_slice-in-Err-Failed.ensures)
 
 pub returns-in-Err-NoMemory-clause-cut_off : goal.returns-in-Err-NoMemory-clause-cut_off
 returns-in-Err-NoMemory-clause-cut_off g c =
@@ -91,6 +92,6 @@ returns-in-Err-NoMemory-clause-cut_off g c =
     let r = c.in-Primary.reign in
     let jobs = c.args.jobs in
     let order = c.args.order.now in
-    let breaks = subst (λ (x : RunError). (told : Bool) (d : Contents) → Reigns v told d r → Breaks x w (stamp_of r) told d jobs order r.serials c.args.text.now c.run.new.text) c.in-Err-NoMemory.field-0-is e.breaks in
+    let breaks = subst (λ (x : RunError). (told : Bool) (d : Contents) → Reigns v told d r → Breaks x w (stamp_of r) told d jobs order r.serials (GaveLines c.args.text.now c.run.new.sink)) c.in-Err-NoMemory.field-0-is e.breaks in
     run_cut_any c.leftovers_hold.ensures v w c.args.site.now r (at_all jobs) order (g.met.D.Disk.lawful c.args.disk.now) (g.met.D.Disk.lawful c.run.new.disk) c.in-Primary.is e.simulated e.later
     (λ told d reigns. all_may_leave w (stamp_of r) told d jobs order r.serials (breaks told d reigns))

@@ -2,11 +2,11 @@ use Rattle.std.proofs.Common.{Bool, ◌∙◌, ap, sym, Err}
 use Rattle.world_defs.specs.rows.Start as rows
 use Rattle.site_runner.specs.declared.slot.Site.{Site}
 use Rattle.site_runner.specs.Steps.{ExecutesAt}
-use Rattle.site_runner.proofs.Ats.{on_not_done, on_failed, on_done}
+use Rattle.site_runner.proofs.Ats.{on_not_done, on_failed, on_done, if_some}
 use Rattle.site_runner.proofs.Results.{on_err_of, err_holds}
 use Rattle.site_runner.proofs.Written.{named, not_a_file}
 use Rattle.site_store.proofs.Refused.{limit_site, drawn_site}
-use Rattle.site_runner.proofs.Started.{load_faulted, load_cut, load_limit, load_damaged, load_other, starts_so, starts_cut}
+use Rattle.site_runner.proofs.Started.{load_faulted, load_cut, load_limit, opens_held, load_damaged, load_other, starts_so, starts_cut}
 use Rattle.site_runner.proofs.start.open.Goals as goal
 
 pub returns-then-is_named-clause-done : goal.returns-then-is_named-clause-done
@@ -14,20 +14,20 @@ returns-then-is_named-clause-done g c =
     let e = c.in-Ok.ensures in
     let name = c.if-is_named.ensures ∙ c.as_slice.ensures in
     on_done c.begin.result _ _ c.begin.ensures.done (λ done b.
-    starts_so c.leftovers_hold.ensures c.files_stand_for_one.ensures (g.D.Disk.disk c.args.disk.now) (g.D.Disk.disk c.load.new.disk) (g.D.Disk.disk c.begin.new.disk) c.args.site.now c.begin.new.site c.in-Ok.opened c.args.text.now c.begin.new.text done (g.met.D.Disk.lawful c.args.disk.now) c.requires name e.read e.told (drawn_site (g.D.Disk.disk c.args.disk.now).content e.drawn) e.simulated e.later b)
+    starts_so c.leftovers_hold.ensures c.files_stand_for_one.ensures (g.D.Disk.disk c.args.disk.now) (g.D.Disk.disk c.load.new.disk) (g.D.Disk.disk c.begin.new.disk) c.args.site.now c.begin.new.site c.in-Ok.opened c.args.text.now c.begin.new.text done (g.met.D.Disk.lawful c.args.disk.now) c.requires name e.read e.told (drawn_site (g.D.Disk.disk c.args.disk.now).content e.drawn) (opens_held (g.D.Disk.disk c.args.disk.now) c.in-Ok.opened e.held e.drawn) e.simulated e.later b)
 
 pub returns-then-is_named-clause-cut_off : goal.returns-then-is_named-clause-cut_off
 returns-then-is_named-clause-cut_off g c =
     let e = c.in-Ok.ensures in
     let name = c.if-is_named.ensures ∙ c.as_slice.ensures in
     on_err_of c.begin.result _ _ c.begin.ensures.cut_off (λ b.
-    starts_cut c.leftovers_hold.ensures c.files_stand_for_one.ensures (g.D.Disk.disk c.args.disk.now) (g.D.Disk.disk c.load.new.disk) (g.D.Disk.disk c.begin.new.disk) c.args.site.now c.in-Ok.opened (g.met.D.Disk.lawful c.args.disk.now) c.requires name e.read e.told (drawn_site (g.D.Disk.disk c.args.disk.now).content e.drawn) e.simulated e.later b)
+    starts_cut c.leftovers_hold.ensures c.files_stand_for_one.ensures (g.D.Disk.disk c.args.disk.now) (g.D.Disk.disk c.load.new.disk) (g.D.Disk.disk c.begin.new.disk) c.args.site.now c.in-Ok.opened (g.met.D.Disk.lawful c.args.disk.now) c.requires name e.read e.told (drawn_site (g.D.Disk.disk c.args.disk.now).content e.drawn) (opens_held (g.D.Disk.disk c.args.disk.now) c.in-Ok.opened e.held e.drawn) e.simulated e.later b)
 
 pub returns-else-is_named-clause-done : goal.returns-else-is_named-clause-done
 returns-else-is_named-clause-done g c =
     let e = c.in-Ok.ensures in
     on_not_done c.damaged.result _ _ c.damaged.ensures (λ t.
-    load_other (g.D.Disk.disk c.args.disk.now) (g.D.Disk.disk c.load.new.disk) c.args.site.now c.in-Ok.opened c.args.text.now _ c.requires (λ same. c.if-is_named.ensures (same ∙ sym c.as_slice.ensures)) e.told e.simulated e.later
+    load_other (g.D.Disk.disk c.args.disk.now) (g.D.Disk.disk c.load.new.disk) c.args.site.now c.in-Ok.opened c.args.text.now _ c.requires (λ same. c.if-is_named.ensures (same ∙ sym c.as_slice.ensures)) e.told (opens_held (g.D.Disk.disk c.args.disk.now) c.in-Ok.opened e.held e.drawn) e.simulated e.later
     (named _ _ c.as_slice-else-is_named.ensures t))
 
 pub returns-else-is_named-clause-cut_off : goal.returns-else-is_named-clause-cut_off
@@ -40,7 +40,7 @@ returns-in-Err-GenLimit-clause-done g c =
     let e = c.in-Err-GenLimit.ensures in
     let is = ap Err c.in-Err-GenLimit.field-0-is in
     on_not_done c.refuse.result _ _ c.refuse.ensures (λ t.
-    load_limit (g.D.Disk.disk c.args.disk.now) (g.D.Disk.disk c.load.new.disk) c.args.site.now c.args.text.now _ (g.met.D.Disk.lawful c.load.new.disk) c.requires (limit_site (g.D.Disk.disk c.args.disk.now).content (e.limit is)) (e.unwritten is) (e.untouched is) e.simulated e.later
+    load_limit (g.D.Disk.disk c.args.disk.now) (g.D.Disk.disk c.load.new.disk) c.args.site.now c.args.text.now _ (g.met.D.Disk.lawful c.load.new.disk) c.requires (limit_site (g.D.Disk.disk c.args.disk.now).content (e.limit is)) (e.limit_told is) (e.unwritten is) (e.untouched is) e.simulated e.later
     (named _ _ c.as_slice-in-Err-GenLimit.ensures t))
 
 pub returns-in-Err-GenLimit-clause-cut_off : goal.returns-in-Err-GenLimit-clause-cut_off
@@ -69,7 +69,8 @@ returns-in-Err-NotAFile-clause-done g c =
     let file = c.in-Err-NotAFile.file in
     let offset = c.in-Err-NotAFile.offset in
     on_not_done c.damaged-in-Err-NotAFile.result _ _ c.damaged-in-Err-NotAFile.ensures (λ t.
-    load_damaged (g.D.Disk.disk c.args.disk.now) (g.D.Disk.disk c.load.new.disk) c.args.site.now file offset c.args.text.now _ c.requires (e.outside file offset (ap Err c.in-Err-NotAFile.field-0-is)) e.simulated e.later
+    load_damaged (g.D.Disk.disk c.args.disk.now) (g.D.Disk.disk c.load.new.disk) c.args.site.now file offset c.args.text.now _ c.requires (e.outside file offset (ap Err c.in-Err-NotAFile.field-0-is)) (e.place file offset (ap Err c.in-Err-NotAFile.field-0-is))
+    (if_some (g.D.Disk.disk c.args.disk.now).content _ _ (λ _ k. k.0) (e.refused file offset (ap Err c.in-Err-NotAFile.field-0-is))) e.simulated e.later
     (not_a_file _ c.in-Err-NotAFile.file-is c.in-Err-NotAFile.offset-is c.as_slice-in-Err-NotAFile.ensures t))
 
 pub returns-in-Err-NotAFile-clause-cut_off : goal.returns-in-Err-NotAFile-clause-cut_off

@@ -3,7 +3,7 @@ use Rattle.world_defs.specs.rows.Start as rows
 use Rattle.site_runner.specs.Causes.{cause_value}
 use Rattle.site_runner.specs.Sites.{state_value}
 use Rattle.site_runner.proofs.Ats.{refuses_by, why_is, is_down}
-use Rattle.site_runner.proofs.Started.{start_not_down, start_kept}
+use Rattle.site_runner.proofs.Started.{start_not_down, start_kept, start_early}
 use Rattle.site_runner.proofs.start.start.Goals as goal
 
 pub returns-in-Some-clause-done : goal.returns-in-Some-clause-done
@@ -12,7 +12,7 @@ returns-in-Some-clause-done g c =
     let s = c.args.site.now in
     let why = why_is c.why_not_down.result c.in-Some.cause (why_not_down (state_value s.state)) c.why_not_down.ensures c.in-Some.is in
     refuses_by (rows.start s.name) v s c.in-Some.cause c.args.text.now _ c.as_slice.result.now c.refuse.result
-    (λ p h. start_not_down v s (cause_value c.in-Some.cause) p why h) (λ p. start_kept (state_value s.state) (cause_value c.in-Some.cause) p why) c.as_slice.ensures c.refuse.ensures
+    (λ p h. start_not_down v s (cause_value c.in-Some.cause) p why h) (λ p. start_kept (state_value s.state) (cause_value c.in-Some.cause) p why) (λ p. start_early (state_value s.state) (cause_value c.in-Some.cause) p why) c.as_slice.ensures c.refuse.ensures
 
 pub open-requires : goal.open-requires
 open-requires g c = is_down c.args.site.now.state c.why_not_down.result c.why_not_down.ensures c.in_default.is

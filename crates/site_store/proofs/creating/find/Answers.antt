@@ -17,7 +17,7 @@ use Rattle.site_store.specs.declared.layout.Layout.{Layout}
 use Rattle.site_store.specs.declared.error.SiteError.TheVariants.{NotAFile}
 use Rattle.site_defs.specs.Outside.{IsNoInstance, HasNoDirectory}
 use Rattle.site_store.proofs.Errors.{file_was}
-use Rattle.site_store.proofs.Found.{region_bounds, stands_instance, exact_by, found_by, alike_by, no_bodies, not_laid}
+use Rattle.site_store.proofs.Found.{region_bounds, stands_instance, exact_by, held_by, none_written, some_written, found_by, alike_by, no_bodies, not_laid}
 use Rattle.site_store.proofs.creating.find.Goals as goal
 
 pub returns-in_err-log-clause-outside : goal.returns-in_err-log-clause-outside
@@ -54,6 +54,23 @@ returns-in_err-layout-clause-outside g c =
     weaker_told o (λ files. IsInstance (files INSTANCE) rs) (λ files. (x : Contents) → Stands files x → ⊥) c.in_ok-log.ensures.reads
     (λ files own x stands. not_laid files x rs own there none stands))
 
+pub returns-in_err-log-clause-written : goal.returns-in_err-log-clause-written
+returns-in_err-log-clause-written g c =
+    let p = err_from_is_err_and c.from_residual.result c.from_residual.ensures.1 in
+    let o = (g.D.Disk.disk c.args.disk.now).content in
+    rw (p.1, p.2) (λ file offset is. none_written o (c.in_err-log.ensures.outside file offset (file_was c.in_err-log.field-0.0 file offset is)))
+
+pub returns-in_err-layout-clause-written : goal.returns-in_err-layout-clause-written
+returns-in_err-layout-clause-written g c =
+    let o = (g.D.Disk.disk c.args.disk.now).content in
+    let rs = c.in_ok-log.log.records in
+    let p = err_from_is_err_and c.from_residual-in_err-layout.result c.from_residual-in_err-layout.ensures.1 in
+    rw (p.1, p.2) (λ file offset is.
+    let same : c.in_err-layout.field-0.0 ≡ NotAFile file offset = cc is in
+    let given = c.in_err-layout.ensures.outside file offset (ap Err same) in
+    let some : 0 < length (map record_value c.as_slice.result.now) = subst (λ n. 0 < n) (sym (length-map c.as_slice.result.now record_value)) given.0 in
+    some_written o rs (subst (λ (l : List InstanceRecord). 0 < length l) c.as_slice.ensures some) c.in_ok-log.ensures.reads)
+
 pub returns-in_default-clause-found : goal.returns-in_default-clause-found
 returns-in_default-clause-found g c =
     let o = (g.D.Disk.disk c.args.disk.now).content in
@@ -79,6 +96,16 @@ returns-in_default-clause-exact g c =
 pub returns-clause-exact : goal.returns-clause-exact
 returns-clause-exact g c =
     exact_by (g.D.Disk.disk c.args.disk.now).content c.in_ok-log.log.records (Some c.in-Some.layout) c.in_ok-log.ensures.reads
+    (laid_so c.in_ok-log.log.records (map record_value c.as_slice.result.now) (Some c.in-Some.layout) c.as_slice.ensures (subst (λ (f : Option Layout). IsLaidOut (map record_value c.as_slice.result.now) f) c.in-Some.is c.in_ok-layout.ensures.layout))
+
+pub returns-in_default-clause-holds : goal.returns-in_default-clause-holds
+returns-in_default-clause-holds g c =
+    held_by (g.D.Disk.disk c.args.disk.now).content c.in_ok-log.log.records None c.in_ok-log.ensures.reads
+    (laid_so c.in_ok-log.log.records (map record_value c.as_slice.result.now) None c.as_slice.ensures (subst (λ (f : Option Layout). IsLaidOut (map record_value c.as_slice.result.now) f) c.in_default.is c.in_ok-layout.ensures.layout))
+
+pub returns-clause-holds : goal.returns-clause-holds
+returns-clause-holds g c =
+    held_by (g.D.Disk.disk c.args.disk.now).content c.in_ok-log.log.records (Some c.in-Some.layout) c.in_ok-log.ensures.reads
     (laid_so c.in_ok-log.log.records (map record_value c.as_slice.result.now) (Some c.in-Some.layout) c.as_slice.ensures (subst (λ (f : Option Layout). IsLaidOut (map record_value c.as_slice.result.now) f) c.in-Some.is c.in_ok-layout.ensures.layout))
 
 pub returns-clause-told : goal.returns-clause-told

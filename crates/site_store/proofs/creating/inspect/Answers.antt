@@ -17,3 +17,8 @@ pub returns-in-Some-clause-exact : goal.returns-in-Some-clause-exact
 returns-in-Some-clause-exact g c =
     let o = (g.D.Disk.disk c.args.disk.now).content in
     subst (λ (f : Option FoundSite). IfSome o (λ files. (rs : List InstanceRecord) → IsInstance (files INSTANCE) rs → IsLaidOut rs (layout_in f))) c.in-Some.is c.in_ok-found.ensures.exact
+
+pub returns-in-Some-clause-holds : goal.returns-in-Some-clause-holds
+returns-in-Some-clause-holds g c =
+    let o = (g.D.Disk.disk c.args.disk.now).content in
+    subst (λ (f : Option FoundSite). IfSome o (λ files. (rs : List InstanceRecord) × IsInstance (files INSTANCE) rs × IsLaidOut rs (layout_in f))) c.in-Some.is c.in_ok-found.ensures.holds

@@ -19,7 +19,7 @@ use Rattle.site_store.proofs.Drawn.{C, text}
 use Rattle.site_store.specs.Refusing.{IsUnwritten}
 use Rattle.site_store.proofs.Refused.{told_anyway}
 use Rattle.site_store.proofs.Errors.{file_was, limit_was}
-use Rattle.site_store.proofs.Loaded.{length_values, opened_from, quiet_told, quiet_left, quiet_stands, drawn_moments, drawn_left, drawn_stands, room_left, remembers, is_open, was_opened, is_ready}
+use Rattle.site_store.proofs.Loaded.{length_values, opened_from, held_from, quiet_told, quiet_left, quiet_stands, drawn_moments, drawn_left, drawn_stands, room_left, remembers, is_open, was_opened, is_ready}
 use Rattle.site_store.proofs.Refused.{no_site, untold, read_kept}
 use Rattle.site_store.proofs.opening.load.Goals as goal
 
@@ -46,6 +46,11 @@ pub returns-in_err-read-clause-limit : goal.returns-in_err-read-clause-limit
 returns-in_err-read-clause-limit g c =
     let p = err_from_is_err_and c.from_residual.result c.from_residual.ensures.1 in
     rw (p.1, p.2) (λ is. c.in_err-read.ensures.limit (limit_was c.in_err-read.field-0.0 is))
+
+pub returns-in_err-read-clause-limit_told : goal.returns-in_err-read-clause-limit_told
+returns-in_err-read-clause-limit_told g c =
+    let p = err_from_is_err_and c.from_residual.result c.from_residual.ensures.1 in
+    rw (p.1, p.2) (λ is. c.in_err-read.ensures.limit_told (limit_was c.in_err-read.field-0.0 is))
 
 pub returns-in_err-read-clause-any_moment : goal.returns-in_err-read-clause-any_moment
 returns-in_err-read-clause-any_moment g c =
@@ -440,6 +445,38 @@ returns-clause-found g c =
     let begun = c.in_ok-drawn.drawn.journals.items in
     let records : s.instance.records ≡ rs ++ next_cut rs (length seq) ∷ [] = subst (λ (k : ℕ). s.instance.records ≡ rs ++ next_cut rs k ∷ []) n c.in_ok-drawn.ensures.records in
     opened_from u.content v rs last journal seq s read c.in_ok-remembered.ensures.sequence (c.in_ok-remembered.ensures.numbered) records
+
+pub returns-clause-held : goal.returns-clause-held
+returns-clause-held g c =
+    let view = g.D.Disk.disk in
+    let u = view c.args.disk.now in
+    let v0 = view c.read_site.new.disk in
+    let got = c.in_ok-read.ensures in
+    let rs = c.in_ok-read.read.log.records in
+    let v = view c.sync_texts.new.disk in
+    let synced = nothing_new u v0 v (Image u) (g.met.D.Disk.lawful c.read_site.new.disk) got.any_moment c.sync_texts.ensures.any_moment in
+    let same : v.content ≡ u.content = c.sync_texts.ensures.content ∙ got.content in
+    let w = view c.draw.new.disk in
+    let lawful_v = g.met.D.Disk.lawful c.sync_texts.new.disk in
+    let lawful_w = g.met.D.Disk.lawful c.draw.new.disk in
+    let lasts = c.deref.result.now in
+    let js = map (λ (j : Vec PlacedRecord Global). j.items) c.in_ok-read.read.journals.items in
+    let last = last_of lasts in
+    let journal = journal_of js in
+    let items = c.in_ok-remembered.remembered.entries.items in
+    let seq = map entry_value items in
+    let read = read_kept u.content v0 v rs last journal lawful_v c.sync_texts.ensures.any_moment
+    (subst (λ (l : List ℕ). IfSome u.content (WasRead v0 rs (last_of l) journal)) (sym c.deref.ensures.value) got.read) in
+    let form : MayBeOpened rs last = subst (λ (l : List ℕ). MayBeOpened rs (last_of l)) (sym c.deref.ensures.value) got.form in
+    let len : c.len-length.result ≡ length items = (let e = c.len-length.ensures in omega (arith, e)) in
+    let n : c.len-length.result ≡ length seq = len ∙ sym (length_values items) in
+    let broken = c.as_slice-text.result.now in
+    let broken_is : broken ≡ text rs last journal seq form c.in_ok-remembered.ensures.sequence =
+    c.as_slice-text.ensures ∙ c.in_ok-remembered.ensures.broken ∙ ap (λ (k : ℕ). broken_text (site_name rs) k (parts.broken (site_records rs js) k)) (sym (length_values items)) in
+    let s : OpenSite = record { instance = c.in_ok-drawn.drawn.instance; layout = c.in_ok-layout.layout; journals = c.in_ok-newest_journals.field-0; entries = c.in_ok-remembered.remembered.entries; globals = c.in_ok-remembered.remembered.globals; hardened = c.len-length.result; stamp = None } in
+    let begun = c.in_ok-drawn.drawn.journals.items in
+    let records : s.instance.records ≡ rs ++ next_cut rs (length seq) ∷ [] = subst (λ (k : ℕ). s.instance.records ≡ rs ++ next_cut rs k ∷ []) n c.in_ok-drawn.ensures.records in
+    held_from u.content v rs last journal seq s read c.in_ok-remembered.ensures.sequence (c.in_ok-remembered.ensures.numbered) records
 
 pub returns-clause-opened : goal.returns-clause-opened
 returns-clause-opened g c =

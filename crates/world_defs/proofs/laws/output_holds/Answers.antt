@@ -38,7 +38,7 @@ returns-clause-refused c = (
   refl,
   record {
     becomes = failed_place true;
-    here = (inl (refl, record { site = refl; now = refl; left = refl; known = record { told = refl; outcomes = λ o h. h; standings = λ t o h. (o, h, refl) }; faults = omega arith; simulated = refl }), sym stopped_line);
+    here = (inl (refl, record { site = refl; now = refl; left = refl; known = record { told = refl; outcomes = λ o h. h; standings = λ t o h. (o, h, refl) }; shown = refl; faults = omega arith; simulated = refl }), sym stopped_line, tt);
     around = (refl, tt);
   },
 )
@@ -46,11 +46,11 @@ returns-clause-refused c = (
 -- what it answers there, and its line
 said : (a : Answer) (q : Place) (t : List ℕ) → Here (stop (codes "A") (failed_place true)) a q t → t ≡ codes "A STOPPED 3\n"
 said Done q t h = absurd (cc h.0)
-said (Refused r) q t (inl h, e) = e ∙ ap refusal_line (sym (same r h.0)) ∙ stopped_line
+said (Refused r) q t (inl h, e, b) = e ∙ ap refusal_line (sym (same r h.0)) ∙ stopped_line
   where
     same : (r : Refusal) → Some (record { site = codes "A"; cause = Stopped 3 }) ≡ Some r → record { site = codes "A"; cause = Stopped 3 } ≡ r
     same r e = cc e
-said (Refused r) q t (inr h, e) = absurd h.1
+said (Refused r) q t (inr h, e, b) = absurd h.1
 said (DiskFault k) q t h = absurd h.1
 said (NotAFile file offset) q t h = absurd h.1
 said (Ran s) q t h = absurd h.1

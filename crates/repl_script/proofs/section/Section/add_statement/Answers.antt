@@ -1,6 +1,7 @@
 use Rattle.std.proofs.Common.{◌≡◌, ◌∙◌, sym, subst, true, ◌++◌, ◌∷◌, []}
 use Rattle.gvn_key.specs.Terms.{statement_value}
-use Rattle.command_defs.specs.Sections.{is_of_size, last_job, jobs_of}
+use Rattle.command_defs.specs.Updaters.{is_of_size}
+use Rattle.command_defs.specs.Sections.{last_job, jobs_of}
 use Rattle.command_defs.proofs.Sizes.{one_small}
 use Rattle.repl_script.specs.Places.{at_all}
 use Rattle.repl_script.proofs.Sectioned.{after_job, after_statement}

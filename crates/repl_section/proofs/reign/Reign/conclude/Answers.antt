@@ -1,36 +1,47 @@
-use Rattle.std.proofs.Common.{◌≡◌, [], refl, sym, ◌∙◌, ap, length, subst, arith}
-use Rattle.global_defs.specs.Serial.{Turn, replied, begun}
+use Rattle.std.proofs.Common.{◌≡◌, ◌≤◌, ℕ, Bool, [], refl, sym, ◌∙◌, ap, length, subst, arith}
+use Rattle.std.specs.Prelude.{None, IfSome}
+use Rattle.global_defs.specs.Serial.{Turn, Replied, replied, begun}
 use Rattle.gvn_model.specs.declared.job.Evaluated.{Evaluated}
 use Rattle.gvn_model.specs.declared.job.Reply.{Reply}
 use Rattle.gvn_model.specs.Jobs.{evaluated_value}
-use Rattle.repl_section.specs.Replies.{reply_value}
+use Rattle.site_defs.specs.Contents.{Contents}
+use Rattle.site_store.specs.Site.{IsOpen}
+use Rattle.repl_section.specs.Replies.{named, reply_value}
 use Rattle.repl_section.specs.Reigns.{stamp_of}
-use Rattle.repl_section.specs.Deciding.{outcome, HasCome, Appends}
-use Rattle.repl_section.proofs.Results.{on_ok}
-use Rattle.repl_section.proofs.Standing.{entries_counted}
-use Rattle.repl_section.proofs.Replied.{stays, stays_bare, commit_appends, has_replied, read_is, limited_is, some_updates}
+use Rattle.repl_section.specs.Deciding.{outcome, ComesTo, Appends}
+use Rattle.repl_section.proofs.Results.{if_ok}
+use Rattle.repl_section.proofs.Standing.{entries_counted, stays_at}
+use Rattle.repl_section.proofs.Replied.{commit_appends, has_decided, unnamed_entered, read_is, limited_is, some_updates}
 use Rattle.repl_section.proofs.reign.Reign.conclude.Goals.{in-RolledBack, in-Done, then-is_empty, else-is_empty+then-len-ge-LAST_NUMBER}
 use Rattle.repl_section.proofs.reign.Reign.conclude.Goals as goal
 
 pub returns-else-len-ge-LAST_NUMBER-clause-done : goal.returns-else-len-ge-LAST_NUMBER-clause-done
 returns-else-len-ge-LAST_NUMBER-clause-done g c =
-    on_ok c.commit.result _ _ c.commit.ensures.done (λ f told x r.
-    subst (λ (e : Evaluated). HasCome (g.D.Disk.disk c.commit.new.disk) told x (outcome (stamp_of c.args.self.now) c.args.self.now.serials x.sequence c.args.origin.updater (evaluated_value e)) c.commit.new.self c.args.text.now c.commit.new.text) (sym c.in-Done.is) (f told x r))
+    if_ok c.commit.result _ _ c.commit.ensures.done (λ d f told x h r.
+    subst (λ (e : Evaluated). ComesTo (g.D.Disk.disk c.commit.new.disk) told x h (outcome (stamp_of c.args.self.now) c.args.self.now.serials x.sequence c.args.origin.updater (evaluated_value e)) c.commit.new.self d) (sym c.in-Done.is) (f told x h r))
 
 pub returns-else-len-ge-LAST_NUMBER-clause-appends : goal.returns-else-len-ge-LAST_NUMBER-clause-appends
-returns-else-len-ge-LAST_NUMBER-clause-appends g c failed told x r =
+returns-else-len-ge-LAST_NUMBER-clause-appends g c failed told x h r =
     subst (λ (e : Evaluated). Appends x.sequence (outcome (stamp_of c.args.self.now) c.args.self.now.serials x.sequence c.args.origin.updater (evaluated_value e))) (sym c.in-Done.is)
-    (commit_appends (stamp_of c.args.self.now) c.args.self.now x.sequence c.args.origin.updater c.in-Done.updates c.in-Done.answers (entries_counted (g.D.Disk.disk c.args.disk.now) told x (length x.sequence) c.args.self.now.site r)
+    (commit_appends (stamp_of c.args.self.now) c.args.self.now x.sequence c.args.origin.updater c.in-Done.updates c.in-Done.answers (entries_counted (g.D.Disk.disk c.args.disk.now) told x h c.args.self.now.site r)
     (some_updates c.in-Done.updates (sym c.is_empty.ensures ∙ c.if-is_empty.false)) (omega (arith, c.if-len-ge-LAST_NUMBER.false, c.len.ensures)))
 
-pub returns-in_err-reply-clause-may_have : goal.returns-in_err-reply-clause-may_have
-returns-in_err-reply-clause-may_have g c x r = stays (g.D.Disk.disk c.args.disk.now) x _ c.args.self.now r
+pub returns-clause-stands : goal.returns-clause-stands
+returns-clause-stands g c x h r = stays_at (g.D.Disk.disk c.args.disk.now) x h c.args.self.now.site r
 
-pub returns-clause-may_have : goal.returns-clause-may_have
-returns-clause-may_have g c x r = stays (g.D.Disk.disk c.args.disk.now) x _ c.args.self.now r
+pub returns-clause-entered : goal.returns-clause-entered
+returns-clause-entered g c =
+    let none : named (reply_value c.match-evaluated.reply) ≡ None = elim c.match-evaluated.branch [
+      | in-RolledBack w ↦ ap (λ (y : Reply). named (reply_value y)) w.reply-is
+      | in-Done w ↦ elim w.if-is_empty.branch [
+        | then-is_empty k ↦ ap (λ (y : Reply). named (reply_value y)) (w.reply-is ∙ k.reply-is)
+        | else-is_empty+then-len-ge-LAST_NUMBER k ↦ ap (λ (y : Reply). named (reply_value y)) (w.reply-is ∙ k.reply-is)
+      ]
+    ] in
+    unnamed_entered c.answer.result (length c.answer.new.self.site.entries.items) (ap (λ (d : Replied). named d.reply) c.answer.ensures.decision ∙ none)
 
 pub returns-clause-done : goal.returns-clause-done
-returns-clause-done g c told x r =
+returns-clause-done g c told x h r =
     let old = c.args.self.now in
     let stamp = stamp_of old in
     let u = c.args.origin.updater in
@@ -41,15 +52,10 @@ returns-clause-done g c told x r =
       | in-Done w ↦ elim w.if-is_empty.branch [
         | then-is_empty k ↦ ap comes w.in-Done.is ∙ read_is stamp old.serials x.sequence u w.in-Done.updates w.in-Done.answers (sym w.is_empty.ensures ∙ k.if-is_empty.true) ∙ ap made (sym (w.reply-is ∙ k.reply-is))
         | else-is_empty+then-len-ge-LAST_NUMBER k ↦ ap comes w.in-Done.is
-            ∙ limited_is stamp old.serials x.sequence u w.in-Done.updates w.in-Done.answers (some_updates w.in-Done.updates (sym w.is_empty.ensures ∙ k.if-is_empty.false)) (omega (arith, k.if-len-ge-LAST_NUMBER.true, k.len.ensures, entries_counted (g.D.Disk.disk c.args.disk.now) told x (length x.sequence) old.site r))
+            ∙ limited_is stamp old.serials x.sequence u w.in-Done.updates w.in-Done.answers (some_updates w.in-Done.updates (sym w.is_empty.ensures ∙ k.if-is_empty.false)) (omega (arith, k.if-len-ge-LAST_NUMBER.true, k.len.ensures, entries_counted (g.D.Disk.disk c.args.disk.now) told x h old.site r))
             ∙ ap made (sym (w.reply-is ∙ k.reply-is))
       ]
     ] in
-    subst (λ (t : Turn). HasCome (g.D.Disk.disk c.args.disk.now) told x t c.reply.new.self c.args.text.now c.reply.new.text) (sym is)
-    (has_replied (g.D.Disk.disk c.args.disk.now) stamp told x x.sequence old.serials u c.args.origin.serial (reply_value c.match-evaluated.reply) old c.reply.new.self c.args.text.now c.reply.new.text r c.reply.ensures.same refl c.requires.serial c.reply.ensures.serials c.in_ok-reply.ensures.text)
-
-pub returns-in_err-reply-clause-leaves : goal.returns-in_err-reply-clause-leaves
-returns-in_err-reply-clause-leaves g c x r = stays_bare (g.D.Disk.disk c.args.disk.now) x _ c.args.self.now r
-
-pub returns-clause-leaves : goal.returns-clause-leaves
-returns-clause-leaves g c x r = stays_bare (g.D.Disk.disk c.args.disk.now) x _ c.args.self.now r
+    subst (λ (t : Turn). ComesTo (g.D.Disk.disk c.args.disk.now) told x h t c.answer.new.self c.answer.result) (sym is)
+    (has_decided (g.D.Disk.disk c.args.disk.now) told x h x.sequence old.serials u c.args.origin.serial (reply_value c.match-evaluated.reply) old c.answer.new.self c.answer.result r c.answer.ensures.same refl c.requires.serial c.answer.ensures.serials
+    c.answer.ensures.decision)

@@ -14,19 +14,22 @@ use Rattle.repl_section.proofs.reign.Reign.run.Goals as goal
 pub loop-updater-preserved-in_default : goal.loop-updater-preserved-in_default
 loop-updater-preserved-in_default g c =
     let at = c.loop-updater in
+    let jobs = g.J.JobSource.jobs c.args.jobs.now in
+    let left = g.J.JobSource.jobs at.jobs in
+    let gave = g.S.ReplySink.gave c.args.sink.now at.sink in
     let v = g.D.Disk.disk at.disk in
     let stamp = stamp_of c.args.self.now in
     let u = get_or c.args.order.now at.updater-index 0 in
-    let none : next_job u at.jobs ≡ None = sym (rw c.in_default.is at c.take_next.ensures.job) in
+    let none : next_job u left ≡ None = sym (rw c.in_default.is at c.take_next.ensures.job) in
     record {
       ready = at.invariant.ready;
       reign = at.invariant.reign;
       stamp = at.invariant.stamp;
       enough = omega (arith, at.invariant.enough);
       gone = λ told x r.
-          let t = come_to stamp c.args.self.now.serials c.args.jobs c.args.order.now (at.updater-index + 1) x.sequence in
-          subst (λ (l : List (List Job)). HasGone v stamp told x t l at.undecided (length c.args.order.now) at.self c.args.text.now at.text) (sym c.take_next.ensures.left)
-          (none_decided v stamp told x c.args.self.now.serials c.args.jobs at.jobs c.args.order.now at.updater-index u at.undecided at.self c.args.text.now at.text (at.invariant.gone told x r) c.loop-updater-test.true refl none);
+          let t = come_to stamp c.args.self.now.serials jobs c.args.order.now (at.updater-index + 1) x.sequence in
+          subst (λ (l : List (List Job)). HasGone v stamp told x t l at.undecided (length c.args.order.now) at.self gave) (sym c.take_next.ensures.left)
+          (none_decided v stamp told x c.args.self.now.serials jobs left c.args.order.now at.updater-index u at.undecided at.self gave (at.invariant.gone told x r) c.loop-updater-test.true refl none);
       simulated = at.invariant.simulated;
       later = at.invariant.later;
     }
@@ -34,97 +37,109 @@ loop-updater-preserved-in_default g c =
 pub returns-in-Err-Failed-clause-breaks : goal.returns-in-Err-Failed-clause-breaks
 returns-in-Err-Failed-clause-breaks g c told x r =
     let at = c.loop-updater in
+    let jobs = g.J.JobSource.jobs c.args.jobs.now in
+    let left = g.J.JobSource.jobs at.jobs in
+    let gave = g.S.ReplySink.gave c.args.sink.now at.sink in
     let v = g.D.Disk.disk at.disk in
-    let w = g.D.Disk.disk c.decide.new.disk in
+    let w = g.D.Disk.disk c.settle.new.disk in
     let stamp = stamp_of c.args.self.now in
     let order = c.args.order.now in
     let serials = c.args.self.now.serials in
     let u = get_or order at.updater-index 0 in
     let job = job_value c.in-Some.job in
-    let next : next_job u at.jobs ≡ Some job = sym (rw c.in-Some.is at c.take_next.ensures.job) in
-    let t = come_to stamp serials c.args.jobs order at.updater-index x.sequence in
-    let p = pick_at stamp serials c.args.jobs order at.updater-index x at.self u job in
-    let h : HasGone v stamp told x t at.jobs at.undecided (length order) at.self c.args.text.now at.text = at.invariant.gone told x r in
+    let next : next_job u left ≡ Some job = sym (rw c.in-Some.is at c.take_next.ensures.job) in
+    let t = come_to stamp serials jobs order at.updater-index x.sequence in
+    let p = pick_at stamp serials jobs order at.updater-index x at.self u job in
+    let h : HasGone v stamp told x t left at.undecided (length order) at.self gave = at.invariant.gone told x r in
     let may : IsTrue told → MayHave w (with_sequence x t.sequence) p.sequence =
-    λ k. c.decide.ensures.may_have (with_sequence x t.sequence) (subst (λ (b : Bool). Reigns v b (with_sequence x t.sequence) at.self) k h.reached.reigns) in
-    let failed : c.decide.result ≡ Err Failed = c.in-Err-Failed.is ∙ ap Err c.in-Err-Failed.field-0-is in (
+    λ k. c.settle.ensures.may_have (with_sequence x t.sequence) (subst (λ (b : Bool). Reigns v b (with_sequence x t.sequence) at.self) k h.reached.reigns) in
+    let failed : c.settle.result ≡ Err Failed = c.in-Err-Failed.is ∙ ap Err c.in-Err-Failed.field-0-is in (
       at.updater-index + 1,
-      subst (λ (y : List ℕ). FailsAt w stamp told x c.args.jobs order serials at.undecided c.args.text.now y (at.updater-index + 1)) (sym (c.decide.ensures.text failed))
-          (failed_at v w stamp told x serials c.args.jobs at.jobs order at.updater-index u job at.undecided at.self c.args.text.now at.text h c.loop-updater-test.true refl next
-          (c.decide.ensures.appends failed told (with_sequence x t.sequence) h.reached.reigns) may),
+      subst (λ y. FailsAt w stamp told x jobs order serials at.undecided (g.S.ReplySink.gave c.args.sink.now y) (at.updater-index + 1)) (sym (c.settle.ensures.untold failed))
+          (failed_at v w stamp told x serials jobs left order at.updater-index u job at.undecided at.self gave h c.loop-updater-test.true refl next
+          (c.settle.ensures.appends failed told (with_sequence x t.sequence) h.reached.reigns) may),
     )
 
 pub returns-in-Err-Failed-clause-withholds_none : goal.returns-in-Err-Failed-clause-withholds_none
 returns-in-Err-Failed-clause-withholds_none g c told x r =
     let at = c.loop-updater in
+    let jobs = g.J.JobSource.jobs c.args.jobs.now in
+    let left = g.J.JobSource.jobs at.jobs in
+    let gave = g.S.ReplySink.gave c.args.sink.now at.sink in
     let v = g.D.Disk.disk at.disk in
-    let w = g.D.Disk.disk c.decide.new.disk in
+    let w = g.D.Disk.disk c.settle.new.disk in
     let stamp = stamp_of c.args.self.now in
     let order = c.args.order.now in
     let serials = c.args.self.now.serials in
     let u = get_or order at.updater-index 0 in
     let job = job_value c.in-Some.job in
-    let next : next_job u at.jobs ≡ Some job = sym (rw c.in-Some.is at c.take_next.ensures.job) in
-    let t = come_to stamp serials c.args.jobs order at.updater-index x.sequence in
-    let p = pick_at stamp serials c.args.jobs order at.updater-index x at.self u job in
-    let h : HasGone v stamp told x t at.jobs at.undecided (length order) at.self c.args.text.now at.text = at.invariant.gone told x r in
+    let next : next_job u left ≡ Some job = sym (rw c.in-Some.is at c.take_next.ensures.job) in
+    let t = come_to stamp serials jobs order at.updater-index x.sequence in
+    let p = pick_at stamp serials jobs order at.updater-index x at.self u job in
+    let h : HasGone v stamp told x t left at.undecided (length order) at.self gave = at.invariant.gone told x r in
     let may : IsTrue told → MayHave w (with_sequence x t.sequence) p.sequence =
-    λ k. c.decide.ensures.may_have (with_sequence x t.sequence) (subst (λ (b : Bool). Reigns v b (with_sequence x t.sequence) at.self) k h.reached.reigns) in
+    λ k. c.settle.ensures.may_have (with_sequence x t.sequence) (subst (λ (b : Bool). Reigns v b (with_sequence x t.sequence) at.self) k h.reached.reigns) in
     let leaves : IsTrue told → LeavesPick w (with_sequence x t.sequence) p.sequence =
-    λ k. c.decide.ensures.leaves (with_sequence x t.sequence) (subst (λ (b : Bool). Reigns v b (with_sequence x t.sequence) at.self) k h.reached.reigns) in
-    let failed : c.decide.result ≡ Err Failed = c.in-Err-Failed.is ∙ ap Err c.in-Err-Failed.field-0-is in
-    subst (λ (y : List ℕ). FailsIn w stamp told x c.args.jobs order serials at.undecided c.args.text.now y) (sym (c.decide.ensures.text failed))
-    (failed_in v w stamp told x serials c.args.jobs at.jobs order at.updater-index u job at.undecided at.self c.args.text.now at.text h c.loop-updater-test.true refl next
-    (c.decide.ensures.appends failed told (with_sequence x t.sequence) h.reached.reigns) may leaves)
+    λ k. c.settle.ensures.leaves (with_sequence x t.sequence) (subst (λ (b : Bool). Reigns v b (with_sequence x t.sequence) at.self) k h.reached.reigns) in
+    let failed : c.settle.result ≡ Err Failed = c.in-Err-Failed.is ∙ ap Err c.in-Err-Failed.field-0-is in
+    subst (λ y. FailsIn w stamp told x jobs order serials at.undecided (g.S.ReplySink.gave c.args.sink.now y)) (sym (c.settle.ensures.untold failed))
+    (failed_in v w stamp told x serials jobs left order at.updater-index u job at.undecided at.self gave h c.loop-updater-test.true refl next
+    (c.settle.ensures.appends failed told (with_sequence x t.sequence) h.reached.reigns) may leaves)
 
 pub returns-in-Err-NoMemory-clause-breaks : goal.returns-in-Err-NoMemory-clause-breaks
 returns-in-Err-NoMemory-clause-breaks g c told x r =
     let at = c.loop-updater in
+    let jobs = g.J.JobSource.jobs c.args.jobs.now in
+    let left = g.J.JobSource.jobs at.jobs in
+    let gave = g.S.ReplySink.gave c.args.sink.now at.sink in
     let v = g.D.Disk.disk at.disk in
-    let w = g.D.Disk.disk c.decide.new.disk in
+    let w = g.D.Disk.disk c.settle.new.disk in
     let stamp = stamp_of c.args.self.now in
     let order = c.args.order.now in
     let serials = c.args.self.now.serials in
     let u = get_or order at.updater-index 0 in
     let job = job_value c.in-Some.job in
-    let next : next_job u at.jobs ≡ Some job = sym (rw c.in-Some.is at c.take_next.ensures.job) in
-    let t = come_to stamp serials c.args.jobs order at.updater-index x.sequence in
-    let p = pick_at stamp serials c.args.jobs order at.updater-index x at.self u job in
-    let h : HasGone v stamp told x t at.jobs at.undecided (length order) at.self c.args.text.now at.text = at.invariant.gone told x r in
+    let next : next_job u left ≡ Some job = sym (rw c.in-Some.is at c.take_next.ensures.job) in
+    let t = come_to stamp serials jobs order at.updater-index x.sequence in
+    let p = pick_at stamp serials jobs order at.updater-index x at.self u job in
+    let h : HasGone v stamp told x t left at.undecided (length order) at.self gave = at.invariant.gone told x r in
     let may : IsTrue told → MayHave w (with_sequence x t.sequence) p.sequence =
-    λ k. c.decide.ensures.may_have (with_sequence x t.sequence) (subst (λ (b : Bool). Reigns v b (with_sequence x t.sequence) at.self) k h.reached.reigns) in
+    λ k. c.settle.ensures.may_have (with_sequence x t.sequence) (subst (λ (b : Bool). Reigns v b (with_sequence x t.sequence) at.self) k h.reached.reigns) in
     let leaves : IsTrue told → LeavesPick w (with_sequence x t.sequence) p.sequence =
-    λ k. c.decide.ensures.leaves (with_sequence x t.sequence) (subst (λ (b : Bool). Reigns v b (with_sequence x t.sequence) at.self) k h.reached.reigns) in
-    left_at v w stamp told x serials c.args.jobs at.jobs order at.updater-index u job at.undecided at.self c.args.text.now at.text h c.loop-updater-test.true refl next may leaves
+    λ k. c.settle.ensures.leaves (with_sequence x t.sequence) (subst (λ (b : Bool). Reigns v b (with_sequence x t.sequence) at.self) k h.reached.reigns) in
+    left_at v w stamp told x serials jobs left order at.updater-index u job at.undecided at.self gave h c.loop-updater-test.true refl next may leaves
 
 pub loop-updater-preserved : goal.loop-updater-preserved
 loop-updater-preserved g c =
     let at = c.loop-updater in
+    let jobs = g.J.JobSource.jobs c.args.jobs.now in
+    let left = g.J.JobSource.jobs at.jobs in
+    let gave = g.S.ReplySink.gave c.args.sink.now at.sink in
     let v = g.D.Disk.disk at.disk in
-    let w = g.D.Disk.disk c.decide.new.disk in
+    let w = g.D.Disk.disk c.settle.new.disk in
     let stamp = stamp_of c.args.self.now in
     let order = c.args.order.now in
     let serials = c.args.self.now.serials in
     let u = get_or order at.updater-index 0 in
     let job = job_value c.in-Some.job in
-    let next : next_job u at.jobs ≡ Some job = sym (rw c.in-Some.is at c.take_next.ensures.job) in
+    let next : next_job u left ≡ Some job = sym (rw c.in-Some.is at c.take_next.ensures.job) in
     let some : at.undecided ≡ (at.undecided - 1) + 1 = omega (arith, at.invariant.enough, c.loop-updater-test.true) in
     record {
       ready = c.in-Ok.ensures.ready;
       reign = c.in-Ok.ensures.reign;
       enough = omega (arith, at.invariant.enough, c.loop-updater-test.true);
       gone = λ told x r.
-          let t = come_to stamp serials c.args.jobs order at.updater-index x.sequence in
-          let more = come_to stamp serials c.args.jobs order (at.updater-index + 1) x.sequence in
-          let h : HasGone v stamp told x t at.jobs at.undecided (length order) at.self c.args.text.now at.text = at.invariant.gone told x r in
-          let k : HasGone v stamp told x t at.jobs ((at.undecided - 1) + 1) (length order) at.self c.args.text.now at.text =
-          subst (λ (n : ℕ). HasGone v stamp told x t at.jobs n (length order) at.self c.args.text.now at.text) some h in
-          subst (λ (l : List (List Job)). HasGone w stamp told x more l (at.undecided - 1) (length order) c.decide.new.self c.args.text.now c.decide.new.text) (sym c.take_next.ensures.left)
-          (one_decided v w stamp told x serials c.args.jobs at.jobs order at.updater-index u job (at.undecided - 1) at.self c.decide.new.self c.args.text.now at.text c.decide.new.text k c.loop-updater-test.true refl next
-          (c.in-Ok.ensures.done told (with_sequence x t.sequence) h.reached.reigns) c.decide.ensures.stamp);
-      stamp = c.decide.ensures.stamp ∙ at.invariant.stamp;
-      simulated = c.decide.ensures.simulated ∙ at.invariant.simulated;
-      later = omega (arith, at.invariant.later, c.decide.ensures.later);
+          let t = come_to stamp serials jobs order at.updater-index x.sequence in
+          let more = come_to stamp serials jobs order (at.updater-index + 1) x.sequence in
+          let h : HasGone v stamp told x t left at.undecided (length order) at.self gave = at.invariant.gone told x r in
+          let k : HasGone v stamp told x t left ((at.undecided - 1) + 1) (length order) at.self gave =
+          subst (λ (n : ℕ). HasGone v stamp told x t left n (length order) at.self gave) some h in
+          subst (λ (l : List (List Job)). HasGone w stamp told x more l (at.undecided - 1) (length order) c.settle.new.self (g.S.ReplySink.gave c.args.sink.now c.settle.new.sink)) (sym c.take_next.ensures.left)
+          (one_decided v w stamp told x serials jobs left order at.updater-index u job (at.undecided - 1) at.self c.settle.new.self gave (g.S.ReplySink.gave at.sink c.settle.new.sink) (g.S.ReplySink.gave c.args.sink.now c.settle.new.sink) k c.loop-updater-test.true
+          refl next (c.in-Ok.ensures.done told (with_sequence x t.sequence) h.reached.reigns) c.settle.ensures.stamp (g.met.S.ReplySink.further c.args.sink.now at.sink c.settle.new.sink));
+      stamp = c.settle.ensures.stamp ∙ at.invariant.stamp;
+      simulated = c.settle.ensures.simulated ∙ at.invariant.simulated;
+      later = omega (arith, at.invariant.later, c.settle.ensures.later);
     }
 
 pub returns-clause-done : goal.returns-clause-done
@@ -133,5 +148,13 @@ returns-clause-done g c told x r =
     let stamp = stamp_of c.args.self.now in
     let order = c.args.order.now in
     let end : at.updater-index ≡ length order = omega (arith, c.loop-updater-test.false, at.auto.updater-index-end) in
-    subst (λ (picks : List ℕ). HasReached (g.D.Disk.disk at.disk) told x (turn_of stamp c.args.self.now.serials c.args.jobs picks x.sequence) at.self c.args.text.now at.text)
+    subst (λ (picks : List ℕ). HasReached (g.D.Disk.disk at.disk) told x (turn_of stamp c.args.self.now.serials (g.J.JobSource.jobs c.args.jobs.now) picks x.sequence) at.self (g.S.ReplySink.gave c.args.sink.now at.sink))
     (ap (λ (n : ℕ). take n order) end ∙ take-length order) (at.invariant.gone told x r).reached
+
+pub returns-clause-left : goal.returns-clause-left
+returns-clause-left g c told x r =
+    let at = c.loop-updater in
+    let stamp = stamp_of c.args.self.now in
+    let order = c.args.order.now in
+    let end : at.updater-index ≡ length order = omega (arith, c.loop-updater-test.false, at.auto.updater-index-end) in
+    subst (λ (picks : List ℕ). g.J.JobSource.jobs at.jobs ≡ (turn_of stamp c.args.self.now.serials (g.J.JobSource.jobs c.args.jobs.now) picks x.sequence).left) (ap (λ (n : ℕ). take n order) end ∙ take-length order) (at.invariant.gone told x r).left

@@ -12,7 +12,7 @@ invariant-loop-updater g l = record {
   stamp : l.self.site.stamp ≡ l.fn.self.site.stamp;
   enough : length l.order ≤ l.undecided + l.updater-index;
   gone : (told : Bool) (c : Contents) → Reigns (g.D.Disk.disk l.fn.disk) told c l.fn.self
-      → HasGone (g.D.Disk.disk l.disk) (stamp_of l.fn.self) told c (come_to (stamp_of l.fn.self) l.fn.self.serials l.fn.jobs l.order l.updater-index c.sequence) l.jobs l.undecided (length l.order) l.self l.fn.text l.text;
+      → HasGone (g.D.Disk.disk l.disk) (stamp_of l.fn.self) told c (come_to (stamp_of l.fn.self) l.fn.self.serials (g.J.JobSource.jobs l.fn.jobs) l.order l.updater-index c.sequence) (g.J.JobSource.jobs l.jobs) l.undecided (length l.order) l.self (g.S.ReplySink.gave l.fn.sink l.sink);
   simulated : (g.D.Disk.disk l.disk).simulated ≡ (g.D.Disk.disk l.fn.disk).simulated;
   later : (g.D.Disk.disk l.fn.disk).faults ≤ (g.D.Disk.disk l.disk).faults;
 }

@@ -6,7 +6,7 @@ use Rattle.global_defs.specs.Jobs.{Job, Answers, Cause, SeqLimit}
 use Rattle.global_defs.specs.Serial as serials
 use Rattle.global_defs.specs.Serial.{MOST_ENTRIES, Turn, Reply, Replied, Seq, Read, serial_at, entry_of, replied, appended, decided, picked, serial, next_job, begun}
 use Rattle.site_defs.specs.Lists.{Among}
-use Rattle.run_laws.specs.Entries.{IsEntryAt, IsReplied}
+use Rattle.world_laws.specs.Entries.{IsEntryAt, IsReplied}
 
 -- elements by their places
 

@@ -1,5 +1,6 @@
 -- Lists of places beside one another.
 use Rattle.std.proofs.Common.{◌≡◌, ℕ, zero, suc, List, [], ◌∷◌, Some, slice_get, refl, subst}
+use Rattle.std.specs.List.{AllByRecursion}
 use Rattle.site_defs.specs.Lists.{Along, At}
 use Rattle.world_defs.specs.World.{Place}
 
@@ -27,6 +28,13 @@ along_at P S R f r i [] (q ∷ qs) h = absurd h
 along_at P S R f r i (p ∷ ps) [] h = absurd h
 along_at P S R f r zero (p ∷ ps) (q ∷ qs) h = (f p q h.0, along_each S R r ps qs h.1)
 along_at P S R f r (suc i) (p ∷ ps) (q ∷ qs) h = (r p q h.0, along_at P S R f r i ps qs h.1)
+
+-- what held of each place before holds of each then
+pub along_keeps : (R : Place → Place → Type 0) (I J : Place → Type 0) → ((x y : Place) → R x y → I x → J y) → (ps qs : List Place) → Along (λ j. R) ps qs → AllByRecursion I ps → AllByRecursion J qs
+along_keeps R I J f [] [] h k = tt
+along_keeps R I J f [] (q ∷ qs) h k = absurd h
+along_keeps R I J f (p ∷ ps) [] h k = absurd h
+along_keeps R I J f (p ∷ ps) (q ∷ qs) h k = (f p q h.0 k.0, along_keeps R I J f ps qs h.1 k.1)
 
 -- places by their numbers
 

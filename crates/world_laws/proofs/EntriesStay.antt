@@ -1,0 +1,177 @@
+-- What keeps the entries of a place.
+use Rattle.std.proofs.Common.{◌≡◌, inl, inr, ℕ, suc, ◌+◌, ◌-◌, true, List, [], ◌∷◌, length, take, Option, Some, None, slice_get, IsTrue, sym, ap, subst, arith}
+use Rattle.std.proofs.lemmas.Bool.{false≢true}
+use Rattle.std.proofs.lemmas.Option.{slice_get_within}
+use Rattle.global_defs.specs.Entry.{Stamp, Entry, Sequence}
+use Rattle.global_defs.specs.Jobs.{Job}
+use Rattle.global_defs.specs.Serial.{Turn, begun}
+use Rattle.command_defs.specs.Commands.{Name}
+use Rattle.site_defs.specs.Contents.{Contents, Standing}
+use Rattle.site_defs.specs.Fronts.{IsFrontOf, turn_of}
+use Rattle.site_defs.specs.Lists.{Among}
+use Rattle.site_defs.specs.Opening.{MayMap, MayBegin}
+use Rattle.world_defs.specs.World.{State, Down, Failed, Site, Place, Kept, is_free}
+use Rattle.world_defs.specs.Answers.{Section}
+use Rattle.world_defs.specs.Changes.{in_new_state, Becomes, Fails, FailsUnchanged, ChangesUnknown}
+use Rattle.world_defs.specs.rows.Crash.{Crashes}
+use Rattle.world_defs.specs.rows.Run as rows
+use Rattle.world_defs.specs.rows.Run.{RunsTo, IsPicked, one_further}
+use Rattle.world_laws.specs.Entries.{IsEntryAt, IsSiteOf, HasEntry, KeepsEntries}
+use Rattle.world_laws.proofs.Turns.{GoesOn, goes-serial, goes-further, get-front}
+
+pub entries-through : (x y z : Place) → KeepsEntries x y → KeepsEntries y z → KeepsEntries x z
+entries-through x y z h k name n e has = k name n e (h name n e has)
+
+-- what becomes of a place
+
+pub only_one : (o c : Contents) → Among (c ∷ []) o → o ≡ c
+only_one o c (inl e) = e
+only_one o c (inr none) = absurd none
+
+abbrev pub HasAt : ℕ → Entry → Contents → Type 0
+HasAt n e c = IsEntryAt n e c.sequence
+
+pub site-new : (name : Name) (state : State) (o : Option Site) → IsSiteOf name o → IsSiteOf name (in_new_state state o)
+site-new name state None h = h
+site-new name state (Some site) h = h
+
+pub entries-kept : (x y : Place) → Kept x y → KeepsEntries x y
+entries-kept x y k name n e h = record {
+  site = subst (IsSiteOf name) (sym k.site) h.site;
+  now = λ t. subst (HasAt n e) (sym k.now) (h.now (subst IsTrue k.known.told t));
+  outcomes = λ t o a. h.outcomes (subst IsTrue k.known.told t) o (k.known.outcomes o a);
+}
+
+pub entries-changed : (x y : Place) → ChangesUnknown x y → KeepsEntries x y
+entries-changed x y c name n e h = record {
+  site = subst (IsSiteOf name) (sym c.site) h.site;
+  now = λ t. subst (HasAt n e) (sym c.now) (h.now (subst IsTrue c.known.told t));
+  outcomes = λ t o a. h.outcomes (subst IsTrue c.known.told t) o (c.known.outcomes o a);
+}
+
+-- these contents have the entries of the place
+abbrev pub HasThose : Contents → Place → Type 0
+HasThose c p = (name : Name) (n : ℕ) (e : Entry) → HasEntry name n e p → IsTrue p.told → IsEntryAt n e c.sequence
+
+pub entries-becomes : (state : State) (c : Contents) (p q : Place) → HasThose c p → Becomes state c p q → KeepsEntries p q
+entries-becomes state c p q f b name n e h = record {
+  site = subst (IsSiteOf name) (sym b.site) (site-new name state p.site h.site);
+  now = λ t. subst (HasAt n e) (sym b.known.now) (f name n e h (told t));
+  outcomes = λ t o a. subst (HasAt n e) (sym (only_one o c (subst (λ (l : List Contents). Among l o) b.known.outcomes a))) (f name n e h (told t));
+}
+  where
+    told : IsTrue q.told → IsTrue p.told
+    told t = subst IsTrue b.known.told t
+
+-- a step that leaves the sequence as it is
+abbrev pub LeavesSequence : (Contents → Contents → Type 0) → Type 0
+LeavesSequence step = (c o : Contents) → step c o → o.sequence ≡ c.sequence
+
+pub entries-fails : (k : ℕ) (step : Contents → Contents → Type 0) (so : Option (List Standing) → Option (List Standing) → Type 0) (p q : Place) → LeavesSequence step
+    → Fails k (in_new_state (Failed k) p.site) step so p q → KeepsEntries p q
+entries-fails k step so p q same f name n e h = record {
+  site = subst (IsSiteOf name) (sym f.site) (site-new name (Failed k) p.site h.site);
+  now = λ t. let a = f.known.now (told t) in subst (IsEntryAt n e) (sym (same a.0 q.now a.2)) (h.outcomes (told t) a.0 a.1);
+  outcomes = λ t o among. let a = f.known.outcomes (told t) o among in subst (IsEntryAt n e) (sym (same a.0 o a.2)) (h.outcomes (told t) a.0 a.1);
+}
+  where
+    told : IsTrue q.told → IsTrue p.told
+    told t = subst IsTrue f.known.told t
+
+pub same-map : (region : Name) (text : List ℕ) → LeavesSequence (MayMap region text)
+same-map region text c o (inl e) = ap (λ (x : Contents). x.sequence) e
+same-map region text c o (inr h) = ap (λ (x : Contents). x.sequence) h.2
+
+pub same-begin : (name : Name) (broken : List ℕ) → LeavesSequence (MayBegin name broken)
+same-begin name broken c o (inl (inl e)) = ap (λ (x : Contents). x.sequence) e
+same-begin name broken c o (inl (inr h)) = ap (λ (x : Contents). x.sequence) h.1
+same-begin name broken c o (inr e) = ap (λ (x : Contents). x.sequence) e
+
+pub entries-crash : (p q : Place) → Crashes p q → KeepsEntries p q
+entries-crash p q d name n e h = record {
+  site = subst (IsSiteOf name) (sym d.site) (site-new name Down p.site h.site);
+  now = now;
+  outcomes = λ t o a. subst (HasAt n e) (sym (only_one o q.now (subst (λ (l : List Contents). Among l o) d.outcomes a))) (now t);
+}
+  where
+    now : IsTrue q.told → IsEntryAt n e q.now.sequence
+    now t = let told = subst IsTrue d.told t in h.outcomes told q.now (d.chosen told)
+
+pub entries-unread : (k : ℕ) (p q : Place) → FailsUnchanged k (in_new_state (Failed k) p.site) p q → KeepsEntries p q
+entries-unread k p q f name n e h = record {
+  site = subst (IsSiteOf name) (sym f.site) (site-new name (Failed k) p.site h.site);
+  now = λ t. subst (HasAt n e) (sym f.now) (h.now (subst IsTrue f.known.told t));
+  outcomes = λ t o a. h.outcomes (subst IsTrue f.known.told t) o (f.known.outcomes o a);
+}
+
+-- sections
+
+-- What a section leaves has each entry that the turn has.
+pub record HasTurn (t : Turn) (p q : Place) : Type 0 where
+  pub told : q.told ≡ p.told
+  pub site : (name : Name) → IsSiteOf name p.site → IsSiteOf name q.site
+  pub now : (n : ℕ) (e : Entry) → IsTrue q.told → IsEntryAt n e t.sequence → IsEntryAt n e q.now.sequence
+  pub outcomes : (n : ℕ) (e : Entry) → IsTrue q.told → IsEntryAt n e t.sequence → (o : Contents) → Among q.outcomes o → IsEntryAt n e o.sequence
+
+pub at-front : (all seq : Sequence) (c o : Contents) (n : ℕ) (e : Entry) → ((i : ℕ) (d : Entry) → slice_get seq i ≡ Some d → slice_get all i ≡ Some d) → IsEntryAt n e seq
+    → IsFrontOf all (length seq) c o → IsEntryAt n e o.sequence
+at-front all seq c o n e more is f =
+    let within = slice_get_within seq (n - 1) e is.there in
+    subst (HasAt n e) (sym f.is) (record { number = is.number; there = get-front f.count all (n - 1) e (omega (arith, f.least)) (more (n - 1) e is.there) })
+
+pub turn-left : (stamp : Stamp) (next : List ℕ) (jobs : List (List Job)) (order picks : List ℕ) (fault : Option ℕ) (p q : Place) → IsPicked fault order picks
+    → RunsTo stamp (turn_of stamp next jobs picks p.now.sequence) (turn_of stamp next jobs (one_further order picks) p.now.sequence) fault p q
+    → HasTurn (turn_of stamp next jobs picks p.now.sequence) p q
+turn-left stamp next jobs order picks None p q picked r = record {
+  told = r.becomes.known.told;
+  site = λ name h. subst (IsSiteOf name) (sym r.becomes.site) (site-new name _ p.site h);
+  now = λ n e t is. subst (HasAt n e) (sym r.becomes.known.now) is;
+  outcomes = λ n e t is o a. subst (HasAt n e) (sym (only_one o _ (subst (λ (l : List Contents). Among l o) r.becomes.known.outcomes a))) is;
+}
+turn-left stamp next jobs order picks (Some k) p q picked r = record {
+  told = r.known.told;
+  site = λ name h. subst (IsSiteOf name) (sym r.site) (site-new name (Failed k) p.site h);
+  now = λ n e t is. let a = r.known.now (subst IsTrue r.known.told t) in at-front further.sequence own.sequence p.now q.now n e goes.entries is a.2;
+  outcomes = λ n e t is o among. let a = r.known.outcomes (subst IsTrue r.known.told t) o among in at-front further.sequence own.sequence p.now o n e goes.entries is a.2;
+}
+  where
+    own : Turn
+    own = turn_of stamp next jobs picks p.now.sequence
+
+    further : Turn
+    further = turn_of stamp next jobs (one_further order picks) p.now.sequence
+
+    one : suc (length picks) ≡ length picks + 1
+    one = omega arith
+
+    goes : GoesOn own further
+    goes = subst (λ (l : List ℕ). GoesOn (turn_of stamp next jobs l p.now.sequence) further) (sym picked.1)
+        (subst (λ (n : ℕ). GoesOn (turn_of stamp next jobs (take (length picks) order) p.now.sequence) (turn_of stamp next jobs (take n order) p.now.sequence)) one
+        (goes-further stamp (length picks) order (begun next jobs p.now.sequence)))
+
+pub ran-left : (name : Name) (jobs : List (List Job)) (order : List ℕ) (s : Section) (p q : Place) → (r : rows.Runs name jobs order s p q) → HasTurn (turn_of r.stamp r.serials jobs s.picks p.now.sequence) p q
+ran-left name jobs order s p q r = turn-left r.stamp r.serials jobs order s.picks s.fault p q r.picks r.ran
+
+pub entries-ran : (own : Name) (jobs : List (List Job)) (order : List ℕ) (s : Section) (p q : Place) → rows.Runs own jobs order s p q → KeepsEntries p q
+entries-ran own jobs order s p q r name n e h = record {
+  site = left.site name h.site;
+  now = λ t. left.now n e t (there t);
+  outcomes = λ t. left.outcomes n e t (there t);
+}
+  where
+    left : HasTurn (turn_of r.stamp r.serials jobs s.picks p.now.sequence) p q
+    left = ran-left own jobs order s p q r
+
+    there : IsTrue q.told → IsEntryAt n e (turn_of r.stamp r.serials jobs s.picks p.now.sequence).sequence
+    there t =
+        let is = h.now (subst IsTrue left.told t) in
+        record { number = is.number; there = (goes-serial r.stamp s.picks (begun r.serials jobs p.now.sequence)).entries (n - 1) e is.there }
+
+-- a place without a site has no entry to lose
+
+pub no_site : (name : Name) (o : Option Site) → is_free o ≡ true → IsSiteOf name o → ⊥
+no_site name None free h = h
+no_site name (Some site) free h = false≢true free
+
+pub free-keeps : (p : Place) → is_free p.site ≡ true → (q : Place) → KeepsEntries p q
+free-keeps p free q name n e h = absurd (no_site name p.site free h.site)
