@@ -15,6 +15,8 @@ use Rattle.update_process.specs.Copies.{Copy, history_of}
 use Rattle.update_process.specs.declared.update.UpdateError.{UpdateError}
 use Rattle.update_process.specs.declared.update.UpdateError.TheVariants as update
 use Rattle.update_process.specs.Updates.{IsSites}
+use Rattle.session_turns.specs.declared.machines.TurnError.{TurnError}
+use Rattle.session_turns.specs.declared.machines.Turned.{Turned}
 use Rattle.session_turns.specs.declared.machines.Turned.TheVariants as turned
 use Rattle.session_turns.specs.Following.{Followed, Awaits, Halts}
 use Rattle.session_turns.specs.Turns.{HasFollowed, HasHalted, Comes, turned_of}
@@ -117,6 +119,17 @@ module _ (begun : Copy) (r now : Listening) (received later : List ℕ) (put tak
       whole_of heard (Err (update.BadFrame at)) offset done = λ e. absurd (cc)
       whole_of heard (Err (update.Site e)) offset done = tt
 
+-- bytes were received, and nothing was put that wasn't applied
+pub received_on : (begun : Copy) (a b : Listening) (received later : List ℕ) (put taken more : List Arrival) (c : Copy) → HasFollowed begun a received put taken c
+    → (frames : List Frame) → IsHearing (unbegun (history_of begun)) b later more frames → more ≡ put → HasFollowed begun b later more taken c
+received_on begun a b received later put taken more c h frames is same = record {
+  fit = h.fit;
+  frames = frames;
+  hears = is;
+  all = h.all ∙ sym same;
+  follows = subst (λ (l : List Arrival). Followed begun l c) (sym same) h.follows;
+}
+
 -- nothing has come, and nothing was applied
 pub unmoved : (begun : Copy) (a b : Listening) (received : List ℕ) (put later taken out : List Arrival) (c : Copy) → b ≡ a → later ≡ put → out ≡ taken → HasFollowed begun a received put taken c → HasFollowed begun b received later out c
 unmoved begun a b received put later taken out c r p t h =
@@ -174,6 +187,15 @@ module _ {F : Type 0} (offset : ℕ) where
   short_of (Err hear.NoMemory) (Ok u) P h = tt
   short_of heard (Err (update.BadFrame o)) P h = λ at e. absurd (cc)
   short_of heard (Err (update.Site e)) P h = tt
+
+  short_weaker : (r : Result Turned (TurnError F)) (P : Type 0) (Q : ℕ → Type 0) → (P → Q offset) → IfOk r (λ t. (at : ℕ) → t ≡ turned.Short at → (at ≡ offset) × P) → IfOk r (λ t. (at : ℕ) → t ≡ turned.Short at → Q at)
+  short_weaker (Ok t) P Q weaker h = λ at e. let x = h at e in subst Q (sym x.0) (weaker x.1)
+  short_weaker (Err e) P Q weaker h = tt
+
+  -- the same of what stands where the next frame would begin
+  pub short_at : (heard : Result Step HearError) (applied : Result (Unit {0}) (UpdateError F)) (P : Type 0) (Q : ℕ → Type 0) → (P → Q offset) → IfOk heard (λ a. a ≡ Ended → P)
+      → IfOk (turned_of heard applied offset) (λ t. (at : ℕ) → t ≡ turned.Short at → Q at)
+  short_at heard applied P Q weaker h = short_weaker (turned_of heard applied offset) P Q weaker (short_of heard applied P h)
 
   pub cut_of : (heard : Result Step HearError) (applied : Result (Unit {0}) (UpdateError F)) (P : Type 0) → (IsErrOf heard hear.Cut → P) → IfOk (turned_of heard applied offset) (λ t. t ≡ turned.Cut → P)
   cut_of (Ok Received) (Ok u) P h = λ e. absurd (cc)

@@ -1,9 +1,11 @@
-use Rattle.std.proofs.Common.{◌≡◌, ◌⊎◌, ◌+◌, ◌≤◌, length, OnErr, sym, ap, ◌∙◌, arith}
+use Rattle.std.proofs.Common.{◌≡◌, ◌⊎◌, inl, ℕ, ◌+◌, ◌≤◌, length, OnErr, sym, ap, ◌∙◌, arith}
+use Rattle.std.specs.Prelude.{IsTrue}
 use Rattle.recv_pool.specs.Pools.{put_in, taken}
 use Rattle.ship_defs.specs.Hearing.{unbegun}
 use Rattle.update_process.specs.Copies.{history_of}
-use Rattle.session_turns.proofs.Heard.{comes_of, whole_of, unfit_of, going_of, over_of, cut_of}
+use Rattle.session_turns.proofs.Heard.{comes_of, whole_of, unfit_of, going_of, over_of, short_at, cut_of, received_on}
 use Rattle.session_turns.specs.Progress.{HasMoved, IsStill, IsEmptyPool}
+use Rattle.session_turns.specs.Turns.{IsShort}
 use Rattle.session_turns.proofs.Progress.{moved_or_still, on_of}
 use Rattle.session_turns.proofs.Cuts.{err_weaker, uncut_of, uncut_err_of}
 use Rattle.receiver_server.proofs.Told.{same_purpose}
@@ -66,3 +68,20 @@ returns-clause-uncut_err g c = λ pool.
 
 pub returns-clause-purpose : goal.returns-clause-purpose
 returns-clause-purpose g c = same_purpose c.step-heard.result c.args.receiver.now c.step-heard.new.self c.step-heard.ensures.does
+
+pub returns-clause-short : goal.returns-clause-short
+returns-clause-short g c =
+    let b = c.step-heard.new.self in
+    let closed = IsTrue (g.R.LinkRx.receiving c.step-heard.new.rx).closed in
+    rw c.outcome.ensures (short_at c.offset.result c.step-heard.result c.apply-applied.result _ (λ (at : ℕ). IsShort b at × closed) (λ ended. (record { at = c.offset.ensures; idle = ended.0; going = ended.1 }, ended.2)) c.step-heard.ensures.ended)
+
+pub returns-in-Ok-Received-clause-comes : goal.returns-in-Ok-Received-clause-comes
+returns-in-Ok-Received-clause-comes g c = λ shown begun h.
+    let heard = c.step-heard.ensures.hears shown _ h.frames h.hears in
+    let received = rw c.in-Ok-Received.is at c.in-Ok-Received.field-0-is in
+    let same = (rw c.in-Ok-Received.is at c.step-heard.ensures.received) received in
+    inl (
+      received_on begun c.args.receiver.now c.step-heard.new.self (g.R.LinkRx.receiving c.args.rx.now).received (g.R.LinkRx.receiving c.step-heard.new.rx).received (put_in c.args.into.now) (taken c.args.out.now) (put_in c.step-heard.new.pool)
+          (g.S.EntrySink.copy c.args.site.now) h heard.0 heard.2 (ap put_in same),
+      tt,
+    )
