@@ -11,13 +11,13 @@ use Rattle.global_defs.specs.Jobs.{Job, Answers}
 use Rattle.global_defs.specs.Evaluation.{Evaluated, Done, eval}
 use Rattle.global_defs.specs.Evaluation as evaluation
 use Rattle.global_defs.specs.Serial.{Turn, Replied, Reply, Seq, Read, RolledBack, first_of, next_job, without_next, picked, decided, replied, begun, MOST_ENTRIES}
-use Rattle.site_defs.specs.Contents.{Contents, Standing, bare}
+use Rattle.site_defs.specs.Contents.{Contents, Standing}
 use Rattle.site_defs.specs.Behind.{MayStand}
 use Rattle.site_defs.specs.Fronts.{with_sequence, IsFrontOf, turn_of}
 use Rattle.site_defs.specs.Stands.{IsSite}
 use Rattle.site_defs.specs.Texts.{is_past, printed}
 use Rattle.repl_section.specs.declared.reign.Reign.{Reign}
-use Rattle.repl_section.specs.Reigns.{Reigns, stamp_in, stamp_of}
+use Rattle.repl_section.specs.Reigns.{stamp_in, stamp_of}
 use Rattle.repl_section.specs.Deciding.{outcome, HasCome, Appends, MayHave, HasReached, MayHaveFront, FailsBy, FailsAt, FailsIn, LeftAfter, MayLeave, StandsLeft, LeavesPick}
 
 -- a turn with one more pick

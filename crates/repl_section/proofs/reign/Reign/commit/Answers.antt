@@ -1,4 +1,3 @@
-use Rattle.std.proofs.Common.{◌∙◌}
 use Rattle.repl_section.proofs.Standing.{stays_at}
 use Rattle.repl_section.proofs.Replied.{commit_done, commit_entered}
 use Rattle.repl_section.proofs.reign.Reign.commit.Goals as goal

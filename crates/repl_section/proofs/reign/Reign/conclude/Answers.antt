@@ -1,11 +1,9 @@
-use Rattle.std.proofs.Common.{◌≡◌, ◌≤◌, ℕ, Bool, [], refl, sym, ◌∙◌, ap, length, subst, arith}
-use Rattle.std.specs.Prelude.{None, IfSome}
+use Rattle.std.proofs.Common.{◌≡◌, [], refl, sym, ◌∙◌, ap, length, subst, arith}
+use Rattle.std.specs.Prelude.{None}
 use Rattle.global_defs.specs.Serial.{Turn, Replied, replied, begun}
 use Rattle.gvn_model.specs.declared.job.Evaluated.{Evaluated}
 use Rattle.gvn_model.specs.declared.job.Reply.{Reply}
 use Rattle.gvn_model.specs.Jobs.{evaluated_value}
-use Rattle.site_defs.specs.Contents.{Contents}
-use Rattle.site_store.specs.Site.{IsOpen}
 use Rattle.repl_section.specs.Replies.{named, reply_value}
 use Rattle.repl_section.specs.Reigns.{stamp_of}
 use Rattle.repl_section.specs.Deciding.{outcome, ComesTo, Appends}

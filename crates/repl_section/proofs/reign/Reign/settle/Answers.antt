@@ -1,4 +1,4 @@
-use Rattle.std.proofs.Common.{rules, ◌≡◌, Bool, true, length, None, refl, sym, ◌∙◌, ap, subst}
+use Rattle.std.proofs.Common.{rules, true, length}
 use Rattle.global_defs.specs.Evaluation.{eval}
 use Rattle.gvn_model.specs.Jobs.{job_value}
 use Rattle.site_defs.specs.Fronts.{with_sequence}
