@@ -10,7 +10,7 @@ use std::alloc::Global;
 pub fn minima_of(alloc: Global, values: &[u64]) -> Result<Vec<u64>, NoMemory>
     ensures { IfOk result (λ made. made.items ≡ minima values.now) }
 {
-    let mut made = Vec::new(alloc);
+    let mut made = Vec::with_capacity(alloc, values.len())?;
     let mut least = None;
     for value in values.iter().rev() {
         let next = match least {
