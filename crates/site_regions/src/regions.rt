@@ -30,6 +30,7 @@ ghost use Rattle.region_store.specs.Region.{Standing, HoldsRegion, IsHeld, AreLo
 ghost use Rattle.site_regions.specs.Joined.{joined, AreJoined, ArePartsOf, HasRoomFor, IsSameJoined, IsSameElsewhere, AreChanged, region_at};
 
 use super::counting::{count_nodes, count_sets_in, name_of};
+use super::merging::merged;
 use before_image::{Imaged, Log};
 use global_dir::Directory;
 use gvn_globals::Lookup;
@@ -140,6 +141,17 @@ impl Regions {
         ensures a_key { IfOk result (λ found. IfSome found (λ sub. is_key (child_of key.now (sub_of sub)) ≡ true)) }
     {
         self.region_of(key.name()).order(key, last)
+    }
+
+    /// All nodes with their values, in M collation: the lists of the regions, merged.
+    pub fn list(&self, alloc: Global) -> Result<Vec<Node<'_>>, NoMemory>
+        ensures { IfOk result (λ made. map node_value made.items ≡ globals.entries (joined self.now)) }
+    {
+        let mut all = Vec::new(alloc);
+        for region in &self.regions {
+            all = merged(alloc, all, region.list(alloc)?)?;
+        }
+        Ok(all)
     }
 
     /// The node and those below it with their values, in M collation.
