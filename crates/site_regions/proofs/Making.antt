@@ -1,6 +1,6 @@
 -- One region changes, and the others stay.
 use Rattle.std.proofs.Common.{◌≡◌, ◌≢◌, ⊎_elim, inl, inr, ℕ, ◌+◌, ◌<◌, ◌≤◌, ◌==◌, Bool, true, false, List, [], ◌∷◌, ◌++◌, length, fold, flat_map, slice_get, slice_set, Option, Some, refl, sym, ◌∙◌, ap, subst, arith}
-use Rattle.std.specs.Prelude.{unwrap_or, option_map, ◌⊎◌, Result, Ok, Err, OnOk, OnErr}
+use Rattle.std.specs.Prelude.{zero, suc, slice_index_or, unwrap_or, option_map, ◌⊎◌, Result, Ok, Err, OnOk, OnErr}
 use Rattle.std.specs.List.{AllByRecursion}
 use Rattle.std.specs.FinMap as globals
 use Rattle.std.proofs.lemmas.Bool.{cases_eq}
@@ -278,6 +278,22 @@ kept_made i n s t u here home made room inv = record {
 
 pub region_there : (j : Joined) (n : ℕ) (s : Standing) → slice_get j.regions n ≡ Some s → region_at j n ≡ s
 region_there j n s here = get_or_from_slice_get j.regions n s no_region here
+
+-- what changes leave of the region of a number
+pub region_changed : (old new : Joined) → AreChanged old new → (n : ℕ) → n < length old.regions → IsChanged (region_at old n) (region_at new n)
+region_changed old new changed n low =
+    let count = changed.count in
+    let s = there old.regions n low in
+    let t = there new.regions n (omega (arith, low, count)) in
+    subst (λ (x : Standing). IsChanged x (region_at new n)) (sym (region_there old n s.0 s.1)) (subst (IsChanged s.0) (sym (region_there new n t.0 t.1)) (changed.each n s.0 t.0 s.1 t.1))
+
+read_or : (rs : List Standing) (n : ℕ) → slice_index_or rs n no_region ≡ unwrap_or (slice_get rs n) no_region
+read_or [] n = refl
+read_or (r ∷ rs) zero = refl
+read_or (r ∷ rs) (suc n) = read_or rs n
+
+pub region_elsewhere : (number : ℕ) (old new : Joined) → IsSameElsewhere number old new → (r : ℕ) → r ≢ number → region_at new r ≡ region_at old r
+region_elsewhere number old new same r other = read_or new.regions r ∙ ap (λ (o : Option Standing). unwrap_or o no_region) (same.others r other) ∙ sym (read_or old.regions r)
 
 -- one region becomes another with the same globals
 module _ (i : Inside) (j : Joined) (is : regions_of i ≡ j) (n : ℕ) (s t : Standing) (here : slice_get i.regions.items n ≡ Some s) where

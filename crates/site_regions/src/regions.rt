@@ -93,7 +93,8 @@ impl Regions {
     /// The region of this number.
     pub fn region(&self, number: usize) -> &Region
         requires { number < length self.now.regions }
-        ensures { slice_get self.now.regions number ≡ Some result.now }
+        ensures there { slice_get self.now.regions number ≡ Some result.now }
+        ensures at { region_at self.now number ≡ result.now }
     {
         &self.regions[number]
     }
