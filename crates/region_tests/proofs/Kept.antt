@@ -50,13 +50,13 @@ flushed_held None n s t step after file keeps told = subst (λ (x : Option Files
 flushed_held (Some a) n s t step after file keeps told =
     weaker_told n (λ files. HoldsRegion told.0 (files s.file) t) (IsHeld t) (keeps told.0 told.1) (λ files h. (told.0, subst (λ (f : ℕ). HoldsRegion told.0 (files f) t) (sym file) h))
 
-pub opened_held : (r : Result Standing RegionError) (o n : Option Files) (blocks : ℕ) (behind : List PlacedRecord) → n ≡ o → IfOk r (λ made. made.file ≡ 3)
-    → IfOk r (λ made. IfSome o (λ files. (number : ℕ) → HoldsRegion (epoch_at number blocks behind) (files 3) made)) → IfOk r (λ made. IfSome n (IsHeld made))
-opened_held (Ok s) o n blocks behind same file holds =
+pub opened_held : (r : Result Standing RegionError) (o n : Option Files) (file blocks : ℕ) (behind : List PlacedRecord) → n ≡ o → IfOk r (λ made. made.file ≡ file)
+    → IfOk r (λ made. IfSome o (λ files. (number : ℕ) → HoldsRegion (epoch_at number blocks behind) (files file) made)) → IfOk r (λ made. IfSome n (IsHeld made))
+opened_held (Ok s) o n file blocks behind same is holds =
     subst (λ (x : Option Files). IfSome x (IsHeld s)) (sym same)
-    (weaker_told o (λ files. (number : ℕ) → HoldsRegion (epoch_at number blocks behind) (files 3) s) (IsHeld s) holds
-    (λ files h. (epoch_at 0 blocks behind, subst (λ (f : ℕ). HoldsRegion (epoch_at 0 blocks behind) (files f) s) (sym file) (h 0))))
-opened_held (Err e) o n blocks behind same file holds = tt
+    (weaker_told o (λ files. (number : ℕ) → HoldsRegion (epoch_at number blocks behind) (files file) s) (IsHeld s) holds
+    (λ files h. (epoch_at 0 blocks behind, subst (λ (f : ℕ). HoldsRegion (epoch_at 0 blocks behind) (files f) s) (sym is) (h 0))))
+opened_held (Err e) o n file blocks behind same is holds = tt
 
 -- a flush leaves the file's number, whether it succeeds or not
 pub file_still : {T : Type 0} (r : Result T RegionError) (s t : Standing) → OnOk r (t ≡ flushed s) → OnErr r ((t ≡ s) ⊎ (t ≡ flushed s)) → t.file ≡ s.file

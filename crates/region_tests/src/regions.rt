@@ -22,9 +22,9 @@ const FILE: u32 = 3;
 
 /// Images as records of one generation.
 #[derive(Drop)]
-struct Images {
+pub(crate) struct Images {
     alloc: Global,
-    records: Vec<PlacedRecord>,
+    pub(crate) records: Vec<PlacedRecord>,
 }
 
 impl Log for Images {
@@ -207,7 +207,7 @@ fn flush_again<D: Disk>(
 }
 
 /// No images.
-fn no_log(alloc: Global) -> Images {
+pub(crate) fn no_log(alloc: Global) -> Images {
     Images {
         alloc,
         records: Vec::new(alloc),

@@ -1,6 +1,6 @@
 -- One region changes, and the others stay.
-use Rattle.std.proofs.Common.{◌≡◌, ◌≢◌, inl, inr, ℕ, ◌+◌, ◌<◌, ◌≤◌, ◌==◌, Bool, true, false, List, [], ◌∷◌, ◌++◌, length, fold, flat_map, slice_get, slice_set, Option, Some, refl, sym, ◌∙◌, ap, subst, arith}
-use Rattle.std.specs.Prelude.{unwrap_or, option_map}
+use Rattle.std.proofs.Common.{◌≡◌, ◌≢◌, ⊎_elim, inl, inr, ℕ, ◌+◌, ◌<◌, ◌≤◌, ◌==◌, Bool, true, false, List, [], ◌∷◌, ◌++◌, length, fold, flat_map, slice_get, slice_set, Option, Some, refl, sym, ◌∙◌, ap, subst, arith}
+use Rattle.std.specs.Prelude.{zero, suc, slice_index_or, unwrap_or, option_map, ◌⊎◌, Result, Ok, Err, OnOk, OnErr}
 use Rattle.std.specs.List.{AllByRecursion}
 use Rattle.std.specs.FinMap as globals
 use Rattle.std.proofs.lemmas.Bool.{cases_eq}
@@ -8,7 +8,7 @@ use Rattle.std.proofs.lemmas.Bool.Decides.{nat_tests}
 use Rattle.std.proofs.lemmas.Grind.{flat_map-append}
 use Rattle.std.proofs.lemmas.List.{length-set}
 use Rattle.std.proofs.lemmas.List.Sums.{fold-append}
-use Rattle.std.proofs.lemmas.Option.{slice_get-map, slice_get_within}
+use Rattle.std.proofs.lemmas.Option.{slice_get-map, slice_get_within, get_or_from_slice_get}
 use Rattle.global_defs.specs.Entry.{Entry, Globals, Sequence, Update, apply, state}
 use Rattle.journal_defs.specs.Directory.{Pattern}
 use Rattle.journal_defs.specs.Fit.{region_of_update}
@@ -17,8 +17,8 @@ use Rattle.block_laws.specs.Nodes.{updates_in, union}
 use Rattle.block_laws.proofs.Parts as parts
 use Rattle.gvt_leaf.specs.Stored.{HasRoom, sets_of, sets_in}
 use Rattle.gvt_leaf.proofs.Made.{room_rest}
-use Rattle.region_store.specs.Region.{Standing, IsSameRegion, IsChanged, stored_in}
-use Rattle.site_regions.specs.Joined.{Joined, AreJoined, HasRoomFor, IsSameJoined, AreChanged, joined, parts_in}
+use Rattle.region_store.specs.Region.{Standing, IsSameRegion, IsChanged, stored_in, flushed}
+use Rattle.site_regions.specs.Joined.{Joined, AreJoined, HasRoomFor, IsSameJoined, IsSameElsewhere, AreChanged, joined, parts_in, region_at, no_region}
 use Rattle.std.specs.Vec.{with_item}
 use Rattle.site_regions.specs.Inside.{regions_of, IsKept}
 use Rattle.site_regions.specs.declared.regions.Regions.TheInside.{Inside}
@@ -60,6 +60,18 @@ same_at j r s t here now = record {
   count = length-set j.regions r t;
   each = each_by IsSameRegion same_region j.regions r s t here now;
 }
+
+-- another region with the same globals
+pub elsewhere_at : (j : Joined) (r : ℕ) (s t : Standing) → slice_get j.regions r ≡ Some s → t.globals ≡ s.globals → IsSameElsewhere r j (with_region j r t)
+elsewhere_at j r s t here same =
+    let parts : parts_in (slice_set j.regions r t) ≡ parts_in j.regions = map-set_alike (λ (x : Standing). x.globals) j.regions r s t here same in
+    record {
+      nodes = ap (λ (gs : List Globals). union gs) parts;
+      patterns = refl;
+      parts = parts;
+      count = length-set j.regions r t;
+      others = λ q other. get-set_other j.regions r q t other;
+    }
 
 -- as many regions with the same parts are joined still
 pub joined_still : (j k : Joined) → AreJoined j → k.patterns ≡ j.patterns → parts_in k.regions ≡ parts_in j.regions → length k.regions ≡ length j.regions → AreJoined k
@@ -244,14 +256,17 @@ room_all old j n us all same below fits = record {
 abbrev pub with_item_of : Inside → ℕ → Standing → Inside
 with_item_of i n t = record { directory = i.directory; regions = with_item i.regions n t }
 
-pub kept_same : (i : Inside) (n : ℕ) (s t : Standing) → slice_get i.regions.items n ≡ Some s → IsSameRegion s t → IsKept i → IsKept (with_item_of i n t)
-kept_same i n s t here same inv =
-    let now = same_at (regions_of i) n s t here same in
+pub kept_nodes : (i : Inside) (n : ℕ) (s t : Standing) → slice_get i.regions.items n ≡ Some s → t.globals ≡ s.globals → IsKept i → IsKept (with_item_of i n t)
+kept_nodes i n s t here same inv =
+    let now = elsewhere_at (regions_of i) n s t here same in
     record {
       joined = joined_still (regions_of i) (regions_of (with_item_of i n t)) inv.joined refl now.parts now.count;
       count = now.count ∙ inv.count;
       few = let few = inv.few in let count = now.count in omega (arith, few, count);
     }
+
+pub kept_same : (i : Inside) (n : ℕ) (s t : Standing) → slice_get i.regions.items n ≡ Some s → IsSameRegion s t → IsKept i → IsKept (with_item_of i n t)
+kept_same i n s t here same inv = kept_nodes i n s t here same.stored.globals inv
 
 pub kept_made : (i : Inside) (n : ℕ) (s t : Standing) (u : Update) → slice_get i.regions.items n ≡ Some s → region_of_update i.directory.patterns u ≡ n → t.globals ≡ apply s.globals u → HasRoomFor (regions_of i) (u ∷ [])
     → IsKept i → IsKept (with_item_of i n t)
@@ -260,3 +275,42 @@ kept_made i n s t u here home made room inv = record {
   count = length-set i.regions.items n t ∙ inv.count;
   few = let few = inv.few in omega (arith, few, length-set i.regions.items n t);
 }
+
+pub region_there : (j : Joined) (n : ℕ) (s : Standing) → slice_get j.regions n ≡ Some s → region_at j n ≡ s
+region_there j n s here = get_or_from_slice_get j.regions n s no_region here
+
+-- what changes leave of the region of a number
+pub region_changed : (old new : Joined) → AreChanged old new → (n : ℕ) → n < length old.regions → IsChanged (region_at old n) (region_at new n)
+region_changed old new changed n low =
+    let count = changed.count in
+    let s = there old.regions n low in
+    let t = there new.regions n (omega (arith, low, count)) in
+    subst (λ (x : Standing). IsChanged x (region_at new n)) (sym (region_there old n s.0 s.1)) (subst (IsChanged s.0) (sym (region_there new n t.0 t.1)) (changed.each n s.0 t.0 s.1 t.1))
+
+read_or : (rs : List Standing) (n : ℕ) → slice_index_or rs n no_region ≡ unwrap_or (slice_get rs n) no_region
+read_or [] n = refl
+read_or (r ∷ rs) zero = refl
+read_or (r ∷ rs) (suc n) = read_or rs n
+
+pub region_elsewhere : (number : ℕ) (old new : Joined) → IsSameElsewhere number old new → (r : ℕ) → r ≢ number → region_at new r ≡ region_at old r
+region_elsewhere number old new same r other = read_or new.regions r ∙ ap (λ (o : Option Standing). unwrap_or o no_region) (same.others r other) ∙ sym (read_or old.regions r)
+
+-- one region becomes another with the same globals
+module _ (i : Inside) (j : Joined) (is : regions_of i ≡ j) (n : ℕ) (s t : Standing) (here : slice_get i.regions.items n ≡ Some s) where
+  pub at_old : region_at j n ≡ s
+  at_old = subst (λ (x : Joined). region_at x n ≡ s) is (region_there (regions_of i) n s here)
+
+  pub at_new : region_at (regions_of (with_item_of i n t)) n ≡ t
+  at_new = region_there (regions_of (with_item_of i n t)) n t (get-set_same i.regions.items n t (slice_get_within i.regions.items n s here))
+
+  -- what holds of the two, of the regions of that number
+  pub lifted : (P : Standing → Standing → Type 0) → P s t → P (region_at j n) (region_at (regions_of (with_item_of i n t)) n)
+  lifted P h = subst (λ (x : Standing). P x (region_at (regions_of (with_item_of i n t)) n)) (sym at_old) (subst (P s) (sym at_new) h)
+
+  pub same_elsewhere : t.globals ≡ s.globals → IsSameElsewhere n j (regions_of (with_item_of i n t))
+  same_elsewhere same = subst (λ (x : Joined). IsSameElsewhere n x (regions_of (with_item_of i n t))) is (elsewhere_at (regions_of i) n s t here same)
+
+-- a flush keeps the globals, whether it succeeds or not
+pub globals_still : {T E : Type 0} (r : Result T E) (s t : Standing) → OnOk r (t ≡ flushed s) → OnErr r ((t ≡ s) ⊎ (t ≡ flushed s)) → t.globals ≡ s.globals
+globals_still (Ok x) s t ok err = ap (λ (y : Standing). y.globals) ok
+globals_still (Err e) s t ok err = ⊎_elim (λ is. ap (λ (y : Standing). y.globals) is) (λ is. ap (λ (y : Standing). y.globals) is) err

@@ -1,5 +1,5 @@
 -- A site's globals in its regions, each node in that of its name.
-use Rattle.std.specs.Prelude.{◌≡◌, ◌<◌, ◌+◌, ◌^◌, ℕ, Bool, refl, List, length, map, Some, slice_get}
+use Rattle.std.specs.Prelude.{◌≡◌, ◌≢◌, ◌<◌, ◌+◌, ◌^◌, ℕ, Bool, refl, List, [], length, map, Some, slice_get, slice_index_or}
 use Rattle.std.specs.Coded.{Coded, code_by, coded×, coded_list, coded_bool, coded_ℕ}
 use Rattle.std.specs.List.{AllByRecursion}
 use Rattle.std.specs.FinMap as globals
@@ -58,3 +58,19 @@ pub record AreChanged (old new : Joined) : Type 0 where
   pub patterns : new.patterns ≡ old.patterns
   pub count : length new.regions ≡ length old.regions
   pub each : (r : ℕ) (s t : Standing) → slice_get old.regions r ≡ Some s → slice_get new.regions r ≡ Some t → IsChanged s t
+
+-- a region with no file and no blocks
+abbrev pub no_region : Standing
+no_region = record { file = 0; globals = globals.empty; pool = record { leaves = []; dirty = []; room = 0 }; imaged = [] }
+
+-- the region of a number
+abbrev pub region_at : Joined → ℕ → Standing
+region_at j r = slice_index_or j.regions r no_region
+
+-- all nodes stay in their regions, and but for the region of this number nothing of them is another
+pub record IsSameElsewhere (number : ℕ) (old new : Joined) : Type 0 where
+  pub nodes : joined new ≡ joined old
+  pub patterns : new.patterns ≡ old.patterns
+  pub parts : parts_in new.regions ≡ parts_in old.regions
+  pub count : length new.regions ≡ length old.regions
+  pub others : (r : ℕ) → r ≢ number → slice_get new.regions r ≡ slice_get old.regions r

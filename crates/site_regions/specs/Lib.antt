@@ -1,3 +1,4 @@
 pub mod Joined
 pub mod Counts
 pub mod Inside
+pub mod Merged

@@ -1,8 +1,10 @@
 //! A site's regions.
-ghost use Rattle.std.specs.Prelude.{◌≡◌, ◌<◌, ◌∷◌, [], ℕ, List, true, length, map, filter, fold, option_map, slice_get, Some, IfOk, IfSome, OnOk, OnErr};
+ghost use Rattle.std.specs.Prelude.{◌≡◌, ◌⊎◌, ◌<◌, ◌≤◌, ◌∷◌, ◌++◌, [], ℕ, List, true, false, length, map, filter, fold, replicate, option_map, slice_get, Some, IfOk, IfSome, OnOk, OnErr, IsErrOf};
 ghost use Rattle.std.specs.Option.{option_copied};
 ghost use Rattle.std.specs.List.{AllByRecursion};
 ghost use Rattle.std.specs.FinMap as globals;
+ghost use Rattle.disk_defs.specs.Disk.{Image, From, OnFile, AtEachMoment, Reads, ReadsAfter, IsDurable, Rose};
+ghost use Rattle.disk_defs.specs.Frames.{Only, OthersStay};
 ghost use Rattle.global_defs.specs.Key.{sub_of};
 ghost use Rattle.global_defs.specs.Valid.{is_key};
 ghost use Rattle.global_defs.specs.Entry as entry;
@@ -12,20 +14,32 @@ ghost use Rattle.global_defs.specs.Evaluation as evaluation;
 ghost use Rattle.gvn_key.specs.Terms.{update_value};
 ghost use Rattle.gvn_key.specs.Faults.{child_of};
 ghost use Rattle.gvn_globals.specs.Walks.{after};
+ghost use Rattle.journal_defs.specs.Journal as journal;
+ghost use Rattle.journal_defs.specs.Journal.{Mark};
 ghost use Rattle.journal_defs.specs.Directory.{region_of};
+ghost use Rattle.journal_defs.specs.Epochs.{Chosen, image_state, block_of};
+ghost use Rattle.journal_defs.specs.Sound.{Restores};
+ghost use Rattle.journal_defs.specs.Undo.{fresh};
 ghost use Rattle.gvt_leaf.specs.Listed.{node_value};
 ghost use Rattle.gvt_leaf.specs.Stored.{HasRoom, sets_in};
 ghost use Rattle.block_laws.specs.Nodes.{updates_in};
-ghost use Rattle.region_store.specs.Region.{Standing, stored_in};
-ghost use Rattle.site_regions.specs.Joined.{joined, AreJoined, ArePartsOf, HasRoomFor, IsSameJoined, AreChanged};
+ghost use Rattle.block_laws.specs.Several.{logged_all};
+ghost use Rattle.before_image.specs.Images.{placed_images};
+ghost use Rattle.jnl_record.specs.Values.{record_value};
+ghost use Rattle.region_store.specs.Region.{Standing, HoldsRegion, IsHeld, AreLogged, IsFlushed, IsCutShort, stored_in, flushed, with_marks, changed_images, images_below, logged_marks};
+ghost use Rattle.site_regions.specs.Joined.{joined, AreJoined, ArePartsOf, HasRoomFor, IsSameJoined, IsSameElsewhere, AreChanged, region_at};
 
 use super::counting::{count_nodes, count_sets_in, name_of};
+use super::merging::merged;
+use before_image::{Imaged, Log};
 use global_dir::Directory;
 use gvn_globals::Lookup;
 use gvn_key::terms::Update;
 use gvn_key::{Bytes, Key, NoMemory};
 use gvt_leaf::{Node, count_sets};
-use region_store::Region;
+use jnl_record::JnlRecord;
+use region_store::{Region, RegionError};
+use repl_disk::Disk;
 use std::alloc::Global;
 use std::marker::Model;
 
@@ -79,7 +93,8 @@ impl Regions {
     /// The region of this number.
     pub fn region(&self, number: usize) -> &Region
         requires { number < length self.now.regions }
-        ensures { slice_get self.now.regions number ≡ Some result.now }
+        ensures there { slice_get self.now.regions number ≡ Some result.now }
+        ensures at { region_at self.now number ≡ result.now }
     {
         &self.regions[number]
     }
@@ -127,6 +142,17 @@ impl Regions {
         ensures a_key { IfOk result (λ found. IfSome found (λ sub. is_key (child_of key.now (sub_of sub)) ≡ true)) }
     {
         self.region_of(key.name()).order(key, last)
+    }
+
+    /// All nodes with their values, in M collation: the lists of the regions, merged.
+    pub fn list(&self, alloc: Global) -> Result<Vec<Node<'_>>, NoMemory>
+        ensures { IfOk result (λ made. map node_value made.items ≡ globals.entries (joined self.now)) }
+    {
+        let mut all = Vec::new(alloc);
+        for region in &self.regions {
+            all = merged(alloc, all, region.list(alloc)?)?;
+        }
+        Ok(all)
     }
 
     /// The node and those below it with their values, in M collation.
@@ -207,6 +233,97 @@ impl Regions {
         self.reserve(updates)?;
         self.make(updates);
         Ok(())
+    }
+
+    /// Logs what the file of one region has of each of its blocks that has changed and may not be written yet, in the blocks' order. It
+    /// sets no mark, so that what was logged can be given up: [`mark_logged`](Regions::mark_logged) is for when the journal has it.
+    ///
+    /// # Errors
+    /// `Failed` only where the disk's count of faults rose, and `NoMemory`: the first few of the images may be logged then, and are to
+    /// be given up.
+    pub fn log_changed<D: Disk, L: Log>(
+        &self,
+        number: usize,
+        disk: &mut D,
+        log: &mut L,
+    ) -> Result<(), RegionError>
+        requires inside { number < length self.now.regions }
+        requires held { IfSome (D.disk disk.old).content (IsHeld (region_at self.now number)) }
+        ensures logged { OnOk result (IfSome (D.disk disk.old).content (λ files. L.images log.new ≡ L.images log.old ++ changed_images (region_at self.now number) (files (region_at self.now number).file))) }
+        ensures front { OnErr result (IfSome (D.disk disk.old).content (λ files. (n : ℕ) × (L.images log.new ≡ L.images log.old ++ images_below (region_at self.now number) (files (region_at self.now number).file) n))) }
+        ensures place { (f offset : ℕ) → IsErrOf result (RegionError.NotAFile f offset) → ⊥ }
+        ensures reads { Reads (D.disk disk.old) (D.disk disk.new) }
+        ensures later { (D.disk disk.old).faults ≤ (D.disk disk.new).faults }
+        ensures count { (fault : ℕ) → IsErrOf result (RegionError.Failed fault) → fault ≡ (D.disk disk.new).faults }
+        ensures cause { (fault : ℕ) → IsErrOf result (RegionError.Failed fault) → Rose (D.disk disk.old).faults (D.disk disk.new).faults }
+    {
+        self.region(number).log_changed(disk, log)
+    }
+
+    /// Keeps that each block of one region that has changed has an image: what [`log_changed`](Regions::log_changed) logged is in the
+    /// journal.
+    pub fn mark_logged(&mut self, number: usize)
+        requires inside { number < length self.old.regions }
+        ensures marks { region_at self.new number ≡ with_marks (region_at self.old number) (logged_marks (region_at self.old number)) }
+        ensures logged { AreLogged (region_at self.new number) }
+        // behind the images, in whichever generation, the region's blocks are those of the same epoch
+        ensures holds { (e : Chosen) (bytes : List ℕ) (g : ℕ) → HoldsRegion e bytes (region_at self.old number) → HoldsRegion (logged_all e (placed_images g (changed_images (region_at self.old number) bytes))) bytes (region_at self.new number) }
+        ensures same { IsSameElsewhere number self.old self.new }
+    {
+        self.regions[number].mark_logged();
+    }
+
+    /// Writes the blocks of one region that have changed, each of which stands past the epoch or has an image, and syncs the file. It
+    /// answers the record of an EPOCH of so many entries, which may be appended then: the file's blocks below it hold exactly the
+    /// region's globals.
+    ///
+    /// The images have to be in the journal for good before. A crash in the midst leaves of the file what goes back by them.
+    ///
+    /// # Errors
+    /// `Failed` only where the disk's count of faults rose, and `NoMemory`. The region has the same globals in the same blocks, which
+    /// are still those of the epoch and the file, and another flush may follow.
+    pub fn flush<D: Disk>(
+        &mut self,
+        number: usize,
+        disk: &mut D,
+        closing: bool,
+        entries: u64,
+    ) -> Result<JnlRecord, RegionError>
+        requires inside { number < length self.old.regions }
+        requires held { IfSome (D.disk disk.old).content (IsHeld (region_at self.old number)) }
+        requires logged { AreLogged (region_at self.old number) }
+        ensures ok { OnOk result (region_at self.new number ≡ flushed (region_at self.old number)) }
+        ensures err { OnErr result ((region_at self.new number ≡ region_at self.old number) ⊎ (region_at self.new number ≡ flushed (region_at self.old number))) }
+        ensures logged { AreLogged (region_at self.new number) }
+        ensures holds { (e : Chosen) → IfSome (D.disk disk.old).content (λ files. HoldsRegion e (files (region_at self.old number).file) (region_at self.old number)) → IfSome (D.disk disk.new).content (λ files. HoldsRegion e (files (region_at self.old number).file) (region_at self.new number)) }
+        ensures same { IsSameElsewhere number self.old self.new }
+        ensures epoch { IfOk result (λ made. record_value made ≡ journal.Epoch (record { closing = closing; number = entries; blocks = length (region_at self.old number).pool.leaves })) }
+        ensures restores { OnOk result (IfSome (D.disk disk.new).content (λ files. (m : Mark) → m.blocks ≡ length (region_at self.old number).pool.leaves → Restores (image_state (fresh m) (block_of (files (region_at self.old number).file))) (region_at self.old number).globals)) }
+        ensures durable { OnOk result (IfSome (D.disk disk.new).content (λ files. IsDurable (D.disk disk.new) (region_at self.old number).file (files (region_at self.old number).file))) }
+        // as the file reads, and in each image at each moment of the call, at most blocks have changed that may be written
+        ensures content { ReadsAfter (OnFile (region_at self.old number).file (IsCutShort (region_at self.old number))) (D.disk disk.old).content (D.disk disk.new).content }
+        ensures any_moment { AtEachMoment (D.disk disk.old) (D.disk disk.new) (From (Image (D.disk disk.old)) (OnFile (region_at self.old number).file (IsCutShort (region_at self.old number)))) }
+        ensures frame { OthersStay (Only (region_at self.old number).file) (D.disk disk.old) (D.disk disk.new) }
+        ensures place { (f offset : ℕ) → IsErrOf result (RegionError.NotAFile f offset) → ⊥ }
+        ensures later { (D.disk disk.old).faults ≤ (D.disk disk.new).faults }
+        ensures count { (fault : ℕ) → IsErrOf result (RegionError.Failed fault) → fault ≡ (D.disk disk.new).faults }
+        ensures cause { (fault : ℕ) → IsErrOf result (RegionError.Failed fault) → Rose (D.disk disk.old).faults (D.disk disk.new).faults }
+    {
+        self.regions[number].flush(disk, closing, entries)
+    }
+
+    /// Counts the images of one region anew: the EPOCH of a flush is in the journal for good. No block of the region has changed since.
+    pub fn begin_epoch(&mut self, number: usize, images: Imaged)
+        requires inside { number < length self.old.regions }
+        requires flushed { IsFlushed (region_at self.old number) }
+        requires none { images ≡ replicate (length (region_at self.old number).pool.leaves) false }
+        ensures begun { region_at self.new number ≡ with_marks (region_at self.old number) (replicate (length (region_at self.old number).pool.leaves) false) }
+        ensures logged { AreLogged (region_at self.new number) }
+        // the region's blocks are those of that EPOCH
+        ensures holds { (e : Chosen) (bytes : List ℕ) (m : Mark) → m.blocks ≡ length (region_at self.old number).pool.leaves → HoldsRegion e bytes (region_at self.old number) → HoldsRegion (fresh m) bytes (region_at self.new number) }
+        ensures same { IsSameElsewhere number self.old self.new }
+    {
+        self.regions[number].begin_epoch(images);
     }
 }
 
