@@ -47,8 +47,8 @@ returns-in_err-write_undecided-in-Err-Failed-clause-cut_off g c =
     (λ told d reigns. let b = breaks told d reigns in let a = all_fail_at w (stamp_of r) told d jobs order r.serials c.in-Err-Failed.undecided (GaveLines c.args.text.now c.run.new.sink) b.0 b.1 in (b.0, a.hardened, a.begun, a.front))
     (λ told d reigns sure files i. let x = fails told d reigns in left_after (stamp_of r) d (at_all jobs) order r.serials files (x.decided, left_same (stamp_of r) d jobs order r.serials x.decided files (x.left sure files i))))
 
-pub returns-in_ok-write_numbered-in-Ok-clause-done : goal.returns-in_ok-write_numbered-in-Ok-clause-done
-returns-in_ok-write_numbered-in-Ok-clause-done g c =
+pub returns-in-Ok-clause-done : goal.returns-in-Ok-clause-done
+returns-in-Ok-clause-done g c =
     let v = g.D.Disk.disk c.args.disk.now in
     let w = g.D.Disk.disk c.run.new.disk in
     let e = c.in-Ok.ensures in
@@ -69,8 +69,8 @@ returns-in_err-write_numbered-in-Ok-clause-cut_off g c =
     (λ told d reigns sure. decided_behind w c.nothing_is_left.ensures told d (at_all c.args.jobs) c.args.order.now c.in-Primary.reign c.run.new.self c.args.text.now c.run.new.sink
     (all_decided w told d c.args.jobs c.args.order.now c.in-Primary.reign c.run.new.self (GaveLines c.args.text.now c.run.new.sink) (e.done told d reigns)) sure))
 
-pub returns-in_ok-write_undecided-in-Err-Failed-clause-done : goal.returns-in_ok-write_undecided-in-Err-Failed-clause-done
-returns-in_ok-write_undecided-in-Err-Failed-clause-done g c =
+pub returns-in-Err-Failed-clause-done : goal.returns-in-Err-Failed-clause-done
+returns-in-Err-Failed-clause-done g c =
     let v = g.D.Disk.disk c.args.disk.now in
     let w = g.D.Disk.disk c.run.new.disk in
     let e = c.in-Err-Failed.ensures in
@@ -84,8 +84,8 @@ returns-in_ok-write_undecided-in-Err-Failed-clause-done g c =
     (c.in_ok-write_undecided-in-Err-Failed.ensures ∙ ap (λ (u : ℕ). c.run.new.sink ++ undecided_line c.as_slice-in-Err-Failed.result.now c.faults-fault.result u) c.in-Err-Failed.undecided-is
     ∙ ap (λ (x : List ℕ). c.run.new.sink ++ undecided_line x c.faults-fault.result c.in-Err-Failed.undecided) c.as_slice-in-Err-Failed.ensures)
 
-pub returns-in-Err-NoMemory-clause-cut_off : goal.returns-in-Err-NoMemory-clause-cut_off
-returns-in-Err-NoMemory-clause-cut_off g c =
+pub returns-clause-cut_off : goal.returns-clause-cut_off
+returns-clause-cut_off g c =
     let v = g.D.Disk.disk c.args.disk.now in
     let w = g.D.Disk.disk c.run.new.disk in
     let e = c.in-Err-NoMemory.ensures in
