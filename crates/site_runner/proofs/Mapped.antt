@@ -30,7 +30,7 @@ use Rattle.site_runner.specs.Executes.{Comes}
 use Rattle.site_runner.specs.Steps.{IsAt, ExecutesAt, IsCutAt}
 use Rattle.site_runner.specs.Mapping.{IsSeenAt, IsUnmappedIn, MapsAt, IsCutSeen}
 use Rattle.site_runner.proofs.Ats.{comes_done, comes_refused, comes_may_refuse, comes_fault, comes_damaged, refused_late, none_refused, state_at, not_true, is_true_or_false, some_both, some_of, some_and, told_is, reads_stand, reads_site, at_moment, Leftovers, ReadPlace, place_of_images, only}
-use Rattle.site_runner.proofs.Ats.{left_new, so_stands, ImagesStand, images_still, as_told, shown_same, shown_unwritten, by_shown, if_some, any_shown}
+use Rattle.site_runner.proofs.Ats.{left_new, so_stands, ImagesStand, images_still, as_told, shown_same, by_shown, if_some, any_shown}
 use Rattle.site_runner.proofs.Seen.{counted, kept_counted}
 use Rattle.site_runner.proofs.Amongs.{among_first, among_second, among_either}
 use Rattle.site_runner.proofs.Started.{why_at}
