@@ -34,7 +34,7 @@ means_there none w o i p f e g = ap (λ (x : Option ℕ). there none w x f) e �
 pub means_none : (none : Meaning) (w : World) (o : Option ℕ) (f : ℕ → Place → Meaning) → o ≡ None → there none w o f ≡ none
 means_none none w o f e = ap (λ (x : Option ℕ). there none w x f) e
 
-on_means : (x : Target) (w : World) (i : ℕ) (p : Place) → IsOn x → place_of w (target_name x) ≡ Some i → slice_get w.places i ≡ Some p → meant w x ≡ Acts i (target_row x p) apart
+on_means : (x : Target) (w : World) (i : ℕ) (p : Place) → IsOn x → place_of w (target_name x) ≡ Some i → slice_get w.places i ≡ Some p → meant w x ≡ Acts i (row_at (target_row x) p) apart
 on_means (On name row) w i p n e g = means_there (refusing name NoSite) w (place_of w name) i p (λ i p. Acts i (row_at row p) apart) e g
 on_means (Open f) w i p n e g = absurd n
 

@@ -16,7 +16,7 @@ use Rattle.gvn_model.specs.declared.reign.Reign as code_reign
 use Rattle.gvn_model.specs.Reigns.{reign_value}
 use Rattle.gvn_model.specs.Numbered.{numbered}
 use Rattle.world_defs.specs.World as world
-use Rattle.command_defs.specs.Commands.{Name, Command}
+use Rattle.command_defs.specs.Commands.{Name}
 use Rattle.world_defs.specs.World.{Place, name_on}
 use Rattle.site_defs.specs.Contents.{Leftover, NO_LEFTOVER, same_name, bare}
 use Rattle.world_defs.specs.Answers.{Refusal, line}
@@ -40,8 +40,7 @@ use Rattle.site_runner.specs.declared.slot.Slot.{Slot}
 use Rattle.site_runner.specs.Sites.{site_value, state_value, is_slot_named, IsOf, IsOpen, HoldsState, HoldsSite}
 use Rattle.site_runner.specs.Executes.{Comes, ExecutesHere, IsCutHere}
 use Rattle.site_runner.specs.Tied.{IsPlace}
-use Rattle.site_runner.specs.Named.{row_in}
-use Rattle.site_runner.proofs.Results.{on_errs}
+use Rattle.site_runner.proofs.Results.{on_errs, err_holds}
 use Rattle.site_runner.specs.Steps.{state_text, IsAt, ExecutesAt, IsCutAt}
 use Rattle.site_runner.proofs.Cuts.{split_and}
 use Rattle.site_runner.proofs.Ats.{stand_same, left_old, comes_done, comes_so, on_done, state_at, kept_same, only, ImagesStand}
@@ -77,24 +76,24 @@ cut_here view row old new site e x p h =
     subst (λ (n : Name). (q : Place) × LeftByRow (row n p) p q × Matches (view new.disk) q) (sym (ap name_on at_p.site)) (x p at_p)
 
 -- nothing was done to the disk
-pub cut_kept : {D : Type 0} (view : D → View) (row : Place → Row) (old new : Slot D) → new.disk ≡ old.disk → IsCutHere view row old new
-cut_kept {D} view row old new e p h = (p, record { told = refl; outcomes = λ t o a. inl a; standings = λ t. left_old (row p).left_so p.standings p.standings (stand_same p.standings); faults = omega arith; simulated = refl }, subst (λ (d : D). Matches (view d) p) (sym e) h.disk)
+pub cut_same : (row : Place → Row) (v : View) (s : Site) → IsCutAt row v s v
+cut_same row v s p h = (p, record { told = refl; outcomes = λ t o a. inl a; standings = λ t. left_old (row p).left_so p.standings p.standings (stand_same p.standings); faults = omega arith; simulated = refl }, h.disk)
 
--- An arm of the commands that takes the site.
+pub cut_nowhere : {E : Type 0} (result : Result Bool E) (row : Place → Row) (v : View) (s : Site) → OnErr result (IsCutAt row v s v)
+cut_nowhere result row v s = err_holds result _ (cut_same row v s)
 
-module _ {D E : Type 0} (view : D → View) (o v : Command) (row : Name → Place → Row) (old : Slot D) (disk : D) (site new : Site) (result : Result Bool E) (is : o ≡ v) (acts : row_in v ≡ row_at row) (e : old.site ≡ Some site) where
-  pub arm_done : (before now : List ℕ) → IfOk result (λ done. ExecutesAt (row site.name) (view old.disk) site (view disk) new before now done)
-      → IfOk result (λ done. ExecutesHere view (row_in o) old (record { disk = disk; site = Some new }) before now done)
-  arm_done before now h = on_done result _ _ h (λ done x.
-      let left : Slot D = record { disk = disk; site = Some new } in
-      subst (λ (c : Command). ExecutesHere view (row_in c) old left before now done) (sym is)
-      (subst (λ (r : Place → Row). ExecutesHere view r old left before now done) (sym acts) (executes_here view row old disk site new before now done e x)))
+pub cut_unless : {D E : Type 0} (view : D → View) (result : Result Bool E) (row : Place → Row) (old new : D) (s : Site) → OnErr result (new ≡ old) → OnErr result (IsCutAt row (view old) s (view new))
+cut_unless {D} view result row old new s h = on_errs result _ _ h (λ e. subst (λ (d : D). IsCutAt row (view old) s (view d)) (sym e) (cut_same row (view old) s))
 
-  pub arm_cut : OnErr result (IsCutAt (row site.name) (view old.disk) site (view disk)) → OnErr result (IsCutHere view (row_in o) old (record { disk = disk; site = Some new }))
-  arm_cut h = on_errs result _ _ h (λ x.
-      let left : Slot D = record { disk = disk; site = Some new } in
-      subst (λ (c : Command). IsCutHere view (row_in c) old left) (sym is)
-      (subst (λ (r : Place → Row). IsCutHere view r old left) (sym acts) (cut_here view row old left site e x)))
+-- A command at a site in a slot.
+
+module _ {D E : Type 0} (view : D → View) (row : Name → Place → Row) (old : Slot D) (disk : D) (site new : Site) (result : Result Bool E) (e : old.site ≡ Some site) where
+  pub slot_done : (before now : List ℕ) → IfOk result (λ done. ExecutesAt (row site.name) (view old.disk) site (view disk) new before now done)
+      → IfOk result (λ done. ExecutesHere view (row_at row) old (record { disk = disk; site = Some new }) before now done)
+  slot_done before now h = on_done result _ _ h (λ done x. executes_here view row old disk site new before now done e x)
+
+  pub slot_cut : OnErr result (IsCutAt (row site.name) (view old.disk) site (view disk)) → OnErr result (IsCutHere view (row_at row) old (record { disk = disk; site = Some new }))
+  slot_cut h = on_errs result _ _ h (λ x. cut_here view row old (record { disk = disk; site = Some new }) site e x)
 
 -- the entries in memory are as many as the sequence has
 pub length_tagged : (xs : List code.Entry) (seq : Sequence) (n : ℕ) → map numbered xs ≡ enumerate_from n seq → length xs ≡ length seq

@@ -14,9 +14,9 @@ abbrev pub target_name : Target → Name
 target_name (On name row) = name
 target_name (Open f) = []
 
-abbrev pub target_row : Target → Place → Row
-target_row (On name row) = row_at row
-target_row (Open f) = quiet []
+abbrev pub target_row : Target → Name → Place → Row
+target_row (On name row) = row
+target_row (Open f) = λ name. quiet []
 
 -- it names a site
 abbrev pub IsNamed : Command → Type 0
@@ -26,6 +26,10 @@ IsNamed c = IsOn (target c)
 abbrev pub name_in : Command → Name
 name_in c = target_name (target c)
 
--- and this is its row there
+-- and this is its row, for the name and the place of the site
+abbrev pub row_on : Command → Name → Place → Row
+row_on c = target_row (target c)
+
+-- there
 abbrev pub row_in : Command → Place → Row
-row_in c = target_row (target c)
+row_in c = row_at (row_on c)

@@ -3,8 +3,9 @@ ghost use Rattle.std.specs.Prelude.{◌≡◌, length, IfOk, OnOk, OnErr, Some, 
 ghost use Rattle.command_defs.specs.Commands.{IsFormed, IsWhole};
 ghost use Rattle.repl_script.specs.Commands.{command_value};
 ghost use Rattle.site_runner.specs.Executes.{ExecutesHere, IsCutHere, Executes, IsCutOff};
-ghost use Rattle.site_runner.specs.Named.{IsNamed, name_in, row_in};
-ghost use Rattle.site_runner.specs.Sites.{is_slot_named, IsReadyOn, AreReady};
+ghost use Rattle.site_runner.specs.Named.{IsNamed, name_in, row_on, row_in};
+ghost use Rattle.site_runner.specs.Steps.{ExecutesAt, IsCutAt};
+ghost use Rattle.site_runner.specs.Sites.{is_slot_named, IsReadyState, IsReadyOn, AreReady};
 
 use super::answering::refuse;
 use super::attach::attach;
@@ -17,7 +18,7 @@ use super::mapping::map;
 use super::printing::print;
 use super::section::run_section;
 use super::showing::show;
-use super::slot::Slot;
+use super::slot::{Site, Slot};
 use super::start::start;
 use super::stop::stop;
 use super::zwriting::zwrite;
@@ -47,6 +48,44 @@ fn name_of(command: &Command) -> &Bytes
     }
 }
 
+/// Executes a command on the site that it names. Answers whether it was done.
+#[tactic(auto, using(crate::proofs::Stopped::cut_nowhere, crate::proofs::Stopped::cut_unless))]
+fn execute_on<D: Disk>(
+    alloc: Global,
+    disk: &mut D,
+    site: &mut Site,
+    command: Command,
+    text: &mut Bytes,
+) -> Result<bool, NoMemory>
+    requires formed { IsFormed (command_value command) }
+    requires whole { IsWhole (command_value command) }
+    requires command { IsNamed (command_value command) }
+    requires ready { IsReadyState (D.disk disk.old) site.old.state }
+    ensures ready { OnOk result (IsReadyState (D.disk disk.new) site.new.state) }
+    ensures done { IfOk result (λ done. ExecutesAt (row_on (command_value command) site.old.name) (D.disk disk.old) site.old (D.disk disk.new) site.new text.old text.new done) }
+    ensures cut_off { OnErr result (IsCutAt (row_on (command_value command) site.old.name) (D.disk disk.old) site.old (D.disk disk.new)) }
+{
+    match command {
+        Command::Create { .. } | Command::Attach => unreachable!(),
+        Command::Map {
+            region,
+            pattern,
+            ..
+        } => map(alloc, disk, site, region, pattern.as_slice(), text),
+        Command::StartPrimary { .. } => start(alloc, disk, site, text),
+        Command::Run { jobs, order, .. } => {
+            run_section(alloc, disk, site, jobs, order.as_slice(), text)
+        }
+        Command::Stop { .. } => stop(disk, site, text),
+        Command::Fuse { calls, .. } => fuse(disk, site, calls, text),
+        Command::Crash { pick, .. } => crash(disk, site, pick, text),
+        Command::Extract { number, .. } => extract(disk, site, number, text),
+        Command::Zwrite { top, .. } => zwrite(disk, site, top.as_ref(), text),
+        Command::Show { .. } => show(disk, site, text),
+        Command::Print { generation, .. } => print(disk, site, generation, text),
+    }
+}
+
 /// Executes a command on the site that it names, which stands there. Answers whether it was done.
 fn execute_at<D: Disk>(
     alloc: Global,
@@ -66,32 +105,7 @@ fn execute_at<D: Disk>(
     let Some(site) = &mut slot.site else {
         unreachable!();
     };
-    match command {
-        Command::Create { .. } | Command::Attach => unreachable!(),
-        Command::Map {
-            region,
-            pattern,
-            ..
-        } => map(
-            alloc,
-            &mut slot.disk,
-            site,
-            region,
-            pattern.as_slice(),
-            text,
-        ),
-        Command::StartPrimary { .. } => start(alloc, &mut slot.disk, site, text),
-        Command::Run { jobs, order, .. } => {
-            run_section(alloc, &mut slot.disk, site, jobs, order.as_slice(), text)
-        }
-        Command::Stop { .. } => stop(&slot.disk, site, text),
-        Command::Fuse { calls, .. } => fuse(&mut slot.disk, site, calls, text),
-        Command::Crash { pick, .. } => crash(&mut slot.disk, site, pick, text),
-        Command::Extract { number, .. } => extract(&slot.disk, site, number, text),
-        Command::Zwrite { top, .. } => zwrite(&slot.disk, site, top.as_ref(), text),
-        Command::Show { .. } => show(&slot.disk, site, text),
-        Command::Print { generation, .. } => print(&mut slot.disk, site, generation, text),
-    }
+    execute_on(alloc, &mut slot.disk, site, command, text)
 }
 
 /// Executes a command on the site that it names. Answers whether it was done.
