@@ -182,12 +182,22 @@ impl<'a, G: Lookup> Overlay<'a, G> {
         ensures { OnOk result (self.new ≡ globals.retain_keys self.old (λ k. not (is_under top.now k))) }
     {
         let keys = subtree(self, top)?;
-        for key in &keys {
-            self.remove(key)?;
+        let Some(last) = keys.last() else {
+            return Ok(());
+        };
+        for key in keys.iter().rev() {
+            self.clear(key, last)?;
         }
-        for key in &keys {
-            self.skip(key, &keys[keys.len() - 1])?;
-        }
+        Ok(())
+    }
+
+    /// Takes the node's own value away, and notes that all nodes from it to another one are gone. Those behind it have to be.
+    fn clear(&mut self, key: &Key, last: &Key) -> Result<(), NoMemory> {
+        let known = u32::from(ones(self.get(key)));
+        let end = last.code().copy()?;
+        self.gone.set(key.copy()?, end)?;
+        self.sets.remove(key);
+        self.nodes -= known;
         Ok(())
     }
 
@@ -249,7 +259,26 @@ impl<'a, G: Lookup> Overlay<'a, G> {
     pub fn defined(&self, key: &Key) -> Result<u8, NoMemory>
         ensures { IfOk result (λ defined. defined ≡ evaluation.defined self.now key.now) }
     {
-        Ok(ones(self.get(key)) + tens(self.after(key)?, key))
+        Ok(ones(self.get(key)) + self.tens(key)?)
+    }
+
+    /// 10 where a node below this one has a value, else 0. Of the nodes below the job's changes it looks at none past these.
+    fn tens(&self, top: &Key) -> Result<u8, NoMemory> {
+        if tens(self.sets.after(top)?, top) == 10 {
+            return Ok(10);
+        }
+        let mut found = self.on.after(top)?;
+        while let Some(node) = found {
+            if !node.is_under(top) {
+                return Ok(0);
+            }
+            let Some(end) = self.gone.get(&node) else {
+                return Ok(10);
+            };
+            let last = last_gone(node, end)?;
+            found = self.on.after(&last)?;
+        }
+        Ok(0)
     }
 }
 
