@@ -10,7 +10,7 @@ abbrev pub turn_of : Stamp → List ℕ → List (List Job) → List ℕ → Seq
 turn_of stamp serials jobs picks seq = serial stamp picks (begun serials jobs seq)
 
 abbrev pub with_sequence : Contents → Sequence → Contents
-with_sequence c seq = record { instance = c.instance; starts = c.starts; texts = c.texts; sequence = seq }
+with_sequence c seq = record c { sequence = seq }
 
 -- a front of this sequence with at least so many entries
 pub record IsFrontOf (all : Sequence) (low : ℕ) (c o : Contents) : Type 0 where

@@ -16,7 +16,7 @@ IsBehind c left = (parts : List BrokenPart) × (left.broken ≡ broken_text (sit
 
 -- MAP: the pattern that is written so is one more of the instance file
 abbrev pub with_pattern : ℕ → List ℕ → Contents → Contents
-with_pattern region text c = record { instance = c.instance ++ pattern_record region text ∷ []; starts = c.starts; texts = c.texts; sequence = c.sequence }
+with_pattern region text c = record c { instance = c.instance ++ pattern_record region text ∷ [] }
 
 -- what mapping may leave of these contents: the same, or with the pattern
 abbrev pub MayMap : Name → List ℕ → Contents → Contents → Type 0
@@ -24,7 +24,7 @@ MayMap region text c o = (o ≡ c) ⊎ ((number : ℕ) × (region_number region 
 
 -- with a CUT of its length, and the text of what is broken
 abbrev pub cut_there : List ℕ → Contents → Contents
-cut_there broken c = record { instance = c.instance ++ records.Cut (length c.sequence) (generation c.instance + 1) ∷ []; starts = c.starts; texts = c.texts ++ broken ∷ []; sequence = c.sequence }
+cut_there broken c = record c { instance = c.instance ++ records.Cut (length c.sequence) (generation c.instance + 1) ∷ []; texts = c.texts ++ broken ∷ [] }
 
 -- the generation of the last of these, or the one before them
 abbrev pub last_generation : ℕ → List Start → ℕ
@@ -41,7 +41,7 @@ starts_in k c r = if nat_lt r k && nat_lt r (length (regions c.instance)) then s
 
 -- and its newest generation has begun in the first k regions
 abbrev pub with_starts : ℕ → Contents → Contents
-with_starts k c = record { instance = c.instance; starts = λ r. c.starts r ++ starts_in k c r; texts = c.texts; sequence = c.sequence }
+with_starts k c = record c { starts = λ r. c.starts r ++ starts_in k c r }
 
 -- in all of them
 abbrev pub opened : List ℕ → Contents → Contents
@@ -55,7 +55,7 @@ abbrev pub next_reign : Name → Contents → Reign
 next_reign name c = record { stamp = next_stamp name c; start = length c.sequence + 1 }
 
 abbrev pub with_reign : Name → Contents → Contents
-with_reign name c = record { instance = c.instance ++ records.Reigned (next_reign name c) ∷ []; starts = c.starts; texts = c.texts; sequence = c.sequence }
+with_reign name c = record c { instance = c.instance ++ records.Reigned (next_reign name c) ∷ [] }
 
 -- what opening may leave of these contents: the same, or with a CUT and the next generation begun in the first k regions
 abbrev pub MayOpen : List ℕ → Contents → Contents → Type 0
