@@ -10,4 +10,5 @@ pub mod OutsideGates
 pub mod OutsideInstance
 pub mod OutsideJournal
 pub mod Outside
+pub mod OutsideBlocks
 pub mod Samples
