@@ -4,8 +4,10 @@ use Rattle.std.proofs.lemmas.Bool.{cases_lt}
 use Rattle.std.proofs.lemmas.List.{map-append}
 use Rattle.std.specs.List.{AllByRecursion}
 use Rattle.global_defs.specs.Entry.{Globals}
+use Rattle.journal_defs.specs.Epochs.{Chosen, image_state, block_of}
 use Rattle.journal_defs.specs.Leaves.{Leaf, Cell, IsLeaf, IsBlock, StandsAt, IsChain, HaveCells, cells_of}
 use Rattle.journal_defs.specs.Sound.{Restores}
+use Rattle.site_defs.specs.OutsideBlocks.{Lead, GoOn, BreaksAt, IsOutsideAt, Short, Broken}
 use Rattle.journal_laws.proofs.BlockReading as reading
 use Rattle.block_laws.specs.Nodes.{HaveKeys}
 use Rattle.block_laws.proofs.Chains.{cells_rise}
@@ -18,16 +20,40 @@ use Rattle.gvt_leaf.specs.Order.{Rise, AreRising}
 use Rattle.gvt_leaf.specs.Walked as walked
 use Rattle.gvt_leaf.specs.Walked.{leaves_of}
 use Rattle.gvt_leaf.proofs.Bytes.{rise_first}
+use Rattle.gvt_leaf.proofs.Backed.{keys_rise}
 use Rattle.gvt_leaf.proofs.Walks.{all_rise}
 use Rattle.region_store.specs.Laid.{IsBlank, IsLaid, AreLaid}
-use Rattle.region_store.specs.Outside.{Lead, GoOn, BreaksAt, IsOutsideAt, Short, Broken}
 use Rattle.region_store.proofs.Stood.{not_both, same_bytes}
 use Rattle.region_store.proofs.Lays.{laid_all, past_laid}
-use Rattle.journal_defs.specs.Epochs.{Chosen, image_state, block_of}
 
 cells_map : (p : Pool) (xs : List ℕ) → map (λ (l : Leaf). l.cells) (map (leaf_at p) xs) ≡ leaves_of p xs
 cells_map p [] = refl
 cells_map p (x ∷ xs) = ap (λ (ls : List (List Cell)). (leaf_at p x).cells ∷ ls) (cells_map p xs)
+
+flat_cells : (ls : List Leaf) → flat_map (λ (l : Leaf). l.cells) ls ≡ all_cells (map (λ (l : Leaf). l.cells) ls)
+flat_cells [] = refl
+flat_cells (l ∷ ls) = ap (λ (x : List Cell). l.cells ++ x) (flat_cells ls)
+
+-- leaves of which each has a cell, by their cells
+cells_filled : (ls : List Leaf) → AllByRecursion (λ (l : Leaf). l.cells ≢ []) ls → AllByRecursion (λ l. l ≢ []) (map (λ (l : Leaf). l.cells) ls)
+cells_filled [] h = tt
+cells_filled (l ∷ ls) h = (h.0, cells_filled ls h.1)
+
+leaves_filled : (ls : List Leaf) → AllByRecursion (λ l. l ≢ []) (map (λ (l : Leaf). l.cells) ls) → AllByRecursion (λ (l : Leaf). l.cells ≢ []) ls
+leaves_filled [] h = tt
+leaves_filled (l ∷ ls) h = (h.0, leaves_filled ls h.1)
+
+-- leaves that go on are those whose cells rise
+rising : (ls : List Leaf) → GoOn ls → AreRising (map (λ (l : Leaf). l.cells) ls)
+rising [] go = record { rise = tt; filled = tt }
+rising (l ∷ ls) go = record {
+  rise = subst Rise (flat_cells (l ∷ ls)) (all_rise (flat_map (λ (m : Leaf). m.cells) (l ∷ ls)) go.0);
+  filled = cells_filled ls go.1;
+}
+
+going_on : (ls : List Leaf) → AreRising (map (λ (l : Leaf). l.cells) ls) → GoOn ls
+going_on [] r = (tt, tt)
+going_on (l ∷ ls) r = (keys_rise (flat_map (λ (m : Leaf). m.cells) (l ∷ ls)) (subst Rise (sym (flat_cells (l ∷ ls))) r.rise), leaves_filled ls r.filled)
 
 module _ (blocks : ℕ → Option (List ℕ)) (p : Pool) (laid : (b : ℕ) → b < length p.leaves → IsLaid blocks p b) (past : (b : ℕ) → length p.leaves ≤ b → blocks b ≡ None) where
   stands_here : (c : ℕ) → c < length p.leaves → c ≡ 0 ⊎ (leaf_at p c).cells ≢ [] → StandsAt blocks c (leaf_at p c)
@@ -67,7 +93,7 @@ module _ (blocks : ℕ → Option (List ℕ)) (p : Pool) (laid : (b : ℕ) → b
   breaks_so b k = record {
     before = map (leaf_at p) k.before;
     led = subst (λ (n : ℕ). Lead blocks n (map (leaf_at p) k.before) b) k.first (led_so b k.before k.led k.others (all_stand b k.before k.first k.inside k.risen.filled));
-    risen = subst AreRising (sym (cells_map p k.before)) k.risen;
+    risen = going_on (map (leaf_at p) k.before) (subst AreRising (sym (cells_map p k.before)) k.risen);
     broken = λ l s go. elim (cases_lt b (length p.leaves)) [
       | inl low ↦ here l s go low (laid b low).stands k.broken
       | inr far ↦ not_both (blocks b) s.0 (past b far) s.1
@@ -82,7 +108,7 @@ module _ (blocks : ℕ → Option (List ℕ)) (p : Pool) (laid : (b : ℕ) → b
           let same : l ≡ leaf_at p b = reading.block (laid b low).bytes l (leaf_at p b) (subst (λ (x : List ℕ). IsBlock x l) bytes s.2) is in
           let all : map (leaf_at p) k.before ++ l ∷ [] ≡ map (leaf_at p) (k.before ++ b ∷ []) =
           ap (λ (m : Leaf). map (leaf_at p) k.before ++ m ∷ []) same ∙ sym (map-append (leaf_at p) k.before (b ∷ [])) in
-          falls.1 (subst AreRising (ap (map (λ (m : Leaf). m.cells)) all ∙ cells_map p (k.before ++ b ∷ [])) go)
+          falls.1 (subst AreRising (ap (map (λ (m : Leaf). m.cells)) all ∙ cells_map p (k.before ++ b ∷ [])) (rising (map (leaf_at p) k.before ++ l ∷ []) go))
       here l s go low (inr none) (inr falls) =
           let bytes : s.0 ≡ (laid b low).bytes = same_bytes (blocks b) s.0 (laid b low).bytes s.1 (laid b low).there in
           none.none l (subst (λ (x : List ℕ). IsBlock x l) bytes s.2)
@@ -92,7 +118,7 @@ pub breaks_at_first : (blocks : ℕ → Option (List ℕ)) (bytes : List ℕ) �
 breaks_at_first blocks bytes there none = record {
   before = [];
   led = refl;
-  risen = record { rise = tt; filled = tt };
+  risen = (tt, tt);
   broken = λ l s go. none l (subst (λ (x : List ℕ). IsBlock x l) (same_bytes (blocks 0) s.0 bytes s.1 there) s.2);
 }
 
@@ -120,29 +146,25 @@ goes_along blocks (x ∷ xs) c b (l ∷ m ∷ ls) led chain =
     let more = goes_along blocks xs x.next b (m ∷ ls) led.2 (subst (λ (n : ℕ). IsChain blocks n (m ∷ ls)) (ap (λ (n : Leaf). n.next) same) chain.2) in
     record { leaf = more.leaf; rest = more.rest; are = λ i. same i ∷ more.are i; stands = more.stands }
 
-flat_cells : (ls : List Leaf) → flat_map (λ (l : Leaf). l.cells) ls ≡ all_cells (map (λ (l : Leaf). l.cells) ls)
-flat_cells [] = refl
-flat_cells (l ∷ ls) = ap (λ (x : List Cell). l.cells ++ x) (flat_cells ls)
-
 flat-append : (ls ms : List Leaf) → flat_map (λ (l : Leaf). l.cells) (ls ++ ms) ≡ flat_map (λ (l : Leaf). l.cells) ls ++ flat_map (λ (l : Leaf). l.cells) ms
 flat-append [] ms = refl
 flat-append (l ∷ ls) ms = ap (λ (x : List Cell). l.cells ++ x) (flat-append ls ms) ∙ sym (append_assoc l.cells (flat_map (λ (l : Leaf). l.cells) ls) (flat_map (λ (l : Leaf). l.cells) ms))
 
-all_filled : (ls ms : List Leaf) → AllByRecursion (λ (m : Leaf). m.cells ≢ []) (ls ++ ms) → AllByRecursion (λ l. l ≢ []) (map (λ (l : Leaf). l.cells) ls)
+all_filled : (ls ms : List Leaf) → AllByRecursion (λ (m : Leaf). m.cells ≢ []) (ls ++ ms) → AllByRecursion (λ (m : Leaf). m.cells ≢ []) ls
 all_filled [] ms h = tt
 all_filled (l ∷ ls) ms h = (h.0, all_filled ls ms h.1)
 
-some_filled : (ls ms : List Leaf) → HaveCells (ls ++ ms) → AllByRecursion (λ l. l ≢ []) (drop 1 (map (λ (l : Leaf). l.cells) ls))
+some_filled : (ls ms : List Leaf) → HaveCells (ls ++ ms) → AllByRecursion (λ (m : Leaf). m.cells ≢ []) (drop 1 ls)
 some_filled [] ms h = tt
 some_filled (l ∷ ls) ms h = all_filled ls ms h
 
 front_goes_on : (g : Globals) (ls front rest : List Leaf) → HaveKeys g → ls ≡ front ++ rest → HaveCells ls → flat_map (λ (l : Leaf). l.cells) ls ≡ cells_of g → GoOn front
 front_goes_on g ls front rest keys are filled cells =
-    let both : flat_map (λ (l : Leaf). l.cells) front ++ flat_map (λ (l : Leaf). l.cells) rest ≡ cells_of g = sym (flat-append front rest) ∙ sym (ap (flat_map (λ (l : Leaf). l.cells)) are) ∙ cells in
-    record {
-      rise = subst Rise (flat_cells front) (rise_first (flat_map (λ (l : Leaf). l.cells) front) (flat_map (λ (l : Leaf). l.cells) rest) (subst Rise (sym both) (all_rise (cells_of g) (cells_rise g keys))));
-      filled = some_filled front rest (subst HaveCells are filled);
-    }
+    let both : flat_map (λ (l : Leaf). l.cells) front ++ flat_map (λ (l : Leaf). l.cells) rest ≡ cells_of g = sym (flat-append front rest) ∙ sym (ap (flat_map (λ (l : Leaf). l.cells)) are) ∙ cells in (
+      keys_rise (flat_map (λ (l : Leaf). l.cells) front)
+          (rise_first (flat_map (λ (l : Leaf). l.cells) front) (flat_map (λ (l : Leaf). l.cells) rest) (subst Rise (sym both) (all_rise (cells_of g) (cells_rise g keys)))),
+      some_filled front rest (subst HaveCells are filled),
+    )
 
 pub nothing_outside : (blocks : ℕ → Option (List ℕ)) (b : ℕ) (g : Globals) → IsOutsideAt blocks b → HaveKeys g → Restores blocks g → ⊥
 nothing_outside blocks b g (Short bytes there short) keys r = short (r.0 b bytes there)

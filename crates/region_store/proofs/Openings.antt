@@ -6,13 +6,13 @@ use Rattle.disk_defs.proofs.Told.{weaker_told}
 use Rattle.global_defs.specs.Entry.{Globals, Update, apply}
 use Rattle.journal_defs.specs.Epochs.{Chosen, image_state, block_of}
 use Rattle.journal_defs.specs.Sound.{Restores}
+use Rattle.site_defs.specs.OutsideBlocks.{IsOutsideAt}
 use Rattle.block_laws.specs.Nodes.{HaveKeys}
 use Rattle.block_pool.specs.Code.{Pool}
 use Rattle.before_image.specs.Undoing.{Oldest, Undoes}
 use Rattle.gvt_leaf.specs.Clean.{KeepsClean}
 use Rattle.jnl_record.specs.declared.placed.PlacedRecord.{PlacedRecord}
 use Rattle.region_store.specs.Laid.{epoch_at, AreLaid}
-use Rattle.region_store.specs.Outside.{IsOutsideAt}
 use Rattle.region_store.specs.Region.{Standing, HoldsRegion, IsReplayed}
 use Rattle.region_store.proofs.Held.{opened, applied}
 

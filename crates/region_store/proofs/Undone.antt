@@ -9,6 +9,7 @@ use Rattle.journal_defs.specs.Sequence.{Placed}
 use Rattle.journal_defs.specs.Epochs.{Chosen, image_state, block_of}
 use Rattle.journal_defs.specs.Undo.{logged}
 use Rattle.journal_defs.specs.Leaves.{Leaf, IsBlock}
+use Rattle.site_defs.specs.OutsideBlocks.{IsOutsideAt, Short, Broken}
 use Rattle.block_pool.specs.Code.{Pool}
 use Rattle.block_pool.specs.Pool.{IsAdded}
 use Rattle.before_image.specs.Undoing.{Oldest, oldest_of, Undoes}
@@ -18,7 +19,6 @@ use Rattle.block_laws.specs.Nodes.{AreFormed}
 use Rattle.block_pool.proofs.Written.{block_inside}
 use Rattle.jnl_record.specs.declared.placed.PlacedRecord.{PlacedRecord}
 use Rattle.region_store.specs.Laid.{epoch_at, taken, IsBlank, AreLaid}
-use Rattle.region_store.specs.Outside.{IsOutsideAt, Short, Broken}
 use Rattle.region_store.proofs.Stood.{state_inside, same_bytes}
 use Rattle.region_store.proofs.Lays.{none_laid, laid_more}
 use Rattle.region_store.proofs.Breaks.{breaks_at_first}

@@ -7,9 +7,9 @@ ghost use Rattle.journal_defs.specs.Directory.{Pattern};
 ghost use Rattle.journal_defs.specs.Sound.{Restores, region_state};
 ghost use Rattle.block_laws.specs.Nodes.{HaveKeys, updates_of, updates_in};
 ghost use Rattle.journal_defs.specs.Epochs.{Chosen, image_state, block_of};
+ghost use Rattle.site_defs.specs.OutsideBlocks.{IsOutsideAt};
 ghost use Rattle.block_laws.specs.Several.{MayAppendAll, logged_all};
 ghost use Rattle.before_image.specs.Images.{Knows, placed_images};
-ghost use Rattle.region_store.specs.Outside.{IsOutsideAt};
 ghost use Rattle.region_store.specs.Region.{Standing, IsReplayed, IsCutShort, images_below, changed_images, with_marks, logged_marks};
 
 /// Blocks of which one is outside the format hold no globals, and sound ones hold the region's part of the state.

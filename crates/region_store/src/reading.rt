@@ -4,13 +4,13 @@ ghost use Rattle.disk_defs.specs.Disk.{Reads, Rose};
 ghost use Rattle.journal_defs.specs.Journal.{IsInForm};
 ghost use Rattle.journal_defs.specs.Epochs.{Chosen, image_state, block_of};
 ghost use Rattle.journal_defs.specs.Leaves.{Leaf, IsBlock};
+ghost use Rattle.site_defs.specs.OutsideBlocks.{IsOutsideAt};
 ghost use Rattle.block_laws.specs.Nodes.{AreFormed, HaveKeys};
 ghost use Rattle.block_fmt.specs.Cells.{blank};
 ghost use Rattle.block_pool.specs.Pool.{IsAdded};
 ghost use Rattle.before_image.specs.Undoing.{oldest_of, Undoes};
 ghost use Rattle.jnl_record.specs.Values.{record_value, placed_value};
 ghost use Rattle.region_store.specs.Laid.{epoch_at, taken, IsBlank, AreLaid};
-ghost use Rattle.region_store.specs.Outside.{IsOutsideAt};
 
 use super::error::RegionError;
 use before_image::Undo;

@@ -19,6 +19,7 @@ ghost use Rattle.journal_defs.specs.Epochs.{Chosen, image_state, block_of};
 ghost use Rattle.journal_defs.specs.Leaves.{Decodes};
 ghost use Rattle.journal_defs.specs.Undo.{fresh};
 ghost use Rattle.journal_defs.specs.Sound.{Restores};
+ghost use Rattle.site_defs.specs.OutsideBlocks.{IsOutsideAt};
 ghost use Rattle.block_laws.specs.Nodes.{AreFormed, HaveKeys};
 ghost use Rattle.block_laws.specs.Several.{logged_all};
 ghost use Rattle.block_pool.specs.Pool.{is_dirty};
@@ -27,7 +28,6 @@ ghost use Rattle.gvt_leaf.specs.Listed.{node_value};
 ghost use Rattle.gvt_leaf.specs.Stored.{HasRoom, sets_of, blocks_in};
 ghost use Rattle.jnl_record.specs.Values.{record_value, placed_value};
 ghost use Rattle.region_store.specs.Laid.{epoch_at, AreLaid};
-ghost use Rattle.region_store.specs.Outside.{IsOutsideAt};
 ghost use Rattle.region_store.specs.Region.{HoldsRegion, IsHeld, IsSameRegion, IsChanged, stored_in, AreLogged, IsFlushed, IsCutShort, IsReplayed, flushed, with_marks, image_at, images_below, changed_images, logged_marks};
 
 use super::error::RegionError;
