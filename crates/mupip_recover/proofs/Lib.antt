@@ -10,4 +10,5 @@ pub mod Forms
 pub mod Counts
 pub mod Runs
 pub mod Epochs
+pub mod Without
 pub mod BrokenLaws

@@ -1,5 +1,6 @@
 pub mod Site
 pub mod Epochs
+pub mod Without
 pub mod Minima
 pub mod Cuts
 pub mod Stamps

@@ -7,6 +7,7 @@ mod broken;
 mod completing;
 mod cuts;
 mod epoch;
+mod forward;
 mod minima;
 mod part;
 mod recovering;
@@ -17,5 +18,6 @@ mod table;
 
 pub use broken::write_broken;
 pub use epoch::{EpochAt, chosen_epoch};
+pub use forward::first_without;
 pub use recovering::recover;
 pub use surviving::survives;
