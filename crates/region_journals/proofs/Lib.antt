@@ -7,3 +7,4 @@ pub mod Hardened
 pub mod Entered
 pub mod Prepared
 pub mod Waiting
+pub mod Logged

@@ -3,3 +3,4 @@ pub mod Journals
 pub mod Turns
 pub mod Rounds
 pub mod Entering
+pub mod Logging

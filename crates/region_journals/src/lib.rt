@@ -9,6 +9,7 @@ mod appending;
 mod hardening;
 mod journals;
 pub mod laws;
+mod logging;
 mod preparing;
 
 pub use journals::{RegionJournal, RegionJournals};
