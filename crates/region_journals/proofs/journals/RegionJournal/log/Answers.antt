@@ -1,5 +1,4 @@
-use Rattle.std.proofs.Common.{[], refl}
-use Rattle.disk_defs.specs.Frames.{Only}
+use Rattle.std.proofs.Common.{[]}
 use Rattle.jnl_record.specs.Values.{record_value}
 use Rattle.jnl_file.specs.Records.{Recorded}
 use Rattle.region_journals.proofs.Logged.{prepared_only, one_logged, still_stands, stands_then}

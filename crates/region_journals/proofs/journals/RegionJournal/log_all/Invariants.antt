@@ -1,4 +1,4 @@
-use Rattle.std.proofs.Common.{◌≤◌, ℕ, List, [], map, take}
+use Rattle.std.proofs.Common.{◌≤◌, List, [], map, take}
 use Rattle.disk_defs.specs.Disk.{AtEachMoment}
 use Rattle.disk_defs.specs.Frames.{Only, OnlyOn, OthersStay}
 use Rattle.journal_defs.specs.Journal.{JournalRecord}
