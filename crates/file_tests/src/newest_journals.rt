@@ -7,6 +7,7 @@ ghost use Rattle.global_defs.specs.Fields.{IsUpdate, IsTransaction};
 ghost use Rattle.gvn_key.specs.Terms.{update_value};
 ghost use Rattle.gvn_model.specs.Entries.{transaction_value};
 ghost use Rattle.region_journals.specs.Journals.{HasSyncs, IsOpen, AreReady};
+ghost use Rattle.region_journals.specs.Logging.{MayBeAppended};
 
 use global_dir::Directory;
 use gvn_key::terms::Update;
@@ -256,6 +257,47 @@ fn two_syncs_a_region_that_waits(rt: HostRuntime) -> Result<(), Fail> {
     harden(&mut journals, &mut disk)?;
     assert_eq!(rt; disk.syncs(24).checked_sub(both[0]), Some(0));
     assert_eq!(rt; disk.syncs(25).checked_sub(both[1]), Some(2));
+    Ok(())
+}
+
+/// An EPOCH of no entries, with one block.
+fn epoch() -> JnlRecord
+    ensures { MayBeAppended result }
+{
+    JnlRecord::Epoch {
+        closing: false,
+        number: 0,
+        blocks: 1,
+    }
+}
+
+/// Appends two EPOCHs to region 1, behind what waits there.
+fn append_epochs<D: Disk>(journals: &mut RegionJournals, disk: &mut D) -> Result<(), Fail>
+    requires { AreReady (D.disk disk.old) 1 journals.old.journals.items }
+    ensures { OnOk result (AreReady (D.disk disk.new) 1 journals.new.journals.items) }
+{
+    if journals.journals.len() < 2 {
+        return Err("one region")?;
+    }
+    journals.append_records(disk, 1, &[epoch(), epoch()])?;
+    Ok(())
+}
+
+/// A list of records goes to one region alone, behind what waits there.
+#[test]
+fn records_in_one_region(rt: HostRuntime) -> Result<(), Fail> {
+    let alloc = rt.alloc();
+    let mut disk = MemDisk::new(alloc)?;
+    let mut journals = append_two(alloc, &mut disk)?;
+    append_epochs(&mut journals, &mut disk)?;
+    harden(&mut journals, &mut disk)?;
+    let first = read_text(alloc, &mut disk, 0)?;
+    assert_eq!(rt; first.as_slice(), b"PINI;1 3 2 0A;".as_slice());
+    let second = read_text(alloc, &mut disk, 1)?;
+    assert_eq!(rt;
+        second.as_slice(),
+        b"PINI;1 3 2 1B;2 2 1 0B;other;other;".as_slice()
+    );
     Ok(())
 }
 

@@ -9,7 +9,7 @@ use gvn_key::{Bytes, Key};
 use gvn_model::{Entry, Item, Items, NamedModes, Origin, Reign, Reigns, Stamp};
 use instance_file::{InstanceRecord, InstanceRecords};
 use jnl_record::{JnlRecord, PlacedRecord};
-use mupip_recover::{EpochAt, chosen_epoch, recover, survives, write_broken};
+use mupip_recover::{EpochAt, chosen_epoch, first_without, recover, survives, write_broken};
 use std::alloc::Global;
 use std::process::Abort;
 
@@ -283,4 +283,40 @@ fn without_an_epoch_it_is_the_empty_database(rt: HostRuntime) {
         .push(part(&rt, alloc, 2, 1, 1, 0, b"X"))
         .expect(&rt, "memory");
     assert!(&rt; chooses(chosen_epoch(&instance, 9, &journal), 0, 0, 0));
+}
+
+/// How a generation begins in a region, with images of its blocks or without.
+fn begun(generation: u32, before: bool) -> PlacedRecord {
+    let what = JnlRecord::Pini {
+        version: 1,
+        region: 0,
+        before,
+        generation,
+        previous: 0,
+    };
+    PlacedRecord { generation, what }
+}
+
+#[test]
+fn records_without_images_behind_an_epoch_are_told(rt: HostRuntime) {
+    let alloc = rt.alloc();
+    let mut journal = Vec::new(alloc);
+    journal.push(begun(1, true)).expect(&rt, "memory");
+    journal.push(epoch(1, 0, 1)).expect(&rt, "memory");
+    journal.push(begun(2, false)).expect(&rt, "memory");
+    journal.push(epoch(2, 0, 1)).expect(&rt, "memory");
+    journal.push(begun(3, true)).expect(&rt, "memory");
+    let behind = |after: usize| {
+        let start = EpochAt {
+            number: 0,
+            blocks: 1,
+            after,
+        };
+        first_without(alloc, &journal, start).expect(&rt, "memory")
+    };
+    // Behind the first epoch a generation begins that keeps none, and behind the second one another that does.
+    assert!(&rt; behind(2) == Some(2));
+    assert!(&rt; behind(4).is_none());
+    // The second epoch itself is a record of the generation without.
+    assert!(&rt; behind(3) == Some(2));
 }

@@ -1,5 +1,5 @@
 // Sections over memory disks that fail at any call.
-ghost use Rattle.std.specs.Prelude.{◌≡◌, [], Some, IfSome, IfOk, OnOk};
+ghost use Rattle.std.specs.Prelude.{◌≡◌, [], Some, IfSome, IfOk};
 ghost use Rattle.disk_defs.specs.Disk.{Files};
 ghost use Rattle.disk_defs.specs.Gates.{records};
 ghost use Rattle.journal_defs.specs.Numbers.{INSTANCE};
@@ -13,28 +13,29 @@ use repl_section::{Reign, RunError};
 use site_store::{RegionSpec, SiteError, create, load};
 use std::alloc::Global;
 use std::process::Abort;
-use std::test::Fail;
 
 /// A job of the statements that these lines spell.
-fn job(alloc: Global, lines: &str) -> Result<Job, Fail> {
+fn job(rt: &impl Abort, alloc: Global, lines: &str) -> Job {
     let mut statements = Statements::new(alloc);
     for line in lines.lines() {
-        statements.push(read_statement(alloc, line.as_bytes())?)?;
+        statements
+            .push(read_statement(alloc, line.as_bytes()).expect(rt, "it succeeds"))
+            .expect(rt, "it succeeds");
     }
-    Ok(Job { statements })
+    Job { statements }
 }
 
 /// A job of one statement for each of these lines.
-fn queue(alloc: Global, lines: &str) -> Result<JobQueue, Fail> {
+fn queue(rt: &impl Abort, alloc: Global, lines: &str) -> JobQueue {
     let mut queue = JobQueue::new(alloc);
     for line in lines.lines() {
-        queue.push(job(alloc, line)?)?;
+        queue.push(job(rt, alloc, line)).expect(rt, "it succeeds");
     }
-    Ok(queue)
+    queue
 }
 
 /// Makes the site A of one region R on a disk without one.
-fn make<D: Disk>(alloc: Global, disk: &mut D) -> Result<(), Fail>
+fn make<D: Disk>(alloc: Global, disk: &mut D) -> Result<(), SiteError>
     requires { IfSome (D.disk disk.old).content (λ files. records (files INSTANCE) ≡ Some []) }
 {
     let name = Bytes::of(alloc, b"A")?;
@@ -42,15 +43,14 @@ fn make<D: Disk>(alloc: Global, disk: &mut D) -> Result<(), Fail>
         name: Bytes::of(alloc, b"R")?,
         before: true,
     };
-    create(alloc, disk, &name, &[region])?;
-    Ok(())
+    create(alloc, disk, &name, &[region])
 }
 
 /// A disk with a new site.
-fn made(alloc: Global) -> Result<MemDisk, Fail> {
-    let mut disk = MemDisk::new(alloc)?;
-    make(alloc, &mut disk)?;
-    Ok(disk)
+fn made(rt: &impl Abort, alloc: Global) -> MemDisk {
+    let mut disk = MemDisk::new(alloc).expect(rt, "it succeeds");
+    make(alloc, &mut disk).expect(rt, "it succeeds");
+    disk
 }
 
 /// Opens the site of a disk and begins a reign.
@@ -68,146 +68,165 @@ fn begin<D: Disk>(alloc: Global, disk: &mut D) -> Result<Reign, SiteError>
 
 /// Jobs see what stands, sums and tests are made on it, and a job that is rolled back leaves nothing.
 #[test]
-fn jobs_see_what_stands(rt: HostRuntime) -> Result<(), Fail> {
+fn jobs_see_what_stands(rt: HostRuntime) {
     let alloc = rt.alloc();
     let lines =
         "SET ^X(1)=\"abc\"\nSET ^X(1,2)=2\nINCR ^X(1) 1\nINCR ^Y -5\nCHECK ^Y>=0\nKILL ^X(1)\nDATA ^X\nDATA ^Y\nGET ^Y\nORDER ^X(\"\")";
-    let mut disk = made(alloc)?;
+    let mut disk = made(&rt, alloc);
     let mut jobs = Jobs::new(alloc);
-    jobs.push(queue(alloc, lines)?)?;
+    jobs.push(queue(&rt, alloc, lines))
+        .expect(&rt, "it succeeds");
     let mut text = Bytes::new(alloc);
-    let mut reign = begin(alloc, &mut disk)?;
-    reign.run(alloc, &mut disk, &mut jobs, &[1; 12], &mut text)?;
+    let mut reign = begin(alloc, &mut disk).expect(&rt, "it succeeds");
+    reign
+        .run(alloc, &mut disk, &mut jobs, &[1; 12], &mut text)
+        .expect(&rt, "it succeeds");
     let told =
         b"1.1 SEQ 1\n1.2 SEQ 2\n1.3 ROLLEDBACK NOTNUM\n1.4 SEQ 3 -5\n1.5 ROLLEDBACK CHECK\n1.6 SEQ 4\n1.7 READ 0\n1.8 READ 1\n1.9 READ \"-5\"\n1.10 READ \"\"\n";
     assert_eq!(rt; text.as_slice(), told.as_slice());
-    Ok(())
 }
 
 /// Updater 1 has a transaction, a read and a SET, and updater 2 a read.
-fn section(alloc: Global) -> Result<Jobs, Fail> {
+fn section(rt: &impl Abort, alloc: Global) -> Jobs {
     let mut first = JobQueue::new(alloc);
-    first.push(job(alloc, "SET ^X=1\nSET ^Y=2")?)?;
-    first.push(job(alloc, "GET ^Y")?)?;
-    first.push(job(alloc, "SET ^X=3")?)?;
+    first
+        .push(job(rt, alloc, "SET ^X=1\nSET ^Y=2"))
+        .expect(rt, "it succeeds");
+    first
+        .push(job(rt, alloc, "GET ^Y"))
+        .expect(rt, "it succeeds");
+    first
+        .push(job(rt, alloc, "SET ^X=3"))
+        .expect(rt, "it succeeds");
     let mut jobs = Jobs::new(alloc);
-    jobs.push(first)?;
-    jobs.push(queue(alloc, "GET ^X")?)?;
-    Ok(jobs)
+    jobs.push(first).expect(rt, "it succeeds");
+    jobs.push(queue(rt, alloc, "GET ^X"))
+        .expect(rt, "it succeeds");
+    jobs
 }
 
 /// Runs that section in a reign, and adds its replies.
 fn run_section<D: Disk>(
+    rt: &impl Abort,
     alloc: Global,
     disk: &mut D,
     reign: &mut Reign,
     order: &[u8],
     text: &mut Bytes,
-) -> Result<(), Fail>
+)
     requires ready { IsReady (D.disk disk.old) reign.old.site }
     requires begun { HasReign reign.old.site }
-    ensures ready { OnOk result (IsReady (D.disk disk.new) reign.new.site) }
-    ensures begun { OnOk result (HasReign reign.new.site) }
+    ensures ready { IsReady (D.disk disk.new) reign.new.site }
+    ensures begun { HasReign reign.new.site }
 {
-    reign.run(alloc, disk, &mut section(alloc)?, order, text)?;
-    Ok(())
+    reign
+        .run(alloc, disk, &mut section(rt, alloc), order, text)
+        .expect(rt, "it succeeds");
 }
 
 /// Two sections of one reign.
-fn run_twice<D: Disk>(alloc: Global, disk: &mut D, text: &mut Bytes) -> Result<(), Fail> {
-    let mut reign = begin(alloc, disk)?;
-    run_section(alloc, disk, &mut reign, &[1, 2, 1, 1], text)?;
-    run_section(alloc, disk, &mut reign, &[2, 1], text)
+fn run_twice<D: Disk>(rt: &impl Abort, alloc: Global, disk: &mut D, text: &mut Bytes) {
+    let mut reign = begin(alloc, disk).expect(rt, "it succeeds");
+    run_section(rt, alloc, disk, &mut reign, &[1, 2, 1, 1], text);
+    run_section(rt, alloc, disk, &mut reign, &[2, 1], text);
 }
 
 /// Serials go on in a reign, and entries and globals in the next one too.
 #[test]
-fn entries_globals_and_serials_go_on(rt: HostRuntime) -> Result<(), Fail> {
+fn entries_globals_and_serials_go_on(rt: HostRuntime) {
     let alloc = rt.alloc();
-    let mut disk = made(alloc)?;
+    let mut disk = made(&rt, alloc);
     let mut text = Bytes::new(alloc);
-    run_twice(alloc, &mut disk, &mut text)?;
-    let mut again = begin(alloc, &mut disk)?;
-    run_section(alloc, &mut disk, &mut again, &[2, 1], &mut text)?;
+    run_twice(&rt, alloc, &mut disk, &mut text);
+    let mut again = begin(alloc, &mut disk).expect(&rt, "it succeeds");
+    run_section(&rt, alloc, &mut disk, &mut again, &[2, 1], &mut text);
     let told =
         b"1.1 SEQ 1\n2.1 READ \"1\"\n1.2 READ \"2\"\n1.3 SEQ 2\n2.2 READ \"3\"\n1.4 SEQ 3\n2.1 READ \"1\"\n1.1 SEQ 4\n";
     assert_eq!(rt; text.as_slice(), told.as_slice());
-    Ok(())
 }
 
 /// Decides two jobs, hardens both entries at once, and releases both replies. Answers how many entries were hardened before that.
 fn decide_two<D: Disk>(
+    rt: &impl Abort,
     alloc: Global,
     disk: &mut D,
     reign: &mut Reign,
     text: &mut Bytes,
-) -> Result<u64, Fail>
+) -> u64
     requires ready { IsReady (D.disk disk.old) reign.old.site }
     requires begun { HasReign reign.old.site }
 {
-    let first = reign.decide(alloc, disk, 1, job(alloc, "SET ^X=1")?)?;
-    let second = reign.decide(alloc, disk, 2, job(alloc, "INCR ^X 1")?)?;
+    let first = reign
+        .decide(alloc, disk, 1, job(rt, alloc, "SET ^X=1"))
+        .expect(rt, "it succeeds");
+    let second = reign
+        .decide(alloc, disk, 2, job(rt, alloc, "INCR ^X 1"))
+        .expect(rt, "it succeeds");
     let before = reign.site.hardened_length();
-    reign.harden(disk)?;
-    reign.release(first, text)?;
-    reign.release(second, text)?;
-    Ok(before)
+    reign.harden(disk).expect(rt, "it succeeds");
+    reign.release(first, text).expect(rt, "it succeeds");
+    reign.release(second, text).expect(rt, "it succeeds");
+    before
 }
 
 /// Replies of two jobs may wait for one hardening.
 #[test]
-fn two_entries_are_hardened_at_once(rt: HostRuntime) -> Result<(), Fail> {
+fn two_entries_are_hardened_at_once(rt: HostRuntime) {
     let alloc = rt.alloc();
-    let mut disk = made(alloc)?;
+    let mut disk = made(&rt, alloc);
     let mut text = Bytes::new(alloc);
-    let mut reign = begin(alloc, &mut disk)?;
-    let before = decide_two(alloc, &mut disk, &mut reign, &mut text)?;
+    let mut reign = begin(alloc, &mut disk).expect(&rt, "it succeeds");
+    let before = decide_two(&rt, alloc, &mut disk, &mut reign, &mut text);
     assert_eq!(rt; before, 0);
     assert_eq!(rt; text.as_slice(), b"1.1 SEQ 1\n2.1 SEQ 2 2\n".as_slice());
-    Ok(())
 }
 
 /// How many of a section's jobs are answered before the calls of the disk fail.
-fn run_some(alloc: Global, disk: &mut MemDisk, calls: u64) -> Result<u64, Fail> {
+fn run_some(rt: &impl Abort, alloc: Global, disk: &mut MemDisk, calls: u64) -> u64 {
     disk.fuse(calls);
     let Ok(mut reign) = begin(alloc, disk) else {
-        return Ok(0);
+        return 0;
     };
     let mut text = Bytes::new(alloc);
-    match reign.run(alloc, disk, &mut section(alloc)?, &[1, 2, 1, 1], &mut text) {
-        Ok(()) => Ok(4),
-        Err(RunError::Failed { undecided }) => Ok(4 - undecided.min(4)),
-        Err(RunError::NoMemory) => Err(Fail::from("no memory")),
-    }
+    let decided = match reign.run(
+        alloc,
+        disk,
+        &mut section(rt, alloc),
+        &[1, 2, 1, 1],
+        &mut text,
+    ) {
+        Ok(()) => Some(4),
+        Err(RunError::Failed { undecided }) => Some(4 - undecided.min(4)),
+        Err(RunError::NoMemory) => None,
+    };
+    decided.expect(rt, "memory")
 }
 
 /// A section runs where so many calls of the disk succeed, and a crash takes the image of that pick. Each acknowledged entry stands, and
 /// at most one more; a transaction stands whole or not at all.
-fn stand_after(rt: &impl Abort, alloc: Global, calls: u64, pick: u64) -> Result<(), Fail> {
-    let mut disk = made(alloc)?;
-    let told = match run_some(alloc, &mut disk, calls)? {
+fn stand_after(rt: &impl Abort, alloc: Global, calls: u64, pick: u64) {
+    let mut disk = made(rt, alloc);
+    let told = match run_some(rt, alloc, &mut disk, calls) {
         0 => 0,
         4 => 2,
         _ => 1,
     };
     disk.crash(pick);
-    let again = load(alloc, &mut disk)?;
+    let again = load(alloc, &mut disk).expect(rt, "it succeeds");
     let left = again.entries.len();
     assert!(rt;
         told <= left && left <= told + 1,
         "pick {pick}, calls {calls}"
     );
     assert_eq!(rt; again.globals.nodes(), if left == 0 { 0 } else { 2 });
-    Ok(())
 }
 
 /// Whatever call fails and whatever image a crash takes.
 #[test]
-fn acknowledged_entries_stand(rt: HostRuntime) -> Result<(), Fail> {
+fn acknowledged_entries_stand(rt: HostRuntime) {
     for pick in [0, 1, 2, 4] {
         for calls in 0..64u64 {
-            stand_after(&rt, rt.alloc(), calls, pick)?;
+            stand_after(&rt, rt.alloc(), calls, pick);
         }
     }
-    Ok(())
 }

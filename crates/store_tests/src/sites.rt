@@ -1,5 +1,5 @@
 //! A site made, opened twice, and damaged; and one that owns its disk.
-ghost use Rattle.std.specs.Prelude.{◌≡◌, [], Some, IfSome, IfOk, OnOk, IsTrue};
+ghost use Rattle.std.specs.Prelude.{◌≡◌, [], Some, IfSome, IfOk, IsTrue};
 ghost use Rattle.disk_defs.specs.Gates.{records};
 ghost use Rattle.global_defs.specs.Fields.{IsTransaction};
 ghost use Rattle.gvn_model.specs.Entries.{transaction_value};
@@ -13,7 +13,7 @@ use gvn_model::{Origin, Transaction, Updates};
 use repl_disk::{Disk, MemDisk};
 use site_store::{RegionSpec, Site, SiteError, create, history_of, inspect, load, read_file};
 use std::alloc::Global;
-use std::test::Fail;
+use std::process::Abort;
 
 /// PINI of region 0, BEFORE, as the first record of generation 1 and its closed gate.
 const FIRST: &[u8; 18] = b"\x01\0\0\0\x0c\x01\x01\0\x01\0\0\0\x01\0\0\0\0\0";
@@ -55,71 +55,82 @@ fn make_two<D: Disk>(alloc: Global, disk: &mut D) -> Result<(), SiteError>
 }
 
 /// Whether a file has these bytes.
-fn has<D: Disk>(disk: &mut D, file: u32, bytes: &[u8; 18]) -> Result<bool, Fail> {
-    if disk.len(file)? != 18 {
-        return Ok(false);
+fn has<D: Disk>(rt: &impl Abort, disk: &mut D, file: u32, bytes: &[u8; 18]) -> bool {
+    if disk.len(file).expect(rt, "it succeeds") != 18 {
+        return false;
     }
     let mut read = [0; 18];
-    disk.read_at(file, 0, &mut read)?;
-    Ok(&read == bytes)
+    disk.read_at(file, 0, &mut read).expect(rt, "it succeeds");
+    &read == bytes
 }
 
 /// Writes these bytes at the start of a file.
-fn write_bytes<D: Disk>(disk: &mut D, file: u32, bytes: &[u8]) -> Result<(), Fail> {
-    disk.room(file, 1, bytes.len() as u64)?;
-    disk.write_at(file, 0, bytes)?;
-    Ok(())
+fn write_bytes<D: Disk>(rt: &impl Abort, disk: &mut D, file: u32, bytes: &[u8]) {
+    disk.room(file, 1, bytes.len() as u64)
+        .expect(rt, "it succeeds");
+    disk.write_at(file, 0, bytes).expect(rt, "it succeeds");
 }
 
 #[test]
-fn no_site_on_a_new_disk(rt: HostRuntime) -> Result<(), Fail> {
+fn no_site_on_a_new_disk(rt: HostRuntime) {
     let alloc = rt.alloc();
-    let mut disk = MemDisk::new(alloc)?;
-    assert!(rt; inspect(alloc, &mut disk)?.is_none());
+    let mut disk = MemDisk::new(alloc).expect(&rt, "it succeeds");
+    assert!(rt;
+        inspect(alloc, &mut disk)
+            .expect(&rt, "it succeeds")
+            .is_none()
+    );
     let opened = load(alloc, &mut disk).err();
     assert_eq!(rt; opened, Some(SiteError::NotAFile { file: 0, offset: 0 }));
-    Ok(())
 }
 
 #[test]
-fn a_generation_for_each_opening(rt: HostRuntime) -> Result<(), Fail> {
+fn a_generation_for_each_opening(rt: HostRuntime) {
     let alloc = rt.alloc();
-    let mut disk = MemDisk::new(alloc)?;
-    make(alloc, &mut disk)?;
-    assert_eq!(rt; load(alloc, &mut disk)?.sequence_length(), 0);
-    assert!(rt; has(&mut disk, 24, FIRST)?);
-    assert_eq!(rt; load(alloc, &mut disk)?.hardened_length(), 0);
-    assert!(rt; has(&mut disk, 32, SECOND)?);
-    let Some(found) = inspect(alloc, &mut disk)? else {
-        return Err("no site")?;
-    };
+    let mut disk = MemDisk::new(alloc).expect(&rt, "it succeeds");
+    make(alloc, &mut disk).expect(&rt, "it succeeds");
+    assert_eq!(rt;
+        load(alloc, &mut disk)
+            .expect(&rt, "it succeeds")
+            .sequence_length(),
+        0
+    );
+    assert!(rt; has(&rt, &mut disk, 24, FIRST));
+    assert_eq!(rt;
+        load(alloc, &mut disk)
+            .expect(&rt, "it succeeds")
+            .hardened_length(),
+        0
+    );
+    assert!(rt; has(&rt, &mut disk, 32, SECOND));
+    let found = inspect(alloc, &mut disk)
+        .expect(&rt, "it succeeds")
+        .expect(&rt, "a site");
     assert_eq!(rt; found.name.as_slice(), b"A".as_slice());
     assert_eq!(rt; found.generation, 2);
-    Ok(())
 }
 
 /// The bytes of the second region's first journal, behind what was there.
 #[test]
-fn bytes_of_a_file(rt: HostRuntime) -> Result<(), Fail> {
+fn bytes_of_a_file(rt: HostRuntime) {
     let alloc = rt.alloc();
-    let mut disk = MemDisk::new(alloc)?;
-    make_two(alloc, &mut disk)?;
-    load(alloc, &mut disk)?;
+    let mut disk = MemDisk::new(alloc).expect(&rt, "it succeeds");
+    make_two(alloc, &mut disk).expect(&rt, "it succeeds");
+    load(alloc, &mut disk).expect(&rt, "it succeeds");
     let mut bytes = Bytes::new(alloc);
-    read_file(&mut disk, 25, &mut bytes)?;
+    read_file(&mut disk, 25, &mut bytes).expect(&rt, "it succeeds");
     assert_eq!(rt; bytes.as_slice(), FIRST_OF_SECOND.as_slice());
-    read_file(&mut disk, 33, &mut bytes)?;
+    read_file(&mut disk, 33, &mut bytes).expect(&rt, "it succeeds");
     assert_eq!(rt; bytes.len(), 18);
-    Ok(())
 }
 
 #[test]
-fn a_journal_outside_its_format(rt: HostRuntime) -> Result<(), Fail> {
+fn a_journal_outside_its_format(rt: HostRuntime) {
     let alloc = rt.alloc();
-    let mut disk = MemDisk::new(alloc)?;
-    make(alloc, &mut disk)?;
-    load(alloc, &mut disk)?;
-    write_bytes(&mut disk, 24, b"\x01\0\x0f\xff\xff")?;
+    let mut disk = MemDisk::new(alloc).expect(&rt, "it succeeds");
+    make(alloc, &mut disk).expect(&rt, "it succeeds");
+    load(alloc, &mut disk).expect(&rt, "it succeeds");
+    write_bytes(&rt, &mut disk, 24, b"\x01\0\x0f\xff\xff");
     let opened = load(alloc, &mut disk).err();
     assert_eq!(rt;
         opened,
@@ -128,7 +139,6 @@ fn a_journal_outside_its_format(rt: HostRuntime) -> Result<(), Fail> {
             offset: 0
         })
     );
-    Ok(())
 }
 
 /// The site A on a disk without one, which it owns, with its first reign begun.
@@ -152,141 +162,134 @@ fn begin<D: Disk>(alloc: Global, mut disk: D) -> Result<Site<D>, SiteError>
 }
 
 /// SET ^X=1, as the first job of updater 1.
-fn set(alloc: Global) -> Result<Transaction, Fail>
-    ensures { IfOk result (λ t. IsTransaction (transaction_value t)) }
+fn set(rt: &impl Abort, alloc: Global) -> Transaction
+    ensures { IsTransaction (transaction_value result) }
 {
-    let key = Key::new(alloc, b"X", &[])?;
+    let key = Key::new(alloc, b"X", &[]).expect(rt, "it succeeds");
     let _code = key.as_encoded();
     let mut updates = Updates::new(alloc);
-    updates.push(Update::Set(key, Bytes::of(alloc, b"1")?))?;
+    let value = Bytes::of(alloc, b"1").expect(rt, "it succeeds");
+    updates
+        .push(Update::Set(key, value))
+        .expect(rt, "it succeeds");
     let origin = Origin {
         updater: 1,
         serial: 1,
     };
-    Ok(Transaction { origin, updates })
+    Transaction { origin, updates }
 }
 
 /// Gives a site that goes on its next entry.
-fn put<D: Disk>(alloc: Global, site: &mut Site<D>) -> Result<u64, Fail>
+fn put<D: Disk>(rt: &impl Abort, alloc: Global, site: &mut Site<D>) -> u64
     requires ready { IsGoing D.disk site.old }
     requires reign { HasReign site.old.inner }
-    ensures ready { OnOk result (IsGoing D.disk site.new) }
-    ensures reign { OnOk result (HasReign site.new.inner) }
+    ensures ready { IsGoing D.disk site.new }
+    ensures reign { HasReign site.new.inner }
 {
-    let t = set(alloc)?;
-    Ok(site.commit(&t)?)
+    let t = set(rt, alloc);
+    site.commit(&t).expect(rt, "it succeeds")
 }
 
 /// A site with two entries, of which one is hardened.
-fn put_two<D: Disk>(alloc: Global, disk: D) -> Result<Site<D>, Fail>
+fn put_two<D: Disk>(rt: &impl Abort, alloc: Global, disk: D) -> Site<D>
     requires { IfSome (D.disk disk).content (λ files. records (files INSTANCE) ≡ Some []) }
-    ensures { IfOk result (IsGoing D.disk) }
+    ensures { IsGoing D.disk result }
 {
-    let mut site = begin(alloc, disk)?;
-    put(alloc, &mut site)?;
-    site.harden()?;
-    put(alloc, &mut site)?;
-    Ok(site)
+    let mut site = begin(alloc, disk).expect(rt, "it succeeds");
+    put(rt, alloc, &mut site);
+    site.harden().expect(rt, "it succeeds");
+    put(rt, alloc, &mut site);
+    site
 }
 
 /// What was committed is found again after a close, whether it was hardened before or not.
 #[test]
-fn closed_and_opened_again(rt: HostRuntime) -> Result<(), Fail> {
+fn closed_and_opened_again(rt: HostRuntime) {
     let alloc = rt.alloc();
-    let site = put_two(alloc, MemDisk::new(alloc)?)?;
+    let site = put_two(&rt, alloc, MemDisk::new(alloc).expect(&rt, "it succeeds"));
     assert!(rt; site.simulated());
     assert_eq!(rt; site.sequence_length(), 2);
     assert_eq!(rt; site.hardened_length(), 1);
     assert_eq!(rt; site.history().length, 2);
     assert_eq!(rt; site.history().reigns.len(), 1);
     let (disk, closed) = site.close();
-    closed?;
-    let Ok(site) = Site::load(alloc, disk) else {
-        return Err("no site")?;
-    };
+    closed.expect(&rt, "it succeeds");
+    let site = Site::load(alloc, disk).ok().expect(&rt, "a site");
     assert_eq!(rt; site.sequence_length(), 2);
     assert_eq!(rt; site.abandon().faults(), 0);
-    Ok(())
 }
 
 /// The lines of the second entry and those of all nodes.
-fn shown<D: Disk>(alloc: Global, site: &mut Site<D>) -> Result<Bytes, Fail> {
+fn shown<D: Disk>(rt: &impl Abort, alloc: Global, site: &mut Site<D>) -> Bytes {
     let mut text = Bytes::new(alloc);
-    site.extract(2, &mut text)?;
-    site.zwrite(None, &mut text)?;
-    Ok(text)
+    site.extract(2, &mut text).expect(rt, "it succeeds");
+    site.zwrite(None, &mut text).expect(rt, "it succeeds");
+    text
 }
 
 #[test]
-fn entries_and_nodes_shown(rt: HostRuntime) -> Result<(), Fail> {
+fn entries_and_nodes_shown(rt: HostRuntime) {
     let alloc = rt.alloc();
-    let mut site = put_two(alloc, MemDisk::new(alloc)?)?;
-    let text = shown(alloc, &mut site)?;
+    let mut site = put_two(&rt, alloc, MemDisk::new(alloc).expect(&rt, "it succeeds"));
+    let text = shown(&rt, alloc, &mut site);
     assert_eq!(rt;
         text.as_slice(),
         b"SET\\2\\A.1\\1.1\\^X=\"1\"\n^X=\"1\"\n".as_slice()
     );
-    let key = Key::new(alloc, b"X", &[])?;
+    let key = Key::new(alloc, b"X", &[]).expect(&rt, "it succeeds");
     assert_eq!(rt; site.get(&key), Some(b"1".as_slice()));
     assert_eq!(rt; site.defined(&key), 1);
-    assert!(rt; site.order(&key, b"")?.is_none());
-    Ok(())
+    assert!(rt; site.order(&key, b"").expect(&rt, "it succeeds").is_none());
 }
 
 /// The history that the files of a closed site have.
 #[test]
-fn history_on_a_disk(rt: HostRuntime) -> Result<(), Fail> {
+fn history_on_a_disk(rt: HostRuntime) {
     let alloc = rt.alloc();
-    let site = put_two(alloc, MemDisk::new(alloc)?)?;
+    let site = put_two(&rt, alloc, MemDisk::new(alloc).expect(&rt, "it succeeds"));
     let (mut disk, closed) = site.close();
-    closed?;
-    let history = history_of(alloc, &mut disk)?;
+    closed.expect(&rt, "it succeeds");
+    let history = history_of(alloc, &mut disk).expect(&rt, "it succeeds");
     assert_eq!(rt; history.length, 2);
     assert_eq!(rt; history.reigns.len(), 1);
-    Ok(())
 }
 
 /// Hardens where no call of the disk succeeds any more, and closes then.
-fn fail_and_close<D: Disk>(site: Site<D>) -> Result<(D, u64, Option<SiteError>), Fail>
+fn fail_and_close<D: Disk>(rt: &impl Abort, site: Site<D>) -> (D, u64, Option<SiteError>)
     requires ready { IsGoing D.disk site }
     requires simulated { IsTrue (D.disk site.disk).simulated }
 {
     let mut site = site;
     site.fuse(0);
-    let Err(SiteError::Failed { fault }) = site.harden() else {
-        return Err("a disk that goes on")?;
+    let fault = match site.harden() {
+        Err(SiteError::Failed { fault }) => Some(fault),
+        _ => None,
     };
+    let fault = fault.expect(rt, "a fault");
     let (disk, closed) = site.close();
-    Ok((disk, fault, closed.err()))
+    (disk, fault, closed.err())
 }
 
 /// After a fault each call answers its number, and a crash finds what was hardened.
 #[test]
-fn stopped_after_a_fault(rt: HostRuntime) -> Result<(), Fail> {
+fn stopped_after_a_fault(rt: HostRuntime) {
     let alloc = rt.alloc();
-    let site = put_two(alloc, MemDisk::new(alloc)?)?;
-    if !site.simulated() {
-        return Err("a disk that never fails")?;
-    }
-    let (mut disk, fault, closed) = fail_and_close(site)?;
+    let site = put_two(&rt, alloc, MemDisk::new(alloc).expect(&rt, "it succeeds"));
+    assert!(rt; site.simulated());
+    let (mut disk, fault, closed) = fail_and_close(&rt, site);
     assert_eq!(rt; fault, 1);
     assert_eq!(rt; closed, Some(SiteError::Stopped { fault: 1 }));
     disk.crash(0);
-    let Ok(site) = Site::load(alloc, disk) else {
-        return Err("no site")?;
-    };
+    let site = Site::load(alloc, disk).ok().expect(&rt, "a site");
     assert_eq!(rt; site.sequence_length(), 1);
-    Ok(())
 }
 
 /// A disk that isn't a site's comes back.
 #[test]
-fn a_disk_handed_back(rt: HostRuntime) -> Result<(), Fail> {
+fn a_disk_handed_back(rt: HostRuntime) {
     let alloc = rt.alloc();
-    let Err((disk, error)) = Site::load(alloc, MemDisk::new(alloc)?) else {
-        return Err("a site on a new disk")?;
-    };
+    let made = MemDisk::new(alloc).expect(&rt, "it succeeds");
+    let (disk, error) = Site::load(alloc, made).err().expect(&rt, "no site");
     assert_eq!(rt; error, SiteError::NotAFile { file: 0, offset: 0 });
     assert_eq!(rt; disk.faults(), 0);
-    Ok(())
 }
