@@ -15,6 +15,7 @@ pub mod FirstWhere
 pub mod Written
 pub mod Shown
 pub mod Lifts
+pub mod Remembered
 pub mod Stopped
 pub mod Fused
 pub mod Crashed

@@ -13,7 +13,7 @@ use Rattle.global_defs.specs.Fields.{IsSiteName}
 use Rattle.global_defs.specs.Prefix.{stamp_at}
 use Rattle.gvn_model.specs.declared.reign.Stamp as code
 use Rattle.gvn_model.specs.Reigns.{stamp_value}
-use Rattle.journal_defs.specs.Numbers.{INSTANCE, journal_file, broken_file}
+use Rattle.journal_defs.specs.Numbers.{INSTANCE, journal_file, database_file, broken_file}
 use Rattle.journal_defs.specs.Journal.{Part}
 use Rattle.journal_defs.specs.Instance.{InstanceRecord, Reigned, generation, regions, site_name, greatest_cycle}
 use Rattle.journal_defs.specs.Directory.{Pattern, patterns}
@@ -40,7 +40,9 @@ use Rattle.site_defs.specs.Behind.{IsSiteWith}
 use Rattle.site_store.specs.declared.layout.Layout.{Layout}
 use Rattle.site_store.specs.declared.site.OpenSite.{OpenSite}
 use Rattle.site_store.specs.Finding.{HasLayout}
-use Rattle.site_store.specs.Site.{Remembers, IsReady, Keeps, IsOpen, WasOpened, HasReign}
+use Rattle.site_regions.specs.Joined.{joined}
+use Rattle.site_store.specs.Site.{Remembers, IsReady, Keeps, IsOpen, WasOpened, HasReign, AreOnBlocks}
+use Rattle.site_store.proofs.OnBlocks.{on_same, on_chosen}
 use Rattle.gvn_model.specs.Numbered.{numbered}
 use Rattle.site_store.specs.Reigning.{HasNoReignLeft, HasReignLeft, IsNextReign}
 use Rattle.site_store.proofs.Standing.{images_stand, reads_of, reads_so, told_of, still}
@@ -243,7 +245,7 @@ instance_in w i rs has f now = among w.content has
     among (Some a) h = h.stands f now
 
 module _ (v w : View) (c : Contents) (old new : OpenSite) (k : Keeps v c (length c.sequence) old) (past : AllByRecursion (λ (q : Reign). q.start < length c.sequence + 1) (reigns c.instance)) (lawful : IsLawful w) (stays : OthersStay (Only INSTANCE) v w)
-    (away : frames.AreAway (Only INSTANCE) old.journals.journals.items) (created : 0 < length c.instance) (has : instances.HasRecords w new.instance (c.instance ++ Reigned (reign_of c) ∷ [])) (journals : new.journals ≡ old.journals) where
+    (away : frames.AreAway (Only INSTANCE) old.journals.journals.items) (created : 0 < length c.instance) (has : instances.HasRecords w new.instance (c.instance ++ Reigned (reign_of c) ∷ [])) (journals : new.journals ≡ old.journals) (globals : new.globals ≡ old.globals) where
   now_begun : (f : Files) → Image w f → IsInstance (f INSTANCE) (c.instance ++ Reigned (reign_of c) ∷ [])
   now_begun f now = instance_in w new.instance (c.instance ++ Reigned (reign_of c) ∷ []) has f now
 
@@ -265,6 +267,17 @@ module _ (v w : View) (c : Contents) (old new : OpenSite) (k : Keeps v c (length
 
   nothing_waits : k.waiting ≡ []
   nothing_waits = none_waiting c.instance (suc k.g) (length c.sequence) k.waiting (drop (length c.sequence) c.sequence) (drop-length c.sequence) k.are_waiting
+
+  -- the regions' blocks are still those of the epochs, since no REIGN drops one
+  on_begun : (f : Files) → Image w f → AreOnBlocks f (with_record k.records (Reigned (reign_of c))) (length c.sequence) new.globals
+  on_begun f now =
+      let from = stays.images f now in
+      let same : length (regions (k.records.instance ++ Reigned (reign_of c) ∷ [])) ≡ length (regions k.records.instance) =
+      ap (λ (l : List InstanceRecord). length (regions (l ++ Reigned (reign_of c) ∷ []))) k.newest.instance ∙ count ∙ ap (λ (l : List InstanceRecord). length (regions l)) (sym k.newest.instance) in
+      subst (AreOnBlocks f (with_record k.records (Reigned (reign_of c))) (length c.sequence)) (sym globals)
+      (on_same from.0 f (with_record k.records (Reigned (reign_of c))) (length c.sequence) old.globals (λ r low. from.2 (database_file r) (λ e. omega (arith, e)))
+      (on_chosen from.0 k.records (with_record k.records (Reigned (reign_of c))) (length c.sequence) (length c.sequence) old.globals same (patterns_kept k.records.instance (reign_of c))
+      (λ r low. (refl, later.other_instance k.records.instance (Reigned (reign_of c)) (length c.sequence) (k.records.journal r) (λ h m. refl))) (k.blocks from.0 from.1)))
 
   keeps_begun : Keeps w (begun c) (length c.sequence) new
   keeps_begun = record {
@@ -288,6 +301,7 @@ module _ (v w : View) (c : Contents) (old new : OpenSite) (k : Keeps v c (length
     sound = sound;
     older_files = λ f now r low. let from = stays.images f now in journal_same from.0 f r k.g (k.last r) (k.older r) (λ h le. from.2 (journal_file h r) (λ e. omega (arith, e))) (k.older_files from.0 from.1 r (here r low));
     none_past = λ n r more. runs.part_of-sparing k.records.instance (Reigned (reign_of c)) n (k.records.journal r) (λ h m. refl) ∙ k.none_past n r more;
+    blocks = on_begun;
     no_epoch_past = λ r low. later.none_past_instance c.instance (Reigned (reign_of c)) (length c.sequence) (k.records.journal r) (λ h m. refl) (k.no_epoch_past r (here r low));
     waiting = k.waiting;
     are_waiting = subst (λ (ps : List (ℕ → Option Part)). AreEntries (c.instance ++ Reigned (reign_of c) ∷ []) (suc k.g) (length c.sequence) ps (drop (length c.sequence) c.sequence)) (sym nothing_waits)
@@ -333,10 +347,11 @@ pub open_kept : (v w : View) (told : Bool) (c : Contents) (h : ℕ) (old new : O
 open_kept v w told c h old new lawful ready stays unwritten state records entries changed hardened journals is = record {
   remembered = record {
     instance = records ∙ is.remembered.instance;
-    entries = ap (map numbered) entries ∙ is.remembered.entries;
-    globals = changed ∙ is.remembered.globals;
+    count = ap length entries ∙ is.remembered.count;
+    globals = ap joined changed ∙ is.remembered.globals;
     hardened = hardened ∙ is.remembered.hardened;
   };
+  entries = λ t. ap (map numbered) entries ∙ is.entries t;
   kept = λ t.
       let k = is.kept t in
       let was : (f : Files) → Image w f → Image v f = λ f now. holds_now v w (Image v) lawful unwritten f now in
@@ -354,6 +369,7 @@ open_kept v w told c h old new lawful ready stays unwritten state records entrie
         sound = λ f now. k.sound f (was f now);
         older_files = λ f now. k.older_files f (was f now);
         none_past = k.none_past;
+        blocks = λ f now. subst (AreOnBlocks f k.records h) (sym changed) (k.blocks f (was f now));
         no_epoch_past = k.no_epoch_past;
         waiting = k.waiting;
         are_waiting = k.are_waiting;
@@ -383,14 +399,15 @@ open_begun v w told c old new r lawful b entries changed hardened journals is =
     record {
       remembered = record {
         instance = b.records ∙ ap (λ (x : Reign). old.instance.records ++ Reigned x ∷ []) same ∙ ap (λ (l : List InstanceRecord). l ++ Reigned (reign_of c) ∷ []) is.remembered.instance;
-        entries = ap (map numbered) entries ∙ is.remembered.entries;
-        globals = changed ∙ is.remembered.globals;
+        count = ap length entries ∙ is.remembered.count;
+        globals = ap joined changed ∙ is.remembered.globals;
         hardened = hardened ∙ is.remembered.hardened;
       };
+      entries = λ t. ap (map numbered) entries ∙ is.entries t;
       kept = λ t.
           let k = is.kept t in
           keeps_begun v w c old new k (past_in c (length c.sequence) old is.remembered b.past) lawful b.stays (journals_away v old b.ready) (subst (λ (l : List InstanceRecord). 0 < length l) is.remembered.instance b.created)
-          (subst (λ (x : Reign). instances.HasRecords w new.instance (c.instance ++ Reigned x ∷ [])) same (b.state c.instance k.instance_file)) journals;
+          (subst (λ (x : Reign). instances.HasRecords w new.instance (c.instance ++ Reigned x ∷ [])) same (b.state c.instance k.instance_file)) journals changed;
     }
 
 -- at each moment of it

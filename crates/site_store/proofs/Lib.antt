@@ -3,6 +3,8 @@ pub mod Images
 pub mod Emptied
 pub mod Frames
 pub mod Remembered
+pub mod Stood
+pub mod OnBlocks
 pub mod Begun
 pub mod Items
 pub mod Nodes
@@ -20,6 +22,7 @@ pub mod Layouts
 pub mod Starts
 pub mod Drawn
 pub mod Texts
+pub mod Databases
 pub mod Typed
 pub mod Refused
 pub mod Loaded

@@ -63,7 +63,7 @@ module _ (P : Placed → Type 0) (g : ℕ) (here : (x : Part) → P (record { ge
   one_part None = tt
   one_part (Some x) = (here x, tt)
 
-  all_parts : (ps : List (ℕ → Option Part)) (r : ℕ) → AllByRecursion P (appended g ps r)
+  pub all_parts : (ps : List (ℕ → Option Part)) (r : ℕ) → AllByRecursion P (appended g ps r)
   all_parts [] r = tt
   all_parts (p ∷ ps) r = all_both P (placed g (p r)) (appended g ps r) (one_part (p r)) (all_parts ps r)
 

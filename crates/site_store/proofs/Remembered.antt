@@ -14,7 +14,7 @@ use Rattle.site_store.specs.declared.site.OpenSite.{OpenSite}
 use Rattle.site_store.specs.Site.{Remembers}
 use Rattle.gvn_model.specs.Numbered.{numbered}
 
-length-enumerate : {A : Type 0} (n : ℕ) (xs : List A) → length (enumerate_from n xs) ≡ length xs
+pub length-enumerate : {A : Type 0} (n : ℕ) (xs : List A) → length (enumerate_from n xs) ≡ length xs
 length-enumerate n [] = refl
 length-enumerate n (x ∷ xs) = ap suc (length-enumerate (n + 1) xs)
 
@@ -23,7 +23,7 @@ length-map-of f [] = refl
 length-map-of f (x ∷ xs) = ap suc (length-map-of f xs)
 
 pub remembered_length : (c : Contents) (h : ℕ) (s : OpenSite) → Remembers c h s → length s.entries.items ≡ length c.sequence
-remembered_length c h s r = sym (length-map-of numbered s.entries.items) ∙ ap length r.entries ∙ length-enumerate 1 c.sequence
+remembered_length c h s r = r.count
 
 -- one entry more
 enumerate_more : {A : Type 0} (n : ℕ) (xs : List A) (x : A) → enumerate_from n (xs ++ x ∷ []) ≡ enumerate_from n xs ++ (n + length xs, x) ∷ []

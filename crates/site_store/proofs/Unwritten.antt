@@ -23,7 +23,7 @@ use Rattle.site_defs.specs.Fronts.{with_sequence}
 use Rattle.site_defs.specs.Stands.{IsSite}
 use Rattle.site_defs.specs.Contents.{Contents}
 use Rattle.site_store.specs.declared.site.OpenSite.{OpenSite}
-use Rattle.site_store.specs.Site.{IsReady, Keeps, IsOpen}
+use Rattle.site_store.specs.Site.{IsReady, Keeps, IsOpen, AreOnBlocks}
 
 records_read : (v w : View) (j : Journal) (s : Recorded) (a : Files) → Reads v w → HoldsRecords v j s a → HoldsRecords w j s a
 records_read v w j s a r h = record {
@@ -109,6 +109,7 @@ keeps_read v w c n s r h = record {
   sound = image_read v w (λ f. IsSoundImage f h.records (take n c.sequence)) r h.sound;
   older_files = λ f i k here. let x = r.passes.images f i in subst (λ (y : Files). IsJournal y k h.g (h.last k) (h.older k)) (sym x.2) (h.older_files x.0 x.1 k here);
   none_past = h.none_past;
+  blocks = image_read v w (λ f. AreOnBlocks f h.records n s.globals) r h.blocks;
   no_epoch_past = h.no_epoch_past;
   waiting = h.waiting;
   are_waiting = h.are_waiting;
@@ -120,4 +121,4 @@ keeps_read v w c n s r h = record {
 }
 
 pub open_read : (v w : View) (told : Bool) (c : Contents) (n : ℕ) (s : OpenSite) → Reads v w → IsOpen v told c n s → IsOpen w told c n s
-open_read v w told c n s r h = record { remembered = h.remembered; kept = λ yes. keeps_read v w c n s r (h.kept yes) }
+open_read v w told c n s r h = record { remembered = h.remembered; entries = h.entries; kept = λ yes. keeps_read v w c n s r (h.kept yes) }

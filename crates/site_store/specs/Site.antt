@@ -1,5 +1,5 @@
 -- An open site beside its disk.
-use Rattle.std.specs.Prelude.{◌≡◌, ◌≢◌, ◌≤◌, ◌<◌, ◌+◌, ◌^◌, ◌++◌, ℕ, suc, Bool, List, [], ◌∷◌, length, take, drop, map, fold, Option, Some, None, IsTrue, IsSomeAnd}
+use Rattle.std.specs.Prelude.{◌≡◌, ◌≢◌, ◌⊎◌, ◌≤◌, ◌<◌, ◌+◌, ◌^◌, ◌++◌, ℕ, suc, Bool, List, [], ◌∷◌, length, take, drop, map, fold, Option, Some, None, IsTrue, IsSomeAnd}
 use Rattle.std.specs.List.{AllByRecursion, enumerate_from}
 use Rattle.std.specs.FinMap as globals
 use Rattle.disk_defs.specs.Disk.{Files, View, Image}
@@ -19,11 +19,15 @@ use Rattle.journal_defs.specs.Sequence.{Placed, Records}
 use Rattle.journal_defs.specs.Stands.{IsJournal, in_generation}
 use Rattle.journal_defs.specs.Growth.{NonePast, AreEntries, tcoms, appended}
 use Rattle.journal_defs.specs.Clean.{MOST_GENERATIONS}
+use Rattle.journal_defs.specs.Numbers.{database_file}
+use Rattle.journal_defs.specs.Epochs.{chosen, NeedsForward}
 use Rattle.journal_defs.specs.Sound.{NoEpochPast}
 use Rattle.journal_defs.specs.Fit.{IsSoundImage, HasFewNodes, IsAtHome}
 use Rattle.instance_file.specs.Instance as instances
 use Rattle.region_journals.specs.Journals.{AreReady, KeepsJournals}
 use Rattle.region_journals.specs.Fronts.{AreInside}
+use Rattle.region_store.specs.Region.{Standing, HoldsRegion, IsHeld}
+use Rattle.site_regions.specs.Joined.{Joined, joined, region_at}
 use Rattle.site_defs.specs.Contents.{Contents}
 use Rattle.site_defs.specs.Fronts.{with_sequence}
 use Rattle.site_defs.specs.Stands.{IsSite}
@@ -31,12 +35,12 @@ use Rattle.site_defs.specs.Behind.{parts_of_each}
 use Rattle.site_store.specs.Finding.{HasLayout}
 use Rattle.site_store.specs.declared.site.OpenSite.{OpenSite}
 
--- What a site has in memory, whatever its disk tells: the records of its instance file, its entries, numbered from 1 on, and the
--- globals that they lead to. How many are hardened is known too.
+-- What a site has in memory, whatever its disk tells: the records of its instance file, as many entries as these, and the globals that these
+-- lead to. How many are hardened is known too.
 pub record Remembers (c : Contents) (h : ℕ) (s : OpenSite) : Type 0 where
   pub instance : s.instance.records ≡ c.instance
-  pub entries : map numbered s.entries.items ≡ enumerate_from 1 c.sequence
-  pub globals : s.globals ≡ state c.sequence
+  pub count : length s.entries.items ≡ length c.sequence
+  pub globals : joined s.globals ≡ state c.sequence
   pub hardened : s.hardened ≡ h
 
 -- Its files are open for calls, and its layout is that of its instance file.
@@ -56,6 +60,18 @@ pub record AreNewest (c : Contents) (s : Records) (g : ℕ) (last : ℕ → ℕ)
   pub begins : (r : ℕ) → r < length (regions c.instance) → BeginsWithPini r (suc g) (last r) (newer r)
   pub begun : (r : ℕ) → r < length (regions c.instance) → newer r ≢ []
 
+-- A region's blocks are those of the epoch chosen for so many entries, or it needs forward recovery; either way they are those of some epoch and the file.
+pub record IsOnBlocks (files : Files) (s : Records) (n r : ℕ) (x : Standing) : Type 0 where
+  pub file : x.file ≡ database_file r
+  pub held : IsHeld x files
+  pub holds : NeedsForward s.instance n (s.journal r) ⊎ HoldsRegion (chosen s.instance n (s.journal r)) (files (database_file r)) x
+
+-- So it is of each region of a site.
+pub record AreOnBlocks (files : Files) (s : Records) (n : ℕ) (j : Joined) : Type 0 where
+  pub patterns : j.patterns ≡ patterns s.instance
+  pub count : length j.regions ≡ length (regions s.instance)
+  pub each : (r : ℕ) → r < length (regions s.instance) → IsOnBlocks files s n r (region_at j r)
+
 -- On the disk, where its files are known: they stand for the first entries, the hardened ones, in each image, and the others stand
 -- behind closed gates of the newest journals.
 pub record Keeps (v : View) (c : Contents) (hardened : ℕ) (s : OpenSite) : Type 0 where
@@ -72,6 +88,7 @@ pub record Keeps (v : View) (c : Contents) (hardened : ℕ) (s : OpenSite) : Typ
   pub sound : (f : Files) → Image v f → IsSoundImage f records (take hardened c.sequence)
   pub older_files : (f : Files) → Image v f → (r : ℕ) → r < length (regions c.instance) → IsJournal f r g (last r) (older r)
   pub none_past : NonePast hardened records
+  pub blocks : (f : Files) → Image v f → AreOnBlocks f records hardened s.globals
   pub no_epoch_past : (r : ℕ) → r < length (regions c.instance) → NoEpochPast hardened c.instance (records.journal r)
   -- the parts of the entries that aren't hardened
   pub waiting : List (ℕ → Option Part)
@@ -85,6 +102,8 @@ pub record Keeps (v : View) (c : Contents) (hardened : ℕ) (s : OpenSite) : Typ
 -- The site is open: it has these contents in memory, of which so many entries are hardened, and where its files are known, on the disk.
 pub record IsOpen (v : View) (told : Bool) (c : Contents) (hardened : ℕ) (s : OpenSite) : Type 0 where
   pub remembered : Remembers c hardened s
+  -- the entries in memory, numbered from 1 on
+  pub entries : IsTrue told → map numbered s.entries.items ≡ enumerate_from 1 c.sequence
   pub kept : IsTrue told → Keeps v c hardened s
 
 -- The site was opened, and nothing was done since: it has a name, all entries are hardened, and no reign has begun past them.

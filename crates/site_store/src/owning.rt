@@ -28,6 +28,7 @@ ghost use Rattle.site_defs.specs.Opening.{opened, MayOpen, with_reign, next_stam
 ghost use Rattle.site_defs.specs.Fronts.{with_sequence, IsFrontOf};
 ghost use Rattle.site_defs.specs.Stands.{IsBlank, IsSite, HasLeft};
 ghost use Rattle.site_defs.specs.Outside.{IsOutsideSite};
+ghost use Rattle.site_regions.specs.Joined.{joined};
 ghost use Rattle.site_store.specs.Refusing.{IsUnwritten};
 ghost use Rattle.site_store.specs.Site.{Remembers, WasOpened, WasOpenedFrom, HasReign, HasRoomFor, with_entry};
 ghost use Rattle.site_store.specs.Opening.{region_value, made, MayMake, MayBeOpen, EachStands};
@@ -270,8 +271,8 @@ impl<D: Disk> Site<D> {
         ensures stamp { self.new.inner.stamp ≡ self.old.inner.stamp }
         ensures reign { OnOk result (HasReign self.new.inner) }
         ensures room { OnOk result (length self.old.inner.entries.items + 1 < 2 ^ 40) }
-        ensures fits { OnOk result (HasRoomFor self.old.inner.globals t.now.updates) }
-        ensures full { (nodes : ℕ) → IsErrOf result (SiteError.Full nodes) → HasRoomFor self.old.inner.globals t.now.updates → ⊥ }
+        ensures fits { OnOk result (HasRoomFor (joined self.old.inner.globals) t.now.updates) }
+        ensures full { (nodes : ℕ) → IsErrOf result (SiteError.Full nodes) → HasRoomFor (joined self.old.inner.globals) t.now.updates → ⊥ }
         ensures last { IsErrOf result SiteError.SeqLimit → 2 ^ 40 ≤ length self.old.inner.entries.items + 1 }
         ensures kept { ((nodes : ℕ) × IsErrOf result (SiteError.Full nodes)) ⊎ IsErrOf result SiteError.SeqLimit → self.new ≡ self.old }
         ensures unmade { IsErrOf result SiteError.NoMemory → IsSameMemory self.old.inner self.new.inner }
@@ -415,14 +416,14 @@ impl<D: Disk> Site<D> {
 
     /// The node's value, if it has one.
     pub fn get(&self, key: &Key) -> Option<&[u8]>
-        ensures { option_copied result ≡ globals.get self.now.inner.globals key.now }
+        ensures { option_copied result ≡ globals.get (joined self.now.inner.globals) key.now }
     {
         self.inner.globals.get(key)
     }
 
     /// Whether the node has a value, and whether it has descendants: 0, 1, 10 or 11.
     pub fn defined(&self, key: &Key) -> u8
-        ensures { result ≡ evaluation.defined self.now.inner.globals key.now }
+        ensures { result ≡ evaluation.defined (joined self.now.inner.globals) key.now }
     {
         self.inner.globals.defined(key)
     }
@@ -430,7 +431,7 @@ impl<D: Disk> Site<D> {
     /// The next subscript at the level below the node, past the last one, by its own bytes: of a number its numeral. An empty last
     /// one comes before all.
     pub fn order(&self, key: &Key, last: &[u8]) -> Result<Option<Bytes>, NoMemory>
-        ensures next { IfOk result (λ found. option_map sub_of found ≡ evaluation.order self.now.inner.globals key.now last.now) }
+        ensures next { IfOk result (λ found. option_map sub_of found ≡ evaluation.order (joined self.now.inner.globals) key.now last.now) }
         ensures a_key { IfOk result (λ found. IfSome found (λ sub. is_key (child_of key.now (sub_of sub)) ≡ true)) }
     {
         self.inner.globals.order(key, last)
@@ -439,7 +440,7 @@ impl<D: Disk> Site<D> {
     /// Adds a ZWRITE line for each node, or for the top one and those below it, in M collation. Without memory some lines may be
     /// added, and what was there stays.
     pub fn zwrite(&self, top: Option<&Key>, out: &mut Bytes) -> Result<(), NoMemory>
-        ensures lines { OnOk result (out.new ≡ out.old ++ zwrite (option_copied top.entry) self.now.inner.globals) }
+        ensures lines { OnOk result (out.new ≡ out.old ++ zwrite (option_copied top.entry) (joined self.now.inner.globals)) }
         ensures front { OnErr result (IsPrefix out.old out.new) }
     {
         self.inner.zwrite(top, out)
@@ -453,7 +454,7 @@ impl<D: Disk> Site<D> {
     pub fn extract(&mut self, number: u64, out: &mut Bytes) -> Result<(), SiteError>
         requires { 1 ≤ number }
         ensures entry { OnOk result (IfSome (slice_get self.old.inner.entries.items (number - 1)) (λ e. out.new ≡ out.old ++ entry_text e.number (entry_value e))) }
-        ensures opened { OnOk result ((told : Bool) (c : Contents) (h : ℕ) → IsOpenSite D.disk told c h self.old → IfSome (slice_get c.sequence (number - 1)) (λ e. out.new ≡ out.old ++ entry_text number e)) }
+        ensures opened { OnOk result ((c : Contents) (h : ℕ) → IsOpenSite D.disk true c h self.old → IfSome (slice_get c.sequence (number - 1)) (λ e. out.new ≡ out.old ++ entry_text number e)) }
         ensures no_entry { slice_get self.old.inner.entries.items (number - 1) ≡ None → out.new ≡ out.old }
         ensures without { OnErr result (out.new ≡ out.old) }
         ensures kept { self.new ≡ self.old }
@@ -523,7 +524,7 @@ impl<D: Disk> Site<D> {
 }
 
 impl<D: Disk> Lookup for Site<D> {
-    ghost seen = { λ s. s.inner.globals };
+    ghost seen = { λ s. joined s.inner.globals };
 
     fn get(&self, key: &Key) -> Option<&[u8]> {
         self.inner.globals.get(key)

@@ -3,12 +3,13 @@ ghost use Rattle.std.specs.Prelude.{◌≡◌, ◌⊎◌, ◌∷◌, ◌++◌, [
 ghost use Rattle.journal_defs.specs.Instance as records;
 ghost use Rattle.journal_defs.specs.Instance.{InstanceRecord};
 ghost use Rattle.global_defs.specs.Entry.{Sequence};
-ghost use Rattle.site_defs.specs.Contents.{Standing, nothing, bare};
+ghost use Rattle.site_defs.specs.Contents.{Contents, Standing, nothing, bare};
 ghost use Rattle.site_defs.specs.Fronts.{turn_of};
 ghost use Rattle.site_defs.specs.Limits.{region_number};
 ghost use Rattle.site_defs.specs.Lists.{Among};
 ghost use Rattle.site_defs.specs.Opening.{opened, with_pattern};
 ghost use Rattle.site_defs.specs.Samples.{made, reigned_once, two_regions};
+ghost use Rattle.site_defs.specs.Texts.{extract_from};
 ghost use Rattle.command_defs.specs.Commands.{Attach, Create, StartPrimary, Stop, Crash, Show, with_images};
 ghost use Rattle.world_defs.specs.World.{Place, World, Primary, Failed};
 ghost use Rattle.world_defs.specs.Answers.{NoSite, NoDisk, Empty, Exists, Stopped, NotSimulated, Started, NoRegion, TwiceMapped, NoFile, GenLimit, ReignLimit, Answer, Refused, NotAFile, Typed, refusal_line, fault_line};
@@ -16,13 +17,14 @@ ghost use Rattle.world_defs.specs.Row.{first, Here};
 ghost use Rattle.world_defs.specs.rows.Attach.{attach};
 ghost use Rattle.world_defs.specs.rows.Crash.{Crashes};
 ghost use Rattle.world_defs.specs.rows.Create.{created};
+ghost use Rattle.world_defs.specs.rows.Extract.{extract};
 ghost use Rattle.world_defs.specs.rows.Map.{map_pattern, started, twice_mapped, unmapped};
 ghost use Rattle.world_defs.specs.rows.Print.{no_file, print, typed};
 ghost use Rattle.world_defs.specs.rows.Run.{section_text};
 ghost use Rattle.world_defs.specs.rows.Show.{show_state};
 ghost use Rattle.world_defs.specs.rows.Start.{FIRST_SERIALS, StartsPrimary, generation_limit, reign_limit, start};
 ghost use Rattle.world_defs.specs.Step.{LeavesOld, LeftByRow, Step, refusal, refusal_of};
-ghost use Rattle.world_defs.specs.Samples.{failed_place, torn_place, blank_place, made_place, shown_place, created_place, broken_off_place, switching};
+ghost use Rattle.world_defs.specs.Samples.{failed_place, torn_place, blank_place, made_place, primary_place, shown_place, created_place, broken_off_place, switching};
 
 /// A world without disks refuses what needs one; one whose only disk failed refuses what needs it until a crash.
 pub fn refusals_hold()
@@ -65,6 +67,13 @@ pub fn typing_holds()
     ensures newest { typed 1 (record { site = None; told = true; now = opened (codes "x") made; left = record { broken = []; torn = codes "y" }; outcomes = []; standings = None; shown = None; faults = 0; simulated = true }) ≡ codes "x" }
     ensures torn { typed 2 (record { site = None; told = true; now = opened (codes "x") made; left = record { broken = []; torn = codes "y" }; outcomes = []; standings = None; shown = None; faults = 0; simulated = true }) ≡ codes "y" }
     ensures nothing { no_file 3 made_place ≡ Some NoFile }
+{}
+
+/// An extract is that of the site's entries where its files are known, and else of as many entries.
+pub fn extracting_holds()
+    ensures known { (c : Contents) (q : Place) (text told : List ℕ) → Here (extract None (codes "A") (primary_place true c)) (Typed text) q told → text ≡ extract_from (codes "A") None c.sequence }
+    // a site without entries has the header alone
+    ensures count { (q : Place) (text told : List ℕ) → Here (extract None (codes "A") (primary_place false reigned_once)) (Typed text) q told → text ≡ codes "GTMRJEX01\\A\\1\n" }
 {}
 
 /// On a disk that tells its bytes, a site's or not, these decide what files decide.

@@ -21,6 +21,7 @@ use Rattle.world_defs.specs.Step.{Step, CutOff}
 use Rattle.world_defs.specs.rows.Attach.{ATTACHING, attach}
 use Rattle.world_defs.specs.rows.Crash.{Crashes}
 use Rattle.world_defs.specs.rows.Create.{MayMake, create}
+use Rattle.world_defs.specs.rows.Extract.{extract}
 use Rattle.world_defs.specs.rows.Map.{map_pattern}
 use Rattle.world_defs.specs.rows.Print.{print}
 use Rattle.world_defs.specs.rows.Run.{RunsTo, one_further, run}
@@ -113,6 +114,18 @@ module _ (F : Type 0) where
     left = λ q l. cut-left F _ _ p q (λ f h t c o a m. fit-run_left p.site jobs order p o refl (updaters f) h t m) l;
   }
 
+  extract-laws : (from : Option ℕ) (p : Place) → RowLaws F p (row_at (extract from) p)
+  extract-laws from p = record {
+    done = λ q none d. absurd d;
+    ran = λ s q d. absurd d;
+    typed = λ text q d. quietly F (Typed text) p q (λ t. t) (lasts-kept F p q d.kept);
+    fault = λ k q d. absurd d;
+    damage = λ file offset q d. absurd d;
+    refused = λ r q d. quietly F (Refused r) p q (λ t. t) (lasts-kept F p q d);
+    may_refuse = λ r q d. absurd d;
+    left = λ q l. cut-old F p q l;
+  }
+
   print-laws : (g : ℕ) (p : Place) → RowLaws F p (row_at (print g) p)
   print-laws g p = record {
     done = λ q none d. absurd d;
@@ -178,7 +191,7 @@ command-laws (Run name jobs order) = λ p. run-laws _ jobs order p (λ formed. f
 command-laws (Stop name) = λ p. quiet_laws _ _ _ _ _ p (λ q d. stop-lasts _ p q d)
 command-laws (Fuse name calls) = λ p. quiet_laws _ _ _ _ _ p (λ q d. lasts-kept _ p q d)
 command-laws (Crash name pick) = λ p. quiet_laws _ _ _ _ _ p (λ q d. crash-lasts _ p q d)
-command-laws (Extract name from) = λ p. quiet_laws _ _ _ _ _ p (λ q d. lasts-kept _ p q d)
+command-laws (Extract name from) = extract-laws _ from
 command-laws (Zwrite name top) = λ p. quiet_laws _ _ _ _ _ p (λ q d. lasts-kept _ p q d)
 command-laws (Show name) = λ p. quiet_laws _ _ _ _ _ p (λ q d. lasts-kept _ p q d)
 command-laws (Print name lost g) = print-laws _ g

@@ -1,4 +1,4 @@
-use Rattle.std.proofs.Common.{Bool, ◌∙◌, ap, sym, Err}
+use Rattle.std.proofs.Common.{Bool, ◌∙◌, ap, sym, Err, inl}
 use Rattle.world_defs.specs.rows.Start as rows
 use Rattle.site_runner.specs.declared.slot.Site.{Site}
 use Rattle.site_runner.specs.Steps.{ExecutesAt}
@@ -69,7 +69,7 @@ returns-in-Err-NotAFile-clause-done g c =
     let file = c.in-Err-NotAFile.file in
     let offset = c.in-Err-NotAFile.offset in
     on_not_done c.damaged-in-Err-NotAFile.result _ _ c.damaged-in-Err-NotAFile.ensures (λ t.
-    load_damaged (g.D.Disk.disk c.args.disk.now) (g.D.Disk.disk c.load.new.disk) c.args.site.now file offset c.args.text.now _ c.requires (e.outside file offset (ap Err c.in-Err-NotAFile.field-0-is)) (e.place file offset (ap Err c.in-Err-NotAFile.field-0-is))
+    load_damaged (g.D.Disk.disk c.args.disk.now) (g.D.Disk.disk c.load.new.disk) c.args.site.now file offset c.args.text.now _ c.requires (e.outside file offset (ap Err c.in-Err-NotAFile.field-0-is)) (if_some (g.D.Disk.disk c.args.disk.now).content _ _ (λ _ out. inl out) (e.place file offset (ap Err c.in-Err-NotAFile.field-0-is)))
     (if_some (g.D.Disk.disk c.args.disk.now).content _ _ (λ _ k. k.0) (e.refused file offset (ap Err c.in-Err-NotAFile.field-0-is))) e.simulated e.later
     (not_a_file _ c.in-Err-NotAFile.file-is c.in-Err-NotAFile.offset-is c.as_slice-in-Err-NotAFile.ensures t))
 

@@ -1,0 +1,5 @@
+pub mod Errors
+pub mod Flushed
+pub mod Kept
+pub mod Logged
+pub mod Taken

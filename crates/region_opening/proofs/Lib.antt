@@ -1,0 +1,5 @@
+pub mod Homes
+pub mod Lists
+pub mod Opened
+pub mod Replays
+pub mod Starts
