@@ -203,7 +203,7 @@ pub fn open_regions<D: Disk>(
     // and each region has its part
     ensures parts { IfOk result (λ made. IfSome (D.disk disk.old).content (λ files. IsSoundImage files (site_records instance.now (map (λ j. j.items) journals.now)) (map entry_value entries.now) → ArePartsOf directory.patterns made.regions (map entry_value entries.now))) }
     // the blocks of a region are those of the epoch to which it goes back and the file
-    ensures holds { IfOk result (λ made. IfSome (D.disk disk.old).content (λ files. (r : ℕ) → r < length made.regions → NeedsForward instance.now (length (map entry_value entries.now)) (journal_of (map (λ j. j.items) journals.now) r)
+    ensures holds { IfOk result (λ made. IfSome (D.disk disk.old).content (λ files. (r : ℕ) → r < length made.regions → NeedsForward instance.now (length entries.now) (journal_of (map (λ j. j.items) journals.now) r)
         ⊎ HoldsRegion (gone_back (site_records instance.now (map (λ j. j.items) journals.now)) (map entry_value entries.now) r) (files (database_file r)) (region_at made r))) }
     ensures held { IfOk result (λ made. IfSome (D.disk disk.old).content (λ files. (r : ℕ) → r < length made.regions → IsHeld (region_at made r) files)) }
     ensures outside { (f offset : ℕ) → IsErrOf result (RegionError.NotAFile f offset) → IfSome (D.disk disk.old).content (λ files. AreRecords files (site_records instance.now (map (λ j. j.items) journals.now)) → HaveOutsideBlocks files f offset) }

@@ -4,6 +4,7 @@ pub mod Emptied
 pub mod Frames
 pub mod Remembered
 pub mod Stood
+pub mod FormsRead
 pub mod OnBlocks
 pub mod Begun
 pub mod Items

@@ -151,21 +151,21 @@ longer [] x = omega arith
 longer (y ∷ l) x = omega arith
 
 -- as many entries as one likes that lead to the same nodes, where some do; none lead to no nodes
-quiet : Entry
-quiet = record { stamp = record { root = []; cycle = 0 }; transaction = record { origin = record { updater = 0; serial = 0 }; updates = [] } }
+abbrev quiet_entry : Entry
+quiet_entry = record { stamp = record { root = []; cycle = 0 }; transaction = record { origin = record { updater = 0; serial = 0 }; updates = [] } }
 
-updates_in : Sequence → List Update
+abbrev updates_in : Sequence → List Update
 updates_in es = flat_map (λ (e : Entry). e.transaction.updates) es
 
-no_updates : (n : ℕ) → updates_in (replicate n quiet) ≡ []
+no_updates : (n : ℕ) → updates_in (replicate n quiet_entry) ≡ []
 no_updates zero = refl
 no_updates (suc n) = no_updates n
 
 stretched : (n : ℕ) (es : Sequence) (g : Globals) → g ≡ state es → (n ≡ 0 → g ≡ globals.empty) → (all : Sequence) × (length all ≡ n) × (g ≡ state all)
 stretched zero es g is none = ([], refl, none refl)
 stretched (suc n) es g is none = (
-  record { stamp = record { root = []; cycle = 0 }; transaction = record { origin = record { updater = 0; serial = 0 }; updates = updates_in es } } ∷ replicate n quiet,
-  ap suc (length-replicate n quiet),
+  record { stamp = record { root = []; cycle = 0 }; transaction = record { origin = record { updater = 0; serial = 0 }; updates = updates_in es } } ∷ replicate n quiet_entry,
+  ap suc (length-replicate n quiet_entry),
   is ∙ ap (fold apply globals.empty) (sym (append-nil (updates_in es))) ∙ ap (λ (us : List Update). fold apply globals.empty (updates_in es ++ us)) (sym (no_updates n)),
 )
 

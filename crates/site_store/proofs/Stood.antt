@@ -79,13 +79,13 @@ module _ (u v w : View) (k : Standing) (st : Stood u v k) (lawful_v : IsLawful v
   room = loaded.room_left u v w rs last st.journal seq st.form st.sequence lawful_v lawful_w synced same st.read k.broken st.broken_is
 
   module _ (s : OpenSite) (records : s.instance.records ≡ rs ++ next_cut rs n ∷ []) (entries : s.entries ≡ k.entries) (globals : s.globals ≡ k.globals) (hardened : s.hardened ≡ n) (stamp : s.stamp ≡ None) where
-    own : s.instance.records ≡ rs ++ next_cut rs (length seq) ∷ []
+    pub own : s.instance.records ≡ rs ++ next_cut rs (length seq) ∷ []
     own = subst (λ (m : ℕ). s.instance.records ≡ rs ++ next_cut rs m ∷ []) size records
 
-    are : map numbered s.entries.items ≡ enumerate_from 1 seq
+    pub are : map numbered s.entries.items ≡ enumerate_from 1 seq
     are = ap (λ es. map numbered es.items) entries ∙ st.are_numbered
 
-    settled_at : s.hardened ≡ length seq
+    pub settled_at : s.hardened ≡ length seq
     settled_at = hardened ∙ size
 
     count : s.hardened ≡ length s.entries.items

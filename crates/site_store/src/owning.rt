@@ -27,7 +27,7 @@ ghost use Rattle.site_defs.specs.Limits.{no_reign_left};
 ghost use Rattle.site_defs.specs.Opening.{opened, MayOpen, with_reign, next_stamp};
 ghost use Rattle.site_defs.specs.Fronts.{with_sequence, IsFrontOf};
 ghost use Rattle.site_defs.specs.Stands.{IsBlank, IsSite, HasLeft};
-ghost use Rattle.site_defs.specs.Outside.{IsOutsideSite};
+ghost use Rattle.site_defs.specs.OutsideBlocks.{IsOutsideOpening};
 ghost use Rattle.site_regions.specs.Joined.{joined};
 ghost use Rattle.site_store.specs.Refusing.{IsUnwritten};
 ghost use Rattle.site_store.specs.Site.{Remembers, WasOpened, WasOpenedFrom, HasReign, HasRoomFor, with_entry};
@@ -127,7 +127,7 @@ impl<D: Disk> Site<D> {
         ensures limit { FailsWith result SiteError.GenLimit → IfSome (D.disk disk).content (λ files. (rs : List instances.InstanceRecord) → IsInstance (files INSTANCE) rs → 65534 ≤ generation rs) }
         ensures unwritten { FailsWith result SiteError.GenLimit → (D.disk (disk_left result)).content ≡ (D.disk disk).content }
         ensures untouched { FailsWith result SiteError.GenLimit → AtEachMoment (D.disk disk) (D.disk (disk_left result)) (Image (D.disk disk)) }
-        ensures place { (file offset : ℕ) → FailsWith result (SiteError.NotAFile file offset) → IfSome (D.disk disk).content (λ files. IsOutsideSite files file offset) }
+        ensures place { (file offset : ℕ) → FailsWith result (SiteError.NotAFile file offset) → IfSome (D.disk disk).content (λ files. IsOutsideOpening files file offset) }
         ensures refused { (file offset : ℕ) → FailsWith result (SiteError.NotAFile file offset) → IfSome (D.disk disk).content (λ _. IsUnwritten (D.disk disk) (D.disk (disk_left result))) }
         ensures outside { (file offset : ℕ) → FailsWith result (SiteError.NotAFile file offset) → IfSome (D.disk disk).content (λ files. (c : Contents) → IsSite files c → ⊥) }
         ensures any_moment { IfSome (D.disk disk).content (λ files. (c : Contents) (left : Leftover) → IsSite files c → HasLeft files c left → AtEachMoment (D.disk disk) (D.disk (disk_left result)) (MayBeOpen (D.disk disk) left.broken)) }

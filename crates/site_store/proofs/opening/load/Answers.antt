@@ -36,7 +36,7 @@ draw-requires-clause-read g c =
     let u = g.D.Disk.disk c.args.disk.now in
     let v = g.D.Disk.disk c.read_standing.new.disk in
     let k = c.in_ok-standing.standing in
-    let st = c.in_ok-standing.ensures in
+    let st = c.in_ok-standing.ensures.stood in
     let rs = k.log.records in
     subst (λ (l : List ℕ). IfSome v.content (λ files. (records : ℕ → List Placed) × WasRead v rs (last_of l) records files)) (sym c.deref.ensures.value)
     (told_at v.content u.content (λ files. (records : ℕ → List Placed) × WasRead v rs (last_of k.last_began.items) records files) (sym c.read_standing.ensures.content)
@@ -69,7 +69,7 @@ returns-in_err-drawn-clause-any_moment g c =
     let v = g.D.Disk.disk c.read_standing.new.disk in
     let w = g.D.Disk.disk c.draw.new.disk in
     let k = c.in_ok-standing.standing in
-    let st = c.in_ok-standing.ensures in
+    let st = c.in_ok-standing.ensures.stood in
     let lawful_v = g.met.D.Disk.lawful c.read_standing.new.disk in
     let lawful_w = g.met.D.Disk.lawful c.draw.new.disk in
     let n : c.len-length.result ≡ length k.entries.items = (let e = c.len-length.ensures in omega (arith, e)) in
@@ -81,7 +81,7 @@ returns-in_err-drawn-clause-left g c =
     let v = g.D.Disk.disk c.read_standing.new.disk in
     let w = g.D.Disk.disk c.draw.new.disk in
     let k = c.in_ok-standing.standing in
-    let st = c.in_ok-standing.ensures in
+    let st = c.in_ok-standing.ensures.stood in
     let lawful_v = g.met.D.Disk.lawful c.read_standing.new.disk in
     let lawful_w = g.met.D.Disk.lawful c.draw.new.disk in
     let n : c.len-length.result ≡ length k.entries.items = (let e = c.len-length.ensures in omega (arith, e)) in
@@ -93,7 +93,7 @@ returns-in_err-drawn-clause-stands g c =
     let v = g.D.Disk.disk c.read_standing.new.disk in
     let w = g.D.Disk.disk c.draw.new.disk in
     let k = c.in_ok-standing.standing in
-    let st = c.in_ok-standing.ensures in
+    let st = c.in_ok-standing.ensures.stood in
     let lawful_v = g.met.D.Disk.lawful c.read_standing.new.disk in
     let lawful_w = g.met.D.Disk.lawful c.draw.new.disk in
     let n : c.len-length.result ≡ length k.entries.items = (let e = c.len-length.ensures in omega (arith, e)) in
@@ -105,7 +105,7 @@ returns-in_err-newest_journals-clause-any_moment g c =
     let v = g.D.Disk.disk c.read_standing.new.disk in
     let w = g.D.Disk.disk c.draw.new.disk in
     let k = c.in_ok-standing.standing in
-    let st = c.in_ok-standing.ensures in
+    let st = c.in_ok-standing.ensures.stood in
     let lawful_v = g.met.D.Disk.lawful c.read_standing.new.disk in
     let lawful_w = g.met.D.Disk.lawful c.draw.new.disk in
     let n : c.len-length.result ≡ length k.entries.items = (let e = c.len-length.ensures in omega (arith, e)) in
@@ -117,7 +117,7 @@ returns-in_err-newest_journals-clause-left g c =
     let v = g.D.Disk.disk c.read_standing.new.disk in
     let w = g.D.Disk.disk c.draw.new.disk in
     let k = c.in_ok-standing.standing in
-    let st = c.in_ok-standing.ensures in
+    let st = c.in_ok-standing.ensures.stood in
     let lawful_v = g.met.D.Disk.lawful c.read_standing.new.disk in
     let lawful_w = g.met.D.Disk.lawful c.draw.new.disk in
     let n : c.len-length.result ≡ length k.entries.items = (let e = c.len-length.ensures in omega (arith, e)) in
@@ -129,7 +129,7 @@ returns-in_err-newest_journals-clause-stands g c =
     let v = g.D.Disk.disk c.read_standing.new.disk in
     let w = g.D.Disk.disk c.draw.new.disk in
     let k = c.in_ok-standing.standing in
-    let st = c.in_ok-standing.ensures in
+    let st = c.in_ok-standing.ensures.stood in
     let lawful_v = g.met.D.Disk.lawful c.read_standing.new.disk in
     let lawful_w = g.met.D.Disk.lawful c.draw.new.disk in
     let n : c.len-length.result ≡ length k.entries.items = (let e = c.len-length.ensures in omega (arith, e)) in
@@ -141,7 +141,7 @@ returns-clause-any_moment g c =
     let v = g.D.Disk.disk c.read_standing.new.disk in
     let w = g.D.Disk.disk c.draw.new.disk in
     let k = c.in_ok-standing.standing in
-    let st = c.in_ok-standing.ensures in
+    let st = c.in_ok-standing.ensures.stood in
     let lawful_v = g.met.D.Disk.lawful c.read_standing.new.disk in
     let lawful_w = g.met.D.Disk.lawful c.draw.new.disk in
     let n : c.len-length.result ≡ length k.entries.items = (let e = c.len-length.ensures in omega (arith, e)) in
@@ -153,7 +153,7 @@ returns-clause-left g c =
     let v = g.D.Disk.disk c.read_standing.new.disk in
     let w = g.D.Disk.disk c.draw.new.disk in
     let k = c.in_ok-standing.standing in
-    let st = c.in_ok-standing.ensures in
+    let st = c.in_ok-standing.ensures.stood in
     let lawful_v = g.met.D.Disk.lawful c.read_standing.new.disk in
     let lawful_w = g.met.D.Disk.lawful c.draw.new.disk in
     let n : c.len-length.result ≡ length k.entries.items = (let e = c.len-length.ensures in omega (arith, e)) in
@@ -165,7 +165,7 @@ returns-clause-stands g c =
     let v = g.D.Disk.disk c.read_standing.new.disk in
     let w = g.D.Disk.disk c.draw.new.disk in
     let k = c.in_ok-standing.standing in
-    let st = c.in_ok-standing.ensures in
+    let st = c.in_ok-standing.ensures.stood in
     let lawful_v = g.met.D.Disk.lawful c.read_standing.new.disk in
     let lawful_w = g.met.D.Disk.lawful c.draw.new.disk in
     let n : c.len-length.result ≡ length k.entries.items = (let e = c.len-length.ensures in omega (arith, e)) in
@@ -177,7 +177,7 @@ returns-clause-drawn g c =
     let v = g.D.Disk.disk c.read_standing.new.disk in
     let w = g.D.Disk.disk c.draw.new.disk in
     let k = c.in_ok-standing.standing in
-    let st = c.in_ok-standing.ensures in
+    let st = c.in_ok-standing.ensures.stood in
     let lawful_v = g.met.D.Disk.lawful c.read_standing.new.disk in
     let lawful_w = g.met.D.Disk.lawful c.draw.new.disk in
     let n : c.len-length.result ≡ length k.entries.items = (let e = c.len-length.ensures in omega (arith, e)) in
@@ -189,7 +189,7 @@ returns-clause-read g c =
     let v = g.D.Disk.disk c.read_standing.new.disk in
     let w = g.D.Disk.disk c.draw.new.disk in
     let k = c.in_ok-standing.standing in
-    let st = c.in_ok-standing.ensures in
+    let st = c.in_ok-standing.ensures.stood in
     let lawful_v = g.met.D.Disk.lawful c.read_standing.new.disk in
     let lawful_w = g.met.D.Disk.lawful c.draw.new.disk in
     let n : c.len-length.result ≡ length k.entries.items = (let e = c.len-length.ensures in omega (arith, e)) in
@@ -202,7 +202,7 @@ returns-clause-found g c =
     let v = g.D.Disk.disk c.read_standing.new.disk in
     let w = g.D.Disk.disk c.draw.new.disk in
     let k = c.in_ok-standing.standing in
-    let st = c.in_ok-standing.ensures in
+    let st = c.in_ok-standing.ensures.stood in
     let lawful_v = g.met.D.Disk.lawful c.read_standing.new.disk in
     let lawful_w = g.met.D.Disk.lawful c.draw.new.disk in
     let n : c.len-length.result ≡ length k.entries.items = (let e = c.len-length.ensures in omega (arith, e)) in
@@ -215,7 +215,7 @@ returns-clause-held g c =
     let v = g.D.Disk.disk c.read_standing.new.disk in
     let w = g.D.Disk.disk c.draw.new.disk in
     let k = c.in_ok-standing.standing in
-    let st = c.in_ok-standing.ensures in
+    let st = c.in_ok-standing.ensures.stood in
     let lawful_v = g.met.D.Disk.lawful c.read_standing.new.disk in
     let lawful_w = g.met.D.Disk.lawful c.draw.new.disk in
     let n : c.len-length.result ≡ length k.entries.items = (let e = c.len-length.ensures in omega (arith, e)) in
@@ -228,7 +228,7 @@ returns-clause-opened g c =
     let v = g.D.Disk.disk c.read_standing.new.disk in
     let w = g.D.Disk.disk c.draw.new.disk in
     let k = c.in_ok-standing.standing in
-    let st = c.in_ok-standing.ensures in
+    let st = c.in_ok-standing.ensures.stood in
     let lawful_v = g.met.D.Disk.lawful c.read_standing.new.disk in
     let lawful_w = g.met.D.Disk.lawful c.draw.new.disk in
     let n : c.len-length.result ≡ length k.entries.items = (let e = c.len-length.ensures in omega (arith, e)) in
@@ -241,7 +241,7 @@ returns-clause-ready g c =
     let v = g.D.Disk.disk c.read_standing.new.disk in
     let w = g.D.Disk.disk c.draw.new.disk in
     let k = c.in_ok-standing.standing in
-    let st = c.in_ok-standing.ensures in
+    let st = c.in_ok-standing.ensures.stood in
     let lawful_v = g.met.D.Disk.lawful c.read_standing.new.disk in
     let lawful_w = g.met.D.Disk.lawful c.draw.new.disk in
     let n : c.len-length.result ≡ length k.entries.items = (let e = c.len-length.ensures in omega (arith, e)) in
@@ -254,7 +254,7 @@ returns-clause-told g c =
     let v = g.D.Disk.disk c.read_standing.new.disk in
     let w = g.D.Disk.disk c.draw.new.disk in
     let k = c.in_ok-standing.standing in
-    let st = c.in_ok-standing.ensures in
+    let st = c.in_ok-standing.ensures.stood in
     let lawful_v = g.met.D.Disk.lawful c.read_standing.new.disk in
     let lawful_w = g.met.D.Disk.lawful c.draw.new.disk in
     let n : c.len-length.result ≡ length k.entries.items = (let e = c.len-length.ensures in omega (arith, e)) in

@@ -2,6 +2,7 @@ use Rattle.std.proofs.Common.{refl, ◌∙◌, ap}
 use Rattle.std.specs.Prelude.{fold}
 use Rattle.global_defs.specs.Entry.{apply}
 use Rattle.gvn_model.specs.declared.entry.Transaction as code
+use Rattle.site_regions.specs.Joined.{joined}
 use Rattle.site_store.proofs.Committed as committed
 use Rattle.site_store.proofs.site.OpenSite.prepare.Goals as goal
 
@@ -36,5 +37,6 @@ returns-clause-enters g c = record {
   entry = c.in_ok-entry.entry;
   next = c.in_ok-entry.ensures;
   entries = c.in_ok-remember.ensures.entries;
-  globals = c.in_ok-remember.ensures.globals ∙ ap (λ (t : code.Transaction). fold apply c.args.self.now.globals t.updates) c.in_ok-entry.ensures.transaction;
+  globals = c.in_ok-remember.ensures.globals ∙ ap (λ (t : code.Transaction). fold apply (joined c.args.self.now.globals) t.updates) c.in_ok-entry.ensures.transaction;
+  changed = c.remember.ensures.changed;
 }
