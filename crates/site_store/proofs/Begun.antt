@@ -49,7 +49,7 @@ use Rattle.site_store.proofs.Standing.{images_stand, reads_of, reads_so, told_of
 use Rattle.site_store.proofs.Images.{same_image, reign_image, generation_kept, patterns_kept, name_kept, regions_kept, AreOf, are_of, site_of, is_created, texts_same, left_nothing}
 use Rattle.site_store.proofs.Emptied.{none_left}
 use Rattle.site_store.proofs.Frames as frames
-use Rattle.site_store.proofs.Remembered.{remembered_length}
+use Rattle.site_store.proofs.Remembered.{remembered_length, numbers_same}
 use Rattle.site_store.proofs.Parts.{no_entry_no_part}
 
 -- limits
@@ -348,6 +348,7 @@ open_kept v w told c h old new lawful ready stays unwritten state records entrie
   remembered = record {
     instance = records ∙ is.remembered.instance;
     count = ap length entries ∙ is.remembered.count;
+    numbers = numbers_same old.entries.items new.entries.items entries is.remembered.numbers;
     globals = ap joined changed ∙ is.remembered.globals;
     hardened = hardened ∙ is.remembered.hardened;
   };
@@ -400,6 +401,7 @@ open_begun v w told c old new r lawful b entries changed hardened journals is =
       remembered = record {
         instance = b.records ∙ ap (λ (x : Reign). old.instance.records ++ Reigned x ∷ []) same ∙ ap (λ (l : List InstanceRecord). l ++ Reigned (reign_of c) ∷ []) is.remembered.instance;
         count = ap length entries ∙ is.remembered.count;
+    numbers = numbers_same old.entries.items new.entries.items entries is.remembered.numbers;
         globals = ap joined changed ∙ is.remembered.globals;
         hardened = hardened ∙ is.remembered.hardened;
       };

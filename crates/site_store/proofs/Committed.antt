@@ -52,7 +52,7 @@ use Rattle.site_store.proofs.OnBlocks.{on_same}
 use Rattle.gvn_model.specs.Numbered.{numbered}
 use Rattle.site_store.specs.Committing.{Enters, IsSameSite, IsSameMemory, IsOwnJournal, ArePartsOf, parts_of}
 use Rattle.site_store.proofs.Frames as frames
-use Rattle.site_store.proofs.Remembered.{remembered_length, entries_more, globals_more}
+use Rattle.site_store.proofs.Remembered.{remembered_length, entries_more, numbers_more, numbers_same, globals_more}
 use Rattle.site_store.proofs.Standing.{reads_of, reads_so, told_of, still, keeps_images}
 use Rattle.site_store.proofs.Entries as entries
 use Rattle.site_store.proofs.Emptied.{none_left}
@@ -96,6 +96,7 @@ open_prepared v w told c h old mid p same lawful is = record {
   remembered = record {
     instance = ap (λ (i : Instance). i.records) same.same.instance ∙ is.remembered.instance;
     count = ap length same.entries ∙ is.remembered.count;
+    numbers = numbers_same old.entries.items mid.entries.items same.entries is.remembered.numbers;
     globals = same.globals ∙ is.remembered.globals;
     hardened = same.same.hardened ∙ is.remembered.hardened;
   };
@@ -217,6 +218,7 @@ remembers_longer v w x c h old mid new t parts p m =
     record {
       instance = ap (λ (i : Instance). i.records) (p.instance ∙ p.prepares.same.instance) ∙ m.instance;
       count = ap length (p.entries ∙ n.entries) ∙ length-append old.entries.items (n.entry ∷ []) ∙ ap (λ (k : ℕ). k + 1) m.count ∙ sym (length-append c.sequence (entry_of p ∷ []));
+      numbers = numbers_more old.entries.items new.entries.items n.entry m.numbers (p.entries ∙ n.entries) n.next.number;
       globals = globals_more (joined old.globals) (joined new.globals) c.sequence (entry_of p) m.globals (ap joined p.globals ∙ n.globals);
       hardened = p.hardened ∙ p.prepares.same.hardened ∙ m.hardened;
     }

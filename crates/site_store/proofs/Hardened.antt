@@ -30,7 +30,7 @@ use Rattle.site_store.specs.declared.site.OpenSite.{OpenSite}
 use Rattle.site_regions.specs.Joined.{joined}
 use Rattle.site_store.specs.Site.{Remembers, IsReady, Keeps, IsOpen, AreOnBlocks}
 use Rattle.gvn_model.specs.Numbered.{numbered}
-use Rattle.site_store.proofs.Remembered.{remembered_length}
+use Rattle.site_store.proofs.Remembered.{remembered_length, numbers_same}
 use Rattle.site_store.proofs.Standing.{reads_of, reads_so, told_of, still}
 use Rattle.site_store.proofs.Committed.{instance_kept, ready_after}
 use Rattle.site_store.proofs.Waiting as waiting
@@ -183,6 +183,7 @@ open_hardened v w told c h old new p lawful is = record {
   remembered = record {
     instance = ap (λ (i : Instance). i.records) p.instance ∙ is.remembered.instance;
     count = ap length p.entries ∙ is.remembered.count;
+    numbers = numbers_same old.entries.items new.entries.items p.entries is.remembered.numbers;
     globals = ap joined p.globals ∙ is.remembered.globals;
     hardened = p.hardened ∙ remembered_length c h old is.remembered;
   };

@@ -48,7 +48,7 @@ use Rattle.site_regions.specs.Joined.{joined}
 use Rattle.site_store.specs.Site.{Remembers, IsReady, Keeps, IsOpen, AreOnBlocks, WasOpened, WasOpenedFrom}
 use Rattle.gvn_model.specs.Numbered.{numbered}
 use Rattle.site_store.specs.Opening.{MayBeOpen, MayBeOpenWith, EachStands, AreTextsDurable, AreDatabasesDurable}
-use Rattle.site_store.proofs.Remembered.{length-enumerate}
+use Rattle.site_store.proofs.Remembered.{length-enumerate, are_numbered}
 use Rattle.site_store.proofs.OnBlocks.{IsPlain, on_same, on_more, on_chosen}
 use Rattle.site_store.proofs.Found.{instance_one, blank_instance}
 use Rattle.site_store.proofs.Drawn.{S, C, text, newest_is, same_regions, site_read, left_read, site_either, standing_either, site_begun, newest_whole, texts_kept}
@@ -313,7 +313,7 @@ module _ (u v w : View) (rs : List InstanceRecord) (last : ℕ → ℕ) (journal
     count = sym (length-map s.entries.items numbered) ∙ ap length entries ∙ length-enumerate 1 seq
 
     pub remembers : (f : Files) (t : List ℕ) → joined s.globals ≡ state seq → Remembers (opened t (C0 f)) (length seq) s
-    remembers f t globals = record { instance = records; count = count; globals = globals; hardened = hardened }
+    remembers f t globals = record { instance = records; count = count; numbers = are_numbered s.entries.items seq entries; globals = globals; hardened = hardened }
 
     -- whatever the disk tells, it has as many entries as some that lead to its nodes
     pub remembers_some : (es : Sequence) → joined s.globals ≡ state es → (length seq ≡ 0 → joined s.globals ≡ globals.empty) → (c : Contents) × (t : List ℕ) × Remembers (opened t c) (length c.sequence) s
@@ -326,6 +326,7 @@ module _ (u v w : View) (rs : List InstanceRecord) (last : ℕ → ℕ) (journal
           record {
             instance = records ∙ ap (λ (n : ℕ). rs ++ next_cut rs n ∷ []) size;
             count = count ∙ size;
+            numbers = are_numbered s.entries.items seq entries;
             globals = as_long.2;
             hardened = hardened ∙ size;
           },

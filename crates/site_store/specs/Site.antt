@@ -9,6 +9,8 @@ use Rattle.global_defs.specs.Prefix.{stamp_at}
 use Rattle.global_defs.specs.Fields.{IsSiteName}
 use Rattle.gvn_model.specs.declared.reign.Stamp.{Stamp}
 use Rattle.gvn_model.specs.Numbered.{numbered}
+use Rattle.gvn_model.specs.Entries.{entry_value}
+use Rattle.gvn_model.specs.declared.entry.Entry.{Entry}
 use Rattle.gvn_model.specs.Reigns.{stamp_value}
 use Rattle.global_defs.specs.Evaluation.{MOST_NODES}
 use Rattle.journal_defs.specs.Journal.{JournalRecord, Part, BeginsWithPini}
@@ -35,11 +37,16 @@ use Rattle.site_defs.specs.Behind.{parts_of_each}
 use Rattle.site_store.specs.Finding.{HasLayout}
 use Rattle.site_store.specs.declared.site.OpenSite.{OpenSite}
 
+-- entries numbered from 1 on
+abbrev pub AreNumbered : List Entry → Type 0
+AreNumbered es = map numbered es ≡ enumerate_from 1 (map entry_value es)
+
 -- What a site has in memory, whatever its disk tells: the records of its instance file, as many entries as these, and the globals that these
 -- lead to. How many are hardened is known too.
 pub record Remembers (c : Contents) (h : ℕ) (s : OpenSite) : Type 0 where
   pub instance : s.instance.records ≡ c.instance
   pub count : length s.entries.items ≡ length c.sequence
+  pub numbers : AreNumbered s.entries.items
   pub globals : joined s.globals ≡ state c.sequence
   pub hardened : s.hardened ≡ h
 
