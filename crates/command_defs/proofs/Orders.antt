@@ -12,7 +12,7 @@ use Rattle.std.proofs.lemmas.List.Folds.{list_all-map}
 use Rattle.global_defs.specs.Key.{Key}
 use Rattle.gvn_key.specs.KeyText.{key_reading}
 use Rattle.script_defs.specs.Parts.{word_end}
-use Rattle.command_defs.specs.Commands.{IsFormed, IsWhole, Name, Region, Command, Create, Attach, Map, StartPrimary, Stop, Fuse, Crash, Extract, Zwrite, Show, Print, with_images, MOST_CALLS, MOST_PICK, MOST_NUMBER, MOST_GENERATION, MOST_REGIONS, regions_behind, regions_reading, create_reading, attach_reading, map_reading, start_reading, extract_reading, zwrite_reading, type_reading, command_by, run_reading, AreRegions, IsPattern, IsOrder, create, attach, map_to, start, stop, fuse, crash, extract, extract_from, zwrite, zwrite_from, show, print}
+use Rattle.command_defs.specs.Commands.{IsFormed, IsWhole, Name, Region, Command, Create, Attach, Map, StartPrimary, Stop, Epoch, Fuse, Crash, Extract, Zwrite, Show, Print, with_images, MOST_CALLS, MOST_PICK, MOST_NUMBER, MOST_GENERATION, MOST_REGIONS, regions_behind, regions_reading, create_reading, attach_reading, map_reading, start_reading, extract_reading, zwrite_reading, type_reading, command_by, run_reading, AreRegions, IsPattern, IsOrder, create, attach, map_to, start, stop, epoch, fuse, crash, extract, extract_from, zwrite, zwrite_from, show, print}
 use Rattle.command_defs.specs.Parts.{followed, taken, taken_if_any, ended, word_form, is_name, name_form, pattern_form, number_form, node_form}
 use Rattle.command_defs.specs.Spelling.{Joins}
 use Rattle.command_defs.proofs.Joined.{IsTight, IsFronted, begins}
@@ -303,13 +303,14 @@ command_found word len left rest c tight fronted e =
     (by_word (codes "MAP") (map_found len rest c tight fronted)
     (by_word (codes "START") (start_found len rest c tight fronted)
     (by_word (codes "STOP") (site_found (codes "STOP") Stop stop len rest c tight fronted)
+    (by_word (codes "EPOCH") (site_found (codes "EPOCH") Epoch epoch len rest c tight fronted)
     (by_word (codes "FUSE") (figure_found (codes "FUSE") MOST_CALLS Fuse (omega arith) fuse len rest c tight fronted)
     (by_word (codes "CRASH") (figure_found (codes "CRASH") MOST_PICK Crash (omega arith) crash len rest c tight fronted)
     (by_word (codes "EXTRACT") (extract_found len rest c tight fronted)
     (by_word (codes "ZWRITE") (zwrite_found len rest c tight fronted)
     (by_word (codes "SHOW") (site_found (codes "SHOW") Show show len rest c tight fronted)
     (by_word (codes "TYPE") (type_found len rest c tight fronted)
-    no_word)))))))))) e in
+    no_word))))))))))) e in
     (m.parts, m.order, m.joined)
 
 -- the parts of a command are read as it, and have what a command has
@@ -319,6 +320,7 @@ order_told attach = told (codes "ATTACH") refl (tt, tt) (λ len left rest j. end
 order_told (map_to site region pattern g h p) = told (codes "MAP") refl ((g, h, pattern_read p), tt) (λ len left rest j. map_read len rest site region pattern g h p j)
 order_told (start site g) = told (codes "START") refl (g, tt) (λ len left rest j. start_read len rest site g j)
 order_told (stop site g) = told (codes "STOP") refl (g, tt) (λ len left rest j. alone_read Stop len rest site g j)
+order_told (epoch site g) = told (codes "EPOCH") refl (g, tt) (λ len left rest j. alone_read Epoch len rest site g j)
 order_told (fuse site n g h) = told (codes "FUSE") refl ((g, h), tt) (λ len left rest j. numbered_read MOST_CALLS Fuse (omega arith) len rest site n g h j)
 order_told (crash site n g h) = told (codes "CRASH") refl ((g, h), tt) (λ len left rest j. numbered_read MOST_PICK Crash (omega arith) len rest site n g h j)
 order_told (extract site g) = told (codes "EXTRACT") refl (g, tt) (λ len left rest j. extract_read len rest site g j)

@@ -35,6 +35,8 @@ pub data Command : Type 0 where
   -- the jobs of each updater, updater u at place u - 1, and the updaters in the order of their jobs' first lines
   Run : Name → List (List Job) → (order : List ℕ) → Command
   Stop : Name → Command
+  -- all changed blocks of the site's regions are written, and each region's journal gets an epoch (GT.M: VIEW "EPOCH")
+  Epoch : Name → Command
   -- the site's disk passes so many more calls, and fails each later one until a crash
   Fuse : Name → (calls : ℕ) → Command
   -- the site's disk takes the image of that pick
@@ -102,6 +104,10 @@ start_reading len left = followed (taken name_form len left) (λ site. followed 
 abbrev pub stop_reading : ℕ → List ℕ → Result Command ℕ
 stop_reading len left = followed (taken name_form len left) (λ site. ended len site.1 (Stop site.0))
 
+-- EPOCH site
+abbrev pub epoch_reading : ℕ → List ℕ → Result Command ℕ
+epoch_reading len left = followed (taken name_form len left) (λ site. ended len site.1 (Epoch site.0))
+
 -- FUSE site calls
 abbrev pub fuse_reading : ℕ → List ℕ → Result Command ℕ
 fuse_reading len left = followed (taken name_form len left) (λ site. followed (taken (number_form 0 MOST_CALLS) len site.1) (λ calls. ended len calls.1 (Fuse site.0 calls.0)))
@@ -133,6 +139,7 @@ command_by word len left behind = if bytes_eq word (codes "CREATE") then create_
     else if bytes_eq word (codes "MAP") then map_reading len behind
     else if bytes_eq word (codes "START") then start_reading len behind
     else if bytes_eq word (codes "STOP") then stop_reading len behind
+    else if bytes_eq word (codes "EPOCH") then epoch_reading len behind
     else if bytes_eq word (codes "FUSE") then fuse_reading len behind
     else if bytes_eq word (codes "CRASH") then crash_reading len behind
     else if bytes_eq word (codes "EXTRACT") then extract_reading len behind
@@ -155,6 +162,7 @@ IsFormed (Map name region pattern) = (is_name name ≡ true) × (is_name region 
 IsFormed (StartPrimary name) = is_name name ≡ true
 IsFormed (Run name jobs order) = (is_name name ≡ true) × (length jobs ≡ UPDATERS) × (list_all is_updater order ≡ true) × (list_all (λ own. list_all is_of_size own) jobs ≡ true)
 IsFormed (Stop name) = is_name name ≡ true
+IsFormed (Epoch name) = is_name name ≡ true
 IsFormed (Fuse name calls) = (is_name name ≡ true) × (calls ≤ MOST_CALLS)
 IsFormed (Crash name pick) = (is_name name ≡ true) × (pick ≤ MOST_PICK)
 IsFormed (Extract name None) = is_name name ≡ true
@@ -192,6 +200,7 @@ pub data IsOrder : (parts : List (List ℕ)) (command : Command) → Type 0 wher
   map_to : (site region : Name) (pattern : List ℕ) → is_name site ≡ true → is_name region ≡ true → IsPattern pattern → IsOrder (codes "MAP" ∷ site ∷ region ∷ pattern ∷ []) (Map site region pattern)
   start : (site : Name) → is_name site ≡ true → IsOrder (codes "START" ∷ site ∷ codes "PRIMARY" ∷ []) (StartPrimary site)
   stop : (site : Name) → is_name site ≡ true → IsOrder (codes "STOP" ∷ site ∷ []) (Stop site)
+  epoch : (site : Name) → is_name site ≡ true → IsOrder (codes "EPOCH" ∷ site ∷ []) (Epoch site)
   fuse : (site : Name) (calls : ℕ) → is_name site ≡ true → calls ≤ MOST_CALLS → IsOrder (codes "FUSE" ∷ site ∷ decimal calls ∷ []) (Fuse site calls)
   crash : (site : Name) (pick : ℕ) → is_name site ≡ true → pick ≤ MOST_PICK → IsOrder (codes "CRASH" ∷ site ∷ decimal pick ∷ []) (Crash site pick)
   extract : (site : Name) → is_name site ≡ true → IsOrder (codes "EXTRACT" ∷ site ∷ []) (Extract site None)

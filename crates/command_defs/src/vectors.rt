@@ -3,7 +3,7 @@ ghost use Rattle.std.specs.Prelude.{◌≡◌, ◌∷◌, ◌++◌, [], codes, S
 ghost use Rattle.global_defs.specs.Key.{sub_of};
 ghost use Rattle.global_defs.specs.Jobs as jobs;
 ghost use Rattle.command_defs.specs.Lines.{lines_of};
-ghost use Rattle.command_defs.specs.Commands.{Create, Attach, Map, StartPrimary, Run, Stop, Fuse, Crash, Extract, Zwrite, Show, Print, with_images};
+ghost use Rattle.command_defs.specs.Commands.{Create, Attach, Map, StartPrimary, Run, Stop, Epoch, Fuse, Crash, Extract, Zwrite, Show, Print, with_images};
 ghost use Rattle.command_defs.specs.Parts.{trimmed};
 ghost use Rattle.command_defs.specs.Sections.{begun, with_job, transaction_begun, transaction_ended, is_full_job};
 ghost use Rattle.command_defs.specs.Script.{Outside, Within, Skips, Wrong, Goes, Ends, line_reading, lines_reading};
@@ -45,6 +45,8 @@ pub fn commands_hold()
     ensures longest { line_reading Outside (codes "STOP ABCDEFGHIJKLMN9") ≡ Ends (Stop (codes "ABCDEFGHIJKLMN9")) }
     ensures too_long { line_reading Outside (codes "STOP ABCDEFGHIJKLMN90") ≡ Wrong 6 }
     ensures digit { line_reading Outside (codes "STOP 1A") ≡ Wrong 6 }
+    ensures epoch { line_reading Outside (codes "EPOCH A") ≡ Ends (Epoch (codes "A")) }
+    ensures epoch_more { line_reading Outside (codes "EPOCH A R") ≡ Wrong 9 }
     ensures start { line_reading Outside (codes " START  A PRIMARY \r") ≡ Ends (StartPrimary (codes "A")) }
     ensures role { line_reading Outside (codes "START A SECONDARY OF B") ≡ Wrong 9 }
     ensures word { line_reading Outside (codes "RUNN A") ≡ Wrong 1 }

@@ -48,7 +48,7 @@ fn two_regions(rt: HostRuntime) -> Result<(), Fail> {
     assert_eq!(rt; count(&read, 0), 1);
     assert_eq!(rt; count(&read, 1), 0);
     let ReadSite { log, journals, .. } = read;
-    let made = remember_all(alloc, &log, journals)?;
+    let made = remember_all(alloc, &log, &journals)?;
     assert_eq!(rt; made.entries.len(), 0);
     assert!(rt; made.broken.is_empty());
     Ok(())

@@ -6,6 +6,8 @@ mod attaching;
 #[cfg(test)]
 mod bad_lines;
 #[cfg(test)]
+mod epochs;
+#[cfg(test)]
 mod faults;
 #[cfg(test)]
 mod jobs;

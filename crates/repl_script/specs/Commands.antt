@@ -15,6 +15,7 @@ command_value (commands.Map site region pattern) = defs.Map site region pattern
 command_value (commands.StartPrimary site) = defs.StartPrimary site
 command_value (commands.Run site jobs order) = defs.Run site (at_all jobs) order
 command_value (commands.Stop site) = defs.Stop site
+command_value (commands.Epoch site) = defs.Epoch site
 command_value (commands.Fuse site calls) = defs.Fuse site calls
 command_value (commands.Crash site pick) = defs.Crash site pick
 command_value (commands.Extract site number) = defs.Extract site number

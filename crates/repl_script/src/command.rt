@@ -36,6 +36,10 @@ pub enum Command {
     Stop {
         site: Bytes,
     },
+    /// Has all that was changed in a site's database files, with an epoch in each region's journal (GT.M: VIEW "EPOCH").
+    Epoch {
+        site: Bytes,
+    },
     /// Lets so many more calls of the site's disk succeed, at most 1,000,000; each later one fails until a crash.
     Fuse {
         site: Bytes,

@@ -1,7 +1,7 @@
 // Lines between commands.
 ghost use Rattle.std.specs.Prelude.{◌≡◌, true, IfOk};
 ghost use Rattle.command_defs.specs.Parts.{is_name};
-ghost use Rattle.command_defs.specs.Commands.{IsFormed, IsWhole, create_reading, attach_reading, map_reading, start_reading, stop_reading, fuse_reading, crash_reading, extract_reading, zwrite_reading, show_reading, type_reading, command_by, run_reading};
+ghost use Rattle.command_defs.specs.Commands.{IsFormed, IsWhole, create_reading, attach_reading, map_reading, start_reading, stop_reading, epoch_reading, fuse_reading, crash_reading, extract_reading, zwrite_reading, show_reading, type_reading, command_by, run_reading};
 ghost use Rattle.repl_script.specs.Commands.{command_value};
 ghost use Rattle.repl_script.specs.Reads.{Reads};
 
@@ -79,6 +79,16 @@ fn read_stop(alloc: Global, len: u16, left: &[u8]) -> Result<Command, Fault>
     ended(len, site.behind)?;
     let site = Bytes::of(alloc, site.part)?;
     Ok(Command::Stop { site })
+}
+
+fn read_epoch(alloc: Global, len: u16, left: &[u8]) -> Result<Command, Fault>
+    ensures reading { Reads command_value (epoch_reading len left.now) result }
+    ensures formed { IfOk result (λ command. IsFormed (command_value command) × IsWhole (command_value command)) }
+{
+    let site = name(len, left)?;
+    ended(len, site.behind)?;
+    let site = Bytes::of(alloc, site.part)?;
+    Ok(Command::Epoch { site })
 }
 
 fn read_fuse(alloc: Global, len: u16, left: &[u8]) -> Result<Command, Fault>
@@ -191,6 +201,9 @@ pub fn read_command(
     }
     if word == b"STOP".as_slice() {
         return read_stop(alloc, len, behind);
+    }
+    if word == b"EPOCH".as_slice() {
+        return read_epoch(alloc, len, behind);
     }
     if word == b"FUSE".as_slice() {
         return read_fuse(alloc, len, behind);

@@ -1,15 +1,12 @@
 -- A site's files.
-use Rattle.std.proofs.Common.{◌≡◌, ℕ, Bool, true, length, take, refl, ap, sym, ◌∙◌}
+use Rattle.std.proofs.Common.{◌≡◌, ℕ, Bool, true, length, take, refl}
 use Rattle.std.specs.Prelude.{IsSome}
-use Rattle.std.proofs.lemmas.List.{length-map}
-use Rattle.std.proofs.lemmas.List.FromFn.{length-enumerate_from}
 use Rattle.disk_defs.specs.Disk.{View, IsLawful, AtEachMoment}
 use Rattle.disk_defs.proofs.Moments.{holds_now}
 use Rattle.site_defs.specs.Contents.{Contents, NO_LEFTOVER}
 use Rattle.site_defs.specs.Fronts.{with_sequence}
 use Rattle.site_defs.specs.Stands.{IsSite, HasLeft}
 use Rattle.site_store.specs.Site.{IsOpen}
-use Rattle.gvn_model.specs.Numbered.{numbered}
 use Rattle.site_store.specs.declared.site.OpenSite.{OpenSite}
 use Rattle.site_store.proofs.Emptied.{none_left}
 use Rattle.site_store.proofs.Standing.{told_of}
@@ -30,4 +27,4 @@ stands_after v w c h s lawful is told run bare = record {
 
 -- as many entries in memory
 pub entries_counted : (v : View) (told : Bool) (c : Contents) (h : ℕ) (s : OpenSite) → IsOpen v told c h s → length s.entries.items ≡ length c.sequence
-entries_counted v told c h s is = sym (length-map s.entries.items numbered) ∙ ap length is.remembered.entries ∙ length-enumerate_from 1 c.sequence
+entries_counted v told c h s is = is.remembered.count

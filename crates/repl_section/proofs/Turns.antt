@@ -19,6 +19,7 @@ use Rattle.site_defs.specs.Texts.{is_past, printed}
 use Rattle.repl_section.specs.declared.reign.Reign.{Reign}
 use Rattle.repl_section.specs.Reigns.{stamp_in, stamp_of}
 use Rattle.repl_section.specs.Deciding.{outcome, HasCome, Appends, MayHave, HasReached, MayHaveFront, FailsBy, FailsAt, FailsIn, LeftAfter, MayLeave, StandsLeft, LeavesPick}
+use Rattle.site_regions.specs.Joined.{joined}
 
 -- a turn with one more pick
 abbrev pub with_pick : Turn → ℕ → Turn → Turn
@@ -186,15 +187,15 @@ abbrev pub come_to : Stamp → List ℕ → List (List Job) → List ℕ → ℕ
 come_to stamp serials jobs order i seq = turn_of stamp serials jobs (take i order) seq
 
 abbrev pub pick_at : Stamp → List ℕ → List (List Job) → List ℕ → ℕ → Contents → Reign → ℕ → Job → Turn
-pick_at stamp serials jobs order i c r u job = outcome (stamp_of r) r.serials (come_to stamp serials jobs order i c.sequence).sequence u (eval job r.site.globals)
+pick_at stamp serials jobs order i c r u job = outcome (stamp_of r) r.serials (come_to stamp serials jobs order i c.sequence).sequence u (eval job (joined r.site.globals))
 
 next_turn : (v : View) (stamp : Stamp) (told : Bool) (c : Contents) (serials : List ℕ) (jobs left : List (List Job)) (order : List ℕ) (i u : ℕ) (job : Job) (undecided : ℕ) (r1 : Reign) (gave : List Replied → Type 0)
     → HasGone v stamp told c (come_to stamp serials jobs order i c.sequence) left undecided (length order) r1 gave → i < length order → u ≡ get_or order i 0 → next_job u left ≡ Some job
     → come_to stamp serials jobs order (i + 1) c.sequence ≡ with_pick (come_to stamp serials jobs order i c.sequence) u (pick_at stamp serials jobs order i c r1 u job)
 next_turn v stamp told c serials jobs left order i u job undecided r1 gave h inside is next =
     ap (λ (x : List ℕ). turn_of stamp serials jobs x c.sequence) (front_more order i u inside is)
-    ∙ turn_more stamp serials r1.serials jobs left (take i order) u job c.sequence r1.site.globals h.left next h.reached.serials h.reached.reigns.remembered.globals
-    ∙ ap (λ (x : Stamp). with_pick (come_to stamp serials jobs order i c.sequence) u (outcome x r1.serials (come_to stamp serials jobs order i c.sequence).sequence u (eval job r1.site.globals))) (sym h.under)
+    ∙ turn_more stamp serials r1.serials jobs left (take i order) u job c.sequence (joined r1.site.globals) h.left next h.reached.serials h.reached.reigns.remembered.globals
+    ∙ ap (λ (x : Stamp). with_pick (come_to stamp serials jobs order i c.sequence) u (outcome x r1.serials (come_to stamp serials jobs order i c.sequence).sequence u (eval job (joined r1.site.globals)))) (sym h.under)
 
 -- the pick was decided
 pub one_decided : (v w : View) (stamp : Stamp) (told : Bool) (c : Contents) (serials : List ℕ) (jobs left : List (List Job)) (order : List ℕ) (i u : ℕ) (job : Job) (undecided : ℕ) (r1 r2 : Reign) (before here after : List Replied → Type 0)
@@ -206,7 +207,7 @@ one_decided v w stamp told c serials jobs left order i u job undecided r1 r2 bef
     let t = come_to stamp serials jobs order i c.sequence in
     let p = pick_at stamp serials jobs order i c r1 u job in
     subst (λ (x : Turn). HasGone w stamp told c x (without_next u left) undecided (length order) r2 after) (sym (next_turn v stamp told c serials jobs left order i u job (undecided + 1) r1 before h inside is next))
-    (one_gone v w stamp told c t p u left undecided (length order) r1 r2 before here after h (is_pick (stamp_of r1) r1.serials t.sequence u (eval job r1.site.globals)) s same further)
+    (one_gone v w stamp told c t p u left undecided (length order) r1 r2 before here after h (is_pick (stamp_of r1) r1.serials t.sequence u (eval job (joined r1.site.globals))) s same further)
 
 -- the updater had no job
 pub none_decided : (v : View) (stamp : Stamp) (told : Bool) (c : Contents) (serials : List ℕ) (jobs left : List (List Job)) (order : List ℕ) (i u : ℕ) (undecided : ℕ) (r1 : Reign) (gave : List Replied → Type 0)
@@ -281,7 +282,7 @@ left_at v w stamp told c serials jobs left order i u job undecided r1 gave h ins
     by_image files (inr s) =
         let t = come_to stamp serials jobs order i c.sequence in
         let p = pick_at stamp serials jobs order i c r1 u job in
-        let more : length t.sequence ≤ length p.sequence = (is_pick (stamp_of r1) r1.serials t.sequence u (eval job r1.site.globals)).grown in (
+        let more : length t.sequence ≤ length p.sequence = (is_pick (stamp_of r1) r1.serials t.sequence u (eval job (joined r1.site.globals))).grown in (
           with_sequence c p.sequence,
           (
             i + 1,

@@ -16,6 +16,6 @@ stamp_in (Some stamp) = stamp_value stamp
 abbrev pub stamp_of : Reign → defs.Stamp
 stamp_of r = stamp_in r.site.stamp
 
--- The reign's site has these contents in memory and, where files are known, on the disk, all entries for good.
+-- The reign's site is open with these contents, all entries for good.
 abbrev pub Reigns : View → Bool → Contents → Reign → Type 0
 Reigns v told c r = IsOpen v told c (length c.sequence) r.site

@@ -12,6 +12,7 @@ ghost use Rattle.site_store.specs.Site.{IsReady, IsOpen, HasReign, HasRoomFor};
 ghost use Rattle.repl_section.specs.Replies.{named, replied_value};
 ghost use Rattle.repl_section.specs.Reigns.{stamp_of};
 ghost use Rattle.repl_section.specs.Deciding.{outcome, FitsIn, ComesTo, Appends, StandsAt};
+ghost use Rattle.site_regions.specs.Joined.{joined};
 
 use crate::decision::Decision;
 use crate::error::DecideError;
@@ -74,7 +75,7 @@ impl Reign {
         requires serial { origin.serial ≡ serial_at self.old.serials origin.updater }
         requires some { 1 ≤ length updates }
         requires room { length self.old.site.entries.items + 1 < 2 ^ 40 }
-        requires nodes { HasRoomFor self.old.site.globals updates }
+        requires nodes { HasRoomFor (joined self.old.site.globals) updates }
         ensures ready { OnOk result (IsReady (D.disk disk.new) self.new.site) }
         ensures reign { OnOk result (HasReign self.new.site) }
         ensures stamp { self.new.site.stamp ≡ self.old.site.stamp }
@@ -105,7 +106,7 @@ impl Reign {
         requires reign { HasReign self.old.site }
         requires origin { IsOrigin (origin_value origin) }
         requires serial { origin.serial ≡ serial_at self.old.serials origin.updater }
-        requires nodes { FitsIn self.old.site.globals (evaluated_value evaluated) }
+        requires nodes { FitsIn (joined self.old.site.globals) (evaluated_value evaluated) }
         ensures ready { OnOk result (IsReady (D.disk disk.new) self.new.site) }
         ensures reign { OnOk result (HasReign self.new.site) }
         ensures stamp { self.new.site.stamp ≡ self.old.site.stamp }
@@ -152,10 +153,10 @@ impl Reign {
         ensures ready { OnOk result (IsReady (D.disk disk.new) self.new.site) }
         ensures reign { OnOk result (HasReign self.new.site) }
         ensures stamp { self.new.site.stamp ≡ self.old.site.stamp }
-        ensures done { IfOk result (λ decision. (told : Bool) (c : Contents) (h : ℕ) → IsOpen (D.disk disk.old) told c h self.old.site → ComesTo (D.disk disk.new) told c h (outcome (stamp_of self.old) self.old.serials c.sequence updater (eval (job_value job) self.old.site.globals)) self.new decision) }
+        ensures done { IfOk result (λ decision. (told : Bool) (c : Contents) (h : ℕ) → IsOpen (D.disk disk.old) told c h self.old.site → ComesTo (D.disk disk.new) told c h (outcome (stamp_of self.old) self.old.serials c.sequence updater (eval (job_value job) (joined self.old.site.globals))) self.new decision) }
         ensures entered { IfOk result (λ decision. IfSome (named decision.reply) (λ number. number ≤ length self.new.site.entries.items)) }
         ensures grown { OnOk result (length self.old.site.entries.items ≤ length self.new.site.entries.items) }
-        ensures appends { IsErrOf result DecideError.Failed → (told : Bool) (c : Contents) (h : ℕ) → IsOpen (D.disk disk.old) told c h self.old.site → Appends c.sequence (outcome (stamp_of self.old) self.old.serials c.sequence updater (eval (job_value job) self.old.site.globals)) }
+        ensures appends { IsErrOf result DecideError.Failed → (told : Bool) (c : Contents) (h : ℕ) → IsOpen (D.disk disk.old) told c h self.old.site → Appends c.sequence (outcome (stamp_of self.old) self.old.serials c.sequence updater (eval (job_value job) (joined self.old.site.globals))) }
         ensures stands { (c : Contents) (h : ℕ) → IsOpen (D.disk disk.old) true c h self.old.site → StandsAt (D.disk disk.new) c h }
         ensures simulated { (D.disk disk.new).simulated ≡ (D.disk disk.old).simulated }
         ensures later { (D.disk disk.old).faults ≤ (D.disk disk.new).faults }

@@ -10,6 +10,7 @@ ghost use Rattle.site_defs.specs.Behind.{IsFrontLeft, IsSiteWith};
 ghost use Rattle.site_store.specs.Site.{IsReady, IsOpen, HasReign, HasRoomFor, with_entry};
 ghost use Rattle.repl_section.specs.Reigns.{Reigns};
 ghost use Rattle.repl_section.specs.Deciding.{StandsAt};
+ghost use Rattle.site_regions.specs.Joined.{joined};
 
 use crate::error::DecideError;
 use crate::reign::Reign;
@@ -30,7 +31,7 @@ impl Reign {
         requires reign { HasReign self.old.site }
         requires form { IsTransaction (transaction_value t) }
         requires room { length self.old.site.entries.items + 1 < 2 ^ 40 }
-        requires nodes { HasRoomFor self.old.site.globals t.updates }
+        requires nodes { HasRoomFor (joined self.old.site.globals) t.updates }
         ensures ready { OnOk result (IsReady (D.disk disk.new) self.new.site) }
         ensures reign { OnOk result (HasReign self.new.site) }
         ensures done { OnOk result ((told : Bool) (c : Contents) (h : ℕ) → IsOpen (D.disk disk.old) told c h self.old.site → IsOpen (D.disk disk.new) told (with_entry self.old.site.stamp (transaction_value t) c) h self.new.site) }

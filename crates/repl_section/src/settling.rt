@@ -11,6 +11,7 @@ ghost use Rattle.site_store.specs.Site.{IsReady, IsOpen, HasReign};
 ghost use Rattle.repl_section.specs.Replies.{named};
 ghost use Rattle.repl_section.specs.Reigns.{Reigns, stamp_of};
 ghost use Rattle.repl_section.specs.Deciding.{outcome, hardened_for, HasCome, Appends, MayHave, LeavesPick};
+ghost use Rattle.site_regions.specs.Joined.{joined};
 
 use crate::decision::Decision;
 use crate::error::DecideError;
@@ -64,10 +65,10 @@ impl Reign {
         ensures ready { OnOk result (IsReady (D.disk disk.new) self.new.site) }
         ensures reign { OnOk result (HasReign self.new.site) }
         ensures stamp { self.new.site.stamp ≡ self.old.site.stamp }
-        ensures done { OnOk result ((told : Bool) (c : Contents) → Reigns (D.disk disk.old) told c self.old → HasCome (D.disk disk.new) told c (outcome (stamp_of self.old) self.old.serials c.sequence updater (eval (job_value job) self.old.site.globals)) self.new (S.gave sink.old sink.new)) }
-        ensures appends { IsErrOf result DecideError.Failed → (told : Bool) (c : Contents) → Reigns (D.disk disk.old) told c self.old → Appends c.sequence (outcome (stamp_of self.old) self.old.serials c.sequence updater (eval (job_value job) self.old.site.globals)) }
-        ensures may_have { (c : Contents) → Reigns (D.disk disk.old) true c self.old → MayHave (D.disk disk.new) c (outcome (stamp_of self.old) self.old.serials c.sequence updater (eval (job_value job) self.old.site.globals)).sequence }
-        ensures leaves { (c : Contents) → Reigns (D.disk disk.old) true c self.old → LeavesPick (D.disk disk.new) c (outcome (stamp_of self.old) self.old.serials c.sequence updater (eval (job_value job) self.old.site.globals)).sequence }
+        ensures done { OnOk result ((told : Bool) (c : Contents) → Reigns (D.disk disk.old) told c self.old → HasCome (D.disk disk.new) told c (outcome (stamp_of self.old) self.old.serials c.sequence updater (eval (job_value job) (joined self.old.site.globals))) self.new (S.gave sink.old sink.new)) }
+        ensures appends { IsErrOf result DecideError.Failed → (told : Bool) (c : Contents) → Reigns (D.disk disk.old) told c self.old → Appends c.sequence (outcome (stamp_of self.old) self.old.serials c.sequence updater (eval (job_value job) (joined self.old.site.globals))) }
+        ensures may_have { (c : Contents) → Reigns (D.disk disk.old) true c self.old → MayHave (D.disk disk.new) c (outcome (stamp_of self.old) self.old.serials c.sequence updater (eval (job_value job) (joined self.old.site.globals))).sequence }
+        ensures leaves { (c : Contents) → Reigns (D.disk disk.old) true c self.old → LeavesPick (D.disk disk.new) c (outcome (stamp_of self.old) self.old.serials c.sequence updater (eval (job_value job) (joined self.old.site.globals))).sequence }
         ensures untold { IsErrOf result DecideError.Failed → sink.new ≡ sink.old }
         ensures simulated { (D.disk disk.new).simulated ≡ (D.disk disk.old).simulated }
         ensures later { (D.disk disk.old).faults ≤ (D.disk disk.new).faults }

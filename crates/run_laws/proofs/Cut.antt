@@ -2,16 +2,19 @@
 use Rattle.std.proofs.Common.{◌≡◌, ℕ, List, Option, Some, None, refl, ◌∙◌, ap, subst, inl, inr}
 use Rattle.std.specs.Prelude.{◌⊎◌}
 use Rattle.global_defs.specs.Jobs.{Job}
-use Rattle.command_defs.specs.Commands.{Name, Run, StartPrimary}
+use Rattle.command_defs.specs.Commands.{Name, Run, StartPrimary, Stop, Epoch}
 use Rattle.site_defs.specs.Contents.{Standing}
+use Rattle.site_defs.specs.Epochs.{MayMarkLeft}
 use Rattle.site_defs.specs.Opening.{MayBeginLeft}
 use Rattle.world_defs.specs.World.{State, Down, Primary, Failed, Site, Place, World, StandAfter, name_on, place_of}
 use Rattle.world_defs.specs.Answers.{NoSite}
 use Rattle.world_defs.specs.Row.{Row}
 use Rattle.world_defs.specs.Meaning.{Meaning, Acts, apart, refusing, at_found, there, on_site, row_at}
 use Rattle.world_defs.specs.Step.{LeftByRow, LeavesOld, IsCut, CutOff}
+use Rattle.world_defs.specs.rows.Epoch.{epoch}
 use Rattle.world_defs.specs.rows.Run.{RunMayStand, RunMayStandOn, run}
 use Rattle.world_defs.specs.rows.Start.{start}
+use Rattle.world_defs.specs.rows.Stop.{stop}
 use Rattle.world_laws.specs.Entries.{IsPlaceOf}
 use Rattle.run_laws.specs.Leftovers.{IsWrittenDown, IsLeftWithin, LeavesBehind}
 use Rattle.world_laws.proofs.Alongs.{at_there}
@@ -64,3 +67,15 @@ begun_so name (Some os) (Some ns) h = λ o a. let s = h o a in (s.0, s.1, elim s
 
 pub start-cut : (w m : World) (name : Name) (p q : Place) → CutOff w (StartPrimary name) m → IsPlaceOf name w m p q → LeavesBehind IsWrittenDown p q
 start-cut w m name p q h at t = let l = left_there start w m name p q at h in begun_so (name_on p.site) p.standings q.standings (l.standings t)
+
+-- an EPOCH, and a STOP
+
+lies_there : (s o : Standing) → MayMarkLeft s o → o.broken ≡ s.broken
+lies_there s o (inl e) = ap (λ (x : Standing). x.broken) e
+lies_there s o (inr k) = ap (λ (x : Standing). x.broken) k.1
+
+pub epoch-cut : (w m : World) (name : Name) (p q : Place) → CutOff w (Epoch name) m → IsPlaceOf name w m p q → LeavesBehind (λ s o. o.broken ≡ s.broken) p q
+epoch-cut w m name p q h at t = let l = left_there epoch w m name p q at h in stand_so MayMarkLeft (λ s o. o.broken ≡ s.broken) lies_there p.standings q.standings (l.standings t)
+
+pub stop-cut : (w m : World) (name : Name) (p q : Place) → CutOff w (Stop name) m → IsPlaceOf name w m p q → LeavesBehind (λ s o. o.broken ≡ s.broken) p q
+stop-cut w m name p q h at t = let l = left_there stop w m name p q at h in stand_so MayMarkLeft (λ s o. o.broken ≡ s.broken) lies_there p.standings q.standings (l.standings t)

@@ -3,3 +3,4 @@ pub mod Owns
 pub mod Stays
 pub mod Written
 pub mod Cut
+pub mod Marked

@@ -1,1 +1,2 @@
 pub mod Leftovers
+pub mod Epochs

@@ -2,7 +2,7 @@
 
 ghost use Rattle.std.specs.Prelude.{◌≡◌, ◌∷◌, List, [], ℕ, Some};
 ghost use Rattle.global_defs.specs.Jobs.{Job};
-ghost use Rattle.command_defs.specs.Commands.{Name, Crash, Run, StartPrimary};
+ghost use Rattle.command_defs.specs.Commands.{Name, Crash, Run, StartPrimary, Stop, Epoch};
 ghost use Rattle.world_defs.specs.World.{Place, World};
 ghost use Rattle.world_defs.specs.Answers.{Section, Done, Ran};
 ghost use Rattle.world_defs.specs.Step.{Step, CutOff};
@@ -23,4 +23,7 @@ pub fn cut_off_commands_keep_what_lies_behind()
     ensures section { (w m : World) (name : Name) (jobs : List (List Job)) (order : List ℕ) (p q : Place) → CutOff w (Run name jobs order) m → IsPlaceOf name w m p q → LeavesBehind (λ s o. IsLeftWithin jobs order p o) p q }
     // a START has written it down, or it lies where it lay
     ensures start { (w m : World) (name : Name) (p q : Place) → CutOff w (StartPrimary name) m → IsPlaceOf name w m p q → LeavesBehind IsWrittenDown p q }
+    // an EPOCH and a STOP leave it where it lay
+    ensures epoch { (w m : World) (name : Name) (p q : Place) → CutOff w (Epoch name) m → IsPlaceOf name w m p q → LeavesBehind (λ s o. o.broken ≡ s.broken) p q }
+    ensures stop { (w m : World) (name : Name) (p q : Place) → CutOff w (Stop name) m → IsPlaceOf name w m p q → LeavesBehind (λ s o. o.broken ≡ s.broken) p q }
 {}

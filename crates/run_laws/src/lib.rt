@@ -5,5 +5,6 @@
 #![tactic(auto)]
 
 pub mod entries;
+pub mod epochs;
 pub mod faults;
 pub mod leftovers;

@@ -21,6 +21,7 @@ command| MAP  A  HIST  % \r|
 command|MAP A HIST %ABCDEFGHIJKLMNOPQRSTUVWXYZ1234*|
 command|START A PRIMARY|
 command|STOP ABCDEFGHIJKLMNO|
+command|EPOCH A|
 command|FUSE A 0|
 command|FUSE A 1000000|
 command|CRASH A 0|
@@ -87,6 +88,8 @@ const BAD_COMMANDS: &[u8] = b"\
 1:2| \r \r |
 1:3|  STOPP A|
 1:1|STOP\tA|
+1:6|EPOCH|
+1:9|EPOCH A R|
 1:4|RUN|
 1:7|RUN A B|
 1:5|RUN 1|
@@ -135,7 +138,7 @@ const BAD_NUMBERS_AND_NODES: &[u8] = b"\
 1:15|TYPE A BROKEN 01|
 1:15|TYPE A BROKEN 65536|
 1:17|TYPE A BROKEN 1 2|
-1:1|EPOCH A|
+1:1|VIEW A|
 ";
 
 const SECTION: &[u8] = b"\

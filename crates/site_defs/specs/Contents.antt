@@ -12,19 +12,27 @@ Name = List ℕ
 abbrev pub same_name : Name → Name → Bool
 same_name a b = pointwise nat_eq a b
 
+-- An epoch in a region's journals: the generation that it stands in, and of how many entries it is (GT.M: an EPOCH record; what was changed before it
+-- stands in the database file).
+pub record Taken : Type 0 where
+  pub generation : ℕ
+  pub number : ℕ
+
 -- What the files on one disk stand for, in one image.
 pub record Contents : Type 0 where
   -- the records of its instance file; none where no site was made there
   pub instance : List InstanceRecord
   -- how the generations of its journals began, by region, in their order
   pub starts : ℕ → List Start
+  -- the epochs in its journals, by region, in their order
+  pub epochs : ℕ → List Taken
   -- its broken-transaction files, from generation 1 to the newest one
   pub texts : List (List ℕ)
   pub sequence : Sequence
 
 -- no site was made there
 abbrev pub nothing : Contents
-nothing = record { instance = []; starts = λ r. []; texts = []; sequence = [] }
+nothing = record { instance = []; starts = λ r. []; epochs = λ r. []; texts = []; sequence = [] }
 
 -- a site was made there
 abbrev pub is_made : Contents → Bool

@@ -3,6 +3,7 @@ pub mod Contents
 pub mod Limits
 pub mod Opening
 pub mod Fronts
+pub mod Epochs
 pub mod Stands
 pub mod Behind
 pub mod Texts

@@ -11,7 +11,7 @@ use Rattle.journal_defs.specs.Sequence.{Records}
 use Rattle.journal_defs.specs.Stands.{AreRecords}
 use Rattle.journal_defs.specs.Broken.{broken, broken_text}
 use Rattle.journal_defs.specs.Fit.{IsSoundImage}
-use Rattle.site_defs.specs.Contents.{Contents, Leftover, NO_LEFTOVER, nothing, is_made}
+use Rattle.site_defs.specs.Contents.{Taken, Contents, Leftover, NO_LEFTOVER, nothing, is_made}
 
 -- how a generation begins, where the record says it
 abbrev pub start_in : JournalRecord → Option Start
@@ -19,6 +19,13 @@ start_in (Pini s) = Some s
 start_in (Epoch m) = None
 start_in (Pblk b) = None
 start_in (Tcom p) = None
+
+-- the epoch that stands here, where the record is one
+abbrev pub epoch_in : ℕ → JournalRecord → Option Taken
+epoch_in g (Epoch m) = Some (record { generation = g; number = m.number })
+epoch_in g (Pini s) = None
+epoch_in g (Pblk b) = None
+epoch_in g (Tcom p) = None
 
 -- No site was made there: the instance file has no open record, and no other file has a byte.
 pub record IsBlank (files : Files) : Type 0 where
@@ -37,6 +44,7 @@ pub record IsSite (files : Files) (c : Contents) : Type 0 where
   pub records : Records
   pub instance : records.instance ≡ c.instance
   pub starts : (r : ℕ) → c.starts r ≡ filter_map (λ p. start_in p.what) (records.journal r)
+  pub epochs : (r : ℕ) → c.epochs r ≡ filter_map (λ p. epoch_in p.generation p.what) (records.journal r)
   pub texts : c.texts ≡ texts_of files (generation c.instance)
   pub image : IsSoundImage files records c.sequence
 

@@ -1,15 +1,16 @@
 // What the definitions come to on small values.
-ghost use Rattle.std.specs.Prelude.{◌≡◌, ◌∷◌, ◌++◌, [], codes, true, false};
+ghost use Rattle.std.specs.Prelude.{◌≡◌, ◌==◌, ◌∷◌, ◌++◌, [], codes, true, false};
 ghost use Rattle.journal_defs.specs.Instance as records;
 ghost use Rattle.site_defs.specs.Limits.{no_generation_left, no_reign_left};
+ghost use Rattle.site_defs.specs.Epochs.{epoch_for, with_epochs, marked};
 ghost use Rattle.site_defs.specs.Opening.{opened, with_starts, with_reign, next_stamp};
-ghost use Rattle.site_defs.specs.Samples.{made, reigned_once, dropped_reign, two_regions};
+ghost use Rattle.site_defs.specs.Samples.{made, reigned_once, dropped_reign, two_regions, cut_epoch};
 
 /// The last generation and the last cycle are limits; a cycle is drawn past that of a reign that was dropped.
 pub fn limits_hold()
-    ensures generations { no_generation_left (record { instance = records.Cut 0 65534 ∷ []; starts = λ r. []; texts = []; sequence = [] }) ≡ true }
-    ensures one_less { no_generation_left (record { instance = records.Cut 0 65533 ∷ []; starts = λ r. []; texts = []; sequence = [] }) ≡ false }
-    ensures cycles { no_reign_left (record { instance = records.Reigned (record { stamp = record { root = codes "Z"; cycle = 4294967295 }; start = 1 }) ∷ []; starts = λ r. []; texts = []; sequence = [] }) ≡ true }
+    ensures generations { no_generation_left (record { instance = records.Cut 0 65534 ∷ []; starts = λ r. []; epochs = λ r. []; texts = []; sequence = [] }) ≡ true }
+    ensures one_less { no_generation_left (record { instance = records.Cut 0 65533 ∷ []; starts = λ r. []; epochs = λ r. []; texts = []; sequence = [] }) ≡ false }
+    ensures cycles { no_reign_left (record { instance = records.Reigned (record { stamp = record { root = codes "Z"; cycle = 4294967295 }; start = 1 }) ∷ []; starts = λ r. []; epochs = λ r. []; texts = []; sequence = [] }) ≡ true }
     ensures dropped { (next_stamp (codes "A") dropped_reign).cycle ≡ 2 }
 {}
 
@@ -29,4 +30,16 @@ pub fn regions_begin()
     ensures not_second { (with_starts 1 two_regions).starts 1 ≡ [] }
     ensures second { (with_starts 2 two_regions).starts 1 ≡ record { region = 1; before = true; generation = 1; previous = 0 } ∷ [] }
     ensures no_third { (with_starts 3 two_regions).starts 2 ≡ [] }
+{}
+
+/// An epoch is taken in regions that there are, and is of the newest generation. One that a CUT discarded is gone back to for no
+/// number of entries, however great; of those that count the last one is.
+pub fn epochs_are_taken()
+    ensures first { (marked reigned_once).epochs 0 ≡ record { generation = 1; number = 0 } ∷ [] }
+    ensures no_second { (marked reigned_once).epochs 1 ≡ [] }
+    ensures one_of_two { (with_epochs (λ r. r == 1) two_regions).epochs 0 ≡ [] }
+    ensures the_other { (with_epochs (λ r. r == 1) two_regions).epochs 1 ≡ record { generation = 1; number = 0 } ∷ [] }
+    ensures discarded { epoch_for cut_epoch.instance 1 (cut_epoch.epochs 0) ≡ 0 }
+    ensures survived { epoch_for reigned_once.instance 5 (record { generation = 1; number = 3 } ∷ record { generation = 1; number = 4 } ∷ []) ≡ 4 }
+    ensures for_fewer { epoch_for reigned_once.instance 3 (record { generation = 1; number = 3 } ∷ record { generation = 1; number = 4 } ∷ []) ≡ 3 }
 {}

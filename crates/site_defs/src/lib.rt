@@ -5,4 +5,4 @@
 
 mod laws;
 
-pub use laws::{limits_hold, openings_hold, regions_begin};
+pub use laws::{epochs_are_taken, limits_hold, openings_hold, regions_begin};

@@ -82,9 +82,10 @@ impl Regions {
         Ok(Regions { directory, regions })
     }
 
-    /// How many regions there are.
+    /// How many regions there are. They have the parts of one state.
     pub fn count(&self) -> usize
         ensures count { result ≡ length self.now.regions }
+        ensures joined { AreJoined self.now }
         ensures there { (name : List ℕ) → region_of self.now.patterns name < result }
     {
         self.regions.len()

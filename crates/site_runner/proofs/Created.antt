@@ -52,7 +52,7 @@ regions_same (r ∷ rs) = ap (λ (xs : List NamedMode). record { name = r.0; bef
 
 made_is : (name : Name) (specs : List RegionSpec) (rs : List (List ℕ × Bool)) → specs ≡ map spec_of rs → made name specs ≡ created name (map script.region_value rs)
 made_is name specs rs e =
-    ap (λ (xs : List NamedMode). record { instance = records.Create name xs ∷ []; starts = λ r. []; texts = []; sequence = [] }) (ap (λ (s : List RegionSpec). map store.region_value s) e ∙ regions_same rs)
+    ap (λ (xs : List NamedMode). record { instance = records.Create name xs ∷ []; starts = λ r. []; epochs = λ r. []; texts = []; sequence = [] }) (ap (λ (s : List RegionSpec). map store.region_value s) e ∙ regions_same rs)
 
 -- a name of the grammar is a site's
 is_site_name : (s : List ℕ) → is_name s ≡ true → IsSiteName s

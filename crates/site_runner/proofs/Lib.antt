@@ -15,7 +15,9 @@ pub mod FirstWhere
 pub mod Written
 pub mod Shown
 pub mod Lifts
+pub mod Remembered
 pub mod Stopped
+pub mod Marked
 pub mod Fused
 pub mod Crashed
 pub mod Amongs

@@ -37,7 +37,8 @@ use Rattle.site_runner.specs.Steps.{IsAt, ExecutesAt, IsCutAt}
 use Rattle.site_runner.proofs.Ats.{comes_ran, not_early, some_outcome, state_at, told_is, reads_image, Leftovers, NothingIsLeft, place_of_images, place_of_one, only, open_site, open_reads, open_images}
 use Rattle.site_runner.proofs.Ats.{ImagesStand, stands_with}
 use Rattle.site_runner.proofs.Kept.{stands_within, may_stand_among, may_stand_is}
-use Rattle.site_runner.proofs.Stopped.{open_at, reigns_at, length_tagged}
+use Rattle.site_runner.proofs.Remembered.{entries_count}
+use Rattle.site_runner.proofs.Stopped.{open_at, reigns_at}
 use Rattle.site_runner.proofs.Amongs.{among_first, among_second, among_either}
 use Rattle.site_runner.proofs.Begun.{nat_cases}
 
@@ -148,7 +149,7 @@ ran v w nothing s r new jobs order before middle now law whole st stamped same l
     let o : Contents = with_sequence p.now turn.sequence in
     let q : Place = record { site = in_new_state state p.site; told = p.told; now = o; left = NO_LEFTOVER; outcomes = o ∷ []; standings = Some (bare o ∷ []); shown = w.content; faults = w.faults; simulated = p.simulated } in
     let ends : Section = record { picks = order; fault = None } in
-    let count : length new.site.entries.items ≡ length turn.sequence = length_tagged new.site.entries.items turn.sequence 1 d.reigns.remembered.entries in
+    let count : length new.site.entries.items ≡ length turn.sequence = entries_count (with_sequence p.now turn.sequence) (length turn.sequence) new.site d.reigns.remembered in
     let text : turn_on p.site jobs ends.picks p ≡ turn = ap (λ (x : Option world.Site). turn_on x jobs ends.picks p) (site_is v s r p st h) in
     let stamp_new : stamp ≡ stamp_of new = ap stamp_in (sym stamped) in
     comes_ran

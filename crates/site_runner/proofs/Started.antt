@@ -1,19 +1,20 @@
 -- START PRIMARY at a place.
-use Rattle.std.proofs.Common.{◌≡◌, ℕ, ◌+◌, ◌≤◌, ◌<◌, Bool, true, false, List, [], ◌∷◌, ◌++◌, length, None, Some, refl, sym, ◌∙◌, ap, subst, arith, inl, inr, if◌then◌else◌}
-use Rattle.std.specs.Prelude.{◌⊎◌, Option, map, codes, IfSome, IsSome, IsSomeAnd}
+use Rattle.std.proofs.Common.{◌≡◌, ℕ, ◌+◌, ◌≤◌, ◌<◌, ◌==◌, ◌||◌, nat_le, Bool, true, false, List, [], ◌∷◌, ◌++◌, length, filter, None, Some, refl, sym, ◌∙◌, ap, subst, arith, inl, inr, if◌then◌else◌}
+use Rattle.std.specs.Prelude.{◌⊎◌, Option, codes, IfSome, IsSome, IsSomeAnd}
 use Rattle.std.specs.Fmt.{decimal}
 use Rattle.std.proofs.lemmas.Bool.{false≢true}
 use Rattle.disk_defs.specs.Disk.{Files, View, Image, IsLawful, AtEachMoment, Rose}
 use Rattle.global_defs.specs.Entry as defs
-use Rattle.global_defs.specs.Entry.{Entry, Sequence, state}
+use Rattle.global_defs.specs.Entry.{Sequence}
 use Rattle.journal_defs.specs.Numbers.{INSTANCE}
 use Rattle.journal_defs.specs.Sequence.{Records}
 use Rattle.journal_defs.specs.Stands.{IsInstance}
 use Rattle.disk_defs.proofs.Told.{both_weak}
-use Rattle.std.specs.List.{enumerate_from}
 use Rattle.gvn_model.specs.declared.reign.Stamp.{Stamp}
 use Rattle.gvn_model.specs.Reigns.{stamp_value}
-use Rattle.journal_defs.specs.Instance.{InstanceRecord, Create, Reigned, Cut, Map, Mode, generation, regions, site_name}
+use Rattle.journal_defs.specs.Instance.{InstanceRecord, Create, Reigned, Cut, Map, Mode, generation, greatest_cycle, regions, site_name}
+use Rattle.journal_defs.specs.Surviving.{reigns}
+use Rattle.journal_defs.specs.Fit.{MOST_REIGNS}
 use Rattle.site_store.specs.declared.site.OpenSite.{OpenSite}
 use Rattle.site_store.specs.Site.{Remembers, IsOpen, WasOpenedFrom}
 use Rattle.site_store.specs.Opening.{MayBeOpen, MayBeOpenWith, EachStands}
@@ -29,8 +30,8 @@ use Rattle.world_defs.specs.Answers.{Cause, Stopped, Running, GenLimit, ReignLim
 use Rattle.world_defs.specs.Row.{first, refused_with, in_state, why_not_down}
 use Rattle.world_defs.specs.Changes.{in_new_state, After, ChangesUnknown}
 use Rattle.world_defs.specs.rows.Start.{StartRefused, read_so, StartedBy, LimitedBy, IsUnopened, is_reign_limit, limited, generation_limit, reign_limit, FIRST_SERIALS, cycle_on, start}
-use Rattle.site_defs.specs.Limits.{LAST_GENERATION, no_reign_left}
-use Rattle.site_defs.specs.Outside.{IsOutsideSite}
+use Rattle.site_defs.specs.Limits.{LAST_GENERATION, LAST_CYCLE, no_reign_left}
+use Rattle.site_defs.specs.OutsideBlocks.{IsOutsideOpening}
 use Rattle.site_defs.specs.Opening.{MayBegin, MayBeginLeft, opened, with_reign, next_stamp}
 use Rattle.world_defs.specs.Step.{LeftByRow}
 use Rattle.world_defs.specs.Ties.{Matches}
@@ -46,7 +47,7 @@ use Rattle.site_runner.specs.Starting.{IsOpenedAt, BeginsAt, IsCutOpened}
 use Rattle.site_runner.proofs.Ats.{comes_done, comes_refused, comes_may_refuse, comes_fault, comes_damaged, refused_late, none_refused, kept_same, not_true, is_true_or_false, some_both, told_is, is_site, reads_site, stands_told, at_moment, reads_image, Leftovers, NothingIsLeft, ReadPlace, place_of_images, place_of_one, only, open_reads, open_images, state_at}
 use Rattle.site_runner.proofs.Ats.{left_new, as_told, shown_same, shown_unwritten, by_shown, if_some, any_shown, stand_same, StandForOne, ImagesStand, images_still, standing_there, at_image, standing_of, stands_with}
 use Rattle.site_runner.proofs.Seen.{counted, kept_counted}
-use Rattle.site_runner.proofs.Stopped.{length_tagged}
+use Rattle.site_runner.proofs.Remembered.{entries_count, entries_of}
 use Rattle.site_runner.proofs.Begun.{limit_opened, stamp_opened, of_opened, of_begun, of_may_begin, begins, among_begins, begins_among, begins_so, begins_so_among, begun_so, generation_past, generation_left}
 
 -- why a site isn't down
@@ -176,7 +177,7 @@ opened_told leftovers one_only v w s o p law down h name sure told drawn held sa
       broken = p.left.broken;
       as_before = λ _. refl;
       as_left = λ _. refl;
-      is_open = record { remembered = one.remembered; kept = λ _. one.kept refl };
+      is_open = record { remembered = one.remembered; entries = λ _. one.entries refl; kept = λ _. one.kept refl };
       outcome = λ _. (p.now, subst (λ (x : Contents). Among p.outcomes x) same_out out.1, one);
       standing = λ _. standing_there leftovers one_only read.0 p.now p.left p.standings reads (at_image v read.0 p.standings read.2 (h.disk.standings sure));
       drawn = λ _. generation_left p.now (drawn_here p.now site.0);
@@ -196,7 +197,7 @@ opened_untold v w s o p down h name unsure read held same later = record {
   broken = read.1;
   as_before = λ sure. absurd (false≢true (sym unsure ∙ sure));
   as_left = λ sure. absurd (false≢true (sym unsure ∙ sure));
-  is_open = record { remembered = read.2; kept = λ sure. absurd (false≢true (sym unsure ∙ sure)) };
+  is_open = record { remembered = read.2; entries = λ sure. absurd (false≢true (sym unsure ∙ sure)); kept = λ sure. absurd (false≢true (sym unsure ∙ sure)) };
   outcome = λ sure. absurd (false≢true (sym unsure ∙ sure));
   standing = λ sure. absurd (false≢true (sym unsure ∙ sure));
   drawn = λ sure. absurd (false≢true (sym unsure ∙ sure));
@@ -354,14 +355,14 @@ load_limit v w s before now law down limit by unwritten untouched same later t p
 ]
 
 -- bytes outside the formats, which no known files have
-damaged : (v w : View) (s : Site) (file offset : ℕ) (before now : List ℕ) (p : Place) → s.state ≡ Down → IsAt v s p → p.told ≡ false → IfSome v.content (λ files. IsOutsideSite files file offset) → IfSome v.content (λ _. w.content ≡ v.content) → w.simulated ≡ v.simulated → v.faults ≤ w.faults
+damaged : (v w : View) (s : Site) (file offset : ℕ) (before now : List ℕ) (p : Place) → s.state ≡ Down → IsAt v s p → p.told ≡ false → IfSome v.content (λ files. IsOutsideOpening files file offset) → IfSome v.content (λ _. w.content ≡ v.content) → w.simulated ≡ v.simulated → v.faults ≤ w.faults
     → now ≡ before ++ line s.name (codes "NOTAFILE " ++ decimal file ++ 32 ∷ decimal offset) → Answers w s p s before now false
 damaged v w s file offset before now p down h unsure bytes unwritten same later t =
     comes_damaged file offset (counted p w.faults) (early_down s p down h.site) (inl (record { unknown = unsure; kept = kept_counted p w.faults (omega (arith, later, h.disk.faults)) }))
-    (by_shown p.shown v.content (IsUnopened s.name file offset) h.disk.shown (if_some v.content (λ files. IsOutsideSite files file offset) (IsUnopened s.name file offset) (λ f out. inl out) bytes))
+    (by_shown p.shown v.content (IsUnopened s.name file offset) h.disk.shown (if_some v.content (λ files. IsOutsideOpening files file offset) (IsUnopened s.name file offset) (λ f out. inl out) bytes))
     (unknown_at w s p down h.site unsure (shown_unwritten p.shown v.content w.content unwritten h.disk.shown) (same ∙ h.disk.simulated)) t
 
-pub load_damaged : (v w : View) (s : Site) (file offset : ℕ) (before now : List ℕ) → s.state ≡ Down → IfSome v.content (λ files. (c : Contents) → IsSite files c → ⊥) → IfSome v.content (λ files. IsOutsideSite files file offset) → IfSome v.content (λ _. w.content ≡ v.content) → w.simulated ≡ v.simulated → v.faults ≤ w.faults
+pub load_damaged : (v w : View) (s : Site) (file offset : ℕ) (before now : List ℕ) → s.state ≡ Down → IfSome v.content (λ files. (c : Contents) → IsSite files c → ⊥) → IfSome v.content (λ files. IsOutsideOpening files file offset) → IfSome v.content (λ _. w.content ≡ v.content) → w.simulated ≡ v.simulated → v.faults ≤ w.faults
     → now ≡ before ++ line s.name (codes "NOTAFILE " ++ decimal file ++ 32 ∷ decimal offset) → ExecutesAt (start s.name) v s w s before now false
 load_damaged v w s file offset before now down outside bytes unwritten same later t p h =
     damaged v w s file offset before now p down h (not_true p.told (λ sure.
@@ -467,48 +468,11 @@ limit_is c none_left is = ap (λ (b : Bool). if b then Some ReignLimit else None
 
 -- What the bytes say of an opening.
 
-values : (n : ℕ) (seq : Sequence) → map (λ (x : ℕ × Entry). x.1) (enumerate_from n seq) ≡ seq
-values n [] = refl
-values n (e ∷ es) = ap (λ (l : Sequence). e ∷ l) (values (n + 1) es)
-
 limit_same : (b c : Bool) → (if b then Some ReignLimit else None) ≡ (if c then Some ReignLimit else None) → b ≡ c
 limit_same true true e = refl
 limit_same false false e = refl
 limit_same true false e = cc
 limit_same false true e = cc
-
--- the sequence that is remembered is the bytes'
-sequence_same : (o : OpenSite) (u : Records) (seq : Sequence) (c : Contents) (n : ℕ) → WasOpenedFrom u seq o → Remembers c n o → c.sequence ≡ seq
-sequence_same o u seq c n from remembered = sym (values 1 c.sequence) ∙ ap (map (λ (x : ℕ × Entry). x.1)) (sym remembered.entries ∙ from.entries) ∙ values 1 seq
-
-limit_by : (o : OpenSite) (u : Records) (seq : Sequence) (c : Contents) (n : ℕ) (none_left : Bool) → WasOpenedFrom u seq o → Remembers c n o → ((d : Contents) (m : ℕ) → Remembers d m o → no_reign_left d ≡ none_left)
-    → no_reign_left (read_so u seq) ≡ none_left
-limit_by o u seq c n none_left from remembered limit =
-    let read : Contents = read_so u seq in
-    let same = sequence_same o u seq c n from remembered in
-    limit_same (no_reign_left read) none_left (sym (limit_opened [] read) ∙ limit_is (opened [] read) none_left (limit (opened [] read) n (record {
-      instance = from.instance;
-      entries = from.entries;
-      globals = remembered.globals ∙ ap state same;
-      hardened = remembered.hardened;
-    })))
-
-limited_by : (v : View) (s : Site) (o : OpenSite) (p : Place) → IsOpenedAt v s o p → ((c : Contents) (n : ℕ) → Remembers c n o → no_reign_left c ≡ true) → IfShown p (LimitedBy ReignLimit)
-limited_by v s o p h limit =
-    if_some p.shown (HeldBy o) (LimitedBy ReignLimit)
-    (λ f k. (k.0, k.1, k.2, k.3, limit_by o k.0 k.1 (opened h.broken h.read) (length h.read.sequence) true k.4.0 h.is_open.remembered limit)) h.held
-
--- the site was opened by its bytes, past no limit
-started_by : (v : View) (s : Site) (o : OpenSite) (p : Place) → IsOpenedAt v s o p → ((c : Contents) (n : ℕ) → Remembers c n o → no_reign_left c ≡ false) → IfShown p (StartedBy s.name)
-started_by v s o p h room =
-    if_some p.shown (HeldBy o) (StartedBy s.name)
-    (λ f k. (
-      k.0,
-      k.1,
-      k.2,
-      k.3,
-      (sym (ap site_name k.4.0.instance ∙ cut_named k.0.instance _ _) ∙ h.name, k.4.1, limit_by o k.0 k.1 (opened h.broken h.read) (length h.read.sequence) false k.4.0 h.is_open.remembered room),
-    )) h.held
 
 -- what stands before the last record
 before_last : (xs ys : List InstanceRecord) (a b : InstanceRecord) → xs ++ a ∷ [] ≡ ys ++ b ∷ [] → xs ≡ ys
@@ -522,15 +486,52 @@ before_last (x ∷ xs) (y ∷ ys) a b e =
     let rest : xs ++ a ∷ [] ≡ ys ++ b ∷ [] = cc e in
     ap (λ (r : InstanceRecord). r ∷ xs) first ∙ ap (λ (l : List InstanceRecord). y ∷ l) (before_last xs ys a b rest)
 
-read_by : (v : View) (s : Site) (o : OpenSite) (p : Place) (h : IsOpenedAt v s o p) → IfShown p (BySequence (λ u seq. (h.read.instance ≡ u.instance) × (h.read.sequence ≡ seq)))
-read_by v s o p h =
-    if_some p.shown (HeldBy o) (BySequence (λ u seq. (h.read.instance ≡ u.instance) × (h.read.sequence ≡ seq)))
+-- as many entries are remembered as the bytes' sequence has
+count_same : (o : OpenSite) (u : Records) (seq : Sequence) (c : Contents) (n : ℕ) → WasOpenedFrom u seq o → Remembers c n o → length c.sequence ≡ length seq
+count_same o u seq c n from remembered = sym (entries_count c n o remembered) ∙ entries_of o seq from.entries
+
+-- and its records are those
+records_same : (o : OpenSite) (u : Records) (seq : Sequence) (broken : List ℕ) (c : Contents) (n : ℕ) → WasOpenedFrom u seq o → Remembers (opened broken c) n o → c.instance ≡ u.instance
+records_same o u seq broken c n from remembered = before_last c.instance u.instance _ _ (sym remembered.instance ∙ from.instance)
+
+-- records and a length decide the limit of reigns
+limit_alike : (c d : Contents) → c.instance ≡ d.instance → length c.sequence ≡ length d.sequence → reign_limit c ≡ reign_limit d
+limit_alike c d records count =
+    let limit = λ (n : ℕ) (rs : List InstanceRecord). (if nat_le MOST_REIGNS (length (filter (λ r. nat_le r.start n) (reigns rs))) || greatest_cycle rs == LAST_CYCLE then Some ReignLimit else None) in
+    ap (λ (n : ℕ). limit n c.instance) count ∙ ap (limit (length d.sequence)) records
+
+limit_by : (o : OpenSite) (u : Records) (seq : Sequence) (broken : List ℕ) (c : Contents) (n : ℕ) (none_left : Bool) → WasOpenedFrom u seq o → Remembers (opened broken c) n o → no_reign_left (opened broken c) ≡ none_left
+    → no_reign_left (read_so u seq) ≡ none_left
+limit_by o u seq broken c n none_left from remembered limit =
+    limit_same (no_reign_left (read_so u seq)) none_left
+    (sym (limit_alike c (read_so u seq) (records_same o u seq broken c n from remembered) (count_same o u seq (opened broken c) n from remembered)) ∙ sym (limit_opened broken c) ∙ limit_is (opened broken c) none_left limit)
+
+limited_by : (v : View) (s : Site) (o : OpenSite) (p : Place) → IsOpenedAt v s o p → ((c : Contents) (n : ℕ) → Remembers c n o → no_reign_left c ≡ true) → IfShown p (LimitedBy ReignLimit)
+limited_by v s o p h limit =
+    if_some p.shown (HeldBy o) (LimitedBy ReignLimit)
+    (λ f k. (k.0, k.1, k.2, k.3, limit_by o k.0 k.1 h.broken h.read (length h.read.sequence) true k.4.0 h.is_open.remembered (limit (opened h.broken h.read) (length h.read.sequence) h.is_open.remembered))) h.held
+
+-- the site was opened by its bytes, past no limit
+started_by : (v : View) (s : Site) (o : OpenSite) (p : Place) → IsOpenedAt v s o p → ((c : Contents) (n : ℕ) → Remembers c n o → no_reign_left c ≡ false) → IfShown p (StartedBy s.name)
+started_by v s o p h room =
+    if_some p.shown (HeldBy o) (StartedBy s.name)
     (λ f k. (
       k.0,
       k.1,
       k.2,
       k.3,
-      (before_last h.read.instance k.0.instance _ _ (sym h.is_open.remembered.instance ∙ k.4.0.instance), sequence_same o k.0 k.1 (opened h.broken h.read) (length h.read.sequence) k.4.0 h.is_open.remembered),
+      (sym (ap site_name k.4.0.instance ∙ cut_named k.0.instance _ _) ∙ h.name, k.4.1, limit_by o k.0 k.1 h.broken h.read (length h.read.sequence) false k.4.0 h.is_open.remembered (room (opened h.broken h.read) (length h.read.sequence) h.is_open.remembered)),
+    )) h.held
+
+read_by : (v : View) (s : Site) (o : OpenSite) (p : Place) (h : IsOpenedAt v s o p) → IfShown p (BySequence (λ u seq. (h.read.instance ≡ u.instance) × (length h.read.sequence ≡ length seq)))
+read_by v s o p h =
+    if_some p.shown (HeldBy o) (BySequence (λ u seq. (h.read.instance ≡ u.instance) × (length h.read.sequence ≡ length seq)))
+    (λ f k. (
+      k.0,
+      k.1,
+      k.2,
+      k.3,
+      (records_same o k.0 k.1 h.broken h.read (length h.read.sequence) k.4.0 h.is_open.remembered, count_same o k.0 k.1 (opened h.broken h.read) (length h.read.sequence) k.4.0 h.is_open.remembered),
     )) h.held
 
 -- there is no reign left
@@ -568,7 +569,7 @@ reign_limited v nothing s o before now law limit t p h = elim (is_true_or_false 
 ]
 
 entries_open : (v : View) (told : Bool) (c : Contents) (n : ℕ) (o : OpenSite) → IsOpen v told c n o → length o.entries.items ≡ length c.sequence
-entries_open v told c n o h = length_tagged o.entries.items c.sequence 1 h.remembered.entries
+entries_open v told c n o h = entries_count c n o h.remembered
 
 -- the reign has begun
 pub reign_starts : (v w : View) (nothing : NothingIsLeft w) (s : Site) (o new : OpenSite) (stamp : Stamp) (serials : List ℕ) (from : ℕ) (before now : List ℕ) → IsLawful w → serials ≡ FIRST_SERIALS

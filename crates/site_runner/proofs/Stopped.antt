@@ -1,17 +1,15 @@
--- Commands on a site, as commands on its slot; STOP, EXTRACT, ZWRITE and SHOW at a place.
-use Rattle.std.proofs.Common.{◌≡◌, ℕ, suc, ◌+◌, true, List, [], ◌∷◌, ◌++◌, length, map, Some, refl, sym, ◌∙◌, ap, subst, arith, inl, nat_eq, append_assoc, Bool, None}
+-- Commands on a site, as commands on its slot; EXTRACT, ZWRITE and SHOW at a place.
+use Rattle.std.proofs.Common.{◌≡◌, ℕ, true, false, List, [], ◌∷◌, ◌++◌, length, map, Some, refl, sym, ◌∙◌, ap, subst, arith, inl, nat_eq, append_assoc, Bool, None}
 use Rattle.std.specs.Prelude.{Option, codes, option_map, IsSomeAnd, Result, IfOk, OnErr}
 use Rattle.std.specs.Fmt.{decimal}
 use Rattle.std.specs.List.{enumerate_from, flat_map}
 use Rattle.std.proofs.lemmas.Bool.{eqb-true}
-use Rattle.std.proofs.lemmas.List.{length-map}
 use Rattle.disk_defs.specs.Disk.{Files, View}
 use Rattle.global_defs.specs.Key.{Key}
 use Rattle.global_defs.specs.Entry as defs
 use Rattle.global_defs.specs.Entry.{Globals, Sequence}
 use Rattle.journal_defs.specs.Instance.{InstanceRecord}
 use Rattle.journal_defs.specs.Surviving.{reigns}
-use Rattle.gvn_model.specs.declared.entry.Entry as code
 use Rattle.gvn_model.specs.declared.reign.Reign as code_reign
 use Rattle.gvn_model.specs.Reigns.{reign_value}
 use Rattle.gvn_model.specs.Numbered.{numbered}
@@ -31,6 +29,7 @@ use Rattle.world_defs.specs.rows.Stop.{stop}
 use Rattle.world_defs.specs.rows.Zwrite as rows
 use Rattle.site_defs.specs.Texts.{extract_from, zwrite}
 use Rattle.site_defs.specs.Stands.{Stands, Reads}
+use Rattle.site_regions.specs.Joined.{joined}
 use Rattle.repl_section.specs.declared.reign.Reign.{Reign}
 use Rattle.repl_section.specs.Reigns.{Reigns, stamp_of}
 use Rattle.site_runner.specs.declared.slot.State.{State}
@@ -41,9 +40,10 @@ use Rattle.site_runner.specs.Sites.{site_value, state_value, is_slot_named, IsOf
 use Rattle.site_runner.specs.Executes.{Comes, ExecutesHere, IsCutHere}
 use Rattle.site_runner.specs.Tied.{IsPlace}
 use Rattle.site_runner.proofs.Results.{on_errs, err_holds}
+use Rattle.site_runner.proofs.Remembered.{sequence_one, entries_so, entries_count, entries_known}
 use Rattle.site_runner.specs.Steps.{state_text, IsAt, ExecutesAt, IsCutAt}
 use Rattle.site_runner.proofs.Cuts.{split_and}
-use Rattle.site_runner.proofs.Ats.{stand_same, left_old, comes_done, comes_so, on_done, state_at, kept_same, only, ImagesStand}
+use Rattle.site_runner.proofs.Ats.{stand_same, left_old, comes_done, comes_typed, comes_so, on_done, state_at, kept_same, only, ImagesStand}
 
 pub names_same : (a b : Name) → same_name a b ≡ true → a ≡ b
 names_same [] [] e = refl
@@ -95,14 +95,6 @@ module _ {D E : Type 0} (view : D → View) (row : Name → Place → Row) (old 
   pub slot_cut : OnErr result (IsCutAt (row site.name) (view old.disk) site (view disk)) → OnErr result (IsCutHere view (row_at row) old (record { disk = disk; site = Some new }))
   slot_cut h = on_errs result _ _ h (λ x. cut_here view row old (record { disk = disk; site = Some new }) site e x)
 
--- the entries in memory are as many as the sequence has
-pub length_tagged : (xs : List code.Entry) (seq : Sequence) (n : ℕ) → map numbered xs ≡ enumerate_from n seq → length xs ≡ length seq
-length_tagged xs seq n e = sym (length-map xs numbered) ∙ ap length e ∙ long n seq
-  where
-    long : (n : ℕ) (ys : Sequence) → length (enumerate_from n ys) ≡ length ys
-    long n [] = refl
-    long n (y ∷ ys) = ap suc (long (n + 1) ys)
-
 pub open_at : (v : View) (s : Site) (r : Reign) (p : Place) → s.state ≡ Primary r → IsAt v s p → IsOpen v r p
 open_at v s r p e h = subst (λ (x : State). HoldsState v x p) e h.held.state
 
@@ -110,38 +102,26 @@ pub reigns_at : (v : View) (s : Site) (r : Reign) (p : Place) → s.state ≡ Pr
 reigns_at v s r p e h = let o = open_at v s r p e h in o.reigns
 
 -- why a site isn't open
-open_at_place : (v : View) (s : Site) (r : Reign) (p : Place) → s.state ≡ Primary r → IsAt v s p → refused_with s.name (in_state why_not_open p.site) ≡ None
+pub open_at_place : (v : View) (s : Site) (r : Reign) (p : Place) → s.state ≡ Primary r → IsAt v s p → refused_with s.name (in_state why_not_open p.site) ≡ None
 open_at_place v s r p e h = ap (refused_with s.name) (state_at why_not_open v s p h ∙ ap (λ (x : State). why_not_open (state_value x)) e)
 
-pub stops : (v : View) (s : Site) (r : Reign) (before now : List ℕ) → s.state ≡ Primary r → now ≡ before ++ line s.name (codes "DOWN " ++ decimal (length r.site.entries.items))
-    → ExecutesAt (stop s.name) v s v (record { name = s.name; state = Down }) before now true
-stops v s r before now e t p at_p =
-    let o : IsOpen v r p = open_at v s r p e at_p in
-    comes_done
-    (record { site = in_new_state world.Down p.site; told = p.told; now = p.now; left = NO_LEFTOVER; outcomes = p.now ∷ []; standings = Some (bare p.now ∷ []); shown = p.shown; faults = p.faults; simulated = p.simulated })
-    (ap (λ (x : Option Refusal). or_else x None) (open_at_place v s r p e at_p))
-    (record { site = refl; known = record { told = refl; now = refl; left = refl; outcomes = refl; standings = refl }; faults = omega arith; simulated = refl })
-    tt
-    (record {
-      disk = record {
-        told = λ is. subst (λ (l : Leftover). IsSomeAnd v.content (λ (files : Files). Reads files p.now l)) (o.left is) (at_p.disk.told is);
-        images = λ is c i. let x = at_p.disk.images is c i in (p.now, inl refl, subst (Stands c) (o.settled is x.0 x.1) x.2);
-        standings = λ is. subst (ImagesStand v) (o.standings is) (at_p.disk.standings is);
-        shown = at_p.disk.shown;
-        faults = at_p.disk.faults;
-        simulated = at_p.disk.simulated;
-      };
-      site = ap (in_new_state world.Down) at_p.site;
-      held = record { made = λ is. record { now = (at_p.held.made is).now; outcomes = λ x j. subst (IsOf s.name) (sym (only x p.now j)) (at_p.held.made is).now }; state = tt };
-    })
-    (t ∙ ap (λ (k : ℕ). before ++ line s.name (codes "DOWN " ++ decimal k)) (length_tagged r.site.entries.items p.now.sequence 1 o.reigns.remembered.entries))
-
+-- the entries that are shown are those in memory
 pub extracts_at : (v : View) (s : Site) (r : Reign) (from : Option ℕ) (before now : List ℕ) → s.state ≡ Primary r → ((seq : Sequence) → map numbered r.site.entries.items ≡ enumerate_from 1 seq → now ≡ before ++ extract_from s.name from seq)
-    → ExecutesAt (extract from s.name) v s v s before now true
+    → ExecutesAt (extract from s.name) v s v s before now false
 extracts_at v s r from before now e h p at_p =
-    comes_done p (ap (λ (x : Option Refusal). or_else x None) (open_at_place v s r p e at_p)) (kept_same p) tt at_p (h p.now.sequence (reigns_at v s r p e at_p).remembered.entries)
+    let o = reigns_at v s r p e at_p in
+    let m = entries_so p.now (length p.now.sequence) r.site o.remembered in
+    comes_typed (extract_from s.name from m.entries) p (ap (λ (x : Option Refusal). or_else x None) (open_at_place v s r p e at_p))
+    (record {
+      entries = m.entries;
+      count = m.count;
+      told = λ sure. sequence_one r.site.entries.items m.entries p.now.sequence m.numbers (entries_known v p.told p.now (length p.now.sequence) r.site o sure);
+      shows = refl;
+      kept = kept_same p;
+    })
+    tt at_p (h m.entries m.numbers)
 
-pub zwrites_at : (v : View) (s : Site) (r : Reign) (top : Option Key) (before now : List ℕ) → s.state ≡ Primary r → now ≡ before ++ zwrite top r.site.globals → ExecutesAt (rows.zwrite top s.name) v s v s before now true
+pub zwrites_at : (v : View) (s : Site) (r : Reign) (top : Option Key) (before now : List ℕ) → s.state ≡ Primary r → now ≡ before ++ zwrite top (joined r.site.globals) → ExecutesAt (rows.zwrite top s.name) v s v s before now true
 zwrites_at v s r top before now e t p at_p =
     comes_done p (ap (λ (x : Option Refusal). or_else x None) (open_at_place v s r p e at_p)) (kept_same p) tt at_p (t ∙ ap (λ (g : Globals). before ++ zwrite top g) (reigns_at v s r p e at_p).remembered.globals)
 
@@ -153,7 +133,7 @@ shown_state v s p (Primary r) e h =
     let m = (reigns_at v s r p e h).remembered in
     let first = λ (n : ℕ). line s.name (codes "STATE PRIMARY " ++ decimal (stamp_of r).cycle ++ codes " LENGTH " ++ decimal n) in
     let lines = flat_map (λ (x : defs.Reign). line s.name (reign_text x)) in
-    ap (λ (n : ℕ). first n ++ lines (reigns r.site.instance.records)) (length_tagged r.site.entries.items p.now.sequence 1 m.entries)
+    ap (λ (n : ℕ). first n ++ lines (reigns r.site.instance.records)) (entries_count p.now (length p.now.sequence) r.site m)
     ∙ ap (λ (rs : List InstanceRecord). first (length p.now.sequence) ++ lines (reigns rs)) m.instance
 
 pub shows_at : (v : View) (s : Site) (before now : List ℕ) → now ≡ before ++ state_text s.name s.state → ExecutesAt (show s.name) v s v s before now true

@@ -11,6 +11,7 @@ pub mod Creating
 pub mod Attaching
 pub mod Starting
 pub mod Mapping
+pub mod Marking
 pub mod Ends
 pub mod Meant
 pub mod Going

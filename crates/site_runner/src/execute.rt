@@ -11,6 +11,7 @@ use super::answering::refuse;
 use super::attach::attach;
 use super::cause::Cause;
 use super::create::create;
+use super::epoch::epoch;
 use super::extracting::extract;
 use super::finding::find;
 use super::fusing::{crash, fuse};
@@ -39,6 +40,7 @@ fn name_of(command: &Command) -> &Bytes
         | Command::StartPrimary { site }
         | Command::Run { site, .. }
         | Command::Stop { site }
+        | Command::Epoch { site }
         | Command::Fuse { site, .. }
         | Command::Crash { site, .. }
         | Command::Extract { site, .. }
@@ -76,7 +78,8 @@ fn execute_on<D: Disk>(
         Command::Run { jobs, order, .. } => {
             run_section(alloc, disk, site, jobs, order.as_slice(), text)
         }
-        Command::Stop { .. } => stop(disk, site, text),
+        Command::Stop { .. } => stop(alloc, disk, site, text),
+        Command::Epoch { .. } => epoch(alloc, disk, site, text),
         Command::Fuse { calls, .. } => fuse(disk, site, calls, text),
         Command::Crash { pick, .. } => crash(disk, site, pick, text),
         Command::Extract { number, .. } => extract(disk, site, number, text),

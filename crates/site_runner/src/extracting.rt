@@ -23,7 +23,7 @@ fn write_entries(site: &OpenSite, before: u64, text: &mut Bytes) -> Result<(), N
     Ok(())
 }
 
-/// Shows a site's entries from a number on, or all. Answers whether that was done.
+/// Shows a site's entries from a number on, or all. It counts as not done: no command goes on behind it.
 pub fn extract<D: Disk>(
     disk: &D,
     site: &Site,
@@ -42,5 +42,5 @@ pub fn extract<D: Disk>(
     let from = number.unwrap_or(1);
     write_header(site.name.as_slice(), from, text)?;
     write_entries(&reign.site, from.saturating_sub(1), text)?;
-    Ok(true)
+    Ok(false)
 }

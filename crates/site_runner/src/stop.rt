@@ -1,30 +1,30 @@
 // STOP.
-ghost use Rattle.std.specs.Prelude.{◌≡◌, IfOk, OnOk, OnErr};
+ghost use Rattle.std.specs.Prelude.{IfOk, OnOk, OnErr};
 ghost use Rattle.world_defs.specs.rows.Stop as rows;
 ghost use Rattle.site_runner.specs.Sites.{IsReadyState};
-ghost use Rattle.site_runner.specs.Steps.{ExecutesAt};
+ghost use Rattle.site_runner.specs.Steps.{ExecutesAt, IsCutAt};
 
-use super::answering::refuse;
+use super::marking::mark;
 use super::slot::{Site, State};
-use super::text::write_numbered;
 use gvn_key::{Bytes, NoMemory};
 use repl_disk::Disk;
+use std::alloc::Global;
 
-/// Closes a site. Answers whether that was done.
-pub fn stop<D: Disk>(disk: &D, site: &mut Site, text: &mut Bytes) -> Result<bool, NoMemory>
-    requires { IsReadyState (D.disk disk.now) site.old.state }
-    ensures ready { OnOk result (IsReadyState (D.disk disk.now) site.new.state) }
-    ensures done { IfOk result (λ done. ExecutesAt (rows.stop site.old.name) (D.disk disk.now) site.old (D.disk disk.now) site.new text.old text.new done) }
-    ensures kept { OnErr result (site.new ≡ site.old) }
+/// Brings a site to a closing epoch, and closes it. Answers whether that was done.
+pub fn stop<D: Disk>(
+    alloc: Global,
+    disk: &mut D,
+    site: &mut Site,
+    text: &mut Bytes,
+) -> Result<bool, NoMemory>
+    requires { IsReadyState (D.disk disk.old) site.old.state }
+    ensures ready { OnOk result (IsReadyState (D.disk disk.new) site.new.state) }
+    ensures done { IfOk result (λ done. ExecutesAt (rows.stop site.old.name) (D.disk disk.old) site.old (D.disk disk.new) site.new text.old text.new done) }
+    ensures cut_off { OnErr result (IsCutAt (rows.stop site.old.name) (D.disk disk.old) site.old (D.disk disk.new)) }
 {
-    if let Some(cause) = site.state.why_not_open() {
-        return refuse(text, site.name.as_slice(), &cause);
+    let done = mark(alloc, disk, site, true, b"DOWN ", text)?;
+    if done {
+        site.state = State::Down;
     }
-    let State::Primary(reign) = &site.state else {
-        unreachable!();
-    };
-    let length = reign.site.sequence_length();
-    write_numbered(text, site.name.as_slice(), b"DOWN ", length)?;
-    site.state = State::Down;
-    Ok(true)
+    Ok(done)
 }

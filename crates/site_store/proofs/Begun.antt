@@ -1,6 +1,6 @@
 -- A reign begins.
 use Rattle.std.proofs.Common.{◌≡◌, ◌≢◌, ◌⊎◌, inl, inr, ◌≤◌, ◌<◌, ◌+◌, ◌==◌, ℕ, suc, Bool, true, false, List, [], ◌∷◌, ◌++◌, length, map, take, drop, Some, None, refl, sym, ◌∙◌, ap, subst, arith}
-use Rattle.std.specs.Prelude.{Option, IfSome, IsSomeAnd, ◌||◌, if◌then◌else◌, nat_le, filter}
+use Rattle.std.specs.Prelude.{◌^◌, Option, IfSome, IsSomeAnd, ◌||◌, if◌then◌else◌, nat_le, filter}
 use Rattle.std.specs.List.{AllByRecursion}
 use Rattle.std.specs.Option.{option_or}
 use Rattle.std.proofs.lemmas.Bool.Decides.{nat_tests}
@@ -13,7 +13,7 @@ use Rattle.global_defs.specs.Fields.{IsSiteName}
 use Rattle.global_defs.specs.Prefix.{stamp_at}
 use Rattle.gvn_model.specs.declared.reign.Stamp as code
 use Rattle.gvn_model.specs.Reigns.{stamp_value}
-use Rattle.journal_defs.specs.Numbers.{INSTANCE, journal_file, broken_file}
+use Rattle.journal_defs.specs.Numbers.{INSTANCE, journal_file, database_file, broken_file}
 use Rattle.journal_defs.specs.Journal.{Part}
 use Rattle.journal_defs.specs.Instance.{InstanceRecord, Reigned, generation, regions, site_name, greatest_cycle}
 use Rattle.journal_defs.specs.Directory.{Pattern, patterns}
@@ -39,15 +39,19 @@ use Rattle.site_defs.specs.Stands.{texts_of, IsSite, HasLeft}
 use Rattle.site_defs.specs.Behind.{IsSiteWith}
 use Rattle.site_store.specs.declared.layout.Layout.{Layout}
 use Rattle.site_store.specs.declared.site.OpenSite.{OpenSite}
+use Rattle.gvn_model.specs.declared.entry.Entry.{Entry}
+use Rattle.site_store.proofs.HeldRegions.{held_stays, no_instance_file, synced_stays}
 use Rattle.site_store.specs.Finding.{HasLayout}
-use Rattle.site_store.specs.Site.{Remembers, IsReady, Keeps, IsOpen, WasOpened, HasReign}
+use Rattle.site_regions.specs.Joined.{joined}
+use Rattle.site_store.specs.Site.{Remembers, AreHeld, IsReady, Keeps, IsOpen, WasOpened, HasReign, AreOnBlocks}
+use Rattle.site_store.proofs.OnBlocks.{on_same, on_chosen}
 use Rattle.gvn_model.specs.Numbered.{numbered}
 use Rattle.site_store.specs.Reigning.{HasNoReignLeft, HasReignLeft, IsNextReign}
 use Rattle.site_store.proofs.Standing.{images_stand, reads_of, reads_so, told_of, still}
 use Rattle.site_store.proofs.Images.{same_image, reign_image, generation_kept, patterns_kept, name_kept, regions_kept, AreOf, are_of, site_of, is_created, texts_same, left_nothing}
 use Rattle.site_store.proofs.Emptied.{none_left}
 use Rattle.site_store.proofs.Frames as frames
-use Rattle.site_store.proofs.Remembered.{remembered_length}
+use Rattle.site_store.proofs.Remembered.{remembered_length, numbers_same}
 use Rattle.site_store.proofs.Parts.{no_entry_no_part}
 
 -- limits
@@ -137,11 +141,12 @@ are_begun d f c s same of =
           (subst (λ (l : List Pattern). AllByRecursion (λ (p : Pattern). p.region < length (regions c.instance)) l) (sym (patterns_kept c.instance x)) of.mapped);
       instance = ap (λ (l : List InstanceRecord). l ++ Reigned x ∷ []) of.instance;
       starts = of.starts;
+      epochs = of.epochs;
       texts = of.texts ∙ sym (texts_same d f (generation c.instance) (λ g low. same (broken_file g) (λ e. omega (arith, e)))) ∙ ap (texts_of f) (sym (generation_kept c.instance x));
     }
   where
-    by_list : (rs : List InstanceRecord) → is_made (record { instance = rs; starts = c.starts; texts = c.texts; sequence = c.sequence }) ≡ true
-        → is_made (record { instance = rs ++ Reigned (reign_of c) ∷ []; starts = c.starts; texts = c.texts; sequence = c.sequence }) ≡ true
+    by_list : (rs : List InstanceRecord) → is_made (record { instance = rs; starts = c.starts; epochs = c.epochs; texts = c.texts; sequence = c.sequence }) ≡ true
+        → is_made (record { instance = rs ++ Reigned (reign_of c) ∷ []; starts = c.starts; epochs = c.epochs; texts = c.texts; sequence = c.sequence }) ≡ true
     by_list [] made = refl
     by_list (r ∷ rs) made = grind (arith, nat_tests)
 
@@ -201,13 +206,13 @@ reign_left v w c s k past run = weaker v w (OnlyOn v INSTANCE (instances.StandsW
     still_one : (d f : Files) → Image v d → SameOutside (Only INSTANCE) d f → AreOf f c k.records
     still_one d f was same =
         let of = one_of v c s k d was in
-        record { made = of.made; mapped = of.mapped; instance = of.instance; starts = of.starts; texts = of.texts ∙ sym (texts_same d f (generation c.instance) (λ g low. same (broken_file g) (λ e. omega (arith, e)))) }
+        record { made = of.made; mapped = of.mapped; instance = of.instance; starts = of.starts; epochs = of.epochs; texts = of.texts ∙ sym (texts_same d f (generation c.instance) (λ g low. same (broken_file g) (λ e. omega (arith, e)))) }
 
     kept : (d f : Files) → Image v d → SameOutside (Only INSTANCE) d f → IsInstance (f INSTANCE) c.instance → IsSoundImage f k.records c.sequence
     kept d f was same now = same_image d f k.records c.sequence (sound_now v c s k d was) k.none_past same (subst (λ (l : List InstanceRecord). IsInstance (f INSTANCE) l) (sym k.newest.instance) now)
 
 -- after it no entry waits
-none_waiting : (a : List InstanceRecord) (g n : ℕ) (ps : List (ℕ → Option Part)) (es : Sequence) → es ≡ [] → AreEntries a g n ps es → ps ≡ []
+pub none_waiting : (a : List InstanceRecord) (g n : ℕ) (ps : List (ℕ → Option Part)) (es : Sequence) → es ≡ [] → AreEntries a g n ps es → ps ≡ []
 none_waiting a g n [] [] none h = refl
 none_waiting a g n (p ∷ ps) [] none h = absurd h
 none_waiting a g n ps (e ∷ es) none h = absurd (cc none)
@@ -224,15 +229,23 @@ layout_begun rs x l some is = record {
   generation = is.generation ∙ sym (generation_kept rs x);
 }
 
+-- while the instance file alone changes
+held_beside : (v w : View) (old new : OpenSite) → IsReady v old → OthersStay (Only INSTANCE) v w → new.globals ≡ old.globals → AreHeld w (length (regions old.instance.records)) new.globals
+held_beside v w old new ready stays globals =
+    let many = length (regions old.instance.records) in
+    subst (AreHeld w many) (sym globals) (held_stays v w (Only INSTANCE) many old.globals stays (no_instance_file many) ready.regions)
+
 pub ready_begun : (v w : View) (old new : OpenSite) (x : Reign) → IsReady v old → 0 < length old.instance.records → instances.IsReady w new.instance → new.instance.records ≡ old.instance.records ++ Reigned x ∷ [] → new.journals ≡ old.journals → new.layout ≡ old.layout
-    → OthersStay (Only INSTANCE) v w → IsReady w new
-ready_begun v w old new x ready some instance records journals layout stays = record {
+    → OthersStay (Only INSTANCE) v w → new.globals ≡ old.globals → new.entries.items ≡ old.entries.items → IsReady w new
+ready_begun v w old new x ready some instance records journals layout stays globals entries = record {
   instance = instance;
   layout = subst (λ (rs : List InstanceRecord). HasLayout rs new.layout) (sym records) (subst (HasLayout (old.instance.records ++ Reigned x ∷ [])) (sym layout) (layout_begun old.instance.records x old.layout some ready.layout));
   journals = subst (λ (js : RegionJournals). AreReady w (generation new.instance.records) js.journals.items) (sym journals)
       (subst (λ (g : ℕ). AreReady w g old.journals.journals.items) (sym (ap generation records ∙ generation_kept old.instance.records x))
       (frames.journals_ready v w (Only INSTANCE) old.journals.journals.items stays (journals_away v old ready) (generation old.instance.records) ready.journals));
   each_region = ap (λ (js : RegionJournals). length js.journals.items) journals ∙ ready.each_region ∙ sym (ap (λ (rs : List InstanceRecord). length (regions rs)) records ∙ ap length (regions_kept old.instance.records x some));
+  regions = subst (λ (n : ℕ). AreHeld w n new.globals) (sym (ap (λ (rs : List InstanceRecord). length (regions rs)) records ∙ ap length (regions_kept old.instance.records x some))) (held_beside v w old new ready stays globals);
+  few = subst (λ (l : List Entry). length l < 2 ^ 40) (sym entries) ready.few;
 }
 
 instance_in : (w : View) (i : Instance) (rs : List InstanceRecord) → instances.HasRecords w i rs → (f : Files) → Image w f → IsInstance (f INSTANCE) rs
@@ -243,7 +256,7 @@ instance_in w i rs has f now = among w.content has
     among (Some a) h = h.stands f now
 
 module _ (v w : View) (c : Contents) (old new : OpenSite) (k : Keeps v c (length c.sequence) old) (past : AllByRecursion (λ (q : Reign). q.start < length c.sequence + 1) (reigns c.instance)) (lawful : IsLawful w) (stays : OthersStay (Only INSTANCE) v w)
-    (away : frames.AreAway (Only INSTANCE) old.journals.journals.items) (created : 0 < length c.instance) (has : instances.HasRecords w new.instance (c.instance ++ Reigned (reign_of c) ∷ [])) (journals : new.journals ≡ old.journals) where
+    (away : frames.AreAway (Only INSTANCE) old.journals.journals.items) (created : 0 < length c.instance) (has : instances.HasRecords w new.instance (c.instance ++ Reigned (reign_of c) ∷ [])) (journals : new.journals ≡ old.journals) (globals : new.globals ≡ old.globals) where
   now_begun : (f : Files) → Image w f → IsInstance (f INSTANCE) (c.instance ++ Reigned (reign_of c) ∷ [])
   now_begun f now = instance_in w new.instance (c.instance ++ Reigned (reign_of c) ∷ []) has f now
 
@@ -265,6 +278,17 @@ module _ (v w : View) (c : Contents) (old new : OpenSite) (k : Keeps v c (length
 
   nothing_waits : k.waiting ≡ []
   nothing_waits = none_waiting c.instance (suc k.g) (length c.sequence) k.waiting (drop (length c.sequence) c.sequence) (drop-length c.sequence) k.are_waiting
+
+  -- the regions' blocks are still those of the epochs, since no REIGN drops one
+  on_begun : (f : Files) → Image w f → AreOnBlocks f (with_record k.records (Reigned (reign_of c))) (length c.sequence) new.globals
+  on_begun f now =
+      let from = stays.images f now in
+      let same : length (regions (k.records.instance ++ Reigned (reign_of c) ∷ [])) ≡ length (regions k.records.instance) =
+      ap (λ (l : List InstanceRecord). length (regions (l ++ Reigned (reign_of c) ∷ []))) k.newest.instance ∙ count ∙ ap (λ (l : List InstanceRecord). length (regions l)) (sym k.newest.instance) in
+      subst (AreOnBlocks f (with_record k.records (Reigned (reign_of c))) (length c.sequence)) (sym globals)
+      (on_same from.0 f (with_record k.records (Reigned (reign_of c))) (length c.sequence) old.globals (λ r low. from.2 (database_file r) (λ e. omega (arith, e)))
+      (on_chosen from.0 k.records (with_record k.records (Reigned (reign_of c))) (length c.sequence) (length c.sequence) old.globals same (patterns_kept k.records.instance (reign_of c))
+      (λ r low. (refl, later.other_instance k.records.instance (Reigned (reign_of c)) (length c.sequence) (k.records.journal r) (λ h m. refl))) (k.blocks from.0 from.1)))
 
   keeps_begun : Keeps w (begun c) (length c.sequence) new
   keeps_begun = record {
@@ -288,6 +312,8 @@ module _ (v w : View) (c : Contents) (old new : OpenSite) (k : Keeps v c (length
     sound = sound;
     older_files = λ f now r low. let from = stays.images f now in journal_same from.0 f r k.g (k.last r) (k.older r) (λ h le. from.2 (journal_file h r) (λ e. omega (arith, e))) (k.older_files from.0 from.1 r (here r low));
     none_past = λ n r more. runs.part_of-sparing k.records.instance (Reigned (reign_of c)) n (k.records.journal r) (λ h m. refl) ∙ k.none_past n r more;
+    blocks = on_begun;
+    databases = λ f d i j r low. synced_stays v w (Only INSTANCE) (length (regions c.instance)) stays.images (no_instance_file (length (regions c.instance))) k.databases f d i j r (here r low);
     no_epoch_past = λ r low. later.none_past_instance c.instance (Reigned (reign_of c)) (length c.sequence) (k.records.journal r) (λ h m. refl) (k.no_epoch_past r (here r low));
     waiting = k.waiting;
     are_waiting = subst (λ (ps : List (ℕ → Option Part)). AreEntries (c.instance ++ Reigned (reign_of c) ∷ []) (suc k.g) (length c.sequence) ps (drop (length c.sequence) c.sequence)) (sym nothing_waits)
@@ -306,14 +332,17 @@ past_in c h s is all =
     subst (λ (l : List InstanceRecord). AllByRecursion (λ (q : Reign). q.start < length c.sequence + 1) (reigns l)) is.instance (all_past (length s.entries.items) (length c.sequence + 1) (reigns s.instance.records) all (omega (arith, count)))
 
 -- nothing was written: all stands as before
-pub ready_kept : (v w : View) (old new : OpenSite) → IsReady v old → instances.IsReady w new.instance → new.instance.records ≡ old.instance.records → new.journals ≡ old.journals → new.layout ≡ old.layout → OthersStay (Only INSTANCE) v w → IsReady w new
-ready_kept v w old new ready instance records journals layout stays = record {
+pub ready_kept : (v w : View) (old new : OpenSite) → IsReady v old → instances.IsReady w new.instance → new.instance.records ≡ old.instance.records → new.journals ≡ old.journals → new.layout ≡ old.layout → OthersStay (Only INSTANCE) v w
+    → new.globals ≡ old.globals → new.entries.items ≡ old.entries.items → IsReady w new
+ready_kept v w old new ready instance records journals layout stays globals entries = record {
   instance = instance;
   layout = subst (λ (rs : List InstanceRecord). HasLayout rs new.layout) (sym records) (subst (HasLayout old.instance.records) (sym layout) ready.layout);
   journals = subst (λ (js : RegionJournals). AreReady w (generation new.instance.records) js.journals.items) (sym journals)
       (subst (λ (g : ℕ). AreReady w g old.journals.journals.items) (sym (ap generation records))
       (frames.journals_ready v w (Only INSTANCE) old.journals.journals.items stays (journals_away v old ready) (generation old.instance.records) ready.journals));
   each_region = ap (λ (js : RegionJournals). length js.journals.items) journals ∙ ready.each_region ∙ sym (ap (λ (rs : List InstanceRecord). length (regions rs)) records);
+  regions = subst (λ (n : ℕ). AreHeld w n new.globals) (sym (ap (λ (rs : List InstanceRecord). length (regions rs)) records)) (held_beside v w old new ready stays globals);
+  few = subst (λ (l : List Entry). length l < 2 ^ 40) (sym entries) ready.few;
 }
 
 pub opened_kept : (old new : OpenSite) → WasOpened old → new.instance.records ≡ old.instance.records → new.entries.items ≡ old.entries.items → new.hardened ≡ old.hardened → new.stamp ≡ old.stamp → WasOpened new
@@ -333,10 +362,12 @@ pub open_kept : (v w : View) (told : Bool) (c : Contents) (h : ℕ) (old new : O
 open_kept v w told c h old new lawful ready stays unwritten state records entries changed hardened journals is = record {
   remembered = record {
     instance = records ∙ is.remembered.instance;
-    entries = ap (map numbered) entries ∙ is.remembered.entries;
-    globals = changed ∙ is.remembered.globals;
+    count = ap length entries ∙ is.remembered.count;
+    numbers = numbers_same old.entries.items new.entries.items entries is.remembered.numbers;
+    globals = ap joined changed ∙ is.remembered.globals;
     hardened = hardened ∙ is.remembered.hardened;
   };
+  entries = λ t. ap (map numbered) entries ∙ is.entries t;
   kept = λ t.
       let k = is.kept t in
       let was : (f : Files) → Image w f → Image v f = λ f now. holds_now v w (Image v) lawful unwritten f now in
@@ -354,6 +385,8 @@ open_kept v w told c h old new lawful ready stays unwritten state records entrie
         sound = λ f now. k.sound f (was f now);
         older_files = λ f now. k.older_files f (was f now);
         none_past = k.none_past;
+        blocks = λ f now. subst (AreOnBlocks f k.records h) (sym changed) (k.blocks f (was f now));
+        databases = λ f d i j. k.databases f d (was f i) (was d j);
         no_epoch_past = k.no_epoch_past;
         waiting = k.waiting;
         are_waiting = k.are_waiting;
@@ -383,14 +416,16 @@ open_begun v w told c old new r lawful b entries changed hardened journals is =
     record {
       remembered = record {
         instance = b.records ∙ ap (λ (x : Reign). old.instance.records ++ Reigned x ∷ []) same ∙ ap (λ (l : List InstanceRecord). l ++ Reigned (reign_of c) ∷ []) is.remembered.instance;
-        entries = ap (map numbered) entries ∙ is.remembered.entries;
-        globals = changed ∙ is.remembered.globals;
+        count = ap length entries ∙ is.remembered.count;
+        numbers = numbers_same old.entries.items new.entries.items entries is.remembered.numbers;
+        globals = ap joined changed ∙ is.remembered.globals;
         hardened = hardened ∙ is.remembered.hardened;
       };
+      entries = λ t. ap (map numbered) entries ∙ is.entries t;
       kept = λ t.
           let k = is.kept t in
           keeps_begun v w c old new k (past_in c (length c.sequence) old is.remembered b.past) lawful b.stays (journals_away v old b.ready) (subst (λ (l : List InstanceRecord). 0 < length l) is.remembered.instance b.created)
-          (subst (λ (x : Reign). instances.HasRecords w new.instance (c.instance ++ Reigned x ∷ [])) same (b.state c.instance k.instance_file)) journals;
+          (subst (λ (x : Reign). instances.HasRecords w new.instance (c.instance ++ Reigned x ∷ [])) same (b.state c.instance k.instance_file)) journals changed;
     }
 
 -- at each moment of it

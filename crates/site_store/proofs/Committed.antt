@@ -1,7 +1,7 @@
 -- An entry is prepared, and then appended.
 use Rattle.std.proofs.Common.{◌≡◌, inl, inr, ◌≤◌, ◌<◌, ◌+◌, ◌-◌, ℕ, suc, Bool, true, List, [], ◌∷◌, ◌++◌, length, take, drop, map, Some, None, refl, sym, ◌∙◌, ap, subst, arith, append-nil, length-append}
-use Rattle.std.specs.Prelude.{Option, IfSome, IsSomeAnd, fold, slice_get}
-use Rattle.std.specs.List.{flat_map}
+use Rattle.std.specs.Prelude.{◌^◌, Option, IfSome, IsSomeAnd, fold, slice_get}
+use Rattle.std.specs.List.{flat_map, enumerate_from}
 use Rattle.std.specs.FinMap as globals
 use Rattle.std.proofs.lemmas.Bool.{cases_lt}
 use Rattle.std.proofs.lemmas.Option.{slice_get_within}
@@ -15,11 +15,12 @@ use Rattle.disk_defs.proofs.Moments.{weaker, then_more, holds_now, started}
 use Rattle.global_defs.specs.Entry.{Update, Entry, Sequence, Transaction, apply, state}
 use Rattle.global_defs.specs.Evaluation.{MOST_NODES}
 use Rattle.global_defs.specs.Prefix.{stamp_at}
+use Rattle.gvn_model.specs.declared.entry.Entry as code_entry
 use Rattle.gvn_model.specs.declared.entry.Transaction as code
 use Rattle.gvn_model.specs.declared.reign.Stamp as code_stamp
 use Rattle.gvn_model.specs.Entries.{transaction_value, entry_value}
 use Rattle.gvn_model.specs.Reigns.{stamp_value}
-use Rattle.journal_defs.specs.Numbers.{INSTANCE, journal_file}
+use Rattle.journal_defs.specs.Numbers.{INSTANCE, journal_file, database_file}
 use Rattle.journal_defs.specs.Journal.{JournalRecord, Part}
 use Rattle.journal_defs.specs.Instance.{InstanceRecord, generation, regions}
 use Rattle.journal_defs.specs.Directory.{Pattern, patterns}
@@ -46,11 +47,14 @@ use Rattle.site_defs.specs.Fronts.{with_sequence}
 use Rattle.site_defs.specs.Stands.{IsSite, HasLeft}
 use Rattle.site_store.specs.declared.site.OpenSite.{OpenSite}
 use Rattle.site_store.specs.Finding.{HasLayout}
-use Rattle.site_store.specs.Site.{Remembers, IsReady, Keeps, IsOpen, HasReign, HasRoomFor, with_entry}
+use Rattle.site_regions.specs.Joined.{joined, AreChanged}
+use Rattle.site_store.specs.Site.{Remembers, IsReady, AreHeld, Keeps, IsOpen, HasReign, HasRoomFor, AreOnBlocks, with_entry}
+use Rattle.site_store.proofs.OnBlocks.{on_same}
+use Rattle.site_store.proofs.HeldRegions.{held_stays, held_changed, no_journal, changed_not, synced_stays}
 use Rattle.gvn_model.specs.Numbered.{numbered}
 use Rattle.site_store.specs.Committing.{Enters, IsSameSite, IsSameMemory, IsOwnJournal, ArePartsOf, parts_of}
 use Rattle.site_store.proofs.Frames as frames
-use Rattle.site_store.proofs.Remembered.{remembered_length, entries_more, globals_more}
+use Rattle.site_store.proofs.Remembered.{remembered_length, entries_more, numbers_more, numbers_same, globals_more}
 use Rattle.site_store.proofs.Standing.{reads_of, reads_so, told_of, still, keeps_images}
 use Rattle.site_store.proofs.Entries as entries
 use Rattle.site_store.proofs.Emptied.{none_left}
@@ -78,6 +82,7 @@ pub record Prepares (v w : View) (old mid : OpenSite) : Type 0 where
   pub ready_after : IsReady w mid
   pub state : (hard waiting : ℕ → List JournalRecord) → KeepsJournals v hard waiting old.journals.journals.items → KeepsJournals w hard waiting mid.journals.journals.items
   pub same : IsSameSite old mid
+  pub changed : AreChanged old.globals mid.globals
   pub moments : AtEachMoment v w (Image v)
   pub stays : OthersStay (IsOwnJournal old) v w
 
@@ -86,16 +91,18 @@ keeps_prepared v w c h old mid p lawful k =
     keeps_images v w c h old mid k lawful (still v w (IsOwnJournal old) p.stays (told_of v c h old k)) (λ f now. holds_now v w (Image v) lawful p.moments f now)
     (subst (λ (i : Instance). instances.HasRecords w i c.instance) (sym p.same.instance)
     (frames.records_stay v w (IsOwnJournal old) old.instance p.stays (no_instance (generation old.instance.records) (length (regions old.instance.records))) c.instance k.instance_file))
-    (p.state k.newer (tcoms k.waiting) k.journal_files)
+    (p.state k.newer (tcoms k.waiting) k.journal_files) p.changed
 
 pub open_prepared : (v w : View) (told : Bool) (c : Contents) (h : ℕ) (old mid : OpenSite) → Prepares v w old mid → IsSameMemory old mid → IsLawful w → IsOpen v told c h old → IsOpen w told c h mid
 open_prepared v w told c h old mid p same lawful is = record {
   remembered = record {
     instance = ap (λ (i : Instance). i.records) same.same.instance ∙ is.remembered.instance;
-    entries = ap (map numbered) same.entries ∙ is.remembered.entries;
+    count = ap length same.entries ∙ is.remembered.count;
+    numbers = numbers_same old.entries.items mid.entries.items same.entries is.remembered.numbers;
     globals = same.globals ∙ is.remembered.globals;
     hardened = same.same.hardened ∙ is.remembered.hardened;
   };
+  entries = λ known. ap (map numbered) same.entries ∙ is.entries known;
   kept = λ known. keeps_prepared v w c h old mid p lawful (is.kept known);
 }
 
@@ -174,7 +181,7 @@ pub record Committed (v w x : View) (old mid new : OpenSite) (t : code.Transacti
   pub enters : Enters old mid t
   pub are_parts : ArePartsOf old (transaction_value t) parts
   pub reign : HasReign old
-  pub room : HasRoomFor old.globals t.updates
+  pub room : HasRoomFor (joined old.globals) t.updates
   pub journals : (g : ℕ) → AreReady w g mid.journals.journals.items → AreReady x g new.journals.journals.items
   pub state : (hard waiting : ℕ → List JournalRecord) → KeepsJournals w hard waiting mid.journals.journals.items → KeepsJournals x hard (λ r. waiting r ++ listed (part_in parts r)) new.journals.journals.items
   pub count : length new.journals.journals.items ≡ length mid.journals.journals.items
@@ -210,13 +217,20 @@ entry_of {t = t} p = entry_for p.enters.entry.stamp t
 remembers_longer : (v w x : View) (c : Contents) (h : ℕ) (old mid new : OpenSite) (t : code.Transaction) (parts : PartRecords) (p : Committed v w x old mid new t parts) → Remembers c h old → Remembers (longer c (entry_of p)) h new
 remembers_longer v w x c h old mid new t parts p m =
     let n = p.enters in
-    let value : entry_value n.entry ≡ entry_of p = ap (λ (y : code.Transaction). record { stamp = stamp_value n.entry.stamp; transaction = transaction_value y }) n.next.transaction in
     record {
       instance = ap (λ (i : Instance). i.records) (p.instance ∙ p.prepares.same.instance) ∙ m.instance;
-      entries = entries_more old.entries.items new.entries.items n.entry c.sequence (entry_of p) m.entries (p.entries ∙ n.entries) n.next.number value;
-      globals = globals_more old.globals new.globals c.sequence (entry_of p) m.globals (p.globals ∙ n.globals);
+      count = ap length (p.entries ∙ n.entries) ∙ length-append old.entries.items (n.entry ∷ []) ∙ ap (λ (k : ℕ). k + 1) m.count ∙ sym (length-append c.sequence (entry_of p ∷ []));
+      numbers = numbers_more old.entries.items new.entries.items n.entry m.numbers (p.entries ∙ n.entries) n.next.number;
+      globals = globals_more (joined old.globals) (joined new.globals) c.sequence (entry_of p) m.globals (ap joined p.globals ∙ n.globals);
       hardened = p.hardened ∙ p.prepares.same.hardened ∙ m.hardened;
     }
+
+entries_longer : (v w x : View) (c : Contents) (old mid new : OpenSite) (t : code.Transaction) (parts : PartRecords) (p : Committed v w x old mid new t parts) → map numbered old.entries.items ≡ enumerate_from 1 c.sequence
+    → map numbered new.entries.items ≡ enumerate_from 1 (c.sequence ++ entry_of p ∷ [])
+entries_longer v w x c old mid new t parts p are =
+    let n = p.enters in
+    let value : entry_value n.entry ≡ entry_of p = ap (λ (y : code.Transaction). record { stamp = stamp_value n.entry.stamp; transaction = transaction_value y }) n.next.transaction in
+    entries_more old.entries.items new.entries.items n.entry c.sequence (entry_of p) are (p.entries ∙ n.entries) n.next.number value
 
 -- its directory is that of the instance file
 directory_of : (v : View) (c : Contents) (h : ℕ) (s : OpenSite) → IsReady v s → Remembers c h s → s.layout.directory.patterns ≡ patterns c.instance
@@ -272,6 +286,7 @@ keeps_longer v w x c h old mid new t parts p before m lawful lawful_after =
     let stays = p.stays (suc k.g) (newest.are_ready w c h mid k ready own) in
     let few = newest.few w c h mid k ready own in
     let site : (f : Files) → Image x f → IsSite f (with_sequence c (take h c.sequence)) = λ f now. newest.none_site w c h mid k ready own (q f now).others.0 f (q f now).others.1 (q f now).others.2 (q f now).here in
+    let many : length (regions k.records.instance) ≡ length (regions c.instance) = ap (λ (l : List InstanceRecord). length (regions l)) k.newest.instance in
     let front : take h c.sequence ≡ take h (c.sequence ++ e ∷ []) = sym (take-append-le h c.sequence (e ∷ []) k.count) in
     record {
       count = let size = length-append c.sequence (e ∷ []) in let low = k.count in omega (arith, size, low);
@@ -290,6 +305,8 @@ keeps_longer v w x c h old mid new t parts p before m lawful lawful_after =
       older_files = λ f now r here.
           journal_same (q f now).others.0 f r k.g (k.last r) (k.older r) (λ n le. (q f now).others.2 (journal_file n r) (λ i. omega (arith, i.is, i.inside, le, here, few))) (k.older_files (q f now).others.0 (q f now).others.1 r here);
       none_past = k.none_past;
+      blocks = λ f now. subst (AreOnBlocks f k.records h) (sym p.globals) (on_same (q f now).others.0 f k.records h mid.globals (λ r here. (q f now).others.2 (database_file r) (λ i. omega (arith, i.is, i.inside, here, few, many))) (k.blocks (q f now).others.0 (q f now).others.1));
+      databases = synced_stays w x (IsNewestFile (suc k.g) (length (regions c.instance))) (length (regions c.instance)) (λ f now. (q f now).others) (no_journal (suc k.g) (length (regions c.instance)) (length (regions c.instance)) few) k.databases;
       no_epoch_past = k.no_epoch_past;
       waiting = k.waiting ++ part ∷ [];
       are_waiting = subst (AreEntries c.instance (suc k.g) h (k.waiting ++ part ∷ [])) (sym (drop-append-le h c.sequence (e ∷ []) k.count))
@@ -312,23 +329,34 @@ pub open_longer : (v w x : View) (told : Bool) (c : Contents) (h : ℕ) (old mid
 open_longer v w x told c h old mid new t parts p lawful lawful_after is =
     subst (λ (d : Contents). IsOpen x told d h new) (sym (with_entry_is old.stamp p.enters.entry.stamp (transaction_value t) c p.enters.next.stamp)) (record {
       remembered = remembers_longer v w x c h old mid new t parts p is.remembered;
+      entries = λ known. entries_longer v w x c old mid new t parts p (is.entries known);
       kept = λ known. keeps_longer v w x c h old mid new t parts p (is.kept known) is.remembered lawful lawful_after;
     })
 
 -- open for calls, and under its reign
 pub ready_after : (w x : View) (mid new : OpenSite) → IsReady w mid → ((g : ℕ) → AreReady w g mid.journals.journals.items → AreReady x g new.journals.journals.items) → length new.journals.journals.items ≡ length mid.journals.journals.items
-    → ((g : ℕ) → AreReady w g mid.journals.journals.items → OthersStay (IsNewestFile g (length mid.journals.journals.items)) w x) → new.instance ≡ mid.instance → new.layout ≡ mid.layout → IsReady x new
-ready_after w x mid new ready journals count stays instance layout =
+    → ((g : ℕ) → AreReady w g mid.journals.journals.items → OthersStay (IsNewestFile g (length mid.journals.journals.items)) w x) → new.instance ≡ mid.instance → new.layout ≡ mid.layout
+    → AreChanged mid.globals new.globals → length new.entries.items < 2 ^ 40 → IsReady x new
+ready_after w x mid new ready journals count stays instance layout changed few =
     let g = generation mid.instance.records in
+    let many = length (regions mid.instance.records) in
+    let low = ready.journals.few in
+    let same = ready.each_region in
     record {
       instance = subst (λ (i : Instance). instances.IsReady x i) (sym instance) (frames.ready_stays w x (IsNewestFile g (length mid.journals.journals.items)) mid.instance (stays g ready.journals) (no_instance g (length mid.journals.journals.items)) ready.instance);
       layout = subst (λ (i : Instance). HasLayout i.records new.layout) (sym instance) (subst (HasLayout mid.instance.records) (sym layout) ready.layout);
       journals = subst (λ (i : Instance). AreReady x (generation i.records) new.journals.journals.items) (sym instance) (journals g ready.journals);
       each_region = count ∙ ready.each_region ∙ ap (λ (i : Instance). length (regions i.records)) (sym instance);
+      regions = subst (λ (i : Instance). AreHeld x (length (regions i.records)) new.globals) (sym instance)
+          (held_changed x many mid.globals new.globals changed
+          (held_stays w x (IsNewestFile g (length mid.journals.journals.items)) many mid.globals (stays g ready.journals) (no_journal g (length mid.journals.journals.items) many (omega (arith, low, same))) ready.regions));
+      few = few;
     }
 
 pub ready_longer : (v w x : View) (old mid new : OpenSite) (t : code.Transaction) (parts : PartRecords) → Committed v w x old mid new t parts → IsReady x new
-ready_longer v w x old mid new t parts p = ready_after w x mid new p.prepares.ready_after p.journals p.count p.stays p.instance p.layout
+ready_longer v w x old mid new t parts p =
+    ready_after w x mid new p.prepares.ready_after p.journals p.count p.stays p.instance p.layout (changed_not mid.globals new.globals p.globals)
+    (subst (λ (l : List code_entry.Entry). length l < 2 ^ 40) (sym p.entries) p.prepares.ready_after.few)
 
 pub reign_stays : (old new : OpenSite) → HasReign old → new.instance ≡ old.instance → new.stamp ≡ old.stamp → length old.entries.items ≤ length new.entries.items → HasReign new
 reign_stays old new r instance stamp more = record {
@@ -343,10 +371,11 @@ own_stays v w s ready stays = subst (λ (n : ℕ). OthersStay (IsNewestFile (gen
 
 -- open for calls, with what is prepared
 pub ready_prepared : (v w : View) (old new : OpenSite) (js : RegionJournals) → IsReady v old → ((g : ℕ) → AreReady v g old.journals.journals.items → AreReady w g js.journals.items) → length js.journals.items ≡ length old.journals.journals.items
-    → ((g : ℕ) → AreReady v g old.journals.journals.items → OthersStay (IsNewestFile g (length old.journals.journals.items)) v w) → new.journals ≡ js → new.instance ≡ old.instance → new.layout ≡ old.layout → IsReady w new
-ready_prepared v w old new js ready journals count stays is instance layout =
+    → ((g : ℕ) → AreReady v g old.journals.journals.items → OthersStay (IsNewestFile g (length old.journals.journals.items)) v w) → new.journals ≡ js → new.instance ≡ old.instance → new.layout ≡ old.layout
+    → AreChanged old.globals new.globals → length new.entries.items < 2 ^ 40 → IsReady w new
+ready_prepared v w old new js ready journals count stays is instance layout changed few =
     ready_after v w old new ready (subst (λ (k : RegionJournals). (g : ℕ) → AreReady v g old.journals.journals.items → AreReady w g k.journals.items) (sym is) journals)
-    (ap (λ (k : RegionJournals). length k.journals.items) is ∙ count) stays instance layout
+    (ap (λ (k : RegionJournals). length k.journals.items) is ∙ count) stays instance layout changed few
 
 pub still_prepared : (parts : PartRecords) (new : OpenSite) (js : RegionJournals) → new.journals ≡ js → ArePrepared parts js.journals.items → ArePrepared parts new.journals.journals.items
 still_prepared parts new js is prepared = subst (λ (k : RegionJournals). ArePrepared parts k.journals.items) (sym is) prepared

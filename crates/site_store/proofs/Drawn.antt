@@ -1,5 +1,5 @@
 -- A site that was read, whose next generation is drawn and begins.
-use Rattle.std.proofs.Common.{◌≡◌, ◌≢◌, inl, inr, ℕ, zero, suc, ◌+◌, ◌≤◌, ◌<◌, Bool, true, false, List, [], ◌∷◌, ◌++◌, length, Some, refl, sym, ◌∙◌, ap, subst, arith}
+use Rattle.std.proofs.Common.{◌≡◌, ◌≢◌, inl, inr, ℕ, zero, suc, ◌+◌, ◌≤◌, ◌<◌, Bool, true, false, List, [], ◌∷◌, ◌++◌, length, Some, None, refl, sym, ◌∙◌, ap, subst, arith, append-nil}
 use Rattle.std.specs.Prelude.{◌&&◌, if◌then◌else◌, nat_lt}
 use Rattle.std.specs.List.{AllByRecursion, filter_map}
 use Rattle.std.specs.Option.{unwrap_or}
@@ -25,12 +25,12 @@ use Rattle.site_files.specs.Loading.{MayBeOpened, AreRead, IsUncut, HasDrawn, Ma
 use Rattle.site_files.specs.Loading as files
 use Rattle.site_files.proofs.Keeping as keeping
 use Rattle.site_files.proofs.Kept.{held_read}
-use Rattle.site_defs.specs.Contents.{Contents, Leftover, Standing, bare}
+use Rattle.site_defs.specs.Contents.{Taken, Contents, Leftover, Standing, bare}
 use Rattle.site_defs.specs.Opening.{cut_there, opened, with_starts, starts_in, start_of, MayOpen, MayOpenLeft}
-use Rattle.site_defs.specs.Stands.{start_in, texts_of, IsSite, HasLeft}
+use Rattle.site_defs.specs.Stands.{start_in, epoch_in, texts_of, IsSite, HasLeft}
 use Rattle.site_defs.specs.Behind.{IsStanding}
 use Rattle.site_store.proofs.Images.{left_nothing}
-use Rattle.site_store.proofs.Starts.{starts_of, last_is, mode_cut}
+use Rattle.site_store.proofs.Starts.{starts_of, epochs_of, last_is, mode_cut}
 
 -- generations of the files that stay
 pub texts_kept : (a b : Files) (g : ℕ) → ((h : ℕ) → 1 ≤ h → h ≤ g → b (broken_file h) ≡ a (broken_file h)) → texts_of a g ≡ texts_of b g
@@ -49,6 +49,11 @@ begins_same true true x y p is same = ap (λ (s : Start). s ∷ []) (same refl r
 begins_same true false x y p is same = refl
 begins_same false b x y p is same = refl
 
+no_epoch : (a b : Bool) (p : Placed) → epoch_in p.generation p.what ≡ None → [] ≡ filter_map (λ (q : Placed). epoch_in q.generation q.what) (if a && b then p ∷ [] else [])
+no_epoch true true p is = rw is refl
+no_epoch true false p is = refl
+no_epoch false b p is = refl
+
 module _ (rs : List InstanceRecord) (last : ℕ → ℕ) (journal : ℕ → List Placed) (seq : Sequence) (form : MayBeOpened rs last) (sequence : IsSequence (record { instance = rs; journal = journal }) seq) where
   abbrev pub S : Records
   S = record { instance = rs; journal = journal }
@@ -59,7 +64,7 @@ module _ (rs : List InstanceRecord) (last : ℕ → ℕ) (journal : ℕ → List
 
   -- what files stand for in which these records were read
   abbrev pub C : Files → Contents
-  C f = record { instance = rs; starts = λ r. starts_of (journal r); texts = texts_of f (generation rs); sequence = seq }
+  C f = record { instance = rs; starts = λ r. starts_of (journal r); epochs = λ r. epochs_of (journal r); texts = texts_of f (generation rs); sequence = seq }
 
   abbrev pub many : ℕ
   many = length (regions rs)
@@ -85,8 +90,9 @@ module _ (rs : List InstanceRecord) (last : ℕ → ℕ) (journal : ℕ → List
       let seqs : c.sequence ≡ seq = runs.one S c.sequence seq image.sequence sequence in
       let own : c.instance ≡ rs = sym site.instance ∙ ap (λ (u : Records). u.instance) same in
       let begun : c.starts ≡ (λ r. starts_of (journal r)) = fun_ext (λ r. site.starts r ∙ ap (λ (u : Records). starts_of (u.journal r)) same) in
+      let taken : c.epochs ≡ (λ r. epochs_of (journal r)) = fun_ext (λ r. site.epochs r ∙ ap (λ (u : Records). epochs_of (u.journal r)) same) in
       let wrote : c.texts ≡ texts_of f (generation rs) = site.texts ∙ ap (λ (l : List InstanceRecord). texts_of f (generation l)) own in
-      (subst (IsSoundImage f S) seqs image, λ i. record { instance = own i; starts = begun i; texts = wrote i; sequence = seqs i })
+      (subst (IsSoundImage f S) seqs image, λ i. record { instance = own i; starts = begun i; epochs = taken i; texts = wrote i; sequence = seqs i })
 
   -- and what it has left
   pub left_read : (f : Files) (c : Contents) (left : Leftover) → AreRead rs last journal f → IsSite f c → HasLeft f c left → left.broken ≡ text
@@ -121,6 +127,7 @@ module _ (rs : List InstanceRecord) (last : ℕ → ℕ) (journal : ℕ → List
     records = S;
     instance = refl;
     starts = λ r. refl;
+    epochs = λ r. refl;
     texts = texts_same a b cut.others;
     image = keeping.uncut_image a S last form seq sound broken_there b is cut;
   }
@@ -151,6 +158,13 @@ module _ (rs : List InstanceRecord) (last : ℕ → ℕ) (journal : ℕ → List
         ∙ begins_same (nat_lt r k) (nat_lt r many) (start_of D r) (record { region = r; before = unwrap_or (mode_of rs r) true; generation = suc (generation rs); previous = last r }) (first r) refl (λ low here. start_is r (grind (arith, nat_tests, here))))
         ∙ sym (filter_map-append (λ (p : Placed). start_in p.what) (journal r) (files.starts_in rs last k r))
 
+    -- no epoch is taken
+    epochs_are : (k r : ℕ) → epochs_of (journal r) ≡ epochs_of (journal r ++ files.starts_in rs last k r)
+    epochs_are k r =
+        sym (append-nil (epochs_of (journal r)))
+        ∙ ap (λ (l : List Taken). epochs_of (journal r) ++ l) (no_epoch (nat_lt r k) (nat_lt r many) (first r) refl)
+        ∙ sym (filter_map-append (λ (p : Placed). epoch_in p.generation p.what) (journal r) (files.starts_in rs last k r))
+
     pub site_drawn : (b : Files) (k : ℕ) → IsSoundImage a S seq → broken_there ≡ text → HasDrawn rs (length seq) broken_there last k a b → IsSite b (with_starts k D)
     site_drawn b k sound is has = record {
       made = made_more rs (next_cut rs (length seq));
@@ -158,6 +172,7 @@ module _ (rs : List InstanceRecord) (last : ℕ → ℕ) (journal : ℕ → List
       records = drawn_records S (length seq) last k;
       instance = refl;
       starts = starts_are k;
+      epochs = epochs_are k;
       texts = ap (λ (t : List ℕ). texts_of a (generation rs) ++ t ∷ []) (sym (keeping.text_is a S last form seq sound broken_there b k is has))
           ∙ ap (λ (l : List (List ℕ)). l ++ b (next_broken rs) ∷ []) (texts_same a b has.others)
           ∙ ap (texts_of b) (sym newest_is);

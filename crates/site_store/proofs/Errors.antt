@@ -4,7 +4,9 @@ use Rattle.site_files.specs.declared.error.FilesError.{FilesError}
 use Rattle.site_files.specs.declared.error.FilesError.TheVariants as files
 use Rattle.site_store.specs.declared.error.SiteError.{SiteError}
 use Rattle.site_store.specs.declared.error.SiteError.TheVariants as error
-use Rattle.site_store.specs.Errors.{files_error}
+use Rattle.region_store.specs.declared.error.RegionError.{RegionError}
+use Rattle.region_store.specs.declared.error.RegionError.TheVariants as regions
+use Rattle.site_store.specs.Errors.{files_error, region_error}
 
 -- the same error with another result
 pub handed_on : {T U : Type 0} (e x : SiteError) → IsErrOf {T = T} (Err e) x → IsErrOf {T = U} (Err e) x
@@ -31,6 +33,14 @@ file_was (files.NotAFile f o) file offset is =
     let two : o ≡ offset = cc is in
     λ i. Err (files.NotAFile (one i) (two i))
 file_was files.NoMemory file offset is = absurd (cc is)
+
+pub region_was : {T U : Type 0} (x : RegionError) (file offset : ℕ) → IsErrOf {T = T} (Err (region_error x)) (error.NotAFile file offset) → IsErrOf {T = U} (Err x) (regions.NotAFile file offset)
+region_was (regions.Failed f) file offset is = absurd (cc is)
+region_was (regions.NotAFile f o) file offset is =
+    let one : f ≡ file = cc is in
+    let two : o ≡ offset = cc is in
+    λ i. Err (regions.NotAFile (one i) (two i))
+region_was regions.NoMemory file offset is = absurd (cc is)
 
 -- the files have no such errors
 pub never_stopped : {T : Type 0} (x : FilesError) (fault : ℕ) → IsErrOf {T = T} (Err (files_error x)) (error.Stopped fault) → ⊥

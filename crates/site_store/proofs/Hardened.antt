@@ -1,18 +1,19 @@
 -- The entries that wait are hardened.
 use Rattle.std.proofs.Common.{◌≡◌, ◌≤◌, ◌<◌, ℕ, suc, Bool, true, List, [], ◌++◌, length, map, take, drop, refl, sym, ◌∙◌, ap, subst, arith}
-use Rattle.std.specs.Prelude.{IfSome}
+use Rattle.std.specs.Prelude.{◌^◌, IfSome}
 use Rattle.std.proofs.Math.Seq.{take-length, drop-length}
 use Rattle.std.proofs.lemmas.List.{length-drop}
 use Rattle.disk_defs.specs.Disk.{Files, View, Image, IsLawful, AtEachMoment}
 use Rattle.disk_defs.specs.Frames.{SameOutside, OnlyIn, OthersStay}
 use Rattle.disk_defs.proofs.Moments.{weaker, holds_now}
-use Rattle.journal_defs.specs.Numbers.{journal_file}
+use Rattle.journal_defs.specs.Numbers.{journal_file, database_file}
 use Rattle.journal_defs.specs.Journal.{JournalRecord, IsJournalBody}
-use Rattle.journal_defs.specs.Instance.{regions}
+use Rattle.journal_defs.specs.Instance.{InstanceRecord, regions}
 use Rattle.journal_defs.specs.Directory.{patterns}
 use Rattle.journal_defs.specs.Sequence.{Records}
 use Rattle.journal_defs.specs.Stands.{Holds}
-use Rattle.journal_defs.specs.Growth.{NonePast, AreEntries, tcoms}
+use Rattle.journal_defs.specs.Growth.{NonePast, AreEntries, tcoms, appended}
+use Rattle.journal_defs.specs.Epochs.{chosen}
 use Rattle.journal_defs.specs.Fit.{IsSoundImage}
 use Rattle.journal_laws.proofs.Appending.{journal_same}
 use Rattle.instance_file.specs.declared.instance.Instance.{Instance}
@@ -26,13 +27,17 @@ use Rattle.site_defs.specs.Behind.{IsFrontLeft, IsSiteWith}
 use Rattle.site_defs.specs.Fronts.{with_sequence, IsFrontOf}
 use Rattle.site_defs.specs.Stands.{IsSite}
 use Rattle.site_store.specs.declared.site.OpenSite.{OpenSite}
-use Rattle.site_store.specs.Site.{Remembers, IsReady, Keeps, IsOpen}
+use Rattle.site_regions.specs.Joined.{joined}
+use Rattle.site_store.specs.Site.{Remembers, IsReady, Keeps, IsOpen, AreOnBlocks}
 use Rattle.gvn_model.specs.Numbered.{numbered}
-use Rattle.site_store.proofs.Remembered.{remembered_length}
+use Rattle.site_store.proofs.Remembered.{remembered_length, numbers_same}
 use Rattle.site_store.proofs.Standing.{reads_of, reads_so, told_of, still}
 use Rattle.site_store.proofs.Committed.{instance_kept, ready_after}
 use Rattle.site_store.proofs.Waiting as waiting
 use Rattle.site_store.proofs.Newest as newest
+use Rattle.gvn_model.specs.declared.entry.Entry.{Entry}
+use Rattle.site_store.proofs.HeldRegions.{changed_not, no_journal, synced_stays}
+use Rattle.site_store.proofs.OnBlocks.{on_same, on_more, on_chosen, parts_plain}
 use Rattle.site_store.proofs.Parts.{no_entry_no_part}
 
 -- each moment of a hardening of these journals
@@ -77,7 +82,9 @@ pub record Hardens (v w : View) (old new : OpenSite) : Type 0 where
   pub hardened : new.hardened ≡ length old.entries.items
 
 pub ready_hardened : (v w : View) (old new : OpenSite) → Hardens v w old new → IsReady w new
-ready_hardened v w old new p = ready_after v w old new p.ready p.journals p.count p.stays p.instance p.layout
+ready_hardened v w old new p =
+    ready_after v w old new p.ready p.journals p.count p.stays p.instance p.layout (changed_not old.globals new.globals p.globals)
+    (subst (λ (l : List Entry). length l < 2 ^ 40) (sym p.entries) p.ready.few)
 
 module _ (v w : View) (c : Contents) (h : ℕ) (old new : OpenSite) (p : Hardens v w old new) (lawful : IsLawful w) (k : Keeps v c h old) (m : Remembers c h old) where
   own : old.instance.records ≡ c.instance
@@ -124,6 +131,18 @@ module _ (v w : View) (c : Contents) (h : ℕ) (old new : OpenSite) (p : Hardens
   site : (f : Files) → Image w f → IsSite f (with_sequence c (take (length c.sequence) c.sequence))
   site f now = newest.all_site v c h old k p.ready own (stays.images f now).0 f (stays.images f now).1 (outside f now) (first f now)
 
+  -- the regions' blocks are still those of the epochs, since no epoch stands among the parts
+  on_all : (f : Files) → Image w f → AreOnBlocks f all (length c.sequence) new.globals
+  on_all f now =
+      let from = stays.images f now in
+      let low = few in
+      subst (AreOnBlocks f all (length c.sequence)) (sym p.globals)
+      (on_same from.0 f all (length c.sequence) old.globals (λ r here. outside f now (database_file r) (λ i. omega (arith, i.is, i.inside, here, low)))
+      (on_more from.0 (newest.base v c h old k p.ready own) all (length c.sequence) old.globals (appended (suc k.g) k.waiting) refl (λ r here. refl) (λ r here. parts_plain c.instance (length c.sequence) (suc k.g) k.waiting r)
+      (on_chosen from.0 k.records (newest.base v c h old k p.ready own) h (length c.sequence) old.globals (ap (λ (l : List InstanceRecord). length (regions l)) (sym k.newest.instance)) (ap patterns (sym k.newest.instance))
+      (λ r here. (refl, k.no_epoch_past r (let same = ap (λ (l : List InstanceRecord). length (regions l)) k.newest.instance in omega (arith, here, same)) (length c.sequence) k.count ∙ ap (λ (l : List InstanceRecord). chosen l h (k.records.journal r)) (sym k.newest.instance)))
+      (k.blocks from.0 from.1))))
+
   pub keeps_hardened : Keeps w c (length c.sequence) new
   keeps_hardened = record {
     count = omega arith;
@@ -152,6 +171,8 @@ module _ (v w : View) (c : Contents) (h : ℕ) (old new : OpenSite) (p : Hardens
         let low = k.count in
         subst (λ (n : ℕ). NonePast n all) (omega (arith, rest, low))
         (waiting.none_past_all (newest.base v c h old k p.ready own) (suc k.g) h k.waiting (drop h c.sequence) (subst (λ (u : Records). NonePast h u) (newest.is_base v c h old k p.ready own) k.none_past) k.are_waiting);
+    blocks = on_all;
+    databases = (let low = few in synced_stays v w (IsNewestFile (suc k.g) (length old.journals.journals.items)) (length (regions c.instance)) stays.images (no_journal (suc k.g) (length old.journals.journals.items) (length (regions c.instance)) low) k.databases);
     no_epoch_past = λ r here. waiting.no_epoch_past_all c.instance h (length c.sequence) (suc k.g) (k.records.journal r) k.waiting r k.count (k.no_epoch_past r here);
     waiting = [];
     are_waiting = subst (AreEntries c.instance (suc k.g) (length c.sequence) []) (sym (drop-length c.sequence)) tt;
@@ -166,9 +187,11 @@ pub open_hardened : (v w : View) (told : Bool) (c : Contents) (h : ℕ) (old new
 open_hardened v w told c h old new p lawful is = record {
   remembered = record {
     instance = ap (λ (i : Instance). i.records) p.instance ∙ is.remembered.instance;
-    entries = ap (map numbered) p.entries ∙ is.remembered.entries;
-    globals = p.globals ∙ is.remembered.globals;
+    count = ap length p.entries ∙ is.remembered.count;
+    numbers = numbers_same old.entries.items new.entries.items p.entries is.remembered.numbers;
+    globals = ap joined p.globals ∙ is.remembered.globals;
     hardened = p.hardened ∙ remembered_length c h old is.remembered;
   };
+  entries = λ known. ap (map numbered) p.entries ∙ is.entries known;
   kept = λ known. keeps_hardened v w c h old new p lawful (is.kept known) is.remembered;
 }

@@ -23,7 +23,7 @@ use Rattle.journal_laws.proofs.ImageSteps as images
 use Rattle.journal_laws.proofs.Readings.{records_one}
 use Rattle.region_journals.proofs.Unbroken.{broken_none}
 use Rattle.site_defs.specs.Contents.{Contents, NO_LEFTOVER, is_made}
-use Rattle.site_defs.specs.Stands.{start_in, texts_of, IsSite, HasLeft}
+use Rattle.site_defs.specs.Stands.{start_in, epoch_in, texts_of, IsSite, HasLeft}
 
 -- A body is that of one record, and the record has one body, so a list of records has one list of bodies.
 zip_front : {R : Type 0} (P : Body → R → Type 0) → ((b d : Body) (r : R) → P b r → P d r → b ≡ d) → (bs ds : List Body) (rs qs : List R)
@@ -138,6 +138,7 @@ pub record AreOf (files : Files) (c : Contents) (s : Records) : Type 0 where
   pub mapped : AllByRecursion (λ (p : Pattern). p.region < length (regions c.instance)) (patterns c.instance)
   pub instance : s.instance ≡ c.instance
   pub starts : (r : ℕ) → c.starts r ≡ filter_map (λ (p : Placed). start_in p.what) (s.journal r)
+  pub epochs : (r : ℕ) → c.epochs r ≡ filter_map (λ (p : Placed). epoch_in p.generation p.what) (s.journal r)
   pub texts : c.texts ≡ texts_of files (generation c.instance)
 
 pub are_of : (files : Files) (c : Contents) (s : Records) → IsSite files c → AreRecords files s → AreOf files c s
@@ -148,11 +149,12 @@ are_of files c s is held =
       mapped = is.mapped;
       instance = subst (λ (u : Records). u.instance ≡ c.instance) same is.instance;
       starts = λ r. subst (λ (u : Records). c.starts r ≡ filter_map (λ (p : Placed). start_in p.what) (u.journal r)) same (is.starts r);
+      epochs = λ r. subst (λ (u : Records). c.epochs r ≡ filter_map (λ (p : Placed). epoch_in p.generation p.what) (u.journal r)) same (is.epochs r);
       texts = is.texts;
     }
 
 pub site_of : (files : Files) (c : Contents) (s : Records) → AreOf files c s → IsSoundImage files s c.sequence → IsSite files c
-site_of files c s of sound = record { made = of.made; mapped = of.mapped; records = s; instance = of.instance; starts = of.starts; texts = of.texts; image = sound }
+site_of files c s of sound = record { made = of.made; mapped = of.mapped; records = s; instance = of.instance; starts = of.starts; epochs = of.epochs; texts = of.texts; image = sound }
 
 pub is_created : (c : Contents) → is_made c ≡ true → 0 < length c.instance
 is_created c made = by_list c.instance made

@@ -3,6 +3,10 @@ pub mod Images
 pub mod Emptied
 pub mod Frames
 pub mod Remembered
+pub mod Stood
+pub mod FormsRead
+pub mod OnBlocks
+pub mod HeldRegions
 pub mod Begun
 pub mod Items
 pub mod Nodes
@@ -12,6 +16,8 @@ pub mod Newest
 pub mod Waiting
 pub mod Committed
 pub mod Hardened
+pub mod Fronted
+pub mod Marked
 pub mod Errors
 pub mod Found
 pub mod Made
@@ -20,6 +26,7 @@ pub mod Layouts
 pub mod Starts
 pub mod Drawn
 pub mod Texts
+pub mod Databases
 pub mod Typed
 pub mod Refused
 pub mod Loaded

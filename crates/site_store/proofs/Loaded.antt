@@ -1,29 +1,32 @@
 -- A site is opened.
-use Rattle.std.proofs.Common.{◌≡◌, inl, inr, ℕ, suc, ◌+◌, ◌≤◌, ◌<◌, ◌^◌, Bool, true, false, List, [], ◌∷◌, ◌++◌, length, map, take, Option, Some, None, IfSome, IsSomeAnd, refl, sym, ◌∙◌, ap, subst, arith}
-use Rattle.std.specs.Prelude.{filter, nat_le, slice_get, if◌then◌else◌}
-use Rattle.std.specs.List.{AllByRecursion, enumerate_from}
+use Rattle.std.proofs.Common.{◌≡◌, inl, inr, ℕ, zero, suc, ◌+◌, ◌≤◌, ◌<◌, ◌^◌, Bool, true, false, List, [], ◌∷◌, ◌++◌, length, map, take, Option, Some, None, IfSome, IsSomeAnd, refl, sym, ◌∙◌, ap, subst, arith, append-nil}
+use Rattle.std.specs.Prelude.{◌^◌, filter, nat_le, nat_lt, ◌&&◌, fold, replicate, slice_get, if◌then◌else◌}
+use Rattle.std.specs.List.{AllByRecursion, enumerate_from, flat_map}
 use Rattle.std.specs.Option.{option_map}
 use Rattle.std.proofs.lemmas.Bool.Decides.{nat_tests}
-use Rattle.std.proofs.lemmas.List.{length-map}
+use Rattle.std.proofs.lemmas.List.{length-map, length-replicate}
 use Rattle.std.proofs.lemmas.Option.{slice_get-map}
 use Rattle.std.proofs.Math.Seq.{take-length, drop-length}
 use Rattle.disk_defs.specs.Disk.{Files, View, Image, IsLawful, From, AtEachMoment}
 use Rattle.disk_defs.proofs.Told.{weaker_told, both_weak, told_at}
 use Rattle.disk_defs.proofs.Moments.{weaker, then_more, holds_now}
-use Rattle.global_defs.specs.Entry.{Sequence, Reign, state}
+use Rattle.global_defs.specs.Entry.{Update, Entry, Sequence, Globals, Reign, apply, state}
+use Rattle.std.specs.FinMap as globals
 use Rattle.global_defs.specs.Fields.{IsSiteName}
 use Rattle.gvn_model.specs.Entries.{entry_value}
-use Rattle.gvn_model.specs.declared.entry.Entry.{Entry}
+use Rattle.gvn_model.specs.declared.entry.Entry as code
 use Rattle.journal_defs.specs.Instance.{InstanceRecord, Create, Reigned, Cut, Map, Mode, IsInForm, BeginsWithCreate, generation, regions, site_name}
 use Rattle.journal_defs.specs.Directory.{patterns}
 use Rattle.journal_defs.specs.Surviving.{reigns}
 use Rattle.journal_defs.specs.Sequence.{Placed, Records, IsSequence}
-use Rattle.journal_defs.specs.Growth.{AreEntries}
+use Rattle.journal_defs.specs.Growth.{AreEntries, with_record}
 use Rattle.journal_defs.specs.Fit.{IsSoundImage}
-use Rattle.journal_defs.specs.Stands.{IsInstance, AreRecords}
+use Rattle.journal_defs.specs.Stands.{IsInstance, AreRecords, in_generation}
 use Rattle.journal_laws.proofs.Readings.{records_one}
-use Rattle.journal_defs.specs.Numbers.{INSTANCE}
+use Rattle.journal_defs.specs.Numbers.{INSTANCE, database_file}
 use Rattle.journal_laws.proofs.Drawing as drawing
+use Rattle.journal_laws.proofs.Targets.{cut_keeps}
+use Rattle.journal_laws.proofs.EveryTarget.{patterns_same}
 use Rattle.journal_laws.proofs.Runs as runs
 use Rattle.instance_file.specs.Instance as instances
 use Rattle.jnl_file.specs.Journal as journals
@@ -32,7 +35,7 @@ use Rattle.jnl_file.specs.declared.journal.Journal.{Journal}
 use Rattle.region_journals.specs.Journals.{AreReady, HasSyncs, KeepsJournals}
 use Rattle.region_journals.specs.Journals as region_journals
 use Rattle.region_journals.specs.declared.journals.RegionJournal.{RegionJournal}
-use Rattle.site_files.specs.Loading.{MayBeOpened, AreRead, WasRead, MayDraw, HasDrawn, next_cut, next_broken, next_pini, drawn_records}
+use Rattle.site_files.specs.Loading.{MayBeOpened, AreRead, WasRead, MayDraw, HasDrawn, next_cut, next_broken, next_pini, starts_in, drawn_records}
 use Rattle.site_files.proofs.Keeping as keeping
 use Rattle.site_files.proofs.Kept.{image_read, held_read}
 use Rattle.site_defs.specs.Contents.{Contents, Leftover}
@@ -41,14 +44,17 @@ use Rattle.site_defs.specs.Opening.{opened, MayOpen}
 use Rattle.site_defs.specs.Stands.{IsSite, HasLeft, Stands, texts_of}
 use Rattle.site_store.specs.declared.site.OpenSite.{OpenSite}
 use Rattle.site_store.specs.Finding.{HasLayout}
-use Rattle.site_store.specs.Site.{Remembers, IsReady, Keeps, IsOpen, WasOpened, WasOpenedFrom}
+use Rattle.site_regions.specs.Joined.{joined}
+use Rattle.site_store.specs.Site.{Remembers, AreHeld, IsReady, Keeps, IsOpen, AreOnBlocks, WasOpened, WasOpenedFrom}
 use Rattle.gvn_model.specs.Numbered.{numbered}
-use Rattle.site_store.specs.Opening.{MayBeOpen, MayBeOpenWith, EachStands, AreTextsDurable}
+use Rattle.site_store.specs.Opening.{MayBeOpen, MayBeOpenWith, EachStands, AreTextsDurable, AreDatabasesDurable}
+use Rattle.site_store.proofs.Remembered.{length-enumerate, are_numbered}
+use Rattle.site_store.proofs.OnBlocks.{IsPlain, on_same, on_more, on_chosen}
 use Rattle.site_store.proofs.Found.{instance_one, blank_instance}
 use Rattle.site_store.proofs.Drawn.{S, C, text, newest_is, same_regions, site_read, left_read, site_either, standing_either, site_begun, newest_whole, texts_kept}
 use Rattle.site_store.proofs.Parts.{no_entry_no_part}
 
-pub length_values : (es : List Entry) → length (map entry_value es) ≡ length es
+pub length_values : (es : List code.Entry) → length (map entry_value es) ≡ length es
 length_values [] = refl
 length_values (e ∷ es) = ap suc (length_values es)
 
@@ -144,6 +150,33 @@ longer : (l : List InstanceRecord) (x : InstanceRecord) → 0 < length (l ++ x �
 longer [] x = omega arith
 longer (y ∷ l) x = omega arith
 
+-- as many entries as one likes that lead to the same nodes, where some do; none lead to no nodes
+abbrev quiet_entry : Entry
+quiet_entry = record { stamp = record { root = []; cycle = 0 }; transaction = record { origin = record { updater = 0; serial = 0 }; updates = [] } }
+
+abbrev updates_in : Sequence → List Update
+updates_in es = flat_map (λ (e : Entry). e.transaction.updates) es
+
+no_updates : (n : ℕ) → updates_in (replicate n quiet_entry) ≡ []
+no_updates zero = refl
+no_updates (suc n) = no_updates n
+
+stretched : (n : ℕ) (es : Sequence) (g : Globals) → g ≡ state es → (n ≡ 0 → g ≡ globals.empty) → (all : Sequence) × (length all ≡ n) × (g ≡ state all)
+stretched zero es g is none = ([], refl, none refl)
+stretched (suc n) es g is none = (
+  record { stamp = record { root = []; cycle = 0 }; transaction = record { origin = record { updater = 0; serial = 0 }; updates = updates_in es } } ∷ replicate n quiet_entry,
+  ap suc (length-replicate n quiet_entry),
+  is ∙ ap (fold apply globals.empty) (sym (append-nil (updates_in es))) ∙ ap (λ (us : List Update). fold apply globals.empty (updates_in es ++ us)) (sym (no_updates n)),
+)
+
+-- how a generation begins is no image and no epoch
+begins_plain : (rs : List InstanceRecord) (last : ℕ → ℕ) (k n r : ℕ) (instance : List InstanceRecord) → AllByRecursion (IsPlain instance n) (starts_in rs last k r)
+begins_plain rs last k n r instance = by_test (nat_lt r k && nat_lt r (length (regions rs)))
+  where
+    by_test : (b : Bool) → AllByRecursion (IsPlain instance n) (if b then in_generation (suc (generation rs)) (next_pini rs last r) ∷ [] else [])
+    by_test true = (((λ b. refl), refl), tt)
+    by_test false = tt
+
 module _ (rs : List InstanceRecord) (last : ℕ → ℕ) (form : MayBeOpened rs last) (s : OpenSite) (n : ℕ) (records : s.instance.records ≡ rs ++ next_cut rs n ∷ []) where
   pub was_opened : n ≡ length s.entries.items → s.hardened ≡ length s.entries.items → length s.entries.items < 2 ^ 40 → s.stamp ≡ None → WasOpened s
   was_opened count hardened few none = record {
@@ -170,8 +203,9 @@ module _ (rs : List InstanceRecord) (last : ℕ → ℕ) (form : MayBeOpened rs 
     number_is : length s.journals.journals.items ≡ length (regions rs)
     number_is = ap length js_are ∙ length-map begun newly ∙ number
 
-    pub is_ready : instances.IsReady w s.instance → HasLayout (rs ++ next_cut rs n ∷ []) s.layout → ((r : ℕ) (j : Journal) → slice_get begun r ≡ Some j → journals.IsReady w j × journals.IsJournalOf j r (suc (generation rs))) → IsReady w s
-    is_ready instance layout each = record {
+    pub is_ready : instances.IsReady w s.instance → HasLayout (rs ++ next_cut rs n ∷ []) s.layout → ((r : ℕ) (j : Journal) → slice_get begun r ≡ Some j → journals.IsReady w j × journals.IsJournalOf j r (suc (generation rs)))
+        → AreHeld w (length (regions rs)) s.globals → length s.entries.items < 2 ^ 40 → IsReady w s
+    is_ready instance layout each held few = record {
       instance = instance;
       layout = subst (λ (l : List InstanceRecord). HasLayout l s.layout) (sym records) layout;
       journals = record {
@@ -183,6 +217,8 @@ module _ (rs : List InstanceRecord) (last : ℕ → ℕ) (form : MayBeOpened rs 
             (record { ready = is.0; of = subst (λ (k : ℕ). journals.IsJournalOf found.0 r k) generation_is is.1; goes_on = λ yes. absurd (cc yes) });
       };
       each_region = number_is ∙ ap length (sym regions_are);
+      regions = subst (λ (n : ℕ). AreHeld w n s.globals) (sym (ap length regions_are)) held;
+      few = few;
     }
 
 -- a site that was read at v, and drawn at w
@@ -275,9 +311,43 @@ module _ (u v w : View) (rs : List InstanceRecord) (last : ℕ → ℕ) (journal
   reads_so P None Q some as_read images = absurd some
   reads_so P (Some files) Q some as_read images = images files as_read
 
-  module _ (s : OpenSite) (records : s.instance.records ≡ rs ++ next_cut rs (length seq) ∷ []) (entries : map numbered s.entries.items ≡ enumerate_from 1 seq) (globals : s.globals ≡ state seq) (hardened : s.hardened ≡ length seq) where
-    pub remembers : (f : Files) (t : List ℕ) → Remembers (opened t (C0 f)) (length seq) s
-    remembers f t = record { instance = records; entries = entries; globals = globals; hardened = hardened }
+  module _ (s : OpenSite) (records : s.instance.records ≡ rs ++ next_cut rs (length seq) ∷ []) (entries : map numbered s.entries.items ≡ enumerate_from 1 seq) (hardened : s.hardened ≡ length seq) where
+    count : length s.entries.items ≡ length seq
+    count = sym (length-map s.entries.items numbered) ∙ ap length entries ∙ length-enumerate 1 seq
+
+    pub remembers : (f : Files) (t : List ℕ) → joined s.globals ≡ state seq → Remembers (opened t (C0 f)) (length seq) s
+    remembers f t globals = record { instance = records; count = count; numbers = are_numbered s.entries.items seq entries; globals = globals; hardened = hardened }
+
+    -- whatever the disk tells, it has as many entries as some that lead to its nodes
+    pub remembers_some : (es : Sequence) → joined s.globals ≡ state es → (length seq ≡ 0 → joined s.globals ≡ globals.empty) → (c : Contents) × (t : List ℕ) × Remembers (opened t c) (length c.sequence) s
+    remembers_some es is none =
+        let as_long = stretched (length seq) es (joined s.globals) is none in
+        let size : length seq ≡ length as_long.0 = sym as_long.1 in (
+          record { instance = rs; starts = λ r. []; epochs = λ r. []; texts = []; sequence = as_long.0 },
+          [],
+          record {
+            instance = records ∙ ap (λ (n : ℕ). rs ++ next_cut rs n ∷ []) size;
+            count = count ∙ size;
+            numbers = are_numbered s.entries.items seq entries;
+            globals = as_long.2;
+            hardened = hardened ∙ size;
+          },
+        )
+
+    -- the regions' blocks, once the next generation has begun
+    -- a database file is as it reads
+    database_drawn : (files : Files) → AreDatabasesDurable v (length (regions rs)) files → (f : Files) → Finished f → (r : ℕ) → r < length (regions rs) → f (database_file r) ≡ files (database_file r)
+    database_drawn files durable f q r low =
+        let few = form.few_regions in
+        q.2.others (database_file r) (λ e. omega (arith, e)) (λ e. omega (arith, e, low, few)) (λ p here e. omega (arith, e, low, here, few)) ∙ durable r low q.0 q.1
+
+    blocks_drawn : (files : Files) → AreDatabasesDurable v (length (regions rs)) files → AreOnBlocks files S0 (length seq) s.globals → (f : Files) → Finished f → AreOnBlocks f (drawn_records S0 (length seq) last (length (regions rs))) (length seq) s.globals
+    blocks_drawn files durable on f q =
+        let cut : Records = with_record S0 (next_cut rs (length seq)) in
+        let many : length (regions (rs ++ next_cut rs (length seq) ∷ [])) ≡ length (regions rs) = ap length (same_regions rs last journal seq form sequence) in
+        on_more f cut (drawn_records S0 (length seq) last (length (regions rs))) (length seq) s.globals (starts_in rs last (length (regions rs))) refl (λ r low. refl) (λ r low. begins_plain rs last (length (regions rs)) (length seq) r (rs ++ next_cut rs (length seq) ∷ []))
+        (on_chosen f S0 cut (length seq) (length seq) s.globals many (patterns_same rs (next_cut rs (length seq)) refl) (λ r low. (refl, cut_keeps rs (length seq) (length seq) (generation rs + 1) (journal r) (omega arith)))
+        (on_same files f S0 (length seq) s.globals (database_drawn files durable f q) on))
 
     module _ (begun : List Journal) (js_are : s.journals.journals.items ≡ map newly begun) where
       abbrev pub Begun : Type 0
@@ -291,15 +361,15 @@ module _ (u v w : View) (rs : List InstanceRecord) (last : ℕ → ℕ) (journal
         none_waits = λ r x at none. refl;
       }
 
-      keeps : (files : Files) → WasRead v rs last journal files → AreTextsDurable v (generation rs) files → IsSoundImage files S0 seq → EachStands u → ((f : Files) → Image w f → Finished f)
+      keeps : (files : Files) → WasRead v rs last journal files → AreTextsDurable v (generation rs) files → AreDatabasesDurable v (length (regions rs)) files → AreOnBlocks files S0 (length seq) s.globals → IsSoundImage files S0 seq → EachStands u → ((f : Files) → Image w f → Finished f)
           → instances.HasRecords w s.instance (rs ++ next_cut rs (length seq) ∷ []) → Begun → Keeps w (opened broken (C0 files)) (length seq) s
-      keeps files r durable here each drawn instance has =
+      keeps files r durable databases on here each drawn instance has =
           let full = take-length seq in
           let is_begun : (f : Files) → Image w f → IsSite f (opened broken (C0 files)) =
           λ f image.
           let q = drawn f image in
           let texts : texts_of q.0 (generation rs) ≡ texts_of files (generation rs) = sym (texts_kept files q.0 (generation rs) (λ h one low. durable h one low q.0 q.1)) in
-          subst (λ (ts : List (List ℕ)). IsSite f (opened broken (record { instance = rs; starts = (C0 files).starts; texts = ts; sequence = seq }))) texts
+          subst (λ (ts : List (List ℕ)). IsSite f (opened broken (record { instance = rs; starts = (C0 files).starts; epochs = (C0 files).epochs; texts = ts; sequence = seq }))) texts
           (site_begun rs last journal seq form sequence q.0 (image_read v rs last journal files r q.0 q.1) broken f (sound_image files r each q.0 q.1) broken_is q.2) in
           let images : (f : Files) → Image w f → IsSite f (with_sequence (opened broken (C0 files)) (take (length seq) seq)) = λ f image. subst (λ (es : Sequence). IsSite f (with_sequence (opened broken (C0 files)) es)) (sym full) (is_begun f image) in
           let number : length (regions (rs ++ next_cut rs (length seq) ∷ [])) ≡ length (regions rs) = ap length (same_regions rs last journal seq form sequence) in
@@ -326,6 +396,8 @@ module _ (u v w : View) (rs : List InstanceRecord) (last : ℕ → ℕ) (journal
             older_files = λ f image q below. let from = drawn f image in
                 keeping.older_still from.0 S0 last form f from.2.others (image_read v rs last journal files r from.0 from.1) q (omega (arith, below, number));
             none_past = keeping.none_past S0 (length seq) last (drawing.before files S0 (generation rs + 1) here.held (omega arith)) (length (regions rs));
+            blocks = λ f image. blocks_drawn files databases on f (drawn f image);
+            databases = λ f d i j q below. database_drawn files databases d (drawn d j) q (omega (arith, below, number)) ∙ sym (database_drawn files databases f (drawn f i) q (omega (arith, below, number)));
             no_epoch_past = λ q below. keeping.no_epoch_past S0 (length seq) last (drawing.before files S0 (generation rs + 1) here.held (omega arith)) (length (regions rs)) q;
             waiting = [];
             are_waiting = subst (λ (es : Sequence). AreEntries (rs ++ next_cut rs (length seq) ∷ []) (suc (generation rs)) (length seq) [] es) (sym (drop-length seq)) tt;
@@ -336,15 +408,21 @@ module _ (u v w : View) (rs : List InstanceRecord) (last : ℕ → ℕ) (journal
             journal_files = keeps_journals has;
           }
 
-      pub is_open : IfSome u.content (AreTextsDurable v (generation rs)) → IfSome v.content (λ files. IsShort files → (f : Files) → Image w f → Finished f) → IfSome v.content (λ _. instances.HasRecords w s.instance (rs ++ next_cut rs (length seq) ∷ []))
-          → IfSome v.content (λ _. Begun) → IfSome u.content (λ files. (c : Contents) (left : Leftover) → IsSite files c → HasLeft files c left → EachStands u → IsOpen w true (opened left.broken c) (length c.sequence) s)
-      is_open durable drawn instance has = all u.content read durable (told_at u.content v.content (λ files. IsShort files → (f : Files) → Image w f → Finished f) same drawn)
-          (told_at u.content v.content (λ _. instances.HasRecords w s.instance (rs ++ next_cut rs (length seq) ∷ [])) same instance) (told_at u.content v.content (λ _. Begun) same has)
-        where
-          all : (o : Option Files) → IfSome o (WasRead v rs last journal) → IfSome o (AreTextsDurable v (generation rs)) → IfSome o (λ files. IsShort files → (f : Files) → Image w f → Finished f) → IfSome o (λ _. instances.HasRecords w s.instance (rs ++ next_cut rs (length seq) ∷ []))
-              → IfSome o (λ _. Begun) → IfSome o (λ files. (c : Contents) (left : Leftover) → IsSite files c → HasLeft files c left → EachStands u → IsOpen w true (opened left.broken c) (length c.sequence) s)
-          all None r t d i j = tt
-          all (Some files) r t d i j = λ c left site has_left each.
-              let is = site_read rs last journal seq form sequence files c r.holds site in
-              subst (λ (b : List ℕ). IsOpen w true (opened b c) (length c.sequence) s) (left_is files c left r.holds site has_left)
-              (subst (λ (x : Contents). IsOpen w true (opened broken x) (length x.sequence) s) (sym is.1) (record { remembered = remembers files broken; kept = λ _. keeps files r t is.0 each (d (short files is.0)) i j }))
+      abbrev pub Whole : Files → Type 0
+      Whole files = WasRead v rs last journal files × AreTextsDurable v (generation rs) files × AreDatabasesDurable v (length (regions rs)) files × AreOnBlocks files S0 (length seq) s.globals × (IsSoundImage files S0 seq → joined s.globals ≡ state seq)
+
+      abbrev pub Given : Files → Type 0
+      Given files = (IsShort files → (f : Files) → Image w f → Finished f) × instances.HasRecords w s.instance (rs ++ next_cut rs (length seq) ∷ []) × Begun
+
+      abbrev pub Opens : Files → Type 0
+      Opens files = (c : Contents) (left : Leftover) → IsSite files c → HasLeft files c left → EachStands u → IsOpen w true (opened left.broken c) (length c.sequence) s
+
+      pub is_open : IfSome u.content Whole → IfSome v.content Given → IfSome u.content Opens
+      is_open whole given = both_weak u.content Whole Given Opens whole (told_at u.content v.content Given same given) (λ files a g c left site has_left each.
+          let is = site_read rs last journal seq form sequence files c a.0.holds site in
+          subst (λ (b : List ℕ). IsOpen w true (opened b c) (length c.sequence) s) (left_is files c left a.0.holds site has_left)
+          (subst (λ (x : Contents). IsOpen w true (opened broken x) (length x.sequence) s) (sym is.1) (record {
+            remembered = remembers files broken (a.4 is.0);
+            entries = λ _. entries;
+            kept = λ _. keeps files a.0 a.1 a.2 a.3 is.0 each (g.0 (short files is.0)) g.1 g.2;
+          })))

@@ -36,7 +36,7 @@ use Rattle.journal_laws.proofs.Naming as naming
 use Rattle.journal_laws.proofs.Runs as runs
 use Rattle.site_defs.specs.Contents.{Contents}
 use Rattle.site_defs.specs.Opening.{with_pattern}
-use Rattle.site_defs.specs.Stands.{IsBlank, IsSite, Stands, start_in, texts_of}
+use Rattle.site_defs.specs.Stands.{IsBlank, IsSite, Stands, start_in, epoch_in, texts_of}
 use Rattle.site_store.specs.Opening.{MayHavePattern, EachStands}
 use Rattle.site_store.proofs.Found.{instance_one, site_instance, some_made, blank_instance}
 
@@ -51,7 +51,7 @@ pattern_form region text eight form =
 
 -- no entry and no generation
 abbrev pub plain : List InstanceRecord → Contents
-plain rs = record { instance = rs; starts = λ r. []; texts = []; sequence = [] }
+plain rs = record { instance = rs; starts = λ r. []; epochs = λ r. []; texts = []; sequence = [] }
 
 abbrev without_journals : List InstanceRecord → Records
 without_journals rs = record { instance = rs; journal = λ r. [] }
@@ -167,6 +167,7 @@ plain_site files rs some fits undrawn is are = record {
   records = without_journals rs;
   instance = refl;
   starts = λ r. refl;
+  epochs = λ r. refl;
   texts = sym (no_texts files (generation rs) undrawn);
   image = plain_image files rs undrawn is are;
 }
@@ -192,9 +193,10 @@ module _ (files : Files) (c : Contents) (site : IsSite files c) (undrawn : gener
   pub is_plain : c ≡ plain c.instance
   is_plain =
       let begun : c.starts ≡ (λ r. []) = fun_ext (λ r. site.starts r ∙ ap (λ (js : List Placed). filter_map (λ p. start_in p.what) js) (no_journal r)) in
+      let taken : c.epochs ≡ (λ r. []) = fun_ext (λ r. site.epochs r ∙ ap (λ (js : List Placed). filter_map (λ p. epoch_in p.generation p.what) js) (no_journal r)) in
       let texts : c.texts ≡ [] = site.texts ∙ no_texts files (generation c.instance) undrawn in
       let entries = no_entry in
-      λ i. record { instance = c.instance; starts = begun i; texts = texts i; sequence = entries i }
+      λ i. record { instance = c.instance; starts = begun i; epochs = taken i; texts = texts i; sequence = entries i }
 
   pub are_undrawn : AreUndrawn (length (regions c.instance)) files
   are_undrawn = subst (λ (rs : List InstanceRecord). AreUndrawn (length (regions rs)) files) site.instance

@@ -34,7 +34,7 @@ use Rattle.region_journals.proofs.Turns.{found}
 use Rattle.site_defs.specs.Contents.{Contents, Standing, NO_LEFTOVER}
 use Rattle.site_defs.specs.Behind.{left_of, text_left, AreKept, IsFrontLeft, IsSiteWith}
 use Rattle.site_defs.specs.Fronts.{with_sequence, IsFrontOf}
-use Rattle.site_defs.specs.Stands.{start_in, IsSite, HasLeft}
+use Rattle.site_defs.specs.Stands.{start_in, epoch_in, IsSite, HasLeft}
 use Rattle.site_store.specs.declared.site.OpenSite.{OpenSite}
 use Rattle.site_store.specs.Site.{IsReady, Keeps}
 use Rattle.site_store.proofs.Emptied.{none_left}
@@ -63,7 +63,7 @@ module _ (P : Placed → Type 0) (g : ℕ) (here : (x : Part) → P (record { ge
   one_part None = tt
   one_part (Some x) = (here x, tt)
 
-  all_parts : (ps : List (ℕ → Option Part)) (r : ℕ) → AllByRecursion P (appended g ps r)
+  pub all_parts : (ps : List (ℕ → Option Part)) (r : ℕ) → AllByRecursion P (appended g ps r)
   all_parts [] r = tt
   all_parts (p ∷ ps) r = all_both P (placed g (p r)) (appended g ps r) (one_part (p r)) (all_parts ps r)
 
@@ -74,6 +74,11 @@ none_given f (x ∷ xs) none = filter_map-append f (x ∷ []) xs ∙ rw (none.0)
 
 no_starts : (g n : ℕ) (ps : List (ℕ → Option Part)) (r : ℕ) → filter_map (λ (p : Placed). start_in p.what) (take n (appended g ps r)) ≡ []
 no_starts g n ps r = none_given (λ (p : Placed). start_in p.what) (take n (appended g ps r)) (all_take (λ (p : Placed). start_in p.what ≡ None) n (appended g ps r) (all_parts (λ (p : Placed). start_in p.what ≡ None) g (λ x. refl) ps r))
+
+no_epochs : (g n : ℕ) (ps : List (ℕ → Option Part)) (r : ℕ) → filter_map (λ (p : Placed). epoch_in p.generation p.what) (take n (appended g ps r)) ≡ []
+no_epochs g n ps r =
+    none_given (λ (p : Placed). epoch_in p.generation p.what) (take n (appended g ps r))
+    (all_take (λ (p : Placed). epoch_in p.generation p.what ≡ None) n (appended g ps r) (all_parts (λ (p : Placed). epoch_in p.generation p.what ≡ None) g (λ x. refl) ps r))
 
 -- none of the records that wait, and all of them
 none_first : (s : Records) (g : ℕ) (ps : List (ℕ → Option Part)) → with_more s (λ r. take 0 (appended g ps r)) ≡ s
@@ -119,7 +124,7 @@ module _ (v : View) (c : Contents) (h : ℕ) (s : OpenSite) (k : Keeps v c h s) 
       subst (λ (x : ℕ). Holds IsJournalBody (d x) (k.newer r)) (are_ready.each r at.0 at.1).of.file
       (stands_hard (k.newer r) (d at.0.journal.gated.file) (stands_in v at.0.journal (record { hard = k.newer r; opening = []; closed = tcoms k.waiting r }) has d was))
 
-  are_newest : (d : Files) → Image v d → newest_files.AreNewest d base k.g k.newer
+  pub are_newest : (d : Files) → Image v d → newest_files.AreNewest d base k.g k.newer
   are_newest d was = record { generation = k.newest.generation; held = region_held d was; begun = k.newest.begun }
 
   none_past : NonePast (length (take h c.sequence)) base
@@ -173,6 +178,8 @@ module _ (v : View) (c : Contents) (h : ℕ) (s : OpenSite) (k : Keeps v c h s) 
         instance = refl;
         starts = λ r. of.starts r ∙ sym (filter_map-append (λ (p : Placed). start_in p.what) (k.records.journal r) (take (kept r) (appended (suc k.g) k.waiting r))
             ∙ ap (λ l. filter_map (λ (p : Placed). start_in p.what) (k.records.journal r) ++ l) (no_starts (suc k.g) (kept r) k.waiting r) ∙ append-nil (filter_map (λ (p : Placed). start_in p.what) (k.records.journal r)));
+        epochs = λ r. of.epochs r ∙ sym (filter_map-append (λ (p : Placed). epoch_in p.generation p.what) (k.records.journal r) (take (kept r) (appended (suc k.g) k.waiting r))
+            ∙ ap (λ l. filter_map (λ (p : Placed). epoch_in p.generation p.what) (k.records.journal r) ++ l) (no_epochs (suc k.g) (kept r) k.waiting r) ∙ append-nil (filter_map (λ (p : Placed). epoch_in p.generation p.what) (k.records.journal r)));
         texts = of.texts ∙ sym (texts_same d f (generation c.instance) (λ g below. same (broken_file g) (λ i. omega (arith, i.is, i.inside, newest, low, some, below))));
       }
 

@@ -1,18 +1,19 @@
 -- A site that owns its disk.
-use Rattle.std.proofs.Common.{◌≡◌, ◌⊎◌, inl, inr, ap, Err, ℕ, Bool, true, None, length, take, refl, sym, ◌∙◌, subst, arith}
-use Rattle.std.specs.Prelude.{IfSome, IsErrOf}
+use Rattle.std.proofs.Common.{◌≡◌, inl, inr, ℕ, Bool, true, None, length, take, refl, sym, ◌∙◌, subst, arith}
+use Rattle.std.specs.Prelude.{Option, Result, IfSome, OnOk}
+use Rattle.std.specs.declared.result.Result.TheVariants.{Ok, Err}
 use Rattle.std.proofs.Math.Seq.{take-length}
 use Rattle.disk_defs.specs.Disk.{Files, View, Image, IsLawful, AtEachMoment, Reads}
-use Rattle.disk_defs.proofs.Moments.{started}
+use Rattle.disk_defs.proofs.Moments.{started, weaker, then_more, holds_now}
+use Rattle.disk_defs.proofs.Told.{weaker_told}
 use Rattle.site_defs.specs.Contents.{Contents, NO_LEFTOVER}
+use Rattle.site_defs.specs.Epochs.{MayMark}
 use Rattle.site_defs.specs.Fronts.{with_sequence, IsFrontOf}
 use Rattle.site_defs.specs.Stands.{IsSite, HasLeft}
 use Rattle.site_store.specs.declared.site.OpenSite.{OpenSite}
 use Rattle.site_store.specs.declared.owning.Site.{Site}
-use Rattle.site_store.specs.declared.error.SiteError.{SiteError}
-use Rattle.site_store.specs.declared.error.SiteError.TheVariants.{Failed, Stopped}
 use Rattle.site_store.specs.Site.{IsReady, IsOpen}
-use Rattle.site_store.specs.Owning.{HasHistory, MayBeCalled, IsOpenSite}
+use Rattle.site_store.specs.Owning.{HasHistory, MayBeCalled, IsOpenSite, MayFinish}
 use Rattle.site_store.proofs.Emptied.{none_left}
 use Rattle.site_store.proofs.Unwritten.{site_read, open_read}
 use Rattle.site_store.proofs.Remembered.{remembered_length}
@@ -66,7 +67,24 @@ going_after view old new reads same kept none may now = going_read view old new 
 pub open_after : {D : Type 0} (view : D → View) (old new : Site D) (told : Bool) (c : Contents) (h : ℕ) → IsLawful (view new.disk) → Reads (view old.disk) (view new.disk) → new.inner ≡ old.inner → IsOpenSite view told c h old → new.fault ≡ None → IsOpenSite view told c h new
 open_after view old new told c h lawful reads same is now = open_site_read view old new told c h lawful reads same (now ∙ sym is.fault) is
 
--- an error handed on beside another kind of value
-pub carried : {A B : Type 0} (e : SiteError) → ((fault : ℕ) × IsErrOf {T = A} (Err e) (Failed fault)) ⊎ ((fault : ℕ) × IsErrOf {T = A} (Err e) (Stopped fault)) → ((fault : ℕ) × IsErrOf {T = B} (Err e) (Failed fault)) ⊎ ((fault : ℕ) × IsErrOf {T = B} (Err e) (Stopped fault))
-carried e (inl h) = inl (h.0, let same : e ≡ Failed h.0 = cc h.1 in ap Err same)
-carried e (inr h) = inr (h.0, let same : e ≡ Stopped h.0 = cc h.1 in ap Err same)
+-- what an epoch behind a hardening leaves
+pub fronts_finish : (v w : View) (c : Contents) (h : ℕ) → AtEachMoment v w (λ f. (o : Contents) × IsFrontOf c.sequence h c o × IsSite f o) → AtEachMoment v w (λ f. (o : Contents) × MayFinish c h o × IsSite f o)
+fronts_finish v w c h run = weaker v w (λ f. (o : Contents) × IsFrontOf c.sequence h c o × IsSite f o) (λ f. (o : Contents) × MayFinish c h o × IsSite f o) (λ f q. (q.0, inl q.1, q.2)) run
+
+pub fronts_stand : (x : Option Files) (c : Contents) (h : ℕ) → IfSome x (λ f. (o : Contents) × IsFrontOf c.sequence h c o × IsSite f o) → IfSome x (λ f. (o : Contents) × MayFinish c h o × IsSite f o)
+fronts_stand x c h is = weaker_told x (λ f. (o : Contents) × IsFrontOf c.sequence h c o × IsSite f o) (λ f. (o : Contents) × MayFinish c h o × IsSite f o) is (λ f q. (q.0, inl q.1, q.2))
+
+pub finish_moments : (u v w : View) (c : Contents) (h : ℕ) → AtEachMoment u v (λ f. (o : Contents) × IsFrontOf c.sequence h c o × IsSite f o) → AtEachMoment v w (λ f. (o : Contents) × MayMark c o × IsSite f o)
+    → AtEachMoment u w (λ f. (o : Contents) × MayFinish c h o × IsSite f o)
+finish_moments u v w c h hardening taking =
+    then_more u v w (λ f. (o : Contents) × MayFinish c h o × IsSite f o) (λ f. (o : Contents) × MayMark c o × IsSite f o) (fronts_finish u v c h hardening) taking (λ f q. (q.0, inr q.1, q.2))
+
+pub finish_stands : (u v w : View) (c : Contents) (h : ℕ) → IsLawful w → AtEachMoment u v (λ f. (o : Contents) × IsFrontOf c.sequence h c o × IsSite f o) → AtEachMoment v w (λ f. (o : Contents) × MayMark c o × IsSite f o)
+    → IfSome w.content (λ f. (o : Contents) × MayFinish c h o × IsSite f o)
+finish_stands u v w c h lawful hardening taking =
+    reads_of w (λ f. (o : Contents) × MayFinish c h o × IsSite f o) lawful (holds_now u w (λ f. (o : Contents) × MayFinish c h o × IsSite f o) lawful (finish_moments u v w c h hardening taking))
+
+-- a fact of an answer without an error, by another one
+pub of_both : {T E : Type 0} (result : Result T E) (P Q : Type 0) → OnOk result P → (P → Q) → OnOk result Q
+of_both (Ok x) P Q p k = k p
+of_both (Err e) P Q p k = tt

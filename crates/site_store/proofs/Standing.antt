@@ -12,7 +12,9 @@ use Rattle.site_defs.specs.Contents.{Contents}
 use Rattle.site_defs.specs.Fronts.{with_sequence}
 use Rattle.site_defs.specs.Stands.{IsSite}
 use Rattle.site_store.specs.declared.site.OpenSite.{OpenSite}
+use Rattle.site_regions.specs.Joined.{AreChanged}
 use Rattle.site_store.specs.Site.{Keeps, IsOpen}
+use Rattle.site_store.proofs.OnBlocks.{on_changed}
 
 -- with all of its entries hardened, each image stands for its contents
 pub images_stand : (v : View) (c : Contents) (s : OpenSite) → IsOpen v true c (length c.sequence) s → (f : Files) → Image v f → IsSite f c
@@ -46,8 +48,8 @@ still v w F stays told = among v.content w.content told stays.content
 
 -- where each image is one from before
 pub keeps_images : (v w : View) (c : Contents) (h : ℕ) (old new : OpenSite) (k : Keeps v c h old) → IsLawful w → IsSome w.content → ((f : Files) → Image w f → Image v f) → instances.HasRecords w new.instance c.instance
-    → KeepsJournals w k.newer (tcoms k.waiting) new.journals.journals.items → Keeps w c h new
-keeps_images v w c h old new k lawful told from instance journals = record {
+    → KeepsJournals w k.newer (tcoms k.waiting) new.journals.journals.items → AreChanged old.globals new.globals → Keeps w c h new
+keeps_images v w c h old new k lawful told from instance journals changed = record {
   count = k.count;
   few_nodes = k.few_nodes;
   reads = reads_so w (λ files. IsSite files (with_sequence c (take h c.sequence))) lawful told (λ f now. k.images f (from f now));
@@ -61,6 +63,8 @@ keeps_images v w c h old new k lawful told from instance journals = record {
   sound = λ f now. k.sound f (from f now);
   older_files = λ f now. k.older_files f (from f now);
   none_past = k.none_past;
+  blocks = λ f now. on_changed f k.records h old.globals new.globals changed (k.blocks f (from f now));
+  databases = λ f d i j. k.databases f d (from f i) (from d j);
   no_epoch_past = k.no_epoch_past;
   waiting = k.waiting;
   are_waiting = k.are_waiting;

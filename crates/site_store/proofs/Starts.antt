@@ -9,10 +9,15 @@ use Rattle.journal_defs.specs.Instance.{InstanceRecord, Cut, mode_in, mode_of}
 use Rattle.journal_defs.specs.Sequence.{Placed}
 use Rattle.journal_defs.specs.Stands.{IsJournal, in_generation, last_began}
 use Rattle.site_defs.specs.Opening.{last_generation}
-use Rattle.site_defs.specs.Stands.{start_in}
+use Rattle.site_defs.specs.Contents.{Taken}
+use Rattle.site_defs.specs.Stands.{start_in, epoch_in}
 
 abbrev pub starts_of : List Placed → List Start
 starts_of ps = filter_map (λ (p : Placed). start_in p.what) ps
+
+-- the epochs among these records
+abbrev pub epochs_of : List Placed → List Taken
+epochs_of ps = filter_map (λ (p : Placed). epoch_in p.generation p.what) ps
 
 last_more : (g : ℕ) (a b : List Start) → last_generation g (a ++ b) ≡ last_generation (last_generation g a) b
 last_more g [] b = refl

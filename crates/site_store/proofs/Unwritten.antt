@@ -1,5 +1,5 @@
 -- An open site after a call that reads.
-use Rattle.std.proofs.Common.{ℕ, Bool, List, [], take, None, Some, refl, sym, subst}
+use Rattle.std.proofs.Common.{ℕ, Bool, List, [], take, None, Some, refl, sym, subst, length}
 use Rattle.std.specs.Prelude.{Option, IfSome, IsSomeAnd}
 use Rattle.disk_defs.specs.Disk.{Files, View, Image, Reads}
 use Rattle.gated_file.specs.State as gated
@@ -10,7 +10,7 @@ use Rattle.jnl_file.specs.Journal.{HoldsRecords, HasRecords}
 use Rattle.jnl_file.specs.declared.journal.Journal.{Journal}
 use Rattle.jnl_file.proofs.Making.{ready_read}
 use Rattle.journal_defs.specs.Numbers.{INSTANCE}
-use Rattle.journal_defs.specs.Instance.{InstanceRecord, generation}
+use Rattle.journal_defs.specs.Instance.{InstanceRecord, generation, regions}
 use Rattle.journal_defs.specs.Journal.{JournalRecord}
 use Rattle.journal_defs.specs.Growth.{tcoms}
 use Rattle.journal_defs.specs.Stands.{IsInstance, IsJournal}
@@ -23,7 +23,9 @@ use Rattle.site_defs.specs.Fronts.{with_sequence}
 use Rattle.site_defs.specs.Stands.{IsSite}
 use Rattle.site_defs.specs.Contents.{Contents}
 use Rattle.site_store.specs.declared.site.OpenSite.{OpenSite}
-use Rattle.site_store.specs.Site.{IsReady, Keeps, IsOpen}
+use Rattle.site_store.proofs.HeldRegions.{held_read, synced_stays}
+use Rattle.disk_defs.proofs.Frames.{others_read}
+use Rattle.site_store.specs.Site.{IsReady, Keeps, IsOpen, AreOnBlocks}
 
 records_read : (v w : View) (j : Journal) (s : Recorded) (a : Files) → Reads v w → HoldsRecords v j s a → HoldsRecords w j s a
 records_read v w j s a r h = record {
@@ -82,7 +84,7 @@ journals_read v w g js r h = record {
 }
 
 pub site_read : (v w : View) (s : OpenSite) → Reads v w → IsReady v s → IsReady w s
-site_read v w s r h = record { instance = instance_read v w s.instance r h.instance; layout = h.layout; journals = journals_read v w (generation s.instance.records) s.journals.journals.items r h.journals; each_region = h.each_region }
+site_read v w s r h = record { instance = instance_read v w s.instance r h.instance; layout = h.layout; journals = journals_read v w (generation s.instance.records) s.journals.journals.items r h.journals; each_region = h.each_region; regions = held_read v w (length (regions s.instance.records)) s.globals r h.regions; few = h.few }
 
 journals_kept : (v w : View) (hard waiting : ℕ → List JournalRecord) (js : List RegionJournal) → Reads v w → KeepsJournals v hard waiting js → KeepsJournals w hard waiting js
 journals_kept v w hard waiting js r h = record {
@@ -109,6 +111,8 @@ keeps_read v w c n s r h = record {
   sound = image_read v w (λ f. IsSoundImage f h.records (take n c.sequence)) r h.sound;
   older_files = λ f i k here. let x = r.passes.images f i in subst (λ (y : Files). IsJournal y k h.g (h.last k) (h.older k)) (sym x.2) (h.older_files x.0 x.1 k here);
   none_past = h.none_past;
+  blocks = image_read v w (λ f. AreOnBlocks f h.records n s.globals) r h.blocks;
+  databases = synced_stays v w (λ f. ⊥) (length (regions c.instance)) (others_read (λ f. ⊥) v w r).images (λ q here no. no) h.databases;
   no_epoch_past = h.no_epoch_past;
   waiting = h.waiting;
   are_waiting = h.are_waiting;
@@ -120,4 +124,4 @@ keeps_read v w c n s r h = record {
 }
 
 pub open_read : (v w : View) (told : Bool) (c : Contents) (n : ℕ) (s : OpenSite) → Reads v w → IsOpen v told c n s → IsOpen w told c n s
-open_read v w told c n s r h = record { remembered = h.remembered; kept = λ yes. keeps_read v w c n s r (h.kept yes) }
+open_read v w told c n s r h = record { remembered = h.remembered; entries = h.entries; kept = λ yes. keeps_read v w c n s r (h.kept yes) }

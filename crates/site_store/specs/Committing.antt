@@ -11,6 +11,7 @@ use Rattle.journal_defs.specs.Fit.{region_of_update}
 use Rattle.tp_commit.specs.Parts.{PartRecords, recorded}
 use Rattle.region_journals.specs.Fronts.{IsNewestFile}
 use Rattle.region_journals.specs.Journals.{KeepsJournals, part_in, listed}
+use Rattle.site_regions.specs.Joined.{joined, AreChanged}
 use Rattle.site_store.specs.declared.site.OpenSite.{OpenSite}
 
 -- the next entry of a site: this transaction under the reign that was begun
@@ -24,7 +25,8 @@ pub record Enters (old new : OpenSite) (t : code_transaction.Transaction) : Type
   pub entry : code_entry.Entry
   pub next : IsNextEntry old t entry
   pub entries : new.entries.items ≡ old.entries.items ++ entry ∷ []
-  pub globals : new.globals ≡ fold apply old.globals t.updates
+  pub globals : joined new.globals ≡ fold apply (joined old.globals) t.updates
+  pub changed : AreChanged old.globals new.globals
 
 -- what doesn't change when an entry comes
 pub record IsSameSite (old new : OpenSite) : Type 0 where
@@ -37,7 +39,9 @@ pub record IsSameSite (old new : OpenSite) : Type 0 where
 pub record IsSameMemory (old new : OpenSite) : Type 0 where
   pub same : IsSameSite old new
   pub entries : new.entries.items ≡ old.entries.items
-  pub globals : new.globals ≡ old.globals
+  pub globals : joined new.globals ≡ joined old.globals
+  -- though there may be more room
+  pub changed : AreChanged old.globals new.globals
 
 -- the file of one of a site's newest journals
 abbrev pub IsOwnJournal : OpenSite → ℕ → Type 0

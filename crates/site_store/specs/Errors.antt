@@ -4,6 +4,8 @@ use Rattle.instance_file.specs.declared.error.InstanceError.{InstanceError}
 use Rattle.instance_file.specs.declared.error.InstanceError.TheVariants as instances
 use Rattle.site_files.specs.declared.error.FilesError.{FilesError}
 use Rattle.site_files.specs.declared.error.FilesError.TheVariants as files
+use Rattle.region_store.specs.declared.error.RegionError.{RegionError}
+use Rattle.region_store.specs.declared.error.RegionError.TheVariants as regions
 use Rattle.site_store.specs.declared.error.SiteError.{SiteError}
 use Rattle.site_store.specs.declared.error.SiteError.TheVariants as error
 
@@ -17,3 +19,8 @@ files_error (files.Failed fault) = error.Failed fault
 files_error files.GenLimit = error.GenLimit
 files_error (files.NotAFile file offset) = error.NotAFile file offset
 files_error files.NoMemory = error.NoMemory
+
+abbrev pub region_error : RegionError → SiteError
+region_error (regions.Failed fault) = error.Failed fault
+region_error (regions.NotAFile file offset) = error.NotAFile file offset
+region_error regions.NoMemory = error.NoMemory

@@ -1,4 +1,5 @@
 pub mod Site
+pub mod Standing
 pub mod Opening
 pub mod Errors
 pub mod Finding

@@ -1,10 +1,12 @@
 -- An open site that owns its disk.
-use Rattle.std.specs.Prelude.{◌≡◌, ℕ, Bool, length, Some, None, Result, Ok, Err}
+use Rattle.std.specs.Prelude.{◌≡◌, ◌⊎◌, ℕ, Bool, length, Some, None, Result, Ok, Err}
 use Rattle.disk_defs.specs.Disk.{View}
 use Rattle.gvn_model.specs.declared.history.History.{History}
 use Rattle.journal_defs.specs.Surviving.{reigns}
 use Rattle.site_defs.specs.Contents.{Contents}
 use Rattle.site_store.specs.declared.error.SiteError.{SiteError}
+use Rattle.site_defs.specs.Epochs.{MayMark}
+use Rattle.site_defs.specs.Fronts.{IsFrontOf}
 use Rattle.site_store.specs.declared.owning.Site.{Site}
 use Rattle.site_store.specs.declared.site.OpenSite.{OpenSite}
 use Rattle.site_store.specs.Site.{IsReady, IsOpen}
@@ -42,3 +44,7 @@ disk_left (Err e) = e.0
 abbrev pub FailsWith : {D : Type 0} → Result (Site D) (D × SiteError) → SiteError → Type 0
 FailsWith (Ok s) error = ⊥
 FailsWith (Err e) error = e.1 ≡ error
+
+-- what hardening and an epoch may leave of a site's contents, of which so many entries were hardened: a front, or an epoch in some regions
+abbrev pub MayFinish : Contents → ℕ → Contents → Type 0
+MayFinish c h o = IsFrontOf c.sequence h c o ⊎ MayMark c o

@@ -1,5 +1,5 @@
 -- An open site beside its disk.
-use Rattle.std.specs.Prelude.{◌≡◌, ◌≢◌, ◌≤◌, ◌<◌, ◌+◌, ◌^◌, ◌++◌, ℕ, suc, Bool, List, [], ◌∷◌, length, take, drop, map, fold, Option, Some, None, IsTrue, IsSomeAnd}
+use Rattle.std.specs.Prelude.{◌≡◌, ◌≢◌, ◌⊎◌, ◌≤◌, ◌<◌, ◌+◌, ◌^◌, ◌++◌, ℕ, suc, Bool, List, [], ◌∷◌, length, take, drop, map, fold, Option, Some, None, IsTrue, IfSome, IsSomeAnd}
 use Rattle.std.specs.List.{AllByRecursion, enumerate_from}
 use Rattle.std.specs.FinMap as globals
 use Rattle.disk_defs.specs.Disk.{Files, View, Image}
@@ -9,6 +9,8 @@ use Rattle.global_defs.specs.Prefix.{stamp_at}
 use Rattle.global_defs.specs.Fields.{IsSiteName}
 use Rattle.gvn_model.specs.declared.reign.Stamp.{Stamp}
 use Rattle.gvn_model.specs.Numbered.{numbered}
+use Rattle.gvn_model.specs.Entries.{entry_value}
+use Rattle.gvn_model.specs.declared.entry.Entry.{Entry}
 use Rattle.gvn_model.specs.Reigns.{stamp_value}
 use Rattle.global_defs.specs.Evaluation.{MOST_NODES}
 use Rattle.journal_defs.specs.Journal.{JournalRecord, Part, BeginsWithPini}
@@ -19,11 +21,15 @@ use Rattle.journal_defs.specs.Sequence.{Placed, Records}
 use Rattle.journal_defs.specs.Stands.{IsJournal, in_generation}
 use Rattle.journal_defs.specs.Growth.{NonePast, AreEntries, tcoms, appended}
 use Rattle.journal_defs.specs.Clean.{MOST_GENERATIONS}
+use Rattle.journal_defs.specs.Numbers.{database_file}
+use Rattle.journal_defs.specs.Epochs.{chosen, NeedsForward}
 use Rattle.journal_defs.specs.Sound.{NoEpochPast}
 use Rattle.journal_defs.specs.Fit.{IsSoundImage, HasFewNodes, IsAtHome}
 use Rattle.instance_file.specs.Instance as instances
 use Rattle.region_journals.specs.Journals.{AreReady, KeepsJournals}
 use Rattle.region_journals.specs.Fronts.{AreInside}
+use Rattle.region_store.specs.Region.{Standing, HoldsRegion, IsHeld}
+use Rattle.site_regions.specs.Joined.{Joined, joined, region_at}
 use Rattle.site_defs.specs.Contents.{Contents}
 use Rattle.site_defs.specs.Fronts.{with_sequence}
 use Rattle.site_defs.specs.Stands.{IsSite}
@@ -31,13 +37,24 @@ use Rattle.site_defs.specs.Behind.{parts_of_each}
 use Rattle.site_store.specs.Finding.{HasLayout}
 use Rattle.site_store.specs.declared.site.OpenSite.{OpenSite}
 
--- What a site has in memory, whatever its disk tells: the records of its instance file, its entries, numbered from 1 on, and the
--- globals that they lead to. How many are hardened is known too.
+-- entries numbered from 1 on
+abbrev pub AreNumbered : List Entry → Type 0
+AreNumbered es = map numbered es ≡ enumerate_from 1 (map entry_value es)
+
+-- What a site has in memory, whatever its disk tells: the records of its instance file, as many entries as these, and the globals that these
+-- lead to. How many are hardened is known too.
 pub record Remembers (c : Contents) (h : ℕ) (s : OpenSite) : Type 0 where
   pub instance : s.instance.records ≡ c.instance
-  pub entries : map numbered s.entries.items ≡ enumerate_from 1 c.sequence
-  pub globals : s.globals ≡ state c.sequence
+  pub count : length s.entries.items ≡ length c.sequence
+  pub numbers : AreNumbered s.entries.items
+  pub globals : joined s.globals ≡ state c.sequence
   pub hardened : s.hardened ≡ h
+
+-- The regions of a site are open for calls: so many, each in the database file of its number, on blocks of some epoch and of that file.
+pub record AreHeld (v : View) (n : ℕ) (j : Joined) : Type 0 where
+  pub count : length j.regions ≡ n
+  pub files : (r : ℕ) → r < n → (region_at j r).file ≡ database_file r
+  pub held : (r : ℕ) → r < n → IfSome v.content (IsHeld (region_at j r))
 
 -- Its files are open for calls, and its layout is that of its instance file.
 pub record IsReady (v : View) (s : OpenSite) : Type 0 where
@@ -45,6 +62,8 @@ pub record IsReady (v : View) (s : OpenSite) : Type 0 where
   pub layout : HasLayout s.instance.records s.layout
   pub journals : AreReady v (generation s.instance.records) s.journals.journals.items
   pub each_region : length s.journals.journals.items ≡ length (regions s.instance.records)
+  pub regions : AreHeld v (length (regions s.instance.records)) s.globals
+  pub few : length s.entries.items < 2 ^ 40
 
 -- The records of a site whose newest generation g + 1 has begun in each region: the journals of that generation alone may grow.
 pub record AreNewest (c : Contents) (s : Records) (g : ℕ) (last : ℕ → ℕ) (older : ℕ → List Placed) (newer : ℕ → List JournalRecord) : Type 0 where
@@ -55,6 +74,22 @@ pub record AreNewest (c : Contents) (s : Records) (g : ℕ) (last : ℕ → ℕ)
   pub whole : (r : ℕ) → r < length (regions c.instance) → s.journal r ≡ older r ++ map (in_generation (suc g)) (newer r)
   pub begins : (r : ℕ) → r < length (regions c.instance) → BeginsWithPini r (suc g) (last r) (newer r)
   pub begun : (r : ℕ) → r < length (regions c.instance) → newer r ≢ []
+
+-- A region's blocks are those of the epoch chosen for so many entries, or it needs forward recovery; either way they are those of some epoch and the file.
+pub record IsOnBlocks (files : Files) (s : Records) (n r : ℕ) (x : Standing) : Type 0 where
+  pub file : x.file ≡ database_file r
+  pub held : IsHeld x files
+  pub holds : NeedsForward s.instance n (s.journal r) ⊎ HoldsRegion (chosen s.instance n (s.journal r)) (files (database_file r)) x
+
+-- So it is of each region of a site.
+pub record AreOnBlocks (files : Files) (s : Records) (n : ℕ) (j : Joined) : Type 0 where
+  pub patterns : j.patterns ≡ patterns s.instance
+  pub count : length j.regions ≡ length (regions s.instance)
+  pub each : (r : ℕ) → r < length (regions s.instance) → IsOnBlocks files s n r (region_at j r)
+
+-- the database files of the first n regions are on the disk for good: all images have the same
+abbrev pub AreSynced : View → ℕ → Type 0
+AreSynced v n = (f d : Files) → Image v f → Image v d → (r : ℕ) → r < n → d (database_file r) ≡ f (database_file r)
 
 -- On the disk, where its files are known: they stand for the first entries, the hardened ones, in each image, and the others stand
 -- behind closed gates of the newest journals.
@@ -72,6 +107,8 @@ pub record Keeps (v : View) (c : Contents) (hardened : ℕ) (s : OpenSite) : Typ
   pub sound : (f : Files) → Image v f → IsSoundImage f records (take hardened c.sequence)
   pub older_files : (f : Files) → Image v f → (r : ℕ) → r < length (regions c.instance) → IsJournal f r g (last r) (older r)
   pub none_past : NonePast hardened records
+  pub blocks : (f : Files) → Image v f → AreOnBlocks f records hardened s.globals
+  pub databases : AreSynced v (length (regions c.instance))
   pub no_epoch_past : (r : ℕ) → r < length (regions c.instance) → NoEpochPast hardened c.instance (records.journal r)
   -- the parts of the entries that aren't hardened
   pub waiting : List (ℕ → Option Part)
@@ -85,6 +122,8 @@ pub record Keeps (v : View) (c : Contents) (hardened : ℕ) (s : OpenSite) : Typ
 -- The site is open: it has these contents in memory, of which so many entries are hardened, and where its files are known, on the disk.
 pub record IsOpen (v : View) (told : Bool) (c : Contents) (hardened : ℕ) (s : OpenSite) : Type 0 where
   pub remembered : Remembers c hardened s
+  -- the entries in memory, numbered from 1 on
+  pub entries : IsTrue told → map numbered s.entries.items ≡ enumerate_from 1 c.sequence
   pub kept : IsTrue told → Keeps v c hardened s
 
 -- The site was opened, and nothing was done since: it has a name, all entries are hardened, and no reign has begun past them.

@@ -11,6 +11,7 @@ ghost use Rattle.site_defs.specs.Stands.{IsSite, HasLeft};
 ghost use Rattle.disk_defs.specs.Frames.{OthersStay};
 ghost use Rattle.journal_defs.specs.Journal.{JournalRecord};
 ghost use Rattle.region_journals.specs.Journals.{ArePrepared, KeepsJournals};
+ghost use Rattle.site_regions.specs.Joined.{joined, AreChanged};
 ghost use Rattle.site_store.specs.Committing.{Appends, Enters, IsSameSite, IsSameMemory, IsOwnJournal, ArePartsOf};
 ghost use Rattle.site_store.specs.Site.{IsReady, IsOpen, HasReign, HasRoomFor, with_entry};
 
@@ -45,6 +46,7 @@ impl OpenSite {
         ensures state { (hard waiting : ℕ → List JournalRecord) → KeepsJournals (D.disk disk.old) hard waiting self.old.journals.journals.items → KeepsJournals (D.disk disk.new) hard waiting self.new.journals.journals.items }
         ensures same { IsSameSite self.old self.new }
         ensures kept { OnErr result (IsSameMemory self.old self.new) }
+        ensures changed { AreChanged self.old.globals self.new.globals }
         ensures any_moment { AtEachMoment (D.disk disk.old) (D.disk disk.new) (Image (D.disk disk.old)) }
         ensures frame { OthersStay (IsOwnJournal self.old) (D.disk disk.old) (D.disk disk.new) }
         ensures faults { (D.disk disk.new).faults ≡ (D.disk disk.old).faults }
@@ -57,7 +59,7 @@ impl OpenSite {
             &self.layout.directory,
         )?;
         self.journals.prepare(disk, &parts)?;
-        self.remember(alloc, entry)?;
+        self.remember(entry)?;
         Ok(parts)
     }
 
@@ -83,8 +85,8 @@ impl OpenSite {
         ensures stamp { self.new.stamp ≡ self.old.stamp }
         ensures reign { OnOk result (HasReign self.new) }
         ensures room { OnOk result (length self.old.entries.items + 1 < 2 ^ 40) }
-        ensures fits { OnOk result (HasRoomFor self.old.globals t.updates) }
-        ensures full { (nodes : ℕ) → IsErrOf result (SiteError.Full nodes) → HasRoomFor self.old.globals t.updates → ⊥ }
+        ensures fits { OnOk result (HasRoomFor (joined self.old.globals) t.updates) }
+        ensures full { (nodes : ℕ) → IsErrOf result (SiteError.Full nodes) → HasRoomFor (joined self.old.globals) t.updates → ⊥ }
         ensures last { IsErrOf result SiteError.SeqLimit → 2 ^ 40 ≤ length self.old.entries.items + 1 }
         ensures kept { ((nodes : ℕ) × IsErrOf result (SiteError.Full nodes)) ⊎ IsErrOf result SiteError.SeqLimit → (disk.new ≡ disk.old) × (self.new ≡ self.old) }
         ensures unmade { IsErrOf result SiteError.NoMemory → IsSameMemory self.old self.new }
@@ -139,8 +141,8 @@ impl OpenSite {
         ensures stamp { self.new.stamp ≡ self.old.stamp }
         ensures reign { OnOk result (HasReign self.new) }
         ensures room { OnOk result (length self.old.entries.items + 1 < 2 ^ 40) }
-        ensures fits { OnOk result (HasRoomFor self.old.globals t.now.updates) }
-        ensures full { (nodes : ℕ) → IsErrOf result (SiteError.Full nodes) → HasRoomFor self.old.globals t.now.updates → ⊥ }
+        ensures fits { OnOk result (HasRoomFor (joined self.old.globals) t.now.updates) }
+        ensures full { (nodes : ℕ) → IsErrOf result (SiteError.Full nodes) → HasRoomFor (joined self.old.globals) t.now.updates → ⊥ }
         ensures last { IsErrOf result SiteError.SeqLimit → 2 ^ 40 ≤ length self.old.entries.items + 1 }
         ensures kept { ((nodes : ℕ) × IsErrOf result (SiteError.Full nodes)) ⊎ IsErrOf result SiteError.SeqLimit → (disk.new ≡ disk.old) × (self.new ≡ self.old) }
         ensures unmade { IsErrOf result SiteError.NoMemory → IsSameMemory self.old self.new }

@@ -1,13 +1,15 @@
 //! Entries into memory.
 ghost use Rattle.std.specs.Prelude.{◌≡◌, ◌++◌, ◌∷◌, [], fold, IfOk, OnOk, OnErr};
 ghost use Rattle.global_defs.specs.Entry.{apply};
+ghost use Rattle.global_defs.specs.Fields.{IsTransaction};
+ghost use Rattle.gvn_model.specs.Entries.{transaction_value};
+ghost use Rattle.site_regions.specs.Joined.{joined, AreChanged};
 ghost use Rattle.site_store.specs.Site.{HasReign};
 ghost use Rattle.site_store.specs.Committing.{IsNextEntry, IsSameMemory, IsSameSite};
 
 use crate::site::OpenSite;
 use gvn_key::NoMemory;
 use gvn_model::{Entry, Transaction};
-use std::alloc::Global;
 
 impl OpenSite {
     /// This transaction as the next entry, under the reign that was begun.
@@ -24,17 +26,20 @@ impl OpenSite {
         })
     }
 
-    /// Adds an entry to those in memory, and makes its updates. Without memory nothing has changed.
-    pub(crate) fn remember(&mut self, alloc: Global, entry: Entry) -> Result<(), NoMemory>
+    /// Adds an entry to those in memory, and makes its updates. Without memory nothing has changed but what room there is.
+    pub(crate) fn remember(&mut self, entry: Entry) -> Result<(), NoMemory>
+        requires form { IsTransaction (transaction_value entry.transaction) }
         ensures entries { OnOk result (self.new.entries.items ≡ self.old.entries.items ++ entry ∷ []) }
-        ensures globals { OnOk result (self.new.globals ≡ fold apply self.old.globals entry.transaction.updates) }
+        ensures globals { OnOk result (joined self.new.globals ≡ fold apply (joined self.old.globals) entry.transaction.updates) }
         ensures kept { OnErr result (IsSameMemory self.old self.new) }
+        ensures changed { AreChanged self.old.globals self.new.globals }
         ensures same { IsSameSite self.old self.new }
         ensures journals { self.new.journals ≡ self.old.journals }
     {
         self.entries.reserve(1)?;
-        self.globals
-            .apply_all(alloc, entry.transaction.updates.as_slice())?;
+        let updates = entry.transaction.updates.as_slice();
+        self.globals.reserve(updates)?;
+        self.globals.make(updates);
         if self.entries.push(entry).is_err() {
             unreachable!();
         }

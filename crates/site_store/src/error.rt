@@ -1,5 +1,6 @@
 //! What a site's calls answer when they can't do what they are for.
 use gvn_key::NoMemory;
+use region_store::RegionError;
 use site_files::FilesError;
 use thiserror::Error;
 
@@ -55,6 +56,21 @@ impl From<FilesError> for SiteError {
             FilesError::GenLimit => SiteError::GenLimit,
             FilesError::NotAFile { file, offset } => SiteError::NotAFile { file, offset },
             FilesError::NoMemory => SiteError::NoMemory,
+        }
+    }
+}
+
+impl From<RegionError> for SiteError {
+    ghost use Rattle.std.specs.Prelude.{◌≡◌};
+    ghost use Rattle.site_store.specs.Errors.{region_error};
+
+    ghost from_gives = { λ x e. e ≡ region_error x };
+
+    fn from(error: RegionError) -> Self {
+        match error {
+            RegionError::Failed { fault } => SiteError::Failed { fault },
+            RegionError::NotAFile { file, offset } => SiteError::NotAFile { file, offset },
+            RegionError::NoMemory => SiteError::NoMemory,
         }
     }
 }

@@ -1,20 +1,22 @@
 //! Whether there is room for a transaction's nodes.
 ghost use Rattle.std.specs.Prelude.{◌≡◌, ◌⊎◌, ◌≤◌, ℕ, length, OnOk, OnErr, IsErrOf};
+ghost use Rattle.site_regions.specs.Joined.{joined};
 ghost use Rattle.site_store.specs.Site.{HasRoomFor};
 
 use crate::error::SiteError;
-use gvn_globals::{Globals, Overlay};
+use gvn_globals::Overlay;
 use gvn_model::Updates;
+use site_regions::Regions;
 use std::alloc::Global;
 
 /// How many nodes may stand.
 const MOST_NODES: u32 = 100_000;
 
 /// Makes these updates over the globals, and looks after each of them how many nodes there are.
-fn check_each(alloc: Global, globals: &Globals, updates: &Updates) -> Result<(), SiteError>
+fn check_each(alloc: Global, globals: &Regions, updates: &Updates) -> Result<(), SiteError>
     requires { 1 ≤ length updates.now }
-    ensures fits { OnOk result (HasRoomFor globals.now updates.now) }
-    ensures full { (nodes : ℕ) → IsErrOf result (SiteError.Full nodes) → HasRoomFor globals.now updates.now → ⊥ }
+    ensures fits { OnOk result (HasRoomFor (joined globals.now) updates.now) }
+    ensures full { (nodes : ℕ) → IsErrOf result (SiteError.Full nodes) → HasRoomFor (joined globals.now) updates.now → ⊥ }
     ensures causes { OnErr result (((nodes : ℕ) × IsErrOf result (SiteError.Full nodes)) ⊎ IsErrOf result SiteError.NoMemory) }
 {
     let mut overlay = Overlay::new(alloc, globals);
@@ -33,10 +35,10 @@ fn check_each(alloc: Global, globals: &Globals, updates: &Updates) -> Result<(),
 ///
 /// # Errors
 /// `Full` exactly where more nodes would stand after one of them, with how many, and `NoMemory`.
-pub fn check_room(alloc: Global, globals: &Globals, updates: &Updates) -> Result<(), SiteError>
+pub fn check_room(alloc: Global, globals: &Regions, updates: &Updates) -> Result<(), SiteError>
     requires { 1 ≤ length updates.now }
-    ensures fits { OnOk result (HasRoomFor globals.now updates.now) }
-    ensures full { (nodes : ℕ) → IsErrOf result (SiteError.Full nodes) → HasRoomFor globals.now updates.now → ⊥ }
+    ensures fits { OnOk result (HasRoomFor (joined globals.now) updates.now) }
+    ensures full { (nodes : ℕ) → IsErrOf result (SiteError.Full nodes) → HasRoomFor (joined globals.now) updates.now → ⊥ }
     ensures causes { OnErr result (((nodes : ℕ) × IsErrOf result (SiteError.Full nodes)) ⊎ IsErrOf result SiteError.NoMemory) }
 {
     let most = MOST_NODES as usize;

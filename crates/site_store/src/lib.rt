@@ -10,6 +10,7 @@
 mod committing;
 mod creating;
 mod entering;
+mod epochs;
 mod error;
 mod finding;
 mod fitting;

@@ -26,14 +26,16 @@ ghost use Rattle.site_defs.specs.Texts.{zwrite};
 ghost use Rattle.site_defs.specs.Limits.{no_reign_left};
 ghost use Rattle.site_defs.specs.Opening.{opened, MayOpen, with_reign, next_stamp};
 ghost use Rattle.site_defs.specs.Fronts.{with_sequence, IsFrontOf};
+ghost use Rattle.site_defs.specs.Epochs.{marked, MayMark};
 ghost use Rattle.site_defs.specs.Stands.{IsBlank, IsSite, HasLeft};
-ghost use Rattle.site_defs.specs.Outside.{IsOutsideSite};
+ghost use Rattle.site_defs.specs.OutsideBlocks.{IsOutsideOpening};
+ghost use Rattle.site_regions.specs.Joined.{joined};
 ghost use Rattle.site_store.specs.Refusing.{IsUnwritten};
 ghost use Rattle.site_store.specs.Site.{Remembers, WasOpened, WasOpenedFrom, HasReign, HasRoomFor, with_entry};
 ghost use Rattle.site_store.specs.Opening.{region_value, made, MayMake, MayBeOpen, EachStands};
 ghost use Rattle.site_store.specs.Committing.{Appends, IsSameMemory};
 ghost use Rattle.site_store.specs.Reigning.{IsNextReign, HasReignLeft, HasNoReignLeft};
-ghost use Rattle.site_store.specs.Owning.{HasStopped, HasHistory, IsGoing, MayBeCalled, IsOpenSite, disk_left, FailsWith};
+ghost use Rattle.site_store.specs.Owning.{HasStopped, HasHistory, IsGoing, MayBeCalled, IsOpenSite, disk_left, FailsWith, MayFinish};
 
 use crate::creating::create;
 use crate::error::SiteError;
@@ -126,7 +128,7 @@ impl<D: Disk> Site<D> {
         ensures limit { FailsWith result SiteError.GenLimit → IfSome (D.disk disk).content (λ files. (rs : List instances.InstanceRecord) → IsInstance (files INSTANCE) rs → 65534 ≤ generation rs) }
         ensures unwritten { FailsWith result SiteError.GenLimit → (D.disk (disk_left result)).content ≡ (D.disk disk).content }
         ensures untouched { FailsWith result SiteError.GenLimit → AtEachMoment (D.disk disk) (D.disk (disk_left result)) (Image (D.disk disk)) }
-        ensures place { (file offset : ℕ) → FailsWith result (SiteError.NotAFile file offset) → IfSome (D.disk disk).content (λ files. IsOutsideSite files file offset) }
+        ensures place { (file offset : ℕ) → FailsWith result (SiteError.NotAFile file offset) → IfSome (D.disk disk).content (λ files. IsOutsideOpening files file offset) }
         ensures refused { (file offset : ℕ) → FailsWith result (SiteError.NotAFile file offset) → IfSome (D.disk disk).content (λ _. IsUnwritten (D.disk disk) (D.disk (disk_left result))) }
         ensures outside { (file offset : ℕ) → FailsWith result (SiteError.NotAFile file offset) → IfSome (D.disk disk).content (λ files. (c : Contents) → IsSite files c → ⊥) }
         ensures any_moment { IfSome (D.disk disk).content (λ files. (c : Contents) (left : Leftover) → IsSite files c → HasLeft files c left → AtEachMoment (D.disk disk) (D.disk (disk_left result)) (MayBeOpen (D.disk disk) left.broken)) }
@@ -270,8 +272,8 @@ impl<D: Disk> Site<D> {
         ensures stamp { self.new.inner.stamp ≡ self.old.inner.stamp }
         ensures reign { OnOk result (HasReign self.new.inner) }
         ensures room { OnOk result (length self.old.inner.entries.items + 1 < 2 ^ 40) }
-        ensures fits { OnOk result (HasRoomFor self.old.inner.globals t.now.updates) }
-        ensures full { (nodes : ℕ) → IsErrOf result (SiteError.Full nodes) → HasRoomFor self.old.inner.globals t.now.updates → ⊥ }
+        ensures fits { OnOk result (HasRoomFor (joined self.old.inner.globals) t.now.updates) }
+        ensures full { (nodes : ℕ) → IsErrOf result (SiteError.Full nodes) → HasRoomFor (joined self.old.inner.globals) t.now.updates → ⊥ }
         ensures last { IsErrOf result SiteError.SeqLimit → 2 ^ 40 ≤ length self.old.inner.entries.items + 1 }
         ensures kept { ((nodes : ℕ) × IsErrOf result (SiteError.Full nodes)) ⊎ IsErrOf result SiteError.SeqLimit → self.new ≡ self.old }
         ensures unmade { IsErrOf result SiteError.NoMemory → IsSameMemory self.old.inner self.new.inner }
@@ -349,32 +351,111 @@ impl<D: Disk> Site<D> {
         }
     }
 
-    /// Puts all entries on the disk for good, and hands the disk back. Where none waits it makes no call of the disk.
+    /// Brings the site, whose entries are all hardened, to an epoch.
+    fn take_epoch(&mut self, closing: bool) -> Result<(), SiteError>
+        requires ready { IsGoing D.disk self.old }
+        ensures ready { OnOk result (IsGoing D.disk self.new) }
+        ensures done { OnOk result ((told : Bool) (c : Contents) → IsOpenSite D.disk told c (length c.sequence) self.old → IsOpenSite D.disk told (marked c) (length c.sequence) self.new) }
+        ensures stamp { self.new.inner.stamp ≡ self.old.inner.stamp }
+        ensures entries { self.new.inner.entries.items ≡ self.old.inner.entries.items }
+        ensures reign { HasReign self.old.inner → HasReign self.new.inner }
+        ensures any_moment { (c : Contents) → IsOpenSite D.disk true c (length c.sequence) self.old → AtEachMoment (D.disk self.old.disk) (D.disk self.new.disk) (λ f. (o : Contents) × MayMark c o × IsSite f o) }
+        ensures still_told { IsSome (D.disk self.old.disk).content → IsSome (D.disk self.new.disk).content }
+        ensures simulated { (D.disk self.new.disk).simulated ≡ (D.disk self.old.disk).simulated }
+        ensures later { (D.disk self.old.disk).faults ≤ (D.disk self.new.disk).faults }
+        ensures count { (fault : ℕ) → IsErrOf result (SiteError.Failed fault) → fault ≡ (D.disk self.new.disk).faults }
+        ensures cause { (fault : ℕ) → IsErrOf result (SiteError.Failed fault) → Rose (D.disk self.old.disk).faults (D.disk self.new.disk).faults }
+        ensures causes { OnErr result (((fault : ℕ) × IsErrOf result (SiteError.Failed fault)) ⊎ IsErrOf result SiteError.NoMemory) }
+        ensures stops { (fault : ℕ) → IsErrOf result (SiteError.Failed fault) → HasStopped fault self.new }
+    {
+        let alloc = self.inner.instance.gated.alloc;
+        match self.inner.epoch(alloc, &mut self.disk, closing) {
+            Ok(()) => Ok(()),
+            Err(error) => {
+                self.note(error);
+                Err(error)
+            }
+        }
+    }
+
+    /// Puts all entries on the disk for good, and brings the site to an epoch.
+    fn finish(&mut self, closing: bool) -> Result<(), SiteError>
+        requires ready { MayBeCalled D.disk self.old }
+        ensures ready { OnOk result (IsGoing D.disk self.new) }
+        ensures done { OnOk result ((told : Bool) (c : Contents) (h : ℕ) → IsOpenSite D.disk told c h self.old → IsOpenSite D.disk told (marked c) (length c.sequence) self.new) }
+        ensures stamp { self.new.inner.stamp ≡ self.old.inner.stamp }
+        ensures entries { self.new.inner.entries.items ≡ self.old.inner.entries.items }
+        ensures reign { HasReign self.old.inner → HasReign self.new.inner }
+        ensures any_moment { (c : Contents) (h : ℕ) → IsOpenSite D.disk true c h self.old → AtEachMoment (D.disk self.old.disk) (D.disk self.new.disk) (λ f. (o : Contents) × MayFinish c h o × IsSite f o) }
+        ensures stands { (c : Contents) (h : ℕ) → IsOpenSite D.disk true c h self.old → IfSome (D.disk self.new.disk).content (λ f. (o : Contents) × MayFinish c h o × IsSite f o) }
+        ensures still_told { IsSome (D.disk self.old.disk).content → IsSome (D.disk self.new.disk).content }
+        ensures simulated { (D.disk self.new.disk).simulated ≡ (D.disk self.old.disk).simulated }
+        ensures later { (D.disk self.old.disk).faults ≤ (D.disk self.new.disk).faults }
+        ensures count { (fault : ℕ) → IsErrOf result (SiteError.Failed fault) → fault ≡ (D.disk self.new.disk).faults }
+        ensures cause { (fault : ℕ) → IsErrOf result (SiteError.Failed fault) → Rose (D.disk self.old.disk).faults (D.disk self.new.disk).faults }
+        ensures causes { OnErr result (((fault : ℕ) × IsErrOf result (SiteError.Failed fault)) ⊎ ((fault : ℕ) × IsErrOf result (SiteError.Stopped fault)) ⊎ IsErrOf result SiteError.NoMemory) }
+        ensures stops { (fault : ℕ) → IsErrOf result (SiteError.Failed fault) → HasStopped fault self.new }
+        ensures stopped { (fault : ℕ) → HasStopped fault self.old → IsErrOf result (SiteError.Stopped fault) }
+        ensures stays { (fault : ℕ) → HasStopped fault self.old → self.new ≡ self.old }
+        ensures only_stopped { (fault : ℕ) → IsErrOf result (SiteError.Stopped fault) → HasStopped fault self.old }
+    {
+        self.harden()?;
+        self.take_epoch(closing)
+    }
+
+    /// Puts all entries on the disk for good, and brings each region to an epoch of them: the blocks that changed since the last one are in
+    /// the database files behind it, and the next opening makes no update before it again.
     ///
     /// # Errors
-    /// Those of [`harden`](Site::harden).
+    /// `Failed` only where the disk's count rose; of the entries that weren't hardened a crash may then find the first few, or else the
+    /// epoch in some regions. `Stopped` exactly where a call before failed. `NoMemory`; the site is of no more use then, but that its
+    /// disk can be taken back.
+    pub fn epoch(&mut self) -> Result<(), SiteError>
+        requires ready { MayBeCalled D.disk self.old }
+        ensures ready { OnOk result (IsGoing D.disk self.new) }
+        ensures done { OnOk result ((told : Bool) (c : Contents) (h : ℕ) → IsOpenSite D.disk told c h self.old → IsOpenSite D.disk told (marked c) (length c.sequence) self.new) }
+        ensures stamp { self.new.inner.stamp ≡ self.old.inner.stamp }
+        ensures entries { self.new.inner.entries.items ≡ self.old.inner.entries.items }
+        ensures reign { HasReign self.old.inner → HasReign self.new.inner }
+        ensures any_moment { (c : Contents) (h : ℕ) → IsOpenSite D.disk true c h self.old → AtEachMoment (D.disk self.old.disk) (D.disk self.new.disk) (λ f. (o : Contents) × MayFinish c h o × IsSite f o) }
+        ensures stands { (c : Contents) (h : ℕ) → IsOpenSite D.disk true c h self.old → IfSome (D.disk self.new.disk).content (λ f. (o : Contents) × MayFinish c h o × IsSite f o) }
+        ensures still_told { IsSome (D.disk self.old.disk).content → IsSome (D.disk self.new.disk).content }
+        ensures simulated { (D.disk self.new.disk).simulated ≡ (D.disk self.old.disk).simulated }
+        ensures later { (D.disk self.old.disk).faults ≤ (D.disk self.new.disk).faults }
+        ensures count { (fault : ℕ) → IsErrOf result (SiteError.Failed fault) → fault ≡ (D.disk self.new.disk).faults }
+        ensures cause { (fault : ℕ) → IsErrOf result (SiteError.Failed fault) → Rose (D.disk self.old.disk).faults (D.disk self.new.disk).faults }
+        ensures causes { OnErr result (((fault : ℕ) × IsErrOf result (SiteError.Failed fault)) ⊎ ((fault : ℕ) × IsErrOf result (SiteError.Stopped fault)) ⊎ IsErrOf result SiteError.NoMemory) }
+        ensures stops { (fault : ℕ) → IsErrOf result (SiteError.Failed fault) → HasStopped fault self.new }
+        ensures stopped { (fault : ℕ) → HasStopped fault self.old → IsErrOf result (SiteError.Stopped fault) }
+        ensures stays { (fault : ℕ) → HasStopped fault self.old → self.new ≡ self.old }
+        ensures only_stopped { (fault : ℕ) → IsErrOf result (SiteError.Stopped fault) → HasStopped fault self.old }
+    {
+        self.finish(false)
+    }
+
+    /// Puts all entries on the disk for good, brings each region to a closing epoch of them, and hands the disk back.
+    ///
+    /// # Errors
+    /// Those of [`epoch`](Site::epoch).
     pub fn close(mut self) -> (D, Result<(), SiteError>)
         requires ready { MayBeCalled D.disk self }
-        ensures reads { OnOk result.1 ((c : Contents) (h : ℕ) → IsOpenSite D.disk true c h self → IfSome (D.disk result.0).content (λ f. IsSite f c)) }
-        ensures images { OnOk result.1 ((c : Contents) (h : ℕ) → IsOpenSite D.disk true c h self → (f : Files) → Image (D.disk result.0) f → IsSite f c) }
-        ensures nothing_left { OnOk result.1 ((c : Contents) (h : ℕ) → IsOpenSite D.disk true c h self → (f : Files) → Image (D.disk result.0) f → HasLeft f c NO_LEFTOVER) }
-        ensures idle { self.fault ≡ None → self.inner.hardened ≡ length self.inner.entries.items → IsOk result.1 × (result.0 ≡ self.disk) }
-        ensures any_moment { (c : Contents) (h : ℕ) → IsOpenSite D.disk true c h self → AtEachMoment (D.disk self.disk) (D.disk result.0) (λ f. (o : Contents) × IsFrontOf c.sequence h c o × IsSite f o) }
-        ensures stands { (c : Contents) (h : ℕ) → IsOpenSite D.disk true c h self → IfSome (D.disk result.0).content (λ f. (o : Contents) × IsFrontOf c.sequence h c o × IsSite f o) }
+        ensures reads { OnOk result.1 ((c : Contents) (h : ℕ) → IsOpenSite D.disk true c h self → IfSome (D.disk result.0).content (λ f. IsSite f (marked c))) }
+        ensures images { OnOk result.1 ((c : Contents) (h : ℕ) → IsOpenSite D.disk true c h self → (f : Files) → Image (D.disk result.0) f → IsSite f (marked c)) }
+        ensures nothing_left { OnOk result.1 ((c : Contents) (h : ℕ) → IsOpenSite D.disk true c h self → (f : Files) → Image (D.disk result.0) f → HasLeft f (marked c) NO_LEFTOVER) }
+        ensures any_moment { (c : Contents) (h : ℕ) → IsOpenSite D.disk true c h self → AtEachMoment (D.disk self.disk) (D.disk result.0) (λ f. (o : Contents) × MayFinish c h o × IsSite f o) }
+        ensures stands { (c : Contents) (h : ℕ) → IsOpenSite D.disk true c h self → IfSome (D.disk result.0).content (λ f. (o : Contents) × MayFinish c h o × IsSite f o) }
         ensures still_told { IsSome (D.disk self.disk).content → IsSome (D.disk result.0).content }
         ensures simulated { (D.disk result.0).simulated ≡ (D.disk self.disk).simulated }
         ensures later { (D.disk self.disk).faults ≤ (D.disk result.0).faults }
         ensures count { (fault : ℕ) → IsErrOf result.1 (SiteError.Failed fault) → fault ≡ (D.disk result.0).faults }
         ensures cause { (fault : ℕ) → IsErrOf result.1 (SiteError.Failed fault) → Rose (D.disk self.disk).faults (D.disk result.0).faults }
-        ensures causes { OnErr result.1 (((fault : ℕ) × IsErrOf result.1 (SiteError.Failed fault)) ⊎ ((fault : ℕ) × IsErrOf result.1 (SiteError.Stopped fault))) }
+        ensures causes { OnErr result.1 (((fault : ℕ) × IsErrOf result.1 (SiteError.Failed fault)) ⊎ ((fault : ℕ) × IsErrOf result.1 (SiteError.Stopped fault)) ⊎ IsErrOf result.1 SiteError.NoMemory) }
         ensures stopped { (fault : ℕ) → HasStopped fault self → IsErrOf result.1 (SiteError.Stopped fault) }
         ensures stays { (fault : ℕ) → HasStopped fault self → result.0 ≡ self.disk }
         ensures only_stopped { (fault : ℕ) → IsErrOf result.1 (SiteError.Stopped fault) → HasStopped fault self }
     {
-        match self.harden() {
-            Ok(_) => (self.disk, Ok(())),
-            Err(error) => (self.disk, Err(error)),
-        }
+        let closed = self.finish(true);
+        (self.disk, closed)
     }
 
     /// Hands the disk back without a call of it. Of the entries that weren't hardened a crash may find the first few.
@@ -415,14 +496,14 @@ impl<D: Disk> Site<D> {
 
     /// The node's value, if it has one.
     pub fn get(&self, key: &Key) -> Option<&[u8]>
-        ensures { option_copied result ≡ globals.get self.now.inner.globals key.now }
+        ensures { option_copied result ≡ globals.get (joined self.now.inner.globals) key.now }
     {
         self.inner.globals.get(key)
     }
 
     /// Whether the node has a value, and whether it has descendants: 0, 1, 10 or 11.
     pub fn defined(&self, key: &Key) -> u8
-        ensures { result ≡ evaluation.defined self.now.inner.globals key.now }
+        ensures { result ≡ evaluation.defined (joined self.now.inner.globals) key.now }
     {
         self.inner.globals.defined(key)
     }
@@ -430,7 +511,7 @@ impl<D: Disk> Site<D> {
     /// The next subscript at the level below the node, past the last one, by its own bytes: of a number its numeral. An empty last
     /// one comes before all.
     pub fn order(&self, key: &Key, last: &[u8]) -> Result<Option<Bytes>, NoMemory>
-        ensures next { IfOk result (λ found. option_map sub_of found ≡ evaluation.order self.now.inner.globals key.now last.now) }
+        ensures next { IfOk result (λ found. option_map sub_of found ≡ evaluation.order (joined self.now.inner.globals) key.now last.now) }
         ensures a_key { IfOk result (λ found. IfSome found (λ sub. is_key (child_of key.now (sub_of sub)) ≡ true)) }
     {
         self.inner.globals.order(key, last)
@@ -439,7 +520,7 @@ impl<D: Disk> Site<D> {
     /// Adds a ZWRITE line for each node, or for the top one and those below it, in M collation. Without memory some lines may be
     /// added, and what was there stays.
     pub fn zwrite(&self, top: Option<&Key>, out: &mut Bytes) -> Result<(), NoMemory>
-        ensures lines { OnOk result (out.new ≡ out.old ++ zwrite (option_copied top.entry) self.now.inner.globals) }
+        ensures lines { OnOk result (out.new ≡ out.old ++ zwrite (option_copied top.entry) (joined self.now.inner.globals)) }
         ensures front { OnErr result (IsPrefix out.old out.new) }
     {
         self.inner.zwrite(top, out)
@@ -453,7 +534,7 @@ impl<D: Disk> Site<D> {
     pub fn extract(&mut self, number: u64, out: &mut Bytes) -> Result<(), SiteError>
         requires { 1 ≤ number }
         ensures entry { OnOk result (IfSome (slice_get self.old.inner.entries.items (number - 1)) (λ e. out.new ≡ out.old ++ entry_text e.number (entry_value e))) }
-        ensures opened { OnOk result ((told : Bool) (c : Contents) (h : ℕ) → IsOpenSite D.disk told c h self.old → IfSome (slice_get c.sequence (number - 1)) (λ e. out.new ≡ out.old ++ entry_text number e)) }
+        ensures opened { OnOk result ((c : Contents) (h : ℕ) → IsOpenSite D.disk true c h self.old → IfSome (slice_get c.sequence (number - 1)) (λ e. out.new ≡ out.old ++ entry_text number e)) }
         ensures no_entry { slice_get self.old.inner.entries.items (number - 1) ≡ None → out.new ≡ out.old }
         ensures without { OnErr result (out.new ≡ out.old) }
         ensures kept { self.new ≡ self.old }
@@ -523,7 +604,7 @@ impl<D: Disk> Site<D> {
 }
 
 impl<D: Disk> Lookup for Site<D> {
-    ghost seen = { λ s. s.inner.globals };
+    ghost seen = { λ s. joined s.inner.globals };
 
     fn get(&self, key: &Key) -> Option<&[u8]> {
         self.inner.globals.get(key)

@@ -4,22 +4,23 @@ ghost use Rattle.std.specs.Option.{option_copied};
 ghost use Rattle.std.specs.List.{flat_map};
 ghost use Rattle.global_defs.specs.Extract.{entry_text};
 ghost use Rattle.global_defs.specs.Prefix.{IsPrefix};
-ghost use Rattle.gvn_globals.specs.Lists.{listed_value};
+ghost use Rattle.gvt_leaf.specs.Listed.{node_value};
 ghost use Rattle.gvn_model.specs.Entries.{entry_value};
 ghost use Rattle.site_defs.specs.Texts.{node_line, zwrite};
+ghost use Rattle.site_regions.specs.Joined.{joined};
 
 use crate::site::OpenSite;
-use gvn_globals::Listed;
 use gvn_key::{Bytes, Key, NoMemory};
+use gvt_leaf::Node;
 use jnl_extract::{extract_entry, write_node};
 
 /// Adds a line for each of these nodes.
-fn write_nodes(nodes: &[Listed], out: &mut Bytes) -> Result<(), NoMemory>
-    ensures lines { OnOk result (out.new ≡ out.old ++ flat_map node_line (map listed_value nodes.now)) }
+fn write_nodes(nodes: &[Node], out: &mut Bytes) -> Result<(), NoMemory>
+    ensures lines { OnOk result (out.new ≡ out.old ++ flat_map node_line (map node_value nodes.now)) }
     ensures front { OnErr result (IsPrefix out.old out.new) }
 {
     for node in nodes {
-        write_node(node.key, node.value, out)?;
+        write_node(&node.key, node.value, out)?;
     }
     Ok(())
 }
@@ -42,7 +43,7 @@ impl OpenSite {
     /// Adds a ZWRITE line for each node, or for the top one and those below it, in M collation. Without memory some lines may be
     /// added, and what was there stays.
     pub fn zwrite(&self, top: Option<&Key>, out: &mut Bytes) -> Result<(), NoMemory>
-        ensures lines { OnOk result (out.new ≡ out.old ++ zwrite (option_copied top.entry) self.now.globals) }
+        ensures lines { OnOk result (out.new ≡ out.old ++ zwrite (option_copied top.entry) (joined self.now.globals)) }
         ensures front { OnErr result (IsPrefix out.old out.new) }
     {
         let alloc = out.allocator();

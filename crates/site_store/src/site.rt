@@ -3,10 +3,10 @@ ghost use Rattle.std.specs.Prelude.{◌≡◌, length};
 ghost use Rattle.journal_defs.specs.Surviving.{reigns};
 
 use crate::layout::Layout;
-use gvn_globals::Globals;
 use gvn_model::{Entry, Reigns, Stamp};
 use instance_file::Instance;
 use region_journals::RegionJournals;
+use site_regions::Regions;
 
 /// A site that is open, beside its disk: what its files stand for, in memory, and its files, open for calls.
 ///
@@ -21,8 +21,8 @@ pub struct OpenSite {
     pub journals: RegionJournals,
     /// All entries, by their numbers from 1 on.
     pub entries: Vec<Entry>,
-    /// No nodes, and then the updates of all entries in order.
-    pub globals: Globals,
+    /// The site's regions on their blocks: all nodes.
+    pub globals: Regions,
     /// How many entries are on the disk for good.
     pub hardened: u64,
     /// The reign that was begun since the site was opened.

@@ -1,11 +1,11 @@
 -- Small worlds for the laws, and a command made of others.
 use Rattle.std.specs.Prelude.{Bool, true, false, [], ◌∷◌, codes, Some, None}
 use Rattle.command_defs.specs.Commands.{Name}
-use Rattle.world_defs.specs.World.{Place, World, Down, Failed}
+use Rattle.world_defs.specs.World.{Place, World, Down, Primary, Failed}
 use Rattle.world_defs.specs.Meaning.{Meaning, Acts, Then, apart, on_site, row_at}
 use Rattle.world_defs.specs.rows.Start.{start}
 use Rattle.world_defs.specs.rows.Stop.{stop}
-use Rattle.site_defs.specs.Contents.{nothing, NO_LEFTOVER, bare}
+use Rattle.site_defs.specs.Contents.{Contents, nothing, NO_LEFTOVER, bare}
 use Rattle.site_defs.specs.Samples.{made}
 
 -- where a call of A's disk failed, the third one on it
@@ -19,6 +19,20 @@ torn_place = record { site = Some (record { name = codes "A"; state = Failed 3 }
 -- a disk that A stands on, which no site of the run has
 abbrev pub made_place : Place
 made_place = record { site = None; told = true; now = made; left = NO_LEFTOVER; outcomes = made ∷ []; standings = Some (bare made ∷ []); shown = None; faults = 0; simulated = true }
+
+-- where A is a primary with these contents, whose files are known or not
+abbrev pub primary_place : (told : Bool) → Contents → Place
+primary_place told c = record {
+  site = Some (record { name = codes "A"; state = Primary (record { root = codes "A"; cycle = 1 }) [] });
+  told = told;
+  now = c;
+  left = NO_LEFTOVER;
+  outcomes = c ∷ [];
+  standings = Some (bare c ∷ []);
+  shown = None;
+  faults = 0;
+  simulated = true;
+}
 
 -- an empty disk
 abbrev pub blank_place : Place

@@ -1,28 +1,33 @@
 // What the definitions come to on small values.
 ghost use Rattle.std.specs.Prelude.{◌≡◌, ◌⊎◌, ◌∷◌, ◌++◌, [], ℕ, List, codes, Some, None, IsSomeAnd, true, false};
+ghost use Rattle.disk_defs.specs.Disk.{Rose};
 ghost use Rattle.journal_defs.specs.Instance as records;
 ghost use Rattle.journal_defs.specs.Instance.{InstanceRecord};
 ghost use Rattle.global_defs.specs.Entry.{Sequence};
-ghost use Rattle.site_defs.specs.Contents.{Standing, nothing, bare};
+ghost use Rattle.site_defs.specs.Contents.{Contents, Standing, nothing, bare};
 ghost use Rattle.site_defs.specs.Fronts.{turn_of};
 ghost use Rattle.site_defs.specs.Limits.{region_number};
 ghost use Rattle.site_defs.specs.Lists.{Among};
 ghost use Rattle.site_defs.specs.Opening.{opened, with_pattern};
 ghost use Rattle.site_defs.specs.Samples.{made, reigned_once, two_regions};
-ghost use Rattle.command_defs.specs.Commands.{Attach, Create, StartPrimary, Stop, Crash, Show, with_images};
+ghost use Rattle.site_defs.specs.Texts.{extract_from};
+ghost use Rattle.command_defs.specs.Commands.{Attach, Create, StartPrimary, Stop, Epoch, Crash, Show, with_images};
 ghost use Rattle.world_defs.specs.World.{Place, World, Primary, Failed};
-ghost use Rattle.world_defs.specs.Answers.{NoSite, NoDisk, Empty, Exists, Stopped, NotSimulated, Started, NoRegion, TwiceMapped, NoFile, GenLimit, ReignLimit, Answer, Refused, NotAFile, Typed, refusal_line, fault_line};
+ghost use Rattle.world_defs.specs.Answers.{NoSite, NoDisk, Empty, Exists, Stopped, NotRunning, NotSimulated, Started, NoRegion, TwiceMapped, NoFile, GenLimit, ReignLimit, Answer, Done, Refused, DiskFault, NotAFile, Typed, refusal_line, fault_line};
 ghost use Rattle.world_defs.specs.Row.{first, Here};
 ghost use Rattle.world_defs.specs.rows.Attach.{attach};
 ghost use Rattle.world_defs.specs.rows.Crash.{Crashes};
 ghost use Rattle.world_defs.specs.rows.Create.{created};
+ghost use Rattle.world_defs.specs.rows.Epoch.{epoch};
+ghost use Rattle.world_defs.specs.rows.Extract.{extract};
 ghost use Rattle.world_defs.specs.rows.Map.{map_pattern, started, twice_mapped, unmapped};
 ghost use Rattle.world_defs.specs.rows.Print.{no_file, print, typed};
 ghost use Rattle.world_defs.specs.rows.Run.{section_text};
 ghost use Rattle.world_defs.specs.rows.Show.{show_state};
 ghost use Rattle.world_defs.specs.rows.Start.{FIRST_SERIALS, StartsPrimary, generation_limit, reign_limit, start};
+ghost use Rattle.world_defs.specs.rows.Stop.{stop};
 ghost use Rattle.world_defs.specs.Step.{LeavesOld, LeftByRow, Step, refusal, refusal_of};
-ghost use Rattle.world_defs.specs.Samples.{failed_place, torn_place, blank_place, made_place, shown_place, created_place, broken_off_place, switching};
+ghost use Rattle.world_defs.specs.Samples.{failed_place, torn_place, blank_place, made_place, primary_place, shown_place, created_place, broken_off_place, switching};
 
 /// A world without disks refuses what needs one; one whose only disk failed refuses what needs it until a crash.
 pub fn refusals_hold()
@@ -30,6 +35,7 @@ pub fn refusals_hold()
     ensures create { refusal (record { places = [] }) (Create (codes "A") []) ≡ Some (record { site = codes "A"; cause = NoDisk }) }
     ensures attach { refusal (record { places = [] }) Attach ≡ Some (record { site = codes "ATTACH"; cause = NoDisk }) }
     ensures failed { refusal (record { places = failed_place true ∷ [] }) (Stop (codes "A")) ≡ Some (record { site = codes "A"; cause = Stopped 3 }) }
+    ensures down { refusal (record { places = shown_place ∷ [] }) (Epoch (codes "A")) ≡ Some (record { site = codes "A"; cause = NotRunning }) }
     ensures crashed { refusal (record { places = failed_place true ∷ [] }) (Crash (codes "A") 0) ≡ None }
     ensures real { refusal (record { places = failed_place false ∷ [] }) (Crash (codes "A") 0) ≡ Some (record { site = codes "A"; cause = NotSimulated }) }
     ensures both { refusal_of (switching (codes "A") (codes "B") (record { places = failed_place true ∷ [] })) ≡ Some (record { site = codes "B"; cause = NoSite }) }
@@ -45,8 +51,8 @@ pub fn attaching_holds()
 
 /// The limits are those of a site's contents; a site that was created is the sample.
 pub fn causes_hold()
-    ensures generations { generation_limit (record { instance = records.Cut 0 65534 ∷ []; starts = λ r. []; texts = []; sequence = [] }) ≡ Some GenLimit }
-    ensures cycles { reign_limit (record { instance = records.Reigned (record { stamp = record { root = codes "Z"; cycle = 4294967295 }; start = 1 }) ∷ []; starts = λ r. []; texts = []; sequence = [] }) ≡ Some ReignLimit }
+    ensures generations { generation_limit (record { instance = records.Cut 0 65534 ∷ []; starts = λ r. []; epochs = λ r. []; texts = []; sequence = [] }) ≡ Some GenLimit }
+    ensures cycles { reign_limit (record { instance = records.Reigned (record { stamp = record { root = codes "Z"; cycle = 4294967295 }; start = 1 }) ∷ []; starts = λ r. []; epochs = λ r. []; texts = []; sequence = [] }) ≡ Some ReignLimit }
     ensures created { (created (codes "A") (with_images (codes "R") ∷ [])).instance ≡ made.instance }
 {}
 
@@ -65,6 +71,13 @@ pub fn typing_holds()
     ensures newest { typed 1 (record { site = None; told = true; now = opened (codes "x") made; left = record { broken = []; torn = codes "y" }; outcomes = []; standings = None; shown = None; faults = 0; simulated = true }) ≡ codes "x" }
     ensures torn { typed 2 (record { site = None; told = true; now = opened (codes "x") made; left = record { broken = []; torn = codes "y" }; outcomes = []; standings = None; shown = None; faults = 0; simulated = true }) ≡ codes "y" }
     ensures nothing { no_file 3 made_place ≡ Some NoFile }
+{}
+
+/// An extract is that of the site's entries where its files are known, and else of as many entries.
+pub fn extracting_holds()
+    ensures known { (c : Contents) (q : Place) (text told : List ℕ) → Here (extract None (codes "A") (primary_place true c)) (Typed text) q told → text ≡ extract_from (codes "A") None c.sequence }
+    // a site without entries has the header alone
+    ensures count { (q : Place) (text told : List ℕ) → Here (extract None (codes "A") (primary_place false reigned_once)) (Typed text) q told → text ≡ codes "GTMRJEX01\\A\\1\n" }
 {}
 
 /// On a disk that tells its bytes, a site's or not, these decide what files decide.
@@ -87,6 +100,16 @@ pub fn leftovers_are_written()
     ensures bare { (p q : Place) → StartsPrimary (codes "A") p q → q.standings ≡ Some (bare q.now ∷ []) }
     ensures cut_off { (q : Place) → LeavesOld torn_place q → IsSomeAnd q.standings (λ os. (o : Standing) → Among os o → o.broken ≡ codes "x") }
     ensures cut_start { (q : Place) → LeftByRow (start (codes "A") torn_place) torn_place q → IsSomeAnd q.standings (λ os. (o : Standing) → Among os o → (o.broken ≡ codes "x") ⊎ (o.contents.texts ≡ codes "x" ∷ [])) }
+{}
+
+/// EPOCH and STOP leave an epoch of all entries in each region, and a fault of theirs is told only where the count rose.
+pub fn epochs_hold()
+    ensures told { (q : Place) (text : List ℕ) → Here (epoch (codes "A") (primary_place true reigned_once)) Done q text → text ≡ codes "A EPOCH 0\n" }
+    ensures taken { (q : Place) (text : List ℕ) → Here (epoch (codes "A") (primary_place true reigned_once)) Done q text → q.now.epochs 0 ≡ record { generation = 1; number = 0 } ∷ [] }
+    ensures open { (q : Place) (text : List ℕ) → Here (epoch (codes "A") (primary_place true reigned_once)) Done q text → q.site ≡ (primary_place true reigned_once).site }
+    ensures closed { (q : Place) (text : List ℕ) → Here (stop (codes "A") (primary_place true reigned_once)) Done q text → q.now.epochs 0 ≡ record { generation = 1; number = 0 } ∷ [] }
+    ensures fault { (k : ℕ) (q : Place) (text : List ℕ) → Here (epoch (codes "A") (primary_place true reigned_once)) (DiskFault k) q text → Rose 0 k }
+    ensures stop_fault { (k : ℕ) (q : Place) (text : List ℕ) → Here (stop (codes "A") (primary_place true reigned_once)) (DiskFault k) q text → Rose 0 k }
 {}
 
 /// The lines of a refusal, of a fault, of a site that is shown, and of a section that a fault ended.

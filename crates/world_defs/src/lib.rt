@@ -5,6 +5,6 @@
 mod laws;
 
 pub use laws::{
-    attaching_holds, causes_hold, leftovers_are_written, mapping_holds, output_holds,
+    attaching_holds, causes_hold, epochs_hold, leftovers_are_written, mapping_holds, output_holds,
     refusals_hold, shown_bytes_decide, typing_holds,
 };

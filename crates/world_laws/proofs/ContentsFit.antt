@@ -1,13 +1,14 @@
 -- What stays fit of the contents of one image.
-use Rattle.std.proofs.Common.{◌≡◌, inl, inr, ℕ, ◌+◌, ◌≤◌, List, [], length, Some, None, refl, sym, ◌∙◌, ap, subst, arith}
+use Rattle.std.proofs.Common.{◌≡◌, inl, inr, ℕ, ◌+◌, ◌≤◌, Bool, List, [], length, Some, None, refl, sym, ◌∙◌, ap, subst, arith}
 use Rattle.journal_defs.specs.Instance as records
 use Rattle.journal_defs.specs.Instance.{InstanceRecord, pattern_record, generation, greatest_cycle, site_name, regions}
 use Rattle.journal_defs.specs.Journal.{Start}
 use Rattle.journal_defs.specs.Fit.{SerialsRise, HasFewReigns}
 use Rattle.command_defs.specs.Commands.{Name, Region}
 use Rattle.global_defs.specs.Pattern.{ends_in_star, stem}
-use Rattle.site_defs.specs.Contents.{Contents, nothing}
+use Rattle.site_defs.specs.Contents.{Taken, Contents, nothing}
 use Rattle.world_defs.specs.rows.Create.{created}
+use Rattle.site_defs.specs.Epochs.{MayMark, with_epochs}
 use Rattle.site_defs.specs.Opening.{MayOpen, MayBegin, MayMap, cut_there, with_starts, opened, with_reign, next_reign, with_pattern}
 use Rattle.world_defs.specs.Fit.{IsWithinCycles, IsFitContents}
 use Rattle.world_laws.proofs.Lists.{all-weaker}
@@ -23,12 +24,12 @@ fit-nothing = record { serials = rise-none; few_reigns = omega arith; cycles = t
 pub fit-created : (name : Name) (regions : List Region) → IsFitContents (created name regions)
 fit-created name regions = record { serials = rise-none; few_reigns = omega arith; cycles = tt }
 
--- one record more, of the same site, after which as many cycles are used; starts and texts are of no matter
-fit-more : (c : Contents) (instance : List InstanceRecord) (starts : ℕ → List Start) (texts : List (List ℕ)) → site_name instance ≡ site_name c.instance
+-- one record more, of the same site, after which as many cycles are used; starts, epochs and texts are of no matter
+fit-more : (c : Contents) (instance : List InstanceRecord) (starts : ℕ → List Start) (epochs : ℕ → List Taken) (texts : List (List ℕ)) → site_name instance ≡ site_name c.instance
     → greatest_cycle c.instance ≤ greatest_cycle instance → HasFewReigns (length c.sequence) instance → IsFitContents c
-    → IsFitContents (record { instance = instance; starts = starts; texts = texts; sequence = c.sequence })
-fit-more c instance starts texts name cycle few h =
-    let more : Contents = record { instance = instance; starts = starts; texts = texts; sequence = c.sequence } in
+    → IsFitContents (record { instance = instance; starts = starts; epochs = epochs; texts = texts; sequence = c.sequence })
+fit-more c instance starts epochs texts name cycle few h =
+    let more : Contents = record { instance = instance; starts = starts; epochs = epochs; texts = texts; sequence = c.sequence } in
     record {
       serials = h.serials;
       few_reigns = few;
@@ -42,7 +43,7 @@ fit-cut : (broken : List ℕ) (c : Contents) → IsFitContents c → IsFitConten
 fit-cut broken c h =
     let cut : Contents = cut_there broken c in
     let cycle = cycle-cut c.instance (length c.sequence) (generation c.instance + 1) in
-    fit-more c cut.instance cut.starts cut.texts (name-cut broken c) (omega arith)
+    fit-more c cut.instance cut.starts cut.epochs cut.texts (name-cut broken c) (omega arith)
     (few_at cut.instance (length c.sequence) (room-cut c.instance (length c.sequence) (generation c.instance + 1) h.few_reigns)) h
 
 -- a generation that begins in some regions
@@ -59,7 +60,7 @@ pub fit-reign : (name : Name) (c : Contents) → IsFitContents c → IsFitConten
 fit-reign name c h =
     let reigned : Contents = with_reign name c in
     let cycle = cycle-reign c.instance (next_reign name c) in
-    fit-more c reigned.instance reigned.starts reigned.texts (name-reign name c) (omega arith)
+    fit-more c reigned.instance reigned.starts reigned.epochs reigned.texts (name-reign name c) (omega arith)
     (few-later c.instance (length c.sequence) (next_reign name c) (omega arith) h.few_reigns) h
 
 -- what opening may leave is fit, and of the same site
@@ -88,7 +89,7 @@ pub fit-pattern : (region : ℕ) (text : List ℕ) (c : Contents) → IsFitConte
 fit-pattern region text c h =
     let mapped : Contents = with_pattern region text c in
     let cycle = cycle-map c.instance region (ends_in_star text) (stem text) in
-    fit-more c mapped.instance mapped.starts mapped.texts (name-pattern region text c) (omega arith)
+    fit-more c mapped.instance mapped.starts mapped.epochs mapped.texts (name-pattern region text c) (omega arith)
     (few-map c.instance (length c.sequence) region (ends_in_star text) (stem text) h.few_reigns) h
 
 pub fit-may_map : (region : Name) (text : List ℕ) (c o : Contents) → IsFitContents c → MayMap region text c o → IsFitContents o
@@ -98,3 +99,15 @@ fit-may_map region text c o h (inr mapped) = subst IsFitContents (sym mapped.2) 
 pub name-may_map : (region : Name) (text : List ℕ) (c o : Contents) → MayMap region text c o → site_name o.instance ≡ site_name c.instance
 name-may_map region text c o (inl same) = ap (λ (x : Contents). site_name x.instance) same
 name-may_map region text c o (inr mapped) = ap (λ (x : Contents). site_name x.instance) mapped.2 ∙ name-pattern mapped.0 text c
+
+-- and taking an epoch, which changes no record of the instance file and no entry
+pub fit-epochs : (k : ℕ → Bool) (c : Contents) → IsFitContents c → IsFitContents (with_epochs k c)
+fit-epochs k c h = record { serials = h.serials; few_reigns = h.few_reigns; cycles = h.cycles }
+
+pub fit-may_mark : (c o : Contents) → IsFitContents c → MayMark c o → IsFitContents o
+fit-may_mark c o h (inl same) = subst IsFitContents (sym same) h
+fit-may_mark c o h (inr marked) = subst IsFitContents (sym marked.1) (fit-epochs marked.0 c h)
+
+pub name-may_mark : (c o : Contents) → MayMark c o → site_name o.instance ≡ site_name c.instance
+name-may_mark c o (inl same) = ap (λ (x : Contents). site_name x.instance) same
+name-may_mark c o (inr marked) = ap (λ (x : Contents). site_name x.instance) marked.1

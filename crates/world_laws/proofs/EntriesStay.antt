@@ -9,10 +9,11 @@ use Rattle.command_defs.specs.Commands.{Name}
 use Rattle.site_defs.specs.Contents.{Contents, Standing}
 use Rattle.site_defs.specs.Fronts.{IsFrontOf, turn_of}
 use Rattle.site_defs.specs.Lists.{Among}
+use Rattle.site_defs.specs.Epochs.{MayMark}
 use Rattle.site_defs.specs.Opening.{MayMap, MayBegin}
 use Rattle.world_defs.specs.World.{State, Down, Failed, Site, Place, Kept, is_free}
 use Rattle.world_defs.specs.Answers.{Section}
-use Rattle.world_defs.specs.Changes.{in_new_state, Becomes, Fails, FailsUnchanged, ChangesUnknown}
+use Rattle.world_defs.specs.Changes.{in_new_state, Stays, Becomes, Fails, FailsUnchanged, ChangesUnknown}
 use Rattle.world_defs.specs.rows.Crash.{Crashes}
 use Rattle.world_defs.specs.rows.Run as rows
 use Rattle.world_defs.specs.rows.Run.{RunsTo, IsPicked, one_further}
@@ -53,15 +54,19 @@ entries-changed x y c name n e h = record {
 abbrev pub HasThose : Contents → Place → Type 0
 HasThose c p = (name : Name) (n : ℕ) (e : Entry) → HasEntry name n e p → IsTrue p.told → IsEntryAt n e c.sequence
 
-pub entries-becomes : (state : State) (c : Contents) (p q : Place) → HasThose c p → Becomes state c p q → KeepsEntries p q
-entries-becomes state c p q f b name n e h = record {
-  site = subst (IsSiteOf name) (sym b.site) (site-new name state p.site h.site);
+-- the site that stands there then has the name of the one before
+pub entries-stays : (site : Option Site) (c : Contents) (p q : Place) → ((name : Name) → IsSiteOf name p.site → IsSiteOf name site) → HasThose c p → Stays site c p q → KeepsEntries p q
+entries-stays site c p q named f b name n e h = record {
+  site = subst (IsSiteOf name) (sym b.site) (named name h.site);
   now = λ t. subst (HasAt n e) (sym b.known.now) (f name n e h (told t));
   outcomes = λ t o a. subst (HasAt n e) (sym (only_one o c (subst (λ (l : List Contents). Among l o) b.known.outcomes a))) (f name n e h (told t));
 }
   where
     told : IsTrue q.told → IsTrue p.told
     told t = subst IsTrue b.known.told t
+
+pub entries-becomes : (state : State) (c : Contents) (p q : Place) → HasThose c p → Becomes state c p q → KeepsEntries p q
+entries-becomes state c p q f b = entries-stays (in_new_state state p.site) c p q (λ name h. site-new name state p.site h) f b
 
 -- a step that leaves the sequence as it is
 abbrev pub LeavesSequence : (Contents → Contents → Type 0) → Type 0
@@ -86,6 +91,10 @@ pub same-begin : (name : Name) (broken : List ℕ) → LeavesSequence (MayBegin 
 same-begin name broken c o (inl (inl e)) = ap (λ (x : Contents). x.sequence) e
 same-begin name broken c o (inl (inr h)) = ap (λ (x : Contents). x.sequence) h.1
 same-begin name broken c o (inr e) = ap (λ (x : Contents). x.sequence) e
+
+pub same-mark : LeavesSequence MayMark
+same-mark c o (inl e) = ap (λ (x : Contents). x.sequence) e
+same-mark c o (inr h) = ap (λ (x : Contents). x.sequence) h.1
 
 pub entries-crash : (p q : Place) → Crashes p q → KeepsEntries p q
 entries-crash p q d name n e h = record {

@@ -18,3 +18,4 @@ pub mod WorldsFit
 pub mod FreshFit
 pub mod StandsForOne
 pub mod Settles
+pub mod LastEpochs

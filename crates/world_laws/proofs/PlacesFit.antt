@@ -1,19 +1,20 @@
 -- What keeps a place fit.
-use Rattle.std.proofs.Common.{◌≡◌, inl, inr, ℕ, List, Option, Some, None, IsTrue, refl, sym, ◌∙◌, subst}
+use Rattle.std.proofs.Common.{◌≡◌, inl, inr, ℕ, true, List, Option, Some, None, IsTrue, refl, sym, ◌∙◌, subst}
 use Rattle.std.proofs.lemmas.Bool.{false≢true}
 use Rattle.journal_defs.specs.Instance.{site_name}
 use Rattle.command_defs.specs.Commands.{Name, Region}
 use Rattle.site_defs.specs.Lists.{Among}
-use Rattle.world_defs.specs.World.{State, Down, Failed, Site, Place, World, Kept}
+use Rattle.world_defs.specs.World.{State, Down, Primary, Failed, Site, Place, World, Kept}
 use Rattle.site_defs.specs.Contents.{Contents, Standing}
+use Rattle.site_defs.specs.Epochs.{MayMark, marked}
 use Rattle.site_defs.specs.Opening.{MayMap, with_pattern}
 use Rattle.world_defs.specs.Changes.{in_new_state, Stays, Becomes, Fails, FailsUnchanged, ChangesUnknown, KeptUnknown}
 use Rattle.world_defs.specs.rows.Attach.{Attaches}
 use Rattle.world_defs.specs.rows.Crash.{Crashes}
 use Rattle.world_defs.specs.rows.Create.{created, MayMake}
 use Rattle.world_defs.specs.rows.Map.{Maps}
-use Rattle.world_defs.specs.Fit.{IsFitContents, IsFitSite, IsNamedSo, IsFitPlace}
-use Rattle.world_laws.proofs.ContentsFit.{fit-created, fit-pattern, name-pattern, fit-may_map, name-may_map}
+use Rattle.world_defs.specs.Fit.{IsFitContents, IsFitState, IsFitSite, IsNamedSo, IsFitPlace}
+use Rattle.world_laws.proofs.ContentsFit.{fit-created, fit-pattern, name-pattern, fit-may_map, name-may_map, fit-epochs, fit-may_mark, name-may_mark}
 
 -- what holds of a place whose files are known, from what it was before
 fit-place : (old new : Place) (site : Option Site) (c : Contents) → new.told ≡ old.told → new.site ≡ site → new.now ≡ c
@@ -96,6 +97,25 @@ fit-maps region text old new h r =
       named-same old.site old.now (with_pattern r.number text old.now) (name-pattern r.number text old.now) (h.named_now t),
     )) r.becomes
 
+-- an epoch is taken: the site's reign is as before
+fit-state_marked : (name : Name) (state : State) (c : Contents) → IsFitState name state c → IsFitState name state (marked c)
+fit-state_marked name Down c h = tt
+fit-state_marked name (Primary stamp serials) c h = record { root = h.root; cycle = h.cycle; room = h.room; updaters = h.updaters; next = h.next }
+fit-state_marked name (Failed k) c h = tt
+
+fit-site_marked : (site : Option Site) (c : Contents) → IsFitSite site c → IsFitSite site (marked c)
+fit-site_marked None c h = tt
+fit-site_marked (Some site) c h = fit-state_marked site.name site.state c h
+
+pub fit-marks : (old new : Place) → IsFitPlace old → Stays old.site (marked old.now) old new → IsFitPlace new
+fit-marks old new h r =
+    fit-stays old.site (marked old.now) old new
+    (λ t. (fit-epochs (λ r. true) old.now (h.now t), named-same old.site old.now (marked old.now) refl (h.named_now t), fit-site_marked old.site old.now (h.site t))) r
+
+pub fit-stops_marked : (old new : Place) → IsFitPlace old → Becomes Down (marked old.now) old new → IsFitPlace new
+fit-stops_marked old new h r =
+    fit-stops (marked old.now) old new (λ t. (fit-epochs (λ r. true) old.now (h.now t), named-same old.site old.now (marked old.now) refl (h.named_now t))) r
+
 -- a fault
 
 fit-fails : (k : ℕ) (site : Option Site) (step : Contents → Contents → Type 0) (so : Option (List Standing) → Option (List Standing) → Type 0) (old new : Place) → ((c : Contents) → IsFitSite site c)
@@ -132,6 +152,9 @@ fit-may_make regions name c o h (inr made) = subst IsFitContents (sym made) (fit
 pub fit-maps_some : (region : Name) (text : List ℕ) (old : Place) → IsFitPlace old → IsTrue old.told → (c o : Contents) → Among old.outcomes c → MayMap region text c o → IsFitContents o × IsNamedSo old.site o
 fit-maps_some region text old h t c o a m =
     (fit-may_map region text c o (h.outcomes t c a) m, named-same old.site c o (name-may_map region text c o m) (h.named t c a))
+
+pub fit-marks_some : (old : Place) → IsFitPlace old → IsTrue old.told → (c o : Contents) → Among old.outcomes c → MayMark c o → IsFitContents o × IsNamedSo old.site o
+fit-marks_some old h t c o a m = (fit-may_mark c o (h.outcomes t c a) m, named-same old.site c o (name-may_mark c o m) (h.named t c a))
 
 -- ATTACH and CRASH
 

@@ -5,22 +5,24 @@ use Rattle.std.specs.List.{list_all}
 use Rattle.global_defs.specs.Jobs.{Job}
 use Rattle.global_defs.specs.Serial.{Turn}
 use Rattle.global_defs.specs.Entry.{Stamp}
-use Rattle.command_defs.specs.Commands.{Name, Region, Command, Create, Attach, Map, StartPrimary, Run, Stop, Fuse, Crash, Extract, Zwrite, Show, Print, IsFormed}
+use Rattle.command_defs.specs.Commands.{Name, Region, Command, Create, Attach, Map, StartPrimary, Run, Stop, Epoch, Fuse, Crash, Extract, Zwrite, Show, Print, IsFormed}
 use Rattle.command_defs.specs.Updaters.{is_updater}
 use Rattle.site_defs.specs.Contents.{Contents, Standing}
 use Rattle.site_defs.specs.Fronts.{turn_of}
 use Rattle.site_defs.specs.Lists.{Among, Along}
+use Rattle.site_defs.specs.Epochs.{marked, MayMark, MayMarkLeft}
 use Rattle.site_defs.specs.Opening.{MayBegin, MayMap}
 use Rattle.world_defs.specs.World.{Down, Place, World, is_free, name_on, place_of}
 use Rattle.world_defs.specs.Answers.{Cause, Exists, Refusal, Section, Answer, Done, Refused, DiskFault, NotAFile, Ran, Typed}
-use Rattle.world_defs.specs.Changes.{Fails, Becomes}
-use Rattle.world_defs.specs.Row.{first, refused_with, or_else, in_state, why_not_down, refusal_in}
+use Rattle.world_defs.specs.Changes.{Stays, Fails, Becomes}
+use Rattle.world_defs.specs.Row.{writing, first, refused_with, or_else, in_state, why_not_down, refusal_in}
 use Rattle.world_defs.specs.Meaning.{apart, Acts, refusing, on_next, row_at}
 use Rattle.world_defs.specs.rows.{target, meaning}
 use Rattle.world_defs.specs.Step.{Step, CutOff}
 use Rattle.world_defs.specs.rows.Attach.{ATTACHING, attach}
 use Rattle.world_defs.specs.rows.Crash.{Crashes}
 use Rattle.world_defs.specs.rows.Create.{MayMake, create}
+use Rattle.world_defs.specs.rows.Extract.{extract}
 use Rattle.world_defs.specs.rows.Map.{map_pattern}
 use Rattle.world_defs.specs.rows.Print.{print}
 use Rattle.world_defs.specs.rows.Run.{RunsTo, one_further, run}
@@ -29,11 +31,11 @@ use Rattle.world_defs.specs.Fit.{IsFitContents, IsFitPlace}
 use Rattle.world_laws.specs.Settled.{IsOpenSite}
 use Rattle.world_laws.specs.Entries.{KeepsEntries}
 use Rattle.world_laws.specs.Faults.{IsFault}
-use Rattle.world_laws.proofs.PlacesFit.{fit-stops, fit-creates, fit-maps, fit-none_fails, fit-may_make, fit-maps_some, fit-attaches, fit-crashes}
+use Rattle.world_laws.proofs.PlacesFit.{fit-creates, fit-maps, fit-marks, fit-stops_marked, fit-none_fails, fit-may_make, fit-maps_some, fit-marks_some, fit-attaches, fit-crashes}
 use Rattle.world_laws.proofs.ReignsFit.{fit-starts, fit-begins_some, fit-refused}
 use Rattle.world_laws.proofs.SectionsFit.{fit-runs, fit-run_left}
 use Rattle.world_laws.proofs.Opens.{open-closed, open-failed, open-down}
-use Rattle.world_laws.proofs.EntriesStay.{HasAt, entries-becomes, entries-crash, entries-ran, free-keeps, same-map, same-begin}
+use Rattle.world_laws.proofs.EntriesStay.{HasAt, entries-stays, entries-becomes, entries-crash, entries-ran, free-keeps, same-map, same-begin, same-mark}
 use Rattle.world_laws.proofs.Counts.{later}
 use Rattle.world_laws.proofs.Lasts.{Lasts, Leaves, CutsOff, lasts-kept, lasts-changed, lasts-stays, quietly, risen, site-fails, read-fails, cut-left, cut-old}
 use Rattle.world_laws.proofs.Laws.{RowLaws, Holds, TargetLaws, quiet_laws, laws_there, next_laws, target_laws, goes_holds, cut_holds}
@@ -113,6 +115,18 @@ module _ (F : Type 0) where
     left = λ q l. cut-left F _ _ p q (λ f h t c o a m. fit-run_left p.site jobs order p o refl (updaters f) h t m) l;
   }
 
+  extract-laws : (from : Option ℕ) (p : Place) → RowLaws F p (row_at (extract from) p)
+  extract-laws from p = record {
+    done = λ q none d. absurd d;
+    ran = λ s q d. absurd d;
+    typed = λ text q d. quietly F (Typed text) p q (λ t. t) (lasts-kept F p q d.kept);
+    fault = λ k q d. absurd d;
+    damage = λ file offset q d. absurd d;
+    refused = λ r q d. quietly F (Refused r) p q (λ t. t) (lasts-kept F p q d);
+    may_refuse = λ r q d. absurd d;
+    left = λ q l. cut-old F p q l;
+  }
+
   print-laws : (g : ℕ) (p : Place) → RowLaws F p (row_at (print g) p)
   print-laws g p = record {
     done = λ q none d. absurd d;
@@ -160,8 +174,26 @@ module _ (F : Type 0) where
     left = λ q l. cut-old F p q l;
   }
 
-  stop-lasts : (p q : Place) → Becomes Down p.now p q → Lasts F p q
-  stop-lasts p q d = lasts-stays F _ _ p q (λ f h. fit-stops p.now p q (λ t. (h.now t, h.named_now t)) d) (entries-becomes _ _ p q (λ name n e h t. h.now t) d) d
+  -- rows that take an epoch
+
+  mark-laws : (name : Name) (early : Option Refusal) (done : Place → Type 0) (says : Place → List ℕ) (p : Place) → ((q : Place) → done q → Lasts F p q)
+      → RowLaws F p (record (writing name MayMark MayMarkLeft p) { early = early; damage = λ file offset q. ⊥; done = done; says = says })
+  mark-laws name early done says p f = record {
+    done = λ q none d. quietly F Done p q (λ t. t) (f q d);
+    ran = λ s q d. absurd d;
+    typed = λ text q d. absurd d;
+    fault = λ k q d. site-fails F k MayMark _ p q (fit-marks_some p) same-mark d;
+    damage = λ file offset q d. absurd d;
+    refused = λ r q d. quietly F (Refused r) p q (λ t. t) (lasts-kept F p q d);
+    may_refuse = λ r q d. absurd d;
+    left = λ q l. cut-left F MayMark _ p q (λ f h t c o a m. (fit-marks_some p h t c o a m).0) l;
+  }
+
+  stop-lasts : (p q : Place) → Becomes Down (marked p.now) p q → Lasts F p q
+  stop-lasts p q d = lasts-stays F _ _ p q (λ f h. fit-stops_marked p q h d) (entries-becomes _ _ p q (λ name n e h t. h.now t) d) d
+
+  epoch-lasts : (p q : Place) → Stays p.site (marked p.now) p q → Lasts F p q
+  epoch-lasts p q d = lasts-stays F _ _ p q (λ f h. fit-marks p q h d) (entries-stays p.site _ p q (λ name h. h) (λ name n e h t. h.now t) d) d
 
   crash-lasts : (p q : Place) → Crashes p q → Lasts F p q
   crash-lasts p q d = record { fit = λ f h. fit-crashes p q h d; while_open = open-down p q d.site; entries = entries-crash p q d; later = later p q d.faults }
@@ -175,10 +207,11 @@ command-laws Attach = λ w. next_laws _ ATTACHING w (attach w) (attach-laws _ w)
 command-laws (Map name region text) = map-laws _ region text
 command-laws (StartPrimary name) = start-laws _
 command-laws (Run name jobs order) = λ p. run-laws _ jobs order p (λ formed. formed.2)
-command-laws (Stop name) = λ p. quiet_laws _ _ _ _ _ p (λ q d. stop-lasts _ p q d)
+command-laws (Stop name) = λ p. mark-laws _ _ _ _ _ p (λ q d. stop-lasts _ p q d)
+command-laws (Epoch name) = λ p. mark-laws _ _ _ _ _ p (λ q d. epoch-lasts _ p q d)
 command-laws (Fuse name calls) = λ p. quiet_laws _ _ _ _ _ p (λ q d. lasts-kept _ p q d)
 command-laws (Crash name pick) = λ p. quiet_laws _ _ _ _ _ p (λ q d. crash-lasts _ p q d)
-command-laws (Extract name from) = λ p. quiet_laws _ _ _ _ _ p (λ q d. lasts-kept _ p q d)
+command-laws (Extract name from) = extract-laws _ from
 command-laws (Zwrite name top) = λ p. quiet_laws _ _ _ _ _ p (λ q d. lasts-kept _ p q d)
 command-laws (Show name) = λ p. quiet_laws _ _ _ _ _ p (λ q d. lasts-kept _ p q d)
 command-laws (Print name lost g) = print-laws _ g

@@ -15,7 +15,7 @@ use Rattle.journal_laws.proofs.Readings.{holds_one, instance_body, records_one}
 use Rattle.journal_laws.proofs.Runs as runs
 use Rattle.site_defs.specs.Contents.{Contents, Leftover, NO_LEFTOVER}
 use Rattle.site_defs.specs.Opening.{IsBehind}
-use Rattle.site_defs.specs.Stands.{start_in, IsBlank, texts_of, IsSite, HasLeft, Stands, Reads}
+use Rattle.site_defs.specs.Stands.{start_in, epoch_in, IsBlank, texts_of, IsSite, HasLeft, Stands, Reads}
 
 -- what is behind the sequence
 
@@ -90,7 +90,7 @@ left_unbegun f c h none = record {
 -- files stand for one thing
 
 sites_one : (f : Files) (c o : Contents) → IsSite f c → IsSite f o → c ≡ o
-sites_one f c o h k = λ i. record { instance = instance i; starts = fun_ext starts i; texts = texts i; sequence = sequence i }
+sites_one f c o h k = λ i. record { instance = instance i; starts = fun_ext starts i; epochs = fun_ext epochs i; texts = texts i; sequence = sequence i }
   where
     same : h.records ≡ k.records
     same = records_one f h.records k.records h.image.held k.image.held
@@ -100,6 +100,9 @@ sites_one f c o h k = λ i. record { instance = instance i; starts = fun_ext sta
 
     starts : (r : ℕ) → c.starts r ≡ o.starts r
     starts r = h.starts r ∙ ap (λ (s : Records). filter_map (λ p. start_in p.what) (s.journal r)) same ∙ sym (k.starts r)
+
+    epochs : (r : ℕ) → c.epochs r ≡ o.epochs r
+    epochs r = h.epochs r ∙ ap (λ (s : Records). filter_map (λ p. epoch_in p.generation p.what) (s.journal r)) same ∙ sym (k.epochs r)
 
     texts : c.texts ≡ o.texts
     texts = h.texts ∙ ap (λ (rs : List InstanceRecord). texts_of f (generation rs)) instance ∙ sym k.texts

@@ -5,6 +5,7 @@
 #![tactic(auto)]
 
 pub mod beginnings;
+pub mod epochs;
 pub mod fitness;
 pub mod leftovers;
 pub mod settling;

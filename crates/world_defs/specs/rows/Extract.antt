@@ -1,13 +1,21 @@
--- EXTRACT: the entries from that number on.
-use Rattle.std.specs.Prelude.{ℕ, Option}
+-- EXTRACT: the entries from that number on, as the journals have them.
+use Rattle.std.specs.Prelude.{◌≡◌, ℕ, List, length, Option}
+use Rattle.global_defs.specs.Entry.{Sequence}
 use Rattle.command_defs.specs.Commands.{Name}
 use Rattle.site_defs.specs.Texts.{extract_from}
-use Rattle.world_defs.specs.World.{Place, Kept}
+use Rattle.world_defs.specs.World.{Place, IfKnown, Kept}
 use Rattle.world_defs.specs.Row.{Row, quiet, refused_with, in_state, why_not_open}
+
+-- The text is that of as many entries as the site has, and of the site's where its files are known.
+pub record Extracts (name : Name) (from : Option ℕ) (text : List ℕ) (old new : Place) : Type 0 where
+  pub entries : Sequence
+  pub count : length entries ≡ length old.now.sequence
+  pub told : IfKnown old (entries ≡ old.now.sequence)
+  pub shows : text ≡ extract_from name from entries
+  pub kept : Kept old new
 
 abbrev pub extract : (from : Option ℕ) → Name → Place → Row
 extract from name p = record (quiet name p) {
   early = refused_with name (in_state why_not_open p.site);
-  done = λ q. Kept p q;
-  says = λ q. extract_from name from p.now.sequence;
+  typed = λ text q. Extracts name from text p q;
 }

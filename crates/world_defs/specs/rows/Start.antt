@@ -11,7 +11,7 @@ use Rattle.journal_defs.specs.Sequence.{Records}
 use Rattle.command_defs.specs.Commands.{Name}
 use Rattle.site_defs.specs.Contents.{Contents}
 use Rattle.site_defs.specs.Limits.{LAST_GENERATION, no_generation_left, no_reign_left}
-use Rattle.site_defs.specs.Outside.{IsOutsideSite}
+use Rattle.site_defs.specs.OutsideBlocks.{IsOutsideOpening}
 use Rattle.site_defs.specs.Opening.{MayBegin, MayBeginLeft, next_stamp, opened, with_reign}
 use Rattle.world_defs.specs.World.{State, Down, Primary, Failed, Site, Place, IfKnown, IfShown, Kept}
 use Rattle.world_defs.specs.Answers.{Cause, GenLimit, ReignLimit, line}
@@ -39,8 +39,8 @@ pub record StartsPrimary (name : Name) (old new : Place) : Type 0 where
   pub broken : List ℕ
   pub as_before : IfKnown old (read ≡ old.now)
   pub as_left : IfKnown old (broken ≡ old.left.broken)
-  -- the bytes stand for what was read
-  pub bytes : IfShown old (BySequence (λ u seq. (read.instance ≡ u.instance) × (read.sequence ≡ seq)))
+  -- the bytes stand for these records of the instance file, and for a sequence of that length
+  pub bytes : IfShown old (BySequence (λ u seq. (read.instance ≡ u.instance) × (length read.sequence ≡ length seq)))
   pub becomes : Becomes (Primary (next_stamp name read) FIRST_SERIALS) (with_reign name (opened broken read)) old new
 
 abbrev pub is_reign_limit : Cause → Bool
@@ -64,7 +64,7 @@ cycle_on (Some site) = cycle_in site.state
 
 -- what such records and such a sequence have of a site
 abbrev pub read_so : Records → Sequence → Contents
-read_so u seq = record { instance = u.instance; starts = λ r. []; texts = []; sequence = seq }
+read_so u seq = record { instance = u.instance; starts = λ r. []; epochs = λ r. []; texts = []; sequence = seq }
 
 -- the bytes are of that site, and past no limit
 abbrev pub StartedBy : Name → Files → Type 0
@@ -78,7 +78,7 @@ LimitedBy cause files = Unit {0}
 
 -- the site can't be opened, by what stands at this place, or was opened as another one
 abbrev pub IsUnopened : Name → ℕ → ℕ → Files → Type 0
-IsUnopened name file offset files = IsOutsideSite files file offset ⊎ IsOfAnother name file offset files
+IsUnopened name file offset files = IsOutsideOpening files file offset ⊎ IsOfAnother name file offset files
 
 -- what an opening that is refused leaves where nothing is known: past the limit of reigns a generation was drawn
 abbrev pub StartMayRefuse : Cause → Place → Place → Type 0

@@ -13,8 +13,7 @@ returns-clause-sequence c =
     let seq = map (λ (e : ℕ × defs.Entry). e.1) c.in_ok-recover.field-0 in
     let items = λ (j : Vec PlacedRecord Global). j.items in
     let values : seq ≡ map entry_value c.into_items-entries.result.items = ap (map (λ (e : ℕ × defs.Entry). e.1)) (sym c.into_items-entries.ensures) ∙ values_of c.into_items-entries.result.items in
-    subst (IsSequence (site_records c.args.log.now.records (map items c.args.journals.items))) values
-    (subst (λ (l : List (Vec PlacedRecord Global)). IsSequence (site_records c.args.log.now.records (map items l)) seq) c.as_slice-lists.ensures.value c.in_ok-recover.ensures.sequence)
+    subst (IsSequence (site_records c.args.log.now.records (map items c.args.journals.now))) values c.in_ok-recover.ensures.sequence
 
 pub returns-clause-numbered : goal.returns-clause-numbered
 returns-clause-numbered c =

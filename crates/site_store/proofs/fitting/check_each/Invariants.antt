@@ -3,10 +3,11 @@ use Rattle.std.specs.FinMap.{len}
 use Rattle.global_defs.specs.Entry.{apply}
 use Rattle.global_defs.specs.Evaluation.{MOST_NODES}
 use Rattle.gvn_key.specs.Terms.{update_value}
+use Rattle.site_regions.specs.Joined.{joined}
 use Rattle.site_store.proofs.fitting.check_each.Given as goal
 
 abbrev pub invariant-loop-update : goal.invariant-loop-update
 invariant-loop-update l = record {
-  made : l.overlay ≡ fold apply l.fn.globals (map update_value (take l.update-index l.update-items));
-  fits : (k : ℕ) → 1 ≤ k → k ≤ l.update-index → len (fold apply l.fn.globals (map update_value (take k l.update-items))) ≤ MOST_NODES;
+  made : l.overlay ≡ fold apply (joined l.fn.globals) (map update_value (take l.update-index l.update-items));
+  fits : (k : ℕ) → 1 ≤ k → k ≤ l.update-index → len (fold apply (joined l.fn.globals) (map update_value (take k l.update-items))) ≤ MOST_NODES;
 }

@@ -51,7 +51,7 @@ said (Refused r) q t (inl h, e, b) = e ∙ ap refusal_line (sym (same r h.0)) �
     same : (r : Refusal) → Some (record { site = codes "A"; cause = Stopped 3 }) ≡ Some r → record { site = codes "A"; cause = Stopped 3 } ≡ r
     same r e = cc e
 said (Refused r) q t (inr h, e, b) = absurd h.1
-said (DiskFault k) q t h = absurd h.1
+said (DiskFault k) q t h = absurd (cc h.0)
 said (NotAFile file offset) q t h = absurd h.1
 said (Ran s) q t h = absurd h.1
 said (Typed text) q t h = absurd h.1

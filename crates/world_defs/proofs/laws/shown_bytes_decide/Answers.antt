@@ -60,14 +60,14 @@ abbrev bytes : List ℕ
 bytes = 1 ∷ 0 ∷ 0 ∷ 0 ∷ 1 ∷ 9 ∷ 1 ∷ 0 ∷ []
 
 pub returns-clause-place : goal.returns-clause-place
-returns-clause-place c = inl (inl (inl (
+returns-clause-place c = inl (inl (inl (inl (
   refl,
   inl (record {
     bodies = (9 ∷ []) ∷ [];
     leads = record { front = refl; all = (record { not_empty = omega arith; not_long = omega arith }, tt); inside = omega arith };
     here = refl;
   }),
-)))
+))))
 
 no_instance : (rs : List InstanceRecord) → IsInstance bytes rs → ⊥
 no_instance rs is = absurd (cc is.bodies.1)
@@ -78,10 +78,11 @@ not_outside (inr (inl w)) = absurd (cc w.list)
 not_outside (inr (inr w)) = absurd (cc w.list)
 
 opens : IsUnopened (codes "A") 0 0 (λ f. bytes) → ⊥
-opens (inl (inl (inl n))) = not_outside n.1
-opens (inl (inl (inr (inl n)))) = no_instance n.0 n.1
-opens (inl (inl (inr (inr n)))) = no_instance n.0 n.1
-opens (inl (inr n)) = no_instance n.0 n.1
+opens (inl (inl (inl (inl n)))) = not_outside n.1
+opens (inl (inl (inl (inr (inl n))))) = no_instance n.0 n.1
+opens (inl (inl (inl (inr (inr n))))) = no_instance n.0 n.1
+opens (inl (inl (inr n))) = no_instance n.0 n.1
+opens (inl (inr n)) = no_instance n.records.instance n.held.instance
 opens (inr n) = no_instance n.2.0 n.2.1
 
 pub returns-clause-not_before : goal.returns-clause-not_before

@@ -8,6 +8,7 @@ use Rattle.repl_section.specs.Deciding.{outcome}
 use Rattle.repl_section.proofs.Replied.{still_may_have, still_leaves}
 use Rattle.repl_section.proofs.Settled.{quiet_or_appends, not_both, named_appends, settled, stands_quietly, settled_may_have, settled_leaves}
 use Rattle.repl_section.proofs.reign.Reign.settle.Goals as goal
+use Rattle.site_regions.specs.Joined.{joined}
 
 pub returns-in_err-decision-clause-may_have : goal.returns-in_err-decision-clause-may_have
 returns-in_err-decision-clause-may_have g c x r = still_may_have (g.D.Disk.disk c.decide.new.disk) x _ (c.decide.ensures.stands x (length x.sequence) r)
@@ -24,8 +25,8 @@ pub returns-in_err-harden_for-clause-appends : goal.returns-in_err-harden_for-cl
 returns-in_err-harden_for-clause-appends g c failed told x r =
     let mid = g.D.Disk.disk c.decide.new.disk in
     let w = g.D.Disk.disk c.harden_for.new.disk in
-    let t = outcome (stamp_of c.args.self.now) c.args.self.now.serials x.sequence c.args.updater (eval (job_value c.args.job) c.args.self.now.site.globals) in
-    let either = quiet_or_appends (stamp_of c.args.self.now) c.args.self.now.serials x.sequence c.args.updater (eval (job_value c.args.job) c.args.self.now.site.globals) in
+    let t = outcome (stamp_of c.args.self.now) c.args.self.now.serials x.sequence c.args.updater (eval (job_value c.args.job) (joined c.args.self.now.site.globals)) in
+    let either = quiet_or_appends (stamp_of c.args.self.now) c.args.self.now.serials x.sequence c.args.updater (eval (job_value c.args.job) (joined c.args.self.now.site.globals)) in
     let d = c.in_ok-decision.decision in
     let comes = c.in_ok-decision.ensures.done told x (length x.sequence) r in
     named_appends x.sequence t d either comes.reply c.in_err-harden_for.ensures.waited
@@ -34,8 +35,8 @@ pub returns-in_err-harden_for-clause-may_have : goal.returns-in_err-harden_for-c
 returns-in_err-harden_for-clause-may_have g c x r =
     let mid = g.D.Disk.disk c.decide.new.disk in
     let w = g.D.Disk.disk c.harden_for.new.disk in
-    let t = outcome (stamp_of c.args.self.now) c.args.self.now.serials x.sequence c.args.updater (eval (job_value c.args.job) c.args.self.now.site.globals) in
-    let either = quiet_or_appends (stamp_of c.args.self.now) c.args.self.now.serials x.sequence c.args.updater (eval (job_value c.args.job) c.args.self.now.site.globals) in
+    let t = outcome (stamp_of c.args.self.now) c.args.self.now.serials x.sequence c.args.updater (eval (job_value c.args.job) (joined c.args.self.now.site.globals)) in
+    let either = quiet_or_appends (stamp_of c.args.self.now) c.args.self.now.serials x.sequence c.args.updater (eval (job_value c.args.job) (joined c.args.self.now.site.globals)) in
     let d = c.in_ok-decision.decision in
     let comes = c.in_ok-decision.ensures.done true x (length x.sequence) r in
     settled_may_have w x t d either comes.reply (c.harden_for.ensures.still_told (c.decide.ensures.stands x (length x.sequence) r).told)
@@ -46,8 +47,8 @@ pub returns-in_err-harden_for-clause-leaves : goal.returns-in_err-harden_for-cla
 returns-in_err-harden_for-clause-leaves g c x r =
     let mid = g.D.Disk.disk c.decide.new.disk in
     let w = g.D.Disk.disk c.harden_for.new.disk in
-    let t = outcome (stamp_of c.args.self.now) c.args.self.now.serials x.sequence c.args.updater (eval (job_value c.args.job) c.args.self.now.site.globals) in
-    let either = quiet_or_appends (stamp_of c.args.self.now) c.args.self.now.serials x.sequence c.args.updater (eval (job_value c.args.job) c.args.self.now.site.globals) in
+    let t = outcome (stamp_of c.args.self.now) c.args.self.now.serials x.sequence c.args.updater (eval (job_value c.args.job) (joined c.args.self.now.site.globals)) in
+    let either = quiet_or_appends (stamp_of c.args.self.now) c.args.self.now.serials x.sequence c.args.updater (eval (job_value c.args.job) (joined c.args.self.now.site.globals)) in
     let d = c.in_ok-decision.decision in
     let comes = c.in_ok-decision.ensures.done true x (length x.sequence) r in
     settled_leaves w x t d either comes.reply (λ some. c.harden_for.ensures.left some (with_sequence x t.sequence) (length x.sequence) comes.open_site)
@@ -57,8 +58,8 @@ pub returns-in_err-release-clause-may_have : goal.returns-in_err-release-clause-
 returns-in_err-release-clause-may_have g c x r =
     let mid = g.D.Disk.disk c.decide.new.disk in
     let w = g.D.Disk.disk c.harden_for.new.disk in
-    let t = outcome (stamp_of c.args.self.now) c.args.self.now.serials x.sequence c.args.updater (eval (job_value c.args.job) c.args.self.now.site.globals) in
-    let either = quiet_or_appends (stamp_of c.args.self.now) c.args.self.now.serials x.sequence c.args.updater (eval (job_value c.args.job) c.args.self.now.site.globals) in
+    let t = outcome (stamp_of c.args.self.now) c.args.self.now.serials x.sequence c.args.updater (eval (job_value c.args.job) (joined c.args.self.now.site.globals)) in
+    let either = quiet_or_appends (stamp_of c.args.self.now) c.args.self.now.serials x.sequence c.args.updater (eval (job_value c.args.job) (joined c.args.self.now.site.globals)) in
     let d = c.in_ok-decision.decision in
     let comes = c.in_ok-decision.ensures.done true x (length x.sequence) r in
     settled_may_have w x t d either comes.reply (c.harden_for.ensures.still_told (c.decide.ensures.stands x (length x.sequence) r).told)
@@ -69,8 +70,8 @@ pub returns-in_err-release-clause-leaves : goal.returns-in_err-release-clause-le
 returns-in_err-release-clause-leaves g c x r =
     let mid = g.D.Disk.disk c.decide.new.disk in
     let w = g.D.Disk.disk c.harden_for.new.disk in
-    let t = outcome (stamp_of c.args.self.now) c.args.self.now.serials x.sequence c.args.updater (eval (job_value c.args.job) c.args.self.now.site.globals) in
-    let either = quiet_or_appends (stamp_of c.args.self.now) c.args.self.now.serials x.sequence c.args.updater (eval (job_value c.args.job) c.args.self.now.site.globals) in
+    let t = outcome (stamp_of c.args.self.now) c.args.self.now.serials x.sequence c.args.updater (eval (job_value c.args.job) (joined c.args.self.now.site.globals)) in
+    let either = quiet_or_appends (stamp_of c.args.self.now) c.args.self.now.serials x.sequence c.args.updater (eval (job_value c.args.job) (joined c.args.self.now.site.globals)) in
     let d = c.in_ok-decision.decision in
     let comes = c.in_ok-decision.ensures.done true x (length x.sequence) r in
     settled_leaves w x t d either comes.reply (λ some. c.harden_for.ensures.left some (with_sequence x t.sequence) (length x.sequence) comes.open_site)
@@ -80,8 +81,8 @@ pub returns-clause-may_have : goal.returns-clause-may_have
 returns-clause-may_have g c x r =
     let mid = g.D.Disk.disk c.decide.new.disk in
     let w = g.D.Disk.disk c.harden_for.new.disk in
-    let t = outcome (stamp_of c.args.self.now) c.args.self.now.serials x.sequence c.args.updater (eval (job_value c.args.job) c.args.self.now.site.globals) in
-    let either = quiet_or_appends (stamp_of c.args.self.now) c.args.self.now.serials x.sequence c.args.updater (eval (job_value c.args.job) c.args.self.now.site.globals) in
+    let t = outcome (stamp_of c.args.self.now) c.args.self.now.serials x.sequence c.args.updater (eval (job_value c.args.job) (joined c.args.self.now.site.globals)) in
+    let either = quiet_or_appends (stamp_of c.args.self.now) c.args.self.now.serials x.sequence c.args.updater (eval (job_value c.args.job) (joined c.args.self.now.site.globals)) in
     let d = c.in_ok-decision.decision in
     let comes = c.in_ok-decision.ensures.done true x (length x.sequence) r in
     settled_may_have w x t d either comes.reply (c.harden_for.ensures.still_told (c.decide.ensures.stands x (length x.sequence) r).told)
@@ -92,8 +93,8 @@ pub returns-clause-leaves : goal.returns-clause-leaves
 returns-clause-leaves g c x r =
     let mid = g.D.Disk.disk c.decide.new.disk in
     let w = g.D.Disk.disk c.harden_for.new.disk in
-    let t = outcome (stamp_of c.args.self.now) c.args.self.now.serials x.sequence c.args.updater (eval (job_value c.args.job) c.args.self.now.site.globals) in
-    let either = quiet_or_appends (stamp_of c.args.self.now) c.args.self.now.serials x.sequence c.args.updater (eval (job_value c.args.job) c.args.self.now.site.globals) in
+    let t = outcome (stamp_of c.args.self.now) c.args.self.now.serials x.sequence c.args.updater (eval (job_value c.args.job) (joined c.args.self.now.site.globals)) in
+    let either = quiet_or_appends (stamp_of c.args.self.now) c.args.self.now.serials x.sequence c.args.updater (eval (job_value c.args.job) (joined c.args.self.now.site.globals)) in
     let d = c.in_ok-decision.decision in
     let comes = c.in_ok-decision.ensures.done true x (length x.sequence) r in
     settled_leaves w x t d either comes.reply (λ some. c.harden_for.ensures.left some (with_sequence x t.sequence) (length x.sequence) comes.open_site)
@@ -103,8 +104,8 @@ pub returns-clause-done : goal.returns-clause-done
 returns-clause-done g c told x r =
     let mid = g.D.Disk.disk c.decide.new.disk in
     let w = g.D.Disk.disk c.harden_for.new.disk in
-    let t = outcome (stamp_of c.args.self.now) c.args.self.now.serials x.sequence c.args.updater (eval (job_value c.args.job) c.args.self.now.site.globals) in
-    let either = quiet_or_appends (stamp_of c.args.self.now) c.args.self.now.serials x.sequence c.args.updater (eval (job_value c.args.job) c.args.self.now.site.globals) in
+    let t = outcome (stamp_of c.args.self.now) c.args.self.now.serials x.sequence c.args.updater (eval (job_value c.args.job) (joined c.args.self.now.site.globals)) in
+    let either = quiet_or_appends (stamp_of c.args.self.now) c.args.self.now.serials x.sequence c.args.updater (eval (job_value c.args.job) (joined c.args.self.now.site.globals)) in
     let d = c.in_ok-decision.decision in
     let comes = c.in_ok-decision.ensures.done told x (length x.sequence) r in
     settled mid w told x t d c.decide.new.self c.harden_for.new.self (g.S.ReplySink.gave c.args.sink.now c.release.new.sink) either comes

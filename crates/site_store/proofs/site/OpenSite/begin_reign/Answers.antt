@@ -35,7 +35,7 @@ returns-in-Ok-clause-stands g c x o =
 
 pub returns-in-Ok-clause-ready : goal.returns-in-Ok-clause-ready
 returns-in-Ok-clause-ready g c =
-    reigning.ready_begun (g.D.Disk.disk c.args.disk.now) (g.D.Disk.disk c.reign.new.disk) c.args.self.now _ (reign_value c.args.reign.now) c.requires.ready c.requires.opened.created c.in-Ok.ensures.ready c.in-Ok.ensures.records refl refl c.reign.ensures.frame
+    reigning.ready_begun (g.D.Disk.disk c.args.disk.now) (g.D.Disk.disk c.reign.new.disk) c.args.self.now _ (reign_value c.args.reign.now) c.requires.ready c.requires.opened.created c.in-Ok.ensures.ready c.in-Ok.ensures.records refl refl c.reign.ensures.frame refl refl
 
 pub returns-in-Ok-clause-begun : goal.returns-in-Ok-clause-begun
 returns-in-Ok-clause-begun g c told x o =
@@ -48,7 +48,7 @@ returns-in-Ok-clause-reign g c =
 
 pub returns-in-Err-NoMemory-clause-goes_on : goal.returns-in-Err-NoMemory-clause-goes_on
 returns-in-Err-NoMemory-clause-goes_on g c is =
-    reigning.ready_kept (g.D.Disk.disk c.args.disk.now) (g.D.Disk.disk c.reign.new.disk) c.args.self.now _ c.requires.ready (c.reign.ensures.no_memory_ready (c.in-Err-NoMemory.is ∙ ap Err c.in-Err-NoMemory.field-0-is)) c.in-Err-NoMemory.ensures.kept refl refl c.reign.ensures.frame
+    reigning.ready_kept (g.D.Disk.disk c.args.disk.now) (g.D.Disk.disk c.reign.new.disk) c.args.self.now _ c.requires.ready (c.reign.ensures.no_memory_ready (c.in-Err-NoMemory.is ∙ ap Err c.in-Err-NoMemory.field-0-is)) c.in-Err-NoMemory.ensures.kept refl refl c.reign.ensures.frame refl refl
 
 pub returns-in-Err-NoMemory-clause-again : goal.returns-in-Err-NoMemory-clause-again
 returns-in-Err-NoMemory-clause-again g c is = reigning.opened_kept c.args.self.now _ c.requires.opened c.in-Err-NoMemory.ensures.kept refl refl refl

@@ -1,6 +1,7 @@
 use Rattle.std.proofs.Common.{refl, ◌∙◌}
 use Rattle.gvn_model.specs.Entries.{transaction_value}
 use Rattle.journal_defs.specs.Instance.{generation}
+use Rattle.site_regions.proofs.Making.{changed_none}
 use Rattle.site_store.proofs.Committed as committed
 use Rattle.site_store.proofs.Standing.{still}
 use Rattle.site_store.proofs.site.OpenSite.commit_owned.Goals as goal
@@ -8,24 +9,24 @@ use Rattle.site_store.proofs.site.OpenSite.commit_owned.Goals as goal
 pub returns-clause-any_moment : goal.returns-clause-any_moment
 returns-clause-any_moment g c y h o =
     committed.commit_moments (g.D.Disk.disk c.args.disk.now) (g.D.Disk.disk c.prepare.new.disk) (g.D.Disk.disk c.append.new.disk) y h c.args.self.now c.prepare.new.self (g.met.D.Disk.lawful c.prepare.new.disk)
-    (record { ready = c.requires.ready; ready_after = c.prepare.ensures.ready; state = c.prepare.ensures.state; same = c.prepare.ensures.same; moments = c.prepare.ensures.any_moment; stays = c.prepare.ensures.frame }) c.append.ensures.any_moment o
+    (record { ready = c.requires.ready; ready_after = c.prepare.ensures.ready; state = c.prepare.ensures.state; same = c.prepare.ensures.same; changed = c.prepare.ensures.changed; moments = c.prepare.ensures.any_moment; stays = c.prepare.ensures.frame }) c.append.ensures.any_moment o
 
 pub returns-clause-stands : goal.returns-clause-stands
 returns-clause-stands g c y h o =
     committed.commit_stands (g.D.Disk.disk c.args.disk.now) (g.D.Disk.disk c.append.new.disk) y h (g.met.D.Disk.lawful c.append.new.disk)
     (committed.commit_moments (g.D.Disk.disk c.args.disk.now) (g.D.Disk.disk c.prepare.new.disk) (g.D.Disk.disk c.append.new.disk) y h c.args.self.now c.prepare.new.self (g.met.D.Disk.lawful c.prepare.new.disk)
-    (record { ready = c.requires.ready; ready_after = c.prepare.ensures.ready; state = c.prepare.ensures.state; same = c.prepare.ensures.same; moments = c.prepare.ensures.any_moment; stays = c.prepare.ensures.frame }) c.append.ensures.any_moment o)
+    (record { ready = c.requires.ready; ready_after = c.prepare.ensures.ready; state = c.prepare.ensures.state; same = c.prepare.ensures.same; changed = c.prepare.ensures.changed; moments = c.prepare.ensures.any_moment; stays = c.prepare.ensures.frame }) c.append.ensures.any_moment o)
 
 pub returns-in-Ok-clause-any_moment : goal.returns-in-Ok-clause-any_moment
 returns-in-Ok-clause-any_moment g c y h o =
     committed.commit_moments (g.D.Disk.disk c.args.disk.now) (g.D.Disk.disk c.prepare.new.disk) (g.D.Disk.disk c.append.new.disk) y h c.args.self.now c.prepare.new.self (g.met.D.Disk.lawful c.prepare.new.disk)
-    (record { ready = c.requires.ready; ready_after = c.prepare.ensures.ready; state = c.prepare.ensures.state; same = c.prepare.ensures.same; moments = c.prepare.ensures.any_moment; stays = c.prepare.ensures.frame }) c.append.ensures.any_moment o
+    (record { ready = c.requires.ready; ready_after = c.prepare.ensures.ready; state = c.prepare.ensures.state; same = c.prepare.ensures.same; changed = c.prepare.ensures.changed; moments = c.prepare.ensures.any_moment; stays = c.prepare.ensures.frame }) c.append.ensures.any_moment o
 
 pub returns-in-Ok-clause-stands : goal.returns-in-Ok-clause-stands
 returns-in-Ok-clause-stands g c y h o =
     committed.commit_stands (g.D.Disk.disk c.args.disk.now) (g.D.Disk.disk c.append.new.disk) y h (g.met.D.Disk.lawful c.append.new.disk)
     (committed.commit_moments (g.D.Disk.disk c.args.disk.now) (g.D.Disk.disk c.prepare.new.disk) (g.D.Disk.disk c.append.new.disk) y h c.args.self.now c.prepare.new.self (g.met.D.Disk.lawful c.prepare.new.disk)
-    (record { ready = c.requires.ready; ready_after = c.prepare.ensures.ready; state = c.prepare.ensures.state; same = c.prepare.ensures.same; moments = c.prepare.ensures.any_moment; stays = c.prepare.ensures.frame }) c.append.ensures.any_moment o)
+    (record { ready = c.requires.ready; ready_after = c.prepare.ensures.ready; state = c.prepare.ensures.state; same = c.prepare.ensures.same; changed = c.prepare.ensures.changed; moments = c.prepare.ensures.any_moment; stays = c.prepare.ensures.frame }) c.append.ensures.any_moment o)
 
 pub returns-in-Ok-clause-appended : goal.returns-in-Ok-clause-appended
 returns-in-Ok-clause-appended g c hard waiting keeps =
@@ -34,13 +35,13 @@ returns-in-Ok-clause-appended g c hard waiting keeps =
 
 pub returns-in-Ok-clause-ready : goal.returns-in-Ok-clause-ready
 returns-in-Ok-clause-ready g c =
-    committed.ready_after (g.D.Disk.disk c.prepare.new.disk) (g.D.Disk.disk c.append.new.disk) c.prepare.new.self _ c.prepare.ensures.ready c.in-Ok.ensures.ready c.append.ensures.count c.append.ensures.frame refl refl
+    committed.ready_after (g.D.Disk.disk c.prepare.new.disk) (g.D.Disk.disk c.append.new.disk) c.prepare.new.self _ c.prepare.ensures.ready c.in-Ok.ensures.ready c.append.ensures.count c.append.ensures.frame refl refl (changed_none _) c.prepare.ensures.ready.few
 
 pub returns-in-Ok-clause-done : goal.returns-in-Ok-clause-done
 returns-in-Ok-clause-done g c told y h o =
     committed.open_longer (g.D.Disk.disk c.args.disk.now) (g.D.Disk.disk c.prepare.new.disk) (g.D.Disk.disk c.append.new.disk) told y h c.args.self.now c.prepare.new.self _ c.args.t c.in_ok-parts.parts
     (record {
-      prepares = record { ready = c.requires.ready; ready_after = c.prepare.ensures.ready; state = c.prepare.ensures.state; same = c.prepare.ensures.same; moments = c.prepare.ensures.any_moment; stays = c.prepare.ensures.frame };
+      prepares = record { ready = c.requires.ready; ready_after = c.prepare.ensures.ready; state = c.prepare.ensures.state; same = c.prepare.ensures.same; changed = c.prepare.ensures.changed; moments = c.prepare.ensures.any_moment; stays = c.prepare.ensures.frame };
       enters = c.in_ok-parts.ensures.enters;
       are_parts = c.in_ok-parts.ensures.parts;
       reign = c.requires.reign;
@@ -60,7 +61,7 @@ returns-in-Ok-clause-done g c told y h o =
 pub returns-in_err-parts-clause-stays_open : goal.returns-in_err-parts-clause-stays_open
 returns-in_err-parts-clause-stays_open g c is told y h o =
     committed.open_prepared (g.D.Disk.disk c.args.disk.now) (g.D.Disk.disk c.prepare.new.disk) told y h c.args.self.now c.prepare.new.self
-    (record { ready = c.requires.ready; ready_after = c.prepare.ensures.ready; state = c.prepare.ensures.state; same = c.prepare.ensures.same; moments = c.prepare.ensures.any_moment; stays = c.prepare.ensures.frame }) c.in_err-parts.ensures.kept (g.met.D.Disk.lawful c.prepare.new.disk) o
+    (record { ready = c.requires.ready; ready_after = c.prepare.ensures.ready; state = c.prepare.ensures.state; same = c.prepare.ensures.same; changed = c.prepare.ensures.changed; moments = c.prepare.ensures.any_moment; stays = c.prepare.ensures.frame }) c.in_err-parts.ensures.kept (g.met.D.Disk.lawful c.prepare.new.disk) o
 
 pub returns-in-Ok-clause-still_told : goal.returns-in-Ok-clause-still_told
 returns-in-Ok-clause-still_told g c told =
@@ -81,12 +82,12 @@ returns-clause-simulated g c = (c.append.ensures.frame (generation c.prepare.new
 pub returns-clause-bare : goal.returns-clause-bare
 returns-clause-bare g c y h o =
     committed.commit_bare (g.D.Disk.disk c.args.disk.now) (g.D.Disk.disk c.prepare.new.disk) (g.D.Disk.disk c.append.new.disk) y h c.args.self.now c.prepare.new.self (g.met.D.Disk.lawful c.prepare.new.disk)
-    (record { ready = c.requires.ready; ready_after = c.prepare.ensures.ready; state = c.prepare.ensures.state; same = c.prepare.ensures.same; moments = c.prepare.ensures.any_moment; stays = c.prepare.ensures.frame }) c.append.ensures.any_moment o
+    (record { ready = c.requires.ready; ready_after = c.prepare.ensures.ready; state = c.prepare.ensures.state; same = c.prepare.ensures.same; changed = c.prepare.ensures.changed; moments = c.prepare.ensures.any_moment; stays = c.prepare.ensures.frame }) c.append.ensures.any_moment o
 
 pub returns-in-Ok-clause-bare : goal.returns-in-Ok-clause-bare
 returns-in-Ok-clause-bare g c y h o =
     committed.commit_bare (g.D.Disk.disk c.args.disk.now) (g.D.Disk.disk c.prepare.new.disk) (g.D.Disk.disk c.append.new.disk) y h c.args.self.now c.prepare.new.self (g.met.D.Disk.lawful c.prepare.new.disk)
-    (record { ready = c.requires.ready; ready_after = c.prepare.ensures.ready; state = c.prepare.ensures.state; same = c.prepare.ensures.same; moments = c.prepare.ensures.any_moment; stays = c.prepare.ensures.frame }) c.append.ensures.any_moment o
+    (record { ready = c.requires.ready; ready_after = c.prepare.ensures.ready; state = c.prepare.ensures.state; same = c.prepare.ensures.same; changed = c.prepare.ensures.changed; moments = c.prepare.ensures.any_moment; stays = c.prepare.ensures.frame }) c.append.ensures.any_moment o
 
 pub returns-then-len-ge-LAST_NUMBER-clause-bare : goal.returns-then-len-ge-LAST_NUMBER-clause-bare
 returns-then-len-ge-LAST_NUMBER-clause-bare g c y h o = committed.quiet_bare (g.D.Disk.disk c.args.disk.now) y h c.args.self.now o

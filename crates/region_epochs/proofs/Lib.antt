@@ -1,0 +1,11 @@
+pub mod Reading
+pub mod Fronts
+pub mod Sites
+pub mod Blocks
+pub mod Logs
+pub mod Lifts
+pub mod Turned
+pub mod Written
+pub mod Epochs
+pub mod Ends
+pub mod Taking

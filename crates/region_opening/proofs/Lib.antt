@@ -1,0 +1,6 @@
+pub mod Behind
+pub mod Homes
+pub mod Lists
+pub mod Opened
+pub mod Replays
+pub mod Starts

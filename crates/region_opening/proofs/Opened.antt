@@ -1,0 +1,365 @@
+-- What an opened region is against the files, and what all of them are.
+use Rattle.std.proofs.Common.{◌≡◌, ◌⊎◌, inl, inr, ℕ, zero, suc, ◌*◌, ◌<◌, ◌≤◌, ◌==◌, Bool, true, false, List, [], ◌∷◌, ◌++◌, length, map, take, drop, fold, slice_get, Option, Some, None, IsTrue, refl, sym, ◌∙◌, ap, subst, arith}
+use Rattle.std.specs.Prelude.{IfSome, slice_index_or, unwrap_or, nat_lt, replicate, if◌then◌else◌}
+use Rattle.std.specs.List.{AllByRecursion}
+use Rattle.std.specs.FinMap as globals
+use Rattle.std.proofs.lemmas.Bool.Decides.{nat_tests}
+use Rattle.std.proofs.lemmas.List.{length-replicate}
+use Rattle.disk_defs.specs.Disk.{Files}
+use Rattle.global_defs.specs.Key.{Key, key_cmp}
+use Rattle.global_defs.specs.Encoded.{encoded}
+use Rattle.global_defs.specs.Entry.{Globals, Sequence, Update, apply, state}
+use Rattle.global_defs.specs.Fields.{IsTransaction}
+use Rattle.journal_defs.specs.Numbers.{database_file}
+use Rattle.journal_defs.specs.Instance.{InstanceRecord, regions}
+use Rattle.journal_defs.specs.Directory.{Pattern, patterns}
+use Rattle.journal_defs.specs.Sequence.{Placed, Records, IsSequence}
+use Rattle.journal_defs.specs.Epochs.{Blocks, Chosen, beginning, chosen, image_state, block_of, NeedsForward}
+use Rattle.journal_defs.specs.Sound.{AreWhole, Restores, IsSound, region_state}
+use Rattle.journal_defs.specs.Stands.{AreRecords}
+use Rattle.journal_defs.specs.Fit.{IsSoundImage}
+use Rattle.block_laws.specs.Nodes.{HaveKeys, updates_of, updates_in}
+use Rattle.block_laws.proofs.Chains as chains
+use Rattle.block_laws.proofs.Parts as parts
+use Rattle.region_store.specs.Region.{Standing, HoldsRegion, IsHeld, IsChanged, IsReplayed}
+use Rattle.region_store.proofs.Breaks.{nothing_outside}
+use Rattle.region_store.proofs.States as states
+use Rattle.site_defs.specs.OutsideBlocks.{IsOutsideAt, AreOutside, HaveOutsideBlocks}
+use Rattle.site_regions.specs.Joined.{ArePartsOf, no_region}
+use Rattle.region_opening.specs.Opening.{IsStart, Anew, GoesBack, are_home, IsOwn, IsInside, IsHeldFrom, IsOpened, IsRefused, AreRefused}
+use Rattle.region_opening.proofs.Homes.{stay_home, some_parts}
+use Rattle.region_opening.proofs.Lists.{of_mapped, of_more, mapped_at, at_place}
+use Rattle.site_regions.proofs.Lists.{there}
+use Rattle.std.proofs.lemmas.Option.{slice_get_within}
+use Rattle.disk_defs.proofs.Told.{weaker_told, both_weak}
+use Rattle.global_defs.specs.Valid.{is_key}
+
+-- ---- the empty database
+
+no_elements : {X : Type 0} (xs : List X) → length xs ≡ 0 → [] ≡ xs
+no_elements [] none = refl
+no_elements (x ∷ xs) none = absurd (omega (arith, none))
+
+no_entries : [] ≡ globals.entries (globals.empty {X = List ℕ} {R = key_cmp})
+no_entries = no_elements (globals.entries (globals.empty {X = List ℕ} {R = key_cmp})) (sym (globals.len-entries (globals.empty {X = List ℕ} {R = key_cmp})) ∙ globals.len-empty key_cmp (List ℕ))
+
+-- no nodes
+abbrev nothing : Globals
+nothing = globals.empty
+
+no_keys : HaveKeys nothing
+no_keys = subst (AllByRecursion (λ (e : Key × List ℕ). IsTrue (is_key e.0))) no_entries tt
+
+-- block 0 alone, and it's whole
+one_block : (blocks : Blocks) → AreWhole (image_state (beginning []) blocks)
+one_block blocks zero bytes is = ap length (ap (λ (o : Option (List ℕ)). unwrap_or o bytes) (sym is)) ∙ length-replicate {A = ℕ} 4096 0
+one_block blocks (suc b) bytes is =
+    let past : nat_lt (suc b) 0 ≡ false = grind (arith, nat_tests) in
+    let other : (suc b == 0) ≡ false = grind (arith, nat_tests) in
+    let none : image_state (beginning []) blocks (suc b) ≡ None =
+    ap (λ (x : Bool). if x then Some (blocks (suc b)) else if suc b == 0 then Some (replicate 4096 0) else None) past
+    ∙ ap (λ (x : Bool). if x then Some (replicate 4096 0) else None) other in
+    let gone : None ≡ Some bytes = sym none ∙ is in
+    cc
+
+-- it holds no nodes
+begins_empty : (blocks : Blocks) → Restores (image_state (beginning []) blocks) nothing
+begins_empty blocks = (
+  one_block blocks,
+  (
+    record { next = 0; cells = [] } ∷ [],
+    ((replicate 4096 0, refl, record { form = record { next = omega arith; fits = omega arith; cells = tt; rising = tt }; spelled = refl }), refl),
+    tt,
+    ap (λ (es : List (Key × List ℕ)). map (λ e. (encoded e.0, e.1)) es) no_entries,
+  ),
+)
+
+-- blocks that hold these nodes aren't other than so
+not_outside : (blocks : ℕ → Option (List ℕ)) (g : Globals) (b : ℕ) → HaveKeys g → Restores blocks g → AreOutside blocks g b → ⊥
+not_outside blocks g b keys holds (inl out) = nothing_outside blocks b g out keys holds
+not_outside blocks g b keys holds (inr others) = others.1.others (chains.one blocks others.1.there g others.1.keys keys others.1.restores.1 holds.1)
+
+first_all : {X : Type 0} (P : X → Type 0) (n : ℕ) (xs : List X) → AllByRecursion P xs → AllByRecursion P (take n xs)
+first_all P zero xs all = tt
+first_all P (suc n) [] all = tt
+first_all P (suc n) (x ∷ xs) all = (all.0, first_all P n xs all.1)
+
+none_behind : (n : ℕ) (seq : Sequence) → length seq ≡ 0 → updates_of (drop n seq) ≡ []
+none_behind zero [] none = refl
+none_behind (suc n) [] none = refl
+none_behind n (e ∷ es) none = absurd (omega (arith, none))
+
+-- ---- one region
+
+-- a region from some place of its journals on, with the updates behind it made
+module _ (instance : List InstanceRecord) (seq : Sequence) (journal : List Placed) (r : ℕ) (e : Chosen) (start : IsStart instance (length seq) journal e)
+    (forms : AllByRecursion (λ x. IsTransaction x.transaction) seq) where
+  abbrev pub Behind : Standing → Standing → Type 0
+  Behind s t = t.globals ≡ fold apply s.globals (updates_in (patterns instance) r (updates_of (drop e.number seq)))
+
+  pub own : (s t : Standing) → s.file ≡ database_file r → are_home (patterns instance) r s.globals ≡ true → (e.number ≡ 0 → s.globals ≡ globals.empty) → e.number ≤ length seq
+      → IsChanged s t → Behind s t → IsOwn (patterns instance) (length seq) r t
+  own s t file home none inside changed made = record {
+    file = changed.file ∙ file;
+    home = ap (are_home (patterns instance) r) made ∙ stay_home (patterns instance) r s.globals (updates_of (drop e.number seq)) home;
+    none = λ zero_long.
+        made ∙ ap (λ (us : List Update). fold apply s.globals (updates_in (patterns instance) r us)) (none_behind e.number seq zero_long)
+        ∙ none (omega (arith, inside, zero_long));
+  }
+
+  held_from : (s : Standing) (files : Files) (c : Chosen) → e ≡ c → HoldsRegion e (files (database_file r)) s → HoldsRegion c (files (database_file r)) s
+  held_from s files c is h = subst (λ (x : Chosen). HoldsRegion x (files (database_file r)) s) is h
+
+  -- from the part of the entries up to the place
+  part_made : (s t : Standing) → s.globals ≡ region_state (patterns instance) r (take e.number seq) → Behind s t → t.globals ≡ region_state (patterns instance) r seq
+  part_made s t part made =
+      made ∙ ap (λ (g : Globals). fold apply g (updates_in (patterns instance) r (updates_of (drop e.number seq)))) part ∙ sym (parts.replay (patterns instance) r e.number seq)
+
+  abbrev Below : Files → ℕ → Option (List ℕ)
+  Below files = image_state e (block_of (files (database_file r)))
+
+  part_there : (s : Standing) (files : Files) → IsStart instance (length seq) journal e → (e.number ≡ 0 → s.globals ≡ globals.empty) → IsReplayed (Below files) [] s.globals
+      → IsSound (region_state (patterns instance) r) instance seq journal (block_of (files (database_file r))) (length seq) → s.globals ≡ region_state (patterns instance) r (take e.number seq)
+  part_there s files (Anew forward is) none replayed sound =
+      let first : e.number ≡ 0 = ap (λ (x : Chosen). x.number) is in
+      none first ∙ sym (parts.begins (patterns instance) r) ∙ ap (λ (n : ℕ). region_state (patterns instance) r (take n seq)) (sym first)
+  part_there s files (GoesBack back is) none replayed (inl forward) = absurd (back forward)
+  part_there s files (GoesBack back is) none replayed (inr sound) =
+      states.one (Below files) [] s.globals (region_state (patterns instance) r (take e.number seq)) replayed
+      (parts.keys (patterns instance) r (take e.number seq) (first_all (λ x. IsTransaction x.transaction) e.number seq forms))
+      (subst (λ (c : Chosen). Restores (image_state c (block_of (files (database_file r)))) (region_state (patterns instance) r (take c.number seq))) (sym is) sound)
+
+  inside_from : (s : Standing) (files : Files) → IsStart instance (length seq) journal e → IsReplayed (Below files) [] s.globals → IsInside instance seq journal r files
+  inside_from s files (Anew forward is) replayed = inl forward
+  inside_from s files (GoesBack back is) replayed = inr (λ b out.
+      nothing_outside (Below files) b replayed.restored (subst (λ (c : Chosen). IsOutsideAt (image_state c (block_of (files (database_file r)))) b) (sym is) out) replayed.keys replayed.restores)
+
+  holds_from : (t : Standing) (files : Files) → IsStart instance (length seq) journal e → HoldsRegion e (files (database_file r)) t → IsHeldFrom instance seq journal r t files
+  holds_from t files (Anew forward is) holds = inl forward
+  holds_from t files (GoesBack back is) holds = inr (held_from t files (chosen instance (length seq) journal) is holds)
+
+  pub opened : (s t : Standing) (files : Files) → s.file ≡ database_file r → (e.number ≡ 0 → s.globals ≡ globals.empty) → IsChanged s t → Behind s t
+      → HoldsRegion e (files (database_file r)) s → IsReplayed (Below files) [] s.globals → IsOpened instance seq journal r t files
+  opened s t files file none changed made holds replayed =
+      let after : HoldsRegion e (files (database_file r)) t = changed.holds e (files (database_file r)) holds in
+      record {
+        held = (e, subst (λ (f : ℕ). HoldsRegion e (files f) t) (sym (changed.file ∙ file)) after);
+        holds = holds_from t files start after;
+        inside = inside_from s files start replayed;
+        state = λ sound. part_made s t (part_there s files start none replayed sound) made;
+      }
+
+  pub refused : (files : Files) (f offset b : ℕ) → f ≡ database_file r → offset ≡ 4096 * b → AreOutside (Below files) (region_state (patterns instance) r (take e.number seq)) b → IsRefused instance seq journal r f offset files
+  refused files f offset b file place out = by start
+    where
+      by : IsStart instance (length seq) journal e → IsRefused instance seq journal r f offset files
+      by (Anew forward is) =
+          let first : e.number ≡ 0 = ap (λ (x : Chosen). x.number) is in
+          let none : region_state (patterns instance) r (take e.number seq) ≡ nothing = ap (λ (n : ℕ). region_state (patterns instance) r (take n seq)) first ∙ parts.begins (patterns instance) r in
+          absurd (not_outside (image_state (beginning []) (block_of (files (database_file r)))) nothing b no_keys (begins_empty (block_of (files (database_file r))))
+          (subst (λ (c : Chosen). AreOutside (image_state c (block_of (files (database_file r)))) nothing b) is (subst (λ (g : Globals). AreOutside (Below files) g b) none out)))
+      by (GoesBack back is) = record {
+        goes_back = back;
+        block = b;
+        outside = subst (λ (c : Chosen). AreOutside (image_state c (block_of (files (database_file r)))) (region_state (patterns instance) r (take c.number seq)) b) is out;
+        file_is = file;
+        offset_is = place;
+      }
+
+-- ---- all regions
+
+are_parts : (ps : List Pattern) (rs : List Standing) (seq : Sequence) → ((r : ℕ) (s : Standing) → slice_get rs r ≡ Some s → s.globals ≡ region_state ps r seq) → ArePartsOf ps rs seq
+are_parts ps rs seq each r low = let s = there rs r low in mapped_at (λ (t : Standing). t.globals) rs r s.0 s.1 ∙ ap (λ (g : Globals). Some g) (each r s.0 s.1)
+
+-- regions whose nodes stand there have the parts of some state
+pub have_parts : (ps : List Pattern) (rs : List Standing) → ((r : ℕ) (s : Standing) → slice_get rs r ≡ Some s → are_home ps r s.globals ≡ true) → (seq : Sequence) × ArePartsOf ps rs seq
+have_parts ps rs homes =
+    let some = some_parts ps (map (λ (t : Standing). t.globals) rs) each in
+    (some.0, are_parts ps rs some.0 (λ r s here. some.1 r s.globals (mapped_at (λ (t : Standing). t.globals) rs r s here)))
+  where
+    each : (i : ℕ) (g : Globals) → slice_get (map (λ (t : Standing). t.globals) rs) i ≡ Some g → are_home ps i g ≡ true
+    each i g is = let x = of_mapped (λ (t : Standing). t.globals) rs i g is in subst (λ (h : Globals). are_home ps i h ≡ true) x.2 (homes i x.0 x.1)
+
+pub empty_parts : (ps : List Pattern) (rs : List Standing) (length_of : ℕ) → length_of ≡ 0 → ((r : ℕ) (s : Standing) → slice_get rs r ≡ Some s → IsOwn ps length_of r s) → ArePartsOf ps rs []
+empty_parts ps rs length_of zero_long own = are_parts ps rs [] (λ r s here. (own r s here).none zero_long ∙ sym (parts.begins ps r))
+
+module _ (files : Files) (records : Records) (seq : Sequence) where
+  pub sound_parts : (rs : List Standing) → length rs ≡ length (regions records.instance) → ((r : ℕ) (s : Standing) → slice_get rs r ≡ Some s → IsOpened records.instance seq (records.journal r) r s files)
+      → IsSoundImage files records seq → ArePartsOf (patterns records.instance) rs seq
+  sound_parts rs count opened image =
+      are_parts (patterns records.instance) rs seq (λ r s here. let low = slice_get_within rs r s here in (opened r s here).state (image.sound (length seq) (omega arith) r (omega (arith, low, count))))
+
+  module _ (n file offset : ℕ) (count : n ≡ length (regions records.instance)) (all : AreRefused records.instance seq records.journal n file offset files) where
+    pub refused_blocks : AreRecords files records → IsSequence records seq → HaveOutsideBlocks files file offset
+    refused_blocks held sequence =
+        let below = all.below in
+        record {
+          records = records;
+          seq = seq;
+          held = held;
+          sequence = sequence;
+          region = all.region;
+          below = omega (arith, below, count);
+          goes_back = all.refused.goes_back;
+          earlier = all.earlier;
+          block = all.refused.block;
+          outside = all.refused.outside;
+          file_is = all.refused.file_is;
+          offset_is = all.refused.offset_is;
+        }
+
+    pub refused_sound : IsSoundImage files records seq → AllByRecursion (λ x. IsTransaction x.transaction) seq → ⊥
+    refused_sound image forms = let below = all.below in by (image.sound (length seq) (omega arith) all.region (omega (arith, below, count)))
+      where
+        here : Chosen
+        here = chosen records.instance (length seq) (records.journal all.region)
+
+        database : Blocks
+        database = block_of (files (database_file all.region))
+
+        by : IsSound (region_state (patterns records.instance) all.region) records.instance seq (records.journal all.region) database (length seq) → ⊥
+        by (inl forward) = all.refused.goes_back forward
+        by (inr holds) = not_outside (image_state here database) (region_state (patterns records.instance) all.region (take here.number seq)) all.refused.block
+            (parts.keys (patterns records.instance) all.region (take here.number seq) (first_all (λ x. IsTransaction x.transaction) here.number seq forms)) holds all.refused.outside
+
+-- ---- the regions as a disk tells them
+
+always : (o : Option Files) (P : Files → Type 0) → ((f : Files) → P f) → IfSome o P
+always None P all = tt
+always (Some f) P all = all f
+
+module _ (o : Option Files) (instance : List InstanceRecord) (seq : Sequence) (journal : ℕ → List Placed) where
+  -- what is told of the regions that were opened
+  abbrev pub AreOpened : List Standing → Files → Type 0
+  AreOpened rs files = (r : ℕ) (s : Standing) → slice_get rs r ≡ Some s → IsOpened instance seq (journal r) r s files
+
+  pub none_opened : IfSome o (AreOpened [])
+  none_opened = always o (AreOpened []) (λ files r s here. let gone : None ≡ Some s = here in cc)
+
+  pub one_more_opened : (rs : List Standing) (s : Standing) (n : ℕ) → length rs ≡ n → IfSome o (AreOpened rs) → IfSome o (IsOpened instance seq (journal n) n s) → IfSome o (AreOpened (rs ++ s ∷ []))
+  one_more_opened rs s n long told this = both_weak o (AreOpened rs) (IsOpened instance seq (journal n) n s) (AreOpened (rs ++ s ∷ [])) told this (λ files are is r t here. elim (of_more rs s r t here) [
+    | inl low ↦ are r t low
+    | inr last ↦ subst (λ (q : ℕ). IsOpened instance seq (journal q) q t files) (sym (last.0 ∙ long)) (subst (λ (x : Standing). IsOpened instance seq (journal n) n x files) (sym last.1) is)
+  ])
+
+  pub own_more : (ps : List Pattern) (length_of : ℕ) (rs : List Standing) (s : Standing) (n : ℕ) → length rs ≡ n → ((r : ℕ) (t : Standing) → slice_get rs r ≡ Some t → IsOwn ps length_of r t) → IsOwn ps length_of n s
+      → (r : ℕ) (t : Standing) → slice_get (rs ++ s ∷ []) r ≡ Some t → IsOwn ps length_of r t
+  own_more ps length_of rs s n long are is r t here = elim (of_more rs s r t here) [
+    | inl low ↦ are r t low
+    | inr last ↦ subst (λ (q : ℕ). IsOwn ps length_of q t) (sym (last.0 ∙ long)) (subst (λ (x : Standing). IsOwn ps length_of n x) (sym last.1) is)
+  ]
+
+  pub first_refused : (rs : List Standing) (n count f offset : ℕ) → length rs ≡ n → n < count → IfSome o (AreOpened rs) → IfSome o (IsRefused instance seq (journal n) n f offset) → IfSome o (AreRefused instance seq journal count f offset)
+  first_refused rs n count f offset long low told this = both_weak o (AreOpened rs) (IsRefused instance seq (journal n) n f offset) (AreRefused instance seq journal count f offset) told this (λ files are is. record {
+    region = n;
+    below = low;
+    earlier = λ q less. let s = there rs q (omega (arith, less, long)) in (are q s.0 s.1).inside;
+    refused = is;
+  })
+
+-- what stands of one region, as the disk tells it
+module _ (o : Option Files) (ps : List Pattern) (e : Chosen) (file r : ℕ) (is : file ≡ database_file r) where
+  abbrev At : ℕ → Files → ℕ → Option (List ℕ)
+  At f files = image_state e (block_of (files f))
+
+  -- the place of what is outside
+  abbrev pub IsTold : ℕ → ℕ → Files → Type 0
+  IsTold f offset files = (seq : Sequence) → (f ≡ database_file r) × (b : ℕ) × (offset ≡ 4096 * b) × AreOutside (At (database_file r) files) (region_state ps r (take e.number seq)) b
+
+  pub told_outside : (f offset : ℕ) → IfSome o (λ files. (f ≡ file) × (b : ℕ) × (offset ≡ 4096 * b) × IsOutsideAt (At file files) b) → IfSome o (IsTold f offset)
+  told_outside f offset told = weaker_told o (λ files. (f ≡ file) × (b : ℕ) × (offset ≡ 4096 * b) × IsOutsideAt (At file files) b) (IsTold f offset) told (λ files h seq.
+      (h.0 ∙ is, h.1, h.2, inl (subst (λ (x : ℕ). IsOutsideAt (At x files) h.1) is h.3)))
+
+  pub told_others : (f offset : ℕ) (g : Globals) → f ≡ file → offset ≡ 0 → IfSome o (λ files. IsReplayed (At file files) [] g) → ((seq : Sequence) → g ≡ region_state ps r (take e.number seq) → ⊥) → IfSome o (IsTold f offset)
+  told_others f offset g at first told others = weaker_told o (λ files. IsReplayed (At file files) [] g) (IsTold f offset) told (λ files replayed seq.
+      let there = subst (λ (x : ℕ). IsReplayed (At x files) [] g) is replayed in
+      (at ∙ is, 0, first, inr (refl, record { there = there.restored; keys = there.keys; restores = there.restores; others = λ same. others seq (there.made ∙ same) })))
+
+  pub told_holds : (s : Standing) → IfSome o (λ files. HoldsRegion e (files file) s) → IfSome o (λ files. HoldsRegion e (files (database_file r)) s)
+  told_holds s told = weaker_told o (λ files. HoldsRegion e (files file) s) (λ files. HoldsRegion e (files (database_file r)) s) told (λ files h. subst (λ (x : ℕ). HoldsRegion e (files x) s) is h)
+
+  pub told_globals : (g : Globals) → IfSome o (λ files. IsReplayed (At file files) [] g) → IfSome o (λ files. IsReplayed (At (database_file r) files) [] g)
+  told_globals g told = weaker_told o (λ files. IsReplayed (At file files) [] g) (λ files. IsReplayed (At (database_file r) files) [] g) told (λ files h. subst (λ (x : ℕ). IsReplayed (At x files) [] g) is h)
+
+-- a region that was opened from its start, whose records are those of entries of so many
+module _ (o : Option Files) (instance : List InstanceRecord) (seq : Sequence) (journal : List Placed) (r n : ℕ) (long : length seq ≡ n) (e : Chosen) (start : IsStart instance n journal e)
+    (forms : AllByRecursion (λ x. IsTransaction x.transaction) seq) (ps : List Pattern) (are : ps ≡ patterns instance) where
+  begun : IsStart instance (length seq) journal e
+  begun = subst (λ (k : ℕ). IsStart instance k journal e) (sym long) start
+
+  -- the updates behind it
+  abbrev pub Replayed : Standing → Standing → Type 0
+  Replayed s t = t.globals ≡ fold apply s.globals (updates_in ps r (updates_of (drop e.number seq)))
+
+  made_so : (s t : Standing) → Replayed s t → Behind instance seq journal r e begun forms s t
+  made_so s t made = subst (λ (qs : List Pattern). t.globals ≡ fold apply s.globals (updates_in qs r (updates_of (drop e.number seq)))) are made
+
+  pub region_own : (s t : Standing) → s.file ≡ database_file r → are_home ps r s.globals ≡ true → (e.number ≡ 0 → s.globals ≡ globals.empty) → e.number ≤ n
+      → IsChanged s t → Replayed s t → IsOwn (patterns instance) n r t
+  region_own s t file home none inside changed made =
+      subst (λ (k : ℕ). IsOwn (patterns instance) k r t) long
+      (own instance seq journal r e begun forms s t file (subst (λ (qs : List Pattern). are_home qs r s.globals ≡ true) are home) none (omega (arith, inside, long)) changed (made_so s t made))
+
+  pub region_opened : (s t : Standing) → s.file ≡ database_file r → (e.number ≡ 0 → s.globals ≡ globals.empty) → IsChanged s t → Replayed s t
+      → IfSome o (λ files. HoldsRegion e (files (database_file r)) s) → IfSome o (λ files. IsReplayed (image_state e (block_of (files (database_file r)))) [] s.globals) → IfSome o (IsOpened instance seq journal r t)
+  region_opened s t file none changed made holds replayed =
+      both_weak o (λ files. HoldsRegion e (files (database_file r)) s) (λ files. IsReplayed (image_state e (block_of (files (database_file r)))) [] s.globals) (IsOpened instance seq journal r t) holds replayed
+      (λ files h k. opened instance seq journal r e begun forms s t files file none changed (made_so s t made) h k)
+
+  pub region_refused : (f offset : ℕ)
+      → IfSome o (λ files. (all : Sequence) → (f ≡ database_file r) × (b : ℕ) × (offset ≡ 4096 * b) × AreOutside (image_state e (block_of (files (database_file r)))) (region_state ps r (take e.number all)) b)
+      → IfSome o (IsRefused instance seq journal r f offset)
+  region_refused f offset told =
+      weaker_told o (λ files. (all : Sequence) → (f ≡ database_file r) × (b : ℕ) × (offset ≡ 4096 * b) × AreOutside (image_state e (block_of (files (database_file r)))) (region_state ps r (take e.number all)) b)
+      (IsRefused instance seq journal r f offset) told (λ files h.
+      let at = h seq in
+      refused instance seq journal r e begun forms files f offset at.1 at.0 at.2
+      (subst (λ (qs : List Pattern). AreOutside (image_state e (block_of (files (database_file r)))) (region_state qs r (take e.number seq)) at.1) are at.3))
+
+-- what is told of all regions, of which these are the same
+module _ (o : Option Files) (instance : List InstanceRecord) (seq : Sequence) (journal : ℕ → List Placed) (ps : List Pattern) (are : ps ≡ patterns instance) (rs ms : List Standing) (same : ms ≡ rs)
+    (counted : length rs ≡ length (regions instance)) (told : IfSome o (AreOpened o instance seq journal rs)) where
+  abbrev all_records : Records
+  all_records = record { instance = instance; journal = journal }
+
+  sound_at : (files : Files) → AreOpened o instance seq journal rs files → IsSoundImage files all_records seq → ArePartsOf ps rs seq
+  sound_at files opens image = subst (λ (qs : List Pattern). ArePartsOf qs rs seq) (sym are) (sound_parts files all_records seq rs counted opens image)
+
+  pub parts_told : IfSome o (λ files. IsSoundImage files all_records seq → ArePartsOf ps ms seq)
+  parts_told = weaker_told o (AreOpened o instance seq journal rs) (λ files. IsSoundImage files all_records seq → ArePartsOf ps ms seq) told
+      (λ files opens image. subst (λ (xs : List Standing). ArePartsOf ps xs seq) (sym same) (sound_at files opens image))
+
+  pub state_told : (all : Globals) → ((xs : Sequence) → ArePartsOf ps rs xs → all ≡ state xs) → IfSome o (λ files. IsSoundImage files all_records seq → all ≡ state seq)
+  state_told all joins = weaker_told o (AreOpened o instance seq journal rs) (λ files. IsSoundImage files all_records seq → all ≡ state seq) told (λ files opens image. joins seq (sound_at files opens image))
+
+  here_in : (r : ℕ) → r < length ms → slice_get rs r ≡ Some (slice_index_or ms r no_region)
+  here_in r low = subst (λ (xs : List Standing). slice_get xs r ≡ Some (slice_index_or ms r no_region)) same (at_place ms r no_region low)
+
+  -- with the length of the entries as it's known otherwise
+  pub holds_told : (n : ℕ) → length seq ≡ n
+      → IfSome o (λ files. (r : ℕ) → r < length ms → NeedsForward instance n (journal r) ⊎ HoldsRegion (chosen instance (length seq) (journal r)) (files (database_file r)) (slice_index_or ms r no_region))
+  holds_told n long = weaker_told o (AreOpened o instance seq journal rs)
+      (λ files. (r : ℕ) → r < length ms → NeedsForward instance n (journal r) ⊎ HoldsRegion (chosen instance (length seq) (journal r)) (files (database_file r)) (slice_index_or ms r no_region)) told
+      (λ files opens r low. elim (opens r (slice_index_or ms r no_region) (here_in r low)).holds [
+        | inl forward ↦ inl (subst (λ (k : ℕ). NeedsForward instance k (journal r)) long forward)
+        | inr holds ↦ inr holds
+      ])
+
+  pub held_told : IfSome o (λ files. (r : ℕ) → r < length ms → IsHeld (slice_index_or ms r no_region) files)
+  held_told = weaker_told o (AreOpened o instance seq journal rs) (λ files. (r : ℕ) → r < length ms → IsHeld (slice_index_or ms r no_region) files) told
+      (λ files opens r low. (opens r (slice_index_or ms r no_region) (here_in r low)).held)
+
+pub files_are : (ps : List Pattern) (n : ℕ) (rs ms : List Standing) → ms ≡ rs → ((r : ℕ) (s : Standing) → slice_get rs r ≡ Some s → IsOwn ps n r s) → (r : ℕ) → r < length ms → (slice_index_or ms r no_region).file ≡ database_file r
+files_are ps n rs ms same own r low =
+    (own r (slice_index_or ms r no_region) (subst (λ (xs : List Standing). slice_get xs r ≡ Some (slice_index_or ms r no_region)) same (at_place ms r no_region low))).file
+
+-- the first region that can't be opened, as the disk tells it
+module _ (o : Option Files) (records : Records) (seq : Sequence) (n f offset : ℕ) (counted : n ≡ length (regions records.instance)) (sequence : IsSequence records seq)
+    (told : IfSome o (AreRefused records.instance seq records.journal n f offset)) where
+  pub outside_told : IfSome o (λ files. AreRecords files records → HaveOutsideBlocks files f offset)
+  outside_told = weaker_told o (AreRefused records.instance seq records.journal n f offset) (λ files. AreRecords files records → HaveOutsideBlocks files f offset) told
+      (λ files all held. refused_blocks files records seq n f offset counted all held sequence)
+
+  pub unsound_told : AllByRecursion (λ x. IsTransaction x.transaction) seq → IfSome o (λ files. IsSoundImage files records seq → ⊥)
+  unsound_told forms = weaker_told o (AreRefused records.instance seq records.journal n f offset) (λ files. IsSoundImage files records seq → ⊥) told
+      (λ files all image. refused_sound files records seq n f offset counted all image forms)

@@ -1,0 +1,66 @@
+-- What stands of a region that is opened, and why one isn't.
+use Rattle.std.specs.Prelude.{◌≡◌, ◌⊎◌, ℕ, ◌*◌, ◌<◌, ◌==◌, Bool, true, List, [], length, take, Option}
+use Rattle.std.specs.List.{list_all}
+use Rattle.std.specs.FinMap as globals
+use Rattle.disk_defs.specs.Disk.{Files}
+use Rattle.global_defs.specs.Entry.{Globals, Sequence}
+use Rattle.journal_defs.specs.Numbers.{database_file}
+use Rattle.journal_defs.specs.Instance.{InstanceRecord}
+use Rattle.journal_defs.specs.Directory.{Pattern, region_of, patterns}
+use Rattle.journal_defs.specs.Sequence.{Placed}
+use Rattle.journal_defs.specs.Epochs.{Chosen, BLOCK, beginning, chosen, image_state, block_of, NeedsForward}
+use Rattle.journal_defs.specs.Sound.{IsSound, region_state}
+use Rattle.region_store.specs.Region.{Standing, HoldsRegion, IsHeld}
+use Rattle.site_defs.specs.OutsideBlocks.{IsOutsideAt, AreOutside}
+
+-- the place in the journals from which a region is opened
+pub data IsStart (instance : List InstanceRecord) (t : ℕ) (journal : List Placed) (e : Chosen) : Type 0 where
+  -- the region needs forward recovery: the empty database with no record behind it
+  Anew : NeedsForward instance t journal → e ≡ beginning [] → IsStart instance t journal e
+  -- the epoch to which it goes back
+  GoesBack : (NeedsForward instance t journal → ⊥) → e ≡ chosen instance t journal → IsStart instance t journal e
+
+-- each of these nodes stands in the region of its name
+abbrev pub are_home : List Pattern → ℕ → Globals → Bool
+are_home ps r g = list_all (λ e. region_of ps e.0.name == r) (globals.entries g)
+
+-- What holds of an opened region, whatever the files hold.
+pub record IsOwn (ps : List Pattern) (length_of r : ℕ) (s : Standing) : Type 0 where
+  pub file : s.file ≡ database_file r
+  pub home : are_home ps r s.globals ≡ true
+  pub none : length_of ≡ 0 → s.globals ≡ globals.empty
+
+-- the blocks of a region below the epoch that it goes back to
+abbrev pub blocks_of : List InstanceRecord → Sequence → List Placed → ℕ → Files → ℕ → Option (List ℕ)
+blocks_of instance seq journal r files = image_state (chosen instance (length seq) journal) (block_of (files (database_file r)))
+
+-- the region needs forward recovery, or no block of it is outside the format
+abbrev pub IsInside : List InstanceRecord → Sequence → List Placed → ℕ → Files → Type 0
+IsInside instance seq journal r files = NeedsForward instance (length seq) journal ⊎ ((b : ℕ) → IsOutsideAt (blocks_of instance seq journal r files) b → ⊥)
+
+-- the region needs forward recovery, or its blocks are those of the epoch to which it goes back and the file
+abbrev pub IsHeldFrom : List InstanceRecord → Sequence → List Placed → ℕ → Standing → Files → Type 0
+IsHeldFrom instance seq journal r s files = NeedsForward instance (length seq) journal ⊎ HoldsRegion (chosen instance (length seq) journal) (files (database_file r)) s
+
+-- What a region that was opened is against the files.
+pub record IsOpened (instance : List InstanceRecord) (seq : Sequence) (journal : List Placed) (r : ℕ) (s : Standing) (files : Files) : Type 0 where
+  pub held : IsHeld s files
+  pub holds : IsHeldFrom instance seq journal r s files
+  pub inside : IsInside instance seq journal r files
+  -- where the region is sound it has its part of the state
+  pub state : IsSound (region_state (patterns instance) r) instance seq journal (block_of (files (database_file r))) (length seq) → s.globals ≡ region_state (patterns instance) r seq
+
+-- A region that goes back to an epoch can't be opened, by what stands at this place of this file.
+pub record IsRefused (instance : List InstanceRecord) (seq : Sequence) (journal : List Placed) (r file offset : ℕ) (files : Files) : Type 0 where
+  pub goes_back : NeedsForward instance (length seq) journal → ⊥
+  pub block : ℕ
+  pub outside : AreOutside (blocks_of instance seq journal r files) (region_state (patterns instance) r (take (chosen instance (length seq) journal).number seq)) block
+  pub file_is : file ≡ database_file r
+  pub offset_is : offset ≡ BLOCK * block
+
+-- A region of so many that can't be opened, while each before it has its blocks in the format or needs forward recovery.
+pub record AreRefused (instance : List InstanceRecord) (seq : Sequence) (journal : ℕ → List Placed) (count file offset : ℕ) (files : Files) : Type 0 where
+  pub region : ℕ
+  pub below : region < count
+  pub earlier : (q : ℕ) → q < region → IsInside instance seq (journal q) q files
+  pub refused : IsRefused instance seq (journal region) region file offset files

@@ -1,0 +1,5 @@
+use Rattle.run_laws.proofs.Marked as marked
+use Rattle.run_laws.proofs.epochs.epochs_are_taken.Goals as goal
+
+pub returns : goal.returns
+returns c = record { epoch = marked.epoch-marks; stop = marked.stop-marks }

@@ -1,0 +1,256 @@
+-- EPOCH and STOP at a place: what bringing a site to an epoch leaves there.
+use Rattle.std.proofs.Common.{◌≡◌, ℕ, zero, suc, ◌+◌, ◌≤◌, ◌<◌, ◌==◌, ◌&&◌, nat_lt, Bool, true, false, List, [], ◌∷◌, ◌++◌, length, map, None, Some, refl, sym, ◌∙◌, ap, subst, arith, inl, inr, if◌then◌else◌}
+use Rattle.std.specs.Prelude.{◌⊎◌, Option, codes, IsSome}
+use Rattle.std.specs.Fmt.{decimal}
+use Rattle.std.specs.List.{flat_map}
+use Rattle.std.proofs.Math.Path.{fun_ext}
+use Rattle.std.proofs.lemmas.Bool.{false≢true, eqb-true, ltb-true}
+use Rattle.disk_defs.specs.Disk.{Files, View, Image, IsLawful, AtEachMoment, Rose}
+use Rattle.site_store.specs.declared.site.OpenSite.{OpenSite}
+use Rattle.journal_defs.specs.Instance.{generation, regions}
+use Rattle.site_store.specs.Site.{IsOpen}
+use Rattle.repl_section.specs.declared.reign.Reign.{Reign}
+use Rattle.repl_section.specs.Reigns.{Reigns, stamp_in, stamp_of}
+use Rattle.command_defs.specs.Commands.{Name}
+use Rattle.site_defs.specs.Lists.{Among}
+use Rattle.site_defs.specs.Contents.{Taken, Contents, Standing, NO_LEFTOVER, bare}
+use Rattle.site_defs.specs.Epochs.{taken_in, with_epochs, marked, MayMark, MayMarkLeft}
+use Rattle.site_defs.specs.Stands.{IsSite}
+use Rattle.site_defs.specs.Behind.{IsSiteWith}
+use Rattle.world_defs.specs.World as world
+use Rattle.world_defs.specs.World.{Place, StandAfter}
+use Rattle.world_defs.specs.Answers.{Refusal, Answer, Done, Refused, DiskFault, NotAFile, Ran, Typed, line}
+use Rattle.world_defs.specs.Row.{or_else, Here}
+use Rattle.world_defs.specs.Changes.{in_new_state, After}
+use Rattle.world_defs.specs.Step.{LeftByRow, is_done}
+use Rattle.world_defs.specs.Ties.{Matches}
+use Rattle.world_defs.specs.rows.Stop.{stop}
+use Rattle.site_runner.specs.declared.slot.State.{State}
+use Rattle.site_runner.specs.declared.slot.State.TheVariants.{Down, Primary, Failed}
+use Rattle.site_runner.specs.declared.slot.Site.{Site}
+use Rattle.site_runner.specs.Sites as sites
+use Rattle.site_runner.specs.Sites.{state_value, site_value, IsOf, IsMade}
+use Rattle.site_runner.specs.Executes.{Comes}
+use Rattle.site_runner.specs.Steps.{in_state, IsAt, ExecutesAt, IsCutAt}
+use Rattle.site_runner.specs.Marking.{marking}
+use Rattle.site_runner.proofs.Amongs.{among_map, map_among, among_flat}
+use Rattle.site_runner.proofs.Ats.{comes_done, comes_fault, at_moment, some_outcome, told_is, Leftovers, NothingIsLeft, ReadPlace, ImagesStand, place_of_images, place_of_one, only, open_reads, open_images, stands_with}
+use Rattle.site_runner.proofs.Remembered.{entries_count}
+use Rattle.site_runner.proofs.Stopped.{open_at, reigns_at, open_at_place}
+
+-- The regions in which an epoch was taken: each choice of them among the first n.
+
+-- of the first one, and of those behind it
+abbrev front : Bool → (ℕ → Bool) → ℕ → Bool
+front b k zero = b
+front b k (suc r) = k r
+
+abbrev pub choices : ℕ → List (ℕ → Bool)
+choices zero = (λ r. false) ∷ []
+choices (suc n) = flat_map (λ (k : ℕ → Bool). front true k ∷ front false k ∷ []) (choices n)
+
+front_among : (b : Bool) (k : ℕ → Bool) → Among (front true k ∷ front false k ∷ []) (front b k)
+front_among true k = inl refl
+front_among false k = inr (inl refl)
+
+front_same : (n : ℕ) (j k : ℕ → Bool) → ((r : ℕ) → r < n → j r ≡ k (suc r)) → (r : ℕ) → r < suc n → front (k 0) j r ≡ k r
+front_same n j k h zero low = refl
+front_same n j k h (suc r) low = h r (omega (arith, low))
+
+-- one of them tells the same of the first n regions
+choice : (n : ℕ) (k : ℕ → Bool) → (j : ℕ → Bool) × Among (choices n) j × ((r : ℕ) → r < n → j r ≡ k r)
+choice zero k = (λ r. false, inl refl, λ r low. absurd (omega (arith, low)))
+choice (suc n) k =
+    let x = choice n (λ r. k (suc r)) in
+    (front (k 0) x.0, among_flat (λ (j : ℕ → Bool). front true j ∷ front false j ∷ []) (choices n) x.0 (front (k 0) x.0) x.1 (front_among (k 0) x.0), front_same n x.0 k x.2)
+
+inside_same : (a b inside : Bool) → (inside ≡ true → a ≡ b) → a && inside ≡ b && inside
+inside_same a b true h = ap (λ (x : Bool). x && true) (h refl)
+inside_same true true false h = refl
+inside_same true false false h = refl
+inside_same false true false h = refl
+inside_same false false false h = refl
+
+-- past the last region no epoch is taken
+marks_same : (c : Contents) (j k : ℕ → Bool) → ((r : ℕ) → r < length (regions c.instance) → j r ≡ k r) → with_epochs j c ≡ with_epochs k c
+marks_same c j k h =
+    let n = length (regions c.instance) in
+    let here : (r : ℕ) → c.epochs r ++ taken_in j c r ≡ c.epochs r ++ taken_in k c r = λ r.
+    ap (λ (b : Bool). c.epochs r ++ (if b then record { generation = generation c.instance; number = length c.sequence } ∷ [] else [])) (inside_same (j r) (k r) (nat_lt r n) (λ t. h r (ltb-true r n t))) in
+    ap (λ (f : ℕ → List Taken). record { instance = c.instance; starts = c.starts; epochs = f; texts = c.texts; sequence = c.sequence }) (fun_ext here)
+
+-- what taking an epoch may leave of these contents
+abbrev pub marks : Contents → List Contents
+marks c = c ∷ map (λ k. with_epochs k c) (choices (length (regions c.instance)))
+
+pub among_marks : (c o : Contents) → MayMark c o → Among (marks c) o
+among_marks c o (inl e) = inl e
+among_marks c o (inr m) =
+    let x = choice (length (regions c.instance)) m.0 in
+    inr (subst (Among (map (λ k. with_epochs k c) (choices (length (regions c.instance))))) (marks_same c x.0 m.0 x.2 ∙ sym m.1) (among_map (λ k. with_epochs k c) (choices (length (regions c.instance))) x.0 x.1))
+
+pub marks_are : (c o : Contents) → Among (marks c) o → MayMark c o
+marks_are c o (inl e) = inl e
+marks_are c o (inr h) = let x = map_among (λ k. with_epochs k c) (choices (length (regions c.instance))) o h in inr (x.0, x.2)
+
+-- and so of these with nothing behind them
+
+among_left : (c : Contents) (o : Standing) → MayMarkLeft (bare c) o → Among (map bare (marks c)) o
+among_left c o (inl e) = inl e
+among_left c o (inr m) = subst (Among (map bare (marks c))) (sym m.1) (among_map bare (marks c) (with_epochs m.0 c) (among_marks c (with_epochs m.0 c) (inr (m.0, refl))))
+
+left_are : (c : Contents) (o : Standing) → Among (map bare (marks c)) o → MayMarkLeft (bare c) o
+left_are c o h =
+    let x = map_among bare (marks c) o h in
+    elim (marks_are c x.0 x.1) [
+      | inl e ↦ inl (x.2 ∙ ap bare e)
+      | inr m ↦ inr (m.0, x.2 ∙ ap bare m.1)
+    ]
+
+of_marked : (name : Name) (c o : Contents) → MayMark c o → IsOf name c → IsOf name o
+of_marked name c o (inl e) h = subst (IsOf name) (sym e) h
+of_marked name c o (inr m) h = subst (IsOf name) (sym m.1) (record { made = h.made; name = h.name })
+
+-- what the call says of each moment, and of the disk after it
+pub record Moments (v w : View) (o : OpenSite) : Type 1 where
+  pub lawful : IsLawful w
+  pub any_moment : (c : Contents) → IsOpen v true c (length c.sequence) o → AtEachMoment v w (λ f. (x : Contents) × MayMark c x × IsSite f x)
+  pub left : (c : Contents) → IsOpen v true c (length c.sequence) o → AtEachMoment v w (λ f. (x : Standing) × MayMarkLeft (bare c) x × IsSiteWith f x)
+  pub still_told : IsSome v.content → IsSome w.content
+  pub simulated : w.simulated ≡ v.simulated
+  pub later : v.faults ≤ w.faults
+
+-- the site was open, with nothing but what its files read as
+known_open : (v : View) (s : Site) (r : Reign) (p : Place) → s.state ≡ Primary r → IsAt v s p → p.told ≡ true → IsOpen v true p.now (length p.now.sequence) r.site
+known_open v s r p e h sure = subst (λ (b : Bool). IsOpen v b p.now (length p.now.sequence) r.site) sure (reigns_at v s r p e h)
+
+-- each image stands for what taking an epoch may leave
+marked_place : (leftovers : Leftovers) (v w : View) (s : Site) (r : Reign) (p : Place) (site : Option world.Site) → s.state ≡ Primary r → Moments v w r.site → IsAt v s p
+    → ReadPlace w p site (marks p.now) (Some (map bare (marks p.now)))
+marked_place leftovers v w s r p site e m h =
+    place_of_images leftovers w p site (marks p.now) (Some (map bare (marks p.now))) m.lawful (m.simulated ∙ h.disk.simulated)
+    (λ sure. m.still_told (told_is v.content _ (h.disk.told sure)))
+    (λ sure f i. let x = at_moment v w _ f m.lawful (m.any_moment p.now (known_open v s r p e h sure)) i in (x.0, among_marks p.now x.0 x.1, inr x.2))
+    (λ sure f i. let x = at_moment v w _ f m.lawful (m.left p.now (known_open v s r p e h sure)) i in (x.0, among_left p.now x.0 x.1, stands_with f x.0 x.2))
+
+-- an outcome there was, after a step
+was_outcome : (v : View) (s : Site) (r : Reign) (p : Place) (o : Contents) → IsLawful v → s.state ≡ Primary r → IsAt v s p → p.told ≡ true → Among (marks p.now) o → After MayMark p.outcomes o
+was_outcome v s r p o law e h sure a =
+    let x = some_outcome v p law h.disk sure in
+    (x.0, x.1, subst (λ (y : Contents). MayMark y o) (sym ((open_at v s r p e h).settled sure x.0 x.1)) (marks_are p.now o a))
+
+-- and a standing
+was_standing : (v : View) (s : Site) (r : Reign) (p : Place) (step : Standing → Standing → Type 0) → ((o : Standing) → MayMarkLeft (bare p.now) o → step (bare p.now) o) → s.state ≡ Primary r → IsAt v s p → p.told ≡ true
+    → StandAfter step p.standings (Some (map bare (marks p.now)))
+was_standing v s r p step so e h sure =
+    subst (λ (x : Option (List Standing)). StandAfter step x (Some (map bare (marks p.now)))) (sym ((open_at v s r p e h).standings sure))
+    (λ o a. (bare p.now, inl refl, so o (left_are p.now o a)))
+
+pub mark_cut : (leftovers : Leftovers) (word : List ℕ) (v w : View) (s : Site) (r : Reign) → IsLawful v → s.state ≡ Primary r → Moments v w r.site → IsCutAt (marking word s.name) v s w
+mark_cut leftovers word v w s r was e m p h =
+    let here = marked_place leftovers v w s r p p.site e m h in (
+      record { site = p.site; told = p.told; now = here.now; left = here.left; outcomes = marks p.now; standings = Some (map bare (marks p.now)); shown = w.content; faults = w.faults; simulated = p.simulated },
+      record {
+        told = refl;
+        outcomes = λ sure o a. inr (was_outcome v s r p o was e h sure a);
+        standings = λ sure. was_standing v s r p (λ x o. (o ≡ x) ⊎ MayMarkLeft x o) (λ o k. inr k) e h sure;
+        faults = omega (arith, m.later, h.disk.faults);
+        simulated = refl;
+      },
+      here.matches,
+    )
+
+pub mark_faulted : (leftovers : Leftovers) (word : List ℕ) (v w : View) (s : Site) (r : Reign) (k : ℕ) (before now : List ℕ) → IsLawful v → s.state ≡ Primary r → Moments v w r.site → k ≡ w.faults → Rose v.faults w.faults
+    → now ≡ before ++ line s.name (codes "DISKFAULT " ++ decimal k) → ExecutesAt (marking word s.name) v s w (in_state s (Failed k)) before now false
+mark_faulted leftovers word v w s r k before now was e m count rose t p h =
+    let state = in_new_state (world.Failed k) p.site in
+    let here = marked_place leftovers v w s r p state e m h in
+    let of = λ (sure : p.told ≡ true) (o : Contents) (a : Among (marks p.now) o). of_marked s.name p.now o (marks_are p.now o a) (h.held.made sure).now in
+    comes_fault
+    k
+    (record { site = state; told = p.told; now = here.now; left = here.left; outcomes = marks p.now; standings = Some (map bare (marks p.now)); shown = w.content; faults = w.faults; simulated = p.simulated })
+    (open_at_place v s r p e h)
+    (record {
+      site = refl;
+      known = record {
+        told = refl;
+        now = λ sure. was_outcome v s r p here.now was e h sure (here.among sure);
+        left = here.behind;
+        outcomes = λ sure o a. was_outcome v s r p o was e h sure a;
+        standings = λ sure. was_standing v s r p MayMarkLeft (λ o k. k) e h sure;
+      };
+      count = sym count;
+      rose = subst (λ (x : ℕ). Rose p.faults x) (sym count) (subst (λ (x : ℕ). Rose x w.faults) h.disk.faults rose);
+      simulated = refl;
+    })
+    (record {
+      disk = here.matches;
+      site = ap (in_new_state (world.Failed k)) h.site;
+      held = record { made = λ sure. record { now = of sure here.now (here.among sure); outcomes = of sure }; state = tt };
+    })
+    t
+
+pub marks_at : (word : List ℕ) (v w : View) (nothing : NothingIsLeft w) (s : Site) (r new : Reign) (count : ℕ) (before now : List ℕ) → IsLawful w → s.state ≡ Primary r → new.site.stamp ≡ r.site.stamp → new.serials ≡ r.serials → w.simulated ≡ v.simulated → v.faults ≤ w.faults
+    → ((told : Bool) (c : Contents) → IsOpen v told c (length c.sequence) r.site → IsOpen w told (marked c) (length c.sequence) new.site) → count ≡ length r.site.entries.items → now ≡ before ++ line s.name (word ++ decimal count)
+    → ExecutesAt (marking word s.name) v s w (in_state s (Primary new)) before now true
+marks_at word v w nothing s r new count before now law e stamped serials same later f counts t p h =
+    let was = reigns_at v s r p e h in
+    let c : Contents = marked p.now in
+    let is_open : IsOpen w p.told c (length c.sequence) new.site = f p.told p.now was in
+    let of : p.told ≡ true → IsOf s.name c = λ sure. record { made = (h.held.made sure).now.made; name = (h.held.made sure).now.name } in
+    comes_done
+    (record { site = p.site; told = p.told; now = c; left = NO_LEFTOVER; outcomes = c ∷ []; standings = Some (bare c ∷ []); shown = w.content; faults = w.faults; simulated = p.simulated })
+    (ap (λ (x : Option Refusal). or_else x None) (open_at_place v s r p e h))
+    (record { site = refl; known = record { told = refl; now = refl; left = refl; outcomes = refl; standings = refl }; faults = omega (arith, later, h.disk.faults); simulated = refl })
+    tt
+    (record {
+      disk = place_of_one w p p.site c (same ∙ h.disk.simulated) (λ sure. open_reads w nothing p.told c new.site law sure is_open) (λ sure. open_images w nothing p.told c new.site sure is_open);
+      site = h.site ∙ ap (λ (x : world.State). Some (record { name = s.name; state = x })) (ap state_value e ∙ ap (λ (x : Option _). world.Primary (stamp_in x) r.serials) (sym stamped) ∙ ap (λ (x : List ℕ). world.Primary (stamp_of new) x) (sym serials));
+      held = record {
+        made = λ sure. record { now = of sure; outcomes = λ x j. subst (IsOf s.name) (sym (only x c j)) (of sure) };
+        state = record { reigns = is_open; settled = λ sure x j. only x c j; left = λ sure. refl; standings = λ sure. refl };
+      };
+    })
+    (t ∙ ap (λ (n : ℕ). before ++ line s.name (word ++ decimal n)) (counts ∙ entries_count p.now (length p.now.sequence) r.site was.remembered))
+
+-- A site that was brought to an epoch is closed by nothing more.
+
+-- the site behind STOP, by whether it was brought to an epoch
+abbrev pub stopped_if : Bool → Site → Site
+stopped_if true s = in_state s Down
+stopped_if false s = s
+
+down_there : (name : Name) (w : View) (new : Site) (p q : Place) (before now : List ℕ) → or_else (marking (codes "DOWN ") name p).early None ≡ None → (marking (codes "DOWN ") name p).done q → IsAt w new q
+    → now ≡ before ++ (marking (codes "DOWN ") name p).says q → Comes (stop name p) (IsAt w (in_state new Down)) before now true
+down_there name w new p q before now e d h t =
+    comes_done
+    (record { site = in_new_state world.Down q.site; told = q.told; now = q.now; left = q.left; outcomes = q.outcomes; standings = q.standings; shown = q.shown; faults = q.faults; simulated = q.simulated })
+    e
+    (record {
+      site = ap (in_new_state world.Down) d.site;
+      known = record { told = d.known.told; now = d.known.now; left = d.known.left; outcomes = d.known.outcomes; standings = d.known.standings };
+      faults = d.faults;
+      simulated = d.simulated;
+    })
+    tt
+    (record {
+      disk = record { told = h.disk.told; images = h.disk.images; standings = h.disk.standings; shown = h.disk.shown; faults = h.disk.faults; simulated = h.disk.simulated };
+      site = ap (in_new_state world.Down) h.site;
+      held = record { made = λ sure. record { now = (h.held.made sure).now; outcomes = (h.held.made sure).outcomes }; state = tt };
+    })
+    t
+
+-- what it answers is what the epoch answered
+stops_by : (name : Name) (w : View) (new : Site) (p q : Place) (before now text : List ℕ) (a : Answer) → Here (marking (codes "DOWN ") name p) a q text → IsAt w new q → now ≡ before ++ text
+    → Comes (stop name p) (IsAt w (stopped_if (is_done a) new)) before now (is_done a)
+stops_by name w new p q before now text Done h at t = down_there name w new p q before now h.0 h.1 at (t ∙ ap (λ (x : List ℕ). before ++ x) h.2)
+stops_by name w new p q before now text (Refused r) h at t = record { answer = Refused r; becomes = q; text = text; here = h; there = at; written = t; done = refl }
+stops_by name w new p q before now text (DiskFault k) h at t = record { answer = DiskFault k; becomes = q; text = text; here = h; there = at; written = t; done = refl }
+stops_by name w new p q before now text (NotAFile file offset) h at t = record { answer = NotAFile file offset; becomes = q; text = text; here = h; there = at; written = t; done = refl }
+stops_by name w new p q before now text (Ran s) h at t = record { answer = Ran s; becomes = q; text = text; here = h; there = at; written = t; done = refl }
+stops_by name w new p q before now text (Typed bytes) h at t = record { answer = Typed bytes; becomes = q; text = text; here = h; there = at; written = t; done = refl }
+
+pub stops : (v w : View) (s new : Site) (before now : List ℕ) (done : Bool) → ExecutesAt (marking (codes "DOWN ") s.name) v s w new before now done → ExecutesAt (stop s.name) v s w (stopped_if done new) before now done
+stops v w s new before now done x p h =
+    let r = x p h in
+    subst (λ (b : Bool). Comes (stop s.name p) (IsAt w (stopped_if b new)) before now b) r.done (stops_by s.name w new p r.becomes before now r.text r.answer r.here r.there r.written)

@@ -1,0 +1,140 @@
+-- A site's regions stay on their blocks while its journals and its instance file gain records.
+use Rattle.std.proofs.Common.{◌≡◌, ◌⊎◌, inl, inr, ℕ, ◌<◌, List, [], ◌∷◌, ◌++◌, length, Option, None, refl, sym, ◌∙◌, ap, subst, arith, append-nil, append_assoc}
+use Rattle.std.specs.Prelude.{IsSome, IfSome}
+use Rattle.std.specs.List.{AllByRecursion}
+use Rattle.disk_defs.specs.Disk.{Files}
+use Rattle.journal_defs.specs.Numbers.{database_file}
+use Rattle.journal_defs.specs.Journal.{Part}
+use Rattle.journal_defs.specs.Instance.{InstanceRecord, regions}
+use Rattle.journal_defs.specs.Directory.{patterns}
+use Rattle.journal_defs.specs.Sequence.{Placed, Records}
+use Rattle.journal_defs.specs.Growth.{appended}
+use Rattle.journal_defs.specs.Epochs.{Chosen, chosen, epoch_in, image_in, first_without, NeedsForward}
+use Rattle.journal_defs.specs.Undo.{logged}
+use Rattle.journal_laws.proofs.Targets as targets
+use Rattle.journal_laws.proofs.EveryTarget.{goes_on}
+use Rattle.before_image.proofs.Marks.{knows_other}
+use Rattle.region_store.specs.Region.{Standing, HoldsRegion, IsHeld}
+use Rattle.site_regions.specs.Joined.{Joined, AreChanged, region_at}
+use Rattle.site_regions.proofs.Making.{region_changed}
+use Rattle.disk_defs.proofs.Told.{both_weak}
+use Rattle.global_defs.specs.Entry.{Sequence}
+use Rattle.jnl_record.specs.declared.placed.PlacedRecord.{PlacedRecord}
+use Rattle.mupip_recover.specs.Site.{site_records, journal_of}
+use Rattle.site_defs.specs.OutsideBlocks.{gone_back}
+use Rattle.site_store.specs.Site.{IsOnBlocks, AreOnBlocks}
+use Rattle.site_store.proofs.Newest.{all_parts}
+
+abbrev OnEpoch : List Placed → Chosen → List ℕ → Standing → Type 0
+OnEpoch journal e bytes x = IsSome (first_without journal e) ⊎ HoldsRegion e bytes x
+
+-- other files, with the same database files
+held_same : (d f : Files) (x : Standing) → f x.file ≡ d x.file → IsHeld x d → IsHeld x f
+held_same d f x same held = (held.0, subst (λ (bytes : List ℕ). HoldsRegion held.0 bytes x) (sym same) held.1)
+
+one_same : (d f : Files) (s : Records) (n r : ℕ) (x : Standing) → f (database_file r) ≡ d (database_file r) → IsOnBlocks d s n r x → IsOnBlocks f s n r x
+one_same d f s n r x same on = record {
+  file = on.file;
+  held = held_same d f x (ap f on.file ∙ same ∙ sym (ap d on.file)) on.held;
+  holds = subst (λ (bytes : List ℕ). OnEpoch (s.journal r) (chosen s.instance n (s.journal r)) bytes x) (sym same) on.holds;
+}
+
+pub on_same : (d f : Files) (s : Records) (n : ℕ) (j : Joined) → ((r : ℕ) → r < length (regions s.instance) → f (database_file r) ≡ d (database_file r)) → AreOnBlocks d s n j → AreOnBlocks f s n j
+on_same d f s n j same on = record { patterns = on.patterns; count = on.count; each = λ r here. one_same d f s n r (region_at j r) (same r here) (on.each r here) }
+
+-- changes of nodes
+pub on_changed : (f : Files) (s : Records) (n : ℕ) (old new : Joined) → AreChanged old new → AreOnBlocks f s n old → AreOnBlocks f s n new
+on_changed f s n old new are on = record {
+  patterns = are.patterns ∙ on.patterns;
+  count = are.count ∙ on.count;
+  each = λ r here.
+      let was = on.each r here in
+      let count = on.count in
+      let is = region_changed old new are r (omega (arith, here, count)) in
+      record {
+        file = is.file ∙ was.file;
+        held = (was.held.0, is.holds was.held.0 (f (region_at new r).file) (subst (λ (k : ℕ). HoldsRegion was.held.0 (f k) (region_at old r)) (sym is.file) was.held.1));
+        holds = elim was.holds [ inl needs ↦ inl needs | inr holds ↦ inr (is.holds (chosen s.instance n (s.journal r)) (f (database_file r)) holds) ];
+      };
+}
+
+-- records that are neither images nor epochs that count
+abbrev pub IsPlain : List InstanceRecord → ℕ → Placed → Type 0
+IsPlain instance n p = ((b : ℕ) → image_in p.what b ≡ None) × (epoch_in instance n p.generation p.what [] ≡ None)
+
+held_other : (e : Chosen) (p : Placed) (bytes : List ℕ) (x : Standing) → ((b : ℕ) → image_in p.what b ≡ None) → HoldsRegion e bytes x → HoldsRegion (logged e p) bytes x
+held_other e p bytes x none h = record { clean = h.clean; blocks = h.blocks; knows = knows_other x.imaged e p h.knows none; whole = h.whole }
+
+plain_one : (instance : List InstanceRecord) (n : ℕ) (journal : List Placed) (p : Placed) (bytes : List ℕ) (x : Standing) → IsPlain instance n p → OnEpoch journal (chosen instance n journal) bytes x
+    → OnEpoch (journal ++ p ∷ []) (chosen instance n (journal ++ p ∷ [])) bytes x
+plain_one instance n journal p bytes x plain (inl needs) = inl (goes_on instance n journal p plain.1 needs)
+plain_one instance n journal p bytes x plain (inr holds) =
+    inr (subst (λ (e : Chosen). HoldsRegion e bytes x) (sym (targets.other_record instance n journal p plain.1)) (held_other (chosen instance n journal) p bytes x plain.0 holds))
+
+pub plain_all : (instance : List InstanceRecord) (n : ℕ) (journal ps : List Placed) (bytes : List ℕ) (x : Standing) → AllByRecursion (IsPlain instance n) ps → OnEpoch journal (chosen instance n journal) bytes x
+    → OnEpoch (journal ++ ps) (chosen instance n (journal ++ ps)) bytes x
+plain_all instance n journal [] bytes x plain on = subst (λ (l : List Placed). OnEpoch l (chosen instance n l) bytes x) (sym (append-nil journal)) on
+plain_all instance n journal (p ∷ ps) bytes x plain on =
+    subst (λ (l : List Placed). OnEpoch l (chosen instance n l) bytes x) (append_assoc journal (p ∷ []) ps)
+    (plain_all instance n (journal ++ p ∷ []) ps bytes x plain.1 (plain_one instance n journal p bytes x plain.0 on))
+
+-- another instance file or another target, by which the same epochs are chosen
+pub on_chosen : (f : Files) (s u : Records) (n m : ℕ) (j : Joined) → length (regions u.instance) ≡ length (regions s.instance) → patterns u.instance ≡ patterns s.instance
+    → ((r : ℕ) → r < length (regions s.instance) → (u.journal r ≡ s.journal r) × (chosen u.instance m (s.journal r) ≡ chosen s.instance n (s.journal r))) → AreOnBlocks f s n j → AreOnBlocks f u m j
+on_chosen f s u n m j many same chose on = record {
+  patterns = on.patterns ∙ sym same;
+  count = on.count ∙ sym many;
+  each = λ r low.
+      let here : r < length (regions s.instance) = omega (arith, low, many) in
+      let was = on.each r here in
+      record {
+        file = was.file;
+        held = was.held;
+        holds = subst (λ (l : List Placed). OnEpoch l (chosen u.instance m l) (f (database_file r)) (region_at j r)) (sym (chose r here).0)
+            (subst (λ (e : Chosen). OnEpoch (s.journal r) e (f (database_file r)) (region_at j r)) (sym (chose r here).1) was.holds);
+      };
+}
+
+-- records more in each region
+pub on_more : (f : Files) (s u : Records) (n : ℕ) (j : Joined) (more : ℕ → List Placed) → u.instance ≡ s.instance → ((r : ℕ) → r < length (regions s.instance) → u.journal r ≡ s.journal r ++ more r)
+    → ((r : ℕ) → r < length (regions s.instance) → AllByRecursion (IsPlain s.instance n) (more r)) → AreOnBlocks f s n j → AreOnBlocks f u n j
+on_more f s u n j more same is plain on = record {
+  patterns = on.patterns ∙ ap patterns (sym same);
+  count = on.count ∙ ap (λ (l : List InstanceRecord). length (regions l)) (sym same);
+  each = λ r low.
+      let many : length (regions u.instance) ≡ length (regions s.instance) = ap (λ (l : List InstanceRecord). length (regions l)) same in
+      let here : r < length (regions s.instance) = omega (arith, low, many) in
+      let was = on.each r here in
+      record {
+        file = was.file;
+        held = was.held;
+        holds = subst (λ (l : List Placed). OnEpoch l (chosen u.instance n l) (f (database_file r)) (region_at j r)) (sym (is r here))
+            (subst (λ (i : List InstanceRecord). OnEpoch (s.journal r ++ more r) (chosen i n (s.journal r ++ more r)) (f (database_file r)) (region_at j r)) (sym same)
+            (plain_all s.instance n (s.journal r) (more r) (f (database_file r)) (region_at j r) (plain r here) was.holds));
+      };
+}
+
+-- the parts of entries
+pub parts_plain : (instance : List InstanceRecord) (n g : ℕ) (ps : List (ℕ → Option Part)) (r : ℕ) → AllByRecursion (IsPlain instance n) (appended g ps r)
+parts_plain instance n g ps r = all_parts (IsPlain instance n) g (λ x. ((λ b. refl), refl)) ps r
+
+-- regions as they were opened
+abbrev pub Held : List InstanceRecord → List (List PlacedRecord) → Sequence → ℕ → Joined → Files → Type 0
+Held rs js seq n j files = (r : ℕ) → r < length j.regions → NeedsForward rs n (journal_of js r) ⊎ HoldsRegion (gone_back (site_records rs js) seq r) (files (database_file r)) (region_at j r)
+
+abbrev pub AllHeld : Joined → Files → Type 0
+AllHeld j files = (r : ℕ) → r < length j.regions → IsHeld (region_at j r) files
+
+pub on_blocks : (o : Option Files) (rs : List InstanceRecord) (js : List (List PlacedRecord)) (seq : Sequence) (n : ℕ) (j : Joined) → length seq ≡ n → j.patterns ≡ patterns rs → length j.regions ≡ length (regions rs)
+    → ((r : ℕ) → r < length j.regions → (region_at j r).file ≡ database_file r) → IfSome o (Held rs js seq n j) → IfSome o (AllHeld j) → IfSome o (λ files. AreOnBlocks files (site_records rs js) (length seq) j)
+on_blocks o rs js seq n j size same count file holds held = both_weak o (Held rs js seq n j) (AllHeld j) (λ files. AreOnBlocks files (site_records rs js) (length seq) j) holds held (λ files h all. record {
+  patterns = same;
+  count = count;
+  each = λ r here.
+      let low : r < length j.regions = omega (arith, here, count) in
+      record {
+        file = file r low;
+        held = all r low;
+        holds = elim (h r low) [ inl needs ↦ inl (subst (λ (k : ℕ). NeedsForward rs k (journal_of js r)) (sym size) needs) | inr holds ↦ inr holds ];
+      };
+})

@@ -1,0 +1,4 @@
+use Rattle.site_store.proofs.owning.Site.take_epoch.Goals as goal
+
+pub returns-in-Ok-clause-done : goal.returns-in-Ok-clause-done
+returns-in-Ok-clause-done g c told x is = record { fault = is.fault; inner = c.in-Ok.ensures.done told x is.inner }

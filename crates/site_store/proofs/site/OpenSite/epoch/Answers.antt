@@ -1,0 +1,55 @@
+use Rattle.std.proofs.Common.{arith, refl, OnOk, IsOk}
+use Rattle.std.specs.Prelude.{Result}
+use Rattle.std.specs.declared.result.Result.TheVariants.{Ok, Err}
+use Rattle.journal_defs.specs.Instance.{generation}
+use Rattle.site_store.proofs.Marked as marking
+use Rattle.site_store.proofs.Standing.{still}
+use Rattle.site_store.proofs.site.OpenSite.epoch.Goals as goal
+
+-- what holds of an epoch that was taken
+of_taken : {E F : Type 0} (taken : Result Unit E) (result : Result Unit F) (P Q : Type 0) → OnOk result (IsOk taken) → OnOk taken P → (P → Q) → OnOk result Q
+of_taken (Ok x) (Ok y) P Q done p k = k p
+of_taken (Err e) (Ok y) P Q done p k = absurd (cc done)
+of_taken taken (Err e) P Q done p k = tt
+
+pub returns-clause-ready : goal.returns-clause-ready
+returns-clause-ready g c =
+    let t = c.take_epoch-taken in
+    let v = g.D.Disk.disk c.args.disk.now in
+    let w = g.D.Disk.disk t.new.disk in
+    of_taken t.result c.answered.result _ _ c.answered.ensures.done t.ensures.together (λ together.
+    marking.ready_taken v w c.args.self.now _ c.requires.ready t.ensures.frame together t.ensures.count t.ensures.same refl refl refl)
+
+pub returns-clause-done : goal.returns-clause-done
+returns-clause-done g c =
+    let t = c.take_epoch-taken in
+    let v = g.D.Disk.disk c.args.disk.now in
+    let w = g.D.Disk.disk t.new.disk in
+    of_taken t.result c.answered.result _ _ c.answered.ensures.done t.ensures.done (λ taken told x o.
+    marking.open_taken v w told c.args.closing x c.args.self.now _ c.requires.ready c.count-number.ensures.joined (g.met.D.Disk.lawful c.args.disk.now) (g.met.D.Disk.lawful t.new.disk)
+    (λ u seq h newer kept size. taken u seq h newer kept (let e = c.len-number.ensures in omega (arith, size, e))) t.ensures.frame t.ensures.same refl refl refl o)
+
+pub returns-clause-any_moment : goal.returns-clause-any_moment
+returns-clause-any_moment g c x o =
+    let t = c.take_epoch-taken in
+    marking.marks_moments (g.D.Disk.disk c.args.disk.now) (g.D.Disk.disk t.new.disk) x c.args.self.now (o.kept refl) o.remembered c.requires.ready c.count-number.ensures.joined (g.met.D.Disk.lawful c.args.disk.now) (g.met.D.Disk.lawful t.new.disk)
+    (λ u seq h newer kept size. t.ensures.any_moment u seq h newer kept (let e = c.len-number.ensures in omega (arith, size, e)))
+
+pub returns-clause-left : goal.returns-clause-left
+returns-clause-left g c x o =
+    let t = c.take_epoch-taken in
+    marking.marks_left (g.D.Disk.disk c.args.disk.now) (g.D.Disk.disk t.new.disk) x c.args.self.now (o.kept refl) o.remembered c.requires.ready c.count-number.ensures.joined (g.met.D.Disk.lawful c.args.disk.now) (g.met.D.Disk.lawful t.new.disk)
+    (λ u seq h newer kept size. t.ensures.any_moment u seq h newer kept (let e = c.len-number.ensures in omega (arith, size, e)))
+
+pub returns-clause-stands : goal.returns-clause-stands
+returns-clause-stands g c x o =
+    let t = c.take_epoch-taken in
+    marking.marks_stands (g.D.Disk.disk c.args.disk.now) (g.D.Disk.disk t.new.disk) x c.args.self.now (o.kept refl) o.remembered c.requires.ready c.count-number.ensures.joined (g.met.D.Disk.lawful c.args.disk.now) (g.met.D.Disk.lawful t.new.disk)
+    (λ u seq h newer kept size. t.ensures.any_moment u seq h newer kept (let e = c.len-number.ensures in omega (arith, size, e)))
+
+pub returns-clause-still_told : goal.returns-clause-still_told
+returns-clause-still_told g c told =
+    still (g.D.Disk.disk c.args.disk.now) (g.D.Disk.disk c.take_epoch-taken.new.disk) _ (c.take_epoch-taken.ensures.frame (generation c.args.self.now.instance.records) c.requires.ready.journals) told
+
+pub returns-clause-simulated : goal.returns-clause-simulated
+returns-clause-simulated g c = (c.take_epoch-taken.ensures.frame (generation c.args.self.now.instance.records) c.requires.ready.journals).simulated

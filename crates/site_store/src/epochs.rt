@@ -1,0 +1,73 @@
+//! Bringing a site to an epoch.
+ghost use Rattle.std.specs.Prelude.{◌≡◌, ◌⊎◌, ◌≤◌, ℕ, Bool, true, length, IfSome, IsOk, OnOk, OnErr, IsErrOf, IsSome};
+ghost use Rattle.disk_defs.specs.Disk.{AtEachMoment, Rose};
+ghost use Rattle.site_defs.specs.Contents.{Contents, Standing, bare};
+ghost use Rattle.site_defs.specs.Epochs.{marked, MayMark, MayMarkLeft};
+ghost use Rattle.site_defs.specs.Stands.{IsSite};
+ghost use Rattle.site_defs.specs.Behind.{IsSiteWith};
+ghost use Rattle.site_store.specs.Site.{IsReady, IsOpen, HasReign};
+
+use crate::error::SiteError;
+use crate::site::OpenSite;
+use region_epochs::{EpochError, take_epoch};
+use repl_disk::Disk;
+use std::alloc::Global;
+
+/// What is answered of an epoch, where the disk has this count of faults behind it.
+fn answered(taken: Result<(), EpochError>, fault: u64) -> Result<(), SiteError>
+    ensures done { OnOk result (IsOk taken) }
+    ensures count { (told : ℕ) → IsErrOf result (SiteError.Failed told) → (told ≡ fault) × IsErrOf taken EpochError.Failed }
+    ensures causes { OnErr result (((told : ℕ) × IsErrOf result (SiteError.Failed told)) ⊎ IsErrOf result SiteError.NoMemory) }
+{
+    match taken {
+        Ok(()) => Ok(()),
+        Err(EpochError::NoMemory) => Err(SiteError::NoMemory),
+        Err(EpochError::Failed) => Err(SiteError::Failed { fault }),
+    }
+}
+
+impl OpenSite {
+    /// Brings each region to an epoch of all entries, which have to be hardened: logs the images of the blocks that changed since the
+    /// last one, writes these blocks to the database files, and puts an EPOCH behind them in each region's journal. An opening then goes
+    /// back to that epoch, and makes no update before it again. The last epoch before the site is closed is a closing one.
+    ///
+    /// # Errors
+    /// `Failed` only where the disk's count rose, and `NoMemory`. The site is of no more use then; a crash finds the same entries, and the
+    /// epoch in some regions.
+    pub fn epoch<D: Disk>(
+        &mut self,
+        alloc: Global,
+        disk: &mut D,
+        closing: bool,
+    ) -> Result<(), SiteError>
+        requires ready { IsReady (D.disk disk.old) self.old }
+        ensures ready { OnOk result (IsReady (D.disk disk.new) self.new) }
+        ensures done { OnOk result ((told : Bool) (c : Contents) → IsOpen (D.disk disk.old) told c (length c.sequence) self.old → IsOpen (D.disk disk.new) told (marked c) (length c.sequence) self.new) }
+        ensures entries { self.new.entries.items ≡ self.old.entries.items }
+        ensures instance { self.new.instance ≡ self.old.instance }
+        ensures hardened { self.new.hardened ≡ self.old.hardened }
+        ensures stamp { self.new.stamp ≡ self.old.stamp }
+        ensures reign { HasReign self.old → HasReign self.new }
+        ensures any_moment { (c : Contents) → IsOpen (D.disk disk.old) true c (length c.sequence) self.old → AtEachMoment (D.disk disk.old) (D.disk disk.new) (λ f. (o : Contents) × MayMark c o × IsSite f o) }
+        ensures left { (c : Contents) → IsOpen (D.disk disk.old) true c (length c.sequence) self.old → AtEachMoment (D.disk disk.old) (D.disk disk.new) (λ f. (o : Standing) × MayMarkLeft (bare c) o × IsSiteWith f o) }
+        ensures stands { (c : Contents) → IsOpen (D.disk disk.old) true c (length c.sequence) self.old → IfSome (D.disk disk.new).content (λ f. (o : Contents) × MayMark c o × IsSite f o) }
+        ensures still_told { IsSome (D.disk disk.old).content → IsSome (D.disk disk.new).content }
+        ensures simulated { (D.disk disk.new).simulated ≡ (D.disk disk.old).simulated }
+        ensures later { (D.disk disk.old).faults ≤ (D.disk disk.new).faults }
+        ensures count { (fault : ℕ) → IsErrOf result (SiteError.Failed fault) → fault ≡ (D.disk disk.new).faults }
+        ensures cause { (fault : ℕ) → IsErrOf result (SiteError.Failed fault) → Rose (D.disk disk.old).faults (D.disk disk.new).faults }
+        ensures causes { OnErr result (((fault : ℕ) × IsErrOf result (SiteError.Failed fault)) ⊎ IsErrOf result SiteError.NoMemory) }
+    {
+        let _ = self.globals.count();
+        let number = self.entries.len() as u64;
+        let taken = take_epoch(
+            alloc,
+            disk,
+            &mut self.journals,
+            &mut self.globals,
+            number,
+            closing,
+        );
+        answered(taken, disk.faults())
+    }
+}

@@ -1,0 +1,20 @@
+use Rattle.std.proofs.Common.{◌≡◌, [], ◌∷◌, length, None, refl, ◌∙◌, ap}
+use Rattle.std.specs.Prelude.{codes}
+use Rattle.std.specs.Fmt.{digits}
+use Rattle.global_defs.specs.Entry.{Sequence}
+use Rattle.site_defs.specs.Texts.{extract_from}
+use Rattle.world_defs.proofs.laws.extracting_holds.Goals as goal
+
+pub returns-clause-known : goal.returns-clause-known
+returns-clause-known c contents q text told h = h.1.shows ∙ ap (extract_from (codes "A") None) (h.1.told refl)
+
+no_entry : (entries : Sequence) → length entries ≡ 0 → entries ≡ []
+no_entry [] none = refl
+no_entry (e ∷ entries) none = cc
+
+header_alone : extract_from (codes "A") None [] ≡ codes "GTMRJEX01\\A\\1\n"
+unfolding digits
+header_alone = refl
+
+pub returns-clause-count : goal.returns-clause-count
+returns-clause-count c q text told h = h.1.shows ∙ ap (extract_from (codes "A") None) (no_entry h.1.entries h.1.count) ∙ header_alone
