@@ -1,16 +1,16 @@
 -- EPOCH and STOP at a place: what bringing a site to an epoch leaves there.
-use Rattle.std.proofs.Common.{◌≡◌, ℕ, zero, suc, ◌+◌, ◌≤◌, ◌<◌, ◌==◌, ◌&&◌, nat_lt, Bool, true, false, List, [], ◌∷◌, ◌++◌, length, map, None, Some, refl, sym, ◌∙◌, ap, subst, arith, inl, inr, if◌then◌else◌}
+use Rattle.std.proofs.Common.{◌≡◌, ℕ, zero, suc, ◌≤◌, ◌<◌, ◌&&◌, nat_lt, Bool, true, false, List, [], ◌∷◌, ◌++◌, length, map, None, Some, refl, sym, ◌∙◌, ap, subst, arith, inl, inr, if◌then◌else◌}
 use Rattle.std.specs.Prelude.{◌⊎◌, Option, codes, IsSome}
 use Rattle.std.specs.Fmt.{decimal}
 use Rattle.std.specs.List.{flat_map}
 use Rattle.std.proofs.Math.Path.{fun_ext}
-use Rattle.std.proofs.lemmas.Bool.{false≢true, eqb-true, ltb-true}
-use Rattle.disk_defs.specs.Disk.{Files, View, Image, IsLawful, AtEachMoment, Rose}
+use Rattle.std.proofs.lemmas.Bool.{ltb-true}
+use Rattle.disk_defs.specs.Disk.{View, IsLawful, AtEachMoment, Rose}
 use Rattle.site_store.specs.declared.site.OpenSite.{OpenSite}
 use Rattle.journal_defs.specs.Instance.{generation, regions}
 use Rattle.site_store.specs.Site.{IsOpen}
 use Rattle.repl_section.specs.declared.reign.Reign.{Reign}
-use Rattle.repl_section.specs.Reigns.{Reigns, stamp_in, stamp_of}
+use Rattle.repl_section.specs.Reigns.{stamp_in, stamp_of}
 use Rattle.command_defs.specs.Commands.{Name}
 use Rattle.site_defs.specs.Lists.{Among}
 use Rattle.site_defs.specs.Contents.{Taken, Contents, Standing, NO_LEFTOVER, bare}
@@ -22,19 +22,16 @@ use Rattle.world_defs.specs.World.{Place, StandAfter}
 use Rattle.world_defs.specs.Answers.{Refusal, Answer, Done, Refused, DiskFault, NotAFile, Ran, Typed, line}
 use Rattle.world_defs.specs.Row.{or_else, Here}
 use Rattle.world_defs.specs.Changes.{in_new_state, After}
-use Rattle.world_defs.specs.Step.{LeftByRow, is_done}
-use Rattle.world_defs.specs.Ties.{Matches}
+use Rattle.world_defs.specs.Step.{is_done}
 use Rattle.world_defs.specs.rows.Stop.{stop}
-use Rattle.site_runner.specs.declared.slot.State.{State}
 use Rattle.site_runner.specs.declared.slot.State.TheVariants.{Down, Primary, Failed}
 use Rattle.site_runner.specs.declared.slot.Site.{Site}
-use Rattle.site_runner.specs.Sites as sites
-use Rattle.site_runner.specs.Sites.{state_value, site_value, IsOf, IsMade}
+use Rattle.site_runner.specs.Sites.{state_value, IsOf}
 use Rattle.site_runner.specs.Executes.{Comes}
 use Rattle.site_runner.specs.Steps.{in_state, IsAt, ExecutesAt, IsCutAt}
 use Rattle.site_runner.specs.Marking.{marking}
 use Rattle.site_runner.proofs.Amongs.{among_map, map_among, among_flat}
-use Rattle.site_runner.proofs.Ats.{comes_done, comes_fault, at_moment, some_outcome, told_is, Leftovers, NothingIsLeft, ReadPlace, ImagesStand, place_of_images, place_of_one, only, open_reads, open_images, stands_with}
+use Rattle.site_runner.proofs.Ats.{comes_done, comes_fault, at_moment, some_outcome, told_is, Leftovers, NothingIsLeft, ReadPlace, place_of_images, place_of_one, only, open_reads, open_images, stands_with}
 use Rattle.site_runner.proofs.Remembered.{entries_count}
 use Rattle.site_runner.proofs.Stopped.{open_at, reigns_at, open_at_place}
 

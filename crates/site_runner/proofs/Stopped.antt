@@ -1,10 +1,10 @@
 -- Commands on a site, as commands on its slot; EXTRACT, ZWRITE and SHOW at a place.
 use Rattle.std.proofs.Common.{◌≡◌, ℕ, true, false, List, [], ◌∷◌, ◌++◌, length, map, Some, refl, sym, ◌∙◌, ap, subst, arith, inl, nat_eq, append_assoc, Bool, None}
-use Rattle.std.specs.Prelude.{Option, codes, option_map, IsSomeAnd, Result, IfOk, OnErr}
+use Rattle.std.specs.Prelude.{Option, codes, option_map, Result, IfOk, OnErr}
 use Rattle.std.specs.Fmt.{decimal}
 use Rattle.std.specs.List.{enumerate_from, flat_map}
 use Rattle.std.proofs.lemmas.Bool.{eqb-true}
-use Rattle.disk_defs.specs.Disk.{Files, View}
+use Rattle.disk_defs.specs.Disk.{View}
 use Rattle.global_defs.specs.Key.{Key}
 use Rattle.global_defs.specs.Entry as defs
 use Rattle.global_defs.specs.Entry.{Globals, Sequence}
@@ -16,19 +16,16 @@ use Rattle.gvn_model.specs.Numbered.{numbered}
 use Rattle.world_defs.specs.World as world
 use Rattle.command_defs.specs.Commands.{Name}
 use Rattle.world_defs.specs.World.{Place, name_on}
-use Rattle.site_defs.specs.Contents.{Leftover, NO_LEFTOVER, same_name, bare}
+use Rattle.site_defs.specs.Contents.{same_name}
 use Rattle.world_defs.specs.Answers.{Refusal, line}
 use Rattle.world_defs.specs.Row.{Row, or_else, refused_with, in_state, why_not_open}
-use Rattle.world_defs.specs.Changes.{in_new_state}
 use Rattle.world_defs.specs.Step.{LeftByRow}
 use Rattle.world_defs.specs.Ties.{Matches}
 use Rattle.world_defs.specs.Meaning.{row_at}
 use Rattle.world_defs.specs.rows.Extract.{extract}
 use Rattle.world_defs.specs.rows.Show.{reign_text, show_state, show_on, show}
-use Rattle.world_defs.specs.rows.Stop.{stop}
 use Rattle.world_defs.specs.rows.Zwrite as rows
 use Rattle.site_defs.specs.Texts.{extract_from, zwrite}
-use Rattle.site_defs.specs.Stands.{Stands, Reads}
 use Rattle.site_regions.specs.Joined.{joined}
 use Rattle.repl_section.specs.declared.reign.Reign.{Reign}
 use Rattle.repl_section.specs.Reigns.{Reigns, stamp_of}
@@ -36,14 +33,14 @@ use Rattle.site_runner.specs.declared.slot.State.{State}
 use Rattle.site_runner.specs.declared.slot.State.TheVariants.{Down, Primary, Failed}
 use Rattle.site_runner.specs.declared.slot.Site.{Site}
 use Rattle.site_runner.specs.declared.slot.Slot.{Slot}
-use Rattle.site_runner.specs.Sites.{site_value, state_value, is_slot_named, IsOf, IsOpen, HoldsState, HoldsSite}
+use Rattle.site_runner.specs.Sites.{site_value, state_value, is_slot_named, IsOpen, HoldsState, HoldsSite}
 use Rattle.site_runner.specs.Executes.{Comes, ExecutesHere, IsCutHere}
 use Rattle.site_runner.specs.Tied.{IsPlace}
 use Rattle.site_runner.proofs.Results.{on_errs, err_holds}
 use Rattle.site_runner.proofs.Remembered.{sequence_one, entries_so, entries_count, entries_known}
 use Rattle.site_runner.specs.Steps.{state_text, IsAt, ExecutesAt, IsCutAt}
 use Rattle.site_runner.proofs.Cuts.{split_and}
-use Rattle.site_runner.proofs.Ats.{stand_same, left_old, comes_done, comes_typed, comes_so, on_done, state_at, kept_same, only, ImagesStand}
+use Rattle.site_runner.proofs.Ats.{stand_same, left_old, comes_done, comes_typed, comes_so, on_done, state_at, kept_same}
 
 pub names_same : (a b : Name) → same_name a b ≡ true → a ≡ b
 names_same [] [] e = refl
