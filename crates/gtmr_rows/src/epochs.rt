@@ -267,7 +267,7 @@ fn a_stop_that_fails_at_each_call(rt: HostRuntime) {
 }
 
 /// The byte at place 17 of the first region's database file; 0 where the file ends before it.
-fn byte_of_the_node(rt: &impl Abort, disk: &mut MemDisk) -> u8 {
+fn byte_of_the_node<D: Disk>(rt: &impl Abort, disk: &mut D) -> u8 {
     if disk.len(1).expect(rt, "a length") < 18 {
         return 0;
     }
@@ -276,8 +276,11 @@ fn byte_of_the_node(rt: &impl Abort, disk: &mut MemDisk) -> u8 {
     read[0]
 }
 
-/// Writes these bytes into the first region's database file.
-fn write_blocks(rt: &impl Abort, disk: &mut MemDisk, at: u64, bytes: &[u8]) {
+/// Writes these bytes into the first region's database file, which doesn't end before that place.
+fn write_blocks<D: Disk>(rt: &impl Abort, disk: &mut D, at: u64, bytes: &[u8]) {
+    if disk.len(1).expect(rt, "a length") < at {
+        return;
+    }
     disk.room(1, 1, bytes.len() as u64).expect(rt, "memory");
     disk.write_at(1, at, bytes).expect(rt, "a write");
 }
