@@ -28,11 +28,13 @@ pub record Contents : Type 0 where
   pub epochs : ℕ → List Taken
   -- its broken-transaction files, from generation 1 to the newest one
   pub texts : List (List ℕ)
+  -- its lost-transaction files, of the same generations
+  pub losts : List (List ℕ)
   pub sequence : Sequence
 
 -- no site was made there
 abbrev pub nothing : Contents
-nothing = record { instance = []; starts = λ r. []; epochs = λ r. []; texts = []; sequence = [] }
+nothing = record { instance = []; starts = λ r. []; epochs = λ r. []; texts = []; losts = []; sequence = [] }
 
 -- a site was made there
 abbrev pub is_made : Contents → Bool

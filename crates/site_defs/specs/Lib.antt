@@ -12,4 +12,5 @@ pub mod OutsideInstance
 pub mod OutsideJournal
 pub mod Outside
 pub mod OutsideBlocks
+pub mod Rolling
 pub mod Samples

@@ -22,9 +22,13 @@ with_pattern region text c = record c { instance = c.instance ++ pattern_record 
 abbrev pub MayMap : Name → List ℕ → Contents → Contents → Type 0
 MayMap region text c o = (o ≡ c) ⊎ ((number : ℕ) × (region_number region c ≡ Some number) × (o ≡ with_pattern number text c))
 
+-- with a CUT of its length, the text of what is broken, and these bytes of a lost-transaction file
+abbrev pub cut_with : (broken lost : List ℕ) → Contents → Contents
+cut_with broken lost c = record c { instance = c.instance ++ records.Cut (length c.sequence) (generation c.instance + 1) ∷ []; texts = c.texts ++ broken ∷ []; losts = c.losts ++ lost ∷ [] }
+
 -- with a CUT of its length, and the text of what is broken
 abbrev pub cut_there : List ℕ → Contents → Contents
-cut_there broken c = record c { instance = c.instance ++ records.Cut (length c.sequence) (generation c.instance + 1) ∷ []; texts = c.texts ++ broken ∷ [] }
+cut_there broken c = cut_with broken [] c
 
 -- the generation of the last of these, or the one before them
 abbrev pub last_generation : ℕ → List Start → ℕ

@@ -61,3 +61,7 @@ abbrev pub IsOutsideSite : Files → ℕ → ℕ → Type 0
 IsOutsideSite files file offset =
     IsOutsideRecords files file offset
     ⊎ ((rs : List InstanceRecord) × IsInstance (files INSTANCE) rs × HaveBegun files (length (regions rs)) (suc (generation rs)) file offset)
+
+-- or the generation behind that one has
+abbrev pub IsBegunAhead : Files → ℕ → ℕ → Type 0
+IsBegunAhead files file offset = (rs : List InstanceRecord) × IsInstance (files INSTANCE) rs × HaveBegun files (length (regions rs)) (suc (suc (generation rs))) file offset

@@ -3,7 +3,7 @@ use Rattle.std.specs.Prelude.{◌≡◌, ◌≢◌, ◌⊎◌, ℕ, zero, suc, �
 use Rattle.std.specs.List.{AllByRecursion, filter_map}
 use Rattle.disk_defs.specs.Disk.{Files}
 use Rattle.disk_defs.specs.Gates as gates
-use Rattle.journal_defs.specs.Numbers.{INSTANCE, broken_file}
+use Rattle.journal_defs.specs.Numbers.{INSTANCE, lost_file, broken_file}
 use Rattle.journal_defs.specs.Journal.{JournalRecord, Start, Pini, Epoch, Pblk, Tcom}
 use Rattle.journal_defs.specs.Instance.{regions, generation, site_name}
 use Rattle.journal_defs.specs.Directory.{Pattern, patterns}
@@ -37,6 +37,11 @@ abbrev pub texts_of : Files → ℕ → List (List ℕ)
 texts_of files zero = []
 texts_of files (suc g) = texts_of files g ++ files (broken_file (suc g)) ∷ []
 
+-- the lost-transaction files of the first g generations
+abbrev pub losts_of : Files → ℕ → List (List ℕ)
+losts_of files zero = []
+losts_of files (suc g) = losts_of files g ++ files (lost_file (suc g)) ∷ []
+
 -- The files of a site that stand for this, are clean, and are sound for every target. Each pattern is for a region of it.
 pub record IsSite (files : Files) (c : Contents) : Type 0 where
   pub made : is_made c ≡ true
@@ -46,6 +51,7 @@ pub record IsSite (files : Files) (c : Contents) : Type 0 where
   pub starts : (r : ℕ) → c.starts r ≡ filter_map (λ p. start_in p.what) (records.journal r)
   pub epochs : (r : ℕ) → c.epochs r ≡ filter_map (λ p. epoch_in p.generation p.what) (records.journal r)
   pub texts : c.texts ≡ texts_of files (generation c.instance)
+  pub losts : c.losts ≡ losts_of files (generation c.instance)
   pub image : IsSoundImage files records c.sequence
 
 -- The files of that site have this behind its sequence.

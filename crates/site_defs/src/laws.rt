@@ -4,13 +4,14 @@ ghost use Rattle.journal_defs.specs.Instance as records;
 ghost use Rattle.site_defs.specs.Limits.{no_generation_left, no_reign_left};
 ghost use Rattle.site_defs.specs.Epochs.{epoch_for, with_epochs, marked};
 ghost use Rattle.site_defs.specs.Opening.{opened, with_starts, with_reign, next_stamp};
-ghost use Rattle.site_defs.specs.Samples.{made, reigned_once, dropped_reign, two_regions, cut_epoch};
+ghost use Rattle.site_defs.specs.Rolling.{rolled, lost_text};
+ghost use Rattle.site_defs.specs.Samples.{made, reigned_once, dropped_reign, two_regions, cut_epoch, set_once, two_entries};
 
 /// The last generation and the last cycle are limits; a cycle is drawn past that of a reign that was dropped.
 pub fn limits_hold()
-    ensures generations { no_generation_left (record { instance = records.Cut 0 65534 ∷ []; starts = λ r. []; epochs = λ r. []; texts = []; sequence = [] }) ≡ true }
-    ensures one_less { no_generation_left (record { instance = records.Cut 0 65533 ∷ []; starts = λ r. []; epochs = λ r. []; texts = []; sequence = [] }) ≡ false }
-    ensures cycles { no_reign_left (record { instance = records.Reigned (record { stamp = record { root = codes "Z"; cycle = 4294967295 }; start = 1 }) ∷ []; starts = λ r. []; epochs = λ r. []; texts = []; sequence = [] }) ≡ true }
+    ensures generations { no_generation_left (record { instance = records.Cut 0 65534 ∷ []; starts = λ r. []; epochs = λ r. []; texts = []; losts = []; sequence = [] }) ≡ true }
+    ensures one_less { no_generation_left (record { instance = records.Cut 0 65533 ∷ []; starts = λ r. []; epochs = λ r. []; texts = []; losts = []; sequence = [] }) ≡ false }
+    ensures cycles { no_reign_left (record { instance = records.Reigned (record { stamp = record { root = codes "Z"; cycle = 4294967295 }; start = 1 }) ∷ []; starts = λ r. []; epochs = λ r. []; texts = []; losts = []; sequence = [] }) ≡ true }
     ensures dropped { (next_stamp (codes "A") dropped_reign).cycle ≡ 2 }
 {}
 
@@ -42,4 +43,19 @@ pub fn epochs_are_taken()
     ensures discarded { epoch_for cut_epoch.instance 1 (cut_epoch.epochs 0) ≡ 0 }
     ensures survived { epoch_for reigned_once.instance 5 (record { generation = 1; number = 3 } ∷ record { generation = 1; number = 4 } ∷ []) ≡ 4 }
     ensures for_fewer { epoch_for reigned_once.instance 3 (record { generation = 1; number = 3 } ∷ record { generation = 1; number = 4 } ∷ []) ≡ 3 }
+{}
+
+/// A rollback keeps the first entries, and the extract of the others is in the lost-transaction file of the first of the two generations that
+/// it draws. The second one ends with an epoch of what stays.
+pub fn rollbacks_hold()
+    ensures kept { (rolled 1 [] two_entries).sequence ≡ set_once 1 (codes "a") ∷ [] }
+    ensures cuts { (rolled 1 [] two_entries).instance ≡ two_entries.instance ++ records.Cut 2 2 ∷ records.Cut 1 3 ∷ [] }
+    ensures lost { (rolled 1 [] two_entries).losts ≡ [] ∷ codes "GTMRJEX01\\A\\2\nSET\\2\\A.1\\1.2\\^X=\"b\"\n" ∷ [] ∷ [] }
+    ensures broken { (rolled 1 (codes "x") two_entries).texts ≡ [] ∷ codes "x" ∷ [] ∷ [] }
+    // where all stay, the file is its header alone
+    ensures none { lost_text 2 two_entries ≡ codes "GTMRJEX01\\A\\3\n" }
+    // the first of the two generations begins nowhere
+    ensures starts { (rolled 1 [] two_entries).starts 0 ≡ two_entries.starts 0 ++ record { region = 0; before = true; generation = 3; previous = 1 } ∷ [] }
+    ensures epoch { (rolled 1 [] two_entries).epochs 0 ≡ record { generation = 3; number = 1 } ∷ [] }
+    ensures gone_back { epoch_for (rolled 1 [] two_entries).instance 1 ((rolled 1 [] two_entries).epochs 0) ≡ 1 }
 {}
