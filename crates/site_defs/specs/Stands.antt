@@ -1,5 +1,5 @@
 -- What files stand for.
-use Rattle.std.specs.Prelude.{◌≡◌, ◌≢◌, ◌⊎◌, ℕ, zero, suc, ◌<◌, true, List, [], ◌∷◌, ◌++◌, length, Option, Some, None}
+use Rattle.std.specs.Prelude.{◌≡◌, ◌≢◌, ◌⊎◌, ℕ, zero, suc, ◌<◌, true, List, [], ◌∷◌, ◌++◌, length, nat_lt, Option, Some, None, if◌then◌else◌}
 use Rattle.std.specs.List.{AllByRecursion, filter_map}
 use Rattle.disk_defs.specs.Disk.{Files}
 use Rattle.disk_defs.specs.Gates as gates
@@ -10,6 +10,7 @@ use Rattle.journal_defs.specs.Directory.{Pattern, patterns}
 use Rattle.journal_defs.specs.Sequence.{Records}
 use Rattle.journal_defs.specs.Stands.{AreRecords}
 use Rattle.journal_defs.specs.Broken.{broken, broken_text}
+use Rattle.journal_defs.specs.Clean.{MOST_GENERATIONS}
 use Rattle.journal_defs.specs.Fit.{IsSoundImage}
 use Rattle.site_defs.specs.Contents.{Taken, Contents, Leftover, NO_LEFTOVER, nothing, is_made}
 
@@ -54,12 +55,16 @@ pub record IsSite (files : Files) (c : Contents) : Type 0 where
   pub losts : c.losts ≡ losts_of files (generation c.instance)
   pub image : IsSoundImage files records c.sequence
 
+-- the broken-transaction file of the next generation, where there can be one
+abbrev pub torn_of : Files → ℕ → List ℕ
+torn_of files g = if nat_lt g MOST_GENERATIONS then files (broken_file (suc g)) else []
+
 -- The files of that site have this behind its sequence.
 pub record HasLeft (files : Files) (c : Contents) (left : Leftover) : Type 0 where
   pub records : Records
   pub held : AreRecords files records
   pub broken : left.broken ≡ broken_text (site_name c.instance) (length c.sequence) (broken records (length c.sequence))
-  pub torn : left.torn ≡ files (broken_file (suc (generation c.instance)))
+  pub torn : left.torn ≡ torn_of files (generation c.instance)
 
 -- the files stand for this
 abbrev pub Stands : Files → Contents → Type 0
