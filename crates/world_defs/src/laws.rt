@@ -51,8 +51,8 @@ pub fn attaching_holds()
 
 /// The limits are those of a site's contents; a site that was created is the sample.
 pub fn causes_hold()
-    ensures generations { generation_limit (record { instance = records.Cut 0 65534 ∷ []; starts = λ r. []; epochs = λ r. []; texts = []; sequence = [] }) ≡ Some GenLimit }
-    ensures cycles { reign_limit (record { instance = records.Reigned (record { stamp = record { root = codes "Z"; cycle = 4294967295 }; start = 1 }) ∷ []; starts = λ r. []; epochs = λ r. []; texts = []; sequence = [] }) ≡ Some ReignLimit }
+    ensures generations { generation_limit (record { instance = records.Cut 0 65534 ∷ []; starts = λ r. []; epochs = λ r. []; texts = []; losts = []; sequence = [] }) ≡ Some GenLimit }
+    ensures cycles { reign_limit (record { instance = records.Reigned (record { stamp = record { root = codes "Z"; cycle = 4294967295 }; start = 1 }) ∷ []; starts = λ r. []; epochs = λ r. []; texts = []; losts = []; sequence = [] }) ≡ Some ReignLimit }
     ensures created { (created (codes "A") (with_images (codes "R") ∷ [])).instance ≡ made.instance }
 {}
 
