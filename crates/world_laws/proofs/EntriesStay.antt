@@ -15,13 +15,22 @@ use Rattle.world_defs.specs.World.{State, Down, Failed, Site, Place, Kept, is_fr
 use Rattle.world_defs.specs.Answers.{Section}
 use Rattle.world_defs.specs.Changes.{in_new_state, Stays, Becomes, Fails, FailsUnchanged, ChangesUnknown}
 use Rattle.world_defs.specs.rows.Crash.{Crashes}
+use Rattle.world_defs.specs.rows.Recover.{MayRecover}
 use Rattle.world_defs.specs.rows.Run as rows
 use Rattle.world_defs.specs.rows.Run.{RunsTo, IsPicked, one_further}
-use Rattle.world_laws.specs.Entries.{IsEntryAt, IsSiteOf, HasEntry, KeepsEntries}
+use Rattle.world_laws.specs.Entries.{IsEntryAt, IsSiteOf, HasEntry, Every, KeepsEntriesOf}
 use Rattle.world_laws.proofs.Turns.{GoesOn, goes-serial, goes-further, get-front}
 
-pub entries-through : (x y z : Place) → KeepsEntries x y → KeepsEntries y z → KeepsEntries x z
-entries-through x y z h k name n e has = k name n e (h name n e has)
+-- every entry
+abbrev pub KeepsEntries : Place → Place → Type 0
+KeepsEntries p q = KeepsEntriesOf Every p q
+
+pub entries-through : (kept : Name → Type 0) (x y z : Place) → KeepsEntriesOf kept x y → KeepsEntriesOf kept y z → KeepsEntriesOf kept x z
+entries-through kept x y z h k name n e own has = k name n e own (h name n e own has)
+
+-- so those of some names
+pub entries-some : (kept : Name → Type 0) (x y : Place) → KeepsEntries x y → KeepsEntriesOf kept x y
+entries-some kept x y h name n e own has = h name n e tt has
 
 -- what becomes of a place
 
@@ -37,14 +46,14 @@ site-new name state None h = h
 site-new name state (Some site) h = h
 
 pub entries-kept : (x y : Place) → Kept x y → KeepsEntries x y
-entries-kept x y k name n e h = record {
+entries-kept x y k name n e every h = record {
   site = subst (IsSiteOf name) (sym k.site) h.site;
   now = λ t. subst (HasAt n e) (sym k.now) (h.now (subst IsTrue k.known.told t));
   outcomes = λ t o a. h.outcomes (subst IsTrue k.known.told t) o (k.known.outcomes o a);
 }
 
 pub entries-changed : (x y : Place) → ChangesUnknown x y → KeepsEntries x y
-entries-changed x y c name n e h = record {
+entries-changed x y c name n e every h = record {
   site = subst (IsSiteOf name) (sym c.site) h.site;
   now = λ t. subst (HasAt n e) (sym c.now) (h.now (subst IsTrue c.known.told t));
   outcomes = λ t o a. h.outcomes (subst IsTrue c.known.told t) o (c.known.outcomes o a);
@@ -56,7 +65,7 @@ HasThose c p = (name : Name) (n : ℕ) (e : Entry) → HasEntry name n e p → I
 
 -- the site that stands there then has the name of the one before
 pub entries-stays : (site : Option Site) (c : Contents) (p q : Place) → ((name : Name) → IsSiteOf name p.site → IsSiteOf name site) → HasThose c p → Stays site c p q → KeepsEntries p q
-entries-stays site c p q named f b name n e h = record {
+entries-stays site c p q named f b name n e every h = record {
   site = subst (IsSiteOf name) (sym b.site) (named name h.site);
   now = λ t. subst (HasAt n e) (sym b.known.now) (f name n e h (told t));
   outcomes = λ t o a. subst (HasAt n e) (sym (only_one o c (subst (λ (l : List Contents). Among l o) b.known.outcomes a))) (f name n e h (told t));
@@ -74,7 +83,7 @@ LeavesSequence step = (c o : Contents) → step c o → o.sequence ≡ c.sequenc
 
 pub entries-fails : (k : ℕ) (step : Contents → Contents → Type 0) (so : Option (List Standing) → Option (List Standing) → Type 0) (p q : Place) → LeavesSequence step
     → Fails k (in_new_state (Failed k) p.site) step so p q → KeepsEntries p q
-entries-fails k step so p q same f name n e h = record {
+entries-fails k step so p q same f name n e every h = record {
   site = subst (IsSiteOf name) (sym f.site) (site-new name (Failed k) p.site h.site);
   now = λ t. let a = f.known.now (told t) in subst (IsEntryAt n e) (sym (same a.0 q.now a.2)) (h.outcomes (told t) a.0 a.1);
   outcomes = λ t o among. let a = f.known.outcomes (told t) o among in subst (IsEntryAt n e) (sym (same a.0 o a.2)) (h.outcomes (told t) a.0 a.1);
@@ -96,8 +105,14 @@ pub same-mark : LeavesSequence MayMark
 same-mark c o (inl e) = ap (λ (x : Contents). x.sequence) e
 same-mark c o (inr h) = ap (λ (x : Contents). x.sequence) h.1
 
+pub same-recover : (broken : List ℕ) → LeavesSequence (MayRecover broken)
+same-recover broken c o (inl (inl e)) = ap (λ (x : Contents). x.sequence) e
+same-recover broken c o (inl (inr h)) = ap (λ (x : Contents). x.sequence) h.1
+same-recover broken c o (inr (inl e)) = ap (λ (x : Contents). x.sequence) e
+same-recover broken c o (inr (inr h)) = ap (λ (x : Contents). x.sequence) h.1
+
 pub entries-crash : (p q : Place) → Crashes p q → KeepsEntries p q
-entries-crash p q d name n e h = record {
+entries-crash p q d name n e every h = record {
   site = subst (IsSiteOf name) (sym d.site) (site-new name Down p.site h.site);
   now = now;
   outcomes = λ t o a. subst (HasAt n e) (sym (only_one o q.now (subst (λ (l : List Contents). Among l o) d.outcomes a))) (now t);
@@ -107,7 +122,7 @@ entries-crash p q d name n e h = record {
     now t = let told = subst IsTrue d.told t in h.outcomes told q.now (d.chosen told)
 
 pub entries-unread : (k : ℕ) (p q : Place) → FailsUnchanged k (in_new_state (Failed k) p.site) p q → KeepsEntries p q
-entries-unread k p q f name n e h = record {
+entries-unread k p q f name n e every h = record {
   site = subst (IsSiteOf name) (sym f.site) (site-new name (Failed k) p.site h.site);
   now = λ t. subst (HasAt n e) (sym f.now) (h.now (subst IsTrue f.known.told t));
   outcomes = λ t o a. h.outcomes (subst IsTrue f.known.told t) o (f.known.outcomes o a);
@@ -162,7 +177,7 @@ pub ran-left : (name : Name) (jobs : List (List Job)) (order : List ℕ) (s : Se
 ran-left name jobs order s p q r = turn-left r.stamp r.serials jobs order s.picks s.fault p q r.picks r.ran
 
 pub entries-ran : (own : Name) (jobs : List (List Job)) (order : List ℕ) (s : Section) (p q : Place) → rows.Runs own jobs order s p q → KeepsEntries p q
-entries-ran own jobs order s p q r name n e h = record {
+entries-ran own jobs order s p q r name n e every h = record {
   site = left.site name h.site;
   now = λ t. left.now n e t (there t);
   outcomes = λ t. left.outcomes n e t (there t);
@@ -183,4 +198,8 @@ no_site name None free h = h
 no_site name (Some site) free h = false≢true free
 
 pub free-keeps : (p : Place) → is_free p.site ≡ true → (q : Place) → KeepsEntries p q
-free-keeps p free q name n e h = absurd (no_site name p.site free h.site)
+free-keeps p free q name n e every h = absurd (no_site name p.site free h.site)
+
+-- nor has one whose site has none of these names
+pub others-keep : (kept : Name → Type 0) (p q : Place) → ((name : Name) → IsSiteOf name p.site → kept name → ⊥) → KeepsEntriesOf kept p q
+others-keep kept p q none name n e own h = absurd (none name h.site own)

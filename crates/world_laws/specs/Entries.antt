@@ -1,12 +1,14 @@
 -- Entries that stay where they are.
-use Rattle.std.specs.Prelude.{◌≡◌, ◌≤◌, ◌-◌, ℕ, List, length, slice_get, Option, Some, None}
+use Rattle.std.specs.Prelude.{◌≡◌, ◌⊎◌, ◌≤◌, ◌-◌, ℕ, List, [], ◌∷◌, length, slice_get, Option, Some, None}
+use Rattle.std.specs.List.{AllByRecursion}
 use Rattle.global_defs.specs.Entry.{Entry, Sequence}
 use Rattle.global_defs.specs.Jobs.{Job, Answers}
 use Rattle.global_defs.specs.Serial.{Seq, Replied, Turn}
-use Rattle.command_defs.specs.Commands.{Name}
+use Rattle.command_defs.specs.Commands.{Name, Command, Resync}
 use Rattle.site_defs.specs.Lists.{Among, Along}
 use Rattle.world_defs.specs.World.{Site, Place, World, IfKnown, EachOutcome, name_on, place_of}
-use Rattle.world_defs.specs.Answers.{Section}
+use Rattle.world_defs.specs.Answers.{Section, Answer, Done, DiskFault}
+use Rattle.world_defs.specs.Runs.{Told}
 use Rattle.world_defs.specs.rows.Run.{turn_on, section_text}
 
 -- the entry of that number, from 1
@@ -24,13 +26,39 @@ pub record HasEntry (name : Name) (n : ℕ) (e : Entry) (p : Place) : Type 0 whe
   pub now : IfKnown p (IsEntryAt n e p.now.sequence)
   pub outcomes : EachOutcome (λ o. IsEntryAt n e o.sequence) p
 
--- the entries that it has, it has still
-abbrev pub KeepsEntries : Place → Place → Type 0
-KeepsEntries old new = (name : Name) (n : ℕ) (e : Entry) → HasEntry name n e old → HasEntry name n e new
+-- the entries that sites of these names have there, they have still
+abbrev pub KeepsEntriesOf : (Name → Type 0) → Place → Place → Type 0
+KeepsEntriesOf kept old new = (name : Name) (n : ℕ) (e : Entry) → kept name → HasEntry name n e old → HasEntry name n e new
 
--- of no place
-abbrev pub NoEntryIsLost : World → World → Type 0
-NoEntryIsLost w m = Along (λ i. KeepsEntries) w.places m.places
+-- any name
+abbrev pub Every : Name → Type 0
+Every name = Unit {0}
+
+-- no entry of these sites is lost
+abbrev pub NoEntryIsLost : (Name → Type 0) → World → World → Type 0
+NoEntryIsLost kept w m = Along (λ i. KeepsEntriesOf kept) w.places m.places
+
+-- The command was a ROLLBACK of that site, which was done, or which a fault ended.
+pub record MayHaveRolledBack (name : Name) (command : Command) (answers : List Answer) : Type 0 where
+  pub number : ℕ
+  pub is : command ≡ Resync name number
+  pub ends : (answers ≡ Done ∷ []) ⊎ ((k : ℕ) × (answers ≡ DiskFault k ∷ []))
+
+-- the command, with these answers, didn't roll that site back
+abbrev pub HasNotRolledBack : Command → List Answer → Name → Type 0
+HasNotRolledBack command answers name = MayHaveRolledBack name command answers → ⊥
+
+-- none of these did
+abbrev pub NoneRolledBack : List Told → Name → Type 0
+NoneRolledBack told name = AllByRecursion (λ (c : Told). HasNotRolledBack c.command c.answers name) told
+
+-- No entry is lost, but of a site that the command, with these answers, rolled back.
+abbrev pub NoEntryIsLostBut : Command → List Answer → World → World → Type 0
+NoEntryIsLostBut command answers w m = NoEntryIsLost (HasNotRolledBack command answers) w m
+
+-- but of a site that one of these rolled back
+abbrev pub NoEntryIsLostBehind : List Told → World → World → Type 0
+NoEntryIsLostBehind told w m = NoEntryIsLost (NoneRolledBack told) w m
 
 -- one of the replies is SEQ and that number
 pub record IsReplied (n : ℕ) (t : Turn) : Type 0 where
