@@ -1,5 +1,5 @@
 -- What keeps the entries of a place.
-use Rattle.std.proofs.Common.{◌≡◌, inl, inr, ℕ, suc, ◌+◌, ◌-◌, true, List, [], ◌∷◌, length, take, Option, Some, None, slice_get, IsTrue, sym, ap, subst, arith}
+use Rattle.std.proofs.Common.{◌≡◌, inl, inr, ℕ, suc, ◌+◌, ◌-◌, ◌<◌, true, List, [], ◌∷◌, length, take, Option, Some, None, slice_get, IsTrue, sym, ap, subst, arith}
 use Rattle.std.proofs.lemmas.Bool.{false≢true}
 use Rattle.std.proofs.lemmas.Option.{slice_get_within}
 use Rattle.global_defs.specs.Entry.{Stamp, Entry, Sequence}
@@ -16,6 +16,7 @@ use Rattle.world_defs.specs.Answers.{Section}
 use Rattle.world_defs.specs.Changes.{in_new_state, Stays, Becomes, Fails, FailsUnchanged, ChangesUnknown}
 use Rattle.world_defs.specs.rows.Crash.{Crashes}
 use Rattle.world_defs.specs.rows.Recover.{MayRecover}
+use Rattle.world_defs.specs.rows.Rollback.{MayRollBackTo, RollsBack, stay, stay_of}
 use Rattle.world_defs.specs.rows.Run as rows
 use Rattle.world_defs.specs.rows.Run.{RunsTo, IsPicked, one_further}
 use Rattle.world_laws.specs.Entries.{IsEntryAt, IsSiteOf, HasEntry, Every, KeepsEntriesOf}
@@ -25,11 +26,11 @@ use Rattle.world_laws.proofs.Turns.{GoesOn, goes-serial, goes-further, get-front
 abbrev pub KeepsEntries : Place → Place → Type 0
 KeepsEntries p q = KeepsEntriesOf Every p q
 
-pub entries-through : (kept : Name → Type 0) (x y z : Place) → KeepsEntriesOf kept x y → KeepsEntriesOf kept y z → KeepsEntriesOf kept x z
+pub entries-through : (kept : Name → ℕ → Type 0) (x y z : Place) → KeepsEntriesOf kept x y → KeepsEntriesOf kept y z → KeepsEntriesOf kept x z
 entries-through kept x y z h k name n e own has = k name n e own (h name n e own has)
 
 -- so those of some names
-pub entries-some : (kept : Name → Type 0) (x y : Place) → KeepsEntries x y → KeepsEntriesOf kept x y
+pub entries-some : (kept : Name → ℕ → Type 0) (x y : Place) → KeepsEntries x y → KeepsEntriesOf kept x y
 entries-some kept x y h name n e own has = h name n e tt has
 
 -- what becomes of a place
@@ -200,6 +201,42 @@ no_site name (Some site) free h = false≢true free
 pub free-keeps : (p : Place) → is_free p.site ≡ true → (q : Place) → KeepsEntries p q
 free-keeps p free q name n e every h = absurd (no_site name p.site free h.site)
 
--- nor has one whose site has none of these names
-pub others-keep : (kept : Name → Type 0) (p q : Place) → ((name : Name) → IsSiteOf name p.site → kept name → ⊥) → KeepsEntriesOf kept p q
-others-keep kept p q none name n e own h = absurd (none name h.site own)
+-- a ROLLBACK keeps each entry before its number
+
+at-rolled : (number n : ℕ) (e : Entry) (seq : Sequence) → n < number → IsEntryAt n e seq → IsEntryAt n e (take (stay number (length seq)) seq)
+at-rolled number n e seq low is =
+    let within = slice_get_within seq (n - 1) e is.there in
+    record { number = is.number; there = get-front (stay number (length seq)) seq (n - 1) e (omega (arith, is.number)) is.there }
+
+at-may_roll : (number n : ℕ) (e : Entry) (broken : List ℕ) (c o : Contents) → n < number → MayRollBackTo number broken c o → IsEntryAt n e c.sequence → IsEntryAt n e o.sequence
+at-may_roll number n e broken c o low (inl same) is = subst (HasAt n e) (sym same) is
+at-may_roll number n e broken c o low (inr (inl drawn)) is = subst (HasAt n e) (sym drawn.2) is
+at-may_roll number n e broken c o low (inr (inr (inl begun))) is = subst (HasAt n e) (sym begun.1) (at-rolled number n e c.sequence low is)
+at-may_roll number n e broken c o low (inr (inr (inr closed))) is = subst (HasAt n e) (sym closed.1) (at-rolled number n e c.sequence low is)
+
+-- of that place's site, only entries before that number are to stay
+abbrev pub StayBefore : (Name → ℕ → Type 0) → ℕ → Place → Type 0
+StayBefore kept number p = (name : Name) (n : ℕ) → IsSiteOf name p.site → kept name n → n < number
+
+pub entries-rolls : (kept : Name → ℕ → Type 0) (number : ℕ) (p q : Place) → StayBefore kept number p → RollsBack number p q → KeepsEntriesOf kept p q
+entries-rolls kept number p q before d name n e own h = record {
+  site = subst (IsSiteOf name) (sym d.becomes.site) (site-new name Down p.site h.site);
+  now = λ t. subst (HasAt n e) (sym d.becomes.known.now) (there t);
+  outcomes = λ t o a. subst (HasAt n e) (sym (only_one o _ (subst (λ (l : List Contents). Among l o) d.becomes.known.outcomes a))) (there t);
+}
+  where
+    there : IsTrue q.told → IsEntryAt n e (take (stay_of number d.read) d.read.sequence)
+    there t =
+        let told = subst IsTrue d.becomes.known.told t in
+        subst (λ (c : Contents). IsEntryAt n e (take (stay_of number c) c.sequence)) (sym (d.as_before told)) (at-rolled number n e p.now.sequence (before name n h.site own) (h.now told))
+
+pub entries-rolls_some : (kept : Name → ℕ → Type 0) (number k : ℕ) (broken : List ℕ) (so : Option (List Standing) → Option (List Standing) → Type 0) (p q : Place) → StayBefore kept number p
+    → Fails k (in_new_state (Failed k) p.site) (MayRollBackTo number broken) so p q → KeepsEntriesOf kept p q
+entries-rolls_some kept number k broken so p q before f name n e own h = record {
+  site = subst (IsSiteOf name) (sym f.site) (site-new name (Failed k) p.site h.site);
+  now = λ t. let a = f.known.now (told t) in at-may_roll number n e broken a.0 q.now (before name n h.site own) a.2 (h.outcomes (told t) a.0 a.1);
+  outcomes = λ t o among. let a = f.known.outcomes (told t) o among in at-may_roll number n e broken a.0 o (before name n h.site own) a.2 (h.outcomes (told t) a.0 a.1);
+}
+  where
+    told : IsTrue q.told → IsTrue p.told
+    told t = subst IsTrue f.known.told t

@@ -17,15 +17,15 @@ use Rattle.world_laws.proofs.Opens.{KeepsOpen, open-through, open-kept, open-cha
 use Rattle.world_laws.proofs.EntriesStay.{entries-through, entries-some, entries-kept, entries-changed, LeavesSequence, entries-fails, entries-unread}
 use Rattle.world_laws.proofs.Counts.{later, later_rose, later_through}
 
--- From a place to what becomes of it. The command has F, and leaves the entries of sites with K.
-pub record Lasts (F : Type 0) (K : Name → Type 0) (p q : Place) : Type 0 where
+-- From a place to what becomes of it. The command has F, and leaves the entries with K, by their sites and numbers.
+pub record Lasts (F : Type 0) (K : Name → ℕ → Type 0) (p q : Place) : Type 0 where
   pub fit : F → IsFitPlace p → IsFitPlace q
   pub while_open : KeepsOpen p q
   pub entries : KeepsEntriesOf K p q
   pub later : HasNotFallen p q
 
 -- With that answer; a fault is told only where the count rose.
-pub record Leaves (F : Type 0) (K : Name → Type 0) (a : Answer) (p q : Place) : Type 0 where
+pub record Leaves (F : Type 0) (K : Name → ℕ → Type 0) (a : Answer) (p q : Place) : Type 0 where
   pub lasts : Lasts F K p q
   pub cause : TellsFault a → Rose p.faults q.faults
 
@@ -34,7 +34,7 @@ pub record CutsOff (F : Type 0) (p q : Place) : Type 0 where
   pub fit : F → IsFitPlace p → HasFitOutcomes q
   pub later : HasNotFallen p q
 
-module _ (F : Type 0) (K : Name → Type 0) where
+module _ (F : Type 0) (K : Name → ℕ → Type 0) where
   pub lasts-through : (x y z : Place) → Lasts F K x y → Lasts F K y z → Lasts F K x z
   lasts-through x y z h k = record {
     fit = λ f i. k.fit f (h.fit f i);
@@ -96,5 +96,5 @@ module _ (F : Type 0) where
   cut-old p q l = cut-left (λ c o. ⊥) (λ s o. ⊥) p q (λ f h t c o a none. absurd none) l
 
   -- behind what was done before
-  pub cut-behind : (K : Name → Type 0) (x y z : Place) → Lasts F K x y → CutsOff F y z → CutsOff F x z
+  pub cut-behind : (K : Name → ℕ → Type 0) (x y z : Place) → Lasts F K x y → CutsOff F y z → CutsOff F x z
   cut-behind K x y z h k = record { fit = λ f i. k.fit f (h.fit f i); later = later_through x y z h.later k.later }

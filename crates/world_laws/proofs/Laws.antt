@@ -16,8 +16,8 @@ use Rattle.world_laws.proofs.Turns.{get-front}
 use Rattle.world_laws.proofs.Counts.{calm_before, calm_behind}
 use Rattle.world_laws.proofs.Lasts.{Lasts, Leaves, CutsOff, lasts-through, lasts-some, lasts-kept, quietly, cut-old, cut-behind}
 
--- What a row leaves of its place p, by each of its answers, and where it was cut off. The command has F, and with these answers leaves the entries of sites with K.
-pub record RowLaws (F : Type 0) (K : List Answer → Name → Type 0) (p : Place) (row : Row) : Type 0 where
+-- What a row leaves of its place p, by each of its answers, and where it was cut off. The command has F, and with these answers leaves the entries with K, by their sites and numbers.
+pub record RowLaws (F : Type 0) (K : List Answer → Name → ℕ → Type 0) (p : Place) (row : Row) : Type 0 where
   pub done : (q : Place) → refusal_in row ≡ None → row.done q → Leaves F (K (Done ∷ [])) Done p q
   pub ran : (s : Section) (q : Place) → row.ran s q → Leaves F (K (Ran s ∷ [])) (Ran s) p q
   pub typed : (text : List ℕ) (q : Place) → row.typed text q → Leaves F (K (Typed text ∷ [])) (Typed text) p q
@@ -28,15 +28,15 @@ pub record RowLaws (F : Type 0) (K : List Answer → Name → Type 0) (p : Place
   pub left : (q : Place) → LeftByRow row p q → CutsOff F p q
 
 -- What is left of a world, place by place, with these answers.
-pub record Holds (F : Type 0) (K : Name → Type 0) (answers : List Answer) (w m : World) : Type 0 where
+pub record Holds (F : Type 0) (K : Name → ℕ → Type 0) (answers : List Answer) (w m : World) : Type 0 where
   pub lasts : Along (λ j. Lasts F K) w.places m.places
   pub told : NoCountRose w m → AllByRecursion TellsNoFault answers
 
 -- every entry stays, whatever is answered
-abbrev pub Always : List Answer → Name → Type 0
-Always answers name = Unit {0}
+abbrev pub Always : List Answer → Name → ℕ → Type 0
+Always answers name n = Unit {0}
 
-module _ (F : Type 0) (K : List Answer → Name → Type 0) where
+module _ (F : Type 0) (K : List Answer → Name → ℕ → Type 0) where
   -- a row that is done or refused, and nothing else
   pub quiet_laws : (name : Name) (early : Option Refusal) (done : Place → Type 0) (says : Place → List ℕ) (p : Place) → ((q : Place) → done q → Lasts F (K (Done ∷ [])) p q)
       → RowLaws F K p (record (quiet name p) { early = early; done = done; says = says })
@@ -62,23 +62,23 @@ module _ (F : Type 0) (K : List Answer → Name → Type 0) where
 
 module _ (F : Type 0) where
   -- the row of a place with that number
-  abbrev pub RowsAt : (List Answer → Name → Type 0) → ℕ → Row → World → Type 0
+  abbrev pub RowsAt : (List Answer → Name → ℕ → Type 0) → ℕ → Row → World → Type 0
   RowsAt K i row w = (p : Place) → slice_get w.places i ≡ Some p → RowLaws F K p row
 
-  abbrev pub OthersLast : (List Answer → Name → Type 0) → Others → Type 0
+  abbrev pub OthersLast : (List Answer → Name → ℕ → Type 0) → Others → Type 0
   OthersLast K others = (a : Answer) (j : ℕ) (x y : Place) → others a j x y → Lasts F (K (a ∷ [])) x y
 
   -- a command of several rows leaves every entry
-  abbrev pub MeaningLaws : (List Answer → Name → Type 0) → Meaning → World → Type 0
+  abbrev pub MeaningLaws : (List Answer → Name → ℕ → Type 0) → Meaning → World → Type 0
   MeaningLaws K (No r) w = Unit {0}
   MeaningLaws K (Acts i row others) w = RowsAt K i row w × OthersLast K others
   MeaningLaws K (Then i row others next) w = RowsAt Always i row w × OthersLast Always others × ((u : World) → MeaningLaws Always (next u) u)
 
-  abbrev pub TargetLaws : (List Answer → Name → Type 0) → Target → Type 0
+  abbrev pub TargetLaws : (List Answer → Name → ℕ → Type 0) → Target → Type 0
   TargetLaws K (On name row) = (p : Place) → is_site_named name p.site ≡ true → RowLaws F K p (row_at row p)
   TargetLaws K (Open f) = (w : World) → MeaningLaws K (f w) w
 
-module _ (F : Type 0) (K : Name → Type 0) where
+module _ (F : Type 0) (K : Name → ℕ → Type 0) where
   -- one answer, place by place
 
   along_lasts : (S : ℕ → Place → Place → Type 0) → ((j : ℕ) (x y : Place) → S j x y → Lasts F K x y) → (ps qs : List Place) → Along S ps qs → Along (λ j. Lasts F K) ps qs
@@ -136,11 +136,11 @@ module _ (F : Type 0) (K : Name → Type 0) where
   holds_some answers w m h = record { lasts = along_each (Lasts F Every) (Lasts F K) (lasts-some F K) w.places m.places h.lasts; told = h.told }
 
 module _ (F : Type 0) where
-  one_leaves : (K : List Answer → Name → Type 0) (i : ℕ) (row : Row) (others : Others) (a : Answer) (w m : World) (t : List ℕ) → RowsAt F K i row w → OthersLast F K others → One i row others a w m t
+  one_leaves : (K : List Answer → Name → ℕ → Type 0) (i : ℕ) (row : Row) (others : Others) (a : Answer) (w m : World) (t : List ℕ) → RowsAt F K i row w → OthersLast F K others → One i row others a w m t
       → At i (Leaves F (K (a ∷ [])) a) (λ j. Lasts F (K (a ∷ []))) w.places m.places
   one_leaves K i row others a w m t f r o = at_leaves F (K (a ∷ [])) a i o.becomes (others a) w.places m.places (r a) (λ p e. here_leaves F K p row a o.becomes t (f p e) o.here) o.around
 
-  pub goes_holds : (K : List Answer → Name → Type 0) (x : Meaning) (answers : List Answer) (w m : World) (t : List ℕ) → MeaningLaws F K x w → Goes x answers w m t → Holds F (K answers) answers w m
+  pub goes_holds : (K : List Answer → Name → ℕ → Type 0) (x : Meaning) (answers : List Answer) (w m : World) (t : List ℕ) → MeaningLaws F K x w → Goes x answers w m t → Holds F (K answers) answers w m
   goes_holds K (No r) answers w m t h g =
       subst (λ (l : List Answer). Holds F (K l) l w m) (sym g.0)
       (record { lasts = along_each Kept (Lasts F (K (Refused r ∷ []))) (lasts-kept F (K (Refused r ∷ []))) w.places m.places g.1; told = λ c. (λ t. t, tt) })
@@ -168,7 +168,7 @@ module _ (F : Type 0) where
   along_behind (p ∷ ps) (q ∷ qs) [] h k = absurd k
   along_behind (p ∷ ps) (q ∷ qs) (x ∷ rs) h k = (cut-behind F Every p q x h.0 k.0, along_behind ps qs rs h.1 k.1)
 
-  pub cut_holds : (K : List Answer → Name → Type 0) (x : Meaning) (w m : World) → MeaningLaws F K x w → IsCut x w m → Along (λ j. CutsOff F) w.places m.places
+  pub cut_holds : (K : List Answer → Name → ℕ → Type 0) (x : Meaning) (w m : World) → MeaningLaws F K x w → IsCut x w m → Along (λ j. CutsOff F) w.places m.places
   cut_holds K (No r) w m h c = along_each LeavesOld (CutsOff F) (cut-old F) w.places m.places c
   cut_holds K (Acts i row others) w m h c = at_cut (LeftByRow row) i w.places m.places (λ p e. (h.0 p e).left) c
   cut_holds K (Then i row others next) w m h (inl c) = at_cut (LeftByRow row) i w.places m.places (λ p e. (h.0 p e).left) c
@@ -217,7 +217,7 @@ first-within test (suc n) (x ∷ ps) i e = by (first-within test n ps) (test x) 
 first-has_front : (test : Place → Bool) (n : ℕ) (ps : List Place) (i : ℕ) (p : Place) → first_where test (take n ps) ≡ Some i → slice_get ps i ≡ Some p → test p ≡ true
 first-has_front test n ps i p first at = first-has test (take n ps) i p first (get-front n ps i p (first-within test n ps i first) at)
 
-module _ (F : Type 0) (K : List Answer → Name → Type 0) where
+module _ (F : Type 0) (K : List Answer → Name → ℕ → Type 0) where
   -- a row where it is found
 
   acts_laws : (w : World) (i : ℕ) (p : Place) (row : Row) → slice_get w.places i ≡ Some p → RowLaws F K p row → MeaningLaws F K (Acts i row apart) w

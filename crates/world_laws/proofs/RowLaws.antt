@@ -1,6 +1,6 @@
 -- What each row leaves of its place: a line a command.
-use Rattle.std.proofs.Common.{◌≡◌, inl, inr, ℕ, Bool, true, false, List, [], ◌∷◌, Option, Some, None, IsTrue, refl, sym, ◌∙◌, ap, subst, if◌then◌else◌}
-use Rattle.std.proofs.lemmas.Bool.{false≢true}
+use Rattle.std.proofs.Common.{◌≡◌, ◌⊎◌, inl, inr, ℕ, ◌<◌, Bool, true, false, List, [], ◌∷◌, Option, Some, None, IsTrue, refl, sym, ◌∙◌, ap, subst, if◌then◌else◌}
+use Rattle.std.proofs.lemmas.Bool.{cases_lt, false≢true}
 use Rattle.std.specs.List.{list_all}
 use Rattle.std.specs.Cmp.Lexicographic.{same_text}
 use Rattle.global_defs.specs.Jobs.{Job}
@@ -32,14 +32,14 @@ use Rattle.world_defs.specs.rows.Run.{RunsTo, one_further, run}
 use Rattle.world_defs.specs.rows.Start.{StartRefused, is_reign_limit, generation_limit, reign_limit, limited, start}
 use Rattle.world_defs.specs.Fit.{IsFitContents, IsFitPlace}
 use Rattle.world_laws.specs.Settled.{IsOpenSite}
-use Rattle.world_laws.specs.Entries.{IsSiteOf, Every, HasNotRolledBack}
+use Rattle.world_laws.specs.Entries.{IsSiteOf, Every, HasNotDropped}
 use Rattle.world_laws.specs.Faults.{IsFault}
 use Rattle.world_laws.proofs.PlacesFit.{fit-creates, fit-maps, fit-marks, fit-stops_marked, fit-none_fails, fit-may_make, fit-maps_some, fit-marks_some, fit-attaches, fit-crashes}
 use Rattle.world_laws.proofs.ReignsFit.{fit-starts, fit-begins_some, fit-refused}
 use Rattle.world_laws.proofs.RollsFit.{fit-rolls, fit-rolls_some, fit-recovers, fit-recovers_some}
 use Rattle.world_laws.proofs.SectionsFit.{fit-runs, fit-run_left}
 use Rattle.world_laws.proofs.Opens.{open-closed, open-failed, open-down}
-use Rattle.world_laws.proofs.EntriesStay.{HasAt, entries-stays, entries-becomes, entries-crash, entries-ran, KeepsEntries, entries-some, free-keeps, others-keep, same-map, same-begin, same-mark, same-recover}
+use Rattle.world_laws.proofs.EntriesStay.{HasAt, entries-stays, entries-becomes, entries-crash, entries-ran, KeepsEntries, entries-some, free-keeps, StayBefore, entries-rolls, entries-rolls_some, same-map, same-begin, same-mark, same-recover}
 use Rattle.world_laws.proofs.Counts.{later}
 use Rattle.world_laws.proofs.Lasts.{Lasts, Leaves, CutsOff, lasts-kept, lasts-changed, lasts-stays, lasts-some, quietly, risen, step-fails, site-fails, read-fails, cut-left, cut-old}
 use Rattle.world_laws.proofs.Laws.{RowLaws, Holds, TargetLaws, quiet_laws, laws_there, next_laws, target_laws, goes_holds, cut_holds}
@@ -69,7 +69,7 @@ may_start name p none t =
 
 -- rows
 
-module _ (F : Type 0) (K : List Answer → Name → Type 0) where
+module _ (F : Type 0) (K : List Answer → Name → ℕ → Type 0) where
   start-refused : (past : Bool) (p q : Place) → StartRefused past p q → Lasts F Every p q
   start-refused true p q r = lasts-stays F _ _ _ p q (λ f h. fit-refused p q h r) (entries-some _ p q (entries-becomes _ _ p q (λ name n e h t. h.now t) r)) r
   start-refused false p q r = lasts-kept F _ p q r
@@ -143,14 +143,13 @@ module _ (F : Type 0) (K : List Answer → Name → Type 0) where
     left = λ q l. cut-old F p q l;
   }
 
-  -- a ROLLBACK leaves other sites' entries, where it's done or a fault ends it
-  rollback-laws : (number : ℕ) (p : Place) → ((name : Name) → IsSiteOf name p.site → K (Done ∷ []) name → ⊥) → ((k : ℕ) (name : Name) → IsSiteOf name p.site → K (DiskFault k ∷ []) name → ⊥)
-      → RowLaws F K p (row_at (rollback number) p)
+  -- a ROLLBACK, by which entries from its number on may go
+  rollback-laws : (number : ℕ) (p : Place) → StayBefore (K (Done ∷ [])) number p → ((k : ℕ) → StayBefore (K (DiskFault k ∷ [])) number p) → RowLaws F K p (row_at (rollback number) p)
   rollback-laws number p done fault = record {
-    done = λ q none d. quietly F _ Done p q (λ t. t) (lasts-stays F _ _ _ p q (λ f h. fit-rolls number p q h d) (others-keep _ p q done) d.becomes);
+    done = λ q none d. quietly F _ Done p q (λ t. t) (lasts-stays F _ _ _ p q (λ f h. fit-rolls number p q h d) (entries-rolls _ number p q done d) d.becomes);
     ran = λ s q d. absurd d;
     typed = λ text q d. absurd d;
-    fault = λ k q d. step-fails F _ k (MayRollBackTo number p.left.broken) _ p q (fit-rolls_some number p) (others-keep _ p q (fault k)) d;
+    fault = λ k q d. step-fails F _ k (MayRollBackTo number p.left.broken) _ p q (fit-rolls_some number p) (entries-rolls_some _ number k p.left.broken _ p q (fault k) d) d;
     damage = λ file offset q d. quietly F _ (NotAFile file offset) p q (λ t. t) (lasts-kept F _ p q d.kept);
     refused = λ r q d. quietly F _ (Refused r) p q (λ t. t) (lasts-kept F _ p q d);
     may_refuse = λ r q d. quietly F _ (Refused r) p q (λ t. t) (elim d [ inl k ↦ lasts-kept F _ p q k.1.kept | inr k ↦ lasts-kept F _ p q k.4 ]);
@@ -236,28 +235,35 @@ named_so : (found : Name) (o : Option Site) → is_site_named found o ≡ true �
 named_so found None e name h = absurd h
 named_so found (Some site) e name h = sym h ∙ same_text site.name found (sym e)
 
-command-laws : (c : Command) → TargetLaws (IsFormed c) (HasNotRolledBack c) (target c)
+-- an entry that a ROLLBACK to that number leaves is before it
+stays_before : (name : Name) (number : ℕ) (own : Name) (n : ℕ) (answers : List Answer) → own ≡ name → (answers ≡ Done ∷ []) ⊎ ((k : ℕ) × (answers ≡ DiskFault k ∷ [])) → HasNotDropped (Resync name number) answers own n → n < number
+stays_before name number own n answers same ends kept = elim (cases_lt n number) [
+  | inl low ↦ low
+  | inr behind ↦ absurd (kept (record { number = number; is = ap (λ (x : Name). Resync x number) (sym same); behind = behind; ends = ends }))
+]
+
+command-laws : (c : Command) → TargetLaws (IsFormed c) (HasNotDropped c) (target c)
 command-laws (Create name regions) = λ w. laws_there _ _ (on_next w name (λ i p. Acts i (create regions name p) apart)) w (place_of w name) (λ i p. refusing name Exists)
     (next_laws _ _ name w (create regions name) (create-laws _ _ regions name)) (λ i p o e. tt)
 command-laws Attach = λ w. next_laws _ _ ATTACHING w (attach w) (attach-laws _ _ w)
 command-laws (Map name region text) = λ p found. map-laws _ _ region text p
 command-laws (StartPrimary name) = λ p found. start-laws _ _ p
 command-laws (Run name jobs order) = λ p found. run-laws _ _ jobs order p (λ formed. formed.2)
-command-laws (Stop name) = λ p found. mark-laws _ _ _ _ _ _ p (λ q d. stop-lasts _ (HasNotRolledBack (Stop name)) p q d)
-command-laws (Epoch name) = λ p found. mark-laws _ _ _ _ _ _ p (λ q d. epoch-lasts _ (HasNotRolledBack (Epoch name)) p q d)
+command-laws (Stop name) = λ p found. mark-laws _ _ _ _ _ _ p (λ q d. stop-lasts _ (HasNotDropped (Stop name)) p q d)
+command-laws (Epoch name) = λ p found. mark-laws _ _ _ _ _ _ p (λ q d. epoch-lasts _ (HasNotDropped (Epoch name)) p q d)
 command-laws (Resync name number) = λ p found. rollback-laws _ _ number p
-    (λ own h kept. kept (record { number = number; is = ap (λ (n : Name). Resync n number) (sym (named_so name p.site found own h)); ends = inl refl }))
-    (λ k own h kept. kept (record { number = number; is = ap (λ (n : Name). Resync n number) (sym (named_so name p.site found own h)); ends = inr (k, refl) }))
+    (λ own n h kept. stays_before name number own n (Done ∷ []) (named_so name p.site found own h) (inl refl) kept)
+    (λ k own n h kept. stays_before name number own n (DiskFault k ∷ []) (named_so name p.site found own h) (inr (k, refl)) kept)
 command-laws (RecoverBackward name) = λ p found. recover-laws _ _ p
 command-laws (Fuse name calls) = λ p found. quiet_laws _ _ _ _ _ _ p (λ q d. lasts-kept _ _ p q d)
-command-laws (Crash name pick) = λ p found. quiet_laws _ _ _ _ _ _ p (λ q d. crash-lasts _ (HasNotRolledBack (Crash name pick)) p q d)
+command-laws (Crash name pick) = λ p found. quiet_laws _ _ _ _ _ _ p (λ q d. crash-lasts _ (HasNotDropped (Crash name pick)) p q d)
 command-laws (Extract name from) = λ p found. extract-laws _ _ from p
 command-laws (Zwrite name top) = λ p found. quiet_laws _ _ _ _ _ _ p (λ q d. lasts-kept _ _ p q d)
 command-laws (Show name) = λ p found. quiet_laws _ _ _ _ _ _ p (λ q d. lasts-kept _ _ p q d)
 command-laws (Print name lost g) = λ p found. print-laws _ _ lost g p
 
-pub step_holds : (w m : World) (c : Command) (answers : List Answer) (text : List ℕ) → Step w c answers m text → Holds (IsFormed c) (HasNotRolledBack c answers) answers w m
-step_holds w m c answers text h = goes_holds (IsFormed c) (HasNotRolledBack c) (meaning w c) answers w m text (target_laws (IsFormed c) (HasNotRolledBack c) (target c) w (command-laws c)) h
+pub step_holds : (w m : World) (c : Command) (answers : List Answer) (text : List ℕ) → Step w c answers m text → Holds (IsFormed c) (HasNotDropped c answers) answers w m
+step_holds w m c answers text h = goes_holds (IsFormed c) (HasNotDropped c) (meaning w c) answers w m text (target_laws (IsFormed c) (HasNotDropped c) (target c) w (command-laws c)) h
 
 pub cut_off_holds : (w m : World) (c : Command) → CutOff w c m → Along (λ j. CutsOff (IsFormed c)) w.places m.places
-cut_off_holds w m c h = cut_holds (IsFormed c) (HasNotRolledBack c) (meaning w c) w m (target_laws (IsFormed c) (HasNotRolledBack c) (target c) w (command-laws c)) h
+cut_off_holds w m c h = cut_holds (IsFormed c) (HasNotDropped c) (meaning w c) w m (target_laws (IsFormed c) (HasNotDropped c) (target c) w (command-laws c)) h

@@ -191,3 +191,9 @@ typing_reads_lost f c g h low high =
 
     same : generation h.records.instance ≡ newest
     same = ap generation h.instance
+
+pub count_files : (f : Files) (c : Contents) → IsSite f c → (length c.texts ≡ generation c.instance) × (length c.losts ≡ generation c.instance)
+count_files f c h = (
+  ap (λ (ts : List (List ℕ)). length ts) h.texts ∙ length-of f broken_file (texts_of f) refl (λ n. refl) (generation c.instance),
+  ap (λ (ts : List (List ℕ)). length ts) h.losts ∙ length-of f lost_file (losts_of f) refl (λ n. refl) (generation c.instance),
+)

@@ -26,39 +26,40 @@ pub record HasEntry (name : Name) (n : ℕ) (e : Entry) (p : Place) : Type 0 whe
   pub now : IfKnown p (IsEntryAt n e p.now.sequence)
   pub outcomes : EachOutcome (λ o. IsEntryAt n e o.sequence) p
 
--- the entries that sites of these names have there, they have still
-abbrev pub KeepsEntriesOf : (Name → Type 0) → Place → Place → Type 0
-KeepsEntriesOf kept old new = (name : Name) (n : ℕ) (e : Entry) → kept name → HasEntry name n e old → HasEntry name n e new
+-- Of the entries that a site has there, those of these sites and numbers it has still.
+abbrev pub KeepsEntriesOf : (Name → ℕ → Type 0) → Place → Place → Type 0
+KeepsEntriesOf kept old new = (name : Name) (n : ℕ) (e : Entry) → kept name n → HasEntry name n e old → HasEntry name n e new
 
--- any name
-abbrev pub Every : Name → Type 0
-Every name = Unit {0}
+-- of any site, any number
+abbrev pub Every : Name → ℕ → Type 0
+Every name n = Unit {0}
 
--- no entry of these sites is lost
-abbrev pub NoEntryIsLost : (Name → Type 0) → World → World → Type 0
+-- none of these entries is lost
+abbrev pub NoEntryIsLost : (Name → ℕ → Type 0) → World → World → Type 0
 NoEntryIsLost kept w m = Along (λ i. KeepsEntriesOf kept) w.places m.places
 
--- The command was a ROLLBACK of that site, which was done, or which a fault ended.
-pub record MayHaveRolledBack (name : Name) (command : Command) (answers : List Answer) : Type 0 where
+-- Entry n of that site may be gone: the command was a ROLLBACK of it to that number or an earlier one, which was done, or which a fault ended.
+pub record MayHaveDropped (name : Name) (n : ℕ) (command : Command) (answers : List Answer) : Type 0 where
   pub number : ℕ
   pub is : command ≡ Resync name number
+  pub behind : number ≤ n
   pub ends : (answers ≡ Done ∷ []) ⊎ ((k : ℕ) × (answers ≡ DiskFault k ∷ []))
 
--- the command, with these answers, didn't roll that site back
-abbrev pub HasNotRolledBack : Command → List Answer → Name → Type 0
-HasNotRolledBack command answers name = MayHaveRolledBack name command answers → ⊥
+-- the command, with these answers, left it
+abbrev pub HasNotDropped : Command → List Answer → Name → ℕ → Type 0
+HasNotDropped command answers name n = MayHaveDropped name n command answers → ⊥
 
--- none of these did
-abbrev pub NoneRolledBack : List Told → Name → Type 0
-NoneRolledBack told name = AllByRecursion (λ (c : Told). HasNotRolledBack c.command c.answers name) told
+-- each of these did
+abbrev pub NoneDropped : List Told → Name → ℕ → Type 0
+NoneDropped told name n = AllByRecursion (λ (c : Told). HasNotDropped c.command c.answers name n) told
 
--- No entry is lost, but of a site that the command, with these answers, rolled back.
+-- No entry is lost, but those that the command, with these answers, may have dropped.
 abbrev pub NoEntryIsLostBut : Command → List Answer → World → World → Type 0
-NoEntryIsLostBut command answers w m = NoEntryIsLost (HasNotRolledBack command answers) w m
+NoEntryIsLostBut command answers w m = NoEntryIsLost (HasNotDropped command answers) w m
 
--- but of a site that one of these rolled back
+-- but those that one of these may have dropped
 abbrev pub NoEntryIsLostBehind : List Told → World → World → Type 0
-NoEntryIsLostBehind told w m = NoEntryIsLost (NoneRolledBack told) w m
+NoEntryIsLostBehind told w m = NoEntryIsLost (NoneDropped told) w m
 
 -- one of the replies is SEQ and that number
 pub record IsReplied (n : ℕ) (t : Turn) : Type 0 where
@@ -70,6 +71,10 @@ pub record IsReplied (n : ℕ) (t : Turn) : Type 0 where
 -- A place has each entry whose number the turn's replies tell, as the turn's sequence has it.
 abbrev pub HasReplied : Name → Turn → Place → Type 0
 HasReplied name t q = (n : ℕ) → IsReplied n t → (e : Entry) × IsEntryAt n e t.sequence × HasEntry name n e q
+
+-- and so it does behind these commands, but for an entry that one of them may have dropped
+abbrev pub HasRepliedBehind : List Told → Name → Turn → Place → Type 0
+HasRepliedBehind told name t q = (n : ℕ) → IsReplied n t → NoneDropped told name n → (e : Entry) × IsEntryAt n e t.sequence × HasEntry name n e q
 
 -- the jobs as the section's picks decided them, at the primary's place before it
 abbrev pub turn_there : Section → List (List Job) → Place → Turn

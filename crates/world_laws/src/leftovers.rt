@@ -1,6 +1,6 @@
 //! What files stand for, and what lies behind that.
 
-ghost use Rattle.std.specs.Prelude.{◌≡◌, ℕ, ◌-◌, ◌≤◌, [], ◌∷◌, ◌++◌, get_or};
+ghost use Rattle.std.specs.Prelude.{◌≡◌, ℕ, ◌-◌, ◌≤◌, [], ◌∷◌, ◌++◌, length, get_or};
 ghost use Rattle.disk_defs.specs.Disk.{Files};
 ghost use Rattle.journal_defs.specs.Numbers.{lost_file, broken_file};
 ghost use Rattle.journal_defs.specs.Instance.{generation};
@@ -27,6 +27,8 @@ pub fn files_stand_for_one()
 pub fn typing_reads_files()
     ensures broken { (f : Files) (c : Contents) (left : Leftover) (g : ℕ) → IsSite f c → HasLeft f c left → 1 ≤ g → g ≤ 65535
         → f (broken_file g) ≡ get_or (c.texts ++ left.torn ∷ []) (g - 1) [] }
+    // the contents have one of each kind a generation
+    ensures count { (f : Files) (c : Contents) → IsSite f c → (length c.texts ≡ generation c.instance) × (length c.losts ≡ generation c.instance) }
     // there is no lost-transaction file past the newest generation
     ensures lost { (f : Files) (c : Contents) (g : ℕ) → IsSite f c → 1 ≤ g → g ≤ 65535 → f (lost_file g) ≡ get_or c.losts (g - 1) [] }
 {}
