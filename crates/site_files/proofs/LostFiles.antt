@@ -1,5 +1,5 @@
 -- The lost-transaction files of generations that were drawn are no part of what the files stand for.
-use Rattle.std.proofs.Common.{◌≡◌, ℕ, ◌+◌, ◌≤◌, ◌<◌, List, [], ◌∷◌, length, ◌∙◌, ap, arith}
+use Rattle.std.proofs.Common.{◌≡◌, ℕ, ◌≤◌, List, [], ◌∷◌, length, ◌∙◌, ap, arith}
 use Rattle.std.specs.List.{AllZip}
 use Rattle.disk_defs.specs.Disk.{Files}
 use Rattle.disk_defs.specs.Frames.{Only, SameOutside}

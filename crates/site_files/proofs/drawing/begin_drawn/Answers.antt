@@ -1,14 +1,13 @@
-use Rattle.std.proofs.Common.{◌≡◌, ℕ, ◌≤◌, ◌<◌, List, [], ◌∷◌, length, map, Some, IfSome, sym, ◌∙◌, ap, subst, arith}
+use Rattle.std.proofs.Common.{◌≡◌, ℕ, List, [], ◌∷◌, length, map, Some, IfSome, sym, ◌∙◌, ap, subst, arith}
 use Rattle.std.specs.List.{slice_get}
 use Rattle.disk_defs.specs.Disk.{Files, Image, From, AtEachMoment}
 use Rattle.disk_defs.specs.Frames.{OthersStay}
 use Rattle.journal_defs.specs.Instance.{InstanceRecord, generation}
 use Rattle.instance_file.specs.Values.{record_value}
-use Rattle.instance_file.specs.Instance.{HasRecords}
 use Rattle.jnl_file.specs.Journal as journals
 use Rattle.jnl_file.specs.Records.{settled}
 use Rattle.jnl_file.specs.declared.journal.Journal.{Journal}
-use Rattle.site_files.specs.Loading.{HasBegun, AreJournalsOf, AreUnbegun, last_of, first_by}
+use Rattle.site_files.specs.Loading.{HasBegun, AreJournalsOf, AreUnbegun, first_by}
 use Rattle.site_files.proofs.Frames.{records_stay, ready_stays}
 use Rattle.site_files.proofs.drawing.begin_drawn.Goals as goal
 

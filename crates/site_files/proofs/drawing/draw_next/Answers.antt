@@ -1,4 +1,4 @@
-use Rattle.std.proofs.Common.{◌≡◌, ℕ, suc, ◌≤◌, ◌<◌, [], ◌∷◌, ◌++◌, length, Some, IfSome, refl, sym, ◌∙◌, subst, arith}
+use Rattle.std.proofs.Common.{◌≡◌, ℕ, suc, [], ◌∷◌, ◌++◌, length, Some, IfSome, refl, sym, ◌∙◌, subst, arith}
 use Rattle.std.specs.List.{slice_get}
 use Rattle.disk_defs.specs.Disk.{Files, Image}
 use Rattle.disk_defs.proofs.Told.{weaker_told}
@@ -6,7 +6,7 @@ use Rattle.journal_defs.specs.Instance.{generation}
 use Rattle.instance_file.specs.Instance as instances
 use Rattle.jnl_file.specs.Journal as journals
 use Rattle.jnl_file.specs.declared.journal.Journal.{Journal}
-use Rattle.site_files.specs.Loading.{AreUnbegun, last_of, first_by, next_cut, next_broken}
+use Rattle.site_files.specs.Loading.{AreUnbegun, last_of, first_by, next_cut}
 use Rattle.site_files.proofs.Writing.{on_ok, if_ok}
 use Rattle.site_files.proofs.Drawings as drawings
 use Rattle.site_files.proofs.Drawings.{given, taken}

@@ -1,5 +1,4 @@
-use Rattle.std.proofs.Common.{◌≡◌, ℕ, suc, ◌+◌, ◌<◌, length, IfSome, OnOk, IsErrOf, ◌∙◌, ap, subst, arith}
-use Rattle.disk_defs.specs.Disk.{Files}
+use Rattle.std.proofs.Common.{◌≡◌, ℕ, suc, ◌+◌, length, IfSome, OnOk, IsErrOf, ◌∙◌, ap, subst, arith}
 use Rattle.journal_defs.specs.Instance.{generation, regions}
 use Rattle.global_dir.specs.Directory.{Mapping}
 use Rattle.site_files.specs.declared.error.FilesError.TheVariants.{NotAFile}
