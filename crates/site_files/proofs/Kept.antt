@@ -2,7 +2,7 @@
 use Rattle.std.proofs.Common.{◌≡◌, ℕ, zero, suc, ◌≤◌, List, sym, ◌∙◌, ap, subst, arith}
 use Rattle.disk_defs.specs.Disk.{Files, View, Image}
 use Rattle.disk_defs.specs.Gates.{records}
-use Rattle.journal_defs.specs.Numbers.{INSTANCE, journal_file}
+use Rattle.journal_defs.specs.Numbers.{journal_file}
 use Rattle.journal_defs.specs.Instance.{InstanceRecord, generation}
 use Rattle.journal_defs.specs.Journal.{IsJournalBody}
 use Rattle.journal_defs.specs.Sequence.{Placed}

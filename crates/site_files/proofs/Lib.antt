@@ -4,6 +4,7 @@ pub mod Cutting
 pub mod Beginning
 pub mod Drawings
 pub mod Keeping
+pub mod LostFiles
 pub mod Mapped
 pub mod Errors
 pub mod RegionsRead

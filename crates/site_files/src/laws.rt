@@ -1,7 +1,9 @@
 //! What was read, as the records that files hold; and what drawing the next generation leaves of what they stand for.
-ghost use Rattle.std.specs.Prelude.{◌≡◌, ℕ, ◌<◌, ◌≤◌, List, length};
+ghost use Rattle.std.specs.Prelude.{◌≡◌, ℕ, ◌<◌, ◌≤◌, List, length, take};
 ghost use Rattle.disk_defs.specs.Disk.{Files, Image};
+ghost use Rattle.disk_defs.specs.Frames.{Only, SameOutside};
 ghost use Rattle.global_defs.specs.Entry.{Sequence};
+ghost use Rattle.journal_defs.specs.Numbers.{lost_file};
 ghost use Rattle.journal_defs.specs.Instance.{InstanceRecord, regions, generation, site_name};
 ghost use Rattle.journal_defs.specs.Sequence.{Placed, Records};
 ghost use Rattle.journal_defs.specs.Broken.{broken, broken_text};
@@ -39,10 +41,27 @@ pub fn drawing_keeps_the_sequence()
         → NonePast (length seq) (drawn_records s (length seq) last k) }
     ensures no_epoch_past { (a : Files) (s : Records) (seq : Sequence) (last : ℕ → ℕ) (k r : ℕ) → IsSoundImage a s seq
         → NoEpochPast (length seq) (drawn_records s (length seq) last k).instance ((drawn_records s (length seq) last k).journal r) }
+    // with a CUT to the first t entries these are left
+    ensures drawn_to { (a b : Files) (s : Records) (seq : Sequence) (t : ℕ) (last : ℕ → ℕ) (text : List ℕ) (k : ℕ) → IsSoundImage a s seq → t ≤ length seq
+        → MayBeOpened s.instance last → AreRead s.instance last s.journal a
+        → HasDrawn s.instance t text last k a b → IsSoundImage b (drawn_records s t last k) (take t seq) }
+    ensures text_to { (a b : Files) (s : Records) (seq : Sequence) (t : ℕ) (last : ℕ → ℕ) (text : List ℕ) (k : ℕ) → IsSoundImage a s seq
+        → MayBeOpened s.instance last → text ≡ broken_text (site_name s.instance) (length seq) (broken s (length seq))
+        → HasDrawn s.instance t text last k a b → b (next_broken s.instance) ≡ text }
+    ensures none_past_to { (a : Files) (s : Records) (seq : Sequence) (t : ℕ) (last : ℕ → ℕ) (k : ℕ) → IsSoundImage a s seq
+        → NonePast t (drawn_records s t last k) }
+    ensures no_epoch_past_to { (a : Files) (s : Records) (seq : Sequence) (t : ℕ) (last : ℕ → ℕ) (k r : ℕ) → IsSoundImage a s seq
+        → NoEpochPast t (drawn_records s t last k).instance ((drawn_records s t last k).journal r) }
     // the journals of older generations stay
     ensures uncut_older { (a b : Files) (s : Records) (last : ℕ → ℕ) (text : List ℕ) (r : ℕ) → MayBeOpened s.instance last → AreRead s.instance last s.journal a
         → IsUncut s.instance text a b → r < length (regions s.instance) → IsJournal b r (generation s.instance) (last r) (s.journal r) }
     ensures drawn_older { (a b : Files) (s : Records) (n : ℕ) (last : ℕ → ℕ) (text : List ℕ) (k r : ℕ) → MayBeOpened s.instance last
         → AreRead s.instance last s.journal a → HasDrawn s.instance n text last k a b → r < length (regions s.instance)
         → IsJournal b r (generation s.instance) (last r) (s.journal r) }
+{}
+
+/// The lost-transaction file of a generation that was drawn may have any bytes. It does nothing.
+pub fn lost_files_are_free()
+    ensures { (a b : Files) (s : Records) (seq : Sequence) (g : ℕ) → IsSoundImage a s seq → g ≤ generation s.instance
+        → SameOutside (Only (lost_file g)) a b → IsSoundImage b s seq }
 {}

@@ -1,7 +1,7 @@
 use Rattle.std.proofs.Common.{rules, ◌≡◌, IfSome}
 use Rattle.disk_defs.specs.Disk.{OnFile, ReadsAfter, IsDurable, written}
 use Rattle.site_files.proofs.Writing.{write_moments, sync_moments, text_here}
-use Rattle.site_files.proofs.broken.write_text.Goals as goal
+use Rattle.site_files.proofs.texts.write_text.Goals as goal
 
 pub returns-then-is_err-2-clause-any_moment : goal.returns-then-is_err-2-clause-any_moment
 returns-then-is_err-2-clause-any_moment g c =

@@ -7,7 +7,7 @@ use Rattle.journal_defs.specs.Instance.{InstanceRecord, Cut, generation}
 use Rattle.instance_file.specs.Instance.{HasRecords, StandsWith}
 use Rattle.site_files.specs.Loading.{next_cut}
 use Rattle.site_files.proofs.Cutting.{cut_stands}
-use Rattle.site_files.proofs.drawing.cut.Goals as goal
+use Rattle.site_files.proofs.cuts.cut.Goals as goal
 
 pub returns-in-Ok-cut-clause-any_moment : goal.returns-in-Ok-cut-clause-any_moment
 returns-in-Ok-cut-clause-any_moment g c =

@@ -3,7 +3,7 @@ use Rattle.disk_defs.specs.Disk.{Files, Image, From, OnFile, ReadsAfter}
 use Rattle.journal_defs.specs.Numbers.{broken_file}
 use Rattle.site_files.specs.Loading.{IsWritten}
 use Rattle.site_files.proofs.Writing.{on_ok, all_written, read_written}
-use Rattle.site_files.proofs.broken.write_broken.Goals as goal
+use Rattle.site_files.proofs.texts.write_broken.Goals as goal
 
 pub returns-clause-written : goal.returns-clause-written
 returns-clause-written g c =
