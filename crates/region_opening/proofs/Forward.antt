@@ -1,12 +1,11 @@
 -- Regions that are looked through for one that needs forward recovery.
-use Rattle.std.proofs.Common.{◌≡◌, ℕ, ◌+◌, ◌<◌, Bool, true, false, List, Option, Some, None, refl, sym, ◌∙◌, ap, subst, arith}
+use Rattle.std.proofs.Common.{◌≡◌, ℕ, ◌+◌, Bool, true, false, List, Option, None, refl, sym, ◌∙◌, ap, arith}
 use Rattle.std.specs.Prelude.{nat_lt}
 use Rattle.std.proofs.lemmas.Bool.Decides.{nat_tests}
 use Rattle.journal_defs.specs.Instance.{InstanceRecord}
 use Rattle.journal_defs.specs.Sequence.{Placed}
 use Rattle.journal_defs.specs.Epochs.{chosen, first_without}
-use Rattle.region_opening.specs.declared.needing.WithoutImages.{WithoutImages}
-use Rattle.region_opening.specs.Forward.{NoneNeeds, IsFirstWithout}
+use Rattle.region_opening.specs.Forward.{NoneNeeds}
 
 module _ (instance : List InstanceRecord) (t : ℕ) (journal : ℕ → List Placed) where
   pub none_yet : NoneNeeds instance t journal 0
@@ -25,12 +24,3 @@ module _ (instance : List InstanceRecord) (t : ℕ) (journal : ℕ → List Plac
       by false not_less =
           let same : r ≡ n = grind (arith, nat_tests, not_less, low) in
           ap (λ (k : ℕ). in_these (journal k)) same ∙ ap in_these (sym is) ∙ sym found ∙ none
-
-  -- where this is found of the next region
-  pub first_found : (n count : ℕ) (ps : List Placed) (o : Option ℕ) (x : WithoutImages) → n < count → NoneNeeds instance t journal n → ps ≡ journal n → o ≡ first_without ps (chosen instance t ps)
-      → o ≡ Some x.generation → x.region ≡ n → IsFirstWithout instance t journal count x
-  first_found n count ps o x low before is found some region = record {
-    below = omega (arith, low, region);
-    without = ap (λ (k : ℕ). in_these (journal k)) region ∙ ap in_these (sym is) ∙ sym found ∙ some;
-    earlier = subst (NoneNeeds instance t journal) (sym region) before;
-  }

@@ -171,7 +171,9 @@ fn open_each<D: Disk>(
     let mut regions = Vec::new(alloc);
     for number in 0..directory.regions() as usize {
         let journal = journal_at(journals, number);
-        let region = open_region(alloc, disk, instance, directory, number, journal, entries, target)?;
+        let region = open_region(
+            alloc, disk, instance, directory, number, journal, entries, target,
+        )?;
         add(&mut regions, region)?;
     }
     Ok(regions)
