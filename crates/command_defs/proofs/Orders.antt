@@ -12,14 +12,14 @@ use Rattle.std.proofs.lemmas.List.Folds.{list_all-map}
 use Rattle.global_defs.specs.Key.{Key}
 use Rattle.gvn_key.specs.KeyText.{key_reading}
 use Rattle.script_defs.specs.Parts.{word_end}
-use Rattle.command_defs.specs.Commands.{IsFormed, IsWhole, Name, Region, Command, Create, Attach, Map, StartPrimary, Stop, Epoch, Fuse, Crash, Extract, Zwrite, Show, Print, with_images, MOST_CALLS, MOST_PICK, MOST_NUMBER, MOST_GENERATION, MOST_REGIONS, regions_behind, regions_reading, create_reading, attach_reading, map_reading, start_reading, extract_reading, zwrite_reading, type_reading, command_by, run_reading, AreRegions, IsPattern, IsOrder, create, attach, map_to, start, stop, epoch, fuse, crash, extract, extract_from, zwrite, zwrite_from, show, print}
-use Rattle.command_defs.specs.Parts.{followed, taken, taken_if_any, ended, word_form, is_name, name_form, pattern_form, number_form, node_form}
+use Rattle.command_defs.specs.Commands.{IsFormed, IsWhole, Name, Region, Command, Create, Attach, Map, StartPrimary, Stop, Epoch, Resync, RecoverBackward, Fuse, Crash, Extract, Zwrite, Show, Print, with_images, MOST_CALLS, MOST_PICK, MOST_NUMBER, MOST_GENERATION, MOST_REGIONS, regions_behind, regions_reading, create_reading, attach_reading, map_reading, extract_reading, zwrite_reading, command_by, run_reading, AreRegions, IsPattern, IsOrder, create, attach, map_to, start, stop, epoch, resync, recover_backward, fuse, crash, extract, extract_from, zwrite, zwrite_from, show, print}
+use Rattle.command_defs.specs.Parts.{followed, taken, taken_if_any, ended, word_form, is_name, name_form, pattern_form, number_form, node_form, file_word, file_form}
 use Rattle.command_defs.specs.Spelling.{Joins}
 use Rattle.command_defs.proofs.Joined.{IsTight, IsFronted, begins}
 use Rattle.command_defs.proofs.NumberForms.{number_read}
 use Rattle.command_defs.proofs.Patterns.{pattern_read}
 use Rattle.command_defs.proofs.Regions.{distinct_one, names_images}
-use Rattle.command_defs.proofs.Taken.{behind, chosen, followed_found, Takes, ended_found, name_taken, word_taken, number_taken, node_taken, at_end, pattern_taken, Perhaps, missing, there, perhaps_found, taken_read, next, ended_read, node_read, perhaps_read, perhaps_none, followed_read, site_read, figure_read}
+use Rattle.command_defs.proofs.Taken.{behind, chosen, followed_found, Takes, ended_found, taken_found, name_taken, word_is, word_taken, file_is, number_taken, node_taken, at_end, pattern_taken, Perhaps, missing, there, perhaps_found, taken_read, next, ended_read, word_read, file_read, node_read, perhaps_read, perhaps_none, followed_read, site_read, figure_read}
 use Rattle.command_defs.proofs.RegionOrders.{Named, regions_found, regions_read}
 
 -- parts behind a word that make a command with it
@@ -99,6 +99,59 @@ numbered_read : (most : ℕ) (make : Name → ℕ → Command) → most < 2 ^ 64
     → followed (taken name_form len left) (λ site. followed (taken (number_form 0 most) len site.1) (λ n. ended len n.1 (make site.0 n.0))) ≡ Ok (make site n)
 numbered_read most make small len left site n g h j = followed_read (taken name_form len left) _ (site, behind left) _ (site_read len site g j)
     (followed_read (taken (number_form 0 most) len (behind left)) _ (n, behind (behind left)) _ (figure_read 0 most len n small (omega arith) h (next j)) (ended_read len (behind (behind left)) _ (next (next j))))
+
+-- A site and a word.
+
+worded_found : (word role : List ℕ) (make : Name → Command) → ((site : Name) → is_name site ≡ true → IsOrder (word ∷ site ∷ role ∷ []) (make site)) → (len : ℕ) (left : List ℕ) (c : Command) → IsTight left → IsFronted left
+    → followed (taken name_form len left) (λ site. followed (taken (word_form role) len site.1) (λ second. ended len second.1 (make site.0))) ≡ Ok c → Makes word left c
+worded_found word role make order len left c tight fronted e =
+    let a = followed_found (taken name_form len left) _ c e in
+    let s = name_taken len left a.0 tight fronted a.1 in
+    let b = followed_found (taken (word_form role) len a.0.1) _ c a.2 in
+    let r = word_taken role len a.0.1 b.0 s.1.tight s.1.fronted b.1 in
+    let z = ended_found len b.0.1 (make a.0.0) c b.2 in
+    record {
+      parts = a.0.0 ∷ role ∷ [];
+      order = subst (λ x. IsOrder (word ∷ a.0.0 ∷ role ∷ []) x) z.1 (order a.0.0 s.0);
+      joined = s.1.build (role ∷ []) (r.build [] (at_end b.0.1 z.0));
+    }
+
+worded_read : (role : List ℕ) (make : Name → Command) (len : ℕ) (left : List ℕ) (site : Name) → is_name site ≡ true → Joins (site ∷ role ∷ []) left
+    → followed (taken name_form len left) (λ site. followed (taken (word_form role) len site.1) (λ second. ended len second.1 (make site.0))) ≡ Ok (make site)
+worded_read role make len left site g j = followed_read (taken name_form len left) _ (site, behind left) _ (site_read len site g j)
+    (followed_read (taken (word_form role) len (behind left)) _ (role, behind (behind left)) _ (taken_read (word_form role) len role (next j) (word_read role)) (ended_read len (behind (behind left)) _ (next (next j))))
+
+-- A site, a word and a number from 1 on.
+
+counted_found : {X : Type 0} (word : List ℕ) (form : List ℕ → Option X) (spelling : X → List ℕ) (most : ℕ) (make : Name → X → ℕ → Command) → most < 2 ^ 64
+    → ((text : List ℕ) (x : X) → form text ≡ Some x → text ≡ spelling x)
+    → ((site : Name) (x : X) (n : ℕ) → is_name site ≡ true → 1 ≤ n → n ≤ most → IsOrder (word ∷ site ∷ spelling x ∷ decimal n ∷ []) (make site x n))
+    → (len : ℕ) (left : List ℕ) (c : Command) → IsTight left → IsFronted left
+    → followed (taken name_form len left) (λ site. followed (taken form len site.1) (λ second. followed (taken (number_form 1 most) len second.1) (λ n. ended len n.1 (make site.0 second.0 n.0)))) ≡ Ok c → Makes word left c
+counted_found word form spelling most make small spelled order len left c tight fronted e =
+    let a = followed_found (taken name_form len left) _ c e in
+    let s = name_taken len left a.0 tight fronted a.1 in
+    let b = followed_found (taken form len a.0.1) _ c a.2 in
+    let t = taken_found form len a.0.1 b.0 s.1.tight s.1.fronted b.1 in
+    let w = subst (λ x. Takes x a.0.1 b.0.1) (spelled (take (word_end a.0.1) a.0.1) b.0.0 t.0) t.1 in
+    let d = followed_found (taken (number_form 1 most) len b.0.1) _ c b.2 in
+    let n = number_taken 1 most len b.0.1 d.0 small w.tight w.fronted d.1 in
+    let z = ended_found len d.0.1 (make a.0.0 b.0.0 d.0.0) c d.2 in
+    let second = spelling b.0.0 in
+    record {
+      parts = a.0.0 ∷ second ∷ decimal d.0.0 ∷ [];
+      order = subst (λ x. IsOrder (word ∷ a.0.0 ∷ second ∷ decimal d.0.0 ∷ []) x) z.1 (order a.0.0 b.0.0 d.0.0 s.0 n.0 n.1);
+      joined = s.1.build (second ∷ decimal d.0.0 ∷ []) (w.build (decimal d.0.0 ∷ []) (n.2.build [] (at_end d.0.1 z.0)));
+    }
+
+counted_read : {X : Type 0} (form : List ℕ → Option X) (most : ℕ) (make : Name → X → ℕ → Command) → most < 2 ^ 64 → (len : ℕ) (left : List ℕ) (site : Name) (second : List ℕ) (x : X) (n : ℕ)
+    → is_name site ≡ true → form second ≡ Some x → 1 ≤ n → n ≤ most → Joins (site ∷ second ∷ decimal n ∷ []) left
+    → followed (taken name_form len left) (λ site. followed (taken form len site.1) (λ second. followed (taken (number_form 1 most) len second.1) (λ n. ended len n.1 (make site.0 second.0 n.0)))) ≡ Ok (make site x n)
+counted_read form most make small len left site second x n g spelled low high j =
+    let rest = behind (behind left) in
+    followed_read (taken name_form len left) _ (site, behind left) _ (site_read len site g j)
+    (followed_read (taken form len (behind left)) _ (x, rest) _ (taken_read form len x (next j) spelled)
+    (followed_read (taken (number_form 1 most) len rest) _ (n, behind rest) _ (figure_read 1 most len n small low high (next (next j))) (ended_read len (behind rest) _ (next (next (next j))))))
 
 -- CREATE.
 
@@ -180,25 +233,6 @@ map_read len left site region pattern g h p j =
     (followed_read (taken name_form len (behind left)) _ (region, rest) _ (site_read len region h (next j))
     (followed_read (taken pattern_form len rest) _ (pattern, behind rest) _ (taken_read pattern_form len pattern (next (next j)) formed) (ended_read len (behind rest) _ (next (next (next j))))))
 
--- START.
-
-start_found : (len : ℕ) (left : List ℕ) (c : Command) → IsTight left → IsFronted left → start_reading len left ≡ Ok c → Makes (codes "START") left c
-start_found len left c tight fronted e =
-    let a = followed_found (taken name_form len left) _ c e in
-    let s = name_taken len left a.0 tight fronted a.1 in
-    let b = followed_found (taken (word_form (codes "PRIMARY")) len a.0.1) _ c a.2 in
-    let r = word_taken (codes "PRIMARY") len a.0.1 b.0 s.1.tight s.1.fronted b.1 in
-    let z = ended_found len b.0.1 (StartPrimary a.0.0) c b.2 in
-    record {
-      parts = a.0.0 ∷ codes "PRIMARY" ∷ [];
-      order = subst (λ x. IsOrder (codes "START" ∷ a.0.0 ∷ codes "PRIMARY" ∷ []) x) z.1 (start a.0.0 s.0);
-      joined = s.1.build (codes "PRIMARY" ∷ []) (r.build [] (at_end b.0.1 z.0));
-    }
-
-start_read : (len : ℕ) (left : List ℕ) (site : Name) → is_name site ≡ true → Joins (site ∷ codes "PRIMARY" ∷ []) left → start_reading len left ≡ Ok (StartPrimary site)
-start_read len left site g j = followed_read (taken name_form len left) _ (site, behind left) _ (site_read len site g j)
-    (followed_read (taken (word_form (codes "PRIMARY")) len (behind left)) _ (codes "PRIMARY", behind (behind left)) _ (taken_read (word_form (codes "PRIMARY")) len (codes "PRIMARY") (next j) refl) (ended_read len (behind (behind left)) _ (next (next j))))
-
 -- EXTRACT.
 
 extract_by : (site : Name) (len : ℕ) (left : List ℕ) (o : Option ℕ × List ℕ) (c : Command) → is_name site ≡ true → IsTight left → IsFronted left
@@ -256,30 +290,6 @@ zwrite_from_read : (len : ℕ) (left : List ℕ) (site : Name) (node : List ℕ)
 zwrite_from_read len left site node key g h j = followed_read (taken name_form len left) _ (site, behind left) _ (site_read len site g j)
     (followed_read (taken_if_any node_form len (behind left)) _ (Some key, behind (behind left)) _ (perhaps_read node_form len key (next j) (node_read node key h)) (ended_read len (behind (behind left)) _ (next (next j))))
 
--- TYPE.
-
-type_found : (len : ℕ) (left : List ℕ) (c : Command) → IsTight left → IsFronted left → type_reading len left ≡ Ok c → Makes (codes "TYPE") left c
-type_found len left c tight fronted e =
-    let a = followed_found (taken name_form len left) _ c e in
-    let s = name_taken len left a.0 tight fronted a.1 in
-    let b = followed_found (taken (word_form (codes "BROKEN")) len a.0.1) _ c a.2 in
-    let w = word_taken (codes "BROKEN") len a.0.1 b.0 s.1.tight s.1.fronted b.1 in
-    let d = followed_found (taken (number_form 1 MOST_GENERATION) len b.0.1) _ c b.2 in
-    let n = number_taken 1 MOST_GENERATION len b.0.1 d.0 (omega arith) w.tight w.fronted d.1 in
-    let z = ended_found len d.0.1 (Print a.0.0 false d.0.0) c d.2 in
-    record {
-      parts = a.0.0 ∷ codes "BROKEN" ∷ decimal d.0.0 ∷ [];
-      order = subst (λ x. IsOrder (codes "TYPE" ∷ a.0.0 ∷ codes "BROKEN" ∷ decimal d.0.0 ∷ []) x) z.1 (print a.0.0 d.0.0 s.0 n.0 n.1);
-      joined = s.1.build (codes "BROKEN" ∷ decimal d.0.0 ∷ []) (w.build (decimal d.0.0 ∷ []) (n.2.build [] (at_end d.0.1 z.0)));
-    }
-
-type_read : (len : ℕ) (left : List ℕ) (site : Name) (n : ℕ) → is_name site ≡ true → 1 ≤ n → n ≤ MOST_GENERATION → Joins (site ∷ codes "BROKEN" ∷ decimal n ∷ []) left → type_reading len left ≡ Ok (Print site false n)
-type_read len left site n g low high j =
-    let rest = behind (behind left) in
-    followed_read (taken name_form len left) _ (site, behind left) _ (site_read len site g j)
-    (followed_read (taken (word_form (codes "BROKEN")) len (behind left)) _ (codes "BROKEN", rest) _ (taken_read (word_form (codes "BROKEN")) len (codes "BROKEN") (next j) refl)
-    (followed_read (taken (number_form 1 MOST_GENERATION) len rest) _ (n, behind rest) _ (figure_read 1 MOST_GENERATION len n (omega arith) low high (next (next j))) (ended_read len (behind rest) _ (next (next (next j))))))
-
 -- All of them.
 
 named : {word left : List ℕ} {c : Command} (w : List ℕ) → bytes_eq word w ≡ true → Makes w left c → Makes word left c
@@ -301,16 +311,18 @@ command_found word len left rest c tight fronted e =
     let m : Makes word rest c = by_word (codes "CREATE") (create_found len rest c tight fronted)
     (by_word (codes "ATTACH") (attach_found len rest c tight fronted)
     (by_word (codes "MAP") (map_found len rest c tight fronted)
-    (by_word (codes "START") (start_found len rest c tight fronted)
+    (by_word (codes "START") (worded_found (codes "START") (codes "PRIMARY") StartPrimary start len rest c tight fronted)
     (by_word (codes "STOP") (site_found (codes "STOP") Stop stop len rest c tight fronted)
     (by_word (codes "EPOCH") (site_found (codes "EPOCH") Epoch epoch len rest c tight fronted)
+    (by_word (codes "ROLLBACK") (counted_found (codes "ROLLBACK") (word_form (codes "RESYNC")) (λ word. codes "RESYNC") MOST_NUMBER (λ site word. Resync site) (omega arith) (word_is (codes "RESYNC")) (λ site word. resync site) len rest c tight fronted)
+    (by_word (codes "RECOVER") (worded_found (codes "RECOVER") (codes "BACKWARD") RecoverBackward recover_backward len rest c tight fronted)
     (by_word (codes "FUSE") (figure_found (codes "FUSE") MOST_CALLS Fuse (omega arith) fuse len rest c tight fronted)
     (by_word (codes "CRASH") (figure_found (codes "CRASH") MOST_PICK Crash (omega arith) crash len rest c tight fronted)
     (by_word (codes "EXTRACT") (extract_found len rest c tight fronted)
     (by_word (codes "ZWRITE") (zwrite_found len rest c tight fronted)
     (by_word (codes "SHOW") (site_found (codes "SHOW") Show show len rest c tight fronted)
-    (by_word (codes "TYPE") (type_found len rest c tight fronted)
-    no_word))))))))))) e in
+    (by_word (codes "TYPE") (counted_found (codes "TYPE") file_form file_word MOST_GENERATION Print (omega arith) file_is print len rest c tight fronted)
+    no_word))))))))))))) e in
     (m.parts, m.order, m.joined)
 
 -- the parts of a command are read as it, and have what a command has
@@ -318,9 +330,11 @@ pub order_told : {parts : List (List ℕ)} {c : Command} → IsOrder parts c →
 order_told (create site names g r) = told (codes "CREATE") refl (created_formed site names g r, tt) (λ len left rest j. create_read len rest site names g r j)
 order_told attach = told (codes "ATTACH") refl (tt, tt) (λ len left rest j. ended_read len rest Attach j)
 order_told (map_to site region pattern g h p) = told (codes "MAP") refl ((g, h, pattern_read p), tt) (λ len left rest j. map_read len rest site region pattern g h p j)
-order_told (start site g) = told (codes "START") refl (g, tt) (λ len left rest j. start_read len rest site g j)
+order_told (start site g) = told (codes "START") refl (g, tt) (λ len left rest j. worded_read (codes "PRIMARY") StartPrimary len rest site g j)
 order_told (stop site g) = told (codes "STOP") refl (g, tt) (λ len left rest j. alone_read Stop len rest site g j)
 order_told (epoch site g) = told (codes "EPOCH") refl (g, tt) (λ len left rest j. alone_read Epoch len rest site g j)
+order_told (resync site n g low high) = told (codes "ROLLBACK") refl ((g, low, high), tt) (λ len left rest j. counted_read (word_form (codes "RESYNC")) MOST_NUMBER (λ site word. Resync site) (omega arith) len rest site (codes "RESYNC") (codes "RESYNC") n g refl low high j)
+order_told (recover_backward site g) = told (codes "RECOVER") refl (g, tt) (λ len left rest j. worded_read (codes "BACKWARD") RecoverBackward len rest site g j)
 order_told (fuse site n g h) = told (codes "FUSE") refl ((g, h), tt) (λ len left rest j. numbered_read MOST_CALLS Fuse (omega arith) len rest site n g h j)
 order_told (crash site n g h) = told (codes "CRASH") refl ((g, h), tt) (λ len left rest j. numbered_read MOST_PICK Crash (omega arith) len rest site n g h j)
 order_told (extract site g) = told (codes "EXTRACT") refl (g, tt) (λ len left rest j. extract_read len rest site g j)
@@ -328,7 +342,7 @@ order_told (extract_from site n g low high) = told (codes "EXTRACT") refl ((g, l
 order_told (zwrite site g) = told (codes "ZWRITE") refl (g, tt) (λ len left rest j. zwrite_read len rest site g j)
 order_told (zwrite_from site node key g h) = told (codes "ZWRITE") refl (g, tt) (λ len left rest j. zwrite_from_read len rest site node key g h j)
 order_told (show site g) = told (codes "SHOW") refl (g, tt) (λ len left rest j. alone_read Show len rest site g j)
-order_told (print site n g low high) = told (codes "TYPE") refl ((g, refl, low, high), tt) (λ len left rest j. type_read len rest site n g low high j)
+order_told (print site lost n g low high) = told (codes "TYPE") refl ((g, low, high), tt) (λ len left rest j. counted_read file_form MOST_GENERATION Print (omega arith) len rest site (file_word lost) lost n g (file_read lost) low high j)
 
 -- A section's first line.
 

@@ -1,5 +1,6 @@
 -- Parts that are taken from the front of what is left, in both directions.
-use Rattle.std.proofs.Common.{◌≡◌, ◌⊎◌, ℕ, ◌<◌, ◌≤◌, ◌^◌, ◌==◌, Bool, true, false, List, [], ◌∷◌, length, take, drop, Option, Some, None, cond, refl, sym, ap, ◌∙◌, subst, inl, inr, arith}
+use Rattle.std.specs.Prelude.{if◌then◌else◌}
+use Rattle.std.proofs.Common.{◌≡◌, ◌⊎◌, ℕ, ◌<◌, ◌≤◌, ◌^◌, ◌==◌, Bool, true, false, List, [], ◌∷◌, length, take, drop, Option, Some, None, codes, cond, refl, sym, ap, ◌∙◌, subst, inl, inr, arith}
 use Rattle.std.specs.Fmt.{decimal}
 use Rattle.std.specs.Str.{bytes_eq}
 use Rattle.std.specs.declared.result.Result.{Result}
@@ -13,7 +14,7 @@ use Rattle.gvn_key.specs.KeyText.{key_reading}
 use Rattle.gvn_key.specs.declared.key.KeyError.{KeyError}
 use Rattle.script_defs.specs.Parts.{word_end, without_spaces}
 use Rattle.command_defs.specs.Commands.{Name, IsPattern}
-use Rattle.command_defs.specs.Parts.{column, followed, formed, taken, taken_if_any, ended, word_form, is_name, name_form, pattern_form, number_form, node_of, node_form}
+use Rattle.command_defs.specs.Parts.{column, followed, formed, taken, taken_if_any, ended, word_form, is_name, name_form, pattern_form, number_form, node_of, node_form, file_word, file_form}
 use Rattle.global_defs.specs.Pattern.{is_pattern}
 use Rattle.command_defs.specs.Spelling.{Joins, nothing}
 use Rattle.command_defs.proofs.Joined.{IsTight, IsFronted, tight_drop, tight_without, fronted_without, joins, begins, begins_none}
@@ -101,6 +102,15 @@ word_taken word len left p tight fronted e =
     let t = taken_found (word_form word) len left p tight fronted e in
     subst (λ w. Takes w left p.1) (word_is word (take (word_end left) left) p.0 t.0) t.1
 
+pub file_is : (text : List ℕ) (lost : Bool) → file_form text ≡ Some lost → text ≡ file_word lost
+file_is text lost e = elim (chosen (bytes_eq text (codes "LOST")) (Some true) (if bytes_eq text (codes "BROKEN") then Some false else None) (Some lost) e) [
+  | inl h ↦ (let same : true ≡ lost = cc h.1 in (bytes_eq-Decides text (codes "LOST")).0 h.0 ∙ ap file_word same)
+  | inr h ↦ elim (chosen (bytes_eq text (codes "BROKEN")) (Some false) None (Some lost) h.1) [
+    | inl k ↦ (let same : false ≡ lost = cc k.1 in (bytes_eq-Decides text (codes "BROKEN")).0 k.0 ∙ ap file_word same)
+    | inr k ↦ absurd (cc k.1)
+  ]
+]
+
 pub number_taken : (least most len : ℕ) (left : List ℕ) (p : ℕ × List ℕ) → most < 2 ^ 64 → IsTight left → IsFronted left → taken (number_form least most) len left ≡ Ok p
     → (least ≤ p.0) × (p.0 ≤ most) × Takes (decimal p.0) left p.1
 number_taken least most len left p small tight fronted e =
@@ -168,6 +178,13 @@ ended_read len left x j = subst (λ (t : List ℕ). ended len t x ≡ Ok x) (sym
 
 pub name_read : (name : List ℕ) → is_name name ≡ true → name_form name ≡ Some name
 name_read name h = rw h refl
+
+pub word_read : (word : List ℕ) → word_form word word ≡ Some word
+word_read word = let same : bytes_eq word word ≡ true = (bytes_eq-Decides word word).1 refl in rw same refl
+
+pub file_read : (lost : Bool) → file_form (file_word lost) ≡ Some lost
+file_read true = refl
+file_read false = refl
 
 pub node_read : (node : List ℕ) (key : Key) → key_reading node ≡ Ok key → node_form node ≡ Some key
 node_read node key e = ap node_of e

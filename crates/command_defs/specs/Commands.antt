@@ -1,5 +1,5 @@
 -- The commands of a script: what each is, how its line is read, what it has, and which parts spell it.
-use Rattle.std.specs.Prelude.{◌≡◌, ◌≤◌, ℕ, zero, suc, ◌-◌, ◌^◌, ◌&&◌, ◌==◌, not, Bool, true, false, List, [], ◌∷◌, ◌++◌, length, map, fold, Option, Some, None, codes, if◌then◌else◌}
+use Rattle.std.specs.Prelude.{◌≡◌, ◌≤◌, ℕ, zero, suc, ◌-◌, ◌^◌, ◌&&◌, ◌==◌, not, Bool, true, List, [], ◌∷◌, ◌++◌, length, map, fold, Option, Some, None, codes, if◌then◌else◌}
 use Rattle.std.specs.List.{list_all, list_any, AllByRecursion, IsDistinct}
 use Rattle.std.specs.Fmt.{decimal}
 use Rattle.std.specs.Str.{bytes_eq}
@@ -10,7 +10,7 @@ use Rattle.global_defs.specs.Key.{Key}
 use Rattle.global_defs.specs.Pattern.{is_global_name, is_pattern}
 use Rattle.global_defs.specs.Serial.{without_next}
 use Rattle.gvn_key.specs.KeyText.{key_reading}
-use Rattle.command_defs.specs.Parts.{column, followed, taken, taken_if_any, ended, word_form, is_name, name_form, pattern_form, number_form, node_form}
+use Rattle.command_defs.specs.Parts.{column, followed, taken, taken_if_any, ended, word_form, is_name, name_form, pattern_form, number_form, node_form, file_word, file_form}
 use Rattle.command_defs.specs.Updaters.{UPDATERS, is_updater, is_of_size}
 
 -- of a site or a region
@@ -37,6 +37,10 @@ pub data Command : Type 0 where
   Stop : Name → Command
   -- all changed blocks of the site's regions are written, and each region's journal gets an epoch (GT.M: VIEW "EPOCH")
   Epoch : Name → Command
+  -- the site is rolled back so that its next entry is that number, or stays as long as it is (GT.M: MUPIP JOURNAL -ROLLBACK -BACKWARD -RESYNC -LOSTTRANS)
+  Resync : Name → (number : ℕ) → Command
+  -- the site is recovered from its journals, and is down again (GT.M: MUPIP JOURNAL -RECOVER -BACKWARD)
+  RecoverBackward : Name → Command
   -- the site's disk passes so many more calls, and fails each later one until a crash
   Fuse : Name → (calls : ℕ) → Command
   -- the site's disk takes the image of that pick
@@ -52,7 +56,7 @@ pub data Command : Type 0 where
 
 -- The forms of the commands that are one line, and of a section's first line.
 
--- the greatest numbers in FUSE, CRASH and EXTRACT
+-- the greatest numbers in FUSE, in CRASH, and in EXTRACT and ROLLBACK
 abbrev pub MOST_CALLS : ℕ
 MOST_CALLS = 1000000
 
@@ -108,6 +112,14 @@ stop_reading len left = followed (taken name_form len left) (λ site. ended len 
 abbrev pub epoch_reading : ℕ → List ℕ → Result Command ℕ
 epoch_reading len left = followed (taken name_form len left) (λ site. ended len site.1 (Epoch site.0))
 
+-- ROLLBACK site RESYNC number
+abbrev pub rollback_reading : ℕ → List ℕ → Result Command ℕ
+rollback_reading len left = followed (taken name_form len left) (λ site. followed (taken (word_form (codes "RESYNC")) len site.1) (λ word. followed (taken (number_form 1 MOST_NUMBER) len word.1) (λ number. ended len number.1 (Resync site.0 number.0))))
+
+-- RECOVER site BACKWARD
+abbrev pub recover_reading : ℕ → List ℕ → Result Command ℕ
+recover_reading len left = followed (taken name_form len left) (λ site. followed (taken (word_form (codes "BACKWARD")) len site.1) (λ way. ended len way.1 (RecoverBackward site.0)))
+
 -- FUSE site calls
 abbrev pub fuse_reading : ℕ → List ℕ → Result Command ℕ
 fuse_reading len left = followed (taken name_form len left) (λ site. followed (taken (number_form 0 MOST_CALLS) len site.1) (λ calls. ended len calls.1 (Fuse site.0 calls.0)))
@@ -128,9 +140,9 @@ zwrite_reading len left = followed (taken name_form len left) (λ site. followed
 abbrev pub show_reading : ℕ → List ℕ → Result Command ℕ
 show_reading len left = followed (taken name_form len left) (λ site. ended len site.1 (Show site.0))
 
--- TYPE site BROKEN generation
+-- TYPE site LOST generation, or BROKEN
 abbrev pub type_reading : ℕ → List ℕ → Result Command ℕ
-type_reading len left = followed (taken name_form len left) (λ site. followed (taken (word_form (codes "BROKEN")) len site.1) (λ file. followed (taken (number_form 1 MOST_GENERATION) len file.1) (λ generation. ended len generation.1 (Print site.0 false generation.0))))
+type_reading len left = followed (taken name_form len left) (λ site. followed (taken file_form len site.1) (λ file. followed (taken (number_form 1 MOST_GENERATION) len file.1) (λ generation. ended len generation.1 (Print site.0 file.0 generation.0))))
 
 -- by a line's first word; behind is what stands behind it and the spaces
 abbrev pub command_by : (word : List ℕ) (len : ℕ) (left behind : List ℕ) → Result Command ℕ
@@ -140,6 +152,8 @@ command_by word len left behind = if bytes_eq word (codes "CREATE") then create_
     else if bytes_eq word (codes "START") then start_reading len behind
     else if bytes_eq word (codes "STOP") then stop_reading len behind
     else if bytes_eq word (codes "EPOCH") then epoch_reading len behind
+    else if bytes_eq word (codes "ROLLBACK") then rollback_reading len behind
+    else if bytes_eq word (codes "RECOVER") then recover_reading len behind
     else if bytes_eq word (codes "FUSE") then fuse_reading len behind
     else if bytes_eq word (codes "CRASH") then crash_reading len behind
     else if bytes_eq word (codes "EXTRACT") then extract_reading len behind
@@ -163,13 +177,15 @@ IsFormed (StartPrimary name) = is_name name ≡ true
 IsFormed (Run name jobs order) = (is_name name ≡ true) × (length jobs ≡ UPDATERS) × (list_all is_updater order ≡ true) × (list_all (λ own. list_all is_of_size own) jobs ≡ true)
 IsFormed (Stop name) = is_name name ≡ true
 IsFormed (Epoch name) = is_name name ≡ true
+IsFormed (Resync name number) = (is_name name ≡ true) × (1 ≤ number) × (number ≤ MOST_NUMBER)
+IsFormed (RecoverBackward name) = is_name name ≡ true
 IsFormed (Fuse name calls) = (is_name name ≡ true) × (calls ≤ MOST_CALLS)
 IsFormed (Crash name pick) = (is_name name ≡ true) × (pick ≤ MOST_PICK)
 IsFormed (Extract name None) = is_name name ≡ true
 IsFormed (Extract name (Some n)) = (is_name name ≡ true) × (1 ≤ n) × (n ≤ MOST_NUMBER)
 IsFormed (Zwrite name top) = is_name name ≡ true
 IsFormed (Show name) = is_name name ≡ true
-IsFormed (Print name lost generation) = (is_name name ≡ true) × (lost ≡ false) × (1 ≤ generation) × (generation ≤ MOST_GENERATION)
+IsFormed (Print name lost generation) = (is_name name ≡ true) × (1 ≤ generation) × (generation ≤ MOST_GENERATION)
 
 -- taking each updater's next job in this order leaves no updater a job
 abbrev pub UsesUp : List (List Job) → List ℕ → Type 0
@@ -201,6 +217,8 @@ pub data IsOrder : (parts : List (List ℕ)) (command : Command) → Type 0 wher
   start : (site : Name) → is_name site ≡ true → IsOrder (codes "START" ∷ site ∷ codes "PRIMARY" ∷ []) (StartPrimary site)
   stop : (site : Name) → is_name site ≡ true → IsOrder (codes "STOP" ∷ site ∷ []) (Stop site)
   epoch : (site : Name) → is_name site ≡ true → IsOrder (codes "EPOCH" ∷ site ∷ []) (Epoch site)
+  resync : (site : Name) (number : ℕ) → is_name site ≡ true → 1 ≤ number → number ≤ MOST_NUMBER → IsOrder (codes "ROLLBACK" ∷ site ∷ codes "RESYNC" ∷ decimal number ∷ []) (Resync site number)
+  recover_backward : (site : Name) → is_name site ≡ true → IsOrder (codes "RECOVER" ∷ site ∷ codes "BACKWARD" ∷ []) (RecoverBackward site)
   fuse : (site : Name) (calls : ℕ) → is_name site ≡ true → calls ≤ MOST_CALLS → IsOrder (codes "FUSE" ∷ site ∷ decimal calls ∷ []) (Fuse site calls)
   crash : (site : Name) (pick : ℕ) → is_name site ≡ true → pick ≤ MOST_PICK → IsOrder (codes "CRASH" ∷ site ∷ decimal pick ∷ []) (Crash site pick)
   extract : (site : Name) → is_name site ≡ true → IsOrder (codes "EXTRACT" ∷ site ∷ []) (Extract site None)
@@ -208,4 +226,4 @@ pub data IsOrder : (parts : List (List ℕ)) (command : Command) → Type 0 wher
   zwrite : (site : Name) → is_name site ≡ true → IsOrder (codes "ZWRITE" ∷ site ∷ []) (Zwrite site None)
   zwrite_from : (site : Name) (node : List ℕ) (key : Key) → is_name site ≡ true → key_reading node ≡ Ok key → IsOrder (codes "ZWRITE" ∷ site ∷ node ∷ []) (Zwrite site (Some key))
   show : (site : Name) → is_name site ≡ true → IsOrder (codes "SHOW" ∷ site ∷ []) (Show site)
-  print : (site : Name) (generation : ℕ) → is_name site ≡ true → 1 ≤ generation → generation ≤ MOST_GENERATION → IsOrder (codes "TYPE" ∷ site ∷ codes "BROKEN" ∷ decimal generation ∷ []) (Print site false generation)
+  print : (site : Name) (lost : Bool) (generation : ℕ) → is_name site ≡ true → 1 ≤ generation → generation ≤ MOST_GENERATION → IsOrder (codes "TYPE" ∷ site ∷ file_word lost ∷ decimal generation ∷ []) (Print site lost generation)

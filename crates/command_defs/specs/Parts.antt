@@ -1,5 +1,5 @@
 -- A line cut into parts, and the column of the first one that is bad.
-use Rattle.std.specs.Prelude.{ℕ, ◌+◌, ◌-◌, ◌&&◌, ◌||◌, ◌==◌, Bool, false, List, [], ◌∷◌, length, take, drop, nat_le, Option, Some, None, codes, if◌then◌else◌}
+use Rattle.std.specs.Prelude.{ℕ, ◌+◌, ◌-◌, ◌&&◌, ◌||◌, ◌==◌, Bool, true, false, List, [], ◌∷◌, length, take, drop, nat_le, Option, Some, None, codes, if◌then◌else◌}
 use Rattle.std.specs.List.{list_all}
 use Rattle.std.specs.Char.{is_ascii_alphabetic, is_ascii_alphanumeric}
 use Rattle.std.specs.Str.{bytes_eq}
@@ -99,3 +99,10 @@ node_of (Err e) = None
 
 abbrev pub node_form : List ℕ → Option Key
 node_form text = node_of (key_reading text)
+
+-- the word for a file of lost transactions, or of broken ones
+abbrev pub file_word : (lost : Bool) → List ℕ
+file_word lost = if lost then codes "LOST" else codes "BROKEN"
+
+abbrev pub file_form : List ℕ → Option Bool
+file_form text = if bytes_eq text (codes "LOST") then Some true else if bytes_eq text (codes "BROKEN") then Some false else None

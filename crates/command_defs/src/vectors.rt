@@ -3,7 +3,7 @@ ghost use Rattle.std.specs.Prelude.{◌≡◌, ◌∷◌, ◌++◌, [], codes, S
 ghost use Rattle.global_defs.specs.Key.{sub_of};
 ghost use Rattle.global_defs.specs.Jobs as jobs;
 ghost use Rattle.command_defs.specs.Lines.{lines_of};
-ghost use Rattle.command_defs.specs.Commands.{Create, Attach, Map, StartPrimary, Run, Stop, Epoch, Fuse, Crash, Extract, Zwrite, Show, Print, with_images};
+ghost use Rattle.command_defs.specs.Commands.{Create, Attach, Map, StartPrimary, Run, Stop, Epoch, Resync, RecoverBackward, Fuse, Crash, Extract, Zwrite, Show, Print, with_images};
 ghost use Rattle.command_defs.specs.Parts.{trimmed};
 ghost use Rattle.command_defs.specs.Sections.{begun, with_job, transaction_begun, transaction_ended, is_full_job};
 ghost use Rattle.command_defs.specs.Script.{Outside, Within, Skips, Wrong, Goes, Ends, line_reading, lines_reading};
@@ -47,6 +47,18 @@ pub fn commands_hold()
     ensures digit { line_reading Outside (codes "STOP 1A") ≡ Wrong 6 }
     ensures epoch { line_reading Outside (codes "EPOCH A") ≡ Ends (Epoch (codes "A")) }
     ensures epoch_more { line_reading Outside (codes "EPOCH A R") ≡ Wrong 9 }
+    ensures resync { line_reading Outside (codes "ROLLBACK A RESYNC 1") ≡ Ends (Resync (codes "A") 1) }
+    ensures most_resync { line_reading Outside (codes "ROLLBACK A RESYNC 1099511627776") ≡ Ends (Resync (codes "A") 1099511627776) }
+    ensures no_resync { line_reading Outside (codes "ROLLBACK A RESYNC 0") ≡ Wrong 19 }
+    ensures above_resync { line_reading Outside (codes "ROLLBACK A RESYNC 1099511627777") ≡ Wrong 19 }
+    ensures unnumbered { line_reading Outside (codes "ROLLBACK A RESYNC") ≡ Wrong 18 }
+    ensures resync_more { line_reading Outside (codes "ROLLBACK A RESYNC 1 2") ≡ Wrong 21 }
+    ensures to_number { line_reading Outside (codes "ROLLBACK A 5") ≡ Wrong 12 }
+    ensures to_nothing { line_reading Outside (codes "ROLLBACK A") ≡ Wrong 11 }
+    ensures recover { line_reading Outside (codes "RECOVER A BACKWARD") ≡ Ends (RecoverBackward (codes "A")) }
+    ensures forward { line_reading Outside (codes "RECOVER A FORWARD") ≡ Wrong 11 }
+    ensures no_way { line_reading Outside (codes "RECOVER A") ≡ Wrong 10 }
+    ensures recover_more { line_reading Outside (codes "RECOVER A BACKWARD B") ≡ Wrong 20 }
     ensures start { line_reading Outside (codes " START  A PRIMARY \r") ≡ Ends (StartPrimary (codes "A")) }
     ensures role { line_reading Outside (codes "START A SECONDARY OF B") ≡ Wrong 9 }
     ensures word { line_reading Outside (codes "RUNN A") ≡ Wrong 1 }
@@ -56,7 +68,9 @@ pub fn commands_hold()
     ensures generation { line_reading Outside (codes "TYPE A BROKEN 65535") ≡ Ends (Print (codes "A") false 65535) }
     ensures no_generation { line_reading Outside (codes "TYPE A BROKEN 0") ≡ Wrong 15 }
     ensures above_generation { line_reading Outside (codes "TYPE A BROKEN 65536") ≡ Wrong 15 }
-    ensures file { line_reading Outside (codes "TYPE A LOST 1") ≡ Wrong 8 }
+    ensures lost { line_reading Outside (codes "TYPE A LOST 1") ≡ Ends (Print (codes "A") true 1) }
+    ensures above_lost { line_reading Outside (codes "TYPE A LOST 65536") ≡ Wrong 13 }
+    ensures file { line_reading Outside (codes "TYPE A LOOST 1") ≡ Wrong 8 }
     ensures no_file { line_reading Outside (codes "TYPE A") ≡ Wrong 7 }
     ensures fuse { line_reading Outside (codes "FUSE A 1000000") ≡ Ends (Fuse (codes "A") 1000000) }
     ensures calls { line_reading Outside (codes "FUSE A 1000001") ≡ Wrong 8 }

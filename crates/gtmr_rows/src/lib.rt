@@ -18,4 +18,6 @@ mod ran;
 #[cfg(test)]
 mod regions;
 #[cfg(test)]
+mod rollbacks;
+#[cfg(test)]
 mod sites;

@@ -40,6 +40,16 @@ pub enum Command {
     Epoch {
         site: Bytes,
     },
+    /// Rolls a site back so that its next entry is that number, from 1 to 2 ^ 40, or leaves it as long as it is (GT.M: MUPIP JOURNAL
+    /// -ROLLBACK -BACKWARD -RESYNC -LOSTTRANS).
+    Resync {
+        site: Bytes,
+        number: u64,
+    },
+    /// Recovers a site from its journals and closes it again (GT.M: MUPIP JOURNAL -RECOVER -BACKWARD).
+    RecoverBackward {
+        site: Bytes,
+    },
     /// Lets so many more calls of the site's disk succeed, at most 1,000,000; each later one fails until a crash.
     Fuse {
         site: Bytes,
@@ -64,8 +74,7 @@ pub enum Command {
     Show {
         site: Bytes,
     },
-    /// Shows the file of lost or of broken transactions of that generation, from 1 to 65,535. There are no files of lost ones yet, so no
-    /// script asks for one.
+    /// Shows the file of lost or of broken transactions of that generation, from 1 to 65,535.
     Print {
         site: Bytes,
         lost: bool,

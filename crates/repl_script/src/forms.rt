@@ -5,7 +5,7 @@ ghost use Rattle.std.specs.Option.{SomeIff};
 ghost use Rattle.std.specs.Char.{is_ascii_alphanumeric, is_ascii_digit};
 ghost use Rattle.std.specs.Str.Parse.{digits_value};
 ghost use Rattle.global_defs.specs.Numeral.{is_whole};
-ghost use Rattle.command_defs.specs.Parts.{is_lettered, is_name, is_digits, number_form};
+ghost use Rattle.command_defs.specs.Parts.{is_lettered, is_name, is_digits, number_form, file_form};
 ghost use Rattle.global_defs.specs.Pattern.{is_global_name, is_pattern};
 
 /// How many characters a name may have.
@@ -109,4 +109,17 @@ pub fn number_of(least: u64, most: u64, text: &[u8]) -> Option<u64>
     } else {
         None
     }
+}
+
+/// Whether a word of TYPE is for a file of lost transactions, or for one of broken ones.
+pub fn is_lost(text: &[u8]) -> Option<bool>
+    ensures { result ≡ file_form text.now }
+{
+    if text == b"LOST".as_slice() {
+        return Some(true);
+    }
+    if text == b"BROKEN".as_slice() {
+        return Some(false);
+    }
+    None
 }

@@ -1,13 +1,13 @@
 // Lines between commands.
 ghost use Rattle.std.specs.Prelude.{◌≡◌, true, IfOk};
 ghost use Rattle.command_defs.specs.Parts.{is_name};
-ghost use Rattle.command_defs.specs.Commands.{IsFormed, IsWhole, create_reading, attach_reading, map_reading, start_reading, stop_reading, epoch_reading, fuse_reading, crash_reading, extract_reading, zwrite_reading, show_reading, type_reading, command_by, run_reading};
+ghost use Rattle.command_defs.specs.Commands.{IsFormed, IsWhole, create_reading, attach_reading, map_reading, start_reading, stop_reading, epoch_reading, rollback_reading, recover_reading, fuse_reading, crash_reading, extract_reading, zwrite_reading, show_reading, type_reading, command_by, run_reading};
 ghost use Rattle.repl_script.specs.Commands.{command_value};
 ghost use Rattle.repl_script.specs.Reads.{Reads};
 
 use super::command::Command;
 use super::fault::{Fault, bad};
-use super::parts::{ended, name, node, number, pattern, word};
+use super::parts::{ended, file, name, node, number, pattern, word};
 use super::regions::read_regions;
 use gvn_key::Bytes;
 use std::alloc::Global;
@@ -18,7 +18,7 @@ const MOST_CALLS: u64 = 1_000_000;
 /// The greatest pick that CRASH takes.
 const MOST_PICK: u64 = 4_294_967_295;
 
-/// The greatest number that EXTRACT takes.
+/// The greatest number that EXTRACT and ROLLBACK take.
 const MOST_NUMBER: u64 = 1_099_511_627_776;
 
 /// The greatest generation that TYPE takes.
@@ -89,6 +89,29 @@ fn read_epoch(alloc: Global, len: u16, left: &[u8]) -> Result<Command, Fault>
     ended(len, site.behind)?;
     let site = Bytes::of(alloc, site.part)?;
     Ok(Command::Epoch { site })
+}
+
+fn read_rollback(alloc: Global, len: u16, left: &[u8]) -> Result<Command, Fault>
+    ensures reading { Reads command_value (rollback_reading len left.now) result }
+    ensures formed { IfOk result (λ command. IsFormed (command_value command) × IsWhole (command_value command)) }
+{
+    let site = name(len, left)?;
+    let resync = word(b"RESYNC", len, site.behind)?;
+    let (number, behind) = number(1, MOST_NUMBER, len, resync.behind)?;
+    ended(len, behind)?;
+    let site = Bytes::of(alloc, site.part)?;
+    Ok(Command::Resync { site, number })
+}
+
+fn read_recover(alloc: Global, len: u16, left: &[u8]) -> Result<Command, Fault>
+    ensures reading { Reads command_value (recover_reading len left.now) result }
+    ensures formed { IfOk result (λ command. IsFormed (command_value command) × IsWhole (command_value command)) }
+{
+    let site = name(len, left)?;
+    let way = word(b"BACKWARD", len, site.behind)?;
+    ended(len, way.behind)?;
+    let site = Bytes::of(alloc, site.part)?;
+    Ok(Command::RecoverBackward { site })
 }
 
 fn read_fuse(alloc: Global, len: u16, left: &[u8]) -> Result<Command, Fault>
@@ -164,14 +187,14 @@ fn read_type(alloc: Global, len: u16, left: &[u8]) -> Result<Command, Fault>
     ensures formed { IfOk result (λ command. IsFormed (command_value command) × IsWhole (command_value command)) }
 {
     let site = name(len, left)?;
-    let file = word(b"BROKEN", len, site.behind)?;
-    let (generation, behind) = number(1, MOST_GENERATION, len, file.behind)?;
+    let (lost, behind) = file(len, site.behind)?;
+    let (generation, behind) = number(1, MOST_GENERATION, len, behind)?;
     ended(len, behind)?;
     let site = Bytes::of(alloc, site.part)?;
     let generation = generation as u32;
     Ok(Command::Print {
         site,
-        lost: false,
+        lost,
         generation,
     })
 }
@@ -204,6 +227,12 @@ pub fn read_command(
     }
     if word == b"EPOCH".as_slice() {
         return read_epoch(alloc, len, behind);
+    }
+    if word == b"ROLLBACK".as_slice() {
+        return read_rollback(alloc, len, behind);
+    }
+    if word == b"RECOVER".as_slice() {
+        return read_recover(alloc, len, behind);
     }
     if word == b"FUSE".as_slice() {
         return read_fuse(alloc, len, behind);

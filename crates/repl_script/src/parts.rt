@@ -1,12 +1,12 @@
 // The parts of a line, from the front.
 ghost use Rattle.std.specs.Prelude.{◌≡◌, ◌≤◌, true, length, take, drop, IfOk};
 ghost use Rattle.script_defs.specs.Parts.{word_end, without_spaces};
-ghost use Rattle.command_defs.specs.Parts.{before_spaces, before_return, trimmed, taken, ended, word_form, is_name, name_form, pattern_form, number_form, node_form};
+ghost use Rattle.command_defs.specs.Parts.{before_spaces, before_return, trimmed, taken, ended, word_form, is_name, name_form, pattern_form, number_form, node_form, file_form};
 ghost use Rattle.global_defs.specs.Pattern.{is_pattern};
 ghost use Rattle.repl_script.specs.Reads.{Reads};
 
 use super::fault::{Fault, bad};
-use super::forms::{is_name, is_pattern, number_of};
+use super::forms::{is_lost, is_name, is_pattern, number_of};
 use gvn_key::{Key, KeyError, NoMemory};
 use std::alloc::Global;
 
@@ -125,6 +125,20 @@ pub fn word<'a>(word: &[u8], len: u16, left: &'a [u8]) -> Result<Cut<'a>, Fault>
         return Err(bad(len, left));
     }
     Ok(cut)
+}
+
+/// The word for a file of lost transactions, or of broken ones, and whether it is for one of lost ones.
+pub fn file(len: u16, left: &[u8]) -> Result<(bool, &[u8]), Fault>
+    ensures { Reads (λ p. (p.0, p.1.now)) (taken file_form len left.now) result }
+{
+    let cut = cut_part(left);
+    if left.is_empty() {
+        return Err(bad(len, left));
+    }
+    match is_lost(cut.part) {
+        None => Err(bad(len, left)),
+        Some(lost) => Ok((lost, cut.behind)),
+    }
 }
 
 /// A number from the least to the greatest one.

@@ -6,6 +6,7 @@ use Rattle.world_defs.specs.World.{World}
 use Rattle.world_defs.specs.Answers.{Answer}
 use Rattle.world_defs.specs.Step.{Step, CutOff}
 use Rattle.world_defs.specs.Runs.{Told, Runs}
+use Rattle.world_laws.specs.Entries.{HasNotDropped}
 use Rattle.world_laws.specs.Faults.{HasNotFallen, NoCountFell, NoCountRose, TellsNoFault, NoFaultIsTold}
 use Rattle.world_laws.proofs.Alongs.{along_same, along_each}
 use Rattle.world_laws.proofs.Counts.{later, fell_through, calm_before, calm_behind}
@@ -13,7 +14,7 @@ use Rattle.world_laws.proofs.Lasts.{Lasts, CutsOff}
 use Rattle.world_laws.proofs.RowLaws.{step_holds, cut_off_holds}
 
 pub fell-step : (w m : World) (c : Command) (answers : List Answer) (text : List ℕ) → Step w c answers m text → NoCountFell w m
-fell-step w m c answers text h = along_each (Lasts (IsFormed c)) HasNotFallen (λ x y l. l.later) w.places m.places (step_holds w m c answers text h).lasts
+fell-step w m c answers text h = along_each (Lasts (IsFormed c) (HasNotDropped c answers)) HasNotFallen (λ x y l. l.later) w.places m.places (step_holds w m c answers text h).lasts
 
 pub told-step : (w m : World) (c : Command) (answers : List Answer) (text : List ℕ) → Step w c answers m text → NoCountRose w m → AllByRecursion TellsNoFault answers
 told-step w m c answers text h calm = (step_holds w m c answers text h).told calm

@@ -1,26 +1,30 @@
 -- What a command that was cut off leaves behind a sequence.
 use Rattle.std.proofs.Common.{◌≡◌, ℕ, List, Option, Some, None, refl, ◌∙◌, ap, subst, inl, inr}
-use Rattle.std.specs.Prelude.{◌⊎◌}
+use Rattle.std.specs.Prelude.{◌⊎◌, [], ◌∷◌, ◌++◌}
+use Rattle.std.proofs.lemmas.List.{append_assoc}
 use Rattle.global_defs.specs.Jobs.{Job}
-use Rattle.command_defs.specs.Commands.{Name, Run, StartPrimary, Stop, Epoch}
+use Rattle.command_defs.specs.Commands.{Name, Run, StartPrimary, Stop, Epoch, Resync, RecoverBackward}
 use Rattle.site_defs.specs.Contents.{Standing}
 use Rattle.site_defs.specs.Epochs.{MayMarkLeft}
-use Rattle.site_defs.specs.Opening.{MayBeginLeft}
+use Rattle.site_defs.specs.Opening.{MayOpenLeft, MayBeginLeft}
+use Rattle.site_defs.specs.Rolling.{MayRollBackLeft}
 use Rattle.world_defs.specs.World.{State, Down, Primary, Failed, Site, Place, World, StandAfter, name_on, place_of}
 use Rattle.world_defs.specs.Answers.{NoSite}
 use Rattle.world_defs.specs.Row.{Row}
 use Rattle.world_defs.specs.Meaning.{Meaning, Acts, apart, refusing, at_found, there, on_site, row_at}
 use Rattle.world_defs.specs.Step.{LeftByRow, LeavesOld, IsCut, CutOff}
 use Rattle.world_defs.specs.rows.Epoch.{epoch}
+use Rattle.world_defs.specs.rows.Recover.{MayRecoverLeft, recover_backward}
+use Rattle.world_defs.specs.rows.Rollback.{MayRollBackToLeft, stay_of, rollback}
 use Rattle.world_defs.specs.rows.Run.{RunMayStand, RunMayStandOn, run}
 use Rattle.world_defs.specs.rows.Start.{start}
 use Rattle.world_defs.specs.rows.Stop.{stop}
 use Rattle.world_laws.specs.Entries.{IsPlaceOf}
-use Rattle.run_laws.specs.Leftovers.{IsWrittenDown, IsLeftWithin, LeavesBehind}
+use Rattle.run_laws.specs.Leftovers.{IsWrittenDown, IsWrittenDownBefore, IsLeftWithin, LeavesBehind}
 use Rattle.world_laws.proofs.Alongs.{at_there}
 
 -- a command on a site that was cut off leaves its place by its row
-left_there : (row : Name → Place → Row) (w m : World) (name : Name) (p q : Place) → IsPlaceOf name w m p q → IsCut (on_site w name (λ i x. Acts i (row_at row x) apart)) w m → LeftByRow (row_at row p) p q
+pub left_there : (row : Name → Place → Row) (w m : World) (name : Name) (p q : Place) → IsPlaceOf name w m p q → IsCut (on_site w name (λ i x. Acts i (row_at row x) apart)) w m → LeftByRow (row_at row p) p q
 left_there row w m name p q at h = at_there (LeftByRow (row_at row p)) (λ j. LeavesOld) at.number p q w.places m.places (subst (λ (x : Meaning). IsCut x w m) is h) at.before at.behind
   where
     f : ℕ → Place → Meaning
@@ -33,6 +37,12 @@ stand_so : (A B : Standing → Standing → Type 0) → ((s o : Standing) → A 
 stand_so A B f None y h = tt
 stand_so A B f (Some os) None h = h
 stand_so A B f (Some os) (Some ns) h = λ o a. let s = h o a in (s.0, s.1, elim s.2 [ inl e ↦ inl e | inr k ↦ inr (f s.0 o k) ])
+
+-- also where the step may leave it as it was
+stand_or_so : (A B : Standing → Standing → Type 0) → ((s o : Standing) → A s o → (o ≡ s) ⊎ B s o) → (x y : Option (List Standing)) → StandAfter (λ s o. (o ≡ s) ⊎ A s o) x y → StandAfter (λ s o. (o ≡ s) ⊎ B s o) x y
+stand_or_so A B f None y h = tt
+stand_or_so A B f (Some os) None h = h
+stand_or_so A B f (Some os) (Some ns) h = λ o a. let s = h o a in (s.0, s.1, elim s.2 [ inl e ↦ inl e | inr k ↦ f s.0 o k ])
 
 -- a section
 
@@ -55,18 +65,16 @@ section-cut w m name jobs order p q h at t =
 
 -- a START
 
+open_so : (s o : Standing) → MayOpenLeft s o → (o ≡ s) ⊎ IsWrittenDown s o
+open_so s o (inl e) = inl e
+open_so s o (inr k) = inr (record { text = ap (λ (x : Standing). x.contents.texts) k.1; nothing = ap (λ (x : Standing). x.broken) k.1 })
+
 begun : (name : Name) (s o : Standing) → MayBeginLeft name s o → (o ≡ s) ⊎ IsWrittenDown s o
-begun name s o (inl (inl e)) = inl e
-begun name s o (inl (inr k)) = inr (record { text = ap (λ (x : Standing). x.contents.texts) k.1; nothing = ap (λ (x : Standing). x.broken) k.1 })
+begun name s o (inl h) = open_so s o h
 begun name s o (inr e) = inr (record { text = ap (λ (x : Standing). x.contents.texts) e; nothing = ap (λ (x : Standing). x.broken) e })
 
-begun_so : (name : Name) (x y : Option (List Standing)) → StandAfter (λ s o. (o ≡ s) ⊎ MayBeginLeft name s o) x y → StandAfter (λ s o. (o ≡ s) ⊎ IsWrittenDown s o) x y
-begun_so name None y h = tt
-begun_so name (Some os) None h = h
-begun_so name (Some os) (Some ns) h = λ o a. let s = h o a in (s.0, s.1, elim s.2 [ inl e ↦ inl e | inr k ↦ begun name s.0 o k ])
-
 pub start-cut : (w m : World) (name : Name) (p q : Place) → CutOff w (StartPrimary name) m → IsPlaceOf name w m p q → LeavesBehind IsWrittenDown p q
-start-cut w m name p q h at t = let l = left_there start w m name p q at h in begun_so (name_on p.site) p.standings q.standings (l.standings t)
+start-cut w m name p q h at t = let l = left_there start w m name p q at h in stand_or_so (MayBeginLeft (name_on p.site)) IsWrittenDown (begun (name_on p.site)) p.standings q.standings (l.standings t)
 
 -- an EPOCH, and a STOP
 
@@ -79,3 +87,28 @@ epoch-cut w m name p q h at t = let l = left_there epoch w m name p q at h in st
 
 pub stop-cut : (w m : World) (name : Name) (p q : Place) → CutOff w (Stop name) m → IsPlaceOf name w m p q → LeavesBehind (λ s o. o.broken ≡ s.broken) p q
 stop-cut w m name p q h at t = let l = left_there stop w m name p q at h in stand_so MayMarkLeft (λ s o. o.broken ≡ s.broken) lies_there p.standings q.standings (l.standings t)
+
+-- a RECOVER BACKWARD, and a ROLLBACK
+
+recovered : (s o : Standing) → MayRecoverLeft s o → (o ≡ s) ⊎ IsWrittenDown s o
+recovered s o (inl h) = open_so s o h
+recovered s o (inr (inl e)) = inr (record { text = ap (λ (x : Standing). x.contents.texts) e; nothing = ap (λ (x : Standing). x.broken) e })
+recovered s o (inr (inr k)) = inr (record { text = ap (λ (x : Standing). x.contents.texts) k.1; nothing = ap (λ (x : Standing). x.broken) k.1 })
+
+pub recover-cut : (w m : World) (name : Name) (p q : Place) → CutOff w (RecoverBackward name) m → IsPlaceOf name w m p q → LeavesBehind IsWrittenDown p q
+recover-cut w m name p q h at t = let l = left_there recover_backward w m name p q at h in stand_or_so MayRecoverLeft IsWrittenDown recovered p.standings q.standings (l.standings t)
+
+-- its second generation has an empty text
+two_texts : (s : Standing) → (s.contents.texts ++ s.broken ∷ []) ++ [] ∷ [] ≡ s.contents.texts ++ s.broken ∷ [] ∷ []
+two_texts s = append_assoc s.contents.texts (s.broken ∷ []) ([] ∷ [])
+
+rolled_back : (t : ℕ) (s o : Standing) → MayRollBackLeft t s o → (o ≡ s) ⊎ IsWrittenDownBefore s o
+rolled_back t s o (inl e) = inl e
+rolled_back t s o (inr (inl k)) = inr (record { text = inl (ap (λ (x : Standing). x.contents.texts) k.2); nothing = ap (λ (x : Standing). x.broken) k.2 })
+rolled_back t s o (inr (inr (inl k))) = inr (record { text = inr (ap (λ (x : Standing). x.contents.texts) k.1 ∙ two_texts s); nothing = ap (λ (x : Standing). x.broken) k.1 })
+rolled_back t s o (inr (inr (inr k))) = inr (record { text = inr (ap (λ (x : Standing). x.contents.texts) k.1 ∙ two_texts s); nothing = ap (λ (x : Standing). x.broken) k.1 })
+
+pub rollback-cut : (w m : World) (name : Name) (number : ℕ) (p q : Place) → CutOff w (Resync name number) m → IsPlaceOf name w m p q → LeavesBehind IsWrittenDownBefore p q
+rollback-cut w m name number p q h at t =
+    let l = left_there (rollback number) w m name p q at h in
+    stand_or_so (MayRollBackToLeft number) IsWrittenDownBefore (λ s o k. rolled_back (stay_of number s.contents) s o k) p.standings q.standings (l.standings t)

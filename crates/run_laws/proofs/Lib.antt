@@ -4,3 +4,4 @@ pub mod Stays
 pub mod Written
 pub mod Cut
 pub mod Marked
+pub mod Lost

@@ -12,7 +12,7 @@ use Rattle.world_defs.specs.Step.{One, Step}
 use Rattle.world_defs.specs.Runs.{Told, Runs}
 use Rattle.world_defs.specs.rows.Run as rows
 use Rattle.world_defs.specs.rows.Run.{turn_on, run}
-use Rattle.world_laws.specs.Entries.{IsEntryAt, IsSiteOf, KeepsEntries, NoEntryIsLost, IsReplied, HasReplied, turn_there, printed_by, IsPlaceOf}
+use Rattle.world_laws.specs.Entries.{IsEntryAt, IsSiteOf, KeepsEntriesOf, NoEntryIsLost, HasNotDropped, NoneDropped, NoEntryIsLostBut, NoEntryIsLostBehind, IsReplied, HasReplied, HasRepliedBehind, turn_there, printed_by, IsPlaceOf}
 use Rattle.world_laws.proofs.Alongs.{along_same, along_through, along_each, along_there, along_finds, at_there}
 use Rattle.run_laws.proofs.Owns.{owns}
 use Rattle.world_laws.proofs.Turns.{goes-serial, begun_replies}
@@ -20,12 +20,18 @@ use Rattle.world_laws.proofs.Lasts.{Lasts}
 use Rattle.world_laws.proofs.RowLaws.{step_holds}
 use Rattle.world_laws.proofs.EntriesStay.{entries-through, HasTurn, ran-left}
 
-pub keeps-step : (w m : World) (c : Command) (answers : List Answer) (text : List ℕ) → Step w c answers m text → NoEntryIsLost w m
-keeps-step w m c answers text h = along_each (Lasts (IsFormed c)) KeepsEntries (λ x y l. l.entries) w.places m.places (step_holds w m c answers text h).lasts
+pub keeps-step : (w m : World) (c : Command) (answers : List Answer) (text : List ℕ) → Step w c answers m text → NoEntryIsLostBut c answers w m
+keeps-step w m c answers text h = along_each (Lasts (IsFormed c) (HasNotDropped c answers)) (KeepsEntriesOf (HasNotDropped c answers)) (λ x y l. l.entries) w.places m.places (step_holds w m c answers text h).lasts
 
-pub keeps-runs : (w m : World) (told : List Told) (text : List ℕ) → Runs w told m text → NoEntryIsLost w m
-keeps-runs w m [] text h = subst (NoEntryIsLost w) (sym h.0) (along_same KeepsEntries (λ x name n e has. has) w.places)
-keeps-runs w m (c ∷ cs) text h = along_through KeepsEntries entries-through w.places h.0.places m.places (keeps-step w h.0 c.command c.answers h.1 h.3) (keeps-runs h.0 m cs h.2 h.4)
+pub keeps-runs : (w m : World) (told : List Told) (text : List ℕ) → Runs w told m text → NoEntryIsLostBehind told w m
+keeps-runs w m [] text h = subst (NoEntryIsLost (NoneDropped []) w) (sym h.0) (along_same (KeepsEntriesOf (NoneDropped [])) (λ x name n e none has. has) w.places)
+keeps-runs w m (c ∷ cs) text h =
+    along_through (KeepsEntriesOf both) (entries-through both) w.places h.0.places m.places
+    (along_each (KeepsEntriesOf (HasNotDropped c.command c.answers)) (KeepsEntriesOf both) (λ x y k name n e none has. k name n e none.0 has) w.places h.0.places (keeps-step w h.0 c.command c.answers h.1 h.3))
+    (along_each (KeepsEntriesOf (NoneDropped cs)) (KeepsEntriesOf both) (λ x y k name n e none has. k name n e none.1 has) h.0.places m.places (keeps-runs h.0 m cs h.2 h.4))
+  where
+    both : Name → ℕ → Type 0
+    both = NoneDropped (c ∷ cs)
 
 -- what a section printed
 
@@ -73,9 +79,9 @@ printed-there w m name jobs order s text p q h at =
     replied-there (name_on p.site) jobs order s p q (subst (rows.Runs (name_on p.site) jobs order s p) (sym is) one.here.1)
 
 pub printed-stay : (w u m : World) (name : Name) (jobs : List (List Job)) (order : List ℕ) (s : Section) (text rest : List ℕ) (told : List Told) (p q : Place) → Step w (Run name jobs order) (Ran s ∷ []) u text
-    → Runs u told m rest → IsPlaceOf name w m p q → HasReplied (name_on p.site) (turn_there s jobs p) q
-printed-stay w u m name jobs order s text rest told p q h runs at n replied =
+    → Runs u told m rest → IsPlaceOf name w m p q → HasRepliedBehind told (name_on p.site) (turn_there s jobs p) q
+printed-stay w u m name jobs order s text rest told p q h runs at n replied none =
     let kept = keeps-runs u m told rest runs in
-    let middle = along_finds KeepsEntries at.number q u.places m.places kept at.behind in
+    let middle = along_finds (KeepsEntriesOf (NoneDropped told)) at.number q u.places m.places kept at.behind in
     let found = printed-there w u name jobs order s text p middle.0 h (record { number = at.number; named = at.named; before = at.before; behind = middle.1 }) n replied in
-    (found.0, found.1, along_there KeepsEntries at.number middle.0 q u.places m.places kept middle.1 at.behind (name_on p.site) n found.0 found.2)
+    (found.0, found.1, along_there (KeepsEntriesOf (NoneDropped told)) at.number middle.0 q u.places m.places kept middle.1 at.behind (name_on p.site) n found.0 none found.2)

@@ -18,7 +18,7 @@ use Rattle.world_defs.specs.rows.Crash.{Crashes, standing_now, crash}
 use Rattle.world_defs.specs.rows.Run as rows
 use Rattle.world_defs.specs.rows.Run.{RunsTo, StandWithin, one_further, turn_on, run}
 use Rattle.world_defs.specs.rows.Start.{StartsPrimary, start}
-use Rattle.world_laws.specs.Entries.{KeepsEntries, turn_there, IsPlaceOf}
+use Rattle.world_laws.specs.Entries.{KeepsEntriesOf, HasNotDropped, turn_there, IsPlaceOf}
 use Rattle.run_laws.specs.Leftovers.{WritesDown, WritesOneOf, turn_further, WritesWhatWasLeft}
 use Rattle.world_laws.proofs.Alongs.{along_finds}
 use Rattle.run_laws.proofs.Owns.{NamedAlike, owns, makes_here, found_again}
@@ -67,7 +67,7 @@ crashed_alike name p c d = ap (is_site_named name) d.site ∙ alike_in name Down
 
 -- a place between two steps
 between : (u m : World) (name : Name) (rest : List ℕ) (number : ℕ) (q : Place) → Step u (StartPrimary name) (Done ∷ []) m rest → slice_get m.places number ≡ Some q → (c : Place) × (slice_get u.places number ≡ Some c)
-between u m name rest number q h behind = along_finds KeepsEntries number q u.places m.places (keeps-step u m (StartPrimary name) (Done ∷ []) rest h) behind
+between u m name rest number q h behind = along_finds (KeepsEntriesOf (HasNotDropped (StartPrimary name) (Done ∷ []))) number q u.places m.places (keeps-step u m (StartPrimary name) (Done ∷ []) rest h) behind
 
 pub crashed-written : (w u m : World) (name : Name) (pick : ℕ) (text rest : List ℕ) (p q : Place) → Step w (Crash name pick) (Done ∷ []) u text → Step u (StartPrimary name) (Done ∷ []) m rest → IsPlaceOf name w m p q → WritesOneOf p q
 crashed-written w u m name pick text rest p q h k at = starts_behind p middle.0 q crashed started
@@ -134,7 +134,7 @@ faulted-written w v u m name jobs order s fault pick told text rest p q h e k l 
     last = between u m name rest at.number q l at.behind
 
     middle : (c : Place) × (slice_get v.places at.number ≡ Some c)
-    middle = along_finds KeepsEntries at.number last.0 v.places u.places (keeps-step v u (Crash name pick) (Done ∷ []) text k) last.1
+    middle = along_finds (KeepsEntriesOf (HasNotDropped (Crash name pick) (Done ∷ []))) at.number last.0 v.places u.places (keeps-step v u (Crash name pick) (Done ∷ []) text k) last.1
 
     one : One at.number (row_at (run jobs order) p) apart (Ran s) w v told
     one = owns (run jobs order) w v name (Ran s) told at.number p at.named at.before h

@@ -38,6 +38,11 @@ pub record IsWrittenDown (s o : Standing) : Type 0 where
   pub text : o.contents.texts ≡ s.contents.texts ++ s.broken ∷ []
   pub nothing : o.broken ≡ []
 
+-- Or the newest one is empty, and it is the one before: the generation behind that was drawn too.
+pub record IsWrittenDownBefore (s o : Standing) : Type 0 where
+  pub text : (o.contents.texts ≡ s.contents.texts ++ s.broken ∷ []) ⊎ (o.contents.texts ≡ s.contents.texts ++ s.broken ∷ [] ∷ [])
+  pub nothing : o.broken ≡ []
+
 -- what a fault in a pick may have left, once the picks before it were decided
 abbrev pub IsLeftWithin : List (List Job) → List ℕ → Place → Standing → Type 0
 IsLeftWithin jobs order p o = (decided : ℕ) × MayStand p.now (turn_on p.site jobs (take decided order) p).sequence (turn_on p.site jobs (take (decided + 1) order) p).sequence o

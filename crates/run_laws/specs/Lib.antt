@@ -1,2 +1,3 @@
 pub mod Leftovers
 pub mod Epochs
+pub mod Lost

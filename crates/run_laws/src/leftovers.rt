@@ -2,12 +2,12 @@
 
 ghost use Rattle.std.specs.Prelude.{◌≡◌, ◌∷◌, List, [], ℕ, Some};
 ghost use Rattle.global_defs.specs.Jobs.{Job};
-ghost use Rattle.command_defs.specs.Commands.{Name, Crash, Run, StartPrimary, Stop, Epoch};
+ghost use Rattle.command_defs.specs.Commands.{Name, Crash, Run, StartPrimary, Stop, Epoch, Resync, RecoverBackward};
 ghost use Rattle.world_defs.specs.World.{Place, World};
 ghost use Rattle.world_defs.specs.Answers.{Section, Done, Ran};
 ghost use Rattle.world_defs.specs.Step.{Step, CutOff};
 ghost use Rattle.world_laws.specs.Entries.{IsPlaceOf};
-ghost use Rattle.run_laws.specs.Leftovers.{WritesOneOf, WritesWhatWasLeft, IsWrittenDown, IsLeftWithin, LeavesBehind};
+ghost use Rattle.run_laws.specs.Leftovers.{WritesOneOf, WritesWhatWasLeft, IsWrittenDown, IsWrittenDownBefore, IsLeftWithin, LeavesBehind};
 
 /// A START behind a crash writes down exactly what lay behind the sequence in the image that the crash took.
 pub fn starts_write_what_lies_behind()
@@ -26,4 +26,7 @@ pub fn cut_off_commands_keep_what_lies_behind()
     // an EPOCH and a STOP leave it where it lay
     ensures epoch { (w m : World) (name : Name) (p q : Place) → CutOff w (Epoch name) m → IsPlaceOf name w m p q → LeavesBehind (λ s o. o.broken ≡ s.broken) p q }
     ensures stop { (w m : World) (name : Name) (p q : Place) → CutOff w (Stop name) m → IsPlaceOf name w m p q → LeavesBehind (λ s o. o.broken ≡ s.broken) p q }
+    // a RECOVER BACKWARD and a ROLLBACK have written it down, or it lies where it lay
+    ensures recover { (w m : World) (name : Name) (p q : Place) → CutOff w (RecoverBackward name) m → IsPlaceOf name w m p q → LeavesBehind IsWrittenDown p q }
+    ensures rollback { (w m : World) (name : Name) (number : ℕ) (p q : Place) → CutOff w (Resync name number) m → IsPlaceOf name w m p q → LeavesBehind IsWrittenDownBefore p q }
 {}

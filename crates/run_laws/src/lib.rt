@@ -8,3 +8,4 @@ pub mod entries;
 pub mod epochs;
 pub mod faults;
 pub mod leftovers;
+pub mod rollbacks;

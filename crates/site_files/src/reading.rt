@@ -328,18 +328,23 @@ pub fn read_site<D: Disk>(alloc: Global, disk: &mut D) -> Result<ReadSite, Files
     })
 }
 
-/// Syncs the journals of the generation behind the next one of a site that was read, and sees that they have no open record. It
-/// writes nothing.
+/// Syncs the journals of the generation behind the next one of a site with these records and this directory, and sees that they have no
+/// open record. It writes nothing.
 ///
 /// # Errors
 /// `NotAFile` with the first of them that has begun already.
-pub fn see_ahead<D: Disk>(alloc: Global, disk: &mut D, read: &ReadSite) -> Result<(), FilesError>
-    requires directory { IsDirectory read.now.log.records (Some read.now.directory) }
-    requires low { generation read.now.log.records < 65534 }
-    ensures next { OnOk result (IfSome (D.disk disk.old).content (AreUnbegun (length (defs.regions read.now.log.records)) (suc (suc (generation read.now.log.records))))) }
-    ensures durable { OnOk result (IfSome (D.disk disk.old).content (AreUnbegunDurable (D.disk disk.new) (length (defs.regions read.now.log.records)) (suc (suc (generation read.now.log.records))))) }
-    ensures place { (file offset : ℕ) → IsErrOf result (FilesError.NotAFile file offset) → IfSome (D.disk disk.old).content (λ files. HaveBegun files (length (defs.regions read.now.log.records)) (suc (suc (generation read.now.log.records))) file offset) }
-    ensures outside { (file offset : ℕ) → IsErrOf result (FilesError.NotAFile file offset) → IfSome (D.disk disk.old).content (λ files. AreUnbegun (length (defs.regions read.now.log.records)) (suc (suc (generation read.now.log.records))) files → ⊥) }
+pub fn see_ahead<D: Disk>(
+    alloc: Global,
+    disk: &mut D,
+    records: &[InstanceRecord],
+    directory: &Directory,
+) -> Result<(), FilesError>
+    requires directory { IsDirectory (map record_value records.now) (Some directory.now) }
+    requires low { generation (map record_value records.now) < 65534 }
+    ensures next { OnOk result (IfSome (D.disk disk.old).content (AreUnbegun (length (defs.regions (map record_value records.now))) (suc (suc (generation (map record_value records.now)))))) }
+    ensures durable { OnOk result (IfSome (D.disk disk.old).content (AreUnbegunDurable (D.disk disk.new) (length (defs.regions (map record_value records.now))) (suc (suc (generation (map record_value records.now)))))) }
+    ensures place { (file offset : ℕ) → IsErrOf result (FilesError.NotAFile file offset) → IfSome (D.disk disk.old).content (λ files. HaveBegun files (length (defs.regions (map record_value records.now))) (suc (suc (generation (map record_value records.now)))) file offset) }
+    ensures outside { (file offset : ℕ) → IsErrOf result (FilesError.NotAFile file offset) → IfSome (D.disk disk.old).content (λ files. AreUnbegun (length (defs.regions (map record_value records.now))) (suc (suc (generation (map record_value records.now)))) files → ⊥) }
     ensures content { (D.disk disk.new).content ≡ (D.disk disk.old).content }
     ensures any_moment { AtEachMoment (D.disk disk.old) (D.disk disk.new) (Image (D.disk disk.old)) }
     ensures simulated { (D.disk disk.new).simulated ≡ (D.disk disk.old).simulated }
@@ -348,6 +353,5 @@ pub fn see_ahead<D: Disk>(alloc: Global, disk: &mut D, read: &ReadSite) -> Resul
     ensures cause { (fault : ℕ) → IsErrOf result (FilesError.Failed fault) → Rose (D.disk disk.old).faults (D.disk disk.new).faults }
     ensures causes { OnErr result (((fault : ℕ) × IsErrOf result (FilesError.Failed fault)) ⊎ ((file : ℕ) × (offset : ℕ) × IsErrOf result (FilesError.NotAFile file offset)) ⊎ IsErrOf result FilesError.NoMemory) }
 {
-    let newest = generation_in(read.log.records.as_slice());
-    see_regions(alloc, disk, read.directory.regions(), newest + 2)
+    see_regions(alloc, disk, directory.regions(), generation_in(records) + 2)
 }

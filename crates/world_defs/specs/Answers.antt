@@ -29,6 +29,8 @@ pub data Cause : Type 0 where
   GenLimit : Cause
   -- there is no reign left, or no cycle
   ReignLimit : Cause
+  -- the region needs forward recovery for what is to stay, first for that generation, which keeps no images
+  NoBefore : (region : Name) → (generation : ℕ) → Cause
 
 -- the line begins with this name
 pub record Refusal : Type 0 where
@@ -74,6 +76,7 @@ cause_text TwiceMapped = codes "TWICEMAPPED"
 cause_text NoFile = codes "NOFILE"
 cause_text GenLimit = codes "GENLIMIT"
 cause_text ReignLimit = codes "REIGNLIMIT"
+cause_text (NoBefore region generation) = codes "NOBEFORE " ++ region ++ 32 ∷ decimal generation
 
 abbrev pub refusal_line : Refusal → List ℕ
 refusal_line r = line r.site (cause_text r.cause)

@@ -1,12 +1,13 @@
 -- Small worlds for the laws, and a command made of others.
-use Rattle.std.specs.Prelude.{Bool, true, false, [], ◌∷◌, codes, Some, None}
+use Rattle.std.specs.Prelude.{◌==◌, Bool, true, false, [], ◌∷◌, codes, Some, None, if◌then◌else◌}
+use Rattle.journal_defs.specs.Instance as records
 use Rattle.command_defs.specs.Commands.{Name}
 use Rattle.world_defs.specs.World.{Place, World, Down, Primary, Failed}
 use Rattle.world_defs.specs.Meaning.{Meaning, Acts, Then, apart, on_site, row_at}
 use Rattle.world_defs.specs.rows.Start.{start}
 use Rattle.world_defs.specs.rows.Stop.{stop}
 use Rattle.site_defs.specs.Contents.{Contents, nothing, NO_LEFTOVER, bare}
-use Rattle.site_defs.specs.Samples.{made}
+use Rattle.site_defs.specs.Samples.{made, two_entries}
 
 -- where a call of A's disk failed, the third one on it
 abbrev pub failed_place : (simulated : Bool) → Place
@@ -19,6 +20,10 @@ torn_place = record { site = Some (record { name = codes "A"; state = Failed 3 }
 -- a disk that A stands on, which no site of the run has
 abbrev pub made_place : Place
 made_place = record { site = None; told = true; now = made; left = NO_LEFTOVER; outcomes = made ∷ []; standings = Some (bare made ∷ []); shown = None; faults = 0; simulated = true }
+
+-- where A is down with these contents
+abbrev pub down_place : Contents → Place
+down_place c = record { site = Some (record { name = codes "A"; state = Down }); told = true; now = c; left = NO_LEFTOVER; outcomes = c ∷ []; standings = Some (bare c ∷ []); shown = None; faults = 0; simulated = true }
 
 -- where A is a primary with these contents, whose files are known or not
 abbrev pub primary_place : (told : Bool) → Contents → Place
@@ -41,6 +46,20 @@ blank_place = record { site = None; told = true; now = nothing; left = NO_LEFTOV
 -- a disk whose bytes are no site's: each file has one
 abbrev pub shown_place : Place
 shown_place = record { site = Some (record { name = codes "A"; state = Down }); told = false; now = nothing; left = NO_LEFTOVER; outcomes = []; standings = None; shown = Some (λ f. codes "x"); faults = 0; simulated = true }
+
+-- a disk whose bytes are no site's: the lost-transaction file of generation 1 has x, and each other one y
+abbrev pub lost_place : Place
+lost_place = record {
+  site = Some (record { name = codes "A"; state = Down });
+  told = false;
+  now = nothing;
+  left = NO_LEFTOVER;
+  outcomes = [];
+  standings = None;
+  shown = Some (λ f. if f == 1000001 then codes "x" else codes "y");
+  faults = 0;
+  simulated = true;
+}
 
 -- a disk whose bytes are shown, and that A stands on, with region R
 abbrev pub created_place : Place
@@ -69,6 +88,14 @@ broken_off_place = record {
   faults = 0;
   simulated = true;
 }
+
+-- A with two entries, whose region began without images
+abbrev pub without_images : Contents
+without_images = record two_entries { starts = λ r. record { region = r; before = false; generation = 1; previous = 0 } ∷ [] }
+
+-- A with two entries, whose newest generation is the last one that an opening may draw
+abbrev pub at_last_generation : Contents
+at_last_generation = record two_entries { instance = records.Create (codes "A") (record { name = codes "R"; before = true } ∷ []) ∷ records.Cut 2 65534 ∷ [] }
 
 -- one site is closed, and where that was done, another one begins a reign
 abbrev pub switching : (from to : Name) → World → Meaning

@@ -8,26 +8,29 @@ ghost use Rattle.site_defs.specs.Contents.{Contents, Standing, nothing, bare};
 ghost use Rattle.site_defs.specs.Fronts.{turn_of};
 ghost use Rattle.site_defs.specs.Limits.{region_number};
 ghost use Rattle.site_defs.specs.Lists.{Among};
-ghost use Rattle.site_defs.specs.Opening.{opened, with_pattern};
-ghost use Rattle.site_defs.specs.Samples.{made, reigned_once, two_regions};
+ghost use Rattle.site_defs.specs.Opening.{cut_with, opened, with_pattern};
+ghost use Rattle.global_defs.specs.Extract.{extract};
+ghost use Rattle.site_defs.specs.Samples.{made, reigned_once, two_regions, set_once, two_entries};
 ghost use Rattle.site_defs.specs.Texts.{extract_from};
-ghost use Rattle.command_defs.specs.Commands.{Attach, Create, StartPrimary, Stop, Epoch, Crash, Show, with_images};
+ghost use Rattle.command_defs.specs.Commands.{Attach, Create, StartPrimary, Stop, Epoch, Crash, Show, Resync, RecoverBackward, with_images};
 ghost use Rattle.world_defs.specs.World.{Place, World, Primary, Failed};
-ghost use Rattle.world_defs.specs.Answers.{NoSite, NoDisk, Empty, Exists, Stopped, NotRunning, NotSimulated, Started, NoRegion, TwiceMapped, NoFile, GenLimit, ReignLimit, Answer, Done, Refused, DiskFault, NotAFile, Typed, refusal_line, fault_line};
-ghost use Rattle.world_defs.specs.Row.{first, Here};
+ghost use Rattle.world_defs.specs.Answers.{NoSite, NoDisk, Empty, Exists, Stopped, NotRunning, NotSimulated, Running, Started, NoRegion, TwiceMapped, NoFile, GenLimit, ReignLimit, NoBefore, Answer, Refusal, Done, Refused, DiskFault, NotAFile, Typed, refusal_line, fault_line};
+ghost use Rattle.world_defs.specs.Row.{first, refusal_in, Here};
 ghost use Rattle.world_defs.specs.rows.Attach.{attach};
 ghost use Rattle.world_defs.specs.rows.Crash.{Crashes};
 ghost use Rattle.world_defs.specs.rows.Create.{created};
 ghost use Rattle.world_defs.specs.rows.Epoch.{epoch};
-ghost use Rattle.world_defs.specs.rows.Extract.{extract};
+ghost use Rattle.world_defs.specs.rows.Extract as extracts;
 ghost use Rattle.world_defs.specs.rows.Map.{map_pattern, started, twice_mapped, unmapped};
 ghost use Rattle.world_defs.specs.rows.Print.{no_file, print, typed};
+ghost use Rattle.world_defs.specs.rows.Recover.{recover_backward};
+ghost use Rattle.world_defs.specs.rows.Rollback.{rollback};
 ghost use Rattle.world_defs.specs.rows.Run.{section_text};
 ghost use Rattle.world_defs.specs.rows.Show.{show_state};
 ghost use Rattle.world_defs.specs.rows.Start.{FIRST_SERIALS, StartsPrimary, generation_limit, reign_limit, start};
 ghost use Rattle.world_defs.specs.rows.Stop.{stop};
 ghost use Rattle.world_defs.specs.Step.{LeavesOld, LeftByRow, Step, refusal, refusal_of};
-ghost use Rattle.world_defs.specs.Samples.{failed_place, torn_place, blank_place, made_place, primary_place, shown_place, created_place, broken_off_place, switching};
+ghost use Rattle.world_defs.specs.Samples.{failed_place, torn_place, blank_place, made_place, down_place, primary_place, shown_place, lost_place, created_place, broken_off_place, without_images, at_last_generation, switching};
 
 /// A world without disks refuses what needs one; one whose only disk failed refuses what needs it until a crash.
 pub fn refusals_hold()
@@ -51,8 +54,8 @@ pub fn attaching_holds()
 
 /// The limits are those of a site's contents; a site that was created is the sample.
 pub fn causes_hold()
-    ensures generations { generation_limit (record { instance = records.Cut 0 65534 ∷ []; starts = λ r. []; epochs = λ r. []; texts = []; sequence = [] }) ≡ Some GenLimit }
-    ensures cycles { reign_limit (record { instance = records.Reigned (record { stamp = record { root = codes "Z"; cycle = 4294967295 }; start = 1 }) ∷ []; starts = λ r. []; epochs = λ r. []; texts = []; sequence = [] }) ≡ Some ReignLimit }
+    ensures generations { generation_limit (record { instance = records.Cut 0 65534 ∷ []; starts = λ r. []; epochs = λ r. []; texts = []; losts = []; sequence = [] }) ≡ Some GenLimit }
+    ensures cycles { reign_limit (record { instance = records.Reigned (record { stamp = record { root = codes "Z"; cycle = 4294967295 }; start = 1 }) ∷ []; starts = λ r. []; epochs = λ r. []; texts = []; losts = []; sequence = [] }) ≡ Some ReignLimit }
     ensures created { (created (codes "A") (with_images (codes "R") ∷ [])).instance ≡ made.instance }
 {}
 
@@ -66,24 +69,29 @@ pub fn mapping_holds()
     ensures second { region_number (codes "S") two_regions ≡ Some 1 }
 {}
 
-/// A broken-transaction file is typed by its generation; the one past the newest is as far as an opening wrote it.
+/// A broken-transaction file is typed by its generation; the one past the newest is as far as an opening wrote it. A lost-transaction file is typed by
+/// its generation, and there is none past the newest.
 pub fn typing_holds()
-    ensures newest { typed 1 (record { site = None; told = true; now = opened (codes "x") made; left = record { broken = []; torn = codes "y" }; outcomes = []; standings = None; shown = None; faults = 0; simulated = true }) ≡ codes "x" }
-    ensures torn { typed 2 (record { site = None; told = true; now = opened (codes "x") made; left = record { broken = []; torn = codes "y" }; outcomes = []; standings = None; shown = None; faults = 0; simulated = true }) ≡ codes "y" }
-    ensures nothing { no_file 3 made_place ≡ Some NoFile }
+    ensures newest { typed false 1 (record { site = None; told = true; now = opened (codes "x") made; left = record { broken = []; torn = codes "y" }; outcomes = []; standings = None; shown = None; faults = 0; simulated = true }) ≡ codes "x" }
+    ensures torn { typed false 2 (record { site = None; told = true; now = opened (codes "x") made; left = record { broken = []; torn = codes "y" }; outcomes = []; standings = None; shown = None; faults = 0; simulated = true }) ≡ codes "y" }
+    ensures nothing { no_file false 3 made_place ≡ Some NoFile }
+    ensures lost { typed true 1 (down_place (cut_with (codes "x") (codes "z") made)) ≡ codes "z" }
+    ensures nothing_lost { no_file true 2 (down_place (cut_with (codes "x") (codes "z") made)) ≡ Some NoFile }
 {}
 
 /// An extract is that of the site's entries where its files are known, and else of as many entries.
 pub fn extracting_holds()
-    ensures known { (c : Contents) (q : Place) (text told : List ℕ) → Here (extract None (codes "A") (primary_place true c)) (Typed text) q told → text ≡ extract_from (codes "A") None c.sequence }
+    ensures known { (c : Contents) (q : Place) (text told : List ℕ) → Here (extracts.extract None (codes "A") (primary_place true c)) (Typed text) q told → text ≡ extract_from (codes "A") None c.sequence }
     // a site without entries has the header alone
-    ensures count { (q : Place) (text told : List ℕ) → Here (extract None (codes "A") (primary_place false reigned_once)) (Typed text) q told → text ≡ codes "GTMRJEX01\\A\\1\n" }
+    ensures count { (q : Place) (text told : List ℕ) → Here (extracts.extract None (codes "A") (primary_place false reigned_once)) (Typed text) q told → text ≡ codes "GTMRJEX01\\A\\1\n" }
 {}
 
 /// On a disk that tells its bytes, a site's or not, these decide what files decide.
 pub fn shown_bytes_decide()
-    ensures typed { (q : Place) (text told : List ℕ) → Here (print 1 (codes "A") shown_place) (Typed text) q told → text ≡ codes "x" }
-    ensures some { (q : Place) (told : List ℕ) → Here (print 1 (codes "A") shown_place) (Refused (record { site = codes "A"; cause = NoFile })) q told → ⊥ }
+    ensures typed { (q : Place) (text told : List ℕ) → Here (print false 1 (codes "A") shown_place) (Typed text) q told → text ≡ codes "x" }
+    ensures some { (q : Place) (told : List ℕ) → Here (print false 1 (codes "A") shown_place) (Refused (record { site = codes "A"; cause = NoFile })) q told → ⊥ }
+    // the lost-transaction file, and no other one
+    ensures lost { (q : Place) (text told : List ℕ) → Here (print true 1 (codes "A") lost_place) (Typed text) q told → text ≡ codes "x" }
     // the site has no region Q, and no generation of it was drawn
     ensures no_region { (map_pattern (codes "Q") (codes "X*") (codes "A") created_place).by_bytes (Refused (record { site = codes "A"; cause = NoRegion (codes "Q") })) }
     ensures not_begun { (map_pattern (codes "Q") (codes "X*") (codes "A") created_place).by_bytes (Refused (record { site = codes "A"; cause = Started })) → ⊥ }
@@ -112,9 +120,37 @@ pub fn epochs_hold()
     ensures stop_fault { (k : ℕ) (q : Place) (text : List ℕ) → Here (stop (codes "A") (primary_place true reigned_once)) (DiskFault k) q text → Rose 0 k }
 {}
 
+/// ROLLBACK leaves the first entries, and what it drops is the lost-transaction file of the first of the two generations that it draws. Only the limit
+/// of generations refuses it on a fit disk with images, and a fault leaves all entries, or those that were to stay.
+pub fn rolling_holds()
+    ensures told { (q : Place) (text : List ℕ) → Here (rollback 2 (codes "A") (down_place two_entries)) Done q text → text ≡ codes "A ROLLEDBACK 1 LOST 2\n" }
+    ensures kept { (q : Place) (text : List ℕ) → Here (rollback 2 (codes "A") (down_place two_entries)) Done q text → q.now.sequence ≡ set_once 1 (codes "a") ∷ [] }
+    ensures lost { (q : Place) (text : List ℕ) → Here (rollback 2 (codes "A") (down_place two_entries)) Done q text → q.now.losts ≡ [] ∷ extract (codes "A") two_entries.sequence 2 ∷ [] ∷ [] }
+    ensures taken { (q : Place) (text : List ℕ) → Here (rollback 2 (codes "A") (down_place two_entries)) Done q text → q.now.epochs 0 ≡ record { generation = 3; number = 1 } ∷ [] }
+    // where there are fewer entries than that, all stay
+    ensures all { (q : Place) (text : List ℕ) → Here (rollback 9 (codes "A") (down_place two_entries)) Done q text → q.now.sequence ≡ two_entries.sequence }
+    ensures fault { (k : ℕ) (q : Place) (text : List ℕ) → Here (rollback 2 (codes "A") (down_place two_entries)) (DiskFault k) q text → (q.now.sequence ≡ two_entries.sequence) ⊎ (q.now.sequence ≡ set_once 1 (codes "a") ∷ []) }
+    ensures not_refused { (r : Refusal) (q : Place) (text : List ℕ) → Here (rollback 2 (codes "A") (down_place two_entries)) (Refused r) q text → ⊥ }
+    ensures limit { refusal_in (rollback 2 (codes "A") (down_place at_last_generation)) ≡ Some (record { site = codes "A"; cause = GenLimit }) }
+    ensures running { refusal (record { places = primary_place true two_entries ∷ [] }) (Resync (codes "A") 2) ≡ Some (record { site = codes "A"; cause = Running }) }
+    // a region whose journal began without images
+    ensures without { Here (rollback 2 (codes "A") (down_place without_images)) (Refused (record { site = codes "A"; cause = NoBefore (codes "R") 1 })) (down_place without_images) (codes "A NOBEFORE R 1\n") }
+{}
+
+/// RECOVER BACKWARD leaves all entries, with an epoch of them, and the site down.
+pub fn recovering_holds()
+    ensures told { (q : Place) (text : List ℕ) → Here (recover_backward (codes "A") (down_place two_entries)) Done q text → text ≡ codes "A RECOVERED 2\n" }
+    ensures kept { (q : Place) (text : List ℕ) → Here (recover_backward (codes "A") (down_place two_entries)) Done q text → q.now.sequence ≡ two_entries.sequence }
+    ensures taken { (q : Place) (text : List ℕ) → Here (recover_backward (codes "A") (down_place two_entries)) Done q text → q.now.epochs 0 ≡ record { generation = 2; number = 2 } ∷ [] }
+    ensures down { (q : Place) (text : List ℕ) → Here (recover_backward (codes "A") (down_place two_entries)) Done q text → q.site ≡ (down_place two_entries).site }
+    ensures limit { refusal_in (recover_backward (codes "A") (down_place at_last_generation)) ≡ Some (record { site = codes "A"; cause = GenLimit }) }
+    ensures running { refusal (record { places = primary_place true two_entries ∷ [] }) (RecoverBackward (codes "A")) ≡ Some (record { site = codes "A"; cause = Running }) }
+{}
+
 /// The lines of a refusal, of a fault, of a site that is shown, and of a section that a fault ended.
 pub fn output_holds()
     ensures told { refusal_line (record { site = codes "A"; cause = Stopped 1 }) ≡ codes "A STOPPED 1\n" }
+    ensures no_before { refusal_line (record { site = codes "A"; cause = NoBefore (codes "R") 1 }) ≡ codes "A NOBEFORE R 1\n" }
     ensures fault { fault_line (start (codes "A") made_place).word 7 ≡ codes "A DISKFAULT 7\n" }
     // a whole command: STOP of a site that failed is refused with its line, and changes nothing
     ensures refused { Step (record { places = failed_place true ∷ [] }) (Stop (codes "A")) (Refused (record { site = codes "A"; cause = Stopped 3 }) ∷ []) (record { places = failed_place true ∷ [] }) (codes "A STOPPED 3\n") }

@@ -9,7 +9,7 @@ use Rattle.global_defs.specs.Pattern.{ends_in_star, stem}
 use Rattle.site_defs.specs.Contents.{Taken, Contents, nothing}
 use Rattle.world_defs.specs.rows.Create.{created}
 use Rattle.site_defs.specs.Epochs.{MayMark, with_epochs}
-use Rattle.site_defs.specs.Opening.{MayOpen, MayBegin, MayMap, cut_there, with_starts, opened, with_reign, next_reign, with_pattern}
+use Rattle.site_defs.specs.Opening.{MayOpen, MayBegin, MayMap, cut_there, cut_with, with_starts, opened, with_reign, next_reign, with_pattern}
 use Rattle.world_defs.specs.Fit.{IsWithinCycles, IsFitContents}
 use Rattle.world_laws.proofs.Lists.{all-weaker}
 use Rattle.world_laws.proofs.Instances.{name-more, cycle-cut, cycle-map, cycle-reign, room-cut, few_at, few-map, few-later}
@@ -24,34 +24,34 @@ fit-nothing = record { serials = rise-none; few_reigns = omega arith; cycles = t
 pub fit-created : (name : Name) (regions : List Region) → IsFitContents (created name regions)
 fit-created name regions = record { serials = rise-none; few_reigns = omega arith; cycles = tt }
 
--- one record more, of the same site, after which as many cycles are used; starts, epochs and texts are of no matter
-fit-more : (c : Contents) (instance : List InstanceRecord) (starts : ℕ → List Start) (epochs : ℕ → List Taken) (texts : List (List ℕ)) → site_name instance ≡ site_name c.instance
+-- one record more, of the same site, after which as many cycles are used; starts, epochs and texts, lost ones among them, are of no matter
+fit-more : (c : Contents) (instance : List InstanceRecord) (starts : ℕ → List Start) (epochs : ℕ → List Taken) (texts losts : List (List ℕ)) → site_name instance ≡ site_name c.instance
     → greatest_cycle c.instance ≤ greatest_cycle instance → HasFewReigns (length c.sequence) instance → IsFitContents c
-    → IsFitContents (record { instance = instance; starts = starts; epochs = epochs; texts = texts; sequence = c.sequence })
-fit-more c instance starts epochs texts name cycle few h =
-    let more : Contents = record { instance = instance; starts = starts; epochs = epochs; texts = texts; sequence = c.sequence } in
+    → IsFitContents (record { instance = instance; starts = starts; epochs = epochs; texts = texts; losts = losts; sequence = c.sequence })
+fit-more c instance starts epochs texts losts name cycle few h =
+    let more : Contents = record { instance = instance; starts = starts; epochs = epochs; texts = texts; losts = losts; sequence = c.sequence } in
     record {
       serials = h.serials;
       few_reigns = few;
       cycles = all-weaker (IsWithinCycles c) (IsWithinCycles more) (λ e within own. let low = within (own ∙ name) in omega arith) c.sequence h.cycles;
     }
 
-pub name-cut : (broken : List ℕ) (c : Contents) → site_name (cut_there broken c).instance ≡ site_name c.instance
-name-cut broken c = name-more c.instance (records.Cut (length c.sequence) (generation c.instance + 1)) refl
+pub name-cut : (broken lost : List ℕ) (c : Contents) → site_name (cut_with broken lost c).instance ≡ site_name c.instance
+name-cut broken lost c = name-more c.instance (records.Cut (length c.sequence) (generation c.instance + 1)) refl
 
-fit-cut : (broken : List ℕ) (c : Contents) → IsFitContents c → IsFitContents (cut_there broken c)
-fit-cut broken c h =
-    let cut : Contents = cut_there broken c in
+pub fit-cut : (broken lost : List ℕ) (c : Contents) → IsFitContents c → IsFitContents (cut_with broken lost c)
+fit-cut broken lost c h =
+    let cut : Contents = cut_with broken lost c in
     let cycle = cycle-cut c.instance (length c.sequence) (generation c.instance + 1) in
-    fit-more c cut.instance cut.starts cut.epochs cut.texts (name-cut broken c) (omega arith)
+    fit-more c cut.instance cut.starts cut.epochs cut.texts cut.losts (name-cut broken lost c) (omega arith)
     (few_at cut.instance (length c.sequence) (room-cut c.instance (length c.sequence) (generation c.instance + 1) h.few_reigns)) h
 
 -- a generation that begins in some regions
-fit-with_starts : (k : ℕ) (c : Contents) → IsFitContents c → IsFitContents (with_starts k c)
+pub fit-with_starts : (k : ℕ) (c : Contents) → IsFitContents c → IsFitContents (with_starts k c)
 fit-with_starts k c h = record { serials = h.serials; few_reigns = h.few_reigns; cycles = h.cycles }
 
 pub fit-opened : (broken : List ℕ) (c : Contents) → IsFitContents c → IsFitContents (opened broken c)
-fit-opened broken c h = fit-with_starts (length (regions c.instance)) (cut_there broken c) (fit-cut broken c h)
+fit-opened broken c h = fit-with_starts (length (regions c.instance)) (cut_there broken c) (fit-cut broken [] c h)
 
 pub name-reign : (name : Name) (c : Contents) → site_name (with_reign name c).instance ≡ site_name c.instance
 name-reign name c = name-more c.instance (records.Reigned (next_reign name c)) refl
@@ -60,17 +60,17 @@ pub fit-reign : (name : Name) (c : Contents) → IsFitContents c → IsFitConten
 fit-reign name c h =
     let reigned : Contents = with_reign name c in
     let cycle = cycle-reign c.instance (next_reign name c) in
-    fit-more c reigned.instance reigned.starts reigned.epochs reigned.texts (name-reign name c) (omega arith)
+    fit-more c reigned.instance reigned.starts reigned.epochs reigned.texts reigned.losts (name-reign name c) (omega arith)
     (few-later c.instance (length c.sequence) (next_reign name c) (omega arith) h.few_reigns) h
 
 -- what opening may leave is fit, and of the same site
-fit-may_open : (broken : List ℕ) (c o : Contents) → IsFitContents c → MayOpen broken c o → IsFitContents o
+pub fit-may_open : (broken : List ℕ) (c o : Contents) → IsFitContents c → MayOpen broken c o → IsFitContents o
 fit-may_open broken c o h (inl same) = subst IsFitContents (sym same) h
-fit-may_open broken c o h (inr begun) = subst IsFitContents (sym begun.1) (fit-with_starts begun.0 (cut_there broken c) (fit-cut broken c h))
+fit-may_open broken c o h (inr begun) = subst IsFitContents (sym begun.1) (fit-with_starts begun.0 (cut_there broken c) (fit-cut broken [] c h))
 
-name-may_open : (broken : List ℕ) (c o : Contents) → MayOpen broken c o → site_name o.instance ≡ site_name c.instance
+pub name-may_open : (broken : List ℕ) (c o : Contents) → MayOpen broken c o → site_name o.instance ≡ site_name c.instance
 name-may_open broken c o (inl same) = ap (λ (x : Contents). site_name x.instance) same
-name-may_open broken c o (inr begun) = ap (λ (x : Contents). site_name x.instance) begun.1 ∙ name-cut broken c
+name-may_open broken c o (inr begun) = ap (λ (x : Contents). site_name x.instance) begun.1 ∙ name-cut broken [] c
 
 -- what beginning a reign may leave
 pub fit-may_begin : (name : Name) (broken : List ℕ) (c o : Contents) → IsFitContents c → MayBegin name broken c o → IsFitContents o
@@ -79,7 +79,7 @@ fit-may_begin name broken c o h (inr reign) = subst IsFitContents (sym reign) (f
 
 pub name-may_begin : (name : Name) (broken : List ℕ) (c o : Contents) → MayBegin name broken c o → site_name o.instance ≡ site_name c.instance
 name-may_begin name broken c o (inl before) = name-may_open broken c o before
-name-may_begin name broken c o (inr reign) = ap (λ (x : Contents). site_name x.instance) reign ∙ name-reign name (opened broken c) ∙ name-cut broken c
+name-may_begin name broken c o (inr reign) = ap (λ (x : Contents). site_name x.instance) reign ∙ name-reign name (opened broken c) ∙ name-cut broken [] c
 
 -- and mapping
 pub name-pattern : (region : ℕ) (text : List ℕ) (c : Contents) → site_name (with_pattern region text c).instance ≡ site_name c.instance
@@ -89,7 +89,7 @@ pub fit-pattern : (region : ℕ) (text : List ℕ) (c : Contents) → IsFitConte
 fit-pattern region text c h =
     let mapped : Contents = with_pattern region text c in
     let cycle = cycle-map c.instance region (ends_in_star text) (stem text) in
-    fit-more c mapped.instance mapped.starts mapped.epochs mapped.texts (name-pattern region text c) (omega arith)
+    fit-more c mapped.instance mapped.starts mapped.epochs mapped.texts mapped.losts (name-pattern region text c) (omega arith)
     (few-map c.instance (length c.sequence) region (ends_in_star text) (stem text) h.few_reigns) h
 
 pub fit-may_map : (region : Name) (text : List ℕ) (c o : Contents) → IsFitContents c → MayMap region text c o → IsFitContents o

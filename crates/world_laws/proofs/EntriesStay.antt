@@ -1,5 +1,5 @@
 -- What keeps the entries of a place.
-use Rattle.std.proofs.Common.{◌≡◌, inl, inr, ℕ, suc, ◌+◌, ◌-◌, true, List, [], ◌∷◌, length, take, Option, Some, None, slice_get, IsTrue, sym, ap, subst, arith}
+use Rattle.std.proofs.Common.{◌≡◌, inl, inr, ℕ, suc, ◌+◌, ◌-◌, ◌<◌, true, List, [], ◌∷◌, length, take, Option, Some, None, slice_get, IsTrue, sym, ap, subst, arith}
 use Rattle.std.proofs.lemmas.Bool.{false≢true}
 use Rattle.std.proofs.lemmas.Option.{slice_get_within}
 use Rattle.global_defs.specs.Entry.{Stamp, Entry, Sequence}
@@ -15,13 +15,23 @@ use Rattle.world_defs.specs.World.{State, Down, Failed, Site, Place, Kept, is_fr
 use Rattle.world_defs.specs.Answers.{Section}
 use Rattle.world_defs.specs.Changes.{in_new_state, Stays, Becomes, Fails, FailsUnchanged, ChangesUnknown}
 use Rattle.world_defs.specs.rows.Crash.{Crashes}
+use Rattle.world_defs.specs.rows.Recover.{MayRecover}
+use Rattle.world_defs.specs.rows.Rollback.{MayRollBackTo, RollsBack, stay, stay_of}
 use Rattle.world_defs.specs.rows.Run as rows
 use Rattle.world_defs.specs.rows.Run.{RunsTo, IsPicked, one_further}
-use Rattle.world_laws.specs.Entries.{IsEntryAt, IsSiteOf, HasEntry, KeepsEntries}
+use Rattle.world_laws.specs.Entries.{IsEntryAt, IsSiteOf, HasEntry, Every, KeepsEntriesOf}
 use Rattle.world_laws.proofs.Turns.{GoesOn, goes-serial, goes-further, get-front}
 
-pub entries-through : (x y z : Place) → KeepsEntries x y → KeepsEntries y z → KeepsEntries x z
-entries-through x y z h k name n e has = k name n e (h name n e has)
+-- every entry
+abbrev pub KeepsEntries : Place → Place → Type 0
+KeepsEntries p q = KeepsEntriesOf Every p q
+
+pub entries-through : (kept : Name → ℕ → Type 0) (x y z : Place) → KeepsEntriesOf kept x y → KeepsEntriesOf kept y z → KeepsEntriesOf kept x z
+entries-through kept x y z h k name n e own has = k name n e own (h name n e own has)
+
+-- so those of some names
+pub entries-some : (kept : Name → ℕ → Type 0) (x y : Place) → KeepsEntries x y → KeepsEntriesOf kept x y
+entries-some kept x y h name n e own has = h name n e tt has
 
 -- what becomes of a place
 
@@ -37,14 +47,14 @@ site-new name state None h = h
 site-new name state (Some site) h = h
 
 pub entries-kept : (x y : Place) → Kept x y → KeepsEntries x y
-entries-kept x y k name n e h = record {
+entries-kept x y k name n e every h = record {
   site = subst (IsSiteOf name) (sym k.site) h.site;
   now = λ t. subst (HasAt n e) (sym k.now) (h.now (subst IsTrue k.known.told t));
   outcomes = λ t o a. h.outcomes (subst IsTrue k.known.told t) o (k.known.outcomes o a);
 }
 
 pub entries-changed : (x y : Place) → ChangesUnknown x y → KeepsEntries x y
-entries-changed x y c name n e h = record {
+entries-changed x y c name n e every h = record {
   site = subst (IsSiteOf name) (sym c.site) h.site;
   now = λ t. subst (HasAt n e) (sym c.now) (h.now (subst IsTrue c.known.told t));
   outcomes = λ t o a. h.outcomes (subst IsTrue c.known.told t) o (c.known.outcomes o a);
@@ -56,7 +66,7 @@ HasThose c p = (name : Name) (n : ℕ) (e : Entry) → HasEntry name n e p → I
 
 -- the site that stands there then has the name of the one before
 pub entries-stays : (site : Option Site) (c : Contents) (p q : Place) → ((name : Name) → IsSiteOf name p.site → IsSiteOf name site) → HasThose c p → Stays site c p q → KeepsEntries p q
-entries-stays site c p q named f b name n e h = record {
+entries-stays site c p q named f b name n e every h = record {
   site = subst (IsSiteOf name) (sym b.site) (named name h.site);
   now = λ t. subst (HasAt n e) (sym b.known.now) (f name n e h (told t));
   outcomes = λ t o a. subst (HasAt n e) (sym (only_one o c (subst (λ (l : List Contents). Among l o) b.known.outcomes a))) (f name n e h (told t));
@@ -74,7 +84,7 @@ LeavesSequence step = (c o : Contents) → step c o → o.sequence ≡ c.sequenc
 
 pub entries-fails : (k : ℕ) (step : Contents → Contents → Type 0) (so : Option (List Standing) → Option (List Standing) → Type 0) (p q : Place) → LeavesSequence step
     → Fails k (in_new_state (Failed k) p.site) step so p q → KeepsEntries p q
-entries-fails k step so p q same f name n e h = record {
+entries-fails k step so p q same f name n e every h = record {
   site = subst (IsSiteOf name) (sym f.site) (site-new name (Failed k) p.site h.site);
   now = λ t. let a = f.known.now (told t) in subst (IsEntryAt n e) (sym (same a.0 q.now a.2)) (h.outcomes (told t) a.0 a.1);
   outcomes = λ t o among. let a = f.known.outcomes (told t) o among in subst (IsEntryAt n e) (sym (same a.0 o a.2)) (h.outcomes (told t) a.0 a.1);
@@ -96,8 +106,14 @@ pub same-mark : LeavesSequence MayMark
 same-mark c o (inl e) = ap (λ (x : Contents). x.sequence) e
 same-mark c o (inr h) = ap (λ (x : Contents). x.sequence) h.1
 
+pub same-recover : (broken : List ℕ) → LeavesSequence (MayRecover broken)
+same-recover broken c o (inl (inl e)) = ap (λ (x : Contents). x.sequence) e
+same-recover broken c o (inl (inr h)) = ap (λ (x : Contents). x.sequence) h.1
+same-recover broken c o (inr (inl e)) = ap (λ (x : Contents). x.sequence) e
+same-recover broken c o (inr (inr h)) = ap (λ (x : Contents). x.sequence) h.1
+
 pub entries-crash : (p q : Place) → Crashes p q → KeepsEntries p q
-entries-crash p q d name n e h = record {
+entries-crash p q d name n e every h = record {
   site = subst (IsSiteOf name) (sym d.site) (site-new name Down p.site h.site);
   now = now;
   outcomes = λ t o a. subst (HasAt n e) (sym (only_one o q.now (subst (λ (l : List Contents). Among l o) d.outcomes a))) (now t);
@@ -107,7 +123,7 @@ entries-crash p q d name n e h = record {
     now t = let told = subst IsTrue d.told t in h.outcomes told q.now (d.chosen told)
 
 pub entries-unread : (k : ℕ) (p q : Place) → FailsUnchanged k (in_new_state (Failed k) p.site) p q → KeepsEntries p q
-entries-unread k p q f name n e h = record {
+entries-unread k p q f name n e every h = record {
   site = subst (IsSiteOf name) (sym f.site) (site-new name (Failed k) p.site h.site);
   now = λ t. subst (HasAt n e) (sym f.now) (h.now (subst IsTrue f.known.told t));
   outcomes = λ t o a. h.outcomes (subst IsTrue f.known.told t) o (f.known.outcomes o a);
@@ -162,7 +178,7 @@ pub ran-left : (name : Name) (jobs : List (List Job)) (order : List ℕ) (s : Se
 ran-left name jobs order s p q r = turn-left r.stamp r.serials jobs order s.picks s.fault p q r.picks r.ran
 
 pub entries-ran : (own : Name) (jobs : List (List Job)) (order : List ℕ) (s : Section) (p q : Place) → rows.Runs own jobs order s p q → KeepsEntries p q
-entries-ran own jobs order s p q r name n e h = record {
+entries-ran own jobs order s p q r name n e every h = record {
   site = left.site name h.site;
   now = λ t. left.now n e t (there t);
   outcomes = λ t. left.outcomes n e t (there t);
@@ -183,4 +199,44 @@ no_site name None free h = h
 no_site name (Some site) free h = false≢true free
 
 pub free-keeps : (p : Place) → is_free p.site ≡ true → (q : Place) → KeepsEntries p q
-free-keeps p free q name n e h = absurd (no_site name p.site free h.site)
+free-keeps p free q name n e every h = absurd (no_site name p.site free h.site)
+
+-- a ROLLBACK keeps each entry before its number
+
+at-rolled : (number n : ℕ) (e : Entry) (seq : Sequence) → n < number → IsEntryAt n e seq → IsEntryAt n e (take (stay number (length seq)) seq)
+at-rolled number n e seq low is =
+    let within = slice_get_within seq (n - 1) e is.there in
+    record { number = is.number; there = get-front (stay number (length seq)) seq (n - 1) e (omega (arith, is.number)) is.there }
+
+at-may_roll : (number n : ℕ) (e : Entry) (broken : List ℕ) (c o : Contents) → n < number → MayRollBackTo number broken c o → IsEntryAt n e c.sequence → IsEntryAt n e o.sequence
+at-may_roll number n e broken c o low (inl same) is = subst (HasAt n e) (sym same) is
+at-may_roll number n e broken c o low (inr (inl drawn)) is = subst (HasAt n e) (sym drawn.2) is
+at-may_roll number n e broken c o low (inr (inr (inl begun))) is = subst (HasAt n e) (sym begun.1) (at-rolled number n e c.sequence low is)
+at-may_roll number n e broken c o low (inr (inr (inr closed))) is = subst (HasAt n e) (sym closed.1) (at-rolled number n e c.sequence low is)
+
+-- of that place's site, only entries before that number are to stay
+abbrev pub StayBefore : (Name → ℕ → Type 0) → ℕ → Place → Type 0
+StayBefore kept number p = (name : Name) (n : ℕ) → IsSiteOf name p.site → kept name n → n < number
+
+pub entries-rolls : (kept : Name → ℕ → Type 0) (number : ℕ) (p q : Place) → StayBefore kept number p → RollsBack number p q → KeepsEntriesOf kept p q
+entries-rolls kept number p q before d name n e own h = record {
+  site = subst (IsSiteOf name) (sym d.becomes.site) (site-new name Down p.site h.site);
+  now = λ t. subst (HasAt n e) (sym d.becomes.known.now) (there t);
+  outcomes = λ t o a. subst (HasAt n e) (sym (only_one o _ (subst (λ (l : List Contents). Among l o) d.becomes.known.outcomes a))) (there t);
+}
+  where
+    there : IsTrue q.told → IsEntryAt n e (take (stay_of number d.read) d.read.sequence)
+    there t =
+        let told = subst IsTrue d.becomes.known.told t in
+        subst (λ (c : Contents). IsEntryAt n e (take (stay_of number c) c.sequence)) (sym (d.as_before told)) (at-rolled number n e p.now.sequence (before name n h.site own) (h.now told))
+
+pub entries-rolls_some : (kept : Name → ℕ → Type 0) (number k : ℕ) (broken : List ℕ) (so : Option (List Standing) → Option (List Standing) → Type 0) (p q : Place) → StayBefore kept number p
+    → Fails k (in_new_state (Failed k) p.site) (MayRollBackTo number broken) so p q → KeepsEntriesOf kept p q
+entries-rolls_some kept number k broken so p q before f name n e own h = record {
+  site = subst (IsSiteOf name) (sym f.site) (site-new name (Failed k) p.site h.site);
+  now = λ t. let a = f.known.now (told t) in at-may_roll number n e broken a.0 q.now (before name n h.site own) a.2 (h.outcomes (told t) a.0 a.1);
+  outcomes = λ t o among. let a = f.known.outcomes (told t) o among in at-may_roll number n e broken a.0 o (before name n h.site own) a.2 (h.outcomes (told t) a.0 a.1);
+}
+  where
+    told : IsTrue q.told → IsTrue p.told
+    told t = subst IsTrue f.known.told t

@@ -4,6 +4,7 @@ pub mod SerialRuns
 pub mod ContentsFit
 pub mod PlacesFit
 pub mod ReignsFit
+pub mod RollsFit
 pub mod SectionsFit
 pub mod Alongs
 pub mod Turns

@@ -64,7 +64,7 @@ fit-begun : (broken : List ℕ) (o : Option Site) (c : Contents) → reign_limit
 fit-begun broken None c none h named = (fit-reign [] (opened broken c) (fit-opened broken c h), tt, tt)
 fit-begun broken (Some site) c none h named = (
   fit-reign site.name (opened broken c) (fit-opened broken c h),
-  named ∙ sym (name-reign site.name (opened broken c) ∙ name-cut broken c),
+  named ∙ sym (name-reign site.name (opened broken c) ∙ name-cut broken [] c),
   fit-new_reign site.name broken c named none h,
 )
 
@@ -85,4 +85,4 @@ fit-begins_some name old h t c o a m =
 pub fit-refused : (old new : Place) → IsFitPlace old → Becomes Down (opened old.left.broken old.now) old new → IsFitPlace new
 fit-refused old new h r =
     let broken : List ℕ = old.left.broken in
-    fit-stops (opened broken old.now) old new (λ t. (fit-opened broken old.now (h.now t), named-same old.site old.now (opened broken old.now) (name-cut broken old.now) (h.named_now t))) r
+    fit-stops (opened broken old.now) old new (λ t. (fit-opened broken old.now (h.now t), named-same old.site old.now (opened broken old.now) (name-cut broken [] old.now) (h.named_now t))) r

@@ -7,6 +7,7 @@ use Rattle.world_defs.specs.Answers.{Answer}
 use Rattle.world_defs.specs.Step.{Step}
 use Rattle.world_defs.specs.Runs.{Told, Runs}
 use Rattle.world_laws.specs.Settled.{IsOpenSite, IsSettledPlace, IsBarePlace}
+use Rattle.world_laws.specs.Entries.{HasNotDropped}
 use Rattle.world_laws.proofs.Alongs.{along_keeps}
 use Rattle.world_laws.proofs.Opens.{settled-closed, bare-closed}
 use Rattle.world_laws.proofs.Lasts.{Lasts}
@@ -28,13 +29,13 @@ module _ (I : Place → Type 0) (step : (w m : World) (c : Command) (answers : L
   holds_behind w m told text f h = behind w m told text (fresh w.places f) h
 
 pub settled-step : (w m : World) (c : Command) (answers : List Answer) (text : List ℕ) → AllByRecursion IsSettledPlace w.places → Step w c answers m text → AllByRecursion IsSettledPlace m.places
-settled-step w m c answers text k h = along_keeps (Lasts (IsFormed c)) IsSettledPlace IsSettledPlace (λ x y l i. l.while_open.settled i) w.places m.places (step_holds w m c answers text h).lasts k
+settled-step w m c answers text k h = along_keeps (Lasts (IsFormed c) (HasNotDropped c answers)) IsSettledPlace IsSettledPlace (λ x y l i. l.while_open.settled i) w.places m.places (step_holds w m c answers text h).lasts k
 
 pub settled-runs : (w m : World) (told : List Told) (text : List ℕ) → IsFresh w → Runs w told m text → AllByRecursion IsSettledPlace m.places
 settled-runs = holds_behind IsSettledPlace settled-step settled-closed
 
 pub bare-step : (w m : World) (c : Command) (answers : List Answer) (text : List ℕ) → AllByRecursion IsBarePlace w.places → Step w c answers m text → AllByRecursion IsBarePlace m.places
-bare-step w m c answers text k h = along_keeps (Lasts (IsFormed c)) IsBarePlace IsBarePlace (λ x y l i. l.while_open.bare i) w.places m.places (step_holds w m c answers text h).lasts k
+bare-step w m c answers text k h = along_keeps (Lasts (IsFormed c) (HasNotDropped c answers)) IsBarePlace IsBarePlace (λ x y l i. l.while_open.bare i) w.places m.places (step_holds w m c answers text h).lasts k
 
 pub bare-runs : (w m : World) (told : List Told) (text : List ℕ) → IsFresh w → Runs w told m text → AllByRecursion IsBarePlace m.places
 bare-runs = holds_behind IsBarePlace bare-step bare-closed

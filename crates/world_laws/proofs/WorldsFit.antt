@@ -8,12 +8,13 @@ use Rattle.world_defs.specs.Step.{Step, CutOff}
 use Rattle.world_defs.specs.Runs.{Told, Runs, commands}
 use Rattle.world_defs.specs.Fit.{IsFitPlace, IsFit}
 use Rattle.world_laws.specs.Again.{HasFitOutcomes}
+use Rattle.world_laws.specs.Entries.{HasNotDropped}
 use Rattle.world_laws.proofs.Alongs.{along_keeps}
 use Rattle.world_laws.proofs.Lasts.{Lasts, CutsOff}
 use Rattle.world_laws.proofs.RowLaws.{step_holds, cut_off_holds}
 
 pub fit-step : (w m : World) (c : Command) (answers : List Answer) (text : List ℕ) → IsFormed c → IsFit w → Step w c answers m text → IsFit m
-fit-step w m c answers text formed fit h = along_keeps (Lasts (IsFormed c)) IsFitPlace IsFitPlace (λ x y l i. l.fit formed i) w.places m.places (step_holds w m c answers text h).lasts fit
+fit-step w m c answers text formed fit h = along_keeps (Lasts (IsFormed c) (HasNotDropped c answers)) IsFitPlace IsFitPlace (λ x y l i. l.fit formed i) w.places m.places (step_holds w m c answers text h).lasts fit
 
 pub fit-whole_run : (w m : World) (told : List Told) (text : List ℕ) → AllByRecursion IsFormed (commands told) → IsFit w → Runs w told m text → IsFit m
 fit-whole_run w m [] text formed fit h = subst IsFit (sym h.0) fit

@@ -1,8 +1,8 @@
 //! What files stand for, and what lies behind that.
 
-ghost use Rattle.std.specs.Prelude.{◌≡◌, ℕ, ◌-◌, ◌≤◌, [], ◌∷◌, ◌++◌, get_or};
+ghost use Rattle.std.specs.Prelude.{◌≡◌, ℕ, ◌-◌, ◌≤◌, [], ◌∷◌, ◌++◌, length, get_or};
 ghost use Rattle.disk_defs.specs.Disk.{Files};
-ghost use Rattle.journal_defs.specs.Numbers.{broken_file};
+ghost use Rattle.journal_defs.specs.Numbers.{lost_file, broken_file};
 ghost use Rattle.journal_defs.specs.Instance.{generation};
 ghost use Rattle.site_defs.specs.Contents.{Contents, Leftover, NO_LEFTOVER};
 ghost use Rattle.site_defs.specs.Opening.{IsBehind};
@@ -23,8 +23,12 @@ pub fn files_stand_for_one()
     ensures { (f : Files) (c o : Contents) → Stands f c → Stands f o → c ≡ o }
 {}
 
-/// A broken-transaction file has what is typed of it: a text, or what an opening that a fault ended wrote, or nothing.
+/// A broken-transaction file has what is typed of it: a text, or what an opening that a fault ended wrote, or nothing. So has a lost-transaction file.
 pub fn typing_reads_files()
-    ensures { (f : Files) (c : Contents) (left : Leftover) (g : ℕ) → IsSite f c → HasLeft f c left → 1 ≤ g → g ≤ 65535
+    ensures broken { (f : Files) (c : Contents) (left : Leftover) (g : ℕ) → IsSite f c → HasLeft f c left → 1 ≤ g → g ≤ 65535
         → f (broken_file g) ≡ get_or (c.texts ++ left.torn ∷ []) (g - 1) [] }
+    // the contents have one of each kind a generation
+    ensures count { (f : Files) (c : Contents) → IsSite f c → (length c.texts ≡ generation c.instance) × (length c.losts ≡ generation c.instance) }
+    // there is no lost-transaction file past the newest generation
+    ensures lost { (f : Files) (c : Contents) (g : ℕ) → IsSite f c → 1 ≤ g → g ≤ 65535 → f (lost_file g) ≡ get_or c.losts (g - 1) [] }
 {}

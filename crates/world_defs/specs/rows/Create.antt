@@ -16,7 +16,7 @@ named_mode r = record { name = r.name; before = r.before }
 
 -- a site that was made, without entries
 abbrev pub created : Name → List Region → Contents
-created name regions = record { instance = records.Create name (map named_mode regions) ∷ []; starts = λ r. []; epochs = λ r. []; texts = []; sequence = [] }
+created name regions = record { instance = records.Create name (map named_mode regions) ∷ []; starts = λ r. []; epochs = λ r. []; texts = []; losts = []; sequence = [] }
 
 -- what making it may leave: what was there, or the empty site
 abbrev pub MayMake : Name → List Region → Contents → Contents → Type 0

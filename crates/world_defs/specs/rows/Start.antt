@@ -64,7 +64,7 @@ cycle_on (Some site) = cycle_in site.state
 
 -- what such records and such a sequence have of a site
 abbrev pub read_so : Records → Sequence → Contents
-read_so u seq = record { instance = u.instance; starts = λ r. []; epochs = λ r. []; texts = []; sequence = seq }
+read_so u seq = record { instance = u.instance; starts = λ r. []; epochs = λ r. []; texts = []; losts = []; sequence = seq }
 
 -- the bytes are of that site, and past no limit
 abbrev pub StartedBy : Name → Files → Type 0

@@ -58,3 +58,7 @@ said (Typed text) q t h = absurd h.1
 
 pub returns-clause-only : goal.returns-clause-only
 returns-clause-only c answers m text (a, e, one) = said a one.becomes text one.here
+
+pub returns-clause-no_before : goal.returns-clause-no_before
+unfolding digits
+returns-clause-no_before c = refl

@@ -1,0 +1,17 @@
+//! Rolling a site back to its first entries, and recovering it backward (GT.M: MUPIP JOURNAL -ROLLBACK and -RECOVER).
+//!
+//! # What it keeps
+//!
+//! - [`rollback`] leaves the first entries of a site that is down, and the extract of the others in a lost-transaction file. Whatever a
+//!   crash leaves at any moment, the files stand for all entries, or for those that stay with the file whole.
+//! - [`recover_backward`] opens a site and closes it again: what is broken behind its entries is written down, and each region has an
+//!   epoch of all of them.
+#![tactic(auto)]
+
+mod error;
+mod recovering;
+mod rolling;
+
+pub use error::RollError;
+pub use recovering::recover_backward;
+pub use rolling::{Rolled, rollback};

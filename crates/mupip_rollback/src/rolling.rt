@@ -1,0 +1,66 @@
+//! Rolling a site back.
+ghost use Rattle.std.specs.Prelude.{◌≡◌, ◌⊎◌, ◌≤◌, ◌<◌, ◌+◌, ℕ, List, length, min, IfOk, IfSome, OnErr, IsErrOf, IsSome};
+ghost use Rattle.disk_defs.specs.Disk.{Image, AtEachMoment, Rose};
+ghost use Rattle.global_defs.specs.Entry.{Sequence};
+ghost use Rattle.journal_defs.specs.Instance as defs;
+ghost use Rattle.journal_defs.specs.Instance.{generation};
+ghost use Rattle.journal_defs.specs.Numbers.{INSTANCE};
+ghost use Rattle.journal_defs.specs.Sequence.{Records, IsSequence};
+ghost use Rattle.journal_defs.specs.Stands.{IsInstance, AreRecords};
+ghost use Rattle.site_defs.specs.Contents.{Contents, Leftover};
+ghost use Rattle.site_defs.specs.OutsideBlocks.{IsOutsideRollback};
+ghost use Rattle.site_defs.specs.Rolling.{rolled, MayRollBack};
+ghost use Rattle.site_defs.specs.Stands.{IsSite, HasLeft};
+ghost use Rattle.site_store.specs.Opening.{EachStands};
+ghost use Rattle.site_store.specs.Refusing.{IsUnwritten};
+ghost use Rattle.mupip_rollback.specs.Rolling.{StandsFor, MayBeRolledBack, MayBeRolledBackWith, IsFirstWithout, NoneIsWithout};
+
+use super::error::RollError;
+use repl_disk::Disk;
+use std::alloc::Global;
+
+/// What a rollback left.
+#[derive(Clone, Copy, Debug, PartialEq, Eq)]
+pub struct Rolled {
+    /// How many entries stay.
+    pub kept: u64,
+    /// The generation of the lost-transaction file, which has the others.
+    pub lost: u32,
+}
+
+/// Rolls the site that stands on a disk back to its first entries, so many as `to` or all where there are fewer: it reads all of the site's
+/// files, writes down what is broken behind the entries and draws a generation with a CUT of all of them, writes the extract of those
+/// that are to go into the lost-transaction file of that generation, draws the next one with a CUT of those that stay, begins it, and
+/// takes a closing epoch.
+///
+/// # Errors
+/// `GenLimit` exactly where 65,534 generations were drawn; `NoBeforeImage` exactly where a region needs forward recovery for the entries
+/// that are to stay, with the first such region and its first generation without images; `NotAFile` with the first file that is outside
+/// the formats and the place of what can't stand there, or with file 0 and offset 0 where no site stands there. Nothing was written then.
+/// `Failed` only where the disk's count rose; a crash then finds all entries, or those that stay. `NoMemory`.
+pub fn rollback<D: Disk>(alloc: Global, disk: &mut D, to: u64) -> Result<Rolled, RollError>
+    ensures read { IfOk result (λ rolled. (c : Contents) × (rolled.kept ≡ min to (length c.sequence)) × (rolled.lost ≡ generation c.instance + 1)) }
+    ensures told { IfOk result (λ _. IfSome (D.disk disk.old).content (λ files. (c : Contents) (left : Leftover) → IsSite files c → HasLeft files c left → EachStands (D.disk disk.old) → StandsFor (D.disk disk.new) (rolled (min to (length c.sequence)) left.broken c))) }
+    // whether the files are a fit site's or not
+    ensures held { IfOk result (λ rolled. IfSome (D.disk disk.old).content (λ files. (u : Records) × (seq : Sequence) × AreRecords files u × IsSequence u seq × (rolled.kept ≡ min to (length seq)) × (rolled.lost ≡ generation u.instance + 1) × (generation u.instance < 65534) × NoneIsWithout u (min to (length seq)))) }
+    ensures limit { IsErrOf result RollError.GenLimit → IfSome (D.disk disk.old).content (λ files. (rs : List defs.InstanceRecord) → IsInstance (files INSTANCE) rs → 65534 ≤ generation rs) }
+    ensures limit_told { IsErrOf result RollError.GenLimit → IfSome (D.disk disk.old).content (λ files. (rs : List defs.InstanceRecord) × IsInstance (files INSTANCE) rs × (65534 ≤ generation rs)) }
+    ensures unwritten { IsErrOf result RollError.GenLimit → IsUnwritten (D.disk disk.old) (D.disk disk.new) }
+    ensures without { (region generation : ℕ) → IsErrOf result (RollError.NoBeforeImage region generation) → IfSome (D.disk disk.old).content (λ files. (u : Records) × (seq : Sequence) × AreRecords files u × IsSequence u seq × IsFirstWithout u (min to (length seq)) region generation) }
+    ensures untouched { (region generation : ℕ) → IsErrOf result (RollError.NoBeforeImage region generation) → IsUnwritten (D.disk disk.old) (D.disk disk.new) }
+    ensures place { (file offset : ℕ) → IsErrOf result (RollError.NotAFile file offset) → IfSome (D.disk disk.old).content (λ files. IsOutsideRollback to files file offset) }
+    ensures refused { (file offset : ℕ) → IsErrOf result (RollError.NotAFile file offset) → IfSome (D.disk disk.old).content (λ _. IsUnwritten (D.disk disk.old) (D.disk disk.new)) }
+    ensures outside { (file offset : ℕ) → IsErrOf result (RollError.NotAFile file offset) → IfSome (D.disk disk.old).content (λ files. (c : Contents) → IsSite files c → ⊥) }
+    ensures any_moment { IfSome (D.disk disk.old).content (λ files. (c : Contents) (left : Leftover) → IsSite files c → HasLeft files c left → AtEachMoment (D.disk disk.old) (D.disk disk.new) (MayBeRolledBack (D.disk disk.old) to left.broken)) }
+    // each with what was broken in its own image
+    ensures left { IfSome (D.disk disk.old).content (λ files. (c : Contents) → IsSite files c → AtEachMoment (D.disk disk.old) (D.disk disk.new) (MayBeRolledBackWith (D.disk disk.old) to)) }
+    ensures still_told { IsSome (D.disk disk.old).content → IsSome (D.disk disk.new).content }
+    ensures stands { IfSome (D.disk disk.old).content (λ files. (c : Contents) (left : Leftover) → IsSite files c → HasLeft files c left → IfSome (D.disk disk.new).content (λ now. (o : Contents) × MayRollBack (min to (length c.sequence)) left.broken c o × IsSite now o)) }
+    ensures simulated { (D.disk disk.new).simulated ≡ (D.disk disk.old).simulated }
+    ensures later { (D.disk disk.old).faults ≤ (D.disk disk.new).faults }
+    ensures count { (fault : ℕ) → IsErrOf result (RollError.Failed fault) → fault ≡ (D.disk disk.new).faults }
+    ensures cause { (fault : ℕ) → IsErrOf result (RollError.Failed fault) → Rose (D.disk disk.old).faults (D.disk disk.new).faults }
+{
+    // a stand-in
+    Err(RollError::NoMemory)
+}

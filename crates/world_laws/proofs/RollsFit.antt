@@ -1,0 +1,95 @@
+-- What ROLLBACK and RECOVER BACKWARD keep at their place: a front of the sequence is as fit, and a CUT more leaves no more reigns.
+use Rattle.std.proofs.Common.{◌≡◌, inl, inr, ℕ, ◌+◌, ◌≤◌, List, [], length, take, true, IsTrue, refl, sym, ◌∙◌, ap, subst, arith}
+use Rattle.journal_defs.specs.Instance as records
+use Rattle.journal_defs.specs.Instance.{generation, greatest_cycle, site_name, regions}
+use Rattle.journal_defs.specs.Surviving.{reigns}
+use Rattle.journal_defs.specs.Fit.{MOST_REIGNS}
+use Rattle.site_defs.specs.Contents.{Contents}
+use Rattle.site_defs.specs.Epochs.{marked}
+use Rattle.site_defs.specs.Lists.{Among}
+use Rattle.site_defs.specs.Opening.{cut_with, opened}
+use Rattle.site_defs.specs.Rolling.{MayRollBack, lost_text, cut_to, kept_first, rolled_open, rolled}
+use Rattle.world_defs.specs.World.{Place}
+use Rattle.world_defs.specs.rows.Recover.{MayRecover, Recovers}
+use Rattle.world_defs.specs.rows.Rollback.{MayRollBackTo, RollsBack, stay_of}
+use Rattle.world_defs.specs.Fit.{IsWithinCycles, IsFitContents, IsNamedSo, IsFitPlace}
+use Rattle.world_laws.proofs.Lists.{all-weaker, all-front}
+use Rattle.world_laws.proofs.Instances.{name-more, cycle-cut, room-cut, few_at}
+use Rattle.world_laws.proofs.SerialRuns.{rise-front}
+use Rattle.world_laws.proofs.ContentsFit.{name-cut, fit-cut, fit-with_starts, fit-opened, fit-may_open, name-may_open, fit-epochs, fit-may_mark, name-may_mark}
+use Rattle.world_laws.proofs.PlacesFit.{named-same, fit-stops}
+
+-- a CUT to the first entries
+name-cut_to : (t : ℕ) (c : Contents) → site_name (cut_to t c).instance ≡ site_name c.instance
+name-cut_to t c = name-more c.instance (records.Cut t (generation c.instance + 1)) refl
+
+fit-cut_to : (t : ℕ) (c : Contents) → length (reigns c.instance) ≤ MOST_REIGNS → IsFitContents c → IsFitContents (cut_to t c)
+fit-cut_to t c room h =
+    let cut : Contents = cut_to t c in
+    let cycle = cycle-cut c.instance t (generation c.instance + 1) in
+    record {
+      serials = rise-front t c.sequence h.serials;
+      few_reigns = few_at cut.instance (length cut.sequence) (room-cut c.instance t (generation c.instance + 1) (few_at c.instance t room));
+      cycles = all-weaker (IsWithinCycles c) (IsWithinCycles cut) (λ e within own. let low = within (own ∙ name-cut_to t c) in omega arith) (take t c.sequence) (all-front (IsWithinCycles c) t c.sequence h.cycles);
+    }
+
+name-kept_first : (t : ℕ) (broken : List ℕ) (c : Contents) → site_name (kept_first t broken c).instance ≡ site_name c.instance
+name-kept_first t broken c = name-cut_to t (cut_with broken (lost_text t c) c) ∙ name-cut broken (lost_text t c) c
+
+fit-kept_first : (t : ℕ) (broken : List ℕ) (c : Contents) → IsFitContents c → IsFitContents (kept_first t broken c)
+fit-kept_first t broken c h =
+    fit-cut_to t (cut_with broken (lost_text t c) c) (room-cut c.instance (length c.sequence) (generation c.instance + 1) h.few_reigns) (fit-cut broken (lost_text t c) c h)
+
+fit-rolled_open : (t : ℕ) (broken : List ℕ) (c : Contents) → IsFitContents c → IsFitContents (rolled_open t broken c)
+fit-rolled_open t broken c h = fit-with_starts (length (regions c.instance)) (kept_first t broken c) (fit-kept_first t broken c h)
+
+-- what rolling back may leave is fit, and of the same site
+fit-may_roll : (t : ℕ) (broken : List ℕ) (c o : Contents) → IsFitContents c → MayRollBack t broken c o → IsFitContents o
+fit-may_roll t broken c o h (inl same) = subst IsFitContents (sym same) h
+fit-may_roll t broken c o h (inr (inl drawn)) = subst IsFitContents (sym drawn.2) (fit-cut broken drawn.0 c h)
+fit-may_roll t broken c o h (inr (inr (inl begun))) = subst IsFitContents (sym begun.1) (fit-with_starts begun.0 (kept_first t broken c) (fit-kept_first t broken c h))
+fit-may_roll t broken c o h (inr (inr (inr closed))) = subst IsFitContents (sym closed.1) (fit-epochs closed.0 (rolled_open t broken c) (fit-rolled_open t broken c h))
+
+name-may_roll : (t : ℕ) (broken : List ℕ) (c o : Contents) → MayRollBack t broken c o → site_name o.instance ≡ site_name c.instance
+name-may_roll t broken c o (inl same) = ap (λ (x : Contents). site_name x.instance) same
+name-may_roll t broken c o (inr (inl drawn)) = ap (λ (x : Contents). site_name x.instance) drawn.2 ∙ name-cut broken drawn.0 c
+name-may_roll t broken c o (inr (inr (inl begun))) = ap (λ (x : Contents). site_name x.instance) begun.1 ∙ name-kept_first t broken c
+name-may_roll t broken c o (inr (inr (inr closed))) = ap (λ (x : Contents). site_name x.instance) closed.1 ∙ name-kept_first t broken c
+
+-- and recovering
+fit-may_recover : (broken : List ℕ) (c o : Contents) → IsFitContents c → MayRecover broken c o → IsFitContents o
+fit-may_recover broken c o h (inl before) = fit-may_open broken c o h before
+fit-may_recover broken c o h (inr closed) = fit-may_mark (opened broken c) o (fit-opened broken c h) closed
+
+name-may_recover : (broken : List ℕ) (c o : Contents) → MayRecover broken c o → site_name o.instance ≡ site_name c.instance
+name-may_recover broken c o (inl before) = name-may_open broken c o before
+name-may_recover broken c o (inr closed) = name-may_mark (opened broken c) o closed ∙ name-cut broken [] c
+
+-- places
+
+pub fit-rolls : (number : ℕ) (old new : Place) → IsFitPlace old → RollsBack number old new → IsFitPlace new
+fit-rolls number old new h r =
+    fit-stops (rolled (stay_of number r.read) r.broken r.read) old new
+    (λ t. subst (λ (c : Contents). IsFitContents (rolled (stay_of number c) r.broken c) × IsNamedSo old.site (rolled (stay_of number c) r.broken c)) (sym (r.as_before t)) (
+      fit-epochs (λ r. true) (rolled_open (stay_of number old.now) r.broken old.now) (fit-rolled_open (stay_of number old.now) r.broken old.now (h.now t)),
+      named-same old.site old.now (rolled (stay_of number old.now) r.broken old.now) (name-kept_first (stay_of number old.now) r.broken old.now) (h.named_now t),
+    ))
+    r.becomes
+
+pub fit-rolls_some : (number : ℕ) (old : Place) → IsFitPlace old → IsTrue old.told → (c o : Contents) → Among old.outcomes c → MayRollBackTo number old.left.broken c o → IsFitContents o × IsNamedSo old.site o
+fit-rolls_some number old h t c o a m = (
+  fit-may_roll (stay_of number c) old.left.broken c o (h.outcomes t c a) m,
+  named-same old.site c o (name-may_roll (stay_of number c) old.left.broken c o m) (h.named t c a),
+)
+
+pub fit-recovers : (old new : Place) → IsFitPlace old → Recovers old new → IsFitPlace new
+fit-recovers old new h r =
+    fit-stops (marked (opened r.broken r.read)) old new
+    (λ t. subst (λ (c : Contents). IsFitContents (marked (opened r.broken c)) × IsNamedSo old.site (marked (opened r.broken c))) (sym (r.as_before t)) (
+      fit-epochs (λ r. true) (opened r.broken old.now) (fit-opened r.broken old.now (h.now t)),
+      named-same old.site old.now (marked (opened r.broken old.now)) (name-cut r.broken [] old.now) (h.named_now t),
+    ))
+    r.becomes
+
+pub fit-recovers_some : (old : Place) → IsFitPlace old → IsTrue old.told → (c o : Contents) → Among old.outcomes c → MayRecover old.left.broken c o → IsFitContents o × IsNamedSo old.site o
+fit-recovers_some old h t c o a m = (fit-may_recover old.left.broken c o (h.outcomes t c a) m, named-same old.site c o (name-may_recover old.left.broken c o m) (h.named t c a))
