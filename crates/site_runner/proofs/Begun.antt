@@ -123,7 +123,7 @@ no_more_starts k c past =
     let n = length (regions c.instance) in
     let here : (r : ℕ) → c.starts r ++ starts_in k c r ≡ c.starts r ++ starts_in n c r = λ r.
     ap (λ (b : Bool). c.starts r ++ (if b then start_of c r ∷ [] else [])) (twice (nat_lt r k) (nat_lt r n) (λ t. let low = ltb-true r n t in lt-ltb r k (omega (arith, low, past)))) in
-    ap (λ (f : ℕ → List Start). record { instance = c.instance; starts = f; epochs = c.epochs; texts = c.texts; sequence = c.sequence }) (fun_ext here)
+    ap (λ (f : ℕ → List Start). record { instance = c.instance; starts = f; epochs = c.epochs; texts = c.texts; losts = c.losts; sequence = c.sequence }) (fun_ext here)
 
 few_or_more : (k n : ℕ) → (k ≤ n) ⊎ (n ≤ k)
 few_or_more zero n = inl (omega arith)
