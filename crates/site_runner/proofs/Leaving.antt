@@ -1,23 +1,31 @@
 -- What a command that opens a site and closes it again may leave of its place, where it comes to no end.
-use Rattle.std.proofs.Common.{◌≡◌, ℕ, ◌≤◌, Bool, true, false, List, [], ◌∷◌, None, Some, refl, sym, ◌∙◌, ap, subst, arith, inl, inr}
+use Rattle.std.proofs.Common.{◌≡◌, ℕ, ◌≤◌, Bool, true, false, List, [], ◌∷◌, length, None, Some, refl, sym, ◌∙◌, ap, subst, arith, inl, inr}
 use Rattle.std.specs.Prelude.{◌⊎◌, Option, IfSome, IsSome, IsSomeAnd}
 use Rattle.std.specs.List.{flat_map}
 use Rattle.std.proofs.lemmas.Bool.{false≢true}
-use Rattle.disk_defs.specs.Disk.{Files, View, Image, IsLawful, AtEachMoment, Rose}
+use Rattle.disk_defs.specs.Disk.{Files, View, Image, From, IsLawful, AtEachMoment, Rose}
+use Rattle.global_defs.specs.Entry.{Sequence}
+use Rattle.journal_defs.specs.Instance.{InstanceRecord}
+use Rattle.journal_defs.specs.Sequence.{Records, IsSequence}
+use Rattle.journal_defs.specs.Stands.{AreRecords}
+use Rattle.journal_laws.proofs.Readings.{records_one}
+use Rattle.journal_laws.proofs.Runs as runs
 use Rattle.command_defs.specs.Commands.{Name}
 use Rattle.site_defs.specs.Lists.{Among}
-use Rattle.site_defs.specs.Contents.{Contents, Leftover, Standing, NO_LEFTOVER, bare}
+use Rattle.site_defs.specs.Contents.{Contents, Leftover, Standing, NO_LEFTOVER, is_made, bare}
 use Rattle.site_defs.specs.Opening.{IsBehind}
-use Rattle.site_defs.specs.Stands.{Stands, Reads}
-use Rattle.site_defs.specs.Behind.{IsSiteWith, StandsSo}
+use Rattle.site_defs.specs.Stands.{IsSite, HasLeft, Stands, Reads}
+use Rattle.site_defs.specs.Behind.{IsStanding, IsSiteWith, StandsSo}
 use Rattle.mupip_rollback.specs.Rolling.{StandsFor}
 use Rattle.world_defs.specs.World as world
 use Rattle.world_defs.specs.World.{Place, Covers, CoversSo, AmongCovered, AmongCoveredSo, has_failed_on, StandAfter, IfShown}
 use Rattle.world_defs.specs.Answers.{Cause, Running, Stopped}
 use Rattle.world_defs.specs.Changes.{in_new_state, After, Becomes, Fails}
 use Rattle.world_defs.specs.Row.{refused_with, in_state, why_not_down}
+use Rattle.world_defs.specs.Shown.{BySequence}
 use Rattle.world_defs.specs.Step.{LeftBy}
 use Rattle.world_defs.specs.Ties.{StandsBy, Matches}
+use Rattle.world_defs.specs.rows.Start.{read_so}
 use Rattle.site_runner.specs.declared.slot.State.{State}
 use Rattle.site_runner.specs.declared.slot.State.TheVariants.{Down, Failed}
 use Rattle.site_runner.specs.declared.slot.Site.{Site}
@@ -25,7 +33,7 @@ use Rattle.site_runner.specs.Sites.{state_value, site_value, HoldsState, IsOf, I
 use Rattle.site_runner.specs.Steps.{IsAt}
 use Rattle.site_runner.specs.Rolling.{IsDownAt}
 use Rattle.site_runner.proofs.Amongs.{among_flat, flat_among}
-use Rattle.site_runner.proofs.Ats.{is_true_or_false, told_is, some_and, reads_image, at_moment, as_told, shown_same, only, Leftovers, StandBy, ImagesStand, images_still, stand_by, stands_by, images_of, standings_of, up_down, place_of_one, stands_with}
+use Rattle.site_runner.proofs.Ats.{is_true_or_false, told_is, some_and, some_both, reads_site, is_site, standing_of, by_shown, reads_image, at_moment, as_told, shown_same, only, Leftovers, StandBy, ImagesStand, images_still, stand_by, stands_by, images_of, standings_of, up_down, place_of_one, stands_with}
 use Rattle.site_runner.proofs.Seen.{counted}
 
 -- Steps whose ends are covered by finitely many.
@@ -232,3 +240,115 @@ down_counted w s p h = record {
 -- the tests of a site that is down
 pub early_none : (s : Site) (p : Place) → s.state ≡ Down → p.site ≡ Some (site_value s) → in_state why_not_down p.site ≡ None
 early_none s p e h = ap (in_state why_not_down) h ∙ ap (λ (x : State). why_not_down (state_value x)) e
+
+-- What the calls say of each moment, from a site that is down.
+
+abbrev pub StepsAt : (List ℕ → Contents → Contents → Type 0) → View → View → Type 0
+StepsAt step v w = IfSome v.content (λ files. (c : Contents) (left : Leftover) → IsSite files c → HasLeft files c left → AtEachMoment v w (From (Image v) (λ was now. (c : Contents) → IsSite was c → (o : Contents) × step left.broken c o × IsSite now o)))
+
+abbrev pub StepsSo : (Standing → Standing → Type 0) → View → View → Type 0
+StepsSo so v w = IfSome v.content (λ files. (c : Contents) → IsSite files c → AtEachMoment v w (From (Image v) (λ was now. (s : Standing) → IsStanding was s → (o : Standing) × so s o × IsStanding now o)))
+
+-- the standings then
+stepped_so : (so : Standing → Standing → Type 0) (v w : View) (s : Site) (p : Place) → IsLawful w → s.state ≡ Down → IsAt v s p → StepsSo so v w → p.told ≡ true → ImagesAfter so w p.standings
+stepped_so so v w s p law down h steps sure = among p.standings (standings_of v p up h.disk sure)
+  where
+    up : has_failed_on p.site ≡ false
+    up = up_down s p down h.site
+
+    among : (x : Option (List Standing)) → ImagesStand v x → ImagesAfter so w x
+    among None k = tt
+    among (Some os) k = λ f i.
+        let made : IsMade s.name p = h.held.made sure in
+        let here = some_both v.content _ _ (h.disk.told sure) steps in
+        let each = here.2 p.now (reads_site here.0 p.now p.left made.now.made here.1).0 in
+        let from = at_moment v w _ f law each i in
+        let out = images_of v p up h.disk sure from.0 from.1 in
+        let was = k from.0 from.1 in
+        let now = from.2 was.0 (standing_of from.0 out.0 was.0 (is_site from.0 out.0 (made.outcomes out.0 out.1).made out.2) was.2) in
+        (was.0, now.0, was.1, now.1, inr now.2)
+
+pub may_have : (step : List ℕ → Contents → Contents → Type 0) (so : Standing → Standing → Type 0) (v w : View) (s : Site) (p : Place) → IsLawful w → s.state ≡ Down → IsAt v s p → StepsAt step v w → StepsSo so v w → (IsSome v.content → IsSome w.content) → w.simulated ≡ v.simulated
+    → MayHave (step p.left.broken) so w p
+may_have step so v w s p law down h steps steps_so still same = record {
+  still_told = λ sure. still (told_is v.content _ (h.disk.told sure));
+  images = λ sure f i.
+      let made : IsMade s.name p = h.held.made sure in
+      let here = some_both v.content _ _ (h.disk.told sure) steps in
+      let site = reads_site here.0 p.now p.left made.now.made here.1 in
+      let each = here.2 p.now p.left site.0 site.1 in
+      let from = at_moment v w _ f law each i in
+      let was = images_of v p (up_down s p down h.site) h.disk sure from.0 from.1 in
+      let now = from.2 was.0 (is_site from.0 was.0 (made.outcomes was.0 was.1).made was.2) in
+      (now.0, (was.0, was.1, now.1), inr now.2);
+  standings = λ sure. stepped_so so v w s p law down h steps_so sure;
+  simulated = same ∙ h.disk.simulated;
+}
+
+-- where nothing was written
+pub nothing_had : (step : Contents → Contents → Type 0) (so : Standing → Standing → Type 0) (w : View) (s : Site) (p : Place) → ((c : Contents) → step c c) → ((s : Standing) → so s s) → IsDownAt w s p → MayHave step so w p
+nothing_had step so w s p same same_so h = record {
+  still_told = λ sure. told_is w.content _ (h.reads sure);
+  images = λ sure f i. let o = h.images sure f i in (o.0, (o.0, o.1, same o.0), o.2);
+  standings = λ sure. still p.standings (h.standings sure);
+  simulated = h.simulated;
+}
+  where
+    still : (x : Option (List Standing)) → ImagesStand w x → ImagesAfter so w x
+    still None k = tt
+    still (Some os) k = λ f i. let o = k f i in (o.0, o.0, o.1, same_so o.0, o.2)
+
+-- What was read.
+
+-- files stand for one sequence
+pub stand_one : (f : Files) (c : Contents) (u : Records) (seq : Sequence) → IsSite f c → AreRecords f u → IsSequence u seq → (c.instance ≡ u.instance) × (c.sequence ≡ seq)
+stand_one f c u seq site held is =
+    let same : site.records ≡ u = records_one f site.records u site.image.held held in
+    (sym site.instance ∙ ap (λ (s : Records). s.instance) same, runs.one u c.sequence seq (subst (λ (s : Records). IsSequence s c.sequence) same site.image.sequence) is)
+
+-- contents that were read, of which this holds by their records and their length, and which bytes that are shown have
+pub record WasRead (P : List InstanceRecord → ℕ → Type 0) (p : Place) : Type 0 where
+  pub read : Contents
+  pub says : P read.instance (length read.sequence)
+  pub as_before : p.told ≡ true → read ≡ p.now
+  pub bytes : IfShown p (BySequence (λ u seq. (read.instance ≡ u.instance) × (length read.sequence ≡ length seq)))
+
+abbrev pub HeldSo : (List InstanceRecord → ℕ → Type 0) → Files → Type 0
+HeldSo P files = (u : Records) × (seq : Sequence) × AreRecords files u × IsSequence u seq × P u.instance (length seq)
+
+pub was_read : (P : List InstanceRecord → ℕ → Type 0) (v : View) (s : Site) (p : Place) → IsAt v s p → (c : Contents) × P c.instance (length c.sequence) → IfSome v.content (HeldSo P) → WasRead P p
+was_read P v s p h read held = elim (is_true_or_false p.told) [
+  | inl sure ↦
+      let here = some_both v.content _ _ (h.disk.told sure) held in
+      let site = reads_site here.0 p.now p.left ((h.held.made sure).now.made) here.1 in
+      let one = stand_one here.0 p.now here.2.0 here.2.1 site.0 here.2.2 here.2.3 in
+      record {
+        read = p.now;
+        says = subst (λ (rs : List InstanceRecord). P rs (length p.now.sequence)) (sym one.0) (subst (λ (l : Sequence). P here.2.0.instance (length l)) (sym one.1) here.2.4);
+        as_before = λ _. refl;
+        bytes = by_known p.shown ((h.held.made sure).now.made) h.disk.shown (h.disk.told sure) (by_shown p.shown v.content (HeldSo P) h.disk.shown held);
+      }
+  | inr unsure ↦ by_bytes p.shown refl unsure (by_shown p.shown v.content (HeldSo P) h.disk.shown held)
+]
+  where
+    -- of a site's files
+    by_known : (x : Option Files) → is_made p.now ≡ true → IfSome x (λ f. v.content ≡ Some f) → IsSomeAnd v.content (λ files. Reads files p.now p.left) → IfSome x (HeldSo P) → IfSome x (BySequence (λ u seq. (p.now.instance ≡ u.instance) × (length p.now.sequence ≡ length seq)))
+    by_known None made e r k = tt
+    by_known (Some f) made e r k =
+        let site = reads_site f p.now p.left made (subst (λ (o : Option Files). IsSomeAnd o (λ files. Reads files p.now p.left)) e r) in
+        let one = stand_one f p.now k.0 k.1 site.0 k.2 k.3 in
+        (k.0, k.1, k.2, k.3, (one.0, ap (λ (l : Sequence). length l) one.1))
+
+    by_bytes : (x : Option Files) → p.shown ≡ x → p.told ≡ false → IfSome x (HeldSo P) → WasRead P p
+    by_bytes None e unsure k = record {
+      read = read.0;
+      says = read.1;
+      as_before = λ sure. absurd (false≢true (sym unsure ∙ sure));
+      bytes = subst (λ (o : Option Files). IfSome o (BySequence (λ u seq. (read.0.instance ≡ u.instance) × (length read.0.sequence ≡ length seq)))) (sym e) tt;
+    }
+    by_bytes (Some f) e unsure k = record {
+      read = read_so k.0 k.1;
+      says = k.4;
+      as_before = λ sure. absurd (false≢true (sym unsure ∙ sure));
+      bytes = subst (λ (o : Option Files). IfSome o (BySequence (λ u seq. (k.0.instance ≡ u.instance) × (length k.1 ≡ length seq)))) (sym e) (k.0, k.1, k.2, k.3, (refl, refl));
+    }

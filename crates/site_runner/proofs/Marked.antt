@@ -94,11 +94,11 @@ marks_are c o (inr h) = let x = map_among (λ k. with_epochs k c) (choices (leng
 
 -- and so of these with nothing behind them
 
-among_left : (c : Contents) (o : Standing) → MayMarkLeft (bare c) o → Among (map bare (marks c)) o
+pub among_left : (c : Contents) (o : Standing) → MayMarkLeft (bare c) o → Among (map bare (marks c)) o
 among_left c o (inl e) = inl e
 among_left c o (inr m) = subst (Among (map bare (marks c))) (sym m.1) (among_map bare (marks c) (with_epochs m.0 c) (among_marks c (with_epochs m.0 c) (inr (m.0, refl))))
 
-left_are : (c : Contents) (o : Standing) → Among (map bare (marks c)) o → MayMarkLeft (bare c) o
+pub left_are : (c : Contents) (o : Standing) → Among (map bare (marks c)) o → MayMarkLeft (bare c) o
 left_are c o h =
     let x = map_among bare (marks c) o h in
     elim (marks_are c x.0 x.1) [
@@ -106,7 +106,7 @@ left_are c o h =
       | inr m ↦ inr (m.0, x.2 ∙ ap bare m.1)
     ]
 
-of_marked : (name : Name) (c o : Contents) → MayMark c o → IsOf name c → IsOf name o
+pub of_marked : (name : Name) (c o : Contents) → MayMark c o → IsOf name c → IsOf name o
 of_marked name c o (inl e) h = subst (IsOf name) (sym e) h
 of_marked name c o (inr m) h = subst (IsOf name) (sym m.1) (record { made = h.made; name = h.name })
 

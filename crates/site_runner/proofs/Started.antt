@@ -152,7 +152,7 @@ pub opens_held : (v : View) (o : OpenSite) → IfSome v.content (BySequence (λ 
 opens_held v o held drawn = both_weak v.content (BySequence (λ u seq. WasOpenedFrom u seq o)) (λ files. (rs : List InstanceRecord) → IsInstance (files INSTANCE) rs → generation rs < 65534) (HeldBy o) held drawn
     (λ f k low. (k.0, k.1, k.2, k.3, (k.4, low k.0.instance k.2.instance)))
 
-each_stands : (v : View) (p : Place) → Matches v p → p.told ≡ true → EachStands v
+pub each_stands : (v : View) (p : Place) → Matches v p → p.told ≡ true → EachStands v
 each_stands v p m sure f i = let o = m.images sure f i in let c = stands_for (has_failed_on p.site) f o.0 o.2 in (c.0, c.2)
 
 opened_told : (leftovers : Leftovers) (one_only : StandForOne) (v w : View) (s : Site) (o : OpenSite) (p : Place) → IsLawful v → s.state ≡ Down → IsAt v s p → site_name o.instance.records ≡ s.name → p.told ≡ true
