@@ -1,10 +1,11 @@
 -- A site that was found, and stands.
-use Rattle.std.proofs.Common.{◌≡◌, inr, ℕ, ◌+◌, List, [], ◌∷◌, ◌++◌, length, map, take, Option, IfSome, sym, ◌∙◌, ap, subst}
+use Rattle.std.proofs.Common.{◌≡◌, inr, ℕ, [], ◌∷◌, ◌++◌, length, take, Result, Ok, Err, IfOk, IfSome, sym, ◌∙◌, ap, subst}
 use Rattle.std.proofs.Math.Seq.{take-length}
-use Rattle.disk_defs.specs.Disk.{Files, View, Image, IsLawful, AtEachMoment}
+use Rattle.disk_defs.specs.Disk.{Files, View, Image, Reads, IsLawful, AtEachMoment}
+use Rattle.disk_defs.proofs.Moments.{read_only}
 use Rattle.disk_defs.proofs.Told.{both_weak, told_at}
 use Rattle.global_defs.specs.Entry.{Sequence, state}
-use Rattle.journal_defs.specs.Instance.{InstanceRecord, generation, regions}
+use Rattle.journal_defs.specs.Instance.{generation, regions}
 use Rattle.journal_defs.specs.Stands.{AreRecords}
 use Rattle.journal_defs.specs.Fit.{IsSoundImage}
 use Rattle.site_defs.specs.Contents.{Contents}
@@ -15,6 +16,7 @@ use Rattle.site_files.proofs.Kept.{held_read}
 use Rattle.site_regions.specs.Joined.{Joined, joined}
 use Rattle.site_store.specs.declared.preparing.FoundFiles.{FoundFiles}
 use Rattle.site_store.specs.declared.preparing.StandingSite.{StandingSite}
+use Rattle.site_store.specs.declared.error.SiteError.{SiteError}
 use Rattle.site_store.specs.Finding.{HasLayout}
 use Rattle.site_store.specs.Site.{AreOnBlocks}
 use Rattle.site_store.specs.Standing.{found_records, found_entries, HasFound, WasFound, IsFoundAs, IsOpenFor, Stood}
@@ -58,7 +60,7 @@ stood_again u w f k has was opens layout =
       sequence = has.sequence;
       are_numbered = has.are_numbered;
       few = has.few;
-      broken_is = hstays.broken_is;
+      broken_is = has.broken_is;
       read = was.read;
       texts = was.texts;
       databases = was.databases;
@@ -74,6 +76,12 @@ stood_of u w f k has was opens stays =
     subst (λ (x : FoundFiles). HasFound x → WasFound u w x → IsOpenFor u w x (length x.entries.items) k.globals → ((n : ℕ) → HasLayout (x.read.log.records ++ next_cut x.read.log.records n ∷ []) k.layout) → Stood u w k)
     (λ i. record { read = record { log = stays.log i; directory = f.read.directory; journals = f.read.journals; last_began = stays.last_began i }; entries = stays.entries i; broken = stays.broken i })
     (stood_again u w f k) has was opens stays.layout
+
+pub stood_ok : (u v w : View) (f : FoundFiles) (n : ℕ) (o : Result StandingSite SiteError) → IsLawful w → Reads v w → v.content ≡ u.content → HasFound f → WasFound u v f → n ≡ length f.entries.items
+    → IfOk o (IsFoundAs f) → IfOk o (λ k. IsOpenFor v w f n k.globals) → IfOk o (Stood u w)
+stood_ok u v w f n (Ok k) lawful reads same has was all stays opens =
+    stood_of u w f k has (found_moved u v w f lawful (read_only v w reads) was) (subst (λ (m : ℕ). IsOpenFor u w f m k.globals) all (open_moved u v w f n k.globals same opens)) stays
+stood_ok u v w f n (Err e) lawful reads same has was all stays opens = tt
 
 -- where it can't be opened for all entries
 module _ (u v : View) (f : FoundFiles) (has : HasFound f) (was : WasFound u v f) (same : v.content ≡ u.content) (file offset : ℕ) where

@@ -32,6 +32,7 @@ pub mod Refused
 pub mod OpenedTo
 pub mod Loaded
 pub mod Founded
+pub mod Rolled
 pub mod Mapped
 pub mod Unwritten
 pub mod Owned

@@ -1,12 +1,9 @@
 -- A site is opened.
-use Rattle.std.proofs.Common.{◌≡◌, inl, inr, ℕ, zero, suc, ◌+◌, ◌≤◌, ◌<◌, ◌^◌, Bool, true, false, List, [], ◌∷◌, ◌++◌, length, map, take, Option, Some, None, IfSome, IsSomeAnd, refl, sym, ◌∙◌, ap, subst, arith, append-nil}
-use Rattle.std.specs.Prelude.{◌^◌, filter, nat_le, nat_lt, ◌&&◌, fold, replicate, slice_get, if◌then◌else◌}
+use Rattle.std.proofs.Common.{◌≡◌, inl, inr, ℕ, zero, suc, ◌+◌, ◌≤◌, ◌<◌, ◌^◌, Bool, true, false, List, [], ◌∷◌, ◌++◌, length, map, Option, Some, None, IfSome, refl, sym, ◌∙◌, ap, subst, arith, append-nil}
+use Rattle.std.specs.Prelude.{◌^◌, filter, nat_le, fold, replicate, slice_get, if◌then◌else◌}
 use Rattle.std.specs.List.{AllByRecursion, enumerate_from, flat_map}
-use Rattle.std.specs.Option.{option_map}
 use Rattle.std.proofs.lemmas.Bool.Decides.{nat_tests}
 use Rattle.std.proofs.lemmas.List.{length-map, length-replicate}
-use Rattle.std.proofs.lemmas.Option.{slice_get-map}
-use Rattle.std.proofs.Math.Seq.{take-length, drop-length}
 use Rattle.disk_defs.specs.Disk.{Files, View, Image, IsLawful, From, AtEachMoment}
 use Rattle.disk_defs.proofs.Told.{weaker_told, both_weak, told_at}
 use Rattle.disk_defs.proofs.Moments.{weaker, then_more, holds_now}
@@ -16,17 +13,13 @@ use Rattle.global_defs.specs.Fields.{IsSiteName}
 use Rattle.gvn_model.specs.Entries.{entry_value}
 use Rattle.gvn_model.specs.declared.entry.Entry as code
 use Rattle.journal_defs.specs.Instance.{InstanceRecord, Create, Reigned, Cut, Map, Mode, IsInForm, BeginsWithCreate, generation, regions, site_name}
-use Rattle.journal_defs.specs.Directory.{patterns}
 use Rattle.journal_defs.specs.Surviving.{reigns}
 use Rattle.journal_defs.specs.Sequence.{Placed, Records, IsSequence}
-use Rattle.journal_defs.specs.Growth.{AreEntries, with_record}
 use Rattle.journal_defs.specs.Fit.{IsSoundImage}
-use Rattle.journal_defs.specs.Stands.{IsInstance, AreRecords, in_generation}
+use Rattle.journal_defs.specs.Stands.{IsInstance, AreRecords}
 use Rattle.journal_laws.proofs.Readings.{records_one}
-use Rattle.journal_defs.specs.Numbers.{INSTANCE, database_file}
+use Rattle.journal_defs.specs.Numbers.{INSTANCE}
 use Rattle.journal_laws.proofs.Drawing as drawing
-use Rattle.journal_laws.proofs.Targets.{cut_keeps}
-use Rattle.journal_laws.proofs.EveryTarget.{patterns_same}
 use Rattle.journal_laws.proofs.Runs as runs
 use Rattle.instance_file.specs.Instance as instances
 use Rattle.jnl_file.specs.Journal as journals
@@ -35,17 +28,15 @@ use Rattle.jnl_file.specs.declared.journal.Journal.{Journal}
 use Rattle.region_journals.specs.Journals.{AreReady, HasSyncs, KeepsJournals}
 use Rattle.region_journals.specs.Journals as region_journals
 use Rattle.region_journals.specs.declared.journals.RegionJournal.{RegionJournal}
-use Rattle.site_files.specs.Loading.{MayBeOpened, AreRead, WasRead, MayDraw, HasDrawn, next_cut, next_broken, next_pini, starts_in, drawn_records}
-use Rattle.site_files.proofs.Keeping as keeping
+use Rattle.site_files.specs.Loading.{MayBeOpened, AreRead, WasRead, MayDraw, HasDrawn, next_cut, next_broken, next_pini}
 use Rattle.site_files.proofs.Kept.{image_read, held_read}
 use Rattle.site_defs.specs.Contents.{Contents, Leftover}
-use Rattle.site_defs.specs.Fronts.{with_sequence}
 use Rattle.site_defs.specs.Opening.{opened, MayOpen}
 use Rattle.site_defs.specs.Stands.{IsSite, HasLeft, Stands, texts_of, losts_of}
 use Rattle.site_store.specs.declared.site.OpenSite.{OpenSite}
 use Rattle.site_store.specs.Finding.{HasLayout}
 use Rattle.site_regions.specs.Joined.{joined}
-use Rattle.site_store.specs.Site.{Remembers, AreHeld, IsReady, Keeps, IsOpen, AreOnBlocks, WasOpened, WasOpenedFrom}
+use Rattle.site_store.specs.Site.{Remembers, AreHeld, IsReady, IsOpen, AreOnBlocks, WasOpened, WasOpenedFrom}
 use Rattle.gvn_model.specs.Numbered.{numbered}
 use Rattle.site_store.specs.Opening.{MayBeOpen, MayBeOpenWith, EachStands, AreTextsDurable, AreDatabasesDurable}
 use Rattle.site_store.proofs.Remembered.{length-enumerate, are_numbered}
@@ -53,7 +44,6 @@ use Rattle.site_store.proofs.OnBlocks.{on_same}
 use Rattle.site_store.proofs.Found.{instance_one, blank_instance}
 use Rattle.site_store.proofs.Drawn.{S, C, text, site_read, left_read, site_either, standing_either, site_sound, draws_all, texts_kept, losts_kept}
 use Rattle.site_store.proofs.OpenedTo.{newly, newly_at, open_to}
-use Rattle.site_store.proofs.Parts.{no_entry_no_part}
 
 pub length_values : (es : List code.Entry) → length (map entry_value es) ≡ length es
 length_values [] = refl
@@ -277,9 +267,9 @@ module _ (u v w : View) (rs : List InstanceRecord) (last : ℕ → ℕ) (journal
       let open_c : MayOpen broken c res.0 = subst (λ (x : Contents). MayOpen broken x res.0) (sym is.1) res.1 in
       (res.0, subst (λ (t : List ℕ). MayOpen t c res.0) (left_is files c left r.holds site has) open_c, res.2)))
 
-  pub room_left : IfSome u.content (λ files. (qs : List InstanceRecord) → IsInstance (files INSTANCE) qs → generation qs < 65534)
-  room_left = weaker_told u.content (WasRead v rs last journal) (λ files. (qs : List InstanceRecord) → IsInstance (files INSTANCE) qs → generation qs < 65534) read
-      (λ files r qs is. subst (λ (l : List InstanceRecord). generation l < 65534) (instance_one (files INSTANCE) rs qs r.holds.instance is) form.room)
+  pub room_left : generation rs < 65534 → IfSome u.content (λ files. (qs : List InstanceRecord) → IsInstance (files INSTANCE) qs → generation qs < 65534)
+  room_left low = weaker_told u.content (WasRead v rs last journal) (λ files. (qs : List InstanceRecord) → IsInstance (files INSTANCE) qs → generation qs < 65534) read
+      (λ files r qs is. subst (λ (l : List InstanceRecord). generation l < 65534) (instance_one (files INSTANCE) rs qs r.holds.instance is) low)
 
   -- each image is sound when it stood for something
   sound_image : (files : Files) → WasRead v rs last journal files → EachStands u → (d : Files) → Image v d → IsSoundImage d S0 seq
