@@ -35,6 +35,8 @@ use Rattle.site_runner.specs.Rolling.{IsDownAt}
 use Rattle.site_runner.proofs.Amongs.{among_flat, flat_among}
 use Rattle.site_runner.proofs.Ats.{is_true_or_false, told_is, some_and, some_both, reads_site, is_site, standing_of, by_shown, reads_image, at_moment, as_told, shown_same, only, Leftovers, StandBy, ImagesStand, images_still, stand_by, stands_by, images_of, standings_of, up_down, place_of_one, stands_with}
 use Rattle.site_runner.proofs.Seen.{counted}
+use Rattle.site_runner.proofs.Started.{each_stands}
+use Rattle.site_store.specs.Opening.{EachStands}
 
 -- Steps whose ends are covered by finitely many.
 
@@ -244,10 +246,10 @@ early_none s p e h = ap (in_state why_not_down) h ∙ ap (λ (x : State). why_no
 -- What the calls say of each moment, from a site that is down.
 
 abbrev pub StepsAt : (List ℕ → Contents → Contents → Type 0) → View → View → Type 0
-StepsAt step v w = IfSome v.content (λ files. (c : Contents) (left : Leftover) → IsSite files c → HasLeft files c left → AtEachMoment v w (From (Image v) (λ was now. (c : Contents) → IsSite was c → (o : Contents) × step left.broken c o × IsSite now o)))
+StepsAt step v w = IfSome v.content (λ files. (c : Contents) (left : Leftover) → IsSite files c → HasLeft files c left → EachStands v → AtEachMoment v w (From (Image v) (λ was now. (c : Contents) → IsSite was c → (o : Contents) × step left.broken c o × IsSite now o)))
 
 abbrev pub StepsSo : (Standing → Standing → Type 0) → View → View → Type 0
-StepsSo so v w = IfSome v.content (λ files. (c : Contents) → IsSite files c → AtEachMoment v w (From (Image v) (λ was now. (s : Standing) → IsStanding was s → (o : Standing) × so s o × IsStanding now o)))
+StepsSo so v w = IfSome v.content (λ files. (c : Contents) → IsSite files c → EachStands v → AtEachMoment v w (From (Image v) (λ was now. (s : Standing) → IsStanding was s → (o : Standing) × so s o × IsStanding now o)))
 
 -- the standings then
 stepped_so : (so : Standing → Standing → Type 0) (v w : View) (s : Site) (p : Place) → IsLawful w → s.state ≡ Down → IsAt v s p → StepsSo so v w → p.told ≡ true → ImagesAfter so w p.standings
@@ -261,7 +263,7 @@ stepped_so so v w s p law down h steps sure = among p.standings (standings_of v 
     among (Some os) k = λ f i.
         let made : IsMade s.name p = h.held.made sure in
         let here = some_both v.content _ _ (h.disk.told sure) steps in
-        let each = here.2 p.now (reads_site here.0 p.now p.left made.now.made here.1).0 in
+        let each = here.2 p.now (reads_site here.0 p.now p.left made.now.made here.1).0 (each_stands v p h.disk sure) in
         let from = at_moment v w _ f law each i in
         let out = images_of v p up h.disk sure from.0 from.1 in
         let was = k from.0 from.1 in
@@ -276,7 +278,7 @@ may_have step so v w s p law down h steps steps_so still same = record {
       let made : IsMade s.name p = h.held.made sure in
       let here = some_both v.content _ _ (h.disk.told sure) steps in
       let site = reads_site here.0 p.now p.left made.now.made here.1 in
-      let each = here.2 p.now p.left site.0 site.1 in
+      let each = here.2 p.now p.left site.0 site.1 (each_stands v p h.disk sure) in
       let from = at_moment v w _ f law each i in
       let was = images_of v p (up_down s p down h.site) h.disk sure from.0 from.1 in
       let now = from.2 was.0 (is_site from.0 was.0 (made.outcomes was.0 was.1).made was.2) in

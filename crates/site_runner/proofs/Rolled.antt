@@ -466,3 +466,7 @@ refuses_so number v w u s new before now done law down content untouched same la
 
 pub cut_down_so : (number : ℕ) (v w u : View) (s : Site) → IsLawful w → s.state ≡ Down → w.content ≡ v.content → AtEachMoment v w (Image v) → w.simulated ≡ v.simulated → v.faults ≤ w.faults → IsCutDown number w s u → IsCutAt (rollback number s.name) v s u
 cut_down_so number v w u s law down content untouched same later r p h = r p (still_down v w s p law content untouched same later (down_at v s p down h))
+
+-- under the site's own name
+pub region_told : {name n before now : List ℕ} (o : Option RegionSpec) (g : ℕ) → n ≡ name → TellsRegion o n g before now → TellsRegion o name g before now
+region_told {name} {n} {before} {now} o g e t = subst (λ (x : List ℕ). TellsRegion o x g before now) e t
