@@ -63,7 +63,7 @@ pub record MayHave (step : Contents → Contents → Type 0) (so : Standing → 
   pub standings : p.told ≡ true → ImagesAfter so w p.standings
   pub simulated : w.simulated ≡ p.simulated
 
-after_standings : {so : Standing → Standing → Type 0} → EndsSo so → Option (List Standing) → Option (List Standing)
+abbrev pub after_standings : {so : Standing → Standing → Type 0} → EndsSo so → Option (List Standing) → Option (List Standing)
 after_standings ends None = None
 after_standings ends (Some os) = Some (flat_map ends.all os)
 

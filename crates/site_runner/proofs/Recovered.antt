@@ -105,14 +105,14 @@ pub recover_cut : (leftovers : Leftovers) (v w : View) (s : Site) → IsLawful w
 recover_cut leftovers v w s law down steps steps_so still same later p h =
     left_cut leftovers (MayRecover p.left.broken) MayRecoverLeft (ends p.left.broken) ends_so w s.name p law (may_have MayRecover MayRecoverLeft v w s p law down h steps steps_so still same) (omega (arith, later, h.disk.faults))
 
-early_down : {v : View} (s : Site) (p : Place) → IsDownAt v s p → (recover_backward s.name p).early ≡ None
-early_down {v} s p h = ap (refused_with s.name) (early_none s p h.down h.site)
+early_down : (v : View) (s : Site) (p : Place) → IsDownAt v s p → (recover_backward s.name p).early ≡ None
+early_down v s p h = ap (refused_with s.name) (early_none s p h.down h.site)
 
 pub recover_fault : (leftovers : Leftovers) (v w : View) (s : Site) (k : ℕ) (before now : List ℕ) → IsLawful w → s.state ≡ Down → StepsAt MayRecover v w → StepsSo MayRecoverLeft v w → (IsSome v.content → IsSome w.content) → w.simulated ≡ v.simulated
     → k ≡ w.faults → Rose v.faults w.faults → now ≡ before ++ line s.name (codes "DISKFAULT " ++ decimal k) → ExecutesAt (recover_backward s.name) v s w (record { name = s.name; state = Failed k }) before now false
 recover_fault leftovers v w s k before now law down steps steps_so still same count rose t p h =
     let l = left_failed leftovers (MayRecover p.left.broken) MayRecoverLeft (ends p.left.broken) ends_so w s p k law h.site h.held.made (may_have MayRecover MayRecoverLeft v w s p law down h steps steps_so still same) count (subst (λ (x : ℕ). Rose x w.faults) h.disk.faults rose) in
-    comes_fault k l.becomes (early_down {v} s p (down_at v s p down h)) l.fails l.there t
+    comes_fault k l.becomes (early_down v s p (down_at v s p down h)) l.fails l.there t
 
 -- nothing was written
 
@@ -129,7 +129,7 @@ recover_limit v w s before now law down limit by content untouched same later t 
       (refused_late s.name (in_state why_not_down p.site) (where_known p (generation_limit p.now)) GenLimit (early_none s p down h.site)
       (limit_known p sure (generation_past p.now (here.2 p.now.instance (subst (λ (rs : List InstanceRecord). IsInstance (here.0 INSTANCE) rs) site.instance site.image.held.instance)))))
       (kept_counted p w.faults after.faults) bytes (down_counted w s p after) t
-  | inr unsure ↦ comes_may_refuse no (counted p w.faults) (early_down {w} s p after) (refl, record { unknown = unsure; kept = kept_counted p w.faults after.faults }) bytes (down_counted w s p after) t
+  | inr unsure ↦ comes_may_refuse no (counted p w.faults) (early_down w s p after) (refl, record { unknown = unsure; kept = kept_counted p w.faults after.faults }) bytes (down_counted w s p after) t
 ]
   where
     no : Refusal
@@ -145,7 +145,7 @@ pub recover_damaged : (v w : View) (s : Site) (file offset : ℕ) (before now : 
     → IfSome v.content (λ _. w.content ≡ v.content) → w.simulated ≡ v.simulated → v.faults ≤ w.faults → now ≡ before ++ line s.name (codes "NOTAFILE " ++ decimal file ++ 32 ∷ decimal offset) → ExecutesAt (recover_backward s.name) v s w s before now false
 recover_damaged v w s file offset before now down outside bytes unwritten same later t p h =
     let unsure : p.told ≡ false = not_true p.told (λ sure. let here = some_both v.content _ _ (stands_told v p h.disk sure) outside in here.2 p.now (is_site here.0 p.now (h.held.made sure).now.made here.1)) in
-    comes_damaged file offset (counted p w.faults) (early_down {v} s p (down_at v s p down h)) (record { unknown = unsure; kept = kept_counted p w.faults (omega (arith, later, h.disk.faults)) })
+    comes_damaged file offset (counted p w.faults) (early_down v s p (down_at v s p down h)) (record { unknown = unsure; kept = kept_counted p w.faults (omega (arith, later, h.disk.faults)) })
     (by_shown p.shown v.content (λ files. IsOutsideOpening files file offset) h.disk.shown bytes)
     (unknown_at w s p down h.site unsure (shown_unwritten p.shown v.content w.content unwritten h.disk.shown) (same ∙ h.disk.simulated)) t
 

@@ -1,5 +1,5 @@
 -- ROLLBACK RESYNC at a place.
-use Rattle.std.proofs.Common.{◌≡◌, ℕ, zero, suc, ◌+◌, ◌-◌, ◌≤◌, ◌<◌, min, Bool, true, false, List, [], ◌∷◌, ◌++◌, length, map, None, Some, refl, sym, ◌∙◌, ap, subst, arith, inl, inr, if◌then◌else◌, length-take-le, slice_get}
+use Rattle.std.proofs.Common.{◌≡◌, ℕ, zero, suc, ◌+◌, ◌-◌, ◌≤◌, ◌<◌, min, Bool, true, false, List, [], ◌∷◌, ◌++◌, length, drop, map, None, Some, refl, sym, ◌∙◌, ap, subst, arith, inl, inr, if◌then◌else◌, length-take-le, slice_get}
 use Rattle.std.specs.Prelude.{◌⊎◌, ◌&&◌, ◌||◌, ◌==◌, not, Option, codes, IfSome, IsSome, IsSomeAnd}
 use Rattle.std.specs.Fmt.{decimal}
 use Rattle.std.specs.List.{AllByRecursion, filter_map, cons_option, list_any, find}
@@ -8,10 +8,11 @@ use Rattle.std.proofs.lemmas.Bool.{false≢true, eqb-true}
 use Rattle.disk_defs.specs.Disk.{Files, View, Image, IsLawful, AtEachMoment, Rose}
 use Rattle.disk_defs.proofs.Told.{both_weak}
 use Rattle.global_defs.specs.Entry.{Sequence}
+use Rattle.global_defs.specs.Extract.{field, entries_text}
 use Rattle.journal_defs.specs.Numbers.{INSTANCE}
 use Rattle.journal_defs.specs.Journal.{JournalRecord, Start, Pini, Epoch, Pblk, Tcom, IsNoPini, BeginsWithPini}
 use Rattle.journal_defs.specs.Instance as records
-use Rattle.journal_defs.specs.Instance.{InstanceRecord, NamedMode, generation, regions}
+use Rattle.journal_defs.specs.Instance.{InstanceRecord, NamedMode, generation, regions, site_name}
 use Rattle.journal_defs.specs.Sequence.{Placed, Records, IsSequence}
 use Rattle.journal_defs.specs.Stands.{IsInstance, IsJournal, AreRecords, in_generation}
 use Rattle.journal_defs.specs.Epochs.{Chosen, chosen, starts_without, is_without, first_without}
@@ -72,7 +73,7 @@ some_bytes : (b : ℕ) (xs : List ℕ) → 1 ≤ length (b ∷ xs)
 some_bytes b xs = omega arith
 
 untold_fits : (t : ℕ) (c : Contents) → length UNTOLD ≤ length (lost_text t c)
-untold_fits t c = some_bytes 71 _
+untold_fits t c = some_bytes 71 ((codes "TMRJEX01" ++ (field (site_name c.instance) ++ field (decimal (t + 1)) ++ 10 ∷ [])) ++ entries_text (t + 1) (drop (t + 1 - 1) c.sequence))
 
 rolls_are : (t : ℕ) (broken : List ℕ) (c o : Contents) → Among (rolls_to t broken c) o → MayRollBack t broken c o
 rolls_are t broken c o (inl e) = inl e
@@ -167,15 +168,15 @@ rollback_cut leftovers number v w s law down steps steps_so still same later p h
     left_cut leftovers (MayRollBackTo number p.left.broken) (MayRollBackToLeft number) (ends number p.left.broken) (ends_so number) w s.name p law (may_have (MayRollBackTo number) (MayRollBackToLeft number) v w s p law down h steps steps_so still same)
     (omega (arith, later, h.disk.faults))
 
-early_down : {v : View} (number : ℕ) (s : Site) (p : Place) → IsDownAt v s p → (rollback number s.name p).early ≡ None
-early_down {v} number s p h = ap (refused_with s.name) (early_none s p h.down h.site)
+early_down : (v : View) (number : ℕ) (s : Site) (p : Place) → IsDownAt v s p → (rollback number s.name p).early ≡ None
+early_down v number s p h = ap (refused_with s.name) (early_none s p h.down h.site)
 
 pub rollback_fault : (leftovers : Leftovers) (number : ℕ) (v w : View) (s : Site) (k : ℕ) (before now : List ℕ) → IsLawful w → s.state ≡ Down → StepsAt (MayRollBackTo number) v w → StepsSo (MayRollBackToLeft number) v w → (IsSome v.content → IsSome w.content)
     → w.simulated ≡ v.simulated → k ≡ w.faults → Rose v.faults w.faults → now ≡ before ++ line s.name (codes "DISKFAULT " ++ decimal k) → ExecutesAt (rollback number s.name) v s w (record { name = s.name; state = Failed k }) before now false
 rollback_fault leftovers number v w s k before now law down steps steps_so still same count rose t p h =
     let l = left_failed leftovers (MayRollBackTo number p.left.broken) (MayRollBackToLeft number) (ends number p.left.broken) (ends_so number) w s p k law h.site h.held.made
     (may_have (MayRollBackTo number) (MayRollBackToLeft number) v w s p law down h steps steps_so still same) count (subst (λ (x : ℕ). Rose x w.faults) h.disk.faults rose) in
-    comes_fault k l.becomes (early_down {v} number s p (down_at v s p down h)) l.fails l.there t
+    comes_fault k l.becomes (early_down v number s p (down_at v s p down h)) l.fails l.there t
 
 -- nothing was written
 
@@ -192,7 +193,7 @@ rollback_limit number v w s before now law down limit by content untouched same 
       (refused_late s.name (in_state why_not_down p.site) (where_known p (generation_limit p.now)) GenLimit (early_none s p down h.site)
       (limit_known p sure (generation_past p.now (here.2 p.now.instance (subst (λ (rs : List InstanceRecord). IsInstance (here.0 INSTANCE) rs) site.instance site.image.held.instance)))))
       (kept_counted p w.faults after.faults) bytes (down_counted w s p after) t
-  | inr unsure ↦ comes_may_refuse no (counted p w.faults) (early_down {w} number s p after) (inl (refl, record { unknown = unsure; kept = kept_counted p w.faults after.faults })) bytes (down_counted w s p after) t
+  | inr unsure ↦ comes_may_refuse no (counted p w.faults) (early_down w number s p after) (inl (refl, record { unknown = unsure; kept = kept_counted p w.faults after.faults })) bytes (down_counted w s p after) t
 ]
   where
     no : Refusal
@@ -208,7 +209,7 @@ pub rollback_damaged : (number : ℕ) (v w : View) (s : Site) (file offset : ℕ
     → IfSome v.content (λ _. w.content ≡ v.content) → w.simulated ≡ v.simulated → v.faults ≤ w.faults → now ≡ before ++ line s.name (codes "NOTAFILE " ++ decimal file ++ 32 ∷ decimal offset) → ExecutesAt (rollback number s.name) v s w s before now false
 rollback_damaged number v w s file offset before now down outside bytes unwritten same later t p h =
     let unsure : p.told ≡ false = not_true p.told (λ sure. let here = some_both v.content _ _ (stands_told v p h.disk sure) outside in here.2 p.now (is_site here.0 p.now (h.held.made sure).now.made here.1)) in
-    comes_damaged file offset (counted p w.faults) (early_down {v} number s p (down_at v s p down h)) (record { unknown = unsure; kept = kept_counted p w.faults (omega (arith, later, h.disk.faults)) })
+    comes_damaged file offset (counted p w.faults) (early_down v number s p (down_at v s p down h)) (record { unknown = unsure; kept = kept_counted p w.faults (omega (arith, later, h.disk.faults)) })
     (by_shown p.shown v.content (λ files. IsOutsideRollback (number - 1) files file offset) h.disk.shown bytes)
     (unknown_at w s p down h.site unsure (shown_unwritten p.shown v.content w.content unwritten h.disk.shown) (same ∙ h.disk.simulated)) t
 
@@ -250,7 +251,7 @@ rollback_done number v w s kept lost before now down read told held same later t
     (t ∙ ap (λ (m : ℕ). says m lost) kept_is ∙ ap (λ (g : ℕ). says (length d.becomes.now.sequence) g) lost_is)
   where
     r : WasRead (StaysAndLost number kept lost) p
-    r = was_read (StaysAndLost number kept lost) v s p h read (if_some v.content (RolledFrom number kept lost) (HeldSo (StaysAndLost number kept lost)) (λ f k. (k.0, k.1, k.2, k.3, (k.4, k.5))) held)
+    r = was_read (StaysAndLost number kept lost) v s p h (read.0, (read.1, read.2)) (if_some v.content (RolledFrom number kept lost) (HeldSo (StaysAndLost number kept lost)) (λ f k. (k.0, k.1, k.2, k.3, (k.4, k.5))) held)
 
     c : Contents
     c = rolled (stay_of number r.read) p.left.broken r.read
@@ -280,19 +281,19 @@ rollback_done number v w s kept lost before now down read told held same later t
 
 any_of : {X : Type 0} (test : X → Bool) (xs : List X) → list_any test xs ≡ true → (x : X) × Among xs x × (test x ≡ true)
 any_of test [] e = absurd (false≢true e)
-any_of {X} test (x ∷ xs) e = by (test x) refl e
+any_of {X} test (x ∷ xs) e = by (test x) refl e (λ h. any_of test xs h)
   where
-    by : (b : Bool) → test x ≡ b → (b || list_any test xs) ≡ true → (y : X) × Among (x ∷ xs) y × (test y ≡ true)
-    by true is h = (x, inl refl, is)
-    by false is h = let k = any_of test xs h in (k.0, inr k.1, k.2)
+    by : (b : Bool) → test x ≡ b → (b || list_any test xs) ≡ true → (list_any test xs ≡ true → (y : X) × Among xs y × (test y ≡ true)) → (y : X) × Among (x ∷ xs) y × (test y ≡ true)
+    by true is h more = (x, inl refl, is)
+    by false is h more = let k = more h in (k.0, inr k.1, k.2)
 
 found_passes : {X : Type 0} (test : X → Bool) (xs : List X) (x : X) → find test xs ≡ Some x → test x ≡ true
 found_passes test [] x e = cc
-found_passes test (y ∷ xs) x e = by (test y) refl e
+found_passes test (y ∷ xs) x e = by (test y) refl e (λ h. found_passes test xs x h)
   where
-    by : (b : Bool) → test y ≡ b → (if b then Some y else find test xs) ≡ Some x → test x ≡ true
-    by true is h = let same : y ≡ x = cc in ap test (sym same) ∙ is
-    by false is h = found_passes test xs x h
+    by : (b : Bool) → test y ≡ b → (if b then Some y else find test xs) ≡ Some x → (find test xs ≡ Some x → test x ≡ true) → test x ≡ true
+    by true is h more = let same : y ≡ x = cc in ap test (sym same) ∙ is
+    by false is h more = more h
 
 mapped_from : {X Y : Type 0} (f : X → Y) (o : Option X) (y : Y) → option_map f o ≡ Some y → (x : X) × (o ≡ Some x) × (f x ≡ y)
 mapped_from f None y e = cc
@@ -427,10 +428,10 @@ region_refused number region g v w s found rs before now law needs content untou
     by None e text =
         let never : IfSome v.content (λ files. ⊥) = if_some v.content (FoundSo number region g rs) (λ files. ⊥) (λ f k. outside_found number region g found rs f layout e k) so in
         let unsure : p.told ≡ false = not_true p.told (λ sure. (some_both v.content _ _ (h.reads sure) never).2) in
-        comes_damaged 0 0 (counted p w.faults) (early_down {v} number s p h) (record { unknown = unsure; kept = kept_counted p w.faults after.faults })
+        comes_damaged 0 0 (counted p w.faults) (early_down v number s p h) (record { unknown = unsure; kept = kept_counted p w.faults after.faults })
         (by_shown p.shown v.content (λ files. IsOutsideRollback (number - 1) files 0 0) h.shown (if_some v.content (λ files. ⊥) (λ files. IsOutsideRollback (number - 1) files 0 0) (λ f no. absurd no) never)) (down_counted w s p after) text
     by (Some spec) e text =
-        comes_may_refuse (record { site = s.name; cause = NoBefore spec.name g }) (counted p w.faults) (early_down {v} number s p h) (inr (spec.name, g, refl, began spec e, kept_counted p w.faults after.faults))
+        comes_may_refuse (record { site = s.name; cause = NoBefore spec.name g }) (counted p w.faults) (early_down v number s p h) (inr (spec.name, g, refl, began spec e, kept_counted p w.faults after.faults))
         (by_shown p.shown v.content (RollbackRefusedBy number (NoBefore spec.name g)) h.shown (if_some v.content (FoundSo number region g rs) (RollbackRefusedBy number (NoBefore spec.name g)) (λ f k. first_by_name number region g found rs spec f layout e k) so))
         (down_counted w s p after) text
 
@@ -440,9 +441,9 @@ pub find_damaged : (number : ℕ) (v w : View) (s : Site) (file offset : ℕ) (b
 find_damaged number v w s file offset before now law content untouched same later outside bytes t p h =
     let after : IsDownAt w s p = still_down v w s p law content untouched same later h in
     let unsure : p.told ≡ false = not_true p.told (λ sure. let here = some_both v.content _ _ (h.reads sure) outside in here.2 p.now (reads_site here.0 p.now p.left ((h.made sure).now.made) here.1).0) in
-    comes_damaged file offset (counted p w.faults) (early_down {v} number s p h) (record { unknown = unsure; kept = kept_counted p w.faults after.faults })
+    comes_damaged file offset (counted p w.faults) (early_down v number s p h) (record { unknown = unsure; kept = kept_counted p w.faults after.faults })
     (by_shown p.shown v.content (λ files. IsOutsideRollback (number - 1) files file offset) h.shown (if_some v.content (HasNoLayout file offset) (λ files. IsOutsideRollback (number - 1) files file offset)
-    (λ f k. elim k [ inl no ↦ inl (inl (inl no)) | inr none ↦ inl (inl (inr (inl none))) ]) bytes))
+    (λ f k. elim k [ inl a ↦ inl (inl (inl a)) | inr b ↦ inl (inl (inr (inl b))) ]) bytes))
     (down_counted w s p after) t
 
 pub find_fault : (leftovers : Leftovers) (number : ℕ) (v w : View) (s : Site) (k : ℕ) (before now : List ℕ) → IsLawful w → w.content ≡ v.content → AtEachMoment v w (Image v) → w.simulated ≡ v.simulated → v.faults ≤ w.faults → k ≡ w.faults → Rose v.faults w.faults
@@ -451,7 +452,7 @@ find_fault leftovers number v w s k before now law content untouched same later 
     let after : IsDownAt w s p = still_down v w s p law content untouched same later h in
     let l = left_failed leftovers (MayRollBackTo number p.left.broken) (MayRollBackToLeft number) (ends number p.left.broken) (ends_so number) w s p k law h.site h.made
     (nothing_had (MayRollBackTo number p.left.broken) (MayRollBackToLeft number) w s p (λ c. inl refl) (λ x. inl refl) after) count (omega (arith, rose, h.faults)) in
-    comes_fault k l.becomes (early_down {v} number s p h) l.fails l.there t
+    comes_fault k l.becomes (early_down v number s p h) l.fails l.there t
 
 pub find_cut : (leftovers : Leftovers) (number : ℕ) (v w : View) (s : Site) → IsLawful w → w.content ≡ v.content → AtEachMoment v w (Image v) → w.simulated ≡ v.simulated → v.faults ≤ w.faults → IsCutDown number v s w
 find_cut leftovers number v w s law content untouched same later p h =
@@ -468,5 +469,5 @@ pub cut_down_so : (number : ℕ) (v w u : View) (s : Site) → IsLawful w → s.
 cut_down_so number v w u s law down content untouched same later r p h = r p (still_down v w s p law content untouched same later (down_at v s p down h))
 
 -- under the site's own name
-pub region_told : {name n before now : List ℕ} (o : Option RegionSpec) (g : ℕ) → n ≡ name → TellsRegion o n g before now → TellsRegion o name g before now
-region_told {name} {n} {before} {now} o g e t = subst (λ (x : List ℕ). TellsRegion o x g before now) e t
+pub region_told : (name n before now : List ℕ) (o : Option RegionSpec) (g : ℕ) → n ≡ name → TellsRegion o n g before now → TellsRegion o name g before now
+region_told name n before now o g e t = subst (λ (x : List ℕ). TellsRegion o x g before now) e t

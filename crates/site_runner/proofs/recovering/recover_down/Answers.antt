@@ -62,7 +62,7 @@ returns-in-Err-NotAFile-clause-cut_off g c =
     let e = c.in-Err-NotAFile.ensures in
     err_holds c.damaged.result _ (recover_cut c.leftovers_hold.ensures (g.D.Disk.disk c.args.disk.now) (g.D.Disk.disk c.recover_backward.new.disk) c.args.site.now (g.met.D.Disk.lawful c.recover_backward.new.disk) c.requires e.any_moment e.left e.still_told e.simulated e.later)
 
-pub returns : goal.returns
-returns g c =
+pub returns-in-Err : goal.returns-in-Err
+returns-in-Err g c =
     let e = c.in-Err.ensures in
     record { ready = tt; done = tt; cut_off = recover_cut c.leftovers_hold.ensures (g.D.Disk.disk c.args.disk.now) (g.D.Disk.disk c.recover_backward.new.disk) c.args.site.now (g.met.D.Disk.lawful c.recover_backward.new.disk) c.requires e.any_moment e.left e.still_told e.simulated e.later }

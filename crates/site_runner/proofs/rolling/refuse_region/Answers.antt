@@ -1,4 +1,4 @@
-use Rattle.std.proofs.Common.{Bool, ap, ◌∙◌, Ok, Err, Option, IfSome, subst}
+use Rattle.std.proofs.Common.{Bool, slice_get, ap, ◌∙◌, Ok, Err, Option, IfSome, subst}
 use Rattle.site_store.specs.Finding.{IsFoundIn, layout_in}
 use Rattle.site_store.specs.declared.layout.FoundSite.{FoundSite}
 use Rattle.site_runner.specs.Rolling.{RefusesAt}
@@ -16,7 +16,7 @@ returns-in-Ok-Some-clause-done g c number needs =
     let found = subst (λ (o : Option FoundSite). IfSome o (IsFoundIn (g.D.Disk.disk c.find.new.disk))) c.in-Ok-Some.field-0-is e.told in
     on_not_done c.refuse_found.result _ _ c.refuse_found.ensures (λ t.
     region_refused number c.args.region c.args.generation (g.D.Disk.disk c.args.disk.now) (g.D.Disk.disk c.find.new.disk) c.args.site.now c.in-Ok-Some.found.layout c.in-Ok-Some.found.log.records c.args.text.now _ (g.met.D.Disk.lawful c.find.new.disk) needs e.content e.untouched e.simulated e.later
-    found.told found.layout (region_told _ c.args.generation c.as_slice.ensures t))
+    found.told found.layout (region_told c.args.site.now.name c.as_slice.result.now c.args.text.now c.refuse_found.new.text (slice_get c.in-Ok-Some.found.layout.regions.items c.args.region) c.args.generation c.as_slice.ensures t))
 
 pub returns-in-Ok-Some-clause-cut_off : goal.returns-in-Ok-Some-clause-cut_off
 returns-in-Ok-Some-clause-cut_off g c number =
@@ -66,7 +66,7 @@ returns-in-Err-NotAFile-clause-cut_off g c number =
     let e = c.in-Err-NotAFile.ensures in
     err_holds c.damaged-in-Err-NotAFile.result _ (find_cut c.leftovers_hold.ensures number (g.D.Disk.disk c.args.disk.now) (g.D.Disk.disk c.find.new.disk) c.args.site.now (g.met.D.Disk.lawful c.find.new.disk) e.content e.untouched e.simulated e.later)
 
-pub returns : goal.returns
-returns g c =
+pub returns-in-Err : goal.returns-in-Err
+returns-in-Err g c =
     let e = c.in-Err.ensures in
     record { ready = tt; done = λ number needs. tt; cut_off = λ number. find_cut c.leftovers_hold.ensures number (g.D.Disk.disk c.args.disk.now) (g.D.Disk.disk c.find.new.disk) c.args.site.now (g.met.D.Disk.lawful c.find.new.disk) e.content e.untouched e.simulated e.later }
