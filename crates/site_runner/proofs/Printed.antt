@@ -30,8 +30,8 @@ print_stopped lost g v s cause p e h = ap (refused_with s.name) (state_at stoppe
 -- which no file decides
 pub print_early : (name : Name) (lost : Bool) (g : ℕ) (state : world.State) (cause : Cause) (p : Place) → stopped state ≡ Some cause → IfShown p (TypedBy lost g (Refused (record { site = name; cause = cause })))
 print_early name lost g world.Down cause p e = cc
-print_early name g (world.Primary stamp serials) cause p e = cc
-print_early name g (world.Failed k) cause p e = let same : Stopped k ≡ cause = cc in never p.shown (λ is. (let no : Stopped k ≡ NoFile = same ∙ is in cc))
+print_early name lost g (world.Primary stamp serials) cause p e = cc
+print_early name lost g (world.Failed k) cause p e = let same : Stopped k ≡ cause = cc in never p.shown (λ is. (let no : Stopped k ≡ NoFile = same ∙ is in cc))
   where
     never : (x : Option Files) → (cause ≡ NoFile → ⊥) → IfSome x (λ f. cause ≡ NoFile → f (file_typed lost g) ≡ [])
     never None f = tt
@@ -174,5 +174,5 @@ full_is [] e n = cc
 full_is (b ∷ bytes) e n = cc
 
 -- by the file's number
-pub text_of : (lost : Bool) (g file : ℕ) (o : Option Files) (bytes : List ℕ) {old : List ℕ} → file ≡ file_typed lost g → IfSome o (λ files. bytes ≡ old ++ files file) → IfSome o (λ files. bytes ≡ old ++ files (file_typed lost g))
-text_of lost g file o bytes {old} e h = subst (λ (n : ℕ). IfSome o (λ files. bytes ≡ old ++ files n)) e h
+pub text_of : (lost : Bool) (g file : ℕ) (o : Option Files) (old bytes : List ℕ) → file ≡ file_typed lost g → IfSome o (λ files. bytes ≡ old ++ files file) → IfSome o (λ files. bytes ≡ old ++ files (file_typed lost g))
+text_of lost g file o old bytes e h = subst (λ (n : ℕ). IfSome o (λ files. bytes ≡ old ++ files n)) e h

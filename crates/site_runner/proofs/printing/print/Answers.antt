@@ -9,7 +9,7 @@ use Rattle.site_runner.proofs.Ats.{kept_same, refuses_by, why_is, none_why, on_n
 use Rattle.site_runner.proofs.Fused.{ready_read_on}
 use Rattle.site_runner.proofs.Results.{on_refused, err_holds}
 use Rattle.site_runner.proofs.Written.{named}
-use Rattle.site_runner.proofs.Printed.{typing_of, print_stopped, print_early, print_none, printed, print_fault, print_cut, empty_is, full_is}
+use Rattle.site_runner.proofs.Printed.{typing_of, text_of, print_stopped, print_early, print_none, printed, print_fault, print_cut, empty_is, full_is}
 use Rattle.site_runner.proofs.printing.print.Goals as goal
 
 pub returns-in-Some-clause-done : goal.returns-in-Some-clause-done
@@ -25,7 +25,7 @@ returns-then-is_empty-clause-done g c =
     let e = c.in-Ok.ensures in
     on_not_done c.refuse-then-is_empty.result _ _ c.refuse-then-is_empty.ensures (λ t.
     print_none c.args.lost (typing_of c.args.lost c.typing_reads_files.ensures.broken c.typing_reads_files.ensures.lost) c.args.generation (g.D.Disk.disk c.args.disk.now) (g.D.Disk.disk c.read_file.new.disk) c.args.site.now c.new-bytes.result c.read_file.new.out c.args.text.now _ e.reads e.later (none_why c.why_stopped.result (stopped (state_value c.args.site.now.state)) c.why_stopped.ensures c.in_default.is)
-    c.requires.some c.requires.most c.new-bytes.ensures (text_of c.args.lost c.args.generation _ _ _ c.typed_file.ensures e.text) (empty_is c.read_file.new.out (sym c.is_empty.ensures ∙ c.if-is_empty.true)) (named _ _ c.as_slice-then-is_empty.ensures t))
+    c.requires.some c.requires.most c.new-bytes.ensures (text_of c.args.lost c.args.generation c.typed_file.result (g.D.Disk.disk c.args.disk.now).content c.new-bytes.result c.read_file.new.out c.typed_file.ensures e.text) (empty_is c.read_file.new.out (sym c.is_empty.ensures ∙ c.if-is_empty.true)) (named _ _ c.as_slice-then-is_empty.ensures t))
 
 pub returns-then-is_empty-clause-cut_off : goal.returns-then-is_empty-clause-cut_off
 returns-then-is_empty-clause-cut_off g c = err_holds c.refuse-then-is_empty.result _ (print_cut c.args.lost c.args.generation (g.D.Disk.disk c.args.disk.now) (g.D.Disk.disk c.read_file.new.disk) c.args.site.now c.in-Ok.ensures.reads c.in-Ok.ensures.later)
@@ -34,7 +34,7 @@ pub returns-in-Ok-clause-done : goal.returns-in-Ok-clause-done
 returns-in-Ok-clause-done g c =
     let e = c.in-Ok.ensures in
     printed c.args.lost (typing_of c.args.lost c.typing_reads_files.ensures.broken c.typing_reads_files.ensures.lost) c.args.generation (g.D.Disk.disk c.args.disk.now) (g.D.Disk.disk c.read_file.new.disk) c.args.site.now c.new-bytes.result c.read_file.new.out c.args.text.now _ e.reads e.later (none_why c.why_stopped.result (stopped (state_value c.args.site.now.state)) c.why_stopped.ensures c.in_default.is)
-    c.requires.some c.requires.most c.new-bytes.ensures (text_of c.args.lost c.args.generation _ _ _ c.typed_file.ensures e.text) (full_is c.read_file.new.out (sym c.is_empty.ensures ∙ c.if-is_empty.false)) (c.in_ok-push_all-in-Ok.ensures.ok ∙ ap (λ (x : List ℕ). c.args.text.now ++ x) c.as_slice-in-Ok.ensures)
+    c.requires.some c.requires.most c.new-bytes.ensures (text_of c.args.lost c.args.generation c.typed_file.result (g.D.Disk.disk c.args.disk.now).content c.new-bytes.result c.read_file.new.out c.typed_file.ensures e.text) (full_is c.read_file.new.out (sym c.is_empty.ensures ∙ c.if-is_empty.false)) (c.in_ok-push_all-in-Ok.ensures.ok ∙ ap (λ (x : List ℕ). c.args.text.now ++ x) c.as_slice-in-Ok.ensures)
 
 pub returns-in_err-push_all-in-Ok-clause-cut_off : goal.returns-in_err-push_all-in-Ok-clause-cut_off
 returns-in_err-push_all-in-Ok-clause-cut_off g c = err_holds c.from_residual.result _ (print_cut c.args.lost c.args.generation (g.D.Disk.disk c.args.disk.now) (g.D.Disk.disk c.read_file.new.disk) c.args.site.now c.in-Ok.ensures.reads c.in-Ok.ensures.later)
