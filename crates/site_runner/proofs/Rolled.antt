@@ -83,9 +83,9 @@ rolls_are t broken c o (inr (inr h)) =
     elim (among_either (starts_up_to (length (regions d.instance)) d) (marks (rolled_open t broken c)) o h) [
       | inl a ↦ inr (inr (inl (among_starts (length (regions d.instance)) d o a)))
       | inr b ↦ elim (marks_are (rolled_open t broken c) o b) [
-          | inl e ↦ inr (inr (inl (length (regions c.instance), e)))
-          | inr m ↦ inr (inr (inr m))
-        ]
+        | inl e ↦ inr (inr (inl (length (regions c.instance), e)))
+        | inr m ↦ inr (inr (inr m))
+      ]
     ]
 
 rolls_cover : (t : ℕ) (broken : List ℕ) (c o : Contents) → MayRollBack t broken c o → AmongCovered (rolls_to t broken c) o
@@ -137,9 +137,9 @@ so_are t s o (inr (inr h)) =
           let starts = among_starts (length (regions d.instance)) d k.0 k.1 in
           inr (inr (inl (starts.0, k.2 ∙ ap bare starts.1)))
       | inr b ↦ elim (left_are (rolled_open t s.broken s.contents) o b) [
-          | inl e ↦ inr (inr (inl (length (regions s.contents.instance), e)))
-          | inr m ↦ inr (inr (inr m))
-        ]
+        | inl e ↦ inr (inr (inl (length (regions s.contents.instance), e)))
+        | inr m ↦ inr (inr (inr m))
+      ]
     ]
 
 so_cover : (t : ℕ) (s o : Standing) → MayRollBackLeft t s o → AmongCoveredSo (so_to t s) o

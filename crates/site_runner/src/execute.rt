@@ -89,7 +89,11 @@ fn execute_on<D: Disk>(
         Command::Extract { number, .. } => extract(disk, site, number, text),
         Command::Zwrite { top, .. } => zwrite(disk, site, top.as_ref(), text),
         Command::Show { .. } => show(disk, site, text),
-        Command::Print { lost, generation, .. } => print(disk, site, lost, generation, text),
+        Command::Print {
+            lost,
+            generation,
+            ..
+        } => print(disk, site, lost, generation, text),
         Command::Resync { number, .. } => rollback(alloc, disk, site, number, text),
         Command::RecoverBackward { .. } => recover(alloc, disk, site, text),
     }
