@@ -19,9 +19,8 @@ use Rattle.site_defs.specs.Behind.{IsStanding, IsSiteWith, StandsSo}
 use Rattle.mupip_rollback.specs.Rolling.{StandsFor}
 use Rattle.world_defs.specs.World as world
 use Rattle.world_defs.specs.World.{Place, Covers, CoversSo, AmongCovered, AmongCoveredSo, has_failed_on, StandAfter, IfShown}
-use Rattle.world_defs.specs.Answers.{Cause, Running, Stopped}
 use Rattle.world_defs.specs.Changes.{in_new_state, After, Becomes, Fails}
-use Rattle.world_defs.specs.Row.{refused_with, in_state, why_not_down}
+use Rattle.world_defs.specs.Row.{in_state, why_not_down}
 use Rattle.world_defs.specs.Shown.{BySequence}
 use Rattle.world_defs.specs.Step.{LeftBy}
 use Rattle.world_defs.specs.Ties.{StandsBy, Matches}

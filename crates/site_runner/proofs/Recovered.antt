@@ -1,9 +1,8 @@
 -- RECOVER BACKWARD at a place.
-use Rattle.std.proofs.Common.{◌≡◌, ℕ, ◌≤◌, ◌<◌, Bool, true, false, List, [], ◌∷◌, ◌++◌, length, map, None, Some, refl, sym, ◌∙◌, ap, subst, arith, inl, inr, if◌then◌else◌}
-use Rattle.std.specs.Prelude.{◌⊎◌, Option, codes, IfSome, IsSome}
+use Rattle.std.proofs.Common.{◌≡◌, ℕ, ◌≤◌, ◌<◌, Bool, true, false, List, ◌∷◌, ◌++◌, length, map, None, Some, refl, sym, ◌∙◌, ap, subst, arith, inl, inr, if◌then◌else◌}
+use Rattle.std.specs.Prelude.{◌⊎◌, codes, IfSome, IsSome}
 use Rattle.std.specs.Fmt.{decimal}
-use Rattle.disk_defs.specs.Disk.{Files, View, Image, IsLawful, AtEachMoment, Rose}
-use Rattle.disk_defs.proofs.Told.{both_weak}
+use Rattle.disk_defs.specs.Disk.{View, Image, IsLawful, AtEachMoment, Rose}
 use Rattle.global_defs.specs.Entry.{Sequence}
 use Rattle.journal_defs.specs.Numbers.{INSTANCE}
 use Rattle.journal_defs.specs.Instance.{InstanceRecord, generation, regions}
@@ -13,12 +12,10 @@ use Rattle.command_defs.specs.Commands.{Name}
 use Rattle.site_defs.specs.Lists.{Among}
 use Rattle.site_defs.specs.Contents.{Contents, Leftover, Standing, bare}
 use Rattle.site_defs.specs.Epochs.{marked}
-use Rattle.site_defs.specs.Limits.{LAST_GENERATION}
 use Rattle.site_defs.specs.Opening.{cut_there, opened}
 use Rattle.site_defs.specs.OutsideBlocks.{IsOutsideOpening}
 use Rattle.site_defs.specs.Stands.{IsSite, HasLeft}
 use Rattle.site_store.specs.Opening.{EachStands}
-use Rattle.site_store.proofs.Found.{instance_one}
 use Rattle.mupip_rollback.specs.Rolling.{StandsFor}
 use Rattle.world_defs.specs.World as world
 use Rattle.world_defs.specs.World.{Place, AmongCovered, AmongCoveredSo, IfShown}
@@ -37,7 +34,7 @@ use Rattle.site_runner.proofs.Begun.{starts_up_to, among_starts, any_among, cut_
 use Rattle.site_runner.proofs.Marked.{marks, among_marks, marks_are, among_left, left_are, of_marked}
 use Rattle.site_runner.proofs.Seen.{counted, kept_counted}
 use Rattle.site_runner.proofs.Started.{each_stands, unknown_at}
-use Rattle.site_runner.proofs.Leaving.{Ends, EndsSo, LeftFailed, left_cut, left_failed, Done, done_at, down_at, still_down, down_counted, early_none, StepsAt, StepsSo, may_have, WasRead, HeldSo, was_read, stand_one}
+use Rattle.site_runner.proofs.Leaving.{Ends, EndsSo, left_cut, left_failed, Done, done_at, down_at, still_down, down_counted, early_none, StepsAt, StepsSo, may_have, WasRead, HeldSo, was_read, stand_one}
 
 pub recover_not_down : (v : View) (s : Site) (cause : Cause) (p : Place) → why_not_down (state_value s.state) ≡ Some cause → IsAt v s p → (recover_backward s.name p).early ≡ refused_with s.name (Some cause)
 recover_not_down v s cause p e h = ap (refused_with s.name) (state_at why_not_down v s p h ∙ e)

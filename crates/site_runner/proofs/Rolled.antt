@@ -1,6 +1,6 @@
 -- ROLLBACK RESYNC at a place.
 use Rattle.std.proofs.Common.{◌≡◌, ℕ, zero, suc, ◌+◌, ◌-◌, ◌≤◌, ◌<◌, min, Bool, true, false, List, [], ◌∷◌, ◌++◌, length, drop, map, None, Some, refl, sym, ◌∙◌, ap, subst, arith, inl, inr, if◌then◌else◌, length-take-le, slice_get}
-use Rattle.std.specs.Prelude.{◌⊎◌, ◌&&◌, ◌||◌, ◌==◌, not, Option, codes, IfSome, IsSome, IsSomeAnd}
+use Rattle.std.specs.Prelude.{◌⊎◌, ◌&&◌, ◌||◌, not, Option, codes, IfSome, IsSome}
 use Rattle.std.specs.Fmt.{decimal}
 use Rattle.std.specs.List.{AllByRecursion, filter_map, cons_option, list_any, find}
 use Rattle.std.specs.Option.{option_map}
@@ -15,32 +15,30 @@ use Rattle.journal_defs.specs.Instance as records
 use Rattle.journal_defs.specs.Instance.{InstanceRecord, NamedMode, generation, regions, site_name}
 use Rattle.journal_defs.specs.Sequence.{Placed, Records, IsSequence}
 use Rattle.journal_defs.specs.Stands.{IsInstance, IsJournal, AreRecords, in_generation}
-use Rattle.journal_defs.specs.Epochs.{Chosen, chosen, starts_without, is_without, first_without}
+use Rattle.journal_defs.specs.Epochs.{Chosen, chosen, starts_without, is_without}
 use Rattle.journal_laws.proofs.Drawing.{generation-cut}
 use Rattle.journal_laws.proofs.Readings.{records_one}
 use Rattle.command_defs.specs.Commands.{Name}
 use Rattle.site_defs.specs.Lists.{Among}
 use Rattle.site_defs.specs.Contents.{Contents, Leftover, Standing, bare}
 use Rattle.site_defs.specs.Opening.{cut_with, with_starts}
-use Rattle.site_defs.specs.Epochs.{with_epochs}
-use Rattle.site_defs.specs.Outside.{IsNoInstance, HasNoDirectory}
 use Rattle.site_defs.specs.OutsideBlocks.{IsOutsideRollback}
 use Rattle.site_defs.specs.Rolling.{lost_text, kept_first, rolled_open, rolled, MayRollBack, MayRollBackLeft}
-use Rattle.site_defs.specs.Stands.{start_in, IsSite, HasLeft, Stands}
+use Rattle.site_defs.specs.Stands.{start_in, IsSite, HasLeft}
 use Rattle.site_store.specs.declared.layout.Layout.{Layout}
 use Rattle.site_store.specs.declared.layout.RegionSpec.{RegionSpec}
 use Rattle.site_store.specs.Opening.{EachStands, region_value}
 use Rattle.site_store.specs.Finding.{HasLayout}
-use Rattle.site_store.proofs.Found.{instance_one, blank_instance}
+use Rattle.site_store.proofs.Found.{instance_one}
 use Rattle.mupip_rollback.specs.Rolling as rolling
 use Rattle.mupip_rollback.specs.Rolling.{StandsFor, NoneIsWithout}
 use Rattle.world_defs.specs.World as world
 use Rattle.world_defs.specs.World.{Place, UNTOLD, AmongCovered, AmongCoveredSo, IfShown}
-use Rattle.world_defs.specs.Answers.{Cause, GenLimit, NoBefore, Running, Stopped, Refusal, line, cause_text, damage_line}
+use Rattle.world_defs.specs.Answers.{Cause, GenLimit, NoBefore, Running, Stopped, Refusal, line}
 use Rattle.world_defs.specs.Row.{refused_with, in_state, why_not_down, where_known}
-use Rattle.world_defs.specs.Shown.{BySequence, HasNoLayout}
+use Rattle.world_defs.specs.Shown.{HasNoLayout}
 use Rattle.world_defs.specs.rows.Start.{generation_limit}
-use Rattle.world_defs.specs.rows.Rollback.{stay_of, MayRollBackTo, MayRollBackToLeft, BeganWithout, IsFirstWithout, RolledBackBy, RollbackRefusedBy, rollback}
+use Rattle.world_defs.specs.rows.Rollback.{stay_of, MayRollBackTo, MayRollBackToLeft, BeganWithout, RolledBackBy, RollbackRefusedBy, rollback}
 use Rattle.site_runner.specs.declared.slot.State.TheVariants.{Down, Failed}
 use Rattle.site_runner.specs.declared.slot.Site.{Site}
 use Rattle.site_runner.specs.Sites.{state_value, IsOf}
@@ -48,12 +46,12 @@ use Rattle.site_runner.specs.Executes.{Comes}
 use Rattle.site_runner.specs.Steps.{IsAt, ExecutesAt, IsCutAt}
 use Rattle.site_runner.specs.Rolling.{IsDownAt, NeedsForward, TellsRegion, RefusesAt, IsCutDown}
 use Rattle.site_runner.proofs.Amongs.{among_first, among_second, among_either, among_map, map_among}
-use Rattle.site_runner.proofs.Ats.{comes_done, comes_refused, comes_may_refuse, comes_fault, comes_damaged, refused_late, none_refused, state_at, not_true, is_true_or_false, some_both, reads_site, reads_stand, is_site, stands_told, if_some, by_shown, any_shown, shown_unwritten, Leftovers}
+use Rattle.site_runner.proofs.Ats.{comes_done, comes_refused, comes_may_refuse, comes_fault, comes_damaged, refused_late, none_refused, state_at, not_true, is_true_or_false, some_both, reads_site, is_site, stands_told, if_some, by_shown, any_shown, shown_unwritten, Leftovers}
 use Rattle.site_runner.proofs.Begun.{starts_up_to, among_starts, any_among, of_more, generation_past, generation_left}
 use Rattle.site_runner.proofs.Marked.{marks, among_marks, marks_are, among_left, left_are, of_marked}
 use Rattle.site_runner.proofs.Seen.{counted, kept_counted}
 use Rattle.site_runner.proofs.Started.{each_stands, unknown_at}
-use Rattle.site_runner.proofs.Leaving.{Ends, EndsSo, LeftFailed, left_cut, left_failed, Done, done_at, down_at, still_down, down_counted, early_none, StepsAt, StepsSo, may_have, nothing_had, WasRead, HeldSo, was_read, stand_one}
+use Rattle.site_runner.proofs.Leaving.{Ends, EndsSo, left_cut, left_failed, Done, done_at, down_at, still_down, down_counted, early_none, StepsAt, StepsSo, may_have, nothing_had, WasRead, HeldSo, was_read, stand_one}
 
 pub rollback_not_down : (number : ℕ) (v : View) (s : Site) (cause : Cause) (p : Place) → why_not_down (state_value s.state) ≡ Some cause → IsAt v s p → (rollback number s.name p).early ≡ refused_with s.name (Some cause)
 rollback_not_down number v s cause p e h = ap (refused_with s.name) (state_at why_not_down v s p h ∙ e)
