@@ -1,5 +1,5 @@
 //! Both CUTs of a rollback: of all entries, and of those that stay.
-ghost use Rattle.std.specs.Prelude.{◌≡◌, ◌≤◌, ◌<◌, ◌^◌, ◌++◌, ◌∷◌, [], ℕ, suc, true, List, length, IfSome, IfOk, OnOk, IsErrOf, IsSome, map};
+ghost use Rattle.std.specs.Prelude.{◌≡◌, ◌≤◌, ◌<◌, ◌^◌, ◌++◌, ◌∷◌, [], ℕ, suc, true, List, length, IfSome, IfOk, OnOk, IsErrOf, IsSome, map, false};
 ghost use Rattle.disk_defs.specs.Disk.{Files, Image, From, AtEachMoment, Rose};
 ghost use Rattle.disk_defs.specs.Frames.{OthersStay};
 ghost use Rattle.instance_file.specs.Instance as instances;

@@ -1,0 +1,3 @@
+mod Closed
+mod Recovered
+mod Sites
