@@ -178,6 +178,8 @@ fn open_first<D: Disk>(
     ensures kept { IfOk result (λ p. length p.kept.entries.items ≡ target) }
     ensures prepared { IfOk result (λ p. WasFound (D.disk disk.old) (D.disk disk.old) found → IfSome (D.disk disk.old).content (λ _. (d : Files) → Image (D.disk disk.old) d → AreUnbegun (suc (suc (generation found.read.log.records))) (length (regions found.read.log.records)) d) → IsPrepared (D.disk disk.new) p) }
     ensures records { IfOk result (λ p. p.log.records ≡ found.read.log.records) }
+    ensures length { IfOk result (λ p. p.length ≡ length found.entries.items) }
+    ensures broken { IfOk result (λ p. p.broken ≡ found.broken) }
     ensures place { (file offset : ℕ) → IsErrOf result (RollError.NotAFile file offset) → (to : ℕ) → target ≡ min to (length found.entries.items) → IfSome (D.disk disk.old).content (λ files. AreRecords files (found_records found) → IsOutsideRollback to files file offset) }
     ensures outside { (file offset : ℕ) → IsErrOf result (RollError.NotAFile file offset) → WasFound (D.disk disk.old) (D.disk disk.old) found → IfSome (D.disk disk.old).content (λ files. (c : Contents) → IsSite files c → ⊥) }
     ensures limit { IsErrOf result RollError.GenLimit → ⊥ }
