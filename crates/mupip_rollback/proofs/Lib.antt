@@ -3,5 +3,6 @@ mod Closed
 mod Errors
 mod Founded
 mod Imaged
+mod Prepared
 mod Recovered
 mod Sites
