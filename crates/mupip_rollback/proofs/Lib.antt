@@ -1,4 +1,5 @@
 mod Aside
+mod Begun
 mod Closed
 mod Errors
 mod Founded
