@@ -1,9 +1,11 @@
 mod Aside
 mod Begun
 mod Closed
+mod Cuts
 mod Errors
 mod Founded
 mod Imaged
 mod Prepared
 mod Recovered
+mod Rolls
 mod Sites
