@@ -9,3 +9,4 @@ mod Prepared
 mod Recovered
 mod Rolls
 mod Sites
+mod Whole
