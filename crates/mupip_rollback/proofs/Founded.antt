@@ -84,9 +84,10 @@ module _ (u v : View) (f : FoundFiles) (has : HasFound f) (was : WasFound u v f)
   -- each image stands for the same
   pub site_is : IsLawful v → AtEachMoment u v (Image u) → IfSome u.content (λ files. (c : Contents) → IsSite files c → AllStand c)
   site_is lawful synced = both_weak u.content Read (AreTextsDurable v g) (λ files. (c : Contents) → IsSite files c → AllStand c) was.read was.texts (λ files r durable c site.
-      let own = (site_read rs last journal seq has.form has.sequence files c r.holds site).1 in
-      (sym (length_values f.entries.items) ∙ ap (λ (x : Contents). length x.sequence) (sym own),
-      λ each d image. subst (IsSite d) (same files durable d image ∙ sym own) (stands files r each d image)))
+      let own = (site_read rs last journal seq has.form has.sequence files c r.holds site).1 in (
+        sym (length_values f.entries.items) ∙ ap (λ (x : Contents). length x.sequence) (sym own),
+        λ each d image. subst (IsSite d) (same files durable d image ∙ sym own) (stands files r each d image),
+      ))
     where
       same : (files : Files) → AreTextsDurable v g files → (d : Files) → Image v d → C rs last journal seq has.form has.sequence d ≡ C rs last journal seq has.form has.sequence files
       same files durable d image =

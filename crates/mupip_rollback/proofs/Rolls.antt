@@ -198,9 +198,10 @@ module _ (v : View) (p : Prepared) (P : IsPrepared v p) where
         after files here w done c all d image =
             let q = done (short files w.0 c (all files here)) d image in
             let a = q.0 in
-            let read = image_read v rs last journal files w.0 a q.1 in
-            (cuts.stands rs last journal seq P.has.form P.has.sequence P.has.low f.broken p.lost P.has.broken_is a read c (all a q.1) t P.lost d q.2,
-            cuts.read_on rs last journal seq P.has.form P.has.sequence P.has.low f.broken p.lost P.has.broken_is a read c (all a q.1) q.2.0 q.2.1 d (λ o out. q.2.2.others o out) (w.1 a q.1) few)
+            let read = image_read v rs last journal files w.0 a q.1 in (
+              cuts.stands rs last journal seq P.has.form P.has.sequence P.has.low f.broken p.lost P.has.broken_is a read c (all a q.1) t P.lost d q.2,
+              cuts.read_on rs last journal seq P.has.form P.has.sequence P.has.low f.broken p.lost P.has.broken_is a read c (all a q.1) q.2.0 q.2.1 d (λ o out. q.2.2.others o out) (w.1 a q.1) few,
+            )
 
         abbrev pub Found : Files → Type 0
         Found files = Image v files × Whole files × Done files × AreDatabasesDurable v many files × AreOnBlocks files (found_records f) t p.kept.globals

@@ -75,11 +75,15 @@ module _ (u v : View) (to : ℕ) (synced : AtEachMoment u v (Image u)) where
     pub moments : IfSome v.content Runs → IfSome u.content (Rolling u z to)
     moments runs = both_weak u.content Known Runs (Rolling u z to) known (told_at u.content v.content Runs same runs) (λ files k r c left is has each.
         then_more u v z (MayBeRolledBack u to left.broken) (MayStandRolled (min to (length c.sequence)) (record { contents = c; broken = left.broken })) (still left.broken) (run_on files k r c left is has each)
-        (λ f q. (files, k.0, λ d was. (
-          q.0.contents,
-          subst (λ (x : Contents). MayRollBack (min to (length x.sequence)) left.broken x q.0.contents) (one_site files c d is was) (bare_of (min to (length c.sequence)) (record { contents = c; broken = left.broken }) q.0 q.1),
-          q.2.site,
-        ))))
+        (λ f q. (
+          files,
+          k.0,
+          λ d was. (
+            q.0.contents,
+            subst (λ (x : Contents). MayRollBack (min to (length x.sequence)) left.broken x q.0.contents) (one_site files c d is was) (bare_of (min to (length c.sequence)) (record { contents = c; broken = left.broken }) q.0 q.1),
+            q.2.site,
+          ),
+        )))
 
     pub moments_with : IfSome v.content Runs → IfSome u.content (RollingWith u z to)
     moments_with runs = both_weak u.content Known Runs (RollingWith u z to) known (told_at u.content v.content Runs same runs) (λ files k r c is each.

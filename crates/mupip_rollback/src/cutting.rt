@@ -16,9 +16,9 @@ ghost use Rattle.mupip_rollback.specs.Preparing.{cut_records};
 
 use super::error::{RollError, in_files};
 use super::preparing::Kept;
+use gvn_key::NoMemory;
 use instance_file::{Instance, InstanceLog};
 use jnl_file::Journal;
-use gvn_key::NoMemory;
 use region_journals::{RegionJournal, RegionJournals};
 use repl_disk::Disk;
 use site_files::{cut_off, draw_next, generation_in, write_lost};

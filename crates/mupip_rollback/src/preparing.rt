@@ -202,11 +202,7 @@ fn open_first<D: Disk>(
 ///
 /// # Errors
 /// As [`super::rolling::rollback`]'s.
-pub(crate) fn prepare<D: Disk>(
-    alloc: Global,
-    disk: &mut D,
-    to: u64,
-) -> Result<Prepared, RollError>
+pub(crate) fn prepare<D: Disk>(alloc: Global, disk: &mut D, to: u64) -> Result<Prepared, RollError>
     ensures prepared { IfOk result (IsPrepared (D.disk disk.new)) }
     ensures held { IfOk result (λ p. IfSome (D.disk disk.old).content (λ files. (u : Records) × (seq : Sequence) × AreRecords files u × IsSequence u seq × (u.instance ≡ p.log.records) × (length p.kept.entries.items ≡ min to (length seq)) × NoneIsWithout u (min to (length seq)))) }
     ensures kept { IfOk result (λ p. length p.kept.entries.items ≡ min to p.length) }

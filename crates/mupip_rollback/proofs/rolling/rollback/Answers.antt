@@ -30,8 +30,7 @@ returns-clause-read g c =
     let all = P.counted in
     let kept = c.in_ok-prepared.ensures.kept in
     let size = c.len.ensures in
-    let newest : c.generation_in.result ≡ generation P.found.read.log.records = c.generation_in.ensures ∙ ap generation c.as_slice.ensures ∙ ap (λ l. generation l.records) P.log in
-    (
+    let newest : c.generation_in.result ≡ generation P.found.read.log.records = c.generation_in.ensures ∙ ap generation c.as_slice.ensures ∙ ap (λ l. generation l.records) P.log in (
       record { instance = P.found.read.log.records; starts = λ r. []; epochs = λ r. []; texts = []; losts = []; sequence = found_entries P.found },
       omega (arith, count, all, kept, size),
       omega (arith, newest),
