@@ -120,6 +120,9 @@ module _ (rs : List InstanceRecord) (n : ℕ) (text : List ℕ) (any : ℕ → �
   not_written : text ≡ [] → (a : Files) → OnFile (next_broken rs) (IsWritten text) a a
   not_written none a = record { here = inr (none, refl); others = λ f ne. refl }
 
+  abbrev pub Cutting : View → Files → Type 0
+  Cutting u = From (Image u) (MayCutOff rs n text)
+
   module _ (u : View) (read : IfSome u.content (λ files. (last : ℕ → ℕ) × (journal : ℕ → List Placed) × WasRead u rs last journal files)) where
     abbrev pub Told : Files → Type 0
     Told files = (last : ℕ → ℕ) × (journal : ℕ → List Placed) × WasRead u rs last journal files
@@ -127,20 +130,20 @@ module _ (rs : List InstanceRecord) (n : ℕ) (text : List ℕ) (any : ℕ → �
     abbrev pub IsShort : Files → Type 0
     IsShort files = length (files (next_broken rs)) ≤ length text
 
-    abbrev pub Cutting : Files → Type 0
-    Cutting = From (Image u) (MayCutOff rs n text)
-
     was_instance : (files : Files) → Told files → (d : Files) → Image u d → IsInstance (d INSTANCE) rs
     was_instance files r d image = subst (λ (b : List ℕ). IsInstance b rs) (sym (r.2.instance d image)) r.2.holds.instance
 
     none_yet : (files : Files) → Told files → (d : Files) → Image u d → AreUnbegun g0 m0 d
     none_yet files r d image q low = ap records (r.2.next q low d image) ∙ r.2.holds.next q low
 
+    pub none_here : IfSome u.content (λ _. (d : Files) → Image u d → AreUnbegun g0 m0 d)
+    none_here = weaker_told u.content Told (λ _. (d : Files) → Image u d → AreUnbegun g0 m0 d) read none_yet
+
     -- the text is written, and then the CUT
     module _ (t : View) where
-      pub text_moments : AtEachMoment u t (From (Image u) (OnFile (next_broken rs) (IsNoLonger text))) → IfSome u.content (λ files. IsShort files → AtEachMoment u t Cutting)
-      text_moments run = weaker_told u.content Told (λ files. IsShort files → AtEachMoment u t Cutting) read
-          (λ files r short. weaker u t (From (Image u) (OnFile (next_broken rs) (IsNoLonger text))) Cutting (λ c q. (q.0, q.1, inl (uncut_by q.0 c (was_instance files r q.0 q.1) (none_yet files r q.0 q.1) q.2))) run)
+      pub text_moments : AtEachMoment u t (From (Image u) (OnFile (next_broken rs) (IsNoLonger text))) → IfSome u.content (λ files. IsShort files → AtEachMoment u t (Cutting u))
+      text_moments run = weaker_told u.content Told (λ files. IsShort files → AtEachMoment u t (Cutting u)) read
+          (λ files r short. weaker u t (From (Image u) (OnFile (next_broken rs) (IsNoLonger text))) (Cutting u) (λ c q. (q.0, q.1, inl (uncut_by q.0 c (was_instance files r q.0 q.1) (none_yet files r q.0 q.1) q.2))) run)
 
       pub text_reads : ReadsAfter (OnFile (next_broken rs) (IsNoLonger text)) u.content t.content → IfSome u.content (λ files. IsShort files → IfSome t.content (MayCutOff rs n text files))
       text_reads after = among u.content t.content after read
@@ -175,13 +178,13 @@ module _ (rs : List InstanceRecord) (n : ℕ) (text : List ℕ) (any : ℕ → �
 
         module _ (done : IfSome u.content (λ files. IsShort files → (c : Files) → Image t c → From (Image u) (OnFile (next_broken rs) (IsWritten text)) c))
             (cut : IfSome t.content (λ _. AtEachMoment t v (OnlyOn t INSTANCE (StandsWith rs (next_cut rs n))))) where
-          pub cut_moments : AtEachMoment u t (From (Image u) (OnFile (next_broken rs) (IsNoLonger text))) → IfSome u.content (λ files. IsShort files → AtEachMoment u v Cutting)
+          pub cut_moments : AtEachMoment u t (From (Image u) (OnFile (next_broken rs) (IsNoLonger text))) → IfSome u.content (λ files. IsShort files → AtEachMoment u v (Cutting u))
           cut_moments text_run = among u.content read (text_moments text_run) done (told_on u.content t.content (Only (next_broken rs)) (AtEachMoment t v (OnlyOn t INSTANCE (StandsWith rs (next_cut rs n)))) first_stays.content cut)
             where
-              among : (o : Option Files) → IfSome o Told → IfSome o (λ files. IsShort files → AtEachMoment u t Cutting) → IfSome o (λ files. IsShort files → (c : Files) → Image t c → From (Image u) (OnFile (next_broken rs) (IsWritten text)) c)
-                  → IfSome o (λ _. AtEachMoment t v (OnlyOn t INSTANCE (StandsWith rs (next_cut rs n)))) → IfSome o (λ files. IsShort files → AtEachMoment u v Cutting)
+              among : (o : Option Files) → IfSome o Told → IfSome o (λ files. IsShort files → AtEachMoment u t (Cutting u)) → IfSome o (λ files. IsShort files → (c : Files) → Image t c → From (Image u) (OnFile (next_broken rs) (IsWritten text)) c)
+                  → IfSome o (λ _. AtEachMoment t v (OnlyOn t INSTANCE (StandsWith rs (next_cut rs n)))) → IfSome o (λ files. IsShort files → AtEachMoment u v (Cutting u))
               among None r so_far d q = tt
-              among (Some a) r so_far d q = λ short. then_more u t v Cutting (OnlyOn t INSTANCE (StandsWith rs (next_cut rs n))) (so_far short) q
+              among (Some a) r so_far d q = λ short. then_more u t v (Cutting u) (OnlyOn t INSTANCE (StandsWith rs (next_cut rs n))) (so_far short) q
                   (λ c is.
                   let from = d short is.others.0 is.others.1 in
                   (from.0, from.1, cut_by from.0 is.others.0 c (none_yet a r from.0 from.1) from.2 is.others.2 is.here))
@@ -222,54 +225,57 @@ module _ (rs : List InstanceRecord) (n : ℕ) (text : List ℕ) (any : ℕ → �
               among (Some a) (Some d) None after next r w h = absurd next
               among (Some a) (Some d) (Some c) after next r w h = λ short. drawn_first a d c r.2.holds.next (w short) next h.reads
 
+  -- no journal has begun before
+  module _ (u : View) (unbegun : IfSome u.content (λ _. (d : Files) → Image u d → AreUnbegun g0 m0 d)) where
     -- the CUT is appended to the open instance file, and there is no text
     module _ (v : View) (none : text ≡ []) (stays : OthersStay (Only INSTANCE) u v) where
       pub open_frame : OthersStay (AreCut rs) u v
       open_frame = others_wider (Only INSTANCE) (AreCut rs) u v (λ f e. inl e) stays
 
-      pub open_moments : IfSome u.content (λ _. AtEachMoment u v (OnlyOn u INSTANCE (StandsWith rs (next_cut rs n)))) → IfSome u.content (λ _. AtEachMoment u v Cutting)
-      open_moments cut = both_weak u.content Told (λ _. AtEachMoment u v (OnlyOn u INSTANCE (StandsWith rs (next_cut rs n)))) (λ _. AtEachMoment u v Cutting) read cut
-          (λ files r run. weaker u v (OnlyOn u INSTANCE (StandsWith rs (next_cut rs n))) Cutting
-          (λ c is. (is.others.0, is.others.1, cut_by is.others.0 is.others.0 c (none_yet files r is.others.0 is.others.1) (not_written none is.others.0) is.others.2 is.here)) run)
+      pub open_moments : IfSome u.content (λ _. AtEachMoment u v (OnlyOn u INSTANCE (StandsWith rs (next_cut rs n)))) → IfSome u.content (λ _. AtEachMoment u v (Cutting u))
+      open_moments cut = both_weak u.content (λ _. (d : Files) → Image u d → AreUnbegun g0 m0 d) (λ _. AtEachMoment u v (OnlyOn u INSTANCE (StandsWith rs (next_cut rs n)))) (λ _. AtEachMoment u v (Cutting u)) unbegun cut
+          (λ files each run. weaker u v (OnlyOn u INSTANCE (StandsWith rs (next_cut rs n))) (Cutting u)
+          (λ c is. (is.others.0, is.others.1, cut_by is.others.0 is.others.0 c (each is.others.0 is.others.1) (not_written none is.others.0) is.others.2 is.here)) run)
 
-      pub open_reads : IsLawful v → IfSome u.content (λ _. AtEachMoment u v (OnlyOn u INSTANCE (StandsWith rs (next_cut rs n)))) → IfSome u.content (λ files. IfSome v.content (MayCutOff rs n text files))
-      open_reads lawful cut = among u.content v.content stays.content read cut lawful.as_read
+      pub open_reads : IsLawful u → IsLawful v → IfSome u.content (λ _. AtEachMoment u v (OnlyOn u INSTANCE (StandsWith rs (next_cut rs n)))) → IfSome u.content (λ files. IfSome v.content (MayCutOff rs n text files))
+      open_reads lawful_u lawful cut = among u.content v.content stays.content unbegun lawful_u.as_read cut lawful.as_read
         where
-          among : (o p : Option Files) → ReadsAfter (SameOutside (Only INSTANCE)) o p → IfSome o Told → IfSome o (λ _. AtEachMoment u v (OnlyOn u INSTANCE (StandsWith rs (next_cut rs n)))) → IfSome p (λ now. Image v now)
-              → IfSome o (λ files. IfSome p (MayCutOff rs n text files))
-          among None p after r q now = tt
-          among (Some a) None after r q now = absurd after
-          among (Some a) (Some c) after r q now =
+          among : (o p : Option Files) → ReadsAfter (SameOutside (Only INSTANCE)) o p → IfSome o (λ _. (d : Files) → Image u d → AreUnbegun g0 m0 d) → IfSome o (λ was. Image u was) → IfSome o (λ _. AtEachMoment u v (OnlyOn u INSTANCE (StandsWith rs (next_cut rs n))))
+              → IfSome p (λ now. Image v now) → IfSome o (λ files. IfSome p (MayCutOff rs n text files))
+          among None p after each was q now = tt
+          among (Some a) None after each was q now = absurd after
+          among (Some a) (Some c) after each was q now =
               let is = holds_now u v (OnlyOn u INSTANCE (StandsWith rs (next_cut rs n))) lawful q c now in
-              cut_by a a c r.2.holds.next (not_written none a) after is.here
+              cut_by a a c (each a was) (not_written none a) after is.here
 
       module _ (i : Instance) (has : IfSome u.content (λ _. HasRecords v i with_cut)) where
         pub open_images : IfSome u.content (λ _. (c : Files) → Image v c → From (Image u) (HasCut rs n text) c)
-        open_images = both_weak u.content Told (λ _. HasRecords v i with_cut) (λ _. (c : Files) → Image v c → From (Image u) (HasCut rs n text) c) read has
-            (λ files r h c now.
+        open_images = both_weak u.content (λ _. (d : Files) → Image u d → AreUnbegun g0 m0 d) (λ _. HasRecords v i with_cut) (λ _. (c : Files) → Image v c → From (Image u) (HasCut rs n text) c) unbegun has
+            (λ files each h c now.
             let from = stays.images c now in
-            (from.0, from.1, drawn_first from.0 from.0 c (none_yet files r from.0 from.1) (not_written none from.0) from.2 (with_told v.content (HoldsRecords v i with_cut) (IsInstance (c INSTANCE) with_cut) h (λ now_is k. k.stands c now))))
+            (from.0, from.1, drawn_first from.0 from.0 c (each from.0 from.1) (not_written none from.0) from.2 (with_told v.content (HoldsRecords v i with_cut) (IsInstance (c INSTANCE) with_cut) h (λ now_is k. k.stands c now))))
 
-        pub open_as_read : IfSome u.content (λ files. IfSome v.content (HasCut rs n text files))
-        open_as_read = among u.content v.content stays.content read has
+        pub open_as_read : IsLawful u → IfSome u.content (λ files. IfSome v.content (HasCut rs n text files))
+        open_as_read lawful_u = among u.content v.content stays.content unbegun lawful_u.as_read has
           where
-            among : (o p : Option Files) → ReadsAfter (SameOutside (Only INSTANCE)) o p → IfSome o Told → IfSome o (λ _. IsSomeAnd p (HoldsRecords v i with_cut)) → IfSome o (λ files. IfSome p (HasCut rs n text files))
-            among None p after r h = tt
-            among (Some a) None after r h = absurd after
-            among (Some a) (Some c) after r h = drawn_first a a c r.2.holds.next (not_written none a) after h.reads
+            among : (o p : Option Files) → ReadsAfter (SameOutside (Only INSTANCE)) o p → IfSome o (λ _. (d : Files) → Image u d → AreUnbegun g0 m0 d) → IfSome o (λ was. Image u was) → IfSome o (λ _. IsSomeAnd p (HoldsRecords v i with_cut))
+                → IfSome o (λ files. IfSome p (HasCut rs n text files))
+            among None p after each was h = tt
+            among (Some a) None after each was h = absurd after
+            among (Some a) (Some c) after each was h = drawn_first a a c (each a was) (not_written none a) after h.reads
 
     -- Once it's cut off. `S` is what the clauses take of the files from before.
     module _ (v : View) (cut_stays : OthersStay (AreCut rs) u v) where
       -- no journal has begun yet
       pub unbegun_here : IfSome v.content (λ _. (f : Files) → Image v f → AreUnbegun g0 m0 f)
-      unbegun_here = among u.content v.content cut_stays.content read
+      unbegun_here = among u.content v.content cut_stays.content unbegun
         where
-          among : (o p : Option Files) → ReadsAfter (SameOutside (AreCut rs)) o p → IfSome o Told → IfSome p (λ _. (f : Files) → Image v f → AreUnbegun g0 m0 f)
-          among None p after r = subst (λ (x : Option Files). IfSome x (λ _. (f : Files) → Image v f → AreUnbegun g0 m0 f)) (sym after) tt
-          among (Some a) None after r = absurd after
-          among (Some a) (Some b) after r = λ f now q low.
+          among : (o p : Option Files) → ReadsAfter (SameOutside (AreCut rs)) o p → IfSome o (λ _. (d : Files) → Image u d → AreUnbegun g0 m0 d) → IfSome p (λ _. (f : Files) → Image v f → AreUnbegun g0 m0 f)
+          among None p after each = subst (λ (x : Option Files). IfSome x (λ _. (f : Files) → Image v f → AreUnbegun g0 m0 f)) (sym after) tt
+          among (Some a) None after each = absurd after
+          among (Some a) (Some b) after each = λ f now q low.
               let from = cut_stays.images f now in
-              ap records (from.2 (next_journal rs q) (journal_kept_apart q low)) ∙ none_yet a r from.0 from.1 q low
+              ap records (from.2 (next_journal rs q) (journal_kept_apart q low)) ∙ each from.0 from.1 q low
 
       pub draw_frame : OthersStay (AreNext rs) u v
       draw_frame = others_wider (AreCut rs) (AreNext rs) u v (λ f is. elim is [
@@ -287,9 +293,9 @@ module _ (rs : List InstanceRecord) (n : ℕ) (text : List ℕ) (any : ℕ → �
           | inr cut ↦ inr (0, cut last)
         ]
 
-        pub draw_moments : IfSome u.content (λ files. S files → AtEachMoment u v Cutting) → IfSome u.content (λ files. S files → AtEachMoment u v Drawing)
-        draw_moments run = weaker_told u.content (λ files. S files → AtEachMoment u v Cutting) (λ files. S files → AtEachMoment u v Drawing) run
-            (λ files r short. weaker u v Cutting Drawing (λ c q. (q.0, q.1, to_drawing q.0 c q.2)) (r short))
+        pub draw_moments : IfSome u.content (λ files. S files → AtEachMoment u v (Cutting u)) → IfSome u.content (λ files. S files → AtEachMoment u v Drawing)
+        draw_moments run = weaker_told u.content (λ files. S files → AtEachMoment u v (Cutting u)) (λ files. S files → AtEachMoment u v Drawing) run
+            (λ files r short. weaker u v (Cutting u) Drawing (λ c q. (q.0, q.1, to_drawing q.0 c q.2)) (r short))
 
         pub draw_reads : IfSome u.content (λ files. S files → IfSome v.content (MayCutOff rs n text files)) → IfSome u.content (λ files. S files → IfSome v.content (MayDraw rs n text last files))
         draw_reads reads = weaker_told u.content (λ files. S files → IfSome v.content (MayCutOff rs n text files)) (λ files. S files → IfSome v.content (MayDraw rs n text last files)) reads
@@ -315,7 +321,7 @@ module _ (rs : List InstanceRecord) (n : ℕ) (text : List ℕ) (any : ℕ → �
           on_u X x = told_on u.content v.content (AreCut rs) X cut_stays.content x
 
           module _ (images : IfSome u.content (λ files. S files → (f : Files) → Image v f → From (Image u) (HasCut rs n text) f)) where
-            pub all_moments : IfSome u.content (λ files. S files → AtEachMoment u v Cutting) → IfSome v.content (λ _. AtEachMoment v w (Sometime v g m first)) → IfSome u.content (λ files. S files → AtEachMoment u w Drawing)
+            pub all_moments : IfSome u.content (λ files. S files → AtEachMoment u v (Cutting u)) → IfSome v.content (λ _. AtEachMoment v w (Sometime v g m first)) → IfSome u.content (λ files. S files → AtEachMoment u w Drawing)
             all_moments so_far run = among u.content (draw_moments so_far) images (on_u (AtEachMoment v w (Sometime v g m first)) run)
               where
                 among : (o : Option Files) → IfSome o (λ files. S files → AtEachMoment u v Drawing) → IfSome o (λ files. S files → (c : Files) → Image v c → From (Image u) (HasCut rs n text) c)

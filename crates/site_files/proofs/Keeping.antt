@@ -28,7 +28,7 @@ use Rattle.journal_laws.proofs.EveryTarget.{none_past_record, none_past_cut}
 use Rattle.journal_laws.proofs.ImageSteps as images
 use Rattle.journal_laws.proofs.RecordSteps as steps
 use Rattle.journal_laws.proofs.Runs as runs
-use Rattle.site_files.specs.Loading.{MayBeOpened, AreRead, IsUncut, HasDrawn, next_cut, next_journal, next_broken, next_pini, starts_in, drawn_records}
+use Rattle.site_files.specs.Loading.{MayBeOpened, AreRead, IsUncut, HasDrawn, HasCut, next_cut, next_journal, next_broken, next_pini, starts_in, drawn_records}
 
 -- A body is that of one record, and the record has one body, so a list of records has one list of bodies.
 zip_front : {R : Type 0} (P : Body → R → Type 0) → ((b d : Body) (r : R) → P b r → P d r → b ≡ d) → (bs ds : List Body) (rs qs : List R)
@@ -128,7 +128,7 @@ module _ (s : Records) (n : ℕ) (last : ℕ → ℕ) where
   by_journal : (a b : ℕ → List Placed) → ((r : ℕ) → a r ≡ b r) → ◌≡◌ {A = Records} (record { instance = rs ++ next_cut rs n ∷ []; journal = a }) (record { instance = rs ++ next_cut rs n ∷ []; journal = b })
   by_journal a b same = ap (λ (j : ℕ → List Placed). record { instance = rs ++ next_cut rs n ∷ []; journal = j }) (fun_ext same)
 
-  none_drawn : with_record s (next_cut rs n) ≡ drawn 0
+  pub none_drawn : with_record s (next_cut rs n) ≡ drawn 0
   none_drawn = by_journal s.journal (λ r. s.journal r ++ starts_in rs last 0 r) (λ r. sym (ap (λ (l : List Placed). s.journal r ++ l) (starts_none rs last 0 r (omega arith)) ∙ append-nil (s.journal r)))
 
   one_more : (k : ℕ) → k < length (regions rs) → with_journal (drawn k) k (start k ∷ []) ≡ drawn (suc k)
@@ -312,8 +312,8 @@ module _ (a : Files) (s : Records) (last : ℕ → ℕ) (form : MayBeOpened s.in
         mid_other : (b : Files) (f : ℕ) → f ≢ INSTANCE → mid b f ≡ a f
         mid_other b f ne = let no : (f == INSTANCE) ≡ false = grind (arith, nat_tests, ne) in rw no refl
 
-        with_cut : (b : Files) → HasDrawn s.instance t text last 0 a b → IsSoundImage b S2 (take t seq)
-        with_cut b has = images.same_image (mid b) b S2 (take t seq)
+        pub cut_image_to : (b : Files) → HasDrawn s.instance t text last 0 a b → IsSoundImage b S2 (take t seq)
+        cut_image_to b has = images.same_image (mid b) b S2 (take t seq)
             (cut_image a (mid b) s seq t sound most form.some_region low (mid_other b) (subst (λ (l : List ℕ). IsInstance l (s.instance ++ next_cut s.instance t ∷ [])) (sym (mid_here b)) has.instance))
             (ap records (sym (mid_here b)))
             (λ h r most here. let there : r < m = (let e = same_few in omega (arith, e, here)) in by_generation h r (let e = newest in omega (arith, most, e)) there)
@@ -370,7 +370,7 @@ module _ (a : Files) (s : Records) (last : ℕ → ℕ) (form : MayBeOpened s.in
               (λ q there. earlier_other (database_file q) (λ e. let same = same_few in let few = form.few_regions in omega (arith, e, there, same, few))))
 
         drawn_up_to : (k : ℕ) (b : Files) → k ≤ m → HasDrawn s.instance t text last k a b → IsSoundImage b (drawn_records s t last k) (take t seq)
-        drawn_up_to zero b most has = subst (λ (u : Records). IsSoundImage b u (take t seq)) (none_drawn s t last) (with_cut b has)
+        drawn_up_to zero b most has = subst (λ (u : Records). IsSoundImage b u (take t seq)) (none_drawn s t last) (cut_image_to b has)
         drawn_up_to (suc k) b most has =
             let here : k < m = omega (arith, most) in
             more k here b has (drawn_up_to k (earlier k here b has) (omega (arith, most)) (earlier_drawn k here b has))
@@ -390,3 +390,6 @@ module _ (a : Files) (s : Records) (last : ℕ → ℕ) (form : MayBeOpened s.in
 
     pub drawn_image : (text : List ℕ) → AreRead s.instance last s.journal a → (k : ℕ) (b : Files) → HasDrawn s.instance (length seq) text last k a b → IsSoundImage b (drawn_records s (length seq) last k) seq
     drawn_image text read k b has = subst (IsSoundImage b (drawn_records s (length seq) last k)) (take-length seq) (drawn_image_to (length seq) (omega arith) text read k b has)
+
+    pub cut_off_image : (text : List ℕ) → AreRead s.instance last s.journal a → (b : Files) → HasCut s.instance (length seq) text a b → IsSoundImage b (with_record s (next_cut s.instance (length seq))) seq
+    cut_off_image text read b cut = subst (IsSoundImage b (with_record s (next_cut s.instance (length seq)))) (take-length seq) (cut_image_to (length seq) (omega arith) text read b (cut last))

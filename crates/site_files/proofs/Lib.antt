@@ -5,6 +5,7 @@ pub mod Beginning
 pub mod Drawings
 pub mod Keeping
 pub mod LostFiles
+pub mod Ahead
 pub mod Mapped
 pub mod Errors
 pub mod RegionsRead

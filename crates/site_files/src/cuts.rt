@@ -4,10 +4,10 @@ ghost use Rattle.disk_defs.specs.Disk.{Files, Image, From, AtEachMoment, IsDurab
 ghost use Rattle.disk_defs.specs.Frames.{Only, OnlyOn, OthersStay};
 ghost use Rattle.instance_file.specs.Instance as instances;
 ghost use Rattle.journal_defs.specs.Numbers.{INSTANCE};
-ghost use Rattle.journal_defs.specs.Instance.{generation};
+ghost use Rattle.journal_defs.specs.Instance.{generation, regions};
 ghost use Rattle.journal_defs.specs.Sequence.{Placed};
 ghost use Rattle.journal_defs.specs.Stands.{IsInstance};
-ghost use Rattle.site_files.specs.Loading.{MayBeOpened, WasRead, MayCutOff, HasCut, AreCut, next_cut, next_broken};
+ghost use Rattle.site_files.specs.Loading.{MayBeOpened, WasRead, MayCutOff, HasCut, AreCut, AreUnbegun, next_cut, next_broken};
 
 use crate::error::FilesError;
 use crate::finding::{generation_in, in_instance};
@@ -92,7 +92,7 @@ pub fn cut_open<D: Disk>(
     requires ready { instances.IsReady (D.disk disk.old) instance }
     requires form { (last : ℕ → ℕ) × MayBeOpened instance.records last }
     requires count { count < 2 ^ 40 }
-    requires read { IfSome (D.disk disk.old).content (λ files. (last : ℕ → ℕ) × (journal : ℕ → List Placed) × WasRead (D.disk disk.old) instance.records last journal files) }
+    requires unbegun { IfSome (D.disk disk.old).content (λ _. (f : Files) → Image (D.disk disk.old) f → AreUnbegun (suc (generation instance.records)) (length (regions instance.records)) f) }
     ensures ready { IfOk result (λ made. instances.IsReady (D.disk disk.new) made) }
     ensures records { IfOk result (λ made. made.records ≡ instance.records ++ next_cut instance.records count ∷ []) }
     ensures instance_file { IfOk result (λ made. IfSome (D.disk disk.old).content (λ _. instances.HasRecords (D.disk disk.new) made (instance.records ++ next_cut instance.records count ∷ []))) }

@@ -243,7 +243,7 @@ pub fn draw<D: Disk>(
 /// Draws the next generation of a site whose instance file is open, with a CUT to so many entries, and begins it in each region.
 /// It writes no broken-transaction file.
 ///
-/// `last_began` has the last generation that began, by region.
+/// No image has an open record in the journals of the next generation. `last_began` has the last generation that began, by region.
 pub fn draw_next<D: Disk>(
     alloc: Global,
     disk: &mut D,
@@ -255,7 +255,7 @@ pub fn draw_next<D: Disk>(
     requires form { MayBeOpened instance.records (last_of last_began.now) }
     requires counted { length last_began.now ≡ length (regions instance.records) }
     requires count { count < 2 ^ 40 }
-    requires read { IfSome (D.disk disk.old).content (λ files. (journal : ℕ → List Placed) × WasRead (D.disk disk.old) instance.records (last_of last_began.now) journal files) }
+    requires unbegun { IfSome (D.disk disk.old).content (λ _. (f : Files) → Image (D.disk disk.old) f → AreUnbegun (suc (generation instance.records)) (length (regions instance.records)) f) }
     ensures instance { IfOk result (λ made. instances.IsReady (D.disk disk.new) made.instance) }
     ensures journal_count { IfOk result (λ made. length made.journals.items ≡ length (regions instance.records)) }
     ensures journals { IfOk result (λ made. (r : ℕ) (j : Journal) → slice_get made.journals.items r ≡ Some j → journals.IsReady (D.disk disk.new) j × journals.IsJournalOf j r (suc (generation instance.records))) }

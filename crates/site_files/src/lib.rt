@@ -20,8 +20,8 @@ pub use drawing::{Drawn, draw, draw_next};
 pub use error::FilesError;
 pub use finding::{created_name, generation_in, in_instance, read_instance, sync_instance};
 pub use laws::{
-    drawing_keeps_the_sequence, images_have_what_was_read, lost_files_are_free,
-    reading_gives_the_records,
+    cutting_off_leaves_a_site, drawing_keeps_the_sequence, images_have_what_was_read,
+    lost_files_are_free, reading_gives_the_records,
 };
 pub use mapping::directory_of;
 pub use reading::{ReadSite, read_records, read_site, see_ahead};

@@ -24,7 +24,7 @@ returns-in-Ok-clause-any_moment g c =
     let run : IfSome u.content (λ _. AtEachMoment u v (OnlyOn u INSTANCE (StandsWith rs (next_cut rs n)))) =
     weaker_told u.content (λ _. HasRecords u i rs) (λ _. AtEachMoment u v (OnlyOn u INSTANCE (StandsWith rs (next_cut rs n)))) has
     (λ files h. subst (λ (x : InstanceRecord). AtEachMoment u v (OnlyOn u INSTANCE (StandsWith rs x))) same (c.cut.ensures.any_moment rs h)) in
-    drawings.open_moments rs n [] c.requires.form.0 c.requires.form.1 u c.requires.read v refl c.cut.ensures.frame run
+    drawings.open_moments rs n [] c.requires.form.0 c.requires.form.1 u c.requires.unbegun v refl c.cut.ensures.frame run
 
 pub returns-in-Ok-clause-reads : goal.returns-in-Ok-clause-reads
 returns-in-Ok-clause-reads g c =
@@ -40,7 +40,7 @@ returns-in-Ok-clause-reads g c =
     let run : IfSome u.content (λ _. AtEachMoment u v (OnlyOn u INSTANCE (StandsWith rs (next_cut rs n)))) =
     weaker_told u.content (λ _. HasRecords u i rs) (λ _. AtEachMoment u v (OnlyOn u INSTANCE (StandsWith rs (next_cut rs n)))) has
     (λ files h. subst (λ (x : InstanceRecord). AtEachMoment u v (OnlyOn u INSTANCE (StandsWith rs x))) same (c.cut.ensures.any_moment rs h)) in
-    drawings.open_reads rs n [] c.requires.form.0 c.requires.form.1 u c.requires.read v refl c.cut.ensures.frame (g.met.D.Disk.lawful c.cut.new.disk) run
+    drawings.open_reads rs n [] c.requires.form.0 c.requires.form.1 u c.requires.unbegun v refl c.cut.ensures.frame (g.met.D.Disk.lawful c.args.disk.now) (g.met.D.Disk.lawful c.cut.new.disk) run
 
 pub returns-in-Err-clause-any_moment : goal.returns-in-Err-clause-any_moment
 returns-in-Err-clause-any_moment g c =
@@ -56,7 +56,7 @@ returns-in-Err-clause-any_moment g c =
     let run : IfSome u.content (λ _. AtEachMoment u v (OnlyOn u INSTANCE (StandsWith rs (next_cut rs n)))) =
     weaker_told u.content (λ _. HasRecords u i rs) (λ _. AtEachMoment u v (OnlyOn u INSTANCE (StandsWith rs (next_cut rs n)))) has
     (λ files h. subst (λ (x : InstanceRecord). AtEachMoment u v (OnlyOn u INSTANCE (StandsWith rs x))) same (c.cut.ensures.any_moment rs h)) in
-    drawings.open_moments rs n [] c.requires.form.0 c.requires.form.1 u c.requires.read v refl c.cut.ensures.frame run
+    drawings.open_moments rs n [] c.requires.form.0 c.requires.form.1 u c.requires.unbegun v refl c.cut.ensures.frame run
 
 pub returns-in-Err-clause-reads : goal.returns-in-Err-clause-reads
 returns-in-Err-clause-reads g c =
@@ -72,7 +72,7 @@ returns-in-Err-clause-reads g c =
     let run : IfSome u.content (λ _. AtEachMoment u v (OnlyOn u INSTANCE (StandsWith rs (next_cut rs n)))) =
     weaker_told u.content (λ _. HasRecords u i rs) (λ _. AtEachMoment u v (OnlyOn u INSTANCE (StandsWith rs (next_cut rs n)))) has
     (λ files h. subst (λ (x : InstanceRecord). AtEachMoment u v (OnlyOn u INSTANCE (StandsWith rs x))) same (c.cut.ensures.any_moment rs h)) in
-    drawings.open_reads rs n [] c.requires.form.0 c.requires.form.1 u c.requires.read v refl c.cut.ensures.frame (g.met.D.Disk.lawful c.cut.new.disk) run
+    drawings.open_reads rs n [] c.requires.form.0 c.requires.form.1 u c.requires.unbegun v refl c.cut.ensures.frame (g.met.D.Disk.lawful c.args.disk.now) (g.met.D.Disk.lawful c.cut.new.disk) run
 
 pub returns-in-Ok-clause-instance_file : goal.returns-in-Ok-clause-instance_file
 returns-in-Ok-clause-instance_file g c =
@@ -106,7 +106,7 @@ returns-in-Ok-clause-drawn g c =
     let now : IfSome u.content (λ _. HasRecords v made (rs ++ next_cut rs n ∷ [])) =
     weaker_told u.content (λ _. HasRecords u i rs) (λ _. HasRecords v made (rs ++ next_cut rs n ∷ [])) has
     (λ files h. subst (λ (x : InstanceRecord). HasRecords v made (rs ++ x ∷ [])) same (c.in-Ok.ensures.state rs h)) in
-    drawings.open_images rs n [] c.requires.form.0 c.requires.form.1 u c.requires.read v refl c.cut.ensures.frame made now
+    drawings.open_images rs n [] c.requires.form.0 c.requires.form.1 u c.requires.unbegun v refl c.cut.ensures.frame made now
 
 pub returns-in-Ok-clause-drawn_reads : goal.returns-in-Ok-clause-drawn_reads
 returns-in-Ok-clause-drawn_reads g c =
@@ -123,4 +123,4 @@ returns-in-Ok-clause-drawn_reads g c =
     let now : IfSome u.content (λ _. HasRecords v made (rs ++ next_cut rs n ∷ [])) =
     weaker_told u.content (λ _. HasRecords u i rs) (λ _. HasRecords v made (rs ++ next_cut rs n ∷ [])) has
     (λ files h. subst (λ (x : InstanceRecord). HasRecords v made (rs ++ x ∷ [])) same (c.in-Ok.ensures.state rs h)) in
-    drawings.open_as_read rs n [] c.requires.form.0 c.requires.form.1 u c.requires.read v refl c.cut.ensures.frame made now
+    drawings.open_as_read rs n [] c.requires.form.0 c.requires.form.1 u c.requires.unbegun v refl c.cut.ensures.frame made now (g.met.D.Disk.lawful c.args.disk.now)

@@ -26,10 +26,10 @@ returns-in_err-instance-clause-any_moment g c =
     let lasts = c.args.last_began.now in
     let last = last_of lasts in
     let form = c.requires.form in
-    let read = drawings.read_any u rs last c.requires.read in
+    let unbegun = drawings.none_here rs n c.args.broken.now last form u (drawings.read_any u rs last c.requires.read) in
     let text = c.args.broken.now in
     let S = λ (files : Files). length (files (next_broken rs)) ≤ length text in
-    drawings.draw_moments rs n text last form u read v c.cut_off.ensures.frame last S c.cut_off.ensures.any_moment
+    drawings.draw_moments rs n text last form u unbegun v c.cut_off.ensures.frame last S c.cut_off.ensures.any_moment
 
 pub returns-in_err-instance-clause-reads : goal.returns-in_err-instance-clause-reads
 returns-in_err-instance-clause-reads g c =
@@ -41,10 +41,10 @@ returns-in_err-instance-clause-reads g c =
     let lasts = c.args.last_began.now in
     let last = last_of lasts in
     let form = c.requires.form in
-    let read = drawings.read_any u rs last c.requires.read in
+    let unbegun = drawings.none_here rs n c.args.broken.now last form u (drawings.read_any u rs last c.requires.read) in
     let text = c.args.broken.now in
     let S = λ (files : Files). length (files (next_broken rs)) ≤ length text in
-    drawings.draw_reads rs n text last form u read v c.cut_off.ensures.frame last S c.cut_off.ensures.reads
+    drawings.draw_reads rs n text last form u unbegun v c.cut_off.ensures.frame last S c.cut_off.ensures.reads
 
 pub returns-in_err-instance-clause-frame : goal.returns-in_err-instance-clause-frame
 returns-in_err-instance-clause-frame g c =
@@ -56,10 +56,10 @@ returns-in_err-instance-clause-frame g c =
     let lasts = c.args.last_began.now in
     let last = last_of lasts in
     let form = c.requires.form in
-    let read = drawings.read_any u rs last c.requires.read in
+    let unbegun = drawings.none_here rs n c.args.broken.now last form u (drawings.read_any u rs last c.requires.read) in
     let text = c.args.broken.now in
     let S = λ (files : Files). length (files (next_broken rs)) ≤ length text in
-    drawings.draw_frame rs n text last form u read v c.cut_off.ensures.frame
+    drawings.draw_frame rs n text last form u unbegun v c.cut_off.ensures.frame
 
 pub begin_drawn-requires-clause-generation : goal.begin_drawn-requires-clause-generation
 begin_drawn-requires-clause-generation g c =
@@ -71,7 +71,7 @@ begin_drawn-requires-clause-generation g c =
     let lasts = c.args.last_began.now in
     let last = last_of lasts in
     let form = c.requires.form in
-    let read = drawings.read_any u rs last c.requires.read in
+    let unbegun = drawings.none_here rs n c.args.broken.now last form u (drawings.read_any u rs last c.requires.read) in
     let text = c.args.broken.now in
     let S = λ (files : Files). length (files (next_broken rs)) ≤ length text in
     let i = c.in_ok-instance.instance in
@@ -90,7 +90,7 @@ begin_drawn-requires-clause-earlier g c =
     let lasts = c.args.last_began.now in
     let last = last_of lasts in
     let form = c.requires.form in
-    let read = drawings.read_any u rs last c.requires.read in
+    let unbegun = drawings.none_here rs n c.args.broken.now last form u (drawings.read_any u rs last c.requires.read) in
     let text = c.args.broken.now in
     let S = λ (files : Files). length (files (next_broken rs)) ≤ length text in
     let i = c.in_ok-instance.instance in
@@ -113,7 +113,7 @@ begin_drawn-requires-clause-unbegun g c =
     let lasts = c.args.last_began.now in
     let last = last_of lasts in
     let form = c.requires.form in
-    let read = drawings.read_any u rs last c.requires.read in
+    let unbegun = drawings.none_here rs n c.args.broken.now last form u (drawings.read_any u rs last c.requires.read) in
     let text = c.args.broken.now in
     let S = λ (files : Files). length (files (next_broken rs)) ≤ length text in
     let i = c.in_ok-instance.instance in
@@ -121,7 +121,7 @@ begin_drawn-requires-clause-unbegun g c =
     let gen = generation qs in
     let g_is : gen ≡ suc (generation rs) = drawings.newest_is rs qs n c.in_ok-instance.ensures.records in
     subst (λ (k : ℕ). IfSome v.content (λ _. (f : Files) → Image v f → AreUnbegun k (length lasts) f)) (sym g_is)
-    (subst (λ (k : ℕ). IfSome v.content (λ _. (f : Files) → Image v f → AreUnbegun (suc (generation rs)) k f)) (sym c.requires.counted) (drawings.unbegun_here rs n text last form u read v c.cut_off.ensures.frame))
+    (subst (λ (k : ℕ). IfSome v.content (λ _. (f : Files) → Image v f → AreUnbegun (suc (generation rs)) k f)) (sym c.requires.counted) (drawings.unbegun_here rs n text last form u unbegun v c.cut_off.ensures.frame))
 
 pub returns-clause-any_moment : goal.returns-clause-any_moment
 returns-clause-any_moment g c =
@@ -133,7 +133,7 @@ returns-clause-any_moment g c =
     let lasts = c.args.last_began.now in
     let last = last_of lasts in
     let form = c.requires.form in
-    let read = drawings.read_any u rs last c.requires.read in
+    let unbegun = drawings.none_here rs n c.args.broken.now last form u (drawings.read_any u rs last c.requires.read) in
     let text = c.args.broken.now in
     let S = λ (files : Files). length (files (next_broken rs)) ≤ length text in
     let i = c.in_ok-instance.instance in
@@ -144,7 +144,7 @@ returns-clause-any_moment g c =
     let m = length lasts in
     let first = first_by qs gen lasts in
     let first_is = drawings.first_same rs qs lasts n gen c.in_ok-instance.ensures.records g_is in
-    drawings.all_moments rs n text last form u read v c.cut_off.ensures.frame last S w gen m first g_is c.requires.counted first_is c.in_ok-instance.ensures.drawn c.cut_off.ensures.any_moment c.begin_drawn.ensures.any_moment
+    drawings.all_moments rs n text last form u unbegun v c.cut_off.ensures.frame last S w gen m first g_is c.requires.counted first_is c.in_ok-instance.ensures.drawn c.cut_off.ensures.any_moment c.begin_drawn.ensures.any_moment
 
 pub returns-clause-reads : goal.returns-clause-reads
 returns-clause-reads g c =
@@ -156,7 +156,7 @@ returns-clause-reads g c =
     let lasts = c.args.last_began.now in
     let last = last_of lasts in
     let form = c.requires.form in
-    let read = drawings.read_any u rs last c.requires.read in
+    let unbegun = drawings.none_here rs n c.args.broken.now last form u (drawings.read_any u rs last c.requires.read) in
     let text = c.args.broken.now in
     let S = λ (files : Files). length (files (next_broken rs)) ≤ length text in
     let i = c.in_ok-instance.instance in
@@ -167,7 +167,7 @@ returns-clause-reads g c =
     let m = length lasts in
     let first = first_by qs gen lasts in
     let first_is = drawings.first_same rs qs lasts n gen c.in_ok-instance.ensures.records g_is in
-    drawings.reads_begun rs n text last form u read v c.cut_off.ensures.frame last S w gen m first g_is c.requires.counted first_is c.begin_drawn.ensures.frame (g.met.D.Disk.lawful c.begin_drawn.new.disk) c.in_ok-instance.ensures.drawn_reads c.begin_drawn.ensures.any_moment
+    drawings.reads_begun rs n text last form u unbegun v c.cut_off.ensures.frame last S w gen m first g_is c.requires.counted first_is c.begin_drawn.ensures.frame (g.met.D.Disk.lawful c.begin_drawn.new.disk) c.in_ok-instance.ensures.drawn_reads c.begin_drawn.ensures.any_moment
 
 pub returns-clause-frame : goal.returns-clause-frame
 returns-clause-frame g c =
@@ -179,7 +179,7 @@ returns-clause-frame g c =
     let lasts = c.args.last_began.now in
     let last = last_of lasts in
     let form = c.requires.form in
-    let read = drawings.read_any u rs last c.requires.read in
+    let unbegun = drawings.none_here rs n c.args.broken.now last form u (drawings.read_any u rs last c.requires.read) in
     let text = c.args.broken.now in
     let S = λ (files : Files). length (files (next_broken rs)) ≤ length text in
     let i = c.in_ok-instance.instance in
@@ -190,7 +190,7 @@ returns-clause-frame g c =
     let m = length lasts in
     let first = first_by qs gen lasts in
     let first_is = drawings.first_same rs qs lasts n gen c.in_ok-instance.ensures.records g_is in
-    drawings.all_frame rs n text last form u read v c.cut_off.ensures.frame last S w gen m first g_is c.requires.counted first_is c.begin_drawn.ensures.frame
+    drawings.all_frame rs n text last form u unbegun v c.cut_off.ensures.frame last S w gen m first g_is c.requires.counted first_is c.begin_drawn.ensures.frame
 
 pub returns-clause-drawn : goal.returns-clause-drawn
 returns-clause-drawn g c =
@@ -202,7 +202,7 @@ returns-clause-drawn g c =
     let lasts = c.args.last_began.now in
     let last = last_of lasts in
     let form = c.requires.form in
-    let read = drawings.read_any u rs last c.requires.read in
+    let unbegun = drawings.none_here rs n c.args.broken.now last form u (drawings.read_any u rs last c.requires.read) in
     let text = c.args.broken.now in
     let S = λ (files : Files). length (files (next_broken rs)) ≤ length text in
     let i = c.in_ok-instance.instance in
@@ -213,7 +213,7 @@ returns-clause-drawn g c =
     let m = length lasts in
     let first = first_by qs gen lasts in
     let first_is = drawings.first_same rs qs lasts n gen c.in_ok-instance.ensures.records g_is in
-    on_ok c.begin_drawn.result _ _ c.begin_drawn.ensures.begun (λ begun. drawings.has_drawn rs n text last form u read v c.cut_off.ensures.frame last S w gen m first g_is c.requires.counted first_is c.in_ok-instance.ensures.drawn begun)
+    on_ok c.begin_drawn.result _ _ c.begin_drawn.ensures.begun (λ begun. drawings.has_drawn rs n text last form u unbegun v c.cut_off.ensures.frame last S w gen m first g_is c.requires.counted first_is c.in_ok-instance.ensures.drawn begun)
 
 pub returns-clause-journals : goal.returns-clause-journals
 returns-clause-journals g c =
@@ -225,7 +225,7 @@ returns-clause-journals g c =
     let lasts = c.args.last_began.now in
     let last = last_of lasts in
     let form = c.requires.form in
-    let read = drawings.read_any u rs last c.requires.read in
+    let unbegun = drawings.none_here rs n c.args.broken.now last form u (drawings.read_any u rs last c.requires.read) in
     let text = c.args.broken.now in
     let S = λ (files : Files). length (files (next_broken rs)) ≤ length text in
     let i = c.in_ok-instance.instance in
@@ -248,7 +248,7 @@ returns-clause-journal_files g c =
     let lasts = c.args.last_began.now in
     let last = last_of lasts in
     let form = c.requires.form in
-    let read = drawings.read_any u rs last c.requires.read in
+    let unbegun = drawings.none_here rs n c.args.broken.now last form u (drawings.read_any u rs last c.requires.read) in
     let text = c.args.broken.now in
     let S = λ (files : Files). length (files (next_broken rs)) ≤ length text in
     let i = c.in_ok-instance.instance in
@@ -259,7 +259,7 @@ returns-clause-journal_files g c =
     let m = length lasts in
     let first = first_by qs gen lasts in
     let first_is = drawings.first_same rs qs lasts n gen c.in_ok-instance.ensures.records g_is in
-    if_ok c.begin_drawn.result _ _ c.begin_drawn.ensures.journal_files (λ made told. drawings.journals_told rs n text last form u read v c.cut_off.ensures.frame last S w gen m first g_is c.requires.counted first_is made.journals.items told)
+    if_ok c.begin_drawn.result _ _ c.begin_drawn.ensures.journal_files (λ made told. drawings.journals_told rs n text last form u unbegun v c.cut_off.ensures.frame last S w gen m first g_is c.requires.counted first_is made.journals.items told)
 
 pub returns-clause-journal_count : goal.returns-clause-journal_count
 returns-clause-journal_count g c =
@@ -279,7 +279,7 @@ returns-clause-instance_file g c =
     let lasts = c.args.last_began.now in
     let last = last_of lasts in
     let form = c.requires.form in
-    let read = drawings.read_any u rs last c.requires.read in
+    let unbegun = drawings.none_here rs n c.args.broken.now last form u (drawings.read_any u rs last c.requires.read) in
     let text = c.args.broken.now in
     let S = λ (files : Files). length (files (next_broken rs)) ≤ length text in
     let i = c.in_ok-instance.instance in

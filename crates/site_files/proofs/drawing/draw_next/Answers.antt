@@ -12,10 +12,6 @@ use Rattle.site_files.proofs.Drawings as drawings
 use Rattle.site_files.proofs.Drawings.{given, taken}
 use Rattle.site_files.proofs.drawing.draw_next.Goals as goal
 
-pub cut_open-requires-clause-read : goal.cut_open-requires-clause-read
-cut_open-requires-clause-read g c =
-    drawings.read_any (g.D.Disk.disk c.args.disk.now) c.args.instance.records (last_of c.args.last_began.now) c.requires.read
-
 pub returns-in_err-instance-clause-any_moment : goal.returns-in_err-instance-clause-any_moment
 returns-in_err-instance-clause-any_moment g c =
     let view = g.D.Disk.disk in
@@ -26,10 +22,9 @@ returns-in_err-instance-clause-any_moment g c =
     let lasts = c.args.last_began.now in
     let last = last_of lasts in
     let form = c.requires.form in
-    let read = drawings.read_any u rs last c.requires.read in
     let S = λ (files : Files). Unit {0} in
-    let frame = drawings.open_frame rs n [] last form u read v refl c.cut_open.ensures.frame in
-    taken u.content _ (drawings.draw_moments rs n [] last form u read v frame last S (given u.content _ c.cut_open.ensures.any_moment))
+    let frame = drawings.open_frame rs n [] last form u c.requires.unbegun v refl c.cut_open.ensures.frame in
+    taken u.content _ (drawings.draw_moments rs n [] last form u c.requires.unbegun v frame last S (given u.content _ c.cut_open.ensures.any_moment))
 
 pub returns-in_err-instance-clause-reads : goal.returns-in_err-instance-clause-reads
 returns-in_err-instance-clause-reads g c =
@@ -41,10 +36,9 @@ returns-in_err-instance-clause-reads g c =
     let lasts = c.args.last_began.now in
     let last = last_of lasts in
     let form = c.requires.form in
-    let read = drawings.read_any u rs last c.requires.read in
     let S = λ (files : Files). Unit {0} in
-    let frame = drawings.open_frame rs n [] last form u read v refl c.cut_open.ensures.frame in
-    taken u.content _ (drawings.draw_reads rs n [] last form u read v frame last S (given u.content _ c.cut_open.ensures.reads))
+    let frame = drawings.open_frame rs n [] last form u c.requires.unbegun v refl c.cut_open.ensures.frame in
+    taken u.content _ (drawings.draw_reads rs n [] last form u c.requires.unbegun v frame last S (given u.content _ c.cut_open.ensures.reads))
 
 pub returns-in_err-instance-clause-frame : goal.returns-in_err-instance-clause-frame
 returns-in_err-instance-clause-frame g c =
@@ -56,10 +50,9 @@ returns-in_err-instance-clause-frame g c =
     let lasts = c.args.last_began.now in
     let last = last_of lasts in
     let form = c.requires.form in
-    let read = drawings.read_any u rs last c.requires.read in
     let S = λ (files : Files). Unit {0} in
-    let frame = drawings.open_frame rs n [] last form u read v refl c.cut_open.ensures.frame in
-    drawings.draw_frame rs n [] last form u read v frame
+    let frame = drawings.open_frame rs n [] last form u c.requires.unbegun v refl c.cut_open.ensures.frame in
+    drawings.draw_frame rs n [] last form u c.requires.unbegun v frame
 
 pub begin_drawn-requires-clause-generation : goal.begin_drawn-requires-clause-generation
 begin_drawn-requires-clause-generation g c =
@@ -71,9 +64,8 @@ begin_drawn-requires-clause-generation g c =
     let lasts = c.args.last_began.now in
     let last = last_of lasts in
     let form = c.requires.form in
-    let read = drawings.read_any u rs last c.requires.read in
     let S = λ (files : Files). Unit {0} in
-    let frame = drawings.open_frame rs n [] last form u read v refl c.cut_open.ensures.frame in
+    let frame = drawings.open_frame rs n [] last form u c.requires.unbegun v refl c.cut_open.ensures.frame in
     let i = c.in_ok-instance.instance in
     let qs = i.records in
     let gen = generation qs in
@@ -90,9 +82,8 @@ begin_drawn-requires-clause-earlier g c =
     let lasts = c.args.last_began.now in
     let last = last_of lasts in
     let form = c.requires.form in
-    let read = drawings.read_any u rs last c.requires.read in
     let S = λ (files : Files). Unit {0} in
-    let frame = drawings.open_frame rs n [] last form u read v refl c.cut_open.ensures.frame in
+    let frame = drawings.open_frame rs n [] last form u c.requires.unbegun v refl c.cut_open.ensures.frame in
     let i = c.in_ok-instance.instance in
     let qs = i.records in
     let gen = generation qs in
@@ -113,15 +104,14 @@ begin_drawn-requires-clause-unbegun g c =
     let lasts = c.args.last_began.now in
     let last = last_of lasts in
     let form = c.requires.form in
-    let read = drawings.read_any u rs last c.requires.read in
     let S = λ (files : Files). Unit {0} in
-    let frame = drawings.open_frame rs n [] last form u read v refl c.cut_open.ensures.frame in
+    let frame = drawings.open_frame rs n [] last form u c.requires.unbegun v refl c.cut_open.ensures.frame in
     let i = c.in_ok-instance.instance in
     let qs = i.records in
     let gen = generation qs in
     let g_is : gen ≡ suc (generation rs) = drawings.newest_is rs qs n c.in_ok-instance.ensures.records in
     subst (λ (k : ℕ). IfSome v.content (λ _. (f : Files) → Image v f → AreUnbegun k (length lasts) f)) (sym g_is)
-    (subst (λ (k : ℕ). IfSome v.content (λ _. (f : Files) → Image v f → AreUnbegun (suc (generation rs)) k f)) (sym c.requires.counted) (drawings.unbegun_here rs n [] last form u read v frame))
+    (subst (λ (k : ℕ). IfSome v.content (λ _. (f : Files) → Image v f → AreUnbegun (suc (generation rs)) k f)) (sym c.requires.counted) (drawings.unbegun_here rs n [] last form u c.requires.unbegun v frame))
 
 pub returns-clause-any_moment : goal.returns-clause-any_moment
 returns-clause-any_moment g c =
@@ -133,9 +123,8 @@ returns-clause-any_moment g c =
     let lasts = c.args.last_began.now in
     let last = last_of lasts in
     let form = c.requires.form in
-    let read = drawings.read_any u rs last c.requires.read in
     let S = λ (files : Files). Unit {0} in
-    let frame = drawings.open_frame rs n [] last form u read v refl c.cut_open.ensures.frame in
+    let frame = drawings.open_frame rs n [] last form u c.requires.unbegun v refl c.cut_open.ensures.frame in
     let i = c.in_ok-instance.instance in
     let qs = i.records in
     let gen = generation qs in
@@ -144,7 +133,7 @@ returns-clause-any_moment g c =
     let m = length lasts in
     let first = first_by qs gen lasts in
     let first_is = drawings.first_same rs qs lasts n gen c.in_ok-instance.ensures.records g_is in
-    taken u.content _ (drawings.all_moments rs n [] last form u read v frame last S w gen m first g_is c.requires.counted first_is (given u.content _ c.in_ok-instance.ensures.drawn) (given u.content _ c.cut_open.ensures.any_moment) c.begin_drawn.ensures.any_moment)
+    taken u.content _ (drawings.all_moments rs n [] last form u c.requires.unbegun v frame last S w gen m first g_is c.requires.counted first_is (given u.content _ c.in_ok-instance.ensures.drawn) (given u.content _ c.cut_open.ensures.any_moment) c.begin_drawn.ensures.any_moment)
 
 pub returns-clause-reads : goal.returns-clause-reads
 returns-clause-reads g c =
@@ -156,9 +145,8 @@ returns-clause-reads g c =
     let lasts = c.args.last_began.now in
     let last = last_of lasts in
     let form = c.requires.form in
-    let read = drawings.read_any u rs last c.requires.read in
     let S = λ (files : Files). Unit {0} in
-    let frame = drawings.open_frame rs n [] last form u read v refl c.cut_open.ensures.frame in
+    let frame = drawings.open_frame rs n [] last form u c.requires.unbegun v refl c.cut_open.ensures.frame in
     let i = c.in_ok-instance.instance in
     let qs = i.records in
     let gen = generation qs in
@@ -167,7 +155,7 @@ returns-clause-reads g c =
     let m = length lasts in
     let first = first_by qs gen lasts in
     let first_is = drawings.first_same rs qs lasts n gen c.in_ok-instance.ensures.records g_is in
-    taken u.content _ (drawings.reads_begun rs n [] last form u read v frame last S w gen m first g_is c.requires.counted first_is c.begin_drawn.ensures.frame (g.met.D.Disk.lawful c.begin_drawn.new.disk) (given u.content _ c.in_ok-instance.ensures.drawn_reads) c.begin_drawn.ensures.any_moment)
+    taken u.content _ (drawings.reads_begun rs n [] last form u c.requires.unbegun v frame last S w gen m first g_is c.requires.counted first_is c.begin_drawn.ensures.frame (g.met.D.Disk.lawful c.begin_drawn.new.disk) (given u.content _ c.in_ok-instance.ensures.drawn_reads) c.begin_drawn.ensures.any_moment)
 
 pub returns-clause-frame : goal.returns-clause-frame
 returns-clause-frame g c =
@@ -179,9 +167,8 @@ returns-clause-frame g c =
     let lasts = c.args.last_began.now in
     let last = last_of lasts in
     let form = c.requires.form in
-    let read = drawings.read_any u rs last c.requires.read in
     let S = λ (files : Files). Unit {0} in
-    let frame = drawings.open_frame rs n [] last form u read v refl c.cut_open.ensures.frame in
+    let frame = drawings.open_frame rs n [] last form u c.requires.unbegun v refl c.cut_open.ensures.frame in
     let i = c.in_ok-instance.instance in
     let qs = i.records in
     let gen = generation qs in
@@ -190,7 +177,7 @@ returns-clause-frame g c =
     let m = length lasts in
     let first = first_by qs gen lasts in
     let first_is = drawings.first_same rs qs lasts n gen c.in_ok-instance.ensures.records g_is in
-    drawings.all_frame rs n [] last form u read v frame last S w gen m first g_is c.requires.counted first_is c.begin_drawn.ensures.frame
+    drawings.all_frame rs n [] last form u c.requires.unbegun v frame last S w gen m first g_is c.requires.counted first_is c.begin_drawn.ensures.frame
 
 pub returns-clause-drawn : goal.returns-clause-drawn
 returns-clause-drawn g c =
@@ -202,9 +189,8 @@ returns-clause-drawn g c =
     let lasts = c.args.last_began.now in
     let last = last_of lasts in
     let form = c.requires.form in
-    let read = drawings.read_any u rs last c.requires.read in
     let S = λ (files : Files). Unit {0} in
-    let frame = drawings.open_frame rs n [] last form u read v refl c.cut_open.ensures.frame in
+    let frame = drawings.open_frame rs n [] last form u c.requires.unbegun v refl c.cut_open.ensures.frame in
     let i = c.in_ok-instance.instance in
     let qs = i.records in
     let gen = generation qs in
@@ -213,7 +199,7 @@ returns-clause-drawn g c =
     let m = length lasts in
     let first = first_by qs gen lasts in
     let first_is = drawings.first_same rs qs lasts n gen c.in_ok-instance.ensures.records g_is in
-    on_ok c.begin_drawn.result _ _ c.begin_drawn.ensures.begun (λ begun. taken u.content _ (drawings.has_drawn rs n [] last form u read v frame last S w gen m first g_is c.requires.counted first_is (given u.content _ c.in_ok-instance.ensures.drawn) begun))
+    on_ok c.begin_drawn.result _ _ c.begin_drawn.ensures.begun (λ begun. taken u.content _ (drawings.has_drawn rs n [] last form u c.requires.unbegun v frame last S w gen m first g_is c.requires.counted first_is (given u.content _ c.in_ok-instance.ensures.drawn) begun))
 
 pub returns-clause-journals : goal.returns-clause-journals
 returns-clause-journals g c =
@@ -225,9 +211,8 @@ returns-clause-journals g c =
     let lasts = c.args.last_began.now in
     let last = last_of lasts in
     let form = c.requires.form in
-    let read = drawings.read_any u rs last c.requires.read in
     let S = λ (files : Files). Unit {0} in
-    let frame = drawings.open_frame rs n [] last form u read v refl c.cut_open.ensures.frame in
+    let frame = drawings.open_frame rs n [] last form u c.requires.unbegun v refl c.cut_open.ensures.frame in
     let i = c.in_ok-instance.instance in
     let qs = i.records in
     let gen = generation qs in
@@ -248,9 +233,8 @@ returns-clause-journal_files g c =
     let lasts = c.args.last_began.now in
     let last = last_of lasts in
     let form = c.requires.form in
-    let read = drawings.read_any u rs last c.requires.read in
     let S = λ (files : Files). Unit {0} in
-    let frame = drawings.open_frame rs n [] last form u read v refl c.cut_open.ensures.frame in
+    let frame = drawings.open_frame rs n [] last form u c.requires.unbegun v refl c.cut_open.ensures.frame in
     let i = c.in_ok-instance.instance in
     let qs = i.records in
     let gen = generation qs in
@@ -259,7 +243,7 @@ returns-clause-journal_files g c =
     let m = length lasts in
     let first = first_by qs gen lasts in
     let first_is = drawings.first_same rs qs lasts n gen c.in_ok-instance.ensures.records g_is in
-    if_ok c.begin_drawn.result _ _ c.begin_drawn.ensures.journal_files (λ made told. drawings.journals_told rs n [] last form u read v frame last S w gen m first g_is c.requires.counted first_is made.journals.items told)
+    if_ok c.begin_drawn.result _ _ c.begin_drawn.ensures.journal_files (λ made told. drawings.journals_told rs n [] last form u c.requires.unbegun v frame last S w gen m first g_is c.requires.counted first_is made.journals.items told)
 
 pub returns-clause-journal_count : goal.returns-clause-journal_count
 returns-clause-journal_count g c =
@@ -279,9 +263,8 @@ returns-clause-instance_file g c =
     let lasts = c.args.last_began.now in
     let last = last_of lasts in
     let form = c.requires.form in
-    let read = drawings.read_any u rs last c.requires.read in
     let S = λ (files : Files). Unit {0} in
-    let frame = drawings.open_frame rs n [] last form u read v refl c.cut_open.ensures.frame in
+    let frame = drawings.open_frame rs n [] last form u c.requires.unbegun v refl c.cut_open.ensures.frame in
     let i = c.in_ok-instance.instance in
     let qs = i.records in
     let gen = generation qs in
