@@ -1,7 +1,7 @@
 use Rattle.std.proofs.Common.{◌≡◌, ◌≤◌, IfSome}
 use Rattle.disk_defs.specs.Disk.{Image, AtEachMoment}
 use Rattle.site_store.specs.Opening.{AreTextsDurable}
-use Rattle.site_store.proofs.opening.sync_texts.Given as goal
+use Rattle.site_store.proofs.syncing.sync_texts.Given as goal
 
 abbrev pub invariant-loop-earlier : goal.invariant-loop-earlier
 invariant-loop-earlier g l =

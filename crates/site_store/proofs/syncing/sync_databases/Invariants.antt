@@ -1,7 +1,7 @@
 use Rattle.std.proofs.Common.{◌≡◌, ◌≤◌, IfSome}
 use Rattle.disk_defs.specs.Disk.{Image, AtEachMoment}
 use Rattle.site_store.specs.Opening.{AreDatabasesDurable}
-use Rattle.site_store.proofs.opening.sync_databases.Given as goal
+use Rattle.site_store.proofs.syncing.sync_databases.Given as goal
 
 abbrev pub invariant-loop-region : goal.invariant-loop-region
 invariant-loop-region g l =

@@ -4,7 +4,7 @@ use Rattle.disk_defs.specs.Disk.{Image}
 use Rattle.disk_defs.proofs.Moments.{started, nothing_new}
 use Rattle.site_store.proofs.Errors.{two_on}
 use Rattle.site_store.proofs.Databases.{no_database, one_more_database}
-use Rattle.site_store.proofs.opening.sync_databases.Goals as goal
+use Rattle.site_store.proofs.syncing.sync_databases.Goals as goal
 
 pub returns-in_err-sync_whole-clause-causes : goal.returns-in_err-sync_whole-clause-causes
 returns-in_err-sync_whole-clause-causes g c =
