@@ -1,4 +1,5 @@
 pub mod Behind
+pub mod Forward
 pub mod Homes
 pub mod Lists
 pub mod Opened

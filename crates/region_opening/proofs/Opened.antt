@@ -4,7 +4,7 @@ use Rattle.std.specs.Prelude.{IfSome, slice_index_or, unwrap_or, nat_lt, replica
 use Rattle.std.specs.List.{AllByRecursion}
 use Rattle.std.specs.FinMap as globals
 use Rattle.std.proofs.lemmas.Bool.Decides.{nat_tests}
-use Rattle.std.proofs.lemmas.List.{length-replicate}
+use Rattle.std.proofs.lemmas.List.{length-replicate, take-take}
 use Rattle.disk_defs.specs.Disk.{Files}
 use Rattle.global_defs.specs.Key.{Key, key_cmp}
 use Rattle.global_defs.specs.Encoded.{encoded}
@@ -19,6 +19,7 @@ use Rattle.journal_defs.specs.Sound.{AreWhole, Restores, IsSound, region_state}
 use Rattle.journal_defs.specs.Stands.{AreRecords}
 use Rattle.journal_defs.specs.Fit.{IsSoundImage}
 use Rattle.block_laws.specs.Nodes.{HaveKeys, updates_of, updates_in}
+use Rattle.journal_laws.proofs.ImageSteps.{all_take}
 use Rattle.block_laws.proofs.Chains as chains
 use Rattle.block_laws.proofs.Parts as parts
 use Rattle.region_store.specs.Region.{Standing, HoldsRegion, IsHeld, IsChanged, IsReplayed}
@@ -79,80 +80,79 @@ not_outside : (blocks : ℕ → Option (List ℕ)) (g : Globals) (b : ℕ) → H
 not_outside blocks g b keys holds (inl out) = nothing_outside blocks b g out keys holds
 not_outside blocks g b keys holds (inr others) = others.1.others (chains.one blocks others.1.there g others.1.keys keys others.1.restores.1 holds.1)
 
-first_all : {X : Type 0} (P : X → Type 0) (n : ℕ) (xs : List X) → AllByRecursion P xs → AllByRecursion P (take n xs)
-first_all P zero xs all = tt
-first_all P (suc n) [] all = tt
-first_all P (suc n) (x ∷ xs) all = (all.0, first_all P n xs all.1)
-
-none_behind : (n : ℕ) (seq : Sequence) → length seq ≡ 0 → updates_of (drop n seq) ≡ []
-none_behind zero [] none = refl
-none_behind (suc n) [] none = refl
-none_behind n (e ∷ es) none = absurd (omega (arith, none))
+-- no entry is behind a place for none of them
+none_behind : (n t : ℕ) (seq : Sequence) → t ≡ 0 → updates_of (drop n (take t seq)) ≡ []
+none_behind zero zero seq none = refl
+none_behind (suc n) zero seq none = refl
+none_behind n (suc t) seq none = absurd (omega (arith, none))
 
 -- ---- one region
 
--- a region from some place of its journals on, with the updates behind it made
-module _ (instance : List InstanceRecord) (seq : Sequence) (journal : List Placed) (r : ℕ) (e : Chosen) (start : IsStart instance (length seq) journal e)
+-- a region from some place of its journals on, with the updates behind it up to the target made
+module _ (instance : List InstanceRecord) (t : ℕ) (seq : Sequence) (journal : List Placed) (r : ℕ) (e : Chosen) (start : IsStart instance t journal e) (within : e.number ≤ t)
     (forms : AllByRecursion (λ x. IsTransaction x.transaction) seq) where
   abbrev pub Behind : Standing → Standing → Type 0
-  Behind s t = t.globals ≡ fold apply s.globals (updates_in (patterns instance) r (updates_of (drop e.number seq)))
+  Behind s m = m.globals ≡ fold apply s.globals (updates_in (patterns instance) r (updates_of (drop e.number (take t seq))))
 
-  pub own : (s t : Standing) → s.file ≡ database_file r → are_home (patterns instance) r s.globals ≡ true → (e.number ≡ 0 → s.globals ≡ globals.empty) → e.number ≤ length seq
-      → IsChanged s t → Behind s t → IsOwn (patterns instance) (length seq) r t
-  own s t file home none inside changed made = record {
+  pub own : (s m : Standing) → s.file ≡ database_file r → are_home (patterns instance) r s.globals ≡ true → (e.number ≡ 0 → s.globals ≡ globals.empty)
+      → IsChanged s m → Behind s m → IsOwn (patterns instance) t r m
+  own s m file home none changed made = record {
     file = changed.file ∙ file;
-    home = ap (are_home (patterns instance) r) made ∙ stay_home (patterns instance) r s.globals (updates_of (drop e.number seq)) home;
-    none = λ zero_long.
-        made ∙ ap (λ (us : List Update). fold apply s.globals (updates_in (patterns instance) r us)) (none_behind e.number seq zero_long)
-        ∙ none (omega (arith, inside, zero_long));
+    home = ap (are_home (patterns instance) r) made ∙ stay_home (patterns instance) r s.globals (updates_of (drop e.number (take t seq))) home;
+    none = λ at_zero.
+        made ∙ ap (λ (us : List Update). fold apply s.globals (updates_in (patterns instance) r us)) (none_behind e.number t seq at_zero)
+        ∙ none (omega (arith, within, at_zero));
   }
 
   held_from : (s : Standing) (files : Files) (c : Chosen) → e ≡ c → HoldsRegion e (files (database_file r)) s → HoldsRegion c (files (database_file r)) s
   held_from s files c is h = subst (λ (x : Chosen). HoldsRegion x (files (database_file r)) s) is h
 
   -- from the part of the entries up to the place
-  part_made : (s t : Standing) → s.globals ≡ region_state (patterns instance) r (take e.number seq) → Behind s t → t.globals ≡ region_state (patterns instance) r seq
-  part_made s t part made =
-      made ∙ ap (λ (g : Globals). fold apply g (updates_in (patterns instance) r (updates_of (drop e.number seq)))) part ∙ sym (parts.replay (patterns instance) r e.number seq)
+  part_made : (s m : Standing) → s.globals ≡ region_state (patterns instance) r (take e.number seq) → Behind s m → m.globals ≡ region_state (patterns instance) r (take t seq)
+  part_made s m part made =
+      let same : region_state (patterns instance) r (take e.number seq) ≡ region_state (patterns instance) r (take e.number (take t seq)) =
+      ap (region_state (patterns instance) r) (sym (take-take e.number t seq within)) in
+      made ∙ ap (λ (g : Globals). fold apply g (updates_in (patterns instance) r (updates_of (drop e.number (take t seq))))) (part ∙ same)
+      ∙ sym (parts.replay (patterns instance) r e.number (take t seq))
 
   abbrev Below : Files → ℕ → Option (List ℕ)
   Below files = image_state e (block_of (files (database_file r)))
 
-  part_there : (s : Standing) (files : Files) → IsStart instance (length seq) journal e → (e.number ≡ 0 → s.globals ≡ globals.empty) → IsReplayed (Below files) [] s.globals
-      → IsSound (region_state (patterns instance) r) instance seq journal (block_of (files (database_file r))) (length seq) → s.globals ≡ region_state (patterns instance) r (take e.number seq)
+  part_there : (s : Standing) (files : Files) → IsStart instance t journal e → (e.number ≡ 0 → s.globals ≡ globals.empty) → IsReplayed (Below files) [] s.globals
+      → IsSound (region_state (patterns instance) r) instance seq journal (block_of (files (database_file r))) t → s.globals ≡ region_state (patterns instance) r (take e.number seq)
   part_there s files (Anew forward is) none replayed sound =
       let first : e.number ≡ 0 = ap (λ (x : Chosen). x.number) is in
       none first ∙ sym (parts.begins (patterns instance) r) ∙ ap (λ (n : ℕ). region_state (patterns instance) r (take n seq)) (sym first)
   part_there s files (GoesBack back is) none replayed (inl forward) = absurd (back forward)
   part_there s files (GoesBack back is) none replayed (inr sound) =
       states.one (Below files) [] s.globals (region_state (patterns instance) r (take e.number seq)) replayed
-      (parts.keys (patterns instance) r (take e.number seq) (first_all (λ x. IsTransaction x.transaction) e.number seq forms))
+      (parts.keys (patterns instance) r (take e.number seq) (all_take (λ x. IsTransaction x.transaction) e.number seq forms))
       (subst (λ (c : Chosen). Restores (image_state c (block_of (files (database_file r)))) (region_state (patterns instance) r (take c.number seq))) (sym is) sound)
 
-  inside_from : (s : Standing) (files : Files) → IsStart instance (length seq) journal e → IsReplayed (Below files) [] s.globals → IsInside instance seq journal r files
+  inside_from : (s : Standing) (files : Files) → IsStart instance t journal e → IsReplayed (Below files) [] s.globals → IsInside instance t journal r files
   inside_from s files (Anew forward is) replayed = inl forward
   inside_from s files (GoesBack back is) replayed = inr (λ b out.
       nothing_outside (Below files) b replayed.restored (subst (λ (c : Chosen). IsOutsideAt (image_state c (block_of (files (database_file r)))) b) (sym is) out) replayed.keys replayed.restores)
 
-  holds_from : (t : Standing) (files : Files) → IsStart instance (length seq) journal e → HoldsRegion e (files (database_file r)) t → IsHeldFrom instance seq journal r t files
-  holds_from t files (Anew forward is) holds = inl forward
-  holds_from t files (GoesBack back is) holds = inr (held_from t files (chosen instance (length seq) journal) is holds)
+  holds_from : (m : Standing) (files : Files) → IsStart instance t journal e → HoldsRegion e (files (database_file r)) m → IsHeldFrom instance t journal r m files
+  holds_from m files (Anew forward is) holds = inl forward
+  holds_from m files (GoesBack back is) holds = inr (held_from m files (chosen instance t journal) is holds)
 
-  pub opened : (s t : Standing) (files : Files) → s.file ≡ database_file r → (e.number ≡ 0 → s.globals ≡ globals.empty) → IsChanged s t → Behind s t
-      → HoldsRegion e (files (database_file r)) s → IsReplayed (Below files) [] s.globals → IsOpened instance seq journal r t files
-  opened s t files file none changed made holds replayed =
-      let after : HoldsRegion e (files (database_file r)) t = changed.holds e (files (database_file r)) holds in
+  pub opened : (s m : Standing) (files : Files) → s.file ≡ database_file r → (e.number ≡ 0 → s.globals ≡ globals.empty) → IsChanged s m → Behind s m
+      → HoldsRegion e (files (database_file r)) s → IsReplayed (Below files) [] s.globals → IsOpened instance t seq journal r m files
+  opened s m files file none changed made holds replayed =
+      let after : HoldsRegion e (files (database_file r)) m = changed.holds e (files (database_file r)) holds in
       record {
-        held = (e, subst (λ (f : ℕ). HoldsRegion e (files f) t) (sym (changed.file ∙ file)) after);
-        holds = holds_from t files start after;
+        held = (e, subst (λ (f : ℕ). HoldsRegion e (files f) m) (sym (changed.file ∙ file)) after);
+        holds = holds_from m files start after;
         inside = inside_from s files start replayed;
-        state = λ sound. part_made s t (part_there s files start none replayed sound) made;
+        state = λ sound. part_made s m (part_there s files start none replayed sound) made;
       }
 
-  pub refused : (files : Files) (f offset b : ℕ) → f ≡ database_file r → offset ≡ 4096 * b → AreOutside (Below files) (region_state (patterns instance) r (take e.number seq)) b → IsRefused instance seq journal r f offset files
+  pub refused : (files : Files) (f offset b : ℕ) → f ≡ database_file r → offset ≡ 4096 * b → AreOutside (Below files) (region_state (patterns instance) r (take e.number seq)) b → IsRefused instance t seq journal r f offset files
   refused files f offset b file place out = by start
     where
-      by : IsStart instance (length seq) journal e → IsRefused instance seq journal r f offset files
+      by : IsStart instance t journal e → IsRefused instance t seq journal r f offset files
       by (Anew forward is) =
           let first : e.number ≡ 0 = ap (λ (x : Chosen). x.number) is in
           let none : region_state (patterns instance) r (take e.number seq) ≡ nothing = ap (λ (n : ℕ). region_state (patterns instance) r (take n seq)) first ∙ parts.begins (patterns instance) r in
@@ -180,19 +180,23 @@ have_parts ps rs homes =
     each : (i : ℕ) (g : Globals) → slice_get (map (λ (t : Standing). t.globals) rs) i ≡ Some g → are_home ps i g ≡ true
     each i g is = let x = of_mapped (λ (t : Standing). t.globals) rs i g is in subst (λ (h : Globals). are_home ps i h ≡ true) x.2 (homes i x.0 x.1)
 
-pub empty_parts : (ps : List Pattern) (rs : List Standing) (length_of : ℕ) → length_of ≡ 0 → ((r : ℕ) (s : Standing) → slice_get rs r ≡ Some s → IsOwn ps length_of r s) → ArePartsOf ps rs []
-empty_parts ps rs length_of zero_long own = are_parts ps rs [] (λ r s here. (own r s here).none zero_long ∙ sym (parts.begins ps r))
+pub empty_parts : (ps : List Pattern) (rs : List Standing) (t : ℕ) → t ≡ 0 → ((r : ℕ) (s : Standing) → slice_get rs r ≡ Some s → IsOwn ps t r s) → ArePartsOf ps rs []
+empty_parts ps rs t at_zero own = are_parts ps rs [] (λ r s here. (own r s here).none at_zero ∙ sym (parts.begins ps r))
 
-module _ (files : Files) (records : Records) (seq : Sequence) where
-  pub sound_parts : (rs : List Standing) → length rs ≡ length (regions records.instance) → ((r : ℕ) (s : Standing) → slice_get rs r ≡ Some s → IsOpened records.instance seq (records.journal r) r s files)
-      → IsSoundImage files records seq → ArePartsOf (patterns records.instance) rs seq
-  sound_parts rs count opened image =
-      are_parts (patterns records.instance) rs seq (λ r s here. let low = slice_get_within rs r s here in (opened r s here).state (image.sound (length seq) (omega arith) r (omega (arith, low, count))))
+module _ (files : Files) (records : Records) (t : ℕ) (seq : Sequence) where
+  pub sound_parts : (rs : List Standing) → length rs ≡ length (regions records.instance) → ((r : ℕ) (s : Standing) → slice_get rs r ≡ Some s → IsOpened records.instance t seq (records.journal r) r s files)
+      → t ≤ length seq → IsSoundImage files records seq → ArePartsOf (patterns records.instance) rs (take t seq)
+  sound_parts rs count opened within image =
+      are_parts (patterns records.instance) rs (take t seq) (λ r s here. let low = slice_get_within rs r s here in (opened r s here).state (image.sound t within r (omega (arith, low, count))))
 
-  module _ (n file offset : ℕ) (count : n ≡ length (regions records.instance)) (all : AreRefused records.instance seq records.journal n file offset files) where
-    pub refused_blocks : AreRecords files records → IsSequence records seq → HaveOutsideBlocks files file offset
-    refused_blocks held sequence =
+  module _ (n file offset : ℕ) (count : n ≡ length (regions records.instance)) (all : AreRefused records.instance t seq records.journal n file offset files) where
+    pub refused_blocks : (aim : ℕ → ℕ) → aim (length seq) ≡ t → AreRecords files records → IsSequence records seq → HaveOutsideBlocks aim files file offset
+    refused_blocks aim is held sequence =
         let below = all.below in
+        let earlier : (k : ℕ) → k ≡ t → (q : ℕ) → q < all.region → IsInside records.instance k (records.journal q) q files =
+        (λ k at q less. subst (λ (n : ℕ). IsInside records.instance n (records.journal q) q files) (sym at) (all.earlier q less)) in
+        let refused : IsRefused records.instance (aim (length seq)) seq (records.journal all.region) all.region file offset files =
+        subst (λ (n : ℕ). IsRefused records.instance n seq (records.journal all.region) all.region file offset files) (sym is) all.refused in
         record {
           records = records;
           seq = seq;
@@ -200,27 +204,27 @@ module _ (files : Files) (records : Records) (seq : Sequence) where
           sequence = sequence;
           region = all.region;
           below = omega (arith, below, count);
-          goes_back = all.refused.goes_back;
-          earlier = all.earlier;
-          block = all.refused.block;
-          outside = all.refused.outside;
-          file_is = all.refused.file_is;
-          offset_is = all.refused.offset_is;
+          goes_back = refused.goes_back;
+          earlier = earlier (aim (length seq)) is;
+          block = refused.block;
+          outside = refused.outside;
+          file_is = refused.file_is;
+          offset_is = refused.offset_is;
         }
 
-    pub refused_sound : IsSoundImage files records seq → AllByRecursion (λ x. IsTransaction x.transaction) seq → ⊥
-    refused_sound image forms = let below = all.below in by (image.sound (length seq) (omega arith) all.region (omega (arith, below, count)))
+    pub refused_sound : t ≤ length seq → IsSoundImage files records seq → AllByRecursion (λ x. IsTransaction x.transaction) seq → ⊥
+    refused_sound within image forms = let below = all.below in by (image.sound t within all.region (omega (arith, below, count)))
       where
         here : Chosen
-        here = chosen records.instance (length seq) (records.journal all.region)
+        here = chosen records.instance t (records.journal all.region)
 
         database : Blocks
         database = block_of (files (database_file all.region))
 
-        by : IsSound (region_state (patterns records.instance) all.region) records.instance seq (records.journal all.region) database (length seq) → ⊥
+        by : IsSound (region_state (patterns records.instance) all.region) records.instance seq (records.journal all.region) database t → ⊥
         by (inl forward) = all.refused.goes_back forward
         by (inr holds) = not_outside (image_state here database) (region_state (patterns records.instance) all.region (take here.number seq)) all.refused.block
-            (parts.keys (patterns records.instance) all.region (take here.number seq) (first_all (λ x. IsTransaction x.transaction) here.number seq forms)) holds all.refused.outside
+            (parts.keys (patterns records.instance) all.region (take here.number seq) (all_take (λ x. IsTransaction x.transaction) here.number seq forms)) holds all.refused.outside
 
 -- ---- the regions as a disk tells them
 
@@ -228,29 +232,29 @@ always : (o : Option Files) (P : Files → Type 0) → ((f : Files) → P f) →
 always None P all = tt
 always (Some f) P all = all f
 
-module _ (o : Option Files) (instance : List InstanceRecord) (seq : Sequence) (journal : ℕ → List Placed) where
+module _ (o : Option Files) (instance : List InstanceRecord) (t : ℕ) (seq : Sequence) (journal : ℕ → List Placed) where
   -- what is told of the regions that were opened
   abbrev pub AreOpened : List Standing → Files → Type 0
-  AreOpened rs files = (r : ℕ) (s : Standing) → slice_get rs r ≡ Some s → IsOpened instance seq (journal r) r s files
+  AreOpened rs files = (r : ℕ) (s : Standing) → slice_get rs r ≡ Some s → IsOpened instance t seq (journal r) r s files
 
   pub none_opened : IfSome o (AreOpened [])
   none_opened = always o (AreOpened []) (λ files r s here. let gone : None ≡ Some s = here in cc)
 
-  pub one_more_opened : (rs : List Standing) (s : Standing) (n : ℕ) → length rs ≡ n → IfSome o (AreOpened rs) → IfSome o (IsOpened instance seq (journal n) n s) → IfSome o (AreOpened (rs ++ s ∷ []))
-  one_more_opened rs s n long told this = both_weak o (AreOpened rs) (IsOpened instance seq (journal n) n s) (AreOpened (rs ++ s ∷ [])) told this (λ files are is r t here. elim (of_more rs s r t here) [
-    | inl low ↦ are r t low
-    | inr last ↦ subst (λ (q : ℕ). IsOpened instance seq (journal q) q t files) (sym (last.0 ∙ long)) (subst (λ (x : Standing). IsOpened instance seq (journal n) n x files) (sym last.1) is)
+  pub one_more_opened : (rs : List Standing) (s : Standing) (n : ℕ) → length rs ≡ n → IfSome o (AreOpened rs) → IfSome o (IsOpened instance t seq (journal n) n s) → IfSome o (AreOpened (rs ++ s ∷ []))
+  one_more_opened rs s n long told this = both_weak o (AreOpened rs) (IsOpened instance t seq (journal n) n s) (AreOpened (rs ++ s ∷ [])) told this (λ files are is r m here. elim (of_more rs s r m here) [
+    | inl low ↦ are r m low
+    | inr last ↦ subst (λ (q : ℕ). IsOpened instance t seq (journal q) q m files) (sym (last.0 ∙ long)) (subst (λ (x : Standing). IsOpened instance t seq (journal n) n x files) (sym last.1) is)
   ])
 
-  pub own_more : (ps : List Pattern) (length_of : ℕ) (rs : List Standing) (s : Standing) (n : ℕ) → length rs ≡ n → ((r : ℕ) (t : Standing) → slice_get rs r ≡ Some t → IsOwn ps length_of r t) → IsOwn ps length_of n s
-      → (r : ℕ) (t : Standing) → slice_get (rs ++ s ∷ []) r ≡ Some t → IsOwn ps length_of r t
-  own_more ps length_of rs s n long are is r t here = elim (of_more rs s r t here) [
-    | inl low ↦ are r t low
-    | inr last ↦ subst (λ (q : ℕ). IsOwn ps length_of q t) (sym (last.0 ∙ long)) (subst (λ (x : Standing). IsOwn ps length_of n x) (sym last.1) is)
+  pub own_more : (ps : List Pattern) (rs : List Standing) (s : Standing) (n : ℕ) → length rs ≡ n → ((r : ℕ) (m : Standing) → slice_get rs r ≡ Some m → IsOwn ps t r m) → IsOwn ps t n s
+      → (r : ℕ) (m : Standing) → slice_get (rs ++ s ∷ []) r ≡ Some m → IsOwn ps t r m
+  own_more ps rs s n long are is r m here = elim (of_more rs s r m here) [
+    | inl low ↦ are r m low
+    | inr last ↦ subst (λ (q : ℕ). IsOwn ps t q m) (sym (last.0 ∙ long)) (subst (λ (x : Standing). IsOwn ps t n x) (sym last.1) is)
   ]
 
-  pub first_refused : (rs : List Standing) (n count f offset : ℕ) → length rs ≡ n → n < count → IfSome o (AreOpened rs) → IfSome o (IsRefused instance seq (journal n) n f offset) → IfSome o (AreRefused instance seq journal count f offset)
-  first_refused rs n count f offset long low told this = both_weak o (AreOpened rs) (IsRefused instance seq (journal n) n f offset) (AreRefused instance seq journal count f offset) told this (λ files are is. record {
+  pub first_refused : (rs : List Standing) (n count f offset : ℕ) → length rs ≡ n → n < count → IfSome o (AreOpened rs) → IfSome o (IsRefused instance t seq (journal n) n f offset) → IfSome o (AreRefused instance t seq journal count f offset)
+  first_refused rs n count f offset long low told this = both_weak o (AreOpened rs) (IsRefused instance t seq (journal n) n f offset) (AreRefused instance t seq journal count f offset) told this (λ files are is. record {
     region = n;
     below = low;
     earlier = λ q less. let s = there rs q (omega (arith, less, long)) in (are q s.0 s.1).inside;
@@ -281,85 +285,77 @@ module _ (o : Option Files) (ps : List Pattern) (e : Chosen) (file r : ℕ) (is 
   pub told_globals : (g : Globals) → IfSome o (λ files. IsReplayed (At file files) [] g) → IfSome o (λ files. IsReplayed (At (database_file r) files) [] g)
   told_globals g told = weaker_told o (λ files. IsReplayed (At file files) [] g) (λ files. IsReplayed (At (database_file r) files) [] g) told (λ files h. subst (λ (x : ℕ). IsReplayed (At x files) [] g) is h)
 
--- a region that was opened from its start, whose records are those of entries of so many
-module _ (o : Option Files) (instance : List InstanceRecord) (seq : Sequence) (journal : List Placed) (r n : ℕ) (long : length seq ≡ n) (e : Chosen) (start : IsStart instance n journal e)
+-- a region that was opened from its start, with the updates up to the target
+module _ (o : Option Files) (instance : List InstanceRecord) (t : ℕ) (seq : Sequence) (journal : List Placed) (r : ℕ) (e : Chosen) (start : IsStart instance t journal e) (within : e.number ≤ t)
     (forms : AllByRecursion (λ x. IsTransaction x.transaction) seq) (ps : List Pattern) (are : ps ≡ patterns instance) where
-  begun : IsStart instance (length seq) journal e
-  begun = subst (λ (k : ℕ). IsStart instance k journal e) (sym long) start
-
   -- the updates behind it
   abbrev pub Replayed : Standing → Standing → Type 0
-  Replayed s t = t.globals ≡ fold apply s.globals (updates_in ps r (updates_of (drop e.number seq)))
+  Replayed s m = m.globals ≡ fold apply s.globals (updates_in ps r (updates_of (drop e.number (take t seq))))
 
-  made_so : (s t : Standing) → Replayed s t → Behind instance seq journal r e begun forms s t
-  made_so s t made = subst (λ (qs : List Pattern). t.globals ≡ fold apply s.globals (updates_in qs r (updates_of (drop e.number seq)))) are made
+  made_so : (s m : Standing) → Replayed s m → Behind instance t seq journal r e start within forms s m
+  made_so s m made = subst (λ (qs : List Pattern). m.globals ≡ fold apply s.globals (updates_in qs r (updates_of (drop e.number (take t seq))))) are made
 
-  pub region_own : (s t : Standing) → s.file ≡ database_file r → are_home ps r s.globals ≡ true → (e.number ≡ 0 → s.globals ≡ globals.empty) → e.number ≤ n
-      → IsChanged s t → Replayed s t → IsOwn (patterns instance) n r t
-  region_own s t file home none inside changed made =
-      subst (λ (k : ℕ). IsOwn (patterns instance) k r t) long
-      (own instance seq journal r e begun forms s t file (subst (λ (qs : List Pattern). are_home qs r s.globals ≡ true) are home) none (omega (arith, inside, long)) changed (made_so s t made))
+  pub region_own : (s m : Standing) → s.file ≡ database_file r → are_home ps r s.globals ≡ true → (e.number ≡ 0 → s.globals ≡ globals.empty)
+      → IsChanged s m → Replayed s m → IsOwn (patterns instance) t r m
+  region_own s m file home none changed made =
+      own instance t seq journal r e start within forms s m file (subst (λ (qs : List Pattern). are_home qs r s.globals ≡ true) are home) none changed (made_so s m made)
 
-  pub region_opened : (s t : Standing) → s.file ≡ database_file r → (e.number ≡ 0 → s.globals ≡ globals.empty) → IsChanged s t → Replayed s t
-      → IfSome o (λ files. HoldsRegion e (files (database_file r)) s) → IfSome o (λ files. IsReplayed (image_state e (block_of (files (database_file r)))) [] s.globals) → IfSome o (IsOpened instance seq journal r t)
-  region_opened s t file none changed made holds replayed =
-      both_weak o (λ files. HoldsRegion e (files (database_file r)) s) (λ files. IsReplayed (image_state e (block_of (files (database_file r)))) [] s.globals) (IsOpened instance seq journal r t) holds replayed
-      (λ files h k. opened instance seq journal r e begun forms s t files file none changed (made_so s t made) h k)
+  pub region_opened : (s m : Standing) → s.file ≡ database_file r → (e.number ≡ 0 → s.globals ≡ globals.empty) → IsChanged s m → Replayed s m
+      → IfSome o (λ files. HoldsRegion e (files (database_file r)) s) → IfSome o (λ files. IsReplayed (image_state e (block_of (files (database_file r)))) [] s.globals) → IfSome o (IsOpened instance t seq journal r m)
+  region_opened s m file none changed made holds replayed =
+      both_weak o (λ files. HoldsRegion e (files (database_file r)) s) (λ files. IsReplayed (image_state e (block_of (files (database_file r)))) [] s.globals) (IsOpened instance t seq journal r m) holds replayed
+      (λ files h k. opened instance t seq journal r e start within forms s m files file none changed (made_so s m made) h k)
 
   pub region_refused : (f offset : ℕ)
       → IfSome o (λ files. (all : Sequence) → (f ≡ database_file r) × (b : ℕ) × (offset ≡ 4096 * b) × AreOutside (image_state e (block_of (files (database_file r)))) (region_state ps r (take e.number all)) b)
-      → IfSome o (IsRefused instance seq journal r f offset)
+      → IfSome o (IsRefused instance t seq journal r f offset)
   region_refused f offset told =
       weaker_told o (λ files. (all : Sequence) → (f ≡ database_file r) × (b : ℕ) × (offset ≡ 4096 * b) × AreOutside (image_state e (block_of (files (database_file r)))) (region_state ps r (take e.number all)) b)
-      (IsRefused instance seq journal r f offset) told (λ files h.
+      (IsRefused instance t seq journal r f offset) told (λ files h.
       let at = h seq in
-      refused instance seq journal r e begun forms files f offset at.1 at.0 at.2
+      refused instance t seq journal r e start within forms files f offset at.1 at.0 at.2
       (subst (λ (qs : List Pattern). AreOutside (image_state e (block_of (files (database_file r)))) (region_state qs r (take e.number seq)) at.1) are at.3))
 
 -- what is told of all regions, of which these are the same
-module _ (o : Option Files) (instance : List InstanceRecord) (seq : Sequence) (journal : ℕ → List Placed) (ps : List Pattern) (are : ps ≡ patterns instance) (rs ms : List Standing) (same : ms ≡ rs)
-    (counted : length rs ≡ length (regions instance)) (told : IfSome o (AreOpened o instance seq journal rs)) where
+module _ (o : Option Files) (instance : List InstanceRecord) (t : ℕ) (seq : Sequence) (journal : ℕ → List Placed) (ps : List Pattern) (are : ps ≡ patterns instance) (rs ms : List Standing) (same : ms ≡ rs)
+    (counted : length rs ≡ length (regions instance)) (told : IfSome o (AreOpened o instance t seq journal rs)) where
   abbrev all_records : Records
   all_records = record { instance = instance; journal = journal }
 
-  sound_at : (files : Files) → AreOpened o instance seq journal rs files → IsSoundImage files all_records seq → ArePartsOf ps rs seq
-  sound_at files opens image = subst (λ (qs : List Pattern). ArePartsOf qs rs seq) (sym are) (sound_parts files all_records seq rs counted opens image)
+  sound_at : t ≤ length seq → (files : Files) → AreOpened o instance t seq journal rs files → IsSoundImage files all_records seq → ArePartsOf ps rs (take t seq)
+  sound_at within files opens image = subst (λ (qs : List Pattern). ArePartsOf qs rs (take t seq)) (sym are) (sound_parts files all_records t seq rs counted opens within image)
 
-  pub parts_told : IfSome o (λ files. IsSoundImage files all_records seq → ArePartsOf ps ms seq)
-  parts_told = weaker_told o (AreOpened o instance seq journal rs) (λ files. IsSoundImage files all_records seq → ArePartsOf ps ms seq) told
-      (λ files opens image. subst (λ (xs : List Standing). ArePartsOf ps xs seq) (sym same) (sound_at files opens image))
+  pub parts_told : t ≤ length seq → IfSome o (λ files. IsSoundImage files all_records seq → ArePartsOf ps ms (take t seq))
+  parts_told within = weaker_told o (AreOpened o instance t seq journal rs) (λ files. IsSoundImage files all_records seq → ArePartsOf ps ms (take t seq)) told
+      (λ files opens image. subst (λ (xs : List Standing). ArePartsOf ps xs (take t seq)) (sym same) (sound_at within files opens image))
 
-  pub state_told : (all : Globals) → ((xs : Sequence) → ArePartsOf ps rs xs → all ≡ state xs) → IfSome o (λ files. IsSoundImage files all_records seq → all ≡ state seq)
-  state_told all joins = weaker_told o (AreOpened o instance seq journal rs) (λ files. IsSoundImage files all_records seq → all ≡ state seq) told (λ files opens image. joins seq (sound_at files opens image))
+  pub state_told : t ≤ length seq → (all : Globals) → ((xs : Sequence) → ArePartsOf ps rs xs → all ≡ state xs) → IfSome o (λ files. IsSoundImage files all_records seq → all ≡ state (take t seq))
+  state_told within all joins = weaker_told o (AreOpened o instance t seq journal rs) (λ files. IsSoundImage files all_records seq → all ≡ state (take t seq)) told
+      (λ files opens image. joins (take t seq) (sound_at within files opens image))
 
   here_in : (r : ℕ) → r < length ms → slice_get rs r ≡ Some (slice_index_or ms r no_region)
   here_in r low = subst (λ (xs : List Standing). slice_get xs r ≡ Some (slice_index_or ms r no_region)) same (at_place ms r no_region low)
 
-  -- with the length of the entries as it's known otherwise
-  pub holds_told : (n : ℕ) → length seq ≡ n
-      → IfSome o (λ files. (r : ℕ) → r < length ms → NeedsForward instance n (journal r) ⊎ HoldsRegion (chosen instance (length seq) (journal r)) (files (database_file r)) (slice_index_or ms r no_region))
-  holds_told n long = weaker_told o (AreOpened o instance seq journal rs)
-      (λ files. (r : ℕ) → r < length ms → NeedsForward instance n (journal r) ⊎ HoldsRegion (chosen instance (length seq) (journal r)) (files (database_file r)) (slice_index_or ms r no_region)) told
-      (λ files opens r low. elim (opens r (slice_index_or ms r no_region) (here_in r low)).holds [
-        | inl forward ↦ inl (subst (λ (k : ℕ). NeedsForward instance k (journal r)) long forward)
-        | inr holds ↦ inr holds
-      ])
+  pub holds_told : IfSome o (λ files. (r : ℕ) → r < length ms → NeedsForward instance t (journal r) ⊎ HoldsRegion (chosen instance t (journal r)) (files (database_file r)) (slice_index_or ms r no_region))
+  holds_told = weaker_told o (AreOpened o instance t seq journal rs)
+      (λ files. (r : ℕ) → r < length ms → NeedsForward instance t (journal r) ⊎ HoldsRegion (chosen instance t (journal r)) (files (database_file r)) (slice_index_or ms r no_region)) told
+      (λ files opens r low. (opens r (slice_index_or ms r no_region) (here_in r low)).holds)
 
   pub held_told : IfSome o (λ files. (r : ℕ) → r < length ms → IsHeld (slice_index_or ms r no_region) files)
-  held_told = weaker_told o (AreOpened o instance seq journal rs) (λ files. (r : ℕ) → r < length ms → IsHeld (slice_index_or ms r no_region) files) told
+  held_told = weaker_told o (AreOpened o instance t seq journal rs) (λ files. (r : ℕ) → r < length ms → IsHeld (slice_index_or ms r no_region) files) told
       (λ files opens r low. (opens r (slice_index_or ms r no_region) (here_in r low)).held)
 
-pub files_are : (ps : List Pattern) (n : ℕ) (rs ms : List Standing) → ms ≡ rs → ((r : ℕ) (s : Standing) → slice_get rs r ≡ Some s → IsOwn ps n r s) → (r : ℕ) → r < length ms → (slice_index_or ms r no_region).file ≡ database_file r
-files_are ps n rs ms same own r low =
+pub files_are : (ps : List Pattern) (t : ℕ) (rs ms : List Standing) → ms ≡ rs → ((r : ℕ) (s : Standing) → slice_get rs r ≡ Some s → IsOwn ps t r s) → (r : ℕ) → r < length ms → (slice_index_or ms r no_region).file ≡ database_file r
+files_are ps t rs ms same own r low =
     (own r (slice_index_or ms r no_region) (subst (λ (xs : List Standing). slice_get xs r ≡ Some (slice_index_or ms r no_region)) same (at_place ms r no_region low))).file
 
 -- the first region that can't be opened, as the disk tells it
-module _ (o : Option Files) (records : Records) (seq : Sequence) (n f offset : ℕ) (counted : n ≡ length (regions records.instance)) (sequence : IsSequence records seq)
-    (told : IfSome o (AreRefused records.instance seq records.journal n f offset)) where
-  pub outside_told : IfSome o (λ files. AreRecords files records → HaveOutsideBlocks files f offset)
-  outside_told = weaker_told o (AreRefused records.instance seq records.journal n f offset) (λ files. AreRecords files records → HaveOutsideBlocks files f offset) told
-      (λ files all held. refused_blocks files records seq n f offset counted all held sequence)
+module _ (o : Option Files) (records : Records) (t : ℕ) (seq : Sequence) (n f offset : ℕ) (counted : n ≡ length (regions records.instance)) (sequence : IsSequence records seq)
+    (told : IfSome o (AreRefused records.instance t seq records.journal n f offset)) where
+  pub outside_told : (aim : ℕ → ℕ) → aim (length seq) ≡ t → IfSome o (λ files. AreRecords files records → HaveOutsideBlocks aim files f offset)
+  outside_told aim is = weaker_told o (AreRefused records.instance t seq records.journal n f offset) (λ files. AreRecords files records → HaveOutsideBlocks aim files f offset) told
+      (λ files all held. refused_blocks files records t seq n f offset counted all aim is held sequence)
 
-  pub unsound_told : AllByRecursion (λ x. IsTransaction x.transaction) seq → IfSome o (λ files. IsSoundImage files records seq → ⊥)
-  unsound_told forms = weaker_told o (AreRefused records.instance seq records.journal n f offset) (λ files. IsSoundImage files records seq → ⊥) told
-      (λ files all image. refused_sound files records seq n f offset counted all image forms)
+  pub unsound_told : t ≤ length seq → AllByRecursion (λ x. IsTransaction x.transaction) seq → IfSome o (λ files. IsSoundImage files records seq → ⊥)
+  unsound_told within forms = weaker_told o (AreRefused records.instance t seq records.journal n f offset) (λ files. IsSoundImage files records seq → ⊥) told
+      (λ files all image. refused_sound files records t seq n f offset counted all within image forms)

@@ -1,5 +1,5 @@
 -- What stands of a region that is opened, and why one isn't.
-use Rattle.std.specs.Prelude.{◌≡◌, ◌⊎◌, ℕ, ◌*◌, ◌<◌, ◌==◌, Bool, true, List, [], length, take, Option}
+use Rattle.std.specs.Prelude.{◌≡◌, ◌⊎◌, ℕ, ◌*◌, ◌<◌, ◌==◌, Bool, true, List, [], take, Option}
 use Rattle.std.specs.List.{list_all}
 use Rattle.std.specs.FinMap as globals
 use Rattle.disk_defs.specs.Disk.{Files}
@@ -24,43 +24,43 @@ pub data IsStart (instance : List InstanceRecord) (t : ℕ) (journal : List Plac
 abbrev pub are_home : List Pattern → ℕ → Globals → Bool
 are_home ps r g = list_all (λ e. region_of ps e.0.name == r) (globals.entries g)
 
--- What holds of an opened region, whatever the files hold.
-pub record IsOwn (ps : List Pattern) (length_of r : ℕ) (s : Standing) : Type 0 where
+-- What holds of a region that was opened for t, whatever the files hold.
+pub record IsOwn (ps : List Pattern) (t r : ℕ) (s : Standing) : Type 0 where
   pub file : s.file ≡ database_file r
   pub home : are_home ps r s.globals ≡ true
-  pub none : length_of ≡ 0 → s.globals ≡ globals.empty
+  pub none : t ≡ 0 → s.globals ≡ globals.empty
 
 -- the blocks of a region below the epoch that it goes back to
-abbrev pub blocks_of : List InstanceRecord → Sequence → List Placed → ℕ → Files → ℕ → Option (List ℕ)
-blocks_of instance seq journal r files = image_state (chosen instance (length seq) journal) (block_of (files (database_file r)))
+abbrev pub blocks_of : List InstanceRecord → ℕ → List Placed → ℕ → Files → ℕ → Option (List ℕ)
+blocks_of instance t journal r files = image_state (chosen instance t journal) (block_of (files (database_file r)))
 
 -- the region needs forward recovery, or no block of it is outside the format
-abbrev pub IsInside : List InstanceRecord → Sequence → List Placed → ℕ → Files → Type 0
-IsInside instance seq journal r files = NeedsForward instance (length seq) journal ⊎ ((b : ℕ) → IsOutsideAt (blocks_of instance seq journal r files) b → ⊥)
+abbrev pub IsInside : List InstanceRecord → ℕ → List Placed → ℕ → Files → Type 0
+IsInside instance t journal r files = NeedsForward instance t journal ⊎ ((b : ℕ) → IsOutsideAt (blocks_of instance t journal r files) b → ⊥)
 
 -- the region needs forward recovery, or its blocks are those of the epoch to which it goes back and the file
-abbrev pub IsHeldFrom : List InstanceRecord → Sequence → List Placed → ℕ → Standing → Files → Type 0
-IsHeldFrom instance seq journal r s files = NeedsForward instance (length seq) journal ⊎ HoldsRegion (chosen instance (length seq) journal) (files (database_file r)) s
+abbrev pub IsHeldFrom : List InstanceRecord → ℕ → List Placed → ℕ → Standing → Files → Type 0
+IsHeldFrom instance t journal r s files = NeedsForward instance t journal ⊎ HoldsRegion (chosen instance t journal) (files (database_file r)) s
 
--- What a region that was opened is against the files.
-pub record IsOpened (instance : List InstanceRecord) (seq : Sequence) (journal : List Placed) (r : ℕ) (s : Standing) (files : Files) : Type 0 where
+-- What a region that was opened for the first t entries of this sequence is against the files.
+pub record IsOpened (instance : List InstanceRecord) (t : ℕ) (seq : Sequence) (journal : List Placed) (r : ℕ) (s : Standing) (files : Files) : Type 0 where
   pub held : IsHeld s files
-  pub holds : IsHeldFrom instance seq journal r s files
-  pub inside : IsInside instance seq journal r files
-  -- where the region is sound it has its part of the state
-  pub state : IsSound (region_state (patterns instance) r) instance seq journal (block_of (files (database_file r))) (length seq) → s.globals ≡ region_state (patterns instance) r seq
+  pub holds : IsHeldFrom instance t journal r s files
+  pub inside : IsInside instance t journal r files
+  -- where the region is sound for t it has its part of the state of these entries
+  pub state : IsSound (region_state (patterns instance) r) instance seq journal (block_of (files (database_file r))) t → s.globals ≡ region_state (patterns instance) r (take t seq)
 
--- A region that goes back to an epoch can't be opened, by what stands at this place of this file.
-pub record IsRefused (instance : List InstanceRecord) (seq : Sequence) (journal : List Placed) (r file offset : ℕ) (files : Files) : Type 0 where
-  pub goes_back : NeedsForward instance (length seq) journal → ⊥
+-- A region that goes back to an epoch for t can't be opened, by what stands at this place of this file.
+pub record IsRefused (instance : List InstanceRecord) (t : ℕ) (seq : Sequence) (journal : List Placed) (r file offset : ℕ) (files : Files) : Type 0 where
+  pub goes_back : NeedsForward instance t journal → ⊥
   pub block : ℕ
-  pub outside : AreOutside (blocks_of instance seq journal r files) (region_state (patterns instance) r (take (chosen instance (length seq) journal).number seq)) block
+  pub outside : AreOutside (blocks_of instance t journal r files) (region_state (patterns instance) r (take (chosen instance t journal).number seq)) block
   pub file_is : file ≡ database_file r
   pub offset_is : offset ≡ BLOCK * block
 
 -- A region of so many that can't be opened, while each before it has its blocks in the format or needs forward recovery.
-pub record AreRefused (instance : List InstanceRecord) (seq : Sequence) (journal : ℕ → List Placed) (count file offset : ℕ) (files : Files) : Type 0 where
+pub record AreRefused (instance : List InstanceRecord) (t : ℕ) (seq : Sequence) (journal : ℕ → List Placed) (count file offset : ℕ) (files : Files) : Type 0 where
   pub region : ℕ
   pub below : region < count
-  pub earlier : (q : ℕ) → q < region → IsInside instance seq (journal q) q files
-  pub refused : IsRefused instance seq (journal region) region file offset files
+  pub earlier : (q : ℕ) → q < region → IsInside instance t (journal q) q files
+  pub refused : IsRefused instance t seq (journal region) region file offset files

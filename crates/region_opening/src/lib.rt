@@ -1,21 +1,25 @@
-//! The regions of a site are opened as its records and entries say.
+//! The regions of a site are opened for a target, as its records and entries say.
 //!
 //! # What it keeps
 //!
-//! - [`open_regions`] takes each region back to the epoch that its journals have chosen, in memory alone, and makes the updates of the
-//!   entries behind it. A region that needs forward recovery begins empty, and all of its updates are made.
-//! - On a site that is sound the regions have the parts of the state of the entries. Where the blocks of a region are outside the
-//!   format, or hold nodes that can't be its own, it is told by its file and place.
+//! - [`open_regions`] takes each region back to the epoch that its journals have chosen for the target, in memory alone, and makes the
+//!   updates of the entries behind it up to the target. A region that needs forward recovery begins empty, and all of these updates
+//!   are made.
+//! - On a site that is sound the regions have the parts of the state of the entries up to the target. Where the blocks of a region are
+//!   outside the format, or hold nodes that can't be its own, it is told by its file and place.
+//! - [`first_without_images`] tells the first region that needs forward recovery for the target, and by which generation.
 //!
 //! # Modules
 //!
 //! `starting` says from where a region is opened, `checking` whether the nodes there may be its own. `replaying` makes updates, and
-//! `opening` opens one region and all of them.
+//! `opening` opens one region and all of them. `needing` looks for one that needs forward recovery.
 #![tactic(auto)]
 
 mod checking;
+mod needing;
 mod opening;
 mod replaying;
 mod starting;
 
+pub use needing::{WithoutImages, first_without_images};
 pub use opening::open_regions;

@@ -102,7 +102,7 @@ fn open_own<D: Disk>(
     Ok(region)
 }
 
-/// Opens a region as the records of its journals and the entries say.
+/// Opens a region as the records of its journals and the entries up to the target say.
 fn open_region<D: Disk>(
     alloc: Global,
     disk: &mut D,
@@ -111,26 +111,28 @@ fn open_region<D: Disk>(
     number: usize,
     journal: &[PlacedRecord],
     entries: &[Entry],
+    target: u64,
 ) -> Result<Region, RegionError>
+    requires target { target ≤ length entries.now }
     requires number { number < directory.now.regions }
     requires patterns { directory.now.patterns ≡ patterns instance.now }
     requires forms { AreFormed (map placed_value journal.now) }
     requires entries { AllByRecursion (λ e. IsTransaction e.transaction) (map entry_value entries.now) }
-    ensures own { IfOk result (IsOwn (patterns instance.now) (length entries.now) number) }
-    ensures opened { IfOk result (λ made. IfSome (D.disk disk.old).content (IsOpened instance.now (map entry_value entries.now) (map placed_value journal.now) number made)) }
-    ensures outside { (f offset : ℕ) → IsErrOf result (RegionError.NotAFile f offset) → IfSome (D.disk disk.old).content (IsRefused instance.now (map entry_value entries.now) (map placed_value journal.now) number f offset) }
+    ensures own { IfOk result (IsOwn (patterns instance.now) target number) }
+    ensures opened { IfOk result (λ made. IfSome (D.disk disk.old).content (IsOpened instance.now target (map entry_value entries.now) (map placed_value journal.now) number made)) }
+    ensures outside { (f offset : ℕ) → IsErrOf result (RegionError.NotAFile f offset) → IfSome (D.disk disk.old).content (IsRefused instance.now target (map entry_value entries.now) (map placed_value journal.now) number f offset) }
     ensures reads { Reads (D.disk disk.old) (D.disk disk.new) }
     ensures later { (D.disk disk.old).faults ≤ (D.disk disk.new).faults }
     ensures count { (fault : ℕ) → IsErrOf result (RegionError.Failed fault) → fault ≡ (D.disk disk.new).faults }
     ensures cause { (fault : ℕ) → IsErrOf result (RegionError.Failed fault) → Rose (D.disk disk.old).faults (D.disk disk.new).faults }
 {
-    let start = start_of(alloc, instance, entries.len() as u64, journal)?;
+    let start = start_of(alloc, instance, target, journal)?;
     let mut region = open_own(alloc, disk, directory, number, start, journal)?;
     replay(
         directory,
         number,
         &mut region,
-        &entries[start.number as usize..],
+        &entries[start.number as usize..target as usize],
     )?;
     Ok(region)
 }
@@ -143,7 +145,7 @@ fn add(regions: &mut Vec<Region>, region: Region) -> Result<(), NoMemory>
     Ok(())
 }
 
-/// Opens each region.
+/// Opens each region for the target.
 fn open_each<D: Disk>(
     alloc: Global,
     disk: &mut D,
@@ -151,14 +153,16 @@ fn open_each<D: Disk>(
     directory: &Directory,
     journals: &[Vec<PlacedRecord>],
     entries: &[Entry],
+    target: u64,
 ) -> Result<Vec<Region>, RegionError>
+    requires target { target ≤ length entries.now }
     requires patterns { directory.now.patterns ≡ patterns instance.now }
     requires forms { (r : ℕ) → AreFormed (journal_of (map (λ j. j.items) journals.now) r) }
     requires entries { AllByRecursion (λ e. IsTransaction e.transaction) (map entry_value entries.now) }
     ensures count { IfOk result (λ made. length made.items ≡ directory.now.regions) }
-    ensures own { IfOk result (λ made. (r : ℕ) (s : Standing) → slice_get made.items r ≡ Some s → IsOwn (patterns instance.now) (length entries.now) r s) }
-    ensures opened { IfOk result (λ made. IfSome (D.disk disk.old).content (λ files. (r : ℕ) (s : Standing) → slice_get made.items r ≡ Some s → IsOpened instance.now (map entry_value entries.now) (journal_of (map (λ j. j.items) journals.now) r) r s files)) }
-    ensures outside { (f offset : ℕ) → IsErrOf result (RegionError.NotAFile f offset) → IfSome (D.disk disk.old).content (AreRefused instance.now (map entry_value entries.now) (journal_of (map (λ j. j.items) journals.now)) directory.now.regions f offset) }
+    ensures own { IfOk result (λ made. (r : ℕ) (s : Standing) → slice_get made.items r ≡ Some s → IsOwn (patterns instance.now) target r s) }
+    ensures opened { IfOk result (λ made. IfSome (D.disk disk.old).content (λ files. (r : ℕ) (s : Standing) → slice_get made.items r ≡ Some s → IsOpened instance.now target (map entry_value entries.now) (journal_of (map (λ j. j.items) journals.now) r) r s files)) }
+    ensures outside { (f offset : ℕ) → IsErrOf result (RegionError.NotAFile f offset) → IfSome (D.disk disk.old).content (AreRefused instance.now target (map entry_value entries.now) (journal_of (map (λ j. j.items) journals.now)) directory.now.regions f offset) }
     ensures reads { Reads (D.disk disk.old) (D.disk disk.new) }
     ensures later { (D.disk disk.old).faults ≤ (D.disk disk.new).faults }
     ensures count_of_faults { (fault : ℕ) → IsErrOf result (RegionError.Failed fault) → fault ≡ (D.disk disk.new).faults }
@@ -167,19 +171,22 @@ fn open_each<D: Disk>(
     let mut regions = Vec::new(alloc);
     for number in 0..directory.regions() as usize {
         let journal = journal_at(journals, number);
-        let region = open_region(alloc, disk, instance, directory, number, journal, entries)?;
+        let region = open_region(
+            alloc, disk, instance, directory, number, journal, entries, target,
+        )?;
         add(&mut regions, region)?;
     }
     Ok(regions)
 }
 
-/// Opens the regions of a site, by the records of its instance file and of its regions' journals, a list for each region, and the
-/// entries for which they stand. It writes nothing: the blocks go back in memory alone.
+/// Opens the regions of a site for a target, by the records of its instance file and of its regions' journals, a list for each
+/// region, and all entries for which they stand. Each region goes back to the epoch that it has chosen for the target, and the
+/// updates of the entries behind it up to the target are made. It writes nothing: the blocks go back in memory alone.
 ///
 /// # Errors
 /// `NotAFile` with the file and the place of a region whose blocks aren't those of its part of the state: there is a block outside
 /// the format or, with the place 0, the blocks hold nodes that aren't the region's. Each region before it has its blocks in the format
-/// or needs forward recovery. `Failed` only where the disk's count of faults rose; `NoMemory`.
+/// or needs forward recovery for the target. `Failed` only where the disk's count of faults rose; `NoMemory`.
 pub fn open_regions<D: Disk>(
     alloc: Global,
     disk: &mut D,
@@ -187,7 +194,9 @@ pub fn open_regions<D: Disk>(
     directory: Directory,
     journals: &[Vec<PlacedRecord>],
     entries: &[Entry],
+    target: u64,
 ) -> Result<Regions, RegionError>
+    requires target { target ≤ length entries.now }
     requires patterns { directory.patterns ≡ patterns instance.now }
     requires count { directory.regions ≡ length (regions instance.now) }
     requires within { AllByRecursion (λ p. p.region < directory.regions) directory.patterns }
@@ -196,23 +205,24 @@ pub fn open_regions<D: Disk>(
     ensures patterns { IfOk result (λ made. made.patterns ≡ directory.patterns) }
     ensures count { IfOk result (λ made. length made.regions ≡ directory.regions) }
     ensures files { IfOk result (λ made. (r : ℕ) → r < length made.regions → (region_at made r).file ≡ database_file r) }
-    ensures none { IfOk result (λ made. length entries.now ≡ 0 → joined made ≡ globals.empty) }
+    ensures none { IfOk result (λ made. target ≡ 0 → joined made ≡ globals.empty) }
     ensures some { IfOk result (λ made. (seq : Sequence) × (joined made ≡ state seq)) }
-    // on a sound site they are the state of the entries
-    ensures state { IfOk result (λ made. IfSome (D.disk disk.old).content (λ files. IsSoundImage files (site_records instance.now (map (λ j. j.items) journals.now)) (map entry_value entries.now) → joined made ≡ state (map entry_value entries.now))) }
+    // on a sound site they are the state of the entries up to the target
+    ensures state { IfOk result (λ made. IfSome (D.disk disk.old).content (λ files. IsSoundImage files (site_records instance.now (map (λ j. j.items) journals.now)) (map entry_value entries.now) → joined made ≡ state (take target (map entry_value entries.now)))) }
     // and each region has its part
-    ensures parts { IfOk result (λ made. IfSome (D.disk disk.old).content (λ files. IsSoundImage files (site_records instance.now (map (λ j. j.items) journals.now)) (map entry_value entries.now) → ArePartsOf directory.patterns made.regions (map entry_value entries.now))) }
+    ensures parts { IfOk result (λ made. IfSome (D.disk disk.old).content (λ files. IsSoundImage files (site_records instance.now (map (λ j. j.items) journals.now)) (map entry_value entries.now) → ArePartsOf directory.patterns made.regions (take target (map entry_value entries.now)))) }
     // the blocks of a region are those of the epoch to which it goes back and the file
-    ensures holds { IfOk result (λ made. IfSome (D.disk disk.old).content (λ files. (r : ℕ) → r < length made.regions → NeedsForward instance.now (length entries.now) (journal_of (map (λ j. j.items) journals.now) r)
-        ⊎ HoldsRegion (gone_back (site_records instance.now (map (λ j. j.items) journals.now)) (map entry_value entries.now) r) (files (database_file r)) (region_at made r))) }
+    ensures holds { IfOk result (λ made. IfSome (D.disk disk.old).content (λ files. (r : ℕ) → r < length made.regions → NeedsForward instance.now target (journal_of (map (λ j. j.items) journals.now) r)
+        ⊎ HoldsRegion (gone_back (site_records instance.now (map (λ j. j.items) journals.now)) target r) (files (database_file r)) (region_at made r))) }
     ensures held { IfOk result (λ made. IfSome (D.disk disk.old).content (λ files. (r : ℕ) → r < length made.regions → IsHeld (region_at made r) files)) }
-    ensures outside { (f offset : ℕ) → IsErrOf result (RegionError.NotAFile f offset) → IfSome (D.disk disk.old).content (λ files. AreRecords files (site_records instance.now (map (λ j. j.items) journals.now)) → HaveOutsideBlocks files f offset) }
+    ensures outside { (f offset : ℕ) → IsErrOf result (RegionError.NotAFile f offset) → (aim : ℕ → ℕ) → aim (length entries.now) ≡ target
+        → IfSome (D.disk disk.old).content (λ files. AreRecords files (site_records instance.now (map (λ j. j.items) journals.now)) → HaveOutsideBlocks aim files f offset) }
     ensures unsound { (f offset : ℕ) → IsErrOf result (RegionError.NotAFile f offset) → IfSome (D.disk disk.old).content (λ files. IsSoundImage files (site_records instance.now (map (λ j. j.items) journals.now)) (map entry_value entries.now) → ⊥) }
     ensures reads { Reads (D.disk disk.old) (D.disk disk.new) }
     ensures later { (D.disk disk.old).faults ≤ (D.disk disk.new).faults }
     ensures count_of_faults { (fault : ℕ) → IsErrOf result (RegionError.Failed fault) → fault ≡ (D.disk disk.new).faults }
     ensures cause { (fault : ℕ) → IsErrOf result (RegionError.Failed fault) → Rose (D.disk disk.old).faults (D.disk disk.new).faults }
 {
-    let regions = open_each(alloc, disk, instance, &directory, journals, entries)?;
+    let regions = open_each(alloc, disk, instance, &directory, journals, entries, target)?;
     Ok(Regions::new(directory, regions)?)
 }

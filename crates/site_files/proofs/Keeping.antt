@@ -1,5 +1,5 @@
 -- A site whose next generation is drawn stands for its sequence, whatever a crash leaves of the drawing.
-use Rattle.std.proofs.Common.{◌≡◌, ◌≢◌, ◌⊎◌, inl, inr, ℕ, zero, suc, ◌+◌, ◌≤◌, ◌<◌, ◌==◌, Bool, true, false, List, [], ◌∷◌, ◌++◌, length, max, Some, None, refl, sym, ◌∙◌, ap, subst, arith, append-nil}
+use Rattle.std.proofs.Common.{◌≡◌, ◌≢◌, ◌⊎◌, inl, inr, ℕ, zero, suc, ◌+◌, ◌≤◌, ◌<◌, ◌==◌, Bool, true, false, List, [], ◌∷◌, ◌++◌, length, take, max, Some, None, refl, sym, ◌∙◌, ap, subst, arith, append-nil}
 use Rattle.std.specs.Prelude.{◌&&◌, if◌then◌else◌, nat_lt, Option}
 use Rattle.std.specs.Option.{option_or}
 use Rattle.std.proofs.lemmas.Bool.{cases_eq, cases_lt}
@@ -28,7 +28,7 @@ use Rattle.journal_laws.proofs.EveryTarget.{none_past_record, none_past_cut}
 use Rattle.journal_laws.proofs.ImageSteps as images
 use Rattle.journal_laws.proofs.RecordSteps as steps
 use Rattle.journal_laws.proofs.Runs as runs
-use Rattle.site_files.specs.Loading.{MayBeOpened, AreRead, IsUncut, HasDrawn, next_cut, next_journal, next_broken, next_pini, starts_in, drawn_records}
+use Rattle.site_files.specs.Loading.{MayBeOpened, AreRead, IsUncut, HasDrawn, HasCut, next_cut, next_journal, next_broken, next_pini, starts_in, drawn_records}
 
 -- A body is that of one record, and the record has one body, so a list of records has one list of bodies.
 zip_front : {R : Type 0} (P : Body → R → Type 0) → ((b d : Body) (r : R) → P b r → P d r → b ≡ d) → (bs ds : List Body) (rs qs : List R)
@@ -77,19 +77,17 @@ no_bytes : (bytes : List ℕ) → length bytes ≤ 0 → bytes ≡ []
 no_bytes [] none = refl
 no_bytes (b ∷ bytes) none = absurd (omega (arith, none))
 
-cut_image : (old new : Files) (s : Records) (seq : Sequence) → IsSoundImage old s seq → 1 ≤ length (regions s.instance) → generation s.instance < 65535 → SameOutside (Only INSTANCE) old new
-    → IsInstance (new INSTANCE) (s.instance ++ next_cut s.instance (length seq) ∷ []) → IsSoundImage new (with_record s (next_cut s.instance (length seq))) seq
-cut_image old new s seq sound few low same now =
+cut_image : (old new : Files) (s : Records) (seq : Sequence) (t : ℕ) → IsSoundImage old s seq → t ≤ length seq → 1 ≤ length (regions s.instance) → generation s.instance < 65535 → SameOutside (Only INSTANCE) old new
+    → IsInstance (new INSTANCE) (s.instance ++ next_cut s.instance t ∷ []) → IsSoundImage new (with_record s (next_cut s.instance t)) (take t seq)
+cut_image old new s seq t sound most few low same now =
     let was = sound.held.instance.bodies in
-    let t = length seq in
     let g = generation s.instance + 1 in
     let found = zip_front IsInstanceBody one_instance_body was.0 now.bodies.0 s.instance (Cut t g ∷ []) was.2 now.bodies.2 in
     let last = last_one found.0 (Cut t g) found.2 in
     let list : records (new INSTANCE) ≡ Some (was.0 ++ last.0 ∷ []) = now.bodies.1 ∙ ap Some (found.1 ∙ ap (λ (l : List Body). was.0 ++ l) last.1) in
     let past : generation s.instance < g = omega arith in
     let held = drawing.cut old new s t g was.0 last.0 sound.held few past (λ h r above high here. sound.clean.journals h r (above, omega (arith, high, low)) here) same was.1 list last.2 in
-    subst (IsSoundImage new (with_record s (Cut t g))) (take-length seq)
-    (steps.cut old new s seq t g sound few (omega arith) (drawing.before old s g sound.held past) held (λ m. cleaning.cut old new s t g t m sound.clean few past same) (λ r here. same (database_file r) (λ e. omega (arith, e))))
+    steps.cut old new s seq t g sound few most (drawing.before old s g sound.held past) held (λ m. cleaning.cut old new s t g (length seq) m sound.clean few past same) (λ r here. same (database_file r) (λ e. omega (arith, e)))
 
 -- the beginnings of regions
 starts_none : (rs : List InstanceRecord) (last : ℕ → ℕ) (k r : ℕ) → k ≤ r → starts_in rs last k r ≡ []
@@ -130,7 +128,7 @@ module _ (s : Records) (n : ℕ) (last : ℕ → ℕ) where
   by_journal : (a b : ℕ → List Placed) → ((r : ℕ) → a r ≡ b r) → ◌≡◌ {A = Records} (record { instance = rs ++ next_cut rs n ∷ []; journal = a }) (record { instance = rs ++ next_cut rs n ∷ []; journal = b })
   by_journal a b same = ap (λ (j : ℕ → List Placed). record { instance = rs ++ next_cut rs n ∷ []; journal = j }) (fun_ext same)
 
-  none_drawn : with_record s (next_cut rs n) ≡ drawn 0
+  pub none_drawn : with_record s (next_cut rs n) ≡ drawn 0
   none_drawn = by_journal s.journal (λ r. s.journal r ++ starts_in rs last 0 r) (λ r. sym (ap (λ (l : List Placed). s.journal r ++ l) (starts_none rs last 0 r (omega arith)) ∙ append-nil (s.journal r)))
 
   one_more : (k : ℕ) → k < length (regions rs) → with_journal (drawn k) k (start k ∷ []) ≡ drawn (suc k)
@@ -255,8 +253,8 @@ module _ (a : Files) (s : Records) (last : ℕ → ℕ) (form : MayBeOpened s.in
         (same_bodies IsInstanceBody one_instance_body (a INSTANCE) (b INSTANCE) s.instance sound.held.instance.bodies cut.instance.bodies)
         (λ h r most here. ap records (at_journal b cut.others h r most here)) (clean_uncut text b is cut) (λ r here. at_database b cut.others r here)
 
-    pub text_is : (text : List ℕ) (b : Files) (k : ℕ) → text ≡ broken_text (site_name s.instance) (length seq) (broken s (length seq)) → HasDrawn s.instance (length seq) text last k a b → b (next_broken s.instance) ≡ text
-    text_is text b k is has = elim has.text [
+    pub text_is_to : (t : ℕ) (text : List ℕ) (b : Files) (k : ℕ) → text ≡ broken_text (site_name s.instance) (length seq) (broken s (length seq)) → HasDrawn s.instance t text last k a b → b (next_broken s.instance) ≡ text
+    text_is_to t text b k is has = elim has.text [
       | inl e ↦ e
       | inr both ↦
           let size : length (broken_text (site_name s.instance) (length seq) (broken s (length seq))) ≡ 0 = ap length (sym is ∙ both.0) in
@@ -264,123 +262,134 @@ module _ (a : Files) (s : Records) (last : ℕ → ℕ) (form : MayBeOpened s.in
           both.1 ∙ no_bytes (a (next_broken s.instance)) none ∙ sym both.0
     ]
 
-    -- once it's drawn
-    abbrev S2 : Records
-    S2 = with_record s (next_cut s.instance (length seq))
+    pub text_is : (text : List ℕ) (b : Files) (k : ℕ) → text ≡ broken_text (site_name s.instance) (length seq) (broken s (length seq)) → HasDrawn s.instance (length seq) text last k a b → b (next_broken s.instance) ≡ text
+    text_is text b k is has = text_is_to (length seq) text b k is has
 
-    newest : generation S2.instance ≡ g + 1
-    newest = drawing.generation-cut s.instance (length seq) (g + 1) past
+    -- with a CUT to the first t entries
+    module _ (t : ℕ) (most : t ≤ length seq) where
+      -- once it's drawn
+      abbrev S2 : Records
+      S2 = with_record s (next_cut s.instance t)
 
-    same_few : length (regions S2.instance) ≡ m
-    same_few = ap length (drawing.same_regions s.instance (length seq) (g + 1) form.some_region)
+      newest : generation S2.instance ≡ g + 1
+      newest = drawing.generation-cut s.instance t (g + 1) past
 
-    clean_drawn : (b : Files) (u : Records) (k : ℕ) → u.instance ≡ S2.instance → AreSame b → AreClean b u k
-    clean_drawn b u k is same = record {
-      journals = λ h r undrawn here.
-          let past_h : suc g < h = above h undrawn.0 in
-          at_j h r past_h undrawn.1 (subst (λ (l : List InstanceRecord). r < length (regions l)) is here);
-      lost = λ h undrawn. let past_h : suc g < h = above h undrawn.0 in at_lost b same h undrawn.1 ∙ sound.clean.lost h (omega (arith, past_h), undrawn.1);
-      first_broken = λ h undrawn first.
-          let past_h : suc g < h = above h undrawn.0 in
-          let none : b (broken_file h) ≡ [] = at_broken b same h past_h ∙ sound.clean.later_broken h (omega (arith, past_h), undrawn.1) (omega (arith, past_h)) in
-          let size : length (b (broken_file h)) ≡ 0 = ap length none in
-          omega (arith, size);
-      later_broken = λ h undrawn later. let past_h : suc g < h = above h undrawn.0 in at_broken b same h past_h ∙ sound.clean.later_broken h (omega (arith, past_h), undrawn.1) (omega (arith, past_h));
-    }
-      where
-        above : (h : ℕ) → generation u.instance < h → suc g < h
-        above h high =
-            let e : generation u.instance ≡ g + 1 = ap generation is ∙ newest in
-            omega (arith, e, high)
+      same_few : length (regions S2.instance) ≡ m
+      same_few = ap length (drawing.same_regions s.instance t (g + 1) form.some_region)
 
-        at_j : (h r : ℕ) → suc g < h → h ≤ 65535 → r < length (regions S2.instance) → records (b (journal_file h r)) ≡ Some []
-        at_j h r past_h most here =
-            let there : r < m = (let e = same_few in omega (arith, e, here)) in
-            ap records (at_later b same h r past_h most there) ∙ sound.clean.journals h r (omega (arith, past_h), most) there
-
-    module _ (text : List ℕ) (read : AreRead s.instance last s.journal a) where
-      -- the CUT alone
-      abbrev mid : Files → Files
-      mid b f = if f == INSTANCE then b INSTANCE else a f
-
-      mid_here : (b : Files) → mid b INSTANCE ≡ b INSTANCE
-      mid_here b = refl
-
-      mid_other : (b : Files) (f : ℕ) → f ≢ INSTANCE → mid b f ≡ a f
-      mid_other b f ne = let no : (f == INSTANCE) ≡ false = grind (arith, nat_tests, ne) in rw no refl
-
-      with_cut : (b : Files) → HasDrawn s.instance (length seq) text last 0 a b → IsSoundImage b S2 seq
-      with_cut b has = images.same_image (mid b) b S2 seq
-          (cut_image a (mid b) s seq sound form.some_region low (mid_other b) (subst (λ (l : List ℕ). IsInstance l (s.instance ++ next_cut s.instance (length seq) ∷ [])) (sym (mid_here b)) has.instance))
-          (ap records (sym (mid_here b)))
-          (λ h r most here. let there : r < m = (let e = same_few in omega (arith, e, here)) in by_generation h r (let e = newest in omega (arith, most, e)) there)
-          (clean_drawn b S2 (length seq) refl has.others)
-          (λ r here. let there : r < m = (let e = same_few in omega (arith, e, here)) in at_database b has.others r there ∙ sym (mid_other b (database_file r) (λ e. omega (arith, e))))
+      clean_drawn : (b : Files) (u : Records) (k : ℕ) → u.instance ≡ S2.instance → AreSame b → AreClean b u k
+      clean_drawn b u k is same = record {
+        journals = λ h r undrawn here.
+            let past_h : suc g < h = above h undrawn.0 in
+            at_j h r past_h undrawn.1 (subst (λ (l : List InstanceRecord). r < length (regions l)) is here);
+        lost = λ h undrawn. let past_h : suc g < h = above h undrawn.0 in at_lost b same h undrawn.1 ∙ sound.clean.lost h (omega (arith, past_h), undrawn.1);
+        first_broken = λ h undrawn first.
+            let past_h : suc g < h = above h undrawn.0 in
+            let none : b (broken_file h) ≡ [] = at_broken b same h past_h ∙ sound.clean.later_broken h (omega (arith, past_h), undrawn.1) (omega (arith, past_h)) in
+            let size : length (b (broken_file h)) ≡ 0 = ap length none in
+            omega (arith, size);
+        later_broken = λ h undrawn later. let past_h : suc g < h = above h undrawn.0 in at_broken b same h past_h ∙ sound.clean.later_broken h (omega (arith, past_h), undrawn.1) (omega (arith, past_h));
+      }
         where
-          by_generation : (h r : ℕ) → h ≤ suc g → r < m → records (b (journal_file h r)) ≡ records (mid b (journal_file h r))
-          by_generation h r most there = elim (cases_lt g h) [
-            | inl above ↦
-                let e : suc g ≡ h = omega (arith, most, above) in
-                subst (λ (k : ℕ). records (b (journal_file k r)) ≡ records (mid b (journal_file k r))) e
-                (has.unbegun r there (omega arith) ∙ sym (read.next r there) ∙ ap records (sym (mid_other b (next_journal s.instance r) (λ d. omega (arith, d)))))
-            | inr within ↦ ap records (at_journal b has.others h r within there ∙ sym (mid_other b (journal_file h r) (λ d. omega (arith, d))))
-          ]
+          above : (h : ℕ) → generation u.instance < h → suc g < h
+          above h high =
+              let e : generation u.instance ≡ g + 1 = ap generation is ∙ newest in
+              omega (arith, e, high)
 
-      -- one region more
-      module _ (k : ℕ) (here : k < m) (b : Files) (has : HasDrawn s.instance (length seq) text last (suc k) a b) where
-        abbrev earlier : Files
-        earlier f = if f == next_journal s.instance k then a f else b f
+          at_j : (h r : ℕ) → suc g < h → h ≤ 65535 → r < length (regions S2.instance) → records (b (journal_file h r)) ≡ Some []
+          at_j h r past_h most here =
+              let there : r < m = (let e = same_few in omega (arith, e, here)) in
+              ap records (at_later b same h r past_h most there) ∙ sound.clean.journals h r (omega (arith, past_h), most) there
 
-        earlier_here : earlier (next_journal s.instance k) ≡ a (next_journal s.instance k)
-        earlier_here = let yes : (next_journal s.instance k == next_journal s.instance k) ≡ true = grind (arith, nat_tests) in rw yes refl
+      module _ (text : List ℕ) (read : AreRead s.instance last s.journal a) where
+        -- the CUT alone
+        abbrev mid : Files → Files
+        mid b f = if f == INSTANCE then b INSTANCE else a f
 
-        earlier_other : (f : ℕ) → f ≢ next_journal s.instance k → b f ≡ earlier f
-        earlier_other f ne = let no : (f == next_journal s.instance k) ≡ false = grind (arith, nat_tests, ne) in rw no refl
+        mid_here : (b : Files) → mid b INSTANCE ≡ b INSTANCE
+        mid_here b = refl
 
-        earlier_drawn : HasDrawn s.instance (length seq) text last k a earlier
-        earlier_drawn = record {
-          others = λ f ne away far. sym (earlier_other f (far k here)) ∙ has.others f ne away far;
-          instance = subst (λ (l : List ℕ). IsInstance l (s.instance ++ next_cut s.instance (length seq) ∷ [])) (earlier_other INSTANCE (λ e. omega (arith, e))) has.instance;
-          text = subst (λ (l : List ℕ). (l ≡ text) ⊎ ((text ≡ []) × (l ≡ a (next_broken s.instance)))) (earlier_other (next_broken s.instance) (λ e. let few = form.few_regions in omega (arith, e, here, few, low))) has.text;
-          begun = λ r there less. subst (λ (l : List ℕ). Holds IsJournalBody l (next_pini s.instance last r ∷ [])) (earlier_other (next_journal s.instance r) (λ e. omega (arith, e, less))) (has.begun r there (omega (arith, less)));
-          unbegun = λ r there most. elim (cases_lt k r) [
-            | inl above ↦ ap records (sym (earlier_other (next_journal s.instance r) (λ e. omega (arith, e, above)))) ∙ has.unbegun r there above
-            | inr within ↦
-                let e : k ≡ r = omega (arith, most, within) in
-                subst (λ (q : ℕ). records (earlier (next_journal s.instance q)) ≡ Some []) e (ap records earlier_here ∙ read.next k here)
-          ];
-        }
+        mid_other : (b : Files) (f : ℕ) → f ≢ INSTANCE → mid b f ≡ a f
+        mid_other b f ne = let no : (f == INSTANCE) ≡ false = grind (arith, nat_tests, ne) in rw no refl
 
-        more : IsSoundImage earlier (drawn_records s (length seq) last k) seq → IsSoundImage b (drawn_records s (length seq) last (suc k)) seq
-        more was =
-            let begun = has.begun k here (omega arith) in
-            let mine : k < length (regions S2.instance) = (let e = same_few in omega (arith, e, here)) in
-            let eight : length (regions S2.instance) ≤ 8 = (let e = same_few in let few = form.few_regions in omega (arith, e, few)) in
-            let newest_is : generation S2.instance ≡ suc g = (let e = newest in omega (arith, e)) in
-            let none : records (earlier (next_journal s.instance k)) ≡ Some [] = ap records earlier_here ∙ read.next k here in
-            let held = appending.appended earlier b (drawn_records s (length seq) last k) k g (last k) (s.journal k) [] (next_pini s.instance last k ∷ []) [] begun.0 was.held newest_is mine eight
-            (record { older_is = older_still earlier earlier_drawn.others read k here; newer_is = ([], none, tt); begins = tt })
-            (ap (λ (l : List Placed). s.journal k ++ l) (starts_none s.instance last k k (omega arith))) earlier_other none begun.1 begun.2 (refl, refl, refl, tt) in
-            subst (λ (u : Records). IsSoundImage b u seq) (one_more s (length seq) last k here)
-            (steps.journal_record earlier b (drawn_records s (length seq) last k) seq k (start s (length seq) last k) was mine (λ n. refl) tt tt held
-            (λ n. clean_drawn b (with_journal (drawn_records s (length seq) last k) k (start s (length seq) last k ∷ [])) n refl has.others)
-            (λ q there. earlier_other (database_file q) (λ e. let same = same_few in let few = form.few_regions in omega (arith, e, there, same, few))))
+        pub cut_image_to : (b : Files) → HasDrawn s.instance t text last 0 a b → IsSoundImage b S2 (take t seq)
+        cut_image_to b has = images.same_image (mid b) b S2 (take t seq)
+            (cut_image a (mid b) s seq t sound most form.some_region low (mid_other b) (subst (λ (l : List ℕ). IsInstance l (s.instance ++ next_cut s.instance t ∷ [])) (sym (mid_here b)) has.instance))
+            (ap records (sym (mid_here b)))
+            (λ h r most here. let there : r < m = (let e = same_few in omega (arith, e, here)) in by_generation h r (let e = newest in omega (arith, most, e)) there)
+            (clean_drawn b S2 (length (take t seq)) refl has.others)
+            (λ r here. let there : r < m = (let e = same_few in omega (arith, e, here)) in at_database b has.others r there ∙ sym (mid_other b (database_file r) (λ e. omega (arith, e))))
+          where
+            by_generation : (h r : ℕ) → h ≤ suc g → r < m → records (b (journal_file h r)) ≡ records (mid b (journal_file h r))
+            by_generation h r most there = elim (cases_lt g h) [
+              | inl above ↦
+                  let e : suc g ≡ h = omega (arith, most, above) in
+                  subst (λ (k : ℕ). records (b (journal_file k r)) ≡ records (mid b (journal_file k r))) e
+                  (has.unbegun r there (omega arith) ∙ sym (read.next r there) ∙ ap records (sym (mid_other b (next_journal s.instance r) (λ d. omega (arith, d)))))
+              | inr within ↦ ap records (at_journal b has.others h r within there ∙ sym (mid_other b (journal_file h r) (λ d. omega (arith, d))))
+            ]
 
-      drawn_up_to : (k : ℕ) (b : Files) → k ≤ m → HasDrawn s.instance (length seq) text last k a b → IsSoundImage b (drawn_records s (length seq) last k) seq
-      drawn_up_to zero b most has = subst (λ (u : Records). IsSoundImage b u seq) (none_drawn s (length seq) last) (with_cut b has)
-      drawn_up_to (suc k) b most has =
-          let here : k < m = omega (arith, most) in
-          more k here b has (drawn_up_to k (earlier k here b has) (omega (arith, most)) (earlier_drawn k here b has))
+        -- one region more
+        module _ (k : ℕ) (here : k < m) (b : Files) (has : HasDrawn s.instance t text last (suc k) a b) where
+          abbrev earlier : Files
+          earlier f = if f == next_journal s.instance k then a f else b f
 
-      pub drawn_image : (k : ℕ) (b : Files) → HasDrawn s.instance (length seq) text last k a b → IsSoundImage b (drawn_records s (length seq) last k) seq
-      drawn_image k b has = elim (cases_lt m k) [
-        | inl over ↦ subst (λ (u : Records). IsSoundImage b u seq) (all_drawn s (length seq) last k over)
-            (drawn_up_to m b (omega arith) (record {
-              others = has.others;
-              instance = has.instance;
-              text = has.text;
-              begun = λ r there low. has.begun r there (omega (arith, there, over));
-              unbegun = λ r there far. absurd (omega (arith, there, far));
-            }))
-        | inr most ↦ drawn_up_to k b most has
-      ]
+          earlier_here : earlier (next_journal s.instance k) ≡ a (next_journal s.instance k)
+          earlier_here = let yes : (next_journal s.instance k == next_journal s.instance k) ≡ true = grind (arith, nat_tests) in rw yes refl
+
+          earlier_other : (f : ℕ) → f ≢ next_journal s.instance k → b f ≡ earlier f
+          earlier_other f ne = let no : (f == next_journal s.instance k) ≡ false = grind (arith, nat_tests, ne) in rw no refl
+
+          earlier_drawn : HasDrawn s.instance t text last k a earlier
+          earlier_drawn = record {
+            others = λ f ne away far. sym (earlier_other f (far k here)) ∙ has.others f ne away far;
+            instance = subst (λ (l : List ℕ). IsInstance l (s.instance ++ next_cut s.instance t ∷ [])) (earlier_other INSTANCE (λ e. omega (arith, e))) has.instance;
+            text = subst (λ (l : List ℕ). (l ≡ text) ⊎ ((text ≡ []) × (l ≡ a (next_broken s.instance)))) (earlier_other (next_broken s.instance) (λ e. let few = form.few_regions in omega (arith, e, here, few, low))) has.text;
+            begun = λ r there less. subst (λ (l : List ℕ). Holds IsJournalBody l (next_pini s.instance last r ∷ [])) (earlier_other (next_journal s.instance r) (λ e. omega (arith, e, less))) (has.begun r there (omega (arith, less)));
+            unbegun = λ r there most. elim (cases_lt k r) [
+              | inl above ↦ ap records (sym (earlier_other (next_journal s.instance r) (λ e. omega (arith, e, above)))) ∙ has.unbegun r there above
+              | inr within ↦
+                  let e : k ≡ r = omega (arith, most, within) in
+                  subst (λ (q : ℕ). records (earlier (next_journal s.instance q)) ≡ Some []) e (ap records earlier_here ∙ read.next k here)
+            ];
+          }
+
+          more : IsSoundImage earlier (drawn_records s t last k) (take t seq) → IsSoundImage b (drawn_records s t last (suc k)) (take t seq)
+          more was =
+              let begun = has.begun k here (omega arith) in
+              let mine : k < length (regions S2.instance) = (let e = same_few in omega (arith, e, here)) in
+              let eight : length (regions S2.instance) ≤ 8 = (let e = same_few in let few = form.few_regions in omega (arith, e, few)) in
+              let newest_is : generation S2.instance ≡ suc g = (let e = newest in omega (arith, e)) in
+              let none : records (earlier (next_journal s.instance k)) ≡ Some [] = ap records earlier_here ∙ read.next k here in
+              let held = appending.appended earlier b (drawn_records s t last k) k g (last k) (s.journal k) [] (next_pini s.instance last k ∷ []) [] begun.0 was.held newest_is mine eight
+              (record { older_is = older_still earlier earlier_drawn.others read k here; newer_is = ([], none, tt); begins = tt })
+              (ap (λ (l : List Placed). s.journal k ++ l) (starts_none s.instance last k k (omega arith))) earlier_other none begun.1 begun.2 (refl, refl, refl, tt) in
+              subst (λ (u : Records). IsSoundImage b u (take t seq)) (one_more s t last k here)
+              (steps.journal_record earlier b (drawn_records s t last k) (take t seq) k (start s t last k) was mine (λ n. refl) tt tt held
+              (λ n. clean_drawn b (with_journal (drawn_records s t last k) k (start s t last k ∷ [])) n refl has.others)
+              (λ q there. earlier_other (database_file q) (λ e. let same = same_few in let few = form.few_regions in omega (arith, e, there, same, few))))
+
+        drawn_up_to : (k : ℕ) (b : Files) → k ≤ m → HasDrawn s.instance t text last k a b → IsSoundImage b (drawn_records s t last k) (take t seq)
+        drawn_up_to zero b most has = subst (λ (u : Records). IsSoundImage b u (take t seq)) (none_drawn s t last) (cut_image_to b has)
+        drawn_up_to (suc k) b most has =
+            let here : k < m = omega (arith, most) in
+            more k here b has (drawn_up_to k (earlier k here b has) (omega (arith, most)) (earlier_drawn k here b has))
+
+        pub drawn_image_to : (k : ℕ) (b : Files) → HasDrawn s.instance t text last k a b → IsSoundImage b (drawn_records s t last k) (take t seq)
+        drawn_image_to k b has = elim (cases_lt m k) [
+          | inl over ↦ subst (λ (u : Records). IsSoundImage b u (take t seq)) (all_drawn s t last k over)
+              (drawn_up_to m b (omega arith) (record {
+                others = has.others;
+                instance = has.instance;
+                text = has.text;
+                begun = λ r there low. has.begun r there (omega (arith, there, over));
+                unbegun = λ r there far. absurd (omega (arith, there, far));
+              }))
+          | inr most ↦ drawn_up_to k b most has
+        ]
+
+    pub drawn_image : (text : List ℕ) → AreRead s.instance last s.journal a → (k : ℕ) (b : Files) → HasDrawn s.instance (length seq) text last k a b → IsSoundImage b (drawn_records s (length seq) last k) seq
+    drawn_image text read k b has = subst (IsSoundImage b (drawn_records s (length seq) last k)) (take-length seq) (drawn_image_to (length seq) (omega arith) text read k b has)
+
+    pub cut_off_image : (text : List ℕ) → AreRead s.instance last s.journal a → (b : Files) → HasCut s.instance (length seq) text a b → IsSoundImage b (with_record s (next_cut s.instance (length seq))) seq
+    cut_off_image text read b cut = subst (IsSoundImage b (with_record s (next_cut s.instance (length seq)))) (take-length seq) (cut_image_to (length seq) (omega arith) text read b (cut last))

@@ -2,14 +2,14 @@
 use Rattle.std.proofs.Common.{◌≡◌, ℕ, zero, suc, ◌≤◌, List, sym, ◌∙◌, ap, subst, arith}
 use Rattle.disk_defs.specs.Disk.{Files, View, Image}
 use Rattle.disk_defs.specs.Gates.{records}
-use Rattle.journal_defs.specs.Numbers.{INSTANCE, journal_file}
+use Rattle.journal_defs.specs.Numbers.{journal_file}
 use Rattle.journal_defs.specs.Instance.{InstanceRecord, generation}
 use Rattle.journal_defs.specs.Journal.{IsJournalBody}
 use Rattle.journal_defs.specs.Sequence.{Placed}
 use Rattle.journal_defs.specs.Stands.{IsInstance, IsJournal, Holds, AreRecords}
 use Rattle.site_files.specs.Loading.{AreRead, WasRead}
 
-journal_kept : (old new : Files) (q g last : ℕ) (js : List Placed) → ((h : ℕ) → 1 ≤ h → h ≤ g → new (journal_file h q) ≡ old (journal_file h q)) → IsJournal old q g last js → IsJournal new q g last js
+pub journal_kept : (old new : Files) (q g last : ℕ) (js : List Placed) → ((h : ℕ) → 1 ≤ h → h ≤ g → new (journal_file h q) ≡ old (journal_file h q)) → IsJournal old q g last js → IsJournal new q g last js
 journal_kept old new q zero last js same h = h
 journal_kept old new q (suc g) last js same h = (
   h.0,

@@ -4,6 +4,8 @@ pub mod Cutting
 pub mod Beginning
 pub mod Drawings
 pub mod Keeping
+pub mod LostFiles
+pub mod Ahead
 pub mod Mapped
 pub mod Errors
 pub mod RegionsRead

@@ -1,5 +1,5 @@
 -- A text that is written into a file from place 0 on.
-use Rattle.std.proofs.Common.{◌≡◌, inl, inr, ℕ, zero, suc, ◌+◌, ◌≤◌, List, [], ◌∷◌, ◌++◌, length, drop, max, Option, Some, None, IfSome, Result, Ok, Err, OnOk, refl, sym, ◌∙◌, ap, subst, arith, append-nil}
+use Rattle.std.proofs.Common.{◌≡◌, inl, inr, ℕ, zero, suc, ◌+◌, ◌≤◌, List, [], ◌∷◌, ◌++◌, length, drop, max, Option, Some, None, IfSome, Result, Ok, Err, OnOk, IfOk, refl, sym, ◌∙◌, ap, subst, arith, append-nil}
 use Rattle.disk_defs.specs.Disk.{Files, View, Image, IsLawful, From, OnFile, Torn, Same, Passes, Reads, ReadsAfter, RoomUsed, AtEachMoment, IsDurable, written}
 use Rattle.disk_defs.specs.Frames.{Only, OthersStay}
 use Rattle.disk_defs.proofs.Frames.{reads_weaker, reads_same, others_then, others_read, others_written, others_synced}
@@ -9,6 +9,14 @@ use Rattle.site_files.specs.Loading.{IsNoLonger, IsWritten}
 pub on_ok : {T E : Type 0} (r : Result T E) (P Q : Type 0) → OnOk r P → (P → Q) → OnOk r Q
 on_ok (Ok t) P Q p k = k p
 on_ok (Err e) P Q p k = tt
+
+pub if_ok : {T E : Type 0} (r : Result T E) (P Q : T → Type 0) → IfOk r P → ((t : T) → P t → Q t) → IfOk r Q
+if_ok (Ok t) P Q p k = k t p
+if_ok (Err e) P Q p k = tt
+
+pub if_on : {T E : Type 0} (r : Result T E) (P : T → Type 0) (Q : Type 0) → IfOk r P → ((t : T) → P t → Q) → OnOk r Q
+if_on (Ok t) P Q p k = k t p
+if_on (Err e) P Q p k = tt
 
 drop_all : (n : ℕ) (xs : List ℕ) → length xs ≤ n → drop n xs ≡ []
 drop_all zero [] low = refl

@@ -36,7 +36,7 @@ pub record MayBeOpened (rs : List InstanceRecord) (last : ℕ → ℕ) : Type 0 
   pub some_region : 1 ≤ length (regions rs)
   pub few_regions : length (regions rs) ≤ 8
   pub mapped : AllByRecursion (λ (p : Pattern). p.region < length (regions rs)) (patterns rs)
-  pub room : generation rs < 65534
+  pub room : generation rs < 65535
   pub earlier : (r : ℕ) → last r ≤ generation rs
 
 -- What the files hold: these records, and no open record in the next journals.
@@ -93,6 +93,10 @@ pub record HasBegun (g n : ℕ) (first : ℕ → JournalRecord) (k : ℕ) (was n
 abbrev pub first_by : List InstanceRecord → (g : ℕ) → List ℕ → ℕ → JournalRecord
 first_by rs g lasts r = pini r (unwrap_or (mode_of rs r) true) g (last_of lasts r)
 
+-- the instance file and the broken-transaction file of the next generation
+abbrev pub AreCut : List InstanceRecord → ℕ → Type 0
+AreCut rs f = (f ≡ INSTANCE) ⊎ (f ≡ next_broken rs)
+
 -- the files of the next generation and the instance file
 abbrev pub AreNext : List InstanceRecord → ℕ → Type 0
 AreNext rs f = (f ≡ INSTANCE) ⊎ (f ≡ next_broken rs) ⊎ ((r : ℕ) × (r < length (regions rs)) × (f ≡ next_journal rs r))
@@ -113,7 +117,15 @@ pub record HasDrawn (rs : List InstanceRecord) (n : ℕ) (broken : List ℕ) (la
   pub begun : (r : ℕ) → r < length (regions rs) → r < k → Holds IsJournalBody (now (next_journal rs r)) (next_pini rs last r ∷ [])
   pub unbegun : (r : ℕ) → r < length (regions rs) → k ≤ r → records (now (next_journal rs r)) ≡ Some []
 
--- one of both, with some number of regions
+-- the CUT and the text alone, whatever generations began before
+abbrev pub HasCut : (rs : List InstanceRecord) → ℕ → (broken : List ℕ) → (was now : Files) → Type 0
+HasCut rs n broken was now = (last : ℕ → ℕ) → HasDrawn rs n broken last 0 was now
+
+-- one of both
+abbrev pub MayCutOff : (rs : List InstanceRecord) → ℕ → (broken : List ℕ) → (was now : Files) → Type 0
+MayCutOff rs n broken was now = IsUncut rs broken was now ⊎ HasCut rs n broken was now
+
+-- or the next generation has begun in some number of regions
 abbrev pub MayDraw : (rs : List InstanceRecord) → ℕ → (broken : List ℕ) → (last : ℕ → ℕ) → (was now : Files) → Type 0
 MayDraw rs n broken last was now = IsUncut rs broken was now ⊎ ((k : ℕ) × HasDrawn rs n broken last k was now)
 

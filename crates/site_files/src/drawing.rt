@@ -1,14 +1,14 @@
 //! Drawing the next generation, and beginning it.
 ghost use Rattle.std.specs.Prelude.{◌≡◌, ◌⊎◌, ◌≤◌, ◌<◌, ◌^◌, ◌++◌, ◌∷◌, [], ℕ, suc, true, List, length, map, slice_get, Some, IfSome, IfOk, OnOk, OnErr, IsErrOf};
 ghost use Rattle.std.specs.Option.{option_or, unwrap_or};
-ghost use Rattle.disk_defs.specs.Disk.{Files, Image, From, AtEachMoment, IsDurable, Rose};
-ghost use Rattle.disk_defs.specs.Frames.{Only, OnlyOn, OthersStay};
+ghost use Rattle.disk_defs.specs.Disk.{Files, Image, From, AtEachMoment, Rose};
+ghost use Rattle.disk_defs.specs.Frames.{Only, OthersStay};
 ghost use Rattle.instance_file.specs.Values.{record_value};
 ghost use Rattle.instance_file.specs.Instance as instances;
-ghost use Rattle.journal_defs.specs.Numbers.{INSTANCE, journal_file};
+ghost use Rattle.journal_defs.specs.Numbers.{journal_file};
+ghost use Rattle.journal_defs.specs.Instance as defs;
 ghost use Rattle.journal_defs.specs.Instance.{generation, regions, mode_in, mode_of};
 ghost use Rattle.journal_defs.specs.Sequence.{Placed};
-ghost use Rattle.journal_defs.specs.Stands.{IsInstance};
 ghost use Rattle.jnl_file.specs.Journal as journals;
 ghost use Rattle.jnl_file.specs.declared.journal.Journal.{Journal};
 ghost use Rattle.jnl_file.specs.Records.{settled};
@@ -17,9 +17,9 @@ ghost use Rattle.disk_defs.specs.Gates.{records};
 ghost use Rattle.site_files.specs.Errors.{journal_error};
 ghost use Rattle.site_files.specs.Loading.{MayBeOpened, WasRead, MayDraw, HasDrawn, HasBegun, AreNext, AreJournalsOf, AreUnbegun, last_of, first_by, next_cut, next_broken, next_pini};
 
-use crate::broken::write_broken;
+use crate::cuts::{cut_off, cut_open};
 use crate::error::FilesError;
-use crate::finding::{generation_in, in_instance};
+use crate::finding::generation_in;
 use gvn_key::NoMemory;
 use instance_file::{Instance, InstanceLog, InstanceRecord};
 use jnl_file::{Journal, JournalError};
@@ -67,40 +67,6 @@ fn mode_by(records: &[InstanceRecord], region: u8) -> bool
         mode = mode_given(given, region).or(mode);
     }
     mode.unwrap_or(true)
-}
-
-/// Opens the instance file for calls, and appends the CUT to so many entries that draws the next generation.
-fn cut<D: Disk>(
-    alloc: Global,
-    disk: &mut D,
-    log: InstanceLog,
-    length: u64,
-    next: u32,
-) -> Result<Instance, FilesError>
-    requires form { (last : ℕ → ℕ) × MayBeOpened log.records last }
-    requires next { next ≡ suc (generation log.records) }
-    requires length { length < 2 ^ 40 }
-    requires stands { IfSome (D.disk disk.old).content (λ files. IsInstance (files INSTANCE) log.records) }
-    requires durable { IfSome (D.disk disk.old).content (λ files. IsDurable (D.disk disk.old) INSTANCE (files INSTANCE)) }
-    ensures ready { IfOk result (λ made. instances.IsReady (D.disk disk.new) made) }
-    ensures records { IfOk result (λ made. made.records ≡ log.records ++ next_cut log.records length ∷ []) }
-    ensures state { IfOk result (λ made. IfSome (D.disk disk.old).content (λ _. instances.HasRecords (D.disk disk.new) made (log.records ++ next_cut log.records length ∷ []))) }
-    ensures any_moment { IfSome (D.disk disk.old).content (λ _. AtEachMoment (D.disk disk.old) (D.disk disk.new) (OnlyOn (D.disk disk.old) INSTANCE (instances.StandsWith log.records (next_cut log.records length)))) }
-    ensures frame { OthersStay (Only INSTANCE) (D.disk disk.old) (D.disk disk.new) }
-    ensures later { (D.disk disk.old).faults ≤ (D.disk disk.new).faults }
-    ensures count { (fault : ℕ) → IsErrOf result (FilesError.Failed fault) → fault ≡ (D.disk disk.new).faults }
-    ensures cause { (fault : ℕ) → IsErrOf result (FilesError.Failed fault) → Rose (D.disk disk.old).faults (D.disk disk.new).faults }
-    ensures outside { (file offset : ℕ) → IsErrOf result (FilesError.NotAFile file offset) → IfSome (D.disk disk.old).content (λ _. ⊥) }
-    ensures causes { OnErr result (((fault : ℕ) × IsErrOf result (FilesError.Failed fault)) ⊎ ((file : ℕ) × (offset : ℕ) × IsErrOf result (FilesError.NotAFile file offset)) ⊎ IsErrOf result FilesError.NoMemory) }
-{
-    let mut instance = match Instance::open(alloc, disk, log) {
-        Ok(instance) => instance,
-        Err(error) => return Err(in_instance(error, disk.faults())),
-    };
-    match instance.cut(disk, length, next) {
-        Ok(()) => Ok(instance),
-        Err(error) => Err(in_instance(error, disk.faults())),
-    }
 }
 
 /// Makes a region's journal of a generation.
@@ -206,6 +172,38 @@ fn begin_all<D: Disk>(
     Ok(journals)
 }
 
+/// Begins the newest generation of an open instance file in the first regions, one for each of these last generations.
+fn begin_drawn<D: Disk>(
+    alloc: Global,
+    disk: &mut D,
+    instance: Instance,
+    last_began: &[u32],
+) -> Result<Drawn, FilesError>
+    requires ready { instances.IsReady (D.disk disk.old) instance }
+    requires few { length last_began.now ≤ 8 }
+    requires generation { generation instance.records ≤ 65535 }
+    requires earlier { (r : ℕ) → last_of last_began.now r < generation instance.records }
+    requires unbegun { IfSome (D.disk disk.old).content (λ _. (f : Files) → Image (D.disk disk.old) f → AreUnbegun (generation instance.records) (length last_began.now) f) }
+    ensures instance { IfOk result (λ made. instances.IsReady (D.disk disk.new) made.instance) }
+    ensures records { IfOk result (λ made. made.instance.records ≡ instance.records) }
+    ensures instance_file { IfOk result (λ made. (rs : List defs.InstanceRecord) → instances.HasRecords (D.disk disk.old) instance rs → instances.HasRecords (D.disk disk.new) made.instance rs) }
+    ensures journal_count { IfOk result (λ made. length made.journals.items ≡ length last_began.now) }
+    ensures journals { IfOk result (λ made. (r : ℕ) (j : Journal) → slice_get made.journals.items r ≡ Some j → journals.IsReady (D.disk disk.new) j × journals.IsJournalOf j r (generation instance.records)) }
+    ensures journal_files { IfOk result (λ made. IfSome (D.disk disk.old).content (λ _. (r : ℕ) (j : Journal) → slice_get made.journals.items r ≡ Some j → journals.HasRecords (D.disk disk.new) j (settled (first_by instance.records (generation instance.records) last_began.now r ∷ [])))) }
+    ensures begun { OnOk result (IfSome (D.disk disk.old).content (λ _. (f : Files) → Image (D.disk disk.new) f → From (Image (D.disk disk.old)) (HasBegun (generation instance.records) (length last_began.now) (first_by instance.records (generation instance.records) last_began.now) (length last_began.now)) f)) }
+    ensures any_moment { IfSome (D.disk disk.old).content (λ _. AtEachMoment (D.disk disk.old) (D.disk disk.new) (From (Image (D.disk disk.old)) (λ was now. (k : ℕ) × HasBegun (generation instance.records) (length last_began.now) (first_by instance.records (generation instance.records) last_began.now) k was now))) }
+    ensures frame { OthersStay (AreJournalsOf (generation instance.records) (length last_began.now)) (D.disk disk.old) (D.disk disk.new) }
+    ensures later { (D.disk disk.old).faults ≤ (D.disk disk.new).faults }
+    ensures count { (fault : ℕ) → IsErrOf result (FilesError.Failed fault) → fault ≡ (D.disk disk.new).faults }
+    ensures cause { (fault : ℕ) → IsErrOf result (FilesError.Failed fault) → Rose (D.disk disk.old).faults (D.disk disk.new).faults }
+    ensures causes { OnErr result (((fault : ℕ) × IsErrOf result (FilesError.Failed fault)) ⊎ IsErrOf result FilesError.NoMemory) }
+{
+    let records = instance.records.as_slice();
+    let generation = generation_in(records);
+    let journals = begin_all(alloc, disk, records, generation, last_began)?;
+    Ok(Drawn { instance, journals })
+}
+
 /// Draws the next generation of a site that was read, with the text of what is broken and a CUT to so many entries, and begins it in
 /// each region.
 ///
@@ -238,10 +236,41 @@ pub fn draw<D: Disk>(
     ensures outside { (file offset : ℕ) → IsErrOf result (FilesError.NotAFile file offset) → IfSome (D.disk disk.old).content (λ _. ⊥) }
     ensures causes { OnErr result (((fault : ℕ) × IsErrOf result (FilesError.Failed fault)) ⊎ ((file : ℕ) × (offset : ℕ) × IsErrOf result (FilesError.NotAFile file offset)) ⊎ IsErrOf result FilesError.NoMemory) }
 {
-    let next = generation_in(log.records.as_slice()) + 1;
-    write_broken(disk, next, broken)?;
-    let instance = cut(alloc, disk, log, count, next)?;
-    let records = instance.records.as_slice();
-    let journals = begin_all(alloc, disk, records, next, last_began)?;
-    Ok(Drawn { instance, journals })
+    let instance = cut_off(alloc, disk, log, count, broken)?;
+    begin_drawn(alloc, disk, instance, last_began)
+}
+
+/// Draws the next generation of a site whose instance file is open, with a CUT to so many entries, and begins it in each region.
+/// It writes no broken-transaction file.
+///
+/// No image has an open record in the journals of the next generation. `last_began` has the last generation that began, by region.
+pub fn draw_next<D: Disk>(
+    alloc: Global,
+    disk: &mut D,
+    instance: Instance,
+    count: u64,
+    last_began: &[u32],
+) -> Result<Drawn, FilesError>
+    requires ready { instances.IsReady (D.disk disk.old) instance }
+    requires form { MayBeOpened instance.records (last_of last_began.now) }
+    requires counted { length last_began.now ≡ length (regions instance.records) }
+    requires count { count < 2 ^ 40 }
+    requires unbegun { IfSome (D.disk disk.old).content (λ _. (f : Files) → Image (D.disk disk.old) f → AreUnbegun (suc (generation instance.records)) (length (regions instance.records)) f) }
+    ensures instance { IfOk result (λ made. instances.IsReady (D.disk disk.new) made.instance) }
+    ensures journal_count { IfOk result (λ made. length made.journals.items ≡ length (regions instance.records)) }
+    ensures journals { IfOk result (λ made. (r : ℕ) (j : Journal) → slice_get made.journals.items r ≡ Some j → journals.IsReady (D.disk disk.new) j × journals.IsJournalOf j r (suc (generation instance.records))) }
+    ensures records { IfOk result (λ made. made.instance.records ≡ instance.records ++ next_cut instance.records count ∷ []) }
+    ensures instance_file { IfOk result (λ made. IfSome (D.disk disk.old).content (λ _. instances.HasRecords (D.disk disk.new) made.instance (instance.records ++ next_cut instance.records count ∷ []))) }
+    ensures journal_files { IfOk result (λ made. IfSome (D.disk disk.old).content (λ _. (r : ℕ) (j : Journal) → slice_get made.journals.items r ≡ Some j → journals.HasRecords (D.disk disk.new) j (settled (next_pini instance.records (last_of last_began.now) r ∷ [])))) }
+    ensures drawn { OnOk result (IfSome (D.disk disk.old).content (λ _. (f : Files) → Image (D.disk disk.new) f → From (Image (D.disk disk.old)) (HasDrawn instance.records count [] (last_of last_began.now) (length (regions instance.records))) f)) }
+    ensures any_moment { IfSome (D.disk disk.old).content (λ _. AtEachMoment (D.disk disk.old) (D.disk disk.new) (From (Image (D.disk disk.old)) (MayDraw instance.records count [] (last_of last_began.now)))) }
+    ensures reads { IfSome (D.disk disk.old).content (λ files. IfSome (D.disk disk.new).content (MayDraw instance.records count [] (last_of last_began.now) files)) }
+    ensures frame { OthersStay (AreNext instance.records) (D.disk disk.old) (D.disk disk.new) }
+    ensures later { (D.disk disk.old).faults ≤ (D.disk disk.new).faults }
+    ensures count { (fault : ℕ) → IsErrOf result (FilesError.Failed fault) → fault ≡ (D.disk disk.new).faults }
+    ensures cause { (fault : ℕ) → IsErrOf result (FilesError.Failed fault) → Rose (D.disk disk.old).faults (D.disk disk.new).faults }
+    ensures causes { OnErr result (((fault : ℕ) × IsErrOf result (FilesError.Failed fault)) ⊎ IsErrOf result FilesError.NoMemory) }
+{
+    let instance = cut_open(disk, instance, count)?;
+    begin_drawn(alloc, disk, instance, last_began)
 }

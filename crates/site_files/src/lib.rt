@@ -5,7 +5,7 @@
 //! same sequence.
 #![tactic(auto)]
 
-mod broken;
+mod cuts;
 mod drawing;
 mod error;
 mod finding;
@@ -13,11 +13,17 @@ mod laws;
 mod mapping;
 mod reading;
 mod remembering;
+mod texts;
 
-pub use drawing::{Drawn, draw};
+pub use cuts::cut_off;
+pub use drawing::{Drawn, draw, draw_next};
 pub use error::FilesError;
 pub use finding::{created_name, generation_in, in_instance, read_instance, sync_instance};
-pub use laws::{drawing_keeps_the_sequence, images_have_what_was_read, reading_gives_the_records};
+pub use laws::{
+    cutting_off_leaves_a_site, drawing_keeps_the_sequence, images_have_what_was_read,
+    lost_files_are_free, reading_gives_the_records,
+};
 pub use mapping::directory_of;
-pub use reading::{ReadSite, read_records, read_site};
+pub use reading::{ReadSite, read_records, read_site, see_ahead};
 pub use remembering::{Remembered, count_entries, remember_all};
+pub use texts::write_lost;

@@ -1,5 +1,5 @@
 //! Reading the files of a site.
-ghost use Rattle.std.specs.Prelude.{◌≡◌, ◌⊎◌, ◌≤◌, ◌<◌, ◌++◌, ◌∷◌, [], ℕ, List, length, map, Some, None, IfSome, IfOk, OnOk, OnErr, IsErrOf};
+ghost use Rattle.std.specs.Prelude.{◌≡◌, ◌⊎◌, ◌≤◌, ◌<◌, ◌++◌, ◌∷◌, [], ℕ, suc, List, length, map, Some, None, IfSome, IfOk, OnOk, OnErr, IsErrOf};
 ghost use Rattle.disk_defs.specs.Disk.{Image, IsDurable, AtEachMoment, Rose};
 ghost use Rattle.disk_defs.specs.Gates.{records};
 ghost use Rattle.std.specs.List.{AllByRecursion};
@@ -298,6 +298,8 @@ pub fn read_site<D: Disk>(alloc: Global, disk: &mut D) -> Result<ReadSite, Files
     ensures form { IfOk result (λ read. MayBeOpened read.log.records (last_of read.last_began.items)) }
     ensures directory { IfOk result (λ read. IsDirectory read.log.records (Some read.directory)) }
     ensures counted { IfOk result (λ read. length read.last_began.items ≡ length (defs.regions read.log.records)) }
+    // another generation than the next one is left
+    ensures low { IfOk result (λ read. generation read.log.records < 65534) }
     ensures read { IfOk result (λ read. IfSome (D.disk disk.old).content (WasRead (D.disk disk.new) read.log.records (last_of read.last_began.items) (journal_of (map (λ j. j.items) read.journals.items)))) }
     ensures forms { IfOk result (λ read. AreAllRead (map (λ j. j.items) read.journals.items)) }
     ensures limit { IsErrOf result FilesError.GenLimit → IfSome (D.disk disk.old).content (λ files. (rs : List defs.InstanceRecord) → IsInstance (files INSTANCE) rs → 65534 ≤ generation rs) }
@@ -324,4 +326,32 @@ pub fn read_site<D: Disk>(alloc: Global, disk: &mut D) -> Result<ReadSite, Files
         journals: read.journals,
         last_began: read.last_began,
     })
+}
+
+/// Syncs the journals of the generation behind the next one of a site with these records and this directory, and sees that they have no
+/// open record. It writes nothing.
+///
+/// # Errors
+/// `NotAFile` with the first of them that has begun already.
+pub fn see_ahead<D: Disk>(
+    alloc: Global,
+    disk: &mut D,
+    records: &[InstanceRecord],
+    directory: &Directory,
+) -> Result<(), FilesError>
+    requires directory { IsDirectory (map record_value records.now) (Some directory.now) }
+    requires low { generation (map record_value records.now) < 65534 }
+    ensures next { OnOk result (IfSome (D.disk disk.old).content (AreUnbegun (length (defs.regions (map record_value records.now))) (suc (suc (generation (map record_value records.now)))))) }
+    ensures durable { OnOk result (IfSome (D.disk disk.old).content (AreUnbegunDurable (D.disk disk.new) (length (defs.regions (map record_value records.now))) (suc (suc (generation (map record_value records.now)))))) }
+    ensures place { (file offset : ℕ) → IsErrOf result (FilesError.NotAFile file offset) → IfSome (D.disk disk.old).content (λ files. HaveBegun files (length (defs.regions (map record_value records.now))) (suc (suc (generation (map record_value records.now)))) file offset) }
+    ensures outside { (file offset : ℕ) → IsErrOf result (FilesError.NotAFile file offset) → IfSome (D.disk disk.old).content (λ files. AreUnbegun (length (defs.regions (map record_value records.now))) (suc (suc (generation (map record_value records.now)))) files → ⊥) }
+    ensures content { (D.disk disk.new).content ≡ (D.disk disk.old).content }
+    ensures any_moment { AtEachMoment (D.disk disk.old) (D.disk disk.new) (Image (D.disk disk.old)) }
+    ensures simulated { (D.disk disk.new).simulated ≡ (D.disk disk.old).simulated }
+    ensures later { (D.disk disk.old).faults ≤ (D.disk disk.new).faults }
+    ensures count { (fault : ℕ) → IsErrOf result (FilesError.Failed fault) → fault ≡ (D.disk disk.new).faults }
+    ensures cause { (fault : ℕ) → IsErrOf result (FilesError.Failed fault) → Rose (D.disk disk.old).faults (D.disk disk.new).faults }
+    ensures causes { OnErr result (((fault : ℕ) × IsErrOf result (FilesError.Failed fault)) ⊎ ((file : ℕ) × (offset : ℕ) × IsErrOf result (FilesError.NotAFile file offset)) ⊎ IsErrOf result FilesError.NoMemory) }
+{
+    see_regions(alloc, disk, directory.regions(), generation_in(records) + 2)
 }

@@ -13,7 +13,7 @@ use Rattle.global_defs.specs.Fields.{IsSiteName}
 use Rattle.global_defs.specs.Prefix.{stamp_at}
 use Rattle.gvn_model.specs.declared.reign.Stamp as code
 use Rattle.gvn_model.specs.Reigns.{stamp_value}
-use Rattle.journal_defs.specs.Numbers.{INSTANCE, journal_file, database_file, broken_file}
+use Rattle.journal_defs.specs.Numbers.{INSTANCE, journal_file, database_file, lost_file, broken_file}
 use Rattle.journal_defs.specs.Journal.{Part}
 use Rattle.journal_defs.specs.Instance.{InstanceRecord, Reigned, generation, regions, site_name, greatest_cycle}
 use Rattle.journal_defs.specs.Directory.{Pattern, patterns}
@@ -35,7 +35,7 @@ use Rattle.site_defs.specs.Contents.{Contents, NO_LEFTOVER, is_made, bare}
 use Rattle.site_defs.specs.Fronts.{with_sequence}
 use Rattle.site_defs.specs.Opening.{with_reign, next_reign}
 use Rattle.site_defs.specs.Limits.{LAST_CYCLE, no_reign_left}
-use Rattle.site_defs.specs.Stands.{texts_of, IsSite, HasLeft}
+use Rattle.site_defs.specs.Stands.{texts_of, losts_of, IsSite, HasLeft}
 use Rattle.site_defs.specs.Behind.{IsSiteWith}
 use Rattle.site_store.specs.declared.layout.Layout.{Layout}
 use Rattle.site_store.specs.declared.site.OpenSite.{OpenSite}
@@ -48,7 +48,7 @@ use Rattle.site_store.proofs.OnBlocks.{on_same, on_chosen}
 use Rattle.gvn_model.specs.Numbered.{numbered}
 use Rattle.site_store.specs.Reigning.{HasNoReignLeft, HasReignLeft, IsNextReign}
 use Rattle.site_store.proofs.Standing.{images_stand, reads_of, reads_so, told_of, still}
-use Rattle.site_store.proofs.Images.{same_image, reign_image, generation_kept, patterns_kept, name_kept, regions_kept, AreOf, are_of, site_of, is_created, texts_same, left_nothing}
+use Rattle.site_store.proofs.Images.{same_image, reign_image, generation_kept, patterns_kept, name_kept, regions_kept, AreOf, are_of, site_of, is_created, texts_same, losts_same, left_nothing}
 use Rattle.site_store.proofs.Emptied.{none_left}
 use Rattle.site_store.proofs.Frames as frames
 use Rattle.site_store.proofs.Remembered.{remembered_length, numbers_same}
@@ -143,10 +143,11 @@ are_begun d f c s same of =
       starts = of.starts;
       epochs = of.epochs;
       texts = of.texts ∙ sym (texts_same d f (generation c.instance) (λ g low. same (broken_file g) (λ e. omega (arith, e)))) ∙ ap (texts_of f) (sym (generation_kept c.instance x));
+      losts = of.losts ∙ sym (losts_same d f (generation c.instance) (λ g low. same (lost_file g) (λ e. omega (arith, e)))) ∙ ap (losts_of f) (sym (generation_kept c.instance x));
     }
   where
-    by_list : (rs : List InstanceRecord) → is_made (record { instance = rs; starts = c.starts; epochs = c.epochs; texts = c.texts; sequence = c.sequence }) ≡ true
-        → is_made (record { instance = rs ++ Reigned (reign_of c) ∷ []; starts = c.starts; epochs = c.epochs; texts = c.texts; sequence = c.sequence }) ≡ true
+    by_list : (rs : List InstanceRecord) → is_made (record { instance = rs; starts = c.starts; epochs = c.epochs; texts = c.texts; losts = c.losts; sequence = c.sequence }) ≡ true
+        → is_made (record { instance = rs ++ Reigned (reign_of c) ∷ []; starts = c.starts; epochs = c.epochs; texts = c.texts; losts = c.losts; sequence = c.sequence }) ≡ true
     by_list [] made = refl
     by_list (r ∷ rs) made = grind (arith, nat_tests)
 
@@ -175,13 +176,6 @@ site_begun : (v : View) (c : Contents) (s : OpenSite) (k : Keeps v c (length c.s
 site_begun v c s k past d f was same now =
     site_of f (begun c) (with_record k.records (Reigned (reign_of c))) (are_begun d f c k.records same (one_of v c s k d was)) (sound_begun v c s k past d f was same now)
 
--- the newest generation isn't the last
-not_last : (v : View) (c : Contents) (s : OpenSite) → Keeps v c (length c.sequence) s → generation c.instance < MOST_GENERATIONS
-not_last v c s k =
-    let newest = k.newest.generation in
-    let low = k.newest.not_last in
-    omega (arith, newest, low)
-
 -- at each moment
 pub reign_left : (v w : View) (c : Contents) (s : OpenSite) → Keeps v c (length c.sequence) s → AllByRecursion (λ (q : Reign). q.start < length c.sequence + 1) (reigns c.instance)
     → AtEachMoment v w (OnlyOn v INSTANCE (instances.StandsWith c.instance (Reigned (reign_of c)))) → AtEachMoment v w (λ f. IsSiteWith f (bare c) ⊎ IsSiteWith f (bare (begun c)))
@@ -190,7 +184,7 @@ reign_left v w c s k past run = weaker v w (OnlyOn v INSTANCE (instances.StandsW
       let sound = kept q.others.0 f q.others.1 q.others.2 same in
       inl (record {
         site = site_of f c k.records (still_one q.others.0 f q.others.1 q.others.2) sound;
-        left = left_nothing f c k.records sound.held sound.clean k.none_past k.newest.instance (not_last v c s k);
+        left = left_nothing f c k.records sound.held sound.clean k.none_past k.newest.instance;
       })
   | inr more ↦
       let sound = sound_begun v c s k past q.others.0 f q.others.1 q.others.2 more in
@@ -198,15 +192,14 @@ reign_left v w c s k past run = weaker v w (OnlyOn v INSTANCE (instances.StandsW
         site = site_begun v c s k past q.others.0 f q.others.1 q.others.2 more;
         left = left_nothing f (begun c) (with_record k.records (Reigned (reign_of c))) sound.held sound.clean
             (λ n r late. runs.part_of-sparing k.records.instance (Reigned (reign_of c)) n (k.records.journal r) (λ h m. refl) ∙ k.none_past n r late)
-            (ap (λ (l : List InstanceRecord). l ++ Reigned (reign_of c) ∷ []) k.newest.instance)
-            (subst (λ (n : ℕ). n < MOST_GENERATIONS) (sym (generation_kept c.instance (reign_of c))) (not_last v c s k));
+            (ap (λ (l : List InstanceRecord). l ++ Reigned (reign_of c) ∷ []) k.newest.instance);
       })
 ]) run
   where
     still_one : (d f : Files) → Image v d → SameOutside (Only INSTANCE) d f → AreOf f c k.records
     still_one d f was same =
         let of = one_of v c s k d was in
-        record { made = of.made; mapped = of.mapped; instance = of.instance; starts = of.starts; epochs = of.epochs; texts = of.texts ∙ sym (texts_same d f (generation c.instance) (λ g low. same (broken_file g) (λ e. omega (arith, e)))) }
+        record { made = of.made; mapped = of.mapped; instance = of.instance; starts = of.starts; epochs = of.epochs; texts = of.texts ∙ sym (texts_same d f (generation c.instance) (λ g low. same (broken_file g) (λ e. omega (arith, e)))); losts = of.losts ∙ sym (losts_same d f (generation c.instance) (λ g low. same (lost_file g) (λ e. omega (arith, e)))) }
 
     kept : (d f : Files) → Image v d → SameOutside (Only INSTANCE) d f → IsInstance (f INSTANCE) c.instance → IsSoundImage f k.records c.sequence
     kept d f was same now = same_image d f k.records c.sequence (sound_now v c s k d was) k.none_past same (subst (λ (l : List InstanceRecord). IsInstance (f INSTANCE) l) (sym k.newest.instance) now)

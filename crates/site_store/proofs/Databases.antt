@@ -3,9 +3,10 @@ use Rattle.std.proofs.Common.{◌≡◌, ℕ, ◌+◌, Option, Some, None, IfSom
 use Rattle.std.proofs.lemmas.Bool.{cases_eq}
 use Rattle.disk_defs.specs.Disk.{Files, View, Image, IsLawful, IsDurable, AtEachMoment}
 use Rattle.disk_defs.proofs.Told.{both_weak, weaker_told, told_at}
-use Rattle.journal_defs.specs.Numbers.{broken_file, database_file}
+use Rattle.journal_defs.specs.Numbers.{database_file}
 use Rattle.site_files.proofs.RegionsRead.{durable_kept}
 use Rattle.site_store.specs.Opening.{AreTextsDurable, AreDatabasesDurable}
+use Rattle.site_store.proofs.Texts.{text_kept}
 
 pub no_database : (o : Option Files) (v : View) → IfSome o (AreDatabasesDurable v 0)
 no_database None v = tt
@@ -26,4 +27,4 @@ pub databases_still : (o : Option Files) (v w : View) (n : ℕ) → IsLawful w �
 databases_still o v w n lawful run was = weaker_told o (AreDatabasesDurable v n) (AreDatabasesDurable w n) was (λ files are r low. durable_kept v w (database_file r) (files (database_file r)) lawful run (are r low))
 
 pub texts_still : (o : Option Files) (v w : View) (n : ℕ) → IsLawful w → AtEachMoment v w (Image v) → IfSome o (AreTextsDurable v n) → IfSome o (AreTextsDurable w n)
-texts_still o v w n lawful run was = weaker_told o (AreTextsDurable v n) (AreTextsDurable w n) was (λ files are h least most. durable_kept v w (broken_file h) (files (broken_file h)) lawful run (are h least most))
+texts_still o v w n lawful run was = weaker_told o (AreTextsDurable v n) (AreTextsDurable w n) was (λ files are h least most. text_kept v w h files lawful run (are h least most))

@@ -13,7 +13,5 @@ use Rattle.site_store.proofs.Images.{left_nothing}
 pub none_left : (v : View) (c : Contents) (h : ℕ) (s : OpenSite) (f : Files) → Keeps v c h s → Image v f → HasLeft f (with_sequence c (take h c.sequence)) NO_LEFTOVER
 none_left v c h s f k now =
     let sound = k.sound f now in
-    let newest = k.newest.generation in
-    let low = k.newest.not_last in
     left_nothing f (with_sequence c (take h c.sequence)) k.records sound.held sound.clean
-    (subst (λ (n : ℕ). NonePast n k.records) (sym (length-take-le h c.sequence k.count)) k.none_past) k.newest.instance (omega (arith, newest, low))
+    (subst (λ (n : ℕ). NonePast n k.records) (sym (length-take-le h c.sequence k.count)) k.none_past) k.newest.instance

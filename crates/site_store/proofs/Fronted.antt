@@ -9,7 +9,7 @@ use Rattle.std.proofs.Math.Path.{fun_ext}
 use Rattle.disk_defs.specs.Disk.{Files}
 use Rattle.disk_defs.specs.Frames.{SameOutside}
 use Rattle.global_defs.specs.Entry.{Sequence}
-use Rattle.journal_defs.specs.Numbers.{broken_file}
+use Rattle.journal_defs.specs.Numbers.{lost_file, broken_file}
 use Rattle.journal_defs.specs.Journal.{JournalRecord, Epoch, Mark, Before, Start, IsNoPini}
 use Rattle.journal_defs.specs.Instance.{InstanceRecord, generation, regions}
 use Rattle.journal_defs.specs.Sequence.{Records}
@@ -25,7 +25,7 @@ use Rattle.site_defs.specs.Contents.{Taken, Contents, Standing, NO_LEFTOVER, bar
 use Rattle.site_defs.specs.Epochs.{taken_in, with_epochs, MayMark, MayMarkLeft}
 use Rattle.site_defs.specs.Stands.{IsSite, HasLeft}
 use Rattle.site_defs.specs.Behind.{IsSiteWith}
-use Rattle.site_store.proofs.Images.{AreOf, are_of, site_of, texts_same, left_nothing}
+use Rattle.site_store.proofs.Images.{AreOf, are_of, site_of, texts_same, losts_same, left_nothing}
 use Rattle.site_store.proofs.Starts.{starts_of, epochs_of}
 
 -- of such records
@@ -89,7 +89,7 @@ front_no_pini n l (Images is e) = subst (AllByRecursion IsNoPini) (sym e) (no_pi
 front_no_pini n l (WithEpoch is m number e) = subst (AllByRecursion IsNoPini) (sym e) (no_pini_then is m)
 
 -- the contents of an image of the site with such records more
-module _ (d f : Files) (c : Contents) (s t : Records) (g m : ℕ) (is : IsSite d c) (held : AreRecords d s) (own : s.instance ≡ c.instance) (newest : generation c.instance ≡ suc g) (not_last : suc g < MOST_GENERATIONS)
+module _ (d f : Files) (c : Contents) (s t : Records) (g m : ℕ) (is : IsSite d c) (held : AreRecords d s) (own : s.instance ≡ c.instance) (newest : generation c.instance ≡ suc g) (not_last : suc g ≤ MOST_GENERATIONS)
     (more : HasMore (length c.sequence) (suc g) s t) (few : m ≤ 8) (same : SameOutside (IsEpochFile (suc g) m) d f) (sound : IsSoundImage f t c.sequence) where
   abbrev pub picked : ℕ → Bool
   picked r = has_epoch (length c.sequence) (more.more r) (more.each r)
@@ -136,6 +136,10 @@ module _ (d f : Files) (c : Contents) (s t : Records) (g m : ℕ) (is : IsSite d
       | inl journal ↦ (let at = journal.is in let here = journal.inside in omega (arith, at, here, newest, low, few, not_last))
       | inr database ↦ (let at = database.is in let here = database.inside in omega (arith, at, here, few))
     ])));
+    losts = of.losts ∙ sym (losts_same d f (generation c.instance) (λ h low. same (lost_file h) (λ i. elim i [
+      | inl journal ↦ (let at = journal.is in let here = journal.inside in omega (arith, at, here, newest, low, few, not_last))
+      | inr database ↦ (let at = database.is in let here = database.inside in omega (arith, at, here, few))
+    ])));
   }
 
   pub site_marked : IsSite f (with_epochs picked c)
@@ -150,7 +154,7 @@ module _ (d f : Files) (c : Contents) (s t : Records) (g m : ℕ) (is : IsSite d
 
   -- and nothing lies behind
   pub left_marked : NonePast (length c.sequence) s → HasLeft f (with_epochs picked c) NO_LEFTOVER
-  left_marked none = left_nothing f (with_epochs picked c) t sound.held sound.clean (no_more_parts none) instance_is (omega (arith, newest, not_last))
+  left_marked none = left_nothing f (with_epochs picked c) t sound.held sound.clean (no_more_parts none) instance_is
 
   pub may_mark : (o : Contents) × MayMark c o × IsSite f o
   may_mark = (with_epochs picked c, inr (picked, refl), site_marked)

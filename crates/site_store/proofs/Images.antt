@@ -1,6 +1,7 @@
 -- What images stand for.
-use Rattle.std.proofs.Common.{◌≡◌, ◌≤◌, ◌<◌, ℕ, zero, suc, true, List, [], ◌∷◌, ◌++◌, length, Some, refl, sym, ◌∙◌, ap, subst, arith, append-nil}
-use Rattle.std.specs.Prelude.{nat_lt}
+use Rattle.std.proofs.Common.{◌≡◌, ◌≤◌, ◌<◌, ℕ, zero, suc, Bool, true, false, List, [], ◌∷◌, ◌++◌, length, Some, refl, sym, ◌∙◌, ap, subst, arith, append-nil}
+use Rattle.std.specs.Prelude.{nat_lt, if◌then◌else◌}
+use Rattle.std.proofs.lemmas.Bool.Decides.{nat_tests}
 use Rattle.std.specs.List.{AllByRecursion, AllZip, filter_map}
 use Rattle.std.proofs.lemmas.List.Elements.{filter_map-append}
 use Rattle.disk_defs.specs.Disk.{Files}
@@ -23,7 +24,7 @@ use Rattle.journal_laws.proofs.ImageSteps as images
 use Rattle.journal_laws.proofs.Readings.{records_one}
 use Rattle.region_journals.proofs.Unbroken.{broken_none}
 use Rattle.site_defs.specs.Contents.{Contents, NO_LEFTOVER, is_made}
-use Rattle.site_defs.specs.Stands.{start_in, epoch_in, texts_of, IsSite, HasLeft}
+use Rattle.site_defs.specs.Stands.{start_in, epoch_in, texts_of, losts_of, torn_of, IsSite, HasLeft}
 
 -- A body is that of one record, and the record has one body, so a list of records has one list of bodies.
 zip_front : {R : Type 0} (P : Body → R → Type 0) → ((b d : Body) (r : R) → P b r → P d r → b ≡ d) → (bs ds : List Body) (rs qs : List R)
@@ -140,6 +141,7 @@ pub record AreOf (files : Files) (c : Contents) (s : Records) : Type 0 where
   pub starts : (r : ℕ) → c.starts r ≡ filter_map (λ (p : Placed). start_in p.what) (s.journal r)
   pub epochs : (r : ℕ) → c.epochs r ≡ filter_map (λ (p : Placed). epoch_in p.generation p.what) (s.journal r)
   pub texts : c.texts ≡ texts_of files (generation c.instance)
+  pub losts : c.losts ≡ losts_of files (generation c.instance)
 
 pub are_of : (files : Files) (c : Contents) (s : Records) → IsSite files c → AreRecords files s → AreOf files c s
 are_of files c s is held =
@@ -151,10 +153,11 @@ are_of files c s is held =
       starts = λ r. subst (λ (u : Records). c.starts r ≡ filter_map (λ (p : Placed). start_in p.what) (u.journal r)) same (is.starts r);
       epochs = λ r. subst (λ (u : Records). c.epochs r ≡ filter_map (λ (p : Placed). epoch_in p.generation p.what) (u.journal r)) same (is.epochs r);
       texts = is.texts;
+      losts = is.losts;
     }
 
 pub site_of : (files : Files) (c : Contents) (s : Records) → AreOf files c s → IsSoundImage files s c.sequence → IsSite files c
-site_of files c s of sound = record { made = of.made; mapped = of.mapped; records = s; instance = of.instance; starts = of.starts; epochs = of.epochs; texts = of.texts; image = sound }
+site_of files c s of sound = record { made = of.made; mapped = of.mapped; records = s; instance = of.instance; starts = of.starts; epochs = of.epochs; texts = of.texts; losts = of.losts; image = sound }
 
 pub is_created : (c : Contents) → is_made c ≡ true → 0 < length c.instance
 is_created c made = by_list c.instance made
@@ -170,19 +173,41 @@ texts_same d f (suc g) same =
     ap (λ (l : List (List ℕ)). l ++ f (broken_file (suc g)) ∷ []) (texts_same d f g (λ h low. same h (omega (arith, low))))
     ∙ ap (λ (x : List ℕ). texts_of d g ++ x ∷ []) (same (suc g) (omega arith))
 
+-- and the lost-transaction files
+pub losts_same : (d f : Files) (n : ℕ) → ((g : ℕ) → g ≤ n → f (lost_file g) ≡ d (lost_file g)) → losts_of f n ≡ losts_of d n
+losts_same d f zero same = refl
+losts_same d f (suc g) same =
+    ap (λ (l : List (List ℕ)). l ++ f (lost_file (suc g)) ∷ []) (losts_same d f g (λ h low. same h (omega (arith, low))))
+    ∙ ap (λ (x : List ℕ). losts_of d g ++ x ∷ []) (same (suc g) (omega arith))
+
+-- the next broken-transaction file, where there can be one
+pub torn_none : (files : Files) (g : ℕ) → (g < MOST_GENERATIONS → files (broken_file (suc g)) ≡ []) → [] ≡ torn_of files g
+torn_none files g none = by_test (nat_lt g MOST_GENERATIONS) refl
+  where
+    by_test : (b : Bool) → nat_lt g MOST_GENERATIONS ≡ b → [] ≡ (if b then files (broken_file (suc g)) else [])
+    by_test true e = sym (none (grind (arith, nat_tests, e)))
+    by_test false e = refl
+
+pub torn_same : (d f : Files) (g : ℕ) → (g < MOST_GENERATIONS → f (broken_file (suc g)) ≡ d (broken_file (suc g))) → torn_of d g ≡ torn_of f g
+torn_same d f g same = by_test (nat_lt g MOST_GENERATIONS) refl
+  where
+    by_test : (b : Bool) → nat_lt g MOST_GENERATIONS ≡ b → (if b then d (broken_file (suc g)) else []) ≡ (if b then f (broken_file (suc g)) else [])
+    by_test true e = sym (same (grind (arith, nat_tests, e)))
+    by_test false e = refl
+
 -- nothing lies behind a sequence past which no part survives
 empty_list : (l : List ℕ) → length l ≤ 0 → [] ≡ l
 empty_list [] none = refl
 empty_list (x ∷ l) none = absurd (omega (arith, none))
 
-pub left_nothing : (files : Files) (c : Contents) (s : Records) → AreRecords files s → AreClean files s (length c.sequence) → NonePast (length c.sequence) s → s.instance ≡ c.instance → generation c.instance < MOST_GENERATIONS → HasLeft files c NO_LEFTOVER
-left_nothing files c s held clean none own low = record {
+pub left_nothing : (files : Files) (c : Contents) (s : Records) → AreRecords files s → AreClean files s (length c.sequence) → NonePast (length c.sequence) s → s.instance ≡ c.instance → HasLeft files c NO_LEFTOVER
+left_nothing files c s held clean none own = record {
   records = s;
   held = held;
   broken = sym (ap (broken_text (site_name c.instance) (length c.sequence)) (broken_none s (length c.sequence) none));
-  torn =
+  torn = torn_none files (generation c.instance) (λ low.
       let newest : generation s.instance ≡ generation c.instance = ap generation own in
       let short = clean.first_broken (suc (generation c.instance)) (omega (arith, newest), omega (arith, low)) (omega (arith, newest)) in
       let size : length (broken_text (site_name s.instance) (length c.sequence) (broken s (length c.sequence))) ≡ 0 = ap length (no_text s (length c.sequence) none) in
-      empty_list (files (broken_file (suc (generation c.instance)))) (omega (arith, short, size));
+      sym (empty_list (files (broken_file (suc (generation c.instance)))) (omega (arith, short, size))));
 }

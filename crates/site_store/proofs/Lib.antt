@@ -29,7 +29,9 @@ pub mod Texts
 pub mod Databases
 pub mod Typed
 pub mod Refused
+pub mod OpenedTo
 pub mod Loaded
+pub mod Founded
 pub mod Mapped
 pub mod Unwritten
 pub mod Owned

@@ -41,7 +41,7 @@ use Rattle.site_files.proofs.Kept.{image_read, held_read}
 use Rattle.site_defs.specs.Contents.{Contents, Leftover}
 use Rattle.site_defs.specs.Fronts.{with_sequence}
 use Rattle.site_defs.specs.Opening.{opened, MayOpen}
-use Rattle.site_defs.specs.Stands.{IsSite, HasLeft, Stands, texts_of}
+use Rattle.site_defs.specs.Stands.{IsSite, HasLeft, Stands, texts_of, losts_of}
 use Rattle.site_store.specs.declared.site.OpenSite.{OpenSite}
 use Rattle.site_store.specs.Finding.{HasLayout}
 use Rattle.site_regions.specs.Joined.{joined}
@@ -49,9 +49,10 @@ use Rattle.site_store.specs.Site.{Remembers, AreHeld, IsReady, Keeps, IsOpen, Ar
 use Rattle.gvn_model.specs.Numbered.{numbered}
 use Rattle.site_store.specs.Opening.{MayBeOpen, MayBeOpenWith, EachStands, AreTextsDurable, AreDatabasesDurable}
 use Rattle.site_store.proofs.Remembered.{length-enumerate, are_numbered}
-use Rattle.site_store.proofs.OnBlocks.{IsPlain, on_same, on_more, on_chosen}
+use Rattle.site_store.proofs.OnBlocks.{on_same}
 use Rattle.site_store.proofs.Found.{instance_one, blank_instance}
-use Rattle.site_store.proofs.Drawn.{S, C, text, newest_is, same_regions, site_read, left_read, site_either, standing_either, site_begun, newest_whole, texts_kept}
+use Rattle.site_store.proofs.Drawn.{S, C, text, site_read, left_read, site_either, standing_either, site_sound, draws_all, texts_kept, losts_kept}
+use Rattle.site_store.proofs.OpenedTo.{newly, newly_at, open_to}
 use Rattle.site_store.proofs.Parts.{no_entry_no_part}
 
 pub length_values : (es : List code.Entry) → length (map entry_value es) ≡ length es
@@ -135,17 +136,6 @@ within t (r ∷ rs) = by_test (within t rs) (nat_le r.start t) refl
     by_test rest true e = (grind (arith, nat_tests, e), rest)
     by_test rest false e = rest
 
--- journals that have just begun
-abbrev pub newly : Journal → RegionJournal
-newly j = record { journal = j; appended = false }
-
-some_at : (o : Option Journal) (x : RegionJournal) → option_map newly o ≡ Some x → (j : Journal) × (o ≡ Some j) × (x ≡ newly j)
-some_at None x e = absurd (cc e)
-some_at (Some j) x e = (j, refl, cc e)
-
-pub newly_at : (js : List Journal) (r : ℕ) (x : RegionJournal) → slice_get (map newly js) r ≡ Some x → (j : Journal) × (slice_get js r ≡ Some j) × (x ≡ newly j)
-newly_at js r x e = some_at (slice_get js r) x (sym (slice_get-map newly js r) ∙ e)
-
 longer : (l : List InstanceRecord) (x : InstanceRecord) → 0 < length (l ++ x ∷ [])
 longer [] x = omega arith
 longer (y ∷ l) x = omega arith
@@ -168,14 +158,6 @@ stretched (suc n) es g is none = (
   ap suc (length-replicate n quiet_entry),
   is ∙ ap (fold apply globals.empty) (sym (append-nil (updates_in es))) ∙ ap (λ (us : List Update). fold apply globals.empty (updates_in es ++ us)) (sym (no_updates n)),
 )
-
--- how a generation begins is no image and no epoch
-begins_plain : (rs : List InstanceRecord) (last : ℕ → ℕ) (k n r : ℕ) (instance : List InstanceRecord) → AllByRecursion (IsPlain instance n) (starts_in rs last k r)
-begins_plain rs last k n r instance = by_test (nat_lt r k && nat_lt r (length (regions rs)))
-  where
-    by_test : (b : Bool) → AllByRecursion (IsPlain instance n) (if b then in_generation (suc (generation rs)) (next_pini rs last r) ∷ [] else [])
-    by_test true = (((λ b. refl), refl), tt)
-    by_test false = tt
 
 module _ (rs : List InstanceRecord) (last : ℕ → ℕ) (form : MayBeOpened rs last) (s : OpenSite) (n : ℕ) (records : s.instance.records ≡ rs ++ next_cut rs n ∷ []) where
   pub was_opened : n ≡ length s.entries.items → s.hardened ≡ length s.entries.items → length s.entries.items < 2 ^ 40 → s.stamp ≡ None → WasOpened s
@@ -260,7 +242,7 @@ module _ (u v w : View) (rs : List InstanceRecord) (last : ℕ → ℕ) (journal
     λ c site.
         let rd = image_read v rs last journal files r q.0 q.1 in
         let is = site_read rs last journal seq form sequence q.0 c rd site in
-        let res = site_either rs last journal seq form sequence q.0 rd broken f is.0 broken_is q.2 in
+        let res = site_either rs last journal seq form sequence q.0 rd broken broken_is f is.0 q.2 in
         (res.0, subst (λ (x : Contents). MayOpen broken x res.0) (sym is.1) res.1, res.2),
   )
 
@@ -276,7 +258,7 @@ module _ (u v w : View) (rs : List InstanceRecord) (last : ℕ → ℕ) (journal
   may_open_with files r f q = (
     q.0,
     earlier q.0 q.1,
-    λ s was. standing_either rs last journal seq form sequence q.0 (image_read v rs last journal files r q.0 q.1) broken f s was broken_is q.2,
+    λ s was. standing_either rs last journal seq form sequence q.0 (image_read v rs last journal files r q.0 q.1) broken broken_is f s was q.2,
   )
 
   pub drawn_left : IfSome v.content (λ files. IsShort files → AtEachMoment v w Drawing) → IfSome u.content (Lefts u w)
@@ -291,7 +273,7 @@ module _ (u v w : View) (rs : List InstanceRecord) (last : ℕ → ℕ) (journal
       (λ files r m c left site has.
       let is = site_read rs last journal seq form sequence files c r.holds site in
       weaker_told w.content (MayDraw rs (length seq) broken last files) (λ now. (o : Contents) × MayOpen left.broken c o × IsSite now o) (m (short files is.0)) (λ now q.
-      let res = site_either rs last journal seq form sequence files r.holds broken now is.0 broken_is q in
+      let res = site_either rs last journal seq form sequence files r.holds broken broken_is now is.0 q in
       let open_c : MayOpen broken c res.0 = subst (λ (x : Contents). MayOpen broken x res.0) (sym is.1) res.1 in
       (res.0, subst (λ (t : List ℕ). MayOpen t c res.0) (left_is files c left r.holds site has) open_c, res.2)))
 
@@ -307,23 +289,16 @@ module _ (u v w : View) (rs : List InstanceRecord) (last : ℕ → ℕ) (journal
       by_standing rd o (inl blank) = absurd (let none : rs ≡ [] = instance_one (d 0) rs [] rd.instance (blank_instance (d 0) blank.1.instance) in let size : length rs ≡ 0 = ap length none in let some = form.some in omega (arith, size, some))
       by_standing rd o (inr site) = (site_read rs last journal seq form sequence d o rd site).0
 
-  reads_so : (P : Files → Type 0) (o : Option Files) (Q : Files → Type 0) → IsSomeAnd o Q → IfSome o (λ files. Image w files) → ((f : Files) → Image w f → P f) → IsSomeAnd o P
-  reads_so P None Q some as_read images = absurd some
-  reads_so P (Some files) Q some as_read images = images files as_read
-
   module _ (s : OpenSite) (records : s.instance.records ≡ rs ++ next_cut rs (length seq) ∷ []) (entries : map numbered s.entries.items ≡ enumerate_from 1 seq) (hardened : s.hardened ≡ length seq) where
     count : length s.entries.items ≡ length seq
     count = sym (length-map s.entries.items numbered) ∙ ap length entries ∙ length-enumerate 1 seq
-
-    pub remembers : (f : Files) (t : List ℕ) → joined s.globals ≡ state seq → Remembers (opened t (C0 f)) (length seq) s
-    remembers f t globals = record { instance = records; count = count; numbers = are_numbered s.entries.items seq entries; globals = globals; hardened = hardened }
 
     -- whatever the disk tells, it has as many entries as some that lead to its nodes
     pub remembers_some : (es : Sequence) → joined s.globals ≡ state es → (length seq ≡ 0 → joined s.globals ≡ globals.empty) → (c : Contents) × (t : List ℕ) × Remembers (opened t c) (length c.sequence) s
     remembers_some es is none =
         let as_long = stretched (length seq) es (joined s.globals) is none in
         let size : length seq ≡ length as_long.0 = sym as_long.1 in (
-          record { instance = rs; starts = λ r. []; epochs = λ r. []; texts = []; sequence = as_long.0 },
+          record { instance = rs; starts = λ r. []; epochs = λ r. []; texts = []; losts = []; sequence = as_long.0 },
           [],
           record {
             instance = records ∙ ap (λ (n : ℕ). rs ++ next_cut rs n ∷ []) size;
@@ -334,79 +309,25 @@ module _ (u v w : View) (rs : List InstanceRecord) (last : ℕ → ℕ) (journal
           },
         )
 
-    -- the regions' blocks, once the next generation has begun
-    -- a database file is as it reads
-    database_drawn : (files : Files) → AreDatabasesDurable v (length (regions rs)) files → (f : Files) → Finished f → (r : ℕ) → r < length (regions rs) → f (database_file r) ≡ files (database_file r)
-    database_drawn files durable f q r low =
-        let few = form.few_regions in
-        q.2.others (database_file r) (λ e. omega (arith, e)) (λ e. omega (arith, e, low, few)) (λ p here e. omega (arith, e, low, here, few)) ∙ durable r low q.0 q.1
-
-    blocks_drawn : (files : Files) → AreDatabasesDurable v (length (regions rs)) files → AreOnBlocks files S0 (length seq) s.globals → (f : Files) → Finished f → AreOnBlocks f (drawn_records S0 (length seq) last (length (regions rs))) (length seq) s.globals
-    blocks_drawn files durable on f q =
-        let cut : Records = with_record S0 (next_cut rs (length seq)) in
-        let many : length (regions (rs ++ next_cut rs (length seq) ∷ [])) ≡ length (regions rs) = ap length (same_regions rs last journal seq form sequence) in
-        on_more f cut (drawn_records S0 (length seq) last (length (regions rs))) (length seq) s.globals (starts_in rs last (length (regions rs))) refl (λ r low. refl) (λ r low. begins_plain rs last (length (regions rs)) (length seq) r (rs ++ next_cut rs (length seq) ∷ []))
-        (on_chosen f S0 cut (length seq) (length seq) s.globals many (patterns_same rs (next_cut rs (length seq)) refl) (λ r low. (refl, cut_keeps rs (length seq) (length seq) (generation rs + 1) (journal r) (omega arith)))
-        (on_same files f S0 (length seq) s.globals (database_drawn files durable f q) on))
-
     module _ (begun : List Journal) (js_are : s.journals.journals.items ≡ map newly begun) where
       abbrev pub Begun : Type 0
       Begun = (r : ℕ) (j : Journal) → slice_get begun r ≡ Some j → journals.HasRecords w j (settled (next_pini rs last r ∷ []))
 
-      keeps_journals : Begun → KeepsJournals w (λ r. next_pini rs last r ∷ []) (λ r. []) s.journals.journals.items
-      keeps_journals has = record {
-        has = λ r x at.
-            let found = newly_at begun r x (subst (λ (l : List RegionJournal). slice_get l r ≡ Some x) js_are at) in
-            subst (λ (y : RegionJournal). journals.HasRecords w y.journal (settled (next_pini rs last r ∷ []))) (sym found.2) (has r found.0 found.1);
-        none_waits = λ r x at none. refl;
-      }
+      -- all images stand for the same
+      texts_there : (files : Files) → AreTextsDurable v (generation rs) files → (f : Files) → Image v f → C0 f ≡ C0 files
+      texts_there files durable f image =
+          let texts : texts_of f (generation rs) ≡ texts_of files (generation rs) = sym (texts_kept files f (generation rs) (λ h one low. (durable h one low).0 f image)) in
+          let losts : losts_of f (generation rs) ≡ losts_of files (generation rs) = sym (losts_kept files f (generation rs) (λ h one low. (durable h one low).1 f image)) in
+          λ i. record { instance = rs; starts = (C0 files).starts; epochs = (C0 files).epochs; texts = texts i; losts = losts i; sequence = seq }
 
-      keeps : (files : Files) → WasRead v rs last journal files → AreTextsDurable v (generation rs) files → AreDatabasesDurable v (length (regions rs)) files → AreOnBlocks files S0 (length seq) s.globals → IsSoundImage files S0 seq → EachStands u → ((f : Files) → Image w f → Finished f)
-          → instances.HasRecords w s.instance (rs ++ next_cut rs (length seq) ∷ []) → Begun → Keeps w (opened broken (C0 files)) (length seq) s
-      keeps files r durable databases on here each drawn instance has =
-          let full = take-length seq in
-          let is_begun : (f : Files) → Image w f → IsSite f (opened broken (C0 files)) =
-          λ f image.
-          let q = drawn f image in
-          let texts : texts_of q.0 (generation rs) ≡ texts_of files (generation rs) = sym (texts_kept files q.0 (generation rs) (λ h one low. durable h one low q.0 q.1)) in
-          subst (λ (ts : List (List ℕ)). IsSite f (opened broken (record { instance = rs; starts = (C0 files).starts; epochs = (C0 files).epochs; texts = ts; sequence = seq }))) texts
-          (site_begun rs last journal seq form sequence q.0 (image_read v rs last journal files r q.0 q.1) broken f (sound_image files r each q.0 q.1) broken_is q.2) in
-          let images : (f : Files) → Image w f → IsSite f (with_sequence (opened broken (C0 files)) (take (length seq) seq)) = λ f image. subst (λ (es : Sequence). IsSite f (with_sequence (opened broken (C0 files)) es)) (sym full) (is_begun f image) in
-          let number : length (regions (rs ++ next_cut rs (length seq) ∷ [])) ≡ length (regions rs) = ap length (same_regions rs last journal seq form sequence) in
-          record {
-            count = omega arith;
-            few_nodes = here.few_nodes;
-            reads = reads_so (λ f. IsSite f (with_sequence (opened broken (C0 files)) (take (length seq) seq))) w.content (instances.HoldsRecords w s.instance (rs ++ next_cut rs (length seq) ∷ [])) instance lawful_w.as_read images;
-            images = images;
-            records = drawn_records S0 (length seq) last (length (regions rs));
-            g = generation rs;
-            last = last;
-            older = journal;
-            newer = λ q. next_pini rs last q ∷ [];
-            newest = record {
-              generation = newest_is rs last journal seq form sequence;
-              not_last = (let room = form.room in omega (arith, room));
-              instance = refl;
-              whole = λ q below. newest_whole rs last journal seq form sequence q (omega (arith, below, number));
-              begins = λ q below. (refl, refl, refl, tt);
-              begun = λ q below e. cc e;
-            };
-            sound = λ f image. let q = drawn f image in subst (IsSoundImage f (drawn_records S0 (length seq) last (length (regions rs)))) (sym full)
-                (keeping.drawn_image q.0 S0 last form seq (sound_image files r each q.0 q.1) broken (image_read v rs last journal files r q.0 q.1) (length (regions rs)) f q.2);
-            older_files = λ f image q below. let from = drawn f image in
-                keeping.older_still from.0 S0 last form f from.2.others (image_read v rs last journal files r from.0 from.1) q (omega (arith, below, number));
-            none_past = keeping.none_past S0 (length seq) last (drawing.before files S0 (generation rs + 1) here.held (omega arith)) (length (regions rs));
-            blocks = λ f image. blocks_drawn files databases on f (drawn f image);
-            databases = λ f d i j q below. database_drawn files databases d (drawn d j) q (omega (arith, below, number)) ∙ sym (database_drawn files databases f (drawn f i) q (omega (arith, below, number)));
-            no_epoch_past = λ q below. keeping.no_epoch_past S0 (length seq) last (drawing.before files S0 (generation rs + 1) here.held (omega arith)) (length (regions rs)) q;
-            waiting = [];
-            are_waiting = subst (λ (es : Sequence). AreEntries (rs ++ next_cut rs (length seq) ∷ []) (suc (generation rs)) (length seq) [] es) (sym (drop-length seq)) tt;
-            are_parts = no_entry_no_part (patterns (rs ++ next_cut rs (length seq) ∷ [])) seq;
-            in_regions = tt;
-            at_home = λ q below. tt;
-            instance_file = instance;
-            journal_files = keeps_journals has;
-          }
+      is_open_all : (files : Files) → WasRead v rs last journal files → AreTextsDurable v (generation rs) files → AreDatabasesDurable v (length (regions rs)) files → AreOnBlocks files S0 (length seq) s.globals → joined s.globals ≡ state seq
+          → EachStands u → ((f : Files) → Image w f → Finished f) → instances.HasRecords w s.instance (rs ++ next_cut rs (length seq) ∷ []) → Begun → IsOpen w true (opened broken (C0 files)) (length seq) s
+      is_open_all files r durable databases on globals each drawn instance has =
+          open_to v w rs last journal seq form sequence lawful_w (λ f image. image_read v rs last journal files r f image) (C0 files)
+          (λ f image. subst (IsSite f) (texts_there files durable f image) (site_sound rs last journal seq form sequence f (sound_image files r each f image)))
+          (length seq) seq refl broken (λ f image. draws_all rs last journal seq form sequence f broken (image_read v rs last journal files r f image) (sound_image files r each f image) broken_is)
+          s records entries hardened begun js_are (λ f d i j q low. databases q low d j ∙ sym (databases q low f i))
+          (λ f image. on_same files f S0 (length seq) s.globals (λ q low. databases q low f image) on) globals drawn instance has
 
       abbrev pub Whole : Files → Type 0
       Whole files = WasRead v rs last journal files × AreTextsDurable v (generation rs) files × AreDatabasesDurable v (length (regions rs)) files × AreOnBlocks files S0 (length seq) s.globals × (IsSoundImage files S0 seq → joined s.globals ≡ state seq)
@@ -421,8 +342,4 @@ module _ (u v w : View) (rs : List InstanceRecord) (last : ℕ → ℕ) (journal
       is_open whole given = both_weak u.content Whole Given Opens whole (told_at u.content v.content Given same given) (λ files a g c left site has_left each.
           let is = site_read rs last journal seq form sequence files c a.0.holds site in
           subst (λ (b : List ℕ). IsOpen w true (opened b c) (length c.sequence) s) (left_is files c left a.0.holds site has_left)
-          (subst (λ (x : Contents). IsOpen w true (opened broken x) (length x.sequence) s) (sym is.1) (record {
-            remembered = remembers files broken (a.4 is.0);
-            entries = λ _. entries;
-            kept = λ _. keeps files a.0 a.1 a.2 a.3 is.0 each (g.0 (short files is.0)) g.1 g.2;
-          })))
+          (subst (λ (x : Contents). IsOpen w true (opened broken x) (length x.sequence) s) (sym is.1) (is_open_all files a.0 a.1 a.2 a.3 (a.4 is.0) each (g.0 (short files is.0)) g.1 g.2)))

@@ -44,6 +44,7 @@ made_site files name regions is others =
       starts = λ r. refl;
       epochs = λ r. refl;
       texts = refl;
+      losts = refl;
       image = (created_is_fit files name (map region_value regions) b.body b.spelled (is.bodies.1 ∙ ap Some b.is) others).image;
     }
 

@@ -36,7 +36,7 @@ use Rattle.journal_laws.proofs.Naming as naming
 use Rattle.journal_laws.proofs.Runs as runs
 use Rattle.site_defs.specs.Contents.{Contents}
 use Rattle.site_defs.specs.Opening.{with_pattern}
-use Rattle.site_defs.specs.Stands.{IsBlank, IsSite, Stands, start_in, epoch_in, texts_of}
+use Rattle.site_defs.specs.Stands.{IsBlank, IsSite, Stands, start_in, epoch_in, texts_of, losts_of}
 use Rattle.site_store.specs.Opening.{MayHavePattern, EachStands}
 use Rattle.site_store.proofs.Found.{instance_one, site_instance, some_made, blank_instance}
 
@@ -51,7 +51,7 @@ pattern_form region text eight form =
 
 -- no entry and no generation
 abbrev pub plain : List InstanceRecord → Contents
-plain rs = record { instance = rs; starts = λ r. []; epochs = λ r. []; texts = []; sequence = [] }
+plain rs = record { instance = rs; starts = λ r. []; epochs = λ r. []; texts = []; losts = []; sequence = [] }
 
 abbrev without_journals : List InstanceRecord → Records
 without_journals rs = record { instance = rs; journal = λ r. [] }
@@ -63,6 +63,10 @@ none_began files r last (suc g) js none h = absurd (omega (arith, none))
 no_texts : (files : Files) (g : ℕ) → g ≡ 0 → texts_of files g ≡ []
 no_texts files zero none = refl
 no_texts files (suc g) none = absurd (omega (arith, none))
+
+no_losts : (files : Files) (g : ℕ) → g ≡ 0 → losts_of files g ≡ []
+no_losts files zero none = refl
+no_losts files (suc g) none = absurd (omega (arith, none))
 
 -- no text is broken where there is no journal
 flat_none : {X Y : Type 0} (f : X → List Y) (xs : List X) → ((x : X) → f x ≡ []) → flat_map f xs ≡ []
@@ -169,6 +173,7 @@ plain_site files rs some fits undrawn is are = record {
   starts = λ r. refl;
   epochs = λ r. refl;
   texts = sym (no_texts files (generation rs) undrawn);
+  losts = sym (no_losts files (generation rs) undrawn);
   image = plain_image files rs undrawn is are;
 }
 
@@ -195,8 +200,9 @@ module _ (files : Files) (c : Contents) (site : IsSite files c) (undrawn : gener
       let begun : c.starts ≡ (λ r. []) = fun_ext (λ r. site.starts r ∙ ap (λ (js : List Placed). filter_map (λ p. start_in p.what) js) (no_journal r)) in
       let taken : c.epochs ≡ (λ r. []) = fun_ext (λ r. site.epochs r ∙ ap (λ (js : List Placed). filter_map (λ p. epoch_in p.generation p.what) js) (no_journal r)) in
       let texts : c.texts ≡ [] = site.texts ∙ no_texts files (generation c.instance) undrawn in
+      let losts : c.losts ≡ [] = site.losts ∙ no_losts files (generation c.instance) undrawn in
       let entries = no_entry in
-      λ i. record { instance = c.instance; starts = begun i; epochs = taken i; texts = texts i; sequence = entries i }
+      λ i. record { instance = c.instance; starts = begun i; epochs = taken i; texts = texts i; losts = losts i; sequence = entries i }
 
   pub are_undrawn : AreUndrawn (length (regions c.instance)) files
   are_undrawn = subst (λ (rs : List InstanceRecord). AreUndrawn (length (regions rs)) files) site.instance

@@ -212,7 +212,7 @@ module _ (v w : View) (c : Contents) (s : OpenSite) (k : Keeps v c (length c.seq
     all_taken : with_epochs (λ r. has_epoch (length c.sequence) (t.more.more r) (by_place r (cases_lt r (length (regions k.records.instance))))) c ≡ marked c
     all_taken =
         let each = fun_ext (λ r. ap (λ (b : Bool). c.epochs r ++ one_if b (generation c.instance) (length c.sequence)) (in_each r (cases_lt r (length (regions k.records.instance))))) in
-        λ i. record { instance = c.instance; starts = c.starts; epochs = each i; texts = c.texts; sequence = c.sequence }
+        λ i. record { instance = c.instance; starts = c.starts; epochs = each i; texts = c.texts; losts = c.losts; sequence = c.sequence }
 
     marked_now : (f : Files) → Image w f → IsSite f (with_sequence (marked c) (take (length c.sequence) c.sequence))
     unfolding by_place more

@@ -9,7 +9,7 @@ use Rattle.std.proofs.lemmas.List.Elements.{filter_map-append}
 use Rattle.disk_defs.specs.Disk.{Files, View, Image}
 use Rattle.disk_defs.specs.Frames.{SameOutside}
 use Rattle.global_defs.specs.Entry.{Sequence}
-use Rattle.journal_defs.specs.Numbers.{journal_file, broken_file}
+use Rattle.journal_defs.specs.Numbers.{journal_file, lost_file, broken_file}
 use Rattle.journal_defs.specs.Journal.{JournalRecord, Tcom, Part, IsJournalBody}
 use Rattle.journal_defs.specs.Instance.{InstanceRecord, generation, regions, site_name}
 use Rattle.journal_defs.specs.Directory.{patterns}
@@ -38,7 +38,7 @@ use Rattle.site_defs.specs.Stands.{start_in, epoch_in, IsSite, HasLeft}
 use Rattle.site_store.specs.declared.site.OpenSite.{OpenSite}
 use Rattle.site_store.specs.Site.{IsReady, Keeps}
 use Rattle.site_store.proofs.Emptied.{none_left}
-use Rattle.site_store.proofs.Images.{AreOf, are_of, site_of, texts_same, left_nothing}
+use Rattle.site_store.proofs.Images.{AreOf, are_of, site_of, texts_same, losts_same, torn_same, left_nothing}
 use Rattle.site_store.proofs.Items.{length-map-of}
 use Rattle.site_store.proofs.Parts.{broken_first, parts_taken, lacks_one}
 
@@ -181,6 +181,7 @@ module _ (v : View) (c : Contents) (h : ℕ) (s : OpenSite) (k : Keeps v c h s) 
         epochs = λ r. of.epochs r ∙ sym (filter_map-append (λ (p : Placed). epoch_in p.generation p.what) (k.records.journal r) (take (kept r) (appended (suc k.g) k.waiting r))
             ∙ ap (λ l. filter_map (λ (p : Placed). epoch_in p.generation p.what) (k.records.journal r) ++ l) (no_epochs (suc k.g) (kept r) k.waiting r) ∙ append-nil (filter_map (λ (p : Placed). epoch_in p.generation p.what) (k.records.journal r)));
         texts = of.texts ∙ sym (texts_same d f (generation c.instance) (λ g below. same (broken_file g) (λ i. omega (arith, i.is, i.inside, newest, low, some, below))));
+        losts = of.losts ∙ sym (losts_same d f (generation c.instance) (λ g below. same (lost_file g) (λ i. omega (arith, i.is, i.inside, newest, low, some, below))));
       }
 
   pub front_site : (d f : Files) (kept : ℕ → ℕ) → Image v d → InNewest d f → HasKept kept f → (o : Contents) × IsFrontOf c.sequence h c o × IsSite f o
@@ -219,7 +220,7 @@ module _ (v : View) (c : Contents) (h : ℕ) (s : OpenSite) (k : Keeps v c h s) 
             records = with_first kept;
             held = found.3.held;
             broken = here;
-            torn = (none_left v c h s d k was).torn ∙ sym (same (broken_file (suc (generation c.instance))) (λ i. omega (arith, i.is, i.inside, newest, low, some)));
+            torn = (none_left v c h s d k was).torn ∙ torn_same d f (generation c.instance) (λ next. same (broken_file (suc (generation c.instance))) (λ i. omega (arith, i.is, i.inside, newest, low, some)));
           };
         },
       )
@@ -239,9 +240,7 @@ module _ (v : View) (c : Contents) (h : ℕ) (s : OpenSite) (k : Keeps v c h s) 
   pub none_behind : (d f : Files) → Image v d → InNewest d f → HasKept (λ r. 0) f → HasLeft f (with_sequence c (take h c.sequence)) NO_LEFTOVER
   none_behind d f was same first =
       let sound = none_image d f was same first in
-      let newest = k.newest.generation in
-      let low = k.newest.not_last in
-      left_nothing f (with_sequence c (take h c.sequence)) base sound.held sound.clean none_past refl (omega (arith, newest, low))
+      left_nothing f (with_sequence c (take h c.sequence)) base sound.held sound.clean none_past refl
 
   abbrev pub every : ℕ → ℕ
   every r = length (tcoms k.waiting r)

@@ -119,15 +119,15 @@ pub parts_plain : (instance : List InstanceRecord) (n g : ℕ) (ps : List (ℕ �
 parts_plain instance n g ps r = all_parts (IsPlain instance n) g (λ x. ((λ b. refl), refl)) ps r
 
 -- regions as they were opened
-abbrev pub Held : List InstanceRecord → List (List PlacedRecord) → Sequence → ℕ → Joined → Files → Type 0
-Held rs js seq n j files = (r : ℕ) → r < length j.regions → NeedsForward rs n (journal_of js r) ⊎ HoldsRegion (gone_back (site_records rs js) seq r) (files (database_file r)) (region_at j r)
+abbrev pub Held : List InstanceRecord → List (List PlacedRecord) → ℕ → Joined → Files → Type 0
+Held rs js n j files = (r : ℕ) → r < length j.regions → NeedsForward rs n (journal_of js r) ⊎ HoldsRegion (gone_back (site_records rs js) n r) (files (database_file r)) (region_at j r)
 
 abbrev pub AllHeld : Joined → Files → Type 0
 AllHeld j files = (r : ℕ) → r < length j.regions → IsHeld (region_at j r) files
 
-pub on_blocks : (o : Option Files) (rs : List InstanceRecord) (js : List (List PlacedRecord)) (seq : Sequence) (n : ℕ) (j : Joined) → length seq ≡ n → j.patterns ≡ patterns rs → length j.regions ≡ length (regions rs)
-    → ((r : ℕ) → r < length j.regions → (region_at j r).file ≡ database_file r) → IfSome o (Held rs js seq n j) → IfSome o (AllHeld j) → IfSome o (λ files. AreOnBlocks files (site_records rs js) (length seq) j)
-on_blocks o rs js seq n j size same count file holds held = both_weak o (Held rs js seq n j) (AllHeld j) (λ files. AreOnBlocks files (site_records rs js) (length seq) j) holds held (λ files h all. record {
+pub on_blocks : (o : Option Files) (rs : List InstanceRecord) (js : List (List PlacedRecord)) (n : ℕ) (j : Joined) → j.patterns ≡ patterns rs → length j.regions ≡ length (regions rs)
+    → ((r : ℕ) → r < length j.regions → (region_at j r).file ≡ database_file r) → IfSome o (Held rs js n j) → IfSome o (AllHeld j) → IfSome o (λ files. AreOnBlocks files (site_records rs js) n j)
+on_blocks o rs js n j same count file holds held = both_weak o (Held rs js n j) (AllHeld j) (λ files. AreOnBlocks files (site_records rs js) n j) holds held (λ files h all. record {
   patterns = same;
   count = count;
   each = λ r here.
@@ -135,6 +135,6 @@ on_blocks o rs js seq n j size same count file holds held = both_weak o (Held rs
       record {
         file = file r low;
         held = all r low;
-        holds = elim (h r low) [ inl needs ↦ inl (subst (λ (k : ℕ). NeedsForward rs k (journal_of js r)) (sym size) needs) | inr holds ↦ inr holds ];
+        holds = h r low;
       };
 })

@@ -19,7 +19,7 @@ use Rattle.journal_defs.specs.Fit.{IsSoundImage}
 use Rattle.site_files.specs.Loading.{AreNext, WasRead, MayDraw, HasDrawn, last_of, next_cut, next_broken, next_pini}
 use Rattle.site_defs.specs.Contents.{Contents}
 use Rattle.site_defs.specs.Opening.{opened}
-use Rattle.site_store.specs.declared.opening.Standing.{Standing}
+use Rattle.site_store.specs.declared.preparing.StandingSite.{StandingSite}
 use Rattle.site_store.specs.declared.site.OpenSite.{OpenSite}
 use Rattle.site_store.specs.Finding.{HasLayout}
 use Rattle.site_regions.specs.Joined.{joined}
@@ -27,7 +27,8 @@ use Rattle.site_store.specs.Opening.{AreTextsDurable, AreDatabasesDurable}
 use Rattle.site_store.specs.Site.{Remembers, AreHeld, IsReady, AreOnBlocks, WasOpened, WasOpenedFrom}
 use Rattle.site_store.specs.Standing.{Stood, entries_of, records_of}
 use Rattle.site_store.proofs.Loaded as loaded
-use Rattle.site_store.proofs.Loaded.{length_values, newly, Moments, Lefts, StandsOpen}
+use Rattle.site_store.proofs.Loaded.{length_values, Moments, Lefts, StandsOpen}
+use Rattle.site_store.proofs.OpenedTo.{newly}
 
 all_three : (o : Option Files) (A B C : Files → Type 0) → IfSome o A → IfSome o B → IfSome o C → IfSome o (λ f. A f × B f × C f)
 all_three None A B C a b c = tt
@@ -44,7 +45,7 @@ moved P n m a b x y e f h p = subst (λ (l : List ℕ). P m b l) h (subst (λ (t
 abbrev pub IsShortOf : View → List InstanceRecord → List ℕ → (Files → Type 0) → Type 0
 IsShortOf v rs broken P = IfSome v.content (λ files. length (files (next_broken rs)) ≤ length broken → P files)
 
-module _ (u v w : View) (k : Standing) (st : Stood u v k) (lawful_v : IsLawful v) (lawful_w : IsLawful w) (synced : AtEachMoment u v (Image u)) (same : v.content ≡ u.content)
+module _ (u v w : View) (k : StandingSite) (st : Stood u v k) (lawful_v : IsLawful v) (lawful_w : IsLawful w) (synced : AtEachMoment u v (Image u)) (same : v.content ≡ u.content)
     (n : ℕ) (broken lasts : List ℕ) (n_is : n ≡ length k.entries.items) (broken_is : broken ≡ k.broken) (lasts_is : lasts ≡ k.last_began.items) where
   abbrev rs : List InstanceRecord
   rs = k.log.records

@@ -1,7 +1,7 @@
 -- Making a site, and opening one.
 use Rattle.std.specs.Prelude.{◌⊎◌, ◌≤◌, ◌<◌, ℕ, List, [], ◌∷◌, map}
 use Rattle.disk_defs.specs.Disk.{Files, View, Image, From, IsDurable}
-use Rattle.journal_defs.specs.Numbers.{broken_file, database_file}
+use Rattle.journal_defs.specs.Numbers.{lost_file, broken_file, database_file}
 use Rattle.journal_defs.specs.Instance as records
 use Rattle.journal_defs.specs.Instance.{NamedMode}
 use Rattle.site_defs.specs.Contents.{Contents, Standing}
@@ -15,7 +15,7 @@ region_value r = record { name = r.name; before = r.before }
 
 -- a site that was made with these regions
 abbrev pub made : List ℕ → List RegionSpec → Contents
-made name regions = record { instance = records.Create name (map region_value regions) ∷ []; starts = λ r. []; epochs = λ r. []; texts = []; sequence = [] }
+made name regions = record { instance = records.Create name (map region_value regions) ∷ []; starts = λ r. []; epochs = λ r. []; texts = []; losts = []; sequence = [] }
 
 -- An image from before the call, in which a blank disk may be that of the new site.
 abbrev pub MayMake : View → List ℕ → List RegionSpec → Files → Type 0
@@ -41,10 +41,14 @@ MayBeOpenWith old = From (Image old) (λ was now. (s : Standing) → IsStanding 
 abbrev pub EachStands : View → Type 0
 EachStands v = (f : Files) → Image v f → (o : Contents) × Stands f o
 
--- the broken-transaction files of the first g generations are on the disk for good
-abbrev pub AreTextsDurable : View → ℕ → Files → Type 0
-AreTextsDurable v g files = (h : ℕ) → 1 ≤ h → h ≤ g → IsDurable v (broken_file h) (files (broken_file h))
+-- the broken-transaction file and the lost-transaction file of a generation are on the disk for good
+abbrev pub AreBothDurable : View → ℕ → Files → Type 0
+AreBothDurable v h files = IsDurable v (broken_file h) (files (broken_file h)) × IsDurable v (lost_file h) (files (lost_file h))
 
--- and so are the database files of the first n regions
+-- those of the first g generations are
+abbrev pub AreTextsDurable : View → ℕ → Files → Type 0
+AreTextsDurable v g files = (h : ℕ) → 1 ≤ h → h ≤ g → AreBothDurable v h files
+
+-- and the database files of the first n regions are
 abbrev pub AreDatabasesDurable : View → ℕ → Files → Type 0
 AreDatabasesDurable v n files = (r : ℕ) → r < n → IsDurable v (database_file r) (files (database_file r))

@@ -68,8 +68,7 @@ pub record IsReady (v : View) (s : OpenSite) : Type 0 where
 -- The records of a site whose newest generation g + 1 has begun in each region: the journals of that generation alone may grow.
 pub record AreNewest (c : Contents) (s : Records) (g : ℕ) (last : ℕ → ℕ) (older : ℕ → List Placed) (newer : ℕ → List JournalRecord) : Type 0 where
   pub generation : generation c.instance ≡ suc g
-  -- the next one can be drawn
-  pub not_last : suc g < MOST_GENERATIONS
+  pub not_last : suc g ≤ MOST_GENERATIONS
   pub instance : s.instance ≡ c.instance
   pub whole : (r : ℕ) → r < length (regions c.instance) → s.journal r ≡ older r ++ map (in_generation (suc g)) (newer r)
   pub begins : (r : ℕ) → r < length (regions c.instance) → BeginsWithPini r (suc g) (last r) (newer r)

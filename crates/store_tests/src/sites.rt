@@ -11,7 +11,9 @@ use gvn_key::terms::Update;
 use gvn_key::{Bytes, Key};
 use gvn_model::{Origin, Transaction, Updates};
 use repl_disk::{Disk, MemDisk};
-use site_store::{RegionSpec, Site, SiteError, create, history_of, inspect, load, read_file};
+use site_store::{
+    RegionSpec, Site, SiteError, create, find_files, history_of, inspect, load, read_file, stand,
+};
 use std::alloc::Global;
 use std::process::Abort;
 
@@ -217,6 +219,30 @@ fn closed_and_opened_again(rt: HostRuntime) {
     let site = Site::load(alloc, disk).ok().expect(&rt, "a site");
     assert_eq!(rt; site.sequence_length(), 2);
     assert_eq!(rt; site.abandon().faults(), 0);
+}
+
+/// How many nodes a site has once it is opened for so many entries.
+fn nodes_for<D: Disk>(rt: &impl Abort, alloc: Global, disk: &mut D, target: u64) -> u32 {
+    let found = find_files(alloc, disk).expect(rt, "it succeeds");
+    assert!(rt; target <= found.entries.len() as u64);
+    let standing = stand(alloc, disk, found, target).expect(rt, "it succeeds");
+    standing.globals.nodes()
+}
+
+/// A closed site is found as it was, and opened for no entry, for the first one and for both.
+#[test]
+fn opened_for_a_target(rt: HostRuntime) {
+    let alloc = rt.alloc();
+    let site = put_two(&rt, alloc, MemDisk::new(alloc).expect(&rt, "it succeeds"));
+    let (mut disk, closed) = site.close();
+    closed.expect(&rt, "it succeeds");
+    let found = find_files(alloc, &mut disk).expect(&rt, "it succeeds");
+    assert_eq!(rt; found.entries.len(), 2);
+    assert_eq!(rt; found.read.last_began.as_slice(), [1].as_slice());
+    assert!(rt; found.broken.as_slice().is_empty());
+    assert_eq!(rt; nodes_for(&rt, alloc, &mut disk, 0), 0);
+    assert_eq!(rt; nodes_for(&rt, alloc, &mut disk, 1), 1);
+    assert_eq!(rt; nodes_for(&rt, alloc, &mut disk, 2), 1);
 }
 
 /// The lines of the second entry and those of all nodes.

@@ -24,7 +24,7 @@ loop-number-init g c =
       count = ap length c.new-regions.ensures.items;
       few = omega arith;
       own = λ r s here. let gone : None ≡ Some s = ap (λ (rs : List Standing). slice_get rs r) (sym c.new-regions.ensures.items) ∙ here in cc;
-      opened = subst (λ (rs : List Standing). IfSome u.content (AreOpened u.content c.args.instance.now seq journals rs)) (sym c.new-regions.ensures.items) (none_opened u.content c.args.instance.now seq journals);
+      opened = subst (λ (rs : List Standing). IfSome u.content (AreOpened u.content c.args.instance.now c.args.target seq journals rs)) (sym c.new-regions.ensures.items) (none_opened u.content c.args.instance.now c.args.target seq journals);
       reads = reads_none u;
       faults = omega arith;
     }
@@ -41,15 +41,15 @@ loop-number-preserved g c =
     let made = c.in_ok-region.region in
     let pushed = c.in_ok-add.ensures in
     let long : length (l.regions.items ++ made ∷ []) ≡ length l.regions.items + 1 = length-append l.regions.items (made ∷ []) in
-    let told : IfSome v.content (IsOpened c.args.instance.now seq (journals l.number) l.number made) =
-    subst (λ (ps : List Placed). IfSome v.content (IsOpened c.args.instance.now seq ps l.number made)) c.journal_at-journal.ensures c.in_ok-region.ensures.opened in
+    let told : IfSome v.content (IsOpened c.args.instance.now c.args.target seq (journals l.number) l.number made) =
+    subst (λ (ps : List Placed). IfSome v.content (IsOpened c.args.instance.now c.args.target seq ps l.number made)) c.journal_at-journal.ensures c.in_ok-region.ensures.opened in
     record {
       count = let was = inv.count in ap length pushed ∙ long ∙ ap (λ (n : ℕ). n + 1) was;
       few = omega (arith, c.loop-number-test.true, c.regions-number-end.ensures.count);
-      own = subst (λ (rs : List Standing). (r : ℕ) (s : Standing) → slice_get rs r ≡ Some s → IsOwn (patterns c.args.instance.now) (length c.args.entries.now) r s) (sym {A = List Standing} pushed)
-          (own_more u.content c.args.instance.now seq journals (patterns c.args.instance.now) (length c.args.entries.now) l.regions.items made l.number inv.count inv.own c.in_ok-region.ensures.own);
-      opened = subst (λ (rs : List Standing). IfSome u.content (AreOpened u.content c.args.instance.now seq journals rs)) (sym {A = List Standing} pushed)
-          (one_more_opened u.content c.args.instance.now seq journals l.regions.items made l.number inv.count inv.opened (told_at u.content v.content (IsOpened c.args.instance.now seq (journals l.number) l.number made) inv.reads.content told));
+      own = subst (λ (rs : List Standing). (r : ℕ) (s : Standing) → slice_get rs r ≡ Some s → IsOwn (patterns c.args.instance.now) c.args.target r s) (sym {A = List Standing} pushed)
+          (own_more u.content c.args.instance.now c.args.target seq journals (patterns c.args.instance.now) l.regions.items made l.number inv.count inv.own c.in_ok-region.ensures.own);
+      opened = subst (λ (rs : List Standing). IfSome u.content (AreOpened u.content c.args.instance.now c.args.target seq journals rs)) (sym {A = List Standing} pushed)
+          (one_more_opened u.content c.args.instance.now c.args.target seq journals l.regions.items made l.number inv.count inv.opened (told_at u.content v.content (IsOpened c.args.instance.now c.args.target seq (journals l.number) l.number made) inv.reads.content told));
       reads = reads_more u v (view c.open_region.new.disk) (g.met.D.Disk.lawful c.args.disk.now) inv.reads c.open_region.ensures.reads;
       faults = omega (arith, inv.faults, c.open_region.ensures.later);
     }
@@ -65,10 +65,10 @@ returns-in_err-region-clause-outside g c =
     let low : l.number < c.args.directory.now.regions = omega (arith, c.loop-number-test.true, c.regions-number-end.ensures.count) in
     let p = err_from_is_err_and c.from_residual.result c.from_residual.ensures.1 in
     rw (p.1, p.2) (λ f offset is.
-    let told : IfSome v.content (IsRefused c.args.instance.now seq (journals l.number) l.number f offset) =
-    subst (λ (ps : List Placed). IfSome v.content (IsRefused c.args.instance.now seq ps l.number f offset)) c.journal_at-journal.ensures (c.in_err-region.ensures.outside f offset (handed_on c.in_err-region.field-0.0 (NotAFile f offset) is)) in
-    first_refused u.content c.args.instance.now seq journals l.regions.items l.number c.args.directory.now.regions f offset l.invariant.count low l.invariant.opened
-    (told_at u.content v.content (IsRefused c.args.instance.now seq (journals l.number) l.number f offset) l.invariant.reads.content told))
+    let told : IfSome v.content (IsRefused c.args.instance.now c.args.target seq (journals l.number) l.number f offset) =
+    subst (λ (ps : List Placed). IfSome v.content (IsRefused c.args.instance.now c.args.target seq ps l.number f offset)) c.journal_at-journal.ensures (c.in_err-region.ensures.outside f offset (handed_on c.in_err-region.field-0.0 (NotAFile f offset) is)) in
+    first_refused u.content c.args.instance.now c.args.target seq journals l.regions.items l.number c.args.directory.now.regions f offset l.invariant.count low l.invariant.opened
+    (told_at u.content v.content (IsRefused c.args.instance.now c.args.target seq (journals l.number) l.number f offset) l.invariant.reads.content told))
 
 pub returns-in_err-add-clause-reads : goal.returns-in_err-add-clause-reads
 returns-in_err-add-clause-reads g c =

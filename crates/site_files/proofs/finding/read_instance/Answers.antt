@@ -1,4 +1,4 @@
-use Rattle.std.proofs.Common.{◌≡◌, ap, Err}
+use Rattle.std.proofs.Common.{ap, Err}
 use Rattle.site_files.proofs.Places.{told_instance}
 use Rattle.site_files.proofs.finding.read_instance.Goals as goal
 

@@ -11,6 +11,11 @@ returns c = record {
   text = λ a b s seq last text k sound form is has. keeping.text_is a s last form seq sound text b k is has;
   none_past = λ a s seq last k sound. keeping.none_past s (length seq) last (drawing.before a s (generation s.instance + 1) sound.held (omega arith)) k;
   no_epoch_past = λ a s seq last k r sound. keeping.no_epoch_past s (length seq) last (drawing.before a s (generation s.instance + 1) sound.held (omega arith)) k r;
+  cut_off = λ a b s seq last text sound form read cut. keeping.cut_off_image a s last form seq sound text read b cut;
+  drawn_to = λ a b s seq t last text k sound most form read has. keeping.drawn_image_to a s last form seq sound t most text read k b has;
+  text_to = λ a b s seq t last text k sound form is has. keeping.text_is_to a s last form seq sound t text b k is has;
+  none_past_to = λ a s seq t last k sound. keeping.none_past s t last (drawing.before a s (generation s.instance + 1) sound.held (omega arith)) k;
+  no_epoch_past_to = λ a s seq t last k r sound. keeping.no_epoch_past s t last (drawing.before a s (generation s.instance + 1) sound.held (omega arith)) k r;
   uncut_older = λ a b s last text r form read cut here. keeping.older_still a s last form b cut.others read r here;
   drawn_older = λ a b s n last text k r form read has here. keeping.older_still a s last form b has.others read r here;
 }

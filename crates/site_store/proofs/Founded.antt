@@ -1,0 +1,91 @@
+-- A site that was found, and stands.
+use Rattle.std.proofs.Common.{◌≡◌, inr, ℕ, ◌+◌, List, [], ◌∷◌, ◌++◌, length, map, take, Option, IfSome, sym, ◌∙◌, ap, subst}
+use Rattle.std.proofs.Math.Seq.{take-length}
+use Rattle.disk_defs.specs.Disk.{Files, View, Image, IsLawful, AtEachMoment}
+use Rattle.disk_defs.proofs.Told.{both_weak, told_at}
+use Rattle.global_defs.specs.Entry.{Sequence, state}
+use Rattle.journal_defs.specs.Instance.{InstanceRecord, generation, regions}
+use Rattle.journal_defs.specs.Stands.{AreRecords}
+use Rattle.journal_defs.specs.Fit.{IsSoundImage}
+use Rattle.site_defs.specs.Contents.{Contents}
+use Rattle.site_defs.specs.Stands.{IsSite}
+use Rattle.site_defs.specs.OutsideBlocks.{IsOutsideOpening, HaveOutsideBlocks, whole}
+use Rattle.site_files.specs.Loading.{WasRead, last_of, next_cut}
+use Rattle.site_files.proofs.Kept.{held_read}
+use Rattle.site_regions.specs.Joined.{Joined, joined}
+use Rattle.site_store.specs.declared.preparing.FoundFiles.{FoundFiles}
+use Rattle.site_store.specs.declared.preparing.StandingSite.{StandingSite}
+use Rattle.site_store.specs.Finding.{HasLayout}
+use Rattle.site_store.specs.Site.{AreOnBlocks}
+use Rattle.site_store.specs.Standing.{found_records, found_entries, HasFound, WasFound, IsFoundAs, IsOpenFor, Stood}
+use Rattle.site_store.proofs.Databases.{databases_still, texts_still}
+use Rattle.site_store.proofs.Drawn.{site_read}
+use Rattle.site_store.proofs.Loaded.{length_values}
+use Rattle.site_store.proofs.Refused.{read_kept}
+
+-- while the disk is only synced or read
+pub found_moved : (u v w : View) (f : FoundFiles) → IsLawful w → AtEachMoment v w (Image v) → WasFound u v f → WasFound u w f
+found_moved u v w f lawful run was = record {
+  read = read_kept u.content v w f.read.log.records (last_of f.read.last_began.items) (found_records f).journal lawful run was.read;
+  texts = texts_still u.content v w (generation f.read.log.records) lawful run was.texts;
+  databases = databases_still u.content v w (length (regions f.read.log.records)) lawful run was.databases;
+}
+
+pub open_moved : (u v w : View) (f : FoundFiles) (t : ℕ) (j : Joined) → v.content ≡ u.content → IsOpenFor v w f t j → IsOpenFor u w f t j
+open_moved u v w f t j same is = record {
+  blocks = told_at u.content v.content (λ files. AreOnBlocks files (found_records f) t j) same is.blocks;
+  regions = is.regions;
+  nodes = told_at u.content v.content (λ files. IsSoundImage files (found_records f) (found_entries f) → joined j ≡ state (take t (found_entries f))) same is.nodes;
+  some = is.some;
+  none = is.none;
+}
+
+-- open for all entries
+abbrev again : FoundFiles → StandingSite → FoundFiles
+again f k = record { read = record { log = k.log; directory = f.read.directory; journals = f.read.journals; last_began = k.last_began }; entries = k.entries; broken = k.broken }
+
+stood_again : (u w : View) (f : FoundFiles) (k : StandingSite) → HasFound (again f k) → WasFound u w (again f k) → IsOpenFor u w (again f k) (length k.entries.items) k.globals
+    → ((n : ℕ) → HasLayout (k.log.records ++ next_cut k.log.records n ∷ []) k.layout) → Stood u w k
+stood_again u w f k has was opens layout =
+    let seq = found_entries (again f k) in
+    let size : length seq ≡ length k.entries.items = length_values k.entries.items in
+    record {
+      journal = (found_records (again f k)).journal;
+      form = has.form;
+      counted = has.counted;
+      low = has.low;
+      layout = layout;
+      sequence = has.sequence;
+      are_numbered = has.are_numbered;
+      few = has.few;
+      broken_is = hstays.broken_is;
+      read = was.read;
+      texts = was.texts;
+      databases = was.databases;
+      blocks = subst (λ (n : ℕ). IfSome u.content (λ files. AreOnBlocks files (found_records (again f k)) n k.globals)) (sym size) opens.blocks;
+      regions = opens.regions;
+      nodes = subst (λ (l : Sequence). IfSome u.content (λ files. IsSoundImage files (found_records (again f k)) seq → joined k.globals ≡ state l)) (ap (λ (n : ℕ). take n seq) (sym size) ∙ take-length seq) opens.nodes;
+      some = opens.some;
+      none = λ empty. opens.none (sym size ∙ empty);
+    }
+
+pub stood_of : (u w : View) (f : FoundFiles) (k : StandingSite) → HasFound f → WasFound u w f → IsOpenFor u w f (length f.entries.items) k.globals → IsFoundAs f k → Stood u w k
+stood_of u w f k has was opens stays =
+    subst (λ (x : FoundFiles). HasFound x → WasFound u w x → IsOpenFor u w x (length x.entries.items) k.globals → ((n : ℕ) → HasLayout (x.read.log.records ++ next_cut x.read.log.records n ∷ []) k.layout) → Stood u w k)
+    (λ i. record { read = record { log = stays.log i; directory = f.read.directory; journals = f.read.journals; last_began = stays.last_began i }; entries = stays.entries i; broken = stays.broken i })
+    (stood_again u w f k) has was opens stays.layout
+
+-- where it can't be opened for all entries
+module _ (u v : View) (f : FoundFiles) (has : HasFound f) (was : WasFound u v f) (same : v.content ≡ u.content) (file offset : ℕ) where
+  abbrev Read : Files → Type 0
+  Read = WasRead v f.read.log.records (last_of f.read.last_began.items) (found_records f).journal
+
+  pub blocks_outside : IfSome v.content (λ files. AreRecords files (found_records f) → HaveOutsideBlocks whole files file offset) → IfSome u.content (λ files. IsOutsideOpening files file offset)
+  blocks_outside out = both_weak u.content Read (λ files. AreRecords files (found_records f) → HaveOutsideBlocks whole files file offset) (λ files. IsOutsideOpening files file offset) was.read
+      (told_at u.content v.content (λ files. AreRecords files (found_records f) → HaveOutsideBlocks whole files file offset) same out)
+      (λ files r t. inr (t (held_read f.read.log.records (last_of f.read.last_began.items) (found_records f).journal files r.holds)))
+
+  pub no_site_there : IfSome v.content (λ files. IsSoundImage files (found_records f) (found_entries f) → ⊥) → IfSome u.content (λ files. (c : Contents) → IsSite files c → ⊥)
+  no_site_there out = both_weak u.content Read (λ files. IsSoundImage files (found_records f) (found_entries f) → ⊥) (λ files. (c : Contents) → IsSite files c → ⊥) was.read
+      (told_at u.content v.content (λ files. IsSoundImage files (found_records f) (found_entries f) → ⊥) same out)
+      (λ files r t c site. t (site_read f.read.log.records (last_of f.read.last_began.items) (found_records f).journal (found_entries f) has.form has.sequence files c r.holds site).0)

@@ -1,0 +1,1 @@
+use Rattle.site_store.proofs.syncing.sync_both.Goals as goal

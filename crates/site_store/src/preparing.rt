@@ -1,0 +1,188 @@
+//! A site as it stands on a disk, before anything is written.
+ghost use Rattle.std.specs.Prelude.{◌≡◌, ◌⊎◌, ◌≤◌, ◌<◌, ◌++◌, ◌∷◌, [], ℕ, List, length, map, IfOk, IfSome, OnErr, IsErrOf};
+ghost use Rattle.disk_defs.specs.Disk.{Image, Reads, AtEachMoment, Rose};
+ghost use Rattle.journal_defs.specs.Instance as defs;
+ghost use Rattle.journal_defs.specs.Instance.{generation};
+ghost use Rattle.journal_defs.specs.Numbers.{INSTANCE};
+ghost use Rattle.journal_defs.specs.Stands.{IsInstance, AreRecords};
+ghost use Rattle.journal_defs.specs.Fit.{IsSoundImage};
+ghost use Rattle.instance_file.specs.Values.{record_value};
+ghost use Rattle.site_defs.specs.Contents.{Contents};
+ghost use Rattle.site_defs.specs.Stands.{IsSite};
+ghost use Rattle.site_defs.specs.Outside.{IsOutsideSite};
+ghost use Rattle.site_defs.specs.OutsideBlocks.{IsOutsideOpening, HaveOutsideBlocks};
+ghost use Rattle.site_files.specs.Loading.{next_cut};
+ghost use Rattle.site_store.specs.Finding.{HasLayout, mapping_of};
+ghost use Rattle.site_store.specs.Standing.{HasFound, WasFound, IsFoundAs, IsOpenFor, Stood, found_records, found_entries};
+
+use crate::error::SiteError;
+use crate::layout::{Layout, region_specs};
+use crate::syncing::{sync_databases, sync_texts};
+use global_dir::Directory;
+use gvn_key::{Bytes, NoMemory};
+use gvn_model::Entry;
+use instance_file::{InstanceLog, InstanceRecord};
+use region_opening::open_regions;
+use repl_disk::Disk;
+use site_files::{ReadSite, Remembered, created_name, generation_in, read_site, remember_all};
+use site_regions::Regions;
+use std::alloc::Global;
+
+/// What the files of a site hold: its records, and the entries for which they stand.
+#[derive(Drop)]
+pub struct FoundFiles {
+    /// The records of its instance file and of its journals.
+    pub read: ReadSite,
+    /// All entries, by their numbers from 1 on.
+    pub entries: Vec<Entry>,
+    /// The text of the broken transactions behind the entries.
+    pub broken: Bytes,
+}
+
+/// A site as it stands on a disk, before anything is written.
+#[derive(Drop)]
+pub struct StandingSite {
+    /// The records of its instance file.
+    pub log: InstanceLog,
+    /// What its instance file says once the next generation is drawn.
+    pub layout: Layout,
+    /// The last generation that began in each region, or 0.
+    pub last_began: Vec<u32>,
+    /// All entries, by their numbers from 1 on.
+    pub entries: Vec<Entry>,
+    /// Its regions on their blocks.
+    pub globals: Regions,
+    /// The text of the broken transactions behind the entries.
+    pub broken: Bytes,
+}
+
+/// The layout of a site with these records and this directory, once the next generation is drawn.
+fn next_layout(
+    alloc: Global,
+    records: &[InstanceRecord],
+    directory: Directory,
+) -> Result<Layout, NoMemory>
+    requires directory { directory ≡ mapping_of (map record_value records.now) }
+    requires room { generation (map record_value records.now) < 65534 }
+    ensures { IfOk result (λ made. (n : ℕ) → HasLayout (map record_value records.now ++ next_cut (map record_value records.now) n ∷ []) made) }
+{
+    Ok(Layout {
+        name: Bytes::of(alloc, created_name(records))?,
+        regions: region_specs(alloc, records)?,
+        directory,
+        generation: generation_in(records) + 1,
+    })
+}
+
+/// Syncs all files of a site, and reads its records and entries. It writes nothing.
+///
+/// # Errors
+/// `GenLimit` exactly where 65,534 generations were drawn. `NotAFile` with the first file that is outside the formats and the place of
+/// what can't stand there, or with file 0 and offset 0 where no site stands there. `Failed` only where the disk's count rose.
+/// `NoMemory`.
+pub fn find_files<D: Disk>(alloc: Global, disk: &mut D) -> Result<FoundFiles, SiteError>
+    ensures has { IfOk result HasFound }
+    ensures found { IfOk result (WasFound (D.disk disk.old) (D.disk disk.new)) }
+    ensures limit { IsErrOf result SiteError.GenLimit → IfSome (D.disk disk.old).content (λ files. (rs : List defs.InstanceRecord) → IsInstance (files INSTANCE) rs → 65534 ≤ generation rs) }
+    ensures limit_told { IsErrOf result SiteError.GenLimit → IfSome (D.disk disk.old).content (λ files. (rs : List defs.InstanceRecord) × IsInstance (files INSTANCE) rs × (65534 ≤ generation rs)) }
+    ensures place { (file offset : ℕ) → IsErrOf result (SiteError.NotAFile file offset) → IfSome (D.disk disk.old).content (λ files. IsOutsideSite files file offset) }
+    ensures outside { (file offset : ℕ) → IsErrOf result (SiteError.NotAFile file offset) → IfSome (D.disk disk.old).content (λ files. (c : Contents) → IsSite files c → ⊥) }
+    ensures content { (D.disk disk.new).content ≡ (D.disk disk.old).content }
+    ensures any_moment { AtEachMoment (D.disk disk.old) (D.disk disk.new) (Image (D.disk disk.old)) }
+    ensures simulated { (D.disk disk.new).simulated ≡ (D.disk disk.old).simulated }
+    ensures later { (D.disk disk.old).faults ≤ (D.disk disk.new).faults }
+    ensures count { (fault : ℕ) → IsErrOf result (SiteError.Failed fault) → fault ≡ (D.disk disk.new).faults }
+    ensures cause { (fault : ℕ) → IsErrOf result (SiteError.Failed fault) → Rose (D.disk disk.old).faults (D.disk disk.new).faults }
+    ensures causes { OnErr result (IsErrOf result SiteError.GenLimit ⊎ ((fault : ℕ) × IsErrOf result (SiteError.Failed fault)) ⊎ ((file : ℕ) × (offset : ℕ) × IsErrOf result (SiteError.NotAFile file offset)) ⊎ IsErrOf result SiteError.NoMemory) }
+{
+    let read = read_site(alloc, disk)?;
+    sync_texts(disk, generation_in(read.log.records.as_slice()))?;
+    sync_databases(disk, u32::from(read.directory.regions()))?;
+    let remembered = remember_all(alloc, &read.log, &read.journals)?;
+    let Remembered { entries, broken } = remembered;
+    Ok(FoundFiles {
+        read,
+        entries,
+        broken,
+    })
+}
+
+/// Opens the regions of a site that was found for a target: each goes back to the epoch that it has chosen for so many entries, and
+/// the updates of the entries behind it up to the target are made, all in memory. It writes nothing.
+///
+/// # Errors
+/// `NotAFile` with the file and the place of a region's blocks that aren't those of its part of the state. `Failed` only where the
+/// disk's count rose. `NoMemory`.
+pub fn stand<D: Disk>(
+    alloc: Global,
+    disk: &mut D,
+    found: FoundFiles,
+    target: u64,
+) -> Result<StandingSite, SiteError>
+    requires target { target ≤ length found.entries.items }
+    requires has { HasFound found }
+    ensures found_as { IfOk result (IsFoundAs found) }
+    ensures opened { IfOk result (λ k. IsOpenFor (D.disk disk.old) (D.disk disk.new) found target k.globals) }
+    ensures place { (file offset : ℕ) → IsErrOf result (SiteError.NotAFile file offset) → (aim : ℕ → ℕ) → aim (length found.entries.items) ≡ target
+        → IfSome (D.disk disk.old).content (λ files. AreRecords files (found_records found) → HaveOutsideBlocks aim files file offset) }
+    ensures unsound { (file offset : ℕ) → IsErrOf result (SiteError.NotAFile file offset) → IfSome (D.disk disk.old).content (λ files. IsSoundImage files (found_records found) (found_entries found) → ⊥) }
+    ensures reads { Reads (D.disk disk.old) (D.disk disk.new) }
+    ensures later { (D.disk disk.old).faults ≤ (D.disk disk.new).faults }
+    ensures count { (fault : ℕ) → IsErrOf result (SiteError.Failed fault) → fault ≡ (D.disk disk.new).faults }
+    ensures cause { (fault : ℕ) → IsErrOf result (SiteError.Failed fault) → Rose (D.disk disk.old).faults (D.disk disk.new).faults }
+    ensures causes { OnErr result (((fault : ℕ) × IsErrOf result (SiteError.Failed fault)) ⊎ ((file : ℕ) × (offset : ℕ) × IsErrOf result (SiteError.NotAFile file offset)) ⊎ IsErrOf result SiteError.NoMemory) }
+{
+    let FoundFiles {
+        read,
+        entries,
+        broken,
+    } = found;
+    let ReadSite {
+        log,
+        directory,
+        journals,
+        last_began,
+    } = read;
+    let copied = directory.copy()?;
+    let layout = next_layout(alloc, log.records.as_slice(), copied)?;
+    let globals = open_regions(
+        alloc,
+        disk,
+        &log.records,
+        directory,
+        &journals,
+        &entries,
+        target,
+    )?;
+    Ok(StandingSite {
+        log,
+        layout,
+        last_began,
+        entries,
+        globals,
+        broken,
+    })
+}
+
+/// Syncs and reads a site's files, and opens its regions for all entries. It writes nothing.
+///
+/// # Errors
+/// As [`crate::load`]'s.
+pub(crate) fn read_standing<D: Disk>(alloc: Global, disk: &mut D) -> Result<StandingSite, SiteError>
+    ensures stood { IfOk result (Stood (D.disk disk.old) (D.disk disk.new)) }
+    ensures limit { IsErrOf result SiteError.GenLimit → IfSome (D.disk disk.old).content (λ files. (rs : List defs.InstanceRecord) → IsInstance (files INSTANCE) rs → 65534 ≤ generation rs) }
+    ensures limit_told { IsErrOf result SiteError.GenLimit → IfSome (D.disk disk.old).content (λ files. (rs : List defs.InstanceRecord) × IsInstance (files INSTANCE) rs × (65534 ≤ generation rs)) }
+    ensures place { (file offset : ℕ) → IsErrOf result (SiteError.NotAFile file offset) → IfSome (D.disk disk.old).content (λ files. IsOutsideOpening files file offset) }
+    ensures outside { (file offset : ℕ) → IsErrOf result (SiteError.NotAFile file offset) → IfSome (D.disk disk.old).content (λ files. (c : Contents) → IsSite files c → ⊥) }
+    ensures content { (D.disk disk.new).content ≡ (D.disk disk.old).content }
+    ensures any_moment { AtEachMoment (D.disk disk.old) (D.disk disk.new) (Image (D.disk disk.old)) }
+    ensures simulated { (D.disk disk.new).simulated ≡ (D.disk disk.old).simulated }
+    ensures later { (D.disk disk.old).faults ≤ (D.disk disk.new).faults }
+    ensures count { (fault : ℕ) → IsErrOf result (SiteError.Failed fault) → fault ≡ (D.disk disk.new).faults }
+    ensures cause { (fault : ℕ) → IsErrOf result (SiteError.Failed fault) → Rose (D.disk disk.old).faults (D.disk disk.new).faults }
+    ensures causes { OnErr result (IsErrOf result SiteError.GenLimit ⊎ ((fault : ℕ) × IsErrOf result (SiteError.Failed fault)) ⊎ ((file : ℕ) × (offset : ℕ) × IsErrOf result (SiteError.NotAFile file offset)) ⊎ IsErrOf result SiteError.NoMemory) }
+{
+    let found = find_files(alloc, disk)?;
+    let target = found.entries.len() as u64;
+    stand(alloc, disk, found, target)
+}
