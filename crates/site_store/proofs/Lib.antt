@@ -29,6 +29,7 @@ pub mod Texts
 pub mod Databases
 pub mod Typed
 pub mod Refused
+pub mod Alike
 pub mod OpenedTo
 pub mod Loaded
 pub mod Founded
