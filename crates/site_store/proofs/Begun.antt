@@ -21,7 +21,6 @@ use Rattle.journal_defs.specs.Surviving.{reigns}
 use Rattle.journal_defs.specs.Sequence.{Placed, Records}
 use Rattle.journal_defs.specs.Stands.{IsInstance}
 use Rattle.journal_defs.specs.Growth.{with_record, AreEntries, appended, tcoms}
-use Rattle.journal_defs.specs.Clean.{MOST_GENERATIONS}
 use Rattle.journal_defs.specs.Fit.{IsSoundImage, IsAtHome, MOST_REIGNS}
 use Rattle.journal_laws.proofs.Runs as runs
 use Rattle.journal_laws.proofs.Later as later

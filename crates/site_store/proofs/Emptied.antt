@@ -1,5 +1,5 @@
 -- Nothing lies behind the hardened entries.
-use Rattle.std.proofs.Common.{ℕ, take, sym, subst, arith}
+use Rattle.std.proofs.Common.{ℕ, take, sym, subst}
 use Rattle.std.proofs.lemmas.List.{length-take-le}
 use Rattle.disk_defs.specs.Disk.{Files, View, Image}
 use Rattle.journal_defs.specs.Growth.{NonePast}

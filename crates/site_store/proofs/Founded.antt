@@ -1,22 +1,27 @@
 -- A site that was found, and stands.
-use Rattle.std.proofs.Common.{◌≡◌, inr, ℕ, ◌+◌, List, [], ◌∷◌, ◌++◌, length, map, take, Option, IfSome, sym, ◌∙◌, ap, subst}
+use Rattle.std.proofs.Common.{◌≡◌, inr, ℕ, [], ◌∷◌, ◌++◌, length, take, Result, Ok, Err, IfOk, IfSome, sym, ◌∙◌, ap, subst}
 use Rattle.std.proofs.Math.Seq.{take-length}
-use Rattle.disk_defs.specs.Disk.{Files, View, Image, IsLawful, AtEachMoment}
-use Rattle.disk_defs.proofs.Told.{both_weak, told_at}
+use Rattle.disk_defs.specs.Disk.{Files, View, Image, Reads, IsLawful, AtEachMoment}
+use Rattle.disk_defs.proofs.Moments.{read_only}
+use Rattle.disk_defs.proofs.Told.{both_weak, weaker_told, told_at}
 use Rattle.global_defs.specs.Entry.{Sequence, state}
-use Rattle.journal_defs.specs.Instance.{InstanceRecord, generation, regions}
+use Rattle.journal_defs.specs.Instance.{generation, regions}
 use Rattle.journal_defs.specs.Stands.{AreRecords}
 use Rattle.journal_defs.specs.Fit.{IsSoundImage}
 use Rattle.site_defs.specs.Contents.{Contents}
-use Rattle.site_defs.specs.Stands.{IsSite}
+use Rattle.site_defs.specs.Stands.{IsSite, Stands}
 use Rattle.site_defs.specs.OutsideBlocks.{IsOutsideOpening, HaveOutsideBlocks, whole}
-use Rattle.site_files.specs.Loading.{WasRead, last_of, next_cut}
-use Rattle.site_files.proofs.Kept.{held_read}
+use Rattle.site_files.specs.Loading.{AreRead, WasRead, last_of, next_cut}
+use Rattle.site_files.proofs.Kept.{image_read, held_read}
 use Rattle.site_regions.specs.Joined.{Joined, joined}
 use Rattle.site_store.specs.declared.preparing.FoundFiles.{FoundFiles}
 use Rattle.site_store.specs.declared.preparing.StandingSite.{StandingSite}
+use Rattle.site_store.specs.declared.error.SiteError.{SiteError}
 use Rattle.site_store.specs.Finding.{HasLayout}
-use Rattle.site_store.specs.Site.{AreOnBlocks}
+use Rattle.site_store.specs.Site.{AreOnBlocks, AreSynced}
+use Rattle.site_store.specs.Opening.{AreTextsDurable, AreDatabasesDurable}
+use Rattle.site_store.proofs.Alike.{image_site}
+use Rattle.site_store.proofs.OnBlocks.{on_same}
 use Rattle.site_store.specs.Standing.{found_records, found_entries, HasFound, WasFound, IsFoundAs, IsOpenFor, Stood}
 use Rattle.site_store.proofs.Databases.{databases_still, texts_still}
 use Rattle.site_store.proofs.Drawn.{site_read}
@@ -40,6 +45,26 @@ open_moved u v w f t j same is = record {
   none = is.none;
 }
 
+-- what is so in each image, where the disk tells its files
+module _ (u v : View) (f : FoundFiles) (was : WasFound u v f) where
+  pub synced_found : IfSome u.content (λ _. AreSynced v (length (regions f.read.log.records)))
+  synced_found = weaker_told u.content (AreDatabasesDurable v (length (regions f.read.log.records))) (λ _. AreSynced v (length (regions f.read.log.records))) was.databases (λ files durable a b i j r low. durable r low b j ∙ sym (durable r low a i))
+
+  pub blocks_found : (t : ℕ) (j : Joined) → IsOpenFor u v f t j → IfSome u.content (λ _. (d : Files) → Image v d → AreOnBlocks d (found_records f) t j)
+  blocks_found t j opens = both_weak u.content (AreDatabasesDurable v (length (regions f.read.log.records))) (λ files. AreOnBlocks files (found_records f) t j) (λ _. (d : Files) → Image v d → AreOnBlocks d (found_records f) t j) was.databases opens.blocks
+      (λ files durable on d image. on_same files d (found_records f) t j (λ r low. durable r low d image) on)
+
+  pub read_found : IfSome u.content (λ _. (d : Files) → Image v d → AreRead f.read.log.records (last_of f.read.last_began.items) (found_records f).journal d)
+  read_found = weaker_told u.content (WasRead v f.read.log.records (last_of f.read.last_began.items) (found_records f).journal) (λ _. (d : Files) → Image v d → AreRead f.read.log.records (last_of f.read.last_began.items) (found_records f).journal d) was.read
+      (λ files r d image. image_read v f.read.log.records (last_of f.read.last_began.items) (found_records f).journal files r d image)
+
+  -- all images stand for the same, when each stands for something
+  pub images_found : HasFound f → ((d : Files) → Image v d → (o : Contents) × Stands d o) → IfSome u.content (λ files. (c : Contents) → IsSite files c → (d : Files) → Image v d → IsSite d c)
+  images_found has each = both_weak u.content (WasRead v f.read.log.records (last_of f.read.last_began.items) (found_records f).journal) (AreTextsDurable v (generation f.read.log.records)) (λ files. (c : Contents) → IsSite files c → (d : Files) → Image v d → IsSite d c) was.read was.texts
+      (λ files r durable c site d image.
+      subst (IsSite d) (sym (site_read f.read.log.records (last_of f.read.last_began.items) (found_records f).journal (found_entries f) has.form has.sequence files c r.holds site).1)
+      (image_site v f.read.log.records (last_of f.read.last_began.items) (found_records f).journal (found_entries f) has.form has.sequence files r durable d image (each d image).0 (each d image).1))
+
 -- open for all entries
 abbrev again : FoundFiles → StandingSite → FoundFiles
 again f k = record { read = record { log = k.log; directory = f.read.directory; journals = f.read.journals; last_began = k.last_began }; entries = k.entries; broken = k.broken }
@@ -58,7 +83,7 @@ stood_again u w f k has was opens layout =
       sequence = has.sequence;
       are_numbered = has.are_numbered;
       few = has.few;
-      broken_is = hstays.broken_is;
+      broken_is = has.broken_is;
       read = was.read;
       texts = was.texts;
       databases = was.databases;
@@ -74,6 +99,12 @@ stood_of u w f k has was opens stays =
     subst (λ (x : FoundFiles). HasFound x → WasFound u w x → IsOpenFor u w x (length x.entries.items) k.globals → ((n : ℕ) → HasLayout (x.read.log.records ++ next_cut x.read.log.records n ∷ []) k.layout) → Stood u w k)
     (λ i. record { read = record { log = stays.log i; directory = f.read.directory; journals = f.read.journals; last_began = stays.last_began i }; entries = stays.entries i; broken = stays.broken i })
     (stood_again u w f k) has was opens stays.layout
+
+pub stood_ok : (u v w : View) (f : FoundFiles) (n : ℕ) (o : Result StandingSite SiteError) → IsLawful w → Reads v w → v.content ≡ u.content → HasFound f → WasFound u v f → n ≡ length f.entries.items
+    → IfOk o (IsFoundAs f) → IfOk o (λ k. IsOpenFor v w f n k.globals) → IfOk o (Stood u w)
+stood_ok u v w f n (Ok k) lawful reads same has was all stays opens =
+    stood_of u w f k has (found_moved u v w f lawful (read_only v w reads) was) (subst (λ (m : ℕ). IsOpenFor u w f m k.globals) all (open_moved u v w f n k.globals same opens)) stays
+stood_ok u v w f n (Err e) lawful reads same has was all stays opens = tt
 
 -- where it can't be opened for all entries
 module _ (u v : View) (f : FoundFiles) (has : HasFound f) (was : WasFound u v f) (same : v.content ≡ u.content) (file offset : ℕ) where

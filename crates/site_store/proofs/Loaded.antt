@@ -1,12 +1,9 @@
 -- A site is opened.
-use Rattle.std.proofs.Common.{◌≡◌, inl, inr, ℕ, zero, suc, ◌+◌, ◌≤◌, ◌<◌, ◌^◌, Bool, true, false, List, [], ◌∷◌, ◌++◌, length, map, take, Option, Some, None, IfSome, IsSomeAnd, refl, sym, ◌∙◌, ap, subst, arith, append-nil}
-use Rattle.std.specs.Prelude.{◌^◌, filter, nat_le, nat_lt, ◌&&◌, fold, replicate, slice_get, if◌then◌else◌}
+use Rattle.std.proofs.Common.{◌≡◌, inl, ℕ, zero, suc, ◌+◌, ◌≤◌, ◌<◌, ◌^◌, Bool, true, false, List, [], ◌∷◌, ◌++◌, length, map, Option, Some, None, IfSome, refl, sym, ◌∙◌, ap, subst, arith, append-nil}
+use Rattle.std.specs.Prelude.{◌^◌, filter, nat_le, fold, replicate, slice_get, if◌then◌else◌}
 use Rattle.std.specs.List.{AllByRecursion, enumerate_from, flat_map}
-use Rattle.std.specs.Option.{option_map}
 use Rattle.std.proofs.lemmas.Bool.Decides.{nat_tests}
 use Rattle.std.proofs.lemmas.List.{length-map, length-replicate}
-use Rattle.std.proofs.lemmas.Option.{slice_get-map}
-use Rattle.std.proofs.Math.Seq.{take-length, drop-length}
 use Rattle.disk_defs.specs.Disk.{Files, View, Image, IsLawful, From, AtEachMoment}
 use Rattle.disk_defs.proofs.Told.{weaker_told, both_weak, told_at}
 use Rattle.disk_defs.proofs.Moments.{weaker, then_more, holds_now}
@@ -16,17 +13,13 @@ use Rattle.global_defs.specs.Fields.{IsSiteName}
 use Rattle.gvn_model.specs.Entries.{entry_value}
 use Rattle.gvn_model.specs.declared.entry.Entry as code
 use Rattle.journal_defs.specs.Instance.{InstanceRecord, Create, Reigned, Cut, Map, Mode, IsInForm, BeginsWithCreate, generation, regions, site_name}
-use Rattle.journal_defs.specs.Directory.{patterns}
 use Rattle.journal_defs.specs.Surviving.{reigns}
 use Rattle.journal_defs.specs.Sequence.{Placed, Records, IsSequence}
-use Rattle.journal_defs.specs.Growth.{AreEntries, with_record}
 use Rattle.journal_defs.specs.Fit.{IsSoundImage}
-use Rattle.journal_defs.specs.Stands.{IsInstance, AreRecords, in_generation}
+use Rattle.journal_defs.specs.Stands.{IsInstance, AreRecords}
 use Rattle.journal_laws.proofs.Readings.{records_one}
-use Rattle.journal_defs.specs.Numbers.{INSTANCE, database_file}
+use Rattle.journal_defs.specs.Numbers.{INSTANCE}
 use Rattle.journal_laws.proofs.Drawing as drawing
-use Rattle.journal_laws.proofs.Targets.{cut_keeps}
-use Rattle.journal_laws.proofs.EveryTarget.{patterns_same}
 use Rattle.journal_laws.proofs.Runs as runs
 use Rattle.instance_file.specs.Instance as instances
 use Rattle.jnl_file.specs.Journal as journals
@@ -35,25 +28,23 @@ use Rattle.jnl_file.specs.declared.journal.Journal.{Journal}
 use Rattle.region_journals.specs.Journals.{AreReady, HasSyncs, KeepsJournals}
 use Rattle.region_journals.specs.Journals as region_journals
 use Rattle.region_journals.specs.declared.journals.RegionJournal.{RegionJournal}
-use Rattle.site_files.specs.Loading.{MayBeOpened, AreRead, WasRead, MayDraw, HasDrawn, next_cut, next_broken, next_pini, starts_in, drawn_records}
-use Rattle.site_files.proofs.Keeping as keeping
+use Rattle.site_files.specs.Loading.{MayBeOpened, AreRead, WasRead, MayDraw, HasDrawn, next_cut, next_broken, next_pini}
 use Rattle.site_files.proofs.Kept.{image_read, held_read}
 use Rattle.site_defs.specs.Contents.{Contents, Leftover}
-use Rattle.site_defs.specs.Fronts.{with_sequence}
 use Rattle.site_defs.specs.Opening.{opened, MayOpen}
-use Rattle.site_defs.specs.Stands.{IsSite, HasLeft, Stands, texts_of, losts_of}
+use Rattle.site_defs.specs.Stands.{IsSite, HasLeft}
 use Rattle.site_store.specs.declared.site.OpenSite.{OpenSite}
 use Rattle.site_store.specs.Finding.{HasLayout}
 use Rattle.site_regions.specs.Joined.{joined}
-use Rattle.site_store.specs.Site.{Remembers, AreHeld, IsReady, Keeps, IsOpen, AreOnBlocks, WasOpened, WasOpenedFrom}
+use Rattle.site_store.specs.Site.{Remembers, AreHeld, IsReady, IsOpen, AreOnBlocks, WasOpened, WasOpenedFrom}
 use Rattle.gvn_model.specs.Numbered.{numbered}
 use Rattle.site_store.specs.Opening.{MayBeOpen, MayBeOpenWith, EachStands, AreTextsDurable, AreDatabasesDurable}
 use Rattle.site_store.proofs.Remembered.{length-enumerate, are_numbered}
 use Rattle.site_store.proofs.OnBlocks.{on_same}
-use Rattle.site_store.proofs.Found.{instance_one, blank_instance}
-use Rattle.site_store.proofs.Drawn.{S, C, text, site_read, left_read, site_either, standing_either, site_sound, draws_all, texts_kept, losts_kept}
+use Rattle.site_store.proofs.Found.{instance_one}
+use Rattle.site_store.proofs.Drawn.{S, C, text, site_read, left_read, site_either, standing_either, draws_all}
+use Rattle.site_store.proofs.Alike.{image_sound, image_site}
 use Rattle.site_store.proofs.OpenedTo.{newly, newly_at, open_to}
-use Rattle.site_store.proofs.Parts.{no_entry_no_part}
 
 pub length_values : (es : List code.Entry) → length (map entry_value es) ≡ length es
 length_values [] = refl
@@ -277,17 +268,13 @@ module _ (u v w : View) (rs : List InstanceRecord) (last : ℕ → ℕ) (journal
       let open_c : MayOpen broken c res.0 = subst (λ (x : Contents). MayOpen broken x res.0) (sym is.1) res.1 in
       (res.0, subst (λ (t : List ℕ). MayOpen t c res.0) (left_is files c left r.holds site has) open_c, res.2)))
 
-  pub room_left : IfSome u.content (λ files. (qs : List InstanceRecord) → IsInstance (files INSTANCE) qs → generation qs < 65534)
-  room_left = weaker_told u.content (WasRead v rs last journal) (λ files. (qs : List InstanceRecord) → IsInstance (files INSTANCE) qs → generation qs < 65534) read
-      (λ files r qs is. subst (λ (l : List InstanceRecord). generation l < 65534) (instance_one (files INSTANCE) rs qs r.holds.instance is) form.room)
+  pub room_left : generation rs < 65534 → IfSome u.content (λ files. (qs : List InstanceRecord) → IsInstance (files INSTANCE) qs → generation qs < 65534)
+  room_left low = weaker_told u.content (WasRead v rs last journal) (λ files. (qs : List InstanceRecord) → IsInstance (files INSTANCE) qs → generation qs < 65534) read
+      (λ files r qs is. subst (λ (l : List InstanceRecord). generation l < 65534) (instance_one (files INSTANCE) rs qs r.holds.instance is) low)
 
   -- each image is sound when it stood for something
   sound_image : (files : Files) → WasRead v rs last journal files → EachStands u → (d : Files) → Image v d → IsSoundImage d S0 seq
-  sound_image files r each d image = by_standing (image_read v rs last journal files r d image) (each d (earlier d image)).0 (each d (earlier d image)).1
-    where
-      by_standing : AreRead rs last journal d → (o : Contents) → Stands d o → IsSoundImage d S0 seq
-      by_standing rd o (inl blank) = absurd (let none : rs ≡ [] = instance_one (d 0) rs [] rd.instance (blank_instance (d 0) blank.1.instance) in let size : length rs ≡ 0 = ap length none in let some = form.some in omega (arith, size, some))
-      by_standing rd o (inr site) = (site_read rs last journal seq form sequence d o rd site).0
+  sound_image files r each d image = image_sound v rs last journal seq form sequence files r d image (each d (earlier d image)).0 (each d (earlier d image)).1
 
   module _ (s : OpenSite) (records : s.instance.records ≡ rs ++ next_cut rs (length seq) ∷ []) (entries : map numbered s.entries.items ≡ enumerate_from 1 seq) (hardened : s.hardened ≡ length seq) where
     count : length s.entries.items ≡ length seq
@@ -313,18 +300,11 @@ module _ (u v w : View) (rs : List InstanceRecord) (last : ℕ → ℕ) (journal
       abbrev pub Begun : Type 0
       Begun = (r : ℕ) (j : Journal) → slice_get begun r ≡ Some j → journals.HasRecords w j (settled (next_pini rs last r ∷ []))
 
-      -- all images stand for the same
-      texts_there : (files : Files) → AreTextsDurable v (generation rs) files → (f : Files) → Image v f → C0 f ≡ C0 files
-      texts_there files durable f image =
-          let texts : texts_of f (generation rs) ≡ texts_of files (generation rs) = sym (texts_kept files f (generation rs) (λ h one low. (durable h one low).0 f image)) in
-          let losts : losts_of f (generation rs) ≡ losts_of files (generation rs) = sym (losts_kept files f (generation rs) (λ h one low. (durable h one low).1 f image)) in
-          λ i. record { instance = rs; starts = (C0 files).starts; epochs = (C0 files).epochs; texts = texts i; losts = losts i; sequence = seq }
-
       is_open_all : (files : Files) → WasRead v rs last journal files → AreTextsDurable v (generation rs) files → AreDatabasesDurable v (length (regions rs)) files → AreOnBlocks files S0 (length seq) s.globals → joined s.globals ≡ state seq
           → EachStands u → ((f : Files) → Image w f → Finished f) → instances.HasRecords w s.instance (rs ++ next_cut rs (length seq) ∷ []) → Begun → IsOpen w true (opened broken (C0 files)) (length seq) s
       is_open_all files r durable databases on globals each drawn instance has =
           open_to v w rs last journal seq form sequence lawful_w (λ f image. image_read v rs last journal files r f image) (C0 files)
-          (λ f image. subst (IsSite f) (texts_there files durable f image) (site_sound rs last journal seq form sequence f (sound_image files r each f image)))
+          (λ f image. image_site v rs last journal seq form sequence files r durable f image (each f (earlier f image)).0 (each f (earlier f image)).1)
           (length seq) seq refl broken (λ f image. draws_all rs last journal seq form sequence f broken (image_read v rs last journal files r f image) (sound_image files r each f image) broken_is)
           s records entries hardened begun js_are (λ f d i j q low. databases q low d j ∙ sym (databases q low f i))
           (λ f image. on_same files f S0 (length seq) s.globals (λ q low. databases q low f image) on) globals drawn instance has

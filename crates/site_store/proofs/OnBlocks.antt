@@ -18,7 +18,6 @@ use Rattle.region_store.specs.Region.{Standing, HoldsRegion, IsHeld}
 use Rattle.site_regions.specs.Joined.{Joined, AreChanged, region_at}
 use Rattle.site_regions.proofs.Making.{region_changed}
 use Rattle.disk_defs.proofs.Told.{both_weak}
-use Rattle.global_defs.specs.Entry.{Sequence}
 use Rattle.jnl_record.specs.declared.placed.PlacedRecord.{PlacedRecord}
 use Rattle.mupip_recover.specs.Site.{site_records, journal_of}
 use Rattle.site_defs.specs.OutsideBlocks.{gone_back}

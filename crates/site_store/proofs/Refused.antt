@@ -61,7 +61,7 @@ module _ (files : Files) (c : Contents) (site : IsSite files c) where
         some_region = count.0;
         few_regions = count.1;
         mapped = subst (λ (l : List InstanceRecord). AllByRecursion (λ (p : Pattern). p.region < length (regions l)) (patterns l)) (sym site.instance) site.mapped;
-        room = room;
+        room = omega (arith, room);
         earlier = earlier;
       }
 

@@ -79,7 +79,7 @@ module _ (u v w : View) (k : StandingSite) (st : Stood u v k) (lawful_v : IsLawf
       (moved Reading n (length seq) broken k.broken lasts k.last_began.items size broken_is lasts_is reads)
 
   pub room : IfSome u.content (λ files. (qs : List InstanceRecord) → IsInstance (files INSTANCE) qs → generation qs < 65534)
-  room = loaded.room_left u v w rs last st.journal seq st.form st.sequence lawful_v lawful_w synced same st.read k.broken st.broken_is
+  room = loaded.room_left u v w rs last st.journal seq st.form st.sequence lawful_v lawful_w synced same st.read k.broken st.broken_is st.low
 
   module _ (s : OpenSite) (records : s.instance.records ≡ rs ++ next_cut rs n ∷ []) (entries : s.entries ≡ k.entries) (globals : s.globals ≡ k.globals) (hardened : s.hardened ≡ n) (stamp : s.stamp ≡ None) where
     pub own : s.instance.records ≡ rs ++ next_cut rs (length seq) ∷ []

@@ -1,7 +1,7 @@
 -- Broken-transaction and lost-transaction files that are synced, one generation after another.
 use Rattle.std.proofs.Common.{◌≡◌, ℕ, ◌+◌, Option, Some, None, IfSome, sym, subst, arith, inl, inr}
 use Rattle.std.proofs.lemmas.Bool.{cases_eq}
-use Rattle.disk_defs.specs.Disk.{Files, View, Image, IsLawful, IsDurable, AtEachMoment}
+use Rattle.disk_defs.specs.Disk.{Files, View, Image, IsLawful, AtEachMoment}
 use Rattle.disk_defs.proofs.Told.{both_weak, told_at}
 use Rattle.journal_defs.specs.Numbers.{lost_file, broken_file}
 use Rattle.site_files.proofs.RegionsRead.{durable_kept}

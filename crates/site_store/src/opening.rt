@@ -16,8 +16,8 @@ ghost use Rattle.site_store.specs.Site.{Remembers, IsReady, IsOpen, WasOpened, W
 ghost use Rattle.site_store.specs.Opening.{MayBeOpen, MayBeOpenWith, EachStands};
 
 use crate::error::SiteError;
-use crate::site::OpenSite;
 use crate::preparing::{StandingSite, read_standing};
+use crate::site::OpenSite;
 use gvn_key::NoMemory;
 use jnl_file::Journal;
 use region_journals::{RegionJournal, RegionJournals};

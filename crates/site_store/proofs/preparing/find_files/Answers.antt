@@ -1,6 +1,6 @@
 use Rattle.std.proofs.Common.{◌≡◌, ℕ, List, Vec, Global, length, map, sym, ◌∙◌, ap, subst, IfSome}
 use Rattle.std.proofs.lemmas.Result.{err_from_is_err_and}
-use Rattle.disk_defs.specs.Disk.{Files, Image}
+use Rattle.disk_defs.specs.Disk.{Image}
 use Rattle.disk_defs.proofs.Moments.{nothing_new}
 use Rattle.disk_defs.proofs.Told.{told_at}
 use Rattle.gvn_model.specs.Entries.{entry_value}
@@ -47,7 +47,7 @@ returns-clause-has g c =
     record {
       form = c.in_ok-read.ensures.form;
       counted = c.in_ok-read.ensures.counted;
-      low = c.in_ok-read.ensures.form.room;
+      low = c.in_ok-read.ensures.low;
       directory = c.in_ok-read.ensures.directory.2;
       forms = c.in_ok-read.ensures.forms;
       sequence = subst (λ (l : List (Vec PlacedRecord Global)). IsSequence (site_records rs (js l)) (map entry_value es)) c.deref.ensures.value c.in_ok-remembered.ensures.sequence;

@@ -1,11 +1,20 @@
-use Rattle.std.proofs.Common.{◌≡◌, ◌∙◌, length, sym, subst, arith}
+use Rattle.std.proofs.Common.{◌≡◌, inl, length, arith}
 use Rattle.std.proofs.lemmas.Result.{err_from_is_err_and}
 use Rattle.disk_defs.specs.Disk.{Image}
 use Rattle.disk_defs.proofs.Moments.{nothing_new, read_only}
+use Rattle.disk_defs.proofs.Told.{weaker_told}
 use Rattle.site_defs.specs.Outside.{IsOutsideSite}
 use Rattle.site_defs.specs.OutsideBlocks.{IsOutsideOpening, whole}
-use Rattle.site_store.proofs.Founded.{found_moved, open_moved, stood_of, blocks_outside, no_site_there}
+use Rattle.site_store.proofs.Errors.{handed_on}
+use Rattle.site_store.proofs.Founded.{stood_ok, blocks_outside, no_site_there}
+use Rattle.site_store.specs.declared.error.SiteError.TheVariants as error
 use Rattle.site_store.proofs.preparing.read_standing.Goals as goal
+
+pub returns-in_err-found-clause-place : goal.returns-in_err-found-clause-place
+returns-in_err-found-clause-place g c =
+    let p = err_from_is_err_and c.from_residual.result c.from_residual.ensures.1 in
+    rw (p.1, p.2) (λ file offset is. weaker_told (g.D.Disk.disk c.args.disk.now).content (λ files. IsOutsideSite files file offset) (λ files. IsOutsideOpening files file offset)
+    (c.in_err-found.ensures.place file offset (handed_on c.in_err-found.field-0.0 (error.NotAFile file offset) is)) (λ files out. inl out))
 
 pub returns-clause-any_moment : goal.returns-clause-any_moment
 returns-clause-any_moment g c =
@@ -13,4 +22,19 @@ returns-clause-any_moment g c =
     nothing_new (view c.args.disk.now) (view c.find_files.new.disk) (view c.stand.new.disk) (Image (view c.args.disk.now)) (g.met.D.Disk.lawful c.find_files.new.disk) c.find_files.ensures.any_moment (read_only (view c.find_files.new.disk) (view c.stand.new.disk) c.stand.ensures.reads)
 
 pub returns-clause-stood : goal.returns-clause-stood
-returns-clause-stood g c = ?
+returns-clause-stood g c =
+    let view = g.D.Disk.disk in
+    let all : c.len-target.result ≡ length c.in_ok-found.found.entries.items = (let e = c.len-target.ensures in omega (arith, e)) in
+    stood_ok (view c.args.disk.now) (view c.find_files.new.disk) (view c.stand.new.disk) c.in_ok-found.found c.len-target.result c.stand.result (g.met.D.Disk.lawful c.stand.new.disk) c.stand.ensures.reads c.find_files.ensures.content
+    c.in_ok-found.ensures.has c.in_ok-found.ensures.found all c.stand.ensures.found_as c.stand.ensures.opened
+
+pub returns-clause-place : goal.returns-clause-place
+returns-clause-place g c = λ file offset is.
+    let view = g.D.Disk.disk in
+    let all : whole (length c.in_ok-found.found.entries.items) ≡ c.len-target.result = (let e = c.len-target.ensures in omega (arith, e)) in
+    blocks_outside (view c.args.disk.now) (view c.find_files.new.disk) c.in_ok-found.found c.in_ok-found.ensures.has c.in_ok-found.ensures.found c.find_files.ensures.content file offset (c.stand.ensures.place file offset is whole all)
+
+pub returns-clause-outside : goal.returns-clause-outside
+returns-clause-outside g c = λ file offset is.
+    let view = g.D.Disk.disk in
+    no_site_there (view c.args.disk.now) (view c.find_files.new.disk) c.in_ok-found.found c.in_ok-found.ensures.has c.in_ok-found.ensures.found c.find_files.ensures.content file offset (c.stand.ensures.unsound file offset is)

@@ -1,1 +1,0 @@
-use Rattle.site_store.proofs.syncing.sync_both.Goals as goal
