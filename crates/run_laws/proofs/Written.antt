@@ -9,7 +9,7 @@ use Rattle.site_defs.specs.Contents.{Contents, Standing}
 use Rattle.site_defs.specs.Fronts.{turn_of}
 use Rattle.site_defs.specs.Lists.{Among}
 use Rattle.site_defs.specs.Opening.{opened, with_reign}
-use Rattle.world_defs.specs.World.{State, Down, Failed, Site, Place, World, Settled, is_site_named, name_on, place_of}
+use Rattle.world_defs.specs.World.{State, Down, Failed, Site, Place, World, CoversSo, AmongCoveredSo, Settled, is_site_named, name_on, place_of}
 use Rattle.world_defs.specs.Answers.{Section, Done, Ran}
 use Rattle.world_defs.specs.Changes.{in_new_state}
 use Rattle.world_defs.specs.Meaning.{apart, row_at}
@@ -58,7 +58,7 @@ starts_behind p c q d s t = one p.standings (d.behind t)
     writes : WritesDown (name_on p.site) (standing_now c) q
     writes = subst (λ (name : Name). WritesDown name (standing_now c) q) same (starts_from (name_on c.site) c q s (d.told ∙ t))
 
-    one : (x : Option (List Standing)) → IfSome x (λ os. Among os (standing_now c)) → IfSome x (λ os. (s : Standing) × Among os s × WritesDown (name_on p.site) s q)
+    one : (x : Option (List Standing)) → IfSome x (λ os. AmongCoveredSo os (standing_now c)) → IfSome x (λ os. (s : Standing) × AmongCoveredSo os s × WritesDown (name_on p.site) s q)
     one None a = tt
     one (Some os) a = (standing_now c, a, writes)
 
@@ -120,10 +120,10 @@ left_written s jobs order p c q l h t = one c.standings (l.within t) (h (l.told 
     same : name_on c.site ≡ name_on p.site
     same = ap name_on l.site ∙ name_in (Failed l.fault) p.site
 
-    one : (x : Option (List Standing)) → StandWithin p.now (turn_there s jobs p).sequence (turn_further s jobs order p).sequence x → IfSome x (λ os. (o : Standing) × Among os o × WritesDown (name_on c.site) o q)
-        → (o : Standing) × MayStand p.now (turn_there s jobs p).sequence (turn_further s jobs order p).sequence o × WritesDown (name_on p.site) o q
+    one : (x : Option (List Standing)) → StandWithin p.now (turn_there s jobs p).sequence (turn_further s jobs order p).sequence x → IfSome x (λ os. (o : Standing) × AmongCoveredSo os o × WritesDown (name_on c.site) o q)
+        → (o x : Standing) × MayStand p.now (turn_there s jobs p).sequence (turn_further s jobs order p).sequence o × CoversSo o x × WritesDown (name_on p.site) x q
     one None within writes = absurd within
-    one (Some os) within writes = (writes.0, within writes.0 writes.1, subst (λ (name : Name). WritesDown name writes.0 q) same writes.2)
+    one (Some os) within writes = let k = writes.1 in (k.0, writes.0, within k.0 k.1, k.2, subst (λ (name : Name). WritesDown name writes.0 q) same writes.2)
 
 pub faulted-written : (w v u m : World) (name : Name) (jobs : List (List Job)) (order : List ℕ) (s : Section) (fault pick : ℕ) (told text rest : List ℕ) (p q : Place) → Step w (Run name jobs order) (Ran s ∷ []) v told → s.fault ≡ Some fault
     → Step v (Crash name pick) (Done ∷ []) u text → Step u (StartPrimary name) (Done ∷ []) m rest → IsPlaceOf name w m p q → WritesWhatWasLeft s jobs order p q

@@ -5,9 +5,8 @@ use Rattle.global_defs.specs.Serial.{Turn}
 use Rattle.command_defs.specs.Commands.{Name}
 use Rattle.site_defs.specs.Behind.{MayStand}
 use Rattle.site_defs.specs.Contents.{Standing}
-use Rattle.site_defs.specs.Lists.{Among}
 use Rattle.site_defs.specs.Opening.{opened, with_reign}
-use Rattle.world_defs.specs.World.{Place, IfKnown, StandAfter, Settled, name_on}
+use Rattle.world_defs.specs.World.{Place, CoversSo, AmongCoveredSo, IfKnown, StandAfter, Settled, name_on}
 use Rattle.world_defs.specs.Answers.{Section}
 use Rattle.world_defs.specs.rows.Run.{one_further, turn_on}
 use Rattle.world_laws.specs.Entries.{turn_there}
@@ -20,9 +19,9 @@ pub record WritesDown (name : Name) (s : Standing) (q : Place) : Type 0 where
   -- and no image stands for anything else
   pub only : Settled q
 
--- Where the files are known, and what lies behind in each image, it's one of these.
+-- Where the files are known, and what lies behind in each image, it's one of these, or one that is covered by it: the same but for a lost-transaction file of which nothing is told.
 abbrev pub WritesOneOf : Place → Place → Type 0
-WritesOneOf p q = IfKnown p (IfSome p.standings (λ os. (s : Standing) × Among os s × WritesDown (name_on p.site) s q))
+WritesOneOf p q = IfKnown p (IfSome p.standings (λ os. (s : Standing) × AmongCoveredSo os s × WritesDown (name_on p.site) s q))
 
 -- the jobs as the section's picks and one more would have decided them
 abbrev pub turn_further : Section → List (List Job) → List ℕ → Place → Turn
@@ -31,7 +30,7 @@ turn_further s jobs order p = turn_on p.site jobs (one_further order s.picks) p
 -- Where the files are known: what a fault in the pick behind the section's may have left.
 abbrev pub WritesWhatWasLeft : Section → List (List Job) → List ℕ → Place → Place → Type 0
 WritesWhatWasLeft s jobs order p q =
-    IfKnown p ((o : Standing) × MayStand p.now (turn_there s jobs p).sequence (turn_further s jobs order p).sequence o × WritesDown (name_on p.site) o q)
+    IfKnown p ((o x : Standing) × MayStand p.now (turn_there s jobs p).sequence (turn_further s jobs order p).sequence o × CoversSo o x × WritesDown (name_on p.site) x q)
 
 -- What was broken behind the one is the newest broken-transaction file of the other, behind which nothing lies.
 pub record IsWrittenDown (s o : Standing) : Type 0 where

@@ -9,7 +9,8 @@ ghost use Rattle.world_defs.specs.Step.{Step, CutOff};
 ghost use Rattle.world_laws.specs.Entries.{IsPlaceOf};
 ghost use Rattle.run_laws.specs.Leftovers.{WritesOneOf, WritesWhatWasLeft, IsWrittenDown, IsWrittenDownBefore, IsLeftWithin, LeavesBehind};
 
-/// A START behind a crash writes down exactly what lay behind the sequence in the image that the crash took.
+/// A START behind a crash writes down exactly what lay behind the sequence in the image that the crash took. A standing covers it, which is
+/// the same but for a lost-transaction file of which nothing is told, as a ROLLBACK may leave one that failed.
 pub fn starts_write_what_lies_behind()
     // which is one that the site's disk could have
     ensures crashed { (w u m : World) (name : Name) (pick : ℕ) (text rest : List ℕ) (p q : Place) → Step w (Crash name pick) (Done ∷ []) u text → Step u (StartPrimary name) (Done ∷ []) m rest → IsPlaceOf name w m p q → WritesOneOf p q }

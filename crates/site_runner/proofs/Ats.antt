@@ -12,13 +12,14 @@ use Rattle.site_store.proofs.Found.{instance_one, site_instance, blank_instance,
 use Rattle.site_defs.specs.Lists.{Among}
 use Rattle.world_defs.specs.World as world
 use Rattle.command_defs.specs.Commands.{Name}
-use Rattle.world_defs.specs.World.{Place, Kept, StandAfter, StandAsBefore}
+use Rattle.world_defs.specs.World.{Place, Covers, CoversSo, has_failed, has_failed_on, Kept, StandAfter, StandAsBefore}
 use Rattle.site_defs.specs.Contents.{Contents, Leftover, Standing, NO_LEFTOVER, nothing, is_made, bare}
 use Rattle.world_defs.specs.Answers.{Cause, Stopped, Refusal, Section, Done, Refused, DiskFault, NotAFile, Ran, Typed, line, cause_text, refusal_line, fault_line, damage_line, Running}
 use Rattle.world_defs.specs.Row.{Row, first, in_state, or_else, refused_with, refusal_in, why_not_down}
 use Rattle.site_defs.specs.Fronts.{with_sequence}
 use Rattle.site_defs.specs.Opening.{IsBehind}
-use Rattle.world_defs.specs.Ties.{Matches}
+use Rattle.world_defs.specs.Changes.{in_new_state}
+use Rattle.world_defs.specs.Ties.{StandsBy, StandsSoBy, Matches}
 use Rattle.site_defs.specs.Stands.{IsSite, HasLeft, Stands, Reads}
 use Rattle.site_defs.specs.Behind.{IsStanding, IsSiteWith, StandsSo}
 use Rattle.site_runner.specs.declared.slot.State.{State}
@@ -26,7 +27,7 @@ use Rattle.site_runner.specs.declared.slot.State.TheVariants.{Down, Primary, Fai
 use Rattle.site_runner.specs.declared.slot.Site.{Site}
 use Rattle.site_runner.specs.declared.cause.Cause as code
 use Rattle.site_runner.specs.Causes.{cause_value}
-use Rattle.site_runner.specs.Sites.{state_value}
+use Rattle.site_runner.specs.Sites.{state_value, site_value}
 use Rattle.site_runner.specs.Executes.{Comes}
 use Rattle.site_runner.specs.Steps.{IsAt, ExecutesAt}
 
@@ -236,6 +237,67 @@ reads_image w law told =
     let s = files_of w.content told in
     (s.0, s.1, subst (λ (o : Option Files). IfSome o (λ files. w.since w.moment files)) s.1 law.as_read)
 
+-- Images of a site whose disk failed stand for what outcomes cover; those of any other site stand for outcomes.
+
+-- what the files stand for
+pub stands_for : (failed : Bool) (f : Files) (o : Contents) → StandsBy failed f o → (c : Contents) × Covers o c × Stands f c
+stands_for false f o h = (o, inl refl, h)
+stands_for true f o h = h
+
+pub stands_so_for : (failed : Bool) (f : Files) (o : Standing) → StandsSoBy failed f o → (s : Standing) × CoversSo o s × StandsSo f s
+stands_so_for false f o h = (o, record { contents = inl refl; broken = refl }, h)
+stands_so_for true f o h = h
+
+pub stands_by : (failed : Bool) (f : Files) (o : Contents) → Stands f o → StandsBy failed f o
+stands_by false f o h = h
+stands_by true f o h = (o, inl refl, h)
+
+pub stands_so_by : (failed : Bool) (f : Files) (o : Standing) → StandsSo f o → StandsSoBy failed f o
+stands_so_by false f o h = h
+stands_so_by true f o h = (o, record { contents = inl refl; broken = refl }, h)
+
+-- each image stands as one of these, by that, where they are known
+abbrev pub StandBy : Bool → View → Option (List Standing) → Type 0
+StandBy failed w x = IfSome x (λ os. (c : Files) → Image w c → (o : Standing) × Among os o × StandsSoBy failed c o)
+
+pub stand_by : (failed : Bool) (w : View) (x : Option (List Standing)) → IfSome x (λ os. (c : Files) → Image w c → (o : Standing) × Among os o × StandsSo c o) → StandBy failed w x
+stand_by failed w None h = tt
+stand_by failed w (Some os) h = λ c i. let o = h c i in (o.0, o.1, stands_so_by failed c o.0 o.2)
+
+-- so do those that there still are
+pub still_by : (failed : Bool) (v w : View) (x : Option (List Standing)) → ((c : Files) → Image w c → Image v c) → StandBy failed v x → StandBy failed w x
+still_by failed v w None from h = tt
+still_by failed v w (Some os) from h = λ c i. h c (from c i)
+
+-- a disk of which a call failed
+pub failed_by : (k : ℕ) (o : Option world.Site) (f : Files) (c : Contents) → StandsBy (has_failed_on o) f c → StandsBy (has_failed_on (in_new_state (world.Failed k) o)) f c
+failed_by k None f c h = h
+failed_by k (Some site) f c h = stands_for (has_failed site.state) f c h
+
+failed_so_by : (k : ℕ) (o : Option world.Site) (f : Files) (c : Standing) → StandsSoBy (has_failed_on o) f c → StandsSoBy (has_failed_on (in_new_state (world.Failed k) o)) f c
+failed_so_by k None f c h = h
+failed_so_by k (Some site) f c h = stands_so_for (has_failed site.state) f c h
+
+pub failed_stand : (k : ℕ) (o : Option world.Site) (w : View) (x : Option (List Standing)) → StandBy (has_failed_on o) w x → StandBy (has_failed_on (in_new_state (world.Failed k) o)) w x
+failed_stand k o w None h = tt
+failed_stand k o w (Some os) h = λ c i. let s = h c i in (s.0, s.1, failed_so_by k o c s.0 s.2)
+
+-- a site that is in a state of no failure
+pub up_in : (state : State) (s : Site) (p : Place) → has_failed (state_value state) ≡ false → s.state ≡ state → p.site ≡ Some (site_value s) → has_failed_on p.site ≡ false
+up_in state s p up e h = ap has_failed_on h ∙ ap (λ (x : State). has_failed (state_value x)) e ∙ up
+
+pub up_down : (s : Site) (p : Place) → s.state ≡ Down → p.site ≡ Some (site_value s) → has_failed_on p.site ≡ false
+up_down s p e h = up_in Down s p refl e h
+
+pub up_free : (p : Place) → p.site ≡ None → has_failed_on p.site ≡ false
+up_free p h = ap has_failed_on h
+
+pub images_of : (v : View) (p : Place) → has_failed_on p.site ≡ false → Matches v p → p.told ≡ true → (c : Files) → Image v c → (o : Contents) × Among p.outcomes o × Stands c o
+images_of v p up m sure c i = let o = m.images sure c i in (o.0, o.1, subst (λ (b : Bool). StandsBy b c o.0) up o.2)
+
+pub standings_of : (v : View) (p : Place) → has_failed_on p.site ≡ false → Matches v p → p.told ≡ true → IfSome p.standings (λ os. (c : Files) → Image v c → (o : Standing) × Among os o × StandsSo c o)
+standings_of v p up m sure = subst (λ (b : Bool). StandBy b v p.standings) up (m.standings sure)
+
 -- an image stands for some outcome
 pub some_outcome : (v : View) (p : Place) → IsLawful v → Matches v p → p.told ≡ true → (o : Contents) × Among p.outcomes o
 some_outcome v p law m sure =
@@ -247,7 +309,7 @@ some_outcome v p law m sure =
 pub some_standing : (v : View) (p : Place) → IsLawful v → Matches v p → p.told ≡ true → IfSome p.standings (λ os. (s : Standing) × Among os s)
 some_standing v p law m sure = among p.standings (m.standings sure)
   where
-    among : (x : Option (List Standing)) → IfSome x (λ os. (c : Files) → Image v c → (o : Standing) × Among os o × StandsSo c o) → IfSome x (λ os. (s : Standing) × Among os s)
+    among : (x : Option (List Standing)) → StandBy (has_failed_on p.site) v x → IfSome x (λ os. (s : Standing) × Among os s)
     among None h = tt
     among (Some os) h = let r = reads_image v law (told_is v.content _ (m.told sure)) in let o = h r.0 r.2 in (o.0, o.1)
 
@@ -280,7 +342,7 @@ images_still v w None from h = tt
 images_still v w (Some os) from h = λ c i. h c (from c i)
 
 -- what an image stands so is what it reads as
-standing_read : (leftovers : Leftovers) (one_only : StandForOne) (f : Files) (c : Contents) (left : Leftover) (o : Standing) → Reads f c left → StandsSo f o → o ≡ record { contents = c; broken = left.broken }
+pub standing_read : (leftovers : Leftovers) (one_only : StandForOne) (f : Files) (c : Contents) (left : Leftover) (o : Standing) → Reads f c left → StandsSo f o → o ≡ record { contents = c; broken = left.broken }
 standing_read leftovers one_only f c left o reads so =
     let same : o.contents ≡ c = one_only f o.contents c (so_stands f o so) (reads_stand f c left reads) in
     ap (λ (x : Contents). record { contents = x; broken = o.broken }) same ∙ ap (λ (t : List ℕ). record { contents = c; broken = t }) (by_case so reads same)
@@ -302,6 +364,10 @@ standing_there leftovers one_only f c left (Some os) reads h = subst (Among os) 
 pub at_image : (v : View) (f : Files) (x : Option (List Standing)) → Image v f → ImagesStand v x → IfSome x (λ os. (o : Standing) × Among os o × StandsSo f o)
 at_image v f None i h = tt
 at_image v f (Some os) i h = h f i
+
+pub at_image_by : (failed : Bool) (v : View) (f : Files) (x : Option (List Standing)) → Image v f → StandBy failed v x → IfSome x (λ os. (o : Standing) × Among os o × StandsSoBy failed f o)
+at_image_by failed v f None i h = tt
+at_image_by failed v f (Some os) i h = h f i
 
 -- what a disk that reads so stands so
 pub so_of : (f : Files) (c : Contents) (left : Leftover) → Reads f c left → StandsSo f (record { contents = c; broken = left.broken })
@@ -337,24 +403,30 @@ place_of_images leftovers w p site outcomes standings law same told images stand
         left = left.0;
         among = λ _. o.1;
         behind = λ _. leftovers.behind r.0 o.0 left.0 left.1;
-        matches = record { told = λ _. subst (λ (x : Option Files). IsSomeAnd x (λ files. Reads files o.0 left.0)) (sym r.1) left.1; images = images; standings = stand; shown = as_told w.content; faults = refl; simulated = same };
+        matches = record { told = λ _. subst (λ (x : Option Files). IsSomeAnd x (λ files. Reads files o.0 left.0)) (sym r.1) left.1; images = images_so; standings = stand_so; shown = as_told w.content; faults = refl; simulated = same };
       }
   | inr not ↦ record {
     now = p.now;
     left = p.left;
     among = λ sure. absurd (false≢true (sym not ∙ sure));
     behind = λ sure. absurd (false≢true (sym not ∙ sure));
-    matches = record { told = λ sure. absurd (false≢true (sym not ∙ sure)); images = images; standings = stand; shown = as_told w.content; faults = refl; simulated = same };
+    matches = record { told = λ sure. absurd (false≢true (sym not ∙ sure)); images = images_so; standings = stand_so; shown = as_told w.content; faults = refl; simulated = same };
   }
 ]
+  where
+    images_so : p.told ≡ true → (c : Files) → Image w c → (o : Contents) × Among outcomes o × StandsBy (has_failed_on site) c o
+    images_so sure c i = let o = images sure c i in (o.0, o.1, stands_by (has_failed_on site) c o.0 o.2)
+
+    stand_so : p.told ≡ true → StandBy (has_failed_on site) w standings
+    stand_so sure = stand_by (has_failed_on site) w standings (stand sure)
 
 -- a place with one outcome, for which the disk and each image stand, with nothing behind it
 pub place_of_one : (w : View) (p : Place) (site : Option world.Site) (o : Contents) → w.simulated ≡ p.simulated → (p.told ≡ true → IsSomeAnd w.content (λ files. Reads files o NO_LEFTOVER))
     → (p.told ≡ true → (c : Files) → Image w c → StandsSo c (bare o)) → Matches w (record { site = site; told = p.told; now = o; left = NO_LEFTOVER; outcomes = o ∷ []; standings = Some (bare o ∷ []); shown = w.content; faults = w.faults; simulated = p.simulated })
 place_of_one w p site o same reads images = record {
   told = reads;
-  images = λ sure c i. (o, inl refl, so_stands c (bare o) (images sure c i));
-  standings = λ sure c i. (bare o, inl refl, images sure c i);
+  images = λ sure c i. (o, inl refl, stands_by (has_failed_on site) c o (so_stands c (bare o) (images sure c i)));
+  standings = λ sure c i. (bare o, inl refl, stands_so_by (has_failed_on site) c (bare o) (images sure c i));
   shown = as_told w.content;
   faults = refl;
   simulated = same;

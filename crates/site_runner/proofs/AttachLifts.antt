@@ -26,7 +26,7 @@ use Rattle.site_runner.specs.Tied.{IsPlace, Tied}
 use Rattle.site_runner.specs.Executes.{Comes, ExecutesHere, Executes, IsCutOff}
 use Rattle.site_runner.specs.Looking.{fits, IsFoundBy, Finds, LooksHere, Tells}
 use Rattle.site_runner.specs.Attaching.{with_site, Takes}
-use Rattle.site_runner.proofs.Ats.{if_some, any_shown, is_true_or_false, comes_done, comes_refused, comes_may_refuse, comes_fault, comes_damaged}
+use Rattle.site_runner.proofs.Ats.{if_some, any_shown, is_true_or_false, comes_done, comes_refused, comes_may_refuse, comes_fault, comes_damaged, images_of, standings_of, up_free}
 use Rattle.site_runner.proofs.Stopped.{names_same}
 use Rattle.site_runner.proofs.Lifts.{means_there, means_none, place_of_slot, ActsBy, lifted, lifted_cut, refused_anywhere, cut_there, cut_no, cut_acts, cut_nothing}
 use Rattle.site_runner.proofs.Looked.{looked_cut}
@@ -137,9 +137,9 @@ item_set [] i s k = absurd (omega arith)
 item_set (x ∷ xs) zero s k = refl
 item_set (x ∷ xs) (suc i) s k = item_set xs i s (omega arith)
 
-attached : {D : Type 0} (view : D → View) (w : World) (p q : Place) (found : Layout) (s : Slot D) (before now : List ℕ) → Finds (Some found) p q → place_of w found.name ≡ None → IsPlace view s q
+attached : {D : Type 0} (view : D → View) (w : World) (p q : Place) (found : Layout) (s : Slot D) (before now : List ℕ) → Finds (Some found) p q → place_of w found.name ≡ None → q.site ≡ None → IsPlace view s q
     → now ≡ before ++ line found.name (codes "ATTACHED") → Comes (attach w p) (IsPlace view (with_site found.name s)) before now true
-attached view w p q found s before now f e at_q t =
+attached view w p q found s before now f e gone at_q t =
     let name = found.name in
     let site : world.Site = record { name = name; state = world.Down } in
     let told : q.told ≡ true → p.told ≡ true = λ known. sym f.kept.known.told ∙ known in
@@ -162,7 +162,7 @@ attached view w p q found s before now f e at_q t =
     })
     (any_shown p.shown)
     (record {
-      disk = record { told = at_q.disk.told; images = at_q.disk.images; standings = at_q.disk.standings; shown = at_q.disk.shown; faults = at_q.disk.faults; simulated = at_q.disk.simulated };
+      disk = record { told = at_q.disk.told; images = images_of (view s.disk) q (up_free q gone) at_q.disk; standings = standings_of (view s.disk) q (up_free q gone) at_q.disk; shown = at_q.disk.shown; faults = at_q.disk.faults; simulated = at_q.disk.simulated };
       site = refl;
       held = record { made = λ known. record { now = subst (IsOf name) (sym f.kept.now) (found_of found p.now (f.now (told known))); outcomes = λ o a. found_of found o (f.outcomes (told known) o a) }; state = tt };
     })
@@ -178,7 +178,7 @@ attach_found {D} view slots new i d s found None before now k f free free_still 
     subst (λ (x : List (Slot D)). Executes view Attach slots x before now) (sym new_is)
     (attach_lifted view slots i d (with_site found.name s) before now true k f (λ w h p at_p.
     let r = look p at_p in
-    attached view w p r.0 found s before now r.1 (place_of_slot view slots w found.name h ∙ search) r.2 t.1))
+    attached view w p r.0 found s before now r.1 (place_of_slot view slots w found.name h ∙ search) (r.2.site ∙ ap (option_map site_value) free_still) r.2 t.1))
 attach_found {D} view slots new i d s found (Some j) before now k f free free_still look e t =
     let search = sym (names_stay found.name slots i d s free free_still) ∙ e in
     subst (λ (x : List (Slot D)). Executes view Attach slots x before now) (sym t.0)

@@ -65,13 +65,13 @@ made_more : (rs more : List InstanceRecord) → nat_lt 0 (length rs) ≡ true �
 made_more [] more e = absurd (false≢true e)
 made_more (r ∷ rs) more e = le-leb 1 (length ((r ∷ rs) ++ more)) (omega arith)
 
-of_more : (name : Name) (c d : Contents) (more : List InstanceRecord) → d.instance ≡ c.instance ++ more → IsOf name c → IsOf name d
+pub of_more : (name : Name) (c d : Contents) (more : List InstanceRecord) → d.instance ≡ c.instance ++ more → IsOf name c → IsOf name d
 of_more name c d more e h = record {
   made = ap (λ (rs : List InstanceRecord). nat_lt 0 (length rs)) e ∙ made_more c.instance more h.made;
   name = ap site_name e ∙ name_more c.instance more h.made ∙ h.name;
 }
 
-of_starts : (name : Name) (broken : List ℕ) (k : ℕ) (c : Contents) → IsOf name c → IsOf name (with_starts k (cut_there broken c))
+pub of_starts : (name : Name) (broken : List ℕ) (k : ℕ) (c : Contents) → IsOf name c → IsOf name (with_starts k (cut_there broken c))
 of_starts name broken k c h = of_more name c (with_starts k (cut_there broken c)) (Cut (length c.sequence) (generation c.instance + 1) ∷ []) refl h
 
 pub of_opened : (name : Name) (broken : List ℕ) (c : Contents) → IsOf name c → IsOf name (opened broken c)
@@ -98,7 +98,7 @@ abbrev pub starts_up_to : ℕ → Contents → List Contents
 starts_up_to zero c = with_starts 0 c ∷ []
 starts_up_to (suc n) c = with_starts (suc n) c ∷ starts_up_to n c
 
-among_starts : (n : ℕ) (c o : Contents) → Among (starts_up_to n c) o → (k : ℕ) × (o ≡ with_starts k c)
+pub among_starts : (n : ℕ) (c o : Contents) → Among (starts_up_to n c) o → (k : ℕ) × (o ≡ with_starts k c)
 among_starts zero c o (inl e) = (0, e)
 among_starts zero c o (inr h) = absurd h
 among_starts (suc n) c o (inl e) = (suc n, e)
@@ -123,14 +123,14 @@ no_more_starts k c past =
     let n = length (regions c.instance) in
     let here : (r : ℕ) → c.starts r ++ starts_in k c r ≡ c.starts r ++ starts_in n c r = λ r.
     ap (λ (b : Bool). c.starts r ++ (if b then start_of c r ∷ [] else [])) (twice (nat_lt r k) (nat_lt r n) (λ t. let low = ltb-true r n t in lt-ltb r k (omega (arith, low, past)))) in
-    ap (λ (f : ℕ → List Start). record { instance = c.instance; starts = f; epochs = c.epochs; texts = c.texts; sequence = c.sequence }) (fun_ext here)
+    ap (λ (f : ℕ → List Start). record { instance = c.instance; starts = f; epochs = c.epochs; texts = c.texts; losts = c.losts; sequence = c.sequence }) (fun_ext here)
 
 few_or_more : (k n : ℕ) → (k ≤ n) ⊎ (n ≤ k)
 few_or_more zero n = inl (omega arith)
 few_or_more (suc k) zero = inr (omega arith)
 few_or_more (suc k) (suc n) = elim (few_or_more k n) [ inl a ↦ inl (omega (arith, a)) | inr b ↦ inr (omega (arith, b)) ]
 
-any_among : (k : ℕ) (c o : Contents) → o ≡ with_starts k c → Among (starts_up_to (length (regions c.instance)) c) o
+pub any_among : (k : ℕ) (c o : Contents) → o ≡ with_starts k c → Among (starts_up_to (length (regions c.instance)) c) o
 any_among k c o e = elim (few_or_more k (length (regions c.instance))) [
   | inl few ↦ starts_among (length (regions c.instance)) k c o few e
   | inr past ↦ starts_among (length (regions c.instance)) (length (regions c.instance)) c o (omega arith) (e ∙ no_more_starts k c past)
@@ -165,7 +165,7 @@ begins_among name broken (d ∷ cs) c o (inr a) m = inr (inr (among_second (star
 -- the same of standings, each with its own text
 
 -- with a CUT and its text, and the newest generation begun in the first regions
-abbrev cut_so : Standing → List Standing
+abbrev pub cut_so : Standing → List Standing
 cut_so s = map bare (starts_up_to (length (regions (cut_there s.broken s.contents).instance)) (cut_there s.broken s.contents))
 
 abbrev begins_each : Name → List Standing → List Standing

@@ -6,9 +6,11 @@ use Rattle.std.specs.Fmt.{decimal}
 use Rattle.disk_defs.specs.Disk.{Files, View, Image, IsLawful, Reads}
 use Rattle.site_defs.specs.Lists.{Among}
 use Rattle.world_defs.specs.World as world
-use Rattle.world_defs.specs.World.{Place}
+use Rattle.world_defs.specs.World.{Place, Covers, CoversSo, AmongCovered, AmongCoveredSo, has_failed_on}
 use Rattle.site_defs.specs.Contents.{Contents, Leftover, Standing}
 use Rattle.world_defs.specs.Answers.{Cause, NotSimulated, line}
+use Rattle.world_defs.specs.Ties.{StandsBy, StandsSoBy}
+use Rattle.command_defs.specs.Commands.{Name}
 use Rattle.world_defs.specs.Row.{refused_with, stopped, not_running, not_simulated}
 use Rattle.world_defs.specs.Changes.{in_new_state}
 use Rattle.world_defs.specs.rows.Crash.{crash}
@@ -22,7 +24,7 @@ use Rattle.site_runner.specs.declared.slot.Site.{Site}
 use Rattle.site_runner.specs.Sites.{state_value, IsOf}
 use Rattle.site_runner.specs.Steps.{IsAt, ExecutesAt}
 use Rattle.site_runner.proofs.Fused.{state_read}
-use Rattle.site_runner.proofs.Ats.{comes_done, not_early, state_at, first_cause, second_cause, no_cause, is_true_or_false, Leftovers, reads_stand, only, files_of, kept_same, images_still, as_told, shown_same, StandForOne, standing_there, at_image, so_of}
+use Rattle.site_runner.proofs.Ats.{comes_done, not_early, state_at, first_cause, second_cause, no_cause, is_true_or_false, Leftovers, reads_stand, only, files_of, kept_same, as_told, shown_same, StandForOne, standing_read, at_image_by, so_of, stands_for, stands_so_for, stands_by, stands_so_by, still_by}
 
 pub fuse_stopped : (v : View) (s : Site) (calls : ℕ) (cause : Cause) (p : Place) → stopped (state_value s.state) ≡ Some cause → IsAt v s p → (fuse calls s.name p).early ≡ refused_with s.name (Some cause)
 fuse_stopped v s calls cause p e h = ap (refused_with s.name) (first_cause _ _ cause (state_at stopped v s p h ∙ e))
@@ -43,17 +45,31 @@ crash_real v s p e f h = ap (refused_with s.name) (second_cause _ _ [] NotSimula
 record CrashPlace (f : Files) (p : Place) : Type 0 where
   now : Contents
   left : Leftover
-  among : p.told ≡ true → Among p.outcomes now
+  among : p.told ≡ true → AmongCovered p.outcomes now
   behind : p.told ≡ true → IsBehind now left
   reads : p.told ≡ true → stands.Reads f now left
-  so : p.told ≡ true → IfSome p.standings (λ os. Among os (record { contents = now; broken = left.broken }))
+  so : p.told ≡ true → IfSome p.standings (λ os. AmongCoveredSo os (record { contents = now; broken = left.broken }))
 
-crash_place : (leftovers : Leftovers) (one_only : StandForOne) (f : Files) (p : Place) → (p.told ≡ true → (o : Contents) × Among p.outcomes o × Stands f o) → (p.told ≡ true → IfSome p.standings (λ os. (o : Standing) × Among os o × StandsSo f o)) → CrashPlace f p
+-- what covers the image's standing covers what it reads as
+covered_there : (leftovers : Leftovers) (one_only : StandForOne) (f : Files) (c : Contents) (left : Leftover) (failed : Bool) (x : Option (List Standing)) → stands.Reads f c left → IfSome x (λ os. (o : Standing) × Among os o × StandsSoBy failed f o)
+    → IfSome x (λ os. AmongCoveredSo os (record { contents = c; broken = left.broken }))
+covered_there leftovers one_only f c left failed None reads h = tt
+covered_there leftovers one_only f c left failed (Some os) reads h =
+    let s = stands_so_for failed f h.0 h.2 in
+    (h.0, h.1, subst (CoversSo h.0) (standing_read leftovers one_only f c left s.0 reads s.2) s.1)
+
+-- it is of the same site
+of_covered : (name : Name) (o c : Contents) → Covers o c → IsOf name o → IsOf name c
+of_covered name o c (inl same) h = subst (IsOf name) (sym same) h
+of_covered name o c (inr told) h = subst (IsOf name) (sym told.is) (record { made = h.made; name = h.name })
+
+crash_place : (leftovers : Leftovers) (one_only : StandForOne) (f : Files) (p : Place) → (p.told ≡ true → (o : Contents) × Among p.outcomes o × StandsBy (has_failed_on p.site) f o) → (p.told ≡ true → IfSome p.standings (λ os. (o : Standing) × Among os o × StandsSoBy (has_failed_on p.site) f o)) → CrashPlace f p
 crash_place leftovers one_only f p images standing = elim (is_true_or_false p.told) [
   | inl sure ↦
       let o = images sure in
-      let left = leftovers.reads f o.0 o.2 in
-      record { now = o.0; left = left.0; among = λ _. o.1; behind = λ _. leftovers.behind f o.0 left.0 left.1; reads = λ _. left.1; so = λ yes. standing_there leftovers one_only f o.0 left.0 p.standings left.1 (standing yes) }
+      let c = stands_for (has_failed_on p.site) f o.0 o.2 in
+      let left = leftovers.reads f c.0 c.2 in
+      record { now = c.0; left = left.0; among = λ _. (o.0, o.1, c.1); behind = λ _. leftovers.behind f c.0 left.0 left.1; reads = λ _. left.1; so = λ yes. covered_there leftovers one_only f c.0 left.0 (has_failed_on p.site) p.standings left.1 (standing yes) }
   | inr not ↦ record {
     now = p.now;
     left = p.left;
@@ -72,8 +88,9 @@ crashes leftovers one_only v w s before now law sim up image durable same count 
     let f : Files = d.0 in
     let i : Image v f = subst (λ (o : Option Files). IfSome o (Image v)) d.1 image in
     let u : (c : Files) → Image w c → c ≡ f = subst (λ (o : Option Files). IfSome o (λ files. (c : Files) → Image w c → c ≡ files)) d.1 durable in
-    let m = crash_place leftovers one_only f p (λ yes. h.disk.images yes f i) (λ yes. at_image v f p.standings i (h.disk.standings yes)) in
+    let m = crash_place leftovers one_only f p (λ yes. h.disk.images yes f i) (λ yes. at_image_by (has_failed_on p.site) v f p.standings i (h.disk.standings yes)) in
     let o : Contents = m.now in
+    let of : p.told ≡ true → IsOf s.name o = λ yes. let c = m.among yes in of_covered s.name c.0 o c.2 ((h.held.made yes).outcomes c.0 c.1) in
     let stands_so : Standing = record { contents = o; broken = m.left.broken } in
     let q : Place = record { site = in_new_state world.Down p.site; told = p.told; now = o; left = m.left; outcomes = o ∷ []; standings = Some (stands_so ∷ []); shown = w.content; faults = p.faults; simulated = p.simulated } in
     comes_done
@@ -85,18 +102,15 @@ crashes leftovers one_only v w s before now law sim up image durable same count 
     record {
       disk = record {
         told = λ yes. subst (λ (x : Option Files). IsSomeAnd x (λ files. stands.Reads files o m.left)) (sym d.1) (m.reads yes);
-        images = λ yes c j. (o, inl refl, subst (λ (x : Files). Stands x o) (sym (u c j)) (reads_stand f o m.left (m.reads yes)));
-        standings = λ yes c j. (stands_so, inl refl, subst (λ (x : Files). StandsSo x stands_so) (sym (u c j)) (so_of f o m.left (m.reads yes)));
+        images = λ yes c j. (o, inl refl, stands_by (has_failed_on q.site) c o (subst (λ (x : Files). Stands x o) (sym (u c j)) (reads_stand f o m.left (m.reads yes))));
+        standings = λ yes c j. (stands_so, inl refl, stands_so_by (has_failed_on q.site) c stands_so (subst (λ (x : Files). StandsSo x stands_so) (sym (u c j)) (so_of f o m.left (m.reads yes))));
         shown = as_told w.content;
         faults = count ∙ h.disk.faults;
         simulated = same ∙ h.disk.simulated;
       };
       site = ap (in_new_state world.Down) h.site;
       held = record {
-        made = λ yes. record {
-          now = (h.held.made yes).outcomes o (m.among yes);
-          outcomes = λ x j. subst (IsOf s.name) (sym (only x o j)) ((h.held.made yes).outcomes o (m.among yes));
-        };
+        made = λ yes. record { now = of yes; outcomes = λ x j. subst (IsOf s.name) (sym (only x o j)) (of yes) };
         state = tt;
       };
     }
@@ -119,7 +133,7 @@ fused v w s calls before now r count sim up t p h =
         images = λ yes c j.
             let k = r.passes.images c j in
             h.disk.images yes c (subst (Image v) (sym k.2) k.1);
-        standings = λ yes. images_still v w p.standings (λ c j. let k = r.passes.images c j in subst (Image v) (sym k.2) k.1) (h.disk.standings yes);
+        standings = λ yes. still_by (has_failed_on p.site) v w p.standings (λ c j. let k = r.passes.images c j in subst (Image v) (sym k.2) k.1) (h.disk.standings yes);
         shown = shown_same p.shown v.content w.content r.content h.disk.shown;
         faults = count ∙ h.disk.faults;
         simulated = r.passes.simulated ∙ h.disk.simulated;

@@ -41,7 +41,7 @@ use Rattle.site_runner.specs.Executes.{ExecutesHere, IsCutHere}
 use Rattle.site_runner.specs.Looking.{fits, IsFoundBy, Finds, LooksHere, Tells}
 use Rattle.site_runner.specs.Creating.{spec_of, IsUnmade, MakesHere, MakingIsCut}
 use Rattle.site_runner.proofs.Ats.{comes_done, comes_refused, comes_may_refuse, comes_fault, comes_damaged, some_outcome, is_true_or_false, some_both, some_of, some_and, told_is, stands_told, at_moment, Leftovers, ReadPlace, place_of_images, place_of_one, only}
-use Rattle.site_runner.proofs.Ats.{some_standing, stand_same, stand_more, stand_earlier, left_old, left_new, by_shown, if_some, ImagesStand}
+use Rattle.site_runner.proofs.Ats.{images_of, standings_of, up_free, some_standing, stand_same, stand_more, stand_earlier, left_old, left_new, by_shown, if_some, ImagesStand}
 use Rattle.site_runner.proofs.Looked.{some_and_of, none_held, site_none}
 
 -- the regions of a command
@@ -52,7 +52,7 @@ regions_same (r ∷ rs) = ap (λ (xs : List NamedMode). record { name = r.0; bef
 
 made_is : (name : Name) (specs : List RegionSpec) (rs : List (List ℕ × Bool)) → specs ≡ map spec_of rs → made name specs ≡ created name (map script.region_value rs)
 made_is name specs rs e =
-    ap (λ (xs : List NamedMode). record { instance = records.Create name xs ∷ []; starts = λ r. []; epochs = λ r. []; texts = []; sequence = [] }) (ap (λ (s : List RegionSpec). map store.region_value s) e ∙ regions_same rs)
+    ap (λ (xs : List NamedMode). record { instance = records.Create name xs ∷ []; starts = λ r. []; epochs = λ r. []; texts = []; losts = []; sequence = [] }) (ap (λ (s : List RegionSpec). map store.region_value s) e ∙ regions_same rs)
 
 -- a name of the grammar is a site's
 is_site_name : (s : List ℕ) → is_name s ≡ true → IsSiteName s
@@ -117,7 +117,7 @@ made_site leftovers view old disk name specs rs before now are free reads images
     let b = some_both v.content _ _ (stands_told v p h.disk known) reads in
     some_and w.content (λ files. IsSite files (made name specs)) (λ files. Reads files o NO_LEFTOVER) (λ f s. let x : IsSite f o = subst (IsSite f) e s in inr (x, leftovers.unbegun f o x refl))
     (some_and_of w.content (λ files. IsSite files (made name specs)) (still (told_is v.content _ (h.disk.told known))) (b.2 (is_blank b.0 p.now (u.now known) b.1).1)) in
-    let blank : p.told ≡ true → (f : Files) → Image v f → IsBlank f = λ known f i. let x = h.disk.images known f i in (is_blank f x.0 (u.outcomes known x.0 x.1) x.2).1 in
+    let blank : p.told ≡ true → (f : Files) → Image v f → IsBlank f = λ known f i. let x = images_of v p (up_free p (site_none view old p free h)) h.disk known f i in (is_blank f x.0 (u.outcomes known x.0 x.1) x.2).1 in
     let images_so : p.told ≡ true → (c : Files) → Image w c → StandsSo c (bare o) = λ known c i.
     let b = some_both v.content _ _ (stands_told v p h.disk known) images in
     made_so leftovers c name regions (subst (IsSite c) e (b.2 (is_blank b.0 p.now (u.now known) b.1).1 (blank known) c i)) in
@@ -143,12 +143,12 @@ pub record IsMaking (v w : View) (name : Name) (specs : List RegionSpec) : Type 
   pub later : v.faults ≤ w.faults
 
 -- each image is of a blank disk or of the new site
-making_images : (v w : View) (p : Place) (name : Name) (specs : List RegionSpec) (o : Contents) → IsMaking v w name specs → made name specs ≡ o → Matches v p → IsUnmade p → p.told ≡ true
+making_images : (v w : View) (p : Place) (name : Name) (specs : List RegionSpec) (o : Contents) → IsMaking v w name specs → made name specs ≡ o → p.site ≡ None → Matches v p → IsUnmade p → p.told ≡ true
     → (c : Files) → Image w c → (x : Contents) × Among (o ∷ p.outcomes) x × Stands c x
-making_images v w p name specs o k e m u known c i =
+making_images v w p name specs o k e free m u known c i =
     let each = some_of v.content (AtEachMoment v w (MayMake v name specs)) (told_is v.content _ (m.told known)) k.any_moment in
     let from = at_moment v w (MayMake v name specs) c k.lawful each i in
-    let x = m.images known from.0 from.1 in
+    let x = images_of v p (up_free p free) m known from.0 from.1 in
     let n = is_blank from.0 x.0 (u.outcomes known x.0 x.1) x.2 in
     elim (from.2 n.1) [ inl blank ↦ (x.0, inr x.1, inl (n.0, blank)) | inr site ↦ (o, inl refl, inr (subst (IsSite c) e site)) ]
 
@@ -157,9 +157,9 @@ abbrev making_standings : Contents → Option (List Standing) → Option (List S
 making_standings o None = None
 making_standings o (Some os) = Some (bare o ∷ os)
 
-making_so : (leftovers : Leftovers) (v w : View) (p : Place) (name : Name) (specs : List RegionSpec) (regions : List Region) → IsMaking v w name specs → made name specs ≡ created name regions → Matches v p → IsUnmade p → p.told ≡ true
+making_so : (leftovers : Leftovers) (v w : View) (p : Place) (name : Name) (specs : List RegionSpec) (regions : List Region) → IsMaking v w name specs → made name specs ≡ created name regions → p.site ≡ None → Matches v p → IsUnmade p → p.told ≡ true
     → ImagesStand w (making_standings (created name regions) p.standings)
-making_so leftovers v w p name specs regions k e m u known = among p.standings (m.standings known)
+making_so leftovers v w p name specs regions k e free m u known = among p.standings (standings_of v p (up_free p free) m known)
   where
     o : Contents
     o = created name regions
@@ -169,7 +169,7 @@ making_so leftovers v w p name specs regions k e m u known = among p.standings (
     among (Some os) h = λ c i.
         let each = some_of v.content (AtEachMoment v w (MayMake v name specs)) (told_is v.content _ (m.told known)) k.any_moment in
         let from = at_moment v w (MayMake v name specs) c k.lawful each i in
-        let x = m.images known from.0 from.1 in
+        let x = images_of v p (up_free p free) m known from.0 from.1 in
         let n = is_blank from.0 x.0 (u.outcomes known x.0 x.1) x.2 in
         let s = h from.0 from.1 in
         elim (from.2 n.1) [
@@ -189,11 +189,11 @@ new_or_old : (name : Name) (regions : List Region) (p : Place) (o : Contents) �
 new_or_old name regions p o some (inl h) = (some.0, some.1, inr h)
 new_or_old name regions p o some (inr h) = (o, h, inl refl)
 
-making_left : (leftovers : Leftovers) (v w : View) (p : Place) (name : Name) (specs : List RegionSpec) (regions : List Region) → IsMaking v w name specs → made name specs ≡ created name regions → Matches v p → IsUnmade p
+making_left : (leftovers : Leftovers) (v w : View) (p : Place) (name : Name) (specs : List RegionSpec) (regions : List Region) → IsMaking v w name specs → made name specs ≡ created name regions → p.site ≡ None → Matches v p → IsUnmade p
     → ReadPlace w p p.site (created name regions ∷ p.outcomes) (making_standings (created name regions) p.standings)
-making_left leftovers v w p name specs regions k e m u =
+making_left leftovers v w p name specs regions k e free m u =
     let o : Contents = created name regions in
-    place_of_images leftovers w p p.site (o ∷ p.outcomes) (making_standings o p.standings) k.lawful (k.simulated ∙ m.simulated) (λ known. k.still_told (told_is v.content _ (m.told known))) (making_images v w p name specs o k e m u) (making_so leftovers v w p name specs regions k e m u)
+    place_of_images leftovers w p p.site (o ∷ p.outcomes) (making_standings o p.standings) k.lawful (k.simulated ∙ m.simulated) (λ known. k.still_told (told_is v.content _ (m.told known))) (making_images v w p name specs o k e free m u) (making_so leftovers v w p name specs regions k e free m u)
 
 abbrev pub Unwritten : SiteError → View → View → Type 0
 Unwritten (Failed fault) v w = (fault ≡ w.faults) × Rose v.faults w.faults
@@ -222,7 +222,7 @@ make_failed leftovers view old disk name specs rs (Failed fault) before now k ar
     let w = view disk in
     let regions = map script.region_value rs in
     let o : Contents = created name regions in
-    let m = making_left leftovers (view old.disk) w p name specs regions k (made_is name specs rs are) h.disk u in
+    let m = making_left leftovers (view old.disk) w p name specs regions k (made_is name specs rs are) (site_none view old p free h) h.disk u in
     let q : Place = record { site = p.site; told = p.told; now = m.now; left = m.left; outcomes = o ∷ p.outcomes; standings = making_standings o p.standings; shown = w.content; faults = w.faults; simulated = p.simulated } in
     let some = some_outcome (view old.disk) p k.was_lawful h.disk in
     comes_fault
@@ -246,11 +246,11 @@ make_failed leftovers view old disk name specs rs ReignLimit before now k are fr
 make_failed leftovers view old disk name specs rs (NotAFile file offset) before now k are free f t p h u = absurd f
 make_failed leftovers view old disk name specs rs NoMemory before now k are free f t p h u = absurd t
 
-pub make_cut : {D : Type 0} (leftovers : Leftovers) (view : D → View) (old new : Slot D) (name : List ℕ) (specs : List RegionSpec) (rs : List (List ℕ × Bool)) → IsMaking (view old.disk) (view new.disk) name specs → specs ≡ map spec_of rs
+pub make_cut : {D : Type 0} (leftovers : Leftovers) (view : D → View) (old new : Slot D) (name : List ℕ) (specs : List RegionSpec) (rs : List (List ℕ × Bool)) → IsMaking (view old.disk) (view new.disk) name specs → specs ≡ map spec_of rs → old.site ≡ None
     → MakingIsCut view name (map script.region_value rs) old new
-make_cut leftovers view old new name specs rs k are p h u =
+make_cut leftovers view old new name specs rs k are free p h u =
     let regions = map script.region_value rs in
-    let m = making_left leftovers (view old.disk) (view new.disk) p name specs regions k (made_is name specs rs are) h.disk u in (
+    let m = making_left leftovers (view old.disk) (view new.disk) p name specs regions k (made_is name specs rs are) (site_none view old p free h) h.disk u in (
       record { site = p.site; told = p.told; now = m.now; left = m.left; outcomes = created name regions ∷ p.outcomes; standings = making_standings (created name regions) p.standings; shown = (view new.disk).content; faults = (view new.disk).faults; simulated = p.simulated },
       record {
         told = refl;

@@ -82,7 +82,7 @@ number_found region c found n h e = ap (first_where (λ r. same_name r.name regi
 
 -- contents with the regions that were found
 pub some_contents : (region : Name) (found : Layout) (number : ℕ) → Some number ≡ first_where (λ r. same_name r.name region) (map region_value (take found.directory.regions found.regions.items)) → (c : Contents) × (region_number region c ≡ Some number)
-some_contents region found number e = (record { instance = Create [] (map region_value (take found.directory.regions found.regions.items)) ∷ []; starts = λ r. []; epochs = λ r. []; texts = []; sequence = [] }, sym e)
+some_contents region found number e = (record { instance = Create [] (map region_value (take found.directory.regions found.regions.items)) ∷ []; starts = λ r. []; epochs = λ r. []; texts = []; losts = []; sequence = [] }, sym e)
 
 twice_by : (b : Bool) → b ≡ true → (if b then Some TwiceMapped else None) ≡ Some TwiceMapped
 twice_by true e = refl
@@ -120,7 +120,7 @@ free_in (Some f) region number text found h none inside e once = λ c site. free
 
 -- contents with these records
 abbrev of_records : List InstanceRecord → Contents
-of_records rs = record { instance = rs; starts = λ r. []; epochs = λ r. []; texts = []; sequence = [] }
+of_records rs = record { instance = rs; starts = λ r. []; epochs = λ r. []; texts = []; losts = []; sequence = [] }
 
 refused_by : (w : View) (region : Name) (text : List ℕ) (name : Name) (rs : List InstanceRecord) (cause : Cause) → IfSome w.content (λ files. IsInstance (files INSTANCE) rs) → site_name rs ≡ name → unmapped_by region text rs ≡ Some cause
     → IfSome w.content (UnmappedBy region text name cause)

@@ -36,3 +36,6 @@ pub mod Patterns
 pub mod Mapped
 pub mod Found
 pub mod Printed
+pub mod Leaving
+pub mod Recovered
+pub mod Rolled

@@ -11,7 +11,7 @@ use Rattle.site_store.specs.Finding.{IsFound}
 use Rattle.site_store.specs.Opening.{StandsAsBefore}
 use Rattle.command_defs.specs.Commands.{Name}
 use Rattle.site_defs.specs.Lists.{Among}
-use Rattle.world_defs.specs.World.{Place}
+use Rattle.world_defs.specs.World.{Place, has_failed_on}
 use Rattle.world_defs.specs.Shown.{IsNoSite}
 use Rattle.world_defs.specs.Row.{Row}
 use Rattle.site_defs.specs.Contents.{Contents, Leftover, is_made, same_name}
@@ -24,7 +24,7 @@ use Rattle.site_runner.specs.Sites.{site_value, HoldsSite}
 use Rattle.site_runner.specs.Tied.{IsPlace}
 use Rattle.site_runner.specs.Executes.{IsCutHere}
 use Rattle.site_runner.specs.Looking.{fits, IsFoundBy, LeavesOld, Sees, LooksHere}
-use Rattle.site_runner.proofs.Ats.{not_true, told_is, some_both, some_of, stands_told, at_moment, Leftovers, place_of_images, stand_same, left_old, ImagesStand, images_still, shown_same, by_shown}
+use Rattle.site_runner.proofs.Ats.{not_true, told_is, some_both, some_of, stands_told, at_moment, Leftovers, place_of_images, stand_same, left_old, ImagesStand, images_still, images_of, standings_of, stands_by, stand_by, up_free, shown_same, by_shown}
 
 pub same_self : (a : Name) → same_name a a ≡ true
 same_self [] = refl
@@ -77,16 +77,16 @@ pub record IsLook (v w : View) : Type 1 where
   pub later : v.faults ≤ w.faults
 
 -- each image stands for what one stood for before
-look_images : (v w : View) (p : Place) → IsLook v w → Matches v p → p.told ≡ true → (c : Files) → Image w c → (o : Contents) × Among p.outcomes o × Stands c o
-look_images v w p k m known c i =
+look_images : (v w : View) (p : Place) → p.site ≡ None → IsLook v w → Matches v p → p.told ≡ true → (c : Files) → Image w c → (o : Contents) × Among p.outcomes o × Stands c o
+look_images v w p free k m known c i =
     let each = some_of v.content (AtEachMoment v w (StandsAsBefore v)) (told_is v.content _ (m.told known)) k.any_moment in
     let from = at_moment v w (StandsAsBefore v) c k.lawful each i in
-    let o = m.images known from.0 from.1 in
+    let o = images_of v p (up_free p free) m known from.0 from.1 in
     (o.0, o.1, from.2 o.0 o.2)
 
 -- and as it stood before
-look_standings : (v w : View) (p : Place) → IsLook v w → Matches v p → p.told ≡ true → ImagesStand w p.standings
-look_standings v w p k m known = images_still v w p.standings (λ c i. at_moment v w (Image v) c k.lawful k.untouched i) (m.standings known)
+look_standings : (v w : View) (p : Place) → p.site ≡ None → IsLook v w → Matches v p → p.told ≡ true → ImagesStand w p.standings
+look_standings v w p free k m known = images_still v w p.standings (λ c i. at_moment v w (Image v) c k.lawful k.untouched i) (standings_of v p (up_free p free) m known)
 
 pub none_held : {D : Type 0} (view : D → View) (slot : Slot D) (q : Place) → slot.site ≡ None → HoldsSite (view slot.disk) slot.site q
 none_held view slot q free = subst (λ (o : Option Site). HoldsSite (view slot.disk) o q) (sym free) tt
@@ -121,10 +121,10 @@ saw view old disk found k free is same alike holds p h =
         disk = record {
           told = λ known. subst (λ (x : Option Files). IsSomeAnd x (λ files. Reads files p.now p.left)) (sym same) (h.disk.told known);
           images = λ known c i.
-              let o = look_images v w p k h.disk known c i in
+              let o = look_images v w p (site_none view old p free h) k h.disk known c i in
               let b = some_both v.content _ _ (stands_told v p h.disk known) alike in
-              (o.0, kept_among (fits found) p.outcomes o.0 o.1 (fits_alike found p.now o.0 (b.2 p.now o.0 c b.1 i o.2) ∙ now known), o.2);
-          standings = λ known. look_standings v w p k h.disk known;
+              (o.0, kept_among (fits found) p.outcomes o.0 o.1 (fits_alike found p.now o.0 (b.2 p.now o.0 c b.1 i o.2) ∙ now known), stands_by (has_failed_on p.site) c o.0 o.2);
+          standings = λ known. stand_by (has_failed_on p.site) w p.standings (look_standings v w p (site_none view old p free h) k h.disk known);
           shown = shown_same p.shown v.content w.content same h.disk.shown;
           faults = refl;
           simulated = k.simulated ∙ h.disk.simulated;
@@ -141,7 +141,7 @@ looked_before : {D : Type 0} (leftovers : Leftovers) (view : D → View) (old : 
 looked_before leftovers view old disk p k free h =
     let v = view old.disk in
     let w = view disk in
-    let m = place_of_images leftovers w p p.site p.outcomes p.standings k.lawful (k.simulated ∙ h.disk.simulated) (λ known. k.still_told (told_is v.content _ (h.disk.told known))) (λ known c i. look_images v w p k h.disk known c i) (λ known. look_standings v w p k h.disk known) in
+    let m = place_of_images leftovers w p p.site p.outcomes p.standings k.lawful (k.simulated ∙ h.disk.simulated) (λ known. k.still_told (told_is v.content _ (h.disk.told known))) (λ known c i. look_images v w p (site_none view old p free h) k h.disk known c i) (λ known. look_standings v w p (site_none view old p free h) k h.disk known) in
     let q : Place = record { site = p.site; told = p.told; now = m.now; left = m.left; outcomes = p.outcomes; standings = p.standings; shown = w.content; faults = w.faults; simulated = p.simulated } in
     (m.now, m.left, m.among, m.behind, record { disk = m.matches; site = h.site; held = none_held view (record { disk = disk; site = old.site }) q free })
 

@@ -9,7 +9,7 @@ use Rattle.site_store.specs.Opening.{StandsAsBefore, MayHavePattern, EachStands}
 use Rattle.command_defs.specs.Commands.{Name}
 use Rattle.site_defs.specs.Lists.{Among, first_where}
 use Rattle.world_defs.specs.World as world
-use Rattle.world_defs.specs.World.{Place, IfShown, StandAfter}
+use Rattle.world_defs.specs.World.{Place, has_failed_on, IfShown, StandAfter}
 use Rattle.site_defs.specs.Contents.{Contents, Leftover, Standing, NO_LEFTOVER, is_made, same_name, bare}
 use Rattle.world_defs.specs.Answers.{Cause, Running, Stopped, Refusal, line, cause_text}
 use Rattle.world_defs.specs.Shown.{HasNoLayout, IsOfAnother}
@@ -30,7 +30,7 @@ use Rattle.site_runner.specs.Executes.{Comes}
 use Rattle.site_runner.specs.Steps.{IsAt, ExecutesAt, IsCutAt}
 use Rattle.site_runner.specs.Mapping.{IsSeenAt, IsUnmappedIn, MapsAt, IsCutSeen}
 use Rattle.site_runner.proofs.Ats.{comes_done, comes_refused, comes_may_refuse, comes_fault, comes_damaged, refused_late, none_refused, state_at, not_true, is_true_or_false, some_both, some_of, some_and, told_is, reads_stand, reads_site, at_moment, Leftovers, ReadPlace, place_of_images, only}
-use Rattle.site_runner.proofs.Ats.{left_new, so_stands, ImagesStand, images_still, as_told, shown_same, by_shown, if_some, any_shown}
+use Rattle.site_runner.proofs.Ats.{stands_by, stands_so_by, stand_by, up_down, images_of, standings_of, left_new, so_stands, ImagesStand, images_still, as_told, shown_same, by_shown, if_some, any_shown}
 use Rattle.site_runner.proofs.Seen.{counted, kept_counted}
 use Rattle.site_runner.proofs.Amongs.{among_first, among_second, among_either}
 use Rattle.site_runner.proofs.Started.{why_at}
@@ -65,16 +65,16 @@ abbrev pub AreAlike : View → View → Type 0
 AreAlike v w = IfSome v.content (λ files. (c o : Contents) (f : Files) → Stands files c → Image w f → Stands f o → o.instance ≡ c.instance)
 
 -- each image stands for what one stood for before
-look_images : (v w : View) (p : Place) → Looked v w → Matches v p → p.told ≡ true → (f : Files) → Image w f → (o : Contents) × Among p.outcomes o × Stands f o
-look_images v w p k m sure f i =
+look_images : (v w : View) (p : Place) → has_failed_on p.site ≡ false → Looked v w → Matches v p → p.told ≡ true → (f : Files) → Image w f → (o : Contents) × Among p.outcomes o × Stands f o
+look_images v w p up k m sure f i =
     let each = some_of v.content (AtEachMoment v w (StandsAsBefore v)) (told_is v.content _ (m.told sure)) k.any_moment in
     let from = at_moment v w (StandsAsBefore v) f k.lawful each i in
-    let o = m.images sure from.0 from.1 in
+    let o = images_of v p up m sure from.0 from.1 in
     (o.0, o.1, from.2 o.0 o.2)
 
 -- and as it stood before
-look_standings : (v w : View) (p : Place) → Looked v w → Matches v p → p.told ≡ true → ImagesStand w p.standings
-look_standings v w p k m sure = images_still v w p.standings (λ f i. at_moment v w (Image v) f k.lawful k.untouched i) (m.standings sure)
+look_standings : (v w : View) (p : Place) → has_failed_on p.site ≡ false → Looked v w → Matches v p → p.told ≡ true → ImagesStand w p.standings
+look_standings v w p up k m sure = images_still v w p.standings (λ f i. at_moment v w (Image v) f k.lawful k.untouched i) (standings_of v p up m sure)
 
 pub seen_at : (v w : View) (s : Site) (p : Place) → Looked v w → s.state ≡ Down → AreAlike v w → IsAt v s p → IsSeenAt w s p
 seen_at v w s p k down alike h = record {
@@ -82,8 +82,8 @@ seen_at v w s p k down alike h = record {
   down = down;
   made = h.held.made;
   reads = λ sure. subst (λ (x : Option Files). IsSomeAnd x (λ files. Reads files p.now p.left)) (sym k.content) (h.disk.told sure);
-  images = λ sure f i. look_images v w p k h.disk sure f i;
-  standings = λ sure. look_standings v w p k h.disk sure;
+  images = λ sure f i. look_images v w p (up_down s p down h.site) k h.disk sure f i;
+  standings = λ sure. look_standings v w p (up_down s p down h.site) k h.disk sure;
   alike = λ sure f o i stands. let b = some_both v.content _ _ (h.disk.told sure) alike in b.2 p.now o f (reads_stand b.0 p.now p.left b.1) i stands;
   shown = shown_same p.shown v.content w.content k.content h.disk.shown;
   faults = omega (arith, k.later, h.disk.faults);
@@ -107,7 +107,14 @@ unknown_seen w s p down site unsure shown faults same = record {
 
 seen_counted : (w : View) (s : Site) (p : Place) → IsSeenAt w s p → IsAt w s (counted p w.faults)
 seen_counted w s p h = record {
-  disk = record { told = h.reads; images = h.images; standings = h.standings; shown = h.shown; faults = refl; simulated = h.simulated };
+  disk = record {
+    told = h.reads;
+    images = λ sure f i. let o = h.images sure f i in (o.0, o.1, stands_by (has_failed_on p.site) f o.0 o.2);
+    standings = λ sure. stand_by (has_failed_on p.site) w p.standings (h.standings sure);
+    shown = h.shown;
+    faults = refl;
+    simulated = h.simulated;
+  };
   site = h.site;
   held = record { made = λ sure. record { now = (h.made sure).now; outcomes = (h.made sure).outcomes }; state = subst (λ (x : State). HoldsState w x (counted p w.faults)) (sym h.down) tt };
 }
@@ -263,21 +270,21 @@ map_fault leftovers region text w s p k before now law down site made b count ro
     t
 
 -- the look alone maps nothing
-look_mapped : (region : Name) (text : List ℕ) (v w : View) (s : Site) (p : Place) → Looked v w → IsAt v s p → MayHaveMapped region text w p
-look_mapped region text v w s p k h = record {
+look_mapped : (region : Name) (text : List ℕ) (v w : View) (s : Site) (p : Place) → s.state ≡ Down → Looked v w → IsAt v s p → MayHaveMapped region text w p
+look_mapped region text v w s p down k h = record {
   still_told = λ sure. told_is w.content _ (subst (λ (x : Option Files). IsSomeAnd x (λ files. Reads files p.now p.left)) (sym k.content) (h.disk.told sure));
-  images = λ sure f i. let o = look_images v w p k h.disk sure f i in (o.0, (o.0, o.1, inl refl), o.2);
-  standings = λ sure. still_maps region text w p.standings (look_standings v w p k h.disk sure);
+  images = λ sure f i. let o = look_images v w p (up_down s p down h.site) k h.disk sure f i in (o.0, (o.0, o.1, inl refl), o.2);
+  standings = λ sure. still_maps region text w p.standings (look_standings v w p (up_down s p down h.site) k h.disk sure);
   simulated = k.simulated ∙ h.disk.simulated;
 }
 
 pub look_faulted : (leftovers : Leftovers) (region : Name) (text : List ℕ) (v w : View) (s : Site) (k : ℕ) (before now : List ℕ) → Looked v w → s.state ≡ Down → k ≡ w.faults → Rose v.faults w.faults
     → now ≡ before ++ line s.name (codes "DISKFAULT " ++ decimal k) → ExecutesAt (map_pattern region text s.name) v s w (record { name = s.name; state = Failed k }) before now false
 look_faulted leftovers region text v w s k before now l down count rose t p h =
-    map_fault leftovers region text w s p k before now l.lawful down h.site h.held.made (look_mapped region text v w s p l h) count (subst (λ (x : ℕ). Rose x w.faults) h.disk.faults rose) t
+    map_fault leftovers region text w s p k before now l.lawful down h.site h.held.made (look_mapped region text v w s p down l h) count (subst (λ (x : ℕ). Rose x w.faults) h.disk.faults rose) t
 
-pub look_cut : (leftovers : Leftovers) (region : Name) (text : List ℕ) (v w : View) (s : Site) → Looked v w → IsCutAt (map_pattern region text s.name) v s w
-look_cut leftovers region text v w s l p h = map_cut leftovers region text w s p l.lawful (look_mapped region text v w s p l h) (omega (arith, l.later, h.disk.faults))
+pub look_cut : (leftovers : Leftovers) (region : Name) (text : List ℕ) (v w : View) (s : Site) → s.state ≡ Down → Looked v w → IsCutAt (map_pattern region text s.name) v s w
+look_cut leftovers region text v w s down l p h = map_cut leftovers region text w s p l.lawful (look_mapped region text v w s p down l h) (omega (arith, l.later, h.disk.faults))
 
 pub seen_cut : (leftovers : Leftovers) (region : Name) (text : List ℕ) (w : View) (s : Site) → IsLawful w → IsCutSeen region text w s w
 seen_cut leftovers region text w s law p h = map_cut leftovers region text w s p law (record {
@@ -400,7 +407,7 @@ done_at region number text w s before now p read down site as_before named free 
     })
     by
     (record {
-      disk = record { told = reads; images = λ sure f i. (d, inl refl, so_stands f (bare d) (images sure f i)); standings = λ sure f i. (bare d, inl refl, images sure f i); shown = as_told w.content; faults = refl; simulated = same };
+      disk = record { told = reads; images = λ sure f i. (d, inl refl, stands_by (has_failed_on q.site) f d (so_stands f (bare d) (images sure f i))); standings = λ sure f i. (bare d, inl refl, stands_so_by (has_failed_on q.site) f (bare d) (images sure f i)); shown = as_told w.content; faults = refl; simulated = same };
       site = ap (in_new_state world.Down) site ∙ ap (λ (x : world.State). Some (record { name = s.name; state = x })) (ap state_value (sym down));
       held = record { made = λ sure. record { now = of_d sure; outcomes = λ o a. subst (IsOf s.name) (sym (only o d a)) (of_d sure) }; state = subst (λ (x : State). HoldsState w x q) (sym down) tt };
     })

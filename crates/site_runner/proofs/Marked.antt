@@ -5,7 +5,7 @@ use Rattle.std.specs.Fmt.{decimal}
 use Rattle.std.specs.List.{flat_map}
 use Rattle.std.proofs.Math.Path.{fun_ext}
 use Rattle.std.proofs.lemmas.Bool.{ltb-true}
-use Rattle.disk_defs.specs.Disk.{View, IsLawful, AtEachMoment, Rose}
+use Rattle.disk_defs.specs.Disk.{Files, View, Image, IsLawful, AtEachMoment, Rose}
 use Rattle.site_store.specs.declared.site.OpenSite.{OpenSite}
 use Rattle.journal_defs.specs.Instance.{generation, regions}
 use Rattle.site_store.specs.Site.{IsOpen}
@@ -18,9 +18,11 @@ use Rattle.site_defs.specs.Epochs.{taken_in, with_epochs, marked, MayMark, MayMa
 use Rattle.site_defs.specs.Stands.{IsSite}
 use Rattle.site_defs.specs.Behind.{IsSiteWith}
 use Rattle.world_defs.specs.World as world
-use Rattle.world_defs.specs.World.{Place, StandAfter}
+use Rattle.world_defs.specs.World.{Place, has_failed, has_failed_on, StandAfter}
+use Rattle.world_defs.specs.Ties.{StandsBy}
 use Rattle.world_defs.specs.Answers.{Refusal, Answer, Done, Refused, DiskFault, NotAFile, Ran, Typed, line}
-use Rattle.world_defs.specs.Row.{or_else, Here}
+use Rattle.world_defs.specs.Row as rows
+use Rattle.world_defs.specs.Row.{or_else, refused_with, why_not_open, Here}
 use Rattle.world_defs.specs.Changes.{in_new_state, After}
 use Rattle.world_defs.specs.Step.{is_done}
 use Rattle.world_defs.specs.rows.Stop.{stop}
@@ -31,7 +33,7 @@ use Rattle.site_runner.specs.Executes.{Comes}
 use Rattle.site_runner.specs.Steps.{in_state, IsAt, ExecutesAt, IsCutAt}
 use Rattle.site_runner.specs.Marking.{marking}
 use Rattle.site_runner.proofs.Amongs.{among_map, map_among, among_flat}
-use Rattle.site_runner.proofs.Ats.{comes_done, comes_fault, at_moment, some_outcome, told_is, Leftovers, NothingIsLeft, ReadPlace, place_of_images, place_of_one, only, open_reads, open_images, stands_with}
+use Rattle.site_runner.proofs.Ats.{comes_done, comes_fault, at_moment, some_outcome, told_is, Leftovers, NothingIsLeft, ReadPlace, place_of_images, place_of_one, only, open_reads, open_images, stands_with, stands_by, stand_by, StandBy, images_of, standings_of}
 use Rattle.site_runner.proofs.Remembered.{entries_count}
 use Rattle.site_runner.proofs.Stopped.{open_at, reigns_at, open_at_place}
 
@@ -74,7 +76,7 @@ marks_same c j k h =
     let n = length (regions c.instance) in
     let here : (r : ℕ) → c.epochs r ++ taken_in j c r ≡ c.epochs r ++ taken_in k c r = λ r.
     ap (λ (b : Bool). c.epochs r ++ (if b then record { generation = generation c.instance; number = length c.sequence } ∷ [] else [])) (inside_same (j r) (k r) (nat_lt r n) (λ t. h r (ltb-true r n t))) in
-    ap (λ (f : ℕ → List Taken). record { instance = c.instance; starts = c.starts; epochs = f; texts = c.texts; sequence = c.sequence }) (fun_ext here)
+    ap (λ (f : ℕ → List Taken). record { instance = c.instance; starts = c.starts; epochs = f; texts = c.texts; losts = c.losts; sequence = c.sequence }) (fun_ext here)
 
 -- what taking an epoch may leave of these contents
 abbrev pub marks : Contents → List Contents
@@ -92,11 +94,11 @@ marks_are c o (inr h) = let x = map_among (λ k. with_epochs k c) (choices (leng
 
 -- and so of these with nothing behind them
 
-among_left : (c : Contents) (o : Standing) → MayMarkLeft (bare c) o → Among (map bare (marks c)) o
+pub among_left : (c : Contents) (o : Standing) → MayMarkLeft (bare c) o → Among (map bare (marks c)) o
 among_left c o (inl e) = inl e
 among_left c o (inr m) = subst (Among (map bare (marks c))) (sym m.1) (among_map bare (marks c) (with_epochs m.0 c) (among_marks c (with_epochs m.0 c) (inr (m.0, refl))))
 
-left_are : (c : Contents) (o : Standing) → Among (map bare (marks c)) o → MayMarkLeft (bare c) o
+pub left_are : (c : Contents) (o : Standing) → Among (map bare (marks c)) o → MayMarkLeft (bare c) o
 left_are c o h =
     let x = map_among bare (marks c) o h in
     elim (marks_are c x.0 x.1) [
@@ -104,7 +106,7 @@ left_are c o h =
       | inr m ↦ inr (m.0, x.2 ∙ ap bare m.1)
     ]
 
-of_marked : (name : Name) (c o : Contents) → MayMark c o → IsOf name c → IsOf name o
+pub of_marked : (name : Name) (c o : Contents) → MayMark c o → IsOf name c → IsOf name o
 of_marked name c o (inl e) h = subst (IsOf name) (sym e) h
 of_marked name c o (inr m) h = subst (IsOf name) (sym m.1) (record { made = h.made; name = h.name })
 
@@ -217,9 +219,23 @@ abbrev pub stopped_if : Bool → Site → Site
 stopped_if true s = in_state s Down
 stopped_if false s = s
 
+-- no call of the disk of a site that is open has failed
+open_state : (name : Name) (state : world.State) → or_else (refused_with name (why_not_open state)) None ≡ None → has_failed state ≡ false
+open_state name world.Down e = refl
+open_state name (world.Primary stamp serials) e = refl
+open_state name (world.Failed k) e = cc
+
+not_failed : (name : Name) (o : Option world.Site) → or_else (refused_with name (rows.in_state why_not_open o)) None ≡ None → has_failed_on o ≡ false
+not_failed name None e = refl
+not_failed name (Some site) e = open_state name site.state e
+
 down_there : (name : Name) (w : View) (new : Site) (p q : Place) (before now : List ℕ) → or_else (marking (codes "DOWN ") name p).early None ≡ None → (marking (codes "DOWN ") name p).done q → IsAt w new q
     → now ≡ before ++ (marking (codes "DOWN ") name p).says q → Comes (stop name p) (IsAt w (in_state new Down)) before now true
 down_there name w new p q before now e d h t =
+    let up : has_failed_on q.site ≡ false = ap has_failed_on d.site ∙ not_failed name p.site e in
+    let site : Option world.Site = in_new_state world.Down q.site in
+    let images : q.told ≡ true → (f : Files) → Image w f → (o : Contents) × Among q.outcomes o × StandsBy (has_failed_on site) f o = λ sure f i. (let o = images_of w q up h.disk sure f i in (o.0, o.1, stands_by (has_failed_on site) f o.0 o.2)) in
+    let standings : q.told ≡ true → StandBy (has_failed_on site) w q.standings = λ sure. stand_by (has_failed_on site) w q.standings (standings_of w q up h.disk sure) in
     comes_done
     (record { site = in_new_state world.Down q.site; told = q.told; now = q.now; left = q.left; outcomes = q.outcomes; standings = q.standings; shown = q.shown; faults = q.faults; simulated = q.simulated })
     e
@@ -231,7 +247,7 @@ down_there name w new p q before now e d h t =
     })
     tt
     (record {
-      disk = record { told = h.disk.told; images = h.disk.images; standings = h.disk.standings; shown = h.disk.shown; faults = h.disk.faults; simulated = h.disk.simulated };
+      disk = record { told = h.disk.told; images = images; standings = standings; shown = h.disk.shown; faults = h.disk.faults; simulated = h.disk.simulated };
       site = ap (in_new_state world.Down) h.site;
       held = record { made = λ sure. record { now = (h.held.made sure).now; outcomes = (h.held.made sure).outcomes }; state = tt };
     })

@@ -5,15 +5,15 @@ use Rattle.std.specs.Fmt.{decimal}
 use Rattle.std.proofs.lemmas.Bool.{ne_eqb, eqb-true}
 use Rattle.disk_defs.specs.Disk as disk
 use Rattle.disk_defs.specs.Disk.{Files, View, Image, Rose}
-use Rattle.journal_defs.specs.Numbers.{broken_file}
+use Rattle.journal_defs.specs.Numbers.{lost_file, broken_file}
 use Rattle.world_defs.specs.World as world
-use Rattle.world_defs.specs.World.{Place, IfShown}
+use Rattle.world_defs.specs.World.{Place, has_failed_on, IfShown}
 use Rattle.command_defs.specs.Commands.{Name}
 use Rattle.site_defs.specs.Contents.{Contents, Leftover}
 use Rattle.world_defs.specs.Answers.{NoFile, Stopped, Refusal, Refused, Typed, line, Cause}
 use Rattle.world_defs.specs.Row.{refused_with, in_state, stopped}
 use Rattle.world_defs.specs.Changes.{in_new_state}
-use Rattle.world_defs.specs.rows.Print.{TypedBy, typed, no_file, print}
+use Rattle.world_defs.specs.rows.Print.{TypedBy, typed, file_typed, no_file, print}
 use Rattle.site_defs.specs.Stands.{IsSite, HasLeft, Reads}
 use Rattle.site_runner.specs.declared.slot.State.{State}
 use Rattle.site_runner.specs.declared.slot.State.TheVariants.{Down, Primary, Failed}
@@ -21,19 +21,19 @@ use Rattle.site_runner.specs.declared.slot.Site.{Site}
 use Rattle.site_runner.specs.Sites.{state_value, HoldsState}
 use Rattle.site_runner.specs.Steps.{IsAt, ExecutesAt, IsCutAt}
 use Rattle.site_runner.proofs.Fused.{state_read}
-use Rattle.site_runner.proofs.Ats.{comes_refused, comes_may_refuse, comes_fault, comes_typed, refused_late, none_refused, state_at, is_true_or_false, some_both, reads_site, stand_same, left_old, images_still, shown_same, by_shown, if_some}
+use Rattle.site_runner.proofs.Ats.{comes_refused, comes_may_refuse, comes_fault, comes_typed, refused_late, none_refused, state_at, is_true_or_false, some_both, reads_site, stand_same, left_old, still_by, failed_by, failed_stand, shown_same, by_shown, if_some}
 use Rattle.site_runner.proofs.Seen.{counted, kept_counted}
 
-pub print_stopped : (g : ℕ) (v : View) (s : Site) (cause : Cause) (p : Place) → stopped (state_value s.state) ≡ Some cause → IsAt v s p → (print g s.name p).early ≡ refused_with s.name (Some cause)
-print_stopped g v s cause p e h = ap (refused_with s.name) (state_at stopped v s p h ∙ e)
+pub print_stopped : (lost : Bool) (g : ℕ) (v : View) (s : Site) (cause : Cause) (p : Place) → stopped (state_value s.state) ≡ Some cause → IsAt v s p → (print lost g s.name p).early ≡ refused_with s.name (Some cause)
+print_stopped lost g v s cause p e h = ap (refused_with s.name) (state_at stopped v s p h ∙ e)
 
 -- which no file decides
-pub print_early : (name : Name) (g : ℕ) (state : world.State) (cause : Cause) (p : Place) → stopped state ≡ Some cause → IfShown p (TypedBy g (Refused (record { site = name; cause = cause })))
-print_early name g world.Down cause p e = cc
+pub print_early : (name : Name) (lost : Bool) (g : ℕ) (state : world.State) (cause : Cause) (p : Place) → stopped state ≡ Some cause → IfShown p (TypedBy lost g (Refused (record { site = name; cause = cause })))
+print_early name lost g world.Down cause p e = cc
 print_early name g (world.Primary stamp serials) cause p e = cc
 print_early name g (world.Failed k) cause p e = let same : Stopped k ≡ cause = cc in never p.shown (λ is. (let no : Stopped k ≡ NoFile = same ∙ is in cc))
   where
-    never : (x : Option Files) → (cause ≡ NoFile → ⊥) → IfSome x (λ f. cause ≡ NoFile → f (broken_file g) ≡ [])
+    never : (x : Option Files) → (cause ≡ NoFile → ⊥) → IfSome x (λ f. cause ≡ NoFile → f (file_typed lost g) ≡ [])
     never None f = tt
     never (Some files) f = λ is. absurd (f is)
 
@@ -49,7 +49,7 @@ read_at v w s p r h = record {
   disk = record {
     told = λ sure. subst (λ (x : Option Files). IsSomeAnd x (λ files. Reads files p.now p.left)) (sym r.content) (h.disk.told sure);
     images = λ sure f i. let k = r.passes.images f i in h.disk.images sure f (subst (Image v) (sym k.2) k.1);
-    standings = λ sure. images_still v w p.standings (λ f i. let k = r.passes.images f i in subst (Image v) (sym k.2) k.1) (h.disk.standings sure);
+    standings = λ sure. still_by (has_failed_on p.site) v w p.standings (λ f i. let k = r.passes.images f i in subst (Image v) (sym k.2) k.1) (h.disk.standings sure);
     shown = shown_same p.shown v.content w.content r.content h.disk.shown;
     faults = refl;
     simulated = r.passes.simulated ∙ h.disk.simulated;
@@ -65,36 +65,50 @@ up_at v s p h up = state_at stopped v s p h ∙ up
 
 -- What the file has, where the site's files are known.
 
--- what a broken-transaction file has is what is typed of it
-abbrev pub TypingReads : Type 0
-TypingReads = (f : Files) (c : Contents) (left : Leftover) (g : ℕ) → IsSite f c → HasLeft f c left → 1 ≤ g → g ≤ 65535 → f (broken_file g) ≡ get_or (c.texts ++ left.torn ∷ []) (g - 1) []
+-- the files that are typed, as contents have them
+abbrev texts_read : (lost : Bool) → Contents → Leftover → List (List ℕ)
+texts_read true c left = c.losts
+texts_read false c left = c.texts ++ left.torn ∷ []
 
-file_typed : (typing : TypingReads) (g : ℕ) (v : View) (s : Site) (p : Place) (old bytes : List ℕ) → IsAt v s p → 1 ≤ g → g ≤ 65535 → old ≡ [] → IfSome v.content (λ files. bytes ≡ old ++ files (broken_file g)) → p.told ≡ true → bytes ≡ typed g p
-file_typed typing g v s p old bytes h some most none text sure =
+-- what such a file has is what is typed of it
+abbrev pub TypingReads : Bool → Type 0
+TypingReads lost = (f : Files) (c : Contents) (left : Leftover) (g : ℕ) → IsSite f c → HasLeft f c left → 1 ≤ g → g ≤ 65535 → f (file_typed lost g) ≡ get_or (texts_read lost c left) (g - 1) []
+
+pub typing_of : (lost : Bool) → ((f : Files) (c : Contents) (left : Leftover) (g : ℕ) → IsSite f c → HasLeft f c left → 1 ≤ g → g ≤ 65535 → f (broken_file g) ≡ get_or (c.texts ++ left.torn ∷ []) (g - 1) [])
+    → ((f : Files) (c : Contents) (g : ℕ) → IsSite f c → 1 ≤ g → g ≤ 65535 → f (lost_file g) ≡ get_or c.losts (g - 1) []) → TypingReads lost
+typing_of true broken lost = λ f c left g site is some most. lost f c g site some most
+typing_of false broken lost = broken
+
+typed_is : (lost : Bool) (g : ℕ) (p : Place) → get_or (texts_read lost p.now p.left) (g - 1) [] ≡ typed lost g p
+typed_is true g p = refl
+typed_is false g p = refl
+
+typed_here : (lost : Bool) (typing : TypingReads lost) (g : ℕ) (v : View) (s : Site) (p : Place) (old bytes : List ℕ) → IsAt v s p → 1 ≤ g → g ≤ 65535 → old ≡ [] → IfSome v.content (λ files. bytes ≡ old ++ files (file_typed lost g)) → p.told ≡ true → bytes ≡ typed lost g p
+typed_here lost typing g v s p old bytes h some most none text sure =
     let here = some_both v.content _ _ (h.disk.told sure) text in
     let site = reads_site here.0 p.now p.left (h.held.made sure).now.made here.1 in
-    here.2 ∙ ap (λ (x : List ℕ). x ++ here.0 (broken_file g)) none ∙ typing here.0 p.now p.left g site.0 site.1 some most
+    here.2 ∙ ap (λ (x : List ℕ). x ++ here.0 (file_typed lost g)) none ∙ typing here.0 p.now p.left g site.0 site.1 some most ∙ typed_is lost g p
 
-no_byte : (g : ℕ) (p : Place) → p.told ≡ true → typed g p ≡ [] → no_file g p ≡ Some NoFile
-no_byte g p sure e =
-    ap (λ (b : Bool). if b then (if length (typed g p) == 0 then Some NoFile else None) else None) sure
+no_byte : (lost : Bool) (g : ℕ) (p : Place) → p.told ≡ true → typed lost g p ≡ [] → no_file lost g p ≡ Some NoFile
+no_byte lost g p sure e =
+    ap (λ (b : Bool). if b then (if length (typed lost g p) == 0 then Some NoFile else None) else None) sure
     ∙ ap (λ (t : List ℕ). if length t == 0 then Some NoFile else None) e
 
 some_byte : (t : List ℕ) → t ≢ [] → (if length t == 0 then Some NoFile else None) ≡ None
 some_byte [] f = absurd (f refl)
 some_byte (b ∷ t) f = let e : (length (b ∷ t) == 0) ≡ false = ne_eqb (length (b ∷ t)) 0 (λ z. absurd (omega (arith, z))) in rw e refl
 
-has_file : (g : ℕ) (p : Place) → (p.told ≡ true) ⊎ (p.told ≡ false) → (p.told ≡ true → typed g p ≢ []) → no_file g p ≡ None
-has_file g p (inl sure) f =
-    ap (λ (b : Bool). if b then (if length (typed g p) == 0 then Some NoFile else None) else None) sure ∙ some_byte (typed g p) (f sure)
-has_file g p (inr unsure) f = ap (λ (b : Bool). if b then (if length (typed g p) == 0 then Some NoFile else None) else None) unsure
+has_file : (lost : Bool) (g : ℕ) (p : Place) → (p.told ≡ true) ⊎ (p.told ≡ false) → (p.told ≡ true → typed lost g p ≢ []) → no_file lost g p ≡ None
+has_file lost g p (inl sure) f =
+    ap (λ (b : Bool). if b then (if length (typed lost g p) == 0 then Some NoFile else None) else None) sure ∙ some_byte (typed lost g p) (f sure)
+has_file lost g p (inr unsure) f = ap (λ (b : Bool). if b then (if length (typed lost g p) == 0 then Some NoFile else None) else None) unsure
 
 -- there is no such file
-pub print_none : (typing : TypingReads) (g : ℕ) (v w : View) (s : Site) (old bytes before now : List ℕ) → disk.Reads v w → v.faults ≤ w.faults → stopped (state_value s.state) ≡ None → 1 ≤ g → g ≤ 65535 → old ≡ []
-    → IfSome v.content (λ files. bytes ≡ old ++ files (broken_file g)) → bytes ≡ [] → now ≡ before ++ line s.name (codes "NOFILE") → ExecutesAt (print g s.name) v s w s before now false
-print_none typing g v w s old bytes before now r later up some most none text empty t p h = elim (is_true_or_false p.told) [
+pub print_none : (lost : Bool) (typing : TypingReads lost) (g : ℕ) (v w : View) (s : Site) (old bytes before now : List ℕ) → disk.Reads v w → v.faults ≤ w.faults → stopped (state_value s.state) ≡ None → 1 ≤ g → g ≤ 65535 → old ≡ []
+    → IfSome v.content (λ files. bytes ≡ old ++ files (file_typed lost g)) → bytes ≡ [] → now ≡ before ++ line s.name (codes "NOFILE") → ExecutesAt (print lost g s.name) v s w s before now false
+print_none lost typing g v w s old bytes before now r later up some most none text empty t p h = elim (is_true_or_false p.told) [
   | inl sure ↦ comes_refused no (counted p w.faults)
-      (refused_late s.name (in_state stopped p.site) (no_file g p) NoFile (up_at v s p h up) (no_byte g p sure (sym (file_typed typing g v s p old bytes h some most none text sure) ∙ empty)))
+      (refused_late s.name (in_state stopped p.site) (no_file lost g p) NoFile (up_at v s p h up) (no_byte lost g p sure (sym (typed_here lost typing g v s p old bytes h some most none text sure) ∙ empty)))
       (kept_counted p w.faults faults) by (read_at v w s p r h) t
   | inr unsure ↦ comes_may_refuse no (counted p w.faults) (ap (refused_with s.name) (up_at v s p h up)) (refl, record { unknown = unsure; kept = kept_counted p w.faults faults }) by (read_at v w s p r h) t
 ]
@@ -102,27 +116,27 @@ print_none typing g v w s old bytes before now r later up some most none text em
     no : Refusal
     no = record { site = s.name; cause = NoFile }
 
-    by : IfShown p (TypedBy g (Refused no))
-    by = by_shown p.shown v.content (TypedBy g (Refused no)) h.disk.shown (if_some v.content _ (TypedBy g (Refused no)) (λ f e same. sym (e ∙ ap (λ (x : List ℕ). x ++ f (broken_file g)) none) ∙ empty) text)
+    by : IfShown p (TypedBy lost g (Refused no))
+    by = by_shown p.shown v.content (TypedBy lost g (Refused no)) h.disk.shown (if_some v.content _ (TypedBy lost g (Refused no)) (λ f e same. sym (e ∙ ap (λ (x : List ℕ). x ++ f (file_typed lost g)) none) ∙ empty) text)
 
     faults : p.faults ≤ w.faults
     faults = omega (arith, later, h.disk.faults)
 
 -- the bytes of the file
-pub printed : (typing : TypingReads) (g : ℕ) (v w : View) (s : Site) (old bytes before now : List ℕ) → disk.Reads v w → v.faults ≤ w.faults → stopped (state_value s.state) ≡ None → 1 ≤ g → g ≤ 65535 → old ≡ []
-    → IfSome v.content (λ files. bytes ≡ old ++ files (broken_file g)) → bytes ≢ [] → now ≡ before ++ bytes → ExecutesAt (print g s.name) v s w s before now false
-printed typing g v w s old bytes before now r later up some most none text full t p h =
-    let typed_so : p.told ≡ true → bytes ≡ typed g p = λ sure. file_typed typing g v s p old bytes h some most none text sure in
+pub printed : (lost : Bool) (typing : TypingReads lost) (g : ℕ) (v w : View) (s : Site) (old bytes before now : List ℕ) → disk.Reads v w → v.faults ≤ w.faults → stopped (state_value s.state) ≡ None → 1 ≤ g → g ≤ 65535 → old ≡ []
+    → IfSome v.content (λ files. bytes ≡ old ++ files (file_typed lost g)) → bytes ≢ [] → now ≡ before ++ bytes → ExecutesAt (print lost g s.name) v s w s before now false
+printed lost typing g v w s old bytes before now r later up some most none text full t p h =
+    let typed_so : p.told ≡ true → bytes ≡ typed lost g p = λ sure. typed_here lost typing g v s p old bytes h some most none text sure in
     comes_typed bytes (counted p w.faults)
-    (none_refused s.name (in_state stopped p.site) (no_file g p) (up_at v s p h up) (has_file g p (is_true_or_false p.told) (λ sure e. full (typed_so sure ∙ e))))
+    (none_refused s.name (in_state stopped p.site) (no_file lost g p) (up_at v s p h up) (has_file lost g p (is_true_or_false p.told) (λ sure e. full (typed_so sure ∙ e))))
     (record { some = full; told = typed_so; kept = kept_counted p w.faults (omega (arith, later, h.disk.faults)) })
-    (by_shown p.shown v.content (TypedBy g (Typed bytes)) h.disk.shown (if_some v.content _ (TypedBy g (Typed bytes)) (λ f e. e ∙ ap (λ (x : List ℕ). x ++ f (broken_file g)) none) text))
+    (by_shown p.shown v.content (TypedBy lost g (Typed bytes)) h.disk.shown (if_some v.content _ (TypedBy lost g (Typed bytes)) (λ f e. e ∙ ap (λ (x : List ℕ). x ++ f (file_typed lost g)) none) text))
     (read_at v w s p r h) t
 
 -- a call failed
-pub print_fault : (g : ℕ) (v w : View) (s : Site) (k : ℕ) (before now : List ℕ) → disk.Reads v w → stopped (state_value s.state) ≡ None → k ≡ w.faults → Rose v.faults w.faults
-    → now ≡ before ++ line s.name (codes "DISKFAULT " ++ decimal k) → ExecutesAt (print g s.name) v s w (record { name = s.name; state = Failed k }) before now false
-print_fault g v w s k before now r up count rose t p h =
+pub print_fault : (lost : Bool) (g : ℕ) (v w : View) (s : Site) (k : ℕ) (before now : List ℕ) → disk.Reads v w → stopped (state_value s.state) ≡ None → k ≡ w.faults → Rose v.faults w.faults
+    → now ≡ before ++ line s.name (codes "DISKFAULT " ++ decimal k) → ExecutesAt (print lost g s.name) v s w (record { name = s.name; state = Failed k }) before now false
+print_fault lost g v w s k before now r up count rose t p h =
     let a = read_at v w s p r h in
     let state = in_new_state (world.Failed k) p.site in
     comes_fault
@@ -140,16 +154,16 @@ print_fault g v w s k before now r up count rose t p h =
       simulated = refl;
     })
     (record {
-      disk = record { told = a.disk.told; images = a.disk.images; standings = a.disk.standings; shown = a.disk.shown; faults = refl; simulated = a.disk.simulated };
+      disk = record { told = a.disk.told; images = λ sure f i. let o = a.disk.images sure f i in (o.0, o.1, failed_by k p.site f o.0 o.2); standings = λ sure. failed_stand k p.site w p.standings (a.disk.standings sure); shown = a.disk.shown; faults = refl; simulated = a.disk.simulated };
       site = ap (in_new_state (world.Failed k)) h.site;
       held = record { made = λ sure. record { now = (h.held.made sure).now; outcomes = (h.held.made sure).outcomes }; state = tt };
     })
     t
 
-pub print_cut : (g : ℕ) (v w : View) (s : Site) → disk.Reads v w → v.faults ≤ w.faults → IsCutAt (print g s.name) v s w
-print_cut g v w s r later p h =
+pub print_cut : (lost : Bool) (g : ℕ) (v w : View) (s : Site) → disk.Reads v w → v.faults ≤ w.faults → IsCutAt (print lost g s.name) v s w
+print_cut lost g v w s r later p h =
     let a = read_at v w s p r h in
-    (counted p w.faults, record { told = refl; outcomes = λ sure o m. inl m; standings = λ sure. left_old (print g s.name p).left_so p.standings p.standings (stand_same p.standings); faults = omega (arith, later, h.disk.faults); simulated = refl }, a.disk)
+    (counted p w.faults, record { told = refl; outcomes = λ sure o m. inl m; standings = λ sure. left_old (print lost g s.name p).left_so p.standings p.standings (stand_same p.standings); faults = omega (arith, later, h.disk.faults); simulated = refl }, a.disk)
 
 pub empty_is : (bytes : List ℕ) → (length bytes == 0) ≡ true → bytes ≡ []
 empty_is [] e = refl
@@ -158,3 +172,7 @@ empty_is (b ∷ bytes) e = let z : length (b ∷ bytes) ≡ 0 = eqb-true (length
 pub full_is : (bytes : List ℕ) → (length bytes == 0) ≡ false → bytes ≢ []
 full_is [] e n = cc
 full_is (b ∷ bytes) e n = cc
+
+-- by the file's number
+pub text_of : (lost : Bool) (g file : ℕ) (o : Option Files) (bytes : List ℕ) {old : List ℕ} → file ≡ file_typed lost g → IfSome o (λ files. bytes ≡ old ++ files file) → IfSome o (λ files. bytes ≡ old ++ files (file_typed lost g))
+text_of lost g file o bytes {old} e h = subst (λ (n : ℕ). IfSome o (λ files. bytes ≡ old ++ files n)) e h

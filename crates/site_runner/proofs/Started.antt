@@ -23,7 +23,7 @@ use Rattle.repl_section.specs.Reigns.{stamp_in, stamp_of}
 use Rattle.command_defs.specs.Commands.{Name}
 use Rattle.site_defs.specs.Lists.{Among}
 use Rattle.world_defs.specs.World as world
-use Rattle.world_defs.specs.World.{Place, IfShown}
+use Rattle.world_defs.specs.World.{Place, has_failed_on, IfShown}
 use Rattle.world_defs.specs.Shown.{BySequence, IsOfAnother}
 use Rattle.site_defs.specs.Contents.{Contents, Leftover, Standing, NO_LEFTOVER, bare}
 use Rattle.world_defs.specs.Answers.{Cause, Stopped, Running, GenLimit, ReignLimit, line}
@@ -45,7 +45,7 @@ use Rattle.site_runner.specs.Executes.{Comes}
 use Rattle.site_runner.specs.Steps.{IsAt, ExecutesAt, IsCutAt}
 use Rattle.site_runner.specs.Starting.{IsOpenedAt, BeginsAt, IsCutOpened}
 use Rattle.site_runner.proofs.Ats.{comes_done, comes_refused, comes_may_refuse, comes_fault, comes_damaged, refused_late, none_refused, kept_same, not_true, is_true_or_false, some_both, told_is, is_site, reads_site, stands_told, at_moment, reads_image, Leftovers, NothingIsLeft, ReadPlace, place_of_images, place_of_one, only, open_reads, open_images, state_at}
-use Rattle.site_runner.proofs.Ats.{left_new, as_told, shown_same, shown_unwritten, by_shown, if_some, any_shown, stand_same, StandForOne, ImagesStand, images_still, standing_there, at_image, standing_of, stands_with}
+use Rattle.site_runner.proofs.Ats.{left_new, as_told, shown_same, shown_unwritten, by_shown, if_some, any_shown, stand_same, StandForOne, ImagesStand, standing_there, at_image, standing_of, stands_with, stands_for, still_by, up_down, images_of, standings_of}
 use Rattle.site_runner.proofs.Seen.{counted, kept_counted}
 use Rattle.site_runner.proofs.Remembered.{entries_count, entries_of}
 use Rattle.site_runner.proofs.Begun.{limit_opened, stamp_opened, of_opened, of_begun, of_may_begin, begins, among_begins, begins_among, begins_so, begins_so_among, begun_so, generation_past, generation_left}
@@ -152,8 +152,8 @@ pub opens_held : (v : View) (o : OpenSite) → IfSome v.content (BySequence (λ 
 opens_held v o held drawn = both_weak v.content (BySequence (λ u seq. WasOpenedFrom u seq o)) (λ files. (rs : List InstanceRecord) → IsInstance (files INSTANCE) rs → generation rs < 65534) (HeldBy o) held drawn
     (λ f k low. (k.0, k.1, k.2, k.3, (k.4, low k.0.instance k.2.instance)))
 
-each_stands : (v : View) (p : Place) → Matches v p → p.told ≡ true → EachStands v
-each_stands v p m sure f i = let o = m.images sure f i in (o.0, o.2)
+pub each_stands : (v : View) (p : Place) → Matches v p → p.told ≡ true → EachStands v
+each_stands v p m sure f i = let o = m.images sure f i in let c = stands_for (has_failed_on p.site) f o.0 o.2 in (c.0, c.2)
 
 opened_told : (leftovers : Leftovers) (one_only : StandForOne) (v w : View) (s : Site) (o : OpenSite) (p : Place) → IsLawful v → s.state ≡ Down → IsAt v s p → site_name o.instance.records ≡ s.name → p.told ≡ true
     → Opens v w o → HasGenerations v → OpensHeld v o
@@ -163,7 +163,8 @@ opened_told leftovers one_only v w s o p law down h name sure told drawn held sa
     let read = reads_image v law (told_is v.content _ (h.disk.told sure)) in
     let reads = subst (λ (x : Option Files). IsSomeAnd x (λ files. Reads files p.now p.left)) read.1 (h.disk.told sure) in
     let site = reads_site read.0 p.now p.left made.now.made reads in
-    let out = h.disk.images sure read.0 read.2 in
+    let up = up_down s p down h.site in
+    let out = images_of v p up h.disk sure read.0 read.2 in
     let same_out : out.0 ≡ p.now = one_only read.0 out.0 p.now out.2 (inr site.0) in
     let here = subst (λ (x : Option Files). IfSome x (λ files. (c : Contents) (left : Leftover) → IsSite files c → HasLeft files c left → EachStands v → IsOpen w true (opened left.broken c) (length c.sequence) o)) read.1 told in
     let one : IsOpen w true (opened p.left.broken p.now) (length p.now.sequence) o = here p.now p.left site.0 site.1 (each_stands v p h.disk sure) in
@@ -179,7 +180,7 @@ opened_told leftovers one_only v w s o p law down h name sure told drawn held sa
       as_left = λ _. refl;
       is_open = record { remembered = one.remembered; entries = λ _. one.entries refl; kept = λ _. one.kept refl };
       outcome = λ _. (p.now, subst (λ (x : Contents). Among p.outcomes x) same_out out.1, one);
-      standing = λ _. standing_there leftovers one_only read.0 p.now p.left p.standings reads (at_image v read.0 p.standings read.2 (h.disk.standings sure));
+      standing = λ _. standing_there leftovers one_only read.0 p.now p.left p.standings reads (at_image v read.0 p.standings read.2 (standings_of v p up h.disk sure));
       drawn = λ _. generation_left p.now (drawn_here p.now site.0);
       held = by_shown p.shown v.content _ h.disk.shown held;
       faults = omega (arith, later, h.disk.faults);
@@ -274,9 +275,12 @@ rose_at : (v w : View) (p : Place) → Matches v p → Rose v.faults w.faults �
 rose_at v w p m h = subst (λ (x : ℕ). Rose x w.faults) m.faults h
 
 -- the standings once a site was being opened
-loaded_so : (v w : View) (s : Site) (p : Place) → IsLawful w → IsAt v s p → OpensSo v w → p.told ≡ true → ImagesStand w (begins_so s.name p.standings)
-loaded_so v w s p law h lefts sure = among p.standings (h.disk.standings sure)
+loaded_so : (v w : View) (s : Site) (p : Place) → IsLawful w → s.state ≡ Down → IsAt v s p → OpensSo v w → p.told ≡ true → ImagesStand w (begins_so s.name p.standings)
+loaded_so v w s p law down h lefts sure = among p.standings (standings_of v p up h.disk sure)
   where
+    up : has_failed_on p.site ≡ false
+    up = up_down s p down h.site
+
     among : (x : Option (List Standing)) → ImagesStand v x → ImagesStand w (begins_so s.name x)
     among None k = tt
     among (Some os) k = λ f i.
@@ -284,14 +288,14 @@ loaded_so v w s p law h lefts sure = among p.standings (h.disk.standings sure)
         let here = some_both v.content _ _ (h.disk.told sure) lefts in
         let each = here.2 p.now (reads_site here.0 p.now p.left made.now.made here.1).0 in
         let from = at_moment v w (MayBeOpenWith v) f law each i in
-        let out = h.disk.images sure from.0 from.1 in
+        let out = images_of v p up h.disk sure from.0 from.1 in
         let was = k from.0 from.1 in
         let now = from.2 was.0 (standing_of from.0 out.0 was.0 (is_site from.0 out.0 (made.outcomes out.0 out.1).made out.2) was.2) in
         (now.0, begins_so_among s.name os was.0 now.0 was.1 (inl now.1), inr now.2)
 
 -- the opening of a site was begun
-pub load_begun : (v w : View) (s : Site) (p : Place) → IsLawful w → IsAt v s p → OpensAtMoments v w → OpensSo v w → (IsSome v.content → IsSome w.content) → w.simulated ≡ v.simulated → MayHaveBegun w s p
-load_begun v w s p law h moments lefts still same = record {
+pub load_begun : (v w : View) (s : Site) (p : Place) → IsLawful w → s.state ≡ Down → IsAt v s p → OpensAtMoments v w → OpensSo v w → (IsSome v.content → IsSome w.content) → w.simulated ≡ v.simulated → MayHaveBegun w s p
+load_begun v w s p law down h moments lefts still same = record {
   still_told = λ sure. still (told_is v.content _ (h.disk.told sure));
   images = λ sure f i.
       let made : IsMade s.name p = h.held.made sure in
@@ -299,20 +303,20 @@ load_begun v w s p law h moments lefts still same = record {
       let site = reads_site here.0 p.now p.left made.now.made here.1 in
       let each = here.2 p.now p.left site.0 site.1 in
       let from = at_moment v w (MayBeOpen v p.left.broken) f law each i in
-      let was = h.disk.images sure from.0 from.1 in
+      let was = images_of v p (up_down s p down h.site) h.disk sure from.0 from.1 in
       let now = from.2 was.0 (is_site from.0 was.0 (made.outcomes was.0 was.1).made was.2) in
       (now.0, (was.0, was.1, inl now.1), inr now.2);
-  standings = λ sure. loaded_so v w s p law h lefts sure;
+  standings = λ sure. loaded_so v w s p law down h lefts sure;
   simulated = same ∙ h.disk.simulated;
 }
 
 pub load_faulted : (leftovers : Leftovers) (v w : View) (s : Site) (k : ℕ) (before now : List ℕ) → IsLawful w → s.state ≡ Down → OpensAtMoments v w → OpensSo v w → (IsSome v.content → IsSome w.content) → w.simulated ≡ v.simulated
     → k ≡ w.faults → Rose v.faults w.faults → now ≡ before ++ line s.name (codes "DISKFAULT " ++ decimal k) → ExecutesAt (start s.name) v s w (record { name = s.name; state = Failed k }) before now false
 load_faulted leftovers v w s k before now law down moments lefts still same count rose t p h =
-    begun_fault leftovers w s p k before now law down h.site h.held.made (load_begun v w s p law h moments lefts still same) count (rose_at v w p h.disk rose) t
+    begun_fault leftovers w s p k before now law down h.site h.held.made (load_begun v w s p law down h moments lefts still same) count (rose_at v w p h.disk rose) t
 
-pub load_cut : (leftovers : Leftovers) (v w : View) (s : Site) → IsLawful w → OpensAtMoments v w → OpensSo v w → (IsSome v.content → IsSome w.content) → w.simulated ≡ v.simulated → v.faults ≤ w.faults → IsCutAt (start s.name) v s w
-load_cut leftovers v w s law moments lefts still same later p h = begun_cut leftovers w s p law (load_begun v w s p law h moments lefts still same) (omega (arith, later, h.disk.faults))
+pub load_cut : (leftovers : Leftovers) (v w : View) (s : Site) → IsLawful w → s.state ≡ Down → OpensAtMoments v w → OpensSo v w → (IsSome v.content → IsSome w.content) → w.simulated ≡ v.simulated → v.faults ≤ w.faults → IsCutAt (start s.name) v s w
+load_cut leftovers v w s law down moments lefts still same later p h = begun_cut leftovers w s p law (load_begun v w s p law down h moments lefts still same) (omega (arith, later, h.disk.faults))
 
 -- there is no generation left
 load_limit_told : (v w : View) (s : Site) (before now : List ℕ) (p : Place) → IsLawful w → s.state ≡ Down → IsAt v s p → p.told ≡ true → IfSome v.content (λ files. (c : Contents) → IsSite files c → 65534 ≤ generation c.instance)
@@ -331,7 +335,7 @@ load_limit_told v w s before now p law down h sure limit by unwritten untouched 
       disk = record {
         told = λ is. subst (λ (x : Option Files). IsSomeAnd x (λ files. Reads files p.now p.left)) (sym unwritten) (h.disk.told is);
         images = λ is c i. h.disk.images is c (at_moment v w (Image v) c law untouched i);
-        standings = λ is. images_still v w p.standings (λ c i. at_moment v w (Image v) c law untouched i) (h.disk.standings is);
+        standings = λ is. still_by (has_failed_on p.site) v w p.standings (λ c i. at_moment v w (Image v) c law untouched i) (h.disk.standings is);
         shown = shown_same p.shown v.content w.content unwritten h.disk.shown;
         faults = refl;
         simulated = same ∙ h.disk.simulated;

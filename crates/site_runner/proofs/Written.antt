@@ -52,6 +52,17 @@ open_written o n c l t1 t2 t3 t4 t5 t e1 e2 e3 e4 e5 e =
     ∙ joined o n (codes " STATE PRIMARY ") c (codes " LENGTH ") l (10 ∷ [])
     ∙ open_line o n c l
 
+rolled_line : (o n k g : List ℕ) → o ++ (n ++ (codes " ROLLEDBACK " ++ (k ++ (codes " LOST " ++ (g ++ 10 ∷ []))))) ≡ o ++ line n (codes "ROLLEDBACK " ++ k ++ codes " LOST " ++ g)
+rolled_line o n k g = simp (append_assoc)
+
+-- the line of a rollback
+pub rolled_written : (o n k g t1 t2 t3 t4 t5 t : List ℕ) → t1 ≡ o ++ n → t2 ≡ t1 ++ codes " ROLLEDBACK " → t3 ≡ t2 ++ k → t4 ≡ t3 ++ codes " LOST " → t5 ≡ t4 ++ g → t ≡ t5 ++ 10 ∷ []
+    → t ≡ o ++ line n (codes "ROLLEDBACK " ++ k ++ codes " LOST " ++ g)
+rolled_written o n k g t1 t2 t3 t4 t5 t e1 e2 e3 e4 e5 e =
+    e ∙ ap (λ (x : List ℕ). x ++ 10 ∷ []) (e5 ∙ ap (λ (x : List ℕ). x ++ g) (e4 ∙ ap (λ (x : List ℕ). x ++ codes " LOST ") (e3 ∙ ap (λ (x : List ℕ). x ++ k) (e2 ∙ ap (λ (x : List ℕ). x ++ codes " ROLLEDBACK ") e1))))
+    ∙ joined o n (codes " ROLLEDBACK ") k (codes " LOST ") g (10 ∷ [])
+    ∙ rolled_line o n k g
+
 -- a line under the site's own name
 pub named : {name n now : List ℕ} (before words : List ℕ) → n ≡ name → now ≡ before ++ line n words → now ≡ before ++ line name words
 named {name} {n} {now} before words e t = t ∙ ap (λ (x : List ℕ). before ++ line x words) e

@@ -12,6 +12,7 @@ pub mod Attaching
 pub mod Starting
 pub mod Mapping
 pub mod Marking
+pub mod Rolling
 pub mod Ends
 pub mod Meant
 pub mod Going

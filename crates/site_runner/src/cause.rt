@@ -31,6 +31,8 @@ pub enum Cause {
     GenLimit,
     /// There is no reign left, or no cycle.
     ReignLimit,
+    /// The region needs forward recovery for what is to stay, first for that generation, which keeps no images.
+    NoBefore { region: Bytes, generation: u32 },
 }
 
 impl Cause {
@@ -61,6 +63,12 @@ impl Cause {
             Cause::NoFile => text.push_all(b"NOFILE"),
             Cause::GenLimit => text.push_all(b"GENLIMIT"),
             Cause::ReignLimit => text.push_all(b"REIGNLIMIT"),
+            Cause::NoBefore { region, generation } => {
+                text.push_all(b"NOBEFORE ")?;
+                text.push_all(region.as_slice())?;
+                text.push_all(b" ")?;
+                text.push_decimal(u64::from(*generation))
+            }
         }
     }
 }

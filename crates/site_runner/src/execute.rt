@@ -17,6 +17,8 @@ use super::finding::find;
 use super::fusing::{crash, fuse};
 use super::mapping::map;
 use super::printing::print;
+use super::recovering::recover;
+use super::rolling::rollback;
 use super::section::run_section;
 use super::showing::show;
 use super::slot::{Site, Slot};
@@ -46,7 +48,9 @@ fn name_of(command: &Command) -> &Bytes
         | Command::Extract { site, .. }
         | Command::Zwrite { site, .. }
         | Command::Show { site }
-        | Command::Print { site, .. } => site,
+        | Command::Print { site, .. }
+        | Command::Resync { site, .. }
+        | Command::RecoverBackward { site } => site,
     }
 }
 
@@ -85,7 +89,9 @@ fn execute_on<D: Disk>(
         Command::Extract { number, .. } => extract(disk, site, number, text),
         Command::Zwrite { top, .. } => zwrite(disk, site, top.as_ref(), text),
         Command::Show { .. } => show(disk, site, text),
-        Command::Print { generation, .. } => print(disk, site, generation, text),
+        Command::Print { lost, generation, .. } => print(disk, site, lost, generation, text),
+        Command::Resync { number, .. } => rollback(alloc, disk, site, number, text),
+        Command::RecoverBackward { .. } => recover(alloc, disk, site, text),
     }
 }
 

@@ -15,6 +15,8 @@ mod mapping;
 mod marking;
 mod moving;
 mod printing;
+mod recovering;
+mod rolling;
 mod section;
 mod showing;
 mod slot;

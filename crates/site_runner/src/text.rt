@@ -47,6 +47,23 @@ pub fn write_primary(text: &mut Bytes, name: &[u8], cycle: u32, from: u64) -> Re
     text.push_all(b"\n")
 }
 
+/// Adds the line of a rollback that left so many entries, and the others in the lost-transaction file of that generation.
+pub fn write_rolled(
+    text: &mut Bytes,
+    name: &[u8],
+    kept: u64,
+    generation: u32,
+) -> Result<(), NoMemory>
+    ensures { OnOk result (text.new ≡ text.old ++ line name.now (codes "ROLLEDBACK " ++ decimal kept ++ codes " LOST " ++ decimal generation)) }
+{
+    text.push_all(name)?;
+    text.push_all(b" ROLLEDBACK ")?;
+    text.push_decimal(kept)?;
+    text.push_all(b" LOST ")?;
+    text.push_decimal(u64::from(generation))?;
+    text.push_all(b"\n")
+}
+
 /// Adds the line of the state of a site that is open: the cycle of its reign, and its length.
 pub fn write_open(text: &mut Bytes, name: &[u8], cycle: u32, length: u64) -> Result<(), NoMemory>
     ensures { OnOk result (text.new ≡ text.old ++ line name.now (codes "STATE PRIMARY " ++ decimal cycle ++ codes " LENGTH " ++ decimal length)) }

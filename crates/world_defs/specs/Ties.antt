@@ -1,17 +1,26 @@
 -- What ties disks to a world.
-use Rattle.std.specs.Prelude.{◌≡◌, List, Some, IfSome, IsSomeAnd}
+use Rattle.std.specs.Prelude.{◌≡◌, Bool, true, false, List, Some, IfSome, IsSomeAnd}
 use Rattle.disk_defs.specs.Disk.{Files, View, Image}
 use Rattle.site_defs.specs.Lists.{Among, Along}
 use Rattle.site_defs.specs.Contents.{Contents, Standing}
 use Rattle.site_defs.specs.Stands.{Reads, Stands}
 use Rattle.site_defs.specs.Behind.{StandsSo}
-use Rattle.world_defs.specs.World.{Place, World, IfKnown, IfShown}
+use Rattle.world_defs.specs.World.{Place, World, Covers, CoversSo, has_failed_on, IfKnown, IfShown}
+
+-- The files stand for these contents; where a call of their disk failed, perhaps for some that these cover.
+abbrev pub StandsBy : (failed : Bool) → Files → Contents → Type 0
+StandsBy false files o = Stands files o
+StandsBy true files o = (c : Contents) × Covers o c × Stands files c
+
+abbrev pub StandsSoBy : (failed : Bool) → Files → Standing → Type 0
+StandsSoBy false files o = StandsSo files o
+StandsSoBy true files o = (s : Standing) × CoversSo o s × StandsSo files s
 
 -- Where the files are known, the disk tells them, they stand for what the place has, and each image stands for one of its outcomes.
 pub record Matches (v : View) (p : Place) : Type 0 where
   pub told : IfKnown p (IsSomeAnd v.content (λ files. Reads files p.now p.left))
-  pub images : IfKnown p ((c : Files) → Image v c → (o : Contents) × Among p.outcomes o × Stands c o)
-  pub standings : IfKnown p (IfSome p.standings (λ os. (c : Files) → Image v c → (o : Standing) × Among os o × StandsSo c o))
+  pub images : IfKnown p ((c : Files) → Image v c → (o : Contents) × Among p.outcomes o × StandsBy (has_failed_on p.site) c o)
+  pub standings : IfKnown p (IfSome p.standings (λ os. (c : Files) → Image v c → (o : Standing) × Among os o × StandsSoBy (has_failed_on p.site) c o))
   pub shown : IfShown p (λ files. v.content ≡ Some files)
   pub faults : v.faults ≡ p.faults
   pub simulated : v.simulated ≡ p.simulated

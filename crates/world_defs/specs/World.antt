@@ -1,6 +1,6 @@
 -- The world of a run between two commands: plain data (GT.M: instances, and what the replication of each one does).
 use Rattle.site_defs.specs.Contents.{Contents, Leftover, Standing, same_name}
-use Rattle.std.specs.Prelude.{◌≡◌, ℕ, ◌≤◌, Bool, true, false, List, [], Option, Some, None, IsTrue, take, IfSome}
+use Rattle.std.specs.Prelude.{◌≡◌, ◌⊎◌, ℕ, ◌≤◌, Bool, true, false, List, [], ◌∷◌, ◌++◌, Option, Some, None, IsTrue, take, IfSome}
 use Rattle.std.specs.List.{AllByRecursion}
 use Rattle.disk_defs.specs.Disk.{Files}
 use Rattle.global_defs.specs.Entry.{Stamp}
@@ -27,7 +27,7 @@ pub record Place : Type 0 where
   pub now : Contents
   -- and what lies behind that
   pub left : Leftover
-  -- each image stands for one of these
+  -- each image stands for one of these; or, once a call of the disk failed in a ROLLBACK, for one that is covered by it
   pub outcomes : List Contents
   -- and where it's known what lies behind that in each image: each stands so, one of these
   pub standings : Option (List Standing)
@@ -73,6 +73,43 @@ IsFresh w = AllByRecursion (λ (p : Place). p.site ≡ None) w.places
 -- There is no outcome but what is read.
 abbrev pub Settled : Place → Type 0
 Settled p = (o : Contents) → Among p.outcomes o → o ≡ p.now
+
+-- Stands for the text of a lost-transaction file of which nothing is told: it has no byte's value.
+abbrev pub UNTOLD : List ℕ
+UNTOLD = 256 ∷ []
+
+-- The one has some text where nothing is told of the other's newest lost-transaction file, and is the same otherwise.
+pub record IsTold (o c : Contents) : Type 0 where
+  pub before : List (List ℕ)
+  pub untold : o.losts ≡ before ++ UNTOLD ∷ []
+  pub lost : List ℕ
+  pub is : c ≡ record o { losts = before ++ lost ∷ [] }
+
+-- This one, or one that it leaves open.
+abbrev pub Covers : Contents → Contents → Type 0
+Covers o c = (c ≡ o) ⊎ IsTold o c
+
+-- and so with what lies behind
+pub record CoversSo (o s : Standing) : Type 0 where
+  pub contents : Covers o.contents s.contents
+  pub broken : s.broken ≡ o.broken
+
+-- one of these covers it
+abbrev pub AmongCovered : List Contents → Contents → Type 0
+AmongCovered os c = (o : Contents) × Among os o × Covers o c
+
+abbrev pub AmongCoveredSo : List Standing → Standing → Type 0
+AmongCoveredSo os s = (o : Standing) × Among os o × CoversSo o s
+
+abbrev pub has_failed : State → Bool
+has_failed Down = false
+has_failed (Primary stamp serials) = false
+has_failed (Failed k) = true
+
+-- a call of the disk of the site there failed
+abbrev pub has_failed_on : Option Site → Bool
+has_failed_on None = false
+has_failed_on (Some site) = has_failed site.state
 
 -- No outcome is new.
 abbrev pub NoNew : List Contents → List Contents → Type 0

@@ -10,6 +10,7 @@ use Rattle.site_defs.specs.Contents.{Taken, Contents, nothing}
 use Rattle.world_defs.specs.rows.Create.{created}
 use Rattle.site_defs.specs.Epochs.{MayMark, with_epochs}
 use Rattle.site_defs.specs.Opening.{MayOpen, MayBegin, MayMap, cut_there, cut_with, with_starts, opened, with_reign, next_reign, with_pattern}
+use Rattle.world_defs.specs.World.{Covers}
 use Rattle.world_defs.specs.Fit.{IsWithinCycles, IsFitContents}
 use Rattle.world_laws.proofs.Lists.{all-weaker}
 use Rattle.world_laws.proofs.Instances.{name-more, cycle-cut, cycle-map, cycle-reign, room-cut, few_at, few-map, few-later}
@@ -111,3 +112,12 @@ fit-may_mark c o h (inr marked) = subst IsFitContents (sym marked.1) (fit-epochs
 pub name-may_mark : (c o : Contents) → MayMark c o → site_name o.instance ≡ site_name c.instance
 name-may_mark c o (inl same) = ap (λ (x : Contents). site_name x.instance) same
 name-may_mark c o (inr marked) = ap (λ (x : Contents). site_name x.instance) marked.1
+
+-- what fit contents cover is fit, and of the same site
+pub fit-covered : (o c : Contents) → Covers o c → IsFitContents o → IsFitContents c
+fit-covered o c (inl same) h = subst IsFitContents (sym same) h
+fit-covered o c (inr told) h = subst IsFitContents (sym told.is) (record { serials = h.serials; few_reigns = h.few_reigns; cycles = h.cycles })
+
+pub name-covered : (o c : Contents) → Covers o c → site_name c.instance ≡ site_name o.instance
+name-covered o c (inl same) = ap (λ (x : Contents). site_name x.instance) same
+name-covered o c (inr told) = ap (λ (x : Contents). site_name x.instance) told.is

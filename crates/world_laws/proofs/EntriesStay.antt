@@ -11,7 +11,7 @@ use Rattle.site_defs.specs.Fronts.{IsFrontOf, turn_of}
 use Rattle.site_defs.specs.Lists.{Among}
 use Rattle.site_defs.specs.Epochs.{MayMark}
 use Rattle.site_defs.specs.Opening.{MayMap, MayBegin}
-use Rattle.world_defs.specs.World.{State, Down, Failed, Site, Place, Kept, is_free}
+use Rattle.world_defs.specs.World.{State, Down, Failed, Site, Place, Covers, Kept, is_free}
 use Rattle.world_defs.specs.Answers.{Section}
 use Rattle.world_defs.specs.Changes.{in_new_state, Stays, Becomes, Fails, FailsUnchanged, ChangesUnknown}
 use Rattle.world_defs.specs.rows.Crash.{Crashes}
@@ -112,6 +112,10 @@ same-recover broken c o (inl (inr h)) = ap (λ (x : Contents). x.sequence) h.1
 same-recover broken c o (inr (inl e)) = ap (λ (x : Contents). x.sequence) e
 same-recover broken c o (inr (inr h)) = ap (λ (x : Contents). x.sequence) h.1
 
+same-covered : LeavesSequence Covers
+same-covered o c (inl e) = ap (λ (x : Contents). x.sequence) e
+same-covered o c (inr told) = ap (λ (x : Contents). x.sequence) told.is
+
 pub entries-crash : (p q : Place) → Crashes p q → KeepsEntries p q
 entries-crash p q d name n e every h = record {
   site = subst (IsSiteOf name) (sym d.site) (site-new name Down p.site h.site);
@@ -120,7 +124,7 @@ entries-crash p q d name n e every h = record {
 }
   where
     now : IsTrue q.told → IsEntryAt n e q.now.sequence
-    now t = let told = subst IsTrue d.told t in h.outcomes told q.now (d.chosen told)
+    now t = let told = subst IsTrue d.told t in let c = d.chosen told in subst (IsEntryAt n e) (sym (same-covered c.0 q.now c.2)) (h.outcomes told c.0 c.1)
 
 pub entries-unread : (k : ℕ) (p q : Place) → FailsUnchanged k (in_new_state (Failed k) p.site) p q → KeepsEntries p q
 entries-unread k p q f name n e every h = record {

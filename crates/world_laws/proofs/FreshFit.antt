@@ -6,7 +6,7 @@ use Rattle.world_defs.specs.World.{Site, Place, World, IsFresh, Settled}
 use Rattle.site_defs.specs.Contents.{nothing}
 use Rattle.world_defs.specs.Fit.{IsFitContents, IsFitSite, IsNamedSo, IsFitPlace, IsFit}
 use Rattle.world_laws.specs.Again.{HasFitOutcomes, IsGivenBack}
-use Rattle.world_laws.proofs.ContentsFit.{fit-nothing}
+use Rattle.world_laws.proofs.ContentsFit.{fit-nothing, fit-covered}
 
 abbrev IsEmpty : Place → Type 0
 IsEmpty p = IsTrue p.told → (p.now ≡ nothing) × Settled p
@@ -46,7 +46,7 @@ pub fit-again : (w : World) → IsFit w → IsFit (record { places = map without
 fit-again w fit = fit-without_sites w.places fit
 
 fit-given_back : (p q : Place) → HasFitOutcomes p → IsGivenBack p q → IsFitPlace q
-fit-given_back p q fit h = fit-free q h.site (λ t. fit (told t) q.now (h.now (told t))) (λ t o a. fit (told t) o (h.outcomes o a))
+fit-given_back p q fit h = fit-free q h.site (λ t. let c = h.now (told t) in fit-covered c.0 q.now c.2 (fit (told t) c.0 c.1)) (λ t o a. fit (told t) o (h.outcomes o a))
   where
     told : IsTrue q.told → IsTrue p.told
     told t = subst IsTrue h.told t

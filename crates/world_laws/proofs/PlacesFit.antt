@@ -14,7 +14,7 @@ use Rattle.world_defs.specs.rows.Crash.{Crashes}
 use Rattle.world_defs.specs.rows.Create.{created, MayMake}
 use Rattle.world_defs.specs.rows.Map.{Maps}
 use Rattle.world_defs.specs.Fit.{IsFitContents, IsFitState, IsFitSite, IsNamedSo, IsFitPlace}
-use Rattle.world_laws.proofs.ContentsFit.{fit-created, fit-pattern, name-pattern, fit-may_map, name-may_map, fit-epochs, fit-may_mark, name-may_mark}
+use Rattle.world_laws.proofs.ContentsFit.{fit-created, fit-pattern, name-pattern, fit-may_map, name-may_map, fit-epochs, fit-may_mark, name-may_mark, fit-covered, name-covered}
 
 -- what holds of a place whose files are known, from what it was before
 fit-place : (old new : Place) (site : Option Site) (c : Contents) → new.told ≡ old.told → new.site ≡ site → new.now ≡ c
@@ -172,4 +172,6 @@ fit-crashes old new h r =
     ])
   where
     chosen : IsTrue old.told → IsFitContents new.now × IsNamedSo (in_new_state Down old.site) new.now
-    chosen t = (h.outcomes t new.now (r.chosen t), named-in Down old.site new.now (h.named t new.now (r.chosen t)))
+    chosen t =
+        let c = r.chosen t in
+        (fit-covered c.0 new.now c.2 (h.outcomes t c.0 c.1), named-in Down old.site new.now (named-same old.site c.0 new.now (name-covered c.0 new.now c.2) (h.named t c.0 c.1)))

@@ -9,7 +9,7 @@ use Rattle.journal_defs.specs.Epochs.{chosen, first_without}
 use Rattle.command_defs.specs.Commands.{Name}
 use Rattle.site_defs.specs.Contents.{Contents, Standing}
 use Rattle.site_defs.specs.Lists.{Among}
-use Rattle.site_defs.specs.Limits.{LAST_GENERATION, region_number}
+use Rattle.site_defs.specs.Limits.{LAST_GENERATION}
 use Rattle.site_defs.specs.OutsideBlocks.{IsOutsideRollback}
 use Rattle.site_defs.specs.Rolling.{MayRollBack, MayRollBackLeft, rolled}
 use Rattle.world_defs.specs.World.{Down, Place, IfKnown, IfShown, Kept}
@@ -72,7 +72,9 @@ RollbackRefusedBy number cause files = Unit {0}
 -- Contents tell of a region which generations began without images, and not which records stand in them.
 pub record BeganWithout (name : Name) (g : ℕ) (c : Contents) : Type 0 where
   pub region : ℕ
-  pub named : region_number name c ≡ Some region
+  pub mode : NamedMode
+  pub there : slice_get (regions c.instance) region ≡ Some mode
+  pub named : mode.name ≡ name
   pub start : Start
   pub among : Among (c.starts region) start
   pub without : start.before ≡ false

@@ -14,7 +14,7 @@ returns-in_err-write_line-in-Ok-clause-cut_off g c =
     let e = c.in-Ok.ensures in
     err_holds c.from_residual-in_err-write_line-in-Ok.result _
     (make_cut c.leftovers_hold.ensures g.D.Disk.disk c.args.slot.now (record { disk = c.create.new.disk; site = c.args.slot.now.site }) c.args.name c.deref.result.now c.args.regions.now
-    (record { was_lawful = g.met.D.Disk.lawful c.args.slot.now.disk; lawful = g.met.D.Disk.lawful c.create.new.disk; any_moment = e.any_moment; still_told = e.still_told; simulated = e.simulated; later = e.later }) (c.deref.ensures.value ∙ c.in_ok-specs.ensures))
+    (record { was_lawful = g.met.D.Disk.lawful c.args.slot.now.disk; lawful = g.met.D.Disk.lawful c.create.new.disk; any_moment = e.any_moment; still_told = e.still_told; simulated = e.simulated; later = e.later }) (c.deref.ensures.value ∙ c.in_ok-specs.ensures) c.requires.free)
 
 pub returns-in-Err-clause-done : goal.returns-in-Err-clause-done
 returns-in-Err-clause-done g c =
@@ -30,7 +30,7 @@ returns-in-Err-clause-cut_off g c =
     let e = c.create.ensures in
     err_holds c.write_failure.result _
     (make_cut c.leftovers_hold.ensures g.D.Disk.disk c.args.slot.now (record { disk = c.create.new.disk; site = c.args.slot.now.site }) c.args.name c.deref.result.now c.args.regions.now
-    (record { was_lawful = g.met.D.Disk.lawful c.args.slot.now.disk; lawful = g.met.D.Disk.lawful c.create.new.disk; any_moment = e.any_moment; still_told = e.still_told; simulated = e.simulated; later = e.later }) (c.deref.ensures.value ∙ c.in_ok-specs.ensures))
+    (record { was_lawful = g.met.D.Disk.lawful c.args.slot.now.disk; lawful = g.met.D.Disk.lawful c.create.new.disk; any_moment = e.any_moment; still_told = e.still_told; simulated = e.simulated; later = e.later }) (c.deref.ensures.value ∙ c.in_ok-specs.ensures) c.requires.free)
 
 pub returns-in_ok-write_line-in-Ok-clause-done : goal.returns-in_ok-write_line-in-Ok-clause-done
 returns-in_ok-write_line-in-Ok-clause-done g c =

@@ -45,7 +45,7 @@ returns-in-Ok-None-clause-done g c =
 pub returns-in-Ok-None-clause-cut_off : goal.returns-in-Ok-None-clause-cut_off
 returns-in-Ok-None-clause-cut_off g c =
     let e = c.in-Ok-None.ensures in
-    err_holds c.damaged.result _ (look_cut c.leftovers_hold.ensures c.args.region c.args.pattern.now (g.D.Disk.disk c.args.disk.now) (g.D.Disk.disk c.find.new.disk) c.args.site.now
+    err_holds c.damaged.result _ (look_cut c.leftovers_hold.ensures c.args.region c.args.pattern.now (g.D.Disk.disk c.args.disk.now) (g.D.Disk.disk c.find.new.disk) c.args.site.now c.requires.down
     (record { lawful = g.met.D.Disk.lawful c.find.new.disk; any_moment = e.any_moment; untouched = e.untouched; content = e.content; simulated = e.simulated; later = e.later }))
 
 pub returns-in-Err-Failed-clause-done : goal.returns-in-Err-Failed-clause-done
@@ -62,7 +62,7 @@ returns-in-Err-Failed-clause-done g c =
 pub returns-in-Err-Failed-clause-cut_off : goal.returns-in-Err-Failed-clause-cut_off
 returns-in-Err-Failed-clause-cut_off g c =
     let e = c.in-Err-Failed.ensures in
-    err_holds c.fail.result _ (look_cut c.leftovers_hold.ensures c.args.region c.args.pattern.now (g.D.Disk.disk c.args.disk.now) (g.D.Disk.disk c.find.new.disk) c.args.site.now
+    err_holds c.fail.result _ (look_cut c.leftovers_hold.ensures c.args.region c.args.pattern.now (g.D.Disk.disk c.args.disk.now) (g.D.Disk.disk c.find.new.disk) c.args.site.now c.requires.down
     (record { lawful = g.met.D.Disk.lawful c.find.new.disk; any_moment = e.any_moment; untouched = e.untouched; content = e.content; simulated = e.simulated; later = e.later }))
 
 pub returns-in-Err-NotAFile-clause-done : goal.returns-in-Err-NotAFile-clause-done
@@ -79,7 +79,7 @@ returns-in-Err-NotAFile-clause-done g c =
 pub returns-in-Err-NotAFile-clause-cut_off : goal.returns-in-Err-NotAFile-clause-cut_off
 returns-in-Err-NotAFile-clause-cut_off g c =
     let e = c.in-Err-NotAFile.ensures in
-    err_holds c.damaged-in-Err-NotAFile.result _ (look_cut c.leftovers_hold.ensures c.args.region c.args.pattern.now (g.D.Disk.disk c.args.disk.now) (g.D.Disk.disk c.find.new.disk) c.args.site.now
+    err_holds c.damaged-in-Err-NotAFile.result _ (look_cut c.leftovers_hold.ensures c.args.region c.args.pattern.now (g.D.Disk.disk c.args.disk.now) (g.D.Disk.disk c.find.new.disk) c.args.site.now c.requires.down
     (record { lawful = g.met.D.Disk.lawful c.find.new.disk; any_moment = e.any_moment; untouched = e.untouched; content = e.content; simulated = e.simulated; later = e.later }))
 
 pub returns : goal.returns
@@ -88,6 +88,6 @@ returns g c =
     record {
       ready = tt;
       done = tt;
-      cut_off = look_cut c.leftovers_hold.ensures c.args.region c.args.pattern.now (g.D.Disk.disk c.args.disk.now) (g.D.Disk.disk c.find.new.disk) c.args.site.now
+      cut_off = look_cut c.leftovers_hold.ensures c.args.region c.args.pattern.now (g.D.Disk.disk c.args.disk.now) (g.D.Disk.disk c.find.new.disk) c.args.site.now c.requires.down
           (record { lawful = g.met.D.Disk.lawful c.find.new.disk; any_moment = e.any_moment; untouched = e.untouched; content = e.content; simulated = e.simulated; later = e.later });
     }

@@ -33,7 +33,7 @@ returns-else-is_named-clause-done g c =
 pub returns-else-is_named-clause-cut_off : goal.returns-else-is_named-clause-cut_off
 returns-else-is_named-clause-cut_off g c =
     let e = c.in-Ok.ensures in
-    err_holds c.damaged.result _ (load_cut c.leftovers_hold.ensures (g.D.Disk.disk c.args.disk.now) (g.D.Disk.disk c.load.new.disk) c.args.site.now (g.met.D.Disk.lawful c.load.new.disk) e.any_moment e.left e.still_told e.simulated e.later)
+    err_holds c.damaged.result _ (load_cut c.leftovers_hold.ensures (g.D.Disk.disk c.args.disk.now) (g.D.Disk.disk c.load.new.disk) c.args.site.now (g.met.D.Disk.lawful c.load.new.disk) c.requires e.any_moment e.left e.still_told e.simulated e.later)
 
 pub returns-in-Err-GenLimit-clause-done : goal.returns-in-Err-GenLimit-clause-done
 returns-in-Err-GenLimit-clause-done g c =
@@ -46,7 +46,7 @@ returns-in-Err-GenLimit-clause-done g c =
 pub returns-in-Err-GenLimit-clause-cut_off : goal.returns-in-Err-GenLimit-clause-cut_off
 returns-in-Err-GenLimit-clause-cut_off g c =
     let e = c.in-Err-GenLimit.ensures in
-    err_holds c.refuse.result _ (load_cut c.leftovers_hold.ensures (g.D.Disk.disk c.args.disk.now) (g.D.Disk.disk c.load.new.disk) c.args.site.now (g.met.D.Disk.lawful c.load.new.disk) e.any_moment e.left e.still_told e.simulated e.later)
+    err_holds c.refuse.result _ (load_cut c.leftovers_hold.ensures (g.D.Disk.disk c.args.disk.now) (g.D.Disk.disk c.load.new.disk) c.args.site.now (g.met.D.Disk.lawful c.load.new.disk) c.requires e.any_moment e.left e.still_told e.simulated e.later)
 
 pub returns-in-Err-Failed-clause-done : goal.returns-in-Err-Failed-clause-done
 returns-in-Err-Failed-clause-done g c =
@@ -61,7 +61,7 @@ returns-in-Err-Failed-clause-done g c =
 pub returns-in-Err-Failed-clause-cut_off : goal.returns-in-Err-Failed-clause-cut_off
 returns-in-Err-Failed-clause-cut_off g c =
     let e = c.in-Err-Failed.ensures in
-    err_holds c.fail.result _ (load_cut c.leftovers_hold.ensures (g.D.Disk.disk c.args.disk.now) (g.D.Disk.disk c.load.new.disk) c.args.site.now (g.met.D.Disk.lawful c.load.new.disk) e.any_moment e.left e.still_told e.simulated e.later)
+    err_holds c.fail.result _ (load_cut c.leftovers_hold.ensures (g.D.Disk.disk c.args.disk.now) (g.D.Disk.disk c.load.new.disk) c.args.site.now (g.met.D.Disk.lawful c.load.new.disk) c.requires e.any_moment e.left e.still_told e.simulated e.later)
 
 pub returns-in-Err-NotAFile-clause-done : goal.returns-in-Err-NotAFile-clause-done
 returns-in-Err-NotAFile-clause-done g c =
@@ -76,9 +76,9 @@ returns-in-Err-NotAFile-clause-done g c =
 pub returns-in-Err-NotAFile-clause-cut_off : goal.returns-in-Err-NotAFile-clause-cut_off
 returns-in-Err-NotAFile-clause-cut_off g c =
     let e = c.in-Err-NotAFile.ensures in
-    err_holds c.damaged-in-Err-NotAFile.result _ (load_cut c.leftovers_hold.ensures (g.D.Disk.disk c.args.disk.now) (g.D.Disk.disk c.load.new.disk) c.args.site.now (g.met.D.Disk.lawful c.load.new.disk) e.any_moment e.left e.still_told e.simulated e.later)
+    err_holds c.damaged-in-Err-NotAFile.result _ (load_cut c.leftovers_hold.ensures (g.D.Disk.disk c.args.disk.now) (g.D.Disk.disk c.load.new.disk) c.args.site.now (g.met.D.Disk.lawful c.load.new.disk) c.requires e.any_moment e.left e.still_told e.simulated e.later)
 
 pub returns-in-Err : goal.returns-in-Err
 returns-in-Err g c =
     let e = c.in-Err.ensures in
-    record { ready = tt; done = tt; cut_off = load_cut c.leftovers_hold.ensures (g.D.Disk.disk c.args.disk.now) (g.D.Disk.disk c.load.new.disk) c.args.site.now (g.met.D.Disk.lawful c.load.new.disk) e.any_moment e.left e.still_told e.simulated e.later }
+    record { ready = tt; done = tt; cut_off = load_cut c.leftovers_hold.ensures (g.D.Disk.disk c.args.disk.now) (g.D.Disk.disk c.load.new.disk) c.args.site.now (g.met.D.Disk.lawful c.load.new.disk) c.requires e.any_moment e.left e.still_told e.simulated e.later }

@@ -4,14 +4,28 @@ use Rattle.site_defs.specs.Contents.{Contents, Standing, bare}
 use Rattle.site_defs.specs.Lists.{Among}
 use Rattle.site_defs.specs.Opening.{MayBeginLeft}
 use Rattle.site_defs.specs.Samples.{made}
-use Rattle.world_defs.specs.World.{Place, StandAfter}
+use Rattle.world_defs.specs.World.{Place, UNTOLD, CoversSo, StandAfter}
 use Rattle.world_defs.specs.rows.Crash.{Crashes, standing_now}
 use Rattle.world_defs.specs.Samples.{torn_place}
 use Rattle.world_defs.proofs.laws.leftovers_are_written.Goals as goal
 
+-- no lost-transaction file of it is left open
+none_untold : (before : List (List ℕ)) → [] ≡ before ++ UNTOLD ∷ [] → ⊥
+none_untold [] e = cc
+none_untold (b ∷ bs) e = cc
+
+told : (o s : Standing) → o ≡ record { contents = made; broken = codes "x" } → CoversSo o s → s ≡ record { contents = made; broken = codes "x" }
+told o s is k = elim k.contents [
+  | inl same ↦ ap (λ (c : Contents). record { contents = c; broken = s.broken }) same ∙ ap (λ (b : List ℕ). record { contents = o.contents; broken = b }) k.broken ∙ is
+  | inr torn ↦ absurd (none_untold torn.before (sym (ap (λ (x : Standing). x.contents.losts) is) ∙ torn.untold))
+]
+
 -- the one standing that there was
 chosen : (q : Place) → Crashes torn_place q → standing_now q ≡ record { contents = made; broken = codes "x" }
-chosen q d = elim (d.behind refl) [ inl is ↦ is | inr none ↦ absurd none ]
+chosen q d =
+    let b = d.behind refl in
+    let is : b.0 ≡ record { contents = made; broken = codes "x" } = elim b.1 [ inl is ↦ is | inr none ↦ absurd none ] in
+    told b.0 (standing_now q) is b.2
 
 pub returns-clause-crashed : goal.returns-clause-crashed
 returns-clause-crashed c q d = ap (λ (s : Standing). s.broken) (chosen q d)

@@ -1,4 +1,4 @@
-use Rattle.std.proofs.Common.{◌≡◌, ℕ, ◌-◌, ◌++◌, [], length, List, false, inl, inr, refl, sym, ◌∙◌, ap, arith}
+use Rattle.std.proofs.Common.{true, ◌≡◌, ℕ, ◌-◌, ◌++◌, [], length, List, false, inl, inr, refl, sym, ◌∙◌, ap, arith}
 use Rattle.std.specs.Prelude.{codes}
 use Rattle.std.specs.Fmt.{decimal, digits}
 use Rattle.journal_defs.specs.Instance.{generation}
@@ -36,7 +36,7 @@ returns-clause-without c = (
       codes "R",
       1,
       refl,
-      λ t. record { region = 0; named = refl; start = record { region = 0; before = false; generation = 1; previous = 0 }; among = inl refl; without = refl; generation = refl },
+      λ t. record { region = 0; mode = record { name = codes "R"; before = true }; there = refl; named = refl; start = record { region = 0; before = false; generation = 1; previous = 0 }; among = inl refl; without = refl; generation = refl },
       record { site = refl; now = refl; left = refl; known = record { told = refl; outcomes = λ o h. h; standings = λ t o h. (o, h, refl) }; shown = refl; faults = omega arith; simulated = refl },
     ),
   ),

@@ -1,0 +1,92 @@
+use Rattle.std.proofs.Common.{Bool, Option, IfSome, ◌∙◌, ap, subst, sym, Err}
+use Rattle.disk_defs.specs.Disk.{Files}
+use Rattle.site_runner.specs.Rolling.{NeedsForward}
+use Rattle.world_defs.specs.rows.Rollback as rows
+use Rattle.site_runner.specs.declared.slot.Site.{Site}
+use Rattle.site_runner.specs.Steps.{ExecutesAt}
+use Rattle.site_runner.proofs.Ats.{on_not_done, on_failed, on_done, if_some}
+use Rattle.site_runner.proofs.Results.{err_holds, on_err_of}
+use Rattle.site_runner.proofs.Written.{named, not_a_file}
+use Rattle.site_runner.proofs.Rolled.{rollback_cut, rollback_fault, rollback_limit, rollback_damaged, rollback_done, refuses_so, cut_down_so}
+use Rattle.site_runner.proofs.rolling.roll_down.Goals as goal
+
+pub returns-in_ok-write_rolled-in-Ok-clause-done : goal.returns-in_ok-write_rolled-in-Ok-clause-done
+returns-in_ok-write_rolled-in-Ok-clause-done g c =
+    let e = c.in-Ok.ensures in
+    rollback_done c.args.number (g.D.Disk.disk c.args.disk.now) (g.D.Disk.disk c.rollback.new.disk) c.args.site.now c.in-Ok.rolled.kept c.in-Ok.rolled.lost c.args.text.now _ c.requires.down e.read e.told e.held e.simulated e.later (named _ _ c.as_slice.ensures c.in_ok-write_rolled-in-Ok.ensures)
+
+pub returns-in_err-write_rolled-in-Ok-clause-cut_off : goal.returns-in_err-write_rolled-in-Ok-clause-cut_off
+returns-in_err-write_rolled-in-Ok-clause-cut_off g c =
+    let e = c.in-Ok.ensures in
+    err_holds c.from_residual.result _ (rollback_cut c.leftovers_hold.ensures c.args.number (g.D.Disk.disk c.args.disk.now) (g.D.Disk.disk c.rollback.new.disk) c.args.site.now (g.met.D.Disk.lawful c.rollback.new.disk) c.requires.down e.any_moment e.left e.still_told e.simulated e.later)
+
+pub returns-in-Err-GenLimit-clause-done : goal.returns-in-Err-GenLimit-clause-done
+returns-in-Err-GenLimit-clause-done g c =
+    let e = c.in-Err-GenLimit.ensures in
+    let is = ap Err c.in-Err-GenLimit.field-0-is in
+    let kept = e.unwritten is in
+    on_not_done c.refuse.result _ _ c.refuse.ensures (λ t.
+    rollback_limit c.args.number (g.D.Disk.disk c.args.disk.now) (g.D.Disk.disk c.rollback.new.disk) c.args.site.now c.args.text.now _ (g.met.D.Disk.lawful c.rollback.new.disk) c.requires.down (e.limit is) (e.limit_told is) kept.0 kept.1 e.simulated e.later
+    (named _ _ c.as_slice-in-Err-GenLimit.ensures t))
+
+pub returns-in-Err-GenLimit-clause-cut_off : goal.returns-in-Err-GenLimit-clause-cut_off
+returns-in-Err-GenLimit-clause-cut_off g c =
+    let e = c.in-Err-GenLimit.ensures in
+    err_holds c.refuse.result _ (rollback_cut c.leftovers_hold.ensures c.args.number (g.D.Disk.disk c.args.disk.now) (g.D.Disk.disk c.rollback.new.disk) c.args.site.now (g.met.D.Disk.lawful c.rollback.new.disk) c.requires.down e.any_moment e.left e.still_told e.simulated e.later)
+
+pub returns-in-Err-Failed-clause-done : goal.returns-in-Err-Failed-clause-done
+returns-in-Err-Failed-clause-done g c =
+    let e = c.in-Err-Failed.ensures in
+    let is = ap Err c.in-Err-Failed.field-0-is in
+    let s = c.args.site.now in
+    let w = g.D.Disk.disk c.rollback.new.disk in
+    on_failed c.fail.result c.fail.new.site _ _ (λ (x : Site) (done : Bool). ExecutesAt (rows.rollback c.args.number s.name) (g.D.Disk.disk c.args.disk.now) s w x c.args.text.now c.fail.new.text done) c.fail.ensures.failed (λ t.
+    rollback_fault c.leftovers_hold.ensures c.args.number (g.D.Disk.disk c.args.disk.now) w s _ c.args.text.now _ (g.met.D.Disk.lawful c.rollback.new.disk) c.requires.down e.any_moment e.left e.still_told e.simulated
+    (c.in-Err-Failed.fault-is ∙ e.count c.in-Err-Failed.fault is) (e.cause c.in-Err-Failed.fault is) t)
+
+pub returns-in-Err-Failed-clause-cut_off : goal.returns-in-Err-Failed-clause-cut_off
+returns-in-Err-Failed-clause-cut_off g c =
+    let e = c.in-Err-Failed.ensures in
+    err_holds c.fail.result _ (rollback_cut c.leftovers_hold.ensures c.args.number (g.D.Disk.disk c.args.disk.now) (g.D.Disk.disk c.rollback.new.disk) c.args.site.now (g.met.D.Disk.lawful c.rollback.new.disk) c.requires.down e.any_moment e.left e.still_told e.simulated e.later)
+
+pub returns-in-Err-NotAFile-clause-done : goal.returns-in-Err-NotAFile-clause-done
+returns-in-Err-NotAFile-clause-done g c =
+    let e = c.in-Err-NotAFile.ensures in
+    let file = c.in-Err-NotAFile.file in
+    let offset = c.in-Err-NotAFile.offset in
+    on_not_done c.damaged.result _ _ c.damaged.ensures (λ t.
+    rollback_damaged c.args.number (g.D.Disk.disk c.args.disk.now) (g.D.Disk.disk c.rollback.new.disk) c.args.site.now file offset c.args.text.now _ c.requires.down (e.outside file offset (ap Err c.in-Err-NotAFile.field-0-is)) (e.place file offset (ap Err c.in-Err-NotAFile.field-0-is))
+    (if_some (g.D.Disk.disk c.args.disk.now).content _ _ (λ _ k. k.0) (e.refused file offset (ap Err c.in-Err-NotAFile.field-0-is))) e.simulated e.later
+    (not_a_file _ c.in-Err-NotAFile.file-is c.in-Err-NotAFile.offset-is c.as_slice-in-Err-NotAFile.ensures t))
+
+pub returns-in-Err-NotAFile-clause-cut_off : goal.returns-in-Err-NotAFile-clause-cut_off
+returns-in-Err-NotAFile-clause-cut_off g c =
+    let e = c.in-Err-NotAFile.ensures in
+    err_holds c.damaged.result _ (rollback_cut c.leftovers_hold.ensures c.args.number (g.D.Disk.disk c.args.disk.now) (g.D.Disk.disk c.rollback.new.disk) c.args.site.now (g.met.D.Disk.lawful c.rollback.new.disk) c.requires.down e.any_moment e.left e.still_told e.simulated e.later)
+
+pub returns-in-Err-NoBeforeImage-clause-done : goal.returns-in-Err-NoBeforeImage-clause-done
+returns-in-Err-NoBeforeImage-clause-done g c =
+    let e = c.in-Err-NoBeforeImage.ensures in
+    let is = ap Err c.in-Err-NoBeforeImage.field-0-is in
+    let kept = e.untouched c.in-Err-NoBeforeImage.region c.in-Err-NoBeforeImage.generation is in
+    let number = c.args.number in
+    let w = g.D.Disk.disk c.rollback.new.disk in
+    on_done c.refuse_region.result _ _
+    (c.refuse_region.ensures.done number (subst (λ (o : Option Files). IfSome o (NeedsForward number c.in-Err-NoBeforeImage.region c.in-Err-NoBeforeImage.generation)) (sym kept.0) (e.without c.in-Err-NoBeforeImage.region c.in-Err-NoBeforeImage.generation is)))
+    (λ done r.
+    refuses_so number (g.D.Disk.disk c.args.disk.now) w (g.D.Disk.disk c.refuse_region.new.disk) c.args.site.now c.refuse_region.new.site c.args.text.now c.refuse_region.new.text done (g.met.D.Disk.lawful c.rollback.new.disk) c.requires.down kept.0 kept.1 e.simulated e.later r)
+
+pub returns-in-Err-NoBeforeImage-clause-cut_off : goal.returns-in-Err-NoBeforeImage-clause-cut_off
+returns-in-Err-NoBeforeImage-clause-cut_off g c =
+    let e = c.in-Err-NoBeforeImage.ensures in
+    let is = ap Err c.in-Err-NoBeforeImage.field-0-is in
+    let kept = e.untouched c.in-Err-NoBeforeImage.region c.in-Err-NoBeforeImage.generation is in
+    let number = c.args.number in
+    let w = g.D.Disk.disk c.rollback.new.disk in
+    on_err_of c.refuse_region.result _ _ (c.refuse_region.ensures.cut_off number)
+    (λ r. cut_down_so number (g.D.Disk.disk c.args.disk.now) w (g.D.Disk.disk c.refuse_region.new.disk) c.args.site.now (g.met.D.Disk.lawful c.rollback.new.disk) c.requires.down kept.0 kept.1 e.simulated e.later r)
+
+pub returns-in-Err-NoMemory : goal.returns-in-Err-NoMemory
+returns-in-Err-NoMemory g c =
+    let e = c.in-Err-NoMemory.ensures in
+    record { ready = tt; done = tt; cut_off = rollback_cut c.leftovers_hold.ensures c.args.number (g.D.Disk.disk c.args.disk.now) (g.D.Disk.disk c.rollback.new.disk) c.args.site.now (g.met.D.Disk.lawful c.rollback.new.disk) c.requires.down e.any_moment e.left e.still_told e.simulated e.later }
