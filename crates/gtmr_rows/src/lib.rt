@@ -16,6 +16,10 @@ mod openings;
 #[cfg(test)]
 mod ran;
 #[cfg(test)]
+mod random;
+#[cfg(test)]
+mod random_table;
+#[cfg(test)]
 mod regions;
 #[cfg(test)]
 mod rollbacks;

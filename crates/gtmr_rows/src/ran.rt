@@ -46,7 +46,7 @@ pub fn ran(
     let bad_reads = bad_reads.to_vec(alloc).expect(rt, "memory");
     let mut source = MemSource::new(script, bad_reads);
     let bad_writes = bad_writes.to_vec(alloc).expect(rt, "memory");
-    let sink = MemSink::new(alloc, bad_writes, most.max(1), 4096);
+    let sink = MemSink::new(alloc, bad_writes, most.max(1), 16_384);
     let mut sink = sink.expect(rt, "memory");
     let mut disks = disks(rt, alloc);
     let status = run(alloc, &given, &mut source, &mut sink, &mut disks);

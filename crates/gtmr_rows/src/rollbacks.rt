@@ -276,7 +276,9 @@ fn behind(rt: &impl Abort, alloc: Global, row: &Row, calls: u32, pick: u32) -> S
     ended(rt, status, Status::Ok);
     let front = format!(in alloc; "{printed}A FUSED {calls}\n").expect(rt, "memory");
     let out = String::from_utf8(out).expect(rt, "text");
-    let (_, rest) = out.split_once(front.as_str()).expect(rt, "what was done before");
+    let (_, rest) = out
+        .split_once(front.as_str())
+        .expect(rt, "what was done before");
     String::from_str(alloc, rest).expect(rt, "memory")
 }
 
@@ -333,12 +335,14 @@ fn a_recovery_that_fails_at_each_call(rt: HostRuntime) {
 #[test]
 fn a_rollback_stands_in_a_later_run(rt: HostRuntime) {
     let mut disks: Vec<MemDisk> = disks(&rt, rt.alloc());
-    let script = b"CREATE A R\nSTART A PRIMARY\nRUN A\n1 SET ^X=1\n1 SET ^X=2\nEND\nSTOP A\nROLLBACK A RESYNC 2\n";
+    let script =
+        b"CREATE A R\nSTART A PRIMARY\nRUN A\n1 SET ^X=1\n1 SET ^X=2\nEND\nSTOP A\nROLLBACK A RESYNC 2\n";
     let (status, _) = ran_on(&rt, rt.alloc(), &mut disks, script);
     ended(&rt, status, Status::Ok);
     let script = b"ATTACH\nTYPE A LOST 2\nSTART A PRIMARY\nZWRITE A\n";
     let (status, out) = ran_on(&rt, rt.alloc(), &mut disks, script);
     ended(&rt, status, Status::Ok);
-    let want = b"A ATTACHED\nGTMRJEX01\\A\\2\nSET\\2\\A.1\\1.2\\^X=\"2\"\nA PRIMARY 2 FROM 2\n^X=\"1\"\n";
+    let want =
+        b"A ATTACHED\nGTMRJEX01\\A\\2\nSET\\2\\A.1\\1.2\\^X=\"2\"\nA PRIMARY 2 FROM 2\n^X=\"1\"\n";
     same(&rt, out.as_slice(), want);
 }

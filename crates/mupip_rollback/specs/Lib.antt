@@ -1,1 +1,4 @@
+pub mod Cutting
+pub mod Errors
+pub mod Preparing
 pub mod Rolling

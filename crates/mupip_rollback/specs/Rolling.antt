@@ -20,6 +20,10 @@ pub record StandsFor (v : View) (c : Contents) : Type 0 where
 abbrev pub MayBeRolledBack : View → (to : ℕ) → List ℕ → Files → Type 0
 MayBeRolledBack old to broken = From (Image old) (λ was now. (c : Contents) → IsSite was c → (o : Contents) × MayRollBack (min to (length c.sequence)) broken c o × IsSite now o)
 
+-- it stands for what a rollback may leave of these contents with what lies behind them
+abbrev pub MayStandRolled : ℕ → Standing → Files → Type 0
+MayStandRolled t s f = (o : Standing) × MayRollBackLeft t s o × IsStanding f o
+
 -- and with the text of what was broken in that image
 abbrev pub MayBeRolledBackWith : View → (to : ℕ) → Files → Type 0
 MayBeRolledBackWith old to = From (Image old) (λ was now. (s : Standing) → IsStanding was s → (o : Standing) × MayRollBackLeft (min to (length s.contents.sequence)) s o × IsStanding now o)

@@ -1,5 +1,10 @@
 //! Why a site wasn't rolled back or recovered.
+ghost use Rattle.std.specs.Prelude.{◌≡◌};
+ghost use Rattle.mupip_rollback.specs.Errors.{IsOfOpening, site_error, files_error};
+
 use gvn_key::NoMemory;
+use site_files::FilesError;
+use site_store::SiteError;
 use thiserror::Error;
 
 /// Why a site was not rolled back, or not recovered.
@@ -30,5 +35,34 @@ impl From<NoMemory> for RollError {
 
     fn from(_: NoMemory) -> Self {
         RollError::NoMemory
+    }
+}
+
+/// An error of an opening or of an epoch.
+pub(crate) fn in_site(error: SiteError) -> RollError
+    requires { IsOfOpening error }
+    ensures { result ≡ site_error error }
+{
+    match error {
+        SiteError::Failed { fault } => RollError::Failed { fault },
+        SiteError::GenLimit => RollError::GenLimit,
+        SiteError::NotAFile { file, offset } => RollError::NotAFile { file, offset },
+        SiteError::NoMemory => RollError::NoMemory,
+        SiteError::Stopped { .. }
+        | SiteError::Full { .. }
+        | SiteError::SeqLimit
+        | SiteError::ReignLimit => unreachable!(),
+    }
+}
+
+/// An error of the site's files.
+pub(crate) fn in_files(error: FilesError) -> RollError
+    ensures { result ≡ files_error error }
+{
+    match error {
+        FilesError::Failed { fault } => RollError::Failed { fault },
+        FilesError::GenLimit => RollError::GenLimit,
+        FilesError::NotAFile { file, offset } => RollError::NotAFile { file, offset },
+        FilesError::NoMemory => RollError::NoMemory,
     }
 }

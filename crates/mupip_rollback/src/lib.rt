@@ -8,7 +8,9 @@
 //!   epoch of all of them.
 #![tactic(auto)]
 
+mod cutting;
 mod error;
+mod preparing;
 mod recovering;
 mod rolling;
 

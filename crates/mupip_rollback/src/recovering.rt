@@ -16,8 +16,9 @@ ghost use Rattle.site_store.specs.Opening.{EachStands};
 ghost use Rattle.site_store.specs.Refusing.{IsUnwritten};
 ghost use Rattle.mupip_rollback.specs.Rolling.{StandsFor, MayBeRecovered, MayBeRecoveredWith};
 
-use super::error::RollError;
+use super::error::{RollError, in_site};
 use repl_disk::Disk;
+use site_store::load;
 use std::alloc::Global;
 
 /// Recovers the site that stands on a disk backward: opens it, which writes down what is broken behind its entries and begins the next
@@ -39,16 +40,22 @@ pub fn recover_backward<D: Disk>(alloc: Global, disk: &mut D) -> Result<u64, Rol
     ensures place { (file offset : ℕ) → IsErrOf result (RollError.NotAFile file offset) → IfSome (D.disk disk.old).content (λ files. IsOutsideOpening files file offset) }
     ensures refused { (file offset : ℕ) → IsErrOf result (RollError.NotAFile file offset) → IfSome (D.disk disk.old).content (λ _. IsUnwritten (D.disk disk.old) (D.disk disk.new)) }
     ensures outside { (file offset : ℕ) → IsErrOf result (RollError.NotAFile file offset) → IfSome (D.disk disk.old).content (λ files. (c : Contents) → IsSite files c → ⊥) }
-    ensures any_moment { IfSome (D.disk disk.old).content (λ files. (c : Contents) (left : Leftover) → IsSite files c → HasLeft files c left → AtEachMoment (D.disk disk.old) (D.disk disk.new) (MayBeRecovered (D.disk disk.old) left.broken)) }
+    ensures any_moment { IfSome (D.disk disk.old).content (λ files. (c : Contents) (left : Leftover) → IsSite files c → HasLeft files c left → EachStands (D.disk disk.old) → AtEachMoment (D.disk disk.old) (D.disk disk.new) (MayBeRecovered (D.disk disk.old) left.broken)) }
     // each with what was broken in its own image
-    ensures left { IfSome (D.disk disk.old).content (λ files. (c : Contents) → IsSite files c → AtEachMoment (D.disk disk.old) (D.disk disk.new) (MayBeRecoveredWith (D.disk disk.old))) }
+    ensures left { IfSome (D.disk disk.old).content (λ files. (c : Contents) → IsSite files c → EachStands (D.disk disk.old) → AtEachMoment (D.disk disk.old) (D.disk disk.new) (MayBeRecoveredWith (D.disk disk.old))) }
     ensures still_told { IsSome (D.disk disk.old).content → IsSome (D.disk disk.new).content }
-    ensures stands { IfSome (D.disk disk.old).content (λ files. (c : Contents) (left : Leftover) → IsSite files c → HasLeft files c left → IfSome (D.disk disk.new).content (λ now. (o : Contents) × (MayOpen left.broken c o ⊎ MayMark (opened left.broken c) o) × IsSite now o)) }
+    ensures stands { IfSome (D.disk disk.old).content (λ files. (c : Contents) (left : Leftover) → IsSite files c → HasLeft files c left → EachStands (D.disk disk.old) → IfSome (D.disk disk.new).content (λ now. (o : Contents) × (MayOpen left.broken c o ⊎ MayMark (opened left.broken c) o) × IsSite now o)) }
     ensures simulated { (D.disk disk.new).simulated ≡ (D.disk disk.old).simulated }
     ensures later { (D.disk disk.old).faults ≤ (D.disk disk.new).faults }
     ensures count { (fault : ℕ) → IsErrOf result (RollError.Failed fault) → fault ≡ (D.disk disk.new).faults }
     ensures cause { (fault : ℕ) → IsErrOf result (RollError.Failed fault) → Rose (D.disk disk.old).faults (D.disk disk.new).faults }
 {
-    // a stand-in
-    Err(RollError::NoMemory)
+    let mut site = match load(alloc, disk) {
+        Ok(site) => site,
+        Err(error) => return Err(in_site(error)),
+    };
+    match site.epoch(alloc, disk, true) {
+        Ok(()) => Ok(site.sequence_length()),
+        Err(error) => Err(in_site(error)),
+    }
 }

@@ -1,6 +1,6 @@
 //! Rolling a site back.
-ghost use Rattle.std.specs.Prelude.{◌≡◌, ◌⊎◌, ◌≤◌, ◌<◌, ◌+◌, ℕ, List, length, min, IfOk, IfSome, OnErr, IsErrOf, IsSome};
-ghost use Rattle.disk_defs.specs.Disk.{Image, AtEachMoment, Rose};
+ghost use Rattle.std.specs.Prelude.{◌≡◌, ◌⊎◌, ◌≤◌, ◌<◌, ◌+◌, ℕ, List, length, min, IfOk, IfSome, OnOk, OnErr, IsErrOf, IsSome};
+ghost use Rattle.disk_defs.specs.Disk.{Files, Image, AtEachMoment, Rose};
 ghost use Rattle.global_defs.specs.Entry.{Sequence};
 ghost use Rattle.journal_defs.specs.Instance as defs;
 ghost use Rattle.journal_defs.specs.Instance.{generation};
@@ -13,10 +13,14 @@ ghost use Rattle.site_defs.specs.Rolling.{rolled, MayRollBack};
 ghost use Rattle.site_defs.specs.Stands.{IsSite, HasLeft};
 ghost use Rattle.site_store.specs.Opening.{EachStands};
 ghost use Rattle.site_store.specs.Refusing.{IsUnwritten};
-ghost use Rattle.mupip_rollback.specs.Rolling.{StandsFor, MayBeRolledBack, MayBeRolledBackWith, IsFirstWithout, NoneIsWithout};
+ghost use Rattle.mupip_rollback.specs.Preparing.{IsPrepared};
+ghost use Rattle.mupip_rollback.specs.Rolling.{StandsFor, MayStandRolled, MayBeRolledBack, MayBeRolledBackWith, IsFirstWithout, NoneIsWithout};
 
-use super::error::RollError;
+use super::cutting::{begin_kept, set_aside};
+use super::error::{RollError, in_site};
+use super::preparing::{Prepared, prepare};
 use repl_disk::Disk;
+use site_files::generation_in;
 use std::alloc::Global;
 
 /// What a rollback left.
@@ -26,6 +30,35 @@ pub struct Rolled {
     pub kept: u64,
     /// The generation of the lost-transaction file, which has the others.
     pub lost: u32,
+}
+
+/// Rolls a site back that was prepared for it: both CUTs, the lost-transaction file between them, and the closing epoch.
+fn roll<D: Disk>(alloc: Global, disk: &mut D, prepared: Prepared) -> Result<(), RollError>
+    requires prepared { IsPrepared (D.disk disk.old) prepared }
+    ensures done { OnOk result (IfSome (D.disk disk.old).content (λ _. (c : Contents) → ((f : Files) → Image (D.disk disk.old) f → IsSite f c) → StandsFor (D.disk disk.new) (rolled (length prepared.kept.entries.items) prepared.broken c))) }
+    ensures any_moment { IfSome (D.disk disk.old).content (λ _. (c : Contents) → ((f : Files) → Image (D.disk disk.old) f → IsSite f c) → AtEachMoment (D.disk disk.old) (D.disk disk.new) (MayStandRolled (length prepared.kept.entries.items) (record { contents = c; broken = prepared.broken }))) }
+    ensures limit { IsErrOf result RollError.GenLimit → ⊥ }
+    ensures without { (region generation : ℕ) → IsErrOf result (RollError.NoBeforeImage region generation) → ⊥ }
+    ensures outside { (file offset : ℕ) → IsErrOf result (RollError.NotAFile file offset) → IfSome (D.disk disk.old).content (λ _. ⊥) }
+    ensures still_told { IsSome (D.disk disk.old).content → IsSome (D.disk disk.new).content }
+    ensures simulated { (D.disk disk.new).simulated ≡ (D.disk disk.old).simulated }
+    ensures later { (D.disk disk.old).faults ≤ (D.disk disk.new).faults }
+    ensures count { (fault : ℕ) → IsErrOf result (RollError.Failed fault) → fault ≡ (D.disk disk.new).faults }
+    ensures cause { (fault : ℕ) → IsErrOf result (RollError.Failed fault) → Rose (D.disk disk.old).faults (D.disk disk.new).faults }
+{
+    let Prepared {
+        log,
+        length,
+        broken,
+        lost,
+        kept,
+    } = prepared;
+    let instance = set_aside(alloc, disk, log, length, broken.as_slice(), lost.as_slice())?;
+    let mut site = begin_kept(alloc, disk, instance, kept)?;
+    match site.epoch(alloc, disk, true) {
+        Ok(()) => Ok(()),
+        Err(error) => Err(in_site(error)),
+    }
 }
 
 /// Rolls the site that stands on a disk back to its first entries, so many as `to` or all where there are fewer: it reads all of the site's
@@ -51,16 +84,21 @@ pub fn rollback<D: Disk>(alloc: Global, disk: &mut D, to: u64) -> Result<Rolled,
     ensures place { (file offset : ℕ) → IsErrOf result (RollError.NotAFile file offset) → IfSome (D.disk disk.old).content (λ files. IsOutsideRollback to files file offset) }
     ensures refused { (file offset : ℕ) → IsErrOf result (RollError.NotAFile file offset) → IfSome (D.disk disk.old).content (λ _. IsUnwritten (D.disk disk.old) (D.disk disk.new)) }
     ensures outside { (file offset : ℕ) → IsErrOf result (RollError.NotAFile file offset) → IfSome (D.disk disk.old).content (λ files. (c : Contents) → IsSite files c → ⊥) }
-    ensures any_moment { IfSome (D.disk disk.old).content (λ files. (c : Contents) (left : Leftover) → IsSite files c → HasLeft files c left → AtEachMoment (D.disk disk.old) (D.disk disk.new) (MayBeRolledBack (D.disk disk.old) to left.broken)) }
+    ensures any_moment { IfSome (D.disk disk.old).content (λ files. (c : Contents) (left : Leftover) → IsSite files c → HasLeft files c left → EachStands (D.disk disk.old) → AtEachMoment (D.disk disk.old) (D.disk disk.new) (MayBeRolledBack (D.disk disk.old) to left.broken)) }
     // each with what was broken in its own image
-    ensures left { IfSome (D.disk disk.old).content (λ files. (c : Contents) → IsSite files c → AtEachMoment (D.disk disk.old) (D.disk disk.new) (MayBeRolledBackWith (D.disk disk.old) to)) }
+    ensures left { IfSome (D.disk disk.old).content (λ files. (c : Contents) → IsSite files c → EachStands (D.disk disk.old) → AtEachMoment (D.disk disk.old) (D.disk disk.new) (MayBeRolledBackWith (D.disk disk.old) to)) }
     ensures still_told { IsSome (D.disk disk.old).content → IsSome (D.disk disk.new).content }
-    ensures stands { IfSome (D.disk disk.old).content (λ files. (c : Contents) (left : Leftover) → IsSite files c → HasLeft files c left → IfSome (D.disk disk.new).content (λ now. (o : Contents) × MayRollBack (min to (length c.sequence)) left.broken c o × IsSite now o)) }
+    ensures stands { IfSome (D.disk disk.old).content (λ files. (c : Contents) (left : Leftover) → IsSite files c → HasLeft files c left → EachStands (D.disk disk.old) → IfSome (D.disk disk.new).content (λ now. (o : Contents) × MayRollBack (min to (length c.sequence)) left.broken c o × IsSite now o)) }
     ensures simulated { (D.disk disk.new).simulated ≡ (D.disk disk.old).simulated }
     ensures later { (D.disk disk.old).faults ≤ (D.disk disk.new).faults }
     ensures count { (fault : ℕ) → IsErrOf result (RollError.Failed fault) → fault ≡ (D.disk disk.new).faults }
     ensures cause { (fault : ℕ) → IsErrOf result (RollError.Failed fault) → Rose (D.disk disk.old).faults (D.disk disk.new).faults }
 {
-    // a stand-in
-    Err(RollError::NoMemory)
+    let prepared = prepare(alloc, disk, to)?;
+    let rolled = Rolled {
+        kept: prepared.kept.entries.len() as u64,
+        lost: generation_in(prepared.log.records.as_slice()) + 1,
+    };
+    roll(alloc, disk, prepared)?;
+    Ok(rolled)
 }

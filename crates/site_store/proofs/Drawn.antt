@@ -25,7 +25,7 @@ use Rattle.site_files.specs.Loading.{MayBeOpened, AreRead, IsUncut, HasDrawn, Ma
 use Rattle.site_files.specs.Loading as files
 use Rattle.site_files.proofs.Keeping as keeping
 use Rattle.site_files.proofs.Kept.{held_read}
-use Rattle.site_defs.specs.Contents.{Taken, Contents, Leftover, Standing, bare}
+use Rattle.site_defs.specs.Contents.{Taken, Contents, Leftover, Standing, NO_LEFTOVER, bare}
 use Rattle.site_defs.specs.Opening.{cut_there, with_starts, starts_in, start_of, MayOpen, MayOpenLeft}
 use Rattle.site_defs.specs.Stands.{start_in, epoch_in, texts_of, losts_of, torn_of, IsSite, HasLeft}
 use Rattle.site_defs.specs.Behind.{IsStanding}
@@ -219,15 +219,14 @@ module _ (rs : List InstanceRecord) (last : ℕ → ℕ) (journal : ℕ → List
     }
 
     -- and nothing lies behind that
-    pub standing_drawn : (b : Files) (k : ℕ) → HasDrawn rs t broken_there last k a b → IsStanding b (bare (with_starts k D))
-    standing_drawn b k has =
+    pub left_drawn : (b : Files) (k : ℕ) → HasDrawn rs t broken_there last k a b → HasLeft b (with_starts k D) NO_LEFTOVER
+    left_drawn b k has =
         let image = (draws b k has).0 in
-        record {
-          site = site_drawn b k has;
-          torn = [];
-          left = left_nothing b (with_starts k D) (drawn_records S t last k) image.held image.clean
-              (subst (λ (n : ℕ). NonePast n (drawn_records S t last k)) (sym size) (keeping.none_past S t last (drawing.before a S (generation rs + 1) sound.held past) k)) refl;
-        }
+        left_nothing b (with_starts k D) (drawn_records S t last k) image.held image.clean
+        (subst (λ (n : ℕ). NonePast n (drawn_records S t last k)) (sym size) (keeping.none_past S t last (drawing.before a S (generation rs + 1) sound.held past) k)) refl
+
+    pub standing_drawn : (b : Files) (k : ℕ) → HasDrawn rs t broken_there last k a b → IsStanding b (bare (with_starts k D))
+    standing_drawn b k has = record { site = site_drawn b k has; torn = []; left = left_drawn b k has }
 
     -- whatever a crash leaves of it
     pub site_may : (b : Files) → broken_there ≡ text → MayDraw rs t broken_there last a b → IsSite b (C a) ⊎ ((k : ℕ) × IsSite b (with_starts k D))

@@ -3,22 +3,25 @@ use Rattle.std.proofs.Common.{◌≡◌, inr, ℕ, [], ◌∷◌, ◌++◌, leng
 use Rattle.std.proofs.Math.Seq.{take-length}
 use Rattle.disk_defs.specs.Disk.{Files, View, Image, Reads, IsLawful, AtEachMoment}
 use Rattle.disk_defs.proofs.Moments.{read_only}
-use Rattle.disk_defs.proofs.Told.{both_weak, told_at}
+use Rattle.disk_defs.proofs.Told.{both_weak, weaker_told, told_at}
 use Rattle.global_defs.specs.Entry.{Sequence, state}
 use Rattle.journal_defs.specs.Instance.{generation, regions}
 use Rattle.journal_defs.specs.Stands.{AreRecords}
 use Rattle.journal_defs.specs.Fit.{IsSoundImage}
 use Rattle.site_defs.specs.Contents.{Contents}
-use Rattle.site_defs.specs.Stands.{IsSite}
+use Rattle.site_defs.specs.Stands.{IsSite, Stands}
 use Rattle.site_defs.specs.OutsideBlocks.{IsOutsideOpening, HaveOutsideBlocks, whole}
-use Rattle.site_files.specs.Loading.{WasRead, last_of, next_cut}
-use Rattle.site_files.proofs.Kept.{held_read}
+use Rattle.site_files.specs.Loading.{AreRead, WasRead, last_of, next_cut}
+use Rattle.site_files.proofs.Kept.{image_read, held_read}
 use Rattle.site_regions.specs.Joined.{Joined, joined}
 use Rattle.site_store.specs.declared.preparing.FoundFiles.{FoundFiles}
 use Rattle.site_store.specs.declared.preparing.StandingSite.{StandingSite}
 use Rattle.site_store.specs.declared.error.SiteError.{SiteError}
 use Rattle.site_store.specs.Finding.{HasLayout}
-use Rattle.site_store.specs.Site.{AreOnBlocks}
+use Rattle.site_store.specs.Site.{AreOnBlocks, AreSynced}
+use Rattle.site_store.specs.Opening.{AreTextsDurable, AreDatabasesDurable}
+use Rattle.site_store.proofs.Alike.{image_site}
+use Rattle.site_store.proofs.OnBlocks.{on_same}
 use Rattle.site_store.specs.Standing.{found_records, found_entries, HasFound, WasFound, IsFoundAs, IsOpenFor, Stood}
 use Rattle.site_store.proofs.Databases.{databases_still, texts_still}
 use Rattle.site_store.proofs.Drawn.{site_read}
@@ -41,6 +44,26 @@ open_moved u v w f t j same is = record {
   some = is.some;
   none = is.none;
 }
+
+-- what is so in each image, where the disk tells its files
+module _ (u v : View) (f : FoundFiles) (was : WasFound u v f) where
+  pub synced_found : IfSome u.content (λ _. AreSynced v (length (regions f.read.log.records)))
+  synced_found = weaker_told u.content (AreDatabasesDurable v (length (regions f.read.log.records))) (λ _. AreSynced v (length (regions f.read.log.records))) was.databases (λ files durable a b i j r low. durable r low b j ∙ sym (durable r low a i))
+
+  pub blocks_found : (t : ℕ) (j : Joined) → IsOpenFor u v f t j → IfSome u.content (λ _. (d : Files) → Image v d → AreOnBlocks d (found_records f) t j)
+  blocks_found t j opens = both_weak u.content (AreDatabasesDurable v (length (regions f.read.log.records))) (λ files. AreOnBlocks files (found_records f) t j) (λ _. (d : Files) → Image v d → AreOnBlocks d (found_records f) t j) was.databases opens.blocks
+      (λ files durable on d image. on_same files d (found_records f) t j (λ r low. durable r low d image) on)
+
+  pub read_found : IfSome u.content (λ _. (d : Files) → Image v d → AreRead f.read.log.records (last_of f.read.last_began.items) (found_records f).journal d)
+  read_found = weaker_told u.content (WasRead v f.read.log.records (last_of f.read.last_began.items) (found_records f).journal) (λ _. (d : Files) → Image v d → AreRead f.read.log.records (last_of f.read.last_began.items) (found_records f).journal d) was.read
+      (λ files r d image. image_read v f.read.log.records (last_of f.read.last_began.items) (found_records f).journal files r d image)
+
+  -- all images stand for the same, when each stands for something
+  pub images_found : HasFound f → ((d : Files) → Image v d → (o : Contents) × Stands d o) → IfSome u.content (λ files. (c : Contents) → IsSite files c → (d : Files) → Image v d → IsSite d c)
+  images_found has each = both_weak u.content (WasRead v f.read.log.records (last_of f.read.last_began.items) (found_records f).journal) (AreTextsDurable v (generation f.read.log.records)) (λ files. (c : Contents) → IsSite files c → (d : Files) → Image v d → IsSite d c) was.read was.texts
+      (λ files r durable c site d image.
+      subst (IsSite d) (sym (site_read f.read.log.records (last_of f.read.last_began.items) (found_records f).journal (found_entries f) has.form has.sequence files c r.holds site).1)
+      (image_site v f.read.log.records (last_of f.read.last_began.items) (found_records f).journal (found_entries f) has.form has.sequence files r durable d image (each d image).0 (each d image).1))
 
 -- open for all entries
 abbrev again : FoundFiles → StandingSite → FoundFiles

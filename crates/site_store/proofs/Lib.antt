@@ -29,10 +29,12 @@ pub mod Texts
 pub mod Databases
 pub mod Typed
 pub mod Refused
+pub mod Alike
 pub mod OpenedTo
 pub mod Loaded
 pub mod Founded
 pub mod Rolled
+pub mod CutOff
 pub mod Mapped
 pub mod Unwritten
 pub mod Owned

@@ -1,5 +1,5 @@
 -- A site is opened.
-use Rattle.std.proofs.Common.{◌≡◌, inl, inr, ℕ, zero, suc, ◌+◌, ◌≤◌, ◌<◌, ◌^◌, Bool, true, false, List, [], ◌∷◌, ◌++◌, length, map, Option, Some, None, IfSome, refl, sym, ◌∙◌, ap, subst, arith, append-nil}
+use Rattle.std.proofs.Common.{◌≡◌, inl, ℕ, zero, suc, ◌+◌, ◌≤◌, ◌<◌, ◌^◌, Bool, true, false, List, [], ◌∷◌, ◌++◌, length, map, Option, Some, None, IfSome, refl, sym, ◌∙◌, ap, subst, arith, append-nil}
 use Rattle.std.specs.Prelude.{◌^◌, filter, nat_le, fold, replicate, slice_get, if◌then◌else◌}
 use Rattle.std.specs.List.{AllByRecursion, enumerate_from, flat_map}
 use Rattle.std.proofs.lemmas.Bool.Decides.{nat_tests}
@@ -32,7 +32,7 @@ use Rattle.site_files.specs.Loading.{MayBeOpened, AreRead, WasRead, MayDraw, Has
 use Rattle.site_files.proofs.Kept.{image_read, held_read}
 use Rattle.site_defs.specs.Contents.{Contents, Leftover}
 use Rattle.site_defs.specs.Opening.{opened, MayOpen}
-use Rattle.site_defs.specs.Stands.{IsSite, HasLeft, Stands, texts_of, losts_of}
+use Rattle.site_defs.specs.Stands.{IsSite, HasLeft}
 use Rattle.site_store.specs.declared.site.OpenSite.{OpenSite}
 use Rattle.site_store.specs.Finding.{HasLayout}
 use Rattle.site_regions.specs.Joined.{joined}
@@ -41,8 +41,9 @@ use Rattle.gvn_model.specs.Numbered.{numbered}
 use Rattle.site_store.specs.Opening.{MayBeOpen, MayBeOpenWith, EachStands, AreTextsDurable, AreDatabasesDurable}
 use Rattle.site_store.proofs.Remembered.{length-enumerate, are_numbered}
 use Rattle.site_store.proofs.OnBlocks.{on_same}
-use Rattle.site_store.proofs.Found.{instance_one, blank_instance}
-use Rattle.site_store.proofs.Drawn.{S, C, text, site_read, left_read, site_either, standing_either, site_sound, draws_all, texts_kept, losts_kept}
+use Rattle.site_store.proofs.Found.{instance_one}
+use Rattle.site_store.proofs.Drawn.{S, C, text, site_read, left_read, site_either, standing_either, draws_all}
+use Rattle.site_store.proofs.Alike.{image_sound, image_site}
 use Rattle.site_store.proofs.OpenedTo.{newly, newly_at, open_to}
 
 pub length_values : (es : List code.Entry) → length (map entry_value es) ≡ length es
@@ -273,11 +274,7 @@ module _ (u v w : View) (rs : List InstanceRecord) (last : ℕ → ℕ) (journal
 
   -- each image is sound when it stood for something
   sound_image : (files : Files) → WasRead v rs last journal files → EachStands u → (d : Files) → Image v d → IsSoundImage d S0 seq
-  sound_image files r each d image = by_standing (image_read v rs last journal files r d image) (each d (earlier d image)).0 (each d (earlier d image)).1
-    where
-      by_standing : AreRead rs last journal d → (o : Contents) → Stands d o → IsSoundImage d S0 seq
-      by_standing rd o (inl blank) = absurd (let none : rs ≡ [] = instance_one (d 0) rs [] rd.instance (blank_instance (d 0) blank.1.instance) in let size : length rs ≡ 0 = ap length none in let some = form.some in omega (arith, size, some))
-      by_standing rd o (inr site) = (site_read rs last journal seq form sequence d o rd site).0
+  sound_image files r each d image = image_sound v rs last journal seq form sequence files r d image (each d (earlier d image)).0 (each d (earlier d image)).1
 
   module _ (s : OpenSite) (records : s.instance.records ≡ rs ++ next_cut rs (length seq) ∷ []) (entries : map numbered s.entries.items ≡ enumerate_from 1 seq) (hardened : s.hardened ≡ length seq) where
     count : length s.entries.items ≡ length seq
@@ -303,18 +300,11 @@ module _ (u v w : View) (rs : List InstanceRecord) (last : ℕ → ℕ) (journal
       abbrev pub Begun : Type 0
       Begun = (r : ℕ) (j : Journal) → slice_get begun r ≡ Some j → journals.HasRecords w j (settled (next_pini rs last r ∷ []))
 
-      -- all images stand for the same
-      texts_there : (files : Files) → AreTextsDurable v (generation rs) files → (f : Files) → Image v f → C0 f ≡ C0 files
-      texts_there files durable f image =
-          let texts : texts_of f (generation rs) ≡ texts_of files (generation rs) = sym (texts_kept files f (generation rs) (λ h one low. (durable h one low).0 f image)) in
-          let losts : losts_of f (generation rs) ≡ losts_of files (generation rs) = sym (losts_kept files f (generation rs) (λ h one low. (durable h one low).1 f image)) in
-          λ i. record { instance = rs; starts = (C0 files).starts; epochs = (C0 files).epochs; texts = texts i; losts = losts i; sequence = seq }
-
       is_open_all : (files : Files) → WasRead v rs last journal files → AreTextsDurable v (generation rs) files → AreDatabasesDurable v (length (regions rs)) files → AreOnBlocks files S0 (length seq) s.globals → joined s.globals ≡ state seq
           → EachStands u → ((f : Files) → Image w f → Finished f) → instances.HasRecords w s.instance (rs ++ next_cut rs (length seq) ∷ []) → Begun → IsOpen w true (opened broken (C0 files)) (length seq) s
       is_open_all files r durable databases on globals each drawn instance has =
           open_to v w rs last journal seq form sequence lawful_w (λ f image. image_read v rs last journal files r f image) (C0 files)
-          (λ f image. subst (IsSite f) (texts_there files durable f image) (site_sound rs last journal seq form sequence f (sound_image files r each f image)))
+          (λ f image. image_site v rs last journal seq form sequence files r durable f image (each f (earlier f image)).0 (each f (earlier f image)).1)
           (length seq) seq refl broken (λ f image. draws_all rs last journal seq form sequence f broken (image_read v rs last journal files r f image) (sound_image files r each f image) broken_is)
           s records entries hardened begun js_are (λ f d i j q low. databases q low d j ∙ sym (databases q low f i))
           (λ f image. on_same files f S0 (length seq) s.globals (λ q low. databases q low f image) on) globals drawn instance has

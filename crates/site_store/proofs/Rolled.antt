@@ -31,7 +31,7 @@ use Rattle.site_files.proofs.LostFiles.{lost_changed}
 use Rattle.site_regions.specs.Joined.{joined}
 use Rattle.site_store.specs.declared.site.OpenSite.{OpenSite}
 use Rattle.site_store.specs.Site.{IsOpen, AreOnBlocks, AreSynced}
-use Rattle.site_store.proofs.Drawn.{S, text, cut_at, DrawsTo, site_read, site_drawn, standing_drawn, standing_may}
+use Rattle.site_store.proofs.Drawn.{S, text, cut_at, DrawsTo, site_read, site_drawn, left_drawn, standing_may}
 use Rattle.site_store.proofs.Images.{losts_same, texts_same, torn_same}
 use Rattle.site_store.proofs.OpenedTo as opened
 use Rattle.site_store.proofs.OpenedTo.{newly, one_image}
@@ -66,9 +66,12 @@ module _ (rs : List InstanceRecord) (last : ℕ → ℕ) (journal : ℕ → List
         (site_drawn rs last journal seq form sequence a read sound t kept size [] (draws_to a read sound) b k has)
 
     -- and nothing lies behind it
+    pub left_cut : (b : Files) (k : ℕ) → HasDrawn rs t [] last k a b → HasLeft b (with_starts k (cut_to t c)) NO_LEFTOVER
+    left_cut b k has = subst (λ (x : Contents). HasLeft b (with_starts k (cut_to t x)) NO_LEFTOVER) (sym (site_read rs last journal seq form sequence a c read is).1)
+        (left_drawn rs last journal seq form sequence a read sound t kept size [] (draws_to a read sound) b k has)
+
     pub standing_cut : (b : Files) (k : ℕ) → HasDrawn rs t [] last k a b → IsStanding b (bare (with_starts k (cut_to t c)))
-    standing_cut b k has = subst (λ (x : Contents). IsStanding b (bare (with_starts k (cut_to t x)))) (sym (site_read rs last journal seq form sequence a c read is).1)
-        (standing_drawn rs last journal seq form sequence a read sound t kept size [] (draws_to a read sound) b k has)
+    standing_cut b k has = record { site = site_cut b k has; torn = []; left = left_cut b k has }
 
   -- whatever a crash leaves of it
   pub standing_either_cut : (a : Files) → AreRead rs last journal a → (s : Standing) → IsStanding a s → (b : Files) → MayDraw rs t [] last a b → IsStanding b s ⊎ ((k : ℕ) × IsStanding b (bare (with_starts k (cut_to t s.contents))))

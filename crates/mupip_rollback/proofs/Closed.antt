@@ -1,0 +1,23 @@
+-- A site that was closed.
+use Rattle.std.proofs.Common.{ℕ, length, true, refl, subst}
+use Rattle.std.proofs.Math.Seq.{take-length}
+use Rattle.disk_defs.specs.Disk.{Files, View, Image, IsLawful}
+use Rattle.site_defs.specs.Behind.{IsSiteWith}
+use Rattle.site_defs.specs.Contents.{Contents, NO_LEFTOVER, bare}
+use Rattle.site_defs.specs.Fronts.{with_sequence}
+use Rattle.site_defs.specs.Stands.{HasLeft}
+use Rattle.site_store.specs.declared.site.OpenSite.{OpenSite}
+use Rattle.site_store.specs.Site.{IsOpen}
+use Rattle.site_store.proofs.Emptied.{none_left}
+use Rattle.site_store.proofs.Standing.{images_stand, reads_so, told_of}
+use Rattle.mupip_rollback.specs.Rolling.{StandsFor}
+
+-- with all of its entries hardened, each image stands for its contents, and nothing lies behind them
+pub stands_for : (w : View) (c : Contents) (s : OpenSite) → IsLawful w → IsOpen w true c (length c.sequence) s → StandsFor w c
+stands_for w c s lawful is = record { reads = reads_so w (λ f. IsSiteWith f (bare c)) lawful (told_of w c (length c.sequence) s (is.kept refl)) images; images = images }
+  where
+    images : (f : Files) → Image w f → IsSiteWith f (bare c)
+    images f i = record {
+      site = images_stand w c s is f i;
+      left = subst (λ seq. HasLeft f (with_sequence c seq) NO_LEFTOVER) (take-length c.sequence) (none_left w c (length c.sequence) s f (is.kept refl) i);
+    }

@@ -1,0 +1,42 @@
+-- The error of a call below, handed on.
+use Rattle.std.proofs.Common.{◌≡◌, ℕ, Err, IsErrOf, ap}
+use Rattle.site_files.specs.declared.error.FilesError.{FilesError}
+use Rattle.site_files.specs.declared.error.FilesError.TheVariants as files
+use Rattle.site_store.specs.declared.error.SiteError.{SiteError}
+use Rattle.site_store.specs.declared.error.SiteError.TheVariants as sites
+use Rattle.mupip_rollback.specs.declared.error.RollError.{RollError}
+use Rattle.mupip_rollback.specs.declared.error.RollError.TheVariants as error
+use Rattle.mupip_rollback.specs.Errors.{site_error, files_error}
+
+-- the same error with another result
+pub handed_on : {T U E : Type 0} (e x : E) → IsErrOf {T = T} (Err e) x → IsErrOf {T = U} (Err e) x
+handed_on e x is = let same : e ≡ x = cc is in ap Err same
+
+-- which error it was
+site_file : (x : SiteError) (file offset : ℕ) → site_error x ≡ error.NotAFile file offset → x ≡ sites.NotAFile file offset
+site_file (sites.NotAFile f o) file offset is =
+    let one : f ≡ file = cc is in
+    let two : o ≡ offset = cc is in
+    λ i. sites.NotAFile (one i) (two i)
+site_file (sites.Failed f) file offset is = absurd (cc is)
+site_file sites.GenLimit file offset is = absurd (cc is)
+site_file sites.NoMemory file offset is = absurd (cc is)
+site_file (sites.Stopped f) file offset is = absurd (cc is)
+site_file (sites.Full n) file offset is = absurd (cc is)
+site_file sites.SeqLimit file offset is = absurd (cc is)
+site_file sites.ReignLimit file offset is = absurd (cc is)
+
+pub site_was : {T U : Type 0} (x : SiteError) (y : RollError) (file offset : ℕ) → y ≡ site_error x → IsErrOf {T = T} (Err y) (error.NotAFile file offset) → IsErrOf {T = U} (Err x) (sites.NotAFile file offset)
+site_was x y file offset same is = let there : y ≡ error.NotAFile file offset = cc is in ap Err (site_file x file offset (cc (same, there)))
+
+files_file : (x : FilesError) (file offset : ℕ) → files_error x ≡ error.NotAFile file offset → x ≡ files.NotAFile file offset
+files_file (files.NotAFile f o) file offset is =
+    let one : f ≡ file = cc is in
+    let two : o ≡ offset = cc is in
+    λ i. files.NotAFile (one i) (two i)
+files_file (files.Failed f) file offset is = absurd (cc is)
+files_file files.GenLimit file offset is = absurd (cc is)
+files_file files.NoMemory file offset is = absurd (cc is)
+
+pub files_was : {T U : Type 0} (x : FilesError) (y : RollError) (file offset : ℕ) → y ≡ files_error x → IsErrOf {T = T} (Err y) (error.NotAFile file offset) → IsErrOf {T = U} (Err x) (files.NotAFile file offset)
+files_was x y file offset same is = let there : y ≡ error.NotAFile file offset = cc is in ap Err (files_file x file offset (cc (same, there)))

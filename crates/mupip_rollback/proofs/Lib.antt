@@ -1,0 +1,12 @@
+mod Aside
+mod Begun
+mod Closed
+mod Cuts
+mod Errors
+mod Founded
+mod Imaged
+mod Prepared
+mod Recovered
+mod Rolls
+mod Sites
+mod Whole

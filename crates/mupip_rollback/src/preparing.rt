@@ -1,0 +1,226 @@
+//! What a rollback leaves, found and read before anything is written.
+ghost use Rattle.std.specs.Prelude.{◌≡◌, ◌⊎◌, ◌≤◌, ◌<◌, ◌+◌, ◌-◌, ◌++◌, ◌∷◌, [], ℕ, suc, List, length, drop, map, min, take, IfOk, IfSome, OnOk, OnErr, IsErrOf};
+ghost use Rattle.std.specs.List.{flat_map};
+ghost use Rattle.disk_defs.specs.Disk.{Files, Image, Reads, AtEachMoment, Rose};
+ghost use Rattle.global_defs.specs.Entry.{Sequence};
+ghost use Rattle.global_defs.specs.Extract.{entry_text, extract};
+ghost use Rattle.gvn_model.specs.Numbered.{numbered};
+ghost use Rattle.journal_defs.specs.Instance as defs;
+ghost use Rattle.journal_defs.specs.Instance.{generation, regions, site_name};
+ghost use Rattle.journal_defs.specs.Numbers.{INSTANCE};
+ghost use Rattle.journal_defs.specs.Sequence.{Records, IsSequence};
+ghost use Rattle.journal_defs.specs.Stands.{IsInstance, AreRecords};
+ghost use Rattle.site_defs.specs.Contents.{Contents, Leftover};
+ghost use Rattle.site_defs.specs.Outside.{IsOutsideSite, IsBegunAhead};
+ghost use Rattle.site_defs.specs.OutsideBlocks.{IsOutsideRollback};
+ghost use Rattle.site_defs.specs.Stands.{IsSite, HasLeft};
+ghost use Rattle.site_files.specs.Loading.{AreUnbegun};
+ghost use Rattle.site_store.specs.Opening.{EachStands};
+ghost use Rattle.site_store.specs.Standing.{HasFound, WasFound, IsFoundAs, IsOpenFor, found_records, found_entries};
+ghost use Rattle.mupip_rollback.specs.Rolling.{IsFirstWithout, NoneIsWithout};
+ghost use Rattle.mupip_rollback.specs.Preparing.{IsPrepared, KeepsFirst};
+
+use super::error::{RollError, in_files, in_site};
+use gvn_key::{Bytes, NoMemory};
+use gvn_model::Entry;
+use instance_file::InstanceLog;
+use jnl_extract::{extract_entry, write_header};
+use region_opening::first_without_images;
+use repl_disk::Disk;
+use site_files::{created_name, see_ahead};
+use site_regions::Regions;
+use site_store::{FoundFiles, Layout, StandingSite, find_files, stand};
+use std::alloc::Global;
+
+/// What stays of a site in memory.
+#[derive(Drop)]
+pub(crate) struct Kept {
+    /// What its instance file says once both generations are drawn.
+    pub layout: Layout,
+    /// The last generation that began in each region, or 0.
+    pub last_began: Vec<u32>,
+    /// The entries that stay, by their numbers from 1 on.
+    pub entries: Vec<Entry>,
+    /// Its regions on their blocks, with what these entries lead to.
+    pub globals: Regions,
+}
+
+/// A site that is to be rolled back, before anything is written.
+#[derive(Drop)]
+pub(crate) struct Prepared {
+    /// The records of its instance file.
+    pub log: InstanceLog,
+    /// How many entries it has.
+    pub length: u64,
+    /// The text of the broken transactions behind them.
+    pub broken: Bytes,
+    /// The extract of the entries that are to go.
+    pub lost: Bytes,
+    /// What stays.
+    pub kept: Kept,
+}
+
+/// Syncs and reads a site's files, and sees that neither of the next two generations has begun. It writes nothing.
+fn find<D: Disk>(alloc: Global, disk: &mut D) -> Result<FoundFiles, RollError>
+    ensures has { IfOk result HasFound }
+    ensures found { IfOk result (WasFound (D.disk disk.old) (D.disk disk.new)) }
+    ensures ahead { IfOk result (λ f. IfSome (D.disk disk.old).content (λ _. (d : Files) → Image (D.disk disk.new) d → AreUnbegun (suc (suc (generation f.read.log.records))) (length (regions f.read.log.records)) d)) }
+    ensures limit { IsErrOf result RollError.GenLimit → IfSome (D.disk disk.old).content (λ files. (rs : List defs.InstanceRecord) → IsInstance (files INSTANCE) rs → 65534 ≤ generation rs) }
+    ensures limit_told { IsErrOf result RollError.GenLimit → IfSome (D.disk disk.old).content (λ files. (rs : List defs.InstanceRecord) × IsInstance (files INSTANCE) rs × (65534 ≤ generation rs)) }
+    ensures place { (file offset : ℕ) → IsErrOf result (RollError.NotAFile file offset) → IfSome (D.disk disk.old).content (λ files. IsOutsideSite files file offset ⊎ IsBegunAhead files file offset) }
+    ensures outside { (file offset : ℕ) → IsErrOf result (RollError.NotAFile file offset) → IfSome (D.disk disk.old).content (λ files. (c : Contents) → IsSite files c → ⊥) }
+    ensures without { (region generation : ℕ) → IsErrOf result (RollError.NoBeforeImage region generation) → ⊥ }
+    ensures content { (D.disk disk.new).content ≡ (D.disk disk.old).content }
+    ensures any_moment { AtEachMoment (D.disk disk.old) (D.disk disk.new) (Image (D.disk disk.old)) }
+    ensures simulated { (D.disk disk.new).simulated ≡ (D.disk disk.old).simulated }
+    ensures later { (D.disk disk.old).faults ≤ (D.disk disk.new).faults }
+    ensures count { (fault : ℕ) → IsErrOf result (RollError.Failed fault) → fault ≡ (D.disk disk.new).faults }
+    ensures cause { (fault : ℕ) → IsErrOf result (RollError.Failed fault) → Rose (D.disk disk.old).faults (D.disk disk.new).faults }
+{
+    let found = match find_files(alloc, disk) {
+        Ok(found) => found,
+        Err(error) => return Err(in_site(error)),
+    };
+    let records = found.read.log.records.as_slice();
+    match see_ahead(alloc, disk, records, &found.read.directory) {
+        Ok(()) => Ok(found),
+        Err(error) => Err(in_files(error)),
+    }
+}
+
+/// Sees that no region needs forward recovery for so many entries.
+fn check_images(alloc: Global, found: &FoundFiles, target: u64) -> Result<(), RollError>
+    requires has { HasFound found.now }
+    ensures none { OnOk result (NoneIsWithout (found_records found.now) target) }
+    ensures first { (region generation : ℕ) → IsErrOf result (RollError.NoBeforeImage region generation) → IsFirstWithout (found_records found.now) target region generation }
+    ensures causes { OnErr result (((region : ℕ) × (generation : ℕ) × IsErrOf result (RollError.NoBeforeImage region generation)) ⊎ IsErrOf result RollError.NoMemory) }
+{
+    let records = &found.read.log.records;
+    let journals = found.read.journals.as_slice();
+    let regions = usize::from(found.read.directory.regions()).min(journals.len());
+    match first_without_images(alloc, records, &journals[..regions], target) {
+        Ok(None) => Ok(()),
+        Ok(Some(needing)) => Err(RollError::NoBeforeImage {
+            region: needing.region,
+            generation: needing.generation,
+        }),
+        Err(NoMemory) => Err(RollError::NoMemory),
+    }
+}
+
+/// Adds the extract's lines of entries.
+fn write_entries(entries: &[Entry], out: &mut Bytes) -> Result<(), NoMemory>
+    ensures { OnOk result (out.new ≡ out.old ++ flat_map (λ p. entry_text p.0 p.1) (map numbered entries.now)) }
+{
+    for entry in entries {
+        extract_entry(entry, out)?;
+    }
+    Ok(())
+}
+
+/// The extract of the entries behind the first so many.
+fn extract_lost(alloc: Global, found: &FoundFiles, target: u64) -> Result<Bytes, NoMemory>
+    requires has { HasFound found.now }
+    requires target { target ≤ length found.now.entries.items }
+    ensures { IfOk result (λ text. text ≡ extract (site_name found.now.read.log.records) (found_entries found.now) (target + 1)) }
+{
+    let mut text = Bytes::new(alloc);
+    let name = created_name(found.read.log.records.as_slice());
+    write_header(name, target + 1, &mut text)?;
+    write_entries(&found.entries[target as usize..], &mut text)?;
+    Ok(text)
+}
+
+/// A standing site with its first so many entries, where two generations are to be drawn.
+fn keep_first(standing: StandingSite, target: u64, lost: Bytes) -> Prepared
+    requires low { standing.layout.generation < 65535 }
+    ensures log { result.log ≡ standing.log }
+    ensures length { result.length ≡ length standing.entries.items }
+    ensures broken { result.broken ≡ standing.broken }
+    ensures lost { result.lost ≡ lost }
+    ensures kept { KeepsFirst target standing result.kept }
+{
+    let StandingSite {
+        log,
+        mut layout,
+        last_began,
+        mut entries,
+        globals,
+        broken,
+    } = standing;
+    let length = entries.len() as u64;
+    layout.generation += 1;
+    entries.truncate(target as usize);
+    let kept = Kept {
+        layout,
+        last_began,
+        entries,
+        globals,
+    };
+    Prepared {
+        log,
+        length,
+        broken,
+        lost,
+        kept,
+    }
+}
+
+/// Opens a site that was found for so many of its first entries.
+fn open_first<D: Disk>(
+    alloc: Global,
+    disk: &mut D,
+    found: FoundFiles,
+    target: u64,
+) -> Result<Prepared, RollError>
+    requires has { HasFound found }
+    requires target { target ≤ length found.entries.items }
+    ensures kept { IfOk result (λ p. length p.kept.entries.items ≡ target) }
+    ensures prepared { IfOk result (λ p. WasFound (D.disk disk.old) (D.disk disk.old) found → IfSome (D.disk disk.old).content (λ _. (d : Files) → Image (D.disk disk.old) d → AreUnbegun (suc (suc (generation found.read.log.records))) (length (regions found.read.log.records)) d) → IsPrepared (D.disk disk.new) p) }
+    ensures records { IfOk result (λ p. p.log.records ≡ found.read.log.records) }
+    ensures length { IfOk result (λ p. p.length ≡ length found.entries.items) }
+    ensures broken { IfOk result (λ p. p.broken ≡ found.broken) }
+    ensures place { (file offset : ℕ) → IsErrOf result (RollError.NotAFile file offset) → (to : ℕ) → target ≡ min to (length found.entries.items) → IfSome (D.disk disk.old).content (λ files. AreRecords files (found_records found) → IsOutsideRollback to files file offset) }
+    ensures outside { (file offset : ℕ) → IsErrOf result (RollError.NotAFile file offset) → WasFound (D.disk disk.old) (D.disk disk.old) found → IfSome (D.disk disk.old).content (λ files. (c : Contents) → IsSite files c → ⊥) }
+    ensures limit { IsErrOf result RollError.GenLimit → ⊥ }
+    ensures first { (region generation : ℕ) → IsErrOf result (RollError.NoBeforeImage region generation) → IsFirstWithout (found_records found) target region generation }
+    ensures none { OnOk result (NoneIsWithout (found_records found) target) }
+    ensures reads { Reads (D.disk disk.old) (D.disk disk.new) }
+    ensures later { (D.disk disk.old).faults ≤ (D.disk disk.new).faults }
+    ensures count { (fault : ℕ) → IsErrOf result (RollError.Failed fault) → fault ≡ (D.disk disk.new).faults }
+    ensures cause { (fault : ℕ) → IsErrOf result (RollError.Failed fault) → Rose (D.disk disk.old).faults (D.disk disk.new).faults }
+{
+    check_images(alloc, &found, target)?;
+    let lost = extract_lost(alloc, &found, target)?;
+    match stand(alloc, disk, found, target) {
+        Ok(standing) => Ok(keep_first(standing, target, lost)),
+        Err(error) => Err(in_site(error)),
+    }
+}
+
+/// Finds what a rollback to so many entries leaves of the site on a disk, or to all where there are fewer. It writes nothing.
+///
+/// # Errors
+/// As [`super::rolling::rollback`]'s.
+pub(crate) fn prepare<D: Disk>(alloc: Global, disk: &mut D, to: u64) -> Result<Prepared, RollError>
+    ensures prepared { IfOk result (IsPrepared (D.disk disk.new)) }
+    ensures held { IfOk result (λ p. IfSome (D.disk disk.old).content (λ files. (u : Records) × (seq : Sequence) × AreRecords files u × IsSequence u seq × (u.instance ≡ p.log.records) × (length p.kept.entries.items ≡ min to (length seq)) × NoneIsWithout u (min to (length seq)))) }
+    ensures kept { IfOk result (λ p. length p.kept.entries.items ≡ min to p.length) }
+    ensures site { IfOk result (λ p. IfSome (D.disk disk.old).content (λ files. (c : Contents) → IsSite files c → (p.length ≡ length c.sequence) × (EachStands (D.disk disk.old) → (f : Files) → Image (D.disk disk.new) f → IsSite f c))) }
+    ensures left { IfOk result (λ p. IfSome (D.disk disk.old).content (λ files. (c : Contents) (left : Leftover) → IsSite files c → HasLeft files c left → left.broken ≡ p.broken)) }
+    ensures limit { IsErrOf result RollError.GenLimit → IfSome (D.disk disk.old).content (λ files. (rs : List defs.InstanceRecord) → IsInstance (files INSTANCE) rs → 65534 ≤ generation rs) }
+    ensures limit_told { IsErrOf result RollError.GenLimit → IfSome (D.disk disk.old).content (λ files. (rs : List defs.InstanceRecord) × IsInstance (files INSTANCE) rs × (65534 ≤ generation rs)) }
+    ensures without { (region generation : ℕ) → IsErrOf result (RollError.NoBeforeImage region generation) → IfSome (D.disk disk.old).content (λ files. (u : Records) × (seq : Sequence) × AreRecords files u × IsSequence u seq × IsFirstWithout u (min to (length seq)) region generation) }
+    ensures place { (file offset : ℕ) → IsErrOf result (RollError.NotAFile file offset) → IfSome (D.disk disk.old).content (λ files. IsOutsideRollback to files file offset) }
+    ensures outside { (file offset : ℕ) → IsErrOf result (RollError.NotAFile file offset) → IfSome (D.disk disk.old).content (λ files. (c : Contents) → IsSite files c → ⊥) }
+    ensures content { (D.disk disk.new).content ≡ (D.disk disk.old).content }
+    ensures any_moment { AtEachMoment (D.disk disk.old) (D.disk disk.new) (Image (D.disk disk.old)) }
+    ensures simulated { (D.disk disk.new).simulated ≡ (D.disk disk.old).simulated }
+    ensures later { (D.disk disk.old).faults ≤ (D.disk disk.new).faults }
+    ensures count { (fault : ℕ) → IsErrOf result (RollError.Failed fault) → fault ≡ (D.disk disk.new).faults }
+    ensures cause { (fault : ℕ) → IsErrOf result (RollError.Failed fault) → Rose (D.disk disk.old).faults (D.disk disk.new).faults }
+{
+    let found = find(alloc, disk)?;
+    let target = to.min(found.entries.len() as u64);
+    open_first(alloc, disk, found, target)
+}
