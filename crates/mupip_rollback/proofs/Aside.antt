@@ -1,11 +1,11 @@
 -- All entries are cut off, and those that are to go are written down.
-use Rattle.std.proofs.Common.{◌≡◌, ◌⊎◌, inl, inr, ℕ, suc, ◌+◌, ◌≤◌, List, [], length, Option, Some, None, IfSome, sym, ◌∙◌, ap, subst, arith}
+use Rattle.std.proofs.Common.{◌≡◌, inl, inr, ℕ, suc, ◌≤◌, List, length, Option, Some, None, IfSome, ◌∙◌, ap, subst, arith}
 use Rattle.disk_defs.specs.Disk.{Files, View, Image, IsLawful, From, OnFile, ReadsAfter, AtEachMoment}
-use Rattle.disk_defs.specs.Frames.{Only, SameOutside, OthersStay}
+use Rattle.disk_defs.specs.Frames.{SameOutside}
 use Rattle.disk_defs.proofs.Told.{weaker_told, both_weak}
 use Rattle.disk_defs.proofs.Moments.{weaker, then_more, holds_now}
 use Rattle.journal_defs.specs.Instance.{InstanceRecord, generation}
-use Rattle.journal_defs.specs.Numbers.{INSTANCE, lost_file}
+use Rattle.journal_defs.specs.Numbers.{lost_file}
 use Rattle.site_files.specs.Loading.{HasCut, MayCutOff, AreCut, IsNoLonger, next_broken}
 use Rattle.mupip_rollback.specs.Cutting.{IsShort, MaySetAside, HasSetAside, next_lost}
 

@@ -1,11 +1,9 @@
 -- The generation of what stays begins.
-use Rattle.std.proofs.Common.{◌≡◌, ℕ, suc, List, [], ◌∷◌, ◌++◌, length, map, take, Option, Some, None, IfSome, true, sym, ◌∙◌, ap, subst}
+use Rattle.std.proofs.Common.{◌≡◌, ℕ, List, [], ◌∷◌, ◌++◌, length, map, Some, IfSome, true, sym, ◌∙◌, ap, subst}
 use Rattle.std.specs.Prelude.{slice_get}
-use Rattle.std.specs.List.{enumerate_from}
 use Rattle.disk_defs.specs.Disk.{Files, View, Image, IsLawful, From}
 use Rattle.disk_defs.proofs.Told.{both_weak}
 use Rattle.gvn_model.specs.Numbered.{numbered}
-use Rattle.global_defs.specs.Entry.{state}
 use Rattle.instance_file.specs.Instance as instances
 use Rattle.jnl_file.specs.Journal as journals
 use Rattle.jnl_file.specs.Records.{settled}

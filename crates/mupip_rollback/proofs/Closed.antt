@@ -1,5 +1,5 @@
 -- A site that was closed.
-use Rattle.std.proofs.Common.{ℕ, length, true, refl, subst}
+use Rattle.std.proofs.Common.{length, true, refl, subst}
 use Rattle.std.proofs.Math.Seq.{take-length}
 use Rattle.disk_defs.specs.Disk.{Files, View, Image, IsLawful}
 use Rattle.site_defs.specs.Behind.{IsSiteWith}

@@ -1,9 +1,9 @@
 -- An image of a site that is cut off behind all entries, with those that are to go written down.
-use Rattle.std.proofs.Common.{◌≡◌, ◌⊎◌, inl, inr, ℕ, zero, suc, ◌+◌, ◌≤◌, ◌<◌, ◌^◌, max, Bool, true, false, List, [], ◌∷◌, ◌++◌, length, take, refl, sym, ◌∙◌, ap, subst, arith, append-nil}
-use Rattle.std.specs.Prelude.{nat_lt, ◌&&◌, if◌then◌else◌}
+use Rattle.std.proofs.Common.{◌≡◌, inl, inr, ℕ, suc, ◌+◌, ◌≤◌, ◌<◌, ◌^◌, max, false, List, [], ◌∷◌, ◌++◌, length, refl, sym, ◌∙◌, ap, subst, arith, append-nil}
+use Rattle.std.specs.Prelude.{nat_lt}
 use Rattle.std.proofs.lemmas.Bool.Decides.{nat_tests}
 use Rattle.std.proofs.Math.Path.{fun_ext}
-use Rattle.disk_defs.specs.Disk.{Files, OnFile}
+use Rattle.disk_defs.specs.Disk.{Files}
 use Rattle.disk_defs.specs.Frames.{Only, SameOutside}
 use Rattle.global_defs.specs.Entry.{Sequence}
 use Rattle.global_defs.specs.Extract.{extract}
@@ -13,16 +13,16 @@ use Rattle.journal_defs.specs.Fit.{IsSoundImage}
 use Rattle.journal_defs.specs.Growth.{NonePast, IsBefore, with_record}
 use Rattle.journal_defs.specs.Instance.{InstanceRecord, generation, regions, site_name}
 use Rattle.journal_defs.specs.Journal.{Start}
-use Rattle.journal_defs.specs.Numbers.{INSTANCE, lost_file}
+use Rattle.journal_defs.specs.Numbers.{lost_file}
 use Rattle.journal_defs.specs.Sequence.{Placed, Records, IsSequence}
 use Rattle.journal_laws.proofs.Drawing as drawing
 use Rattle.region_journals.proofs.Unbroken.{broken_none}
 use Rattle.site_defs.specs.Behind.{IsStanding, IsSiteWith}
-use Rattle.site_defs.specs.Contents.{Contents, Standing, NO_LEFTOVER, bare}
-use Rattle.site_defs.specs.Opening.{cut_with, with_starts, starts_in, start_of}
-use Rattle.site_defs.specs.Rolling.{lost_text, MayRollBackLeft}
+use Rattle.site_defs.specs.Contents.{Contents, NO_LEFTOVER, bare}
+use Rattle.site_defs.specs.Opening.{cut_with, with_starts, starts_in}
+use Rattle.site_defs.specs.Rolling.{lost_text}
 use Rattle.site_defs.specs.Stands.{IsSite, HasLeft, torn_of}
-use Rattle.site_files.specs.Loading.{MayBeOpened, AreRead, IsUncut, HasCut, IsNoLonger, AreUnbegun, next_cut}
+use Rattle.site_files.specs.Loading.{MayBeOpened, AreRead, IsUncut, HasCut, AreUnbegun, next_cut}
 use Rattle.site_files.proofs.Ahead as ahead
 use Rattle.site_files.proofs.Keeping as keeping
 use Rattle.site_store.proofs.Drawn.{S, C, text, site_read, site_uncut, site_drawn, draws_all}

@@ -1,28 +1,26 @@
 -- A site that was found, and that is to be rolled back.
-use Rattle.std.proofs.Common.{◌≡◌, ◌⊎◌, inl, inr, ℕ, suc, ◌+◌, ◌≤◌, ◌<◌, List, [], ◌∷◌, ◌++◌, length, map, take, min, Option, Some, None, IfSome, refl, sym, ◌∙◌, ap, subst, arith}
+use Rattle.std.proofs.Common.{◌≡◌, ◌⊎◌, inr, ℕ, suc, ◌<◌, List, [], length, Some, IfSome, sym, ◌∙◌, ap, subst, arith}
 use Rattle.disk_defs.specs.Disk.{Files, View, Image, IsLawful, AtEachMoment}
 use Rattle.disk_defs.specs.Gates.{records}
 use Rattle.disk_defs.proofs.Told.{weaker_told, both_weak, told_at}
 use Rattle.disk_defs.proofs.Moments.{holds_now}
 use Rattle.global_defs.specs.Entry.{Sequence}
 use Rattle.journal_defs.specs.Instance.{InstanceRecord, generation, regions}
-use Rattle.journal_defs.specs.Numbers.{INSTANCE, journal_file}
+use Rattle.journal_defs.specs.Numbers.{journal_file}
 use Rattle.journal_defs.specs.Sequence.{Placed, Records, IsSequence}
 use Rattle.journal_defs.specs.Stands.{AreRecords}
-use Rattle.journal_defs.specs.Fit.{IsSoundImage}
 use Rattle.site_defs.specs.Contents.{Contents, Leftover}
 use Rattle.site_defs.specs.Outside.{HaveBegun, IsOutsideSite, IsBegunAhead}
 use Rattle.site_defs.specs.Outside as outside
-use Rattle.site_defs.specs.OutsideBlocks.{IsOutsideRollback, HaveOutsideBlocks}
-use Rattle.site_defs.specs.Stands.{IsSite, HasLeft, Stands, texts_of, losts_of}
-use Rattle.site_files.specs.Loading.{AreRead, WasRead, AreUnbegun, last_of}
+use Rattle.site_defs.specs.Stands.{IsSite, HasLeft}
+use Rattle.site_files.specs.Loading.{WasRead, AreUnbegun, last_of}
 use Rattle.site_files.specs.Reading.{AreUnbegunDurable}
-use Rattle.site_files.proofs.Kept.{image_read, held_read}
+use Rattle.site_files.proofs.Kept.{held_read}
 use Rattle.site_store.specs.declared.preparing.FoundFiles.{FoundFiles}
 use Rattle.site_store.specs.Opening.{EachStands, AreTextsDurable}
 use Rattle.site_store.specs.Standing.{HasFound, WasFound, found_records, found_entries}
-use Rattle.site_store.proofs.Drawn.{S, C, site_read, left_read, site_sound, texts_kept, losts_kept}
-use Rattle.site_store.proofs.Found.{instance_one, blank_instance}
+use Rattle.site_store.proofs.Alike.{image_site}
+use Rattle.site_store.proofs.Drawn.{site_read, left_read}
 use Rattle.site_store.proofs.Loaded.{length_values}
 
 module _ (u v : View) (f : FoundFiles) (has : HasFound f) (was : WasFound u v f) where
@@ -86,24 +84,10 @@ module _ (u v : View) (f : FoundFiles) (has : HasFound f) (was : WasFound u v f)
   site_is lawful synced = both_weak u.content Read (AreTextsDurable v g) (λ files. (c : Contents) → IsSite files c → AllStand c) was.read was.texts (λ files r durable c site.
       let own = (site_read rs last journal seq has.form has.sequence files c r.holds site).1 in (
         sym (length_values f.entries.items) ∙ ap (λ (x : Contents). length x.sequence) (sym own),
-        λ each d image. subst (IsSite d) (same files durable d image ∙ sym own) (stands files r each d image),
+        λ each d image.
+            let o = each d (holds_now u v (Image u) lawful synced d image) in
+            subst (IsSite d) (sym own) (image_site v rs last journal seq has.form has.sequence files r durable d image o.0 o.1),
       ))
-    where
-      same : (files : Files) → AreTextsDurable v g files → (d : Files) → Image v d → C rs last journal seq has.form has.sequence d ≡ C rs last journal seq has.form has.sequence files
-      same files durable d image =
-          let texts : texts_of d g ≡ texts_of files g = sym (texts_kept files d g (λ h one low. (durable h one low).0 d image)) in
-          let losts : losts_of d g ≡ losts_of files g = sym (losts_kept files d g (λ h one low. (durable h one low).1 d image)) in
-          let c = C rs last journal seq has.form has.sequence files in
-          λ i. record { instance = rs; starts = c.starts; epochs = c.epochs; texts = texts i; losts = losts i; sequence = seq }
-
-      by_standing : (d : Files) → AreRead rs last journal d → (o : Contents) → Stands d o → IsSite d (C rs last journal seq has.form has.sequence d)
-      by_standing d rd o (inl blank) = absurd (let none : rs ≡ [] = instance_one (d 0) rs [] rd.instance (blank_instance (d 0) blank.1.instance) in let size : length rs ≡ 0 = ap length none in let some = has.form.some in omega (arith, size, some))
-      by_standing d rd o (inr site) = site_sound rs last journal seq has.form has.sequence d (site_read rs last journal seq has.form has.sequence d o rd site).0
-
-      stands : (files : Files) → WasRead v rs last journal files → EachStands u → (d : Files) → Image v d → IsSite d (C rs last journal seq has.form has.sequence d)
-      stands files r each d image =
-          let o = each d (holds_now u v (Image u) lawful synced d image) in
-          by_standing d (image_read v rs last journal files r d image) o.0 o.1
 
   pub left_is : IfSome u.content (λ files. (c : Contents) (left : Leftover) → IsSite files c → HasLeft files c left → left.broken ≡ f.broken)
   left_is = weaker_told u.content Read (λ files. (c : Contents) (left : Leftover) → IsSite files c → HasLeft files c left → left.broken ≡ f.broken) was.read

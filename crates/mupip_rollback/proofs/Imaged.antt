@@ -1,5 +1,5 @@
 -- Regions that need forward recovery for a target.
-use Rattle.std.proofs.Common.{◌≡◌, inl, inr, ℕ, zero, suc, ◌≤◌, ◌<◌, List, [], ◌∷◌, length, map, take, get_or, min, Option, Some, None, Vec, Global, refl, sym, ◌∙◌, ap, subst, arith, Err, IsErrOf}
+use Rattle.std.proofs.Common.{◌≡◌, inl, inr, ℕ, zero, suc, ◌≤◌, ◌<◌, List, [], ◌∷◌, length, map, take, get_or, min, Option, Vec, Global, refl, sym, ◌∙◌, ap, subst, arith, Err, IsErrOf}
 use Rattle.std.proofs.lemmas.Bool.{cases_lt}
 use Rattle.std.proofs.lemmas.List.{length-take-le}
 use Rattle.jnl_record.specs.declared.placed.PlacedRecord.{PlacedRecord}
@@ -10,7 +10,6 @@ use Rattle.journal_defs.specs.Sequence.{Placed}
 use Rattle.mupip_recover.specs.Site.{journal_of, site_records}
 use Rattle.region_opening.specs.declared.needing.WithoutImages.{WithoutImages}
 use Rattle.region_opening.specs.Forward as opening
-use Rattle.mupip_rollback.specs.declared.error.RollError.{RollError}
 use Rattle.mupip_rollback.specs.declared.error.RollError.TheVariants as error
 use Rattle.mupip_rollback.specs.Rolling.{IsFirstWithout, NoneIsWithout}
 

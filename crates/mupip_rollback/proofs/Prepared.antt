@@ -1,11 +1,11 @@
 -- A standing site of which the first entries are kept.
-use Rattle.std.proofs.Common.{◌≡◌, ◌⊎◌, inl, inr, ℕ, zero, suc, ◌+◌, ◌≤◌, ◌<◌, List, [], ◌∷◌, ◌++◌, length, map, take, min, Option, Some, None, IfSome, Result, Ok, Err, IfOk, OnOk, refl, sym, ◌∙◌, ap, subst, arith}
+use Rattle.std.proofs.Common.{◌≡◌, ℕ, zero, suc, ◌+◌, ◌≤◌, ◌<◌, List, [], ◌∷◌, ◌++◌, length, map, take, min, IfSome, Result, Ok, Err, IfOk, OnOk, refl, sym, ◌∙◌, ap, subst, arith}
 use Rattle.std.specs.List.{enumerate_from}
 use Rattle.std.proofs.lemmas.List.{length-take-le}
 use Rattle.disk_defs.specs.Disk.{Files, View, Image, IsLawful, Reads, AtEachMoment}
 use Rattle.disk_defs.proofs.Told.{weaker_told, both_weak, told_at}
 use Rattle.disk_defs.proofs.Moments.{holds_now, read_only}
-use Rattle.global_defs.specs.Entry.{Entry, Sequence}
+use Rattle.global_defs.specs.Entry.{Sequence}
 use Rattle.global_defs.specs.Extract.{extract}
 use Rattle.gvn_model.specs.Numbered.{numbered}
 use Rattle.gvn_model.specs.declared.entry.Entry as code
@@ -30,7 +30,6 @@ use Rattle.site_store.specs.Standing.{HasFound, WasFound, IsFoundAs, IsOpenFor, 
 use Rattle.site_store.proofs.Founded.{found_moved, open_moved}
 use Rattle.site_store.proofs.Loaded.{length_values}
 use Rattle.mupip_rollback.specs.declared.error.RollError.{RollError}
-use Rattle.mupip_rollback.specs.declared.preparing.Kept.{Kept}
 use Rattle.mupip_rollback.specs.declared.preparing.Prepared.{Prepared}
 use Rattle.mupip_rollback.specs.Preparing.{IsPrepared, KeepsFirst, cut_records}
 use Rattle.mupip_rollback.specs.Rolling.{NoneIsWithout}

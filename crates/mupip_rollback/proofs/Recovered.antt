@@ -1,12 +1,12 @@
 -- A site that was opened and closed.
-use Rattle.std.proofs.Common.{◌≡◌, ◌⊎◌, inl, inr, ℕ, ◌<◌, List, length, Option, Some, None, IfSome, true, refl, sym, ◌∙◌, ap, subst}
-use Rattle.disk_defs.specs.Disk.{Files, View, Image, IsLawful, AtEachMoment}
+use Rattle.std.proofs.Common.{◌⊎◌, inl, inr, length, Option, IfSome, true, subst}
+use Rattle.disk_defs.specs.Disk.{Files, View, IsLawful, AtEachMoment}
 use Rattle.disk_defs.proofs.Told.{weaker_told, both_weak}
 use Rattle.disk_defs.proofs.Moments.{weaker, then_more}
-use Rattle.site_defs.specs.Behind.{IsStanding, IsSiteWith}
+use Rattle.site_defs.specs.Behind.{IsSiteWith}
 use Rattle.site_defs.specs.Contents.{Contents, Leftover, Standing, bare}
 use Rattle.site_defs.specs.Epochs.{marked, MayMark, MayMarkLeft}
-use Rattle.site_defs.specs.Opening.{opened, MayOpen, MayOpenLeft}
+use Rattle.site_defs.specs.Opening.{opened, MayOpen}
 use Rattle.site_defs.specs.Stands.{IsSite, HasLeft}
 use Rattle.site_store.specs.declared.site.OpenSite.{OpenSite}
 use Rattle.site_store.specs.Opening.{EachStands, MayBeOpen, MayBeOpenWith}

@@ -1,7 +1,5 @@
 -- A site is rolled back that was prepared for it.
-use Rattle.std.proofs.Common.{◌≡◌, ◌⊎◌, inl, inr, ℕ, suc, ◌+◌, ◌≤◌, ◌<◌, ◌^◌, List, [], ◌∷◌, ◌++◌, length, map, take, Option, Some, None, IfSome, true, refl, sym, ◌∙◌, ap, subst, arith}
-use Rattle.std.specs.Prelude.{Bool}
-use Rattle.std.specs.List.{enumerate_from}
+use Rattle.std.proofs.Common.{◌≡◌, inl, inr, ℕ, suc, ◌+◌, ◌≤◌, ◌<◌, ◌^◌, List, [], length, take, Option, Some, None, IfSome, true, refl, sym, ◌∙◌, ap, subst, arith}
 use Rattle.std.proofs.lemmas.List.{length-take-le}
 use Rattle.disk_defs.specs.Disk.{Files, View, Image, IsLawful, From, ReadsAfter, AtEachMoment}
 use Rattle.disk_defs.specs.Frames.{SameOutside, OthersStay}
@@ -10,16 +8,15 @@ use Rattle.disk_defs.proofs.Told.{weaker_told, both_weak, reads_after}
 use Rattle.disk_defs.proofs.Moments.{weaker, then_more}
 use Rattle.global_defs.specs.Entry.{Sequence, state}
 use Rattle.journal_defs.specs.Instance.{InstanceRecord, NamedMode, generation, regions}
-use Rattle.journal_defs.specs.Directory.{patterns}
 use Rattle.journal_defs.specs.Numbers.{journal_file, database_file}
-use Rattle.journal_defs.specs.Sequence.{Placed, Records, IsSequence}
+use Rattle.journal_defs.specs.Sequence.{Placed, Records}
 use Rattle.journal_laws.proofs.EveryTarget.{patterns_same}
 use Rattle.journal_laws.proofs.Targets.{cut_keeps}
-use Rattle.site_defs.specs.Behind.{IsStanding, IsSiteWith}
+use Rattle.site_defs.specs.Behind.{IsSiteWith}
 use Rattle.site_defs.specs.Contents.{Contents, Standing, bare}
 use Rattle.site_defs.specs.Epochs.{marked, MayMarkLeft}
 use Rattle.site_defs.specs.Opening.{cut_with, with_starts}
-use Rattle.site_defs.specs.Rolling.{lost_text, cut_to, rolled, rolled_open, MayRollBackLeft}
+use Rattle.site_defs.specs.Rolling.{lost_text, cut_to, rolled, rolled_open}
 use Rattle.site_defs.specs.Stands.{IsSite}
 use Rattle.site_files.specs.Loading.{MayBeOpened, AreRead, WasRead, MayDraw, AreUnbegun, last_of, next_cut}
 use Rattle.site_files.proofs.Ahead as ahead
@@ -30,14 +27,14 @@ use Rattle.site_store.specs.declared.site.OpenSite.{OpenSite}
 use Rattle.site_store.specs.Opening.{AreDatabasesDurable}
 use Rattle.site_store.specs.Site.{AreHeld, AreOnBlocks, AreSynced, IsOpen}
 use Rattle.site_store.specs.Standing.{found_records, found_entries}
-use Rattle.site_store.proofs.Drawn.{S, C}
+use Rattle.site_store.proofs.Drawn.{C}
 use Rattle.journal_defs.specs.Fit.{IsSoundImage}
 use Rattle.journal_defs.specs.Growth.{with_record}
-use Rattle.site_store.proofs.HeldRegions.{held_stays, synced_stays}
+use Rattle.site_store.proofs.HeldRegions.{held_stays}
 use Rattle.site_store.proofs.Loaded.{length_values}
 use Rattle.site_store.proofs.OnBlocks.{on_same, on_chosen}
 use Rattle.site_store.proofs.Rolled.{standing_either_cut}
-use Rattle.mupip_rollback.specs.Cutting.{IsShort, MaySetAside, HasSetAside, AreSetAside, IsCutOff, next_lost}
+use Rattle.mupip_rollback.specs.Cutting.{IsShort, MaySetAside, HasSetAside, AreSetAside, IsCutOff}
 use Rattle.mupip_rollback.specs.Preparing.{IsPrepared, cut_records}
 use Rattle.mupip_rollback.specs.Rolling.{StandsFor, MayStandRolled}
 use Rattle.mupip_rollback.specs.declared.preparing.Prepared.{Prepared}

@@ -1,7 +1,7 @@
 -- What the files of a site stand for, where that is known in two ways.
-use Rattle.std.proofs.Common.{◌≡◌, ℕ, ◌≤◌, List, [], length, Option, Some, None, IfSome, refl, sym, ◌∙◌, ap, subst, inl, inr}
+use Rattle.std.proofs.Common.{◌≡◌, List, [], length, refl, sym, ◌∙◌, ap, subst}
 use Rattle.std.proofs.Math.Path.{fun_ext}
-use Rattle.disk_defs.specs.Disk.{Files, View, Image}
+use Rattle.disk_defs.specs.Disk.{Files}
 use Rattle.journal_defs.specs.Broken.{broken, broken_text}
 use Rattle.journal_defs.specs.Instance.{InstanceRecord, generation, site_name}
 use Rattle.journal_defs.specs.Sequence.{Records}

@@ -1,9 +1,8 @@
 -- A site is prepared for a rollback, and rolled back.
-use Rattle.std.proofs.Common.{◌≡◌, inl, inr, ℕ, ◌+◌, ◌<◌, List, length, min, Option, Some, None, IfSome, refl, sym, ◌∙◌, ap, subst, arith}
+use Rattle.std.proofs.Common.{◌≡◌, inl, inr, ℕ, List, length, min, Option, Some, None, IfSome, refl, sym, ap, subst, arith}
 use Rattle.disk_defs.specs.Disk.{Files, View, Image, IsLawful, AtEachMoment}
 use Rattle.disk_defs.proofs.Told.{weaker_told, both_weak, told_at}
 use Rattle.disk_defs.proofs.Moments.{weaker, then_more, holds_now}
-use Rattle.site_defs.specs.Behind.{IsStanding}
 use Rattle.site_defs.specs.Contents.{Contents, Leftover, Standing}
 use Rattle.site_defs.specs.Rolling.{rolled, MayRollBack, MayRollBackLeft}
 use Rattle.site_defs.specs.Stands.{IsSite, HasLeft}

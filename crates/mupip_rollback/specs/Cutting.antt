@@ -7,7 +7,7 @@ use Rattle.gvn_model.specs.Numbered.{numbered}
 use Rattle.journal_defs.specs.Broken.{broken}
 use Rattle.journal_defs.specs.Instance.{InstanceRecord, generation, regions}
 use Rattle.journal_defs.specs.Numbers.{INSTANCE, lost_file}
-use Rattle.journal_defs.specs.Sequence.{Placed, Records, IsSequence}
+use Rattle.journal_defs.specs.Sequence.{Placed, IsSequence}
 use Rattle.site_defs.specs.Contents.{Contents}
 use Rattle.site_defs.specs.Stands.{IsSite}
 use Rattle.site_files.specs.Loading.{AreRead, HasCut, MayCutOff, IsNoLonger, last_of, next_broken}

@@ -1,5 +1,4 @@
 -- What the layers below answer, as a rollback or a recovery answers it.
-use Rattle.std.specs.Prelude.{ℕ}
 use Rattle.site_files.specs.declared.error.FilesError.{FilesError}
 use Rattle.site_files.specs.declared.error.FilesError.TheVariants as files
 use Rattle.site_store.specs.declared.error.SiteError.{SiteError}

@@ -1,5 +1,5 @@
 -- A site that is to be rolled back, before anything is written.
-use Rattle.std.specs.Prelude.{◌≡◌, ◌+◌, ◌<◌, ◌≤◌, ◌^◌, ◌++◌, ℕ, suc, List, [], ◌∷◌, length, map, take, IfSome}
+use Rattle.std.specs.Prelude.{◌≡◌, ◌+◌, ◌≤◌, ◌++◌, ℕ, suc, List, [], ◌∷◌, length, map, take, IfSome}
 use Rattle.std.specs.List.{enumerate_from}
 use Rattle.disk_defs.specs.Disk.{Files, View, Image}
 use Rattle.global_defs.specs.Extract.{extract}

@@ -97,6 +97,7 @@ fn check_images(alloc: Global, found: &FoundFiles, target: u64) -> Result<(), Ro
 {
     let records = &found.read.log.records;
     let journals = found.read.journals.as_slice();
+    // a list for each region, and no more
     let regions = usize::from(found.read.directory.regions()).min(journals.len());
     match first_without_images(alloc, records, &journals[..regions], target) {
         Ok(None) => Ok(()),

@@ -1,5 +1,4 @@
-use Rattle.std.proofs.Common.{◌≡◌, ℕ, List, [], ◌∷◌, ◌++◌, length, refl, sym, subst, arith, None}
-use Rattle.journal_defs.specs.Instance.{regions}
+use Rattle.std.proofs.Common.{◌≡◌, length, refl, arith, None}
 use Rattle.site_files.specs.Loading.{last_of}
 use Rattle.site_store.specs.declared.site.OpenSite.{OpenSite}
 use Rattle.site_store.proofs.HeldRegions.{held_drawn}

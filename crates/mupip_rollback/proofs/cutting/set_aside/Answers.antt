@@ -1,4 +1,4 @@
-use Rattle.std.proofs.Common.{◌≡◌, ℕ, suc, ◌+◌, ◌∙◌, ap, subst, arith}
+use Rattle.std.proofs.Common.{◌≡◌, suc, ◌+◌, ◌∙◌, ap, arith}
 use Rattle.disk_defs.specs.Frames.{Only}
 use Rattle.journal_defs.specs.Instance.{generation}
 use Rattle.journal_defs.specs.Numbers.{lost_file}

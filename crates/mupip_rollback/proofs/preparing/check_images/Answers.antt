@@ -1,7 +1,6 @@
-use Rattle.std.proofs.Common.{◌≡◌, ℕ, List, length, min, map, take, sym, ◌∙◌, ap, subst, arith, Option, None}
+use Rattle.std.proofs.Common.{◌≡◌, length, min, map, ◌∙◌, ap, subst, arith}
 use Rattle.journal_defs.specs.Instance.{regions}
-use Rattle.mupip_recover.specs.Site.{journal_of, site_records}
-use Rattle.region_opening.specs.Forward as opening
+use Rattle.mupip_recover.specs.Site.{site_records}
 use Rattle.mupip_rollback.specs.Rolling.{IsFirstWithout, NoneIsWithout}
 use Rattle.mupip_rollback.proofs.Imaged.{Journals, none_is, first_told}
 use Rattle.mupip_rollback.proofs.preparing.check_images.Goals as goal

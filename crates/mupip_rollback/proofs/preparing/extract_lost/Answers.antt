@@ -6,7 +6,7 @@ use Rattle.global_defs.specs.Entry.{Entry, Sequence}
 use Rattle.global_defs.specs.Extract.{entry_text, entries_text, header}
 use Rattle.gvn_model.specs.Numbered.{numbered}
 use Rattle.gvn_model.specs.declared.entry.Entry as code
-use Rattle.journal_defs.specs.Instance.{InstanceRecord, site_name}
+use Rattle.journal_defs.specs.Instance.{site_name}
 use Rattle.site_store.specs.Standing.{found_entries}
 use Rattle.mupip_rollback.proofs.preparing.extract_lost.Goals as goal
 

@@ -1,5 +1,4 @@
-use Rattle.std.proofs.Common.{◌≡◌, ◌⊎◌, inl, ℕ, suc, List, length, map, sym, ap, subst, IfSome}
-use Rattle.disk_defs.specs.Disk.{Files}
+use Rattle.std.proofs.Common.{◌⊎◌, inl, suc, List, length, map, ap}
 use Rattle.disk_defs.proofs.Told.{weaker_told}
 use Rattle.instance_file.specs.Values.{record_value}
 use Rattle.journal_defs.specs.Instance.{InstanceRecord, generation, regions}

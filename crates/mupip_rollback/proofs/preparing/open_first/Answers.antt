@@ -1,12 +1,10 @@
-use Rattle.std.proofs.Common.{◌≡◌, inr, ℕ, ◌+◌, ◌<◌, ◌∙◌, min, refl, sym, ap, arith, length}
+use Rattle.std.proofs.Common.{◌≡◌, inr, ◌+◌, ◌∙◌, min, refl, sym, arith}
 use Rattle.std.proofs.lemmas.Result.{err_from_is_err_and}
-use Rattle.disk_defs.specs.Disk.{Files}
 use Rattle.disk_defs.proofs.Told.{weaker_told}
 use Rattle.journal_defs.specs.Instance.{generation}
 use Rattle.journal_defs.specs.Stands.{AreRecords}
 use Rattle.journal_laws.proofs.Drawing as drawing
 use Rattle.site_defs.specs.OutsideBlocks.{IsOutsideRollback, HaveOutsideBlocks}
-use Rattle.site_files.specs.Loading.{next_cut}
 use Rattle.site_store.specs.Standing.{found_records}
 use Rattle.site_store.proofs.Founded.{no_site_there}
 use Rattle.mupip_rollback.specs.declared.error.RollError.TheVariants as error

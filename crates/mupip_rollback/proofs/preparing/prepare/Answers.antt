@@ -1,15 +1,12 @@
-use Rattle.std.proofs.Common.{◌≡◌, ◌⊎◌, inl, inr, ⊎_elim, ℕ, length, min, arith, IfSome, sym, refl, ap}
-use Rattle.std.proofs.lemmas.Result.{err_from_is_err_and, IfOk-weaker}
-use Rattle.disk_defs.specs.Disk.{Files, Image}
-use Rattle.disk_defs.proofs.Told.{weaker_told, told_at}
+use Rattle.std.proofs.Common.{◌≡◌, ◌⊎◌, inl, inr, length, min, arith}
+use Rattle.std.proofs.lemmas.Result.{err_from_is_err_and}
+use Rattle.disk_defs.proofs.Told.{weaker_told}
 use Rattle.site_defs.specs.Outside.{IsOutsideSite, IsBegunAhead}
 use Rattle.site_defs.specs.OutsideBlocks.{IsOutsideRollback}
-use Rattle.site_files.specs.Loading.{AreUnbegun}
 use Rattle.mupip_rollback.specs.declared.error.RollError.TheVariants as error
-use Rattle.mupip_rollback.specs.Preparing.{IsPrepared}
 use Rattle.mupip_rollback.specs.Rolling.{IsFirstWithout}
 use Rattle.mupip_rollback.proofs.Errors.{handed_on}
-use Rattle.mupip_rollback.proofs.Prepared.{was_here, place_at, told_without, held_of, kept_of, site_of, left_of, prepared_of}
+use Rattle.mupip_rollback.proofs.Prepared.{place_at, told_without, held_of, kept_of, site_of, left_of, prepared_of}
 use Rattle.mupip_rollback.proofs.preparing.prepare.Goals as goal
 
 pub returns-in_err-found-clause-place : goal.returns-in_err-found-clause-place

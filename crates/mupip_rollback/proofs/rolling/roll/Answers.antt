@@ -1,12 +1,7 @@
-use Rattle.std.proofs.Common.{◌≡◌, List, ℕ, length, true, refl, sym, subst, IfSome, ◌∙◌}
+use Rattle.std.proofs.Common.{true, refl, subst}
 use Rattle.mupip_rollback.specs.Preparing.{cut_records}
-use Rattle.disk_defs.specs.Disk.{Files, View, Image, From, AtEachMoment}
 use Rattle.disk_defs.specs.Frames.{OthersStay}
-use Rattle.site_defs.specs.Contents.{Contents}
-use Rattle.site_defs.specs.Rolling.{rolled}
-use Rattle.site_defs.specs.Stands.{IsSite}
-use Rattle.mupip_rollback.specs.Cutting.{IsShort, MaySetAside, HasSetAside, AreSetAside}
-use Rattle.mupip_rollback.specs.Rolling.{StandsFor, MayStandRolled}
+use Rattle.mupip_rollback.specs.Cutting.{AreSetAside}
 use Rattle.mupip_rollback.proofs.Rolls as rolls
 use Rattle.mupip_rollback.proofs.rolling.roll.Goals as goal
 

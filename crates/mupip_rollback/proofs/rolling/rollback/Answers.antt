@@ -1,6 +1,5 @@
-use Rattle.std.proofs.Common.{◌≡◌, ℕ, ◌+◌, ◌<◌, List, [], length, min, IfSome, sym, ◌∙◌, ap, subst, arith}
+use Rattle.std.proofs.Common.{◌≡◌, ◌+◌, ◌<◌, [], length, min, sym, ◌∙◌, ap, subst, arith}
 use Rattle.std.proofs.lemmas.Result.{err_from_is_err_and}
-use Rattle.disk_defs.specs.Disk.{Files}
 use Rattle.disk_defs.proofs.Told.{weaker_told}
 use Rattle.global_defs.specs.Entry.{Sequence}
 use Rattle.journal_defs.specs.Instance.{generation}
