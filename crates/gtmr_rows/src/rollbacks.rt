@@ -1,6 +1,6 @@
 // Rollbacks and recoveries: what ROLLBACK RESYNC and RECOVER BACKWARD leave, whatever call of theirs fails, and the lost-transaction files.
-use super::ran::{disks, ended, prints, ran_on, ran_well, same};
-use repl_disk::MemDisk;
+use super::ran::{cut, disks, ended, prints, ran_on, ran_well, same};
+use repl_disk::{Disk, MemDisk};
 use site_runner::Status;
 use std::alloc::Global;
 use std::fmt::Write;
@@ -345,4 +345,70 @@ fn a_rollback_stands_in_a_later_run(rt: HostRuntime) {
     let want =
         b"A ATTACHED\nGTMRJEX01\\A\\2\nSET\\2\\A.1\\1.2\\^X=\"2\"\nA PRIMARY 2 FROM 2\n^X=\"1\"\n";
     same(&rt, out.as_slice(), want);
+}
+
+/// What a script prints on a disk with this instance file, the first of all.
+fn prints_over(rt: &impl Abort, alloc: Global, instance: &[u8], row: &str) {
+    let mut disks = disks(rt, alloc);
+    let disk = disks.first_mut().expect(rt, "a disk");
+    disk.room(0, 1, instance.len() as u64).expect(rt, "memory");
+    disk.write_at(0, 0, instance).expect(rt, "a write");
+    let (script, want) = cut(rt, row);
+    let (status, out) = ran_on(rt, alloc, &mut disks, script);
+    ended(rt, status, Status::Ok);
+    same(rt, out.as_slice(), want);
+}
+
+/// CREATE of A with region R, which keeps no images.
+const NO_IMAGES: &[u8] = b"\x01\0\0\0\x08\x01\x01\x01A\x01\x01R\0\0";
+
+const WITHOUT_IMAGES: &str = "\
+ATTACH
+START A PRIMARY
+RUN A
+1 SET ^X=1
+1 SET ^X=2
+END
+STOP A
+ROLLBACK A RESYNC 2
+ROLLBACK A RESYNC 3
+START A PRIMARY
+ZWRITE A
+--
+A ATTACHED
+A PRIMARY 1 FROM 1
+1.1 SEQ 1
+1.2 SEQ 2
+A AT 2
+A DOWN 2
+A NOBEFORE R 1
+A ROLLEDBACK 2 LOST 2
+A PRIMARY 2 FROM 3
+^X=\"2\"
+";
+
+/// A region without images can't go back behind its last epoch.
+#[test]
+fn a_region_without_images(rt: HostRuntime) {
+    prints_over(&rt, rt.alloc(), NO_IMAGES, WITHOUT_IMAGES);
+}
+
+/// CREATE of A with region R, and CUT(0, 65534).
+const NO_GENERATION_LEFT: &[u8] =
+    b"\x01\0\0\0\x08\x01\x01\x01A\x01\x01R\x01\x01\0\0\0\x0d\x03\0\0\0\0\0\0\0\0\0\0\xff\xfe\0";
+
+const AT_THE_LIMIT: &str = "\
+ATTACH
+ROLLBACK A RESYNC 1
+RECOVER A BACKWARD
+--
+A ATTACHED
+A GENLIMIT
+A GENLIMIT
+";
+
+/// Behind the last generation that an opening may draw nothing is rolled back or recovered.
+#[test]
+fn a_rollback_at_the_last_generation(rt: HostRuntime) {
+    prints_over(&rt, rt.alloc(), NO_GENERATION_LEFT, AT_THE_LIMIT);
 }
