@@ -120,7 +120,7 @@ fn two_disks_of_one_name(rt: HostRuntime) {
 }
 
 /// Writes these bytes at the start of a file, if there are any.
-fn write_file(rt: &impl Abort, disk: &mut MemDisk, file: u32, bytes: &[u8]) {
+pub fn write_file(rt: &impl Abort, disk: &mut MemDisk, file: u32, bytes: &[u8]) {
     if !bytes.is_empty() {
         disk.room(file, 1, bytes.len() as u64).expect(rt, "memory");
         disk.write_at(file, 0, bytes).expect(rt, "a write");

@@ -1,6 +1,7 @@
 // Rollbacks and recoveries: what ROLLBACK RESYNC and RECOVER BACKWARD leave, whatever call of theirs fails, and the lost-transaction files.
+use super::attaching::write_file;
 use super::ran::{cut, disks, ended, prints, ran_on, ran_well, same};
-use repl_disk::{Disk, MemDisk};
+use repl_disk::MemDisk;
 use site_runner::Status;
 use std::alloc::Global;
 use std::fmt::Write;
@@ -351,8 +352,7 @@ fn a_rollback_stands_in_a_later_run(rt: HostRuntime) {
 fn prints_over(rt: &impl Abort, alloc: Global, instance: &[u8], row: &str) {
     let mut disks = disks(rt, alloc);
     let disk = disks.first_mut().expect(rt, "a disk");
-    disk.room(0, 1, instance.len() as u64).expect(rt, "memory");
-    disk.write_at(0, 0, instance).expect(rt, "a write");
+    write_file(rt, disk, 0, instance);
     let (script, want) = cut(rt, row);
     let (status, out) = ran_on(rt, alloc, &mut disks, script);
     ended(rt, status, Status::Ok);
