@@ -1,5 +1,5 @@
 -- The commands of a script: what each is, how its line is read, what it has, and which parts spell it.
-use Rattle.std.specs.Prelude.{◌≡◌, ◌≤◌, ℕ, zero, suc, ◌-◌, ◌^◌, ◌&&◌, ◌==◌, not, Bool, true, List, [], ◌∷◌, ◌++◌, length, map, fold, Option, Some, None, codes, if◌then◌else◌}
+use Rattle.std.specs.Prelude.{◌≡◌, ◌≤◌, ℕ, zero, suc, ◌-◌, ◌^◌, ◌&&◌, ◌==◌, not, Bool, true, false, List, [], ◌∷◌, ◌++◌, length, take, drop, map, fold, Option, Some, None, codes, if◌then◌else◌}
 use Rattle.std.specs.List.{list_all, list_any, AllByRecursion, IsDistinct}
 use Rattle.std.specs.Fmt.{decimal}
 use Rattle.std.specs.Str.{bytes_eq}
@@ -10,7 +10,7 @@ use Rattle.global_defs.specs.Key.{Key}
 use Rattle.global_defs.specs.Pattern.{is_global_name, is_pattern}
 use Rattle.global_defs.specs.Serial.{without_next}
 use Rattle.gvn_key.specs.KeyText.{key_reading}
-use Rattle.command_defs.specs.Parts.{column, followed, taken, taken_if_any, ended, word_form, is_name, name_form, pattern_form, number_form, node_form, file_word, file_form}
+use Rattle.command_defs.specs.Parts.{column, followed, taken, taken_if_any, ended, word_form, is_name, name_form, pattern_form, number_form, node_form, file_word, file_form, mode_word, mode_form, way_form}
 use Rattle.command_defs.specs.Updaters.{UPDATERS, is_updater, is_of_size}
 
 -- of a site or a region
@@ -29,6 +29,8 @@ pub data Command : Type 0 where
   Create : Name → List Region → Command
   -- takes the site that stands on the next disk
   Attach : Command
+  -- the region's later generations keep before-images, or don't (GT.M: MUPIP SET -JOURNAL=[NO]BEFORE_IMAGES -REGION)
+  SetJournal : Name → (region : Name) → (before : Bool) → Command
   -- the names that match the pattern go to that region; a pattern is a global's name, or one and a star
   Map : Name → (region : Name) → (pattern : List ℕ) → Command
   StartPrimary : Name → Command
@@ -41,6 +43,8 @@ pub data Command : Type 0 where
   Resync : Name → (number : ℕ) → Command
   -- the site is recovered from its journals, and is down again (GT.M: MUPIP JOURNAL -RECOVER -BACKWARD)
   RecoverBackward : Name → Command
+  -- its blocks are made anew from all that its journals have, and it is down again (GT.M: MUPIP JOURNAL -RECOVER -FORWARD)
+  RecoverForward : Name → Command
   -- the site's disk passes so many more calls, and fails each later one until a crash
   Fuse : Name → (calls : ℕ) → Command
   -- the site's disk takes the image of that pick
@@ -74,21 +78,36 @@ MOST_GENERATION = 65535
 abbrev pub MOST_REGIONS : ℕ
 MOST_REGIONS = 8
 
--- a region's name that is none of these
-abbrev pub region_form : List Region → List ℕ → Option (List ℕ)
-region_form before text = if is_name text && not (list_any (λ r. bytes_eq r.name text) before) then Some text else None
+-- what stands behind the name of a region whose journal has no before-images
+abbrev pub NO_IMAGES : List ℕ
+NO_IMAGES = codes ":NOBEFORE"
+
+abbrev pub ends_so : List ℕ → Bool
+ends_so text = bytes_eq (drop (length text - length NO_IMAGES) text) NO_IMAGES
+
+-- the region that a part names, whatever its name is
+abbrev pub region_named : List ℕ → Region
+region_named text = if ends_so text then record { name = take (length text - length NO_IMAGES) text; before = false } else with_images text
+
+-- the part that names a region
+abbrev pub region_word : Region → List ℕ
+region_word r = if r.before then r.name else r.name ++ NO_IMAGES
+
+-- a region with a name that none of these has
+abbrev pub region_form : List Region → List ℕ → Option Region
+region_form before text = if is_name (region_named text).name && not (list_any (λ r. bytes_eq r.name (region_named text).name) before) then Some (region_named text) else None
 
 -- these regions, and behind them each more that the line names, so many at most
 unfoldable pub regions_behind : (room len : ℕ) → List ℕ → List Region → Result (List Region) ℕ
 regions_behind zero len left before = ended len left before
 regions_behind (suc room) len left before = if length left == 0 then Ok before
-    else followed (taken (region_form before) len left) (λ region. regions_behind room len region.1 (before ++ with_images region.0 ∷ []))
+    else followed (taken (region_form before) len left) (λ region. regions_behind room len region.1 (before ++ region.0 ∷ []))
 
 -- one region or more
 abbrev pub regions_reading : ℕ → List ℕ → Result (List Region) ℕ
-regions_reading len left = followed (taken name_form len left) (λ first. regions_behind (MOST_REGIONS - 1) len first.1 (with_images first.0 ∷ []))
+regions_reading len left = followed (taken (region_form []) len left) (λ first. regions_behind (MOST_REGIONS - 1) len first.1 (first.0 ∷ []))
 
--- CREATE site regions
+-- CREATE site regions, each with its mode
 abbrev pub create_reading : ℕ → List ℕ → Result Command ℕ
 create_reading len left = followed (taken name_form len left) (λ site. followed (regions_reading len site.1) (λ regions. Ok (Create site.0 regions)))
 
@@ -99,6 +118,10 @@ attach_reading len left = ended len left Attach
 -- MAP site region pattern
 abbrev pub map_reading : ℕ → List ℕ → Result Command ℕ
 map_reading len left = followed (taken name_form len left) (λ site. followed (taken name_form len site.1) (λ region. followed (taken pattern_form len region.1) (λ pattern. ended len pattern.1 (Map site.0 region.0 pattern.0))))
+
+-- SET JOURNAL site region mode
+abbrev pub set_reading : ℕ → List ℕ → Result Command ℕ
+set_reading len left = followed (taken (word_form (codes "JOURNAL")) len left) (λ word. followed (taken name_form len word.1) (λ site. followed (taken name_form len site.1) (λ region. followed (taken mode_form len region.1) (λ mode. ended len mode.1 (SetJournal site.0 region.0 mode.0)))))
 
 -- START site PRIMARY
 abbrev pub start_reading : ℕ → List ℕ → Result Command ℕ
@@ -116,9 +139,13 @@ epoch_reading len left = followed (taken name_form len left) (λ site. ended len
 abbrev pub rollback_reading : ℕ → List ℕ → Result Command ℕ
 rollback_reading len left = followed (taken name_form len left) (λ site. followed (taken (word_form (codes "RESYNC")) len site.1) (λ word. followed (taken (number_form 1 MOST_NUMBER) len word.1) (λ number. ended len number.1 (Resync site.0 number.0))))
 
--- RECOVER site BACKWARD
+abbrev pub recover_by : (forward : Bool) → Name → Command
+recover_by true name = RecoverForward name
+recover_by false name = RecoverBackward name
+
+-- RECOVER site BACKWARD, or FORWARD
 abbrev pub recover_reading : ℕ → List ℕ → Result Command ℕ
-recover_reading len left = followed (taken name_form len left) (λ site. followed (taken (word_form (codes "BACKWARD")) len site.1) (λ way. ended len way.1 (RecoverBackward site.0)))
+recover_reading len left = followed (taken name_form len left) (λ site. followed (taken way_form len site.1) (λ way. ended len way.1 (recover_by way.0 site.0)))
 
 -- FUSE site calls
 abbrev pub fuse_reading : ℕ → List ℕ → Result Command ℕ
@@ -149,6 +176,7 @@ abbrev pub command_by : (word : List ℕ) (len : ℕ) (left behind : List ℕ) �
 command_by word len left behind = if bytes_eq word (codes "CREATE") then create_reading len behind
     else if bytes_eq word (codes "ATTACH") then attach_reading len behind
     else if bytes_eq word (codes "MAP") then map_reading len behind
+    else if bytes_eq word (codes "SET") then set_reading len behind
     else if bytes_eq word (codes "START") then start_reading len behind
     else if bytes_eq word (codes "STOP") then stop_reading len behind
     else if bytes_eq word (codes "EPOCH") then epoch_reading len behind
@@ -173,12 +201,14 @@ abbrev pub IsFormed : Command → Type 0
 IsFormed (Create name regions) = (is_name name ≡ true) × (list_all (λ r. is_name r.name) regions ≡ true) × (1 ≤ length regions) × (length regions ≤ MOST_REGIONS) × IsDistinct bytes_eq (map (λ r. r.name) regions)
 IsFormed Attach = Unit {0}
 IsFormed (Map name region pattern) = (is_name name ≡ true) × (is_name region ≡ true) × (is_pattern pattern ≡ true)
+IsFormed (SetJournal name region before) = (is_name name ≡ true) × (is_name region ≡ true)
 IsFormed (StartPrimary name) = is_name name ≡ true
 IsFormed (Run name jobs order) = (is_name name ≡ true) × (length jobs ≡ UPDATERS) × (list_all is_updater order ≡ true) × (list_all (λ own. list_all is_of_size own) jobs ≡ true)
 IsFormed (Stop name) = is_name name ≡ true
 IsFormed (Epoch name) = is_name name ≡ true
 IsFormed (Resync name number) = (is_name name ≡ true) × (1 ≤ number) × (number ≤ MOST_NUMBER)
 IsFormed (RecoverBackward name) = is_name name ≡ true
+IsFormed (RecoverForward name) = is_name name ≡ true
 IsFormed (Fuse name calls) = (is_name name ≡ true) × (calls ≤ MOST_CALLS)
 IsFormed (Crash name pick) = (is_name name ≡ true) × (pick ≤ MOST_PICK)
 IsFormed (Extract name None) = is_name name ≡ true
@@ -211,14 +241,16 @@ pub data IsPattern : List ℕ → Type 0 where
 
 -- Parts that are a command of one line. A node's text is as GT.M's ZWRITE writes it, or with any pieces in quotes and by codes.
 pub data IsOrder : (parts : List (List ℕ)) (command : Command) → Type 0 where
-  create : (site : Name) (names : List Name) → is_name site ≡ true → AreRegions names → IsOrder (codes "CREATE" ∷ site ∷ names) (Create site (map with_images names))
+  create : (site : Name) (regions : List Region) → is_name site ≡ true → AreRegions (map (λ r. r.name) regions) → IsOrder (codes "CREATE" ∷ site ∷ map region_word regions) (Create site regions)
   attach : IsOrder (codes "ATTACH" ∷ []) Attach
   map_to : (site region : Name) (pattern : List ℕ) → is_name site ≡ true → is_name region ≡ true → IsPattern pattern → IsOrder (codes "MAP" ∷ site ∷ region ∷ pattern ∷ []) (Map site region pattern)
+  set_journal : (site region : Name) (before : Bool) → is_name site ≡ true → is_name region ≡ true → IsOrder (codes "SET" ∷ codes "JOURNAL" ∷ site ∷ region ∷ mode_word before ∷ []) (SetJournal site region before)
   start : (site : Name) → is_name site ≡ true → IsOrder (codes "START" ∷ site ∷ codes "PRIMARY" ∷ []) (StartPrimary site)
   stop : (site : Name) → is_name site ≡ true → IsOrder (codes "STOP" ∷ site ∷ []) (Stop site)
   epoch : (site : Name) → is_name site ≡ true → IsOrder (codes "EPOCH" ∷ site ∷ []) (Epoch site)
   resync : (site : Name) (number : ℕ) → is_name site ≡ true → 1 ≤ number → number ≤ MOST_NUMBER → IsOrder (codes "ROLLBACK" ∷ site ∷ codes "RESYNC" ∷ decimal number ∷ []) (Resync site number)
   recover_backward : (site : Name) → is_name site ≡ true → IsOrder (codes "RECOVER" ∷ site ∷ codes "BACKWARD" ∷ []) (RecoverBackward site)
+  recover_forward : (site : Name) → is_name site ≡ true → IsOrder (codes "RECOVER" ∷ site ∷ codes "FORWARD" ∷ []) (RecoverForward site)
   fuse : (site : Name) (calls : ℕ) → is_name site ≡ true → calls ≤ MOST_CALLS → IsOrder (codes "FUSE" ∷ site ∷ decimal calls ∷ []) (Fuse site calls)
   crash : (site : Name) (pick : ℕ) → is_name site ≡ true → pick ≤ MOST_PICK → IsOrder (codes "CRASH" ∷ site ∷ decimal pick ∷ []) (Crash site pick)
   extract : (site : Name) → is_name site ≡ true → IsOrder (codes "EXTRACT" ∷ site ∷ []) (Extract site None)

@@ -106,3 +106,14 @@ file_word lost = if lost then codes "LOST" else codes "BROKEN"
 
 abbrev pub file_form : List ℕ → Option Bool
 file_form text = if bytes_eq text (codes "LOST") then Some true else if bytes_eq text (codes "BROKEN") then Some false else None
+
+-- the word for a mode of a region's journal
+abbrev pub mode_word : (before : Bool) → List ℕ
+mode_word before = if before then codes "BEFORE" else codes "NOBEFORE"
+
+abbrev pub mode_form : List ℕ → Option Bool
+mode_form text = if bytes_eq text (codes "BEFORE") then Some true else if bytes_eq text (codes "NOBEFORE") then Some false else None
+
+-- the way in which a site is recovered, and whether that is forward
+abbrev pub way_form : List ℕ → Option Bool
+way_form text = if bytes_eq text (codes "FORWARD") then Some true else if bytes_eq text (codes "BACKWARD") then Some false else None

@@ -3,7 +3,7 @@ ghost use Rattle.std.specs.Prelude.{◌≡◌, ◌∷◌, ◌++◌, [], codes, S
 ghost use Rattle.global_defs.specs.Key.{sub_of};
 ghost use Rattle.global_defs.specs.Jobs as jobs;
 ghost use Rattle.command_defs.specs.Lines.{lines_of};
-ghost use Rattle.command_defs.specs.Commands.{Create, Attach, Map, StartPrimary, Run, Stop, Epoch, Resync, RecoverBackward, Fuse, Crash, Extract, Zwrite, Show, Print, with_images};
+ghost use Rattle.command_defs.specs.Commands.{Create, Attach, Map, SetJournal, StartPrimary, Run, Stop, Epoch, Resync, RecoverBackward, RecoverForward, Fuse, Crash, Extract, Zwrite, Show, Print, with_images};
 ghost use Rattle.command_defs.specs.Parts.{trimmed};
 ghost use Rattle.command_defs.specs.Sections.{begun, with_job, transaction_begun, transaction_ended, is_full_job};
 ghost use Rattle.command_defs.specs.Script.{Outside, Within, Skips, Wrong, Goes, Ends, line_reading, lines_reading};
@@ -30,7 +30,17 @@ pub fn commands_hold()
     ensures ninth { line_reading Outside (codes "CREATE A R1 R2 R3 R4 R5 R6 R7 R8 R9") ≡ Wrong 34 }
     ensures twice { line_reading Outside (codes "CREATE A R R") ≡ Wrong 12 }
     ensures no_region { line_reading Outside (codes "CREATE A  ") ≡ Wrong 9 }
-    ensures mode { line_reading Outside (codes "CREATE A R:NOBEFORE") ≡ Wrong 10 }
+    ensures mode { line_reading Outside (codes "CREATE A R:NOBEFORE Q") ≡ Ends (Create (codes "A") (record { name = codes "R"; before = false } ∷ with_images (codes "Q") ∷ [])) }
+    ensures other_mode { line_reading Outside (codes "CREATE A R:BEFORE") ≡ Wrong 10 }
+    ensures mode_alone { line_reading Outside (codes "CREATE A :NOBEFORE") ≡ Wrong 10 }
+    ensures twice_with_mode { line_reading Outside (codes "CREATE A R R:NOBEFORE") ≡ Wrong 12 }
+    ensures mode_twice { line_reading Outside (codes "CREATE A R:NOBEFORE:NOBEFORE") ≡ Wrong 10 }
+    ensures journal { line_reading Outside (codes "SET JOURNAL A R NOBEFORE") ≡ Ends (SetJournal (codes "A") (codes "R") false) }
+    ensures journal_before { line_reading Outside (codes "SET JOURNAL A R BEFORE ") ≡ Ends (SetJournal (codes "A") (codes "R") true) }
+    ensures journal_mode { line_reading Outside (codes "SET JOURNAL A R AFTER") ≡ Wrong 17 }
+    ensures no_mode { line_reading Outside (codes "SET JOURNAL A R") ≡ Wrong 16 }
+    ensures journal_more { line_reading Outside (codes "SET JOURNAL A R BEFORE Q") ≡ Wrong 24 }
+    ensures set_word { line_reading Outside (codes "SET ^X=1") ≡ Wrong 5 }
     ensures attach { line_reading Outside (codes "ATTACH ") ≡ Ends Attach }
     ensures attach_more { line_reading Outside (codes "ATTACH  X") ≡ Wrong 9 }
     ensures prefix { line_reading Outside (codes "MAP A HIST H*") ≡ Ends (Map (codes "A") (codes "HIST") (codes "H*")) }
@@ -56,7 +66,8 @@ pub fn commands_hold()
     ensures to_number { line_reading Outside (codes "ROLLBACK A 5") ≡ Wrong 12 }
     ensures to_nothing { line_reading Outside (codes "ROLLBACK A") ≡ Wrong 11 }
     ensures recover { line_reading Outside (codes "RECOVER A BACKWARD") ≡ Ends (RecoverBackward (codes "A")) }
-    ensures forward { line_reading Outside (codes "RECOVER A FORWARD") ≡ Wrong 11 }
+    ensures forward { line_reading Outside (codes "RECOVER A FORWARD") ≡ Ends (RecoverForward (codes "A")) }
+    ensures forwards { line_reading Outside (codes "RECOVER A FORWARDS") ≡ Wrong 11 }
     ensures no_way { line_reading Outside (codes "RECOVER A") ≡ Wrong 10 }
     ensures recover_more { line_reading Outside (codes "RECOVER A BACKWARD B") ≡ Wrong 20 }
     ensures start { line_reading Outside (codes " START  A PRIMARY \r") ≡ Ends (StartPrimary (codes "A")) }

@@ -4,6 +4,7 @@ pub mod Limits
 pub mod Opening
 pub mod Fronts
 pub mod Epochs
+pub mod Forward
 pub mod Stands
 pub mod Behind
 pub mod Texts

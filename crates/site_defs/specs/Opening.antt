@@ -1,6 +1,6 @@
--- What opening a site, beginning a reign and mapping make of its contents.
+-- What opening a site, beginning a reign, mapping and setting a mode make of its contents.
 use Rattle.site_defs.specs.Contents.{Name}
-use Rattle.std.specs.Prelude.{◌≡◌, ◌⊎◌, ℕ, ◌+◌, ◌&&◌, nat_lt, true, List, [], ◌∷◌, ◌++◌, length, Some, if◌then◌else◌}
+use Rattle.std.specs.Prelude.{◌≡◌, ◌⊎◌, ℕ, ◌+◌, ◌&&◌, nat_lt, Bool, true, List, [], ◌∷◌, ◌++◌, length, Some, if◌then◌else◌}
 use Rattle.std.specs.Option.{unwrap_or}
 use Rattle.global_defs.specs.Entry.{Stamp, Reign}
 use Rattle.journal_defs.specs.Journal.{Start}
@@ -21,6 +21,18 @@ with_pattern region text c = record c { instance = c.instance ++ pattern_record 
 -- what mapping may leave of these contents: the same, or with the pattern
 abbrev pub MayMap : Name → List ℕ → Contents → Contents → Type 0
 MayMap region text c o = (o ≡ c) ⊎ ((number : ℕ) × (region_number region c ≡ Some number) × (o ≡ with_pattern number text c))
+
+-- SET JOURNAL: the region's mode, for each generation that begins from now on, is one record more of the instance file
+abbrev pub with_mode : ℕ → Bool → Contents → Contents
+with_mode region before c = record c { instance = c.instance ++ records.Mode region before ∷ [] }
+
+-- what setting the mode of a region may leave of these contents: the same, or with the record
+abbrev pub MaySetMode : Name → Bool → Contents → Contents → Type 0
+MaySetMode region before c o = (o ≡ c) ⊎ ((number : ℕ) × (region_number region c ≡ Some number) × (o ≡ with_mode number before c))
+
+-- and of these with what lies behind them, which stays
+abbrev pub MaySetModeLeft : Name → Bool → Standing → Standing → Type 0
+MaySetModeLeft region before s o = (o ≡ s) ⊎ ((number : ℕ) × (region_number region s.contents ≡ Some number) × (o ≡ record { contents = with_mode number before s.contents; broken = s.broken }))
 
 -- with a CUT of its length, the text of what is broken, and these bytes of a lost-transaction file
 abbrev pub cut_with : (broken lost : List ℕ) → Contents → Contents

@@ -3,7 +3,8 @@ ghost use Rattle.std.specs.Prelude.{◌≡◌, ◌==◌, ◌∷◌, ◌++◌, []
 ghost use Rattle.journal_defs.specs.Instance as records;
 ghost use Rattle.site_defs.specs.Limits.{no_generation_left, no_reign_left};
 ghost use Rattle.site_defs.specs.Epochs.{epoch_for, with_epochs, marked};
-ghost use Rattle.site_defs.specs.Opening.{opened, with_starts, with_reign, next_stamp};
+ghost use Rattle.site_defs.specs.Opening.{opened, with_mode, with_starts, with_reign, next_stamp};
+ghost use Rattle.site_defs.specs.Forward.{begun_as, opened_as, recovered_as};
 ghost use Rattle.site_defs.specs.Rolling.{rolled, lost_text};
 ghost use Rattle.site_defs.specs.Samples.{made, reigned_once, dropped_reign, two_regions, cut_epoch, set_once, two_entries};
 
@@ -31,6 +32,18 @@ pub fn regions_begin()
     ensures not_second { (with_starts 1 two_regions).starts 1 ≡ [] }
     ensures second { (with_starts 2 two_regions).starts 1 ≡ record { region = 1; before = true; generation = 1; previous = 0 } ∷ [] }
     ensures no_third { (with_starts 3 two_regions).starts 2 ≡ [] }
+{}
+
+/// A mode holds from the next generation on. A recovery that plays the entries anew keeps images in no region, and leaves the mode.
+pub fn modes_hold()
+    ensures set { (opened [] (with_mode 0 false reigned_once)).starts 0 ≡ reigned_once.starts 0 ++ record { region = 0; before = false; generation = 2; previous = 1 } ∷ [] }
+    ensures set_again { (opened [] (with_mode 0 true (with_mode 0 false reigned_once))).starts 0 ≡ (opened [] reigned_once).starts 0 }
+    ensures of_its_region { (opened [] (with_mode 1 false two_regions)).starts 0 ≡ (opened [] two_regions).starts 0 }
+    ensures in_its_mode { (opened_as false [] reigned_once).starts 0 ≡ (opened [] reigned_once).starts 0 }
+    ensures anew { (opened_as true [] reigned_once).starts 0 ≡ reigned_once.starts 0 ++ record { region = 0; before = false; generation = 2; previous = 1 } ∷ [] }
+    ensures in_each_region { (begun_as true 2 two_regions).starts 1 ≡ record { region = 1; before = false; generation = 1; previous = 0 } ∷ [] }
+    ensures epoch { (recovered_as true [] two_entries).epochs 0 ≡ record { generation = 2; number = 2 } ∷ [] }
+    ensures behind { (opened [] (recovered_as true [] reigned_once)).starts 0 ≡ (opened_as true [] reigned_once).starts 0 ++ record { region = 0; before = true; generation = 3; previous = 2 } ∷ [] }
 {}
 
 /// An epoch is taken in regions that there are, and is of the newest generation. One that a CUT discarded is gone back to for no

@@ -5,4 +5,6 @@
 
 mod laws;
 
-pub use laws::{epochs_are_taken, limits_hold, openings_hold, regions_begin, rollbacks_hold};
+pub use laws::{
+    epochs_are_taken, limits_hold, modes_hold, openings_hold, regions_begin, rollbacks_hold,
+};
