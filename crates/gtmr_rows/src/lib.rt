@@ -20,6 +20,8 @@ mod random;
 #[cfg(test)]
 mod random_table;
 #[cfg(test)]
+mod recoveries;
+#[cfg(test)]
 mod regions;
 #[cfg(test)]
 mod rollbacks;
