@@ -31,6 +31,8 @@ pub data Cause : Type 0 where
   ReignLimit : Cause
   -- the region needs forward recovery for what is to stay, first for that generation, which keeps no images
   NoBefore : (region : Name) → (generation : ℕ) → Cause
+  -- the region needs forward recovery for all entries
+  NeedForward : (region : Name) → Cause
 
 -- the line begins with this name
 pub record Refusal : Type 0 where
@@ -77,6 +79,7 @@ cause_text NoFile = codes "NOFILE"
 cause_text GenLimit = codes "GENLIMIT"
 cause_text ReignLimit = codes "REIGNLIMIT"
 cause_text (NoBefore region generation) = codes "NOBEFORE " ++ region ++ 32 ∷ decimal generation
+cause_text (NeedForward region) = codes "NEEDFORWARD " ++ region
 
 abbrev pub refusal_line : Refusal → List ℕ
 refusal_line r = line r.site (cause_text r.cause)

@@ -29,6 +29,17 @@ pub record Stays (site_then : Option Site) (c : Contents) (old new : Place) : Ty
 abbrev pub Becomes : State → Contents → Place → Place → Type 0
 Becomes state c old new = Stays (in_new_state state old.site) c old new
 
+-- A site is in this state, and as much is known as before: its files stand for this and nothing else, with what lay behind it before.
+pub record BecomesOver (state : State) (c : Contents) (old new : Place) : Type 0 where
+  pub site : new.site ≡ in_new_state state old.site
+  pub told : new.told ≡ old.told
+  pub now : new.now ≡ c
+  pub left : new.left ≡ old.left
+  pub outcomes : new.outcomes ≡ c ∷ []
+  pub standings : new.standings ≡ Some (record { contents = c; broken = old.left.broken } ∷ [])
+  pub faults : old.faults ≤ new.faults
+  pub simulated : new.simulated ≡ old.simulated
+
 -- one of the outcomes, after a step
 abbrev pub After : (Contents → Contents → Type 0) → List Contents → Contents → Type 0
 After step outcomes o = (c : Contents) × Among outcomes c × step c o

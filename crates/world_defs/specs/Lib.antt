@@ -2,6 +2,7 @@ pub mod World
 pub mod Answers
 pub mod Shown
 pub mod Changes
+pub mod Without
 pub mod Row
 pub mod Meaning
 pub mod rows

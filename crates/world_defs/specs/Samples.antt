@@ -93,6 +93,10 @@ broken_off_place = record {
 abbrev pub without_images : Contents
 without_images = record two_entries { starts = λ r. record { region = r; before = false; generation = 1; previous = 0 } ∷ [] }
 
+-- where A is down with these contents, x is broken behind them, and an opening that a fault ended wrote y
+abbrev pub left_place : Contents → Place
+left_place c = record (down_place c) { left = record { broken = codes "x"; torn = codes "y" }; standings = Some (record { contents = c; broken = codes "x" } ∷ []) }
+
 -- A with two entries, whose newest generation is the last one that an opening may draw
 abbrev pub at_last_generation : Contents
 at_last_generation = record two_entries { instance = records.Create (codes "A") (record { name = codes "R"; before = true } ∷ []) ∷ records.Cut 2 65534 ∷ [] }

@@ -1,8 +1,8 @@
 // What the definitions come to on small values.
-ghost use Rattle.std.specs.Prelude.{◌≡◌, ◌⊎◌, ◌∷◌, ◌++◌, [], ℕ, List, codes, Some, None, IsSomeAnd, true, false};
+ghost use Rattle.std.specs.Prelude.{◌≡◌, ◌⊎◌, ◌∷◌, ◌++◌, [], ℕ, Bool, List, codes, Some, None, IsSomeAnd, true, false};
 ghost use Rattle.disk_defs.specs.Disk.{Rose};
 ghost use Rattle.journal_defs.specs.Instance as records;
-ghost use Rattle.journal_defs.specs.Instance.{InstanceRecord};
+ghost use Rattle.journal_defs.specs.Instance.{InstanceRecord, mode_of};
 ghost use Rattle.global_defs.specs.Entry.{Sequence};
 ghost use Rattle.site_defs.specs.Contents.{Contents, Standing, nothing, bare};
 ghost use Rattle.site_defs.specs.Fronts.{turn_of};
@@ -12,9 +12,9 @@ ghost use Rattle.site_defs.specs.Opening.{cut_with, opened, with_pattern};
 ghost use Rattle.global_defs.specs.Extract.{extract};
 ghost use Rattle.site_defs.specs.Samples.{made, reigned_once, two_regions, set_once, two_entries};
 ghost use Rattle.site_defs.specs.Texts.{extract_from};
-ghost use Rattle.command_defs.specs.Commands.{Attach, Create, StartPrimary, Stop, Epoch, Crash, Show, Resync, RecoverBackward, with_images};
+ghost use Rattle.command_defs.specs.Commands.{Attach, Create, SetJournal, StartPrimary, Stop, Epoch, Crash, Show, Resync, RecoverBackward, RecoverForward, with_images};
 ghost use Rattle.world_defs.specs.World.{Place, World, Primary, Failed};
-ghost use Rattle.world_defs.specs.Answers.{NoSite, NoDisk, Empty, Exists, Stopped, NotRunning, NotSimulated, Running, Started, NoRegion, TwiceMapped, NoFile, GenLimit, ReignLimit, NoBefore, Answer, Refusal, Done, Refused, DiskFault, NotAFile, Typed, refusal_line, fault_line};
+ghost use Rattle.world_defs.specs.Answers.{NoSite, NoDisk, Empty, Exists, Stopped, NotRunning, NotSimulated, Running, Started, NoRegion, TwiceMapped, NoFile, GenLimit, ReignLimit, NoBefore, NeedForward, Answer, Refusal, Done, Refused, DiskFault, NotAFile, Typed, refusal_line, fault_line};
 ghost use Rattle.world_defs.specs.Row.{first, refusal_in, Here};
 ghost use Rattle.world_defs.specs.rows.Attach.{attach};
 ghost use Rattle.world_defs.specs.rows.Crash.{Crashes};
@@ -23,14 +23,15 @@ ghost use Rattle.world_defs.specs.rows.Epoch.{epoch};
 ghost use Rattle.world_defs.specs.rows.Extract as extracts;
 ghost use Rattle.world_defs.specs.rows.Map.{map_pattern, started, twice_mapped, unmapped};
 ghost use Rattle.world_defs.specs.rows.Print.{no_file, print, typed};
-ghost use Rattle.world_defs.specs.rows.Recover.{recover_backward};
+ghost use Rattle.world_defs.specs.rows.Recover.{recover};
 ghost use Rattle.world_defs.specs.rows.Rollback.{rollback};
 ghost use Rattle.world_defs.specs.rows.Run.{section_text};
+ghost use Rattle.world_defs.specs.rows.SetJournal.{set_journal};
 ghost use Rattle.world_defs.specs.rows.Show.{show_state};
 ghost use Rattle.world_defs.specs.rows.Start.{FIRST_SERIALS, StartsPrimary, generation_limit, reign_limit, start};
 ghost use Rattle.world_defs.specs.rows.Stop.{stop};
 ghost use Rattle.world_defs.specs.Step.{LeavesOld, LeftByRow, Step, refusal, refusal_of};
-ghost use Rattle.world_defs.specs.Samples.{failed_place, torn_place, blank_place, made_place, down_place, primary_place, shown_place, lost_place, created_place, broken_off_place, without_images, at_last_generation, switching};
+ghost use Rattle.world_defs.specs.Samples.{failed_place, torn_place, blank_place, made_place, down_place, primary_place, shown_place, lost_place, created_place, broken_off_place, left_place, without_images, at_last_generation, switching};
 
 /// A world without disks refuses what needs one; one whose only disk failed refuses what needs it until a crash.
 pub fn refusals_hold()
@@ -137,20 +138,48 @@ pub fn rolling_holds()
     ensures without { Here (rollback 2 (codes "A") (down_place without_images)) (Refused (record { site = codes "A"; cause = NoBefore (codes "R") 1 })) (down_place without_images) (codes "A NOBEFORE R 1\n") }
 {}
 
-/// RECOVER BACKWARD leaves all entries, with an epoch of them, and the site down.
+/// A recovery leaves all entries, with an epoch of them, and the site down. RECOVER BACKWARD begins a generation in each region's mode, and RECOVER FORWARD
+/// one without images.
 pub fn recovering_holds()
-    ensures told { (q : Place) (text : List ℕ) → Here (recover_backward (codes "A") (down_place two_entries)) Done q text → text ≡ codes "A RECOVERED 2\n" }
-    ensures kept { (q : Place) (text : List ℕ) → Here (recover_backward (codes "A") (down_place two_entries)) Done q text → q.now.sequence ≡ two_entries.sequence }
-    ensures taken { (q : Place) (text : List ℕ) → Here (recover_backward (codes "A") (down_place two_entries)) Done q text → q.now.epochs 0 ≡ record { generation = 2; number = 2 } ∷ [] }
-    ensures down { (q : Place) (text : List ℕ) → Here (recover_backward (codes "A") (down_place two_entries)) Done q text → q.site ≡ (down_place two_entries).site }
-    ensures limit { refusal_in (recover_backward (codes "A") (down_place at_last_generation)) ≡ Some (record { site = codes "A"; cause = GenLimit }) }
+    ensures told { (anew : Bool) (q : Place) (text : List ℕ) → Here (recover anew (codes "A") (down_place two_entries)) Done q text → text ≡ codes "A RECOVERED 2\n" }
+    ensures kept { (anew : Bool) (q : Place) (text : List ℕ) → Here (recover anew (codes "A") (down_place two_entries)) Done q text → q.now.sequence ≡ two_entries.sequence }
+    ensures taken { (anew : Bool) (q : Place) (text : List ℕ) → Here (recover anew (codes "A") (down_place two_entries)) Done q text → q.now.epochs 0 ≡ record { generation = 2; number = 2 } ∷ [] }
+    ensures down { (anew : Bool) (q : Place) (text : List ℕ) → Here (recover anew (codes "A") (down_place two_entries)) Done q text → q.site ≡ (down_place two_entries).site }
+    ensures backward { (q : Place) (text : List ℕ) → Here (recover false (codes "A") (down_place two_entries)) Done q text → q.now.starts 0 ≡ two_entries.starts 0 ++ record { region = 0; before = true; generation = 2; previous = 1 } ∷ [] }
+    ensures forward { (q : Place) (text : List ℕ) → Here (recover true (codes "A") (down_place two_entries)) Done q text → q.now.starts 0 ≡ two_entries.starts 0 ++ record { region = 0; before = false; generation = 2; previous = 1 } ∷ [] }
+    ensures limit { (anew : Bool) → refusal_in (recover anew (codes "A") (down_place at_last_generation)) ≡ Some (record { site = codes "A"; cause = GenLimit }) }
     ensures running { refusal (record { places = primary_place true two_entries ∷ [] }) (RecoverBackward (codes "A")) ≡ Some (record { site = codes "A"; cause = Running }) }
+    ensures running_anew { refusal (record { places = primary_place true two_entries ∷ [] }) (RecoverForward (codes "A")) ≡ Some (record { site = codes "A"; cause = Running }) }
+{}
+
+/// Where a region's journal began without images, it may need forward recovery: START and RECOVER BACKWARD may be refused for it, and for no other region.
+/// RECOVER FORWARD isn't.
+pub fn images_are_needed()
+    ensures start { Here (start (codes "A") (down_place without_images)) (Refused (record { site = codes "A"; cause = NeedForward (codes "R") })) (down_place without_images) (codes "A NEEDFORWARD R\n") }
+    ensures recover { Here (recover false (codes "A") (down_place without_images)) (Refused (record { site = codes "A"; cause = NeedForward (codes "R") })) (down_place without_images) (codes "A NEEDFORWARD R\n") }
+    ensures other { (q : Place) (text : List ℕ) → Here (recover false (codes "A") (down_place without_images)) (Refused (record { site = codes "A"; cause = NeedForward (codes "Q") })) q text → ⊥ }
+    ensures with_images { (q : Place) (text : List ℕ) → Here (recover false (codes "A") (down_place two_entries)) (Refused (record { site = codes "A"; cause = NeedForward (codes "R") })) q text → ⊥ }
+    ensures anew { (r : Refusal) (q : Place) (text : List ℕ) → Here (recover true (codes "A") (down_place without_images)) (Refused r) q text → ⊥ }
+{}
+
+/// SET JOURNAL gives a region the mode of its later generations, at any time when the site is down, and what lies behind the entries stays there.
+pub fn setting_holds()
+    ensures told { (q : Place) (text : List ℕ) → Here (set_journal (codes "R") false (codes "A") (left_place two_entries)) Done q text → text ≡ codes "A JOURNAL R NOBEFORE\n" }
+    ensures told_before { (q : Place) (text : List ℕ) → Here (set_journal (codes "R") true (codes "A") (left_place two_entries)) Done q text → text ≡ codes "A JOURNAL R BEFORE\n" }
+    ensures set { (before : Bool) (q : Place) (text : List ℕ) → Here (set_journal (codes "R") before (codes "A") (left_place two_entries)) Done q text → mode_of q.now.instance 0 ≡ Some before }
+    ensures kept { (before : Bool) (q : Place) (text : List ℕ) → Here (set_journal (codes "R") before (codes "A") (left_place two_entries)) Done q text → q.now.sequence ≡ two_entries.sequence }
+    ensures behind { (before : Bool) (q : Place) (text : List ℕ) → Here (set_journal (codes "R") before (codes "A") (left_place two_entries)) Done q text → q.left ≡ (left_place two_entries).left }
+    ensures standings { (before : Bool) (q : Place) (text : List ℕ) → Here (set_journal (codes "R") before (codes "A") (left_place two_entries)) Done q text → q.standings ≡ Some (record { contents = q.now; broken = codes "x" } ∷ []) }
+    ensures not_refused { (before : Bool) (r : Refusal) (q : Place) (text : List ℕ) → Here (set_journal (codes "R") before (codes "A") (left_place two_entries)) (Refused r) q text → ⊥ }
+    ensures region { refusal_in (set_journal (codes "Q") false (codes "A") (down_place two_entries)) ≡ Some (record { site = codes "A"; cause = NoRegion (codes "Q") }) }
+    ensures running { refusal (record { places = primary_place true two_entries ∷ [] }) (SetJournal (codes "A") (codes "R") false) ≡ Some (record { site = codes "A"; cause = Running }) }
 {}
 
 /// The lines of a refusal, of a fault, of a site that is shown, and of a section that a fault ended.
 pub fn output_holds()
     ensures told { refusal_line (record { site = codes "A"; cause = Stopped 1 }) ≡ codes "A STOPPED 1\n" }
     ensures no_before { refusal_line (record { site = codes "A"; cause = NoBefore (codes "R") 1 }) ≡ codes "A NOBEFORE R 1\n" }
+    ensures need_forward { refusal_line (record { site = codes "A"; cause = NeedForward (codes "R") }) ≡ codes "A NEEDFORWARD R\n" }
     ensures fault { fault_line (start (codes "A") made_place).word 7 ≡ codes "A DISKFAULT 7\n" }
     // a whole command: STOP of a site that failed is refused with its line, and changes nothing
     ensures refused { Step (record { places = failed_place true ∷ [] }) (Stop (codes "A")) (Refused (record { site = codes "A"; cause = Stopped 3 }) ∷ []) (record { places = failed_place true ∷ [] }) (codes "A STOPPED 3\n") }

@@ -5,6 +5,7 @@
 mod laws;
 
 pub use laws::{
-    attaching_holds, causes_hold, epochs_hold, leftovers_are_written, mapping_holds, output_holds,
-    refusals_hold, shown_bytes_decide, typing_holds,
+    attaching_holds, causes_hold, epochs_hold, extracting_holds, images_are_needed,
+    leftovers_are_written, mapping_holds, output_holds, recovering_holds, refusals_hold,
+    rolling_holds, setting_holds, shown_bytes_decide, typing_holds,
 };

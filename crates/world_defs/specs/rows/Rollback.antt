@@ -1,14 +1,10 @@
 -- ROLLBACK RESYNC: the first entries stay, and the others are in a lost-transaction file (GT.M: MUPIP JOURNAL -ROLLBACK -BACKWARD -RESYNC -LOSTTRANS).
-use Rattle.std.specs.Prelude.{◌≡◌, ◌⊎◌, ◌<◌, ◌≤◌, ◌-◌, ℕ, false, List, ◌++◌, codes, length, min, slice_get, Option, Some, None}
+use Rattle.std.specs.Prelude.{◌≡◌, ◌⊎◌, ◌<◌, ◌≤◌, ◌-◌, ℕ, List, ◌++◌, codes, length, min}
 use Rattle.std.specs.Fmt.{decimal}
 use Rattle.disk_defs.specs.Disk.{Files}
-use Rattle.journal_defs.specs.Journal.{Start}
-use Rattle.journal_defs.specs.Instance.{NamedMode, generation, regions}
-use Rattle.journal_defs.specs.Sequence.{Records}
-use Rattle.journal_defs.specs.Epochs.{chosen, first_without}
+use Rattle.journal_defs.specs.Instance.{generation}
 use Rattle.command_defs.specs.Commands.{Name}
 use Rattle.site_defs.specs.Contents.{Contents, Standing}
-use Rattle.site_defs.specs.Lists.{Among}
 use Rattle.site_defs.specs.Limits.{LAST_GENERATION}
 use Rattle.site_defs.specs.OutsideBlocks.{IsOutsideRollback}
 use Rattle.site_defs.specs.Rolling.{MayRollBack, MayRollBackLeft, rolled}
@@ -16,6 +12,7 @@ use Rattle.world_defs.specs.World.{Down, Place, IfKnown, IfShown, Kept}
 use Rattle.world_defs.specs.Answers.{Cause, GenLimit, NoBefore, Refusal, line}
 use Rattle.world_defs.specs.Shown.{ByRecords, BySequence, ByAnswer, Anything}
 use Rattle.world_defs.specs.Changes.{Becomes, KeptUnknown}
+use Rattle.world_defs.specs.Without.{IsFirstWithout, NoneIsWithout, BeganWithout}
 use Rattle.world_defs.specs.Row.{Row, writing, refused_with, in_state, why_not_down, where_known}
 use Rattle.world_defs.specs.rows.Start.{generation_limit}
 
@@ -42,23 +39,6 @@ pub record RollsBack (number : ℕ) (old new : Place) : Type 0 where
   pub bytes : IfShown old (BySequence (λ u seq. (read.instance ≡ u.instance) × (length read.sequence ≡ length seq)))
   pub becomes : Becomes Down (rolled (stay_of number read) broken read) old new
 
--- the first generation without images behind the epoch that a region goes back to for so many entries
-abbrev pub without_behind : Records → ℕ → ℕ → Option ℕ
-without_behind u t r = first_without (u.journal r) (chosen u.instance t (u.journal r))
-
--- The region of that name is the first that needs forward recovery for so many entries, first for that generation.
-pub record IsFirstWithout (name : Name) (g : ℕ) (u : Records) (t : ℕ) : Type 0 where
-  pub region : ℕ
-  pub mode : NamedMode
-  pub there : slice_get (regions u.instance) region ≡ Some mode
-  pub named : mode.name ≡ name
-  pub needs : without_behind u t region ≡ Some g
-  pub earlier : (q : ℕ) → q < region → without_behind u t q ≡ None
-
--- no region does
-abbrev pub NoneIsWithout : Records → ℕ → Type 0
-NoneIsWithout u t = (r : ℕ) → r < length (regions u.instance) → without_behind u t r ≡ None
-
 -- the bytes are a site's that has a generation left, and each region goes back to an epoch
 abbrev pub RolledBackBy : (number : ℕ) → Files → Type 0
 RolledBackBy number files = BySequence (λ u seq. (generation u.instance < LAST_GENERATION) × NoneIsWithout u (stay number (length seq))) files
@@ -68,17 +48,6 @@ abbrev pub RollbackRefusedBy : (number : ℕ) → Cause → Files → Type 0
 RollbackRefusedBy number GenLimit files = ByRecords (λ rs. LAST_GENERATION ≤ generation rs) files
 RollbackRefusedBy number (NoBefore region g) files = BySequence (λ u seq. IsFirstWithout region g u (stay number (length seq))) files
 RollbackRefusedBy number cause files = Unit {0}
-
--- Contents tell of a region which generations began without images, and not which records stand in them.
-pub record BeganWithout (name : Name) (g : ℕ) (c : Contents) : Type 0 where
-  pub region : ℕ
-  pub mode : NamedMode
-  pub there : slice_get (regions c.instance) region ≡ Some mode
-  pub named : mode.name ≡ name
-  pub start : Start
-  pub among : Among (c.starts region) start
-  pub without : start.before ≡ false
-  pub generation : start.generation ≡ g
 
 -- where the files aren't known the limit may refuse it; where a generation began without images, a region may
 abbrev pub RollbackMayRefuse : Name → Refusal → Place → Place → Type 0

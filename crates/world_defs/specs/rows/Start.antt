@@ -14,9 +14,10 @@ use Rattle.site_defs.specs.Limits.{LAST_GENERATION, no_generation_left, no_reign
 use Rattle.site_defs.specs.OutsideBlocks.{IsOutsideOpening}
 use Rattle.site_defs.specs.Opening.{MayBegin, MayBeginLeft, next_stamp, opened, with_reign}
 use Rattle.world_defs.specs.World.{State, Down, Primary, Failed, Site, Place, IfKnown, IfShown, Kept}
-use Rattle.world_defs.specs.Answers.{Cause, GenLimit, ReignLimit, line}
+use Rattle.world_defs.specs.Answers.{Cause, GenLimit, ReignLimit, NeedForward, line}
 use Rattle.world_defs.specs.Shown.{ByRecords, BySequence, IsOfAnother, ByAnswer, Anything}
 use Rattle.world_defs.specs.Changes.{Becomes, ChangesUnknown, KeptUnknown}
+use Rattle.world_defs.specs.Without.{IsFirstWithout, NoneIsWithout, MayNeedForward}
 use Rattle.world_defs.specs.Row.{Row, writing, first, refused_with, caused, in_state, why_not_down, where_known}
 
 abbrev pub generation_limit : Contents → Option Cause
@@ -66,13 +67,14 @@ cycle_on (Some site) = cycle_in site.state
 abbrev pub read_so : Records → Sequence → Contents
 read_so u seq = record { instance = u.instance; starts = λ r. []; epochs = λ r. []; texts = []; losts = []; sequence = seq }
 
--- the bytes are of that site, and past no limit
+-- the bytes are of that site, and past no limit, and no region needs forward recovery
 abbrev pub StartedBy : Name → Files → Type 0
-StartedBy name files = BySequence (λ u seq. (site_name u.instance ≡ name) × (generation u.instance < LAST_GENERATION) × (no_reign_left (read_so u seq) ≡ false)) files
+StartedBy name files = BySequence (λ u seq. (site_name u.instance ≡ name) × (generation u.instance < LAST_GENERATION) × (no_reign_left (read_so u seq) ≡ false) × NoneIsWithout u (length seq)) files
 
--- the bytes that are past a limit, as they were before the opening
+-- the bytes that are past a limit, or of which a region needs forward recovery, as they were before the opening
 abbrev pub LimitedBy : Cause → Files → Type 0
 LimitedBy GenLimit files = ByRecords (λ rs. LAST_GENERATION ≤ generation rs) files
+LimitedBy (NeedForward region) files = BySequence (λ u seq. (g : ℕ) × IsFirstWithout region g u (length seq)) files
 LimitedBy ReignLimit files = BySequence (λ u seq. no_reign_left (read_so u seq) ≡ true) files
 LimitedBy cause files = Unit {0}
 
@@ -80,9 +82,9 @@ LimitedBy cause files = Unit {0}
 abbrev pub IsUnopened : Name → ℕ → ℕ → Files → Type 0
 IsUnopened name file offset files = IsOutsideOpening files file offset ⊎ IsOfAnother name file offset files
 
--- what an opening that is refused leaves where nothing is known: past the limit of reigns a generation was drawn
+-- What an opening that is refused leaves where nothing is known: past the limit of reigns a generation was drawn. Where a generation began without images, a region may refuse it.
 abbrev pub StartMayRefuse : Cause → Place → Place → Type 0
-StartMayRefuse cause old new = ((cause ≡ GenLimit) × KeptUnknown old new) ⊎ ((cause ≡ ReignLimit) × ChangesUnknown old new)
+StartMayRefuse cause old new = ((cause ≡ GenLimit) × KeptUnknown old new) ⊎ ((cause ≡ ReignLimit) × ChangesUnknown old new) ⊎ MayNeedForward cause old new
 
 abbrev pub start : Name → Place → Row
 start name p = record (writing name (MayBegin name p.left.broken) (MayBeginLeft name) p) {

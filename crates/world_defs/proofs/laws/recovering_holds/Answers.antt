@@ -1,11 +1,12 @@
-use Rattle.std.proofs.Common.{◌≡◌, ℕ, ◌++◌, length, refl, ◌∙◌, ap}
+use Rattle.std.proofs.Common.{◌≡◌, Bool, true, false, ◌++◌, length, refl, ◌∙◌, ap}
 use Rattle.std.specs.Prelude.{codes}
 use Rattle.std.specs.Fmt.{decimal, digits}
 use Rattle.site_defs.specs.Contents.{Contents}
+use Rattle.site_defs.specs.Forward.{recovered_as}
+use Rattle.site_defs.specs.Samples.{two_entries}
 use Rattle.world_defs.specs.Answers.{line}
 use Rattle.world_defs.specs.World.{Place}
 use Rattle.world_defs.specs.Samples.{down_place}
-use Rattle.site_defs.specs.Samples.{two_entries}
 use Rattle.world_defs.specs.rows.Recover.{Recovers}
 use Rattle.world_defs.proofs.laws.recovering_holds.Goals as goal
 
@@ -13,8 +14,21 @@ two_recovered : line (codes "A") (codes "RECOVERED " ++ decimal 2) ≡ codes "A 
 unfolding digits
 two_recovered = refl
 
-two_stay : (q : Place) → Recovers (down_place two_entries) q → length q.now.sequence ≡ 2
-two_stay q d = ap (λ (o : Contents). length o.sequence) d.becomes.known.now ∙ ap (λ (o : Contents). length o.sequence) (d.as_before refl)
+-- what is left, but for the text of what was broken
+recovered : (anew : Bool) (q : Place) → (d : Recovers anew (down_place two_entries) q) → q.now ≡ recovered_as anew d.broken two_entries
+recovered anew q d = d.becomes.known.now ∙ ap (λ (o : Contents). recovered_as anew d.broken o) (d.as_before refl)
 
 pub returns-clause-told : goal.returns-clause-told
-returns-clause-told c q text h = h.2 ∙ ap (λ (n : ℕ). line (codes "A") (codes "RECOVERED " ++ decimal n)) (two_stay q h.1) ∙ two_recovered
+returns-clause-told c anew q text h = h.2 ∙ ap (λ (o : Contents). line (codes "A") (codes "RECOVERED " ++ decimal (length o.sequence))) (recovered anew q h.1) ∙ two_recovered
+
+pub returns-clause-kept : goal.returns-clause-kept
+returns-clause-kept c anew q text h = ap (λ (o : Contents). o.sequence) (recovered anew q h.1)
+
+pub returns-clause-taken : goal.returns-clause-taken
+returns-clause-taken c anew q text h = ap (λ (o : Contents). o.epochs 0) (recovered anew q h.1)
+
+pub returns-clause-backward : goal.returns-clause-backward
+returns-clause-backward c q text h = ap (λ (o : Contents). o.starts 0) (recovered false q h.1)
+
+pub returns-clause-forward : goal.returns-clause-forward
+returns-clause-forward c q text h = ap (λ (o : Contents). o.starts 0) (recovered true q h.1)
