@@ -93,6 +93,10 @@ broken_off_place = record {
 abbrev pub without_images : Contents
 without_images = record two_entries { starts = λ r. record { region = r; before = false; generation = 1; previous = 0 } ∷ [] }
 
+-- and whose region has an epoch of both in that generation
+abbrev pub marked_without_images : Contents
+marked_without_images = record without_images { epochs = λ r. record { generation = 1; number = 2 } ∷ [] }
+
 -- where A is down with these contents, x is broken behind them, and an opening that a fault ended wrote y
 abbrev pub left_place : Contents → Place
 left_place c = record (down_place c) { left = record { broken = codes "x"; torn = codes "y" }; standings = Some (record { contents = c; broken = codes "x" } ∷ []) }

@@ -31,7 +31,7 @@ ghost use Rattle.world_defs.specs.rows.Show.{show_state};
 ghost use Rattle.world_defs.specs.rows.Start.{FIRST_SERIALS, StartsPrimary, generation_limit, reign_limit, start};
 ghost use Rattle.world_defs.specs.rows.Stop.{stop};
 ghost use Rattle.world_defs.specs.Step.{LeavesOld, LeftByRow, Step, refusal, refusal_of};
-ghost use Rattle.world_defs.specs.Samples.{failed_place, torn_place, blank_place, made_place, down_place, primary_place, shown_place, lost_place, created_place, broken_off_place, left_place, without_images, at_last_generation, switching};
+ghost use Rattle.world_defs.specs.Samples.{failed_place, torn_place, blank_place, made_place, down_place, primary_place, shown_place, lost_place, created_place, broken_off_place, left_place, without_images, marked_without_images, at_last_generation, switching};
 
 /// A world without disks refuses what needs one; one whose only disk failed refuses what needs it until a crash.
 pub fn refusals_hold()
@@ -135,7 +135,8 @@ pub fn rolling_holds()
     ensures limit { refusal_in (rollback 2 (codes "A") (down_place at_last_generation)) ≡ Some (record { site = codes "A"; cause = GenLimit }) }
     ensures running { refusal (record { places = primary_place true two_entries ∷ [] }) (Resync (codes "A") 2) ≡ Some (record { site = codes "A"; cause = Running }) }
     // a region whose journal began without images
-    ensures without { Here (rollback 2 (codes "A") (down_place without_images)) (Refused (record { site = codes "A"; cause = NoBefore (codes "R") 1 })) (down_place without_images) (codes "A NOBEFORE R 1\n") }
+    ensures without { refusal_in (rollback 2 (codes "A") (down_place without_images)) ≡ Some (record { site = codes "A"; cause = NoBefore (codes "R") 1 }) }
+    ensures without_text { refusal_line (record { site = codes "A"; cause = NoBefore (codes "R") 1 }) ≡ codes "A NOBEFORE R 1\n" }
 {}
 
 /// A recovery leaves all entries, with an epoch of them, and the site down. RECOVER BACKWARD begins a generation in each region's mode, and RECOVER FORWARD
@@ -155,11 +156,17 @@ pub fn recovering_holds()
 /// Where a region's journal began without images, it may need forward recovery: START and RECOVER BACKWARD may be refused for it, and for no other region.
 /// RECOVER FORWARD isn't.
 pub fn images_are_needed()
-    ensures start { Here (start (codes "A") (down_place without_images)) (Refused (record { site = codes "A"; cause = NeedForward (codes "R") })) (down_place without_images) (codes "A NEEDFORWARD R\n") }
-    ensures recover { Here (recover false (codes "A") (down_place without_images)) (Refused (record { site = codes "A"; cause = NeedForward (codes "R") })) (down_place without_images) (codes "A NEEDFORWARD R\n") }
-    ensures other { (q : Place) (text : List ℕ) → Here (recover false (codes "A") (down_place without_images)) (Refused (record { site = codes "A"; cause = NeedForward (codes "Q") })) q text → ⊥ }
-    ensures with_images { (q : Place) (text : List ℕ) → Here (recover false (codes "A") (down_place two_entries)) (Refused (record { site = codes "A"; cause = NeedForward (codes "R") })) q text → ⊥ }
+    ensures start { refusal_in (start (codes "A") (down_place without_images)) ≡ Some (record { site = codes "A"; cause = NeedForward (codes "R") }) }
+    ensures text { refusal_line (record { site = codes "A"; cause = NeedForward (codes "R") }) ≡ codes "A NEEDFORWARD R\n" }
+    ensures recover { refusal_in (recover false (codes "A") (down_place without_images)) ≡ Some (record { site = codes "A"; cause = NeedForward (codes "R") }) }
+    ensures with_images { (r : Refusal) (q : Place) (text : List ℕ) → Here (recover false (codes "A") (down_place two_entries)) (Refused r) q text → ⊥ }
     ensures anew { (r : Refusal) (q : Place) (text : List ℕ) → Here (recover true (codes "A") (down_place without_images)) (Refused r) q text → ⊥ }
+    // what stands behind an epoch in such a generation isn't told
+    ensures untold { refusal_in (start (codes "A") (down_place marked_without_images)) ≡ None }
+    ensures behind_it { Here (start (codes "A") (down_place marked_without_images)) (Refused (record { site = codes "A"; cause = NeedForward (codes "R") })) (down_place marked_without_images) (codes "A NEEDFORWARD R\n") }
+    ensures other { (q : Place) (text : List ℕ) → Here (recover false (codes "A") (down_place marked_without_images)) (Refused (record { site = codes "A"; cause = NeedForward (codes "Q") })) q text → ⊥ }
+    // but before it everything does
+    ensures before_it { refusal_in (rollback 2 (codes "A") (down_place marked_without_images)) ≡ Some (record { site = codes "A"; cause = NoBefore (codes "R") 1 }) }
 {}
 
 /// SET JOURNAL gives a region the mode of its later generations, at any time when the site is down, and what lies behind the entries stays there.

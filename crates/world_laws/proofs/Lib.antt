@@ -1,3 +1,4 @@
+pub mod Bare
 pub mod Lists
 pub mod Instances
 pub mod SerialRuns

@@ -8,4 +8,5 @@ pub mod beginnings;
 pub mod epochs;
 pub mod fitness;
 pub mod leftovers;
+pub mod needs;
 pub mod settling;

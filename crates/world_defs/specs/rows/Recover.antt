@@ -1,6 +1,6 @@
 -- RECOVER BACKWARD: the site is opened and closed again (GT.M: MUPIP JOURNAL -RECOVER -BACKWARD).
 -- RECOVER FORWARD: and its blocks are made anew from all entries (GT.M: MUPIP JOURNAL -RECOVER -FORWARD).
-use Rattle.std.specs.Prelude.{◌≡◌, ◌⊎◌, ◌<◌, ◌≤◌, List, ◌++◌, ℕ, Bool, true, false, codes, length}
+use Rattle.std.specs.Prelude.{◌≡◌, ◌⊎◌, ◌<◌, ◌≤◌, List, ◌++◌, ℕ, Bool, true, false, Option, codes, length, [], ◌∷◌}
 use Rattle.std.specs.Fmt.{decimal}
 use Rattle.disk_defs.specs.Disk.{Files}
 use Rattle.journal_defs.specs.Instance.{generation}
@@ -15,8 +15,8 @@ use Rattle.world_defs.specs.Answers.{Cause, GenLimit, NeedForward, line}
 use Rattle.world_defs.specs.Shown.{ByRecords, BySequence, ByAnswer, Anything}
 use Rattle.world_defs.specs.Changes.{Becomes, KeptUnknown}
 use Rattle.world_defs.specs.Without.{IsFirstWithout, NoneIsWithout, MayNeedForward}
-use Rattle.world_defs.specs.Row.{Row, writing, refused_with, in_state, why_not_down, where_known}
-use Rattle.world_defs.specs.rows.Start.{generation_limit}
+use Rattle.world_defs.specs.Row.{Row, writing, first, refused_with, in_state, why_not_down, where_known}
+use Rattle.world_defs.specs.rows.Start.{generation_limit, need_forward}
 
 -- what was read, and what was broken behind it, which is so where the files are known, is opened and closed
 pub record Recovers (anew : Bool) (old new : Place) : Type 0 where
@@ -44,7 +44,12 @@ abbrev pub IsUnrecovered : (anew : Bool) → ℕ → ℕ → Files → Type 0
 IsUnrecovered true file offset files = IsOutsideSite files file offset
 IsUnrecovered false file offset files = IsOutsideOpening files file offset
 
--- where the files aren't known the limit may refuse it; where a generation began without images, a region may, unless the blocks are made anew
+-- the limit of generations, and unless the blocks are made anew what must be there for the regions to go back to their epochs
+abbrev pub unrecovered : (anew : Bool) → Contents → Option Cause
+unrecovered true c = generation_limit c
+unrecovered false c = first (generation_limit c ∷ need_forward c ∷ [])
+
+-- where the files aren't known the limit may refuse it; where contents don't tell whether a region needs forward recovery, that may, unless the blocks are made anew
 abbrev pub RecoveryMayRefuse : (anew : Bool) → Cause → Place → Place → Type 0
 RecoveryMayRefuse true cause old new = (cause ≡ GenLimit) × KeptUnknown old new
 RecoveryMayRefuse false cause old new = ((cause ≡ GenLimit) × KeptUnknown old new) ⊎ MayNeedForward cause old new
@@ -52,7 +57,7 @@ RecoveryMayRefuse false cause old new = ((cause ≡ GenLimit) × KeptUnknown old
 abbrev pub recover : (anew : Bool) → Name → Place → Row
 recover anew name p = record (writing name (MayRecoverAs anew p.left.broken) (MayRecoverAsLeft anew) p) {
   early = refused_with name (in_state why_not_down p.site);
-  late = refused_with name (where_known p (generation_limit p.now));
+  late = refused_with name (where_known p (unrecovered anew p.now));
   may_refuse = λ r q. (r.site ≡ name) × RecoveryMayRefuse anew r.cause p q;
   by_bytes = λ a. IfShown p (λ files. ByAnswer (RecoveredBy anew files) (λ r. RecoveryRefusedBy r.cause files) (λ file offset. IsUnrecovered anew file offset files) Anything a);
   done = λ q. Recovers anew p q;

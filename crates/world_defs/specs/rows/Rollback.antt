@@ -1,5 +1,5 @@
 -- ROLLBACK RESYNC: the first entries stay, and the others are in a lost-transaction file (GT.M: MUPIP JOURNAL -ROLLBACK -BACKWARD -RESYNC -LOSTTRANS).
-use Rattle.std.specs.Prelude.{◌≡◌, ◌⊎◌, ◌<◌, ◌≤◌, ◌-◌, ℕ, List, ◌++◌, codes, length, min}
+use Rattle.std.specs.Prelude.{◌≡◌, ◌⊎◌, ◌<◌, ◌≤◌, ◌-◌, ℕ, Option, Some, None, List, [], ◌∷◌, ◌++◌, codes, length, min}
 use Rattle.std.specs.Fmt.{decimal}
 use Rattle.disk_defs.specs.Disk.{Files}
 use Rattle.journal_defs.specs.Instance.{generation}
@@ -12,8 +12,8 @@ use Rattle.world_defs.specs.World.{Down, Place, IfKnown, IfShown, Kept}
 use Rattle.world_defs.specs.Answers.{Cause, GenLimit, NoBefore, Refusal, line}
 use Rattle.world_defs.specs.Shown.{ByRecords, BySequence, ByAnswer, Anything}
 use Rattle.world_defs.specs.Changes.{Becomes, KeptUnknown}
-use Rattle.world_defs.specs.Without.{IsFirstWithout, NoneIsWithout, BeganWithout}
-use Rattle.world_defs.specs.Row.{Row, writing, refused_with, in_state, why_not_down, where_known}
+use Rattle.world_defs.specs.Without.{IsFirstWithout, NoneIsWithout, needing, MayNeed}
+use Rattle.world_defs.specs.Row.{Row, writing, first, refused_with, in_state, why_not_down, where_known}
 use Rattle.world_defs.specs.rows.Start.{generation_limit}
 
 -- how many entries stay of so many, where the next one is to have that number; all, where there are fewer
@@ -49,16 +49,25 @@ RollbackRefusedBy number GenLimit files = ByRecords (λ rs. LAST_GENERATION ≤ 
 RollbackRefusedBy number (NoBefore region g) files = BySequence (λ u seq. IsFirstWithout region g u (stay number (length seq))) files
 RollbackRefusedBy number cause files = Unit {0}
 
--- where the files aren't known the limit may refuse it; where a generation began without images, a region may
-abbrev pub RollbackMayRefuse : Name → Refusal → Place → Place → Type 0
-RollbackMayRefuse name r old new = ((r ≡ record { site = name; cause = GenLimit }) × KeptUnknown old new)
-    ⊎ ((region : Name) × (g : ℕ) × (r ≡ record { site = name; cause = NoBefore region g }) × IfKnown old (BeganWithout region g old.now) × Kept old new)
+-- a region can't go back so far, where that is told
+abbrev pub before_cause : Option (Option (Name × ℕ)) → Option Cause
+before_cause None = None
+before_cause (Some None) = None
+before_cause (Some (Some needing)) = Some (NoBefore needing.0 needing.1)
+
+abbrev pub no_before : (number : ℕ) → Contents → Option Cause
+no_before number c = before_cause (needing c (stay_of number c))
+
+-- where the files aren't known the limit may refuse it; where contents don't tell whether a region needs forward recovery, that may
+abbrev pub RollbackMayRefuse : (number : ℕ) → Name → Refusal → Place → Place → Type 0
+RollbackMayRefuse number name r old new = ((r ≡ record { site = name; cause = GenLimit }) × KeptUnknown old new)
+    ⊎ ((region : Name) × (g : ℕ) × (r ≡ record { site = name; cause = NoBefore region g }) × IfKnown old (MayNeed region g old.now (stay_of number old.now)) × Kept old new)
 
 abbrev pub rollback : (number : ℕ) → Name → Place → Row
 rollback number name p = record (writing name (MayRollBackTo number p.left.broken) (MayRollBackToLeft number) p) {
   early = refused_with name (in_state why_not_down p.site);
-  late = refused_with name (where_known p (generation_limit p.now));
-  may_refuse = λ r q. RollbackMayRefuse name r p q;
+  late = refused_with name (where_known p (first (generation_limit p.now ∷ no_before number p.now ∷ [])));
+  may_refuse = λ r q. RollbackMayRefuse number name r p q;
   by_bytes = λ a. IfShown p (λ files. ByAnswer (RolledBackBy number files) (λ r. RollbackRefusedBy number r.cause files) (λ file offset. IsOutsideRollback (number - 1) files file offset) Anything a);
   done = λ q. RollsBack number p q;
   -- the lost-transaction file is that of the first of the two generations that are drawn

@@ -17,18 +17,27 @@ use Rattle.world_defs.specs.World.{State, Down, Primary, Failed, Site, Place, If
 use Rattle.world_defs.specs.Answers.{Cause, GenLimit, ReignLimit, NeedForward, line}
 use Rattle.world_defs.specs.Shown.{ByRecords, BySequence, IsOfAnother, ByAnswer, Anything}
 use Rattle.world_defs.specs.Changes.{Becomes, ChangesUnknown, KeptUnknown}
-use Rattle.world_defs.specs.Without.{IsFirstWithout, NoneIsWithout, MayNeedForward}
+use Rattle.world_defs.specs.Without.{IsFirstWithout, NoneIsWithout, needing, MayNeedForward}
 use Rattle.world_defs.specs.Row.{Row, writing, first, refused_with, caused, in_state, why_not_down, where_known}
 
 abbrev pub generation_limit : Contents → Option Cause
 generation_limit c = caused (no_generation_left c) GenLimit
 
+-- a region needs forward recovery for all entries, where that is told
+abbrev pub forward_cause : Option (Option (Name × ℕ)) → Option Cause
+forward_cause None = None
+forward_cause (Some None) = None
+forward_cause (Some (Some needing)) = Some (NeedForward needing.0)
+
+abbrev pub need_forward : Contents → Option Cause
+need_forward c = forward_cause (needing c (length c.sequence))
+
 abbrev pub reign_limit : Contents → Option Cause
 reign_limit c = caused (no_reign_left c) ReignLimit
 
--- the limits of an opening and a reign
+-- the limits of an opening and a reign, and what must be there for the regions to go back to their epochs
 abbrev pub limited : Place → Option Cause
-limited p = where_known p (first (generation_limit p.now ∷ reign_limit p.now ∷ []))
+limited p = where_known p (first (generation_limit p.now ∷ need_forward p.now ∷ reign_limit p.now ∷ []))
 
 -- each updater's serial begins at 1
 abbrev pub FIRST_SERIALS : List ℕ
@@ -82,7 +91,7 @@ LimitedBy cause files = Unit {0}
 abbrev pub IsUnopened : Name → ℕ → ℕ → Files → Type 0
 IsUnopened name file offset files = IsOutsideOpening files file offset ⊎ IsOfAnother name file offset files
 
--- What an opening that is refused leaves where nothing is known: past the limit of reigns a generation was drawn. Where a generation began without images, a region may refuse it.
+-- What an opening that is refused leaves where nothing is known: past the limit of reigns a generation was drawn. Where contents don't tell whether a region needs forward recovery, that may refuse it.
 abbrev pub StartMayRefuse : Cause → Place → Place → Type 0
 StartMayRefuse cause old new = ((cause ≡ GenLimit) × KeptUnknown old new) ⊎ ((cause ≡ ReignLimit) × ChangesUnknown old new) ⊎ MayNeedForward cause old new
 

@@ -1,4 +1,4 @@
-use Rattle.std.proofs.Common.{true, ◌≡◌, ℕ, ◌-◌, ◌++◌, [], length, List, false, inl, inr, refl, sym, ◌∙◌, ap, arith}
+use Rattle.std.proofs.Common.{◌≡◌, ℕ, ◌-◌, ◌++◌, [], length, List, refl, ◌∙◌, ap}
 use Rattle.std.specs.Prelude.{codes}
 use Rattle.std.specs.Fmt.{decimal, digits}
 use Rattle.journal_defs.specs.Instance.{generation}
@@ -6,7 +6,7 @@ use Rattle.site_defs.specs.Contents.{Contents}
 use Rattle.site_defs.specs.Rolling.{rolled}
 use Rattle.site_defs.specs.Samples.{two_entries}
 use Rattle.world_defs.specs.World.{Place}
-use Rattle.world_defs.specs.Answers.{NoBefore, refusal_line, line}
+use Rattle.world_defs.specs.Answers.{line}
 use Rattle.world_defs.specs.Samples.{down_place}
 use Rattle.world_defs.specs.rows.Rollback.{RollsBack, stay_of}
 use Rattle.world_defs.proofs.laws.rolling_holds.Goals as goal
@@ -24,22 +24,6 @@ rolled_to q d = d.becomes.known.now ∙ ap (λ (o : Contents). rolled (stay_of 2
 pub returns-clause-told : goal.returns-clause-told
 returns-clause-told c q text h = h.2 ∙ ap (λ (o : Contents). written (length o.sequence) (generation o.instance - 1)) (rolled_to q h.1) ∙ one_stays
 
-without_line : refusal_line (record { site = codes "A"; cause = NoBefore (codes "R") 1 }) ≡ codes "A NOBEFORE R 1\n"
+pub returns-clause-without_text : goal.returns-clause-without_text
 unfolding digits
-without_line = refl
-
-pub returns-clause-without : goal.returns-clause-without
-returns-clause-without c = (
-  inr (
-    refl,
-    inr (
-      codes "R",
-      1,
-      refl,
-      λ t. record { region = 0; mode = record { name = codes "R"; before = true }; there = refl; named = refl; start = record { region = 0; before = false; generation = 1; previous = 0 }; among = inl refl; without = refl; generation = refl },
-      record { site = refl; now = refl; left = refl; known = record { told = refl; outcomes = λ o h. h; standings = λ t o h. (o, h, refl) }; shown = refl; faults = omega arith; simulated = refl },
-    ),
-  ),
-  sym without_line,
-  tt,
-)
+returns-clause-without_text c = refl
