@@ -1,5 +1,5 @@
 -- Generations without images behind an epoch, as starts and epochs tell them.
-use Rattle.std.proofs.Common.{◌≡◌, ◌⊎◌, ◌==◌, ◌&&◌, ◌||◌, ℕ, zero, suc, ◌≤◌, ◌<◌, nat_le, nat_lt, not, Bool, true, false, List, [], ◌∷◌, ◌++◌, length, map, Option, Some, None, refl, sym, ◌∙◌, ap, subst, arith, inl, inr, if◌then◌else◌, slice_get}
+use Rattle.std.proofs.Common.{◌≡◌, ◌⊎◌, ◌==◌, ◌&&◌, ◌||◌, ◌+◌, ℕ, zero, suc, ◌≤◌, ◌<◌, nat_le, nat_lt, not, Bool, true, false, List, [], ◌∷◌, ◌++◌, length, map, Option, Some, None, refl, sym, ◌∙◌, ap, subst, arith, inl, inr, if◌then◌else◌, slice_get}
 use Rattle.std.proofs.lemmas.Bool.{false≢true}
 use Rattle.std.proofs.lemmas.Bool.Decides.{nat_tests}
 use Rattle.std.specs.List.{AllByRecursion, filter_map, cons_option, find, list_any}
@@ -381,7 +381,7 @@ none_needing files c u t site held none =
 
 pub first_needing : (files : Files) (c : Contents) (u : Records) (t : ℕ) (name : Name) (g : ℕ) → IsSite files c → AreRecords files u → IsFirstWithout name g u t → (needing c t ≡ Some (Some (name, g))) ⊎ MayNeed name g c t
 first_needing files c u t name g site held f =
-    elim (first_from c u t 0 (regions c.instance) f.region f.mode g there (λ q low high. told q (omega (arith, high))) f.needs (λ q low high. f.earlier q (omega (arith, high)))) [
+    elim (first_from c u t 0 (regions c.instance) f.region f.mode g there (λ q low high. told q (omega (arith, high))) (subst (λ (q : ℕ). without_behind u t q ≡ Some g) (omega arith) f.needs) (λ q low high. f.earlier q (omega (arith, high)))) [
       | inl e ↦ inl (e ∙ ap (λ (x : Name). Some (Some (x, g))) f.named)
       | inr e ↦ inr (record {
           untold = e;
