@@ -1,12 +1,13 @@
 -- What a command that was cut off leaves behind a sequence.
-use Rattle.std.proofs.Common.{◌≡◌, ℕ, List, Option, Some, None, refl, ◌∙◌, ap, subst, inl, inr}
+use Rattle.std.proofs.Common.{◌≡◌, ℕ, Bool, true, false, List, Option, Some, None, refl, ◌∙◌, ap, subst, inl, inr}
 use Rattle.std.specs.Prelude.{◌⊎◌, [], ◌∷◌, ◌++◌}
 use Rattle.std.proofs.lemmas.List.{append_assoc}
 use Rattle.global_defs.specs.Jobs.{Job}
-use Rattle.command_defs.specs.Commands.{Name, Run, StartPrimary, Stop, Epoch, Resync, RecoverBackward}
+use Rattle.command_defs.specs.Commands.{Name, SetJournal, Run, StartPrimary, Stop, Epoch, Resync, RecoverBackward, RecoverForward}
 use Rattle.site_defs.specs.Contents.{Standing}
 use Rattle.site_defs.specs.Epochs.{MayMarkLeft}
-use Rattle.site_defs.specs.Opening.{MayOpenLeft, MayBeginLeft}
+use Rattle.site_defs.specs.Forward.{MayRecoverAsLeft}
+use Rattle.site_defs.specs.Opening.{MayOpenLeft, MayBeginLeft, MaySetModeLeft}
 use Rattle.site_defs.specs.Rolling.{MayRollBackLeft}
 use Rattle.world_defs.specs.World.{State, Down, Primary, Failed, Site, Place, World, StandAfter, name_on, place_of}
 use Rattle.world_defs.specs.Answers.{NoSite}
@@ -14,9 +15,10 @@ use Rattle.world_defs.specs.Row.{Row}
 use Rattle.world_defs.specs.Meaning.{Meaning, Acts, apart, refusing, at_found, there, on_site, row_at}
 use Rattle.world_defs.specs.Step.{LeftByRow, LeavesOld, IsCut, CutOff}
 use Rattle.world_defs.specs.rows.Epoch.{epoch}
-use Rattle.world_defs.specs.rows.Recover.{MayRecoverLeft, recover_backward}
+use Rattle.world_defs.specs.rows.Recover.{recover}
 use Rattle.world_defs.specs.rows.Rollback.{MayRollBackToLeft, stay_of, rollback}
 use Rattle.world_defs.specs.rows.Run.{RunMayStand, RunMayStandOn, run}
+use Rattle.world_defs.specs.rows.SetJournal.{set_journal}
 use Rattle.world_defs.specs.rows.Start.{start}
 use Rattle.world_defs.specs.rows.Stop.{stop}
 use Rattle.world_laws.specs.Entries.{IsPlaceOf}
@@ -88,15 +90,32 @@ epoch-cut w m name p q h at t = let l = left_there epoch w m name p q at h in st
 pub stop-cut : (w m : World) (name : Name) (p q : Place) → CutOff w (Stop name) m → IsPlaceOf name w m p q → LeavesBehind (λ s o. o.broken ≡ s.broken) p q
 stop-cut w m name p q h at t = let l = left_there stop w m name p q at h in stand_so MayMarkLeft (λ s o. o.broken ≡ s.broken) lies_there p.standings q.standings (l.standings t)
 
--- a RECOVER BACKWARD, and a ROLLBACK
+-- a SET JOURNAL
 
-recovered : (s o : Standing) → MayRecoverLeft s o → (o ≡ s) ⊎ IsWrittenDown s o
-recovered s o (inl h) = open_so s o h
-recovered s o (inr (inl e)) = inr (record { text = ap (λ (x : Standing). x.contents.texts) e; nothing = ap (λ (x : Standing). x.broken) e })
-recovered s o (inr (inr k)) = inr (record { text = ap (λ (x : Standing). x.contents.texts) k.1; nothing = ap (λ (x : Standing). x.broken) k.1 })
+set_there : (region : Name) (before : Bool) (s o : Standing) → MaySetModeLeft region before s o → o.broken ≡ s.broken
+set_there region before s o (inl e) = ap (λ (x : Standing). x.broken) e
+set_there region before s o (inr k) = ap (λ (x : Standing). x.broken) k.2
 
-pub recover-cut : (w m : World) (name : Name) (p q : Place) → CutOff w (RecoverBackward name) m → IsPlaceOf name w m p q → LeavesBehind IsWrittenDown p q
-recover-cut w m name p q h at t = let l = left_there recover_backward w m name p q at h in stand_or_so MayRecoverLeft IsWrittenDown recovered p.standings q.standings (l.standings t)
+pub set-cut : (w m : World) (name region : Name) (before : Bool) (p q : Place) → CutOff w (SetJournal name region before) m → IsPlaceOf name w m p q → LeavesBehind (λ s o. o.broken ≡ s.broken) p q
+set-cut w m name region before p q h at t =
+    let l = left_there (set_journal region before) w m name p q at h in stand_so (MaySetModeLeft region before) (λ s o. o.broken ≡ s.broken) (set_there region before) p.standings q.standings (l.standings t)
+
+-- a RECOVER, and a ROLLBACK
+
+recovered : (anew : Bool) (s o : Standing) → MayRecoverAsLeft anew s o → (o ≡ s) ⊎ IsWrittenDown s o
+recovered anew s o (inl (inl e)) = inl e
+recovered anew s o (inl (inr k)) = inr (record { text = ap (λ (x : Standing). x.contents.texts) k.1; nothing = ap (λ (x : Standing). x.broken) k.1 })
+recovered anew s o (inr (inl e)) = inr (record { text = ap (λ (x : Standing). x.contents.texts) e; nothing = ap (λ (x : Standing). x.broken) e })
+recovered anew s o (inr (inr k)) = inr (record { text = ap (λ (x : Standing). x.contents.texts) k.1; nothing = ap (λ (x : Standing). x.broken) k.1 })
+
+recovers-cut : (anew : Bool) (p q : Place) → LeftByRow (row_at (recover anew) p) p q → LeavesBehind IsWrittenDown p q
+recovers-cut anew p q l t = stand_or_so (MayRecoverAsLeft anew) IsWrittenDown (recovered anew) p.standings q.standings (l.standings t)
+
+pub backward-cut : (w m : World) (name : Name) (p q : Place) → CutOff w (RecoverBackward name) m → IsPlaceOf name w m p q → LeavesBehind IsWrittenDown p q
+backward-cut w m name p q h at = recovers-cut false p q (left_there (recover false) w m name p q at h)
+
+pub forward-cut : (w m : World) (name : Name) (p q : Place) → CutOff w (RecoverForward name) m → IsPlaceOf name w m p q → LeavesBehind IsWrittenDown p q
+forward-cut w m name p q h at = recovers-cut true p q (left_there (recover true) w m name p q at h)
 
 -- its second generation has an empty text
 two_texts : (s : Standing) → (s.contents.texts ++ s.broken ∷ []) ++ [] ∷ [] ≡ s.contents.texts ++ s.broken ∷ [] ∷ []

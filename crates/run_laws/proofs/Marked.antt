@@ -1,16 +1,16 @@
--- What EPOCH and STOP, and ROLLBACK and RECOVER BACKWARD, leave at the place of their site.
-use Rattle.std.proofs.Common.{ℕ, List, [], ◌∷◌, Option, sym, subst}
-use Rattle.command_defs.specs.Commands.{Name, Stop, Epoch, Resync, RecoverBackward}
+-- What EPOCH and STOP, and ROLLBACK and RECOVER, leave at the place of their site.
+use Rattle.std.proofs.Common.{◌≡◌, ℕ, Bool, true, false, List, [], ◌∷◌, Option, Some, slice_get, sym, subst}
+use Rattle.command_defs.specs.Commands.{Name, Stop, Epoch, Resync, RecoverBackward, RecoverForward}
 use Rattle.site_defs.specs.Contents.{Contents}
 use Rattle.site_defs.specs.Epochs.{marked, HasEpochs}
 use Rattle.site_defs.specs.Lists.{Among}
 use Rattle.world_defs.specs.World.{Site, Place, World}
 use Rattle.world_defs.specs.Answers.{Done}
 use Rattle.world_defs.specs.Changes.{Stays}
-use Rattle.world_defs.specs.Meaning.{row_at}
-use Rattle.world_defs.specs.Step.{Step}
+use Rattle.world_defs.specs.Meaning.{apart, row_at}
+use Rattle.world_defs.specs.Step.{One, Step}
 use Rattle.world_defs.specs.rows.Epoch.{epoch}
-use Rattle.world_defs.specs.rows.Recover.{Recovers, recover_backward}
+use Rattle.world_defs.specs.rows.Recover.{Recovers, recover}
 use Rattle.world_defs.specs.rows.Rollback.{RollsBack, rollback}
 use Rattle.world_defs.specs.rows.Stop.{stop}
 use Rattle.world_laws.specs.Entries.{IsPlaceOf}
@@ -32,10 +32,16 @@ epoch-marks w m name text p q h at = marks _ _ p q (makes_here (row_at epoch p) 
 pub stop-marks : (w m : World) (name : Name) (text : List ℕ) (p q : Place) → Step w (Stop name) (Done ∷ []) m text → IsPlaceOf name w m p q → EndsInEpochs q
 stop-marks w m name text p q h at = marks _ _ p q (makes_here (row_at stop p) w m Done text at.number p q (owns stop w m name Done text at.number p at.named at.before h) at.before at.behind).1
 
-pub recover-marks : (w m : World) (name : Name) (text : List ℕ) (p q : Place) → Step w (RecoverBackward name) (Done ∷ []) m text → IsPlaceOf name w m p q → EndsInEpochs q
-recover-marks w m name text p q h at =
-    let d : Recovers p q = (makes_here (row_at recover_backward p) w m Done text at.number p q (owns recover_backward w m name Done text at.number p at.named at.before h) at.before at.behind).1 in
+recovers-marks : (anew : Bool) (w m : World) (text : List ℕ) (i : ℕ) (p q : Place) → One i (row_at (recover anew) p) apart Done w m text → slice_get w.places i ≡ Some p → slice_get m.places i ≡ Some q → EndsInEpochs q
+recovers-marks anew w m text i p q one before behind =
+    let d : Recovers anew p q = (makes_here (row_at (recover anew) p) w m Done text i p q one before behind).1 in
     marks _ _ p q d.becomes
+
+pub backward-marks : (w m : World) (name : Name) (text : List ℕ) (p q : Place) → Step w (RecoverBackward name) (Done ∷ []) m text → IsPlaceOf name w m p q → EndsInEpochs q
+backward-marks w m name text p q h at = recovers-marks false w m text at.number p q (owns (recover false) w m name Done text at.number p at.named at.before h) at.before at.behind
+
+pub forward-marks : (w m : World) (name : Name) (text : List ℕ) (p q : Place) → Step w (RecoverForward name) (Done ∷ []) m text → IsPlaceOf name w m p q → EndsInEpochs q
+forward-marks w m name text p q h at = recovers-marks true w m text at.number p q (owns (recover true) w m name Done text at.number p at.named at.before h) at.before at.behind
 
 pub rollback-marks : (w m : World) (name : Name) (number : ℕ) (text : List ℕ) (p q : Place) → Step w (Resync name number) (Done ∷ []) m text → IsPlaceOf name w m p q → EndsInEpochs q
 rollback-marks w m name number text p q h at =

@@ -1,8 +1,8 @@
 //! What lies behind a sequence is written down.
 
-ghost use Rattle.std.specs.Prelude.{◌≡◌, ◌∷◌, List, [], ℕ, Some};
+ghost use Rattle.std.specs.Prelude.{◌≡◌, ◌∷◌, List, [], ℕ, Bool, Some};
 ghost use Rattle.global_defs.specs.Jobs.{Job};
-ghost use Rattle.command_defs.specs.Commands.{Name, Crash, Run, StartPrimary, Stop, Epoch, Resync, RecoverBackward};
+ghost use Rattle.command_defs.specs.Commands.{Name, Crash, SetJournal, Run, StartPrimary, Stop, Epoch, Resync, RecoverBackward, RecoverForward};
 ghost use Rattle.world_defs.specs.World.{Place, World};
 ghost use Rattle.world_defs.specs.Answers.{Section, Done, Ran};
 ghost use Rattle.world_defs.specs.Step.{Step, CutOff};
@@ -27,7 +27,10 @@ pub fn cut_off_commands_keep_what_lies_behind()
     // an EPOCH and a STOP leave it where it lay
     ensures epoch { (w m : World) (name : Name) (p q : Place) → CutOff w (Epoch name) m → IsPlaceOf name w m p q → LeavesBehind (λ s o. o.broken ≡ s.broken) p q }
     ensures stop { (w m : World) (name : Name) (p q : Place) → CutOff w (Stop name) m → IsPlaceOf name w m p q → LeavesBehind (λ s o. o.broken ≡ s.broken) p q }
-    // a RECOVER BACKWARD and a ROLLBACK have written it down, or it lies where it lay
+    // and so does a SET JOURNAL
+    ensures set_journal { (w m : World) (name region : Name) (before : Bool) (p q : Place) → CutOff w (SetJournal name region before) m → IsPlaceOf name w m p q → LeavesBehind (λ s o. o.broken ≡ s.broken) p q }
+    // a RECOVER and a ROLLBACK have written it down, or it lies where it lay
     ensures recover { (w m : World) (name : Name) (p q : Place) → CutOff w (RecoverBackward name) m → IsPlaceOf name w m p q → LeavesBehind IsWrittenDown p q }
+    ensures recover_forward { (w m : World) (name : Name) (p q : Place) → CutOff w (RecoverForward name) m → IsPlaceOf name w m p q → LeavesBehind IsWrittenDown p q }
     ensures rollback { (w m : World) (name : Name) (number : ℕ) (p q : Place) → CutOff w (Resync name number) m → IsPlaceOf name w m p q → LeavesBehind IsWrittenDownBefore p q }
 {}

@@ -1,19 +1,21 @@
 -- What stays fit of the contents of one image.
-use Rattle.std.proofs.Common.{◌≡◌, inl, inr, ℕ, ◌+◌, ◌≤◌, Bool, List, [], length, Some, None, refl, sym, ◌∙◌, ap, subst, arith}
+use Rattle.std.proofs.Common.{◌≡◌, inl, inr, ℕ, ◌+◌, ◌≤◌, Bool, true, false, List, [], ◌∷◌, ◌++◌, length, Some, None, refl, sym, ◌∙◌, ap, subst, arith}
 use Rattle.journal_defs.specs.Instance as records
 use Rattle.journal_defs.specs.Instance.{InstanceRecord, pattern_record, generation, greatest_cycle, site_name, regions}
 use Rattle.journal_defs.specs.Journal.{Start}
 use Rattle.journal_defs.specs.Fit.{SerialsRise, HasFewReigns}
+use Rattle.journal_defs.specs.Surviving.{spares_start, reigns}
+use Rattle.journal_laws.proofs.Later.{reigns-same}
 use Rattle.command_defs.specs.Commands.{Name, Region}
-use Rattle.global_defs.specs.Pattern.{ends_in_star, stem}
 use Rattle.site_defs.specs.Contents.{Taken, Contents, nothing}
 use Rattle.world_defs.specs.rows.Create.{created}
 use Rattle.site_defs.specs.Epochs.{MayMark, with_epochs}
-use Rattle.site_defs.specs.Opening.{MayOpen, MayBegin, MayMap, cut_there, cut_with, with_starts, opened, with_reign, next_reign, with_pattern}
+use Rattle.site_defs.specs.Forward.{MayOpenAs, begun_as, opened_as}
+use Rattle.site_defs.specs.Opening.{MayBegin, MayMap, MaySetMode, cut_there, cut_with, with_starts, opened, with_reign, next_reign, with_pattern, with_mode}
 use Rattle.world_defs.specs.World.{Covers}
 use Rattle.world_defs.specs.Fit.{IsWithinCycles, IsFitContents}
 use Rattle.world_laws.proofs.Lists.{all-weaker}
-use Rattle.world_laws.proofs.Instances.{name-more, cycle-cut, cycle-map, cycle-reign, room-cut, few_at, few-map, few-later}
+use Rattle.world_laws.proofs.Instances.{name-more, cycle-same, cycle-reign, room-cut, few_at, few-same, few-later}
 
 -- no entry's serials can fall
 rise-none : SerialsRise []
@@ -43,7 +45,7 @@ name-cut broken lost c = name-more c.instance (records.Cut (length c.sequence) (
 pub fit-cut : (broken lost : List ℕ) (c : Contents) → IsFitContents c → IsFitContents (cut_with broken lost c)
 fit-cut broken lost c h =
     let cut : Contents = cut_with broken lost c in
-    let cycle = cycle-cut c.instance (length c.sequence) (generation c.instance + 1) in
+    let cycle = cycle-same c.instance (records.Cut (length c.sequence) (generation c.instance + 1)) refl in
     fit-more c cut.instance cut.starts cut.epochs cut.texts cut.losts (name-cut broken lost c) (omega arith)
     (few_at cut.instance (length c.sequence) (room-cut c.instance (length c.sequence) (generation c.instance + 1) h.few_reigns)) h
 
@@ -51,8 +53,14 @@ fit-cut broken lost c h =
 pub fit-with_starts : (k : ℕ) (c : Contents) → IsFitContents c → IsFitContents (with_starts k c)
 fit-with_starts k c h = record { serials = h.serials; few_reigns = h.few_reigns; cycles = h.cycles }
 
+fit-begun_as : (anew : Bool) (k : ℕ) (c : Contents) → IsFitContents c → IsFitContents (begun_as anew k c)
+fit-begun_as anew k c h = record { serials = h.serials; few_reigns = h.few_reigns; cycles = h.cycles }
+
 pub fit-opened : (broken : List ℕ) (c : Contents) → IsFitContents c → IsFitContents (opened broken c)
 fit-opened broken c h = fit-with_starts (length (regions c.instance)) (cut_there broken c) (fit-cut broken [] c h)
+
+pub fit-opened_as : (anew : Bool) (broken : List ℕ) (c : Contents) → IsFitContents c → IsFitContents (opened_as anew broken c)
+fit-opened_as anew broken c h = fit-begun_as anew (length (regions c.instance)) (cut_there broken c) (fit-cut broken [] c h)
 
 pub name-reign : (name : Name) (c : Contents) → site_name (with_reign name c).instance ≡ site_name c.instance
 name-reign name c = name-more c.instance (records.Reigned (next_reign name c)) refl
@@ -65,33 +73,37 @@ fit-reign name c h =
     (few-later c.instance (length c.sequence) (next_reign name c) (omega arith) h.few_reigns) h
 
 -- what opening may leave is fit, and of the same site
-pub fit-may_open : (broken : List ℕ) (c o : Contents) → IsFitContents c → MayOpen broken c o → IsFitContents o
-fit-may_open broken c o h (inl same) = subst IsFitContents (sym same) h
-fit-may_open broken c o h (inr begun) = subst IsFitContents (sym begun.1) (fit-with_starts begun.0 (cut_there broken c) (fit-cut broken [] c h))
+pub fit-may_open_as : (anew : Bool) (broken : List ℕ) (c o : Contents) → IsFitContents c → MayOpenAs anew broken c o → IsFitContents o
+fit-may_open_as anew broken c o h (inl same) = subst IsFitContents (sym same) h
+fit-may_open_as anew broken c o h (inr begun) = subst IsFitContents (sym begun.1) (fit-begun_as anew begun.0 (cut_there broken c) (fit-cut broken [] c h))
 
-pub name-may_open : (broken : List ℕ) (c o : Contents) → MayOpen broken c o → site_name o.instance ≡ site_name c.instance
-name-may_open broken c o (inl same) = ap (λ (x : Contents). site_name x.instance) same
-name-may_open broken c o (inr begun) = ap (λ (x : Contents). site_name x.instance) begun.1 ∙ name-cut broken [] c
+pub name-may_open_as : (anew : Bool) (broken : List ℕ) (c o : Contents) → MayOpenAs anew broken c o → site_name o.instance ≡ site_name c.instance
+name-may_open_as anew broken c o (inl same) = ap (λ (x : Contents). site_name x.instance) same
+name-may_open_as anew broken c o (inr begun) = ap (λ (x : Contents). site_name x.instance) begun.1 ∙ name-cut broken [] c
 
 -- what beginning a reign may leave
 pub fit-may_begin : (name : Name) (broken : List ℕ) (c o : Contents) → IsFitContents c → MayBegin name broken c o → IsFitContents o
-fit-may_begin name broken c o h (inl before) = fit-may_open broken c o h before
+fit-may_begin name broken c o h (inl before) = fit-may_open_as false broken c o h before
 fit-may_begin name broken c o h (inr reign) = subst IsFitContents (sym reign) (fit-reign name (opened broken c) (fit-opened broken c h))
 
 pub name-may_begin : (name : Name) (broken : List ℕ) (c o : Contents) → MayBegin name broken c o → site_name o.instance ≡ site_name c.instance
-name-may_begin name broken c o (inl before) = name-may_open broken c o before
+name-may_begin name broken c o (inl before) = name-may_open_as false broken c o before
 name-may_begin name broken c o (inr reign) = ap (λ (x : Contents). site_name x.instance) reign ∙ name-reign name (opened broken c) ∙ name-cut broken [] c
+
+-- one record more that is no CUT and no REIGN
+fit-other : (c : Contents) (x : InstanceRecord) → site_name (x ∷ []) ≡ [] → greatest_cycle (x ∷ []) ≡ 0 → ((start : ℕ) → spares_start start x ≡ true) → reigns (x ∷ []) ≡ []
+    → IsFitContents c → IsFitContents (record c { instance = c.instance ++ x ∷ [] })
+fit-other c x nameless cycleless spares none h =
+    let cycle = cycle-same c.instance x cycleless in
+    fit-more c (c.instance ++ x ∷ []) c.starts c.epochs c.texts c.losts (name-more c.instance x nameless) (omega arith)
+    (few-same c.instance (length c.sequence) x (reigns-same c.instance x spares none) h.few_reigns) h
 
 -- and mapping
 pub name-pattern : (region : ℕ) (text : List ℕ) (c : Contents) → site_name (with_pattern region text c).instance ≡ site_name c.instance
 name-pattern region text c = name-more c.instance (pattern_record region text) refl
 
 pub fit-pattern : (region : ℕ) (text : List ℕ) (c : Contents) → IsFitContents c → IsFitContents (with_pattern region text c)
-fit-pattern region text c h =
-    let mapped : Contents = with_pattern region text c in
-    let cycle = cycle-map c.instance region (ends_in_star text) (stem text) in
-    fit-more c mapped.instance mapped.starts mapped.epochs mapped.texts mapped.losts (name-pattern region text c) (omega arith)
-    (few-map c.instance (length c.sequence) region (ends_in_star text) (stem text) h.few_reigns) h
+fit-pattern region text c h = fit-other c (pattern_record region text) refl refl (λ start. refl) refl h
 
 pub fit-may_map : (region : Name) (text : List ℕ) (c o : Contents) → IsFitContents c → MayMap region text c o → IsFitContents o
 fit-may_map region text c o h (inl same) = subst IsFitContents (sym same) h
@@ -100,6 +112,21 @@ fit-may_map region text c o h (inr mapped) = subst IsFitContents (sym mapped.2) 
 pub name-may_map : (region : Name) (text : List ℕ) (c o : Contents) → MayMap region text c o → site_name o.instance ≡ site_name c.instance
 name-may_map region text c o (inl same) = ap (λ (x : Contents). site_name x.instance) same
 name-may_map region text c o (inr mapped) = ap (λ (x : Contents). site_name x.instance) mapped.2 ∙ name-pattern mapped.0 text c
+
+-- and setting a mode
+pub name-mode : (region : ℕ) (before : Bool) (c : Contents) → site_name (with_mode region before c).instance ≡ site_name c.instance
+name-mode region before c = name-more c.instance (records.Mode region before) refl
+
+pub fit-mode : (region : ℕ) (before : Bool) (c : Contents) → IsFitContents c → IsFitContents (with_mode region before c)
+fit-mode region before c h = fit-other c (records.Mode region before) refl refl (λ start. refl) refl h
+
+pub fit-may_set : (region : Name) (before : Bool) (c o : Contents) → IsFitContents c → MaySetMode region before c o → IsFitContents o
+fit-may_set region before c o h (inl same) = subst IsFitContents (sym same) h
+fit-may_set region before c o h (inr set) = subst IsFitContents (sym set.2) (fit-mode set.0 before c h)
+
+pub name-may_set : (region : Name) (before : Bool) (c o : Contents) → MaySetMode region before c o → site_name o.instance ≡ site_name c.instance
+name-may_set region before c o (inl same) = ap (λ (x : Contents). site_name x.instance) same
+name-may_set region before c o (inr set) = ap (λ (x : Contents). site_name x.instance) set.2 ∙ name-mode set.0 before c
 
 -- and taking an epoch, which changes no record of the instance file and no entry
 pub fit-epochs : (k : ℕ → Bool) (c : Contents) → IsFitContents c → IsFitContents (with_epochs k c)

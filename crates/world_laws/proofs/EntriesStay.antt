@@ -1,5 +1,5 @@
 -- What keeps the entries of a place.
-use Rattle.std.proofs.Common.{◌≡◌, inl, inr, ℕ, suc, ◌+◌, ◌-◌, ◌<◌, true, List, [], ◌∷◌, length, take, Option, Some, None, slice_get, IsTrue, sym, ap, subst, arith}
+use Rattle.std.proofs.Common.{◌≡◌, inl, inr, ℕ, suc, ◌+◌, ◌-◌, ◌<◌, Bool, true, List, [], ◌∷◌, length, take, Option, Some, None, slice_get, IsTrue, sym, ap, subst, arith}
 use Rattle.std.proofs.lemmas.Bool.{false≢true}
 use Rattle.std.proofs.lemmas.Option.{slice_get_within}
 use Rattle.global_defs.specs.Entry.{Stamp, Entry, Sequence}
@@ -10,15 +10,16 @@ use Rattle.site_defs.specs.Contents.{Contents, Standing}
 use Rattle.site_defs.specs.Fronts.{IsFrontOf, turn_of}
 use Rattle.site_defs.specs.Lists.{Among}
 use Rattle.site_defs.specs.Epochs.{MayMark}
-use Rattle.site_defs.specs.Opening.{MayMap, MayBegin}
+use Rattle.site_defs.specs.Forward.{MayRecoverAs}
+use Rattle.site_defs.specs.Opening.{MayMap, MayBegin, MaySetMode, with_mode}
 use Rattle.world_defs.specs.World.{State, Down, Failed, Site, Place, Covers, Kept, is_free}
 use Rattle.world_defs.specs.Answers.{Section}
 use Rattle.world_defs.specs.Changes.{in_new_state, Stays, Becomes, Fails, FailsUnchanged, ChangesUnknown}
 use Rattle.world_defs.specs.rows.Crash.{Crashes}
-use Rattle.world_defs.specs.rows.Recover.{MayRecover}
 use Rattle.world_defs.specs.rows.Rollback.{MayRollBackTo, RollsBack, stay, stay_of}
 use Rattle.world_defs.specs.rows.Run as rows
 use Rattle.world_defs.specs.rows.Run.{RunsTo, IsPicked, one_further}
+use Rattle.world_defs.specs.rows.SetJournal.{SetsMode}
 use Rattle.world_laws.specs.Entries.{IsEntryAt, IsSiteOf, HasEntry, Every, KeepsEntriesOf}
 use Rattle.world_laws.proofs.Turns.{GoesOn, goes-serial, goes-further, get-front}
 
@@ -64,19 +65,27 @@ entries-changed x y c name n e every h = record {
 abbrev pub HasThose : Contents → Place → Type 0
 HasThose c p = (name : Name) (n : ℕ) (e : Entry) → HasEntry name n e p → IsTrue p.told → IsEntryAt n e c.sequence
 
--- the site that stands there then has the name of the one before
-pub entries-stays : (site : Option Site) (c : Contents) (p q : Place) → ((name : Name) → IsSiteOf name p.site → IsSiteOf name site) → HasThose c p → Stays site c p q → KeepsEntries p q
-entries-stays site c p q named f b name n e every h = record {
-  site = subst (IsSiteOf name) (sym b.site) (named name h.site);
-  now = λ t. subst (HasAt n e) (sym b.known.now) (f name n e h (told t));
-  outcomes = λ t o a. subst (HasAt n e) (sym (only_one o c (subst (λ (l : List Contents). Among l o) b.known.outcomes a))) (f name n e h (told t));
+-- the files stand for them and nothing else; the site that stands there then has the name of the one before
+entries-one : (site : Option Site) (c : Contents) (p q : Place) → q.told ≡ p.told → q.site ≡ site → q.now ≡ c → q.outcomes ≡ c ∷ [] → ((name : Name) → IsSiteOf name p.site → IsSiteOf name site) → HasThose c p → KeepsEntries p q
+entries-one site c p q same site_is now_is one named f name n e every h = record {
+  site = subst (IsSiteOf name) (sym site_is) (named name h.site);
+  now = λ t. subst (HasAt n e) (sym now_is) (f name n e h (told t));
+  outcomes = λ t o a. subst (HasAt n e) (sym (only_one o c (subst (λ (l : List Contents). Among l o) one a))) (f name n e h (told t));
 }
   where
     told : IsTrue q.told → IsTrue p.told
-    told t = subst IsTrue b.known.told t
+    told t = subst IsTrue same t
+
+pub entries-stays : (site : Option Site) (c : Contents) (p q : Place) → ((name : Name) → IsSiteOf name p.site → IsSiteOf name site) → HasThose c p → Stays site c p q → KeepsEntries p q
+entries-stays site c p q named f b = entries-one site c p q b.known.told b.site b.known.now b.known.outcomes named f
 
 pub entries-becomes : (state : State) (c : Contents) (p q : Place) → HasThose c p → Becomes state c p q → KeepsEntries p q
 entries-becomes state c p q f b = entries-stays (in_new_state state p.site) c p q (λ name h. site-new name state p.site h) f b
+
+pub entries-sets : (region : Name) (before : Bool) (p q : Place) → SetsMode region before p q → KeepsEntries p q
+entries-sets region before p q d =
+    entries-one (in_new_state Down p.site) (with_mode d.number before d.read) p q d.becomes.told d.becomes.site d.becomes.now d.becomes.outcomes (λ name h. site-new name Down p.site h)
+    (λ name n e h t. subst (HasAt n e) (sym (d.as_before t)) (h.now t))
 
 -- a step that leaves the sequence as it is
 abbrev pub LeavesSequence : (Contents → Contents → Type 0) → Type 0
@@ -106,11 +115,15 @@ pub same-mark : LeavesSequence MayMark
 same-mark c o (inl e) = ap (λ (x : Contents). x.sequence) e
 same-mark c o (inr h) = ap (λ (x : Contents). x.sequence) h.1
 
-pub same-recover : (broken : List ℕ) → LeavesSequence (MayRecover broken)
-same-recover broken c o (inl (inl e)) = ap (λ (x : Contents). x.sequence) e
-same-recover broken c o (inl (inr h)) = ap (λ (x : Contents). x.sequence) h.1
-same-recover broken c o (inr (inl e)) = ap (λ (x : Contents). x.sequence) e
-same-recover broken c o (inr (inr h)) = ap (λ (x : Contents). x.sequence) h.1
+pub same-set : (region : Name) (before : Bool) → LeavesSequence (MaySetMode region before)
+same-set region before c o (inl e) = ap (λ (x : Contents). x.sequence) e
+same-set region before c o (inr h) = ap (λ (x : Contents). x.sequence) h.2
+
+pub same-recover : (anew : Bool) (broken : List ℕ) → LeavesSequence (MayRecoverAs anew broken)
+same-recover anew broken c o (inl (inl e)) = ap (λ (x : Contents). x.sequence) e
+same-recover anew broken c o (inl (inr h)) = ap (λ (x : Contents). x.sequence) h.1
+same-recover anew broken c o (inr (inl e)) = ap (λ (x : Contents). x.sequence) e
+same-recover anew broken c o (inr (inr h)) = ap (λ (x : Contents). x.sequence) h.1
 
 same-covered : LeavesSequence Covers
 same-covered o c (inl e) = ap (λ (x : Contents). x.sequence) e

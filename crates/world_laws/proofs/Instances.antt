@@ -1,11 +1,10 @@
 -- Instance files that gain a record: the site's name, the greatest cycle, and how many reigns there are.
-use Rattle.std.proofs.Common.{◌≡◌, inl, inr, ℕ, ◌≤◌, ◌<◌, max, nat_le, Bool, List, [], ◌∷◌, ◌++◌, length, filter, refl, sym, ◌∙◌, ap, subst, arith, length-append, ◌&&◌, if◌then◌else◌}
+use Rattle.std.proofs.Common.{◌≡◌, inl, inr, ℕ, ◌≤◌, ◌<◌, max, nat_le, Bool, List, [], ◌∷◌, ◌++◌, length, filter, refl, sym, ap, subst, arith, length-append}
 use Rattle.std.proofs.lemmas.Bool.{cases_Bool, lt-leb}
 use Rattle.std.proofs.lemmas.List.Elements.{filter-append}
-use Rattle.std.specs.List.{list_all}
 use Rattle.global_defs.specs.Entry.{Reign}
 use Rattle.journal_defs.specs.Instance.{InstanceRecord, Create, Reigned, Cut, Map, Mode, greatest_cycle, site_name}
-use Rattle.journal_defs.specs.Surviving.{spares_start, reigns}
+use Rattle.journal_defs.specs.Surviving.{reigns}
 use Rattle.journal_defs.specs.Fit.{MOST_REIGNS, HasFewReigns}
 use Rattle.journal_laws.proofs.Runs.{reigns-cut, reigns-more}
 
@@ -17,35 +16,14 @@ name-more (Cut n g ∷ rs) x none = refl
 name-more (Map region star name ∷ rs) x none = refl
 name-more (Mode region before ∷ rs) x none = refl
 
-pub cycle-cut : (rs : List InstanceRecord) (n g : ℕ) → greatest_cycle (rs ++ Cut n g ∷ []) ≡ greatest_cycle rs
-cycle-cut [] n g = refl
-cycle-cut (Reigned r ∷ rs) n g = ap (max r.stamp.cycle) (cycle-cut rs n g)
-cycle-cut (Create name regions ∷ rs) n g = cycle-cut rs n g
-cycle-cut (Cut m h ∷ rs) n g = cycle-cut rs n g
-cycle-cut (Map region star name ∷ rs) n g = cycle-cut rs n g
-cycle-cut (Mode region before ∷ rs) n g = cycle-cut rs n g
-
-pub cycle-map : (rs : List InstanceRecord) (region : ℕ) (star : Bool) (name : List ℕ) → greatest_cycle (rs ++ Map region star name ∷ []) ≡ greatest_cycle rs
-cycle-map [] region star name = refl
-cycle-map (Reigned r ∷ rs) region star name = ap (max r.stamp.cycle) (cycle-map rs region star name)
-cycle-map (Create site regions ∷ rs) region star name = cycle-map rs region star name
-cycle-map (Cut m h ∷ rs) region star name = cycle-map rs region star name
-cycle-map (Map other with_star stem ∷ rs) region star name = cycle-map rs region star name
-cycle-map (Mode other before ∷ rs) region star name = cycle-map rs region star name
-
-spares-map : (start : ℕ) (rs : List InstanceRecord) (region : ℕ) (star : Bool) (name : List ℕ) → list_all (spares_start start) (rs ++ Map region star name ∷ []) ≡ list_all (spares_start start) rs
-spares-map start [] region star name = refl
-spares-map start (r ∷ rs) region star name = ap (λ (b : Bool). spares_start start r && b) (spares-map start rs region star name)
-
-pub reigns-map : (rs : List InstanceRecord) (region : ℕ) (star : Bool) (name : List ℕ) → reigns (rs ++ Map region star name ∷ []) ≡ reigns rs
-reigns-map [] region star name = refl
-reigns-map (Reigned r ∷ rs) region star name =
-    ap (λ (b : Bool). if b then r ∷ reigns (rs ++ Map region star name ∷ []) else reigns (rs ++ Map region star name ∷ [])) (spares-map r.start rs region star name)
-    ∙ ap (λ (l : List Reign). if list_all (spares_start r.start) rs then r ∷ l else l) (reigns-map rs region star name)
-reigns-map (Create site regions ∷ rs) region star name = reigns-map rs region star name
-reigns-map (Cut m h ∷ rs) region star name = reigns-map rs region star name
-reigns-map (Map other with_star stem ∷ rs) region star name = reigns-map rs region star name
-reigns-map (Mode other before ∷ rs) region star name = reigns-map rs region star name
+-- a record that is no REIGN leaves the greatest cycle
+pub cycle-same : (rs : List InstanceRecord) (x : InstanceRecord) → greatest_cycle (x ∷ []) ≡ 0 → greatest_cycle (rs ++ x ∷ []) ≡ greatest_cycle rs
+cycle-same [] x none = none
+cycle-same (Reigned r ∷ rs) x none = ap (max r.stamp.cycle) (cycle-same rs x none)
+cycle-same (Create name regions ∷ rs) x none = cycle-same rs x none
+cycle-same (Cut n g ∷ rs) x none = cycle-same rs x none
+cycle-same (Map region star name ∷ rs) x none = cycle-same rs x none
+cycle-same (Mode region before ∷ rs) x none = cycle-same rs x none
 
 pub cycle-reign : (rs : List InstanceRecord) (r : Reign) → greatest_cycle (rs ++ Reigned r ∷ []) ≡ max (greatest_cycle rs) r.stamp.cycle
 cycle-reign [] r = omega arith
@@ -66,9 +44,9 @@ length-filter_le test (x ∷ xs) = elim (cases_Bool (test x)) [
 pub few_at : (rs : List InstanceRecord) (n : ℕ) → length (reigns rs) ≤ MOST_REIGNS → HasFewReigns n rs
 few_at rs n few = let less = length-filter_le (λ r. nat_le r.start n) (reigns rs) in omega arith
 
--- a MAP leaves each reign
-pub few-map : (rs : List InstanceRecord) (n region : ℕ) (star : Bool) (name : List ℕ) → HasFewReigns n rs → HasFewReigns n (rs ++ Map region star name ∷ [])
-few-map rs n region star name few = subst (λ (l : List Reign). length (filter (λ r. nat_le r.start n) l) ≤ MOST_REIGNS) (sym (reigns-map rs region star name)) few
+-- so many have begun where each reign is left
+pub few-same : (rs : List InstanceRecord) (n : ℕ) (x : InstanceRecord) → reigns (rs ++ x ∷ []) ≡ reigns rs → HasFewReigns n rs → HasFewReigns n (rs ++ x ∷ [])
+few-same rs n x same few = subst (λ (l : List Reign). length (filter (λ r. nat_le r.start n) l) ≤ MOST_REIGNS) (sym same) few
 
 -- what a CUT leaves has begun by its length
 pub room-cut : (rs : List InstanceRecord) (n g : ℕ) → HasFewReigns n rs → length (reigns (rs ++ Cut n g ∷ [])) ≤ MOST_REIGNS

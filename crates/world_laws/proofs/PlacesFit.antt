@@ -1,5 +1,5 @@
 -- What keeps a place fit.
-use Rattle.std.proofs.Common.{◌≡◌, inl, inr, ℕ, true, List, Option, Some, None, IsTrue, refl, sym, ◌∙◌, subst}
+use Rattle.std.proofs.Common.{◌≡◌, inl, inr, ℕ, Bool, true, List, [], ◌∷◌, Option, Some, None, IsTrue, refl, sym, ◌∙◌, subst}
 use Rattle.std.proofs.lemmas.Bool.{false≢true}
 use Rattle.journal_defs.specs.Instance.{site_name}
 use Rattle.command_defs.specs.Commands.{Name, Region}
@@ -7,14 +7,15 @@ use Rattle.site_defs.specs.Lists.{Among}
 use Rattle.world_defs.specs.World.{State, Down, Primary, Failed, Site, Place, World, Kept}
 use Rattle.site_defs.specs.Contents.{Contents, Standing}
 use Rattle.site_defs.specs.Epochs.{MayMark, marked}
-use Rattle.site_defs.specs.Opening.{MayMap, with_pattern}
+use Rattle.site_defs.specs.Opening.{MayMap, MaySetMode, with_pattern, with_mode}
 use Rattle.world_defs.specs.Changes.{in_new_state, Stays, Becomes, Fails, FailsUnchanged, ChangesUnknown, KeptUnknown}
 use Rattle.world_defs.specs.rows.Attach.{Attaches}
 use Rattle.world_defs.specs.rows.Crash.{Crashes}
 use Rattle.world_defs.specs.rows.Create.{created, MayMake}
 use Rattle.world_defs.specs.rows.Map.{Maps}
+use Rattle.world_defs.specs.rows.SetJournal.{SetsMode}
 use Rattle.world_defs.specs.Fit.{IsFitContents, IsFitState, IsFitSite, IsNamedSo, IsFitPlace}
-use Rattle.world_laws.proofs.ContentsFit.{fit-created, fit-pattern, name-pattern, fit-may_map, name-may_map, fit-epochs, fit-may_mark, name-may_mark, fit-covered, name-covered}
+use Rattle.world_laws.proofs.ContentsFit.{fit-created, fit-pattern, name-pattern, fit-may_map, name-may_map, fit-mode, name-mode, fit-may_set, name-may_set, fit-epochs, fit-may_mark, name-may_mark, fit-covered, name-covered}
 
 -- what holds of a place whose files are known, from what it was before
 fit-place : (old new : Place) (site : Option Site) (c : Contents) → new.told ≡ old.told → new.site ≡ site → new.now ≡ c
@@ -71,13 +72,17 @@ fit-failed k (Some site) c = tt
 
 -- one outcome
 
-pub fit-stays : (site : Option Site) (c : Contents) (old new : Place) → (IsTrue old.told → IsFitContents c × IsNamedSo site c × IsFitSite site c) → Stays site c old new → IsFitPlace new
-fit-stays site c old new fit h =
-    fit-place old new site c h.known.told h.site h.known.now fit
-    (λ t o a. let f = fit t in elim (subst (λ (l : List Contents). Among l o) h.known.outcomes a) [
+fit-one : (site : Option Site) (c : Contents) (old new : Place) → new.told ≡ old.told → new.site ≡ site → new.now ≡ c → new.outcomes ≡ c ∷ []
+    → (IsTrue old.told → IsFitContents c × IsNamedSo site c × IsFitSite site c) → IsFitPlace new
+fit-one site c old new told site_is now one fit =
+    fit-place old new site c told site_is now fit
+    (λ t o a. let f = fit t in elim (subst (λ (l : List Contents). Among l o) one a) [
       | inl is ↦ (subst IsFitContents (sym is) f.0, subst (IsNamedSo site) (sym is) f.1)
       | inr none ↦ absurd none
     ])
+
+pub fit-stays : (site : Option Site) (c : Contents) (old new : Place) → (IsTrue old.told → IsFitContents c × IsNamedSo site c × IsFitSite site c) → Stays site c old new → IsFitPlace new
+fit-stays site c old new fit h = fit-one site c old new h.known.told h.site h.known.now h.known.outcomes fit
 
 pub fit-becomes : (state : State) (c : Contents) (old new : Place) → (IsTrue old.told → IsFitContents c × IsNamedSo old.site c × IsFitSite (in_new_state state old.site) c)
     → Becomes state c old new → IsFitPlace new
@@ -96,6 +101,16 @@ fit-maps region text old new h r =
       fit-pattern r.number text old.now (h.now t),
       named-same old.site old.now (with_pattern r.number text old.now) (name-pattern r.number text old.now) (h.named_now t),
     )) r.becomes
+
+pub fit-sets : (region : Name) (before : Bool) (old new : Place) → IsFitPlace old → SetsMode region before old new → IsFitPlace new
+fit-sets region before old new h r =
+    let set : Contents → Contents = with_mode r.number before in
+    fit-one (in_new_state Down old.site) (set r.read) old new r.becomes.told r.becomes.site r.becomes.now r.becomes.outcomes
+    (λ t. subst (λ (c : Contents). IsFitContents (set c) × IsNamedSo (in_new_state Down old.site) (set c) × IsFitSite (in_new_state Down old.site) (set c)) (sym (r.as_before t)) (
+      fit-mode r.number before old.now (h.now t),
+      named-in Down old.site (set old.now) (named-same old.site old.now (set old.now) (name-mode r.number before old.now) (h.named_now t)),
+      fit-down old.site (set old.now),
+    ))
 
 -- an epoch is taken: the site's reign is as before
 fit-state_marked : (name : Name) (state : State) (c : Contents) → IsFitState name state c → IsFitState name state (marked c)
@@ -152,6 +167,10 @@ fit-may_make regions name c o h (inr made) = subst IsFitContents (sym made) (fit
 pub fit-maps_some : (region : Name) (text : List ℕ) (old : Place) → IsFitPlace old → IsTrue old.told → (c o : Contents) → Among old.outcomes c → MayMap region text c o → IsFitContents o × IsNamedSo old.site o
 fit-maps_some region text old h t c o a m =
     (fit-may_map region text c o (h.outcomes t c a) m, named-same old.site c o (name-may_map region text c o m) (h.named t c a))
+
+pub fit-sets_some : (region : Name) (before : Bool) (old : Place) → IsFitPlace old → IsTrue old.told → (c o : Contents) → Among old.outcomes c → MaySetMode region before c o → IsFitContents o × IsNamedSo old.site o
+fit-sets_some region before old h t c o a m =
+    (fit-may_set region before c o (h.outcomes t c a) m, named-same old.site c o (name-may_set region before c o m) (h.named t c a))
 
 pub fit-marks_some : (old : Place) → IsFitPlace old → IsTrue old.told → (c o : Contents) → Among old.outcomes c → MayMark c o → IsFitContents o × IsNamedSo old.site o
 fit-marks_some old h t c o a m = (fit-may_mark c o (h.outcomes t c a) m, named-same old.site c o (name-may_mark c o m) (h.named t c a))

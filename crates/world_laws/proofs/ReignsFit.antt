@@ -4,7 +4,7 @@ use Rattle.std.proofs.lemmas.Bool.{or_parts, leb-false}
 use Rattle.std.specs.List.{AllByRecursion}
 use Rattle.std.specs.Prelude.{filter}
 use Rattle.global_defs.specs.Entry.{Stamp}
-use Rattle.journal_defs.specs.Instance.{generation, greatest_cycle, site_name}
+use Rattle.journal_defs.specs.Instance.{Cut, generation, greatest_cycle, site_name}
 use Rattle.journal_defs.specs.Surviving.{reigns}
 use Rattle.journal_defs.specs.Fit.{MOST_REIGNS}
 use Rattle.command_defs.specs.Commands.{Name}
@@ -18,7 +18,7 @@ use Rattle.site_defs.specs.Lists.{Among}
 use Rattle.site_defs.specs.Opening.{MayBegin, opened, with_reign, next_stamp, next_reign}
 use Rattle.world_defs.specs.Fit.{IsBeforeNext, IsFitContents, IsFitReign, IsFitSite, IsNamedSo, IsFitPlace}
 use Rattle.world_laws.proofs.Lists.{all-weaker}
-use Rattle.world_laws.proofs.Instances.{cycle-cut, cycle-reign, room-less, room-reign}
+use Rattle.world_laws.proofs.Instances.{cycle-same, cycle-reign, room-less, room-reign}
 use Rattle.world_laws.proofs.SerialRuns.{IsOf}
 use Rattle.world_laws.proofs.ContentsFit.{name-cut, fit-opened, name-reign, fit-reign, fit-may_begin, name-may_begin}
 use Rattle.world_laws.proofs.PlacesFit.{fit-becomes, fit-stops, named-same}
@@ -48,7 +48,7 @@ fit-new_reign : (name : Name) (broken : List ℕ) (c : Contents) → name ≡ si
     → IsFitReign name (next_stamp name c) FIRST_SERIALS (with_reign name (opened broken c))
 fit-new_reign name broken c named none h =
     let there : Contents = opened broken c in
-    let cut = cycle-cut c.instance (length c.sequence) (generation c.instance + 1) in
+    let cut = cycle-same c.instance (Cut (length c.sequence) (generation c.instance + 1)) refl in
     let drawn = cycle-reign there.instance (next_reign name there) in
     record {
       root = refl;

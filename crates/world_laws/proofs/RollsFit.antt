@@ -1,22 +1,22 @@
--- What ROLLBACK and RECOVER BACKWARD keep at their place: a front of the sequence is as fit, and a CUT more leaves no more reigns.
-use Rattle.std.proofs.Common.{◌≡◌, inl, inr, ℕ, ◌+◌, ◌≤◌, List, [], length, take, true, IsTrue, refl, sym, ◌∙◌, ap, subst, arith}
+-- What ROLLBACK and RECOVER keep at their place: a front of the sequence is as fit, and a CUT more leaves no more reigns.
+use Rattle.std.proofs.Common.{◌≡◌, inl, inr, ℕ, ◌+◌, ◌≤◌, Bool, List, [], length, take, true, IsTrue, refl, sym, ◌∙◌, ap, subst, arith}
 use Rattle.journal_defs.specs.Instance as records
 use Rattle.journal_defs.specs.Instance.{generation, greatest_cycle, site_name, regions}
 use Rattle.journal_defs.specs.Surviving.{reigns}
 use Rattle.journal_defs.specs.Fit.{MOST_REIGNS}
 use Rattle.site_defs.specs.Contents.{Contents}
-use Rattle.site_defs.specs.Epochs.{marked}
+use Rattle.site_defs.specs.Forward.{MayRecoverAs, opened_as, recovered_as}
 use Rattle.site_defs.specs.Lists.{Among}
-use Rattle.site_defs.specs.Opening.{cut_with, opened}
+use Rattle.site_defs.specs.Opening.{cut_with}
 use Rattle.site_defs.specs.Rolling.{MayRollBack, lost_text, cut_to, kept_first, rolled_open, rolled}
 use Rattle.world_defs.specs.World.{Place}
-use Rattle.world_defs.specs.rows.Recover.{MayRecover, Recovers}
+use Rattle.world_defs.specs.rows.Recover.{Recovers}
 use Rattle.world_defs.specs.rows.Rollback.{MayRollBackTo, RollsBack, stay_of}
 use Rattle.world_defs.specs.Fit.{IsWithinCycles, IsFitContents, IsNamedSo, IsFitPlace}
 use Rattle.world_laws.proofs.Lists.{all-weaker, all-front}
-use Rattle.world_laws.proofs.Instances.{name-more, cycle-cut, room-cut, few_at}
+use Rattle.world_laws.proofs.Instances.{name-more, cycle-same, room-cut, few_at}
 use Rattle.world_laws.proofs.SerialRuns.{rise-front}
-use Rattle.world_laws.proofs.ContentsFit.{name-cut, fit-cut, fit-with_starts, fit-opened, fit-may_open, name-may_open, fit-epochs, fit-may_mark, name-may_mark}
+use Rattle.world_laws.proofs.ContentsFit.{name-cut, fit-cut, fit-with_starts, fit-opened_as, fit-may_open_as, name-may_open_as, fit-epochs, fit-may_mark, name-may_mark}
 use Rattle.world_laws.proofs.PlacesFit.{named-same, fit-stops}
 
 -- a CUT to the first entries
@@ -26,7 +26,7 @@ name-cut_to t c = name-more c.instance (records.Cut t (generation c.instance + 1
 fit-cut_to : (t : ℕ) (c : Contents) → length (reigns c.instance) ≤ MOST_REIGNS → IsFitContents c → IsFitContents (cut_to t c)
 fit-cut_to t c room h =
     let cut : Contents = cut_to t c in
-    let cycle = cycle-cut c.instance t (generation c.instance + 1) in
+    let cycle = cycle-same c.instance (records.Cut t (generation c.instance + 1)) refl in
     record {
       serials = rise-front t c.sequence h.serials;
       few_reigns = few_at cut.instance (length cut.sequence) (room-cut c.instance t (generation c.instance + 1) (few_at c.instance t room));
@@ -57,13 +57,13 @@ name-may_roll t broken c o (inr (inr (inl begun))) = ap (λ (x : Contents). site
 name-may_roll t broken c o (inr (inr (inr closed))) = ap (λ (x : Contents). site_name x.instance) closed.1 ∙ name-kept_first t broken c
 
 -- and recovering
-fit-may_recover : (broken : List ℕ) (c o : Contents) → IsFitContents c → MayRecover broken c o → IsFitContents o
-fit-may_recover broken c o h (inl before) = fit-may_open broken c o h before
-fit-may_recover broken c o h (inr closed) = fit-may_mark (opened broken c) o (fit-opened broken c h) closed
+fit-may_recover : (anew : Bool) (broken : List ℕ) (c o : Contents) → IsFitContents c → MayRecoverAs anew broken c o → IsFitContents o
+fit-may_recover anew broken c o h (inl before) = fit-may_open_as anew broken c o h before
+fit-may_recover anew broken c o h (inr closed) = fit-may_mark (opened_as anew broken c) o (fit-opened_as anew broken c h) closed
 
-name-may_recover : (broken : List ℕ) (c o : Contents) → MayRecover broken c o → site_name o.instance ≡ site_name c.instance
-name-may_recover broken c o (inl before) = name-may_open broken c o before
-name-may_recover broken c o (inr closed) = name-may_mark (opened broken c) o closed ∙ name-cut broken [] c
+name-may_recover : (anew : Bool) (broken : List ℕ) (c o : Contents) → MayRecoverAs anew broken c o → site_name o.instance ≡ site_name c.instance
+name-may_recover anew broken c o (inl before) = name-may_open_as anew broken c o before
+name-may_recover anew broken c o (inr closed) = name-may_mark (opened_as anew broken c) o closed ∙ name-cut broken [] c
 
 -- places
 
@@ -82,14 +82,14 @@ fit-rolls_some number old h t c o a m = (
   named-same old.site c o (name-may_roll (stay_of number c) old.left.broken c o m) (h.named t c a),
 )
 
-pub fit-recovers : (old new : Place) → IsFitPlace old → Recovers old new → IsFitPlace new
-fit-recovers old new h r =
-    fit-stops (marked (opened r.broken r.read)) old new
-    (λ t. subst (λ (c : Contents). IsFitContents (marked (opened r.broken c)) × IsNamedSo old.site (marked (opened r.broken c))) (sym (r.as_before t)) (
-      fit-epochs (λ r. true) (opened r.broken old.now) (fit-opened r.broken old.now (h.now t)),
-      named-same old.site old.now (marked (opened r.broken old.now)) (name-cut r.broken [] old.now) (h.named_now t),
+pub fit-recovers : (anew : Bool) (old new : Place) → IsFitPlace old → Recovers anew old new → IsFitPlace new
+fit-recovers anew old new h r =
+    fit-stops (recovered_as anew r.broken r.read) old new
+    (λ t. subst (λ (c : Contents). IsFitContents (recovered_as anew r.broken c) × IsNamedSo old.site (recovered_as anew r.broken c)) (sym (r.as_before t)) (
+      fit-epochs (λ r. true) (opened_as anew r.broken old.now) (fit-opened_as anew r.broken old.now (h.now t)),
+      named-same old.site old.now (recovered_as anew r.broken old.now) (name-cut r.broken [] old.now) (h.named_now t),
     ))
     r.becomes
 
-pub fit-recovers_some : (old : Place) → IsFitPlace old → IsTrue old.told → (c o : Contents) → Among old.outcomes c → MayRecover old.left.broken c o → IsFitContents o × IsNamedSo old.site o
-fit-recovers_some old h t c o a m = (fit-may_recover old.left.broken c o (h.outcomes t c a) m, named-same old.site c o (name-may_recover old.left.broken c o m) (h.named t c a))
+pub fit-recovers_some : (anew : Bool) (old : Place) → IsFitPlace old → IsTrue old.told → (c o : Contents) → Among old.outcomes c → MayRecoverAs anew old.left.broken c o → IsFitContents o × IsNamedSo old.site o
+fit-recovers_some anew old h t c o a m = (fit-may_recover anew old.left.broken c o (h.outcomes t c a) m, named-same old.site c o (name-may_recover anew old.left.broken c o m) (h.named t c a))

@@ -6,14 +6,15 @@ use Rattle.std.specs.Cmp.Lexicographic.{same_text}
 use Rattle.global_defs.specs.Jobs.{Job}
 use Rattle.global_defs.specs.Serial.{Turn}
 use Rattle.global_defs.specs.Entry.{Stamp}
-use Rattle.command_defs.specs.Commands.{Name, Region, Command, Create, Attach, Map, StartPrimary, Run, Stop, Epoch, Resync, RecoverBackward, Fuse, Crash, Extract, Zwrite, Show, Print, IsFormed}
+use Rattle.command_defs.specs.Commands.{Name, Region, Command, Create, Attach, SetJournal, Map, StartPrimary, Run, Stop, Epoch, Resync, RecoverBackward, RecoverForward, Fuse, Crash, Extract, Zwrite, Show, Print, IsFormed}
 use Rattle.command_defs.specs.Updaters.{is_updater}
 use Rattle.site_defs.specs.Contents.{Contents, Standing}
 use Rattle.site_defs.specs.Fronts.{turn_of}
 use Rattle.site_defs.specs.Lists.{Among, Along}
 use Rattle.site_defs.specs.Epochs.{marked, MayMark, MayMarkLeft}
-use Rattle.site_defs.specs.Opening.{MayBegin, MayMap}
-use Rattle.world_defs.specs.World.{Down, Place, Site, World, is_site_named, is_free, name_on, place_of}
+use Rattle.site_defs.specs.Forward.{MayRecoverAs}
+use Rattle.site_defs.specs.Opening.{MayBegin, MayMap, MaySetMode}
+use Rattle.world_defs.specs.World.{Down, Place, Site, World, Kept, is_site_named, is_free, name_on, place_of}
 use Rattle.world_defs.specs.Answers.{Cause, Exists, Refusal, Section, Answer, Done, Refused, DiskFault, NotAFile, Ran, Typed}
 use Rattle.world_defs.specs.Changes.{Stays, Fails, Becomes}
 use Rattle.world_defs.specs.Row.{writing, first, refused_with, or_else, in_state, why_not_down, refusal_in}
@@ -26,20 +27,21 @@ use Rattle.world_defs.specs.rows.Create.{MayMake, create}
 use Rattle.world_defs.specs.rows.Extract.{extract}
 use Rattle.world_defs.specs.rows.Map.{map_pattern}
 use Rattle.world_defs.specs.rows.Print.{print}
-use Rattle.world_defs.specs.rows.Recover.{MayRecover, recover_backward}
+use Rattle.world_defs.specs.rows.Recover.{RecoveryMayRefuse, recover}
 use Rattle.world_defs.specs.rows.Rollback.{MayRollBackTo, rollback}
 use Rattle.world_defs.specs.rows.Run.{RunsTo, one_further, run}
-use Rattle.world_defs.specs.rows.Start.{StartRefused, is_reign_limit, generation_limit, reign_limit, limited, start}
+use Rattle.world_defs.specs.rows.SetJournal.{set_journal}
+use Rattle.world_defs.specs.rows.Start.{StartRefused, StartMayRefuse, is_reign_limit, generation_limit, reign_limit, limited, start}
 use Rattle.world_defs.specs.Fit.{IsFitContents, IsFitPlace}
 use Rattle.world_laws.specs.Settled.{IsOpenSite}
 use Rattle.world_laws.specs.Entries.{IsSiteOf, Every, HasNotDropped}
 use Rattle.world_laws.specs.Faults.{IsFault}
-use Rattle.world_laws.proofs.PlacesFit.{fit-creates, fit-maps, fit-marks, fit-stops_marked, fit-none_fails, fit-may_make, fit-maps_some, fit-marks_some, fit-attaches, fit-crashes}
+use Rattle.world_laws.proofs.PlacesFit.{fit-creates, fit-maps, fit-sets, fit-marks, fit-stops_marked, fit-none_fails, fit-may_make, fit-maps_some, fit-sets_some, fit-marks_some, fit-attaches, fit-crashes}
 use Rattle.world_laws.proofs.ReignsFit.{fit-starts, fit-begins_some, fit-refused}
 use Rattle.world_laws.proofs.RollsFit.{fit-rolls, fit-rolls_some, fit-recovers, fit-recovers_some}
 use Rattle.world_laws.proofs.SectionsFit.{fit-runs, fit-run_left}
 use Rattle.world_laws.proofs.Opens.{open-closed, open-failed, open-down}
-use Rattle.world_laws.proofs.EntriesStay.{HasAt, entries-stays, entries-becomes, entries-crash, entries-ran, KeepsEntries, entries-some, free-keeps, StayBefore, entries-rolls, entries-rolls_some, same-map, same-begin, same-mark, same-recover}
+use Rattle.world_laws.proofs.EntriesStay.{HasAt, entries-stays, entries-becomes, entries-sets, entries-crash, entries-ran, KeepsEntries, entries-some, free-keeps, StayBefore, entries-rolls, entries-rolls_some, same-map, same-set, same-begin, same-mark, same-recover}
 use Rattle.world_laws.proofs.Counts.{later}
 use Rattle.world_laws.proofs.Lasts.{Lasts, Leaves, CutsOff, lasts-kept, lasts-changed, lasts-stays, lasts-some, quietly, risen, step-fails, site-fails, read-fails, cut-left, cut-old}
 use Rattle.world_laws.proofs.Laws.{RowLaws, Holds, TargetLaws, quiet_laws, laws_there, next_laws, target_laws, goes_holds, cut_holds}
@@ -74,6 +76,11 @@ module _ (F : Type 0) (K : List Answer → Name → ℕ → Type 0) where
   start-refused true p q r = lasts-stays F _ _ _ p q (λ f h. fit-refused p q h r) (entries-some _ p q (entries-becomes _ _ p q (λ name n e h t. h.now t) r)) r
   start-refused false p q r = lasts-kept F _ p q r
 
+  may-start : (cause : Cause) (p q : Place) → StartMayRefuse cause p q → Lasts F Every p q
+  may-start cause p q (inl k) = lasts-kept F _ p q k.1.kept
+  may-start cause p q (inr (inl c)) = lasts-changed F _ p q c.1
+  may-start cause p q (inr (inr k)) = lasts-kept F _ p q k.3
+
   start-laws : (p : Place) → RowLaws F K p (row_at start p)
   start-laws p = record {
     done = λ q none d. quietly F _ Done p q (λ t. t) (lasts-stays F _ _ _ p q (λ f h. fit-starts p q (may_start name p none) h d) (entries-some _ p q (entries-becomes _ _ p q (λ name n e h t. subst (HasAt n e) (sym (d.as_before t)) (h.now t)) d.becomes)) d.becomes);
@@ -82,7 +89,7 @@ module _ (F : Type 0) (K : List Answer → Name → ℕ → Type 0) where
     fault = λ k q d. site-fails F _ k (MayBegin name p.left.broken) _ p q (fit-begins_some name p) (same-begin name p.left.broken) d;
     damage = λ file offset q d. quietly F _ (NotAFile file offset) p q (λ t. t) (elim d [ inl k ↦ lasts-kept F _ p q k.kept | inr c ↦ lasts-changed F _ p q c.2 ]);
     refused = λ r q d. quietly F _ (Refused r) p q (λ t. t) (lasts-some F _ p q (start-refused (is_reign_limit r.cause) p q d));
-    may_refuse = λ r q d. quietly F _ (Refused r) p q (λ t. t) (elim d.1 [ inl k ↦ lasts-kept F _ p q k.1.kept | inr c ↦ lasts-changed F _ p q c.1 ]);
+    may_refuse = λ r q d. quietly F _ (Refused r) p q (λ t. t) (lasts-some F _ p q (may-start r.cause p q d.1));
     left = λ q l. cut-left F (MayBegin name p.left.broken) _ p q (λ f h t c o a m. (fit-begins_some name p h t c o a m).0) l;
   }
     where
@@ -99,6 +106,19 @@ module _ (F : Type 0) (K : List Answer → Name → ℕ → Type 0) where
     refused = λ r q d. quietly F _ (Refused r) p q (λ t. t) (lasts-kept F _ p q d);
     may_refuse = λ r q d. quietly F _ (Refused r) p q (λ t. t) (lasts-kept F _ p q d.2.kept);
     left = λ q l. cut-left F (MayMap region text) _ p q (λ f h t c o a m. (fit-maps_some region text p h t c o a m).0) l;
+  }
+
+  set-laws : (region : Name) (before : Bool) (p : Place) → RowLaws F K p (row_at (set_journal region before) p)
+  set-laws region before p = record {
+    done = λ q none d. quietly F _ Done p q (λ t. t)
+        (record { fit = λ f h. fit-sets region before p q h d; while_open = open-down p q d.becomes.site; entries = entries-some _ p q (entries-sets region before p q d); later = later p q d.becomes.faults });
+    ran = λ s q d. absurd d;
+    typed = λ text q d. absurd d;
+    fault = λ k q d. site-fails F _ k (MaySetMode region before) _ p q (fit-sets_some region before p) (same-set region before) d;
+    damage = λ file offset q d. quietly F _ (NotAFile file offset) p q (λ t. t) (lasts-kept F _ p q d.kept);
+    refused = λ r q d. quietly F _ (Refused r) p q (λ t. t) (lasts-kept F _ p q d);
+    may_refuse = λ r q d. quietly F _ (Refused r) p q (λ t. t) (lasts-kept F _ p q d.1.kept);
+    left = λ q l. cut-left F (MaySetMode region before) _ p q (λ f h t c o a m. (fit-sets_some region before p h t c o a m).0) l;
   }
 
   ran-leaves : (s : Section) (fault : Option ℕ) (stamp : Stamp) (t further : Turn) (p q : Place) → s.fault ≡ fault → (F → IsFitPlace p → IsFitPlace q) → KeepsEntries p q → RunsTo stamp t further fault p q → Leaves F (K (Ran s ∷ [])) (Ran s) p q
@@ -156,17 +176,22 @@ module _ (F : Type 0) (K : List Answer → Name → ℕ → Type 0) where
     left = λ q l. cut-left F (MayRollBackTo number p.left.broken) _ p q (λ f h t c o a m. (fit-rolls_some number p h t c o a m).0) l;
   }
 
-  recover-laws : (p : Place) → RowLaws F K p (row_at recover_backward p)
-  recover-laws p = record {
+  may-recover : (anew : Bool) (cause : Cause) (p q : Place) → RecoveryMayRefuse anew cause p q → Kept p q
+  may-recover true cause p q k = k.1.kept
+  may-recover false cause p q (inl k) = k.1.kept
+  may-recover false cause p q (inr k) = k.3
+
+  recover-laws : (anew : Bool) (p : Place) → RowLaws F K p (row_at (recover anew) p)
+  recover-laws anew p = record {
     done = λ q none d. quietly F _ Done p q (λ t. t)
-        (lasts-stays F _ _ _ p q (λ f h. fit-recovers p q h d) (entries-some _ p q (entries-becomes _ _ p q (λ name n e h t. subst (HasAt n e) (sym (d.as_before t)) (h.now t)) d.becomes)) d.becomes);
+        (lasts-stays F _ _ _ p q (λ f h. fit-recovers anew p q h d) (entries-some _ p q (entries-becomes _ _ p q (λ name n e h t. subst (HasAt n e) (sym (d.as_before t)) (h.now t)) d.becomes)) d.becomes);
     ran = λ s q d. absurd d;
     typed = λ text q d. absurd d;
-    fault = λ k q d. site-fails F _ k (MayRecover p.left.broken) _ p q (fit-recovers_some p) (same-recover p.left.broken) d;
+    fault = λ k q d. site-fails F _ k (MayRecoverAs anew p.left.broken) _ p q (fit-recovers_some anew p) (same-recover anew p.left.broken) d;
     damage = λ file offset q d. quietly F _ (NotAFile file offset) p q (λ t. t) (lasts-kept F _ p q d.kept);
     refused = λ r q d. quietly F _ (Refused r) p q (λ t. t) (lasts-kept F _ p q d);
-    may_refuse = λ r q d. quietly F _ (Refused r) p q (λ t. t) (lasts-kept F _ p q d.1.kept);
-    left = λ q l. cut-left F (MayRecover p.left.broken) _ p q (λ f h t c o a m. (fit-recovers_some p h t c o a m).0) l;
+    may_refuse = λ r q d. quietly F _ (Refused r) p q (λ t. t) (lasts-kept F _ p q (may-recover anew r.cause p q d.1));
+    left = λ q l. cut-left F (MayRecoverAs anew p.left.broken) _ p q (λ f h t c o a m. (fit-recovers_some anew p h t c o a m).0) l;
   }
 
   -- rows of disks without a site
@@ -246,6 +271,7 @@ command-laws : (c : Command) → TargetLaws (IsFormed c) (HasNotDropped c) (targ
 command-laws (Create name regions) = λ w. laws_there _ _ (on_next w name (λ i p. Acts i (create regions name p) apart)) w (place_of w name) (λ i p. refusing name Exists)
     (next_laws _ _ name w (create regions name) (create-laws _ _ regions name)) (λ i p o e. tt)
 command-laws Attach = λ w. next_laws _ _ ATTACHING w (attach w) (attach-laws _ _ w)
+command-laws (SetJournal name region before) = λ p found. set-laws _ _ region before p
 command-laws (Map name region text) = λ p found. map-laws _ _ region text p
 command-laws (StartPrimary name) = λ p found. start-laws _ _ p
 command-laws (Run name jobs order) = λ p found. run-laws _ _ jobs order p (λ formed. formed.2)
@@ -254,7 +280,8 @@ command-laws (Epoch name) = λ p found. mark-laws _ _ _ _ _ _ p (λ q d. epoch-l
 command-laws (Resync name number) = λ p found. rollback-laws _ _ number p
     (λ own n h kept. stays_before name number own n (Done ∷ []) (named_so name p.site found own h) (inl refl) kept)
     (λ k own n h kept. stays_before name number own n (DiskFault k ∷ []) (named_so name p.site found own h) (inr (k, refl)) kept)
-command-laws (RecoverBackward name) = λ p found. recover-laws _ _ p
+command-laws (RecoverBackward name) = λ p found. recover-laws _ _ false p
+command-laws (RecoverForward name) = λ p found. recover-laws _ _ true p
 command-laws (Fuse name calls) = λ p found. quiet_laws _ _ _ _ _ _ p (λ q d. lasts-kept _ _ p q d)
 command-laws (Crash name pick) = λ p found. quiet_laws _ _ _ _ _ _ p (λ q d. crash-lasts _ (HasNotDropped (Crash name pick)) p q d)
 command-laws (Extract name from) = λ p found. extract-laws _ _ from p
