@@ -2,7 +2,7 @@
 use Rattle.std.proofs.Common.{◌≡◌, ◌⊎◌, ◌==◌, ◌&&◌, ◌||◌, ◌+◌, ℕ, zero, suc, ◌≤◌, ◌<◌, nat_le, nat_lt, not, Bool, true, false, List, [], ◌∷◌, ◌++◌, length, map, Option, Some, None, refl, sym, ◌∙◌, ap, subst, arith, inl, inr, if◌then◌else◌, slice_get}
 use Rattle.std.proofs.lemmas.Bool.{false≢true}
 use Rattle.std.proofs.lemmas.Bool.Decides.{nat_tests}
-use Rattle.std.specs.List.{AllByRecursion, filter_map, cons_option, find, list_any}
+use Rattle.std.specs.List.{AllByRecursion, filter_map, find, list_any}
 use Rattle.std.specs.Option.{option_or, option_map, unwrap_or}
 use Rattle.disk_defs.specs.Disk.{Files}
 use Rattle.journal_defs.specs.Journal.{JournalRecord, Start, Pini, Epoch, Pblk, Tcom, IsNoPini, BeginsWithPini}
@@ -143,7 +143,7 @@ tells_more all g p ps (Goes same plain) tells = record { later = λ h past. tell
 tells_more all g p ps (Begins s is one later) tells = record {
   later = λ h past.
       let other : (s.generation == h) ≡ false = grind (arith, nat_tests, one, past) in
-      tells.later h (omega (arith, past, later)) ∙ rw (is, other) refl
+      tells.later h (omega (arith, past, later)) ∙ rw (is, other) refl;
 }
 
 -- the first record in a generation without images
@@ -240,17 +240,21 @@ back_here instance t g h all (Epoch m) ps low runs tells none no_epoch = by (sur
     e = record { number = m.number; blocks = m.blocks; after = ps }
 
     by : (b : Bool) → (survives instance h m.number && nat_le m.number t) ≡ b → MayGoBack instance t g all (record { generation = h; what = Epoch m } ∷ ps)
-    by true counts = inr (k, e, record {
-      taken = ap (λ (o : Option Taken). option_or o (if survives instance h m.number && nat_le m.number t then Some k else None)) none ∙ ap (λ (b : Bool). if b then Some k else None) counts;
-      epoch = ap (λ (o : Option Chosen). option_or o (if survives instance h m.number && nat_le m.number t then Some e else None)) no_epoch ∙ ap (λ (b : Bool). if b then Some e else None) counts;
-      runs = runs;
-      tells = tells;
-      past = low;
-      same = refl;
-    })
+    by true counts = inr (
+      k,
+      e,
+      record {
+        taken = ap (λ (o : Option Taken). option_or o (if survives instance h m.number && nat_le m.number t then Some k else None)) none ∙ ap (λ (b : Bool). if b then Some k else None) counts;
+        epoch = ap (λ (o : Option Chosen). option_or o (if survives instance h m.number && nat_le m.number t then Some e else None)) no_epoch ∙ ap (λ (b : Bool). if b then Some e else None) counts;
+        runs = runs;
+        tells = tells;
+        past = low;
+        same = refl;
+      },
+    )
     by false counts = inl (
       ap (λ (o : Option Taken). option_or o (if survives instance h m.number && nat_le m.number t then Some k else None)) none ∙ ap (λ (b : Bool). if b then Some k else None) counts,
-      ap (λ (o : Option Chosen). option_or o (if survives instance h m.number && nat_le m.number t then Some e else None)) no_epoch ∙ ap (λ (b : Bool). if b then Some e else None) counts
+      ap (λ (o : Option Chosen). option_or o (if survives instance h m.number && nat_le m.number t then Some e else None)) no_epoch ∙ ap (λ (b : Bool). if b then Some e else None) counts,
     )
 
 back_one : (instance : List InstanceRecord) (t g : ℕ) (all : List Start) (p : Placed) (ps : List Placed) → Step g p → Runs p.generation ps → Tells all p.generation ps → MayGoBack instance t p.generation all ps → MayGoBack instance t g all (p ∷ ps)
@@ -285,17 +289,19 @@ told_by instance t ps runs = by (go_back instance t 0 (starts_of ps) ps runs own
     by (inl none) =
         let e : chosen instance t ps ≡ beginning ps = ap (λ (o : Option Chosen). unwrap_or o (beginning ps)) none.1 in
         let g : generation_of (last_taken instance t (takens_of ps)) ≡ 0 = ap generation_of none.0 in
-        subst (ToldBy instance t ps (starts_of ps)) (sym g)
-        (λ clear. ap (first_without ps) e ∙ first_alike ps (beginning ps) runs ∙ clear_behind (starts_of ps) 0 ps runs own clear,
-         λ bare. absurd (false≢true (sym (none_earlier 0 0 ps runs (omega arith)) ∙ bare)))
+        subst (ToldBy instance t ps (starts_of ps)) (sym g) (
+          λ clear. ap (first_without ps) e ∙ first_alike ps (beginning ps) runs ∙ clear_behind (starts_of ps) 0 ps runs own clear,
+          λ bare. absurd (false≢true (sym (none_earlier 0 0 ps runs (omega arith)) ∙ bare)),
+        )
     by (inr found) =
         let b = found.2 in
         let e : chosen instance t ps ≡ found.1 = ap (λ (o : Option Chosen). unwrap_or o (beginning ps)) b.epoch in
         let g : generation_of (last_taken instance t (takens_of ps)) ≡ found.0.generation = ap generation_of b.taken in
         let first = ap (first_without ps) e ∙ first_alike ps found.1 runs in
-        subst (ToldBy instance t ps (starts_of ps)) (sym g)
-        (λ clear. first ∙ clear_behind (starts_of ps) found.0.generation found.1.after b.runs b.tells clear ∙ sym b.same,
-         λ bare. elim (bare_behind (starts_of ps) found.0.generation found.1.after b.runs b.tells bare) [ | inl x ↦ inl (first ∙ x) | inr y ↦ inr (first ∙ y ∙ sym b.same) ])
+        subst (ToldBy instance t ps (starts_of ps)) (sym g) (
+          λ clear. first ∙ clear_behind (starts_of ps) found.0.generation found.1.after b.runs b.tells clear ∙ sym b.same,
+          λ bare. elim (bare_behind (starts_of ps) found.0.generation found.1.after b.runs b.tells bare) [ inl x ↦ inl (first ∙ x) | inr y ↦ inr (first ∙ y ∙ sym b.same) ],
+        )
 
 pub site_told : (files : Files) (c : Contents) (u : Records) (t r : ℕ) → IsSite files c → AreRecords files u → r < length (regions c.instance) → ToldBy u.instance t (u.journal r) (c.starts r) (epoch_generation c t r)
 site_told files c u t r site held inside =
@@ -329,9 +335,9 @@ later_one : (c : Contents) (u : Records) (t r : ℕ) (m : NamedMode) (ms : List 
 later_one c u t r m ms x true bare told none more = inr (ap (λ (b : Bool). if b then None else needing_or (bare_past c t r) m.name (needing_from c t (suc r) ms)) bare)
 later_one c u t r m ms x false clear told none more =
     let same : needing_from c t r (m ∷ ms) ≡ needing_from c t (suc r) ms =
-        ap (λ (b : Bool). if b then None else needing_or (bare_past c t r) m.name (needing_from c t (suc r) ms)) clear
-        ∙ ap (λ (o : Option ℕ). needing_or o m.name (needing_from c t (suc r) ms)) (past_none c u t r told clear none) in
-    elim more [ | inl e ↦ inl (same ∙ e) | inr e ↦ inr (same ∙ e) ]
+    ap (λ (b : Bool). if b then None else needing_or (bare_past c t r) m.name (needing_from c t (suc r) ms)) clear
+    ∙ ap (λ (o : Option ℕ). needing_or o m.name (needing_from c t (suc r) ms)) (past_none c u t r told clear none) in
+    elim more [ inl e ↦ inl (same ∙ e) | inr e ↦ inr (same ∙ e) ]
 
 none_one : (c : Contents) (u : Records) (t r : ℕ) (m : NamedMode) (ms : List NamedMode) (b : Bool) → is_bare_epoch c t r ≡ b → IsTold c u t r → without_behind u t r ≡ None
     → (needing_from c t (suc r) ms ≡ Some None) ⊎ (needing_from c t (suc r) ms ≡ None) → (needing_from c t r (m ∷ ms) ≡ Some None) ⊎ (needing_from c t r (m ∷ ms) ≡ None)
@@ -368,11 +374,11 @@ TellsOf c u t = (q : ℕ) → q < length (regions c.instance) → IsTold c u t q
 
 past_earlier : (c : Contents) (u : Records) (t q : ℕ) (b : Bool) → is_bare_epoch c t q ≡ b → IsTold c u t q → without_behind u t q ≡ None → bare_past c t q ≡ None
 past_earlier c u t q false clear told none = past_none c u t q told clear none
-past_earlier c u t q true bare told none = elim (told.1 bare) [ | inl e ↦ absurd (cc (sym none ∙ e)) | inr e ↦ sym e ∙ none ]
+past_earlier c u t q true bare told none = elim (told.1 bare) [ inl e ↦ absurd (cc (sym none ∙ e)) | inr e ↦ sym e ∙ none ]
 
 needs_at : (c : Contents) (u : Records) (t r g : ℕ) (b : Bool) → is_bare_epoch c t r ≡ b → IsTold c u t r → without_behind u t r ≡ Some g → ((is_bare_epoch c t r ≡ true) × (epoch_generation c t r ≡ g)) ⊎ (bare_past c t r ≡ Some g)
 needs_at c u t r g false clear told needs = inr (sym (told.0 clear) ∙ needs)
-needs_at c u t r g true bare told needs = elim (told.1 bare) [ | inl e ↦ inl (bare, cc (sym needs ∙ e)) | inr e ↦ inr (sym e ∙ needs) ]
+needs_at c u t r g true bare told needs = elim (told.1 bare) [ inl e ↦ inl (bare, cc (sym needs ∙ e)) | inr e ↦ inr (sym e ∙ needs) ]
 
 pub none_needing : (files : Files) (c : Contents) (u : Records) (t : ℕ) → IsSite files c → AreRecords files u → NoneIsWithout u t → (needing c t ≡ Some None) ⊎ (needing c t ≡ None)
 none_needing files c u t site held none =
@@ -384,14 +390,14 @@ first_needing files c u t name g site held f =
     elim (first_from c u t 0 (regions c.instance) f.region f.mode g there (λ q low high. told q (omega (arith, high))) (subst (λ (q : ℕ). without_behind u t q ≡ Some g) (omega arith) f.needs) (λ q low high. f.earlier q (omega (arith, high)))) [
       | inl e ↦ inl (e ∙ ap (λ (x : Name). Some (Some (x, g))) f.named)
       | inr e ↦ inr (record {
-          untold = e;
-          region = f.region;
-          mode = f.mode;
-          there = there;
-          named = f.named;
-          needs = needs_at c u t f.region g (is_bare_epoch c t f.region) refl (told f.region inside) f.needs;
-          earlier = λ q less. past_earlier c u t q (is_bare_epoch c t q) refl (told q (omega (arith, less, inside))) (f.earlier q less);
-        })
+        untold = e;
+        region = f.region;
+        mode = f.mode;
+        there = there;
+        named = f.named;
+        needs = needs_at c u t f.region g (is_bare_epoch c t f.region) refl (told f.region inside) f.needs;
+        earlier = λ q less. past_earlier c u t q (is_bare_epoch c t q) refl (told q (omega (arith, less, inside))) (f.earlier q less);
+      })
     ]
   where
     there : slice_get (regions c.instance) f.region ≡ Some f.mode

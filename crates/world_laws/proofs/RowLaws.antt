@@ -31,7 +31,7 @@ use Rattle.world_defs.specs.rows.Recover.{RecoveryMayRefuse, recover}
 use Rattle.world_defs.specs.rows.Rollback.{MayRollBackTo, rollback}
 use Rattle.world_defs.specs.rows.Run.{RunsTo, one_further, run}
 use Rattle.world_defs.specs.rows.SetJournal.{set_journal}
-use Rattle.world_defs.specs.rows.Start.{StartRefused, StartMayRefuse, is_reign_limit, generation_limit, reign_limit, limited, start}
+use Rattle.world_defs.specs.rows.Start.{StartRefused, StartMayRefuse, is_reign_limit, generation_limit, need_forward, reign_limit, limited, start}
 use Rattle.world_defs.specs.Fit.{IsFitContents, IsFitPlace}
 use Rattle.world_laws.specs.Settled.{IsOpenSite}
 use Rattle.world_laws.specs.Entries.{IsSiteOf, Every, HasNotDropped}
@@ -52,22 +52,23 @@ no_cause : (name : Name) (o : Option Cause) → refused_with name o ≡ None →
 no_cause name None e = refl
 no_cause name (Some cause) e = cc
 
-no_second : (a b : Option Cause) → first (a ∷ b ∷ []) ≡ None → b ≡ None
-no_second None None e = refl
-no_second None (Some b) e = cc
-no_second (Some a) b e = cc
+no_last : (a b d : Option Cause) → first (a ∷ b ∷ d ∷ []) ≡ None → d ≡ None
+no_last None None None e = refl
+no_last None None (Some d) e = cc
+no_last None (Some b) d e = cc
+no_last (Some a) b d e = cc
 
 no_else : (a b : Option Refusal) → or_else a b ≡ None → b ≡ None
 no_else None b e = e
 no_else (Some a) b e = cc
 
-unlimited : (told : Bool) (a b : Option Cause) → told ≡ true → (if told then first (a ∷ b ∷ []) else None) ≡ None → b ≡ None
-unlimited true a b t e = no_second a b e
-unlimited false a b t e = absurd (false≢true t)
+unlimited : (told : Bool) (a b d : Option Cause) → told ≡ true → (if told then first (a ∷ b ∷ d ∷ []) else None) ≡ None → d ≡ None
+unlimited true a b d t e = no_last a b d e
+unlimited false a b d t e = absurd (false≢true t)
 
 may_start : (name : Name) (p : Place) → refusal_in (start name p) ≡ None → IsTrue p.told → reign_limit p.now ≡ None
 may_start name p none t =
-    unlimited p.told (generation_limit p.now) (reign_limit p.now) t (no_cause name (limited p) (no_else (refused_with name (in_state why_not_down p.site)) (refused_with name (limited p)) none))
+    unlimited p.told (generation_limit p.now) (need_forward p.now) (reign_limit p.now) t (no_cause name (limited p) (no_else (refused_with name (in_state why_not_down p.site)) (refused_with name (limited p)) none))
 
 -- rows
 
