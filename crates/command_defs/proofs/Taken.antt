@@ -14,7 +14,7 @@ use Rattle.gvn_key.specs.KeyText.{key_reading}
 use Rattle.gvn_key.specs.declared.key.KeyError.{KeyError}
 use Rattle.script_defs.specs.Parts.{word_end, without_spaces}
 use Rattle.command_defs.specs.Commands.{Name, IsPattern}
-use Rattle.command_defs.specs.Parts.{column, followed, formed, taken, taken_if_any, ended, word_form, is_name, name_form, pattern_form, number_form, node_of, node_form, file_word, file_form, mode_word, mode_form, way_form}
+use Rattle.command_defs.specs.Parts.{column, followed, formed, taken, taken_if_any, ended, word_form, is_name, name_form, pattern_form, number_form, node_of, node_form, either_form, file_word, file_form, mode_word, mode_form, way_form}
 use Rattle.global_defs.specs.Pattern.{is_pattern}
 use Rattle.command_defs.specs.Spelling.{Joins, nothing}
 use Rattle.command_defs.proofs.Joined.{IsTight, IsFronted, tight_drop, tight_without, fronted_without, joins, begins, begins_none}
@@ -108,7 +108,7 @@ pub word_taken : (word : List ℕ) (len : ℕ) (left : List ℕ) (p : List ℕ �
 word_taken word len left p tight fronted e = spelled_taken (word_form word) (λ x. word) (word_is word) len left p tight fronted e
 
 -- a part is one of two words
-either_is : (first second text : List ℕ) (is_first : Bool) → (if bytes_eq text first then Some true else if bytes_eq text second then Some false else None) ≡ Some is_first → text ≡ (if is_first then first else second)
+either_is : (first second text : List ℕ) (is_first : Bool) → either_form first second text ≡ Some is_first → text ≡ (if is_first then first else second)
 either_is first second text is_first e = elim (chosen (bytes_eq text first) (Some true) (if bytes_eq text second then Some false else None) (Some is_first) e) [
   | inl h ↦ (let same : true ≡ is_first = cc h.1 in (bytes_eq-Decides text first).0 h.0 ∙ ap (λ (b : Bool). if b then first else second) same)
   | inr h ↦ elim (chosen (bytes_eq text second) (Some false) None (Some is_first) h.1) [
