@@ -5,6 +5,8 @@ mod Cuts
 mod Errors
 mod Founded
 mod Imaged
+mod Moded
+mod Modes
 mod Prepared
 mod Recovered
 mod Rolls

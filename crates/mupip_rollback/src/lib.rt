@@ -6,6 +6,7 @@
 //!   crash leaves at any moment, the files stand for all entries, or for those that stay with the file whole.
 //! - [`recover_backward`] opens a site and closes it again: what is broken behind its entries is written down, and each region has an
 //!   epoch of all of them.
+//! - [`set_mode`] sets how a region of a site that is down is journaled from its next generation on.
 #![tactic(auto)]
 
 mod cutting;
@@ -13,7 +14,9 @@ mod error;
 mod preparing;
 mod recovering;
 mod rolling;
+mod setting;
 
 pub use error::RollError;
 pub use recovering::recover_backward;
 pub use rolling::{Rolled, rollback};
+pub use setting::{set_mode, set_mode_logged};
