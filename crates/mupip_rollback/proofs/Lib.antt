@@ -4,7 +4,6 @@ mod Closed
 mod Cuts
 mod Errors
 mod Founded
-mod Imaged
 mod Moded
 mod Modes
 mod Prepared

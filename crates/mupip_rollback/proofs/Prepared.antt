@@ -32,7 +32,7 @@ use Rattle.site_store.proofs.Loaded.{length_values}
 use Rattle.mupip_rollback.specs.declared.error.RollError.{RollError}
 use Rattle.mupip_rollback.specs.declared.preparing.Prepared.{Prepared}
 use Rattle.mupip_rollback.specs.Preparing.{IsPrepared, KeepsFirst, cut_records}
-use Rattle.mupip_rollback.specs.Rolling.{NoneIsWithout}
+use Rattle.site_store.specs.Needing.{NoneIsWithout}
 use Rattle.mupip_rollback.proofs.Founded as founded
 
 -- the first entries, by their numbers
