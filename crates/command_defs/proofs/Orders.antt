@@ -1,6 +1,6 @@
 -- Lines are read as the commands that they spell. Of each command stand here how its parts are found and read, a line of `command_found` and one of `order_told`.
 use Rattle.std.proofs.Common.{◌≡◌, ℕ, ◌-◌, ◌<◌, ◌≤◌, ◌^◌, ◌&&◌, ◌==◌, not, Bool, true, false, List, [], ◌∷◌, map, take, Option, Some, None, codes, cond, refl, sym, ap, ◌∙◌, subst, inl, inr, arith, ◌≢◌}
-use Rattle.std.specs.List.{list_all, IsDistinct}
+use Rattle.std.specs.List.{list_all}
 use Rattle.std.specs.Fmt.{decimal}
 use Rattle.std.specs.Str.{bytes_eq}
 use Rattle.std.specs.declared.result.Result.{Result}
@@ -12,15 +12,15 @@ use Rattle.std.proofs.lemmas.List.Folds.{list_all-map}
 use Rattle.global_defs.specs.Key.{Key}
 use Rattle.gvn_key.specs.KeyText.{key_reading}
 use Rattle.script_defs.specs.Parts.{word_end}
-use Rattle.command_defs.specs.Commands.{IsFormed, IsWhole, Name, Region, Command, Create, Attach, Map, StartPrimary, Stop, Epoch, Resync, RecoverBackward, Fuse, Crash, Extract, Zwrite, Show, Print, with_images, MOST_CALLS, MOST_PICK, MOST_NUMBER, MOST_GENERATION, MOST_REGIONS, regions_behind, regions_reading, create_reading, attach_reading, map_reading, extract_reading, zwrite_reading, command_by, run_reading, AreRegions, IsPattern, IsOrder, create, attach, map_to, start, stop, epoch, resync, recover_backward, fuse, crash, extract, extract_from, zwrite, zwrite_from, show, print}
-use Rattle.command_defs.specs.Parts.{followed, taken, taken_if_any, ended, word_form, is_name, name_form, pattern_form, number_form, node_form, file_word, file_form}
+use Rattle.command_defs.specs.Commands.{IsFormed, IsWhole, Name, Region, Command, Create, Attach, Map, SetJournal, StartPrimary, Stop, Epoch, Resync, Fuse, Crash, Extract, Zwrite, Show, Print, region_word, region_form, MOST_CALLS, MOST_PICK, MOST_NUMBER, MOST_GENERATION, MOST_REGIONS, regions_behind, regions_reading, create_reading, attach_reading, map_reading, set_reading, recover_by, extract_reading, zwrite_reading, command_by, run_reading, AreRegions, IsPattern, IsOrder, create, attach, map_to, set_journal, start, stop, epoch, resync, recover_backward, recover_forward, fuse, crash, extract, extract_from, zwrite, zwrite_from, show, print}
+use Rattle.command_defs.specs.Parts.{followed, taken, taken_if_any, ended, word_form, is_name, name_form, pattern_form, number_form, node_form, file_word, file_form, mode_word, mode_form, way_form}
 use Rattle.command_defs.specs.Spelling.{Joins}
 use Rattle.command_defs.proofs.Joined.{IsTight, IsFronted, begins}
 use Rattle.command_defs.proofs.NumberForms.{number_read}
 use Rattle.command_defs.proofs.Patterns.{pattern_read}
-use Rattle.command_defs.proofs.Regions.{distinct_one, names_images}
-use Rattle.command_defs.proofs.Taken.{behind, chosen, followed_found, Takes, ended_found, taken_found, name_taken, word_is, word_taken, file_is, number_taken, node_taken, at_end, pattern_taken, Perhaps, missing, there, perhaps_found, taken_read, next, ended_read, word_read, file_read, node_read, perhaps_read, perhaps_none, followed_read, site_read, figure_read}
-use Rattle.command_defs.proofs.RegionOrders.{Named, regions_found, regions_read}
+use Rattle.command_defs.proofs.Regions.{names_of, distinct_one}
+use Rattle.command_defs.proofs.Taken.{behind, chosen, followed_found, Takes, ended_found, name_taken, word_is, word_taken, spelled_taken, file_is, mode_is, way_word, way_is, number_taken, node_taken, at_end, pattern_taken, Perhaps, missing, there, perhaps_found, taken_read, next, ended_read, word_read, file_read, mode_read, node_read, perhaps_read, perhaps_none, followed_read, site_read, figure_read}
+use Rattle.command_defs.proofs.RegionOrders.{Named, region_taken, region_read, regions_found, regions_read}
 
 -- parts behind a word that make a command with it
 record Makes (word left : List ℕ) (command : Command) : Type 0 where
@@ -102,24 +102,26 @@ numbered_read most make small len left site n g h j = followed_read (taken name_
 
 -- A site and a word.
 
-worded_found : (word role : List ℕ) (make : Name → Command) → ((site : Name) → is_name site ≡ true → IsOrder (word ∷ site ∷ role ∷ []) (make site)) → (len : ℕ) (left : List ℕ) (c : Command) → IsTight left → IsFronted left
-    → followed (taken name_form len left) (λ site. followed (taken (word_form role) len site.1) (λ second. ended len second.1 (make site.0))) ≡ Ok c → Makes word left c
-worded_found word role make order len left c tight fronted e =
+worded_found : {X : Type 0} (word : List ℕ) (form : List ℕ → Option X) (spelling : X → List ℕ) (make : Name → X → Command) → ((text : List ℕ) (x : X) → form text ≡ Some x → text ≡ spelling x)
+    → ((site : Name) (x : X) → is_name site ≡ true → IsOrder (word ∷ site ∷ spelling x ∷ []) (make site x)) → (len : ℕ) (left : List ℕ) (c : Command) → IsTight left → IsFronted left
+    → followed (taken name_form len left) (λ site. followed (taken form len site.1) (λ second. ended len second.1 (make site.0 second.0))) ≡ Ok c → Makes word left c
+worded_found word form spelling make spelled order len left c tight fronted e =
     let a = followed_found (taken name_form len left) _ c e in
     let s = name_taken len left a.0 tight fronted a.1 in
-    let b = followed_found (taken (word_form role) len a.0.1) _ c a.2 in
-    let r = word_taken role len a.0.1 b.0 s.1.tight s.1.fronted b.1 in
-    let z = ended_found len b.0.1 (make a.0.0) c b.2 in
+    let b = followed_found (taken form len a.0.1) _ c a.2 in
+    let r = spelled_taken form spelling spelled len a.0.1 b.0 s.1.tight s.1.fronted b.1 in
+    let z = ended_found len b.0.1 (make a.0.0 b.0.0) c b.2 in
+    let second = spelling b.0.0 in
     record {
-      parts = a.0.0 ∷ role ∷ [];
-      order = subst (λ x. IsOrder (word ∷ a.0.0 ∷ role ∷ []) x) z.1 (order a.0.0 s.0);
-      joined = s.1.build (role ∷ []) (r.build [] (at_end b.0.1 z.0));
+      parts = a.0.0 ∷ second ∷ [];
+      order = subst (λ x. IsOrder (word ∷ a.0.0 ∷ second ∷ []) x) z.1 (order a.0.0 b.0.0 s.0);
+      joined = s.1.build (second ∷ []) (r.build [] (at_end b.0.1 z.0));
     }
 
-worded_read : (role : List ℕ) (make : Name → Command) (len : ℕ) (left : List ℕ) (site : Name) → is_name site ≡ true → Joins (site ∷ role ∷ []) left
-    → followed (taken name_form len left) (λ site. followed (taken (word_form role) len site.1) (λ second. ended len second.1 (make site.0))) ≡ Ok (make site)
-worded_read role make len left site g j = followed_read (taken name_form len left) _ (site, behind left) _ (site_read len site g j)
-    (followed_read (taken (word_form role) len (behind left)) _ (role, behind (behind left)) _ (taken_read (word_form role) len role (next j) (word_read role)) (ended_read len (behind (behind left)) _ (next (next j))))
+worded_read : {X : Type 0} (form : List ℕ → Option X) (make : Name → X → Command) (len : ℕ) (left : List ℕ) (site : Name) (second : List ℕ) (x : X) → is_name site ≡ true → form second ≡ Some x → Joins (site ∷ second ∷ []) left
+    → followed (taken name_form len left) (λ site. followed (taken form len site.1) (λ second. ended len second.1 (make site.0 second.0))) ≡ Ok (make site x)
+worded_read form make len left site second x g spelled j = followed_read (taken name_form len left) _ (site, behind left) _ (site_read len site g j)
+    (followed_read (taken form len (behind left)) _ (x, behind (behind left)) _ (taken_read form len x (next j) spelled) (ended_read len (behind (behind left)) _ (next (next j))))
 
 -- A site, a word and a number from 1 on.
 
@@ -132,8 +134,7 @@ counted_found word form spelling most make small spelled order len left c tight 
     let a = followed_found (taken name_form len left) _ c e in
     let s = name_taken len left a.0 tight fronted a.1 in
     let b = followed_found (taken form len a.0.1) _ c a.2 in
-    let t = taken_found form len a.0.1 b.0 s.1.tight s.1.fronted b.1 in
-    let w = subst (λ x. Takes x a.0.1 b.0.1) (spelled (take (word_end a.0.1) a.0.1) b.0.0 t.0) t.1 in
+    let w = spelled_taken form spelling spelled len a.0.1 b.0 s.1.tight s.1.fronted b.1 in
     let d = followed_found (taken (number_form 1 most) len b.0.1) _ c b.2 in
     let n = number_taken 1 most len b.0.1 d.0 small w.tight w.fronted d.1 in
     let z = ended_found len d.0.1 (make a.0.0 b.0.0 d.0.0) c d.2 in
@@ -155,20 +156,21 @@ counted_read form most make small len left site second x n g spelled low high j 
 
 -- CREATE.
 
-create_by : (site first : Name) (left middle rest : List ℕ) (regions : List Region) (c : Command) → is_name site ≡ true → Takes site left middle → is_name first ≡ true → Takes first middle rest
-    → Named (MOST_REGIONS - 1) rest (with_images first ∷ []) regions → Create site regions ≡ c → Makes (codes "CREATE") left c
+create_by : (site : Name) (first : Region) (left middle rest : List ℕ) (regions : List Region) (c : Command) → is_name site ≡ true → Takes site left middle → is_name first.name ≡ true → Takes (region_word first) middle rest
+    → Named (MOST_REGIONS - 1) rest (first ∷ []) regions → Create site regions ≡ c → Makes (codes "CREATE") left c
 create_by site first left middle rest regions c good s named f r made =
-    let names = first ∷ r.names in
-    let same : Create site (map with_images names) ≡ c = ap (Create site) (sym r.is) ∙ made in
+    let same : Create site (first ∷ r.more) ≡ c = ap (Create site) (sym r.is) ∙ made in
+    let words = map region_word (first ∷ r.more) in
+    let count = length-map r.more (λ (x : Region). x.name) in
     record {
-      parts = site ∷ names;
-      order = subst (λ x. IsOrder (codes "CREATE" ∷ site ∷ names) x) same (create site names good (record {
-        formed = and_from (is_name first) (list_all is_name r.names) named r.formed;
+      parts = site ∷ words;
+      order = subst (λ x. IsOrder (codes "CREATE" ∷ site ∷ words) x) same (create site (first ∷ r.more) good (record {
+        formed = and_from (is_name first.name) (list_all is_name (names_of r.more)) named r.formed;
         some = omega arith;
         few = omega (arith, r.few);
-        different = r.different (distinct_one first);
+        different = r.different (distinct_one first.name);
       }));
-      joined = s.build names (f.build r.names r.joined);
+      joined = s.build words (f.build (map region_word r.more) r.joined);
     }
 
 create_found : (len : ℕ) (left : List ℕ) (c : Command) → IsTight left → IsFronted left → create_reading len left ≡ Ok c → Makes (codes "CREATE") left c
@@ -176,30 +178,26 @@ create_found len left c tight fronted e =
     let a = followed_found (taken name_form len left) _ c e in
     let s = name_taken len left a.0 tight fronted a.1 in
     let b = followed_found (regions_reading len a.0.1) (λ regions. Ok (Create a.0.0 regions)) c a.2 in
-    let f = followed_found (taken name_form len a.0.1) _ b.0 b.1 in
-    let t = name_taken len a.0.1 f.0 s.1.tight s.1.fronted f.1 in
-    let r = regions_found (MOST_REGIONS - 1) len f.0.1 (with_images f.0.0 ∷ []) b.0 t.1.tight t.1.fronted f.2 in
-    create_by a.0.0 f.0.0 left a.0.1 f.0.1 b.0 c s.0 s.1 t.0 t.1 r (cc b.2)
+    let f = followed_found (taken (region_form []) len a.0.1) _ b.0 b.1 in
+    let t = region_taken [] len a.0.1 f.0 s.1.tight s.1.fronted f.1 in
+    let r = regions_found (MOST_REGIONS - 1) len f.0.1 (f.0.0 ∷ []) b.0 t.2.tight t.2.fronted f.2 in
+    create_by a.0.0 f.0.0 left a.0.1 f.0.1 b.0 c s.0 s.1 t.0 t.2 r (cc b.2)
 
-create_read : (len : ℕ) (left : List ℕ) (site : Name) (names : List Name) → is_name site ≡ true → AreRegions names → Joins (site ∷ names) left → create_reading len left ≡ Ok (Create site (map with_images names))
+create_read : (len : ℕ) (left : List ℕ) (site : Name) (regions : List Region) → is_name site ≡ true → AreRegions (names_of regions) → Joins (site ∷ map region_word regions) left → create_reading len left ≡ Ok (Create site regions)
 create_read len left site [] g r j = absurd (omega (arith, r.some))
-create_read len left site (first ∷ names) g r j =
-    let h = and_parts (is_name first) (list_all is_name names) r.formed in
+create_read len left site (first ∷ more) g r j =
+    let h = and_parts (is_name first.name) (list_all is_name (names_of more)) r.formed in
     let rest = behind (behind left) in
-    let regions = with_images first ∷ map with_images names in
-    let more : regions_behind (MOST_REGIONS - 1) len rest (with_images first ∷ []) ≡ Ok regions = regions_read names (MOST_REGIONS - 1) len rest (with_images first ∷ []) (omega (arith, r.few)) h.1 r.different (next (next j)) in
+    let count = length-map more (λ (x : Region). x.name) in
+    let read : regions_behind (MOST_REGIONS - 1) len rest (first ∷ []) ≡ Ok (first ∷ more) = regions_read more (MOST_REGIONS - 1) len rest (first ∷ []) (omega (arith, r.few)) h.1 r.different (next (next j)) in
     followed_read (taken name_form len left) _ (site, behind left) _ (site_read len site g j)
-    (followed_read (regions_reading len (behind left)) (λ regions. Ok (Create site regions)) regions _
-    (followed_read (taken name_form len (behind left)) _ (first, rest) regions (site_read len first h.0 (next j)) more) refl)
+    (followed_read (regions_reading len (behind left)) (λ regions. Ok (Create site regions)) (first ∷ more) _
+    (followed_read (taken (region_form []) len (behind left)) _ (first, rest) (first ∷ more) (taken_read (region_form []) len first (next j) (region_read [] first h.0 refl)) read) refl)
 
-created_formed : (site : Name) (names : List Name) → is_name site ≡ true → AreRegions names → IsFormed (Create site (map with_images names))
-created_formed site names g r = (
-  g,
-  list_all-map (λ (r : Region). is_name r.name) with_images names ∙ r.formed,
-  omega (arith, r.some, length-map names with_images),
-  omega (arith, r.few, length-map names with_images),
-  subst (IsDistinct bytes_eq) (sym (names_images names)) r.different,
-)
+created_formed : (site : Name) (regions : List Region) → is_name site ≡ true → AreRegions (names_of regions) → IsFormed (Create site regions)
+created_formed site regions g r =
+    let count = length-map regions (λ (x : Region). x.name) in
+    (g, sym (list_all-map is_name (λ (x : Region). x.name) regions) ∙ r.formed, omega (arith, r.some), omega (arith, r.few), r.different)
 
 -- ATTACH.
 
@@ -232,6 +230,42 @@ map_read len left site region pattern g h p j =
     followed_read (taken name_form len left) _ (site, behind left) _ (site_read len site g j)
     (followed_read (taken name_form len (behind left)) _ (region, rest) _ (site_read len region h (next j))
     (followed_read (taken pattern_form len rest) _ (pattern, behind rest) _ (taken_read pattern_form len pattern (next (next j)) formed) (ended_read len (behind rest) _ (next (next (next j))))))
+
+-- SET JOURNAL.
+
+set_found : (len : ℕ) (left : List ℕ) (c : Command) → IsTight left → IsFronted left → set_reading len left ≡ Ok c → Makes (codes "SET") left c
+set_found len left c tight fronted e =
+    let w = followed_found (taken (word_form (codes "JOURNAL")) len left) _ c e in
+    let j = word_taken (codes "JOURNAL") len left w.0 tight fronted w.1 in
+    let a = followed_found (taken name_form len w.0.1) _ c w.2 in
+    let s = name_taken len w.0.1 a.0 j.tight j.fronted a.1 in
+    let b = followed_found (taken name_form len a.0.1) _ c a.2 in
+    let r = name_taken len a.0.1 b.0 s.1.tight s.1.fronted b.1 in
+    let d = followed_found (taken mode_form len b.0.1) _ c b.2 in
+    let m = spelled_taken mode_form mode_word mode_is len b.0.1 d.0 r.1.tight r.1.fronted d.1 in
+    let z = ended_found len d.0.1 (SetJournal a.0.0 b.0.0 d.0.0) c d.2 in
+    let mode = mode_word d.0.0 in
+    record {
+      parts = codes "JOURNAL" ∷ a.0.0 ∷ b.0.0 ∷ mode ∷ [];
+      order = subst (λ x. IsOrder (codes "SET" ∷ codes "JOURNAL" ∷ a.0.0 ∷ b.0.0 ∷ mode ∷ []) x) {x = SetJournal a.0.0 b.0.0 d.0.0} z.1 (set_journal a.0.0 b.0.0 d.0.0 s.0 r.0);
+      joined = j.build (a.0.0 ∷ b.0.0 ∷ mode ∷ []) (s.1.build (b.0.0 ∷ mode ∷ []) (r.1.build (mode ∷ []) (m.build [] (at_end d.0.1 z.0))));
+    }
+
+set_read : (len : ℕ) (left : List ℕ) (site region : Name) (before : Bool) → is_name site ≡ true → is_name region ≡ true → Joins (codes "JOURNAL" ∷ site ∷ region ∷ mode_word before ∷ []) left → set_reading len left ≡ Ok (SetJournal site region before)
+set_read len left site region before g h j =
+    let from_site = behind left in
+    let from_region = behind from_site in
+    let from_mode = behind from_region in
+    followed_read (taken (word_form (codes "JOURNAL")) len left) _ (codes "JOURNAL", from_site) _ (taken_read (word_form (codes "JOURNAL")) len (codes "JOURNAL") j (word_read (codes "JOURNAL")))
+    (followed_read (taken name_form len from_site) _ (site, from_region) _ (site_read len site g (next j))
+    (followed_read (taken name_form len from_region) _ (region, from_mode) _ (site_read len region h (next (next j)))
+    (followed_read (taken mode_form len from_mode) _ (before, behind from_mode) _ (taken_read mode_form len before (next (next (next j))) (mode_read before)) (ended_read len (behind from_mode) _ (next (next (next (next j))))))))
+
+-- RECOVER.
+
+recover : (site : Name) (forward : Bool) → is_name site ≡ true → IsOrder (codes "RECOVER" ∷ site ∷ way_word forward ∷ []) (recover_by forward site)
+recover site true good = recover_forward site good
+recover site false good = recover_backward site good
 
 -- EXTRACT.
 
@@ -311,30 +345,33 @@ command_found word len left rest c tight fronted e =
     let m : Makes word rest c = by_word (codes "CREATE") (create_found len rest c tight fronted)
     (by_word (codes "ATTACH") (attach_found len rest c tight fronted)
     (by_word (codes "MAP") (map_found len rest c tight fronted)
-    (by_word (codes "START") (worded_found (codes "START") (codes "PRIMARY") StartPrimary start len rest c tight fronted)
+    (by_word (codes "SET") (set_found len rest c tight fronted)
+    (by_word (codes "START") (worded_found (codes "START") (word_form (codes "PRIMARY")) (λ word. codes "PRIMARY") (λ site word. StartPrimary site) (word_is (codes "PRIMARY")) (λ site word. start site) len rest c tight fronted)
     (by_word (codes "STOP") (site_found (codes "STOP") Stop stop len rest c tight fronted)
     (by_word (codes "EPOCH") (site_found (codes "EPOCH") Epoch epoch len rest c tight fronted)
     (by_word (codes "ROLLBACK") (counted_found (codes "ROLLBACK") (word_form (codes "RESYNC")) (λ word. codes "RESYNC") MOST_NUMBER (λ site word. Resync site) (omega arith) (word_is (codes "RESYNC")) (λ site word. resync site) len rest c tight fronted)
-    (by_word (codes "RECOVER") (worded_found (codes "RECOVER") (codes "BACKWARD") RecoverBackward recover_backward len rest c tight fronted)
+    (by_word (codes "RECOVER") (worded_found (codes "RECOVER") way_form way_word (λ site way. recover_by way site) way_is recover len rest c tight fronted)
     (by_word (codes "FUSE") (figure_found (codes "FUSE") MOST_CALLS Fuse (omega arith) fuse len rest c tight fronted)
     (by_word (codes "CRASH") (figure_found (codes "CRASH") MOST_PICK Crash (omega arith) crash len rest c tight fronted)
     (by_word (codes "EXTRACT") (extract_found len rest c tight fronted)
     (by_word (codes "ZWRITE") (zwrite_found len rest c tight fronted)
     (by_word (codes "SHOW") (site_found (codes "SHOW") Show show len rest c tight fronted)
     (by_word (codes "TYPE") (counted_found (codes "TYPE") file_form file_word MOST_GENERATION Print (omega arith) file_is print len rest c tight fronted)
-    no_word))))))))))))) e in
+    no_word)))))))))))))) e in
     (m.parts, m.order, m.joined)
 
 -- the parts of a command are read as it, and have what a command has
 pub order_told : {parts : List (List ℕ)} {c : Command} → IsOrder parts c → Told parts c
-order_told (create site names g r) = told (codes "CREATE") refl (created_formed site names g r, tt) (λ len left rest j. create_read len rest site names g r j)
+order_told (create site regions g r) = told (codes "CREATE") refl (created_formed site regions g r, tt) (λ len left rest j. create_read len rest site regions g r j)
 order_told attach = told (codes "ATTACH") refl (tt, tt) (λ len left rest j. ended_read len rest Attach j)
 order_told (map_to site region pattern g h p) = told (codes "MAP") refl ((g, h, pattern_read p), tt) (λ len left rest j. map_read len rest site region pattern g h p j)
-order_told (start site g) = told (codes "START") refl (g, tt) (λ len left rest j. worded_read (codes "PRIMARY") StartPrimary len rest site g j)
+order_told (set_journal site region before g h) = told (codes "SET") refl ((g, h), tt) (λ len left rest j. set_read len rest site region before g h j)
+order_told (start site g) = told (codes "START") refl (g, tt) (λ len left rest j. worded_read (word_form (codes "PRIMARY")) (λ site word. StartPrimary site) len rest site (codes "PRIMARY") (codes "PRIMARY") g refl j)
 order_told (stop site g) = told (codes "STOP") refl (g, tt) (λ len left rest j. alone_read Stop len rest site g j)
 order_told (epoch site g) = told (codes "EPOCH") refl (g, tt) (λ len left rest j. alone_read Epoch len rest site g j)
 order_told (resync site n g low high) = told (codes "ROLLBACK") refl ((g, low, high), tt) (λ len left rest j. counted_read (word_form (codes "RESYNC")) MOST_NUMBER (λ site word. Resync site) (omega arith) len rest site (codes "RESYNC") (codes "RESYNC") n g refl low high j)
-order_told (recover_backward site g) = told (codes "RECOVER") refl (g, tt) (λ len left rest j. worded_read (codes "BACKWARD") RecoverBackward len rest site g j)
+order_told (recover_backward site g) = told (codes "RECOVER") refl (g, tt) (λ len left rest j. worded_read way_form (λ site way. recover_by way site) len rest site (codes "BACKWARD") false g refl j)
+order_told (recover_forward site g) = told (codes "RECOVER") refl (g, tt) (λ len left rest j. worded_read way_form (λ site way. recover_by way site) len rest site (codes "FORWARD") true g refl j)
 order_told (fuse site n g h) = told (codes "FUSE") refl ((g, h), tt) (λ len left rest j. numbered_read MOST_CALLS Fuse (omega arith) len rest site n g h j)
 order_told (crash site n g h) = told (codes "CRASH") refl ((g, h), tt) (λ len left rest j. numbered_read MOST_PICK Crash (omega arith) len rest site n g h j)
 order_told (extract site g) = told (codes "EXTRACT") refl (g, tt) (λ len left rest j. extract_read len rest site g j)

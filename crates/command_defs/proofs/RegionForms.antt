@@ -1,15 +1,15 @@
 -- Regions as they are read one after another.
-use Rattle.std.proofs.Common.{◌≡◌, ℕ, zero, suc, ◌+◌, ◌-◌, ◌≤◌, ◌==◌, true, false, List, [], ◌∷◌, ◌++◌, length, take, refl, sym, ◌∙◌, subst, inl, inr, arith, length-append}
+use Rattle.std.proofs.Common.{◌≡◌, ℕ, zero, suc, ◌+◌, ◌-◌, ◌≤◌, ◌==◌, true, false, List, [], ◌∷◌, ◌++◌, length, take, refl, ◌∙◌, subst, inl, inr, arith, length-append}
 use Rattle.std.specs.List.{list_all, IsDistinct}
 use Rattle.std.specs.Str.{bytes_eq}
 use Rattle.std.specs.declared.result.Result.TheVariants.{Ok, Err}
 use Rattle.std.proofs.lemmas.List.Folds.{list_all-append}
 use Rattle.std.proofs.lemmas.Bool.{and_from, cond-true, cond-false}
 use Rattle.script_defs.specs.Parts.{word_end}
-use Rattle.command_defs.specs.Commands.{Name, Region, with_images, region_form, MOST_REGIONS, regions_behind, regions_reading}
-use Rattle.command_defs.specs.Parts.{column, followed, taken, ended, is_name, name_form}
-use Rattle.command_defs.proofs.Regions.{names_of, names_more, any_names, distinct_one, distinct_more}
-use Rattle.command_defs.proofs.Taken.{chosen, followed_found, taken_form, ended_found, name_is}
+use Rattle.command_defs.specs.Commands.{Region, region_form, MOST_REGIONS, regions_behind, regions_reading}
+use Rattle.command_defs.specs.Parts.{column, followed, taken, ended, is_name}
+use Rattle.command_defs.proofs.Regions.{names_of, distinct_one, regions_more}
+use Rattle.command_defs.proofs.Taken.{chosen, followed_found, taken_form, ended_found}
 use Rattle.command_defs.proofs.RegionOrders.{region_is}
 
 -- regions of different names, these and so many more at most
@@ -22,37 +22,35 @@ record Kept (before : List Region) (room : ℕ) (regions : List Region) : Type 0
 kept_same : (room : ℕ) (before regions : List Region) → list_all (λ r. is_name r.name) before ≡ true → IsDistinct bytes_eq (names_of before) → before ≡ regions → Kept before room regions
 kept_same room before regions all different same = subst (λ rs. Kept before room rs) same (record { formed = all; some = omega arith; few = omega arith; different = different })
 
-kept_more : (room : ℕ) (before regions : List Region) (name : Name) → Kept (before ++ with_images name ∷ []) room regions → Kept before (suc room) regions
-kept_more room before regions name k =
-    let long = length-append before (with_images name ∷ []) in
+kept_more : (room : ℕ) (before regions : List Region) (r : Region) → Kept (before ++ r ∷ []) room regions → Kept before (suc room) regions
+kept_more room before regions r k =
+    let long = length-append before (r ∷ []) in
     record { formed = k.formed; some = omega (arith, k.some); few = omega (arith, k.few); different = k.different }
 
-all_more : (before : List Region) (name : Name) → list_all (λ r. is_name r.name) before ≡ true → is_name name ≡ true → list_all (λ r. is_name r.name) (before ++ with_images name ∷ []) ≡ true
-all_more before name all good = list_all-append (λ (r : Region). is_name r.name) before (with_images name ∷ [])
-    ∙ and_from (list_all (λ r. is_name r.name) before) (list_all (λ r. is_name r.name) (with_images name ∷ [])) all (and_from (is_name name) true good refl)
+all_more : (before : List Region) (r : Region) → list_all (λ x. is_name x.name) before ≡ true → is_name r.name ≡ true → list_all (λ x. is_name x.name) (before ++ r ∷ []) ≡ true
+all_more before r all good = list_all-append (λ (x : Region). is_name x.name) before (r ∷ [])
+    ∙ and_from (list_all (λ x. is_name x.name) before) (list_all (λ x. is_name x.name) (r ∷ [])) all (and_from (is_name r.name) true good refl)
 
 behind_kept : (room len : ℕ) (left : List ℕ) (before regions : List Region) → list_all (λ r. is_name r.name) before ≡ true → IsDistinct bytes_eq (names_of before) → regions_behind room len left before ≡ Ok regions → Kept before room regions
 unfolding regions_behind
 behind_kept zero len left before regions all different e = kept_same 0 before regions all different (ended_found len left before regions e).1
 behind_kept (suc room) len left before regions all different e =
-    let step = λ (region : List ℕ × List ℕ). regions_behind room len region.1 (before ++ with_images region.0 ∷ []) in
+    let step = λ (region : Region × List ℕ). regions_behind room len region.1 (before ++ region.0 ∷ []) in
     elim (chosen (length left == 0) (Ok before) (followed (taken (region_form before) len left) step) (Ok regions) e) [
       | inl h ↦ kept_same (suc room) before regions all different (cc h.1)
       | inr h ↦ (let a = followed_found (taken (region_form before) len left) step regions h.1 in
           let f = region_is before (take (word_end left) left) a.0.0 (taken_form (region_form before) len left a.0 a.1) in
-          let apart = distinct_more (names_of before) a.0.0 different (sym (any_names before a.0.0) ∙ f.2) in
-          kept_more room before regions a.0.0 (behind_kept room len a.0.1 (before ++ with_images a.0.0 ∷ []) regions (all_more before a.0.0 all f.1)
-          (subst (IsDistinct bytes_eq) (sym (names_more before a.0.0)) apart) a.2))
+          kept_more room before regions a.0.0 (behind_kept room len a.0.1 (before ++ a.0.0 ∷ []) regions (all_more before a.0.0 all f.1) (regions_more before a.0.0 different f.2) a.2))
     ]
 
 -- regions that were read are of their form
 pub regions_formed : (len : ℕ) (left : List ℕ) (regions : List Region) → regions_reading len left ≡ Ok regions
     → (list_all (λ r. is_name r.name) regions ≡ true) × (1 ≤ length regions) × (length regions ≤ MOST_REGIONS) × IsDistinct bytes_eq (names_of regions)
 regions_formed len left regions e =
-    let step = λ (first : List ℕ × List ℕ). regions_behind (MOST_REGIONS - 1) len first.1 (with_images first.0 ∷ []) in
-    let a = followed_found (taken name_form len left) step regions e in
-    let n = name_is (take (word_end left) left) a.0.0 (taken_form name_form len left a.0 a.1) in
-    let k = behind_kept (MOST_REGIONS - 1) len a.0.1 (with_images a.0.0 ∷ []) regions (and_from (is_name a.0.0) true n.1 refl) (distinct_one a.0.0) a.2 in
+    let step = λ (first : Region × List ℕ). regions_behind (MOST_REGIONS - 1) len first.1 (first.0 ∷ []) in
+    let a = followed_found (taken (region_form []) len left) step regions e in
+    let n = region_is [] (take (word_end left) left) a.0.0 (taken_form (region_form []) len left a.0 a.1) in
+    let k = behind_kept (MOST_REGIONS - 1) len a.0.1 (a.0.0 ∷ []) regions (and_from (is_name a.0.0.name) true n.1 refl) (distinct_one a.0.0.name) a.2 in
     (k.formed, omega (arith, k.some), omega (arith, k.few), k.different)
 
 -- What is read where regions stand already.
@@ -61,7 +59,7 @@ regions_formed len left regions e =
 pub behind_none : (room len : ℕ) (left : List ℕ) (before : List Region) → (length left == 0) ≡ true → regions_behind room len left before ≡ Ok before
 unfolding regions_behind
 behind_none zero len left before none = cond-true (length left == 0) (Ok before) (Err (column len left)) none
-behind_none (suc room) len left before none = cond-true (length left == 0) (Ok before) (followed (taken (region_form before) len left) (λ region. regions_behind room len region.1 (before ++ with_images region.0 ∷ []))) none
+behind_none (suc room) len left before none = cond-true (length left == 0) (Ok before) (followed (taken (region_form before) len left) (λ region. regions_behind room len region.1 (before ++ region.0 ∷ []))) none
 
 -- no room
 pub behind_full : (len : ℕ) (left : List ℕ) (before : List Region) → regions_behind 0 len left before ≡ ended len left before
@@ -70,6 +68,6 @@ behind_full len left before = refl
 
 -- one more
 pub behind_one : (room len : ℕ) (left : List ℕ) (before : List Region) → (length left == 0) ≡ false
-    → regions_behind (suc room) len left before ≡ followed (taken (region_form before) len left) (λ region. regions_behind room len region.1 (before ++ with_images region.0 ∷ []))
+    → regions_behind (suc room) len left before ≡ followed (taken (region_form before) len left) (λ region. regions_behind room len region.1 (before ++ region.0 ∷ []))
 unfolding regions_behind
-behind_one room len left before some = cond-false (length left == 0) (Ok before) (followed (taken (region_form before) len left) (λ region. regions_behind room len region.1 (before ++ with_images region.0 ∷ []))) some
+behind_one room len left before some = cond-false (length left == 0) (Ok before) (followed (taken (region_form before) len left) (λ region. regions_behind room len region.1 (before ++ region.0 ∷ []))) some

@@ -14,7 +14,7 @@ use Rattle.gvn_key.specs.KeyText.{key_reading}
 use Rattle.gvn_key.specs.declared.key.KeyError.{KeyError}
 use Rattle.script_defs.specs.Parts.{word_end, without_spaces}
 use Rattle.command_defs.specs.Commands.{Name, IsPattern}
-use Rattle.command_defs.specs.Parts.{column, followed, formed, taken, taken_if_any, ended, word_form, is_name, name_form, pattern_form, number_form, node_of, node_form, file_word, file_form}
+use Rattle.command_defs.specs.Parts.{column, followed, formed, taken, taken_if_any, ended, word_form, is_name, name_form, pattern_form, number_form, node_of, node_form, either_form, file_word, file_form, mode_word, mode_form, way_form}
 use Rattle.global_defs.specs.Pattern.{is_pattern}
 use Rattle.command_defs.specs.Spelling.{Joins, nothing}
 use Rattle.command_defs.proofs.Joined.{IsTight, IsFronted, tight_drop, tight_without, fronted_without, joins, begins, begins_none}
@@ -97,19 +97,38 @@ word_is word text x e = elim (chosen (bytes_eq text word) (Some text) None (Some
   | inr h ↦ absurd (cc h.1)
 ]
 
-pub word_taken : (word : List ℕ) (len : ℕ) (left : List ℕ) (p : List ℕ × List ℕ) → IsTight left → IsFronted left → taken (word_form word) len left ≡ Ok p → Takes word left p.1
-word_taken word len left p tight fronted e =
-    let t = taken_found (word_form word) len left p tight fronted e in
-    subst (λ w. Takes w left p.1) (word_is word (take (word_end left) left) p.0 t.0) t.1
+-- a part of a form whose texts are known
+pub spelled_taken : {X : Type 0} (form : List ℕ → Option X) (spelling : X → List ℕ) → ((text : List ℕ) (x : X) → form text ≡ Some x → text ≡ spelling x)
+    → (len : ℕ) (left : List ℕ) (p : X × List ℕ) → IsTight left → IsFronted left → taken form len left ≡ Ok p → Takes (spelling p.0) left p.1
+spelled_taken form spelling spelled len left p tight fronted e =
+    let t = taken_found form len left p tight fronted e in
+    subst (λ w. Takes w left p.1) (spelled (take (word_end left) left) p.0 t.0) t.1
 
-pub file_is : (text : List ℕ) (lost : Bool) → file_form text ≡ Some lost → text ≡ file_word lost
-file_is text lost e = elim (chosen (bytes_eq text (codes "LOST")) (Some true) (if bytes_eq text (codes "BROKEN") then Some false else None) (Some lost) e) [
-  | inl h ↦ (let same : true ≡ lost = cc h.1 in (bytes_eq-Decides text (codes "LOST")).0 h.0 ∙ ap file_word same)
-  | inr h ↦ elim (chosen (bytes_eq text (codes "BROKEN")) (Some false) None (Some lost) h.1) [
-    | inl k ↦ (let same : false ≡ lost = cc k.1 in (bytes_eq-Decides text (codes "BROKEN")).0 k.0 ∙ ap file_word same)
+pub word_taken : (word : List ℕ) (len : ℕ) (left : List ℕ) (p : List ℕ × List ℕ) → IsTight left → IsFronted left → taken (word_form word) len left ≡ Ok p → Takes word left p.1
+word_taken word len left p tight fronted e = spelled_taken (word_form word) (λ x. word) (word_is word) len left p tight fronted e
+
+-- a part is one of two words
+either_is : (first second text : List ℕ) (is_first : Bool) → either_form first second text ≡ Some is_first → text ≡ (if is_first then first else second)
+either_is first second text is_first e = elim (chosen (bytes_eq text first) (Some true) (if bytes_eq text second then Some false else None) (Some is_first) e) [
+  | inl h ↦ (let same : true ≡ is_first = cc h.1 in (bytes_eq-Decides text first).0 h.0 ∙ ap (λ (b : Bool). if b then first else second) same)
+  | inr h ↦ elim (chosen (bytes_eq text second) (Some false) None (Some is_first) h.1) [
+    | inl k ↦ (let same : false ≡ is_first = cc k.1 in (bytes_eq-Decides text second).0 k.0 ∙ ap (λ (b : Bool). if b then first else second) same)
     | inr k ↦ absurd (cc k.1)
   ]
 ]
+
+pub file_is : (text : List ℕ) (lost : Bool) → file_form text ≡ Some lost → text ≡ file_word lost
+file_is text lost e = either_is (codes "LOST") (codes "BROKEN") text lost e
+
+pub mode_is : (text : List ℕ) (before : Bool) → mode_form text ≡ Some before → text ≡ mode_word before
+mode_is text before e = either_is (codes "BEFORE") (codes "NOBEFORE") text before e
+
+-- the word for a way in which a site is recovered
+abbrev pub way_word : (forward : Bool) → List ℕ
+way_word forward = if forward then codes "FORWARD" else codes "BACKWARD"
+
+pub way_is : (text : List ℕ) (forward : Bool) → way_form text ≡ Some forward → text ≡ way_word forward
+way_is text forward e = either_is (codes "FORWARD") (codes "BACKWARD") text forward e
 
 pub number_taken : (least most len : ℕ) (left : List ℕ) (p : ℕ × List ℕ) → most < 2 ^ 64 → IsTight left → IsFronted left → taken (number_form least most) len left ≡ Ok p
     → (least ≤ p.0) × (p.0 ≤ most) × Takes (decimal p.0) left p.1
@@ -185,6 +204,10 @@ word_read word = let same : bytes_eq word word ≡ true = (bytes_eq-Decides word
 pub file_read : (lost : Bool) → file_form (file_word lost) ≡ Some lost
 file_read true = refl
 file_read false = refl
+
+pub mode_read : (before : Bool) → mode_form (mode_word before) ≡ Some before
+mode_read true = refl
+mode_read false = refl
 
 pub node_read : (node : List ℕ) (key : Key) → key_reading node ≡ Ok key → node_form node ≡ Some key
 node_read node key e = ap node_of e

@@ -100,20 +100,24 @@ node_of (Err e) = None
 abbrev pub node_form : List ℕ → Option Key
 node_form text = node_of (key_reading text)
 
+-- one of two words, and whether it's the first
+abbrev pub either_form : (first second : List ℕ) → List ℕ → Option Bool
+either_form first second text = if bytes_eq text first then Some true else if bytes_eq text second then Some false else None
+
 -- the word for a file of lost transactions, or of broken ones
 abbrev pub file_word : (lost : Bool) → List ℕ
 file_word lost = if lost then codes "LOST" else codes "BROKEN"
 
 abbrev pub file_form : List ℕ → Option Bool
-file_form text = if bytes_eq text (codes "LOST") then Some true else if bytes_eq text (codes "BROKEN") then Some false else None
+file_form text = either_form (codes "LOST") (codes "BROKEN") text
 
 -- the word for a mode of a region's journal
 abbrev pub mode_word : (before : Bool) → List ℕ
 mode_word before = if before then codes "BEFORE" else codes "NOBEFORE"
 
 abbrev pub mode_form : List ℕ → Option Bool
-mode_form text = if bytes_eq text (codes "BEFORE") then Some true else if bytes_eq text (codes "NOBEFORE") then Some false else None
+mode_form text = either_form (codes "BEFORE") (codes "NOBEFORE") text
 
 -- the way in which a site is recovered, and whether that is forward
 abbrev pub way_form : List ℕ → Option Bool
-way_form text = if bytes_eq text (codes "FORWARD") then Some true else if bytes_eq text (codes "BACKWARD") then Some false else None
+way_form text = either_form (codes "FORWARD") (codes "BACKWARD") text

@@ -3,7 +3,7 @@ use Rattle.std.proofs.Common.{◌≡◌, ℕ, suc, ◌+◌, ◌-◌, ◌<◌, �
 use Rattle.std.specs.Prelude.{Option, Some, None}
 use Rattle.std.specs.declared.result.Result.{Result}
 use Rattle.std.specs.declared.result.Result.TheVariants.{Ok, Err}
-use Rattle.command_defs.specs.Commands.{Region, with_images, region_form, regions_behind}
+use Rattle.command_defs.specs.Commands.{Region, region_form, regions_behind}
 use Rattle.std.proofs.lemmas.Bool.{cond-false}
 use Rattle.command_defs.specs.Parts.{column, followed, taken, ended}
 use Rattle.command_defs.proofs.Taken.{chosen}
@@ -14,29 +14,29 @@ use Rattle.repl_script.specs.Reads.{Tells}
 -- room for one more
 one_room : (count len : ℕ) (rest : List ℕ) (before slice : List (List ℕ × Bool)) (whole : Result (List Region) ℕ) → count < 8 → (length rest == 0) ≡ false → slice ≡ before
     → regions_behind (8 - count) len rest (map region_value before) ≡ whole
-    → followed (taken (region_form (map region_value slice)) len rest) (λ region. regions_behind (8 - (count + 1)) len region.1 (map region_value before ++ with_images region.0 ∷ [])) ≡ whole
+    → followed (taken (region_form (map region_value slice)) len rest) (λ region. regions_behind (8 - (count + 1)) len region.1 (map region_value before ++ region.0 ∷ [])) ≡ whole
 one_room count len rest before slice whole low some same e =
-    let step = λ (region : List ℕ × List ℕ). regions_behind (8 - (count + 1)) len region.1 (map region_value before ++ with_images region.0 ∷ []) in
+    let step = λ (region : Region × List ℕ). regions_behind (8 - (count + 1)) len region.1 (map region_value before ++ region.0 ∷ []) in
     let room : suc (8 - (count + 1)) ≡ 8 - count = omega arith in
     ap (λ (s : List (List ℕ × Bool)). followed (taken (region_form (map region_value s)) len rest) step) same
     ∙ (sym (behind_one (8 - (count + 1)) len rest (map region_value before) some) ∙ (ap (λ (n : ℕ). regions_behind n len rest (map region_value before)) room ∙ e))
 
 -- a region more was read
-pub region_taken : (count len : ℕ) (rest part behind : List ℕ) (before slice new : List (List ℕ × Bool)) (whole : Result (List Region) ℕ) → count < 8 → (length rest == 0) ≡ false → slice ≡ before
-    → taken (region_form (map region_value slice)) len rest ≡ Ok (part, behind) → map region_value new ≡ map region_value before ++ with_images part ∷ []
+pub region_taken : (count len : ℕ) (rest : List ℕ) (region : Region) (behind : List ℕ) (before slice new : List (List ℕ × Bool)) (whole : Result (List Region) ℕ) → count < 8 → (length rest == 0) ≡ false → slice ≡ before
+    → taken (region_form (map region_value slice)) len rest ≡ Ok (region, behind) → map region_value new ≡ map region_value before ++ region ∷ []
     → regions_behind (8 - count) len rest (map region_value before) ≡ whole → regions_behind (8 - (count + 1)) len behind (map region_value new) ≡ whole
-region_taken count len rest part behind before slice new whole low some same read added e =
-    let step = λ (region : List ℕ × List ℕ). regions_behind (8 - (count + 1)) len region.1 (map region_value before ++ with_images region.0 ∷ []) in
+region_taken count len rest region behind before slice new whole low some same read added e =
+    let step = λ (region : Region × List ℕ). regions_behind (8 - (count + 1)) len region.1 (map region_value before ++ region.0 ∷ []) in
     ap (regions_behind (8 - (count + 1)) len behind) added
-    ∙ (sym (ap (λ (r : Result (List ℕ × List ℕ) ℕ). followed r step) read) ∙ one_room count len rest before slice whole low some same e)
+    ∙ (sym (ap (λ (r : Result (Region × List ℕ) ℕ). followed r step) read) ∙ one_room count len rest before slice whole low some same e)
 
 -- a part was bad, or memory ran out
 pub region_bad : (count len : ℕ) (rest : List ℕ) (before slice : List (List ℕ × Bool)) (whole : Result (List Region) ℕ) (o : Option ℕ) → count < 8 → (length rest == 0) ≡ false → slice ≡ before
     → Tells o (taken (region_form (map region_value slice)) len rest) → regions_behind (8 - count) len rest (map region_value before) ≡ whole → Tells o whole
 region_bad count len rest before slice whole None low some same told e = tt
 region_bad count len rest before slice whole (Some at) low some same told e =
-    let step = λ (region : List ℕ × List ℕ). regions_behind (8 - (count + 1)) len region.1 (map region_value before ++ with_images region.0 ∷ []) in
-    sym (one_room count len rest before slice whole low some same e) ∙ ap (λ (r : Result (List ℕ × List ℕ) ℕ). followed r step) told
+    let step = λ (region : Region × List ℕ). regions_behind (8 - (count + 1)) len region.1 (map region_value before ++ region.0 ∷ []) in
+    sym (one_room count len rest before slice whole low some same e) ∙ ap (λ (r : Result (Region × List ℕ) ℕ). followed r step) told
 
 -- nothing more came
 pub regions_done : (count len : ℕ) (rest : List ℕ) (regions : List (List ℕ × Bool)) (whole : Result (List Region) ℕ) → (length rest == 0) ≡ true

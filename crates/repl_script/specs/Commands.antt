@@ -12,12 +12,14 @@ abbrev pub command_value : Command → defs.Command
 command_value (commands.Create site regions) = defs.Create site (map region_value regions)
 command_value commands.Attach = defs.Attach
 command_value (commands.Map site region pattern) = defs.Map site region pattern
+command_value (commands.SetJournal site region before) = defs.SetJournal site region before
 command_value (commands.StartPrimary site) = defs.StartPrimary site
 command_value (commands.Run site jobs order) = defs.Run site (at_all jobs) order
 command_value (commands.Stop site) = defs.Stop site
 command_value (commands.Epoch site) = defs.Epoch site
 command_value (commands.Resync site number) = defs.Resync site number
 command_value (commands.RecoverBackward site) = defs.RecoverBackward site
+command_value (commands.RecoverForward site) = defs.RecoverForward site
 command_value (commands.Fuse site calls) = defs.Fuse site calls
 command_value (commands.Crash site pick) = defs.Crash site pick
 command_value (commands.Extract site number) = defs.Extract site number

@@ -21,6 +21,13 @@ pub enum Command {
         region: Bytes,
         pattern: Bytes,
     },
+    /// Has a region's later generations keep images of blocks before they change, or not (GT.M: MUPIP SET
+    /// -JOURNAL=\[NO\]BEFORE_IMAGES -REGION).
+    SetJournal {
+        site: Bytes,
+        region: Bytes,
+        before: bool,
+    },
     /// Opens a site as a primary and begins a reign.
     StartPrimary {
         site: Bytes,
@@ -48,6 +55,10 @@ pub enum Command {
     },
     /// Recovers a site from its journals and closes it again (GT.M: MUPIP JOURNAL -RECOVER -BACKWARD).
     RecoverBackward {
+        site: Bytes,
+    },
+    /// Makes a site's blocks anew from all that its journals have, and closes it again (GT.M: MUPIP JOURNAL -RECOVER -FORWARD).
+    RecoverForward {
         site: Bytes,
     },
     /// Lets so many more calls of the site's disk succeed, at most 1,000,000; each later one fails until a crash.

@@ -5,7 +5,7 @@ ghost use Rattle.std.specs.Option.{SomeIff};
 ghost use Rattle.std.specs.Char.{is_ascii_alphanumeric, is_ascii_digit};
 ghost use Rattle.std.specs.Str.Parse.{digits_value};
 ghost use Rattle.global_defs.specs.Numeral.{is_whole};
-ghost use Rattle.command_defs.specs.Parts.{is_lettered, is_name, is_digits, number_form, file_form};
+ghost use Rattle.command_defs.specs.Parts.{is_lettered, is_name, is_digits, number_form, either_form};
 ghost use Rattle.global_defs.specs.Pattern.{is_global_name, is_pattern};
 
 /// How many characters a name may have.
@@ -111,14 +111,14 @@ pub fn number_of(least: u64, most: u64, text: &[u8]) -> Option<u64>
     }
 }
 
-/// Whether a word of TYPE is for a file of lost transactions, or for one of broken ones.
-pub fn is_lost(text: &[u8]) -> Option<bool>
-    ensures { result ≡ file_form text.now }
+/// Whether a word is the first of two, or the second.
+pub fn is_first(first: &[u8], second: &[u8], text: &[u8]) -> Option<bool>
+    ensures { result ≡ either_form first.now second.now text.now }
 {
-    if text == b"LOST".as_slice() {
+    if text == first {
         return Some(true);
     }
-    if text == b"BROKEN".as_slice() {
+    if text == second {
         return Some(false);
     }
     None

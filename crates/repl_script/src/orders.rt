@@ -1,13 +1,13 @@
 // Lines between commands.
 ghost use Rattle.std.specs.Prelude.{◌≡◌, true, IfOk};
 ghost use Rattle.command_defs.specs.Parts.{is_name};
-ghost use Rattle.command_defs.specs.Commands.{IsFormed, IsWhole, create_reading, attach_reading, map_reading, start_reading, stop_reading, epoch_reading, rollback_reading, recover_reading, fuse_reading, crash_reading, extract_reading, zwrite_reading, show_reading, type_reading, command_by, run_reading};
+ghost use Rattle.command_defs.specs.Commands.{IsFormed, IsWhole, create_reading, attach_reading, map_reading, set_reading, start_reading, stop_reading, epoch_reading, rollback_reading, recover_reading, fuse_reading, crash_reading, extract_reading, zwrite_reading, show_reading, type_reading, command_by, run_reading};
 ghost use Rattle.repl_script.specs.Commands.{command_value};
 ghost use Rattle.repl_script.specs.Reads.{Reads};
 
 use super::command::Command;
 use super::fault::{Fault, bad};
-use super::parts::{ended, file, name, node, number, pattern, word};
+use super::parts::{ended, file, mode, name, node, number, pattern, way, word};
 use super::regions::read_regions;
 use gvn_key::Bytes;
 use std::alloc::Global;
@@ -60,6 +60,24 @@ fn read_map(alloc: Global, len: u16, left: &[u8]) -> Result<Command, Fault>
     })
 }
 
+fn read_set(alloc: Global, len: u16, left: &[u8]) -> Result<Command, Fault>
+    ensures reading { Reads command_value (set_reading len left.now) result }
+    ensures formed { IfOk result (λ command. IsFormed (command_value command) × IsWhole (command_value command)) }
+{
+    let journal = word(b"JOURNAL", len, left)?;
+    let site = name(len, journal.behind)?;
+    let region = name(len, site.behind)?;
+    let (before, behind) = mode(len, region.behind)?;
+    ended(len, behind)?;
+    let site = Bytes::of(alloc, site.part)?;
+    let region = Bytes::of(alloc, region.part)?;
+    Ok(Command::SetJournal {
+        site,
+        region,
+        before,
+    })
+}
+
 fn read_start(alloc: Global, len: u16, left: &[u8]) -> Result<Command, Fault>
     ensures reading { Reads command_value (start_reading len left.now) result }
     ensures formed { IfOk result (λ command. IsFormed (command_value command) × IsWhole (command_value command)) }
@@ -108,10 +126,14 @@ fn read_recover(alloc: Global, len: u16, left: &[u8]) -> Result<Command, Fault>
     ensures formed { IfOk result (λ command. IsFormed (command_value command) × IsWhole (command_value command)) }
 {
     let site = name(len, left)?;
-    let way = word(b"BACKWARD", len, site.behind)?;
-    ended(len, way.behind)?;
+    let (forward, behind) = way(len, site.behind)?;
+    ended(len, behind)?;
     let site = Bytes::of(alloc, site.part)?;
-    Ok(Command::RecoverBackward { site })
+    if forward {
+        Ok(Command::RecoverForward { site })
+    } else {
+        Ok(Command::RecoverBackward { site })
+    }
 }
 
 fn read_fuse(alloc: Global, len: u16, left: &[u8]) -> Result<Command, Fault>
@@ -218,6 +240,9 @@ pub fn read_command(
     }
     if word == b"MAP".as_slice() {
         return read_map(alloc, len, behind);
+    }
+    if word == b"SET".as_slice() {
+        return read_set(alloc, len, behind);
     }
     if word == b"START".as_slice() {
         return read_start(alloc, len, behind);

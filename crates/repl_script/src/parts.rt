@@ -1,12 +1,12 @@
 // The parts of a line, from the front.
 ghost use Rattle.std.specs.Prelude.{◌≡◌, ◌≤◌, true, length, take, drop, IfOk};
 ghost use Rattle.script_defs.specs.Parts.{word_end, without_spaces};
-ghost use Rattle.command_defs.specs.Parts.{before_spaces, before_return, trimmed, taken, ended, word_form, is_name, name_form, pattern_form, number_form, node_form, file_form};
+ghost use Rattle.command_defs.specs.Parts.{before_spaces, before_return, trimmed, taken, ended, word_form, is_name, name_form, pattern_form, number_form, node_form, either_form, file_form, mode_form, way_form};
 ghost use Rattle.global_defs.specs.Pattern.{is_pattern};
 ghost use Rattle.repl_script.specs.Reads.{Reads};
 
 use super::fault::{Fault, bad};
-use super::forms::{is_lost, is_name, is_pattern, number_of};
+use super::forms::{is_first, is_name, is_pattern, number_of};
 use gvn_key::{Key, KeyError, NoMemory};
 use std::alloc::Global;
 
@@ -127,18 +127,44 @@ pub fn word<'a>(word: &[u8], len: u16, left: &'a [u8]) -> Result<Cut<'a>, Fault>
     Ok(cut)
 }
 
-/// The word for a file of lost transactions, or of broken ones, and whether it is for one of lost ones.
-pub fn file(len: u16, left: &[u8]) -> Result<(bool, &[u8]), Fault>
-    ensures { Reads (λ p. (p.0, p.1.now)) (taken file_form len left.now) result }
+/// One of two words, and whether it is the first.
+fn either<'a>(
+    first: &[u8],
+    second: &[u8],
+    len: u16,
+    left: &'a [u8],
+) -> Result<(bool, &'a [u8]), Fault>
+    ensures { Reads (λ p. (p.0, p.1.now)) (taken (either_form first.now second.now) len left.now) result }
 {
     let cut = cut_part(left);
     if left.is_empty() {
         return Err(bad(len, left));
     }
-    match is_lost(cut.part) {
+    match is_first(first, second, cut.part) {
         None => Err(bad(len, left)),
-        Some(lost) => Ok((lost, cut.behind)),
+        Some(is_first) => Ok((is_first, cut.behind)),
     }
+}
+
+/// The word for a file of lost transactions, or of broken ones, and whether it is for one of lost ones.
+pub fn file(len: u16, left: &[u8]) -> Result<(bool, &[u8]), Fault>
+    ensures { Reads (λ p. (p.0, p.1.now)) (taken file_form len left.now) result }
+{
+    either(b"LOST", b"BROKEN", len, left)
+}
+
+/// The word for a mode of a region's journal, and whether it has before-images.
+pub fn mode(len: u16, left: &[u8]) -> Result<(bool, &[u8]), Fault>
+    ensures { Reads (λ p. (p.0, p.1.now)) (taken mode_form len left.now) result }
+{
+    either(b"BEFORE", b"NOBEFORE", len, left)
+}
+
+/// The way in which a site is recovered, and whether that is forward.
+pub fn way(len: u16, left: &[u8]) -> Result<(bool, &[u8]), Fault>
+    ensures { Reads (λ p. (p.0, p.1.now)) (taken way_form len left.now) result }
+{
+    either(b"FORWARD", b"BACKWARD", len, left)
 }
 
 /// A number from the least to the greatest one.

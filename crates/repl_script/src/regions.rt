@@ -2,19 +2,23 @@
 ghost use Rattle.std.specs.Prelude.{◌≡◌, ◌≤◌, ◌++◌, ◌∷◌, [], true, length, map, IfOk, OnOk};
 ghost use Rattle.std.specs.List.{list_all, list_any, IsDistinct};
 ghost use Rattle.std.specs.Str.{bytes_eq};
-ghost use Rattle.command_defs.specs.Commands.{with_images, region_form, regions_behind, regions_reading};
+ghost use Rattle.command_defs.specs.Commands.{region_named, region_form, regions_behind, regions_reading};
 ghost use Rattle.command_defs.specs.Parts.{taken, is_name};
 ghost use Rattle.repl_script.specs.Commands.{region_value};
 ghost use Rattle.repl_script.specs.Reads.{Reads};
 
 use super::fault::{Fault, bad};
-use super::parts::{Cut, ended, name};
+use super::forms::is_name;
+use super::parts::{cut_part, ended};
 use gvn_key::{Bytes, NoMemory};
 use gvn_model::NamedModes;
 use std::alloc::Global;
 
 /// How many regions a site may have.
 const MOST_REGIONS: usize = 8;
+
+/// What stands behind the name of a region whose journal has no before-images.
+const NO_IMAGES: &[u8] = b":NOBEFORE";
 
 /// Whether one of these regions has that name.
 fn is_among(regions: &[(Bytes, bool)], name: &[u8]) -> bool
@@ -28,22 +32,53 @@ fn is_among(regions: &[(Bytes, bool)], name: &[u8]) -> bool
     false
 }
 
-/// A region's name that none of these has.
-fn region<'a>(before: &[(Bytes, bool)], len: u16, left: &'a [u8]) -> Result<Cut<'a>, Fault>
-    ensures { Reads (λ cut. (cut.part.now, cut.behind.now)) (taken (region_form (map region_value before.now)) len left.now) result }
+/// What a part names as a region: its name, and whether its journal has before-images.
+fn region_named(part: &[u8]) -> (&[u8], bool)
+    ensures { region_value (result.0.now, result.1) ≡ region_named part.now }
 {
-    let cut = name(len, left)?;
-    if is_among(before, cut.part) {
-        return Err(bad(len, left));
+    match part.strip_suffix(NO_IMAGES) {
+        Some(name) => (name, false),
+        None => (part, true),
     }
-    Ok(cut)
 }
 
-/// Adds a region whose journal has before-images.
-fn add_region(alloc: Global, regions: &mut NamedModes, name: &[u8]) -> Result<(), NoMemory>
-    ensures { OnOk result (map region_value regions.new ≡ map region_value regions.old ++ with_images name.now ∷ []) }
+/// A region that a part names, and what is left behind it.
+#[derive(Clone, Copy)]
+struct Named<'a> {
+    /// The region's name.
+    name: &'a [u8],
+    /// Whether its journal has before-images.
+    before: bool,
+    /// What is left behind the part and the spaces.
+    behind: &'a [u8],
+}
+
+/// A region with a name that none of these has.
+fn region<'a>(among: &[(Bytes, bool)], len: u16, left: &'a [u8]) -> Result<Named<'a>, Fault>
+    ensures { Reads (λ named. (region_value (named.name.now, named.before), named.behind.now)) (taken (region_form (map region_value among.now)) len left.now) result }
 {
-    regions.push((Bytes::of(alloc, name)?, true))?;
+    let cut = cut_part(left);
+    let (name, before) = region_named(cut.part);
+    if left.is_empty() || !is_name(name) || is_among(among, name) {
+        return Err(bad(len, left));
+    }
+    Ok(Named {
+        name,
+        before,
+        behind: cut.behind,
+    })
+}
+
+/// Adds a region.
+fn add_region(
+    alloc: Global,
+    regions: &mut NamedModes,
+    name: &[u8],
+    before: bool,
+) -> Result<(), NoMemory>
+    ensures { OnOk result (map region_value regions.new ≡ map region_value regions.old ++ region_value (name.now, before) ∷ []) }
+{
+    regions.push((Bytes::of(alloc, name)?, before))?;
     Ok(())
 }
 
@@ -61,9 +96,9 @@ fn more_regions(
         if rest.is_empty() {
             return Ok(regions);
         }
-        let cut = region(regions.as_slice(), len, rest)?;
-        add_region(alloc, &mut regions, cut.part)?;
-        rest = cut.behind;
+        let next = region(regions.as_slice(), len, rest)?;
+        add_region(alloc, &mut regions, next.name, next.before)?;
+        rest = next.behind;
     }
     ended(len, rest)?;
     Ok(regions)
@@ -77,8 +112,8 @@ pub fn read_regions(alloc: Global, len: u16, left: &[u8]) -> Result<NamedModes, 
     ensures few { IfOk result (λ regions. length (map region_value regions) ≤ 8) }
     ensures different { IfOk result (λ regions. IsDistinct bytes_eq (map (λ r. r.name) (map region_value regions))) }
 {
-    let first = name(len, left)?;
+    let first = region(&[], len, left)?;
     let mut regions = NamedModes::new(alloc);
-    add_region(alloc, &mut regions, first.part)?;
+    add_region(alloc, &mut regions, first.name, first.before)?;
     more_regions(alloc, regions, len, first.behind)
 }
