@@ -3,7 +3,7 @@ use Rattle.std.proofs.Common.{ℕ, ◌<◌, ◌≤◌, Bool, inl, inr, List, [],
 use Rattle.std.proofs.lemmas.Bool.{cases_Bool}
 use Rattle.std.specs.List.{AllByRecursion}
 use Rattle.global_defs.specs.Entry.{Reign}
-use Rattle.journal_defs.specs.Instance.{InstanceRecord, Reigned, Cut, Map, pattern_record, generation, regions}
+use Rattle.journal_defs.specs.Instance.{InstanceRecord, Reigned, Cut, Map, Mode, pattern_record, generation, regions}
 use Rattle.journal_defs.specs.Surviving.{reigns}
 use Rattle.journal_defs.specs.Stands.{StartsRise}
 use Rattle.journal_laws.proofs.Runs.{reigns-cut, reigns-more, starts_by}
@@ -52,3 +52,9 @@ map_more rs region star name some order = record {
 
 pub pattern_more : (rs : List InstanceRecord) (region : ℕ) (pattern : List ℕ) → region < length (regions rs) → AreInOrder rs → AreInOrder (rs ++ pattern_record region pattern ∷ [])
 pattern_more rs region pattern some order = map_more rs region (ends_in_star pattern) (stem pattern) (has_record rs region some) order
+
+pub mode_more : (rs : List InstanceRecord) (region : ℕ) (before : Bool) → region < length (regions rs) → AreInOrder rs → AreInOrder (rs ++ Mode region before ∷ [])
+mode_more rs region before some order = record {
+  ordered = ordered_behind rs (Mode region before) (has_record rs region some) order.ordered tt tt;
+  reigns = subst (StartsRise 0) (sym (reigns-same rs (Mode region before) (λ s. refl) refl)) order.reigns;
+}

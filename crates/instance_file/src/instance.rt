@@ -287,6 +287,36 @@ impl Instance {
         self.append(disk, added)
     }
 
+    /// Appends a MODE of a region of the site, which holds for its later generations, and puts it on the disk.
+    ///
+    /// # Errors
+    /// `Failed` only where the disk's count rose; a crash may then find the record all the same. `NoMemory`, after which all is
+    /// as before.
+    pub fn mode<D: Disk>(
+        &mut self,
+        disk: &mut D,
+        region: u8,
+        before: bool,
+    ) -> Result<(), InstanceError>
+        requires ready { IsReady (D.disk disk.old) self.old }
+        requires created { region < length (defs.regions self.old.records) }
+        requires form { region < 8 }
+        ensures ready { OnOk result (IsReady (D.disk disk.new) self.new) }
+        ensures records { OnOk result (self.new.records ≡ self.old.records ++ defs.Mode region before ∷ []) }
+        ensures state { OnOk result ((rs : List defs.InstanceRecord) → HasRecords (D.disk disk.old) self.old rs → HasRecords (D.disk disk.new) self.new (rs ++ defs.Mode region before ∷ [])) }
+        ensures any_moment { (rs : List defs.InstanceRecord) → HasRecords (D.disk disk.old) self.old rs → AtEachMoment (D.disk disk.old) (D.disk disk.new) (OnlyOn (D.disk disk.old) INSTANCE (StandsWith rs (defs.Mode region before))) }
+        ensures kept { OnErr result (self.new.records ≡ self.old.records) }
+        ensures no_memory_ready { IsErrOf result InstanceError.NoMemory → IsReady (D.disk disk.new) self.new }
+        ensures no_memory_state { IsErrOf result InstanceError.NoMemory → (rs : List defs.InstanceRecord) → HasRecords (D.disk disk.old) self.old rs → HasRecords (D.disk disk.new) self.new rs }
+        ensures no_memory_moment { IsErrOf result InstanceError.NoMemory → AtEachMoment (D.disk disk.old) (D.disk disk.new) (Image (D.disk disk.old)) }
+        ensures frame { OthersStay (Only INSTANCE) (D.disk disk.old) (D.disk disk.new) }
+        ensures later { (D.disk disk.old).faults ≤ (D.disk disk.new).faults }
+        ensures cause { IsErrOf result InstanceError.Failed → Rose (D.disk disk.old).faults (D.disk disk.new).faults }
+        ensures outside { (offset : ℕ) → IsErrOf result (InstanceError.NotARecord offset) → ⊥ }
+    {
+        self.append(disk, InstanceRecord::Mode { region, before })
+    }
+
     /// The reigns that no later CUT dropped.
     pub fn history(&self) -> &Reigns
         ensures { result.now ≡ surviving.reigns self.now.records }

@@ -108,8 +108,11 @@ fn files_taken_up(rt: HostRuntime) {
 /// MAP of the names that begin with AB to region 0, behind its open gate.
 const MAP: &[u8] = b"\x01\0\0\0\x06\x04\0\x01\x02AB";
 
-/// So many calls of a disk put four records on it.
-const ALL: u64 = 20;
+/// MODE of region 0, NOBEFORE, behind its open gate.
+const MODE: &[u8] = b"\x01\0\0\0\x03\x05\0\0";
+
+/// So many calls of a disk put five records on it.
+const ALL: u64 = 24;
 
 /// The instance file of A, new, with one region R whose blocks are kept as they were.
 fn make<D: Disk>(alloc: Global, disk: &mut D) -> Result<Instance, InstanceError>
@@ -122,8 +125,8 @@ fn make<D: Disk>(alloc: Global, disk: &mut D) -> Result<Instance, InstanceError>
     Instance::create(alloc, disk, &name, &regions)
 }
 
-/// Makes the file and appends a REIGN, a CUT that drops it and a MAP. So many calls succeed, and `done` counts the records that
-/// were put on the disk.
+/// Makes the file and appends a REIGN, a CUT that drops it, a MAP and a MODE. So many calls succeed, and `done` counts the
+/// records that were put on the disk.
 fn write_records<D: Disk>(
     alloc: Global,
     disk: &mut D,
@@ -145,20 +148,22 @@ fn write_records<D: Disk>(
     *done = 3;
     site.map(disk, 0, b"AB*")?;
     *done = 4;
+    site.mode(disk, 0, false)?;
+    *done = 5;
     Ok(())
 }
 
-/// Whether the instance file has the bytes of the four records and a closed gate.
+/// Whether the instance file has the bytes of the five records and a closed gate.
 fn has_all<D: Disk>(rt: &impl Abort, alloc: Global, disk: &mut D) -> bool {
     let mut file = Bytes::new(alloc);
-    for piece in [CREATE, REIGN, CUT, MAP] {
+    for piece in [CREATE, REIGN, CUT, MAP, MODE] {
         file.push_all(piece).expect(rt, "memory");
     }
     file.push(0).expect(rt, "memory");
-    if disk.len(0).expect(rt, "a length") != 63 {
+    if disk.len(0).expect(rt, "a length") != 71 {
         return false;
     }
-    let mut read = [0; 63];
+    let mut read = [0; 71];
     disk.read_at(0, 0, &mut read).expect(rt, "bytes");
     read.as_slice() == file.as_slice()
 }
