@@ -20,6 +20,7 @@ site_file (sites.NotAFile f o) file offset is =
     λ i. sites.NotAFile (one i) (two i)
 site_file (sites.Failed f) file offset is = absurd (cc is)
 site_file sites.GenLimit file offset is = absurd (cc is)
+site_file (sites.NeedForward r) file offset is = absurd (cc is)
 site_file sites.NoMemory file offset is = absurd (cc is)
 site_file (sites.Stopped f) file offset is = absurd (cc is)
 site_file (sites.Full n) file offset is = absurd (cc is)

@@ -4,7 +4,8 @@ mod Closed
 mod Cuts
 mod Errors
 mod Founded
-mod Imaged
+mod Moded
+mod Modes
 mod Prepared
 mod Recovered
 mod Rolls

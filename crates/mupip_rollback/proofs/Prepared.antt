@@ -32,7 +32,7 @@ use Rattle.site_store.proofs.Loaded.{length_values}
 use Rattle.mupip_rollback.specs.declared.error.RollError.{RollError}
 use Rattle.mupip_rollback.specs.declared.preparing.Prepared.{Prepared}
 use Rattle.mupip_rollback.specs.Preparing.{IsPrepared, KeepsFirst, cut_records}
-use Rattle.mupip_rollback.specs.Rolling.{NoneIsWithout}
+use Rattle.site_store.specs.Needing.{NoneIsWithout}
 use Rattle.mupip_rollback.proofs.Founded as founded
 
 -- the first entries, by their numbers
@@ -49,14 +49,14 @@ enumerate_first n (suc t) (x ∷ xs) = ap (λ l. (n, x) ∷ l) (enumerate_first 
 pub first_numbered : (es : List code.Entry) (seq : Sequence) (t : ℕ) → map numbered es ≡ enumerate_from 1 seq → map numbered (take t es) ≡ enumerate_from 1 (take t seq)
 first_numbered es seq t are = map_take numbered es t ∙ ap (take t) are ∙ enumerate_first 1 t seq
 
--- another CUT
-name_cut : (rs : List InstanceRecord) (x : InstanceRecord) → 0 < length rs → site_name (rs ++ x ∷ []) ≡ site_name rs
-name_cut [] x some = absurd (omega (arith, some))
-name_cut (Cut n h ∷ rs) x some = refl
-name_cut (Create name qs ∷ rs) x some = refl
-name_cut (Reigned r ∷ rs) x some = refl
-name_cut (Map region star name ∷ rs) x some = refl
-name_cut (Mode region before ∷ rs) x some = refl
+-- another record
+pub name_more : (rs : List InstanceRecord) (x : InstanceRecord) → 0 < length rs → site_name (rs ++ x ∷ []) ≡ site_name rs
+name_more [] x some = absurd (omega (arith, some))
+name_more (Cut n h ∷ rs) x some = refl
+name_more (Create name qs ∷ rs) x some = refl
+name_more (Reigned r ∷ rs) x some = refl
+name_more (Map region star name ∷ rs) x some = refl
+name_more (Mode region before ∷ rs) x some = refl
 
 longer : (rs : List InstanceRecord) (x : InstanceRecord) → 0 < length (rs ++ x ∷ [])
 longer [] x = omega arith
@@ -70,7 +70,7 @@ one_more_cut rs n m k kept some name named directory newest is =
     let same : regions (cut_records qs m) ≡ regions qs = drawing.same_regions qs m (generation qs + 1) (subst (λ (l : List NamedMode). 1 ≤ length l) (sym here) some) in
     let mapping : mapping_of qs ≡ mapping_of (cut_records qs m) = (let back = sym same in let maps : patterns qs ≡ patterns (cut_records qs m) = sym (patterns_same qs (next_cut qs m) refl) in λ i. record { regions = length (back i); patterns = maps i }) in
     record {
-      name = name ∙ is.name ∙ sym (name_cut qs (next_cut qs m) (longer rs (next_cut rs n)));
+      name = name ∙ is.name ∙ sym (name_more qs (next_cut qs m) (longer rs (next_cut rs n)));
       regions = ap (λ rows. map region_value rows.items) named ∙ is.regions ∙ sym same;
       directory = directory ∙ is.directory ∙ mapping;
       generation = newest ∙ ap (λ (h : ℕ). h + 1) is.generation ∙ sym (drawing.generation-cut qs m (generation qs + 1) (omega arith));

@@ -10,6 +10,7 @@ use Rattle.mupip_rollback.specs.declared.error.RollError.TheVariants as error
 abbrev pub IsOfOpening : SiteError → Type 0
 IsOfOpening (sites.Failed fault) = Unit {0}
 IsOfOpening sites.GenLimit = Unit {0}
+IsOfOpening (sites.NeedForward region) = Unit {0}
 IsOfOpening (sites.NotAFile file offset) = Unit {0}
 IsOfOpening sites.NoMemory = Unit {0}
 IsOfOpening (sites.Stopped fault) = ⊥
@@ -21,6 +22,7 @@ IsOfOpening sites.ReignLimit = ⊥
 abbrev pub site_error : SiteError → RollError
 site_error (sites.Failed fault) = error.Failed fault
 site_error sites.GenLimit = error.GenLimit
+site_error (sites.NeedForward region) = error.NeedForward region
 site_error (sites.NotAFile file offset) = error.NotAFile file offset
 site_error sites.NoMemory = error.NoMemory
 site_error (sites.Stopped fault) = error.NoMemory

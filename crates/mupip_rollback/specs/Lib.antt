@@ -2,3 +2,4 @@ pub mod Cutting
 pub mod Errors
 pub mod Preparing
 pub mod Rolling
+pub mod Setting

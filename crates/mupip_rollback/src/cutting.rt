@@ -46,6 +46,7 @@ pub(crate) fn set_aside<D: Disk>(
     ensures frame { OthersStay (AreSetAside log.records) (D.disk disk.old) (D.disk disk.new) }
     ensures limit { IsErrOf result RollError.GenLimit → ⊥ }
     ensures without { (region generation : ℕ) → IsErrOf result (RollError.NoBeforeImage region generation) → ⊥ }
+    ensures no_forward { (region : ℕ) → IsErrOf result (RollError.NeedForward region) → ⊥ }
     ensures outside { (file offset : ℕ) → IsErrOf result (RollError.NotAFile file offset) → IfSome (D.disk disk.old).content (λ _. ⊥) }
     ensures later { (D.disk disk.old).faults ≤ (D.disk disk.new).faults }
     ensures count { (fault : ℕ) → IsErrOf result (RollError.Failed fault) → fault ≡ (D.disk disk.new).faults }
@@ -95,6 +96,7 @@ pub(crate) fn begin_kept<D: Disk>(
     ensures any_moment { IfSome (D.disk disk.old).content (λ _. AtEachMoment (D.disk disk.old) (D.disk disk.new) (From (Image (D.disk disk.old)) (MayDraw instance.records (length kept.entries.items) [] (last_of kept.last_began.items)))) }
     ensures limit { IsErrOf result RollError.GenLimit → ⊥ }
     ensures without { (region generation : ℕ) → IsErrOf result (RollError.NoBeforeImage region generation) → ⊥ }
+    ensures no_forward { (region : ℕ) → IsErrOf result (RollError.NeedForward region) → ⊥ }
     ensures outside { (file offset : ℕ) → IsErrOf result (RollError.NotAFile file offset) → ⊥ }
     ensures still_told { IsSome (D.disk disk.old).content → IsSome (D.disk disk.new).content }
     ensures simulated { (D.disk disk.new).simulated ≡ (D.disk disk.old).simulated }

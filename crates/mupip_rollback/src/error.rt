@@ -16,6 +16,9 @@ pub enum RollError {
     /// The region of that number, from 0 on, needs forward recovery for what is to stay, first for that generation, which keeps no images.
     #[error("region {region} keeps no images in generation {generation}")]
     NoBeforeImage { region: u8, generation: u32 },
+    /// The region of that number, from 0 on, is the first that needs forward recovery for all entries.
+    #[error("region {region} needs forward recovery")]
+    NeedForward { region: u8 },
     /// There is no generation left for the site's journals.
     #[error("there is no generation left")]
     GenLimit,
@@ -46,6 +49,7 @@ pub(crate) fn in_site(error: SiteError) -> RollError
     match error {
         SiteError::Failed { fault } => RollError::Failed { fault },
         SiteError::GenLimit => RollError::GenLimit,
+        SiteError::NeedForward { region } => RollError::NeedForward { region },
         SiteError::NotAFile { file, offset } => RollError::NotAFile { file, offset },
         SiteError::NoMemory => RollError::NoMemory,
         SiteError::Stopped { .. }

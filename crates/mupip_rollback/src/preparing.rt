@@ -15,9 +15,9 @@ ghost use Rattle.site_defs.specs.Outside.{IsOutsideSite, IsBegunAhead};
 ghost use Rattle.site_defs.specs.OutsideBlocks.{IsOutsideRollback};
 ghost use Rattle.site_defs.specs.Stands.{IsSite, HasLeft};
 ghost use Rattle.site_files.specs.Loading.{AreUnbegun};
+ghost use Rattle.site_store.specs.Needing.{IsFirstWithout, NoneIsWithout};
 ghost use Rattle.site_store.specs.Opening.{EachStands};
 ghost use Rattle.site_store.specs.Standing.{HasFound, WasFound, IsFoundAs, IsOpenFor, found_records, found_entries};
-ghost use Rattle.mupip_rollback.specs.Rolling.{IsFirstWithout, NoneIsWithout};
 ghost use Rattle.mupip_rollback.specs.Preparing.{IsPrepared, KeepsFirst};
 
 use super::error::{RollError, in_files, in_site};
@@ -25,11 +25,10 @@ use gvn_key::{Bytes, NoMemory};
 use gvn_model::Entry;
 use instance_file::InstanceLog;
 use jnl_extract::{extract_entry, write_header};
-use region_opening::first_without_images;
 use repl_disk::Disk;
 use site_files::{created_name, see_ahead};
 use site_regions::Regions;
-use site_store::{FoundFiles, Layout, StandingSite, find_files, stand};
+use site_store::{FoundFiles, Layout, StandingSite, find_files, first_needing, stand};
 use std::alloc::Global;
 
 /// What stays of a site in memory.
@@ -70,6 +69,7 @@ fn find<D: Disk>(alloc: Global, disk: &mut D) -> Result<FoundFiles, RollError>
     ensures place { (file offset : ℕ) → IsErrOf result (RollError.NotAFile file offset) → IfSome (D.disk disk.old).content (λ files. IsOutsideSite files file offset ⊎ IsBegunAhead files file offset) }
     ensures outside { (file offset : ℕ) → IsErrOf result (RollError.NotAFile file offset) → IfSome (D.disk disk.old).content (λ files. (c : Contents) → IsSite files c → ⊥) }
     ensures without { (region generation : ℕ) → IsErrOf result (RollError.NoBeforeImage region generation) → ⊥ }
+    ensures no_forward { (region : ℕ) → IsErrOf result (RollError.NeedForward region) → ⊥ }
     ensures content { (D.disk disk.new).content ≡ (D.disk disk.old).content }
     ensures any_moment { AtEachMoment (D.disk disk.old) (D.disk disk.new) (Image (D.disk disk.old)) }
     ensures simulated { (D.disk disk.new).simulated ≡ (D.disk disk.old).simulated }
@@ -95,17 +95,12 @@ fn check_images(alloc: Global, found: &FoundFiles, target: u64) -> Result<(), Ro
     ensures first { (region generation : ℕ) → IsErrOf result (RollError.NoBeforeImage region generation) → IsFirstWithout (found_records found.now) target region generation }
     ensures causes { OnErr result (((region : ℕ) × (generation : ℕ) × IsErrOf result (RollError.NoBeforeImage region generation)) ⊎ IsErrOf result RollError.NoMemory) }
 {
-    let records = &found.read.log.records;
-    let journals = found.read.journals.as_slice();
-    // a list for each region, and no more
-    let regions = usize::from(found.read.directory.regions()).min(journals.len());
-    match first_without_images(alloc, records, &journals[..regions], target) {
-        Ok(None) => Ok(()),
-        Ok(Some(needing)) => Err(RollError::NoBeforeImage {
+    match first_needing(alloc, found, target)? {
+        None => Ok(()),
+        Some(needing) => Err(RollError::NoBeforeImage {
             region: needing.region,
             generation: needing.generation,
         }),
-        Err(NoMemory) => Err(RollError::NoMemory),
     }
 }
 
@@ -186,6 +181,7 @@ fn open_first<D: Disk>(
     ensures limit { IsErrOf result RollError.GenLimit → ⊥ }
     ensures first { (region generation : ℕ) → IsErrOf result (RollError.NoBeforeImage region generation) → IsFirstWithout (found_records found) target region generation }
     ensures none { OnOk result (NoneIsWithout (found_records found) target) }
+    ensures no_forward { (region : ℕ) → IsErrOf result (RollError.NeedForward region) → ⊥ }
     ensures reads { Reads (D.disk disk.old) (D.disk disk.new) }
     ensures later { (D.disk disk.old).faults ≤ (D.disk disk.new).faults }
     ensures count { (fault : ℕ) → IsErrOf result (RollError.Failed fault) → fault ≡ (D.disk disk.new).faults }
@@ -212,6 +208,7 @@ pub(crate) fn prepare<D: Disk>(alloc: Global, disk: &mut D, to: u64) -> Result<P
     ensures limit { IsErrOf result RollError.GenLimit → IfSome (D.disk disk.old).content (λ files. (rs : List defs.InstanceRecord) → IsInstance (files INSTANCE) rs → 65534 ≤ generation rs) }
     ensures limit_told { IsErrOf result RollError.GenLimit → IfSome (D.disk disk.old).content (λ files. (rs : List defs.InstanceRecord) × IsInstance (files INSTANCE) rs × (65534 ≤ generation rs)) }
     ensures without { (region generation : ℕ) → IsErrOf result (RollError.NoBeforeImage region generation) → IfSome (D.disk disk.old).content (λ files. (u : Records) × (seq : Sequence) × AreRecords files u × IsSequence u seq × IsFirstWithout u (min to (length seq)) region generation) }
+    ensures no_forward { (region : ℕ) → IsErrOf result (RollError.NeedForward region) → ⊥ }
     ensures place { (file offset : ℕ) → IsErrOf result (RollError.NotAFile file offset) → IfSome (D.disk disk.old).content (λ files. IsOutsideRollback to files file offset) }
     ensures outside { (file offset : ℕ) → IsErrOf result (RollError.NotAFile file offset) → IfSome (D.disk disk.old).content (λ files. (c : Contents) → IsSite files c → ⊥) }
     ensures content { (D.disk disk.new).content ≡ (D.disk disk.old).content }

@@ -11,10 +11,11 @@ ghost use Rattle.site_defs.specs.Contents.{Contents, Leftover};
 ghost use Rattle.site_defs.specs.OutsideBlocks.{IsOutsideRollback};
 ghost use Rattle.site_defs.specs.Rolling.{rolled, MayRollBack};
 ghost use Rattle.site_defs.specs.Stands.{IsSite, HasLeft};
+ghost use Rattle.site_store.specs.Needing.{IsFirstWithout, NoneIsWithout};
 ghost use Rattle.site_store.specs.Opening.{EachStands};
 ghost use Rattle.site_store.specs.Refusing.{IsUnwritten};
 ghost use Rattle.mupip_rollback.specs.Preparing.{IsPrepared};
-ghost use Rattle.mupip_rollback.specs.Rolling.{StandsFor, MayStandRolled, MayBeRolledBack, MayBeRolledBackWith, IsFirstWithout, NoneIsWithout};
+ghost use Rattle.mupip_rollback.specs.Rolling.{StandsFor, MayStandRolled, MayBeRolledBack, MayBeRolledBackWith};
 
 use super::cutting::{begin_kept, set_aside};
 use super::error::{RollError, in_site};
@@ -39,6 +40,7 @@ fn roll<D: Disk>(alloc: Global, disk: &mut D, prepared: Prepared) -> Result<(), 
     ensures any_moment { IfSome (D.disk disk.old).content (λ _. (c : Contents) → ((f : Files) → Image (D.disk disk.old) f → IsSite f c) → AtEachMoment (D.disk disk.old) (D.disk disk.new) (MayStandRolled (length prepared.kept.entries.items) (record { contents = c; broken = prepared.broken }))) }
     ensures limit { IsErrOf result RollError.GenLimit → ⊥ }
     ensures without { (region generation : ℕ) → IsErrOf result (RollError.NoBeforeImage region generation) → ⊥ }
+    ensures no_forward { (region : ℕ) → IsErrOf result (RollError.NeedForward region) → ⊥ }
     ensures outside { (file offset : ℕ) → IsErrOf result (RollError.NotAFile file offset) → IfSome (D.disk disk.old).content (λ _. ⊥) }
     ensures still_told { IsSome (D.disk disk.old).content → IsSome (D.disk disk.new).content }
     ensures simulated { (D.disk disk.new).simulated ≡ (D.disk disk.old).simulated }
@@ -70,7 +72,7 @@ fn roll<D: Disk>(alloc: Global, disk: &mut D, prepared: Prepared) -> Result<(), 
 /// `GenLimit` exactly where 65,534 generations were drawn; `NoBeforeImage` exactly where a region needs forward recovery for the entries
 /// that are to stay, with the first such region and its first generation without images; `NotAFile` with the first file that is outside
 /// the formats and the place of what can't stand there, or with file 0 and offset 0 where no site stands there. Nothing was written then.
-/// `Failed` only where the disk's count rose; a crash then finds all entries, or those that stay. `NoMemory`.
+/// `Failed` only where the disk's count rose; a crash then finds all entries, or those that stay. `NoMemory`. It never answers `NeedForward`.
 pub fn rollback<D: Disk>(alloc: Global, disk: &mut D, to: u64) -> Result<Rolled, RollError>
     ensures read { IfOk result (λ rolled. (c : Contents) × (rolled.kept ≡ min to (length c.sequence)) × (rolled.lost ≡ generation c.instance + 1)) }
     ensures told { IfOk result (λ _. IfSome (D.disk disk.old).content (λ files. (c : Contents) (left : Leftover) → IsSite files c → HasLeft files c left → EachStands (D.disk disk.old) → StandsFor (D.disk disk.new) (rolled (min to (length c.sequence)) left.broken c))) }
@@ -81,6 +83,7 @@ pub fn rollback<D: Disk>(alloc: Global, disk: &mut D, to: u64) -> Result<Rolled,
     ensures unwritten { IsErrOf result RollError.GenLimit → IsUnwritten (D.disk disk.old) (D.disk disk.new) }
     ensures without { (region generation : ℕ) → IsErrOf result (RollError.NoBeforeImage region generation) → IfSome (D.disk disk.old).content (λ files. (u : Records) × (seq : Sequence) × AreRecords files u × IsSequence u seq × IsFirstWithout u (min to (length seq)) region generation) }
     ensures untouched { (region generation : ℕ) → IsErrOf result (RollError.NoBeforeImage region generation) → IsUnwritten (D.disk disk.old) (D.disk disk.new) }
+    ensures no_forward { (region : ℕ) → IsErrOf result (RollError.NeedForward region) → ⊥ }
     ensures place { (file offset : ℕ) → IsErrOf result (RollError.NotAFile file offset) → IfSome (D.disk disk.old).content (λ files. IsOutsideRollback to files file offset) }
     ensures refused { (file offset : ℕ) → IsErrOf result (RollError.NotAFile file offset) → IfSome (D.disk disk.old).content (λ _. IsUnwritten (D.disk disk.old) (D.disk disk.new)) }
     ensures outside { (file offset : ℕ) → IsErrOf result (RollError.NotAFile file offset) → IfSome (D.disk disk.old).content (λ files. (c : Contents) → IsSite files c → ⊥) }

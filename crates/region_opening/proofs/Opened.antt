@@ -5,6 +5,7 @@ use Rattle.std.specs.List.{AllByRecursion}
 use Rattle.std.specs.FinMap as globals
 use Rattle.std.proofs.lemmas.Bool.Decides.{nat_tests}
 use Rattle.std.proofs.lemmas.List.{length-replicate, take-take}
+use Rattle.std.proofs.Math.Seq.{take-length}
 use Rattle.disk_defs.specs.Disk.{Files}
 use Rattle.global_defs.specs.Key.{Key, key_cmp}
 use Rattle.global_defs.specs.Encoded.{encoded}
@@ -94,19 +95,6 @@ module _ (instance : List InstanceRecord) (t : ℕ) (seq : Sequence) (journal : 
   abbrev pub Behind : Standing → Standing → Type 0
   Behind s m = m.globals ≡ fold apply s.globals (updates_in (patterns instance) r (updates_of (drop e.number (take t seq))))
 
-  pub own : (s m : Standing) → s.file ≡ database_file r → are_home (patterns instance) r s.globals ≡ true → (e.number ≡ 0 → s.globals ≡ globals.empty)
-      → IsChanged s m → Behind s m → IsOwn (patterns instance) t r m
-  own s m file home none changed made = record {
-    file = changed.file ∙ file;
-    home = ap (are_home (patterns instance) r) made ∙ stay_home (patterns instance) r s.globals (updates_of (drop e.number (take t seq))) home;
-    none = λ at_zero.
-        made ∙ ap (λ (us : List Update). fold apply s.globals (updates_in (patterns instance) r us)) (none_behind e.number t seq at_zero)
-        ∙ none (omega (arith, within, at_zero));
-  }
-
-  held_from : (s : Standing) (files : Files) (c : Chosen) → e ≡ c → HoldsRegion e (files (database_file r)) s → HoldsRegion c (files (database_file r)) s
-  held_from s files c is h = subst (λ (x : Chosen). HoldsRegion x (files (database_file r)) s) is h
-
   -- from the part of the entries up to the place
   part_made : (s m : Standing) → s.globals ≡ region_state (patterns instance) r (take e.number seq) → Behind s m → m.globals ≡ region_state (patterns instance) r (take t seq)
   part_made s m part made =
@@ -114,6 +102,26 @@ module _ (instance : List InstanceRecord) (t : ℕ) (seq : Sequence) (journal : 
       ap (region_state (patterns instance) r) (sym (take-take e.number t seq within)) in
       made ∙ ap (λ (g : Globals). fold apply g (updates_in (patterns instance) r (updates_of (drop e.number (take t seq))))) (part ∙ same)
       ∙ sym (parts.replay (patterns instance) r e.number (take t seq))
+
+  pub own : (s m : Standing) → s.file ≡ database_file r → are_home (patterns instance) r s.globals ≡ true → (e.number ≡ 0 → s.globals ≡ globals.empty)
+      → IsChanged s m → Behind s m → IsOwn (patterns instance) t seq journal r m
+  own s m file home none changed made = record {
+    file = changed.file ∙ file;
+    home = ap (are_home (patterns instance) r) made ∙ stay_home (patterns instance) r s.globals (updates_of (drop e.number (take t seq))) home;
+    none = λ at_zero.
+        made ∙ ap (λ (us : List Update). fold apply s.globals (updates_in (patterns instance) r us)) (none_behind e.number t seq at_zero)
+        ∙ none (omega (arith, within, at_zero));
+    anew = λ no_records.
+        let first : e.number ≡ 0 = begins no_records start in
+        part_made s m (none first ∙ sym (parts.begins (patterns instance) r) ∙ ap (λ (n : ℕ). region_state (patterns instance) r (take n seq)) (sym first)) made;
+  }
+    where
+      begins : journal ≡ [] → IsStart instance t journal e → e.number ≡ 0
+      begins no_records (Anew forward is) = ap (λ (x : Chosen). x.number) is
+      begins no_records (GoesBack back is) = ap (λ (x : Chosen). x.number) is ∙ ap (λ (ps : List Placed). (chosen instance t ps).number) no_records
+
+  held_from : (s : Standing) (files : Files) (c : Chosen) → e ≡ c → HoldsRegion e (files (database_file r)) s → HoldsRegion c (files (database_file r)) s
+  held_from s files c is h = subst (λ (x : Chosen). HoldsRegion x (files (database_file r)) s) is h
 
   abbrev Below : Files → ℕ → Option (List ℕ)
   Below files = image_state e (block_of (files (database_file r)))
@@ -180,8 +188,8 @@ have_parts ps rs homes =
     each : (i : ℕ) (g : Globals) → slice_get (map (λ (t : Standing). t.globals) rs) i ≡ Some g → are_home ps i g ≡ true
     each i g is = let x = of_mapped (λ (t : Standing). t.globals) rs i g is in subst (λ (h : Globals). are_home ps i h ≡ true) x.2 (homes i x.0 x.1)
 
-pub empty_parts : (ps : List Pattern) (rs : List Standing) (t : ℕ) → t ≡ 0 → ((r : ℕ) (s : Standing) → slice_get rs r ≡ Some s → IsOwn ps t r s) → ArePartsOf ps rs []
-empty_parts ps rs t at_zero own = are_parts ps rs [] (λ r s here. (own r s here).none at_zero ∙ sym (parts.begins ps r))
+pub empty_parts : (ps : List Pattern) (rs : List Standing) (t : ℕ) (seq : Sequence) (journal : ℕ → List Placed) → t ≡ 0 → ((r : ℕ) (s : Standing) → slice_get rs r ≡ Some s → IsOwn ps t seq (journal r) r s) → ArePartsOf ps rs []
+empty_parts ps rs t seq journal at_zero own = are_parts ps rs [] (λ r s here. (own r s here).none at_zero ∙ sym (parts.begins ps r))
 
 module _ (files : Files) (records : Records) (t : ℕ) (seq : Sequence) where
   pub sound_parts : (rs : List Standing) → length rs ≡ length (regions records.instance) → ((r : ℕ) (s : Standing) → slice_get rs r ≡ Some s → IsOpened records.instance t seq (records.journal r) r s files)
@@ -246,11 +254,11 @@ module _ (o : Option Files) (instance : List InstanceRecord) (t : ℕ) (seq : Se
     | inr last ↦ subst (λ (q : ℕ). IsOpened instance t seq (journal q) q m files) (sym (last.0 ∙ long)) (subst (λ (x : Standing). IsOpened instance t seq (journal n) n x files) (sym last.1) is)
   ])
 
-  pub own_more : (ps : List Pattern) (rs : List Standing) (s : Standing) (n : ℕ) → length rs ≡ n → ((r : ℕ) (m : Standing) → slice_get rs r ≡ Some m → IsOwn ps t r m) → IsOwn ps t n s
-      → (r : ℕ) (m : Standing) → slice_get (rs ++ s ∷ []) r ≡ Some m → IsOwn ps t r m
+  pub own_more : (ps : List Pattern) (rs : List Standing) (s : Standing) (n : ℕ) → length rs ≡ n → ((r : ℕ) (m : Standing) → slice_get rs r ≡ Some m → IsOwn ps t seq (journal r) r m) → IsOwn ps t seq (journal n) n s
+      → (r : ℕ) (m : Standing) → slice_get (rs ++ s ∷ []) r ≡ Some m → IsOwn ps t seq (journal r) r m
   own_more ps rs s n long are is r m here = elim (of_more rs s r m here) [
     | inl low ↦ are r m low
-    | inr last ↦ subst (λ (q : ℕ). IsOwn ps t q m) (sym (last.0 ∙ long)) (subst (λ (x : Standing). IsOwn ps t n x) (sym last.1) is)
+    | inr last ↦ subst (λ (q : ℕ). IsOwn ps t seq (journal q) q m) (sym (last.0 ∙ long)) (subst (λ (x : Standing). IsOwn ps t seq (journal n) n x) (sym last.1) is)
   ]
 
   pub first_refused : (rs : List Standing) (n count f offset : ℕ) → length rs ≡ n → n < count → IfSome o (AreOpened rs) → IfSome o (IsRefused instance t seq (journal n) n f offset) → IfSome o (AreRefused instance t seq journal count f offset)
@@ -296,7 +304,7 @@ module _ (o : Option Files) (instance : List InstanceRecord) (t : ℕ) (seq : Se
   made_so s m made = subst (λ (qs : List Pattern). m.globals ≡ fold apply s.globals (updates_in qs r (updates_of (drop e.number (take t seq))))) are made
 
   pub region_own : (s m : Standing) → s.file ≡ database_file r → are_home ps r s.globals ≡ true → (e.number ≡ 0 → s.globals ≡ globals.empty)
-      → IsChanged s m → Replayed s m → IsOwn (patterns instance) t r m
+      → IsChanged s m → Replayed s m → IsOwn (patterns instance) t seq journal r m
   region_own s m file home none changed made =
       own instance t seq journal r e start within forms s m file (subst (λ (qs : List Pattern). are_home qs r s.globals ≡ true) are home) none changed (made_so s m made)
 
@@ -316,6 +324,29 @@ module _ (o : Option Files) (instance : List InstanceRecord) (t : ℕ) (seq : Se
       refused instance t seq journal r e start within forms files f offset at.1 at.0 at.2
       (subst (λ (qs : List Pattern). AreOutside (image_state e (block_of (files (database_file r)))) (region_state qs r (take e.number seq)) at.1) are at.3))
 
+-- regions that were opened with no record of any journal have their parts of the state of all entries
+pub anew_parts : (ps : List Pattern) (rs : List Standing) (t : ℕ) (seq : Sequence) (journal : ℕ → List Placed) → t ≡ length seq → ((r : ℕ) → journal r ≡ []) → ((r : ℕ) (s : Standing) → slice_get rs r ≡ Some s → IsOwn ps t seq (journal r) r s) → ArePartsOf ps rs seq
+anew_parts ps rs t seq journal all none own =
+    are_parts ps rs seq (λ r s here. (own r s here).anew (none r) ∙ ap (λ (n : ℕ). region_state ps r (take n seq)) all ∙ ap (region_state ps r) (take-length seq))
+
+-- and none of them is refused
+pub anew_refused : (instance : List InstanceRecord) (t : ℕ) (seq : Sequence) (journal : ℕ → List Placed) (n f offset : ℕ) (files : Files) → ((r : ℕ) → journal r ≡ []) → AreRefused instance t seq journal n f offset files → ⊥
+anew_refused instance t seq journal n f offset files none all =
+    let refused : IsRefused instance t seq [] all.region f offset files = subst (λ (ps : List Placed). IsRefused instance t seq ps all.region f offset files) (none all.region) all.refused in
+    let blocks = block_of (files (database_file all.region)) in
+    not_outside (image_state (beginning []) blocks) nothing refused.block no_keys (begins_empty blocks)
+    (subst (λ (g : Globals). AreOutside (image_state (beginning []) blocks) g refused.block) (parts.begins (patterns instance) all.region) refused.outside)
+
+-- the region of a number among the same ones
+here_in : (rs ms : List Standing) → ms ≡ rs → (r : ℕ) → r < length ms → slice_get rs r ≡ Some (slice_index_or ms r no_region)
+here_in rs ms same r low = subst (λ (xs : List Standing). slice_get xs r ≡ Some (slice_index_or ms r no_region)) same (at_place ms r no_region low)
+
+-- each is on the blocks of some epoch and of its file
+pub held_told : (o : Option Files) (instance : List InstanceRecord) (t : ℕ) (seq : Sequence) (journal : ℕ → List Placed) (rs ms : List Standing) → ms ≡ rs → IfSome o (AreOpened o instance t seq journal rs)
+    → IfSome o (λ files. (r : ℕ) → r < length ms → IsHeld (slice_index_or ms r no_region) files)
+held_told o instance t seq journal rs ms same told = weaker_told o (AreOpened o instance t seq journal rs) (λ files. (r : ℕ) → r < length ms → IsHeld (slice_index_or ms r no_region) files) told
+    (λ files opens r low. (opens r (slice_index_or ms r no_region) (here_in rs ms same r low)).held)
+
 -- what is told of all regions, of which these are the same
 module _ (o : Option Files) (instance : List InstanceRecord) (t : ℕ) (seq : Sequence) (journal : ℕ → List Placed) (ps : List Pattern) (are : ps ≡ patterns instance) (rs ms : List Standing) (same : ms ≡ rs)
     (counted : length rs ≡ length (regions instance)) (told : IfSome o (AreOpened o instance t seq journal rs)) where
@@ -333,21 +364,14 @@ module _ (o : Option Files) (instance : List InstanceRecord) (t : ℕ) (seq : Se
   state_told within all joins = weaker_told o (AreOpened o instance t seq journal rs) (λ files. IsSoundImage files all_records seq → all ≡ state (take t seq)) told
       (λ files opens image. joins (take t seq) (sound_at within files opens image))
 
-  here_in : (r : ℕ) → r < length ms → slice_get rs r ≡ Some (slice_index_or ms r no_region)
-  here_in r low = subst (λ (xs : List Standing). slice_get xs r ≡ Some (slice_index_or ms r no_region)) same (at_place ms r no_region low)
-
   pub holds_told : IfSome o (λ files. (r : ℕ) → r < length ms → NeedsForward instance t (journal r) ⊎ HoldsRegion (chosen instance t (journal r)) (files (database_file r)) (slice_index_or ms r no_region))
   holds_told = weaker_told o (AreOpened o instance t seq journal rs)
       (λ files. (r : ℕ) → r < length ms → NeedsForward instance t (journal r) ⊎ HoldsRegion (chosen instance t (journal r)) (files (database_file r)) (slice_index_or ms r no_region)) told
-      (λ files opens r low. (opens r (slice_index_or ms r no_region) (here_in r low)).holds)
+      (λ files opens r low. (opens r (slice_index_or ms r no_region) (here_in rs ms same r low)).holds)
 
-  pub held_told : IfSome o (λ files. (r : ℕ) → r < length ms → IsHeld (slice_index_or ms r no_region) files)
-  held_told = weaker_told o (AreOpened o instance t seq journal rs) (λ files. (r : ℕ) → r < length ms → IsHeld (slice_index_or ms r no_region) files) told
-      (λ files opens r low. (opens r (slice_index_or ms r no_region) (here_in r low)).held)
-
-pub files_are : (ps : List Pattern) (t : ℕ) (rs ms : List Standing) → ms ≡ rs → ((r : ℕ) (s : Standing) → slice_get rs r ≡ Some s → IsOwn ps t r s) → (r : ℕ) → r < length ms → (slice_index_or ms r no_region).file ≡ database_file r
-files_are ps t rs ms same own r low =
-    (own r (slice_index_or ms r no_region) (subst (λ (xs : List Standing). slice_get xs r ≡ Some (slice_index_or ms r no_region)) same (at_place ms r no_region low))).file
+pub files_are : (ps : List Pattern) (t : ℕ) (seq : Sequence) (journal : ℕ → List Placed) (rs ms : List Standing) → ms ≡ rs → ((r : ℕ) (s : Standing) → slice_get rs r ≡ Some s → IsOwn ps t seq (journal r) r s) → (r : ℕ) → r < length ms → (slice_index_or ms r no_region).file ≡ database_file r
+files_are ps t seq journal rs ms same own r low =
+    (own r (slice_index_or ms r no_region) (here_in rs ms same r low)).file
 
 -- the first region that can't be opened, as the disk tells it
 module _ (o : Option Files) (records : Records) (t : ℕ) (seq : Sequence) (n f offset : ℕ) (counted : n ≡ length (regions records.instance)) (sequence : IsSequence records seq)

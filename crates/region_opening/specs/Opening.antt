@@ -24,11 +24,13 @@ pub data IsStart (instance : List InstanceRecord) (t : ℕ) (journal : List Plac
 abbrev pub are_home : List Pattern → ℕ → Globals → Bool
 are_home ps r g = list_all (λ e. region_of ps e.0.name == r) (globals.entries g)
 
--- What holds of a region that was opened for t, whatever the files hold.
-pub record IsOwn (ps : List Pattern) (t r : ℕ) (s : Standing) : Type 0 where
+-- What holds of a region that was opened for the first t entries of this sequence, whatever the files hold.
+pub record IsOwn (ps : List Pattern) (t : ℕ) (seq : Sequence) (journal : List Placed) (r : ℕ) (s : Standing) : Type 0 where
   pub file : s.file ≡ database_file r
   pub home : are_home ps r s.globals ≡ true
   pub none : t ≡ 0 → s.globals ≡ globals.empty
+  -- where its journals have no record it begins empty, and has its part of the state of these entries
+  pub anew : journal ≡ [] → s.globals ≡ region_state ps r (take t seq)
 
 -- the blocks of a region below the epoch that it goes back to
 abbrev pub blocks_of : List InstanceRecord → ℕ → List Placed → ℕ → Files → ℕ → Option (List ℕ)

@@ -7,19 +7,22 @@
 //!   are made.
 //! - On a site that is sound the regions have the parts of the state of the entries up to the target. Where the blocks of a region are
 //!   outside the format, or hold nodes that can't be its own, it is told by its file and place.
+//! - [`rebuild_regions`] makes them anew from the entries alone, and reads no block.
 //! - [`first_without_images`] tells the first region that needs forward recovery for the target, and by which generation.
 //!
 //! # Modules
 //!
 //! `starting` says from where a region is opened, `checking` whether the nodes there may be its own. `replaying` makes updates, and
-//! `opening` opens one region and all of them. `needing` looks for one that needs forward recovery.
+//! `opening` opens one region and all of them, and `rebuilding` all of them anew. `needing` looks for one that needs forward recovery.
 #![tactic(auto)]
 
 mod checking;
 mod needing;
 mod opening;
+mod rebuilding;
 mod replaying;
 mod starting;
 
 pub use needing::{WithoutImages, first_without_images};
 pub use opening::open_regions;
+pub use rebuilding::rebuild_regions;

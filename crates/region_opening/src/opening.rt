@@ -118,7 +118,7 @@ fn open_region<D: Disk>(
     requires patterns { directory.now.patterns ≡ patterns instance.now }
     requires forms { AreFormed (map placed_value journal.now) }
     requires entries { AllByRecursion (λ e. IsTransaction e.transaction) (map entry_value entries.now) }
-    ensures own { IfOk result (IsOwn (patterns instance.now) target number) }
+    ensures own { IfOk result (IsOwn (patterns instance.now) target (map entry_value entries.now) (map placed_value journal.now) number) }
     ensures opened { IfOk result (λ made. IfSome (D.disk disk.old).content (IsOpened instance.now target (map entry_value entries.now) (map placed_value journal.now) number made)) }
     ensures outside { (f offset : ℕ) → IsErrOf result (RegionError.NotAFile f offset) → IfSome (D.disk disk.old).content (IsRefused instance.now target (map entry_value entries.now) (map placed_value journal.now) number f offset) }
     ensures reads { Reads (D.disk disk.old) (D.disk disk.new) }
@@ -146,7 +146,7 @@ fn add(regions: &mut Vec<Region>, region: Region) -> Result<(), NoMemory>
 }
 
 /// Opens each region for the target.
-fn open_each<D: Disk>(
+pub(crate) fn open_each<D: Disk>(
     alloc: Global,
     disk: &mut D,
     instance: &InstanceRecords,
@@ -160,7 +160,7 @@ fn open_each<D: Disk>(
     requires forms { (r : ℕ) → AreFormed (journal_of (map (λ j. j.items) journals.now) r) }
     requires entries { AllByRecursion (λ e. IsTransaction e.transaction) (map entry_value entries.now) }
     ensures count { IfOk result (λ made. length made.items ≡ directory.now.regions) }
-    ensures own { IfOk result (λ made. (r : ℕ) (s : Standing) → slice_get made.items r ≡ Some s → IsOwn (patterns instance.now) target r s) }
+    ensures own { IfOk result (λ made. (r : ℕ) (s : Standing) → slice_get made.items r ≡ Some s → IsOwn (patterns instance.now) target (map entry_value entries.now) (journal_of (map (λ j. j.items) journals.now) r) r s) }
     ensures opened { IfOk result (λ made. IfSome (D.disk disk.old).content (λ files. (r : ℕ) (s : Standing) → slice_get made.items r ≡ Some s → IsOpened instance.now target (map entry_value entries.now) (journal_of (map (λ j. j.items) journals.now) r) r s files)) }
     ensures outside { (f offset : ℕ) → IsErrOf result (RegionError.NotAFile f offset) → IfSome (D.disk disk.old).content (AreRefused instance.now target (map entry_value entries.now) (journal_of (map (λ j. j.items) journals.now)) directory.now.regions f offset) }
     ensures reads { Reads (D.disk disk.old) (D.disk disk.new) }

@@ -1,6 +1,7 @@
 -- The next generation is drawn, and begins in each region, as files have it.
 use Rattle.std.proofs.Common.{◌≡◌, inl, inr, ℕ, suc, ◌+◌, ◌≤◌, ◌<◌, Bool, true, List, [], ◌∷◌, ◌++◌, length, Option, Some, None, IfSome, IsSomeAnd, refl, sym, ◌∙◌, ap, subst, arith}
 use Rattle.std.proofs.Math.Path.{fun_ext}
+use Rattle.std.specs.Prelude.{◌&&◌, not}
 use Rattle.std.specs.Option.{option_or, unwrap_or}
 use Rattle.std.specs.List.{slice_get}
 use Rattle.disk_defs.specs.Disk.{Files, View, Image, IsLawful, From, OnFile, AtEachMoment, ReadsAfter}
@@ -21,7 +22,8 @@ use Rattle.jnl_file.specs.Begin.{pini}
 use Rattle.jnl_file.specs.Journal as journals
 use Rattle.jnl_file.specs.Records.{settled}
 use Rattle.jnl_file.specs.declared.journal.Journal.{Journal}
-use Rattle.site_files.specs.Loading.{MayBeOpened, WasRead, IsUncut, HasDrawn, HasCut, MayCutOff, MayDraw, HasBegun, AreCut, AreNext, AreJournalsOf, AreUnbegun, IsNoLonger, IsWritten, last_of, first_by, next_cut, next_journal, next_broken, next_pini}
+use Rattle.site_defs.specs.Forward.{begun_mode}
+use Rattle.site_files.specs.Loading.{MayBeOpened, WasRead, IsUncut, HasDrawnAs, HasCut, MayCutOff, MayDrawAs, HasBegun, AreCut, AreNext, AreJournalsOf, AreUnbegun, IsNoLonger, IsWritten, last_of, first_by, next_cut, next_journal, next_broken, next_pini_as}
 use Rattle.site_files.proofs.Beginning.{told_on, Sometime}
 
 -- a CUT gives no region a mode
@@ -29,10 +31,10 @@ mode_cut : (rs : List InstanceRecord) (n g r : ℕ) → mode_of (rs ++ Cut n g �
 mode_cut [] n g r = refl
 mode_cut (x ∷ rs) n g r = ap (λ (o : Option Bool). option_or o (mode_in x r)) (mode_cut rs n g r)
 
-pub first_same : (rs qs : List InstanceRecord) (lasts : List ℕ) (n g : ℕ) → qs ≡ rs ++ next_cut rs n ∷ [] → g ≡ suc (generation rs) → (r : ℕ) → first_by qs g lasts r ≡ next_pini rs (last_of lasts) r
-first_same rs qs lasts n g is g_is r =
-    ap (λ (o : Option Bool). pini r (unwrap_or o true) g (last_of lasts r)) (ap (λ (l : List InstanceRecord). mode_of l r) is ∙ mode_cut rs n (generation rs + 1) r)
-    ∙ ap (λ (k : ℕ). pini r (unwrap_or (mode_of rs r) true) k (last_of lasts r)) g_is
+pub first_same : (anew : Bool) (rs qs : List InstanceRecord) (lasts : List ℕ) (n g : ℕ) → qs ≡ rs ++ next_cut rs n ∷ [] → g ≡ suc (generation rs) → (r : ℕ) → first_by anew qs g lasts r ≡ next_pini_as anew rs (last_of lasts) r
+first_same anew rs qs lasts n g is g_is r =
+    ap (λ (o : Option Bool). pini r (not anew && unwrap_or o true) g (last_of lasts r)) (ap (λ (l : List InstanceRecord). mode_of l r) is ∙ mode_cut rs n (generation rs + 1) r)
+    ∙ ap (λ (k : ℕ). pini r (begun_mode anew rs r) k (last_of lasts r)) g_is
 
 -- the generation that a CUT draws is the newest one
 pub newest_is : (rs qs : List InstanceRecord) (n : ℕ) → qs ≡ rs ++ next_cut rs n ∷ [] → generation qs ≡ suc (generation rs)
@@ -283,30 +285,36 @@ module _ (rs : List InstanceRecord) (n : ℕ) (text : List ℕ) (any : ℕ → �
         | inr e ↦ inr (inl e)
       ]) cut_stays
 
-      module _ (last : ℕ → ℕ) (S : Files → Type 0) where
+      module _ (anew : Bool) (last : ℕ → ℕ) (S : Files → Type 0) where
         abbrev pub Drawing : Files → Type 0
-        Drawing = From (Image u) (MayDraw rs n text last)
+        Drawing = From (Image u) (MayDrawAs anew rs n text last)
 
-        to_drawing : (a b : Files) → MayCutOff rs n text a b → MayDraw rs n text last a b
+        -- before any region begins it's the same in both ways
+        none_begun : (a b : Files) → HasCut rs n text a b → HasDrawnAs anew rs n text last 0 a b
+        none_begun a b cut =
+            let drawn = cut last in
+            record { others = drawn.others; instance = drawn.instance; text = drawn.text; begun = λ r low below. absurd (omega (arith, below)); unbegun = drawn.unbegun }
+
+        to_drawing : (a b : Files) → MayCutOff rs n text a b → MayDrawAs anew rs n text last a b
         to_drawing a b may = elim may [
           | inl cut ↦ inl cut
-          | inr cut ↦ inr (0, cut last)
+          | inr cut ↦ inr (0, none_begun a b cut)
         ]
 
         pub draw_moments : IfSome u.content (λ files. S files → AtEachMoment u v (Cutting u)) → IfSome u.content (λ files. S files → AtEachMoment u v Drawing)
         draw_moments run = weaker_told u.content (λ files. S files → AtEachMoment u v (Cutting u)) (λ files. S files → AtEachMoment u v Drawing) run
             (λ files r short. weaker u v (Cutting u) Drawing (λ c q. (q.0, q.1, to_drawing q.0 c q.2)) (r short))
 
-        pub draw_reads : IfSome u.content (λ files. S files → IfSome v.content (MayCutOff rs n text files)) → IfSome u.content (λ files. S files → IfSome v.content (MayDraw rs n text last files))
-        draw_reads reads = weaker_told u.content (λ files. S files → IfSome v.content (MayCutOff rs n text files)) (λ files. S files → IfSome v.content (MayDraw rs n text last files)) reads
-            (λ files r short. weaker_told v.content (MayCutOff rs n text files) (MayDraw rs n text last files) (r short) (λ b may. to_drawing files b may))
+        pub draw_reads : IfSome u.content (λ files. S files → IfSome v.content (MayCutOff rs n text files)) → IfSome u.content (λ files. S files → IfSome v.content (MayDrawAs anew rs n text last files))
+        draw_reads reads = weaker_told u.content (λ files. S files → IfSome v.content (MayCutOff rs n text files)) (λ files. S files → IfSome v.content (MayDrawAs anew rs n text last files)) reads
+            (λ files r short. weaker_told v.content (MayCutOff rs n text files) (MayDrawAs anew rs n text last files) (r short) (λ b may. to_drawing files b may))
 
         -- and some regions begin
-        module _ (w : View) (g m : ℕ) (first : ℕ → JournalRecord) (g_is : g ≡ g0) (m_is : m ≡ m0) (first_is : (r : ℕ) → first r ≡ next_pini rs last r) where
-          as_next : (k : ℕ) (was now : Files) → HasBegun g m first k was now → HasBegun g0 m0 (next_pini rs last) k was now
+        module _ (w : View) (g m : ℕ) (first : ℕ → JournalRecord) (g_is : g ≡ g0) (m_is : m ≡ m0) (first_is : (r : ℕ) → first r ≡ next_pini_as anew rs last r) where
+          as_next : (k : ℕ) (was now : Files) → HasBegun g m first k was now → HasBegun g0 m0 (next_pini_as anew rs last) k was now
           as_next k was now h = subst (λ (f : ℕ → JournalRecord). HasBegun g0 m0 f k was now) (fun_ext first_is) (subst (λ (x : ℕ). HasBegun g0 x first k was now) m_is (subst (λ (x : ℕ). HasBegun x m first k was now) g_is h))
 
-          drawn_further : (a d c : Files) (k : ℕ) → HasCut rs n text a d → HasBegun g0 m0 (next_pini rs last) k d c → HasDrawn rs n text last k a c
+          drawn_further : (a d c : Files) (k : ℕ) → HasCut rs n text a d → HasBegun g0 m0 (next_pini_as anew rs last) k d c → HasDrawnAs anew rs n text last k a c
           drawn_further a d c k cut has =
               let before = cut last in
               record {
@@ -332,21 +340,21 @@ module _ (rs : List InstanceRecord) (n : ℕ) (text : List ℕ) (any : ℕ → �
                     let from = d short is.0 is.1 in
                     (from.0, from.1, inr (is.2.0, drawn_further from.0 is.0 c is.2.0 from.2 (as_next is.2.0 is.0 c is.2.1))))
 
-            pub has_drawn : IfSome v.content (λ _. (f : Files) → Image w f → From (Image v) (HasBegun g m first m) f) → IfSome u.content (λ files. S files → (f : Files) → Image w f → From (Image u) (HasDrawn rs n text last m0) f)
+            pub has_drawn : IfSome v.content (λ _. (f : Files) → Image w f → From (Image v) (HasBegun g m first m) f) → IfSome u.content (λ files. S files → (f : Files) → Image w f → From (Image u) (HasDrawnAs anew rs n text last m0) f)
             has_drawn begun = among u.content images (on_u ((f : Files) → Image w f → From (Image v) (HasBegun g m first m) f) begun)
               where
                 among : (o : Option Files) → IfSome o (λ files. S files → (c : Files) → Image v c → From (Image u) (HasCut rs n text) c) → IfSome o (λ _. (f : Files) → Image w f → From (Image v) (HasBegun g m first m) f)
-                    → IfSome o (λ files. S files → (f : Files) → Image w f → From (Image u) (HasDrawn rs n text last m0) f)
+                    → IfSome o (λ files. S files → (f : Files) → Image w f → From (Image u) (HasDrawnAs anew rs n text last m0) f)
                 among None d b = tt
                 among (Some a) d b = λ short f now.
                     let mid = b f now in
                     let from = d short mid.0 mid.1 in
-                    (from.0, from.1, subst (λ (k : ℕ). HasDrawn rs n text last k from.0 f) m_is (drawn_further from.0 mid.0 f m from.2 (as_next m mid.0 f mid.2)))
+                    (from.0, from.1, subst (λ (k : ℕ). HasDrawnAs anew rs n text last k from.0 f) m_is (drawn_further from.0 mid.0 f m from.2 (as_next m mid.0 f mid.2)))
 
           pub journals_told : (js : List Journal) → IfSome v.content (λ _. (r : ℕ) (j : Journal) → slice_get js r ≡ Some j → journals.HasRecords w j (settled (first r ∷ [])))
-              → IfSome u.content (λ _. (r : ℕ) (j : Journal) → slice_get js r ≡ Some j → journals.HasRecords w j (settled (next_pini rs last r ∷ [])))
-          journals_told js told = on_u ((r : ℕ) (j : Journal) → slice_get js r ≡ Some j → journals.HasRecords w j (settled (next_pini rs last r ∷ [])))
-              (weaker_told v.content (λ _. (r : ℕ) (j : Journal) → slice_get js r ≡ Some j → journals.HasRecords w j (settled (first r ∷ []))) (λ _. (r : ℕ) (j : Journal) → slice_get js r ≡ Some j → journals.HasRecords w j (settled (next_pini rs last r ∷ [])))
+              → IfSome u.content (λ _. (r : ℕ) (j : Journal) → slice_get js r ≡ Some j → journals.HasRecords w j (settled (next_pini_as anew rs last r ∷ [])))
+          journals_told js told = on_u ((r : ℕ) (j : Journal) → slice_get js r ≡ Some j → journals.HasRecords w j (settled (next_pini_as anew rs last r ∷ [])))
+              (weaker_told v.content (λ _. (r : ℕ) (j : Journal) → slice_get js r ≡ Some j → journals.HasRecords w j (settled (first r ∷ []))) (λ _. (r : ℕ) (j : Journal) → slice_get js r ≡ Some j → journals.HasRecords w j (settled (next_pini_as anew rs last r ∷ [])))
               told (λ files each r j is. subst (λ (x : JournalRecord). journals.HasRecords w j (settled (x ∷ []))) (first_is r) (each r j is)))
 
           module _ (stays : OthersStay (AreJournalsOf g m) v w) where
@@ -357,10 +365,10 @@ module _ (rs : List InstanceRecord) (n : ℕ) (text : List ℕ) (any : ℕ → �
             all_frame = others_then (AreNext rs) u v w draw_frame (others_wider (AreJournalsOf g m) (AreNext rs) v w (λ f o. inr (inr (in_next f o))) stays)
 
             -- as it reads
-            pub reads_begun : IsLawful w → IfSome u.content (λ files. S files → IfSome v.content (HasCut rs n text files)) → IfSome v.content (λ _. AtEachMoment v w (Sometime v g m first)) → IfSome u.content (λ files. S files → IfSome w.content (MayDraw rs n text last files))
+            pub reads_begun : IsLawful w → IfSome u.content (λ files. S files → IfSome v.content (HasCut rs n text files)) → IfSome v.content (λ _. AtEachMoment v w (Sometime v g m first)) → IfSome u.content (λ files. S files → IfSome w.content (MayDrawAs anew rs n text last files))
             reads_begun lawful cut run = among u.content v.content w.content cut_stays.content stays.content cut run lawful.as_read
               where
-                by : (a d c : Files) (k : ℕ) → HasCut rs n text a d → SameOutside (AreJournalsOf g m) d c → (x : Files) → HasBegun g0 m0 (next_pini rs last) k x c → HasDrawn rs n text last k a c
+                by : (a d c : Files) (k : ℕ) → HasCut rs n text a d → SameOutside (AreJournalsOf g m) d c → (x : Files) → HasBegun g0 m0 (next_pini_as anew rs last) k x c → HasDrawnAs anew rs n text last k a c
                 by a d c k cut same x has =
                     let before = cut last in
                     record {
@@ -372,7 +380,7 @@ module _ (rs : List InstanceRecord) (n : ℕ) (text : List ℕ) (any : ℕ → �
                     }
 
                 among : (o e p : Option Files) → ReadsAfter (SameOutside (AreCut rs)) o e → ReadsAfter (SameOutside (AreJournalsOf g m)) e p → IfSome o (λ files. S files → IfSome e (HasCut rs n text files))
-                    → IfSome e (λ _. AtEachMoment v w (Sometime v g m first)) → IfSome p (λ now. Image w now) → IfSome o (λ files. S files → IfSome p (MayDraw rs n text last files))
+                    → IfSome e (λ _. AtEachMoment v w (Sometime v g m first)) → IfSome p (λ now. Image w now) → IfSome o (λ files. S files → IfSome p (MayDrawAs anew rs n text last files))
                 among None e p after next d q now = tt
                 among (Some a) None p after next d q now = absurd after
                 among (Some a) (Some e) None after next d q now = absurd next

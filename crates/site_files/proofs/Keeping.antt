@@ -28,7 +28,7 @@ use Rattle.journal_laws.proofs.EveryTarget.{none_past_record, none_past_cut}
 use Rattle.journal_laws.proofs.ImageSteps as images
 use Rattle.journal_laws.proofs.RecordSteps as steps
 use Rattle.journal_laws.proofs.Runs as runs
-use Rattle.site_files.specs.Loading.{MayBeOpened, AreRead, IsUncut, HasDrawn, HasCut, next_cut, next_journal, next_broken, next_pini, starts_in, drawn_records}
+use Rattle.site_files.specs.Loading.{MayBeOpened, AreRead, IsUncut, HasDrawnAs, HasCut, next_cut, next_journal, next_broken, next_pini_as, starts_in_as, drawn_records_as}
 
 -- A body is that of one record, and the record has one body, so a list of records has one list of bodies.
 zip_front : {R : Type 0} (P : Body → R → Type 0) → ((b d : Body) (r : R) → P b r → P d r → b ≡ d) → (bs ds : List Body) (rs qs : List R)
@@ -90,11 +90,11 @@ cut_image old new s seq t sound most few low same now =
     steps.cut old new s seq t g sound few most (drawing.before old s g sound.held past) held (λ m. cleaning.cut old new s t g (length seq) m sound.clean few past same) (λ r here. same (database_file r) (λ e. omega (arith, e)))
 
 -- the beginnings of regions
-starts_none : (rs : List InstanceRecord) (last : ℕ → ℕ) (k r : ℕ) → k ≤ r → starts_in rs last k r ≡ []
-starts_none rs last k r past = let no : nat_lt r k ≡ false = grind (arith, nat_tests, past) in rw no refl
+starts_none : (anew : Bool) (rs : List InstanceRecord) (last : ℕ → ℕ) (k r : ℕ) → k ≤ r → starts_in_as anew rs last k r ≡ []
+starts_none anew rs last k r past = let no : nat_lt r k ≡ false = grind (arith, nat_tests, past) in rw no refl
 
-starts_one : (rs : List InstanceRecord) (last : ℕ → ℕ) (k r : ℕ) → r < k → r < length (regions rs) → starts_in rs last k r ≡ in_generation (suc (generation rs)) (next_pini rs last r) ∷ []
-starts_one rs last k r low here =
+starts_one : (anew : Bool) (rs : List InstanceRecord) (last : ℕ → ℕ) (k r : ℕ) → r < k → r < length (regions rs) → starts_in_as anew rs last k r ≡ in_generation (suc (generation rs)) (next_pini_as anew rs last r) ∷ []
+starts_one anew rs last k r low here =
     let yes : nat_lt r k ≡ true = grind (arith, nat_tests, low) in
     let there : nat_lt r (length (regions rs)) ≡ true = grind (arith, nat_tests, here) in
     rw yes (rw there refl)
@@ -104,62 +104,62 @@ if_none true b xs none = rw none refl
 if_none false b xs none = refl
 
 -- past the last region nothing begins
-starts_past : (rs : List InstanceRecord) (last : ℕ → ℕ) (k r : ℕ) → length (regions rs) < k → starts_in rs last (length (regions rs)) r ≡ starts_in rs last k r
-starts_past rs last k r past = elim (cases_lt r (length (regions rs))) [
-  | inl here ↦ starts_one rs last (length (regions rs)) r here here ∙ sym (starts_one rs last k r (omega (arith, here, past)) here)
+starts_past : (anew : Bool) (rs : List InstanceRecord) (last : ℕ → ℕ) (k r : ℕ) → length (regions rs) < k → starts_in_as anew rs last (length (regions rs)) r ≡ starts_in_as anew rs last k r
+starts_past anew rs last k r past = elim (cases_lt r (length (regions rs))) [
+  | inl here ↦ starts_one anew rs last (length (regions rs)) r here here ∙ sym (starts_one anew rs last k r (omega (arith, here, past)) here)
   | inr far ↦
       let no : nat_lt r (length (regions rs)) ≡ false = grind (arith, nat_tests, far) in
-      starts_none rs last (length (regions rs)) r far ∙ sym (if_none (nat_lt r k) (nat_lt r (length (regions rs))) (in_generation (suc (generation rs)) (next_pini rs last r) ∷ []) no)
+      starts_none anew rs last (length (regions rs)) r far ∙ sym (if_none (nat_lt r k) (nat_lt r (length (regions rs))) (in_generation (suc (generation rs)) (next_pini_as anew rs last r) ∷ []) no)
 ]
 
-starts_same : (rs : List InstanceRecord) (last : ℕ → ℕ) (k r : ℕ) → r ≢ k → starts_in rs last (suc k) r ≡ starts_in rs last k r
-starts_same rs last k r ne = let same : nat_lt r (suc k) ≡ nat_lt r k = grind (arith, nat_tests, ne) in rw same refl
+starts_same : (anew : Bool) (rs : List InstanceRecord) (last : ℕ → ℕ) (k r : ℕ) → r ≢ k → starts_in_as anew rs last (suc k) r ≡ starts_in_as anew rs last k r
+starts_same anew rs last k r ne = let same : nat_lt r (suc k) ≡ nat_lt r k = grind (arith, nat_tests, ne) in rw same refl
 
-module _ (s : Records) (n : ℕ) (last : ℕ → ℕ) where
+module _ (anew : Bool) (s : Records) (n : ℕ) (last : ℕ → ℕ) where
   abbrev pub rs : List InstanceRecord
   rs = s.instance
 
   abbrev pub drawn : ℕ → Records
-  drawn k = drawn_records s n last k
+  drawn k = drawn_records_as anew s n last k
 
   abbrev pub start : ℕ → Placed
-  start r = in_generation (suc (generation rs)) (next_pini rs last r)
+  start r = in_generation (suc (generation rs)) (next_pini_as anew rs last r)
 
   by_journal : (a b : ℕ → List Placed) → ((r : ℕ) → a r ≡ b r) → ◌≡◌ {A = Records} (record { instance = rs ++ next_cut rs n ∷ []; journal = a }) (record { instance = rs ++ next_cut rs n ∷ []; journal = b })
   by_journal a b same = ap (λ (j : ℕ → List Placed). record { instance = rs ++ next_cut rs n ∷ []; journal = j }) (fun_ext same)
 
   pub none_drawn : with_record s (next_cut rs n) ≡ drawn 0
-  none_drawn = by_journal s.journal (λ r. s.journal r ++ starts_in rs last 0 r) (λ r. sym (ap (λ (l : List Placed). s.journal r ++ l) (starts_none rs last 0 r (omega arith)) ∙ append-nil (s.journal r)))
+  none_drawn = by_journal s.journal (λ r. s.journal r ++ starts_in_as anew rs last 0 r) (λ r. sym (ap (λ (l : List Placed). s.journal r ++ l) (starts_none anew rs last 0 r (omega arith)) ∙ append-nil (s.journal r)))
 
   one_more : (k : ℕ) → k < length (regions rs) → with_journal (drawn k) k (start k ∷ []) ≡ drawn (suc k)
-  one_more k low = by_journal (with_journal (drawn k) k (start k ∷ [])).journal (λ r. s.journal r ++ starts_in rs last (suc k) r) (λ r. elim (cases_eq r k) [
-    | inl e ↦ subst (λ (q : ℕ). (with_journal (drawn k) k (start k ∷ [])).journal q ≡ s.journal q ++ starts_in rs last (suc k) q) (sym e) here
+  one_more k low = by_journal (with_journal (drawn k) k (start k ∷ [])).journal (λ r. s.journal r ++ starts_in_as anew rs last (suc k) r) (λ r. elim (cases_eq r k) [
+    | inl e ↦ subst (λ (q : ℕ). (with_journal (drawn k) k (start k ∷ [])).journal q ≡ s.journal q ++ starts_in_as anew rs last (suc k) q) (sym e) here
     | inr ne ↦ there r ne
   ])
     where
-      here : (with_journal (drawn k) k (start k ∷ [])).journal k ≡ s.journal k ++ starts_in rs last (suc k) k
+      here : (with_journal (drawn k) k (start k ∷ [])).journal k ≡ s.journal k ++ starts_in_as anew rs last (suc k) k
       here =
           let yes : (k == k) ≡ true = grind (arith, nat_tests) in
-          let added : (with_journal (drawn k) k (start k ∷ [])).journal k ≡ (s.journal k ++ starts_in rs last k k) ++ start k ∷ [] = rw yes refl in
+          let added : (with_journal (drawn k) k (start k ∷ [])).journal k ≡ (s.journal k ++ starts_in_as anew rs last k k) ++ start k ∷ [] = rw yes refl in
           added
-          ∙ ap (λ (l : List Placed). (s.journal k ++ l) ++ start k ∷ []) (starts_none rs last k k (omega arith))
+          ∙ ap (λ (l : List Placed). (s.journal k ++ l) ++ start k ∷ []) (starts_none anew rs last k k (omega arith))
           ∙ ap (λ (l : List Placed). l ++ start k ∷ []) (append-nil (s.journal k))
-          ∙ ap (λ (l : List Placed). s.journal k ++ l) (sym (starts_one rs last (suc k) k (omega arith) low))
+          ∙ ap (λ (l : List Placed). s.journal k ++ l) (sym (starts_one anew rs last (suc k) k (omega arith) low))
 
-      there : (r : ℕ) → r ≢ k → (with_journal (drawn k) k (start k ∷ [])).journal r ≡ s.journal r ++ starts_in rs last (suc k) r
+      there : (r : ℕ) → r ≢ k → (with_journal (drawn k) k (start k ∷ [])).journal r ≡ s.journal r ++ starts_in_as anew rs last (suc k) r
       there r ne =
           let no : (r == k) ≡ false = grind (arith, nat_tests, ne) in
-          let kept : (with_journal (drawn k) k (start k ∷ [])).journal r ≡ s.journal r ++ starts_in rs last k r = rw no refl in
+          let kept : (with_journal (drawn k) k (start k ∷ [])).journal r ≡ s.journal r ++ starts_in_as anew rs last k r = rw no refl in
           kept
-          ∙ ap (λ (l : List Placed). s.journal r ++ l) (sym (starts_same rs last k r ne))
+          ∙ ap (λ (l : List Placed). s.journal r ++ l) (sym (starts_same anew rs last k r ne))
 
   all_drawn : (k : ℕ) → length (regions rs) < k → drawn (length (regions rs)) ≡ drawn k
-  all_drawn k past = by_journal (λ r. s.journal r ++ starts_in rs last (length (regions rs)) r) (λ r. s.journal r ++ starts_in rs last k r) (λ r. ap (λ (l : List Placed). s.journal r ++ l) (starts_past rs last k r past))
+  all_drawn k past = by_journal (λ r. s.journal r ++ starts_in_as anew rs last (length (regions rs)) r) (λ r. s.journal r ++ starts_in_as anew rs last k r) (λ r. ap (λ (l : List Placed). s.journal r ++ l) (starts_past anew rs last k r past))
 
   -- no part survives past the length, and no epoch is ever chosen past it
   pub none_past : IsBefore (generation rs + 1) s → (k : ℕ) → NonePast n (drawn k)
   none_past before k m r late =
-      runs.part_of-append (rs ++ next_cut rs n ∷ []) m (s.journal r) (starts_in rs last k r)
+      runs.part_of-append (rs ++ next_cut rs n ∷ []) m (s.journal r) (starts_in_as anew rs last k r)
       ∙ ap (λ (o : Option Part). option_or o (part_of (rs ++ next_cut rs n ∷ []) m (s.journal r))) (by_test (nat_lt r k && nat_lt r (length (regions rs))))
       ∙ runs.none_past_cut s n (generation rs + 1) before m r late
     where
@@ -253,8 +253,8 @@ module _ (a : Files) (s : Records) (last : ℕ → ℕ) (form : MayBeOpened s.in
         (same_bodies IsInstanceBody one_instance_body (a INSTANCE) (b INSTANCE) s.instance sound.held.instance.bodies cut.instance.bodies)
         (λ h r most here. ap records (at_journal b cut.others h r most here)) (clean_uncut text b is cut) (λ r here. at_database b cut.others r here)
 
-    pub text_is_to : (t : ℕ) (text : List ℕ) (b : Files) (k : ℕ) → text ≡ broken_text (site_name s.instance) (length seq) (broken s (length seq)) → HasDrawn s.instance t text last k a b → b (next_broken s.instance) ≡ text
-    text_is_to t text b k is has = elim has.text [
+    pub text_is_to : (anew : Bool) (t : ℕ) (text : List ℕ) (b : Files) (k : ℕ) → text ≡ broken_text (site_name s.instance) (length seq) (broken s (length seq)) → HasDrawnAs anew s.instance t text last k a b → b (next_broken s.instance) ≡ text
+    text_is_to anew t text b k is has = elim has.text [
       | inl e ↦ e
       | inr both ↦
           let size : length (broken_text (site_name s.instance) (length seq) (broken s (length seq))) ≡ 0 = ap length (sym is ∙ both.0) in
@@ -262,8 +262,8 @@ module _ (a : Files) (s : Records) (last : ℕ → ℕ) (form : MayBeOpened s.in
           both.1 ∙ no_bytes (a (next_broken s.instance)) none ∙ sym both.0
     ]
 
-    pub text_is : (text : List ℕ) (b : Files) (k : ℕ) → text ≡ broken_text (site_name s.instance) (length seq) (broken s (length seq)) → HasDrawn s.instance (length seq) text last k a b → b (next_broken s.instance) ≡ text
-    text_is text b k is has = text_is_to (length seq) text b k is has
+    pub text_is : (anew : Bool) (text : List ℕ) (b : Files) (k : ℕ) → text ≡ broken_text (site_name s.instance) (length seq) (broken s (length seq)) → HasDrawnAs anew s.instance (length seq) text last k a b → b (next_broken s.instance) ≡ text
+    text_is anew text b k is has = text_is_to anew (length seq) text b k is has
 
     -- with a CUT to the first t entries
     module _ (t : ℕ) (most : t ≤ length seq) where
@@ -301,7 +301,7 @@ module _ (a : Files) (s : Records) (last : ℕ → ℕ) (form : MayBeOpened s.in
               let there : r < m = (let e = same_few in omega (arith, e, here)) in
               ap records (at_later b same h r past_h most there) ∙ sound.clean.journals h r (omega (arith, past_h), most) there
 
-      module _ (text : List ℕ) (read : AreRead s.instance last s.journal a) where
+      module _ (anew : Bool) (text : List ℕ) (read : AreRead s.instance last s.journal a) where
         -- the CUT alone
         abbrev mid : Files → Files
         mid b f = if f == INSTANCE then b INSTANCE else a f
@@ -312,7 +312,7 @@ module _ (a : Files) (s : Records) (last : ℕ → ℕ) (form : MayBeOpened s.in
         mid_other : (b : Files) (f : ℕ) → f ≢ INSTANCE → mid b f ≡ a f
         mid_other b f ne = let no : (f == INSTANCE) ≡ false = grind (arith, nat_tests, ne) in rw no refl
 
-        pub cut_image_to : (b : Files) → HasDrawn s.instance t text last 0 a b → IsSoundImage b S2 (take t seq)
+        pub cut_image_to : (b : Files) → HasDrawnAs anew s.instance t text last 0 a b → IsSoundImage b S2 (take t seq)
         cut_image_to b has = images.same_image (mid b) b S2 (take t seq)
             (cut_image a (mid b) s seq t sound most form.some_region low (mid_other b) (subst (λ (l : List ℕ). IsInstance l (s.instance ++ next_cut s.instance t ∷ [])) (sym (mid_here b)) has.instance))
             (ap records (sym (mid_here b)))
@@ -330,7 +330,7 @@ module _ (a : Files) (s : Records) (last : ℕ → ℕ) (form : MayBeOpened s.in
             ]
 
         -- one region more
-        module _ (k : ℕ) (here : k < m) (b : Files) (has : HasDrawn s.instance t text last (suc k) a b) where
+        module _ (k : ℕ) (here : k < m) (b : Files) (has : HasDrawnAs anew s.instance t text last (suc k) a b) where
           abbrev earlier : Files
           earlier f = if f == next_journal s.instance k then a f else b f
 
@@ -340,12 +340,12 @@ module _ (a : Files) (s : Records) (last : ℕ → ℕ) (form : MayBeOpened s.in
           earlier_other : (f : ℕ) → f ≢ next_journal s.instance k → b f ≡ earlier f
           earlier_other f ne = let no : (f == next_journal s.instance k) ≡ false = grind (arith, nat_tests, ne) in rw no refl
 
-          earlier_drawn : HasDrawn s.instance t text last k a earlier
+          earlier_drawn : HasDrawnAs anew s.instance t text last k a earlier
           earlier_drawn = record {
             others = λ f ne away far. sym (earlier_other f (far k here)) ∙ has.others f ne away far;
             instance = subst (λ (l : List ℕ). IsInstance l (s.instance ++ next_cut s.instance t ∷ [])) (earlier_other INSTANCE (λ e. omega (arith, e))) has.instance;
             text = subst (λ (l : List ℕ). (l ≡ text) ⊎ ((text ≡ []) × (l ≡ a (next_broken s.instance)))) (earlier_other (next_broken s.instance) (λ e. let few = form.few_regions in omega (arith, e, here, few, low))) has.text;
-            begun = λ r there less. subst (λ (l : List ℕ). Holds IsJournalBody l (next_pini s.instance last r ∷ [])) (earlier_other (next_journal s.instance r) (λ e. omega (arith, e, less))) (has.begun r there (omega (arith, less)));
+            begun = λ r there less. subst (λ (l : List ℕ). Holds IsJournalBody l (next_pini_as anew s.instance last r ∷ [])) (earlier_other (next_journal s.instance r) (λ e. omega (arith, e, less))) (has.begun r there (omega (arith, less)));
             unbegun = λ r there most. elim (cases_lt k r) [
               | inl above ↦ ap records (sym (earlier_other (next_journal s.instance r) (λ e. omega (arith, e, above)))) ∙ has.unbegun r there above
               | inr within ↦
@@ -354,30 +354,30 @@ module _ (a : Files) (s : Records) (last : ℕ → ℕ) (form : MayBeOpened s.in
             ];
           }
 
-          more : IsSoundImage earlier (drawn_records s t last k) (take t seq) → IsSoundImage b (drawn_records s t last (suc k)) (take t seq)
+          more : IsSoundImage earlier (drawn_records_as anew s t last k) (take t seq) → IsSoundImage b (drawn_records_as anew s t last (suc k)) (take t seq)
           more was =
               let begun = has.begun k here (omega arith) in
               let mine : k < length (regions S2.instance) = (let e = same_few in omega (arith, e, here)) in
               let eight : length (regions S2.instance) ≤ 8 = (let e = same_few in let few = form.few_regions in omega (arith, e, few)) in
               let newest_is : generation S2.instance ≡ suc g = (let e = newest in omega (arith, e)) in
               let none : records (earlier (next_journal s.instance k)) ≡ Some [] = ap records earlier_here ∙ read.next k here in
-              let held = appending.appended earlier b (drawn_records s t last k) k g (last k) (s.journal k) [] (next_pini s.instance last k ∷ []) [] begun.0 was.held newest_is mine eight
+              let held = appending.appended earlier b (drawn_records_as anew s t last k) k g (last k) (s.journal k) [] (next_pini_as anew s.instance last k ∷ []) [] begun.0 was.held newest_is mine eight
               (record { older_is = older_still earlier earlier_drawn.others read k here; newer_is = ([], none, tt); begins = tt })
-              (ap (λ (l : List Placed). s.journal k ++ l) (starts_none s.instance last k k (omega arith))) earlier_other none begun.1 begun.2 (refl, refl, refl, tt) in
-              subst (λ (u : Records). IsSoundImage b u (take t seq)) (one_more s t last k here)
-              (steps.journal_record earlier b (drawn_records s t last k) (take t seq) k (start s t last k) was mine (λ n. refl) tt tt held
-              (λ n. clean_drawn b (with_journal (drawn_records s t last k) k (start s t last k ∷ [])) n refl has.others)
+              (ap (λ (l : List Placed). s.journal k ++ l) (starts_none anew s.instance last k k (omega arith))) earlier_other none begun.1 begun.2 (refl, refl, refl, tt) in
+              subst (λ (u : Records). IsSoundImage b u (take t seq)) (one_more anew s t last k here)
+              (steps.journal_record earlier b (drawn_records_as anew s t last k) (take t seq) k (start anew s t last k) was mine (λ n. refl) tt tt held
+              (λ n. clean_drawn b (with_journal (drawn_records_as anew s t last k) k (start anew s t last k ∷ [])) n refl has.others)
               (λ q there. earlier_other (database_file q) (λ e. let same = same_few in let few = form.few_regions in omega (arith, e, there, same, few))))
 
-        drawn_up_to : (k : ℕ) (b : Files) → k ≤ m → HasDrawn s.instance t text last k a b → IsSoundImage b (drawn_records s t last k) (take t seq)
-        drawn_up_to zero b most has = subst (λ (u : Records). IsSoundImage b u (take t seq)) (none_drawn s t last) (cut_image_to b has)
+        drawn_up_to : (k : ℕ) (b : Files) → k ≤ m → HasDrawnAs anew s.instance t text last k a b → IsSoundImage b (drawn_records_as anew s t last k) (take t seq)
+        drawn_up_to zero b most has = subst (λ (u : Records). IsSoundImage b u (take t seq)) (none_drawn anew s t last) (cut_image_to b has)
         drawn_up_to (suc k) b most has =
             let here : k < m = omega (arith, most) in
             more k here b has (drawn_up_to k (earlier k here b has) (omega (arith, most)) (earlier_drawn k here b has))
 
-        pub drawn_image_to : (k : ℕ) (b : Files) → HasDrawn s.instance t text last k a b → IsSoundImage b (drawn_records s t last k) (take t seq)
+        pub drawn_image_to : (k : ℕ) (b : Files) → HasDrawnAs anew s.instance t text last k a b → IsSoundImage b (drawn_records_as anew s t last k) (take t seq)
         drawn_image_to k b has = elim (cases_lt m k) [
-          | inl over ↦ subst (λ (u : Records). IsSoundImage b u (take t seq)) (all_drawn s t last k over)
+          | inl over ↦ subst (λ (u : Records). IsSoundImage b u (take t seq)) (all_drawn anew s t last k over)
               (drawn_up_to m b (omega arith) (record {
                 others = has.others;
                 instance = has.instance;
@@ -388,8 +388,8 @@ module _ (a : Files) (s : Records) (last : ℕ → ℕ) (form : MayBeOpened s.in
           | inr most ↦ drawn_up_to k b most has
         ]
 
-    pub drawn_image : (text : List ℕ) → AreRead s.instance last s.journal a → (k : ℕ) (b : Files) → HasDrawn s.instance (length seq) text last k a b → IsSoundImage b (drawn_records s (length seq) last k) seq
-    drawn_image text read k b has = subst (IsSoundImage b (drawn_records s (length seq) last k)) (take-length seq) (drawn_image_to (length seq) (omega arith) text read k b has)
+    pub drawn_image : (anew : Bool) (text : List ℕ) → AreRead s.instance last s.journal a → (k : ℕ) (b : Files) → HasDrawnAs anew s.instance (length seq) text last k a b → IsSoundImage b (drawn_records_as anew s (length seq) last k) seq
+    drawn_image anew text read k b has = subst (IsSoundImage b (drawn_records_as anew s (length seq) last k)) (take-length seq) (drawn_image_to (length seq) (omega arith) anew text read k b has)
 
     pub cut_off_image : (text : List ℕ) → AreRead s.instance last s.journal a → (b : Files) → HasCut s.instance (length seq) text a b → IsSoundImage b (with_record s (next_cut s.instance (length seq))) seq
-    cut_off_image text read b cut = subst (IsSoundImage b (with_record s (next_cut s.instance (length seq)))) (take-length seq) (cut_image_to (length seq) (omega arith) text read b (cut last))
+    cut_off_image text read b cut = subst (IsSoundImage b (with_record s (next_cut s.instance (length seq)))) (take-length seq) (cut_image_to (length seq) (omega arith) false text read b (cut last))

@@ -1,18 +1,18 @@
 -- The files of a site as it is opened: they are read, what is broken is written down, and the next generation is drawn and begins in each
 -- region.
-use Rattle.std.specs.Prelude.{◌≡◌, ◌≢◌, ◌⊎◌, ℕ, suc, ◌+◌, ◌≤◌, ◌<◌, ◌++◌, true, List, [], ◌∷◌, length, get_or, nat_lt, ◌&&◌, if◌then◌else◌, max, Option, Some, None}
+use Rattle.std.specs.Prelude.{◌≡◌, ◌≢◌, ◌⊎◌, ℕ, suc, ◌+◌, ◌≤◌, ◌<◌, ◌++◌, Bool, false, List, [], ◌∷◌, length, get_or, nat_lt, ◌&&◌, if◌then◌else◌, max, Option, Some, None}
 use Rattle.std.specs.List.{AllByRecursion}
-use Rattle.std.specs.Option.{unwrap_or}
 use Rattle.disk_defs.specs.Disk.{Files, View, IsDurable}
 use Rattle.disk_defs.specs.Gates.{records}
 use Rattle.journal_defs.specs.Numbers.{INSTANCE, journal_file, broken_file}
-use Rattle.journal_defs.specs.Instance.{InstanceRecord, Cut, IsInForm, generation, regions, mode_of}
+use Rattle.journal_defs.specs.Instance.{InstanceRecord, Cut, IsInForm, generation, regions}
 use Rattle.journal_defs.specs.Journal.{JournalRecord, IsJournalBody}
 use Rattle.journal_defs.specs.Directory.{Pattern, patterns}
 use Rattle.journal_defs.specs.Sequence.{Placed, Records}
 use Rattle.journal_defs.specs.Stands.{IsInstance, IsJournal, Holds, in_generation}
 use Rattle.journal_defs.specs.Growth.{with_record, with_more}
 use Rattle.site_defs.specs.Outside.{HaveDirectory}
+use Rattle.site_defs.specs.Forward.{begun_mode}
 use Rattle.global_dir.specs.Directory.{Mapping}
 use Rattle.instance_file.specs.Order.{AreInOrder}
 use Rattle.jnl_file.specs.Begin.{pini}
@@ -63,9 +63,12 @@ next_journal rs r = journal_file (suc (generation rs)) r
 abbrev pub next_broken : List InstanceRecord → ℕ
 next_broken rs = broken_file (suc (generation rs))
 
--- how the next generation begins in a region, in the mode that it has
+-- how the next generation begins in a region: in the mode that it has, or, where it's anew, without images
+abbrev pub next_pini_as : (anew : Bool) → List InstanceRecord → (ℕ → ℕ) → ℕ → JournalRecord
+next_pini_as anew rs last r = pini r (begun_mode anew rs r) (suc (generation rs)) (last r)
+
 abbrev pub next_pini : List InstanceRecord → (ℕ → ℕ) → ℕ → JournalRecord
-next_pini rs last r = pini r (unwrap_or (mode_of rs r) true) (suc (generation rs)) (last r)
+next_pini = next_pini_as false
 
 -- a file may be as long as it was or as this text, and no longer
 abbrev pub IsNoLonger : List ℕ → List ℕ → List ℕ → Type 0
@@ -90,8 +93,8 @@ pub record HasBegun (g n : ℕ) (first : ℕ → JournalRecord) (k : ℕ) (was n
   pub unbegun : (r : ℕ) → r < n → k ≤ r → records (now (journal_file g r)) ≡ Some []
 
 -- how a generation begins in a region by these records, after these generations by region
-abbrev pub first_by : List InstanceRecord → (g : ℕ) → List ℕ → ℕ → JournalRecord
-first_by rs g lasts r = pini r (unwrap_or (mode_of rs r) true) g (last_of lasts r)
+abbrev pub first_by : (anew : Bool) → List InstanceRecord → (g : ℕ) → List ℕ → ℕ → JournalRecord
+first_by anew rs g lasts r = pini r (begun_mode anew rs r) g (last_of lasts r)
 
 -- the instance file and the broken-transaction file of the next generation
 abbrev pub AreCut : List InstanceRecord → ℕ → Type 0
@@ -110,12 +113,15 @@ pub record IsUncut (rs : List InstanceRecord) (broken : List ℕ) (was now : Fil
 
 -- The instance file has the CUT, the broken-transaction file this text, and the next generation has begun in the first k regions. All other
 -- files are the same.
-pub record HasDrawn (rs : List InstanceRecord) (n : ℕ) (broken : List ℕ) (last : ℕ → ℕ) (k : ℕ) (was now : Files) : Type 0 where
+pub record HasDrawnAs (anew : Bool) (rs : List InstanceRecord) (n : ℕ) (broken : List ℕ) (last : ℕ → ℕ) (k : ℕ) (was now : Files) : Type 0 where
   pub others : (f : ℕ) → f ≢ INSTANCE → f ≢ next_broken rs → ((r : ℕ) → r < length (regions rs) → f ≢ next_journal rs r) → now f ≡ was f
   pub instance : IsInstance (now INSTANCE) (rs ++ next_cut rs n ∷ [])
   pub text : IsWritten broken (was (next_broken rs)) (now (next_broken rs))
-  pub begun : (r : ℕ) → r < length (regions rs) → r < k → Holds IsJournalBody (now (next_journal rs r)) (next_pini rs last r ∷ [])
+  pub begun : (r : ℕ) → r < length (regions rs) → r < k → Holds IsJournalBody (now (next_journal rs r)) (next_pini_as anew rs last r ∷ [])
   pub unbegun : (r : ℕ) → r < length (regions rs) → k ≤ r → records (now (next_journal rs r)) ≡ Some []
+
+abbrev pub HasDrawn : (rs : List InstanceRecord) → ℕ → (broken : List ℕ) → (last : ℕ → ℕ) → ℕ → (was now : Files) → Type 0
+HasDrawn = HasDrawnAs false
 
 -- the CUT and the text alone, whatever generations began before
 abbrev pub HasCut : (rs : List InstanceRecord) → ℕ → (broken : List ℕ) → (was now : Files) → Type 0
@@ -126,13 +132,22 @@ abbrev pub MayCutOff : (rs : List InstanceRecord) → ℕ → (broken : List ℕ
 MayCutOff rs n broken was now = IsUncut rs broken was now ⊎ HasCut rs n broken was now
 
 -- or the next generation has begun in some number of regions
+abbrev pub MayDrawAs : (anew : Bool) → (rs : List InstanceRecord) → ℕ → (broken : List ℕ) → (last : ℕ → ℕ) → (was now : Files) → Type 0
+MayDrawAs anew rs n broken last was now = IsUncut rs broken was now ⊎ ((k : ℕ) × HasDrawnAs anew rs n broken last k was now)
+
 abbrev pub MayDraw : (rs : List InstanceRecord) → ℕ → (broken : List ℕ) → (last : ℕ → ℕ) → (was now : Files) → Type 0
-MayDraw rs n broken last was now = IsUncut rs broken was now ⊎ ((k : ℕ) × HasDrawn rs n broken last k was now)
+MayDraw = MayDrawAs false
 
 -- how the next generation begins in the first k of the regions, as records of region r
+abbrev pub starts_in_as : (anew : Bool) → List InstanceRecord → (last : ℕ → ℕ) → ℕ → ℕ → List Placed
+starts_in_as anew rs last k r = if nat_lt r k && nat_lt r (length (regions rs)) then in_generation (suc (generation rs)) (next_pini_as anew rs last r) ∷ [] else []
+
 abbrev pub starts_in : List InstanceRecord → (last : ℕ → ℕ) → ℕ → ℕ → List Placed
-starts_in rs last k r = if nat_lt r k && nat_lt r (length (regions rs)) then in_generation (suc (generation rs)) (next_pini rs last r) ∷ [] else []
+starts_in = starts_in_as false
 
 -- the records of a site after a CUT to so many entries drew the next generation, which has begun in the first k regions
+abbrev pub drawn_records_as : (anew : Bool) → Records → ℕ → (last : ℕ → ℕ) → ℕ → Records
+drawn_records_as anew s n last k = with_more (with_record s (next_cut s.instance n)) (starts_in_as anew s.instance last k)
+
 abbrev pub drawn_records : Records → ℕ → (last : ℕ → ℕ) → ℕ → Records
-drawn_records s n last k = with_more (with_record s (next_cut s.instance n)) (starts_in s.instance last k)
+drawn_records = drawn_records_as false

@@ -1,5 +1,5 @@
 //! Drawing the next generation, and beginning it.
-ghost use Rattle.std.specs.Prelude.{◌≡◌, ◌⊎◌, ◌≤◌, ◌<◌, ◌^◌, ◌++◌, ◌∷◌, [], ℕ, suc, true, List, length, map, slice_get, Some, IfSome, IfOk, OnOk, OnErr, IsErrOf};
+ghost use Rattle.std.specs.Prelude.{◌≡◌, ◌⊎◌, ◌≤◌, ◌<◌, ◌^◌, ◌++◌, ◌∷◌, [], ℕ, suc, true, false, List, length, map, slice_get, Some, IfSome, IfOk, OnOk, OnErr, IsErrOf};
 ghost use Rattle.std.specs.Option.{option_or, unwrap_or};
 ghost use Rattle.disk_defs.specs.Disk.{Files, Image, From, AtEachMoment, Rose};
 ghost use Rattle.disk_defs.specs.Frames.{Only, OthersStay};
@@ -14,8 +14,9 @@ ghost use Rattle.jnl_file.specs.declared.journal.Journal.{Journal};
 ghost use Rattle.jnl_file.specs.Records.{settled};
 ghost use Rattle.jnl_file.specs.Begin.{pini, MayBegin};
 ghost use Rattle.disk_defs.specs.Gates.{records};
+ghost use Rattle.site_defs.specs.Forward.{begun_mode};
 ghost use Rattle.site_files.specs.Errors.{journal_error};
-ghost use Rattle.site_files.specs.Loading.{MayBeOpened, WasRead, MayDraw, HasDrawn, HasBegun, AreNext, AreJournalsOf, AreUnbegun, last_of, first_by, next_cut, next_broken, next_pini};
+ghost use Rattle.site_files.specs.Loading.{MayBeOpened, WasRead, MayDraw, MayDrawAs, HasDrawn, HasDrawnAs, HasBegun, AreNext, AreJournalsOf, AreUnbegun, last_of, first_by, next_cut, next_broken, next_pini, next_pini_as};
 
 use crate::cuts::{cut_off, cut_open};
 use crate::error::FilesError;
@@ -69,6 +70,13 @@ fn mode_by(records: &[InstanceRecord], region: u8) -> bool
     mode.unwrap_or(true)
 }
 
+/// Whether a generation that begins in a region keeps images, by these records: where it's anew in none, and else in the region's mode.
+fn mode_begun(records: &[InstanceRecord], region: u8, anew: bool) -> bool
+    ensures { result ≡ begun_mode anew (map record_value records.now) region }
+{
+    !anew && mode_by(records, region)
+}
+
 /// Makes a region's journal of a generation.
 fn begin<D: Disk>(
     alloc: Global,
@@ -106,13 +114,13 @@ fn add(journals: &mut Vec<Journal>, made: Journal) -> Result<(), NoMemory>
     Ok(())
 }
 
-/// Makes a region's journal of a generation, in its mode by these records, and adds it.
+/// Makes a region's journal of a generation and adds it.
 fn begin_next<D: Disk>(
     alloc: Global,
     disk: &mut D,
     begun: &mut Vec<Journal>,
-    given: &[InstanceRecord],
     region: u8,
+    before: bool,
     generation: u32,
     last: u32,
 ) -> Result<(), FilesError>
@@ -120,27 +128,28 @@ fn begin_next<D: Disk>(
     requires generation { generation ≤ 65535 }
     requires last { last < generation }
     requires empty { IfSome (D.disk disk.old).content (λ files. records (files (journal_file generation region)) ≡ Some []) }
-    ensures added { OnOk result ((made : Journal) × (begun.new.items ≡ begun.old.items ++ made ∷ []) × journals.IsReady (D.disk disk.new) made × journals.IsJournalOf made region generation × IfSome (D.disk disk.old).content (λ _. journals.HasRecords (D.disk disk.new) made (settled (pini region (unwrap_or (mode_of (map record_value given.now) region) true) generation last ∷ [])))) }
-    ensures any_moment { IfSome (D.disk disk.old).content (λ _. AtEachMoment (D.disk disk.old) (D.disk disk.new) (MayBegin (D.disk disk.old) (journal_file generation region) (pini region (unwrap_or (mode_of (map record_value given.now) region) true) generation last))) }
+    ensures added { OnOk result ((made : Journal) × (begun.new.items ≡ begun.old.items ++ made ∷ []) × journals.IsReady (D.disk disk.new) made × journals.IsJournalOf made region generation × IfSome (D.disk disk.old).content (λ _. journals.HasRecords (D.disk disk.new) made (settled (pini region before generation last ∷ [])))) }
+    ensures any_moment { IfSome (D.disk disk.old).content (λ _. AtEachMoment (D.disk disk.old) (D.disk disk.new) (MayBegin (D.disk disk.old) (journal_file generation region) (pini region before generation last))) }
     ensures frame { OthersStay (Only (journal_file generation region)) (D.disk disk.old) (D.disk disk.new) }
     ensures later { (D.disk disk.old).faults ≤ (D.disk disk.new).faults }
     ensures count { (fault : ℕ) → IsErrOf result (FilesError.Failed fault) → fault ≡ (D.disk disk.new).faults }
     ensures cause { (fault : ℕ) → IsErrOf result (FilesError.Failed fault) → Rose (D.disk disk.old).faults (D.disk disk.new).faults }
     ensures causes { OnErr result (((fault : ℕ) × IsErrOf result (FilesError.Failed fault)) ⊎ IsErrOf result FilesError.NoMemory) }
 {
-    let before = mode_by(given, region);
     let made = begin(alloc, disk, region, before, generation, last)?;
     add(begun, made)?;
     Ok(())
 }
 
-/// Makes the journals of a generation in the first regions, one for each of these last generations, in their modes by these records.
+/// Makes the journals of a generation in the first regions, one for each of these last generations: in their modes by these records, or
+/// anew.
 fn begin_all<D: Disk>(
     alloc: Global,
     disk: &mut D,
     records: &[InstanceRecord],
     generation: u32,
     last_began: &[u32],
+    anew: bool,
 ) -> Result<Vec<Journal>, FilesError>
     requires few { length last_began.now ≤ 8 }
     requires generation { generation ≤ 65535 }
@@ -148,9 +157,9 @@ fn begin_all<D: Disk>(
     requires unbegun { IfSome (D.disk disk.old).content (λ _. (f : Files) → Image (D.disk disk.old) f → AreUnbegun generation (length last_began.now) f) }
     ensures number { IfOk result (λ made. length made.items ≡ length last_began.now) }
     ensures ready { IfOk result (λ made. (r : ℕ) (j : Journal) → slice_get made.items r ≡ Some j → journals.IsReady (D.disk disk.new) j × journals.IsJournalOf j r generation) }
-    ensures state { IfOk result (λ made. IfSome (D.disk disk.old).content (λ _. (r : ℕ) (j : Journal) → slice_get made.items r ≡ Some j → journals.HasRecords (D.disk disk.new) j (settled (first_by (map record_value records.now) generation last_began.now r ∷ [])))) }
-    ensures begun { OnOk result (IfSome (D.disk disk.old).content (λ _. (f : Files) → Image (D.disk disk.new) f → From (Image (D.disk disk.old)) (HasBegun generation (length last_began.now) (first_by (map record_value records.now) generation last_began.now) (length last_began.now)) f)) }
-    ensures any_moment { IfSome (D.disk disk.old).content (λ _. AtEachMoment (D.disk disk.old) (D.disk disk.new) (From (Image (D.disk disk.old)) (λ was now. (k : ℕ) × HasBegun generation (length last_began.now) (first_by (map record_value records.now) generation last_began.now) k was now))) }
+    ensures state { IfOk result (λ made. IfSome (D.disk disk.old).content (λ _. (r : ℕ) (j : Journal) → slice_get made.items r ≡ Some j → journals.HasRecords (D.disk disk.new) j (settled (first_by anew (map record_value records.now) generation last_began.now r ∷ [])))) }
+    ensures begun { OnOk result (IfSome (D.disk disk.old).content (λ _. (f : Files) → Image (D.disk disk.new) f → From (Image (D.disk disk.old)) (HasBegun generation (length last_began.now) (first_by anew (map record_value records.now) generation last_began.now) (length last_began.now)) f)) }
+    ensures any_moment { IfSome (D.disk disk.old).content (λ _. AtEachMoment (D.disk disk.old) (D.disk disk.new) (From (Image (D.disk disk.old)) (λ was now. (k : ℕ) × HasBegun generation (length last_began.now) (first_by anew (map record_value records.now) generation last_began.now) k was now))) }
     ensures frame { OthersStay (AreJournalsOf generation (length last_began.now)) (D.disk disk.old) (D.disk disk.new) }
     ensures later { (D.disk disk.old).faults ≤ (D.disk disk.new).faults }
     ensures count { (fault : ℕ) → IsErrOf result (FilesError.Failed fault) → fault ≡ (D.disk disk.new).faults }
@@ -159,12 +168,13 @@ fn begin_all<D: Disk>(
 {
     let mut journals = Vec::new(alloc);
     for region in 0..last_began.len() {
+        let before = mode_begun(records, region as u8, anew);
         begin_next(
             alloc,
             disk,
             &mut journals,
-            records,
             region as u8,
+            before,
             generation,
             last_began[region],
         )?;
@@ -178,6 +188,7 @@ fn begin_drawn<D: Disk>(
     disk: &mut D,
     instance: Instance,
     last_began: &[u32],
+    anew: bool,
 ) -> Result<Drawn, FilesError>
     requires ready { instances.IsReady (D.disk disk.old) instance }
     requires few { length last_began.now ≤ 8 }
@@ -189,9 +200,9 @@ fn begin_drawn<D: Disk>(
     ensures instance_file { IfOk result (λ made. (rs : List defs.InstanceRecord) → instances.HasRecords (D.disk disk.old) instance rs → instances.HasRecords (D.disk disk.new) made.instance rs) }
     ensures journal_count { IfOk result (λ made. length made.journals.items ≡ length last_began.now) }
     ensures journals { IfOk result (λ made. (r : ℕ) (j : Journal) → slice_get made.journals.items r ≡ Some j → journals.IsReady (D.disk disk.new) j × journals.IsJournalOf j r (generation instance.records)) }
-    ensures journal_files { IfOk result (λ made. IfSome (D.disk disk.old).content (λ _. (r : ℕ) (j : Journal) → slice_get made.journals.items r ≡ Some j → journals.HasRecords (D.disk disk.new) j (settled (first_by instance.records (generation instance.records) last_began.now r ∷ [])))) }
-    ensures begun { OnOk result (IfSome (D.disk disk.old).content (λ _. (f : Files) → Image (D.disk disk.new) f → From (Image (D.disk disk.old)) (HasBegun (generation instance.records) (length last_began.now) (first_by instance.records (generation instance.records) last_began.now) (length last_began.now)) f)) }
-    ensures any_moment { IfSome (D.disk disk.old).content (λ _. AtEachMoment (D.disk disk.old) (D.disk disk.new) (From (Image (D.disk disk.old)) (λ was now. (k : ℕ) × HasBegun (generation instance.records) (length last_began.now) (first_by instance.records (generation instance.records) last_began.now) k was now))) }
+    ensures journal_files { IfOk result (λ made. IfSome (D.disk disk.old).content (λ _. (r : ℕ) (j : Journal) → slice_get made.journals.items r ≡ Some j → journals.HasRecords (D.disk disk.new) j (settled (first_by anew instance.records (generation instance.records) last_began.now r ∷ [])))) }
+    ensures begun { OnOk result (IfSome (D.disk disk.old).content (λ _. (f : Files) → Image (D.disk disk.new) f → From (Image (D.disk disk.old)) (HasBegun (generation instance.records) (length last_began.now) (first_by anew instance.records (generation instance.records) last_began.now) (length last_began.now)) f)) }
+    ensures any_moment { IfSome (D.disk disk.old).content (λ _. AtEachMoment (D.disk disk.old) (D.disk disk.new) (From (Image (D.disk disk.old)) (λ was now. (k : ℕ) × HasBegun (generation instance.records) (length last_began.now) (first_by anew instance.records (generation instance.records) last_began.now) k was now))) }
     ensures frame { OthersStay (AreJournalsOf (generation instance.records) (length last_began.now)) (D.disk disk.old) (D.disk disk.new) }
     ensures later { (D.disk disk.old).faults ≤ (D.disk disk.new).faults }
     ensures count { (fault : ℕ) → IsErrOf result (FilesError.Failed fault) → fault ≡ (D.disk disk.new).faults }
@@ -200,14 +211,15 @@ fn begin_drawn<D: Disk>(
 {
     let records = instance.records.as_slice();
     let generation = generation_in(records);
-    let journals = begin_all(alloc, disk, records, generation, last_began)?;
+    let journals = begin_all(alloc, disk, records, generation, last_began, anew)?;
     Ok(Drawn { instance, journals })
 }
 
 /// Draws the next generation of a site that was read, with the text of what is broken and a CUT to so many entries, and begins it in
 /// each region.
 ///
-/// The text, where there is one, is written and synced before the CUT. `last_began` has the last generation that began, by region.
+/// The text, where there is one, is written and synced before the CUT. `last_began` has the last generation that began, by region. Anew
+/// the generation keeps images in no region; else it does in those whose mode says so.
 pub fn draw<D: Disk>(
     alloc: Global,
     disk: &mut D,
@@ -215,6 +227,7 @@ pub fn draw<D: Disk>(
     count: u64,
     broken: &[u8],
     last_began: &[u32],
+    anew: bool,
 ) -> Result<Drawn, FilesError>
     requires form { MayBeOpened log.records (last_of last_began.now) }
     requires counted { length last_began.now ≡ length (regions log.records) }
@@ -225,10 +238,10 @@ pub fn draw<D: Disk>(
     ensures journals { IfOk result (λ made. (r : ℕ) (j : Journal) → slice_get made.journals.items r ≡ Some j → journals.IsReady (D.disk disk.new) j × journals.IsJournalOf j r (suc (generation log.records))) }
     ensures records { IfOk result (λ made. made.instance.records ≡ log.records ++ next_cut log.records count ∷ []) }
     ensures instance_file { IfOk result (λ made. IfSome (D.disk disk.old).content (λ _. instances.HasRecords (D.disk disk.new) made.instance (log.records ++ next_cut log.records count ∷ []))) }
-    ensures journal_files { IfOk result (λ made. IfSome (D.disk disk.old).content (λ _. (r : ℕ) (j : Journal) → slice_get made.journals.items r ≡ Some j → journals.HasRecords (D.disk disk.new) j (settled (next_pini log.records (last_of last_began.now) r ∷ [])))) }
-    ensures drawn { OnOk result (IfSome (D.disk disk.old).content (λ files. length (files (next_broken log.records)) ≤ length broken.now → (f : Files) → Image (D.disk disk.new) f → From (Image (D.disk disk.old)) (HasDrawn log.records count broken.now (last_of last_began.now) (length (regions log.records))) f)) }
-    ensures any_moment { IfSome (D.disk disk.old).content (λ files. length (files (next_broken log.records)) ≤ length broken.now → AtEachMoment (D.disk disk.old) (D.disk disk.new) (From (Image (D.disk disk.old)) (MayDraw log.records count broken.now (last_of last_began.now)))) }
-    ensures reads { IfSome (D.disk disk.old).content (λ files. length (files (next_broken log.records)) ≤ length broken.now → IfSome (D.disk disk.new).content (MayDraw log.records count broken.now (last_of last_began.now) files)) }
+    ensures journal_files { IfOk result (λ made. IfSome (D.disk disk.old).content (λ _. (r : ℕ) (j : Journal) → slice_get made.journals.items r ≡ Some j → journals.HasRecords (D.disk disk.new) j (settled (next_pini_as anew log.records (last_of last_began.now) r ∷ [])))) }
+    ensures drawn { OnOk result (IfSome (D.disk disk.old).content (λ files. length (files (next_broken log.records)) ≤ length broken.now → (f : Files) → Image (D.disk disk.new) f → From (Image (D.disk disk.old)) (HasDrawnAs anew log.records count broken.now (last_of last_began.now) (length (regions log.records))) f)) }
+    ensures any_moment { IfSome (D.disk disk.old).content (λ files. length (files (next_broken log.records)) ≤ length broken.now → AtEachMoment (D.disk disk.old) (D.disk disk.new) (From (Image (D.disk disk.old)) (MayDrawAs anew log.records count broken.now (last_of last_began.now)))) }
+    ensures reads { IfSome (D.disk disk.old).content (λ files. length (files (next_broken log.records)) ≤ length broken.now → IfSome (D.disk disk.new).content (MayDrawAs anew log.records count broken.now (last_of last_began.now) files)) }
     ensures frame { OthersStay (AreNext log.records) (D.disk disk.old) (D.disk disk.new) }
     ensures later { (D.disk disk.old).faults ≤ (D.disk disk.new).faults }
     ensures count { (fault : ℕ) → IsErrOf result (FilesError.Failed fault) → fault ≡ (D.disk disk.new).faults }
@@ -237,7 +250,7 @@ pub fn draw<D: Disk>(
     ensures causes { OnErr result (((fault : ℕ) × IsErrOf result (FilesError.Failed fault)) ⊎ ((file : ℕ) × (offset : ℕ) × IsErrOf result (FilesError.NotAFile file offset)) ⊎ IsErrOf result FilesError.NoMemory) }
 {
     let instance = cut_off(alloc, disk, log, count, broken)?;
-    begin_drawn(alloc, disk, instance, last_began)
+    begin_drawn(alloc, disk, instance, last_began, anew)
 }
 
 /// Draws the next generation of a site whose instance file is open, with a CUT to so many entries, and begins it in each region.
@@ -272,5 +285,5 @@ pub fn draw_next<D: Disk>(
     ensures causes { OnErr result (((fault : ℕ) × IsErrOf result (FilesError.Failed fault)) ⊎ IsErrOf result FilesError.NoMemory) }
 {
     let instance = cut_open(disk, instance, count)?;
-    begin_drawn(alloc, disk, instance, last_began)
+    begin_drawn(alloc, disk, instance, last_began, false)
 }

@@ -4,7 +4,7 @@ use Rattle.disk_defs.proofs.Told.{weaker_told}
 use Rattle.site_defs.specs.Outside.{IsOutsideSite, IsBegunAhead}
 use Rattle.site_defs.specs.OutsideBlocks.{IsOutsideRollback}
 use Rattle.mupip_rollback.specs.declared.error.RollError.TheVariants as error
-use Rattle.mupip_rollback.specs.Rolling.{IsFirstWithout}
+use Rattle.site_store.specs.Needing.{IsFirstWithout}
 use Rattle.mupip_rollback.proofs.Errors.{handed_on}
 use Rattle.mupip_rollback.proofs.Prepared.{place_at, told_without, held_of, kept_of, site_of, left_of, prepared_of}
 use Rattle.mupip_rollback.proofs.preparing.prepare.Goals as goal

@@ -7,7 +7,7 @@ use Rattle.journal_defs.specs.Sequence.{Records, IsSequence}
 use Rattle.journal_defs.specs.Stands.{AreRecords}
 use Rattle.site_store.specs.Standing.{found_entries}
 use Rattle.site_store.proofs.Loaded.{length_values}
-use Rattle.mupip_rollback.specs.Rolling.{NoneIsWithout}
+use Rattle.site_store.specs.Needing.{NoneIsWithout}
 use Rattle.mupip_rollback.specs.declared.error.RollError.TheVariants as error
 use Rattle.mupip_rollback.proofs.Errors.{handed_on}
 use Rattle.mupip_rollback.proofs.Whole as whole

@@ -46,8 +46,9 @@ loop-number-preserved g c =
     record {
       count = let was = inv.count in ap length pushed ∙ long ∙ ap (λ (n : ℕ). n + 1) was;
       few = omega (arith, c.loop-number-test.true, c.regions-number-end.ensures.count);
-      own = subst (λ (rs : List Standing). (r : ℕ) (s : Standing) → slice_get rs r ≡ Some s → IsOwn (patterns c.args.instance.now) c.args.target r s) (sym {A = List Standing} pushed)
-          (own_more u.content c.args.instance.now c.args.target seq journals (patterns c.args.instance.now) l.regions.items made l.number inv.count inv.own c.in_ok-region.ensures.own);
+      own = subst (λ (rs : List Standing). (r : ℕ) (s : Standing) → slice_get rs r ≡ Some s → IsOwn (patterns c.args.instance.now) c.args.target seq (journals r) r s) (sym {A = List Standing} pushed)
+          (own_more u.content c.args.instance.now c.args.target seq journals (patterns c.args.instance.now) l.regions.items made l.number inv.count inv.own
+          (subst (λ (ps : List Placed). IsOwn (patterns c.args.instance.now) c.args.target seq ps l.number made) c.journal_at-journal.ensures c.in_ok-region.ensures.own));
       opened = subst (λ (rs : List Standing). IfSome u.content (AreOpened u.content c.args.instance.now c.args.target seq journals rs)) (sym {A = List Standing} pushed)
           (one_more_opened u.content c.args.instance.now c.args.target seq journals l.regions.items made l.number inv.count inv.opened (told_at u.content v.content (IsOpened c.args.instance.now c.args.target seq (journals l.number) l.number made) inv.reads.content told));
       reads = reads_more u v (view c.open_region.new.disk) (g.met.D.Disk.lawful c.args.disk.now) inv.reads c.open_region.ensures.reads;

@@ -16,7 +16,7 @@ invariant-loop-number g l =
     record {
       count : length l.regions.items ≡ l.number;
       few : l.number ≤ l.directory.regions;
-      own : (r : ℕ) (s : Standing) → slice_get l.regions.items r ≡ Some s → IsOwn (patterns l.instance) l.target r s;
+      own : (r : ℕ) (s : Standing) → slice_get l.regions.items r ≡ Some s → IsOwn (patterns l.instance) l.target (map entry_value l.entries) (journal_of (map (λ (j : Vec PlacedRecord Global). j.items) l.journals) r) r s;
       opened : IfSome u.content (λ files. (r : ℕ) (s : Standing) → slice_get l.regions.items r ≡ Some s → IsOpened l.instance l.target (map entry_value l.entries) (journal_of (map (λ (j : Vec PlacedRecord Global). j.items) l.journals) r) r s files);
       reads : Reads u v;
       faults : u.faults ≤ v.faults;

@@ -26,12 +26,12 @@ new-requires-clause-parts g c = have_parts c.args.directory.patterns c.in_ok-reg
     subst (λ (ps : List Pattern). are_home ps r s.globals ≡ true) (sym c.requires.patterns) (c.in_ok-regions.ensures.own r s here).home)
 
 pub returns-clause-files : goal.returns-clause-files
-returns-clause-files g c = files_are (patterns c.args.instance.now) c.args.target c.in_ok-regions.regions.items c.in_ok-new.field-0.regions c.in_ok-new.ensures.regions c.in_ok-regions.ensures.own
+returns-clause-files g c = files_are (patterns c.args.instance.now) c.args.target (map entry_value c.args.entries.now) (journal_of (map (λ (j : Vec PlacedRecord Global). j.items) c.args.journals.now)) c.in_ok-regions.regions.items c.in_ok-new.field-0.regions c.in_ok-new.ensures.regions c.in_ok-regions.ensures.own
 
 pub returns-clause-none : goal.returns-clause-none
 returns-clause-none g c at_zero =
     c.in_ok-new.ensures.joined [] (subst (λ (ps : List Pattern). ArePartsOf ps c.in_ok-regions.regions.items []) (sym c.requires.patterns)
-    (empty_parts (patterns c.args.instance.now) c.in_ok-regions.regions.items c.args.target at_zero c.in_ok-regions.ensures.own))
+    (empty_parts (patterns c.args.instance.now) c.in_ok-regions.regions.items c.args.target (map entry_value c.args.entries.now) (journal_of (map (λ (j : Vec PlacedRecord Global). j.items) c.args.journals.now)) at_zero c.in_ok-regions.ensures.own))
 
 pub returns-clause-some : goal.returns-clause-some
 returns-clause-some g c =
@@ -56,8 +56,8 @@ returns-clause-holds g c =
 
 pub returns-clause-held : goal.returns-clause-held
 returns-clause-held g c =
-    held_told (g.D.Disk.disk c.args.disk.now).content c.args.instance.now c.args.target (map entry_value c.args.entries.now) (journal_of (map (λ (j : Vec PlacedRecord Global). j.items) c.args.journals.now)) c.args.directory.patterns c.requires.patterns
-    c.in_ok-regions.regions.items c.in_ok-new.field-0.regions c.in_ok-new.ensures.regions (c.in_ok-regions.ensures.count ∙ c.requires.count) c.in_ok-regions.ensures.opened
+    held_told (g.D.Disk.disk c.args.disk.now).content c.args.instance.now c.args.target (map entry_value c.args.entries.now) (journal_of (map (λ (j : Vec PlacedRecord Global). j.items) c.args.journals.now))
+    c.in_ok-regions.regions.items c.in_ok-new.field-0.regions c.in_ok-new.ensures.regions c.in_ok-regions.ensures.opened
 
 pub returns-in_err-regions-clause-outside : goal.returns-in_err-regions-clause-outside
 returns-in_err-regions-clause-outside g c =

@@ -15,7 +15,7 @@ invariant-loop-region g l =
     let u = view l.fn.disk in
     let w = view l.disk in
     let n = length l.fn.last_began in
-    let first = first_by (map record_value l.fn.records) l.fn.generation l.fn.last_began in
+    let first = first_by l.fn.anew (map record_value l.fn.records) l.fn.generation l.fn.last_began in
     record {
       number : length l.journals.items ≡ l.region;
       ready : (r : ℕ) (j : Journal) → slice_get l.journals.items r ≡ Some j → journals.IsReady w j × journals.IsJournalOf j r l.fn.generation;

@@ -55,7 +55,7 @@ returns-in_err-journals-clause-any_moment g c =
     let lasts = c.args.last_began.now in
     let m = length lasts in
     let newest : c.generation_in-generation.result ≡ generation rs = c.generation_in-generation.ensures ∙ ap generation c.as_slice-records.ensures in
-    moved (λ l k. IfSome v.content (λ _. AtEachMoment v w (From (Image v) (λ was now. (x : ℕ) × HasBegun k m (first_by l k lasts) x was now)))) qs rs c.generation_in-generation.result (generation rs) c.as_slice-records.ensures newest c.begin_all.ensures.any_moment
+    moved (λ l k. IfSome v.content (λ _. AtEachMoment v w (From (Image v) (λ was now. (x : ℕ) × HasBegun k m (first_by c.args.anew l k lasts) x was now)))) qs rs c.generation_in-generation.result (generation rs) c.as_slice-records.ensures newest c.begin_all.ensures.any_moment
 
 pub returns-in_err-journals-clause-frame : goal.returns-in_err-journals-clause-frame
 returns-in_err-journals-clause-frame g c =
@@ -79,7 +79,7 @@ returns-clause-any_moment g c =
     let lasts = c.args.last_began.now in
     let m = length lasts in
     let newest : c.generation_in-generation.result ≡ generation rs = c.generation_in-generation.ensures ∙ ap generation c.as_slice-records.ensures in
-    moved (λ l k. IfSome v.content (λ _. AtEachMoment v w (From (Image v) (λ was now. (x : ℕ) × HasBegun k m (first_by l k lasts) x was now)))) qs rs c.generation_in-generation.result (generation rs) c.as_slice-records.ensures newest c.begin_all.ensures.any_moment
+    moved (λ l k. IfSome v.content (λ _. AtEachMoment v w (From (Image v) (λ was now. (x : ℕ) × HasBegun k m (first_by c.args.anew l k lasts) x was now)))) qs rs c.generation_in-generation.result (generation rs) c.as_slice-records.ensures newest c.begin_all.ensures.any_moment
 
 pub returns-clause-frame : goal.returns-clause-frame
 returns-clause-frame g c =
@@ -139,7 +139,7 @@ returns-clause-journal_files g c =
     let lasts = c.args.last_began.now in
     let m = length lasts in
     let newest : c.generation_in-generation.result ≡ generation rs = c.generation_in-generation.ensures ∙ ap generation c.as_slice-records.ensures in
-    moved (λ l k. IfSome v.content (λ _. (r : ℕ) (j : Journal) → slice_get c.in_ok-journals.journals.items r ≡ Some j → journals.HasRecords w j (settled (first_by l k lasts r ∷ [])))) qs rs c.generation_in-generation.result (generation rs) c.as_slice-records.ensures newest c.in_ok-journals.ensures.state
+    moved (λ l k. IfSome v.content (λ _. (r : ℕ) (j : Journal) → slice_get c.in_ok-journals.journals.items r ≡ Some j → journals.HasRecords w j (settled (first_by c.args.anew l k lasts r ∷ [])))) qs rs c.generation_in-generation.result (generation rs) c.as_slice-records.ensures newest c.in_ok-journals.ensures.state
 
 pub returns-clause-begun : goal.returns-clause-begun
 returns-clause-begun g c =
@@ -151,4 +151,4 @@ returns-clause-begun g c =
     let lasts = c.args.last_began.now in
     let m = length lasts in
     let newest : c.generation_in-generation.result ≡ generation rs = c.generation_in-generation.ensures ∙ ap generation c.as_slice-records.ensures in
-    moved (λ l k. IfSome v.content (λ _. (f : Files) → Image w f → From (Image v) (HasBegun k m (first_by l k lasts) m) f)) qs rs c.generation_in-generation.result (generation rs) c.as_slice-records.ensures newest c.in_ok-journals.ensures.begun
+    moved (λ l k. IfSome v.content (λ _. (f : Files) → Image w f → From (Image v) (HasBegun k m (first_by c.args.anew l k lasts) m) f)) qs rs c.generation_in-generation.result (generation rs) c.as_slice-records.ensures newest c.in_ok-journals.ensures.begun

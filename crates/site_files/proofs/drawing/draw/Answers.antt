@@ -29,7 +29,7 @@ returns-in_err-instance-clause-any_moment g c =
     let unbegun = drawings.none_here rs n c.args.broken.now last form u (drawings.read_any u rs last c.requires.read) in
     let text = c.args.broken.now in
     let S = λ (files : Files). length (files (next_broken rs)) ≤ length text in
-    drawings.draw_moments rs n text last form u unbegun v c.cut_off.ensures.frame last S c.cut_off.ensures.any_moment
+    drawings.draw_moments rs n text last form u unbegun v c.cut_off.ensures.frame c.args.anew last S c.cut_off.ensures.any_moment
 
 pub returns-in_err-instance-clause-reads : goal.returns-in_err-instance-clause-reads
 returns-in_err-instance-clause-reads g c =
@@ -44,7 +44,7 @@ returns-in_err-instance-clause-reads g c =
     let unbegun = drawings.none_here rs n c.args.broken.now last form u (drawings.read_any u rs last c.requires.read) in
     let text = c.args.broken.now in
     let S = λ (files : Files). length (files (next_broken rs)) ≤ length text in
-    drawings.draw_reads rs n text last form u unbegun v c.cut_off.ensures.frame last S c.cut_off.ensures.reads
+    drawings.draw_reads rs n text last form u unbegun v c.cut_off.ensures.frame c.args.anew last S c.cut_off.ensures.reads
 
 pub returns-in_err-instance-clause-frame : goal.returns-in_err-instance-clause-frame
 returns-in_err-instance-clause-frame g c =
@@ -142,9 +142,9 @@ returns-clause-any_moment g c =
     let g_is : gen ≡ suc (generation rs) = drawings.newest_is rs qs n c.in_ok-instance.ensures.records in
     let w = view c.begin_drawn.new.disk in
     let m = length lasts in
-    let first = first_by qs gen lasts in
-    let first_is = drawings.first_same rs qs lasts n gen c.in_ok-instance.ensures.records g_is in
-    drawings.all_moments rs n text last form u unbegun v c.cut_off.ensures.frame last S w gen m first g_is c.requires.counted first_is c.in_ok-instance.ensures.drawn c.cut_off.ensures.any_moment c.begin_drawn.ensures.any_moment
+    let first = first_by c.args.anew qs gen lasts in
+    let first_is = drawings.first_same c.args.anew rs qs lasts n gen c.in_ok-instance.ensures.records g_is in
+    drawings.all_moments rs n text last form u unbegun v c.cut_off.ensures.frame c.args.anew last S w gen m first g_is c.requires.counted first_is c.in_ok-instance.ensures.drawn c.cut_off.ensures.any_moment c.begin_drawn.ensures.any_moment
 
 pub returns-clause-reads : goal.returns-clause-reads
 returns-clause-reads g c =
@@ -165,9 +165,9 @@ returns-clause-reads g c =
     let g_is : gen ≡ suc (generation rs) = drawings.newest_is rs qs n c.in_ok-instance.ensures.records in
     let w = view c.begin_drawn.new.disk in
     let m = length lasts in
-    let first = first_by qs gen lasts in
-    let first_is = drawings.first_same rs qs lasts n gen c.in_ok-instance.ensures.records g_is in
-    drawings.reads_begun rs n text last form u unbegun v c.cut_off.ensures.frame last S w gen m first g_is c.requires.counted first_is c.begin_drawn.ensures.frame (g.met.D.Disk.lawful c.begin_drawn.new.disk) c.in_ok-instance.ensures.drawn_reads c.begin_drawn.ensures.any_moment
+    let first = first_by c.args.anew qs gen lasts in
+    let first_is = drawings.first_same c.args.anew rs qs lasts n gen c.in_ok-instance.ensures.records g_is in
+    drawings.reads_begun rs n text last form u unbegun v c.cut_off.ensures.frame c.args.anew last S w gen m first g_is c.requires.counted first_is c.begin_drawn.ensures.frame (g.met.D.Disk.lawful c.begin_drawn.new.disk) c.in_ok-instance.ensures.drawn_reads c.begin_drawn.ensures.any_moment
 
 pub returns-clause-frame : goal.returns-clause-frame
 returns-clause-frame g c =
@@ -188,9 +188,9 @@ returns-clause-frame g c =
     let g_is : gen ≡ suc (generation rs) = drawings.newest_is rs qs n c.in_ok-instance.ensures.records in
     let w = view c.begin_drawn.new.disk in
     let m = length lasts in
-    let first = first_by qs gen lasts in
-    let first_is = drawings.first_same rs qs lasts n gen c.in_ok-instance.ensures.records g_is in
-    drawings.all_frame rs n text last form u unbegun v c.cut_off.ensures.frame last S w gen m first g_is c.requires.counted first_is c.begin_drawn.ensures.frame
+    let first = first_by c.args.anew qs gen lasts in
+    let first_is = drawings.first_same c.args.anew rs qs lasts n gen c.in_ok-instance.ensures.records g_is in
+    drawings.all_frame rs n text last form u unbegun v c.cut_off.ensures.frame c.args.anew last S w gen m first g_is c.requires.counted first_is c.begin_drawn.ensures.frame
 
 pub returns-clause-drawn : goal.returns-clause-drawn
 returns-clause-drawn g c =
@@ -211,9 +211,9 @@ returns-clause-drawn g c =
     let g_is : gen ≡ suc (generation rs) = drawings.newest_is rs qs n c.in_ok-instance.ensures.records in
     let w = view c.begin_drawn.new.disk in
     let m = length lasts in
-    let first = first_by qs gen lasts in
-    let first_is = drawings.first_same rs qs lasts n gen c.in_ok-instance.ensures.records g_is in
-    on_ok c.begin_drawn.result _ _ c.begin_drawn.ensures.begun (λ begun. drawings.has_drawn rs n text last form u unbegun v c.cut_off.ensures.frame last S w gen m first g_is c.requires.counted first_is c.in_ok-instance.ensures.drawn begun)
+    let first = first_by c.args.anew qs gen lasts in
+    let first_is = drawings.first_same c.args.anew rs qs lasts n gen c.in_ok-instance.ensures.records g_is in
+    on_ok c.begin_drawn.result _ _ c.begin_drawn.ensures.begun (λ begun. drawings.has_drawn rs n text last form u unbegun v c.cut_off.ensures.frame c.args.anew last S w gen m first g_is c.requires.counted first_is c.in_ok-instance.ensures.drawn begun)
 
 pub returns-clause-journals : goal.returns-clause-journals
 returns-clause-journals g c =
@@ -234,8 +234,8 @@ returns-clause-journals g c =
     let g_is : gen ≡ suc (generation rs) = drawings.newest_is rs qs n c.in_ok-instance.ensures.records in
     let w = view c.begin_drawn.new.disk in
     let m = length lasts in
-    let first = first_by qs gen lasts in
-    let first_is = drawings.first_same rs qs lasts n gen c.in_ok-instance.ensures.records g_is in
+    let first = first_by c.args.anew qs gen lasts in
+    let first_is = drawings.first_same c.args.anew rs qs lasts n gen c.in_ok-instance.ensures.records g_is in
     if_ok c.begin_drawn.result _ _ c.begin_drawn.ensures.journals (λ made are. subst (λ (k : ℕ). (r : ℕ) (j : Journal) → slice_get made.journals.items r ≡ Some j → journals.IsReady w j × journals.IsJournalOf j r k) g_is are)
 
 pub returns-clause-journal_files : goal.returns-clause-journal_files
@@ -257,9 +257,9 @@ returns-clause-journal_files g c =
     let g_is : gen ≡ suc (generation rs) = drawings.newest_is rs qs n c.in_ok-instance.ensures.records in
     let w = view c.begin_drawn.new.disk in
     let m = length lasts in
-    let first = first_by qs gen lasts in
-    let first_is = drawings.first_same rs qs lasts n gen c.in_ok-instance.ensures.records g_is in
-    if_ok c.begin_drawn.result _ _ c.begin_drawn.ensures.journal_files (λ made told. drawings.journals_told rs n text last form u unbegun v c.cut_off.ensures.frame last S w gen m first g_is c.requires.counted first_is made.journals.items told)
+    let first = first_by c.args.anew qs gen lasts in
+    let first_is = drawings.first_same c.args.anew rs qs lasts n gen c.in_ok-instance.ensures.records g_is in
+    if_ok c.begin_drawn.result _ _ c.begin_drawn.ensures.journal_files (λ made told. drawings.journals_told rs n text last form u unbegun v c.cut_off.ensures.frame c.args.anew last S w gen m first g_is c.requires.counted first_is made.journals.items told)
 
 pub returns-clause-journal_count : goal.returns-clause-journal_count
 returns-clause-journal_count g c =
@@ -288,6 +288,6 @@ returns-clause-instance_file g c =
     let g_is : gen ≡ suc (generation rs) = drawings.newest_is rs qs n c.in_ok-instance.ensures.records in
     let w = view c.begin_drawn.new.disk in
     let m = length lasts in
-    let first = first_by qs gen lasts in
-    let first_is = drawings.first_same rs qs lasts n gen c.in_ok-instance.ensures.records g_is in
+    let first = first_by c.args.anew qs gen lasts in
+    let first_is = drawings.first_same c.args.anew rs qs lasts n gen c.in_ok-instance.ensures.records g_is in
     if_ok c.begin_drawn.result _ _ c.begin_drawn.ensures.instance_file (λ made moved. weaker_told u.content (λ _. instances.HasRecords v i (rs ++ next_cut rs n ∷ [])) (λ _. instances.HasRecords w made.instance (rs ++ next_cut rs n ∷ [])) c.in_ok-instance.ensures.instance_file (λ files has. moved (rs ++ next_cut rs n ∷ []) has))

@@ -1,4 +1,4 @@
-use Rattle.std.proofs.Common.{◌≡◌, ℕ, suc, [], ◌∷◌, ◌++◌, length, Some, IfSome, refl, sym, ◌∙◌, subst, arith}
+use Rattle.std.proofs.Common.{◌≡◌, ℕ, suc, false, [], ◌∷◌, ◌++◌, length, Some, IfSome, refl, sym, ◌∙◌, subst, arith}
 use Rattle.std.specs.List.{slice_get}
 use Rattle.disk_defs.specs.Disk.{Files, Image}
 use Rattle.disk_defs.proofs.Told.{weaker_told}
@@ -24,7 +24,7 @@ returns-in_err-instance-clause-any_moment g c =
     let form = c.requires.form in
     let S = λ (files : Files). Unit {0} in
     let frame = drawings.open_frame rs n [] last form u c.requires.unbegun v refl c.cut_open.ensures.frame in
-    taken u.content _ (drawings.draw_moments rs n [] last form u c.requires.unbegun v frame last S (given u.content _ c.cut_open.ensures.any_moment))
+    taken u.content _ (drawings.draw_moments rs n [] last form u c.requires.unbegun v frame false last S (given u.content _ c.cut_open.ensures.any_moment))
 
 pub returns-in_err-instance-clause-reads : goal.returns-in_err-instance-clause-reads
 returns-in_err-instance-clause-reads g c =
@@ -38,7 +38,7 @@ returns-in_err-instance-clause-reads g c =
     let form = c.requires.form in
     let S = λ (files : Files). Unit {0} in
     let frame = drawings.open_frame rs n [] last form u c.requires.unbegun v refl c.cut_open.ensures.frame in
-    taken u.content _ (drawings.draw_reads rs n [] last form u c.requires.unbegun v frame last S (given u.content _ c.cut_open.ensures.reads))
+    taken u.content _ (drawings.draw_reads rs n [] last form u c.requires.unbegun v frame false last S (given u.content _ c.cut_open.ensures.reads))
 
 pub returns-in_err-instance-clause-frame : goal.returns-in_err-instance-clause-frame
 returns-in_err-instance-clause-frame g c =
@@ -131,9 +131,9 @@ returns-clause-any_moment g c =
     let g_is : gen ≡ suc (generation rs) = drawings.newest_is rs qs n c.in_ok-instance.ensures.records in
     let w = view c.begin_drawn.new.disk in
     let m = length lasts in
-    let first = first_by qs gen lasts in
-    let first_is = drawings.first_same rs qs lasts n gen c.in_ok-instance.ensures.records g_is in
-    taken u.content _ (drawings.all_moments rs n [] last form u c.requires.unbegun v frame last S w gen m first g_is c.requires.counted first_is (given u.content _ c.in_ok-instance.ensures.drawn) (given u.content _ c.cut_open.ensures.any_moment) c.begin_drawn.ensures.any_moment)
+    let first = first_by false qs gen lasts in
+    let first_is = drawings.first_same false rs qs lasts n gen c.in_ok-instance.ensures.records g_is in
+    taken u.content _ (drawings.all_moments rs n [] last form u c.requires.unbegun v frame false last S w gen m first g_is c.requires.counted first_is (given u.content _ c.in_ok-instance.ensures.drawn) (given u.content _ c.cut_open.ensures.any_moment) c.begin_drawn.ensures.any_moment)
 
 pub returns-clause-reads : goal.returns-clause-reads
 returns-clause-reads g c =
@@ -153,9 +153,9 @@ returns-clause-reads g c =
     let g_is : gen ≡ suc (generation rs) = drawings.newest_is rs qs n c.in_ok-instance.ensures.records in
     let w = view c.begin_drawn.new.disk in
     let m = length lasts in
-    let first = first_by qs gen lasts in
-    let first_is = drawings.first_same rs qs lasts n gen c.in_ok-instance.ensures.records g_is in
-    taken u.content _ (drawings.reads_begun rs n [] last form u c.requires.unbegun v frame last S w gen m first g_is c.requires.counted first_is c.begin_drawn.ensures.frame (g.met.D.Disk.lawful c.begin_drawn.new.disk) (given u.content _ c.in_ok-instance.ensures.drawn_reads) c.begin_drawn.ensures.any_moment)
+    let first = first_by false qs gen lasts in
+    let first_is = drawings.first_same false rs qs lasts n gen c.in_ok-instance.ensures.records g_is in
+    taken u.content _ (drawings.reads_begun rs n [] last form u c.requires.unbegun v frame false last S w gen m first g_is c.requires.counted first_is c.begin_drawn.ensures.frame (g.met.D.Disk.lawful c.begin_drawn.new.disk) (given u.content _ c.in_ok-instance.ensures.drawn_reads) c.begin_drawn.ensures.any_moment)
 
 pub returns-clause-frame : goal.returns-clause-frame
 returns-clause-frame g c =
@@ -175,9 +175,9 @@ returns-clause-frame g c =
     let g_is : gen ≡ suc (generation rs) = drawings.newest_is rs qs n c.in_ok-instance.ensures.records in
     let w = view c.begin_drawn.new.disk in
     let m = length lasts in
-    let first = first_by qs gen lasts in
-    let first_is = drawings.first_same rs qs lasts n gen c.in_ok-instance.ensures.records g_is in
-    drawings.all_frame rs n [] last form u c.requires.unbegun v frame last S w gen m first g_is c.requires.counted first_is c.begin_drawn.ensures.frame
+    let first = first_by false qs gen lasts in
+    let first_is = drawings.first_same false rs qs lasts n gen c.in_ok-instance.ensures.records g_is in
+    drawings.all_frame rs n [] last form u c.requires.unbegun v frame false last S w gen m first g_is c.requires.counted first_is c.begin_drawn.ensures.frame
 
 pub returns-clause-drawn : goal.returns-clause-drawn
 returns-clause-drawn g c =
@@ -197,9 +197,9 @@ returns-clause-drawn g c =
     let g_is : gen ≡ suc (generation rs) = drawings.newest_is rs qs n c.in_ok-instance.ensures.records in
     let w = view c.begin_drawn.new.disk in
     let m = length lasts in
-    let first = first_by qs gen lasts in
-    let first_is = drawings.first_same rs qs lasts n gen c.in_ok-instance.ensures.records g_is in
-    on_ok c.begin_drawn.result _ _ c.begin_drawn.ensures.begun (λ begun. taken u.content _ (drawings.has_drawn rs n [] last form u c.requires.unbegun v frame last S w gen m first g_is c.requires.counted first_is (given u.content _ c.in_ok-instance.ensures.drawn) begun))
+    let first = first_by false qs gen lasts in
+    let first_is = drawings.first_same false rs qs lasts n gen c.in_ok-instance.ensures.records g_is in
+    on_ok c.begin_drawn.result _ _ c.begin_drawn.ensures.begun (λ begun. taken u.content _ (drawings.has_drawn rs n [] last form u c.requires.unbegun v frame false last S w gen m first g_is c.requires.counted first_is (given u.content _ c.in_ok-instance.ensures.drawn) begun))
 
 pub returns-clause-journals : goal.returns-clause-journals
 returns-clause-journals g c =
@@ -219,8 +219,8 @@ returns-clause-journals g c =
     let g_is : gen ≡ suc (generation rs) = drawings.newest_is rs qs n c.in_ok-instance.ensures.records in
     let w = view c.begin_drawn.new.disk in
     let m = length lasts in
-    let first = first_by qs gen lasts in
-    let first_is = drawings.first_same rs qs lasts n gen c.in_ok-instance.ensures.records g_is in
+    let first = first_by false qs gen lasts in
+    let first_is = drawings.first_same false rs qs lasts n gen c.in_ok-instance.ensures.records g_is in
     if_ok c.begin_drawn.result _ _ c.begin_drawn.ensures.journals (λ made are. subst (λ (k : ℕ). (r : ℕ) (j : Journal) → slice_get made.journals.items r ≡ Some j → journals.IsReady w j × journals.IsJournalOf j r k) g_is are)
 
 pub returns-clause-journal_files : goal.returns-clause-journal_files
@@ -241,9 +241,9 @@ returns-clause-journal_files g c =
     let g_is : gen ≡ suc (generation rs) = drawings.newest_is rs qs n c.in_ok-instance.ensures.records in
     let w = view c.begin_drawn.new.disk in
     let m = length lasts in
-    let first = first_by qs gen lasts in
-    let first_is = drawings.first_same rs qs lasts n gen c.in_ok-instance.ensures.records g_is in
-    if_ok c.begin_drawn.result _ _ c.begin_drawn.ensures.journal_files (λ made told. drawings.journals_told rs n [] last form u c.requires.unbegun v frame last S w gen m first g_is c.requires.counted first_is made.journals.items told)
+    let first = first_by false qs gen lasts in
+    let first_is = drawings.first_same false rs qs lasts n gen c.in_ok-instance.ensures.records g_is in
+    if_ok c.begin_drawn.result _ _ c.begin_drawn.ensures.journal_files (λ made told. drawings.journals_told rs n [] last form u c.requires.unbegun v frame false last S w gen m first g_is c.requires.counted first_is made.journals.items told)
 
 pub returns-clause-journal_count : goal.returns-clause-journal_count
 returns-clause-journal_count g c =
@@ -271,6 +271,6 @@ returns-clause-instance_file g c =
     let g_is : gen ≡ suc (generation rs) = drawings.newest_is rs qs n c.in_ok-instance.ensures.records in
     let w = view c.begin_drawn.new.disk in
     let m = length lasts in
-    let first = first_by qs gen lasts in
-    let first_is = drawings.first_same rs qs lasts n gen c.in_ok-instance.ensures.records g_is in
+    let first = first_by false qs gen lasts in
+    let first_is = drawings.first_same false rs qs lasts n gen c.in_ok-instance.ensures.records g_is in
     if_ok c.begin_drawn.result _ _ c.begin_drawn.ensures.instance_file (λ made moved. weaker_told u.content (λ _. instances.HasRecords v i (rs ++ next_cut rs n ∷ [])) (λ _. instances.HasRecords w made.instance (rs ++ next_cut rs n ∷ [])) c.in_ok-instance.ensures.instance_file (λ files has. moved (rs ++ next_cut rs n ∷ []) has))
