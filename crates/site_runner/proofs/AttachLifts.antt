@@ -10,7 +10,7 @@ use Rattle.journal_defs.specs.Instance.{InstanceRecord, IsInstanceBody, site_nam
 use Rattle.journal_defs.specs.Stands.{IsInstance}
 use Rattle.site_store.specs.declared.layout.Layout.{Layout}
 use Rattle.site_store.specs.declared.error.SiteError.{SiteError}
-use Rattle.site_store.specs.declared.error.SiteError.TheVariants.{Failed, Stopped, Full, SeqLimit, GenLimit, ReignLimit, NotAFile, NoMemory}
+use Rattle.site_store.specs.declared.error.SiteError.TheVariants.{Failed, Stopped, Full, SeqLimit, GenLimit, ReignLimit, NeedForward, NotAFile, NoMemory}
 use Rattle.command_defs.specs.Commands.{Name, Attach}
 use Rattle.site_defs.specs.Lists.{first_where}
 use Rattle.world_defs.specs.World as world
@@ -61,6 +61,7 @@ attach_failed view slots i d s (Full nodes) before now k f look t = absurd t
 attach_failed view slots i d s SeqLimit before now k f look t = absurd t
 attach_failed view slots i d s GenLimit before now k f look t = absurd t
 attach_failed view slots i d s ReignLimit before now k f look t = absurd t
+attach_failed view slots i d s (NeedForward needing) before now k f look t = absurd t
 attach_failed view slots i d s (NotAFile file offset) before now k f look t = attach_lifted view slots i d s before now false k f (λ w h p at_p. let r = look p at_p in comes_damaged file offset r.0 refl r.1.0 r.1.1 r.2 t)
 attach_failed view slots i d s NoMemory before now k f look t = absurd t
 

@@ -17,7 +17,8 @@ use Rattle.world_defs.specs.World.{StandAfter}
 use Rattle.world_defs.specs.Answers.{GenLimit, ReignLimit}
 use Rattle.world_defs.specs.rows.Start.{generation_limit, reign_limit}
 use Rattle.site_defs.specs.Limits.{LAST_GENERATION, LAST_CYCLE}
-use Rattle.site_defs.specs.Opening.{cut_there, start_of, starts_in, with_starts, opened, with_reign, next_stamp, MayBegin, MayBeginLeft}
+use Rattle.site_defs.specs.Forward.{start_as, starts_as, begun_as}
+use Rattle.site_defs.specs.Opening.{cut_there, with_starts, opened, with_reign, next_stamp, MayBegin, MayBeginLeft}
 use Rattle.site_runner.specs.Sites.{IsOf}
 use Rattle.site_runner.proofs.Amongs.{among_first, among_second, among_either, among_map, map_among}
 
@@ -74,6 +75,9 @@ of_more name c d more e h = record {
 pub of_starts : (name : Name) (broken : List ℕ) (k : ℕ) (c : Contents) → IsOf name c → IsOf name (with_starts k (cut_there broken c))
 of_starts name broken k c h = of_more name c (with_starts k (cut_there broken c)) (Cut (length c.sequence) (generation c.instance + 1) ∷ []) refl h
 
+pub of_opened_as : (anew : Bool) (name : Name) (broken : List ℕ) (k : ℕ) (c : Contents) → IsOf name c → IsOf name (begun_as anew k (cut_there broken c))
+of_opened_as anew name broken k c h = of_more name c (begun_as anew k (cut_there broken c)) (Cut (length c.sequence) (generation c.instance + 1) ∷ []) refl h
+
 pub of_opened : (name : Name) (broken : List ℕ) (c : Contents) → IsOf name c → IsOf name (opened broken c)
 of_opened name broken c h = of_starts name broken (length (regions c.instance)) c h
 
@@ -93,22 +97,22 @@ nat_cases (suc i) (suc d) le = elim (nat_cases i d (omega (arith, le))) [
   | inr l ↦ inr (omega (arith, l))
 ]
 
--- the newest generation has begun in the first regions, at most in so many
-abbrev pub starts_up_to : ℕ → Contents → List Contents
-starts_up_to zero c = with_starts 0 c ∷ []
-starts_up_to (suc n) c = with_starts (suc n) c ∷ starts_up_to n c
+-- the newest generation has begun in the first regions, at most in so many; without images where it's anew
+abbrev pub begun_up_to : (anew : Bool) → ℕ → Contents → List Contents
+begun_up_to anew zero c = begun_as anew 0 c ∷ []
+begun_up_to anew (suc n) c = begun_as anew (suc n) c ∷ begun_up_to anew n c
 
-pub among_starts : (n : ℕ) (c o : Contents) → Among (starts_up_to n c) o → (k : ℕ) × (o ≡ with_starts k c)
-among_starts zero c o (inl e) = (0, e)
-among_starts zero c o (inr h) = absurd h
-among_starts (suc n) c o (inl e) = (suc n, e)
-among_starts (suc n) c o (inr h) = among_starts n c o h
+pub among_begun : (anew : Bool) (n : ℕ) (c o : Contents) → Among (begun_up_to anew n c) o → (k : ℕ) × (o ≡ begun_as anew k c)
+among_begun anew zero c o (inl e) = (0, e)
+among_begun anew zero c o (inr h) = absurd h
+among_begun anew (suc n) c o (inl e) = (suc n, e)
+among_begun anew (suc n) c o (inr h) = among_begun anew n c o h
 
-starts_among : (n k : ℕ) (c o : Contents) → k ≤ n → o ≡ with_starts k c → Among (starts_up_to n c) o
-starts_among zero k c o le e = let none : k ≡ 0 = omega (arith, le) in inl (e ∙ ap (λ (x : ℕ). with_starts x c) none)
-starts_among (suc n) k c o le e = elim (nat_cases k n le) [
-  | inl same ↦ inl (e ∙ ap (λ (x : ℕ). with_starts x c) same)
-  | inr less ↦ inr (starts_among n k c o less e)
+begun_among : (anew : Bool) (n k : ℕ) (c o : Contents) → k ≤ n → o ≡ begun_as anew k c → Among (begun_up_to anew n c) o
+begun_among anew zero k c o le e = let none : k ≡ 0 = omega (arith, le) in inl (e ∙ ap (λ (x : ℕ). begun_as anew x c) none)
+begun_among anew (suc n) k c o le e = elim (nat_cases k n le) [
+  | inl same ↦ inl (e ∙ ap (λ (x : ℕ). begun_as anew x c) same)
+  | inr less ↦ inr (begun_among anew n k c o less e)
 ]
 
 -- past the last region nothing begins
@@ -118,11 +122,11 @@ twice true false f = refl
 twice false true f = absurd (false≢true (f refl))
 twice false false f = refl
 
-no_more_starts : (k : ℕ) (c : Contents) → length (regions c.instance) ≤ k → with_starts k c ≡ with_starts (length (regions c.instance)) c
-no_more_starts k c past =
+no_more_starts : (anew : Bool) (k : ℕ) (c : Contents) → length (regions c.instance) ≤ k → begun_as anew k c ≡ begun_as anew (length (regions c.instance)) c
+no_more_starts anew k c past =
     let n = length (regions c.instance) in
-    let here : (r : ℕ) → c.starts r ++ starts_in k c r ≡ c.starts r ++ starts_in n c r = λ r.
-    ap (λ (b : Bool). c.starts r ++ (if b then start_of c r ∷ [] else [])) (twice (nat_lt r k) (nat_lt r n) (λ t. let low = ltb-true r n t in lt-ltb r k (omega (arith, low, past)))) in
+    let here : (r : ℕ) → c.starts r ++ starts_as anew k c r ≡ c.starts r ++ starts_as anew n c r = λ r.
+    ap (λ (b : Bool). c.starts r ++ (if b then start_as anew c r ∷ [] else [])) (twice (nat_lt r k) (nat_lt r n) (λ t. let low = ltb-true r n t in lt-ltb r k (omega (arith, low, past)))) in
     ap (λ (f : ℕ → List Start). record { instance = c.instance; starts = f; epochs = c.epochs; texts = c.texts; losts = c.losts; sequence = c.sequence }) (fun_ext here)
 
 few_or_more : (k n : ℕ) → (k ≤ n) ⊎ (n ≤ k)
@@ -130,11 +134,21 @@ few_or_more zero n = inl (omega arith)
 few_or_more (suc k) zero = inr (omega arith)
 few_or_more (suc k) (suc n) = elim (few_or_more k n) [ inl a ↦ inl (omega (arith, a)) | inr b ↦ inr (omega (arith, b)) ]
 
-pub any_among : (k : ℕ) (c o : Contents) → o ≡ with_starts k c → Among (starts_up_to (length (regions c.instance)) c) o
-any_among k c o e = elim (few_or_more k (length (regions c.instance))) [
-  | inl few ↦ starts_among (length (regions c.instance)) k c o few e
-  | inr past ↦ starts_among (length (regions c.instance)) (length (regions c.instance)) c o (omega arith) (e ∙ no_more_starts k c past)
+pub any_begun : (anew : Bool) (k : ℕ) (c o : Contents) → o ≡ begun_as anew k c → Among (begun_up_to anew (length (regions c.instance)) c) o
+any_begun anew k c o e = elim (few_or_more k (length (regions c.instance))) [
+  | inl few ↦ begun_among anew (length (regions c.instance)) k c o few e
+  | inr past ↦ begun_among anew (length (regions c.instance)) (length (regions c.instance)) c o (omega arith) (e ∙ no_more_starts anew k c past)
 ]
+
+-- in the regions' modes
+abbrev pub starts_up_to : ℕ → Contents → List Contents
+starts_up_to n c = begun_up_to false n c
+
+pub among_starts : (n : ℕ) (c o : Contents) → Among (starts_up_to n c) o → (k : ℕ) × (o ≡ with_starts k c)
+among_starts n c o h = among_begun false n c o h
+
+pub any_among : (k : ℕ) (c o : Contents) → o ≡ with_starts k c → Among (starts_up_to (length (regions c.instance)) c) o
+any_among k c o e = any_begun false k c o e
 
 -- what beginning a reign may leave of any of these
 abbrev pub begins : Name → List ℕ → List Contents → List Contents
@@ -165,8 +179,11 @@ begins_among name broken (d ∷ cs) c o (inr a) m = inr (inr (among_second (star
 -- the same of standings, each with its own text
 
 -- with a CUT and its text, and the newest generation begun in the first regions
-abbrev pub cut_so : Standing → List Standing
-cut_so s = map bare (starts_up_to (length (regions (cut_there s.broken s.contents).instance)) (cut_there s.broken s.contents))
+abbrev pub cut_so_as : (anew : Bool) → Standing → List Standing
+cut_so_as anew s = map bare (begun_up_to anew (length (regions (cut_there s.broken s.contents).instance)) (cut_there s.broken s.contents))
+
+abbrev cut_so : Standing → List Standing
+cut_so s = cut_so_as false s
 
 abbrev begins_each : Name → List Standing → List Standing
 begins_each name [] = []

@@ -15,7 +15,7 @@ use Rattle.repl_script.specs.Commands as script
 use Rattle.site_store.specs.declared.layout.RegionSpec.{RegionSpec}
 use Rattle.site_store.specs.declared.layout.Layout.{Layout}
 use Rattle.site_store.specs.declared.error.SiteError.{SiteError}
-use Rattle.site_store.specs.declared.error.SiteError.TheVariants.{Failed, Stopped, Full, SeqLimit, GenLimit, ReignLimit, NotAFile, NoMemory}
+use Rattle.site_store.specs.declared.error.SiteError.TheVariants.{Failed, Stopped, Full, SeqLimit, GenLimit, ReignLimit, NeedForward, NotAFile, NoMemory}
 use Rattle.site_store.specs.Opening as store
 use Rattle.site_store.specs.Opening.{made, MayMake}
 use Rattle.site_defs.specs.Lists.{Among}
@@ -202,6 +202,7 @@ Unwritten (Full nodes) v w = Unit {0}
 Unwritten SeqLimit v w = Unit {0}
 Unwritten GenLimit v w = Unit {0}
 Unwritten ReignLimit v w = Unit {0}
+Unwritten (NeedForward needing) v w = Unit {0}
 Unwritten (NotAFile file offset) v w = ⊥
 Unwritten NoMemory v w = Unit {0}
 
@@ -213,6 +214,7 @@ unwritten v w r (Full nodes) is count cause other = tt
 unwritten v w r SeqLimit is count cause other = tt
 unwritten v w r GenLimit is count cause other = tt
 unwritten v w r ReignLimit is count cause other = tt
+unwritten v w r (NeedForward needing) is count cause other = tt
 unwritten v w r (NotAFile file offset) is count cause other = other file offset is
 unwritten v w r NoMemory is count cause other = tt
 
@@ -243,6 +245,7 @@ make_failed leftovers view old disk name specs rs (Full nodes) before now k are 
 make_failed leftovers view old disk name specs rs SeqLimit before now k are free f t p h u = absurd t
 make_failed leftovers view old disk name specs rs GenLimit before now k are free f t p h u = absurd t
 make_failed leftovers view old disk name specs rs ReignLimit before now k are free f t p h u = absurd t
+make_failed leftovers view old disk name specs rs (NeedForward needing) before now k are free f t p h u = absurd t
 make_failed leftovers view old disk name specs rs (NotAFile file offset) before now k are free f t p h u = absurd f
 make_failed leftovers view old disk name specs rs NoMemory before now k are free f t p h u = absurd t
 
@@ -289,6 +292,7 @@ create_failed view old new name regions (Full nodes) before now look t p h = abs
 create_failed view old new name regions SeqLimit before now look t p h = absurd t
 create_failed view old new name regions GenLimit before now look t p h = absurd t
 create_failed view old new name regions ReignLimit before now look t p h = absurd t
+create_failed view old new name regions (NeedForward needing) before now look t p h = absurd t
 create_failed view old new name regions (NotAFile file offset) before now look t p h = let r = look p h in comes_damaged file offset r.0 refl r.1.0 r.1.1 r.2 t
 create_failed view old new name regions NoMemory before now look t p h = absurd t
 

@@ -30,6 +30,7 @@ use Rattle.site_runner.specs.declared.slot.Site.{Site}
 use Rattle.site_runner.specs.Sites.{IsOf}
 use Rattle.site_runner.specs.Mapping.{IsSeenAt, IsUnmappedIn, MapsAt}
 use Rattle.site_runner.proofs.Looked.{same_self}
+use Rattle.site_runner.proofs.Stopped.{names_same}
 use Rattle.site_runner.proofs.Ats.{some_both, reads_stand, if_some}
 use Rattle.site_runner.proofs.Patterns.{by_started, by_no_region, by_twice, by_nothing, refused_started, refused_no_region, refused_twice}
 use Rattle.site_runner.proofs.Mapped.{map_refused}
@@ -158,3 +159,12 @@ pub free_by : (region : Name) (text : List ℕ) (w : View) (found : FoundSite) (
 free_by region text w found number told none e once =
     let rs = found.log.records in
     by_nothing region text rs number (sym told.layout.generation ∙ none) (number_found region (of_records rs) found.layout (Some number) told.layout e) (once_found text (of_records rs) found.layout told.layout once)
+
+-- the search of a region, by the name that was asked for
+pub by_name : (found : Layout) (o : Option ℕ) (name n : List ℕ) → n ≡ name → o ≡ first_where (λ r. same_name r.name n) (map region_value (take found.directory.regions found.regions.items))
+    → o ≡ first_where (λ r. same_name r.name name) (map region_value (take found.directory.regions found.regions.items))
+by_name found o name n e h = h ∙ ap (λ (x : List ℕ). first_where (λ r. same_name r.name x) (map region_value (take found.directory.regions found.regions.items))) e
+
+-- the site that was found has the name that was asked for
+pub called : (found name n : List ℕ) (named : Bool) {own : List ℕ} → own ≡ found → n ≡ name → named ≡ same_name found n → named ≡ true → own ≡ name
+called found name n named own is same sure = own ∙ names_same found name (ap (same_name found) (sym is) ∙ sym same ∙ sure)

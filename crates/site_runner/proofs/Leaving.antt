@@ -30,9 +30,9 @@ use Rattle.site_runner.specs.declared.slot.State.TheVariants.{Down, Failed}
 use Rattle.site_runner.specs.declared.slot.Site.{Site}
 use Rattle.site_runner.specs.Sites.{state_value, site_value, HoldsState, IsOf, IsMade}
 use Rattle.site_runner.specs.Steps.{IsAt}
-use Rattle.site_runner.specs.Rolling.{IsDownAt}
+use Rattle.site_runner.specs.Refusing.{IsDownAt}
 use Rattle.site_runner.proofs.Amongs.{among_flat, flat_among}
-use Rattle.site_runner.proofs.Ats.{is_true_or_false, told_is, some_and, some_both, reads_site, is_site, standing_of, by_shown, reads_image, at_moment, as_told, shown_same, only, Leftovers, StandBy, ImagesStand, images_still, stand_by, stands_by, images_of, standings_of, up_down, place_of_one, stands_with}
+use Rattle.site_runner.proofs.Ats.{is_true_or_false, told_is, some_and, some_both, reads_site, is_site, standing_of, by_shown, reads_image, at_moment, as_told, shown_same, only, stand_more, Leftovers, StandBy, ImagesStand, images_still, stand_by, stands_by, images_of, standings_of, up_down, place_of_one, stands_with}
 use Rattle.site_runner.proofs.Seen.{counted}
 use Rattle.site_runner.proofs.Started.{each_stands}
 use Rattle.site_store.specs.Opening.{EachStands}
@@ -171,6 +171,43 @@ left_failed leftovers step so ends ends_so w s p k law site made may count rose 
 
     of : p.told ≡ true → (o : Contents) → After step p.outcomes o → IsOf s.name o
     of sure o a = ends.of s.name a.0 o a.2 ((made sure).outcomes a.0 a.1)
+
+-- Where nothing was written each outcome is an old one, which any such command may leave.
+
+pub old_ends : Ends (λ c o. o ≡ c)
+old_ends = record { all = λ c. c ∷ []; are = λ c o a. only o c a; covers = λ c o e. (o, inl e, inl refl); of = λ name c o e h. subst (IsOf name) (sym e) h }
+
+pub old_ends_so : EndsSo (λ s o. o ≡ s)
+old_ends_so = record { all = λ s. s ∷ []; are = λ s o a. only_so o s a; covers = λ s o e. (o, inl e, record { contents = inl refl; broken = refl }) }
+  where
+    only_so : (o s : Standing) → Among (s ∷ []) o → o ≡ s
+    only_so o s (inl e) = e
+    only_so o s (inr none) = absurd none
+
+pub fails_more : (k : ℕ) (site : Option world.Site) (A B : Contents → Contents → Type 0) (C D : Standing → Standing → Type 0) (p q : Place) → ((c o : Contents) → A c o → B c o) → ((s o : Standing) → C s o → D s o) → Fails k site A (StandAfter C) p q
+    → Fails k site B (StandAfter D) p q
+fails_more k site A B C D p q f g h = record {
+  site = h.site;
+  known = record {
+    told = h.known.told;
+    now = λ t. let a = h.known.now t in (a.0, a.1, f a.0 q.now a.2);
+    left = h.known.left;
+    outcomes = λ t o a. let x = h.known.outcomes t o a in (x.0, x.1, f x.0 o x.2);
+    standings = λ t. stand_more p.standings q.standings C D g (h.known.standings t);
+  };
+  count = h.count;
+  rose = h.rose;
+  simulated = h.simulated;
+}
+
+pub left_more : (A B : Contents → Contents → Type 0) (C D : Standing → Standing → Type 0) (p q : Place) → ((c o : Contents) → A c o → B c o) → ((s o : Standing) → C s o → D s o) → LeftBy A C p q → LeftBy B D p q
+left_more A B C D p q f g l = record {
+  told = l.told;
+  outcomes = λ t o a. elim (l.outcomes t o a) [ inl old ↦ inl old | inr x ↦ inr (x.0, x.1, f x.0 o x.2) ];
+  standings = λ t. stand_more p.standings q.standings (λ s o. (o ≡ s) ⊎ C s o) (λ s o. (o ≡ s) ⊎ D s o) (λ s o k. elim k [ inl e ↦ inl e | inr c ↦ inr (g s o c) ]) (l.standings t);
+  faults = l.faults;
+  simulated = l.simulated;
+}
 
 -- The command was done: the files stand for this alone, with nothing behind it.
 

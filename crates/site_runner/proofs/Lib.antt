@@ -37,5 +37,7 @@ pub mod Mapped
 pub mod Found
 pub mod Printed
 pub mod Leaving
+pub mod Refused
+pub mod Moded
 pub mod Recovered
 pub mod Rolled

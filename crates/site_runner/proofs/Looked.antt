@@ -6,7 +6,7 @@ use Rattle.disk_defs.specs.Disk.{Files, View, Image, IsLawful, AtEachMoment, Ros
 use Rattle.journal_defs.specs.Instance.{InstanceRecord, site_name}
 use Rattle.site_store.specs.declared.layout.Layout.{Layout}
 use Rattle.site_store.specs.declared.error.SiteError.{SiteError}
-use Rattle.site_store.specs.declared.error.SiteError.TheVariants.{Failed, Stopped, Full, SeqLimit, GenLimit, ReignLimit, NotAFile, NoMemory}
+use Rattle.site_store.specs.declared.error.SiteError.TheVariants.{Failed, Stopped, Full, SeqLimit, GenLimit, ReignLimit, NeedForward, NotAFile, NoMemory}
 use Rattle.site_store.specs.Finding.{IsFound}
 use Rattle.site_store.specs.Opening.{StandsAsBefore}
 use Rattle.command_defs.specs.Commands.{Name}
@@ -152,6 +152,7 @@ Unread (Full nodes) v w = Unit {0}
 Unread SeqLimit v w = Unit {0}
 Unread GenLimit v w = Unit {0}
 Unread ReignLimit v w = Unit {0}
+Unread (NeedForward needing) v w = Unit {0}
 Unread (NotAFile file offset) v w = IfSome v.content (λ files. (c : Contents) → Stands files c → ⊥) × IfSome v.content (IsNoSite file offset)
 Unread NoMemory v w = Unit {0}
 
@@ -207,6 +208,7 @@ saw_nothing leftovers view old disk (Full nodes) k free same u p h = left_so lef
 saw_nothing leftovers view old disk SeqLimit k free same u p h = left_so leftovers view old disk k free p h
 saw_nothing leftovers view old disk GenLimit k free same u p h = left_so leftovers view old disk k free p h
 saw_nothing leftovers view old disk ReignLimit k free same u p h = left_so leftovers view old disk k free p h
+saw_nothing leftovers view old disk (NeedForward needing) k free same u p h = left_so leftovers view old disk k free p h
 saw_nothing leftovers view old disk NoMemory k free same u p h = left_so leftovers view old disk k free p h
 
 -- what a look leaves is old, whatever it saw
@@ -218,6 +220,7 @@ sees_old (Err (Full nodes)) p q s = s
 sees_old (Err SeqLimit) p q s = s
 sees_old (Err GenLimit) p q s = s
 sees_old (Err ReignLimit) p q s = s
+sees_old (Err (NeedForward needing)) p q s = s
 sees_old (Err (NotAFile file offset)) p q s = record { told = s.0.kept.known.told; outcomes = λ known. s.0.kept.known.outcomes; standings = s.0.kept.known.standings; faults = s.0.kept.faults; simulated = s.0.kept.simulated }
 sees_old (Err NoMemory) p q s = s
 
@@ -244,5 +247,6 @@ looks leftovers view old disk (Err (Full nodes)) k free is same alike holds outs
 looks leftovers view old disk (Err SeqLimit) k free is same alike holds outside bytes count cause = saw_nothing leftovers view old disk SeqLimit k free same tt
 looks leftovers view old disk (Err GenLimit) k free is same alike holds outside bytes count cause = saw_nothing leftovers view old disk GenLimit k free same tt
 looks leftovers view old disk (Err ReignLimit) k free is same alike holds outside bytes count cause = saw_nothing leftovers view old disk ReignLimit k free same tt
+looks leftovers view old disk (Err (NeedForward needing)) k free is same alike holds outside bytes count cause = saw_nothing leftovers view old disk (NeedForward needing) k free same tt
 looks leftovers view old disk (Err (NotAFile file offset)) k free is same alike holds outside bytes count cause = saw_nothing leftovers view old disk (NotAFile file offset) k free same (outside file offset refl, bytes file offset refl)
 looks leftovers view old disk (Err NoMemory) k free is same alike holds outside bytes count cause = saw_nothing leftovers view old disk NoMemory k free same tt

@@ -91,7 +91,7 @@ seen_at v w s p k down alike h = record {
 }
 
 -- a place whose files aren't known
-unknown_seen : (w : View) (s : Site) (p : Place) → s.state ≡ Down → p.site ≡ Some (site_value s) → p.told ≡ false → IfShown p (λ files. w.content ≡ Some files) → p.faults ≤ w.faults → w.simulated ≡ p.simulated → IsSeenAt w s p
+pub unknown_seen : (w : View) (s : Site) (p : Place) → s.state ≡ Down → p.site ≡ Some (site_value s) → p.told ≡ false → IfShown p (λ files. w.content ≡ Some files) → p.faults ≤ w.faults → w.simulated ≡ p.simulated → IsSeenAt w s p
 unknown_seen w s p down site unsure shown faults same = record {
   site = site;
   down = down;
@@ -105,7 +105,7 @@ unknown_seen w s p down site unsure shown faults same = record {
   simulated = same;
 }
 
-seen_counted : (w : View) (s : Site) (p : Place) → IsSeenAt w s p → IsAt w s (counted p w.faults)
+pub seen_counted : (w : View) (s : Site) (p : Place) → IsSeenAt w s p → IsAt w s (counted p w.faults)
 seen_counted w s p h = record {
   disk = record {
     told = h.reads;
@@ -371,7 +371,7 @@ pub there_cut : (leftovers : Leftovers) (region : Name) (number : ℕ) (text : L
 there_cut leftovers region number text v w s m p h = map_cut leftovers region text w s p m.lawful (there_mapped leftovers region number text v w s p m h) (omega (arith, m.later, h.faults))
 
 -- nothing is shown of a disk that tells nothing
-shown_none : (x o n : Option Files) → IfSome o (λ _. ⊥) → IfSome x (λ f. o ≡ Some f) → IfSome x (λ f. n ≡ Some f)
+pub shown_none : (x o n : Option Files) → IfSome o (λ _. ⊥) → IfSome x (λ f. o ≡ Some f) → IfSome x (λ f. n ≡ Some f)
 shown_none None o n h e = tt
 shown_none (Some f) None n h e = absurd (cc e)
 shown_none (Some f) (Some g) n h e = absurd h
@@ -413,7 +413,7 @@ done_at region number text w s before now p read down site as_before named free 
     })
     t
 
-some_and_of : (o : Option Files) (P : Files → Type 0) → IsSome o → IfSome o P → IsSomeAnd o P
+pub some_and_of : (o : Option Files) (P : Files → Type 0) → IsSome o → IfSome o P → IsSomeAnd o P
 some_and_of None P h k = cc
 some_and_of (Some f) P h k = k
 

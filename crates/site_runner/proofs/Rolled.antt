@@ -30,21 +30,21 @@ use Rattle.site_store.specs.declared.layout.RegionSpec.{RegionSpec}
 use Rattle.site_store.specs.Opening.{EachStands, region_value}
 use Rattle.site_store.specs.Finding.{HasLayout}
 use Rattle.site_store.proofs.Found.{instance_one}
-use Rattle.mupip_rollback.specs.Rolling as rolling
-use Rattle.mupip_rollback.specs.Rolling.{StandsFor, NoneIsWithout}
+use Rattle.mupip_rollback.specs.Rolling.{StandsFor}
+use Rattle.site_store.specs.Needing.{NoneIsWithout}
 use Rattle.world_defs.specs.World as world
 use Rattle.world_defs.specs.World.{Place, UNTOLD, AmongCovered, AmongCoveredSo, IfShown}
 use Rattle.world_defs.specs.Answers.{Cause, GenLimit, NoBefore, Running, Stopped, Refusal, line}
 use Rattle.world_defs.specs.Row.{refused_with, in_state, why_not_down, where_known}
 use Rattle.world_defs.specs.Shown.{HasNoLayout}
 use Rattle.world_defs.specs.rows.Start.{generation_limit}
-use Rattle.world_defs.specs.rows.Rollback.{stay_of, MayRollBackTo, MayRollBackToLeft, BeganWithout, RolledBackBy, RollbackRefusedBy, rollback}
+use Rattle.world_defs.specs.rows.Rollback.{stay_of, MayRollBackTo, MayRollBackToLeft, RolledBackBy, RollbackRefusedBy, rollback}
 use Rattle.site_runner.specs.declared.slot.State.TheVariants.{Down, Failed}
 use Rattle.site_runner.specs.declared.slot.Site.{Site}
 use Rattle.site_runner.specs.Sites.{state_value, IsOf}
 use Rattle.site_runner.specs.Executes.{Comes}
 use Rattle.site_runner.specs.Steps.{IsAt, ExecutesAt, IsCutAt}
-use Rattle.site_runner.specs.Rolling.{IsDownAt, NeedsForward, TellsRegion, RefusesAt, IsCutDown}
+use Rattle.site_runner.specs.Refusing.{IsDownAt}
 use Rattle.site_runner.proofs.Amongs.{among_first, among_second, among_either, among_map, map_among}
 use Rattle.site_runner.proofs.Ats.{comes_done, comes_refused, comes_may_refuse, comes_fault, comes_damaged, refused_late, none_refused, state_at, not_true, is_true_or_false, some_both, reads_site, is_site, stands_told, if_some, by_shown, any_shown, shown_unwritten, Leftovers}
 use Rattle.site_runner.proofs.Begun.{starts_up_to, among_starts, any_among, of_more, generation_past, generation_left}
@@ -274,198 +274,3 @@ rollback_done number v w s kept lost before now down read told held same later t
 
     lost_is : lost ≡ generation d.becomes.now.instance - 1
     lost_is = r.says.1 ∙ sym (drawn_twice r.read.instance (length r.read.sequence) (stay_of number r.read)) ∙ sym (ap (λ (x : Contents). generation x.instance - 1) d.is)
-
--- A region that needs forward recovery.
-
-any_of : {X : Type 0} (test : X → Bool) (xs : List X) → list_any test xs ≡ true → (x : X) × Among xs x × (test x ≡ true)
-any_of test [] e = absurd (false≢true e)
-any_of {X} test (x ∷ xs) e = by (test x) refl e (λ h. any_of test xs h)
-  where
-    by : (b : Bool) → test x ≡ b → (b || list_any test xs) ≡ true → (list_any test xs ≡ true → (y : X) × Among xs y × (test y ≡ true)) → (y : X) × Among (x ∷ xs) y × (test y ≡ true)
-    by true is h more = (x, inl refl, is)
-    by false is h more = let k = more h in (k.0, inr k.1, k.2)
-
-found_passes : {X : Type 0} (test : X → Bool) (xs : List X) (x : X) → find test xs ≡ Some x → test x ≡ true
-found_passes test [] x e = cc
-found_passes test (y ∷ xs) x e = by (test y) refl e (λ h. found_passes test xs x h)
-  where
-    by : (b : Bool) → test y ≡ b → (if b then Some y else find test xs) ≡ Some x → (find test xs ≡ Some x → test x ≡ true) → test x ≡ true
-    by true is h more = let same : y ≡ x = cc in ap test (sym same) ∙ is
-    by false is h more = more h
-
-mapped_from : {X Y : Type 0} (f : X → Y) (o : Option X) (y : Y) → option_map f o ≡ Some y → (x : X) × (o ≡ Some x) × (f x ≡ y)
-mapped_from f None y e = cc
-mapped_from f (Some x) y e = (x, refl, cc)
-
-and_both : (a b : Bool) → a && b ≡ true → (a ≡ true) × (b ≡ true)
-and_both true b e = (refl, e)
-and_both false b e = absurd (false≢true e)
-
--- a record that begins a generation without images
-begins_without : (x : JournalRecord) → starts_without x ≡ true → (s : Start) × (x ≡ Pini s) × (s.before ≡ false)
-begins_without (Pini s) e = (s, refl, off s.before e)
-  where
-    off : (b : Bool) → not b ≡ true → b ≡ false
-    off true h = absurd (false≢true h)
-    off false h = refl
-begins_without (Epoch m) e = absurd (false≢true e)
-begins_without (Pblk b) e = absurd (false≢true e)
-begins_without (Tcom p) e = absurd (false≢true e)
-
--- it's one of the starts
-start_among : (ps : List Placed) (q : Placed) (s : Start) → Among ps q → q.what ≡ Pini s → Among (filter_map (λ (p : Placed). start_in p.what) ps) s
-start_among [] q s a e = absurd a
-start_among (p ∷ ps) q s (inl same) e = rw (sym (ap (λ (x : Placed). x.what) same) ∙ e) (inl refl)
-start_among (p ∷ ps) q s (inr a) e = behind (start_in p.what) (start_among ps q s a e)
-  where
-    behind : (o : Option Start) → Among (filter_map (λ (x : Placed). start_in x.what) ps) s → Among (cons_option o (filter_map (λ (x : Placed). start_in x.what) ps)) s
-    behind None h = h
-    behind (Some x) h = inr h
-
--- of the generation in which it stands
-
-none_begins : (xs : List JournalRecord) (x : JournalRecord) (s : Start) → AllByRecursion IsNoPini xs → Among xs x → x ≡ Pini s → ⊥
-none_begins [] x s all a e = a
-none_begins (y ∷ xs) x s all (inl same) e = subst IsNoPini (sym same ∙ e) all.0
-none_begins (y ∷ xs) x s all (inr a) e = none_begins xs x s all.1 a e
-
-newest_start : (r g previous : ℕ) (xs : List JournalRecord) (x : JournalRecord) (s : Start) → BeginsWithPini r g previous xs → Among xs x → x ≡ Pini s → s.generation ≡ g
-newest_start r g previous [] x s begins a e = absurd a
-newest_start r g previous (Pini t ∷ xs) x s begins (inl same) e = let is : Pini t ≡ Pini s = sym same ∙ e in let one : t ≡ s = cc in ap (λ (y : Start). y.generation) (sym one) ∙ begins.1
-newest_start r g previous (Pini t ∷ xs) x s begins (inr a) e = absurd (none_begins xs x s begins.3 a e)
-newest_start r g previous (Epoch m ∷ xs) x s begins a e = absurd begins
-newest_start r g previous (Pblk b ∷ xs) x s begins a e = absurd begins
-newest_start r g previous (Tcom p ∷ xs) x s begins a e = absurd begins
-
-start_generation : (files : Files) (r g last : ℕ) (journal : List Placed) (q : Placed) (s : Start) → IsJournal files r g last journal → Among journal q → q.what ≡ Pini s → s.generation ≡ q.generation
-start_generation files r zero last journal q s h a e = absurd (subst (λ (ps : List Placed). Among ps q) h.1 a)
-start_generation files r (suc g) last journal q s h a e = elim (among_either h.1 (map (in_generation (suc g)) h.2) q (subst (λ (ps : List Placed). Among ps q) h.7 a)) [
-  | inl older ↦ start_generation files r g h.0 h.1 q s h.3 older e
-  | inr newer ↦
-      let x = map_among (in_generation (suc g)) h.2 q newer in
-      newest_start r (suc g) h.0 h.2 x.0 s h.5 x.1 (sym (ap (λ (p : Placed). p.what) x.2) ∙ e) ∙ sym (ap (λ (p : Placed). p.generation) x.2)
-]
-
--- the region began that generation without images
-began_without : (files : Files) (c : Contents) (u : Records) (t region g : ℕ) (mode : NamedMode) (name : Name) → (site : IsSite files c) → AreRecords files u → c.instance ≡ u.instance → site.records ≡ u → region < length (regions u.instance) → rolling.without_behind u t region ≡ Some g
-    → slice_get (regions u.instance) region ≡ Some mode → mode.name ≡ name → BeganWithout name g c
-began_without files c u t region g mode name site held same records_are inside needs there named =
-    let e : Chosen = chosen u.instance t (u.journal region) in
-    let first = mapped_from (λ (p : Placed). p.generation) (find (is_without (u.journal region)) e.after) g needs in
-    let without = any_of _ (u.journal region) (found_passes (is_without (u.journal region)) e.after first.0 first.1) in
-    let both = and_both _ _ without.2 in
-    let start = begins_without without.0.what both.1 in
-    let journal = held.journals region inside in
-    record {
-      region = region;
-      mode = mode;
-      there = ap (λ (rs : List InstanceRecord). slice_get (regions rs) region) same ∙ there;
-      named = named;
-      start = start.0;
-      among = subst (λ (ss : List Start). Among ss start.0) (sym (site.starts region ∙ ap (λ (s : Records). filter_map (λ (p : Placed). start_in p.what) (s.journal region)) records_are)) (start_among (u.journal region) without.0 start.0 without.1 start.1);
-      without = start.2;
-      generation = start_generation files region (generation u.instance) journal.0 (u.journal region) without.0 start.0 journal.1 without.1 start.1 ∙ eqb-true without.0.generation first.0.generation both.0 ∙ first.2;
-    }
-
--- the region by its name
-
-at_map : {X Y : Type 0} (f : X → Y) (xs : List X) (i : ℕ) → slice_get (map f xs) i ≡ option_map f (slice_get xs i)
-at_map f [] i = refl
-at_map f (x ∷ xs) zero = refl
-at_map f (x ∷ xs) (suc i) = at_map f xs i
-
-not_inside : {X : Type 0} (xs : List X) (i : ℕ) → i < length xs → slice_get xs i ≡ None → ⊥
-not_inside [] i inside e = absurd (omega (arith, inside))
-not_inside (x ∷ xs) zero inside e = cc
-not_inside (x ∷ xs) (suc i) inside e = not_inside xs i (omega (arith, inside)) e
-
--- what a disk holds of a site that was found there, and the region that needs forward recovery
-abbrev FoundSo : (number region g : ℕ) → List InstanceRecord → Files → Type 0
-FoundSo number region g rs files = NeedsForward number region g files × IsInstance (files INSTANCE) rs
-
-found_so : (number region g : ℕ) (v w : View) (rs : List InstanceRecord) → w.content ≡ v.content → IfSome v.content (NeedsForward number region g) → IfSome w.content (λ files. IsInstance (files INSTANCE) rs) → IfSome v.content (FoundSo number region g rs)
-found_so number region g v w rs content needs is =
-    both_weak v.content (NeedsForward number region g) (λ files. IsInstance (files INSTANCE) rs) (FoundSo number region g rs) needs (subst (λ (o : Option Files). IfSome o (λ files. IsInstance (files INSTANCE) rs)) content is) (λ f a b. (a, b))
-
--- a layout's region is that of the records
-region_of : (found : Layout) (rs : List InstanceRecord) (u : Records) (files : Files) (region : ℕ) (o : Option RegionSpec) → HasLayout rs found → IsInstance (files INSTANCE) rs → AreRecords files u → slice_get found.regions.items region ≡ o
-    → slice_get (regions u.instance) region ≡ option_map region_value o
-region_of found rs u files region o layout is held e =
-    ap (λ (l : List NamedMode). slice_get l region) (ap regions (instance_one (files INSTANCE) u.instance rs held.instance is) ∙ sym layout.regions)
-    ∙ at_map region_value found.regions.items region ∙ ap (option_map region_value) e
-
-first_by_name : (number region g : ℕ) (found : Layout) (rs : List InstanceRecord) (spec : RegionSpec) (files : Files) → HasLayout rs found → slice_get found.regions.items region ≡ Some spec → FoundSo number region g rs files → RollbackRefusedBy number (NoBefore spec.name g) files
-first_by_name number region g found rs spec files layout e k =
-    let first = k.0.4 in
-    (k.0.0, k.0.1, k.0.2, k.0.3, record { region = region; mode = region_value spec; there = region_of found rs k.0.0 files region (Some spec) layout k.1 k.0.2 e; named = refl; needs = first.needs; earlier = first.earlier })
-
-outside_found : (number region g : ℕ) (found : Layout) (rs : List InstanceRecord) (files : Files) → HasLayout rs found → slice_get found.regions.items region ≡ None → FoundSo number region g rs files → ⊥
-outside_found number region g found rs files layout e k = not_inside (regions k.0.0.instance) region (k.0.4).there (region_of found rs k.0.0 files region None layout k.1 k.0.2 e)
-
-pub region_refused : (number region g : ℕ) (v w : View) (s : Site) (found : Layout) (rs : List InstanceRecord) (before now : List ℕ) → IsLawful w → IfSome v.content (NeedsForward number region g) → w.content ≡ v.content → AtEachMoment v w (Image v) → w.simulated ≡ v.simulated
-    → v.faults ≤ w.faults → IfSome w.content (λ files. IsInstance (files INSTANCE) rs) → HasLayout rs found → TellsRegion (slice_get found.regions.items region) s.name g before now → RefusesAt number v s w s before now false
-region_refused number region g v w s found rs before now law needs content untouched same later is layout t p h = by (slice_get found.regions.items region) refl t
-  where
-    after : IsDownAt w s p
-    after = still_down v w s p law content untouched same later h
-
-    so : IfSome v.content (FoundSo number region g rs)
-    so = found_so number region g v w rs content needs is
-
-    began : (spec : RegionSpec) → slice_get found.regions.items region ≡ Some spec → p.told ≡ true → BeganWithout spec.name g p.now
-    began spec e sure =
-        let here = some_both v.content _ _ (h.reads sure) so in
-        let site = (reads_site here.0 p.now p.left ((h.made sure).now.made) here.1).0 in
-        let k = here.2 in
-        let u : Records = k.0.0 in
-        let one = stand_one here.0 p.now u k.0.1 site k.0.2 k.0.3 in
-        began_without here.0 p.now u (min (number - 1) (length k.0.1)) region g (region_value spec) spec.name site k.0.2 one.0 (records_one here.0 site.records u site.image.held k.0.2) (k.0.4).there (k.0.4).needs
-        (region_of found rs u here.0 region (Some spec) layout k.1 k.0.2 e) refl
-
-    by : (o : Option RegionSpec) → slice_get found.regions.items region ≡ o → TellsRegion o s.name g before now → Comes (rollback number s.name p) (IsAt w s) before now false
-    by None e text =
-        let never : IfSome v.content (λ files. ⊥) = if_some v.content (FoundSo number region g rs) (λ files. ⊥) (λ f k. outside_found number region g found rs f layout e k) so in
-        let unsure : p.told ≡ false = not_true p.told (λ sure. (some_both v.content _ _ (h.reads sure) never).2) in
-        comes_damaged 0 0 (counted p w.faults) (early_down v number s p h) (record { unknown = unsure; kept = kept_counted p w.faults after.faults })
-        (by_shown p.shown v.content (λ files. IsOutsideRollback (number - 1) files 0 0) h.shown (if_some v.content (λ files. ⊥) (λ files. IsOutsideRollback (number - 1) files 0 0) (λ f no. absurd no) never)) (down_counted w s p after) text
-    by (Some spec) e text =
-        comes_may_refuse (record { site = s.name; cause = NoBefore spec.name g }) (counted p w.faults) (early_down v number s p h) (inr (spec.name, g, refl, began spec e, kept_counted p w.faults after.faults))
-        (by_shown p.shown v.content (RollbackRefusedBy number (NoBefore spec.name g)) h.shown (if_some v.content (FoundSo number region g rs) (RollbackRefusedBy number (NoBefore spec.name g)) (λ f k. first_by_name number region g found rs spec f layout e k) so))
-        (down_counted w s p after) text
-
--- bytes outside the formats, or no site's
-pub find_damaged : (number : ℕ) (v w : View) (s : Site) (file offset : ℕ) (before now : List ℕ) → IsLawful w → w.content ≡ v.content → AtEachMoment v w (Image v) → w.simulated ≡ v.simulated → v.faults ≤ w.faults
-    → IfSome v.content (λ files. (c : Contents) → IsSite files c → ⊥) → IfSome v.content (HasNoLayout file offset) → now ≡ before ++ line s.name (codes "NOTAFILE " ++ decimal file ++ 32 ∷ decimal offset) → RefusesAt number v s w s before now false
-find_damaged number v w s file offset before now law content untouched same later outside bytes t p h =
-    let after : IsDownAt w s p = still_down v w s p law content untouched same later h in
-    let unsure : p.told ≡ false = not_true p.told (λ sure. let here = some_both v.content _ _ (h.reads sure) outside in here.2 p.now (reads_site here.0 p.now p.left ((h.made sure).now.made) here.1).0) in
-    comes_damaged file offset (counted p w.faults) (early_down v number s p h) (record { unknown = unsure; kept = kept_counted p w.faults after.faults })
-    (by_shown p.shown v.content (λ files. IsOutsideRollback (number - 1) files file offset) h.shown (if_some v.content (HasNoLayout file offset) (λ files. IsOutsideRollback (number - 1) files file offset)
-    (λ f k. elim k [ inl a ↦ inl (inl (inl a)) | inr b ↦ inl (inl (inr (inl b))) ]) bytes))
-    (down_counted w s p after) t
-
-pub find_fault : (leftovers : Leftovers) (number : ℕ) (v w : View) (s : Site) (k : ℕ) (before now : List ℕ) → IsLawful w → w.content ≡ v.content → AtEachMoment v w (Image v) → w.simulated ≡ v.simulated → v.faults ≤ w.faults → k ≡ w.faults → Rose v.faults w.faults
-    → now ≡ before ++ line s.name (codes "DISKFAULT " ++ decimal k) → RefusesAt number v s w (record { name = s.name; state = Failed k }) before now false
-find_fault leftovers number v w s k before now law content untouched same later count rose t p h =
-    let after : IsDownAt w s p = still_down v w s p law content untouched same later h in
-    let l = left_failed leftovers (MayRollBackTo number p.left.broken) (MayRollBackToLeft number) (ends number p.left.broken) (ends_so number) w s p k law h.site h.made
-    (nothing_had (MayRollBackTo number p.left.broken) (MayRollBackToLeft number) w s p (λ c. inl refl) (λ x. inl refl) after) count (omega (arith, rose, h.faults)) in
-    comes_fault k l.becomes (early_down v number s p h) l.fails l.there t
-
-pub find_cut : (leftovers : Leftovers) (number : ℕ) (v w : View) (s : Site) → IsLawful w → w.content ≡ v.content → AtEachMoment v w (Image v) → w.simulated ≡ v.simulated → v.faults ≤ w.faults → IsCutDown number v s w
-find_cut leftovers number v w s law content untouched same later p h =
-    let after : IsDownAt w s p = still_down v w s p law content untouched same later h in
-    left_cut leftovers (MayRollBackTo number p.left.broken) (MayRollBackToLeft number) (ends number p.left.broken) (ends_so number) w s.name p law (nothing_had (MayRollBackTo number p.left.broken) (MayRollBackToLeft number) w s p (λ c. inl refl) (λ x. inl refl) after) after.faults
-
--- Behind a rollback that wrote nothing.
-
-pub refuses_so : (number : ℕ) (v w u : View) (s new : Site) (before now : List ℕ) (done : Bool) → IsLawful w → s.state ≡ Down → w.content ≡ v.content → AtEachMoment v w (Image v) → w.simulated ≡ v.simulated → v.faults ≤ w.faults
-    → RefusesAt number w s u new before now done → ExecutesAt (rollback number s.name) v s u new before now done
-refuses_so number v w u s new before now done law down content untouched same later r p h = r p (still_down v w s p law content untouched same later (down_at v s p down h))
-
-pub cut_down_so : (number : ℕ) (v w u : View) (s : Site) → IsLawful w → s.state ≡ Down → w.content ≡ v.content → AtEachMoment v w (Image v) → w.simulated ≡ v.simulated → v.faults ≤ w.faults → IsCutDown number w s u → IsCutAt (rollback number s.name) v s u
-cut_down_so number v w u s law down content untouched same later r p h = r p (still_down v w s p law content untouched same later (down_at v s p down h))
-
--- under the site's own name
-pub region_told : (name n before now : List ℕ) (o : Option RegionSpec) (g : ℕ) → n ≡ name → TellsRegion o n g before now → TellsRegion o name g before now
-region_told name n before now o g e t = subst (λ (x : List ℕ). TellsRegion o x g before now) e t

@@ -25,6 +25,7 @@ use Rattle.site_defs.specs.Lists.{Among}
 use Rattle.world_defs.specs.World as world
 use Rattle.world_defs.specs.World.{Place, has_failed_on, IfShown}
 use Rattle.world_defs.specs.Shown.{BySequence, IsOfAnother}
+use Rattle.world_defs.specs.Without.{NoneIsWithout}
 use Rattle.site_defs.specs.Contents.{Contents, Leftover, Standing, NO_LEFTOVER, bare}
 use Rattle.world_defs.specs.Answers.{Cause, Stopped, Running, GenLimit, ReignLimit, line}
 use Rattle.world_defs.specs.Row.{first, refused_with, in_state, why_not_down}
@@ -143,14 +144,14 @@ OpensSo v w = IfSome v.content (λ files. (c : Contents) → IsSite files c → 
 
 -- the records that the disk told are those that were opened, and a generation was left of them
 abbrev pub HeldBy : OpenSite → Files → Type 0
-HeldBy o files = BySequence (λ u seq. WasOpenedFrom u seq o × (generation u.instance < LAST_GENERATION)) files
+HeldBy o files = BySequence (λ u seq. WasOpenedFrom u seq o × (generation u.instance < LAST_GENERATION) × NoneIsWithout u (length seq)) files
 
 abbrev pub OpensHeld : View → OpenSite → Type 0
 OpensHeld v o = IfSome v.content (HeldBy o)
 
-pub opens_held : (v : View) (o : OpenSite) → IfSome v.content (BySequence (λ u seq. WasOpenedFrom u seq o)) → IfSome v.content (λ files. (rs : List InstanceRecord) → IsInstance (files INSTANCE) rs → generation rs < 65534) → OpensHeld v o
-opens_held v o held drawn = both_weak v.content (BySequence (λ u seq. WasOpenedFrom u seq o)) (λ files. (rs : List InstanceRecord) → IsInstance (files INSTANCE) rs → generation rs < 65534) (HeldBy o) held drawn
-    (λ f k low. (k.0, k.1, k.2, k.3, (k.4, low k.0.instance k.2.instance)))
+pub opens_held : (v : View) (o : OpenSite) → IfSome v.content (BySequence (λ u seq. WasOpenedFrom u seq o × NoneIsWithout u (length seq))) → IfSome v.content (λ files. (rs : List InstanceRecord) → IsInstance (files INSTANCE) rs → generation rs < 65534) → OpensHeld v o
+opens_held v o held drawn = both_weak v.content (BySequence (λ u seq. WasOpenedFrom u seq o × NoneIsWithout u (length seq))) (λ files. (rs : List InstanceRecord) → IsInstance (files INSTANCE) rs → generation rs < 65534) (HeldBy o) held drawn
+    (λ f k low. (k.0, k.1, k.2, k.3, (k.4.0, low k.0.instance k.2.instance, k.4.1)))
 
 pub each_stands : (v : View) (p : Place) → Matches v p → p.told ≡ true → EachStands v
 each_stands v p m sure f i = let o = m.images sure f i in let c = stands_for (has_failed_on p.site) f o.0 o.2 in (c.0, c.2)
@@ -524,7 +525,7 @@ started_by v s o p h room =
       k.1,
       k.2,
       k.3,
-      (sym (ap site_name k.4.0.instance ∙ cut_named k.0.instance _ _) ∙ h.name, k.4.1, limit_by o k.0 k.1 h.broken h.read (length h.read.sequence) false k.4.0 h.is_open.remembered (room (opened h.broken h.read) (length h.read.sequence) h.is_open.remembered)),
+      (sym (ap site_name k.4.0.instance ∙ cut_named k.0.instance _ _) ∙ h.name, k.4.1, limit_by o k.0 k.1 h.broken h.read (length h.read.sequence) false k.4.0 h.is_open.remembered (room (opened h.broken h.read) (length h.read.sequence) h.is_open.remembered), k.4.2),
     )) h.held
 
 read_by : (v : View) (s : Site) (o : OpenSite) (p : Place) (h : IsOpenedAt v s o p) → IfShown p (BySequence (λ u seq. (h.read.instance ≡ u.instance) × (length h.read.sequence ≡ length seq)))
@@ -564,7 +565,7 @@ reign_limit_told v nothing s o before now p law h sure limit t =
 reign_limit_untold : (v : View) (s : Site) (o : OpenSite) (before now : List ℕ) (p : Place) → IsOpenedAt v s o p → p.told ≡ false → ((c : Contents) (n : ℕ) → Remembers c n o → no_reign_left c ≡ true) → now ≡ before ++ line s.name (codes "REIGNLIMIT") → Answers v s p s before now false
 reign_limit_untold v s o before now p h unsure limit t =
     comes_may_refuse (record { site = s.name; cause = ReignLimit }) (changed p v) (early_down s p h.down h.site)
-    (refl, inr (refl, changes_unknown v p unsure h.faults)) (limited_by v s o p h limit) (changed_at v s p h.down h.site unsure h.simulated) t
+    (refl, inr (inl (refl, changes_unknown v p unsure h.faults))) (limited_by v s o p h limit) (changed_at v s p h.down h.site unsure h.simulated) t
 
 pub reign_limited : (v : View) (nothing : NothingIsLeft v) (s : Site) (o : OpenSite) (before now : List ℕ) → IsLawful v → ((c : Contents) (n : ℕ) → Remembers c n o → no_reign_left c ≡ true) → now ≡ before ++ line s.name (codes "REIGNLIMIT") → BeginsAt v o s v s before now false
 reign_limited v nothing s o before now law limit t p h = elim (is_true_or_false p.told) [

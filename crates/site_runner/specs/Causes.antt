@@ -21,3 +21,4 @@ cause_value causes.NoFile = answers.NoFile
 cause_value causes.GenLimit = answers.GenLimit
 cause_value causes.ReignLimit = answers.ReignLimit
 cause_value (causes.NoBefore region generation) = answers.NoBefore region generation
+cause_value (causes.NeedForward region) = answers.NeedForward region

@@ -12,7 +12,9 @@ pub mod Attaching
 pub mod Starting
 pub mod Mapping
 pub mod Marking
-pub mod Rolling
+pub mod Recovering
+pub mod Refusing
+pub mod Setting
 pub mod Ends
 pub mod Meant
 pub mod Going

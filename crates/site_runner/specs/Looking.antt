@@ -5,7 +5,7 @@ use Rattle.disk_defs.specs.Disk.{Files, View}
 use Rattle.journal_defs.specs.Instance.{site_name}
 use Rattle.site_store.specs.declared.layout.Layout.{Layout}
 use Rattle.site_store.specs.declared.error.SiteError.{SiteError}
-use Rattle.site_store.specs.declared.error.SiteError.TheVariants.{Failed, Stopped, Full, SeqLimit, GenLimit, ReignLimit, NotAFile, NoMemory}
+use Rattle.site_store.specs.declared.error.SiteError.TheVariants.{Failed, Stopped, Full, SeqLimit, GenLimit, ReignLimit, NeedForward, NotAFile, NoMemory}
 use Rattle.command_defs.specs.Commands.{Name}
 use Rattle.site_defs.specs.Lists.{Among}
 use Rattle.world_defs.specs.World.{Place, IfShown, NoNew, Kept, StandAsBefore}
@@ -50,6 +50,7 @@ Sees (Err (Full nodes)) p q = LeavesOld p q
 Sees (Err SeqLimit) p q = LeavesOld p q
 Sees (Err GenLimit) p q = LeavesOld p q
 Sees (Err ReignLimit) p q = LeavesOld p q
+Sees (Err (NeedForward needing)) p q = LeavesOld p q
 Sees (Err (NotAFile file offset)) p q = KeptUnknown p q × IfShown p (IsNoSite file offset)
 Sees (Err NoMemory) p q = LeavesOld p q
 
@@ -65,5 +66,6 @@ Tells (Full nodes) word before now = ⊥
 Tells SeqLimit word before now = ⊥
 Tells GenLimit word before now = ⊥
 Tells ReignLimit word before now = ⊥
+Tells (NeedForward needing) word before now = ⊥
 Tells (NotAFile file offset) word before now = now ≡ before ++ line word (codes "NOTAFILE " ++ decimal file ++ 32 ∷ decimal offset)
 Tells NoMemory word before now = ⊥

@@ -7,6 +7,7 @@ use Rattle.site_store.specs.Site.{IsOpen, WasOpenedFrom}
 use Rattle.site_defs.specs.Lists.{Among}
 use Rattle.world_defs.specs.World.{Place, IfShown}
 use Rattle.world_defs.specs.Shown.{BySequence}
+use Rattle.world_defs.specs.Without.{NoneIsWithout}
 use Rattle.site_defs.specs.Contents.{Contents}
 use Rattle.world_defs.specs.rows.Start.{generation_limit, start}
 use Rattle.site_defs.specs.Limits.{LAST_GENERATION}
@@ -35,8 +36,8 @@ pub record IsOpenedAt (v : View) (s : Site) (o : OpenSite) (p : Place) : Type 0 
   -- and one of the standings
   pub standing : IsTrue p.told → IfSome p.standings (λ os. Among os (record { contents = p.now; broken = p.left.broken }))
   pub drawn : IsTrue p.told → generation_limit p.now ≡ None
-  -- the records that the disk told, of which a generation was left, and the sequence that they stand for
-  pub held : IfShown p (BySequence (λ u seq. WasOpenedFrom u seq o × (generation u.instance < LAST_GENERATION)))
+  -- the records that the disk told, of which a generation was left, and the sequence that they stand for, for which no region needs forward recovery
+  pub held : IfShown p (BySequence (λ u seq. WasOpenedFrom u seq o × (generation u.instance < LAST_GENERATION) × NoneIsWithout u (length seq)))
   pub faults : p.faults ≤ v.faults
   pub simulated : v.simulated ≡ p.simulated
 

@@ -33,6 +33,8 @@ pub enum Cause {
     ReignLimit,
     /// The region needs forward recovery for what is to stay, first for that generation, which keeps no images.
     NoBefore { region: Bytes, generation: u32 },
+    /// The region needs forward recovery for all entries.
+    NeedForward { region: Bytes },
 }
 
 impl Cause {
@@ -68,6 +70,10 @@ impl Cause {
                 text.push_all(region.as_slice())?;
                 text.push_all(b" ")?;
                 text.push_decimal(u64::from(*generation))
+            }
+            Cause::NeedForward { region } => {
+                text.push_all(b"NEEDFORWARD ")?;
+                text.push_all(region.as_slice())
             }
         }
     }

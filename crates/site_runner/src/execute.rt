@@ -20,6 +20,7 @@ use super::printing::print;
 use super::recovering::recover;
 use super::rolling::rollback;
 use super::section::run_section;
+use super::setting::set_journal;
 use super::showing::show;
 use super::slot::{Site, Slot};
 use super::start::start;
@@ -39,6 +40,7 @@ fn name_of(command: &Command) -> &Bytes
         Command::Attach => unreachable!(),
         Command::Create { site, .. }
         | Command::Map { site, .. }
+        | Command::SetJournal { site, .. }
         | Command::StartPrimary { site }
         | Command::Run { site, .. }
         | Command::Stop { site }
@@ -50,7 +52,8 @@ fn name_of(command: &Command) -> &Bytes
         | Command::Show { site }
         | Command::Print { site, .. }
         | Command::Resync { site, .. }
-        | Command::RecoverBackward { site } => site,
+        | Command::RecoverBackward { site }
+        | Command::RecoverForward { site } => site,
     }
 }
 
@@ -78,6 +81,11 @@ fn execute_on<D: Disk>(
             pattern,
             ..
         } => map(alloc, disk, site, region, pattern.as_slice(), text),
+        Command::SetJournal {
+            region,
+            before,
+            ..
+        } => set_journal(alloc, disk, site, region, before, text),
         Command::StartPrimary { .. } => start(alloc, disk, site, text),
         Command::Run { jobs, order, .. } => {
             run_section(alloc, disk, site, jobs, order.as_slice(), text)
@@ -95,7 +103,8 @@ fn execute_on<D: Disk>(
             ..
         } => print(disk, site, lost, generation, text),
         Command::Resync { number, .. } => rollback(alloc, disk, site, number, text),
-        Command::RecoverBackward { .. } => recover(alloc, disk, site, text),
+        Command::RecoverBackward { .. } => recover(alloc, disk, site, false, text),
+        Command::RecoverForward { .. } => recover(alloc, disk, site, true, text),
     }
 }
 

@@ -30,14 +30,14 @@ use std::alloc::Global;
 use world_laws::leftovers::leftovers_hold;
 
 /// Whether the site that was found has this name.
-fn is_named(found: &Layout, name: &[u8]) -> bool
+pub fn is_named(found: &Layout, name: &[u8]) -> bool
     ensures { result ≡ same_name found.now.name name.now }
 {
     found.name.as_slice() == name
 }
 
 /// The number of the first region with that name.
-fn region_named(found: &Layout, name: &[u8]) -> Option<u8>
+pub fn region_named(found: &Layout, name: &[u8]) -> Option<u8>
     ensures number { result ≡ first_where (λ r. same_name r.name name.now) (map region_value (take found.now.directory.regions found.now.regions.items)) }
     ensures inside { IfSome result (λ number. number < found.now.directory.regions) }
 {

@@ -10,6 +10,7 @@ ghost use Rattle.site_runner.specs.Starting.{BeginsAt, IsCutOpened};
 
 use super::answering::{damaged, fail, refuse};
 use super::cause::Cause;
+use super::refusing::{Needing, refuse_region};
 use super::slot::{Site, State};
 use super::text::write_primary;
 use gvn_key::{Bytes, NoMemory};
@@ -84,6 +85,9 @@ fn open<D: Disk>(
             }
         }
         Err(SiteError::GenLimit) => refuse(text, site.name.as_slice(), &Cause::GenLimit),
+        Err(SiteError::NeedForward { region }) => {
+            refuse_region(alloc, disk, site, region, Needing::Opening, text)
+        }
         Err(SiteError::Failed { fault }) => fail(site, fault, text),
         Err(SiteError::NotAFile { file, offset }) => {
             damaged(text, site.name.as_slice(), file, offset)

@@ -1,6 +1,7 @@
 // Lines of answers.
 ghost use Rattle.std.specs.Prelude.{◌≡◌, ◌++◌, ◌∷◌, OnOk, codes};
 ghost use Rattle.std.specs.Fmt.{decimal};
+ghost use Rattle.command_defs.specs.Parts.{mode_word};
 ghost use Rattle.gvn_model.specs.Reigns.{reign_value};
 ghost use Rattle.world_defs.specs.Answers.{line};
 ghost use Rattle.world_defs.specs.rows.Run.{undecided_line};
@@ -62,6 +63,22 @@ pub fn write_rolled(
     text.push_all(b" LOST ")?;
     text.push_decimal(u64::from(generation))?;
     text.push_all(b"\n")
+}
+
+/// Adds the line of a region whose later generations keep images, or don't.
+pub fn write_mode(
+    text: &mut Bytes,
+    name: &[u8],
+    region: &[u8],
+    before: bool,
+) -> Result<(), NoMemory>
+    ensures { OnOk result (text.new ≡ text.old ++ line name.now (codes "JOURNAL " ++ region.now ++ 32 ∷ mode_word before)) }
+{
+    text.push_all(name)?;
+    text.push_all(b" JOURNAL ")?;
+    text.push_all(region)?;
+    let mode: &[u8] = if before { b" BEFORE\n" } else { b" NOBEFORE\n" };
+    text.push_all(mode)
 }
 
 /// Adds the line of the state of a site that is open: the cycle of its reign, and its length.

@@ -4,7 +4,7 @@ use Rattle.disk_defs.specs.Disk.{Rose}
 use Rattle.site_defs.specs.Lists.{Among}
 use Rattle.site_defs.specs.Contents.{Contents, Standing, NO_LEFTOVER, bare}
 use Rattle.site_defs.specs.Opening.{IsBehind}
-use Rattle.world_defs.specs.World.{State, Site, Place, IfKnown, StaysKnown, Kept}
+use Rattle.world_defs.specs.World.{State, Site, Place, IfKnown, StandAfter, StaysKnown, Kept}
 
 abbrev pub in_new_state : State → Option Site → Option Site
 in_new_state state None = None
@@ -29,20 +29,20 @@ pub record Stays (site_then : Option Site) (c : Contents) (old new : Place) : Ty
 abbrev pub Becomes : State → Contents → Place → Place → Type 0
 Becomes state c old new = Stays (in_new_state state old.site) c old new
 
--- A site is in this state, and as much is known as before: its files stand for this and nothing else, with what lay behind it before.
-pub record BecomesOver (state : State) (c : Contents) (old new : Place) : Type 0 where
+-- one of the outcomes, after a step
+abbrev pub After : (Contents → Contents → Type 0) → List Contents → Contents → Type 0
+After step outcomes o = (c : Contents) × Among outcomes c × step c o
+
+-- A site is in this state, and as much is known as before: its files stand for this, and each image for an outcome after a step. What lay behind stays there.
+pub record Alters (state : State) (c : Contents) (step : Contents → Contents → Type 0) (so : Standing → Standing → Type 0) (old new : Place) : Type 0 where
   pub site : new.site ≡ in_new_state state old.site
   pub told : new.told ≡ old.told
   pub now : new.now ≡ c
   pub left : new.left ≡ old.left
-  pub outcomes : new.outcomes ≡ c ∷ []
-  pub standings : new.standings ≡ Some (record { contents = c; broken = old.left.broken } ∷ [])
+  pub outcomes : (o : Contents) → Among new.outcomes o → After step old.outcomes o
+  pub standings : StandAfter so old.standings new.standings
   pub faults : old.faults ≤ new.faults
   pub simulated : new.simulated ≡ old.simulated
-
--- one of the outcomes, after a step
-abbrev pub After : (Contents → Contents → Type 0) → List Contents → Contents → Type 0
-After step outcomes o = (c : Contents) × Among outcomes c × step c o
 
 -- As much is known as before: what the files read as is an outcome after a step, and so is what each image stands for. What lies behind is told of standings, by what is known of them after.
 pub record MayBe (step : Contents → Contents → Type 0) (so : Option (List Standing) → Option (List Standing) → Type 0) (old new : Place) : Type 0 where

@@ -176,7 +176,8 @@ pub fn setting_holds()
     ensures set { (before : Bool) (q : Place) (text : List ℕ) → Here (set_journal (codes "R") before (codes "A") (left_place two_entries)) Done q text → mode_of q.now.instance 0 ≡ Some before }
     ensures kept { (before : Bool) (q : Place) (text : List ℕ) → Here (set_journal (codes "R") before (codes "A") (left_place two_entries)) Done q text → q.now.sequence ≡ two_entries.sequence }
     ensures behind { (before : Bool) (q : Place) (text : List ℕ) → Here (set_journal (codes "R") before (codes "A") (left_place two_entries)) Done q text → q.left ≡ (left_place two_entries).left }
-    ensures standings { (before : Bool) (q : Place) (text : List ℕ) → Here (set_journal (codes "R") before (codes "A") (left_place two_entries)) Done q text → q.standings ≡ Some (record { contents = q.now; broken = codes "x" } ∷ []) }
+    ensures standings { (before : Bool) (q : Place) (text : List ℕ) → Here (set_journal (codes "R") before (codes "A") (left_place two_entries)) Done q text → IsSomeAnd q.standings (λ os. (o : Standing) → Among os o → (o.contents ≡ q.now) × (o.broken ≡ codes "x")) }
+    ensures outcomes { (before : Bool) (q : Place) (text : List ℕ) → Here (set_journal (codes "R") before (codes "A") (left_place two_entries)) Done q text → (o : Contents) → Among q.outcomes o → o ≡ q.now }
     ensures not_refused { (before : Bool) (r : Refusal) (q : Place) (text : List ℕ) → Here (set_journal (codes "R") before (codes "A") (left_place two_entries)) (Refused r) q text → ⊥ }
     ensures region { refusal_in (set_journal (codes "Q") false (codes "A") (down_place two_entries)) ≡ Some (record { site = codes "A"; cause = NoRegion (codes "Q") }) }
     ensures running { refusal (record { places = primary_place true two_entries ∷ [] }) (SetJournal (codes "A") (codes "R") false) ≡ Some (record { site = codes "A"; cause = Running }) }

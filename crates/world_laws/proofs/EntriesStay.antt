@@ -11,7 +11,7 @@ use Rattle.site_defs.specs.Fronts.{IsFrontOf, turn_of}
 use Rattle.site_defs.specs.Lists.{Among}
 use Rattle.site_defs.specs.Epochs.{MayMark}
 use Rattle.site_defs.specs.Forward.{MayRecoverAs}
-use Rattle.site_defs.specs.Opening.{MayMap, MayBegin, MaySetMode, with_mode}
+use Rattle.site_defs.specs.Opening.{MayMap, MayBegin, MaySetMode}
 use Rattle.world_defs.specs.World.{State, Down, Failed, Site, Place, Covers, Kept, is_free}
 use Rattle.world_defs.specs.Answers.{Section}
 use Rattle.world_defs.specs.Changes.{in_new_state, Stays, Becomes, Fails, FailsUnchanged, ChangesUnknown}
@@ -65,27 +65,29 @@ entries-changed x y c name n e every h = record {
 abbrev pub HasThose : Contents → Place → Type 0
 HasThose c p = (name : Name) (n : ℕ) (e : Entry) → HasEntry name n e p → IsTrue p.told → IsEntryAt n e c.sequence
 
--- the files stand for them and nothing else; the site that stands there then has the name of the one before
-entries-one : (site : Option Site) (c : Contents) (p q : Place) → q.told ≡ p.told → q.site ≡ site → q.now ≡ c → q.outcomes ≡ c ∷ [] → ((name : Name) → IsSiteOf name p.site → IsSiteOf name site) → HasThose c p → KeepsEntries p q
-entries-one site c p q same site_is now_is one named f name n e every h = record {
-  site = subst (IsSiteOf name) (sym site_is) (named name h.site);
-  now = λ t. subst (HasAt n e) (sym now_is) (f name n e h (told t));
-  outcomes = λ t o a. subst (HasAt n e) (sym (only_one o c (subst (λ (l : List Contents). Among l o) one a))) (f name n e h (told t));
+-- the site that stands there then has the name of the one before
+pub entries-stays : (site : Option Site) (c : Contents) (p q : Place) → ((name : Name) → IsSiteOf name p.site → IsSiteOf name site) → HasThose c p → Stays site c p q → KeepsEntries p q
+entries-stays site c p q named f b name n e every h = record {
+  site = subst (IsSiteOf name) (sym b.site) (named name h.site);
+  now = λ t. subst (HasAt n e) (sym b.known.now) (f name n e h (told t));
+  outcomes = λ t o a. subst (HasAt n e) (sym (only_one o c (subst (λ (l : List Contents). Among l o) b.known.outcomes a))) (f name n e h (told t));
 }
   where
     told : IsTrue q.told → IsTrue p.told
-    told t = subst IsTrue same t
-
-pub entries-stays : (site : Option Site) (c : Contents) (p q : Place) → ((name : Name) → IsSiteOf name p.site → IsSiteOf name site) → HasThose c p → Stays site c p q → KeepsEntries p q
-entries-stays site c p q named f b = entries-one site c p q b.known.told b.site b.known.now b.known.outcomes named f
+    told t = subst IsTrue b.known.told t
 
 pub entries-becomes : (state : State) (c : Contents) (p q : Place) → HasThose c p → Becomes state c p q → KeepsEntries p q
 entries-becomes state c p q f b = entries-stays (in_new_state state p.site) c p q (λ name h. site-new name state p.site h) f b
 
 pub entries-sets : (region : Name) (before : Bool) (p q : Place) → SetsMode region before p q → KeepsEntries p q
-entries-sets region before p q d =
-    entries-one (in_new_state Down p.site) (with_mode d.number before d.read) p q d.becomes.told d.becomes.site d.becomes.now d.becomes.outcomes (λ name h. site-new name Down p.site h)
-    (λ name n e h t. subst (HasAt n e) (sym (d.as_before t)) (h.now t))
+entries-sets region before p q d name n e every h = record {
+  site = subst (IsSiteOf name) (sym d.becomes.site) (site-new name Down p.site h.site);
+  now = λ t. subst (HasAt n e) (sym d.becomes.now) (subst (HasAt n e) (sym (d.as_before (told t))) (h.now (told t)));
+  outcomes = λ t o a. let k = d.becomes.outcomes o a in subst (HasAt n e) (sym k.2.2) (h.outcomes (told t) k.0 k.1);
+}
+  where
+    told : IsTrue q.told → IsTrue p.told
+    told t = subst IsTrue d.becomes.told t
 
 -- a step that leaves the sequence as it is
 abbrev pub LeavesSequence : (Contents → Contents → Type 0) → Type 0

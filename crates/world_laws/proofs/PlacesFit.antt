@@ -1,5 +1,5 @@
 -- What keeps a place fit.
-use Rattle.std.proofs.Common.{◌≡◌, inl, inr, ℕ, Bool, true, List, [], ◌∷◌, Option, Some, None, IsTrue, refl, sym, ◌∙◌, subst}
+use Rattle.std.proofs.Common.{◌≡◌, inl, inr, ℕ, Bool, true, List, Option, Some, None, IsTrue, refl, sym, ◌∙◌, subst}
 use Rattle.std.proofs.lemmas.Bool.{false≢true}
 use Rattle.journal_defs.specs.Instance.{site_name}
 use Rattle.command_defs.specs.Commands.{Name, Region}
@@ -72,17 +72,13 @@ fit-failed k (Some site) c = tt
 
 -- one outcome
 
-fit-one : (site : Option Site) (c : Contents) (old new : Place) → new.told ≡ old.told → new.site ≡ site → new.now ≡ c → new.outcomes ≡ c ∷ []
-    → (IsTrue old.told → IsFitContents c × IsNamedSo site c × IsFitSite site c) → IsFitPlace new
-fit-one site c old new told site_is now one fit =
-    fit-place old new site c told site_is now fit
-    (λ t o a. let f = fit t in elim (subst (λ (l : List Contents). Among l o) one a) [
+pub fit-stays : (site : Option Site) (c : Contents) (old new : Place) → (IsTrue old.told → IsFitContents c × IsNamedSo site c × IsFitSite site c) → Stays site c old new → IsFitPlace new
+fit-stays site c old new fit h =
+    fit-place old new site c h.known.told h.site h.known.now fit
+    (λ t o a. let f = fit t in elim (subst (λ (l : List Contents). Among l o) h.known.outcomes a) [
       | inl is ↦ (subst IsFitContents (sym is) f.0, subst (IsNamedSo site) (sym is) f.1)
       | inr none ↦ absurd none
     ])
-
-pub fit-stays : (site : Option Site) (c : Contents) (old new : Place) → (IsTrue old.told → IsFitContents c × IsNamedSo site c × IsFitSite site c) → Stays site c old new → IsFitPlace new
-fit-stays site c old new fit h = fit-one site c old new h.known.told h.site h.known.now h.known.outcomes fit
 
 pub fit-becomes : (state : State) (c : Contents) (old new : Place) → (IsTrue old.told → IsFitContents c × IsNamedSo old.site c × IsFitSite (in_new_state state old.site) c)
     → Becomes state c old new → IsFitPlace new
@@ -102,15 +98,18 @@ fit-maps region text old new h r =
       named-same old.site old.now (with_pattern r.number text old.now) (name-pattern r.number text old.now) (h.named_now t),
     )) r.becomes
 
+-- a mode is set, in each outcome
+fit-set : (region : ℕ) (before : Bool) (old : Place) (c : Contents) → IsFitContents c → IsNamedSo old.site c → IsFitContents (with_mode region before c) × IsNamedSo (in_new_state Down old.site) (with_mode region before c)
+fit-set region before old c h named =
+    (fit-mode region before c h, named-in Down old.site (with_mode region before c) (named-same old.site c (with_mode region before c) (name-mode region before c) named))
+
 pub fit-sets : (region : Name) (before : Bool) (old new : Place) → IsFitPlace old → SetsMode region before old new → IsFitPlace new
 fit-sets region before old new h r =
-    let set : Contents → Contents = with_mode r.number before in
-    fit-one (in_new_state Down old.site) (set r.read) old new r.becomes.told r.becomes.site r.becomes.now r.becomes.outcomes
-    (λ t. subst (λ (c : Contents). IsFitContents (set c) × IsNamedSo (in_new_state Down old.site) (set c) × IsFitSite (in_new_state Down old.site) (set c)) (sym (r.as_before t)) (
-      fit-mode r.number before old.now (h.now t),
-      named-in Down old.site (set old.now) (named-same old.site old.now (set old.now) (name-mode r.number before old.now) (h.named_now t)),
-      fit-down old.site (set old.now),
-    ))
+    let site : Option Site = in_new_state Down old.site in
+    fit-place old new site (with_mode r.number before r.read) r.becomes.told r.becomes.site r.becomes.now
+    (λ t. let f = subst (λ (c : Contents). IsFitContents (with_mode r.number before c) × IsNamedSo site (with_mode r.number before c)) (sym (r.as_before t)) (fit-set r.number before old old.now (h.now t) (h.named_now t)) in
+    (f.0, f.1, fit-down old.site (with_mode r.number before r.read)))
+    (λ t o a. let k = r.becomes.outcomes o a in subst (λ (x : Contents). IsFitContents x × IsNamedSo site x) (sym k.2.2) (fit-set k.2.0 before old k.0 (h.outcomes t k.0 k.1) (h.named t k.0 k.1)))
 
 -- an epoch is taken: the site's reign is as before
 fit-state_marked : (name : Name) (state : State) (c : Contents) → IsFitState name state c → IsFitState name state (marked c)

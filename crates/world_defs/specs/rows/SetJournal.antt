@@ -4,14 +4,14 @@ use Rattle.disk_defs.specs.Disk.{Files}
 use Rattle.journal_defs.specs.Instance.{InstanceRecord, regions, site_name}
 use Rattle.command_defs.specs.Commands.{Name}
 use Rattle.command_defs.specs.Parts.{mode_word}
-use Rattle.site_defs.specs.Contents.{Contents, same_name}
+use Rattle.site_defs.specs.Contents.{Contents, Standing, same_name}
 use Rattle.site_defs.specs.Lists.{first_where}
 use Rattle.site_defs.specs.Limits.{region_number}
 use Rattle.site_defs.specs.Opening.{with_mode, MaySetMode, MaySetModeLeft}
 use Rattle.world_defs.specs.World.{Down, Place, IfKnown, IfShown}
 use Rattle.world_defs.specs.Answers.{Cause, NoRegion, line}
 use Rattle.world_defs.specs.Shown.{ByRecords, ByAnswer, Anything}
-use Rattle.world_defs.specs.Changes.{BecomesOver, KeptUnknown}
+use Rattle.world_defs.specs.Changes.{Alters, KeptUnknown}
 use Rattle.world_defs.specs.Row.{Row, writing, refused_with, in_state, why_not_down, where_known}
 use Rattle.world_defs.specs.rows.Map.{no_region_at, IsNotThere}
 
@@ -31,13 +31,21 @@ abbrev pub SetRefusedBy : Name → Name → Cause → Files → Type 0
 SetRefusedBy region name (NoRegion other) files = ByRecords (λ rs. (site_name rs ≡ name) × (unset_by region rs ≡ Some (NoRegion other))) files
 SetRefusedBy region name cause files = Unit {0}
 
--- what was read, which is what the files stand for where they are known, has the mode; what lay behind it stays there
+-- with the mode of its region of that name
+abbrev pub GainsMode : Name → Bool → Contents → Contents → Type 0
+GainsMode region before c o = (number : ℕ) × (region_number region c ≡ Some number) × (o ≡ with_mode number before c)
+
+-- and with what lies behind, which stays
+abbrev pub GainsModeLeft : Name → Bool → Standing → Standing → Type 0
+GainsModeLeft region before s o = GainsMode region before s.contents o.contents × (o.broken ≡ s.broken)
+
+-- What was read, which is what the files stand for where they are known, has the mode, and so has each outcome. The site isn't opened, so there may be several.
 pub record SetsMode (region : Name) (before : Bool) (old new : Place) : Type 0 where
   pub read : Contents
   pub as_before : IfKnown old (read ≡ old.now)
   pub number : ℕ
   pub named : region_number region read ≡ Some number
-  pub becomes : BecomesOver Down (with_mode number before read) old new
+  pub becomes : Alters Down (with_mode number before read) (GainsMode region before) (GainsModeLeft region before) old new
 
 abbrev pub set_journal : (region : Name) → (before : Bool) → Name → Place → Row
 set_journal region before name p = record (writing name (MaySetMode region before) (MaySetModeLeft region before) p) {

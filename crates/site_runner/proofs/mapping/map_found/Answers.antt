@@ -8,18 +8,8 @@ use Rattle.site_runner.proofs.Ats.{on_not_done}
 use Rattle.site_runner.proofs.Results.{err_holds}
 use Rattle.site_runner.proofs.Written.{named}
 use Rattle.site_runner.proofs.Mapped.{seen_other, seen_cut}
-use Rattle.site_runner.proofs.Stopped.{names_same}
-use Rattle.site_runner.proofs.Found.{other_found, another_there, some_contents, free_in, free_by, found_started, found_no_region, found_twice}
+use Rattle.site_runner.proofs.Found.{by_name, called, other_found, another_there, some_contents, free_in, free_by, found_started, found_no_region, found_twice}
 use Rattle.site_runner.proofs.mapping.map_found.Goals as goal
-
--- the search of a region, by the name that was asked for
-by_name : (found : Layout) (o : Option ℕ) (name n : List ℕ) → n ≡ name → o ≡ first_where (λ r. same_name r.name n) (map region_value (take found.directory.regions found.regions.items))
-    → o ≡ first_where (λ r. same_name r.name name) (map region_value (take found.directory.regions found.regions.items))
-by_name found o name n e h = h ∙ ap (λ (x : List ℕ). first_where (λ r. same_name r.name x) (map region_value (take found.directory.regions found.regions.items))) e
-
--- the site that was found has the name that was asked for
-called : (found name n : List ℕ) (named : Bool) {own : List ℕ} → own ≡ found → n ≡ name → named ≡ same_name found n → named ≡ true → own ≡ name
-called found name n named own is same sure = own ∙ names_same found name (ap (same_name found) (sym is) ∙ sym same ∙ sure)
 
 pub returns-then-not-is_named-clause-done : goal.returns-then-not-is_named-clause-done
 returns-then-not-is_named-clause-done g c =

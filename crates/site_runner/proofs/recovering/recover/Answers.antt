@@ -11,8 +11,8 @@ returns-in-Some-clause-done g c =
     let v = g.D.Disk.disk c.args.disk.now in
     let s = c.args.site.now in
     let why = why_is c.why_not_down.result c.in-Some.cause (why_not_down (state_value s.state)) c.why_not_down.ensures c.in-Some.is in
-    refuses_by (rows.recover_backward s.name) v s c.in-Some.cause c.args.text.now _ c.as_slice.result.now c.refuse.result
-    (λ p h. recover_not_down v s (cause_value c.in-Some.cause) p why h) kept_same (λ p. recover_early (state_value s.state) (cause_value c.in-Some.cause) p why) c.as_slice.ensures c.refuse.ensures
+    refuses_by (rows.recover c.args.anew s.name) v s c.in-Some.cause c.args.text.now _ c.as_slice.result.now c.refuse.result
+    (λ p h. recover_not_down c.args.anew v s (cause_value c.in-Some.cause) p why h) kept_same (λ p. recover_early (state_value s.state) (cause_value c.in-Some.cause) p why) c.as_slice.ensures c.refuse.ensures
 
 pub recover_down-requires : goal.recover_down-requires
 recover_down-requires g c = is_down c.args.site.now.state c.why_not_down.result c.why_not_down.ensures c.in_default.is

@@ -1,13 +1,15 @@
-use Rattle.std.proofs.Common.{Bool, Option, IfSome, ◌∙◌, ap, subst, sym, Err}
+use Rattle.std.proofs.Common.{Bool, Option, IfSome, refl, ◌∙◌, ap, subst, sym, Err}
 use Rattle.disk_defs.specs.Disk.{Files}
-use Rattle.site_runner.specs.Rolling.{NeedsForward}
+use Rattle.site_runner.specs.Refusing.{ToRollBack, NeedsForward}
+use Rattle.site_runner.specs.declared.refusing.Needing.TheVariants.{Rollback}
 use Rattle.world_defs.specs.rows.Rollback as rows
 use Rattle.site_runner.specs.declared.slot.Site.{Site}
 use Rattle.site_runner.specs.Steps.{ExecutesAt}
 use Rattle.site_runner.proofs.Ats.{on_not_done, on_failed, on_done, if_some}
 use Rattle.site_runner.proofs.Results.{err_holds, on_err_of}
 use Rattle.site_runner.proofs.Written.{named, not_a_file}
-use Rattle.site_runner.proofs.Rolled.{rollback_cut, rollback_fault, rollback_limit, rollback_damaged, rollback_done, refuses_so, cut_down_so}
+use Rattle.site_runner.proofs.Rolled.{rollback_cut, rollback_fault, rollback_limit, rollback_damaged, rollback_done}
+use Rattle.site_runner.proofs.Refused.{refuses_so, cut_down_so}
 use Rattle.site_runner.proofs.rolling.roll_down.Goals as goal
 
 pub returns-in_ok-write_rolled-in-Ok-clause-done : goal.returns-in_ok-write_rolled-in-Ok-clause-done
@@ -72,9 +74,11 @@ returns-in-Err-NoBeforeImage-clause-done g c =
     let number = c.args.number in
     let w = g.D.Disk.disk c.rollback.new.disk in
     on_done c.refuse_region.result _ _
-    (c.refuse_region.ensures.done number (subst (λ (o : Option Files). IfSome o (NeedsForward number c.in-Err-NoBeforeImage.region c.in-Err-NoBeforeImage.generation)) (sym kept.0) (e.without c.in-Err-NoBeforeImage.region c.in-Err-NoBeforeImage.generation is)))
+    (c.refuse_region.ensures.done (ToRollBack number) tt
+    (if_some w.content _ (NeedsForward (ToRollBack number) (Rollback c.in-Err-NoBeforeImage.generation) c.in-Err-NoBeforeImage.region) (λ f k. (k.0, k.1, k.2, k.3, c.in-Err-NoBeforeImage.generation, k.4, refl))
+    (subst (λ (o : Option Files). IfSome o _) (sym kept.0) (e.without c.in-Err-NoBeforeImage.region c.in-Err-NoBeforeImage.generation is))))
     (λ done r.
-    refuses_so number (g.D.Disk.disk c.args.disk.now) w (g.D.Disk.disk c.refuse_region.new.disk) c.args.site.now c.refuse_region.new.site c.args.text.now c.refuse_region.new.text done (g.met.D.Disk.lawful c.rollback.new.disk) c.requires.down kept.0 kept.1 e.simulated e.later r)
+    refuses_so (ToRollBack number) (g.D.Disk.disk c.args.disk.now) w (g.D.Disk.disk c.refuse_region.new.disk) c.args.site.now c.refuse_region.new.site c.args.text.now c.refuse_region.new.text done (g.met.D.Disk.lawful c.rollback.new.disk) c.requires.down kept.0 kept.1 e.simulated e.later r)
 
 pub returns-in-Err-NoBeforeImage-clause-cut_off : goal.returns-in-Err-NoBeforeImage-clause-cut_off
 returns-in-Err-NoBeforeImage-clause-cut_off g c =
@@ -83,8 +87,8 @@ returns-in-Err-NoBeforeImage-clause-cut_off g c =
     let kept = e.untouched c.in-Err-NoBeforeImage.region c.in-Err-NoBeforeImage.generation is in
     let number = c.args.number in
     let w = g.D.Disk.disk c.rollback.new.disk in
-    on_err_of c.refuse_region.result _ _ (c.refuse_region.ensures.cut_off number)
-    (λ r. cut_down_so number (g.D.Disk.disk c.args.disk.now) w (g.D.Disk.disk c.refuse_region.new.disk) c.args.site.now (g.met.D.Disk.lawful c.rollback.new.disk) c.requires.down kept.0 kept.1 e.simulated e.later r)
+    on_err_of c.refuse_region.result _ _ (c.refuse_region.ensures.cut_off (ToRollBack number))
+    (λ r. cut_down_so (ToRollBack number) (g.D.Disk.disk c.args.disk.now) w (g.D.Disk.disk c.refuse_region.new.disk) c.args.site.now (g.met.D.Disk.lawful c.rollback.new.disk) c.requires.down kept.0 kept.1 e.simulated e.later r)
 
 pub returns-in-Err-NoMemory : goal.returns-in-Err-NoMemory
 returns-in-Err-NoMemory g c =

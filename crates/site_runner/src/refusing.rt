@@ -1,0 +1,88 @@
+// Refusals for a region that needs forward recovery.
+ghost use Rattle.std.specs.Prelude.{◌≡◌, false, slice_get, IfOk, IfSome, OnOk, OnErr};
+ghost use Rattle.site_runner.specs.declared.slot.State.TheVariants.{Down};
+ghost use Rattle.site_runner.specs.Causes.{cause_value};
+ghost use Rattle.site_runner.specs.Refusing.{Refusable, cause_of, IsAskedBy, NeedsForward, TellsRegion, RefusesAt, IsCutDown};
+ghost use Rattle.site_runner.specs.Sites.{IsReadyState};
+
+use super::answering::{damaged, fail, refuse};
+use super::cause::Cause;
+use super::slot::Site;
+use gvn_key::{Bytes, NoMemory};
+use repl_disk::Disk;
+use site_store::{Layout, SiteError, find};
+use std::alloc::Global;
+use world_laws::leftovers::{files_stand_for_one, leftovers_hold};
+
+/// For what a region needs forward recovery.
+#[derive(Clone, Copy)]
+pub enum Needing {
+    /// For what a rollback leaves, first for that generation, which keeps no images.
+    Rollback { generation: u32 },
+    /// For all entries.
+    Opening,
+}
+
+impl Needing {
+    /// The cause that names the region.
+    fn cause(self, region: Bytes) -> Cause
+        ensures { cause_value result ≡ cause_of self region }
+    {
+        match self {
+            Needing::Rollback { generation } => Cause::NoBefore { region, generation },
+            Needing::Opening => Cause::NeedForward { region },
+        }
+    }
+}
+
+/// Refuses a command for a region of the site that was found.
+fn refuse_found(
+    name: &[u8],
+    found: &Layout,
+    region: u8,
+    needing: Needing,
+    text: &mut Bytes,
+) -> Result<bool, NoMemory>
+    ensures { IfOk result (λ done. (done ≡ false) × TellsRegion (slice_get found.now.regions.items region) name.now needing text.old text.new) }
+{
+    match found.regions.get(usize::from(region)) {
+        None => damaged(text, name, 0, 0),
+        Some(spec) => {
+            let cause = needing.cause(spec.name.copy()?);
+            refuse(text, name, &cause)
+        }
+    }
+}
+
+/// Refuses a command for a region that needs forward recovery, by the name that the region has in the instance file.
+pub fn refuse_region<D: Disk>(
+    alloc: Global,
+    disk: &mut D,
+    site: &mut Site,
+    region: u8,
+    needing: Needing,
+    text: &mut Bytes,
+) -> Result<bool, NoMemory>
+    requires { site.old.state ≡ Down }
+    ensures ready { OnOk result (IsReadyState (D.disk disk.new) site.new.state) }
+    ensures done { (command : Refusable) → IsAskedBy command needing → IfSome (D.disk disk.old).content (NeedsForward command needing region) → IfOk result (λ done. RefusesAt command (D.disk disk.old) site.old (D.disk disk.new) site.new text.old text.new done) }
+    ensures cut_off { (command : Refusable) → OnErr result (IsCutDown command (D.disk disk.old) site.old (D.disk disk.new)) }
+{
+    leftovers_hold();
+    files_stand_for_one();
+    match find(alloc, disk) {
+        Ok(Some(found)) => refuse_found(
+            site.name.as_slice(),
+            &found.layout,
+            region,
+            needing,
+            text,
+        ),
+        Ok(None) => damaged(text, site.name.as_slice(), 0, 0),
+        Err(SiteError::Failed { fault }) => fail(site, fault, text),
+        Err(SiteError::NotAFile { file, offset }) => {
+            damaged(text, site.name.as_slice(), file, offset)
+        }
+        Err(_) => Err(NoMemory),
+    }
+}
