@@ -8,8 +8,6 @@ use Rattle.global_defs.specs.Entry.{Sequence}
 use Rattle.journal_defs.specs.Instance.{InstanceRecord}
 use Rattle.journal_defs.specs.Sequence.{Records, IsSequence}
 use Rattle.journal_defs.specs.Stands.{AreRecords}
-use Rattle.journal_laws.proofs.Readings.{records_one}
-use Rattle.journal_laws.proofs.Runs as runs
 use Rattle.command_defs.specs.Commands.{Name}
 use Rattle.site_defs.specs.Lists.{Among}
 use Rattle.site_defs.specs.Contents.{Contents, Leftover, Standing, NO_LEFTOVER, is_made, bare}
@@ -34,7 +32,7 @@ use Rattle.site_runner.specs.Refusing.{IsDownAt}
 use Rattle.site_runner.proofs.Amongs.{among_flat, flat_among}
 use Rattle.site_runner.proofs.Ats.{is_true_or_false, told_is, some_and, some_both, reads_site, is_site, standing_of, by_shown, reads_image, at_moment, as_told, shown_same, only, stand_more, Leftovers, StandBy, ImagesStand, images_still, stand_by, stands_by, images_of, standings_of, up_down, place_of_one, stands_with}
 use Rattle.site_runner.proofs.Seen.{counted}
-use Rattle.site_runner.proofs.Started.{each_stands}
+use Rattle.site_runner.proofs.Started.{each_stands, stand_one}
 use Rattle.site_store.specs.Opening.{EachStands}
 
 -- Steps whose ends are covered by finitely many.
@@ -337,12 +335,6 @@ nothing_had step so w s p same same_so h = record {
     still (Some os) k = λ f i. let o = k f i in (o.0, o.0, o.1, same_so o.0, o.2)
 
 -- What was read.
-
--- files stand for one sequence
-pub stand_one : (f : Files) (c : Contents) (u : Records) (seq : Sequence) → IsSite f c → AreRecords f u → IsSequence u seq → (c.instance ≡ u.instance) × (c.sequence ≡ seq)
-stand_one f c u seq site held is =
-    let same : site.records ≡ u = records_one f site.records u site.image.held held in
-    (sym site.instance ∙ ap (λ (s : Records). s.instance) same, runs.one u c.sequence seq (subst (λ (s : Records). IsSequence s c.sequence) same site.image.sequence) is)
 
 -- contents that were read, of which this holds by their records and their length, and which bytes that are shown have
 pub record WasRead (P : List InstanceRecord → ℕ → Type 0) (p : Place) : Type 0 where

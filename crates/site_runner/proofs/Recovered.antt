@@ -21,8 +21,9 @@ use Rattle.world_defs.specs.World.{Place, AmongCovered, AmongCoveredSo, IfShown}
 use Rattle.world_defs.specs.Answers.{Cause, GenLimit, Running, Stopped, Refusal, line}
 use Rattle.world_defs.specs.Changes.{KeptUnknown}
 use Rattle.world_defs.specs.Row.{refused_with, in_state, why_not_down, where_known}
-use Rattle.world_defs.specs.rows.Start.{generation_limit}
-use Rattle.world_defs.specs.rows.Recover.{RecoveredBy, RecoveryRefusedBy, IsUnrecovered, RecoveryMayRefuse, recover}
+use Rattle.world_defs.specs.rows.Start.{generation_limit, need_forward}
+use Rattle.world_defs.specs.Without.{NoneIsWithout}
+use Rattle.world_defs.specs.rows.Recover.{unrecovered, RecoveredBy, RecoveryRefusedBy, IsUnrecovered, RecoveryMayRefuse, recover}
 use Rattle.site_runner.specs.declared.slot.State.TheVariants.{Down, Failed}
 use Rattle.site_runner.specs.declared.slot.Site.{Site}
 use Rattle.site_runner.specs.Sites.{state_value, IsOf}
@@ -30,12 +31,12 @@ use Rattle.site_runner.specs.Steps.{IsAt, ExecutesAt, IsCutAt}
 use Rattle.site_runner.specs.Recovering.{IsHeldFor}
 use Rattle.site_runner.specs.Refusing.{IsDownAt}
 use Rattle.site_runner.proofs.Amongs.{among_first, among_second, among_either, among_map, map_among}
-use Rattle.site_runner.proofs.Ats.{comes_done, comes_refused, comes_may_refuse, comes_fault, comes_damaged, refused_late, none_refused, state_at, not_true, is_true_or_false, some_both, reads_site, is_site, stands_told, if_some, by_shown, any_shown, shown_unwritten, Leftovers}
+use Rattle.site_runner.proofs.Ats.{first_cause, no_cause, comes_done, comes_refused, comes_may_refuse, comes_fault, comes_damaged, refused_late, none_refused, state_at, not_true, is_true_or_false, some_both, reads_site, is_site, stands_told, if_some, by_shown, any_shown, shown_unwritten, Leftovers}
 use Rattle.site_runner.proofs.Begun.{begun_up_to, among_begun, any_begun, cut_so_as, of_opened_as, generation_past, generation_left}
 use Rattle.site_runner.proofs.Marked.{marks, among_marks, marks_are, among_left, left_are, of_marked}
 use Rattle.site_runner.proofs.Seen.{counted, kept_counted}
-use Rattle.site_runner.proofs.Started.{each_stands, unknown_at}
-use Rattle.site_runner.proofs.Leaving.{Ends, EndsSo, left_cut, left_failed, Done, done_at, down_at, still_down, down_counted, early_none, StepsAt, StepsSo, may_have, WasRead, HeldSo, was_read, stand_one}
+use Rattle.site_runner.proofs.Started.{each_stands, unknown_at, no_forward, stand_one}
+use Rattle.site_runner.proofs.Leaving.{Ends, EndsSo, left_cut, left_failed, Done, done_at, down_at, still_down, down_counted, early_none, StepsAt, StepsSo, may_have, WasRead, HeldSo, was_read}
 
 pub recover_not_down : (anew : Bool) (v : View) (s : Site) (cause : Cause) (p : Place) → why_not_down (state_value s.state) ≡ Some cause → IsAt v s p → (recover anew s.name p).early ≡ refused_with s.name (Some cause)
 recover_not_down anew v s cause p e h = ap (refused_with s.name) (state_at why_not_down v s p h ∙ e)
@@ -115,8 +116,12 @@ recover_fault leftovers anew v w s k before now law down steps steps_so still sa
 
 -- nothing was written
 
-limit_known : (p : Place) → p.told ≡ true → generation_limit p.now ≡ Some GenLimit → where_known p (generation_limit p.now) ≡ Some GenLimit
-limit_known p sure g = ap (λ (b : Bool). if b then generation_limit p.now else None) sure ∙ g
+limit_first : (anew : Bool) (c : Contents) → generation_limit c ≡ Some GenLimit → unrecovered anew c ≡ Some GenLimit
+limit_first true c g = g
+limit_first false c g = first_cause (generation_limit c) (need_forward c ∷ []) GenLimit g
+
+limit_known : (anew : Bool) (p : Place) → p.told ≡ true → generation_limit p.now ≡ Some GenLimit → where_known p (unrecovered anew p.now) ≡ Some GenLimit
+limit_known anew p sure g = ap (λ (b : Bool). if b then unrecovered anew p.now else None) sure ∙ limit_first anew p.now g
 
 may_limit : (anew : Bool) (p q : Place) → KeptUnknown p q → RecoveryMayRefuse anew GenLimit p q
 may_limit true p q k = (refl, k)
@@ -129,8 +134,8 @@ recover_limit anew v w s before now law down limit by content untouched same lat
       let here = some_both v.content _ _ (stands_told v p h.disk sure) limit in
       let site = is_site here.0 p.now (h.held.made sure).now.made here.1 in
       comes_refused no (counted p w.faults)
-      (refused_late s.name (in_state why_not_down p.site) (where_known p (generation_limit p.now)) GenLimit (early_none s p down h.site)
-      (limit_known p sure (generation_past p.now (here.2 p.now.instance (subst (λ (rs : List InstanceRecord). IsInstance (here.0 INSTANCE) rs) site.instance site.image.held.instance)))))
+      (refused_late s.name (in_state why_not_down p.site) (where_known p (unrecovered anew p.now)) GenLimit (early_none s p down h.site)
+      (limit_known anew p sure (generation_past p.now (here.2 p.now.instance (subst (λ (rs : List InstanceRecord). IsInstance (here.0 INSTANCE) rs) site.instance site.image.held.instance)))))
       (kept_counted p w.faults after.faults) bytes (down_counted w s p after) t
   | inr unsure ↦ comes_may_refuse no (counted p w.faults) (early_down anew w s p after) (refl, may_limit anew p (counted p w.faults) (record { unknown = unsure; kept = kept_counted p w.faults after.faults })) bytes (down_counted w s p after) t
 ]
@@ -158,14 +163,20 @@ recover_damaged anew v w s file offset before now down outside bytes unwritten s
 abbrev LeftAndMany : ℕ → List InstanceRecord → ℕ → Type 0
 LeftAndMany n rs len = n ≡ len
 
-not_limited : (v : View) (s : Site) (p : Place) → IsAt v s p → IfSome v.content (λ files. (u : Records) × (seq : Sequence) × AreRecords files u × IsSequence u seq × (generation u.instance < 65534)) → (p.told ≡ true) ⊎ (p.told ≡ false)
-    → where_known p (generation_limit p.now) ≡ None
-not_limited v s p h held (inr unsure) = ap (λ (b : Bool). if b then generation_limit p.now else None) unsure
-not_limited v s p h held (inl sure) =
+-- nothing refuses it that contents tell
+none_first : (anew : Bool) (files : Files) (c : Contents) (u : Records) (seq : Sequence) → IsSite files c → AreRecords files u → IsSequence u seq → generation u.instance < 65534 → (anew ≡ false → NoneIsWithout u (length seq)) → unrecovered anew c ≡ None
+none_first true files c u seq site held is low none = generation_left c (subst (λ (rs : List InstanceRecord). generation rs < 65534) (sym (stand_one files c u seq site held is).0) low)
+none_first false files c u seq site held is low none =
+    let one = stand_one files c u seq site held is in
+    no_cause (generation_limit c) (need_forward c) (generation_left c (subst (λ (rs : List InstanceRecord). generation rs < 65534) (sym one.0) low))
+    (no_forward files c u site held (subst (λ (x : Sequence). NoneIsWithout u (length x)) (sym one.1) (none refl)))
+
+not_limited : (anew : Bool) (n : ℕ) (v : View) (s : Site) (p : Place) → IsAt v s p → IfSome v.content (IsHeldFor anew n) → (p.told ≡ true) ⊎ (p.told ≡ false) → where_known p (unrecovered anew p.now) ≡ None
+not_limited anew n v s p h held (inr unsure) = ap (λ (b : Bool). if b then unrecovered anew p.now else None) unsure
+not_limited anew n v s p h held (inl sure) =
     let here = some_both v.content _ _ (h.disk.told sure) held in
     let site = reads_site here.0 p.now p.left (h.held.made sure).now.made here.1 in
-    let one = stand_one here.0 p.now here.2.0 here.2.1 site.0 here.2.2 here.2.3 in
-    ap (λ (b : Bool). if b then generation_limit p.now else None) sure ∙ generation_left p.now (subst (λ (rs : List InstanceRecord). generation rs < 65534) (sym one.0) here.2.4)
+    ap (λ (b : Bool). if b then unrecovered anew p.now else None) sure ∙ none_first anew here.0 p.now here.2.0 here.2.1 site.0 here.2.2 here.2.3 here.2.5 here.2.6
 
 recovered_by : (anew : Bool) (n : ℕ) (files : Files) → IsHeldFor anew n files → RecoveredBy anew files
 recovered_by true n files k = (k.0, k.1, k.2, k.3, k.5)
@@ -177,7 +188,7 @@ pub recover_done : (anew : Bool) (v w : View) (s : Site) (n : ℕ) (before now :
     → w.simulated ≡ v.simulated → v.faults ≤ w.faults → now ≡ before ++ line s.name (codes "RECOVERED " ++ decimal n) → ExecutesAt (recover anew s.name) v s w s before now true
 recover_done anew v w s n before now down read told held same later t p h =
     comes_done d.becomes
-    (none_refused s.name (in_state why_not_down p.site) (where_known p (generation_limit p.now)) (early_none s p down h.site) (not_limited v s p h (if_some v.content _ _ (λ f k. (k.0, k.1, k.2, k.3, k.5)) held) (is_true_or_false p.told)))
+    (none_refused s.name (in_state why_not_down p.site) (where_known p (unrecovered anew p.now)) (early_none s p down h.site) (not_limited anew n v s p h held (is_true_or_false p.told)))
     (record { read = r.read; broken = p.left.broken; as_before = r.as_before; as_left = λ _. refl; bytes = r.bytes; becomes = d.changes })
     (by_shown p.shown v.content (RecoveredBy anew) h.disk.shown (if_some v.content (IsHeldFor anew n) (RecoveredBy anew) (recovered_by anew n) held))
     d.there

@@ -35,10 +35,10 @@ use Rattle.site_store.specs.Needing.{NoneIsWithout}
 use Rattle.world_defs.specs.World as world
 use Rattle.world_defs.specs.World.{Place, UNTOLD, AmongCovered, AmongCoveredSo, IfShown}
 use Rattle.world_defs.specs.Answers.{Cause, GenLimit, NoBefore, Running, Stopped, Refusal, line}
-use Rattle.world_defs.specs.Row.{refused_with, in_state, why_not_down, where_known}
+use Rattle.world_defs.specs.Row.{first, refused_with, in_state, why_not_down, where_known}
 use Rattle.world_defs.specs.Shown.{HasNoLayout}
 use Rattle.world_defs.specs.rows.Start.{generation_limit}
-use Rattle.world_defs.specs.rows.Rollback.{stay_of, MayRollBackTo, MayRollBackToLeft, RolledBackBy, RollbackRefusedBy, rollback}
+use Rattle.world_defs.specs.rows.Rollback.{stay_of, before_cause, no_before, MayRollBackTo, MayRollBackToLeft, RolledBackBy, RollbackRefusedBy, rollback}
 use Rattle.site_runner.specs.declared.slot.State.TheVariants.{Down, Failed}
 use Rattle.site_runner.specs.declared.slot.Site.{Site}
 use Rattle.site_runner.specs.Sites.{state_value, IsOf}
@@ -46,12 +46,13 @@ use Rattle.site_runner.specs.Executes.{Comes}
 use Rattle.site_runner.specs.Steps.{IsAt, ExecutesAt, IsCutAt}
 use Rattle.site_runner.specs.Refusing.{IsDownAt}
 use Rattle.site_runner.proofs.Amongs.{among_first, among_second, among_either, among_map, map_among}
-use Rattle.site_runner.proofs.Ats.{comes_done, comes_refused, comes_may_refuse, comes_fault, comes_damaged, refused_late, none_refused, state_at, not_true, is_true_or_false, some_both, reads_site, is_site, stands_told, if_some, by_shown, any_shown, shown_unwritten, Leftovers}
+use Rattle.site_runner.proofs.Ats.{first_cause, no_cause, comes_done, comes_refused, comes_may_refuse, comes_fault, comes_damaged, refused_late, none_refused, state_at, not_true, is_true_or_false, some_both, reads_site, is_site, stands_told, if_some, by_shown, any_shown, shown_unwritten, Leftovers}
 use Rattle.site_runner.proofs.Begun.{starts_up_to, among_starts, any_among, of_more, generation_past, generation_left}
 use Rattle.site_runner.proofs.Marked.{marks, among_marks, marks_are, among_left, left_are, of_marked}
 use Rattle.site_runner.proofs.Seen.{counted, kept_counted}
-use Rattle.site_runner.proofs.Started.{each_stands, unknown_at}
-use Rattle.site_runner.proofs.Leaving.{Ends, EndsSo, left_cut, left_failed, Done, done_at, down_at, still_down, down_counted, early_none, StepsAt, StepsSo, may_have, nothing_had, WasRead, HeldSo, was_read, stand_one}
+use Rattle.site_runner.proofs.Started.{each_stands, unknown_at, stand_one}
+use Rattle.world_laws.proofs.Bare.{none_needing}
+use Rattle.site_runner.proofs.Leaving.{Ends, EndsSo, left_cut, left_failed, Done, done_at, down_at, still_down, down_counted, early_none, StepsAt, StepsSo, may_have, nothing_had, WasRead, HeldSo, was_read}
 
 pub rollback_not_down : (number : ℕ) (v : View) (s : Site) (cause : Cause) (p : Place) → why_not_down (state_value s.state) ≡ Some cause → IsAt v s p → (rollback number s.name p).early ≡ refused_with s.name (Some cause)
 rollback_not_down number v s cause p e h = ap (refused_with s.name) (state_at why_not_down v s p h ∙ e)
@@ -178,8 +179,8 @@ rollback_fault leftovers number v w s k before now law down steps steps_so still
 
 -- nothing was written
 
-limit_known : (p : Place) → p.told ≡ true → generation_limit p.now ≡ Some GenLimit → where_known p (generation_limit p.now) ≡ Some GenLimit
-limit_known p sure g = ap (λ (b : Bool). if b then generation_limit p.now else None) sure ∙ g
+limit_known : (number : ℕ) (p : Place) → p.told ≡ true → generation_limit p.now ≡ Some GenLimit → where_known p (first (generation_limit p.now ∷ no_before number p.now ∷ [])) ≡ Some GenLimit
+limit_known number p sure g = ap (λ (b : Bool). if b then first (generation_limit p.now ∷ no_before number p.now ∷ []) else None) sure ∙ first_cause (generation_limit p.now) (no_before number p.now ∷ []) GenLimit g
 
 pub rollback_limit : (number : ℕ) (v w : View) (s : Site) (before now : List ℕ) → IsLawful w → s.state ≡ Down → IfSome v.content (λ files. (rs : List InstanceRecord) → IsInstance (files INSTANCE) rs → 65534 ≤ generation rs) → IfSome v.content (RollbackRefusedBy number GenLimit)
     → w.content ≡ v.content → AtEachMoment v w (Image v) → w.simulated ≡ v.simulated → v.faults ≤ w.faults → now ≡ before ++ line s.name (codes "GENLIMIT") → ExecutesAt (rollback number s.name) v s w s before now false
@@ -188,8 +189,8 @@ rollback_limit number v w s before now law down limit by content untouched same 
       let here = some_both v.content _ _ (stands_told v p h.disk sure) limit in
       let site = is_site here.0 p.now (h.held.made sure).now.made here.1 in
       comes_refused no (counted p w.faults)
-      (refused_late s.name (in_state why_not_down p.site) (where_known p (generation_limit p.now)) GenLimit (early_none s p down h.site)
-      (limit_known p sure (generation_past p.now (here.2 p.now.instance (subst (λ (rs : List InstanceRecord). IsInstance (here.0 INSTANCE) rs) site.instance site.image.held.instance)))))
+      (refused_late s.name (in_state why_not_down p.site) (where_known p (first (generation_limit p.now ∷ no_before number p.now ∷ []))) GenLimit (early_none s p down h.site)
+      (limit_known number p sure (generation_past p.now (here.2 p.now.instance (subst (λ (rs : List InstanceRecord). IsInstance (here.0 INSTANCE) rs) site.instance site.image.held.instance)))))
       (kept_counted p w.faults after.faults) bytes (down_counted w s p after) t
   | inr unsure ↦ comes_may_refuse no (counted p w.faults) (early_down w number s p after) (inl (refl, record { unknown = unsure; kept = kept_counted p w.faults after.faults })) bytes (down_counted w s p after) t
 ]
@@ -228,13 +229,19 @@ StaysAndLost number kept lost rs len = (kept ≡ min (number - 1) len) × (lost 
 abbrev RolledFrom : (number kept lost : ℕ) → Files → Type 0
 RolledFrom number kept lost files = (u : Records) × (seq : Sequence) × AreRecords files u × IsSequence u seq × (kept ≡ min (number - 1) (length seq)) × (lost ≡ generation u.instance + 1) × (generation u.instance < 65534) × NoneIsWithout u (min (number - 1) (length seq))
 
-not_limited : (number kept lost : ℕ) (v : View) (s : Site) (p : Place) → IsAt v s p → IfSome v.content (RolledFrom number kept lost) → (p.told ≡ true) ⊎ (p.told ≡ false) → where_known p (generation_limit p.now) ≡ None
-not_limited number kept lost v s p h held (inr unsure) = ap (λ (b : Bool). if b then generation_limit p.now else None) unsure
+-- as far as contents tell it each region goes back so far, where each does by the records
+goes_back : (number : ℕ) (files : Files) (c : Contents) (u : Records) → IsSite files c → AreRecords files u → NoneIsWithout u (stay_of number c) → no_before number c ≡ None
+goes_back number files c u site held none = elim (none_needing files c u (stay_of number c) site held none) [ inl e ↦ ap before_cause e | inr e ↦ ap before_cause e ]
+
+not_limited : (number kept lost : ℕ) (v : View) (s : Site) (p : Place) → IsAt v s p → IfSome v.content (RolledFrom number kept lost) → (p.told ≡ true) ⊎ (p.told ≡ false) → where_known p (first (generation_limit p.now ∷ no_before number p.now ∷ [])) ≡ None
+not_limited number kept lost v s p h held (inr unsure) = ap (λ (b : Bool). if b then first (generation_limit p.now ∷ no_before number p.now ∷ []) else None) unsure
 not_limited number kept lost v s p h held (inl sure) =
     let here = some_both v.content _ _ (h.disk.told sure) held in
     let site = reads_site here.0 p.now p.left (h.held.made sure).now.made here.1 in
     let one = stand_one here.0 p.now here.2.0 here.2.1 site.0 here.2.2 here.2.3 in
-    ap (λ (b : Bool). if b then generation_limit p.now else None) sure ∙ generation_left p.now (subst (λ (rs : List InstanceRecord). generation rs < 65534) (sym one.0) here.2.6)
+    ap (λ (b : Bool). if b then first (generation_limit p.now ∷ no_before number p.now ∷ []) else None) sure
+    ∙ no_cause (generation_limit p.now) (no_before number p.now) (generation_left p.now (subst (λ (rs : List InstanceRecord). generation rs < 65534) (sym one.0) here.2.6))
+    (goes_back number here.0 p.now here.2.0 site.0 here.2.2 (subst (λ (seq : Sequence). NoneIsWithout here.2.0 (min (number - 1) (length seq))) (sym one.1) here.2.7))
 
 pub rollback_done : (number : ℕ) (v w : View) (s : Site) (kept lost : ℕ) (before now : List ℕ) → s.state ≡ Down → (c : Contents) × (kept ≡ min (number - 1) (length c.sequence)) × (lost ≡ generation c.instance + 1)
     → IfSome v.content (λ files. (c : Contents) (left : Leftover) → IsSite files c → HasLeft files c left → EachStands v → StandsFor w (rolled (min (number - 1) (length c.sequence)) left.broken c))
@@ -242,7 +249,7 @@ pub rollback_done : (number : ℕ) (v w : View) (s : Site) (kept lost : ℕ) (be
     → w.simulated ≡ v.simulated → v.faults ≤ w.faults → now ≡ before ++ line s.name (codes "ROLLEDBACK " ++ decimal kept ++ codes " LOST " ++ decimal lost) → ExecutesAt (rollback number s.name) v s w s before now true
 rollback_done number v w s kept lost before now down read told held same later t p h =
     comes_done d.becomes
-    (none_refused s.name (in_state why_not_down p.site) (where_known p (generation_limit p.now)) (early_none s p down h.site) (not_limited number kept lost v s p h held (is_true_or_false p.told)))
+    (none_refused s.name (in_state why_not_down p.site) (where_known p (first (generation_limit p.now ∷ no_before number p.now ∷ []))) (early_none s p down h.site) (not_limited number kept lost v s p h held (is_true_or_false p.told)))
     (record { read = r.read; broken = p.left.broken; as_before = r.as_before; as_left = λ _. refl; bytes = r.bytes; becomes = d.changes })
     (by_shown p.shown v.content (RolledBackBy number) h.disk.shown (if_some v.content (RolledFrom number kept lost) (RolledBackBy number) (λ f k. (k.0, k.1, k.2, k.3, (k.6, k.7))) held))
     d.there

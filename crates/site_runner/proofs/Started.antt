@@ -7,8 +7,11 @@ use Rattle.disk_defs.specs.Disk.{Files, View, Image, IsLawful, AtEachMoment, Ros
 use Rattle.global_defs.specs.Entry as defs
 use Rattle.global_defs.specs.Entry.{Sequence}
 use Rattle.journal_defs.specs.Numbers.{INSTANCE}
-use Rattle.journal_defs.specs.Sequence.{Records}
-use Rattle.journal_defs.specs.Stands.{IsInstance}
+use Rattle.journal_defs.specs.Sequence.{Records, IsSequence}
+use Rattle.journal_defs.specs.Stands.{IsInstance, AreRecords}
+use Rattle.journal_laws.proofs.Readings.{records_one}
+use Rattle.journal_laws.proofs.Runs as runs
+use Rattle.world_laws.proofs.Bare.{none_needing}
 use Rattle.disk_defs.proofs.Told.{both_weak}
 use Rattle.gvn_model.specs.declared.reign.Stamp.{Stamp}
 use Rattle.gvn_model.specs.Reigns.{stamp_value}
@@ -30,7 +33,7 @@ use Rattle.site_defs.specs.Contents.{Contents, Leftover, Standing, NO_LEFTOVER, 
 use Rattle.world_defs.specs.Answers.{Cause, Stopped, Running, GenLimit, ReignLimit, line}
 use Rattle.world_defs.specs.Row.{first, refused_with, in_state, why_not_down}
 use Rattle.world_defs.specs.Changes.{in_new_state, After, ChangesUnknown}
-use Rattle.world_defs.specs.rows.Start.{StartRefused, read_so, StartedBy, LimitedBy, IsUnopened, is_reign_limit, limited, generation_limit, reign_limit, FIRST_SERIALS, cycle_on, start}
+use Rattle.world_defs.specs.rows.Start.{StartRefused, read_so, StartedBy, LimitedBy, IsUnopened, is_reign_limit, limited, generation_limit, forward_cause, need_forward, reign_limit, FIRST_SERIALS, cycle_on, start}
 use Rattle.site_defs.specs.Limits.{LAST_GENERATION, LAST_CYCLE, no_reign_left}
 use Rattle.site_defs.specs.OutsideBlocks.{IsOutsideOpening}
 use Rattle.site_defs.specs.Opening.{MayBegin, MayBeginLeft, opened, with_reign, next_stamp}
@@ -76,15 +79,21 @@ start_early (world.Failed k) cause p e = let same : Stopped k ≡ cause = cc in 
 early_down : (s : Site) (p : Place) → s.state ≡ Down → p.site ≡ Some (site_value s) → refused_with s.name (in_state why_not_down p.site) ≡ None
 early_down s p e h = ap (refused_with s.name) (why_at s Down p e h)
 
-limited_told : (p : Place) (x y : Option Cause) → p.told ≡ true → generation_limit p.now ≡ x → reign_limit p.now ≡ y → limited p ≡ first (x ∷ y ∷ [])
-limited_told p x y sure g r = ap (λ (b : Bool). if b then first (generation_limit p.now ∷ reign_limit p.now ∷ []) else None) sure ∙ ap (λ (z : Option Cause). first (z ∷ reign_limit p.now ∷ [])) g ∙ ap (λ (z : Option Cause). first (x ∷ z ∷ [])) r
+limited_told : (p : Place) (x y z : Option Cause) → p.told ≡ true → generation_limit p.now ≡ x → need_forward p.now ≡ y → reign_limit p.now ≡ z → limited p ≡ first (x ∷ y ∷ z ∷ [])
+limited_told p x y z sure g f r =
+    ap (λ (b : Bool). if b then first (generation_limit p.now ∷ need_forward p.now ∷ reign_limit p.now ∷ []) else None) sure
+    ∙ ap (λ (o : Option Cause). first (o ∷ need_forward p.now ∷ reign_limit p.now ∷ [])) g ∙ ap (λ (o : Option Cause). first (x ∷ o ∷ reign_limit p.now ∷ [])) f ∙ ap (λ (o : Option Cause). first (x ∷ y ∷ o ∷ [])) r
 
 limited_generation : (p : Place) → p.told ≡ true → generation_limit p.now ≡ Some GenLimit → limited p ≡ Some GenLimit
-limited_generation p sure g = limited_told p (Some GenLimit) (reign_limit p.now) sure g refl
+limited_generation p sure g = limited_told p (Some GenLimit) (need_forward p.now) (reign_limit p.now) sure g refl refl
 
-not_limited : (p : Place) → (p.told ≡ true) ⊎ (p.told ≡ false) → (p.told ≡ true → generation_limit p.now ≡ None) → (p.told ≡ true → reign_limit p.now ≡ None) → limited p ≡ None
-not_limited p (inl sure) g r = limited_told p None None sure (g sure) (r sure)
-not_limited p (inr unsure) g r = ap (λ (b : Bool). if b then first (generation_limit p.now ∷ reign_limit p.now ∷ []) else None) unsure
+not_limited : (p : Place) → (p.told ≡ true) ⊎ (p.told ≡ false) → (p.told ≡ true → generation_limit p.now ≡ None) → (p.told ≡ true → need_forward p.now ≡ None) → (p.told ≡ true → reign_limit p.now ≡ None) → limited p ≡ None
+not_limited p (inl sure) g f r = limited_told p None None None sure (g sure) (f sure) (r sure)
+not_limited p (inr unsure) g f r = ap (λ (b : Bool). if b then first (generation_limit p.now ∷ need_forward p.now ∷ reign_limit p.now ∷ []) else None) unsure
+
+-- as far as contents tell it, no region needs forward recovery where none does by the records
+pub no_forward : (files : Files) (c : Contents) (u : Records) → IsSite files c → AreRecords files u → NoneIsWithout u (length c.sequence) → need_forward c ≡ None
+no_forward files c u site held none = elim (none_needing files c u (length c.sequence) site held none) [ inl e ↦ ap forward_cause e | inr e ↦ ap forward_cause e ]
 
 unknown_matches : (w : View) (p : Place) → p.told ≡ false → IfShown p (λ files. w.content ≡ Some files) → w.simulated ≡ p.simulated → Matches w (counted p w.faults)
 unknown_matches w p unsure shown same = record { told = λ sure. absurd (false≢true (sym unsure ∙ sure)); images = λ sure. absurd (false≢true (sym unsure ∙ sure)); standings = λ sure. absurd (false≢true (sym unsure ∙ sure)); shown = shown; faults = refl; simulated = same }
@@ -156,6 +165,12 @@ opens_held v o held drawn = both_weak v.content (BySequence (λ u seq. WasOpened
 pub each_stands : (v : View) (p : Place) → Matches v p → p.told ≡ true → EachStands v
 each_stands v p m sure f i = let o = m.images sure f i in let c = stands_for (has_failed_on p.site) f o.0 o.2 in (c.0, c.2)
 
+-- files stand for one sequence
+pub stand_one : (f : Files) (c : Contents) (u : Records) (seq : Sequence) → IsSite f c → AreRecords f u → IsSequence u seq → (c.instance ≡ u.instance) × (c.sequence ≡ seq)
+stand_one f c u seq site held is =
+    let same : site.records ≡ u = records_one f site.records u site.image.held held in
+    (sym site.instance ∙ ap (λ (s : Records). s.instance) same, runs.one u c.sequence seq (subst (λ (s : Records). IsSequence s c.sequence) same site.image.sequence) is)
+
 opened_told : (leftovers : Leftovers) (one_only : StandForOne) (v w : View) (s : Site) (o : OpenSite) (p : Place) → IsLawful v → s.state ≡ Down → IsAt v s p → site_name o.instance.records ≡ s.name → p.told ≡ true
     → Opens v w o → HasGenerations v → OpensHeld v o
     → w.simulated ≡ v.simulated → v.faults ≤ w.faults → IsOpenedAt w s o p
@@ -169,6 +184,7 @@ opened_told leftovers one_only v w s o p law down h name sure told drawn held sa
     let same_out : out.0 ≡ p.now = one_only read.0 out.0 p.now out.2 (inr site.0) in
     let here = subst (λ (x : Option Files). IfSome x (λ files. (c : Contents) (left : Leftover) → IsSite files c → HasLeft files c left → EachStands v → IsOpen w true (opened left.broken c) (length c.sequence) o)) read.1 told in
     let one : IsOpen w true (opened p.left.broken p.now) (length p.now.sequence) o = here p.now p.left site.0 site.1 (each_stands v p h.disk sure) in
+    let by_bytes = subst (λ (x : Option Files). IfSome x (HeldBy o)) read.1 held in
     let drawn_here = subst (λ (x : Option Files). IfSome x (λ files. (c : Contents) → IsSite files c → generation c.instance < 65534)) read.1 drawn in
     record {
       site = h.site;
@@ -183,6 +199,7 @@ opened_told leftovers one_only v w s o p law down h name sure told drawn held sa
       outcome = λ _. (p.now, subst (λ (x : Contents). Among p.outcomes x) same_out out.1, one);
       standing = λ _. standing_there leftovers one_only read.0 p.now p.left p.standings reads (at_image v read.0 p.standings read.2 (standings_of v p up h.disk sure));
       drawn = λ _. generation_left p.now (drawn_here p.now site.0);
+      forward = λ _. no_forward read.0 p.now by_bytes.0 site.0 by_bytes.2 (subst (λ (seq : Sequence). NoneIsWithout by_bytes.0 (length seq)) (sym (stand_one read.0 p.now by_bytes.0 by_bytes.1 site.0 by_bytes.2 by_bytes.3).1) by_bytes.4.2);
       held = by_shown p.shown v.content _ h.disk.shown held;
       faults = omega (arith, later, h.disk.faults);
       simulated = same ∙ h.disk.simulated;
@@ -203,6 +220,7 @@ opened_untold v w s o p down h name unsure read held same later = record {
   outcome = λ sure. absurd (false≢true (sym unsure ∙ sure));
   standing = λ sure. absurd (false≢true (sym unsure ∙ sure));
   drawn = λ sure. absurd (false≢true (sym unsure ∙ sure));
+  forward = λ sure. absurd (false≢true (sym unsure ∙ sure));
   held = by_shown p.shown v.content _ h.disk.shown held;
   faults = omega (arith, later, h.disk.faults);
   simulated = same ∙ h.disk.simulated;
@@ -552,7 +570,7 @@ reign_limit_told v nothing s o before now p law h sure limit t =
     comes_refused
     (record { site = s.name; cause = ReignLimit })
     q
-    (refused_late s.name (in_state why_not_down p.site) (limited p) ReignLimit (why_at s Down p h.down h.site) (limited_told p None (Some ReignLimit) sure (h.drawn sure) full))
+    (refused_late s.name (in_state why_not_down p.site) (limited p) ReignLimit (why_at s Down p h.down h.site) (limited_told p None None (Some ReignLimit) sure (h.drawn sure) (h.forward sure) full))
     (record { site = refl; known = record { told = refl; now = refl; left = refl; outcomes = refl; standings = refl }; faults = h.faults; simulated = refl })
     (limited_by v s o p h limit)
     (record {
@@ -600,7 +618,7 @@ reign_starts v w nothing s o new stamp serials from before now law first_serials
     let count : from ≡ length d.sequence + 1 = is_from ∙ ap (λ (k : ℕ). k + 1) (entries_open v p.told c (length read.sequence) o h.is_open) in
     comes_done
     q
-    (none_refused s.name (in_state why_not_down p.site) (limited p) (why_at s Down p h.down h.site) (not_limited p (is_true_or_false p.told) h.drawn reign_room))
+    (none_refused s.name (in_state why_not_down p.site) (limited p) (why_at s Down p h.down h.site) (not_limited p (is_true_or_false p.told) h.drawn h.forward reign_room))
     (record {
       read = read;
       broken = h.broken;

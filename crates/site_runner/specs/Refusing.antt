@@ -1,7 +1,8 @@
 -- What refusing a command for a region means at the place of a site that is down, on whose disk nothing was written.
-use Rattle.std.specs.Prelude.{◌≡◌, ◌≤◌, ◌-◌, ◌++◌, min, ℕ, Bool, false, List, length, Option, None, Some, IsTrue, IfSome, IsSomeAnd}
+use Rattle.std.specs.Prelude.{◌≡◌, ◌≤◌, ◌<◌, ◌-◌, ◌++◌, min, ℕ, Bool, false, List, length, Option, None, Some, IsTrue, IfSome, IsSomeAnd}
 use Rattle.disk_defs.specs.Disk.{Files, View, Image}
 use Rattle.global_defs.specs.Entry.{Sequence}
+use Rattle.journal_defs.specs.Instance.{generation}
 use Rattle.journal_defs.specs.Sequence.{Records, IsSequence}
 use Rattle.journal_defs.specs.Stands.{AreRecords}
 use Rattle.command_defs.specs.Commands.{Name}
@@ -70,10 +71,10 @@ abbrev pub IsTold : Needing → (generation : ℕ) → Type 0
 IsTold (Rollback generation) g = generation ≡ g
 IsTold Opening g = Unit {0}
 
--- the region of that number is the first that needs forward recovery for the command
+-- a generation is left, and the region of that number is the first that needs forward recovery for the command
 abbrev pub NeedsForward : Refusable → Needing → (region : ℕ) → Files → Type 0
 NeedsForward command needing region files =
-    (u : Records) × (seq : Sequence) × AreRecords files u × IsSequence u seq × (g : ℕ) × IsFirstWithout u (target_of command (length seq)) region g × IsTold needing g
+    (u : Records) × (seq : Sequence) × AreRecords files u × IsSequence u seq × (generation u.instance < 65534) × (g : ℕ) × IsFirstWithout u (target_of command (length seq)) region g × IsTold needing g
 
 -- why it's refused, with the region's name
 abbrev pub cause_of : Needing → Name → Cause

@@ -9,7 +9,7 @@ use Rattle.world_defs.specs.World.{Place, IfShown}
 use Rattle.world_defs.specs.Shown.{BySequence}
 use Rattle.world_defs.specs.Without.{NoneIsWithout}
 use Rattle.site_defs.specs.Contents.{Contents}
-use Rattle.world_defs.specs.rows.Start.{generation_limit, start}
+use Rattle.world_defs.specs.rows.Start.{generation_limit, need_forward, start}
 use Rattle.site_defs.specs.Limits.{LAST_GENERATION}
 use Rattle.site_defs.specs.Opening.{opened}
 use Rattle.world_defs.specs.Step.{LeftByRow}
@@ -36,6 +36,8 @@ pub record IsOpenedAt (v : View) (s : Site) (o : OpenSite) (p : Place) : Type 0 
   -- and one of the standings
   pub standing : IsTrue p.told → IfSome p.standings (λ os. Among os (record { contents = p.now; broken = p.left.broken }))
   pub drawn : IsTrue p.told → generation_limit p.now ≡ None
+  -- and as far as contents tell it no region needed forward recovery
+  pub forward : IsTrue p.told → need_forward p.now ≡ None
   -- the records that the disk told, of which a generation was left, and the sequence that they stand for, for which no region needs forward recovery
   pub held : IfShown p (BySequence (λ u seq. WasOpenedFrom u seq o × (generation u.instance < LAST_GENERATION) × NoneIsWithout u (length seq)))
   pub faults : p.faults ≤ v.faults

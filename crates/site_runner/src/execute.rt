@@ -81,11 +81,9 @@ fn execute_on<D: Disk>(
             pattern,
             ..
         } => map(alloc, disk, site, region, pattern.as_slice(), text),
-        Command::SetJournal {
-            region,
-            before,
-            ..
-        } => set_journal(alloc, disk, site, region, before, text),
+        Command::SetJournal { region, before, .. } => set_journal(
+            alloc, disk, site, region, before, text,
+        ),
         Command::StartPrimary { .. } => start(alloc, disk, site, text),
         Command::Run { jobs, order, .. } => {
             run_section(alloc, disk, site, jobs, order.as_slice(), text)

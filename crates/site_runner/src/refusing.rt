@@ -71,13 +71,7 @@ pub fn refuse_region<D: Disk>(
     leftovers_hold();
     files_stand_for_one();
     match find(alloc, disk) {
-        Ok(Some(found)) => refuse_found(
-            site.name.as_slice(),
-            &found.layout,
-            region,
-            needing,
-            text,
-        ),
+        Ok(Some(found)) => refuse_found(site.name.as_slice(), &found.layout, region, needing, text),
         Ok(None) => damaged(text, site.name.as_slice(), 0, 0),
         Err(SiteError::Failed { fault }) => fail(site, fault, text),
         Err(SiteError::NotAFile { file, offset }) => {

@@ -37,7 +37,14 @@ fn roll_down<D: Disk>(
             Ok(true)
         }
         Err(RollError::NoBeforeImage { region, generation }) => {
-            refuse_region(alloc, disk, site, region, Needing::Rollback { generation }, text)
+            refuse_region(
+                alloc,
+                disk,
+                site,
+                region,
+                Needing::Rollback { generation },
+                text,
+            )
         }
         Err(RollError::GenLimit) => refuse(text, site.name.as_slice(), &Cause::GenLimit),
         Err(RollError::Failed { fault }) => fail(site, fault, text),
