@@ -54,7 +54,7 @@ module _ (rs : List InstanceRecord) (last : ℕ → ℕ) (journal : ℕ → List
   -- no part past the length survives
   pub none_cut : (a : Files) → IsSoundImage a S0 seq → broken (record { instance = with_cut; journal = journal }) (length seq) ≡ []
   none_cut a sound = broken_none (with_record S0 (next_cut rs (length seq))) (length seq)
-      (subst (λ (u : Records). NonePast (length seq) u) (sym (keeping.none_drawn S0 (length seq) last)) (keeping.none_past S0 (length seq) last (drawing.before a S0 (generation rs + 1) sound.held (omega arith)) 0))
+      (subst (λ (u : Records). NonePast (length seq) u) (sym (keeping.none_drawn false S0 (length seq) last)) (keeping.none_past false S0 (length seq) last (drawing.before a S0 (generation rs + 1) sound.held (omega arith)) 0))
 
   module _ (a : Files) (read : AreRead rs last journal a) (c : Contents) (is : IsSite a c) (broken_there : List ℕ) (text_is : broken_there ≡ text rs last journal seq form sequence) where
     sound : IsSoundImage a S0 seq
@@ -63,23 +63,23 @@ module _ (rs : List InstanceRecord) (last : ℕ → ℕ) (journal : ℕ → List
     c_is : c ≡ C rs last journal seq form sequence a
     c_is = (site_read rs last journal seq form sequence a c read is).1
 
-    draws : DrawsTo rs last journal seq form sequence a (length seq) seq broken_there
-    draws = draws_all rs last journal seq form sequence a broken_there read sound text_is
+    draws : DrawsTo rs last journal seq form sequence false a (length seq) seq broken_there
+    draws = draws_all rs last journal seq form sequence false a broken_there read sound text_is
 
     -- the records stand for the sequence still
     pub sequence_cut : (b : Files) → HasDrawn rs (length seq) broken_there last 0 a b → IsSequence (record { instance = with_cut; journal = journal }) seq
-    sequence_cut b has = subst (λ (u : Records). IsSequence u seq) (sym (keeping.none_drawn S0 (length seq) last)) (draws b 0 has).0.sequence
+    sequence_cut b has = subst (λ (u : Records). IsSequence u seq) (sym (keeping.none_drawn false S0 (length seq) last)) (draws b 0 has).0.sequence
 
     pub site_cut_off : (b : Files) → HasDrawn rs (length seq) broken_there last 0 a b → IsSite b (cut_with broken_there [] c)
     site_cut_off b has = subst (λ (x : Contents). IsSite b (cut_with broken_there [] x)) (sym c_is)
         (subst (IsSite b) (none_begun (cut_with broken_there [] (C rs last journal seq form sequence a)))
-        (site_drawn rs last journal seq form sequence a read sound (length seq) seq refl broken_there draws b 0 has))
+        (site_drawn rs last journal seq form sequence false a read sound (length seq) seq refl broken_there draws b 0 has))
 
     -- and nothing lies behind it
     pub left_cut_off : (b : Files) → HasDrawn rs (length seq) broken_there last 0 a b → HasLeft b (cut_with broken_there [] c) NO_LEFTOVER
     left_cut_off b has = subst (λ (x : Contents). HasLeft b (cut_with broken_there [] x) NO_LEFTOVER) (sym c_is)
         (subst (λ (x : Contents). HasLeft b x NO_LEFTOVER) (none_begun (cut_with broken_there [] (C rs last journal seq form sequence a)))
-        (left_drawn rs last journal seq form sequence a read sound (length seq) seq refl broken_there draws b 0 has))
+        (left_drawn rs last journal seq form sequence false a read sound (length seq) seq refl broken_there draws b 0 has))
 
     -- with bytes of the lost-transaction file
     module _ (mid b : Files) (has : HasDrawn rs (length seq) broken_there last 0 a mid) (same : SameOutside (Only (lost_file (suc (generation rs)))) mid b) where

@@ -1,6 +1,6 @@
 -- A site that was read, whose next generation is drawn and begins.
 use Rattle.std.proofs.Common.{◌≡◌, ◌≢◌, ◌⊎◌, inl, inr, ℕ, zero, suc, ◌+◌, ◌≤◌, ◌<◌, Bool, true, false, List, [], ◌∷◌, ◌++◌, length, Some, None, refl, sym, ◌∙◌, ap, subst, arith, append-nil}
-use Rattle.std.specs.Prelude.{◌&&◌, if◌then◌else◌, nat_lt}
+use Rattle.std.specs.Prelude.{◌&&◌, not, if◌then◌else◌, nat_lt}
 use Rattle.std.specs.List.{AllByRecursion, filter_map}
 use Rattle.std.specs.Option.{unwrap_or}
 use Rattle.std.proofs.lemmas.Bool.Decides.{nat_tests}
@@ -10,7 +10,7 @@ use Rattle.disk_defs.specs.Disk.{Files}
 use Rattle.global_defs.specs.Entry.{Sequence}
 use Rattle.journal_defs.specs.Numbers.{INSTANCE, lost_file, broken_file}
 use Rattle.journal_defs.specs.Journal.{Start}
-use Rattle.journal_defs.specs.Instance.{InstanceRecord, NamedMode, Cut, generation, regions, site_name, mode_of}
+use Rattle.journal_defs.specs.Instance.{InstanceRecord, NamedMode, Cut, generation, regions, site_name}
 use Rattle.journal_defs.specs.Directory.{Pattern, patterns}
 use Rattle.journal_defs.specs.Broken.{broken, broken_text}
 use Rattle.journal_defs.specs.Sequence.{Placed, Records, IsSequence}
@@ -21,12 +21,13 @@ use Rattle.journal_laws.proofs.Drawing as drawing
 use Rattle.journal_laws.proofs.EveryTarget.{patterns_same}
 use Rattle.journal_laws.proofs.Runs as runs
 use Rattle.journal_laws.proofs.Readings.{records_one}
-use Rattle.site_files.specs.Loading.{MayBeOpened, AreRead, IsUncut, HasDrawn, MayDraw, next_cut, next_broken, next_journal, next_pini, drawn_records}
+use Rattle.site_files.specs.Loading.{MayBeOpened, AreRead, IsUncut, HasDrawnAs, MayDrawAs, next_cut, next_broken, next_journal, next_pini_as, drawn_records_as}
 use Rattle.site_files.specs.Loading as files
 use Rattle.site_files.proofs.Keeping as keeping
 use Rattle.site_files.proofs.Kept.{held_read}
 use Rattle.site_defs.specs.Contents.{Taken, Contents, Leftover, Standing, NO_LEFTOVER, bare}
-use Rattle.site_defs.specs.Opening.{cut_there, with_starts, starts_in, start_of, MayOpen, MayOpenLeft}
+use Rattle.site_defs.specs.Opening.{cut_there}
+use Rattle.site_defs.specs.Forward.{begun_mode, start_as, starts_as, begun_as, MayOpenAs, MayOpenAsLeft}
 use Rattle.site_defs.specs.Stands.{start_in, epoch_in, texts_of, losts_of, torn_of, IsSite, HasLeft}
 use Rattle.site_defs.specs.Behind.{IsStanding}
 use Rattle.site_store.proofs.Images.{left_nothing}
@@ -128,8 +129,8 @@ module _ (rs : List InstanceRecord) (last : ℕ → ℕ) (journal : ℕ → List
         (λ r here e. let few = form.few_regions in let room = form.room in omega (arith, e, here, few, room)))
 
   -- each region has begun
-  pub newest_whole : (r : ℕ) → r < many → journal r ++ files.starts_in rs last many r ≡ journal r ++ in_generation (suc (generation rs)) (next_pini rs last r) ∷ []
-  newest_whole r here =
+  pub newest_whole : (anew : Bool) (r : ℕ) → r < many → journal r ++ files.starts_in_as anew rs last many r ≡ journal r ++ in_generation (suc (generation rs)) (next_pini_as anew rs last r) ∷ []
+  newest_whole anew r here =
       let there : nat_lt r many ≡ true = grind (arith, nat_tests, here) in
       ap (λ (l : List Placed). journal r ++ l) (rw there refl)
 
@@ -158,54 +159,54 @@ module _ (rs : List InstanceRecord) (last : ℕ → ℕ) (journal : ℕ → List
       (subst (λ (ps : List Pattern). AllByRecursion (λ (p : Pattern). p.region < length (regions rs)) ps) (sym (patterns_same rs (next_cut rs n) refl)) form.mapped)
 
   -- What drawing the next generation with a CUT to t leaves of such files: they are sound with these entries, and the text is written.
-  abbrev pub DrawsTo : Files → (t : ℕ) → Sequence → (broken_there : List ℕ) → Type 0
-  DrawsTo a t kept broken_there = (b : Files) (k : ℕ) → HasDrawn rs t broken_there last k a b → IsSoundImage b (drawn_records S t last k) kept × (b (next_broken rs) ≡ broken_there)
+  abbrev pub DrawsTo : (anew : Bool) → Files → (t : ℕ) → Sequence → (broken_there : List ℕ) → Type 0
+  DrawsTo anew a t kept broken_there = (b : Files) (k : ℕ) → HasDrawnAs anew rs t broken_there last k a b → IsSoundImage b (drawn_records_as anew S t last k) kept × (b (next_broken rs) ≡ broken_there)
 
   -- with all entries
-  pub draws_all : (a : Files) (broken_there : List ℕ) → AreRead rs last journal a → IsSoundImage a S seq → broken_there ≡ text → DrawsTo a (length seq) seq broken_there
-  draws_all a broken_there read sound is b k has = (keeping.drawn_image a S last form seq sound broken_there read k b has, keeping.text_is a S last form seq sound broken_there b k is has)
+  pub draws_all : (anew : Bool) (a : Files) (broken_there : List ℕ) → AreRead rs last journal a → IsSoundImage a S seq → broken_there ≡ text → DrawsTo anew a (length seq) seq broken_there
+  draws_all anew a broken_there read sound is b k has = (keeping.drawn_image a S last form seq sound anew broken_there read k b has, keeping.text_is a S last form seq sound anew broken_there b k is has)
 
-  module _ (a : Files) (read : AreRead rs last journal a) (sound : IsSoundImage a S seq) (t : ℕ) (kept : Sequence) (size : length kept ≡ t) (broken_there : List ℕ) (draws : DrawsTo a t kept broken_there) where
+  module _ (anew : Bool) (a : Files) (read : AreRead rs last journal a) (sound : IsSoundImage a S seq) (t : ℕ) (kept : Sequence) (size : length kept ≡ t) (broken_there : List ℕ) (draws : DrawsTo anew a t kept broken_there) where
     abbrev pub D : Contents
     D = cut_at t broken_there kept (C a)
 
-    start_is : (r : ℕ) → r < many → start_of D r ≡ record { region = r; before = unwrap_or (mode_of rs r) true; generation = suc (generation rs); previous = last r }
+    start_is : (r : ℕ) → r < many → start_as anew D r ≡ record { region = r; before = begun_mode anew rs r; generation = suc (generation rs); previous = last r }
     start_is r here =
-        let mode : unwrap_or (mode_of (rs ++ next_cut rs t ∷ []) r) true ≡ unwrap_or (mode_of rs r) true = ap (λ o. unwrap_or o true) (mode_cut rs t (generation rs + 1) r) in
+        let mode : begun_mode anew (rs ++ next_cut rs t ∷ []) r ≡ begun_mode anew rs r = ap (λ o. not anew && unwrap_or o true) (mode_cut rs t (generation rs + 1) r) in
         let g = newest_is t in
         let p = last_is a r (generation rs) (last r) (journal r) (read.older r here) in
         λ i. record { region = r; before = mode i; generation = g i; previous = p i }
 
     abbrev first : ℕ → Placed
-    first r = record { generation = suc (generation rs); what = next_pini rs last r }
+    first r = record { generation = suc (generation rs); what = next_pini_as anew rs last r }
 
-    starts_are : (k r : ℕ) → starts_of (journal r) ++ starts_in k D r ≡ starts_of (journal r ++ files.starts_in rs last k r)
+    starts_are : (k r : ℕ) → starts_of (journal r) ++ starts_as anew k D r ≡ starts_of (journal r ++ files.starts_in_as anew rs last k r)
     starts_are k r =
         ap (λ (l : List Start). starts_of (journal r) ++ l)
-        (ap (λ (l : List NamedMode). if nat_lt r k && nat_lt r (length l) then start_of D r ∷ [] else []) (same_regions t)
-        ∙ begins_same (nat_lt r k) (nat_lt r many) (start_of D r) (record { region = r; before = unwrap_or (mode_of rs r) true; generation = suc (generation rs); previous = last r }) (first r) refl (λ low here. start_is r (grind (arith, nat_tests, here))))
-        ∙ sym (filter_map-append (λ (p : Placed). start_in p.what) (journal r) (files.starts_in rs last k r))
+        (ap (λ (l : List NamedMode). if nat_lt r k && nat_lt r (length l) then start_as anew D r ∷ [] else []) (same_regions t)
+        ∙ begins_same (nat_lt r k) (nat_lt r many) (start_as anew D r) (record { region = r; before = begun_mode anew rs r; generation = suc (generation rs); previous = last r }) (first r) refl (λ low here. start_is r (grind (arith, nat_tests, here))))
+        ∙ sym (filter_map-append (λ (p : Placed). start_in p.what) (journal r) (files.starts_in_as anew rs last k r))
 
     -- no epoch is taken
-    epochs_are : (k r : ℕ) → epochs_of (journal r) ≡ epochs_of (journal r ++ files.starts_in rs last k r)
+    epochs_are : (k r : ℕ) → epochs_of (journal r) ≡ epochs_of (journal r ++ files.starts_in_as anew rs last k r)
     epochs_are k r =
         sym (append-nil (epochs_of (journal r)))
         ∙ ap (λ (l : List Taken). epochs_of (journal r) ++ l) (no_epoch (nat_lt r k) (nat_lt r many) (first r) refl)
-        ∙ sym (filter_map-append (λ (p : Placed). epoch_in p.generation p.what) (journal r) (files.starts_in rs last k r))
+        ∙ sym (filter_map-append (λ (p : Placed). epoch_in p.generation p.what) (journal r) (files.starts_in_as anew rs last k r))
 
     -- nothing is in its lost-transaction file
-    none_lost : (b : Files) (k : ℕ) → HasDrawn rs t broken_there last k a b → b (lost_file (suc (generation rs))) ≡ []
+    none_lost : (b : Files) (k : ℕ) → HasDrawnAs anew rs t broken_there last k a b → b (lost_file (suc (generation rs))) ≡ []
     none_lost b k has =
         let room = form.room in
         let few = form.few_regions in
         has.others (lost_file (suc (generation rs))) (λ e. omega (arith, e)) (λ e. omega (arith, e, room)) (λ r here e. omega (arith, e, here, few, room))
         ∙ sound.clean.lost (suc (generation rs)) (omega arith, omega (arith, room))
 
-    pub site_drawn : (b : Files) (k : ℕ) → HasDrawn rs t broken_there last k a b → IsSite b (with_starts k D)
+    pub site_drawn : (b : Files) (k : ℕ) → HasDrawnAs anew rs t broken_there last k a b → IsSite b (begun_as anew k D)
     site_drawn b k has = record {
       made = made_more rs (next_cut rs t);
       mapped = mapped_drawn t;
-      records = drawn_records S t last k;
+      records = drawn_records_as anew S t last k;
       instance = refl;
       starts = starts_are k;
       epochs = epochs_are k;
@@ -219,21 +220,21 @@ module _ (rs : List InstanceRecord) (last : ℕ → ℕ) (journal : ℕ → List
     }
 
     -- and nothing lies behind that
-    pub left_drawn : (b : Files) (k : ℕ) → HasDrawn rs t broken_there last k a b → HasLeft b (with_starts k D) NO_LEFTOVER
+    pub left_drawn : (b : Files) (k : ℕ) → HasDrawnAs anew rs t broken_there last k a b → HasLeft b (begun_as anew k D) NO_LEFTOVER
     left_drawn b k has =
         let image = (draws b k has).0 in
-        left_nothing b (with_starts k D) (drawn_records S t last k) image.held image.clean
-        (subst (λ (n : ℕ). NonePast n (drawn_records S t last k)) (sym size) (keeping.none_past S t last (drawing.before a S (generation rs + 1) sound.held past) k)) refl
+        left_nothing b (begun_as anew k D) (drawn_records_as anew S t last k) image.held image.clean
+        (subst (λ (n : ℕ). NonePast n (drawn_records_as anew S t last k)) (sym size) (keeping.none_past anew S t last (drawing.before a S (generation rs + 1) sound.held past) k)) refl
 
-    pub standing_drawn : (b : Files) (k : ℕ) → HasDrawn rs t broken_there last k a b → IsStanding b (bare (with_starts k D))
+    pub standing_drawn : (b : Files) (k : ℕ) → HasDrawnAs anew rs t broken_there last k a b → IsStanding b (bare (begun_as anew k D))
     standing_drawn b k has = record { site = site_drawn b k has; torn = []; left = left_drawn b k has }
 
     -- whatever a crash leaves of it
-    pub site_may : (b : Files) → broken_there ≡ text → MayDraw rs t broken_there last a b → IsSite b (C a) ⊎ ((k : ℕ) × IsSite b (with_starts k D))
+    pub site_may : (b : Files) → broken_there ≡ text → MayDrawAs anew rs t broken_there last a b → IsSite b (C a) ⊎ ((k : ℕ) × IsSite b (begun_as anew k D))
     site_may b is (inl cut) = inl (site_uncut a b broken_there read sound is cut)
     site_may b is (inr drawn) = inr (drawn.0, site_drawn b drawn.0 drawn.1)
 
-    pub standing_may : (b : Files) (s : Standing) → IsStanding a s → broken_there ≡ text → MayDraw rs t broken_there last a b → IsStanding b s ⊎ ((k : ℕ) × IsStanding b (bare (with_starts k D)))
+    pub standing_may : (b : Files) (s : Standing) → IsStanding a s → broken_there ≡ text → MayDrawAs anew rs t broken_there last a b → IsStanding b s ⊎ ((k : ℕ) × IsStanding b (bare (begun_as anew k D)))
     standing_may b s was is (inr drawn) = inr (drawn.0, standing_drawn b drawn.0 drawn.1)
     standing_may b s was is (inl cut) =
         let found = site_read a s.contents read was.site in
@@ -250,23 +251,23 @@ module _ (rs : List InstanceRecord) (last : ℕ → ℕ) (journal : ℕ → List
         })
 
   -- as a site is opened
-  module _ (a : Files) (read : AreRead rs last journal a) (broken_there : List ℕ) (is : broken_there ≡ text) where
-    pub site_either : (b : Files) → IsSoundImage a S seq → MayDraw rs (length seq) broken_there last a b → (o : Contents) × MayOpen broken_there (C a) o × IsSite b o
-    site_either b sound may = elim (site_may a read sound (length seq) seq refl broken_there (draws_all a broken_there read sound is) b is may) [
+  module _ (anew : Bool) (a : Files) (read : AreRead rs last journal a) (broken_there : List ℕ) (is : broken_there ≡ text) where
+    pub site_either : (b : Files) → IsSoundImage a S seq → MayDrawAs anew rs (length seq) broken_there last a b → (o : Contents) × MayOpenAs anew broken_there (C a) o × IsSite b o
+    site_either b sound may = elim (site_may anew a read sound (length seq) seq refl broken_there (draws_all anew a broken_there read sound is) b is may) [
       | inl still ↦ (C a, inl refl, still)
-      | inr drawn ↦ (with_starts drawn.0 (cut_there broken_there (C a)), inr (drawn.0, refl), drawn.1)
+      | inr drawn ↦ (begun_as anew drawn.0 (cut_there broken_there (C a)), inr (drawn.0, refl), drawn.1)
     ]
 
-    pub standing_either : (b : Files) (s : Standing) → IsStanding a s → MayDraw rs (length seq) broken_there last a b → (o : Standing) × MayOpenLeft s o × IsStanding b o
+    pub standing_either : (b : Files) (s : Standing) → IsStanding a s → MayDrawAs anew rs (length seq) broken_there last a b → (o : Standing) × MayOpenAsLeft anew s o × IsStanding b o
     standing_either b s was may =
         let found = site_read a s.contents read was.site in
         let there : s.broken ≡ broken_there = left_read a s.contents (record { broken = s.broken; torn = was.torn }) read was.site was.left ∙ sym is in
-        elim (standing_may a read found.0 (length seq) seq refl broken_there (draws_all a broken_there read found.0 is) b s was is may) [
+        elim (standing_may anew a read found.0 (length seq) seq refl broken_there (draws_all anew a broken_there read found.0 is) b s was is may) [
           | inl still ↦ (s, inl refl, still)
           | inr drawn ↦ (
-            bare (with_starts drawn.0 (cut_there s.broken s.contents)),
+            bare (begun_as anew drawn.0 (cut_there s.broken s.contents)),
             inr (drawn.0, refl),
-            subst (λ (x : Contents). IsStanding b (bare (with_starts drawn.0 (cut_there s.broken x)))) (sym found.1)
-                (subst (λ (x : List ℕ). IsStanding b (bare (with_starts drawn.0 (cut_there x (C a))))) (sym there) drawn.1),
+            subst (λ (x : Contents). IsStanding b (bare (begun_as anew drawn.0 (cut_there s.broken x)))) (sym found.1)
+                (subst (λ (x : List ℕ). IsStanding b (bare (begun_as anew drawn.0 (cut_there x (C a))))) (sym there) drawn.1),
           )
         ]

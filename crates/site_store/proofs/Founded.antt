@@ -1,5 +1,5 @@
 -- A site that was found, and stands.
-use Rattle.std.proofs.Common.{◌≡◌, inr, ℕ, [], ◌∷◌, ◌++◌, length, take, Result, Ok, Err, IfOk, IfSome, sym, ◌∙◌, ap, subst}
+use Rattle.std.proofs.Common.{◌≡◌, inr, ℕ, Bool, false, [], ◌∷◌, ◌++◌, length, take, Result, Ok, Err, IfOk, IfSome, sym, ◌∙◌, ap, subst}
 use Rattle.std.proofs.Math.Seq.{take-length}
 use Rattle.disk_defs.specs.Disk.{Files, View, Image, Reads, IsLawful, AtEachMoment}
 use Rattle.disk_defs.proofs.Moments.{read_only}
@@ -18,11 +18,12 @@ use Rattle.site_store.specs.declared.preparing.FoundFiles.{FoundFiles}
 use Rattle.site_store.specs.declared.preparing.StandingSite.{StandingSite}
 use Rattle.site_store.specs.declared.error.SiteError.{SiteError}
 use Rattle.site_store.specs.Finding.{HasLayout}
-use Rattle.site_store.specs.Site.{AreOnBlocks, AreSynced}
+use Rattle.site_store.specs.Needing.{IsFirstWithout, NoneIsWithout, HaveFirstWithout}
+use Rattle.site_store.specs.Site.{AreOnBlocks, StandOn, AreSynced}
 use Rattle.site_store.specs.Opening.{AreTextsDurable, AreDatabasesDurable}
 use Rattle.site_store.proofs.Alike.{image_site}
 use Rattle.site_store.proofs.OnBlocks.{on_same}
-use Rattle.site_store.specs.Standing.{found_records, found_entries, HasFound, WasFound, IsFoundAs, IsOpenFor, Stood}
+use Rattle.site_store.specs.Standing.{found_records, found_entries, HasFound, WasFound, IsFoundAs, IsOpenFor, IsOpenAs, Stood}
 use Rattle.site_store.proofs.Databases.{databases_still, texts_still}
 use Rattle.site_store.proofs.Drawn.{site_read}
 use Rattle.site_store.proofs.Loaded.{length_values}
@@ -36,9 +37,9 @@ found_moved u v w f lawful run was = record {
   databases = databases_still u.content v w (length (regions f.read.log.records)) lawful run was.databases;
 }
 
-pub open_moved : (u v w : View) (f : FoundFiles) (t : ℕ) (j : Joined) → v.content ≡ u.content → IsOpenFor v w f t j → IsOpenFor u w f t j
-open_moved u v w f t j same is = record {
-  blocks = told_at u.content v.content (λ files. AreOnBlocks files (found_records f) t j) same is.blocks;
+pub open_moved : (anew : Bool) (u v w : View) (f : FoundFiles) (t : ℕ) (j : Joined) → v.content ≡ u.content → IsOpenAs anew v w f t j → IsOpenAs anew u w f t j
+open_moved anew u v w f t j same is = record {
+  blocks = told_at u.content v.content (λ files. StandOn anew files (found_records f) t j) same is.blocks;
   regions = is.regions;
   nodes = told_at u.content v.content (λ files. IsSoundImage files (found_records f) (found_entries f) → joined j ≡ state (take t (found_entries f))) same is.nodes;
   some = is.some;
@@ -69,9 +70,9 @@ module _ (u v : View) (f : FoundFiles) (was : WasFound u v f) where
 abbrev again : FoundFiles → StandingSite → FoundFiles
 again f k = record { read = record { log = k.log; directory = f.read.directory; journals = f.read.journals; last_began = k.last_began }; entries = k.entries; broken = k.broken }
 
-stood_again : (u w : View) (f : FoundFiles) (k : StandingSite) → HasFound (again f k) → WasFound u w (again f k) → IsOpenFor u w (again f k) (length k.entries.items) k.globals
-    → ((n : ℕ) → HasLayout (k.log.records ++ next_cut k.log.records n ∷ []) k.layout) → Stood u w k
-stood_again u w f k has was opens layout =
+stood_again : (anew : Bool) (u w : View) (f : FoundFiles) (k : StandingSite) → HasFound (again f k) → WasFound u w (again f k) → IsOpenAs anew u w (again f k) (length k.entries.items) k.globals
+    → (anew ≡ false → NoneIsWithout (found_records (again f k)) (length k.entries.items)) → ((n : ℕ) → HasLayout (k.log.records ++ next_cut k.log.records n ∷ []) k.layout) → Stood anew u w k
+stood_again anew u w f k has was opens none layout =
     let seq = found_entries (again f k) in
     let size : length seq ≡ length k.entries.items = length_values k.entries.items in
     record {
@@ -87,24 +88,28 @@ stood_again u w f k has was opens layout =
       read = was.read;
       texts = was.texts;
       databases = was.databases;
-      blocks = subst (λ (n : ℕ). IfSome u.content (λ files. AreOnBlocks files (found_records (again f k)) n k.globals)) (sym size) opens.blocks;
+      without = λ no. subst (NoneIsWithout (found_records (again f k))) (sym size) (none no);
+      blocks = subst (λ (n : ℕ). IfSome u.content (λ files. StandOn anew files (found_records (again f k)) n k.globals)) (sym size) opens.blocks;
       regions = opens.regions;
       nodes = subst (λ (l : Sequence). IfSome u.content (λ files. IsSoundImage files (found_records (again f k)) seq → joined k.globals ≡ state l)) (ap (λ (n : ℕ). take n seq) (sym size) ∙ take-length seq) opens.nodes;
       some = opens.some;
       none = λ empty. opens.none (sym size ∙ empty);
     }
 
-pub stood_of : (u w : View) (f : FoundFiles) (k : StandingSite) → HasFound f → WasFound u w f → IsOpenFor u w f (length f.entries.items) k.globals → IsFoundAs f k → Stood u w k
-stood_of u w f k has was opens stays =
-    subst (λ (x : FoundFiles). HasFound x → WasFound u w x → IsOpenFor u w x (length x.entries.items) k.globals → ((n : ℕ) → HasLayout (x.read.log.records ++ next_cut x.read.log.records n ∷ []) k.layout) → Stood u w k)
+pub stood_of : (anew : Bool) (u w : View) (f : FoundFiles) (k : StandingSite) → HasFound f → WasFound u w f → IsOpenAs anew u w f (length f.entries.items) k.globals
+    → (anew ≡ false → NoneIsWithout (found_records f) (length f.entries.items)) → IsFoundAs f k → Stood anew u w k
+stood_of anew u w f k has was opens none stays =
+    subst (λ (x : FoundFiles). HasFound x → WasFound u w x → IsOpenAs anew u w x (length x.entries.items) k.globals → (anew ≡ false → NoneIsWithout (found_records x) (length x.entries.items))
+    → ((n : ℕ) → HasLayout (x.read.log.records ++ next_cut x.read.log.records n ∷ []) k.layout) → Stood anew u w k)
     (λ i. record { read = record { log = stays.log i; directory = f.read.directory; journals = f.read.journals; last_began = stays.last_began i }; entries = stays.entries i; broken = stays.broken i })
-    (stood_again u w f k) has was opens stays.layout
+    (stood_again anew u w f k) has was opens none stays.layout
 
-pub stood_ok : (u v w : View) (f : FoundFiles) (n : ℕ) (o : Result StandingSite SiteError) → IsLawful w → Reads v w → v.content ≡ u.content → HasFound f → WasFound u v f → n ≡ length f.entries.items
-    → IfOk o (IsFoundAs f) → IfOk o (λ k. IsOpenFor v w f n k.globals) → IfOk o (Stood u w)
-stood_ok u v w f n (Ok k) lawful reads same has was all stays opens =
-    stood_of u w f k has (found_moved u v w f lawful (read_only v w reads) was) (subst (λ (m : ℕ). IsOpenFor u w f m k.globals) all (open_moved u v w f n k.globals same opens)) stays
-stood_ok u v w f n (Err e) lawful reads same has was all stays opens = tt
+pub stood_ok : (anew : Bool) (u v w : View) (f : FoundFiles) (n : ℕ) (o : Result StandingSite SiteError) → IsLawful w → Reads v w → v.content ≡ u.content → HasFound f → WasFound u v f → n ≡ length f.entries.items
+    → IfOk o (IsFoundAs f) → IfOk o (λ k. IsOpenAs anew v w f n k.globals) → (anew ≡ false → NoneIsWithout (found_records f) n) → IfOk o (Stood anew u w)
+stood_ok anew u v w f n (Ok k) lawful reads same has was all stays opens none =
+    stood_of anew u w f k has (found_moved u v w f lawful (read_only v w reads) was) (subst (λ (m : ℕ). IsOpenAs anew u w f m k.globals) all (open_moved anew u v w f n k.globals same opens))
+    (λ no. subst (NoneIsWithout (found_records f)) all (none no)) stays
+stood_ok anew u v w f n (Err e) lawful reads same has was all stays opens none = tt
 
 -- where it can't be opened for all entries
 module _ (u v : View) (f : FoundFiles) (has : HasFound f) (was : WasFound u v f) (same : v.content ≡ u.content) (file offset : ℕ) where
@@ -120,3 +125,15 @@ module _ (u v : View) (f : FoundFiles) (has : HasFound f) (was : WasFound u v f)
   no_site_there out = both_weak u.content Read (λ files. IsSoundImage files (found_records f) (found_entries f) → ⊥) (λ files. (c : Contents) → IsSite files c → ⊥) was.read
       (told_at u.content v.content (λ files. IsSoundImage files (found_records f) (found_entries f) → ⊥) same out)
       (λ files r t c site. t (site_read f.read.log.records (last_of f.read.last_began.items) (found_records f).journal (found_entries f) has.form has.sequence files c r.holds site).0)
+
+-- the first region that needs forward recovery
+pub first_needing : (u v : View) (f : FoundFiles) → HasFound f → WasFound u v f → (region generation : ℕ) → IsFirstWithout (found_records f) (length f.entries.items) region generation → IfSome u.content (λ files. HaveFirstWithout files region)
+first_needing u v f has was region generation first =
+    weaker_told u.content (WasRead v f.read.log.records (last_of f.read.last_began.items) (found_records f).journal) (λ files. HaveFirstWithout files region) was.read (λ files r. (
+      found_records f,
+      found_entries f,
+      held_read f.read.log.records (last_of f.read.last_began.items) (found_records f).journal files r.holds,
+      has.sequence,
+      generation,
+      subst (λ (n : ℕ). IsFirstWithout (found_records f) n region generation) (sym (length_values f.entries.items)) first,
+    ))

@@ -19,6 +19,7 @@ pub mod Hardened
 pub mod Fronted
 pub mod Marked
 pub mod Errors
+pub mod Without
 pub mod Found
 pub mod Made
 pub mod Regions

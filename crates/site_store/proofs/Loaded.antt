@@ -28,19 +28,19 @@ use Rattle.jnl_file.specs.declared.journal.Journal.{Journal}
 use Rattle.region_journals.specs.Journals.{AreReady, HasSyncs, KeepsJournals}
 use Rattle.region_journals.specs.Journals as region_journals
 use Rattle.region_journals.specs.declared.journals.RegionJournal.{RegionJournal}
-use Rattle.site_files.specs.Loading.{MayBeOpened, AreRead, WasRead, MayDraw, HasDrawn, next_cut, next_broken, next_pini}
+use Rattle.site_files.specs.Loading.{MayBeOpened, AreRead, WasRead, MayDrawAs, HasDrawnAs, next_cut, next_broken, next_pini_as}
 use Rattle.site_files.proofs.Kept.{image_read, held_read}
 use Rattle.site_defs.specs.Contents.{Contents, Leftover}
-use Rattle.site_defs.specs.Opening.{opened, MayOpen}
+use Rattle.site_defs.specs.Forward.{opened_as, MayOpenAs}
 use Rattle.site_defs.specs.Stands.{IsSite, HasLeft}
 use Rattle.site_store.specs.declared.site.OpenSite.{OpenSite}
 use Rattle.site_store.specs.Finding.{HasLayout}
 use Rattle.site_regions.specs.Joined.{joined}
-use Rattle.site_store.specs.Site.{Remembers, AreHeld, IsReady, IsOpen, AreOnBlocks, WasOpened, WasOpenedFrom}
+use Rattle.site_store.specs.Site.{Remembers, AreHeld, IsReady, IsOpen, StandOn, WasOpened, WasOpenedFrom}
 use Rattle.gvn_model.specs.Numbered.{numbered}
-use Rattle.site_store.specs.Opening.{MayBeOpen, MayBeOpenWith, EachStands, AreTextsDurable, AreDatabasesDurable}
+use Rattle.site_store.specs.Opening.{MayBeOpenAs, MayBeOpenWithAs, EachStands, AreTextsDurable, AreDatabasesDurable}
 use Rattle.site_store.proofs.Remembered.{length-enumerate, are_numbered}
-use Rattle.site_store.proofs.OnBlocks.{on_same}
+use Rattle.site_store.proofs.OnBlocks.{stand_same}
 use Rattle.site_store.proofs.Found.{instance_one}
 use Rattle.site_store.proofs.Drawn.{S, C, text, site_read, left_read, site_either, standing_either, draws_all}
 use Rattle.site_store.proofs.Alike.{image_sound, image_site}
@@ -65,47 +65,47 @@ opened_from o v rs last journal seq s read sequence entries records = weaker_tol
     })
 
 -- and what was read is such records
-pub held_from : (o : Option Files) (v : View) (rs : List InstanceRecord) (last : ℕ → ℕ) (journal : ℕ → List Placed) (seq : Sequence) (s : OpenSite) → IfSome o (WasRead v rs last journal) → IsSequence (record { instance = rs; journal = journal }) seq
+pub held_from : (P : Records → Sequence → Type 0) (o : Option Files) (v : View) (rs : List InstanceRecord) (last : ℕ → ℕ) (journal : ℕ → List Placed) (seq : Sequence) (s : OpenSite) → IfSome o (WasRead v rs last journal) → IsSequence (record { instance = rs; journal = journal }) seq
     → map numbered s.entries.items ≡ enumerate_from 1 seq → s.instance.records ≡ rs ++ next_cut rs (length seq) ∷ []
-    → IfSome o (λ files. (u : Records) × (other : Sequence) × AreRecords files u × IsSequence u other × WasOpenedFrom u other s)
-held_from o v rs last journal seq s read sequence entries records = weaker_told o (WasRead v rs last journal) (λ files. (u : Records) × (other : Sequence) × AreRecords files u × IsSequence u other × WasOpenedFrom u other s) read (λ files was.
-    (record { instance = rs; journal = journal }, seq, held_read rs last journal files was.holds, sequence, record { entries = entries; instance = records }))
+    → P (record { instance = rs; journal = journal }) seq → IfSome o (λ files. (u : Records) × (other : Sequence) × AreRecords files u × IsSequence u other × WasOpenedFrom u other s × P u other)
+held_from P o v rs last journal seq s read sequence entries records is = weaker_told o (WasRead v rs last journal) (λ files. (u : Records) × (other : Sequence) × AreRecords files u × IsSequence u other × WasOpenedFrom u other s × P u other) read (λ files was.
+    (record { instance = rs; journal = journal }, seq, held_read rs last journal files was.holds, sequence, record { entries = entries; instance = records }, is))
 
 -- nothing was written
-abbrev pub Moments : View → View → Files → Type 0
-Moments u v files = (c : Contents) (left : Leftover) → IsSite files c → HasLeft files c left → AtEachMoment u v (MayBeOpen u left.broken)
+abbrev pub Moments : (anew : Bool) → View → View → Files → Type 0
+Moments anew u v files = (c : Contents) (left : Leftover) → IsSite files c → HasLeft files c left → AtEachMoment u v (MayBeOpenAs anew u left.broken)
 
-abbrev pub StandsOpen : Option Files → Files → Type 0
-StandsOpen n files = (c : Contents) (left : Leftover) → IsSite files c → HasLeft files c left → IfSome n (λ now. (o : Contents) × MayOpen left.broken c o × IsSite now o)
+abbrev pub StandsOpen : (anew : Bool) → Option Files → Files → Type 0
+StandsOpen anew n files = (c : Contents) (left : Leftover) → IsSite files c → HasLeft files c left → IfSome n (λ now. (o : Contents) × MayOpenAs anew left.broken c o × IsSite now o)
 
-pub quiet : (u v : View) (broken : List ℕ) → AtEachMoment u v (Image u) → AtEachMoment u v (MayBeOpen u broken)
-quiet u v broken run = weaker u v (Image u) (MayBeOpen u broken) (λ f image. (f, image, λ c site. (c, inl refl, site))) run
+pub quiet : (anew : Bool) (u v : View) (broken : List ℕ) → AtEachMoment u v (Image u) → AtEachMoment u v (MayBeOpenAs anew u broken)
+quiet anew u v broken run = weaker u v (Image u) (MayBeOpenAs anew u broken) (λ f image. (f, image, λ c site. (c, inl refl, site))) run
 
-pub quiet_told : (u v : View) → AtEachMoment u v (Image u) → IfSome u.content (Moments u v)
-quiet_told u v run = always u.content
+pub quiet_told : (anew : Bool) (u v : View) → AtEachMoment u v (Image u) → IfSome u.content (Moments anew u v)
+quiet_told anew u v run = always u.content
   where
-    always : (o : Option Files) → IfSome o (Moments u v)
+    always : (o : Option Files) → IfSome o (Moments anew u v)
     always None = tt
-    always (Some f) = λ c left site has. quiet u v left.broken run
+    always (Some f) = λ c left site has. quiet anew u v left.broken run
 
 -- with what lies behind
-abbrev pub Lefts : View → View → Files → Type 0
-Lefts u v files = (c : Contents) → IsSite files c → AtEachMoment u v (MayBeOpenWith u)
+abbrev pub Lefts : (anew : Bool) → View → View → Files → Type 0
+Lefts anew u v files = (c : Contents) → IsSite files c → AtEachMoment u v (MayBeOpenWithAs anew u)
 
-quiet_with : (u v : View) → AtEachMoment u v (Image u) → AtEachMoment u v (MayBeOpenWith u)
-quiet_with u v run = weaker u v (Image u) (MayBeOpenWith u) (λ f image. (f, image, λ s was. (s, inl refl, was))) run
+quiet_with : (anew : Bool) (u v : View) → AtEachMoment u v (Image u) → AtEachMoment u v (MayBeOpenWithAs anew u)
+quiet_with anew u v run = weaker u v (Image u) (MayBeOpenWithAs anew u) (λ f image. (f, image, λ s was. (s, inl refl, was))) run
 
-pub quiet_left : (u v : View) → AtEachMoment u v (Image u) → IfSome u.content (Lefts u v)
-quiet_left u v run = always u.content
+pub quiet_left : (anew : Bool) (u v : View) → AtEachMoment u v (Image u) → IfSome u.content (Lefts anew u v)
+quiet_left anew u v run = always u.content
   where
-    always : (o : Option Files) → IfSome o (Lefts u v)
+    always : (o : Option Files) → IfSome o (Lefts anew u v)
     always None = tt
-    always (Some f) = λ c site. quiet_with u v run
+    always (Some f) = λ c site. quiet_with anew u v run
 
-pub quiet_stands : (o n : Option Files) → n ≡ o → IfSome o (StandsOpen n)
-quiet_stands o n same = subst (λ (z : Option Files). IfSome o (StandsOpen z)) (sym same) (itself o)
+pub quiet_stands : (anew : Bool) (o n : Option Files) → n ≡ o → IfSome o (StandsOpen anew n)
+quiet_stands anew o n same = subst (λ (z : Option Files). IfSome o (StandsOpen anew z)) (sym same) (itself o)
   where
-    itself : (o : Option Files) → IfSome o (StandsOpen o)
+    itself : (o : Option Files) → IfSome o (StandsOpen anew o)
     itself None = tt
     itself (Some f) = λ c left site has. (c, inl refl, site)
 
@@ -195,7 +195,7 @@ module _ (rs : List InstanceRecord) (last : ℕ → ℕ) (form : MayBeOpened rs 
     }
 
 -- a site that was read at v, and drawn at w
-module _ (u v w : View) (rs : List InstanceRecord) (last : ℕ → ℕ) (journal : ℕ → List Placed) (seq : Sequence) (form : MayBeOpened rs last) (sequence : IsSequence (record { instance = rs; journal = journal }) seq)
+module _ (anew : Bool) (u v w : View) (rs : List InstanceRecord) (last : ℕ → ℕ) (journal : ℕ → List Placed) (seq : Sequence) (form : MayBeOpened rs last) (sequence : IsSequence (record { instance = rs; journal = journal }) seq)
     (lawful_v : IsLawful v) (lawful_w : IsLawful w) (synced : AtEachMoment u v (Image u)) (same : v.content ≡ u.content) (read : IfSome u.content (WasRead v rs last journal))
     (broken : List ℕ) (broken_is : broken ≡ text rs last journal seq form sequence) where
   abbrev pub S0 : Records
@@ -208,10 +208,10 @@ module _ (u v w : View) (rs : List InstanceRecord) (last : ℕ → ℕ) (journal
   IsShort files = length (files (next_broken rs)) ≤ length broken
 
   abbrev pub Drawing : Files → Type 0
-  Drawing = From (Image v) (MayDraw rs (length seq) broken last)
+  Drawing = From (Image v) (MayDrawAs anew rs (length seq) broken last)
 
   abbrev pub Finished : Files → Type 0
-  Finished = From (Image v) (HasDrawn rs (length seq) broken last (length (regions rs)))
+  Finished = From (Image v) (HasDrawnAs anew rs (length seq) broken last (length (regions rs)))
 
   earlier : (f : Files) → Image v f → Image u f
   earlier f image = holds_now u v (Image u) lawful_v synced f image
@@ -226,47 +226,47 @@ module _ (u v w : View) (rs : List InstanceRecord) (last : ℕ → ℕ) (journal
   left_is : (files : Files) (c : Contents) (left : Leftover) → AreRead rs last journal files → IsSite files c → HasLeft files c left → broken ≡ left.broken
   left_is files c left rd site has = broken_is ∙ sym (left_read rs last journal seq form sequence files c left rd site has)
 
-  may_open : (files : Files) → WasRead v rs last journal files → (f : Files) → Drawing f → MayBeOpen u broken f
+  may_open : (files : Files) → WasRead v rs last journal files → (f : Files) → Drawing f → MayBeOpenAs anew u broken f
   may_open files r f q = (
     q.0,
     earlier q.0 q.1,
     λ c site.
         let rd = image_read v rs last journal files r q.0 q.1 in
         let is = site_read rs last journal seq form sequence q.0 c rd site in
-        let res = site_either rs last journal seq form sequence q.0 rd broken broken_is f is.0 q.2 in
-        (res.0, subst (λ (x : Contents). MayOpen broken x res.0) (sym is.1) res.1, res.2),
+        let res = site_either rs last journal seq form sequence anew q.0 rd broken broken_is f is.0 q.2 in
+        (res.0, subst (λ (x : Contents). MayOpenAs anew broken x res.0) (sym is.1) res.1, res.2),
   )
 
-  pub drawn_moments : IfSome v.content (λ files. IsShort files → AtEachMoment v w Drawing) → IfSome u.content (Moments u w)
-  drawn_moments run = both_weak u.content (WasRead v rs last journal) (λ files. IsShort files → AtEachMoment v w Drawing) (Moments u w) read
+  pub drawn_moments : IfSome v.content (λ files. IsShort files → AtEachMoment v w Drawing) → IfSome u.content (Moments anew u w)
+  drawn_moments run = both_weak u.content (WasRead v rs last journal) (λ files. IsShort files → AtEachMoment v w Drawing) (Moments anew u w) read
       (told_at u.content v.content (λ files. IsShort files → AtEachMoment v w Drawing) same run)
       (λ files r m c left site has.
       let is = site_read rs last journal seq form sequence files c r.holds site in
-      subst (λ (t : List ℕ). AtEachMoment u w (MayBeOpen u t)) (left_is files c left r.holds site has)
-      (then_more u v w (MayBeOpen u broken) Drawing (quiet u v broken synced) (m (short files is.0)) (λ f q. may_open files r f q)))
+      subst (λ (t : List ℕ). AtEachMoment u w (MayBeOpenAs anew u t)) (left_is files c left r.holds site has)
+      (then_more u v w (MayBeOpenAs anew u broken) Drawing (quiet anew u v broken synced) (m (short files is.0)) (λ f q. may_open files r f q)))
 
-  may_open_with : (files : Files) → WasRead v rs last journal files → (f : Files) → Drawing f → MayBeOpenWith u f
+  may_open_with : (files : Files) → WasRead v rs last journal files → (f : Files) → Drawing f → MayBeOpenWithAs anew u f
   may_open_with files r f q = (
     q.0,
     earlier q.0 q.1,
-    λ s was. standing_either rs last journal seq form sequence q.0 (image_read v rs last journal files r q.0 q.1) broken broken_is f s was q.2,
+    λ s was. standing_either rs last journal seq form sequence anew q.0 (image_read v rs last journal files r q.0 q.1) broken broken_is f s was q.2,
   )
 
-  pub drawn_left : IfSome v.content (λ files. IsShort files → AtEachMoment v w Drawing) → IfSome u.content (Lefts u w)
-  drawn_left run = both_weak u.content (WasRead v rs last journal) (λ files. IsShort files → AtEachMoment v w Drawing) (Lefts u w) read
+  pub drawn_left : IfSome v.content (λ files. IsShort files → AtEachMoment v w Drawing) → IfSome u.content (Lefts anew u w)
+  drawn_left run = both_weak u.content (WasRead v rs last journal) (λ files. IsShort files → AtEachMoment v w Drawing) (Lefts anew u w) read
       (told_at u.content v.content (λ files. IsShort files → AtEachMoment v w Drawing) same run)
       (λ files r m c site.
-      then_more u v w (MayBeOpenWith u) Drawing (quiet_with u v synced) (m (short files (site_read rs last journal seq form sequence files c r.holds site).0)) (λ f q. may_open_with files r f q))
+      then_more u v w (MayBeOpenWithAs anew u) Drawing (quiet_with anew u v synced) (m (short files (site_read rs last journal seq form sequence files c r.holds site).0)) (λ f q. may_open_with files r f q))
 
-  pub drawn_stands : IfSome v.content (λ files. IsShort files → IfSome w.content (MayDraw rs (length seq) broken last files)) → IfSome u.content (StandsOpen w.content)
-  drawn_stands drawn = both_weak u.content (WasRead v rs last journal) (λ files. IsShort files → IfSome w.content (MayDraw rs (length seq) broken last files)) (StandsOpen w.content) read
-      (told_at u.content v.content (λ files. IsShort files → IfSome w.content (MayDraw rs (length seq) broken last files)) same drawn)
+  pub drawn_stands : IfSome v.content (λ files. IsShort files → IfSome w.content (MayDrawAs anew rs (length seq) broken last files)) → IfSome u.content (StandsOpen anew w.content)
+  drawn_stands drawn = both_weak u.content (WasRead v rs last journal) (λ files. IsShort files → IfSome w.content (MayDrawAs anew rs (length seq) broken last files)) (StandsOpen anew w.content) read
+      (told_at u.content v.content (λ files. IsShort files → IfSome w.content (MayDrawAs anew rs (length seq) broken last files)) same drawn)
       (λ files r m c left site has.
       let is = site_read rs last journal seq form sequence files c r.holds site in
-      weaker_told w.content (MayDraw rs (length seq) broken last files) (λ now. (o : Contents) × MayOpen left.broken c o × IsSite now o) (m (short files is.0)) (λ now q.
-      let res = site_either rs last journal seq form sequence files r.holds broken broken_is now is.0 q in
-      let open_c : MayOpen broken c res.0 = subst (λ (x : Contents). MayOpen broken x res.0) (sym is.1) res.1 in
-      (res.0, subst (λ (t : List ℕ). MayOpen t c res.0) (left_is files c left r.holds site has) open_c, res.2)))
+      weaker_told w.content (MayDrawAs anew rs (length seq) broken last files) (λ now. (o : Contents) × MayOpenAs anew left.broken c o × IsSite now o) (m (short files is.0)) (λ now q.
+      let res = site_either rs last journal seq form sequence anew files r.holds broken broken_is now is.0 q in
+      let open_c : MayOpenAs anew broken c res.0 = subst (λ (x : Contents). MayOpenAs anew broken x res.0) (sym is.1) res.1 in
+      (res.0, subst (λ (t : List ℕ). MayOpenAs anew t c res.0) (left_is files c left r.holds site has) open_c, res.2)))
 
   pub room_left : generation rs < 65534 → IfSome u.content (λ files. (qs : List InstanceRecord) → IsInstance (files INSTANCE) qs → generation qs < 65534)
   room_left low = weaker_told u.content (WasRead v rs last journal) (λ files. (qs : List InstanceRecord) → IsInstance (files INSTANCE) qs → generation qs < 65534) read
@@ -281,7 +281,7 @@ module _ (u v w : View) (rs : List InstanceRecord) (last : ℕ → ℕ) (journal
     count = sym (length-map s.entries.items numbered) ∙ ap length entries ∙ length-enumerate 1 seq
 
     -- whatever the disk tells, it has as many entries as some that lead to its nodes
-    pub remembers_some : (es : Sequence) → joined s.globals ≡ state es → (length seq ≡ 0 → joined s.globals ≡ globals.empty) → (c : Contents) × (t : List ℕ) × Remembers (opened t c) (length c.sequence) s
+    pub remembers_some : (es : Sequence) → joined s.globals ≡ state es → (length seq ≡ 0 → joined s.globals ≡ globals.empty) → (c : Contents) × (t : List ℕ) × Remembers (opened_as anew t c) (length c.sequence) s
     remembers_some es is none =
         let as_long = stretched (length seq) es (joined s.globals) is none in
         let size : length seq ≡ length as_long.0 = sym as_long.1 in (
@@ -298,28 +298,28 @@ module _ (u v w : View) (rs : List InstanceRecord) (last : ℕ → ℕ) (journal
 
     module _ (begun : List Journal) (js_are : s.journals.journals.items ≡ map newly begun) where
       abbrev pub Begun : Type 0
-      Begun = (r : ℕ) (j : Journal) → slice_get begun r ≡ Some j → journals.HasRecords w j (settled (next_pini rs last r ∷ []))
+      Begun = (r : ℕ) (j : Journal) → slice_get begun r ≡ Some j → journals.HasRecords w j (settled (next_pini_as anew rs last r ∷ []))
 
-      is_open_all : (files : Files) → WasRead v rs last journal files → AreTextsDurable v (generation rs) files → AreDatabasesDurable v (length (regions rs)) files → AreOnBlocks files S0 (length seq) s.globals → joined s.globals ≡ state seq
-          → EachStands u → ((f : Files) → Image w f → Finished f) → instances.HasRecords w s.instance (rs ++ next_cut rs (length seq) ∷ []) → Begun → IsOpen w true (opened broken (C0 files)) (length seq) s
+      is_open_all : (files : Files) → WasRead v rs last journal files → AreTextsDurable v (generation rs) files → AreDatabasesDurable v (length (regions rs)) files → StandOn anew files S0 (length seq) s.globals → joined s.globals ≡ state seq
+          → EachStands u → ((f : Files) → Image w f → Finished f) → instances.HasRecords w s.instance (rs ++ next_cut rs (length seq) ∷ []) → Begun → IsOpen w true (opened_as anew broken (C0 files)) (length seq) s
       is_open_all files r durable databases on globals each drawn instance has =
-          open_to v w rs last journal seq form sequence lawful_w (λ f image. image_read v rs last journal files r f image) (C0 files)
+          open_to anew v w rs last journal seq form sequence lawful_w (λ f image. image_read v rs last journal files r f image) (C0 files)
           (λ f image. image_site v rs last journal seq form sequence files r durable f image (each f (earlier f image)).0 (each f (earlier f image)).1)
-          (length seq) seq refl broken (λ f image. draws_all rs last journal seq form sequence f broken (image_read v rs last journal files r f image) (sound_image files r each f image) broken_is)
+          (length seq) seq refl broken (λ f image. draws_all rs last journal seq form sequence anew f broken (image_read v rs last journal files r f image) (sound_image files r each f image) broken_is)
           s records entries hardened begun js_are (λ f d i j q low. databases q low d j ∙ sym (databases q low f i))
-          (λ f image. on_same files f S0 (length seq) s.globals (λ q low. databases q low f image) on) globals drawn instance has
+          (λ f image. stand_same anew files f S0 (length seq) s.globals (λ q low. databases q low f image) on) globals drawn instance has
 
       abbrev pub Whole : Files → Type 0
-      Whole files = WasRead v rs last journal files × AreTextsDurable v (generation rs) files × AreDatabasesDurable v (length (regions rs)) files × AreOnBlocks files S0 (length seq) s.globals × (IsSoundImage files S0 seq → joined s.globals ≡ state seq)
+      Whole files = WasRead v rs last journal files × AreTextsDurable v (generation rs) files × AreDatabasesDurable v (length (regions rs)) files × StandOn anew files S0 (length seq) s.globals × (IsSoundImage files S0 seq → joined s.globals ≡ state seq)
 
       abbrev pub Given : Files → Type 0
       Given files = (IsShort files → (f : Files) → Image w f → Finished f) × instances.HasRecords w s.instance (rs ++ next_cut rs (length seq) ∷ []) × Begun
 
       abbrev pub Opens : Files → Type 0
-      Opens files = (c : Contents) (left : Leftover) → IsSite files c → HasLeft files c left → EachStands u → IsOpen w true (opened left.broken c) (length c.sequence) s
+      Opens files = (c : Contents) (left : Leftover) → IsSite files c → HasLeft files c left → EachStands u → IsOpen w true (opened_as anew left.broken c) (length c.sequence) s
 
       pub is_open : IfSome u.content Whole → IfSome v.content Given → IfSome u.content Opens
       is_open whole given = both_weak u.content Whole Given Opens whole (told_at u.content v.content Given same given) (λ files a g c left site has_left each.
           let is = site_read rs last journal seq form sequence files c a.0.holds site in
-          subst (λ (b : List ℕ). IsOpen w true (opened b c) (length c.sequence) s) (left_is files c left a.0.holds site has_left)
-          (subst (λ (x : Contents). IsOpen w true (opened broken x) (length x.sequence) s) (sym is.1) (is_open_all files a.0 a.1 a.2 a.3 (a.4 is.0) each (g.0 (short files is.0)) g.1 g.2)))
+          subst (λ (b : List ℕ). IsOpen w true (opened_as anew b c) (length c.sequence) s) (left_is files c left a.0.holds site has_left)
+          (subst (λ (x : Contents). IsOpen w true (opened_as anew broken x) (length x.sequence) s) (sym is.1) (is_open_all files a.0 a.1 a.2 a.3 (a.4 is.0) each (g.0 (short files is.0)) g.1 g.2)))

@@ -1,8 +1,8 @@
 -- A site's regions stay on their blocks while its journals and its instance file gain records.
-use Rattle.std.proofs.Common.{◌≡◌, ◌⊎◌, inl, inr, ℕ, ◌<◌, List, [], ◌∷◌, ◌++◌, length, Option, None, refl, sym, ◌∙◌, ap, subst, arith, append-nil, append_assoc}
+use Rattle.std.proofs.Common.{◌≡◌, ◌⊎◌, inl, inr, ℕ, ◌<◌, Bool, true, false, List, [], ◌∷◌, ◌++◌, length, Option, None, refl, sym, ◌∙◌, ap, subst, arith, append-nil, append_assoc}
 use Rattle.std.specs.Prelude.{IsSome, IfSome}
 use Rattle.std.specs.List.{AllByRecursion}
-use Rattle.disk_defs.specs.Disk.{Files}
+use Rattle.disk_defs.specs.Disk.{Files, View}
 use Rattle.journal_defs.specs.Numbers.{database_file}
 use Rattle.journal_defs.specs.Journal.{Part}
 use Rattle.journal_defs.specs.Instance.{InstanceRecord, regions}
@@ -17,18 +17,18 @@ use Rattle.before_image.proofs.Marks.{knows_other}
 use Rattle.region_store.specs.Region.{Standing, HoldsRegion, IsHeld}
 use Rattle.site_regions.specs.Joined.{Joined, AreChanged, region_at}
 use Rattle.site_regions.proofs.Making.{region_changed}
-use Rattle.disk_defs.proofs.Told.{both_weak}
+use Rattle.disk_defs.proofs.Told.{weaker_told, both_weak, told_at}
 use Rattle.jnl_record.specs.declared.placed.PlacedRecord.{PlacedRecord}
 use Rattle.mupip_recover.specs.Site.{site_records, journal_of}
 use Rattle.site_defs.specs.OutsideBlocks.{gone_back}
-use Rattle.site_store.specs.Site.{IsOnBlocks, AreOnBlocks}
+use Rattle.site_store.specs.Site.{IsOnBlocks, AreHeld, AreOnBlocks, AreOnFiles, StandOn}
 use Rattle.site_store.proofs.Newest.{all_parts}
 
 abbrev OnEpoch : List Placed → Chosen → List ℕ → Standing → Type 0
 OnEpoch journal e bytes x = IsSome (first_without journal e) ⊎ HoldsRegion e bytes x
 
 -- other files, with the same database files
-held_same : (d f : Files) (x : Standing) → f x.file ≡ d x.file → IsHeld x d → IsHeld x f
+pub held_same : (d f : Files) (x : Standing) → f x.file ≡ d x.file → IsHeld x d → IsHeld x f
 held_same d f x same held = (held.0, subst (λ (bytes : List ℕ). HoldsRegion held.0 bytes x) (sym same) held.1)
 
 one_same : (d f : Files) (s : Records) (n r : ℕ) (x : Standing) → f (database_file r) ≡ d (database_file r) → IsOnBlocks d s n r x → IsOnBlocks f s n r x
@@ -40,6 +40,24 @@ one_same d f s n r x same on = record {
 
 pub on_same : (d f : Files) (s : Records) (n : ℕ) (j : Joined) → ((r : ℕ) → r < length (regions s.instance) → f (database_file r) ≡ d (database_file r)) → AreOnBlocks d s n j → AreOnBlocks f s n j
 on_same d f s n j same on = record { patterns = on.patterns; count = on.count; each = λ r here. one_same d f s n r (region_at j r) (same r here) (on.each r here) }
+
+-- regions that are made anew, or stand on blocks that they had
+pub anew_or_not : (anew : Bool) (f : Files) (s : Records) (n : ℕ) (j : Joined) → StandOn anew f s n j → ((anew ≡ true) × AreOnFiles f s j) ⊎ AreOnBlocks f s n j
+anew_or_not true f s n j on = inl (refl, on)
+anew_or_not false f s n j on = inr on
+
+files_same : (d f : Files) (s : Records) (j : Joined) → ((r : ℕ) → r < length (regions s.instance) → f (database_file r) ≡ d (database_file r)) → AreOnFiles d s j → AreOnFiles f s j
+files_same d f s j same on = record {
+  patterns = on.patterns;
+  count = on.count;
+  each = λ r here.
+      let was = on.each r here in
+      (was.0, held_same d f (region_at j r) (ap f was.0 ∙ same r here ∙ sym (ap d was.0)) was.1);
+}
+
+pub stand_same : (anew : Bool) (d f : Files) (s : Records) (n : ℕ) (j : Joined) → ((r : ℕ) → r < length (regions s.instance) → f (database_file r) ≡ d (database_file r)) → StandOn anew d s n j → StandOn anew f s n j
+stand_same true d f s n j same on = files_same d f s j same on
+stand_same false d f s n j same on = on_same d f s n j same on
 
 -- changes of nodes
 pub on_changed : (f : Files) (s : Records) (n : ℕ) (old new : Joined) → AreChanged old new → AreOnBlocks f s n old → AreOnBlocks f s n new
@@ -137,3 +155,21 @@ on_blocks o rs js n j same count file holds held = both_weak o (Held rs js n j) 
         holds = h r low;
       };
 })
+
+pub on_files : (o : Option Files) (rs : List InstanceRecord) (js : List (List PlacedRecord)) (j : Joined) → j.patterns ≡ patterns rs → length j.regions ≡ length (regions rs)
+    → ((r : ℕ) → r < length j.regions → (region_at j r).file ≡ database_file r) → IfSome o (AllHeld j) → IfSome o (λ files. AreOnFiles files (site_records rs js) j)
+on_files o rs js j same count file held = weaker_told o (AllHeld j) (λ files. AreOnFiles files (site_records rs js) j) held (λ files all. record {
+  patterns = same;
+  count = count;
+  each = λ r here.
+      let low : r < length j.regions = omega (arith, here, count) in
+      (file r low, all r low);
+})
+
+-- and so they are open for calls
+pub are_held : (v w : View) (n : ℕ) (j : Joined) → w.content ≡ v.content → length j.regions ≡ n → ((r : ℕ) → r < length j.regions → (region_at j r).file ≡ database_file r) → IfSome v.content (AllHeld j) → AreHeld w n j
+are_held v w n j same count file held = record {
+  count = count;
+  files = λ r here. file r (omega (arith, here, count));
+  held = λ r here. told_at w.content v.content (IsHeld (region_at j r)) (sym same) (weaker_told v.content (AllHeld j) (IsHeld (region_at j r)) held (λ files all. all r (omega (arith, here, count))));
+}

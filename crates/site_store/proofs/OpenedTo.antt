@@ -1,5 +1,5 @@
 -- A site is open once its next generation was drawn to a target.
-use Rattle.std.proofs.Common.{◌≡◌, ℕ, suc, ◌+◌, ◌<◌, Bool, true, false, List, [], ◌∷◌, ◌++◌, length, map, take, drop, Option, Some, None, IfSome, IsSomeAnd, refl, sym, ◌∙◌, ap, subst, arith}
+use Rattle.std.proofs.Common.{◌≡◌, inl, inr, ℕ, suc, ◌+◌, ◌<◌, Bool, true, false, List, [], ◌∷◌, ◌++◌, length, map, take, drop, Option, Some, None, IfSome, IsSomeAnd, refl, sym, ◌∙◌, ap, subst, arith}
 use Rattle.std.specs.Prelude.{nat_lt, ◌&&◌, slice_get, if◌then◌else◌}
 use Rattle.std.specs.List.{AllByRecursion, enumerate_from}
 use Rattle.std.specs.Option.{option_map}
@@ -13,30 +13,32 @@ use Rattle.journal_defs.specs.Instance.{InstanceRecord, generation, regions}
 use Rattle.journal_defs.specs.Directory.{patterns}
 use Rattle.journal_defs.specs.Numbers.{database_file}
 use Rattle.journal_defs.specs.Sequence.{Placed, Records, IsSequence}
+use Rattle.journal_defs.specs.Epochs.{NeedsForward}
 use Rattle.journal_defs.specs.Growth.{AreEntries, with_record}
 use Rattle.journal_defs.specs.Fit.{IsSoundImage}
 use Rattle.journal_defs.specs.Stands.{in_generation}
 use Rattle.journal_laws.proofs.Drawing as drawing
 use Rattle.journal_laws.proofs.Targets.{cut_keeps}
 use Rattle.journal_laws.proofs.EveryTarget.{patterns_same}
+use Rattle.journal_laws.proofs.EveryTarget as laws
 use Rattle.instance_file.specs.Instance as instances
 use Rattle.jnl_file.specs.Journal as journals
 use Rattle.jnl_file.specs.Records.{settled}
 use Rattle.jnl_file.specs.declared.journal.Journal.{Journal}
 use Rattle.region_journals.specs.Journals.{KeepsJournals}
 use Rattle.region_journals.specs.declared.journals.RegionJournal.{RegionJournal}
-use Rattle.site_files.specs.Loading.{MayBeOpened, AreRead, HasDrawn, next_cut, next_pini, starts_in, drawn_records}
+use Rattle.site_files.specs.Loading.{MayBeOpened, AreRead, HasDrawnAs, next_cut, next_pini_as, starts_in_as, drawn_records_as}
 use Rattle.site_files.proofs.Keeping as keeping
 use Rattle.site_defs.specs.Contents.{Contents}
 use Rattle.site_defs.specs.Fronts.{with_sequence}
-use Rattle.site_defs.specs.Opening.{with_starts}
+use Rattle.site_defs.specs.Forward.{begun_mode, begun_as}
 use Rattle.site_defs.specs.Behind.{parts_of_each}
 use Rattle.site_defs.specs.Stands.{IsSite}
-use Rattle.site_regions.specs.Joined.{joined}
+use Rattle.site_regions.specs.Joined.{joined, region_at}
 use Rattle.site_store.specs.declared.site.OpenSite.{OpenSite}
-use Rattle.site_store.specs.Site.{Remembers, Keeps, IsOpen, AreOnBlocks, AreSynced}
+use Rattle.site_store.specs.Site.{Remembers, Keeps, IsOpen, AreOnBlocks, AreOnFiles, StandOn, AreSynced}
 use Rattle.site_store.proofs.Remembered.{length-enumerate, are_numbered}
-use Rattle.site_store.proofs.OnBlocks.{IsPlain, on_same, on_more, on_chosen}
+use Rattle.site_store.proofs.OnBlocks.{IsPlain, anew_or_not, held_same, on_same, on_more, on_chosen}
 use Rattle.site_store.proofs.Drawn.{S, C, cut_at, DrawsTo, newest_is, same_regions, site_read, site_drawn, newest_whole}
 use Rattle.site_store.proofs.Parts.{no_entry_no_part}
 
@@ -52,10 +54,10 @@ pub newly_at : (js : List Journal) (r : ℕ) (x : RegionJournal) → slice_get (
 newly_at js r x e = some_at (slice_get js r) x (sym (slice_get-map newly js r) ∙ e)
 
 -- how a generation begins is no image and no epoch
-begins_plain : (rs : List InstanceRecord) (last : ℕ → ℕ) (k n r : ℕ) (instance : List InstanceRecord) → AllByRecursion (IsPlain instance n) (starts_in rs last k r)
-begins_plain rs last k n r instance = by_test (nat_lt r k && nat_lt r (length (regions rs)))
+begins_plain : (anew : Bool) (rs : List InstanceRecord) (last : ℕ → ℕ) (k n r : ℕ) (instance : List InstanceRecord) → AllByRecursion (IsPlain instance n) (starts_in_as anew rs last k r)
+begins_plain anew rs last k n r instance = by_test (nat_lt r k && nat_lt r (length (regions rs)))
   where
-    by_test : (b : Bool) → AllByRecursion (IsPlain instance n) (if b then in_generation (suc (generation rs)) (next_pini rs last r) ∷ [] else [])
+    by_test : (b : Bool) → AllByRecursion (IsPlain instance n) (if b then in_generation (suc (generation rs)) (next_pini_as anew rs last r) ∷ [] else [])
     by_test true = (((λ b. refl), refl), tt)
     by_test false = tt
 
@@ -69,9 +71,9 @@ one_image w None Q some as_read = absurd some
 one_image w (Some files) Q some as_read = (files, as_read)
 
 -- A site that was read at v, whose images all stand for c, and that was drawn to t at w.
-module _ (v w : View) (rs : List InstanceRecord) (last : ℕ → ℕ) (journal : ℕ → List Placed) (seq : Sequence) (form : MayBeOpened rs last) (sequence : IsSequence (record { instance = rs; journal = journal }) seq) (lawful : IsLawful w)
+module _ (anew : Bool) (v w : View) (rs : List InstanceRecord) (last : ℕ → ℕ) (journal : ℕ → List Placed) (seq : Sequence) (form : MayBeOpened rs last) (sequence : IsSequence (record { instance = rs; journal = journal }) seq) (lawful : IsLawful w)
     (reads : (f : Files) → Image v f → AreRead rs last journal f) (c : Contents) (stands : (f : Files) → Image v f → IsSite f c)
-    (t : ℕ) (kept : Sequence) (size : length kept ≡ t) (broken : List ℕ) (draws : (f : Files) → Image v f → DrawsTo rs last journal seq form sequence f t kept broken)
+    (t : ℕ) (kept : Sequence) (size : length kept ≡ t) (broken : List ℕ) (draws : (f : Files) → Image v f → DrawsTo rs last journal seq form sequence anew f t kept broken)
     (s : OpenSite) (records : s.instance.records ≡ rs ++ next_cut rs t ∷ []) (entries : map numbered s.entries.items ≡ enumerate_from 1 kept) (hardened : s.hardened ≡ t)
     (begun : List Journal) (js_are : s.journals.journals.items ≡ map newly begun) where
   abbrev S0 : Records
@@ -84,10 +86,10 @@ module _ (v w : View) (rs : List InstanceRecord) (last : ℕ → ℕ) (journal :
   many = length (regions rs)
 
   abbrev drawn_all : Records
-  drawn_all = drawn_records S0 t last many
+  drawn_all = drawn_records_as anew S0 t last many
 
   abbrev Finished : Files → Type 0
-  Finished = From (Image v) (HasDrawn rs t broken last many)
+  Finished = From (Image v) (HasDrawnAs anew rs t broken last many)
 
   sound : (f : Files) → Image v f → IsSoundImage f S0 seq
   sound f image = (site_read rs last journal seq form sequence f c (reads f image) (stands f image)).0
@@ -98,7 +100,7 @@ module _ (v w : View) (rs : List InstanceRecord) (last : ℕ → ℕ) (journal :
   count : length s.entries.items ≡ length kept
   count = sym (length-map s.entries.items numbered) ∙ ap length entries ∙ length-enumerate 1 kept
 
-  remembers : (f : Files) → joined s.globals ≡ state kept → Remembers (with_starts many (cut_at t broken kept (C0 f))) t s
+  remembers : (f : Files) → joined s.globals ≡ state kept → Remembers (begun_as anew many (cut_at t broken kept (C0 f))) t s
   remembers f globals = record { instance = records; count = count; numbers = are_numbered s.entries.items kept entries; globals = globals; hardened = hardened }
 
   -- a database file is as it was
@@ -108,22 +110,48 @@ module _ (v w : View) (rs : List InstanceRecord) (last : ℕ → ℕ) (journal :
       q.2.others (database_file r) (λ e. omega (arith, e)) (λ e. omega (arith, e, low, few)) (λ p here e. omega (arith, e, low, here, few))
 
   -- the regions' blocks, once the next generation has begun
-  blocks_drawn : (f : Files) (q : Finished f) → AreOnBlocks q.0 S0 t s.globals → AreOnBlocks f drawn_all t s.globals
-  blocks_drawn f q on =
+  on_drawn : (f : Files) (q : Finished f) → AreOnBlocks q.0 S0 t s.globals → AreOnBlocks f drawn_all t s.globals
+  on_drawn f q on =
       let cut : Records = with_record S0 (next_cut rs t) in
       let as_many : length (regions (rs ++ next_cut rs t ∷ [])) ≡ many = ap length (same_regions rs last journal seq form sequence t) in
-      on_more f cut drawn_all t s.globals (starts_in rs last many) refl (λ r low. refl) (λ r low. begins_plain rs last many t r (rs ++ next_cut rs t ∷ []))
+      on_more f cut drawn_all t s.globals (starts_in_as anew rs last many) refl (λ r low. refl) (λ r low. begins_plain anew rs last many t r (rs ++ next_cut rs t ∷ []))
       (on_chosen f S0 cut t t s.globals as_many (patterns_same rs (next_cut rs t) refl) (λ r low. (refl, cut_keeps rs t t (generation rs + 1) (journal r) (omega arith)))
       (on_same q.0 f S0 t s.globals (database_drawn f q) on))
 
-  abbrev pub Begun : Type 0
-  Begun = (r : ℕ) (j : Journal) → slice_get begun r ≡ Some j → journals.HasRecords w j (settled (next_pini rs last r ∷ []))
+  -- made anew a region needs forward recovery, by how the generation begins
+  anew_drawn : (f : Files) (q : Finished f) → anew ≡ true → AreOnFiles q.0 S0 s.globals → AreOnBlocks f drawn_all t s.globals
+  anew_drawn f q is_anew on =
+      let as_many : length (regions (rs ++ next_cut rs t ∷ [])) ≡ many = ap length (same_regions rs last journal seq form sequence t) in
+      record {
+        patterns = on.patterns ∙ sym (patterns_same rs (next_cut rs t) refl);
+        count = on.count ∙ sym as_many;
+        each = λ r low.
+            let here : r < many = omega (arith, low, as_many) in
+            let x = region_at s.globals r in
+            let was = on.each r here in
+            let without : begun_mode anew rs r ≡ false = ap (λ (b : Bool). begun_mode b rs r) is_anew in
+            record {
+              file = was.0;
+              held = held_same q.0 f x (ap f was.0 ∙ database_drawn f q r here ∙ sym (ap q.0 was.0)) was.1;
+              holds = inl (subst (NeedsForward (rs ++ next_cut rs t ∷ []) t) (sym (newest_whole rs last journal seq form sequence anew r here))
+                  (laws.begins (rs ++ next_cut rs t ∷ []) t (suc (generation rs)) (journal r) (record { region = r; before = begun_mode anew rs r; generation = suc (generation rs); previous = last r }) without));
+            };
+      }
 
-  keeps_journals : Begun → KeepsJournals w (λ r. next_pini rs last r ∷ []) (λ r. []) s.journals.journals.items
+  blocks_drawn : (f : Files) (q : Finished f) → StandOn anew q.0 S0 t s.globals → AreOnBlocks f drawn_all t s.globals
+  blocks_drawn f q on = elim (anew_or_not anew q.0 S0 t s.globals on) [
+    | inl files ↦ anew_drawn f q files.0 files.1
+    | inr blocks ↦ on_drawn f q blocks
+  ]
+
+  abbrev pub Begun : Type 0
+  Begun = (r : ℕ) (j : Journal) → slice_get begun r ≡ Some j → journals.HasRecords w j (settled (next_pini_as anew rs last r ∷ []))
+
+  keeps_journals : Begun → KeepsJournals w (λ r. next_pini_as anew rs last r ∷ []) (λ r. []) s.journals.journals.items
   keeps_journals has = record {
     has = λ r x at.
         let found = newly_at begun r x (subst (λ (l : List RegionJournal). slice_get l r ≡ Some x) js_are at) in
-        subst (λ (y : RegionJournal). journals.HasRecords w y.journal (settled (next_pini rs last r ∷ []))) (sym found.2) (has r found.0 found.1);
+        subst (λ (y : RegionJournal). journals.HasRecords w y.journal (settled (next_pini_as anew rs last r ∷ []))) (sym found.2) (has r found.0 found.1);
     none_waits = λ r x at none. refl;
   }
 
@@ -133,50 +161,50 @@ module _ (v w : View) (rs : List InstanceRecord) (last : ℕ → ℕ) (journal :
   none_behind : drop t kept ≡ []
   none_behind = ap (λ (n : ℕ). drop n kept) (sym size) ∙ drop-length kept
 
-  module _ (synced : AreSynced v many) (on : (f : Files) → Image v f → AreOnBlocks f S0 t s.globals) (drawn : (f : Files) → Image w f → Finished f) (instance : instances.HasRecords w s.instance (rs ++ next_cut rs t ∷ [])) (has : Begun) where
+  module _ (synced : AreSynced v many) (on : (f : Files) → Image v f → StandOn anew f S0 t s.globals) (drawn : (f : Files) → Image w f → Finished f) (instance : instances.HasRecords w s.instance (rs ++ next_cut rs t ∷ [])) (has : Begun) where
     drawn_sound : (f : Files) → Image w f → IsSoundImage f drawn_all kept
     drawn_sound f image = let q = drawn f image in (draws q.0 q.1 f many q.2).0
 
     -- for what an image from before stood for
-    keeps : (a : Files) → Image v a → (b : Files) → Image w b → Keeps w (with_starts many (cut_at t broken kept (C0 a))) t s
+    keeps : (a : Files) → Image v a → (b : Files) → Image w b → Keeps w (begun_as anew many (cut_at t broken kept (C0 a))) t s
     keeps a was b now =
-        let is_begun : (f : Files) → Image w f → IsSite f (with_starts many (cut_at t broken kept (C0 a))) =
+        let is_begun : (f : Files) → Image w f → IsSite f (begun_as anew many (cut_at t broken kept (C0 a))) =
         λ f image.
         let q = drawn f image in
-        subst (λ (x : Contents). IsSite f (with_starts many (cut_at t broken kept x))) (sym (stands_so q.0 q.1) ∙ stands_so a was)
-        (site_drawn rs last journal seq form sequence q.0 (reads q.0 q.1) (sound q.0 q.1) t kept size broken (draws q.0 q.1) f many q.2) in
-        let images : (f : Files) → Image w f → IsSite f (with_sequence (with_starts many (cut_at t broken kept (C0 a))) (take t kept)) =
-        λ f image. subst (λ es. IsSite f (with_sequence (with_starts many (cut_at t broken kept (C0 a))) es)) (sym full) (is_begun f image) in
+        subst (λ (x : Contents). IsSite f (begun_as anew many (cut_at t broken kept x))) (sym (stands_so q.0 q.1) ∙ stands_so a was)
+        (site_drawn rs last journal seq form sequence anew q.0 (reads q.0 q.1) (sound q.0 q.1) t kept size broken (draws q.0 q.1) f many q.2) in
+        let images : (f : Files) → Image w f → IsSite f (with_sequence (begun_as anew many (cut_at t broken kept (C0 a))) (take t kept)) =
+        λ f image. subst (λ es. IsSite f (with_sequence (begun_as anew many (cut_at t broken kept (C0 a))) es)) (sym full) (is_begun f image) in
         let number : length (regions (rs ++ next_cut rs t ∷ [])) ≡ many = ap length (same_regions rs last journal seq form sequence t) in
         let before = drawing.before a S0 (generation rs + 1) (sound a was).held (omega arith) in
         record {
           count = omega (arith, size);
           few_nodes = (drawn_sound b now).few_nodes;
-          reads = reads_so w (λ f. IsSite f (with_sequence (with_starts many (cut_at t broken kept (C0 a))) (take t kept))) w.content (instances.HoldsRecords w s.instance (rs ++ next_cut rs t ∷ [])) instance lawful.as_read images;
+          reads = reads_so w (λ f. IsSite f (with_sequence (begun_as anew many (cut_at t broken kept (C0 a))) (take t kept))) w.content (instances.HoldsRecords w s.instance (rs ++ next_cut rs t ∷ [])) instance lawful.as_read images;
           images = images;
           records = drawn_all;
           g = generation rs;
           last = last;
           older = journal;
-          newer = λ q. next_pini rs last q ∷ [];
+          newer = λ q. next_pini_as anew rs last q ∷ [];
           newest = record {
             generation = newest_is rs last journal seq form sequence t;
             not_last = (let room = form.room in omega (arith, room));
             instance = refl;
-            whole = λ q below. newest_whole rs last journal seq form sequence q (omega (arith, below, number));
+            whole = λ q below. newest_whole rs last journal seq form sequence anew q (omega (arith, below, number));
             begins = λ q below. (refl, refl, refl, tt);
             begun = λ q below e. cc e;
           };
           sound = λ f image. subst (IsSoundImage f drawn_all) (sym full) (drawn_sound f image);
           older_files = λ f image q below. let from = drawn f image in keeping.older_still from.0 S0 last form f from.2.others (reads from.0 from.1) q (omega (arith, below, number));
-          none_past = keeping.none_past S0 t last before many;
+          none_past = keeping.none_past anew S0 t last before many;
           blocks = λ f image. let q = drawn f image in blocks_drawn f q (on q.0 q.1);
           databases = λ f d i j q below.
               let low : q < many = omega (arith, below, number) in
               let from = drawn f i in
               let to = drawn d j in
               database_drawn d to q low ∙ synced from.0 to.0 from.1 to.1 q low ∙ sym (database_drawn f from q low);
-          no_epoch_past = λ q below. keeping.no_epoch_past S0 t last before many q;
+          no_epoch_past = λ q below. keeping.no_epoch_past anew S0 t last before many q;
           waiting = [];
           are_waiting = subst (λ (es : Sequence). AreEntries (rs ++ next_cut rs t ∷ []) (suc (generation rs)) t [] es) (sym none_behind) tt;
           are_parts = subst (λ (n : ℕ). [] ≡ parts_of_each (patterns (rs ++ next_cut rs t ∷ [])) n (drop n kept)) size (no_entry_no_part (patterns (rs ++ next_cut rs t ∷ [])) kept);
@@ -186,12 +214,12 @@ module _ (v w : View) (rs : List InstanceRecord) (last : ℕ → ℕ) (journal :
           journal_files = keeps_journals has;
         }
 
-  pub open_to : AreSynced v many → ((f : Files) → Image v f → AreOnBlocks f S0 t s.globals) → joined s.globals ≡ state kept → ((f : Files) → Image w f → Finished f)
-      → instances.HasRecords w s.instance (rs ++ next_cut rs t ∷ []) → Begun → IsOpen w true (with_starts many (cut_at t broken kept c)) t s
+  pub open_to : AreSynced v many → ((f : Files) → Image v f → StandOn anew f S0 t s.globals) → joined s.globals ≡ state kept → ((f : Files) → Image w f → Finished f)
+      → instances.HasRecords w s.instance (rs ++ next_cut rs t ∷ []) → Begun → IsOpen w true (begun_as anew many (cut_at t broken kept c)) t s
   open_to synced on globals drawn instance has =
       let now = one_image w w.content (instances.HoldsRecords w s.instance (rs ++ next_cut rs t ∷ [])) instance lawful.as_read in
       let was = drawn now.0 now.1 in
-      subst (λ (x : Contents). IsOpen w true (with_starts many (cut_at t broken kept x)) t s) (sym (stands_so was.0 was.1)) (record {
+      subst (λ (x : Contents). IsOpen w true (begun_as anew many (cut_at t broken kept x)) t s) (sym (stands_so was.0 was.1)) (record {
         remembered = remembers was.0 globals;
         entries = λ _. entries;
         kept = λ _. keeps synced on drawn instance has was.0 was.1 now.0 now.1;

@@ -22,6 +22,11 @@ pub told_anyway : (o : Option Files) (P : Type 0) → P → IfSome o (λ _. P)
 told_anyway None P p = _
 told_anyway (Some files) P p = p
 
+-- and one of all files
+pub told_of_all : (o : Option Files) (P : Files → Type 0) → ((files : Files) → P files) → IfSome o P
+told_of_all None P all = tt
+told_of_all (Some files) P all = all files
+
 -- a site of which a generation is left may be opened
 module _ (files : Files) (c : Contents) (site : IsSite files c) where
   abbrev rs : List InstanceRecord

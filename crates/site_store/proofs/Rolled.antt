@@ -1,5 +1,5 @@
 -- A site that was read, whose next generation is drawn with a CUT to the first few entries, and its lost-transaction file.
-use Rattle.std.proofs.Common.{◌≡◌, ◌⊎◌, inl, inr, ℕ, suc, ◌+◌, ◌≤◌, ◌<◌, List, [], ◌∷◌, ◌++◌, length, map, take, refl, sym, ◌∙◌, ap, subst, arith}
+use Rattle.std.proofs.Common.{◌≡◌, ◌⊎◌, inl, inr, ℕ, suc, false, ◌+◌, ◌≤◌, ◌<◌, List, [], ◌∷◌, ◌++◌, length, map, take, refl, sym, ◌∙◌, ap, subst, arith}
 use Rattle.std.specs.Prelude.{Some, true, slice_get}
 use Rattle.std.specs.List.{enumerate_from}
 use Rattle.std.proofs.lemmas.List.{length-take-le}
@@ -50,10 +50,10 @@ module _ (rs : List InstanceRecord) (last : ℕ → ℕ) (journal : ℕ → List
   no_text : [] ≡ text rs last journal seq form sequence
   no_text = sym (ap (broken_text (site_name rs) (length seq)) none)
 
-  pub draws_to : (a : Files) → AreRead rs last journal a → IsSoundImage a (S rs last journal seq form sequence) seq → DrawsTo rs last journal seq form sequence a t kept []
+  pub draws_to : (a : Files) → AreRead rs last journal a → IsSoundImage a (S rs last journal seq form sequence) seq → DrawsTo rs last journal seq form sequence false a t kept []
   draws_to a read sound b k has = (
-    keeping.drawn_image_to a (S rs last journal seq form sequence) last form seq sound t most [] read k b has,
-    keeping.text_is_to a (S rs last journal seq form sequence) last form seq sound t [] b k no_text has,
+    keeping.drawn_image_to a (S rs last journal seq form sequence) last form seq sound t most false [] read k b has,
+    keeping.text_is_to a (S rs last journal seq form sequence) last form seq sound false t [] b k no_text has,
   )
 
   -- the images
@@ -63,12 +63,12 @@ module _ (rs : List InstanceRecord) (last : ℕ → ℕ) (journal : ℕ → List
 
     pub site_cut : (b : Files) (k : ℕ) → HasDrawn rs t [] last k a b → IsSite b (with_starts k (cut_to t c))
     site_cut b k has = subst (λ (x : Contents). IsSite b (with_starts k (cut_to t x))) (sym (site_read rs last journal seq form sequence a c read is).1)
-        (site_drawn rs last journal seq form sequence a read sound t kept size [] (draws_to a read sound) b k has)
+        (site_drawn rs last journal seq form sequence false a read sound t kept size [] (draws_to a read sound) b k has)
 
     -- and nothing lies behind it
     pub left_cut : (b : Files) (k : ℕ) → HasDrawn rs t [] last k a b → HasLeft b (with_starts k (cut_to t c)) NO_LEFTOVER
     left_cut b k has = subst (λ (x : Contents). HasLeft b (with_starts k (cut_to t x)) NO_LEFTOVER) (sym (site_read rs last journal seq form sequence a c read is).1)
-        (left_drawn rs last journal seq form sequence a read sound t kept size [] (draws_to a read sound) b k has)
+        (left_drawn rs last journal seq form sequence false a read sound t kept size [] (draws_to a read sound) b k has)
 
     pub standing_cut : (b : Files) (k : ℕ) → HasDrawn rs t [] last k a b → IsStanding b (bare (with_starts k (cut_to t c)))
     standing_cut b k has = record { site = site_cut b k has; torn = []; left = left_cut b k has }
@@ -77,7 +77,7 @@ module _ (rs : List InstanceRecord) (last : ℕ → ℕ) (journal : ℕ → List
   pub standing_either_cut : (a : Files) → AreRead rs last journal a → (s : Standing) → IsStanding a s → (b : Files) → MayDraw rs t [] last a b → IsStanding b s ⊎ ((k : ℕ) × IsStanding b (bare (with_starts k (cut_to t s.contents))))
   standing_either_cut a read s was b may =
       let found = site_read rs last journal seq form sequence a s.contents read was.site in
-      elim (standing_may rs last journal seq form sequence a read found.0 t kept size [] (draws_to a read found.0) b s was no_text may) [
+      elim (standing_may rs last journal seq form sequence false a read found.0 t kept size [] (draws_to a read found.0) b s was no_text may) [
         | inl still ↦ inl still
         | inr drawn ↦ inr (drawn.0, subst (λ (x : Contents). IsStanding b (bare (with_starts drawn.0 (cut_to t x)))) (sym found.1) drawn.1)
       ]
@@ -94,7 +94,7 @@ module _ (rs : List InstanceRecord) (last : ℕ → ℕ) (journal : ℕ → List
       let was = drawn now.0 now.1 in
       let seqs : c.sequence ≡ seq = ap (λ (x : Contents). x.sequence) (site_read rs last journal seq form sequence was.0 c (reads was.0 was.1) (stands was.0 was.1)).1 in
       subst (λ (q : Sequence). IsOpen w true (with_starts many (cut_at t [] (take t q) c)) t s) (sym seqs)
-      (opened.open_to v w rs last journal seq form sequence lawful reads c stands t kept size [] (λ f image. draws_to f (reads f image) (site_read rs last journal seq form sequence f c (reads f image) (stands f image)).0)
+      (opened.open_to false v w rs last journal seq form sequence lawful reads c stands t kept size [] (λ f image. draws_to f (reads f image) (site_read rs last journal seq form sequence f c (reads f image) (stands f image)).0)
       s records entries hardened begun js_are synced on globals drawn instance has)
 
 -- the last of a list

@@ -1,5 +1,5 @@
 -- A site is drawn as it stood.
-use Rattle.std.proofs.Common.{◌≡◌, ℕ, suc, ◌≤◌, ◌<◌, List, [], ◌∷◌, ◌++◌, length, map, Option, Some, None, IfSome, sym, ◌∙◌, ap, subst}
+use Rattle.std.proofs.Common.{◌≡◌, ℕ, suc, ◌≤◌, ◌<◌, Bool, false, List, [], ◌∷◌, ◌++◌, length, map, Option, Some, None, IfSome, sym, ◌∙◌, ap, subst}
 use Rattle.std.specs.Prelude.{◌^◌, slice_get}
 use Rattle.std.specs.List.{enumerate_from}
 use Rattle.disk_defs.specs.Disk.{Files, View, Image, IsLawful, From, AtEachMoment}
@@ -16,15 +16,16 @@ use Rattle.journal_defs.specs.Numbers.{INSTANCE}
 use Rattle.journal_defs.specs.Sequence.{Records, IsSequence}
 use Rattle.journal_defs.specs.Stands.{AreRecords, IsInstance}
 use Rattle.journal_defs.specs.Fit.{IsSoundImage}
-use Rattle.site_files.specs.Loading.{AreNext, WasRead, MayDraw, HasDrawn, last_of, next_cut, next_broken, next_pini}
+use Rattle.site_files.specs.Loading.{AreNext, WasRead, MayDrawAs, HasDrawnAs, last_of, next_cut, next_broken, next_pini_as}
 use Rattle.site_defs.specs.Contents.{Contents}
-use Rattle.site_defs.specs.Opening.{opened}
+use Rattle.site_defs.specs.Forward.{opened_as}
 use Rattle.site_store.specs.declared.preparing.StandingSite.{StandingSite}
 use Rattle.site_store.specs.declared.site.OpenSite.{OpenSite}
 use Rattle.site_store.specs.Finding.{HasLayout}
 use Rattle.site_regions.specs.Joined.{joined}
 use Rattle.site_store.specs.Opening.{AreTextsDurable, AreDatabasesDurable}
-use Rattle.site_store.specs.Site.{Remembers, AreHeld, IsReady, AreOnBlocks, WasOpened, WasOpenedFrom}
+use Rattle.site_store.specs.Needing.{NoneIsWithout}
+use Rattle.site_store.specs.Site.{Remembers, AreHeld, IsReady, StandOn, WasOpened, WasOpenedFrom}
 use Rattle.site_store.specs.Standing.{Stood, entries_of, records_of}
 use Rattle.site_store.proofs.Loaded as loaded
 use Rattle.site_store.proofs.Loaded.{length_values, Moments, Lefts, StandsOpen}
@@ -45,7 +46,7 @@ moved P n m a b x y e f h p = subst (λ (l : List ℕ). P m b l) h (subst (λ (t
 abbrev pub IsShortOf : View → List InstanceRecord → List ℕ → (Files → Type 0) → Type 0
 IsShortOf v rs broken P = IfSome v.content (λ files. length (files (next_broken rs)) ≤ length broken → P files)
 
-module _ (u v w : View) (k : StandingSite) (st : Stood u v k) (lawful_v : IsLawful v) (lawful_w : IsLawful w) (synced : AtEachMoment u v (Image u)) (same : v.content ≡ u.content)
+module _ (anew : Bool) (u v w : View) (k : StandingSite) (st : Stood anew u v k) (lawful_v : IsLawful v) (lawful_w : IsLawful w) (synced : AtEachMoment u v (Image u)) (same : v.content ≡ u.content)
     (n : ℕ) (broken lasts : List ℕ) (n_is : n ≡ length k.entries.items) (broken_is : broken ≡ k.broken) (lasts_is : lasts ≡ k.last_began.items) where
   abbrev rs : List InstanceRecord
   rs = k.log.records
@@ -60,26 +61,26 @@ module _ (u v w : View) (k : StandingSite) (st : Stood u v k) (lawful_v : IsLawf
   size = n_is ∙ sym (length_values k.entries.items)
 
   abbrev Drawing : ℕ → List ℕ → List ℕ → Type 0
-  Drawing m b l = IsShortOf v rs b (λ files. AtEachMoment v w (From (Image v) (MayDraw rs m b (last_of l))))
+  Drawing m b l = IsShortOf v rs b (λ files. AtEachMoment v w (From (Image v) (MayDrawAs anew rs m b (last_of l))))
 
   drawing : Drawing n broken lasts → Drawing (length seq) k.broken k.last_began.items
   drawing run = moved Drawing n (length seq) broken k.broken lasts k.last_began.items size broken_is lasts_is run
 
-  pub moments : Drawing n broken lasts → IfSome u.content (Moments u w)
-  moments run = loaded.drawn_moments u v w rs last st.journal seq st.form st.sequence lawful_v lawful_w synced same st.read k.broken st.broken_is (drawing run)
+  pub moments : Drawing n broken lasts → IfSome u.content (Moments anew u w)
+  moments run = loaded.drawn_moments anew u v w rs last st.journal seq st.form st.sequence lawful_v lawful_w synced same st.read k.broken st.broken_is (drawing run)
 
-  pub lefts : Drawing n broken lasts → IfSome u.content (Lefts u w)
-  lefts run = loaded.drawn_left u v w rs last st.journal seq st.form st.sequence lawful_v lawful_w synced same st.read k.broken st.broken_is (drawing run)
+  pub lefts : Drawing n broken lasts → IfSome u.content (Lefts anew u w)
+  lefts run = loaded.drawn_left anew u v w rs last st.journal seq st.form st.sequence lawful_v lawful_w synced same st.read k.broken st.broken_is (drawing run)
 
   abbrev Reading : ℕ → List ℕ → List ℕ → Type 0
-  Reading m b l = IsShortOf v rs b (λ files. IfSome w.content (MayDraw rs m b (last_of l) files))
+  Reading m b l = IsShortOf v rs b (λ files. IfSome w.content (MayDrawAs anew rs m b (last_of l) files))
 
-  pub stands : Reading n broken lasts → IfSome u.content (StandsOpen w.content)
-  stands reads = loaded.drawn_stands u v w rs last st.journal seq st.form st.sequence lawful_v lawful_w synced same st.read k.broken st.broken_is
+  pub stands : Reading n broken lasts → IfSome u.content (StandsOpen anew w.content)
+  stands reads = loaded.drawn_stands anew u v w rs last st.journal seq st.form st.sequence lawful_v lawful_w synced same st.read k.broken st.broken_is
       (moved Reading n (length seq) broken k.broken lasts k.last_began.items size broken_is lasts_is reads)
 
   pub room : IfSome u.content (λ files. (qs : List InstanceRecord) → IsInstance (files INSTANCE) qs → generation qs < 65534)
-  room = loaded.room_left u v w rs last st.journal seq st.form st.sequence lawful_v lawful_w synced same st.read k.broken st.broken_is st.low
+  room = loaded.room_left anew u v w rs last st.journal seq st.form st.sequence lawful_v lawful_w synced same st.read k.broken st.broken_is st.low
 
   module _ (s : OpenSite) (records : s.instance.records ≡ rs ++ next_cut rs n ∷ []) (entries : s.entries ≡ k.entries) (globals : s.globals ≡ k.globals) (hardened : s.hardened ≡ n) (stamp : s.stamp ≡ None) where
     pub own : s.instance.records ≡ rs ++ next_cut rs (length seq) ∷ []
@@ -101,11 +102,11 @@ module _ (u v w : View) (k : StandingSite) (st : Stood u v k) (lawful_v : IsLawf
     pub found : IfSome u.content (λ files. (x : Records) (other : Sequence) → AreRecords files x → IsSequence x other → WasOpenedFrom x other s)
     found = loaded.opened_from u.content v rs last st.journal seq s st.read st.sequence are own
 
-    pub held : IfSome u.content (λ files. (x : Records) × (other : Sequence) × AreRecords files x × IsSequence x other × WasOpenedFrom x other s)
-    held = loaded.held_from u.content v rs last st.journal seq s st.read st.sequence are own
+    pub held : IfSome u.content (λ files. (x : Records) × (other : Sequence) × AreRecords files x × IsSequence x other × WasOpenedFrom x other s × (anew ≡ false → NoneIsWithout x (length other)))
+    held = loaded.held_from (λ x other. anew ≡ false → NoneIsWithout x (length other)) u.content v rs last st.journal seq s st.read st.sequence are own st.without
 
-    pub read : (c : Contents) × (t : List ℕ) × Remembers (opened t c) (length c.sequence) s
-    read = loaded.remembers_some u v w rs last st.journal seq st.form st.sequence lawful_v lawful_w synced same st.read k.broken st.broken_is s own are settled_at st.some.0
+    pub read : (c : Contents) × (t : List ℕ) × Remembers (opened_as anew t c) (length c.sequence) s
+    read = loaded.remembers_some anew u v w rs last st.journal seq st.form st.sequence lawful_v lawful_w synced same st.read k.broken st.broken_is s own are settled_at st.some.0
         (ap (λ j. joined j) globals ∙ st.some.1) (λ none. ap (λ j. joined j) globals ∙ st.none none)
 
     module _ (begun : List Journal) (js_are : s.journals.journals.items ≡ map newly begun) where
@@ -115,24 +116,24 @@ module _ (u v w : View) (k : StandingSite) (st : Stood u v k) (lawful_v : IsLawf
           (subst (AreHeld w (length (regions rs))) (sym globals) (held_drawn v w rs k.globals st.form.few_regions stays st.regions)) (subst (λ es. length es.items < 2 ^ 40) (sym entries) st.few)
 
       abbrev Finishing : ℕ → List ℕ → List ℕ → Type 0
-      Finishing m b l = IsShortOf v rs b (λ files. (f : Files) → Image w f → From (Image v) (HasDrawn rs m b (last_of l) (length (regions rs))) f)
+      Finishing m b l = IsShortOf v rs b (λ files. (f : Files) → Image w f → From (Image v) (HasDrawnAs anew rs m b (last_of l) (length (regions rs))) f)
 
       abbrev Filed : ℕ → List ℕ → List ℕ → Type 0
       Filed m b l = IfSome v.content (λ _. instances.HasRecords w s.instance (rs ++ next_cut rs m ∷ []))
 
       abbrev Begins : ℕ → List ℕ → List ℕ → Type 0
-      Begins m b l = IfSome v.content (λ _. (r : ℕ) (j : Journal) → slice_get begun r ≡ Some j → journals.HasRecords w j (settled (next_pini rs (last_of l) r ∷ [])))
+      Begins m b l = IfSome v.content (λ _. (r : ℕ) (j : Journal) → slice_get begun r ≡ Some j → journals.HasRecords w j (settled (next_pini_as anew rs (last_of l) r ∷ [])))
 
       pub told : Finishing n broken lasts → Filed n broken lasts → Begins n broken lasts
-          → IfSome u.content (loaded.Opens u v w rs last st.journal seq st.form st.sequence lawful_v lawful_w synced same st.read k.broken st.broken_is s own are settled_at begun js_are)
+          → IfSome u.content (loaded.Opens anew u v w rs last st.journal seq st.form st.sequence lawful_v lawful_w synced same st.read k.broken st.broken_is s own are settled_at begun js_are)
       told finish filed begins =
           let a = moved Finishing n (length seq) broken k.broken lasts k.last_began.items size broken_is lasts_is finish in
           let b = moved Filed n (length seq) broken k.broken lasts k.last_began.items size broken_is lasts_is filed in
           let d = moved Begins n (length seq) broken k.broken lasts k.last_began.items size broken_is lasts_is begins in
-          let blocks = subst (λ j. IfSome u.content (λ files. AreOnBlocks files (records_of k st.journal) (length seq) j)) (sym globals) st.blocks in
+          let blocks = subst (λ j. IfSome u.content (λ files. StandOn anew files (records_of k st.journal) (length seq) j)) (sym globals) st.blocks in
           let nodes = subst (λ j. IfSome u.content (λ files. IsSoundImage files (records_of k st.journal) seq → joined j ≡ state seq)) (sym globals) st.nodes in
-          loaded.is_open u v w rs last st.journal seq st.form st.sequence lawful_v lawful_w synced same st.read k.broken st.broken_is s own are settled_at begun js_are
-          (all_five u.content (WasRead v rs last st.journal) (AreTextsDurable v (generation rs)) (AreDatabasesDurable v (length (regions rs))) (λ files. AreOnBlocks files (records_of k st.journal) (length seq) s.globals)
+          loaded.is_open anew u v w rs last st.journal seq st.form st.sequence lawful_v lawful_w synced same st.read k.broken st.broken_is s own are settled_at begun js_are
+          (all_five u.content (WasRead v rs last st.journal) (AreTextsDurable v (generation rs)) (AreDatabasesDurable v (length (regions rs))) (λ files. StandOn anew files (records_of k st.journal) (length seq) s.globals)
           (λ files. IsSoundImage files (records_of k st.journal) seq → joined s.globals ≡ state seq) st.read st.texts st.databases blocks nodes)
-          (all_three v.content (λ files. length (files (next_broken rs)) ≤ length k.broken → (f : Files) → Image w f → From (Image v) (HasDrawn rs (length seq) k.broken last (length (regions rs))) f)
-          (λ _. instances.HasRecords w s.instance (rs ++ next_cut rs (length seq) ∷ [])) (λ _. (r : ℕ) (j : Journal) → slice_get begun r ≡ Some j → journals.HasRecords w j (settled (next_pini rs last r ∷ []))) a b d)
+          (all_three v.content (λ files. length (files (next_broken rs)) ≤ length k.broken → (f : Files) → Image w f → From (Image v) (HasDrawnAs anew rs (length seq) k.broken last (length (regions rs))) f)
+          (λ _. instances.HasRecords w s.instance (rs ++ next_cut rs (length seq) ∷ [])) (λ _. (r : ℕ) (j : Journal) → slice_get begun r ≡ Some j → journals.HasRecords w j (settled (next_pini_as anew rs last r ∷ []))) a b d)

@@ -7,3 +7,4 @@ pub mod Reigning
 pub mod Committing
 pub mod Owning
 pub mod Refusing
+pub mod Needing

@@ -1,11 +1,12 @@
 -- Making a site, and opening one.
-use Rattle.std.specs.Prelude.{◌⊎◌, ◌≤◌, ◌<◌, ℕ, List, [], ◌∷◌, map}
+use Rattle.std.specs.Prelude.{◌⊎◌, ◌≤◌, ◌<◌, ℕ, Bool, false, List, [], ◌∷◌, map}
 use Rattle.disk_defs.specs.Disk.{Files, View, Image, From, IsDurable}
 use Rattle.journal_defs.specs.Numbers.{lost_file, broken_file, database_file}
 use Rattle.journal_defs.specs.Instance as records
 use Rattle.journal_defs.specs.Instance.{NamedMode}
 use Rattle.site_defs.specs.Contents.{Contents, Standing}
-use Rattle.site_defs.specs.Opening.{MayOpen, MayOpenLeft, with_pattern}
+use Rattle.site_defs.specs.Opening.{with_pattern}
+use Rattle.site_defs.specs.Forward.{MayOpenAs, MayOpenAsLeft}
 use Rattle.site_defs.specs.Stands.{IsBlank, IsSite, Stands}
 use Rattle.site_defs.specs.Behind.{IsStanding}
 use Rattle.site_store.specs.declared.layout.RegionSpec.{RegionSpec}
@@ -29,13 +30,19 @@ StandsAsBefore old = From (Image old) (λ was now. (c : Contents) → Stands was
 abbrev pub MayHavePattern : View → ℕ → List ℕ → Files → Type 0
 MayHavePattern old region text = From (Image old) (λ was now. (c : Contents) → Stands was c → Stands now c ⊎ IsSite now (with_pattern region text c))
 
--- an image from before the call, whose site may have been opened, with this text of what is broken
+-- an image from before the call, whose site may have been opened, with this text of what is broken: with its regions anew, or on their blocks
+abbrev pub MayBeOpenAs : (anew : Bool) → View → List ℕ → Files → Type 0
+MayBeOpenAs anew old broken = From (Image old) (λ was now. (c : Contents) → IsSite was c → (o : Contents) × MayOpenAs anew broken c o × IsSite now o)
+
 abbrev pub MayBeOpen : View → List ℕ → Files → Type 0
-MayBeOpen old broken = From (Image old) (λ was now. (c : Contents) → IsSite was c → (o : Contents) × MayOpen broken c o × IsSite now o)
+MayBeOpen = MayBeOpenAs false
 
 -- an image from before the call, whose site may have been opened, with the text of what was broken in that image; and what lies behind that
+abbrev pub MayBeOpenWithAs : (anew : Bool) → View → Files → Type 0
+MayBeOpenWithAs anew old = From (Image old) (λ was now. (s : Standing) → IsStanding was s → (o : Standing) × MayOpenAsLeft anew s o × IsStanding now o)
+
 abbrev pub MayBeOpenWith : View → Files → Type 0
-MayBeOpenWith old = From (Image old) (λ was now. (s : Standing) → IsStanding was s → (o : Standing) × MayOpenLeft s o × IsStanding now o)
+MayBeOpenWith = MayBeOpenWithAs false
 
 -- each image stands for something
 abbrev pub EachStands : View → Type 0

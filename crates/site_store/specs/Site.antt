@@ -1,5 +1,5 @@
 -- An open site beside its disk.
-use Rattle.std.specs.Prelude.{◌≡◌, ◌≢◌, ◌⊎◌, ◌≤◌, ◌<◌, ◌+◌, ◌^◌, ◌++◌, ℕ, suc, Bool, List, [], ◌∷◌, length, take, drop, map, fold, Option, Some, None, IsTrue, IfSome, IsSomeAnd}
+use Rattle.std.specs.Prelude.{◌≡◌, ◌≢◌, ◌⊎◌, ◌≤◌, ◌<◌, ◌+◌, ◌^◌, ◌++◌, ℕ, suc, Bool, true, false, List, [], ◌∷◌, length, take, drop, map, fold, Option, Some, None, IsTrue, IfSome, IsSomeAnd}
 use Rattle.std.specs.List.{AllByRecursion, enumerate_from}
 use Rattle.std.specs.FinMap as globals
 use Rattle.disk_defs.specs.Disk.{Files, View, Image}
@@ -85,6 +85,17 @@ pub record AreOnBlocks (files : Files) (s : Records) (n : ℕ) (j : Joined) : Ty
   pub patterns : j.patterns ≡ patterns s.instance
   pub count : length j.regions ≡ length (regions s.instance)
   pub each : (r : ℕ) → r < length (regions s.instance) → IsOnBlocks files s n r (region_at j r)
+
+-- Each region of a site is on blocks of some epoch and of its file.
+pub record AreOnFiles (files : Files) (s : Records) (j : Joined) : Type 0 where
+  pub patterns : j.patterns ≡ patterns s.instance
+  pub count : length j.regions ≡ length (regions s.instance)
+  pub each : (r : ℕ) → r < length (regions s.instance) → ((region_at j r).file ≡ database_file r) × IsHeld (region_at j r) files
+
+-- Where the regions are made anew it's so, and else they are on the blocks of the epochs chosen for so many entries.
+abbrev pub StandOn : (anew : Bool) → Files → Records → ℕ → Joined → Type 0
+StandOn true files s n j = AreOnFiles files s j
+StandOn false files s n j = AreOnBlocks files s n j
 
 -- the database files of the first n regions are on the disk for good: all images have the same
 abbrev pub AreSynced : View → ℕ → Type 0

@@ -1,5 +1,5 @@
 -- A site as it stood on a disk.
-use Rattle.std.specs.Prelude.{◌≡◌, ◌<◌, ◌^◌, ◌++◌, ℕ, List, [], ◌∷◌, length, map, take, IfSome}
+use Rattle.std.specs.Prelude.{◌≡◌, ◌<◌, ◌^◌, ◌++◌, ℕ, Bool, false, List, [], ◌∷◌, length, map, take, IfSome}
 use Rattle.std.specs.List.{enumerate_from}
 use Rattle.std.specs.FinMap as globals
 use Rattle.disk_defs.specs.Disk.{View}
@@ -18,7 +18,8 @@ use Rattle.site_store.specs.declared.preparing.FoundFiles.{FoundFiles}
 use Rattle.site_store.specs.declared.preparing.StandingSite.{StandingSite}
 use Rattle.site_store.specs.Finding.{HasLayout, mapping_of}
 use Rattle.site_store.specs.Opening.{AreTextsDurable, AreDatabasesDurable}
-use Rattle.site_store.specs.Site.{AreHeld, AreOnBlocks}
+use Rattle.site_store.specs.Needing.{NoneIsWithout}
+use Rattle.site_store.specs.Site.{AreHeld, StandOn}
 
 abbrev pub entries_of : StandingSite → Sequence
 entries_of k = map entry_value k.entries.items
@@ -60,19 +61,22 @@ pub record IsFoundAs (f : FoundFiles) (k : StandingSite) : Type 0 where
   pub broken : k.broken ≡ f.broken
   pub layout : (n : ℕ) → HasLayout (f.read.log.records ++ next_cut f.read.log.records n ∷ []) k.layout
 
--- Its regions are open for so many entries of what was found: on their blocks as they were at the epochs chosen for these. On a sound site all nodes are
--- the state of these entries.
-pub record IsOpenFor (u v : View) (f : FoundFiles) (t : ℕ) (j : Joined) : Type 0 where
-  pub blocks : IfSome u.content (λ files. AreOnBlocks files (found_records f) t j)
+-- Its regions are open for so many entries of what was found: made anew, or on their blocks as they were at the epochs chosen for these. On a sound site all
+-- nodes are the state of these entries.
+pub record IsOpenAs (anew : Bool) (u v : View) (f : FoundFiles) (t : ℕ) (j : Joined) : Type 0 where
+  pub blocks : IfSome u.content (λ files. StandOn anew files (found_records f) t j)
   pub regions : AreHeld v (length (regions f.read.log.records)) j
   pub nodes : IfSome u.content (λ files. IsSoundImage files (found_records f) (found_entries f) → joined j ≡ state (take t (found_entries f)))
   -- whatever the disk tells, they are the state of some sequence, and none where there is no entry
   pub some : (seq : Sequence) × (joined j ≡ state seq)
   pub none : t ≡ 0 → joined j ≡ globals.empty
 
+abbrev pub IsOpenFor : View → View → FoundFiles → ℕ → Joined → Type 0
+IsOpenFor = IsOpenAs false
+
 -- Its files were read at a moment, and are on the disk for good since: the records, the sequence that they stand for, what is broken behind it, and the
--- regions' blocks as they were at the epochs chosen for that sequence. On a sound site all nodes are the state of it.
-pub record Stood (u v : View) (k : StandingSite) : Type 0 where
+-- regions' blocks, made anew or as they were at the epochs chosen for that sequence. On a sound site all nodes are the state of it.
+pub record Stood (anew : Bool) (u v : View) (k : StandingSite) : Type 0 where
   pub journal : ℕ → List Placed
   pub form : MayBeOpened k.log.records (last_of k.last_began.items)
   pub counted : length k.last_began.items ≡ length (regions k.log.records)
@@ -85,7 +89,9 @@ pub record Stood (u v : View) (k : StandingSite) : Type 0 where
   pub read : IfSome u.content (WasRead v k.log.records (last_of k.last_began.items) journal)
   pub texts : IfSome u.content (AreTextsDurable v (generation k.log.records))
   pub databases : IfSome u.content (AreDatabasesDurable v (length (regions k.log.records)))
-  pub blocks : IfSome u.content (λ files. AreOnBlocks files (records_of k journal) (length (entries_of k)) k.globals)
+  -- unless they are made anew no region needs forward recovery for all entries
+  pub without : anew ≡ false → NoneIsWithout (records_of k journal) (length (entries_of k))
+  pub blocks : IfSome u.content (λ files. StandOn anew files (records_of k journal) (length (entries_of k)) k.globals)
   pub regions : AreHeld v (length (regions k.log.records)) k.globals
   pub nodes : IfSome u.content (λ files. IsSoundImage files (records_of k journal) (entries_of k) → joined k.globals ≡ state (entries_of k))
   -- whatever the disk tells, they are the state of some sequence, and none where there is no entry

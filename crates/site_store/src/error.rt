@@ -25,6 +25,10 @@ pub enum SiteError {
     /// There is no reign left, or no cycle.
     #[error("there is no reign left")]
     ReignLimit,
+    /// The region of that number, from 0 on, is the first that needs forward recovery for all entries: a generation of it that keeps no
+    /// images has a record behind its last epoch.
+    #[error("region {region} needs forward recovery")]
+    NeedForward { region: u8 },
     /// A file is outside the formats at that place, or the instance file has no record.
     #[error("file {file} is outside its format at {offset}")]
     NotAFile { file: u32, offset: u64 },

@@ -30,6 +30,7 @@ ghost use Rattle.site_defs.specs.Epochs.{marked, MayMark};
 ghost use Rattle.site_defs.specs.Stands.{IsBlank, IsSite, HasLeft};
 ghost use Rattle.site_defs.specs.OutsideBlocks.{IsOutsideOpening};
 ghost use Rattle.site_regions.specs.Joined.{joined};
+ghost use Rattle.site_store.specs.Needing.{NoneIsWithout, HaveFirstWithout};
 ghost use Rattle.site_store.specs.Refusing.{IsUnwritten};
 ghost use Rattle.site_store.specs.Site.{Remembers, WasOpened, WasOpenedFrom, HasReign, HasRoomFor, with_entry};
 ghost use Rattle.site_store.specs.Opening.{region_value, made, MayMake, MayBeOpen, EachStands};
@@ -114,9 +115,10 @@ impl<D: Disk> Site<D> {
     /// and begins the next generation. With an error it hands the disk back.
     ///
     /// # Errors
-    /// `GenLimit` exactly where 65,534 generations were drawn, and then nothing was written. `NotAFile` with
-    /// the first file that is outside the formats and the place of what can't stand there, or with file 0 and offset 0 where no site
-    /// stands there; nothing was written then. `Failed` only where the disk's count rose. `NoMemory`.
+    /// `GenLimit` exactly where 65,534 generations were drawn; `NeedForward` exactly where a region needs forward recovery for all
+    /// entries, with the first such region; `NotAFile` with the first file that is outside the formats and the place of what can't
+    /// stand there, or with file 0 and offset 0 where no site stands there. Nothing was written then. `Failed` only where the disk's
+    /// count rose. `NoMemory`.
     pub fn load(alloc: Global, mut disk: D) -> Result<Site<D>, (D, SiteError)>
         ensures ready { IfOk result (IsGoing D.disk) }
         ensures read { IfOk result (λ s. (c : Contents) × (broken : List ℕ) × Remembers (opened broken c) (length c.sequence) s.inner) }
@@ -126,6 +128,9 @@ impl<D: Disk> Site<D> {
         ensures opened { IfOk result (λ s. WasOpened s.inner) }
         ensures drawn { OnOk result (IfSome (D.disk disk).content (λ files. (rs : List instances.InstanceRecord) → IsInstance (files INSTANCE) rs → generation rs < 65534)) }
         ensures limit { FailsWith result SiteError.GenLimit → IfSome (D.disk disk).content (λ files. (rs : List instances.InstanceRecord) → IsInstance (files INSTANCE) rs → 65534 ≤ generation rs) }
+        ensures images { OnOk result (IfSome (D.disk disk).content (λ files. (u : Records) × (seq : Sequence) × AreRecords files u × IsSequence u seq × NoneIsWithout u (length seq))) }
+        ensures needs { (region : ℕ) → FailsWith result (SiteError.NeedForward region) → IfSome (D.disk disk).content (λ files. HaveFirstWithout files region) }
+        ensures needs_unwritten { (region : ℕ) → FailsWith result (SiteError.NeedForward region) → IsUnwritten (D.disk disk) (D.disk (disk_left result)) }
         ensures unwritten { FailsWith result SiteError.GenLimit → (D.disk (disk_left result)).content ≡ (D.disk disk).content }
         ensures untouched { FailsWith result SiteError.GenLimit → AtEachMoment (D.disk disk) (D.disk (disk_left result)) (Image (D.disk disk)) }
         ensures place { (file offset : ℕ) → FailsWith result (SiteError.NotAFile file offset) → IfSome (D.disk disk).content (λ files. IsOutsideOpening files file offset) }

@@ -1,5 +1,5 @@
 //! A site as it stands on a disk, before anything is written.
-ghost use Rattle.std.specs.Prelude.{◌≡◌, ◌⊎◌, ◌≤◌, ◌<◌, ◌++◌, ◌∷◌, [], ℕ, List, length, map, IfOk, IfSome, OnErr, IsErrOf};
+ghost use Rattle.std.specs.Prelude.{◌≡◌, ◌⊎◌, ◌≤◌, ◌<◌, ◌++◌, ◌∷◌, [], ℕ, List, true, length, map, IfOk, IfSome, OnOk, OnErr, IsErrOf};
 ghost use Rattle.disk_defs.specs.Disk.{Image, Reads, AtEachMoment, Rose};
 ghost use Rattle.journal_defs.specs.Instance as defs;
 ghost use Rattle.journal_defs.specs.Instance.{generation};
@@ -13,16 +13,18 @@ ghost use Rattle.site_defs.specs.Outside.{IsOutsideSite};
 ghost use Rattle.site_defs.specs.OutsideBlocks.{IsOutsideOpening, HaveOutsideBlocks};
 ghost use Rattle.site_files.specs.Loading.{next_cut};
 ghost use Rattle.site_store.specs.Finding.{HasLayout, mapping_of};
-ghost use Rattle.site_store.specs.Standing.{HasFound, WasFound, IsFoundAs, IsOpenFor, Stood, found_records, found_entries};
+ghost use Rattle.site_store.specs.Needing.{IsFirstWithout, NoneIsWithout, HaveFirstWithout};
+ghost use Rattle.site_store.specs.Standing.{HasFound, WasFound, IsFoundAs, IsOpenFor, IsOpenAs, Stood, found_records, found_entries};
 
 use crate::error::SiteError;
 use crate::layout::{Layout, region_specs};
+use crate::needing::first_needing;
 use crate::syncing::{sync_databases, sync_texts};
 use global_dir::Directory;
 use gvn_key::{Bytes, NoMemory};
 use gvn_model::Entry;
 use instance_file::{InstanceLog, InstanceRecord};
-use region_opening::open_regions;
+use region_opening::{open_regions, rebuild_regions};
 use repl_disk::Disk;
 use site_files::{ReadSite, Remembered, created_name, generation_in, read_site, remember_all};
 use site_regions::Regions;
@@ -107,6 +109,38 @@ pub fn find_files<D: Disk>(alloc: Global, disk: &mut D) -> Result<FoundFiles, Si
     })
 }
 
+/// A site that was found, on these regions.
+fn stand_on(
+    alloc: Global,
+    found: FoundFiles,
+    globals: Regions,
+) -> Result<StandingSite, NoMemory>
+    requires has { HasFound found }
+    ensures found_as { IfOk result (IsFoundAs found) }
+    ensures globals { IfOk result (λ k. k.globals ≡ globals) }
+{
+    let FoundFiles {
+        read,
+        entries,
+        broken,
+    } = found;
+    let ReadSite {
+        log,
+        directory,
+        last_began,
+        ..
+    } = read;
+    let layout = next_layout(alloc, log.records.as_slice(), directory)?;
+    Ok(StandingSite {
+        log,
+        layout,
+        last_began,
+        entries,
+        globals,
+        broken,
+    })
+}
+
 /// Opens the regions of a site that was found for a target: each goes back to the epoch that it has chosen for so many entries, and
 /// the updates of the entries behind it up to the target are made, all in memory. It writes nothing.
 ///
@@ -132,57 +166,91 @@ pub fn stand<D: Disk>(
     ensures cause { (fault : ℕ) → IsErrOf result (SiteError.Failed fault) → Rose (D.disk disk.old).faults (D.disk disk.new).faults }
     ensures causes { OnErr result (((fault : ℕ) × IsErrOf result (SiteError.Failed fault)) ⊎ ((file : ℕ) × (offset : ℕ) × IsErrOf result (SiteError.NotAFile file offset)) ⊎ IsErrOf result SiteError.NoMemory) }
 {
-    let FoundFiles {
-        read,
-        entries,
-        broken,
-    } = found;
-    let ReadSite {
-        log,
-        directory,
-        journals,
-        last_began,
-    } = read;
-    let copied = directory.copy()?;
-    let layout = next_layout(alloc, log.records.as_slice(), copied)?;
+    let directory = found.read.directory.copy()?;
     let globals = open_regions(
         alloc,
         disk,
-        &log.records,
+        &found.read.log.records,
         directory,
-        &journals,
-        &entries,
+        &found.read.journals,
+        &found.entries,
         target,
     )?;
-    Ok(StandingSite {
-        log,
-        layout,
-        last_began,
-        entries,
-        globals,
-        broken,
-    })
+    Ok(stand_on(alloc, found, globals)?)
 }
 
-/// Syncs and reads a site's files, and opens its regions for all entries. It writes nothing.
+/// Makes the regions of a site that was found anew, with the updates of all entries. It reads no block and writes nothing.
+fn stand_anew<D: Disk>(
+    alloc: Global,
+    disk: &mut D,
+    found: FoundFiles,
+) -> Result<StandingSite, SiteError>
+    requires has { HasFound found }
+    ensures found_as { IfOk result (IsFoundAs found) }
+    ensures opened { IfOk result (λ k. IsOpenAs true (D.disk disk.old) (D.disk disk.new) found (length found.entries.items) k.globals) }
+    ensures outside { (file offset : ℕ) → IsErrOf result (SiteError.NotAFile file offset) → IfSome (D.disk disk.old).content (λ _. ⊥) }
+    ensures reads { Reads (D.disk disk.old) (D.disk disk.new) }
+    ensures later { (D.disk disk.old).faults ≤ (D.disk disk.new).faults }
+    ensures count { (fault : ℕ) → IsErrOf result (SiteError.Failed fault) → fault ≡ (D.disk disk.new).faults }
+    ensures cause { (fault : ℕ) → IsErrOf result (SiteError.Failed fault) → Rose (D.disk disk.old).faults (D.disk disk.new).faults }
+    ensures causes { OnErr result (((fault : ℕ) × IsErrOf result (SiteError.Failed fault)) ⊎ ((file : ℕ) × (offset : ℕ) × IsErrOf result (SiteError.NotAFile file offset)) ⊎ IsErrOf result SiteError.NoMemory) }
+{
+    let directory = found.read.directory.copy()?;
+    let globals = rebuild_regions(
+        alloc,
+        disk,
+        &found.read.log.records,
+        directory,
+        &found.entries,
+    )?;
+    Ok(stand_on(alloc, found, globals)?)
+}
+
+/// Sees that no region needs forward recovery for so many entries.
+fn check_images(alloc: Global, found: &FoundFiles, target: u64) -> Result<(), SiteError>
+    requires has { HasFound found.now }
+    ensures none { OnOk result (NoneIsWithout (found_records found.now) target) }
+    ensures first { (region : ℕ) → IsErrOf result (SiteError.NeedForward region) → (generation : ℕ) × IsFirstWithout (found_records found.now) target region generation }
+    ensures causes { OnErr result (((region : ℕ) × IsErrOf result (SiteError.NeedForward region)) ⊎ IsErrOf result SiteError.NoMemory) }
+{
+    match first_needing(alloc, found, target)? {
+        Some(needing) => Err(SiteError::NeedForward {
+            region: needing.region,
+        }),
+        None => Ok(()),
+    }
+}
+
+/// Syncs and reads a site's files, and opens its regions for all entries, or makes them anew. It writes nothing.
 ///
 /// # Errors
-/// As [`crate::load`]'s.
-pub(crate) fn read_standing<D: Disk>(alloc: Global, disk: &mut D) -> Result<StandingSite, SiteError>
-    ensures stood { IfOk result (Stood (D.disk disk.old) (D.disk disk.new)) }
+/// As [`crate::load`]'s, or where the regions are made anew as [`crate::load_anew`]'s.
+pub(crate) fn read_standing<D: Disk>(
+    alloc: Global,
+    disk: &mut D,
+    anew: bool,
+) -> Result<StandingSite, SiteError>
+    ensures stood { IfOk result (Stood anew (D.disk disk.old) (D.disk disk.new)) }
     ensures limit { IsErrOf result SiteError.GenLimit → IfSome (D.disk disk.old).content (λ files. (rs : List defs.InstanceRecord) → IsInstance (files INSTANCE) rs → 65534 ≤ generation rs) }
     ensures limit_told { IsErrOf result SiteError.GenLimit → IfSome (D.disk disk.old).content (λ files. (rs : List defs.InstanceRecord) × IsInstance (files INSTANCE) rs × (65534 ≤ generation rs)) }
     ensures place { (file offset : ℕ) → IsErrOf result (SiteError.NotAFile file offset) → IfSome (D.disk disk.old).content (λ files. IsOutsideOpening files file offset) }
+    ensures place_anew { anew ≡ true → (file offset : ℕ) → IsErrOf result (SiteError.NotAFile file offset) → IfSome (D.disk disk.old).content (λ files. IsOutsideSite files file offset) }
     ensures outside { (file offset : ℕ) → IsErrOf result (SiteError.NotAFile file offset) → IfSome (D.disk disk.old).content (λ files. (c : Contents) → IsSite files c → ⊥) }
+    ensures needs { (region : ℕ) → IsErrOf result (SiteError.NeedForward region) → IfSome (D.disk disk.old).content (λ files. HaveFirstWithout files region) }
+    ensures needs_none { anew ≡ true → (region : ℕ) → IsErrOf result (SiteError.NeedForward region) → ⊥ }
     ensures content { (D.disk disk.new).content ≡ (D.disk disk.old).content }
     ensures any_moment { AtEachMoment (D.disk disk.old) (D.disk disk.new) (Image (D.disk disk.old)) }
     ensures simulated { (D.disk disk.new).simulated ≡ (D.disk disk.old).simulated }
     ensures later { (D.disk disk.old).faults ≤ (D.disk disk.new).faults }
     ensures count { (fault : ℕ) → IsErrOf result (SiteError.Failed fault) → fault ≡ (D.disk disk.new).faults }
     ensures cause { (fault : ℕ) → IsErrOf result (SiteError.Failed fault) → Rose (D.disk disk.old).faults (D.disk disk.new).faults }
-    ensures causes { OnErr result (IsErrOf result SiteError.GenLimit ⊎ ((fault : ℕ) × IsErrOf result (SiteError.Failed fault)) ⊎ ((file : ℕ) × (offset : ℕ) × IsErrOf result (SiteError.NotAFile file offset)) ⊎ IsErrOf result SiteError.NoMemory) }
+    ensures causes { OnErr result (IsErrOf result SiteError.GenLimit ⊎ ((region : ℕ) × IsErrOf result (SiteError.NeedForward region)) ⊎ ((fault : ℕ) × IsErrOf result (SiteError.Failed fault)) ⊎ ((file : ℕ) × (offset : ℕ) × IsErrOf result (SiteError.NotAFile file offset)) ⊎ IsErrOf result SiteError.NoMemory) }
 {
     let found = find_files(alloc, disk)?;
+    if anew {
+        return stand_anew(alloc, disk, found);
+    }
     let target = found.entries.len() as u64;
+    check_images(alloc, &found, target)?;
     stand(alloc, disk, found, target)
 }

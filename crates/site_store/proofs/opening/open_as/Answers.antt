@@ -9,7 +9,7 @@ use Rattle.site_store.proofs.Refused.{told_anyway, untold}
 use Rattle.site_store.proofs.Loaded.{quiet_told, quiet_left, quiet_stands}
 use Rattle.site_store.specs.declared.site.OpenSite.{OpenSite}
 use Rattle.site_store.proofs.Stood as stood
-use Rattle.site_store.proofs.opening.load.Goals as goal
+use Rattle.site_store.proofs.opening.open_as.Goals as goal
 
 pub returns-in_err-standing-clause-refused : goal.returns-in_err-standing-clause-refused
 returns-in_err-standing-clause-refused g c =
@@ -18,13 +18,13 @@ returns-in_err-standing-clause-refused g c =
     λ file offset is. told_anyway u.content (IsUnwritten u v) (c.read_standing.ensures.content, c.read_standing.ensures.any_moment)
 
 pub returns-in_err-standing-clause-any_moment : goal.returns-in_err-standing-clause-any_moment
-returns-in_err-standing-clause-any_moment g c = quiet_told (g.D.Disk.disk c.args.disk.now) (g.D.Disk.disk c.read_standing.new.disk) c.read_standing.ensures.any_moment
+returns-in_err-standing-clause-any_moment g c = quiet_told c.args.anew (g.D.Disk.disk c.args.disk.now) (g.D.Disk.disk c.read_standing.new.disk) c.read_standing.ensures.any_moment
 
 pub returns-in_err-standing-clause-left : goal.returns-in_err-standing-clause-left
-returns-in_err-standing-clause-left g c = quiet_left (g.D.Disk.disk c.args.disk.now) (g.D.Disk.disk c.read_standing.new.disk) c.read_standing.ensures.any_moment
+returns-in_err-standing-clause-left g c = quiet_left c.args.anew (g.D.Disk.disk c.args.disk.now) (g.D.Disk.disk c.read_standing.new.disk) c.read_standing.ensures.any_moment
 
 pub returns-in_err-standing-clause-stands : goal.returns-in_err-standing-clause-stands
-returns-in_err-standing-clause-stands g c = quiet_stands (g.D.Disk.disk c.args.disk.now).content (g.D.Disk.disk c.read_standing.new.disk).content c.read_standing.ensures.content
+returns-in_err-standing-clause-stands g c = quiet_stands c.args.anew (g.D.Disk.disk c.args.disk.now).content (g.D.Disk.disk c.read_standing.new.disk).content c.read_standing.ensures.content
 
 pub draw-requires-clause-read : goal.draw-requires-clause-read
 draw-requires-clause-read g c =
@@ -68,7 +68,7 @@ returns-in_err-drawn-clause-any_moment g c =
     let lawful_v = g.met.D.Disk.lawful c.read_standing.new.disk in
     let lawful_w = g.met.D.Disk.lawful c.draw.new.disk in
     let n : c.len-length.result ≡ length k.entries.items = (let e = c.len-length.ensures in omega (arith, e)) in
-    stood.moments u v w k st lawful_v lawful_w c.read_standing.ensures.any_moment c.read_standing.ensures.content c.len-length.result c.as_slice.result.now c.deref.result.now n c.as_slice.ensures c.deref.ensures.value c.draw.ensures.any_moment
+    stood.moments c.args.anew u v w k st lawful_v lawful_w c.read_standing.ensures.any_moment c.read_standing.ensures.content c.len-length.result c.as_slice-text.result.now c.deref.result.now n c.as_slice-text.ensures c.deref.ensures.value c.draw.ensures.any_moment
 
 pub returns-in_err-drawn-clause-left : goal.returns-in_err-drawn-clause-left
 returns-in_err-drawn-clause-left g c =
@@ -80,7 +80,7 @@ returns-in_err-drawn-clause-left g c =
     let lawful_v = g.met.D.Disk.lawful c.read_standing.new.disk in
     let lawful_w = g.met.D.Disk.lawful c.draw.new.disk in
     let n : c.len-length.result ≡ length k.entries.items = (let e = c.len-length.ensures in omega (arith, e)) in
-    stood.lefts u v w k st lawful_v lawful_w c.read_standing.ensures.any_moment c.read_standing.ensures.content c.len-length.result c.as_slice.result.now c.deref.result.now n c.as_slice.ensures c.deref.ensures.value c.draw.ensures.any_moment
+    stood.lefts c.args.anew u v w k st lawful_v lawful_w c.read_standing.ensures.any_moment c.read_standing.ensures.content c.len-length.result c.as_slice-text.result.now c.deref.result.now n c.as_slice-text.ensures c.deref.ensures.value c.draw.ensures.any_moment
 
 pub returns-in_err-drawn-clause-stands : goal.returns-in_err-drawn-clause-stands
 returns-in_err-drawn-clause-stands g c =
@@ -92,7 +92,7 @@ returns-in_err-drawn-clause-stands g c =
     let lawful_v = g.met.D.Disk.lawful c.read_standing.new.disk in
     let lawful_w = g.met.D.Disk.lawful c.draw.new.disk in
     let n : c.len-length.result ≡ length k.entries.items = (let e = c.len-length.ensures in omega (arith, e)) in
-    stood.stands u v w k st lawful_v lawful_w c.read_standing.ensures.any_moment c.read_standing.ensures.content c.len-length.result c.as_slice.result.now c.deref.result.now n c.as_slice.ensures c.deref.ensures.value c.draw.ensures.reads
+    stood.stands c.args.anew u v w k st lawful_v lawful_w c.read_standing.ensures.any_moment c.read_standing.ensures.content c.len-length.result c.as_slice-text.result.now c.deref.result.now n c.as_slice-text.ensures c.deref.ensures.value c.draw.ensures.reads
 
 pub returns-in_err-newest_journals-clause-any_moment : goal.returns-in_err-newest_journals-clause-any_moment
 returns-in_err-newest_journals-clause-any_moment g c =
@@ -104,7 +104,7 @@ returns-in_err-newest_journals-clause-any_moment g c =
     let lawful_v = g.met.D.Disk.lawful c.read_standing.new.disk in
     let lawful_w = g.met.D.Disk.lawful c.draw.new.disk in
     let n : c.len-length.result ≡ length k.entries.items = (let e = c.len-length.ensures in omega (arith, e)) in
-    stood.moments u v w k st lawful_v lawful_w c.read_standing.ensures.any_moment c.read_standing.ensures.content c.len-length.result c.as_slice.result.now c.deref.result.now n c.as_slice.ensures c.deref.ensures.value c.draw.ensures.any_moment
+    stood.moments c.args.anew u v w k st lawful_v lawful_w c.read_standing.ensures.any_moment c.read_standing.ensures.content c.len-length.result c.as_slice-text.result.now c.deref.result.now n c.as_slice-text.ensures c.deref.ensures.value c.draw.ensures.any_moment
 
 pub returns-in_err-newest_journals-clause-left : goal.returns-in_err-newest_journals-clause-left
 returns-in_err-newest_journals-clause-left g c =
@@ -116,7 +116,7 @@ returns-in_err-newest_journals-clause-left g c =
     let lawful_v = g.met.D.Disk.lawful c.read_standing.new.disk in
     let lawful_w = g.met.D.Disk.lawful c.draw.new.disk in
     let n : c.len-length.result ≡ length k.entries.items = (let e = c.len-length.ensures in omega (arith, e)) in
-    stood.lefts u v w k st lawful_v lawful_w c.read_standing.ensures.any_moment c.read_standing.ensures.content c.len-length.result c.as_slice.result.now c.deref.result.now n c.as_slice.ensures c.deref.ensures.value c.draw.ensures.any_moment
+    stood.lefts c.args.anew u v w k st lawful_v lawful_w c.read_standing.ensures.any_moment c.read_standing.ensures.content c.len-length.result c.as_slice-text.result.now c.deref.result.now n c.as_slice-text.ensures c.deref.ensures.value c.draw.ensures.any_moment
 
 pub returns-in_err-newest_journals-clause-stands : goal.returns-in_err-newest_journals-clause-stands
 returns-in_err-newest_journals-clause-stands g c =
@@ -128,7 +128,7 @@ returns-in_err-newest_journals-clause-stands g c =
     let lawful_v = g.met.D.Disk.lawful c.read_standing.new.disk in
     let lawful_w = g.met.D.Disk.lawful c.draw.new.disk in
     let n : c.len-length.result ≡ length k.entries.items = (let e = c.len-length.ensures in omega (arith, e)) in
-    stood.stands u v w k st lawful_v lawful_w c.read_standing.ensures.any_moment c.read_standing.ensures.content c.len-length.result c.as_slice.result.now c.deref.result.now n c.as_slice.ensures c.deref.ensures.value c.draw.ensures.reads
+    stood.stands c.args.anew u v w k st lawful_v lawful_w c.read_standing.ensures.any_moment c.read_standing.ensures.content c.len-length.result c.as_slice-text.result.now c.deref.result.now n c.as_slice-text.ensures c.deref.ensures.value c.draw.ensures.reads
 
 pub returns-clause-any_moment : goal.returns-clause-any_moment
 returns-clause-any_moment g c =
@@ -140,7 +140,7 @@ returns-clause-any_moment g c =
     let lawful_v = g.met.D.Disk.lawful c.read_standing.new.disk in
     let lawful_w = g.met.D.Disk.lawful c.draw.new.disk in
     let n : c.len-length.result ≡ length k.entries.items = (let e = c.len-length.ensures in omega (arith, e)) in
-    stood.moments u v w k st lawful_v lawful_w c.read_standing.ensures.any_moment c.read_standing.ensures.content c.len-length.result c.as_slice.result.now c.deref.result.now n c.as_slice.ensures c.deref.ensures.value c.draw.ensures.any_moment
+    stood.moments c.args.anew u v w k st lawful_v lawful_w c.read_standing.ensures.any_moment c.read_standing.ensures.content c.len-length.result c.as_slice-text.result.now c.deref.result.now n c.as_slice-text.ensures c.deref.ensures.value c.draw.ensures.any_moment
 
 pub returns-clause-left : goal.returns-clause-left
 returns-clause-left g c =
@@ -152,7 +152,7 @@ returns-clause-left g c =
     let lawful_v = g.met.D.Disk.lawful c.read_standing.new.disk in
     let lawful_w = g.met.D.Disk.lawful c.draw.new.disk in
     let n : c.len-length.result ≡ length k.entries.items = (let e = c.len-length.ensures in omega (arith, e)) in
-    stood.lefts u v w k st lawful_v lawful_w c.read_standing.ensures.any_moment c.read_standing.ensures.content c.len-length.result c.as_slice.result.now c.deref.result.now n c.as_slice.ensures c.deref.ensures.value c.draw.ensures.any_moment
+    stood.lefts c.args.anew u v w k st lawful_v lawful_w c.read_standing.ensures.any_moment c.read_standing.ensures.content c.len-length.result c.as_slice-text.result.now c.deref.result.now n c.as_slice-text.ensures c.deref.ensures.value c.draw.ensures.any_moment
 
 pub returns-clause-stands : goal.returns-clause-stands
 returns-clause-stands g c =
@@ -164,7 +164,7 @@ returns-clause-stands g c =
     let lawful_v = g.met.D.Disk.lawful c.read_standing.new.disk in
     let lawful_w = g.met.D.Disk.lawful c.draw.new.disk in
     let n : c.len-length.result ≡ length k.entries.items = (let e = c.len-length.ensures in omega (arith, e)) in
-    stood.stands u v w k st lawful_v lawful_w c.read_standing.ensures.any_moment c.read_standing.ensures.content c.len-length.result c.as_slice.result.now c.deref.result.now n c.as_slice.ensures c.deref.ensures.value c.draw.ensures.reads
+    stood.stands c.args.anew u v w k st lawful_v lawful_w c.read_standing.ensures.any_moment c.read_standing.ensures.content c.len-length.result c.as_slice-text.result.now c.deref.result.now n c.as_slice-text.ensures c.deref.ensures.value c.draw.ensures.reads
 
 pub returns-clause-drawn : goal.returns-clause-drawn
 returns-clause-drawn g c =
@@ -176,7 +176,7 @@ returns-clause-drawn g c =
     let lawful_v = g.met.D.Disk.lawful c.read_standing.new.disk in
     let lawful_w = g.met.D.Disk.lawful c.draw.new.disk in
     let n : c.len-length.result ≡ length k.entries.items = (let e = c.len-length.ensures in omega (arith, e)) in
-    stood.room u v w k st lawful_v lawful_w c.read_standing.ensures.any_moment c.read_standing.ensures.content c.len-length.result c.as_slice.result.now c.deref.result.now n c.as_slice.ensures c.deref.ensures.value
+    stood.room c.args.anew u v w k st lawful_v lawful_w c.read_standing.ensures.any_moment c.read_standing.ensures.content c.len-length.result c.as_slice-text.result.now c.deref.result.now n c.as_slice-text.ensures c.deref.ensures.value
 
 pub returns-clause-read : goal.returns-clause-read
 returns-clause-read g c =
@@ -189,7 +189,7 @@ returns-clause-read g c =
     let lawful_w = g.met.D.Disk.lawful c.draw.new.disk in
     let n : c.len-length.result ≡ length k.entries.items = (let e = c.len-length.ensures in omega (arith, e)) in
     let s : OpenSite = record { instance = c.in_ok-drawn.drawn.instance; layout = k.layout; journals = c.in_ok-newest_journals.field-0; entries = k.entries; globals = k.globals; hardened = c.len-length.result; stamp = None } in
-    stood.read u v w k st lawful_v lawful_w c.read_standing.ensures.any_moment c.read_standing.ensures.content c.len-length.result c.as_slice.result.now c.deref.result.now n c.as_slice.ensures c.deref.ensures.value s c.in_ok-drawn.ensures.records refl refl refl refl
+    stood.read c.args.anew u v w k st lawful_v lawful_w c.read_standing.ensures.any_moment c.read_standing.ensures.content c.len-length.result c.as_slice-text.result.now c.deref.result.now n c.as_slice-text.ensures c.deref.ensures.value s c.in_ok-drawn.ensures.records refl refl refl refl
 
 pub returns-clause-found : goal.returns-clause-found
 returns-clause-found g c =
@@ -202,7 +202,7 @@ returns-clause-found g c =
     let lawful_w = g.met.D.Disk.lawful c.draw.new.disk in
     let n : c.len-length.result ≡ length k.entries.items = (let e = c.len-length.ensures in omega (arith, e)) in
     let s : OpenSite = record { instance = c.in_ok-drawn.drawn.instance; layout = k.layout; journals = c.in_ok-newest_journals.field-0; entries = k.entries; globals = k.globals; hardened = c.len-length.result; stamp = None } in
-    stood.found u v w k st lawful_v lawful_w c.read_standing.ensures.any_moment c.read_standing.ensures.content c.len-length.result c.as_slice.result.now c.deref.result.now n c.as_slice.ensures c.deref.ensures.value s c.in_ok-drawn.ensures.records refl refl refl refl
+    stood.found c.args.anew u v w k st lawful_v lawful_w c.read_standing.ensures.any_moment c.read_standing.ensures.content c.len-length.result c.as_slice-text.result.now c.deref.result.now n c.as_slice-text.ensures c.deref.ensures.value s c.in_ok-drawn.ensures.records refl refl refl refl
 
 pub returns-clause-held : goal.returns-clause-held
 returns-clause-held g c =
@@ -215,7 +215,7 @@ returns-clause-held g c =
     let lawful_w = g.met.D.Disk.lawful c.draw.new.disk in
     let n : c.len-length.result ≡ length k.entries.items = (let e = c.len-length.ensures in omega (arith, e)) in
     let s : OpenSite = record { instance = c.in_ok-drawn.drawn.instance; layout = k.layout; journals = c.in_ok-newest_journals.field-0; entries = k.entries; globals = k.globals; hardened = c.len-length.result; stamp = None } in
-    stood.held u v w k st lawful_v lawful_w c.read_standing.ensures.any_moment c.read_standing.ensures.content c.len-length.result c.as_slice.result.now c.deref.result.now n c.as_slice.ensures c.deref.ensures.value s c.in_ok-drawn.ensures.records refl refl refl refl
+    stood.held c.args.anew u v w k st lawful_v lawful_w c.read_standing.ensures.any_moment c.read_standing.ensures.content c.len-length.result c.as_slice-text.result.now c.deref.result.now n c.as_slice-text.ensures c.deref.ensures.value s c.in_ok-drawn.ensures.records refl refl refl refl
 
 pub returns-clause-opened : goal.returns-clause-opened
 returns-clause-opened g c =
@@ -228,7 +228,7 @@ returns-clause-opened g c =
     let lawful_w = g.met.D.Disk.lawful c.draw.new.disk in
     let n : c.len-length.result ≡ length k.entries.items = (let e = c.len-length.ensures in omega (arith, e)) in
     let s : OpenSite = record { instance = c.in_ok-drawn.drawn.instance; layout = k.layout; journals = c.in_ok-newest_journals.field-0; entries = k.entries; globals = k.globals; hardened = c.len-length.result; stamp = None } in
-    stood.opened_here u v w k st lawful_v lawful_w c.read_standing.ensures.any_moment c.read_standing.ensures.content c.len-length.result c.as_slice.result.now c.deref.result.now n c.as_slice.ensures c.deref.ensures.value s c.in_ok-drawn.ensures.records refl refl refl refl
+    stood.opened_here c.args.anew u v w k st lawful_v lawful_w c.read_standing.ensures.any_moment c.read_standing.ensures.content c.len-length.result c.as_slice-text.result.now c.deref.result.now n c.as_slice-text.ensures c.deref.ensures.value s c.in_ok-drawn.ensures.records refl refl refl refl
 
 pub returns-clause-ready : goal.returns-clause-ready
 returns-clause-ready g c =
@@ -241,7 +241,7 @@ returns-clause-ready g c =
     let lawful_w = g.met.D.Disk.lawful c.draw.new.disk in
     let n : c.len-length.result ≡ length k.entries.items = (let e = c.len-length.ensures in omega (arith, e)) in
     let s : OpenSite = record { instance = c.in_ok-drawn.drawn.instance; layout = k.layout; journals = c.in_ok-newest_journals.field-0; entries = k.entries; globals = k.globals; hardened = c.len-length.result; stamp = None } in
-    stood.ready u v w k st lawful_v lawful_w c.read_standing.ensures.any_moment c.read_standing.ensures.content c.len-length.result c.as_slice.result.now c.deref.result.now n c.as_slice.ensures c.deref.ensures.value s c.in_ok-drawn.ensures.records refl refl refl refl c.in_ok-drawn.drawn.journals.items c.in_ok-newest_journals.ensures c.in_ok-drawn.ensures.journal_count c.in_ok-drawn.ensures.instance refl c.in_ok-drawn.ensures.journals c.draw.ensures.frame
+    stood.ready c.args.anew u v w k st lawful_v lawful_w c.read_standing.ensures.any_moment c.read_standing.ensures.content c.len-length.result c.as_slice-text.result.now c.deref.result.now n c.as_slice-text.ensures c.deref.ensures.value s c.in_ok-drawn.ensures.records refl refl refl refl c.in_ok-drawn.drawn.journals.items c.in_ok-newest_journals.ensures c.in_ok-drawn.ensures.journal_count c.in_ok-drawn.ensures.instance refl c.in_ok-drawn.ensures.journals c.draw.ensures.frame
 
 pub returns-clause-told : goal.returns-clause-told
 returns-clause-told g c =
@@ -254,4 +254,4 @@ returns-clause-told g c =
     let lawful_w = g.met.D.Disk.lawful c.draw.new.disk in
     let n : c.len-length.result ≡ length k.entries.items = (let e = c.len-length.ensures in omega (arith, e)) in
     let s : OpenSite = record { instance = c.in_ok-drawn.drawn.instance; layout = k.layout; journals = c.in_ok-newest_journals.field-0; entries = k.entries; globals = k.globals; hardened = c.len-length.result; stamp = None } in
-    stood.told u v w k st lawful_v lawful_w c.read_standing.ensures.any_moment c.read_standing.ensures.content c.len-length.result c.as_slice.result.now c.deref.result.now n c.as_slice.ensures c.deref.ensures.value s c.in_ok-drawn.ensures.records refl refl refl refl c.in_ok-drawn.drawn.journals.items c.in_ok-newest_journals.ensures c.in_ok-drawn.ensures.drawn c.in_ok-drawn.ensures.instance_file c.in_ok-drawn.ensures.journal_files
+    stood.told c.args.anew u v w k st lawful_v lawful_w c.read_standing.ensures.any_moment c.read_standing.ensures.content c.len-length.result c.as_slice-text.result.now c.deref.result.now n c.as_slice-text.ensures c.deref.ensures.value s c.in_ok-drawn.ensures.records refl refl refl refl c.in_ok-drawn.drawn.journals.items c.in_ok-newest_journals.ensures c.in_ok-drawn.ensures.drawn c.in_ok-drawn.ensures.instance_file c.in_ok-drawn.ensures.journal_files

@@ -1,4 +1,4 @@
-use Rattle.std.proofs.Common.{◌≡◌, inl, length, arith}
+use Rattle.std.proofs.Common.{◌≡◌, inl, ℕ, Bool, true, false, length, IfOk, refl, sym, subst, arith}
 use Rattle.std.proofs.lemmas.Result.{err_from_is_err_and}
 use Rattle.disk_defs.specs.Disk.{Image}
 use Rattle.disk_defs.proofs.Moments.{nothing_new, read_only}
@@ -6,7 +6,9 @@ use Rattle.disk_defs.proofs.Told.{weaker_told}
 use Rattle.site_defs.specs.Outside.{IsOutsideSite}
 use Rattle.site_defs.specs.OutsideBlocks.{IsOutsideOpening, whole}
 use Rattle.site_store.proofs.Errors.{handed_on}
-use Rattle.site_store.proofs.Founded.{stood_ok, blocks_outside, no_site_there}
+use Rattle.site_store.specs.Needing.{IsFirstWithout}
+use Rattle.site_store.specs.Standing.{Stood, found_records}
+use Rattle.site_store.proofs.Founded.{stood_ok, first_needing, blocks_outside, no_site_there}
 use Rattle.site_store.specs.declared.error.SiteError.TheVariants as error
 use Rattle.site_store.proofs.preparing.read_standing.Goals as goal
 
@@ -21,12 +23,35 @@ returns-clause-any_moment g c =
     let view = g.D.Disk.disk in
     nothing_new (view c.args.disk.now) (view c.find_files.new.disk) (view c.stand.new.disk) (Image (view c.args.disk.now)) (g.met.D.Disk.lawful c.find_files.new.disk) c.find_files.ensures.any_moment (read_only (view c.find_files.new.disk) (view c.stand.new.disk) c.stand.ensures.reads)
 
+pub returns-then-anew-clause-stood : goal.returns-then-anew-clause-stood
+returns-then-anew-clause-stood g c =
+    let view = g.D.Disk.disk in
+    let u = view c.args.disk.now in
+    let w = view c.stand_anew.new.disk in
+    let f = c.in_ok-found.found in
+    subst (λ (b : Bool). IfOk c.stand_anew.result (Stood b u w)) (sym c.if-anew.true)
+    (stood_ok true u (view c.find_files.new.disk) w f (length f.entries.items) c.stand_anew.result (g.met.D.Disk.lawful c.stand_anew.new.disk) c.stand_anew.ensures.reads c.find_files.ensures.content
+    c.in_ok-found.ensures.has c.in_ok-found.ensures.found refl c.stand_anew.ensures.found_as c.stand_anew.ensures.opened (λ e. absurd (cc e)))
+
+pub returns-in_err-check_images-clause-needs : goal.returns-in_err-check_images-clause-needs
+returns-in_err-check_images-clause-needs g c =
+    let view = g.D.Disk.disk in
+    let f = c.in_ok-found.found in
+    let all : c.len-target.result ≡ length f.entries.items = (let e = c.len-target.ensures in omega (arith, e)) in
+    let p = err_from_is_err_and c.from_residual-in_err-check_images.result c.from_residual-in_err-check_images.ensures.1 in
+    rw (p.1, p.2) (λ region is.
+    let first = c.in_err-check_images.ensures.first region (handed_on c.in_err-check_images.field-0.0 (error.NeedForward region) is) in
+    first_needing (view c.args.disk.now) (view c.find_files.new.disk) f c.in_ok-found.ensures.has c.in_ok-found.ensures.found region first.0 (subst (λ (n : ℕ). IsFirstWithout (found_records f) n region first.0) all first.1))
+
 pub returns-clause-stood : goal.returns-clause-stood
 returns-clause-stood g c =
     let view = g.D.Disk.disk in
+    let u = view c.args.disk.now in
+    let w = view c.stand.new.disk in
     let all : c.len-target.result ≡ length c.in_ok-found.found.entries.items = (let e = c.len-target.ensures in omega (arith, e)) in
-    stood_ok (view c.args.disk.now) (view c.find_files.new.disk) (view c.stand.new.disk) c.in_ok-found.found c.len-target.result c.stand.result (g.met.D.Disk.lawful c.stand.new.disk) c.stand.ensures.reads c.find_files.ensures.content
-    c.in_ok-found.ensures.has c.in_ok-found.ensures.found all c.stand.ensures.found_as c.stand.ensures.opened
+    subst (λ (b : Bool). IfOk c.stand.result (Stood b u w)) (sym c.if-anew.false)
+    (stood_ok false u (view c.find_files.new.disk) w c.in_ok-found.found c.len-target.result c.stand.result (g.met.D.Disk.lawful c.stand.new.disk) c.stand.ensures.reads c.find_files.ensures.content
+    c.in_ok-found.ensures.has c.in_ok-found.ensures.found all c.stand.ensures.found_as c.stand.ensures.opened (λ _. c.in_ok-check_images.ensures.none))
 
 pub returns-clause-place : goal.returns-clause-place
 returns-clause-place g c = λ file offset is.

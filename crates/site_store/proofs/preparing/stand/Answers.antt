@@ -7,7 +7,7 @@ use Rattle.global_defs.specs.Entry.{state}
 use Rattle.gvn_model.specs.Entries.{entry_value}
 use Rattle.gvn_model.specs.declared.entry.Entry.{Entry}
 use Rattle.jnl_record.specs.declared.placed.PlacedRecord.{PlacedRecord}
-use Rattle.journal_defs.specs.Instance.{InstanceRecord}
+use Rattle.journal_defs.specs.Instance.{regions}
 use Rattle.journal_defs.specs.Sequence.{IsSequence}
 use Rattle.journal_defs.specs.Stands.{AreRecords}
 use Rattle.journal_defs.specs.Fit.{IsSoundImage}
@@ -16,11 +16,12 @@ use Rattle.region_store.specs.Region.{IsHeld}
 use Rattle.site_defs.specs.OutsideBlocks.{HaveOutsideBlocks}
 use Rattle.site_files.specs.Loading.{next_cut}
 use Rattle.site_files.specs.Reading.{AreAllRead}
-use Rattle.site_regions.specs.Joined.{joined, region_at}
+use Rattle.site_regions.specs.Joined.{Joined, joined}
+use Rattle.site_store.specs.Standing.{IsOpenFor}
 use Rattle.site_store.specs.Finding.{HasLayout}
 use Rattle.site_store.proofs.Errors.{region_was}
 use Rattle.site_store.proofs.FormsRead.{are_formed}
-use Rattle.site_store.proofs.OnBlocks.{Held, AllHeld, on_blocks}
+use Rattle.site_store.proofs.OnBlocks.{Held, on_blocks, are_held}
 use Rattle.site_store.proofs.preparing.stand.Goals as goal
 
 pub open_regions-requires-clause-forms : goal.open_regions-requires-clause-forms
@@ -29,7 +30,7 @@ open_regions-requires-clause-forms g c =
     are_formed (js c.deref.result.now) (subst (λ (l : List (Vec PlacedRecord Global)). AreAllRead (js l)) (sym c.deref.ensures.value) c.requires.has.forms)
 
 pub open_regions-requires-clause-within : goal.open_regions-requires-clause-within
-open_regions-requires-clause-within g c = subst (λ d. AllByRecursion (λ p. p.region < d.regions) d.patterns) (sym c.requires.has.directory) c.requires.has.form.mapped
+open_regions-requires-clause-within g c = subst (λ d. AllByRecursion (λ p. p.region < d.regions) d.patterns) (sym (c.in_ok-directory.ensures ∙ c.requires.has.directory)) c.requires.has.form.mapped
 
 pub open_regions-requires-clause-sequence : goal.open_regions-requires-clause-sequence
 open_regions-requires-clause-sequence g c =
@@ -59,15 +60,6 @@ returns-in_err-globals-clause-unsound g c =
     subst (λ (es : List Entry). IfSome v.content (Told c.args.found.read.journals.items es)) c.deref-2.ensures.value
     (subst (λ (l : List (Vec PlacedRecord Global)). IfSome v.content (Told l c.deref-2.result.now)) c.deref.ensures.value (c.in_err-globals.ensures.unsound file offset (region_was c.in_err-globals.field-0.0 file offset is))))
 
-pub returns-clause-found_as : goal.returns-clause-found_as
-returns-clause-found_as g c = record {
-  log = λ i. c.args.found.read.log;
-  last_began = λ i. c.args.found.read.last_began;
-  entries = λ i. c.args.found.entries;
-  broken = λ i. c.args.found.broken;
-  layout = λ n. subst (λ (l : List InstanceRecord). HasLayout (l ++ next_cut l n ∷ []) c.in_ok-layout.layout) c.as_slice.ensures (c.in_ok-layout.ensures n);
-}
-
 pub returns-clause-opened : goal.returns-clause-opened
 returns-clause-opened g c =
     let view = g.D.Disk.disk in
@@ -79,20 +71,15 @@ returns-clause-opened g c =
     let t = c.args.target in
     let globals = c.in_ok-globals.globals in
     let got = c.in_ok-globals.ensures in
-    let dir = c.requires.has.directory in
+    let dir = c.in_ok-directory.ensures ∙ c.requires.has.directory in
     let many = got.count ∙ ap (λ d. d.regions) dir in
-    record {
+    subst (λ (k : Joined). IsOpenFor v w c.args.found t k) (sym c.in_ok-stand_on.ensures.globals) (record {
       blocks = on_blocks v.content rs (js jv) t globals (got.patterns ∙ ap (λ d. d.patterns) dir) many got.files
           (subst (λ (l : List (Vec PlacedRecord Global)). IfSome v.content (Held rs (js l) t globals)) c.deref.ensures.value got.holds) got.held;
-      regions = record {
-        count = many;
-        files = λ r here. got.files r (omega (arith, here, many));
-        held = λ r here. told_at w.content v.content (IsHeld (region_at globals r)) (sym c.open_regions.ensures.reads.content)
-            (weaker_told v.content (AllHeld globals) (IsHeld (region_at globals r)) got.held (λ files all. all r (omega (arith, here, many))));
-      };
+      regions = are_held v w (length (regions rs)) globals c.open_regions.ensures.reads.content many got.files got.held;
       nodes =
           subst (λ (es : List Entry). IfSome v.content (λ files. IsSoundImage files (site_records rs (js jv)) (map entry_value es) → joined globals ≡ state (take t (map entry_value es)))) c.deref-2.ensures.value
           (subst (λ (l : List (Vec PlacedRecord Global)). IfSome v.content (λ files. IsSoundImage files (site_records rs (js l)) (map entry_value c.deref-2.result.now) → joined globals ≡ state (take t (map entry_value c.deref-2.result.now)))) c.deref.ensures.value got.state);
       some = got.some;
       none = got.none;
-    }
+    })
