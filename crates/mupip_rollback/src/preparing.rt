@@ -207,7 +207,7 @@ pub(crate) fn prepare<D: Disk>(alloc: Global, disk: &mut D, to: u64) -> Result<P
     ensures left { IfOk result (λ p. IfSome (D.disk disk.old).content (λ files. (c : Contents) (left : Leftover) → IsSite files c → HasLeft files c left → left.broken ≡ p.broken)) }
     ensures limit { IsErrOf result RollError.GenLimit → IfSome (D.disk disk.old).content (λ files. (rs : List defs.InstanceRecord) → IsInstance (files INSTANCE) rs → 65534 ≤ generation rs) }
     ensures limit_told { IsErrOf result RollError.GenLimit → IfSome (D.disk disk.old).content (λ files. (rs : List defs.InstanceRecord) × IsInstance (files INSTANCE) rs × (65534 ≤ generation rs)) }
-    ensures without { (region generation : ℕ) → IsErrOf result (RollError.NoBeforeImage region generation) → IfSome (D.disk disk.old).content (λ files. (u : Records) × (seq : Sequence) × AreRecords files u × IsSequence u seq × IsFirstWithout u (min to (length seq)) region generation) }
+    ensures without { (region g : ℕ) → IsErrOf result (RollError.NoBeforeImage region g) → IfSome (D.disk disk.old).content (λ files. (u : Records) × (seq : Sequence) × AreRecords files u × IsSequence u seq × (generation u.instance < 65534) × IsFirstWithout u (min to (length seq)) region g) }
     ensures no_forward { (region : ℕ) → IsErrOf result (RollError.NeedForward region) → ⊥ }
     ensures place { (file offset : ℕ) → IsErrOf result (RollError.NotAFile file offset) → IfSome (D.disk disk.old).content (λ files. IsOutsideRollback to files file offset) }
     ensures outside { (file offset : ℕ) → IsErrOf result (RollError.NotAFile file offset) → IfSome (D.disk disk.old).content (λ files. (c : Contents) → IsSite files c → ⊥) }

@@ -134,6 +134,7 @@ first_needing u v f has was region generation first =
       found_entries f,
       held_read f.read.log.records (last_of f.read.last_began.items) (found_records f).journal files r.holds,
       has.sequence,
+      has.low,
       generation,
       subst (λ (n : ℕ). IsFirstWithout (found_records f) n region generation) (sym (length_values f.entries.items)) first,
     ))

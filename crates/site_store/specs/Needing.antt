@@ -2,7 +2,7 @@
 use Rattle.std.specs.Prelude.{◌≡◌, ◌<◌, ℕ, List, length, Option, Some, None}
 use Rattle.disk_defs.specs.Disk.{Files}
 use Rattle.global_defs.specs.Entry.{Sequence}
-use Rattle.journal_defs.specs.Instance.{regions}
+use Rattle.journal_defs.specs.Instance.{generation, regions}
 use Rattle.journal_defs.specs.Sequence.{Records, IsSequence}
 use Rattle.journal_defs.specs.Epochs.{chosen, first_without}
 use Rattle.journal_defs.specs.Stands.{AreRecords}
@@ -21,6 +21,6 @@ pub record IsFirstWithout (u : Records) (t region generation : ℕ) : Type 0 whe
 abbrev pub NoneIsWithout : Records → ℕ → Type 0
 NoneIsWithout u t = (r : ℕ) → r < length (regions u.instance) → without_behind u t r ≡ None
 
--- the region is the first that needs it for all entries of the sequence that these files stand for
+-- a generation is left, and the region is the first that needs it for all entries of the sequence that these files stand for
 abbrev pub HaveFirstWithout : Files → (region : ℕ) → Type 0
-HaveFirstWithout files region = (u : Records) × (seq : Sequence) × AreRecords files u × IsSequence u seq × (generation : ℕ) × IsFirstWithout u (length seq) region generation
+HaveFirstWithout files region = (u : Records) × (seq : Sequence) × AreRecords files u × IsSequence u seq × (generation u.instance < 65534) × (g : ℕ) × IsFirstWithout u (length seq) region g

@@ -1,6 +1,7 @@
-use Rattle.std.proofs.Common.{◌≡◌, ◌⊎◌, inl, inr, length, min, arith}
+use Rattle.std.proofs.Common.{◌≡◌, ◌⊎◌, ◌<◌, inl, inr, length, min, arith}
 use Rattle.std.proofs.lemmas.Result.{err_from_is_err_and}
 use Rattle.disk_defs.proofs.Told.{weaker_told}
+use Rattle.journal_defs.specs.Instance.{generation}
 use Rattle.site_defs.specs.Outside.{IsOutsideSite, IsBegunAhead}
 use Rattle.site_defs.specs.OutsideBlocks.{IsOutsideRollback}
 use Rattle.mupip_rollback.specs.declared.error.RollError.TheVariants as error
@@ -41,9 +42,9 @@ returns-clause-left g c =
     left_of (g.D.Disk.disk c.args.disk.now) (g.D.Disk.disk c.find.new.disk) c.in_ok-found.found c.in_ok-found.ensures.has c.in_ok-found.ensures.found c.args.to c.min-target.result t_is c.open_first.result c.open_first.ensures.broken
 
 pub returns-clause-without : goal.returns-clause-without
-returns-clause-without g c = λ region generation is.
+returns-clause-without g c = λ region first is.
     let t_is : c.min-target.result ≡ min c.args.to (length c.in_ok-found.found.entries.items) = (let a = c.min-target.ensures in let b = c.len.ensures in omega (arith, a, b)) in
-    told_without (g.D.Disk.disk c.args.disk.now) (g.D.Disk.disk c.find.new.disk) c.in_ok-found.found c.in_ok-found.ensures.has c.in_ok-found.ensures.found c.args.to c.min-target.result t_is (λ u t. IsFirstWithout u t region generation) (c.open_first.ensures.first region generation is)
+    told_without (g.D.Disk.disk c.args.disk.now) (g.D.Disk.disk c.find.new.disk) c.in_ok-found.found c.in_ok-found.ensures.has c.in_ok-found.ensures.found c.args.to c.min-target.result t_is (λ u t. (generation u.instance < 65534) × IsFirstWithout u t region first) (c.in_ok-found.ensures.has.low, c.open_first.ensures.first region first is)
 
 pub returns-clause-place : goal.returns-clause-place
 returns-clause-place g c = λ file offset is.
