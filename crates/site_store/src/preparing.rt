@@ -110,11 +110,7 @@ pub fn find_files<D: Disk>(alloc: Global, disk: &mut D) -> Result<FoundFiles, Si
 }
 
 /// A site that was found, on these regions.
-fn stand_on(
-    alloc: Global,
-    found: FoundFiles,
-    globals: Regions,
-) -> Result<StandingSite, NoMemory>
+fn stand_on(alloc: Global, found: FoundFiles, globals: Regions) -> Result<StandingSite, NoMemory>
     requires has { HasFound found }
     ensures found_as { IfOk result (IsFoundAs found) }
     ensures globals { IfOk result (λ k. k.globals ≡ globals) }

@@ -1,4 +1,4 @@
-use Rattle.std.proofs.Common.{◌≡◌, length, min, map, None, IfSome, ◌∙◌, ap, subst, arith}
+use Rattle.std.proofs.Common.{◌≡◌, length, min, map, IfSome, ◌∙◌, ap, subst, arith}
 use Rattle.journal_defs.specs.Instance.{regions}
 use Rattle.mupip_recover.specs.Site.{site_records}
 use Rattle.site_files.proofs.Writing.{if_ok}

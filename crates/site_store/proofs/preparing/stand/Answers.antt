@@ -1,8 +1,7 @@
-use Rattle.std.proofs.Common.{◌≡◌, ◌<◌, List, Vec, Global, ◌∷◌, [], ◌++◌, length, map, take, sym, ◌∙◌, ap, subst, arith, IfSome}
+use Rattle.std.proofs.Common.{◌≡◌, ◌<◌, List, Vec, Global, length, map, take, sym, ◌∙◌, ap, subst, IfSome}
 use Rattle.std.specs.List.{AllByRecursion}
 use Rattle.std.proofs.lemmas.Result.{err_from_is_err_and}
 use Rattle.disk_defs.specs.Disk.{Files}
-use Rattle.disk_defs.proofs.Told.{weaker_told, told_at}
 use Rattle.global_defs.specs.Entry.{state}
 use Rattle.gvn_model.specs.Entries.{entry_value}
 use Rattle.gvn_model.specs.declared.entry.Entry.{Entry}
@@ -12,13 +11,10 @@ use Rattle.journal_defs.specs.Sequence.{IsSequence}
 use Rattle.journal_defs.specs.Stands.{AreRecords}
 use Rattle.journal_defs.specs.Fit.{IsSoundImage}
 use Rattle.mupip_recover.specs.Site.{site_records}
-use Rattle.region_store.specs.Region.{IsHeld}
 use Rattle.site_defs.specs.OutsideBlocks.{HaveOutsideBlocks}
-use Rattle.site_files.specs.Loading.{next_cut}
 use Rattle.site_files.specs.Reading.{AreAllRead}
 use Rattle.site_regions.specs.Joined.{Joined, joined}
 use Rattle.site_store.specs.Standing.{IsOpenFor}
-use Rattle.site_store.specs.Finding.{HasLayout}
 use Rattle.site_store.proofs.Errors.{region_was}
 use Rattle.site_store.proofs.FormsRead.{are_formed}
 use Rattle.site_store.proofs.OnBlocks.{Held, on_blocks, are_held}

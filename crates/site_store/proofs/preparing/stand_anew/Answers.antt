@@ -1,9 +1,8 @@
-use Rattle.std.proofs.Common.{◌≡◌, ◌<◌, ℕ, true, List, Vec, Global, [], length, map, take, sym, ◌∙◌, ap, subst, IfSome}
+use Rattle.std.proofs.Common.{◌≡◌, ◌<◌, ℕ, true, List, Vec, Global, length, map, take, sym, ◌∙◌, ap, subst}
 use Rattle.std.specs.List.{AllByRecursion}
 use Rattle.std.proofs.Math.Seq.{take-length}
 use Rattle.std.proofs.lemmas.Result.{err_from_is_err_and}
-use Rattle.disk_defs.specs.Disk.{Files}
-use Rattle.global_defs.specs.Entry.{Sequence, state}
+use Rattle.global_defs.specs.Entry.{state}
 use Rattle.gvn_model.specs.Entries.{entry_value}
 use Rattle.gvn_model.specs.declared.entry.Entry.{Entry}
 use Rattle.jnl_record.specs.declared.placed.PlacedRecord.{PlacedRecord}
