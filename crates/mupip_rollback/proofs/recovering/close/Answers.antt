@@ -1,4 +1,4 @@
-use Rattle.std.proofs.Common.{length, true}
+use Rattle.std.proofs.Common.{true}
 use Rattle.site_defs.specs.Epochs.{marked}
 use Rattle.mupip_rollback.proofs.Closed.{stands_for}
 use Rattle.mupip_rollback.proofs.Errors.{epoch_was}
