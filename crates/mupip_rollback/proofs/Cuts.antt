@@ -64,7 +64,7 @@ module _ (rs : List InstanceRecord) (last : ℕ → ℕ) (journal : ℕ → List
   cut_off = with_record S0 (next_cut rs n)
 
   pub none_past : NonePast n cut_off
-  none_past = subst (λ (u : Records). NonePast n u) (sym (keeping.none_drawn S0 n last)) (keeping.none_past S0 n last before 0)
+  none_past = subst (λ (u : Records). NonePast n u) (sym (keeping.none_drawn false S0 n last)) (keeping.none_past false S0 n last before 0)
 
   pub none_broken : broken cut_off n ≡ []
   none_broken = broken_none cut_off n none_past
@@ -89,7 +89,7 @@ module _ (rs : List InstanceRecord) (last : ℕ → ℕ) (journal : ℕ → List
     site : IsSite mid (cut_with broken_there [] c)
     site = subst (λ (x : Contents). IsSite mid (cut_with broken_there [] x)) (sym own)
         (subst (IsSite mid) (starts_zero (cut_with broken_there [] (C rs last journal seq form sequence a)))
-        (site_drawn rs last journal seq form sequence a read sound n seq refl broken_there (draws_all rs last journal seq form sequence a broken_there read sound broken_is) mid 0 (cut last)))
+        (site_drawn rs last journal seq form sequence false a read sound n seq refl broken_there (draws_all rs last journal seq form sequence false a broken_there read sound broken_is) mid 0 (cut last)))
 
     left : HasLeft mid (cut_with broken_there [] c) NO_LEFTOVER
     left = subst (λ (x : Contents). HasLeft mid (cut_with broken_there [] x) NO_LEFTOVER) (sym own)

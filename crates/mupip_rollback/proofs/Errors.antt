@@ -1,5 +1,5 @@
 -- The error of a call below, handed on.
-use Rattle.std.proofs.Common.{◌≡◌, ℕ, Err, IsErrOf, ap}
+use Rattle.std.proofs.Common.{◌≡◌, ◌⊎◌, inl, inr, ℕ, Err, IsErrOf, ◌∙◌, ap}
 use Rattle.site_files.specs.declared.error.FilesError.{FilesError}
 use Rattle.site_files.specs.declared.error.FilesError.TheVariants as files
 use Rattle.site_store.specs.declared.error.SiteError.{SiteError}
@@ -29,6 +29,12 @@ site_file sites.ReignLimit file offset is = absurd (cc is)
 
 pub site_was : {T U : Type 0} (x : SiteError) (y : RollError) (file offset : ℕ) → y ≡ site_error x → IsErrOf {T = T} (Err y) (error.NotAFile file offset) → IsErrOf {T = U} (Err x) (sites.NotAFile file offset)
 site_was x y file offset same is = let there : y ≡ error.NotAFile file offset = cc is in ap Err (site_file x file offset (cc (same, there)))
+
+-- an epoch's error
+pub epoch_was : {T U : Type 0} (x : SiteError) (y : RollError) → y ≡ site_error x → ((fault : ℕ) × IsErrOf {T = T} (Err x) (sites.Failed fault)) ⊎ IsErrOf {T = T} (Err x) sites.NoMemory
+    → ((fault : ℕ) × IsErrOf {T = U} (Err y) (error.Failed fault)) ⊎ IsErrOf {T = U} (Err y) error.NoMemory
+epoch_was x y same (inl failed) = let is = failed.1 in let there : x ≡ sites.Failed failed.0 = cc is in inl (failed.0, ap Err (same ∙ ap site_error there))
+epoch_was x y same (inr is) = let there : x ≡ sites.NoMemory = cc is in inr (ap Err (same ∙ ap site_error there))
 
 files_file : (x : FilesError) (file offset : ℕ) → files_error x ≡ error.NotAFile file offset → x ≡ files.NotAFile file offset
 files_file (files.NotAFile f o) file offset is =

@@ -1,6 +1,6 @@
 -- A site with a MODE more.
 use Rattle.std.proofs.Common.{◌≡◌, inl, inr, ℕ, suc, ◌≤◌, ◌<◌, Bool, true, List, [], ◌∷◌, ◌++◌, length, map, max, Option, Some, None, refl, sym, ◌∙◌, ap, subst, arith, append-nil}
-use Rattle.std.specs.Prelude.{◌&&◌, ◌⊎◌, nat_lt, if◌then◌else◌}
+use Rattle.std.specs.Prelude.{◌&&◌, nat_lt, if◌then◌else◌}
 use Rattle.std.specs.List.{AllByRecursion, filter_map, flat_map, enumerate_from}
 use Rattle.std.proofs.Math.Path.{fun_ext}
 use Rattle.std.proofs.lemmas.Bool.Decides.{nat_tests}
@@ -9,7 +9,6 @@ use Rattle.std.proofs.lemmas.List.Folds.{list_all-append}
 use Rattle.disk_defs.specs.Disk.{Files}
 use Rattle.disk_defs.specs.Frames.{Only, SameOutside}
 use Rattle.disk_defs.specs.Gates.{records}
-use Rattle.global_defs.specs.Entry.{Sequence}
 use Rattle.instance_file.specs.Instance.{StandsWith}
 use Rattle.journal_defs.specs.Broken.{BrokenPart, part_past, parts_past, broken, broken_text}
 use Rattle.journal_defs.specs.Clean.{AreClean}
@@ -31,7 +30,7 @@ use Rattle.journal_laws.proofs.RecordSteps as steps
 use Rattle.journal_laws.proofs.Runs as runs
 use Rattle.block_laws.proofs.ModeSteps as modes
 use Rattle.site_defs.specs.Behind.{IsStanding}
-use Rattle.site_defs.specs.Contents.{Contents, Leftover, Standing, is_made}
+use Rattle.site_defs.specs.Contents.{Contents, Leftover, Standing}
 use Rattle.site_defs.specs.Opening.{with_mode}
 use Rattle.site_defs.specs.Stands.{IsSite, HasLeft, texts_of, losts_of, torn_of}
 use Rattle.site_store.proofs.Images.{AreOf, are_of, site_of, texts_same, losts_same, torn_same}

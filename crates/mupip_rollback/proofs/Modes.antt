@@ -1,6 +1,6 @@
 -- The mode of a region is set: the instance file is read, and a MODE is appended.
-use Rattle.std.proofs.Common.{◌≡◌, inl, inr, ℕ, ◌≤◌, ◌<◌, Bool, List, [], ◌∷◌, ◌++◌, length, Option, Some, None, IfSome, refl, sym, ap, subst, arith}
-use Rattle.disk_defs.specs.Disk.{Files, View, Image, From, IsLawful, IsDurable, AtEachMoment, ReadsAfter}
+use Rattle.std.proofs.Common.{◌≡◌, inl, inr, ℕ, ◌<◌, Bool, List, [], ◌∷◌, ◌++◌, length, Option, Some, None, IfSome, refl, sym, subst}
+use Rattle.disk_defs.specs.Disk.{Files, View, Image, IsLawful, IsDurable, AtEachMoment, ReadsAfter}
 use Rattle.disk_defs.specs.Frames.{Only, OnlyOn, SameOutside, OthersStay}
 use Rattle.disk_defs.proofs.Told.{weaker_told, both_weak, told_at}
 use Rattle.disk_defs.proofs.Moments.{started, weaker, then_more, holds_now}
@@ -13,8 +13,8 @@ use Rattle.site_defs.specs.Contents.{Contents, Leftover, Standing}
 use Rattle.site_defs.specs.Opening.{with_mode}
 use Rattle.site_defs.specs.Stands.{IsSite, HasLeft}
 use Rattle.site_store.proofs.Found.{instance_one, site_instance}
-use Rattle.mupip_rollback.specs.Setting.{with_mode_left, MayHaveMode, MayHaveModeLeft, MayBeSet, MayBeSetWith, IsSetIn, HasNoRegion}
-use Rattle.mupip_rollback.proofs.Moded.{site_still, left_still, site_more, left_more, standing_still, standing_more, standing_either, contents_either}
+use Rattle.mupip_rollback.specs.Setting.{MayHaveMode, MayHaveModeLeft, MayBeSet, MayBeSetWith, IsSetIn}
+use Rattle.mupip_rollback.proofs.Moded.{site_still, left_still, site_more, left_more, standing_more, standing_either, contents_either}
 use Rattle.mupip_rollback.proofs.Sites.{some_left}
 
 abbrev pub Moments : View → View → ℕ → Bool → Files → Type 0

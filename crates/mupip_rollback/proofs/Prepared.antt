@@ -1,5 +1,5 @@
 -- A standing site of which the first entries are kept.
-use Rattle.std.proofs.Common.{◌≡◌, ℕ, zero, suc, ◌+◌, ◌≤◌, ◌<◌, List, [], ◌∷◌, ◌++◌, length, map, take, min, IfSome, Result, Ok, Err, IfOk, OnOk, refl, sym, ◌∙◌, ap, subst, arith}
+use Rattle.std.proofs.Common.{◌≡◌, ℕ, zero, suc, ◌+◌, ◌≤◌, ◌<◌, false, List, [], ◌∷◌, ◌++◌, length, map, take, min, IfSome, Result, Ok, Err, IfOk, OnOk, refl, sym, ◌∙◌, ap, subst, arith}
 use Rattle.std.specs.List.{enumerate_from}
 use Rattle.std.proofs.lemmas.List.{length-take-le}
 use Rattle.disk_defs.specs.Disk.{Files, View, Image, IsLawful, Reads, AtEachMoment}
@@ -105,7 +105,7 @@ prepared v w f t k p lawful reads has most stays regions_open log count broken l
       most = omega (arith, size, most);
       entries = ap (map numbered) items ∙ first_numbered f.entries.items (found_entries f) t has.are_numbered ∙ ap (λ (n : ℕ). enumerate_from 1 (take n (found_entries f))) (sym size);
       layout = λ n m. one_more_cut rs n m k.layout p.kept.layout has.form.some_region kept.name kept.regions kept.directory kept.generation (stays.layout n);
-      regions_open = subst (λ (n : ℕ). IsOpenFor w w f n p.kept.globals) (sym size) (subst (λ (j : Joined). IsOpenFor w w f t j) (sym kept.globals) (open_moved w v w f t k.globals (sym reads.content) regions_open));
+      regions_open = subst (λ (n : ℕ). IsOpenFor w w f n p.kept.globals) (sym size) (subst (λ (j : Joined). IsOpenFor w w f t j) (sym kept.globals) (open_moved false w v w f t k.globals (sym reads.content) regions_open));
       lost = lost ∙ ap (λ (n : ℕ). extract (site_name rs) (found_entries f) (n + 1)) (sym size);
       ahead = told_at w.content v.content (λ _. (d : Files) → Image w d → AreUnbegun (suc (suc (generation rs))) (length (regions rs)) d) (sym reads.content)
           (weaker_told v.content (λ _. (d : Files) → Image v d → AreUnbegun (suc (suc (generation rs))) (length (regions rs)) d) (λ _. (d : Files) → Image w d → AreUnbegun (suc (suc (generation rs))) (length (regions rs)) d) ahead

@@ -1,4 +1,4 @@
-use Rattle.std.proofs.Common.{◌≡◌, ◌⊎◌, ◌<◌, inl, ◌++◌, ◌∷◌, [], List, length, IfSome, sym, subst}
+use Rattle.std.proofs.Common.{◌⊎◌, ◌<◌, inl, ◌++◌, ◌∷◌, [], List, length, IfSome, sym, subst}
 use Rattle.std.proofs.lemmas.Result.{IfOk-weaker}
 use Rattle.disk_defs.specs.Disk.{Files, Image}
 use Rattle.disk_defs.proofs.Told.{weaker_told}
