@@ -67,7 +67,10 @@ fn sets_after(rt: &impl Abort, alloc: Global, calls: u64, pick: u64) -> bool {
     let done = set_first(alloc, &mut disk, false).is_ok();
     disk.crash(pick);
     load(alloc, &mut disk).expect(rt, "a site");
-    assert!(rt; !done || has(rt, &mut disk, 32, WITHOUT), "pick {pick}, calls {calls}");
+    assert!(rt;
+        !done || has(rt, &mut disk, 32, WITHOUT),
+        "pick {pick}, calls {calls}"
+    );
     done
 }
 
@@ -79,7 +82,10 @@ fn recovers_after(rt: &impl Abort, alloc: Global, calls: u64, pick: u64) -> bool
     disk.fuse(calls);
     let done = recover_forward(alloc, &mut disk).is_ok();
     disk.crash(pick);
-    assert!(rt; !done || load(alloc, &mut disk).is_ok(), "pick {pick}, calls {calls}");
+    assert!(rt;
+        !done || load(alloc, &mut disk).is_ok(),
+        "pick {pick}, calls {calls}"
+    );
     assert_eq!(rt; recover_forward(alloc, &mut disk), Ok(2));
     done
 }
