@@ -291,7 +291,7 @@ impl<D: Disk> Site<D> {
         ensures later { (D.disk self.old.disk).faults ≤ (D.disk self.new.disk).faults }
         ensures count { (fault : ℕ) → IsErrOf result (SiteError.Failed fault) → fault ≡ (D.disk self.new.disk).faults }
         ensures cause { (fault : ℕ) → IsErrOf result (SiteError.Failed fault) → Rose (D.disk self.old.disk).faults (D.disk self.new.disk).faults }
-        ensures no_other { IsErrOf result SiteError.GenLimit ⊎ IsErrOf result SiteError.ReignLimit ⊎ ((file : ℕ) × (offset : ℕ) × IsErrOf result (SiteError.NotAFile file offset)) → ⊥ }
+        ensures no_other { IsErrOf result SiteError.GenLimit ⊎ IsErrOf result SiteError.ReignLimit ⊎ ((region : ℕ) × IsErrOf result (SiteError.NeedForward region)) ⊎ ((file : ℕ) × (offset : ℕ) × IsErrOf result (SiteError.NotAFile file offset)) → ⊥ }
         ensures stops { (fault : ℕ) → IsErrOf result (SiteError.Failed fault) → HasStopped fault self.new }
         ensures stopped { (fault : ℕ) → HasStopped fault self.old → IsErrOf result (SiteError.Stopped fault) }
         ensures stays { (fault : ℕ) → HasStopped fault self.old → self.new ≡ self.old }
