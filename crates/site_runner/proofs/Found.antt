@@ -68,7 +68,7 @@ other_found (Some f) found name e h = λ c site of. (let l = (h c (inr site)).1 
 pub another_there : (w : View) (found : FoundSite) (name : Name) → same_name found.layout.name name ≡ false → IsFoundIn w found → IfSome w.content (IsOfAnother name 0 0)
 another_there w found name e told = if_some w.content _ (IsOfAnother name 0 0) (λ f is. (refl, refl, (found.log.records, is, λ same. false≢true (sym e ∙ ap (λ (n : Name). same_name n name) (told.layout.name ∙ same) ∙ same_self name)))) told.told
 
-layout_at : (w : View) (s : Site) (p : Place) (found : Layout) → FoundIn w.content (Some found) → IsSeenAt w s p → p.told ≡ true → HasLayout p.now.instance found
+pub layout_at : (w : View) (s : Site) (p : Place) (found : Layout) → FoundIn w.content (Some found) → IsSeenAt w s p → p.told ≡ true → HasLayout p.now.instance found
 layout_at w s p found f h sure = let here = some_both w.content _ _ (h.reads sure) f in (here.2 p.now (reads_stand here.0 p.now p.left here.1)).1
 
 -- the regions that the directory counts are all of them

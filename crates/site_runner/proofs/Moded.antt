@@ -35,7 +35,7 @@ use Rattle.world_defs.specs.rows.SetJournal.{unset_by, unset, SetBy, SetRefusedB
 use Rattle.site_runner.specs.declared.slot.State.{State}
 use Rattle.site_runner.specs.declared.slot.State.TheVariants.{Down, Failed}
 use Rattle.site_runner.specs.declared.slot.Site.{Site}
-use Rattle.site_runner.specs.Sites.{state_value, site_value, HoldsState, IsOf}
+use Rattle.site_runner.specs.Sites.{state_value, site_value, HoldsState, IsOf, IsMade}
 use Rattle.site_runner.specs.Executes.{Comes}
 use Rattle.site_runner.specs.Mapping.{IsSeenAt}
 use Rattle.site_runner.specs.Refusing.{IsDownAt}
@@ -450,5 +450,5 @@ there_done leftovers region number mode v w s before now m named reads images by
 ]
 
 -- the line, under the names that were given
-pub moded : {name n region r before now : List ℕ} (mode : Bool) → n ≡ name → r ≡ region → now ≡ before ++ line n (codes "JOURNAL " ++ r ++ 32 ∷ mode_word mode) → now ≡ before ++ line name (codes "JOURNAL " ++ region ++ 32 ∷ mode_word mode)
-moded {name} {n} {region} {r} {before} mode e f t = t ∙ ap (λ (x : List ℕ). before ++ line x (codes "JOURNAL " ++ r ++ 32 ∷ mode_word mode)) e ∙ ap (λ (x : List ℕ). before ++ line name (codes "JOURNAL " ++ x ++ 32 ∷ mode_word mode)) f
+pub moded : {name n region r now : List ℕ} (before : List ℕ) (mode : Bool) → n ≡ name → r ≡ region → now ≡ before ++ line n (codes "JOURNAL " ++ r ++ 32 ∷ mode_word mode) → now ≡ before ++ line name (codes "JOURNAL " ++ region ++ 32 ∷ mode_word mode)
+moded {name} {n} {region} {r} before mode e f t = t ∙ ap (λ (x : List ℕ). before ++ line x (codes "JOURNAL " ++ r ++ 32 ∷ mode_word mode)) e ∙ ap (λ (x : List ℕ). before ++ line name (codes "JOURNAL " ++ x ++ 32 ∷ mode_word mode)) f

@@ -51,6 +51,7 @@ fn roll_down<D: Disk>(
         Err(RollError::NotAFile { file, offset }) => {
             damaged(text, site.name.as_slice(), file, offset)
         }
+        Err(RollError::NeedForward { .. }) => unreachable!(),
         Err(RollError::NoMemory) => Err(NoMemory),
     }
 }

@@ -2,6 +2,7 @@ use Rattle.std.proofs.Common.{Bool, Option, IfSome, ◌∙◌, ap, subst, sym, E
 use Rattle.disk_defs.specs.Disk.{Files}
 use Rattle.world_defs.specs.rows.Recover as rows
 use Rattle.site_runner.specs.declared.slot.Site.{Site}
+use Rattle.site_store.specs.Needing.{HaveFirstWithout}
 use Rattle.site_runner.specs.declared.refusing.Needing.TheVariants.{Opening}
 use Rattle.site_runner.specs.Refusing.{ToRecover, NeedsForward}
 use Rattle.site_runner.specs.Steps.{ExecutesAt, IsCutAt}
@@ -45,7 +46,7 @@ returns-in-Err-NeedForward-clause-done g c =
     let w = g.D.Disk.disk c.recover_on.new.disk in
     on_done c.refuse_region.result _ _
     (c.refuse_region.ensures.done ToRecover tt
-    (if_some w.content _ (NeedsForward ToRecover Opening c.in-Err-NeedForward.region) (λ f k. (k.0, k.1, k.2, k.3, k.4, k.5, k.6, tt)) (subst (λ (o : Option Files). IfSome o _) (sym kept.0) (e.needs c.in-Err-NeedForward.region is))))
+    (if_some w.content (λ files. HaveFirstWithout files c.in-Err-NeedForward.region) (NeedsForward ToRecover Opening c.in-Err-NeedForward.region) (λ f k. (k.0, k.1, k.2, k.3, k.4, k.5, k.6, tt)) (subst (λ (o : Option Files). IfSome o (λ files. HaveFirstWithout files c.in-Err-NeedForward.region)) (sym kept.0) (e.needs c.in-Err-NeedForward.region is))))
     (λ done r.
     subst (λ (b : Bool). ExecutesAt (rows.recover b s.name) (g.D.Disk.disk c.args.disk.now) s (g.D.Disk.disk c.refuse_region.new.disk) c.refuse_region.new.site c.args.text.now c.refuse_region.new.text done) (sym (e.backward c.in-Err-NeedForward.region is))
     (refuses_so ToRecover (g.D.Disk.disk c.args.disk.now) w (g.D.Disk.disk c.refuse_region.new.disk) s c.refuse_region.new.site c.args.text.now c.refuse_region.new.text done (g.met.D.Disk.lawful c.recover_on.new.disk) c.requires kept.0 kept.1 e.simulated e.later r))

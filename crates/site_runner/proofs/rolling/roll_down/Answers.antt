@@ -1,5 +1,10 @@
-use Rattle.std.proofs.Common.{Bool, Option, IfSome, refl, ◌∙◌, ap, subst, sym, Err}
+use Rattle.std.proofs.Common.{ℕ, ◌-◌, ◌<◌, min, length, Bool, Option, IfSome, refl, ◌∙◌, ap, subst, sym, Err}
 use Rattle.disk_defs.specs.Disk.{Files}
+use Rattle.global_defs.specs.Entry.{Sequence}
+use Rattle.journal_defs.specs.Instance.{generation}
+use Rattle.journal_defs.specs.Sequence.{Records, IsSequence}
+use Rattle.journal_defs.specs.Stands.{AreRecords}
+use Rattle.site_store.specs.Needing.{IsFirstWithout}
 use Rattle.site_runner.specs.Refusing.{ToRollBack, NeedsForward}
 use Rattle.site_runner.specs.declared.refusing.Needing.TheVariants.{Rollback}
 use Rattle.world_defs.specs.rows.Rollback as rows
@@ -75,8 +80,8 @@ returns-in-Err-NoBeforeImage-clause-done g c =
     let w = g.D.Disk.disk c.rollback.new.disk in
     on_done c.refuse_region.result _ _
     (c.refuse_region.ensures.done (ToRollBack number) tt
-    (if_some w.content _ (NeedsForward (ToRollBack number) (Rollback c.in-Err-NoBeforeImage.generation) c.in-Err-NoBeforeImage.region) (λ f k. (k.0, k.1, k.2, k.3, k.4, c.in-Err-NoBeforeImage.generation, k.5, refl))
-    (subst (λ (o : Option Files). IfSome o _) (sym kept.0) (e.without c.in-Err-NoBeforeImage.region c.in-Err-NoBeforeImage.generation is))))
+    (if_some w.content (λ files. (u : Records) × (seq : Sequence) × AreRecords files u × IsSequence u seq × (generation u.instance < 65534) × IsFirstWithout u (min (number - 1) (length seq)) c.in-Err-NoBeforeImage.region c.in-Err-NoBeforeImage.generation) (NeedsForward (ToRollBack number) (Rollback c.in-Err-NoBeforeImage.generation) c.in-Err-NoBeforeImage.region) (λ f k. (k.0, k.1, k.2, k.3, k.4, c.in-Err-NoBeforeImage.generation, k.5, refl))
+    (subst (λ (o : Option Files). IfSome o (λ files. (u : Records) × (seq : Sequence) × AreRecords files u × IsSequence u seq × (generation u.instance < 65534) × IsFirstWithout u (min (number - 1) (length seq)) c.in-Err-NoBeforeImage.region c.in-Err-NoBeforeImage.generation)) (sym kept.0) (e.without c.in-Err-NoBeforeImage.region c.in-Err-NoBeforeImage.generation is))))
     (λ done r.
     refuses_so (ToRollBack number) (g.D.Disk.disk c.args.disk.now) w (g.D.Disk.disk c.refuse_region.new.disk) c.args.site.now c.refuse_region.new.site c.args.text.now c.refuse_region.new.text done (g.met.D.Disk.lawful c.rollback.new.disk) c.requires.down kept.0 kept.1 e.simulated e.later r)
 

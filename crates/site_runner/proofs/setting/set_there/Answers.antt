@@ -13,7 +13,7 @@ returns-in_ok-write_mode-in-Ok-clause-done g c =
     let e = c.in-Ok.ensures in
     there_done c.leftovers_hold.ensures c.args.region.now c.args.number c.args.before (g.D.Disk.disk c.args.disk.now) (g.D.Disk.disk c.set_mode_logged.new.disk) c.args.site.now c.args.text.now _
     (record { lawful = g.met.D.Disk.lawful c.set_mode_logged.new.disk; there = c.requires.there; any_moment = e.any_moment; left = e.left; still_told = e.still_told; simulated = e.simulated; later = e.later })
-    c.requires.named e.reads e.images (if_some (g.D.Disk.disk c.args.disk.now).content _ (SetBy c.args.region.now c.args.site.now.name) (λ f i. (c.args.log.records, i, (c.requires.called, c.requires.unset))) c.requires.told) (moded c.args.before c.as_slice.ensures c.as_slice-2.ensures c.in_ok-write_mode-in-Ok.ensures)
+    c.requires.named e.reads e.images (if_some (g.D.Disk.disk c.args.disk.now).content _ (SetBy c.args.region.now c.args.site.now.name) (λ f i. (c.args.log.records, i, (c.requires.called, c.requires.unset))) c.requires.told) (moded c.args.text.now c.args.before c.as_slice.ensures c.as_slice-in-Ok.ensures c.in_ok-write_mode-in-Ok.ensures)
 
 pub returns-in_err-write_mode-in-Ok-clause-cut_off : goal.returns-in_err-write_mode-in-Ok-clause-cut_off
 returns-in_err-write_mode-in-Ok-clause-cut_off g c =

@@ -7,6 +7,7 @@ use Rattle.site_runner.proofs.Results.{on_err_of, err_holds}
 use Rattle.site_runner.proofs.Written.{named, not_a_file}
 use Rattle.site_store.proofs.Refused.{limit_site, drawn_site}
 use Rattle.disk_defs.specs.Disk.{Files}
+use Rattle.site_store.specs.Needing.{HaveFirstWithout}
 use Rattle.site_runner.specs.declared.refusing.Needing.TheVariants.{Opening}
 use Rattle.site_runner.specs.Refusing.{ToStart, NeedsForward}
 use Rattle.site_runner.proofs.Refused.{refuses_so, cut_down_so}
@@ -60,7 +61,7 @@ returns-in-Err-NeedForward-clause-done g c =
     let w = g.D.Disk.disk c.load.new.disk in
     on_done c.refuse_region.result _ _
     (c.refuse_region.ensures.done ToStart tt
-    (if_some w.content _ (NeedsForward ToStart Opening c.in-Err-NeedForward.region) (λ f k. (k.0, k.1, k.2, k.3, k.4, k.5, k.6, tt)) (subst (λ (o : Option Files). IfSome o _) (sym kept.0) (e.needs c.in-Err-NeedForward.region is))))
+    (if_some w.content (λ files. HaveFirstWithout files c.in-Err-NeedForward.region) (NeedsForward ToStart Opening c.in-Err-NeedForward.region) (λ f k. (k.0, k.1, k.2, k.3, k.4, k.5, k.6, tt)) (subst (λ (o : Option Files). IfSome o (λ files. HaveFirstWithout files c.in-Err-NeedForward.region)) (sym kept.0) (e.needs c.in-Err-NeedForward.region is))))
     (λ done r.
     refuses_so ToStart (g.D.Disk.disk c.args.disk.now) w (g.D.Disk.disk c.refuse_region.new.disk) c.args.site.now c.refuse_region.new.site c.args.text.now c.refuse_region.new.text done (g.met.D.Disk.lawful c.load.new.disk) c.requires kept.0 kept.1 e.simulated e.later r)
 
