@@ -278,12 +278,14 @@ fn behind_a_fault(
     String::from_utf8(out).expect(rt, "text")
 }
 
-/// Fails each disk call of the command in turn, up to the first run without a fault: each run ends with this text.
+/// Fails each disk call of the command in turn, up to the first run in which it's done, where it prints that: each run before ends with this
+/// text.
 fn each_call_fails(
     rt: &impl Abort,
     alloc: Global,
     begun: &str,
     command: &str,
+    done: &str,
     again: &str,
     last: &str,
     pick: u32,
@@ -291,11 +293,11 @@ fn each_call_fails(
     for calls in 0..1000 {
         let out = behind_a_fault(rt, alloc, begun, command, again, calls, pick);
         let text = out.as_str();
-        assert!(rt; text.ends_with(last), "at {calls}: {text}");
-        if !text.contains("DISKFAULT") {
+        if text.contains(done) {
             assert!(rt; 3 < calls);
             return;
         }
+        assert!(rt; text.ends_with(last), "at {calls}: {text}");
     }
     assert!(rt; false, "each run has a fault");
 }
@@ -322,6 +324,7 @@ fn a_forward_recovery_that_fails_at_each_call(rt: HostRuntime) {
             rt.alloc(),
             NEEDS_FORWARD,
             "RECOVER A FORWARD",
+            "A RECOVERED 2\nA NOTRUNNING\n",
             again,
             "^X=\"2\"\n",
             pick,
@@ -349,6 +352,7 @@ fn a_mode_that_fails_at_each_call(rt: HostRuntime) {
             rt.alloc(),
             STOPPED,
             "SET JOURNAL A R NOBEFORE",
+            "A JOURNAL R NOBEFORE\nA NOTRUNNING\n",
             again,
             "A PRIMARY 2 FROM 3\n^X=\"2\"\n",
             pick,
