@@ -2,6 +2,4 @@
 #![tactic(auto)]
 
 #[cfg(test)]
-mod modes;
-#[cfg(test)]
 mod sites;
