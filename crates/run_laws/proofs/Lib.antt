@@ -4,4 +4,5 @@ pub mod Stays
 pub mod Written
 pub mod Cut
 pub mod Marked
+pub mod Needed
 pub mod Lost

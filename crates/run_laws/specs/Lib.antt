@@ -1,3 +1,4 @@
 pub mod Leftovers
 pub mod Epochs
 pub mod Lost
+pub mod Needs

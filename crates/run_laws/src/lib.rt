@@ -8,4 +8,5 @@ pub mod entries;
 pub mod epochs;
 pub mod faults;
 pub mod leftovers;
+pub mod needs;
 pub mod rollbacks;

@@ -403,14 +403,14 @@ place_of_images leftovers w p site outcomes standings law same told images stand
         left = left.0;
         among = λ _. o.1;
         behind = λ _. leftovers.behind r.0 o.0 left.0 left.1;
-        matches = record { told = λ _. subst (λ (x : Option Files). IsSomeAnd x (λ files. Reads files o.0 left.0)) (sym r.1) left.1; images = images_so; standings = stand_so; shown = as_told w.content; faults = refl; simulated = same };
+        matches = record { told = λ _. subst (λ (x : Option Files). IsSomeAnd x (λ files. Reads files o.0 left.0)) (sym r.1) left.1; images = images_so; standings = stand_so; shown = as_told w.content; known = λ _. refl; faults = refl; simulated = same };
       }
   | inr not ↦ record {
     now = p.now;
     left = p.left;
     among = λ sure. absurd (false≢true (sym not ∙ sure));
     behind = λ sure. absurd (false≢true (sym not ∙ sure));
-    matches = record { told = λ sure. absurd (false≢true (sym not ∙ sure)); images = images_so; standings = stand_so; shown = as_told w.content; faults = refl; simulated = same };
+    matches = record { told = λ sure. absurd (false≢true (sym not ∙ sure)); images = images_so; standings = stand_so; shown = as_told w.content; known = λ _. refl; faults = refl; simulated = same };
   }
 ]
   where
@@ -428,6 +428,7 @@ place_of_one w p site o same reads images = record {
   images = λ sure c i. (o, inl refl, stands_by (has_failed_on site) c o (so_stands c (bare o) (images sure c i)));
   standings = λ sure c i. (bare o, inl refl, stands_so_by (has_failed_on site) c (bare o) (images sure c i));
   shown = as_told w.content;
+  known = λ _. refl;
   faults = refl;
   simulated = same;
 }

@@ -163,7 +163,7 @@ attached view w p q found s before now f e gone at_q t =
     })
     (any_shown p.shown)
     (record {
-      disk = record { told = at_q.disk.told; images = images_of (view s.disk) q (up_free q gone) at_q.disk; standings = standings_of (view s.disk) q (up_free q gone) at_q.disk; shown = at_q.disk.shown; faults = at_q.disk.faults; simulated = at_q.disk.simulated };
+      disk = record { told = at_q.disk.told; images = images_of (view s.disk) q (up_free q gone) at_q.disk; standings = standings_of (view s.disk) q (up_free q gone) at_q.disk; shown = at_q.disk.shown; known = at_q.disk.known; faults = at_q.disk.faults; simulated = at_q.disk.simulated };
       site = refl;
       held = record { made = λ known. record { now = subst (IsOf name) (sym f.kept.now) (found_of found p.now (f.now (told known))); outcomes = λ o a. found_of found o (f.outcomes (told known) o a) }; state = tt };
     })

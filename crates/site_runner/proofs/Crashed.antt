@@ -105,6 +105,7 @@ crashes leftovers one_only v w s before now law sim up image durable same count 
         images = λ yes c j. (o, inl refl, stands_by (has_failed_on q.site) c o (subst (λ (x : Files). Stands x o) (sym (u c j)) (reads_stand f o m.left (m.reads yes))));
         standings = λ yes c j. (stands_so, inl refl, stands_so_by (has_failed_on q.site) c stands_so (subst (λ (x : Files). StandsSo x stands_so) (sym (u c j)) (so_of f o m.left (m.reads yes))));
         shown = as_told w.content;
+        known = λ _. refl;
         faults = count ∙ h.disk.faults;
         simulated = same ∙ h.disk.simulated;
       };
@@ -135,6 +136,7 @@ fused v w s calls before now r count sim up t p h =
             h.disk.images yes c (subst (Image v) (sym k.2) k.1);
         standings = λ yes. still_by (has_failed_on p.site) v w p.standings (λ c j. let k = r.passes.images c j in subst (Image v) (sym k.2) k.1) (h.disk.standings yes);
         shown = shown_same p.shown v.content w.content r.content h.disk.shown;
+        known = λ sure. h.disk.known sure ∙ sym r.content;
         faults = count ∙ h.disk.faults;
         simulated = r.passes.simulated ∙ h.disk.simulated;
       };

@@ -1,22 +1,23 @@
 -- Runs that go on, and how they end.
 use Rattle.std.proofs.Common.{◌≡◌, ℕ, ◌+◌, List, [], ◌∷◌, ◌++◌, take, refl, sym, ◌∙◌, ap, subst, append_assoc, inl, inr}
-use Rattle.std.specs.Prelude.{Option}
+use Rattle.std.specs.Prelude.{Option, IsSomeAnd}
 use Rattle.std.specs.List.{AllByRecursion}
 use Rattle.std.specs.Io.KnownBytes.{Appends}
 use Rattle.std.proofs.KnownBytes.{Appends-nil}
 use Rattle.std.proofs.lemmas.List.{map-append, append-nil}
-use Rattle.disk_defs.specs.Disk.{View}
+use Rattle.disk_defs.specs.Disk.{Files, View}
 use Rattle.command_defs.specs.Commands.{Command, IsFormed}
 use Rattle.command_defs.specs.Script.{Position, Outside, Ends, line_reading}
 use Rattle.repl_script.specs.Feeds.{Moves, Progress, TellsBad}
 use Rattle.repl_script.specs.declared.error.ScriptError.{ScriptError}
 use Rattle.repl_script.specs.declared.error.ScriptError.TheVariants as errors
 use Rattle.site_defs.specs.Lists.{Along}
+use Rattle.site_defs.specs.Stands.{Reads}
 use Rattle.world_defs.specs.World.{Place, World}
 use Rattle.world_defs.specs.Answers.{Answer}
 use Rattle.world_defs.specs.Step.{Step}
 use Rattle.world_defs.specs.Runs.{Told, Runs, commands}
-use Rattle.world_defs.specs.Ties.{Matches}
+use Rattle.world_defs.specs.Ties.{Matches, IsShown, AreShown}
 use Rattle.world_laws.proofs.Lists.{all-push}
 use Rattle.site_runner.specs.declared.slot.Slot.{Slot}
 use Rattle.site_runner.specs.declared.status.Status.{Status}
@@ -36,6 +37,17 @@ matched_along view (x ∷ xs) (p ∷ ps) h = (h.0.disk, matched_along view xs ps
 pub matched : {D : Type 0} (view : D → View) (slots : List (Slot D)) (w : World) → Tied view slots w → Matched view slots w
 matched view slots w h = matched_along view slots w.places h
 
+-- What the known files of tied places read as is shown.
+
+shown_along : {D : Type 0} (view : D → View) (slots : List (Slot D)) (ps : List Place) → Along (λ i slot p. IsPlace view slot p) slots ps → AllByRecursion IsShown ps
+shown_along view [] [] h = tt
+shown_along view [] (p ∷ ps) h = absurd h
+shown_along view (x ∷ xs) [] h = tt
+shown_along view (x ∷ xs) (p ∷ ps) h = (λ sure. subst (λ (o : Option Files). IsSomeAnd o (λ files. Reads files p.now p.left)) (sym (h.0.disk.known sure)) (h.0.disk.told sure), shown_along view xs ps h.1)
+
+shown_tied : {D : Type 0} (view : D → View) (slots : List (Slot D)) (w : World) → Tied view slots w → AreShown w
+shown_tied view slots w h = shown_along view slots w.places h
+
 -- before the first line
 pub begins : {D : Type 0} (view : D → View) (w : World) (slots : List (Slot D)) (p : Position) (out : Option (List ℕ)) → p ≡ Outside → Tied view slots w → Going view w slots [] p out out
 begins view w slots p out e h = record { told = []; mid = w; output = []; runs = (refl, refl); spelled = nothing p e; formed = tt; tied = h; written = Appends-nil out }
@@ -43,17 +55,17 @@ begins view w slots p out e h = record { told = []; mid = w; output = []; runs =
     nothing : (p : Position) → p ≡ Outside → ComeTo [] [] p
     nothing p e = subst (λ (x : Position). ComeTo [] [] x) (sym e) refl
 
-first_run : (w m : World) (c : Command) (answers : List Answer) (t : List ℕ) → Step w c answers m t → Runs w (record { command = c; answers = answers } ∷ []) m t
-first_run w m c answers t s = (m, t, [], s, (refl, refl), sym (append-nil t))
+first_run : (w m : World) (c : Command) (answers : List Answer) (t : List ℕ) → Step w c answers m t → AreShown m → Runs w (record { command = c; answers = answers } ∷ []) m t
+first_run w m c answers t s shown = (m, t, [], s, (refl, refl), sym (append-nil t), shown)
 
 -- one more command
-runs_more : (w : World) (told : List Told) (mid m : World) (output : List ℕ) (c : Command) (answers : List Answer) (t : List ℕ) → Runs w told mid output → Step mid c answers m t
+runs_more : (w : World) (told : List Told) (mid m : World) (output : List ℕ) (c : Command) (answers : List Answer) (t : List ℕ) → Runs w told mid output → Step mid c answers m t → AreShown m
     → Runs w (told ++ record { command = c; answers = answers } ∷ []) m (output ++ t)
-runs_more w [] mid m output c answers t h s =
+runs_more w [] mid m output c answers t h s shown =
     subst (λ (o : List ℕ). Runs w (record { command = c; answers = answers } ∷ []) m (o ++ t)) (sym h.1)
-    (first_run w m c answers t (subst (λ (x : World). Step x c answers m t) h.0 s))
-runs_more w (x ∷ told) mid m output c answers t h s =
-    (h.0, h.1, h.2 ++ t, h.3, runs_more h.0 told mid m h.2 c answers t h.4 s, ap (λ y. y ++ t) h.5 ∙ append_assoc h.1 h.2 t)
+    (first_run w m c answers t (subst (λ (x : World). Step x c answers m t) h.0 s) shown)
+runs_more w (x ∷ told) mid m output c answers t h s shown =
+    (h.0, h.1, h.2 ++ t, h.3, runs_more h.0 told mid m h.2 c answers t h.4 s shown, ap (λ y. y ++ t) h.5 ∙ append_assoc h.1 h.2 t, h.6)
 
 commands_more : (told : List Told) (c : Command) (a : List Answer) → commands told ++ c ∷ [] ≡ commands (told ++ record { command = c; answers = a } ∷ [])
 commands_more told c a = sym (map-append (λ (t : Told). t.command) told (record { command = c; answers = a } ∷ []))
@@ -91,7 +103,7 @@ carried view p q old new line c mid now e f o d = (
     told = g.told ++ record { command = c; answers = x.0 } ∷ [];
     mid = x.1;
     output = g.output ++ x.2;
-    runs = runs_more start g.told g.mid x.1 g.output c x.0 x.2 g.runs x.3;
+    runs = runs_more start g.told g.mid x.1 g.output c x.0 x.2 g.runs x.3 (shown_tied view new x.1 x.4);
     spelled = told_more taken line g.told p q c x.0 e o g.spelled;
     formed = formed_more g.told c x.0 g.formed f;
     tied = x.4;
@@ -136,7 +148,7 @@ broken view SinkFault number p old new line c before now rose e f b = (
           told = g.told ++ record { command = c; answers = x.0 } ∷ [];
           output = g.output ++ x.2;
           position = Outside;
-          runs = runs_more start g.told g.mid x.1 g.output c x.0 x.2 g.runs x.3;
+          runs = runs_more start g.told g.mid x.1 g.output c x.0 x.2 g.runs x.3 (shown_tied view new x.1 x.4);
           spelled = told_more taken line g.told p Outside c x.0 e refl g.spelled;
           formed = formed_more g.told c x.0 g.formed f;
           writes = record {

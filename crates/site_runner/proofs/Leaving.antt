@@ -95,14 +95,14 @@ left_place leftovers step so ends ends_so w p site failed law may = elim (is_tru
         left = left.0;
         after = λ _. o.1;
         behind = λ _. leftovers.behind r.0 o.0 left.0 left.1;
-        matches = record { told = λ _. subst (λ (x : Option Files). IsSomeAnd x (λ files. Reads files o.0 left.0)) (sym r.1) left.1; images = images; standings = standings; shown = as_told w.content; faults = refl; simulated = may.simulated };
+        matches = record { told = λ _. subst (λ (x : Option Files). IsSomeAnd x (λ files. Reads files o.0 left.0)) (sym r.1) left.1; images = images; standings = standings; shown = as_told w.content; known = λ _. refl; faults = refl; simulated = may.simulated };
       }
   | inr not ↦ record {
     now = p.now;
     left = p.left;
     after = λ sure. absurd (false≢true (sym not ∙ sure));
     behind = λ sure. absurd (false≢true (sym not ∙ sure));
-    matches = record { told = λ sure. absurd (false≢true (sym not ∙ sure)); images = images; standings = standings; shown = as_told w.content; faults = refl; simulated = may.simulated };
+    matches = record { told = λ sure. absurd (false≢true (sym not ∙ sure)); images = images; standings = standings; shown = as_told w.content; known = λ _. refl; faults = refl; simulated = may.simulated };
   }
 ]
   where
@@ -241,6 +241,7 @@ down_at v s p down h = record {
   images = λ sure. images_of v p (up_down s p down h.site) h.disk sure;
   standings = λ sure. standings_of v p (up_down s p down h.site) h.disk sure;
   shown = h.disk.shown;
+  known = h.disk.known;
   faults = omega (arith, h.disk.faults);
   simulated = h.disk.simulated;
 }
@@ -255,6 +256,7 @@ still_down v w s p law content untouched same later h = record {
   images = λ sure f i. h.images sure f (at_moment v w (Image v) f law untouched i);
   standings = λ sure. images_still v w p.standings (λ f i. at_moment v w (Image v) f law untouched i) (h.standings sure);
   shown = shown_same p.shown v.content w.content content h.shown;
+  known = λ sure. h.known sure ∙ sym content;
   faults = omega (arith, h.faults, later);
   simulated = same ∙ h.simulated;
 }
@@ -266,6 +268,7 @@ down_counted w s p h = record {
     images = λ sure f i. let o = h.images sure f i in (o.0, o.1, stands_by (has_failed_on p.site) f o.0 o.2);
     standings = λ sure. stand_by (has_failed_on p.site) w p.standings (h.standings sure);
     shown = h.shown;
+    known = h.known;
     faults = refl;
     simulated = h.simulated;
   };

@@ -126,6 +126,7 @@ saw view old disk found k free is same alike holds p h =
               (o.0, kept_among (fits found) p.outcomes o.0 o.1 (fits_alike found p.now o.0 (b.2 p.now o.0 c b.1 i o.2) ∙ now known), stands_by (has_failed_on p.site) c o.0 o.2);
           standings = λ known. stand_by (has_failed_on p.site) w p.standings (look_standings v w p (site_none view old p free h) k h.disk known);
           shown = shown_same p.shown v.content w.content same h.disk.shown;
+          known = λ sure. h.disk.known sure ∙ sym same;
           faults = refl;
           simulated = k.simulated ∙ h.disk.simulated;
         };
@@ -196,6 +197,7 @@ saw_nothing leftovers view old disk (NotAFile file offset) k free same u p h =
           images = λ known. absurd (false≢true (sym unknown ∙ known));
           standings = λ known. absurd (false≢true (sym unknown ∙ known));
           shown = shown_same p.shown v.content w.content same h.disk.shown;
+          known = λ sure. absurd (false≢true (sym unknown ∙ sure));
           faults = refl;
           simulated = k.simulated ∙ h.disk.simulated;
         };

@@ -86,6 +86,7 @@ seen_at v w s p k down alike h = record {
   standings = λ sure. look_standings v w p (up_down s p down h.site) k h.disk sure;
   alike = λ sure f o i stands. let b = some_both v.content _ _ (h.disk.told sure) alike in b.2 p.now o f (reads_stand b.0 p.now p.left b.1) i stands;
   shown = shown_same p.shown v.content w.content k.content h.disk.shown;
+  known = λ sure. h.disk.known sure ∙ sym k.content;
   faults = omega (arith, k.later, h.disk.faults);
   simulated = k.simulated ∙ h.disk.simulated;
 }
@@ -101,6 +102,7 @@ unknown_seen w s p down site unsure shown faults same = record {
   standings = λ sure. absurd (false≢true (sym unsure ∙ sure));
   alike = λ sure. absurd (false≢true (sym unsure ∙ sure));
   shown = shown;
+  known = λ sure. absurd (false≢true (sym unsure ∙ sure));
   faults = faults;
   simulated = same;
 }
@@ -112,6 +114,7 @@ seen_counted w s p h = record {
     images = λ sure f i. let o = h.images sure f i in (o.0, o.1, stands_by (has_failed_on p.site) f o.0 o.2);
     standings = λ sure. stand_by (has_failed_on p.site) w p.standings (h.standings sure);
     shown = h.shown;
+    known = h.known;
     faults = refl;
     simulated = h.simulated;
   };
@@ -407,7 +410,7 @@ done_at region number text w s before now p read down site as_before named free 
     })
     by
     (record {
-      disk = record { told = reads; images = λ sure f i. (d, inl refl, stands_by (has_failed_on q.site) f d (so_stands f (bare d) (images sure f i))); standings = λ sure f i. (bare d, inl refl, stands_so_by (has_failed_on q.site) f (bare d) (images sure f i)); shown = as_told w.content; faults = refl; simulated = same };
+      disk = record { told = reads; images = λ sure f i. (d, inl refl, stands_by (has_failed_on q.site) f d (so_stands f (bare d) (images sure f i))); standings = λ sure f i. (bare d, inl refl, stands_so_by (has_failed_on q.site) f (bare d) (images sure f i)); shown = as_told w.content; known = λ _. refl; faults = refl; simulated = same };
       site = ap (in_new_state world.Down) site ∙ ap (λ (x : world.State). Some (record { name = s.name; state = x })) (ap state_value (sym down));
       held = record { made = λ sure. record { now = of_d sure; outcomes = λ o a. subst (IsOf s.name) (sym (only o d a)) (of_d sure) }; state = subst (λ (x : State). HoldsState w x q) (sym down) tt };
     })

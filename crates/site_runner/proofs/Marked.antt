@@ -247,7 +247,7 @@ down_there name w new p q before now e d h t =
     })
     tt
     (record {
-      disk = record { told = h.disk.told; images = images; standings = standings; shown = h.disk.shown; faults = h.disk.faults; simulated = h.disk.simulated };
+      disk = record { told = h.disk.told; images = images; standings = standings; shown = h.disk.shown; known = h.disk.known; faults = h.disk.faults; simulated = h.disk.simulated };
       site = ap (in_new_state world.Down) h.site;
       held = record { made = λ sure. record { now = (h.held.made sure).now; outcomes = (h.held.made sure).outcomes }; state = tt };
     })

@@ -183,7 +183,7 @@ look_cut leftovers region mode v w s down l p h = down_cut leftovers region mode
 
 -- a place that was looked at is one of a site that is down
 seen_down : (w : View) (s : Site) (p : Place) → IsSeenAt w s p → IsDownAt w s p
-seen_down w s p h = record { site = h.site; down = h.down; made = h.made; reads = h.reads; images = h.images; standings = h.standings; shown = h.shown; faults = h.faults; simulated = h.simulated }
+seen_down w s p h = record { site = h.site; down = h.down; made = h.made; reads = h.reads; images = h.images; standings = h.standings; shown = h.shown; known = h.known; faults = h.faults; simulated = h.simulated }
 
 pub seen_cut : (leftovers : Leftovers) (region : Name) (mode : Bool) (w : View) (s : Site) → IsLawful w → IsCutSet region mode w s w
 seen_cut leftovers region mode w s law p h = down_cut leftovers region mode w s p law (seen_down w s p h)
@@ -365,6 +365,7 @@ done_at region number mode w s before now p read down site made as_before named 
         images = λ sure f i. let o = images sure f i in (o.0, o.1, stands_by (has_failed_on q.site) f o.0 o.2);
         standings = λ sure. stand_by (has_failed_on q.site) w q.standings (standings sure);
         shown = as_told w.content;
+        known = λ _. refl;
         faults = refl;
         simulated = same;
       };

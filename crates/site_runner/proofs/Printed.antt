@@ -51,6 +51,7 @@ read_at v w s p r h = record {
     images = λ sure f i. let k = r.passes.images f i in h.disk.images sure f (subst (Image v) (sym k.2) k.1);
     standings = λ sure. still_by (has_failed_on p.site) v w p.standings (λ f i. let k = r.passes.images f i in subst (Image v) (sym k.2) k.1) (h.disk.standings sure);
     shown = shown_same p.shown v.content w.content r.content h.disk.shown;
+    known = λ sure. h.disk.known sure ∙ sym r.content;
     faults = refl;
     simulated = r.passes.simulated ∙ h.disk.simulated;
   };
@@ -154,7 +155,7 @@ print_fault lost g v w s k before now r up count rose t p h =
       simulated = refl;
     })
     (record {
-      disk = record { told = a.disk.told; images = λ sure f i. let o = a.disk.images sure f i in (o.0, o.1, failed_by k p.site f o.0 o.2); standings = λ sure. failed_stand k p.site w p.standings (a.disk.standings sure); shown = a.disk.shown; faults = refl; simulated = a.disk.simulated };
+      disk = record { told = a.disk.told; images = λ sure f i. let o = a.disk.images sure f i in (o.0, o.1, failed_by k p.site f o.0 o.2); standings = λ sure. failed_stand k p.site w p.standings (a.disk.standings sure); shown = a.disk.shown; known = a.disk.known; faults = refl; simulated = a.disk.simulated };
       site = ap (in_new_state (world.Failed k)) h.site;
       held = record { made = λ sure. record { now = (h.held.made sure).now; outcomes = (h.held.made sure).outcomes }; state = tt };
     })

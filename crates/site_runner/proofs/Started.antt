@@ -96,7 +96,7 @@ pub no_forward : (files : Files) (c : Contents) (u : Records) → IsSite files c
 no_forward files c u site held none = elim (none_needing files c u (length c.sequence) site held none) [ inl e ↦ ap forward_cause e | inr e ↦ ap forward_cause e ]
 
 unknown_matches : (w : View) (p : Place) → p.told ≡ false → IfShown p (λ files. w.content ≡ Some files) → w.simulated ≡ p.simulated → Matches w (counted p w.faults)
-unknown_matches w p unsure shown same = record { told = λ sure. absurd (false≢true (sym unsure ∙ sure)); images = λ sure. absurd (false≢true (sym unsure ∙ sure)); standings = λ sure. absurd (false≢true (sym unsure ∙ sure)); shown = shown; faults = refl; simulated = same }
+unknown_matches w p unsure shown same = record { told = λ sure. absurd (false≢true (sym unsure ∙ sure)); images = λ sure. absurd (false≢true (sym unsure ∙ sure)); standings = λ sure. absurd (false≢true (sym unsure ∙ sure)); shown = shown; known = λ sure. absurd (false≢true (sym unsure ∙ sure)); faults = refl; simulated = same }
 
 -- a site that is down at a place whose files aren't known
 pub unknown_at : (w : View) (s : Site) (p : Place) → s.state ≡ Down → p.site ≡ Some (site_value s) → p.told ≡ false → IfShown p (λ files. w.content ≡ Some files) → w.simulated ≡ p.simulated → IsAt w s (counted p w.faults)
@@ -117,6 +117,7 @@ changed_at w s p down site unsure same = record {
     images = λ sure. absurd (false≢true (sym unsure ∙ sure));
     standings = λ sure. absurd (false≢true (sym unsure ∙ sure));
     shown = as_told w.content;
+    known = λ _. refl;
     faults = refl;
     simulated = same;
   };
@@ -356,6 +357,7 @@ load_limit_told v w s before now p law down h sure limit by unwritten untouched 
         images = λ is c i. h.disk.images is c (at_moment v w (Image v) c law untouched i);
         standings = λ is. still_by (has_failed_on p.site) v w p.standings (λ c i. at_moment v w (Image v) c law untouched i) (h.disk.standings is);
         shown = shown_same p.shown v.content w.content unwritten h.disk.shown;
+        known = λ is. h.disk.known is ∙ sym unwritten;
         faults = refl;
         simulated = same ∙ h.disk.simulated;
       };

@@ -28,6 +28,7 @@ pub record IsSeenAt (v : View) (s : Site) (p : Place) : Type 0 where
   pub standings : IsTrue p.told → IfSome p.standings (λ os. (f : Files) → Image v f → (o : Standing) × Among os o × StandsSo f o)
   pub alike : IsTrue p.told → (f : Files) (o : Contents) → Image v f → Stands f o → o.instance ≡ p.now.instance
   pub shown : IfShown p (λ files. v.content ≡ Some files)
+  pub known : IsTrue p.told → p.shown ≡ v.content
   pub faults : p.faults ≤ v.faults
   pub simulated : v.simulated ≡ p.simulated
 

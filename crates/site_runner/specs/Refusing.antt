@@ -37,6 +37,7 @@ pub record IsDownAt (v : View) (s : Site) (p : Place) : Type 0 where
   pub images : IsTrue p.told → (f : Files) → Image v f → (o : Contents) × Among p.outcomes o × Stands f o
   pub standings : IsTrue p.told → IfSome p.standings (λ os. (f : Files) → Image v f → (o : Standing) × Among os o × StandsSo f o)
   pub shown : IfShown p (λ files. v.content ≡ Some files)
+  pub known : IsTrue p.told → p.shown ≡ v.content
   pub faults : p.faults ≤ v.faults
   pub simulated : v.simulated ≡ p.simulated
 

@@ -1,5 +1,6 @@
 -- What ties disks to a world.
 use Rattle.std.specs.Prelude.{◌≡◌, Bool, true, false, List, Some, IfSome, IsSomeAnd}
+use Rattle.std.specs.List.{AllByRecursion}
 use Rattle.disk_defs.specs.Disk.{Files, View, Image}
 use Rattle.site_defs.specs.Lists.{Among, Along}
 use Rattle.site_defs.specs.Contents.{Contents, Standing}
@@ -22,8 +23,18 @@ pub record Matches (v : View) (p : Place) : Type 0 where
   pub images : IfKnown p ((c : Files) → Image v c → (o : Contents) × Among p.outcomes o × StandsBy (has_failed_on p.site) c o)
   pub standings : IfKnown p (IfSome p.standings (λ os. (c : Files) → Image v c → (o : Standing) × Among os o × StandsSoBy (has_failed_on p.site) c o))
   pub shown : IfShown p (λ files. v.content ≡ Some files)
+  -- of known files all is shown
+  pub known : IfKnown p (p.shown ≡ v.content)
   pub faults : v.faults ≡ p.faults
   pub simulated : v.simulated ≡ p.simulated
+
+-- What the known files of a place read as is shown, and it stands for what the place has.
+abbrev pub IsShown : Place → Type 0
+IsShown p = IfKnown p (IsSomeAnd p.shown (λ files. Reads files p.now p.left))
+
+-- so it is of each place
+abbrev pub AreShown : World → Type 0
+AreShown w = AllByRecursion IsShown w.places
 
 -- The disks are this world's.
 abbrev pub AreDisks : {D : Type 0} → (D → View) → List D → World → Type 0

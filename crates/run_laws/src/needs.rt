@@ -1,0 +1,23 @@
+//! Whether a site's regions need forward recovery, by its files.
+
+ghost use Rattle.std.specs.Prelude.{◌∷◌, List, [], ℕ};
+ghost use Rattle.command_defs.specs.Commands.{Name, StartPrimary, Resync, RecoverBackward};
+ghost use Rattle.world_defs.specs.World.{Place, World};
+ghost use Rattle.world_defs.specs.Answers.{Done, Refused, NeedForward, NoBefore};
+ghost use Rattle.world_defs.specs.Step.{Step};
+ghost use Rattle.world_defs.specs.Ties.{AreShown};
+ghost use Rattle.world_defs.specs.rows.Rollback.{stay};
+ghost use Rattle.world_laws.specs.Entries.{IsPlaceOf};
+ghost use Rattle.run_laws.specs.Needs.{NoneNeeds, NeedsFirst, NeedsFirstForAll, all_of};
+
+/// In a world that shows what known files read as, as each world behind a command of a run does, NEEDFORWARD and NOBEFORE are answered
+/// exactly: where a START, a RECOVER BACKWARD or a ROLLBACK was done, no region of the files needed forward recovery, and where it was refused so,
+/// the region that it names was the first one that did. It does nothing.
+pub fn needs_are_exact()
+    ensures started { (w m : World) (name : Name) (text : List ℕ) (p q : Place) → AreShown w → Step w (StartPrimary name) (Done ∷ []) m text → IsPlaceOf name w m p q → NoneNeeds all_of p }
+    ensures not_started { (w m : World) (name region : Name) (text : List ℕ) (p q : Place) → AreShown w → Step w (StartPrimary name) (Refused (record { site = name; cause = NeedForward region }) ∷ []) m text → IsPlaceOf name w m p q → NeedsFirstForAll region p }
+    ensures recovered { (w m : World) (name : Name) (text : List ℕ) (p q : Place) → AreShown w → Step w (RecoverBackward name) (Done ∷ []) m text → IsPlaceOf name w m p q → NoneNeeds all_of p }
+    ensures not_recovered { (w m : World) (name region : Name) (text : List ℕ) (p q : Place) → AreShown w → Step w (RecoverBackward name) (Refused (record { site = name; cause = NeedForward region }) ∷ []) m text → IsPlaceOf name w m p q → NeedsFirstForAll region p }
+    ensures rolled_back { (w m : World) (name : Name) (number : ℕ) (text : List ℕ) (p q : Place) → AreShown w → Step w (Resync name number) (Done ∷ []) m text → IsPlaceOf name w m p q → NoneNeeds (stay number) p }
+    ensures not_rolled_back { (w m : World) (name region : Name) (number g : ℕ) (text : List ℕ) (p q : Place) → AreShown w → Step w (Resync name number) (Refused (record { site = name; cause = NoBefore region g }) ∷ []) m text → IsPlaceOf name w m p q → NeedsFirst (stay number) region g p }
+{}
