@@ -65,8 +65,9 @@ fn read_on<D: Disk>(
     ensures cause { IsErrOf result JournalError.Failed → Rose (D.disk disk.old).faults (D.disk disk.new).faults }
 {
     let mut began = previous;
+    let mut body = Bytes::new(gated.alloc);
     let mut at = 0;
-    while let Some((what, next)) = read_record(gated, disk, at)? {
+    while let Some((what, next)) = read_record(gated, disk, at, &mut body)? {
         if !may_join(&what, at == 0, region, generation, previous) {
             return Err(JournalError::NotARecord { offset: at });
         }

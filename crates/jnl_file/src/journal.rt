@@ -317,6 +317,7 @@ impl Journal {
         ensures later { (D.disk disk.old).faults ≤ (D.disk disk.new).faults }
         ensures cause { IsErrOf result JournalError.Failed → Rose (D.disk disk.old).faults (D.disk disk.new).faults }
     {
-        read_record(&mut self.gated, disk, at)
+        let mut body = Bytes::new(self.gated.alloc);
+        read_record(&mut self.gated, disk, at, &mut body)
     }
 }

@@ -13,11 +13,13 @@ use gvn_key::Bytes;
 use jnl_record::{JnlRecord, decode};
 use repl_disk::Disk;
 
-/// The record behind the gate at a place and the next gate's place, or `None` at a closed gate.
+/// The record behind the gate at a place and the next gate's place, or `None` at a closed gate. The record's body is read
+/// into `body`, which is cleared first and may be used again.
 pub fn read_record<D: Disk>(
     gated: &mut Gated,
     disk: &mut D,
     at: u64,
+    body: &mut Bytes,
 ) -> Result<Option<(JnlRecord, u64)>, JournalError>
     ensures found { IfOk result (λ found. IfSome (D.disk disk.old).content (λ files. FindsRecord (files gated.old.file) at found)) }
     ensures further { IfOk result (λ found. IfSome found (λ read. at < read.1)) }
@@ -29,8 +31,8 @@ pub fn read_record<D: Disk>(
     ensures later { (D.disk disk.old).faults ≤ (D.disk disk.new).faults }
     ensures cause { IsErrOf result JournalError.Failed → Rose (D.disk disk.old).faults (D.disk disk.new).faults }
 {
-    let mut body = Bytes::new(gated.alloc);
-    let Some(next) = gated.next_record(disk, at, &mut body)? else {
+    body.clear();
+    let Some(next) = gated.next_record(disk, at, body)? else {
         return Ok(None);
     };
     let record = decode(gated.alloc, body.as_slice(), at)?;
@@ -66,8 +68,9 @@ pub fn read_whole<D: Disk>(
     ensures later { (D.disk disk.old).faults ≤ (D.disk disk.new).faults }
     ensures cause { IsErrOf result JournalError.Failed → Rose (D.disk disk.old).faults (D.disk disk.new).faults }
 {
+    let mut body = Bytes::new(gated.alloc);
     let mut at = 0;
-    while let Some((record, next)) = read_record(gated, disk, at)? {
+    while let Some((record, next)) = read_record(gated, disk, at, &mut body)? {
         if !may_stand(record, at == 0, region, generation) {
             return Err(JournalError::NotARecord { offset: at });
         }

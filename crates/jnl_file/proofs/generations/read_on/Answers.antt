@@ -18,8 +18,8 @@ use Rattle.jnl_file.proofs.generations.read_on.Goals as goal
 untrue : (b : Bool) → b ≡ false → IsTrue b → ⊥
 untrue b is true_of = cc (is, true_of)
 
-pub loop-what-init : goal.loop-what-init
-loop-what-init g c =
+pub loop-body-init : goal.loop-body-init
+loop-body-init g c =
     let o = (g.D.Disk.disk c.args.disk.now).content in
     let list = map placed_value c.args.into.now.items in
     record {
@@ -32,10 +32,10 @@ loop-what-init g c =
       faults = omega arith;
     }
 
-pub loop-what-preserved : goal.loop-what-preserved
-loop-what-preserved g c =
+pub loop-body-preserved : goal.loop-body-preserved
+loop-body-preserved g c =
     let view = g.D.Disk.disk in
-    let l = c.loop-what in
+    let l = c.loop-body in
     let inv = l.invariant in
     let v = view c.args.disk.now in
     let file = c.args.gated.now.file in
@@ -60,7 +60,7 @@ loop-what-preserved g c =
 pub returns-in_err-what-clause-stops : goal.returns-in_err-what-clause-stops
 returns-in_err-what-clause-stops g c offset is =
     let view = g.D.Disk.disk in
-    let l = c.loop-what in
+    let l = c.loop-body in
     let inv = l.invariant in
     let o = (view c.args.disk.now).content in
     let file = c.args.gated.now.file in
@@ -74,7 +74,7 @@ returns-in_err-what-clause-stops g c offset is =
 pub returns-then-not-may_join-clause-stops : goal.returns-then-not-may_join-clause-stops
 returns-then-not-may_join-clause-stops g c offset is =
     let view = g.D.Disk.disk in
-    let l = c.loop-what in
+    let l = c.loop-body in
     let inv = l.invariant in
     let o = (view c.args.disk.now).content in
     let file = c.args.gated.now.file in
@@ -89,7 +89,7 @@ returns-then-not-may_join-clause-stops g c offset is =
 pub returns-clause-read : goal.returns-clause-read
 returns-clause-read g c =
     let view = g.D.Disk.disk in
-    let l = c.loop-what in
+    let l = c.loop-body in
     let inv = l.invariant in
     let o = (view c.args.disk.now).content in
     let none : c.in_ok-what.field-0 ≡ None = search rules in

@@ -6,8 +6,8 @@ use Rattle.jnl_file.specs.Reading.{IsReadRecord}
 use Rattle.jnl_file.proofs.Newer.{Reached}
 use Rattle.jnl_file.proofs.generations.read_on.Given as goal
 
-abbrev pub invariant-loop-what : goal.invariant-loop-what
-invariant-loop-what g l =
+abbrev pub invariant-loop-body : goal.invariant-loop-body
+invariant-loop-body g l =
     let view = g.D.Disk.disk in
     record {
       reached : IfSome (view l.fn.disk).content (λ files. Reached l.fn.region l.fn.generation l.fn.previous (files l.fn.gated.file) l.at (map placed_value l.fn.into.items) (map placed_value l.into.items) l.began);
@@ -18,5 +18,5 @@ invariant-loop-what g l =
       faults : (view l.fn.disk).faults ≤ (view l.disk).faults;
     }
 
-abbrev pub decreases-loop-what : goal.decreases-loop-what
-decreases-loop-what g l = 2 ^ 64 - l.at
+abbrev pub decreases-loop-body : goal.decreases-loop-body
+decreases-loop-body g l = 2 ^ 64 - l.at

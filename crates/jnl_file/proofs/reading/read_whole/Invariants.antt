@@ -3,8 +3,8 @@ use Rattle.disk_defs.specs.Disk.{Reads}
 use Rattle.jnl_file.proofs.Walk.{Walked}
 use Rattle.jnl_file.proofs.reading.read_whole.Given as goal
 
-abbrev pub invariant-loop-record : goal.invariant-loop-record
-invariant-loop-record g l =
+abbrev pub invariant-loop-body : goal.invariant-loop-body
+invariant-loop-body g l =
     let view = g.D.Disk.disk in
     record {
       walked : IfSome (view l.fn.disk).content (λ files. Walked l.fn.region l.fn.generation (files l.fn.gated.file) l.at);
@@ -13,5 +13,5 @@ invariant-loop-record g l =
       faults : (view l.fn.disk).faults ≤ (view l.disk).faults;
     }
 
-abbrev pub decreases-loop-record : goal.decreases-loop-record
-decreases-loop-record g l = 2 ^ 64 - l.at
+abbrev pub decreases-loop-body : goal.decreases-loop-body
+decreases-loop-body g l = 2 ^ 64 - l.at
