@@ -161,6 +161,14 @@ none_home ps r g none = every (globals.entries g) (sym (globals.len-entries g) �
     every [] long = refl
     every (e ∷ es) long = absurd (omega (arith, long))
 
+-- where there is one region, all nodes stand in it
+pub one_home : (ps : List Pattern) (r : ℕ) (g : Globals) → ((name : List ℕ) → region_of ps name < 1) → r < 1 → are_home ps r g ≡ true
+one_home ps r g one low = every (globals.entries g)
+  where
+    every : (es : List Node) → list_all (is_at ps r) es ≡ true
+    every [] = refl
+    every (e ∷ es) = let here : is_at ps r e ≡ true = grind (arith, nat_tests, one e.0.name, low) in rw here (every es)
+
 -- nodes that don't stand there are no part of any state
 pub not_part : (ps : List Pattern) (r : ℕ) (g : Globals) (seq : Sequence) → are_home ps r g ≡ false → g ≡ region_state ps r seq → ⊥
 not_part ps r g seq away is = let no : true ≡ false = sym (part_home ps r seq) ∙ ap (are_home ps r) (sym is) ∙ away in cc

@@ -1,5 +1,5 @@
 //! Whether the nodes of a region may be its own.
-ghost use Rattle.std.specs.Prelude.{◌≡◌, ◌==◌, true, false, map, take, IfOk};
+ghost use Rattle.std.specs.Prelude.{◌≡◌, ◌<◌, ◌==◌, true, false, map, take, IfOk};
 ghost use Rattle.std.specs.List.{list_all};
 ghost use Rattle.std.specs.FinMap as globals;
 ghost use Rattle.global_defs.specs.Entry.{Sequence};
@@ -22,7 +22,7 @@ fn are_home(directory: &Directory, number: usize, nodes: &[Node<'_>]) -> bool
 }
 
 /// Whether the nodes may be the region's part of the state of so many entries: each stands in the region of its name, and there is
-/// none where there is no entry.
+/// none where there is no entry. Where the site has one region it looks at no node.
 pub(crate) fn may_be_its_own(
     alloc: Global,
     directory: &Directory,
@@ -30,12 +30,17 @@ pub(crate) fn may_be_its_own(
     region: &Region,
     entries: u64,
 ) -> Result<bool, NoMemory>
+    requires number { number < directory.now.regions }
     ensures home { IfOk result (λ may. may ≡ true → are_home directory.now.patterns number region.now.globals ≡ true) }
     ensures none { IfOk result (λ may. may ≡ true → entries ≡ 0 → region.now.globals ≡ globals.empty) }
     ensures others { IfOk result (λ may. may ≡ false → (seq : Sequence) → region.now.globals ≡ region_state directory.now.patterns number (take entries seq) → ⊥) }
 {
     if entries == 0 {
         return Ok(region.nodes() == 0);
+    }
+    if directory.regions() == 1 {
+        // (one region takes every name)
+        return Ok(true);
     }
     let nodes = region.list(alloc)?;
     Ok(are_home(directory, number, &nodes))

@@ -2,4 +2,6 @@
 #![tactic(auto)]
 
 #[cfg(test)]
+mod modes;
+#[cfg(test)]
 mod sites;

@@ -24,7 +24,7 @@ const FIRST: &[u8; 18] = b"\x01\0\0\0\x0c\x01\x01\0\x01\0\0\0\x01\0\0\0\0\0";
 const SECOND: &[u8; 18] = b"\x01\0\0\0\x0c\x01\x01\0\x01\0\0\0\x02\0\0\0\x01\0";
 
 /// A new site A with one region R, whose blocks are kept as they were.
-fn make<D: Disk>(alloc: Global, disk: &mut D) -> Result<(), SiteError>
+pub(crate) fn make<D: Disk>(alloc: Global, disk: &mut D) -> Result<(), SiteError>
     requires { IfSome (D.disk disk.old).content (λ files. records (files INSTANCE) ≡ Some []) }
 {
     let name = Bytes::of(alloc, b"A")?;
@@ -57,7 +57,7 @@ fn make_two<D: Disk>(alloc: Global, disk: &mut D) -> Result<(), SiteError>
 }
 
 /// Whether a file has these bytes.
-fn has<D: Disk>(rt: &impl Abort, disk: &mut D, file: u32, bytes: &[u8; 18]) -> bool {
+pub(crate) fn has<D: Disk>(rt: &impl Abort, disk: &mut D, file: u32, bytes: &[u8; 18]) -> bool {
     if disk.len(file).expect(rt, "it succeeds") != 18 {
         return false;
     }
@@ -193,7 +193,7 @@ fn put<D: Disk>(rt: &impl Abort, alloc: Global, site: &mut Site<D>) -> u64
 }
 
 /// A site with two entries, of which one is hardened.
-fn put_two<D: Disk>(rt: &impl Abort, alloc: Global, disk: D) -> Site<D>
+pub(crate) fn put_two<D: Disk>(rt: &impl Abort, alloc: Global, disk: D) -> Site<D>
     requires { IfSome (D.disk disk).content (λ files. records (files INSTANCE) ≡ Some []) }
     ensures { IsGoing D.disk result }
 {
