@@ -5,6 +5,7 @@ pub mod StampLaws
 pub mod Columns
 pub mod SlotLaws
 pub mod RegionLists
+pub mod InOrder
 pub mod Completion
 pub mod Forms
 pub mod Counts

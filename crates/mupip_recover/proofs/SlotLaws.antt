@@ -16,10 +16,10 @@ use Rattle.journal_laws.proofs.Runs.{or_none}
 use Rattle.mupip_recover.specs.Slots.{AreSlots, all_of}
 
 -- the update of an item at its position
-abbrev at_position : ℕ → Item → Option Update
+abbrev pub at_position : ℕ → Item → Option Update
 at_position i x = if x.position == i then Some x.update else None
 
-update_at-one : (x : Item) (items : List Item) (i : ℕ) → update_at (x ∷ items) i ≡ option_or (at_position i x) (update_at items i)
+pub update_at-one : (x : Item) (items : List Item) (i : ℕ) → update_at (x ∷ items) i ≡ option_or (at_position i x) (update_at items i)
 update_at-one x items i = elim (x.position == i) as (λ b. option_map (λ y. y.update) (if b then Some x else find (λ y. y.position == i) items) ≡ option_or (if b then Some x.update else None) (update_at items i)) [ true ↦ refl | false ↦ refl ]
 
 or_assoc : (a b c : Option Update) → option_or (option_or a b) c ≡ option_or a (option_or b c)
@@ -34,12 +34,12 @@ update_at-push (y ∷ items) x i =
     ∙ sym (or_assoc (at_position i y) (update_at items i) (at_position i x))
     ∙ ap (λ (o : Option Update). option_or o (at_position i x)) (sym (update_at-one y items i))
 
-elsewhere : (i : ℕ) (x : Item) → x.position ≢ i → at_position i x ≡ None
+pub elsewhere : (i : ℕ) (x : Item) → x.position ≢ i → at_position i x ≡ None
 elsewhere i x ne =
     let no : (x.position == i) ≡ false = grind (arith, nat_tests) in
     rw no refl
 
-here : (i : ℕ) (x : Item) → x.position ≡ i → at_position i x ≡ Some x.update
+pub here : (i : ℕ) (x : Item) → x.position ≡ i → at_position i x ≡ Some x.update
 here i x is =
     let yes : (x.position == i) ≡ true = grind (arith, nat_tests) in
     rw yes refl

@@ -7,12 +7,12 @@ ghost use Rattle.journal_defs.specs.Sequence.{REGIONS, in_mask, is_like, items_i
 ghost use Rattle.gvn_model.specs.Items.{item_value};
 ghost use Rattle.mupip_recover.specs.Parts.{part_value, items_at};
 ghost use Rattle.mupip_recover.specs.Table.{part_at};
-ghost use Rattle.mupip_recover.specs.Slots.{AreSlots};
+ghost use Rattle.mupip_recover.specs.Slots.{AreSlots, next_after, is_at};
 ghost use Rattle.mupip_recover.specs.Entries.{entry_in, stamped};
 
 use super::part;
 use super::part::Part;
-use super::slots::{empty_slots, put_all, updates_in};
+use super::slots::{add_copies, empty_slots, position_after, put_all, updates_in};
 use super::table::Table;
 use gvn_key::NoMemory;
 use gvn_key::terms::Update;
@@ -90,6 +90,31 @@ fn slots_of(
     Ok(slots)
 }
 
+/// Whether the items of the regions of a part's mask, one region after the other, have all positions up to its count in order.
+fn are_in_order(table: &Table, place: usize, head: &Part) -> bool
+    ensures { result ≡ is_at head.now.count (next_after 0 (items_in head.now.mask (part_at table.now place))) }
+{
+    let mut next = 0;
+    for region in 0..part::REGIONS {
+        let Some(after) = position_after(next, items_of(table, place, head, region)) else {
+            return false;
+        };
+        next = after;
+    }
+    next == usize::from(head.count)
+}
+
+/// Copies of the updates of the regions of a part's mask, one region after the other.
+fn copies_of(alloc: Global, table: &Table, place: usize, head: &Part) -> Result<Updates, NoMemory>
+    ensures { IfOk result (λ made. made ≡ map (λ x. x.update) (items_in head.now.mask (part_at table.now place))) }
+{
+    let mut made = Updates::with_capacity(alloc, usize::from(head.count))?;
+    for region in 0..part::REGIONS {
+        add_copies(&mut made, items_of(table, place, head, region))?;
+    }
+    Ok(made)
+}
+
 /// The updates of an entry by one of its parts, where it is complete.
 fn updates_of(
     alloc: Global,
@@ -99,7 +124,13 @@ fn updates_of(
 ) -> Result<Option<Updates>, NoMemory>
     ensures { IfOk result (λ found. found ≡ updates_by (part_at table.now place) (part_value head.now)) }
 {
-    if !all_agree(table, place, head) || !has_count(table, place, head) {
+    if !all_agree(table, place, head) {
+        return Ok(None);
+    }
+    if are_in_order(table, place, head) {
+        return Ok(Some(copies_of(alloc, table, place, head)?));
+    }
+    if !has_count(table, place, head) {
         return Ok(None);
     }
     updates_in(alloc, slots_of(alloc, table, place, head)?)

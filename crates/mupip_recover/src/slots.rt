@@ -4,7 +4,7 @@ ghost use Rattle.std.specs.Option.{option_map};
 ghost use Rattle.global_defs.specs.Entry as defs;
 ghost use Rattle.gvn_key.specs.Terms.{update_value};
 ghost use Rattle.gvn_model.specs.Items.{item_value};
-ghost use Rattle.mupip_recover.specs.Slots.{AreSlots, all_of};
+ghost use Rattle.mupip_recover.specs.Slots.{AreSlots, all_of, next_after};
 
 use gvn_key::NoMemory;
 use gvn_key::terms::Update;
@@ -66,4 +66,29 @@ pub fn updates_in(alloc: Global, slots: Vec<Option<Update>>) -> Result<Option<Up
         updates.push(update)?;
     }
     Ok(Some(updates))
+}
+
+/// The position after those of the items, where these have the positions from `first` on, in order.
+pub fn position_after(first: usize, items: &[Item]) -> Option<usize>
+    ensures { result ≡ next_after first (map item_value items.now) }
+{
+    let mut next = first;
+    for item in items {
+        let position = usize::from(item.position);
+        if position != next {
+            return None;
+        }
+        next = position + 1;
+    }
+    Some(next)
+}
+
+/// Adds copies of the updates of all items.
+pub fn add_copies(updates: &mut Updates, added: &[Item]) -> Result<(), NoMemory>
+    ensures { OnOk result (updates.new ≡ updates.old ++ map (λ x. x.update) (map item_value added.now)) }
+{
+    for item in added {
+        updates.push(copy_of(&item.update)?)?;
+    }
+    Ok(())
 }
