@@ -302,7 +302,8 @@ module _ (v : View) (p : Prepared) (P : IsPrepared v p) where
                   ]))
 
               pub closed : (after_it : OpenSite) → IsLawful z → ((c : Contents) → IsOpen w true c (length c.sequence) s → IsOpen z true (marked c) (length c.sequence) after_it)
+                  → ((c : Contents) → IsOpen w true c (length c.sequence) s → (b : Files) → Image z b → NoneNeeds (length c.sequence) b)
                   → IfSome v.content (λ _. (c : Contents) → IsAll c → StandsFor z (rolled t f.broken c))
-              closed after_it lawful_z done = weaker_told v.content (λ _. (c : Contents) → IsAll c → IsOpen w true (rolled_open t f.broken c) (length (rolled_open t f.broken c).sequence) s)
+              closed after_it lawful_z done none = weaker_told v.content (λ _. (c : Contents) → IsAll c → IsOpen w true (rolled_open t f.broken c) (length (rolled_open t f.broken c).sequence) s)
                   (λ _. (c : Contents) → IsAll c → StandsFor z (rolled t f.broken c)) open_now
-                  (λ files is_open c all. stands_for z (rolled t f.broken c) after_it lawful_z (done (rolled_open t f.broken c) (is_open c all)))
+                  (λ files is_open c all. stands_for z (rolled t f.broken c) after_it lawful_z (done (rolled_open t f.broken c) (is_open c all)) (none (rolled_open t f.broken c) (is_open c all)))

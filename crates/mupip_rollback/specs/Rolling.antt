@@ -1,16 +1,19 @@
 -- What a rollback and a recovery leave on a disk.
-use Rattle.std.specs.Prelude.{ℕ, Bool, false, List, length, min, IsSomeAnd}
+use Rattle.std.specs.Prelude.{ℕ, Bool, false, List, length, min, IfSome, IsSomeAnd}
 use Rattle.disk_defs.specs.Disk.{Files, View, Image, From}
 use Rattle.site_defs.specs.Contents.{Contents, Standing, bare}
 use Rattle.site_defs.specs.Forward.{MayRecoverAs, MayRecoverAsLeft}
 use Rattle.site_defs.specs.Rolling.{MayRollBack, MayRollBackLeft}
 use Rattle.site_defs.specs.Stands.{IsSite}
 use Rattle.site_defs.specs.Behind.{IsStanding, IsSiteWith}
+use Rattle.site_store.specs.Needing.{NoneNeeds}
 
--- as it reads and in each image a site's files stand for this, and nothing lies behind it
+-- as it reads and in each image a site's files stand for this, nothing lies behind it, and no region needs forward recovery
 pub record StandsFor (v : View) (c : Contents) : Type 0 where
   pub reads : IsSomeAnd v.content (λ files. IsSiteWith files (bare c))
   pub images : (f : Files) → Image v f → IsSiteWith f (bare c)
+  pub none_needs : IfSome v.content (NoneNeeds (length c.sequence))
+  pub none_needs_then : (f : Files) → Image v f → NoneNeeds (length c.sequence) f
 
 -- an image from before the call, whose site may have been rolled back to so many entries, with this text of what is broken
 abbrev pub MayBeRolledBack : View → (to : ℕ) → List ℕ → Files → Type 0

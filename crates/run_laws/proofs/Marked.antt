@@ -27,10 +27,10 @@ marks site c p q s = record {
 }
 
 pub epoch-marks : (w m : World) (name : Name) (text : List ℕ) (p q : Place) → Step w (Epoch name) (Done ∷ []) m text → IsPlaceOf name w m p q → EndsInEpochs q
-epoch-marks w m name text p q h at = marks _ _ p q (makes_here (row_at epoch p) w m Done text at.number p q (owns epoch w m name Done text at.number p at.named at.before h) at.before at.behind).1
+epoch-marks w m name text p q h at = marks _ _ p q (makes_here (row_at epoch p) w m Done text at.number p q (owns epoch w m name Done text at.number p at.named at.before h) at.before at.behind).1.0
 
 pub stop-marks : (w m : World) (name : Name) (text : List ℕ) (p q : Place) → Step w (Stop name) (Done ∷ []) m text → IsPlaceOf name w m p q → EndsInEpochs q
-stop-marks w m name text p q h at = marks _ _ p q (makes_here (row_at stop p) w m Done text at.number p q (owns stop w m name Done text at.number p at.named at.before h) at.before at.behind).1
+stop-marks w m name text p q h at = marks _ _ p q (makes_here (row_at stop p) w m Done text at.number p q (owns stop w m name Done text at.number p at.named at.before h) at.before at.behind).1.0
 
 recovers-marks : (anew : Bool) (w m : World) (text : List ℕ) (i : ℕ) (p q : Place) → One i (row_at (recover anew) p) apart Done w m text → slice_get w.places i ≡ Some p → slice_get m.places i ≡ Some q → EndsInEpochs q
 recovers-marks anew w m text i p q one before behind =

@@ -1,21 +1,26 @@
 -- NEEDFORWARD and NOBEFORE by the files that are shown.
-use Rattle.std.proofs.Common.{◌≡◌, ℕ, zero, suc, false, List, [], ◌∷◌, Option, None, Some, slice_get, subst}
+use Rattle.std.proofs.Common.{◌≡◌, ◌<◌, ℕ, zero, suc, Bool, true, false, List, [], ◌∷◌, length, Option, None, Some, slice_get, sym, ◌∙◌, subst, arith}
 use Rattle.std.specs.Prelude.{IfSome, IsSomeAnd}
 use Rattle.std.specs.List.{AllByRecursion}
 use Rattle.disk_defs.specs.Disk.{Files}
 use Rattle.global_defs.specs.Entry.{Sequence}
-use Rattle.journal_defs.specs.Sequence.{Records}
-use Rattle.command_defs.specs.Commands.{Name, StartPrimary, Resync, RecoverBackward}
+use Rattle.journal_defs.specs.Instance.{regions}
+use Rattle.journal_defs.specs.Sequence.{Records, IsSequence}
+use Rattle.journal_laws.proofs.Readings.{records_one}
+use Rattle.journal_laws.proofs.Runs as sequences
+use Rattle.command_defs.specs.Commands.{Name, StartPrimary, Stop, Resync, RecoverBackward, RecoverForward}
 use Rattle.site_defs.specs.Stands.{Reads}
-use Rattle.world_defs.specs.World.{Place, World, IfShown}
+use Rattle.world_defs.specs.World.{Place, World, IfKnown, IfShown}
 use Rattle.world_defs.specs.Answers.{Refusal, Done, Refused, NeedForward, NoBefore}
-use Rattle.world_defs.specs.Meaning.{row_at}
+use Rattle.world_defs.specs.Meaning.{apart, row_at}
 use Rattle.world_defs.specs.Shown.{BySequence}
-use Rattle.world_defs.specs.Step.{Step}
+use Rattle.world_defs.specs.Step.{One, Step}
 use Rattle.world_defs.specs.Ties.{IsShown, AreShown}
-use Rattle.world_defs.specs.rows.Recover.{recover}
-use Rattle.world_defs.specs.rows.Rollback.{stay, rollback}
+use Rattle.world_defs.specs.Without.{IsFirstWithout, NoneIsWithout, IsWithoutNeed, without_behind}
+use Rattle.world_defs.specs.rows.Recover.{Recovers, recover}
+use Rattle.world_defs.specs.rows.Rollback.{RollsBack, stay, rollback}
 use Rattle.world_defs.specs.rows.Start.{start}
+use Rattle.world_defs.specs.rows.Stop.{stop}
 use Rattle.world_laws.specs.Entries.{IsPlaceOf}
 use Rattle.run_laws.specs.Needs.{BytesHave, NoneNeeds, NeedsFirst, NeedsFirstForAll, all_of}
 use Rattle.run_laws.proofs.Owns.{owns, makes_here}
@@ -66,3 +71,56 @@ rollback-refused w m name region number g text p q shown h at =
     let no : Refusal = record { site = name; cause = NoBefore region g } in
     let here = makes_here (row_at (rollback number) p) w m (Refused no) text at.number p q (owns (rollback number) w m name (Refused no) text at.number p at.named at.before h) at.before at.behind in
     bytes_have p _ _ (shown_at w.places at.number p shown at.before) here.2 (λ files k. k)
+
+-- behind a command that closed the site
+
+closed : (ps : List Place) (i : ℕ) (q : Place) → AllByRecursion IsShown ps → slice_get ps i ≡ Some q → IsWithoutNeed q → NoneNeeds all_of q
+closed ps i q shown there none = λ sure. let b = both q.shown (λ files. Reads files q.now q.left) (BySequence (λ u seq. NoneIsWithout u (length seq))) (shown_at ps i q shown there sure) (none sure) in (b.0, b.1, b.2)
+
+stop-here : (w m : World) (name : Name) (text : List ℕ) (p q : Place) → Step w (Stop name) (Done ∷ []) m text → IsPlaceOf name w m p q → IsWithoutNeed q
+stop-here w m name text p q h at = (makes_here (row_at stop p) w m Done text at.number p q (owns stop w m name Done text at.number p at.named at.before h) at.before at.behind).1.1
+
+pub stop-closed : (w m : World) (name : Name) (text : List ℕ) (p q : Place) → Step w (Stop name) (Done ∷ []) m text → AreShown m → IsPlaceOf name w m p q → NoneNeeds all_of q
+stop-closed w m name text p q h shown at = closed m.places at.number q shown at.behind (stop-here w m name text p q h at)
+
+recovers-closed : (anew : Bool) (w m : World) (text : List ℕ) (i : ℕ) (p q : Place) → One i (row_at (recover anew) p) apart Done w m text → slice_get w.places i ≡ Some p → slice_get m.places i ≡ Some q → IsWithoutNeed q
+recovers-closed anew w m text i p q one before behind =
+    let d : Recovers anew p q = (makes_here (row_at (recover anew) p) w m Done text i p q one before behind).1 in
+    d.unneeding
+
+pub backward-closed : (w m : World) (name : Name) (text : List ℕ) (p q : Place) → Step w (RecoverBackward name) (Done ∷ []) m text → AreShown m → IsPlaceOf name w m p q → NoneNeeds all_of q
+backward-closed w m name text p q h shown at =
+    closed m.places at.number q shown at.behind (recovers-closed false w m text at.number p q (owns (recover false) w m name Done text at.number p at.named at.before h) at.before at.behind)
+
+pub forward-closed : (w m : World) (name : Name) (text : List ℕ) (p q : Place) → Step w (RecoverForward name) (Done ∷ []) m text → AreShown m → IsPlaceOf name w m p q → NoneNeeds all_of q
+forward-closed w m name text p q h shown at =
+    closed m.places at.number q shown at.behind (recovers-closed true w m text at.number p q (owns (recover true) w m name Done text at.number p at.named at.before h) at.before at.behind)
+
+pub rollback-closed : (w m : World) (name : Name) (number : ℕ) (text : List ℕ) (p q : Place) → Step w (Resync name number) (Done ∷ []) m text → AreShown m → IsPlaceOf name w m p q → NoneNeeds all_of q
+rollback-closed w m name number text p q h shown at =
+    let d : RollsBack number p q = (makes_here (row_at (rollback number) p) w m Done text at.number p q (owns (rollback number) w m name Done text at.number p at.named at.before h) at.before at.behind).1 in
+    closed m.places at.number q shown at.behind d.unneeding
+
+region_there : {X : Type 0} (xs : List X) (i : ℕ) (x : X) → slice_get xs i ≡ Some x → i < length xs
+region_there [] i x e = cc
+region_there (y ∷ ys) zero x e = omega arith
+region_there (y ∷ ys) (suc i) x e = let less = region_there ys i x e in omega (arith, less)
+
+-- of the same bytes none needs it, and one does
+not_both : (region : Name) (files : Files) → BySequence (λ u seq. NoneIsWithout u (length seq)) files → BySequence (λ u seq. (g : ℕ) × IsFirstWithout region g u (length seq)) files → ⊥
+not_both region files a b =
+    let same : a.0 ≡ b.0 = records_one files a.0 b.0 a.2 b.2 in
+    let long : a.1 ≡ b.1 = sequences.one b.0 a.1 b.1 (subst (λ (u : Records). IsSequence u a.1) same a.3) b.3 in
+    let first = b.4.1 in
+    let none : without_behind b.0 (length b.1) first.region ≡ None = subst (λ (seq : Sequence). without_behind b.0 (length seq) first.region ≡ None) long
+    (subst (λ (u : Records). NoneIsWithout u (length a.1)) same a.4 first.region (region_there (regions b.0.instance) first.region first.mode first.there)) in
+    cc (sym first.needs ∙ none)
+
+none_by : (o : Option Files) (region : Name) (P : Files → Type 0) → IsSomeAnd o P → IfSome o (BySequence (λ u seq. NoneIsWithout u (length seq))) → IfSome o (BySequence (λ u seq. (g : ℕ) × IsFirstWithout region g u (length seq))) → ⊥
+none_by None region P h a b = absurd h
+none_by (Some f) region P h a b = not_both region f a b
+
+pub stop-starts : (w m k : World) (name region : Name) (text rest : List ℕ) (p q x : Place) → Step w (Stop name) (Done ∷ []) m text → AreShown m → IsPlaceOf name w m p q → Step m (StartPrimary name) (Refused (refusing name region) ∷ []) k rest → IsPlaceOf name m k q x → IfKnown q ⊥
+stop-starts w m k name region text rest p q x h shown at next then = λ sure.
+    let here = makes_here (row_at start q) m k (Refused (refusing name region)) rest then.number q x (owns start m k name (Refused (refusing name region)) rest then.number q then.named then.before next) then.before then.behind in
+    none_by q.shown region (λ files. Reads files q.now q.left) (shown_at m.places at.number q shown at.behind sure) (stop-here w m name text p q h at sure) here.2

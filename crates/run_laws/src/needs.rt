@@ -1,8 +1,8 @@
 //! Whether a site's regions need forward recovery, by its files.
 
 ghost use Rattle.std.specs.Prelude.{◌∷◌, List, [], ℕ};
-ghost use Rattle.command_defs.specs.Commands.{Name, StartPrimary, Resync, RecoverBackward};
-ghost use Rattle.world_defs.specs.World.{Place, World};
+ghost use Rattle.command_defs.specs.Commands.{Name, StartPrimary, Stop, Resync, RecoverBackward, RecoverForward};
+ghost use Rattle.world_defs.specs.World.{Place, World, IfKnown};
 ghost use Rattle.world_defs.specs.Answers.{Done, Refused, NeedForward, NoBefore};
 ghost use Rattle.world_defs.specs.Step.{Step};
 ghost use Rattle.world_defs.specs.Ties.{AreShown};
@@ -20,4 +20,14 @@ pub fn needs_are_exact()
     ensures not_recovered { (w m : World) (name region : Name) (text : List ℕ) (p q : Place) → AreShown w → Step w (RecoverBackward name) (Refused (record { site = name; cause = NeedForward region }) ∷ []) m text → IsPlaceOf name w m p q → NeedsFirstForAll region p }
     ensures rolled_back { (w m : World) (name : Name) (number : ℕ) (text : List ℕ) (p q : Place) → AreShown w → Step w (Resync name number) (Done ∷ []) m text → IsPlaceOf name w m p q → NoneNeeds (stay number) p }
     ensures not_rolled_back { (w m : World) (name region : Name) (number g : ℕ) (text : List ℕ) (p q : Place) → AreShown w → Step w (Resync name number) (Refused (record { site = name; cause = NoBefore region g }) ∷ []) m text → IsPlaceOf name w m p q → NeedsFirst (stay number) region g p }
+{}
+
+/// Behind a STOP, a RECOVER or a ROLLBACK that was done no region of the site needs forward recovery, so a START right behind it isn't refused
+/// for that, whatever images its regions keep. It does nothing.
+pub fn closed_sites_need_none()
+    ensures stop { (w m : World) (name : Name) (text : List ℕ) (p q : Place) → Step w (Stop name) (Done ∷ []) m text → AreShown m → IsPlaceOf name w m p q → NoneNeeds all_of q }
+    ensures recovered { (w m : World) (name : Name) (text : List ℕ) (p q : Place) → Step w (RecoverBackward name) (Done ∷ []) m text → AreShown m → IsPlaceOf name w m p q → NoneNeeds all_of q }
+    ensures recovered_forward { (w m : World) (name : Name) (text : List ℕ) (p q : Place) → Step w (RecoverForward name) (Done ∷ []) m text → AreShown m → IsPlaceOf name w m p q → NoneNeeds all_of q }
+    ensures rolled_back { (w m : World) (name : Name) (number : ℕ) (text : List ℕ) (p q : Place) → Step w (Resync name number) (Done ∷ []) m text → AreShown m → IsPlaceOf name w m p q → NoneNeeds all_of q }
+    ensures started { (w m k : World) (name region : Name) (text rest : List ℕ) (p q x : Place) → Step w (Stop name) (Done ∷ []) m text → AreShown m → IsPlaceOf name w m p q → Step m (StartPrimary name) (Refused (record { site = name; cause = NeedForward region }) ∷ []) k rest → IsPlaceOf name m k q x → IfKnown q ⊥ }
 {}

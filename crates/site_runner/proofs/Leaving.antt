@@ -21,6 +21,7 @@ use Rattle.world_defs.specs.Changes.{in_new_state, After, Becomes, Fails}
 use Rattle.world_defs.specs.Row.{in_state, why_not_down}
 use Rattle.world_defs.specs.Shown.{BySequence}
 use Rattle.world_defs.specs.Step.{LeftBy}
+use Rattle.world_defs.specs.Without.{NoneIsWithout, IsWithoutNeed}
 use Rattle.world_defs.specs.Ties.{StandsBy, Matches}
 use Rattle.world_defs.specs.rows.Start.{read_so}
 use Rattle.site_runner.specs.declared.slot.State.{State}
@@ -33,6 +34,7 @@ use Rattle.site_runner.proofs.Amongs.{among_flat, flat_among}
 use Rattle.site_runner.proofs.Ats.{is_true_or_false, told_is, some_and, some_both, reads_site, is_site, standing_of, by_shown, reads_image, at_moment, as_told, shown_same, only, stand_more, Leftovers, StandBy, ImagesStand, images_still, stand_by, stands_by, images_of, standings_of, up_down, place_of_one, stands_with}
 use Rattle.site_runner.proofs.Seen.{counted}
 use Rattle.site_runner.proofs.Started.{each_stands, stand_one}
+use Rattle.site_store.specs.Needing.{NoneNeeds}
 use Rattle.site_store.specs.Opening.{EachStands}
 
 -- Steps whose ends are covered by finitely many.
@@ -213,13 +215,20 @@ pub record Done (w : View) (s : Site) (c : Contents) (p : Place) : Type 0 where
   pub becomes : Place
   pub is : becomes.now ≡ c
   pub changes : Becomes world.Down c p becomes
+  pub unneeding : IsWithoutNeed becomes
   pub there : IsAt w s becomes
+
+-- such files are a site's of which no region needs forward recovery
+unneeded : (o : Option Files) (c : Contents) → IsSomeAnd o (λ f. IsSiteWith f (bare c)) → IfSome o (NoneNeeds (length c.sequence)) → IfSome o (BySequence (λ u seq. NoneIsWithout u (length seq)))
+unneeded None c h k = absurd h
+unneeded (Some f) c h k = (h.site.records, c.sequence, h.site.image.held, h.site.image.sequence, k h.site.records h.site.image.held)
 
 pub done_at : (w : View) (s : Site) (c : Contents) (p : Place) → s.state ≡ Down → p.site ≡ Some (site_value s) → (p.told ≡ true → StandsFor w c) → (p.told ≡ true → IsOf s.name c) → p.faults ≤ w.faults → w.simulated ≡ p.simulated → Done w s c p
 done_at w s c p down site stands of later same = record {
   becomes = q;
   is = refl;
   changes = record { site = refl; known = record { told = refl; now = refl; left = refl; outcomes = refl; standings = refl }; faults = later; simulated = refl };
+  unneeding = λ sure. unneeded w.content c (stands sure).reads (stands sure).none_needs;
   there = record {
     disk = place_of_one w p q.site c same (λ sure. some_and w.content (λ f. IsSiteWith f (bare c)) (λ f. Reads f c NO_LEFTOVER) (λ f h. inr (h.site, h.left)) ((stands sure).reads)) (λ sure f i. stands_with f (bare c) ((stands sure).images f i));
     site = ap (in_new_state world.Down) site ∙ ap (λ (x : world.State). Some (record { name = s.name; state = x })) (ap state_value (sym down));

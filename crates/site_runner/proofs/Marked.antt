@@ -8,7 +8,9 @@ use Rattle.std.proofs.lemmas.Bool.{ltb-true}
 use Rattle.disk_defs.specs.Disk.{Files, View, Image, IsLawful, AtEachMoment, Rose}
 use Rattle.site_store.specs.declared.site.OpenSite.{OpenSite}
 use Rattle.journal_defs.specs.Instance.{generation, regions}
+use Rattle.site_store.specs.Needing.{NoneNeeds}
 use Rattle.site_store.specs.Site.{IsOpen}
+use Rattle.site_store.proofs.Standing.{reads_of}
 use Rattle.repl_section.specs.declared.reign.Reign.{Reign}
 use Rattle.repl_section.specs.Reigns.{stamp_in, stamp_of}
 use Rattle.command_defs.specs.Commands.{Name}
@@ -24,6 +26,8 @@ use Rattle.world_defs.specs.Answers.{Refusal, Answer, Done, Refused, DiskFault, 
 use Rattle.world_defs.specs.Row as rows
 use Rattle.world_defs.specs.Row.{or_else, refused_with, why_not_open, Here}
 use Rattle.world_defs.specs.Changes.{in_new_state, After}
+use Rattle.world_defs.specs.Shown.{BySequence}
+use Rattle.world_defs.specs.Without.{NoneIsWithout}
 use Rattle.world_defs.specs.Step.{is_done}
 use Rattle.world_defs.specs.rows.Stop.{stop}
 use Rattle.site_runner.specs.declared.slot.State.TheVariants.{Down, Primary, Failed}
@@ -33,7 +37,7 @@ use Rattle.site_runner.specs.Executes.{Comes}
 use Rattle.site_runner.specs.Steps.{in_state, IsAt, ExecutesAt, IsCutAt}
 use Rattle.site_runner.specs.Marking.{marking}
 use Rattle.site_runner.proofs.Amongs.{among_map, map_among, among_flat}
-use Rattle.site_runner.proofs.Ats.{comes_done, comes_fault, at_moment, some_outcome, told_is, Leftovers, NothingIsLeft, ReadPlace, place_of_images, place_of_one, only, open_reads, open_images, stands_with, stands_by, stand_by, StandBy, images_of, standings_of}
+use Rattle.site_runner.proofs.Ats.{comes_done, comes_fault, at_moment, some_outcome, told_is, Leftovers, NothingIsLeft, ReadPlace, place_of_images, place_of_one, only, open_site, open_reads, open_images, stands_with, stands_by, stand_by, StandBy, images_of, standings_of}
 use Rattle.site_runner.proofs.Remembered.{entries_count}
 use Rattle.site_runner.proofs.Stopped.{open_at, reigns_at, open_at_place}
 
@@ -190,17 +194,22 @@ mark_faulted leftovers word v w s r k before now was e m count rose t p h =
     t
 
 pub marks_at : (word : List ℕ) (v w : View) (nothing : NothingIsLeft w) (s : Site) (r new : Reign) (count : ℕ) (before now : List ℕ) → IsLawful w → s.state ≡ Primary r → new.site.stamp ≡ r.site.stamp → new.serials ≡ r.serials → w.simulated ≡ v.simulated → v.faults ≤ w.faults
-    → ((told : Bool) (c : Contents) → IsOpen v told c (length c.sequence) r.site → IsOpen w told (marked c) (length c.sequence) new.site) → count ≡ length r.site.entries.items → now ≡ before ++ line s.name (word ++ decimal count)
+    → ((told : Bool) (c : Contents) → IsOpen v told c (length c.sequence) r.site → IsOpen w told (marked c) (length c.sequence) new.site)
+    → ((c : Contents) → IsOpen v true c (length c.sequence) r.site → (f : Files) → Image w f → NoneNeeds (length c.sequence) f) → count ≡ length r.site.entries.items → now ≡ before ++ line s.name (word ++ decimal count)
     → ExecutesAt (marking word s.name) v s w (in_state s (Primary new)) before now true
-marks_at word v w nothing s r new count before now law e stamped serials same later f counts t p h =
+marks_at word v w nothing s r new count before now law e stamped serials same later f none counts t p h =
     let was = reigns_at v s r p e h in
     let c : Contents = marked p.now in
     let is_open : IsOpen w p.told c (length c.sequence) new.site = f p.told p.now was in
     let of : p.told ≡ true → IsOf s.name c = λ sure. record { made = (h.held.made sure).now.made; name = (h.held.made sure).now.name } in
     comes_done
     (record { site = p.site; told = p.told; now = c; left = NO_LEFTOVER; outcomes = c ∷ []; standings = Some (bare c ∷ []); shown = w.content; faults = w.faults; simulated = p.simulated })
-    (ap (λ (x : Option Refusal). or_else x None) (open_at_place v s r p e h))
-    (record { site = refl; known = record { told = refl; now = refl; left = refl; outcomes = refl; standings = refl }; faults = omega (arith, later, h.disk.faults); simulated = refl })
+    (ap (λ (x : Option Refusal). or_else x None) (open_at_place v s r p e h)) (
+      record { site = refl; known = record { told = refl; now = refl; left = refl; outcomes = refl; standings = refl }; faults = omega (arith, later, h.disk.faults); simulated = refl },
+      λ sure. reads_of w (BySequence (λ u seq. NoneIsWithout u (length seq))) law (λ f i.
+          let site : IsSite f c = open_site w c new.site (subst (λ (b : Bool). IsOpen w b c (length c.sequence) new.site) sure is_open) f i in
+          (site.records, c.sequence, site.image.held, site.image.sequence, none p.now (subst (λ (b : Bool). IsOpen v b p.now (length p.now.sequence) r.site) sure was) f i site.records site.image.held)),
+    )
     tt
     (record {
       disk = place_of_one w p p.site c (same ∙ h.disk.simulated) (λ sure. open_reads w nothing p.told c new.site law sure is_open) (λ sure. open_images w nothing p.told c new.site sure is_open);
@@ -232,19 +241,21 @@ not_failed name (Some site) e = open_state name site.state e
 down_there : (name : Name) (w : View) (new : Site) (p q : Place) (before now : List ℕ) → or_else (marking (codes "DOWN ") name p).early None ≡ None → (marking (codes "DOWN ") name p).done q → IsAt w new q
     → now ≡ before ++ (marking (codes "DOWN ") name p).says q → Comes (stop name p) (IsAt w (in_state new Down)) before now true
 down_there name w new p q before now e d h t =
-    let up : has_failed_on q.site ≡ false = ap has_failed_on d.site ∙ not_failed name p.site e in
+    let up : has_failed_on q.site ≡ false = ap has_failed_on d.0.site ∙ not_failed name p.site e in
     let site : Option world.Site = in_new_state world.Down q.site in
     let images : q.told ≡ true → (f : Files) → Image w f → (o : Contents) × Among q.outcomes o × StandsBy (has_failed_on site) f o = λ sure f i. (let o = images_of w q up h.disk sure f i in (o.0, o.1, stands_by (has_failed_on site) f o.0 o.2)) in
     let standings : q.told ≡ true → StandBy (has_failed_on site) w q.standings = λ sure. stand_by (has_failed_on site) w q.standings (standings_of w q up h.disk sure) in
     comes_done
     (record { site = in_new_state world.Down q.site; told = q.told; now = q.now; left = q.left; outcomes = q.outcomes; standings = q.standings; shown = q.shown; faults = q.faults; simulated = q.simulated })
-    e
-    (record {
-      site = ap (in_new_state world.Down) d.site;
-      known = record { told = d.known.told; now = d.known.now; left = d.known.left; outcomes = d.known.outcomes; standings = d.known.standings };
-      faults = d.faults;
-      simulated = d.simulated;
-    })
+    e (
+      record {
+        site = ap (in_new_state world.Down) d.0.site;
+        known = record { told = d.0.known.told; now = d.0.known.now; left = d.0.known.left; outcomes = d.0.known.outcomes; standings = d.0.known.standings };
+        faults = d.0.faults;
+        simulated = d.0.simulated;
+      },
+      d.1,
+    )
     tt
     (record {
       disk = record { told = h.disk.told; images = images; standings = standings; shown = h.disk.shown; known = h.disk.known; faults = h.disk.faults; simulated = h.disk.simulated };

@@ -189,7 +189,7 @@ pub recover_done : (anew : Bool) (v w : View) (s : Site) (n : ℕ) (before now :
 recover_done anew v w s n before now down read told held same later t p h =
     comes_done d.becomes
     (none_refused s.name (in_state why_not_down p.site) (where_known p (unrecovered anew p.now)) (early_none s p down h.site) (not_limited anew n v s p h held (is_true_or_false p.told)))
-    (record { read = r.read; broken = p.left.broken; as_before = r.as_before; as_left = λ _. refl; bytes = r.bytes; becomes = d.changes })
+    (record { read = r.read; broken = p.left.broken; as_before = r.as_before; as_left = λ _. refl; bytes = r.bytes; becomes = d.changes; unneeding = d.unneeding })
     (by_shown p.shown v.content (RecoveredBy anew) h.disk.shown (if_some v.content (IsHeldFor anew n) (RecoveredBy anew) (recovered_by anew n) held))
     d.there
     (t ∙ ap (λ (m : ℕ). before ++ line s.name (codes "RECOVERED " ++ decimal m)) (r.says ∙ sym (ap (λ (c : Contents). length c.sequence) d.is)))

@@ -250,7 +250,7 @@ pub rollback_done : (number : ℕ) (v w : View) (s : Site) (kept lost : ℕ) (be
 rollback_done number v w s kept lost before now down read told held same later t p h =
     comes_done d.becomes
     (none_refused s.name (in_state why_not_down p.site) (where_known p (first (generation_limit p.now ∷ no_before number p.now ∷ []))) (early_none s p down h.site) (not_limited number kept lost v s p h held (is_true_or_false p.told)))
-    (record { read = r.read; broken = p.left.broken; as_before = r.as_before; as_left = λ _. refl; bytes = r.bytes; becomes = d.changes })
+    (record { read = r.read; broken = p.left.broken; as_before = r.as_before; as_left = λ _. refl; bytes = r.bytes; becomes = d.changes; unneeding = d.unneeding })
     (by_shown p.shown v.content (RolledBackBy number) h.disk.shown (if_some v.content (RolledFrom number kept lost) (RolledBackBy number) (λ f k. (k.0, k.1, k.2, k.3, (k.6, k.7))) held))
     d.there
     (t ∙ ap (λ (m : ℕ). says m lost) kept_is ∙ ap (λ (g : ℕ). says (length d.becomes.now.sequence) g) lost_is)

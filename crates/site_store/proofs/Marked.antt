@@ -18,18 +18,21 @@ use Rattle.journal_defs.specs.Directory.{Pattern, patterns, region_of}
 use Rattle.journal_defs.specs.Sequence.{Placed, Records}
 use Rattle.journal_defs.specs.Stands.{in_generation}
 use Rattle.journal_defs.specs.Growth.{AreEntries, tcoms}
+use Rattle.journal_defs.specs.Epochs.{chosen, first_without}
 use Rattle.journal_defs.specs.Sound.{region_state, NoEpochPast}
 use Rattle.journal_defs.specs.Fit.{IsSoundImage}
 use Rattle.journal_laws.proofs.Appending.{journal_same}
+use Rattle.journal_laws.proofs.Readings.{records_one}
 use Rattle.instance_file.specs.declared.instance.Instance.{Instance}
 use Rattle.instance_file.specs.Instance as instances
+use Rattle.region_journals.specs.declared.journals.RegionJournal.{RegionJournal}
 use Rattle.region_journals.specs.Journals.{AreReady, KeepsJournals}
 use Rattle.region_epochs.specs.Files.{IsEpochFile}
 use Rattle.region_epochs.specs.Kept.{IsEpochFront, Images, WithEpoch, HasMore, IsStillSound, IsTogether, EachIsSound, IsRegionKept, IsKept}
 use Rattle.region_epochs.specs.Taken.{IsTaken, HasSameNodes, mark_of}
 use Rattle.block_laws.specs.Fronts as fronts
 use Rattle.region_store.specs.Region.{Standing}
-use Rattle.site_regions.specs.Joined.{AreJoined, region_at}
+use Rattle.site_regions.specs.Joined.{Joined, AreJoined, region_at}
 use Rattle.site_regions.proofs.Lists.{there}
 use Rattle.site_regions.proofs.Making.{region_there}
 use Rattle.site_regions.proofs.Parts.{part_at, joined_is}
@@ -40,6 +43,7 @@ use Rattle.site_defs.specs.Fronts.{with_sequence}
 use Rattle.site_defs.specs.Stands.{IsSite}
 use Rattle.site_defs.specs.Behind.{IsSiteWith}
 use Rattle.site_store.specs.declared.site.OpenSite.{OpenSite}
+use Rattle.site_store.specs.Needing.{without_behind, NoneNeeds}
 use Rattle.site_store.specs.Site.{AreNumbered, Remembers, AreHeld, IsReady, AreOnBlocks, Keeps, IsOpen}
 use Rattle.site_store.proofs.Frames as frames
 use Rattle.site_store.proofs.Standing.{reads_of, reads_so, told_of, still}
@@ -282,6 +286,15 @@ module _ (v w : View) (c : Contents) (s : OpenSite) (k : Keeps v c (length c.seq
       instance_file = subst (λ (i : Instance). instances.HasRecords w i c.instance) (sym instance) (frames.records_stay v w F s.instance stays (away_instance (suc k.g) (length s.journals.journals.items)) c.instance k.instance_file);
       journal_files = record { has = λ r y is. t.kept.journals.has r y is; none_waits = λ r y is none. refl };
     }
+
+-- no record stands behind the EPOCHs, so no region needs forward recovery
+pub none_needs : (w : View) (closing : Bool) (s : Records) (seq : Sequence) (g : ℕ) (newer : ℕ → List JournalRecord) (js : List RegionJournal) (j : Joined) → IsTaken w closing s seq g newer js j → (f : Files) → Image w f → NoneNeeds (length seq) f
+none_needs w closing s seq g newer js j t f now u held r here =
+    let one : t.records ≡ u = records_one f t.records u (t.kept.sound.images f now).held held in
+    let size : length (regions u.instance) ≡ length (regions s.instance) = ap (λ (x : Records). length (regions x.instance)) (sym one) ∙ ap (λ (l : List InstanceRecord). length (regions l)) t.more.instance in
+    subst (λ (x : Records). without_behind x (length seq) r ≡ None) one
+    (ap (λ (l : List InstanceRecord). first_without (t.records.journal r) (chosen l (length seq) (t.records.journal r))) t.more.instance
+    ∙ ap (first_without (t.records.journal r)) (t.chosen_each r (omega (arith, here, size))))
 
 pub open_taken : (v w : View) (told closing : Bool) (c : Contents) (s new : OpenSite) → IsReady v s → AreJoined s.globals → IsLawful v → IsLawful w → EpochTaken v w closing s new
     → ((g : ℕ) → AreReady v g s.journals.journals.items → OthersStay (IsEpochFile g (length s.journals.journals.items)) v w) → HasSameNodes s.globals new.globals

@@ -21,6 +21,10 @@ pub record IsFirstWithout (u : Records) (t region generation : ℕ) : Type 0 whe
 abbrev pub NoneIsWithout : Records → ℕ → Type 0
 NoneIsWithout u t = (r : ℕ) → r < length (regions u.instance) → without_behind u t r ≡ None
 
+-- no region does of the site whose files these are
+abbrev pub NoneNeeds : ℕ → Files → Type 0
+NoneNeeds t files = (u : Records) → AreRecords files u → NoneIsWithout u t
+
 -- a generation is left, and the region is the first that needs it for all entries of the sequence that these files stand for
 abbrev pub HaveFirstWithout : Files → (region : ℕ) → Type 0
 HaveFirstWithout files region = (u : Records) × (seq : Sequence) × AreRecords files u × IsSequence u seq × (generation u.instance < 65534) × (g : ℕ) × IsFirstWithout u (length seq) region g

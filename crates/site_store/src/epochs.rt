@@ -1,10 +1,11 @@
 //! Bringing a site to an epoch.
 ghost use Rattle.std.specs.Prelude.{◌≡◌, ◌⊎◌, ◌≤◌, ℕ, Bool, true, length, IfSome, IsOk, OnOk, OnErr, IsErrOf, IsSome};
-ghost use Rattle.disk_defs.specs.Disk.{AtEachMoment, Rose};
+ghost use Rattle.disk_defs.specs.Disk.{Files, Image, AtEachMoment, Rose};
 ghost use Rattle.site_defs.specs.Contents.{Contents, Standing, bare};
 ghost use Rattle.site_defs.specs.Epochs.{marked, MayMark, MayMarkLeft};
 ghost use Rattle.site_defs.specs.Stands.{IsSite};
 ghost use Rattle.site_defs.specs.Behind.{IsSiteWith};
+ghost use Rattle.site_store.specs.Needing.{NoneNeeds};
 ghost use Rattle.site_store.specs.Site.{IsReady, IsOpen, HasReign};
 
 use crate::error::SiteError;
@@ -43,6 +44,8 @@ impl OpenSite {
         requires ready { IsReady (D.disk disk.old) self.old }
         ensures ready { OnOk result (IsReady (D.disk disk.new) self.new) }
         ensures done { OnOk result ((told : Bool) (c : Contents) → IsOpen (D.disk disk.old) told c (length c.sequence) self.old → IsOpen (D.disk disk.new) told (marked c) (length c.sequence) self.new) }
+        // no record stands behind it in any region's journal
+        ensures none_needs { OnOk result ((c : Contents) → IsOpen (D.disk disk.old) true c (length c.sequence) self.old → (f : Files) → Image (D.disk disk.new) f → NoneNeeds (length c.sequence) f) }
         ensures entries { self.new.entries.items ≡ self.old.entries.items }
         ensures instance { self.new.instance ≡ self.old.instance }
         ensures hardened { self.new.hardened ≡ self.old.hardened }

@@ -30,7 +30,7 @@ ghost use Rattle.site_defs.specs.Epochs.{marked, MayMark};
 ghost use Rattle.site_defs.specs.Stands.{IsBlank, IsSite, HasLeft};
 ghost use Rattle.site_defs.specs.OutsideBlocks.{IsOutsideOpening};
 ghost use Rattle.site_regions.specs.Joined.{joined};
-ghost use Rattle.site_store.specs.Needing.{NoneIsWithout, HaveFirstWithout};
+ghost use Rattle.site_store.specs.Needing.{NoneIsWithout, NoneNeeds, HaveFirstWithout};
 ghost use Rattle.site_store.specs.Refusing.{IsUnwritten};
 ghost use Rattle.site_store.specs.Site.{Remembers, WasOpened, WasOpenedFrom, HasReign, HasRoomFor, with_entry};
 ghost use Rattle.site_store.specs.Opening.{region_value, made, MayMake, MayBeOpen, EachStands};
@@ -361,6 +361,7 @@ impl<D: Disk> Site<D> {
         requires ready { IsGoing D.disk self.old }
         ensures ready { OnOk result (IsGoing D.disk self.new) }
         ensures done { OnOk result ((told : Bool) (c : Contents) → IsOpenSite D.disk told c (length c.sequence) self.old → IsOpenSite D.disk told (marked c) (length c.sequence) self.new) }
+        ensures none_needs { OnOk result ((c : Contents) → IsOpenSite D.disk true c (length c.sequence) self.old → (f : Files) → Image (D.disk self.new.disk) f → NoneNeeds (length c.sequence) f) }
         ensures stamp { self.new.inner.stamp ≡ self.old.inner.stamp }
         ensures entries { self.new.inner.entries.items ≡ self.old.inner.entries.items }
         ensures reign { HasReign self.old.inner → HasReign self.new.inner }
@@ -388,6 +389,7 @@ impl<D: Disk> Site<D> {
         requires ready { MayBeCalled D.disk self.old }
         ensures ready { OnOk result (IsGoing D.disk self.new) }
         ensures done { OnOk result ((told : Bool) (c : Contents) (h : ℕ) → IsOpenSite D.disk told c h self.old → IsOpenSite D.disk told (marked c) (length c.sequence) self.new) }
+        ensures none_needs { OnOk result ((c : Contents) (h : ℕ) → IsOpenSite D.disk true c h self.old → (f : Files) → Image (D.disk self.new.disk) f → NoneNeeds (length c.sequence) f) }
         ensures stamp { self.new.inner.stamp ≡ self.old.inner.stamp }
         ensures entries { self.new.inner.entries.items ≡ self.old.inner.entries.items }
         ensures reign { HasReign self.old.inner → HasReign self.new.inner }
@@ -419,6 +421,8 @@ impl<D: Disk> Site<D> {
         requires ready { MayBeCalled D.disk self.old }
         ensures ready { OnOk result (IsGoing D.disk self.new) }
         ensures done { OnOk result ((told : Bool) (c : Contents) (h : ℕ) → IsOpenSite D.disk told c h self.old → IsOpenSite D.disk told (marked c) (length c.sequence) self.new) }
+        // no record stands behind it in any region's journal
+        ensures none_needs { OnOk result ((c : Contents) (h : ℕ) → IsOpenSite D.disk true c h self.old → (f : Files) → Image (D.disk self.new.disk) f → NoneNeeds (length c.sequence) f) }
         ensures stamp { self.new.inner.stamp ≡ self.old.inner.stamp }
         ensures entries { self.new.inner.entries.items ≡ self.old.inner.entries.items }
         ensures reign { HasReign self.old.inner → HasReign self.new.inner }
@@ -446,6 +450,8 @@ impl<D: Disk> Site<D> {
         requires ready { MayBeCalled D.disk self }
         ensures reads { OnOk result.1 ((c : Contents) (h : ℕ) → IsOpenSite D.disk true c h self → IfSome (D.disk result.0).content (λ f. IsSite f (marked c))) }
         ensures images { OnOk result.1 ((c : Contents) (h : ℕ) → IsOpenSite D.disk true c h self → (f : Files) → Image (D.disk result.0) f → IsSite f (marked c)) }
+        // no record stands behind it in any region's journal
+        ensures none_needs { OnOk result.1 ((c : Contents) (h : ℕ) → IsOpenSite D.disk true c h self → (f : Files) → Image (D.disk result.0) f → NoneNeeds (length c.sequence) f) }
         ensures nothing_left { OnOk result.1 ((c : Contents) (h : ℕ) → IsOpenSite D.disk true c h self → (f : Files) → Image (D.disk result.0) f → HasLeft f (marked c) NO_LEFTOVER) }
         ensures any_moment { (c : Contents) (h : ℕ) → IsOpenSite D.disk true c h self → AtEachMoment (D.disk self.disk) (D.disk result.0) (λ f. (o : Contents) × MayFinish c h o × IsSite f o) }
         ensures stands { (c : Contents) (h : ℕ) → IsOpenSite D.disk true c h self → IfSome (D.disk result.0).content (λ f. (o : Contents) × MayFinish c h o × IsSite f o) }

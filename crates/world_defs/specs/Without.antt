@@ -9,7 +9,8 @@ use Rattle.journal_defs.specs.Sequence.{Records}
 use Rattle.journal_defs.specs.Epochs.{chosen, first_without}
 use Rattle.command_defs.specs.Commands.{Name}
 use Rattle.site_defs.specs.Contents.{Taken, Contents}
-use Rattle.world_defs.specs.World.{Place, IfKnown, Kept}
+use Rattle.world_defs.specs.World.{Place, IfKnown, IfShown, Kept}
+use Rattle.world_defs.specs.Shown.{BySequence}
 use Rattle.world_defs.specs.Answers.{Cause, NeedForward}
 
 -- the first generation without images behind the epoch that a region goes back to for so many entries
@@ -28,6 +29,10 @@ pub record IsFirstWithout (name : Name) (g : ℕ) (u : Records) (t : ℕ) : Type
 -- no region does
 abbrev pub NoneIsWithout : Records → ℕ → Type 0
 NoneIsWithout u t = (r : ℕ) → r < length (regions u.instance) → without_behind u t r ≡ None
+
+-- Where its files are known and shown, no region needs forward recovery for all its entries.
+abbrev pub IsWithoutNeed : Place → Type 0
+IsWithoutNeed p = IfKnown p (IfShown p (BySequence (λ u seq. NoneIsWithout u (length seq))))
 
 -- What contents tell of that: of a region which generations began without images, and where its epochs stand. Which records stand behind an epoch
 -- in its own generation they don't tell.

@@ -17,6 +17,7 @@ use Rattle.site_defs.specs.Opening.{MayBegin, MayMap, MaySetMode}
 use Rattle.world_defs.specs.World.{Down, Place, Site, World, Kept, is_site_named, is_free, name_on, place_of}
 use Rattle.world_defs.specs.Answers.{Cause, Exists, Refusal, Section, Answer, Done, Refused, DiskFault, NotAFile, Ran, Typed}
 use Rattle.world_defs.specs.Changes.{Stays, Fails, Becomes}
+use Rattle.world_defs.specs.Without.{IsWithoutNeed}
 use Rattle.world_defs.specs.Row.{writing, first, refused_with, or_else, in_state, why_not_down, refusal_in}
 use Rattle.world_defs.specs.Meaning.{apart, Acts, refusing, on_next, row_at}
 use Rattle.world_defs.specs.rows.{target, meaning}
@@ -245,11 +246,11 @@ module _ (F : Type 0) (K : List Answer → Name → ℕ → Type 0) where
     left = λ q l. cut-left F MayMark _ p q (λ f h t c o a m. (fit-marks_some p h t c o a m).0) l;
   }
 
-  stop-lasts : (p q : Place) → Becomes Down (marked p.now) p q → Lasts F (K (Done ∷ [])) p q
-  stop-lasts p q d = lasts-stays F _ _ _ p q (λ f h. fit-stops_marked p q h d) (entries-some _ p q (entries-becomes _ _ p q (λ name n e h t. h.now t) d)) d
+  stop-lasts : (p q : Place) → Becomes Down (marked p.now) p q × IsWithoutNeed q → Lasts F (K (Done ∷ [])) p q
+  stop-lasts p q d = lasts-stays F _ _ _ p q (λ f h. fit-stops_marked p q h d.0) (entries-some _ p q (entries-becomes _ _ p q (λ name n e h t. h.now t) d.0)) d.0
 
-  epoch-lasts : (p q : Place) → Stays p.site (marked p.now) p q → Lasts F (K (Done ∷ [])) p q
-  epoch-lasts p q d = lasts-stays F _ _ _ p q (λ f h. fit-marks p q h d) (entries-some _ p q (entries-stays p.site _ p q (λ name h. h) (λ name n e h t. h.now t) d)) d
+  epoch-lasts : (p q : Place) → Stays p.site (marked p.now) p q × IsWithoutNeed q → Lasts F (K (Done ∷ [])) p q
+  epoch-lasts p q d = lasts-stays F _ _ _ p q (λ f h. fit-marks p q h d.0) (entries-some _ p q (entries-stays p.site _ p q (λ name h. h) (λ name n e h t. h.now t) d.0)) d.0
 
   crash-lasts : (p q : Place) → Crashes p q → Lasts F (K (Done ∷ [])) p q
   crash-lasts p q d = record { fit = λ f h. fit-crashes p q h d; while_open = open-down p q d.site; entries = entries-some _ p q (entries-crash p q d); later = later p q d.faults }

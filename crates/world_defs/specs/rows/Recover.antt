@@ -14,7 +14,7 @@ use Rattle.world_defs.specs.World.{Down, Place, IfKnown, IfShown}
 use Rattle.world_defs.specs.Answers.{Cause, GenLimit, NeedForward, line}
 use Rattle.world_defs.specs.Shown.{ByRecords, BySequence, ByAnswer, Anything}
 use Rattle.world_defs.specs.Changes.{Becomes, KeptUnknown}
-use Rattle.world_defs.specs.Without.{IsFirstWithout, NoneIsWithout, MayNeedForward}
+use Rattle.world_defs.specs.Without.{IsFirstWithout, NoneIsWithout, IsWithoutNeed, MayNeedForward}
 use Rattle.world_defs.specs.Row.{Row, writing, first, refused_with, in_state, why_not_down, where_known}
 use Rattle.world_defs.specs.rows.Start.{generation_limit, need_forward}
 
@@ -27,6 +27,8 @@ pub record Recovers (anew : Bool) (old new : Place) : Type 0 where
   -- the bytes stand for these records of the instance file, and for a sequence of that length
   pub bytes : IfShown old (BySequence (λ u seq. (read.instance ≡ u.instance) × (length read.sequence ≡ length seq)))
   pub becomes : Becomes Down (recovered_as anew broken read) old new
+  -- and no region needs forward recovery any more
+  pub unneeding : IsWithoutNeed new
 
 -- the bytes are a site's that has a generation left, and unless the blocks are made anew no region needs that
 abbrev pub RecoveredBy : (anew : Bool) → Files → Type 0

@@ -12,7 +12,7 @@ use Rattle.world_defs.specs.World.{Down, Place, IfKnown, IfShown, Kept}
 use Rattle.world_defs.specs.Answers.{Cause, GenLimit, NoBefore, Refusal, line}
 use Rattle.world_defs.specs.Shown.{ByRecords, BySequence, ByAnswer, Anything}
 use Rattle.world_defs.specs.Changes.{Becomes, KeptUnknown}
-use Rattle.world_defs.specs.Without.{IsFirstWithout, NoneIsWithout, needing, MayNeed}
+use Rattle.world_defs.specs.Without.{IsFirstWithout, NoneIsWithout, IsWithoutNeed, needing, MayNeed}
 use Rattle.world_defs.specs.Row.{Row, writing, first, refused_with, in_state, why_not_down, where_known}
 use Rattle.world_defs.specs.rows.Start.{generation_limit}
 
@@ -38,6 +38,8 @@ pub record RollsBack (number : ℕ) (old new : Place) : Type 0 where
   -- the bytes stand for these records of the instance file, and for a sequence of that length
   pub bytes : IfShown old (BySequence (λ u seq. (read.instance ≡ u.instance) × (length read.sequence ≡ length seq)))
   pub becomes : Becomes Down (rolled (stay_of number read) broken read) old new
+  -- and no region needs forward recovery any more
+  pub unneeding : IsWithoutNeed new
 
 -- the bytes are a site's that has a generation left, and each region goes back to an epoch
 abbrev pub RolledBackBy : (number : ℕ) → Files → Type 0

@@ -64,7 +64,7 @@ returns-in-Ok-clause-done g c =
     let s = c.in_ok-site.site in
     let lawful_x = g.met.D.Disk.lawful c.set_aside.new.disk in
     let open_now = rolls.opens_now v p P is same x stays lawful w s lawful_x done c.in_ok-site.ensures.open in
-    rolls.closed_back v p P is same x stays lawful z (rolls.closed v p P is same x stays lawful w s lawful_x z open_now c.epoch.new.self (g.met.D.Disk.lawful c.epoch.new.disk) (λ k is_open. c.in-Ok.ensures.done true k is_open))
+    rolls.closed_back v p P is same x stays lawful z (rolls.closed v p P is same x stays lawful w s lawful_x z open_now c.epoch.new.self (g.met.D.Disk.lawful c.epoch.new.disk) (λ k is_open. c.in-Ok.ensures.done true k is_open) c.in-Ok.ensures.none_needs)
 
 pub returns-in-Ok-clause-any_moment : goal.returns-in-Ok-clause-any_moment
 returns-in-Ok-clause-any_moment g c =

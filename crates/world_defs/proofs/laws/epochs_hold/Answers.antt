@@ -15,13 +15,13 @@ pub returns-clause-told : goal.returns-clause-told
 returns-clause-told c q text h = h.2 ∙ line_alone
 
 pub returns-clause-taken : goal.returns-clause-taken
-returns-clause-taken c q text h = ap (λ (o : Contents). o.epochs 0) h.1.known.now
+returns-clause-taken c q text h = ap (λ (o : Contents). o.epochs 0) h.1.0.known.now
 
 pub returns-clause-open : goal.returns-clause-open
-returns-clause-open c q text h = h.1.site
+returns-clause-open c q text h = h.1.0.site
 
 pub returns-clause-closed : goal.returns-clause-closed
-returns-clause-closed c q text h = ap (λ (o : Contents). o.epochs 0) h.1.known.now
+returns-clause-closed c q text h = ap (λ (o : Contents). o.epochs 0) h.1.0.known.now
 
 pub returns-clause-fault : goal.returns-clause-fault
 returns-clause-fault c k q text h = h.1.rose

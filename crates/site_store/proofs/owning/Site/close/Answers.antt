@@ -15,3 +15,6 @@ returns-clause-images g c = of_both c.finish-closed.result _ _ c.finish-closed.e
 pub returns-clause-nothing_left : goal.returns-clause-nothing_left
 returns-clause-nothing_left g c = of_both c.finish-closed.result _ _ c.finish-closed.ensures.done (λ done x h is.
     settled_left (g.D.Disk.disk c.finish-closed.new.self.disk) (marked x) c.finish-closed.new.self.inner (done true x h is).inner)
+
+pub returns-clause-none_needs : goal.returns-clause-none_needs
+returns-clause-none_needs g c = c.finish-closed.ensures.none_needs

@@ -11,6 +11,9 @@ returns-in_err-harden-clause-stands g c x h is = fronts_stand (g.D.Disk.disk c.h
 pub returns-clause-done : goal.returns-clause-done
 returns-clause-done g c = of_both c.take_epoch.result _ _ c.take_epoch.ensures.done (λ done told x h is. done told x (c.in_ok-harden.ensures.done told x h is))
 
+pub returns-clause-none_needs : goal.returns-clause-none_needs
+returns-clause-none_needs g c = of_both c.take_epoch.result _ _ c.take_epoch.ensures.none_needs (λ none x h is f now. none x (c.in_ok-harden.ensures.done true x h is) f now)
+
 pub returns-clause-any_moment : goal.returns-clause-any_moment
 returns-clause-any_moment g c x h is =
     finish_moments (g.D.Disk.disk c.args.self.now.disk) (g.D.Disk.disk c.harden.new.self.disk) (g.D.Disk.disk c.take_epoch.new.self.disk) x h

@@ -29,6 +29,17 @@ returns-clause-done g c =
     marking.open_taken v w told c.args.closing x c.args.self.now _ c.requires.ready c.count-number.ensures.joined (g.met.D.Disk.lawful c.args.disk.now) (g.met.D.Disk.lawful t.new.disk)
     (λ u seq h newer kept size. taken u seq h newer kept (let e = c.len-number.ensures in omega (arith, size, e))) t.ensures.frame t.ensures.same refl refl refl o)
 
+pub returns-clause-none_needs : goal.returns-clause-none_needs
+returns-clause-none_needs g c =
+    let t = c.take_epoch-taken in
+    let v = g.D.Disk.disk c.args.disk.now in
+    let w = g.D.Disk.disk t.new.disk in
+    of_taken t.result c.answered.result _ _ c.answered.ensures.done t.ensures.done (λ taken x o.
+    let k = o.kept refl in
+    let size = o.remembered.count in
+    marking.none_needs w c.args.closing _ x.sequence _ _ _ _
+    (taken k.records x.sequence k.g k.newer (marking.is_kept v x c.args.self.now k o.remembered c.requires.ready c.count-number.ensures.joined (g.met.D.Disk.lawful c.args.disk.now)) (let e = c.len-number.ensures in omega (arith, size, e))))
+
 pub returns-clause-any_moment : goal.returns-clause-any_moment
 returns-clause-any_moment g c x o =
     let t = c.take_epoch-taken in
