@@ -13,7 +13,7 @@ use Rattle.instance_file.specs.Instance.{StandsWith}
 use Rattle.journal_defs.specs.Broken.{BrokenPart, part_past, parts_past, broken, broken_text}
 use Rattle.journal_defs.specs.Clean.{AreClean}
 use Rattle.journal_defs.specs.Directory.{Pattern, pattern_in, patterns}
-use Rattle.journal_defs.specs.Epochs.{block_of}
+use Rattle.journal_defs.specs.Epochs.{block_of, first_without}
 use Rattle.journal_defs.specs.Fit.{IsSoundImage}
 use Rattle.journal_defs.specs.Growth.{with_record}
 use Rattle.journal_defs.specs.Instance.{InstanceRecord, Create, Reigned, Cut, Map, Mode, NamedMode, generation, regions, site_name}
@@ -26,6 +26,7 @@ use Rattle.journal_defs.specs.Surviving.{survives, spares}
 use Rattle.journal_laws.proofs.Appending.{journal_same}
 use Rattle.journal_laws.proofs.Later as later
 use Rattle.journal_laws.proofs.Naming as naming
+use Rattle.journal_laws.proofs.Readings.{records_one}
 use Rattle.journal_laws.proofs.RecordSteps as steps
 use Rattle.journal_laws.proofs.Runs as runs
 use Rattle.block_laws.proofs.ModeSteps as modes
@@ -33,6 +34,7 @@ use Rattle.site_defs.specs.Behind.{IsStanding}
 use Rattle.site_defs.specs.Contents.{Contents, Leftover, Standing}
 use Rattle.site_defs.specs.Opening.{with_mode}
 use Rattle.site_defs.specs.Stands.{IsSite, HasLeft, texts_of, losts_of, torn_of}
+use Rattle.site_store.specs.Needing.{without_behind, NoneNeeds}
 use Rattle.site_store.proofs.Images.{AreOf, are_of, site_of, texts_same, losts_same, torn_same}
 use Rattle.mupip_rollback.specs.Setting.{with_mode_left, MayHaveMode, MayHaveModeLeft}
 use Rattle.mupip_rollback.proofs.Prepared.{name_more}
@@ -208,6 +210,14 @@ module _ (was now : Files) (same : SameOutside (Only INSTANCE) was now) (c : Con
               ∙ ap (broken_text (site_name (c.instance ++ M ∷ [])) (length c.sequence)) (sym (broken_same region before has.records (length c.sequence) (some_of has.records own)));
           torn = has.torn ∙ old_torn ∙ ap (torn_of now) (sym (newest c.instance));
         }
+
+    -- and no region needs forward recovery where none did: no journal changes, and the MODE discards no epoch
+    pub none_more : (n : ℕ) → NoneNeeds n was → NoneNeeds n now
+    none_more n none u held r here =
+        let one : with_record S M ≡ u = records_one now (with_record S M) u (held_more S site.instance site.image.held) held in
+        let size : length (regions u.instance) ≡ length (regions S.instance) = ap (λ (x : Records). length (regions x.instance)) (sym one) ∙ ap (λ (l : List NamedMode). length l) (naming.same_regions S.instance M (some_of S site.instance)) in
+        subst (λ (x : Records). without_behind x n r ≡ None) one
+        (ap (first_without (S.journal r)) (later.other_instance S.instance M n (S.journal r) (λ g m. refl)) ∙ none S site.image.held r (omega (arith, here, size)))
 
 -- what stands in files of which the instance file alone changes
 module _ (was now : Files) (same : SameOutside (Only INSTANCE) was now) (region : ℕ) (before : Bool) (s : Standing) (stands : IsStanding was s) where

@@ -13,8 +13,8 @@ use Rattle.site_defs.specs.Contents.{Contents, Leftover, Standing}
 use Rattle.site_defs.specs.Opening.{with_mode}
 use Rattle.site_defs.specs.Stands.{IsSite, HasLeft}
 use Rattle.site_store.proofs.Found.{instance_one, site_instance}
-use Rattle.mupip_rollback.specs.Setting.{MayHaveMode, MayHaveModeLeft, MayBeSet, MayBeSetWith, IsSetIn}
-use Rattle.mupip_rollback.proofs.Moded.{site_still, left_still, site_more, left_more, standing_more, standing_either, contents_either}
+use Rattle.mupip_rollback.specs.Setting.{MayHaveMode, MayHaveModeLeft, MayBeSet, MayBeSetWith, IsSetIn, StillNoneNeeds}
+use Rattle.mupip_rollback.proofs.Moded.{site_still, left_still, site_more, left_more, none_more, standing_more, standing_either, contents_either}
 use Rattle.mupip_rollback.proofs.Sites.{some_left}
 
 abbrev pub Moments : View → View → ℕ → Bool → Files → Type 0
@@ -28,7 +28,7 @@ StandsSet n region before files = (c : Contents) (left : Leftover) → IsSite fi
 
 abbrev pub ReadsSet : Option Files → ℕ → Bool → Files → Type 0
 ReadsSet n region before files =
-    (c : Contents) (left : Leftover) → IsSite files c → HasLeft files c left → IfSome n (λ now. IsSite now (with_mode region before c) × HasLeft now (with_mode region before c) left)
+    (c : Contents) (left : Leftover) → IsSite files c → HasLeft files c left → IfSome n (λ now. IsSite now (with_mode region before c) × HasLeft now (with_mode region before c) left × StillNoneNeeds files now)
 
 abbrev pub ImagesSet : View → View → ℕ → Bool → Files → Type 0
 ImagesSet u w region before files = (c : Contents) → IsSite files c → (f : Files) → Image w f → IsSetIn u region before f
@@ -135,11 +135,11 @@ module _ (u v w : View) (rs : List InstanceRecord) (region : ℕ) (before : Bool
       (with_mode region before c, inr refl, site_more a b only c site region before (inside_of c mine) now, left_more a b only c site region before (inside_of c mine) now left has)
 
   more_site : (a b : Files) → Read a → SameOutside (Only INSTANCE) a b → IsInstance (b INSTANCE) More → (c : Contents) (left : Leftover) → IsSite a c → HasLeft a c left
-      → IsSite b (with_mode region before c) × HasLeft b (with_mode region before c) left
+      → IsSite b (with_mode region before c) × HasLeft b (with_mode region before c) left × StillNoneNeeds a b
   more_site a b is only more c left site has =
       let mine = own a c is site in
       let now : IsInstance (b INSTANCE) (c.instance ++ Mode region before ∷ []) = subst (λ (l : List InstanceRecord). IsInstance (b INSTANCE) (l ++ Mode region before ∷ [])) mine more in
-      (site_more a b only c site region before (inside_of c mine) now, left_more a b only c site region before (inside_of c mine) now left has)
+      (site_more a b only c site region before (inside_of c mine) now, left_more a b only c site region before (inside_of c mine) now left has, λ n none. none_more a b only c site region before (inside_of c mine) now n none)
 
   read_at : IfSome v.content Read
   read_at = subst (λ (o : Option Files). IfSome o Read) (sym same) reads

@@ -8,6 +8,7 @@ use Rattle.site_defs.specs.Contents.{Contents, Standing}
 use Rattle.site_defs.specs.Opening.{with_mode}
 use Rattle.site_defs.specs.Stands.{IsSite}
 use Rattle.site_defs.specs.Behind.{IsStanding}
+use Rattle.site_store.specs.Needing.{NoneNeeds}
 
 -- what lies behind the contents stays
 abbrev pub with_mode_left : ℕ → Bool → Standing → Standing
@@ -32,6 +33,10 @@ MayBeSetWith old region before = From (Image old) (λ was now. (s : Standing) �
 -- an image from before the call, whose site has the mode
 abbrev pub IsSetIn : View → ℕ → Bool → Files → Type 0
 IsSetIn old region before = From (Image old) (λ was now. (s : Standing) → IsStanding was s → IsStanding now (with_mode_left region before s))
+
+-- where no region needed forward recovery for so many entries, none does
+abbrev pub StillNoneNeeds : Files → Files → Type 0
+StillNoneNeeds was now = (n : ℕ) → NoneNeeds n was → NoneNeeds n now
 
 -- the instance file's records have no such region; the place is its beginning
 abbrev pub HasNoRegion : Files → (region : ℕ) → ℕ → ℕ → Type 0

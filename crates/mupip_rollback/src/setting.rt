@@ -12,7 +12,7 @@ ghost use Rattle.site_defs.specs.Contents.{Contents, Leftover};
 ghost use Rattle.site_defs.specs.Opening.{with_mode};
 ghost use Rattle.site_defs.specs.Outside.{IsNoInstance};
 ghost use Rattle.site_defs.specs.Stands.{IsSite, HasLeft};
-ghost use Rattle.mupip_rollback.specs.Setting.{MayHaveMode, MayBeSet, MayBeSetWith, IsSetIn, HasNoRegion};
+ghost use Rattle.mupip_rollback.specs.Setting.{MayHaveMode, MayBeSet, MayBeSetWith, IsSetIn, StillNoneNeeds, HasNoRegion};
 
 use super::error::{RollError, in_files};
 use instance_file::{Instance, InstanceLog, InstanceRecord};
@@ -76,7 +76,7 @@ pub fn set_mode<D: Disk>(
     before: bool,
 ) -> Result<(), RollError>
     requires site { IfSome (D.disk disk.old).content (λ files. (c : Contents) → IsSite files c → region < length (regions c.instance)) }
-    ensures reads { OnOk result (IfSome (D.disk disk.old).content (λ files. (c : Contents) (left : Leftover) → IsSite files c → HasLeft files c left → IfSome (D.disk disk.new).content (λ now. IsSite now (with_mode region before c) × HasLeft now (with_mode region before c) left))) }
+    ensures reads { OnOk result (IfSome (D.disk disk.old).content (λ files. (c : Contents) (left : Leftover) → IsSite files c → HasLeft files c left → IfSome (D.disk disk.new).content (λ now. IsSite now (with_mode region before c) × HasLeft now (with_mode region before c) left × StillNoneNeeds files now))) }
     // with what was broken in its own image
     ensures images { OnOk result (IfSome (D.disk disk.old).content (λ files. (c : Contents) → IsSite files c → (f : Files) → Image (D.disk disk.new) f → IsSetIn (D.disk disk.old) region before f)) }
     ensures place { (file offset : ℕ) → IsErrOf result (RollError.NotAFile file offset) → IfSome (D.disk disk.old).content (λ files. IsNoInstance files file offset ⊎ HasNoRegion files region file offset) }
@@ -119,7 +119,7 @@ pub fn set_mode_logged<D: Disk>(
     requires few { length (regions log.records) ≤ 8 }
     requires told { IfSome (D.disk disk.old).content (λ files. IsInstance (files INSTANCE) log.records) }
     requires durable { IfSome (D.disk disk.old).content (λ files. IsDurable (D.disk disk.old) INSTANCE (files INSTANCE)) }
-    ensures reads { OnOk result (IfSome (D.disk disk.old).content (λ files. (c : Contents) (left : Leftover) → IsSite files c → HasLeft files c left → IfSome (D.disk disk.new).content (λ now. IsSite now (with_mode region before c) × HasLeft now (with_mode region before c) left))) }
+    ensures reads { OnOk result (IfSome (D.disk disk.old).content (λ files. (c : Contents) (left : Leftover) → IsSite files c → HasLeft files c left → IfSome (D.disk disk.new).content (λ now. IsSite now (with_mode region before c) × HasLeft now (with_mode region before c) left × StillNoneNeeds files now))) }
     // with what was broken in its own image
     ensures images { OnOk result (IfSome (D.disk disk.old).content (λ files. (c : Contents) → IsSite files c → (f : Files) → Image (D.disk disk.new) f → IsSetIn (D.disk disk.old) region before f)) }
     ensures outside { (file offset : ℕ) → IsErrOf result (RollError.NotAFile file offset) → IfSome (D.disk disk.old).content (λ _. ⊥) }

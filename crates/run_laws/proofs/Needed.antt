@@ -8,7 +8,7 @@ use Rattle.journal_defs.specs.Instance.{regions}
 use Rattle.journal_defs.specs.Sequence.{Records, IsSequence}
 use Rattle.journal_laws.proofs.Readings.{records_one}
 use Rattle.journal_laws.proofs.Runs as sequences
-use Rattle.command_defs.specs.Commands.{Name, StartPrimary, Stop, Resync, RecoverBackward, RecoverForward}
+use Rattle.command_defs.specs.Commands.{Name, SetJournal, StartPrimary, Stop, Resync, RecoverBackward, RecoverForward}
 use Rattle.site_defs.specs.Stands.{Reads}
 use Rattle.world_defs.specs.World.{Place, World, IfKnown, IfShown}
 use Rattle.world_defs.specs.Answers.{Refusal, Done, Refused, NeedForward, NoBefore}
@@ -19,6 +19,7 @@ use Rattle.world_defs.specs.Ties.{IsShown, AreShown}
 use Rattle.world_defs.specs.Without.{IsFirstWithout, NoneIsWithout, IsWithoutNeed, without_behind}
 use Rattle.world_defs.specs.rows.Recover.{Recovers, recover}
 use Rattle.world_defs.specs.rows.Rollback.{RollsBack, stay, rollback}
+use Rattle.world_defs.specs.rows.SetJournal.{SetsMode, set_journal}
 use Rattle.world_defs.specs.rows.Start.{start}
 use Rattle.world_defs.specs.rows.Stop.{stop}
 use Rattle.world_laws.specs.Entries.{IsPlaceOf}
@@ -100,6 +101,11 @@ pub rollback-closed : (w m : World) (name : Name) (number : ℕ) (text : List �
 rollback-closed w m name number text p q h shown at =
     let d : RollsBack number p q = (makes_here (row_at (rollback number) p) w m Done text at.number p q (owns (rollback number) w m name Done text at.number p at.named at.before h) at.before at.behind).1 in
     closed m.places at.number q shown at.behind d.unneeding
+
+pub set-closed : (w m : World) (name region : Name) (before : Bool) (text : List ℕ) (p q : Place) → Step w (SetJournal name region before) (Done ∷ []) m text → AreShown m → IsPlaceOf name w m p q → IsWithoutNeed p → NoneNeeds all_of q
+set-closed w m name region before text p q h shown at none =
+    let d : SetsMode region before p q = (makes_here (row_at (set_journal region before) p) w m Done text at.number p q (owns (set_journal region before) w m name Done text at.number p at.named at.before h) at.before at.behind).1 in
+    closed m.places at.number q shown at.behind (d.unneeding none)
 
 region_there : {X : Type 0} (xs : List X) (i : ℕ) (x : X) → slice_get xs i ≡ Some x → i < length xs
 region_there [] i x e = cc

@@ -1,11 +1,12 @@
 //! Whether a site's regions need forward recovery, by its files.
 
-ghost use Rattle.std.specs.Prelude.{◌∷◌, List, [], ℕ};
-ghost use Rattle.command_defs.specs.Commands.{Name, StartPrimary, Stop, Resync, RecoverBackward, RecoverForward};
+ghost use Rattle.std.specs.Prelude.{◌∷◌, List, [], ℕ, Bool};
+ghost use Rattle.command_defs.specs.Commands.{Name, SetJournal, StartPrimary, Stop, Resync, RecoverBackward, RecoverForward};
 ghost use Rattle.world_defs.specs.World.{Place, World, IfKnown};
 ghost use Rattle.world_defs.specs.Answers.{Done, Refused, NeedForward, NoBefore};
 ghost use Rattle.world_defs.specs.Step.{Step};
 ghost use Rattle.world_defs.specs.Ties.{AreShown};
+ghost use Rattle.world_defs.specs.Without.{IsWithoutNeed};
 ghost use Rattle.world_defs.specs.rows.Rollback.{stay};
 ghost use Rattle.world_laws.specs.Entries.{IsPlaceOf};
 ghost use Rattle.run_laws.specs.Needs.{NoneNeeds, NeedsFirst, NeedsFirstForAll, all_of};
@@ -23,11 +24,12 @@ pub fn needs_are_exact()
 {}
 
 /// Behind a STOP, a RECOVER or a ROLLBACK that was done no region of the site needs forward recovery, so a START right behind it isn't refused
-/// for that, whatever images its regions keep. It does nothing.
+/// for that, whatever images its regions keep; and a SET JOURNAL between them keeps it so. It does nothing.
 pub fn closed_sites_need_none()
     ensures stop { (w m : World) (name : Name) (text : List ℕ) (p q : Place) → Step w (Stop name) (Done ∷ []) m text → AreShown m → IsPlaceOf name w m p q → NoneNeeds all_of q }
     ensures recovered { (w m : World) (name : Name) (text : List ℕ) (p q : Place) → Step w (RecoverBackward name) (Done ∷ []) m text → AreShown m → IsPlaceOf name w m p q → NoneNeeds all_of q }
     ensures recovered_forward { (w m : World) (name : Name) (text : List ℕ) (p q : Place) → Step w (RecoverForward name) (Done ∷ []) m text → AreShown m → IsPlaceOf name w m p q → NoneNeeds all_of q }
     ensures rolled_back { (w m : World) (name : Name) (number : ℕ) (text : List ℕ) (p q : Place) → Step w (Resync name number) (Done ∷ []) m text → AreShown m → IsPlaceOf name w m p q → NoneNeeds all_of q }
+    ensures set_journal { (w m : World) (name region : Name) (before : Bool) (text : List ℕ) (p q : Place) → Step w (SetJournal name region before) (Done ∷ []) m text → AreShown m → IsPlaceOf name w m p q → IsWithoutNeed p → NoneNeeds all_of q }
     ensures started { (w m k : World) (name region : Name) (text rest : List ℕ) (p q x : Place) → Step w (Stop name) (Done ∷ []) m text → AreShown m → IsPlaceOf name w m p q → Step m (StartPrimary name) (Refused (record { site = name; cause = NeedForward region }) ∷ []) k rest → IsPlaceOf name m k q x → IfKnown q ⊥ }
 {}

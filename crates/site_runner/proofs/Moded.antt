@@ -1,18 +1,21 @@
 -- SET JOURNAL at a place.
-use Rattle.std.proofs.Common.{◌≡◌, ℕ, ◌≤◌, Bool, true, false, List, [], ◌∷◌, ◌++◌, map, take, None, Some, refl, sym, ◌∙◌, ap, subst, arith, inl, inr, if◌then◌else◌}
+use Rattle.std.proofs.Common.{◌≡◌, ℕ, ◌≤◌, Bool, true, false, List, [], ◌∷◌, ◌++◌, length, map, take, None, Some, refl, sym, ◌∙◌, ap, subst, arith, inl, inr, if◌then◌else◌}
 use Rattle.std.specs.Prelude.{Option, codes, IfSome, IsSome, IsSomeAnd}
 use Rattle.std.specs.Fmt.{decimal}
 use Rattle.std.specs.List.{flat_map}
 use Rattle.std.proofs.lemmas.Bool.{false≢true}
 use Rattle.disk_defs.specs.Disk.{Files, View, Image, IsLawful, AtEachMoment, Rose}
+use Rattle.global_defs.specs.Entry.{Sequence}
 use Rattle.journal_defs.specs.Numbers.{INSTANCE}
 use Rattle.journal_defs.specs.Instance as records
 use Rattle.journal_defs.specs.Instance.{InstanceRecord, regions, site_name}
+use Rattle.journal_defs.specs.Sequence.{Records}
 use Rattle.journal_defs.specs.Stands.{IsInstance}
+use Rattle.journal_laws.proofs.Readings.{records_one}
 use Rattle.command_defs.specs.Commands.{Name}
 use Rattle.command_defs.specs.Parts.{mode_word}
 use Rattle.site_defs.specs.Lists.{Among, first_where}
-use Rattle.site_defs.specs.Contents.{Contents, Leftover, Standing, same_name}
+use Rattle.site_defs.specs.Contents.{Contents, Leftover, Standing, is_made, same_name}
 use Rattle.site_defs.specs.Limits.{region_number}
 use Rattle.site_defs.specs.Opening.{with_mode, MaySetMode, MaySetModeLeft}
 use Rattle.site_defs.specs.Stands.{IsSite, HasLeft, Stands, Reads}
@@ -20,12 +23,14 @@ use Rattle.site_defs.specs.Behind.{IsStanding, StandsSo}
 use Rattle.site_store.specs.declared.layout.FoundSite.{FoundSite}
 use Rattle.site_store.specs.declared.layout.Layout.{Layout}
 use Rattle.site_store.specs.Opening.{region_value}
+use Rattle.site_store.specs.Needing.{NoneNeeds}
 use Rattle.site_store.specs.Finding.{HasLayout, IsFoundIn}
-use Rattle.mupip_rollback.specs.Setting.{with_mode_left, MayHaveMode, MayHaveModeLeft, MayBeSet, MayBeSetWith, IsSetIn}
+use Rattle.mupip_rollback.specs.Setting.{with_mode_left, MayHaveMode, MayHaveModeLeft, MayBeSet, MayBeSetWith, IsSetIn, StillNoneNeeds}
 use Rattle.world_defs.specs.World as world
 use Rattle.world_defs.specs.World.{Place, has_failed_on, IfShown, StandAfter}
 use Rattle.world_defs.specs.Answers.{Cause, NoRegion, Running, Stopped, Refusal, line}
-use Rattle.world_defs.specs.Shown.{HasNoLayout, IsOfAnother}
+use Rattle.world_defs.specs.Shown.{HasNoLayout, IsOfAnother, BySequence}
+use Rattle.world_defs.specs.Without.{NoneIsWithout, IsWithoutNeed}
 use Rattle.world_defs.specs.Row.{refused_with, in_state, why_not_down}
 use Rattle.world_defs.specs.Changes.{in_new_state, After}
 use Rattle.world_defs.specs.Step.{LeftByRow}
@@ -48,6 +53,7 @@ use Rattle.site_runner.proofs.Found.{FoundIn, layout_at, number_found}
 use Rattle.site_runner.proofs.Leaving.{Ends, EndsSo, ImagesAfter, MayHave, old_ends, old_ends_so, fails_more, left_more, left_cut, left_failed, down_at, still_down, early_none, nothing_had}
 use Rattle.site_runner.proofs.Mapped.{Looked, AreAlike, seen_at, unknown_seen, seen_counted, shown_none, some_and_of}
 use Rattle.site_runner.proofs.Seen.{counted, kept_counted}
+use Rattle.site_runner.proofs.Started.{stand_one}
 
 pub set_not_down : (v : View) (s : Site) (region : Name) (mode : Bool) (cause : Cause) (p : Place) → why_not_down (state_value s.state) ≡ Some cause → IsAt v s p → (set_journal region mode s.name p).early ≡ refused_with s.name (Some cause)
 set_not_down v s region mode cause p e h = ap (refused_with s.name) (state_at why_not_down v s p h ∙ e)
@@ -347,8 +353,9 @@ gains_outcome region mode os o a = let c = flat_among (gains region mode) os o a
 done_at : (region : Name) (number : ℕ) (mode : Bool) (w : View) (s : Site) (before now : List ℕ) (p : Place) (read : Contents) → s.state ≡ Down → p.site ≡ Some (site_value s) → (p.told ≡ true → IsMade s.name p) → (p.told ≡ true → read ≡ p.now)
     → region_number region read ≡ Some number → unset region p ≡ None → (p.told ≡ true → IsSomeAnd w.content (λ files. Reads files (with_mode number mode read) p.left))
     → (p.told ≡ true → (f : Files) → Image w f → (o : Contents) × Among (flat_map (gains region mode) p.outcomes) o × Stands f o) → (p.told ≡ true → ImagesStand w (gains_standing region mode p.standings))
+    → (p.told ≡ true → IsWithoutNeed p → IfSome w.content (BySequence (λ u seq. NoneIsWithout u (length seq))))
     → IfShown p (SetBy region s.name) → p.faults ≤ w.faults → w.simulated ≡ p.simulated → now ≡ before ++ line s.name (codes "JOURNAL " ++ region ++ 32 ∷ mode_word mode) → Answers region mode w s p s before now true
-done_at region number mode w s before now p read down site made as_before named free reads images standings by later same t =
+done_at region number mode w s before now p read down site made as_before named free reads images standings needs by later same t =
     comes_done q
     (none_refused s.name (in_state why_not_down p.site) (unset region p) (early_none s p down site) free)
     (record {
@@ -356,6 +363,7 @@ done_at region number mode w s before now p read down site made as_before named 
       as_before = as_before;
       number = number;
       named = named;
+      unneeding = λ none sure. needs sure none;
       becomes = record { site = refl; told = refl; now = refl; left = refl; outcomes = gains_outcome region mode p.outcomes; standings = after_gains region mode p.standings; faults = later; simulated = refl };
     })
     by
@@ -389,12 +397,30 @@ set_image leftovers number mode was f c site set =
     let left = leftovers.there was c site in
     (set (record { contents = c; broken = left.0.broken }) (record { site = site; torn = left.0.torn; left = left.1 })).site
 
+-- where no region needed forward recovery none does
+needs_stay : (number : ℕ) (mode : Bool) (o n : Option Files) (c : Contents) (left : Leftover) → is_made c ≡ true → IsSomeAnd o (λ f. Reads f c left)
+    → IfSome o (λ files. (c : Contents) (left : Leftover) → IsSite files c → HasLeft files c left → IfSome n (λ now. IsSite now (with_mode number mode c) × HasLeft now (with_mode number mode c) left × StillNoneNeeds files now))
+    → IfSome o (BySequence (λ u seq. NoneIsWithout u (length seq))) → IfSome n (BySequence (λ u seq. NoneIsWithout u (length seq)))
+needs_stay number mode None n c left made reads set none = absurd reads
+needs_stay number mode (Some f) n c left made reads set none =
+    if_some n (λ now. IsSite now (with_mode number mode c) × HasLeft now (with_mode number mode c) left × StillNoneNeeds f now) (BySequence (λ u seq. NoneIsWithout u (length seq)))
+    (λ now k. (k.0.records, c.sequence, k.0.image.held, k.0.image.sequence, k.2 (length c.sequence) all k.0.records k.0.image.held)) (set c left site.0 site.1)
+  where
+    site : IsSite f c × HasLeft f c left
+    site = reads_site f c left made reads
+
+    all : NoneNeeds (length c.sequence) f
+    all u held =
+        let one : none.0 ≡ u = records_one f none.0 u none.2 held in
+        let same = stand_one f c none.0 none.1 site.0 none.2 none.3 in
+        subst (λ (x : Records). NoneIsWithout x (length c.sequence)) one (subst (λ (seq : Sequence). NoneIsWithout none.0 (length seq)) (sym same.1) none.4)
+
 done_told : (leftovers : Leftovers) (region : Name) (number : ℕ) (mode : Bool) (v w : View) (s : Site) (before now : List ℕ) (p : Place) → Moments region number mode v w → IsSeenAt v s p → p.told ≡ true
-    → IfSome v.content (λ files. (c : Contents) (left : Leftover) → IsSite files c → HasLeft files c left → IfSome w.content (λ now. IsSite now (with_mode number mode c) × HasLeft now (with_mode number mode c) left))
+    → IfSome v.content (λ files. (c : Contents) (left : Leftover) → IsSite files c → HasLeft files c left → IfSome w.content (λ now. IsSite now (with_mode number mode c) × HasLeft now (with_mode number mode c) left × StillNoneNeeds files now))
     → IfSome v.content (λ files. (c : Contents) → IsSite files c → (f : Files) → Image w f → IsSetIn v number mode f)
     → IfSome v.content (SetBy region s.name) → now ≡ before ++ line s.name (codes "JOURNAL " ++ region ++ 32 ∷ mode_word mode) → Answers region mode w s p s before now true
 done_told leftovers region number mode v w s before now p m h sure reads images by t =
-    done_at region number mode w s before now p p.now h.down h.site h.made (λ _. refl) named (unset_told region p (Some number) sure named) (λ _. told) (λ _. outcome) (λ _. standing p.standings (h.standings sure))
+    done_at region number mode w s before now p p.now h.down h.site h.made (λ _. refl) named (unset_told region p (Some number) sure named) (λ _. told) (λ _. outcome) (λ _. standing p.standings (h.standings sure)) (λ _. needs)
     (by_shown p.shown v.content (SetBy region s.name) h.shown by) (omega (arith, m.later, h.faults)) (m.simulated ∙ h.simulated) t
   where
     named : region_number region p.now ≡ Some number
@@ -404,8 +430,11 @@ done_told leftovers region number mode v w s before now p m h sure reads images 
     told =
         let here = some_both v.content _ _ (h.reads sure) reads in
         let site = reads_site here.0 p.now p.left (h.made sure).now.made here.1 in
-        some_and w.content (λ f. IsSite f (with_mode number mode p.now) × HasLeft f (with_mode number mode p.now) p.left) (λ f. Reads f (with_mode number mode p.now) p.left) (λ f k. inr k)
+        some_and w.content (λ f. IsSite f (with_mode number mode p.now) × HasLeft f (with_mode number mode p.now) p.left × StillNoneNeeds here.0 f) (λ f. Reads f (with_mode number mode p.now) p.left) (λ f k. inr (k.0, k.1))
         (some_and_of w.content _ (m.still_told (told_is v.content _ (h.reads sure))) (here.2 p.now p.left site.0 site.1))
+
+    needs : IsWithoutNeed p → IfSome w.content (BySequence (λ u seq. NoneIsWithout u (length seq)))
+    needs none = needs_stay number mode v.content w.content p.now p.left (h.made sure).now.made (h.reads sure) reads (subst (λ (o : Option Files). IfSome o (BySequence (λ u seq. NoneIsWithout u (length seq)))) (h.known sure) (none sure))
 
     from : (f : Files) → Image w f → IsSetIn v number mode f
     from f i =
@@ -435,14 +464,14 @@ done_told leftovers region number mode v w s before now p m h sure reads images 
 done_untold : (region : Name) (number : ℕ) (mode : Bool) (v w : View) (s : Site) (before now : List ℕ) (p : Place) (read : Contents) → Moments region number mode v w → IsSeenAt v s p → p.told ≡ false
     → region_number region read ≡ Some number → IfSome v.content (SetBy region s.name) → now ≡ before ++ line s.name (codes "JOURNAL " ++ region ++ 32 ∷ mode_word mode) → Answers region mode w s p s before now true
 done_untold region number mode v w s before now p read m h unsure named by t =
-    done_at region number mode w s before now p read h.down h.site h.made (λ sure. absurd (never sure)) named (unset_unknown region p unsure) (λ sure. absurd (never sure)) (λ sure. absurd (never sure)) (λ sure. absurd (never sure))
+    done_at region number mode w s before now p read h.down h.site h.made (λ sure. absurd (never sure)) named (unset_unknown region p unsure) (λ sure. absurd (never sure)) (λ sure. absurd (never sure)) (λ sure. absurd (never sure)) (λ sure. absurd (never sure))
     (by_shown p.shown v.content (SetBy region s.name) h.shown by) (omega (arith, m.later, h.faults)) (m.simulated ∙ h.simulated) t
   where
     never : p.told ≡ true → ⊥
     never sure = false≢true (sym unsure ∙ sure)
 
 pub there_done : (leftovers : Leftovers) (region : Name) (number : ℕ) (mode : Bool) (v w : View) (s : Site) (before now : List ℕ) → Moments region number mode v w → ((c : Contents) × (region_number region c ≡ Some number))
-    → IfSome v.content (λ files. (c : Contents) (left : Leftover) → IsSite files c → HasLeft files c left → IfSome w.content (λ now. IsSite now (with_mode number mode c) × HasLeft now (with_mode number mode c) left))
+    → IfSome v.content (λ files. (c : Contents) (left : Leftover) → IsSite files c → HasLeft files c left → IfSome w.content (λ now. IsSite now (with_mode number mode c) × HasLeft now (with_mode number mode c) left × StillNoneNeeds files now))
     → IfSome v.content (λ files. (c : Contents) → IsSite files c → (f : Files) → Image w f → IsSetIn v number mode f)
     → IfSome v.content (SetBy region s.name) → now ≡ before ++ line s.name (codes "JOURNAL " ++ region ++ 32 ∷ mode_word mode) → SetsAt region mode v s w s before now true
 there_done leftovers region number mode v w s before now m named reads images by t p h = elim (is_true_or_false p.told) [

@@ -12,6 +12,7 @@ use Rattle.world_defs.specs.World.{Down, Place, IfKnown, IfShown}
 use Rattle.world_defs.specs.Answers.{Cause, NoRegion, line}
 use Rattle.world_defs.specs.Shown.{ByRecords, ByAnswer, Anything}
 use Rattle.world_defs.specs.Changes.{Alters, KeptUnknown}
+use Rattle.world_defs.specs.Without.{IsWithoutNeed}
 use Rattle.world_defs.specs.Row.{Row, writing, refused_with, in_state, why_not_down, where_known}
 use Rattle.world_defs.specs.rows.Map.{no_region_at, IsNotThere}
 
@@ -45,6 +46,8 @@ pub record SetsMode (region : Name) (before : Bool) (old new : Place) : Type 0 w
   pub as_before : IfKnown old (read ≡ old.now)
   pub number : ℕ
   pub named : region_number region read ≡ Some number
+  -- no journal changes
+  pub unneeding : IsWithoutNeed old → IsWithoutNeed new
   pub becomes : Alters Down (with_mode number before read) (GainsMode region before) (GainsModeLeft region before) old new
 
 abbrev pub set_journal : (region : Name) → (before : Bool) → Name → Place → Row

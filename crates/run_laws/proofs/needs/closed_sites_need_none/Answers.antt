@@ -7,5 +7,6 @@ returns c = record {
   recovered = needed.backward-closed;
   recovered_forward = needed.forward-closed;
   rolled_back = needed.rollback-closed;
+  set_journal = needed.set-closed;
   started = needed.stop-starts;
 }
