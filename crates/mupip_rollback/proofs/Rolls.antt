@@ -22,6 +22,7 @@ use Rattle.site_files.specs.Loading.{MayBeOpened, AreRead, WasRead, MayDraw, Are
 use Rattle.site_files.proofs.Ahead as ahead
 use Rattle.site_files.proofs.Kept.{image_read}
 use Rattle.site_regions.specs.Joined.{joined}
+use Rattle.site_store.specs.Needing.{NoneNeeds}
 use Rattle.site_store.specs.declared.preparing.FoundFiles.{FoundFiles}
 use Rattle.site_store.specs.declared.site.OpenSite.{OpenSite}
 use Rattle.site_store.specs.Opening.{AreDatabasesDurable}
