@@ -14,5 +14,5 @@ some_region (Some files) = λ c site.
     let many = region_count (files INSTANCE) c.instance (site_instance files c site) (made_some c site.made) in
     omega (arith, many.0)
 
-pub set_mode-requires-clause-site : goal.set_mode-requires-clause-site
-set_mode-requires-clause-site g c = some_region (g.D.Disk.disk c.args.disk.now).content
+pub set_mode-requires : goal.set_mode-requires
+set_mode-requires g c = some_region (g.D.Disk.disk c.args.disk.now).content
