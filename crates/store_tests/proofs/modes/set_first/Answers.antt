@@ -15,4 +15,4 @@ some_region (Some files) = λ c site.
     omega (arith, many.0)
 
 pub set_mode-requires : goal.set_mode-requires
-set_mode-requires g c = some_region (g.D.Disk.disk c.args.disk.now).content
+set_mode-requires g c = record { site = some_region (g.D.Disk.disk c.args.disk.now).content }
