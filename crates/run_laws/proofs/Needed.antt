@@ -1,8 +1,8 @@
 -- NEEDFORWARD and NOBEFORE by the files that are shown.
-use Rattle.std.proofs.Common.{◌≡◌, ◌<◌, ℕ, zero, suc, Bool, true, false, List, [], ◌∷◌, length, Option, None, Some, slice_get, sym, ◌∙◌, subst, arith}
+use Rattle.std.proofs.Common.{◌≡◌, ◌<◌, ℕ, zero, suc, Bool, true, false, List, [], ◌∷◌, length, Option, None, Some, slice_get, refl, sym, ◌∙◌, subst, arith}
 use Rattle.std.specs.Prelude.{IfSome, IsSomeAnd}
 use Rattle.std.specs.List.{AllByRecursion}
-use Rattle.disk_defs.specs.Disk.{Files}
+use Rattle.disk_defs.specs.Disk.{Files, View}
 use Rattle.global_defs.specs.Entry.{Sequence}
 use Rattle.journal_defs.specs.Instance.{regions}
 use Rattle.journal_defs.specs.Sequence.{Records, IsSequence}
@@ -15,7 +15,7 @@ use Rattle.world_defs.specs.Answers.{Refusal, Done, Refused, NeedForward, NoBefo
 use Rattle.world_defs.specs.Meaning.{apart, row_at}
 use Rattle.world_defs.specs.Shown.{BySequence}
 use Rattle.world_defs.specs.Step.{One, Step}
-use Rattle.world_defs.specs.Ties.{IsShown, AreShown}
+use Rattle.world_defs.specs.Ties.{Matches, IsShown, AreShown}
 use Rattle.world_defs.specs.Without.{IsFirstWithout, NoneIsWithout, IsWithoutNeed, without_behind}
 use Rattle.world_defs.specs.rows.Recover.{Recovers, recover}
 use Rattle.world_defs.specs.rows.Rollback.{RollsBack, stay, rollback}
@@ -23,7 +23,7 @@ use Rattle.world_defs.specs.rows.SetJournal.{SetsMode, set_journal}
 use Rattle.world_defs.specs.rows.Start.{start}
 use Rattle.world_defs.specs.rows.Stop.{stop}
 use Rattle.world_laws.specs.Entries.{IsPlaceOf}
-use Rattle.run_laws.specs.Needs.{BytesHave, NoneNeeds, NeedsFirst, NeedsFirstForAll, all_of}
+use Rattle.run_laws.specs.Needs.{BytesHave, NoneNeeds, NeedsFirst, NeedsFirstForAll, IsTiedApart, all_of, showing}
 use Rattle.run_laws.proofs.Owns.{owns, makes_here}
 
 shown_at : (ps : List Place) (i : ℕ) (p : Place) → AllByRecursion IsShown ps → slice_get ps i ≡ Some p → IsShown p
@@ -130,3 +130,11 @@ pub stop-starts : (w m k : World) (name region : Name) (text rest : List ℕ) (p
 stop-starts w m k name region text rest p q x h shown at next then = λ sure.
     let here = makes_here (row_at start q) m k (Refused (refusing name region)) rest then.number q x (owns start m k name (Refused (refusing name region)) rest then.number q then.named then.before next) then.before then.behind in
     none_by q.shown region (λ files. Reads files q.now q.left) (shown_at m.places at.number q shown at.behind sure) (stop-here w m name text p q h at sure) here.2
+
+-- what a disk tells is what is shown of it
+itself : (o : Option Files) → IfSome o (λ f. o ≡ Some f)
+itself None = tt
+itself (Some f) = refl
+
+pub shown-tied : (v : View) (p : Place) → IsTiedApart v p → Matches v (showing v p)
+shown-tied v p t = record { told = t.told; images = t.images; standings = t.standings; shown = itself v.content; known = λ _. refl; faults = t.faults; simulated = t.simulated }

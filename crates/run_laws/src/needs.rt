@@ -5,14 +5,16 @@ ghost use Rattle.command_defs.specs.Commands.{Name, SetJournal, StartPrimary, St
 ghost use Rattle.world_defs.specs.World.{Place, World, IfKnown};
 ghost use Rattle.world_defs.specs.Answers.{Done, Refused, NeedForward, NoBefore};
 ghost use Rattle.world_defs.specs.Step.{Step};
-ghost use Rattle.world_defs.specs.Ties.{AreShown};
+ghost use Rattle.world_defs.specs.Ties.{Matches, AreShown};
 ghost use Rattle.world_defs.specs.Without.{IsWithoutNeed};
 ghost use Rattle.world_defs.specs.rows.Rollback.{stay};
 ghost use Rattle.world_laws.specs.Entries.{IsPlaceOf};
-ghost use Rattle.run_laws.specs.Needs.{NoneNeeds, NeedsFirst, NeedsFirstForAll, all_of};
+ghost use Rattle.run_laws.specs.Needs.{NoneNeeds, NeedsFirst, NeedsFirstForAll, IsTiedApart, all_of, showing};
 
-/// In a world that shows what known files read as, as each world behind a command of a run does, NEEDFORWARD and NOBEFORE are answered
-/// exactly: where a START, a RECOVER BACKWARD or a ROLLBACK was done, no region of the files needed forward recovery, and where it was refused so,
+use repl_disk::Disk;
+
+/// In a world that shows, of each disk whose files are known, files that stand for what its place has, as each world behind a command of a run does,
+/// NEEDFORWARD and NOBEFORE are answered exactly by these: where a START, a RECOVER BACKWARD or a ROLLBACK was done, no region of the files needed forward recovery, and where it was refused so,
 /// the region that it names was the first one that did. It does nothing.
 pub fn needs_are_exact()
     ensures started { (w m : World) (name : Name) (text : List ℕ) (p q : Place) → AreShown w → Step w (StartPrimary name) (Done ∷ []) m text → IsPlaceOf name w m p q → NoneNeeds all_of p }
@@ -32,4 +34,10 @@ pub fn closed_sites_need_none()
     ensures rolled_back { (w m : World) (name : Name) (number : ℕ) (text : List ℕ) (p q : Place) → Step w (Resync name number) (Done ∷ []) m text → AreShown m → IsPlaceOf name w m p q → NoneNeeds all_of q }
     ensures set_journal { (w m : World) (name region : Name) (before : Bool) (text : List ℕ) (p q : Place) → Step w (SetJournal name region before) (Done ∷ []) m text → AreShown m → IsPlaceOf name w m p q → IsWithoutNeed p → NoneNeeds all_of q }
     ensures started { (w m k : World) (name region : Name) (text rest : List ℕ) (p q x : Place) → Step w (Stop name) (Done ∷ []) m text → AreShown m → IsPlaceOf name w m p q → Step m (StartPrimary name) (Refused (record { site = name; cause = NeedForward region }) ∷ []) k rest → IsPlaceOf name m k q x → IfKnown q ⊥ }
+{}
+
+/// A world that shows what its known disks read as asks nothing of these: a disk that is tied to a place in all else is tied to the same place
+/// that shows what the disk reads as. It does nothing.
+pub fn any_disk_can_be_shown<D: Disk>(disk: &D)
+    ensures { (p : Place) → IsTiedApart (D.disk disk.now) p → Matches (D.disk disk.now) (showing (D.disk disk.now) p) }
 {}
