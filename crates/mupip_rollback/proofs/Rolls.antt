@@ -67,16 +67,16 @@ module _ (v : View) (p : Prepared) (P : IsPrepared v p) where
   many = length (regions rs)
 
   abbrev pub t : ℕ
-  t = length p.kept.entries.items
+  t = length p.kept.entries
 
   size : p.length ≡ length seq
-  size = P.counted ∙ sym (length_values f.entries.items)
+  size = P.counted ∙ sym (length_values f.entries)
 
   most : t ≤ length seq
-  most = let a = P.most in let b = length_values f.entries.items in omega (arith, a, b)
+  most = let a = P.most in let b = length_values f.entries in omega (arith, a, b)
 
   few : length seq < 2 ^ 40
-  few = let a = P.has.few in let b = length_values f.entries.items in omega (arith, a, b)
+  few = let a = P.has.few in let b = length_values f.entries in omega (arith, a, b)
 
   abbrev qs : List InstanceRecord
   qs = cut_records rs (length seq)

@@ -42,10 +42,10 @@ pub record IsCutOff (v : View) (rs : List InstanceRecord) (c : Contents) (kept :
   pub seq : Sequence
   pub sequence : IsSequence (record { instance = rs; journal = journal }) seq
   pub none : broken (record { instance = rs; journal = journal }) (length seq) ≡ []
-  pub most : length kept.entries.items ≤ length seq
+  pub most : length kept.entries ≤ length seq
   pub reads : (f : Files) → Image v f → AreRead rs (last_of kept.last_began.items) journal f
   pub stands : (f : Files) → Image v f → IsSite f c
-  pub entries : map numbered kept.entries.items ≡ enumerate_from 1 (take (length kept.entries.items) seq)
+  pub entries : kept.entries ≡ (take (length kept.entries) seq)
   pub synced : AreSynced v (length (regions rs))
-  pub on : (f : Files) → Image v f → AreOnBlocks f (record { instance = rs; journal = journal }) (length kept.entries.items) kept.globals
-  pub globals : joined kept.globals ≡ state (take (length kept.entries.items) seq)
+  pub on : (f : Files) → Image v f → AreOnBlocks f (record { instance = rs; journal = journal }) (length kept.entries) kept.globals
+  pub globals : joined kept.globals ≡ state (take (length kept.entries) seq)

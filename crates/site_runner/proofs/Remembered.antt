@@ -31,20 +31,20 @@ sequence_one xs a b e f = sym (values 1 a) ∙ ap (map (λ (x : ℕ × Entry). x
 -- The entries in memory are some sequence, numbered from 1 on.
 pub record HasSequence (o : OpenSite) (n : ℕ) : Type 0 where
   pub entries : Sequence
-  pub numbers : map numbered o.entries.items ≡ enumerate_from 1 entries
+  pub numbers : o.entries ≡ entries
   pub count : length entries ≡ n
 
 pub entries_so : (c : Contents) (hardened : ℕ) (o : OpenSite) → Remembers c hardened o → HasSequence o (length c.sequence)
-entries_so c hardened o m = record { entries = map entry_value o.entries.items; numbers = m.numbers; count = length-map o.entries.items entry_value ∙ m.count }
+entries_so c hardened o m = record { entries = map entry_value o.entries; numbers = m.numbers; count = length-map o.entries entry_value ∙ m.count }
 
 -- as many as the sequence has
-pub entries_count : (c : Contents) (hardened : ℕ) (o : OpenSite) → Remembers c hardened o → length o.entries.items ≡ length c.sequence
+pub entries_count : (c : Contents) (hardened : ℕ) (o : OpenSite) → Remembers c hardened o → length o.entries ≡ length c.sequence
 entries_count c hardened o m = m.count
 
 -- and those of the sequence itself, where the files are known
-pub entries_known : (v : View) (told : Bool) (c : Contents) (hardened : ℕ) (o : OpenSite) → IsOpen v told c hardened o → IsTrue told → map numbered o.entries.items ≡ enumerate_from 1 c.sequence
+pub entries_known : (v : View) (told : Bool) (c : Contents) (hardened : ℕ) (o : OpenSite) → IsOpen v told c hardened o → IsTrue told → o.entries ≡ c.sequence
 entries_known v told c hardened o h = h.entries
 
 -- entries of a sequence are as many
-pub entries_of : (o : OpenSite) (seq : Sequence) → map numbered o.entries.items ≡ enumerate_from 1 seq → length o.entries.items ≡ length seq
-entries_of o seq e = length_tagged o.entries.items seq 1 e
+pub entries_of : (o : OpenSite) (seq : Sequence) → o.entries ≡ seq → length o.entries ≡ length seq
+entries_of o seq e = length_tagged o.entries seq 1 e

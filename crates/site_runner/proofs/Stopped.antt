@@ -103,7 +103,7 @@ pub open_at_place : (v : View) (s : Site) (r : Reign) (p : Place) → s.state �
 open_at_place v s r p e h = ap (refused_with s.name) (state_at why_not_open v s p h ∙ ap (λ (x : State). why_not_open (state_value x)) e)
 
 -- the entries that are shown are those in memory
-pub extracts_at : (v : View) (s : Site) (r : Reign) (from : Option ℕ) (before now : List ℕ) → s.state ≡ Primary r → ((seq : Sequence) → map numbered r.site.entries.items ≡ enumerate_from 1 seq → now ≡ before ++ extract_from s.name from seq)
+pub extracts_at : (v : View) (s : Site) (r : Reign) (from : Option ℕ) (before now : List ℕ) → s.state ≡ Primary r → ((seq : Sequence) → r.site.entries ≡ seq → now ≡ before ++ extract_from s.name from seq)
     → ExecutesAt (extract from s.name) v s v s before now false
 extracts_at v s r from before now e h p at_p =
     let o = reigns_at v s r p e at_p in
@@ -112,7 +112,7 @@ extracts_at v s r from before now e h p at_p =
     (record {
       entries = m.entries;
       count = m.count;
-      told = λ sure. sequence_one r.site.entries.items m.entries p.now.sequence m.numbers (entries_known v p.told p.now (length p.now.sequence) r.site o sure);
+      told = λ sure. sequence_one r.site.entries m.entries p.now.sequence m.numbers (entries_known v p.told p.now (length p.now.sequence) r.site o sure);
       shows = refl;
       kept = kept_same p;
     })
@@ -138,7 +138,7 @@ shows_at v s before now t p h =
     comes_done p refl (kept_same p) tt h (t ∙ ap (λ (x : List ℕ). before ++ x) (shown_state v s p s.state refl h) ∙ ap (λ (o : Option world.Site). before ++ show_on s.name o p.now) (sym h.site))
 
 -- what is shown of a site that is open, written in two steps
-pub state_written : (s : Site) (r : Reign) (n : Name) (cycle len : ℕ) (rs : List code_reign.Reign) (before mid now : List ℕ) → s.state ≡ Primary r → n ≡ s.name → cycle ≡ (stamp_of r).cycle → len ≡ length r.site.entries.items
+pub state_written : (s : Site) (r : Reign) (n : Name) (cycle len : ℕ) (rs : List code_reign.Reign) (before mid now : List ℕ) → s.state ≡ Primary r → n ≡ s.name → cycle ≡ (stamp_of r).cycle → len ≡ length r.site.entries
     → map reign_value rs ≡ reigns r.site.instance.records → mid ≡ before ++ line n (codes "STATE PRIMARY " ++ decimal cycle ++ codes " LENGTH " ++ decimal len) → now ≡ mid ++ flat_map (λ x. line n (reign_text x)) (map reign_value rs)
     → now ≡ before ++ state_text s.name s.state
 state_written s r n cycle len rs before mid now is e c l h m t =
@@ -149,7 +149,7 @@ state_written s r n cycle len rs before mid now is e c l h m t =
     ∙ ap (λ (x : Name). before ++ (first x cycle len ++ lines x (map reign_value rs))) e
     ∙ ap (λ (x : ℕ). before ++ (first s.name x len ++ lines s.name (map reign_value rs))) c
     ∙ ap (λ (x : ℕ). before ++ (first s.name (stamp_of r).cycle x ++ lines s.name (map reign_value rs))) l
-    ∙ ap (λ (x : List defs.Reign). before ++ (first s.name (stamp_of r).cycle (length r.site.entries.items) ++ lines s.name x)) h
+    ∙ ap (λ (x : List defs.Reign). before ++ (first s.name (stamp_of r).cycle (length r.site.entries) ++ lines s.name x)) h
     ∙ ap (λ (x : State). before ++ state_text s.name x) (sym is)
 
 pub down_written : (s : Site) (n : Name) (before now : List ℕ) → s.state ≡ Down → n ≡ s.name → now ≡ before ++ line n (codes "STATE DOWN") → now ≡ before ++ state_text s.name s.state

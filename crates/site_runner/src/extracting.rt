@@ -15,7 +15,7 @@ use site_store::OpenSite;
 
 /// Adds the lines of the entries behind the first so many.
 fn write_entries(site: &OpenSite, before: u64, text: &mut Bytes) -> Result<(), NoMemory>
-    ensures { OnOk result (text.new ≡ text.old ++ flat_map (λ p. entry_text p.0 p.1) (map numbered (drop before site.now.entries.items))) }
+    ensures { OnOk result (text.new ≡ text.old ++ flat_map (λ p. entry_text p.0 p.1) (map numbered (drop before site.now.entries))) }
 {
     for place in before..site.sequence_length() {
         site.extract(place + 1, text)?;

@@ -29,8 +29,7 @@ use Rattle.site_defs.specs.Stands.{IsSite}
 use Rattle.site_store.specs.declared.site.OpenSite.{OpenSite}
 use Rattle.site_regions.specs.Joined.{joined}
 use Rattle.site_store.specs.Site.{Remembers, IsReady, Keeps, IsOpen, AreOnBlocks}
-use Rattle.gvn_model.specs.Numbered.{numbered}
-use Rattle.site_store.proofs.Remembered.{remembered_length, numbers_same}
+use Rattle.site_store.proofs.Remembered.{remembered_length}
 use Rattle.site_store.proofs.Standing.{reads_of, reads_so, told_of, still}
 use Rattle.site_store.proofs.Committed.{instance_kept, ready_after}
 use Rattle.site_store.proofs.Waiting as waiting
@@ -77,9 +76,9 @@ pub record Hardens (v w : View) (old new : OpenSite) : Type 0 where
   pub stays : (g : ℕ) → AreReady v g old.journals.journals.items → OthersStay (IsNewestFile g (length old.journals.journals.items)) v w
   pub instance : new.instance ≡ old.instance
   pub layout : new.layout ≡ old.layout
-  pub entries : new.entries.items ≡ old.entries.items
+  pub entries : new.entries ≡ old.entries
   pub globals : new.globals ≡ old.globals
-  pub hardened : new.hardened ≡ length old.entries.items
+  pub hardened : new.hardened ≡ length old.entries
 
 pub ready_hardened : (v w : View) (old new : OpenSite) → Hardens v w old new → IsReady w new
 ready_hardened v w old new p =
@@ -188,10 +187,9 @@ open_hardened v w told c h old new p lawful is = record {
   remembered = record {
     instance = ap (λ (i : Instance). i.records) p.instance ∙ is.remembered.instance;
     count = ap length p.entries ∙ is.remembered.count;
-    numbers = numbers_same old.entries.items new.entries.items p.entries is.remembered.numbers;
     globals = ap joined p.globals ∙ is.remembered.globals;
     hardened = p.hardened ∙ remembered_length c h old is.remembered;
   };
-  entries = λ known. ap (map numbered) p.entries ∙ is.entries known;
+  entries = λ known. p.entries ∙ is.entries known;
   kept = λ known. keeps_hardened v w c h old new p lawful (is.kept known) is.remembered;
 }

@@ -35,4 +35,4 @@ returns c =
     ∙ ap (λ (l : List code.Entry). c.write_header.new.out ++ flat_map (λ (p : ℕ × Entry). entry_text p.0 p.1) (map numbered l)) whole
     ∙ ap (λ x. x ++ text c.deref.result.now) (c.in_ok-write_header.ensures.ok ∙ ap (λ x. x ++ header name (t + 1)) c.new-text.ensures ∙ ap (λ x. header x (t + 1)) name_is)
     ∙ ap (λ es. header (site_name f.read.log.records) (t + 1) ++ text es) c.deref.ensures.value
-    ∙ ap (λ y. header (site_name f.read.log.records) (t + 1) ++ y) (rest_text f.entries.items (found_entries f) t c.requires.has.are_numbered)
+    ∙ ap (λ y. header (site_name f.read.log.records) (t + 1) ++ y) (rest_text f.entries (found_entries f) t c.requires.has.are_numbered)

@@ -8,7 +8,7 @@ use Rattle.site_runner.proofs.extracting.write_entries.Goals as goal
 pub loop-place-preserved : goal.loop-place-preserved
 loop-place-preserved c =
     let l = c.loop-place in
-    let items = c.args.site.now.entries.items in
+    let items = c.args.site.now.entries in
     let from : c.args.before ≤ l.place = omega arith in
     let end = c.sequence_length-place-end.ensures in
     let test = c.loop-place-test.true in

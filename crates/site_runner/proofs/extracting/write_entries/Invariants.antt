@@ -5,4 +5,4 @@ use Rattle.gvn_model.specs.Numbered.{numbered}
 use Rattle.site_runner.proofs.extracting.write_entries.Given as goal
 
 abbrev pub invariant-loop-place : goal.invariant-loop-place
-invariant-loop-place l = l.text ≡ l.fn.text ++ flat_map (λ p. entry_text p.0 p.1) (map numbered (take (l.place - l.before) (drop l.before l.site.entries.items)))
+invariant-loop-place l = l.text ≡ l.fn.text ++ flat_map (λ p. entry_text p.0 p.1) (map numbered (take (l.place - l.before) (drop l.before l.site.entries)))
