@@ -110,7 +110,7 @@ pub(crate) fn begin_kept<D: Disk>(
         entries,
         globals,
     } = kept;
-    let count = entries.len() as u64;
+    let count = entries.len();
     let drawn = match draw_next(alloc, disk, instance, count, &last_began) {
         Ok(drawn) => drawn,
         Err(error) => return Err(in_files(error)),

@@ -22,6 +22,7 @@ ghost use Rattle.mupip_rollback.specs.Preparing.{IsPrepared, KeepsFirst};
 
 use super::error::{RollError, in_files, in_site};
 use gvn_key::{Bytes, NoMemory};
+use entry_log::EntryLog;
 use gvn_model::Entry;
 use instance_file::InstanceLog;
 use jnl_extract::{extract_entry, write_header};
@@ -39,7 +40,7 @@ pub(crate) struct Kept {
     /// The last generation that began in each region, or 0.
     pub last_began: Vec<u32>,
     /// The entries that stay, by their numbers from 1 on.
-    pub entries: Vec<Entry>,
+    pub entries: EntryLog,
     /// Its regions on their blocks, with what these entries lead to.
     pub globals: Regions,
 }
@@ -123,7 +124,7 @@ fn extract_lost(alloc: Global, found: &FoundFiles, target: u64) -> Result<Bytes,
     let mut text = Bytes::new(alloc);
     let name = created_name(found.read.log.records.as_slice());
     write_header(name, target + 1, &mut text)?;
-    write_entries(&found.entries[target as usize..], &mut text)?;
+    write_entries(&found.entries.as_slice()[target as usize..], &mut text)?;
     Ok(text)
 }
 
@@ -144,9 +145,9 @@ fn keep_first(standing: StandingSite, target: u64, lost: Bytes) -> Prepared
         globals,
         broken,
     } = standing;
-    let length = entries.len() as u64;
+    let length = entries.len();
     layout.generation += 1;
-    entries.truncate(target as usize);
+    entries.truncate(target);
     let kept = Kept {
         layout,
         last_began,
@@ -219,6 +220,6 @@ pub(crate) fn prepare<D: Disk>(alloc: Global, disk: &mut D, to: u64) -> Result<P
     ensures cause { (fault : ℕ) → IsErrOf result (RollError.Failed fault) → Rose (D.disk disk.old).faults (D.disk disk.new).faults }
 {
     let found = find(alloc, disk)?;
-    let target = to.min(found.entries.len() as u64);
+    let target = to.min(found.entries.len());
     open_first(alloc, disk, found, target)
 }

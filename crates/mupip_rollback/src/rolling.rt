@@ -99,7 +99,7 @@ pub fn rollback<D: Disk>(alloc: Global, disk: &mut D, to: u64) -> Result<Rolled,
 {
     let prepared = prepare(alloc, disk, to)?;
     let rolled = Rolled {
-        kept: prepared.kept.entries.len() as u64,
+        kept: prepared.kept.entries.len(),
         lost: generation_in(prepared.log.records.as_slice()) + 1,
     };
     roll(alloc, disk, prepared)?;

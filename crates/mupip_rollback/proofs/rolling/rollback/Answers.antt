@@ -6,7 +6,6 @@ use Rattle.journal_defs.specs.Instance.{generation}
 use Rattle.journal_defs.specs.Sequence.{Records, IsSequence}
 use Rattle.journal_defs.specs.Stands.{AreRecords}
 use Rattle.site_store.specs.Standing.{found_entries}
-use Rattle.site_store.proofs.Loaded.{length_values}
 use Rattle.site_store.specs.Needing.{NoneIsWithout}
 use Rattle.mupip_rollback.specs.declared.error.RollError.TheVariants as error
 use Rattle.mupip_rollback.proofs.Errors.{handed_on}
@@ -25,13 +24,12 @@ pub returns-clause-read : goal.returns-clause-read
 returns-clause-read g c =
     let p = c.in_ok-prepared.prepared in
     let P = c.in_ok-prepared.ensures.prepared in
-    let count : length (found_entries P.found) ≡ length P.found.entries = length_values P.found.entries in
     let all = P.counted in
     let kept = c.in_ok-prepared.ensures.kept in
     let size = c.len.ensures in
     let newest : c.generation_in.result ≡ generation P.found.read.log.records = c.generation_in.ensures ∙ ap generation c.as_slice.ensures ∙ ap (λ l. generation l.records) P.log in (
       record { instance = P.found.read.log.records; starts = λ r. []; epochs = λ r. []; texts = []; losts = []; sequence = found_entries P.found },
-      omega (arith, count, all, kept, size),
+      omega (arith, all, kept, size),
       omega (arith, newest),
     )
 

@@ -1,7 +1,7 @@
 use Rattle.std.proofs.Common.{◌≡◌, ℕ, ◌+◌, ◌-◌, ◌≤◌, ◌<◌, ◌++◌, IfSome, length, refl, subst, arith}
 use Rattle.std.specs.Prelude.{slice_get}
+use Rattle.global_defs.specs.Entry.{Entry}
 use Rattle.global_defs.specs.Extract.{entry_text}
-use Rattle.gvn_model.specs.Entries.{entry_value}
 use Rattle.site_runner.proofs.Shown.{entry_more}
 use Rattle.site_runner.proofs.extracting.write_entries.Goals as goal
 
@@ -14,5 +14,5 @@ loop-place-preserved c =
     let test = c.loop-place-test.true in
     let low : l.place < length items = omega (arith, end, test) in
     let place : l.place + 1 - 1 ≡ l.place = omega arith in
-    entry_more items c.args.before l.place (l.place + 1) c.args.text.now l.text c.extract.new.out from low refl l.invariant
-    (subst (λ (k : ℕ). IfSome (slice_get items k) (λ e. c.extract.new.out ≡ l.text ++ entry_text e.number (entry_value e))) place c.in_ok-extract.ensures.entry)
+    entry_more items c.args.before l.place c.args.text.now l.text c.extract.new.out from low l.invariant
+    (subst (λ (k : ℕ). IfSome (slice_get items k) (λ (e : Entry). c.extract.new.out ≡ l.text ++ entry_text (l.place + 1) e)) place c.in_ok-extract.ensures.entry)
