@@ -21,8 +21,8 @@ ghost use Rattle.site_store.specs.Standing.{HasFound, WasFound, IsFoundAs, IsOpe
 ghost use Rattle.mupip_rollback.specs.Preparing.{IsPrepared, KeepsFirst};
 
 use super::error::{RollError, in_files, in_site};
-use gvn_key::{Bytes, NoMemory};
 use entry_log::EntryLog;
+use gvn_key::{Bytes, NoMemory};
 use gvn_model::Entry;
 use instance_file::InstanceLog;
 use jnl_extract::{extract_entry, write_header};

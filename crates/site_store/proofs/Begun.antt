@@ -407,7 +407,7 @@ open_begun v w told c old new r lawful b entries changed hardened journals is =
       remembered = record {
         instance = b.records ∙ ap (λ (x : Reign). old.instance.records ++ Reigned x ∷ []) same ∙ ap (λ (l : List InstanceRecord). l ++ Reigned (reign_of c) ∷ []) is.remembered.instance;
         count = ap length entries ∙ is.remembered.count;
-            globals = ap joined changed ∙ is.remembered.globals;
+        globals = ap joined changed ∙ is.remembered.globals;
         hardened = hardened ∙ is.remembered.hardened;
       };
       entries = λ t. entries ∙ is.entries t;
