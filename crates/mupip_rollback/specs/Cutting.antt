@@ -1,5 +1,5 @@
 -- What both CUTs of a rollback leave of files.
-use Rattle.std.specs.Prelude.{◌≡◌, ◌⊎◌, ◌≤◌, ℕ, suc, List, [], length, map, take}
+use Rattle.std.specs.Prelude.{◌≡◌, ◌⊎◌, ◌≤◌, ℕ, suc, List, [], length, take}
 use Rattle.disk_defs.specs.Disk.{Files, View, Image, OnFile}
 use Rattle.global_defs.specs.Entry.{Sequence, state}
 use Rattle.journal_defs.specs.Broken.{broken}

@@ -2,12 +2,12 @@
 use Rattle.std.proofs.Common.{◌≡◌, ℕ, true, false, List, [], ◌∷◌, ◌++◌, length, map, Some, refl, sym, ◌∙◌, ap, subst, arith, inl, nat_eq, append_assoc, Bool, None}
 use Rattle.std.specs.Prelude.{Option, codes, option_map, Result, IfOk, OnErr}
 use Rattle.std.specs.Fmt.{decimal}
-use Rattle.std.specs.List.{enumerate_from, flat_map}
+use Rattle.std.specs.List.{flat_map}
 use Rattle.std.proofs.lemmas.Bool.{eqb-true}
 use Rattle.disk_defs.specs.Disk.{View}
 use Rattle.global_defs.specs.Key.{Key}
 use Rattle.global_defs.specs.Entry as defs
-use Rattle.global_defs.specs.Entry.{Globals, Sequence}
+use Rattle.global_defs.specs.Entry.{Globals}
 use Rattle.journal_defs.specs.Instance.{InstanceRecord}
 use Rattle.journal_defs.specs.Surviving.{reigns}
 use Rattle.gvn_model.specs.declared.reign.Reign as code_reign

@@ -1,5 +1,5 @@
 -- A site that was found, and stands.
-use Rattle.std.proofs.Common.{◌≡◌, inr, ℕ, Bool, false, [], ◌∷◌, ◌++◌, length, take, Result, Ok, Err, IfOk, IfSome, sym, ◌∙◌, ap, subst}
+use Rattle.std.proofs.Common.{◌≡◌, inr, ℕ, Bool, false, [], ◌∷◌, ◌++◌, length, take, Result, Ok, Err, IfOk, IfSome, sym, ◌∙◌, subst}
 use Rattle.std.proofs.Math.Seq.{take-length}
 use Rattle.disk_defs.specs.Disk.{Files, View, Image, Reads, IsLawful, AtEachMoment}
 use Rattle.disk_defs.proofs.Moments.{read_only}

@@ -1,4 +1,4 @@
-use Rattle.std.proofs.Common.{◌≡◌, ℕ, ◌+◌, ◌-◌, ◌≤◌, ◌<◌, ◌++◌, IfSome, length, refl, subst, arith}
+use Rattle.std.proofs.Common.{◌≡◌, ℕ, ◌+◌, ◌-◌, ◌≤◌, ◌<◌, ◌++◌, IfSome, length, subst, arith}
 use Rattle.std.specs.Prelude.{slice_get}
 use Rattle.global_defs.specs.Entry.{Entry}
 use Rattle.global_defs.specs.Extract.{entry_text}

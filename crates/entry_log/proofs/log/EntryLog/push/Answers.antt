@@ -1,5 +1,4 @@
-use Rattle.std.proofs.Common.{rules, ◌≡◌, List, [], ◌∷◌, ◌++◌, sym, subst}
-use Rattle.gvn_model.specs.declared.entry.Entry.{Entry}
+use Rattle.std.proofs.Common.{rules, ◌≡◌, [], ◌∷◌, ◌++◌, sym, subst}
 use Rattle.entry_log.specs.Numbers.{AreNumbered}
 use Rattle.entry_log.proofs.Numbered.{numbered_more}
 use Rattle.entry_log.proofs.log.EntryLog.push.Goals as goal

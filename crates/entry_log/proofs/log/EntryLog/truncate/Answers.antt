@@ -1,4 +1,4 @@
-use Rattle.std.proofs.Common.{rules, ◌≡◌, take, map, sym, ◌∙◌, ap, subst}
+use Rattle.std.proofs.Common.{take, map, sym, ◌∙◌, ap, subst}
 use Rattle.gvn_model.specs.Entries.{entry_value}
 use Rattle.entry_log.specs.Numbers.{AreNumbered}
 use Rattle.entry_log.proofs.Numbered.{numbered_first, map_take}
