@@ -38,7 +38,6 @@ use Rattle.site_defs.specs.Stands.{texts_of, losts_of, IsSite, HasLeft}
 use Rattle.site_defs.specs.Behind.{IsSiteWith}
 use Rattle.site_store.specs.declared.layout.Layout.{Layout}
 use Rattle.site_store.specs.declared.site.OpenSite.{OpenSite}
-use Rattle.gvn_model.specs.declared.entry.Entry.{Entry}
 use Rattle.site_store.proofs.HeldRegions.{held_stays, no_instance_file, synced_stays}
 use Rattle.site_store.specs.Finding.{HasLayout}
 use Rattle.site_regions.specs.Joined.{joined}
@@ -236,7 +235,7 @@ ready_begun v w old new x ready some instance records journals layout stays glob
       (frames.journals_ready v w (Only INSTANCE) old.journals.journals.items stays (journals_away v old ready) (generation old.instance.records) ready.journals));
   each_region = ap (λ (js : RegionJournals). length js.journals.items) journals ∙ ready.each_region ∙ sym (ap (λ (rs : List InstanceRecord). length (regions rs)) records ∙ ap length (regions_kept old.instance.records x some));
   regions = subst (λ (n : ℕ). AreHeld w n new.globals) (sym (ap (λ (rs : List InstanceRecord). length (regions rs)) records ∙ ap length (regions_kept old.instance.records x some))) (held_beside v w old new ready stays globals);
-  few = subst (λ (l : List Entry). length l < 2 ^ 40) (sym entries) ready.few;
+  few = subst (λ (l : Sequence). length l < 2 ^ 40) (sym entries) ready.few;
 }
 
 instance_in : (w : View) (i : Instance) (rs : List InstanceRecord) → instances.HasRecords w i rs → (f : Files) → Image w f → IsInstance (f INSTANCE) rs
@@ -333,7 +332,7 @@ ready_kept v w old new ready instance records journals layout stays globals entr
       (frames.journals_ready v w (Only INSTANCE) old.journals.journals.items stays (journals_away v old ready) (generation old.instance.records) ready.journals));
   each_region = ap (λ (js : RegionJournals). length js.journals.items) journals ∙ ready.each_region ∙ sym (ap (λ (rs : List InstanceRecord). length (regions rs)) records);
   regions = subst (λ (n : ℕ). AreHeld w n new.globals) (sym (ap (λ (rs : List InstanceRecord). length (regions rs)) records)) (held_beside v w old new ready stays globals);
-  few = subst (λ (l : List Entry). length l < 2 ^ 40) (sym entries) ready.few;
+  few = subst (λ (l : Sequence). length l < 2 ^ 40) (sym entries) ready.few;
 }
 
 pub opened_kept : (old new : OpenSite) → WasOpened old → new.instance.records ≡ old.instance.records → new.entries ≡ old.entries → new.hardened ≡ old.hardened → new.stamp ≡ old.stamp → WasOpened new

@@ -10,6 +10,7 @@ use Rattle.journal_defs.specs.Numbers.{journal_file, database_file}
 use Rattle.journal_defs.specs.Journal.{JournalRecord, IsJournalBody}
 use Rattle.journal_defs.specs.Instance.{InstanceRecord, regions}
 use Rattle.journal_defs.specs.Directory.{patterns}
+use Rattle.global_defs.specs.Entry.{Sequence}
 use Rattle.journal_defs.specs.Sequence.{Records}
 use Rattle.journal_defs.specs.Stands.{Holds}
 use Rattle.journal_defs.specs.Growth.{NonePast, AreEntries, tcoms, appended}
@@ -34,7 +35,6 @@ use Rattle.site_store.proofs.Standing.{reads_of, reads_so, told_of, still}
 use Rattle.site_store.proofs.Committed.{instance_kept, ready_after}
 use Rattle.site_store.proofs.Waiting as waiting
 use Rattle.site_store.proofs.Newest as newest
-use Rattle.gvn_model.specs.declared.entry.Entry.{Entry}
 use Rattle.site_store.proofs.HeldRegions.{changed_not, no_journal, synced_stays}
 use Rattle.site_store.proofs.OnBlocks.{on_same, on_more, on_chosen, parts_plain}
 use Rattle.site_store.proofs.Parts.{no_entry_no_part}
@@ -83,7 +83,7 @@ pub record Hardens (v w : View) (old new : OpenSite) : Type 0 where
 pub ready_hardened : (v w : View) (old new : OpenSite) → Hardens v w old new → IsReady w new
 ready_hardened v w old new p =
     ready_after v w old new p.ready p.journals p.count p.stays p.instance p.layout (changed_not old.globals new.globals p.globals)
-    (subst (λ (l : List Entry). length l < 2 ^ 40) (sym p.entries) p.ready.few)
+    (subst (λ (l : Sequence). length l < 2 ^ 40) (sym p.entries) p.ready.few)
 
 module _ (v w : View) (c : Contents) (h : ℕ) (old new : OpenSite) (p : Hardens v w old new) (lawful : IsLawful w) (k : Keeps v c h old) (m : Remembers c h old) where
   own : old.instance.records ≡ c.instance

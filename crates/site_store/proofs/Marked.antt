@@ -303,7 +303,7 @@ open_taken v w told closing c s new ready are lawful lawful_after taken stays sa
     record {
       remembered = record {
         instance = ap (λ (i : Instance). i.records) instance ∙ m.instance;
-        count = ap (λ es. length es.items) entries ∙ m.count;
+        count = ap length entries ∙ m.count;
         globals = ap union same.parts ∙ m.globals;
         hardened = hardened ∙ m.hardened;
       };
@@ -332,5 +332,5 @@ ready_taken v w s new ready stays together count same instance layout entries =
         files = λ r here. t.files r (omega (arith, here, regions_are));
         held = λ r here. t.held r (omega (arith, here, regions_are));
       });
-      few = subst (λ es. length es.items < 2 ^ 40) (sym entries) ready.few;
+      few = subst (λ es. length es < 2 ^ 40) (sym entries) ready.few;
     }

@@ -1,5 +1,5 @@
 //! Entries into memory.
-ghost use Rattle.std.specs.Prelude.{◌≡◌, ◌+◌, ◌++◌, ◌∷◌, [], length, fold, IfOk, OnOk, OnErr};
+ghost use Rattle.std.specs.Prelude.{◌≡◌, ◌<◌, ◌+◌, ◌^◌, ◌++◌, ◌∷◌, [], length, fold, IfOk, OnOk, OnErr};
 ghost use Rattle.global_defs.specs.Entry.{apply};
 ghost use Rattle.global_defs.specs.Fields.{IsTransaction};
 ghost use Rattle.gvn_model.specs.Entries.{entry_value, transaction_value};
@@ -14,6 +14,7 @@ use gvn_model::{Entry, Transaction};
 impl OpenSite {
     /// This transaction as the next entry, under the reign that was begun.
     pub(crate) fn next_entry(&self, t: Transaction) -> Result<Entry, NoMemory>
+        requires { length self.now.entries + 1 < 2 ^ 40 }
         ensures { IfOk result (IsNextEntry self.now t) }
     {
         let Some(stamp) = &self.stamp else {
