@@ -1,2 +1,4 @@
 pub mod Signs
 pub mod Places
+pub mod Fields
+pub mod Telling

@@ -4,10 +4,16 @@
 //! a time, and each record leaves its sign and its place; the record itself is read again from there by who needs it.
 #![tactic(auto)]
 
+mod items;
+mod kinds;
+mod parts;
 mod placed;
 mod reading;
 mod sign;
+mod telling;
+mod updates;
 
 pub use placed::PlacedSign;
 pub use reading::read_placed;
 pub use sign::{Sign, Span};
+pub use telling::read_sign;
