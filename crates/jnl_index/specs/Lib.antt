@@ -2,3 +2,5 @@ pub mod Signs
 pub mod Places
 pub mod Fields
 pub mod Telling
+pub mod Pieces
+pub mod Generations

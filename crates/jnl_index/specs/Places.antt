@@ -1,5 +1,6 @@
 -- Where records stand.
-use Rattle.std.specs.Prelude.{◌≡◌, ℕ, ◌+◌, List, length, take, drop}
+use Rattle.std.specs.Prelude.{◌≡◌, ◌≤◌, ℕ, ◌+◌, List, length, take, drop}
+use Rattle.std.specs.Int.{to_be_bytes, w32}
 use Rattle.std.specs.List.{AllZip}
 use Rattle.disk_defs.specs.Disk.{Files}
 use Rattle.disk_defs.specs.Gates.{Body, IsBody, framed}
@@ -15,6 +16,13 @@ pub record StandsAt (file : List ℕ) (at : ℕ) (r : JournalRecord) : Type 0 wh
   pub spelled : IsJournalBody body r
   pub size : IsBody body
   pub there : take (4 + length body) (drop (at + 1) file) ≡ framed body
+
+-- Behind the gate at this place stands this length, which bodies may have, and so many bytes behind it.
+pub record HasLength (file : List ℕ) (at n : ℕ) : Type 0 where
+  pub head : take 4 (drop (at + 1) file) ≡ to_be_bytes w32 n
+  pub not_empty : 1 ≤ n
+  pub not_long : n ≤ 1048576
+  pub inside : at + 5 + n ≤ length file
 
 -- the sign of this record of a region, and its place
 pub record IsSignOf (files : Files) (region : ℕ) (s : PlacedSign) (p : Placed) : Type 0 where

@@ -4,15 +4,19 @@
 //! a time, and each record leaves its sign and its place; the record itself is read again from there by who needs it.
 #![tactic(auto)]
 
+mod generations;
 mod items;
 mod kinds;
+pub mod laws;
 mod parts;
+mod pieces;
 mod placed;
 mod reading;
 mod sign;
 mod telling;
 mod updates;
 
+pub use generations::{RegionSigns, index_generations};
 pub use placed::PlacedSign;
 pub use reading::read_placed;
 pub use sign::{Sign, Span};

@@ -1,0 +1,8 @@
+mod Chains
+mod Updates
+mod ItemLists
+mod Records
+pub mod Stands
+mod Pieces
+mod Indexing
+mod Opened
