@@ -170,3 +170,7 @@ module _ (u v : View) (region g n : ℕ) (next : n ≡ suc g) (content : v.conte
   told_wrong last began offset signs most so_far outside =
       both_weak u.content (λ files. HasSigns files region g began signs) (λ files. IsOutsideAfter region n began (files (journal_file n region)) offset) (λ files. IsOutsideGenerations files region last (journal_file n region) offset) so_far
       (told_at u.content v.content (λ files. IsOutsideAfter region n began (files (journal_file n region)) offset) content outside) (λ files has out. outside_here files region last g n began offset signs next most has out)
+
+-- the same of a file by another name, on a disk that tells the same
+pub told_file : (o n : Option Files) (f h : ℕ) (P : List ℕ → Type 0) → n ≡ o → f ≡ h → IfSome n (λ files. P (files f)) → IfSome o (λ files. P (files h))
+told_file o n f h P content same told = told_at o n (λ files. P (files h)) content (subst (λ (k : ℕ). IfSome n (λ files. P (files k))) same told)

@@ -1,8 +1,9 @@
 mod Chains
-mod Updates
+mod Passing
 mod ItemLists
 mod Records
 pub mod Stands
-mod Pieces
+mod Cuts
 mod Indexing
 mod Opened
+mod Heads

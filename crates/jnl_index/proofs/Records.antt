@@ -1,5 +1,6 @@
 -- Bodies of each kind, by their fields behind the kind.
-use Rattle.std.proofs.Common.{◌≡◌, ℕ, ◌+◌, ◌<◌, ◌≤◌, ◌^◌, Bool, List, [], ◌∷◌, ◌++◌, length, flat_map, arith, Option, Some, None, refl, ap, sym, ◌∙◌, subst}
+use Rattle.std.proofs.Common.{◌≡◌, ℕ, ◌+◌, ◌<◌, ◌≤◌, ◌^◌, ◌==◌, Bool, true, false, List, [], ◌∷◌, ◌++◌, length, flat_map, arith, Option, Some, None, refl, ap, sym, ◌∙◌, subst}
+use Rattle.std.proofs.lemmas.Bool.Decides.{nat_tests}
 use Rattle.std.proofs.lemmas.List.{append-nil, nil_from_length}
 use Rattle.std.specs.Int.{to_be_bytes, w32}
 use Rattle.std.specs.List.{AllByRecursion}
@@ -16,6 +17,12 @@ use Rattle.jnl_index.proofs.Chains.{front_then, behind_then, joined_then}
 
 tail : {x y : ℕ} {xs ys : List ℕ} → x ∷ xs ≡ y ∷ ys → xs ≡ ys
 tail e = cc
+
+pub empty_is : (rest : List ℕ) (b : Bool) → b ≡ (length rest == 0) → b ≡ true → length rest ≡ 0
+empty_is rest b is true_of = grind (arith, nat_tests)
+
+pub not_empty : (rest : List ℕ) (b : Bool) → b ≡ (length rest == 0) → b ≡ false → length rest ≡ 0 → ⊥
+not_empty rest b is false_of none = grind (arith, nat_tests)
 
 -- a kind's records, by the fields that stand behind the kind, of which one more fact is known
 module _ {X : Type 0} (f : Field X) (kind : ℕ) (bytes : List ℕ) (of : X → JournalRecord) (known : X → Type 0)
@@ -68,7 +75,7 @@ module _ (bytes : List ℕ) (version region : ℕ) (before : Bool) (generation p
   start_told first small most earlier none =
       told start 1 bytes pini is_first (pini_only bytes) (version, (region, (before, (generation, previous)))) rest (sign.Pini region before generation previous) read none
       (record { region = small; generation = (omega (arith, earlier), most); previous = earlier })
-      (ap (λ (v : ℕ). 1 ∷ v ∷ (start.spelled (1, (region, (before, (generation, previous)))) )) (sym first))
+      (ap (λ (v : ℕ). 1 ∷ start.spelled (v, (region, (before, (generation, previous))))) (sym first))
       refl
 
 -- EPOCH

@@ -1,5 +1,5 @@
 -- Records by their places.
-use Rattle.std.proofs.Common.{◌≡◌, ◌≢◌, inl, inr, ℕ, ◌+◌, ◌-◌, ◌<◌, ◌≤◌, ◌^◌, List, ◌++◌, length, take, drop, Some, refl, ap, sym, ◌∙◌, subst, arith, length-append, length-take, length-drop, take-append-drop}
+use Rattle.std.proofs.Common.{◌≡◌, ◌≢◌, inl, inr, ℕ, ◌+◌, ◌-◌, ◌<◌, ◌≤◌, ◌^◌, List, ◌++◌, length, take, drop, Some, false, Result, Ok, Err, OnOk, is_err, refl, ap, sym, ◌∙◌, subst, arith, length-append, length-take, length-drop, take-append-drop}
 
 use Rattle.std.proofs.lemmas.List.{take-take, drop-take, drop-drop}
 use Rattle.std.proofs.lemmas.Nat.{from_be_bytes-to_be_bytes_4}
@@ -22,7 +22,7 @@ take_sum : (m n : ℕ) (l : List ℕ) → take (m + n) l ≡ take m l ++ take n 
 take_sum m n l = sym (take-append-drop m (take (m + n) l)) ∙ ap (λ (x : List ℕ). x ++ drop m (take (m + n) l)) (take-take m (m + n) l (omega arith)) ∙ ap (λ (x : List ℕ). take m l ++ x) (drop-take m n l)
 
 pub five_on : (file : List ℕ) (at : ℕ) → drop 4 (drop (at + 1) file) ≡ drop (at + 5) file
-pub five_on file at = let four : at + 1 + 4 ≡ at + 5 = omega arith in drop-drop 4 (at + 1) file ∙ ap (λ (k : ℕ). drop k file) four
+five_on file at = let four : at + 1 + 4 ≡ at + 5 = omega arith in drop-drop 4 (at + 1) file ∙ ap (λ (k : ℕ). drop k file) four
 
 -- what stands there, by its length
 module _ (file : List ℕ) (at n : ℕ) (has : HasLength file at n) where
@@ -95,3 +95,8 @@ module _ (file : List ℕ) (at n : ℕ) (has : HasBody file at n) (shown : List 
 
   pub no_sign_found : ((r : JournalRecord) → IsJournalBody shown r → ⊥) → IsNoRecord file at
   no_sign_found none = inr (take n (drop (at + 5) file), at + 5 + n, body_opens file at n has, λ r body. none r (subst (λ (b : Body). IsJournalBody b r) (sym is) body))
+
+-- what holds of a call that didn't fail
+pub ok_of : {E : Type 0} (r : Result (Unit {0}) E) (P : Type 0) → is_err r ≡ false → OnOk r P → P
+ok_of (Ok u) P is h = h
+ok_of (Err e) P is h = absurd (cc)

@@ -1,5 +1,5 @@
 //! A region's journals over its generations, by their signs.
-ghost use Rattle.std.specs.Prelude.{◌≡◌, ◌⊎◌, ◌≤◌, ◌<◌, ◌↔◌, ◌×◌, ℕ, List, IfOk, IfSome, OnOk, IsErrOf, IsTrue};
+ghost use Rattle.std.specs.Prelude.{◌≡◌, ◌⊎◌, ◌≤◌, ◌<◌, ◌↔◌, ℕ, List, IfOk, IfSome, OnOk, IsErrOf, IsTrue};
 ghost use Rattle.disk_defs.specs.Disk.{Image, IsDurable, AtEachMoment, Reads, Rose};
 ghost use Rattle.disk_defs.specs.Frames.{Only, OthersStay};
 ghost use Rattle.journal_defs.specs.Numbers.{journal_file};
@@ -57,7 +57,7 @@ fn find_sign<D: Disk>(
     ensures further { IfOk result (λ found. IfSome found (λ read. at < read.1)) }
     ensures outside { IsErrOf result (JournalError.NotARecord at) → IfSome (D.disk disk.old).content (λ files. IsNoRecord (files pieces.old.file) at) }
     ensures only_here { (offset : ℕ) → IsErrOf result (JournalError.NotARecord offset) → offset ≡ at }
-    ensures told { OnOk result (IfSome (D.disk disk.old).content (IsPieceOf pieces.new)) }
+    ensures told { OnOk result (IfSome (D.disk disk.new).content (IsPieceOf pieces.new)) }
     ensures same { pieces.new.file ≡ pieces.old.file }
     ensures reads { Reads (D.disk disk.old) (D.disk disk.new) }
     ensures later { (D.disk disk.old).faults ≤ (D.disk disk.new).faults }

@@ -10,5 +10,5 @@ ghost use Rattle.jnl_index.specs.Places.{StandsAt};
 /// At most one record stands at a place of a file, and one that is found behind an open gate stands there.
 pub fn one_record_stands()
     ensures one { (file : List ℕ) (at : ℕ) (r s : JournalRecord) → StandsAt file at r → StandsAt file at s → r ≡ s }
-    ensures open { (file : List ℕ) (at next : ℕ) (r : JnlRecord) → ((i : ℕ) → slice_index file i < 256) → FindsRecord file at (Some (r, next)) → StandsAt file at (record_value r) }
+    ensures opened { (file : List ℕ) (at next : ℕ) (r : JnlRecord) → ((i : ℕ) → slice_index file i < 256) → FindsRecord file at (Some (r, next)) → StandsAt file at (record_value r) }
 {}

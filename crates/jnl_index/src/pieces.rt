@@ -46,10 +46,35 @@ fn number_of(bytes: &[u8]) -> u32
     big_endian([bytes[0], bytes[1], bytes[2], bytes[3]])
 }
 
+/// Makes a list so many bytes of a file from a place on.
+pub fn fill<D: Disk>(
+    disk: &mut D,
+    file: u32,
+    at: u64,
+    many: u64,
+    into: &mut Vec<u8>,
+) -> Result<(), JournalError>
+    requires inside { IfSome (D.disk disk.old).content (λ files. at + many ≤ length (files file)) }
+    ensures bytes { OnOk result (IfSome (D.disk disk.old).content (λ files. into.new.items ≡ take many (drop at (files file)))) }
+    ensures length { OnOk result (length into.new.items ≡ many) }
+    ensures reads { Reads (D.disk disk.old) (D.disk disk.new) }
+    ensures later { (D.disk disk.old).faults ≤ (D.disk disk.new).faults }
+    ensures cause { IsErrOf result JournalError.Failed → Rose (D.disk disk.old).faults (D.disk disk.new).faults }
+    ensures outside { (offset : ℕ) → IsErrOf result (JournalError.NotARecord offset) → ⊥ }
+{
+    if into.resize(many as usize, 0).is_err() {
+        return Err(JournalError::NoMemory);
+    }
+    if disk.read_at(file, at, into).is_err() {
+        return Err(JournalError::Failed);
+    }
+    Ok(())
+}
+
 impl Pieces {
     /// A file of which nothing is at hand yet.
     pub fn of<D: Disk>(alloc: Global, disk: &mut D, file: u32) -> Result<Pieces, JournalError>
-        ensures told { IfOk result (λ made. IfSome (D.disk disk.old).content (IsPieceOf made)) }
+        ensures told { IfOk result (λ made. IfSome (D.disk disk.new).content (IsPieceOf made)) }
         ensures file { IfOk result (λ made. made.file ≡ file) }
         ensures reads { Reads (D.disk disk.old) (D.disk disk.new) }
         ensures later { (D.disk disk.old).faults ≤ (D.disk disk.new).faults }
@@ -75,11 +100,11 @@ impl Pieces {
         self.start <= at && at - self.start <= held && n <= held - (at - self.start)
     }
 
-    /// Makes so many bytes from a place on be at hand. An `Err` other than those for memory and the disk there is none.
+    /// Makes so many bytes from a place on be at hand.
     pub fn load<D: Disk>(&mut self, disk: &mut D, at: u64, n: u64) -> Result<(), JournalError>
         requires told { IfSome (D.disk disk.old).content (IsPieceOf self.old) }
         requires inside { at + n ≤ self.old.size }
-        ensures told { OnOk result (IfSome (D.disk disk.old).content (IsPieceOf self.new)) }
+        ensures told { OnOk result (IfSome (D.disk disk.new).content (IsPieceOf self.new)) }
         ensures has { OnOk result (HasBytes self.new at n) }
         ensures same { IsSameFile self.old self.new }
         ensures reads { Reads (D.disk disk.old) (D.disk disk.new) }
@@ -91,12 +116,7 @@ impl Pieces {
             return Ok(());
         }
         let many = n.max(PIECE).min(self.size - at);
-        if self.bytes.resize(many as usize, 0).is_err() {
-            return Err(JournalError::NoMemory);
-        }
-        if disk.read_at(self.file, at, &mut self.bytes).is_err() {
-            return Err(JournalError::Failed);
-        }
+        fill(disk, self.file, at, many, &mut self.bytes)?;
         self.start = at;
         Ok(())
     }
@@ -117,7 +137,7 @@ impl Pieces {
         requires told { IfSome (D.disk disk.old).content (IsPieceOf self.old) }
         requires inside { at < self.old.size }
         ensures value { IfOk result (λ b. IfSome (D.disk disk.old).content (λ files. b ∷ [] ≡ take 1 (drop at (files self.old.file)))) }
-        ensures told { OnOk result (IfSome (D.disk disk.old).content (IsPieceOf self.new)) }
+        ensures told { OnOk result (IfSome (D.disk disk.new).content (IsPieceOf self.new)) }
         ensures same { IsSameFile self.old self.new }
         ensures reads { Reads (D.disk disk.old) (D.disk disk.new) }
         ensures later { (D.disk disk.old).faults ≤ (D.disk disk.new).faults }
@@ -135,7 +155,7 @@ impl Pieces {
         requires inside { at + 4 ≤ self.old.size }
         ensures value { IfOk result (λ n. IfSome (D.disk disk.old).content (λ files. to_be_bytes w32 n ≡ take 4 (drop at (files self.old.file)))) }
         ensures read { IfOk result (λ n. IfSome (D.disk disk.old).content (λ files. n ≡ from_be_bytes w32 (take 4 (drop at (files self.old.file))))) }
-        ensures told { OnOk result (IfSome (D.disk disk.old).content (IsPieceOf self.new)) }
+        ensures told { OnOk result (IfSome (D.disk disk.new).content (IsPieceOf self.new)) }
         ensures same { IsSameFile self.old self.new }
         ensures reads { Reads (D.disk disk.old) (D.disk disk.new) }
         ensures later { (D.disk disk.old).faults ≤ (D.disk disk.new).faults }
@@ -158,7 +178,7 @@ impl Pieces {
         ensures inside { IfOk result (λ found. IfSome found (λ n. at + n + 6 ≤ self.old.size)) }
         ensures outside { IsErrOf result (JournalError.NotARecord at) → IfSome (D.disk disk.old).content (λ files. gate_at (files self.old.file) at ≡ NoGate) }
         ensures only_here { (offset : ℕ) → IsErrOf result (JournalError.NotARecord offset) → offset ≡ at }
-        ensures told { OnOk result (IfSome (D.disk disk.old).content (IsPieceOf self.new)) }
+        ensures told { OnOk result (IfSome (D.disk disk.new).content (IsPieceOf self.new)) }
         ensures same { IsSameFile self.old self.new }
         ensures reads { Reads (D.disk disk.old) (D.disk disk.new) }
         ensures later { (D.disk disk.old).faults ≤ (D.disk disk.new).faults }

@@ -1,11 +1,11 @@
 //! A record by its place.
-ghost use Rattle.std.specs.Prelude.{◌≡◌, ◌≤◌, ℕ, IfOk, IfSome, IsErrOf};
+ghost use Rattle.std.specs.Prelude.{◌≡◌, ◌≤◌, ◌<◌, ◌+◌, ◌^◌, ℕ, IfOk, IfSome, IsErrOf};
 ghost use Rattle.disk_defs.specs.Disk.{Reads, Rose};
 ghost use Rattle.journal_defs.specs.Journal.{JournalRecord};
 ghost use Rattle.jnl_record.specs.Values.{record_value};
 ghost use Rattle.jnl_index.specs.Places.{StandsAt, HasLength};
 
-use crate::pieces::{LONGEST, big_endian};
+use crate::pieces::{LONGEST, big_endian, fill};
 use jnl_file::JournalError;
 use jnl_record::{JnlRecord, decode};
 use repl_disk::Disk;
@@ -14,6 +14,7 @@ use std::alloc::Global;
 /// The length that stands behind the gate at a place of a file.
 fn placed_length<D: Disk>(disk: &mut D, file: u32, at: u64) -> Result<u64, JournalError>
     ensures found { IfOk result (λ n. IfSome (D.disk disk.old).content (λ files. HasLength (files file) at n)) }
+    ensures near { IfOk result (λ n. at + 5 + n < 2 ^ 64) }
     ensures outside { (offset : ℕ) → IsErrOf result (JournalError.NotARecord offset) → IfSome (D.disk disk.old).content (λ files. (r : JournalRecord) → StandsAt (files file) at r → ⊥) }
     ensures only_here { (offset : ℕ) → IsErrOf result (JournalError.NotARecord offset) → offset ≡ at }
     ensures reads { Reads (D.disk disk.old) (D.disk disk.new) }
@@ -58,12 +59,7 @@ pub fn read_placed<D: Disk>(
 {
     let n = placed_length(disk, file, at)?;
     let mut body = Vec::new(alloc);
-    if body.resize(n as usize, 0).is_err() {
-        return Err(JournalError::NoMemory);
-    }
-    if disk.read_at(file, at + 5, &mut body).is_err() {
-        return Err(JournalError::Failed);
-    }
+    fill(disk, file, at + 5, n, &mut body)?;
     let record = decode(alloc, &body, at)?;
     Ok(record)
 }

@@ -27,8 +27,8 @@ fn past_key(bytes: &[u8]) -> Option<&[u8]>
 fn past_value(bytes: &[u8]) -> Option<&[u8]>
     ensures { Skips value bytes.now (option_map (λ rest. rest.now) result) }
 {
-    let (bytes, rest) = read_long(bytes)?;
-    if bytes.len() <= LONGEST_VALUE {
+    let (text, rest) = read_long(bytes)?;
+    if text.len() <= LONGEST_VALUE {
         Some(rest)
     } else {
         None
@@ -49,7 +49,8 @@ fn past_kind(kind: u8, bytes: &[u8]) -> Option<&[u8]>
 {
     match kind {
         1 => past_pair(bytes),
-        2 | 3 => past_key(bytes),
+        2 => past_key(bytes),
+        3 => past_key(bytes),
         _ => None,
     }
 }

@@ -35,11 +35,22 @@ module _ (bytes code rest : List ℕ) (read : ReadsField (λ s. length s < 2 ^ 8
 pub no_code : (bytes : List ℕ) → ReadsField (λ s. length s < 2 ^ 8) short bytes None → Skips key bytes None
 no_code bytes none x r form e = none (encoded x) r (short_code x form) e
 
+-- the value that stands behind its length
+module _ (bytes text rest : List ℕ) (read : ReadsField (λ s. length s < 2 ^ 16) long bytes (Some (text, rest))) where
+  pub value_passed : length text ≤ 1500 → Skips value bytes (Some rest)
+  value_passed few = (text, (few, read.1, λ x r form e. read.2 x r (omega (arith, form)) e))
+
+  pub no_value : (length text ≤ 1500 → ⊥) → Skips value bytes None
+  no_value many x r form e = many (subst (λ (s : List ℕ). length s ≤ 1500) (read.2 x r (omega (arith, form)) e).0 form)
+
+pub no_long : (bytes : List ℕ) → ReadsField (λ s. length s < 2 ^ 16) long bytes None → Skips value bytes None
+no_long bytes none x r form e = none x r (omega (arith, form)) e
+
 -- updates of a kind by what stands behind the kind
 module _ {X : Type 0} (f : Field X) (kind : ℕ) (of : X → Update) (same : (x : X) → spelled_update (of x) ≡ kind ∷ f.spelled x) (into : (x : X) → f.has x → IsUpdate (of x))
     (only : (u : Update) (r rest : List ℕ) → IsUpdate u → kind ∷ r ≡ spelled_update u ++ rest → (x : X) × (u ≡ of x) × f.has x × (r ≡ f.spelled x ++ rest)) where
   kind_passed : (r : List ℕ) (p : Option (List ℕ)) → Skips f r p → Skips update (kind ∷ r) p
-  kind_passed r None none u rest form e = let x = only u r rest form e in none x.0 rest x.2 x.3
+  kind_passed r None none = λ u rest form e. let x = only u r rest form e in none x.0 rest x.2 x.3
   kind_passed r (Some s) read = (
     of read.0,
     (
