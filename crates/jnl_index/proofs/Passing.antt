@@ -1,7 +1,5 @@
 -- Keys, values and updates that are passed over.
-use Rattle.std.proofs.Common.{◌≡◌, ◌≢◌, List, ℕ, [], ◌∷◌, ◌++◌, ◌<◌, ◌≤◌, ◌^◌, rules, arith, length, Option, Some, None, refl, ap, sym, ◌∙◌, subst}
-use Rattle.std.specs.Prelude.{IsTrue}
-use Rattle.std.specs.Option.{option_map}
+use Rattle.std.proofs.Common.{◌≡◌, ◌≢◌, List, ℕ, [], ◌∷◌, ◌++◌, ◌<◌, ◌≤◌, ◌^◌, rules, arith, length, true, Option, Some, None, refl, ap, sym, ◌∙◌, subst}
 use Rattle.gvn_key.specs.Decoding.{IsCode}
 use Rattle.global_defs.specs.Key.{Key}
 use Rattle.global_defs.specs.Valid.{is_key}
@@ -12,7 +10,7 @@ use Rattle.global_defs.proofs.KeyOrder.{key_injective}
 use Rattle.repl_fields.specs.Reading.{ReadsField}
 use Rattle.jnl_index.specs.Fields.{Field, Reads, Skips, key, value, pair, update}
 
-short_code : (k : Key) → IsTrue (is_key k) → length (encoded k) < 2 ^ 8
+short_code : (k : Key) → is_key k ≡ true → length (encoded k) < 256
 short_code k form = search rules
 
 -- the key whose bytes stand behind their length

@@ -6,7 +6,7 @@ pub returns-then-span : goal.returns-then-span
 returns-then-span c list i is lie =
     let s = c.args.span in
     let row : s.in_a_row ≡ true = c.if-span.true in
-    let same : nat_eq c.from-then-span.result (c.from.result + c.from-2.result) ≡ nat_eq c.args.position (s.first + s.many) = cc in
+    let same : nat_eq c.from-then-span.result (c.from.result + c.from-2.result) ≡ nat_eq c.args.position (s.first + s.many) = cc (c.from-then-span.ensures, c.from.ensures, c.from-2.ensures) in
     span_longer list i c.args.position s.first s.many s.in_a_row (nat_eq c.from-then-span.result (c.from.result + c.from-2.result)) is lie (omega arith)
     (same ∙ ap (λ (b : Bool). b && nat_eq c.args.position (s.first + s.many)) (sym row))
 

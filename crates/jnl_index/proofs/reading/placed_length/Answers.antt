@@ -15,7 +15,7 @@ returns-then-n-eq0-clause-outside g c offset _ =
     let at = c.args.at in
     let size = c.in-Ok.size in
     let n = c.from-n.result in
-    let same : n ≡ c.big_endian.result = search rules in
+    let same : n ≡ c.big_endian.result = c.from-n.ensures in
     let head = c.read_at.new.buf in
     let unfit : 1 ≤ n → n ≤ 1048576 → size < at + 5 + n = λ low high. elim c.then-n-eq0.branch [
       | then-n-eq0-via-then-n-eq0 w ↦ absurd (omega (arith, low, w.if-n-eq0.true))

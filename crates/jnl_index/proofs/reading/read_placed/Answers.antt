@@ -16,7 +16,7 @@ returns-clause-found g c =
     let n = c.in_ok-n.n in
     let r = record_value c.in_ok-record.record in
     let bytes = told_at o (view c.placed_length.new.disk).content (λ files. c.fill.new.into.items ≡ take n (drop (at + 5) (files file))) c.placed_length.ensures.reads.content c.in_ok-fill.ensures.bytes in
-    let is : IsJournalBody c.fill.new.into.items r = search rules in
+    let is = subst (λ (l : List ℕ). IsJournalBody l r) c.deref.ensures.value c.in_ok-record.ensures.found in
     both_weak o (λ files. HasLength (files file) at n) (λ files. c.fill.new.into.items ≡ take n (drop (at + 5) (files file))) (λ files. StandsAt (files file) at r) c.in_ok-n.ensures.found bytes
     (λ files has shown. placed_body (files file) at n has r (subst (λ (l : List ℕ). IsJournalBody l r) shown is))
 
@@ -36,6 +36,6 @@ returns-in_err-record-clause-outside g c offset is =
     let n = c.in_ok-n.n in
     let bytes = told_at o (view c.placed_length.new.disk).content (λ files. c.fill.new.into.items ≡ take n (drop (at + 5) (files file))) c.placed_length.ensures.reads.content c.in_ok-fill.ensures.bytes in
     let refused : (r : JournalRecord) → IsJournalBody c.deref.result.now r → ⊥ = c.decode.ensures.refused at (search (rules, is)) in
-    let same : c.deref.result.now ≡ c.fill.new.into.items = search rules in
+    let same : c.deref.result.now ≡ c.fill.new.into.items = c.deref.ensures.value in
     both_weak o (λ files. HasLength (files file) at n) (λ files. c.fill.new.into.items ≡ take n (drop (at + 5) (files file))) (λ files. (r : JournalRecord) → StandsAt (files file) at r → ⊥) c.in_ok-n.ensures.found bytes
     (λ files has shown r stands. refused r (subst (λ (l : List ℕ). IsJournalBody l r) (sym (same ∙ shown)) (stands_placed (files file) at r stands n has)))

@@ -23,7 +23,7 @@ returns-then-n-eq0-clause-outside g c _ =
     let b = c.in_ok-gate.gate in
     let m = c.in_ok-number_at.field-0 in
     let n = c.from-n.result in
-    let same : n ≡ m = search rules in
+    let same : n ≡ m = c.from-n.ensures in
     let sizes : c.number_at.new.self.size ≡ p.size = c.number_at.ensures.same.size ∙ c.byte_at.ensures.same.size in
     let unfit : 1 ≤ n → n ≤ 1048576 → p.size - at < n + 6 = λ low high. elim c.then-n-eq0.branch [
       | then-n-eq0-via-then-n-eq0 w ↦ absurd (omega (arith, low, w.if-n-eq0.true))
