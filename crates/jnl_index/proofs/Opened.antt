@@ -1,13 +1,13 @@
 -- A body behind an open gate of a file of bytes stands there.
-use Rattle.std.proofs.Common.{◌≡◌, ◌≢◌, inl, inr, ℕ, ◌+◌, ◌<◌, ◌≤◌, Bool, true, false, cond, List, [], ◌∷◌, length, take, drop, get_or, Some, refl, ap, sym, ◌∙◌, subst, arith, length-take, length-drop}
+use Rattle.std.proofs.Common.{◌≡◌, ◌≢◌, inl, inr, ℕ, ◌+◌, ◌<◌, ◌≤◌, ◌&&◌, nat_le, Bool, true, false, cond, List, [], ◌∷◌, length, take, drop, get_or, Some, refl, ap, sym, ◌∙◌, subst, arith, length-take, length-drop}
 use Rattle.std.proofs.lemmas.Bool.{cases_eq, cases_lt}
 use Rattle.std.proofs.lemmas.Bool.Decides.{nat_tests}
 use Rattle.std.proofs.lemmas.List.{drop-drop, get_or-take, get_or-drop, get_or_past}
 use Rattle.std.proofs.lemmas.Nat.{be_bytes_4}
-use Rattle.std.specs.Int.{from_be_bytes, to_be_bytes, w32}
+use Rattle.std.specs.Int.{from_be_bytes, w32}
 use Rattle.disk_defs.specs.Gates.{Body, Shut, Open, NoGate, fits, behind, gate_of, gate_at}
 use Rattle.disk_defs.proofs.Walks.{gate_in}
-use Rattle.journal_defs.specs.Journal.{JournalRecord, IsJournalBody}
+use Rattle.journal_defs.specs.Journal.{IsJournalBody}
 use Rattle.jnl_record.specs.Values.{record_value}
 use Rattle.jnl_record.specs.declared.record.JnlRecord.{JnlRecord}
 use Rattle.jnl_file.specs.Reading.{FindsRecord}
@@ -27,20 +27,20 @@ chosen : (b : Bool) (n : ℕ) (r : List ℕ) (body : Body) (rest : List ℕ) →
 chosen true n r body rest is = (refl, cc is)
 chosen false n r body rest is = absurd (cc is)
 
-fits_low : (n : ℕ) (r : List ℕ) → fits n r ≡ true → 1 ≤ n
-fits_low n r is = grind (arith, nat_tests)
+both_true : (a b : Bool) → (a && b) ≡ true → (a ≡ true) × (b ≡ true)
+both_true true b is = (refl, is)
+both_true false b is = absurd (cc is)
 
-fits_high : (n : ℕ) (r : List ℕ) → fits n r ≡ true → n ≤ 1048576
-fits_high n r is = grind (arith, nat_tests)
-
-fits_long : (n : ℕ) (r : List ℕ) → fits n r ≡ true → n + 5 ≤ length r
-fits_long n r is = grind (arith, nat_tests)
+at_most : (m n : ℕ) → nat_le m n ≡ true → m ≤ n
+at_most m n is = grind (arith, nat_tests)
 
 behind_is : (r : List ℕ) (body : Body) (rest : List ℕ) → behind r ≡ Open body rest → Behind r body
 behind_is r body rest is =
     let n = from_be_bytes w32 (take 4 r) in
     let c = chosen (fits n r) n r body rest is in
-    record { n = n; n_is = refl; low = fits_low n r c.0; high = fits_high n r c.0; long = fits_long n r c.0; body_is = c.1 }
+    let last = both_true (nat_le 1 n && nat_le n 1048576) (nat_le (n + 5) (length r)) c.0 in
+    let ends = both_true (nat_le 1 n) (nat_le n 1048576) last.0 in
+    record { n = n; n_is = refl; low = at_most 1 n ends.0; high = at_most n 1048576 ends.1; long = at_most (n + 5) (length r) last.1; body_is = c.1 }
 
 first_open : (list : List ℕ) (body : Body) (rest : List ℕ) → gate_of list ≡ Open body rest → Behind (drop 1 list) body
 first_open [] body rest is = absurd (cc is)

@@ -1,5 +1,4 @@
-use Rattle.std.proofs.Common.{rules, ◌≡◌, ◌≤◌, ◌<◌, ◌+◌, ◌-◌, ℕ, List, [], ◌∷◌, take, drop, ◌∙◌, arith}
-use Rattle.std.specs.Int.{from_be_bytes, w32}
+use Rattle.std.proofs.Common.{◌≡◌, ◌≤◌, ◌<◌, ◌+◌, ◌-◌, [], ◌∷◌, take, drop, ◌∙◌, arith}
 use Rattle.disk_defs.specs.Gates.{NoGate, gate_at}
 use Rattle.disk_defs.proofs.Told.{weaker_told, both_weak}
 use Rattle.jnl_index.specs.Pieces.{IsPieceOf}
@@ -30,6 +29,6 @@ returns-then-n-eq0-clause-outside g c _ =
       | then-n-eq0-via-else-n-eq0+then-n-gt-LONGEST w ↦ absurd (omega (arith, high, w.if-n-gt-LONGEST.true))
       | then-n-eq0-via-else-n-eq0+else-n-gt-LONGEST+then-self-at w ↦ omega (arith, w.if-self-at.true, sizes)
     ] in
-    weaker_told o (Seen p at b (λ l. m ≡ from_be_bytes w32 l)) (λ files. gate_at (files p.file) at ≡ NoGate)
-    (told_seen o (view c.byte_at.new.disk).content p c.byte_at.new.self at b (λ l. m ≡ from_be_bytes w32 l) c.byte_at.ensures.reads.content c.byte_at.ensures.same.file c.requires.told c.in_ok-gate.ensures.value c.in_ok-number_at.ensures.read)
-    (λ files s. gate_unfit p files s.is at c.requires.long (omega arith) b s.gate n c.if-gate-ne1.false (same ∙ s.number) unfit)
+    weaker_told o (Seen p at b m) (λ files. gate_at (files p.file) at ≡ NoGate)
+    (told_seen o (view c.byte_at.new.disk).content p c.byte_at.new.self at b m c.byte_at.ensures.reads.content c.byte_at.ensures.same.file c.requires.told c.in_ok-gate.ensures.value c.in_ok-number_at.ensures.read)
+    (λ files s. gate_unfit p files s.is at c.requires.long (omega arith) b s.gate c.if-gate-ne1.false n (same ∙ s.number) unfit)
