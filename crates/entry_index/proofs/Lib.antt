@@ -1,2 +1,6 @@
 pub mod Rows
 pub mod ReadParts
+pub mod Laws
+pub mod Columns
+pub mod Signed
+pub mod Complete

@@ -1,10 +1,11 @@
 //! Which entries are complete.
-ghost use Rattle.std.specs.Prelude.{◌≡◌, ◌==◌, ◌+◌, ◌<◌, ◌≤◌, ◌^◌, ℕ, length, is_some, Option, None, IfOk, IfSome, IsErrOf, IsTrue};
+ghost use Rattle.std.specs.Prelude.{◌≡◌, ◌==◌, ◌+◌, ◌<◌, ◌≤◌, ◌^◌, ℕ, List, length, true, is_some, Option, Some, None, IfOk, IfSome, IsErrOf, IsTrue};
 ghost use Rattle.std.specs.List.{list_all};
 ghost use Rattle.disk_defs.specs.Disk.{Files, Reads, Rose};
 ghost use Rattle.global_defs.specs.Entry as defs;
 ghost use Rattle.journal_defs.specs.Journal as journal;
 ghost use Rattle.journal_defs.specs.Sequence.{REGIONS, items_in, entry_among};
+ghost use Rattle.jnl_index.specs.Signs.{span_of};
 ghost use Rattle.mupip_recover.specs.Slots.{next_after, is_at};
 ghost use Rattle.entry_index.specs.Parts.{AreParts};
 ghost use Rattle.entry_index.specs.Signs.{Tells};
@@ -77,20 +78,32 @@ fn span_in(table: &SignTable, place: usize, head: &PartSign, region: u8) -> Span
     }
 }
 
+/// The position after those of a region's items, where these have the positions from `next` on, in order.
+fn position_after(next: u16, span: Span) -> Option<u16>
+    ensures { IfSome result (λ after. (items : List journal.Item) → span ≡ span_of items → next_after next items ≡ Some after) }
+{
+    if span.many == 0 {
+        return Some(next);
+    }
+    if span.in_a_row && span.first == next {
+        return next.checked_add(span.many);
+    }
+    None
+}
+
 /// Whether the items of the regions of a part's mask, one region after the other, have all positions up to its count in order.
 fn are_in_order(table: &SignTable, place: usize, head: &PartSign) -> bool
     ensures { IsTrue result → (files : Files) (n : ℕ) (part : ℕ → Option journal.Part) → AreSigned files table.now place n part
-        → IsTrue (is_at head.now.count (next_after 0 (items_in head.now.mask part))) }
+        → is_at head.now.count (next_after 0 (items_in head.now.mask part)) ≡ true }
 {
-    let mut next = 0u32;
+    let mut next = 0;
     for region in 0..REGIONS {
-        let span = span_in(table, place, head, region);
-        if span.many > 0 && (!span.in_a_row || u32::from(span.first) != next) {
+        let Some(after) = position_after(next, span_in(table, place, head, region)) else {
             return false;
-        }
-        next += u32::from(span.many);
+        };
+        next = after;
     }
-    next == u32::from(head.count)
+    next == head.count
 }
 
 /// Whether there are as many items in the regions of a part's mask as it counts.
@@ -98,11 +111,15 @@ fn has_count(table: &SignTable, place: usize, head: &PartSign) -> bool
     ensures { (files : Files) (n : ℕ) (part : ℕ → Option journal.Part) → AreSigned files table.now place n part
         → result ≡ (length (items_in head.now.mask part) == head.now.count) }
 {
-    let mut many = 0u32;
+    let mut left = head.count;
     for region in 0..REGIONS {
-        many += u32::from(span_in(table, place, head, region).many);
+        let many = span_in(table, place, head, region).many;
+        if many > left {
+            return false;
+        }
+        left -= many;
     }
-    many == u32::from(head.count)
+    left == 0
 }
 
 /// What the signs at a place tell of the entry by one of its parts.
