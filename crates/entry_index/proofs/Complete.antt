@@ -15,6 +15,7 @@ use Rattle.mupip_recover.specs.Entries.{entry_in}
 use Rattle.mupip_recover.specs.Slots.{next_after, is_at}
 use Rattle.mupip_recover.specs.Parts.{items_at}
 use Rattle.mupip_recover.proofs.InOrder.{by_order}
+use Rattle.mupip_recover.proofs.Completion.{among_next, among_found}
 use Rattle.jnl_index.specs.Signs.{first_of, is_row, span_of}
 use Rattle.jnl_index.specs.declared.sign.Span.{Span}
 use Rattle.entry_index.specs.declared.sign.PartSign.{PartSign}
@@ -131,3 +132,22 @@ by_part part stamp r p (Some us) is updates some =
 
 pub not_there : (part : ℕ → Option Part) (stamp : Stamp) (r : ℕ) → part r ≡ None → entry_in part stamp r ≡ None
 not_there part stamp r is = ap (option_and_then (λ q. entry_by part stamp q)) is
+
+-- a region by which the entry isn't complete, or isn't told
+pub next_region : (files : Files) (n : ℕ) (part : ℕ → Option Part) (stamp : Stamp) (r : ℕ) (head : PartSign) → r < 8 → IsSign files r n (Some head) (part r)
+    → ((p : Part) → Tells files r n head p → updates_by part p ≡ None) → entry_among part stamp (drop r REGIONS) ≡ entry_among part stamp (drop (r + 1) REGIONS)
+next_region files n part stamp r head low is none =
+    let (p, at, tells) = head_part files r n head (part r) is in
+    among_next part stamp r low (not_by part stamp r p at (none p tells))
+
+pub absent_region : (files : Files) (n : ℕ) (part : ℕ → Option Part) (stamp : Stamp) (r : ℕ) → r < 8 → IsSign files r n None (part r)
+    → entry_among part stamp (drop r REGIONS) ≡ entry_among part stamp (drop (r + 1) REGIONS)
+absent_region files n part stamp r low is = among_next part stamp r low (not_there part stamp r (no_head files r n (part r) is))
+
+-- a region by which it is
+pub found_region : (files : Files) (n : ℕ) (part : ℕ → Option Part) (stamp : Stamp) (r : ℕ) (head : PartSign) → r < 8 → IsSign files r n (Some head) (part r)
+    → ((p : Part) → Tells files r n head p → IsSome (updates_by part p)) → IsSome (entry_among part stamp (drop r REGIONS))
+found_region files n part stamp r head low is some =
+    let (p, at, tells) = head_part files r n head (part r) is in
+    let (e, entry) = by_part part stamp r p (updates_by part p) at refl (some p tells) in
+    subst IsSome (sym (among_found part stamp r e low entry)) tt

@@ -4,3 +4,4 @@ pub mod Laws
 pub mod Columns
 pub mod Signed
 pub mod Complete
+pub mod Building

@@ -1,8 +1,8 @@
 -- Rows of an index, and the entries there.
-use Rattle.std.proofs.Common.{◌≡◌, ◌⊎◌, inl, inr, ℕ, suc, ◌+◌, ◌-◌, ◌*◌, ◌≤◌, ◌<◌, List, [], ◌∷◌, length, take, drop, get_or, slice_get, Option, Some, None, refl, sym, ◌∙◌, ap, subst, arith}
-use Rattle.std.proofs.Math.Nat.{mul-suc, lt_of_mul-lt-mul_left, le_of_mul-le-mul_left}
+use Rattle.std.proofs.Common.{◌≡◌, ◌⊎◌, inl, inr, ℕ, suc, ◌+◌, ◌-◌, ◌*◌, ◌≤◌, ◌<◌, ◌^◌, min, List, [], ◌∷◌, length, take, drop, get_or, slice_get, Option, Some, None, refl, sym, ◌∙◌, ap, subst, arith}
+use Rattle.std.proofs.Math.Nat.{mul-suc, mul_comm, lt_of_mul-lt-mul_left, le_of_mul-le-mul_left}
 use Rattle.std.proofs.Math.Path.{fun_ext}
-use Rattle.std.proofs.lemmas.List.{length-drop, length-take-le, get_or-take, get_or-drop}
+use Rattle.std.proofs.lemmas.List.{length-drop, length-take-le, get_or-take, get_or-drop, take_all}
 use Rattle.std.proofs.lemmas.Option.{slice_get_cases, slice_get_past}
 use Rattle.std.specs.Option.{option_map}
 use Rattle.disk_defs.specs.Disk.{Files}
@@ -29,6 +29,21 @@ row_of k n xs = take k (drop (k * (n - 1)) xs)
 
 pub row-length : {X : Type 0} (k n : ℕ) (xs : List X) → 1 ≤ n → k * n ≤ length xs → length (row_of k n xs) ≡ k
 row-length k n xs first fits = length-take-le k (drop (k * (n - 1)) xs) (omega (arith, length-drop (k * (n - 1)) xs, one_more k n first, fits))
+
+-- a row by where it ends
+pub row_is : {X : Type 0} (k n end : ℕ) (xs : List X) → 1 ≤ n → end ≡ n * k → take k (drop (end - k) xs) ≡ row_of k n xs
+row_is k n end xs first is =
+    let at : end - k ≡ k * (n - 1) = omega (arith, is, mul_comm n k, one_more k n first) in
+    ap (λ m. take k (drop m xs)) at
+
+-- so many first rows, where their end is inside
+pub kept_rows : {X : Type 0} (k n kept : ℕ) (xs : List X) → kept ≡ min (n * k) (2 ^ 64 - 1) → length xs < 2 ^ 64 → kept < length xs → take kept xs ≡ take (k * n) xs
+kept_rows k n kept xs is long inside =
+    let same : kept ≡ k * n = omega (arith, is, long, inside, mul_comm n k) in
+    ap (λ m. take m xs) same
+
+pub all_kept : {X : Type 0} (k n kept : ℕ) (xs : List X) → kept ≡ min (n * k) (2 ^ 64 - 1) → length xs ≤ kept → xs ≡ take (k * n) xs
+all_kept k n kept xs is past = sym (take_all (k * n) xs (omega (arith, is, past, mul_comm n k)))
 
 row-get : {X : Type 0} (k n r : ℕ) (xs : List X) (d : X) → r < k → get_or (row_of k n xs) r d ≡ get_or xs (k * (n - 1) + r) d
 row-get k n r xs d low = get_or-take k (drop (k * (n - 1)) xs) r d low ∙ get_or-drop (k * (n - 1)) xs r d
@@ -67,7 +82,7 @@ module _ (files : Files) (reigns : List Reign) (index : EntryIndex) (seq : Seque
       let within : n ≤ length seq = le_of_mul-le-mul_left {m = n} {n = length seq} {k = index.regions} all some in
       let number : suc (n - 1) ≡ n = omega (arith, first) in
       elim ((slice_get_cases seq (n - 1)).1) [
-        | inl found ↦ in_row found.0 (subst (λ (m : ℕ). IsEntryAt files reigns index m found.0) number (is.each (n - 1) found.0 found.2.0)) fits found.2.0
+        | inl found ↦ in_row found.0 (subst (λ (m : ℕ). IsEntryAt files reigns index m found.0) number (is.each (n - 1) found.0 found.2)) fits found.2
         | inr past ↦ absurd (omega (arith, past.0, within, first))
       ]
 

@@ -84,11 +84,11 @@ module _ (files : Files) (r n : ℕ) where
       either (last_sign rs n ss) (sign_in rs n s) (part_of rs n ps) (part_in rs n p.generation p.what) (last_tells rs ss ps zip.1 all.1) (tells_in rs s p zip.0 all.0)
 
 -- the signs of all regions tell the parts of an entry
-pub all_tell : (files : Files) (signs : List (List PlacedSign)) (journal : ℕ → List Placed) (rs : List InstanceRecord) (n : ℕ) → AreSigns files signs journal
-    → (r : ℕ) → IsSign files r n (last_sign rs n (signs_of signs r)) (part_of rs n (journal r))
-all_tell files signs journal rs n are r = elim (cases_lt r (length signs)) [
-  | inl low ↦ last_tells files r n rs (signs_of signs r) (journal r) (are.each r low) (are.generations r low)
+pub all_tell : (files : Files) (signs : List (List PlacedSign)) (records : ℕ → List Placed) (rs : List InstanceRecord) (n : ℕ) → AreSigns files signs records
+    → (r : ℕ) → IsSign files r n (last_sign rs n (signs_of signs r)) (part_of rs n (records r))
+all_tell files signs records rs n are r = elim (cases_lt r (length signs)) [
+  | inl low ↦ last_tells files r n rs (signs_of signs r) (records r) (are.each r low) (are.generations r low)
   | inr past ↦
-      subst (λ (ss : List PlacedSign). IsSign files r n (last_sign rs n ss) (part_of rs n (journal r))) (sym (get_or_past signs r [] past))
+      subst (λ (ss : List PlacedSign). IsSign files r n (last_sign rs n ss) (part_of rs n (records r))) (sym (get_or_past signs r [] past))
       (subst (λ (ps : List Placed). IsSign files r n None (part_of rs n ps)) (sym (are.no_more r past)) tt)
 ]

@@ -28,8 +28,12 @@ span_told (Some s) = s.span
 abbrev pub span_at : ℕ → (ℕ → Option PartSign) → ℕ → Span
 span_at mask sign r = if in_mask mask r then span_told (sign r) else NO_SPAN
 
+-- what is told of something that is there where an entry is complete holds
+abbrev pub IsTold : {X : Type 0} → Told → Option X → Type 0
+IsTold Complete o = IsSome o
+IsTold Broken o = o ≡ None
+IsTold Unsure o = Unit {0}
+
 -- what is told of the entry by a part holds
 abbrev pub Decides : Told → (ℕ → Option Part) → Part → Type 0
-Decides Complete part p = IsSome (updates_by part p)
-Decides Broken part p = updates_by part p ≡ None
-Decides Unsure part p = Unit {0}
+Decides told part p = IsTold told (updates_by part p)

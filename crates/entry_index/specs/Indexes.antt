@@ -1,6 +1,6 @@
 -- Indexes of entries.
 use Rattle.std.specs.List.{AllByRecursion}
-use Rattle.std.specs.Prelude.{◌≡◌, ℕ, suc, ◌+◌, ◌-◌, ◌*◌, ◌≤◌, ◌<◌, List, [], length, get_or, slice_get, Option, Some, None}
+use Rattle.std.specs.Prelude.{◌≡◌, ℕ, suc, ◌+◌, ◌-◌, ◌*◌, ◌≤◌, ◌<◌, Bool, true, false, List, [], ◌++◌, length, get_or, slice_get, Option, Some, None, IsSome}
 use Rattle.disk_defs.specs.Disk.{Files}
 use Rattle.global_defs.specs.Entry.{Reign, Entry, Sequence}
 use Rattle.global_defs.specs.Prefix.{stamp_at}
@@ -10,7 +10,7 @@ use Rattle.jnl_index.specs.Places.{AreSignsOf}
 use Rattle.jnl_index.specs.declared.placed.PlacedSign.{PlacedSign}
 use Rattle.entry_index.specs.declared.place.PartPlace.{PartPlace}
 use Rattle.entry_index.specs.declared.index.EntryIndex.{EntryIndex}
-use Rattle.entry_index.specs.Parts.{NOWHERE, IsPartAt}
+use Rattle.entry_index.specs.Parts.{NOWHERE, IsPartAt, AreParts}
 
 -- the place of entry n, from 1 on, in a region
 abbrev pub place_of : EntryIndex → ℕ → ℕ → PartPlace
@@ -33,3 +33,8 @@ pub record AreSigns (files : Files) (signs : List (List PlacedSign)) (journal : 
   pub each : (r : ℕ) → r < length signs → AreSignsOf files r (get_or signs r []) (journal r)
   pub generations : (r : ℕ) → r < length signs → AllByRecursion (λ p. (1 ≤ p.generation) × (p.generation ≤ 65535)) (journal r)
   pub no_more : (r : ℕ) → length signs ≤ r → journal r ≡ []
+
+-- Entry n, which has these parts, is complete and its row was added; or it isn't complete and nothing was.
+abbrev pub IsNext : Files → List Reign → ℕ → (ℕ → Option Part) → Bool → List PartPlace → List PartPlace → Type 0
+IsNext files reigns n part true old new = (row : List PartPlace) × (new ≡ old ++ row) × AreParts files n row part × IsSome (entry_with part (stamp_at n reigns))
+IsNext files reigns n part false old new = (new ≡ old) × (entry_with part (stamp_at n reigns) ≡ None)

@@ -1,10 +1,14 @@
 //! Indexes built from the signs of records.
-ghost use Rattle.std.specs.Prelude.{◌≡◌, ◌≤◌, ◌*◌, ℕ, List, length, map, IfOk, IfSome, IsErrOf};
+ghost use Rattle.std.specs.Prelude.{◌≡◌, ◌≤◌, ◌<◌, ◌+◌, ◌*◌, ◌^◌, ℕ, List, length, map, Option, None, IfOk, IfSome, IsErrOf, if◌then◌else◌};
 ghost use Rattle.disk_defs.specs.Disk.{Reads, Rose};
 ghost use Rattle.global_defs.specs.Entry as defs;
+ghost use Rattle.gvn_model.specs.Reigns.{reign_value};
+ghost use Rattle.journal_defs.specs.Journal as journal;
 ghost use Rattle.journal_defs.specs.Sequence as sequences;
 ghost use Rattle.journal_defs.specs.Surviving as surviving;
-ghost use Rattle.entry_index.specs.Indexes.{AreSigns, Indexes};
+ghost use Rattle.mupip_recover.specs.Stamps.{AreStarts};
+ghost use Rattle.entry_index.specs.Indexes.{AreSigns, Indexes, IsNext};
+ghost use Rattle.entry_index.specs.Table.{AreSigned};
 
 use crate::completing::{is_complete, places_of};
 use crate::error::IndexError;
@@ -26,7 +30,19 @@ fn add_row<D: Disk>(
     starts: &[u64],
     place: usize,
     made: &mut EntryIndex,
-) -> Result<bool, IndexError> {
+) -> Result<bool, IndexError>
+    requires starts { AreStarts (map reign_value reigns.now) starts.now }
+    requires place { place + 1 < 2 ^ 64 }
+    requires few { made.old.regions ≤ 8 }
+    ensures added { IfOk result (λ more. IfSome (D.disk disk.old).content (λ files. (part : ℕ → Option journal.Part) → AreSigned files table.now place (place + 1) part → ((r : ℕ) → made.old.regions ≤ r → part r ≡ None)
+        → IsNext files (map reign_value reigns.now) (place + 1) part more made.old.places.items made.new.places.items)) }
+    ensures many { IfOk result (λ more. length made.new.places.items ≡ (if more then length made.old.places.items + made.old.regions else length made.old.places.items)) }
+    ensures regions { made.new.regions ≡ made.old.regions }
+    ensures outside { (file offset : ℕ) → IsErrOf result (IndexError.NotAFile file offset) → IfSome (D.disk disk.old).content (λ files. (part : ℕ → Option journal.Part) → AreSigned files table.now place (place + 1) part → ((r : ℕ) → made.old.regions ≤ r → part r ≡ None) → ⊥) }
+    ensures reads { Reads (D.disk disk.old) (D.disk disk.new) }
+    ensures later { (D.disk disk.old).faults ≤ (D.disk disk.new).faults }
+    ensures cause { IsErrOf result IndexError.Failed → Rose (D.disk disk.old).faults (D.disk disk.new).faults }
+{
     if stamp_at(reigns, starts, place as u64 + 1).is_none() {
         return Ok(false);
     }

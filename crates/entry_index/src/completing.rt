@@ -10,12 +10,13 @@ ghost use Rattle.mupip_recover.specs.Slots.{next_after, is_at};
 ghost use Rattle.entry_index.specs.Parts.{AreParts};
 ghost use Rattle.entry_index.specs.Signs.{Tells};
 ghost use Rattle.entry_index.specs.Table.{sign_at, AreSigned};
-ghost use Rattle.entry_index.specs.Completing.{agrees_by_sign, span_at, Decides};
+ghost use Rattle.entry_index.specs.Completing.{agrees_by_sign, span_at, Decides, IsTold};
 
 use crate::error::IndexError;
 use crate::place::PartPlace;
 use crate::reading::read_transaction;
-use crate::sign::{PartSign, REGIONS};
+use crate::sign;
+use crate::sign::PartSign;
 use crate::table::SignTable;
 use gvn_key::NoMemory;
 use jnl_index::Span;
@@ -51,7 +52,7 @@ fn agrees(table: &SignTable, place: usize, head: &PartSign, region: u8) -> bool
 fn all_agree(table: &SignTable, place: usize, head: &PartSign) -> bool
     ensures { result ≡ list_all (λ r. agrees_by_sign head.now (sign_at table.now place r) r) REGIONS }
 {
-    for region in 0..REGIONS {
+    for region in 0..sign::REGIONS {
         if !agrees(table, place, head, region) {
             return false;
         }
@@ -97,7 +98,7 @@ fn are_in_order(table: &SignTable, place: usize, head: &PartSign) -> bool
         → is_at head.now.count (next_after 0 (items_in head.now.mask part)) ≡ true }
 {
     let mut next = 0;
-    for region in 0..REGIONS {
+    for region in 0..sign::REGIONS {
         let Some(after) = position_after(next, span_in(table, place, head, region)) else {
             return false;
         };
@@ -112,7 +113,7 @@ fn has_count(table: &SignTable, place: usize, head: &PartSign) -> bool
         → result ≡ (length (items_in head.now.mask part) == head.now.count) }
 {
     let mut left = head.count;
-    for region in 0..REGIONS {
+    for region in 0..sign::REGIONS {
         let many = span_in(table, place, head, region).many;
         if many > left {
             return false;
@@ -138,6 +139,21 @@ fn told_by(table: &SignTable, place: usize, head: &PartSign) -> Told
     } else {
         Told::Broken
     }
+}
+
+/// What the signs at a place tell of the entry there: by the first part by which it's complete, or may be.
+fn told_at(table: &SignTable, place: usize) -> Told
+    ensures { (files : Files) (n : ℕ) (part : ℕ → Option journal.Part) → AreSigned files table.now place n part → (stamp : defs.Stamp) → IsTold result (entry_among part stamp REGIONS) }
+{
+    for region in 0..sign::REGIONS {
+        if let Some(head) = table.part(place, region) {
+            match told_by(table, place, &head) {
+                Told::Broken => {}
+                told => return told,
+            }
+        }
+    }
+    Told::Broken
 }
 
 /// The places of an entry's parts, one a region, of so many regions.
@@ -182,17 +198,12 @@ pub fn is_complete<D: Disk>(
     ensures later { (D.disk disk.old).faults ≤ (D.disk disk.new).faults }
     ensures cause { IsErrOf result IndexError.Failed → Rose (D.disk disk.old).faults (D.disk disk.new).faults }
 {
-    for region in 0..REGIONS {
-        if let Some(head) = table.part(place, region) {
-            match told_by(table, place, &head) {
-                Told::Complete => return Ok(true),
-                Told::Broken => {}
-                Told::Unsure => {
-                    let found = read_transaction(alloc, disk, row, place as u64 + 1)?;
-                    return Ok(found.is_some());
-                }
-            }
+    match told_at(table, place) {
+        Told::Complete => Ok(true),
+        Told::Broken => Ok(false),
+        Told::Unsure => {
+            let found = read_transaction(alloc, disk, row, place as u64 + 1)?;
+            Ok(found.is_some())
         }
     }
-    Ok(false)
 }

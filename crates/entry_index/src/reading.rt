@@ -107,12 +107,13 @@ fn read_part<D: Disk>(
         });
     }
     let file = journal_file(region, generation);
-    match read_placed(alloc, disk, file, offset) {
-        Ok(what) => match part_of(what, number) {
-            Some(found) => Ok(Some(found)),
-            None => Err(IndexError::NotAFile { file, offset }),
-        },
-        Err(error) => Err(in_file(file, error)),
+    let what = match read_placed(alloc, disk, file, offset) {
+        Ok(what) => what,
+        Err(error) => return Err(in_file(file, error)),
+    };
+    match part_of(what, number) {
+        Some(found) => Ok(Some(found)),
+        None => Err(IndexError::NotAFile { file, offset }),
     }
 }
 
