@@ -6,7 +6,7 @@ use Rattle.std.proofs.lemmas.List.{drop_all, take_all}
 use Rattle.std.specs.List.{list_all, flat_map}
 use Rattle.std.specs.Option.{option_map, option_and_then}
 use Rattle.disk_defs.specs.Disk.{Files}
-use Rattle.global_defs.specs.Entry.{Update, Stamp, Entry}
+use Rattle.global_defs.specs.Entry.{Update, Origin, Stamp, Entry}
 use Rattle.journal_defs.specs.Journal.{Item, Part}
 use Rattle.journal_defs.specs.Sequence.{REGIONS, in_mask, is_like, items_of, items_in, updates_from, updates_of, updates_by, entry_by, entry_among}
 use Rattle.global_defs.specs.Serial.{entry_of}
@@ -77,8 +77,12 @@ module _ (files : Files) (n : ℕ) (sign : ℕ → Option PartSign) (part : ℕ 
   liked r head p (Some s) (Some x) mask count origin is =
       let m : (s.mask == head.mask) ≡ (x.mask == p.mask) = cc (is.mask, mask) in
       let c : (s.count == head.count) ≡ (x.count == p.count) = cc (is.count, count) in
-      let u : (s.origin.updater == head.origin.updater) ≡ (x.origin.updater == p.origin.updater) = cc (is.origin, origin) in
-      let w : (s.origin.serial == head.origin.serial) ≡ (x.origin.serial == p.origin.serial) = cc (is.origin, origin) in
+      let su : s.origin.updater ≡ x.origin.updater = ap (λ (o : Origin). o.updater) is.origin in
+      let hu : head.origin.updater ≡ p.origin.updater = ap (λ (o : Origin). o.updater) origin in
+      let ss : s.origin.serial ≡ x.origin.serial = ap (λ (o : Origin). o.serial) is.origin in
+      let hs : head.origin.serial ≡ p.origin.serial = ap (λ (o : Origin). o.serial) origin in
+      let u : (s.origin.updater == head.origin.updater) ≡ (x.origin.updater == p.origin.updater) = cc (su, hu) in
+      let w : (s.origin.serial == head.origin.serial) ≡ (x.origin.serial == p.origin.serial) = cc (ss, hs) in
       cc (m, c, u, w)
 
   -- whether all regions agree, by their signs
@@ -86,8 +90,8 @@ module _ (files : Files) (n : ℕ) (sign : ℕ → Option PartSign) (part : ℕ 
       → list_all (λ q. agrees_by_sign head (sign q) q) REGIONS ≡ list_all (λ q. not (in_mask p.mask q) || is_like p (part q)) REGIONS
   agreement r head p tells =
       let same : (λ q. agrees_by_sign head (sign q) q) ≡ (λ q. not (in_mask p.mask q) || is_like p (part q)) = fun_ext (λ q.
-        ap (λ (b : Bool). not (in_mask head.mask q) || b) (liked q head p (sign q) (part q) tells.mask tells.count tells.origin (are q))
-        ∙ ap (λ (m : ℕ). not (in_mask m q) || is_like p (part q)) tells.mask) in
+      ap (λ (b : Bool). not (in_mask head.mask q) || b) (liked q head p (sign q) (part q) tells.mask tells.count tells.origin (are q))
+      ∙ ap (λ (m : ℕ). not (in_mask m q) || is_like p (part q)) tells.mask) in
       ap (λ (f : ℕ → Bool). list_all f REGIONS) same
 
   -- where they don't agree

@@ -91,8 +91,9 @@ pub row_more : (files : Files) (reigns : List Reign) (index made : EntryIndex) (
 row_more files reigns index made seq row part e regions places wide parts entry is = record {
   rows =
       let more : length (seq ++ e ∷ []) ≡ suc (length seq) = omega (arith, length-append seq (e ∷ [])) in
-      ap length places ∙ length-append index.places.items row ∙ omega (arith, is.rows, wide, mul-suc index.regions (length seq))
-      ∙ ap (λ (k : ℕ). k * suc (length seq)) (sym regions) ∙ ap (λ (k : ℕ). made.regions * k) (sym more);
+      let sum : length made.places.items ≡ index.regions * suc (length seq) =
+      omega (arith, ap length places, length-append index.places.items row, is.rows, wide, mul-suc index.regions (length seq)) in
+      sum ∙ ap (λ (k : ℕ). k * suc (length seq)) (sym regions) ∙ ap (λ (k : ℕ). made.regions * k) (sym more);
   each = λ m x h. elim (got_more m seq e x h) [
     | inl before ↦ same_places files reigns index made (suc m) x regions (λ r low.
       let number : suc m - 1 ≡ m = omega arith in

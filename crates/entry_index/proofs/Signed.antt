@@ -22,6 +22,10 @@ use Rattle.entry_index.specs.declared.sign.PartSign.{PartSign}
 use Rattle.entry_index.specs.Signs.{part_said, if_numbered, if_surviving, sign_in, last_sign, signs_of, Tells, IsSign}
 use Rattle.entry_index.specs.Indexes.{AreSigns}
 
+-- what a part's sign says
+abbrev said : ℕ → ℕ → Part → PartSign
+said g at p = record { number = p.number; mask = p.mask; origin = record { updater = p.origin.updater; serial = p.origin.serial }; count = p.count; span = span_of p.items; place = record { generation = g; offset = at } }
+
 module _ (files : Files) (r n : ℕ) where
   numbered : (s : PartSign) (p : Part) (c : Bool) → (c ≡ true → Tells files r n s p) → IsSign files r n (if c then Some s else None) (if c then Some p else None)
   numbered s p true h = h refl
@@ -32,22 +36,18 @@ module _ (files : Files) (r n : ℕ) where
   surviving s p true h = h
   surviving s p false h = tt
 
-  -- what a part's sign says
-  abbrev said : ℕ → ℕ → Part → PartSign
-  said g at p = record { number = p.number; mask = p.mask; origin = record { updater = p.origin.updater; serial = p.origin.serial }; count = p.count; span = span_of p.items; place = record { generation = g; offset = at } }
-
   tells_part : (rs : List InstanceRecord) (g at : ℕ) (p : Part) → 1 ≤ g → g ≤ 65535 → StandsAt (files (journal_file g r)) at (journal.Tcom p)
       → IsSign files r n (if_numbered n (if_surviving rs g (Some (said g at p)))) (parts.if_numbered n (parts.surviving_in rs g (journal.Tcom p)))
   tells_part rs g at p least most stands = surviving (said g at p) p (survives rs g p.number) (numbered (said g at p) p (p.number == n) (λ yes.
-    let same : p.number ≡ n = grind (arith, nat_tests) in
-    record {
-      number = refl;
-      mask = refl;
-      origin = refl;
-      count = refl;
-      span = refl;
-      stands = (least, most, same, stands);
-    }))
+      let same : p.number ≡ n = grind (arith, nat_tests) in
+      record {
+        number = refl;
+        mask = refl;
+        origin = refl;
+        count = refl;
+        span = refl;
+        stands = (least, most, same, stands);
+      }))
 
   tells : (rs : List InstanceRecord) (g at : ℕ) (what : JournalRecord) → 1 ≤ g → g ≤ 65535 → StandsAt (files (journal_file g r)) at what
       → IsSign files r n (if_numbered n (if_surviving rs g (part_said g at (sign_of what)))) (part_in rs n g what)

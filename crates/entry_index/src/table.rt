@@ -57,11 +57,7 @@ fn put<'a>(column: &mut Vec<Option<&'a PlacedSign>>, placed: &'a PlacedSign)
 }
 
 /// Puts a sign at the place of its part's number, if that survives.
-fn put_surviving<'a>(
-    cuts: &Cuts,
-    column: &mut Vec<Option<&'a PlacedSign>>,
-    placed: &'a PlacedSign,
-)
+fn put_surviving<'a>(cuts: &Cuts, column: &mut Vec<Option<&'a PlacedSign>>, placed: &'a PlacedSign)
     requires { (rs : List instances.InstanceRecord) × AreCuts rs cuts.now }
     ensures many { length column.new.items ≡ length column.old.items }
     ensures put { (rs : List instances.InstanceRecord) → AreCuts rs cuts.now → (i : ℕ) → i < length column.old.items
@@ -75,10 +71,7 @@ fn put_surviving<'a>(
 }
 
 /// So many empty places.
-fn empty_column<'a>(
-    alloc: Global,
-    places: usize,
-) -> Result<Vec<Option<&'a PlacedSign>>, NoMemory>
+fn empty_column<'a>(alloc: Global, places: usize) -> Result<Vec<Option<&'a PlacedSign>>, NoMemory>
     ensures { IfOk result (λ made. made.items ≡ replicate places None) }
 {
     let mut made = Vec::new(alloc);

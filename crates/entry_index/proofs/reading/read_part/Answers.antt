@@ -34,7 +34,7 @@ returns-in-Some-clause-found g c =
     weaker_told (g.D.Disk.disk a.disk.now).content (λ files. (other : JournalRecord) → StandsAt (files file) a.place.offset other → record_value c.in-Ok.what ≡ other)
     (λ files. (x : Option Part) → IsPartAt files a.region a.number a.place x → told ≡ x) c.in-Ok.ensures.one
     (λ files one x is. value ∙ is_part files a.region a.number a.place x (record_value c.in-Ok.what) least
-      (subst (λ (f : ℕ). (other : JournalRecord) → StandsAt (files f) a.place.offset other → record_value c.in-Ok.what ≡ other) c.journal_file-file.ensures one) is)
+    (subst (λ (f : ℕ). (other : JournalRecord) → StandsAt (files f) a.place.offset other → record_value c.in-Ok.what ≡ other) c.journal_file-file.ensures one) is)
 
 pub returns-in-None-clause-outside : goal.returns-in-None-clause-outside
 returns-in-None-clause-outside g c file offset failed =
@@ -45,7 +45,7 @@ returns-in-None-clause-outside g c file offset failed =
     weaker_told (g.D.Disk.disk a.disk.now).content (λ files. (other : JournalRecord) → StandsAt (files at) a.place.offset other → record_value c.in-Ok.what ≡ other)
     (λ files. (x : Option Part) → IsPartAt files a.region a.number a.place x → ⊥) c.in-Ok.ensures.one
     (λ files one x is. no_part files a.region a.number a.place x (record_value c.in-Ok.what) least
-      (subst (λ (f : ℕ). (other : JournalRecord) → StandsAt (files f) a.place.offset other → record_value c.in-Ok.what ≡ other) c.journal_file-file.ensures one) none is)
+    (subst (λ (f : ℕ). (other : JournalRecord) → StandsAt (files f) a.place.offset other → record_value c.in-Ok.what ≡ other) c.journal_file-file.ensures one) none is)
 
 pub returns-in-Err-clause-outside : goal.returns-in-Err-clause-outside
 returns-in-Err-clause-outside g c file offset failed =
