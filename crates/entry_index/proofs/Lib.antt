@@ -1,0 +1,10 @@
+pub mod Rows
+pub mod ReadParts
+pub mod Laws
+pub mod Columns
+pub mod Signed
+pub mod Complete
+pub mod Counting
+pub mod Runs
+pub mod Placed
+pub mod AmongLaws
