@@ -1,4 +1,4 @@
-mod Chains
-mod ItemLists
+pub mod Chains
+pub mod ItemLists
 mod Pushes
-mod Records
+pub mod Records

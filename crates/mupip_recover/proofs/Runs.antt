@@ -37,7 +37,7 @@ more_numbered n (x ∷ es) e =
     let at : n + 1 + length es ≡ n + suc (length es) = omega arith in
     ap (λ l. (n, x) ∷ l) (more_numbered (n + 1) es e ∙ ap (λ (k : ℕ). enumerate_from (n + 1) es ++ (k, e) ∷ []) at)
 
-more_run : (at : ℕ → Option Entry) (n m : ℕ) (es : Sequence) (e : Entry) → m ≡ n + length es → EntriesFrom at n es → at m ≡ Some e → EntriesFrom at n (es ++ e ∷ [])
+pub more_run : (at : ℕ → Option Entry) (n m : ℕ) (es : Sequence) (e : Entry) → m ≡ n + length es → EntriesFrom at n es → at m ≡ Some e → EntriesFrom at n (es ++ e ∷ [])
 more_run at n m [] e is h next = (subst (λ (k : ℕ). at k ≡ Some e) (omega arith) next, tt)
 more_run at n m (x ∷ xs) e is h next = (h.0, more_run at (suc n) m xs e (omega arith) h.1 next)
 
@@ -56,7 +56,7 @@ grown t rs place was now number e each long numbered at next is =
     )
 
 -- the same entries elsewhere
-same_run : (at to : ℕ → Option Entry) (n : ℕ) (seq : Sequence) → ((k : ℕ) → n ≤ k → k < n + length seq → to k ≡ at k) → EntriesFrom at n seq → EntriesFrom to n seq
+pub same_run : (at to : ℕ → Option Entry) (n : ℕ) (seq : Sequence) → ((k : ℕ) → n ≤ k → k < n + length seq → to k ≡ at k) → EntriesFrom at n seq → EntriesFrom to n seq
 same_run at to n [] same h = tt
 same_run at to n (e ∷ es) same h = (same n (omega arith) (omega arith) ∙ h.0, same_run at to (suc n) es (λ k low high. same k (omega arith) (omega arith)) h.1)
 
@@ -64,7 +64,7 @@ same_run at to n (e ∷ es) same h = (same n (omega arith) (omega arith) ∙ h.0
 abbrev pub IsTable : Table → ℕ → Records → Type 0
 IsTable t places s = (i r : ℕ) → i < places → part_at t i r ≡ part_of s.instance (i + 1) (s.journal r)
 
-same_at : (t : Table) (places : ℕ) (s : Records) (rs : List Reign) → IsTable t places s → rs ≡ reigns s.instance → (n : ℕ) → 1 ≤ n → n ≤ places → entry s n ≡ entry_at t rs n
+pub same_at : (t : Table) (places : ℕ) (s : Records) (rs : List Reign) → IsTable t places s → rs ≡ reigns s.instance → (n : ℕ) → 1 ≤ n → n ≤ places → entry s n ≡ entry_at t rs n
 same_at t places s rs is are n low high =
     let within : n - 1 < places = omega arith in
     let number : n - 1 + 1 ≡ n = omega arith in
@@ -72,11 +72,11 @@ same_at t places s rs is are n low high =
     ∙ ap (λ (l : List Reign). entry_with (part_at t (n - 1)) (stamp_at n l)) (sym are)
 
 -- where some part of each entry's number is among these
-is_there : (s : Records) (ns : List ℕ) → ((n r : ℕ) → has n ns ≡ false → parts s n r ≡ None) → (n : ℕ) (e : Entry) → entry s n ≡ Some e → (b : Bool) → has n ns ≡ b → b ≡ true
+pub is_there : (s : Records) (ns : List ℕ) → ((n r : ℕ) → has n ns ≡ false → parts s n r ≡ None) → (n : ℕ) (e : Entry) → entry s n ≡ Some e → (b : Bool) → has n ns ≡ b → b ≡ true
 is_there s ns none n e h true is = refl
 is_there s ns none n e h false is = let gone : entry s n ≡ None = entry_none s n (λ r. none n r is) in cc
 
-within_run : (at : ℕ → Option Entry) (n k : ℕ) (seq : Sequence) → EntriesFrom at n seq → n ≤ k → k < n + length seq → (e : Entry) × (at k ≡ Some e)
+pub within_run : (at : ℕ → Option Entry) (n k : ℕ) (seq : Sequence) → EntriesFrom at n seq → n ≤ k → k < n + length seq → (e : Entry) × (at k ≡ Some e)
 within_run at n k [] h low high = absurd (omega arith)
 within_run at n k (e ∷ es) h low high = elim (cases_lt n k) [
   | inl more ↦ within_run at (suc n) k es h.1 (omega arith) (omega arith)
@@ -84,7 +84,7 @@ within_run at n k (e ∷ es) h low high = elim (cases_lt n k) [
 ]
 
 -- a run of as many entries as there are parts is whole
-no_more : (s : Records) (ns : List ℕ) → ((n r : ℕ) → has n ns ≡ false → parts s n r ≡ None) → (seq : Sequence) → EntriesFrom (entry s) 1 seq → length seq ≡ length ns
+pub no_more : (s : Records) (ns : List ℕ) → ((n r : ℕ) → has n ns ≡ false → parts s n r ≡ None) → (seq : Sequence) → EntriesFrom (entry s) 1 seq → length seq ≡ length ns
     → (o : Option Entry) → entry s (suc (length seq)) ≡ o → o ≡ None
 no_more s ns none seq run long None is = refl
 no_more s ns none seq run long (Some e) is =
@@ -107,10 +107,10 @@ whole t places s rs seq ns is are none many first =
     }
 
 -- the numbers of all parts of a site
-abbrev all_numbers : List (List PlacedRecord) → List ℕ
+abbrev pub all_numbers : List (List PlacedRecord) → List ℕ
 all_numbers js = flat_map numbers_in (map (map placed_value) js)
 
-none_there : (instance : List InstanceRecord) (js : List (List PlacedRecord)) (n r : ℕ) → has n (all_numbers js) ≡ false → parts (site_records instance js) n r ≡ None
+pub none_there : (instance : List InstanceRecord) (js : List (List PlacedRecord)) (n r : ℕ) → has n (all_numbers js) ≡ false → parts (site_records instance js) n r ≡ None
 none_there instance js n r h =
     ap (part_of instance n) (sym (get_or-map (map placed_value) js r [])) ∙ none_among instance n (map (map placed_value) js) r h
 

@@ -157,7 +157,8 @@ fn transaction_by(
     }))
 }
 
-/// The transaction at a place, where it is complete by the part of some region.
+/// The transaction at a place of a table, where it is complete by the part of some region: each region of that part's mask has a part
+/// that is like it, and the positions of their items fit. The first such region decides.
 pub fn transaction_at(
     alloc: Global,
     table: &Table,

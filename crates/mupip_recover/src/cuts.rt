@@ -21,7 +21,7 @@ pub struct Cut {
     pub length: u64,
 }
 
-/// The cuts of an instance file, by their generations.
+/// The cuts of an instance file, by their generations. The fields are there for contracts.
 #[derive(Debug, Drop)]
 pub struct Cuts {
     /// Their generations, which don't fall.

@@ -17,7 +17,12 @@ mod surviving;
 mod table;
 
 pub use broken::write_broken;
+pub use completing::transaction_at;
+pub use cuts::Cuts;
 pub use epoch::{EpochAt, chosen_epoch};
 pub use forward::first_without;
+pub use part::Part;
 pub use recovering::recover;
+pub use stamps::{stamp_at, starts_of};
 pub use surviving::survives;
+pub use table::Table;

@@ -18,7 +18,7 @@ fn numbers_of(alloc: Global, reigns: &[Reign]) -> Result<Vec<u64>, NoMemory>
     Ok(reigns.iter().map(|reign| reign.start).collect(alloc)?)
 }
 
-/// For each reign the least start of that and the later ones.
+/// For each reign the least start of that and the later ones, for [`stamp_at`].
 pub fn starts_of(alloc: Global, reigns: &[Reign]) -> Result<Vec<u64>, NoMemory>
     ensures { IfOk result (λ made. AreStarts (map reign_value reigns.now) made.items) }
 {
@@ -26,7 +26,8 @@ pub fn starts_of(alloc: Global, reigns: &[Reign]) -> Result<Vec<u64>, NoMemory>
     minima_of(alloc, &numbers)
 }
 
-/// The stamp of the last of the reigns, with these starts, that has begun by an entry.
+/// The stamp of the last of the reigns, with the starts that [`starts_of`] gives, that has begun by the entry of a number; `None` where
+/// none has.
 pub fn stamp_at<'a>(reigns: &'a [Reign], starts: &[u64], number: u64) -> Option<&'a Stamp>
     requires { AreStarts (map reign_value reigns.now) starts.now }
     ensures { option_map (λ s. stamp_value s.now) result ≡ prefix.stamp_at number (map reign_value reigns.now) }

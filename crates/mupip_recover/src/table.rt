@@ -15,7 +15,7 @@ use gvn_key::NoMemory;
 use jnl_record::{JnlRecord, PlacedRecord};
 use std::alloc::Global;
 
-/// The last surviving part of each entry in each region.
+/// A part of an entry, or none, for each number and region. [`Table::of`] makes it of the last surviving parts.
 #[derive(Debug, Drop)]
 pub struct Table<'a> {
     /// A column for each region, with a place for each number from 1 on.

@@ -1,2 +1,2 @@
 pub mod Pairs
-mod Tagged
+pub mod Tagged
