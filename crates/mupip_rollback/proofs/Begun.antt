@@ -3,7 +3,6 @@ use Rattle.std.proofs.Common.{◌≡◌, ℕ, List, [], ◌∷◌, ◌++◌, len
 use Rattle.std.specs.Prelude.{slice_get}
 use Rattle.disk_defs.specs.Disk.{Files, View, Image, IsLawful, From}
 use Rattle.disk_defs.proofs.Told.{both_weak}
-use Rattle.gvn_model.specs.Numbered.{numbered}
 use Rattle.instance_file.specs.Instance as instances
 use Rattle.jnl_file.specs.Journal as journals
 use Rattle.jnl_file.specs.Records.{settled}
@@ -22,10 +21,10 @@ use Rattle.mupip_rollback.specs.Cutting.{IsCutOff}
 use Rattle.mupip_rollback.specs.declared.preparing.Kept.{Kept}
 
 module _ (v w : View) (rs : List InstanceRecord) (kept : Kept) (form : MayBeOpened rs (last_of kept.last_began.items)) (lawful : IsLawful w)
-    (n : ℕ) (lasts : List ℕ) (n_is : n ≡ length kept.entries.items) (lasts_is : lasts ≡ kept.last_began.items)
+    (n : ℕ) (lasts : List ℕ) (n_is : n ≡ length kept.entries) (lasts_is : lasts ≡ kept.last_began.items)
     (s : OpenSite) (entries : s.entries ≡ kept.entries) (globals : s.globals ≡ kept.globals) (hardened : s.hardened ≡ n) (begun : List Journal) (js_are : s.journals.journals.items ≡ map newly begun) where
   abbrev T : ℕ
-  T = length kept.entries.items
+  T = length kept.entries
 
   abbrev L : List ℕ
   L = kept.last_began.items
@@ -55,6 +54,6 @@ module _ (v w : View) (rs : List InstanceRecord) (kept : Kept) (form : MayBeOpen
       (both_weak v.content (λ _. instances.HasRecords w s.instance (rs ++ next_cut rs T ∷ [])) (λ _. (r : ℕ) (j : Journal) → slice_get begun r ≡ Some j → journals.HasRecords w j (settled (next_pini rs (last_of L) r ∷ []))) (λ _. Both) filed_so begins_so (λ files a b. (a, b)))
       (λ files d both c cut.
       open_cut rs (last_of L) cut.journal cut.seq form cut.sequence cut.none T cut.most v w lawful cut.reads c cut.stands s records_so
-      (ap (λ es. map numbered es.items) entries ∙ cut.entries) (hardened ∙ n_is) begun js_are cut.synced
+      (entries ∙ cut.entries) (hardened ∙ n_is) begun js_are cut.synced
       (λ f image. subst (λ (j : Joined). AreOnBlocks f (record { instance = rs; journal = cut.journal }) T j) (sym globals) (cut.on f image))
       (ap (λ j. joined j) globals ∙ cut.globals) d both.0 both.1)

@@ -21,7 +21,6 @@ use Rattle.site_store.specs.Opening.{EachStands, AreTextsDurable}
 use Rattle.site_store.specs.Standing.{HasFound, WasFound, found_records, found_entries}
 use Rattle.site_store.proofs.Alike.{image_site}
 use Rattle.site_store.proofs.Drawn.{site_read, left_read}
-use Rattle.site_store.proofs.Loaded.{length_values}
 
 module _ (u v : View) (f : FoundFiles) (has : HasFound f) (was : WasFound u v f) where
   abbrev rs : List InstanceRecord
@@ -77,13 +76,13 @@ module _ (u v : View) (f : FoundFiles) (has : HasFound f) (was : WasFound u v f)
       (λ files r. (found_records f, seq, held_read rs last journal files r.holds, has.sequence, is))
 
   abbrev pub AllStand : Contents → Type 0
-  AllStand c = (length f.entries.items ≡ length c.sequence) × (EachStands u → (d : Files) → Image v d → IsSite d c)
+  AllStand c = (length f.entries ≡ length c.sequence) × (EachStands u → (d : Files) → Image v d → IsSite d c)
 
   -- each image stands for the same
   pub site_is : IsLawful v → AtEachMoment u v (Image u) → IfSome u.content (λ files. (c : Contents) → IsSite files c → AllStand c)
   site_is lawful synced = both_weak u.content Read (AreTextsDurable v g) (λ files. (c : Contents) → IsSite files c → AllStand c) was.read was.texts (λ files r durable c site.
       let own = (site_read rs last journal seq has.form has.sequence files c r.holds site).1 in (
-        sym (length_values f.entries.items) ∙ ap (λ (x : Contents). length x.sequence) (sym own),
+        ap (λ (x : Contents). length x.sequence) (sym own),
         λ each d image.
             let o = each d (holds_now u v (Image u) lawful synced d image) in
             subst (IsSite d) (sym own) (image_site v rs last journal seq has.form has.sequence files r durable d image o.0 o.1),

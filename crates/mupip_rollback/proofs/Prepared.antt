@@ -1,13 +1,11 @@
 -- A standing site of which the first entries are kept.
-use Rattle.std.proofs.Common.{◌≡◌, ℕ, zero, suc, ◌+◌, ◌≤◌, ◌<◌, false, List, [], ◌∷◌, ◌++◌, length, map, take, min, IfSome, Result, Ok, Err, IfOk, OnOk, refl, sym, ◌∙◌, ap, subst, arith}
-use Rattle.std.specs.List.{enumerate_from}
+use Rattle.std.proofs.Common.{◌≡◌, ℕ, suc, ◌+◌, ◌≤◌, ◌<◌, false, List, [], ◌∷◌, ◌++◌, length, map, take, min, IfSome, Result, Ok, Err, IfOk, OnOk, refl, sym, ◌∙◌, ap, subst, arith}
 use Rattle.std.proofs.lemmas.List.{length-take-le}
 use Rattle.disk_defs.specs.Disk.{Files, View, Image, IsLawful, Reads, AtEachMoment}
 use Rattle.disk_defs.proofs.Told.{weaker_told, both_weak, told_at}
 use Rattle.disk_defs.proofs.Moments.{holds_now, read_only}
 use Rattle.global_defs.specs.Entry.{Sequence}
 use Rattle.global_defs.specs.Extract.{extract}
-use Rattle.gvn_model.specs.Numbered.{numbered}
 use Rattle.gvn_model.specs.declared.entry.Entry as code
 use Rattle.journal_defs.specs.Instance.{InstanceRecord, Create, Reigned, Cut, Map, Mode, NamedMode, generation, regions, site_name}
 use Rattle.journal_defs.specs.Directory.{patterns}
@@ -28,26 +26,11 @@ use Rattle.site_store.specs.Finding.{HasLayout, mapping_of}
 use Rattle.site_store.specs.Opening.{region_value, EachStands, AreTextsDurable, AreDatabasesDurable}
 use Rattle.site_store.specs.Standing.{HasFound, WasFound, IsFoundAs, IsOpenFor, found_records, found_entries}
 use Rattle.site_store.proofs.Founded.{found_moved, open_moved}
-use Rattle.site_store.proofs.Loaded.{length_values}
 use Rattle.mupip_rollback.specs.declared.error.RollError.{RollError}
 use Rattle.mupip_rollback.specs.declared.preparing.Prepared.{Prepared}
 use Rattle.mupip_rollback.specs.Preparing.{IsPrepared, KeepsFirst, cut_records}
 use Rattle.site_store.specs.Needing.{NoneIsWithout}
 use Rattle.mupip_rollback.proofs.Founded as founded
-
--- the first entries, by their numbers
-map_take : {X Y : Type 0} (f : X → Y) (xs : List X) (t : ℕ) → map f (take t xs) ≡ take t (map f xs)
-map_take f xs zero = refl
-map_take f [] (suc t) = refl
-map_take f (x ∷ xs) (suc t) = ap (λ l. f x ∷ l) (map_take f xs t)
-
-enumerate_first : (n t : ℕ) (xs : Sequence) → take t (enumerate_from n xs) ≡ enumerate_from n (take t xs)
-enumerate_first n zero xs = refl
-enumerate_first n (suc t) [] = refl
-enumerate_first n (suc t) (x ∷ xs) = ap (λ l. (n, x) ∷ l) (enumerate_first (n + 1) t xs)
-
-pub first_numbered : (es : List code.Entry) (seq : Sequence) (t : ℕ) → map numbered es ≡ enumerate_from 1 seq → map numbered (take t es) ≡ enumerate_from 1 (take t seq)
-first_numbered es seq t are = map_take numbered es t ∙ ap (take t) are ∙ enumerate_first 1 t seq
 
 -- another record
 pub name_more : (rs : List InstanceRecord) (x : InstanceRecord) → 0 < length rs → site_name (rs ++ x ∷ []) ≡ site_name rs
@@ -86,24 +69,24 @@ was_here u v f same was = record {
 abbrev pub IsAhead : View → View → FoundFiles → Type 0
 IsAhead v w f = IfSome v.content (λ _. (d : Files) → Image w d → AreUnbegun (suc (suc (generation f.read.log.records))) (length (regions f.read.log.records)) d)
 
-pub prepared : (v w : View) (f : FoundFiles) (t : ℕ) (k : StandingSite) (p : Prepared) → IsLawful w → Reads v w → HasFound f → t ≤ length f.entries.items → IsFoundAs f k → IsOpenFor v w f t k.globals
-    → p.log ≡ k.log → p.length ≡ length k.entries.items → p.broken ≡ k.broken → p.lost ≡ extract (site_name f.read.log.records) (found_entries f) (t + 1) → KeepsFirst t k p.kept
+pub prepared : (v w : View) (f : FoundFiles) (t : ℕ) (k : StandingSite) (p : Prepared) → IsLawful w → Reads v w → HasFound f → t ≤ length f.entries → IsFoundAs f k → IsOpenFor v w f t k.globals
+    → p.log ≡ k.log → p.length ≡ length k.entries → p.broken ≡ k.broken → p.lost ≡ extract (site_name f.read.log.records) (found_entries f) (t + 1) → KeepsFirst t k p.kept
     → WasFound v v f → IsAhead v v f → IsPrepared w p
 prepared v w f t k p lawful reads has most stays regions_open log count broken lost kept was ahead =
     let rs = f.read.log.records in
     let run = read_only v w reads in
-    let items : p.kept.entries.items ≡ take t f.entries.items = kept.entries ∙ ap (λ es. take t es.items) stays.entries in
-    let size : length p.kept.entries.items ≡ t = ap length items ∙ length-take-le t f.entries.items most in
+    let items : p.kept.entries ≡ take t f.entries = kept.entries ∙ ap (take t) stays.entries in
+    let size : length p.kept.entries ≡ t = ap length items ∙ length-take-le t f.entries most in
     record {
       found = f;
       has = has;
       was = was_here v w f reads.content (found_moved v v w f lawful run was);
       log = log ∙ stays.log;
-      counted = count ∙ ap (λ es. length es.items) stays.entries;
+      counted = count ∙ ap length stays.entries;
       broken = broken ∙ stays.broken;
       last_began = kept.last_began ∙ stays.last_began;
       most = omega (arith, size, most);
-      entries = ap (map numbered) items ∙ first_numbered f.entries.items (found_entries f) t has.are_numbered ∙ ap (λ (n : ℕ). enumerate_from 1 (take n (found_entries f))) (sym size);
+      entries = items ∙ ap (λ (n : ℕ). take n (found_entries f)) (sym size);
       layout = λ n m. one_more_cut rs n m k.layout p.kept.layout has.form.some_region kept.name kept.regions kept.directory kept.generation (stays.layout n);
       regions_open = subst (λ (n : ℕ). IsOpenFor w w f n p.kept.globals) (sym size) (subst (λ (j : Joined). IsOpenFor w w f t j) (sym kept.globals) (open_moved false w v w f t k.globals (sym reads.content) regions_open));
       lost = lost ∙ ap (λ (n : ℕ). extract (site_name rs) (found_entries f) (n + 1)) (sym size);
@@ -113,12 +96,9 @@ prepared v w f t k p lawful reads has most stays regions_open log count broken l
     }
 
 -- what was found of it, before anything else is known
-module _ (u v : View) (f : FoundFiles) (has : HasFound f) (was : WasFound u v f) (to t : ℕ) (t_is : t ≡ min to (length f.entries.items)) where
-  count : length (found_entries f) ≡ length f.entries.items
-  count = length_values f.entries.items
-
+module _ (u v : View) (f : FoundFiles) (has : HasFound f) (was : WasFound u v f) (to t : ℕ) (t_is : t ≡ min to (length f.entries)) where
   t_so : t ≡ min to (length (found_entries f))
-  t_so = let e = count in omega (arith, t_is, e)
+  t_so = t_is
 
   pub place_at : (file offset : ℕ) → v.content ≡ u.content → IfSome v.content (λ files. AreRecords files (found_records f) → IsOutsideRollback to files file offset) → IfSome u.content (λ files. IsOutsideRollback to files file offset)
   place_at file offset same out = both_weak u.content (WasRead v f.read.log.records (last_of f.read.last_began.items) (found_records f).journal) (λ files. AreRecords files (found_records f) → IsOutsideRollback to files file offset)
@@ -129,18 +109,18 @@ module _ (u v : View) (f : FoundFiles) (has : HasFound f) (was : WasFound u v f)
   pub told_without : (P : Records → ℕ → Type 0) → P (found_records f) t → IfSome u.content (λ files. (x : Records) × (es : Sequence) × AreRecords files x × IsSequence x es × P x (min to (length es)))
   told_without P is = founded.held_so u v f has was (λ x es. P x (min to (length es))) (subst (P (found_records f)) t_so is)
 
-  pub held_of : (o : Result Prepared RollError) → IfOk o (λ p. p.log.records ≡ f.read.log.records) → IfOk o (λ p. length p.kept.entries.items ≡ t) → OnOk o (NoneIsWithout (found_records f) t)
-      → IfOk o (λ p. IfSome u.content (λ files. (x : Records) × (es : Sequence) × AreRecords files x × IsSequence x es × (x.instance ≡ p.log.records) × (length p.kept.entries.items ≡ min to (length es)) × NoneIsWithout x (min to (length es))))
+  pub held_of : (o : Result Prepared RollError) → IfOk o (λ p. p.log.records ≡ f.read.log.records) → IfOk o (λ p. length p.kept.entries ≡ t) → OnOk o (NoneIsWithout (found_records f) t)
+      → IfOk o (λ p. IfSome u.content (λ files. (x : Records) × (es : Sequence) × AreRecords files x × IsSequence x es × (x.instance ≡ p.log.records) × (length p.kept.entries ≡ min to (length es)) × NoneIsWithout x (min to (length es))))
   held_of (Err e) records kept none = tt
   held_of (Ok p) records kept none = weaker_told u.content (WasRead v f.read.log.records (last_of f.read.last_began.items) (found_records f).journal)
-      (λ files. (x : Records) × (es : Sequence) × AreRecords files x × IsSequence x es × (x.instance ≡ p.log.records) × (length p.kept.entries.items ≡ min to (length es)) × NoneIsWithout x (min to (length es))) was.read
+      (λ files. (x : Records) × (es : Sequence) × AreRecords files x × IsSequence x es × (x.instance ≡ p.log.records) × (length p.kept.entries ≡ min to (length es)) × NoneIsWithout x (min to (length es))) was.read
       (λ files r. (found_records f, found_entries f, held_read f.read.log.records (last_of f.read.last_began.items) (found_records f).journal files r.holds, has.sequence, sym records, kept ∙ t_so, subst (NoneIsWithout (found_records f)) t_so none))
 
-  pub kept_of : (o : Result Prepared RollError) → IfOk o (λ p. p.length ≡ length f.entries.items) → IfOk o (λ p. length p.kept.entries.items ≡ t) → IfOk o (λ p. length p.kept.entries.items ≡ min to p.length)
+  pub kept_of : (o : Result Prepared RollError) → IfOk o (λ p. p.length ≡ length f.entries) → IfOk o (λ p. length p.kept.entries ≡ t) → IfOk o (λ p. length p.kept.entries ≡ min to p.length)
   kept_of (Err e) all kept = tt
   kept_of (Ok p) all kept = omega (arith, all, kept, t_is)
 
-  pub site_of : (w : View) (o : Result Prepared RollError) → IsLawful v → IsLawful w → AtEachMoment u v (Image u) → Reads v w → IfOk o (λ p. p.length ≡ length f.entries.items)
+  pub site_of : (w : View) (o : Result Prepared RollError) → IsLawful v → IsLawful w → AtEachMoment u v (Image u) → Reads v w → IfOk o (λ p. p.length ≡ length f.entries)
       → IfOk o (λ p. IfSome u.content (λ files. (c : Contents) → IsSite files c → (p.length ≡ length c.sequence) × (EachStands u → (d : Files) → Image w d → IsSite d c)))
   site_of w (Err e) lawful lawful_w synced reads all = tt
   site_of w (Ok p) lawful lawful_w synced reads all =

@@ -32,7 +32,6 @@ use Rattle.site_store.proofs.Drawn.{C}
 use Rattle.journal_defs.specs.Fit.{IsSoundImage}
 use Rattle.journal_defs.specs.Growth.{with_record}
 use Rattle.site_store.proofs.HeldRegions.{held_stays}
-use Rattle.site_store.proofs.Loaded.{length_values}
 use Rattle.site_store.proofs.OnBlocks.{on_same, on_chosen}
 use Rattle.site_store.proofs.Rolled.{standing_either_cut}
 use Rattle.mupip_rollback.specs.Cutting.{IsShort, MaySetAside, HasSetAside, AreSetAside, IsCutOff}
@@ -67,16 +66,16 @@ module _ (v : View) (p : Prepared) (P : IsPrepared v p) where
   many = length (regions rs)
 
   abbrev pub t : ℕ
-  t = length p.kept.entries.items
+  t = length p.kept.entries
 
   size : p.length ≡ length seq
-  size = P.counted ∙ sym (length_values f.entries.items)
+  size = P.counted
 
   most : t ≤ length seq
-  most = let a = P.most in let b = length_values f.entries.items in omega (arith, a, b)
+  most = P.most
 
   few : length seq < 2 ^ 40
-  few = let a = P.has.few in let b = length_values f.entries.items in omega (arith, a, b)
+  few = P.has.few
 
   abbrev qs : List InstanceRecord
   qs = cut_records rs (length seq)

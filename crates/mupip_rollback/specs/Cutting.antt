@@ -1,9 +1,7 @@
 -- What both CUTs of a rollback leave of files.
-use Rattle.std.specs.Prelude.{◌≡◌, ◌⊎◌, ◌≤◌, ℕ, suc, List, [], length, map, take}
-use Rattle.std.specs.List.{enumerate_from}
+use Rattle.std.specs.Prelude.{◌≡◌, ◌⊎◌, ◌≤◌, ℕ, suc, List, [], length, take}
 use Rattle.disk_defs.specs.Disk.{Files, View, Image, OnFile}
 use Rattle.global_defs.specs.Entry.{Sequence, state}
-use Rattle.gvn_model.specs.Numbered.{numbered}
 use Rattle.journal_defs.specs.Broken.{broken}
 use Rattle.journal_defs.specs.Instance.{InstanceRecord, generation, regions}
 use Rattle.journal_defs.specs.Numbers.{INSTANCE, lost_file}
@@ -42,10 +40,10 @@ pub record IsCutOff (v : View) (rs : List InstanceRecord) (c : Contents) (kept :
   pub seq : Sequence
   pub sequence : IsSequence (record { instance = rs; journal = journal }) seq
   pub none : broken (record { instance = rs; journal = journal }) (length seq) ≡ []
-  pub most : length kept.entries.items ≤ length seq
+  pub most : length kept.entries ≤ length seq
   pub reads : (f : Files) → Image v f → AreRead rs (last_of kept.last_began.items) journal f
   pub stands : (f : Files) → Image v f → IsSite f c
-  pub entries : map numbered kept.entries.items ≡ enumerate_from 1 (take (length kept.entries.items) seq)
+  pub entries : kept.entries ≡ take (length kept.entries) seq
   pub synced : AreSynced v (length (regions rs))
-  pub on : (f : Files) → Image v f → AreOnBlocks f (record { instance = rs; journal = journal }) (length kept.entries.items) kept.globals
-  pub globals : joined kept.globals ≡ state (take (length kept.entries.items) seq)
+  pub on : (f : Files) → Image v f → AreOnBlocks f (record { instance = rs; journal = journal }) (length kept.entries) kept.globals
+  pub globals : joined kept.globals ≡ state (take (length kept.entries) seq)

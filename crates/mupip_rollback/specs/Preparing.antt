@@ -1,9 +1,7 @@
 -- A site that is to be rolled back, before anything is written.
-use Rattle.std.specs.Prelude.{◌≡◌, ◌+◌, ◌≤◌, ◌++◌, ℕ, suc, List, [], ◌∷◌, length, map, take, IfSome}
-use Rattle.std.specs.List.{enumerate_from}
+use Rattle.std.specs.Prelude.{◌≡◌, ◌+◌, ◌≤◌, ◌++◌, ℕ, suc, List, [], ◌∷◌, length, take, IfSome}
 use Rattle.disk_defs.specs.Disk.{Files, View, Image}
 use Rattle.global_defs.specs.Extract.{extract}
-use Rattle.gvn_model.specs.Numbered.{numbered}
 use Rattle.journal_defs.specs.Instance.{InstanceRecord, generation, regions, site_name}
 use Rattle.site_files.specs.Loading.{AreUnbegun, next_cut}
 use Rattle.site_store.specs.declared.preparing.FoundFiles.{FoundFiles}
@@ -20,7 +18,7 @@ pub record KeepsFirst (t : ℕ) (k : StandingSite) (kept : Kept) : Type 0 where
   pub directory : kept.layout.directory ≡ k.layout.directory
   pub generation : kept.layout.generation ≡ k.layout.generation + 1
   pub last_began : kept.last_began ≡ k.last_began
-  pub entries : kept.entries.items ≡ take t k.entries.items
+  pub entries : kept.entries ≡ take t k.entries
   pub globals : kept.globals ≡ k.globals
 
 -- with a CUT to so many entries
@@ -34,12 +32,12 @@ pub record IsPrepared (v : View) (p : Prepared) : Type 0 where
   pub has : HasFound found
   pub was : WasFound v v found
   pub log : p.log ≡ found.read.log
-  pub counted : p.length ≡ length found.entries.items
+  pub counted : p.length ≡ length found.entries
   pub broken : p.broken ≡ found.broken
   pub last_began : p.kept.last_began ≡ found.read.last_began
-  pub most : length p.kept.entries.items ≤ length found.entries.items
-  pub entries : map numbered p.kept.entries.items ≡ enumerate_from 1 (take (length p.kept.entries.items) (found_entries found))
+  pub most : length p.kept.entries ≤ length found.entries
+  pub entries : p.kept.entries ≡ take (length p.kept.entries) (found_entries found)
   pub layout : (n m : ℕ) → HasLayout (cut_records (cut_records found.read.log.records n) m) p.kept.layout
-  pub regions_open : IsOpenFor v v found (length p.kept.entries.items) p.kept.globals
-  pub lost : p.lost ≡ extract (site_name found.read.log.records) (found_entries found) (length p.kept.entries.items + 1)
+  pub regions_open : IsOpenFor v v found (length p.kept.entries) p.kept.globals
+  pub lost : p.lost ≡ extract (site_name found.read.log.records) (found_entries found) (length p.kept.entries + 1)
   pub ahead : IfSome v.content (λ _. (f : Files) → Image v f → AreUnbegun (suc (suc (generation found.read.log.records))) (length (regions found.read.log.records)) f)

@@ -21,6 +21,7 @@ ghost use Rattle.site_store.specs.Standing.{HasFound, WasFound, IsFoundAs, IsOpe
 ghost use Rattle.mupip_rollback.specs.Preparing.{IsPrepared, KeepsFirst};
 
 use super::error::{RollError, in_files, in_site};
+use entry_log::EntryLog;
 use gvn_key::{Bytes, NoMemory};
 use gvn_model::Entry;
 use instance_file::InstanceLog;
@@ -39,7 +40,7 @@ pub(crate) struct Kept {
     /// The last generation that began in each region, or 0.
     pub last_began: Vec<u32>,
     /// The entries that stay, by their numbers from 1 on.
-    pub entries: Vec<Entry>,
+    pub entries: EntryLog,
     /// Its regions on their blocks, with what these entries lead to.
     pub globals: Regions,
 }
@@ -117,13 +118,13 @@ fn write_entries(entries: &[Entry], out: &mut Bytes) -> Result<(), NoMemory>
 /// The extract of the entries behind the first so many.
 fn extract_lost(alloc: Global, found: &FoundFiles, target: u64) -> Result<Bytes, NoMemory>
     requires has { HasFound found.now }
-    requires target { target ≤ length found.now.entries.items }
+    requires target { target ≤ length found.now.entries }
     ensures { IfOk result (λ text. text ≡ extract (site_name found.now.read.log.records) (found_entries found.now) (target + 1)) }
 {
     let mut text = Bytes::new(alloc);
     let name = created_name(found.read.log.records.as_slice());
     write_header(name, target + 1, &mut text)?;
-    write_entries(&found.entries[target as usize..], &mut text)?;
+    write_entries(&found.entries.as_slice()[target as usize..], &mut text)?;
     Ok(text)
 }
 
@@ -131,7 +132,7 @@ fn extract_lost(alloc: Global, found: &FoundFiles, target: u64) -> Result<Bytes,
 fn keep_first(standing: StandingSite, target: u64, lost: Bytes) -> Prepared
     requires low { standing.layout.generation < 65535 }
     ensures log { result.log ≡ standing.log }
-    ensures length { result.length ≡ length standing.entries.items }
+    ensures length { result.length ≡ length standing.entries }
     ensures broken { result.broken ≡ standing.broken }
     ensures lost { result.lost ≡ lost }
     ensures kept { KeepsFirst target standing result.kept }
@@ -144,9 +145,9 @@ fn keep_first(standing: StandingSite, target: u64, lost: Bytes) -> Prepared
         globals,
         broken,
     } = standing;
-    let length = entries.len() as u64;
+    let length = entries.len();
     layout.generation += 1;
-    entries.truncate(target as usize);
+    entries.truncate(target);
     let kept = Kept {
         layout,
         last_began,
@@ -170,13 +171,13 @@ fn open_first<D: Disk>(
     target: u64,
 ) -> Result<Prepared, RollError>
     requires has { HasFound found }
-    requires target { target ≤ length found.entries.items }
-    ensures kept { IfOk result (λ p. length p.kept.entries.items ≡ target) }
+    requires target { target ≤ length found.entries }
+    ensures kept { IfOk result (λ p. length p.kept.entries ≡ target) }
     ensures prepared { IfOk result (λ p. WasFound (D.disk disk.old) (D.disk disk.old) found → IfSome (D.disk disk.old).content (λ _. (d : Files) → Image (D.disk disk.old) d → AreUnbegun (suc (suc (generation found.read.log.records))) (length (regions found.read.log.records)) d) → IsPrepared (D.disk disk.new) p) }
     ensures records { IfOk result (λ p. p.log.records ≡ found.read.log.records) }
-    ensures length { IfOk result (λ p. p.length ≡ length found.entries.items) }
+    ensures length { IfOk result (λ p. p.length ≡ length found.entries) }
     ensures broken { IfOk result (λ p. p.broken ≡ found.broken) }
-    ensures place { (file offset : ℕ) → IsErrOf result (RollError.NotAFile file offset) → (to : ℕ) → target ≡ min to (length found.entries.items) → IfSome (D.disk disk.old).content (λ files. AreRecords files (found_records found) → IsOutsideRollback to files file offset) }
+    ensures place { (file offset : ℕ) → IsErrOf result (RollError.NotAFile file offset) → (to : ℕ) → target ≡ min to (length found.entries) → IfSome (D.disk disk.old).content (λ files. AreRecords files (found_records found) → IsOutsideRollback to files file offset) }
     ensures outside { (file offset : ℕ) → IsErrOf result (RollError.NotAFile file offset) → WasFound (D.disk disk.old) (D.disk disk.old) found → IfSome (D.disk disk.old).content (λ files. (c : Contents) → IsSite files c → ⊥) }
     ensures limit { IsErrOf result RollError.GenLimit → ⊥ }
     ensures first { (region generation : ℕ) → IsErrOf result (RollError.NoBeforeImage region generation) → IsFirstWithout (found_records found) target region generation }
@@ -201,8 +202,8 @@ fn open_first<D: Disk>(
 /// As [`super::rolling::rollback`]'s.
 pub(crate) fn prepare<D: Disk>(alloc: Global, disk: &mut D, to: u64) -> Result<Prepared, RollError>
     ensures prepared { IfOk result (IsPrepared (D.disk disk.new)) }
-    ensures held { IfOk result (λ p. IfSome (D.disk disk.old).content (λ files. (u : Records) × (seq : Sequence) × AreRecords files u × IsSequence u seq × (u.instance ≡ p.log.records) × (length p.kept.entries.items ≡ min to (length seq)) × NoneIsWithout u (min to (length seq)))) }
-    ensures kept { IfOk result (λ p. length p.kept.entries.items ≡ min to p.length) }
+    ensures held { IfOk result (λ p. IfSome (D.disk disk.old).content (λ files. (u : Records) × (seq : Sequence) × AreRecords files u × IsSequence u seq × (u.instance ≡ p.log.records) × (length p.kept.entries ≡ min to (length seq)) × NoneIsWithout u (min to (length seq)))) }
+    ensures kept { IfOk result (λ p. length p.kept.entries ≡ min to p.length) }
     ensures site { IfOk result (λ p. IfSome (D.disk disk.old).content (λ files. (c : Contents) → IsSite files c → (p.length ≡ length c.sequence) × (EachStands (D.disk disk.old) → (f : Files) → Image (D.disk disk.new) f → IsSite f c))) }
     ensures left { IfOk result (λ p. IfSome (D.disk disk.old).content (λ files. (c : Contents) (left : Leftover) → IsSite files c → HasLeft files c left → left.broken ≡ p.broken)) }
     ensures limit { IsErrOf result RollError.GenLimit → IfSome (D.disk disk.old).content (λ files. (rs : List defs.InstanceRecord) → IsInstance (files INSTANCE) rs → 65534 ≤ generation rs) }
@@ -219,6 +220,6 @@ pub(crate) fn prepare<D: Disk>(alloc: Global, disk: &mut D, to: u64) -> Result<P
     ensures cause { (fault : ℕ) → IsErrOf result (RollError.Failed fault) → Rose (D.disk disk.old).faults (D.disk disk.new).faults }
 {
     let found = find(alloc, disk)?;
-    let target = to.min(found.entries.len() as u64);
+    let target = to.min(found.entries.len());
     open_first(alloc, disk, found, target)
 }

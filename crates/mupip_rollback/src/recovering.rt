@@ -29,7 +29,7 @@ use std::alloc::Global;
 /// Closes a site that was just opened with an epoch of all entries. Answers how many there are.
 fn close<D: Disk>(alloc: Global, disk: &mut D, mut site: OpenSite) -> Result<u64, RollError>
     requires ready { IsReady (D.disk disk.old) site }
-    ensures length { IfOk result (λ n. n ≡ length site.entries.items) }
+    ensures length { IfOk result (λ n. n ≡ length site.entries) }
     ensures done { IfOk result (λ _. (c : Contents) → IsOpen (D.disk disk.old) true c (length c.sequence) site → StandsFor (D.disk disk.new) (marked c)) }
     ensures any_moment { (c : Contents) → IsOpen (D.disk disk.old) true c (length c.sequence) site → AtEachMoment (D.disk disk.old) (D.disk disk.new) (λ f. (o : Contents) × MayMark c o × IsSite f o) }
     ensures left { (c : Contents) → IsOpen (D.disk disk.old) true c (length c.sequence) site → AtEachMoment (D.disk disk.old) (D.disk disk.new) (λ f. (o : Standing) × MayMarkLeft (bare c) o × IsSiteWith f o) }

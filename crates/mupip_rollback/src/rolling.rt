@@ -36,8 +36,8 @@ pub struct Rolled {
 /// Rolls a site back that was prepared for it: both CUTs, the lost-transaction file between them, and the closing epoch.
 fn roll<D: Disk>(alloc: Global, disk: &mut D, prepared: Prepared) -> Result<(), RollError>
     requires prepared { IsPrepared (D.disk disk.old) prepared }
-    ensures done { OnOk result (IfSome (D.disk disk.old).content (λ _. (c : Contents) → ((f : Files) → Image (D.disk disk.old) f → IsSite f c) → StandsFor (D.disk disk.new) (rolled (length prepared.kept.entries.items) prepared.broken c))) }
-    ensures any_moment { IfSome (D.disk disk.old).content (λ _. (c : Contents) → ((f : Files) → Image (D.disk disk.old) f → IsSite f c) → AtEachMoment (D.disk disk.old) (D.disk disk.new) (MayStandRolled (length prepared.kept.entries.items) (record { contents = c; broken = prepared.broken }))) }
+    ensures done { OnOk result (IfSome (D.disk disk.old).content (λ _. (c : Contents) → ((f : Files) → Image (D.disk disk.old) f → IsSite f c) → StandsFor (D.disk disk.new) (rolled (length prepared.kept.entries) prepared.broken c))) }
+    ensures any_moment { IfSome (D.disk disk.old).content (λ _. (c : Contents) → ((f : Files) → Image (D.disk disk.old) f → IsSite f c) → AtEachMoment (D.disk disk.old) (D.disk disk.new) (MayStandRolled (length prepared.kept.entries) (record { contents = c; broken = prepared.broken }))) }
     ensures limit { IsErrOf result RollError.GenLimit → ⊥ }
     ensures without { (region generation : ℕ) → IsErrOf result (RollError.NoBeforeImage region generation) → ⊥ }
     ensures no_forward { (region : ℕ) → IsErrOf result (RollError.NeedForward region) → ⊥ }
@@ -99,7 +99,7 @@ pub fn rollback<D: Disk>(alloc: Global, disk: &mut D, to: u64) -> Result<Rolled,
 {
     let prepared = prepare(alloc, disk, to)?;
     let rolled = Rolled {
-        kept: prepared.kept.entries.len() as u64,
+        kept: prepared.kept.entries.len(),
         lost: generation_in(prepared.log.records.as_slice()) + 1,
     };
     roll(alloc, disk, prepared)?;

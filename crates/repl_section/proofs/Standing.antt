@@ -26,5 +26,5 @@ stands_after v w c h s lawful is told run bare = record {
 }
 
 -- as many entries in memory
-pub entries_counted : (v : View) (told : Bool) (c : Contents) (h : ℕ) (s : OpenSite) → IsOpen v told c h s → length s.entries.items ≡ length c.sequence
+pub entries_counted : (v : View) (told : Bool) (c : Contents) (h : ℕ) (s : OpenSite) → IsOpen v told c h s → length s.entries ≡ length c.sequence
 entries_counted v told c h s is = is.remembered.count

@@ -30,13 +30,13 @@ impl Reign {
         requires ready { IsReady (D.disk disk.old) self.old.site }
         requires reign { HasReign self.old.site }
         requires form { IsTransaction (transaction_value t) }
-        requires room { length self.old.site.entries.items + 1 < 2 ^ 40 }
+        requires room { length self.old.site.entries + 1 < 2 ^ 40 }
         requires nodes { HasRoomFor (joined self.old.site.globals) t.updates }
         ensures ready { OnOk result (IsReady (D.disk disk.new) self.new.site) }
         ensures reign { OnOk result (HasReign self.new.site) }
         ensures done { OnOk result ((told : Bool) (c : Contents) (h : ℕ) → IsOpen (D.disk disk.old) told c h self.old.site → IsOpen (D.disk disk.new) told (with_entry self.old.site.stamp (transaction_value t) c) h self.new.site) }
-        ensures number { IfOk result (λ n. n ≡ length self.old.site.entries.items + 1) }
-        ensures grown { OnOk result (length self.new.site.entries.items ≡ length self.old.site.entries.items + 1) }
+        ensures number { IfOk result (λ n. n ≡ length self.old.site.entries + 1) }
+        ensures grown { OnOk result (length self.new.site.entries ≡ length self.old.site.entries + 1) }
         ensures stamp { self.new.site.stamp ≡ self.old.site.stamp }
         ensures serials { self.new.serials ≡ self.old.serials }
         ensures stands { (c : Contents) (h : ℕ) → IsOpen (D.disk disk.old) true c h self.old.site → StandsAt (D.disk disk.new) c h }
@@ -63,8 +63,8 @@ impl Reign {
         ensures ready { OnOk result (IsReady (D.disk disk.new) self.new.site) }
         ensures reign { HasReign self.new.site }
         ensures done { OnOk result ((told : Bool) (c : Contents) (h : ℕ) → IsOpen (D.disk disk.old) told c h self.old.site → Reigns (D.disk disk.new) told c self.new) }
-        ensures all { OnOk result (self.new.site.hardened ≡ length self.new.site.entries.items) }
-        ensures entries { self.new.site.entries.items ≡ self.old.site.entries.items }
+        ensures all { OnOk result (self.new.site.hardened ≡ length self.new.site.entries) }
+        ensures entries { self.new.site.entries ≡ self.old.site.entries }
         ensures stamp { self.new.site.stamp ≡ self.old.site.stamp }
         ensures serials { self.new.serials ≡ self.old.serials }
         ensures still_told { IsSome (D.disk disk.old).content → IsSome (D.disk disk.new).content }

@@ -26,7 +26,7 @@ impl Reign {
     fn harden_for<D: Disk>(&mut self, disk: &mut D, decision: &Decision) -> Result<(), DecideError>
         requires ready { IsReady (D.disk disk.old) self.old.site }
         requires reign { HasReign self.old.site }
-        requires entered { IfSome (named decision.now.reply) (λ number. number ≤ length self.old.site.entries.items) }
+        requires entered { IfSome (named decision.now.reply) (λ number. number ≤ length self.old.site.entries) }
         ensures ready { OnOk result (IsReady (D.disk disk.new) self.new.site) }
         ensures reign { HasReign self.new.site }
         ensures done { OnOk result ((told : Bool) (c : Contents) (h : ℕ) → IsOpen (D.disk disk.old) told c h self.old.site → IsOpen (D.disk disk.new) told c (hardened_for (named decision.now.reply) c h) self.new.site) }

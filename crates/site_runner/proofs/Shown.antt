@@ -1,45 +1,22 @@
 -- The text of a site's entries from a number on.
-use Rattle.std.proofs.Common.{◌≡◌, ℕ, zero, suc, ◌+◌, ◌-◌, ◌<◌, ◌≤◌, List, [], ◌∷◌, ◌++◌, length, map, take, drop, get_or, refl, sym, ap, ◌∙◌, subst, arith, append_assoc, take_all}
+use Rattle.std.proofs.Common.{◌≡◌, ℕ, zero, suc, ◌+◌, ◌-◌, ◌<◌, ◌≤◌, List, [], ◌∷◌, ◌++◌, length, take, drop, refl, sym, ap, ◌∙◌, subst, arith, append-nil, append_assoc, take_all}
 use Rattle.std.specs.Prelude.{Option, Some, None, IfSome, slice_get}
-use Rattle.std.proofs.lemmas.List.{get_or-drop, length-drop}
-use Rattle.std.proofs.lemmas.Option.{slice_get-get_or}
+use Rattle.std.proofs.lemmas.List.{length-drop}
 use Rattle.std.specs.Option.{unwrap_or}
-use Rattle.std.specs.List.{enumerate_from, flat_map}
 use Rattle.global_defs.specs.Entry.{Entry, Sequence}
 use Rattle.global_defs.specs.Extract.{entry_text, entries_text, header, extract}
-use Rattle.gvn_model.specs.declared.entry.Entry as code
 use Rattle.site_defs.specs.Texts.{extract_from}
-use Rattle.gvn_model.specs.Entries.{entry_value}
-use Rattle.gvn_model.specs.Numbered.{numbered}
-use Rattle.site_store.proofs.Pieces.{written_more}
-
-enumerate_rest : (n k : ℕ) (xs : Sequence) → drop k (enumerate_from n xs) ≡ enumerate_from (n + k) (drop k xs)
-enumerate_rest n zero [] = refl
-enumerate_rest n (suc k) [] = refl
-enumerate_rest n zero (x ∷ xs) = ap (λ (m : ℕ). enumerate_from m (x ∷ xs)) (omega arith)
-enumerate_rest n (suc k) (x ∷ xs) = enumerate_rest (n + 1) k xs ∙ ap (λ (m : ℕ). enumerate_from m (drop k xs)) (omega arith)
-
-map_rest : (k : ℕ) (xs : List code.Entry) → map numbered (drop k xs) ≡ drop k (map numbered xs)
-map_rest zero xs = refl
-map_rest (suc k) [] = refl
-map_rest (suc k) (x ∷ xs) = map_rest k xs
-
-rest_text : (from : ℕ) (entries : List code.Entry) (seq : Sequence) → 0 < from → map numbered entries ≡ enumerate_from 1 seq
-    → flat_map (λ p. entry_text p.0 p.1) (map numbered (drop (from - 1) entries)) ≡ entries_text from (drop (from - 1) seq)
-rest_text from entries seq h e =
-    ap (flat_map (λ (p : ℕ × Entry). entry_text p.0 p.1)) (map_rest (from - 1) entries ∙ ap (drop (from - 1)) e ∙ enumerate_rest 1 (from - 1) seq)
-    ∙ ap (λ (k : ℕ). entries_text k (drop (from - 1) seq)) (omega (arith, h))
 
 -- an extract written in two steps
-pub extracts : (name shown_name : List ℕ) (from : ℕ) (entries shown : List code.Entry) (seq : Sequence) (text mid new : List ℕ) → 0 < from → map numbered entries ≡ enumerate_from 1 seq
-    → shown_name ≡ name → shown ≡ drop (from - 1) entries → mid ≡ text ++ header shown_name from → new ≡ mid ++ flat_map (λ p. entry_text p.0 p.1) (map numbered shown) → new ≡ text ++ extract name seq from
-extracts name shown_name from entries shown seq text mid new h numbers n e m w =
-    let f : ℕ × Entry → List ℕ = λ (p : ℕ × Entry). entry_text p.0 p.1 in
-    w ∙ ap (λ (x : List ℕ). x ++ flat_map f (map numbered shown)) m
-    ∙ append_assoc text (header shown_name from) (flat_map f (map numbered shown))
-    ∙ ap (λ (x : List ℕ). text ++ (header x from ++ flat_map f (map numbered shown))) n
-    ∙ ap (λ (x : List code.Entry). text ++ (header name from ++ flat_map f (map numbered x))) e
-    ∙ ap (λ (x : List ℕ). text ++ (header name from ++ x)) (rest_text from entries seq h numbers)
+pub extracts : (name shown_name : List ℕ) (from before : ℕ) (seq : Sequence) (text mid new : List ℕ) → 0 < from → before ≡ from - 1 → shown_name ≡ name
+    → mid ≡ text ++ header shown_name from → new ≡ mid ++ entries_text (before + 1) (drop before seq) → new ≡ text ++ extract name seq from
+extracts name shown_name from before seq text mid new h b n m w =
+    let lines : List ℕ = entries_text (before + 1) (drop before seq) in
+    w ∙ ap (λ (x : List ℕ). x ++ lines) m
+    ∙ append_assoc text (header shown_name from) lines
+    ∙ ap (λ (x : List ℕ). text ++ (header x from ++ lines)) n
+    ∙ ap (λ (k : ℕ). text ++ (header name from ++ entries_text (k + 1) (drop k seq))) b
+    ∙ ap (λ (k : ℕ). text ++ (header name from ++ entries_text k (drop (from - 1) seq))) (omega (arith, h))
 
 -- a number that isn't there is 1
 pub from_one : (name : List ℕ) (number : Option ℕ) (from : ℕ) (seq : Sequence) → from ≡ unwrap_or number 1 → extract name seq from ≡ extract_from name number seq
@@ -51,43 +28,48 @@ from_least None from e h = omega (arith, e)
 from_least (Some n) from e h = omega (arith, e, h)
 
 -- entries written one by one, from behind the first so many
-abbrev lines_of : List code.Entry → List ℕ
-lines_of es = flat_map (λ (p : ℕ × Entry). entry_text p.0 p.1) (map numbered es)
 
-there : (items : List code.Entry) (place : ℕ) (P : code.Entry → Type 0) → place < length items → IfSome (slice_get items place) P → (d : code.Entry) → P (get_or items place d)
-there items place P low h d = subst (λ (o : Option code.Entry). IfSome o P) (slice_get-get_or items place d low) h
+-- the entry at a place
+at : (es : Sequence) (k : ℕ) → k < length es → (e : Entry) × (slice_get es k ≡ Some e)
+at [] k low = absurd (omega (arith, low))
+at (x ∷ es) zero low = (x, refl)
+at (x ∷ es) (suc k) low = at es k (omega (arith, low))
 
-some_entry : (items : List code.Entry) (place : ℕ) → place < length items → code.Entry
-some_entry [] place low = absurd (omega (arith, low))
-some_entry (e ∷ items) place low = e
+slice_drop : (b k : ℕ) (es : Sequence) → slice_get (drop b es) k ≡ slice_get es (b + k)
+slice_drop zero k es = ap (slice_get es) (omega arith)
+slice_drop (suc b) k [] = refl
+slice_drop (suc b) k (x ∷ es) = slice_drop b k es ∙ ap (slice_get (x ∷ es)) (omega arith)
 
-pub entry_more : (items : List code.Entry) (before place next : ℕ) (text mid now : List ℕ) → before ≤ place → place < length items → next ≡ place + 1
-    → mid ≡ text ++ flat_map (λ p. entry_text p.0 p.1) (map numbered (take (place - before) (drop before items)))
-    → IfSome (slice_get items place) (λ e. now ≡ mid ++ entry_text e.number (entry_value e))
-    → now ≡ text ++ flat_map (λ p. entry_text p.0 p.1) (map numbered (take (next - before) (drop before items)))
-entry_more items before place next text mid now from low after was is =
+one_more : (n k : ℕ) (es : Sequence) (e : Entry) → slice_get es k ≡ Some e → entries_text n (take (k + 1) es) ≡ entries_text n (take k es) ++ entry_text (n + k) e
+one_more n k [] e is = absurd (cc is)
+one_more n zero (x ∷ es) e is =
+    let same : x ≡ e = cc is in
+    append-nil (entry_text n x) ∙ ap (entry_text n) same ∙ ap (λ (m : ℕ). entry_text m e) (omega arith)
+one_more n (suc k) (x ∷ es) e is =
+    ap (λ (l : List ℕ). entry_text n x ++ l) (one_more (n + 1) k es e is ∙ ap (λ (m : ℕ). entries_text (n + 1) (take k es) ++ entry_text m e) (omega arith))
+    ∙ sym (append_assoc (entry_text n x) (entries_text (n + 1) (take k es)) (entry_text (n + suc k) e))
+
+pub entry_more : (items : Sequence) (before place : ℕ) (text mid now : List ℕ) → before ≤ place → place < length items
+    → mid ≡ text ++ entries_text (before + 1) (take (place - before) (drop before items))
+    → IfSome (slice_get items place) (λ e. now ≡ mid ++ entry_text (place + 1) e)
+    → now ≡ text ++ entries_text (before + 1) (take (place + 1 - before) (drop before items))
+entry_more items before place text mid now from low was is =
     let k = place - before in
     let rest = drop before items in
-    let d = some_entry items place low in
-    let e = get_or items place d in
-    let size : length rest ≡ length items - before = length-drop before items in
-    let within : k < length rest = omega (arith, size, from, low) in
-    let same : get_or rest k e ≡ e = get_or-drop before items k e ∙ ap (λ (i : ℕ). get_or items i e) (omega (arith, from)) ∙ get_or_any items place e d low in
-    let added : now ≡ mid ++ entry_text e.number (entry_value e) = there items place (λ x. now ≡ mid ++ entry_text x.number (entry_value x)) low is d in
-    let one : next - before ≡ k + 1 = omega (arith, after, from) in
+    let found = at items place low in
+    let here : slice_get rest k ≡ Some found.0 = slice_drop before k items ∙ ap (slice_get items) (omega (arith, from)) ∙ found.1 in
+    let added : now ≡ mid ++ entry_text (place + 1) found.0 = subst (λ (o : Option Entry). IfSome o (λ e. now ≡ mid ++ entry_text (place + 1) e)) found.1 is in
+    let number : place + 1 ≡ before + 1 + k = omega (arith, from) in
+    let one : place + 1 - before ≡ k + 1 = omega (arith, from) in
     added
-    ∙ ap (λ (x : List ℕ). x ++ entry_text e.number (entry_value e)) was
-    ∙ append_assoc text (lines_of (take k rest)) (entry_text e.number (entry_value e))
-    ∙ ap (λ (x : List ℕ). text ++ x) (sym (written_more (λ (p : ℕ × Entry). entry_text p.0 p.1) numbered rest k e within (sym same)))
-    ∙ ap (λ (i : ℕ). text ++ lines_of (take i rest)) (sym one)
-  where
-    get_or_any : (xs : List code.Entry) (i : ℕ) (a b : code.Entry) → i < length xs → get_or xs i a ≡ get_or xs i b
-    get_or_any [] i a b low = absurd (omega (arith, low))
-    get_or_any (x ∷ xs) zero a b low = refl
-    get_or_any (x ∷ xs) (suc i) a b low = get_or_any xs i a b (omega (arith, low))
+    ∙ ap (λ (x : List ℕ). x ++ entry_text (place + 1) found.0) was
+    ∙ append_assoc text (entries_text (before + 1) (take k rest)) (entry_text (place + 1) found.0)
+    ∙ ap (λ (m : ℕ). text ++ (entries_text (before + 1) (take k rest) ++ entry_text m found.0)) number
+    ∙ ap (λ (x : List ℕ). text ++ x) (sym (one_more (before + 1) k rest found.0 here))
+    ∙ ap (λ (i : ℕ). text ++ entries_text (before + 1) (take i rest)) (sym one)
 
-pub entries_done : (items : List code.Entry) (before place : ℕ) (text now : List ℕ) → length items ≤ place
-    → now ≡ text ++ flat_map (λ p. entry_text p.0 p.1) (map numbered (take (place - before) (drop before items)))
-    → now ≡ text ++ flat_map (λ p. entry_text p.0 p.1) (map numbered (drop before items))
+pub entries_done : (items : Sequence) (before place : ℕ) (text now : List ℕ) → length items ≤ place
+    → now ≡ text ++ entries_text (before + 1) (take (place - before) (drop before items))
+    → now ≡ text ++ entries_text (before + 1) (drop before items)
 entries_done items before place text now all was =
-    was ∙ ap (λ (l : List code.Entry). text ++ lines_of l) (take_all (place - before) (drop before items) (let size = length-drop before items in omega (arith, size, all)))
+    was ∙ ap (λ (l : Sequence). text ++ entries_text (before + 1) l) (take_all (place - before) (drop before items) (let size = length-drop before items in omega (arith, size, all)))

@@ -51,7 +51,7 @@ use Rattle.site_runner.specs.Starting.{IsOpenedAt, BeginsAt, IsCutOpened}
 use Rattle.site_runner.proofs.Ats.{comes_done, comes_refused, comes_may_refuse, comes_fault, comes_damaged, refused_late, none_refused, kept_same, not_true, is_true_or_false, some_both, told_is, is_site, reads_site, stands_told, at_moment, reads_image, Leftovers, NothingIsLeft, ReadPlace, place_of_images, place_of_one, only, open_reads, open_images, state_at}
 use Rattle.site_runner.proofs.Ats.{left_new, as_told, shown_same, shown_unwritten, by_shown, if_some, any_shown, stand_same, StandForOne, ImagesStand, standing_there, at_image, standing_of, stands_with, stands_for, still_by, up_down, images_of, standings_of}
 use Rattle.site_runner.proofs.Seen.{counted, kept_counted}
-use Rattle.site_runner.proofs.Remembered.{entries_count, entries_of}
+use Rattle.site_runner.proofs.Remembered.{entries_count}
 use Rattle.site_runner.proofs.Begun.{limit_opened, stamp_opened, of_opened, of_begun, of_may_begin, begins, among_begins, begins_among, begins_so, begins_so_among, begun_so, generation_past, generation_left}
 
 -- why a site isn't down
@@ -513,7 +513,7 @@ before_last (x ∷ xs) (y ∷ ys) a b e =
 
 -- as many entries are remembered as the bytes' sequence has
 count_same : (o : OpenSite) (u : Records) (seq : Sequence) (c : Contents) (n : ℕ) → WasOpenedFrom u seq o → Remembers c n o → length c.sequence ≡ length seq
-count_same o u seq c n from remembered = sym (entries_count c n o remembered) ∙ entries_of o seq from.entries
+count_same o u seq c n from remembered = sym (entries_count c n o remembered) ∙ ap length from.entries
 
 -- and its records are those
 records_same : (o : OpenSite) (u : Records) (seq : Sequence) (broken : List ℕ) (c : Contents) (n : ℕ) → WasOpenedFrom u seq o → Remembers (opened broken c) n o → c.instance ≡ u.instance
@@ -593,7 +593,7 @@ reign_limited v nothing s o before now law limit t p h = elim (is_true_or_false 
   | inr unsure ↦ reign_limit_untold v s o before now p h unsure limit t
 ]
 
-entries_open : (v : View) (told : Bool) (c : Contents) (n : ℕ) (o : OpenSite) → IsOpen v told c n o → length o.entries.items ≡ length c.sequence
+entries_open : (v : View) (told : Bool) (c : Contents) (n : ℕ) (o : OpenSite) → IsOpen v told c n o → length o.entries ≡ length c.sequence
 entries_open v told c n o h = entries_count c n o h.remembered
 
 -- the reign has begun
@@ -601,7 +601,7 @@ pub reign_starts : (v w : View) (nothing : NothingIsLeft w) (s : Site) (o new : 
     → ((told : Bool) (c : Contents) → IsOpen v told c (length c.sequence) o → IsOpen w told (with_reign (site_name c.instance) c) (length c.sequence) new)
     → ((c : Contents) → c.instance ≡ o.instance.records → stamp_value stamp ≡ next_stamp (site_name c.instance) c) → new.stamp ≡ Some stamp
     → ((c : Contents) (n : ℕ) → Remembers c n o → no_reign_left c ≡ false) → w.simulated ≡ v.simulated → v.faults ≤ w.faults
-    → from ≡ length o.entries.items + 1 → now ≡ before ++ line s.name (codes "PRIMARY " ++ decimal stamp.cycle ++ codes " FROM " ++ decimal from)
+    → from ≡ length o.entries + 1 → now ≡ before ++ line s.name (codes "PRIMARY " ++ decimal stamp.cycle ++ codes " FROM " ++ decimal from)
     → BeginsAt v o s w (record { name = s.name; state = Primary (record { site = new; serials = serials }) }) before now true
 reign_starts v w nothing s o new stamp serials from before now law first_serials begun drawn stamped room same later is_from t p h =
     let read : Contents = h.read in

@@ -24,7 +24,7 @@ in_state s state = record { name = s.name; state = state }
 abbrev pub state_text : List ℕ → State → List ℕ
 state_text name Down = line name (codes "STATE DOWN")
 state_text name (Failed fault) = line name (codes "STATE FAILED " ++ decimal fault)
-state_text name (Primary r) = line name (codes "STATE PRIMARY " ++ decimal (stamp_of r).cycle ++ codes " LENGTH " ++ decimal (length r.site.entries.items))
+state_text name (Primary r) = line name (codes "STATE PRIMARY " ++ decimal (stamp_of r).cycle ++ codes " LENGTH " ++ decimal (length r.site.entries))
     ++ flat_map (λ x. line name (reign_text x)) (reigns r.site.instance.records)
 
 -- The site stands at this place.

@@ -1,8 +1,6 @@
 // EXTRACT.
-ghost use Rattle.std.specs.Prelude.{◌≡◌, ◌<◌, ◌-◌, ◌++◌, map, drop, IfSome, IfOk, OnOk};
-ghost use Rattle.std.specs.List.{flat_map};
-ghost use Rattle.global_defs.specs.Extract.{entry_text};
-ghost use Rattle.gvn_model.specs.Numbered.{numbered};
+ghost use Rattle.std.specs.Prelude.{◌≡◌, ◌<◌, ◌+◌, ◌-◌, ◌++◌, drop, IfSome, IfOk, OnOk};
+ghost use Rattle.global_defs.specs.Extract.{entries_text};
 ghost use Rattle.world_defs.specs.rows.Extract as rows;
 ghost use Rattle.site_runner.specs.Steps.{ExecutesAt};
 
@@ -15,7 +13,7 @@ use site_store::OpenSite;
 
 /// Adds the lines of the entries behind the first so many.
 fn write_entries(site: &OpenSite, before: u64, text: &mut Bytes) -> Result<(), NoMemory>
-    ensures { OnOk result (text.new ≡ text.old ++ flat_map (λ p. entry_text p.0 p.1) (map numbered (drop before site.now.entries.items))) }
+    ensures { OnOk result (text.new ≡ text.old ++ entries_text (before + 1) (drop before site.now.entries)) }
 {
     for place in before..site.sequence_length() {
         site.extract(place + 1, text)?;

@@ -1,5 +1,5 @@
 -- A reign begins.
-use Rattle.std.proofs.Common.{◌≡◌, ◌≢◌, ◌⊎◌, inl, inr, ◌≤◌, ◌<◌, ◌+◌, ◌==◌, ℕ, suc, Bool, true, false, List, [], ◌∷◌, ◌++◌, length, map, take, drop, Some, None, refl, sym, ◌∙◌, ap, subst, arith}
+use Rattle.std.proofs.Common.{◌≡◌, ◌≢◌, ◌⊎◌, inl, inr, ◌≤◌, ◌<◌, ◌+◌, ◌==◌, ℕ, suc, Bool, true, false, List, [], ◌∷◌, ◌++◌, length, take, drop, Some, None, refl, sym, ◌∙◌, ap, subst, arith}
 use Rattle.std.specs.Prelude.{◌^◌, Option, IfSome, IsSomeAnd, ◌||◌, if◌then◌else◌, nat_le, filter}
 use Rattle.std.specs.List.{AllByRecursion}
 use Rattle.std.specs.Option.{option_or}
@@ -38,19 +38,17 @@ use Rattle.site_defs.specs.Stands.{texts_of, losts_of, IsSite, HasLeft}
 use Rattle.site_defs.specs.Behind.{IsSiteWith}
 use Rattle.site_store.specs.declared.layout.Layout.{Layout}
 use Rattle.site_store.specs.declared.site.OpenSite.{OpenSite}
-use Rattle.gvn_model.specs.declared.entry.Entry.{Entry}
 use Rattle.site_store.proofs.HeldRegions.{held_stays, no_instance_file, synced_stays}
 use Rattle.site_store.specs.Finding.{HasLayout}
 use Rattle.site_regions.specs.Joined.{joined}
 use Rattle.site_store.specs.Site.{Remembers, AreHeld, IsReady, Keeps, IsOpen, WasOpened, HasReign, AreOnBlocks}
 use Rattle.site_store.proofs.OnBlocks.{on_same, on_chosen}
-use Rattle.gvn_model.specs.Numbered.{numbered}
 use Rattle.site_store.specs.Reigning.{HasNoReignLeft, HasReignLeft, IsNextReign}
 use Rattle.site_store.proofs.Standing.{images_stand, reads_of, reads_so, told_of, still}
 use Rattle.site_store.proofs.Images.{same_image, reign_image, generation_kept, patterns_kept, name_kept, regions_kept, AreOf, are_of, site_of, is_created, texts_same, losts_same, left_nothing}
 use Rattle.site_store.proofs.Emptied.{none_left}
 use Rattle.site_store.proofs.Frames as frames
-use Rattle.site_store.proofs.Remembered.{remembered_length, numbers_same}
+use Rattle.site_store.proofs.Remembered.{remembered_length}
 use Rattle.site_store.proofs.Parts.{no_entry_no_part}
 
 -- limits
@@ -69,14 +67,14 @@ chosen_none false false h k = refl
 chosen_none true b h k = absurd (cc h)
 chosen_none false true h k = absurd (cc k)
 
-begun_by_now : (c : Contents) (h : ℕ) (s : OpenSite) → Remembers c h s → AllByRecursion (λ (r : Reign). r.start ≤ length s.entries.items) (reigns s.instance.records)
+begun_by_now : (c : Contents) (h : ℕ) (s : OpenSite) → Remembers c h s → AllByRecursion (λ (r : Reign). r.start ≤ length s.entries) (reigns s.instance.records)
     → length (filter (λ (r : Reign). nat_le r.start (length c.sequence)) (reigns c.instance)) ≡ length (reigns s.instance.records)
 begun_by_now c h s is all =
     ap (λ (n : ℕ). length (filter (λ (r : Reign). nat_le r.start n) (reigns c.instance))) (sym (remembered_length c h s is))
-    ∙ ap (λ (rs : List InstanceRecord). length (filter (λ (r : Reign). nat_le r.start (length s.entries.items)) (reigns rs))) (sym is.instance)
-    ∙ filter_all (length s.entries.items) (reigns s.instance.records) all
+    ∙ ap (λ (rs : List InstanceRecord). length (filter (λ (r : Reign). nat_le r.start (length s.entries)) (reigns rs))) (sym is.instance)
+    ∙ filter_all (length s.entries) (reigns s.instance.records) all
 
-pub limit_reached : (c : Contents) (h : ℕ) (s : OpenSite) → Remembers c h s → AllByRecursion (λ (r : Reign). r.start ≤ length s.entries.items) (reigns s.instance.records) → HasNoReignLeft s → no_reign_left c ≡ true
+pub limit_reached : (c : Contents) (h : ℕ) (s : OpenSite) → Remembers c h s → AllByRecursion (λ (r : Reign). r.start ≤ length s.entries) (reigns s.instance.records) → HasNoReignLeft s → no_reign_left c ≡ true
 limit_reached c h s is all none =
     let count = begun_by_now c h s is all in
     let cycles : greatest_cycle s.instance.records ≡ greatest_cycle c.instance = ap greatest_cycle is.instance in
@@ -85,7 +83,7 @@ limit_reached c h s is all none =
       | inr last ↦ inr (grind (arith, nat_tests, cycles, last))
     ])
 
-pub limit_open : (c : Contents) (h : ℕ) (s : OpenSite) → Remembers c h s → AllByRecursion (λ (r : Reign). r.start ≤ length s.entries.items) (reigns s.instance.records) → HasReignLeft s → no_reign_left c ≡ false
+pub limit_open : (c : Contents) (h : ℕ) (s : OpenSite) → Remembers c h s → AllByRecursion (λ (r : Reign). r.start ≤ length s.entries) (reigns s.instance.records) → HasReignLeft s → no_reign_left c ≡ false
 limit_open c h s is all left =
     let count = begun_by_now c h s is all in
     let cycles : greatest_cycle s.instance.records ≡ greatest_cycle c.instance = ap greatest_cycle is.instance in
@@ -105,20 +103,20 @@ all_past : (n m : ℕ) (rs : List Reign) → AllByRecursion (λ (q : Reign). q.s
 all_past n m [] all more = tt
 all_past n m (r ∷ rs) all more = (omega (arith, all.0), all_past n m rs all.1 more)
 
-pub past_all : (s : OpenSite) (r : Reign) → AllByRecursion (λ (q : Reign). q.start ≤ length s.entries.items) (reigns s.instance.records) → IsNextReign s r → AllByRecursion (λ (q : Reign). q.start < r.start) (reigns s.instance.records)
-past_all s r all is = all_past (length s.entries.items) r.start (reigns s.instance.records) all (let e = is.start in omega (arith, e))
+pub past_all : (s : OpenSite) (r : Reign) → AllByRecursion (λ (q : Reign). q.start ≤ length s.entries) (reigns s.instance.records) → IsNextReign s r → AllByRecursion (λ (q : Reign). q.start < r.start) (reigns s.instance.records)
+past_all s r all is = all_past (length s.entries) r.start (reigns s.instance.records) all (let e = is.start in omega (arith, e))
 
 stamp_last : (n : ℕ) (rs : List Reign) (r : Reign) → r.start ≤ n → stamp_at n (rs ++ r ∷ []) ≡ Some r.stamp
 stamp_last n [] r le = let yes : nat_le r.start n ≡ true = grind (arith, nat_tests, le) in rw yes refl
 stamp_last n (q ∷ rs) r le = ap (λ (o : Option Stamp). option_or o (if nat_le q.start n then Some q.stamp else None)) (stamp_last n rs r le)
 
-pub has_reign : (old new : OpenSite) (r : Reign) (stamp : code.Stamp) → IsNextReign old r → new.instance.records ≡ old.instance.records ++ Reigned r ∷ [] → new.entries.items ≡ old.entries.items → new.stamp ≡ Some stamp → r.stamp ≡ stamp_value stamp → HasReign new
+pub has_reign : (old new : OpenSite) (r : Reign) (stamp : code.Stamp) → IsNextReign old r → new.instance.records ≡ old.instance.records ++ Reigned r ∷ [] → new.entries ≡ old.entries → new.stamp ≡ Some stamp → r.stamp ≡ stamp_value stamp → HasReign new
 has_reign old new r stamp is records entries told same = record {
   stamp = stamp;
   is = told;
   covers = λ n past.
       let e = is.start in
-      let count : length new.entries.items ≡ length old.entries.items = ap length entries in
+      let count : length new.entries ≡ length old.entries = ap length entries in
       ap (λ (l : List InstanceRecord). stamp_at n (reigns l)) records ∙ ap (stamp_at n) (runs.reigns-more old.instance.records r)
       ∙ stamp_last n (reigns old.instance.records) r (omega (arith, e, past, count)) ∙ ap Some same;
 }
@@ -228,7 +226,7 @@ held_beside v w old new ready stays globals =
     subst (AreHeld w many) (sym globals) (held_stays v w (Only INSTANCE) many old.globals stays (no_instance_file many) ready.regions)
 
 pub ready_begun : (v w : View) (old new : OpenSite) (x : Reign) → IsReady v old → 0 < length old.instance.records → instances.IsReady w new.instance → new.instance.records ≡ old.instance.records ++ Reigned x ∷ [] → new.journals ≡ old.journals → new.layout ≡ old.layout
-    → OthersStay (Only INSTANCE) v w → new.globals ≡ old.globals → new.entries.items ≡ old.entries.items → IsReady w new
+    → OthersStay (Only INSTANCE) v w → new.globals ≡ old.globals → new.entries ≡ old.entries → IsReady w new
 ready_begun v w old new x ready some instance records journals layout stays globals entries = record {
   instance = instance;
   layout = subst (λ (rs : List InstanceRecord). HasLayout rs new.layout) (sym records) (subst (HasLayout (old.instance.records ++ Reigned x ∷ [])) (sym layout) (layout_begun old.instance.records x old.layout some ready.layout));
@@ -237,7 +235,7 @@ ready_begun v w old new x ready some instance records journals layout stays glob
       (frames.journals_ready v w (Only INSTANCE) old.journals.journals.items stays (journals_away v old ready) (generation old.instance.records) ready.journals));
   each_region = ap (λ (js : RegionJournals). length js.journals.items) journals ∙ ready.each_region ∙ sym (ap (λ (rs : List InstanceRecord). length (regions rs)) records ∙ ap length (regions_kept old.instance.records x some));
   regions = subst (λ (n : ℕ). AreHeld w n new.globals) (sym (ap (λ (rs : List InstanceRecord). length (regions rs)) records ∙ ap length (regions_kept old.instance.records x some))) (held_beside v w old new ready stays globals);
-  few = subst (λ (l : List Entry). length l < 2 ^ 40) (sym entries) ready.few;
+  few = subst (λ (l : Sequence). length l < 2 ^ 40) (sym entries) ready.few;
 }
 
 instance_in : (w : View) (i : Instance) (rs : List InstanceRecord) → instances.HasRecords w i rs → (f : Files) → Image w f → IsInstance (f INSTANCE) rs
@@ -318,14 +316,14 @@ module _ (v w : View) (c : Contents) (old new : OpenSite) (k : Keeps v c (length
         (frames.journals_keep v w (Only INSTANCE) old.journals.journals.items stays away k.newer (tcoms k.waiting) k.journal_files);
   }
 
-pub past_in : (c : Contents) (h : ℕ) (s : OpenSite) → Remembers c h s → AllByRecursion (λ (q : Reign). q.start ≤ length s.entries.items) (reigns s.instance.records) → AllByRecursion (λ (q : Reign). q.start < length c.sequence + 1) (reigns c.instance)
+pub past_in : (c : Contents) (h : ℕ) (s : OpenSite) → Remembers c h s → AllByRecursion (λ (q : Reign). q.start ≤ length s.entries) (reigns s.instance.records) → AllByRecursion (λ (q : Reign). q.start < length c.sequence + 1) (reigns c.instance)
 past_in c h s is all =
     let count = remembered_length c h s is in
-    subst (λ (l : List InstanceRecord). AllByRecursion (λ (q : Reign). q.start < length c.sequence + 1) (reigns l)) is.instance (all_past (length s.entries.items) (length c.sequence + 1) (reigns s.instance.records) all (omega (arith, count)))
+    subst (λ (l : List InstanceRecord). AllByRecursion (λ (q : Reign). q.start < length c.sequence + 1) (reigns l)) is.instance (all_past (length s.entries) (length c.sequence + 1) (reigns s.instance.records) all (omega (arith, count)))
 
 -- nothing was written: all stands as before
 pub ready_kept : (v w : View) (old new : OpenSite) → IsReady v old → instances.IsReady w new.instance → new.instance.records ≡ old.instance.records → new.journals ≡ old.journals → new.layout ≡ old.layout → OthersStay (Only INSTANCE) v w
-    → new.globals ≡ old.globals → new.entries.items ≡ old.entries.items → IsReady w new
+    → new.globals ≡ old.globals → new.entries ≡ old.entries → IsReady w new
 ready_kept v w old new ready instance records journals layout stays globals entries = record {
   instance = instance;
   layout = subst (λ (rs : List InstanceRecord). HasLayout rs new.layout) (sym records) (subst (HasLayout old.instance.records) (sym layout) ready.layout);
@@ -334,32 +332,31 @@ ready_kept v w old new ready instance records journals layout stays globals entr
       (frames.journals_ready v w (Only INSTANCE) old.journals.journals.items stays (journals_away v old ready) (generation old.instance.records) ready.journals));
   each_region = ap (λ (js : RegionJournals). length js.journals.items) journals ∙ ready.each_region ∙ sym (ap (λ (rs : List InstanceRecord). length (regions rs)) records);
   regions = subst (λ (n : ℕ). AreHeld w n new.globals) (sym (ap (λ (rs : List InstanceRecord). length (regions rs)) records)) (held_beside v w old new ready stays globals);
-  few = subst (λ (l : List Entry). length l < 2 ^ 40) (sym entries) ready.few;
+  few = subst (λ (l : Sequence). length l < 2 ^ 40) (sym entries) ready.few;
 }
 
-pub opened_kept : (old new : OpenSite) → WasOpened old → new.instance.records ≡ old.instance.records → new.entries.items ≡ old.entries.items → new.hardened ≡ old.hardened → new.stamp ≡ old.stamp → WasOpened new
+pub opened_kept : (old new : OpenSite) → WasOpened old → new.instance.records ≡ old.instance.records → new.entries ≡ old.entries → new.hardened ≡ old.hardened → new.stamp ≡ old.stamp → WasOpened new
 opened_kept old new was records entries hardened stamp = record {
   created = subst (λ (rs : List InstanceRecord). 0 < length rs) (sym records) was.created;
   name = subst (λ (rs : List InstanceRecord). IsSiteName (site_name rs)) (sym records) was.name;
   hardened = hardened ∙ was.hardened ∙ ap length (sym entries);
-  few = let n : length new.entries.items ≡ length old.entries.items = ap length entries in let few = was.few in omega (arith, n, few);
+  few = let n : length new.entries ≡ length old.entries = ap length entries in let few = was.few in omega (arith, n, few);
   no_reign_past = subst (λ (n : ℕ). AllByRecursion (λ (q : Reign). q.start ≤ n) (reigns new.instance.records)) (ap length (sym entries))
-      (subst (λ (rs : List InstanceRecord). AllByRecursion (λ (q : Reign). q.start ≤ length old.entries.items) (reigns rs)) (sym records) was.no_reign_past);
+      (subst (λ (rs : List InstanceRecord). AllByRecursion (λ (q : Reign). q.start ≤ length old.entries) (reigns rs)) (sym records) was.no_reign_past);
   no_reign = stamp ∙ was.no_reign;
 }
 
 pub open_kept : (v w : View) (told : Bool) (c : Contents) (h : ℕ) (old new : OpenSite) → IsLawful w → IsReady v old → OthersStay (Only INSTANCE) v w → AtEachMoment v w (Image v)
-    → ((rs : List InstanceRecord) → instances.HasRecords v old.instance rs → instances.HasRecords w new.instance rs) → new.instance.records ≡ old.instance.records → new.entries.items ≡ old.entries.items → new.globals ≡ old.globals → new.hardened ≡ old.hardened → new.journals ≡ old.journals
+    → ((rs : List InstanceRecord) → instances.HasRecords v old.instance rs → instances.HasRecords w new.instance rs) → new.instance.records ≡ old.instance.records → new.entries ≡ old.entries → new.globals ≡ old.globals → new.hardened ≡ old.hardened → new.journals ≡ old.journals
     → IsOpen v told c h old → IsOpen w told c h new
 open_kept v w told c h old new lawful ready stays unwritten state records entries changed hardened journals is = record {
   remembered = record {
     instance = records ∙ is.remembered.instance;
     count = ap length entries ∙ is.remembered.count;
-    numbers = numbers_same old.entries.items new.entries.items entries is.remembered.numbers;
     globals = ap joined changed ∙ is.remembered.globals;
     hardened = hardened ∙ is.remembered.hardened;
   };
-  entries = λ t. ap (map numbered) entries ∙ is.entries t;
+  entries = λ t. entries ∙ is.entries t;
   kept = λ t.
       let k = is.kept t in
       let was : (f : Files) → Image w f → Image v f = λ f now. holds_now v w (Image v) lawful unwritten f now in
@@ -395,13 +392,13 @@ open_kept v w told c h old new lawful ready stays unwritten state records entrie
 pub record Begins (v w : View) (old new : OpenSite) (r : Reign) : Type 0 where
   pub ready : IsReady v old
   pub created : 0 < length old.instance.records
-  pub past : AllByRecursion (λ (q : Reign). q.start ≤ length old.entries.items) (reigns old.instance.records)
+  pub past : AllByRecursion (λ (q : Reign). q.start ≤ length old.entries) (reigns old.instance.records)
   pub next : IsNextReign old r
   pub stays : OthersStay (Only INSTANCE) v w
   pub state : (rs : List InstanceRecord) → instances.HasRecords v old.instance rs → instances.HasRecords w new.instance (rs ++ Reigned r ∷ [])
   pub records : new.instance.records ≡ old.instance.records ++ Reigned r ∷ []
 
-pub open_begun : (v w : View) (told : Bool) (c : Contents) (old new : OpenSite) (r : Reign) → IsLawful w → Begins v w old new r → new.entries.items ≡ old.entries.items → new.globals ≡ old.globals → new.hardened ≡ old.hardened → new.journals ≡ old.journals
+pub open_begun : (v w : View) (told : Bool) (c : Contents) (old new : OpenSite) (r : Reign) → IsLawful w → Begins v w old new r → new.entries ≡ old.entries → new.globals ≡ old.globals → new.hardened ≡ old.hardened → new.journals ≡ old.journals
     → IsOpen v told c (length c.sequence) old → IsOpen w told (begun c) (length c.sequence) new
 open_begun v w told c old new r lawful b entries changed hardened journals is =
     let same = next_is c (length c.sequence) old r is.remembered b.next in
@@ -409,11 +406,10 @@ open_begun v w told c old new r lawful b entries changed hardened journals is =
       remembered = record {
         instance = b.records ∙ ap (λ (x : Reign). old.instance.records ++ Reigned x ∷ []) same ∙ ap (λ (l : List InstanceRecord). l ++ Reigned (reign_of c) ∷ []) is.remembered.instance;
         count = ap length entries ∙ is.remembered.count;
-        numbers = numbers_same old.entries.items new.entries.items entries is.remembered.numbers;
         globals = ap joined changed ∙ is.remembered.globals;
         hardened = hardened ∙ is.remembered.hardened;
       };
-      entries = λ t. ap (map numbered) entries ∙ is.entries t;
+      entries = λ t. entries ∙ is.entries t;
       kept = λ t.
           let k = is.kept t in
           keeps_begun v w c old new k (past_in c (length c.sequence) old is.remembered b.past) lawful b.stays (journals_away v old b.ready) (subst (λ (l : List InstanceRecord). 0 < length l) is.remembered.instance b.created)
@@ -421,7 +417,7 @@ open_begun v w told c old new r lawful b entries changed hardened journals is =
     }
 
 -- at each moment of it
-pub left_begun : (v w : View) (c : Contents) (old : OpenSite) (r : Reign) → AllByRecursion (λ (q : Reign). q.start ≤ length old.entries.items) (reigns old.instance.records) → IsNextReign old r
+pub left_begun : (v w : View) (c : Contents) (old : OpenSite) (r : Reign) → AllByRecursion (λ (q : Reign). q.start ≤ length old.entries) (reigns old.instance.records) → IsNextReign old r
     → ((rs : List InstanceRecord) → instances.HasRecords v old.instance rs → AtEachMoment v w (OnlyOn v INSTANCE (instances.StandsWith rs (Reigned r))))
     → IsOpen v true c (length c.sequence) old → AtEachMoment v w (λ f. IsSiteWith f (bare c) ⊎ IsSiteWith f (bare (begun c)))
 left_begun v w c old r past next run is =
@@ -430,7 +426,7 @@ left_begun v w c old r past next run is =
     reign_left v w c old k (past_in c (length c.sequence) old is.remembered past)
     (subst (λ (x : Reign). AtEachMoment v w (OnlyOn v INSTANCE (instances.StandsWith c.instance (Reigned x)))) same (run c.instance k.instance_file))
 
-pub moments_begun : (v w : View) (c : Contents) (old : OpenSite) (r : Reign) → AllByRecursion (λ (q : Reign). q.start ≤ length old.entries.items) (reigns old.instance.records) → IsNextReign old r
+pub moments_begun : (v w : View) (c : Contents) (old : OpenSite) (r : Reign) → AllByRecursion (λ (q : Reign). q.start ≤ length old.entries) (reigns old.instance.records) → IsNextReign old r
     → ((rs : List InstanceRecord) → instances.HasRecords v old.instance rs → AtEachMoment v w (OnlyOn v INSTANCE (instances.StandsWith rs (Reigned r))))
     → IsOpen v true c (length c.sequence) old → AtEachMoment v w (λ f. IsSite f c ⊎ IsSite f (begun c))
 moments_begun v w c old r past next run is = weaker v w (λ f. IsSiteWith f (bare c) ⊎ IsSiteWith f (bare (begun c))) (λ f. IsSite f c ⊎ IsSite f (begun c)) (λ f q. elim q [

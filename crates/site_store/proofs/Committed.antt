@@ -1,7 +1,7 @@
 -- An entry is prepared, and then appended.
-use Rattle.std.proofs.Common.{◌≡◌, inl, inr, ◌≤◌, ◌<◌, ◌+◌, ◌-◌, ℕ, suc, Bool, true, List, [], ◌∷◌, ◌++◌, length, take, drop, map, Some, None, refl, sym, ◌∙◌, ap, subst, arith, append-nil, length-append}
+use Rattle.std.proofs.Common.{◌≡◌, inl, inr, ◌≤◌, ◌<◌, ◌+◌, ◌-◌, ℕ, suc, Bool, true, List, [], ◌∷◌, ◌++◌, length, take, drop, Some, None, refl, sym, ◌∙◌, ap, subst, arith, append-nil, length-append}
 use Rattle.std.specs.Prelude.{◌^◌, Option, IfSome, IsSomeAnd, fold, slice_get}
-use Rattle.std.specs.List.{flat_map, enumerate_from}
+use Rattle.std.specs.List.{flat_map}
 use Rattle.std.specs.FinMap as globals
 use Rattle.std.proofs.lemmas.Bool.{cases_lt}
 use Rattle.std.proofs.lemmas.Option.{slice_get_within}
@@ -51,10 +51,9 @@ use Rattle.site_regions.specs.Joined.{joined, AreChanged}
 use Rattle.site_store.specs.Site.{Remembers, IsReady, AreHeld, Keeps, IsOpen, HasReign, HasRoomFor, AreOnBlocks, with_entry}
 use Rattle.site_store.proofs.OnBlocks.{on_same}
 use Rattle.site_store.proofs.HeldRegions.{held_stays, held_changed, no_journal, changed_not, synced_stays}
-use Rattle.gvn_model.specs.Numbered.{numbered}
 use Rattle.site_store.specs.Committing.{Enters, IsSameSite, IsSameMemory, IsOwnJournal, ArePartsOf, parts_of}
 use Rattle.site_store.proofs.Frames as frames
-use Rattle.site_store.proofs.Remembered.{remembered_length, entries_more, numbers_more, numbers_same, globals_more}
+use Rattle.site_store.proofs.Remembered.{remembered_length, globals_more}
 use Rattle.site_store.proofs.Standing.{reads_of, reads_so, told_of, still, keeps_images}
 use Rattle.site_store.proofs.Entries as entries
 use Rattle.site_store.proofs.Emptied.{none_left}
@@ -98,11 +97,10 @@ open_prepared v w told c h old mid p same lawful is = record {
   remembered = record {
     instance = ap (λ (i : Instance). i.records) same.same.instance ∙ is.remembered.instance;
     count = ap length same.entries ∙ is.remembered.count;
-    numbers = numbers_same old.entries.items mid.entries.items same.entries is.remembered.numbers;
     globals = same.globals ∙ is.remembered.globals;
     hardened = same.same.hardened ∙ is.remembered.hardened;
   };
-  entries = λ known. ap (map numbered) same.entries ∙ is.entries known;
+  entries = λ known. same.entries ∙ is.entries known;
   kept = λ known. keeps_prepared v w c h old mid p lawful (is.kept known);
 }
 
@@ -189,7 +187,7 @@ pub record Committed (v w x : View) (old mid new : OpenSite) (t : code.Transacti
   pub stays : (g : ℕ) → AreReady w g mid.journals.journals.items → OthersStay (IsNewestFile g (length mid.journals.journals.items)) w x
   pub instance : new.instance ≡ mid.instance
   pub layout : new.layout ≡ mid.layout
-  pub entries : new.entries.items ≡ mid.entries.items
+  pub entries : new.entries ≡ mid.entries
   pub globals : new.globals ≡ mid.globals
   pub hardened : new.hardened ≡ mid.hardened
 
@@ -200,15 +198,15 @@ abbrev longer : Contents → Entry → Contents
 longer c e = with_sequence c (c.sequence ++ e ∷ [])
 
 -- its number, and its stamp
-number_of : (c : Contents) (h : ℕ) (s : OpenSite) → Remembers c h s → h ≤ length c.sequence → length s.entries.items + 1 ≡ h + length (drop h c.sequence) + 1
+number_of : (c : Contents) (h : ℕ) (s : OpenSite) → Remembers c h s → h ≤ length c.sequence → length s.entries + 1 ≡ h + length (drop h c.sequence) + 1
 number_of c h s m low = let count = remembered_length c h s m in let rest = length-drop h c.sequence in omega (arith, count, rest, low)
 
-stamp_of : (c : Contents) (h : ℕ) (s : OpenSite) (stamp : code_stamp.Stamp) → Remembers c h s → HasReign s → s.stamp ≡ Some stamp → stamp_at (length s.entries.items + 1) (reigns c.instance) ≡ Some (stamp_value stamp)
+stamp_of : (c : Contents) (h : ℕ) (s : OpenSite) (stamp : code_stamp.Stamp) → Remembers c h s → HasReign s → s.stamp ≡ Some stamp → stamp_at (length s.entries + 1) (reigns c.instance) ≡ Some (stamp_value stamp)
 stamp_of c h s stamp m reign is =
     let told : s.stamp ≡ Some reign.stamp = reign.is in
     let same : reign.stamp ≡ stamp = cc (told, is) in
-    subst (λ (l : List InstanceRecord). stamp_at (length s.entries.items + 1) (reigns l) ≡ Some (stamp_value stamp)) m.instance
-    (reign.covers (length s.entries.items + 1) (omega arith) ∙ ap (λ (y : code_stamp.Stamp). Some (stamp_value y)) same)
+    subst (λ (l : List InstanceRecord). stamp_at (length s.entries + 1) (reigns l) ≡ Some (stamp_value stamp)) m.instance
+    (reign.covers (length s.entries + 1) (omega arith) ∙ ap (λ (y : code_stamp.Stamp). Some (stamp_value y)) same)
 
 -- the entry
 abbrev entry_of : {v w x : View} {old mid new : OpenSite} {t : code.Transaction} {parts : PartRecords} → Committed v w x old mid new t parts → Entry
@@ -219,18 +217,17 @@ remembers_longer v w x c h old mid new t parts p m =
     let n = p.enters in
     record {
       instance = ap (λ (i : Instance). i.records) (p.instance ∙ p.prepares.same.instance) ∙ m.instance;
-      count = ap length (p.entries ∙ n.entries) ∙ length-append old.entries.items (n.entry ∷ []) ∙ ap (λ (k : ℕ). k + 1) m.count ∙ sym (length-append c.sequence (entry_of p ∷ []));
-      numbers = numbers_more old.entries.items new.entries.items n.entry m.numbers (p.entries ∙ n.entries) n.next.number;
+      count = ap length (p.entries ∙ n.entries) ∙ length-append old.entries (entry_value n.entry ∷ []) ∙ ap (λ (k : ℕ). k + 1) m.count ∙ sym (length-append c.sequence (entry_of p ∷ []));
       globals = globals_more (joined old.globals) (joined new.globals) c.sequence (entry_of p) m.globals (ap joined p.globals ∙ n.globals);
       hardened = p.hardened ∙ p.prepares.same.hardened ∙ m.hardened;
     }
 
-entries_longer : (v w x : View) (c : Contents) (old mid new : OpenSite) (t : code.Transaction) (parts : PartRecords) (p : Committed v w x old mid new t parts) → map numbered old.entries.items ≡ enumerate_from 1 c.sequence
-    → map numbered new.entries.items ≡ enumerate_from 1 (c.sequence ++ entry_of p ∷ [])
+entries_longer : (v w x : View) (c : Contents) (old mid new : OpenSite) (t : code.Transaction) (parts : PartRecords) (p : Committed v w x old mid new t parts) → old.entries ≡ c.sequence
+    → new.entries ≡ (c.sequence ++ entry_of p ∷ [])
 entries_longer v w x c old mid new t parts p are =
     let n = p.enters in
     let value : entry_value n.entry ≡ entry_of p = ap (λ (y : code.Transaction). record { stamp = stamp_value n.entry.stamp; transaction = transaction_value y }) n.next.transaction in
-    entries_more old.entries.items new.entries.items n.entry c.sequence (entry_of p) are (p.entries ∙ n.entries) n.next.number value
+    p.entries ∙ n.entries ∙ ap (λ (es : Sequence). es ++ entry_value n.entry ∷ []) are ∙ ap (λ (e : Entry). c.sequence ++ e ∷ []) value
 
 -- its directory is that of the instance file
 directory_of : (v : View) (c : Contents) (h : ℕ) (s : OpenSite) → IsReady v s → Remembers c h s → s.layout.directory.patterns ≡ patterns c.instance
@@ -241,7 +238,7 @@ abbrev region_in : Contents → Update → ℕ
 region_in c = region_of_update (patterns c.instance)
 
 abbrev own_parts : Contents → OpenSite → Transaction → ℕ → Option Part
-own_parts c s t = split (region_in c) (length s.entries.items + 1) (mask_of (region_in c) t.updates) t
+own_parts c s t = split (region_in c) (length s.entries + 1) (mask_of (region_in c) t.updates) t
 
 record AreOwn (c : Contents) (s : OpenSite) (t : Transaction) (parts : PartRecords) : Type 0 where
   each : (r : ℕ) → r < 8 → part_in parts r ≡ recorded (own_parts c s t r)
@@ -253,9 +250,9 @@ are_own v c h s t parts ready m are =
     let same = directory_of v c h s ready m in
     let count : s.layout.directory.regions ≡ length (regions c.instance) = ap (λ (d : Mapping). d.regions) ready.layout.directory ∙ ap (λ (l : List InstanceRecord). length (regions l)) m.instance in
     record {
-      each = λ r low. subst (λ (ps : List Pattern). part_in parts r ≡ recorded (split (region_of_update ps) (length s.entries.items + 1) (mask_of (region_of_update ps) t.updates) t r)) same (are.each r low);
+      each = λ r low. subst (λ (ps : List Pattern). part_in parts r ≡ recorded (split (region_of_update ps) (length s.entries + 1) (mask_of (region_of_update ps) t.updates) t r)) same (are.each r low);
       is_split = subst (λ (ps : List Pattern). IsSplit (region_of_update ps) (mask_of (region_of_update ps) t.updates) t) same are.is_split;
-      no_other = λ r past. subst (λ (ps : List Pattern). split (region_of_update ps) (length s.entries.items + 1) (mask_of (region_of_update ps) t.updates) t r ≡ None) same (are.no_other r (omega (arith, past, count)));
+      no_other = λ r past. subst (λ (ps : List Pattern). split (region_of_update ps) (length s.entries + 1) (mask_of (region_of_update ps) t.updates) t r ≡ None) same (are.no_other r (omega (arith, past, count)));
     }
 
 -- the records that wait then
@@ -310,13 +307,13 @@ keeps_longer v w x c h old mid new t parts p before m lawful lawful_after =
       no_epoch_past = k.no_epoch_past;
       waiting = k.waiting ++ part ∷ [];
       are_waiting = subst (AreEntries c.instance (suc k.g) h (k.waiting ++ part ∷ [])) (sym (drop-append-le h c.sequence (e ∷ []) k.count))
-          (entries.entries_more c.instance (suc k.g) h (length old.entries.items + 1) k.waiting (drop h c.sequence) (region_in c) (mask_of (region_in c) t.updates) (transaction_value t) (stamp_value p.enters.entry.stamp) k.are_waiting
+          (entries.entries_more c.instance (suc k.g) h (length old.entries + 1) k.waiting (drop h c.sequence) (region_in c) (mask_of (region_in c) t.updates) (transaction_value t) (stamp_value p.enters.entry.stamp) k.are_waiting
           (number_of c h old m k.count) (let same = k.newest.generation in omega (arith, same)) are.is_split (stamp_of c h old p.enters.entry.stamp m p.reign p.enters.next.stamp));
       are_parts = ap (λ (l : List (ℕ → Option Part)). l ++ part ∷ []) k.are_parts
-          ∙ sym (parts_more (patterns c.instance) h (length old.entries.items + 1) (drop h c.sequence) e (number_of c h old m k.count))
+          ∙ sym (parts_more (patterns c.instance) h (length old.entries + 1) (drop h c.sequence) e (number_of c h old m k.count))
           ∙ ap (parts_of_each (patterns c.instance) h) (sym (drop-append-le h c.sequence (e ∷ []) k.count));
       in_regions = all_both (λ (part : ℕ → Option Part). (r : ℕ) → length (regions c.instance) ≤ r → part r ≡ None) k.waiting (part ∷ []) k.in_regions (are.no_other, tt);
-      at_home = λ r here. entries.all_home c.instance (suc k.g) r (length old.entries.items + 1) (mask_of (region_in c) t.updates) (transaction_value t) k.waiting (k.at_home r here);
+      at_home = λ r here. entries.all_home c.instance (suc k.g) r (length old.entries + 1) (mask_of (region_in c) t.updates) (transaction_value t) k.waiting (k.at_home r here);
       instance_file = instance_kept w x mid new (suc k.g) (length mid.journals.journals.items) c.instance stays p.instance k.instance_file;
       journal_files = waits_longer x k.newer k.waiting part parts new.journals.journals.items (let size = p.count in let low = ready.journals.few in omega (arith, size, low)) are.each (p.state k.newer (tcoms k.waiting) k.journal_files);
     }
@@ -336,7 +333,7 @@ open_longer v w x told c h old mid new t parts p lawful lawful_after is =
 -- open for calls, and under its reign
 pub ready_after : (w x : View) (mid new : OpenSite) → IsReady w mid → ((g : ℕ) → AreReady w g mid.journals.journals.items → AreReady x g new.journals.journals.items) → length new.journals.journals.items ≡ length mid.journals.journals.items
     → ((g : ℕ) → AreReady w g mid.journals.journals.items → OthersStay (IsNewestFile g (length mid.journals.journals.items)) w x) → new.instance ≡ mid.instance → new.layout ≡ mid.layout
-    → AreChanged mid.globals new.globals → length new.entries.items < 2 ^ 40 → IsReady x new
+    → AreChanged mid.globals new.globals → length new.entries < 2 ^ 40 → IsReady x new
 ready_after w x mid new ready journals count stays instance layout changed few =
     let g = generation mid.instance.records in
     let many = length (regions mid.instance.records) in
@@ -356,9 +353,9 @@ ready_after w x mid new ready journals count stays instance layout changed few =
 pub ready_longer : (v w x : View) (old mid new : OpenSite) (t : code.Transaction) (parts : PartRecords) → Committed v w x old mid new t parts → IsReady x new
 ready_longer v w x old mid new t parts p =
     ready_after w x mid new p.prepares.ready_after p.journals p.count p.stays p.instance p.layout (changed_not mid.globals new.globals p.globals)
-    (subst (λ (l : List code_entry.Entry). length l < 2 ^ 40) (sym p.entries) p.prepares.ready_after.few)
+    (subst (λ (l : Sequence). length l < 2 ^ 40) (sym p.entries) p.prepares.ready_after.few)
 
-pub reign_stays : (old new : OpenSite) → HasReign old → new.instance ≡ old.instance → new.stamp ≡ old.stamp → length old.entries.items ≤ length new.entries.items → HasReign new
+pub reign_stays : (old new : OpenSite) → HasReign old → new.instance ≡ old.instance → new.stamp ≡ old.stamp → length old.entries ≤ length new.entries → HasReign new
 reign_stays old new r instance stamp more = record {
   stamp = r.stamp;
   is = stamp ∙ r.is;
@@ -372,7 +369,7 @@ own_stays v w s ready stays = subst (λ (n : ℕ). OthersStay (IsNewestFile (gen
 -- open for calls, with what is prepared
 pub ready_prepared : (v w : View) (old new : OpenSite) (js : RegionJournals) → IsReady v old → ((g : ℕ) → AreReady v g old.journals.journals.items → AreReady w g js.journals.items) → length js.journals.items ≡ length old.journals.journals.items
     → ((g : ℕ) → AreReady v g old.journals.journals.items → OthersStay (IsNewestFile g (length old.journals.journals.items)) v w) → new.journals ≡ js → new.instance ≡ old.instance → new.layout ≡ old.layout
-    → AreChanged old.globals new.globals → length new.entries.items < 2 ^ 40 → IsReady w new
+    → AreChanged old.globals new.globals → length new.entries < 2 ^ 40 → IsReady w new
 ready_prepared v w old new js ready journals count stays is instance layout changed few =
     ready_after v w old new ready (subst (λ (k : RegionJournals). (g : ℕ) → AreReady v g old.journals.journals.items → AreReady w g k.journals.items) (sym is) journals)
     (ap (λ (k : RegionJournals). length k.journals.items) is ∙ count) stays instance layout changed few

@@ -1,5 +1,5 @@
 -- A site that was found, and stands.
-use Rattle.std.proofs.Common.{◌≡◌, inr, ℕ, Bool, false, [], ◌∷◌, ◌++◌, length, take, Result, Ok, Err, IfOk, IfSome, sym, ◌∙◌, ap, subst}
+use Rattle.std.proofs.Common.{◌≡◌, inr, ℕ, Bool, false, [], ◌∷◌, ◌++◌, length, take, Result, Ok, Err, IfOk, IfSome, sym, ◌∙◌, subst}
 use Rattle.std.proofs.Math.Seq.{take-length}
 use Rattle.disk_defs.specs.Disk.{Files, View, Image, Reads, IsLawful, AtEachMoment}
 use Rattle.disk_defs.proofs.Moments.{read_only}
@@ -26,7 +26,6 @@ use Rattle.site_store.proofs.OnBlocks.{on_same}
 use Rattle.site_store.specs.Standing.{found_records, found_entries, HasFound, WasFound, IsFoundAs, IsOpenFor, IsOpenAs, Stood}
 use Rattle.site_store.proofs.Databases.{databases_still, texts_still}
 use Rattle.site_store.proofs.Drawn.{site_read}
-use Rattle.site_store.proofs.Loaded.{length_values}
 use Rattle.site_store.proofs.Refused.{read_kept}
 
 -- while the disk is only synced or read
@@ -70,11 +69,10 @@ module _ (u v : View) (f : FoundFiles) (was : WasFound u v f) where
 abbrev again : FoundFiles → StandingSite → FoundFiles
 again f k = record { read = record { log = k.log; directory = f.read.directory; journals = f.read.journals; last_began = k.last_began }; entries = k.entries; broken = k.broken }
 
-stood_again : (anew : Bool) (u w : View) (f : FoundFiles) (k : StandingSite) → HasFound (again f k) → WasFound u w (again f k) → IsOpenAs anew u w (again f k) (length k.entries.items) k.globals
-    → (anew ≡ false → NoneIsWithout (found_records (again f k)) (length k.entries.items)) → ((n : ℕ) → HasLayout (k.log.records ++ next_cut k.log.records n ∷ []) k.layout) → Stood anew u w k
+stood_again : (anew : Bool) (u w : View) (f : FoundFiles) (k : StandingSite) → HasFound (again f k) → WasFound u w (again f k) → IsOpenAs anew u w (again f k) (length k.entries) k.globals
+    → (anew ≡ false → NoneIsWithout (found_records (again f k)) (length k.entries)) → ((n : ℕ) → HasLayout (k.log.records ++ next_cut k.log.records n ∷ []) k.layout) → Stood anew u w k
 stood_again anew u w f k has was opens none layout =
     let seq = found_entries (again f k) in
-    let size : length seq ≡ length k.entries.items = length_values k.entries.items in
     record {
       journal = (found_records (again f k)).journal;
       form = has.form;
@@ -82,29 +80,28 @@ stood_again anew u w f k has was opens none layout =
       low = has.low;
       layout = layout;
       sequence = has.sequence;
-      are_numbered = has.are_numbered;
       few = has.few;
       broken_is = has.broken_is;
       read = was.read;
       texts = was.texts;
       databases = was.databases;
-      without = λ no. subst (NoneIsWithout (found_records (again f k))) (sym size) (none no);
-      blocks = subst (λ (n : ℕ). IfSome u.content (λ files. StandOn anew files (found_records (again f k)) n k.globals)) (sym size) opens.blocks;
+      without = none;
+      blocks = opens.blocks;
       regions = opens.regions;
-      nodes = subst (λ (l : Sequence). IfSome u.content (λ files. IsSoundImage files (found_records (again f k)) seq → joined k.globals ≡ state l)) (ap (λ (n : ℕ). take n seq) (sym size) ∙ take-length seq) opens.nodes;
+      nodes = subst (λ (l : Sequence). IfSome u.content (λ files. IsSoundImage files (found_records (again f k)) seq → joined k.globals ≡ state l)) (take-length seq) opens.nodes;
       some = opens.some;
-      none = λ empty. opens.none (sym size ∙ empty);
+      none = opens.none;
     }
 
-pub stood_of : (anew : Bool) (u w : View) (f : FoundFiles) (k : StandingSite) → HasFound f → WasFound u w f → IsOpenAs anew u w f (length f.entries.items) k.globals
-    → (anew ≡ false → NoneIsWithout (found_records f) (length f.entries.items)) → IsFoundAs f k → Stood anew u w k
+pub stood_of : (anew : Bool) (u w : View) (f : FoundFiles) (k : StandingSite) → HasFound f → WasFound u w f → IsOpenAs anew u w f (length f.entries) k.globals
+    → (anew ≡ false → NoneIsWithout (found_records f) (length f.entries)) → IsFoundAs f k → Stood anew u w k
 stood_of anew u w f k has was opens none stays =
-    subst (λ (x : FoundFiles). HasFound x → WasFound u w x → IsOpenAs anew u w x (length x.entries.items) k.globals → (anew ≡ false → NoneIsWithout (found_records x) (length x.entries.items))
+    subst (λ (x : FoundFiles). HasFound x → WasFound u w x → IsOpenAs anew u w x (length x.entries) k.globals → (anew ≡ false → NoneIsWithout (found_records x) (length x.entries))
     → ((n : ℕ) → HasLayout (x.read.log.records ++ next_cut x.read.log.records n ∷ []) k.layout) → Stood anew u w k)
     (λ i. record { read = record { log = stays.log i; directory = f.read.directory; journals = f.read.journals; last_began = stays.last_began i }; entries = stays.entries i; broken = stays.broken i })
     (stood_again anew u w f k) has was opens none stays.layout
 
-pub stood_ok : (anew : Bool) (u v w : View) (f : FoundFiles) (n : ℕ) (o : Result StandingSite SiteError) → IsLawful w → Reads v w → v.content ≡ u.content → HasFound f → WasFound u v f → n ≡ length f.entries.items
+pub stood_ok : (anew : Bool) (u v w : View) (f : FoundFiles) (n : ℕ) (o : Result StandingSite SiteError) → IsLawful w → Reads v w → v.content ≡ u.content → HasFound f → WasFound u v f → n ≡ length f.entries
     → IfOk o (IsFoundAs f) → IfOk o (λ k. IsOpenAs anew v w f n k.globals) → (anew ≡ false → NoneIsWithout (found_records f) n) → IfOk o (Stood anew u w)
 stood_ok anew u v w f n (Ok k) lawful reads same has was all stays opens none =
     stood_of anew u w f k has (found_moved u v w f lawful (read_only v w reads) was) (subst (λ (m : ℕ). IsOpenAs anew u w f m k.globals) all (open_moved anew u v w f n k.globals same opens))
@@ -127,7 +124,7 @@ module _ (u v : View) (f : FoundFiles) (has : HasFound f) (was : WasFound u v f)
       (λ files r t c site. t (site_read f.read.log.records (last_of f.read.last_began.items) (found_records f).journal (found_entries f) has.form has.sequence files c r.holds site).0)
 
 -- the first region that needs forward recovery
-pub first_needing : (u v : View) (f : FoundFiles) → HasFound f → WasFound u v f → (region generation : ℕ) → IsFirstWithout (found_records f) (length f.entries.items) region generation → IfSome u.content (λ files. HaveFirstWithout files region)
+pub first_needing : (u v : View) (f : FoundFiles) → HasFound f → WasFound u v f → (region generation : ℕ) → IsFirstWithout (found_records f) (length f.entries) region generation → IfSome u.content (λ files. HaveFirstWithout files region)
 first_needing u v f has was region generation first =
     weaker_told u.content (WasRead v f.read.log.records (last_of f.read.last_began.items) (found_records f).journal) (λ files. HaveFirstWithout files region) was.read (λ files r. (
       found_records f,
@@ -136,5 +133,5 @@ first_needing u v f has was region generation first =
       has.sequence,
       has.low,
       generation,
-      subst (λ (n : ℕ). IsFirstWithout (found_records f) n region generation) (sym (length_values f.entries.items)) first,
+      first,
     ))

@@ -1,5 +1,5 @@
 -- The entries that wait are hardened.
-use Rattle.std.proofs.Common.{◌≡◌, ◌≤◌, ◌<◌, ℕ, suc, Bool, true, List, [], ◌++◌, length, map, take, drop, refl, sym, ◌∙◌, ap, subst, arith}
+use Rattle.std.proofs.Common.{◌≡◌, ◌≤◌, ◌<◌, ℕ, suc, Bool, true, List, [], ◌++◌, length, take, drop, refl, sym, ◌∙◌, ap, subst, arith}
 use Rattle.std.specs.Prelude.{◌^◌, IfSome}
 use Rattle.std.proofs.Math.Seq.{take-length, drop-length}
 use Rattle.std.proofs.lemmas.List.{length-drop}
@@ -10,6 +10,7 @@ use Rattle.journal_defs.specs.Numbers.{journal_file, database_file}
 use Rattle.journal_defs.specs.Journal.{JournalRecord, IsJournalBody}
 use Rattle.journal_defs.specs.Instance.{InstanceRecord, regions}
 use Rattle.journal_defs.specs.Directory.{patterns}
+use Rattle.global_defs.specs.Entry.{Sequence}
 use Rattle.journal_defs.specs.Sequence.{Records}
 use Rattle.journal_defs.specs.Stands.{Holds}
 use Rattle.journal_defs.specs.Growth.{NonePast, AreEntries, tcoms, appended}
@@ -29,13 +30,11 @@ use Rattle.site_defs.specs.Stands.{IsSite}
 use Rattle.site_store.specs.declared.site.OpenSite.{OpenSite}
 use Rattle.site_regions.specs.Joined.{joined}
 use Rattle.site_store.specs.Site.{Remembers, IsReady, Keeps, IsOpen, AreOnBlocks}
-use Rattle.gvn_model.specs.Numbered.{numbered}
-use Rattle.site_store.proofs.Remembered.{remembered_length, numbers_same}
+use Rattle.site_store.proofs.Remembered.{remembered_length}
 use Rattle.site_store.proofs.Standing.{reads_of, reads_so, told_of, still}
 use Rattle.site_store.proofs.Committed.{instance_kept, ready_after}
 use Rattle.site_store.proofs.Waiting as waiting
 use Rattle.site_store.proofs.Newest as newest
-use Rattle.gvn_model.specs.declared.entry.Entry.{Entry}
 use Rattle.site_store.proofs.HeldRegions.{changed_not, no_journal, synced_stays}
 use Rattle.site_store.proofs.OnBlocks.{on_same, on_more, on_chosen, parts_plain}
 use Rattle.site_store.proofs.Parts.{no_entry_no_part}
@@ -77,14 +76,14 @@ pub record Hardens (v w : View) (old new : OpenSite) : Type 0 where
   pub stays : (g : ℕ) → AreReady v g old.journals.journals.items → OthersStay (IsNewestFile g (length old.journals.journals.items)) v w
   pub instance : new.instance ≡ old.instance
   pub layout : new.layout ≡ old.layout
-  pub entries : new.entries.items ≡ old.entries.items
+  pub entries : new.entries ≡ old.entries
   pub globals : new.globals ≡ old.globals
-  pub hardened : new.hardened ≡ length old.entries.items
+  pub hardened : new.hardened ≡ length old.entries
 
 pub ready_hardened : (v w : View) (old new : OpenSite) → Hardens v w old new → IsReady w new
 ready_hardened v w old new p =
     ready_after v w old new p.ready p.journals p.count p.stays p.instance p.layout (changed_not old.globals new.globals p.globals)
-    (subst (λ (l : List Entry). length l < 2 ^ 40) (sym p.entries) p.ready.few)
+    (subst (λ (l : Sequence). length l < 2 ^ 40) (sym p.entries) p.ready.few)
 
 module _ (v w : View) (c : Contents) (h : ℕ) (old new : OpenSite) (p : Hardens v w old new) (lawful : IsLawful w) (k : Keeps v c h old) (m : Remembers c h old) where
   own : old.instance.records ≡ c.instance
@@ -188,10 +187,9 @@ open_hardened v w told c h old new p lawful is = record {
   remembered = record {
     instance = ap (λ (i : Instance). i.records) p.instance ∙ is.remembered.instance;
     count = ap length p.entries ∙ is.remembered.count;
-    numbers = numbers_same old.entries.items new.entries.items p.entries is.remembered.numbers;
     globals = ap joined p.globals ∙ is.remembered.globals;
     hardened = p.hardened ∙ remembered_length c h old is.remembered;
   };
-  entries = λ known. ap (map numbered) p.entries ∙ is.entries known;
+  entries = λ known. p.entries ∙ is.entries known;
   kept = λ known. keeps_hardened v w c h old new p lawful (is.kept known) is.remembered;
 }

@@ -41,4 +41,3 @@ pub mod Unwritten
 pub mod Owned
 pub mod Histories
 pub mod Pieces
-pub mod Numbers

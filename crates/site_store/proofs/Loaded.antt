@@ -1,7 +1,7 @@
 -- A site is opened.
 use Rattle.std.proofs.Common.{◌≡◌, inl, ℕ, zero, suc, ◌+◌, ◌≤◌, ◌<◌, ◌^◌, Bool, true, false, List, [], ◌∷◌, ◌++◌, length, map, Option, Some, None, IfSome, refl, sym, ◌∙◌, ap, subst, arith, append-nil}
 use Rattle.std.specs.Prelude.{◌^◌, filter, nat_le, fold, replicate, slice_get, if◌then◌else◌}
-use Rattle.std.specs.List.{AllByRecursion, enumerate_from, flat_map}
+use Rattle.std.specs.List.{AllByRecursion, flat_map}
 use Rattle.std.proofs.lemmas.Bool.Decides.{nat_tests}
 use Rattle.std.proofs.lemmas.List.{length-map, length-replicate}
 use Rattle.disk_defs.specs.Disk.{Files, View, Image, IsLawful, From, AtEachMoment}
@@ -10,7 +10,6 @@ use Rattle.disk_defs.proofs.Moments.{weaker, then_more, holds_now}
 use Rattle.global_defs.specs.Entry.{Update, Entry, Sequence, Globals, Reign, apply, state}
 use Rattle.std.specs.FinMap as globals
 use Rattle.global_defs.specs.Fields.{IsSiteName}
-use Rattle.gvn_model.specs.Entries.{entry_value}
 use Rattle.gvn_model.specs.declared.entry.Entry as code
 use Rattle.journal_defs.specs.Instance.{InstanceRecord, Create, Reigned, Cut, Map, Mode, IsInForm, BeginsWithCreate, generation, regions, site_name}
 use Rattle.journal_defs.specs.Surviving.{reigns}
@@ -37,22 +36,16 @@ use Rattle.site_store.specs.declared.site.OpenSite.{OpenSite}
 use Rattle.site_store.specs.Finding.{HasLayout}
 use Rattle.site_regions.specs.Joined.{joined}
 use Rattle.site_store.specs.Site.{Remembers, AreHeld, IsReady, IsOpen, StandOn, WasOpened, WasOpenedFrom}
-use Rattle.gvn_model.specs.Numbered.{numbered}
 use Rattle.site_store.specs.Opening.{MayBeOpenAs, MayBeOpenWithAs, EachStands, AreTextsDurable, AreDatabasesDurable}
-use Rattle.site_store.proofs.Remembered.{length-enumerate, are_numbered}
 use Rattle.site_store.proofs.OnBlocks.{stand_same}
 use Rattle.site_store.proofs.Found.{instance_one}
 use Rattle.site_store.proofs.Drawn.{S, C, text, site_read, left_read, site_either, standing_either, draws_all}
 use Rattle.site_store.proofs.Alike.{image_sound, image_site}
 use Rattle.site_store.proofs.OpenedTo.{newly, newly_at, open_to}
 
-pub length_values : (es : List code.Entry) → length (map entry_value es) ≡ length es
-length_values [] = refl
-length_values (e ∷ es) = ap suc (length_values es)
-
 -- what was opened is what any records of the files stand for
 pub opened_from : (o : Option Files) (v : View) (rs : List InstanceRecord) (last : ℕ → ℕ) (journal : ℕ → List Placed) (seq : Sequence) (s : OpenSite) → IfSome o (WasRead v rs last journal) → IsSequence (record { instance = rs; journal = journal }) seq
-    → map numbered s.entries.items ≡ enumerate_from 1 seq → s.instance.records ≡ rs ++ next_cut rs (length seq) ∷ []
+    → s.entries ≡ seq → s.instance.records ≡ rs ++ next_cut rs (length seq) ∷ []
     → IfSome o (λ files. (u : Records) (other : Sequence) → AreRecords files u → IsSequence u other → WasOpenedFrom u other s)
 opened_from o v rs last journal seq s read sequence entries records = weaker_told o (WasRead v rs last journal) (λ files. (u : Records) (other : Sequence) → AreRecords files u → IsSequence u other → WasOpenedFrom u other s) read (λ files was u other held is.
     let own : Records = record { instance = rs; journal = journal } in
@@ -60,13 +53,13 @@ opened_from o v rs last journal seq s read sequence entries records = weaker_tol
     let seqs : other ≡ seq = runs.one own other seq (subst (λ (x : Records). IsSequence x other) same is) sequence in
     let first : u.instance ≡ rs = ap (λ (x : Records). x.instance) same in
     record {
-      entries = entries ∙ ap (enumerate_from 1) (sym seqs);
+      entries = entries ∙ sym seqs;
       instance = records ∙ ap (λ (l : List InstanceRecord). l ++ next_cut l (length seq) ∷ []) (sym first) ∙ ap (λ (q : Sequence). u.instance ++ next_cut u.instance (length q) ∷ []) (sym seqs);
     })
 
 -- and what was read is such records
 pub held_from : (P : Records → Sequence → Type 0) (o : Option Files) (v : View) (rs : List InstanceRecord) (last : ℕ → ℕ) (journal : ℕ → List Placed) (seq : Sequence) (s : OpenSite) → IfSome o (WasRead v rs last journal) → IsSequence (record { instance = rs; journal = journal }) seq
-    → map numbered s.entries.items ≡ enumerate_from 1 seq → s.instance.records ≡ rs ++ next_cut rs (length seq) ∷ []
+    → s.entries ≡ seq → s.instance.records ≡ rs ++ next_cut rs (length seq) ∷ []
     → P (record { instance = rs; journal = journal }) seq → IfSome o (λ files. (u : Records) × (other : Sequence) × AreRecords files u × IsSequence u other × WasOpenedFrom u other s × P u other)
 held_from P o v rs last journal seq s read sequence entries records is = weaker_told o (WasRead v rs last journal) (λ files. (u : Records) × (other : Sequence) × AreRecords files u × IsSequence u other × WasOpenedFrom u other s × P u other) read (λ files was.
     (record { instance = rs; journal = journal }, seq, held_read rs last journal files was.holds, sequence, record { entries = entries; instance = records }, is))
@@ -151,14 +144,14 @@ stretched (suc n) es g is none = (
 )
 
 module _ (rs : List InstanceRecord) (last : ℕ → ℕ) (form : MayBeOpened rs last) (s : OpenSite) (n : ℕ) (records : s.instance.records ≡ rs ++ next_cut rs n ∷ []) where
-  pub was_opened : n ≡ length s.entries.items → s.hardened ≡ length s.entries.items → length s.entries.items < 2 ^ 40 → s.stamp ≡ None → WasOpened s
+  pub was_opened : n ≡ length s.entries → s.hardened ≡ length s.entries → length s.entries < 2 ^ 40 → s.stamp ≡ None → WasOpened s
   was_opened count hardened few none = record {
     created = subst (λ (l : List InstanceRecord). 0 < length l) (sym records) (longer rs (next_cut rs n));
     name = subst (λ (l : List InstanceRecord). IsSiteName (site_name l)) (sym records) (name_of rs (next_cut rs n) form.some form.order.ordered.create form.form);
     hardened = hardened;
     few = few;
-    no_reign_past = subst (λ (l : List InstanceRecord). AllByRecursion (λ (r : Reign). r.start ≤ length s.entries.items) (reigns l)) (sym records)
-        (subst (λ (l : List Reign). AllByRecursion (λ (r : Reign). r.start ≤ length s.entries.items) l) (sym (runs.reigns-cut rs n (generation rs + 1)))
+    no_reign_past = subst (λ (l : List InstanceRecord). AllByRecursion (λ (r : Reign). r.start ≤ length s.entries) (reigns l)) (sym records)
+        (subst (λ (l : List Reign). AllByRecursion (λ (r : Reign). r.start ≤ length s.entries) l) (sym (runs.reigns-cut rs n (generation rs + 1)))
         (subst (λ (k : ℕ). AllByRecursion (λ (r : Reign). r.start ≤ k) (filter (λ (r : Reign). nat_le r.start n) (reigns rs))) count (within n (reigns rs))));
     no_reign = none;
   }
@@ -177,7 +170,7 @@ module _ (rs : List InstanceRecord) (last : ℕ → ℕ) (form : MayBeOpened rs 
     number_is = ap length js_are ∙ length-map begun newly ∙ number
 
     pub is_ready : instances.IsReady w s.instance → HasLayout (rs ++ next_cut rs n ∷ []) s.layout → ((r : ℕ) (j : Journal) → slice_get begun r ≡ Some j → journals.IsReady w j × journals.IsJournalOf j r (suc (generation rs)))
-        → AreHeld w (length (regions rs)) s.globals → length s.entries.items < 2 ^ 40 → IsReady w s
+        → AreHeld w (length (regions rs)) s.globals → length s.entries < 2 ^ 40 → IsReady w s
     is_ready instance layout each held few = record {
       instance = instance;
       layout = subst (λ (l : List InstanceRecord). HasLayout l s.layout) (sym records) layout;
@@ -276,9 +269,9 @@ module _ (anew : Bool) (u v w : View) (rs : List InstanceRecord) (last : ℕ →
   sound_image : (files : Files) → WasRead v rs last journal files → EachStands u → (d : Files) → Image v d → IsSoundImage d S0 seq
   sound_image files r each d image = image_sound v rs last journal seq form sequence files r d image (each d (earlier d image)).0 (each d (earlier d image)).1
 
-  module _ (s : OpenSite) (records : s.instance.records ≡ rs ++ next_cut rs (length seq) ∷ []) (entries : map numbered s.entries.items ≡ enumerate_from 1 seq) (hardened : s.hardened ≡ length seq) where
-    count : length s.entries.items ≡ length seq
-    count = sym (length-map s.entries.items numbered) ∙ ap length entries ∙ length-enumerate 1 seq
+  module _ (s : OpenSite) (records : s.instance.records ≡ rs ++ next_cut rs (length seq) ∷ []) (entries : s.entries ≡ seq) (hardened : s.hardened ≡ length seq) where
+    count : length s.entries ≡ length seq
+    count = ap length entries
 
     -- whatever the disk tells, it has as many entries as some that lead to its nodes
     pub remembers_some : (es : Sequence) → joined s.globals ≡ state es → (length seq ≡ 0 → joined s.globals ≡ globals.empty) → (c : Contents) × (t : List ℕ) × Remembers (opened_as anew t c) (length c.sequence) s
@@ -290,7 +283,6 @@ module _ (anew : Bool) (u v w : View) (rs : List InstanceRecord) (last : ℕ →
           record {
             instance = records ∙ ap (λ (n : ℕ). rs ++ next_cut rs n ∷ []) size;
             count = count ∙ size;
-            numbers = are_numbered s.entries.items seq entries;
             globals = as_long.2;
             hardened = hardened ∙ size;
           },

@@ -44,7 +44,7 @@ use Rattle.site_defs.specs.Stands.{IsSite}
 use Rattle.site_defs.specs.Behind.{IsSiteWith}
 use Rattle.site_store.specs.declared.site.OpenSite.{OpenSite}
 use Rattle.site_store.specs.Needing.{without_behind, NoneNeeds}
-use Rattle.site_store.specs.Site.{AreNumbered, Remembers, AreHeld, IsReady, AreOnBlocks, Keeps, IsOpen}
+use Rattle.site_store.specs.Site.{Remembers, AreHeld, IsReady, AreOnBlocks, Keeps, IsOpen}
 use Rattle.site_store.proofs.Frames as frames
 use Rattle.site_store.proofs.Standing.{reads_of, reads_so, told_of, still}
 use Rattle.site_store.proofs.Begun.{none_waiting}
@@ -55,7 +55,6 @@ use Rattle.site_store.proofs.OnBlocks.{on_same}
 use Rattle.site_store.proofs.Fronted as fronted
 use Rattle.site_store.proofs.Fronted.{has_epoch, one_if}
 use Rattle.site_store.specs.Finding.{HasLayout}
-use Rattle.gvn_model.specs.Numbered.{numbered}
 use Rattle.block_laws.specs.Nodes.{union}
 
 -- what an epoch may change is no instance file, no text and no older journal
@@ -146,18 +145,18 @@ module _ (v : View) (c : Contents) (s : OpenSite) (k : Keeps v c (length c.seque
 -- At each moment of an epoch.
 abbrev pub EpochMoments : View → View → OpenSite → Type 0
 EpochMoments v w s = (u : Records) (seq : Sequence) (g : ℕ) (newer : ℕ → List JournalRecord) → IsKept v u seq g newer s.journals.journals.items s.globals
-    → length seq ≡ length s.entries.items → AtEachMoment v w (OnlyIn v (IsEpochFile (suc g) (length s.journals.journals.items)) (IsStillSound u seq (suc g)))
+    → length seq ≡ length s.entries → AtEachMoment v w (OnlyIn v (IsEpochFile (suc g) (length s.journals.journals.items)) (IsStillSound u seq (suc g)))
 
 -- And behind it.
 abbrev pub EpochTaken : View → View → Bool → OpenSite → OpenSite → Type 0
 EpochTaken v w closing s new = (u : Records) (seq : Sequence) (g : ℕ) (newer : ℕ → List JournalRecord) → IsKept v u seq g newer s.journals.journals.items s.globals
-    → length seq ≡ length s.entries.items → IsTaken w closing u seq g newer new.journals.journals.items new.globals
+    → length seq ≡ length s.entries → IsTaken w closing u seq g newer new.journals.journals.items new.globals
 
 module _ (v w : View) (c : Contents) (s : OpenSite) (k : Keeps v c (length c.sequence) s) (mine : Remembers c (length c.sequence) s) (ready : IsReady v s) (are : AreJoined s.globals) (lawful : IsLawful v) (lawful_after : IsLawful w) where
   few : length s.journals.journals.items ≤ 8
   few = ready.journals.few
 
-  count : length c.sequence ≡ length s.entries.items
+  count : length c.sequence ≡ length s.entries
   count = sym mine.count
 
   abbrev F : ℕ → Type 0
@@ -304,12 +303,11 @@ open_taken v w told closing c s new ready are lawful lawful_after taken stays sa
     record {
       remembered = record {
         instance = ap (λ (i : Instance). i.records) instance ∙ m.instance;
-        count = ap (λ es. length es.items) entries ∙ m.count;
-        numbers = subst (λ es. AreNumbered es.items) (sym entries) m.numbers;
+        count = ap length entries ∙ m.count;
         globals = ap union same.parts ∙ m.globals;
         hardened = hardened ∙ m.hardened;
       };
-      entries = λ known. ap (λ es. map numbered es.items) entries ∙ o.entries known;
+      entries = λ known. entries ∙ o.entries known;
       kept = λ known.
           let k = o.kept known in
           keeps_taken v w c s k m ready are lawful lawful_after closing new (taken k.records c.sequence k.g k.newer (is_kept v c s k m ready are lawful) (sym m.count))
@@ -334,5 +332,5 @@ ready_taken v w s new ready stays together count same instance layout entries =
         files = λ r here. t.files r (omega (arith, here, regions_are));
         held = λ r here. t.held r (omega (arith, here, regions_are));
       });
-      few = subst (λ es. length es.items < 2 ^ 40) (sym entries) ready.few;
+      few = subst (λ es. length es < 2 ^ 40) (sym entries) ready.few;
     }

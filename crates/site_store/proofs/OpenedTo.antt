@@ -1,14 +1,12 @@
 -- A site is open once its next generation was drawn to a target.
 use Rattle.std.proofs.Common.{◌≡◌, inl, inr, ℕ, suc, ◌+◌, ◌<◌, Bool, true, false, List, [], ◌∷◌, ◌++◌, length, map, take, drop, Option, Some, None, IfSome, IsSomeAnd, refl, sym, ◌∙◌, ap, subst, arith}
 use Rattle.std.specs.Prelude.{nat_lt, ◌&&◌, slice_get, if◌then◌else◌}
-use Rattle.std.specs.List.{AllByRecursion, enumerate_from}
+use Rattle.std.specs.List.{AllByRecursion}
 use Rattle.std.specs.Option.{option_map}
-use Rattle.std.proofs.lemmas.List.{length-map}
 use Rattle.std.proofs.lemmas.Option.{slice_get-map}
 use Rattle.std.proofs.Math.Seq.{take-length, drop-length}
 use Rattle.disk_defs.specs.Disk.{Files, View, Image, IsLawful, From}
 use Rattle.global_defs.specs.Entry.{Sequence, state}
-use Rattle.gvn_model.specs.Numbered.{numbered}
 use Rattle.journal_defs.specs.Instance.{InstanceRecord, generation, regions}
 use Rattle.journal_defs.specs.Directory.{patterns}
 use Rattle.journal_defs.specs.Numbers.{database_file}
@@ -37,7 +35,6 @@ use Rattle.site_defs.specs.Stands.{IsSite}
 use Rattle.site_regions.specs.Joined.{joined, region_at}
 use Rattle.site_store.specs.declared.site.OpenSite.{OpenSite}
 use Rattle.site_store.specs.Site.{Remembers, Keeps, IsOpen, AreOnBlocks, AreOnFiles, StandOn, AreSynced}
-use Rattle.site_store.proofs.Remembered.{length-enumerate, are_numbered}
 use Rattle.site_store.proofs.OnBlocks.{IsPlain, anew_or_not, held_same, on_same, on_more, on_chosen}
 use Rattle.site_store.proofs.Drawn.{S, C, cut_at, DrawsTo, newest_is, same_regions, site_read, site_drawn, newest_whole}
 use Rattle.site_store.proofs.Parts.{no_entry_no_part}
@@ -74,7 +71,7 @@ one_image w (Some files) Q some as_read = (files, as_read)
 module _ (anew : Bool) (v w : View) (rs : List InstanceRecord) (last : ℕ → ℕ) (journal : ℕ → List Placed) (seq : Sequence) (form : MayBeOpened rs last) (sequence : IsSequence (record { instance = rs; journal = journal }) seq) (lawful : IsLawful w)
     (reads : (f : Files) → Image v f → AreRead rs last journal f) (c : Contents) (stands : (f : Files) → Image v f → IsSite f c)
     (t : ℕ) (kept : Sequence) (size : length kept ≡ t) (broken : List ℕ) (draws : (f : Files) → Image v f → DrawsTo rs last journal seq form sequence anew f t kept broken)
-    (s : OpenSite) (records : s.instance.records ≡ rs ++ next_cut rs t ∷ []) (entries : map numbered s.entries.items ≡ enumerate_from 1 kept) (hardened : s.hardened ≡ t)
+    (s : OpenSite) (records : s.instance.records ≡ rs ++ next_cut rs t ∷ []) (entries : s.entries ≡ kept) (hardened : s.hardened ≡ t)
     (begun : List Journal) (js_are : s.journals.journals.items ≡ map newly begun) where
   abbrev S0 : Records
   S0 = S rs last journal seq form sequence
@@ -97,11 +94,11 @@ module _ (anew : Bool) (v w : View) (rs : List InstanceRecord) (last : ℕ → �
   stands_so : (f : Files) → Image v f → c ≡ C0 f
   stands_so f image = (site_read rs last journal seq form sequence f c (reads f image) (stands f image)).1
 
-  count : length s.entries.items ≡ length kept
-  count = sym (length-map s.entries.items numbered) ∙ ap length entries ∙ length-enumerate 1 kept
+  count : length s.entries ≡ length kept
+  count = ap length entries
 
   remembers : (f : Files) → joined s.globals ≡ state kept → Remembers (begun_as anew many (cut_at t broken kept (C0 f))) t s
-  remembers f globals = record { instance = records; count = count; numbers = are_numbered s.entries.items kept entries; globals = globals; hardened = hardened }
+  remembers f globals = record { instance = records; count = count; globals = globals; hardened = hardened }
 
   -- a database file is as it was
   database_drawn : (f : Files) (q : Finished f) (r : ℕ) → r < many → f (database_file r) ≡ q.0 (database_file r)

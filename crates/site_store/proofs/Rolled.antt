@@ -1,13 +1,11 @@
 -- A site that was read, whose next generation is drawn with a CUT to the first few entries, and its lost-transaction file.
 use Rattle.std.proofs.Common.{◌≡◌, ◌⊎◌, inl, inr, ℕ, suc, false, ◌+◌, ◌≤◌, ◌<◌, List, [], ◌∷◌, ◌++◌, length, map, take, refl, sym, ◌∙◌, ap, subst, arith}
 use Rattle.std.specs.Prelude.{Some, true, slice_get}
-use Rattle.std.specs.List.{enumerate_from}
 use Rattle.std.proofs.lemmas.List.{length-take-le}
 use Rattle.disk_defs.specs.Disk.{Files, View, Image, IsLawful, From}
 use Rattle.disk_defs.specs.Frames.{Only, SameOutside}
 use Rattle.disk_defs.specs.Gates.{records}
 use Rattle.global_defs.specs.Entry.{Sequence, state}
-use Rattle.gvn_model.specs.Numbered.{numbered}
 use Rattle.instance_file.specs.Instance as instances
 use Rattle.jnl_file.specs.Journal as journals
 use Rattle.jnl_file.specs.Records.{settled}
@@ -84,7 +82,7 @@ module _ (rs : List InstanceRecord) (last : ℕ → ℕ) (journal : ℕ → List
 
   -- the open site: all images stood for c at v, and it was drawn at w
   pub open_cut : (v w : View) → IsLawful w → (reads : (f : Files) → Image v f → AreRead rs last journal f) (c : Contents) (stands : (f : Files) → Image v f → IsSite f c)
-      → (s : OpenSite) → s.instance.records ≡ rs ++ next_cut rs t ∷ [] → map numbered s.entries.items ≡ enumerate_from 1 kept → s.hardened ≡ t
+      → (s : OpenSite) → s.instance.records ≡ rs ++ next_cut rs t ∷ [] → s.entries ≡ kept → s.hardened ≡ t
       → (begun : List Journal) → s.journals.journals.items ≡ map newly begun
       → AreSynced v many → ((f : Files) → Image v f → AreOnBlocks f (S rs last journal seq form sequence) t s.globals) → joined s.globals ≡ state kept
       → ((f : Files) → Image w f → From (Image v) (HasDrawn rs t [] last many) f) → instances.HasRecords w s.instance (rs ++ next_cut rs t ∷ []) → ((r : ℕ) (j : Journal) → slice_get begun r ≡ Some j → journals.HasRecords w j (settled (next_pini rs last r ∷ [])))

@@ -1,12 +1,10 @@
 -- A site is drawn as it stood.
 use Rattle.std.proofs.Common.{◌≡◌, ℕ, suc, ◌≤◌, ◌<◌, Bool, false, List, [], ◌∷◌, ◌++◌, length, map, Option, Some, None, IfSome, sym, ◌∙◌, ap, subst}
 use Rattle.std.specs.Prelude.{◌^◌, slice_get}
-use Rattle.std.specs.List.{enumerate_from}
 use Rattle.disk_defs.specs.Disk.{Files, View, Image, IsLawful, From, AtEachMoment}
 use Rattle.disk_defs.specs.Frames.{OthersStay}
 use Rattle.global_defs.specs.Entry.{Sequence, state}
 use Rattle.site_store.proofs.HeldRegions.{held_drawn}
-use Rattle.gvn_model.specs.Numbered.{numbered}
 use Rattle.instance_file.specs.Instance as instances
 use Rattle.jnl_file.specs.Journal as journals
 use Rattle.jnl_file.specs.Records.{settled}
@@ -28,7 +26,7 @@ use Rattle.site_store.specs.Needing.{NoneIsWithout}
 use Rattle.site_store.specs.Site.{Remembers, AreHeld, IsReady, StandOn, WasOpened, WasOpenedFrom}
 use Rattle.site_store.specs.Standing.{Stood, entries_of, records_of}
 use Rattle.site_store.proofs.Loaded as loaded
-use Rattle.site_store.proofs.Loaded.{length_values, Moments, Lefts, StandsOpen}
+use Rattle.site_store.proofs.Loaded.{Moments, Lefts, StandsOpen}
 use Rattle.site_store.proofs.OpenedTo.{newly}
 
 all_three : (o : Option Files) (A B C : Files → Type 0) → IfSome o A → IfSome o B → IfSome o C → IfSome o (λ f. A f × B f × C f)
@@ -47,7 +45,7 @@ abbrev pub IsShortOf : View → List InstanceRecord → List ℕ → (Files → 
 IsShortOf v rs broken P = IfSome v.content (λ files. length (files (next_broken rs)) ≤ length broken → P files)
 
 module _ (anew : Bool) (u v w : View) (k : StandingSite) (st : Stood anew u v k) (lawful_v : IsLawful v) (lawful_w : IsLawful w) (synced : AtEachMoment u v (Image u)) (same : v.content ≡ u.content)
-    (n : ℕ) (broken lasts : List ℕ) (n_is : n ≡ length k.entries.items) (broken_is : broken ≡ k.broken) (lasts_is : lasts ≡ k.last_began.items) where
+    (n : ℕ) (broken lasts : List ℕ) (n_is : n ≡ length k.entries) (broken_is : broken ≡ k.broken) (lasts_is : lasts ≡ k.last_began.items) where
   abbrev rs : List InstanceRecord
   rs = k.log.records
 
@@ -58,7 +56,7 @@ module _ (anew : Bool) (u v w : View) (k : StandingSite) (st : Stood anew u v k)
   seq = entries_of k
 
   size : n ≡ length seq
-  size = n_is ∙ sym (length_values k.entries.items)
+  size = n_is
 
   abbrev Drawing : ℕ → List ℕ → List ℕ → Type 0
   Drawing m b l = IsShortOf v rs b (λ files. AtEachMoment v w (From (Image v) (MayDrawAs anew rs m b (last_of l))))
@@ -86,18 +84,18 @@ module _ (anew : Bool) (u v w : View) (k : StandingSite) (st : Stood anew u v k)
     pub own : s.instance.records ≡ rs ++ next_cut rs (length seq) ∷ []
     own = subst (λ (m : ℕ). s.instance.records ≡ rs ++ next_cut rs m ∷ []) size records
 
-    pub are : map numbered s.entries.items ≡ enumerate_from 1 seq
-    are = ap (λ es. map numbered es.items) entries ∙ st.are_numbered
+    pub are : s.entries ≡ seq
+    are = entries
 
     pub settled_at : s.hardened ≡ length seq
     settled_at = hardened ∙ size
 
-    count : s.hardened ≡ length s.entries.items
-    count = hardened ∙ n_is ∙ ap (λ es. length es.items) (sym entries)
+    count : s.hardened ≡ length s.entries
+    count = hardened ∙ n_is ∙ ap length (sym entries)
 
     pub opened_here : WasOpened s
-    opened_here = loaded.was_opened rs last st.form s (length seq) own (length_values k.entries.items ∙ ap (λ es. length es.items) (sym entries)) count
-        (subst (λ es. length es.items < 2 ^ 40) (sym entries) st.few) stamp
+    opened_here = loaded.was_opened rs last st.form s (length seq) own (ap length (sym entries)) count
+        (subst (λ es. length es < 2 ^ 40) (sym entries) st.few) stamp
 
     pub found : IfSome u.content (λ files. (x : Records) (other : Sequence) → AreRecords files x → IsSequence x other → WasOpenedFrom x other s)
     found = loaded.opened_from u.content v rs last st.journal seq s st.read st.sequence are own
@@ -113,7 +111,7 @@ module _ (anew : Bool) (u v w : View) (k : StandingSite) (st : Stood anew u v k)
       pub ready : length begun ≡ length (regions rs) → instances.IsReady w s.instance → s.layout ≡ k.layout
           → ((r : ℕ) (j : Journal) → slice_get begun r ≡ Some j → journals.IsReady w j × journals.IsJournalOf j r (suc (generation rs))) → OthersStay (AreNext rs) v w → IsReady w s
       ready number instance layout each stays = loaded.is_ready rs last st.form s (length seq) own w begun number js_are instance (subst (HasLayout (rs ++ next_cut rs (length seq) ∷ [])) (sym layout) (st.layout (length seq))) each
-          (subst (AreHeld w (length (regions rs))) (sym globals) (held_drawn v w rs k.globals st.form.few_regions stays st.regions)) (subst (λ es. length es.items < 2 ^ 40) (sym entries) st.few)
+          (subst (AreHeld w (length (regions rs))) (sym globals) (held_drawn v w rs k.globals st.form.few_regions stays st.regions)) (subst (λ es. length es < 2 ^ 40) (sym entries) st.few)
 
       abbrev Finishing : ℕ → List ℕ → List ℕ → Type 0
       Finishing m b l = IsShortOf v rs b (λ files. (f : Files) → Image w f → From (Image v) (HasDrawnAs anew rs m b (last_of l) (length (regions rs))) f)

@@ -3,6 +3,7 @@ use Rattle.std.specs.Prelude.{◌≡◌, ◌+◌, ◌<◌, ◌≤◌, ℕ, List,
 use Rattle.global_defs.specs.Entry.{Update, Transaction, apply}
 use Rattle.gvn_model.specs.declared.entry.Entry as code_entry
 use Rattle.gvn_model.specs.declared.entry.Transaction as code_transaction
+use Rattle.gvn_model.specs.Entries.{entry_value}
 use Rattle.disk_defs.specs.Disk.{View}
 use Rattle.journal_defs.specs.Journal.{JournalRecord, Part}
 use Rattle.journal_defs.specs.Instance.{generation, regions}
@@ -16,7 +17,7 @@ use Rattle.site_store.specs.declared.site.OpenSite.{OpenSite}
 
 -- the next entry of a site: this transaction under the reign that was begun
 pub record IsNextEntry (s : OpenSite) (t : code_transaction.Transaction) (e : code_entry.Entry) : Type 0 where
-  pub number : e.number ≡ length s.entries.items + 1
+  pub number : e.number ≡ length s.entries + 1
   pub stamp : s.stamp ≡ Some e.stamp
   pub transaction : e.transaction ≡ t
 
@@ -24,7 +25,7 @@ pub record IsNextEntry (s : OpenSite) (t : code_transaction.Transaction) (e : co
 pub record Enters (old new : OpenSite) (t : code_transaction.Transaction) : Type 0 where
   pub entry : code_entry.Entry
   pub next : IsNextEntry old t entry
-  pub entries : new.entries.items ≡ old.entries.items ++ entry ∷ []
+  pub entries : new.entries ≡ old.entries ++ entry_value entry ∷ []
   pub globals : joined new.globals ≡ fold apply (joined old.globals) t.updates
   pub changed : AreChanged old.globals new.globals
 
@@ -38,7 +39,7 @@ pub record IsSameSite (old new : OpenSite) : Type 0 where
 -- and when none comes
 pub record IsSameMemory (old new : OpenSite) : Type 0 where
   pub same : IsSameSite old new
-  pub entries : new.entries.items ≡ old.entries.items
+  pub entries : new.entries ≡ old.entries
   pub globals : joined new.globals ≡ joined old.globals
   -- though there may be more room
   pub changed : AreChanged old.globals new.globals
@@ -53,7 +54,7 @@ region_by s = region_of_update s.layout.directory.patterns
 
 -- the parts of a transaction as the next entry of a site
 abbrev pub parts_of : OpenSite → Transaction → ℕ → Option Part
-parts_of s t = split (region_by s) (length s.entries.items + 1) (mask_of (region_by s) t.updates) t
+parts_of s t = split (region_by s) (length s.entries + 1) (mask_of (region_by s) t.updates) t
 
 -- These are the records of those parts, each in its region.
 pub record ArePartsOf (s : OpenSite) (t : Transaction) (parts : PartRecords) : Type 0 where

@@ -17,7 +17,7 @@ HasStopped fault s = s.fault ≡ Some fault
 
 -- its history: how many entries there are, and the reigns that no later CUT dropped
 pub record HasHistory (s : OpenSite) (h : History) : Type 0 where
-  pub count : h.length ≡ length s.entries.items
+  pub count : h.length ≡ length s.entries
   pub surviving : h.reigns ≡ reigns s.instance.records
 
 -- No call failed, its files are open for calls, and its history is at hand.

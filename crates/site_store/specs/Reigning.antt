@@ -20,4 +20,4 @@ pub record HasReignLeft (s : OpenSite) : Type 0 where
 pub record IsNextReign (s : OpenSite) (r : Reign) : Type 0 where
   pub root : r.stamp.root ≡ site_name s.instance.records
   pub cycle : r.stamp.cycle ≡ greatest_cycle s.instance.records + 1
-  pub start : r.start ≡ length s.entries.items + 1
+  pub start : r.start ≡ length s.entries + 1

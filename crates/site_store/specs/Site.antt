@@ -1,6 +1,6 @@
 -- An open site beside its disk.
 use Rattle.std.specs.Prelude.{◌≡◌, ◌≢◌, ◌⊎◌, ◌≤◌, ◌<◌, ◌+◌, ◌^◌, ◌++◌, ℕ, suc, Bool, true, false, List, [], ◌∷◌, length, take, drop, map, fold, Option, Some, None, IsTrue, IfSome, IsSomeAnd}
-use Rattle.std.specs.List.{AllByRecursion, enumerate_from}
+use Rattle.std.specs.List.{AllByRecursion}
 use Rattle.std.specs.FinMap as globals
 use Rattle.disk_defs.specs.Disk.{Files, View, Image}
 use Rattle.global_defs.specs.Entry as defs
@@ -8,9 +8,6 @@ use Rattle.global_defs.specs.Entry.{Sequence, state}
 use Rattle.global_defs.specs.Prefix.{stamp_at}
 use Rattle.global_defs.specs.Fields.{IsSiteName}
 use Rattle.gvn_model.specs.declared.reign.Stamp.{Stamp}
-use Rattle.gvn_model.specs.Numbered.{numbered}
-use Rattle.gvn_model.specs.Entries.{entry_value}
-use Rattle.gvn_model.specs.declared.entry.Entry.{Entry}
 use Rattle.gvn_model.specs.Reigns.{stamp_value}
 use Rattle.global_defs.specs.Evaluation.{MOST_NODES}
 use Rattle.journal_defs.specs.Journal.{JournalRecord, Part, BeginsWithPini}
@@ -37,16 +34,11 @@ use Rattle.site_defs.specs.Behind.{parts_of_each}
 use Rattle.site_store.specs.Finding.{HasLayout}
 use Rattle.site_store.specs.declared.site.OpenSite.{OpenSite}
 
--- entries numbered from 1 on
-abbrev pub AreNumbered : List Entry → Type 0
-AreNumbered es = map numbered es ≡ enumerate_from 1 (map entry_value es)
-
 -- What a site has in memory, whatever its disk tells: the records of its instance file, as many entries as these, and the globals that these
 -- lead to. How many are hardened is known too.
 pub record Remembers (c : Contents) (h : ℕ) (s : OpenSite) : Type 0 where
   pub instance : s.instance.records ≡ c.instance
-  pub count : length s.entries.items ≡ length c.sequence
-  pub numbers : AreNumbered s.entries.items
+  pub count : length s.entries ≡ length c.sequence
   pub globals : joined s.globals ≡ state c.sequence
   pub hardened : s.hardened ≡ h
 
@@ -63,7 +55,7 @@ pub record IsReady (v : View) (s : OpenSite) : Type 0 where
   pub journals : AreReady v (generation s.instance.records) s.journals.journals.items
   pub each_region : length s.journals.journals.items ≡ length (regions s.instance.records)
   pub regions : AreHeld v (length (regions s.instance.records)) s.globals
-  pub few : length s.entries.items < 2 ^ 40
+  pub few : length s.entries < 2 ^ 40
 
 -- The records of a site whose newest generation g + 1 has begun in each region: the journals of that generation alone may grow.
 pub record AreNewest (c : Contents) (s : Records) (g : ℕ) (last : ℕ → ℕ) (older : ℕ → List Placed) (newer : ℕ → List JournalRecord) : Type 0 where
@@ -132,23 +124,22 @@ pub record Keeps (v : View) (c : Contents) (hardened : ℕ) (s : OpenSite) : Typ
 -- The site is open: it has these contents in memory, of which so many entries are hardened, and where its files are known, on the disk.
 pub record IsOpen (v : View) (told : Bool) (c : Contents) (hardened : ℕ) (s : OpenSite) : Type 0 where
   pub remembered : Remembers c hardened s
-  -- the entries in memory, numbered from 1 on
-  pub entries : IsTrue told → map numbered s.entries.items ≡ enumerate_from 1 c.sequence
+  pub entries : IsTrue told → s.entries ≡ c.sequence
   pub kept : IsTrue told → Keeps v c hardened s
 
 -- The site was opened, and nothing was done since: it has a name, all entries are hardened, and no reign has begun past them.
 pub record WasOpened (s : OpenSite) : Type 0 where
   pub created : 0 < length s.instance.records
   pub name : IsSiteName (site_name s.instance.records)
-  pub hardened : s.hardened ≡ length s.entries.items
-  pub few : length s.entries.items < 2 ^ 40
-  pub no_reign_past : AllByRecursion (λ (r : defs.Reign). r.start ≤ length s.entries.items) (reigns s.instance.records)
+  pub hardened : s.hardened ≡ length s.entries
+  pub few : length s.entries < 2 ^ 40
+  pub no_reign_past : AllByRecursion (λ (r : defs.Reign). r.start ≤ length s.entries) (reigns s.instance.records)
   pub no_reign : s.stamp ≡ None
 
 -- It was opened from these records, which stand for this sequence: its entries are the sequence, and its instance file's records are
 -- theirs and the CUT at its length.
 pub record WasOpenedFrom (u : Records) (seq : Sequence) (s : OpenSite) : Type 0 where
-  pub entries : map numbered s.entries.items ≡ enumerate_from 1 seq
+  pub entries : s.entries ≡ seq
   pub instance : s.instance.records ≡ u.instance ++ Cut (length seq) (generation u.instance + 1) ∷ []
 
 -- a reign was begun
@@ -156,7 +147,7 @@ pub record HasReign (s : OpenSite) : Type 0 where
   pub stamp : Stamp
   pub is : s.stamp ≡ Some stamp
   -- it covers the entries to come
-  pub covers : (n : ℕ) → length s.entries.items < n → stamp_at n (reigns s.instance.records) ≡ Some (stamp_value stamp)
+  pub covers : (n : ℕ) → length s.entries < n → stamp_at n (reigns s.instance.records) ≡ Some (stamp_value stamp)
 
 -- with the entry of this transaction, under a stamp
 abbrev pub with_entry : Option Stamp → defs.Transaction → Contents → Contents

@@ -1,11 +1,8 @@
 -- A site as it stood on a disk.
 use Rattle.std.specs.Prelude.{◌≡◌, ◌<◌, ◌^◌, ◌++◌, ℕ, Bool, false, List, [], ◌∷◌, length, map, take, IfSome}
-use Rattle.std.specs.List.{enumerate_from}
 use Rattle.std.specs.FinMap as globals
 use Rattle.disk_defs.specs.Disk.{View}
 use Rattle.global_defs.specs.Entry.{Sequence, state}
-use Rattle.gvn_model.specs.Entries.{entry_value}
-use Rattle.gvn_model.specs.Numbered.{numbered}
 use Rattle.journal_defs.specs.Broken.{broken, broken_text}
 use Rattle.journal_defs.specs.Instance.{generation, regions, site_name}
 use Rattle.journal_defs.specs.Sequence.{Placed, Records, IsSequence}
@@ -22,7 +19,7 @@ use Rattle.site_store.specs.Needing.{NoneIsWithout}
 use Rattle.site_store.specs.Site.{AreHeld, StandOn}
 
 abbrev pub entries_of : StandingSite → Sequence
-entries_of k = map entry_value k.entries.items
+entries_of k = k.entries
 
 -- the records that its files hold, with those of its journals by region
 abbrev pub records_of : StandingSite → (ℕ → List Placed) → Records
@@ -33,7 +30,7 @@ abbrev pub found_records : FoundFiles → Records
 found_records f = site_records f.read.log.records (map (λ j. j.items) f.read.journals.items)
 
 abbrev pub found_entries : FoundFiles → Sequence
-found_entries f = map entry_value f.entries.items
+found_entries f = f.entries
 
 -- What was found of a site, whatever its disk tells: records of which a generation is left, the sequence that they stand for, and what is broken behind it.
 pub record HasFound (f : FoundFiles) : Type 0 where
@@ -43,8 +40,7 @@ pub record HasFound (f : FoundFiles) : Type 0 where
   pub directory : f.read.directory ≡ mapping_of f.read.log.records
   pub forms : AreAllRead (map (λ j. j.items) f.read.journals.items)
   pub sequence : IsSequence (found_records f) (found_entries f)
-  pub are_numbered : map numbered f.entries.items ≡ enumerate_from 1 (found_entries f)
-  pub few : length f.entries.items < 2 ^ 40
+  pub few : length f.entries < 2 ^ 40
   pub broken_is : f.broken ≡ broken_text (site_name f.read.log.records) (length (found_entries f)) (broken (found_records f) (length (found_entries f)))
 
 -- Its files were read at a moment, and are on the disk for good since.
@@ -83,8 +79,7 @@ pub record Stood (anew : Bool) (u v : View) (k : StandingSite) : Type 0 where
   pub low : generation k.log.records < 65534
   pub layout : (n : ℕ) → HasLayout (k.log.records ++ next_cut k.log.records n ∷ []) k.layout
   pub sequence : IsSequence (records_of k journal) (entries_of k)
-  pub are_numbered : map numbered k.entries.items ≡ enumerate_from 1 (entries_of k)
-  pub few : length k.entries.items < 2 ^ 40
+  pub few : length k.entries < 2 ^ 40
   pub broken_is : k.broken ≡ broken_text (site_name k.log.records) (length (entries_of k)) (broken (records_of k journal) (length (entries_of k)))
   pub read : IfSome u.content (WasRead v k.log.records (last_of k.last_began.items) journal)
   pub texts : IfSome u.content (AreTextsDurable v (generation k.log.records))

@@ -38,7 +38,7 @@ impl OpenSite {
     ) -> Result<PartRecords, NoMemory>
         requires ready { IsReady (D.disk disk.old) self.old }
         requires form { IsTransaction (transaction_value t) }
-        requires room { length self.old.entries.items + 1 < 2 ^ 40 }
+        requires room { length self.old.entries + 1 < 2 ^ 40 }
         ensures ready { IsReady (D.disk disk.new) self.new }
         ensures enters { OnOk result (Enters self.old self.new t) }
         ensures parts { IfOk result (ArePartsOf self.old (transaction_value t)) }
@@ -79,15 +79,15 @@ impl OpenSite {
         ensures ready { OnOk result (IsReady (D.disk disk.new) self.new) }
         ensures done { OnOk result ((told : Bool) (c : Contents) (h : ℕ) → IsOpen (D.disk disk.old) told c h self.old → IsOpen (D.disk disk.new) told (with_entry self.old.stamp (transaction_value t) c) h self.new) }
         ensures appended { OnOk result (Appends (D.disk disk.old) (D.disk disk.new) self.old self.new (transaction_value t)) }
-        ensures number { IfOk result (λ n. n ≡ length self.old.entries.items + 1) }
-        ensures grown { OnOk result (length self.new.entries.items ≡ length self.old.entries.items + 1) }
+        ensures number { IfOk result (λ n. n ≡ length self.old.entries + 1) }
+        ensures grown { OnOk result (length self.new.entries ≡ length self.old.entries + 1) }
         ensures instance { self.new.instance ≡ self.old.instance }
         ensures stamp { self.new.stamp ≡ self.old.stamp }
         ensures reign { OnOk result (HasReign self.new) }
-        ensures room { OnOk result (length self.old.entries.items + 1 < 2 ^ 40) }
+        ensures room { OnOk result (length self.old.entries + 1 < 2 ^ 40) }
         ensures fits { OnOk result (HasRoomFor (joined self.old.globals) t.updates) }
         ensures full { (nodes : ℕ) → IsErrOf result (SiteError.Full nodes) → HasRoomFor (joined self.old.globals) t.updates → ⊥ }
-        ensures last { IsErrOf result SiteError.SeqLimit → 2 ^ 40 ≤ length self.old.entries.items + 1 }
+        ensures last { IsErrOf result SiteError.SeqLimit → 2 ^ 40 ≤ length self.old.entries + 1 }
         ensures kept { ((nodes : ℕ) × IsErrOf result (SiteError.Full nodes)) ⊎ IsErrOf result SiteError.SeqLimit → (disk.new ≡ disk.old) × (self.new ≡ self.old) }
         ensures unmade { IsErrOf result SiteError.NoMemory → IsSameMemory self.old self.new }
         ensures goes_on { IsErrOf result SiteError.NoMemory → IsReady (D.disk disk.new) self.new }
@@ -103,13 +103,13 @@ impl OpenSite {
         ensures no_stop { (fault : ℕ) → IsErrOf result (SiteError.Stopped fault) → ⊥ }
         ensures no_other { IsErrOf result SiteError.GenLimit ⊎ IsErrOf result SiteError.ReignLimit ⊎ ((region : ℕ) × IsErrOf result (SiteError.NeedForward region)) ⊎ ((file : ℕ) × (offset : ℕ) × IsErrOf result (SiteError.NotAFile file offset)) → ⊥ }
     {
-        if LAST_NUMBER <= self.entries.len() as u64 {
+        if LAST_NUMBER <= self.entries.len() {
             return Err(SiteError::SeqLimit);
         }
         check_room(alloc, &self.globals, &t.updates)?;
         let parts = self.prepare(alloc, disk, t)?;
         match self.journals.append(disk, &parts) {
-            Ok(()) => Ok(self.entries.len() as u64),
+            Ok(()) => Ok(self.entries.len()),
             Err(_) => Err(SiteError::Failed {
                 fault: disk.faults(),
             }),
@@ -135,15 +135,15 @@ impl OpenSite {
         ensures ready { OnOk result (IsReady (D.disk disk.new) self.new) }
         ensures done { OnOk result ((told : Bool) (c : Contents) (h : ℕ) → IsOpen (D.disk disk.old) told c h self.old → IsOpen (D.disk disk.new) told (with_entry self.old.stamp (transaction_value t.now) c) h self.new) }
         ensures appended { OnOk result (Appends (D.disk disk.old) (D.disk disk.new) self.old self.new (transaction_value t.now)) }
-        ensures number { IfOk result (λ n. n ≡ length self.old.entries.items + 1) }
-        ensures grown { OnOk result (length self.new.entries.items ≡ length self.old.entries.items + 1) }
+        ensures number { IfOk result (λ n. n ≡ length self.old.entries + 1) }
+        ensures grown { OnOk result (length self.new.entries ≡ length self.old.entries + 1) }
         ensures instance { self.new.instance ≡ self.old.instance }
         ensures stamp { self.new.stamp ≡ self.old.stamp }
         ensures reign { OnOk result (HasReign self.new) }
-        ensures room { OnOk result (length self.old.entries.items + 1 < 2 ^ 40) }
+        ensures room { OnOk result (length self.old.entries + 1 < 2 ^ 40) }
         ensures fits { OnOk result (HasRoomFor (joined self.old.globals) t.now.updates) }
         ensures full { (nodes : ℕ) → IsErrOf result (SiteError.Full nodes) → HasRoomFor (joined self.old.globals) t.now.updates → ⊥ }
-        ensures last { IsErrOf result SiteError.SeqLimit → 2 ^ 40 ≤ length self.old.entries.items + 1 }
+        ensures last { IsErrOf result SiteError.SeqLimit → 2 ^ 40 ≤ length self.old.entries + 1 }
         ensures kept { ((nodes : ℕ) × IsErrOf result (SiteError.Full nodes)) ⊎ IsErrOf result SiteError.SeqLimit → (disk.new ≡ disk.old) × (self.new ≡ self.old) }
         ensures unmade { IsErrOf result SiteError.NoMemory → IsSameMemory self.old self.new }
         ensures goes_on { IsErrOf result SiteError.NoMemory → IsReady (D.disk disk.new) self.new }
@@ -171,10 +171,10 @@ impl OpenSite {
         requires ready { IsReady (D.disk disk.old) self.old }
         ensures ready { OnOk result (IsReady (D.disk disk.new) self.new) }
         ensures done { OnOk result ((told : Bool) (c : Contents) (h : ℕ) → IsOpen (D.disk disk.old) told c h self.old → IsOpen (D.disk disk.new) told c (length c.sequence) self.new) }
-        ensures length { IfOk result (λ n. n ≡ length self.old.entries.items) }
-        ensures entries { self.new.entries.items ≡ self.old.entries.items }
+        ensures length { IfOk result (λ n. n ≡ length self.old.entries) }
+        ensures entries { self.new.entries ≡ self.old.entries }
         ensures instance { self.new.instance ≡ self.old.instance }
-        ensures all { OnOk result (self.new.hardened ≡ length self.new.entries.items) }
+        ensures all { OnOk result (self.new.hardened ≡ length self.new.entries) }
         ensures stamp { self.new.stamp ≡ self.old.stamp }
         ensures reign { HasReign self.old → HasReign self.new }
         ensures any_moment { (c : Contents) (h : ℕ) → IsOpen (D.disk disk.old) true c h self.old → AtEachMoment (D.disk disk.old) (D.disk disk.new) (λ f. (o : Contents) × IsFrontOf c.sequence h c o × IsSite f o) }
@@ -191,7 +191,7 @@ impl OpenSite {
     {
         match self.journals.harden(disk) {
             Ok(()) => {
-                self.hardened = self.entries.len() as u64;
+                self.hardened = self.entries.len();
                 Ok(self.hardened)
             }
             Err(_) => Err(SiteError::Failed {

@@ -46,7 +46,7 @@ impl OpenSite {
         ensures done { OnOk result ((told : Bool) (c : Contents) → IsOpen (D.disk disk.old) told c (length c.sequence) self.old → IsOpen (D.disk disk.new) told (marked c) (length c.sequence) self.new) }
         // no record stands behind it in any region's journal
         ensures none_needs { OnOk result ((c : Contents) → IsOpen (D.disk disk.old) true c (length c.sequence) self.old → (f : Files) → Image (D.disk disk.new) f → NoneNeeds (length c.sequence) f) }
-        ensures entries { self.new.entries.items ≡ self.old.entries.items }
+        ensures entries { self.new.entries ≡ self.old.entries }
         ensures instance { self.new.instance ≡ self.old.instance }
         ensures hardened { self.new.hardened ≡ self.old.hardened }
         ensures stamp { self.new.stamp ≡ self.old.stamp }
@@ -62,7 +62,7 @@ impl OpenSite {
         ensures causes { OnErr result (((fault : ℕ) × IsErrOf result (SiteError.Failed fault)) ⊎ IsErrOf result SiteError.NoMemory) }
     {
         let _ = self.globals.count();
-        let number = self.entries.len() as u64;
+        let number = self.entries.len();
         let taken = take_epoch(
             alloc,
             disk,

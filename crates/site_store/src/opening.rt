@@ -89,7 +89,7 @@ fn open_as<D: Disk>(alloc: Global, disk: &mut D, anew: bool) -> Result<OpenSite,
         globals,
         broken,
     } = standing;
-    let length = entries.len() as u64;
+    let length = entries.len();
     let text = broken.as_slice();
     let drawn = draw(alloc, disk, log, length, text, &last_began, anew)?;
     Ok(OpenSite {

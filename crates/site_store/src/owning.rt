@@ -12,7 +12,7 @@ ghost use Rattle.global_defs.specs.Evaluation as evaluation;
 ghost use Rattle.global_defs.specs.Extract.{entry_text};
 ghost use Rattle.global_defs.specs.Fields.{IsTransaction};
 ghost use Rattle.gvn_key.specs.Faults.{child_of};
-ghost use Rattle.gvn_model.specs.Entries.{entry_value, transaction_value};
+ghost use Rattle.gvn_model.specs.Entries.{transaction_value};
 ghost use Rattle.gvn_model.specs.Reigns.{stamp_value, reign_value};
 ghost use Rattle.journal_defs.specs.Numbers.{INSTANCE};
 ghost use Rattle.journal_defs.specs.Instance as instances;
@@ -178,7 +178,7 @@ impl<D: Disk> Site<D> {
 
     /// The next reign, with all the memory that beginning it takes.
     fn next_reign(&self) -> Result<NextReign, SiteError>
-        requires few { length self.now.inner.entries.items < 2 ^ 40 }
+        requires few { length self.now.inner.entries < 2 ^ 40 }
         ensures next { IfOk result (λ n. IsNextReign self.now.inner (reign_value n.reign)) }
         ensures stamp { IfOk result (λ n. stamp_value n.stamp ≡ (reign_value n.reign).stamp) }
         ensures kept { IfOk result (λ n. n.kept ≡ n.stamp) }
@@ -216,7 +216,7 @@ impl<D: Disk> Site<D> {
         ensures stamp { IfOk result (λ stamp. (c : Contents) → c.instance ≡ self.old.inner.instance.records → stamp_value stamp ≡ next_stamp (site_name c.instance) c) }
         ensures remembered { IfOk result (λ stamp. self.new.inner.stamp ≡ Some stamp) }
         ensures reign { OnOk result (HasReign self.new.inner) }
-        ensures entries { self.new.inner.entries.items ≡ self.old.inner.entries.items }
+        ensures entries { self.new.inner.entries ≡ self.old.inner.entries }
         ensures room { OnOk result ((c : Contents) (h : ℕ) → Remembers c h self.old.inner → no_reign_left c ≡ false) }
         ensures limit { IsErrOf result SiteError.ReignLimit → (c : Contents) (h : ℕ) → Remembers c h self.old.inner → no_reign_left c ≡ true }
         ensures kept { IsErrOf result SiteError.ReignLimit → self.new ≡ self.old }
@@ -273,13 +273,13 @@ impl<D: Disk> Site<D> {
         ensures ready { OnOk result (IsGoing D.disk self.new) }
         ensures done { OnOk result ((told : Bool) (c : Contents) (h : ℕ) → IsOpenSite D.disk told c h self.old → IsOpenSite D.disk told (with_entry self.old.inner.stamp (transaction_value t.now) c) h self.new) }
         ensures appended { OnOk result (Appends (D.disk self.old.disk) (D.disk self.new.disk) self.old.inner self.new.inner (transaction_value t.now)) }
-        ensures number { IfOk result (λ n. n ≡ length self.old.inner.entries.items + 1) }
+        ensures number { IfOk result (λ n. n ≡ length self.old.inner.entries + 1) }
         ensures stamp { self.new.inner.stamp ≡ self.old.inner.stamp }
         ensures reign { OnOk result (HasReign self.new.inner) }
-        ensures room { OnOk result (length self.old.inner.entries.items + 1 < 2 ^ 40) }
+        ensures room { OnOk result (length self.old.inner.entries + 1 < 2 ^ 40) }
         ensures fits { OnOk result (HasRoomFor (joined self.old.inner.globals) t.now.updates) }
         ensures full { (nodes : ℕ) → IsErrOf result (SiteError.Full nodes) → HasRoomFor (joined self.old.inner.globals) t.now.updates → ⊥ }
-        ensures last { IsErrOf result SiteError.SeqLimit → 2 ^ 40 ≤ length self.old.inner.entries.items + 1 }
+        ensures last { IsErrOf result SiteError.SeqLimit → 2 ^ 40 ≤ length self.old.inner.entries + 1 }
         ensures kept { ((nodes : ℕ) × IsErrOf result (SiteError.Full nodes)) ⊎ IsErrOf result SiteError.SeqLimit → self.new ≡ self.old }
         ensures unmade { IsErrOf result SiteError.NoMemory → IsSameMemory self.old.inner self.new.inner }
         ensures goes_on { IsErrOf result SiteError.NoMemory → IsGoing D.disk self.new }
@@ -323,11 +323,11 @@ impl<D: Disk> Site<D> {
         requires ready { MayBeCalled D.disk self.old }
         ensures ready { OnOk result (IsGoing D.disk self.new) }
         ensures done { OnOk result ((told : Bool) (c : Contents) (h : ℕ) → IsOpenSite D.disk told c h self.old → IsOpenSite D.disk told c (length c.sequence) self.new) }
-        ensures length { IfOk result (λ n. n ≡ length self.old.inner.entries.items) }
+        ensures length { IfOk result (λ n. n ≡ length self.old.inner.entries) }
         ensures stamp { self.new.inner.stamp ≡ self.old.inner.stamp }
-        ensures entries { self.new.inner.entries.items ≡ self.old.inner.entries.items }
+        ensures entries { self.new.inner.entries ≡ self.old.inner.entries }
         ensures reign { HasReign self.old.inner → HasReign self.new.inner }
-        ensures idle { self.old.fault ≡ None → self.old.inner.hardened ≡ length self.old.inner.entries.items → IsOk result × (self.new ≡ self.old) }
+        ensures idle { self.old.fault ≡ None → self.old.inner.hardened ≡ length self.old.inner.entries → IsOk result × (self.new ≡ self.old) }
         ensures any_moment { (c : Contents) (h : ℕ) → IsOpenSite D.disk true c h self.old → AtEachMoment (D.disk self.old.disk) (D.disk self.new.disk) (λ f. (o : Contents) × IsFrontOf c.sequence h c o × IsSite f o) }
         ensures stands { (c : Contents) (h : ℕ) → IsOpenSite D.disk true c h self.old → IfSome (D.disk self.new.disk).content (λ f. (o : Contents) × IsFrontOf c.sequence h c o × IsSite f o) }
         ensures still_told { IsSome (D.disk self.old.disk).content → IsSome (D.disk self.new.disk).content }
@@ -344,7 +344,7 @@ impl<D: Disk> Site<D> {
         if let Some(fault) = self.fault {
             return Err(SiteError::Stopped { fault });
         }
-        if self.inner.hardened == self.inner.entries.len() as u64 {
+        if self.inner.hardened == self.inner.entries.len() {
             return Ok(self.inner.hardened);
         }
         match self.inner.harden(&mut self.disk) {
@@ -363,7 +363,7 @@ impl<D: Disk> Site<D> {
         ensures done { OnOk result ((told : Bool) (c : Contents) → IsOpenSite D.disk told c (length c.sequence) self.old → IsOpenSite D.disk told (marked c) (length c.sequence) self.new) }
         ensures none_needs { OnOk result ((c : Contents) → IsOpenSite D.disk true c (length c.sequence) self.old → (f : Files) → Image (D.disk self.new.disk) f → NoneNeeds (length c.sequence) f) }
         ensures stamp { self.new.inner.stamp ≡ self.old.inner.stamp }
-        ensures entries { self.new.inner.entries.items ≡ self.old.inner.entries.items }
+        ensures entries { self.new.inner.entries ≡ self.old.inner.entries }
         ensures reign { HasReign self.old.inner → HasReign self.new.inner }
         ensures any_moment { (c : Contents) → IsOpenSite D.disk true c (length c.sequence) self.old → AtEachMoment (D.disk self.old.disk) (D.disk self.new.disk) (λ f. (o : Contents) × MayMark c o × IsSite f o) }
         ensures still_told { IsSome (D.disk self.old.disk).content → IsSome (D.disk self.new.disk).content }
@@ -391,7 +391,7 @@ impl<D: Disk> Site<D> {
         ensures done { OnOk result ((told : Bool) (c : Contents) (h : ℕ) → IsOpenSite D.disk told c h self.old → IsOpenSite D.disk told (marked c) (length c.sequence) self.new) }
         ensures none_needs { OnOk result ((c : Contents) (h : ℕ) → IsOpenSite D.disk true c h self.old → (f : Files) → Image (D.disk self.new.disk) f → NoneNeeds (length c.sequence) f) }
         ensures stamp { self.new.inner.stamp ≡ self.old.inner.stamp }
-        ensures entries { self.new.inner.entries.items ≡ self.old.inner.entries.items }
+        ensures entries { self.new.inner.entries ≡ self.old.inner.entries }
         ensures reign { HasReign self.old.inner → HasReign self.new.inner }
         ensures any_moment { (c : Contents) (h : ℕ) → IsOpenSite D.disk true c h self.old → AtEachMoment (D.disk self.old.disk) (D.disk self.new.disk) (λ f. (o : Contents) × MayFinish c h o × IsSite f o) }
         ensures stands { (c : Contents) (h : ℕ) → IsOpenSite D.disk true c h self.old → IfSome (D.disk self.new.disk).content (λ f. (o : Contents) × MayFinish c h o × IsSite f o) }
@@ -424,7 +424,7 @@ impl<D: Disk> Site<D> {
         // no record stands behind it in any region's journal
         ensures none_needs { OnOk result ((c : Contents) (h : ℕ) → IsOpenSite D.disk true c h self.old → (f : Files) → Image (D.disk self.new.disk) f → NoneNeeds (length c.sequence) f) }
         ensures stamp { self.new.inner.stamp ≡ self.old.inner.stamp }
-        ensures entries { self.new.inner.entries.items ≡ self.old.inner.entries.items }
+        ensures entries { self.new.inner.entries ≡ self.old.inner.entries }
         ensures reign { HasReign self.old.inner → HasReign self.new.inner }
         ensures any_moment { (c : Contents) (h : ℕ) → IsOpenSite D.disk true c h self.old → AtEachMoment (D.disk self.old.disk) (D.disk self.new.disk) (λ f. (o : Contents) × MayFinish c h o × IsSite f o) }
         ensures stands { (c : Contents) (h : ℕ) → IsOpenSite D.disk true c h self.old → IfSome (D.disk self.new.disk).content (λ f. (o : Contents) × MayFinish c h o × IsSite f o) }
@@ -478,7 +478,7 @@ impl<D: Disk> Site<D> {
 
     /// How many entries there are.
     pub fn sequence_length(&self) -> u64
-        ensures { result ≡ length self.now.inner.entries.items }
+        ensures { result ≡ length self.now.inner.entries }
     {
         self.inner.sequence_length()
     }
@@ -544,9 +544,9 @@ impl<D: Disk> Site<D> {
     /// `Stopped` exactly where a call before failed. `NoMemory`. After both nothing is added.
     pub fn extract(&mut self, number: u64, out: &mut Bytes) -> Result<(), SiteError>
         requires { 1 ≤ number }
-        ensures entry { OnOk result (IfSome (slice_get self.old.inner.entries.items (number - 1)) (λ e. out.new ≡ out.old ++ entry_text e.number (entry_value e))) }
+        ensures entry { OnOk result (IfSome (slice_get self.old.inner.entries (number - 1)) (λ e. out.new ≡ out.old ++ entry_text number e)) }
         ensures opened { OnOk result ((c : Contents) (h : ℕ) → IsOpenSite D.disk true c h self.old → IfSome (slice_get c.sequence (number - 1)) (λ e. out.new ≡ out.old ++ entry_text number e)) }
-        ensures no_entry { slice_get self.old.inner.entries.items (number - 1) ≡ None → out.new ≡ out.old }
+        ensures no_entry { slice_get self.old.inner.entries (number - 1) ≡ None → out.new ≡ out.old }
         ensures without { OnErr result (out.new ≡ out.old) }
         ensures kept { self.new ≡ self.old }
         ensures causes { OnErr result (((fault : ℕ) × IsErrOf result (SiteError.Stopped fault)) ⊎ IsErrOf result SiteError.NoMemory) }

@@ -20,9 +20,9 @@ use crate::error::SiteError;
 use crate::layout::{Layout, region_specs};
 use crate::needing::first_needing;
 use crate::syncing::{sync_databases, sync_texts};
+use entry_log::EntryLog;
 use global_dir::Directory;
 use gvn_key::{Bytes, NoMemory};
-use gvn_model::Entry;
 use instance_file::{InstanceLog, InstanceRecord};
 use region_opening::{open_regions, rebuild_regions};
 use repl_disk::Disk;
@@ -36,7 +36,7 @@ pub struct FoundFiles {
     /// The records of its instance file and of its journals.
     pub read: ReadSite,
     /// All entries, by their numbers from 1 on.
-    pub entries: Vec<Entry>,
+    pub entries: EntryLog,
     /// The text of the broken transactions behind the entries.
     pub broken: Bytes,
 }
@@ -51,7 +51,7 @@ pub struct StandingSite {
     /// The last generation that began in each region, or 0.
     pub last_began: Vec<u32>,
     /// All entries, by their numbers from 1 on.
-    pub entries: Vec<Entry>,
+    pub entries: EntryLog,
     /// Its regions on their blocks.
     pub globals: Regions,
     /// The text of the broken transactions behind the entries.
@@ -104,7 +104,7 @@ pub fn find_files<D: Disk>(alloc: Global, disk: &mut D) -> Result<FoundFiles, Si
     let Remembered { entries, broken } = remembered;
     Ok(FoundFiles {
         read,
-        entries,
+        entries: EntryLog::of(entries),
         broken,
     })
 }
@@ -149,11 +149,11 @@ pub fn stand<D: Disk>(
     found: FoundFiles,
     target: u64,
 ) -> Result<StandingSite, SiteError>
-    requires target { target ≤ length found.entries.items }
+    requires target { target ≤ length found.entries }
     requires has { HasFound found }
     ensures found_as { IfOk result (IsFoundAs found) }
     ensures opened { IfOk result (λ k. IsOpenFor (D.disk disk.old) (D.disk disk.new) found target k.globals) }
-    ensures place { (file offset : ℕ) → IsErrOf result (SiteError.NotAFile file offset) → (aim : ℕ → ℕ) → aim (length found.entries.items) ≡ target
+    ensures place { (file offset : ℕ) → IsErrOf result (SiteError.NotAFile file offset) → (aim : ℕ → ℕ) → aim (length found.entries) ≡ target
         → IfSome (D.disk disk.old).content (λ files. AreRecords files (found_records found) → HaveOutsideBlocks aim files file offset) }
     ensures unsound { (file offset : ℕ) → IsErrOf result (SiteError.NotAFile file offset) → IfSome (D.disk disk.old).content (λ files. IsSoundImage files (found_records found) (found_entries found) → ⊥) }
     ensures reads { Reads (D.disk disk.old) (D.disk disk.new) }
@@ -169,7 +169,7 @@ pub fn stand<D: Disk>(
         &found.read.log.records,
         directory,
         &found.read.journals,
-        &found.entries,
+        found.entries.as_slice(),
         target,
     )?;
     Ok(stand_on(alloc, found, globals)?)
@@ -183,7 +183,7 @@ fn stand_anew<D: Disk>(
 ) -> Result<StandingSite, SiteError>
     requires has { HasFound found }
     ensures found_as { IfOk result (IsFoundAs found) }
-    ensures opened { IfOk result (λ k. IsOpenAs true (D.disk disk.old) (D.disk disk.new) found (length found.entries.items) k.globals) }
+    ensures opened { IfOk result (λ k. IsOpenAs true (D.disk disk.old) (D.disk disk.new) found (length found.entries) k.globals) }
     ensures outside { (file offset : ℕ) → IsErrOf result (SiteError.NotAFile file offset) → IfSome (D.disk disk.old).content (λ _. ⊥) }
     ensures reads { Reads (D.disk disk.old) (D.disk disk.new) }
     ensures later { (D.disk disk.old).faults ≤ (D.disk disk.new).faults }
@@ -197,7 +197,7 @@ fn stand_anew<D: Disk>(
         disk,
         &found.read.log.records,
         directory,
-        &found.entries,
+        found.entries.as_slice(),
     )?;
     Ok(stand_on(alloc, found, globals)?)
 }
@@ -246,7 +246,7 @@ pub(crate) fn read_standing<D: Disk>(
     if anew {
         return stand_anew(alloc, disk, found);
     }
-    let target = found.entries.len() as u64;
+    let target = found.entries.len();
     check_images(alloc, &found, target)?;
     stand(alloc, disk, found, target)
 }

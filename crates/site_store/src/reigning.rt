@@ -26,7 +26,7 @@ const MOST_REIGNS: usize = 32_768;
 impl OpenSite {
     /// The reign that begins behind the last entry, under the site's own name and the next cycle.
     pub(crate) fn next_reign(&self, alloc: Global) -> Result<Reign, SiteError>
-        requires { length self.now.entries.items < 2 ^ 40 }
+        requires { length self.now.entries < 2 ^ 40 }
         ensures reign { IfOk result (λ r. IsNextReign self.now (reign_value r)) }
         ensures room { OnOk result (HasReignLeft self.now) }
         ensures limit { IsErrOf result SiteError.ReignLimit → HasNoReignLeft self.now }
@@ -44,7 +44,7 @@ impl OpenSite {
         };
         Ok(Reign {
             stamp,
-            start: self.entries.len() as u64 + 1,
+            start: self.entries.len() + 1,
         })
     }
 
@@ -70,7 +70,7 @@ impl OpenSite {
         ensures kept { OnErr result (self.new.instance.records ≡ self.old.instance.records) }
         ensures remembered { OnOk result (self.new.stamp ≡ Some kept) }
         ensures reign { OnOk result (HasReign self.new) }
-        ensures entries { self.new.entries.items ≡ self.old.entries.items }
+        ensures entries { self.new.entries ≡ self.old.entries }
         ensures hardened { self.new.hardened ≡ self.old.hardened }
         ensures any_moment { (c : Contents) → IsOpen (D.disk disk.old) true c (length c.sequence) self.old → AtEachMoment (D.disk disk.old) (D.disk disk.new) (λ f. IsSite f c ⊎ IsSite f (with_reign (site_name c.instance) c)) }
         ensures left { (c : Contents) → IsOpen (D.disk disk.old) true c (length c.sequence) self.old → AtEachMoment (D.disk disk.old) (D.disk disk.new) (λ f. IsSiteWith f (bare c) ⊎ IsSiteWith f (bare (with_reign (site_name c.instance) c))) }
@@ -114,7 +114,7 @@ impl OpenSite {
         ensures stamp { IfOk result (λ stamp. (c : Contents) → c.instance ≡ self.old.instance.records → stamp_value stamp ≡ next_stamp (site_name c.instance) c) }
         ensures remembered { IfOk result (λ stamp. self.new.stamp ≡ Some stamp) }
         ensures reign { OnOk result (HasReign self.new) }
-        ensures entries { self.new.entries.items ≡ self.old.entries.items }
+        ensures entries { self.new.entries ≡ self.old.entries }
         ensures hardened { self.new.hardened ≡ self.old.hardened }
         ensures room { OnOk result ((c : Contents) (h : ℕ) → Remembers c h self.old → no_reign_left c ≡ false) }
         ensures limit { IsErrOf result SiteError.ReignLimit → (c : Contents) (h : ℕ) → Remembers c h self.old → no_reign_left c ≡ true }

@@ -5,7 +5,6 @@ ghost use Rattle.std.specs.List.{flat_map};
 ghost use Rattle.global_defs.specs.Extract.{entry_text};
 ghost use Rattle.global_defs.specs.Prefix.{IsPrefix};
 ghost use Rattle.gvt_leaf.specs.Listed.{node_value};
-ghost use Rattle.gvn_model.specs.Entries.{entry_value};
 ghost use Rattle.site_defs.specs.Texts.{node_line, zwrite};
 ghost use Rattle.site_regions.specs.Joined.{joined};
 
@@ -30,11 +29,11 @@ impl OpenSite {
     /// a TSTART and a TCOM line. Without memory nothing is added.
     pub fn extract(&self, number: u64, out: &mut Bytes) -> Result<(), NoMemory>
         requires { 1 ≤ number }
-        ensures entry { OnOk result (IfSome (slice_get self.now.entries.items (number - 1)) (λ e. out.new ≡ out.old ++ entry_text e.number (entry_value e))) }
-        ensures no_entry { slice_get self.now.entries.items (number - 1) ≡ None → out.new ≡ out.old }
+        ensures entry { OnOk result (IfSome (slice_get self.now.entries (number - 1)) (λ e. out.new ≡ out.old ++ entry_text number e)) }
+        ensures no_entry { slice_get self.now.entries (number - 1) ≡ None → out.new ≡ out.old }
         ensures without { OnErr result (out.new ≡ out.old) }
     {
-        match self.entries.get((number - 1) as usize) {
+        match self.entries.get(number) {
             Some(entry) => extract_entry(entry, out),
             None => Ok(()),
         }

@@ -3,7 +3,8 @@ ghost use Rattle.std.specs.Prelude.{◌≡◌, length};
 ghost use Rattle.journal_defs.specs.Surviving.{reigns};
 
 use crate::layout::Layout;
-use gvn_model::{Entry, Reigns, Stamp};
+use entry_log::EntryLog;
+use gvn_model::{Reigns, Stamp};
 use instance_file::Instance;
 use region_journals::RegionJournals;
 use site_regions::Regions;
@@ -20,7 +21,7 @@ pub struct OpenSite {
     /// The journals of the newest generation, by region.
     pub journals: RegionJournals,
     /// All entries, by their numbers from 1 on.
-    pub entries: Vec<Entry>,
+    pub entries: EntryLog,
     /// The site's regions on their blocks: all nodes.
     pub globals: Regions,
     /// How many entries are on the disk for good.
@@ -32,9 +33,9 @@ pub struct OpenSite {
 impl OpenSite {
     /// How many entries there are.
     pub fn sequence_length(&self) -> u64
-        ensures { result ≡ length self.now.entries.items }
+        ensures { result ≡ length self.now.entries }
     {
-        self.entries.len() as u64
+        self.entries.len()
     }
 
     /// How many entries are on the disk for good.

@@ -224,7 +224,7 @@ fn closed_and_opened_again(rt: HostRuntime) {
 /// How many nodes a site has once it is opened for so many entries.
 fn nodes_for<D: Disk>(rt: &impl Abort, alloc: Global, disk: &mut D, target: u64) -> u32 {
     let found = find_files(alloc, disk).expect(rt, "it succeeds");
-    assert!(rt; target <= found.entries.len() as u64);
+    assert!(rt; target <= found.entries.len());
     let standing = stand(alloc, disk, found, target).expect(rt, "it succeeds");
     standing.globals.nodes()
 }

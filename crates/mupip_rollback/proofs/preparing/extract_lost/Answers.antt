@@ -29,10 +29,9 @@ returns c =
     let name = c.created_name-name.result.now in
     let name_is : name ≡ site_name f.read.log.records = c.created_name-name.ensures ∙ ap site_name c.as_slice.ensures in
     let text = λ (es : List code.Entry). flat_map (λ (p : ℕ × Entry). entry_text p.0 p.1) (map numbered (drop t es)) in
-    let es = c.deref.result.now in
+    let es = c.as_slice-2.result.now in
     let whole : take (length es - t) (drop t es) ≡ drop t es = ap (λ (n : ℕ). take n (drop t es)) (sym (length-drop t es)) ∙ take-length (drop t es) in
     c.in_ok-write_entries.ensures
     ∙ ap (λ (l : List code.Entry). c.write_header.new.out ++ flat_map (λ (p : ℕ × Entry). entry_text p.0 p.1) (map numbered l)) whole
-    ∙ ap (λ x. x ++ text c.deref.result.now) (c.in_ok-write_header.ensures.ok ∙ ap (λ x. x ++ header name (t + 1)) c.new-text.ensures ∙ ap (λ x. header x (t + 1)) name_is)
-    ∙ ap (λ es. header (site_name f.read.log.records) (t + 1) ++ text es) c.deref.ensures.value
-    ∙ ap (λ y. header (site_name f.read.log.records) (t + 1) ++ y) (rest_text f.entries.items (found_entries f) t c.requires.has.are_numbered)
+    ∙ ap (λ x. x ++ text es) (c.in_ok-write_header.ensures.ok ∙ ap (λ x. x ++ header name (t + 1)) c.new-text.ensures ∙ ap (λ x. header x (t + 1)) name_is)
+    ∙ ap (λ y. header (site_name f.read.log.records) (t + 1) ++ y) (rest_text es (found_entries f) t c.as_slice-2.ensures.numbers)

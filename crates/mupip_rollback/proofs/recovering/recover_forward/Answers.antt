@@ -1,10 +1,8 @@
-use Rattle.std.proofs.Common.{◌≡◌, ◌<◌, List, length, true, sym, ◌∙◌, ap}
-use Rattle.std.proofs.lemmas.List.{length-map}
+use Rattle.std.proofs.Common.{◌≡◌, ◌<◌, List, length, true, ◌∙◌, ap}
 use Rattle.std.proofs.lemmas.Result.{IfOk-weaker}
 use Rattle.disk_defs.specs.Disk.{Files}
 use Rattle.disk_defs.proofs.Told.{both_weak}
 use Rattle.global_defs.specs.Entry.{Sequence}
-use Rattle.gvn_model.specs.Numbered.{numbered}
 use Rattle.journal_defs.specs.Instance.{InstanceRecord, generation}
 use Rattle.journal_defs.specs.Numbers.{INSTANCE}
 use Rattle.journal_defs.specs.Sequence.{Records, IsSequence}
@@ -12,7 +10,6 @@ use Rattle.journal_defs.specs.Stands.{IsInstance, AreRecords}
 use Rattle.site_defs.specs.Contents.{Contents}
 use Rattle.site_defs.specs.Epochs.{marked}
 use Rattle.site_store.specs.Site.{IsOpen, WasOpenedFrom}
-use Rattle.site_store.proofs.Remembered.{length-enumerate}
 use Rattle.mupip_rollback.specs.Rolling.{StandsFor}
 use Rattle.mupip_rollback.proofs.Recovered as recovered
 use Rattle.mupip_rollback.proofs.recovering.recover_forward.Goals as goal
@@ -39,10 +36,10 @@ returns-in-Ok-clause-held g c =
     let s = c.in-Ok.site in
     let Held = λ (files : Files). (x : Records) × (seq : Sequence) × AreRecords files x × IsSequence x seq × WasOpenedFrom x seq s in
     let Room = λ (files : Files). (rs : List InstanceRecord) → IsInstance (files INSTANCE) rs → generation rs < 65534 in
-    IfOk-weaker c.close.result (λ n. n ≡ length s.entries.items) _ (λ n count.
+    IfOk-weaker c.close.result (λ n. n ≡ length s.entries) _ (λ n count.
     both_weak u.content Held Room (λ files. (x : Records) × (seq : Sequence) × AreRecords files x × IsSequence x seq × (n ≡ length seq) × (generation x.instance < 65534)) c.in-Ok.ensures.held c.in-Ok.ensures.drawn
     (λ files h room.
-    let size : length s.entries.items ≡ length h.1 = sym (length-map s.entries.items numbered) ∙ ap length h.4.entries ∙ length-enumerate 1 h.1 in
+    let size : length s.entries ≡ length h.1 = ap length h.4.entries in
     (h.0, h.1, h.2, h.3, count ∙ size, room h.0.instance h.2.instance))) c.close.ensures.length
 
 pub returns-in-Ok-clause-any_moment : goal.returns-in-Ok-clause-any_moment

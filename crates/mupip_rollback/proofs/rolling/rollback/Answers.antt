@@ -6,7 +6,6 @@ use Rattle.journal_defs.specs.Instance.{generation}
 use Rattle.journal_defs.specs.Sequence.{Records, IsSequence}
 use Rattle.journal_defs.specs.Stands.{AreRecords}
 use Rattle.site_store.specs.Standing.{found_entries}
-use Rattle.site_store.proofs.Loaded.{length_values}
 use Rattle.site_store.specs.Needing.{NoneIsWithout}
 use Rattle.mupip_rollback.specs.declared.error.RollError.TheVariants as error
 use Rattle.mupip_rollback.proofs.Errors.{handed_on}
@@ -25,13 +24,12 @@ pub returns-clause-read : goal.returns-clause-read
 returns-clause-read g c =
     let p = c.in_ok-prepared.prepared in
     let P = c.in_ok-prepared.ensures.prepared in
-    let count : length (found_entries P.found) ≡ length P.found.entries.items = length_values P.found.entries.items in
     let all = P.counted in
     let kept = c.in_ok-prepared.ensures.kept in
     let size = c.len.ensures in
     let newest : c.generation_in.result ≡ generation P.found.read.log.records = c.generation_in.ensures ∙ ap generation c.as_slice.ensures ∙ ap (λ l. generation l.records) P.log in (
       record { instance = P.found.read.log.records; starts = λ r. []; epochs = λ r. []; texts = []; losts = []; sequence = found_entries P.found },
-      omega (arith, count, all, kept, size),
+      omega (arith, all, kept, size),
       omega (arith, newest),
     )
 
@@ -43,7 +41,7 @@ returns-clause-held g c =
     let size = c.len.ensures in
     let low : generation p.log.records < 65534 = subst (λ l. generation l.records < 65534) (sym P.log) P.has.low in
     let newest : c.generation_in.result ≡ generation p.log.records = c.generation_in.ensures ∙ ap generation c.as_slice.ensures in
-    weaker_told u.content (λ files. (x : Records) × (es : Sequence) × AreRecords files x × IsSequence x es × (x.instance ≡ p.log.records) × (length p.kept.entries.items ≡ min c.args.to (length es)) × NoneIsWithout x (min c.args.to (length es)))
+    weaker_told u.content (λ files. (x : Records) × (es : Sequence) × AreRecords files x × IsSequence x es × (x.instance ≡ p.log.records) × (length p.kept.entries ≡ min c.args.to (length es)) × NoneIsWithout x (min c.args.to (length es)))
     (λ files. (x : Records) × (es : Sequence) × AreRecords files x × IsSequence x es × (c.len.result ≡ min c.args.to (length es)) × (c.generation_in.result + 1 ≡ generation x.instance + 1) × (generation x.instance < 65534) × NoneIsWithout x (min c.args.to (length es)))
     c.in_ok-prepared.ensures.held (λ files h.
     let same : generation h.0.instance ≡ generation p.log.records = ap generation h.4 in
@@ -57,7 +55,7 @@ returns-in_err-roll-clause-any_moment g c =
     let z = g.D.Disk.disk c.roll.new.disk in
     let p = c.in_ok-prepared.prepared in
     let ens = c.in_ok-prepared.ensures in
-    whole.moments u v c.args.to c.prepare.ensures.any_moment z (length p.kept.entries.items) p.length ens.kept p.broken (g.met.D.Disk.lawful c.args.disk.now) (g.met.D.Disk.lawful c.roll.new.disk) c.prepare.ensures.content ens.site ens.left c.roll.ensures.any_moment
+    whole.moments u v c.args.to c.prepare.ensures.any_moment z (length p.kept.entries) p.length ens.kept p.broken (g.met.D.Disk.lawful c.args.disk.now) (g.met.D.Disk.lawful c.roll.new.disk) c.prepare.ensures.content ens.site ens.left c.roll.ensures.any_moment
 
 pub returns-in_err-roll-clause-left : goal.returns-in_err-roll-clause-left
 returns-in_err-roll-clause-left g c =
@@ -66,7 +64,7 @@ returns-in_err-roll-clause-left g c =
     let z = g.D.Disk.disk c.roll.new.disk in
     let p = c.in_ok-prepared.prepared in
     let ens = c.in_ok-prepared.ensures in
-    whole.moments_with u v c.args.to c.prepare.ensures.any_moment z (length p.kept.entries.items) p.length ens.kept p.broken (g.met.D.Disk.lawful c.args.disk.now) (g.met.D.Disk.lawful c.roll.new.disk) c.prepare.ensures.content ens.site ens.left c.roll.ensures.any_moment
+    whole.moments_with u v c.args.to c.prepare.ensures.any_moment z (length p.kept.entries) p.length ens.kept p.broken (g.met.D.Disk.lawful c.args.disk.now) (g.met.D.Disk.lawful c.roll.new.disk) c.prepare.ensures.content ens.site ens.left c.roll.ensures.any_moment
 
 pub returns-in_err-roll-clause-stands : goal.returns-in_err-roll-clause-stands
 returns-in_err-roll-clause-stands g c =
@@ -75,7 +73,7 @@ returns-in_err-roll-clause-stands g c =
     let z = g.D.Disk.disk c.roll.new.disk in
     let p = c.in_ok-prepared.prepared in
     let ens = c.in_ok-prepared.ensures in
-    whole.stands u v c.args.to c.prepare.ensures.any_moment z (length p.kept.entries.items) p.length ens.kept p.broken (g.met.D.Disk.lawful c.args.disk.now) (g.met.D.Disk.lawful c.roll.new.disk) c.prepare.ensures.content ens.site ens.left c.roll.ensures.any_moment
+    whole.stands u v c.args.to c.prepare.ensures.any_moment z (length p.kept.entries) p.length ens.kept p.broken (g.met.D.Disk.lawful c.args.disk.now) (g.met.D.Disk.lawful c.roll.new.disk) c.prepare.ensures.content ens.site ens.left c.roll.ensures.any_moment
 
 pub returns-clause-any_moment : goal.returns-clause-any_moment
 returns-clause-any_moment g c =
@@ -84,7 +82,7 @@ returns-clause-any_moment g c =
     let z = g.D.Disk.disk c.roll.new.disk in
     let p = c.in_ok-prepared.prepared in
     let ens = c.in_ok-prepared.ensures in
-    whole.moments u v c.args.to c.prepare.ensures.any_moment z (length p.kept.entries.items) p.length ens.kept p.broken (g.met.D.Disk.lawful c.args.disk.now) (g.met.D.Disk.lawful c.roll.new.disk) c.prepare.ensures.content ens.site ens.left c.roll.ensures.any_moment
+    whole.moments u v c.args.to c.prepare.ensures.any_moment z (length p.kept.entries) p.length ens.kept p.broken (g.met.D.Disk.lawful c.args.disk.now) (g.met.D.Disk.lawful c.roll.new.disk) c.prepare.ensures.content ens.site ens.left c.roll.ensures.any_moment
 
 pub returns-clause-left : goal.returns-clause-left
 returns-clause-left g c =
@@ -93,7 +91,7 @@ returns-clause-left g c =
     let z = g.D.Disk.disk c.roll.new.disk in
     let p = c.in_ok-prepared.prepared in
     let ens = c.in_ok-prepared.ensures in
-    whole.moments_with u v c.args.to c.prepare.ensures.any_moment z (length p.kept.entries.items) p.length ens.kept p.broken (g.met.D.Disk.lawful c.args.disk.now) (g.met.D.Disk.lawful c.roll.new.disk) c.prepare.ensures.content ens.site ens.left c.roll.ensures.any_moment
+    whole.moments_with u v c.args.to c.prepare.ensures.any_moment z (length p.kept.entries) p.length ens.kept p.broken (g.met.D.Disk.lawful c.args.disk.now) (g.met.D.Disk.lawful c.roll.new.disk) c.prepare.ensures.content ens.site ens.left c.roll.ensures.any_moment
 
 pub returns-clause-stands : goal.returns-clause-stands
 returns-clause-stands g c =
@@ -102,7 +100,7 @@ returns-clause-stands g c =
     let z = g.D.Disk.disk c.roll.new.disk in
     let p = c.in_ok-prepared.prepared in
     let ens = c.in_ok-prepared.ensures in
-    whole.stands u v c.args.to c.prepare.ensures.any_moment z (length p.kept.entries.items) p.length ens.kept p.broken (g.met.D.Disk.lawful c.args.disk.now) (g.met.D.Disk.lawful c.roll.new.disk) c.prepare.ensures.content ens.site ens.left c.roll.ensures.any_moment
+    whole.stands u v c.args.to c.prepare.ensures.any_moment z (length p.kept.entries) p.length ens.kept p.broken (g.met.D.Disk.lawful c.args.disk.now) (g.met.D.Disk.lawful c.roll.new.disk) c.prepare.ensures.content ens.site ens.left c.roll.ensures.any_moment
 
 pub returns-clause-told : goal.returns-clause-told
 returns-clause-told g c =
@@ -111,4 +109,4 @@ returns-clause-told g c =
     let z = g.D.Disk.disk c.roll.new.disk in
     let p = c.in_ok-prepared.prepared in
     let ens = c.in_ok-prepared.ensures in
-    whole.told u v c.args.to c.prepare.ensures.any_moment z (length p.kept.entries.items) p.length ens.kept p.broken (g.met.D.Disk.lawful c.args.disk.now) (g.met.D.Disk.lawful c.roll.new.disk) c.prepare.ensures.content ens.site ens.left c.in_ok-roll.ensures.done
+    whole.told u v c.args.to c.prepare.ensures.any_moment z (length p.kept.entries) p.length ens.kept p.broken (g.met.D.Disk.lawful c.args.disk.now) (g.met.D.Disk.lawful c.roll.new.disk) c.prepare.ensures.content ens.site ens.left c.in_ok-roll.ensures.done

@@ -1,4 +1,4 @@
-use Rattle.std.proofs.Common.{◌++◌, drop, ◌∙◌, ap, List, ℕ}
+use Rattle.std.proofs.Common.{◌++◌, ◌∙◌, ap, List, ℕ}
 use Rattle.world_defs.specs.Row.{refused_with, why_not_open}
 use Rattle.world_defs.specs.rows.Extract as rows
 use Rattle.site_runner.specs.Sites.{state_value}
@@ -18,8 +18,8 @@ pub returns : goal.returns
 returns g c =
     let s = c.args.site.now in
     let from = c.unwrap_or-from.result in
-    let items = c.in-Primary.reign.site.entries.items in
+    let seq = c.in-Primary.reign.site.entries in
     extracts_at (g.D.Disk.disk c.args.disk.now) s c.in-Primary.reign c.args.number c.args.text.now _ c.in-Primary.is
-    (λ seq numbers. extracts s.name c.as_slice-2.result.now from items (drop c.saturating_sub.result items) seq c.args.text.now c.write_header.new.out c.write_entries.new.text (from_least c.args.number from c.unwrap_or-from.ensures c.requires) numbers c.as_slice-2.ensures
-    (ap (λ (k : ℕ). drop k items) c.saturating_sub.ensures) c.in_ok-write_header.ensures.ok c.in_ok-write_entries.ensures
+    (extracts s.name c.as_slice-2.result.now from c.saturating_sub.result seq c.args.text.now c.write_header.new.out c.write_entries.new.text (from_least c.args.number from c.unwrap_or-from.ensures c.requires) c.saturating_sub.ensures c.as_slice-2.ensures
+    c.in_ok-write_header.ensures.ok c.in_ok-write_entries.ensures
     ∙ ap (λ (x : List ℕ). c.args.text.now ++ x) (from_one s.name c.args.number from seq c.unwrap_or-from.ensures))

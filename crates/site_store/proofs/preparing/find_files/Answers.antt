@@ -1,8 +1,9 @@
-use Rattle.std.proofs.Common.{◌≡◌, ℕ, List, Vec, Global, length, map, sym, ◌∙◌, ap, subst, IfSome}
+use Rattle.std.proofs.Common.{◌≡◌, ◌<◌, ◌^◌, ℕ, List, Vec, Global, length, map, sym, ◌∙◌, ap, subst, IfSome}
 use Rattle.std.proofs.lemmas.Result.{err_from_is_err_and}
 use Rattle.disk_defs.specs.Disk.{Image}
 use Rattle.disk_defs.proofs.Moments.{nothing_new}
 use Rattle.disk_defs.proofs.Told.{told_at}
+use Rattle.global_defs.specs.Entry.{Sequence}
 use Rattle.gvn_model.specs.Entries.{entry_value}
 use Rattle.jnl_record.specs.declared.placed.PlacedRecord.{PlacedRecord}
 use Rattle.journal_defs.specs.Broken.{broken, broken_text}
@@ -13,7 +14,7 @@ use Rattle.site_files.specs.Loading.{last_of}
 use Rattle.site_store.specs.Opening.{AreTextsDurable, AreDatabasesDurable}
 use Rattle.site_store.proofs.Databases.{texts_still}
 use Rattle.site_store.proofs.Errors.{file_was}
-use Rattle.site_store.proofs.Loaded.{length_values}
+use Rattle.site_store.proofs.Items.{length-map-of}
 use Rattle.site_store.proofs.Refused.{no_site, read_kept}
 use Rattle.site_store.proofs.preparing.find_files.Goals as goal
 
@@ -44,18 +45,20 @@ returns-clause-has g c =
     let rs = read.log.records in
     let js : List (Vec PlacedRecord Global) → List (List PlacedRecord) = map (λ (j : Vec PlacedRecord Global). j.items) in
     let es = c.in_ok-remembered.remembered.entries.items in
+    let is : c.of.result ≡ map entry_value es = c.of.ensures in
+    let size : length es ≡ length c.of.result = sym (length-map-of entry_value es) ∙ ap length (sym is) in
     record {
       form = c.in_ok-read.ensures.form;
       counted = c.in_ok-read.ensures.counted;
       low = c.in_ok-read.ensures.low;
       directory = c.in_ok-read.ensures.directory.2;
       forms = c.in_ok-read.ensures.forms;
-      sequence = subst (λ (l : List (Vec PlacedRecord Global)). IsSequence (site_records rs (js l)) (map entry_value es)) c.deref.ensures.value c.in_ok-remembered.ensures.sequence;
-      are_numbered = c.in_ok-remembered.ensures.numbered;
-      few = c.in_ok-remembered.ensures.few;
+      sequence = subst (λ (seq : Sequence). IsSequence (site_records rs (js read.journals.items)) seq) (sym is)
+          (subst (λ (l : List (Vec PlacedRecord Global)). IsSequence (site_records rs (js l)) (map entry_value es)) c.deref.ensures.value c.in_ok-remembered.ensures.sequence);
+      few = subst (λ (n : ℕ). n < 2 ^ 40) size c.in_ok-remembered.ensures.few;
       broken_is = c.in_ok-remembered.ensures.broken
           ∙ ap (λ (l : List (Vec PlacedRecord Global)). broken_text (site_name rs) (length es) (broken (site_records rs (js l)) (length es))) c.deref.ensures.value
-          ∙ ap (λ (k : ℕ). broken_text (site_name rs) k (broken (site_records rs (js read.journals.items)) k)) (sym (length_values es));
+          ∙ ap (λ (k : ℕ). broken_text (site_name rs) k (broken (site_records rs (js read.journals.items)) k)) size;
     }
 
 pub returns-clause-found : goal.returns-clause-found

@@ -2,9 +2,8 @@ use Rattle.std.proofs.Common.{◌≡◌, ◌<◌, List, Vec, Global, length, map
 use Rattle.std.specs.List.{AllByRecursion}
 use Rattle.std.proofs.lemmas.Result.{err_from_is_err_and}
 use Rattle.disk_defs.specs.Disk.{Files}
-use Rattle.global_defs.specs.Entry.{state}
+use Rattle.global_defs.specs.Entry.{Sequence, state}
 use Rattle.gvn_model.specs.Entries.{entry_value}
-use Rattle.gvn_model.specs.declared.entry.Entry.{Entry}
 use Rattle.jnl_record.specs.declared.placed.PlacedRecord.{PlacedRecord}
 use Rattle.journal_defs.specs.Instance.{regions}
 use Rattle.journal_defs.specs.Sequence.{IsSequence}
@@ -32,8 +31,8 @@ pub open_regions-requires-clause-sequence : goal.open_regions-requires-clause-se
 open_regions-requires-clause-sequence g c =
     let rs = c.args.found.read.log.records in
     let js : List (Vec PlacedRecord Global) → List (List PlacedRecord) = map (λ (j : Vec PlacedRecord Global). j.items) in
-    subst (λ (es : List Entry). IsSequence (site_records rs (js c.deref.result.now)) (map entry_value es)) (sym c.deref-2.ensures.value)
-    (subst (λ (l : List (Vec PlacedRecord Global)). IsSequence (site_records rs (js l)) (map entry_value c.args.found.entries.items)) (sym c.deref.ensures.value) c.requires.has.sequence)
+    subst (λ (es : Sequence). IsSequence (site_records rs (js c.deref.result.now)) es) (sym c.as_slice.ensures.entries)
+    (subst (λ (l : List (Vec PlacedRecord Global)). IsSequence (site_records rs (js l)) c.args.found.entries) (sym c.deref.ensures.value) c.requires.has.sequence)
 
 pub returns-in_err-globals-clause-place : goal.returns-in_err-globals-clause-place
 returns-in_err-globals-clause-place g c =
@@ -43,7 +42,7 @@ returns-in_err-globals-clause-place g c =
     let p = err_from_is_err_and c.from_residual-in_err-globals.result c.from_residual-in_err-globals.ensures.1 in
     rw (p.1, p.2) (λ file offset is aim aims.
     subst (λ (l : List (Vec PlacedRecord Global)). IfSome v.content (λ files. AreRecords files (site_records rs (js l)) → HaveOutsideBlocks aim files file offset)) c.deref.ensures.value
-    (c.in_err-globals.ensures.outside file offset (region_was c.in_err-globals.field-0.0 file offset is) aim (ap (λ (es : List Entry). aim (length es)) c.deref-2.ensures.value ∙ aims)))
+    (c.in_err-globals.ensures.outside file offset (region_was c.in_err-globals.field-0.0 file offset is) aim (ap aim c.as_slice.ensures.count ∙ aims)))
 
 pub returns-in_err-globals-clause-unsound : goal.returns-in_err-globals-clause-unsound
 returns-in_err-globals-clause-unsound g c =
@@ -52,9 +51,9 @@ returns-in_err-globals-clause-unsound g c =
     let js : List (Vec PlacedRecord Global) → List (List PlacedRecord) = map (λ (j : Vec PlacedRecord Global). j.items) in
     let p = err_from_is_err_and c.from_residual-in_err-globals.result c.from_residual-in_err-globals.ensures.1 in
     rw (p.1, p.2) (λ file offset is.
-    let Told = λ (l : List (Vec PlacedRecord Global)) (es : List Entry) (files : Files). IsSoundImage files (site_records rs (js l)) (map entry_value es) → ⊥ in
-    subst (λ (es : List Entry). IfSome v.content (Told c.args.found.read.journals.items es)) c.deref-2.ensures.value
-    (subst (λ (l : List (Vec PlacedRecord Global)). IfSome v.content (Told l c.deref-2.result.now)) c.deref.ensures.value (c.in_err-globals.ensures.unsound file offset (region_was c.in_err-globals.field-0.0 file offset is))))
+    let Told = λ (l : List (Vec PlacedRecord Global)) (es : Sequence) (files : Files). IsSoundImage files (site_records rs (js l)) es → ⊥ in
+    subst (λ (es : Sequence). IfSome v.content (Told c.args.found.read.journals.items es)) c.as_slice.ensures.entries
+    (subst (λ (l : List (Vec PlacedRecord Global)). IfSome v.content (Told l (map entry_value c.as_slice.result.now))) c.deref.ensures.value (c.in_err-globals.ensures.unsound file offset (region_was c.in_err-globals.field-0.0 file offset is))))
 
 pub returns-clause-opened : goal.returns-clause-opened
 returns-clause-opened g c =
@@ -74,8 +73,8 @@ returns-clause-opened g c =
           (subst (λ (l : List (Vec PlacedRecord Global)). IfSome v.content (Held rs (js l) t globals)) c.deref.ensures.value got.holds) got.held;
       regions = are_held v w (length (regions rs)) globals c.open_regions.ensures.reads.content many got.files got.held;
       nodes =
-          subst (λ (es : List Entry). IfSome v.content (λ files. IsSoundImage files (site_records rs (js jv)) (map entry_value es) → joined globals ≡ state (take t (map entry_value es)))) c.deref-2.ensures.value
-          (subst (λ (l : List (Vec PlacedRecord Global)). IfSome v.content (λ files. IsSoundImage files (site_records rs (js l)) (map entry_value c.deref-2.result.now) → joined globals ≡ state (take t (map entry_value c.deref-2.result.now)))) c.deref.ensures.value got.state);
+          subst (λ (es : Sequence). IfSome v.content (λ files. IsSoundImage files (site_records rs (js jv)) es → joined globals ≡ state (take t es))) c.as_slice.ensures.entries
+          (subst (λ (l : List (Vec PlacedRecord Global)). IfSome v.content (λ files. IsSoundImage files (site_records rs (js l)) (map entry_value c.as_slice.result.now) → joined globals ≡ state (take t (map entry_value c.as_slice.result.now)))) c.deref.ensures.value got.state);
       some = got.some;
       none = got.none;
     })

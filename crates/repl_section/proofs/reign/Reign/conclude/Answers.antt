@@ -36,7 +36,7 @@ returns-clause-entered g c =
         | else-is_empty+then-len-ge-LAST_NUMBER k ↦ ap (λ (y : Reply). named (reply_value y)) (w.reply-is ∙ k.reply-is)
       ]
     ] in
-    unnamed_entered c.answer.result (length c.answer.new.self.site.entries.items) (ap (λ (d : Replied). named d.reply) c.answer.ensures.decision ∙ none)
+    unnamed_entered c.answer.result (length c.answer.new.self.site.entries) (ap (λ (d : Replied). named d.reply) c.answer.ensures.decision ∙ none)
 
 pub returns-clause-done : goal.returns-clause-done
 returns-clause-done g c told x h r =

@@ -4,7 +4,7 @@ use Rattle.site_store.proofs.owning.Site.harden.Goals as goal
 
 pub returns-then-self-len-clause-done : goal.returns-then-self-len-clause-done
 returns-then-self-len-clause-done g c told x h is =
-    let all : c.args.self.now.inner.hardened ≡ length c.args.self.now.inner.entries.items = search rules in
+    let all : c.args.self.now.inner.hardened ≡ length c.args.self.now.inner.entries = search rules in
     record { fault = is.fault; inner = open_settled (g.D.Disk.disk c.args.self.now.disk) told x h c.args.self.now.inner all is.inner }
 
 pub returns-in-Ok-clause-done : goal.returns-in-Ok-clause-done

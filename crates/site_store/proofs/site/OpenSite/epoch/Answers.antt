@@ -26,7 +26,7 @@ returns-clause-done g c =
     let v = g.D.Disk.disk c.args.disk.now in
     let w = g.D.Disk.disk t.new.disk in
     of_taken t.result c.answered.result _ _ c.answered.ensures.done t.ensures.done (λ taken told x o.
-    marking.open_taken v w told c.args.closing x c.args.self.now _ c.requires.ready c.count-number.ensures.joined (g.met.D.Disk.lawful c.args.disk.now) (g.met.D.Disk.lawful t.new.disk)
+    marking.open_taken v w told c.args.closing x c.args.self.now _ c.requires.ready c.count.ensures.joined (g.met.D.Disk.lawful c.args.disk.now) (g.met.D.Disk.lawful t.new.disk)
     (λ u seq h newer kept size. taken u seq h newer kept (let e = c.len-number.ensures in omega (arith, size, e))) t.ensures.frame t.ensures.same refl refl refl o)
 
 pub returns-clause-none_needs : goal.returns-clause-none_needs
@@ -38,24 +38,24 @@ returns-clause-none_needs g c =
     let k = o.kept refl in
     let size = o.remembered.count in
     marking.none_needs w c.args.closing _ x.sequence _ _ _ _
-    (taken k.records x.sequence k.g k.newer (marking.is_kept v x c.args.self.now k o.remembered c.requires.ready c.count-number.ensures.joined (g.met.D.Disk.lawful c.args.disk.now)) (let e = c.len-number.ensures in omega (arith, size, e))))
+    (taken k.records x.sequence k.g k.newer (marking.is_kept v x c.args.self.now k o.remembered c.requires.ready c.count.ensures.joined (g.met.D.Disk.lawful c.args.disk.now)) (let e = c.len-number.ensures in omega (arith, size, e))))
 
 pub returns-clause-any_moment : goal.returns-clause-any_moment
 returns-clause-any_moment g c x o =
     let t = c.take_epoch-taken in
-    marking.marks_moments (g.D.Disk.disk c.args.disk.now) (g.D.Disk.disk t.new.disk) x c.args.self.now (o.kept refl) o.remembered c.requires.ready c.count-number.ensures.joined (g.met.D.Disk.lawful c.args.disk.now) (g.met.D.Disk.lawful t.new.disk)
+    marking.marks_moments (g.D.Disk.disk c.args.disk.now) (g.D.Disk.disk t.new.disk) x c.args.self.now (o.kept refl) o.remembered c.requires.ready c.count.ensures.joined (g.met.D.Disk.lawful c.args.disk.now) (g.met.D.Disk.lawful t.new.disk)
     (λ u seq h newer kept size. t.ensures.any_moment u seq h newer kept (let e = c.len-number.ensures in omega (arith, size, e)))
 
 pub returns-clause-left : goal.returns-clause-left
 returns-clause-left g c x o =
     let t = c.take_epoch-taken in
-    marking.marks_left (g.D.Disk.disk c.args.disk.now) (g.D.Disk.disk t.new.disk) x c.args.self.now (o.kept refl) o.remembered c.requires.ready c.count-number.ensures.joined (g.met.D.Disk.lawful c.args.disk.now) (g.met.D.Disk.lawful t.new.disk)
+    marking.marks_left (g.D.Disk.disk c.args.disk.now) (g.D.Disk.disk t.new.disk) x c.args.self.now (o.kept refl) o.remembered c.requires.ready c.count.ensures.joined (g.met.D.Disk.lawful c.args.disk.now) (g.met.D.Disk.lawful t.new.disk)
     (λ u seq h newer kept size. t.ensures.any_moment u seq h newer kept (let e = c.len-number.ensures in omega (arith, size, e)))
 
 pub returns-clause-stands : goal.returns-clause-stands
 returns-clause-stands g c x o =
     let t = c.take_epoch-taken in
-    marking.marks_stands (g.D.Disk.disk c.args.disk.now) (g.D.Disk.disk t.new.disk) x c.args.self.now (o.kept refl) o.remembered c.requires.ready c.count-number.ensures.joined (g.met.D.Disk.lawful c.args.disk.now) (g.met.D.Disk.lawful t.new.disk)
+    marking.marks_stands (g.D.Disk.disk c.args.disk.now) (g.D.Disk.disk t.new.disk) x c.args.self.now (o.kept refl) o.remembered c.requires.ready c.count.ensures.joined (g.met.D.Disk.lawful c.args.disk.now) (g.met.D.Disk.lawful t.new.disk)
     (λ u seq h newer kept size. t.ensures.any_moment u seq h newer kept (let e = c.len-number.ensures in omega (arith, size, e)))
 
 pub returns-clause-still_told : goal.returns-clause-still_told

@@ -1,8 +1,8 @@
-use Rattle.std.proofs.Common.{List, [], ◌∷◌, ◌<◌, refl, sym, subst, ◌∙◌, ap, arith, length, length-append}
+use Rattle.std.proofs.Common.{[], ◌∷◌, ◌<◌, refl, sym, subst, ◌∙◌, ap, arith, length, length-append}
 use Rattle.std.specs.Prelude.{◌^◌, fold}
-use Rattle.gvn_model.specs.declared.entry.Entry.{Entry}
+use Rattle.gvn_model.specs.Entries.{entry_value}
 use Rattle.site_regions.proofs.Making.{changed_none}
-use Rattle.global_defs.specs.Entry.{apply}
+use Rattle.global_defs.specs.Entry.{Sequence, apply}
 use Rattle.gvn_model.specs.declared.entry.Transaction as code
 use Rattle.site_regions.specs.Joined.{joined}
 use Rattle.site_store.proofs.Committed as committed
@@ -19,7 +19,7 @@ pub returns-in_err-remember-clause-ready : goal.returns-in_err-remember-clause-r
 returns-in_err-remember-clause-ready g c =
     committed.ready_prepared (g.D.Disk.disk c.args.disk.now) (g.D.Disk.disk c.prepare.new.disk) c.args.self.now c.remember.new.self c.prepare.new.self c.requires.ready c.prepare.ensures.ready c.prepare.ensures.count c.prepare.ensures.frame
     c.remember.ensures.journals c.remember.ensures.same.instance c.remember.ensures.same.layout c.remember.ensures.changed
-    (subst (λ (l : List Entry). length l < 2 ^ 40) (sym c.in_err-remember.ensures.kept.entries) c.requires.ready.few)
+    (subst (λ (l : Sequence). length l < 2 ^ 40) (sym c.in_err-remember.ensures.kept.entries) c.requires.ready.few)
 
 pub returns-in_err-remember-clause-frame : goal.returns-in_err-remember-clause-frame
 returns-in_err-remember-clause-frame g c = committed.own_stays (g.D.Disk.disk c.args.disk.now) (g.D.Disk.disk c.prepare.new.disk) c.args.self.now c.requires.ready c.prepare.ensures.frame
@@ -28,7 +28,7 @@ pub returns-clause-ready : goal.returns-clause-ready
 returns-clause-ready g c =
     committed.ready_prepared (g.D.Disk.disk c.args.disk.now) (g.D.Disk.disk c.prepare.new.disk) c.args.self.now c.remember.new.self c.prepare.new.self c.requires.ready c.prepare.ensures.ready c.prepare.ensures.count c.prepare.ensures.frame
     c.remember.ensures.journals c.remember.ensures.same.instance c.remember.ensures.same.layout c.remember.ensures.changed
-    (let more = ap length c.in_ok-remember.ensures.entries ∙ length-append c.args.self.now.entries.items (c.in_ok-entry.entry ∷ []) in let room = c.requires.room in omega (arith, more, room))
+    (let more = ap length c.in_ok-remember.ensures.entries ∙ length-append c.args.self.now.entries (entry_value c.in_ok-entry.entry ∷ []) in let room = c.requires.room in omega (arith, more, room))
 
 pub returns-clause-prepared : goal.returns-clause-prepared
 returns-clause-prepared g c = committed.still_prepared c.in_ok-parts.parts c.remember.new.self c.prepare.new.self c.remember.ensures.journals c.in_ok-prepare.ensures.prepared
