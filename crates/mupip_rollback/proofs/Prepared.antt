@@ -6,7 +6,6 @@ use Rattle.disk_defs.proofs.Told.{weaker_told, both_weak, told_at}
 use Rattle.disk_defs.proofs.Moments.{holds_now, read_only}
 use Rattle.global_defs.specs.Entry.{Sequence}
 use Rattle.global_defs.specs.Extract.{extract}
-use Rattle.gvn_model.specs.declared.entry.Entry as code
 use Rattle.journal_defs.specs.Instance.{InstanceRecord, Create, Reigned, Cut, Map, Mode, NamedMode, generation, regions, site_name}
 use Rattle.journal_defs.specs.Directory.{patterns}
 use Rattle.journal_defs.specs.Sequence.{Records, IsSequence}

@@ -16,7 +16,7 @@ use Rattle.site_defs.specs.Stands.{IsSite, HasLeft, Stands, Reads}
 use Rattle.site_defs.specs.Behind.{IsStanding, IsSiteWith, StandsSo}
 use Rattle.mupip_rollback.specs.Rolling.{StandsFor}
 use Rattle.world_defs.specs.World as world
-use Rattle.world_defs.specs.World.{Place, Covers, CoversSo, AmongCovered, AmongCoveredSo, has_failed_on, StandAfter, IfShown}
+use Rattle.world_defs.specs.World.{Place, AmongCovered, AmongCoveredSo, has_failed_on, StandAfter, IfShown}
 use Rattle.world_defs.specs.Changes.{in_new_state, After, Becomes, Fails}
 use Rattle.world_defs.specs.Row.{in_state, why_not_down}
 use Rattle.world_defs.specs.Shown.{BySequence}

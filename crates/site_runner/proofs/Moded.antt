@@ -19,7 +19,7 @@ use Rattle.site_defs.specs.Contents.{Contents, Leftover, Standing, is_made, same
 use Rattle.site_defs.specs.Limits.{region_number}
 use Rattle.site_defs.specs.Opening.{with_mode, MaySetMode, MaySetModeLeft}
 use Rattle.site_defs.specs.Stands.{IsSite, HasLeft, Stands, Reads}
-use Rattle.site_defs.specs.Behind.{IsStanding, StandsSo}
+use Rattle.site_defs.specs.Behind.{IsStanding}
 use Rattle.site_store.specs.declared.layout.FoundSite.{FoundSite}
 use Rattle.site_store.specs.declared.layout.Layout.{Layout}
 use Rattle.site_store.specs.Opening.{region_value}

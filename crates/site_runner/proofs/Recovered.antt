@@ -17,7 +17,7 @@ use Rattle.site_defs.specs.Stands.{IsSite, HasLeft}
 use Rattle.site_store.specs.Opening.{EachStands}
 use Rattle.mupip_rollback.specs.Rolling.{StandsFor}
 use Rattle.world_defs.specs.World as world
-use Rattle.world_defs.specs.World.{Place, AmongCovered, AmongCoveredSo, IfShown}
+use Rattle.world_defs.specs.World.{Place, IfShown}
 use Rattle.world_defs.specs.Answers.{Cause, GenLimit, Running, Stopped, Refusal, line}
 use Rattle.world_defs.specs.Changes.{KeptUnknown}
 use Rattle.world_defs.specs.Row.{refused_with, in_state, why_not_down, where_known}

@@ -1,48 +1,35 @@
 -- ROLLBACK RESYNC at a place.
-use Rattle.std.proofs.Common.{◌≡◌, ℕ, zero, suc, ◌+◌, ◌-◌, ◌≤◌, ◌<◌, min, Bool, true, false, List, [], ◌∷◌, ◌++◌, length, drop, map, None, Some, refl, sym, ◌∙◌, ap, subst, arith, inl, inr, if◌then◌else◌, length-take-le, slice_get}
-use Rattle.std.specs.Prelude.{◌⊎◌, ◌&&◌, ◌||◌, not, Option, codes, IfSome, IsSome}
+use Rattle.std.proofs.Common.{◌≡◌, ℕ, ◌+◌, ◌-◌, ◌≤◌, ◌<◌, min, Bool, true, false, List, [], ◌∷◌, ◌++◌, length, drop, map, None, Some, refl, sym, ◌∙◌, ap, subst, arith, inl, inr, if◌then◌else◌, length-take-le}
+use Rattle.std.specs.Prelude.{◌⊎◌, codes, IfSome, IsSome}
 use Rattle.std.specs.Fmt.{decimal}
-use Rattle.std.specs.List.{AllByRecursion, filter_map, cons_option, list_any, find}
-use Rattle.std.specs.Option.{option_map}
-use Rattle.std.proofs.lemmas.Bool.{false≢true, eqb-true}
 use Rattle.disk_defs.specs.Disk.{Files, View, Image, IsLawful, AtEachMoment, Rose}
-use Rattle.disk_defs.proofs.Told.{both_weak}
 use Rattle.global_defs.specs.Entry.{Sequence}
 use Rattle.global_defs.specs.Extract.{field, entries_text}
 use Rattle.journal_defs.specs.Numbers.{INSTANCE}
-use Rattle.journal_defs.specs.Journal.{JournalRecord, Start, Pini, Epoch, Pblk, Tcom, IsNoPini, BeginsWithPini}
 use Rattle.journal_defs.specs.Instance as records
-use Rattle.journal_defs.specs.Instance.{InstanceRecord, NamedMode, generation, regions, site_name}
-use Rattle.journal_defs.specs.Sequence.{Placed, Records, IsSequence}
-use Rattle.journal_defs.specs.Stands.{IsInstance, IsJournal, AreRecords, in_generation}
-use Rattle.journal_defs.specs.Epochs.{Chosen, chosen, starts_without, is_without}
+use Rattle.journal_defs.specs.Instance.{InstanceRecord, generation, regions, site_name}
+use Rattle.journal_defs.specs.Sequence.{Records, IsSequence}
+use Rattle.journal_defs.specs.Stands.{IsInstance, AreRecords}
 use Rattle.journal_laws.proofs.Drawing.{generation-cut}
-use Rattle.journal_laws.proofs.Readings.{records_one}
 use Rattle.command_defs.specs.Commands.{Name}
 use Rattle.site_defs.specs.Lists.{Among}
 use Rattle.site_defs.specs.Contents.{Contents, Leftover, Standing, bare}
 use Rattle.site_defs.specs.Opening.{cut_with, with_starts}
 use Rattle.site_defs.specs.OutsideBlocks.{IsOutsideRollback}
 use Rattle.site_defs.specs.Rolling.{lost_text, kept_first, rolled_open, rolled, MayRollBack, MayRollBackLeft}
-use Rattle.site_defs.specs.Stands.{start_in, IsSite, HasLeft}
-use Rattle.site_store.specs.declared.layout.Layout.{Layout}
-use Rattle.site_store.specs.declared.layout.RegionSpec.{RegionSpec}
-use Rattle.site_store.specs.Opening.{EachStands, region_value}
-use Rattle.site_store.specs.Finding.{HasLayout}
-use Rattle.site_store.proofs.Found.{instance_one}
+use Rattle.site_defs.specs.Stands.{IsSite, HasLeft}
+use Rattle.site_store.specs.Opening.{EachStands}
 use Rattle.mupip_rollback.specs.Rolling.{StandsFor}
 use Rattle.site_store.specs.Needing.{NoneIsWithout}
 use Rattle.world_defs.specs.World as world
 use Rattle.world_defs.specs.World.{Place, UNTOLD, AmongCovered, AmongCoveredSo, IfShown}
-use Rattle.world_defs.specs.Answers.{Cause, GenLimit, NoBefore, Running, Stopped, Refusal, line}
+use Rattle.world_defs.specs.Answers.{Cause, GenLimit, Running, Stopped, Refusal, line}
 use Rattle.world_defs.specs.Row.{first, refused_with, in_state, why_not_down, where_known}
-use Rattle.world_defs.specs.Shown.{HasNoLayout}
 use Rattle.world_defs.specs.rows.Start.{generation_limit}
 use Rattle.world_defs.specs.rows.Rollback.{stay_of, before_cause, no_before, MayRollBackTo, MayRollBackToLeft, RolledBackBy, RollbackRefusedBy, rollback}
 use Rattle.site_runner.specs.declared.slot.State.TheVariants.{Down, Failed}
 use Rattle.site_runner.specs.declared.slot.Site.{Site}
 use Rattle.site_runner.specs.Sites.{state_value, IsOf}
-use Rattle.site_runner.specs.Executes.{Comes}
 use Rattle.site_runner.specs.Steps.{IsAt, ExecutesAt, IsCutAt}
 use Rattle.site_runner.specs.Refusing.{IsDownAt}
 use Rattle.site_runner.proofs.Amongs.{among_first, among_second, among_either, among_map, map_among}
@@ -52,7 +39,7 @@ use Rattle.site_runner.proofs.Marked.{marks, among_marks, marks_are, among_left,
 use Rattle.site_runner.proofs.Seen.{counted, kept_counted}
 use Rattle.site_runner.proofs.Started.{each_stands, unknown_at, stand_one}
 use Rattle.world_laws.proofs.Bare.{none_needing}
-use Rattle.site_runner.proofs.Leaving.{Ends, EndsSo, left_cut, left_failed, Done, done_at, down_at, still_down, down_counted, early_none, StepsAt, StepsSo, may_have, nothing_had, WasRead, HeldSo, was_read}
+use Rattle.site_runner.proofs.Leaving.{Ends, EndsSo, left_cut, left_failed, Done, done_at, down_at, still_down, down_counted, early_none, StepsAt, StepsSo, may_have, WasRead, HeldSo, was_read}
 
 pub rollback_not_down : (number : ℕ) (v : View) (s : Site) (cause : Cause) (p : Place) → why_not_down (state_value s.state) ≡ Some cause → IsAt v s p → (rollback number s.name p).early ≡ refused_with s.name (Some cause)
 rollback_not_down number v s cause p e h = ap (refused_with s.name) (state_at why_not_down v s p h ∙ e)

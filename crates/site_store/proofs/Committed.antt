@@ -15,7 +15,6 @@ use Rattle.disk_defs.proofs.Moments.{weaker, then_more, holds_now, started}
 use Rattle.global_defs.specs.Entry.{Update, Entry, Sequence, Transaction, apply, state}
 use Rattle.global_defs.specs.Evaluation.{MOST_NODES}
 use Rattle.global_defs.specs.Prefix.{stamp_at}
-use Rattle.gvn_model.specs.declared.entry.Entry as code_entry
 use Rattle.gvn_model.specs.declared.entry.Transaction as code
 use Rattle.gvn_model.specs.declared.reign.Stamp as code_stamp
 use Rattle.gvn_model.specs.Entries.{transaction_value, entry_value}

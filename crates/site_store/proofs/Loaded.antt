@@ -10,7 +10,6 @@ use Rattle.disk_defs.proofs.Moments.{weaker, then_more, holds_now}
 use Rattle.global_defs.specs.Entry.{Update, Entry, Sequence, Globals, Reign, apply, state}
 use Rattle.std.specs.FinMap as globals
 use Rattle.global_defs.specs.Fields.{IsSiteName}
-use Rattle.gvn_model.specs.declared.entry.Entry as code
 use Rattle.journal_defs.specs.Instance.{InstanceRecord, Create, Reigned, Cut, Map, Mode, IsInForm, BeginsWithCreate, generation, regions, site_name}
 use Rattle.journal_defs.specs.Surviving.{reigns}
 use Rattle.journal_defs.specs.Sequence.{Placed, Records, IsSequence}
@@ -24,7 +23,7 @@ use Rattle.instance_file.specs.Instance as instances
 use Rattle.jnl_file.specs.Journal as journals
 use Rattle.jnl_file.specs.Records.{settled}
 use Rattle.jnl_file.specs.declared.journal.Journal.{Journal}
-use Rattle.region_journals.specs.Journals.{AreReady, HasSyncs, KeepsJournals}
+use Rattle.region_journals.specs.Journals.{HasSyncs}
 use Rattle.region_journals.specs.Journals as region_journals
 use Rattle.region_journals.specs.declared.journals.RegionJournal.{RegionJournal}
 use Rattle.site_files.specs.Loading.{MayBeOpened, AreRead, WasRead, MayDrawAs, HasDrawnAs, next_cut, next_broken, next_pini_as}

@@ -8,7 +8,7 @@ use Rattle.disk_defs.proofs.Told.{with_told, weaker_told}
 use Rattle.disk_defs.proofs.Moments.{weaker, then_more, holds_now}
 use Rattle.journal_defs.specs.Numbers.{INSTANCE}
 use Rattle.journal_defs.specs.Instance as records
-use Rattle.journal_defs.specs.Instance.{InstanceRecord, NamedMode, IsInstanceBody}
+use Rattle.journal_defs.specs.Instance.{InstanceRecord, IsInstanceBody}
 use Rattle.journal_defs.specs.Stands.{IsInstance}
 use Rattle.journal_laws.proofs.NewDisks.{created_is_fit}
 use Rattle.instance_file.specs.Instance.{HoldsRecords, HasRecords, StandsWith, MayCreate}

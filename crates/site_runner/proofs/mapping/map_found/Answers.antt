@@ -1,9 +1,5 @@
-use Rattle.std.proofs.Common.{◌≡◌, ◌<◌, ℕ, Bool, true, subst, List, take, map, Some, None, sym, ◌∙◌, ap, arith, Err}
-use Rattle.std.specs.Prelude.{Option}
-use Rattle.site_defs.specs.Lists.{first_where}
+use Rattle.std.proofs.Common.{◌≡◌, ◌<◌, ℕ, true, subst, Some, None, sym, ◌∙◌, ap, arith, Err}
 use Rattle.site_defs.specs.Contents.{same_name}
-use Rattle.site_store.specs.declared.layout.Layout.{Layout}
-use Rattle.site_store.specs.Opening.{region_value}
 use Rattle.site_runner.proofs.Ats.{on_not_done}
 use Rattle.site_runner.proofs.Results.{err_holds}
 use Rattle.site_runner.proofs.Written.{named}

@@ -1,4 +1,4 @@
-use Rattle.std.proofs.Common.{ℕ, ◌-◌, ◌<◌, min, length, Bool, Option, IfSome, refl, ◌∙◌, ap, subst, sym, Err}
+use Rattle.std.proofs.Common.{◌-◌, ◌<◌, min, length, Bool, Option, IfSome, refl, ◌∙◌, ap, subst, sym, Err}
 use Rattle.disk_defs.specs.Disk.{Files}
 use Rattle.global_defs.specs.Entry.{Sequence}
 use Rattle.journal_defs.specs.Instance.{generation}

@@ -1,4 +1,4 @@
-use Rattle.std.proofs.Common.{ℕ, ◌-◌, ◌++◌, ◌≡◌, refl, subst}
+use Rattle.std.proofs.Common.{◌-◌, ◌++◌, ◌≡◌, refl, subst}
 use Rattle.std.specs.Prelude.{slice_get, IfSome}
 use Rattle.global_defs.specs.Entry.{Entry, Sequence}
 use Rattle.global_defs.specs.Extract.{entry_text}
