@@ -1,0 +1,6 @@
+pub mod Errors
+pub mod Parts
+pub mod Signs
+pub mod Table
+pub mod Completing
+pub mod Indexes

@@ -1,0 +1,33 @@
+-- Parts of entries by their places.
+use Rattle.std.specs.Prelude.{◌≡◌, ℕ, ◌≤◌, ◌<◌, ◌==◌, if◌then◌else◌, List, length, get_or, Option, Some, None}
+use Rattle.disk_defs.specs.Disk.{Files}
+use Rattle.journal_defs.specs.Journal.{JournalRecord, Pini, Epoch, Pblk, Tcom, Part}
+use Rattle.journal_defs.specs.Numbers.{journal_file}
+use Rattle.gvn_model.specs.Entries.{origin_value}
+use Rattle.jnl_index.specs.Places.{StandsAt}
+use Rattle.entry_index.specs.declared.place.PartPlace.{PartPlace}
+use Rattle.entry_index.specs.declared.reading.ReadPart.{ReadPart}
+
+-- the place of no part
+abbrev pub NOWHERE : PartPlace
+NOWHERE = record { generation = 0; offset = 0 }
+
+-- The part of entry n that stands at this place of region r, if one does.
+abbrev pub IsPartAt : Files → ℕ → ℕ → PartPlace → Option Part → Type 0
+IsPartAt files r n p None = p.generation ≡ 0
+IsPartAt files r n p (Some x) = (1 ≤ p.generation) × (p.generation ≤ 65535) × (x.number ≡ n) × StandsAt (files (journal_file p.generation r)) p.offset (Tcom x)
+
+-- These are the parts of entry n that stand at a place in each region; the other regions have none.
+pub record AreParts (files : Files) (n : ℕ) (row : List PartPlace) (part : ℕ → Option Part) : Type 0 where
+  pub each : (r : ℕ) → r < length row → IsPartAt files r n (get_or row r NOWHERE) (part r)
+  pub no_more : (r : ℕ) → length row ≤ r → part r ≡ None
+
+-- the part that a record is, where it has this number
+abbrev pub part_with : ℕ → JournalRecord → Option Part
+part_with n (Tcom p) = if p.number == n then Some p else None
+part_with n (Pini s) = None
+part_with n (Epoch m) = None
+part_with n (Pblk b) = None
+
+abbrev pub read_value : ReadPart → Part
+read_value p = record { number = p.number; mask = p.mask; origin = origin_value p.origin; count = p.count; items = p.items }

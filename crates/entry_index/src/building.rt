@@ -1,0 +1,103 @@
+//! Indexes built from the signs of records.
+ghost use Rattle.std.specs.Prelude.{◌≡◌, ◌≤◌, ◌<◌, ◌+◌, ◌*◌, ◌^◌, ℕ, List, length, map, Option, None, IfOk, IfSome, IsErrOf, if◌then◌else◌};
+ghost use Rattle.disk_defs.specs.Disk.{Reads, Rose};
+ghost use Rattle.global_defs.specs.Entry as defs;
+ghost use Rattle.gvn_model.specs.Reigns.{reign_value};
+ghost use Rattle.journal_defs.specs.Journal as journal;
+ghost use Rattle.journal_defs.specs.Sequence as sequences;
+ghost use Rattle.journal_defs.specs.Surviving as surviving;
+ghost use Rattle.mupip_recover.specs.Stamps.{AreStarts};
+ghost use Rattle.entry_index.specs.Indexes.{AreSigns, Indexes, IsNext};
+ghost use Rattle.entry_index.specs.Table.{AreSigned};
+
+use crate::completing::{is_complete, places_of};
+use crate::error::IndexError;
+use crate::index::EntryIndex;
+use crate::table::{SignTable, count_all};
+use gvn_model::{Reign, Reigns};
+use instance_file::InstanceRecords;
+use jnl_index::PlacedSign;
+use mupip_recover::{Cuts, stamp_at, starts_of};
+use repl_disk::Disk;
+use std::alloc::Global;
+
+/// Adds the row of the entry at a place, where it's complete and a reign had begun by then, and answers whether it is.
+fn add_row<D: Disk>(
+    alloc: Global,
+    disk: &mut D,
+    table: &SignTable,
+    reigns: &[Reign],
+    starts: &[u64],
+    place: usize,
+    made: &mut EntryIndex,
+) -> Result<bool, IndexError>
+    requires starts { AreStarts (map reign_value reigns.now) starts.now }
+    requires place { place + 1 < 2 ^ 64 }
+    requires few { made.old.regions ≤ 8 }
+    ensures added { IfOk result (λ more. IfSome (D.disk disk.old).content (λ files. (part : ℕ → Option journal.Part) → AreSigned files table.now place (place + 1) part → ((r : ℕ) → made.old.regions ≤ r → part r ≡ None)
+        → IsNext files (map reign_value reigns.now) (place + 1) part more made.old.places.items made.new.places.items)) }
+    ensures many { IfOk result (λ more. length made.new.places.items ≡ (if more then length made.old.places.items + made.old.regions else length made.old.places.items)) }
+    ensures regions { made.new.regions ≡ made.old.regions }
+    ensures outside { (file offset : ℕ) → IsErrOf result (IndexError.NotAFile file offset) → IfSome (D.disk disk.old).content (λ files. (part : ℕ → Option journal.Part) → AreSigned files table.now place (place + 1) part → ((r : ℕ) → made.old.regions ≤ r → part r ≡ None) → ⊥) }
+    ensures reads { Reads (D.disk disk.old) (D.disk disk.new) }
+    ensures later { (D.disk disk.old).faults ≤ (D.disk disk.new).faults }
+    ensures cause { IsErrOf result IndexError.Failed → Rose (D.disk disk.old).faults (D.disk disk.new).faults }
+{
+    if stamp_at(reigns, starts, place as u64 + 1).is_none() {
+        return Ok(false);
+    }
+    let row = places_of(alloc, table, place, made.regions)?;
+    let complete = is_complete(alloc, disk, table, place, &row)?;
+    if complete {
+        made.push(&row)?;
+    }
+    Ok(complete)
+}
+
+impl EntryIndex {
+    /// The index of the sequence that the records with these signs stand for. `history` has the surviving reigns, and `signs` a list for
+    /// each region, from region 0 on, in journal order.
+    ///
+    /// The signs are gone through once. The records of an entry are read again only where the positions of its updates don't lie in rows,
+    /// one region after the other.
+    ///
+    /// # Errors
+    /// `NotAFile`, with the file and the place of a part, only where the files don't have there what the signs say; `Failed` only where
+    /// the disk's count rose; and `NoMemory`.
+    pub fn build<D: Disk>(
+        alloc: Global,
+        disk: &mut D,
+        instance: &InstanceRecords,
+        history: &Reigns,
+        signs: &[Vec<PlacedSign>],
+    ) -> Result<EntryIndex, IndexError>
+        requires history { history.now ≡ surviving.reigns instance.now }
+        requires few { length signs.now ≤ 8 }
+        ensures sequence { IfOk result (λ made. IfSome (D.disk disk.old).content (λ files. (journal : ℕ → List sequences.Placed) → AreSigns files (map (λ s. s.items) signs.now) journal
+            → (seq : defs.Sequence) × sequences.IsSequence (record { instance = instance.now; journal = journal }) seq × Indexes files (surviving.reigns instance.now) made seq)) }
+        ensures regions { IfOk result (λ made. made.regions ≡ length signs.now) }
+        ensures rows { IfOk result (λ made. (rows : ℕ) × (length made.places.items ≡ made.regions * rows)) }
+        ensures outside { (file offset : ℕ) → IsErrOf result (IndexError.NotAFile file offset) → IfSome (D.disk disk.old).content (λ files. (journal : ℕ → List sequences.Placed) → AreSigns files (map (λ s. s.items) signs.now) journal → ⊥) }
+        ensures reads { Reads (D.disk disk.old) (D.disk disk.new) }
+        ensures later { (D.disk disk.old).faults ≤ (D.disk disk.new).faults }
+        ensures cause { IsErrOf result IndexError.Failed → Rose (D.disk disk.old).faults (D.disk disk.new).faults }
+    {
+        let cuts = Cuts::of(alloc, instance)?;
+        let Some(places) = count_all(signs) else {
+            return Err(IndexError::NoMemory);
+        };
+        let table = SignTable::of(alloc, &cuts, places, signs)?;
+        let reigns = history.as_slice();
+        let starts = starts_of(alloc, reigns)?;
+        let mut made = EntryIndex {
+            regions: signs.len() as u8,
+            places: Vec::new(alloc),
+        };
+        for place in 0..places {
+            if !add_row(alloc, disk, &table, reigns, &starts, place, &mut made)? {
+                return Ok(made);
+            }
+        }
+        Ok(made)
+    }
+}

@@ -1,0 +1,209 @@
+//! Which entries are complete.
+ghost use Rattle.std.specs.Prelude.{◌≡◌, ◌==◌, ◌+◌, ◌<◌, ◌≤◌, ◌^◌, ℕ, List, length, true, is_some, Option, Some, None, IfOk, IfSome, IsErrOf, IsTrue};
+ghost use Rattle.std.specs.List.{list_all};
+ghost use Rattle.disk_defs.specs.Disk.{Files, Reads, Rose};
+ghost use Rattle.global_defs.specs.Entry as defs;
+ghost use Rattle.journal_defs.specs.Journal as journal;
+ghost use Rattle.journal_defs.specs.Sequence.{REGIONS, items_in, entry_among};
+ghost use Rattle.jnl_index.specs.Signs.{span_of};
+ghost use Rattle.mupip_recover.specs.Slots.{next_after, is_at};
+ghost use Rattle.entry_index.specs.Parts.{AreParts};
+ghost use Rattle.entry_index.specs.Signs.{Tells};
+ghost use Rattle.entry_index.specs.Table.{sign_at, AreSigned};
+ghost use Rattle.entry_index.specs.Completing.{agrees_by_sign, span_at, Decides, IsTold};
+
+use crate::error::IndexError;
+use crate::place::PartPlace;
+use crate::reading::read_transaction;
+use crate::sign;
+use crate::sign::PartSign;
+use crate::table::SignTable;
+use gvn_key::NoMemory;
+use jnl_index::Span;
+use repl_disk::Disk;
+use std::alloc::Global;
+
+/// What signs tell of an entry by one of its parts.
+#[derive(Clone, Copy, Debug, PartialEq, Eq)]
+pub enum Told {
+    /// It's complete.
+    Complete,
+    /// It isn't complete by this part.
+    Broken,
+    /// The positions of its updates decide, which signs don't tell.
+    Unsure,
+}
+
+/// Whether a region has a part like this one, or needs none.
+fn agrees(table: &SignTable, place: usize, head: &PartSign, region: u8) -> bool
+    requires { region < 8 }
+    ensures { result ≡ agrees_by_sign head.now (sign_at table.now place region) region }
+{
+    if !head.is_in(region) {
+        return true;
+    }
+    match table.part(place, region) {
+        None => false,
+        Some(found) => head.is_like(&found),
+    }
+}
+
+/// Whether each region of a part's mask has a part that is like it.
+fn all_agree(table: &SignTable, place: usize, head: &PartSign) -> bool
+    ensures { result ≡ list_all (λ r. agrees_by_sign head.now (sign_at table.now place r) r) REGIONS }
+{
+    for region in 0..sign::REGIONS {
+        if !agrees(table, place, head, region) {
+            return false;
+        }
+    }
+    true
+}
+
+/// How the positions of a region's items lie, where it's in the mask of this part; those of no item else.
+fn span_in(table: &SignTable, place: usize, head: &PartSign, region: u8) -> Span
+    requires { region < 8 }
+    ensures { result ≡ span_at head.now.mask (sign_at table.now place) region }
+{
+    let nothing = Span {
+        first: 0,
+        many: 0,
+        in_a_row: true,
+    };
+    if !head.is_in(region) {
+        return nothing;
+    }
+    match table.part(place, region) {
+        None => nothing,
+        Some(found) => found.span,
+    }
+}
+
+/// The position after those of a region's items, where these have the positions from `next` on, in order.
+fn position_after(next: u16, span: Span) -> Option<u16>
+    ensures { IfSome result (λ after. (items : List journal.Item) → span ≡ span_of items → next_after next items ≡ Some after) }
+{
+    if span.many == 0 {
+        return Some(next);
+    }
+    if span.in_a_row && span.first == next {
+        return next.checked_add(span.many);
+    }
+    None
+}
+
+/// Whether the items of the regions of a part's mask, one region after the other, have all positions up to its count in order.
+fn are_in_order(table: &SignTable, place: usize, head: &PartSign) -> bool
+    ensures { IsTrue result → (files : Files) (n : ℕ) (part : ℕ → Option journal.Part) → AreSigned files table.now place n part
+        → is_at head.now.count (next_after 0 (items_in head.now.mask part)) ≡ true }
+{
+    let mut next = 0;
+    for region in 0..sign::REGIONS {
+        let Some(after) = position_after(next, span_in(table, place, head, region)) else {
+            return false;
+        };
+        next = after;
+    }
+    next == head.count
+}
+
+/// Whether there are as many items in the regions of a part's mask as it counts.
+fn has_count(table: &SignTable, place: usize, head: &PartSign) -> bool
+    ensures { (files : Files) (n : ℕ) (part : ℕ → Option journal.Part) → AreSigned files table.now place n part
+        → result ≡ (length (items_in head.now.mask part) == head.now.count) }
+{
+    let mut left = head.count;
+    for region in 0..sign::REGIONS {
+        let many = span_in(table, place, head, region).many;
+        if many > left {
+            return false;
+        }
+        left -= many;
+    }
+    left == 0
+}
+
+/// What the signs at a place tell of the entry by one of its parts.
+fn told_by(table: &SignTable, place: usize, head: &PartSign) -> Told
+    ensures { (files : Files) (n : ℕ) (part : ℕ → Option journal.Part) → AreSigned files table.now place n part
+        → (r : ℕ) (p : journal.Part) → Tells files r n head.now p → Decides result part p }
+{
+    if !all_agree(table, place, head) {
+        return Told::Broken;
+    }
+    if are_in_order(table, place, head) {
+        return Told::Complete;
+    }
+    if has_count(table, place, head) {
+        Told::Unsure
+    } else {
+        Told::Broken
+    }
+}
+
+/// What the signs at a place tell of the entry there: by the first part by which it's complete, or may be.
+fn told_at(table: &SignTable, place: usize) -> Told
+    ensures { (files : Files) (n : ℕ) (part : ℕ → Option journal.Part) → AreSigned files table.now place n part → (stamp : defs.Stamp) → IsTold result (entry_among part stamp REGIONS) }
+{
+    for region in 0..sign::REGIONS {
+        if let Some(head) = table.part(place, region) {
+            match told_by(table, place, &head) {
+                Told::Broken => {}
+                told => return told,
+            }
+        }
+    }
+    Told::Broken
+}
+
+/// The places of an entry's parts, one a region, of so many regions.
+pub fn places_of(
+    alloc: Global,
+    table: &SignTable,
+    place: usize,
+    regions: u8,
+) -> Result<Vec<PartPlace>, NoMemory>
+    ensures parts { IfOk result (λ made. (files : Files) (n : ℕ) (part : ℕ → Option journal.Part) → AreSigned files table.now place n part
+        → ((r : ℕ) → regions ≤ r → part r ≡ None) → AreParts files n made.items part) }
+    ensures many { IfOk result (λ made. length made.items ≡ regions) }
+{
+    let mut made = Vec::with_capacity(alloc, usize::from(regions))?;
+    for region in 0..regions {
+        let stands = match table.part(place, region) {
+            None => PartPlace {
+                generation: 0,
+                offset: 0,
+            },
+            Some(found) => found.place,
+        };
+        made.push(stands)?;
+    }
+    Ok(made)
+}
+
+/// Whether the entry at a place of the table, with this row of places, is complete.
+pub fn is_complete<D: Disk>(
+    alloc: Global,
+    disk: &mut D,
+    table: &SignTable,
+    place: usize,
+    row: &[PartPlace],
+) -> Result<bool, IndexError>
+    requires few { length row.now ≤ 8 }
+    requires place { place + 1 < 2 ^ 64 }
+    ensures complete { IfOk result (λ complete. IfSome (D.disk disk.old).content (λ files. (part : ℕ → Option journal.Part) → AreSigned files table.now place (place + 1) part → AreParts files (place + 1) row.now part
+        → (stamp : defs.Stamp) → complete ≡ is_some (entry_among part stamp REGIONS))) }
+    ensures outside { (file offset : ℕ) → IsErrOf result (IndexError.NotAFile file offset) → IfSome (D.disk disk.old).content (λ files. (part : ℕ → Option journal.Part) → AreParts files (place + 1) row.now part → ⊥) }
+    ensures reads { Reads (D.disk disk.old) (D.disk disk.new) }
+    ensures later { (D.disk disk.old).faults ≤ (D.disk disk.new).faults }
+    ensures cause { IsErrOf result IndexError.Failed → Rose (D.disk disk.old).faults (D.disk disk.new).faults }
+{
+    match told_at(table, place) {
+        Told::Complete => Ok(true),
+        Told::Broken => Ok(false),
+        Told::Unsure => {
+            let found = read_transaction(alloc, disk, row, place as u64 + 1)?;
+            Ok(found.is_some())
+        }
+    }
+}

@@ -1,0 +1,5 @@
+//! Indexes of entries over disks in memory.
+#![tactic(auto)]
+
+#[cfg(test)]
+mod rows;

@@ -1,0 +1,6 @@
+pub mod Signs
+pub mod Places
+pub mod Fields
+pub mod Telling
+pub mod Pieces
+pub mod Generations
