@@ -4,3 +4,4 @@ pub mod Signs
 pub mod Table
 pub mod Completing
 pub mod Indexes
+pub mod Found
