@@ -5,3 +5,4 @@ pub mod Table
 pub mod Completing
 pub mod Indexes
 pub mod Found
+pub mod Among

@@ -4,3 +4,4 @@ pub mod Fields
 pub mod Telling
 pub mod Pieces
 pub mod Generations
+pub mod Order
