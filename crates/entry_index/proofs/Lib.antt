@@ -5,3 +5,4 @@ pub mod Columns
 pub mod Signed
 pub mod Complete
 pub mod Building
+pub mod AmongLaws

@@ -7,3 +7,4 @@ mod Cuts
 mod Indexing
 mod Opened
 mod Heads
+pub mod Order

@@ -1,7 +1,11 @@
 -- Where the records of journals stand in their files, by the records alone.
-use Rattle.std.specs.Prelude.{◌≡◌, ◌+◌, ◌==◌, ℕ, List, [], ◌∷◌, length, take, slice_get, Some, if◌then◌else◌}
-use Rattle.journal_defs.specs.Journal.{JournalRecord, spelled_record}
+use Rattle.std.specs.Prelude.{◌≡◌, ◌+◌, ◌≤◌, ◌==◌, ℕ, List, [], ◌∷◌, ◌++◌, length, take, slice_get, Some, if◌then◌else◌}
+use Rattle.disk_defs.specs.Disk.{Files}
+use Rattle.disk_defs.specs.Gates.{Body, IsBody, framed}
+use Rattle.journal_defs.specs.Journal.{JournalRecord, IsJournalBody, spelled_record}
+use Rattle.journal_defs.specs.Numbers.{journal_file}
 use Rattle.journal_defs.specs.Sequence.{Placed}
+use Rattle.jnl_index.specs.Places.{StandsAt}
 use Rattle.jnl_index.specs.declared.placed.PlacedSign.{PlacedSign}
 
 -- how many bytes a record takes in its file: its gate, the length of its body, and that
@@ -22,3 +26,12 @@ pub record IsAmong (journal : List Placed) (generation offset : ℕ) (r : Journa
 -- each sign has the place of its record
 abbrev pub AreInOrder : List PlacedSign → List Placed → Type 0
 AreInOrder signs journal = (i : ℕ) (s : PlacedSign) → slice_get signs i ≡ Some s → s.offset ≡ bytes_in s.generation (take i journal)
+
+-- each of these records of a region is of a generation up to h, and stands at its place in that generation's file
+abbrev pub StandUpTo : Files → (region : ℕ) → (h : ℕ) → List Placed → Type 0
+StandUpTo files region h journal = (g o : ℕ) (r : JournalRecord) → IsAmong journal g o r → (g ≤ h) × StandsAt (files (journal_file g region)) o r
+
+-- the bodies of these records stand one behind another from the start of a file, each behind some gate
+abbrev pub AreLaid : List ℕ → List JournalRecord → Type 0
+AreLaid file [] = Unit {0}
+AreLaid file (r ∷ rs) = (gate : ℕ) × (body : Body) × (rest : List ℕ) × (file ≡ gate ∷ framed body ++ rest) × IsBody body × IsJournalBody body r × AreLaid rest rs

@@ -19,12 +19,13 @@ use Rattle.site_store.proofs.OpenedTo.{newly}
 use Rattle.site_store.proofs.Rolled.{open_cut}
 use Rattle.mupip_rollback.specs.Cutting.{IsCutOff}
 use Rattle.mupip_rollback.specs.declared.preparing.Kept.{Kept}
+use Rattle.entry_index.specs.Found.{entry_count}
 
 module _ (v w : View) (rs : List InstanceRecord) (kept : Kept) (form : MayBeOpened rs (last_of kept.last_began.items)) (lawful : IsLawful w)
-    (n : ℕ) (lasts : List ℕ) (n_is : n ≡ length kept.entries) (lasts_is : lasts ≡ kept.last_began.items)
+    (n : ℕ) (lasts : List ℕ) (n_is : n ≡ entry_count kept.entries) (lasts_is : lasts ≡ kept.last_began.items)
     (s : OpenSite) (entries : s.entries ≡ kept.entries) (globals : s.globals ≡ kept.globals) (hardened : s.hardened ≡ n) (begun : List Journal) (js_are : s.journals.journals.items ≡ map newly begun) where
   abbrev T : ℕ
-  T = length kept.entries
+  T = entry_count kept.entries
 
   abbrev L : List ℕ
   L = kept.last_began.items

@@ -21,6 +21,7 @@ use Rattle.site_store.specs.Opening.{EachStands, AreTextsDurable}
 use Rattle.site_store.specs.Standing.{HasFound, WasFound, found_records, found_entries}
 use Rattle.site_store.proofs.Alike.{image_site}
 use Rattle.site_store.proofs.Drawn.{site_read, left_read}
+use Rattle.entry_index.specs.Found.{entry_count}
 
 module _ (u v : View) (f : FoundFiles) (has : HasFound f) (was : WasFound u v f) where
   abbrev rs : List InstanceRecord
@@ -76,7 +77,7 @@ module _ (u v : View) (f : FoundFiles) (has : HasFound f) (was : WasFound u v f)
       (λ files r. (found_records f, seq, held_read rs last journal files r.holds, has.sequence, is))
 
   abbrev pub AllStand : Contents → Type 0
-  AllStand c = (length f.entries ≡ length c.sequence) × (EachStands u → (d : Files) → Image v d → IsSite d c)
+  AllStand c = (entry_count f.entries ≡ length c.sequence) × (EachStands u → (d : Files) → Image v d → IsSite d c)
 
   -- each image stands for the same
   pub site_is : IsLawful v → AtEachMoment u v (Image u) → IfSome u.content (λ files. (c : Contents) → IsSite files c → AllStand c)

@@ -30,6 +30,7 @@ use Rattle.mupip_rollback.specs.declared.preparing.Prepared.{Prepared}
 use Rattle.mupip_rollback.specs.Preparing.{IsPrepared, KeepsFirst, cut_records}
 use Rattle.site_store.specs.Needing.{NoneIsWithout}
 use Rattle.mupip_rollback.proofs.Founded as founded
+use Rattle.entry_index.specs.Found.{entry_count}
 
 -- another record
 pub name_more : (rs : List InstanceRecord) (x : InstanceRecord) → 0 < length rs → site_name (rs ++ x ∷ []) ≡ site_name rs
@@ -68,14 +69,14 @@ was_here u v f same was = record {
 abbrev pub IsAhead : View → View → FoundFiles → Type 0
 IsAhead v w f = IfSome v.content (λ _. (d : Files) → Image w d → AreUnbegun (suc (suc (generation f.read.log.records))) (length (regions f.read.log.records)) d)
 
-pub prepared : (v w : View) (f : FoundFiles) (t : ℕ) (k : StandingSite) (p : Prepared) → IsLawful w → Reads v w → HasFound f → t ≤ length f.entries → IsFoundAs f k → IsOpenFor v w f t k.globals
-    → p.log ≡ k.log → p.length ≡ length k.entries → p.broken ≡ k.broken → p.lost ≡ extract (site_name f.read.log.records) (found_entries f) (t + 1) → KeepsFirst t k p.kept
+pub prepared : (v w : View) (f : FoundFiles) (t : ℕ) (k : StandingSite) (p : Prepared) → IsLawful w → Reads v w → HasFound f → t ≤ entry_count f.entries → IsFoundAs f k → IsOpenFor v w f t k.globals
+    → p.log ≡ k.log → p.length ≡ entry_count k.entries → p.broken ≡ k.broken → p.lost ≡ extract (site_name f.read.log.records) (found_entries f) (t + 1) → KeepsFirst t k p.kept
     → WasFound v v f → IsAhead v v f → IsPrepared w p
 prepared v w f t k p lawful reads has most stays regions_open log count broken lost kept was ahead =
     let rs = f.read.log.records in
     let run = read_only v w reads in
     let items : p.kept.entries ≡ take t f.entries = kept.entries ∙ ap (take t) stays.entries in
-    let size : length p.kept.entries ≡ t = ap length items ∙ length-take-le t f.entries most in
+    let size : entry_count p.kept.entries ≡ t = ap length items ∙ length-take-le t f.entries most in
     record {
       found = f;
       has = has;
@@ -95,7 +96,7 @@ prepared v w f t k p lawful reads has most stays regions_open log count broken l
     }
 
 -- what was found of it, before anything else is known
-module _ (u v : View) (f : FoundFiles) (has : HasFound f) (was : WasFound u v f) (to t : ℕ) (t_is : t ≡ min to (length f.entries)) where
+module _ (u v : View) (f : FoundFiles) (has : HasFound f) (was : WasFound u v f) (to t : ℕ) (t_is : t ≡ min to (entry_count f.entries)) where
   t_so : t ≡ min to (length (found_entries f))
   t_so = t_is
 
@@ -108,18 +109,18 @@ module _ (u v : View) (f : FoundFiles) (has : HasFound f) (was : WasFound u v f)
   pub told_without : (P : Records → ℕ → Type 0) → P (found_records f) t → IfSome u.content (λ files. (x : Records) × (es : Sequence) × AreRecords files x × IsSequence x es × P x (min to (length es)))
   told_without P is = founded.held_so u v f has was (λ x es. P x (min to (length es))) (subst (P (found_records f)) t_so is)
 
-  pub held_of : (o : Result Prepared RollError) → IfOk o (λ p. p.log.records ≡ f.read.log.records) → IfOk o (λ p. length p.kept.entries ≡ t) → OnOk o (NoneIsWithout (found_records f) t)
-      → IfOk o (λ p. IfSome u.content (λ files. (x : Records) × (es : Sequence) × AreRecords files x × IsSequence x es × (x.instance ≡ p.log.records) × (length p.kept.entries ≡ min to (length es)) × NoneIsWithout x (min to (length es))))
+  pub held_of : (o : Result Prepared RollError) → IfOk o (λ p. p.log.records ≡ f.read.log.records) → IfOk o (λ p. entry_count p.kept.entries ≡ t) → OnOk o (NoneIsWithout (found_records f) t)
+      → IfOk o (λ p. IfSome u.content (λ files. (x : Records) × (es : Sequence) × AreRecords files x × IsSequence x es × (x.instance ≡ p.log.records) × (entry_count p.kept.entries ≡ min to (length es)) × NoneIsWithout x (min to (length es))))
   held_of (Err e) records kept none = tt
   held_of (Ok p) records kept none = weaker_told u.content (WasRead v f.read.log.records (last_of f.read.last_began.items) (found_records f).journal)
-      (λ files. (x : Records) × (es : Sequence) × AreRecords files x × IsSequence x es × (x.instance ≡ p.log.records) × (length p.kept.entries ≡ min to (length es)) × NoneIsWithout x (min to (length es))) was.read
+      (λ files. (x : Records) × (es : Sequence) × AreRecords files x × IsSequence x es × (x.instance ≡ p.log.records) × (entry_count p.kept.entries ≡ min to (length es)) × NoneIsWithout x (min to (length es))) was.read
       (λ files r. (found_records f, found_entries f, held_read f.read.log.records (last_of f.read.last_began.items) (found_records f).journal files r.holds, has.sequence, sym records, kept ∙ t_so, subst (NoneIsWithout (found_records f)) t_so none))
 
-  pub kept_of : (o : Result Prepared RollError) → IfOk o (λ p. p.length ≡ length f.entries) → IfOk o (λ p. length p.kept.entries ≡ t) → IfOk o (λ p. length p.kept.entries ≡ min to p.length)
+  pub kept_of : (o : Result Prepared RollError) → IfOk o (λ p. p.length ≡ entry_count f.entries) → IfOk o (λ p. entry_count p.kept.entries ≡ t) → IfOk o (λ p. entry_count p.kept.entries ≡ min to p.length)
   kept_of (Err e) all kept = tt
   kept_of (Ok p) all kept = omega (arith, all, kept, t_is)
 
-  pub site_of : (w : View) (o : Result Prepared RollError) → IsLawful v → IsLawful w → AtEachMoment u v (Image u) → Reads v w → IfOk o (λ p. p.length ≡ length f.entries)
+  pub site_of : (w : View) (o : Result Prepared RollError) → IsLawful v → IsLawful w → AtEachMoment u v (Image u) → Reads v w → IfOk o (λ p. p.length ≡ entry_count f.entries)
       → IfOk o (λ p. IfSome u.content (λ files. (c : Contents) → IsSite files c → (p.length ≡ length c.sequence) × (EachStands u → (d : Files) → Image w d → IsSite d c)))
   site_of w (Err e) lawful lawful_w synced reads all = tt
   site_of w (Ok p) lawful lawful_w synced reads all =

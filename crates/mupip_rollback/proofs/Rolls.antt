@@ -41,6 +41,7 @@ use Rattle.mupip_rollback.specs.declared.preparing.Prepared.{Prepared}
 use Rattle.mupip_rollback.proofs.Closed.{stands_for}
 use Rattle.mupip_rollback.proofs.Cuts as cuts
 use Rattle.mupip_rollback.proofs.Sites.{standing_of}
+use Rattle.entry_index.specs.Found.{entry_count}
 
 -- an image there is
 pub as_read : (v : View) (P : Files → Type 0) (Q : Files → Type 0) → IsLawful v → IfSome v.content P → ((f : Files) → Image v f → P f → Q f) → IfSome v.content Q
@@ -66,7 +67,7 @@ module _ (v : View) (p : Prepared) (P : IsPrepared v p) where
   many = length (regions rs)
 
   abbrev pub t : ℕ
-  t = length p.kept.entries
+  t = entry_count p.kept.entries
 
   size : p.length ≡ length seq
   size = P.counted

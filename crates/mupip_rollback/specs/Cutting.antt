@@ -12,6 +12,7 @@ use Rattle.site_files.specs.Loading.{AreRead, HasCut, MayCutOff, IsNoLonger, las
 use Rattle.site_regions.specs.Joined.{joined}
 use Rattle.site_store.specs.Site.{AreOnBlocks, AreSynced}
 use Rattle.mupip_rollback.specs.declared.preparing.Kept.{Kept}
+use Rattle.entry_index.specs.Found.{entry_count}
 
 -- the lost-transaction file of the next generation
 abbrev pub next_lost : List InstanceRecord → ℕ
@@ -40,10 +41,10 @@ pub record IsCutOff (v : View) (rs : List InstanceRecord) (c : Contents) (kept :
   pub seq : Sequence
   pub sequence : IsSequence (record { instance = rs; journal = journal }) seq
   pub none : broken (record { instance = rs; journal = journal }) (length seq) ≡ []
-  pub most : length kept.entries ≤ length seq
+  pub most : entry_count kept.entries ≤ length seq
   pub reads : (f : Files) → Image v f → AreRead rs (last_of kept.last_began.items) journal f
   pub stands : (f : Files) → Image v f → IsSite f c
-  pub entries : kept.entries ≡ take (length kept.entries) seq
+  pub entries : kept.entries ≡ take (entry_count kept.entries) seq
   pub synced : AreSynced v (length (regions rs))
-  pub on : (f : Files) → Image v f → AreOnBlocks f (record { instance = rs; journal = journal }) (length kept.entries) kept.globals
-  pub globals : joined kept.globals ≡ state (take (length kept.entries) seq)
+  pub on : (f : Files) → Image v f → AreOnBlocks f (record { instance = rs; journal = journal }) (entry_count kept.entries) kept.globals
+  pub globals : joined kept.globals ≡ state (take (entry_count kept.entries) seq)

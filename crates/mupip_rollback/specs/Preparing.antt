@@ -10,6 +10,7 @@ use Rattle.site_store.specs.Finding.{HasLayout}
 use Rattle.site_store.specs.Standing.{HasFound, WasFound, IsOpenFor, found_entries}
 use Rattle.mupip_rollback.specs.declared.preparing.Kept.{Kept}
 use Rattle.mupip_rollback.specs.declared.preparing.Prepared.{Prepared}
+use Rattle.entry_index.specs.Found.{entry_count}
 
 -- of a standing site the first so many entries are kept, in a layout of one generation more
 pub record KeepsFirst (t : ℕ) (k : StandingSite) (kept : Kept) : Type 0 where
@@ -32,12 +33,12 @@ pub record IsPrepared (v : View) (p : Prepared) : Type 0 where
   pub has : HasFound found
   pub was : WasFound v v found
   pub log : p.log ≡ found.read.log
-  pub counted : p.length ≡ length found.entries
+  pub counted : p.length ≡ entry_count found.entries
   pub broken : p.broken ≡ found.broken
   pub last_began : p.kept.last_began ≡ found.read.last_began
-  pub most : length p.kept.entries ≤ length found.entries
-  pub entries : p.kept.entries ≡ take (length p.kept.entries) (found_entries found)
+  pub most : entry_count p.kept.entries ≤ entry_count found.entries
+  pub entries : p.kept.entries ≡ take (entry_count p.kept.entries) (found_entries found)
   pub layout : (n m : ℕ) → HasLayout (cut_records (cut_records found.read.log.records n) m) p.kept.layout
-  pub regions_open : IsOpenFor v v found (length p.kept.entries) p.kept.globals
-  pub lost : p.lost ≡ extract (site_name found.read.log.records) (found_entries found) (length p.kept.entries + 1)
+  pub regions_open : IsOpenFor v v found (entry_count p.kept.entries) p.kept.globals
+  pub lost : p.lost ≡ extract (site_name found.read.log.records) (found_entries found) (entry_count p.kept.entries + 1)
   pub ahead : IfSome v.content (λ _. (f : Files) → Image v f → AreUnbegun (suc (suc (generation found.read.log.records))) (length (regions found.read.log.records)) f)

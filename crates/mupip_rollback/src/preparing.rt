@@ -19,6 +19,7 @@ ghost use Rattle.site_store.specs.Needing.{IsFirstWithout, NoneIsWithout};
 ghost use Rattle.site_store.specs.Opening.{EachStands};
 ghost use Rattle.site_store.specs.Standing.{HasFound, WasFound, IsFoundAs, IsOpenFor, found_records, found_entries};
 ghost use Rattle.mupip_rollback.specs.Preparing.{IsPrepared, KeepsFirst};
+ghost use Rattle.entry_index.specs.Found.{entry_count};
 
 use super::error::{RollError, in_files, in_site};
 use entry_log::EntryLog;
@@ -118,7 +119,7 @@ fn write_entries(entries: &[Entry], out: &mut Bytes) -> Result<(), NoMemory>
 /// The extract of the entries behind the first so many.
 fn extract_lost(alloc: Global, found: &FoundFiles, target: u64) -> Result<Bytes, NoMemory>
     requires has { HasFound found.now }
-    requires target { target ≤ length found.now.entries }
+    requires target { target ≤ entry_count found.now.entries }
     ensures { IfOk result (λ text. text ≡ extract (site_name found.now.read.log.records) (found_entries found.now) (target + 1)) }
 {
     let mut text = Bytes::new(alloc);
@@ -132,7 +133,7 @@ fn extract_lost(alloc: Global, found: &FoundFiles, target: u64) -> Result<Bytes,
 fn keep_first(standing: StandingSite, target: u64, lost: Bytes) -> Prepared
     requires low { standing.layout.generation < 65535 }
     ensures log { result.log ≡ standing.log }
-    ensures length { result.length ≡ length standing.entries }
+    ensures length { result.length ≡ entry_count standing.entries }
     ensures broken { result.broken ≡ standing.broken }
     ensures lost { result.lost ≡ lost }
     ensures kept { KeepsFirst target standing result.kept }
@@ -171,13 +172,13 @@ fn open_first<D: Disk>(
     target: u64,
 ) -> Result<Prepared, RollError>
     requires has { HasFound found }
-    requires target { target ≤ length found.entries }
-    ensures kept { IfOk result (λ p. length p.kept.entries ≡ target) }
+    requires target { target ≤ entry_count found.entries }
+    ensures kept { IfOk result (λ p. entry_count p.kept.entries ≡ target) }
     ensures prepared { IfOk result (λ p. WasFound (D.disk disk.old) (D.disk disk.old) found → IfSome (D.disk disk.old).content (λ _. (d : Files) → Image (D.disk disk.old) d → AreUnbegun (suc (suc (generation found.read.log.records))) (length (regions found.read.log.records)) d) → IsPrepared (D.disk disk.new) p) }
     ensures records { IfOk result (λ p. p.log.records ≡ found.read.log.records) }
-    ensures length { IfOk result (λ p. p.length ≡ length found.entries) }
+    ensures length { IfOk result (λ p. p.length ≡ entry_count found.entries) }
     ensures broken { IfOk result (λ p. p.broken ≡ found.broken) }
-    ensures place { (file offset : ℕ) → IsErrOf result (RollError.NotAFile file offset) → (to : ℕ) → target ≡ min to (length found.entries) → IfSome (D.disk disk.old).content (λ files. AreRecords files (found_records found) → IsOutsideRollback to files file offset) }
+    ensures place { (file offset : ℕ) → IsErrOf result (RollError.NotAFile file offset) → (to : ℕ) → target ≡ min to (entry_count found.entries) → IfSome (D.disk disk.old).content (λ files. AreRecords files (found_records found) → IsOutsideRollback to files file offset) }
     ensures outside { (file offset : ℕ) → IsErrOf result (RollError.NotAFile file offset) → WasFound (D.disk disk.old) (D.disk disk.old) found → IfSome (D.disk disk.old).content (λ files. (c : Contents) → IsSite files c → ⊥) }
     ensures limit { IsErrOf result RollError.GenLimit → ⊥ }
     ensures first { (region generation : ℕ) → IsErrOf result (RollError.NoBeforeImage region generation) → IsFirstWithout (found_records found) target region generation }
@@ -202,8 +203,8 @@ fn open_first<D: Disk>(
 /// As [`super::rolling::rollback`]'s.
 pub(crate) fn prepare<D: Disk>(alloc: Global, disk: &mut D, to: u64) -> Result<Prepared, RollError>
     ensures prepared { IfOk result (IsPrepared (D.disk disk.new)) }
-    ensures held { IfOk result (λ p. IfSome (D.disk disk.old).content (λ files. (u : Records) × (seq : Sequence) × AreRecords files u × IsSequence u seq × (u.instance ≡ p.log.records) × (length p.kept.entries ≡ min to (length seq)) × NoneIsWithout u (min to (length seq)))) }
-    ensures kept { IfOk result (λ p. length p.kept.entries ≡ min to p.length) }
+    ensures held { IfOk result (λ p. IfSome (D.disk disk.old).content (λ files. (u : Records) × (seq : Sequence) × AreRecords files u × IsSequence u seq × (u.instance ≡ p.log.records) × (entry_count p.kept.entries ≡ min to (length seq)) × NoneIsWithout u (min to (length seq)))) }
+    ensures kept { IfOk result (λ p. entry_count p.kept.entries ≡ min to p.length) }
     ensures site { IfOk result (λ p. IfSome (D.disk disk.old).content (λ files. (c : Contents) → IsSite files c → (p.length ≡ length c.sequence) × (EachStands (D.disk disk.old) → (f : Files) → Image (D.disk disk.new) f → IsSite f c))) }
     ensures left { IfOk result (λ p. IfSome (D.disk disk.old).content (λ files. (c : Contents) (left : Leftover) → IsSite files c → HasLeft files c left → left.broken ≡ p.broken)) }
     ensures limit { IsErrOf result RollError.GenLimit → IfSome (D.disk disk.old).content (λ files. (rs : List defs.InstanceRecord) → IsInstance (files INSTANCE) rs → 65534 ≤ generation rs) }

@@ -16,6 +16,7 @@ ghost use Rattle.site_store.specs.Opening.{EachStands};
 ghost use Rattle.site_store.specs.Refusing.{IsUnwritten};
 ghost use Rattle.mupip_rollback.specs.Preparing.{IsPrepared};
 ghost use Rattle.mupip_rollback.specs.Rolling.{StandsFor, MayStandRolled, MayBeRolledBack, MayBeRolledBackWith};
+ghost use Rattle.entry_index.specs.Found.{entry_count};
 
 use super::cutting::{begin_kept, set_aside};
 use super::error::{RollError, in_site};
@@ -36,8 +37,8 @@ pub struct Rolled {
 /// Rolls a site back that was prepared for it: both CUTs, the lost-transaction file between them, and the closing epoch.
 fn roll<D: Disk>(alloc: Global, disk: &mut D, prepared: Prepared) -> Result<(), RollError>
     requires prepared { IsPrepared (D.disk disk.old) prepared }
-    ensures done { OnOk result (IfSome (D.disk disk.old).content (λ _. (c : Contents) → ((f : Files) → Image (D.disk disk.old) f → IsSite f c) → StandsFor (D.disk disk.new) (rolled (length prepared.kept.entries) prepared.broken c))) }
-    ensures any_moment { IfSome (D.disk disk.old).content (λ _. (c : Contents) → ((f : Files) → Image (D.disk disk.old) f → IsSite f c) → AtEachMoment (D.disk disk.old) (D.disk disk.new) (MayStandRolled (length prepared.kept.entries) (record { contents = c; broken = prepared.broken }))) }
+    ensures done { OnOk result (IfSome (D.disk disk.old).content (λ _. (c : Contents) → ((f : Files) → Image (D.disk disk.old) f → IsSite f c) → StandsFor (D.disk disk.new) (rolled (entry_count prepared.kept.entries) prepared.broken c))) }
+    ensures any_moment { IfSome (D.disk disk.old).content (λ _. (c : Contents) → ((f : Files) → Image (D.disk disk.old) f → IsSite f c) → AtEachMoment (D.disk disk.old) (D.disk disk.new) (MayStandRolled (entry_count prepared.kept.entries) (record { contents = c; broken = prepared.broken }))) }
     ensures limit { IsErrOf result RollError.GenLimit → ⊥ }
     ensures without { (region generation : ℕ) → IsErrOf result (RollError.NoBeforeImage region generation) → ⊥ }
     ensures no_forward { (region : ℕ) → IsErrOf result (RollError.NeedForward region) → ⊥ }

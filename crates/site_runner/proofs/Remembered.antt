@@ -4,10 +4,10 @@ use Rattle.std.specs.Prelude.{IsTrue}
 use Rattle.disk_defs.specs.Disk.{View}
 use Rattle.site_defs.specs.Contents.{Contents}
 use Rattle.site_store.specs.declared.site.OpenSite.{OpenSite}
-use Rattle.site_store.specs.Site.{Remembers, IsOpen}
+use Rattle.site_store.specs.Site.{Remembers, IsOpen, count_of}
 
 -- as many as the sequence has
-pub entries_count : (c : Contents) (hardened : ℕ) (o : OpenSite) → Remembers c hardened o → length o.entries ≡ length c.sequence
+pub entries_count : (c : Contents) (hardened : ℕ) (o : OpenSite) → Remembers c hardened o → count_of o ≡ length c.sequence
 entries_count c hardened o m = m.count
 
 -- and those of the sequence itself, where the files are known

@@ -19,7 +19,7 @@ use Rattle.journal_defs.specs.Instance.{InstanceRecord, Create, Reigned, Cut, Ma
 use Rattle.journal_defs.specs.Surviving.{reigns}
 use Rattle.journal_defs.specs.Fit.{MOST_REIGNS}
 use Rattle.site_store.specs.declared.site.OpenSite.{OpenSite}
-use Rattle.site_store.specs.Site.{Remembers, IsOpen, WasOpenedFrom}
+use Rattle.site_store.specs.Site.{Remembers, IsOpen, WasOpenedFrom, count_of}
 use Rattle.site_store.specs.Opening.{MayBeOpen, MayBeOpenWith, EachStands}
 use Rattle.repl_section.specs.declared.reign.Reign.{Reign}
 use Rattle.repl_section.specs.Reigns.{stamp_in, stamp_of}
@@ -593,7 +593,7 @@ reign_limited v nothing s o before now law limit t p h = elim (is_true_or_false 
   | inr unsure ↦ reign_limit_untold v s o before now p h unsure limit t
 ]
 
-entries_open : (v : View) (told : Bool) (c : Contents) (n : ℕ) (o : OpenSite) → IsOpen v told c n o → length o.entries ≡ length c.sequence
+entries_open : (v : View) (told : Bool) (c : Contents) (n : ℕ) (o : OpenSite) → IsOpen v told c n o → count_of o ≡ length c.sequence
 entries_open v told c n o h = entries_count c n o h.remembered
 
 -- the reign has begun
@@ -601,7 +601,7 @@ pub reign_starts : (v w : View) (nothing : NothingIsLeft w) (s : Site) (o new : 
     → ((told : Bool) (c : Contents) → IsOpen v told c (length c.sequence) o → IsOpen w told (with_reign (site_name c.instance) c) (length c.sequence) new)
     → ((c : Contents) → c.instance ≡ o.instance.records → stamp_value stamp ≡ next_stamp (site_name c.instance) c) → new.stamp ≡ Some stamp
     → ((c : Contents) (n : ℕ) → Remembers c n o → no_reign_left c ≡ false) → w.simulated ≡ v.simulated → v.faults ≤ w.faults
-    → from ≡ length o.entries + 1 → now ≡ before ++ line s.name (codes "PRIMARY " ++ decimal stamp.cycle ++ codes " FROM " ++ decimal from)
+    → from ≡ count_of o + 1 → now ≡ before ++ line s.name (codes "PRIMARY " ++ decimal stamp.cycle ++ codes " FROM " ++ decimal from)
     → BeginsAt v o s w (record { name = s.name; state = Primary (record { site = new; serials = serials }) }) before now true
 reign_starts v w nothing s o new stamp serials from before now law first_serials begun drawn stamped room same later is_from t p h =
     let read : Contents = h.read in

@@ -40,6 +40,7 @@ use Rattle.site_runner.proofs.Remembered.{entries_count, entries_known}
 use Rattle.site_runner.specs.Steps.{state_text, IsAt, ExecutesAt, IsCutAt}
 use Rattle.site_runner.proofs.Cuts.{split_and}
 use Rattle.site_runner.proofs.Ats.{stand_same, left_old, comes_done, comes_typed, comes_so, on_done, state_at, kept_same}
+use Rattle.site_store.specs.Site.{count_of}
 
 pub names_same : (a b : Name) → same_name a b ≡ true → a ≡ b
 names_same [] [] e = refl
@@ -136,7 +137,7 @@ shows_at v s before now t p h =
     comes_done p refl (kept_same p) tt h (t ∙ ap (λ (x : List ℕ). before ++ x) (shown_state v s p s.state refl h) ∙ ap (λ (o : Option world.Site). before ++ show_on s.name o p.now) (sym h.site))
 
 -- what is shown of a site that is open, written in two steps
-pub state_written : (s : Site) (r : Reign) (n : Name) (cycle len : ℕ) (rs : List code_reign.Reign) (before mid now : List ℕ) → s.state ≡ Primary r → n ≡ s.name → cycle ≡ (stamp_of r).cycle → len ≡ length r.site.entries
+pub state_written : (s : Site) (r : Reign) (n : Name) (cycle len : ℕ) (rs : List code_reign.Reign) (before mid now : List ℕ) → s.state ≡ Primary r → n ≡ s.name → cycle ≡ (stamp_of r).cycle → len ≡ count_of r.site
     → map reign_value rs ≡ reigns r.site.instance.records → mid ≡ before ++ line n (codes "STATE PRIMARY " ++ decimal cycle ++ codes " LENGTH " ++ decimal len) → now ≡ mid ++ flat_map (λ x. line n (reign_text x)) (map reign_value rs)
     → now ≡ before ++ state_text s.name s.state
 state_written s r n cycle len rs before mid now is e c l h m t =
@@ -147,7 +148,7 @@ state_written s r n cycle len rs before mid now is e c l h m t =
     ∙ ap (λ (x : Name). before ++ (first x cycle len ++ lines x (map reign_value rs))) e
     ∙ ap (λ (x : ℕ). before ++ (first s.name x len ++ lines s.name (map reign_value rs))) c
     ∙ ap (λ (x : ℕ). before ++ (first s.name (stamp_of r).cycle x ++ lines s.name (map reign_value rs))) l
-    ∙ ap (λ (x : List defs.Reign). before ++ (first s.name (stamp_of r).cycle (length r.site.entries) ++ lines s.name x)) h
+    ∙ ap (λ (x : List defs.Reign). before ++ (first s.name (stamp_of r).cycle (count_of r.site) ++ lines s.name x)) h
     ∙ ap (λ (x : State). before ++ state_text s.name x) (sym is)
 
 pub down_written : (s : Site) (n : Name) (before now : List ℕ) → s.state ≡ Down → n ≡ s.name → now ≡ before ++ line n (codes "STATE DOWN") → now ≡ before ++ state_text s.name s.state

@@ -47,7 +47,7 @@ use Rattle.site_defs.specs.Stands.{IsSite, HasLeft}
 use Rattle.site_store.specs.declared.site.OpenSite.{OpenSite}
 use Rattle.site_store.specs.Finding.{HasLayout}
 use Rattle.site_regions.specs.Joined.{joined, AreChanged}
-use Rattle.site_store.specs.Site.{Remembers, IsReady, AreHeld, Keeps, IsOpen, HasReign, HasRoomFor, AreOnBlocks, with_entry}
+use Rattle.site_store.specs.Site.{Remembers, IsReady, AreHeld, Keeps, IsOpen, HasReign, HasRoomFor, AreOnBlocks, with_entry, count_of}
 use Rattle.site_store.proofs.OnBlocks.{on_same}
 use Rattle.site_store.proofs.HeldRegions.{held_stays, held_changed, no_journal, changed_not, synced_stays}
 use Rattle.site_store.specs.Committing.{Enters, IsSameSite, IsSameMemory, IsOwnJournal, ArePartsOf, parts_of}
@@ -197,15 +197,15 @@ abbrev longer : Contents → Entry → Contents
 longer c e = with_sequence c (c.sequence ++ e ∷ [])
 
 -- its number, and its stamp
-number_of : (c : Contents) (h : ℕ) (s : OpenSite) → Remembers c h s → h ≤ length c.sequence → length s.entries + 1 ≡ h + length (drop h c.sequence) + 1
+number_of : (c : Contents) (h : ℕ) (s : OpenSite) → Remembers c h s → h ≤ length c.sequence → count_of s + 1 ≡ h + length (drop h c.sequence) + 1
 number_of c h s m low = let count = remembered_length c h s m in let rest = length-drop h c.sequence in omega (arith, count, rest, low)
 
-stamp_of : (c : Contents) (h : ℕ) (s : OpenSite) (stamp : code_stamp.Stamp) → Remembers c h s → HasReign s → s.stamp ≡ Some stamp → stamp_at (length s.entries + 1) (reigns c.instance) ≡ Some (stamp_value stamp)
+stamp_of : (c : Contents) (h : ℕ) (s : OpenSite) (stamp : code_stamp.Stamp) → Remembers c h s → HasReign s → s.stamp ≡ Some stamp → stamp_at (count_of s + 1) (reigns c.instance) ≡ Some (stamp_value stamp)
 stamp_of c h s stamp m reign is =
     let told : s.stamp ≡ Some reign.stamp = reign.is in
     let same : reign.stamp ≡ stamp = cc (told, is) in
-    subst (λ (l : List InstanceRecord). stamp_at (length s.entries + 1) (reigns l) ≡ Some (stamp_value stamp)) m.instance
-    (reign.covers (length s.entries + 1) (omega arith) ∙ ap (λ (y : code_stamp.Stamp). Some (stamp_value y)) same)
+    subst (λ (l : List InstanceRecord). stamp_at (count_of s + 1) (reigns l) ≡ Some (stamp_value stamp)) m.instance
+    (reign.covers (count_of s + 1) (omega arith) ∙ ap (λ (y : code_stamp.Stamp). Some (stamp_value y)) same)
 
 -- the entry
 abbrev entry_of : {v w x : View} {old mid new : OpenSite} {t : code.Transaction} {parts : PartRecords} → Committed v w x old mid new t parts → Entry
@@ -237,7 +237,7 @@ abbrev region_in : Contents → Update → ℕ
 region_in c = region_of_update (patterns c.instance)
 
 abbrev own_parts : Contents → OpenSite → Transaction → ℕ → Option Part
-own_parts c s t = split (region_in c) (length s.entries + 1) (mask_of (region_in c) t.updates) t
+own_parts c s t = split (region_in c) (count_of s + 1) (mask_of (region_in c) t.updates) t
 
 record AreOwn (c : Contents) (s : OpenSite) (t : Transaction) (parts : PartRecords) : Type 0 where
   each : (r : ℕ) → r < 8 → part_in parts r ≡ recorded (own_parts c s t r)
@@ -249,9 +249,9 @@ are_own v c h s t parts ready m are =
     let same = directory_of v c h s ready m in
     let count : s.layout.directory.regions ≡ length (regions c.instance) = ap (λ (d : Mapping). d.regions) ready.layout.directory ∙ ap (λ (l : List InstanceRecord). length (regions l)) m.instance in
     record {
-      each = λ r low. subst (λ (ps : List Pattern). part_in parts r ≡ recorded (split (region_of_update ps) (length s.entries + 1) (mask_of (region_of_update ps) t.updates) t r)) same (are.each r low);
+      each = λ r low. subst (λ (ps : List Pattern). part_in parts r ≡ recorded (split (region_of_update ps) (count_of s + 1) (mask_of (region_of_update ps) t.updates) t r)) same (are.each r low);
       is_split = subst (λ (ps : List Pattern). IsSplit (region_of_update ps) (mask_of (region_of_update ps) t.updates) t) same are.is_split;
-      no_other = λ r past. subst (λ (ps : List Pattern). split (region_of_update ps) (length s.entries + 1) (mask_of (region_of_update ps) t.updates) t r ≡ None) same (are.no_other r (omega (arith, past, count)));
+      no_other = λ r past. subst (λ (ps : List Pattern). split (region_of_update ps) (count_of s + 1) (mask_of (region_of_update ps) t.updates) t r ≡ None) same (are.no_other r (omega (arith, past, count)));
     }
 
 -- the records that wait then
@@ -306,13 +306,13 @@ keeps_longer v w x c h old mid new t parts p before m lawful lawful_after =
       no_epoch_past = k.no_epoch_past;
       waiting = k.waiting ++ part ∷ [];
       are_waiting = subst (AreEntries c.instance (suc k.g) h (k.waiting ++ part ∷ [])) (sym (drop-append-le h c.sequence (e ∷ []) k.count))
-          (entries.entries_more c.instance (suc k.g) h (length old.entries + 1) k.waiting (drop h c.sequence) (region_in c) (mask_of (region_in c) t.updates) (transaction_value t) (stamp_value p.enters.entry.stamp) k.are_waiting
+          (entries.entries_more c.instance (suc k.g) h (count_of old + 1) k.waiting (drop h c.sequence) (region_in c) (mask_of (region_in c) t.updates) (transaction_value t) (stamp_value p.enters.entry.stamp) k.are_waiting
           (number_of c h old m k.count) (let same = k.newest.generation in omega (arith, same)) are.is_split (stamp_of c h old p.enters.entry.stamp m p.reign p.enters.next.stamp));
       are_parts = ap (λ (l : List (ℕ → Option Part)). l ++ part ∷ []) k.are_parts
-          ∙ sym (parts_more (patterns c.instance) h (length old.entries + 1) (drop h c.sequence) e (number_of c h old m k.count))
+          ∙ sym (parts_more (patterns c.instance) h (count_of old + 1) (drop h c.sequence) e (number_of c h old m k.count))
           ∙ ap (parts_of_each (patterns c.instance) h) (sym (drop-append-le h c.sequence (e ∷ []) k.count));
       in_regions = all_both (λ (part : ℕ → Option Part). (r : ℕ) → length (regions c.instance) ≤ r → part r ≡ None) k.waiting (part ∷ []) k.in_regions (are.no_other, tt);
-      at_home = λ r here. entries.all_home c.instance (suc k.g) r (length old.entries + 1) (mask_of (region_in c) t.updates) (transaction_value t) k.waiting (k.at_home r here);
+      at_home = λ r here. entries.all_home c.instance (suc k.g) r (count_of old + 1) (mask_of (region_in c) t.updates) (transaction_value t) k.waiting (k.at_home r here);
       instance_file = instance_kept w x mid new (suc k.g) (length mid.journals.journals.items) c.instance stays p.instance k.instance_file;
       journal_files = waits_longer x k.newer k.waiting part parts new.journals.journals.items (let size = p.count in let low = ready.journals.few in omega (arith, size, low)) are.each (p.state k.newer (tcoms k.waiting) k.journal_files);
     }
@@ -332,7 +332,7 @@ open_longer v w x told c h old mid new t parts p lawful lawful_after is =
 -- open for calls, and under its reign
 pub ready_after : (w x : View) (mid new : OpenSite) → IsReady w mid → ((g : ℕ) → AreReady w g mid.journals.journals.items → AreReady x g new.journals.journals.items) → length new.journals.journals.items ≡ length mid.journals.journals.items
     → ((g : ℕ) → AreReady w g mid.journals.journals.items → OthersStay (IsNewestFile g (length mid.journals.journals.items)) w x) → new.instance ≡ mid.instance → new.layout ≡ mid.layout
-    → AreChanged mid.globals new.globals → length new.entries < 2 ^ 40 → IsReady x new
+    → AreChanged mid.globals new.globals → count_of new < 2 ^ 40 → IsReady x new
 ready_after w x mid new ready journals count stays instance layout changed few =
     let g = generation mid.instance.records in
     let many = length (regions mid.instance.records) in
@@ -354,7 +354,7 @@ ready_longer v w x old mid new t parts p =
     ready_after w x mid new p.prepares.ready_after p.journals p.count p.stays p.instance p.layout (changed_not mid.globals new.globals p.globals)
     (subst (λ (l : Sequence). length l < 2 ^ 40) (sym p.entries) p.prepares.ready_after.few)
 
-pub reign_stays : (old new : OpenSite) → HasReign old → new.instance ≡ old.instance → new.stamp ≡ old.stamp → length old.entries ≤ length new.entries → HasReign new
+pub reign_stays : (old new : OpenSite) → HasReign old → new.instance ≡ old.instance → new.stamp ≡ old.stamp → count_of old ≤ count_of new → HasReign new
 reign_stays old new r instance stamp more = record {
   stamp = r.stamp;
   is = stamp ∙ r.is;
@@ -368,7 +368,7 @@ own_stays v w s ready stays = subst (λ (n : ℕ). OthersStay (IsNewestFile (gen
 -- open for calls, with what is prepared
 pub ready_prepared : (v w : View) (old new : OpenSite) (js : RegionJournals) → IsReady v old → ((g : ℕ) → AreReady v g old.journals.journals.items → AreReady w g js.journals.items) → length js.journals.items ≡ length old.journals.journals.items
     → ((g : ℕ) → AreReady v g old.journals.journals.items → OthersStay (IsNewestFile g (length old.journals.journals.items)) v w) → new.journals ≡ js → new.instance ≡ old.instance → new.layout ≡ old.layout
-    → AreChanged old.globals new.globals → length new.entries < 2 ^ 40 → IsReady w new
+    → AreChanged old.globals new.globals → count_of new < 2 ^ 40 → IsReady w new
 ready_prepared v w old new js ready journals count stays is instance layout changed few =
     ready_after v w old new ready (subst (λ (k : RegionJournals). (g : ℕ) → AreReady v g old.journals.journals.items → AreReady w g k.journals.items) (sym is) journals)
     (ap (λ (k : RegionJournals). length k.journals.items) is ∙ count) stays instance layout changed few

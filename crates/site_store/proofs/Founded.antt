@@ -19,7 +19,7 @@ use Rattle.site_store.specs.declared.preparing.StandingSite.{StandingSite}
 use Rattle.site_store.specs.declared.error.SiteError.{SiteError}
 use Rattle.site_store.specs.Finding.{HasLayout}
 use Rattle.site_store.specs.Needing.{IsFirstWithout, NoneIsWithout, HaveFirstWithout}
-use Rattle.site_store.specs.Site.{AreOnBlocks, StandOn, AreSynced}
+use Rattle.site_store.specs.Site.{AreOnBlocks, StandOn, AreSynced, count_of}
 use Rattle.site_store.specs.Opening.{AreTextsDurable, AreDatabasesDurable}
 use Rattle.site_store.proofs.Alike.{image_site}
 use Rattle.site_store.proofs.OnBlocks.{on_same}
@@ -27,6 +27,7 @@ use Rattle.site_store.specs.Standing.{found_records, found_entries, HasFound, Wa
 use Rattle.site_store.proofs.Databases.{databases_still, texts_still}
 use Rattle.site_store.proofs.Drawn.{site_read}
 use Rattle.site_store.proofs.Refused.{read_kept}
+use Rattle.entry_index.specs.Found.{entry_count}
 
 -- while the disk is only synced or read
 pub found_moved : (u v w : View) (f : FoundFiles) → IsLawful w → AtEachMoment v w (Image v) → WasFound u v f → WasFound u w f
@@ -69,8 +70,8 @@ module _ (u v : View) (f : FoundFiles) (was : WasFound u v f) where
 abbrev again : FoundFiles → StandingSite → FoundFiles
 again f k = record { read = record { log = k.log; directory = f.read.directory; journals = f.read.journals; last_began = k.last_began }; entries = k.entries; broken = k.broken }
 
-stood_again : (anew : Bool) (u w : View) (f : FoundFiles) (k : StandingSite) → HasFound (again f k) → WasFound u w (again f k) → IsOpenAs anew u w (again f k) (length k.entries) k.globals
-    → (anew ≡ false → NoneIsWithout (found_records (again f k)) (length k.entries)) → ((n : ℕ) → HasLayout (k.log.records ++ next_cut k.log.records n ∷ []) k.layout) → Stood anew u w k
+stood_again : (anew : Bool) (u w : View) (f : FoundFiles) (k : StandingSite) → HasFound (again f k) → WasFound u w (again f k) → IsOpenAs anew u w (again f k) (entry_count k.entries) k.globals
+    → (anew ≡ false → NoneIsWithout (found_records (again f k)) (entry_count k.entries)) → ((n : ℕ) → HasLayout (k.log.records ++ next_cut k.log.records n ∷ []) k.layout) → Stood anew u w k
 stood_again anew u w f k has was opens none layout =
     let seq = found_entries (again f k) in
     record {
@@ -93,15 +94,15 @@ stood_again anew u w f k has was opens none layout =
       none = opens.none;
     }
 
-pub stood_of : (anew : Bool) (u w : View) (f : FoundFiles) (k : StandingSite) → HasFound f → WasFound u w f → IsOpenAs anew u w f (length f.entries) k.globals
-    → (anew ≡ false → NoneIsWithout (found_records f) (length f.entries)) → IsFoundAs f k → Stood anew u w k
+pub stood_of : (anew : Bool) (u w : View) (f : FoundFiles) (k : StandingSite) → HasFound f → WasFound u w f → IsOpenAs anew u w f (entry_count f.entries) k.globals
+    → (anew ≡ false → NoneIsWithout (found_records f) (entry_count f.entries)) → IsFoundAs f k → Stood anew u w k
 stood_of anew u w f k has was opens none stays =
-    subst (λ (x : FoundFiles). HasFound x → WasFound u w x → IsOpenAs anew u w x (length x.entries) k.globals → (anew ≡ false → NoneIsWithout (found_records x) (length x.entries))
+    subst (λ (x : FoundFiles). HasFound x → WasFound u w x → IsOpenAs anew u w x (count_of x) k.globals → (anew ≡ false → NoneIsWithout (found_records x) (count_of x))
     → ((n : ℕ) → HasLayout (x.read.log.records ++ next_cut x.read.log.records n ∷ []) k.layout) → Stood anew u w k)
     (λ i. record { read = record { log = stays.log i; directory = f.read.directory; journals = f.read.journals; last_began = stays.last_began i }; entries = stays.entries i; broken = stays.broken i })
     (stood_again anew u w f k) has was opens none stays.layout
 
-pub stood_ok : (anew : Bool) (u v w : View) (f : FoundFiles) (n : ℕ) (o : Result StandingSite SiteError) → IsLawful w → Reads v w → v.content ≡ u.content → HasFound f → WasFound u v f → n ≡ length f.entries
+pub stood_ok : (anew : Bool) (u v w : View) (f : FoundFiles) (n : ℕ) (o : Result StandingSite SiteError) → IsLawful w → Reads v w → v.content ≡ u.content → HasFound f → WasFound u v f → n ≡ entry_count f.entries
     → IfOk o (IsFoundAs f) → IfOk o (λ k. IsOpenAs anew v w f n k.globals) → (anew ≡ false → NoneIsWithout (found_records f) n) → IfOk o (Stood anew u w)
 stood_ok anew u v w f n (Ok k) lawful reads same has was all stays opens none =
     stood_of anew u w f k has (found_moved u v w f lawful (read_only v w reads) was) (subst (λ (m : ℕ). IsOpenAs anew u w f m k.globals) all (open_moved anew u v w f n k.globals same opens))
@@ -124,7 +125,7 @@ module _ (u v : View) (f : FoundFiles) (has : HasFound f) (was : WasFound u v f)
       (λ files r t c site. t (site_read f.read.log.records (last_of f.read.last_began.items) (found_records f).journal (found_entries f) has.form has.sequence files c r.holds site).0)
 
 -- the first region that needs forward recovery
-pub first_needing : (u v : View) (f : FoundFiles) → HasFound f → WasFound u v f → (region generation : ℕ) → IsFirstWithout (found_records f) (length f.entries) region generation → IfSome u.content (λ files. HaveFirstWithout files region)
+pub first_needing : (u v : View) (f : FoundFiles) → HasFound f → WasFound u v f → (region generation : ℕ) → IsFirstWithout (found_records f) (entry_count f.entries) region generation → IfSome u.content (λ files. HaveFirstWithout files region)
 first_needing u v f has was region generation first =
     weaker_told u.content (WasRead v f.read.log.records (last_of f.read.last_began.items) (found_records f).journal) (λ files. HaveFirstWithout files region) was.read (λ files r. (
       found_records f,

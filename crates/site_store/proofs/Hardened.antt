@@ -29,7 +29,7 @@ use Rattle.site_defs.specs.Fronts.{with_sequence, IsFrontOf}
 use Rattle.site_defs.specs.Stands.{IsSite}
 use Rattle.site_store.specs.declared.site.OpenSite.{OpenSite}
 use Rattle.site_regions.specs.Joined.{joined}
-use Rattle.site_store.specs.Site.{Remembers, IsReady, Keeps, IsOpen, AreOnBlocks}
+use Rattle.site_store.specs.Site.{Remembers, IsReady, Keeps, IsOpen, AreOnBlocks, count_of}
 use Rattle.site_store.proofs.Remembered.{remembered_length}
 use Rattle.site_store.proofs.Standing.{reads_of, reads_so, told_of, still}
 use Rattle.site_store.proofs.Committed.{instance_kept, ready_after}
@@ -78,7 +78,7 @@ pub record Hardens (v w : View) (old new : OpenSite) : Type 0 where
   pub layout : new.layout ≡ old.layout
   pub entries : new.entries ≡ old.entries
   pub globals : new.globals ≡ old.globals
-  pub hardened : new.hardened ≡ length old.entries
+  pub hardened : new.hardened ≡ count_of old
 
 pub ready_hardened : (v w : View) (old new : OpenSite) → Hardens v w old new → IsReady w new
 ready_hardened v w old new p =

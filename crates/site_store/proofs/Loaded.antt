@@ -34,7 +34,7 @@ use Rattle.site_defs.specs.Stands.{IsSite, HasLeft}
 use Rattle.site_store.specs.declared.site.OpenSite.{OpenSite}
 use Rattle.site_store.specs.Finding.{HasLayout}
 use Rattle.site_regions.specs.Joined.{joined}
-use Rattle.site_store.specs.Site.{Remembers, AreHeld, IsReady, IsOpen, StandOn, WasOpened, WasOpenedFrom}
+use Rattle.site_store.specs.Site.{Remembers, AreHeld, IsReady, IsOpen, StandOn, WasOpened, WasOpenedFrom, count_of}
 use Rattle.site_store.specs.Opening.{MayBeOpenAs, MayBeOpenWithAs, EachStands, AreTextsDurable, AreDatabasesDurable}
 use Rattle.site_store.proofs.OnBlocks.{stand_same}
 use Rattle.site_store.proofs.Found.{instance_one}
@@ -143,14 +143,14 @@ stretched (suc n) es g is none = (
 )
 
 module _ (rs : List InstanceRecord) (last : ℕ → ℕ) (form : MayBeOpened rs last) (s : OpenSite) (n : ℕ) (records : s.instance.records ≡ rs ++ next_cut rs n ∷ []) where
-  pub was_opened : n ≡ length s.entries → s.hardened ≡ length s.entries → length s.entries < 2 ^ 40 → s.stamp ≡ None → WasOpened s
+  pub was_opened : n ≡ count_of s → s.hardened ≡ count_of s → count_of s < 2 ^ 40 → s.stamp ≡ None → WasOpened s
   was_opened count hardened few none = record {
     created = subst (λ (l : List InstanceRecord). 0 < length l) (sym records) (longer rs (next_cut rs n));
     name = subst (λ (l : List InstanceRecord). IsSiteName (site_name l)) (sym records) (name_of rs (next_cut rs n) form.some form.order.ordered.create form.form);
     hardened = hardened;
     few = few;
-    no_reign_past = subst (λ (l : List InstanceRecord). AllByRecursion (λ (r : Reign). r.start ≤ length s.entries) (reigns l)) (sym records)
-        (subst (λ (l : List Reign). AllByRecursion (λ (r : Reign). r.start ≤ length s.entries) l) (sym (runs.reigns-cut rs n (generation rs + 1)))
+    no_reign_past = subst (λ (l : List InstanceRecord). AllByRecursion (λ (r : Reign). r.start ≤ count_of s) (reigns l)) (sym records)
+        (subst (λ (l : List Reign). AllByRecursion (λ (r : Reign). r.start ≤ count_of s) l) (sym (runs.reigns-cut rs n (generation rs + 1)))
         (subst (λ (k : ℕ). AllByRecursion (λ (r : Reign). r.start ≤ k) (filter (λ (r : Reign). nat_le r.start n) (reigns rs))) count (within n (reigns rs))));
     no_reign = none;
   }
@@ -169,7 +169,7 @@ module _ (rs : List InstanceRecord) (last : ℕ → ℕ) (form : MayBeOpened rs 
     number_is = ap length js_are ∙ length-map begun newly ∙ number
 
     pub is_ready : instances.IsReady w s.instance → HasLayout (rs ++ next_cut rs n ∷ []) s.layout → ((r : ℕ) (j : Journal) → slice_get begun r ≡ Some j → journals.IsReady w j × journals.IsJournalOf j r (suc (generation rs)))
-        → AreHeld w (length (regions rs)) s.globals → length s.entries < 2 ^ 40 → IsReady w s
+        → AreHeld w (length (regions rs)) s.globals → count_of s < 2 ^ 40 → IsReady w s
     is_ready instance layout each held few = record {
       instance = instance;
       layout = subst (λ (l : List InstanceRecord). HasLayout l s.layout) (sym records) layout;
@@ -269,7 +269,7 @@ module _ (anew : Bool) (u v w : View) (rs : List InstanceRecord) (last : ℕ →
   sound_image files r each d image = image_sound v rs last journal seq form sequence files r d image (each d (earlier d image)).0 (each d (earlier d image)).1
 
   module _ (s : OpenSite) (records : s.instance.records ≡ rs ++ next_cut rs (length seq) ∷ []) (entries : s.entries ≡ seq) (hardened : s.hardened ≡ length seq) where
-    count : length s.entries ≡ length seq
+    count : count_of s ≡ length seq
     count = ap length entries
 
     -- whatever the disk tells, it has as many entries as some that lead to its nodes

@@ -44,7 +44,7 @@ use Rattle.site_defs.specs.Stands.{IsSite}
 use Rattle.site_defs.specs.Behind.{IsSiteWith}
 use Rattle.site_store.specs.declared.site.OpenSite.{OpenSite}
 use Rattle.site_store.specs.Needing.{without_behind, NoneNeeds}
-use Rattle.site_store.specs.Site.{Remembers, AreHeld, IsReady, AreOnBlocks, Keeps, IsOpen}
+use Rattle.site_store.specs.Site.{Remembers, AreHeld, IsReady, AreOnBlocks, Keeps, IsOpen, count_of}
 use Rattle.site_store.proofs.Frames as frames
 use Rattle.site_store.proofs.Standing.{reads_of, reads_so, told_of, still}
 use Rattle.site_store.proofs.Begun.{none_waiting}
@@ -145,18 +145,18 @@ module _ (v : View) (c : Contents) (s : OpenSite) (k : Keeps v c (length c.seque
 -- At each moment of an epoch.
 abbrev pub EpochMoments : View → View → OpenSite → Type 0
 EpochMoments v w s = (u : Records) (seq : Sequence) (g : ℕ) (newer : ℕ → List JournalRecord) → IsKept v u seq g newer s.journals.journals.items s.globals
-    → length seq ≡ length s.entries → AtEachMoment v w (OnlyIn v (IsEpochFile (suc g) (length s.journals.journals.items)) (IsStillSound u seq (suc g)))
+    → length seq ≡ count_of s → AtEachMoment v w (OnlyIn v (IsEpochFile (suc g) (length s.journals.journals.items)) (IsStillSound u seq (suc g)))
 
 -- And behind it.
 abbrev pub EpochTaken : View → View → Bool → OpenSite → OpenSite → Type 0
 EpochTaken v w closing s new = (u : Records) (seq : Sequence) (g : ℕ) (newer : ℕ → List JournalRecord) → IsKept v u seq g newer s.journals.journals.items s.globals
-    → length seq ≡ length s.entries → IsTaken w closing u seq g newer new.journals.journals.items new.globals
+    → length seq ≡ count_of s → IsTaken w closing u seq g newer new.journals.journals.items new.globals
 
 module _ (v w : View) (c : Contents) (s : OpenSite) (k : Keeps v c (length c.sequence) s) (mine : Remembers c (length c.sequence) s) (ready : IsReady v s) (are : AreJoined s.globals) (lawful : IsLawful v) (lawful_after : IsLawful w) where
   few : length s.journals.journals.items ≤ 8
   few = ready.journals.few
 
-  count : length c.sequence ≡ length s.entries
+  count : length c.sequence ≡ count_of s
   count = sym mine.count
 
   abbrev F : ℕ → Type 0

@@ -34,7 +34,7 @@ use Rattle.site_defs.specs.Behind.{parts_of_each}
 use Rattle.site_defs.specs.Stands.{IsSite}
 use Rattle.site_regions.specs.Joined.{joined, region_at}
 use Rattle.site_store.specs.declared.site.OpenSite.{OpenSite}
-use Rattle.site_store.specs.Site.{Remembers, Keeps, IsOpen, AreOnBlocks, AreOnFiles, StandOn, AreSynced}
+use Rattle.site_store.specs.Site.{Remembers, Keeps, IsOpen, AreOnBlocks, AreOnFiles, StandOn, AreSynced, count_of}
 use Rattle.site_store.proofs.OnBlocks.{IsPlain, anew_or_not, held_same, on_same, on_more, on_chosen}
 use Rattle.site_store.proofs.Drawn.{S, C, cut_at, DrawsTo, newest_is, same_regions, site_read, site_drawn, newest_whole}
 use Rattle.site_store.proofs.Parts.{no_entry_no_part}
@@ -94,7 +94,7 @@ module _ (anew : Bool) (v w : View) (rs : List InstanceRecord) (last : ℕ → �
   stands_so : (f : Files) → Image v f → c ≡ C0 f
   stands_so f image = (site_read rs last journal seq form sequence f c (reads f image) (stands f image)).1
 
-  count : length s.entries ≡ length kept
+  count : count_of s ≡ length kept
   count = ap length entries
 
   remembers : (f : Files) → joined s.globals ≡ state kept → Remembers (begun_as anew many (cut_at t broken kept (C0 f))) t s

@@ -23,11 +23,12 @@ use Rattle.site_store.specs.Finding.{HasLayout}
 use Rattle.site_regions.specs.Joined.{joined}
 use Rattle.site_store.specs.Opening.{AreTextsDurable, AreDatabasesDurable}
 use Rattle.site_store.specs.Needing.{NoneIsWithout}
-use Rattle.site_store.specs.Site.{Remembers, AreHeld, IsReady, StandOn, WasOpened, WasOpenedFrom}
+use Rattle.site_store.specs.Site.{Remembers, AreHeld, IsReady, StandOn, WasOpened, WasOpenedFrom, count_of}
 use Rattle.site_store.specs.Standing.{Stood, entries_of, records_of}
 use Rattle.site_store.proofs.Loaded as loaded
 use Rattle.site_store.proofs.Loaded.{Moments, Lefts, StandsOpen}
 use Rattle.site_store.proofs.OpenedTo.{newly}
+use Rattle.entry_index.specs.Found.{entry_count}
 
 all_three : (o : Option Files) (A B C : Files → Type 0) → IfSome o A → IfSome o B → IfSome o C → IfSome o (λ f. A f × B f × C f)
 all_three None A B C a b c = tt
@@ -45,7 +46,7 @@ abbrev pub IsShortOf : View → List InstanceRecord → List ℕ → (Files → 
 IsShortOf v rs broken P = IfSome v.content (λ files. length (files (next_broken rs)) ≤ length broken → P files)
 
 module _ (anew : Bool) (u v w : View) (k : StandingSite) (st : Stood anew u v k) (lawful_v : IsLawful v) (lawful_w : IsLawful w) (synced : AtEachMoment u v (Image u)) (same : v.content ≡ u.content)
-    (n : ℕ) (broken lasts : List ℕ) (n_is : n ≡ length k.entries) (broken_is : broken ≡ k.broken) (lasts_is : lasts ≡ k.last_began.items) where
+    (n : ℕ) (broken lasts : List ℕ) (n_is : n ≡ entry_count k.entries) (broken_is : broken ≡ k.broken) (lasts_is : lasts ≡ k.last_began.items) where
   abbrev rs : List InstanceRecord
   rs = k.log.records
 
@@ -90,7 +91,7 @@ module _ (anew : Bool) (u v w : View) (k : StandingSite) (st : Stood anew u v k)
     pub settled_at : s.hardened ≡ length seq
     settled_at = hardened ∙ size
 
-    count : s.hardened ≡ length s.entries
+    count : s.hardened ≡ count_of s
     count = hardened ∙ n_is ∙ ap length (sym entries)
 
     pub opened_here : WasOpened s

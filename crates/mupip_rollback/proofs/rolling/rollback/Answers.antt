@@ -11,6 +11,7 @@ use Rattle.mupip_rollback.specs.declared.error.RollError.TheVariants as error
 use Rattle.mupip_rollback.proofs.Errors.{handed_on}
 use Rattle.mupip_rollback.proofs.Whole as whole
 use Rattle.mupip_rollback.proofs.rolling.rollback.Goals as goal
+use Rattle.entry_index.specs.Found.{entry_count}
 
 pub returns-in_err-prepared-clause-without : goal.returns-in_err-prepared-clause-without
 returns-in_err-prepared-clause-without g c =
@@ -41,7 +42,7 @@ returns-clause-held g c =
     let size = c.len.ensures in
     let low : generation p.log.records < 65534 = subst (λ l. generation l.records < 65534) (sym P.log) P.has.low in
     let newest : c.generation_in.result ≡ generation p.log.records = c.generation_in.ensures ∙ ap generation c.as_slice.ensures in
-    weaker_told u.content (λ files. (x : Records) × (es : Sequence) × AreRecords files x × IsSequence x es × (x.instance ≡ p.log.records) × (length p.kept.entries ≡ min c.args.to (length es)) × NoneIsWithout x (min c.args.to (length es)))
+    weaker_told u.content (λ files. (x : Records) × (es : Sequence) × AreRecords files x × IsSequence x es × (x.instance ≡ p.log.records) × (entry_count p.kept.entries ≡ min c.args.to (length es)) × NoneIsWithout x (min c.args.to (length es)))
     (λ files. (x : Records) × (es : Sequence) × AreRecords files x × IsSequence x es × (c.len.result ≡ min c.args.to (length es)) × (c.generation_in.result + 1 ≡ generation x.instance + 1) × (generation x.instance < 65534) × NoneIsWithout x (min c.args.to (length es)))
     c.in_ok-prepared.ensures.held (λ files h.
     let same : generation h.0.instance ≡ generation p.log.records = ap generation h.4 in
@@ -55,7 +56,7 @@ returns-in_err-roll-clause-any_moment g c =
     let z = g.D.Disk.disk c.roll.new.disk in
     let p = c.in_ok-prepared.prepared in
     let ens = c.in_ok-prepared.ensures in
-    whole.moments u v c.args.to c.prepare.ensures.any_moment z (length p.kept.entries) p.length ens.kept p.broken (g.met.D.Disk.lawful c.args.disk.now) (g.met.D.Disk.lawful c.roll.new.disk) c.prepare.ensures.content ens.site ens.left c.roll.ensures.any_moment
+    whole.moments u v c.args.to c.prepare.ensures.any_moment z (entry_count p.kept.entries) p.length ens.kept p.broken (g.met.D.Disk.lawful c.args.disk.now) (g.met.D.Disk.lawful c.roll.new.disk) c.prepare.ensures.content ens.site ens.left c.roll.ensures.any_moment
 
 pub returns-in_err-roll-clause-left : goal.returns-in_err-roll-clause-left
 returns-in_err-roll-clause-left g c =
@@ -64,7 +65,7 @@ returns-in_err-roll-clause-left g c =
     let z = g.D.Disk.disk c.roll.new.disk in
     let p = c.in_ok-prepared.prepared in
     let ens = c.in_ok-prepared.ensures in
-    whole.moments_with u v c.args.to c.prepare.ensures.any_moment z (length p.kept.entries) p.length ens.kept p.broken (g.met.D.Disk.lawful c.args.disk.now) (g.met.D.Disk.lawful c.roll.new.disk) c.prepare.ensures.content ens.site ens.left c.roll.ensures.any_moment
+    whole.moments_with u v c.args.to c.prepare.ensures.any_moment z (entry_count p.kept.entries) p.length ens.kept p.broken (g.met.D.Disk.lawful c.args.disk.now) (g.met.D.Disk.lawful c.roll.new.disk) c.prepare.ensures.content ens.site ens.left c.roll.ensures.any_moment
 
 pub returns-in_err-roll-clause-stands : goal.returns-in_err-roll-clause-stands
 returns-in_err-roll-clause-stands g c =
@@ -73,7 +74,7 @@ returns-in_err-roll-clause-stands g c =
     let z = g.D.Disk.disk c.roll.new.disk in
     let p = c.in_ok-prepared.prepared in
     let ens = c.in_ok-prepared.ensures in
-    whole.stands u v c.args.to c.prepare.ensures.any_moment z (length p.kept.entries) p.length ens.kept p.broken (g.met.D.Disk.lawful c.args.disk.now) (g.met.D.Disk.lawful c.roll.new.disk) c.prepare.ensures.content ens.site ens.left c.roll.ensures.any_moment
+    whole.stands u v c.args.to c.prepare.ensures.any_moment z (entry_count p.kept.entries) p.length ens.kept p.broken (g.met.D.Disk.lawful c.args.disk.now) (g.met.D.Disk.lawful c.roll.new.disk) c.prepare.ensures.content ens.site ens.left c.roll.ensures.any_moment
 
 pub returns-clause-any_moment : goal.returns-clause-any_moment
 returns-clause-any_moment g c =
@@ -82,7 +83,7 @@ returns-clause-any_moment g c =
     let z = g.D.Disk.disk c.roll.new.disk in
     let p = c.in_ok-prepared.prepared in
     let ens = c.in_ok-prepared.ensures in
-    whole.moments u v c.args.to c.prepare.ensures.any_moment z (length p.kept.entries) p.length ens.kept p.broken (g.met.D.Disk.lawful c.args.disk.now) (g.met.D.Disk.lawful c.roll.new.disk) c.prepare.ensures.content ens.site ens.left c.roll.ensures.any_moment
+    whole.moments u v c.args.to c.prepare.ensures.any_moment z (entry_count p.kept.entries) p.length ens.kept p.broken (g.met.D.Disk.lawful c.args.disk.now) (g.met.D.Disk.lawful c.roll.new.disk) c.prepare.ensures.content ens.site ens.left c.roll.ensures.any_moment
 
 pub returns-clause-left : goal.returns-clause-left
 returns-clause-left g c =
@@ -91,7 +92,7 @@ returns-clause-left g c =
     let z = g.D.Disk.disk c.roll.new.disk in
     let p = c.in_ok-prepared.prepared in
     let ens = c.in_ok-prepared.ensures in
-    whole.moments_with u v c.args.to c.prepare.ensures.any_moment z (length p.kept.entries) p.length ens.kept p.broken (g.met.D.Disk.lawful c.args.disk.now) (g.met.D.Disk.lawful c.roll.new.disk) c.prepare.ensures.content ens.site ens.left c.roll.ensures.any_moment
+    whole.moments_with u v c.args.to c.prepare.ensures.any_moment z (entry_count p.kept.entries) p.length ens.kept p.broken (g.met.D.Disk.lawful c.args.disk.now) (g.met.D.Disk.lawful c.roll.new.disk) c.prepare.ensures.content ens.site ens.left c.roll.ensures.any_moment
 
 pub returns-clause-stands : goal.returns-clause-stands
 returns-clause-stands g c =
@@ -100,7 +101,7 @@ returns-clause-stands g c =
     let z = g.D.Disk.disk c.roll.new.disk in
     let p = c.in_ok-prepared.prepared in
     let ens = c.in_ok-prepared.ensures in
-    whole.stands u v c.args.to c.prepare.ensures.any_moment z (length p.kept.entries) p.length ens.kept p.broken (g.met.D.Disk.lawful c.args.disk.now) (g.met.D.Disk.lawful c.roll.new.disk) c.prepare.ensures.content ens.site ens.left c.roll.ensures.any_moment
+    whole.stands u v c.args.to c.prepare.ensures.any_moment z (entry_count p.kept.entries) p.length ens.kept p.broken (g.met.D.Disk.lawful c.args.disk.now) (g.met.D.Disk.lawful c.roll.new.disk) c.prepare.ensures.content ens.site ens.left c.roll.ensures.any_moment
 
 pub returns-clause-told : goal.returns-clause-told
 returns-clause-told g c =
@@ -109,4 +110,4 @@ returns-clause-told g c =
     let z = g.D.Disk.disk c.roll.new.disk in
     let p = c.in_ok-prepared.prepared in
     let ens = c.in_ok-prepared.ensures in
-    whole.told u v c.args.to c.prepare.ensures.any_moment z (length p.kept.entries) p.length ens.kept p.broken (g.met.D.Disk.lawful c.args.disk.now) (g.met.D.Disk.lawful c.roll.new.disk) c.prepare.ensures.content ens.site ens.left c.in_ok-roll.ensures.done
+    whole.told u v c.args.to c.prepare.ensures.any_moment z (entry_count p.kept.entries) p.length ens.kept p.broken (g.met.D.Disk.lawful c.args.disk.now) (g.met.D.Disk.lawful c.roll.new.disk) c.prepare.ensures.content ens.site ens.left c.in_ok-roll.ensures.done

@@ -10,6 +10,7 @@ use Rattle.site_store.proofs.Loaded.{quiet_told, quiet_left, quiet_stands}
 use Rattle.site_store.specs.declared.site.OpenSite.{OpenSite}
 use Rattle.site_store.proofs.Stood as stood
 use Rattle.site_store.proofs.opening.open_as.Goals as goal
+use Rattle.entry_index.specs.Found.{entry_count}
 
 pub returns-in_err-standing-clause-refused : goal.returns-in_err-standing-clause-refused
 returns-in_err-standing-clause-refused g c =
@@ -67,7 +68,7 @@ returns-in_err-drawn-clause-any_moment g c =
     let st = c.in_ok-standing.ensures.stood in
     let lawful_v = g.met.D.Disk.lawful c.read_standing.new.disk in
     let lawful_w = g.met.D.Disk.lawful c.draw.new.disk in
-    let n : c.len-length.result ≡ length k.entries = (let e = c.len-length.ensures in omega (arith, e)) in
+    let n : c.len-length.result ≡ entry_count k.entries = (let e = c.len-length.ensures in omega (arith, e)) in
     stood.moments c.args.anew u v w k st lawful_v lawful_w c.read_standing.ensures.any_moment c.read_standing.ensures.content c.len-length.result c.as_slice-text.result.now c.deref.result.now n c.as_slice-text.ensures c.deref.ensures.value c.draw.ensures.any_moment
 
 pub returns-in_err-drawn-clause-left : goal.returns-in_err-drawn-clause-left
@@ -79,7 +80,7 @@ returns-in_err-drawn-clause-left g c =
     let st = c.in_ok-standing.ensures.stood in
     let lawful_v = g.met.D.Disk.lawful c.read_standing.new.disk in
     let lawful_w = g.met.D.Disk.lawful c.draw.new.disk in
-    let n : c.len-length.result ≡ length k.entries = (let e = c.len-length.ensures in omega (arith, e)) in
+    let n : c.len-length.result ≡ entry_count k.entries = (let e = c.len-length.ensures in omega (arith, e)) in
     stood.lefts c.args.anew u v w k st lawful_v lawful_w c.read_standing.ensures.any_moment c.read_standing.ensures.content c.len-length.result c.as_slice-text.result.now c.deref.result.now n c.as_slice-text.ensures c.deref.ensures.value c.draw.ensures.any_moment
 
 pub returns-in_err-drawn-clause-stands : goal.returns-in_err-drawn-clause-stands
@@ -91,7 +92,7 @@ returns-in_err-drawn-clause-stands g c =
     let st = c.in_ok-standing.ensures.stood in
     let lawful_v = g.met.D.Disk.lawful c.read_standing.new.disk in
     let lawful_w = g.met.D.Disk.lawful c.draw.new.disk in
-    let n : c.len-length.result ≡ length k.entries = (let e = c.len-length.ensures in omega (arith, e)) in
+    let n : c.len-length.result ≡ entry_count k.entries = (let e = c.len-length.ensures in omega (arith, e)) in
     stood.stands c.args.anew u v w k st lawful_v lawful_w c.read_standing.ensures.any_moment c.read_standing.ensures.content c.len-length.result c.as_slice-text.result.now c.deref.result.now n c.as_slice-text.ensures c.deref.ensures.value c.draw.ensures.reads
 
 pub returns-in_err-newest_journals-clause-any_moment : goal.returns-in_err-newest_journals-clause-any_moment
@@ -103,7 +104,7 @@ returns-in_err-newest_journals-clause-any_moment g c =
     let st = c.in_ok-standing.ensures.stood in
     let lawful_v = g.met.D.Disk.lawful c.read_standing.new.disk in
     let lawful_w = g.met.D.Disk.lawful c.draw.new.disk in
-    let n : c.len-length.result ≡ length k.entries = (let e = c.len-length.ensures in omega (arith, e)) in
+    let n : c.len-length.result ≡ entry_count k.entries = (let e = c.len-length.ensures in omega (arith, e)) in
     stood.moments c.args.anew u v w k st lawful_v lawful_w c.read_standing.ensures.any_moment c.read_standing.ensures.content c.len-length.result c.as_slice-text.result.now c.deref.result.now n c.as_slice-text.ensures c.deref.ensures.value c.draw.ensures.any_moment
 
 pub returns-in_err-newest_journals-clause-left : goal.returns-in_err-newest_journals-clause-left
@@ -115,7 +116,7 @@ returns-in_err-newest_journals-clause-left g c =
     let st = c.in_ok-standing.ensures.stood in
     let lawful_v = g.met.D.Disk.lawful c.read_standing.new.disk in
     let lawful_w = g.met.D.Disk.lawful c.draw.new.disk in
-    let n : c.len-length.result ≡ length k.entries = (let e = c.len-length.ensures in omega (arith, e)) in
+    let n : c.len-length.result ≡ entry_count k.entries = (let e = c.len-length.ensures in omega (arith, e)) in
     stood.lefts c.args.anew u v w k st lawful_v lawful_w c.read_standing.ensures.any_moment c.read_standing.ensures.content c.len-length.result c.as_slice-text.result.now c.deref.result.now n c.as_slice-text.ensures c.deref.ensures.value c.draw.ensures.any_moment
 
 pub returns-in_err-newest_journals-clause-stands : goal.returns-in_err-newest_journals-clause-stands
@@ -127,7 +128,7 @@ returns-in_err-newest_journals-clause-stands g c =
     let st = c.in_ok-standing.ensures.stood in
     let lawful_v = g.met.D.Disk.lawful c.read_standing.new.disk in
     let lawful_w = g.met.D.Disk.lawful c.draw.new.disk in
-    let n : c.len-length.result ≡ length k.entries = (let e = c.len-length.ensures in omega (arith, e)) in
+    let n : c.len-length.result ≡ entry_count k.entries = (let e = c.len-length.ensures in omega (arith, e)) in
     stood.stands c.args.anew u v w k st lawful_v lawful_w c.read_standing.ensures.any_moment c.read_standing.ensures.content c.len-length.result c.as_slice-text.result.now c.deref.result.now n c.as_slice-text.ensures c.deref.ensures.value c.draw.ensures.reads
 
 pub returns-clause-any_moment : goal.returns-clause-any_moment
@@ -139,7 +140,7 @@ returns-clause-any_moment g c =
     let st = c.in_ok-standing.ensures.stood in
     let lawful_v = g.met.D.Disk.lawful c.read_standing.new.disk in
     let lawful_w = g.met.D.Disk.lawful c.draw.new.disk in
-    let n : c.len-length.result ≡ length k.entries = (let e = c.len-length.ensures in omega (arith, e)) in
+    let n : c.len-length.result ≡ entry_count k.entries = (let e = c.len-length.ensures in omega (arith, e)) in
     stood.moments c.args.anew u v w k st lawful_v lawful_w c.read_standing.ensures.any_moment c.read_standing.ensures.content c.len-length.result c.as_slice-text.result.now c.deref.result.now n c.as_slice-text.ensures c.deref.ensures.value c.draw.ensures.any_moment
 
 pub returns-clause-left : goal.returns-clause-left
@@ -151,7 +152,7 @@ returns-clause-left g c =
     let st = c.in_ok-standing.ensures.stood in
     let lawful_v = g.met.D.Disk.lawful c.read_standing.new.disk in
     let lawful_w = g.met.D.Disk.lawful c.draw.new.disk in
-    let n : c.len-length.result ≡ length k.entries = (let e = c.len-length.ensures in omega (arith, e)) in
+    let n : c.len-length.result ≡ entry_count k.entries = (let e = c.len-length.ensures in omega (arith, e)) in
     stood.lefts c.args.anew u v w k st lawful_v lawful_w c.read_standing.ensures.any_moment c.read_standing.ensures.content c.len-length.result c.as_slice-text.result.now c.deref.result.now n c.as_slice-text.ensures c.deref.ensures.value c.draw.ensures.any_moment
 
 pub returns-clause-stands : goal.returns-clause-stands
@@ -163,7 +164,7 @@ returns-clause-stands g c =
     let st = c.in_ok-standing.ensures.stood in
     let lawful_v = g.met.D.Disk.lawful c.read_standing.new.disk in
     let lawful_w = g.met.D.Disk.lawful c.draw.new.disk in
-    let n : c.len-length.result ≡ length k.entries = (let e = c.len-length.ensures in omega (arith, e)) in
+    let n : c.len-length.result ≡ entry_count k.entries = (let e = c.len-length.ensures in omega (arith, e)) in
     stood.stands c.args.anew u v w k st lawful_v lawful_w c.read_standing.ensures.any_moment c.read_standing.ensures.content c.len-length.result c.as_slice-text.result.now c.deref.result.now n c.as_slice-text.ensures c.deref.ensures.value c.draw.ensures.reads
 
 pub returns-clause-drawn : goal.returns-clause-drawn
@@ -175,7 +176,7 @@ returns-clause-drawn g c =
     let st = c.in_ok-standing.ensures.stood in
     let lawful_v = g.met.D.Disk.lawful c.read_standing.new.disk in
     let lawful_w = g.met.D.Disk.lawful c.draw.new.disk in
-    let n : c.len-length.result ≡ length k.entries = (let e = c.len-length.ensures in omega (arith, e)) in
+    let n : c.len-length.result ≡ entry_count k.entries = (let e = c.len-length.ensures in omega (arith, e)) in
     stood.room c.args.anew u v w k st lawful_v lawful_w c.read_standing.ensures.any_moment c.read_standing.ensures.content c.len-length.result c.as_slice-text.result.now c.deref.result.now n c.as_slice-text.ensures c.deref.ensures.value
 
 pub returns-clause-read : goal.returns-clause-read
@@ -187,7 +188,7 @@ returns-clause-read g c =
     let st = c.in_ok-standing.ensures.stood in
     let lawful_v = g.met.D.Disk.lawful c.read_standing.new.disk in
     let lawful_w = g.met.D.Disk.lawful c.draw.new.disk in
-    let n : c.len-length.result ≡ length k.entries = (let e = c.len-length.ensures in omega (arith, e)) in
+    let n : c.len-length.result ≡ entry_count k.entries = (let e = c.len-length.ensures in omega (arith, e)) in
     let s : OpenSite = record { instance = c.in_ok-drawn.drawn.instance; layout = k.layout; journals = c.in_ok-newest_journals.field-0; entries = k.entries; globals = k.globals; hardened = c.len-length.result; stamp = None } in
     stood.read c.args.anew u v w k st lawful_v lawful_w c.read_standing.ensures.any_moment c.read_standing.ensures.content c.len-length.result c.as_slice-text.result.now c.deref.result.now n c.as_slice-text.ensures c.deref.ensures.value s c.in_ok-drawn.ensures.records refl refl refl refl
 
@@ -200,7 +201,7 @@ returns-clause-found g c =
     let st = c.in_ok-standing.ensures.stood in
     let lawful_v = g.met.D.Disk.lawful c.read_standing.new.disk in
     let lawful_w = g.met.D.Disk.lawful c.draw.new.disk in
-    let n : c.len-length.result ≡ length k.entries = (let e = c.len-length.ensures in omega (arith, e)) in
+    let n : c.len-length.result ≡ entry_count k.entries = (let e = c.len-length.ensures in omega (arith, e)) in
     let s : OpenSite = record { instance = c.in_ok-drawn.drawn.instance; layout = k.layout; journals = c.in_ok-newest_journals.field-0; entries = k.entries; globals = k.globals; hardened = c.len-length.result; stamp = None } in
     stood.found c.args.anew u v w k st lawful_v lawful_w c.read_standing.ensures.any_moment c.read_standing.ensures.content c.len-length.result c.as_slice-text.result.now c.deref.result.now n c.as_slice-text.ensures c.deref.ensures.value s c.in_ok-drawn.ensures.records refl refl refl refl
 
@@ -213,7 +214,7 @@ returns-clause-held g c =
     let st = c.in_ok-standing.ensures.stood in
     let lawful_v = g.met.D.Disk.lawful c.read_standing.new.disk in
     let lawful_w = g.met.D.Disk.lawful c.draw.new.disk in
-    let n : c.len-length.result ≡ length k.entries = (let e = c.len-length.ensures in omega (arith, e)) in
+    let n : c.len-length.result ≡ entry_count k.entries = (let e = c.len-length.ensures in omega (arith, e)) in
     let s : OpenSite = record { instance = c.in_ok-drawn.drawn.instance; layout = k.layout; journals = c.in_ok-newest_journals.field-0; entries = k.entries; globals = k.globals; hardened = c.len-length.result; stamp = None } in
     stood.held c.args.anew u v w k st lawful_v lawful_w c.read_standing.ensures.any_moment c.read_standing.ensures.content c.len-length.result c.as_slice-text.result.now c.deref.result.now n c.as_slice-text.ensures c.deref.ensures.value s c.in_ok-drawn.ensures.records refl refl refl refl
 
@@ -226,7 +227,7 @@ returns-clause-opened g c =
     let st = c.in_ok-standing.ensures.stood in
     let lawful_v = g.met.D.Disk.lawful c.read_standing.new.disk in
     let lawful_w = g.met.D.Disk.lawful c.draw.new.disk in
-    let n : c.len-length.result ≡ length k.entries = (let e = c.len-length.ensures in omega (arith, e)) in
+    let n : c.len-length.result ≡ entry_count k.entries = (let e = c.len-length.ensures in omega (arith, e)) in
     let s : OpenSite = record { instance = c.in_ok-drawn.drawn.instance; layout = k.layout; journals = c.in_ok-newest_journals.field-0; entries = k.entries; globals = k.globals; hardened = c.len-length.result; stamp = None } in
     stood.opened_here c.args.anew u v w k st lawful_v lawful_w c.read_standing.ensures.any_moment c.read_standing.ensures.content c.len-length.result c.as_slice-text.result.now c.deref.result.now n c.as_slice-text.ensures c.deref.ensures.value s c.in_ok-drawn.ensures.records refl refl refl refl
 
@@ -239,7 +240,7 @@ returns-clause-ready g c =
     let st = c.in_ok-standing.ensures.stood in
     let lawful_v = g.met.D.Disk.lawful c.read_standing.new.disk in
     let lawful_w = g.met.D.Disk.lawful c.draw.new.disk in
-    let n : c.len-length.result ≡ length k.entries = (let e = c.len-length.ensures in omega (arith, e)) in
+    let n : c.len-length.result ≡ entry_count k.entries = (let e = c.len-length.ensures in omega (arith, e)) in
     let s : OpenSite = record { instance = c.in_ok-drawn.drawn.instance; layout = k.layout; journals = c.in_ok-newest_journals.field-0; entries = k.entries; globals = k.globals; hardened = c.len-length.result; stamp = None } in
     stood.ready c.args.anew u v w k st lawful_v lawful_w c.read_standing.ensures.any_moment c.read_standing.ensures.content c.len-length.result c.as_slice-text.result.now c.deref.result.now n c.as_slice-text.ensures c.deref.ensures.value s c.in_ok-drawn.ensures.records refl refl refl refl c.in_ok-drawn.drawn.journals.items c.in_ok-newest_journals.ensures c.in_ok-drawn.ensures.journal_count c.in_ok-drawn.ensures.instance refl c.in_ok-drawn.ensures.journals c.draw.ensures.frame
 
@@ -252,6 +253,6 @@ returns-clause-told g c =
     let st = c.in_ok-standing.ensures.stood in
     let lawful_v = g.met.D.Disk.lawful c.read_standing.new.disk in
     let lawful_w = g.met.D.Disk.lawful c.draw.new.disk in
-    let n : c.len-length.result ≡ length k.entries = (let e = c.len-length.ensures in omega (arith, e)) in
+    let n : c.len-length.result ≡ entry_count k.entries = (let e = c.len-length.ensures in omega (arith, e)) in
     let s : OpenSite = record { instance = c.in_ok-drawn.drawn.instance; layout = k.layout; journals = c.in_ok-newest_journals.field-0; entries = k.entries; globals = k.globals; hardened = c.len-length.result; stamp = None } in
     stood.told c.args.anew u v w k st lawful_v lawful_w c.read_standing.ensures.any_moment c.read_standing.ensures.content c.len-length.result c.as_slice-text.result.now c.deref.result.now n c.as_slice-text.ensures c.deref.ensures.value s c.in_ok-drawn.ensures.records refl refl refl refl c.in_ok-drawn.drawn.journals.items c.in_ok-newest_journals.ensures c.in_ok-drawn.ensures.drawn c.in_ok-drawn.ensures.instance_file c.in_ok-drawn.ensures.journal_files

@@ -15,6 +15,7 @@ use Rattle.site_store.proofs.FormsRead.{are_formed}
 use Rattle.site_store.proofs.OnBlocks.{on_files, are_held}
 use Rattle.site_store.proofs.Refused.{told_of_all}
 use Rattle.site_store.proofs.preparing.stand_anew.Goals as goal
+use Rattle.entry_index.specs.Found.{entry_count}
 
 pub rebuild_regions-requires-clause-within : goal.rebuild_regions-requires-clause-within
 rebuild_regions-requires-clause-within g c =
@@ -42,11 +43,11 @@ returns-clause-opened g c =
     let dir = c.in_ok-directory.ensures ∙ c.requires.has.directory in
     let many = got.count ∙ ap (λ d. d.regions) dir in
     let nodes : joined globals ≡ state (found_entries f) = subst (λ (es : Sequence). joined globals ≡ state es) c.as_slice.ensures.entries got.state in
-    let all : take (length f.entries) (found_entries f) ≡ found_entries f = take-length (found_entries f) in
-    subst (λ (k : Joined). IsOpenAs true v w f (length f.entries) k) (sym c.in_ok-stand_on.ensures.globals) (record {
+    let all : take (entry_count f.entries) (found_entries f) ≡ found_entries f = take-length (found_entries f) in
+    subst (λ (k : Joined). IsOpenAs true v w f (entry_count f.entries) k) (sym c.in_ok-stand_on.ensures.globals) (record {
       blocks = on_files v.content rs (map (λ (j : Vec PlacedRecord Global). j.items) f.read.journals.items) globals (got.patterns ∙ ap (λ d. d.patterns) dir) many got.files got.held;
       regions = are_held v w (length (regions rs)) globals c.rebuild_regions.ensures.reads.content many got.files got.held;
-      nodes = told_of_all v.content (λ files. IsSoundImage files (found_records f) (found_entries f) → joined globals ≡ state (take (length f.entries) (found_entries f))) (λ files sound. nodes ∙ ap state (sym all));
+      nodes = told_of_all v.content (λ files. IsSoundImage files (found_records f) (found_entries f) → joined globals ≡ state (take (entry_count f.entries) (found_entries f))) (λ files sound. nodes ∙ ap state (sym all));
       some = (found_entries f, nodes);
       none = λ empty. nodes ∙ ap state (sym all ∙ ap (λ (n : ℕ). take n (found_entries f)) empty);
     })

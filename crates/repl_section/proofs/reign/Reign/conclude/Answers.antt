@@ -12,6 +12,7 @@ use Rattle.repl_section.proofs.Standing.{entries_counted, stays_at}
 use Rattle.repl_section.proofs.Replied.{commit_appends, has_decided, unnamed_entered, read_is, limited_is, some_updates}
 use Rattle.repl_section.proofs.reign.Reign.conclude.Goals.{in-RolledBack, in-Done, then-is_empty, else-is_empty+then-len-ge-LAST_NUMBER}
 use Rattle.repl_section.proofs.reign.Reign.conclude.Goals as goal
+use Rattle.site_store.specs.Site.{count_of}
 
 pub returns-else-len-ge-LAST_NUMBER-clause-done : goal.returns-else-len-ge-LAST_NUMBER-clause-done
 returns-else-len-ge-LAST_NUMBER-clause-done g c =
@@ -36,7 +37,7 @@ returns-clause-entered g c =
         | else-is_empty+then-len-ge-LAST_NUMBER k ↦ ap (λ (y : Reply). named (reply_value y)) (w.reply-is ∙ k.reply-is)
       ]
     ] in
-    unnamed_entered c.answer.result (length c.answer.new.self.site.entries) (ap (λ (d : Replied). named d.reply) c.answer.ensures.decision ∙ none)
+    unnamed_entered c.answer.result (count_of c.answer.new.self.site) (ap (λ (d : Replied). named d.reply) c.answer.ensures.decision ∙ none)
 
 pub returns-clause-done : goal.returns-clause-done
 returns-clause-done g c told x h r =

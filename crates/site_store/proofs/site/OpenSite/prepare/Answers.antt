@@ -7,6 +7,8 @@ use Rattle.gvn_model.specs.declared.entry.Transaction as code
 use Rattle.site_regions.specs.Joined.{joined}
 use Rattle.site_store.proofs.Committed as committed
 use Rattle.site_store.proofs.site.OpenSite.prepare.Goals as goal
+use Rattle.entry_index.specs.Found.{entry_count}
+use Rattle.entry_index.specs.declared.index.EntryIndex.{EntryIndex}
 
 pub returns-in_err-prepare-clause-ready : goal.returns-in_err-prepare-clause-ready
 returns-in_err-prepare-clause-ready g c =
@@ -19,7 +21,7 @@ pub returns-in_err-remember-clause-ready : goal.returns-in_err-remember-clause-r
 returns-in_err-remember-clause-ready g c =
     committed.ready_prepared (g.D.Disk.disk c.args.disk.now) (g.D.Disk.disk c.prepare.new.disk) c.args.self.now c.remember.new.self c.prepare.new.self c.requires.ready c.prepare.ensures.ready c.prepare.ensures.count c.prepare.ensures.frame
     c.remember.ensures.journals c.remember.ensures.same.instance c.remember.ensures.same.layout c.remember.ensures.changed
-    (subst (λ (l : Sequence). length l < 2 ^ 40) (sym c.in_err-remember.ensures.kept.entries) c.requires.ready.few)
+    (subst (λ (i : EntryIndex). entry_count i < 2 ^ 40) (sym c.in_err-remember.ensures.kept.entries) c.requires.ready.few)
 
 pub returns-in_err-remember-clause-frame : goal.returns-in_err-remember-clause-frame
 returns-in_err-remember-clause-frame g c = committed.own_stays (g.D.Disk.disk c.args.disk.now) (g.D.Disk.disk c.prepare.new.disk) c.args.self.now c.requires.ready c.prepare.ensures.frame

@@ -1,0 +1,73 @@
+-- What a crate above may cite of places among records: records that come behind leave them, and an index counts its entries.
+use Rattle.std.proofs.Common.{◌≡◌, ℕ, zero, suc, ◌+◌, ◌*◌, ◌/◌, ◌==◌, ◌≤◌, ◌<◌, Bool, true, false, List, [], ◌∷◌, ◌++◌, length, take, slice_get, Option, Some, None, refl, sym, ◌∙◌, ap, subst, arith}
+use Rattle.std.proofs.Math.Nat.{mul-div_cancel_left}
+use Rattle.std.proofs.lemmas.Bool.Decides.{nat_tests}
+use Rattle.std.proofs.lemmas.List.{take-append-le}
+use Rattle.std.proofs.lemmas.Option.{slice_get_within}
+use Rattle.global_defs.specs.Entry.{Reign, Stamp, Entry, Sequence}
+use Rattle.global_defs.specs.Prefix.{stamp_at}
+use Rattle.journal_defs.specs.Journal.{JournalRecord, Tcom, Part}
+use Rattle.journal_defs.specs.Sequence.{Placed, entry_with}
+use Rattle.jnl_index.specs.Order.{IsAmong, bytes_in}
+use Rattle.entry_index.specs.declared.place.PartPlace.{PartPlace}
+use Rattle.entry_index.specs.declared.index.EntryIndex.{EntryIndex}
+use Rattle.entry_index.specs.Indexes.{place_of}
+use Rattle.entry_index.specs.Among.{IsPartAmong, IsEntryAmong, IsIndexOf}
+use Rattle.entry_index.specs.Found.{entry_count, IsWhole}
+
+got_front : {X : Type 0} (xs ys : List X) (k : ℕ) (x : X) → slice_get xs k ≡ Some x → slice_get (xs ++ ys) k ≡ Some x
+got_front [] ys k x is = absurd (cc is)
+got_front (y ∷ xs) ys zero x is = is
+got_front (y ∷ xs) ys (suc k) x is = got_front xs ys k x is
+
+-- records behind
+pub among_more : (journal rest : List Placed) (g o : ℕ) (r : JournalRecord) → IsAmong journal g o r → IsAmong (journal ++ rest) g o r
+among_more journal rest g o r a =
+    let low = slice_get_within journal a.place (record { generation = g; what = r }) a.there in
+    record {
+      place = a.place;
+      there = got_front journal rest a.place (record { generation = g; what = r }) a.there;
+      offset_is = a.offset_is ∙ ap (bytes_in g) (sym (take-append-le a.place journal rest (omega (arith, low))));
+    }
+
+pub part_more : (journal rest : List Placed) (n : ℕ) (p : PartPlace) (x : Option Part) → IsPartAmong journal n p x → IsPartAmong (journal ++ rest) n p x
+part_more journal rest n p None is = is
+part_more journal rest n p (Some x) is = (is.0, is.1, is.2, among_more journal rest p.generation p.offset (Tcom x) is.3)
+
+-- other journals and reigns, by which the same is told of the index
+pub index_same : (old new : ℕ → List Placed) (rs qs : List Reign) (index : EntryIndex) (seq : Sequence)
+    → ((r n : ℕ) (p : PartPlace) (x : Option Part) → r < index.regions → IsPartAmong (old r) n p x → IsPartAmong (new r) n p x)
+    → ((n : ℕ) → n < length seq → stamp_at (suc n) qs ≡ stamp_at (suc n) rs) → IsIndexOf old rs index seq → IsIndexOf new qs index seq
+index_same old new rs qs index seq parts stamps is = record {
+  rows = is.rows;
+  each = λ n e at.
+      let x = is.each n e at in
+      record {
+        part = x.part;
+        places = λ r low. parts r (suc n) (place_of index (suc n) r) (x.part r) low (x.places r low);
+        no_more = x.no_more;
+        entry = ap (λ (s : Option Stamp). entry_with x.part s) (stamps n (slice_get_within seq n e at)) ∙ x.entry;
+      };
+}
+
+pub index_stamps : (journal : ℕ → List Placed) (rs qs : List Reign) (index : EntryIndex) (seq : Sequence) → ((n : ℕ) → n < length seq → stamp_at (suc n) qs ≡ stamp_at (suc n) rs)
+    → IsIndexOf journal rs index seq → IsIndexOf journal qs index seq
+index_stamps journal rs qs index seq stamps is = index_same journal journal rs qs index seq (λ r n p x low h. h) stamps is
+
+-- records behind, in the regions of the index
+pub index_behind : (old new : ℕ → List Placed) (rs : List Reign) (index : EntryIndex) (seq : Sequence) → ((r : ℕ) → r < index.regions → (rest : List Placed) × (new r ≡ old r ++ rest))
+    → IsIndexOf old rs index seq → IsIndexOf new rs index seq
+index_behind old new rs index seq longer is = index_same old new rs rs index seq
+    (λ r n p x low h. let rest = longer r low in subst (λ (l : List Placed). IsPartAmong l n p x) (sym rest.1) (part_more (old r) rest.0 n p x h)) (λ n low. refl) is
+
+-- as many entries as it has rows
+pub counted : (index : EntryIndex) (n : ℕ) → 1 ≤ index.regions → length index.places.items ≡ index.regions * n → entry_count index ≡ n
+counted index n some rows =
+    let no : (index.regions == 0) ≡ false = grind (arith, nat_tests, some) in
+    rw no (ap (λ (k : ℕ). k / index.regions) rows ∙ mul-div_cancel_left n (omega (arith, some)))
+
+pub counts_entries : (journal : ℕ → List Placed) (rs : List Reign) (index : EntryIndex) (seq : Sequence) → 1 ≤ index.regions → IsIndexOf journal rs index seq → entry_count index ≡ length seq
+counts_entries journal rs index seq some is = counted index (length seq) some is.rows
+
+pub whole_rows : (index : EntryIndex) (n : ℕ) → 1 ≤ index.regions → length index.places.items ≡ index.regions * n → IsWhole index
+whole_rows index n some rows = rows ∙ ap (λ (k : ℕ). index.regions * k) (sym (counted index n some rows))
