@@ -49,7 +49,7 @@ use Rattle.site_store.proofs.Images.{same_image, reign_image, generation_kept, p
 use Rattle.site_store.proofs.Emptied.{none_left}
 use Rattle.site_store.proofs.Frames as frames
 use Rattle.entry_index.specs.declared.index.EntryIndex.{EntryIndex}
-use Rattle.site_store.proofs.Indexed.{index_begun}
+use Rattle.site_store.proofs.Indexing.{index_begun, stand_same}
 use Rattle.site_store.proofs.Remembered.{remembered_length}
 use Rattle.site_store.proofs.Parts.{no_entry_no_part}
 
@@ -239,6 +239,7 @@ ready_begun v w old new x ready some instance records journals layout stays glob
   regions = subst (λ (n : ℕ). AreHeld w n new.globals) (sym (ap (λ (rs : List InstanceRecord). length (regions rs)) records ∙ ap length (regions_kept old.instance.records x some))) (held_beside v w old new ready stays globals);
   few = subst (λ (i : EntryIndex). entry_count i < 2 ^ 40) (sym entries) ready.few;
   whole = subst IsWhole (sym entries) ready.whole;
+  some_place = subst (λ (i : EntryIndex). 1 ≤ i.regions) (sym entries) ready.some_place;
   each_place = ap (λ (i : EntryIndex). i.regions) entries ∙ ready.each_place ∙ sym (ap (λ (rs : List InstanceRecord). length (regions rs)) records ∙ ap length (regions_kept old.instance.records x some));
 }
 
@@ -305,6 +306,7 @@ module _ (v w : View) (c : Contents) (old new : OpenSite) (k : Keeps v c (length
     };
     sound = sound;
     older_files = λ f now r low. let from = stays.images f now in journal_same from.0 f r k.g (k.last r) (k.older r) (λ h le. from.2 (journal_file h r) (λ e. omega (arith, e))) (k.older_files from.0 from.1 r (here r low));
+    older_stand = λ f now r low. let from = stays.images f now in stand_same from.0 f r k.g (k.older r) (λ h le. from.2 (journal_file h r) (λ e. omega (arith, e))) (k.older_stand from.0 from.1 r (here r low));
     none_past = λ n r more. runs.part_of-sparing k.records.instance (Reigned (reign_of c)) n (k.records.journal r) (λ h m. refl) ∙ k.none_past n r more;
     blocks = on_begun;
     databases = λ f d i j r low. synced_stays v w (Only INSTANCE) (length (regions c.instance)) stays.images (no_instance_file (length (regions c.instance))) k.databases f d i j r (here r low);
@@ -340,6 +342,7 @@ ready_kept v w old new ready instance records journals layout stays globals entr
   regions = subst (λ (n : ℕ). AreHeld w n new.globals) (sym (ap (λ (rs : List InstanceRecord). length (regions rs)) records)) (held_beside v w old new ready stays globals);
   few = subst (λ (i : EntryIndex). entry_count i < 2 ^ 40) (sym entries) ready.few;
   whole = subst IsWhole (sym entries) ready.whole;
+  some_place = subst (λ (i : EntryIndex). 1 ≤ i.regions) (sym entries) ready.some_place;
   each_place = ap (λ (i : EntryIndex). i.regions) entries ∙ ready.each_place ∙ sym (ap (λ (rs : List InstanceRecord). length (regions rs)) records);
 }
 
@@ -380,6 +383,7 @@ open_kept v w told c h old new lawful ready stays unwritten state records entrie
         newest = record { generation = k.newest.generation; not_last = k.newest.not_last; instance = k.newest.instance; whole = k.newest.whole; begins = k.newest.begins; begun = k.newest.begun };
         sound = λ f now. k.sound f (was f now);
         older_files = λ f now. k.older_files f (was f now);
+        older_stand = λ f now. k.older_stand f (was f now);
         none_past = k.none_past;
         blocks = λ f now. subst (AreOnBlocks f k.records h) (sym changed) (k.blocks f (was f now));
         databases = λ f d i j. k.databases f d (was f i) (was d j);

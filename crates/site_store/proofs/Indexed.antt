@@ -1,53 +1,45 @@
--- Where the entries of an open site stand, while records are added and reigns begin.
-use Rattle.std.proofs.Common.{◌≡◌, ℕ, suc, ◌+◌, ◌*◌, ◌≤◌, ◌<◌, Bool, true, false, List, [], ◌∷◌, ◌++◌, length, refl, sym, ◌∙◌, ap, subst, arith}
-use Rattle.std.specs.Prelude.{nat_le, Option, Some, None, if◌then◌else◌}
-use Rattle.std.specs.List.{filter}
-use Rattle.std.specs.Option.{option_or}
-use Rattle.std.proofs.lemmas.Bool.Decides.{nat_tests}
-use Rattle.std.proofs.lemmas.Option.{slice_get_within}
-use Rattle.global_defs.specs.Entry.{Reign, Stamp, Entry, Sequence}
+-- Where the entries of an open site stand.
+use Rattle.std.proofs.Common.{◌≡◌, ℕ, suc, ◌+◌, ◌≤◌, ◌<◌, List, [], ◌∷◌, ◌++◌, length, map, take, Option, Some, None, IfSome, IsSomeAnd, refl, sym, ◌∙◌, ap, subst, arith, append_assoc}
+use Rattle.std.specs.Prelude.{slice_get, get_or, sum_by}
+use Rattle.std.specs.List.{AllZip}
+use Rattle.std.proofs.lemmas.List.{map-append}
+use Rattle.std.proofs.Math.Seq.{take-append_seam}
+use Rattle.disk_defs.specs.Disk.{Files, View, Image, IsLawful}
+use Rattle.disk_defs.specs.Gates.{Body, spelled, spelled_with}
+use Rattle.gated_file.specs.State.{ones, shut}
+use Rattle.global_defs.specs.Entry.{Entry, Sequence}
 use Rattle.global_defs.specs.Prefix.{stamp_at}
-use Rattle.journal_defs.specs.Instance.{InstanceRecord, Reigned, Cut}
+use Rattle.journal_defs.specs.Numbers.{journal_file}
+use Rattle.journal_defs.specs.Journal.{JournalRecord, Tcom, Part, IsJournalBody}
+use Rattle.journal_defs.specs.Instance.{InstanceRecord, regions}
 use Rattle.journal_defs.specs.Surviving.{reigns}
-use Rattle.journal_defs.specs.Sequence.{Placed}
-use Rattle.journal_laws.proofs.Runs as runs
+use Rattle.journal_defs.specs.Sequence.{Placed, entry_with}
+use Rattle.journal_defs.specs.Stands.{in_generation}
+use Rattle.journal_defs.specs.Growth.{AreNumbered, placed, appended, tcoms}
+use Rattle.journal_laws.proofs.Appending.{appended_is}
+use Rattle.jnl_file.specs.Journal as journals
+use Rattle.jnl_index.specs.Places.{StandsAt}
+use Rattle.jnl_index.specs.Order.{size_of, bytes_in, IsAmong, AreLaid}
+use Rattle.jnl_index.proofs.Order.{bytes_append, bytes_own, older_bytes, spelled_size, laid_stands, laid_open, laid_shut, IsOlderOrNewer, Older, Newer, older_or_newer}
+use Rattle.tp_commit.specs.Parts.{PartRecords, recorded}
+use Rattle.region_journals.specs.declared.journals.RegionJournal.{RegionJournal}
+use Rattle.region_journals.specs.Journals.{part_in}
+use Rattle.region_journals.proofs.Turns.{found}
+use Rattle.entry_index.specs.declared.place.PartPlace.{PartPlace}
 use Rattle.entry_index.specs.declared.index.EntryIndex.{EntryIndex}
-use Rattle.entry_index.specs.Found.{entry_count}
+use Rattle.entry_index.specs.Parts.{InFiles, InJournals, IsPartAt}
+use Rattle.entry_index.specs.Indexes.{Indexes}
 use Rattle.entry_index.specs.Among.{IsIndexOf}
-use Rattle.entry_index.proofs.AmongLaws.{index_same, index_stamps}
+use Rattle.entry_index.proofs.Laws.{row_more}
+use Rattle.entry_index.proofs.AmongLaws.{part_moved, index_behind, index_stands}
+use Rattle.site_store.specs.declared.site.OpenSite.{OpenSite}
+use Rattle.site_defs.specs.Contents.{Contents}
+use Rattle.site_store.specs.Site.{IsReady, Keeps}
+use Rattle.site_store.specs.Committing.{AddsPlaces, next_place, place_behind}
+use Rattle.site_store.proofs.Entries.{appended_more}
+use Rattle.site_store.proofs.Newest as newest
 
--- a reign that begins later is none of these entries'
-stamp_later : (n : ℕ) (rs : List Reign) (x : Reign) → n < x.start → stamp_at n (rs ++ x ∷ []) ≡ stamp_at n rs
-stamp_later n [] x late = let no : nat_le x.start n ≡ false = grind (arith, nat_tests) in rw no refl
-stamp_later n (r ∷ rs) x late = ap (λ (o : Option Stamp). option_or o (if nat_le r.start n then Some r.stamp else None)) (stamp_later n rs x late)
-
-pub index_begun : (journal : ℕ → List Placed) (instance : List InstanceRecord) (x : Reign) (index : EntryIndex) (seq : Sequence) → length seq < x.start
-    → IsIndexOf journal (reigns instance) index seq → IsIndexOf journal (reigns (instance ++ Reigned x ∷ [])) index seq
-index_begun journal instance x index seq late is = index_stamps journal (reigns instance) (reigns (instance ++ Reigned x ∷ [])) index seq
-    (λ n low. ap (stamp_at (suc n)) (runs.reigns-more instance x) ∙ stamp_later (suc n) (reigns instance) x (omega (arith, low, late))) is
-
--- a CUT at their number drops no reign of these entries
-stamp_kept : (n t : ℕ) (r : Reign) (rs : List Reign) → n ≤ t → stamp_at n (if nat_le r.start t then r ∷ rs else rs) ≡ option_or (stamp_at n rs) (if nat_le r.start n then Some r.stamp else None)
-stamp_kept n t r rs low = by_test (nat_le r.start t) refl
-  where
-    none_later : (o : Option Stamp) → o ≡ option_or o None
-    none_later None = refl
-    none_later (Some s) = refl
-
-    by_test : (b : Bool) → nat_le r.start t ≡ b → stamp_at n (if b then r ∷ rs else rs) ≡ option_or (stamp_at n rs) (if nat_le r.start n then Some r.stamp else None)
-    by_test true e = refl
-    by_test false e = let no : nat_le r.start n ≡ false = grind (arith, nat_tests, e, low) in rw no (none_later (stamp_at n rs))
-
-stamp_filter : (n t : ℕ) (rs : List Reign) → n ≤ t → stamp_at n (filter (λ (r : Reign). nat_le r.start t) rs) ≡ stamp_at n rs
-stamp_filter n t [] low = refl
-stamp_filter n t (r ∷ rs) low = stamp_kept n t r (filter (λ (r : Reign). nat_le r.start t) rs) low ∙ ap (λ (o : Option Stamp). option_or o (if nat_le r.start n then Some r.stamp else None)) (stamp_filter n t rs low)
-
-pub index_cut : (journal : ℕ → List Placed) (instance : List InstanceRecord) (t g : ℕ) (index : EntryIndex) (seq : Sequence) → length seq ≤ t
-    → IsIndexOf journal (reigns instance) index seq → IsIndexOf journal (reigns (instance ++ Cut t g ∷ [])) index seq
-index_cut journal instance t g index seq low is = index_stamps journal (reigns instance) (reigns (instance ++ Cut t g ∷ [])) index seq
-    (λ n below. ap (stamp_at (suc n)) (runs.reigns-cut instance t g) ∙ stamp_filter (suc n) t (reigns instance) (omega (arith, below, low))) is
-
--- in a later generation none of these records stands
+-- where the disk tells its files
 told_in : {X : Type 0} (o : Option Files) (P : Files → Type 0) → IsSomeAnd o P → ((f : Files) → P f → X) → X
 told_in None P told f = absurd told
 told_in (Some files) P told f = f files told

@@ -41,3 +41,6 @@ pub mod Unwritten
 pub mod Owned
 pub mod Histories
 pub mod Pieces
+pub mod Places
+pub mod Indexing
+pub mod Indexed

@@ -48,8 +48,8 @@ still v w F stays told = among v.content w.content told stays.content
 
 -- where each image is one from before
 pub keeps_images : (v w : View) (c : Contents) (h : ℕ) (old new : OpenSite) (k : Keeps v c h old) → IsLawful w → IsSome w.content → ((f : Files) → Image w f → Image v f) → instances.HasRecords w new.instance c.instance
-    → KeepsJournals w k.newer (tcoms k.waiting) new.journals.journals.items → AreChanged old.globals new.globals → Keeps w c h new
-keeps_images v w c h old new k lawful told from instance journals changed = record {
+    → KeepsJournals w k.newer (tcoms k.waiting) new.journals.journals.items → AreChanged old.globals new.globals → new.entries ≡ old.entries → Keeps w c h new
+keeps_images v w c h old new k lawful told from instance journals changed entries = record {
   count = k.count;
   few_nodes = k.few_nodes;
   reads = reads_so w (λ files. IsSite files (with_sequence c (take h c.sequence))) lawful told (λ f now. k.images f (from f now));
@@ -62,6 +62,7 @@ keeps_images v w c h old new k lawful told from instance journals changed = reco
   newest = k.newest;
   sound = λ f now. k.sound f (from f now);
   older_files = λ f now. k.older_files f (from f now);
+  older_stand = λ f now. k.older_stand f (from f now);
   none_past = k.none_past;
   blocks = λ f now. on_changed f k.records h old.globals new.globals changed (k.blocks f (from f now));
   databases = λ f d i j. k.databases f d (from f i) (from d j);
@@ -70,6 +71,7 @@ keeps_images v w c h old new k lawful told from instance journals changed = reco
   are_waiting = k.are_waiting;
   are_parts = k.are_parts;
   in_regions = k.in_regions;
+  indexed = subst (λ (i : EntryIndex). IsIndexOf (λ r. k.records.journal r ++ appended (suc k.g) k.waiting r) (reigns c.instance) i c.sequence) (sym entries) k.indexed;
   at_home = k.at_home;
   instance_file = instance;
   journal_files = journals;

@@ -110,6 +110,7 @@ keeps_read v w c n s r h = record {
   newest = h.newest;
   sound = image_read v w (λ f. IsSoundImage f h.records (take n c.sequence)) r h.sound;
   older_files = λ f i k here. let x = r.passes.images f i in subst (λ (y : Files). IsJournal y k h.g (h.last k) (h.older k)) (sym x.2) (h.older_files x.0 x.1 k here);
+  older_stand = λ f i k here. let x = r.passes.images f i in subst (λ (y : Files). StandUpTo y k h.g (h.older k)) (sym x.2) (h.older_stand x.0 x.1 k here);
   none_past = h.none_past;
   blocks = image_read v w (λ f. AreOnBlocks f h.records n s.globals) r h.blocks;
   databases = synced_stays v w (λ f. ⊥) (length (regions c.instance)) (others_read (λ f. ⊥) v w r).images (λ q here no. no) h.databases;
@@ -118,10 +119,11 @@ keeps_read v w c n s r h = record {
   are_waiting = h.are_waiting;
   are_parts = h.are_parts;
   in_regions = h.in_regions;
+  indexed = h.indexed;
   at_home = h.at_home;
   instance_file = instance_has v w s.instance c.instance r h.instance_file;
   journal_files = journals_kept v w h.newer (tcoms h.waiting) s.journals.journals.items r h.journal_files;
 }
 
 pub open_read : (v w : View) (told : Bool) (c : Contents) (n : ℕ) (s : OpenSite) → Reads v w → IsOpen v told c n s → IsOpen w told c n s
-open_read v w told c n s r h = record { remembered = h.remembered; entries = h.entries; kept = λ yes. keeps_read v w c n s r (h.kept yes) }
+open_read v w told c n s r h = record { remembered = h.remembered; kept = λ yes. keeps_read v w c n s r (h.kept yes) }

@@ -19,12 +19,6 @@ use Rattle.entry_index.specs.declared.index.EntryIndex.{EntryIndex}
 use Rattle.entry_index.specs.declared.place.PartPlace.{PartPlace}
 use Rattle.entry_index.specs.Parts.{NOWHERE}
 
--- the next entry of a site: this transaction under the reign that was begun
-pub record IsNextEntry (s : OpenSite) (t : code_transaction.Transaction) (e : code_entry.Entry) : Type 0 where
-  pub number : e.number ≡ count_of s + 1
-  pub stamp : s.stamp ≡ Some e.stamp
-  pub transaction : e.transaction ≡ t
-
 -- where a region's part of the next entry stands: behind all that its newest journal has; nowhere where it has no part
 abbrev pub place_behind : Option JournalRecord → Option RegionJournal → PartPlace
 place_behind None x = NOWHERE
@@ -44,9 +38,7 @@ pub record AddsPlaces (parts : PartRecords) (js : List RegionJournal) (old new :
 
 -- its places are in the index, and its updates are made
 pub record Enters (old new : OpenSite) (t : code_transaction.Transaction) (parts : PartRecords) : Type 0 where
-  pub entry : code_entry.Entry
-  pub next : IsNextEntry old t entry
-  pub entries : AddsPlaces parts new.journals.journals.items old.entries new.entries
+  pub places : AddsPlaces parts new.journals.journals.items old.entries new.entries
   pub globals : joined new.globals ≡ fold apply (joined old.globals) t.updates
   pub changed : AreChanged old.globals new.globals
 

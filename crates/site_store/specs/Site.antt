@@ -65,6 +65,7 @@ pub record IsReady (v : View) (s : OpenSite) : Type 0 where
   pub few : count_of s < 2 ^ 40
   -- a place for each region of each entry
   pub whole : IsWhole s.entries
+  pub some_place : 1 ≤ s.entries.regions
   pub each_place : s.entries.regions ≡ length (regions s.instance.records)
 
 -- The records of a site whose newest generation g + 1 has begun in each region: the journals of that generation alone may grow.
