@@ -1,5 +1,5 @@
 -- What a crate above may cite of places among records: records that come behind leave them, and an index counts its entries.
-use Rattle.std.proofs.Common.{◌≡◌, ℕ, zero, suc, ◌+◌, ◌*◌, ◌/◌, ◌==◌, ◌≤◌, ◌<◌, Bool, true, false, List, [], ◌∷◌, ◌++◌, length, take, slice_get, Option, Some, None, refl, sym, ◌∙◌, ap, subst, arith}
+use Rattle.std.proofs.Common.{◌≡◌, ℕ, zero, suc, ◌+◌, ◌*◌, ◌/◌, ◌==◌, ◌≤◌, ◌<◌, Bool, true, false, List, [], ◌∷◌, ◌++◌, length, take, slice_get, get_or, Option, Some, None, refl, sym, ◌∙◌, ap, subst, arith}
 use Rattle.std.proofs.Math.Nat.{mul-div_cancel_left}
 use Rattle.std.proofs.lemmas.Bool.Decides.{nat_tests}
 use Rattle.std.proofs.lemmas.List.{take-append-le}
@@ -11,9 +11,14 @@ use Rattle.journal_defs.specs.Sequence.{Placed, entry_with}
 use Rattle.jnl_index.specs.Order.{IsAmong, bytes_in}
 use Rattle.entry_index.specs.declared.place.PartPlace.{PartPlace}
 use Rattle.entry_index.specs.declared.index.EntryIndex.{EntryIndex}
-use Rattle.entry_index.specs.Indexes.{place_of}
+use Rattle.entry_index.specs.Indexes.{place_of, AreSigns}
+use Rattle.jnl_index.specs.Places.{AreSignsOf}
+use Rattle.jnl_index.specs.Signs.{sign_of}
+use Rattle.jnl_index.specs.declared.placed.PlacedSign.{PlacedSign}
+use Rattle.disk_defs.specs.Disk.{Files}
+use Rattle.std.specs.List.{AllZip}
 use Rattle.entry_index.specs.Among.{IsPartAmong, IsEntryAmong, IsIndexOf}
-use Rattle.entry_index.specs.Found.{entry_count, IsWhole}
+use Rattle.entry_index.specs.Found.{AreSaid, entry_count, IsWhole}
 
 got_front : {X : Type 0} (xs ys : List X) (k : ℕ) (x : X) → slice_get xs k ≡ Some x → slice_get (xs ++ ys) k ≡ Some x
 got_front [] ys k x is = absurd (cc is)
@@ -71,3 +76,13 @@ counts_entries journal rs index seq some is = counted index (length seq) some is
 
 pub whole_rows : (index : EntryIndex) (n : ℕ) → 1 ≤ index.regions → length index.places.items ≡ index.regions * n → IsWhole index
 whole_rows index n some rows = rows ∙ ap (λ (k : ℕ). index.regions * k) (sym (counted index n some rows))
+
+-- signs that stand for records say what these do
+all_said : (files : Files) (r : ℕ) (signs : List PlacedSign) (js : List Placed) → AreSignsOf files r signs js → AllZip (λ s p. (s.generation ≡ p.generation) × (s.sign ≡ sign_of p.what)) signs js
+all_said files r [] [] all = tt
+all_said files r [] (p ∷ js) all = absurd all
+all_said files r (s ∷ signs) [] all = absurd all
+all_said files r (s ∷ signs) (p ∷ js) all = ((all.0.generation, all.0.says), all_said files r signs js all.1)
+
+pub signs_said : (files : Files) (signs : List (List PlacedSign)) (journal : ℕ → List Placed) → AreSigns files signs journal → AreSaid signs journal
+signs_said files signs journal are = record { each = λ r low. all_said files r (get_or signs r []) (journal r) (are.each r low); no_more = are.no_more }

@@ -27,9 +27,9 @@ pub record IsAmong (journal : List Placed) (generation offset : ℕ) (r : Journa
 abbrev pub AreInOrder : List PlacedSign → List Placed → Type 0
 AreInOrder signs journal = (i : ℕ) (s : PlacedSign) → slice_get signs i ≡ Some s → s.offset ≡ bytes_in s.generation (take i journal)
 
--- each of these records of a region is of a generation up to h, and stands at its place in that generation's file
+-- each of these records of a region is of a generation from 1 to h, and stands at its place in that generation's file
 abbrev pub StandUpTo : Files → (region : ℕ) → (h : ℕ) → List Placed → Type 0
-StandUpTo files region h journal = (g o : ℕ) (r : JournalRecord) → IsAmong journal g o r → (g ≤ h) × StandsAt (files (journal_file g region)) o r
+StandUpTo files region h journal = (g o : ℕ) (r : JournalRecord) → IsAmong journal g o r → (1 ≤ g) × (g ≤ h) × StandsAt (files (journal_file g region)) o r
 
 -- the bodies of these records stand one behind another from the start of a file, each behind some gate
 abbrev pub AreLaid : List ℕ → List JournalRecord → Type 0

@@ -150,7 +150,7 @@ module _ (v : View) (c : Contents) (h : ℕ) (s : OpenSite) (k : Keeps v c h s) 
       ∙ ap (λ (l : List Placed). k.older r ++ l) (sym (map-append (in_generation (suc k.g)) (k.newer r) (tcoms k.waiting r))) in
       let old : bytes_in (suc k.g) (k.older r) ≡ 0 = older_bytes files r k.g (k.last r) (suc k.g) (k.older r) (k.older_files files image r here) (omega arith) in
       elim (older_or_newer (k.older r) (suc k.g) newer g o x old (subst (λ (l : List Placed). IsAmong l g o x) parts among)) [
-        | Older a ↦ (k.older_stand files image r here g o x a).1
+        | Older a ↦ (k.older_stand files image r here g o x a).2
         | Newer n at drawn offset ↦
             subst (λ (m : ℕ). StandsAt (files (journal_file m r)) o x) (sym drawn)
             (subst (λ (m : ℕ). StandsAt (files (journal_file (suc k.g) r)) m x) (sym offset) (laid_stands (files (journal_file (suc k.g) r)) newer n x (laid files told r here) at))

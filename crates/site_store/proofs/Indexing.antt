@@ -11,7 +11,8 @@ use Rattle.journal_defs.specs.Instance.{InstanceRecord, Reigned, Cut}
 use Rattle.journal_defs.specs.Surviving.{reigns}
 use Rattle.journal_defs.specs.Numbers.{journal_file}
 use Rattle.journal_defs.specs.Sequence.{Placed}
-use Rattle.disk_defs.specs.Disk.{Files}
+use Rattle.disk_defs.specs.Disk.{Files, View, Image}
+use Rattle.jnl_file.specs.Generations.{AreDurable}
 use Rattle.jnl_index.specs.Order.{StandUpTo}
 use Rattle.jnl_index.specs.Places.{StandsAt}
 use Rattle.journal_laws.proofs.Runs as runs
@@ -55,4 +56,10 @@ index_cut journal instance t g index seq low is = index_stamps journal (reigns i
 pub stand_same : (old new : Files) (r h : ℕ) (js : List Placed) → ((n : ℕ) → n ≤ h → new (journal_file n r) ≡ old (journal_file n r)) → StandUpTo old r h js → StandUpTo new r h js
 stand_same old new r h js same stand g o x among =
     let at = stand g o x among in
-    (at.0, subst (λ (file : List ℕ). StandsAt file o x) (sym (same g at.0)) at.1)
+    (at.0, at.1, subst (λ (file : List ℕ). StandsAt file o x) (sym (same g at.1)) at.2)
+
+-- files that are on the disk for good
+pub stand_images : (v : View) (files : Files) (r h : ℕ) (js : List Placed) → AreDurable v r h files → StandUpTo files r h js → (f : Files) → Image v f → StandUpTo f r h js
+stand_images v files r h js durable stand f image g o x among =
+    let at = stand g o x among in
+    (at.0, at.1, subst (λ (file : List ℕ). StandsAt file o x) (sym (durable g at.0 at.1 f image)) at.2)

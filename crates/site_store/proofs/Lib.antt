@@ -41,6 +41,7 @@ pub mod Unwritten
 pub mod Owned
 pub mod Histories
 pub mod Pieces
+pub mod TheFiles
 pub mod Places
 pub mod Indexing
 pub mod Indexed

@@ -190,7 +190,7 @@ returns-clause-read g c =
     let lawful_w = g.met.D.Disk.lawful c.draw.new.disk in
     let n : c.len-length.result ≡ entry_count k.entries = (let e = c.len-length.ensures in omega (arith, e)) in
     let s : OpenSite = record { instance = c.in_ok-drawn.drawn.instance; layout = k.layout; journals = c.in_ok-newest_journals.field-0; entries = k.entries; globals = k.globals; hardened = c.len-length.result; stamp = None } in
-    stood.read c.args.anew u v w k st lawful_v lawful_w c.read_standing.ensures.any_moment c.read_standing.ensures.content c.len-length.result c.as_slice-text.result.now c.deref.result.now n c.as_slice-text.ensures c.deref.ensures.value s c.in_ok-drawn.ensures.records refl refl refl refl
+    stood.read_some c.args.anew u v w k st lawful_v lawful_w c.read_standing.ensures.any_moment c.read_standing.ensures.content c.len-length.result c.as_slice-text.result.now c.deref.result.now n c.as_slice-text.ensures c.deref.ensures.value s c.in_ok-drawn.ensures.records refl refl refl refl
 
 pub returns-clause-found : goal.returns-clause-found
 returns-clause-found g c =
