@@ -1,5 +1,5 @@
 -- What a crate above may cite of places among records: records that come behind leave them, and an index counts its entries.
-use Rattle.std.proofs.Common.{◌≡◌, ℕ, zero, suc, ◌+◌, ◌*◌, ◌/◌, ◌==◌, ◌≤◌, ◌<◌, Bool, true, false, List, [], ◌∷◌, ◌++◌, length, take, slice_get, get_or, Option, Some, None, refl, sym, ◌∙◌, ap, subst, arith}
+use Rattle.std.proofs.Common.{◌≡◌, inl, inr, ℕ, zero, suc, ◌+◌, ◌*◌, ◌/◌, ◌==◌, ◌≤◌, ◌<◌, Bool, true, false, List, [], ◌∷◌, ◌++◌, length, take, slice_get, get_or, Option, Some, None, refl, sym, ◌∙◌, ap, subst, arith}
 use Rattle.std.proofs.Math.Nat.{mul-div_cancel_left}
 use Rattle.std.proofs.lemmas.Bool.Decides.{nat_tests}
 use Rattle.std.proofs.lemmas.List.{take-append-le}
@@ -8,17 +8,20 @@ use Rattle.global_defs.specs.Entry.{Reign, Stamp, Entry, Sequence}
 use Rattle.global_defs.specs.Prefix.{stamp_at}
 use Rattle.journal_defs.specs.Journal.{JournalRecord, Tcom, Part}
 use Rattle.journal_defs.specs.Sequence.{Placed, entry_with}
-use Rattle.jnl_index.specs.Order.{IsAmong, bytes_in}
+use Rattle.jnl_index.specs.Order.{IsAmong, StandUpTo, bytes_in}
 use Rattle.entry_index.specs.declared.place.PartPlace.{PartPlace}
 use Rattle.entry_index.specs.declared.index.EntryIndex.{EntryIndex}
 use Rattle.entry_index.specs.Indexes.{place_of, AreSigns}
-use Rattle.jnl_index.specs.Places.{AreSignsOf}
-use Rattle.jnl_index.specs.Signs.{sign_of}
-use Rattle.jnl_index.specs.declared.placed.PlacedSign.{PlacedSign}
 use Rattle.disk_defs.specs.Disk.{Files}
-use Rattle.std.specs.List.{AllZip}
-use Rattle.entry_index.specs.Among.{IsPartAmong, IsEntryAmong, IsIndexOf}
-use Rattle.entry_index.specs.Found.{AreSaid, entry_count, IsWhole}
+use Rattle.journal_defs.specs.Numbers.{journal_file}
+use Rattle.journal_defs.specs.Stands.{IsJournal}
+use Rattle.jnl_index.specs.declared.placed.PlacedSign.{PlacedSign}
+use Rattle.jnl_index.specs.Places.{StandsAt, IsSignOf, AreSignsOf}
+use Rattle.jnl_index.proofs.Order.{up_to}
+use Rattle.std.specs.List.{AllByRecursion}
+use Rattle.std.proofs.lemmas.Bool.{cases_lt}
+use Rattle.entry_index.specs.Among.{IsPartAmong, IsIndexOf, AreAllInOrder}
+use Rattle.entry_index.specs.Found.{entry_count, IsWhole}
 
 got_front : {X : Type 0} (xs ys : List X) (k : ℕ) (x : X) → slice_get xs k ≡ Some x → slice_get (xs ++ ys) k ≡ Some x
 got_front [] ys k x is = absurd (cc is)
@@ -77,12 +80,33 @@ counts_entries journal rs index seq some is = counted index (length seq) some is
 pub whole_rows : (index : EntryIndex) (n : ℕ) → 1 ≤ index.regions → length index.places.items ≡ index.regions * n → IsWhole index
 whole_rows index n some rows = rows ∙ ap (λ (k : ℕ). index.regions * k) (sym (counted index n some rows))
 
--- signs that stand for records say what these do
-all_said : (files : Files) (r : ℕ) (signs : List PlacedSign) (js : List Placed) → AreSignsOf files r signs js → AllZip (λ s p. (s.generation ≡ p.generation) × (s.sign ≡ sign_of p.what)) signs js
-all_said files r [] [] all = tt
-all_said files r [] (p ∷ js) all = absurd all
-all_said files r (s ∷ signs) [] all = absurd all
-all_said files r (s ∷ signs) (p ∷ js) all = ((all.0.generation, all.0.says), all_said files r signs js all.1)
+-- the sign of a record, by its place
+sign_at : (files : Files) (r : ℕ) (signs : List PlacedSign) (js : List Placed) (k : ℕ) (p : Placed) → AreSignsOf files r signs js → slice_get js k ≡ Some p → (s : PlacedSign) × (slice_get signs k ≡ Some s) × IsSignOf files r s p
+sign_at files r [] [] k p all there = absurd (cc there)
+sign_at files r [] (q ∷ js) k p all there = absurd all
+sign_at files r (s ∷ signs) [] k p all there = absurd all
+sign_at files r (s ∷ signs) (q ∷ js) zero p all there = let same : q ≡ p = cc there in (s, refl, subst (IsSignOf files r s) same all.0)
+sign_at files r (s ∷ signs) (q ∷ js) (suc k) p all there = sign_at files r signs js k p all.1 there
 
-pub signs_said : (files : Files) (signs : List (List PlacedSign)) (journal : ℕ → List Placed) → AreSigns files signs journal → AreSaid signs journal
-signs_said files signs journal are = record { each = λ r low. all_said files r (get_or signs r []) (journal r) (are.each r low); no_more = are.no_more }
+drawn_at : (js : List Placed) (k : ℕ) (p : Placed) → AllByRecursion (λ p. (1 ≤ p.generation) × (p.generation ≤ 65535)) js → slice_get js k ≡ Some p → 1 ≤ p.generation
+drawn_at [] k p all there = absurd (cc there)
+drawn_at (q ∷ js) zero p all there = let same : q ≡ p = cc there in subst (λ (x : Placed). 1 ≤ x.generation) same all.0.0
+drawn_at (q ∷ js) (suc k) p all there = drawn_at js k p all.1 there
+
+-- records stand where their signs say, at their places
+pub signs_stand : (files : Files) (signs : List (List PlacedSign)) (journal : ℕ → List Placed) (r h last : ℕ) → AreSigns files signs journal → AreAllInOrder signs journal → IsJournal files r h last (journal r) → StandUpTo files r h (journal r)
+signs_stand files signs journal r h last are ordered is g o x among = elim (cases_lt r (length signs)) [
+  | inl low ↦
+      let p : Placed = record { generation = g; what = x } in
+      let s = sign_at files r (get_or signs r []) (journal r) among.place p (are.each r low) among.there in
+      let offset : s.0.offset ≡ o = ordered r low among.place s.0 s.1 ∙ ap (λ (k : ℕ). bytes_in k (take among.place (journal r))) s.2.generation ∙ sym among.offset_is in (
+        drawn_at (journal r) among.place p (are.generations r low) among.there,
+        up_to files r h last (journal r) among.place p is among.there,
+        subst (λ (k : ℕ). StandsAt (files (journal_file g r)) k x) offset s.2.stands,
+      )
+  | inr past ↦ absurd (none_past (journal r) among.place (record { generation = g; what = x }) (are.no_more r past) among.there)
+]
+  where
+    none_past : (js : List Placed) (k : ℕ) (p : Placed) → js ≡ [] → slice_get js k ≡ Some p → ⊥
+    none_past [] k p none there = cc there
+    none_past (q ∷ js) k p none there = cc none

@@ -140,3 +140,21 @@ older_or_newer older h newer g o r none a = elim (cases_lt a.place (length older
         ∙ bytes_own h (take k newer)
       )
 ]
+
+-- records of a region's journals are of a generation up to the last
+pub up_to : (files : Files) (r h last : ℕ) (js : List Placed) (k : ℕ) (p : Placed) → IsJournal files r h last js → slice_get js k ≡ Some p → p.generation ≤ h
+up_to files r zero last js k p is there = absurd (none (ap (λ (l : List Placed). slice_get l k) (sym is.1) ∙ there))
+  where
+    none : slice_get [] k ≡ Some p → ⊥
+    none e = cc e
+up_to files r (suc h) last js k p is there =
+    let at : slice_get (is.1 ++ map (in_generation (suc h)) is.2) k ≡ Some p = ap (λ (l : List Placed). slice_get l k) (sym is.7) ∙ there in
+    elim (cases_lt k (length is.1)) [
+      | inl low ↦ let before = up_to files r h is.0 is.1 k p is.3 (sym (got_left is.1 (map (in_generation (suc h)) is.2) k low) ∙ at) in omega (arith, before)
+      | inr past ↦
+          let place : k ≡ length is.1 + (k - length is.1) = omega (arith, past) in
+          let newer = sym (slice_get-map (in_generation (suc h)) is.2 (k - length is.1)) ∙ sym (got_right is.1 (map (in_generation (suc h)) is.2) k (k - length is.1) place) ∙ at in
+          let found = got_newer (suc h) is.2 (k - length is.1) p newer in
+          let drawn : p.generation ≡ suc h = ap (λ (q : Placed). q.generation) found.2 in
+          omega (arith, drawn)
+    ]

@@ -56,6 +56,9 @@ use Rattle.site_store.proofs.Fronted as fronted
 use Rattle.site_store.proofs.Fronted.{has_epoch, one_if}
 use Rattle.site_store.specs.Finding.{HasLayout}
 use Rattle.block_laws.specs.Nodes.{union}
+use Rattle.entry_index.specs.Found.{entry_count, IsWhole}
+use Rattle.entry_index.specs.Among.{IsIndexOf}
+use Rattle.entry_index.specs.declared.index.EntryIndex.{EntryIndex}
 
 -- what an epoch may change is no instance file, no text and no older journal
 away_instance : (g n : ℕ) → IsEpochFile g n INSTANCE → ⊥

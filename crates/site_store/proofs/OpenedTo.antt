@@ -38,6 +38,7 @@ use Rattle.site_store.specs.Site.{Remembers, Keeps, IsOpen, AreOnBlocks, AreOnFi
 use Rattle.site_store.proofs.OnBlocks.{IsPlain, anew_or_not, held_same, on_same, on_more, on_chosen}
 use Rattle.site_store.proofs.Drawn.{S, C, cut_at, DrawsTo, newest_is, same_regions, site_read, site_drawn, newest_whole}
 use Rattle.site_store.proofs.Parts.{no_entry_no_part}
+use Rattle.entry_index.specs.Among.{IsIndexOf}
 
 -- journals that have just begun
 abbrev pub newly : Journal → RegionJournal

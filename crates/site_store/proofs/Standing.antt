@@ -15,6 +15,8 @@ use Rattle.site_store.specs.declared.site.OpenSite.{OpenSite}
 use Rattle.site_regions.specs.Joined.{AreChanged}
 use Rattle.site_store.specs.Site.{Keeps, IsOpen}
 use Rattle.site_store.proofs.OnBlocks.{on_changed}
+use Rattle.entry_index.specs.Among.{IsIndexOf}
+use Rattle.entry_index.specs.declared.index.EntryIndex.{EntryIndex}
 
 -- with all of its entries hardened, each image stands for its contents
 pub images_stand : (v : View) (c : Contents) (s : OpenSite) → IsOpen v true c (length c.sequence) s → (f : Files) → Image v f → IsSite f c

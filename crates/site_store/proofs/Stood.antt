@@ -29,7 +29,9 @@ use Rattle.site_store.proofs.TheFiles.{told_then, as_told}
 use Rattle.site_store.proofs.Loaded as loaded
 use Rattle.site_store.proofs.Loaded.{Moments, Lefts, StandsOpen}
 use Rattle.site_store.proofs.OpenedTo.{newly}
-use Rattle.entry_index.specs.Found.{entry_count}
+use Rattle.entry_index.specs.Found.{entry_count, IsWhole}
+use Rattle.entry_index.specs.Among.{IsIndexOf}
+use Rattle.entry_index.specs.declared.index.EntryIndex.{EntryIndex}
 
 all_three : (o : Option Files) (A B C : Files → Type 0) → IfSome o A → IfSome o B → IfSome o C → IfSome o (λ f. A f × B f × C f)
 all_three None A B C a b c = tt
