@@ -42,6 +42,7 @@ pub mod Owned
 pub mod Histories
 pub mod Pieces
 pub mod TheFiles
+pub mod Shown
 pub mod Reading
 pub mod Places
 pub mod Indexing
