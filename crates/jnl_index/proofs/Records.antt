@@ -3,9 +3,8 @@ use Rattle.std.proofs.Common.{◌≡◌, ℕ, ◌+◌, ◌<◌, ◌≤◌, ◌^�
 use Rattle.std.proofs.lemmas.Bool.Decides.{nat_tests}
 use Rattle.std.proofs.lemmas.List.{append-nil, nil_from_length}
 use Rattle.std.specs.Int.{to_be_bytes, w32}
-use Rattle.std.specs.List.{AllByRecursion}
-use Rattle.journal_defs.specs.Journal.{JournalRecord, Pini, Epoch, Pblk, Tcom, Item, IsStart, IsPart, IsItem, Rise, IsInForm, IsJournalBody, spelled_record}
-use Rattle.jnl_record.specs.Heads.{AreItems}
+use Rattle.journal_defs.specs.Journal.{JournalRecord, Pini, Epoch, Pblk, Tcom, Item, IsInForm, IsJournalBody, spelled_record}
+use Rattle.jnl_record.proofs.Records.{few}
 use Rattle.jnl_index.specs.Fields.{Field, Reads, Sees, then, byte, word, start, mark, head, items}
 use Rattle.jnl_index.specs.Signs.{sign_of, span_of}
 use Rattle.jnl_index.specs.Telling.{TellsSign, head_fields, IsInRange}
@@ -136,13 +135,6 @@ part = then head in_head
 
 abbrev tcom : HeadFields × List Item → JournalRecord
 tcom u = Tcom (record { number = u.0.0; mask = u.0.1.0; origin = record { updater = u.0.1.1.0; serial = u.0.1.1.1.0 }; count = count_in u.0; items = u.1 })
-
-few : (list : List Item) (low count : ℕ) → Rise low list → AllByRecursion (IsItem count) list → low ≤ count → low + length list ≤ count
-few [] low count rise each within = omega arith
-few (i ∷ list) low count rise each within =
-    let inside : i.position < count = each.0.position in
-    let others = few list (i.position + 1) count rise.1 each.1 (omega arith) in
-    omega (arith, rise.0, others)
 
 tcom_only : (bytes : List ℕ) (r : JournalRecord) → IsInForm r → 5 ∷ bytes ≡ spelled_record r → (x : HeadFields × List Item) × part.has x × (bytes ≡ part.spelled x) × (r ≡ tcom x) × Unit {0}
 tcom_only bytes (Tcom p) h e =
