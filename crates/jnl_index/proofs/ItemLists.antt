@@ -1,41 +1,16 @@
 -- Items, one and many, that are passed over but for their positions.
 use Rattle.std.proofs.Common.{◌≡◌, ℕ, suc, ◌+◌, ◌<◌, ◌≤◌, ◌^◌, ◌==◌, ◌&&◌, Bool, true, false, List, [], ◌∷◌, ◌++◌, length, arith, Some, None, refl, ap, sym, ◌∙◌, subst, length-append}
 use Rattle.std.proofs.lemmas.Bool.Decides.{nat_tests}
-use Rattle.global_defs.specs.Fields.{spelled_update}
-use Rattle.journal_defs.specs.Journal.{Item, IsItem, spelled_item}
+use Rattle.journal_defs.specs.Journal.{Item}
 use Rattle.jnl_record.proofs.ItemLists.{some_item as item_read, GoesOn, goes_first, goes_on, goes_out, goes_done}
 use Rattle.jnl_index.specs.Fields.{Reads, Sees, Skips, byte, half, update, item, items}
 use Rattle.jnl_index.specs.Signs.{first_of, is_row, span_of}
 use Rattle.jnl_index.specs.declared.sign.Span.{Span}
 
-module _ (low count : ℕ) (small : count < 2 ^ 16) (bytes : List ℕ) where
-  pub no_tag : Reads byte bytes None → Reads (item low count) bytes None
-  no_tag none i rest form e = none 4 (half.spelled i.position ++ (spelled_update i.update ++ rest)) (omega arith) e
-
-  pub other_tag : (tag : ℕ) (r : List ℕ) → Reads byte bytes (Some (tag, r)) → (tag ≡ 4 → ⊥) → Reads (item low count) bytes None
-  other_tag tag r read other i rest form e = other (sym (read.2 4 (half.spelled i.position ++ (spelled_update i.update ++ rest)) (omega arith) e).0)
-
-  module _ (r : List ℕ) (four : Reads byte bytes (Some (4, r))) where
-    behind_four : (i : Item) (rest : List ℕ) → bytes ≡ spelled_item i ++ rest → r ≡ half.spelled i.position ++ (spelled_update i.update ++ rest)
-    behind_four i rest e = sym (four.2 4 (half.spelled i.position ++ (spelled_update i.update ++ rest)) (omega arith) e).1
-
-    small_position : (i : Item) → IsItem count i → i.position < 2 ^ 16
-    small_position i is = omega (arith, is.position)
-
-    module _ (n : ℕ) (s : List ℕ) (half_read : Reads half r (Some (n, s))) where
-      behind_position : (i : Item) (rest : List ℕ) → IsItem count i → bytes ≡ spelled_item i ++ rest → (i.position ≡ n) × (spelled_update i.update ++ rest ≡ s)
-      behind_position i rest is e = half_read.2 i.position (spelled_update i.update ++ rest) (small_position i is) (behind_four i rest e)
-
-      pub out_of_range : (low ≤ n → n < count → ⊥) → Reads (item low count) bytes None
-      out_of_range out i rest form e =
-          let same : i.position ≡ n = (behind_position i rest form.1 e).0 in
-          out (omega (arith, form.0, same)) (omega (arith, form.1.position, same))
-
-      pub no_update : Skips update s None → Reads (item low count) bytes None
-      no_update none i rest form e = none i.update rest form.1.update (sym (behind_position i rest form.1 e).1)
-
-      pub some_item : (t : List ℕ) → low ≤ n → n < count → Skips update s (Some t) → Sees (item low count) (λ i. i.position) bytes (Some (n, t))
-      some_item t from below skips = (record { position = n; update = skips.0 }, refl, item_read low count small bytes r four n s half_read skips.0 t from below skips.1)
+-- an item whose update is passed over
+pub some_item : (low count : ℕ) (small : count < 2 ^ 16) (bytes r : List ℕ) (four : Reads byte bytes (Some (4, r))) (n : ℕ) (s : List ℕ) (half_read : Reads half r (Some (n, s))) (t : List ℕ) → low ≤ n → n < count → Skips update s (Some t)
+    → Sees (item low count) (λ i. i.position) bytes (Some (n, t))
+some_item low count small bytes r four n s half_read t from below skips = (record { position = n; update = skips.0 }, refl, item_read low count small bytes r four n s half_read skips.0 t from below skips.1)
 
 -- So many items were passed over, whose positions lie so.
 pub record Passed (n count : ℕ) (bytes : List ℕ) (i low : ℕ) (span : Span) (rest : List ℕ) : Type 0 where

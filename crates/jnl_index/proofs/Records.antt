@@ -64,12 +64,6 @@ pub no_start : (bytes : List ℕ) → Reads start bytes None → TellsSign (1 �
 no_start bytes none = untold start 1 bytes pini is_first (pini_only bytes) none
 
 module _ (bytes : List ℕ) (version region : ℕ) (before : Bool) (generation previous : ℕ) (rest : List ℕ) (read : Reads start bytes (Some ((version, (region, (before, (generation, previous)))), rest))) where
-  pub longer_start : (length rest ≡ 0 → ⊥) → TellsSign (1 ∷ bytes) None
-  longer_start more = wrong start 1 bytes pini is_first (pini_only bytes) (version, (region, (before, (generation, previous)))) rest read (λ form fact is. more (ap length is))
-
-  pub bad_start : (version ≡ 1 → region < 8 → generation ≤ 65535 → previous < generation → ⊥) → TellsSign (1 ∷ bytes) None
-  bad_start bad = wrong start 1 bytes pini is_first (pini_only bytes) (version, (region, (before, (generation, previous)))) rest read (λ form first is. bad first form.region form.generation.1 form.previous)
-
   pub start_told : version ≡ 1 → region < 8 → generation ≤ 65535 → previous < generation → length rest ≡ 0 → TellsSign (1 ∷ bytes) (Some (sign.Pini region before generation previous))
   start_told first small most earlier none =
       told start 1 bytes pini is_first (pini_only bytes) (version, (region, (before, (generation, previous)))) rest (sign.Pini region before generation previous) read none
@@ -91,12 +85,6 @@ pub no_mark : (bytes : List ℕ) → Reads mark bytes None → TellsSign (2 ∷ 
 no_mark bytes none = untold mark 2 bytes epoch (λ t. Unit {0}) (epoch_only bytes) none
 
 module _ (bytes : List ℕ) (closing : Bool) (number blocks : ℕ) (rest : List ℕ) (read : Reads mark bytes (Some ((closing, (number, blocks)), rest))) where
-  pub longer_mark : (length rest ≡ 0 → ⊥) → TellsSign (2 ∷ bytes) None
-  longer_mark more = wrong mark 2 bytes epoch (λ t. Unit {0}) (epoch_only bytes) (closing, (number, blocks)) rest read (λ form fact is. more (ap length is))
-
-  pub bad_mark : 2 ^ 40 ≤ number → TellsSign (2 ∷ bytes) None
-  bad_mark great = wrong mark 2 bytes epoch (λ t. Unit {0}) (epoch_only bytes) (closing, (number, blocks)) rest read (λ form fact is. omega (arith, form.0, great))
-
   pub mark_told : number < 2 ^ 40 → length rest ≡ 0 → TellsSign (2 ∷ bytes) (Some (sign.Epoch closing number blocks))
   mark_told small none = told mark 2 bytes epoch (λ t. Unit {0}) (epoch_only bytes) (closing, (number, blocks)) rest (sign.Epoch closing number blocks) read none (small, read.0.1.1) refl refl
 
