@@ -12,10 +12,7 @@ use Rattle.jnl_index.specs.declared.sign.Span.{Span}
 use Rattle.jnl_index.specs.declared.sign.Sign.{Sign}
 use Rattle.jnl_index.specs.declared.sign.Sign.TheVariants as sign
 use Rattle.jnl_index.specs.declared.parts.Head.{Head}
-use Rattle.jnl_index.proofs.Chains.{front_then, behind_then, joined_then}
-
-tail : {x y : ℕ} {xs ys : List ℕ} → x ∷ xs ≡ y ∷ ys → xs ≡ ys
-tail e = cc
+use Rattle.jnl_index.proofs.Chains.{tail, front_then, behind_then, joined_then}
 
 pub empty_is : (rest : List ℕ) (b : Bool) → b ≡ (length rest == 0) → b ≡ true → length rest ≡ 0
 empty_is rest b is true_of = grind (arith, nat_tests)
