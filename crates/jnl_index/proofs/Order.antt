@@ -1,5 +1,5 @@
 -- Where records stand in their files.
-use Rattle.std.proofs.Common.{◌≡◌, ◌≢◌, ◌⊎◌, inl, inr, ℕ, zero, suc, ◌+◌, ◌-◌, ◌==◌, ◌≤◌, ◌<◌, Bool, true, false, List, [], ◌∷◌, ◌++◌, length, map, take, drop, slice_get, sum_by, Option, Some, refl, sym, ◌∙◌, ap, subst, arith, if◌then◌else◌, append_assoc, length-append}
+use Rattle.std.proofs.Common.{◌≡◌, ◌≢◌, ◌⊎◌, inl, inr, ℕ, zero, suc, ◌+◌, ◌-◌, ◌==◌, ◌≤◌, ◌<◌, Bool, true, false, List, [], ◌∷◌, ◌++◌, length, map, take, drop, slice_get, sum_by, Option, Some, refl, sym, ◌∙◌, ap, subst, arith, if◌then◌else◌, append_assoc, append-nil, length-append}
 use Rattle.std.proofs.lemmas.Bool.Decides.{nat_tests}
 use Rattle.std.proofs.lemmas.List.{drop-drop, take-map, take-append-le}
 use Rattle.std.proofs.lemmas.Bool.{cases_lt}
@@ -16,7 +16,8 @@ use Rattle.journal_defs.specs.Sequence.{Placed}
 use Rattle.journal_defs.specs.Stands.{IsJournal, Holds, in_generation}
 use Rattle.gated_file.specs.State.{shut}
 use Rattle.jnl_index.specs.Places.{StandsAt}
-use Rattle.jnl_index.specs.Order.{size_of, bytes_in, IsAmong, AreLaid}
+use Rattle.jnl_index.specs.Order.{size_of, bytes_in, IsAmong, AreInOrder, AreNewer, AreLaid}
+use Rattle.jnl_index.specs.declared.placed.PlacedSign.{PlacedSign}
 
 -- how many bytes records take, together
 pub bytes_append : (g : ℕ) (xs ys : List Placed) → bytes_in g (xs ++ ys) ≡ bytes_in g xs + bytes_in g ys
@@ -44,7 +45,7 @@ older_bytes files r (suc h) last g js is late =
     ap (bytes_in g) is.7 ∙ bytes_append g is.1 (map (in_generation (suc h)) is.2) ∙ omega (arith, older, newer)
 
 -- bodies behind gates
-body_size : (body : Body) (r : JournalRecord) → IsJournalBody body r → 5 + length body ≡ size_of r
+pub body_size : (body : Body) (r : JournalRecord) → IsJournalBody body r → 5 + length body ≡ size_of r
 body_size body r is = ap (λ (b : Body). 5 + length b) is.spelled
 
 pub spelled_size : (bodies : List Body) (rs : List JournalRecord) → AllZip IsJournalBody bodies rs → length (spelled 1 bodies) ≡ sum_by size_of rs
@@ -101,6 +102,42 @@ laid_shut gate [] [] tail sizes all = tt
 laid_shut gate [] (r ∷ rs) tail sizes all = absurd all
 laid_shut gate (body ∷ bodies) [] tail sizes all = absurd all
 laid_shut gate (body ∷ bodies) (r ∷ rs) tail sizes all = (gate, body, shut 0 bodies tail, refl, sizes.0, all.0, laid_shut 0 bodies rs tail sizes.1 all.1)
+
+-- signs in order, and others behind them
+module _ (old new : List PlacedSign) (older newer : List Placed) (same : length old ≡ length older) where
+  pub order_append : AreInOrder old older → ((k : ℕ) (s : PlacedSign) → slice_get new k ≡ Some s → s.offset ≡ bytes_in s.generation (older ++ take k newer)) → AreInOrder (old ++ new) (older ++ newer)
+  order_append first then i s at = elim (cases_lt i (length old)) [
+    | inl low ↦ first i s (sym (got_left old new i low) ∙ at) ∙ ap (bytes_in s.generation) (sym (take-append-le i older newer (omega (arith, low, same))))
+    | inr past ↦
+        let k = i - length old in
+        let place : i ≡ length old + k = omega (arith, past) in
+        let here : i ≡ length older + k = omega (arith, past, same) in
+        then k s (sym (got_right old new i k place) ∙ at) ∙ ap (bytes_in s.generation) (sym (ap (λ (n : ℕ). take n (older ++ newer)) here ∙ take-append-add older newer k))
+  ]
+
+-- a sign more of one generation
+pub newer_more : (g : ℕ) (signs : List PlacedSign) (placed : List Placed) (s : PlacedSign) (p : Placed) → length signs ≡ length placed → s.generation ≡ g → s.offset ≡ bytes_in g placed → AreNewer g signs placed
+    → AreNewer g (signs ++ s ∷ []) (placed ++ p ∷ [])
+newer_more g signs placed s p same drawn here before i t at = elim (cases_lt i (length signs)) [
+  | inl low ↦
+      let b = before i t (sym (got_left signs (s ∷ []) i low) ∙ at) in
+      (b.0, b.1 ∙ ap (bytes_in g) (sym (take-append-le i placed (p ∷ []) (omega (arith, low, same)))))
+  | inr past ↦
+      let k = i - length signs in
+      let place : i ≡ length signs + k = omega (arith, past) in
+      let whole : take i (placed ++ p ∷ []) ≡ placed ++ take k (p ∷ []) = ap (λ (n : ℕ). take n (placed ++ p ∷ [])) (omega (arith, past, same)) ∙ take-append-add placed (p ∷ []) k in
+      let last = only k (sym (got_right signs (s ∷ []) i k place) ∙ at) in
+      (last.0, last.1 ∙ ap (bytes_in g) (sym whole))
+]
+  where
+    only : (k : ℕ) → slice_get (s ∷ []) k ≡ Some t → (t.generation ≡ g) × (t.offset ≡ bytes_in g (placed ++ take k (p ∷ [])))
+    only zero at =
+        let same_sign : s ≡ t = cc at in
+        subst (λ (x : PlacedSign). (x.generation ≡ g) × (x.offset ≡ bytes_in g (placed ++ []))) same_sign (drawn, here ∙ ap (bytes_in g) (sym (append-nil placed)))
+    only (suc k) at = absurd (none k at)
+
+    none : (k : ℕ) → slice_get [] k ≡ Some t → ⊥
+    none k e = cc e
 
 -- a record that came with a generation, or one from before
 got_newer : (h : ℕ) (rs : List JournalRecord) (k : ℕ) (p : Placed) → option_map (in_generation h) (slice_get rs k) ≡ Some p → (r : JournalRecord) × (slice_get rs k ≡ Some r) × (p ≡ in_generation h r)
