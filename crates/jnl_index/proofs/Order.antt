@@ -1,8 +1,9 @@
 -- Where records stand in their files.
-use Rattle.std.proofs.Common.{◌≡◌, ◌≢◌, ◌⊎◌, inl, inr, ℕ, zero, suc, ◌+◌, ◌-◌, ◌==◌, ◌≤◌, ◌<◌, Bool, true, false, List, [], ◌∷◌, ◌++◌, length, map, take, drop, slice_get, sum_by, Option, Some, refl, sym, ◌∙◌, ap, subst, arith, if◌then◌else◌, append_assoc, append-nil, length-append}
+use Rattle.std.proofs.Common.{◌≡◌, ◌≢◌, ◌⊎◌, inl, inr, ℕ, zero, suc, ◌+◌, ◌-◌, ◌==◌, ◌≤◌, ◌<◌, Bool, true, false, List, [], ◌∷◌, ◌++◌, length, map, take, drop, slice_get, sum_by, Option, Some, None, refl, sym, ◌∙◌, ap, subst, arith, if◌then◌else◌, append_assoc, append-nil, length-append}
 use Rattle.std.proofs.lemmas.Bool.Decides.{nat_tests}
 use Rattle.std.proofs.lemmas.List.{drop-drop, take-map, take-append-le}
 use Rattle.std.proofs.lemmas.Bool.{cases_lt}
+use Rattle.std.proofs.lemmas.List.Sums.{sum_by-cons}
 use Rattle.std.proofs.lemmas.Option.{slice_get-map, slice_get_within}
 use Rattle.std.specs.Option.{option_map}
 use Rattle.std.proofs.Math.Seq.{take-append_seam, drop-append_seam, take-append-add}
@@ -21,20 +22,21 @@ use Rattle.jnl_index.specs.declared.placed.PlacedSign.{PlacedSign}
 
 -- how many bytes records take, together
 pub bytes_append : (g : ℕ) (xs ys : List Placed) → bytes_in g (xs ++ ys) ≡ bytes_in g xs + bytes_in g ys
-bytes_append g [] ys = refl
+bytes_append g [] ys = omega arith
 bytes_append g (x ∷ xs) ys = omega (arith, bytes_append g xs ys)
 
 pub bytes_own : (g : ℕ) (rs : List JournalRecord) → bytes_in g (map (in_generation g) rs) ≡ sum_by size_of rs
 bytes_own g [] = refl
 bytes_own g (r ∷ rs) =
     let own : (g == g) ≡ true = grind (arith, nat_tests) in
-    ap (λ (b : Bool). (if b then size_of r else 0) + bytes_in g (map (in_generation g) rs)) own ∙ ap (λ (n : ℕ). size_of r + n) (bytes_own g rs)
+    ap (λ (b : Bool). (if b then size_of r else 0) + bytes_in g (map (in_generation g) rs)) own ∙ ap (λ (n : ℕ). size_of r + n) (bytes_own g rs) ∙ sym (sum_by-cons size_of r rs)
 
 pub bytes_other : (h g : ℕ) (rs : List JournalRecord) → h < g → bytes_in g (map (in_generation h) rs) ≡ 0
 bytes_other h g [] less = refl
 bytes_other h g (r ∷ rs) less =
     let other : (h == g) ≡ false = grind (arith, nat_tests, less) in
-    ap (λ (b : Bool). (if b then size_of r else 0) + bytes_in g (map (in_generation h) rs)) other ∙ bytes_other h g rs less
+    let rest : 0 + bytes_in g (map (in_generation h) rs) ≡ 0 = omega (arith, bytes_other h g rs less) in
+    ap (λ (b : Bool). (if b then size_of r else 0) + bytes_in g (map (in_generation h) rs)) other ∙ rest
 
 -- a later generation has none of them
 pub older_bytes : (files : Files) (r h last g : ℕ) (js : List Placed) → IsJournal files r h last js → h < g → bytes_in g js ≡ 0
@@ -52,7 +54,7 @@ pub spelled_size : (bodies : List Body) (rs : List JournalRecord) → AllZip IsJ
 spelled_size [] [] all = refl
 spelled_size [] (r ∷ rs) all = absurd all
 spelled_size (body ∷ bodies) [] all = absurd all
-spelled_size (body ∷ bodies) (r ∷ rs) all = omega (arith, length-append (framed body) (spelled 1 bodies), length-framed body, body_size body r all.0, spelled_size bodies rs all.1)
+spelled_size (body ∷ bodies) (r ∷ rs) all = omega (arith, length-append (framed body) (spelled 1 bodies), length-framed body, body_size body r all.0, sum_by-cons size_of r rs, spelled_size bodies rs all.1)
 
 -- a record of those that are laid one behind another
 pub laid_stands : (file : List ℕ) (rs : List JournalRecord) (k : ℕ) (r : JournalRecord) → AreLaid file rs → slice_get rs k ≡ Some r → StandsAt file (sum_by size_of (take k rs)) r
@@ -68,9 +70,11 @@ laid_stands file (q ∷ rs) zero r laid there =
 laid_stands file (q ∷ rs) (suc k) r laid there =
     let later = laid_stands laid.2 rs k r laid.6 there in
     let at = sum_by size_of (take k rs) in
-    let place : size_of q + at + 1 ≡ at + 1 + (5 + length laid.1) = omega (arith, body_size laid.1 q laid.5) in
+    let five : 5 + length laid.1 ≡ suc (4 + length laid.1) = omega arith in
+    let place : sum_by size_of (q ∷ take k rs) + 1 ≡ 5 + length laid.1 + (at + 1) = omega (arith, sum_by-cons size_of q (take k rs), body_size laid.1 q laid.5) in
+    let past_gate : drop (5 + length laid.1) (laid.0 ∷ framed laid.1 ++ laid.2) ≡ drop (4 + length laid.1) (framed laid.1 ++ laid.2) = ap (λ (n : ℕ). drop n (laid.0 ∷ framed laid.1 ++ laid.2)) five in
     let behind : drop (5 + length laid.1) file ≡ laid.2 =
-    ap (drop (5 + length laid.1)) laid.3 ∙ ap (λ (n : ℕ). drop n (framed laid.1 ++ laid.2)) (sym (length-framed laid.1)) ∙ drop-append_seam (framed laid.1) laid.2 in
+    ap (drop (5 + length laid.1)) laid.3 ∙ past_gate ∙ ap (λ (n : ℕ). drop n (framed laid.1 ++ laid.2)) (sym (length-framed laid.1)) ∙ drop-append_seam (framed laid.1) laid.2 in
     record {
       body = later.body;
       spelled = later.spelled;
@@ -106,13 +110,13 @@ laid_shut gate (body ∷ bodies) (r ∷ rs) tail sizes all = (gate, body, shut 0
 -- signs in order, and others behind them
 module _ (old new : List PlacedSign) (older newer : List Placed) (same : length old ≡ length older) where
   pub order_append : AreInOrder old older → ((k : ℕ) (s : PlacedSign) → slice_get new k ≡ Some s → s.offset ≡ bytes_in s.generation (older ++ take k newer)) → AreInOrder (old ++ new) (older ++ newer)
-  order_append first then i s at = elim (cases_lt i (length old)) [
+  order_append first later i s at = elim (cases_lt i (length old)) [
     | inl low ↦ first i s (sym (got_left old new i low) ∙ at) ∙ ap (bytes_in s.generation) (sym (take-append-le i older newer (omega (arith, low, same))))
     | inr past ↦
         let k = i - length old in
         let place : i ≡ length old + k = omega (arith, past) in
         let here : i ≡ length older + k = omega (arith, past, same) in
-        then k s (sym (got_right old new i k place) ∙ at) ∙ ap (bytes_in s.generation) (sym (ap (λ (n : ℕ). take n (older ++ newer)) here ∙ take-append-add older newer k))
+        later k s (sym (got_right old new i k place) ∙ at) ∙ ap (bytes_in s.generation) (sym (ap (λ (n : ℕ). take n (older ++ newer)) here ∙ take-append-add older newer k))
   ]
 
 -- a sign more of one generation
@@ -130,14 +134,14 @@ newer_more g signs placed s p same drawn here before i t at = elim (cases_lt i (
       (last.0, last.1 ∙ ap (bytes_in g) (sym whole))
 ]
   where
+    none : (k : ℕ) → slice_get [] k ≡ Some t → ⊥
+    none k e = cc e
+
     only : (k : ℕ) → slice_get (s ∷ []) k ≡ Some t → (t.generation ≡ g) × (t.offset ≡ bytes_in g (placed ++ take k (p ∷ [])))
     only zero at =
         let same_sign : s ≡ t = cc at in
         subst (λ (x : PlacedSign). (x.generation ≡ g) × (x.offset ≡ bytes_in g (placed ++ []))) same_sign (drawn, here ∙ ap (bytes_in g) (sym (append-nil placed)))
     only (suc k) at = absurd (none k at)
-
-    none : (k : ℕ) → slice_get [] k ≡ Some t → ⊥
-    none k e = cc e
 
 -- a record that came with a generation, or one from before
 got_newer : (h : ℕ) (rs : List JournalRecord) (k : ℕ) (p : Placed) → option_map (in_generation h) (slice_get rs k) ≡ Some p → (r : JournalRecord) × (slice_get rs k ≡ Some r) × (p ≡ in_generation h r)
@@ -166,15 +170,14 @@ older_or_newer older h newer g o r none a = elim (cases_lt a.place (length older
       let found = got_newer h newer k (record { generation = g; what = r }) at in
       let drawn : g ≡ h = ap (λ (p : Placed). p.generation) found.2 in
       let what : r ≡ found.0 = ap (λ (p : Placed). p.what) found.2 in
+      let own : bytes_in h older + bytes_in h (take k (map (in_generation h) newer)) ≡ sum_by size_of (take k newer) = omega (arith, none, ap (bytes_in h) (take-map (in_generation h) k newer), bytes_own h (take k newer)) in
       Newer k (found.1 ∙ ap Some (sym what)) drawn (
         a.offset_is
         ∙ ap (λ (n : ℕ). bytes_in g (take n (older ++ map (in_generation h) newer))) place
         ∙ ap (bytes_in g) (take-append-add older (map (in_generation h) newer) k)
         ∙ ap (λ (j : ℕ). bytes_in j (older ++ take k (map (in_generation h) newer))) drawn
         ∙ bytes_append h older (take k (map (in_generation h) newer))
-        ∙ ap (λ (n : ℕ). n + bytes_in h (take k (map (in_generation h) newer))) none
-        ∙ ap (bytes_in h) (take-map (in_generation h) k newer)
-        ∙ bytes_own h (take k newer)
+        ∙ own
       )
 ]
 
