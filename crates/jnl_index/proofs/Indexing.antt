@@ -1,5 +1,5 @@
 -- Signs of a journal's records, gathered from gate to gate and from generation to generation.
-use Rattle.std.proofs.Common.{◌≡◌, ℕ, suc, ◌+◌, ◌≤◌, nat_eq, Bool, true, false, List, [], ◌∷◌, ◌++◌, map, take, slice_get, Option, Some, None, IfSome, refl, sym, ◌∙◌, ap, subst, arith, append_assoc, append-nil}
+use Rattle.std.proofs.Common.{◌≡◌, ℕ, suc, ◌+◌, ◌≤◌, nat_eq, Bool, true, false, List, [], ◌∷◌, ◌++◌, take, slice_get, Option, Some, None, IfSome, refl, sym, ◌∙◌, ap, subst, arith, append_assoc, append-nil}
 use Rattle.disk_defs.specs.Disk.{Files, View}
 use Rattle.disk_defs.proofs.Told.{told_at, both_weak}
 use Rattle.journal_defs.specs.Numbers.{journal_file}

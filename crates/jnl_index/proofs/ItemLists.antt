@@ -4,7 +4,7 @@ use Rattle.std.proofs.lemmas.Bool.Decides.{nat_tests}
 use Rattle.journal_defs.specs.Journal.{Item}
 use Rattle.jnl_record.proofs.ItemLists.{some_item as item_read, GoesOn, goes_first, goes_on, goes_out, goes_done}
 use Rattle.jnl_index.specs.Fields.{Reads, Sees, Skips, byte, half, update, item, items}
-use Rattle.jnl_index.specs.Signs.{first_of, is_row, span_of}
+use Rattle.jnl_index.specs.Signs.{is_row, span_of}
 use Rattle.jnl_index.specs.declared.sign.Span.{Span}
 
 -- an item whose update is passed over

@@ -8,7 +8,7 @@ use Rattle.global_defs.specs.Entry.{Update, Set, Kill, ZKill}
 use Rattle.global_defs.specs.Fields.{short, long, spelled_update, IsUpdate}
 use Rattle.global_defs.proofs.KeyOrder.{key_injective}
 use Rattle.repl_fields.specs.Reading.{ReadsField}
-use Rattle.jnl_index.specs.Fields.{Field, Reads, Skips, key, value, pair, update}
+use Rattle.jnl_index.specs.Fields.{Field, Skips, key, value, pair, update}
 use Rattle.jnl_index.proofs.Chains.{tail}
 
 short_code : (k : Key) → is_key k ≡ true → length (encoded k) < 256

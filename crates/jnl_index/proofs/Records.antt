@@ -1,11 +1,10 @@
 -- Bodies of each kind, by their fields behind the kind.
-use Rattle.std.proofs.Common.{◌≡◌, ℕ, ◌+◌, ◌<◌, ◌≤◌, ◌^◌, ◌==◌, Bool, true, false, List, [], ◌∷◌, ◌++◌, length, flat_map, arith, Option, Some, None, refl, ap, sym, ◌∙◌, subst}
+use Rattle.std.proofs.Common.{◌≡◌, ℕ, ◌<◌, ◌≤◌, ◌^◌, ◌==◌, Bool, true, false, List, [], ◌∷◌, ◌++◌, length, arith, Some, None, refl, ap, sym, ◌∙◌, subst}
 use Rattle.std.proofs.lemmas.Bool.Decides.{nat_tests}
 use Rattle.std.proofs.lemmas.List.{append-nil, nil_from_length}
-use Rattle.std.specs.Int.{to_be_bytes, w32}
-use Rattle.journal_defs.specs.Journal.{JournalRecord, Pini, Epoch, Pblk, Tcom, Item, IsInForm, IsJournalBody, spelled_record}
+use Rattle.journal_defs.specs.Journal.{JournalRecord, Pini, Epoch, Pblk, Tcom, Item, IsInForm, spelled_record}
 use Rattle.jnl_record.proofs.Records.{few}
-use Rattle.jnl_index.specs.Fields.{Field, Reads, Sees, then, byte, word, start, mark, head, items}
+use Rattle.jnl_index.specs.Fields.{Field, Reads, Sees, then, word, start, mark, head, items}
 use Rattle.jnl_index.specs.Signs.{sign_of, span_of}
 use Rattle.jnl_index.specs.Telling.{TellsSign, head_fields, IsInRange}
 use Rattle.jnl_index.specs.declared.sign.Span.{Span}

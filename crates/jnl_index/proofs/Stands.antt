@@ -1,10 +1,10 @@
 -- Records by their places.
-use Rattle.std.proofs.Common.{◌≡◌, ◌≢◌, inl, inr, ℕ, ◌+◌, ◌-◌, ◌<◌, ◌≤◌, ◌^◌, List, ◌++◌, length, take, drop, Some, false, Result, Ok, Err, OnOk, is_err, refl, ap, sym, ◌∙◌, subst, arith, length-append, length-take, length-drop}
+use Rattle.std.proofs.Common.{◌≡◌, inr, ℕ, ◌+◌, ◌<◌, ◌≤◌, List, ◌++◌, length, take, drop, Some, false, Result, Ok, Err, OnOk, is_err, refl, ap, sym, ◌∙◌, subst, arith, length-append, length-take, length-drop}
 use Rattle.std.proofs.lemmas.List.{take-take, drop-take, drop-drop}
 use Rattle.std.proofs.Math.Seq.{take-add}
 use Rattle.std.proofs.lemmas.Nat.{from_be_bytes-to_be_bytes_4}
 use Rattle.std.specs.Int.{from_be_bytes, to_be_bytes, w32}
-use Rattle.disk_defs.specs.Gates.{Body, Open, gate_at, framed, IsBody}
+use Rattle.disk_defs.specs.Gates.{Body}
 use Rattle.gated_file.specs.Reading.{HasBody}
 use Rattle.gated_file.proofs.Gates.{body_opens}
 use Rattle.journal_defs.specs.Journal.{JournalRecord, Pini, Epoch, Pblk, Tcom, IsJournalBody}
@@ -12,7 +12,7 @@ use Rattle.journal_laws.proofs.Readings.{journal_body}
 use Rattle.jnl_record.specs.Values.{record_value}
 use Rattle.jnl_record.specs.declared.record.JnlRecord.{JnlRecord}
 use Rattle.jnl_record.specs.declared.record.JnlRecord.TheVariants as code
-use Rattle.jnl_file.specs.Reading.{FindsRecord, IsNoRecord}
+use Rattle.jnl_file.specs.Reading.{IsNoRecord}
 use Rattle.jnl_index.specs.Signs.{sign_of}
 use Rattle.jnl_index.specs.Places.{StandsAt, HasLength}
 use Rattle.jnl_index.specs.Pieces.{FindsSign}
