@@ -92,3 +92,12 @@ all_tell files signs records rs n are r = elim (cases_lt r (length signs)) [
       subst (λ (ss : List PlacedSign). IsSign files r n (last_sign rs n ss) (part_of rs n (records r))) (sym (get_or_past signs r [] past))
       (subst (λ (ps : List Placed). IsSign files r n None (part_of rs n ps)) (sym (are.no_more r past)) tt)
 ]
+
+-- so do those that a table has of them
+pub signed : (files : Files) (signs : List (List PlacedSign)) (records : ℕ → List Placed) (rs : List InstanceRecord) (n : ℕ) (sign : ℕ → Option PartSign) → AreSigns files signs records
+    → ((r : ℕ) → sign r ≡ last_sign rs n (signs_of signs r)) → (r : ℕ) → IsSign files r n (sign r) (part_of rs n (records r))
+signed files signs records rs n sign are each r = subst (λ (o : Option PartSign). IsSign files r n o (part_of rs n (records r))) (sym (each r)) (all_tell files signs records rs n are r)
+
+-- past the last list there is no part
+pub none_past : (files : Files) (signs : List (List PlacedSign)) (records : ℕ → List Placed) (rs : List InstanceRecord) (n : ℕ) → AreSigns files signs records → (r : ℕ) → length signs ≤ r → part_of rs n (records r) ≡ None
+none_past files signs records rs n are r past = ap (part_of rs n) (are.no_more r past)

@@ -9,6 +9,7 @@ use Rattle.journal_defs.specs.Stands.{AreRecords}
 use Rattle.jnl_index.specs.declared.placed.PlacedSign.{PlacedSign}
 use Rattle.entry_index.specs.declared.index.EntryIndex.{EntryIndex}
 use Rattle.entry_index.specs.Indexes.{AreSigns, Indexes}
+use Rattle.entry_index.specs.Parts.{InFiles}
 
 -- how many entries an index has
 abbrev pub entry_count : EntryIndex → ℕ
@@ -24,4 +25,4 @@ pub record AreFound (files : Files) (instance : List InstanceRecord) (signs : Li
   pub held : AreRecords files u
   pub are_signs : AreSigns files signs u.journal
   pub sequence : IsSequence u seq
-  pub indexed : Indexes files (reigns instance) index seq
+  pub indexed : Indexes (InFiles files) (reigns instance) index seq

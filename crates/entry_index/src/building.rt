@@ -9,6 +9,7 @@ ghost use Rattle.journal_defs.specs.Surviving as surviving;
 ghost use Rattle.mupip_recover.specs.Stamps.{AreStarts};
 ghost use Rattle.entry_index.specs.Indexes.{AreSigns, Indexes, IsNext};
 ghost use Rattle.entry_index.specs.Table.{AreSigned};
+ghost use Rattle.entry_index.specs.Parts.{InFiles};
 
 use crate::completing::{is_complete, places_of};
 use crate::error::IndexError;
@@ -46,12 +47,14 @@ fn add_row<D: Disk>(
     if stamp_at(reigns, starts, place as u64 + 1).is_none() {
         return Ok(false);
     }
-    let row = places_of(alloc, table, place, made.regions)?;
-    let complete = is_complete(alloc, disk, table, place, &row)?;
-    if complete {
-        made.push(&row)?;
+    let places = places_of(alloc, table, place, made.regions)?;
+    let row = places.as_slice();
+    let complete = is_complete(alloc, disk, table, place, row)?;
+    if !complete {
+        return Ok(false);
     }
-    Ok(complete)
+    made.push(row)?;
+    Ok(true)
 }
 
 impl EntryIndex {
@@ -74,7 +77,7 @@ impl EntryIndex {
         requires history { history.now ≡ surviving.reigns instance.now }
         requires few { length signs.now ≤ 8 }
         ensures sequence { IfOk result (λ made. IfSome (D.disk disk.old).content (λ files. (journal : ℕ → List sequences.Placed) → AreSigns files (map (λ s. s.items) signs.now) journal
-            → (seq : defs.Sequence) × sequences.IsSequence (record { instance = instance.now; journal = journal }) seq × Indexes files (surviving.reigns instance.now) made seq)) }
+            → (seq : defs.Sequence) × sequences.IsSequence (record { instance = instance.now; journal = journal }) seq × Indexes (InFiles files) (surviving.reigns instance.now) made seq)) }
         ensures regions { IfOk result (λ made. made.regions ≡ length signs.now) }
         ensures rows { IfOk result (λ made. (rows : ℕ) × (length made.places.items ≡ made.regions * rows)) }
         ensures outside { (file offset : ℕ) → IsErrOf result (IndexError.NotAFile file offset) → IfSome (D.disk disk.old).content (λ files. (journal : ℕ → List sequences.Placed) → AreSigns files (map (λ s. s.items) signs.now) journal → ⊥) }
@@ -94,7 +97,8 @@ impl EntryIndex {
             places: Vec::new(alloc),
         };
         for place in 0..places {
-            if !add_row(alloc, disk, &table, reigns, &starts, place, &mut made)? {
+            let more = add_row(alloc, disk, &table, reigns, &starts, place, &mut made)?;
+            if !more {
                 return Ok(made);
             }
         }

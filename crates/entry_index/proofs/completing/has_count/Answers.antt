@@ -14,16 +14,16 @@ use Rattle.entry_index.proofs.completing.has_count.Goals as goal
 pub returns-then-many-left : goal.returns-then-many-left
 returns-then-many-left c = λ files n part are.
     let mask = c.args.head.now.mask in
-    let long : length (items_at mask part c.loop-region.region) ≡ c.span_in.result.many =
-    sym (ap (λ (s : Span). s.many) (c.span_in.ensures ∙ spans files n (sign_at c.args.table.now c.args.place) part are mask c.loop-region.region)) in
-    count_over (items_at mask part) c.loop-region.region c.loop-region.left c.span_in.result.many c.args.head.now.count (omega arith) long (omega arith) (c.loop-region.invariant files n part are)
+    let long : length (items_at mask part c.loop-region.region) ≡ c.span_in-many.result.many =
+    sym (ap (λ (s : Span). s.many) (c.span_in-many.ensures ∙ spans files n (sign_at c.args.table.now c.args.place) part are mask c.loop-region.region)) in
+    count_over (items_at mask part) c.loop-region.region c.loop-region.left c.span_in-many.result.many c.args.head.now.count (omega arith) long (omega arith) (c.loop-region.invariant files n part are)
 
 pub loop-region-preserved : goal.loop-region-preserved
 loop-region-preserved c = λ files n part are.
     let mask = c.args.head.now.mask in
-    let long : length (items_at mask part c.loop-region.region) ≡ c.span_in.result.many =
-    sym (ap (λ (s : Span). s.many) (c.span_in.ensures ∙ spans files n (sign_at c.args.table.now c.args.place) part are mask c.loop-region.region)) in
-    count_more (items_at mask part) c.loop-region.region c.loop-region.left c.span_in.result.many c.args.head.now.count (omega arith) long (omega arith) (c.loop-region.invariant files n part are)
+    let long : length (items_at mask part c.loop-region.region) ≡ c.span_in-many.result.many =
+    sym (ap (λ (s : Span). s.many) (c.span_in-many.ensures ∙ spans files n (sign_at c.args.table.now c.args.place) part are mask c.loop-region.region)) in
+    count_more (items_at mask part) c.loop-region.region c.loop-region.left c.span_in-many.result.many c.args.head.now.count (omega arith) long (omega arith) (c.loop-region.invariant files n part are)
 
 pub returns : goal.returns
 returns c = λ files n part are.
