@@ -7,6 +7,7 @@ ghost use Rattle.journal_defs.specs.Journal as journal;
 ghost use Rattle.journal_defs.specs.Sequence as sequences;
 ghost use Rattle.journal_defs.specs.Surviving as surviving;
 ghost use Rattle.mupip_recover.specs.Stamps.{AreStarts};
+ghost use Rattle.entry_index.specs.Among.{ArePlaced};
 ghost use Rattle.entry_index.specs.Indexes.{AreSigns, Indexes, IsNext};
 ghost use Rattle.entry_index.specs.Table.{AreSigned};
 ghost use Rattle.entry_index.specs.Parts.{InFiles};
@@ -80,6 +81,7 @@ impl EntryIndex {
             → (seq : defs.Sequence) × sequences.IsSequence (record { instance = instance.now; journal = journal }) seq × Indexes (InFiles files) (surviving.reigns instance.now) made seq)) }
         ensures regions { IfOk result (λ made. made.regions ≡ length signs.now) }
         ensures rows { IfOk result (λ made. (rows : ℕ) × (length made.places.items ≡ made.regions * rows)) }
+        ensures placed { IfOk result (λ made. ArePlaced instance.now (map (λ s. s.items) signs.now) made) }
         ensures outside { (file offset : ℕ) → IsErrOf result (IndexError.NotAFile file offset) → IfSome (D.disk disk.old).content (λ files. (journal : ℕ → List sequences.Placed) → AreSigns files (map (λ s. s.items) signs.now) journal → ⊥) }
         ensures reads { Reads (D.disk disk.old) (D.disk disk.new) }
         ensures later { (D.disk disk.old).faults ≤ (D.disk disk.new).faults }

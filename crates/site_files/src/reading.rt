@@ -14,6 +14,7 @@ ghost use Rattle.journal_defs.specs.Stands.{IsInstance, IsJournal, AreRecords};
 ghost use Rattle.jnl_file.specs.Generations.{AreDurable};
 ghost use Rattle.site_defs.specs.OutsideJournal.{IsOutsideGenerations};
 ghost use Rattle.jnl_index.specs.Places.{AreSignsOf};
+ghost use Rattle.entry_index.specs.Among.{AreAllInOrder};
 ghost use Rattle.entry_index.specs.Indexes.{AreSigns};
 ghost use Rattle.site_files.specs.Errors.{generations_error};
 ghost use Rattle.site_files.specs.Loading.{MayBeOpened, AreRead, WasRead, IsDirectory, last_of};
@@ -296,7 +297,7 @@ pub fn read_site<D: Disk>(alloc: Global, disk: &mut D) -> Result<ReadSite, Files
     ensures counted { IfOk result (λ read. length read.last_began.items ≡ length (defs.regions read.log.records)) }
     // another generation than the next one is left
     ensures low { IfOk result (λ read. generation read.log.records < 65534) }
-    ensures read { IfOk result (λ read. IfSome (D.disk disk.old).content (λ files. (journal : ℕ → List Placed) × WasRead (D.disk disk.new) read.log.records (last_of read.last_began.items) journal files × AreSigns files (map (λ s. s.items) read.signs.items) journal)) }
+    ensures read { IfOk result (λ read. IfSome (D.disk disk.old).content (λ files. (journal : ℕ → List Placed) × WasRead (D.disk disk.new) read.log.records (last_of read.last_began.items) journal files × AreSigns files (map (λ s. s.items) read.signs.items) journal × AreAllInOrder (map (λ s. s.items) read.signs.items) journal)) }
     ensures signs { IfOk result (λ read. length read.signs.items ≡ length (defs.regions read.log.records)) }
     ensures limit { IsErrOf result FilesError.GenLimit → IfSome (D.disk disk.old).content (λ files. (rs : List defs.InstanceRecord) → IsInstance (files INSTANCE) rs → 65534 ≤ generation rs) }
     ensures limit_told { IsErrOf result FilesError.GenLimit → IfSome (D.disk disk.old).content (λ files. (rs : List defs.InstanceRecord) × IsInstance (files INSTANCE) rs × (65534 ≤ generation rs)) }

@@ -7,6 +7,7 @@ ghost use Rattle.journal_defs.specs.Broken as texts;
 ghost use Rattle.journal_defs.specs.Sequence.{Placed, Records, IsSequence};
 ghost use Rattle.journal_defs.specs.Stands.{AreRecords};
 ghost use Rattle.journal_defs.specs.Surviving.{reigns};
+ghost use Rattle.entry_index.specs.Among.{IsIndexOf, AreAllInOrder, ArePlaced};
 ghost use Rattle.entry_index.specs.Found.{AreFound, entry_count};
 ghost use Rattle.entry_index.specs.Indexes.{AreSigns, Indexes};
 ghost use Rattle.site_files.specs.Errors.{index_error};
@@ -54,6 +55,7 @@ fn index_of<D: Disk>(
         → (seq : Sequence) × IsSequence (record { instance = read.now.log.records; journal = journal }) seq × Indexes (InFiles files) (reigns read.now.log.records) made seq)) }
     ensures regions { IfOk result (λ made. made.regions ≡ length read.now.signs.items) }
     ensures rows { IfOk result (λ made. (n : ℕ) × (length made.places.items ≡ made.regions * n)) }
+    ensures placed { IfOk result (λ made. ArePlaced read.now.log.records (map (λ s. s.items) read.now.signs.items) made) }
     ensures outside { (file offset : ℕ) → IsErrOf result (FilesError.NotAFile file offset) → IfSome (D.disk disk.old).content (λ files. (journal : ℕ → List Placed) → AreSigns files (map (λ s. s.items) read.now.signs.items) journal → ⊥) }
     ensures reads { Reads (D.disk disk.old) (D.disk disk.new) }
     ensures later { (D.disk disk.old).faults ≤ (D.disk disk.new).faults }
@@ -101,8 +103,8 @@ pub fn remember_all<D: Disk>(
     disk: &mut D,
     read: &ReadSite,
 ) -> Result<Remembered, FilesError>
-    ensures found { IfOk result (λ made. IfSome (D.disk disk.old).content (λ files. (u : Records) → u.instance ≡ read.now.log.records → AreRecords files u → AreSigns files (map (λ s. s.items) read.now.signs.items) u.journal
-        → (seq : Sequence) × AreFound files read.now.log.records (map (λ s. s.items) read.now.signs.items) made.entries u seq
+    ensures found { IfOk result (λ made. IfSome (D.disk disk.old).content (λ files. (u : Records) → u.instance ≡ read.now.log.records → AreRecords files u → AreSigns files (map (λ s. s.items) read.now.signs.items) u.journal → AreAllInOrder (map (λ s. s.items) read.now.signs.items) u.journal
+        → (seq : Sequence) × AreFound files read.now.log.records (map (λ s. s.items) read.now.signs.items) made.entries u seq × IsIndexOf u.journal (reigns read.now.log.records) made.entries seq
         × (made.broken ≡ texts.broken_text (site_name u.instance) (length seq) (texts.broken u (length seq))))) }
     ensures few { IfOk result (λ made. entry_count made.entries < 2 ^ 40) }
     ensures regions { IfOk result (λ made. made.entries.regions ≡ length read.now.signs.items) }
