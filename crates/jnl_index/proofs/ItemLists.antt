@@ -59,13 +59,6 @@ row_more p (i ∷ list) x = row_ends (i.position == p) (is_row (p + 1) list) (x.
     row_ends true b c d e is same = is ∙ ap (λ (x : Bool). b && x) same
     row_ends false b c d e is same = refl
 
-pub span_first : (list : List Item) (x : Item) (position : ℕ) → x.position ≡ position → length list ≡ 0 → span position 1 true ≡ span_of (list ++ x ∷ [])
-span_first [] x position is none = spans_same position x.position 1 1 true (x.position == x.position && true) (sym is) refl (itself x.position)
-  where
-    itself : (n : ℕ) → true ≡ (n == n && true)
-    itself n = grind (arith, nat_tests)
-span_first (i ∷ list) x position is none = absurd (omega (arith, none))
-
 pub span_longer : (list : List Item) (x : Item) (position first many : ℕ) (row last : Bool) → x.position ≡ position → span first many row ≡ span_of list → 0 < many → last ≡ (row && (position == first + many))
     → span first (many + 1) last ≡ span_of (list ++ x ∷ [])
 span_longer [] x position first many row last is lie some last_is = absurd (omega (arith, some, ap (λ (s : Span). s.many) lie))

@@ -92,12 +92,6 @@ no_before bytes none (Epoch m) is = let e = is.spelled in absurd cc
 no_before bytes none (Tcom p) is = let e = is.spelled in absurd cc
 
 module _ (bytes : List ℕ) (block : ℕ) (rest : List ℕ) (read : Reads word bytes (Some (block, rest))) where
-  pub other_image : (length rest ≡ 4096 → ⊥) → TellsSign (3 ∷ bytes) None
-  other_image other (Pblk b) is = other (ap length (sym (read.2 b.block b.bytes is.form.0 (tail is.spelled)).1) ∙ is.form.1)
-  other_image other (Pini s) is = let e = is.spelled in absurd cc
-  other_image other (Epoch m) is = let e = is.spelled in absurd cc
-  other_image other (Tcom p) is = let e = is.spelled in absurd cc
-
   pub before_told : length rest ≡ 4096 → TellsSign (3 ∷ bytes) (Some (sign.Pblk block))
   before_told whole = (Pblk (record { block = block; bytes = rest }), record { form = (read.0, whole); spelled = ap (λ t. 3 ∷ t) read.1 }, refl)
 
@@ -174,9 +168,3 @@ no_kind kind bytes one two three five (Pini s) is = let e = is.spelled in one cc
 no_kind kind bytes one two three five (Epoch m) is = let e = is.spelled in two cc
 no_kind kind bytes one two three five (Pblk b) is = let e = is.spelled in three cc
 no_kind kind bytes one two three five (Tcom p) is = let e = is.spelled in five cc
-
-pub no_bytes : TellsSign [] None
-no_bytes (Pini s) is = let e = is.spelled in absurd cc
-no_bytes (Epoch m) is = let e = is.spelled in absurd cc
-no_bytes (Pblk b) is = let e = is.spelled in absurd cc
-no_bytes (Tcom p) is = let e = is.spelled in absurd cc

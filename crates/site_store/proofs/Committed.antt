@@ -24,8 +24,8 @@ use Rattle.journal_defs.specs.Journal.{JournalRecord, Part}
 use Rattle.journal_defs.specs.Instance.{InstanceRecord, generation, regions}
 use Rattle.journal_defs.specs.Directory.{Pattern, patterns}
 use Rattle.journal_defs.specs.Surviving.{reigns}
-use Rattle.journal_defs.specs.Sequence.{Records}
-use Rattle.journal_defs.specs.Growth.{AreEntries, tcoms}
+use Rattle.journal_defs.specs.Sequence.{Records, entry_with}
+use Rattle.journal_defs.specs.Growth.{AreEntries, tcoms, AreNumbered}
 use Rattle.journal_defs.specs.Split.{split, mask_of, IsSplit}
 use Rattle.journal_defs.specs.Fit.{IsSoundImage, HasFewNodes, region_of_update}
 use Rattle.journal_laws.proofs.Appending.{journal_same}

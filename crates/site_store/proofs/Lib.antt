@@ -43,7 +43,7 @@ pub mod Histories
 pub mod Pieces
 pub mod TheFiles
 pub mod Shown
-pub mod Reading
+pub mod ReadFiles
 pub mod Places
 pub mod Indexing
 pub mod Indexed

@@ -34,6 +34,8 @@ use Rattle.site_store.proofs.Images.{losts_same, texts_same, torn_same}
 use Rattle.site_store.proofs.OpenedTo as opened
 use Rattle.site_store.proofs.OpenedTo.{newly, one_image}
 use Rattle.entry_index.specs.Among.{IsIndexOf}
+use Rattle.jnl_index.specs.Order.{StandUpTo}
+use Rattle.journal_defs.specs.Surviving.{reigns}
 
 module _ (rs : List InstanceRecord) (last : ℕ → ℕ) (journal : ℕ → List Placed) (seq : Sequence) (form : MayBeOpened rs last) (sequence : IsSequence (record { instance = rs; journal = journal }) seq)
     (none : broken (record { instance = rs; journal = journal }) (length seq) ≡ []) (t : ℕ) (most : t ≤ length seq) where

@@ -1,5 +1,5 @@
 -- An entry shown from its places.
-use Rattle.std.proofs.Common.{◌≡◌, ℕ, ◌-◌, ◌++◌, List, Option, Some, None, Result, Ok, Err, OnOk, IfSome, IsSome, refl, sym, subst, ap, ◌∙◌}
+use Rattle.std.proofs.Common.{◌≡◌, ℕ, ◌-◌, ◌++◌, List, Option, Some, None, Result, Ok, Err, OnOk, IfSome, IsSome, refl, sym, subst, ap, ◌∙◌, true}
 use Rattle.std.specs.Prelude.{slice_get}
 use Rattle.disk_defs.specs.Disk.{Files, View, IsLawful}
 use Rattle.global_defs.specs.Entry.{Reign, Entry, Sequence}

@@ -12,7 +12,7 @@ use Rattle.site_store.specs.Opening.{AreTextsDurable, AreDatabasesDurable}
 use Rattle.site_store.proofs.Databases.{texts_still}
 use Rattle.site_store.proofs.Errors.{file_was}
 use Rattle.site_store.proofs.Refused.{no_site}
-use Rattle.site_store.proofs.Reading.{IsRead, never_read, found_of}
+use Rattle.site_store.proofs.ReadFiles.{IsRead, never_read, found_of}
 use Rattle.site_store.proofs.preparing.find_files.Goals as goal
 
 pub returns-in_err-read-clause-outside : goal.returns-in_err-read-clause-outside
