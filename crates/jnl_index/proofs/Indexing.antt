@@ -14,7 +14,7 @@ use Rattle.jnl_file.proofs.Zips.{zip_append, zip_length}
 use Rattle.site_defs.specs.OutsideJournal.{IsOutsideAfter, IsOutsideGenerations}
 use Rattle.jnl_index.specs.Signs.{sign_of}
 use Rattle.jnl_index.specs.Places.{IsSignOf, AreSignsOf}
-use Rattle.jnl_index.specs.Order.{size_of, bytes_in, AreInOrder, AreNewer}
+use Rattle.jnl_index.specs.Order.{bytes_in, AreInOrder, AreNewer}
 use Rattle.jnl_index.proofs.Order.{bytes_append, bytes_own, body_size, older_bytes, newer_more, order_append}
 use Rattle.jnl_index.specs.Pieces.{FindsSign}
 use Rattle.jnl_index.specs.Generations.{MayJoin, HasNewerSigns}

@@ -1,20 +1,19 @@
 -- Where records stand in their files.
-use Rattle.std.proofs.Common.{◌≡◌, ◌≢◌, ◌⊎◌, inl, inr, ℕ, zero, suc, ◌+◌, ◌-◌, ◌==◌, ◌≤◌, ◌<◌, Bool, true, false, List, [], ◌∷◌, ◌++◌, length, map, take, drop, slice_get, sum_by, Option, Some, None, refl, sym, ◌∙◌, ap, subst, arith, if◌then◌else◌, append_assoc, append-nil, length-append}
+use Rattle.std.proofs.Common.{◌≡◌, inl, inr, ℕ, zero, suc, ◌+◌, ◌-◌, ◌==◌, ◌≤◌, ◌<◌, Bool, true, false, List, [], ◌∷◌, ◌++◌, length, map, take, drop, slice_get, sum_by, Option, Some, None, refl, sym, ◌∙◌, ap, subst, arith, if◌then◌else◌, append_assoc, append-nil, length-append}
 use Rattle.std.proofs.lemmas.Bool.Decides.{nat_tests}
 use Rattle.std.proofs.lemmas.List.{drop-drop, take-map, take-append-le}
 use Rattle.std.proofs.lemmas.Bool.{cases_lt}
 use Rattle.std.proofs.lemmas.List.Sums.{sum_by-cons}
-use Rattle.std.proofs.lemmas.Option.{slice_get-map, slice_get_within}
+use Rattle.std.proofs.lemmas.Option.{slice_get-map}
 use Rattle.std.specs.Option.{option_map}
 use Rattle.std.proofs.Math.Seq.{take-append_seam, drop-append_seam, take-append-add}
 use Rattle.std.specs.List.{AllZip, AllByRecursion}
 use Rattle.disk_defs.specs.Disk.{Files}
 use Rattle.disk_defs.specs.Gates.{Body, IsBody, framed, spelled}
 use Rattle.disk_defs.proofs.Texts.{length-framed}
-use Rattle.journal_defs.specs.Journal.{JournalRecord, IsJournalBody, BeginsWithPini, spelled_record}
-use Rattle.journal_defs.specs.Numbers.{journal_file}
+use Rattle.journal_defs.specs.Journal.{JournalRecord, IsJournalBody}
 use Rattle.journal_defs.specs.Sequence.{Placed}
-use Rattle.journal_defs.specs.Stands.{IsJournal, Holds, in_generation}
+use Rattle.journal_defs.specs.Stands.{IsJournal, in_generation}
 use Rattle.gated_file.specs.State.{shut}
 use Rattle.jnl_index.specs.Places.{StandsAt}
 use Rattle.jnl_index.specs.Order.{size_of, bytes_in, IsAmong, AreInOrder, AreNewer, AreLaid}
@@ -172,12 +171,12 @@ older_or_newer older h newer g o r none a = elim (cases_lt a.place (length older
       let what : r ≡ found.0 = ap (λ (p : Placed). p.what) found.2 in
       let own : bytes_in h older + bytes_in h (take k (map (in_generation h) newer)) ≡ sum_by size_of (take k newer) = omega (arith, none, ap (bytes_in h) (take-map (in_generation h) k newer), bytes_own h (take k newer)) in
       Newer k (found.1 ∙ ap Some (sym what)) drawn (
-        a.offset_is
-        ∙ ap (λ (n : ℕ). bytes_in g (take n (older ++ map (in_generation h) newer))) place
-        ∙ ap (bytes_in g) (take-append-add older (map (in_generation h) newer) k)
-        ∙ ap (λ (j : ℕ). bytes_in j (older ++ take k (map (in_generation h) newer))) drawn
-        ∙ bytes_append h older (take k (map (in_generation h) newer))
-        ∙ own
+      a.offset_is
+      ∙ ap (λ (n : ℕ). bytes_in g (take n (older ++ map (in_generation h) newer))) place
+      ∙ ap (bytes_in g) (take-append-add older (map (in_generation h) newer) k)
+      ∙ ap (λ (j : ℕ). bytes_in j (older ++ take k (map (in_generation h) newer))) drawn
+      ∙ bytes_append h older (take k (map (in_generation h) newer))
+      ∙ own
       )
 ]
 
