@@ -1,5 +1,5 @@
 -- The columns of a table of signs.
-use Rattle.std.proofs.Common.{◌≡◌, ℕ, ◌+◌, ◌<◌, ◌≤◌, Bool, List, [], ◌∷◌, length, map, drop, get_or, Option, Some, None, refl, sym, ◌∙◌, ap, arith, if◌then◌else◌}
+use Rattle.std.proofs.Common.{◌≡◌, ℕ, suc, ◌+◌, ◌<◌, ◌≤◌, Bool, List, [], ◌∷◌, length, map, drop, get_or, Option, Some, None, refl, sym, ◌∙◌, ap, arith, if◌then◌else◌}
 use Rattle.std.proofs.lemmas.List.{drop_all}
 use Rattle.std.proofs.Math.Seq.{drop-cons}
 use Rattle.std.specs.Option.{option_or}
@@ -32,7 +32,8 @@ or_again (Some x) b c = refl
 pub column_more : (rs : List InstanceRecord) (n i : ℕ) (ss : List PlacedSign) (d : PlacedSign) (old new : Option PartSign) → i < length ss → new ≡ option_or (sign_in rs n (get_or ss i d)) old
     → option_or (last_sign rs n (drop i ss)) old ≡ last_sign rs n ss → option_or (last_sign rs n (drop (i + 1) ss)) new ≡ last_sign rs n ss
 column_more rs n i ss d old new low put before =
-    let next : drop i ss ≡ get_or ss i d ∷ drop (i + 1) ss = drop-cons ss i d low ∙ ap (λ (k : ℕ). get_or ss i d ∷ drop k ss) (omega arith) in
+    let at : suc i ≡ i + 1 = omega arith in
+    let next : drop i ss ≡ get_or ss i d ∷ drop (i + 1) ss = drop-cons ss i d low ∙ ap (λ (k : ℕ). get_or ss i d ∷ drop k ss) at in
     ap (option_or (last_sign rs n (drop (i + 1) ss))) put
     ∙ or_again (last_sign rs n (drop (i + 1) ss)) (sign_in rs n (get_or ss i d)) old
     ∙ ap (λ (l : List PlacedSign). option_or (last_sign rs n l) old) (sym next)

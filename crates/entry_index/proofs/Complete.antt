@@ -1,12 +1,11 @@
 -- What signs tell of the completeness of entries.
-use Rattle.std.proofs.Common.{◌≡◌, inl, inr, ℕ, zero, suc, ◌+◌, ◌≤◌, ◌<◌, ◌==◌, ◌&&◌, ◌||◌, not, Bool, true, false, List, [], ◌∷◌, ◌++◌, length, take, drop, get_or, Option, Some, None, IsSome, is_some, refl, sym, ◌∙◌, ap, subst, arith, if◌then◌else◌, length-append}
-use Rattle.std.proofs.lemmas.Bool.Decides.{nat_tests}
+use Rattle.std.proofs.Common.{◌≡◌, ℕ, suc, ◌+◌, ◌≤◌, ◌<◌, ◌==◌, ◌&&◌, ◌||◌, not, Bool, true, false, List, [], ◌∷◌, ◌++◌, length, take, drop, get_or, Option, Some, None, IsSome, is_some, refl, sym, ◌∙◌, ap, subst, arith, if◌then◌else◌}
 use Rattle.std.proofs.Math.Path.{fun_ext}
 use Rattle.std.proofs.lemmas.List.{drop_all, take_all}
-use Rattle.std.specs.List.{list_all, flat_map}
+use Rattle.std.specs.List.{list_all}
 use Rattle.std.specs.Option.{option_map, option_and_then}
 use Rattle.disk_defs.specs.Disk.{Files}
-use Rattle.global_defs.specs.Entry.{Update, Origin, Stamp, Reign, Entry}
+use Rattle.global_defs.specs.Entry.{Origin, Stamp, Reign}
 use Rattle.global_defs.specs.Prefix.{stamp_at}
 use Rattle.journal_defs.specs.Journal.{Item, Part}
 use Rattle.journal_defs.specs.Sequence.{REGIONS, in_mask, is_like, items_of, items_in, updates_from, updates_of, updates_by, entry_by, entry_among, entry_with}
@@ -24,7 +23,7 @@ use Rattle.entry_index.specs.declared.completing.Told.{Told}
 use Rattle.entry_index.specs.declared.completing.Told.TheVariants.{Complete, Broken, Unsure}
 use Rattle.entry_index.specs.declared.place.PartPlace.{PartPlace}
 use Rattle.entry_index.specs.Parts.{InFiles, NOWHERE, IsPartAt, AreParts}
-use Rattle.entry_index.specs.Signs.{is_like_sign, Tells, IsSign}
+use Rattle.entry_index.specs.Signs.{Tells, IsSign}
 use Rattle.entry_index.specs.Completing.{is_like_some, agrees_by_sign, NO_SPAN, span_told, span_at, place_told, IsTold, Decides}
 use Rattle.entry_index.specs.Indexes.{IsNext}
 
@@ -161,10 +160,6 @@ told_first part stamp r Complete low before is not_broken =
     subst IsSome (sym (before ∙ among_found part stamp r e low at)) refl
 told_first part stamp r Broken low before is not_broken = absurd (not_broken refl)
 told_first part stamp r Unsure low before is not_broken = tt
-
-pub is_some_mapped : {X Y : Type 0} (f : X → Y) (o : Option X) → is_some (option_map f o) ≡ is_some o
-is_some_mapped f None = refl
-is_some_mapped f (Some x) = refl
 
 place_stands : (files : Files) (r n : ℕ) (s : Option PartSign) (x : Option Part) → IsSign files r n s x → IsPartAt (InFiles files) r n (place_told s) x
 place_stands files r n None None is = refl

@@ -1,5 +1,5 @@
 -- How many parts there are, by their signs.
-use Rattle.std.proofs.Common.{◌≡◌, inl, inr, ℕ, ◌+◌, ◌≤◌, ◌<◌, nat_le, ◌&&◌, suc, Bool, true, false, List, [], ◌∷◌, length, map, get_or, count_by, sum_by, is_some, None, refl, sym, ◌∙◌, ap, subst, arith, if◌then◌else◌}
+use Rattle.std.proofs.Common.{◌≡◌, inl, inr, ℕ, ◌+◌, ◌≤◌, ◌<◌, nat_le, ◌&&◌, suc, Bool, true, false, List, [], ◌∷◌, length, map, get_or, count_by, sum_by, is_some, None, refl, sym, ◌∙◌, ap, arith, if◌then◌else◌}
 use Rattle.std.proofs.lemmas.Bool.{cases_lt}
 use Rattle.std.proofs.lemmas.Bool.Decides.{nat_tests}
 use Rattle.std.proofs.lemmas.List.{map-id}
@@ -73,9 +73,9 @@ pub length-numbers_of : {S : Type 0} (files : Files) (items : S → List PlacedS
 length-numbers_of files items records ss are many =
     let js = map records (range_with_len 0 (length ss)) in
     sym (all_told items records ss 0 (λ r low.
-        let there : r < length (map items ss) = omega (arith, low, many) in
-        let at : r ≡ 0 + r = omega arith in
-        region_told files r (get_or (map items ss) r []) (records r) (are.each r there) (are.generations r there) ∙ ap (λ (k : ℕ). parts_in (records k)) at))
+    let there : r < length (map items ss) = omega (arith, low, many) in
+    let at : r ≡ 0 + r = omega arith in
+    region_told files r (get_or (map items ss) r []) (records r) (are.each r there) (are.generations r there) ∙ ap (λ (k : ℕ). parts_in (records k)) at))
     ∙ sym (length-all (λ j. j) (λ p. p) js)
     ∙ ap (λ (l : List (List Placed)). length (flat_map numbers_in l)) (same_lists js)
 

@@ -34,7 +34,7 @@ got_more (suc m) (y ∷ seq) x e h = elim (got_more m seq x e h) [
 ]
 
 -- a place of a row that is there
-in_rows : (k n r rows : ℕ) → n < rows → r < k → k * n + r < k * rows
+pub in_rows : (k n r rows : ℕ) → n < rows → r < k → k * n + r < k * rows
 in_rows k n r rows low within = omega (arith, mul-add-lt n k r rows low within, mul_comm n k)
 
 -- an entry at the same places
@@ -65,16 +65,16 @@ first_rows stands reigns index made seq n regions places is = record {
   each = λ m e h.
       let (low, within, there) = got_first n m seq e h in
       same_places stands reigns index made (suc m) e regions (λ r less.
-        let number : suc m - 1 ≡ m = omega arith in
-        let inside : index.regions * (suc m - 1) + r < index.regions * n = subst (λ (j : ℕ). index.regions * j + r < index.regions * n) (sym number) (in_rows index.regions m r n low less) in
-        ap (λ (k : ℕ). get_or made.places.items (k * (suc m - 1) + r) NOWHERE) regions
-        ∙ ap (λ (l : List PartPlace). get_or l (index.regions * (suc m - 1) + r) NOWHERE) places
-        ∙ get_or-take (index.regions * n) index.places.items (index.regions * (suc m - 1) + r) NOWHERE inside)
+      let number : suc m - 1 ≡ m = omega arith in
+      let inside : index.regions * (suc m - 1) + r < index.regions * n = subst (λ (j : ℕ). index.regions * j + r < index.regions * n) (sym number) (in_rows index.regions m r n low less) in
+      ap (λ (k : ℕ). get_or made.places.items (k * (suc m - 1) + r) NOWHERE) regions
+      ∙ ap (λ (l : List PartPlace). get_or l (index.regions * (suc m - 1) + r) NOWHERE) places
+      ∙ get_or-take (index.regions * n) index.places.items (index.regions * (suc m - 1) + r) NOWHERE inside)
       (is.each m e there);
 }
 
 -- the last row of a longer index
-last_place : (index made : EntryIndex) (row : List PartPlace) (rows r : ℕ) → made.regions ≡ index.regions → made.places.items ≡ index.places.items ++ row → length index.places.items ≡ index.regions * rows
+pub last_place : (index made : EntryIndex) (row : List PartPlace) (rows r : ℕ) → made.regions ≡ index.regions → made.places.items ≡ index.places.items ++ row → length index.places.items ≡ index.regions * rows
     → place_of made (suc rows) r ≡ get_or row r NOWHERE
 last_place index made row rows r regions places many =
     let number : suc rows - 1 ≡ rows = omega arith in
@@ -96,13 +96,13 @@ row_more stands reigns index made seq row part e regions places wide parts entry
       sum ∙ ap (λ (k : ℕ). k * suc (length seq)) (sym regions) ∙ ap (λ (k : ℕ). made.regions * k) (sym more);
   each = λ m x h. elim (got_more m seq e x h) [
     | inl before ↦ same_places stands reigns index made (suc m) x regions (λ r low.
-      let number : suc m - 1 ≡ m = omega arith in
-      let inside : index.regions * (suc m - 1) + r < length index.places.items =
-      subst (λ (j : ℕ). index.regions * j + r < length index.places.items) (sym number) (omega (arith, in_rows index.regions m r (length seq) before.0 low, is.rows)) in
-      ap (λ (k : ℕ). get_or made.places.items (k * (suc m - 1) + r) NOWHERE) regions
-      ∙ ap (λ (l : List PartPlace). get_or l (index.regions * (suc m - 1) + r) NOWHERE) places
-      ∙ get_or-append index.places.items row NOWHERE (index.regions * (suc m - 1) + r) inside)
-    (is.each m x before.1)
+        let number : suc m - 1 ≡ m = omega arith in
+        let inside : index.regions * (suc m - 1) + r < length index.places.items =
+        subst (λ (j : ℕ). index.regions * j + r < length index.places.items) (sym number) (omega (arith, in_rows index.regions m r (length seq) before.0 low, is.rows)) in
+        ap (λ (k : ℕ). get_or made.places.items (k * (suc m - 1) + r) NOWHERE) regions
+        ∙ ap (λ (l : List PartPlace). get_or l (index.regions * (suc m - 1) + r) NOWHERE) places
+        ∙ get_or-append index.places.items row NOWHERE (index.regions * (suc m - 1) + r) inside)
+        (is.each m x before.1)
     | inr last ↦ subst (λ (y : Entry). IsEntryAt stands reigns made (suc m) y) last.1 (subst (λ (j : ℕ). IsEntryAt stands reigns made (suc j) e) (sym last.0) (record {
       part = part;
       places = λ r low. subst (λ (p : PartPlace). IsPartAt stands r (suc (length seq)) p (part r)) (sym (last_place index made row (length seq) r regions places is.rows)) (parts.each r (omega (arith, low, regions, wide)));

@@ -6,4 +6,5 @@ pub mod Signed
 pub mod Complete
 pub mod Counting
 pub mod Runs
+pub mod Placed
 pub mod AmongLaws

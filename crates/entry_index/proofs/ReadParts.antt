@@ -8,7 +8,7 @@ use Rattle.std.proofs.Math.Path.{fun_ext}
 use Rattle.std.proofs.Math.Seq.{get_or-append_seam}
 use Rattle.std.specs.Option.{option_map}
 use Rattle.disk_defs.specs.Disk.{Files}
-use Rattle.global_defs.specs.Entry.{Stamp, Entry}
+use Rattle.global_defs.specs.Entry.{Stamp}
 use Rattle.gvn_model.specs.declared.entry.Transaction.{Transaction}
 use Rattle.journal_defs.specs.Journal.{JournalRecord, Tcom, Part}
 use Rattle.journal_defs.specs.Numbers.{journal_file}
@@ -18,7 +18,7 @@ use Rattle.mupip_recover.specs.Entries.{stamped}
 use Rattle.mupip_recover.specs.Table.{part_in_column, part_at}
 use Rattle.mupip_recover.specs.declared.table.Table.{Table}
 use Rattle.entry_index.specs.declared.place.PartPlace.{PartPlace}
-use Rattle.entry_index.specs.Parts.{InFiles, NOWHERE, IsPartAt, AreParts, part_with}
+use Rattle.entry_index.specs.Parts.{InFiles, IsPartAt, part_with}
 
 module _ (files : Files) (r n : ℕ) (p : PartPlace) where
   -- at generation 0 there is none

@@ -15,13 +15,19 @@ use Rattle.mupip_recover.specs.Entries.{stamped}
 use Rattle.entry_index.specs.declared.place.PartPlace.{PartPlace}
 use Rattle.entry_index.specs.declared.index.EntryIndex.{EntryIndex}
 use Rattle.entry_index.specs.Parts.{InFiles, NOWHERE, IsPartAt, AreParts}
-use Rattle.entry_index.specs.Indexes.{place_of, IsEntryAt, Indexes}
+use Rattle.entry_index.specs.Indexes.{IsEntryAt, Indexes}
 
 -- a product with one more
 pub one_more : (k n : ℕ) → 1 ≤ n → k * n ≡ k * (n - 1) + k
 one_more k n first =
     let is : n ≡ suc (n - 1) = omega (arith, first) in
     ap (λ (m : ℕ). k * m) is ∙ mul-suc k (n - 1)
+
+-- places of rows with one more
+pub rows_more : (k rows : ℕ) → k * rows + k ≡ k * (rows + 1)
+rows_more k rows =
+    let is : suc rows ≡ rows + 1 = omega arith in
+    sym (mul-suc k rows) ∙ ap (λ (m : ℕ). k * m) is
 
 -- the row of an entry, where rows have k places
 abbrev pub row_of : {X : Type 0} → ℕ → ℕ → List X → List X

@@ -1,8 +1,8 @@
 -- The sequence that an index of signs leads to.
-use Rattle.std.proofs.Common.{◌≡◌, inl, inr, ℕ, zero, suc, ◌+◌, ◌*◌, ◌≤◌, ◌<◌, ◌==◌, ◌||◌, Bool, true, false, List, [], ◌∷◌, ◌++◌, length, map, get_or, count_by, sum_by, Option, Some, None, IsSome, refl, sym, ◌∙◌, ap, subst, arith, length-append}
+use Rattle.std.proofs.Common.{◌≡◌, ℕ, suc, ◌+◌, ◌*◌, ◌≤◌, Bool, true, false, List, [], ◌∷◌, ◌++◌, length, Option, Some, None, IsSome, refl, sym, ◌∙◌, ap, subst, arith, length-append}
 use Rattle.std.proofs.lemmas.List.{take_all}
 use Rattle.disk_defs.specs.Disk.{Files}
-use Rattle.global_defs.specs.Entry.{Reign, Entry, Sequence}
+use Rattle.global_defs.specs.Entry.{Reign, Sequence}
 use Rattle.global_defs.specs.Prefix.{stamp_at}
 use Rattle.journal_defs.specs.Instance.{InstanceRecord}
 use Rattle.journal_defs.specs.Journal.{Part}
@@ -80,8 +80,8 @@ module _ (files : Files) (s : Records) (index made : EntryIndex) (place : ℕ) (
       let next : suc place ≡ place + 1 = omega arith in
       let back : place + 1 ≡ suc place = omega arith in
       subst (IsRun files s made) next (run_more files s index made place row regions places wide
-          (subst (λ (n : ℕ). AreParts (InFiles files) n row (parts s n)) back at)
-          (subst (λ (n : ℕ). IsSome (entry s n)) back some) run)
+      (subst (λ (n : ℕ). AreParts (InFiles files) n row (parts s n)) back at)
+      (subst (λ (n : ℕ). IsSome (entry s n)) back some) run)
 
   -- no row more
   pub run_ended : made.regions ≡ index.regions → IsNext files (reigns s.instance) (place + 1) (parts s (place + 1)) false index.places.items made.places.items

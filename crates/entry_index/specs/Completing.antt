@@ -1,5 +1,5 @@
 -- What signs tell of entries.
-use Rattle.std.specs.Prelude.{◌≡◌, ℕ, ◌||◌, not, is_some, Bool, true, false, IsTrue, if◌then◌else◌, List, Option, Some, None, IsSome}
+use Rattle.std.specs.Prelude.{◌≡◌, ℕ, ◌||◌, not, Bool, true, false, if◌then◌else◌, Option, Some, None, IsSome}
 use Rattle.journal_defs.specs.Journal.{Part}
 use Rattle.journal_defs.specs.Sequence.{in_mask, updates_by}
 use Rattle.jnl_index.specs.declared.sign.Span.{Span}

@@ -1,5 +1,5 @@
 -- Signs of parts.
-use Rattle.std.specs.Prelude.{◌≡◌, ℕ, ◌≤◌, ◌==◌, ◌&&◌, nat_le, Bool, true, false, is_some, if◌then◌else◌, List, [], ◌∷◌, get_or, Option, Some, None}
+use Rattle.std.specs.Prelude.{◌≡◌, ℕ, ◌==◌, ◌&&◌, nat_le, Bool, is_some, if◌then◌else◌, List, [], ◌∷◌, get_or, Option, Some, None}
 use Rattle.std.specs.Option.{option_or}
 use Rattle.disk_defs.specs.Disk.{Files}
 use Rattle.journal_defs.specs.Instance.{InstanceRecord}

@@ -9,7 +9,7 @@ ghost use Rattle.journal_defs.specs.Surviving as surviving;
 ghost use Rattle.mupip_recover.specs.Stamps.{AreStarts};
 ghost use Rattle.entry_index.specs.Among.{ArePlaced};
 ghost use Rattle.entry_index.specs.Indexes.{AreSigns, Indexes, IsNext};
-ghost use Rattle.entry_index.specs.Table.{AreSigned};
+ghost use Rattle.entry_index.specs.Table.{AreSigned, AddsRow};
 ghost use Rattle.entry_index.specs.Parts.{InFiles};
 
 use crate::completing::{is_complete, places_of};
@@ -39,6 +39,7 @@ fn add_row<D: Disk>(
     ensures added { IfOk result (λ more. IfSome (D.disk disk.old).content (λ files. (part : ℕ → Option journal.Part) → AreSigned files table.now place (place + 1) part → ((r : ℕ) → made.old.regions ≤ r → part r ≡ None)
         → IsNext files (map reign_value reigns.now) (place + 1) part more made.old.places.items made.new.places.items)) }
     ensures many { IfOk result (λ more. length made.new.places.items ≡ (if more then length made.old.places.items + made.old.regions else length made.old.places.items)) }
+    ensures row { IfOk result (λ more. AddsRow table.now place made.old.regions more made.old.places.items made.new.places.items) }
     ensures regions { made.new.regions ≡ made.old.regions }
     ensures outside { (file offset : ℕ) → IsErrOf result (IndexError.NotAFile file offset) → IfSome (D.disk disk.old).content (λ files. (part : ℕ → Option journal.Part) → AreSigned files table.now place (place + 1) part → ((r : ℕ) → made.old.regions ≤ r → part r ≡ None) → ⊥) }
     ensures reads { Reads (D.disk disk.old) (D.disk disk.new) }

@@ -1,5 +1,5 @@
 //! Which entries are complete.
-ghost use Rattle.std.specs.Prelude.{◌≡◌, ◌==◌, ◌+◌, ◌<◌, ◌≤◌, ◌^◌, ℕ, List, length, true, is_some, Option, Some, None, IfOk, IfSome, IsErrOf, IsTrue};
+ghost use Rattle.std.specs.Prelude.{◌≡◌, ◌==◌, ◌+◌, ◌<◌, ◌≤◌, ◌^◌, ℕ, List, length, get_or, true, is_some, Option, Some, None, IfOk, IfSome, IsErrOf, IsTrue};
 ghost use Rattle.std.specs.List.{list_all};
 ghost use Rattle.disk_defs.specs.Disk.{Files, Reads, Rose};
 ghost use Rattle.global_defs.specs.Entry as defs;
@@ -8,13 +8,13 @@ ghost use Rattle.journal_defs.specs.Sequence.{REGIONS, items_in, entry_among};
 ghost use Rattle.jnl_index.specs.Signs.{span_of};
 ghost use Rattle.mupip_recover.specs.Entries.{entry_in};
 ghost use Rattle.mupip_recover.specs.Slots.{next_after, is_at};
-ghost use Rattle.entry_index.specs.Parts.{InFiles, AreParts};
+ghost use Rattle.entry_index.specs.Parts.{NOWHERE, InFiles, AreParts};
 ghost use Rattle.entry_index.specs.Signs.{Tells};
 ghost use Rattle.entry_index.specs.Table.{sign_at, AreSigned};
 ghost use Rattle.entry_index.specs.Completing.{agrees_by_sign, span_at, place_told, Decides, IsTold};
 
 use crate::error::IndexError;
-use crate::place::PartPlace;
+use crate::place::{NOWHERE, PartPlace};
 use crate::reading::read_transaction;
 use crate::sign;
 use crate::sign::PartSign;
@@ -171,10 +171,7 @@ fn place_in(table: &SignTable, place: usize, region: u8) -> PartPlace
     ensures { result ≡ place_told (sign_at table.now place region) }
 {
     match table.part(place, region) {
-        None => PartPlace {
-            generation: 0,
-            offset: 0,
-        },
+        None => NOWHERE,
         Some(found) => found.place,
     }
 }
@@ -189,6 +186,7 @@ pub fn places_of(
     ensures parts { IfOk result (λ made. (files : Files) (n : ℕ) (part : ℕ → Option journal.Part) → AreSigned files table.now place n part
         → ((r : ℕ) → regions ≤ r → part r ≡ None) → AreParts (InFiles files) n made.items part) }
     ensures many { IfOk result (λ made. length made.items ≡ regions) }
+    ensures told { IfOk result (λ made. (r : ℕ) → r < regions → get_or made.items r NOWHERE ≡ place_told (sign_at table.now place r)) }
 {
     let mut made = Vec::with_capacity(alloc, usize::from(regions))?;
     for region in 0..regions {

@@ -1,16 +1,12 @@
-use Rattle.std.proofs.Common.{◌≡◌, ℕ, ◌+◌, Option, is_some, true, false, sym, ◌∙◌, ap, subst}
-use Rattle.std.specs.Option.{option_map}
-use Rattle.disk_defs.proofs.Told.{weaker_told}
+use Rattle.std.proofs.Common.{◌≡◌, ℕ, ◌+◌, Option, is_some, true, false, sym, ap, subst}
 use Rattle.jnl_file.proofs.Newer.{all_told}
 use Rattle.global_defs.specs.Entry.{Stamp}
 use Rattle.journal_defs.specs.Journal.{Part}
 use Rattle.journal_defs.specs.Sequence.{REGIONS, entry_among}
-use Rattle.mupip_recover.specs.Entries.{stamped}
 use Rattle.entry_index.specs.declared.completing.Told.{Told}
 use Rattle.entry_index.specs.Parts.{InFiles, AreParts}
 use Rattle.entry_index.specs.Table.{AreSigned}
 use Rattle.entry_index.specs.Completing.{IsTold}
-use Rattle.entry_index.proofs.Complete.{is_some_mapped}
 use Rattle.entry_index.proofs.completing.is_complete.Goals as goal
 
 pub returns-in-Complete-clause-complete : goal.returns-in-Complete-clause-complete
@@ -26,13 +22,3 @@ returns-in-Broken-clause-complete g c =
     let n = a.place + 1 in
     all_told (g.D.Disk.disk a.disk.now).content (λ files. (part : ℕ → Option Part) → AreSigned files a.table.now a.place n part → AreParts (InFiles files) n a.row.now part → (stamp : Stamp) → false ≡ is_some (entry_among part stamp REGIONS))
     (λ files part are at stamp. sym (ap is_some (subst (λ (t : Told). IsTold t (entry_among part stamp REGIONS)) c.in-Broken.is (c.told_at.ensures files n part are stamp))))
-
-pub returns-clause-complete : goal.returns-clause-complete
-returns-clause-complete g c =
-    let a = c.args in
-    let n = a.place + 1 in
-    let found = c.in_ok-found.found in
-    weaker_told (g.D.Disk.disk a.disk.now).content (λ files. (part : ℕ → Option Part) → AreParts (InFiles files) n a.row.now part → (stamp : Stamp) → entry_among part stamp REGIONS ≡ option_map (stamped stamp) found)
-    (λ files. (part : ℕ → Option Part) → AreSigned files a.table.now a.place n part → AreParts (InFiles files) n a.row.now part → (stamp : Stamp) → c.is_some.result ≡ is_some (entry_among part stamp REGIONS))
-    c.in_ok-found.ensures.found
-    (λ files all part are at stamp. c.is_some.ensures ∙ sym (is_some_mapped (stamped stamp) found) ∙ sym (ap is_some (all part at stamp)))

@@ -1,4 +1,4 @@
-use Rattle.std.proofs.Common.{◌∙◌, sym, ap, length, List, ◌++◌, get_or, ℕ, [], ◌∷◌, ◌+◌, ◌<◌, ◌≡◌, subst, arith, length-append}
+use Rattle.std.proofs.Common.{◌∙◌, sym, ap, length, List, get_or, ℕ, [], ◌∷◌, ◌+◌, ◌<◌, ◌≡◌, subst, arith, length-append}
 use Rattle.entry_index.specs.declared.place.PartPlace.{PartPlace}
 use Rattle.entry_index.specs.Parts.{NOWHERE}
 use Rattle.entry_index.specs.Completing.{place_told}
@@ -11,7 +11,7 @@ pub loop-region-preserved : goal.loop-region-preserved
 loop-region-preserved c =
     let l = c.loop-region in
     let f : ℕ → PartPlace = λ r. place_told (sign_at c.args.table.now c.args.place r) in
-    let made = c.in_ok-push.ensures.ok in
+    let made = c.in_ok-push.ensures.items in
     record {
       many = omega (arith, ap length made, length-append l.made.items (c.place_in.result ∷ []), l.invariant.many);
       each = subst (λ (ps : List PartPlace). (r : ℕ) → r < l.region + 1 → get_or ps r NOWHERE ≡ f r) (sym made)
@@ -26,3 +26,6 @@ returns-clause-parts c = λ files n part are past.
 
 pub returns-clause-many : goal.returns-clause-many
 returns-clause-many c = omega (arith, c.loop-region.invariant.many)
+
+pub returns-clause-told : goal.returns-clause-told
+returns-clause-told c = λ r low. c.loop-region.invariant.each r (omega (arith, low))

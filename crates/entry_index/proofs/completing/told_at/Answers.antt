@@ -1,4 +1,4 @@
-use Rattle.std.proofs.Common.{◌≡◌, ℕ, List, Option, ◌∙◌, ap, subst, arith}
+use Rattle.std.proofs.Common.{ℕ, List, ◌∙◌, ap, subst, arith}
 use Rattle.journal_defs.specs.Sequence.{entry_among}
 use Rattle.mupip_recover.specs.Entries.{entry_in}
 use Rattle.mupip_recover.proofs.Completion.{among_next}

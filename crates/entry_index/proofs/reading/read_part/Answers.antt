@@ -1,13 +1,11 @@
-use Rattle.std.proofs.Common.{rules, ◌≡◌, ℕ, ◌≤◌, ◌<◌, Option, Some, None, IfSome, IsErrOf, sym, ◌∙◌, ap, subst, arith}
+use Rattle.std.proofs.Common.{rules, ◌≡◌, ℕ, ◌≤◌, Option, Some, None, IsErrOf, sym, ◌∙◌, ap, subst, arith}
 use Rattle.std.specs.Option.{option_map}
-use Rattle.disk_defs.specs.Disk.{Files}
 use Rattle.disk_defs.proofs.Told.{weaker_told}
 use Rattle.jnl_file.proofs.Newer.{all_told}
 use Rattle.jnl_file.specs.declared.error.JournalError.TheVariants.{NotARecord}
 use Rattle.jnl_index.specs.Places.{StandsAt}
 use Rattle.jnl_record.specs.Values.{record_value}
 use Rattle.journal_defs.specs.Journal.{JournalRecord, Part}
-use Rattle.journal_defs.specs.Numbers.{journal_file}
 use Rattle.entry_index.specs.Parts.{InFiles, IsPartAt, part_with, read_value}
 use Rattle.entry_index.proofs.ReadParts.{none_at, none_past, is_part, no_part, nothing_there}
 use Rattle.entry_index.proofs.reading.read_part.Goals as goal
@@ -18,7 +16,7 @@ returns-then-generation-eq0-clause-found g c =
     all_told (g.D.Disk.disk a.disk.now).content (λ files. (x : Option Part) → IsPartAt (InFiles files) a.region a.number a.place x → None ≡ x)
     (λ files x is. none_at files a.region a.number a.place x (omega arith) is)
 
-pub returns-then-generation-gt-LAST_GENERATION-clause-outside : goal.returns-then-LAST_GENERATION-generation-clause-outside
+pub returns-then-generation-gt-LAST_GENERATION-clause-outside : goal.returns-then-generation-gt-LAST_GENERATION-clause-outside
 returns-then-generation-gt-LAST_GENERATION-clause-outside g c file offset failed =
     let a = c.args in
     all_told (g.D.Disk.disk a.disk.now).content (λ files. (x : Option Part) → IsPartAt (InFiles files) a.region a.number a.place x → ⊥)

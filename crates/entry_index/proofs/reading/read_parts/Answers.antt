@@ -1,11 +1,10 @@
-use Rattle.std.proofs.Common.{rules, ◌≡◌, ℕ, ◌+◌, ◌<◌, List, [], ◌∷◌, ◌++◌, length, map, get_or, Option, None, IfSome, sym, ◌∙◌, ap, subst, arith, length-append}
+use Rattle.std.proofs.Common.{rules, ◌≡◌, ℕ, ◌+◌, ◌<◌, List, [], ◌∷◌, ◌++◌, length, map, get_or, Option, None, IfSome, IsErrOf, ◌∙◌, ap, arith, length-append}
 use Rattle.std.proofs.lemmas.List.{length-map, map-append}
 use Rattle.std.specs.Option.{option_map}
-use Rattle.disk_defs.specs.Disk.{Files}
 use Rattle.disk_defs.proofs.Frames.{reads_more}
 use Rattle.disk_defs.proofs.Told.{told_at, weaker_told, both_weak}
 use Rattle.journal_defs.specs.Journal.{Part}
-use Rattle.entry_index.specs.declared.reading.ReadPart.{ReadPart}
+use Rattle.entry_index.specs.declared.error.IndexError.TheVariants.{NotAFile}
 use Rattle.entry_index.specs.Parts.{InFiles, NOWHERE, IsPartAt, AreParts, read_value}
 use Rattle.entry_index.proofs.ReadParts.{more_read, all_read}
 use Rattle.entry_index.proofs.reading.read_parts.Goals as goal
@@ -45,3 +44,15 @@ returns-clause-read g c =
     weaker_told (g.D.Disk.disk a.disk.now).content (λ files. (part : ℕ → Option Part) → AreParts (InFiles files) a.number a.row.now part → (r : ℕ) → r < l.region → get_or (map f l.made.items) r None ≡ part r)
     (λ files. (part : ℕ → Option Part) → AreParts (InFiles files) a.number a.row.now part → (r : ℕ) → get_or (map f l.made.items) r None ≡ part r) l.invariant.read
     (λ files before part at r. all_read part (map f l.made.items) n (length-map l.made.items f ∙ l.invariant.many ∙ all) (λ q low. before part at q (omega (arith, low, all))) at.no_more r)
+
+pub returns-in_err-found-clause-outside : goal.returns-in_err-found-clause-outside
+returns-in_err-found-clause-outside g c file offset is =
+    let view = g.D.Disk.disk in
+    let l = c.loop-region in
+    let a = c.args in
+    let o = (view a.disk.now).content in
+    let place = get_or a.row.now l.region NOWHERE in
+    let failed : IsErrOf c.read_part.result (NotAFile file offset) = search (rules, is) in
+    weaker_told o (λ files. (x : Option Part) → IsPartAt (InFiles files) l.region a.number place x → ⊥) (λ files. (part : ℕ → Option Part) → AreParts (InFiles files) a.number a.row.now part → ⊥)
+    (told_at o (view l.disk).content (λ files. (x : Option Part) → IsPartAt (InFiles files) l.region a.number place x → ⊥) l.invariant.reads.content (c.read_part.ensures.outside file offset failed))
+    (λ files none part at. none (part l.region) (at.each l.region (omega arith)))
