@@ -124,7 +124,7 @@ impl Reign {
             Evaluated::Done { updates, answers } => {
                 if updates.is_empty() {
                     Reply::Read(answers)
-                } else if LAST_NUMBER <= self.site.entries.len() {
+                } else if LAST_NUMBER <= self.site.sequence_length() {
                     Reply::RolledBack(Cause::SeqLimit)
                 } else {
                     return self.commit(alloc, disk, origin, updates, answers);

@@ -196,7 +196,7 @@ opened_told leftovers one_only v w s o p law down h name sure told drawn held sa
       broken = p.left.broken;
       as_before = λ _. refl;
       as_left = λ _. refl;
-      is_open = record { remembered = one.remembered; entries = λ _. one.entries refl; kept = λ _. one.kept refl };
+      is_open = record { remembered = one.remembered; kept = λ _. one.kept refl };
       outcome = λ _. (p.now, subst (λ (x : Contents). Among p.outcomes x) same_out out.1, one);
       standing = λ _. standing_there leftovers one_only read.0 p.now p.left p.standings reads (at_image v read.0 p.standings read.2 (standings_of v p up h.disk sure));
       drawn = λ _. generation_left p.now (drawn_here p.now site.0);
@@ -513,7 +513,7 @@ before_last (x ∷ xs) (y ∷ ys) a b e =
 
 -- as many entries are remembered as the bytes' sequence has
 count_same : (o : OpenSite) (u : Records) (seq : Sequence) (c : Contents) (n : ℕ) → WasOpenedFrom u seq o → Remembers c n o → length c.sequence ≡ length seq
-count_same o u seq c n from remembered = sym (entries_count c n o remembered) ∙ ap length from.entries
+count_same o u seq c n from remembered = sym (entries_count c n o remembered) ∙ from.count
 
 -- and its records are those
 records_same : (o : OpenSite) (u : Records) (seq : Sequence) (broken : List ℕ) (c : Contents) (n : ℕ) → WasOpenedFrom u seq o → Remembers (opened broken c) n o → c.instance ≡ u.instance
