@@ -34,9 +34,9 @@ returns-in-Ok-clause-done g c =
     let before = c.saturating_sub.result in
     let lines = c.write_entries.new.text in
     let shows : (seq : Sequence) → lines ≡ c.write_header.new.out ++ entries_text (before + 1) (drop before seq) → lines ≡ extract_from s.name c.args.number seq = λ seq added.
-        extracts s.name c.as_slice-2.result.now from before seq c.new-lines.result c.write_header.new.out lines (from_least c.args.number from c.unwrap_or-from.ensures c.requires.from) c.saturating_sub.ensures c.as_slice-2.ensures
-        c.new-lines.ensures c.in_ok-write_header.ensures.ok added
-        ∙ from_one s.name c.args.number from seq c.unwrap_or-from.ensures in
+    extracts s.name c.as_slice-2.result.now from before seq c.new-lines.result c.write_header.new.out lines (from_least c.args.number from c.unwrap_or-from.ensures c.requires.from) c.saturating_sub.ensures c.as_slice-2.ensures
+    c.new-lines.ensures c.in_ok-write_header.ensures.ok added
+    ∙ from_one s.name c.args.number from seq c.unwrap_or-from.ensures in
     extracts_at (g.D.Disk.disk c.args.disk.now) (g.D.Disk.disk c.write_entries.new.disk) s c.in-Primary.reign c.args.number lines c.args.text.now _ e.reads e.later c.in-Primary.is
     (λ x h is. shows x.sequence (e.entries x h is)) (e.some.0, e.some.1, shows e.some.0 e.some.2)
     (c.in_ok-push_all-in-Ok.ensures.ok ∙ ap (λ (x : List ℕ). c.args.text.now ++ x) c.as_slice-in-Ok.ensures)
