@@ -1,26 +1,31 @@
 -- What signs tell of the completeness of entries.
-use Rattle.std.proofs.Common.{◌≡◌, inl, inr, ℕ, zero, suc, ◌+◌, ◌≤◌, ◌<◌, ◌==◌, ◌&&◌, ◌||◌, not, Bool, true, false, List, [], ◌∷◌, length, take, drop, Option, Some, None, IsSome, is_some, refl, sym, ◌∙◌, ap, subst, arith, if◌then◌else◌, length-append}
-use Rattle.std.proofs.lemmas.Bool.Decides.{nat_tests}
+use Rattle.std.proofs.Common.{◌≡◌, ℕ, suc, ◌+◌, ◌≤◌, ◌<◌, ◌==◌, ◌&&◌, ◌||◌, not, Bool, true, false, List, [], ◌∷◌, ◌++◌, length, take, drop, get_or, Option, Some, None, IsSome, is_some, refl, sym, ◌∙◌, ap, subst, arith, if◌then◌else◌}
 use Rattle.std.proofs.Math.Path.{fun_ext}
 use Rattle.std.proofs.lemmas.List.{drop_all, take_all}
-use Rattle.std.specs.List.{list_all, flat_map}
+use Rattle.std.specs.List.{list_all}
 use Rattle.std.specs.Option.{option_map, option_and_then}
 use Rattle.disk_defs.specs.Disk.{Files}
-use Rattle.global_defs.specs.Entry.{Update, Origin, Stamp, Entry}
+use Rattle.global_defs.specs.Entry.{Origin, Stamp, Reign}
+use Rattle.global_defs.specs.Prefix.{stamp_at}
 use Rattle.journal_defs.specs.Journal.{Item, Part}
-use Rattle.journal_defs.specs.Sequence.{REGIONS, in_mask, is_like, items_of, items_in, updates_from, updates_of, updates_by, entry_by, entry_among}
+use Rattle.journal_defs.specs.Sequence.{REGIONS, in_mask, is_like, items_of, items_in, updates_from, updates_of, updates_by, entry_by, entry_among, entry_with}
 use Rattle.global_defs.specs.Serial.{entry_of}
 use Rattle.gvn_model.specs.Entries.{origin_value}
 use Rattle.mupip_recover.specs.Entries.{entry_in}
 use Rattle.mupip_recover.specs.Slots.{next_after, is_at}
 use Rattle.mupip_recover.specs.Parts.{items_at}
 use Rattle.mupip_recover.proofs.InOrder.{by_order}
-use Rattle.mupip_recover.proofs.Completion.{among_next, among_found}
+use Rattle.mupip_recover.proofs.Completion.{among_found}
 use Rattle.jnl_index.specs.Signs.{first_of, is_row, span_of}
 use Rattle.jnl_index.specs.declared.sign.Span.{Span}
 use Rattle.entry_index.specs.declared.sign.PartSign.{PartSign}
-use Rattle.entry_index.specs.Signs.{is_like_sign, Tells, IsSign}
-use Rattle.entry_index.specs.Completing.{is_like_some, agrees_by_sign, NO_SPAN, span_told, span_at}
+use Rattle.entry_index.specs.declared.completing.Told.{Told}
+use Rattle.entry_index.specs.declared.completing.Told.TheVariants.{Complete, Broken, Unsure}
+use Rattle.entry_index.specs.declared.place.PartPlace.{PartPlace}
+use Rattle.entry_index.specs.Parts.{InFiles, NOWHERE, IsPartAt, AreParts}
+use Rattle.entry_index.specs.Signs.{Tells, IsSign}
+use Rattle.entry_index.specs.Completing.{is_like_some, agrees_by_sign, NO_SPAN, span_told, span_at, place_told, IsTold, Decides}
+use Rattle.entry_index.specs.Indexes.{IsNext}
 
 -- items in a row
 pub row_end : (i : ℕ) (items : List Item) → next_after i items ≡ (if is_row i items then Some (i + length items) else None)
@@ -52,8 +57,8 @@ pub all_regions : (i : ℕ) → 8 ≤ i → REGIONS ≡ take i REGIONS
 all_regions i past = sym (take_all i REGIONS past)
 
 broken_by : (items : List Item) (count : ℕ) (agree : Bool) → (length items == count) ≡ false → (if agree then updates_of items count else None) ≡ None
-broken_by items count true no = ap (λ (b : Bool). if b then updates_from items 0 count else None) no
-broken_by items count false no = refl
+broken_by items count true other = ap (λ (b : Bool). if b then updates_from items 0 count else None) other
+broken_by items count false other = refl
 
 module _ (files : Files) (n : ℕ) (sign : ℕ → Option PartSign) (part : ℕ → Option Part) (are : (r : ℕ) → IsSign files r n (sign r) (part r)) where
   told_items : (r : ℕ) (s : Option PartSign) (p : Option Part) → IsSign files r n s p → span_told s ≡ span_of (items_of p)
@@ -96,62 +101,97 @@ module _ (files : Files) (n : ℕ) (sign : ℕ → Option PartSign) (part : ℕ 
 
   -- where they don't agree
   pub not_agreed : (r : ℕ) (head : PartSign) (p : Part) → Tells files r n head p → list_all (λ q. agrees_by_sign head (sign q) q) REGIONS ≡ false → updates_by part p ≡ None
-  not_agreed r head p tells no = ap (λ (b : Bool). if b then updates_of (items_in p.mask part) p.count else None) (sym (agreement r head p tells) ∙ no)
+  not_agreed r head p tells differ = ap (λ (b : Bool). if b then updates_of (items_in p.mask part) p.count else None) (sym (agreement r head p tells) ∙ differ)
 
   agreed : (r : ℕ) (head : PartSign) (p : Part) → Tells files r n head p → list_all (λ q. agrees_by_sign head (sign q) q) REGIONS ≡ true → updates_by part p ≡ updates_of (items_in p.mask part) p.count
-  agreed r head p tells yes = ap (λ (b : Bool). if b then updates_of (items_in p.mask part) p.count else None) (sym (agreement r head p tells) ∙ yes)
+  agreed r head p tells alike = ap (λ (b : Bool). if b then updates_of (items_in p.mask part) p.count else None) (sym (agreement r head p tells) ∙ alike)
 
   -- where the positions are in order
   pub in_order : (r : ℕ) (head : PartSign) (p : Part) → Tells files r n head p → list_all (λ q. agrees_by_sign head (sign q) q) REGIONS ≡ true
       → is_at head.count (next_after 0 (items_in head.mask part)) ≡ true → IsSome (updates_by part p)
-  in_order r head p tells yes order =
+  in_order r head p tells alike order =
       let at : is_at p.count (next_after 0 (items_in p.mask part)) ≡ true =
       subst (λ (m : ℕ). is_at p.count (next_after 0 (items_in m part)) ≡ true) tells.mask (subst (λ (k : ℕ). is_at k (next_after 0 (items_in head.mask part)) ≡ true) tells.count order) in
-      subst IsSome (sym (agreed r head p tells yes ∙ by_order (items_in p.mask part) p.count at)) tt
+      subst IsSome (sym (agreed r head p tells alike ∙ by_order (items_in p.mask part) p.count at)) refl
 
   -- where their number isn't the count
   pub not_counted : (r : ℕ) (head : PartSign) (p : Part) → Tells files r n head p → (length (items_in head.mask part) == head.count) ≡ false → updates_by part p ≡ None
-  not_counted r head p tells no =
+  not_counted r head p tells other =
       let at : (length (items_in p.mask part) == p.count) ≡ false =
-      subst (λ (m : ℕ). (length (items_in m part) == p.count) ≡ false) tells.mask (subst (λ (k : ℕ). (length (items_in head.mask part) == k) ≡ false) tells.count no) in
+      subst (λ (m : ℕ). (length (items_in m part) == p.count) ≡ false) tells.mask (subst (λ (k : ℕ). (length (items_in head.mask part) == k) ≡ false) tells.count other) in
       broken_by (items_in p.mask part) p.count (list_all (λ q. not (in_mask p.mask q) || is_like p (part q)) REGIONS) at
 
--- the region of a part that isn't complete by it
-pub head_part : (files : Files) (r n : ℕ) (head : PartSign) (x : Option Part) → IsSign files r n (Some head) x → (p : Part) × (x ≡ Some p) × Tells files r n head p
+head_part : (files : Files) (r n : ℕ) (head : PartSign) (x : Option Part) → IsSign files r n (Some head) x → (p : Part) × (x ≡ Some p) × Tells files r n head p
 head_part files r n head None is = absurd is
 head_part files r n head (Some p) is = (p, refl, is)
 
-pub no_head : (files : Files) (r n : ℕ) (x : Option Part) → IsSign files r n None x → x ≡ None
+no_head : (files : Files) (r n : ℕ) (x : Option Part) → IsSign files r n None x → x ≡ None
 no_head files r n None is = refl
 no_head files r n (Some p) is = absurd is
 
-pub not_by : (part : ℕ → Option Part) (stamp : Stamp) (r : ℕ) (p : Part) → part r ≡ Some p → updates_by part p ≡ None → entry_in part stamp r ≡ None
-not_by part stamp r p is none =
-    ap (option_and_then (λ q. entry_by part stamp q)) is ∙ ap (option_map (λ us. entry_of stamp p.origin.updater p.origin.serial us)) none
+told_mapped : {X Y : Type 0} (f : X → Y) (told : Told) (o : Option X) → IsTold told o → IsTold told (option_map f o)
+told_mapped f Complete None h = cc
+told_mapped f Complete (Some x) h = refl
+told_mapped f Broken None h = refl
+told_mapped f Broken (Some x) h = cc
+told_mapped f Unsure o h = tt
 
-pub by_part : (part : ℕ → Option Part) (stamp : Stamp) (r : ℕ) (p : Part) (o : Option (List Update)) → part r ≡ Some p → updates_by part p ≡ o → IsSome o → (e : Entry) × (entry_in part stamp r ≡ Some e)
-by_part part stamp r p None is updates some = absurd some
-by_part part stamp r p (Some us) is updates some =
-    (entry_of stamp p.origin.updater p.origin.serial us, ap (option_and_then (λ q. entry_by part stamp q)) is ∙ ap (option_map (λ vs. entry_of stamp p.origin.updater p.origin.serial vs)) updates)
-
-pub not_there : (part : ℕ → Option Part) (stamp : Stamp) (r : ℕ) → part r ≡ None → entry_in part stamp r ≡ None
-not_there part stamp r is = ap (option_and_then (λ q. entry_by part stamp q)) is
-
--- a region by which the entry isn't complete, or isn't told
-pub next_region : (files : Files) (n : ℕ) (part : ℕ → Option Part) (stamp : Stamp) (r : ℕ) (head : PartSign) → r < 8 → IsSign files r n (Some head) (part r)
-    → ((p : Part) → Tells files r n head p → updates_by part p ≡ None) → entry_among part stamp (drop r REGIONS) ≡ entry_among part stamp (drop (r + 1) REGIONS)
-next_region files n part stamp r head low is none =
+-- what is told of an entry by its part in a region
+pub told_by_part : (files : Files) (n : ℕ) (part : ℕ → Option Part) (stamp : Stamp) (r : ℕ) (head : PartSign) (told : Told) → IsSign files r n (Some head) (part r)
+    → ((p : Part) → Tells files r n head p → Decides told part p) → IsTold told (entry_in part stamp r)
+told_by_part files n part stamp r head told is decides =
     let (p, at, tells) = head_part files r n head (part r) is in
-    among_next part stamp r low (not_by part stamp r p at (none p tells))
+    subst (λ (o : Option Part). IsTold told (option_and_then (λ q. entry_by part stamp q) o)) (sym at)
+    (told_mapped (λ us. entry_of stamp p.origin.updater p.origin.serial us) told (updates_by part p) (decides p tells))
 
-pub absent_region : (files : Files) (n : ℕ) (part : ℕ → Option Part) (stamp : Stamp) (r : ℕ) → r < 8 → IsSign files r n None (part r)
-    → entry_among part stamp (drop r REGIONS) ≡ entry_among part stamp (drop (r + 1) REGIONS)
-absent_region files n part stamp r low is = among_next part stamp r low (not_there part stamp r (no_head files r n (part r) is))
+pub no_part_there : (files : Files) (n : ℕ) (part : ℕ → Option Part) (stamp : Stamp) (r : ℕ) → IsSign files r n None (part r) → entry_in part stamp r ≡ None
+no_part_there files n part stamp r is = ap (option_and_then (λ q. entry_by part stamp q)) (no_head files r n (part r) is)
 
--- a region by which it is
-pub found_region : (files : Files) (n : ℕ) (part : ℕ → Option Part) (stamp : Stamp) (r : ℕ) (head : PartSign) → r < 8 → IsSign files r n (Some head) (part r)
-    → ((p : Part) → Tells files r n head p → IsSome (updates_by part p)) → IsSome (entry_among part stamp (drop r REGIONS))
-found_region files n part stamp r head low is some =
-    let (p, at, tells) = head_part files r n head (part r) is in
-    let (e, entry) = by_part part stamp r p (updates_by part p) at refl (some p tells) in
-    subst IsSome (sym (among_found part stamp r e low entry)) tt
+-- something that is there
+pub some_of : {X : Type 0} (o : Option X) → IsSome o → (x : X) × (o ≡ Some x)
+some_of None h = cc
+some_of (Some x) h = (x, refl)
+
+-- the first region that tells something
+pub told_first : (part : ℕ → Option Part) (stamp : Stamp) (r : ℕ) (told : Told) → r < 8 → entry_among part stamp REGIONS ≡ entry_among part stamp (drop r REGIONS)
+    → IsTold told (entry_in part stamp r) → (told ≡ Broken → ⊥) → IsTold told (entry_among part stamp REGIONS)
+told_first part stamp r Complete low before is not_broken =
+    let (e, at) = some_of (entry_in part stamp r) is in
+    subst IsSome (sym (before ∙ among_found part stamp r e low at)) refl
+told_first part stamp r Broken low before is not_broken = absurd (not_broken refl)
+told_first part stamp r Unsure low before is not_broken = tt
+
+place_stands : (files : Files) (r n : ℕ) (s : Option PartSign) (x : Option Part) → IsSign files r n s x → IsPartAt (InFiles files) r n (place_told s) x
+place_stands files r n None None is = refl
+place_stands files r n None (Some p) is = absurd is
+place_stands files r n (Some s) None is = absurd is
+place_stands files r n (Some s) (Some p) is = is.stands
+
+-- the places that all signs tell
+pub all_placed : (files : Files) (n k : ℕ) (sign : ℕ → Option PartSign) (part : ℕ → Option Part) (row : List PartPlace) → length row ≡ k
+    → ((r : ℕ) → r < k → get_or row r NOWHERE ≡ place_told (sign r)) → ((r : ℕ) → IsSign files r n (sign r) (part r)) → ((r : ℕ) → k ≤ r → part r ≡ None) → AreParts (InFiles files) n row part
+all_placed files n k sign part row long each are past = record {
+  each = λ r low. subst (λ (p : PartPlace). IsPartAt (InFiles files) r n p (part r)) (sym (each r (omega (arith, low, long)))) (place_stands files r n (sign r) (part r) (are r));
+  no_more = λ r high. past r (omega (arith, high, long));
+}
+
+none_there : {X : Type 0} (o : Option X) → false ≡ is_some o → o ≡ None
+none_there None h = refl
+none_there (Some x) h = cc
+
+-- whether the next entry is there, by what is known of its parts
+pub next_is : (files : Files) (reigns : List Reign) (n : ℕ) (part : ℕ → Option Part) (s : Stamp) (complete : Bool) (row old new : List PartPlace) → Some s ≡ stamp_at n reigns
+    → complete ≡ is_some (entry_among part s REGIONS) → AreParts (InFiles files) n row part → new ≡ (if complete then old ++ row else old) → IsNext files reigns n part complete old new
+next_is files reigns n part s true row old new begun is at places = (row, places, at, subst (λ (o : Option Stamp). IsSome (entry_with part o)) begun (sym is))
+next_is files reigns n part s false row old new begun is at places = (places, sym (ap (entry_with part) begun) ∙ none_there (entry_among part s REGIONS) is)
+
+-- what is made of something that is there, or isn't
+pub none_mapped : {X Y : Type 0} (f : X → Y) (o : Option X) (b : Bool) → is_some o ≡ not b → b ≡ true → None ≡ option_map f o
+none_mapped f None b is none = refl
+none_mapped f (Some x) true is none = cc
+none_mapped f (Some x) false is none = cc
+
+pub some_mapped : {X Y : Type 0} (f : X → Y) (o : Option X) (b : Bool) → is_some o ≡ not b → b ≡ false → (y : Y) × (Some y ≡ option_map f o)
+some_mapped f None true is some = cc
+some_mapped f None false is some = cc
+some_mapped f (Some x) b is some = (f x, refl)

@@ -4,5 +4,7 @@ pub mod Laws
 pub mod Columns
 pub mod Signed
 pub mod Complete
-pub mod Building
+pub mod Counting
+pub mod Runs
+pub mod Placed
 pub mod AmongLaws

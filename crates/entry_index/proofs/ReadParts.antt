@@ -8,7 +8,7 @@ use Rattle.std.proofs.Math.Path.{fun_ext}
 use Rattle.std.proofs.Math.Seq.{get_or-append_seam}
 use Rattle.std.specs.Option.{option_map}
 use Rattle.disk_defs.specs.Disk.{Files}
-use Rattle.global_defs.specs.Entry.{Stamp, Entry}
+use Rattle.global_defs.specs.Entry.{Stamp}
 use Rattle.gvn_model.specs.declared.entry.Transaction.{Transaction}
 use Rattle.journal_defs.specs.Journal.{JournalRecord, Tcom, Part}
 use Rattle.journal_defs.specs.Numbers.{journal_file}
@@ -18,16 +18,16 @@ use Rattle.mupip_recover.specs.Entries.{stamped}
 use Rattle.mupip_recover.specs.Table.{part_in_column, part_at}
 use Rattle.mupip_recover.specs.declared.table.Table.{Table}
 use Rattle.entry_index.specs.declared.place.PartPlace.{PartPlace}
-use Rattle.entry_index.specs.Parts.{NOWHERE, IsPartAt, AreParts, part_with}
+use Rattle.entry_index.specs.Parts.{InFiles, IsPartAt, part_with}
 
 module _ (files : Files) (r n : ℕ) (p : PartPlace) where
   -- at generation 0 there is none
-  pub none_at : (x : Option Part) → p.generation ≡ 0 → IsPartAt files r n p x → None ≡ x
+  pub none_at : (x : Option Part) → p.generation ≡ 0 → IsPartAt (InFiles files) r n p x → None ≡ x
   none_at None zero is = refl
   none_at (Some x) zero is = absurd (omega (arith, zero, is.0))
 
   -- past the last generation there can be nothing
-  pub none_past : (x : Option Part) → 65535 < p.generation → IsPartAt files r n p x → ⊥
+  pub none_past : (x : Option Part) → 65535 < p.generation → IsPartAt (InFiles files) r n p x → ⊥
   none_past None past is = omega (arith, past, is)
   none_past (Some x) past is = omega (arith, past, is.1)
 
@@ -38,30 +38,29 @@ module _ (files : Files) (r n : ℕ) (p : PartPlace) where
 
   -- what stands there, where something has to
   pub is_part : (x : Option Part) (what : JournalRecord) → 1 ≤ p.generation → ((other : JournalRecord) → StandsAt (files (journal_file p.generation r)) p.offset other → what ≡ other)
-      → IsPartAt files r n p x → part_with n what ≡ x
+      → IsPartAt (InFiles files) r n p x → part_with n what ≡ x
   is_part None what least one is = absurd (omega (arith, least, is))
   is_part (Some x) what least one is = ap (part_with n) (one (Tcom x) is.3) ∙ numbered x is.2
 
   -- another record stands there
   pub no_part : (x : Option Part) (what : JournalRecord) → 1 ≤ p.generation → ((other : JournalRecord) → StandsAt (files (journal_file p.generation r)) p.offset other → what ≡ other)
-      → None ≡ part_with n what → IsPartAt files r n p x → ⊥
+      → None ≡ part_with n what → IsPartAt (InFiles files) r n p x → ⊥
   no_part None what least one none is = omega (arith, least, is)
   no_part (Some x) what least one none is = let gone : None ≡ Some x = none ∙ is_part (Some x) what least one is in cc
 
   -- no record stands there
-  pub nothing_there : (x : Option Part) → 1 ≤ p.generation → ((other : JournalRecord) → StandsAt (files (journal_file p.generation r)) p.offset other → ⊥) → IsPartAt files r n p x → ⊥
+  pub nothing_there : (x : Option Part) → 1 ≤ p.generation → ((other : JournalRecord) → StandsAt (files (journal_file p.generation r)) p.offset other → ⊥) → IsPartAt (InFiles files) r n p x → ⊥
   nothing_there None least none is = omega (arith, least, is)
   nothing_there (Some x) least none is = none (Tcom x) is.3
 
--- the part of one region more
-pub more_read : (part : ℕ → Option Part) (ms : List (Option Part)) (o : Option Part) (i : ℕ) → length ms ≡ i → ((r : ℕ) → r < i → get_or ms r None ≡ part r) → o ≡ part i
-    → (r : ℕ) → r < i + 1 → get_or (ms ++ o ∷ []) r None ≡ part r
-more_read part ms o i long before here r low = elim (cases_lt r i) [
-  | inl less ↦ get_or-append ms (o ∷ []) None r (omega (arith, long, less)) ∙ before r less
+-- what is known of a list by place, with one more
+pub more_read : {X : Type 0} (f : ℕ → X) (ms : List X) (x d : X) (i : ℕ) → length ms ≡ i → ((r : ℕ) → r < i → get_or ms r d ≡ f r) → x ≡ f i → (r : ℕ) → r < i + 1 → get_or (ms ++ x ∷ []) r d ≡ f r
+more_read f ms x d i long before here r low = elim (cases_lt r i) [
+  | inl less ↦ get_or-append ms (x ∷ []) d r (omega (arith, long, less)) ∙ before r less
   | inr past ↦
       let is : r ≡ length ms = omega (arith, long, past, low) in
       let at : i ≡ r = omega (arith, past, low) in
-      ap (λ (k : ℕ). get_or (ms ++ o ∷ []) k None) is ∙ get_or-append_seam ms o [] None ∙ here ∙ ap part at
+      ap (λ (k : ℕ). get_or (ms ++ x ∷ []) k d) is ∙ get_or-append_seam ms x [] d ∙ here ∙ ap f at
 ]
 
 -- those of all regions

@@ -14,14 +14,20 @@ use Rattle.journal_defs.specs.Sequence.{REGIONS, entry_among, entry_with}
 use Rattle.mupip_recover.specs.Entries.{stamped}
 use Rattle.entry_index.specs.declared.place.PartPlace.{PartPlace}
 use Rattle.entry_index.specs.declared.index.EntryIndex.{EntryIndex}
-use Rattle.entry_index.specs.Parts.{NOWHERE, IsPartAt, AreParts}
-use Rattle.entry_index.specs.Indexes.{place_of, IsEntryAt, Indexes}
+use Rattle.entry_index.specs.Parts.{InFiles, NOWHERE, IsPartAt, AreParts}
+use Rattle.entry_index.specs.Indexes.{IsEntryAt, Indexes}
 
 -- a product with one more
 pub one_more : (k n : ℕ) → 1 ≤ n → k * n ≡ k * (n - 1) + k
 one_more k n first =
     let is : n ≡ suc (n - 1) = omega (arith, first) in
     ap (λ (m : ℕ). k * m) is ∙ mul-suc k (n - 1)
+
+-- places of rows with one more
+pub rows_more : (k rows : ℕ) → k * rows + k ≡ k * (rows + 1)
+rows_more k rows =
+    let is : suc rows ≡ rows + 1 = omega arith in
+    sym (mul-suc k rows) ∙ ap (λ (m : ℕ). k * m) is
 
 -- the row of an entry, where rows have k places
 abbrev pub row_of : {X : Type 0} → ℕ → ℕ → List X → List X
@@ -51,13 +57,13 @@ row-get k n r xs d low = get_or-take k (drop (k * (n - 1)) xs) r d low ∙ get_o
 -- in this row stand the parts that lead to what is the entry
 pub record IsIn (files : Files) (reigns : List Reign) (row : List PartPlace) (n : ℕ) (o : Option Entry) : Type 0 where
   pub part : ℕ → Option Part
-  pub parts : AreParts files n row part
+  pub parts : AreParts (InFiles files) n row part
   pub entry : entry_with part (stamp_at n reigns) ≡ o
   pub e : Entry
   pub some : o ≡ Some e
 
-module _ (files : Files) (reigns : List Reign) (index : EntryIndex) (seq : Sequence) (n : ℕ) (first : 1 ≤ n) (is : Indexes files reigns index seq) where
-  in_row : (e : Entry) → IsEntryAt files reigns index n e → index.regions * n ≤ length index.places.items → slice_get seq (n - 1) ≡ Some e
+module _ (files : Files) (reigns : List Reign) (index : EntryIndex) (seq : Sequence) (n : ℕ) (first : 1 ≤ n) (is : Indexes (InFiles files) reigns index seq) where
+  in_row : (e : Entry) → IsEntryAt (InFiles files) reigns index n e → index.regions * n ≤ length index.places.items → slice_get seq (n - 1) ≡ Some e
       → IsIn files reigns (row_of index.regions n index.places.items) n (slice_get seq (n - 1))
   in_row e at fits some =
       let k = index.regions in
@@ -67,7 +73,7 @@ module _ (files : Files) (reigns : List Reign) (index : EntryIndex) (seq : Seque
         parts = record {
           each = λ r low.
               let there : r < k = omega (arith, long, low) in
-              subst (λ (p : PartPlace). IsPartAt files r n p (at.part r)) (sym (row-get k n r index.places.items NOWHERE there)) (at.places r there);
+              subst (λ (p : PartPlace). IsPartAt (InFiles files) r n p (at.part r)) (sym (row-get k n r index.places.items NOWHERE there)) (at.places r there);
           no_more = λ r past. at.no_more r (omega (arith, long, past));
         };
         entry = at.entry ∙ sym some;
@@ -75,23 +81,26 @@ module _ (files : Files) (reigns : List Reign) (index : EntryIndex) (seq : Seque
         some = some;
       }
 
-  -- the entry of a row
-  pub entry_in : 1 ≤ index.regions → index.regions * n ≤ length index.places.items → IsIn files reigns (row_of index.regions n index.places.items) n (slice_get seq (n - 1))
-  entry_in some fits =
+  entry_here : 1 ≤ index.regions → index.regions * n ≤ length index.places.items → IsIn files reigns (row_of index.regions n index.places.items) n (slice_get seq (n - 1))
+  entry_here some fits =
       let all : index.regions * n ≤ index.regions * length seq = omega (arith, fits, is.rows) in
       let within : n ≤ length seq = le_of_mul-le-mul_left {m = n} {n = length seq} {k = index.regions} all some in
       let number : suc (n - 1) ≡ n = omega (arith, first) in
       elim ((slice_get_cases seq (n - 1)).1) [
-        | inl found ↦ in_row found.0 (subst (λ (m : ℕ). IsEntryAt files reigns index m found.0) number (is.each (n - 1) found.0 found.2)) fits found.2
+        | inl found ↦ in_row found.0 (subst (λ (m : ℕ). IsEntryAt (InFiles files) reigns index m found.0) number (is.each (n - 1) found.0 found.2)) fits found.2
         | inr past ↦ absurd (omega (arith, past.0, within, first))
       ]
+
+  -- the entry of a row
+  pub entry_in : (row : List PartPlace) → row ≡ row_of index.regions n index.places.items → 1 ≤ index.regions → index.regions * n ≤ length index.places.items → IsIn files reigns row n (slice_get seq (n - 1))
+  entry_in row here some fits = subst (λ (l : List PartPlace). IsIn files reigns l n (slice_get seq (n - 1))) (sym here) (entry_here some fits)
 
 nothing_with : (stamp : Option Stamp) → entry_with (λ r. None) stamp ≡ None
 nothing_with None = refl
 nothing_with (Some s) = refl
 
 -- without regions there is no entry
-no_entry : (files : Files) (reigns : List Reign) (index : EntryIndex) (seq : Sequence) → index.regions ≡ 0 → Indexes files reigns index seq → length seq ≡ 0
+no_entry : (files : Files) (reigns : List Reign) (index : EntryIndex) (seq : Sequence) → index.regions ≡ 0 → Indexes (InFiles files) reigns index seq → length seq ≡ 0
 no_entry files reigns index [] zero is = refl
 no_entry files reigns index (e ∷ es) zero is =
     let at = is.each 0 e refl in
@@ -100,16 +109,16 @@ no_entry files reigns index (e ∷ es) zero is =
     cc
 
 -- there is no entry of a number without a row
-pub past_rows : (files : Files) (reigns : List Reign) (index : EntryIndex) (seq : Sequence) (n : ℕ) → 1 ≤ n → (index.regions ≡ 0) ⊎ (length index.places.items < index.regions * n) → Indexes files reigns index seq
+pub past_rows : (files : Files) (reigns : List Reign) (index : EntryIndex) (seq : Sequence) (n : ℕ) → 1 ≤ n → (index.regions ≡ 0) ⊎ (length index.places.items < index.regions * n) → Indexes (InFiles files) reigns index seq
     → None ≡ slice_get seq (n - 1)
 past_rows files reigns index seq n first (inl zero) is = sym (slice_get_past seq (n - 1) (omega (arith, no_entry files reigns index seq zero is)))
 past_rows files reigns index seq n first (inr past) is =
-    let less : length seq < n = lt_of_mul-lt-mul_left index.regions {length seq} {n} (omega (arith, past, is.rows)) in
+    let less : length seq < n = lt_of_mul-lt-mul_left index.regions {m = length seq} {n = n} (omega (arith, past, is.rows)) in
     sym (slice_get_past seq (n - 1) (omega (arith, less, first)))
 
 -- what is read of a row is the entry there
 pub is_entry : (files : Files) (reigns : List Reign) (row : List PartPlace) (n : ℕ) (o : Option Entry) (s : Stamp) (found : Option Transaction) → Some s ≡ stamp_at n reigns
-    → ((part : ℕ → Option Part) → AreParts files n row part → (stamp : Stamp) → entry_among part stamp REGIONS ≡ option_map (stamped stamp) found)
+    → ((part : ℕ → Option Part) → AreParts (InFiles files) n row part → (stamp : Stamp) → entry_among part stamp REGIONS ≡ option_map (stamped stamp) found)
     → IsIn files reigns row n o → option_map (stamped s) found ≡ o
 is_entry files reigns row n o s found is all at = sym (all at.part at.parts s) ∙ ap (entry_with at.part) is ∙ at.entry
 

@@ -1,5 +1,5 @@
 -- The signs of a region's records, and the parts that these are.
-use Rattle.std.proofs.Common.{◌≡◌, inl, inr, ℕ, ◌+◌, ◌≤◌, ◌<◌, ◌==◌, nat_le, ◌&&◌, Bool, true, false, List, [], ◌∷◌, length, get_or, Option, Some, None, refl, sym, ◌∙◌, ap, subst, arith, if◌then◌else◌}
+use Rattle.std.proofs.Common.{◌≡◌, inl, inr, ℕ, ◌≤◌, ◌==◌, nat_le, ◌&&◌, Bool, true, false, List, [], ◌∷◌, length, Option, Some, None, refl, sym, ap, subst, arith, if◌then◌else◌}
 use Rattle.std.proofs.lemmas.Bool.{cases_lt}
 use Rattle.std.proofs.lemmas.Bool.Decides.{nat_tests}
 use Rattle.std.proofs.lemmas.List.{get_or_past}
@@ -16,7 +16,7 @@ use Rattle.mupip_recover.specs.Parts as parts
 use Rattle.mupip_recover.proofs.Columns.{counts_for}
 use Rattle.jnl_index.specs.declared.placed.PlacedSign.{PlacedSign}
 use Rattle.jnl_index.specs.declared.sign.Sign.{Sign}
-use Rattle.jnl_index.specs.Places.{StandsAt, IsSignOf, AreSignsOf}
+use Rattle.jnl_index.specs.Places.{StandsAt, IsSignOf}
 use Rattle.jnl_index.specs.Signs.{sign_of, span_of}
 use Rattle.entry_index.specs.declared.sign.PartSign.{PartSign}
 use Rattle.entry_index.specs.Signs.{part_said, if_numbered, if_surviving, sign_in, last_sign, signs_of, Tells, IsSign}
@@ -92,3 +92,12 @@ all_tell files signs records rs n are r = elim (cases_lt r (length signs)) [
       subst (λ (ss : List PlacedSign). IsSign files r n (last_sign rs n ss) (part_of rs n (records r))) (sym (get_or_past signs r [] past))
       (subst (λ (ps : List Placed). IsSign files r n None (part_of rs n ps)) (sym (are.no_more r past)) tt)
 ]
+
+-- so do those that a table has of them
+pub signed : (files : Files) (signs : List (List PlacedSign)) (records : ℕ → List Placed) (rs : List InstanceRecord) (n : ℕ) (sign : ℕ → Option PartSign) → AreSigns files signs records
+    → ((r : ℕ) → sign r ≡ last_sign rs n (signs_of signs r)) → (r : ℕ) → IsSign files r n (sign r) (part_of rs n (records r))
+signed files signs records rs n sign are each r = subst (λ (o : Option PartSign). IsSign files r n o (part_of rs n (records r))) (sym (each r)) (all_tell files signs records rs n are r)
+
+-- past the last list there is no part
+pub none_past : (files : Files) (signs : List (List PlacedSign)) (records : ℕ → List Placed) (rs : List InstanceRecord) (n : ℕ) → AreSigns files signs records → (r : ℕ) → length signs ≤ r → part_of rs n (records r) ≡ None
+none_past files signs records rs n are r past = ap (part_of rs n) (are.no_more r past)

@@ -1,11 +1,13 @@
 -- What signs tell of entries.
-use Rattle.std.specs.Prelude.{◌≡◌, ℕ, ◌||◌, not, is_some, Bool, true, false, IsTrue, if◌then◌else◌, List, Option, Some, None, IsSome}
+use Rattle.std.specs.Prelude.{◌≡◌, ℕ, ◌||◌, not, Bool, true, false, if◌then◌else◌, Option, Some, None, IsSome}
 use Rattle.journal_defs.specs.Journal.{Part}
 use Rattle.journal_defs.specs.Sequence.{in_mask, updates_by}
 use Rattle.jnl_index.specs.declared.sign.Span.{Span}
 use Rattle.entry_index.specs.declared.sign.PartSign.{PartSign}
 use Rattle.entry_index.specs.declared.completing.Told.{Told}
 use Rattle.entry_index.specs.declared.completing.Told.TheVariants.{Complete, Broken, Unsure}
+use Rattle.entry_index.specs.declared.place.PartPlace.{PartPlace}
+use Rattle.entry_index.specs.Parts.{NOWHERE}
 use Rattle.entry_index.specs.Signs.{is_like_sign}
 
 abbrev pub is_like_some : PartSign → Option PartSign → Bool
@@ -27,6 +29,11 @@ span_told (Some s) = s.span
 -- the span of a region's items, where the mask has it
 abbrev pub span_at : ℕ → (ℕ → Option PartSign) → ℕ → Span
 span_at mask sign r = if in_mask mask r then span_told (sign r) else NO_SPAN
+
+-- the place of a region's part
+abbrev pub place_told : Option PartSign → PartPlace
+place_told None = NOWHERE
+place_told (Some s) = s.place
 
 -- what is told of something that is there where an entry is complete holds
 abbrev pub IsTold : {X : Type 0} → Told → Option X → Type 0

@@ -1,16 +1,15 @@
 -- What was found of a site: its records by their signs, and its entries by their places.
-use Rattle.std.specs.Prelude.{◌≡◌, ◌*◌, ◌/◌, ◌≤◌, ◌<◌, ◌==◌, ℕ, List, [], length, get_or, if◌then◌else◌}
-use Rattle.std.specs.List.{AllZip}
+use Rattle.std.specs.Prelude.{◌≡◌, ◌*◌, ◌/◌, ◌==◌, ℕ, List, length, if◌then◌else◌}
 use Rattle.disk_defs.specs.Disk.{Files}
 use Rattle.global_defs.specs.Entry.{Sequence}
 use Rattle.journal_defs.specs.Instance.{InstanceRecord}
 use Rattle.journal_defs.specs.Surviving.{reigns}
-use Rattle.journal_defs.specs.Sequence.{Placed, Records, IsSequence}
+use Rattle.journal_defs.specs.Sequence.{Records, IsSequence}
 use Rattle.journal_defs.specs.Stands.{AreRecords}
-use Rattle.jnl_index.specs.Signs.{sign_of}
 use Rattle.jnl_index.specs.declared.placed.PlacedSign.{PlacedSign}
 use Rattle.entry_index.specs.declared.index.EntryIndex.{EntryIndex}
 use Rattle.entry_index.specs.Indexes.{AreSigns, Indexes}
+use Rattle.entry_index.specs.Parts.{InFiles}
 
 -- how many entries an index has
 abbrev pub entry_count : EntryIndex → ℕ
@@ -20,15 +19,10 @@ entry_count index = if index.regions == 0 then 0 else length index.places.items 
 abbrev pub IsWhole : EntryIndex → Type 0
 IsWhole index = length index.places.items ≡ index.regions * entry_count index
 
--- these are what the records of all regions say
-pub record AreSaid (signs : List (List PlacedSign)) (journal : ℕ → List Placed) : Type 0 where
-  pub each : (r : ℕ) → r < length signs → AllZip (λ s p. (s.generation ≡ p.generation) × (s.sign ≡ sign_of p.what)) (get_or signs r []) (journal r)
-  pub no_more : (r : ℕ) → length signs ≤ r → journal r ≡ []
-
 -- The files hold these records, whose signs these are, and stand for this sequence, which the index is of.
 pub record AreFound (files : Files) (instance : List InstanceRecord) (signs : List (List PlacedSign)) (index : EntryIndex) (u : Records) (seq : Sequence) : Type 0 where
   pub instance_is : u.instance ≡ instance
   pub held : AreRecords files u
   pub are_signs : AreSigns files signs u.journal
   pub sequence : IsSequence u seq
-  pub indexed : Indexes files (reigns instance) index seq
+  pub indexed : Indexes (InFiles files) (reigns instance) index seq

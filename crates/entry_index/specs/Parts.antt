@@ -4,6 +4,8 @@ use Rattle.disk_defs.specs.Disk.{Files}
 use Rattle.journal_defs.specs.Journal.{JournalRecord, Pini, Epoch, Pblk, Tcom, Part}
 use Rattle.journal_defs.specs.Numbers.{journal_file}
 use Rattle.gvn_model.specs.Entries.{origin_value}
+use Rattle.journal_defs.specs.Sequence.{Placed}
+use Rattle.jnl_index.specs.Order.{IsAmong}
 use Rattle.jnl_index.specs.Places.{StandsAt}
 use Rattle.entry_index.specs.declared.place.PartPlace.{PartPlace}
 use Rattle.entry_index.specs.declared.reading.ReadPart.{ReadPart}
@@ -12,14 +14,22 @@ use Rattle.entry_index.specs.declared.reading.ReadPart.{ReadPart}
 abbrev pub NOWHERE : PartPlace
 NOWHERE = record { generation = 0; offset = 0 }
 
+-- A record of a region, a generation and an offset stands there in these files;
+abbrev pub InFiles : Files → ℕ → ℕ → ℕ → JournalRecord → Type 0
+InFiles files r g offset x = StandsAt (files (journal_file g r)) offset x
+
+-- or it's one of these records, before which so many bytes of its generation stand.
+abbrev pub InJournals : (ℕ → List Placed) → ℕ → ℕ → ℕ → JournalRecord → Type 0
+InJournals journal r g offset x = IsAmong (journal r) g offset x
+
 -- The part of entry n that stands at this place of region r, if one does.
-abbrev pub IsPartAt : Files → ℕ → ℕ → PartPlace → Option Part → Type 0
-IsPartAt files r n p None = p.generation ≡ 0
-IsPartAt files r n p (Some x) = (1 ≤ p.generation) × (p.generation ≤ 65535) × (x.number ≡ n) × StandsAt (files (journal_file p.generation r)) p.offset (Tcom x)
+abbrev pub IsPartAt : (ℕ → ℕ → ℕ → JournalRecord → Type 0) → ℕ → ℕ → PartPlace → Option Part → Type 0
+IsPartAt stands r n p None = p.generation ≡ 0
+IsPartAt stands r n p (Some x) = (1 ≤ p.generation) × (p.generation ≤ 65535) × (x.number ≡ n) × stands r p.generation p.offset (Tcom x)
 
 -- These are the parts of entry n that stand at a place in each region; the other regions have none.
-pub record AreParts (files : Files) (n : ℕ) (row : List PartPlace) (part : ℕ → Option Part) : Type 0 where
-  pub each : (r : ℕ) → r < length row → IsPartAt files r n (get_or row r NOWHERE) (part r)
+pub record AreParts (stands : ℕ → ℕ → ℕ → JournalRecord → Type 0) (n : ℕ) (row : List PartPlace) (part : ℕ → Option Part) : Type 0 where
+  pub each : (r : ℕ) → r < length row → IsPartAt stands r n (get_or row r NOWHERE) (part r)
   pub no_more : (r : ℕ) → length row ≤ r → part r ≡ None
 
 -- the part that a record is, where it has this number

@@ -1,5 +1,5 @@
 -- Signs of parts.
-use Rattle.std.specs.Prelude.{◌≡◌, ℕ, ◌≤◌, ◌==◌, ◌&&◌, nat_le, Bool, true, false, is_some, if◌then◌else◌, List, [], ◌∷◌, get_or, Option, Some, None}
+use Rattle.std.specs.Prelude.{◌≡◌, ℕ, ◌==◌, ◌&&◌, nat_le, Bool, is_some, if◌then◌else◌, List, [], ◌∷◌, get_or, Option, Some, None}
 use Rattle.std.specs.Option.{option_or}
 use Rattle.disk_defs.specs.Disk.{Files}
 use Rattle.journal_defs.specs.Instance.{InstanceRecord}
@@ -11,7 +11,7 @@ use Rattle.jnl_index.specs.declared.sign.Sign.{Sign}
 use Rattle.jnl_index.specs.declared.sign.Sign.TheVariants.{Pini, Epoch, Pblk, Tcom}
 use Rattle.jnl_index.specs.Signs.{span_of}
 use Rattle.entry_index.specs.declared.sign.PartSign.{PartSign}
-use Rattle.entry_index.specs.Parts.{IsPartAt}
+use Rattle.entry_index.specs.Parts.{InFiles, IsPartAt}
 
 -- what a sign says of a part that stands here
 abbrev pub part_said : ℕ → ℕ → Sign → Option PartSign
@@ -61,7 +61,7 @@ pub record Tells (files : Files) (r n : ℕ) (s : PartSign) (p : Part) : Type 0 
   pub origin : origin_value s.origin ≡ p.origin
   pub count : s.count ≡ p.count
   pub span : s.span ≡ span_of p.items
-  pub stands : IsPartAt files r n s.place (Some p)
+  pub stands : IsPartAt (InFiles files) r n s.place (Some p)
 
 -- the sign of the part of entry n in a region, where there is one
 abbrev pub IsSign : Files → ℕ → ℕ → Option PartSign → Option Part → Type 0

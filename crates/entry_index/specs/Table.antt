@@ -1,5 +1,5 @@
 -- Signs of parts by number and region.
-use Rattle.std.specs.Prelude.{◌≡◌, ℕ, ◌+◌, ◌<◌, List, map, length, get_or, Option, None}
+use Rattle.std.specs.Prelude.{◌≡◌, ℕ, ◌+◌, ◌<◌, List, map, length, get_or, Option, None, ◌++◌, Bool, true, false}
 use Rattle.std.specs.Borrow.{Bor}
 use Rattle.std.specs.Option.{option_and_then}
 use Rattle.disk_defs.specs.Disk.{Files}
@@ -9,6 +9,9 @@ use Rattle.jnl_index.specs.declared.placed.PlacedSign.{PlacedSign}
 use Rattle.entry_index.specs.declared.sign.PartSign.{PartSign}
 use Rattle.entry_index.specs.declared.table.SignTable.{SignTable}
 use Rattle.entry_index.specs.Signs.{part_sign_in, last_sign, IsSign}
+use Rattle.entry_index.specs.declared.place.PartPlace.{PartPlace}
+use Rattle.entry_index.specs.Parts.{NOWHERE}
+use Rattle.entry_index.specs.Completing.{place_told}
 
 -- what the sign at a place of a column says
 abbrev pub sign_in_column : ℕ → List (Option (Bor PlacedSign)) → Option PartSign
@@ -26,3 +29,8 @@ pub record IsColumn (instance : List InstanceRecord) (places : ℕ) (signs : Lis
 -- the signs at a place of the table are those of these parts of entry n
 abbrev pub AreSigned : Files → SignTable → ℕ → ℕ → (ℕ → Option Part) → Type 0
 AreSigned files t i n part = (r : ℕ) → IsSign files r n (sign_at t i r) (part r)
+
+-- Where a row was added it has the places that the signs at a place of the table tell, one a region.
+abbrev pub AddsRow : SignTable → ℕ → (regions : ℕ) → Bool → List PartPlace → List PartPlace → Type 0
+AddsRow t i regions true old new = (row : List PartPlace) × (new ≡ old ++ row) × (length row ≡ regions) × ((r : ℕ) → r < regions → get_or row r NOWHERE ≡ place_told (sign_at t i r))
+AddsRow t i regions false old new = new ≡ old

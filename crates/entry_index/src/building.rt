@@ -7,8 +7,10 @@ ghost use Rattle.journal_defs.specs.Journal as journal;
 ghost use Rattle.journal_defs.specs.Sequence as sequences;
 ghost use Rattle.journal_defs.specs.Surviving as surviving;
 ghost use Rattle.mupip_recover.specs.Stamps.{AreStarts};
+ghost use Rattle.entry_index.specs.Among.{ArePlaced};
 ghost use Rattle.entry_index.specs.Indexes.{AreSigns, Indexes, IsNext};
-ghost use Rattle.entry_index.specs.Table.{AreSigned};
+ghost use Rattle.entry_index.specs.Table.{AreSigned, AddsRow};
+ghost use Rattle.entry_index.specs.Parts.{InFiles};
 
 use crate::completing::{is_complete, places_of};
 use crate::error::IndexError;
@@ -37,6 +39,7 @@ fn add_row<D: Disk>(
     ensures added { IfOk result (λ more. IfSome (D.disk disk.old).content (λ files. (part : ℕ → Option journal.Part) → AreSigned files table.now place (place + 1) part → ((r : ℕ) → made.old.regions ≤ r → part r ≡ None)
         → IsNext files (map reign_value reigns.now) (place + 1) part more made.old.places.items made.new.places.items)) }
     ensures many { IfOk result (λ more. length made.new.places.items ≡ (if more then length made.old.places.items + made.old.regions else length made.old.places.items)) }
+    ensures row { IfOk result (λ more. AddsRow table.now place made.old.regions more made.old.places.items made.new.places.items) }
     ensures regions { made.new.regions ≡ made.old.regions }
     ensures outside { (file offset : ℕ) → IsErrOf result (IndexError.NotAFile file offset) → IfSome (D.disk disk.old).content (λ files. (part : ℕ → Option journal.Part) → AreSigned files table.now place (place + 1) part → ((r : ℕ) → made.old.regions ≤ r → part r ≡ None) → ⊥) }
     ensures reads { Reads (D.disk disk.old) (D.disk disk.new) }
@@ -46,12 +49,14 @@ fn add_row<D: Disk>(
     if stamp_at(reigns, starts, place as u64 + 1).is_none() {
         return Ok(false);
     }
-    let row = places_of(alloc, table, place, made.regions)?;
-    let complete = is_complete(alloc, disk, table, place, &row)?;
-    if complete {
-        made.push(&row)?;
+    let places = places_of(alloc, table, place, made.regions)?;
+    let row = places.as_slice();
+    let complete = is_complete(alloc, disk, table, place, row)?;
+    if !complete {
+        return Ok(false);
     }
-    Ok(complete)
+    made.push(row)?;
+    Ok(true)
 }
 
 impl EntryIndex {
@@ -74,9 +79,10 @@ impl EntryIndex {
         requires history { history.now ≡ surviving.reigns instance.now }
         requires few { length signs.now ≤ 8 }
         ensures sequence { IfOk result (λ made. IfSome (D.disk disk.old).content (λ files. (journal : ℕ → List sequences.Placed) → AreSigns files (map (λ s. s.items) signs.now) journal
-            → (seq : defs.Sequence) × sequences.IsSequence (record { instance = instance.now; journal = journal }) seq × Indexes files (surviving.reigns instance.now) made seq)) }
+            → (seq : defs.Sequence) × sequences.IsSequence (record { instance = instance.now; journal = journal }) seq × Indexes (InFiles files) (surviving.reigns instance.now) made seq)) }
         ensures regions { IfOk result (λ made. made.regions ≡ length signs.now) }
         ensures rows { IfOk result (λ made. (rows : ℕ) × (length made.places.items ≡ made.regions * rows)) }
+        ensures placed { IfOk result (λ made. ArePlaced instance.now (map (λ s. s.items) signs.now) made) }
         ensures outside { (file offset : ℕ) → IsErrOf result (IndexError.NotAFile file offset) → IfSome (D.disk disk.old).content (λ files. (journal : ℕ → List sequences.Placed) → AreSigns files (map (λ s. s.items) signs.now) journal → ⊥) }
         ensures reads { Reads (D.disk disk.old) (D.disk disk.new) }
         ensures later { (D.disk disk.old).faults ≤ (D.disk disk.new).faults }
@@ -94,7 +100,8 @@ impl EntryIndex {
             places: Vec::new(alloc),
         };
         for place in 0..places {
-            if !add_row(alloc, disk, &table, reigns, &starts, place, &mut made)? {
+            let more = add_row(alloc, disk, &table, reigns, &starts, place, &mut made)?;
+            if !more {
                 return Ok(made);
             }
         }

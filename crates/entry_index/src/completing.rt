@@ -1,19 +1,20 @@
 //! Which entries are complete.
-ghost use Rattle.std.specs.Prelude.{◌≡◌, ◌==◌, ◌+◌, ◌<◌, ◌≤◌, ◌^◌, ℕ, List, length, true, is_some, Option, Some, None, IfOk, IfSome, IsErrOf, IsTrue};
+ghost use Rattle.std.specs.Prelude.{◌≡◌, ◌==◌, ◌+◌, ◌<◌, ◌≤◌, ◌^◌, ℕ, List, length, get_or, true, is_some, Option, Some, None, IfOk, IfSome, IsErrOf, IsTrue};
 ghost use Rattle.std.specs.List.{list_all};
 ghost use Rattle.disk_defs.specs.Disk.{Files, Reads, Rose};
 ghost use Rattle.global_defs.specs.Entry as defs;
 ghost use Rattle.journal_defs.specs.Journal as journal;
 ghost use Rattle.journal_defs.specs.Sequence.{REGIONS, items_in, entry_among};
 ghost use Rattle.jnl_index.specs.Signs.{span_of};
+ghost use Rattle.mupip_recover.specs.Entries.{entry_in};
 ghost use Rattle.mupip_recover.specs.Slots.{next_after, is_at};
-ghost use Rattle.entry_index.specs.Parts.{AreParts};
+ghost use Rattle.entry_index.specs.Parts.{NOWHERE, InFiles, AreParts};
 ghost use Rattle.entry_index.specs.Signs.{Tells};
 ghost use Rattle.entry_index.specs.Table.{sign_at, AreSigned};
-ghost use Rattle.entry_index.specs.Completing.{agrees_by_sign, span_at, Decides, IsTold};
+ghost use Rattle.entry_index.specs.Completing.{agrees_by_sign, span_at, place_told, Decides, IsTold};
 
 use crate::error::IndexError;
-use crate::place::PartPlace;
+use crate::place::{NOWHERE, PartPlace};
 use crate::reading::read_transaction;
 use crate::sign;
 use crate::sign::PartSign;
@@ -24,7 +25,7 @@ use repl_disk::Disk;
 use std::alloc::Global;
 
 /// What signs tell of an entry by one of its parts.
-#[derive(Clone, Copy, Debug, PartialEq, Eq)]
+#[derive(Clone, Copy, Debug)]
 pub enum Told {
     /// It's complete.
     Complete,
@@ -86,10 +87,11 @@ fn position_after(next: u16, span: Span) -> Option<u16>
     if span.many == 0 {
         return Some(next);
     }
-    if span.in_a_row && span.first == next {
-        return next.checked_add(span.many);
+    if !span.in_a_row || span.first != next {
+        return None;
     }
-    None
+    let after = next.checked_add(span.many)?;
+    Some(after)
 }
 
 /// Whether the items of the regions of a part's mask, one region after the other, have all positions up to its count in order.
@@ -141,19 +143,37 @@ fn told_by(table: &SignTable, place: usize, head: &PartSign) -> Told
     }
 }
 
+/// What the signs at a place tell of the entry there by its part in a region.
+fn told_in(table: &SignTable, place: usize, region: u8) -> Told
+    ensures { (files : Files) (n : ℕ) (part : ℕ → Option journal.Part) → AreSigned files table.now place n part → (stamp : defs.Stamp) → IsTold result (entry_in part stamp region) }
+{
+    match table.part(place, region) {
+        None => Told::Broken,
+        Some(head) => told_by(table, place, &head),
+    }
+}
+
 /// What the signs at a place tell of the entry there: by the first part by which it's complete, or may be.
 fn told_at(table: &SignTable, place: usize) -> Told
     ensures { (files : Files) (n : ℕ) (part : ℕ → Option journal.Part) → AreSigned files table.now place n part → (stamp : defs.Stamp) → IsTold result (entry_among part stamp REGIONS) }
 {
     for region in 0..sign::REGIONS {
-        if let Some(head) = table.part(place, region) {
-            match told_by(table, place, &head) {
-                Told::Broken => {}
-                told => return told,
-            }
+        match told_in(table, place, region) {
+            Told::Broken => {}
+            told => return told,
         }
     }
     Told::Broken
+}
+
+/// Where the part of an entry in a region stands.
+fn place_in(table: &SignTable, place: usize, region: u8) -> PartPlace
+    ensures { result ≡ place_told (sign_at table.now place region) }
+{
+    match table.part(place, region) {
+        None => NOWHERE,
+        Some(found) => found.place,
+    }
 }
 
 /// The places of an entry's parts, one a region, of so many regions.
@@ -164,19 +184,13 @@ pub fn places_of(
     regions: u8,
 ) -> Result<Vec<PartPlace>, NoMemory>
     ensures parts { IfOk result (λ made. (files : Files) (n : ℕ) (part : ℕ → Option journal.Part) → AreSigned files table.now place n part
-        → ((r : ℕ) → regions ≤ r → part r ≡ None) → AreParts files n made.items part) }
+        → ((r : ℕ) → regions ≤ r → part r ≡ None) → AreParts (InFiles files) n made.items part) }
     ensures many { IfOk result (λ made. length made.items ≡ regions) }
+    ensures told { IfOk result (λ made. (r : ℕ) → r < regions → get_or made.items r NOWHERE ≡ place_told (sign_at table.now place r)) }
 {
     let mut made = Vec::with_capacity(alloc, usize::from(regions))?;
     for region in 0..regions {
-        let stands = match table.part(place, region) {
-            None => PartPlace {
-                generation: 0,
-                offset: 0,
-            },
-            Some(found) => found.place,
-        };
-        made.push(stands)?;
+        made.push(place_in(table, place, region))?;
     }
     Ok(made)
 }
@@ -191,9 +205,9 @@ pub fn is_complete<D: Disk>(
 ) -> Result<bool, IndexError>
     requires few { length row.now ≤ 8 }
     requires place { place + 1 < 2 ^ 64 }
-    ensures complete { IfOk result (λ complete. IfSome (D.disk disk.old).content (λ files. (part : ℕ → Option journal.Part) → AreSigned files table.now place (place + 1) part → AreParts files (place + 1) row.now part
+    ensures complete { IfOk result (λ complete. IfSome (D.disk disk.old).content (λ files. (part : ℕ → Option journal.Part) → AreSigned files table.now place (place + 1) part → AreParts (InFiles files) (place + 1) row.now part
         → (stamp : defs.Stamp) → complete ≡ is_some (entry_among part stamp REGIONS))) }
-    ensures outside { (file offset : ℕ) → IsErrOf result (IndexError.NotAFile file offset) → IfSome (D.disk disk.old).content (λ files. (part : ℕ → Option journal.Part) → AreParts files (place + 1) row.now part → ⊥) }
+    ensures outside { (file offset : ℕ) → IsErrOf result (IndexError.NotAFile file offset) → IfSome (D.disk disk.old).content (λ files. (part : ℕ → Option journal.Part) → AreParts (InFiles files) (place + 1) row.now part → ⊥) }
     ensures reads { Reads (D.disk disk.old) (D.disk disk.new) }
     ensures later { (D.disk disk.old).faults ≤ (D.disk disk.new).faults }
     ensures cause { IsErrOf result IndexError.Failed → Rose (D.disk disk.old).faults (D.disk disk.new).faults }

@@ -4,14 +4,16 @@ ghost use Rattle.std.specs.Option.{option_map};
 ghost use Rattle.disk_defs.specs.Disk.{Reads, Rose};
 ghost use Rattle.global_defs.specs.Entry as defs;
 ghost use Rattle.gvn_model.specs.Entries.{entry_value};
+ghost use Rattle.mupip_recover.specs.Stamps.{AreStarts};
 ghost use Rattle.entry_index.specs.Indexes.{Indexes};
+ghost use Rattle.entry_index.specs.Parts.{InFiles};
 
 use crate::error::IndexError;
 use crate::place::PartPlace;
 use crate::reading::{first_place, read_transaction};
 use gvn_key::NoMemory;
 use gvn_model::{Entry, Reigns};
-use mupip_recover::{stamp_at, starts_of};
+use mupip_recover::stamp_at;
 use repl_disk::Disk;
 use std::alloc::Global;
 
@@ -59,7 +61,7 @@ impl EntryIndex {
 
     /// The entry of a number, from 1 on, read from its places; `None` where there is none. It reads the records of its parts alone.
     ///
-    /// `history` has the surviving reigns.
+    /// `history` has the surviving reigns, and `starts` what [`mupip_recover::starts_of`] gives for these.
     ///
     /// # Errors
     /// `NotAFile`, with the file and the place of a part, only where the files don't have there what the index says; `Failed` only where
@@ -69,14 +71,16 @@ impl EntryIndex {
         alloc: Global,
         disk: &mut D,
         history: &Reigns,
+        starts: &[u64],
         number: u64,
     ) -> Result<Option<Entry>, IndexError>
+        requires starts { AreStarts history.now starts.now }
         requires first { 1 ≤ number }
         requires regions { self.now.regions ≤ 8 }
-        ensures entry { IfOk result (λ found. IfSome (D.disk disk.old).content (λ files. (seq : defs.Sequence) → Indexes files history.now self.now seq
+        ensures entry { IfOk result (λ found. IfSome (D.disk disk.old).content (λ files. (seq : defs.Sequence) → Indexes (InFiles files) history.now self.now seq
             → option_map entry_value found ≡ slice_get seq (number - 1))) }
         ensures number { IfOk result (λ found. IfSome found (λ e. e.number ≡ number)) }
-        ensures outside { (file offset : ℕ) → IsErrOf result (IndexError.NotAFile file offset) → IfSome (D.disk disk.old).content (λ files. (seq : defs.Sequence) → Indexes files history.now self.now seq → ⊥) }
+        ensures outside { (file offset : ℕ) → IsErrOf result (IndexError.NotAFile file offset) → IfSome (D.disk disk.old).content (λ files. (seq : defs.Sequence) → Indexes (InFiles files) history.now self.now seq → ⊥) }
         ensures reads { Reads (D.disk disk.old) (D.disk disk.new) }
         ensures later { (D.disk disk.old).faults ≤ (D.disk disk.new).faults }
         ensures cause { IsErrOf result IndexError.Failed → Rose (D.disk disk.old).faults (D.disk disk.new).faults }
@@ -84,9 +88,7 @@ impl EntryIndex {
         let Some(row) = self.row(number) else {
             return Ok(None);
         };
-        let reigns = history.as_slice();
-        let starts = starts_of(alloc, reigns)?;
-        let Some(stamp) = stamp_at(reigns, &starts, number) else {
+        let Some(stamp) = stamp_at(history.as_slice(), starts, number) else {
             return Ok(None);
         };
         let Some(transaction) = read_transaction(alloc, disk, row, number)? else {

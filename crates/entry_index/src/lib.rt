@@ -15,4 +15,4 @@ mod table;
 
 pub use error::IndexError;
 pub use index::EntryIndex;
-pub use place::PartPlace;
+pub use place::{NOWHERE, PartPlace};

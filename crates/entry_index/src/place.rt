@@ -8,3 +8,9 @@ pub struct PartPlace {
     /// The place of the gate before its body, in bytes from the start of that generation's journal.
     pub offset: u64,
 }
+
+/// The place of no part.
+pub const NOWHERE: PartPlace = PartPlace {
+    generation: 0,
+    offset: 0,
+};

@@ -1,5 +1,5 @@
 //! Entries read from the places of their parts.
-ghost use Rattle.std.specs.Prelude.{◌≡◌, ◌≤◌, ◌<◌, ℕ, List, map, length, Option, get_or, None, IfOk, IfSome, IsErrOf};
+ghost use Rattle.std.specs.Prelude.{◌≡◌, ◌≤◌, ◌<◌, ℕ, List, [], ◌∷◌, ◌++◌, map, length, Option, get_or, None, IfOk, OnOk, IfSome, IsErrOf};
 ghost use Rattle.std.specs.Option.{option_map};
 ghost use Rattle.disk_defs.specs.Disk.{Reads, Rose};
 ghost use Rattle.global_defs.specs.Entry as defs;
@@ -9,7 +9,7 @@ ghost use Rattle.jnl_record.specs.Values.{record_value};
 ghost use Rattle.mupip_recover.specs.Parts.{part_value};
 ghost use Rattle.mupip_recover.specs.Table.{part_in_column};
 ghost use Rattle.mupip_recover.specs.Entries.{stamped};
-ghost use Rattle.entry_index.specs.Parts.{NOWHERE, IsPartAt, AreParts, part_with, read_value};
+ghost use Rattle.entry_index.specs.Parts.{InFiles, NOWHERE, IsPartAt, AreParts, part_with, read_value};
 
 use crate::error::{IndexError, in_file};
 use crate::place::PartPlace;
@@ -90,8 +90,8 @@ fn read_part<D: Disk>(
     place: PartPlace,
 ) -> Result<Option<ReadPart>, IndexError>
     requires { region < 8 }
-    ensures found { IfOk result (λ found. IfSome (D.disk disk.old).content (λ files. (x : Option journal.Part) → IsPartAt files region number place x → option_map read_value found ≡ x)) }
-    ensures outside { (file offset : ℕ) → IsErrOf result (IndexError.NotAFile file offset) → IfSome (D.disk disk.old).content (λ files. (x : Option journal.Part) → IsPartAt files region number place x → ⊥) }
+    ensures found { IfOk result (λ found. IfSome (D.disk disk.old).content (λ files. (x : Option journal.Part) → IsPartAt (InFiles files) region number place x → option_map read_value found ≡ x)) }
+    ensures outside { (file offset : ℕ) → IsErrOf result (IndexError.NotAFile file offset) → IfSome (D.disk disk.old).content (λ files. (x : Option journal.Part) → IsPartAt (InFiles files) region number place x → ⊥) }
     ensures reads { Reads (D.disk disk.old) (D.disk disk.new) }
     ensures later { (D.disk disk.old).faults ≤ (D.disk disk.new).faults }
     ensures cause { IsErrOf result IndexError.Failed → Rose (D.disk disk.old).faults (D.disk disk.new).faults }
@@ -117,6 +117,14 @@ fn read_part<D: Disk>(
     }
 }
 
+/// Adds what was read of a region.
+fn add_found(made: &mut Vec<Option<ReadPart>>, found: Option<ReadPart>) -> Result<(), NoMemory>
+    ensures { OnOk result (made.new.items ≡ made.old.items ++ found ∷ []) }
+{
+    made.push(found)?;
+    Ok(())
+}
+
 /// The parts of an entry at its places, one a region.
 fn read_parts<D: Disk>(
     alloc: Global,
@@ -125,9 +133,9 @@ fn read_parts<D: Disk>(
     number: u64,
 ) -> Result<Vec<Option<ReadPart>>, IndexError>
     requires { length row.now ≤ 8 }
-    ensures read { IfOk result (λ made. IfSome (D.disk disk.old).content (λ files. (part : ℕ → Option journal.Part) → AreParts files number row.now part
+    ensures read { IfOk result (λ made. IfSome (D.disk disk.old).content (λ files. (part : ℕ → Option journal.Part) → AreParts (InFiles files) number row.now part
         → (r : ℕ) → get_or (map (option_map read_value) made.items) r None ≡ part r)) }
-    ensures outside { (file offset : ℕ) → IsErrOf result (IndexError.NotAFile file offset) → IfSome (D.disk disk.old).content (λ files. (part : ℕ → Option journal.Part) → AreParts files number row.now part → ⊥) }
+    ensures outside { (file offset : ℕ) → IsErrOf result (IndexError.NotAFile file offset) → IfSome (D.disk disk.old).content (λ files. (part : ℕ → Option journal.Part) → AreParts (InFiles files) number row.now part → ⊥) }
     ensures reads { Reads (D.disk disk.old) (D.disk disk.new) }
     ensures later { (D.disk disk.old).faults ≤ (D.disk disk.new).faults }
     ensures cause { IsErrOf result IndexError.Failed → Rose (D.disk disk.old).faults (D.disk disk.new).faults }
@@ -135,9 +143,7 @@ fn read_parts<D: Disk>(
     let mut made = Vec::new(alloc);
     for region in 0..row.len() {
         let found = read_part(alloc, disk, region as u8, number, row[region])?;
-        if made.push(found).is_err() {
-            return Err(IndexError::NoMemory);
-        }
+        add_found(&mut made, found)?;
     }
     Ok(made)
 }
@@ -180,16 +186,17 @@ pub fn read_transaction<D: Disk>(
     number: u64,
 ) -> Result<Option<Transaction>, IndexError>
     requires { length row.now ≤ 8 }
-    ensures found { IfOk result (λ found. IfSome (D.disk disk.old).content (λ files. (part : ℕ → Option journal.Part) → AreParts files number row.now part
+    ensures found { IfOk result (λ found. IfSome (D.disk disk.old).content (λ files. (part : ℕ → Option journal.Part) → AreParts (InFiles files) number row.now part
         → (stamp : defs.Stamp) → entry_among part stamp REGIONS ≡ option_map (stamped stamp) found)) }
-    ensures outside { (file offset : ℕ) → IsErrOf result (IndexError.NotAFile file offset) → IfSome (D.disk disk.old).content (λ files. (part : ℕ → Option journal.Part) → AreParts files number row.now part → ⊥) }
+    ensures outside { (file offset : ℕ) → IsErrOf result (IndexError.NotAFile file offset) → IfSome (D.disk disk.old).content (λ files. (part : ℕ → Option journal.Part) → AreParts (InFiles files) number row.now part → ⊥) }
     ensures reads { Reads (D.disk disk.old) (D.disk disk.new) }
     ensures later { (D.disk disk.old).faults ≤ (D.disk disk.new).faults }
     ensures cause { IsErrOf result IndexError.Failed → Rose (D.disk disk.old).faults (D.disk disk.new).faults }
 {
     let parts = read_parts(alloc, disk, row, number)?;
     let table = table_of(alloc, &parts)?;
-    Ok(transaction_at(alloc, &table, 0)?)
+    let found = transaction_at(alloc, &table, 0)?;
+    Ok(found)
 }
 
 /// The file and the place of the first part in a row; those of nothing where there is none.

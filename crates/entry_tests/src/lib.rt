@@ -2,4 +2,10 @@
 #![tactic(auto)]
 
 #[cfg(test)]
-mod rows;
+mod drawn;
+#[cfg(test)]
+mod indexes;
+#[cfg(test)]
+mod journals;
+#[cfg(test)]
+mod sites;

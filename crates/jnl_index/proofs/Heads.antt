@@ -1,5 +1,5 @@
 -- Gates and lengths outside the format, as they are read from a piece.
-use Rattle.std.proofs.Common.{◌≡◌, ℕ, ◌+◌, ◌-◌, ◌≤◌, ◌<◌, List, [], ◌∷◌, take, drop, Option, Some, None, IfSome, refl, subst}
+use Rattle.std.proofs.Common.{◌≡◌, ℕ, ◌+◌, ◌-◌, ◌≤◌, ◌<◌, [], ◌∷◌, take, drop, Option, Some, None, IfSome, refl, subst}
 use Rattle.std.specs.Int.{from_be_bytes, w32}
 use Rattle.disk_defs.specs.Disk.{Files}
 use Rattle.disk_defs.specs.Gates.{NoGate, gate_at}

@@ -1,5 +1,5 @@
 -- Signs of a journal's records, gathered from gate to gate and from generation to generation.
-use Rattle.std.proofs.Common.{◌≡◌, ℕ, suc, ◌≤◌, nat_eq, Bool, true, false, List, [], ◌∷◌, ◌++◌, map, Option, Some, None, IfSome, refl, sym, ◌∙◌, ap, subst, arith, append_assoc, append-nil}
+use Rattle.std.proofs.Common.{◌≡◌, ℕ, suc, ◌+◌, ◌≤◌, nat_eq, Bool, true, false, List, [], ◌∷◌, ◌++◌, take, slice_get, Option, Some, None, IfSome, refl, sym, ◌∙◌, ap, subst, arith, append_assoc, append-nil}
 use Rattle.disk_defs.specs.Disk.{Files, View}
 use Rattle.disk_defs.proofs.Told.{told_at, both_weak}
 use Rattle.journal_defs.specs.Numbers.{journal_file}
@@ -10,10 +10,12 @@ use Rattle.jnl_record.specs.Values.{record_value}
 use Rattle.jnl_file.specs.Reading.{IsNoRecord}
 use Rattle.jnl_file.specs.Generations.{HasNewer, StopsAt, MayJoin as RecordJoins}
 use Rattle.jnl_file.proofs.Newer.{Reached, reached_start, reached_next, reached_end, reached_none, reached_refused}
-use Rattle.jnl_file.proofs.Zips.{zip_append}
+use Rattle.jnl_file.proofs.Zips.{zip_append, zip_length}
 use Rattle.site_defs.specs.OutsideJournal.{IsOutsideAfter, IsOutsideGenerations}
 use Rattle.jnl_index.specs.Signs.{sign_of}
 use Rattle.jnl_index.specs.Places.{IsSignOf, AreSignsOf}
+use Rattle.jnl_index.specs.Order.{bytes_in, AreInOrder, AreNewer}
+use Rattle.jnl_index.proofs.Order.{bytes_append, bytes_own, body_size, older_bytes, newer_more, order_append}
 use Rattle.jnl_index.specs.Pieces.{FindsSign}
 use Rattle.jnl_index.specs.Generations.{MayJoin, HasNewerSigns}
 use Rattle.jnl_index.specs.declared.placed.PlacedSign.{PlacedSign}
@@ -47,6 +49,8 @@ pub record Indexed (files : Files) (region generation previous at : ℕ) (old ne
   pub signs : List PlacedSign
   pub whole : new ≡ old ++ signs
   pub are : AreSignsOf files region signs placed
+  pub place : at ≡ bytes_in generation placed
+  pub in_order : AreNewer generation signs placed
 
 indexed_start : (files : Files) (region generation previous : ℕ) (old : List PlacedSign) → Indexed files region generation previous 0 old old previous
 indexed_start files region generation previous old = record {
@@ -55,6 +59,8 @@ indexed_start files region generation previous old = record {
   signs = [];
   whole = sym (append-nil old);
   are = tt;
+  place = refl;
+  in_order = λ i s there. absurd (cc there);
 }
 
 module _ (files : Files) (region generation previous at : ℕ) (old new : List PlacedSign) (began : ℕ) (w : Indexed files region generation previous at old new began) where
@@ -71,6 +77,8 @@ module _ (files : Files) (region generation previous at : ℕ) (old new : List P
         signs = w.signs ++ p ∷ [];
         whole = ap (λ (l : List PlacedSign). l ++ p ∷ []) w.whole ∙ append_assoc old w.signs (p ∷ []);
         are = zip_append (IsSignOf files region) w.signs (p ∷ []) w.placed (in_generation generation r ∷ []) w.are (record { generation = refl; says = found.2; stands = found.3 }, tt);
+        place = omega (arith, found.1.2, w.place, body_size found.1.0 r found.1.3, bytes_append generation w.placed (in_generation generation r ∷ []), bytes_own generation (r ∷ []));
+        in_order = newer_more generation w.signs w.placed p (in_generation generation r) (zip_length (IsSignOf files region) w.signs w.placed w.are) refl w.place w.in_order;
       }
 
   indexed_end : FindsSign (files (journal_file generation region)) at None → HasNewerSigns files region generation previous old new began
@@ -80,6 +88,7 @@ module _ (files : Files) (region generation previous at : ℕ) (old new : List P
     signs = w.signs;
     whole = w.whole;
     are = w.are;
+    in_order = w.in_order;
   }
 
   indexed_none : IsNoRecord (files (journal_file generation region)) at → StopsAt region generation previous (files (journal_file generation region)) at
@@ -123,7 +132,7 @@ module _ (o : Option Files) (region generation previous at : ℕ) (old new : Lis
 
 -- the signs of a region's journals up to a generation
 abbrev pub HasSigns : Files → ℕ → ℕ → ℕ → List PlacedSign → Type 0
-HasSigns files region g last signs = (journal : List Placed) × IsJournal files region g last journal × AreSignsOf files region signs journal
+HasSigns files region g last signs = (journal : List Placed) × IsJournal files region g last journal × AreSignsOf files region signs journal × AreInOrder signs journal
 
 signs_join : (files : Files) (region g n last began : ℕ) (old new : List PlacedSign) → n ≡ suc g → HasSigns files region g last old → HasNewerSigns files region n last old new began → HasSigns files region n began new
 signs_join files region g n last began old new next so_far more =
@@ -140,7 +149,16 @@ signs_join files region g n last began old new next so_far more =
       whole,
       subst (λ (k : ℕ). IsJournal files region k began whole) (sym next) journal,
       subst (λ (l : List PlacedSign). AreSignsOf files region l whole) (sym more.whole) (zip_append (IsSignOf files region) old more.signs so_far.0 more.placed so_far.2 more.are),
+      subst (λ (l : List PlacedSign). AreInOrder l whole) (sym more.whole) (order_append old more.signs so_far.0 more.placed (zip_length (IsSignOf files region) old so_far.0 so_far.2) so_far.3 placed),
     )
+  where
+    none_before : bytes_in n so_far.0 ≡ 0
+    none_before = older_bytes files region g last n so_far.0 so_far.1 (omega (arith, next))
+
+    placed : (k : ℕ) (s : PlacedSign) → slice_get more.signs k ≡ Some s → s.offset ≡ bytes_in s.generation (so_far.0 ++ take k more.placed)
+    placed k s there =
+        let here = more.in_order k s there in
+        here.1 ∙ omega (arith, none_before, bytes_append n so_far.0 (take k more.placed)) ∙ ap (λ (h : ℕ). bytes_in h (so_far.0 ++ take k more.placed)) (sym here.0)
 
 outside_here : (files : Files) (region last g n began offset : ℕ) (signs : List PlacedSign) → n ≡ suc g → n ≤ last → HasSigns files region g began signs → IsOutsideAfter region n began (files (journal_file n region)) offset
     → IsOutsideGenerations files region last (journal_file n region) offset
@@ -156,7 +174,7 @@ outside_here files region last g n began offset signs next most has outside = re
 
 pub told_none_yet : (o : Option Files) (region : ℕ) → IfSome o (λ files. HasSigns files region 0 0 [])
 told_none_yet None region = tt
-told_none_yet (Some files) region = ([], (refl, refl), tt)
+told_none_yet (Some files) region = ([], (refl, refl), tt, λ i s there. absurd (cc there))
 
 module _ (u v : View) (region g n : ℕ) (next : n ≡ suc g) (content : v.content ≡ u.content) where
   pub told_joins : (last began : ℕ) (old new : List PlacedSign) → IfSome u.content (λ files. HasSigns files region g last old) → IfSome v.content (λ files. HasNewerSigns files region n last old new began)

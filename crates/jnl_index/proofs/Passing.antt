@@ -8,7 +8,8 @@ use Rattle.global_defs.specs.Entry.{Update, Set, Kill, ZKill}
 use Rattle.global_defs.specs.Fields.{short, long, spelled_update, IsUpdate}
 use Rattle.global_defs.proofs.KeyOrder.{key_injective}
 use Rattle.repl_fields.specs.Reading.{ReadsField}
-use Rattle.jnl_index.specs.Fields.{Field, Reads, Skips, key, value, pair, update}
+use Rattle.jnl_index.specs.Fields.{Field, Skips, key, value, pair, update}
+use Rattle.jnl_index.proofs.Chains.{tail}
 
 short_code : (k : Key) → is_key k ≡ true → length (encoded k) < 256
 short_code k form = search rules
@@ -60,9 +61,6 @@ module _ {X : Type 0} (f : Field X) (kind : ℕ) (of : X → Update) (same : (x 
           (x.1 ∙ ap of both.0, both.1),
     ),
   )
-
-tail : {x y : ℕ} {xs ys : List ℕ} → x ∷ xs ≡ y ∷ ys → xs ≡ ys
-tail e = cc
 
 set_only : (u : Update) (r rest : List ℕ) → IsUpdate u → 1 ∷ r ≡ spelled_update u ++ rest → (x : Key × List ℕ) × (u ≡ Set x.0 x.1) × pair.has x × (r ≡ pair.spelled x ++ rest)
 set_only (Set k v) r rest form e = ((k, v), refl, form, tail e)

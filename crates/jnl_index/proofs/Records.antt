@@ -1,22 +1,17 @@
 -- Bodies of each kind, by their fields behind the kind.
-use Rattle.std.proofs.Common.{◌≡◌, ℕ, ◌+◌, ◌<◌, ◌≤◌, ◌^◌, ◌==◌, Bool, true, false, List, [], ◌∷◌, ◌++◌, length, flat_map, arith, Option, Some, None, refl, ap, sym, ◌∙◌, subst}
+use Rattle.std.proofs.Common.{◌≡◌, ℕ, ◌<◌, ◌≤◌, ◌^◌, ◌==◌, Bool, true, false, List, [], ◌∷◌, ◌++◌, length, arith, Some, None, refl, ap, sym, ◌∙◌, subst}
 use Rattle.std.proofs.lemmas.Bool.Decides.{nat_tests}
 use Rattle.std.proofs.lemmas.List.{append-nil, nil_from_length}
-use Rattle.std.specs.Int.{to_be_bytes, w32}
-use Rattle.std.specs.List.{AllByRecursion}
-use Rattle.journal_defs.specs.Journal.{JournalRecord, Pini, Epoch, Pblk, Tcom, Item, IsStart, IsPart, IsItem, Rise, IsInForm, IsJournalBody, spelled_record}
-use Rattle.jnl_record.specs.Heads.{AreItems}
-use Rattle.jnl_index.specs.Fields.{Field, Reads, Sees, then, byte, word, start, mark, head, items}
+use Rattle.journal_defs.specs.Journal.{JournalRecord, Pini, Epoch, Pblk, Tcom, Item, IsInForm, spelled_record}
+use Rattle.jnl_record.proofs.Records.{few}
+use Rattle.jnl_index.specs.Fields.{Field, Reads, Sees, then, word, start, mark, head, items}
 use Rattle.jnl_index.specs.Signs.{sign_of, span_of}
 use Rattle.jnl_index.specs.Telling.{TellsSign, head_fields, IsInRange}
 use Rattle.jnl_index.specs.declared.sign.Span.{Span}
 use Rattle.jnl_index.specs.declared.sign.Sign.{Sign}
 use Rattle.jnl_index.specs.declared.sign.Sign.TheVariants as sign
 use Rattle.jnl_index.specs.declared.parts.Head.{Head}
-use Rattle.jnl_index.proofs.Chains.{front_then, behind_then, joined_then}
-
-tail : {x y : ℕ} {xs ys : List ℕ} → x ∷ xs ≡ y ∷ ys → xs ≡ ys
-tail e = cc
+use Rattle.jnl_index.proofs.Chains.{tail, front_then, behind_then, joined_then}
 
 pub empty_is : (rest : List ℕ) (b : Bool) → b ≡ (length rest == 0) → b ≡ true → length rest ≡ 0
 empty_is rest b is true_of = grind (arith, nat_tests)
@@ -65,12 +60,6 @@ pub no_start : (bytes : List ℕ) → Reads start bytes None → TellsSign (1 �
 no_start bytes none = untold start 1 bytes pini is_first (pini_only bytes) none
 
 module _ (bytes : List ℕ) (version region : ℕ) (before : Bool) (generation previous : ℕ) (rest : List ℕ) (read : Reads start bytes (Some ((version, (region, (before, (generation, previous)))), rest))) where
-  pub longer_start : (length rest ≡ 0 → ⊥) → TellsSign (1 ∷ bytes) None
-  longer_start more = wrong start 1 bytes pini is_first (pini_only bytes) (version, (region, (before, (generation, previous)))) rest read (λ form fact is. more (ap length is))
-
-  pub bad_start : (version ≡ 1 → region < 8 → generation ≤ 65535 → previous < generation → ⊥) → TellsSign (1 ∷ bytes) None
-  bad_start bad = wrong start 1 bytes pini is_first (pini_only bytes) (version, (region, (before, (generation, previous)))) rest read (λ form first is. bad first form.region form.generation.1 form.previous)
-
   pub start_told : version ≡ 1 → region < 8 → generation ≤ 65535 → previous < generation → length rest ≡ 0 → TellsSign (1 ∷ bytes) (Some (sign.Pini region before generation previous))
   start_told first small most earlier none =
       told start 1 bytes pini is_first (pini_only bytes) (version, (region, (before, (generation, previous)))) rest (sign.Pini region before generation previous) read none
@@ -92,12 +81,6 @@ pub no_mark : (bytes : List ℕ) → Reads mark bytes None → TellsSign (2 ∷ 
 no_mark bytes none = untold mark 2 bytes epoch (λ t. Unit {0}) (epoch_only bytes) none
 
 module _ (bytes : List ℕ) (closing : Bool) (number blocks : ℕ) (rest : List ℕ) (read : Reads mark bytes (Some ((closing, (number, blocks)), rest))) where
-  pub longer_mark : (length rest ≡ 0 → ⊥) → TellsSign (2 ∷ bytes) None
-  longer_mark more = wrong mark 2 bytes epoch (λ t. Unit {0}) (epoch_only bytes) (closing, (number, blocks)) rest read (λ form fact is. more (ap length is))
-
-  pub bad_mark : 2 ^ 40 ≤ number → TellsSign (2 ∷ bytes) None
-  bad_mark great = wrong mark 2 bytes epoch (λ t. Unit {0}) (epoch_only bytes) (closing, (number, blocks)) rest read (λ form fact is. omega (arith, form.0, great))
-
   pub mark_told : number < 2 ^ 40 → length rest ≡ 0 → TellsSign (2 ∷ bytes) (Some (sign.Epoch closing number blocks))
   mark_told small none = told mark 2 bytes epoch (λ t. Unit {0}) (epoch_only bytes) (closing, (number, blocks)) rest (sign.Epoch closing number blocks) read none (small, read.0.1.1) refl refl
 
@@ -109,12 +92,6 @@ no_before bytes none (Epoch m) is = let e = is.spelled in absurd cc
 no_before bytes none (Tcom p) is = let e = is.spelled in absurd cc
 
 module _ (bytes : List ℕ) (block : ℕ) (rest : List ℕ) (read : Reads word bytes (Some (block, rest))) where
-  pub other_image : (length rest ≡ 4096 → ⊥) → TellsSign (3 ∷ bytes) None
-  other_image other (Pblk b) is = other (ap length (sym (read.2 b.block b.bytes is.form.0 (tail is.spelled)).1) ∙ is.form.1)
-  other_image other (Pini s) is = let e = is.spelled in absurd cc
-  other_image other (Epoch m) is = let e = is.spelled in absurd cc
-  other_image other (Tcom p) is = let e = is.spelled in absurd cc
-
   pub before_told : length rest ≡ 4096 → TellsSign (3 ∷ bytes) (Some (sign.Pblk block))
   before_told whole = (Pblk (record { block = block; bytes = rest }), record { form = (read.0, whole); spelled = ap (λ t. 3 ∷ t) read.1 }, refl)
 
@@ -136,13 +113,6 @@ part = then head in_head
 
 abbrev tcom : HeadFields × List Item → JournalRecord
 tcom u = Tcom (record { number = u.0.0; mask = u.0.1.0; origin = record { updater = u.0.1.1.0; serial = u.0.1.1.1.0 }; count = count_in u.0; items = u.1 })
-
-few : (list : List Item) (low count : ℕ) → Rise low list → AllByRecursion (IsItem count) list → low ≤ count → low + length list ≤ count
-few [] low count rise each within = omega arith
-few (i ∷ list) low count rise each within =
-    let inside : i.position < count = each.0.position in
-    let others = few list (i.position + 1) count rise.1 each.1 (omega arith) in
-    omega (arith, rise.0, others)
 
 tcom_only : (bytes : List ℕ) (r : JournalRecord) → IsInForm r → 5 ∷ bytes ≡ spelled_record r → (x : HeadFields × List Item) × part.has x × (bytes ≡ part.spelled x) × (r ≡ tcom x) × Unit {0}
 tcom_only bytes (Tcom p) h e =
@@ -198,9 +168,3 @@ no_kind kind bytes one two three five (Pini s) is = let e = is.spelled in one cc
 no_kind kind bytes one two three five (Epoch m) is = let e = is.spelled in two cc
 no_kind kind bytes one two three five (Pblk b) is = let e = is.spelled in three cc
 no_kind kind bytes one two three five (Tcom p) is = let e = is.spelled in five cc
-
-pub no_bytes : TellsSign [] None
-no_bytes (Pini s) is = let e = is.spelled in absurd cc
-no_bytes (Epoch m) is = let e = is.spelled in absurd cc
-no_bytes (Pblk b) is = let e = is.spelled in absurd cc
-no_bytes (Tcom p) is = let e = is.spelled in absurd cc

@@ -1,9 +1,10 @@
 -- Records by their places.
-use Rattle.std.proofs.Common.{◌≡◌, ◌≢◌, inl, inr, ℕ, ◌+◌, ◌-◌, ◌<◌, ◌≤◌, ◌^◌, List, ◌++◌, length, take, drop, Some, false, Result, Ok, Err, OnOk, is_err, refl, ap, sym, ◌∙◌, subst, arith, length-append, length-take, length-drop, take-append-drop}
+use Rattle.std.proofs.Common.{◌≡◌, inr, ℕ, ◌+◌, ◌<◌, ◌≤◌, List, ◌++◌, length, take, drop, Some, false, Result, Ok, Err, OnOk, is_err, refl, ap, sym, ◌∙◌, subst, arith, length-append, length-take, length-drop}
 use Rattle.std.proofs.lemmas.List.{take-take, drop-take, drop-drop}
+use Rattle.std.proofs.Math.Seq.{take-add}
 use Rattle.std.proofs.lemmas.Nat.{from_be_bytes-to_be_bytes_4}
 use Rattle.std.specs.Int.{from_be_bytes, to_be_bytes, w32}
-use Rattle.disk_defs.specs.Gates.{Body, Open, gate_at, framed, IsBody}
+use Rattle.disk_defs.specs.Gates.{Body}
 use Rattle.gated_file.specs.Reading.{HasBody}
 use Rattle.gated_file.proofs.Gates.{body_opens}
 use Rattle.journal_defs.specs.Journal.{JournalRecord, Pini, Epoch, Pblk, Tcom, IsJournalBody}
@@ -11,14 +12,11 @@ use Rattle.journal_laws.proofs.Readings.{journal_body}
 use Rattle.jnl_record.specs.Values.{record_value}
 use Rattle.jnl_record.specs.declared.record.JnlRecord.{JnlRecord}
 use Rattle.jnl_record.specs.declared.record.JnlRecord.TheVariants as code
-use Rattle.jnl_file.specs.Reading.{FindsRecord, IsNoRecord}
+use Rattle.jnl_file.specs.Reading.{IsNoRecord}
 use Rattle.jnl_index.specs.Signs.{sign_of}
 use Rattle.jnl_index.specs.Places.{StandsAt, HasLength}
 use Rattle.jnl_index.specs.Pieces.{FindsSign}
 use Rattle.jnl_index.specs.declared.sign.Sign.{Sign}
-
-take_sum : (m n : ℕ) (l : List ℕ) → take (m + n) l ≡ take m l ++ take n (drop m l)
-take_sum m n l = sym (take-append-drop m (take (m + n) l)) ∙ ap (λ (x : List ℕ). x ++ drop m (take (m + n) l)) (take-take m (m + n) l (omega arith)) ∙ ap (λ (x : List ℕ). take m l ++ x) (drop-take m n l)
 
 pub five_on : (file : List ℕ) (at : ℕ) → drop 4 (drop (at + 1) file) ≡ drop (at + 5) file
 five_on file at = let four : at + 1 + 4 ≡ at + 5 = omega arith in drop-drop 4 (at + 1) file ∙ ap (λ (k : ℕ). drop k file) four
@@ -34,7 +32,7 @@ module _ (file : List ℕ) (at n : ℕ) (has : HasLength file at n) where
     spelled = is;
     size = record { not_empty = omega (arith, has.not_empty, body_size); not_long = omega (arith, has.not_long, body_size) };
     there = ap (λ (k : ℕ). take (4 + k) (drop (at + 1) file)) body_size
-        ∙ take_sum 4 n (drop (at + 1) file)
+        ∙ take-add 4 n (drop (at + 1) file)
         ∙ ap (λ (l : List ℕ). l ++ take n (drop 4 (drop (at + 1) file))) has.head
         ∙ ap (λ (l : List ℕ). to_be_bytes w32 n ++ take n l) (five_on file at)
         ∙ ap (λ (k : ℕ). to_be_bytes w32 k ++ take n (drop (at + 5) file)) (sym body_size);

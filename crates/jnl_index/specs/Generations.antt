@@ -5,6 +5,7 @@ use Rattle.journal_defs.specs.Numbers.{journal_file}
 use Rattle.journal_defs.specs.Sequence.{Placed}
 use Rattle.jnl_file.specs.Generations.{HasNewer}
 use Rattle.jnl_index.specs.Places.{AreSignsOf}
+use Rattle.jnl_index.specs.Order.{AreNewer}
 use Rattle.jnl_index.specs.declared.placed.PlacedSign.{PlacedSign}
 use Rattle.jnl_index.specs.declared.sign.Sign.{Sign}
 use Rattle.jnl_index.specs.declared.sign.Sign.TheVariants.{Pini, Epoch, Pblk, Tcom}
@@ -27,3 +28,4 @@ pub record HasNewerSigns (files : Files) (region generation previous : ℕ) (old
   pub signs : List PlacedSign
   pub whole : new ≡ old ++ signs
   pub are : AreSignsOf files region signs placed
+  pub in_order : AreNewer generation signs placed

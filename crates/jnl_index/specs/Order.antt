@@ -27,6 +27,10 @@ pub record IsAmong (journal : List Placed) (generation offset : ℕ) (r : Journa
 abbrev pub AreInOrder : List PlacedSign → List Placed → Type 0
 AreInOrder signs journal = (i : ℕ) (s : PlacedSign) → slice_get signs i ≡ Some s → s.offset ≡ bytes_in s.generation (take i journal)
 
+-- the same of the signs of one generation's records
+abbrev pub AreNewer : (generation : ℕ) → List PlacedSign → List Placed → Type 0
+AreNewer generation signs placed = (i : ℕ) (s : PlacedSign) → slice_get signs i ≡ Some s → (s.generation ≡ generation) × (s.offset ≡ bytes_in generation (take i placed))
+
 -- each of these records of a region is of a generation from 1 to h, and stands at its place in that generation's file
 abbrev pub StandUpTo : Files → (region : ℕ) → (h : ℕ) → List Placed → Type 0
 StandUpTo files region h journal = (g o : ℕ) (r : JournalRecord) → IsAmong journal g o r → (1 ≤ g) × (g ≤ h) × StandsAt (files (journal_file g region)) o r

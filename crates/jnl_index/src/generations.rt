@@ -9,6 +9,7 @@ ghost use Rattle.jnl_file.specs.Errors.{error_in};
 ghost use Rattle.jnl_file.specs.Reading.{IsNoRecord};
 ghost use Rattle.jnl_file.specs.Generations.{AreJournals, AreDurable, StopsAt};
 ghost use Rattle.site_defs.specs.OutsideJournal.{IsOutsideAfter, IsOutsideGenerations};
+ghost use Rattle.jnl_index.specs.Order.{AreInOrder};
 ghost use Rattle.jnl_index.specs.Places.{AreSignsOf};
 ghost use Rattle.jnl_index.specs.Pieces.{IsPieceOf, FindsSign};
 ghost use Rattle.jnl_index.specs.Generations.{MayJoin, HasNewerSigns};
@@ -199,7 +200,7 @@ pub fn index_generations<D: Disk>(
 ) -> Result<RegionSigns, GenerationsError>
     requires region { region < 8 }
     requires last { last ≤ 65535 }
-    ensures read { IfOk result (λ made. IfSome (D.disk disk.old).content (λ files. (journal : List Placed) × IsJournal files region last made.last_began journal × AreSignsOf files region made.signs.items journal)) }
+    ensures read { IfOk result (λ made. IfSome (D.disk disk.old).content (λ files. (journal : List Placed) × IsJournal files region last made.last_began journal × AreSignsOf files region made.signs.items journal × AreInOrder made.signs.items journal)) }
     ensures began { IfOk result (λ made. made.last_began ≤ last) }
     ensures durable { OnOk result (IfSome (D.disk disk.old).content (AreDurable (D.disk disk.new) region last)) }
     ensures outside { (file offset : ℕ) → IsErrOf result (GenerationsError.NotAFile file offset) → IfSome (D.disk disk.old).content (λ files. IsOutsideGenerations files region last file offset) }

@@ -52,6 +52,8 @@ use Rattle.entry_index.specs.declared.index.EntryIndex.{EntryIndex}
 use Rattle.site_store.proofs.Indexing.{index_begun, stand_same}
 use Rattle.site_store.proofs.Remembered.{remembered_length}
 use Rattle.site_store.proofs.Parts.{no_entry_no_part}
+use Rattle.entry_index.specs.Found.{entry_count, IsWhole}
+use Rattle.entry_index.specs.Among.{IsIndexOf}
 
 -- limits
 filter_all : (n : ℕ) (rs : List Reign) → AllByRecursion (λ (r : Reign). r.start ≤ n) rs → length (filter (λ (r : Reign). nat_le r.start n) rs) ≡ length rs

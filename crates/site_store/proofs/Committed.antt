@@ -24,8 +24,8 @@ use Rattle.journal_defs.specs.Journal.{JournalRecord, Part}
 use Rattle.journal_defs.specs.Instance.{InstanceRecord, generation, regions}
 use Rattle.journal_defs.specs.Directory.{Pattern, patterns}
 use Rattle.journal_defs.specs.Surviving.{reigns}
-use Rattle.journal_defs.specs.Sequence.{Records}
-use Rattle.journal_defs.specs.Growth.{AreEntries, tcoms}
+use Rattle.journal_defs.specs.Sequence.{Records, entry_with}
+use Rattle.journal_defs.specs.Growth.{AreEntries, tcoms, AreNumbered}
 use Rattle.journal_defs.specs.Split.{split, mask_of, IsSplit}
 use Rattle.journal_defs.specs.Fit.{IsSoundImage, HasFewNodes, region_of_update}
 use Rattle.journal_laws.proofs.Appending.{journal_same}
@@ -50,7 +50,7 @@ use Rattle.site_regions.specs.Joined.{joined, AreChanged}
 use Rattle.site_store.specs.Site.{Remembers, IsReady, AreHeld, Keeps, IsOpen, HasReign, HasRoomFor, AreOnBlocks, with_entry, count_of}
 use Rattle.site_store.proofs.OnBlocks.{on_same}
 use Rattle.site_store.proofs.HeldRegions.{held_stays, held_changed, no_journal, changed_not, synced_stays}
-use Rattle.site_store.specs.Committing.{Enters, IsSameSite, IsSameMemory, IsOwnJournal, ArePartsOf, parts_of}
+use Rattle.site_store.specs.Committing.{Enters, IsSameSite, IsSameMemory, IsOwnJournal, ArePartsOf, parts_of, AddsPlaces}
 use Rattle.site_store.proofs.Frames as frames
 use Rattle.site_store.proofs.Remembered.{remembered_length, globals_more}
 use Rattle.site_store.proofs.Standing.{reads_of, reads_so, told_of, still, keeps_images}
@@ -63,6 +63,8 @@ use Rattle.site_store.proofs.OpenedTo.{one_image}
 use Rattle.journal_laws.proofs.Merging as merging
 use Rattle.site_store.proofs.Newest as newest
 use Rattle.site_store.proofs.Parts.{parts_more}
+use Rattle.entry_index.specs.Found.{entry_count, IsWhole}
+use Rattle.entry_index.specs.declared.index.EntryIndex.{EntryIndex}
 
 -- the parts that were appended are those of the transaction
 pub parts_appended : (v : View) (s : OpenSite) (t : Transaction) (parts : PartRecords) (before js : List RegionJournal) (hard waiting : ℕ → List JournalRecord) → length js ≡ length before → length before ≤ 8

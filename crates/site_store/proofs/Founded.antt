@@ -8,8 +8,10 @@ use Rattle.global_defs.specs.Entry.{Sequence, state}
 use Rattle.journal_defs.specs.Instance.{generation, regions}
 use Rattle.journal_defs.specs.Sequence.{Placed}
 use Rattle.journal_defs.specs.Fit.{IsSoundImage}
-use Rattle.entry_index.specs.Found.{AreFound, AreSaid, entry_count}
-use Rattle.entry_index.proofs.AmongLaws.{counts_entries, signs_said}
+use Rattle.entry_index.specs.Found.{entry_count}
+use Rattle.region_opening.specs.Signs.{AllSay}
+use Rattle.entry_index.proofs.AmongLaws.{counts_entries}
+use Rattle.site_store.proofs.Without.{signs_say}
 use Rattle.site_defs.specs.Contents.{Contents}
 use Rattle.site_defs.specs.Stands.{IsSite, Stands}
 use Rattle.site_defs.specs.OutsideBlocks.{IsOutsideOpening, HaveOutsideBlocks, whole}
@@ -94,7 +96,7 @@ again f k = record { read = record { log = k.log; directory = f.read.directory; 
 
 -- no region needs forward recovery, by all that the signs say
 abbrev pub NoneNeeds : FoundFiles → ℕ → Type 0
-NoneNeeds f n = (journal : ℕ → List Placed) → AreSaid (found_signs f) journal → NoneIsWithout (found_records f journal) n
+NoneNeeds f n = (journal : ℕ → List Placed) → AllSay (found_signs f) journal → NoneIsWithout (found_records f journal) n
 
 stood_in : (anew : Bool) (u w : View) (f : FoundFiles) (k : StandingSite) → HasFound (again f k) → IsOpenAs anew u w (again f k) (entry_count k.entries) k.globals
     → (anew ≡ false → NoneNeeds (again f k) (entry_count k.entries)) → (files : Files) → u.content ≡ Some files → Given w (again f k) files → (journal : ℕ → List Placed) × (seq : Sequence) × StandsIn anew w k journal seq files
@@ -113,7 +115,7 @@ stood_in anew u w f k has opens none files told (journal, seq, is) =
         indexed = is.indexed;
         stand = is.stand;
         broken_is = is.broken_is;
-        without = λ no. subst (NoneIsWithout (records_of k journal)) count (none no journal (signs_said files (found_signs f) journal is.found.are_signs));
+        without = λ no. subst (NoneIsWithout (records_of k journal)) count (none no journal (signs_say files (found_signs f) journal is.found.are_signs));
         blocks = subst (λ (m : ℕ). StandOn anew files (records_of k journal) m k.globals) count blocks;
         nodes = λ sound. nodes sound ∙ ap state all;
       },
@@ -167,12 +169,17 @@ module _ (u v : View) (f : FoundFiles) (has : HasFound f) (was : WasFound u v f)
       at_files u.content files (IfFound f (λ y seq files. IsSoundImage files y seq → ⊥)) told (told_at u.content v.content (IfFound f (λ y seq files. IsSoundImage files y seq → ⊥)) same out) (found_records f x.0) x.1 x.2.found
       (site_read f.read.log.records (last_of f.read.last_began.items) x.0 x.1 has.form x.2.found.sequence files c x.2.read.holds site).0))
 
+-- nothing is there that what was found doesn't say
+pub none_there : (u v : View) (f : FoundFiles) (P : Files → Type 0) → WasFound u v f → v.content ≡ u.content → IfSome v.content (IfFound f (λ _ _ _. ⊥)) → IfSome u.content P
+none_there u v f P was same never = told_then u.content (Given v f) P was.told (λ files told x.
+    absurd (at_files u.content files (IfFound f (λ _ _ _. ⊥)) told (told_at u.content v.content (IfFound f (λ _ _ _. ⊥)) same never) (found_records f x.0) x.1 x.2.found))
+
 -- the first region that needs forward recovery
-pub first_needing : (u v : View) (f : FoundFiles) → HasFound f → WasFound u v f → (region : ℕ) → ((journal : ℕ → List Placed) → AreSaid (found_signs f) journal → (generation : ℕ) × IsFirstWithout (found_records f journal) (entry_count f.entries) region generation)
+pub first_needing : (u v : View) (f : FoundFiles) → HasFound f → WasFound u v f → (region : ℕ) → ((journal : ℕ → List Placed) → AllSay (found_signs f) journal → (generation : ℕ) × IsFirstWithout (found_records f journal) (entry_count f.entries) region generation)
     → IfSome u.content (λ files. HaveFirstWithout files region)
 first_needing u v f has was region first =
     weaker_told u.content (Given v f) (λ files. HaveFirstWithout files region) was.told (λ files x.
-    let said = first x.0 (signs_said files (found_signs f) x.0 x.2.found.are_signs) in
+    let said = first x.0 (signs_say files (found_signs f) x.0 x.2.found.are_signs) in
     let count = found_count v f x.0 x.1 files has x.2 in (
       found_records f x.0,
       x.1,

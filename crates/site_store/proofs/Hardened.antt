@@ -43,6 +43,7 @@ use Rattle.site_store.proofs.Newest as newest
 use Rattle.site_store.proofs.HeldRegions.{changed_not, no_journal, synced_stays}
 use Rattle.site_store.proofs.OnBlocks.{on_same, on_more, on_chosen, parts_plain}
 use Rattle.site_store.proofs.Parts.{no_entry_no_part}
+use Rattle.journal_defs.specs.Surviving.{reigns}
 
 -- each moment of a hardening of these journals
 abbrev pub HardenMoments : View → View → List RegionJournal → Type 0

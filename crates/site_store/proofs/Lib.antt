@@ -42,6 +42,8 @@ pub mod Owned
 pub mod Histories
 pub mod Pieces
 pub mod TheFiles
+pub mod Shown
+pub mod ReadFiles
 pub mod Places
 pub mod Indexing
 pub mod Indexed

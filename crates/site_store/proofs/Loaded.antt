@@ -42,6 +42,9 @@ use Rattle.site_store.proofs.Found.{instance_one}
 use Rattle.site_store.proofs.Drawn.{S, C, text, site_read, left_read, site_either, standing_either, draws_all}
 use Rattle.site_store.proofs.Alike.{image_sound, image_site}
 use Rattle.site_store.proofs.OpenedTo.{newly, newly_at, open_to}
+use Rattle.entry_index.specs.Found.{IsWhole}
+use Rattle.entry_index.specs.Among.{IsIndexOf}
+use Rattle.jnl_index.specs.Order.{StandUpTo}
 
 -- what was opened is what any records of the files stand for
 pub opened_from : (o : Option Files) (v : View) (rs : List InstanceRecord) (last : ℕ → ℕ) (journal : ℕ → List Placed) (seq : Sequence) (s : OpenSite) → IfSome o (WasRead v rs last journal) → IsSequence (record { instance = rs; journal = journal }) seq

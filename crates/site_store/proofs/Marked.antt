@@ -12,12 +12,12 @@ use Rattle.disk_defs.specs.Frames.{OthersStay, OnlyIn}
 use Rattle.disk_defs.proofs.Moments.{weaker, holds_now}
 use Rattle.global_defs.specs.Entry.{Globals, Sequence, state}
 use Rattle.journal_defs.specs.Numbers.{INSTANCE, journal_file}
-use Rattle.journal_defs.specs.Journal.{JournalRecord}
+use Rattle.journal_defs.specs.Journal.{JournalRecord, Part}
 use Rattle.journal_defs.specs.Instance.{InstanceRecord, generation, regions}
 use Rattle.journal_defs.specs.Directory.{Pattern, patterns, region_of}
 use Rattle.journal_defs.specs.Sequence.{Placed, Records}
 use Rattle.journal_defs.specs.Stands.{in_generation}
-use Rattle.journal_defs.specs.Growth.{AreEntries, tcoms}
+use Rattle.journal_defs.specs.Growth.{AreEntries, tcoms, appended}
 use Rattle.journal_defs.specs.Epochs.{chosen, first_without}
 use Rattle.journal_defs.specs.Sound.{region_state, NoEpochPast}
 use Rattle.journal_defs.specs.Fit.{IsSoundImage}
@@ -56,6 +56,12 @@ use Rattle.site_store.proofs.Fronted as fronted
 use Rattle.site_store.proofs.Fronted.{has_epoch, one_if}
 use Rattle.site_store.specs.Finding.{HasLayout}
 use Rattle.block_laws.specs.Nodes.{union}
+use Rattle.entry_index.specs.Found.{entry_count, IsWhole}
+use Rattle.entry_index.specs.Among.{IsIndexOf}
+use Rattle.entry_index.specs.declared.index.EntryIndex.{EntryIndex}
+use Rattle.entry_index.proofs.AmongLaws.{index_behind}
+use Rattle.journal_defs.specs.Surviving.{reigns}
+use Rattle.site_store.proofs.Indexing.{stand_same}
 
 -- what an epoch may change is no instance file, no text and no older journal
 away_instance : (g n : ℕ) → IsEpochFile g n INSTANCE → ⊥

@@ -1,11 +1,11 @@
 -- What an open site's images stand for, and what they still stand for once nothing but room has changed.
-use Rattle.std.proofs.Common.{ℕ, true, length, take, None, Some, subst, refl}
+use Rattle.std.proofs.Common.{ℕ, true, length, take, None, Some, subst, refl, suc, sym, ◌≡◌, ◌++◌}
 use Rattle.std.specs.Prelude.{Option, IfSome, IsSome, IsSomeAnd}
 use Rattle.std.proofs.Math.Seq.{take-length}
 use Rattle.disk_defs.specs.Disk.{Files, View, Image, IsLawful, ReadsAfter}
 use Rattle.disk_defs.specs.Frames.{SameOutside, OthersStay}
 use Rattle.disk_defs.proofs.Told.{weaker_told}
-use Rattle.journal_defs.specs.Growth.{tcoms}
+use Rattle.journal_defs.specs.Growth.{tcoms, appended}
 use Rattle.instance_file.specs.Instance as instances
 use Rattle.region_journals.specs.Journals.{KeepsJournals}
 use Rattle.site_defs.specs.Contents.{Contents}
@@ -15,6 +15,9 @@ use Rattle.site_store.specs.declared.site.OpenSite.{OpenSite}
 use Rattle.site_regions.specs.Joined.{AreChanged}
 use Rattle.site_store.specs.Site.{Keeps, IsOpen}
 use Rattle.site_store.proofs.OnBlocks.{on_changed}
+use Rattle.entry_index.specs.Among.{IsIndexOf}
+use Rattle.entry_index.specs.declared.index.EntryIndex.{EntryIndex}
+use Rattle.journal_defs.specs.Surviving.{reigns}
 
 -- with all of its entries hardened, each image stands for its contents
 pub images_stand : (v : View) (c : Contents) (s : OpenSite) → IsOpen v true c (length c.sequence) s → (f : Files) → Image v f → IsSite f c

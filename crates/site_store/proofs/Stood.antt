@@ -11,7 +11,7 @@ use Rattle.jnl_file.specs.Records.{settled}
 use Rattle.jnl_file.specs.declared.journal.Journal.{Journal}
 use Rattle.journal_defs.specs.Instance.{InstanceRecord, generation, regions}
 use Rattle.journal_defs.specs.Numbers.{INSTANCE}
-use Rattle.journal_defs.specs.Sequence.{Records, IsSequence}
+use Rattle.journal_defs.specs.Sequence.{Records, IsSequence, Placed}
 use Rattle.journal_defs.specs.Stands.{AreRecords, IsInstance}
 use Rattle.journal_defs.specs.Fit.{IsSoundImage}
 use Rattle.site_files.specs.Loading.{AreNext, WasRead, MayDrawAs, HasDrawnAs, last_of, next_cut, next_broken, next_pini_as}
@@ -29,7 +29,11 @@ use Rattle.site_store.proofs.TheFiles.{told_then, as_told}
 use Rattle.site_store.proofs.Loaded as loaded
 use Rattle.site_store.proofs.Loaded.{Moments, Lefts, StandsOpen}
 use Rattle.site_store.proofs.OpenedTo.{newly}
-use Rattle.entry_index.specs.Found.{entry_count}
+use Rattle.entry_index.specs.Found.{entry_count, IsWhole}
+use Rattle.entry_index.specs.Among.{IsIndexOf}
+use Rattle.entry_index.specs.declared.index.EntryIndex.{EntryIndex}
+use Rattle.jnl_index.specs.Order.{StandUpTo}
+use Rattle.journal_defs.specs.Surviving.{reigns}
 
 all_three : (o : Option Files) (A B C : Files → Type 0) → IfSome o A → IfSome o B → IfSome o C → IfSome o (λ f. A f × B f × C f)
 all_three None A B C a b c = tt

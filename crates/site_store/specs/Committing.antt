@@ -1,5 +1,5 @@
 -- Entries on their way into the journals.
-use Rattle.std.specs.Prelude.{◌≡◌, ◌+◌, ◌<◌, ◌≤◌, ℕ, List, [], ◌∷◌, ◌++◌, length, fold, Option, Some, None}
+use Rattle.std.specs.Prelude.{◌≡◌, ◌+◌, ◌<◌, ◌≤◌, ℕ, List, [], ◌∷◌, ◌++◌, length, fold, Option, Some, None, slice_get, get_or}
 use Rattle.global_defs.specs.Entry.{Update, Transaction, apply}
 use Rattle.gvn_model.specs.declared.entry.Entry as code_entry
 use Rattle.gvn_model.specs.declared.entry.Transaction as code_transaction
@@ -18,6 +18,7 @@ use Rattle.site_store.specs.Site.{count_of}
 use Rattle.entry_index.specs.declared.index.EntryIndex.{EntryIndex}
 use Rattle.entry_index.specs.declared.place.PartPlace.{PartPlace}
 use Rattle.entry_index.specs.Parts.{NOWHERE}
+use Rattle.region_journals.specs.declared.journals.RegionJournal.{RegionJournal}
 
 -- where a region's part of the next entry stands: behind all that its newest journal has; nowhere where it has no part
 abbrev pub place_behind : Option JournalRecord → Option RegionJournal → PartPlace

@@ -61,12 +61,12 @@ pub record IsReady (v : View) (s : OpenSite) : Type 0 where
   pub layout : HasLayout s.instance.records s.layout
   pub journals : AreReady v (generation s.instance.records) s.journals.journals.items
   pub each_region : length s.journals.journals.items ≡ length (regions s.instance.records)
-  pub regions : AreHeld v (length (regions s.instance.records)) s.globals
-  pub few : count_of s < 2 ^ 40
   -- a place for each region of each entry
   pub whole : IsWhole s.entries
   pub some_place : 1 ≤ s.entries.regions
   pub each_place : s.entries.regions ≡ length (regions s.instance.records)
+  pub regions : AreHeld v (length (regions s.instance.records)) s.globals
+  pub few : count_of s < 2 ^ 40
 
 -- The records of a site whose newest generation g + 1 has begun in each region: the journals of that generation alone may grow.
 pub record AreNewest (c : Contents) (s : Records) (g : ℕ) (last : ℕ → ℕ) (older : ℕ → List Placed) (newer : ℕ → List JournalRecord) : Type 0 where

@@ -58,7 +58,8 @@ impl OpenSite {
     {
         self.globals.reserve(t.updates.as_slice())?;
         let row = next_places(&self.journals, parts);
-        self.entries.push(&row[..usize::from(self.entries.regions)])?;
+        let regions = usize::from(self.entries.regions);
+        self.entries.push(&row[..regions])?;
         self.globals.make(t.updates.as_slice());
         Ok(())
     }

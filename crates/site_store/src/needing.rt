@@ -2,7 +2,7 @@
 ghost use Rattle.std.specs.Prelude.{◌≡◌, None, IfOk, IfSome};
 ghost use Rattle.site_store.specs.Needing.{IsFirstWithout, NoneIsWithout};
 ghost use Rattle.site_store.specs.Standing.{HasFound, found_records, found_signs};
-ghost use Rattle.entry_index.specs.Found.{AreSaid};
+ghost use Rattle.region_opening.specs.Signs.{AllSay};
 
 use crate::preparing::FoundFiles;
 use gvn_key::NoMemory;
@@ -17,8 +17,8 @@ pub fn first_needing(
     target: u64,
 ) -> Result<Option<WithoutImages>, NoMemory>
     requires has { HasFound found.now }
-    ensures none { IfOk result (λ first. first ≡ None → (journal : ℕ → List Placed) → AreSaid (found_signs found.now) journal → NoneIsWithout (found_records found.now journal) target) }
-    ensures first { IfOk result (λ first. IfSome first (λ x. (journal : ℕ → List Placed) → AreSaid (found_signs found.now) journal → IsFirstWithout (found_records found.now journal) target x.region x.generation)) }
+    ensures none { IfOk result (λ first. first ≡ None → (journal : ℕ → List Placed) → AllSay (found_signs found.now) journal → NoneIsWithout (found_records found.now journal) target) }
+    ensures first { IfOk result (λ first. IfSome first (λ x. (journal : ℕ → List Placed) → AllSay (found_signs found.now) journal → IsFirstWithout (found_records found.now journal) target x.region x.generation)) }
 {
     first_without_images(alloc, &found.read.log.records, &found.read.signs, target)
 }

@@ -15,7 +15,8 @@ ghost use Rattle.site_defs.specs.OutsideBlocks.{IsOutsideOpening, HaveOutsideBlo
 ghost use Rattle.site_files.specs.Loading.{next_cut};
 ghost use Rattle.site_store.specs.Finding.{HasLayout, mapping_of};
 ghost use Rattle.site_store.specs.Needing.{IsFirstWithout, NoneIsWithout, HaveFirstWithout};
-ghost use Rattle.entry_index.specs.Found.{AreSaid, entry_count};
+ghost use Rattle.region_opening.specs.Signs.{AllSay};
+ghost use Rattle.entry_index.specs.Found.{entry_count};
 ghost use Rattle.site_store.specs.Standing.{HasFound, WasFound, IsFoundAs, IsOpenFor, IsOpenAs, IfFound, Stood, found_records, found_signs};
 
 use crate::error::SiteError;
@@ -186,7 +187,7 @@ fn stand_anew<D: Disk>(
     requires has { HasFound found }
     ensures found_as { IfOk result (IsFoundAs found) }
     ensures opened { IfOk result (λ k. IsOpenAs true (D.disk disk.old) (D.disk disk.new) found (entry_count found.entries) k.globals) }
-    ensures outside { (file offset : ℕ) → IsErrOf result (SiteError.NotAFile file offset) → IfSome (D.disk disk.old).content (λ _. ⊥) }
+    ensures outside { (file offset : ℕ) → IsErrOf result (SiteError.NotAFile file offset) → IfSome (D.disk disk.old).content (IfFound found (λ _ _ _. ⊥)) }
     ensures reads { Reads (D.disk disk.old) (D.disk disk.new) }
     ensures later { (D.disk disk.old).faults ≤ (D.disk disk.new).faults }
     ensures count { (fault : ℕ) → IsErrOf result (SiteError.Failed fault) → fault ≡ (D.disk disk.new).faults }
@@ -208,8 +209,8 @@ fn stand_anew<D: Disk>(
 /// Sees that no region needs forward recovery for so many entries.
 fn check_images(alloc: Global, found: &FoundFiles, target: u64) -> Result<(), SiteError>
     requires has { HasFound found.now }
-    ensures none { OnOk result ((journal : ℕ → List Placed) → AreSaid (found_signs found.now) journal → NoneIsWithout (found_records found.now journal) target) }
-    ensures first { (region : ℕ) → IsErrOf result (SiteError.NeedForward region) → (journal : ℕ → List Placed) → AreSaid (found_signs found.now) journal → (generation : ℕ) × IsFirstWithout (found_records found.now journal) target region generation }
+    ensures none { OnOk result ((journal : ℕ → List Placed) → AllSay (found_signs found.now) journal → NoneIsWithout (found_records found.now journal) target) }
+    ensures first { (region : ℕ) → IsErrOf result (SiteError.NeedForward region) → (journal : ℕ → List Placed) → AllSay (found_signs found.now) journal → (generation : ℕ) × IsFirstWithout (found_records found.now journal) target region generation }
     ensures causes { OnErr result (((region : ℕ) × IsErrOf result (SiteError.NeedForward region)) ⊎ IsErrOf result SiteError.NoMemory) }
 {
     match first_needing(alloc, found, target)? {

@@ -16,6 +16,7 @@ ghost use Rattle.site_defs.specs.Texts.{node_line, zwrite};
 ghost use Rattle.site_regions.specs.Joined.{joined};
 ghost use Rattle.site_store.specs.Errors.{index_error};
 ghost use Rattle.site_store.specs.Site.{IsReady, IsOpen, count_of};
+ghost use Rattle.entry_index.specs.Parts.{InFiles};
 
 use crate::error::SiteError;
 use crate::site::OpenSite;
@@ -56,12 +57,12 @@ pub fn write_entry<D: Disk>(
     requires starts { AreStarts history.now starts.now }
     requires first { 1 ≤ number }
     requires regions { entries.now.regions ≤ 8 }
-    ensures entry { OnOk result (IfSome (D.disk disk.old).content (λ files. (seq : Sequence) → Indexes files history.now entries.now seq → IfSome (slice_get seq (number - 1)) (λ e. out.new ≡ out.old ++ entry_text number e))) }
+    ensures entry { OnOk result (IfSome (D.disk disk.old).content (λ files. (seq : Sequence) → Indexes (InFiles files) history.now entries.now seq → IfSome (slice_get seq (number - 1)) (λ e. out.new ≡ out.old ++ entry_text number e))) }
     // whatever the disk tells, there are lines of an entry
     ensures some { OnOk result (number ≤ entry_count entries.now → (e : Entry) × (out.new ≡ out.old ++ entry_text number e)) }
     ensures no_entry { entry_count entries.now < number → out.new ≡ out.old }
     ensures without { OnErr result (out.new ≡ out.old) }
-    ensures outside { (file offset : ℕ) → IsErrOf result (SiteError.NotAFile file offset) → IfSome (D.disk disk.old).content (λ files. (seq : Sequence) → Indexes files history.now entries.now seq → ⊥) }
+    ensures outside { (file offset : ℕ) → IsErrOf result (SiteError.NotAFile file offset) → IfSome (D.disk disk.old).content (λ files. (seq : Sequence) → Indexes (InFiles files) history.now entries.now seq → ⊥) }
     ensures reads { Reads (D.disk disk.old) (D.disk disk.new) }
     ensures later { (D.disk disk.old).faults ≤ (D.disk disk.new).faults }
     ensures count { (fault : ℕ) → IsErrOf result (SiteError.Failed fault) → fault ≡ (D.disk disk.new).faults }

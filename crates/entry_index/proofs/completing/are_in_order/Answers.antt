@@ -1,6 +1,5 @@
-use Rattle.std.proofs.Common.{◌≡◌, ℕ, suc, ◌≤◌, drop, List, Option, Some, ◌∙◌, ap, arith}
+use Rattle.std.proofs.Common.{◌≡◌, ℕ, List, Some, ◌∙◌, ap, arith}
 use Rattle.std.specs.List.{flat_map}
-use Rattle.journal_defs.specs.Sequence.{REGIONS}
 use Rattle.mupip_recover.specs.Parts.{items_at}
 use Rattle.mupip_recover.specs.Slots.{next_after, is_at}
 use Rattle.mupip_recover.proofs.InOrder.{region_more}

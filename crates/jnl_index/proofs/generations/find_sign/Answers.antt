@@ -1,4 +1,4 @@
-use Rattle.std.proofs.Common.{rules, ◌≡◌, ◌+◌, ℕ, List, take, drop, Option, Some, IfSome, refl, ap, sym, ◌∙◌, subst}
+use Rattle.std.proofs.Common.{◌≡◌, ◌+◌, ℕ, take, drop, Option, refl, ap, ◌∙◌, subst}
 use Rattle.disk_defs.proofs.Told.{told_at, both_weak}
 use Rattle.gated_file.specs.Reading.{BodyAt, HasBody}
 use Rattle.jnl_file.specs.Reading.{IsNoRecord}

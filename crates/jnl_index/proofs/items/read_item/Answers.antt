@@ -1,6 +1,7 @@
 use Rattle.std.proofs.Common.{arith, rules, Some}
 use Rattle.jnl_index.specs.Fields.{Reads, byte}
-use Rattle.jnl_index.proofs.ItemLists.{no_position, some_item}
+use Rattle.jnl_record.proofs.ItemLists.{no_position}
+use Rattle.jnl_index.proofs.ItemLists.{some_item}
 use Rattle.jnl_index.proofs.items.read_item.Goals as goal
 
 pub returns-in_default-read_u16 : goal.returns-in_default-read_u16

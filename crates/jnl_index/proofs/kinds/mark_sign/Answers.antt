@@ -1,7 +1,7 @@
 use Rattle.std.proofs.Common.{arith}
 use Rattle.jnl_index.specs.Fields.{truth, word, double, number_on}
 use Rattle.jnl_index.proofs.Chains.{front, behind, joined}
-use Rattle.jnl_index.proofs.Records.{no_mark, bad_mark, longer_mark, mark_told, empty_is, not_empty}
+use Rattle.jnl_index.proofs.Records.{no_mark, mark_told, empty_is}
 use Rattle.jnl_index.proofs.kinds.mark_sign.Goals as goal
 
 pub returns-in_err-closing : goal.returns-in_err-closing

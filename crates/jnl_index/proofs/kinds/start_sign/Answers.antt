@@ -1,7 +1,7 @@
 use Rattle.std.proofs.Common.{arith}
 use Rattle.jnl_index.specs.Fields.{byte, truth, word, region_on, mode_on, generations}
 use Rattle.jnl_index.proofs.Chains.{front, behind, joined}
-use Rattle.jnl_index.proofs.Records.{no_start, bad_start, longer_start, start_told, empty_is, not_empty}
+use Rattle.jnl_index.proofs.Records.{no_start, start_told, empty_is}
 use Rattle.jnl_index.proofs.kinds.start_sign.Goals as goal
 
 pub returns-in_err-version : goal.returns-in_err-version

@@ -1,4 +1,3 @@
-use Rattle.std.proofs.Common.{arith}
 use Rattle.jnl_index.proofs.Records.{no_part, no_part_items, bad_part, longer_part, part_told, empty_is, not_empty}
 use Rattle.jnl_index.proofs.parts.part_sign.Goals as goal
 

@@ -1,4 +1,4 @@
-use Rattle.std.proofs.Common.{rules, ◌≡◌, ◌+◌, ◌<◌, ◌≤◌, ℕ, List, length, take, drop, IfSome, ap, sym, ◌∙◌, arith}
+use Rattle.std.proofs.Common.{◌≡◌, ◌+◌, ◌<◌, ◌≤◌, ℕ, List, length, take, drop, ap, sym, ◌∙◌, arith}
 use Rattle.std.specs.Int.{from_be_bytes, w32}
 use Rattle.disk_defs.proofs.Told.{told_at, both_weak}
 use Rattle.journal_defs.specs.Journal.{JournalRecord}

@@ -1,5 +1,4 @@
-use Rattle.std.proofs.Common.{rules, ◌≡◌, ◌+◌, ℕ, List, take, drop, Option, IfSome, sym, ◌∙◌, subst}
-use Rattle.disk_defs.specs.Disk.{Files}
+use Rattle.std.proofs.Common.{rules, ◌≡◌, ◌+◌, ℕ, List, take, drop, sym, ◌∙◌, subst}
 use Rattle.disk_defs.proofs.Told.{told_at, both_weak, weaker_told}
 use Rattle.journal_defs.specs.Journal.{JournalRecord, IsJournalBody}
 use Rattle.jnl_record.specs.Values.{record_value}

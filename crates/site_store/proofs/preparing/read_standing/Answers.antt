@@ -8,7 +8,9 @@ use Rattle.site_defs.specs.OutsideBlocks.{IsOutsideOpening, whole}
 use Rattle.site_store.proofs.Errors.{handed_on}
 use Rattle.site_store.specs.Needing.{IsFirstWithout}
 use Rattle.site_store.specs.Standing.{Stood, found_records}
-use Rattle.site_store.proofs.Founded.{stood_ok, first_needing, blocks_outside, no_site_there}
+use Rattle.site_defs.specs.Contents.{Contents}
+use Rattle.site_defs.specs.Stands.{IsSite}
+use Rattle.site_store.proofs.Founded.{stood_ok, first_needing, blocks_outside, no_site_there, none_there}
 use Rattle.site_store.specs.declared.error.SiteError.TheVariants as error
 use Rattle.site_store.proofs.preparing.read_standing.Goals as goal
 use Rattle.entry_index.specs.Found.{entry_count}
@@ -34,6 +36,21 @@ returns-then-anew-clause-stood g c =
     (stood_ok true u (view c.find_files.new.disk) w f (entry_count f.entries) c.stand_anew.result (g.met.D.Disk.lawful c.stand_anew.new.disk) c.stand_anew.ensures.reads c.find_files.ensures.content
     c.in_ok-found.ensures.has c.in_ok-found.ensures.found refl c.stand_anew.ensures.found_as c.stand_anew.ensures.opened (λ e. absurd (cc e)))
 
+pub returns-then-anew-clause-place : goal.returns-then-anew-clause-place
+returns-then-anew-clause-place g c = λ file offset is.
+    let view = g.D.Disk.disk in
+    none_there (view c.args.disk.now) (view c.find_files.new.disk) c.in_ok-found.found (λ files. IsOutsideOpening files file offset) c.in_ok-found.ensures.found c.find_files.ensures.content (c.stand_anew.ensures.outside file offset is)
+
+pub returns-then-anew-clause-place_anew : goal.returns-then-anew-clause-place_anew
+returns-then-anew-clause-place_anew g c = λ anew file offset is.
+    let view = g.D.Disk.disk in
+    none_there (view c.args.disk.now) (view c.find_files.new.disk) c.in_ok-found.found (λ files. IsOutsideSite files file offset) c.in_ok-found.ensures.found c.find_files.ensures.content (c.stand_anew.ensures.outside file offset is)
+
+pub returns-then-anew-clause-outside : goal.returns-then-anew-clause-outside
+returns-then-anew-clause-outside g c = λ file offset is.
+    let view = g.D.Disk.disk in
+    none_there (view c.args.disk.now) (view c.find_files.new.disk) c.in_ok-found.found (λ files. (c : Contents) → IsSite files c → ⊥) c.in_ok-found.ensures.found c.find_files.ensures.content (c.stand_anew.ensures.outside file offset is)
+
 pub returns-in_err-check_images-clause-needs : goal.returns-in_err-check_images-clause-needs
 returns-in_err-check_images-clause-needs g c =
     let view = g.D.Disk.disk in
@@ -42,7 +59,8 @@ returns-in_err-check_images-clause-needs g c =
     let p = err_from_is_err_and c.from_residual-in_err-check_images.result c.from_residual-in_err-check_images.ensures.1 in
     rw (p.1, p.2) (λ region is.
     let first = c.in_err-check_images.ensures.first region (handed_on c.in_err-check_images.field-0.0 (error.NeedForward region) is) in
-    first_needing (view c.args.disk.now) (view c.find_files.new.disk) f c.in_ok-found.ensures.has c.in_ok-found.ensures.found region first.0 (subst (λ (n : ℕ). IsFirstWithout (found_records f) n region first.0) all first.1))
+    first_needing (view c.args.disk.now) (view c.find_files.new.disk) f c.in_ok-found.ensures.has c.in_ok-found.ensures.found region (λ journal say.
+    let one = first journal say in (one.0, subst (λ (n : ℕ). IsFirstWithout (found_records f journal) n region one.0) all one.1)))
 
 pub returns-clause-stood : goal.returns-clause-stood
 returns-clause-stood g c =

@@ -1,4 +1,4 @@
-use Rattle.std.proofs.Common.{◌+◌, List, map, get_or, Option, None, ◌∙◌, ap, arith}
+use Rattle.std.proofs.Common.{◌+◌, List, get_or, Option, None, ◌∙◌, ap, arith}
 use Rattle.entry_index.specs.declared.sign.PartSign.{PartSign}
 use Rattle.entry_index.specs.Signs.{last_sign}
 use Rattle.mupip_recover.proofs.Columns.{all_seen}

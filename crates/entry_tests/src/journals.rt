@@ -1,0 +1,109 @@
+//! Journals of worked bytes, with their records and signs beside them.
+ghost use Rattle.std.specs.Prelude.{◌≡◌, ◌<◌, ◌≤◌, ◌+◌, length};
+
+use gvn_key::Bytes;
+use jnl_file::journal_file;
+use jnl_index::{PlacedSign, read_sign};
+use jnl_record::{PlacedRecord, decode};
+use repl_disk::{Disk, Failed, MemDisk};
+use std::alloc::Global;
+use std::process::Abort;
+
+/// What a part says.
+#[derive(Clone, Copy)]
+pub struct Worked {
+    /// The entry's number.
+    pub number: u64,
+    /// The regions of the entry.
+    pub mask: u8,
+    /// The updater that made it.
+    pub updater: u8,
+    /// How many updates it has in all regions.
+    pub count: u16,
+    /// So many of the positions are those of the region's updates.
+    pub many: u16,
+    /// The positions, of which there may be fewer.
+    pub positions: [u16; 2],
+    /// The name that each update kills.
+    pub name: u8,
+}
+
+/// The body of a part's record.
+fn body_of(rt: &impl Abort, alloc: Global, part: &Worked) -> Bytes {
+    let mut body = Bytes::new(alloc);
+    body.push(5).expect(rt, "memory");
+    body.push_all(&part.number.to_be_bytes())
+        .expect(rt, "memory");
+    body.push_all(&[part.mask, part.updater, 0, 0, 0, 1])
+        .expect(rt, "memory");
+    body.push_all(&part.count.to_be_bytes())
+        .expect(rt, "memory");
+    body.push_all(&part.many.to_be_bytes()).expect(rt, "memory");
+    for (i, position) in part.positions.iter().enumerate() {
+        if i < usize::from(part.many) {
+            body.push(4).expect(rt, "memory");
+            body.push_all(&position.to_be_bytes()).expect(rt, "memory");
+            body.push_all(&[2, 2, part.name, 0]).expect(rt, "memory");
+        }
+    }
+    body
+}
+
+/// Adds bytes to a file, and answers where they begin.
+fn append(disk: &mut MemDisk, file: u32, bytes: &[u8]) -> Result<u64, Failed> {
+    let Ok(()) = disk.room(file, 1, bytes.len() as u64) else {
+        return Err(Failed);
+    };
+    let end = disk.len(file)?;
+    disk.write_at(file, end, bytes)?;
+    Ok(end)
+}
+
+/// The records of a region in journal order, and their signs.
+#[derive(Drop)]
+pub struct Journal {
+    pub records: Vec<PlacedRecord>,
+    pub signs: Vec<PlacedSign>,
+}
+
+/// The journal of no record.
+pub fn empty(alloc: Global) -> Journal {
+    Journal {
+        records: Vec::new(alloc),
+        signs: Vec::new(alloc),
+    }
+}
+
+impl Journal {
+    /// Puts a part at the end of a region's journal of a generation.
+    pub fn add(
+        &mut self,
+        rt: &impl Abort,
+        alloc: Global,
+        disk: &mut MemDisk,
+        region: u8,
+        generation: u32,
+        part: &Worked,
+    )
+        requires region { region < 8 }
+        requires generation { generation ≤ 65535 }
+    {
+        let body = body_of(rt, alloc, part);
+        let mut bytes = Bytes::of(alloc, b"#").expect(rt, "memory");
+        let long = body.len() as u32;
+        bytes.push_all(&long.to_be_bytes()).expect(rt, "memory");
+        bytes.push_all(body.as_slice()).expect(rt, "memory");
+        let file = journal_file(region, generation);
+        let offset = append(disk, file, bytes.as_slice()).expect(rt, "room");
+        let what = decode(alloc, body.as_slice(), offset).expect(rt, "a record");
+        let sign = read_sign(body.as_slice()).expect(rt, "a sign");
+        let record = PlacedRecord { generation, what };
+        self.records.push(record).expect(rt, "memory");
+        let placed = PlacedSign {
+            generation,
+            offset,
+            sign,
+        };
+        self.signs.push(placed).expect(rt, "memory");
+    }
+}

@@ -1,0 +1,7 @@
+//! Journals looked through once, over disks in memory, and what bodies tell.
+#![tactic(auto)]
+
+#[cfg(test)]
+mod bodies;
+#[cfg(test)]
+mod regions;
