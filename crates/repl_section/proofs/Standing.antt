@@ -25,6 +25,6 @@ stands_after v w c h s lawful is told run bare = record {
   bare = holds_now v w (λ f. HasLeft f (with_sequence c (take h c.sequence)) NO_LEFTOVER) lawful bare;
 }
 
--- as many entries in memory
+-- places of as many entries in memory
 pub entries_counted : (v : View) (told : Bool) (c : Contents) (h : ℕ) (s : OpenSite) → IsOpen v told c h s → count_of s ≡ length c.sequence
 entries_counted v told c h s is = is.remembered.count
