@@ -158,15 +158,16 @@ record IsOneOf (signs : List PlacedSign) (place : PartPlace) : Type 0 where
   there : slice_get signs at ≡ Some sign
   place_is : place ≡ record { generation = sign.generation; offset = sign.offset }
 
+found_in : (instance : List InstanceRecord) (n : ℕ) (p : PlacedSign) (ss : List PlacedSign) (s : PartSign) (o : Option PartSign) → (last_sign instance n ss ≡ Some s → IsOneOf ss s.place) → last_sign instance n ss ≡ o
+    → option_or o (sign_in instance n p) ≡ Some s → IsOneOf (p ∷ ss) s.place
+found_in instance n p ss s None later none is = record { at = zero; sign = p; there = refl; place_is = sign_there instance n p s is }
+found_in instance n p ss s (Some t) later some is =
+    let one = later (some ∙ is) in
+    record { at = suc one.at; sign = one.sign; there = one.there; place_is = one.place_is }
+
 last_found : (instance : List InstanceRecord) (n : ℕ) (ss : List PlacedSign) (s : PartSign) → last_sign instance n ss ≡ Some s → IsOneOf ss s.place
 last_found instance n [] s is = absurd (cc is)
-last_found instance n (p ∷ ss) s is = by_rest (last_sign instance n ss) refl is
-  where
-    by_rest : (o : Option PartSign) → last_sign instance n ss ≡ o → option_or o (sign_in instance n p) ≡ Some s → IsOneOf (p ∷ ss) s.place
-    by_rest None none is = record { at = zero; sign = p; there = refl; place_is = sign_there instance n p s is }
-    by_rest (Some t) some is =
-        let later = last_found instance n ss s (some ∙ is) in
-        record { at = suc later.at; sign = later.sign; there = later.there; place_is = later.place_is }
+last_found instance n (p ∷ ss) s is = found_in instance n p ss s (last_sign instance n ss) (λ some. last_found instance n ss s some) refl is
 
 record_at : (files : Files) (r : ℕ) (signs : List PlacedSign) (js : List Placed) (k : ℕ) (s : PlacedSign) → AreSignsOf files r signs js → slice_get signs k ≡ Some s → (p : Placed) × (slice_get js k ≡ Some p) × IsSignOf files r s p
 record_at files r [] [] k s all there = absurd (cc there)

@@ -5,6 +5,7 @@ ghost use Rattle.disk_defs.specs.Disk.{Reads, Rose};
 ghost use Rattle.global_defs.specs.Entry as defs;
 ghost use Rattle.gvn_model.specs.Entries.{entry_value};
 ghost use Rattle.mupip_recover.specs.Stamps.{AreStarts};
+ghost use Rattle.entry_index.specs.Found.{entry_count};
 ghost use Rattle.entry_index.specs.Indexes.{Indexes};
 ghost use Rattle.entry_index.specs.Parts.{InFiles};
 
@@ -33,6 +34,7 @@ impl EntryIndex {
     pub fn len(&self) -> u64
         ensures rows { 1 ≤ self.now.regions → result ≡ length self.now.places.items / self.now.regions }
         ensures none { self.now.regions ≡ 0 → result ≡ 0 }
+        ensures count { result ≡ entry_count self.now }
     {
         if self.regions == 0 {
             return 0;

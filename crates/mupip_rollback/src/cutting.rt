@@ -1,7 +1,8 @@
 //! Both CUTs of a rollback: of all entries, and of those that stay.
-ghost use Rattle.std.specs.Prelude.{◌≡◌, ◌≤◌, ◌<◌, ◌^◌, ◌++◌, ◌∷◌, [], ℕ, suc, true, List, length, IfSome, IfOk, OnOk, IsErrOf, IsSome, map, false};
+ghost use Rattle.std.specs.Prelude.{◌≡◌, ◌≤◌, ◌<◌, ◌^◌, [], ℕ, suc, true, List, length, IfSome, IfOk, OnOk, IsErrOf, IsSome, map, false};
 ghost use Rattle.disk_defs.specs.Disk.{Files, Image, From, AtEachMoment, Rose};
 ghost use Rattle.disk_defs.specs.Frames.{OthersStay};
+ghost use Rattle.entry_index.specs.Found.{IsWhole, entry_count};
 ghost use Rattle.instance_file.specs.Instance as instances;
 ghost use Rattle.journal_defs.specs.Instance.{generation, regions};
 ghost use Rattle.journal_defs.specs.Sequence.{Placed};
@@ -13,7 +14,6 @@ ghost use Rattle.site_store.specs.Finding.{HasLayout};
 ghost use Rattle.site_store.specs.Site.{AreHeld, IsReady, IsOpen};
 ghost use Rattle.mupip_rollback.specs.Cutting.{IsShort, MaySetAside, HasSetAside, AreSetAside, IsCutOff};
 ghost use Rattle.mupip_rollback.specs.Preparing.{cut_records};
-ghost use Rattle.entry_index.specs.Found.{entry_count};
 
 use super::error::{RollError, in_files};
 use super::preparing::Kept;
@@ -89,6 +89,8 @@ pub(crate) fn begin_kept<D: Disk>(
     requires form { MayBeOpened instance.records (last_of kept.last_began.items) }
     requires counted { length kept.last_began.items ≡ length (regions instance.records) }
     requires few { entry_count kept.entries < 2 ^ 40 }
+    requires whole { IsWhole kept.entries }
+    requires each_place { kept.entries.regions ≡ length (regions instance.records) }
     requires unbegun { IfSome (D.disk disk.old).content (λ _. (f : Files) → Image (D.disk disk.old) f → AreUnbegun (suc (generation instance.records)) (length (regions instance.records)) f) }
     requires layout { (m : ℕ) → HasLayout (cut_records instance.records m) kept.layout }
     requires regions { AreHeld (D.disk disk.old) (length (regions instance.records)) kept.globals }

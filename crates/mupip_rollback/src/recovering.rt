@@ -1,6 +1,6 @@
 //! Recovering a site backward, and forward.
 ghost use Rattle.std.specs.Prelude.{◌≡◌, ◌⊎◌, ◌≤◌, ◌<◌, ℕ, true, List, length, IfOk, IfSome, OnErr, IsErrOf, IsSome};
-ghost use Rattle.disk_defs.specs.Disk.{Image, AtEachMoment, Rose};
+ghost use Rattle.disk_defs.specs.Disk.{AtEachMoment, Rose};
 ghost use Rattle.global_defs.specs.Entry.{Sequence};
 ghost use Rattle.journal_defs.specs.Instance as defs;
 ghost use Rattle.journal_defs.specs.Instance.{generation};

@@ -1,9 +1,9 @@
 -- The oldest images among records, of which the others make no difference.
-use Rattle.std.proofs.Common.{◌≡◌, ℕ, ◌*◌, List, [], ◌∷◌, ◌++◌, map, filter, drop, Option, IfSome, refl, sym, ◌∙◌, ap, subst}
-use Rattle.std.specs.Prelude.{IsSome, nat_lt, unwrap_or, replicate, ◌==◌, Some, None, if◌then◌else◌}
+use Rattle.std.proofs.Common.{◌≡◌, ℕ, ◌*◌, List, [], ◌∷◌, ◌++◌, map, filter, drop, Option, Result, Ok, Err, IfSome, refl, sym, ◌∙◌, ap, subst}
+use Rattle.std.specs.Prelude.{IfOk, IsSome, nat_lt, unwrap_or, replicate, ◌==◌, Some, None, if◌then◌else◌}
 use Rattle.std.specs.Option.{option_or}
 use Rattle.disk_defs.specs.Disk.{Files}
-use Rattle.disk_defs.proofs.Told.{both_weak}
+use Rattle.disk_defs.proofs.Told.{both_weak, told_at, weaker_told}
 use Rattle.journal_defs.specs.Journal.{JournalRecord, Pini, Epoch, Pblk, Tcom}
 use Rattle.journal_defs.specs.Numbers.{database_file}
 use Rattle.journal_defs.specs.Sequence.{Placed}
@@ -13,7 +13,7 @@ use Rattle.jnl_record.specs.declared.placed.PlacedRecord.{PlacedRecord}
 use Rattle.jnl_record.specs.Values.{placed_value}
 use Rattle.jnl_index.specs.declared.placed.PlacedSign.{PlacedSign}
 use Rattle.region_store.specs.Laid.{epoch_at}
-use Rattle.region_store.specs.Region.{Standing, HoldsRegion, IsReplayed}
+use Rattle.region_store.specs.Region.{Standing, HoldsRegion, IsHeld, IsReplayed}
 use Rattle.region_opening.specs.Images.{is_image, images_in}
 use Rattle.region_opening.specs.Signs.{AreTold}
 use Rattle.region_opening.proofs.Said.{told_behind}
@@ -80,3 +80,17 @@ module _ (o : Option Files) (n after number blocks : ℕ) (signs given : List Pl
       let here = h number in
       (at, here.0, here.1, subst (λ (state : ℕ → Option (List ℕ)). IsOutsideAt state here.0) (same_state number blocks (drop after js) (block_of (files (database_file n))))
       (subst (λ (ps : List Placed). IsOutsideAt (image_state (of_records number blocks ps) (block_of (files (database_file n)))) here.0) (among files js all are) here.2)))
+
+-- it's on the blocks of some epoch, whatever was read
+pub held_opened : {E : Type 0} (result : Result Standing E) (o v : Option Files) (file blocks : ℕ) (opened : List PlacedRecord) → v ≡ o → IfOk result (λ made. made.file ≡ file)
+    → IfOk result (λ made. IfSome v (λ files. (m : ℕ) → HoldsRegion (epoch_at m blocks opened) (files file) made)) → IfOk result (λ made. IfSome o (IsHeld made))
+held_opened (Err e) o v file blocks opened same at holds = tt
+held_opened (Ok made) o v file blocks opened same at holds =
+    told_at o v (IsHeld made) same (weaker_told v (λ files. (m : ℕ) → HoldsRegion (epoch_at m blocks opened) (files file) made) (IsHeld made) holds
+    (λ files h. (epoch_at 0 blocks opened, subst (λ (f : ℕ). HoldsRegion (epoch_at 0 blocks opened) (files f) made) (sym at) (h 0))))
+
+-- where the images aren't there, nothing is told
+pub nothing_told : (o : Option Files) (n after : ℕ) (signs given : List PlacedSign) → given ≡ drop after signs → (P : Files → List Placed → Type 0)
+    → IfSome o (λ files. (js : List Placed) → AreTold files n given js → ⊥) → IfSome o (λ files. (js : List Placed) → AreTold files n signs js → P files js)
+nothing_told o n after signs given is P none = weaker_told o (λ files. (js : List Placed) → AreTold files n given js → ⊥) (λ files. (js : List Placed) → AreTold files n signs js → P files js) none
+    (λ files gone js are. absurd (gone (drop after js) (subst (λ (ss : List PlacedSign). AreTold files n ss (drop after js)) (sym is) (told_behind files n signs js after are))))

@@ -374,7 +374,13 @@ module _ (o : Option Files) (instance : List InstanceRecord) (t : ℕ) (signs : 
         refused = is (journal n) (region_told files signs journal n are) seq;
       })
 
--- how many entries an index has
+-- how many rows an index has
+pub counted : (index : EntryIndex) (t : ℕ) → 1 ≤ index.regions → t ≡ length index.places.items / index.regions → t ≡ entry_count index
+counted index t some is =
+    let positive : (index.regions == 0) ≡ false = grind (arith, nat_tests, some) in
+    is ∙ sym (ap (λ (b : Bool). if b then 0 else length index.places.items / index.regions) positive)
+
+-- how many entries it has
 pub count_is : (files : Files) (rs : List Reign) (index : EntryIndex) (seq : Sequence) → 1 ≤ index.regions → Indexes (InFiles files) rs index seq → entry_count index ≡ length seq
 count_is files rs index seq some is =
     let positive : (index.regions == 0) ≡ false = grind (arith, nat_tests, some) in
@@ -459,7 +465,7 @@ given_of : (files : Files) (instance : List InstanceRecord) (signs : List (List 
 given_of files instance signs index u seq found = record { are_signs = found.are_signs; indexed = found.indexed; forms = formed.entries files u seq found.held found.sequence }
 
 -- what is told of all regions, of which these are the same
-module _ (o : Option Files) (instance : List InstanceRecord) (signs : List (List PlacedSign)) (index : EntryIndex) (t : ℕ) (from : List ℕ) (some : 1 ≤ index.regions) (within : t ≤ entry_count index) (ps : List Pattern) (are : ps ≡ patterns instance)
+module _ (o : Option Files) (instance : List InstanceRecord) (signs : List (List PlacedSign)) (index : EntryIndex) (t : ℕ) (some : 1 ≤ index.regions) (within : t ≤ entry_count index) (ps : List Pattern) (are : ps ≡ patterns instance)
     (rs ms : List Standing) (same : ms ≡ rs) (counted : length rs ≡ length (regions instance))
     (told : IfSome o (λ files. (journal : ℕ → List Placed) (seq : Sequence) → AreGiven files instance signs index journal seq → (r : ℕ) (s : Standing) → slice_get rs r ≡ Some s → IsOpened instance t seq (journal r) r s files)) where
   abbrev Told : Files → Type 0

@@ -280,6 +280,7 @@ pub fn open_regions<D: Disk>(
     ensures count_of_faults { (fault : ℕ) → IsErrOf result (RegionError.Failed fault) → fault ≡ (D.disk disk.new).faults }
     ensures cause { (fault : ℕ) → IsErrOf result (RegionError.Failed fault) → Rose (D.disk disk.old).faults (D.disk disk.new).faults }
 {
+    let _ = directory.regions();
     let regions = open_each(
         alloc, disk, instance, &directory, signs, entries, history, target,
     )?;

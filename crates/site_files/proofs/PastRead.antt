@@ -1,25 +1,30 @@
 -- The parts past a length, as they are read by the signs of a region's records.
-use Rattle.std.proofs.Common.{◌≡◌, inl, inr, ℕ, zero, suc, ◌+◌, ◌≤◌, ◌<◌, nat_lt, Bool, true, false, cond, List, [], ◌∷◌, ◌++◌, length, map, take, get_or, filter, Option, Some, None, append-nil, refl, sym, ◌∙◌, ap, subst, arith, if◌then◌else◌}
+use Rattle.std.proofs.Common.{◌≡◌, inl, inr, ℕ, zero, suc, ◌+◌, ◌≤◌, ◌<◌, nat_lt, Bool, true, false, cond, List, [], ◌∷◌, ◌++◌, length, map, take, get_or, filter, Option, None, IfSome, Err, IsErrOf, refl, sym, ◌∙◌, ap, subst, arith, if◌then◌else◌}
 use Rattle.std.proofs.Math.Path.{fun_ext}
 use Rattle.std.proofs.lemmas.Bool.{cases_Bool, cases_lt}
 use Rattle.std.proofs.lemmas.List.{length-map, get_or_past, get_or_append_left, get_or_push, map-append, take_all}
 use Rattle.std.proofs.lemmas.List.Elements.{filter-append}
 use Rattle.std.specs.List.{AllZip, AllByRecursion, flat_map, enumerate_from, cons_option}
 use Rattle.disk_defs.specs.Disk.{Files}
+use Rattle.disk_defs.proofs.Told.{told_at, weaker_told, both_weak}
+use Rattle.journal_defs.specs.Numbers.{journal_file}
 use Rattle.journal_defs.specs.Journal as journal
 use Rattle.journal_defs.specs.Journal.{JournalRecord, Part}
 use Rattle.journal_defs.specs.Instance.{InstanceRecord, NamedMode, regions}
-use Rattle.journal_defs.specs.Surviving.{survives}
 use Rattle.journal_defs.specs.Broken.{BrokenPart, part_past, parts_past, broken}
 use Rattle.journal_defs.specs.Sequence.{Placed, Records}
+use Rattle.jnl_file.specs.declared.error.JournalError.{JournalError}
+use Rattle.jnl_file.specs.declared.error.JournalError.TheVariants as journals
 use Rattle.jnl_record.specs.declared.placed.PlacedRecord.{PlacedRecord}
 use Rattle.jnl_record.specs.Values.{placed_value}
 use Rattle.jnl_index.specs.declared.placed.PlacedSign.{PlacedSign}
-use Rattle.jnl_index.specs.declared.sign.Sign.{Sign}
-use Rattle.jnl_index.specs.Places.{IsSignOf}
+use Rattle.jnl_index.specs.Places.{StandsAt, IsSignOf}
 use Rattle.jnl_index.specs.Signs.{sign_of}
 use Rattle.entry_index.specs.Indexes.{AreSigns}
 use Rattle.mupip_recover.specs.Site.{journal_of}
+use Rattle.site_files.specs.Errors.{placed_error}
+use Rattle.site_files.specs.declared.error.FilesError.{FilesError}
+use Rattle.site_files.specs.declared.error.FilesError.TheVariants as error
 use Rattle.site_files.specs.Past.{is_past, is_past_by_sign, all_past, AreRegionSigns}
 
 -- a sign tells whether its record is past
@@ -46,7 +51,6 @@ only_past rs n (p ∷ ps) = elim (cases_Bool (is_past n p.what)) [
 -- the broken list of the parts past the length is that of all records
 pub broken_past : (rs : List InstanceRecord) (n : ℕ) (journal past : ℕ → List Placed) → ((r : ℕ) → past r ≡ all_past n (journal r)) → broken (record { instance = rs; journal = past }) n ≡ broken (record { instance = rs; journal = journal }) n
 broken_past rs n journal past are =
-    let of = λ (js : ℕ → List Placed). λ (r : ℕ × NamedMode). map (λ (p : Part). let made : BrokenPart = record { region = r.1.name; part = p } in made) (parts_past rs n (js r.0)) in
     ap (λ (f : ℕ × NamedMode → List BrokenPart). flat_map f (enumerate_from 0 (regions rs)))
     (fun_ext (λ r. ap (λ (ps : List Part). map (λ (p : Part). let made : BrokenPart = record { region = r.1.name; part = p } in made) ps) (ap (parts_past rs n) (are r.0) ∙ only_past rs n (journal r.0))))
 
@@ -72,22 +76,39 @@ is_at files region ss ps i s d are low is =
     let next : i + 1 ≡ suc i = omega arith in
     record { placed = there.0; is = there.1; most = there.2; more = ap (λ (k : ℕ). take k ps) next ∙ there.3 }
 
--- one record more that isn't past
-pub past_less : (n : ℕ) (journal : List Placed) (i : ℕ) (files : Files) (region : ℕ) (s : PlacedSign) → is_past_by_sign n s.sign ≡ false → IsAt files region s journal i → all_past n (take (i + 1) journal) ≡ all_past n (take i journal)
-past_less n journal i files region s no at =
-    let test = λ (p : Placed). is_past n p.what in
-    let not : is_past n at.placed.what ≡ false = sym (told_by_sign n at.placed.what) ∙ ap (is_past_by_sign n) (sym at.is.says) ∙ no in
-    ap (all_past n) at.more ∙ filter-append test (take i journal) (at.placed ∷ [])
-    ∙ ap (λ (b : Bool). filter test (take i journal) ++ cond b (at.placed ∷ []) []) not ∙ append-nil (filter test (take i journal))
+-- the record that was read from there
+file_at : (files : Files) (region : ℕ) (s : PlacedSign) (p : Placed) (file : ℕ) → file ≡ journal_file s.generation region → IsSignOf files region s p → StandsAt (files file) s.offset p.what
+file_at files region s p file named is = subst (λ (f : ℕ). StandsAt (files f) s.offset p.what) (sym (named ∙ ap (λ (g : ℕ). journal_file g region) is.generation)) is.stands
 
--- one that is
-pub past_more : (n : ℕ) (journal : List Placed) (i : ℕ) (files : Files) (region : ℕ) (s : PlacedSign) → is_past_by_sign n s.sign ≡ true → (at : IsAt files region s journal i)
-    → all_past n (take (i + 1) journal) ≡ all_past n (take i journal) ++ at.placed ∷ []
-past_more n journal i files region s yes at =
-    let test = λ (p : Placed). is_past n p.what in
-    let is : is_past n at.placed.what ≡ true = sym (told_by_sign n at.placed.what) ∙ ap (is_past_by_sign n) (sym at.is.says) ∙ yes in
-    ap (all_past n) at.more ∙ filter-append test (take i journal) (at.placed ∷ [])
-    ∙ ap (λ (b : Bool). filter test (take i journal) ++ cond b (at.placed ∷ []) []) is
+pub is_record : (files : Files) (region : ℕ) (s : PlacedSign) (p : Placed) (file : ℕ) (what : JournalRecord) → file ≡ journal_file s.generation region → ((other : JournalRecord) → StandsAt (files file) s.offset other → what ≡ other)
+    → IsSignOf files region s p → (let made : Placed = record { generation = s.generation; what = what } in made) ≡ p
+is_record files region s p file what named one is =
+    ap (λ (g : ℕ). let made : Placed = record { generation = g; what = what } in made) is.generation
+    ∙ ap (λ (x : JournalRecord). let made : Placed = record { generation = p.generation; what = x } in made) (one p.what (file_at files region s p file named is))
+
+pub nothing_there : (files : Files) (region : ℕ) (s : PlacedSign) (p : Placed) (file : ℕ) → file ≡ journal_file s.generation region → ((other : JournalRecord) → StandsAt (files file) s.offset other → ⊥) → IsSignOf files region s p → ⊥
+nothing_there files region s p file named none is = none p.what (file_at files region s p file named is)
+
+-- an error of the file, where no record stands at the place
+pub refused_there : {T : Type 0} (fault at : ℕ) (e : JournalError) (x : FilesError) (file offset : ℕ) → x ≡ placed_error fault at e → IsErrOf {T = T} (Err x) (error.NotAFile file offset) → e ≡ journals.NotARecord offset
+refused_there fault at journals.Failed x file offset same is = absurd (cc (same, is))
+refused_there fault at (journals.NotARecord n) x file offset same is = let told : error.NotAFile file offset ≡ error.NotAFile at n = cc (same, is) in let place : offset ≡ n = cc told in ap journals.NotARecord (sym place)
+refused_there fault at journals.NoMemory x file offset same is = absurd (cc (same, is))
+
+-- the parts past a length among one record, as its sign tells them
+module _ (files : Files) (region n : ℕ) (s : PlacedSign) (p : Placed) (is : IsSignOf files region s p) where
+  told : (b : Bool) → is_past_by_sign n s.sign ≡ b → is_past n p.what ≡ b
+  told b by = sym (told_by_sign n p.what) ∙ ap (is_past_by_sign n) (sym is.says) ∙ by
+
+  pub none_of : is_past_by_sign n s.sign ≡ false → all_past n (p ∷ []) ≡ []
+  none_of no = ap (λ (b : Bool). cond b (p ∷ []) []) (told false no)
+
+  pub one_of : is_past_by_sign n s.sign ≡ true → all_past n (p ∷ []) ≡ p ∷ []
+  one_of yes = ap (λ (b : Bool). cond b (p ∷ []) []) (told true yes)
+
+-- one record more
+pub past_more : (n : ℕ) (files : Files) (region : ℕ) (s : PlacedSign) (journal : List Placed) (i : ℕ) (at : IsAt files region s journal i) → all_past n (take i journal) ++ all_past n (at.placed ∷ []) ≡ all_past n (take (i + 1) journal)
+past_more n files region s journal i at = sym (ap (all_past n) at.more ∙ filter-append (λ (p : Placed). is_past n p.what) (take i journal) (at.placed ∷ []))
 
 -- all of them were gone through
 pub long_as : (files : Files) (region : ℕ) (ss : List PlacedSign) (ps : List Placed) → AllZip (IsSignOf files region) ss ps → length ps ≡ length ss
@@ -100,6 +121,26 @@ pub past_whole : (n : ℕ) (journal : List Placed) (i : ℕ) (files : Files) (re
 past_whole n journal i files region ss are past =
     let long = long_as files region ss journal are.are in
     ap (all_past n) (take_all i journal (omega (arith, long, past)))
+
+-- as the disk tells it
+pub told_past : (o n : Option Files) (region len : ℕ) (ss : List PlacedSign) (i : ℕ) (d : PlacedSign) (old new : List Placed) → n ≡ o → i < length ss
+    → IfSome o (λ files. (journal : List Placed) → AreRegionSigns files region ss journal → old ≡ all_past len (take i journal))
+    → IfSome n (λ files. (p : Placed) → IsSignOf files region (get_or ss i d) p → new ≡ old ++ all_past len (p ∷ []))
+    → IfSome o (λ files. (journal : List Placed) → AreRegionSigns files region ss journal → new ≡ all_past len (take (i + 1) journal))
+told_past o n region len ss i d old new same low before here =
+    let Was = λ (files : Files). (journal : List Placed) → AreRegionSigns files region ss journal → old ≡ all_past len (take i journal) in
+    let Here = λ (files : Files). (p : Placed) → IsSignOf files region (get_or ss i d) p → new ≡ old ++ all_past len (p ∷ []) in
+    both_weak o Was Here (λ files. (journal : List Placed) → AreRegionSigns files region ss journal → new ≡ all_past len (take (i + 1) journal)) before (told_at o n Here same here)
+    (λ files was added journal are.
+    let at = is_at files region ss journal i (get_or ss i d) d are low refl in
+    added at.placed at.is ∙ ap (λ (l : List Placed). l ++ all_past len (at.placed ∷ [])) (was journal are) ∙ past_more len files region (get_or ss i d) journal i at)
+
+pub told_missing : (o n : Option Files) (region : ℕ) (ss : List PlacedSign) (i : ℕ) (d : PlacedSign) → n ≡ o → i < length ss
+    → IfSome n (λ files. (p : Placed) → IsSignOf files region (get_or ss i d) p → p.generation ≤ 65535 → ⊥) → IfSome o (λ files. (journal : List Placed) → AreRegionSigns files region ss journal → ⊥)
+told_missing o n region ss i d same low none =
+    let None_there = λ (files : Files). (p : Placed) → IsSignOf files region (get_or ss i d) p → p.generation ≤ 65535 → ⊥ in
+    weaker_told o None_there (λ files. (journal : List Placed) → AreRegionSigns files region ss journal → ⊥) (told_at o n None_there same none)
+    (λ files no journal are. let at = is_at files region ss journal i (get_or ss i d) d are low refl in no at.placed at.is at.most)
 
 -- the signs of one region
 pub of_region : {J : Type 0} (items : J → List PlacedSign) (files : Files) (js : List J) (journal : ℕ → List Placed) (r : ℕ) (j d : J) → AreSigns files (map items js) journal → r < length js → j ≡ get_or js r d
@@ -141,3 +182,21 @@ lists_whole items n js files signs journal region many whole are before r = elim
       ap (map placed_value) (get_or_past (map items js) r [] (omega (arith, past, long)))
       ∙ sym (ap (all_past n) (are.no_more r (omega (arith, past, whole))))
 ]
+
+-- as the disk tells it, with the region of this list
+module _ {J K : Type 0} (items : J → List PlacedSign) (made : K → List PlacedRecord) (o n : Option Files) (len : ℕ) (js : List J) (region : ℕ) (j d : J) (same : n ≡ o) (low : region < length js) (here : j ≡ get_or js region d) where
+  pub told_lists : (ks ks2 : List K) (k : K) → ks2 ≡ ks ++ k ∷ [] → length ks ≡ region
+      → IfSome o (λ files. (journal : ℕ → List Placed) → AreSigns files (map items js) journal → (r : ℕ) → r < region → journal_of (map made ks) r ≡ all_past len (journal r))
+      → IfSome n (λ files. (journal : List Placed) → AreRegionSigns files region (items j) journal → map placed_value (made k) ≡ all_past len journal)
+      → IfSome o (λ files. (journal : ℕ → List Placed) → AreSigns files (map items js) journal → (r : ℕ) → r < region + 1 → journal_of (map made ks2) r ≡ all_past len (journal r))
+  told_lists ks ks2 k pushed many before now =
+      let Was = λ (files : Files). (journal : ℕ → List Placed) → AreSigns files (map items js) journal → (r : ℕ) → r < region → journal_of (map made ks) r ≡ all_past len (journal r) in
+      let Here = λ (files : Files). (journal : List Placed) → AreRegionSigns files region (items j) journal → map placed_value (made k) ≡ all_past len journal in
+      both_weak o Was Here (λ files. (journal : ℕ → List Placed) → AreSigns files (map items js) journal → (r : ℕ) → r < region + 1 → journal_of (map made ks2) r ≡ all_past len (journal r)) before (told_at o n Here same now)
+      (λ files was is journal are. lists_more made len ks ks2 k journal region pushed many (was journal are) (is (journal region) (of_region items files js journal region j d are low here)))
+
+  pub told_no_lists : IfSome n (λ files. (journal : List Placed) → AreRegionSigns files region (items j) journal → ⊥) → IfSome o (λ files. (journal : ℕ → List Placed) → AreSigns files (map items js) journal → ⊥)
+  told_no_lists none =
+      let None_there = λ (files : Files). (journal : List Placed) → AreRegionSigns files region (items j) journal → ⊥ in
+      weaker_told o None_there (λ files. (journal : ℕ → List Placed) → AreSigns files (map items js) journal → ⊥) (told_at o n None_there same none)
+      (λ files no journal are. no (journal region) (of_region items files js journal region j d are low here))

@@ -16,7 +16,9 @@ use Rattle.journal_laws.proofs.ImageSteps.{all_both}
 use Rattle.jnl_file.specs.Generations.{AreDurable}
 use Rattle.site_defs.specs.OutsideJournal.{IsOutsideGenerations}
 use Rattle.jnl_index.specs.declared.placed.PlacedSign.{PlacedSign}
+use Rattle.jnl_index.specs.Order.{AreInOrder}
 use Rattle.jnl_index.specs.Places.{AreSignsOf}
+use Rattle.entry_index.specs.Among.{AreAllInOrder}
 use Rattle.entry_index.specs.Indexes.{AreSigns}
 use Rattle.site_files.specs.Loading.{last_of}
 use Rattle.site_defs.specs.Outside.{AreOutside, HaveBegun, HaveJournals, AreUnbegun}
@@ -107,14 +109,27 @@ told_begun_early o n regions region g file offset low same place before out =
     (told_at o n (λ files. records (files (journal_file g region)) ≡ Some [] → ⊥) same out)
     (λ files was is. record { region = region; below = low; earlier = was; begun = is; file_is = place.0; offset_is = place.1 })
 
+-- with the records' places
+ordered_more : (n : ℕ) (signs : List (List PlacedSign)) (journal : ℕ → List Placed) (found : List PlacedSign) (new : List Placed) → length signs ≡ n → AreAllInOrder signs journal
+    → AreInOrder found new → AreAllInOrder (signs ++ found ∷ []) (and_one journal n new)
+ordered_more n signs journal found new many was here =
+    let long : length (signs ++ found ∷ []) ≡ n + 1 = length-append signs (found ∷ []) ∙ ap (λ (k : ℕ). k + 1) many in
+    let Was = λ (r : ℕ). AreInOrder (get_or signs r []) (journal r) in
+    let Is = λ (r : ℕ). AreInOrder (get_or (signs ++ found ∷ []) r []) (and_one journal n new r) in
+    region_more Was Is n (length (signs ++ found ∷ [])) long (λ r low. was r (omega (arith, low, many)))
+    (λ r low is. subst (λ (ss : List PlacedSign). AreInOrder ss (and_one journal n new r)) (sym (get_or_append_left signs (found ∷ []) [] r (omega (arith, many, low))))
+    (subst (λ (l : List Placed). AreInOrder (get_or signs r []) l) (sym (one_other journal n r new (λ same. omega (arith, same, low)))) is))
+    (subst (λ (ss : List PlacedSign). AreInOrder ss (and_one journal n new n)) (sym (get_or_push signs found [] n many))
+    (subst (λ (l : List Placed). AreInOrder found l) (sym (one_here journal n new)) here))
+
 -- the same of lists in vectors, as the disk tells it
 pub told_more : {J : Type 0} (items : J → List PlacedSign) (o n : Option Files) (region next g : ℕ) (lasts lasts2 : List ℕ) (js js2 : List J) (last : ℕ) (j : J) → g ≤ 65535 → next ≡ region + 1 → n ≡ o
     → length lasts ≡ region → length js ≡ region → lasts2 ≡ lasts ++ last ∷ [] → js2 ≡ js ++ j ∷ []
-    → IfSome o (HaveSigns region g (last_of lasts) (map items js)) → IfSome n (λ files. (journal : List Placed) × IsJournal files region g last journal × AreSignsOf files region (items j) journal)
+    → IfSome o (HaveSigns region g (last_of lasts) (map items js)) → IfSome n (λ files. (journal : List Placed) × IsJournal files region g last journal × AreSignsOf files region (items j) journal × AreInOrder (items j) journal)
     → IfSome o (HaveSigns next g (last_of lasts2) (map items js2))
 told_more items o n region next g lasts lasts2 js js2 last j most more same many_last many pushed_last pushed before here =
     let Was = HaveSigns region g (last_of lasts) (map items js) in
-    let Here = λ (files : Files). (journal : List Placed) × IsJournal files region g last journal × AreSignsOf files region (items j) journal in
+    let Here = λ (files : Files). (journal : List Placed) × IsJournal files region g last journal × AreSignsOf files region (items j) journal × AreInOrder (items j) journal in
     let Is = HaveSigns next g (last_of lasts2) (map items js2) in
     let lists : map items js ++ items j ∷ [] ≡ map items js2 = sym (ap (map items) pushed ∙ map-append items js (j ∷ [])) in
     both_weak o Was Here Is before (told_at o n Here same here)
@@ -125,6 +140,7 @@ told_more items o n region next g lasts lasts2 js js2 last j most more same many
       journal = and_one was.journal region is.0;
       have = have_more files region next g lasts was.journal last is.0 more many_last was.have is.1;
       are = are_more files region (map items js) was.journal (items j) is.0 (length-map js items ∙ many) was.are is.2 (in_range files region g last is.0 most is.1);
+      ordered = ordered_more region (map items js) was.journal (items j) is.0 (length-map js items ∙ many) was.ordered is.3;
     })))
 
 pub one_longer : {X : Type 0} (old new : List X) (x : X) (n : ℕ) → new ≡ old ++ x ∷ [] → length old ≡ n → length new ≡ n + 1

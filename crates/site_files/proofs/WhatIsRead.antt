@@ -14,6 +14,7 @@ use Rattle.journal_defs.specs.Stands.{IsInstance, IsJournal}
 use Rattle.journal_laws.proofs.Readings.{holds_one, instance_body}
 use Rattle.jnl_file.specs.Generations.{AreDurable}
 use Rattle.jnl_index.specs.declared.placed.PlacedSign.{PlacedSign}
+use Rattle.entry_index.specs.Among.{AreAllInOrder}
 use Rattle.entry_index.specs.Indexes.{AreSigns}
 use Rattle.site_files.specs.Loading.{MayBeOpened, AreRead, WasRead, IsDirectory}
 use Rattle.site_files.specs.Reading.{HaveSigns, AreAllDurable, AreUnbegunDurable}
@@ -101,7 +102,7 @@ may_be_opened rs d last g order form directory fits newest low began = record {
 pub was_read : (o : Option Files) (v w x : View) (rs : List InstanceRecord) (last : ℕ → ℕ) (signs : List (List PlacedSign)) (n g next : ℕ) → n ≡ length (regions rs) → g ≡ generation rs → next ≡ suc (generation rs) → length signs ≡ n
     → IsLawful w → IsLawful x → AtEachMoment v w (Image v) → AtEachMoment w x (Image w) → IfSome o (λ files. IsInstance (files INSTANCE) rs) → IfSome o (λ files. IsDurable v INSTANCE (files INSTANCE))
     → IfSome o (HaveSigns n g last signs) → IfSome o (AreAllDurable w n g) → IfSome o (AreUnbegun n next) → IfSome o (AreUnbegunDurable x n next)
-    → IfSome o (λ files. (journal : ℕ → List Placed) × WasRead x rs last journal files × AreSigns files signs journal)
+    → IfSome o (λ files. (journal : ℕ → List Placed) × WasRead x rs last journal files × AreSigns files signs journal × AreAllInOrder signs journal)
 was_read None v w x rs last signs n g next many newest drawn all lawful_w lawful_x first second is durable have kept unbegun kept_next = tt
 was_read (Some files) v w x rs last signs n g next many newest drawn all lawful_w lawful_x first second is durable have kept unbegun kept_next = (have.journal, record {
   holds = record {
@@ -114,4 +115,4 @@ was_read (Some files) v w x rs last signs n g next many newest drawn all lawful_
   journals = λ r here. subst (λ (k : ℕ). AreDurable x r k files) newest
       (λ h least most. durable_kept w x (journal_file h r) (files (journal_file h r)) lawful_x second (kept r (omega (arith, here, many)) h least most));
   next = λ r here. subst (λ (k : ℕ). IsDurable x (journal_file k r) (files (journal_file k r))) drawn (kept_next r (omega (arith, here, many)));
-}, have.are)
+}, have.are, have.ordered)

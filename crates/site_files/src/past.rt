@@ -81,6 +81,32 @@ fn add_record(records: &mut Vec<PlacedRecord>, read: PlacedRecord) -> Result<(),
     Ok(())
 }
 
+/// Adds a record of a region, read from its place, if it's a part past a length. Else it reads nothing.
+fn add_past<D: Disk>(
+    alloc: Global,
+    disk: &mut D,
+    region: u8,
+    placed: &PlacedSign,
+    length: u64,
+    made: &mut Vec<PlacedRecord>,
+) -> Result<(), FilesError>
+    requires { region < 8 }
+    ensures added { OnOk result (IfSome (D.disk disk.old).content (λ files. (p : Placed) → IsSignOf files region placed.now p → map placed_value made.new.items ≡ map placed_value made.old.items ++ all_past length (p ∷ []))) }
+    ensures outside { (file offset : ℕ) → IsErrOf result (FilesError.NotAFile file offset) → IfSome (D.disk disk.old).content (λ files. (p : Placed) → IsSignOf files region placed.now p → p.generation ≤ 65535 → ⊥) }
+    ensures reads { Reads (D.disk disk.old) (D.disk disk.new) }
+    ensures later { (D.disk disk.old).faults ≤ (D.disk disk.new).faults }
+    ensures count { (fault : ℕ) → IsErrOf result (FilesError.Failed fault) → fault ≡ (D.disk disk.new).faults }
+    ensures cause { (fault : ℕ) → IsErrOf result (FilesError.Failed fault) → Rose (D.disk disk.old).faults (D.disk disk.new).faults }
+    ensures causes { OnErr result (((fault : ℕ) × IsErrOf result (FilesError.Failed fault)) ⊎ ((file : ℕ) × (offset : ℕ) × IsErrOf result (FilesError.NotAFile file offset)) ⊎ IsErrOf result FilesError.NoMemory) }
+{
+    if !is_past(&placed.sign, length) {
+        return Ok(());
+    }
+    let read = read_record(alloc, disk, region, placed)?;
+    add_record(made, read)?;
+    Ok(())
+}
+
 /// The parts of a region past a length, by the signs of its records.
 fn read_region<D: Disk>(
     alloc: Global,
@@ -100,10 +126,7 @@ fn read_region<D: Disk>(
 {
     let mut made = Vec::new(alloc);
     for placed in signs {
-        if is_past(&placed.sign, length) {
-            let read = read_record(alloc, disk, region, placed)?;
-            add_record(&mut made, read)?;
-        }
+        add_past(alloc, disk, region, placed, length, &mut made)?;
     }
     Ok(made)
 }

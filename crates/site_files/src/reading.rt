@@ -13,6 +13,7 @@ ghost use Rattle.journal_defs.specs.Sequence.{Placed, Records};
 ghost use Rattle.journal_defs.specs.Stands.{IsInstance, IsJournal, AreRecords};
 ghost use Rattle.jnl_file.specs.Generations.{AreDurable};
 ghost use Rattle.site_defs.specs.OutsideJournal.{IsOutsideGenerations};
+ghost use Rattle.jnl_index.specs.Order as orders;
 ghost use Rattle.jnl_index.specs.Places.{AreSignsOf};
 ghost use Rattle.entry_index.specs.Among.{AreAllInOrder};
 ghost use Rattle.entry_index.specs.Indexes.{AreSigns};
@@ -69,7 +70,7 @@ fn index_journals<D: Disk>(
 ) -> Result<RegionSigns, FilesError>
     requires region { region < 8 }
     requires last { last ≤ 65535 }
-    ensures read { IfOk result (λ made. IfSome (D.disk disk.old).content (λ files. (journal : List Placed) × IsJournal files region last made.last_began journal × AreSignsOf files region made.signs.items journal)) }
+    ensures read { IfOk result (λ made. IfSome (D.disk disk.old).content (λ files. (journal : List Placed) × IsJournal files region last made.last_began journal × AreSignsOf files region made.signs.items journal × orders.AreInOrder made.signs.items journal)) }
     ensures began { IfOk result (λ made. made.last_began ≤ last) }
     ensures durable { OnOk result (IfSome (D.disk disk.old).content (AreDurable (D.disk disk.new) region last)) }
     ensures place { (file offset : ℕ) → IsErrOf result (FilesError.NotAFile file offset) → IfSome (D.disk disk.old).content (λ files. IsOutsideGenerations files region last file offset) }

@@ -41,5 +41,6 @@ pub use opening::{load, load_anew};
 pub use owning::Site;
 pub use preparing::{FoundFiles, StandingSite, find_files, stand};
 pub use reading::read_file;
+pub use showing::write_entry;
 pub use site::OpenSite;
 pub use site_files::created_name;

@@ -1,4 +1,4 @@
-use Rattle.std.proofs.Common.{rules, ◌≡◌, ◌≤◌, ℕ, ◌+◌, map, Option, None, true, false, is_some, IsErrOf, refl, sym, ◌∙◌, ap, subst, List, length, get_or, arith, ◌<◌, Bool}
+use Rattle.std.proofs.Common.{rules, ◌≡◌, ◌≤◌, ℕ, ◌+◌, map, Option, None, true, false, is_some, IsErrOf, refl, sym, ◌∙◌, ap, subst, List, length, get_or, arith, ◌<◌}
 use Rattle.disk_defs.proofs.Told.{weaker_told}
 use Rattle.jnl_file.proofs.Newer.{all_told}
 use Rattle.global_defs.specs.Entry.{Stamp}
@@ -72,4 +72,5 @@ returns-clause-row g c =
     let row = c.as_slice-row.result.now in
     let told : (r : ℕ) → r < a.made.now.regions → get_or row r NOWHERE ≡ f r = subst (λ (l : List PartPlace). (r : ℕ) → r < a.made.now.regions → get_or l r NOWHERE ≡ f r) (sym c.as_slice-row.ensures.value) c.in_ok-places.ensures.told in
     let wide : length row ≡ a.made.now.regions = ap length c.as_slice-row.ensures.value ∙ c.in_ok-places.ensures.many in
-    subst (λ (b : Bool). AddsRow a.table.now a.place a.made.now.regions b a.made.now.places.items c.push.new.self.places.items) (sym c.if-not-complete.false) (row, c.in_ok-push.ensures.ok, wide, told)
+    let added : AddsRow a.table.now a.place a.made.now.regions true a.made.now.places.items c.push.new.self.places.items = (row, c.in_ok-push.ensures.ok, wide, told) in
+    added

@@ -1,11 +1,11 @@
-use Rattle.std.proofs.Common.{◌≡◌, length, refl, arith, None}
+use Rattle.std.proofs.Common.{◌≡◌, refl, arith, None}
+use Rattle.entry_index.specs.Found.{entry_count}
 use Rattle.site_files.specs.Loading.{last_of}
 use Rattle.site_store.specs.declared.site.OpenSite.{OpenSite}
 use Rattle.site_store.proofs.HeldRegions.{held_drawn}
 use Rattle.site_store.proofs.Loaded.{is_ready}
 use Rattle.mupip_rollback.proofs.Begun.{opens}
 use Rattle.mupip_rollback.proofs.cutting.begin_kept.Goals as goal
-use Rattle.entry_index.specs.Found.{entry_count}
 
 pub returns-clause-ready : goal.returns-clause-ready
 returns-clause-ready g c =
@@ -15,7 +15,7 @@ returns-clause-ready g c =
     let rs = c.args.instance.records in
     let s : OpenSite = record { instance = c.in-Ok.drawn.instance; layout = kept.layout; journals = c.in_ok-newest_journals.field-0; entries = kept.entries; globals = kept.globals; hardened = c.len-count.result; stamp = None } in
     is_ready rs (last_of kept.last_began.items) c.requires.form s c.len-count.result c.in-Ok.ensures.records w c.in-Ok.drawn.journals.items c.in-Ok.ensures.journal_count c.in_ok-newest_journals.ensures
-    c.in-Ok.ensures.instance (c.requires.layout c.len-count.result) c.in-Ok.ensures.journals (held_drawn v w rs kept.globals c.requires.form.few_regions c.draw_next.ensures.frame c.requires.regions) c.requires.few
+    c.in-Ok.ensures.instance (c.requires.layout c.len-count.result) c.in-Ok.ensures.journals (held_drawn v w rs kept.globals c.requires.form.few_regions c.draw_next.ensures.frame c.requires.regions) c.requires.few c.requires.whole c.requires.each_place
 
 pub returns-clause-open : goal.returns-clause-open
 returns-clause-open g c =

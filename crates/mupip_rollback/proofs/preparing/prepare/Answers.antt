@@ -46,7 +46,8 @@ pub returns-clause-without : goal.returns-clause-without
 returns-clause-without g c = λ region first is.
     let t_is : c.min-target.result ≡ min c.args.to (entry_count c.in_ok-found.found.entries) = (let a = c.min-target.ensures in let b = c.len.ensures in omega (arith, a, b)) in
     weaker_told (g.D.Disk.disk c.args.disk.now).content _ _
-    (told_without (g.D.Disk.disk c.args.disk.now) (g.D.Disk.disk c.find.new.disk) c.in_ok-found.found c.in_ok-found.ensures.has c.in_ok-found.ensures.found c.args.to c.min-target.result t_is (λ u t. (generation u.instance < 65534) × IsFirstWithout u t region first) (c.in_ok-found.ensures.has.low, c.open_first.ensures.first region first is))
+    (told_without (g.D.Disk.disk c.args.disk.now) (g.D.Disk.disk c.find.new.disk) c.in_ok-found.found c.in_ok-found.ensures.has c.in_ok-found.ensures.found c.args.to c.min-target.result t_is (λ u t. (generation u.instance < 65534) × IsFirstWithout u t region first)
+    (λ journal say. (c.in_ok-found.ensures.has.low, c.open_first.ensures.first region first is journal say)))
     (λ files k. (k.0, k.1, k.2, k.3, k.4.0, k.4.1))
 
 pub returns-clause-place : goal.returns-clause-place

@@ -1,4 +1,4 @@
-use Rattle.std.proofs.Common.{◌≡◌, ◌<◌, List, length, true, ◌∙◌, ap}
+use Rattle.std.proofs.Common.{◌≡◌, ◌<◌, List, length, true, ◌∙◌}
 use Rattle.std.proofs.lemmas.Result.{IfOk-weaker}
 use Rattle.disk_defs.specs.Disk.{Files}
 use Rattle.disk_defs.proofs.Told.{both_weak}
@@ -39,7 +39,7 @@ returns-in-Ok-clause-held g c =
     IfOk-weaker c.close.result (λ n. n ≡ count_of s) _ (λ n count.
     both_weak u.content Held Room (λ files. (x : Records) × (seq : Sequence) × AreRecords files x × IsSequence x seq × (n ≡ length seq) × (generation x.instance < 65534)) c.in-Ok.ensures.held c.in-Ok.ensures.drawn
     (λ files h room.
-    let size : count_of s ≡ length h.1 = ap length h.4.entries in
+    let size : count_of s ≡ length h.1 = h.4.count in
     (h.0, h.1, h.2, h.3, count ∙ size, room h.0.instance h.2.instance))) c.close.ensures.length
 
 pub returns-in-Ok-clause-any_moment : goal.returns-in-Ok-clause-any_moment

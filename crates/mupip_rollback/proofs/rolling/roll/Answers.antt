@@ -5,8 +5,17 @@ use Rattle.mupip_rollback.specs.Cutting.{AreSetAside}
 use Rattle.mupip_rollback.proofs.Rolls as rolls
 use Rattle.mupip_rollback.proofs.rolling.roll.Goals as goal
 
+pub set_aside-requires-clause-read : goal.set_aside-requires-clause-read
+set_aside-requires-clause-read g c = rolls.read_at (g.D.Disk.disk c.args.disk.now) c.args.prepared c.requires.prepared
+
 pub begin_kept-requires-clause-form : goal.begin_kept-requires-clause-form
 begin_kept-requires-clause-form g c = rolls.form_at (g.D.Disk.disk c.args.disk.now) c.args.prepared c.requires.prepared c.in_ok-instance.instance.records c.in_ok-instance.ensures.records
+
+pub begin_kept-requires-clause-whole : goal.begin_kept-requires-clause-whole
+begin_kept-requires-clause-whole g c = rolls.whole_at (g.D.Disk.disk c.args.disk.now) c.args.prepared c.requires.prepared
+
+pub begin_kept-requires-clause-each_place : goal.begin_kept-requires-clause-each_place
+begin_kept-requires-clause-each_place g c = rolls.places_at (g.D.Disk.disk c.args.disk.now) c.args.prepared c.requires.prepared c.in_ok-instance.instance.records c.in_ok-instance.ensures.records
 
 pub begin_kept-requires-clause-unbegun : goal.begin_kept-requires-clause-unbegun
 begin_kept-requires-clause-unbegun g c =

@@ -1,17 +1,17 @@
-use Rattle.std.proofs.Common.{◌≡◌, ◌+◌, ◌<◌, [], length, min, sym, ◌∙◌, ap, subst, arith}
+use Rattle.std.proofs.Common.{◌≡◌, ◌+◌, ◌<◌, [], length, min, replicate, sym, ◌∙◌, ap, subst, arith}
+use Rattle.std.proofs.lemmas.List.{length-replicate}
 use Rattle.std.proofs.lemmas.Result.{err_from_is_err_and}
 use Rattle.disk_defs.proofs.Told.{weaker_told}
-use Rattle.global_defs.specs.Entry.{Sequence}
+use Rattle.entry_index.specs.Found.{entry_count}
+use Rattle.global_defs.specs.Entry.{Entry, Sequence}
 use Rattle.journal_defs.specs.Instance.{generation}
 use Rattle.journal_defs.specs.Sequence.{Records, IsSequence}
 use Rattle.journal_defs.specs.Stands.{AreRecords}
-use Rattle.site_store.specs.Standing.{found_entries}
 use Rattle.site_store.specs.Needing.{NoneIsWithout}
 use Rattle.mupip_rollback.specs.declared.error.RollError.TheVariants as error
 use Rattle.mupip_rollback.proofs.Errors.{handed_on}
 use Rattle.mupip_rollback.proofs.Whole as whole
 use Rattle.mupip_rollback.proofs.rolling.rollback.Goals as goal
-use Rattle.entry_index.specs.Found.{entry_count}
 
 pub returns-in_err-prepared-clause-without : goal.returns-in_err-prepared-clause-without
 returns-in_err-prepared-clause-without g c =
@@ -21,16 +21,18 @@ returns-in_err-prepared-clause-without g c =
 pub returns-in_err-prepared-clause-any_moment : goal.returns-in_err-prepared-clause-any_moment
 returns-in_err-prepared-clause-any_moment g c = whole.quiet (g.D.Disk.disk c.args.disk.now) (g.D.Disk.disk c.prepare.new.disk) c.args.to c.prepare.ensures.any_moment
 
+-- whatever the disk tells, there are contents with so many entries
 pub returns-clause-read : goal.returns-clause-read
 returns-clause-read g c =
     let p = c.in_ok-prepared.prepared in
     let P = c.in_ok-prepared.ensures.prepared in
-    let all = P.counted in
     let kept = c.in_ok-prepared.ensures.kept in
     let size = c.len.ensures in
+    let some : Entry = record { stamp = record { root = []; cycle = 0 }; transaction = record { origin = record { updater = 0; serial = 0 }; updates = [] } } in
+    let many : length (replicate p.length some) ≡ p.length = length-replicate p.length some in
     let newest : c.generation_in.result ≡ generation P.found.read.log.records = c.generation_in.ensures ∙ ap generation c.as_slice.ensures ∙ ap (λ l. generation l.records) P.log in (
-      record { instance = P.found.read.log.records; starts = λ r. []; epochs = λ r. []; texts = []; losts = []; sequence = found_entries P.found },
-      omega (arith, all, kept, size),
+      record { instance = P.found.read.log.records; starts = λ r. []; epochs = λ r. []; texts = []; losts = []; sequence = replicate p.length some },
+      omega (arith, many, kept, size),
       omega (arith, newest),
     )
 
