@@ -151,7 +151,7 @@ fn drawn_site(
 {
     let mut disk = MemDisk::new(alloc).expect(rt, "memory");
     let shapes = [draw(seed, 4), draw(seed, 4), draw(seed, 4), draw(seed, 4)];
-    let Journal { records, signs } = drawn_journal(rt, alloc, &mut disk, seed, 0, &shapes);
+    let Journal { records, signs, .. } = drawn_journal(rt, alloc, &mut disk, seed, 0, &shapes);
     let second = drawn_journal(rt, alloc, &mut disk, seed, 1, &shapes);
     let records = [records, second.records];
     let signs = [signs, second.signs];

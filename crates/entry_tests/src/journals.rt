@@ -5,7 +5,7 @@ use gvn_key::Bytes;
 use jnl_file::journal_file;
 use jnl_index::{PlacedSign, read_sign};
 use jnl_record::{PlacedRecord, decode};
-use repl_disk::{Disk, Failed, MemDisk};
+use repl_disk::{Disk, MemDisk};
 use std::alloc::Global;
 use std::process::Abort;
 
@@ -49,14 +49,10 @@ fn body_of(rt: &impl Abort, alloc: Global, part: &Worked) -> Bytes {
     body
 }
 
-/// Adds bytes to a file, and answers where they begin.
-fn append(disk: &mut MemDisk, file: u32, bytes: &[u8]) -> Result<u64, Failed> {
-    let Ok(()) = disk.room(file, 1, bytes.len() as u64) else {
-        return Err(Failed);
-    };
-    let end = disk.len(file)?;
-    disk.write_at(file, end, bytes)?;
-    Ok(end)
+/// Writes a file from its start.
+fn write_bytes<D: Disk>(rt: &impl Abort, disk: &mut D, file: u32, bytes: &[u8]) {
+    disk.room(file, 1, bytes.len() as u64).expect(rt, "memory");
+    disk.write_at(file, 0, bytes).expect(rt, "a write");
 }
 
 /// The records of a region in journal order, and their signs.
@@ -64,6 +60,9 @@ fn append(disk: &mut MemDisk, file: u32, bytes: &[u8]) -> Result<u64, Failed> {
 pub struct Journal {
     pub records: Vec<PlacedRecord>,
     pub signs: Vec<PlacedSign>,
+    /// The newest generation, and its file.
+    generation: u32,
+    bytes: Bytes,
 }
 
 /// The journal of no record.
@@ -71,11 +70,13 @@ pub fn empty(alloc: Global) -> Journal {
     Journal {
         records: Vec::new(alloc),
         signs: Vec::new(alloc),
+        generation: 0,
+        bytes: Bytes::new(alloc),
     }
 }
 
 impl Journal {
-    /// Puts a part at the end of a region's journal of a generation.
+    /// Puts a part at the end of a region's journal of a generation, the newest or the next one.
     pub fn add(
         &mut self,
         rt: &impl Abort,
@@ -89,12 +90,23 @@ impl Journal {
         requires generation { generation ≤ 65535 }
     {
         let body = body_of(rt, alloc, part);
-        let mut bytes = Bytes::of(alloc, b"#").expect(rt, "memory");
-        let long = body.len() as u32;
-        bytes.push_all(&long.to_be_bytes()).expect(rt, "memory");
-        bytes.push_all(body.as_slice()).expect(rt, "memory");
-        let file = journal_file(region, generation);
-        let offset = append(disk, file, bytes.as_slice()).expect(rt, "room");
+        let long = u32::try_from(body.len()).expect(rt, "a short body");
+        if self.generation != generation {
+            self.generation = generation;
+            self.bytes = Bytes::new(alloc);
+        }
+        let offset = self.bytes.len() as u64;
+        self.bytes.push(b'#').expect(rt, "memory");
+        self.bytes
+            .push_all(&long.to_be_bytes())
+            .expect(rt, "memory");
+        self.bytes.push_all(body.as_slice()).expect(rt, "memory");
+        write_bytes(
+            rt,
+            disk,
+            journal_file(region, generation),
+            self.bytes.as_slice(),
+        );
         let what = decode(alloc, body.as_slice(), offset).expect(rt, "a record");
         let sign = read_sign(body.as_slice()).expect(rt, "a sign");
         let record = PlacedRecord { generation, what };

@@ -1,4 +1,6 @@
 // The journals of a region, looked through once, and their records read again.
+ghost use Rattle.std.specs.Prelude.{◌<◌};
+
 use gvn_key::Bytes;
 use gvn_key::terms::Update;
 use gvn_model::Origin;
@@ -261,14 +263,15 @@ fn journals_that_are_none(rt: HostRuntime) {
 
 /// A journal with a PINI, 17 images of blocks, and what entry 1 does. The 16th image stands on both sides of byte 65,536.
 fn long_journal(rt: &impl Abort, alloc: Global) -> Bytes {
-    let mut bytes = Bytes::of(alloc, &FIRST[..17]).expect(rt, "memory");
+    let first = FIRST.as_slice();
+    let mut bytes = Bytes::of(alloc, &first[..17]).expect(rt, "memory");
     for block in 0..17u8 {
         let head = [1, 0, 0, 0x10, 5, 3, 0, 0, 0, block];
         bytes.push_all(&head).expect(rt, "memory");
         let image = [block; 4096];
         bytes.push_all(&image).expect(rt, "memory");
     }
-    bytes.push_all(&FIRST[17..55]).expect(rt, "memory");
+    bytes.push_all(&first[17..55]).expect(rt, "memory");
     bytes.push(0).expect(rt, "memory");
     bytes
 }
