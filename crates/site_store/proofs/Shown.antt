@@ -1,13 +1,20 @@
 -- An entry shown from its places.
-use Rattle.std.proofs.Common.{◌≡◌, ℕ, ◌-◌, ◌++◌, List, Option, Some, None, Result, Ok, Err, OnOk, IfSome, IsSome, refl, sym, subst, ap, ◌∙◌, true}
-use Rattle.std.specs.Prelude.{slice_get}
+use Rattle.std.proofs.Common.{◌≡◌, inl, inr, ℕ, ◌-◌, ◌/◌, ◌<◌, ◌≤◌, ◌++◌, List, length, Option, Some, None, Result, Ok, Err, OnOk, IfSome, IsSome, refl, sym, subst, ap, ◌∙◌, true, arith}
+use Rattle.std.specs.Prelude.{◌==◌, if◌then◌else◌, slice_get}
+use Rattle.std.proofs.lemmas.Bool.{cases_lt}
+use Rattle.std.proofs.lemmas.Option.{slice_get_past}
 use Rattle.disk_defs.specs.Disk.{Files, View, IsLawful}
 use Rattle.global_defs.specs.Entry.{Reign, Entry, Sequence}
 use Rattle.global_defs.specs.Extract.{entry_text}
 use Rattle.journal_defs.specs.Surviving.{reigns}
 use Rattle.journal_defs.specs.Instance.{InstanceRecord}
+use Rattle.region_journals.proofs.Turns.{found}
+use Rattle.entry_index.specs.declared.index.EntryIndex.{EntryIndex}
 use Rattle.entry_index.specs.Parts.{InFiles}
 use Rattle.entry_index.specs.Indexes.{Indexes}
+use Rattle.entry_index.specs.Found.{entry_count}
+use Rattle.entry_index.proofs.Rows.{past_rows}
+use Rattle.entry_index.proofs.AmongLaws.{counted}
 use Rattle.site_defs.specs.Contents.{Contents}
 use Rattle.site_store.specs.declared.error.SiteError.{SiteError}
 use Rattle.site_store.specs.declared.site.OpenSite.{OpenSite}
@@ -19,6 +26,28 @@ use Rattle.site_store.proofs.Standing.{told_of}
 some_told : (o : Option Files) (P Q : Files → Type 0) (X : Type 0) → IsSome o → IfSome o P → IfSome o Q → ((f : Files) → P f → Q f → X) → X
 some_told None P Q X some p q f = absurd (cc some)
 some_told (Some files) P Q X some p q f = f files p q
+
+module _ (files : Files) (rs : List Reign) (x : EntryIndex) (seq : Sequence) (n : ℕ) (first : 1 ≤ n) (is : Indexes (InFiles files) rs x seq) where
+  -- an entry of a greater number than there are isn't among them
+  pub past_entries : entry_count x < n → None ≡ slice_get seq (n - 1)
+  past_entries past = elim (cases_lt 0 x.regions) [
+    | inl some ↦ let count = counted x (length seq) (omega (arith, some)) is.rows in sym (slice_get_past seq (n - 1) (omega (arith, count, past, first)))
+    | inr none ↦ past_rows files rs x seq n first (inl (omega (arith, none))) is
+  ]
+
+  -- and else it is
+  pub is_among : n ≤ entry_count x → None ≡ slice_get seq (n - 1) → ⊥
+  is_among low none = elim (cases_lt 0 x.regions) [
+    | inl some ↦
+        let count = counted x (length seq) (omega (arith, some)) is.rows in
+        let there = found seq (n - 1) (omega (arith, count, low, first)) in
+        let at = there.1 in
+        absurd (cc (at, none))
+    | inr no ↦
+        let zero : x.regions ≡ 0 = omega (arith, no) in
+        let count : entry_count x ≡ 0 = ap (λ (k : ℕ). if k == 0 then 0 else length x.places.items / k) zero in
+        absurd (omega (arith, count, low, first))
+  ]
 
 module _ (v : View) (s : OpenSite) (history : List Reign) (lawful : IsLawful v) (ready : IsReady v s) (own : history ≡ reigns s.instance.records) where
   -- the parts of its entries stand in the files
