@@ -8,6 +8,10 @@ use Rattle.global_defs.specs.Entry.{Reign, Entry, Sequence}
 use Rattle.global_defs.specs.Extract.{entry_text}
 use Rattle.journal_defs.specs.Surviving.{reigns}
 use Rattle.journal_defs.specs.Instance.{InstanceRecord}
+use Rattle.disk_defs.proofs.Told.{weaker_told}
+use Rattle.jnl_file.proofs.Newer.{all_told}
+use Rattle.gvn_model.specs.declared.entry.Entry as code_entry
+use Rattle.gvn_model.specs.Entries.{entry_value}
 use Rattle.region_journals.proofs.Turns.{found}
 use Rattle.entry_index.specs.declared.index.EntryIndex.{EntryIndex}
 use Rattle.entry_index.specs.Parts.{InFiles}
@@ -49,15 +53,31 @@ module _ (files : Files) (rs : List Reign) (x : EntryIndex) (seq : Sequence) (n 
         absurd (omega (arith, count, low, first))
   ]
 
+-- the lines of entry n were added, where there is one
+abbrev pub Shows : ℕ → List ℕ → List ℕ → Sequence → Type 0
+Shows n before now seq = IfSome (slice_get seq (n - 1)) (λ e. now ≡ before ++ entry_text n e)
+
+module _ (o : Option Files) (rs : List Reign) (x : EntryIndex) (n : ℕ) (first : 1 ≤ n) (before : List ℕ) where
+  pub shows_none : entry_count x < n → IfSome o (λ files. (seq : Sequence) → Indexes (InFiles files) rs x seq → Shows n before before seq)
+  shows_none past = all_told o (λ files. (seq : Sequence) → Indexes (InFiles files) rs x seq → Shows n before before seq)
+      (λ files seq is. subst (λ (found : Option Entry). IfSome found (λ e. before ≡ before ++ entry_text n e)) (past_entries files rs x seq n first is past) tt)
+
+  pub shows_one : (now : List ℕ) (e : code_entry.Entry) → e.number ≡ n → now ≡ before ++ entry_text e.number (entry_value e)
+      → IfSome o (λ files. (seq : Sequence) → Indexes (InFiles files) rs x seq → Some (entry_value e) ≡ slice_get seq (n - 1))
+      → IfSome o (λ files. (seq : Sequence) → Indexes (InFiles files) rs x seq → Shows n before now seq)
+  shows_one now e number lines told = weaker_told o (λ files. (seq : Sequence) → Indexes (InFiles files) rs x seq → Some (entry_value e) ≡ slice_get seq (n - 1)) (λ files. (seq : Sequence) → Indexes (InFiles files) rs x seq → Shows n before now seq) told
+      (λ files found seq is. subst (λ (a : Option Entry). IfSome a (λ y. now ≡ before ++ entry_text n y)) (found seq is) (lines ∙ ap (λ (k : ℕ). before ++ entry_text k (entry_value e)) number))
+
+  pub none_outside : n ≤ entry_count x → IfSome o (λ files. (seq : Sequence) → Indexes (InFiles files) rs x seq → None ≡ slice_get seq (n - 1)) → IfSome o (λ files. (seq : Sequence) → Indexes (InFiles files) rs x seq → ⊥)
+  none_outside low told = weaker_told o (λ files. (seq : Sequence) → Indexes (InFiles files) rs x seq → None ≡ slice_get seq (n - 1)) (λ files. (seq : Sequence) → Indexes (InFiles files) rs x seq → ⊥) told
+      (λ files none seq is. is_among files rs x seq n first is low (none seq is))
+
 module _ (v : View) (s : OpenSite) (history : List Reign) (lawful : IsLawful v) (ready : IsReady v s) (own : history ≡ reigns s.instance.records) where
   -- the parts of its entries stand in the files
   indexed : (c : Contents) (h : ℕ) → IsOpen v true c h s → IfSome v.content (λ files. Indexes (InFiles files) history s.entries c.sequence)
   indexed c h open =
       subst (λ (l : List Reign). IfSome v.content (λ files. Indexes (InFiles files) l s.entries c.sequence)) (sym (own ∙ ap reigns open.remembered.instance))
       (index_files v c h s (open.kept refl) ready open.remembered.instance lawful)
-
-  abbrev Shows : ℕ → List ℕ → List ℕ → Sequence → Type 0
-  Shows n before now seq = IfSome (slice_get seq (n - 1)) (λ e. now ≡ before ++ entry_text n e)
 
   pub shows_entry : (n : ℕ) (before now : List ℕ) (o : Result (Unit {0}) SiteError) → OnOk o (IfSome v.content (λ files. (seq : Sequence) → Indexes (InFiles files) history s.entries seq → Shows n before now seq))
       → OnOk o ((c : Contents) (h : ℕ) → IsOpen v true c h s → Shows n before now c.sequence)
