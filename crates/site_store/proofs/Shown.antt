@@ -75,18 +75,18 @@ module _ (o : Option Files) (rs : List Reign) (x : EntryIndex) (n : ℕ) (first 
 module _ (v : View) (s : OpenSite) (history : List Reign) (lawful : IsLawful v) (ready : IsReady v s) (own : history ≡ reigns s.instance.records) where
   -- the parts of its entries stand in the files
   indexed : (c : Contents) (h : ℕ) → IsOpen v true c h s → IfSome v.content (λ files. Indexes (InFiles files) history s.entries c.sequence)
-  indexed c h open =
-      subst (λ (l : List Reign). IfSome v.content (λ files. Indexes (InFiles files) l s.entries c.sequence)) (sym (own ∙ ap reigns open.remembered.instance))
-      (index_files v c h s (open.kept refl) ready open.remembered.instance lawful)
+  indexed c h site =
+      subst (λ (l : List Reign). IfSome v.content (λ files. Indexes (InFiles files) l s.entries c.sequence)) (sym (own ∙ ap reigns site.remembered.instance))
+      (index_files v c h s (site.kept refl) ready site.remembered.instance lawful)
 
   pub shows_entry : (n : ℕ) (before now : List ℕ) (o : Result (Unit {0}) SiteError) → OnOk o (IfSome v.content (λ files. (seq : Sequence) → Indexes (InFiles files) history s.entries seq → Shows n before now seq))
       → OnOk o ((c : Contents) (h : ℕ) → IsOpen v true c h s → Shows n before now c.sequence)
   shows_entry n before now (Err e) told = tt
-  shows_entry n before now (Ok x) told = λ c h open.
+  shows_entry n before now (Ok x) told = λ c h site.
       some_told v.content (λ files. (seq : Sequence) → Indexes (InFiles files) history s.entries seq → Shows n before now seq) (λ files. Indexes (InFiles files) history s.entries c.sequence) (Shows n before now c.sequence)
-      (told_of v c h s (open.kept refl)) told (indexed c h open) (λ files shows is. shows c.sequence is)
+      (told_of v c h s (site.kept refl)) told (indexed c h site) (λ files shows is. shows c.sequence is)
 
   pub no_outside : IfSome v.content (λ files. (seq : Sequence) → Indexes (InFiles files) history s.entries seq → ⊥) → (c : Contents) (h : ℕ) → IsOpen v true c h s → ⊥
-  no_outside never c h open =
+  no_outside never c h site =
       some_told v.content (λ files. (seq : Sequence) → Indexes (InFiles files) history s.entries seq → ⊥) (λ files. Indexes (InFiles files) history s.entries c.sequence) ⊥
-      (told_of v c h s (open.kept refl)) never (indexed c h open) (λ files no is. no c.sequence is)
+      (told_of v c h s (site.kept refl)) never (indexed c h site) (λ files no is. no c.sequence is)
