@@ -1,4 +1,4 @@
-use Rattle.std.proofs.Common.{◌≡◌, ℕ, List, length, None, refl, sym, subst, arith, IfSome}
+use Rattle.std.proofs.Common.{◌≡◌, ℕ, List, None, refl, sym, subst, IfSome}
 use Rattle.std.proofs.lemmas.Result.{err_from_is_err_and}
 use Rattle.disk_defs.proofs.Told.{told_at, weaker_told}
 use Rattle.global_defs.specs.Entry.{Sequence}

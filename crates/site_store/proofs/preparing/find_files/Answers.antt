@@ -1,6 +1,6 @@
-use Rattle.std.proofs.Common.{◌≡◌, ◌<◌, ℕ, length, ◌∙◌, ap, subst, arith, IfSome}
+use Rattle.std.proofs.Common.{◌≡◌, ℕ, length, ◌∙◌, ap, subst, arith, IfSome}
 use Rattle.std.proofs.lemmas.Result.{err_from_is_err_and}
-use Rattle.disk_defs.specs.Disk.{Files, Image}
+use Rattle.disk_defs.specs.Disk.{Image}
 use Rattle.disk_defs.proofs.Moments.{nothing_new, read_only}
 use Rattle.disk_defs.proofs.Told.{told_at}
 use Rattle.journal_defs.specs.Instance.{generation, regions}
@@ -12,7 +12,7 @@ use Rattle.site_store.specs.Opening.{AreTextsDurable, AreDatabasesDurable}
 use Rattle.site_store.proofs.Databases.{texts_still}
 use Rattle.site_store.proofs.Errors.{file_was}
 use Rattle.site_store.proofs.Refused.{no_site}
-use Rattle.site_store.proofs.ReadFiles.{IsRead, never_read, found_of}
+use Rattle.site_store.proofs.ReadFiles.{never_read, found_of}
 use Rattle.site_store.proofs.preparing.find_files.Goals as goal
 
 pub returns-in_err-read-clause-outside : goal.returns-in_err-read-clause-outside

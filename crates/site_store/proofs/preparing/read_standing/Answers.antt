@@ -1,4 +1,4 @@
-use Rattle.std.proofs.Common.{◌≡◌, inl, ℕ, Bool, true, false, length, IfOk, refl, sym, subst, arith}
+use Rattle.std.proofs.Common.{◌≡◌, inl, ℕ, Bool, true, false, IfOk, refl, sym, subst}
 use Rattle.std.proofs.lemmas.Result.{err_from_is_err_and}
 use Rattle.disk_defs.specs.Disk.{Image}
 use Rattle.disk_defs.proofs.Moments.{nothing_new, read_only}
