@@ -1,5 +1,5 @@
 -- What was read of a site is what its files hold.
-use Rattle.std.proofs.Common.{◌≡◌, ◌<◌, ℕ, List, length, map, Option, Some, None, IfSome, refl, sym, ap, subst, arith}
+use Rattle.std.proofs.Common.{◌≡◌, ℕ, List, length, map, Option, Some, IfSome, refl}
 use Rattle.disk_defs.specs.Disk.{Files, View, Image, IsLawful, AtEachMoment}
 use Rattle.disk_defs.proofs.Told.{told_at}
 use Rattle.global_defs.specs.Entry.{Sequence}
