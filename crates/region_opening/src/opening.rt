@@ -229,7 +229,16 @@ pub(crate) fn open_each<D: Disk>(
     let _ = directory.regions();
     let begun = begin_each(alloc, disk, instance, directory, signs, target)?;
     let AllBegun { mut regions, from } = begun;
-    replay(alloc, disk, directory, entries, history, &from, &mut regions, target)?;
+    replay(
+        alloc,
+        disk,
+        directory,
+        entries,
+        history,
+        &from,
+        &mut regions,
+        target,
+    )?;
     Ok(regions)
 }
 
