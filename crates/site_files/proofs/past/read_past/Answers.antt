@@ -1,4 +1,4 @@
-use Rattle.std.proofs.Common.{◌≡◌, ℕ, ◌<◌, List, Vec, Global, map, ◌∙◌, ap, subst, sym, arith}
+use Rattle.std.proofs.Common.{◌≡◌, ℕ, ◌<◌, List, Vec, Global, map, arith}
 use Rattle.std.proofs.lemmas.Result.{err_from_is_err_and}
 use Rattle.std.proofs.lemmas.List.{length-map}
 use Rattle.disk_defs.proofs.Frames.{reads_more}
@@ -29,7 +29,7 @@ loop-region-preserved g c =
     let inv = l.invariant in
     let x = c.index-signs-region.result in
     record {
-      read = told_lists signs_in records_in (view a.disk.now).content (view l.disk).content a.length a.signs.now l.region x x inv.reads.content (omega arith) c.index-signs-region.is
+      read = told_lists signs_in records_in (view a.disk.now).content (view l.disk).content a.count a.signs.now l.region x x inv.reads.content (omega arith) c.index-signs-region.is
           l.made.items c.add_region.new.regions.items c.in_ok-read.read c.in_ok-add_region.ensures inv.many inv.read c.in_ok-read.ensures.read;
       many = one_longer l.made.items c.add_region.new.regions.items c.in_ok-read.read l.region c.in_ok-add_region.ensures inv.many;
       reads = reads_more (view a.disk.now) (view l.disk) (view c.read_region.new.disk) (g.met.D.Disk.lawful a.disk.now) inv.reads c.read_region.ensures.reads;
@@ -44,7 +44,7 @@ returns-in_err-read-clause-outside g c =
     let x = c.index-signs-region.result in
     let p = err_from_is_err_and c.from_residual.result c.from_residual.ensures.1 in
     rw (p.1, p.2) (λ file offset is.
-    told_no_lists signs_in records_in (view a.disk.now).content (view l.disk).content a.length a.signs.now l.region x x l.invariant.reads.content (omega arith) c.index-signs-region.is
+    told_no_lists signs_in records_in (view a.disk.now).content (view l.disk).content a.count a.signs.now l.region x x l.invariant.reads.content (omega arith) c.index-signs-region.is
     (c.in_err-read.ensures.outside file offset (handed_on c.in_err-read.field-0.0 (NotAFile file offset) is)))
 
 pub returns-in_err-read-clause-causes : goal.returns-in_err-read-clause-causes
@@ -58,6 +58,6 @@ returns-clause-read g c =
     let l = c.loop-region in
     let signs = map signs_in a.signs.now in
     let past = map records_in l.made.items in
-    weaker_told (g.D.Disk.disk a.disk.now).content (λ files. (journal : ℕ → List Placed) → AreSigns files signs journal → (r : ℕ) → r < l.region → journal_of past r ≡ all_past a.length (journal r))
-    (λ files. (journal : ℕ → List Placed) → AreSigns files signs journal → (r : ℕ) → journal_of past r ≡ all_past a.length (journal r)) l.invariant.read
-    (λ files before journal are. lists_whole records_in a.length l.made.items files signs journal l.region l.invariant.many (omega (arith, length-map a.signs.now signs_in)) are (before journal are))
+    weaker_told (g.D.Disk.disk a.disk.now).content (λ files. (journal : ℕ → List Placed) → AreSigns files signs journal → (r : ℕ) → r < l.region → journal_of past r ≡ all_past a.count (journal r))
+    (λ files. (journal : ℕ → List Placed) → AreSigns files signs journal → (r : ℕ) → journal_of past r ≡ all_past a.count (journal r)) l.invariant.read
+    (λ files before journal are. lists_whole records_in a.count l.made.items files signs journal l.region l.invariant.many (omega (arith, length-map a.signs.now signs_in)) are (before journal are))
