@@ -58,7 +58,9 @@ fn read_record<D: Disk>(
     ensures causes { OnErr result (((fault : ℕ) × IsErrOf result (FilesError.Failed fault)) ⊎ ((file : ℕ) × (offset : ℕ) × IsErrOf result (FilesError.NotAFile file offset)) ⊎ IsErrOf result FilesError.NoMemory) }
 {
     let PlacedSign {
-        generation, offset, ..
+        generation,
+        offset,
+        ..
     } = *placed;
     if generation > LAST_GENERATION {
         return Err(FilesError::NotAFile {
@@ -132,10 +134,7 @@ fn read_region<D: Disk>(
 }
 
 /// Adds the records of a region to a list.
-fn add_region(
-    regions: &mut Vec<Vec<PlacedRecord>>,
-    read: Vec<PlacedRecord>,
-) -> Result<(), NoMemory>
+fn add_region(regions: &mut Vec<Vec<PlacedRecord>>, read: Vec<PlacedRecord>) -> Result<(), NoMemory>
     ensures { OnOk result (regions.new.items ≡ regions.old.items ++ read ∷ []) }
 {
     regions.push(read)?;
