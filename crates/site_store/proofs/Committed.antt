@@ -17,7 +17,7 @@ use Rattle.global_defs.specs.Evaluation.{MOST_NODES}
 use Rattle.global_defs.specs.Prefix.{stamp_at}
 use Rattle.gvn_model.specs.declared.entry.Transaction as code
 use Rattle.gvn_model.specs.declared.reign.Stamp as code_stamp
-use Rattle.gvn_model.specs.Entries.{transaction_value, entry_value}
+use Rattle.gvn_model.specs.Entries.{transaction_value}
 use Rattle.gvn_model.specs.Reigns.{stamp_value}
 use Rattle.journal_defs.specs.Numbers.{INSTANCE, journal_file, database_file}
 use Rattle.journal_defs.specs.Journal.{JournalRecord, Part}
@@ -49,8 +49,8 @@ use Rattle.site_store.specs.Finding.{HasLayout}
 use Rattle.site_regions.specs.Joined.{joined, AreChanged}
 use Rattle.site_store.specs.Site.{Remembers, IsReady, AreHeld, Keeps, IsOpen, HasReign, HasRoomFor, AreOnBlocks, with_entry, count_of}
 use Rattle.site_store.proofs.OnBlocks.{on_same}
-use Rattle.site_store.proofs.HeldRegions.{held_stays, held_changed, no_journal, changed_not, synced_stays}
-use Rattle.site_store.specs.Committing.{Enters, IsSameSite, IsSameMemory, IsOwnJournal, ArePartsOf, parts_of, AddsPlaces, IsSameIndex}
+use Rattle.site_store.proofs.HeldRegions.{held_stays, held_changed, no_journal, synced_stays}
+use Rattle.site_store.specs.Committing.{IsSameSite, IsSameMemory, IsOwnJournal, ArePartsOf, parts_of, AddsPlaces, IsSameIndex}
 use Rattle.site_store.proofs.Frames as frames
 use Rattle.site_store.proofs.Remembered.{remembered_length, globals_more}
 use Rattle.site_store.proofs.Standing.{reads_of, reads_so, told_of, still, keeps_images}
@@ -63,8 +63,7 @@ use Rattle.site_store.proofs.OpenedTo.{one_image}
 use Rattle.journal_laws.proofs.Merging as merging
 use Rattle.site_store.proofs.Newest as newest
 use Rattle.site_store.proofs.Parts.{parts_more}
-use Rattle.entry_index.specs.Found.{entry_count, IsWhole}
-use Rattle.entry_index.specs.declared.index.EntryIndex.{EntryIndex}
+use Rattle.entry_index.specs.Found.{IsWhole}
 
 -- the parts that were appended are those of the transaction
 pub parts_appended : (v : View) (s : OpenSite) (t : Transaction) (parts : PartRecords) (before js : List RegionJournal) (hard waiting : ℕ → List JournalRecord) → length js ≡ length before → length before ≤ 8

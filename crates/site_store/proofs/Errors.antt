@@ -100,14 +100,3 @@ index_file_was fault (index.NotAFile f o) file offset is =
     let two : o ≡ offset = cc is in
     λ i. Err (index.NotAFile (one i) (two i))
 index_file_was fault index.NoMemory file offset is = absurd (cc is)
-
-pub index_failed_was : {T U : Type 0} (fault : ℕ) (x : IndexError) (told : ℕ) → IsErrOf {T = T} (Err (index_error fault x)) (error.Failed told) → (told ≡ fault) × IsErrOf {T = U} (Err x) index.Failed
-index_failed_was fault index.Failed told is = (cc is, λ i. Err index.Failed)
-index_failed_was fault (index.NotAFile f o) told is = absurd (cc is)
-index_failed_was fault index.NoMemory told is = absurd (cc is)
-
-pub index_causes : {T : Type 0} (fault : ℕ) (x : IndexError)
-    → ((told : ℕ) × IsErrOf {T = T} (Err (index_error fault x)) (error.Failed told)) ⊎ ((file : ℕ) × (offset : ℕ) × IsErrOf {T = T} (Err (index_error fault x)) (error.NotAFile file offset)) ⊎ IsErrOf {T = T} (Err (index_error fault x)) error.NoMemory
-index_causes fault index.Failed = inl (fault, λ i. Err (error.Failed fault))
-index_causes fault (index.NotAFile f o) = inr (inl (f, o, λ i. Err (error.NotAFile f o)))
-index_causes fault index.NoMemory = inr (inr (λ i. Err error.NoMemory))

@@ -1,11 +1,10 @@
 -- Where entries stand, while reigns begin, a CUT drops none of theirs, and other files change.
-use Rattle.std.proofs.Common.{◌≡◌, ℕ, suc, ◌+◌, ◌*◌, ◌≤◌, ◌<◌, Bool, true, false, List, [], ◌∷◌, ◌++◌, length, refl, sym, ◌∙◌, ap, subst, arith}
+use Rattle.std.proofs.Common.{◌≡◌, ℕ, suc, ◌≤◌, ◌<◌, Bool, true, false, List, [], ◌∷◌, ◌++◌, length, refl, sym, ◌∙◌, ap, subst, arith}
 use Rattle.std.specs.Prelude.{nat_le, Option, Some, None, if◌then◌else◌}
 use Rattle.std.specs.List.{filter}
 use Rattle.std.specs.Option.{option_or}
 use Rattle.std.proofs.lemmas.Bool.Decides.{nat_tests}
-use Rattle.std.proofs.lemmas.Option.{slice_get_within}
-use Rattle.global_defs.specs.Entry.{Reign, Stamp, Entry, Sequence}
+use Rattle.global_defs.specs.Entry.{Reign, Stamp, Sequence}
 use Rattle.global_defs.specs.Prefix.{stamp_at}
 use Rattle.journal_defs.specs.Instance.{InstanceRecord, Reigned, Cut}
 use Rattle.journal_defs.specs.Surviving.{reigns}

@@ -1,13 +1,13 @@
 -- An entry shown from its places.
 use Rattle.std.proofs.Common.{◌≡◌, inl, inr, ℕ, ◌-◌, ◌/◌, ◌<◌, ◌≤◌, ◌++◌, List, length, Option, Some, None, Result, Ok, Err, OnOk, IfSome, IsSome, refl, sym, subst, ap, ◌∙◌, true, arith}
 use Rattle.std.specs.Prelude.{◌==◌, if◌then◌else◌, slice_get}
+use Rattle.std.specs.Option.{option_map}
 use Rattle.std.proofs.lemmas.Bool.{cases_lt}
 use Rattle.std.proofs.lemmas.Option.{slice_get_past}
 use Rattle.disk_defs.specs.Disk.{Files, View, IsLawful}
 use Rattle.global_defs.specs.Entry.{Reign, Entry, Sequence}
 use Rattle.global_defs.specs.Extract.{entry_text}
 use Rattle.journal_defs.specs.Surviving.{reigns}
-use Rattle.journal_defs.specs.Instance.{InstanceRecord}
 use Rattle.disk_defs.proofs.Told.{weaker_told}
 use Rattle.jnl_file.proofs.Newer.{all_told}
 use Rattle.gvn_model.specs.declared.entry.Entry as code_entry
@@ -53,6 +53,15 @@ module _ (files : Files) (rs : List Reign) (x : EntryIndex) (seq : Sequence) (n 
         absurd (omega (arith, count, low, first))
   ]
 
+-- the number of an entry that was found
+number_in : (n : ℕ) (found : Option code_entry.Entry) (e : code_entry.Entry) → found ≡ Some e → IfSome found (λ y. y.number ≡ n) → e.number ≡ n
+number_in n found e one number = subst (λ (o : Option code_entry.Entry). IfSome o (λ y. y.number ≡ n)) one number
+
+-- what was added are lines of some entry
+pub some_lines : (n : ℕ) (before now : List ℕ) (found : Option code_entry.Entry) (e : code_entry.Entry) → found ≡ Some e → IfSome found (λ y. y.number ≡ n) → now ≡ before ++ entry_text e.number (entry_value e)
+    → (y : Entry) × (now ≡ before ++ entry_text n y)
+some_lines n before now found e one number lines = (entry_value e, lines ∙ ap (λ (k : ℕ). before ++ entry_text k (entry_value e)) (number_in n found e one number))
+
 -- the lines of entry n were added, where there is one
 abbrev pub Shows : ℕ → List ℕ → List ℕ → Sequence → Type 0
 Shows n before now seq = IfSome (slice_get seq (n - 1)) (λ e. now ≡ before ++ entry_text n e)
@@ -62,15 +71,19 @@ module _ (o : Option Files) (rs : List Reign) (x : EntryIndex) (n : ℕ) (first 
   shows_none past = all_told o (λ files. (seq : Sequence) → Indexes (InFiles files) rs x seq → Shows n before before seq)
       (λ files seq is. subst (λ (found : Option Entry). IfSome found (λ e. before ≡ before ++ entry_text n e)) (past_entries files rs x seq n first is past) tt)
 
-  pub shows_one : (now : List ℕ) (e : code_entry.Entry) → e.number ≡ n → now ≡ before ++ entry_text e.number (entry_value e)
-      → IfSome o (λ files. (seq : Sequence) → Indexes (InFiles files) rs x seq → Some (entry_value e) ≡ slice_get seq (n - 1))
-      → IfSome o (λ files. (seq : Sequence) → Indexes (InFiles files) rs x seq → Shows n before now seq)
-  shows_one now e number lines told = weaker_told o (λ files. (seq : Sequence) → Indexes (InFiles files) rs x seq → Some (entry_value e) ≡ slice_get seq (n - 1)) (λ files. (seq : Sequence) → Indexes (InFiles files) rs x seq → Shows n before now seq) told
-      (λ files found seq is. subst (λ (a : Option Entry). IfSome a (λ y. now ≡ before ++ entry_text n y)) (found seq is) (lines ∙ ap (λ (k : ℕ). before ++ entry_text k (entry_value e)) number))
+  module _ (found : Option code_entry.Entry)
+      (told : IfSome o (λ files. (seq : Sequence) → Indexes (InFiles files) rs x seq → option_map entry_value found ≡ slice_get seq (n - 1))) where
+    pub shows_one : (now : List ℕ) (e : code_entry.Entry) → found ≡ Some e → IfSome found (λ y. y.number ≡ n) → now ≡ before ++ entry_text e.number (entry_value e)
+        → IfSome o (λ files. (seq : Sequence) → Indexes (InFiles files) rs x seq → Shows n before now seq)
+    shows_one now e one number lines =
+        weaker_told o (λ files. (seq : Sequence) → Indexes (InFiles files) rs x seq → option_map entry_value found ≡ slice_get seq (n - 1)) (λ files. (seq : Sequence) → Indexes (InFiles files) rs x seq → Shows n before now seq) told
+        (λ files is_found seq is. subst (λ (a : Option Entry). IfSome a (λ y. now ≡ before ++ entry_text n y)) (ap (option_map entry_value) (sym one) ∙ is_found seq is)
+        (lines ∙ ap (λ (k : ℕ). before ++ entry_text k (entry_value e)) (number_in n found e one number)))
 
-  pub none_outside : n ≤ entry_count x → IfSome o (λ files. (seq : Sequence) → Indexes (InFiles files) rs x seq → None ≡ slice_get seq (n - 1)) → IfSome o (λ files. (seq : Sequence) → Indexes (InFiles files) rs x seq → ⊥)
-  none_outside low told = weaker_told o (λ files. (seq : Sequence) → Indexes (InFiles files) rs x seq → None ≡ slice_get seq (n - 1)) (λ files. (seq : Sequence) → Indexes (InFiles files) rs x seq → ⊥) told
-      (λ files none seq is. is_among files rs x seq n first is low (none seq is))
+    pub none_outside : n ≤ entry_count x → found ≡ None → IfSome o (λ files. (seq : Sequence) → Indexes (InFiles files) rs x seq → ⊥)
+    none_outside low none =
+        weaker_told o (λ files. (seq : Sequence) → Indexes (InFiles files) rs x seq → option_map entry_value found ≡ slice_get seq (n - 1)) (λ files. (seq : Sequence) → Indexes (InFiles files) rs x seq → ⊥) told
+        (λ files is_found seq is. is_among files rs x seq n first is low (ap (option_map entry_value) (sym none) ∙ is_found seq is))
 
 module _ (v : View) (s : OpenSite) (history : List Reign) (lawful : IsLawful v) (ready : IsReady v s) (own : history ≡ reigns s.instance.records) where
   -- the parts of its entries stand in the files

@@ -1,5 +1,5 @@
 -- What an open site's images stand for, and what they still stand for once nothing but room has changed.
-use Rattle.std.proofs.Common.{ℕ, true, length, take, None, Some, subst, refl, suc, sym, ◌≡◌, ◌++◌}
+use Rattle.std.proofs.Common.{ℕ, true, length, take, None, Some, subst, refl, suc, ◌++◌}
 use Rattle.std.specs.Prelude.{Option, IfSome, IsSome, IsSomeAnd}
 use Rattle.std.proofs.Math.Seq.{take-length}
 use Rattle.disk_defs.specs.Disk.{Files, View, Image, IsLawful, ReadsAfter}
@@ -17,8 +17,6 @@ use Rattle.site_store.specs.Committing.{IsSameIndex}
 use Rattle.site_store.specs.Site.{Keeps, IsOpen}
 use Rattle.site_store.proofs.OnBlocks.{on_changed}
 use Rattle.site_store.proofs.Places.{same_index}
-use Rattle.entry_index.specs.Among.{IsIndexOf}
-use Rattle.entry_index.specs.declared.index.EntryIndex.{EntryIndex}
 use Rattle.journal_defs.specs.Surviving.{reigns}
 
 -- with all of its entries hardened, each image stands for its contents

@@ -1,9 +1,7 @@
 -- Entries on their way into the journals.
-use Rattle.std.specs.Prelude.{◌≡◌, ◌+◌, ◌<◌, ◌≤◌, ℕ, List, [], ◌∷◌, ◌++◌, length, fold, Option, Some, None, slice_get, get_or}
+use Rattle.std.specs.Prelude.{◌≡◌, ◌+◌, ◌<◌, ◌≤◌, ℕ, List, ◌++◌, length, fold, Option, Some, None, slice_get, get_or}
 use Rattle.global_defs.specs.Entry.{Update, Transaction, apply}
-use Rattle.gvn_model.specs.declared.entry.Entry as code_entry
 use Rattle.gvn_model.specs.declared.entry.Transaction as code_transaction
-use Rattle.gvn_model.specs.Entries.{entry_value}
 use Rattle.disk_defs.specs.Disk.{View}
 use Rattle.journal_defs.specs.Journal.{JournalRecord, Part}
 use Rattle.journal_defs.specs.Instance.{generation, regions}

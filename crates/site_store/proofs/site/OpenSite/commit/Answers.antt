@@ -1,4 +1,4 @@
-use Rattle.std.proofs.Common.{refl, ◌∙◌, ◌≤◌, arith}
+use Rattle.std.proofs.Common.{refl, ◌∙◌, arith}
 use Rattle.gvn_model.specs.Entries.{transaction_value}
 use Rattle.journal_defs.specs.Instance.{generation}
 use Rattle.site_regions.proofs.Making.{changed_none}

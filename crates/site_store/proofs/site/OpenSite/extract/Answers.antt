@@ -1,4 +1,4 @@
-use Rattle.std.proofs.Common.{◌≤◌, arith}
+use Rattle.std.proofs.Common.{arith}
 use Rattle.site_store.proofs.Shown.{shows_entry, no_outside}
 use Rattle.site_store.proofs.site.OpenSite.extract.Goals as goal
 
