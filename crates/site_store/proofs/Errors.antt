@@ -6,7 +6,9 @@ use Rattle.site_store.specs.declared.error.SiteError.{SiteError}
 use Rattle.site_store.specs.declared.error.SiteError.TheVariants as error
 use Rattle.region_store.specs.declared.error.RegionError.{RegionError}
 use Rattle.region_store.specs.declared.error.RegionError.TheVariants as regions
-use Rattle.site_store.specs.Errors.{files_error, region_error}
+use Rattle.entry_index.specs.declared.error.IndexError.{IndexError}
+use Rattle.entry_index.specs.declared.error.IndexError.TheVariants as index
+use Rattle.site_store.specs.Errors.{files_error, region_error, index_error}
 
 -- the same error with another result
 pub handed_on : {T U : Type 0} (e x : SiteError) → IsErrOf {T = T} (Err e) x → IsErrOf {T = U} (Err e) x
@@ -89,3 +91,23 @@ no_stop (Err e) (inr none) fault is = cc (none, is)
 pub two_on : {T U : Type 0} (e : SiteError) → ((x : ℕ) × IsErrOf {T = T} (Err e) (error.Failed x)) ⊎ IsErrOf {T = T} (Err e) error.NoMemory → ((x : ℕ) × IsErrOf {T = U} (Err e) (error.Failed x)) ⊎ IsErrOf {T = U} (Err e) error.NoMemory
 two_on e (inl failed) = inl (failed.0, handed_on e (error.Failed failed.0) failed.1)
 two_on e (inr none) = inr (handed_on e error.NoMemory none)
+
+-- what an error of the index was
+pub index_file_was : {T U : Type 0} (fault : ℕ) (x : IndexError) (file offset : ℕ) → IsErrOf {T = T} (Err (index_error fault x)) (error.NotAFile file offset) → IsErrOf {T = U} (Err x) (index.NotAFile file offset)
+index_file_was fault index.Failed file offset is = absurd (cc is)
+index_file_was fault (index.NotAFile f o) file offset is =
+    let one : f ≡ file = cc is in
+    let two : o ≡ offset = cc is in
+    λ i. Err (index.NotAFile (one i) (two i))
+index_file_was fault index.NoMemory file offset is = absurd (cc is)
+
+pub index_failed_was : {T U : Type 0} (fault : ℕ) (x : IndexError) (told : ℕ) → IsErrOf {T = T} (Err (index_error fault x)) (error.Failed told) → (told ≡ fault) × IsErrOf {T = U} (Err x) index.Failed
+index_failed_was fault index.Failed told is = (cc is, λ i. Err index.Failed)
+index_failed_was fault (index.NotAFile f o) told is = absurd (cc is)
+index_failed_was fault index.NoMemory told is = absurd (cc is)
+
+pub index_causes : {T : Type 0} (fault : ℕ) (x : IndexError)
+    → ((told : ℕ) × IsErrOf {T = T} (Err (index_error fault x)) (error.Failed told)) ⊎ ((file : ℕ) × (offset : ℕ) × IsErrOf {T = T} (Err (index_error fault x)) (error.NotAFile file offset)) ⊎ IsErrOf {T = T} (Err (index_error fault x)) error.NoMemory
+index_causes fault index.Failed = inl (fault, λ i. Err (error.Failed fault))
+index_causes fault (index.NotAFile f o) = inr (inl (f, o, λ i. Err (error.NotAFile f o)))
+index_causes fault index.NoMemory = inr (inr (λ i. Err error.NoMemory))

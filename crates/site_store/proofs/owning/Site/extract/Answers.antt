@@ -17,7 +17,7 @@ pub returns-in-Ok-clause-opened : goal.returns-in-Ok-clause-opened
 returns-in-Ok-clause-opened g c x h is = c.in-Ok.ensures.entry x h is.inner
 
 pub returns-in-Err-clause-outside : goal.returns-in-Err-clause-outside
-returns-in-Err-clause-outside g c = λ file offset is x h open. c.in-Err.ensures.outside file offset is x h open.inner
+returns-in-Err-clause-outside g c = λ file offset is x h site. c.in-Err.ensures.outside file offset is x h site.inner
 
 pub returns-in-Err-clause-ready : goal.returns-in-Err-clause-ready
 returns-in-Err-clause-ready g c =

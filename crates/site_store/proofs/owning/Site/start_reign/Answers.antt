@@ -25,7 +25,7 @@ returns-in-Ok-clause-ready g c =
       fault = c.in_default.is;
       files = c.in-Ok.ensures.ready;
       history = record {
-        count = was.count ∙ ap length (sym c.begin_reign.ensures.entries);
+        count = was.count ∙ ap entry_count (sym c.begin_reign.ensures.entries);
         surviving = c.in_ok-reign.ensures.reigns ∙ ap (λ (l : List Reign). l ++ r ∷ []) was.surviving ∙ sym (runs.reigns-more c.args.self.now.inner.instance.records r) ∙ sym (ap reigns c.in-Ok.ensures.records);
       };
     }
@@ -44,7 +44,7 @@ returns-clause-goes_on g c is =
       fault = c.in_default.is;
       files = c.in-Err.ensures.goes_on (ap Err none);
       history = record {
-        count = was.count ∙ ap length (sym c.begin_reign.ensures.entries);
+        count = was.count ∙ ap entry_count (sym c.begin_reign.ensures.entries);
         surviving = was.surviving ∙ sym (ap reigns c.in-Err.ensures.kept);
       };
     })
