@@ -43,13 +43,17 @@ found_count v f journal seq files has is = let wide = has.each_place in let some
 
 -- while the disk is only synced or read
 moved_in : (v w : View) (f : FoundFiles) → IsLawful w → AtEachMoment v w (Image v) → (files : Files) → Given v f files → Given w f files
-moved_in v w f lawful run files x = (x.0, x.1, record {
-  read = read_kept (Some files) v w f.read.log.records (last_of f.read.last_began.items) x.0 lawful run x.2.read;
-  found = x.2.found;
-  indexed = x.2.indexed;
-  stand = x.2.stand;
-  broken_is = x.2.broken_is;
-})
+moved_in v w f lawful run files x = (
+  x.0,
+  x.1,
+  record {
+    read = read_kept (Some files) v w f.read.log.records (last_of f.read.last_began.items) x.0 lawful run x.2.read;
+    found = x.2.found;
+    indexed = x.2.indexed;
+    stand = x.2.stand;
+    broken_is = x.2.broken_is;
+  },
+)
 
 pub found_moved : (u v w : View) (f : FoundFiles) → IsLawful w → AtEachMoment v w (Image v) → WasFound u v f → WasFound u w f
 found_moved u v w f lawful run was = record {

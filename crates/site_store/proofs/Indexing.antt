@@ -50,7 +50,6 @@ pub index_cut : (journal : ℕ → List Placed) (instance : List InstanceRecord)
 index_cut journal instance t g index seq low is = index_stamps journal (reigns instance) (reigns (instance ++ Cut t g ∷ [])) index seq
     (λ n below. ap (stamp_at (suc n)) (runs.reigns-cut instance t g) ∙ stamp_filter (suc n) t (reigns instance) (omega (arith, below, low))) is
 
-
 -- files that are the same up to a generation
 pub stand_same : (old new : Files) (r h : ℕ) (js : List Placed) → ((n : ℕ) → n ≤ h → new (journal_file n r) ≡ old (journal_file n r)) → StandUpTo old r h js → StandUpTo new r h js
 stand_same old new r h js same stand g o x among =

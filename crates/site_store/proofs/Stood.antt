@@ -140,10 +140,10 @@ module _ (anew : Bool) (u v w : View) (k : StandingSite) (st : Stood anew u v k)
       indexed = subst (λ (i : EntryIndex). IsIndexOf x.0 (reigns rs) i x.1) (sym entries) x.2.indexed
 
       found_in : IfSome u.content (λ files. (y : Records) (other : Sequence) → AreRecords files y → IsSequence y other → WasOpenedFrom y other s)
-      found_in = loaded.opened_from u.content v rs last x.0 x.1 s (read files told x) x.2.sequence counted own
+      found_in = loaded.opened_from u.content v rs last x.0 x.1 s (read files told x) x.2.sequence counted own indexed
 
       held_in : IfSome u.content (λ files. (y : Records) × (other : Sequence) × AreRecords files y × IsSequence y other × WasOpenedFrom y other s × (anew ≡ false → NoneIsWithout y (length other)))
-      held_in = loaded.held_from (λ y other. anew ≡ false → NoneIsWithout y (length other)) u.content v rs last x.0 x.1 s (read files told x) x.2.sequence counted own x.2.without
+      held_in = loaded.held_from (λ y other. anew ≡ false → NoneIsWithout y (length other)) u.content v rs last x.0 x.1 s (read files told x) x.2.sequence counted own indexed x.2.without
 
     pub found : IfSome u.content (λ files. (y : Records) (other : Sequence) → AreRecords files y → IsSequence y other → WasOpenedFrom y other s)
     found = told_then u.content Given (λ files. (y : Records) (other : Sequence) → AreRecords files y → IsSequence y other → WasOpenedFrom y other s) st.told (λ files told x. found_in files told x)

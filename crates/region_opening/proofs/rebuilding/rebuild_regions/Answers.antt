@@ -13,10 +13,9 @@ use Rattle.region_store.specs.declared.error.RegionError.TheVariants.{NotAFile}
 use Rattle.region_store.proofs.Handed.{handed_on}
 use Rattle.site_regions.specs.Joined.{ArePartsOf, joined}
 use Rattle.region_opening.specs.Opening.{are_home}
-use Rattle.region_opening.proofs.Opened.{AreGivenRefused, have_parts, anew_parts, anew_state, anew_told, files_are, held_told}
+use Rattle.region_opening.proofs.Opened.{AreGivenRefused, have_parts, empty_parts, anew_parts, anew_state, anew_told, files_are, held_told}
 use Rattle.region_opening.proofs.rebuilding.rebuild_regions.Goals as goal
 use Rattle.entry_index.specs.Parts.{InFiles}
-use Rattle.region_opening.proofs.Opened.{empty_parts}
 
 pub open_each-requires-clause-target : goal.open_each-requires-clause-target
 open_each-requires-clause-target g c = let all : c.len-target.result ≡ entry_count c.args.entries.now = c.len-target.ensures.count in omega (arith, all)

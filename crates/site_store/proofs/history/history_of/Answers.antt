@@ -32,8 +32,8 @@ returns-in_err-read-clause-outside g c =
 -- what the files hold is what was read of them
 never : (o n : Option Files) (rs : List InstanceRecord) (signs : List (List PlacedSign)) (P : Files → Type 0) → n ≡ o → IfSome o (λ files. (u : Records) × (u.instance ≡ rs) × AreRecords files u × AreSigns files signs u.journal)
     → IfSome n (λ files. (journal : ℕ → List Placed) → AreSigns files signs journal → ⊥) → IfSome o P
-never o n rs signs P same held no = both_weak o (λ files. (u : Records) × (u.instance ≡ rs) × AreRecords files u × AreSigns files signs u.journal) (λ files. (journal : ℕ → List Placed) → AreSigns files signs journal → ⊥) P held
-    (told_at o n (λ files. (journal : ℕ → List Placed) → AreSigns files signs journal → ⊥) same no) (λ files x none. absurd (none x.0.journal x.3))
+never o n rs signs P same held nothing = both_weak o (λ files. (u : Records) × (u.instance ≡ rs) × AreRecords files u × AreSigns files signs u.journal) (λ files. (journal : ℕ → List Placed) → AreSigns files signs journal → ⊥) P held
+    (told_at o n (λ files. (journal : ℕ → List Placed) → AreSigns files signs journal → ⊥) same nothing) (λ files x none. absurd (none x.0.journal x.3))
 
 pub returns-in_err-length-clause-place : goal.returns-in_err-length-clause-place
 returns-in_err-length-clause-place g c =

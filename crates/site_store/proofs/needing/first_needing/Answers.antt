@@ -7,8 +7,8 @@ use Rattle.site_store.specs.Standing.{found_signs}
 use Rattle.site_store.proofs.Without.{none_is, first_told}
 use Rattle.site_store.proofs.needing.first_needing.Goals as goal
 
-pub first_without_images-requires-clause-few : goal.first_without_images-requires-clause-few
-first_without_images-requires-clause-few c =
+pub first_without_images-requires : goal.first_without_images-requires
+first_without_images-requires c =
     let many = c.requires.has.signs in
     let few = c.requires.has.form.few_regions in
     let same : length c.deref.result.now ≡ length c.args.found.now.read.signs.items = ap length c.deref.ensures.value in
