@@ -47,8 +47,8 @@ module _ (files : Files) (rs : List Reign) (x : EntryIndex) (seq : Sequence) (n 
         let there = found seq (n - 1) (omega (arith, count, low, first)) in
         let at = there.1 in
         absurd (cc (at, none))
-    | inr no ↦
-        let zero : x.regions ≡ 0 = omega (arith, no) in
+    | inr small ↦
+        let zero : x.regions ≡ 0 = omega (arith, small) in
         let count : entry_count x ≡ 0 = ap (λ (k : ℕ). if k == 0 then 0 else length x.places.items / k) zero in
         absurd (omega (arith, count, low, first))
   ]
@@ -102,4 +102,4 @@ module _ (v : View) (s : OpenSite) (history : List Reign) (lawful : IsLawful v) 
   pub no_outside : IfSome v.content (λ files. (seq : Sequence) → Indexes (InFiles files) history s.entries seq → ⊥) → (c : Contents) (h : ℕ) → IsOpen v true c h s → ⊥
   no_outside never c h site =
       some_told v.content (λ files. (seq : Sequence) → Indexes (InFiles files) history s.entries seq → ⊥) (λ files. Indexes (InFiles files) history s.entries c.sequence) ⊥
-      (told_of v c h s (site.kept refl)) never (indexed c h site) (λ files no is. no c.sequence is)
+      (told_of v c h s (site.kept refl)) never (indexed c h site) (λ files never_so is. never_so c.sequence is)

@@ -4,6 +4,7 @@ use Rattle.global_defs.specs.Entry.{Reign}
 use Rattle.gvn_model.specs.Reigns.{reign_value}
 use Rattle.journal_defs.specs.Surviving.{reigns}
 use Rattle.journal_laws.proofs.Runs as runs
+use Rattle.entry_index.specs.Found.{entry_count}
 use Rattle.site_store.specs.declared.error.SiteError.TheVariants as error
 use Rattle.site_store.specs.Owning.{IsGoing, IsOpenSite}
 use Rattle.site_store.proofs.Begun as reigning
