@@ -4,7 +4,6 @@ pub mod Emptied
 pub mod Frames
 pub mod Remembered
 pub mod Stood
-pub mod FormsRead
 pub mod OnBlocks
 pub mod HeldRegions
 pub mod Begun
