@@ -34,7 +34,6 @@ pub mod OpenedTo
 pub mod Loaded
 pub mod Founded
 pub mod Rolled
-pub mod CutOff
 pub mod Mapped
 pub mod Unwritten
 pub mod Owned
