@@ -1,5 +1,5 @@
 //! Deciding one job, with all that its reply waits for.
-ghost use Rattle.std.specs.Prelude.{◌≡◌, ◌≤◌, ℕ, Bool, true, length, IfSome, IsSome, OnOk, OnErr, IsErrOf};
+ghost use Rattle.std.specs.Prelude.{◌≡◌, ◌≤◌, ℕ, Bool, true, IfSome, IsSome, OnOk, OnErr, IsErrOf};
 ghost use Rattle.disk_defs.specs.Disk.{Files, Image, Rose};
 ghost use Rattle.global_defs.specs.Evaluation.{eval};
 ghost use Rattle.gvn_model.specs.Jobs.{job_value};

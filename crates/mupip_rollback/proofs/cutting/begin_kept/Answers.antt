@@ -24,6 +24,6 @@ returns-clause-open g c =
     let kept = c.args.kept in
     let rs = c.args.instance.records in
     let s : OpenSite = record { instance = c.in-Ok.drawn.instance; layout = kept.layout; journals = c.in_ok-newest_journals.field-0; entries = kept.entries; globals = kept.globals; hardened = c.len-count.result; stamp = None } in
-    let n_is : c.len-count.result ≡ entry_count kept.entries = (let e = c.len-count.ensures in omega (arith, e)) in
+    let n_is : c.len-count.result ≡ entry_count kept.entries = (let e = c.len-count.ensures.count in omega (arith, e)) in
     opens v w rs kept c.requires.form (g.met.D.Disk.lawful c.draw_next.new.disk) c.len-count.result c.deref.result.now n_is c.deref.ensures.value s refl refl refl c.in-Ok.drawn.journals.items c.in_ok-newest_journals.ensures
     c.in-Ok.ensures.records c.in-Ok.ensures.drawn c.in-Ok.ensures.instance_file c.in-Ok.ensures.journal_files

@@ -26,7 +26,7 @@ loop-done-preserved g c =
     let u = view c.args.disk.now in
     let v = view l.disk in
     let f = c.args.found.now in
-    let end = c.len-done-end.ensures in
+    let end = c.len-done-end.ensures.count in
     let low : l.done < entry_count f.entries = omega (arith, c.loop-done-test.true, end) in
     record {
       text = lost.goes_on f c.args.target c.args.out.now c.requires.has u.content l.done l.out c.write_entry.new.out low l.invariant.text
@@ -52,6 +52,6 @@ pub returns-clause-text : goal.returns-clause-text
 returns-clause-text g c =
     let l = c.loop-done in
     let f = c.args.found.now in
-    let end = c.len-done-end.ensures in
+    let end = c.len-done-end.ensures.count in
     let past : entry_count f.entries ≤ l.done = omega (arith, c.loop-done-test.false, end) in
     lost.all_written f c.args.target c.args.out.now c.requires.has (g.D.Disk.disk c.args.disk.now).content l.done l.out past l.invariant.text

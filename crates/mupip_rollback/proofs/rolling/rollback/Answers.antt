@@ -27,7 +27,7 @@ returns-clause-read g c =
     let p = c.in_ok-prepared.prepared in
     let P = c.in_ok-prepared.ensures.prepared in
     let kept = c.in_ok-prepared.ensures.kept in
-    let size = c.len.ensures in
+    let size = c.len.ensures.count in
     let some : Entry = record { stamp = record { root = []; cycle = 0 }; transaction = record { origin = record { updater = 0; serial = 0 }; updates = [] } } in
     let many : length (replicate p.length some) ≡ p.length = length-replicate p.length some in
     let newest : c.generation_in.result ≡ generation P.found.read.log.records = c.generation_in.ensures ∙ ap generation c.as_slice.ensures ∙ ap (λ l. generation l.records) P.log in (
@@ -41,7 +41,7 @@ returns-clause-held g c =
     let u = g.D.Disk.disk c.args.disk.now in
     let p = c.in_ok-prepared.prepared in
     let P = c.in_ok-prepared.ensures.prepared in
-    let size = c.len.ensures in
+    let size = c.len.ensures.count in
     let low : generation p.log.records < 65534 = subst (λ l. generation l.records < 65534) (sym P.log) P.has.low in
     let newest : c.generation_in.result ≡ generation p.log.records = c.generation_in.ensures ∙ ap generation c.as_slice.ensures in
     weaker_told u.content (λ files. (x : Records) × (es : Sequence) × AreRecords files x × IsSequence x es × (x.instance ≡ p.log.records) × (entry_count p.kept.entries ≡ min c.args.to (length es)) × NoneIsWithout x (min c.args.to (length es)))
