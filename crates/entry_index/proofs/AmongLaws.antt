@@ -58,9 +58,9 @@ pub index_behind : (old new : ℕ → List Placed) (rs : List Reign) (index : En
     → IsIndexOf old rs index seq → IsIndexOf new rs index seq
 index_behind old new rs index seq longer is = elsewhere (InJournals old) (InJournals new) rs index seq
     (λ n r x low among.
-      let rest = longer r low in
-      let p = place_of index n r in
-      subst (λ (l : List Placed). IsAmong l p.generation p.offset x) (sym rest.1) (among_more (old r) rest.0 p.generation p.offset x among))
+    let rest = longer r low in
+    let p = place_of index n r in
+    subst (λ (l : List Placed). IsAmong l p.generation p.offset x) (sym rest.1) (among_more (old r) rest.0 p.generation p.offset x among))
     is
 
 -- where its records stand in files, so do its entries
